@@ -1,0 +1,239 @@
+ghost use Rattle.std.specs.Prelude.{◌<◌};
+
+use ev_base::{Memory, Seq, Str};
+use ev_io::{MemorySink, MemorySource};
+use ev_top::top;
+use std::alloc::Global;
+use std::test::Fail;
+
+/// How the source and the sink of a call serve and fail.
+#[derive(Drop)]
+struct Outside<'a> {
+    source_serves: u32,
+    source_fails: &'a [u32],
+    sink_takes: u32,
+    sink_fails: &'a [u32],
+    ghost serves: { (0 < source_serves) × (0 < sink_takes) },
+}
+
+/// A source and a sink without faults, whose pieces are small.
+fn quiet() -> Outside<'static> {
+    Outside {
+        source_serves: 7,
+        source_fails: &[],
+        sink_takes: 5,
+        sink_fails: &[],
+    }
+}
+
+/// The code that a call answers, and what it writes.
+fn answer(
+    alloc: Global,
+    words: &[&str],
+    input: &[u8],
+    outside: &Outside<'_>,
+) -> Result<(u8, Vec<u8>), Memory> {
+    let mut list = Seq::new(alloc);
+    for word in words {
+        list.push(Str::copy_of(alloc, word)?)?;
+    }
+    let bytes = Seq::of(Vec::from_slice(alloc, input)?);
+    let source_fails = Seq::of(Vec::from_slice(alloc, outside.source_fails)?);
+    let sink_fails = Seq::of(Vec::from_slice(alloc, outside.sink_fails)?);
+    let mut source = MemorySource::new(bytes, outside.source_serves, source_fails);
+    let mut sink = MemorySink::new(alloc, outside.sink_takes, 100_000, sink_fails)?;
+    let status = top(alloc, &list, &mut source, &mut sink);
+    Ok((
+        status.code(),
+        Vec::from_slice(alloc, sink.bytes.as_slice())?,
+    ))
+}
+
+/// A script of one vat `a`.
+fn script_of(alloc: Global, source: &str) -> Result<String, Memory> {
+    let key = "0000000000000000000000000000000000000000000000000000000000000000";
+    Ok(format!(in alloc;
+        "{{\"key\":\"{key}\",\"vats\":[{{\"name\":\"a\",\"knows\":[],\"source\":\"{source}\"}}],\"schedule\":[]}}"
+    )?)
+}
+
+const EMPTY: &str =
+    r#"{"key":"0000000000000000000000000000000000000000000000000000000000000000","vats":[],"schedule":[]}"#;
+
+const GREATEST: &str = "170141183460469231731687303715884105727";
+
+/// A sum of so many ones.
+fn ones(alloc: Global, count: usize) -> Result<String, Memory> {
+    let mut source = String::from_str(alloc, "1")?;
+    for _ in 1..count {
+        source.push_str(" + 1")?;
+    }
+    Ok(source)
+}
+
+#[test]
+fn sums(rt: HostRuntime) -> Result<(), Fail> {
+    let alloc = rt.alloc();
+    let too_great = format!(in alloc; "{GREATEST} + 1")?;
+    let greatest = format!(in alloc; "{GREATEST} + 0")?;
+    let greatest_text = format!(in alloc;
+        "open a\n!0 call {GREATEST} add 0\n!0 back {GREATEST}\n!0 done {GREATEST}\nsettle @a {GREATEST}\nend\n"
+    )?;
+    let unbuilt = "refused program a unbuilt 0 0\n";
+    let rows = [
+        (
+            "41 + 1",
+            0,
+            "open a\n!0 call 41 add 1\n!0 back 42\n!0 done 42\nsettle @a 42\nend\n",
+        ),
+        ("5", 0, "open a\n!0 done 5\nsettle @a 5\nend\n"),
+        (
+            "1 + 2 + 3",
+            0,
+            "open a\n!0 call 1 add 2\n!0 back 3\n!0 call 3 add 3\n!0 back 6\n!0 done 6\nsettle @a 6\nend\n",
+        ),
+        ("007", 0, "open a\n!0 done 7\nsettle @a 7\nend\n"),
+        (greatest.as_str(), 0, greatest_text.as_str()),
+        (too_great.as_str(), 7, unbuilt),
+        ("170141183460469231731687303715884105728", 7, unbuilt),
+        ("41+1", 7, unbuilt),
+        ("41 +  1", 7, unbuilt),
+        ("41 + ", 7, unbuilt),
+        ("", 7, unbuilt),
+        ("x", 7, unbuilt),
+    ];
+    for (source, code, text) in rows {
+        let script = script_of(alloc, source)?;
+        let (status, written) = answer(alloc, &["run"], script.as_bytes(), &quiet())?;
+        assert_eq!(rt; status, code, "{source}");
+        assert!(rt; written.as_slice() == text.as_bytes(), "{source}");
+    }
+    Ok(())
+}
+
+#[test]
+fn long_sums(rt: HostRuntime) -> Result<(), Fail> {
+    let alloc = rt.alloc();
+    let script = script_of(alloc, ones(alloc, 40)?.as_str())?;
+    let (status, written) = answer(alloc, &["run"], script.as_bytes(), &quiet())?;
+    assert_eq!(rt; status, 0);
+    assert!(rt;
+        written.as_slice().ends_with(
+            b"!0 call 39 add 1\n!0 back 40\n!0 done 40\nsettle @a 40\nend\n"
+        )
+    );
+    let script = script_of(alloc, ones(alloc, 41)?.as_str())?;
+    let (status, written) = answer(alloc, &["run"], script.as_bytes(), &quiet())?;
+    assert_eq!(rt; status, 7);
+    assert!(rt; written.as_slice() == b"refused program a unbuilt 0 0\n".as_slice());
+    Ok(())
+}
+
+#[test]
+fn scripts(rt: HostRuntime) -> Result<(), Fail> {
+    let alloc = rt.alloc();
+    let refused = "refused script 0\n";
+    let rows = [
+        (EMPTY, 0, "end\n"),
+        (r#"{"key":"#, 6, refused),
+        ("", 6, refused),
+        ("[]", 6, refused),
+        (r#"{"key":"00","vats":[],"schedule":[]}"#, 6, refused),
+        (
+            r#"{"key":"0000000000000000000000000000000000000000000000000000000000000000","vats":[],"schedule":["turn a"]}"#,
+            6,
+            refused,
+        ),
+        (
+            r#"{"key":"0000000000000000000000000000000000000000000000000000000000000000","vats":[],"schedule":[],"fuel":5}"#,
+            6,
+            refused,
+        ),
+        (
+            r#"{"key":"0000000000000000000000000000000000000000000000000000000000000000","vats":[{"name":"A","knows":[],"source":"5"}],"schedule":[]}"#,
+            6,
+            refused,
+        ),
+    ];
+    for (script, code, text) in rows {
+        let (status, written) = answer(alloc, &["run"], script.as_bytes(), &quiet())?;
+        assert_eq!(rt; status, code, "{script}");
+        assert!(rt; written.as_slice() == text.as_bytes(), "{script}");
+    }
+    Ok(())
+}
+
+#[test]
+fn words(rt: HostRuntime) -> Result<(), Fail> {
+    let alloc = rt.alloc();
+    let rows: [&[&str]; 4] = [&["run", "fast"], &[], &["walk"], &["--help"]];
+    for words in rows {
+        let (status, written) = answer(alloc, words, EMPTY.as_bytes(), &quiet())?;
+        assert_eq!(rt; status, 2);
+        assert!(rt; written.as_slice() == b"refused usage\n".as_slice());
+    }
+    Ok(())
+}
+
+#[test]
+fn faults(rt: HostRuntime) -> Result<(), Fail> {
+    let alloc = rt.alloc();
+    let script = script_of(alloc, "41 + 1")?;
+    let failing_source = Outside {
+        source_serves: 1,
+        source_fails: &[2],
+        sink_takes: 1,
+        sink_fails: &[],
+    };
+    let (status, written) = answer(alloc, &["run"], script.as_bytes(), &failing_source)?;
+    assert_eq!(rt; status, 3);
+    assert!(rt; written.is_empty());
+    let failing_sink = Outside {
+        source_serves: 100,
+        source_fails: &[],
+        sink_takes: 1,
+        sink_fails: &[10],
+    };
+    let (status, written) = answer(alloc, &["run"], script.as_bytes(), &failing_sink)?;
+    assert_eq!(rt; status, 4);
+    assert!(rt; written.as_slice() == b"open a\n!0".as_slice());
+    Ok(())
+}
+
+#[test]
+fn lengths(rt: HostRuntime) -> Result<(), Fail> {
+    let alloc = rt.alloc();
+    let large = Outside {
+        source_serves: 4096,
+        source_fails: &[],
+        sink_takes: 100,
+        sink_fails: &[],
+    };
+    for (count, code, text) in [
+        (1_048_577, 5, "refused long\n"),
+        (1_048_576, 6, "refused script 0\n"),
+    ] {
+        let spaces = vec![in alloc; b' '; count]?;
+        let (status, written) = answer(alloc, &["run"], spaces.as_slice(), &large)?;
+        assert_eq!(rt; status, code);
+        assert!(rt; written.as_slice() == text.as_bytes());
+    }
+    Ok(())
+}
+
+#[test]
+fn lists_and_texts(rt: HostRuntime) -> Result<(), Fail> {
+    let alloc = rt.alloc();
+    let mut list: Seq<u32> = Seq::new(alloc);
+    assert!(rt; list.is_empty());
+    list.push(5)?;
+    assert!(rt; list.as_slice() == [5].as_slice());
+    assert!(rt; Seq::of(list.into_vec()).len() == 1);
+    let mut text = Str::new(alloc);
+    assert!(rt; text.is_empty());
+    text.push("a")?;
+    assert!(rt; text.as_str() == "a");
+    assert!(rt; Str::of(text.into_string()).len() == 1);
+    assert!(rt; Str::copy_of(alloc, "né")?.as_str() == "né");
+    Ok(())
+}

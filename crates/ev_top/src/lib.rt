@@ -1,0 +1,14 @@
+//! The top call: from the words of a command and the bytes of its input to the lines of its output.
+#![tactic(auto)]
+
+mod evaluate;
+mod program;
+mod reply;
+mod run;
+mod script;
+mod status;
+mod sum;
+mod tree;
+
+pub use program::top;
+pub use status::{Refusal, Stage, Status};
