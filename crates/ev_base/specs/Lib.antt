@@ -1,1 +1,2 @@
 pub mod SafeScope
+pub mod formers

@@ -1,0 +1,113 @@
+//! What happens in a run: a variant for each kind of line of a history.
+
+use crate::note::ShownNote;
+use crate::shown::Shown;
+use ev_base::{Msg, Name, Seq, Str, VatId};
+
+/// An event. Numbers of entries and of activations are counted from 0; an activation is numbered in its vat.
+#[derive(Drop)]
+pub enum Event {
+    /// `open V`: the opening turn of a vat begins.
+    Open(VatId),
+    /// `K turn V`
+    Turn(u64, VatId),
+    /// `K idle`
+    Idle(u64),
+    /// `K carry V W NOTE`
+    Carry(u64, VatId, VatId, ShownNote),
+    /// `K cut V W`
+    Cut(u64, VatId, VatId),
+    /// `K notice V W`
+    Notice(u64, VatId, VatId),
+    /// `frame HEX`: the bytes of the note that was carried.
+    Frame(Seq<u8>),
+    /// `!A take M TARGET VERB ARGS`
+    Take {
+        activation: u64,
+        message: Msg,
+        target: Shown,
+        verb: Str,
+        args: Seq<Shown>,
+    },
+    /// `!A call TARGET VERB ARGS`, and `as !B` behind it where the call begins the activation B.
+    Call {
+        activation: u64,
+        target: Shown,
+        verb: Str,
+        args: Seq<Shown>,
+        begun: Option<u64>,
+    },
+    /// `!A back X`
+    Back(u64, Shown),
+    /// `!A thrown X`
+    Thrown(u64, Shown),
+    /// `!A gone`
+    Gone(u64),
+    /// `!A got X`
+    Got(u64, Shown),
+    /// `!A slot S X`
+    Slot(u64, (VatId, u64), Shown),
+    /// `!A read S X`
+    Read(u64, (VatId, u64), Shown),
+    /// `!A wrote S X`
+    Wrote(u64, (VatId, u64), Shown),
+    /// `!A list L MEMBERS`: an activation makes a list.
+    List(u64, (VatId, u64), Seq<Shown>),
+    /// `list L MEMBERS`: a list arrives.
+    Arrived((VatId, u64), Seq<Shown>),
+    /// `!A ejector O`
+    Ejector(u64, Shown),
+    /// `!A audition O`
+    Audition(u64, Shown),
+    /// `!A promise P O`: O is the resolver.
+    Promise(u64, Name, Shown),
+    /// `!A made O NAME caps X .. stamps X ..`
+    Made {
+        activation: u64,
+        object: Shown,
+        name: Str,
+        caps: Seq<Shown>,
+        stamps: Seq<Shown>,
+    },
+    /// `!A send M X VERB ARGS -> ANSWER`
+    Send {
+        activation: u64,
+        message: Msg,
+        target: Shown,
+        verb: Str,
+        args: Seq<Shown>,
+        answer: Name,
+    },
+    /// `!A when M X O -> ANSWER`
+    When {
+        activation: u64,
+        message: Msg,
+        value: Shown,
+        reaction: Shown,
+        answer: Name,
+    },
+    /// `!A done X`
+    Done(u64, Shown),
+    /// `!A threw X`
+    Threw(u64, Shown),
+    /// `settle P X`
+    Settle(Name, Shown),
+    /// `wait P Q`
+    Wait(Name, Name),
+    /// `view P Q`
+    View(Name, Name),
+    /// `lost M cut`
+    LostCut(Msg),
+    /// `lost M broken`
+    LostBroken(Msg),
+    /// `left queue V M`
+    LeftQueue(VatId, Msg),
+    /// `left held V P M`
+    LeftHeld(VatId, Name, Msg),
+    /// `left wait V X M`
+    LeftWait(VatId, Shown, Msg),
+    /// `left link V W NOTE`
+    LeftLink(VatId, VatId, ShownNote),
+    /// `end`
+    End,
+}
