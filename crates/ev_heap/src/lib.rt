@@ -1,0 +1,15 @@
+//! What one vat holds: objects, var slots, lists, texts and activations, and what happens in a step.
+#![tactic(auto)]
+
+pub mod happened;
+pub mod heap;
+pub mod kept;
+pub mod micro;
+
+pub use happened::Happened;
+pub use heap::{Heap, ListFault};
+pub use kept::{Capture, Cell, GuardKind, Listed, Shape, Thing};
+pub use micro::Micro;
+
+#[cfg(test)]
+mod tests;
