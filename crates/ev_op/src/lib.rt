@@ -1,6 +1,10 @@
 //! The operations that vats send each other, and their bytes.
 #![tactic(auto)]
 
+mod fault;
+mod kind;
+mod numbers;
 pub mod op;
+mod reading;
 
 pub use op::{Desc, Op, Plain, Resolved};
