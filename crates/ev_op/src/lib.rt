@@ -6,5 +6,6 @@ mod kind;
 mod numbers;
 pub mod op;
 mod reading;
+mod writing;
 
 pub use op::{Desc, Op, Plain, Resolved};
