@@ -1,0 +1,2 @@
+//! Worked rows: the text of the run of a script, by computing.
+#![tactic(auto)]
