@@ -1,5 +1,6 @@
 -- The words that a run draws: the key stream of ChaCha20.
 use Rattle.std.specs.Prelude.{ℕ, ◌+◌, ◌*◌, ◌^◌, List}
+use Rattle.rand_core.specs.Steps.{u32_at}
 use Rattle.rand_chacha.specs.ChaCha.{word_at, key_of}
 use Rattle.rand_chacha.specs.Block.{quarter_round, column_round, diagonal_round, double_rounds, block_word}
 
@@ -13,5 +14,5 @@ draw_word key i = stream_word key (4 * i) + 2 ^ 32 * stream_word key (4 * i + 1)
 
 -- opens each definition of this file, and of those below
 unfoldable pub opened_draws : Unit {0}
-unfolding stream_word draw_word quarter_round column_round diagonal_round double_rounds block_word
+unfolding stream_word draw_word u32_at quarter_round column_round diagonal_round double_rounds block_word
 opened_draws = tt
