@@ -35,8 +35,8 @@ script = record {
   schedule = [];
 }
 
-abbrev pub Holds : Type 0
-Holds = text script (run script) ≡ lines (
+abbrev pub AuditorThrowsHolds : Type 0
+AuditorThrowsHolds = text script (run script) ≡ lines (
     codes "open a"
     ∷ codes "!0 made a.0 aud"
     ∷ codes "!0 audition a.1"
@@ -48,6 +48,6 @@ Holds = text script (run script) ≡ lines (
     ∷ [])
 
 -- opens the definitions of this file
-unfoldable pub opened : Unit {0}
+unfoldable pub opened_auditorthrows : Unit {0}
 unfolding tree_a script
-opened = tt
+opened_auditorthrows = tt

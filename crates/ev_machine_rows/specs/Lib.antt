@@ -24,3 +24,4 @@ pub mod SecondCut
 pub mod OrderOverACut
 pub mod AuditorThrows
 pub mod Row21
+pub mod Row19

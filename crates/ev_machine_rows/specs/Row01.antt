@@ -18,12 +18,12 @@ script = record {
   schedule = [];
 }
 
-abbrev pub Holds : Type 0
-Holds = text script (run script) ≡ lines (
+abbrev pub Row01Holds : Type 0
+Row01Holds = text script (run script) ≡ lines (
     codes "end"
     ∷ [])
 
 -- opens the definitions of this file
-unfoldable pub opened : Unit {0}
+unfoldable pub opened_row01 : Unit {0}
 unfolding script
-opened = tt
+opened_row01 = tt

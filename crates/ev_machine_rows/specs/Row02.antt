@@ -27,8 +27,8 @@ script = record {
   schedule = [];
 }
 
-abbrev pub Holds : Type 0
-Holds = text script (run script) ≡ lines (
+abbrev pub Row02Holds : Type 0
+Row02Holds = text script (run script) ≡ lines (
     codes "open a"
     ∷ codes "!0 call 41 add 1"
     ∷ codes "!0 back 42"
@@ -38,6 +38,6 @@ Holds = text script (run script) ≡ lines (
     ∷ [])
 
 -- opens the definitions of this file
-unfoldable pub opened : Unit {0}
+unfoldable pub opened_row02 : Unit {0}
 unfolding tree_a script
-opened = tt
+opened_row02 = tt

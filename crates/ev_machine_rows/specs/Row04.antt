@@ -43,8 +43,8 @@ script = record {
   schedule = [];
 }
 
-abbrev pub Holds : Type 0
-Holds = text script (run script) ≡ lines (
+abbrev pub Row04Holds : Type 0
+Row04Holds = text script (run script) ≡ lines (
     codes "open a"
     ∷ codes "!0 slot a&0 0"
     ∷ codes "!0 made a.0 up caps a&0"
@@ -64,6 +64,6 @@ Holds = text script (run script) ≡ lines (
     ∷ [])
 
 -- opens the definitions of this file
-unfoldable pub opened : Unit {0}
+unfoldable pub opened_row04 : Unit {0}
 unfolding tree_a script
-opened = tt
+opened_row04 = tt

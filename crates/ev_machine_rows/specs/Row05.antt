@@ -43,8 +43,8 @@ script = record {
   schedule = [];
 }
 
-abbrev pub Holds : Type 0
-Holds = text script (run script) ≡ lines (
+abbrev pub Row05Holds : Type 0
+Row05Holds = text script (run script) ≡ lines (
     codes "open a"
     ∷ codes "!0 ejector a.0"
     ∷ codes "!0 made a.1 m"
@@ -61,6 +61,6 @@ Holds = text script (run script) ≡ lines (
     ∷ [])
 
 -- opens the definitions of this file
-unfoldable pub opened : Unit {0}
+unfoldable pub opened_row05 : Unit {0}
 unfolding tree_a script
-opened = tt
+opened_row05 = tt

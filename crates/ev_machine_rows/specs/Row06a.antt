@@ -28,8 +28,8 @@ script = record {
   schedule = [];
 }
 
-abbrev pub Holds : Type 0
-Holds = text script (run script) ≡ lines (
+abbrev pub Row06aHolds : Type 0
+Row06aHolds = text script (run script) ≡ lines (
     codes "open a"
     ∷ codes "!0 threw \"not int\""
     ∷ codes "settle @a broken:\"not int\""
@@ -37,6 +37,6 @@ Holds = text script (run script) ≡ lines (
     ∷ [])
 
 -- opens the definitions of this file
-unfoldable pub opened : Unit {0}
+unfoldable pub opened_row06a : Unit {0}
 unfolding tree_a script
-opened = tt
+opened_row06a = tt

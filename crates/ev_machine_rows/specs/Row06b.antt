@@ -31,8 +31,8 @@ script = record {
   schedule = [];
 }
 
-abbrev pub Holds : Type 0
-Holds = text script (run script) ≡ lines (
+abbrev pub Row06bHolds : Type 0
+Row06bHolds = text script (run script) ≡ lines (
     codes "open a"
     ∷ codes "!0 ejector a.0"
     ∷ codes "!0 call a.0 run \"not int\""
@@ -44,6 +44,6 @@ Holds = text script (run script) ≡ lines (
     ∷ [])
 
 -- opens the definitions of this file
-unfoldable pub opened : Unit {0}
+unfoldable pub opened_row06b : Unit {0}
 unfolding tree_a script
-opened = tt
+opened_row06b = tt

@@ -47,8 +47,8 @@ script = record {
   schedule = [];
 }
 
-abbrev pub Holds : Type 0
-Holds = text script (run script) ≡ lines (
+abbrev pub Row07Holds : Type 0
+Row07Holds = text script (run script) ≡ lines (
     codes "open a"
     ∷ codes "!0 slot a&0 0"
     ∷ codes "!0 made a.0 p caps a&0"
@@ -60,6 +60,6 @@ Holds = text script (run script) ≡ lines (
     ∷ [])
 
 -- opens the definitions of this file
-unfoldable pub opened : Unit {0}
+unfoldable pub opened_row07 : Unit {0}
 unfolding tree_a script
-opened = tt
+opened_row07 = tt

@@ -27,8 +27,8 @@ script = record {
   schedule = [];
 }
 
-abbrev pub Holds : Type 0
-Holds = text script (run script) ≡ lines (
+abbrev pub Row08aHolds : Type 0
+Row08aHolds = text script (run script) ≡ lines (
     codes "open a"
     ∷ codes "!0 call 41 add 1"
     ∷ codes "!0 back 42"
@@ -38,6 +38,6 @@ Holds = text script (run script) ≡ lines (
     ∷ [])
 
 -- opens the definitions of this file
-unfoldable pub opened : Unit {0}
+unfoldable pub opened_row08a : Unit {0}
 unfolding tree_a script
-opened = tt
+opened_row08a = tt

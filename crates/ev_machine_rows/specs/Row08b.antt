@@ -27,12 +27,12 @@ script = record {
   schedule = [];
 }
 
-abbrev pub Holds : Type 0
-Holds = text script (run script) ≡ lines (
+abbrev pub Row08bHolds : Type 0
+Row08bHolds = text script (run script) ≡ lines (
     codes "stop fuel 0"
     ∷ [])
 
 -- opens the definitions of this file
-unfoldable pub opened : Unit {0}
+unfoldable pub opened_row08b : Unit {0}
 unfolding tree_a script
-opened = tt
+opened_row08b = tt

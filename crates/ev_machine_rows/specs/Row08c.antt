@@ -38,12 +38,12 @@ script = record {
   schedule = [];
 }
 
-abbrev pub Holds : Type 0
-Holds = text script (run script) ≡ lines (
+abbrev pub Row08cHolds : Type 0
+Row08cHolds = text script (run script) ≡ lines (
     codes "stop depth 0"
     ∷ [])
 
 -- opens the definitions of this file
-unfoldable pub opened : Unit {0}
+unfoldable pub opened_row08c : Unit {0}
 unfolding tree_a script
-opened = tt
+opened_row08c = tt

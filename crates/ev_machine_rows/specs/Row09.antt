@@ -44,8 +44,8 @@ script = record {
   schedule = Turn 0 ∷ Turn 0 ∷ Turn 0 ∷ [];
 }
 
-abbrev pub Holds : Type 0
-Holds = text script (run script) ≡ lines (
+abbrev pub Row09Holds : Type 0
+Row09Holds = text script (run script) ≡ lines (
     codes "open a"
     ∷ codes "!0 made a.0 o"
     ∷ codes "!0 list a%0 1"
@@ -68,6 +68,6 @@ Holds = text script (run script) ≡ lines (
     ∷ [])
 
 -- opens the definitions of this file
-unfoldable pub opened : Unit {0}
+unfoldable pub opened_row09 : Unit {0}
 unfolding tree_a script
-opened = tt
+opened_row09 = tt

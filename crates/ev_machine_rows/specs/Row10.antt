@@ -50,8 +50,8 @@ script = record {
   schedule = Carry 0 1 ∷ Carry 0 1 ∷ Turn 1 ∷ Turn 1 ∷ [];
 }
 
-abbrev pub Holds : Type 0
-Holds = text script (run script) ≡ lines (
+abbrev pub Row10Holds : Type 0
+Row10Holds = text script (run script) ≡ lines (
     codes "open a"
     ∷ codes "!0 list a%0"
     ∷ codes "!0 send a/0 @b getX -> b?a/0"
@@ -81,6 +81,6 @@ Holds = text script (run script) ≡ lines (
     ∷ [])
 
 -- opens the definitions of this file
-unfoldable pub opened : Unit {0}
+unfoldable pub opened_row10 : Unit {0}
 unfolding tree_a tree_b script
-opened = tt
+opened_row10 = tt

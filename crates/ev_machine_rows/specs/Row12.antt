@@ -67,8 +67,8 @@ script = record {
   schedule = Carry 0 1 ∷ Turn 1 ∷ Carry 1 2 ∷ Carry 1 2 ∷ CutLink 0 2 ∷ NoticeLink 2 0 ∷ Carry 2 1 ∷ Carry 2 1 ∷ [];
 }
 
-abbrev pub Holds : Type 0
-Holds = text script (run script) ≡ lines (
+abbrev pub Row12Holds : Type 0
+Row12Holds = text script (run script) ≡ lines (
     codes "open a"
     ∷ codes "!0 list a%0 0"
     ∷ codes "!0 send a/0 @c put 0 -> c?a/0"
@@ -110,6 +110,6 @@ Holds = text script (run script) ≡ lines (
     ∷ [])
 
 -- opens the definitions of this file
-unfoldable pub opened : Unit {0}
+unfoldable pub opened_row12 : Unit {0}
 unfolding tree_a tree_b tree_c script
-opened = tt
+opened_row12 = tt

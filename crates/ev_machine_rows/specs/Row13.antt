@@ -73,8 +73,8 @@ script = record {
   schedule = Carry 0 1 ∷ Carry 0 1 ∷ Turn 1 ∷ Carry 1 0 ∷ Carry 1 0 ∷ Carry 1 0 ∷ Turn 0 ∷ Carry 0 1 ∷ Turn 0 ∷ Carry 1 0 ∷ Turn 0 ∷ [];
 }
 
-abbrev pub Holds : Type 0
-Holds = text script (run script) ≡ lines (
+abbrev pub Row13Holds : Type 0
+Row13Holds = text script (run script) ≡ lines (
     codes "open a"
     ∷ codes "!0 made a.0 me"
     ∷ codes "!0 list a%0 a.0"
@@ -127,6 +127,6 @@ Holds = text script (run script) ≡ lines (
     ∷ [])
 
 -- opens the definitions of this file
-unfoldable pub opened : Unit {0}
+unfoldable pub opened_row13 : Unit {0}
 unfolding tree_a tree_b script
-opened = tt
+opened_row13 = tt

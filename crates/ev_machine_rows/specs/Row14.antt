@@ -77,8 +77,8 @@ script = record {
   schedule = Carry 2 1 ∷ Carry 0 1 ∷ Carry 0 1 ∷ Turn 1 ∷ Carry 1 0 ∷ Carry 1 0 ∷ Turn 0 ∷ Carry 0 2 ∷ Carry 0 2 ∷ Carry 0 1 ∷ Carry 1 2 ∷ Carry 1 2 ∷ Turn 2 ∷ Turn 2 ∷ [];
 }
 
-abbrev pub Holds : Type 0
-Holds = text script (run script) ≡ lines (
+abbrev pub Row14Holds : Type 0
+Row14Holds = text script (run script) ≡ lines (
     codes "open a"
     ∷ codes "!0 list a%0"
     ∷ codes "!0 send a/0 @b get -> b?a/0"
@@ -137,6 +137,6 @@ Holds = text script (run script) ≡ lines (
     ∷ [])
 
 -- opens the definitions of this file
-unfoldable pub opened : Unit {0}
+unfoldable pub opened_row14 : Unit {0}
 unfolding tree_a tree_b tree_c script
-opened = tt
+opened_row14 = tt

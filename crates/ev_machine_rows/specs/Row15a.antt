@@ -57,8 +57,8 @@ script = record {
   schedule = Carry 0 1 ∷ Turn 1 ∷ [];
 }
 
-abbrev pub Holds : Type 0
-Holds = text script (run script) ≡ lines (
+abbrev pub Row15aHolds : Type 0
+Row15aHolds = text script (run script) ≡ lines (
     codes "open a"
     ∷ codes "!0 promise a~0 a.0"
     ∷ codes "!0 list a%0 a~0 a.0"
@@ -86,6 +86,6 @@ Holds = text script (run script) ≡ lines (
     ∷ [])
 
 -- opens the definitions of this file
-unfoldable pub opened : Unit {0}
+unfoldable pub opened_row15a : Unit {0}
 unfolding tree_a tree_b script
-opened = tt
+opened_row15a = tt

@@ -37,8 +37,8 @@ script = record {
   schedule = [];
 }
 
-abbrev pub Holds : Type 0
-Holds = text script (run script) ≡ lines (
+abbrev pub Row15bHolds : Type 0
+Row15bHolds = text script (run script) ≡ lines (
     codes "open a"
     ∷ codes "!0 promise a~0 a.0"
     ∷ codes "!0 list a%0 a~0 a.0"
@@ -51,6 +51,6 @@ Holds = text script (run script) ≡ lines (
     ∷ [])
 
 -- opens the definitions of this file
-unfoldable pub opened : Unit {0}
+unfoldable pub opened_row15b : Unit {0}
 unfolding tree_a script
-opened = tt
+opened_row15b = tt

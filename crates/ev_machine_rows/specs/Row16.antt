@@ -69,8 +69,8 @@ script = record {
   schedule = Carry 0 1 ∷ Turn 1 ∷ Carry 0 2 ∷ Carry 0 2 ∷ Carry 1 2 ∷ Carry 1 2 ∷ Carry 2 1 ∷ Carry 2 1 ∷ Turn 1 ∷ [];
 }
 
-abbrev pub Holds : Type 0
-Holds = text script (run script) ≡ lines (
+abbrev pub Row16Holds : Type 0
+Row16Holds = text script (run script) ≡ lines (
     codes "open a"
     ∷ codes "!0 list a%0 @c @c"
     ∷ codes "!0 send a/0 @b two @c @c -> b?a/0"
@@ -113,6 +113,6 @@ Holds = text script (run script) ≡ lines (
     ∷ [])
 
 -- opens the definitions of this file
-unfoldable pub opened : Unit {0}
+unfoldable pub opened_row16 : Unit {0}
 unfolding tree_a tree_b tree_c script
-opened = tt
+opened_row16 = tt

@@ -61,8 +61,8 @@ script = record {
   schedule = CutLink 0 1 ∷ NoticeLink 1 0 ∷ Turn 0 ∷ NoticeLink 0 1 ∷ [];
 }
 
-abbrev pub Holds : Type 0
-Holds = text script (run script) ≡ lines (
+abbrev pub Row17Holds : Type 0
+Row17Holds = text script (run script) ≡ lines (
     codes "open a"
     ∷ codes "!0 list a%0 1"
     ∷ codes "!0 send a/0 @b f 1 -> b?a/0"
@@ -95,6 +95,6 @@ Holds = text script (run script) ≡ lines (
     ∷ [])
 
 -- opens the definitions of this file
-unfoldable pub opened : Unit {0}
+unfoldable pub opened_row17 : Unit {0}
 unfolding tree_a tree_b script
-opened = tt
+opened_row17 = tt

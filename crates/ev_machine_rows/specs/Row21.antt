@@ -37,8 +37,8 @@ script = record {
   schedule = [];
 }
 
-abbrev pub Holds : Type 0
-Holds = text script (run script) ≡ lines (
+abbrev pub Row21Holds : Type 0
+Row21Holds = text script (run script) ≡ lines (
     codes "open a"
     ∷ codes "!0 made a.0 aud"
     ∷ codes "!0 audition a.1"
@@ -51,6 +51,6 @@ Holds = text script (run script) ≡ lines (
     ∷ [])
 
 -- opens the definitions of this file
-unfoldable pub opened : Unit {0}
+unfoldable pub opened_row21 : Unit {0}
 unfolding tree_a script
-opened = tt
+opened_row21 = tt

@@ -1,2 +1,4 @@
 //! Worked rows: the text of the run of a script, by computing.
 #![tactic(auto)]
+
+pub mod rows;

@@ -1,7 +1,0 @@
-use Rattle.std.proofs.Common.{refl}
-use Rattle.ev_run.specs.Text.{opened_text}
-use Rattle.ev_machine_rows.specs.Row07.{Holds, opened}
-
-holds : Holds
-unfolding opened_text opened
-holds = refl
