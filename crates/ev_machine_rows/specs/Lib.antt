@@ -25,3 +25,9 @@ pub mod OrderOverACut
 pub mod AuditorThrows
 pub mod Row21
 pub mod Row19
+pub mod Endings
+pub mod Guards
+pub mod Natives
+pub mod References
+pub mod Audits
+pub mod Bounds
