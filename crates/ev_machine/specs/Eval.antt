@@ -1,7 +1,7 @@
 -- Evaluation: one step by cases on the node, over what evaluates the nodes below, and the depth.
 use Rattle.std.specs.Prelude.{ℕ, zero, suc, ◌+◌, Bool, true, false, List, [], ◌∷◌, ◌++◌, Option, Some, None, if◌then◌else◌, ◌==◌, ◌&&◌, length, slice_get, map, codes, nat_le, pos}
 use Rattle.ev_machine.specs.Values.{Words, Value, Null, Flag, Number, Letter, Text, Prim, Broken, Items, Ref, Naming, Spot, Own}
-use Rattle.ev_machine.specs.State.{Bound, Fixed, Slot, Binding, Scope, Cell, Freedom, IsSafe, IsItself, IsFinal, IsVar, FreeName, View, Thing, Made, Ejector, Audition, Resolver, Message, Standing, Unsettled, Took, Finished, Threw, Called, Back, Thrown, Left, Got, SlotMade, SlotRead, SlotWrote, ListMade, EjectorMade, AuditionMade, PromiseMade, ObjectMade, Vat, Fuel, Deep, Astray, Done, Gives, Throws, Ejects, Stops, Act, ◌>>=◌, ◌>>◌, give, throw, look, tell, stop, eject, spend, ending, for_some, new_activation, new_thing, kill, new_slot, write_slot, new_list, new_promise}
+use Rattle.ev_machine.specs.State.{Bound, Fixed, Slot, Binding, Scope, Cell, Freedom, IsSafe, IsItself, IsFinal, IsVar, FreeName, View, Thing, Made, Ejector, Audition, Resolver, Message, Standing, Unsettled, Took, Finished, Threw, Called, Back, Thrown, Left, Got, SlotMade, SlotRead, SlotWrote, ListMade, EjectorMade, AuditionMade, PromiseMade, ObjectMade, Vat, Fuel, Deep, Astray, Act, ◌>>=◌, ◌>>◌, give, throw, look, tell, stop, eject, spend, ending, for_some, new_activation, new_thing, kill, new_slot, write_slot, new_list, new_promise}
 use Rattle.ev_machine.specs.Refs.{Place, Near, Mine, Away, Gone, follow, place, list_fits, highest, any_of, standing_of, settle, resolve, send, react}
 use Rattle.ev_machine.specs.Free.{same_words, entry, free_nouns, bound_nouns, BoundNoun}
 use Rattle.ev_machine.specs.Form.{Item, Begin, End, Word, Fact, literal_value, items_of}
@@ -251,18 +251,15 @@ unfoldable pub stamps_of : {N : Type 0} → Option (Thing N) → List (Value N)
 stamps_of (Some (Made node caught stamps)) = stamps
 stamps_of _ = []
 
--- the call's last line, by how it ended
-unfoldable pub ended : {N : Type 0} → ℕ → Done N (Value N) → Done N (Value N)
-ended act (Gives v s) = (tell (Back act v) >> give v) s
-ended act (Throws p s) = (tell (Thrown act p) >> throw p) s
-ended act (Ejects n v s) = (tell (Left act) >> eject n v) s
-ended act (Stops c s) = Stops c s
+-- with the call's last line, by how it ended
+unfoldable pub ended : {N : Type 0} → ℕ → Act N (Value N) → Act N (Value N)
+ended act m = ending (λ v. tell (Back act v) >> give v) (λ p. tell (Thrown act p) >> throw p) (λ n v. tell (Left act) >> eject n v) m
 
 -- a call that begins no activation, with its lines
 unfoldable pub with_lines : {N : Type 0} → ℕ → Value N → Words → List (Value N) → Act N (Value N) → Act N (Value N)
 with_lines act x verb args m = do
   tell (Called act x verb args None)
-  ending (ended act) m
+  ended act m
 
 module _ {N W : Type 0} (K : Naming N W) (tree : List Node) where
   -- ---- stamps and frozen values
@@ -572,18 +569,16 @@ module _ {N W : Type 0} (K : Naming N W) (tree : List Node) where
   unfoldable pub leave : {A : Type 0} → ℕ → Act N A → Act N A
   leave j m = kill j >> m
 
-  unfoldable pub audited : ℕ → Done N (Value N) → Done N (Value N)
-  audited n (Gives v s) = leave n (give v) s
-  audited n (Throws p s) = leave n (throw p) s
-  audited n (Ejects m v s) = leave n (eject m v) s
-  audited n (Stops c s) = Stops c s
+  -- however it ends, the ejector or audition is dead after it
+  unfoldable pub leaving : {A : Type 0} → ℕ → Act N A → Act N A
+  leaving n m = ending (λ v. leave n (give v)) (λ p. leave n (throw p)) (λ k v. leave n (eject k v)) m
 
   -- an object is asked, with an audition of its own
   unfoldable pub audit : Caller N → ℕ → View N → Value N → Place N → Act N Bool
   audit again act view a Near = do
     n ← new_thing (Audition true view)
     tell (AuditionMade act (K.object n))
-    v ← ending (audited n) (again act a (codes "audit") (Ref (K.object n) ∷ []))
+    v ← leaving n (again act a (codes "audit") (Ref (K.object n) ∷ []))
     look (λ s. is_true (follow K s v))
   audit again act view a _ = throw (codes "not an auditor")
 
@@ -686,19 +681,19 @@ module _ {N W : Type 0} (K : Naming N W) (tree : List Node) where
   hand_over act j next n v = if n == j then (tell (Got act v) >> next) else eject n v
 
   -- A matcher whose pattern is bound gives its body's value. One that left by its ejector hands over.
-  unfoldable pub matched : Evaluator N → ℕ → ℕ → ℕ → Act N (Value N) → Done N (Scope N) → Done N (Value N)
-  matched rec act j body next (Gives inner s) = leave j (do
-    x ← rec.expression body inner
-    give x.value) s
-  matched rec act j body next (Throws p s) = leave j (throw p) s
-  matched rec act j body next (Ejects n v s) = leave j (hand_over act j next n v) s
-  matched rec act j body next (Stops c s) = Stops c s
+  unfoldable pub matched : Evaluator N → ℕ → ℕ → ℕ → Act N (Value N) → Act N (Scope N) → Act N (Value N)
+  matched rec act j body next m = ending
+      (λ inner. leave j (do
+        x ← rec.expression body inner
+        give x.value))
+      (λ p. leave j (throw p))
+      (λ n v. leave j (hand_over act j next n v)) m
 
   unfoldable pub match_all : Evaluator N → List Case → Value N → Scope N → Act N (Value N)
   match_all rec [] v here = throw (codes "no method")
   match_all rec (m ∷ ms) v here = do
     j ← new_ejector here.act
-    ending (matched rec here.act j m.body (λ s. match_all rec ms v here s)) (rec.pattern m.pattern v (Ref (K.object j)) here)
+    matched rec here.act j m.body (λ s. match_all rec ms v here s) (rec.pattern m.pattern v (Ref (K.object j)) here)
 
   -- the matchers are tried on one list of the verb and the list of the arguments
   unfoldable pub try_matchers : Evaluator N → List Case → Words → List (Value N) → Scope N → Act N (Value N)
@@ -733,7 +728,7 @@ module _ {N W : Type 0} (K : Naming N W) (tree : List Node) where
   call_thing rec again act x i (Some (Made node caught stamps)) verb args = do
     b ← new_activation
     tell (Called act x verb args (Some b))
-    ending (ended act) (run_object rec (members_of (slice_get tree node)) verb args (record { act = b; nouns = caught }))
+    ended act (run_object rec (members_of (slice_get tree node)) verb args (record { act = b; nouns = caught }))
   call_thing rec again act x i (Some t) verb args = with_lines act x verb args (thing_answer again act i t verb args)
 
   unfoldable pub call_spot : Evaluator N → Caller N → ℕ → Value N → Spot → Words → List (Value N) → Act N (Value N)
@@ -839,27 +834,28 @@ module _ {N W : Type 0} (K : Naming N W) (tree : List Node) where
     x ← rec.expression c.1 inner
     answered here x.value
 
-  unfoldable pub escaped : Evaluator N → ℕ → Scope N → Option (ℕ × ℕ) → Done N (Answer N) → Done N (Answer N)
-  escaped rec j here c (Gives x s) = leave j (answered here x.value) s
-  escaped rec j here c (Throws p s) = leave j (throw p) s
-  escaped rec j here c (Ejects n v s) = leave j (if n == j then caught_by rec here c v else eject n v) s
-  escaped rec j here c (Stops e s) = Stops e s
+  unfoldable pub escaped : Evaluator N → ℕ → Scope N → Option (ℕ × ℕ) → Act N (Answer N) → Act N (Answer N)
+  escaped rec j here c m = ending
+      (λ x. leave j (answered here x.value))
+      (λ p. leave j (throw p))
+      (λ n v. leave j (if n == j then caught_by rec here c v else eject n v)) m
 
-  unfoldable pub tried : Evaluator N → ℕ → ℕ → Scope N → Done N (Answer N) → Done N (Answer N)
-  tried rec p h here (Gives x s) = answered here x.value s
-  tried rec p h here (Throws t s) = (do
+  -- the handler, at a problem
+  unfoldable pub handles : Evaluator N → ℕ → ℕ → Scope N → Words → Act N (Answer N)
+  handles rec p h here t = do
     inner ← rec.pattern p (Text t) Null here
     x ← rec.expression h inner
-    answered here x.value) s
-  tried rec p h here (Ejects n v s) = Ejects n v s
-  tried rec p h here (Stops c s) = Stops c s
+    answered here x.value
+
+  unfoldable pub tried : Evaluator N → ℕ → ℕ → Scope N → Act N (Answer N) → Act N (Answer N)
+  tried rec p h here m = ending (λ x. answered here x.value) (handles rec p h here) eject m
 
   -- the second part is evaluated after every outcome but a stop, and its value is dropped
-  unfoldable pub at_last : Evaluator N → ℕ → Scope N → Done N (Answer N) → Done N (Answer N)
-  at_last rec b here (Gives x s) = (rec.expression b here >> answered here x.value) s
-  at_last rec b here (Throws p s) = (rec.expression b here >> throw p) s
-  at_last rec b here (Ejects n v s) = (rec.expression b here >> eject n v) s
-  at_last rec b here (Stops c s) = Stops c s
+  unfoldable pub at_last : Evaluator N → ℕ → Scope N → Act N (Answer N) → Act N (Answer N)
+  at_last rec b here m = ending
+      (λ x. rec.expression b here >> answered here x.value)
+      (λ p. rec.expression b here >> throw p)
+      (λ n v. rec.expression b here >> eject n v) m
 
   unfoldable pub choose : Evaluator N → ℕ → ℕ → Scope N → Scope N → Value N → Act N (Answer N)
   choose rec a b here inner (Flag true) = do
@@ -893,11 +889,11 @@ module _ {N W : Type 0} (K : Naming N W) (tree : List Node) where
     after ← unmatched (bound_nouns tree p) here
     answered after (Flag false)
 
-  unfoldable pub match_ended : ℕ → ℕ → Scope N → Done N (Scope N) → Done N (Answer N)
-  match_ended j p here (Gives inner s) = leave j (answered inner (Flag true)) s
-  match_ended j p here (Throws t s) = leave j (throw t) s
-  match_ended j p here (Ejects n v s) = leave j (if n == j then not_matched p here v else eject n v) s
-  match_ended j p here (Stops c s) = Stops c s
+  unfoldable pub match_ended : ℕ → ℕ → Scope N → Act N (Scope N) → Act N (Answer N)
+  match_ended j p here m = ending
+      (λ inner. leave j (answered inner (Flag true)))
+      (λ t. leave j (throw t))
+      (λ n v. leave j (if n == j then not_matched p here v else eject n v)) m
 
   unfoldable pub write_cell : Evaluator N → ℕ → ℕ → Value N → Option (Cell N) → Act N (Value N)
   write_cell rec act k v None = stop Astray
@@ -940,18 +936,18 @@ module _ {N W : Type 0} (K : Naming N W) (tree : List Node) where
     choose rec a b here x.scope y
   step rec id (Escape p body c) here = do
     j ← new_ejector here.act
-    ending (escaped rec j here c) (do
+    escaped rec j here c (do
       inner ← rec.pattern p (Ref (K.object j)) Null here
       rec.expression body inner)
-  step rec id (Try body p h) here = ending (tried rec p h here) (rec.expression body here)
-  step rec id (Finally a b) here = ending (at_last rec b here) (rec.expression a here)
+  step rec id (Try body p h) here = tried rec p h here (rec.expression body here)
+  step rec id (Finally a b) here = at_last rec b here (rec.expression a here)
   step rec id (Hide e) here = do
     x ← rec.expression e here
     answered here x.value
   step rec id (MatchBind e p) here = do
     x ← rec.expression e here
     j ← new_ejector here.act
-    ending (match_ended j p x.scope) (rec.pattern p x.value (Ref (K.object j)) x.scope)
+    match_ended j p x.scope (rec.pattern p x.value (Ref (K.object j)) x.scope)
   step rec id (Object p auditors members) here = do
     xs ← all_of rec auditors here
     make_object (call rec) id (slice_get tree p) (free_nouns tree members) xs.values xs.scope
@@ -1027,17 +1023,14 @@ module _ {N W : Type 0} (K : Naming N W) (tree : List Node) where
   -- ---- turns
 
   -- a turn ends: its answer is resolved to the value, or broken with the problem
-  unfoldable pub closes : ℕ → N → Done N (Value N) → Done N (Unit {0})
-  closes act p (Gives v s) = (tell (Finished act v) >> resolve K p v) s
-  closes act p (Throws t s) = (tell (Threw act t) >> settle K p (Broken t)) s
-  closes act p (Ejects n v s) = Stops Astray s
-  closes act p (Stops c s) = Stops c s
+  unfoldable pub closes : ℕ → N → Act N (Value N) → Act N (Unit {0})
+  closes act p m = ending (λ v. tell (Finished act v) >> resolve K p v) (λ t. tell (Threw act t) >> settle K p (Broken t)) (λ n v. stop Astray) m
 
   -- the opening turn evaluates the program, and resolves the root
   unfoldable pub opening : ℕ → N → List (Binding N) → Act N (Unit {0})
   opening depth p given = do
     a ← new_activation
-    ending (closes a p) (do
+    closes a p (do
       x ← (evaluator depth).expression 0 (record { act = a; nouns = given })
       give x.value)
 
@@ -1046,9 +1039,9 @@ module _ {N W : Type 0} (K : Naming N W) (tree : List Node) where
   taking depth m = do
     a ← new_activation
     tell (Took a m)
-    ending (closes a m.answer) (turn_value (evaluator depth) a m.target m.verb m.args)
+    closes a m.answer (turn_value (evaluator depth) a m.target m.verb m.args)
 
 -- opens each definition of this file, and of those below
 unfoldable pub opened_eval : Unit {0}
-unfolding bound_in with_noun answered read_cell read_bound any_guard suits method_of matcher_in matchers_of members_of captures named name_of freedom_of_bound freedom_of free_names freezes frozen_guard frozen_freedom meets guard_told guard_at guard_asked is_auditor audition_ask resolver_ask ejector_ask is_null is_int is_boolean is_char is_text is_list is_true is_near where_true all_plain plain_by is_plain stamps_of ended with_lines same_stamp has_stamp stamps_at is_stamped is_frozen taken fail_by failed handed native_coerce coerce_near coerce_native coerce store make_list spell write_text iterate reply data_answer is_unsettled open_by is_open all_same same_by is_same same_reply send_listed send_with call_listed call_with make_promise broken_text problem_of fulfilled is_far is_gone test_reply react_near when_resolved thrown_text after_turn turns loop perform leave audited audit verdict with_stamp ask_all with_item build audition_live audition_answer ejector_answer where_unresolved smash resolver_answer bind_all new_ejector hand_over matched match_all try_matchers run_body run_object thing_answer call_thing call_spot call_value call_one call_at call turn_thing turn_spot turn_value object_made object_in object_as view_of make_object all_of last_of exit_of caught_by escaped tried at_last choose no_match unmatched_noun unmatched not_matched match_ended write_cell write_bound step guard_of bind_list bind_items bind_step step_found bind_found deeper evaluator closes opening taking opened_refs opened_form
+unfolding bound_in with_noun answered read_cell read_bound any_guard suits method_of matcher_in matchers_of members_of captures named name_of freedom_of_bound freedom_of free_names freezes frozen_guard frozen_freedom meets guard_told guard_at guard_asked is_auditor audition_ask resolver_ask ejector_ask is_null is_int is_boolean is_char is_text is_list is_true is_near where_true all_plain plain_by is_plain stamps_of ended with_lines same_stamp has_stamp stamps_at is_stamped is_frozen taken fail_by failed handed native_coerce coerce_near coerce_native coerce store make_list spell write_text iterate reply data_answer is_unsettled open_by is_open all_same same_by is_same same_reply send_listed send_with call_listed call_with make_promise broken_text problem_of fulfilled is_far is_gone test_reply react_near when_resolved thrown_text after_turn turns loop perform leave leaving audit verdict with_stamp ask_all with_item build audition_live audition_answer ejector_answer where_unresolved smash resolver_answer bind_all new_ejector hand_over matched match_all try_matchers run_body run_object thing_answer call_thing call_spot call_value call_one call_at call turn_thing turn_spot turn_value object_made object_in object_as view_of make_object all_of last_of exit_of caught_by escaped handles tried at_last choose no_match unmatched_noun unmatched not_matched match_ended write_cell write_bound step guard_of bind_list bind_items bind_step step_found bind_found deeper evaluator closes opening taking opened_refs opened_form
 opened_eval = tt

@@ -252,9 +252,15 @@ unfoldable pub for_some : {N A B : Type 0} → Option A → (A → Act N B) → 
 for_some (Some a) f m = f a
 for_some None f m = m
 
--- changes the outcome
-unfoldable pub ending : {N A B : Type 0} → (Done N A → Done N B) → Act N A → Act N B
-ending f m = λ s. f (m s)
+unfoldable pub end_by : {N A B : Type 0} → (A → Act N B) → (Words → Act N B) → (ℕ → Value N → Act N B) → Done N A → Done N B
+end_by f g h (Gives a s) = f a s
+end_by f g h (Throws p s) = g p s
+end_by f g h (Ejects n v s) = h n v s
+end_by f g h (Stops c s) = Stops c s
+
+-- what follows by how something ended: where it gave, threw, or was left by an ejector; a stop is a stop
+unfoldable pub ending : {N A B : Type 0} → (A → Act N B) → (Words → Act N B) → (ℕ → Value N → Act N B) → Act N A → Act N B
+ending f g h m = λ s. end_by f g h (m s)
 
 -- the same for each of a list
 unfoldable pub each : {N A : Type 0} → (A → Act N (Unit {0})) → List A → Act N (Unit {0})
@@ -403,5 +409,5 @@ module _ {N W : Type 0} (K : Naming N W) where
 
 -- opens each definition of this file, and of those below
 unfoldable pub opened_state : Unit {0}
-unfolding and_then ◌>>=◌ ◌>>◌ give throw stop eject look for_some ending each tell spent spend new_activation new_thing change dead kill new_slot holding write_slot new_list enqueue send_out new_gift is_gift with_opened open_gift mark unless_settled is_in with_vat changed_to changed begun drawn_at draws with_change alter come mail new_promise new_message draw opened_values
+unfolding and_then ◌>>=◌ ◌>>◌ give throw stop eject look for_some end_by ending each tell spent spend new_activation new_thing change dead kill new_slot holding write_slot new_list enqueue send_out new_gift is_gift with_opened open_gift mark unless_settled is_in with_vat changed_to changed begun drawn_at draws with_change alter come mail new_promise new_message draw opened_values
 opened_state = tt
