@@ -1,0 +1,9 @@
+pub mod Values
+pub mod State
+pub mod Free
+pub mod Form
+pub mod Ints
+pub mod Native
+pub mod Refs
+pub mod Arrive
+pub mod Eval

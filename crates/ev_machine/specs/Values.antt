@@ -1,0 +1,163 @@
+-- The values of E, and the names of things. Everything above is said for any type N of names.
+use Rattle.std.specs.Prelude.{ℕ, ℤ, Bool, true, false, List, ◌==◌, ◌&&◌}
+
+-- a text, as its bytes in UTF-8
+abbrev pub Words : Type 0
+Words = List ℕ
+
+-- a value: data, or the name of something
+pub data Value (N : Type 0) : Type 0 where
+  Null : Value N
+  Flag : Bool → Value N
+  -- an integer within 128 bits with a sign
+  Number : ℤ → Value N
+  -- a character, by its code
+  Letter : ℕ → Value N
+  Text : Words → Value N
+  -- a primitive of the safe scope, by its number
+  Prim : ℕ → Value N
+  -- a broken reference, with its problem
+  Broken : Words → Value N
+  -- a list, by its number in the heap of its vat
+  Items : ℕ → Value N
+  Ref : N → Value N
+
+-- message number n of a vat: v/n
+pub record Msg : Type 0 where
+  pub sender : ℕ
+  pub number : ℕ
+
+-- A name that every vat means the same by. Each has one host, the vat that it begins with.
+pub data Name : Type 0 where
+  -- @v, the root of a vat
+  Root : ℕ → Name
+  -- v.n, its object number n; ejectors, resolvers and auditions are counted with objects
+  Object : ℕ → ℕ → Name
+  -- v~n, the promise number n that it made by Ref.promise()
+  Promise : ℕ → ℕ → Name
+  -- h?m, the answer of message m at host h
+  Answer : ℕ → Msg → Name
+  -- h^i, the gift at host h under the word of draw i
+  Gift : ℕ → ℕ → Name
+  -- v/n, a message
+  Sent : Msg → Name
+
+abbrev pub same_msg : Msg → Msg → Bool
+same_msg a b = (a.sender == b.sender) && (a.number == b.number)
+
+unfoldable pub same_name : Name → Name → Bool
+same_name (Root v) (Root w) = v == w
+same_name (Object v i) (Object w j) = (v == w) && (i == j)
+same_name (Promise v i) (Promise w j) = (v == w) && (i == j)
+same_name (Answer v m) (Answer w n) = (v == w) && same_msg m n
+same_name (Gift v i) (Gift w j) = (v == w) && (i == j)
+same_name (Sent m) (Sent n) = same_msg m n
+same_name _ _ = false
+
+-- what a name is at a vat, as far as the name itself tells
+pub data Spot : Type 0 where
+  -- what bears this number of this vat
+  Own : ℕ → Spot
+  -- an object of vat h
+  Foreign : ℕ → Spot
+  -- a promise or a root
+  NoObject : Spot
+
+-- How a name came to be known by a vat. W is how the notes of peers name things.
+pub data Coming (N W : Type 0) : Type 0 where
+  -- the root of that vat, known from the start
+  IsRoot : ℕ → Coming N W
+  -- the promise of that number that the vat made
+  IsOwn : ℕ → Coming N W
+  -- the answer, at that host, of this message
+  IsAnswer : ℕ → N → Coming N W
+  -- the gift at that host of that draw
+  IsGift : ℕ → ℕ → Coming N W
+  -- learnt from a note, which names it so
+  IsLearnt : W → Coming N W
+
+-- How a message came to be at a vat: as its own message of that number, or in a note.
+pub data Mailing (W : Type 0) : Type 0 where
+  IsSent : ℕ → Mailing W
+  IsCarried : W → Mailing W
+
+-- How a vat names things, and the words that are drawn.
+pub record Naming (N W : Type 0) : Type 0 where
+  -- its object of that number
+  pub object : ℕ → N
+  -- the name that came so, as number k of the names that the vat knows
+  pub made : Coming N W → ℕ → N
+  -- the name of the message that came so, as number k of the vat's messages
+  pub mailed : Mailing W → ℕ → N
+  pub spot : N → Spot
+  pub same : N → N → Bool
+  -- the word of each draw of the run
+  pub word : ℕ → ℕ
+
+-- ---- global names
+
+unfoldable pub spot_of : ℕ → Name → Spot
+spot_of v (Object w n) = elim (v == w) [ true ↦ Own n | false ↦ Foreign w ]
+spot_of v _ = NoObject
+
+unfoldable pub answer_of : ℕ → Name → Name
+answer_of h (Sent m) = Answer h m
+answer_of h n = n
+
+unfoldable pub mail_of : ℕ → Mailing Name → Name
+mail_of v (IsSent i) = Sent (record { sender = v; number = i })
+mail_of v (IsCarried n) = n
+
+-- the name itself tells how it came
+unfoldable pub name_of : ℕ → Coming Name Name → Name
+name_of v (IsRoot w) = Root w
+name_of v (IsOwn i) = Promise v i
+name_of v (IsAnswer h m) = answer_of h m
+name_of v (IsGift h i) = Gift h i
+name_of v (IsLearnt n) = n
+
+-- how vat v names things in the one global state
+unfoldable pub naming : (ℕ → ℕ) → ℕ → Naming Name Name
+naming word v = record { object = Object v; made = λ c k. name_of v c; mailed = λ c k. mail_of v c; spot = spot_of v; same = same_name; word = word }
+
+unfoldable pub host_of : Name → ℕ
+host_of (Root v) = v
+host_of (Object v i) = v
+host_of (Promise v i) = v
+host_of (Answer v m) = v
+host_of (Gift v i) = v
+host_of (Sent m) = m.sender
+
+-- ---- local numbers
+
+-- what the code of one vat has for names
+pub data Local : Type 0 where
+  -- an object of this vat
+  Obj : ℕ → Local
+  -- a promise or root, by the order in which the vat came to know it
+  Prom : ℕ → Local
+  -- an object of that vat, by its position among that vat's exports
+  Far : ℕ → ℕ → Local
+  -- a message, by the order in which it came to be at the vat
+  Mess : ℕ → Local
+
+unfoldable pub same_local : Local → Local → Bool
+same_local (Obj i) (Obj j) = i == j
+same_local (Prom i) (Prom j) = i == j
+same_local (Far h p) (Far g q) = (h == g) && (p == q)
+same_local (Mess i) (Mess j) = i == j
+same_local _ _ = false
+
+unfoldable pub local_spot : Local → Spot
+local_spot (Obj i) = Own i
+local_spot (Far h p) = Foreign h
+local_spot (Prom i) = NoObject
+local_spot (Mess i) = NoObject
+
+unfoldable pub numbering : {W : Type 0} → (ℕ → ℕ) → Naming Local W
+numbering word = record { object = Obj; made = λ c k. Prom k; mailed = λ c k. Mess k; spot = local_spot; same = same_local; word = word }
+
+-- opens each definition of this file
+unfoldable pub opened_values : Unit {0}
+unfolding same_name spot_of name_of answer_of mail_of naming host_of same_local local_spot numbering
+opened_values = tt

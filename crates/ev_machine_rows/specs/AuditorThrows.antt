@@ -1,0 +1,53 @@
+-- An auditor that throws leaves the making.
+use Rattle.std.specs.Prelude.{◌≡◌, ℕ, pos, negsuc, List, [], ◌∷◌, ◌++◌, Option, Some, None, codes, replicate}
+use Rattle.ev_machine.specs.Values.{Words}
+use Rattle.ev_run.specs.World.{Entry, Turn, Carry, CutLink, NoticeLink, drain, Program, Script, run}
+use Rattle.ev_run.specs.Text.{lines, text}
+use Rattle.ev_kernel.specs.declared.node.Literal.TheVariants as literal
+use Rattle.ev_kernel.specs.declared.node.Node.{Node}
+use Rattle.ev_kernel.specs.declared.node.Node.TheVariants.{Lit, Noun, Set, Def, Call, Sequence, If, Escape, Try, Finally, Hide, MatchBind, Object, Method, Matcher, Final, Var, Any, ListPattern, Via}
+use Rattle.ev_machine_rows.specs.Keys.{zeros}
+
+-- def aud { method audit(n) { throw("bad") } }; def x implements aud {}
+unfoldable pub tree_a : List Node
+tree_a =
+    Sequence (1 ∷ 8 ∷ [])
+    ∷ Object 2 [] (3 ∷ [])
+    ∷ Final (codes "aud") None
+    ∷ Method (codes "audit") (4 ∷ []) 5
+    ∷ Final (codes "n") None
+    ∷ Call 6 (codes "run") (7 ∷ [])
+    ∷ Noun (codes "throw")
+    ∷ Lit (literal.Text (codes "bad"))
+    ∷ Object 9 (10 ∷ []) []
+    ∷ Final (codes "x") None
+    ∷ Noun (codes "aud")
+    ∷ []
+
+unfoldable pub script : Script
+script = record {
+  key = zeros;
+  fuel = 1000000;
+  depth = 400;
+  vats =
+    record { name = codes "a"; knows = []; tree = tree_a } ∷
+    [];
+  schedule = [];
+}
+
+abbrev pub AuditorThrowsHolds : Type 0
+AuditorThrowsHolds = text script (run script) ≡ lines (
+    codes "open a"
+    ∷ codes "!0 made a.0 aud"
+    ∷ codes "!0 audition a.1"
+    ∷ codes "!0 call a.0 audit a.1 as !1"
+    ∷ codes "!0 thrown \"bad\""
+    ∷ codes "!0 threw \"bad\""
+    ∷ codes "settle @a broken:\"bad\""
+    ∷ codes "end"
+    ∷ [])
+
+-- opens the definitions of this file
+unfoldable pub opened_auditorthrows : Unit {0}
+unfolding tree_a script
+opened_auditorthrows = tt

@@ -1,0 +1,30 @@
+-- How the opening turn of a vat that is alone ends.
+use Rattle.std.specs.Prelude.{ℕ, List, [], ◌∷◌, codes}
+use Rattle.ev_machine.specs.Values.{Words}
+use Rattle.ev_kernel.specs.declared.node.Node.{Node}
+use Rattle.ev_run.specs.World.{Script, run}
+use Rattle.ev_run.specs.Text.{text_of, vat_names}
+use Rattle.ev_machine_rows.specs.Keys.{zeros}
+use Rattle.ev_run.specs.Text.{opened_text}
+
+-- a script of one vat, with so much fuel and depth
+unfoldable pub alone : ℕ → ℕ → List Node → Script
+alone fuel depth tree = record { key = zeros; fuel = fuel; depth = depth; vats = record { name = codes "a"; knows = []; tree = tree } ∷ []; schedule = [] }
+
+-- the last line but the line `end`, or the line of a stop
+unfoldable pub last_line : List Words → Words
+last_line [] = []
+last_line (l ∷ []) = l
+last_line (l ∷ m ∷ []) = l
+last_line (l ∷ m ∷ n ∷ ls) = last_line (m ∷ n ∷ ls)
+
+unfoldable pub ending_at : ℕ → ℕ → List Node → Words
+ending_at fuel depth tree = last_line (text_of (vat_names (alone fuel depth tree)) (run (alone fuel depth tree)))
+
+unfoldable pub ending_of : List Node → Words
+ending_of tree = ending_at 1000000 400 tree
+
+-- opens each definition of this file, and of those below
+unfoldable pub opened_endings : Unit {0}
+unfolding alone last_line ending_at ending_of opened_text
+opened_endings = tt

@@ -1,0 +1,43 @@
+-- A sum that is out of range.
+use Rattle.std.specs.Prelude.{◌≡◌, ℕ, pos, negsuc, List, [], ◌∷◌, ◌++◌, Option, Some, None, codes, replicate}
+use Rattle.ev_machine.specs.Values.{Words}
+use Rattle.ev_run.specs.World.{Entry, Turn, Carry, CutLink, NoticeLink, drain, Program, Script, run}
+use Rattle.ev_run.specs.Text.{lines, text}
+use Rattle.ev_kernel.specs.declared.node.Literal.TheVariants as literal
+use Rattle.ev_kernel.specs.declared.node.Node.{Node}
+use Rattle.ev_kernel.specs.declared.node.Node.TheVariants.{Lit, Noun, Set, Def, Call, Sequence, If, Escape, Try, Finally, Hide, MatchBind, Object, Method, Matcher, Final, Var, Any, ListPattern, Via}
+use Rattle.ev_machine_rows.specs.Keys.{zeros}
+
+-- 170141183460469231731687303715884105727 + 1
+unfoldable pub tree_a : List Node
+tree_a =
+    Call 1 (codes "add") (2 ∷ [])
+    ∷ Lit (literal.Int (pos 170141183460469231731687303715884105727))
+    ∷ Lit (literal.Int (pos 1))
+    ∷ []
+
+unfoldable pub script : Script
+script = record {
+  key = zeros;
+  fuel = 1000000;
+  depth = 400;
+  vats =
+    record { name = codes "a"; knows = []; tree = tree_a } ∷
+    [];
+  schedule = [];
+}
+
+abbrev pub Row03Holds : Type 0
+Row03Holds = text script (run script) ≡ lines (
+    codes "open a"
+    ∷ codes "!0 call 170141183460469231731687303715884105727 add 1"
+    ∷ codes "!0 thrown \"integer overflow\""
+    ∷ codes "!0 threw \"integer overflow\""
+    ∷ codes "settle @a broken:\"integer overflow\""
+    ∷ codes "end"
+    ∷ [])
+
+-- opens the definitions of this file
+unfoldable pub opened_row03 : Unit {0}
+unfolding tree_a script
+opened_row03 = tt

@@ -1,0 +1,69 @@
+-- Two objects share a var slot.
+use Rattle.std.specs.Prelude.{◌≡◌, ℕ, pos, negsuc, List, [], ◌∷◌, ◌++◌, Option, Some, None, codes, replicate}
+use Rattle.ev_machine.specs.Values.{Words}
+use Rattle.ev_run.specs.World.{Entry, Turn, Carry, CutLink, NoticeLink, drain, Program, Script, run}
+use Rattle.ev_run.specs.Text.{lines, text}
+use Rattle.ev_kernel.specs.declared.node.Literal.TheVariants as literal
+use Rattle.ev_kernel.specs.declared.node.Node.{Node}
+use Rattle.ev_kernel.specs.declared.node.Node.TheVariants.{Lit, Noun, Set, Def, Call, Sequence, If, Escape, Try, Finally, Hide, MatchBind, Object, Method, Matcher, Final, Var, Any, ListPattern, Via}
+use Rattle.ev_machine_rows.specs.Keys.{zeros}
+
+-- var n := 0; def up { method run() { n += 1 } }; def get { method run() { n } }; up(); get()
+unfoldable pub tree_a : List Node
+tree_a =
+    Sequence (1 ∷ 4 ∷ 11 ∷ 15 ∷ 17 ∷ [])
+    ∷ Def 2 None 3
+    ∷ Var (codes "n") None
+    ∷ Lit (literal.Int (pos 0))
+    ∷ Object 5 [] (6 ∷ [])
+    ∷ Final (codes "up") None
+    ∷ Method (codes "run") [] 7
+    ∷ Set (codes "n") 8
+    ∷ Call 9 (codes "add") (10 ∷ [])
+    ∷ Noun (codes "n")
+    ∷ Lit (literal.Int (pos 1))
+    ∷ Object 12 [] (13 ∷ [])
+    ∷ Final (codes "get") None
+    ∷ Method (codes "run") [] 14
+    ∷ Noun (codes "n")
+    ∷ Call 16 (codes "run") []
+    ∷ Noun (codes "up")
+    ∷ Call 18 (codes "run") []
+    ∷ Noun (codes "get")
+    ∷ []
+
+unfoldable pub script : Script
+script = record {
+  key = zeros;
+  fuel = 1000000;
+  depth = 400;
+  vats =
+    record { name = codes "a"; knows = []; tree = tree_a } ∷
+    [];
+  schedule = [];
+}
+
+abbrev pub Row04Holds : Type 0
+Row04Holds = text script (run script) ≡ lines (
+    codes "open a"
+    ∷ codes "!0 slot a&0 0"
+    ∷ codes "!0 made a.0 up caps a&0"
+    ∷ codes "!0 made a.1 get caps a&0"
+    ∷ codes "!0 call a.0 run as !1"
+    ∷ codes "!1 read a&0 0"
+    ∷ codes "!1 call 0 add 1"
+    ∷ codes "!1 back 1"
+    ∷ codes "!1 wrote a&0 1"
+    ∷ codes "!0 back 1"
+    ∷ codes "!0 call a.1 run as !2"
+    ∷ codes "!2 read a&0 1"
+    ∷ codes "!0 back 1"
+    ∷ codes "!0 done 1"
+    ∷ codes "settle @a 1"
+    ∷ codes "end"
+    ∷ [])
+
+-- opens the definitions of this file
+unfoldable pub opened_row04 : Unit {0}
+unfolding tree_a script
+opened_row04 = tt

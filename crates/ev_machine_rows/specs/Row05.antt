@@ -1,0 +1,66 @@
+-- A dead ejector, and a matcher.
+use Rattle.std.specs.Prelude.{◌≡◌, ℕ, pos, negsuc, List, [], ◌∷◌, ◌++◌, Option, Some, None, codes, replicate}
+use Rattle.ev_machine.specs.Values.{Words}
+use Rattle.ev_run.specs.World.{Entry, Turn, Carry, CutLink, NoticeLink, drain, Program, Script, run}
+use Rattle.ev_run.specs.Text.{lines, text}
+use Rattle.ev_kernel.specs.declared.node.Literal.TheVariants as literal
+use Rattle.ev_kernel.specs.declared.node.Node.{Node}
+use Rattle.ev_kernel.specs.declared.node.Node.TheVariants.{Lit, Noun, Set, Def, Call, Sequence, If, Escape, Try, Finally, Hide, MatchBind, Object, Method, Matcher, Final, Var, Any, ListPattern, Via}
+use Rattle.ev_machine_rows.specs.Keys.{zeros}
+
+-- def old := escape ej { ej }; def m { match [v, args] { v } }; m.zip(7); old(1)
+unfoldable pub tree_a : List Node
+tree_a =
+    Sequence (1 ∷ 6 ∷ 13 ∷ 16 ∷ [])
+    ∷ Def 2 None 3
+    ∷ Final (codes "old") None
+    ∷ Escape 4 5 None
+    ∷ Final (codes "ej") None
+    ∷ Noun (codes "ej")
+    ∷ Object 7 [] (8 ∷ [])
+    ∷ Final (codes "m") None
+    ∷ Matcher 9 12
+    ∷ ListPattern (10 ∷ 11 ∷ [])
+    ∷ Final (codes "v") None
+    ∷ Final (codes "args") None
+    ∷ Noun (codes "v")
+    ∷ Call 14 (codes "zip") (15 ∷ [])
+    ∷ Noun (codes "m")
+    ∷ Lit (literal.Int (pos 7))
+    ∷ Call 17 (codes "run") (18 ∷ [])
+    ∷ Noun (codes "old")
+    ∷ Lit (literal.Int (pos 1))
+    ∷ []
+
+unfoldable pub script : Script
+script = record {
+  key = zeros;
+  fuel = 1000000;
+  depth = 400;
+  vats =
+    record { name = codes "a"; knows = []; tree = tree_a } ∷
+    [];
+  schedule = [];
+}
+
+abbrev pub Row05Holds : Type 0
+Row05Holds = text script (run script) ≡ lines (
+    codes "open a"
+    ∷ codes "!0 ejector a.0"
+    ∷ codes "!0 made a.1 m"
+    ∷ codes "!0 call a.1 zip 7 as !1"
+    ∷ codes "!1 list a%0 7"
+    ∷ codes "!1 list a%1 \"zip\" a%0"
+    ∷ codes "!1 ejector a.2"
+    ∷ codes "!0 back \"zip\""
+    ∷ codes "!0 call a.0 run 1"
+    ∷ codes "!0 thrown \"ejector is dead\""
+    ∷ codes "!0 threw \"ejector is dead\""
+    ∷ codes "settle @a broken:\"ejector is dead\""
+    ∷ codes "end"
+    ∷ [])
+
+-- opens the definitions of this file
+unfoldable pub opened_row05 : Unit {0}
+unfolding tree_a script
+opened_row05 = tt

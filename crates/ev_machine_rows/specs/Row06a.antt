@@ -1,0 +1,42 @@
+-- A guard that fails.
+use Rattle.std.specs.Prelude.{◌≡◌, ℕ, pos, negsuc, List, [], ◌∷◌, ◌++◌, Option, Some, None, codes, replicate}
+use Rattle.ev_machine.specs.Values.{Words}
+use Rattle.ev_run.specs.World.{Entry, Turn, Carry, CutLink, NoticeLink, drain, Program, Script, run}
+use Rattle.ev_run.specs.Text.{lines, text}
+use Rattle.ev_kernel.specs.declared.node.Literal.TheVariants as literal
+use Rattle.ev_kernel.specs.declared.node.Node.{Node}
+use Rattle.ev_kernel.specs.declared.node.Node.TheVariants.{Lit, Noun, Set, Def, Call, Sequence, If, Escape, Try, Finally, Hide, MatchBind, Object, Method, Matcher, Final, Var, Any, ListPattern, Via}
+use Rattle.ev_machine_rows.specs.Keys.{zeros}
+
+-- def x :int := "a"
+unfoldable pub tree_a : List Node
+tree_a =
+    Def 1 None 3
+    ∷ Final (codes "x") (Some 2)
+    ∷ Noun (codes "int")
+    ∷ Lit (literal.Text (codes "a"))
+    ∷ []
+
+unfoldable pub script : Script
+script = record {
+  key = zeros;
+  fuel = 1000000;
+  depth = 400;
+  vats =
+    record { name = codes "a"; knows = []; tree = tree_a } ∷
+    [];
+  schedule = [];
+}
+
+abbrev pub Row06aHolds : Type 0
+Row06aHolds = text script (run script) ≡ lines (
+    codes "open a"
+    ∷ codes "!0 threw \"not int\""
+    ∷ codes "settle @a broken:\"not int\""
+    ∷ codes "end"
+    ∷ [])
+
+-- opens the definitions of this file
+unfoldable pub opened_row06a : Unit {0}
+unfolding tree_a script
+opened_row06a = tt

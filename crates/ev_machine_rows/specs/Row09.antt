@@ -1,0 +1,73 @@
+-- Messages are taken in order.
+use Rattle.std.specs.Prelude.{◌≡◌, ℕ, pos, negsuc, List, [], ◌∷◌, ◌++◌, Option, Some, None, codes, replicate}
+use Rattle.ev_machine.specs.Values.{Words}
+use Rattle.ev_run.specs.World.{Entry, Turn, Carry, CutLink, NoticeLink, drain, Program, Script, run}
+use Rattle.ev_run.specs.Text.{lines, text}
+use Rattle.ev_kernel.specs.declared.node.Literal.TheVariants as literal
+use Rattle.ev_kernel.specs.declared.node.Node.{Node}
+use Rattle.ev_kernel.specs.declared.node.Node.TheVariants.{Lit, Noun, Set, Def, Call, Sequence, If, Escape, Try, Finally, Hide, MatchBind, Object, Method, Matcher, Final, Var, Any, ListPattern, Via}
+use Rattle.ev_machine_rows.specs.Keys.{zeros}
+
+-- def o { method f(x) { x } }; o <- f(1); o <- f(2)
+unfoldable pub tree_a : List Node
+tree_a =
+    Sequence (1 ∷ 6 ∷ 13 ∷ [])
+    ∷ Object 2 [] (3 ∷ [])
+    ∷ Final (codes "o") None
+    ∷ Method (codes "f") (4 ∷ []) 5
+    ∷ Final (codes "x") None
+    ∷ Noun (codes "x")
+    ∷ Call 7 (codes "send") (8 ∷ 9 ∷ 10 ∷ [])
+    ∷ Noun (codes "E")
+    ∷ Noun (codes "o")
+    ∷ Lit (literal.Text (codes "f"))
+    ∷ Call 11 (codes "run") (12 ∷ [])
+    ∷ Noun (codes "__makeList")
+    ∷ Lit (literal.Int (pos 1))
+    ∷ Call 14 (codes "send") (15 ∷ 16 ∷ 17 ∷ [])
+    ∷ Noun (codes "E")
+    ∷ Noun (codes "o")
+    ∷ Lit (literal.Text (codes "f"))
+    ∷ Call 18 (codes "run") (19 ∷ [])
+    ∷ Noun (codes "__makeList")
+    ∷ Lit (literal.Int (pos 2))
+    ∷ []
+
+unfoldable pub script : Script
+script = record {
+  key = zeros;
+  fuel = 1000000;
+  depth = 400;
+  vats =
+    record { name = codes "a"; knows = []; tree = tree_a } ∷
+    [];
+  schedule = Turn 0 ∷ Turn 0 ∷ Turn 0 ∷ [];
+}
+
+abbrev pub Row09Holds : Type 0
+Row09Holds = text script (run script) ≡ lines (
+    codes "open a"
+    ∷ codes "!0 made a.0 o"
+    ∷ codes "!0 list a%0 1"
+    ∷ codes "!0 send a/0 a.0 f 1 -> a?a/0"
+    ∷ codes "!0 list a%1 2"
+    ∷ codes "!0 send a/1 a.0 f 2 -> a?a/1"
+    ∷ codes "!0 done a?a/1"
+    ∷ codes "wait @a a?a/1"
+    ∷ codes "1 turn a"
+    ∷ codes "!1 take a/0 a.0 f 1"
+    ∷ codes "!1 done 1"
+    ∷ codes "settle a?a/0 1"
+    ∷ codes "2 turn a"
+    ∷ codes "!2 take a/1 a.0 f 2"
+    ∷ codes "!2 done 2"
+    ∷ codes "settle a?a/1 2"
+    ∷ codes "settle @a 2"
+    ∷ codes "3 idle"
+    ∷ codes "end"
+    ∷ [])
+
+-- opens the definitions of this file
+unfoldable pub opened_row09 : Unit {0}
+unfolding tree_a script
+opened_row09 = tt

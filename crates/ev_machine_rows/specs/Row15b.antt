@@ -1,0 +1,56 @@
+-- A promise that is resolved to itself.
+use Rattle.std.specs.Prelude.{◌≡◌, ℕ, pos, negsuc, List, [], ◌∷◌, ◌++◌, Option, Some, None, codes, replicate}
+use Rattle.ev_machine.specs.Values.{Words}
+use Rattle.ev_run.specs.World.{Entry, Turn, Carry, CutLink, NoticeLink, drain, Program, Script, run}
+use Rattle.ev_run.specs.Text.{lines, text}
+use Rattle.ev_kernel.specs.declared.node.Literal.TheVariants as literal
+use Rattle.ev_kernel.specs.declared.node.Node.{Node}
+use Rattle.ev_kernel.specs.declared.node.Node.TheVariants.{Lit, Noun, Set, Def, Call, Sequence, If, Escape, Try, Finally, Hide, MatchBind, Object, Method, Matcher, Final, Var, Any, ListPattern, Via}
+use Rattle.ev_machine_rows.specs.Keys.{zeros}
+
+-- def [p, r] := Ref.promise(); r.resolve(p); Ref.isBroken(p)
+unfoldable pub tree_a : List Node
+tree_a =
+    Sequence (1 ∷ 7 ∷ 10 ∷ [])
+    ∷ Def 2 None 5
+    ∷ ListPattern (3 ∷ 4 ∷ [])
+    ∷ Final (codes "p") None
+    ∷ Final (codes "r") None
+    ∷ Call 6 (codes "promise") []
+    ∷ Noun (codes "Ref")
+    ∷ Call 8 (codes "resolve") (9 ∷ [])
+    ∷ Noun (codes "r")
+    ∷ Noun (codes "p")
+    ∷ Call 11 (codes "isBroken") (12 ∷ [])
+    ∷ Noun (codes "Ref")
+    ∷ Noun (codes "p")
+    ∷ []
+
+unfoldable pub script : Script
+script = record {
+  key = zeros;
+  fuel = 1000000;
+  depth = 400;
+  vats =
+    record { name = codes "a"; knows = []; tree = tree_a } ∷
+    [];
+  schedule = [];
+}
+
+abbrev pub Row15bHolds : Type 0
+Row15bHolds = text script (run script) ≡ lines (
+    codes "open a"
+    ∷ codes "!0 promise a~0 a.0"
+    ∷ codes "!0 list a%0 a~0 a.0"
+    ∷ codes "!0 call a.0 resolve a~0"
+    ∷ codes "settle a~0 broken:\"cycle\""
+    ∷ codes "!0 back null"
+    ∷ codes "!0 done true"
+    ∷ codes "settle @a true"
+    ∷ codes "end"
+    ∷ [])
+
+-- opens the definitions of this file
+unfoldable pub opened_row15b : Unit {0}
+unfolding tree_a script
+opened_row15b = tt

@@ -1,0 +1,56 @@
+-- An auditor written in E.
+use Rattle.std.specs.Prelude.{◌≡◌, ℕ, pos, negsuc, List, [], ◌∷◌, ◌++◌, Option, Some, None, codes, replicate}
+use Rattle.ev_machine.specs.Values.{Words}
+use Rattle.ev_run.specs.World.{Entry, Turn, Carry, CutLink, NoticeLink, drain, Program, Script, run}
+use Rattle.ev_run.specs.Text.{lines, text}
+use Rattle.ev_kernel.specs.declared.node.Literal.TheVariants as literal
+use Rattle.ev_kernel.specs.declared.node.Node.{Node}
+use Rattle.ev_kernel.specs.declared.node.Node.TheVariants.{Lit, Noun, Set, Def, Call, Sequence, If, Escape, Try, Finally, Hide, MatchBind, Object, Method, Matcher, Final, Var, Any, ListPattern, Via}
+use Rattle.ev_machine_rows.specs.Keys.{zeros}
+
+-- def aud { method audit(n) { true } }; def x implements aud {}; auditedBy(aud, x)
+unfoldable pub tree_a : List Node
+tree_a =
+    Sequence (1 ∷ 6 ∷ 9 ∷ [])
+    ∷ Object 2 [] (3 ∷ [])
+    ∷ Final (codes "aud") None
+    ∷ Method (codes "audit") (4 ∷ []) 5
+    ∷ Final (codes "n") None
+    ∷ Noun (codes "true")
+    ∷ Object 7 (8 ∷ []) []
+    ∷ Final (codes "x") None
+    ∷ Noun (codes "aud")
+    ∷ Call 10 (codes "run") (11 ∷ 12 ∷ [])
+    ∷ Noun (codes "auditedBy")
+    ∷ Noun (codes "aud")
+    ∷ Noun (codes "x")
+    ∷ []
+
+unfoldable pub script : Script
+script = record {
+  key = zeros;
+  fuel = 1000000;
+  depth = 400;
+  vats =
+    record { name = codes "a"; knows = []; tree = tree_a } ∷
+    [];
+  schedule = [];
+}
+
+abbrev pub Row21Holds : Type 0
+Row21Holds = text script (run script) ≡ lines (
+    codes "open a"
+    ∷ codes "!0 made a.0 aud"
+    ∷ codes "!0 audition a.1"
+    ∷ codes "!0 call a.0 audit a.1 as !1"
+    ∷ codes "!0 back true"
+    ∷ codes "!0 made a.2 x stamps a.0"
+    ∷ codes "!0 done true"
+    ∷ codes "settle @a true"
+    ∷ codes "end"
+    ∷ [])
+
+-- opens the definitions of this file
+unfoldable pub opened_row21 : Unit {0}
+unfolding tree_a script
+opened_row21 = tt

@@ -1,0 +1,2 @@
+//! Runs of the machine: vats on links, the schedule, and the text of the history.
+#![tactic(auto)]
