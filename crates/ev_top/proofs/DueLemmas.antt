@@ -1,25 +1,25 @@
 -- Want of memory pays for what a read asks.
-use Rattle.std.proofs.Common.{◌≡◌, ◌≢◌, ℕ, nat_lt, length, codes, List, [], Bool, true, false, Option, Some, None, IfSome, cond, refl, sym, ◌∙◌, ap, subst}
+use Rattle.std.proofs.Common.{◌≡◌, ◌≢◌, ℕ, ℤ, nat_lt, length, codes, List, [], Bool, true, false, Option, Some, None, IfSome, cond, refl, sym, ◌∙◌, ap, subst}
 use Rattle.std.proofs.KnownBytes.{Appends-nil}
 use Rattle.ev_top.specs.Words.{line}
-use Rattle.ev_top.specs.declared.evaluate.Event.{Event}
 use Rattle.ev_top.specs.Script.{script_from}
-use Rattle.ev_top.specs.Due.{Debt, due, is_run, due_of_input, due_of_script, due_of_vat, due_of_history, history_of, most_bytes, IsOfRead, Pays}
+use Rattle.ev_top.specs.Sum.{sum_of}
+use Rattle.ev_top.specs.Due.{Debt, due, is_run, due_of_input, due_of_script, due_of_vat, due_of_sum, most_bytes, IsOfRead, Pays}
 use Rattle.ev_top.specs.declared.script.Script.{Script}
 use Rattle.ev_top.specs.declared.script.VatSource.{VatSource}
 use Rattle.ev_top.specs.declared.status.Status.TheVariants.{Usage, TooLong, Memory}
 
-of_history : (name : List ℕ) (history : Option (List Event)) → IsOfRead (due_of_history name history).status
-of_history name None = tt
-of_history name (Some h) = tt
+of_sum : (key name : List ℕ) (numbers : Option (List ℤ)) → IsOfRead (due_of_sum key name numbers).status
+of_sum key name None = tt
+of_sum key name (Some numbers) = tt
 
-of_vat : (vat : Option VatSource) → IsOfRead (due_of_vat vat).status
-of_vat None = tt
-of_vat (Some vat) = of_history vat.name (history_of vat.source)
+of_vat : (key : List ℕ) (vat : Option VatSource) → IsOfRead (due_of_vat key vat).status
+of_vat key None = tt
+of_vat key (Some vat) = of_sum key vat.name (sum_of vat.source)
 
 of_script : (script : Option Script) → IsOfRead (due_of_script script).status
 of_script None = tt
-of_script (Some script) = of_vat script.vat
+of_script (Some script) = of_vat script.key script.vat
 
 either : (b : Bool) (text : List ℕ) (e : Debt) → IsOfRead e.status → IsOfRead (cond b (record { status = TooLong; text = text }) e).status
 either true text e p = tt

@@ -1,5 +1,10 @@
 pub mod ScriptLemmas
 pub mod SumLemmas
 pub mod TreeLemmas
+pub mod Arena
+pub mod SumValue
+pub mod SumTurn
+pub mod SumRun
 pub mod EvaluationSteps
 pub mod DueLemmas
+pub mod Ran

@@ -1,15 +1,16 @@
 -- What a call owes: its status and its text, by the words and the bytes that were read.
-use Rattle.std.specs.Prelude.{◌≡◌, ◌≢◌, ◌⊎◌, ◌≤◌, ℕ, nat_lt, Bool, true, false, if◌then◌else◌, List, [], ◌∷◌, ◌++◌, length, codes, Some, None, ◌+◌, option_and_then, Result, Ok, Err}
+use Rattle.std.specs.Prelude.{◌≡◌, ◌≢◌, ◌⊎◌, ◌≤◌, ℕ, ℤ, nat_lt, Bool, true, false, if◌then◌else◌, List, [], ◌∷◌, ◌++◌, length, codes, Some, None, ◌+◌, Result, Ok, Err}
 use Rattle.std.specs.declared.option.Option.{Option}
 use Rattle.std.specs.Io.KnownBytes.{Appends, Consumes}
 use Rattle.std.specs.Str.{bytes_eq}
 use Rattle.ev_top.specs.Words.{line, IsPrefix}
+use Rattle.ev_run.specs.World as machine
+use Rattle.ev_run.specs.World.{run}
+use Rattle.ev_run.specs.Text.{text as machine_text}
+use Rattle.ev_top.specs.Machine.{fuel_of_run, greatest_depth, program, machine_script}
 use Rattle.ev_top.specs.Sum.{sum_of}
 use Rattle.ev_top.specs.Tree.{tree_of}
-use Rattle.ev_top.specs.Run.{run_of, render}
 use Rattle.ev_top.specs.Script.{script_from}
-use Rattle.ev_top.specs.declared.evaluate.Event.{Event}
-use Rattle.ev_top.specs.declared.evaluate.Event.TheVariants.{Ended}
 use Rattle.ev_top.specs.declared.script.Script.{Script}
 use Rattle.ev_top.specs.declared.script.VatSource.{VatSource}
 use Rattle.ev_top.specs.declared.reply.Reply.{Reply}
@@ -39,25 +40,28 @@ is_run (word ∷ next ∷ rest) = false
 abbrev pub unbuilt : Refusal
 unbuilt = record { vat = 0; stage = Unbuilt; kind = 0; place = 0 }
 
--- the history of the run of a source, if it spells a sum whose program is built
-abbrev pub history_of : List ℕ → Option (List Event)
-history_of source = option_and_then (λ numbers. run_of (tree_of numbers)) (sum_of source)
+-- What is due for the machine's run on a script of sums. Such a run comes to its end, which `SumsEnd` says.
+unfoldable pub due_text : machine.Script → List ℕ
+due_text script = machine_text script (run script)
 
--- the text of a history, or the refusal of a source that has none
-abbrev pub due_of_history : List ℕ → Option (List Event) → Debt
-due_of_history name (Some history) = record { status = Done; text = render name history }
-due_of_history name None = record {
+abbrev pub due_of_run : machine.Script → Debt
+due_of_run script = record { status = Done; text = due_text script }
+
+-- the run of a sum in one vat, or the refusal of a source that spells none
+abbrev pub due_of_sum : List ℕ → List ℕ → Option (List ℤ) → Debt
+due_of_sum key name (Some numbers) = due_of_run (machine_script key fuel_of_run greatest_depth (program name (tree_of numbers) ∷ []))
+due_of_sum key name None = record {
   status = ProgramRefused unbuilt;
   text = line (codes "refused program " ++ name ++ codes " unbuilt 0 0");
 }
 
-abbrev pub due_of_vat : Option VatSource → Debt
-due_of_vat None = record { status = Done; text = render [] (Ended ∷ []) }
-due_of_vat (Some vat) = due_of_history vat.name (history_of vat.source)
+abbrev pub due_of_vat : List ℕ → Option VatSource → Debt
+due_of_vat key None = due_of_run (machine_script key fuel_of_run greatest_depth [])
+due_of_vat key (Some vat) = due_of_sum key vat.name (sum_of vat.source)
 
 abbrev pub due_of_script : Option Script → Debt
 due_of_script None = record { status = ScriptRefused 0; text = line (codes "refused script 0") }
-due_of_script (Some script) = due_of_vat script.vat
+due_of_script (Some script) = due_of_vat script.key script.vat
 
 -- what is due for the bytes of a source, up to one more than the most
 abbrev pub due_of_input : List ℕ → Debt
@@ -124,9 +128,9 @@ IsReadWhole words input = (is_run words ≡ true) × (length input ≤ most_byte
 
 abbrev pub VatIsUnbuilt : Option VatSource → Type 0
 VatIsUnbuilt None = ⊥
-VatIsUnbuilt (Some vat) = history_of vat.source ≡ None
+VatIsUnbuilt (Some vat) = sum_of vat.source ≡ None
 
--- a script of a vat whose source spells no sum that is built
+-- a script of a vat whose source spells no sum
 abbrev pub IsUnbuilt : Option Script → Type 0
 IsUnbuilt None = ⊥
 IsUnbuilt (Some script) = VatIsUnbuilt script.vat

@@ -1,7 +1,8 @@
 -- Evaluation of a kernel tree: literals of integers, and calls of `add` on them (Kernel-E, LiteralExpr and CallExpr).
 -- What happens on the way is told.
-use Rattle.std.specs.Prelude.{◌≡◌, ℕ, zero, suc, ℤ, pos, ◌+ℤ◌, ◌^◌, ◌&&◌, int_le, int_lt, neg_ℤ, Bool, if◌then◌else◌, List, [], ◌∷◌, ◌++◌, Some, None, Result, Ok, Err, slice_get, codes, bytes_eq}
+use Rattle.std.specs.Prelude.{◌≡◌, ℕ, zero, suc, ℤ, ◌+ℤ◌, if◌then◌else◌, List, [], ◌∷◌, ◌++◌, Some, None, Result, Ok, Err, slice_get, codes, bytes_eq}
 use Rattle.std.specs.declared.option.Option.{Option}
+use Rattle.ev_machine.specs.Ints.{fits}
 use Rattle.ev_kernel.specs.declared.node.Literal.TheVariants as literal
 use Rattle.ev_kernel.specs.declared.node.Node.{Node}
 use Rattle.ev_kernel.specs.declared.node.Node.TheVariants.{Lit, Call}
@@ -43,10 +44,6 @@ unbuilt = λ told. (None, told)
 
 unfoldable pub tell : Event → Act (Unit {0})
 tell e = λ told. (Some tt, told ++ e ∷ [])
-
--- an integer is one of 128 bits with a sign
-unfoldable pub fits : ℤ → Bool
-fits z = int_le (neg_ℤ (pos (2 ^ 127))) z && int_lt z (pos (2 ^ 127))
 
 unfoldable pub answered : ℤ → Act ℤ
 answered z = if fits z then (do

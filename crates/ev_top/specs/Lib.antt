@@ -4,5 +4,7 @@ pub mod Script
 pub mod Tree
 pub mod Evaluation
 pub mod Run
+pub mod Machine
 pub mod Codes
 pub mod Due
+pub mod Ends

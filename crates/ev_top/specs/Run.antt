@@ -1,5 +1,5 @@
 -- The run of a vat whose program is a sum, and its text.
-use Rattle.std.specs.Prelude.{ℕ, ℤ, List, [], ◌∷◌, ◌++◌, Some, None, codes}
+use Rattle.std.specs.Prelude.{ℕ, ℤ, List, [], ◌∷◌, ◌++◌, Some, None, codes, option_and_then}
 use Rattle.std.specs.declared.option.Option.{Option}
 use Rattle.std.specs.List.{flat_map}
 use Rattle.std.specs.Fmt.{signed_decimal}
@@ -7,6 +7,8 @@ use Rattle.ev_kernel.specs.declared.node.Node.{Node}
 use Rattle.ev_top.specs.declared.evaluate.Event.{Event}
 use Rattle.ev_top.specs.declared.evaluate.Event.TheVariants.{Opened, Called, Back, Done, Settled, Ended}
 use Rattle.ev_top.specs.Evaluation.{Out, evaluated}
+use Rattle.ev_top.specs.Sum.{numbers_in}
+use Rattle.ev_top.specs.Tree.{tree_of}
 use Rattle.ev_top.specs.Words.{line}
 
 -- the greatest depth at which a node begins
@@ -18,7 +20,7 @@ abbrev pub closed : Out ℤ → Option (List Event)
 closed (Some z, told) = Some (told ++ Done z ∷ Settled z ∷ Ended ∷ [])
 closed (None, told) = None
 
--- the history of the run of one vat: its opening turn evaluates its program
+-- The history of the run of one vat as the code makes it: the opening turn evaluates the program.
 unfoldable pub run_of : List Node → Option (List Event)
 run_of tree = closed (evaluated tree greatest_depth 0 (Opened ∷ []))
 
@@ -34,3 +36,7 @@ text_of name Ended = codes "end"
 -- a line for each event
 abbrev pub render : List ℕ → List Event → List ℕ
 render name events = flat_map (λ e. line (text_of name e)) events
+
+-- the history of a source whose rows have numbers
+abbrev pub history_of : List ℕ → Option (List Event)
+history_of source = option_and_then (λ numbers. run_of (tree_of numbers)) (numbers_in source)

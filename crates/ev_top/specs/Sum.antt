@@ -1,9 +1,10 @@
 -- The sum that a source spells: 1 to 40 rows of digits, between which " + " stands.
-use Rattle.std.specs.Prelude.{ℕ, ℤ, pos, ◌-◌, ◌^◌, ◌&&◌, nat_lt, nat_le, Bool, false, if◌then◌else◌, List, [], ◌∷◌, ◌++◌, length, codes, Some, None, option_map, option_and_then}
+use Rattle.std.specs.Prelude.{ℕ, ℤ, pos, ◌+ℤ◌, ◌-◌, ◌^◌, ◌&&◌, nat_lt, nat_le, Bool, true, false, if◌then◌else◌, List, [], ◌∷◌, ◌++◌, length, reverse, codes, Some, None, option_map, option_and_then}
 use Rattle.std.specs.declared.option.Option.{Option}
 use Rattle.std.specs.Str.{all_ascii_digits, bytes_eq}
 use Rattle.std.specs.Char.{is_ascii_digit}
 use Rattle.std.specs.Str.Parse.{digits_value}
+use Rattle.ev_machine.specs.Ints.{fits}
 
 -- the first list gets one more item at its front
 abbrev pub onto_first : ℕ → List (List ℕ) → List (List ℕ)
@@ -45,9 +46,30 @@ most_rows = 40
 abbrev pub few_enough : List ℤ → Option (List ℤ)
 few_enough ns = if nat_le (length ns) most_rows then Some ns else None
 
--- the numbers of the sum that a source spells
+-- the numbers of the rows of a source, where they are few enough
+abbrev pub numbers_in : List ℕ → Option (List ℤ)
+numbers_in source = option_and_then few_enough (numbers_of (rows source))
+
+-- the sum of a number and others, the last of them in front
+unfoldable pub total : ℤ → List ℤ → ℤ
+total first [] = first
+total first (n ∷ before) = total first before +ℤ n
+
+-- whether no sum on the way leaves 128 bits
+unfoldable pub stays_within : ℤ → List ℤ → Bool
+stays_within first [] = true
+stays_within first (n ∷ before) = fits (total first before +ℤ n) && stays_within first before
+
+abbrev pub is_within : List ℤ → Bool
+is_within [] = false
+is_within (n ∷ ns) = stays_within n (reverse ns)
+
+abbrev pub built : List ℤ → Option (List ℤ)
+built ns = if is_within ns then Some ns else None
+
+-- the numbers of the sum that a source spells, within 128 bits
 abbrev pub sum_of : List ℕ → Option (List ℤ)
-sum_of source = option_and_then few_enough (numbers_of (rows source))
+sum_of source = option_and_then built (numbers_in source)
 
 -- these numbers, and then the others if there are any
 abbrev pub with_front : List ℤ → Option (List ℤ) → Option (List ℤ)

@@ -2,6 +2,7 @@
 #![tactic(auto)]
 
 mod evaluate;
+pub mod laws;
 mod program;
 mod reply;
 mod run;

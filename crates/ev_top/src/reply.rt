@@ -1,17 +1,17 @@
 //! What is due for the bytes of a script.
 
 ghost use Rattle.std.specs.Prelude.{◌≡◌, IfOk, option_and_then, string_bytes};
-ghost use Rattle.ev_top.specs.Due.{IsFor, due_of_history, due_of_script, history_of};
-ghost use Rattle.ev_top.specs.Run.{run_of};
+ghost use Rattle.ev_top.specs.Due.{IsFor, due_of_sum, due_of_vat, due_of_script};
+ghost use Rattle.ev_top.specs.Run.{history_of, run_of};
 ghost use Rattle.ev_top.specs.Script.{script_from};
 ghost use Rattle.ev_top.specs.Tree.{tree_of};
 ghost use Rattle.ev_top.specs.Words.{line};
 
 use crate::evaluate::Event;
 use crate::run::{render, run_vat};
-use crate::script::{Script, read_script};
+use crate::script::{Script, VatSource, read_script};
 use crate::status::{Refusal, Stage, Status};
-use crate::sum::read_sum;
+use crate::sum::read_numbers;
 use crate::tree::sum_tree;
 use ev_base::{Memory, Seq};
 use std::alloc::Global;
@@ -34,8 +34,8 @@ pub fn reply_line(alloc: Global, status: Status, text: &str) -> Result<Reply, Me
 }
 
 /// The refusal of a source that is not built.
-fn reply_unbuilt(alloc: Global, name: &str) -> Result<Reply, Memory>
-    ensures { IfOk result (λ reply. IsFor reply.status (string_bytes reply.text) (due_of_history name.now None)) }
+fn reply_unbuilt(alloc: Global, key: &str, name: &str) -> Result<Reply, Memory>
+    ensures { IfOk result (λ reply. IsFor reply.status (string_bytes reply.text) (due_of_sum key.now name.now None)) }
 {
     let refusal = Refusal {
         vat: 0,
@@ -53,22 +53,40 @@ fn reply_unbuilt(alloc: Global, name: &str) -> Result<Reply, Memory>
 fn run_source(alloc: Global, source: &str) -> Result<Option<Seq<Event>>, Memory>
     ensures { IfOk result (λ history. history ≡ history_of source.now) }
 {
-    match read_sum(alloc, source.as_bytes())? {
+    match read_numbers(alloc, source.as_bytes())? {
         None => Ok(None),
         Some(numbers) => run_vat(alloc, sum_tree(alloc, &numbers)?.nodes()),
     }
 }
 
 /// The run of a vat.
-fn reply_vat(alloc: Global, name: &str, source: &str) -> Result<Reply, Memory>
-    ensures { IfOk result (λ reply. IsFor reply.status (string_bytes reply.text) (due_of_history name.now (history_of source.now))) }
+fn reply_vat(alloc: Global, key: &str, vat: &VatSource) -> Result<Reply, Memory>
+    ensures { IfOk result (λ reply. IsFor reply.status (string_bytes reply.text) (due_of_vat key.now (Some vat.now))) }
 {
-    match run_source(alloc, source)? {
-        None => reply_unbuilt(alloc, name),
+    let name = vat.name.as_str();
+    match run_source(alloc, vat.source.as_str())? {
+        None => reply_unbuilt(alloc, key, name),
         Some(history) => Ok(Reply {
             status: Status::Done,
             text: render(alloc, name, history.as_slice())?,
         }),
+    }
+}
+
+/// The run of no vat.
+fn reply_empty(alloc: Global, key: &str) -> Result<Reply, Memory>
+    ensures { IfOk result (λ reply. IsFor reply.status (string_bytes reply.text) (due_of_vat key.now None)) }
+{
+    reply_line(alloc, Status::Done, "end")
+}
+
+/// The run of the vat of a script, if it has one.
+fn reply_vats(alloc: Global, key: &str, vat: &Option<VatSource>) -> Result<Reply, Memory>
+    ensures { IfOk result (λ reply. IsFor reply.status (string_bytes reply.text) (due_of_vat key.now vat.now)) }
+{
+    match vat {
+        None => reply_empty(alloc, key),
+        Some(vat) => reply_vat(alloc, key, vat),
     }
 }
 
@@ -78,10 +96,7 @@ fn reply_script(alloc: Global, script: Option<Script>) -> Result<Reply, Memory>
 {
     match script {
         None => reply_line(alloc, Status::ScriptRefused(0), "refused script 0"),
-        Some(script) => match script.vat {
-            None => reply_line(alloc, Status::Done, "end"),
-            Some(vat) => reply_vat(alloc, vat.name.as_str(), vat.source.as_str()),
-        },
+        Some(script) => reply_vats(alloc, script.key.as_str(), &script.vat),
     }
 }
 

@@ -5,7 +5,7 @@ ghost use Rattle.std.specs.Int.{w128};
 ghost use Rattle.std.specs.List.{prefix_len};
 ghost use Rattle.std.specs.Str.{all_ascii_digits};
 ghost use Rattle.std.specs.Char.{is_ascii_digit};
-ghost use Rattle.ev_top.specs.Sum.{plus, starts_with_digit, number_of, numbers_of, rows, sum_of, most_rows};
+ghost use Rattle.ev_top.specs.Sum.{plus, starts_with_digit, number_of, numbers_of, rows, numbers_in, most_rows};
 
 use ev_base::Memory;
 use std::alloc::Global;
@@ -81,9 +81,9 @@ fn read_rows(alloc: Global, source: &[u8]) -> Result<Option<Vec<i128>>, Memory>
     }
 }
 
-/// The numbers of the sum that a source spells, if it spells one of few enough rows.
-pub fn read_sum(alloc: Global, source: &[u8]) -> Result<Option<Vec<i128>>, Memory>
-    ensures numbers { IfOk result (λ found. option_map (λ v. v.items) found ≡ sum_of source.now) }
+/// The numbers of the rows of a source, if they are few enough.
+pub fn read_numbers(alloc: Global, source: &[u8]) -> Result<Option<Vec<i128>>, Memory>
+    ensures numbers { IfOk result (λ found. option_map (λ v. v.items) found ≡ numbers_in source.now) }
     ensures few { IfOk result (λ found. IfSome found (λ v. vec_len v ≤ most_rows)) }
 {
     match read_rows(alloc, source)? {

@@ -49,9 +49,10 @@ pub fn sum_tree(alloc: Global, numbers: &[i128]) -> Result<Kernel, Memory>
     ensures { IfOk result (λ tree. tree ≡ tree_of numbers.now) }
 {
     let mut nodes = Seq::new(alloc);
-    if let [_, others @ ..] = numbers {
-        push_calls(alloc, &mut nodes, others.len() as u64)?;
+    if numbers.is_empty() {
+        return Ok(Kernel::of(nodes));
     }
+    push_calls(alloc, &mut nodes, numbers.len() as u64 - 1)?;
     push_numbers(&mut nodes, numbers)?;
     Ok(Kernel::of(nodes))
 }
