@@ -38,6 +38,11 @@ primitive_name n =
 abbrev pub activation : ℕ → List ℕ
 activation n = 33 ∷ decimal n
 
+-- the activation that a call begins
+abbrev pub begun_words : Option ℕ → List (List ℕ)
+begun_words None = []
+begun_words (Some b) = codes "as" ∷ activation b ∷ []
+
 -- a list in a note, by its members
 abbrev pub members : List Shown → Shown
 members xs = roll-Shown (Members xs)
@@ -103,10 +108,6 @@ module _ (vats : List (List ℕ)) where
   abbrev pub part : List ℕ → List Shown → List (List ℕ)
   part word [] = []
   part word (x ∷ xs) = word ∷ values (x ∷ xs)
-
-  abbrev pub begun_words : Option ℕ → List (List ℕ)
-  begun_words None = []
-  begun_words (Some b) = codes "as" ∷ activation b ∷ []
 
   -- the words of a line
   abbrev pub words : Event → List (List ℕ)
