@@ -1,0 +1,3 @@
+mod Rows
+pub mod ValueLemmas
+pub mod WordLemmas

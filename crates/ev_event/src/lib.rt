@@ -2,9 +2,20 @@
 #![tactic(auto)]
 
 pub mod event;
+pub mod history;
+pub mod line;
+pub mod names;
 pub mod note;
+pub mod notes;
 pub mod shown;
+pub mod values;
+pub mod words;
 
 pub use event::Event;
+pub use history::History;
+pub use line::push_line;
 pub use note::ShownNote;
 pub use shown::Shown;
+
+#[cfg(test)]
+mod tests;

@@ -1,0 +1,505 @@
+//! The lines of events.
+
+ghost use Rattle.std.specs.Prelude.{◌≡◌, ◌/◌, ◌%◌, ◌++◌, ◌∷◌, [], IfOk, OnOk, OnErr, string_bytes, decimal, codes, flat_map};
+ghost use Rattle.std.specs.Char.{digit_char};
+ghost use Rattle.ev_event.specs.declared.event.Event.TheVariants.{Take, Call, Made, Send, When};
+ghost use Rattle.ev_event.specs.Lines.{activation, vat, numbered, name, message, value, note_words, begun_words, values, spaced, hex, line_of, render};
+
+use crate::event::Event;
+use crate::names::{push_activation, push_number};
+use crate::note::ShownNote;
+use crate::notes::add_note;
+use crate::shown::Shown;
+use crate::words::{
+    add_message, add_name, add_numbered, add_part, add_value, add_values, add_vat, add_verb,
+    add_word,
+};
+use ev_base::{Memory, Msg, Name, Seq, Str, VatId};
+use std::alloc::{AllocError, Global};
+
+/// What an activation does with a value.
+fn push_act(
+    alloc: Global,
+    out: &mut String,
+    names: &[Str],
+    id: u64,
+    word: &str,
+    x: &Shown,
+) -> Result<(), AllocError>
+    ensures { OnOk result (string_bytes out.new ≡ string_bytes out.old ++ spaced (activation id ∷ word.now ∷ value names.now x.now ∷ [])) }
+{
+    push_activation(out, id)?;
+    add_word(out, word)?;
+    add_value(alloc, out, names, x)
+}
+
+/// What an activation does with a var slot.
+fn push_slot(
+    alloc: Global,
+    out: &mut String,
+    names: &[Str],
+    id: u64,
+    word: &str,
+    slot: (VatId, u64),
+    x: &Shown,
+) -> Result<(), AllocError>
+    ensures { OnOk result (string_bytes out.new ≡ string_bytes out.old ++ spaced (activation id ∷ word.now ∷ numbered names.now slot.0 38 slot.1 ∷ value names.now x.now ∷ [])) }
+{
+    push_activation(out, id)?;
+    add_word(out, word)?;
+    add_numbered(out, names, slot, '&')?;
+    add_value(alloc, out, names, x)
+}
+
+/// What happens to a name with another.
+fn push_names(
+    out: &mut String,
+    names: &[Str],
+    word: &str,
+    first: &Name,
+    second: &Name,
+) -> Result<(), AllocError>
+    ensures { OnOk result (string_bytes out.new ≡ string_bytes out.old ++ spaced (word.now ∷ name names.now first.now ∷ name names.now second.now ∷ [])) }
+{
+    out.push_str(word)?;
+    add_name(out, names, first)?;
+    add_name(out, names, second)
+}
+
+/// An entry of two vats.
+fn push_entry(
+    out: &mut String,
+    names: &[Str],
+    entry: u64,
+    word: &str,
+    from: VatId,
+    to: VatId,
+) -> Result<(), AllocError>
+    ensures { OnOk result (string_bytes out.new ≡ string_bytes out.old ++ spaced (decimal entry ∷ word.now ∷ vat names.now from ∷ vat names.now to ∷ [])) }
+{
+    push_number(out, entry)?;
+    add_word(out, word)?;
+    add_vat(out, names, from)?;
+    add_vat(out, names, to)
+}
+
+/// A note that is carried.
+fn push_carry(
+    alloc: Global,
+    out: &mut String,
+    names: &[Str],
+    entry: u64,
+    from: VatId,
+    to: VatId,
+    note: &ShownNote,
+) -> Result<(), AllocError>
+    ensures { OnOk result (string_bytes out.new ≡ string_bytes out.old ++ spaced (decimal entry ∷ codes "carry" ∷ vat names.now from ∷ vat names.now to ∷ note_words names.now note.now)) }
+{
+    push_entry(out, names, entry, "carry", from, to)?;
+    add_note(alloc, out, names, note)
+}
+
+/// A note that is left on a link.
+fn push_left_link(
+    alloc: Global,
+    out: &mut String,
+    names: &[Str],
+    from: VatId,
+    to: VatId,
+    note: &ShownNote,
+) -> Result<(), AllocError>
+    ensures { OnOk result (string_bytes out.new ≡ string_bytes out.old ++ spaced (codes "left" ∷ codes "link" ∷ vat names.now from ∷ vat names.now to ∷ note_words names.now note.now)) }
+{
+    out.push_str("left link")?;
+    add_vat(out, names, from)?;
+    add_vat(out, names, to)?;
+    add_note(alloc, out, names, note)
+}
+
+/// A message that is lost.
+fn push_lost(out: &mut String, names: &[Str], id: &Msg, word: &str) -> Result<(), AllocError>
+    ensures { OnOk result (string_bytes out.new ≡ string_bytes out.old ++ spaced (codes "lost" ∷ message names.now id.now ∷ word.now ∷ [])) }
+{
+    out.push_str("lost")?;
+    add_message(out, names, id)?;
+    add_word(out, word)
+}
+
+/// A message that is taken.
+fn push_take(
+    alloc: Global,
+    out: &mut String,
+    names: &[Str],
+    id: u64,
+    taken: &Msg,
+    target: &Shown,
+    verb: &Str,
+    args: &[Shown],
+) -> Result<(), AllocError>
+    ensures { OnOk result (string_bytes out.new ≡ string_bytes out.old ++ line_of names.now (Take id taken.now target.now verb.now args.now)) }
+{
+    push_activation(out, id)?;
+    add_word(out, "take")?;
+    add_message(out, names, taken)?;
+    add_value(alloc, out, names, target)?;
+    add_verb(out, verb.as_str())?;
+    add_values(alloc, out, names, args)
+}
+
+/// The activation that a call begins.
+fn add_begun(out: &mut String, begun: Option<u64>) -> Result<(), AllocError>
+    ensures { OnOk result (string_bytes out.new ≡ string_bytes out.old ++ flat_map (λ v. 32 ∷ v) (begun_words begun)) }
+{
+    match begun {
+        None => Ok(()),
+        Some(id) => {
+            out.push_str(" as ")?;
+            push_activation(out, id)
+        }
+    }
+}
+
+/// A call.
+fn push_call(
+    alloc: Global,
+    out: &mut String,
+    names: &[Str],
+    id: u64,
+    target: &Shown,
+    verb: &Str,
+    args: &[Shown],
+    begun: Option<u64>,
+) -> Result<(), AllocError>
+    ensures { OnOk result (string_bytes out.new ≡ string_bytes out.old ++ line_of names.now (Call id target.now verb.now args.now begun)) }
+{
+    push_act(alloc, out, names, id, "call", target)?;
+    add_verb(out, verb.as_str())?;
+    add_values(alloc, out, names, args)?;
+    add_begun(out, begun)
+}
+
+/// An object that is made.
+fn push_made(
+    alloc: Global,
+    out: &mut String,
+    names: &[Str],
+    id: u64,
+    object: &Shown,
+    called: &Str,
+    caps: &[Shown],
+    stamps: &[Shown],
+) -> Result<(), AllocError>
+    ensures { OnOk result (string_bytes out.new ≡ string_bytes out.old ++ line_of names.now (Made id object.now called.now caps.now stamps.now)) }
+{
+    push_act(alloc, out, names, id, "made", object)?;
+    add_word(out, called.as_str())?;
+    add_part(alloc, out, names, "caps", caps)?;
+    add_part(alloc, out, names, "stamps", stamps)
+}
+
+/// An answer.
+fn add_answer(out: &mut String, names: &[Str], answer: &Name) -> Result<(), AllocError>
+    ensures { OnOk result (string_bytes out.new ≡ string_bytes out.old ++ flat_map (λ v. 32 ∷ v) (codes "->" ∷ name names.now answer.now ∷ [])) }
+{
+    add_word(out, "->")?;
+    add_name(out, names, answer)
+}
+
+/// A send.
+fn push_send(
+    alloc: Global,
+    out: &mut String,
+    names: &[Str],
+    id: u64,
+    sent: &Msg,
+    target: &Shown,
+    verb: &Str,
+    args: &[Shown],
+    answer: &Name,
+) -> Result<(), AllocError>
+    ensures { OnOk result (string_bytes out.new ≡ string_bytes out.old ++ line_of names.now (Send id sent.now target.now verb.now args.now answer.now)) }
+{
+    push_activation(out, id)?;
+    add_word(out, "send")?;
+    add_message(out, names, sent)?;
+    add_value(alloc, out, names, target)?;
+    add_verb(out, verb.as_str())?;
+    add_values(alloc, out, names, args)?;
+    add_answer(out, names, answer)
+}
+
+/// A reaction.
+fn push_when(
+    alloc: Global,
+    out: &mut String,
+    names: &[Str],
+    id: u64,
+    sent: &Msg,
+    x: &Shown,
+    reaction: &Shown,
+    answer: &Name,
+) -> Result<(), AllocError>
+    ensures { OnOk result (string_bytes out.new ≡ string_bytes out.old ++ line_of names.now (When id sent.now x.now reaction.now answer.now)) }
+{
+    push_activation(out, id)?;
+    add_word(out, "when")?;
+    add_message(out, names, sent)?;
+    add_value(alloc, out, names, x)?;
+    add_value(alloc, out, names, reaction)?;
+    add_answer(out, names, answer)
+}
+
+/// A list that is made or arrives.
+fn add_list(
+    alloc: Global,
+    out: &mut String,
+    names: &[Str],
+    id: (VatId, u64),
+    members: &[Shown],
+) -> Result<(), AllocError>
+    ensures { OnOk result (string_bytes out.new ≡ string_bytes out.old ++ flat_map (λ v. 32 ∷ v) (numbered names.now id.0 37 id.1 ∷ values names.now members.now)) }
+{
+    add_numbered(out, names, id, '%')?;
+    add_values(alloc, out, names, members)
+}
+
+/// A byte as two hexadecimal digits.
+fn push_byte(out: &mut String, byte: u8) -> Result<(), AllocError>
+    ensures { OnOk result (string_bytes out.new ≡ string_bytes out.old ++ digit_char (byte / 16) ∷ digit_char (byte % 16) ∷ []) }
+{
+    if let Some(digit) = char::from_digit(u32::from(byte / 16), 16) {
+        out.push(digit)?;
+    }
+    if let Some(digit) = char::from_digit(u32::from(byte % 16), 16) {
+        out.push(digit)?;
+    }
+    Ok(())
+}
+
+/// The bytes of a note that was carried.
+fn push_hex(out: &mut String, bytes: &[u8]) -> Result<(), AllocError>
+    ensures { OnOk result (string_bytes out.new ≡ string_bytes out.old ++ hex bytes.now) }
+{
+    for byte in bytes {
+        push_byte(out, *byte)?;
+    }
+    Ok(())
+}
+
+/// An ejector, a promise or another thing that an activation makes beside its resolver.
+fn push_promise(
+    alloc: Global,
+    out: &mut String,
+    names: &[Str],
+    id: u64,
+    made: &Name,
+    resolver: &Shown,
+) -> Result<(), AllocError>
+    ensures { OnOk result (string_bytes out.new ≡ string_bytes out.old ++ spaced (activation id ∷ codes "promise" ∷ name names.now made.now ∷ value names.now resolver.now ∷ [])) }
+{
+    push_activation(out, id)?;
+    add_word(out, "promise")?;
+    add_name(out, names, made)?;
+    add_value(alloc, out, names, resolver)
+}
+
+/// A message that is left in the queue of a vat.
+fn push_left_queue(out: &mut String, names: &[Str], host: VatId, id: &Msg) -> Result<(), AllocError>
+    ensures { OnOk result (string_bytes out.new ≡ string_bytes out.old ++ spaced (codes "left" ∷ codes "queue" ∷ vat names.now host ∷ message names.now id.now ∷ [])) }
+{
+    out.push_str("left queue")?;
+    add_vat(out, names, host)?;
+    add_message(out, names, id)
+}
+
+/// Appends the line of an event.
+fn push_event(
+    alloc: Global,
+    out: &mut String,
+    names: &[Str],
+    event: &Event,
+) -> Result<(), AllocError>
+    ensures { OnOk result (string_bytes out.new ≡ string_bytes out.old ++ line_of names.now event.now) }
+{
+    match event {
+        Event::Open(host) => {
+            out.push_str("open")?;
+            add_vat(out, names, *host)
+        }
+        Event::Turn(entry, host) => {
+            push_number(out, *entry)?;
+            add_word(out, "turn")?;
+            add_vat(out, names, *host)
+        }
+        Event::Idle(entry) => {
+            push_number(out, *entry)?;
+            add_word(out, "idle")
+        }
+        Event::Carry(entry, from, to, note) => push_carry(
+            alloc, out, names, *entry, *from, *to, note,
+        ),
+        Event::Cut(entry, from, to) => push_entry(out, names, *entry, "cut", *from, *to),
+        Event::Notice(entry, at, peer) => push_entry(out, names, *entry, "notice", *at, *peer),
+        Event::Frame(bytes) => {
+            out.push_str("frame ")?;
+            push_hex(out, bytes.as_slice())
+        }
+        Event::Take {
+            activation,
+            message,
+            target,
+            verb,
+            args,
+        } => push_take(
+            alloc,
+            out,
+            names,
+            *activation,
+            message,
+            target,
+            verb,
+            args.as_slice(),
+        ),
+        Event::Call {
+            activation,
+            target,
+            verb,
+            args,
+            begun,
+        } => push_call(
+            alloc,
+            out,
+            names,
+            *activation,
+            target,
+            verb,
+            args.as_slice(),
+            *begun,
+        ),
+        Event::Back(id, x) => push_act(alloc, out, names, *id, "back", x),
+        Event::Thrown(id, x) => push_act(alloc, out, names, *id, "thrown", x),
+        Event::Gone(id) => {
+            push_activation(out, *id)?;
+            add_word(out, "gone")
+        }
+        Event::Got(id, x) => push_act(alloc, out, names, *id, "got", x),
+        Event::Slot(id, slot, x) => push_slot(alloc, out, names, *id, "slot", *slot, x),
+        Event::Read(id, slot, x) => push_slot(alloc, out, names, *id, "read", *slot, x),
+        Event::Wrote(id, slot, x) => push_slot(alloc, out, names, *id, "wrote", *slot, x),
+        Event::List(id, list, members) => {
+            push_activation(out, *id)?;
+            add_word(out, "list")?;
+            add_list(alloc, out, names, *list, members.as_slice())
+        }
+        Event::Arrived(list, members) => {
+            out.push_str("list")?;
+            add_list(alloc, out, names, *list, members.as_slice())
+        }
+        Event::Ejector(id, x) => push_act(alloc, out, names, *id, "ejector", x),
+        Event::Audition(id, x) => push_act(alloc, out, names, *id, "audition", x),
+        Event::Promise(id, made, resolver) => push_promise(alloc, out, names, *id, made, resolver),
+        Event::Made {
+            activation,
+            object,
+            name,
+            caps,
+            stamps,
+        } => push_made(
+            alloc,
+            out,
+            names,
+            *activation,
+            object,
+            name,
+            caps.as_slice(),
+            stamps.as_slice(),
+        ),
+        Event::Send {
+            activation,
+            message,
+            target,
+            verb,
+            args,
+            answer,
+        } => push_send(
+            alloc,
+            out,
+            names,
+            *activation,
+            message,
+            target,
+            verb,
+            args.as_slice(),
+            answer,
+        ),
+        Event::When {
+            activation,
+            message,
+            value,
+            reaction,
+            answer,
+        } => push_when(
+            alloc,
+            out,
+            names,
+            *activation,
+            message,
+            value,
+            reaction,
+            answer,
+        ),
+        Event::Done(id, x) => push_act(alloc, out, names, *id, "done", x),
+        Event::Threw(id, x) => push_act(alloc, out, names, *id, "threw", x),
+        Event::Settle(subject, x) => {
+            out.push_str("settle")?;
+            add_name(out, names, subject)?;
+            add_value(alloc, out, names, x)
+        }
+        Event::Wait(first, second) => push_names(out, names, "wait", first, second),
+        Event::View(first, second) => push_names(out, names, "view", first, second),
+        Event::LostCut(id) => push_lost(out, names, id, "cut"),
+        Event::LostBroken(id) => push_lost(out, names, id, "broken"),
+        Event::LeftQueue(host, id) => push_left_queue(out, names, *host, id),
+        Event::LeftHeld(host, held, id) => {
+            out.push_str("left held")?;
+            add_vat(out, names, *host)?;
+            add_name(out, names, held)?;
+            add_message(out, names, id)
+        }
+        Event::LeftWait(host, x, id) => {
+            out.push_str("left wait")?;
+            add_vat(out, names, *host)?;
+            add_value(alloc, out, names, x)?;
+            add_message(out, names, id)
+        }
+        Event::LeftLink(from, to, note) => push_left_link(alloc, out, names, *from, *to, note),
+        Event::End => out.push_str("end"),
+    }
+}
+
+/// Appends the line of an event and its line feed. A refusal leaves the text as it was.
+pub fn push_line(
+    alloc: Global,
+    event: &Event,
+    names: &Seq<Str>,
+    text: &mut Str,
+) -> Result<(), Memory>
+    ensures ok { OnOk result (text.new ≡ text.old ++ line_of names.now event.now ++ 10 ∷ []) }
+    ensures err { OnErr result (text.new ≡ text.old) }
+{
+    let mut line = String::new(alloc);
+    push_event(alloc, &mut line, names.as_slice(), event)?;
+    line.push('\n')?;
+    text.push(line.as_str())
+}
+
+/// The lines of events, each with its line feed.
+pub(crate) fn render_all(alloc: Global, events: &[Event], names: &Seq<Str>) -> Result<Str, Memory>
+    ensures { IfOk result (λ text. text ≡ render names.now events.now) }
+{
+    let mut text = Str::new(alloc);
+    for event in events {
+        push_line(alloc, event, names, &mut text)?;
+    }
+    Ok(text)
+}

@@ -1,0 +1,76 @@
+//! Names, messages and numbers in a line.
+
+ghost use Rattle.std.specs.Prelude.{◌≡◌, ◌<◌, ◌++◌, OnOk, string_bytes, decimal};
+ghost use Rattle.ev_event.specs.Lines.{activation, primitive_name, vat, numbered, message, name};
+
+use ev_base::{Msg, Name, PrimId, Str, VatId};
+use std::alloc::AllocError;
+use std::fmt::Write;
+
+/// Appends a number.
+pub(crate) fn push_number(out: &mut String, number: u64) -> Result<(), AllocError>
+    ensures { OnOk result (string_bytes out.new ≡ string_bytes out.old ++ decimal number) }
+{
+    write!(out, "{number}")
+}
+
+/// Appends an activation of a vat by its number.
+pub(crate) fn push_activation(out: &mut String, number: u64) -> Result<(), AllocError>
+    ensures { OnOk result (string_bytes out.new ≡ string_bytes out.old ++ activation number) }
+{
+    out.push('!')?;
+    push_number(out, number)
+}
+
+/// Appends the name of a vat.
+pub(crate) fn push_vat(out: &mut String, names: &[Str], id: VatId) -> Result<(), AllocError>
+    ensures { OnOk result (string_bytes out.new ≡ string_bytes out.old ++ vat names.now id) }
+{
+    match names.get(id.0 as usize) {
+        Some(word) => out.push_str(word.as_str()),
+        None => Ok(()),
+    }
+}
+
+/// Appends a thing of a vat by a mark and its number there.
+pub(crate) fn push_numbered(
+    out: &mut String,
+    names: &[Str],
+    id: VatId,
+    mark: char,
+    number: u64,
+) -> Result<(), AllocError>
+    requires { mark < 128 }
+    ensures { OnOk result (string_bytes out.new ≡ string_bytes out.old ++ numbered names.now id mark number) }
+{
+    push_vat(out, names, id)?;
+    out.push(mark)?;
+    push_number(out, number)
+}
+
+/// Appends a message.
+pub(crate) fn push_message(out: &mut String, names: &[Str], id: &Msg) -> Result<(), AllocError>
+    ensures { OnOk result (string_bytes out.new ≡ string_bytes out.old ++ message names.now id.now) }
+{
+    push_numbered(out, names, id.sender, '/', id.number)
+}
+
+/// Appends a name.
+pub(crate) fn push_name(out: &mut String, names: &[Str], id: &Name) -> Result<(), AllocError>
+    ensures { OnOk result (string_bytes out.new ≡ string_bytes out.old ++ name names.now id.now) }
+{
+    match id {
+        Name::Object(host, number) => push_numbered(out, names, *host, '.', *number),
+        Name::Own(host, number) => push_numbered(out, names, *host, '~', *number),
+        Name::Gift(host, number) => push_numbered(out, names, *host, '^', *number),
+        Name::Answer(host, answered) => {
+            push_vat(out, names, *host)?;
+            out.push('?')?;
+            push_message(out, names, answered)
+        }
+        Name::Root(host) => {
+            out.push('@')?;
+            push_vat(out, names, *host)
+        }
+    }
+}

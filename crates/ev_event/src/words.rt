@@ -1,0 +1,111 @@
+//! The words of a line, each behind a space.
+
+ghost use Rattle.std.specs.Prelude.{◌≡◌, ◌<◌, ◌++◌, ◌∷◌, OnOk, string_bytes, flat_map};
+ghost use Rattle.ev_text.specs.Keywords.{printed_verb};
+ghost use Rattle.ev_event.specs.Lines.{vat, numbered, message, name, value, values, part};
+
+use crate::names::{push_message, push_name, push_numbered, push_vat};
+use crate::shown::Shown;
+use crate::values::push_value;
+use ev_base::{Msg, Name, Str, VatId};
+use ev_text::push_verb;
+use std::alloc::{AllocError, Global};
+
+/// Appends a word.
+pub(crate) fn add_word(out: &mut String, word: &str) -> Result<(), AllocError>
+    ensures { OnOk result (string_bytes out.new ≡ string_bytes out.old ++ 32 ∷ word.now) }
+{
+    out.push(' ')?;
+    out.push_str(word)
+}
+
+/// Appends a verb.
+pub(crate) fn add_verb(out: &mut String, verb: &str) -> Result<(), AllocError>
+    ensures { OnOk result (string_bytes out.new ≡ string_bytes out.old ++ 32 ∷ printed_verb verb.now) }
+{
+    out.push(' ')?;
+    push_verb(out, verb)
+}
+
+/// Appends a vat.
+pub(crate) fn add_vat(out: &mut String, names: &[Str], id: VatId) -> Result<(), AllocError>
+    ensures { OnOk result (string_bytes out.new ≡ string_bytes out.old ++ 32 ∷ vat names.now id) }
+{
+    out.push(' ')?;
+    push_vat(out, names, id)
+}
+
+/// Appends a thing of a vat by a mark and its number there.
+pub(crate) fn add_numbered(
+    out: &mut String,
+    names: &[Str],
+    id: (VatId, u64),
+    mark: char,
+) -> Result<(), AllocError>
+    requires { mark < 128 }
+    ensures { OnOk result (string_bytes out.new ≡ string_bytes out.old ++ 32 ∷ numbered names.now id.0 mark id.1) }
+{
+    out.push(' ')?;
+    push_numbered(out, names, id.0, mark, id.1)
+}
+
+/// Appends a message.
+pub(crate) fn add_message(out: &mut String, names: &[Str], id: &Msg) -> Result<(), AllocError>
+    ensures { OnOk result (string_bytes out.new ≡ string_bytes out.old ++ 32 ∷ message names.now id.now) }
+{
+    out.push(' ')?;
+    push_message(out, names, id)
+}
+
+/// Appends a name.
+pub(crate) fn add_name(out: &mut String, names: &[Str], id: &Name) -> Result<(), AllocError>
+    ensures { OnOk result (string_bytes out.new ≡ string_bytes out.old ++ 32 ∷ name names.now id.now) }
+{
+    out.push(' ')?;
+    push_name(out, names, id)
+}
+
+/// Appends a value.
+pub(crate) fn add_value(
+    alloc: Global,
+    out: &mut String,
+    names: &[Str],
+    x: &Shown,
+) -> Result<(), AllocError>
+    ensures { OnOk result (string_bytes out.new ≡ string_bytes out.old ++ 32 ∷ value names.now x.now) }
+{
+    out.push(' ')?;
+    push_value(alloc, out, names, x)
+}
+
+/// Appends values.
+pub(crate) fn add_values(
+    alloc: Global,
+    out: &mut String,
+    names: &[Str],
+    xs: &[Shown],
+) -> Result<(), AllocError>
+    ensures { OnOk result (string_bytes out.new ≡ string_bytes out.old ++ flat_map (λ v. 32 ∷ v) (values names.now xs.now)) }
+{
+    for x in xs {
+        add_value(alloc, out, names, x)?;
+    }
+    Ok(())
+}
+
+/// Appends a word and values, and nothing where there are no values.
+pub(crate) fn add_part(
+    alloc: Global,
+    out: &mut String,
+    names: &[Str],
+    word: &str,
+    xs: &[Shown],
+) -> Result<(), AllocError>
+    ensures { OnOk result (string_bytes out.new ≡ string_bytes out.old ++ flat_map (λ v. 32 ∷ v) (part names.now word.now xs.now)) }
+{
+    if xs.is_empty() {
+        return Ok(());
+    }
+    add_word(out, word)?;
+    add_values(alloc, out, names, xs)
+}
