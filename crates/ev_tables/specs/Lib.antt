@@ -1,0 +1,3 @@
+pub mod Thing
+pub mod SameLaws
+pub mod Table

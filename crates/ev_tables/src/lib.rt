@@ -1,0 +1,13 @@
+//! The tables of one connection: the numbers under which two vats know each other's things.
+#![tactic(auto)]
+
+pub mod connection;
+pub mod fault;
+pub mod number;
+mod names;
+mod places;
+mod thing;
+
+pub use connection::Connection;
+pub use fault::TableFault;
+pub use number::Number;
