@@ -1,0 +1,4 @@
+pub mod Keeps
+pub mod RefsKeeps
+pub mod ArriveKeeps
+pub mod EvalKeeps
