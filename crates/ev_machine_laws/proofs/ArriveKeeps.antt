@@ -1,11 +1,11 @@
 -- What arrives and what is noticed keep what each single change keeps.
-use Rattle.std.proofs.Common.{ℕ, zero, suc, Bool, true, false, List, [], ◌∷◌, Option, Some, None}
-use Rattle.ev_machine.specs.Values.{Words, Value, Null, Flag, Number, Letter, Text, Prim, Broken, Items, Ref, Naming, Spot, Own, Foreign, NoObject}
-use Rattle.ev_machine.specs.State.{Bound, Fixed, Slot, Scope, Binding, Cell, View, FreeName, Thing, Made, Ejector, Audition, Resolver, Message, Standing, Unsettled, WaitsOn, Viewed, Settled, Known, Passed, Passeds, Plain, AGift, Many, NoMore, More, Note, Deliver, Open, Ask, SettledTo, Elsewhere, Shorten, GiftEntry, Vat, Act}
-use Rattle.ev_machine.specs.Refs.{Place, Near, Mine, Away, Gone}
+use Rattle.std.proofs.Common.{ℕ, Bool, true, false, List, Option, Some, None}
+use Rattle.ev_machine.specs.Values.{Words, Value, Null, Flag, Number, Letter, Text, Prim, Broken, Items, Ref, Naming}
+use Rattle.ev_machine.specs.State.{Standing, Unsettled, WaitsOn, Viewed, Settled, Known, Passed, Passeds, Plain, AGift, Many, NoMore, More, Note, Deliver, Open, Ask, SettledTo, Elsewhere, Shorten, GiftEntry, Vat}
+use Rattle.ev_machine.specs.Refs.{Place, Away}
 use Rattle.ev_machine.specs.Arrive as arrive
 use Rattle.ev_machine.specs.Arrive.{Incoming, Old, New}
-use Rattle.ev_machine_laws.proofs.Keeps.{Keeps, IsKept, IsKeptUnder, keeps, keeps_bind, keeps_then, keeps_each, keeps_look, keeps_give}
+use Rattle.ev_machine_laws.proofs.Keeps.{Keeps, IsKept, IsKeptUnder, keeps}
 use Rattle.ev_machine_laws.proofs.RefsKeeps.{GoodSettler, keeps_refs, keeps_address_plain, keeps_address, keeps_address_all, keeps_pass, keeps_pass_all, keeps_deliver, keeps_wait_on, keeps_pass_on, keeps_send_to, keeps_send_on, keeps_inform_of, keeps_inform, keeps_settle_known, keeps_settle_standing, keeps_settle_entry, keeps_settle_one, keeps_settle_at, keeps_settle, keeps_wait_unless_cycle, keeps_resolve_to, keeps_resolve, keeps_send_first, keeps_send, keeps_react_at, keeps_react}
 
 module _ {N W : Type 0} (K : Naming N W) (R : Vat N → Vat N → Type 0) (base : IsKept R) (law : IsKeptUnder K R) where
@@ -40,6 +40,7 @@ module _ {N W : Type 0} (K : Naming N W) (R : Vat N → Vat N → Type 0) (base 
 
   mutual
     unfolding arrive.learn arrive.learn_all
+
     pub keeps_learn : (p : ℕ) (y : Passed (Incoming N W)) → Keeps R (arrive.learn K p y)
     keeps_learn p (Plain y) = search (keeps, keeps_learn_value) depth 14
     keeps_learn p (AGift h i) = search (keeps, keeps_learn_gift)

@@ -1,16 +1,16 @@
 -- All of evaluation keeps what each single change keeps.
 use Rattle.std.proofs.Common.{ℕ, zero, suc, Bool, true, false, List, [], ◌∷◌, Option, Some, None}
-use Rattle.ev_machine.specs.Values.{Words, Value, Null, Flag, Number, Letter, Text, Prim, Broken, Items, Ref, Naming, Spot, Own, Foreign, NoObject}
-use Rattle.ev_machine.specs.State.{Bound, Fixed, Slot, Scope, Binding, Cell, View, FreeName, Thing, Made, Ejector, Audition, Resolver, Message, Standing, Unsettled, WaitsOn, Viewed, Settled, Known, Passed, Passeds, Plain, AGift, Many, NoMore, More, Note, Deliver, Open, Ask, SettledTo, Elsewhere, Shorten, GiftEntry, Vat, Act}
-use Rattle.ev_machine.specs.Refs.{Place, Near, Mine, Away, Gone}
+use Rattle.ev_machine.specs.Values.{Words, Value, Flag, Text, Prim, Broken, Items, Ref, Naming, Spot, Own}
+use Rattle.ev_machine.specs.State.{Bound, Fixed, Slot, Scope, Binding, Cell, View, Thing, Made, Ejector, Audition, Resolver, Message, Standing, Unsettled, Vat, Act}
+use Rattle.ev_machine.specs.Refs.{Place, Near}
 use Rattle.ev_machine.specs.Form.{Item, Begin, End, Word, Fact}
 use Rattle.ev_machine.specs.Free.{BoundNoun}
 use Rattle.ev_machine.specs.Native.{Reply, Says, Writes, Lists, Iterates, Fails, Guard, Asked, MakesList, Ranges, Same, Compares, Loops, SendsTo, CallsTo, MakesPromise, Breaks, Tells, Whens, ThrowsIt, IsStamped, Coerces, AddsNull, NoMethod}
 use Rattle.ev_machine.specs.Eval as eval
 use Rattle.ev_machine.specs.Eval.{Answer, Answers, Evaluator, Caller, Body, Case, AuditionAsk, GetsForm, GetsGuard, Asks, NoAuditionAsk, ResolverAsk, Resolves, Smashes, NoResolverAsk}
 use Rattle.ev_kernel.specs.declared.node.Node.{Node}
-use Rattle.ev_kernel.specs.declared.node.Node.TheVariants.{Lit, Noun, Set, Def, Call, Sequence, If, Escape, Try, Finally, Hide, MatchBind, Object, Method, Matcher, Final, Var, Any, ListPattern, Via}
-use Rattle.ev_machine_laws.proofs.Keeps.{Keeps, IsKept, IsKeptUnder, keeps, keeps_bind, keeps_then, keeps_each, keeps_look, keeps_give}
+use Rattle.ev_kernel.specs.declared.node.Node.TheVariants.{Lit, Noun, Set, Def, Call, Sequence, If, Escape, Try, Finally, Hide, MatchBind, Object, Final, Var, Any, ListPattern, Via}
+use Rattle.ev_machine_laws.proofs.Keeps.{Keeps, IsKept, IsKeptUnder, keeps}
 use Rattle.ev_machine_laws.proofs.RefsKeeps.{keeps_settle, keeps_resolve, keeps_send, keeps_react, keeps_refs}
 
 -- a call keeps R, whatever is called

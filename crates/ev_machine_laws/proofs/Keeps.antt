@@ -1,15 +1,9 @@
 -- What each single change of a vat keeps, all that a vat does keeps: proved once, for any relation between states.
-use Rattle.std.proofs.Common.{◌≡◌, ℕ, zero, suc, ◌-◌, Bool, true, false, List, [], ◌∷◌, ◌++◌, Option, Some, None, if◌then◌else◌, refl, length}
+use Rattle.std.proofs.Common.{ℕ, suc, ◌-◌, Bool, true, false, List, [], ◌∷◌, ◌++◌, Option, Some, None, if◌then◌else◌, length}
 use Rattle.std.specs.Prelude.{nat_le}
-use Rattle.ev_machine.specs.Values.{Words, Value, Naming, Coming, Mailing, IsOwn, IsAnswer, IsSent}
-use Rattle.ev_machine.specs.State.{Thing, Cell, Message, Happened, Vat, Stop, Done, Gives, Throws, Ejects, Stops, Act, ◌>>=◌, ◌>>◌, and_then, for_some, end_by, ending, each, give, throw, stop, eject, look, tell, spend, spent, new_activation, new_thing, kill, change, dead, new_slot, holding, write_slot, new_list, enqueue, Change, Note, Put, GiftEntry, send_out, new_gift, with_opened, open_gift, mark, draws, drawn_at, with_change, alter, come, mail, new_promise, new_message, draw, begun}
-
--- R leads from s to the vat after, whatever the outcome
-abbrev pub After : {N A : Type 0} → (Vat N → Vat N → Type 0) → Vat N → Done N A → Type 0
-After R s (Gives a t) = R s t
-After R s (Throws p t) = R s t
-After R s (Ejects n v t) = R s t
-After R s (Stops c t) = R s t
+use Rattle.ev_machine_laws.specs.Steps.{After}
+use Rattle.ev_machine.specs.Values.{Words, Value, Naming, Coming, Mailing, IsOwn}
+use Rattle.ev_machine.specs.State.{Thing, Cell, Message, Happened, Vat, Stop, Done, Gives, Throws, Ejects, Stops, Act, ◌>>=◌, ◌>>◌, and_then, for_some, end_by, ending, each, give, throw, stop, eject, look, tell, spend, spent, new_activation, new_thing, kill, change, dead, new_slot, holding, write_slot, new_list, enqueue, Change, Note, Put, GiftEntry, send_out, new_gift, with_opened, open_gift, mark, draws, with_change, alter, come, mail, new_promise, new_message, draw, begun}
 
 pub record Keeps {N A : Type 0} (R : Vat N → Vat N → Type 0) (m : Act N A) : Type 0 where
   pub after : (s : Vat N) → After R s (m s)

@@ -2,3 +2,4 @@ pub mod Keeps
 pub mod RefsKeeps
 pub mod ArriveKeeps
 pub mod EvalKeeps
+pub mod StepLaws

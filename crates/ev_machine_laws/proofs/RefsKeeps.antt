@@ -1,7 +1,7 @@
 -- Everything that a vat does with references keeps what each single change keeps.
-use Rattle.std.proofs.Common.{ℕ, zero, suc, Bool, true, false, List, [], ◌∷◌, Option, Some, None}
-use Rattle.ev_machine.specs.Values.{Words, Value, Null, Flag, Number, Letter, Text, Prim, Broken, Items, Ref, Naming, Spot, Own, Foreign, NoObject}
-use Rattle.ev_machine.specs.State.{Bound, Fixed, Slot, Scope, Binding, Cell, View, FreeName, Thing, Made, Ejector, Audition, Resolver, Message, Standing, Unsettled, WaitsOn, Viewed, Settled, Known, Passed, Passeds, Plain, AGift, Many, NoMore, More, Note, Deliver, Open, Ask, SettledTo, Elsewhere, Shorten, GiftEntry, Vat, Act}
+use Rattle.std.proofs.Common.{ℕ, zero, suc, true, false, List, [], ◌∷◌, Option, Some, None}
+use Rattle.ev_machine.specs.Values.{Words, Value, Prim, Naming}
+use Rattle.ev_machine.specs.State.{Message, Standing, Settled, Known, Passed, Passeds, Plain, AGift, Many, NoMore, More, Vat, Act}
 use Rattle.ev_machine.specs.Refs as refs
 use Rattle.ev_machine.specs.Refs.{Place, Near, Mine, Away, Gone}
 use Rattle.ev_machine_laws.proofs.Keeps.{Keeps, IsKept, IsKeptUnder, keeps, keeps_bind, keeps_then, keeps_each, keeps_look, keeps_give}
@@ -18,6 +18,7 @@ module _ {N W : Type 0} (K : Naming N W) (R : Vat N → Vat N → Type 0) (base 
 
   mutual
     unfolding refs.address refs.address_all
+
     pub keeps_address : (w : ℕ) (y : Passed N) → Keeps R (refs.address K w y)
     keeps_address w (Plain y) = search (keeps, keeps_address_plain) depth 14
     keeps_address w (AGift h i) = search keeps

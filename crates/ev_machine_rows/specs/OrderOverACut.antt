@@ -70,10 +70,10 @@ script = record {
   fuel = 1000000;
   depth = 400;
   vats =
-    record { name = codes "a"; knows = 1 ∷ []; tree = tree_a } ∷
-    record { name = codes "b"; knows = 2 ∷ []; tree = tree_b } ∷
-    record { name = codes "c"; knows = []; tree = tree_c } ∷
-    [];
+      record { name = codes "a"; knows = 1 ∷ []; tree = tree_a } ∷
+      record { name = codes "b"; knows = 2 ∷ []; tree = tree_b } ∷
+      record { name = codes "c"; knows = []; tree = tree_c } ∷
+      [];
   schedule = Carry 2 1 ∷ Carry 0 1 ∷ Carry 0 1 ∷ Turn 1 ∷ Carry 1 0 ∷ Carry 1 0 ∷ Turn 0 ∷ Carry 0 2 ∷ Carry 0 2 ∷ Carry 0 1 ∷ CutLink 1 2 ∷ NoticeLink 2 1 ∷ [];
 }
 

@@ -14,7 +14,7 @@ script = record {
   fuel = 1000000;
   depth = 400;
   vats =
-    [];
+      [];
   schedule = [];
 }
 

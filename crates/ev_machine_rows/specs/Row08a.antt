@@ -22,8 +22,8 @@ script = record {
   fuel = 3;
   depth = 400;
   vats =
-    record { name = codes "a"; knows = []; tree = tree_a } ∷
-    [];
+      record { name = codes "a"; knows = []; tree = tree_a } ∷
+      [];
   schedule = [];
 }
 

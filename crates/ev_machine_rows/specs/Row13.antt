@@ -67,9 +67,9 @@ script = record {
   fuel = 1000000;
   depth = 400;
   vats =
-    record { name = codes "a"; knows = 1 ∷ []; tree = tree_a } ∷
-    record { name = codes "b"; knows = []; tree = tree_b } ∷
-    [];
+      record { name = codes "a"; knows = 1 ∷ []; tree = tree_a } ∷
+      record { name = codes "b"; knows = []; tree = tree_b } ∷
+      [];
   schedule = Carry 0 1 ∷ Carry 0 1 ∷ Turn 1 ∷ Carry 1 0 ∷ Carry 1 0 ∷ Carry 1 0 ∷ Turn 0 ∷ Carry 0 1 ∷ Turn 0 ∷ Carry 1 0 ∷ Turn 0 ∷ [];
 }
 

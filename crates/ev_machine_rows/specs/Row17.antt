@@ -55,9 +55,9 @@ script = record {
   fuel = 1000000;
   depth = 400;
   vats =
-    record { name = codes "a"; knows = 1 ∷ []; tree = tree_a } ∷
-    record { name = codes "b"; knows = []; tree = tree_b } ∷
-    [];
+      record { name = codes "a"; knows = 1 ∷ []; tree = tree_a } ∷
+      record { name = codes "b"; knows = []; tree = tree_b } ∷
+      [];
   schedule = CutLink 0 1 ∷ NoticeLink 1 0 ∷ Turn 0 ∷ NoticeLink 0 1 ∷ [];
 }
 

@@ -172,10 +172,10 @@ script = record {
   fuel = 1000000;
   depth = 400;
   vats =
-    record { name = codes "buyer"; knows = 1 ∷ []; tree = tree_buyer } ∷
-    record { name = codes "broker"; knows = 2 ∷ []; tree = tree_broker } ∷
-    record { name = codes "seller"; knows = []; tree = tree_seller } ∷
-    [];
+      record { name = codes "buyer"; knows = 1 ∷ []; tree = tree_buyer } ∷
+      record { name = codes "broker"; knows = 2 ∷ []; tree = tree_broker } ∷
+      record { name = codes "seller"; knows = []; tree = tree_seller } ∷
+      [];
   schedule = drain 3 50;
 }
 

@@ -32,8 +32,8 @@ script = record {
   fuel = 1000000;
   depth = 400;
   vats =
-    record { name = codes "a"; knows = []; tree = tree_a } ∷
-    [];
+      record { name = codes "a"; knows = []; tree = tree_a } ∷
+      [];
   schedule = [];
 }
 

@@ -10,33 +10,28 @@ ghost use Rattle.ev_machine_rows.specs.Bounds.{BoundsHold};
 #[tactic(auto, unfolding(crate::specs::Endings::opened_endings, crate::specs::Guards::opened_guards))]
 pub fn guards_hold()
     ensures { GuardsHold }
-{
-}
+{}
 
 /// What data and primitives answer.
 #[tactic(auto, unfolding(crate::specs::Endings::opened_endings, crate::specs::Natives::opened_natives))]
 pub fn natives_hold()
     ensures { NativesHold }
-{
-}
+{}
 
 /// References inside a vat.
 #[tactic(auto, unfolding(crate::specs::Endings::opened_endings, crate::specs::References::opened_references))]
 pub fn references_hold()
     ensures { ReferencesHold }
-{
-}
+{}
 
 /// Auditors and auditions.
 #[tactic(auto, unfolding(crate::specs::Endings::opened_endings, crate::specs::Audits::opened_audits))]
 pub fn audits_hold()
     ensures { AuditsHold }
-{
-}
+{}
 
 /// The least fuel and the depth of small programs.
 #[tactic(auto, unfolding(crate::specs::Endings::opened_endings, crate::specs::Bounds::opened_bounds))]
 pub fn bounds_hold()
     ensures { BoundsHold }
-{
-}
+{}
