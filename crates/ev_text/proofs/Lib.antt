@@ -1,0 +1,4 @@
+pub mod QuotingLemmas
+pub mod CharacterLemmas
+pub mod UnquotingLemmas
+pub mod RoundTrip

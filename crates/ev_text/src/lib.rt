@@ -1,2 +1,13 @@
 //! How texts, characters and words are spelled.
 #![tactic(auto)]
+
+pub mod spellings;
+pub mod texts;
+pub mod words;
+
+pub use spellings::{EscapeFault, unquote, unquote_undoes_quote};
+pub use texts::{push_quoted, push_quoted_character, push_shortened, quote, shorten_for_trace};
+pub use words::{is_identifier, is_keyword, push_verb};
+
+#[cfg(test)]
+mod tests;
