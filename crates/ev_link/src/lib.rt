@@ -1,0 +1,9 @@
+//! The way of frames from one vat to another.
+#![tactic(auto)]
+
+pub mod link;
+
+pub use link::Link;
+
+#[cfg(test)]
+mod tests;

@@ -1,0 +1,54 @@
+//! The kinds of description, by the first byte.
+
+ghost use Rattle.std.specs.Prelude.{◌≡◌};
+ghost use Rattle.ev_op.specs.Reading.{Gives, kind_at};
+
+use crate::fault::ReadError;
+
+/// What the first byte of a description tells. Each stands at its code.
+#[derive(Clone, Copy, Debug, PartialEq, Eq)]
+pub(crate) enum Kind {
+    Null,
+    False,
+    True,
+    Integer,
+    Character,
+    Text,
+    List,
+    Primitive,
+    Broken,
+    YourExport,
+    YourAnswer,
+    MyExport,
+    MyPromise,
+    Third,
+    MyAnswer,
+}
+
+/// The kind at the front, and the bytes behind it.
+pub(crate) fn kind_of(bytes: &[u8]) -> Result<(Kind, &[u8]), ReadError>
+    ensures { Gives (λ x. (x.0, x.1.now)) result (kind_at bytes.now) }
+{
+    let Some((code, rest)) = bytes.split_first() else {
+        return Err(ReadError::Refused);
+    };
+    let kind = match *code {
+        0 => Kind::Null,
+        1 => Kind::False,
+        2 => Kind::True,
+        3 => Kind::Integer,
+        4 => Kind::Character,
+        5 => Kind::Text,
+        6 => Kind::List,
+        7 => Kind::Primitive,
+        8 => Kind::Broken,
+        9 => Kind::YourExport,
+        10 => Kind::YourAnswer,
+        11 => Kind::MyExport,
+        12 => Kind::MyPromise,
+        13 => Kind::Third,
+        14 => Kind::MyAnswer,
+        _ => return Err(ReadError::Refused),
+    };
+    Ok((kind, rest))
+}

@@ -1,0 +1,161 @@
+//! The spelling of an operation.
+
+ghost use Rattle.std.specs.Prelude.{◌≡◌, ◌≤◌, ◌<◌, ◌^◌, ◌∷◌, ◌++◌, map, string_bytes, IfOk, OnOk};
+ghost use Rattle.ev_op.specs.Numbers.{bound, digits, unsigned, signed, swiss, low_first};
+ghost use Rattle.ev_op.specs.Frames.{ListOf, text_bytes, plain_bytes, desc_bytes, members_bytes, outcome_bytes, spelling};
+ghost use Rattle.ev_op.specs.Views.{described, all_described, outcome, operation};
+
+use crate::numbers::digit;
+use crate::op::{Desc, Op, Plain, Resolved};
+use ev_base::Memory;
+
+/// The digits of a number to the base 128, the lowest first, in at most `places + 1` bytes.
+#[tactic(auto, using(crate::proofs::Spelled::digits_more), unfolding(crate::specs::Numbers::digits))]
+fn put_digits(
+    out: &mut Vec<u8>,
+    last: u8,
+    negative: bool,
+    places: u32,
+    number: u128,
+) -> Result<(), Memory>
+    requires last { last ≤ 128 }
+    requires fits { number < bound places }
+    ensures { OnOk result (out.new.items ≡ out.old.items ++ digits last negative places number) }
+{
+    if places == 0 || number < u128::from(last) {
+        out.push(digit(negative, number as u8))?;
+        return Ok(());
+    }
+    out.push(128 + digit(negative, (number % 128) as u8))?;
+    put_digits(out, last, negative, places - 1, number / 128)?;
+    Ok(())
+}
+
+fn put_unsigned(out: &mut Vec<u8>, number: u64) -> Result<(), Memory>
+    ensures { OnOk result (out.new.items ≡ out.old.items ++ unsigned number) }
+{
+    put_digits(out, 128, false, 9, u128::from(number))
+}
+
+fn put_signed(out: &mut Vec<u8>, number: i128) -> Result<(), Memory>
+    ensures { OnOk result (out.new.items ≡ out.old.items ++ signed number) }
+{
+    if number >= 0 {
+        put_digits(out, 64, false, 18, number as u128)
+    } else {
+        put_digits(out, 64, true, 18, (-1 - number) as u128)
+    }
+}
+
+/// So many bytes of a number, the lowest first.
+#[tactic(auto, using(crate::proofs::Spelled::low_first_more), unfolding(crate::specs::Numbers::low_first))]
+fn put_low_first(out: &mut Vec<u8>, places: u32, number: u128) -> Result<(), Memory>
+    ensures { OnOk result (out.new.items ≡ out.old.items ++ low_first places number) }
+{
+    if places == 0 {
+        return Ok(());
+    }
+    out.push((number % 256) as u8)?;
+    put_low_first(out, places - 1, number / 256)?;
+    Ok(())
+}
+
+fn put_swiss(out: &mut Vec<u8>, number: u128) -> Result<(), Memory>
+    ensures { OnOk result (out.new.items ≡ out.old.items ++ swiss number) }
+{
+    put_low_first(out, 16, number)
+}
+
+/// The count of the bytes of a text, and its bytes.
+fn put_text(out: &mut Vec<u8>, text: &str) -> Result<(), Memory>
+    ensures { OnOk result (out.new.items ≡ out.old.items ++ text_bytes text.now) }
+{
+    put_unsigned(out, text.len() as u64)?;
+    out.extend_from_slice(text.as_bytes())?;
+    Ok(())
+}
+
+#[tactic(auto, unfolding(crate::specs::Frames::plain_bytes))]
+fn put_plain(out: &mut Vec<u8>, plain: &Plain) -> Result<(), Memory>
+    ensures { OnOk result (out.new.items ≡ out.old.items ++ plain_bytes plain.now) }
+{
+    match plain {
+        Plain::Null => out.push(0)?,
+        Plain::Bool(false) => out.push(1)?,
+        Plain::Bool(true) => out.push(2)?,
+        Plain::Int(integer) => {
+            out.push(3)?;
+            put_signed(out, *integer)?;
+        }
+        Plain::Char(character) => {
+            out.push(4)?;
+            put_unsigned(out, u64::from(u32::from(*character)))?;
+        }
+        Plain::Text(text) => {
+            out.push(5)?;
+            put_text(out, text.as_str())?;
+        }
+        Plain::Prim(primitive) => {
+            out.push(7)?;
+            out.push(primitive.0)?;
+        }
+    }
+    Ok(())
+}
+
+/// A code, and a number.
+fn put_counted(out: &mut Vec<u8>, code: u8, number: u64) -> Result<(), Memory>
+    ensures { OnOk result (out.new.items ≡ out.old.items ++ code ∷ unsigned number) }
+{
+    out.push(code)?;
+    put_unsigned(out, number)
+}
+
+#[cycle(writing)]
+#[tactic(auto, unfolding(crate::specs::Frames::desc_bytes))]
+fn put_desc(out: &mut Vec<u8>, desc: &Desc) -> Result<(), Memory>
+    ensures { OnOk result (out.new.items ≡ out.old.items ++ desc_bytes (described desc.now)) }
+{
+    match desc {
+        Desc::Plain(plain) => put_plain(out, plain)?,
+        Desc::ListOf(members) => put_list(out, members.as_slice())?,
+        Desc::Broken(problem) => {
+            out.push(8)?;
+            put_text(out, problem.as_str())?;
+        }
+        Desc::YourExport(position) => put_counted(out, 9, *position)?,
+        Desc::YourAnswer(question) => put_counted(out, 10, *question)?,
+        Desc::MyExport(position) => put_counted(out, 11, *position)?,
+        Desc::MyPromise(position) => put_counted(out, 12, *position)?,
+        Desc::Third { host, swiss } => {
+            out.push(13)?;
+            out.push(host.0)?;
+            put_swiss(out, *swiss)?;
+        }
+        Desc::MyAnswer(question) => put_counted(out, 14, *question)?,
+    }
+    Ok(())
+}
+
+#[cycle(writing)]
+#[tactic(auto, using(crate::proofs::InOrder::count_members), unfolding(crate::specs::Frames::desc_bytes))]
+fn put_list(out: &mut Vec<u8>, members: &[Desc]) -> Result<(), Memory>
+    ensures { OnOk result (out.new.items ≡ out.old.items ++ desc_bytes (ListOf (all_described members.now))) }
+{
+    out.push(6)?;
+    put_unsigned(out, members.len() as u64)?;
+    put_members(out, members)?;
+    Ok(())
+}
+
+/// Descriptions, one after the other.
+#[cycle(writing)]
+#[tactic(auto, using(crate::proofs::InOrder::one_more), unfolding(crate::specs::Frames::desc_bytes))]
+fn put_members(out: &mut Vec<u8>, members: &[Desc]) -> Result<(), Memory>
+    ensures { OnOk result (out.new.items ≡ out.old.items ++ members_bytes (all_described members.now)) }
+{
+    for member in members {
+        put_desc(out, member)?;
+    }
+    Ok(())
+}
