@@ -1,10 +1,9 @@
 -- References inside a vat.
-use Rattle.std.specs.Prelude.{◌≡◌, ℕ, pos, negsuc, List, [], ◌∷◌, Option, Some, None, codes}
-use Rattle.ev_machine.specs.Values.{Words}
+use Rattle.std.specs.Prelude.{◌≡◌, pos, List, [], ◌∷◌, None, codes}
 use Rattle.ev_machine_rows.specs.Endings.{ending_of}
 use Rattle.ev_kernel.specs.declared.node.Literal.TheVariants as literal
 use Rattle.ev_kernel.specs.declared.node.Node.{Node}
-use Rattle.ev_kernel.specs.declared.node.Node.TheVariants.{Lit, Noun, Set, Def, Call, Sequence, If, Escape, Try, Finally, Hide, MatchBind, Object, Method, Matcher, Final, Var, Any, ListPattern, Via}
+use Rattle.ev_kernel.specs.declared.node.Node.TheVariants.{Lit, Noun, Def, Call, Sequence, Final, ListPattern}
 
 -- (call (noun Ref) isNear (lit 1))
 unfoldable pub case_0 : List Node

@@ -1,11 +1,11 @@
 -- A message sent on an answer that is not there yet.
-use Rattle.std.specs.Prelude.{◌≡◌, ℕ, pos, negsuc, List, [], ◌∷◌, ◌++◌, Option, Some, None, codes, replicate}
-use Rattle.ev_machine.specs.Values.{Words}
-use Rattle.ev_run.specs.World.{Entry, Turn, Carry, CutLink, NoticeLink, drain, Program, Script, run}
-use Rattle.ev_run.specs.Text.{lines, text}
+use Rattle.std.specs.Prelude.{◌≡◌, pos, List, [], ◌∷◌, None, codes}
+use Rattle.ev_run.specs.World.{Turn, Carry, Script, run}
+use Rattle.ev_run.specs.Text.{wire_text}
+use Rattle.ev_machine_rows.specs.Endings.{lines}
 use Rattle.ev_kernel.specs.declared.node.Literal.TheVariants as literal
 use Rattle.ev_kernel.specs.declared.node.Node.{Node}
-use Rattle.ev_kernel.specs.declared.node.Node.TheVariants.{Lit, Noun, Set, Def, Call, Sequence, If, Escape, Try, Finally, Hide, MatchBind, Object, Method, Matcher, Final, Var, Any, ListPattern, Via}
+use Rattle.ev_kernel.specs.declared.node.Node.TheVariants.{Lit, Noun, Call, Sequence, Object, Method, Final}
 use Rattle.ev_machine_rows.specs.Keys.{zeros}
 
 -- b <- getX() <- getY()
@@ -51,7 +51,7 @@ script = record {
 }
 
 abbrev pub Row10Holds : Type 0
-Row10Holds = text script (run script) ≡ lines (
+Row10Holds = wire_text script (run script) ≡ lines (
     codes "open a"
     ∷ codes "!0 list a%0"
     ∷ codes "!0 send a/0 @b getX -> b?a/0"
@@ -65,7 +65,9 @@ Row10Holds = text script (run script) ≡ lines (
     ∷ codes "!0 done b.1"
     ∷ codes "settle @b b.1"
     ∷ codes "1 carry a b deliver a/0 @b getX"
+    ∷ codes "frame 01000900046765745800"
     ∷ codes "2 carry a b deliver a/1 b?a/0 getY"
+    ∷ codes "frame 01010a00046765745900"
     ∷ codes "3 turn b"
     ∷ codes "!1 take a/0 b.1 getX"
     ∷ codes "!1 done b.0"

@@ -1,11 +1,11 @@
 -- A purchase over three vats.
-use Rattle.std.specs.Prelude.{◌≡◌, ℕ, pos, negsuc, List, [], ◌∷◌, ◌++◌, Option, Some, None, codes, replicate}
-use Rattle.ev_machine.specs.Values.{Words}
-use Rattle.ev_run.specs.World.{Entry, Turn, Carry, CutLink, NoticeLink, drain, Program, Script, run}
-use Rattle.ev_run.specs.Text.{lines, text}
+use Rattle.std.specs.Prelude.{◌≡◌, pos, List, [], ◌∷◌, Some, None, codes}
+use Rattle.ev_run.specs.World.{drain, Script, run}
+use Rattle.ev_run.specs.Text.{text}
+use Rattle.ev_machine_rows.specs.Endings.{lines}
 use Rattle.ev_kernel.specs.declared.node.Literal.TheVariants as literal
 use Rattle.ev_kernel.specs.declared.node.Node.{Node}
-use Rattle.ev_kernel.specs.declared.node.Node.TheVariants.{Lit, Noun, Set, Def, Call, Sequence, If, Escape, Try, Finally, Hide, MatchBind, Object, Method, Matcher, Final, Var, Any, ListPattern, Via}
+use Rattle.ev_kernel.specs.declared.node.Node.TheVariants.{Lit, Noun, Set, Def, Call, Sequence, If, Escape, Try, Object, Method, Final, Var, Any}
 use Rattle.ev_machine_rows.specs.Keys.{zeros}
 
 -- var purse := 10; def payer { to pay(n) { if (n > purse) { throw("too dear") }; purse -= n; return n } }; def shop := broker <- find("tea"); def got := shop <- buy("tea", payer); when (got) -> { got } catch e { "failed: " + e }
