@@ -1,0 +1,2 @@
+//! Laws of every step of a run.
+#![tactic(auto)]
