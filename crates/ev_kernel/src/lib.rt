@@ -3,6 +3,7 @@
 
 pub mod kernel;
 pub mod node;
+pub mod shape;
 
 pub use kernel::Kernel;
 pub use node::{Literal, Node};
