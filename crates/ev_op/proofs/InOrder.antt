@@ -31,3 +31,7 @@ one_more ds i d lt at =
     let f : all_described (take (i + 1) ds) ≡ join (all_described front) (more (described d) none) =
         ap all_described e ∙ ap members (map_push described front d) ∙ members-push (map described front) (described d) in
     ap members_bytes f ∙ members_bytes-join (all_described front) (more (described d) none) ∙ ap (λ (bs : List ℕ). members_bytes (all_described front) ++ bs) (append-nil (desc_bytes (described d)))
+
+-- six parts put one behind the other
+pub put_six : (old a b c d e f : List ℕ) → (((((old ++ a) ++ b) ++ c) ++ d) ++ e) ++ f ≡ old ++ (a ++ (b ++ (c ++ (d ++ (e ++ f)))))
+put_six old a b c d e f = simp append_assoc

@@ -3,3 +3,4 @@ pub mod Frames
 pub mod Views
 pub mod Reading
 pub mod DigitsView
+pub mod Decoded

@@ -2,7 +2,7 @@
 
 ghost use Rattle.std.specs.Prelude.{◌≡◌, ◌≤◌, ◌<◌, ◌^◌, ◌∷◌, ◌++◌, map, string_bytes, IfOk, OnOk};
 ghost use Rattle.ev_op.specs.Numbers.{bound, digits, unsigned, signed, swiss, low_first};
-ghost use Rattle.ev_op.specs.Frames.{ListOf, text_bytes, plain_bytes, desc_bytes, members_bytes, outcome_bytes, spelling};
+ghost use Rattle.ev_op.specs.Frames.{ListOf, Deliver, Resolve, Accept, text_bytes, plain_bytes, desc_bytes, members_bytes, outcome_bytes, spelling};
 ghost use Rattle.ev_op.specs.Views.{described, all_described, outcome, operation};
 
 use crate::numbers::digit;
@@ -156,6 +156,93 @@ fn put_members(out: &mut Vec<u8>, members: &[Desc]) -> Result<(), Memory>
 {
     for member in members {
         put_desc(out, member)?;
+    }
+    Ok(())
+}
+
+#[tactic(auto, unfolding(crate::specs::Frames::outcome_bytes))]
+fn put_outcome(out: &mut Vec<u8>, to: &Resolved) -> Result<(), Memory>
+    ensures { OnOk result (out.new.items ≡ out.old.items ++ outcome_bytes (outcome to.now)) }
+{
+    match to {
+        Resolved::To(desc) => put_desc(out, desc)?,
+        Resolved::Elsewhere(host) => {
+            out.push(15)?;
+            out.push(host.0)?;
+        }
+    }
+    Ok(())
+}
+
+/// An operation that is about something, under a swiss number.
+fn put_under(out: &mut Vec<u8>, code: u8, target: &Desc, number: u128) -> Result<(), Memory>
+    ensures { OnOk result (out.new.items ≡ out.old.items ++ code ∷ (desc_bytes (described target.now) ++ swiss number)) }
+{
+    out.push(code)?;
+    put_desc(out, target)?;
+    put_swiss(out, number)?;
+    Ok(())
+}
+
+fn put_deliver(
+    out: &mut Vec<u8>,
+    question: u64,
+    target: &Desc,
+    verb: &str,
+    args: &[Desc],
+) -> Result<(), Memory>
+    ensures { OnOk result (out.new.items ≡ out.old.items ++ spelling (Deliver question (described target.now) verb.now (all_described args.now))) }
+{
+    out.push(1)?;
+    put_unsigned(out, question)?;
+    put_desc(out, target)?;
+    put_text(out, verb)?;
+    put_unsigned(out, args.len() as u64)?;
+    put_members(out, args)?;
+    Ok(())
+}
+
+#[tactic(auto, unfolding(crate::specs::Frames::spelling))]
+fn put_resolve(out: &mut Vec<u8>, subject: &Desc, to: &Resolved) -> Result<(), Memory>
+    ensures { OnOk result (out.new.items ≡ out.old.items ++ spelling (Resolve (described subject.now) (outcome to.now))) }
+{
+    out.push(2)?;
+    put_desc(out, subject)?;
+    put_outcome(out, to)?;
+    Ok(())
+}
+
+#[tactic(auto, unfolding(crate::specs::Frames::spelling))]
+fn put_accept(out: &mut Vec<u8>, question: u64, provider: u8, number: u128) -> Result<(), Memory>
+    ensures { OnOk result (out.new.items ≡ out.old.items ++ spelling (Accept question provider number)) }
+{
+    out.push(4)?;
+    put_unsigned(out, question)?;
+    out.push(provider)?;
+    put_swiss(out, number)?;
+    Ok(())
+}
+
+/// The spelling of an operation, at the end.
+#[tactic(auto, unfolding(crate::specs::Frames::spelling))]
+pub(crate) fn put_op(out: &mut Vec<u8>, op: &Op) -> Result<(), Memory>
+    ensures { OnOk result (out.new.items ≡ out.old.items ++ spelling (operation op.now)) }
+{
+    match op {
+        Op::Deliver {
+            question,
+            target,
+            verb,
+            args,
+        } => put_deliver(out, *question, target, verb.as_str(), args.as_slice())?,
+        Op::Resolve { subject, to } => put_resolve(out, subject, to)?,
+        Op::Provide { target, swiss } => put_under(out, 3, target, *swiss)?,
+        Op::Accept {
+            question,
+            provider,
+            swiss,
+        } => put_accept(out, *question, provider.0, *swiss)?,
+        Op::Shorten { subject, swiss } => put_under(out, 5, subject, *swiss)?,
     }
     Ok(())
 }
