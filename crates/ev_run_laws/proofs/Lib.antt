@@ -1,1 +1,2 @@
-mod RunKeeps
+pub mod RunKeeps
+pub mod RunLaws

@@ -1,2 +1,4 @@
-//! Laws of every step of a run.
+//! Laws of every run of the machine.
 #![tactic(auto)]
+
+pub mod runs;
