@@ -1,7 +1,8 @@
 -- An auditor that throws leaves the making.
-use Rattle.std.specs.Prelude.{◌≡◌, List, [], ◌∷◌, None, codes}
+use Rattle.std.specs.Prelude.{◌≡◌, List, [], ◌∷◌, None, Ok, codes}
 use Rattle.ev_run.specs.World.{Script, run}
 use Rattle.ev_run.specs.Text.{text}
+use Rattle.ev_kernel.specs.Reading.{read}
 use Rattle.ev_machine_rows.specs.Endings.{lines}
 use Rattle.ev_kernel.specs.declared.node.Literal.TheVariants as literal
 use Rattle.ev_kernel.specs.declared.node.Node.{Node}
@@ -46,6 +47,11 @@ AuditorThrowsHolds = text script (run script) ≡ lines (
     ∷ codes "settle @a broken:\"bad\""
     ∷ codes "end"
     ∷ [])
+
+-- the trees are those of these forms
+abbrev pub AuditorThrowsReads : Type 0
+AuditorThrowsReads =
+    (read (codes "(seq (object (final aud) () (method audit ((final n)) (call (noun throw) run (lit \"bad\")))) (object (final x) ((noun aud))))") ≡ Ok tree_a)
 
 -- opens the definitions of this file
 unfoldable pub opened_auditorthrows : Unit {0}

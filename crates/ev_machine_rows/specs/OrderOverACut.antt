@@ -1,7 +1,8 @@
 -- A message behind one that a cut lost is lost too.
-use Rattle.std.specs.Prelude.{◌≡◌, pos, List, [], ◌∷◌, None, codes}
+use Rattle.std.specs.Prelude.{◌≡◌, pos, List, [], ◌∷◌, None, Ok, codes}
 use Rattle.ev_run.specs.World.{Turn, Carry, CutLink, NoticeLink, Script, run}
 use Rattle.ev_run.specs.Text.{text}
+use Rattle.ev_kernel.specs.Reading.{read}
 use Rattle.ev_machine_rows.specs.Endings.{lines}
 use Rattle.ev_kernel.specs.declared.node.Literal.TheVariants as literal
 use Rattle.ev_kernel.specs.declared.node.Node.{Node}
@@ -129,6 +130,13 @@ OrderOverACutHolds = text script (run script) ≡ lines (
     ∷ codes "left link c a settled c^0 broken:\"partition\""
     ∷ codes "end"
     ∷ [])
+
+-- the trees are those of these forms
+abbrev pub OrderOverACutReads : Type 0
+OrderOverACutReads =
+    (read (codes "(seq (def (final r) (call (noun E) send (noun b) (lit \"get\") (call (noun __makeList) run))) (call (noun E) send (noun r) (lit \"put\") (call (noun __makeList) run (lit 1))) (object (final go) () (method run () (call (noun E) send (noun r) (lit \"put\") (call (noun __makeList) run (lit 2))))) (call (noun E) send (noun go) (lit \"run\") (call (noun __makeList) run)))") ≡ Ok tree_a)
+    × (read (codes "(object (final t) () (method get () (noun c)))") ≡ Ok tree_b)
+    × (read (codes "(object (final o) () (method put ((final x)) (noun x)))") ≡ Ok tree_c)
 
 -- opens the definitions of this file
 unfoldable pub opened_orderoveracut : Unit {0}

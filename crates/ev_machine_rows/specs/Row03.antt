@@ -1,7 +1,8 @@
 -- A sum that is out of range.
-use Rattle.std.specs.Prelude.{◌≡◌, pos, List, [], ◌∷◌, codes}
+use Rattle.std.specs.Prelude.{◌≡◌, pos, List, [], ◌∷◌, Ok, codes}
 use Rattle.ev_run.specs.World.{Script, run}
 use Rattle.ev_run.specs.Text.{text}
+use Rattle.ev_kernel.specs.Reading.{read}
 use Rattle.ev_machine_rows.specs.Endings.{lines}
 use Rattle.ev_kernel.specs.declared.node.Literal.TheVariants as literal
 use Rattle.ev_kernel.specs.declared.node.Node.{Node}
@@ -36,6 +37,11 @@ Row03Holds = text script (run script) ≡ lines (
     ∷ codes "settle @a broken:\"integer overflow\""
     ∷ codes "end"
     ∷ [])
+
+-- the trees are those of these forms
+abbrev pub Row03Reads : Type 0
+Row03Reads =
+    (read (codes "(call (lit 170141183460469231731687303715884105727) add (lit 1))") ≡ Ok tree_a)
 
 -- opens the definitions of this file
 unfoldable pub opened_row03 : Unit {0}

@@ -1,7 +1,8 @@
 -- Two objects share a var slot.
-use Rattle.std.specs.Prelude.{◌≡◌, pos, List, [], ◌∷◌, None, codes}
+use Rattle.std.specs.Prelude.{◌≡◌, pos, List, [], ◌∷◌, None, Ok, codes}
 use Rattle.ev_run.specs.World.{Script, run}
 use Rattle.ev_run.specs.Text.{text}
+use Rattle.ev_kernel.specs.Reading.{read}
 use Rattle.ev_machine_rows.specs.Endings.{lines}
 use Rattle.ev_kernel.specs.declared.node.Literal.TheVariants as literal
 use Rattle.ev_kernel.specs.declared.node.Node.{Node}
@@ -62,6 +63,11 @@ Row04Holds = text script (run script) ≡ lines (
     ∷ codes "settle @a 1"
     ∷ codes "end"
     ∷ [])
+
+-- the trees are those of these forms
+abbrev pub Row04Reads : Type 0
+Row04Reads =
+    (read (codes "(seq (def (var n) (lit 0)) (object (final up) () (method run () (set n (call (noun n) add (lit 1))))) (object (final get) () (method run () (noun n))) (call (noun up) run) (call (noun get) run))") ≡ Ok tree_a)
 
 -- opens the definitions of this file
 unfoldable pub opened_row04 : Unit {0}

@@ -1,7 +1,8 @@
 -- A dead ejector, and a matcher.
-use Rattle.std.specs.Prelude.{◌≡◌, pos, List, [], ◌∷◌, None, codes}
+use Rattle.std.specs.Prelude.{◌≡◌, pos, List, [], ◌∷◌, None, Ok, codes}
 use Rattle.ev_run.specs.World.{Script, run}
 use Rattle.ev_run.specs.Text.{text}
+use Rattle.ev_kernel.specs.Reading.{read}
 use Rattle.ev_machine_rows.specs.Endings.{lines}
 use Rattle.ev_kernel.specs.declared.node.Literal.TheVariants as literal
 use Rattle.ev_kernel.specs.declared.node.Node.{Node}
@@ -59,6 +60,11 @@ Row05Holds = text script (run script) ≡ lines (
     ∷ codes "settle @a broken:\"ejector is dead\""
     ∷ codes "end"
     ∷ [])
+
+-- the trees are those of these forms
+abbrev pub Row05Reads : Type 0
+Row05Reads =
+    (read (codes "(seq (def (final old) (escape (final ej) (noun ej))) (object (final m) () (matcher (list (final v) (final args)) (noun v))) (call (noun m) zip (lit 7)) (call (noun old) run (lit 1)))") ≡ Ok tree_a)
 
 -- opens the definitions of this file
 unfoldable pub opened_row05 : Unit {0}

@@ -1,7 +1,8 @@
 -- A guard that fails with an ejector.
-use Rattle.std.specs.Prelude.{◌≡◌, List, [], ◌∷◌, Some, None, codes}
+use Rattle.std.specs.Prelude.{◌≡◌, List, [], ◌∷◌, Some, None, Ok, codes}
 use Rattle.ev_run.specs.World.{Script, run}
 use Rattle.ev_run.specs.Text.{text}
+use Rattle.ev_kernel.specs.Reading.{read}
 use Rattle.ev_machine_rows.specs.Endings.{lines}
 use Rattle.ev_kernel.specs.declared.node.Literal.TheVariants as literal
 use Rattle.ev_kernel.specs.declared.node.Node.{Node}
@@ -42,6 +43,11 @@ Row06bHolds = text script (run script) ≡ lines (
     ∷ codes "settle @a \"not int\""
     ∷ codes "end"
     ∷ [])
+
+-- the trees are those of these forms
+abbrev pub Row06bReads : Type 0
+Row06bReads =
+    (read (codes "(escape (final ej) (def (final x (noun int)) exit (noun ej) (lit \"a\")))") ≡ Ok tree_a)
 
 -- opens the definitions of this file
 unfoldable pub opened_row06b : Unit {0}

@@ -1,7 +1,8 @@
 -- What DeepFrozen approves.
-use Rattle.std.specs.Prelude.{◌≡◌, pos, List, [], ◌∷◌, Some, None, codes}
+use Rattle.std.specs.Prelude.{◌≡◌, pos, List, [], ◌∷◌, Some, None, Ok, codes}
 use Rattle.ev_run.specs.World.{Script, run}
 use Rattle.ev_run.specs.Text.{text}
+use Rattle.ev_kernel.specs.Reading.{read}
 use Rattle.ev_machine_rows.specs.Endings.{lines}
 use Rattle.ev_kernel.specs.declared.node.Literal.TheVariants as literal
 use Rattle.ev_kernel.specs.declared.node.Node.{Node}
@@ -58,6 +59,11 @@ Row07Holds = text script (run script) ≡ lines (
     ∷ codes "settle @a a.2"
     ∷ codes "end"
     ∷ [])
+
+-- the trees are those of these forms
+abbrev pub Row07Reads : Type 0
+Row07Reads =
+    (read (codes "(seq (def (var c) (lit 0)) (def (final n (noun int)) (lit 3)) (object (final p) ((noun DeepFrozen)) (method run () (noun c))) (object (final q) ((noun DeepFrozen)) (method run () (noun n))) (object (final r) ((noun DeepFrozen)) (method run () (noun r))))") ≡ Ok tree_a)
 
 -- opens the definitions of this file
 unfoldable pub opened_row07 : Unit {0}

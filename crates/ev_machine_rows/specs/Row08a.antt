@@ -1,7 +1,8 @@
 -- Fuel that just suffices.
-use Rattle.std.specs.Prelude.{◌≡◌, pos, List, [], ◌∷◌, codes}
+use Rattle.std.specs.Prelude.{◌≡◌, pos, List, [], ◌∷◌, Ok, codes}
 use Rattle.ev_run.specs.World.{Script, run}
 use Rattle.ev_run.specs.Text.{text}
+use Rattle.ev_kernel.specs.Reading.{read}
 use Rattle.ev_machine_rows.specs.Endings.{lines}
 use Rattle.ev_kernel.specs.declared.node.Literal.TheVariants as literal
 use Rattle.ev_kernel.specs.declared.node.Node.{Node}
@@ -36,6 +37,11 @@ Row08aHolds = text script (run script) ≡ lines (
     ∷ codes "settle @a 42"
     ∷ codes "end"
     ∷ [])
+
+-- the trees are those of these forms
+abbrev pub Row08aReads : Type 0
+Row08aReads =
+    (read (codes "(call (lit 41) add (lit 1))") ≡ Ok tree_a)
 
 -- opens the definitions of this file
 unfoldable pub opened_row08a : Unit {0}

@@ -1,7 +1,8 @@
 -- Fuel that does not suffice.
-use Rattle.std.specs.Prelude.{◌≡◌, pos, List, [], ◌∷◌, codes}
+use Rattle.std.specs.Prelude.{◌≡◌, pos, List, [], ◌∷◌, Ok, codes}
 use Rattle.ev_run.specs.World.{Script, run}
 use Rattle.ev_run.specs.Text.{text}
+use Rattle.ev_kernel.specs.Reading.{read}
 use Rattle.ev_machine_rows.specs.Endings.{lines}
 use Rattle.ev_kernel.specs.declared.node.Literal.TheVariants as literal
 use Rattle.ev_kernel.specs.declared.node.Node.{Node}
@@ -31,6 +32,11 @@ abbrev pub Row08bHolds : Type 0
 Row08bHolds = text script (run script) ≡ lines (
     codes "stop fuel 0"
     ∷ [])
+
+-- the trees are those of these forms
+abbrev pub Row08bReads : Type 0
+Row08bReads =
+    (read (codes "(call (lit 41) add (lit 1))") ≡ Ok tree_a)
 
 -- opens the definitions of this file
 unfoldable pub opened_row08b : Unit {0}

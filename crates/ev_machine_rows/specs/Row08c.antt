@@ -1,7 +1,8 @@
 -- A recursion without end.
-use Rattle.std.specs.Prelude.{◌≡◌, List, [], ◌∷◌, None, codes}
+use Rattle.std.specs.Prelude.{◌≡◌, List, [], ◌∷◌, None, Ok, codes}
 use Rattle.ev_run.specs.World.{Script, run}
 use Rattle.ev_run.specs.Text.{text}
+use Rattle.ev_kernel.specs.Reading.{read}
 use Rattle.ev_machine_rows.specs.Endings.{lines}
 use Rattle.ev_kernel.specs.declared.node.Node.{Node}
 use Rattle.ev_kernel.specs.declared.node.Node.TheVariants.{Noun, Call, Sequence, Escape, Object, Method, Final}
@@ -41,6 +42,11 @@ abbrev pub Row08cHolds : Type 0
 Row08cHolds = text script (run script) ≡ lines (
     codes "stop depth 0"
     ∷ [])
+
+-- the trees are those of these forms
+abbrev pub Row08cReads : Type 0
+Row08cReads =
+    (read (codes "(seq (object (final f) () (method run () (escape (final __return) (seq (call (noun __return) run (call (noun f) run)) (noun null))))) (call (noun f) run))") ≡ Ok tree_a)
 
 -- opens the definitions of this file
 unfoldable pub opened_row08c : Unit {0}

@@ -1,7 +1,8 @@
 -- Messages are taken in order.
-use Rattle.std.specs.Prelude.{◌≡◌, pos, List, [], ◌∷◌, None, codes}
+use Rattle.std.specs.Prelude.{◌≡◌, pos, List, [], ◌∷◌, None, Ok, codes}
 use Rattle.ev_run.specs.World.{Turn, Script, run}
 use Rattle.ev_run.specs.Text.{text}
+use Rattle.ev_kernel.specs.Reading.{read}
 use Rattle.ev_machine_rows.specs.Endings.{lines}
 use Rattle.ev_kernel.specs.declared.node.Literal.TheVariants as literal
 use Rattle.ev_kernel.specs.declared.node.Node.{Node}
@@ -66,6 +67,11 @@ Row09Holds = text script (run script) ≡ lines (
     ∷ codes "3 idle"
     ∷ codes "end"
     ∷ [])
+
+-- the trees are those of these forms
+abbrev pub Row09Reads : Type 0
+Row09Reads =
+    (read (codes "(seq (object (final o) () (method f ((final x)) (noun x))) (call (noun E) send (noun o) (lit \"f\") (call (noun __makeList) run (lit 1))) (call (noun E) send (noun o) (lit \"f\") (call (noun __makeList) run (lit 2))))") ≡ Ok tree_a)
 
 -- opens the definitions of this file
 unfoldable pub opened_row09 : Unit {0}

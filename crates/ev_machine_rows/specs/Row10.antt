@@ -1,7 +1,8 @@
 -- A message sent on an answer that is not there yet.
-use Rattle.std.specs.Prelude.{◌≡◌, pos, List, [], ◌∷◌, None, codes}
+use Rattle.std.specs.Prelude.{◌≡◌, pos, List, [], ◌∷◌, None, Ok, codes}
 use Rattle.ev_run.specs.World.{Turn, Carry, Script, run}
 use Rattle.ev_run.specs.Text.{wire_text}
+use Rattle.ev_kernel.specs.Reading.{read}
 use Rattle.ev_machine_rows.specs.Endings.{lines}
 use Rattle.ev_kernel.specs.declared.node.Literal.TheVariants as literal
 use Rattle.ev_kernel.specs.declared.node.Node.{Node}
@@ -81,6 +82,12 @@ Row10Holds = wire_text script (run script) ≡ lines (
     ∷ codes "left link b a settled b?a/1 7"
     ∷ codes "end"
     ∷ [])
+
+-- the trees are those of these forms
+abbrev pub Row10Reads : Type 0
+Row10Reads =
+    (read (codes "(call (noun E) send (call (noun E) send (noun b) (lit \"getX\") (call (noun __makeList) run)) (lit \"getY\") (call (noun __makeList) run))") ≡ Ok tree_a)
+    × (read (codes "(seq (object (final x) () (method getY () (lit 7))) (object (final t) () (method getX () (noun x))))") ≡ Ok tree_b)
 
 -- opens the definitions of this file
 unfoldable pub opened_row10 : Unit {0}

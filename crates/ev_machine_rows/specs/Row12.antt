@@ -1,7 +1,8 @@
 -- A partition breaks a gift.
-use Rattle.std.specs.Prelude.{◌≡◌, pos, List, [], ◌∷◌, None, codes}
+use Rattle.std.specs.Prelude.{◌≡◌, pos, List, [], ◌∷◌, None, Ok, codes}
 use Rattle.ev_run.specs.World.{Turn, Carry, CutLink, NoticeLink, Script, run}
 use Rattle.ev_run.specs.Text.{text}
+use Rattle.ev_kernel.specs.Reading.{read}
 use Rattle.ev_machine_rows.specs.Endings.{lines}
 use Rattle.ev_kernel.specs.declared.node.Literal.TheVariants as literal
 use Rattle.ev_kernel.specs.declared.node.Node.{Node}
@@ -108,6 +109,13 @@ Row12Holds = text script (run script) ≡ lines (
     ∷ codes "left link b a settled b?a/1 broken:\"partition\""
     ∷ codes "end"
     ∷ [])
+
+-- the trees are those of these forms
+abbrev pub Row12Reads : Type 0
+Row12Reads =
+    (read (codes "(seq (call (noun E) send (noun c) (lit \"put\") (call (noun __makeList) run (lit 0))) (call (noun E) send (noun b) (lit \"meet\") (call (noun __makeList) run (noun c))))") ≡ Ok tree_a)
+    × (read (codes "(object (final t) () (method meet ((final p)) (call (noun E) send (noun p) (lit \"put\") (call (noun __makeList) run (lit 2)))))") ≡ Ok tree_b)
+    × (read (codes "(object (final o) () (method put ((final x)) (noun x)))") ≡ Ok tree_c)
 
 -- opens the definitions of this file
 unfoldable pub opened_row12 : Unit {0}

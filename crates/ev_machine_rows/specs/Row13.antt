@@ -1,7 +1,8 @@
 -- A reference shortened to its own vat.
-use Rattle.std.specs.Prelude.{◌≡◌, pos, List, [], ◌∷◌, None, codes}
+use Rattle.std.specs.Prelude.{◌≡◌, pos, List, [], ◌∷◌, None, Ok, codes}
 use Rattle.ev_run.specs.World.{Turn, Carry, Script, run}
 use Rattle.ev_run.specs.Text.{text}
+use Rattle.ev_kernel.specs.Reading.{read}
 use Rattle.ev_machine_rows.specs.Endings.{lines}
 use Rattle.ev_kernel.specs.declared.node.Literal.TheVariants as literal
 use Rattle.ev_kernel.specs.declared.node.Node.{Node}
@@ -125,6 +126,12 @@ Row13Holds = text script (run script) ≡ lines (
     ∷ codes "left link a b settled a?a/1 1"
     ∷ codes "end"
     ∷ [])
+
+-- the trees are those of these forms
+abbrev pub Row13Reads : Type 0
+Row13Reads =
+    (read (codes "(seq (object (final me) () (method put ((final x)) (noun x))) (def (final r) (call (noun E) send (noun b) (lit \"echo\") (call (noun __makeList) run (noun me)))) (call (noun E) send (noun r) (lit \"put\") (call (noun __makeList) run (lit 1))) (object (final go) () (method run () (call (noun E) send (noun r) (lit \"put\") (call (noun __makeList) run (lit 2))))) (call (noun E) send (noun go) (lit \"run\") (call (noun __makeList) run)))") ≡ Ok tree_a)
+    × (read (codes "(object (final t) () (method echo ((final x)) (noun x)))") ≡ Ok tree_b)
 
 -- opens the definitions of this file
 unfoldable pub opened_row13 : Unit {0}

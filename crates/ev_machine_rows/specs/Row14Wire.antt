@@ -1,7 +1,8 @@
 -- A shortening, with its frames.
-use Rattle.std.specs.Prelude.{◌≡◌, pos, List, [], ◌∷◌, None, codes}
+use Rattle.std.specs.Prelude.{◌≡◌, pos, List, [], ◌∷◌, None, Ok, codes}
 use Rattle.ev_run.specs.World.{Turn, Carry, Script, run}
 use Rattle.ev_run.specs.Text.{wire_text}
+use Rattle.ev_kernel.specs.Reading.{read}
 use Rattle.ev_machine_rows.specs.Endings.{lines}
 use Rattle.ev_kernel.specs.declared.node.Literal.TheVariants as literal
 use Rattle.ev_kernel.specs.declared.node.Node.{Node}
@@ -132,6 +133,13 @@ Row14WireHolds = wire_text script (run script) ≡ lines (
     ∷ codes "left link b c open c^0 c.0"
     ∷ codes "end"
     ∷ [])
+
+-- the trees are those of these forms
+abbrev pub Row14WireReads : Type 0
+Row14WireReads =
+    (read (codes "(seq (def (final r) (call (noun E) send (noun b) (lit \"get\") (call (noun __makeList) run))) (call (noun E) send (noun r) (lit \"put\") (call (noun __makeList) run (lit 1))) (object (final go) () (method run () (call (noun E) send (noun r) (lit \"put\") (call (noun __makeList) run (lit 2))))) (call (noun E) send (noun go) (lit \"run\") (call (noun __makeList) run)))") ≡ Ok tree_a)
+    × (read (codes "(object (final t) () (method get () (noun c)))") ≡ Ok tree_b)
+    × (read (codes "(object (final o) () (method put ((final x)) (noun x)))") ≡ Ok tree_c)
 
 -- opens the definitions of this file
 unfoldable pub opened_row14wire : Unit {0}

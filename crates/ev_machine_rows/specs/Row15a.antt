@@ -1,7 +1,8 @@
 -- Two promises that wait on each other in two vats.
-use Rattle.std.specs.Prelude.{◌≡◌, List, [], ◌∷◌, None, codes}
+use Rattle.std.specs.Prelude.{◌≡◌, List, [], ◌∷◌, None, Ok, codes}
 use Rattle.ev_run.specs.World.{Turn, Carry, Script, run}
 use Rattle.ev_run.specs.Text.{text}
+use Rattle.ev_kernel.specs.Reading.{read}
 use Rattle.ev_machine_rows.specs.Endings.{lines}
 use Rattle.ev_kernel.specs.declared.node.Literal.TheVariants as literal
 use Rattle.ev_kernel.specs.declared.node.Node.{Node}
@@ -84,6 +85,12 @@ Row15aHolds = text script (run script) ≡ lines (
     ∷ codes "left link b a settled @b b.0"
     ∷ codes "end"
     ∷ [])
+
+-- the trees are those of these forms
+abbrev pub Row15aReads : Type 0
+Row15aReads =
+    (read (codes "(seq (def (list (final p) (final r)) (call (noun Ref) promise)) (call (noun r) resolve (call (noun E) send (noun b) (lit \"swap\") (call (noun __makeList) run (noun p)))) (call (noun E) send (noun p) (lit \"hi\") (call (noun __makeList) run)))") ≡ Ok tree_a)
+    × (read (codes "(object (final t) () (method swap ((final x)) (noun x)))") ≡ Ok tree_b)
 
 -- opens the definitions of this file
 unfoldable pub opened_row15a : Unit {0}

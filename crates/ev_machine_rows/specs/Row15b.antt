@@ -1,7 +1,8 @@
 -- A promise that is resolved to itself.
-use Rattle.std.specs.Prelude.{◌≡◌, List, [], ◌∷◌, None, codes}
+use Rattle.std.specs.Prelude.{◌≡◌, List, [], ◌∷◌, None, Ok, codes}
 use Rattle.ev_run.specs.World.{Script, run}
 use Rattle.ev_run.specs.Text.{text}
+use Rattle.ev_kernel.specs.Reading.{read}
 use Rattle.ev_machine_rows.specs.Endings.{lines}
 use Rattle.ev_kernel.specs.declared.node.Node.{Node}
 use Rattle.ev_kernel.specs.declared.node.Node.TheVariants.{Noun, Def, Call, Sequence, Final, ListPattern}
@@ -48,6 +49,11 @@ Row15bHolds = text script (run script) ≡ lines (
     ∷ codes "settle @a true"
     ∷ codes "end"
     ∷ [])
+
+-- the trees are those of these forms
+abbrev pub Row15bReads : Type 0
+Row15bReads =
+    (read (codes "(seq (def (list (final p) (final r)) (call (noun Ref) promise)) (call (noun r) resolve (noun p)) (call (noun Ref) isBroken (noun p)))") ≡ Ok tree_a)
 
 -- opens the definitions of this file
 unfoldable pub opened_row15b : Unit {0}

@@ -1,7 +1,8 @@
 -- An auditor written in E.
-use Rattle.std.specs.Prelude.{◌≡◌, List, [], ◌∷◌, None, codes}
+use Rattle.std.specs.Prelude.{◌≡◌, List, [], ◌∷◌, None, Ok, codes}
 use Rattle.ev_run.specs.World.{Script, run}
 use Rattle.ev_run.specs.Text.{text}
+use Rattle.ev_kernel.specs.Reading.{read}
 use Rattle.ev_machine_rows.specs.Endings.{lines}
 use Rattle.ev_kernel.specs.declared.node.Node.{Node}
 use Rattle.ev_kernel.specs.declared.node.Node.TheVariants.{Noun, Call, Sequence, Object, Method, Final}
@@ -48,6 +49,11 @@ Row21Holds = text script (run script) ≡ lines (
     ∷ codes "settle @a true"
     ∷ codes "end"
     ∷ [])
+
+-- the trees are those of these forms
+abbrev pub Row21Reads : Type 0
+Row21Reads =
+    (read (codes "(seq (object (final aud) () (method audit ((final n)) (noun true))) (object (final x) ((noun aud))) (call (noun auditedBy) run (noun aud) (noun x)))") ≡ Ok tree_a)
 
 -- opens the definitions of this file
 unfoldable pub opened_row21 : Unit {0}

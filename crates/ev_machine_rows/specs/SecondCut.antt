@@ -1,7 +1,8 @@
 -- A second cut and a second notice.
-use Rattle.std.specs.Prelude.{◌≡◌, pos, List, [], ◌∷◌, None, codes}
+use Rattle.std.specs.Prelude.{◌≡◌, pos, List, [], ◌∷◌, None, Ok, codes}
 use Rattle.ev_run.specs.World.{CutLink, NoticeLink, Script, run}
 use Rattle.ev_run.specs.Text.{text}
+use Rattle.ev_kernel.specs.Reading.{read}
 use Rattle.ev_machine_rows.specs.Endings.{lines}
 use Rattle.ev_kernel.specs.declared.node.Literal.TheVariants as literal
 use Rattle.ev_kernel.specs.declared.node.Node.{Node}
@@ -85,6 +86,12 @@ SecondCutHolds = text script (run script) ≡ lines (
     ∷ codes "left queue a a/1"
     ∷ codes "end"
     ∷ [])
+
+-- the trees are those of these forms
+abbrev pub SecondCutReads : Type 0
+SecondCutReads =
+    (read (codes "(seq (def (final r) (call (noun E) send (noun b) (lit \"f\") (call (noun __makeList) run (lit 1)))) (object (final go) () (method run () (call (noun E) send (noun b) (lit \"f\") (call (noun __makeList) run (lit 2))))) (call (noun E) send (noun go) (lit \"run\") (call (noun __makeList) run)))") ≡ Ok tree_a)
+    × (read (codes "(object (final t) () (method f ((final x)) (noun x)))") ≡ Ok tree_b)
 
 -- opens the definitions of this file
 unfoldable pub opened_secondcut : Unit {0}
