@@ -3,7 +3,7 @@ use Rattle.std.specs.Prelude.{◌≡◌, ℕ, ◌≤◌, true, false, List, ◌+
 use Rattle.ev_machine.specs.Values.{Words, Value, Broken, Ref, Name, Local, Naming}
 use Rattle.ev_machine.specs.State.{Binding, Cell, View, Made, Ejector, Audition, Resolver, Known, Settled, Happened, Put, Vat, is_in}
 use Rattle.ev_machine.specs.Refs.{entry_of, standing_of, follow}
-use Rattle.ev_machine_laws.specs.Steps.{KeptBySteps}
+use Rattle.ev_machine_laws.specs.Steps.{KeptBySteps, StepsEnd, IsQuiet}
 
 -- the fuel that is left
 abbrev pub NoMoreFuel : {N : Type 0} → Vat N → Vat N → Type 0
@@ -110,3 +110,7 @@ SettlingsStay = KeptBySteps {N = Name} {W = Name} SettledStays × KeptBySteps {N
 
 abbrev pub BreakingsStay : Type 0
 BreakingsStay = KeptBySteps {N = Name} {W = Name} BrokenStays × KeptBySteps {N = Local} {W = Name} BrokenStays
+
+-- no problem is thrown out of a step and nothing leaves it by an ejector
+abbrev pub StepsAreQuiet : Type 0
+StepsAreQuiet = StepsEnd Name Name IsQuiet × StepsEnd Local Name IsQuiet

@@ -32,3 +32,14 @@ After R s (Stops c t) = R s t
 -- R leads from the state before each step to the state after it, whatever the names are
 abbrev pub KeptBySteps : {N W : Type 0} → (Naming N W → Vat N → Vat N → Type 0) → Type 0
 KeptBySteps {N} {W} R = (K : Naming N W) (step : Step N W) (s : Vat N) → After (R K) s (does K step s)
+
+-- it gave or it stopped: it threw nothing and left by no ejector
+abbrev pub IsQuiet : {N A : Type 0} → Done N A → Type 0
+IsQuiet (Gives a t) = Unit {0}
+IsQuiet (Throws p t) = ⊥
+IsQuiet (Ejects n v t) = ⊥
+IsQuiet (Stops c t) = Unit {0}
+
+-- each step ends so
+abbrev pub StepsEnd : (N W : Type 0) → (Done N (Unit {0}) → Type 0) → Type 0
+StepsEnd N W P = (K : Naming N W) (step : Step N W) (s : Vat N) → P (does K step s)

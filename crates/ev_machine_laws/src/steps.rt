@@ -14,6 +14,7 @@ ghost use Rattle.ev_machine_laws.specs.Laws.{SettlingsStay};
 ghost use Rattle.ev_machine_laws.specs.Laws.{BreakingsStay};
 ghost use Rattle.ev_machine_laws.specs.Laws.{NoticesStay};
 ghost use Rattle.ev_machine_laws.specs.Laws.{HistoryGrows};
+ghost use Rattle.ev_machine_laws.specs.Laws.{StepsAreQuiet};
 
 /// The fuel that is left never rises.
 pub fn fuel_never_rises()
@@ -83,4 +84,9 @@ pub fn notices_stay()
 /// What has happened and the notes put are added to at the end alone.
 pub fn history_grows()
     ensures { HistoryGrows }
+{}
+
+/// No problem is thrown out of a step, and nothing leaves it by an ejector: it gives or stops.
+pub fn steps_are_quiet()
+    ensures { StepsAreQuiet }
 {}
