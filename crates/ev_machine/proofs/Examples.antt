@@ -52,3 +52,11 @@ part_text = refl
 adds_text : data_reply {N = ℕ} [] (Text (codes "a")) (codes "add") (Number (negsuc 4) ∷ []) (Number (negsuc 4) ∷ []) ≡ Writes (codes "a-5")
 unfolding opened_native
 adds_text = refl
+
+most : apply Pow (pos 2) (pos 127) ≡ Err (codes "integer overflow")
+unfolding opened_ints
+most = refl
+
+middle_text : data_reply {N = ℕ} [] (Text (codes "abcd")) (codes "run") (Number (pos 1) ∷ Number (pos 3) ∷ []) (Number (pos 1) ∷ Number (pos 3) ∷ []) ≡ Writes (codes "bc")
+unfolding opened_native
+middle_text = refl

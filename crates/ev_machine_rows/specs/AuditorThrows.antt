@@ -1,11 +1,12 @@
 -- An auditor that throws leaves the making.
-use Rattle.std.specs.Prelude.{◌≡◌, ℕ, pos, negsuc, List, [], ◌∷◌, ◌++◌, Option, Some, None, codes, replicate}
-use Rattle.ev_machine.specs.Values.{Words}
-use Rattle.ev_run.specs.World.{Entry, Turn, Carry, CutLink, NoticeLink, drain, Program, Script, run}
-use Rattle.ev_run.specs.Text.{lines, text}
+use Rattle.std.specs.Prelude.{◌≡◌, List, [], ◌∷◌, None, Ok, codes}
+use Rattle.ev_run.specs.World.{Script, run}
+use Rattle.ev_run.specs.Text.{text}
+use Rattle.ev_kernel.specs.Reading.{read}
+use Rattle.ev_machine_rows.specs.Endings.{lines}
 use Rattle.ev_kernel.specs.declared.node.Literal.TheVariants as literal
 use Rattle.ev_kernel.specs.declared.node.Node.{Node}
-use Rattle.ev_kernel.specs.declared.node.Node.TheVariants.{Lit, Noun, Set, Def, Call, Sequence, If, Escape, Try, Finally, Hide, MatchBind, Object, Method, Matcher, Final, Var, Any, ListPattern, Via}
+use Rattle.ev_kernel.specs.declared.node.Node.TheVariants.{Lit, Noun, Call, Sequence, Object, Method, Final}
 use Rattle.ev_machine_rows.specs.Keys.{zeros}
 
 -- def aud { method audit(n) { throw("bad") } }; def x implements aud {}
@@ -30,8 +31,8 @@ script = record {
   fuel = 1000000;
   depth = 400;
   vats =
-    record { name = codes "a"; knows = []; tree = tree_a } ∷
-    [];
+      record { name = codes "a"; knows = []; tree = tree_a } ∷
+      [];
   schedule = [];
 }
 
@@ -46,6 +47,11 @@ AuditorThrowsHolds = text script (run script) ≡ lines (
     ∷ codes "settle @a broken:\"bad\""
     ∷ codes "end"
     ∷ [])
+
+-- the trees are those of these forms
+abbrev pub AuditorThrowsReads : Type 0
+AuditorThrowsReads =
+    (read (codes "(seq (object (final aud) () (method audit ((final n)) (call (noun throw) run (lit \"bad\")))) (object (final x) ((noun aud))))") ≡ Ok tree_a)
 
 -- opens the definitions of this file
 unfoldable pub opened_auditorthrows : Unit {0}

@@ -1,12 +1,11 @@
 -- Auditors and auditions.
-use Rattle.std.specs.Prelude.{◌≡◌, ℕ, pos, negsuc, List, [], ◌∷◌, Option, Some, None, codes}
-use Rattle.ev_machine.specs.Values.{Words}
+use Rattle.std.specs.Prelude.{◌≡◌, pos, List, [], ◌∷◌, Some, None, Ok, codes}
+use Rattle.ev_kernel.specs.Reading.{read}
 use Rattle.ev_machine_rows.specs.Endings.{ending_of}
 use Rattle.ev_kernel.specs.declared.node.Literal.TheVariants as literal
 use Rattle.ev_kernel.specs.declared.node.Node.{Node}
-use Rattle.ev_kernel.specs.declared.node.Node.TheVariants.{Lit, Noun, Set, Def, Call, Sequence, If, Escape, Try, Finally, Hide, MatchBind, Object, Method, Matcher, Final, Var, Any, ListPattern, Via}
+use Rattle.ev_kernel.specs.declared.node.Node.TheVariants.{Lit, Noun, Set, Def, Call, Sequence, Object, Method, Final, Var}
 
--- (object (final x) ((lit 5)))
 unfoldable pub case_0 : List Node
 case_0 =
     Object 1 (2 ∷ []) []
@@ -14,7 +13,6 @@ case_0 =
     ∷ Lit (literal.Int (pos 5))
     ∷ []
 
--- (seq (def (var n) (noun null)) (object (final aud) () (method audit ((final m)) (set n (noun m)))) (object (final x) ((noun aud))) (call (noun n) getObjectExpr))
 unfoldable pub case_1 : List Node
 case_1 =
     Sequence (1 ∷ 4 ∷ 10 ∷ 13 ∷ [])
@@ -34,7 +32,6 @@ case_1 =
     ∷ Noun (codes "n")
     ∷ []
 
--- (seq (def (var n) (noun null)) (object (final aud) () (method audit ((final m)) (seq (set n (call (noun m) getGuard (lit "k"))) (noun true)))) (def (final k (noun int)) (lit 3)) (object (final x) ((noun aud)) (method run () (noun k))) (noun n))
 unfoldable pub case_2 : List Node
 case_2 =
     Sequence (1 ∷ 4 ∷ 14 ∷ 18 ∷ 23 ∷ [])
@@ -63,7 +60,6 @@ case_2 =
     ∷ Noun (codes "n")
     ∷ []
 
--- (seq (def (var n) (noun null)) (object (final aud) () (method audit ((final m)) (seq (set n (call (noun m) getGuard (lit "z"))) (noun true)))) (object (final x) ((noun aud))))
 unfoldable pub case_3 : List Node
 case_3 =
     Sequence (1 ∷ 4 ∷ 14 ∷ [])
@@ -85,7 +81,6 @@ case_3 =
     ∷ Noun (codes "aud")
     ∷ []
 
--- (seq (def (var n) (noun null)) (object (final aud) () (method audit ((final m)) (seq (set n (call (noun m) ask (noun DeepFrozen))) (noun true)))) (object (final x) ((noun aud))) (noun n))
 unfoldable pub case_4 : List Node
 case_4 =
     Sequence (1 ∷ 4 ∷ 14 ∷ 17 ∷ [])
@@ -108,7 +103,6 @@ case_4 =
     ∷ Noun (codes "n")
     ∷ []
 
--- (seq (def (var n) (noun null)) (object (final aud) () (method audit ((final m)) (seq (set n (call (call (noun m) getObjectExpr) get (lit 0))) (noun true)))) (object (final x) ((noun aud))) (noun n))
 unfoldable pub case_5 : List Node
 case_5 =
     Sequence (1 ∷ 4 ∷ 15 ∷ 18 ∷ [])
@@ -132,7 +126,6 @@ case_5 =
     ∷ Noun (codes "n")
     ∷ []
 
--- (seq (object (final aud) () (method audit ((final m)) (lit 1))) (object (final x) ((noun aud))) (call (noun auditedBy) run (noun aud) (noun x)))
 unfoldable pub case_6 : List Node
 case_6 =
     Sequence (1 ∷ 6 ∷ 9 ∷ [])
@@ -150,7 +143,6 @@ case_6 =
     ∷ Noun (codes "x")
     ∷ []
 
--- (seq (object (final x) ((noun DeepFrozen))) (call (noun auditedBy) run (noun DeepFrozen) (noun x)))
 unfoldable pub case_7 : List Node
 case_7 =
     Sequence (1 ∷ 4 ∷ [])
@@ -163,7 +155,6 @@ case_7 =
     ∷ Noun (codes "x")
     ∷ []
 
--- (call (noun auditedBy) run (noun DeepFrozen) (lit 1))
 unfoldable pub case_8 : List Node
 case_8 =
     Call 1 (codes "run") (2 ∷ 3 ∷ [])
@@ -171,6 +162,19 @@ case_8 =
     ∷ Noun (codes "DeepFrozen")
     ∷ Lit (literal.Int (pos 1))
     ∷ []
+
+-- the trees are those of these forms
+abbrev pub AuditsRead : Type 0
+AuditsRead =
+    (read (codes "(object (final x) ((lit 5)))") ≡ Ok case_0)
+    × (read (codes "(seq (def (var n) (noun null)) (object (final aud) () (method audit ((final m)) (set n (noun m)))) (object (final x) ((noun aud))) (call (noun n) getObjectExpr))") ≡ Ok case_1)
+    × (read (codes "(seq (def (var n) (noun null)) (object (final aud) () (method audit ((final m)) (seq (set n (call (noun m) getGuard (lit \"k\"))) (noun true)))) (def (final k (noun int)) (lit 3)) (object (final x) ((noun aud)) (method run () (noun k))) (noun n))") ≡ Ok case_2)
+    × (read (codes "(seq (def (var n) (noun null)) (object (final aud) () (method audit ((final m)) (seq (set n (call (noun m) getGuard (lit \"z\"))) (noun true)))) (object (final x) ((noun aud))))") ≡ Ok case_3)
+    × (read (codes "(seq (def (var n) (noun null)) (object (final aud) () (method audit ((final m)) (seq (set n (call (noun m) ask (noun DeepFrozen))) (noun true)))) (object (final x) ((noun aud))) (noun n))") ≡ Ok case_4)
+    × (read (codes "(seq (def (var n) (noun null)) (object (final aud) () (method audit ((final m)) (seq (set n (call (call (noun m) getObjectExpr) get (lit 0))) (noun true)))) (object (final x) ((noun aud))) (noun n))") ≡ Ok case_5)
+    × (read (codes "(seq (object (final aud) () (method audit ((final m)) (lit 1))) (object (final x) ((noun aud))) (call (noun auditedBy) run (noun aud) (noun x)))") ≡ Ok case_6)
+    × (read (codes "(seq (object (final x) ((noun DeepFrozen))) (call (noun auditedBy) run (noun DeepFrozen) (noun x)))") ≡ Ok case_7)
+    × (read (codes "(call (noun auditedBy) run (noun DeepFrozen) (lit 1))") ≡ Ok case_8)
 
 -- how each ends
 abbrev pub AuditsHold : Type 0

@@ -1,12 +1,11 @@
 -- The least fuel and the depth of small programs.
-use Rattle.std.specs.Prelude.{◌≡◌, ℕ, pos, negsuc, List, [], ◌∷◌, Option, Some, None, codes}
-use Rattle.ev_machine.specs.Values.{Words}
+use Rattle.std.specs.Prelude.{◌≡◌, pos, List, [], ◌∷◌, Some, None, Ok, codes}
+use Rattle.ev_kernel.specs.Reading.{read}
 use Rattle.ev_machine_rows.specs.Endings.{ending_at}
 use Rattle.ev_kernel.specs.declared.node.Literal.TheVariants as literal
 use Rattle.ev_kernel.specs.declared.node.Node.{Node}
-use Rattle.ev_kernel.specs.declared.node.Node.TheVariants.{Lit, Noun, Set, Def, Call, Sequence, If, Escape, Try, Finally, Hide, MatchBind, Object, Method, Matcher, Final, Var, Any, ListPattern, Via}
+use Rattle.ev_kernel.specs.declared.node.Node.TheVariants.{Lit, Noun, Def, Call, Sequence, Object, Method, Matcher, Final, ListPattern}
 
--- (seq (call (noun __makeList) run (lit 1) (lit 2)) (call (lit "a") add (lit "bc")))
 unfoldable pub case_0 : List Node
 case_0 =
     Sequence (1 ∷ 5 ∷ [])
@@ -19,7 +18,6 @@ case_0 =
     ∷ Lit (literal.Text (codes "bc"))
     ∷ []
 
--- (seq (object (final o) () (matcher (final m) (lit 1))) (call (noun o) f (lit 1) (lit 2)))
 unfoldable pub case_1 : List Node
 case_1 =
     Sequence (1 ∷ 6 ∷ [])
@@ -34,14 +32,12 @@ case_1 =
     ∷ Lit (literal.Int (pos 2))
     ∷ []
 
--- (call (noun Ref) promise)
 unfoldable pub case_2 : List Node
 case_2 =
     Call 1 (codes "promise") []
     ∷ Noun (codes "Ref")
     ∷ []
 
--- (seq (object (final f) () (method run () (call (noun f) run))) (call (noun f) run))
 unfoldable pub case_3 : List Node
 case_3 =
     Sequence (1 ∷ 6 ∷ [])
@@ -54,7 +50,6 @@ case_3 =
     ∷ Noun (codes "f")
     ∷ []
 
--- (seq (object (final f) () (method run ((final x (noun int))) (call (noun f) run (noun x)))) (call (noun f) run (lit 1)))
 unfoldable pub case_4 : List Node
 case_4 =
     Sequence (1 ∷ 9 ∷ [])
@@ -71,7 +66,6 @@ case_4 =
     ∷ Lit (literal.Int (pos 1))
     ∷ []
 
--- (seq (object (final o) () (matcher (final m (noun any)) (call (noun o) f))) (call (noun o) f))
 unfoldable pub case_5 : List Node
 case_5 =
     Sequence (1 ∷ 8 ∷ [])
@@ -86,7 +80,6 @@ case_5 =
     ∷ Noun (codes "o")
     ∷ []
 
--- (seq (object (final o) () (method coerce ((final s) (final e)) (seq (def (final x (noun o)) (noun s)) (noun x)))) (def (final y (noun o)) (lit 1)))
 unfoldable pub case_6 : List Node
 case_6 =
     Sequence (1 ∷ 12 ∷ [])
@@ -107,7 +100,6 @@ case_6 =
     ∷ Lit (literal.Int (pos 1))
     ∷ []
 
--- (seq (object (final j) () (method run ((final p)) (def (list (final x)) exit (noun j) (noun p)))) (def (list (final x)) exit (noun j) (lit 1)))
 unfoldable pub case_7 : List Node
 case_7 =
     Sequence (1 ∷ 10 ∷ [])
@@ -127,7 +119,6 @@ case_7 =
     ∷ Lit (literal.Int (pos 1))
     ∷ []
 
--- (seq (object (final o) () (method run ((final i) (final x)) (call (call (noun __makeList) run (lit 1)) iterate (noun o)))) (call (noun o) run (lit 1) (lit 2)))
 unfoldable pub case_8 : List Node
 case_8 =
     Sequence (1 ∷ 11 ∷ [])
@@ -147,7 +138,6 @@ case_8 =
     ∷ Lit (literal.Int (pos 2))
     ∷ []
 
--- (seq (object (final o) () (method audit ((final n)) (call (noun n) ask (noun o)))) (object (final x) ((noun o))))
 unfoldable pub case_9 : List Node
 case_9 =
     Sequence (1 ∷ 8 ∷ [])
@@ -162,6 +152,20 @@ case_9 =
     ∷ Final (codes "x") None
     ∷ Noun (codes "o")
     ∷ []
+
+-- the trees are those of these forms
+abbrev pub BoundsRead : Type 0
+BoundsRead =
+    (read (codes "(seq (call (noun __makeList) run (lit 1) (lit 2)) (call (lit \"a\") add (lit \"bc\")))") ≡ Ok case_0)
+    × (read (codes "(seq (object (final o) () (matcher (final m) (lit 1))) (call (noun o) f (lit 1) (lit 2)))") ≡ Ok case_1)
+    × (read (codes "(call (noun Ref) promise)") ≡ Ok case_2)
+    × (read (codes "(seq (object (final f) () (method run () (call (noun f) run))) (call (noun f) run))") ≡ Ok case_3)
+    × (read (codes "(seq (object (final f) () (method run ((final x (noun int))) (call (noun f) run (noun x)))) (call (noun f) run (lit 1)))") ≡ Ok case_4)
+    × (read (codes "(seq (object (final o) () (matcher (final m (noun any)) (call (noun o) f))) (call (noun o) f))") ≡ Ok case_5)
+    × (read (codes "(seq (object (final o) () (method coerce ((final s) (final e)) (seq (def (final x (noun o)) (noun s)) (noun x)))) (def (final y (noun o)) (lit 1)))") ≡ Ok case_6)
+    × (read (codes "(seq (object (final j) () (method run ((final p)) (def (list (final x)) exit (noun j) (noun p)))) (def (list (final x)) exit (noun j) (lit 1)))") ≡ Ok case_7)
+    × (read (codes "(seq (object (final o) () (method run ((final i) (final x)) (call (call (noun __makeList) run (lit 1)) iterate (noun o)))) (call (noun o) run (lit 1) (lit 2)))") ≡ Ok case_8)
+    × (read (codes "(seq (object (final o) () (method audit ((final n)) (call (noun n) ask (noun o)))) (object (final x) ((noun o))))") ≡ Ok case_9)
 
 -- with so much fuel and so great a depth, how each ends
 abbrev pub BoundsHold : Type 0

@@ -1,11 +1,17 @@
 -- How the opening turn of a vat that is alone ends.
-use Rattle.std.specs.Prelude.{ℕ, List, [], ◌∷◌, codes}
+use Rattle.std.specs.Prelude.{ℕ, List, [], ◌∷◌, ◌++◌, map, codes}
+use Rattle.ev_event.specs.Lines.{line_of}
 use Rattle.ev_machine.specs.Values.{Words}
 use Rattle.ev_kernel.specs.declared.node.Node.{Node}
-use Rattle.ev_run.specs.World.{Script, run}
-use Rattle.ev_run.specs.Text.{text_of, vat_names}
+use Rattle.ev_run.specs.World.{Script, Run, Goes, Stopped, run}
+use Rattle.ev_run.specs.Text.{vat_names, shown_events, stop_line}
 use Rattle.ev_machine_rows.specs.Keys.{zeros}
 use Rattle.ev_run.specs.Text.{opened_text}
+
+-- lines, each with its end
+unfoldable pub lines : List Words → Words
+lines [] = []
+lines (l ∷ ls) = l ++ 10 ∷ lines ls
 
 -- a script of one vat, with so much fuel and depth
 unfoldable pub alone : ℕ → ℕ → List Node → Script
@@ -18,13 +24,17 @@ last_line (l ∷ []) = l
 last_line (l ∷ m ∷ []) = l
 last_line (l ∷ m ∷ n ∷ ls) = last_line (m ∷ n ∷ ls)
 
+unfoldable pub ending_in : Script → Run → Words
+ending_in script (Goes w) = last_line (map (line_of (vat_names script)) (shown_events script w.history))
+ending_in script (Stopped c k w) = stop_line c k
+
 unfoldable pub ending_at : ℕ → ℕ → List Node → Words
-ending_at fuel depth tree = last_line (text_of (vat_names (alone fuel depth tree)) (run (alone fuel depth tree)))
+ending_at fuel depth tree = ending_in (alone fuel depth tree) (run (alone fuel depth tree))
 
 unfoldable pub ending_of : List Node → Words
 ending_of tree = ending_at 1000000 400 tree
 
 -- opens each definition of this file, and of those below
 unfoldable pub opened_endings : Unit {0}
-unfolding alone last_line ending_at ending_of opened_text
+unfolding lines alone last_line ending_in ending_at ending_of opened_text
 opened_endings = tt

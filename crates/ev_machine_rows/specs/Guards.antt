@@ -1,12 +1,11 @@
 -- Guards, ejectors and patterns.
-use Rattle.std.specs.Prelude.{◌≡◌, ℕ, pos, negsuc, List, [], ◌∷◌, Option, Some, None, codes}
-use Rattle.ev_machine.specs.Values.{Words}
+use Rattle.std.specs.Prelude.{◌≡◌, pos, List, [], ◌∷◌, Some, None, Ok, codes}
+use Rattle.ev_kernel.specs.Reading.{read}
 use Rattle.ev_machine_rows.specs.Endings.{ending_of}
 use Rattle.ev_kernel.specs.declared.node.Literal.TheVariants as literal
 use Rattle.ev_kernel.specs.declared.node.Node.{Node}
-use Rattle.ev_kernel.specs.declared.node.Node.TheVariants.{Lit, Noun, Set, Def, Call, Sequence, If, Escape, Try, Finally, Hide, MatchBind, Object, Method, Matcher, Final, Var, Any, ListPattern, Via}
+use Rattle.ev_kernel.specs.declared.node.Node.TheVariants.{Lit, Noun, Set, Def, Call, Sequence, If, Escape, Try, Finally, Hide, MatchBind, Object, Method, Final, Var, Any, ListPattern, Via}
 
--- (escape (final ej) (finally (call (noun ej) run (lit 1)) (call (noun ej) run (lit 2))))
 unfoldable pub case_0 : List Node
 case_0 =
     Escape 1 2 None
@@ -20,7 +19,6 @@ case_0 =
     ∷ Lit (literal.Int (pos 2))
     ∷ []
 
--- (escape (final ej) (call (noun ej) run))
 unfoldable pub case_1 : List Node
 case_1 =
     Escape 1 2 None
@@ -29,7 +27,6 @@ case_1 =
     ∷ Noun (codes "ej")
     ∷ []
 
--- (escape (final ej) (call (noun ej) run (lit 1)) (final x) (call (noun x) add (lit 1)))
 unfoldable pub case_2 : List Node
 case_2 =
     Escape 1 2 (Some (5, 6))
@@ -43,7 +40,6 @@ case_2 =
     ∷ Lit (literal.Int (pos 1))
     ∷ []
 
--- (escape (final ej) (try (call (noun ej) run (lit 1)) (any) (lit 3)))
 unfoldable pub case_3 : List Node
 case_3 =
     Escape 1 2 None
@@ -56,7 +52,6 @@ case_3 =
     ∷ Lit (literal.Int (pos 3))
     ∷ []
 
--- (escape (final ej) (call (noun ej) run (lit 1) (lit 2)))
 unfoldable pub case_4 : List Node
 case_4 =
     Escape 1 2 None
@@ -67,7 +62,6 @@ case_4 =
     ∷ Lit (literal.Int (pos 2))
     ∷ []
 
--- (seq (def (var x (noun int)) (lit 1)) (set x (lit 5)))
 unfoldable pub case_5 : List Node
 case_5 =
     Sequence (1 ∷ 5 ∷ [])
@@ -79,7 +73,6 @@ case_5 =
     ∷ Lit (literal.Int (pos 5))
     ∷ []
 
--- (seq (def (var x (noun int)) (lit 1)) (set x (lit "a")))
 unfoldable pub case_6 : List Node
 case_6 =
     Sequence (1 ∷ 5 ∷ [])
@@ -91,7 +84,6 @@ case_6 =
     ∷ Lit (literal.Text (codes "a"))
     ∷ []
 
--- (seq (def (var x (noun void)) (lit 1)) (set x (lit 5)))
 unfoldable pub case_7 : List Node
 case_7 =
     Sequence (1 ∷ 5 ∷ [])
@@ -103,7 +95,6 @@ case_7 =
     ∷ Lit (literal.Int (pos 5))
     ∷ []
 
--- (def (final x (noun void)) (lit 5))
 unfoldable pub case_8 : List Node
 case_8 =
     Def 1 None 3
@@ -112,7 +103,6 @@ case_8 =
     ∷ Lit (literal.Int (pos 5))
     ∷ []
 
--- (seq (def (final x (noun void)) (lit 5)) (noun x))
 unfoldable pub case_9 : List Node
 case_9 =
     Sequence (1 ∷ 5 ∷ [])
@@ -123,7 +113,6 @@ case_9 =
     ∷ Noun (codes "x")
     ∷ []
 
--- (def (final x (noun int)) exit (noun null) (lit "a"))
 unfoldable pub case_10 : List Node
 case_10 =
     Def 1 (Some 3) 4
@@ -133,7 +122,6 @@ case_10 =
     ∷ Lit (literal.Text (codes "a"))
     ∷ []
 
--- (def (final x (noun int)) exit (lit 5) (lit "a"))
 unfoldable pub case_11 : List Node
 case_11 =
     Def 1 (Some 3) 4
@@ -143,7 +131,6 @@ case_11 =
     ∷ Lit (literal.Text (codes "a"))
     ∷ []
 
--- (def (final x (lit 5)) (lit "a"))
 unfoldable pub case_12 : List Node
 case_12 =
     Def 1 None 3
@@ -152,7 +139,6 @@ case_12 =
     ∷ Lit (literal.Text (codes "a"))
     ∷ []
 
--- (def (final x (call (noun nullOk) get (noun int))) (lit "a"))
 unfoldable pub case_13 : List Node
 case_13 =
     Def 1 None 5
@@ -163,7 +149,6 @@ case_13 =
     ∷ Lit (literal.Text (codes "a"))
     ∷ []
 
--- (seq (def (final x (call (noun nullOk) get (noun void))) (lit "a")) (noun x))
 unfoldable pub case_14 : List Node
 case_14 =
     Sequence (1 ∷ 7 ∷ [])
@@ -176,7 +161,6 @@ case_14 =
     ∷ Noun (codes "x")
     ∷ []
 
--- (def (final x (noun nullOk)) (noun null))
 unfoldable pub case_15 : List Node
 case_15 =
     Def 1 None 3
@@ -185,7 +169,6 @@ case_15 =
     ∷ Noun (codes "null")
     ∷ []
 
--- (def (final x (noun nullOk)) (lit 1))
 unfoldable pub case_16 : List Node
 case_16 =
     Def 1 None 3
@@ -194,7 +177,6 @@ case_16 =
     ∷ Lit (literal.Int (pos 1))
     ∷ []
 
--- (call (noun nullOk) get (noun nullOk))
 unfoldable pub case_17 : List Node
 case_17 =
     Call 1 (codes "get") (2 ∷ [])
@@ -202,7 +184,6 @@ case_17 =
     ∷ Noun (codes "nullOk")
     ∷ []
 
--- (call (noun nullOk) get (noun List))
 unfoldable pub case_18 : List Node
 case_18 =
     Call 1 (codes "get") (2 ∷ [])
@@ -210,7 +191,6 @@ case_18 =
     ∷ Noun (codes "List")
     ∷ []
 
--- (seq (def (list (final p) (final r)) (call (noun Ref) promise)) (call (noun r) resolve (lit 5)) (def (final x) (noun p)))
 unfoldable pub case_19 : List Node
 case_19 =
     Sequence (1 ∷ 7 ∷ 10 ∷ [])
@@ -228,7 +208,6 @@ case_19 =
     ∷ Noun (codes "p")
     ∷ []
 
--- (seq (def (list (final p) (final r)) (call (noun Ref) promise)) (call (noun r) resolve (lit 5)) (def (final x (noun int)) (noun p)) (call (noun __makeList) run (noun x)))
 unfoldable pub case_20 : List Node
 case_20 =
     Sequence (1 ∷ 7 ∷ 10 ∷ 14 ∷ [])
@@ -250,7 +229,6 @@ case_20 =
     ∷ Noun (codes "x")
     ∷ []
 
--- (def (list (final x) (final y)) (call (noun __makeList) run (lit 1)))
 unfoldable pub case_21 : List Node
 case_21 =
     Def 1 None 4
@@ -262,7 +240,6 @@ case_21 =
     ∷ Lit (literal.Int (pos 1))
     ∷ []
 
--- (seq (def (list (final x) (final y)) (call (noun __makeList) run (lit 1) (lit 2))) (noun y))
 unfoldable pub case_22 : List Node
 case_22 =
     Sequence (1 ∷ 9 ∷ [])
@@ -277,7 +254,6 @@ case_22 =
     ∷ Noun (codes "y")
     ∷ []
 
--- (seq (match (lit 5) (list (final a) (var b))) (noun a))
 unfoldable pub case_23 : List Node
 case_23 =
     Sequence (1 ∷ 6 ∷ [])
@@ -289,7 +265,6 @@ case_23 =
     ∷ Noun (codes "a")
     ∷ []
 
--- (match (lit 5) (final a))
 unfoldable pub case_24 : List Node
 case_24 =
     MatchBind 1 2
@@ -297,7 +272,6 @@ case_24 =
     ∷ Final (codes "a") None
     ∷ []
 
--- (match (lit 5) (final a (noun String)))
 unfoldable pub case_25 : List Node
 case_25 =
     MatchBind 1 2
@@ -306,7 +280,6 @@ case_25 =
     ∷ Noun (codes "String")
     ∷ []
 
--- (seq (object (final g) () (method coerce ((final s) (final e)) (call (noun s) add (lit 1)))) (def (final x (noun g)) (lit 4)) (noun x))
 unfoldable pub case_26 : List Node
 case_26 =
     Sequence (1 ∷ 9 ∷ 13 ∷ [])
@@ -325,7 +298,6 @@ case_26 =
     ∷ Noun (codes "x")
     ∷ []
 
--- (seq (object (final g) () (method run ((final s) (final e)) (noun e))) (def (via (noun g) (final x)) (lit 4)) (noun x))
 unfoldable pub case_27 : List Node
 case_27 =
     Sequence (1 ∷ 7 ∷ 12 ∷ [])
@@ -343,7 +315,6 @@ case_27 =
     ∷ Noun (codes "x")
     ∷ []
 
--- (if (lit 1) (lit 2) (lit 3))
 unfoldable pub case_28 : List Node
 case_28 =
     If 1 2 3
@@ -352,7 +323,6 @@ case_28 =
     ∷ Lit (literal.Int (pos 3))
     ∷ []
 
--- (if (noun false) (lit 2) (lit 3))
 unfoldable pub case_29 : List Node
 case_29 =
     If 1 2 3
@@ -361,7 +331,6 @@ case_29 =
     ∷ Lit (literal.Int (pos 3))
     ∷ []
 
--- (try (call (noun throw) run (lit "x")) (final e) (noun e))
 unfoldable pub case_30 : List Node
 case_30 =
     Try 1 4 5
@@ -372,7 +341,6 @@ case_30 =
     ∷ Noun (codes "e")
     ∷ []
 
--- (hide (call (noun throw) run (lit 5)))
 unfoldable pub case_31 : List Node
 case_31 =
     Hide 1
@@ -381,7 +349,6 @@ case_31 =
     ∷ Lit (literal.Int (pos 5))
     ∷ []
 
--- (finally (call (noun throw) run (lit "x")) (call (noun throw) run (lit "y")))
 unfoldable pub case_32 : List Node
 case_32 =
     Finally 1 4
@@ -393,7 +360,6 @@ case_32 =
     ∷ Lit (literal.Text (codes "y"))
     ∷ []
 
--- (call (noun int) coerce (lit 3) (noun null))
 unfoldable pub case_33 : List Node
 case_33 =
     Call 1 (codes "coerce") (2 ∷ 3 ∷ [])
@@ -402,7 +368,6 @@ case_33 =
     ∷ Noun (codes "null")
     ∷ []
 
--- (escape (final ej) (call (noun char) coerce (lit 3) (noun ej)))
 unfoldable pub case_34 : List Node
 case_34 =
     Escape 1 2 None
@@ -413,7 +378,6 @@ case_34 =
     ∷ Noun (codes "ej")
     ∷ []
 
--- (def (final x (noun DeepFrozen)) (call (noun __makeList) run (lit 1) (call (noun __makeList) run (lit "a"))))
 unfoldable pub case_35 : List Node
 case_35 =
     Def 1 None 3
@@ -427,7 +391,6 @@ case_35 =
     ∷ Lit (literal.Text (codes "a"))
     ∷ []
 
--- (seq (object (final o) ()) (def (final x (noun DeepFrozen)) (call (noun __makeList) run (noun o))))
 unfoldable pub case_36 : List Node
 case_36 =
     Sequence (1 ∷ 3 ∷ [])
@@ -441,7 +404,6 @@ case_36 =
     ∷ Noun (codes "o")
     ∷ []
 
--- (seq (object (final o) ()) (def (final x (noun near)) (noun o)) (noun x))
 unfoldable pub case_37 : List Node
 case_37 =
     Sequence (1 ∷ 3 ∷ 7 ∷ [])
@@ -454,7 +416,6 @@ case_37 =
     ∷ Noun (codes "x")
     ∷ []
 
--- (seq (def (list (final p) (final r)) (call (noun Ref) promise)) (def (final x (noun near)) (noun p)))
 unfoldable pub case_38 : List Node
 case_38 =
     Sequence (1 ∷ 7 ∷ [])
@@ -469,6 +430,49 @@ case_38 =
     ∷ Noun (codes "near")
     ∷ Noun (codes "p")
     ∷ []
+
+-- the trees are those of these forms
+abbrev pub GuardsRead : Type 0
+GuardsRead =
+    (read (codes "(escape (final ej) (finally (call (noun ej) run (lit 1)) (call (noun ej) run (lit 2))))") ≡ Ok case_0)
+    × (read (codes "(escape (final ej) (call (noun ej) run))") ≡ Ok case_1)
+    × (read (codes "(escape (final ej) (call (noun ej) run (lit 1)) (final x) (call (noun x) add (lit 1)))") ≡ Ok case_2)
+    × (read (codes "(escape (final ej) (try (call (noun ej) run (lit 1)) (any) (lit 3)))") ≡ Ok case_3)
+    × (read (codes "(escape (final ej) (call (noun ej) run (lit 1) (lit 2)))") ≡ Ok case_4)
+    × (read (codes "(seq (def (var x (noun int)) (lit 1)) (set x (lit 5)))") ≡ Ok case_5)
+    × (read (codes "(seq (def (var x (noun int)) (lit 1)) (set x (lit \"a\")))") ≡ Ok case_6)
+    × (read (codes "(seq (def (var x (noun void)) (lit 1)) (set x (lit 5)))") ≡ Ok case_7)
+    × (read (codes "(def (final x (noun void)) (lit 5))") ≡ Ok case_8)
+    × (read (codes "(seq (def (final x (noun void)) (lit 5)) (noun x))") ≡ Ok case_9)
+    × (read (codes "(def (final x (noun int)) exit (noun null) (lit \"a\"))") ≡ Ok case_10)
+    × (read (codes "(def (final x (noun int)) exit (lit 5) (lit \"a\"))") ≡ Ok case_11)
+    × (read (codes "(def (final x (lit 5)) (lit \"a\"))") ≡ Ok case_12)
+    × (read (codes "(def (final x (call (noun nullOk) get (noun int))) (lit \"a\"))") ≡ Ok case_13)
+    × (read (codes "(seq (def (final x (call (noun nullOk) get (noun void))) (lit \"a\")) (noun x))") ≡ Ok case_14)
+    × (read (codes "(def (final x (noun nullOk)) (noun null))") ≡ Ok case_15)
+    × (read (codes "(def (final x (noun nullOk)) (lit 1))") ≡ Ok case_16)
+    × (read (codes "(call (noun nullOk) get (noun nullOk))") ≡ Ok case_17)
+    × (read (codes "(call (noun nullOk) get (noun List))") ≡ Ok case_18)
+    × (read (codes "(seq (def (list (final p) (final r)) (call (noun Ref) promise)) (call (noun r) resolve (lit 5)) (def (final x) (noun p)))") ≡ Ok case_19)
+    × (read (codes "(seq (def (list (final p) (final r)) (call (noun Ref) promise)) (call (noun r) resolve (lit 5)) (def (final x (noun int)) (noun p)) (call (noun __makeList) run (noun x)))") ≡ Ok case_20)
+    × (read (codes "(def (list (final x) (final y)) (call (noun __makeList) run (lit 1)))") ≡ Ok case_21)
+    × (read (codes "(seq (def (list (final x) (final y)) (call (noun __makeList) run (lit 1) (lit 2))) (noun y))") ≡ Ok case_22)
+    × (read (codes "(seq (match (lit 5) (list (final a) (var b))) (noun a))") ≡ Ok case_23)
+    × (read (codes "(match (lit 5) (final a))") ≡ Ok case_24)
+    × (read (codes "(match (lit 5) (final a (noun String)))") ≡ Ok case_25)
+    × (read (codes "(seq (object (final g) () (method coerce ((final s) (final e)) (call (noun s) add (lit 1)))) (def (final x (noun g)) (lit 4)) (noun x))") ≡ Ok case_26)
+    × (read (codes "(seq (object (final g) () (method run ((final s) (final e)) (noun e))) (def (via (noun g) (final x)) (lit 4)) (noun x))") ≡ Ok case_27)
+    × (read (codes "(if (lit 1) (lit 2) (lit 3))") ≡ Ok case_28)
+    × (read (codes "(if (noun false) (lit 2) (lit 3))") ≡ Ok case_29)
+    × (read (codes "(try (call (noun throw) run (lit \"x\")) (final e) (noun e))") ≡ Ok case_30)
+    × (read (codes "(hide (call (noun throw) run (lit 5)))") ≡ Ok case_31)
+    × (read (codes "(finally (call (noun throw) run (lit \"x\")) (call (noun throw) run (lit \"y\")))") ≡ Ok case_32)
+    × (read (codes "(call (noun int) coerce (lit 3) (noun null))") ≡ Ok case_33)
+    × (read (codes "(escape (final ej) (call (noun char) coerce (lit 3) (noun ej)))") ≡ Ok case_34)
+    × (read (codes "(def (final x (noun DeepFrozen)) (call (noun __makeList) run (lit 1) (call (noun __makeList) run (lit \"a\"))))") ≡ Ok case_35)
+    × (read (codes "(seq (object (final o) ()) (def (final x (noun DeepFrozen)) (call (noun __makeList) run (noun o))))") ≡ Ok case_36)
+    × (read (codes "(seq (object (final o) ()) (def (final x (noun near)) (noun o)) (noun x))") ≡ Ok case_37)
+    × (read (codes "(seq (def (list (final p) (final r)) (call (noun Ref) promise)) (def (final x (noun near)) (noun p)))") ≡ Ok case_38)
 
 -- how each ends
 abbrev pub GuardsHold : Type 0

@@ -1,4 +1,5 @@
 pub mod Keys
+pub mod Endings
 pub mod Row01
 pub mod Row02
 pub mod Row03
@@ -24,8 +25,9 @@ pub mod SecondCut
 pub mod OrderOverACut
 pub mod AuditorThrows
 pub mod Row21
+pub mod Row11Wire
+pub mod Row14Wire
 pub mod Row19
-pub mod Endings
 pub mod Guards
 pub mod Natives
 pub mod References

@@ -1,12 +1,11 @@
 -- What data and primitives answer.
-use Rattle.std.specs.Prelude.{◌≡◌, ℕ, pos, negsuc, List, [], ◌∷◌, Option, Some, None, codes}
-use Rattle.ev_machine.specs.Values.{Words}
+use Rattle.std.specs.Prelude.{◌≡◌, pos, List, [], ◌∷◌, None, Ok, codes}
+use Rattle.ev_kernel.specs.Reading.{read}
 use Rattle.ev_machine_rows.specs.Endings.{ending_of}
 use Rattle.ev_kernel.specs.declared.node.Literal.TheVariants as literal
 use Rattle.ev_kernel.specs.declared.node.Node.{Node}
-use Rattle.ev_kernel.specs.declared.node.Node.TheVariants.{Lit, Noun, Set, Def, Call, Sequence, If, Escape, Try, Finally, Hide, MatchBind, Object, Method, Matcher, Final, Var, Any, ListPattern, Via}
+use Rattle.ev_kernel.specs.declared.node.Node.TheVariants.{Lit, Noun, Set, Def, Call, Sequence, Object, Method, Final, Var, Any, ListPattern}
 
--- (call (lit 2) pow (lit 10))
 unfoldable pub case_0 : List Node
 case_0 =
     Call 1 (codes "pow") (2 ∷ [])
@@ -14,7 +13,6 @@ case_0 =
     ∷ Lit (literal.Int (pos 10))
     ∷ []
 
--- (call (lit 2) pow (call (lit 1) negate))
 unfoldable pub case_1 : List Node
 case_1 =
     Call 1 (codes "pow") (2 ∷ [])
@@ -23,7 +21,6 @@ case_1 =
     ∷ Lit (literal.Int (pos 1))
     ∷ []
 
--- (call (lit 7) floorDivide (call (lit 2) negate))
 unfoldable pub case_2 : List Node
 case_2 =
     Call 1 (codes "floorDivide") (2 ∷ [])
@@ -32,7 +29,6 @@ case_2 =
     ∷ Lit (literal.Int (pos 2))
     ∷ []
 
--- (call (call (lit 7) negate) remainder (lit 2))
 unfoldable pub case_3 : List Node
 case_3 =
     Call 1 (codes "remainder") (3 ∷ [])
@@ -41,7 +37,6 @@ case_3 =
     ∷ Lit (literal.Int (pos 2))
     ∷ []
 
--- (call (call (lit 7) negate) mod (lit 2))
 unfoldable pub case_4 : List Node
 case_4 =
     Call 1 (codes "mod") (3 ∷ [])
@@ -50,7 +45,6 @@ case_4 =
     ∷ Lit (literal.Int (pos 2))
     ∷ []
 
--- (call (lit 1) mod (lit 0))
 unfoldable pub case_5 : List Node
 case_5 =
     Call 1 (codes "mod") (2 ∷ [])
@@ -58,7 +52,6 @@ case_5 =
     ∷ Lit (literal.Int (pos 0))
     ∷ []
 
--- (call (lit 12) xor (lit 10))
 unfoldable pub case_6 : List Node
 case_6 =
     Call 1 (codes "xor") (2 ∷ [])
@@ -66,7 +59,6 @@ case_6 =
     ∷ Lit (literal.Int (pos 10))
     ∷ []
 
--- (call (call (lit 1) negate) and (lit 255))
 unfoldable pub case_7 : List Node
 case_7 =
     Call 1 (codes "and") (3 ∷ [])
@@ -75,21 +67,18 @@ case_7 =
     ∷ Lit (literal.Int (pos 255))
     ∷ []
 
--- (call (lit 97) asChar)
 unfoldable pub case_8 : List Node
 case_8 =
     Call 1 (codes "asChar") []
     ∷ Lit (literal.Int (pos 97))
     ∷ []
 
--- (call (lit 55296) asChar)
 unfoldable pub case_9 : List Node
 case_9 =
     Call 1 (codes "asChar") []
     ∷ Lit (literal.Int (pos 55296))
     ∷ []
 
--- (call (lit 1) add (lit "a"))
 unfoldable pub case_10 : List Node
 case_10 =
     Call 1 (codes "add") (2 ∷ [])
@@ -97,14 +86,12 @@ case_10 =
     ∷ Lit (literal.Text (codes "a"))
     ∷ []
 
--- (call (lit 1) zip)
 unfoldable pub case_11 : List Node
 case_11 =
     Call 1 (codes "zip") []
     ∷ Lit (literal.Int (pos 1))
     ∷ []
 
--- (call (noun true) xor (noun true))
 unfoldable pub case_12 : List Node
 case_12 =
     Call 1 (codes "xor") (2 ∷ [])
@@ -112,7 +99,6 @@ case_12 =
     ∷ Noun (codes "true")
     ∷ []
 
--- (call (noun true) and (lit 1))
 unfoldable pub case_13 : List Node
 case_13 =
     Call 1 (codes "and") (2 ∷ [])
@@ -120,21 +106,18 @@ case_13 =
     ∷ Lit (literal.Int (pos 1))
     ∷ []
 
--- (call (lit 'a') asInteger)
 unfoldable pub case_14 : List Node
 case_14 =
     Call 1 (codes "asInteger") []
     ∷ Lit (literal.Char 97)
     ∷ []
 
--- (call (lit "abc") size)
 unfoldable pub case_15 : List Node
 case_15 =
     Call 1 (codes "size") []
     ∷ Lit (literal.Text (codes "abc"))
     ∷ []
 
--- (call (lit "abc") get (lit 1))
 unfoldable pub case_16 : List Node
 case_16 =
     Call 1 (codes "get") (2 ∷ [])
@@ -142,7 +125,6 @@ case_16 =
     ∷ Lit (literal.Int (pos 1))
     ∷ []
 
--- (call (lit "abc") get (lit 3))
 unfoldable pub case_17 : List Node
 case_17 =
     Call 1 (codes "get") (2 ∷ [])
@@ -150,7 +132,6 @@ case_17 =
     ∷ Lit (literal.Int (pos 3))
     ∷ []
 
--- (call (lit "abc") get (lit "x"))
 unfoldable pub case_18 : List Node
 case_18 =
     Call 1 (codes "get") (2 ∷ [])
@@ -158,7 +139,6 @@ case_18 =
     ∷ Lit (literal.Text (codes "x"))
     ∷ []
 
--- (call (lit "abcd") run (lit 1) (lit 3))
 unfoldable pub case_19 : List Node
 case_19 =
     Call 1 (codes "run") (2 ∷ 3 ∷ [])
@@ -167,7 +147,6 @@ case_19 =
     ∷ Lit (literal.Int (pos 3))
     ∷ []
 
--- (call (lit "abcd") run (lit 3) (lit 1))
 unfoldable pub case_20 : List Node
 case_20 =
     Call 1 (codes "run") (2 ∷ 3 ∷ [])
@@ -176,7 +155,6 @@ case_20 =
     ∷ Lit (literal.Int (pos 1))
     ∷ []
 
--- (call (lit "a") add (lit 1))
 unfoldable pub case_21 : List Node
 case_21 =
     Call 1 (codes "add") (2 ∷ [])
@@ -184,7 +162,6 @@ case_21 =
     ∷ Lit (literal.Int (pos 1))
     ∷ []
 
--- (call (lit "a") add (lit 'b'))
 unfoldable pub case_22 : List Node
 case_22 =
     Call 1 (codes "add") (2 ∷ [])
@@ -192,7 +169,6 @@ case_22 =
     ∷ Lit (literal.Char 98)
     ∷ []
 
--- (call (lit "a") add (noun null))
 unfoldable pub case_23 : List Node
 case_23 =
     Call 1 (codes "add") (2 ∷ [])
@@ -200,7 +176,6 @@ case_23 =
     ∷ Noun (codes "null")
     ∷ []
 
--- (call (lit "a") add (call (noun __makeList) run))
 unfoldable pub case_24 : List Node
 case_24 =
     Call 1 (codes "add") (2 ∷ [])
@@ -209,7 +184,6 @@ case_24 =
     ∷ Noun (codes "__makeList")
     ∷ []
 
--- (call (call (noun __makeList) run (lit 1) (lit 2)) size)
 unfoldable pub case_25 : List Node
 case_25 =
     Call 1 (codes "size") []
@@ -219,7 +193,6 @@ case_25 =
     ∷ Lit (literal.Int (pos 2))
     ∷ []
 
--- (call (call (noun __makeList) run (lit 1) (lit 2)) get (lit 1))
 unfoldable pub case_26 : List Node
 case_26 =
     Call 1 (codes "get") (5 ∷ [])
@@ -230,7 +203,6 @@ case_26 =
     ∷ Lit (literal.Int (pos 1))
     ∷ []
 
--- (call (call (call (noun __makeList) run (lit 1) (lit 2)) with (lit 3)) get (lit 2))
 unfoldable pub case_27 : List Node
 case_27 =
     Call 1 (codes "get") (7 ∷ [])
@@ -243,7 +215,6 @@ case_27 =
     ∷ Lit (literal.Int (pos 2))
     ∷ []
 
--- (call (call (call (noun __makeList) run (lit 1) (lit 2)) add (call (noun __makeList) run (lit 4))) size)
 unfoldable pub case_28 : List Node
 case_28 =
     Call 1 (codes "size") []
@@ -257,7 +228,6 @@ case_28 =
     ∷ Lit (literal.Int (pos 4))
     ∷ []
 
--- (call (call (noun __makeList) run (lit 1)) add (lit 1))
 unfoldable pub case_29 : List Node
 case_29 =
     Call 1 (codes "add") (4 ∷ [])
@@ -267,7 +237,6 @@ case_29 =
     ∷ Lit (literal.Int (pos 1))
     ∷ []
 
--- (call (call (call (noun __makeList) run (lit 1) (lit 2) (lit 3)) run (lit 1) (lit 3)) get (lit 0))
 unfoldable pub case_30 : List Node
 case_30 =
     Call 1 (codes "get") (9 ∷ [])
@@ -282,7 +251,6 @@ case_30 =
     ∷ Lit (literal.Int (pos 0))
     ∷ []
 
--- (call (call (noun __makeList) through (lit 1) (lit 3)) size)
 unfoldable pub case_31 : List Node
 case_31 =
     Call 1 (codes "size") []
@@ -292,7 +260,6 @@ case_31 =
     ∷ Lit (literal.Int (pos 3))
     ∷ []
 
--- (call (call (noun __makeList) till (lit 1) (lit 3)) size)
 unfoldable pub case_32 : List Node
 case_32 =
     Call 1 (codes "size") []
@@ -302,7 +269,6 @@ case_32 =
     ∷ Lit (literal.Int (pos 3))
     ∷ []
 
--- (call (call (noun __makeList) through (lit 3) (lit 1)) size)
 unfoldable pub case_33 : List Node
 case_33 =
     Call 1 (codes "size") []
@@ -312,7 +278,6 @@ case_33 =
     ∷ Lit (literal.Int (pos 1))
     ∷ []
 
--- (call (noun __makeList) through (lit 1) (lit 65536))
 unfoldable pub case_34 : List Node
 case_34 =
     Call 1 (codes "through") (2 ∷ 3 ∷ [])
@@ -321,7 +286,6 @@ case_34 =
     ∷ Lit (literal.Int (pos 65536))
     ∷ []
 
--- (call (noun __makeList) till (lit "a") (lit 65536))
 unfoldable pub case_35 : List Node
 case_35 =
     Call 1 (codes "till") (2 ∷ 3 ∷ [])
@@ -330,7 +294,6 @@ case_35 =
     ∷ Lit (literal.Int (pos 65536))
     ∷ []
 
--- (call (noun __comparer) lessThan (lit "a") (lit "ab"))
 unfoldable pub case_36 : List Node
 case_36 =
     Call 1 (codes "lessThan") (2 ∷ 3 ∷ [])
@@ -339,7 +302,6 @@ case_36 =
     ∷ Lit (literal.Text (codes "ab"))
     ∷ []
 
--- (call (noun __comparer) geq (lit 'a') (lit 'b'))
 unfoldable pub case_37 : List Node
 case_37 =
     Call 1 (codes "geq") (2 ∷ 3 ∷ [])
@@ -348,7 +310,6 @@ case_37 =
     ∷ Lit (literal.Char 98)
     ∷ []
 
--- (call (noun __comparer) asBigAs (lit 3) (lit 3))
 unfoldable pub case_38 : List Node
 case_38 =
     Call 1 (codes "asBigAs") (2 ∷ 3 ∷ [])
@@ -357,7 +318,6 @@ case_38 =
     ∷ Lit (literal.Int (pos 3))
     ∷ []
 
--- (call (noun __comparer) lessThan (lit 1) (lit 'a'))
 unfoldable pub case_39 : List Node
 case_39 =
     Call 1 (codes "lessThan") (2 ∷ 3 ∷ [])
@@ -366,7 +326,6 @@ case_39 =
     ∷ Lit (literal.Char 97)
     ∷ []
 
--- (call (noun __equalizer) sameEver (call (noun __makeList) run (lit 1) (call (noun __makeList) run (lit "a"))) (call (noun __makeList) run (lit 1) (call (noun __makeList) run (lit "a"))))
 unfoldable pub case_40 : List Node
 case_40 =
     Call 1 (codes "sameEver") (2 ∷ 8 ∷ [])
@@ -385,7 +344,6 @@ case_40 =
     ∷ Lit (literal.Text (codes "a"))
     ∷ []
 
--- (call (noun __equalizer) sameEver (call (noun __makeList) run (lit 1)) (call (noun __makeList) run (lit 1) (lit 2)))
 unfoldable pub case_41 : List Node
 case_41 =
     Call 1 (codes "sameEver") (2 ∷ 5 ∷ [])
@@ -399,7 +357,6 @@ case_41 =
     ∷ Lit (literal.Int (pos 2))
     ∷ []
 
--- (call (noun __equalizer) sameEver (call (noun Ref) broken (lit "x")) (call (noun Ref) broken (lit "x")))
 unfoldable pub case_42 : List Node
 case_42 =
     Call 1 (codes "sameEver") (2 ∷ 5 ∷ [])
@@ -412,7 +369,6 @@ case_42 =
     ∷ Lit (literal.Text (codes "x"))
     ∷ []
 
--- (seq (def (list (final p) (final r)) (call (noun Ref) promise)) (call (noun __equalizer) sameEver (noun p) (noun p)))
 unfoldable pub case_43 : List Node
 case_43 =
     Sequence (1 ∷ 7 ∷ [])
@@ -428,7 +384,6 @@ case_43 =
     ∷ Noun (codes "p")
     ∷ []
 
--- (call (noun E) call (lit 1) (lit "add") (call (noun __makeList) run (lit 2)))
 unfoldable pub case_44 : List Node
 case_44 =
     Call 1 (codes "call") (2 ∷ 3 ∷ 4 ∷ [])
@@ -440,7 +395,6 @@ case_44 =
     ∷ Lit (literal.Int (pos 2))
     ∷ []
 
--- (call (noun E) call (noun E) (lit "call") (call (noun __makeList) run (lit 1) (lit "add") (call (noun __makeList) run (lit 2))))
 unfoldable pub case_45 : List Node
 case_45 =
     Call 1 (codes "call") (2 ∷ 3 ∷ 4 ∷ [])
@@ -456,7 +410,6 @@ case_45 =
     ∷ Lit (literal.Int (pos 2))
     ∷ []
 
--- (call (noun E) call (lit 1) (lit 2) (call (noun __makeList) run))
 unfoldable pub case_46 : List Node
 case_46 =
     Call 1 (codes "call") (2 ∷ 3 ∷ 4 ∷ [])
@@ -467,7 +420,6 @@ case_46 =
     ∷ Noun (codes "__makeList")
     ∷ []
 
--- (call (noun __loop) run (object (any) () (method run () (noun false))))
 unfoldable pub case_47 : List Node
 case_47 =
     Call 1 (codes "run") (2 ∷ [])
@@ -478,7 +430,6 @@ case_47 =
     ∷ Noun (codes "false")
     ∷ []
 
--- (call (noun __loop) run (object (any) () (method run () (noun null))))
 unfoldable pub case_48 : List Node
 case_48 =
     Call 1 (codes "run") (2 ∷ [])
@@ -489,7 +440,6 @@ case_48 =
     ∷ Noun (codes "null")
     ∷ []
 
--- (seq (def (var s) (lit 0)) (call (call (noun __makeList) run (lit 5) (lit 6)) iterate (object (any) () (method run ((final k) (final v)) (set s (call (call (noun s) multiply (lit 10)) add (call (noun k) add (noun v))))))) (noun s))
 unfoldable pub case_49 : List Node
 case_49 =
     Sequence (1 ∷ 4 ∷ 22 ∷ [])
@@ -517,7 +467,6 @@ case_49 =
     ∷ Noun (codes "s")
     ∷ []
 
--- (call (lit "ab") iterate (object (any) () (method run ((final k) (final v)) (noun v))))
 unfoldable pub case_50 : List Node
 case_50 =
     Call 1 (codes "iterate") (2 ∷ [])
@@ -529,6 +478,61 @@ case_50 =
     ∷ Final (codes "v") None
     ∷ Noun (codes "v")
     ∷ []
+
+-- the trees are those of these forms
+abbrev pub NativesRead : Type 0
+NativesRead =
+    (read (codes "(call (lit 2) pow (lit 10))") ≡ Ok case_0)
+    × (read (codes "(call (lit 2) pow (call (lit 1) negate))") ≡ Ok case_1)
+    × (read (codes "(call (lit 7) floorDivide (call (lit 2) negate))") ≡ Ok case_2)
+    × (read (codes "(call (call (lit 7) negate) remainder (lit 2))") ≡ Ok case_3)
+    × (read (codes "(call (call (lit 7) negate) mod (lit 2))") ≡ Ok case_4)
+    × (read (codes "(call (lit 1) mod (lit 0))") ≡ Ok case_5)
+    × (read (codes "(call (lit 12) xor (lit 10))") ≡ Ok case_6)
+    × (read (codes "(call (call (lit 1) negate) and (lit 255))") ≡ Ok case_7)
+    × (read (codes "(call (lit 97) asChar)") ≡ Ok case_8)
+    × (read (codes "(call (lit 55296) asChar)") ≡ Ok case_9)
+    × (read (codes "(call (lit 1) add (lit \"a\"))") ≡ Ok case_10)
+    × (read (codes "(call (lit 1) zip)") ≡ Ok case_11)
+    × (read (codes "(call (noun true) xor (noun true))") ≡ Ok case_12)
+    × (read (codes "(call (noun true) and (lit 1))") ≡ Ok case_13)
+    × (read (codes "(call (lit 'a') asInteger)") ≡ Ok case_14)
+    × (read (codes "(call (lit \"abc\") size)") ≡ Ok case_15)
+    × (read (codes "(call (lit \"abc\") get (lit 1))") ≡ Ok case_16)
+    × (read (codes "(call (lit \"abc\") get (lit 3))") ≡ Ok case_17)
+    × (read (codes "(call (lit \"abc\") get (lit \"x\"))") ≡ Ok case_18)
+    × (read (codes "(call (lit \"abcd\") run (lit 1) (lit 3))") ≡ Ok case_19)
+    × (read (codes "(call (lit \"abcd\") run (lit 3) (lit 1))") ≡ Ok case_20)
+    × (read (codes "(call (lit \"a\") add (lit 1))") ≡ Ok case_21)
+    × (read (codes "(call (lit \"a\") add (lit 'b'))") ≡ Ok case_22)
+    × (read (codes "(call (lit \"a\") add (noun null))") ≡ Ok case_23)
+    × (read (codes "(call (lit \"a\") add (call (noun __makeList) run))") ≡ Ok case_24)
+    × (read (codes "(call (call (noun __makeList) run (lit 1) (lit 2)) size)") ≡ Ok case_25)
+    × (read (codes "(call (call (noun __makeList) run (lit 1) (lit 2)) get (lit 1))") ≡ Ok case_26)
+    × (read (codes "(call (call (call (noun __makeList) run (lit 1) (lit 2)) with (lit 3)) get (lit 2))") ≡ Ok case_27)
+    × (read (codes "(call (call (call (noun __makeList) run (lit 1) (lit 2)) add (call (noun __makeList) run (lit 4))) size)") ≡ Ok case_28)
+    × (read (codes "(call (call (noun __makeList) run (lit 1)) add (lit 1))") ≡ Ok case_29)
+    × (read (codes "(call (call (call (noun __makeList) run (lit 1) (lit 2) (lit 3)) run (lit 1) (lit 3)) get (lit 0))") ≡ Ok case_30)
+    × (read (codes "(call (call (noun __makeList) through (lit 1) (lit 3)) size)") ≡ Ok case_31)
+    × (read (codes "(call (call (noun __makeList) till (lit 1) (lit 3)) size)") ≡ Ok case_32)
+    × (read (codes "(call (call (noun __makeList) through (lit 3) (lit 1)) size)") ≡ Ok case_33)
+    × (read (codes "(call (noun __makeList) through (lit 1) (lit 65536))") ≡ Ok case_34)
+    × (read (codes "(call (noun __makeList) till (lit \"a\") (lit 65536))") ≡ Ok case_35)
+    × (read (codes "(call (noun __comparer) lessThan (lit \"a\") (lit \"ab\"))") ≡ Ok case_36)
+    × (read (codes "(call (noun __comparer) geq (lit 'a') (lit 'b'))") ≡ Ok case_37)
+    × (read (codes "(call (noun __comparer) asBigAs (lit 3) (lit 3))") ≡ Ok case_38)
+    × (read (codes "(call (noun __comparer) lessThan (lit 1) (lit 'a'))") ≡ Ok case_39)
+    × (read (codes "(call (noun __equalizer) sameEver (call (noun __makeList) run (lit 1) (call (noun __makeList) run (lit \"a\"))) (call (noun __makeList) run (lit 1) (call (noun __makeList) run (lit \"a\"))))") ≡ Ok case_40)
+    × (read (codes "(call (noun __equalizer) sameEver (call (noun __makeList) run (lit 1)) (call (noun __makeList) run (lit 1) (lit 2)))") ≡ Ok case_41)
+    × (read (codes "(call (noun __equalizer) sameEver (call (noun Ref) broken (lit \"x\")) (call (noun Ref) broken (lit \"x\")))") ≡ Ok case_42)
+    × (read (codes "(seq (def (list (final p) (final r)) (call (noun Ref) promise)) (call (noun __equalizer) sameEver (noun p) (noun p)))") ≡ Ok case_43)
+    × (read (codes "(call (noun E) call (lit 1) (lit \"add\") (call (noun __makeList) run (lit 2)))") ≡ Ok case_44)
+    × (read (codes "(call (noun E) call (noun E) (lit \"call\") (call (noun __makeList) run (lit 1) (lit \"add\") (call (noun __makeList) run (lit 2))))") ≡ Ok case_45)
+    × (read (codes "(call (noun E) call (lit 1) (lit 2) (call (noun __makeList) run))") ≡ Ok case_46)
+    × (read (codes "(call (noun __loop) run (object (any) () (method run () (noun false))))") ≡ Ok case_47)
+    × (read (codes "(call (noun __loop) run (object (any) () (method run () (noun null))))") ≡ Ok case_48)
+    × (read (codes "(seq (def (var s) (lit 0)) (call (call (noun __makeList) run (lit 5) (lit 6)) iterate (object (any) () (method run ((final k) (final v)) (set s (call (call (noun s) multiply (lit 10)) add (call (noun k) add (noun v))))))) (noun s))") ≡ Ok case_49)
+    × (read (codes "(call (lit \"ab\") iterate (object (any) () (method run ((final k) (final v)) (noun v))))") ≡ Ok case_50)
 
 -- how each ends
 abbrev pub NativesHold : Type 0

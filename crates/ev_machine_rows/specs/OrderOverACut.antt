@@ -1,11 +1,12 @@
 -- A message behind one that a cut lost is lost too.
-use Rattle.std.specs.Prelude.{◌≡◌, ℕ, pos, negsuc, List, [], ◌∷◌, ◌++◌, Option, Some, None, codes, replicate}
-use Rattle.ev_machine.specs.Values.{Words}
-use Rattle.ev_run.specs.World.{Entry, Turn, Carry, CutLink, NoticeLink, drain, Program, Script, run}
-use Rattle.ev_run.specs.Text.{lines, text}
+use Rattle.std.specs.Prelude.{◌≡◌, pos, List, [], ◌∷◌, None, Ok, codes}
+use Rattle.ev_run.specs.World.{Turn, Carry, CutLink, NoticeLink, Script, run}
+use Rattle.ev_run.specs.Text.{text}
+use Rattle.ev_kernel.specs.Reading.{read}
+use Rattle.ev_machine_rows.specs.Endings.{lines}
 use Rattle.ev_kernel.specs.declared.node.Literal.TheVariants as literal
 use Rattle.ev_kernel.specs.declared.node.Node.{Node}
-use Rattle.ev_kernel.specs.declared.node.Node.TheVariants.{Lit, Noun, Set, Def, Call, Sequence, If, Escape, Try, Finally, Hide, MatchBind, Object, Method, Matcher, Final, Var, Any, ListPattern, Via}
+use Rattle.ev_kernel.specs.declared.node.Node.TheVariants.{Lit, Noun, Def, Call, Sequence, Object, Method, Final}
 use Rattle.ev_machine_rows.specs.Keys.{zeros}
 
 -- def r := b <- get(); r <- put(1); def go { method run() { r <- put(2) } }; go <- run()
@@ -70,10 +71,10 @@ script = record {
   fuel = 1000000;
   depth = 400;
   vats =
-    record { name = codes "a"; knows = 1 ∷ []; tree = tree_a } ∷
-    record { name = codes "b"; knows = 2 ∷ []; tree = tree_b } ∷
-    record { name = codes "c"; knows = []; tree = tree_c } ∷
-    [];
+      record { name = codes "a"; knows = 1 ∷ []; tree = tree_a } ∷
+      record { name = codes "b"; knows = 2 ∷ []; tree = tree_b } ∷
+      record { name = codes "c"; knows = []; tree = tree_c } ∷
+      [];
   schedule = Carry 2 1 ∷ Carry 0 1 ∷ Carry 0 1 ∷ Turn 1 ∷ Carry 1 0 ∷ Carry 1 0 ∷ Turn 0 ∷ Carry 0 2 ∷ Carry 0 2 ∷ Carry 0 1 ∷ CutLink 1 2 ∷ NoticeLink 2 1 ∷ [];
 }
 
@@ -129,6 +130,13 @@ OrderOverACutHolds = text script (run script) ≡ lines (
     ∷ codes "left link c a settled c^0 broken:\"partition\""
     ∷ codes "end"
     ∷ [])
+
+-- the trees are those of these forms
+abbrev pub OrderOverACutReads : Type 0
+OrderOverACutReads =
+    (read (codes "(seq (def (final r) (call (noun E) send (noun b) (lit \"get\") (call (noun __makeList) run))) (call (noun E) send (noun r) (lit \"put\") (call (noun __makeList) run (lit 1))) (object (final go) () (method run () (call (noun E) send (noun r) (lit \"put\") (call (noun __makeList) run (lit 2))))) (call (noun E) send (noun go) (lit \"run\") (call (noun __makeList) run)))") ≡ Ok tree_a)
+    × (read (codes "(object (final t) () (method get () (noun c)))") ≡ Ok tree_b)
+    × (read (codes "(object (final o) () (method put ((final x)) (noun x)))") ≡ Ok tree_c)
 
 -- opens the definitions of this file
 unfoldable pub opened_orderoveracut : Unit {0}

@@ -1,12 +1,11 @@
 -- References inside a vat.
-use Rattle.std.specs.Prelude.{◌≡◌, ℕ, pos, negsuc, List, [], ◌∷◌, Option, Some, None, codes}
-use Rattle.ev_machine.specs.Values.{Words}
+use Rattle.std.specs.Prelude.{◌≡◌, pos, List, [], ◌∷◌, None, Ok, codes}
+use Rattle.ev_kernel.specs.Reading.{read}
 use Rattle.ev_machine_rows.specs.Endings.{ending_of}
 use Rattle.ev_kernel.specs.declared.node.Literal.TheVariants as literal
 use Rattle.ev_kernel.specs.declared.node.Node.{Node}
-use Rattle.ev_kernel.specs.declared.node.Node.TheVariants.{Lit, Noun, Set, Def, Call, Sequence, If, Escape, Try, Finally, Hide, MatchBind, Object, Method, Matcher, Final, Var, Any, ListPattern, Via}
+use Rattle.ev_kernel.specs.declared.node.Node.TheVariants.{Lit, Noun, Def, Call, Sequence, Final, ListPattern}
 
--- (call (noun Ref) isNear (lit 1))
 unfoldable pub case_0 : List Node
 case_0 =
     Call 1 (codes "isNear") (2 ∷ [])
@@ -14,7 +13,6 @@ case_0 =
     ∷ Lit (literal.Int (pos 1))
     ∷ []
 
--- (seq (def (list (final p) (final r)) (call (noun Ref) promise)) (call (noun Ref) isResolved (noun p)))
 unfoldable pub case_1 : List Node
 case_1 =
     Sequence (1 ∷ 7 ∷ [])
@@ -29,7 +27,6 @@ case_1 =
     ∷ Noun (codes "p")
     ∷ []
 
--- (seq (def (list (final p) (final r)) (call (noun Ref) promise)) (call (noun r) resolve (lit 1)) (call (noun Ref) isResolved (noun p)))
 unfoldable pub case_2 : List Node
 case_2 =
     Sequence (1 ∷ 7 ∷ 10 ∷ [])
@@ -47,7 +44,6 @@ case_2 =
     ∷ Noun (codes "p")
     ∷ []
 
--- (seq (def (list (final p) (final r)) (call (noun Ref) promise)) (call (noun r) resolve (lit 1)) (call (noun r) resolve (lit 2)))
 unfoldable pub case_3 : List Node
 case_3 =
     Sequence (1 ∷ 7 ∷ 10 ∷ [])
@@ -65,7 +61,6 @@ case_3 =
     ∷ Lit (literal.Int (pos 2))
     ∷ []
 
--- (seq (def (list (final p) (final r)) (call (noun Ref) promise)) (call (noun r) smash (lit 5)))
 unfoldable pub case_4 : List Node
 case_4 =
     Sequence (1 ∷ 7 ∷ [])
@@ -80,7 +75,6 @@ case_4 =
     ∷ Lit (literal.Int (pos 5))
     ∷ []
 
--- (seq (def (list (final p) (final r)) (call (noun Ref) promise)) (call (noun r) smash (lit "x")) (call (noun Ref) optProblem (noun p)))
 unfoldable pub case_5 : List Node
 case_5 =
     Sequence (1 ∷ 7 ∷ 10 ∷ [])
@@ -98,7 +92,6 @@ case_5 =
     ∷ Noun (codes "p")
     ∷ []
 
--- (call (noun Ref) fulfillment (call (noun Ref) broken (lit "x")))
 unfoldable pub case_6 : List Node
 case_6 =
     Call 1 (codes "fulfillment") (2 ∷ [])
@@ -108,7 +101,6 @@ case_6 =
     ∷ Lit (literal.Text (codes "x"))
     ∷ []
 
--- (seq (def (list (final p) (final r)) (call (noun Ref) promise)) (call (noun Ref) fulfillment (noun p)))
 unfoldable pub case_7 : List Node
 case_7 =
     Sequence (1 ∷ 7 ∷ [])
@@ -123,7 +115,6 @@ case_7 =
     ∷ Noun (codes "p")
     ∷ []
 
--- (seq (def (list (final p) (final r)) (call (noun Ref) promise)) (call (noun p) foo))
 unfoldable pub case_8 : List Node
 case_8 =
     Sequence (1 ∷ 7 ∷ [])
@@ -137,7 +128,6 @@ case_8 =
     ∷ Noun (codes "p")
     ∷ []
 
--- (seq (def (list (final p) (final r)) (call (noun Ref) promise)) (call (noun r) smash (lit "x")) (call (noun p) foo))
 unfoldable pub case_9 : List Node
 case_9 =
     Sequence (1 ∷ 7 ∷ 10 ∷ [])
@@ -154,7 +144,6 @@ case_9 =
     ∷ Noun (codes "p")
     ∷ []
 
--- (seq (def (list (final p) (final r)) (call (noun Ref) promise)) (call (noun r) resolve (call (noun __makeList) run (noun p))) (call (noun Ref) optProblem (noun p)))
 unfoldable pub case_10 : List Node
 case_10 =
     Sequence (1 ∷ 7 ∷ 12 ∷ [])
@@ -174,7 +163,6 @@ case_10 =
     ∷ Noun (codes "p")
     ∷ []
 
--- (seq (def (list (final p) (final r)) (call (noun Ref) promise)) (def (list (final q) (final s)) (call (noun Ref) promise)) (call (noun r) resolve (noun q)) (call (noun s) resolve (noun p)) (call (noun Ref) optProblem (noun p)))
 unfoldable pub case_11 : List Node
 case_11 =
     Sequence (1 ∷ 7 ∷ 13 ∷ 16 ∷ 19 ∷ [])
@@ -201,7 +189,6 @@ case_11 =
     ∷ Noun (codes "p")
     ∷ []
 
--- (seq (def (list (final p) (final r)) (call (noun Ref) promise)) (def (list (final q) (final s)) (call (noun Ref) promise)) (call (noun r) resolve (noun q)) (call (noun s) resolve (call (noun __makeList) run (noun p))) (call (noun __makeList) run (call (noun Ref) isBroken (noun p)) (call (noun Ref) isBroken (noun q))))
 unfoldable pub case_12 : List Node
 case_12 =
     Sequence (1 ∷ 7 ∷ 13 ∷ 16 ∷ 21 ∷ [])
@@ -235,7 +222,6 @@ case_12 =
     ∷ Noun (codes "q")
     ∷ []
 
--- (call (noun Ref) whenResolved (lit 1) (call (noun Ref) broken (lit "x")))
 unfoldable pub case_13 : List Node
 case_13 =
     Call 1 (codes "whenResolved") (2 ∷ 3 ∷ [])
@@ -245,6 +231,24 @@ case_13 =
     ∷ Noun (codes "Ref")
     ∷ Lit (literal.Text (codes "x"))
     ∷ []
+
+-- the trees are those of these forms
+abbrev pub ReferencesRead : Type 0
+ReferencesRead =
+    (read (codes "(call (noun Ref) isNear (lit 1))") ≡ Ok case_0)
+    × (read (codes "(seq (def (list (final p) (final r)) (call (noun Ref) promise)) (call (noun Ref) isResolved (noun p)))") ≡ Ok case_1)
+    × (read (codes "(seq (def (list (final p) (final r)) (call (noun Ref) promise)) (call (noun r) resolve (lit 1)) (call (noun Ref) isResolved (noun p)))") ≡ Ok case_2)
+    × (read (codes "(seq (def (list (final p) (final r)) (call (noun Ref) promise)) (call (noun r) resolve (lit 1)) (call (noun r) resolve (lit 2)))") ≡ Ok case_3)
+    × (read (codes "(seq (def (list (final p) (final r)) (call (noun Ref) promise)) (call (noun r) smash (lit 5)))") ≡ Ok case_4)
+    × (read (codes "(seq (def (list (final p) (final r)) (call (noun Ref) promise)) (call (noun r) smash (lit \"x\")) (call (noun Ref) optProblem (noun p)))") ≡ Ok case_5)
+    × (read (codes "(call (noun Ref) fulfillment (call (noun Ref) broken (lit \"x\")))") ≡ Ok case_6)
+    × (read (codes "(seq (def (list (final p) (final r)) (call (noun Ref) promise)) (call (noun Ref) fulfillment (noun p)))") ≡ Ok case_7)
+    × (read (codes "(seq (def (list (final p) (final r)) (call (noun Ref) promise)) (call (noun p) foo))") ≡ Ok case_8)
+    × (read (codes "(seq (def (list (final p) (final r)) (call (noun Ref) promise)) (call (noun r) smash (lit \"x\")) (call (noun p) foo))") ≡ Ok case_9)
+    × (read (codes "(seq (def (list (final p) (final r)) (call (noun Ref) promise)) (call (noun r) resolve (call (noun __makeList) run (noun p))) (call (noun Ref) optProblem (noun p)))") ≡ Ok case_10)
+    × (read (codes "(seq (def (list (final p) (final r)) (call (noun Ref) promise)) (def (list (final q) (final s)) (call (noun Ref) promise)) (call (noun r) resolve (noun q)) (call (noun s) resolve (noun p)) (call (noun Ref) optProblem (noun p)))") ≡ Ok case_11)
+    × (read (codes "(seq (def (list (final p) (final r)) (call (noun Ref) promise)) (def (list (final q) (final s)) (call (noun Ref) promise)) (call (noun r) resolve (noun q)) (call (noun s) resolve (call (noun __makeList) run (noun p))) (call (noun __makeList) run (call (noun Ref) isBroken (noun p)) (call (noun Ref) isBroken (noun q))))") ≡ Ok case_12)
+    × (read (codes "(call (noun Ref) whenResolved (lit 1) (call (noun Ref) broken (lit \"x\")))") ≡ Ok case_13)
 
 -- how each ends
 abbrev pub ReferencesHold : Type 0

@@ -1,11 +1,12 @@
 -- Two objects share a var slot.
-use Rattle.std.specs.Prelude.{◌≡◌, ℕ, pos, negsuc, List, [], ◌∷◌, ◌++◌, Option, Some, None, codes, replicate}
-use Rattle.ev_machine.specs.Values.{Words}
-use Rattle.ev_run.specs.World.{Entry, Turn, Carry, CutLink, NoticeLink, drain, Program, Script, run}
-use Rattle.ev_run.specs.Text.{lines, text}
+use Rattle.std.specs.Prelude.{◌≡◌, pos, List, [], ◌∷◌, None, Ok, codes}
+use Rattle.ev_run.specs.World.{Script, run}
+use Rattle.ev_run.specs.Text.{text}
+use Rattle.ev_kernel.specs.Reading.{read}
+use Rattle.ev_machine_rows.specs.Endings.{lines}
 use Rattle.ev_kernel.specs.declared.node.Literal.TheVariants as literal
 use Rattle.ev_kernel.specs.declared.node.Node.{Node}
-use Rattle.ev_kernel.specs.declared.node.Node.TheVariants.{Lit, Noun, Set, Def, Call, Sequence, If, Escape, Try, Finally, Hide, MatchBind, Object, Method, Matcher, Final, Var, Any, ListPattern, Via}
+use Rattle.ev_kernel.specs.declared.node.Node.TheVariants.{Lit, Noun, Set, Def, Call, Sequence, Object, Method, Final, Var}
 use Rattle.ev_machine_rows.specs.Keys.{zeros}
 
 -- var n := 0; def up { method run() { n += 1 } }; def get { method run() { n } }; up(); get()
@@ -38,8 +39,8 @@ script = record {
   fuel = 1000000;
   depth = 400;
   vats =
-    record { name = codes "a"; knows = []; tree = tree_a } ∷
-    [];
+      record { name = codes "a"; knows = []; tree = tree_a } ∷
+      [];
   schedule = [];
 }
 
@@ -62,6 +63,11 @@ Row04Holds = text script (run script) ≡ lines (
     ∷ codes "settle @a 1"
     ∷ codes "end"
     ∷ [])
+
+-- the trees are those of these forms
+abbrev pub Row04Reads : Type 0
+Row04Reads =
+    (read (codes "(seq (def (var n) (lit 0)) (object (final up) () (method run () (set n (call (noun n) add (lit 1))))) (object (final get) () (method run () (noun n))) (call (noun up) run) (call (noun get) run))") ≡ Ok tree_a)
 
 -- opens the definitions of this file
 unfoldable pub opened_row04 : Unit {0}

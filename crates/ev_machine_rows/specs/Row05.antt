@@ -1,11 +1,12 @@
 -- A dead ejector, and a matcher.
-use Rattle.std.specs.Prelude.{◌≡◌, ℕ, pos, negsuc, List, [], ◌∷◌, ◌++◌, Option, Some, None, codes, replicate}
-use Rattle.ev_machine.specs.Values.{Words}
-use Rattle.ev_run.specs.World.{Entry, Turn, Carry, CutLink, NoticeLink, drain, Program, Script, run}
-use Rattle.ev_run.specs.Text.{lines, text}
+use Rattle.std.specs.Prelude.{◌≡◌, pos, List, [], ◌∷◌, None, Ok, codes}
+use Rattle.ev_run.specs.World.{Script, run}
+use Rattle.ev_run.specs.Text.{text}
+use Rattle.ev_kernel.specs.Reading.{read}
+use Rattle.ev_machine_rows.specs.Endings.{lines}
 use Rattle.ev_kernel.specs.declared.node.Literal.TheVariants as literal
 use Rattle.ev_kernel.specs.declared.node.Node.{Node}
-use Rattle.ev_kernel.specs.declared.node.Node.TheVariants.{Lit, Noun, Set, Def, Call, Sequence, If, Escape, Try, Finally, Hide, MatchBind, Object, Method, Matcher, Final, Var, Any, ListPattern, Via}
+use Rattle.ev_kernel.specs.declared.node.Node.TheVariants.{Lit, Noun, Def, Call, Sequence, Escape, Object, Matcher, Final, ListPattern}
 use Rattle.ev_machine_rows.specs.Keys.{zeros}
 
 -- def old := escape ej { ej }; def m { match [v, args] { v } }; m.zip(7); old(1)
@@ -38,8 +39,8 @@ script = record {
   fuel = 1000000;
   depth = 400;
   vats =
-    record { name = codes "a"; knows = []; tree = tree_a } ∷
-    [];
+      record { name = codes "a"; knows = []; tree = tree_a } ∷
+      [];
   schedule = [];
 }
 
@@ -59,6 +60,11 @@ Row05Holds = text script (run script) ≡ lines (
     ∷ codes "settle @a broken:\"ejector is dead\""
     ∷ codes "end"
     ∷ [])
+
+-- the trees are those of these forms
+abbrev pub Row05Reads : Type 0
+Row05Reads =
+    (read (codes "(seq (def (final old) (escape (final ej) (noun ej))) (object (final m) () (matcher (list (final v) (final args)) (noun v))) (call (noun m) zip (lit 7)) (call (noun old) run (lit 1)))") ≡ Ok tree_a)
 
 -- opens the definitions of this file
 unfoldable pub opened_row05 : Unit {0}

@@ -1,11 +1,12 @@
 -- A guard that fails with an ejector.
-use Rattle.std.specs.Prelude.{◌≡◌, ℕ, pos, negsuc, List, [], ◌∷◌, ◌++◌, Option, Some, None, codes, replicate}
-use Rattle.ev_machine.specs.Values.{Words}
-use Rattle.ev_run.specs.World.{Entry, Turn, Carry, CutLink, NoticeLink, drain, Program, Script, run}
-use Rattle.ev_run.specs.Text.{lines, text}
+use Rattle.std.specs.Prelude.{◌≡◌, List, [], ◌∷◌, Some, None, Ok, codes}
+use Rattle.ev_run.specs.World.{Script, run}
+use Rattle.ev_run.specs.Text.{text}
+use Rattle.ev_kernel.specs.Reading.{read}
+use Rattle.ev_machine_rows.specs.Endings.{lines}
 use Rattle.ev_kernel.specs.declared.node.Literal.TheVariants as literal
 use Rattle.ev_kernel.specs.declared.node.Node.{Node}
-use Rattle.ev_kernel.specs.declared.node.Node.TheVariants.{Lit, Noun, Set, Def, Call, Sequence, If, Escape, Try, Finally, Hide, MatchBind, Object, Method, Matcher, Final, Var, Any, ListPattern, Via}
+use Rattle.ev_kernel.specs.declared.node.Node.TheVariants.{Lit, Noun, Def, Escape, Final}
 use Rattle.ev_machine_rows.specs.Keys.{zeros}
 
 -- escape ej { def x :int exit ej := "a" }
@@ -26,8 +27,8 @@ script = record {
   fuel = 1000000;
   depth = 400;
   vats =
-    record { name = codes "a"; knows = []; tree = tree_a } ∷
-    [];
+      record { name = codes "a"; knows = []; tree = tree_a } ∷
+      [];
   schedule = [];
 }
 
@@ -42,6 +43,11 @@ Row06bHolds = text script (run script) ≡ lines (
     ∷ codes "settle @a \"not int\""
     ∷ codes "end"
     ∷ [])
+
+-- the trees are those of these forms
+abbrev pub Row06bReads : Type 0
+Row06bReads =
+    (read (codes "(escape (final ej) (def (final x (noun int)) exit (noun ej) (lit \"a\")))") ≡ Ok tree_a)
 
 -- opens the definitions of this file
 unfoldable pub opened_row06b : Unit {0}

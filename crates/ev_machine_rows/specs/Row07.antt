@@ -1,11 +1,12 @@
 -- What DeepFrozen approves.
-use Rattle.std.specs.Prelude.{◌≡◌, ℕ, pos, negsuc, List, [], ◌∷◌, ◌++◌, Option, Some, None, codes, replicate}
-use Rattle.ev_machine.specs.Values.{Words}
-use Rattle.ev_run.specs.World.{Entry, Turn, Carry, CutLink, NoticeLink, drain, Program, Script, run}
-use Rattle.ev_run.specs.Text.{lines, text}
+use Rattle.std.specs.Prelude.{◌≡◌, pos, List, [], ◌∷◌, Some, None, Ok, codes}
+use Rattle.ev_run.specs.World.{Script, run}
+use Rattle.ev_run.specs.Text.{text}
+use Rattle.ev_kernel.specs.Reading.{read}
+use Rattle.ev_machine_rows.specs.Endings.{lines}
 use Rattle.ev_kernel.specs.declared.node.Literal.TheVariants as literal
 use Rattle.ev_kernel.specs.declared.node.Node.{Node}
-use Rattle.ev_kernel.specs.declared.node.Node.TheVariants.{Lit, Noun, Set, Def, Call, Sequence, If, Escape, Try, Finally, Hide, MatchBind, Object, Method, Matcher, Final, Var, Any, ListPattern, Via}
+use Rattle.ev_kernel.specs.declared.node.Node.TheVariants.{Lit, Noun, Def, Sequence, Object, Method, Final, Var}
 use Rattle.ev_machine_rows.specs.Keys.{zeros}
 
 -- var c := 0; def n :int := 3; def p implements DeepFrozen { method run() { c } }; def q implements DeepFrozen { method run() { n } }; def r implements DeepFrozen { method run() { r } }
@@ -42,8 +43,8 @@ script = record {
   fuel = 1000000;
   depth = 400;
   vats =
-    record { name = codes "a"; knows = []; tree = tree_a } ∷
-    [];
+      record { name = codes "a"; knows = []; tree = tree_a } ∷
+      [];
   schedule = [];
 }
 
@@ -58,6 +59,11 @@ Row07Holds = text script (run script) ≡ lines (
     ∷ codes "settle @a a.2"
     ∷ codes "end"
     ∷ [])
+
+-- the trees are those of these forms
+abbrev pub Row07Reads : Type 0
+Row07Reads =
+    (read (codes "(seq (def (var c) (lit 0)) (def (final n (noun int)) (lit 3)) (object (final p) ((noun DeepFrozen)) (method run () (noun c))) (object (final q) ((noun DeepFrozen)) (method run () (noun n))) (object (final r) ((noun DeepFrozen)) (method run () (noun r))))") ≡ Ok tree_a)
 
 -- opens the definitions of this file
 unfoldable pub opened_row07 : Unit {0}

@@ -1,11 +1,12 @@
 -- Fuel that does not suffice.
-use Rattle.std.specs.Prelude.{◌≡◌, ℕ, pos, negsuc, List, [], ◌∷◌, ◌++◌, Option, Some, None, codes, replicate}
-use Rattle.ev_machine.specs.Values.{Words}
-use Rattle.ev_run.specs.World.{Entry, Turn, Carry, CutLink, NoticeLink, drain, Program, Script, run}
-use Rattle.ev_run.specs.Text.{lines, text}
+use Rattle.std.specs.Prelude.{◌≡◌, pos, List, [], ◌∷◌, Ok, codes}
+use Rattle.ev_run.specs.World.{Script, run}
+use Rattle.ev_run.specs.Text.{text}
+use Rattle.ev_kernel.specs.Reading.{read}
+use Rattle.ev_machine_rows.specs.Endings.{lines}
 use Rattle.ev_kernel.specs.declared.node.Literal.TheVariants as literal
 use Rattle.ev_kernel.specs.declared.node.Node.{Node}
-use Rattle.ev_kernel.specs.declared.node.Node.TheVariants.{Lit, Noun, Set, Def, Call, Sequence, If, Escape, Try, Finally, Hide, MatchBind, Object, Method, Matcher, Final, Var, Any, ListPattern, Via}
+use Rattle.ev_kernel.specs.declared.node.Node.TheVariants.{Lit, Call}
 use Rattle.ev_machine_rows.specs.Keys.{zeros}
 
 -- 41 + 1
@@ -22,8 +23,8 @@ script = record {
   fuel = 2;
   depth = 400;
   vats =
-    record { name = codes "a"; knows = []; tree = tree_a } ∷
-    [];
+      record { name = codes "a"; knows = []; tree = tree_a } ∷
+      [];
   schedule = [];
 }
 
@@ -31,6 +32,11 @@ abbrev pub Row08bHolds : Type 0
 Row08bHolds = text script (run script) ≡ lines (
     codes "stop fuel 0"
     ∷ [])
+
+-- the trees are those of these forms
+abbrev pub Row08bReads : Type 0
+Row08bReads =
+    (read (codes "(call (lit 41) add (lit 1))") ≡ Ok tree_a)
 
 -- opens the definitions of this file
 unfoldable pub opened_row08b : Unit {0}

@@ -1,11 +1,11 @@
 -- A recursion without end.
-use Rattle.std.specs.Prelude.{◌≡◌, ℕ, pos, negsuc, List, [], ◌∷◌, ◌++◌, Option, Some, None, codes, replicate}
-use Rattle.ev_machine.specs.Values.{Words}
-use Rattle.ev_run.specs.World.{Entry, Turn, Carry, CutLink, NoticeLink, drain, Program, Script, run}
-use Rattle.ev_run.specs.Text.{lines, text}
-use Rattle.ev_kernel.specs.declared.node.Literal.TheVariants as literal
+use Rattle.std.specs.Prelude.{◌≡◌, List, [], ◌∷◌, None, Ok, codes}
+use Rattle.ev_run.specs.World.{Script, run}
+use Rattle.ev_run.specs.Text.{text}
+use Rattle.ev_kernel.specs.Reading.{read}
+use Rattle.ev_machine_rows.specs.Endings.{lines}
 use Rattle.ev_kernel.specs.declared.node.Node.{Node}
-use Rattle.ev_kernel.specs.declared.node.Node.TheVariants.{Lit, Noun, Set, Def, Call, Sequence, If, Escape, Try, Finally, Hide, MatchBind, Object, Method, Matcher, Final, Var, Any, ListPattern, Via}
+use Rattle.ev_kernel.specs.declared.node.Node.TheVariants.{Noun, Call, Sequence, Escape, Object, Method, Final}
 use Rattle.ev_machine_rows.specs.Keys.{zeros}
 
 -- def f() { return f() }; f()
@@ -33,8 +33,8 @@ script = record {
   fuel = 1000000;
   depth = 400;
   vats =
-    record { name = codes "a"; knows = []; tree = tree_a } ∷
-    [];
+      record { name = codes "a"; knows = []; tree = tree_a } ∷
+      [];
   schedule = [];
 }
 
@@ -42,6 +42,11 @@ abbrev pub Row08cHolds : Type 0
 Row08cHolds = text script (run script) ≡ lines (
     codes "stop depth 0"
     ∷ [])
+
+-- the trees are those of these forms
+abbrev pub Row08cReads : Type 0
+Row08cReads =
+    (read (codes "(seq (object (final f) () (method run () (escape (final __return) (seq (call (noun __return) run (call (noun f) run)) (noun null))))) (call (noun f) run))") ≡ Ok tree_a)
 
 -- opens the definitions of this file
 unfoldable pub opened_row08c : Unit {0}

@@ -1,11 +1,12 @@
 -- Messages are taken in order.
-use Rattle.std.specs.Prelude.{◌≡◌, ℕ, pos, negsuc, List, [], ◌∷◌, ◌++◌, Option, Some, None, codes, replicate}
-use Rattle.ev_machine.specs.Values.{Words}
-use Rattle.ev_run.specs.World.{Entry, Turn, Carry, CutLink, NoticeLink, drain, Program, Script, run}
-use Rattle.ev_run.specs.Text.{lines, text}
+use Rattle.std.specs.Prelude.{◌≡◌, pos, List, [], ◌∷◌, None, Ok, codes}
+use Rattle.ev_run.specs.World.{Turn, Script, run}
+use Rattle.ev_run.specs.Text.{text}
+use Rattle.ev_kernel.specs.Reading.{read}
+use Rattle.ev_machine_rows.specs.Endings.{lines}
 use Rattle.ev_kernel.specs.declared.node.Literal.TheVariants as literal
 use Rattle.ev_kernel.specs.declared.node.Node.{Node}
-use Rattle.ev_kernel.specs.declared.node.Node.TheVariants.{Lit, Noun, Set, Def, Call, Sequence, If, Escape, Try, Finally, Hide, MatchBind, Object, Method, Matcher, Final, Var, Any, ListPattern, Via}
+use Rattle.ev_kernel.specs.declared.node.Node.TheVariants.{Lit, Noun, Call, Sequence, Object, Method, Final}
 use Rattle.ev_machine_rows.specs.Keys.{zeros}
 
 -- def o { method f(x) { x } }; o <- f(1); o <- f(2)
@@ -39,8 +40,8 @@ script = record {
   fuel = 1000000;
   depth = 400;
   vats =
-    record { name = codes "a"; knows = []; tree = tree_a } ∷
-    [];
+      record { name = codes "a"; knows = []; tree = tree_a } ∷
+      [];
   schedule = Turn 0 ∷ Turn 0 ∷ Turn 0 ∷ [];
 }
 
@@ -66,6 +67,11 @@ Row09Holds = text script (run script) ≡ lines (
     ∷ codes "3 idle"
     ∷ codes "end"
     ∷ [])
+
+-- the trees are those of these forms
+abbrev pub Row09Reads : Type 0
+Row09Reads =
+    (read (codes "(seq (object (final o) () (method f ((final x)) (noun x))) (call (noun E) send (noun o) (lit \"f\") (call (noun __makeList) run (lit 1))) (call (noun E) send (noun o) (lit \"f\") (call (noun __makeList) run (lit 2))))") ≡ Ok tree_a)
 
 -- opens the definitions of this file
 unfoldable pub opened_row09 : Unit {0}

@@ -1,11 +1,12 @@
 -- A message sent on an answer that is not there yet.
-use Rattle.std.specs.Prelude.{◌≡◌, ℕ, pos, negsuc, List, [], ◌∷◌, ◌++◌, Option, Some, None, codes, replicate}
-use Rattle.ev_machine.specs.Values.{Words}
-use Rattle.ev_run.specs.World.{Entry, Turn, Carry, CutLink, NoticeLink, drain, Program, Script, run}
-use Rattle.ev_run.specs.Text.{lines, text}
+use Rattle.std.specs.Prelude.{◌≡◌, pos, List, [], ◌∷◌, None, Ok, codes}
+use Rattle.ev_run.specs.World.{Turn, Carry, Script, run}
+use Rattle.ev_run.specs.Text.{wire_text}
+use Rattle.ev_kernel.specs.Reading.{read}
+use Rattle.ev_machine_rows.specs.Endings.{lines}
 use Rattle.ev_kernel.specs.declared.node.Literal.TheVariants as literal
 use Rattle.ev_kernel.specs.declared.node.Node.{Node}
-use Rattle.ev_kernel.specs.declared.node.Node.TheVariants.{Lit, Noun, Set, Def, Call, Sequence, If, Escape, Try, Finally, Hide, MatchBind, Object, Method, Matcher, Final, Var, Any, ListPattern, Via}
+use Rattle.ev_kernel.specs.declared.node.Node.TheVariants.{Lit, Noun, Call, Sequence, Object, Method, Final}
 use Rattle.ev_machine_rows.specs.Keys.{zeros}
 
 -- b <- getX() <- getY()
@@ -44,14 +45,14 @@ script = record {
   fuel = 1000000;
   depth = 400;
   vats =
-    record { name = codes "a"; knows = 1 ∷ []; tree = tree_a } ∷
-    record { name = codes "b"; knows = []; tree = tree_b } ∷
-    [];
+      record { name = codes "a"; knows = 1 ∷ []; tree = tree_a } ∷
+      record { name = codes "b"; knows = []; tree = tree_b } ∷
+      [];
   schedule = Carry 0 1 ∷ Carry 0 1 ∷ Turn 1 ∷ Turn 1 ∷ [];
 }
 
 abbrev pub Row10Holds : Type 0
-Row10Holds = text script (run script) ≡ lines (
+Row10Holds = wire_text script (run script) ≡ lines (
     codes "open a"
     ∷ codes "!0 list a%0"
     ∷ codes "!0 send a/0 @b getX -> b?a/0"
@@ -65,7 +66,9 @@ Row10Holds = text script (run script) ≡ lines (
     ∷ codes "!0 done b.1"
     ∷ codes "settle @b b.1"
     ∷ codes "1 carry a b deliver a/0 @b getX"
+    ∷ codes "frame 01000900046765745800"
     ∷ codes "2 carry a b deliver a/1 b?a/0 getY"
+    ∷ codes "frame 01010a00046765745900"
     ∷ codes "3 turn b"
     ∷ codes "!1 take a/0 b.1 getX"
     ∷ codes "!1 done b.0"
@@ -79,6 +82,12 @@ Row10Holds = text script (run script) ≡ lines (
     ∷ codes "left link b a settled b?a/1 7"
     ∷ codes "end"
     ∷ [])
+
+-- the trees are those of these forms
+abbrev pub Row10Reads : Type 0
+Row10Reads =
+    (read (codes "(call (noun E) send (call (noun E) send (noun b) (lit \"getX\") (call (noun __makeList) run)) (lit \"getY\") (call (noun __makeList) run))") ≡ Ok tree_a)
+    × (read (codes "(seq (object (final x) () (method getY () (lit 7))) (object (final t) () (method getX () (noun x))))") ≡ Ok tree_b)
 
 -- opens the definitions of this file
 unfoldable pub opened_row10 : Unit {0}

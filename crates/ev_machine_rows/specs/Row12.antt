@@ -1,11 +1,12 @@
 -- A partition breaks a gift.
-use Rattle.std.specs.Prelude.{◌≡◌, ℕ, pos, negsuc, List, [], ◌∷◌, ◌++◌, Option, Some, None, codes, replicate}
-use Rattle.ev_machine.specs.Values.{Words}
-use Rattle.ev_run.specs.World.{Entry, Turn, Carry, CutLink, NoticeLink, drain, Program, Script, run}
-use Rattle.ev_run.specs.Text.{lines, text}
+use Rattle.std.specs.Prelude.{◌≡◌, pos, List, [], ◌∷◌, None, Ok, codes}
+use Rattle.ev_run.specs.World.{Turn, Carry, CutLink, NoticeLink, Script, run}
+use Rattle.ev_run.specs.Text.{text}
+use Rattle.ev_kernel.specs.Reading.{read}
+use Rattle.ev_machine_rows.specs.Endings.{lines}
 use Rattle.ev_kernel.specs.declared.node.Literal.TheVariants as literal
 use Rattle.ev_kernel.specs.declared.node.Node.{Node}
-use Rattle.ev_kernel.specs.declared.node.Node.TheVariants.{Lit, Noun, Set, Def, Call, Sequence, If, Escape, Try, Finally, Hide, MatchBind, Object, Method, Matcher, Final, Var, Any, ListPattern, Via}
+use Rattle.ev_kernel.specs.declared.node.Node.TheVariants.{Lit, Noun, Call, Sequence, Object, Method, Final}
 use Rattle.ev_machine_rows.specs.Keys.{zeros}
 
 -- c <- put(0); b <- meet(c)
@@ -60,10 +61,10 @@ script = record {
   fuel = 1000000;
   depth = 400;
   vats =
-    record { name = codes "a"; knows = 1 ∷ 2 ∷ []; tree = tree_a } ∷
-    record { name = codes "b"; knows = []; tree = tree_b } ∷
-    record { name = codes "c"; knows = []; tree = tree_c } ∷
-    [];
+      record { name = codes "a"; knows = 1 ∷ 2 ∷ []; tree = tree_a } ∷
+      record { name = codes "b"; knows = []; tree = tree_b } ∷
+      record { name = codes "c"; knows = []; tree = tree_c } ∷
+      [];
   schedule = Carry 0 1 ∷ Turn 1 ∷ Carry 1 2 ∷ Carry 1 2 ∷ CutLink 0 2 ∷ NoticeLink 2 0 ∷ Carry 2 1 ∷ Carry 2 1 ∷ [];
 }
 
@@ -108,6 +109,13 @@ Row12Holds = text script (run script) ≡ lines (
     ∷ codes "left link b a settled b?a/1 broken:\"partition\""
     ∷ codes "end"
     ∷ [])
+
+-- the trees are those of these forms
+abbrev pub Row12Reads : Type 0
+Row12Reads =
+    (read (codes "(seq (call (noun E) send (noun c) (lit \"put\") (call (noun __makeList) run (lit 0))) (call (noun E) send (noun b) (lit \"meet\") (call (noun __makeList) run (noun c))))") ≡ Ok tree_a)
+    × (read (codes "(object (final t) () (method meet ((final p)) (call (noun E) send (noun p) (lit \"put\") (call (noun __makeList) run (lit 2)))))") ≡ Ok tree_b)
+    × (read (codes "(object (final o) () (method put ((final x)) (noun x)))") ≡ Ok tree_c)
 
 -- opens the definitions of this file
 unfoldable pub opened_row12 : Unit {0}

@@ -1,11 +1,11 @@
 -- A promise that is resolved to itself.
-use Rattle.std.specs.Prelude.{◌≡◌, ℕ, pos, negsuc, List, [], ◌∷◌, ◌++◌, Option, Some, None, codes, replicate}
-use Rattle.ev_machine.specs.Values.{Words}
-use Rattle.ev_run.specs.World.{Entry, Turn, Carry, CutLink, NoticeLink, drain, Program, Script, run}
-use Rattle.ev_run.specs.Text.{lines, text}
-use Rattle.ev_kernel.specs.declared.node.Literal.TheVariants as literal
+use Rattle.std.specs.Prelude.{◌≡◌, List, [], ◌∷◌, None, Ok, codes}
+use Rattle.ev_run.specs.World.{Script, run}
+use Rattle.ev_run.specs.Text.{text}
+use Rattle.ev_kernel.specs.Reading.{read}
+use Rattle.ev_machine_rows.specs.Endings.{lines}
 use Rattle.ev_kernel.specs.declared.node.Node.{Node}
-use Rattle.ev_kernel.specs.declared.node.Node.TheVariants.{Lit, Noun, Set, Def, Call, Sequence, If, Escape, Try, Finally, Hide, MatchBind, Object, Method, Matcher, Final, Var, Any, ListPattern, Via}
+use Rattle.ev_kernel.specs.declared.node.Node.TheVariants.{Noun, Def, Call, Sequence, Final, ListPattern}
 use Rattle.ev_machine_rows.specs.Keys.{zeros}
 
 -- def [p, r] := Ref.promise(); r.resolve(p); Ref.isBroken(p)
@@ -32,8 +32,8 @@ script = record {
   fuel = 1000000;
   depth = 400;
   vats =
-    record { name = codes "a"; knows = []; tree = tree_a } ∷
-    [];
+      record { name = codes "a"; knows = []; tree = tree_a } ∷
+      [];
   schedule = [];
 }
 
@@ -49,6 +49,11 @@ Row15bHolds = text script (run script) ≡ lines (
     ∷ codes "settle @a true"
     ∷ codes "end"
     ∷ [])
+
+-- the trees are those of these forms
+abbrev pub Row15bReads : Type 0
+Row15bReads =
+    (read (codes "(seq (def (list (final p) (final r)) (call (noun Ref) promise)) (call (noun r) resolve (noun p)) (call (noun Ref) isBroken (noun p)))") ≡ Ok tree_a)
 
 -- opens the definitions of this file
 unfoldable pub opened_row15b : Unit {0}

@@ -1,11 +1,12 @@
 -- Two gifts that are one object.
-use Rattle.std.specs.Prelude.{◌≡◌, ℕ, pos, negsuc, List, [], ◌∷◌, ◌++◌, Option, Some, None, codes, replicate}
-use Rattle.ev_machine.specs.Values.{Words}
-use Rattle.ev_run.specs.World.{Entry, Turn, Carry, CutLink, NoticeLink, drain, Program, Script, run}
-use Rattle.ev_run.specs.Text.{lines, text}
+use Rattle.std.specs.Prelude.{◌≡◌, List, [], ◌∷◌, None, Ok, codes}
+use Rattle.ev_run.specs.World.{Turn, Carry, Script, run}
+use Rattle.ev_run.specs.Text.{text}
+use Rattle.ev_kernel.specs.Reading.{read}
+use Rattle.ev_machine_rows.specs.Endings.{lines}
 use Rattle.ev_kernel.specs.declared.node.Literal.TheVariants as literal
 use Rattle.ev_kernel.specs.declared.node.Node.{Node}
-use Rattle.ev_kernel.specs.declared.node.Node.TheVariants.{Lit, Noun, Set, Def, Call, Sequence, If, Escape, Try, Finally, Hide, MatchBind, Object, Method, Matcher, Final, Var, Any, ListPattern, Via}
+use Rattle.ev_kernel.specs.declared.node.Node.TheVariants.{Lit, Noun, Call, Sequence, Object, Method, Final}
 use Rattle.ev_machine_rows.specs.Keys.{zeros}
 
 -- b <- two(c, c)
@@ -62,10 +63,10 @@ script = record {
   fuel = 1000000;
   depth = 400;
   vats =
-    record { name = codes "a"; knows = 1 ∷ 2 ∷ []; tree = tree_a } ∷
-    record { name = codes "b"; knows = []; tree = tree_b } ∷
-    record { name = codes "c"; knows = []; tree = tree_c } ∷
-    [];
+      record { name = codes "a"; knows = 1 ∷ 2 ∷ []; tree = tree_a } ∷
+      record { name = codes "b"; knows = []; tree = tree_b } ∷
+      record { name = codes "c"; knows = []; tree = tree_c } ∷
+      [];
   schedule = Carry 0 1 ∷ Turn 1 ∷ Carry 0 2 ∷ Carry 0 2 ∷ Carry 1 2 ∷ Carry 1 2 ∷ Carry 2 1 ∷ Carry 2 1 ∷ Turn 1 ∷ [];
 }
 
@@ -111,6 +112,13 @@ Row16Holds = text script (run script) ≡ lines (
     ∷ codes "left link c a settled @c c.0"
     ∷ codes "end"
     ∷ [])
+
+-- the trees are those of these forms
+abbrev pub Row16Reads : Type 0
+Row16Reads =
+    (read (codes "(call (noun E) send (noun b) (lit \"two\") (call (noun __makeList) run (noun c) (noun c)))") ≡ Ok tree_a)
+    × (read (codes "(object (final t) () (method two ((final x) (final y)) (seq (object (final again) () (method run () (call (noun __equalizer) sameEver (noun x) (noun y)))) (call (noun E) send (noun again) (lit \"run\") (call (noun __makeList) run)) (call (noun __equalizer) sameEver (noun x) (noun y)))))") ≡ Ok tree_b)
+    × (read (codes "(object (final o) ())") ≡ Ok tree_c)
 
 -- opens the definitions of this file
 unfoldable pub opened_row16 : Unit {0}

@@ -1,11 +1,12 @@
 -- A purchase over three vats.
-use Rattle.std.specs.Prelude.{◌≡◌, ℕ, pos, negsuc, List, [], ◌∷◌, ◌++◌, Option, Some, None, codes, replicate}
-use Rattle.ev_machine.specs.Values.{Words}
-use Rattle.ev_run.specs.World.{Entry, Turn, Carry, CutLink, NoticeLink, drain, Program, Script, run}
-use Rattle.ev_run.specs.Text.{lines, text}
+use Rattle.std.specs.Prelude.{◌≡◌, pos, List, [], ◌∷◌, Some, None, Ok, codes}
+use Rattle.ev_run.specs.World.{drain, Script, run}
+use Rattle.ev_run.specs.Text.{text}
+use Rattle.ev_kernel.specs.Reading.{read}
+use Rattle.ev_machine_rows.specs.Endings.{lines}
 use Rattle.ev_kernel.specs.declared.node.Literal.TheVariants as literal
 use Rattle.ev_kernel.specs.declared.node.Node.{Node}
-use Rattle.ev_kernel.specs.declared.node.Node.TheVariants.{Lit, Noun, Set, Def, Call, Sequence, If, Escape, Try, Finally, Hide, MatchBind, Object, Method, Matcher, Final, Var, Any, ListPattern, Via}
+use Rattle.ev_kernel.specs.declared.node.Node.TheVariants.{Lit, Noun, Set, Def, Call, Sequence, If, Escape, Try, Object, Method, Final, Var, Any}
 use Rattle.ev_machine_rows.specs.Keys.{zeros}
 
 -- var purse := 10; def payer { to pay(n) { if (n > purse) { throw("too dear") }; purse -= n; return n } }; def shop := broker <- find("tea"); def got := shop <- buy("tea", payer); when (got) -> { got } catch e { "failed: " + e }
@@ -172,10 +173,10 @@ script = record {
   fuel = 1000000;
   depth = 400;
   vats =
-    record { name = codes "buyer"; knows = 1 ∷ []; tree = tree_buyer } ∷
-    record { name = codes "broker"; knows = 2 ∷ []; tree = tree_broker } ∷
-    record { name = codes "seller"; knows = []; tree = tree_seller } ∷
-    [];
+      record { name = codes "buyer"; knows = 1 ∷ []; tree = tree_buyer } ∷
+      record { name = codes "broker"; knows = 2 ∷ []; tree = tree_broker } ∷
+      record { name = codes "seller"; knows = []; tree = tree_seller } ∷
+      [];
   schedule = drain 3 50;
 }
 
@@ -712,6 +713,13 @@ Row19Holds = text script (run script) ≡ lines (
     ∷ codes "450 idle"
     ∷ codes "end"
     ∷ [])
+
+-- the trees are those of these forms
+abbrev pub Row19Reads : Type 0
+Row19Reads =
+    (read (codes "(seq (def (var purse) (lit 10)) (object (final payer) () (method pay ((final n)) (escape (final __return) (seq (seq (if (call (noun __comparer) greaterThan (noun n) (noun purse)) (call (noun throw) run (lit \"too dear\")) (noun null)) (set purse (call (noun purse) subtract (noun n))) (call (noun __return) run (noun n))) (noun null))))) (def (final shop) (call (noun E) send (noun broker) (lit \"find\") (call (noun __makeList) run (lit \"tea\")))) (def (final got) (call (noun E) send (noun shop) (lit \"buy\") (call (noun __makeList) run (lit \"tea\") (noun payer)))) (call (noun Ref) whenResolved (noun got) (object (any) () (method run ((final __w)) (try (seq (call (noun Ref) fulfillment (noun __w)) (noun got)) (final e) (call (lit \"failed: \") add (noun e)))))))") ≡ Ok tree_buyer)
+    × (read (codes "(object (final desk) () (method find ((final item)) (escape (final __return) (seq (call (noun __return) run (noun seller)) (noun null)))))") ≡ Ok tree_broker)
+    × (read (codes "(seq (object (final list) ((noun DeepFrozen)) (method price ((final item)) (escape (final __return) (seq (seq (if (call (noun __equalizer) sameEver (noun item) (lit \"tea\")) (call (noun __return) run (lit 3)) (noun null)) (call (noun __return) run (lit 5))) (noun null))))) (def (final prices (noun DeepFrozen)) (noun list)) (object (final shop) () (method buy ((final item) (final payer)) (escape (final __return) (seq (seq (def (final due) (call (noun prices) price (noun item))) (call (noun __return) run (call (noun Ref) whenResolved (call (noun E) send (noun payer) (lit \"pay\") (call (noun __makeList) run (noun due))) (object (any) () (method run ((final __w)) (try (seq (call (noun Ref) fulfillment (noun __w)) (call (lit \"sold \") add (noun item))) (final e) (lit \"no sale\"))))))) (noun null))))))") ≡ Ok tree_seller)
 
 -- opens the definitions of this file
 unfoldable pub opened_row19 : Unit {0}

@@ -1,11 +1,11 @@
 -- An auditor written in E.
-use Rattle.std.specs.Prelude.{◌≡◌, ℕ, pos, negsuc, List, [], ◌∷◌, ◌++◌, Option, Some, None, codes, replicate}
-use Rattle.ev_machine.specs.Values.{Words}
-use Rattle.ev_run.specs.World.{Entry, Turn, Carry, CutLink, NoticeLink, drain, Program, Script, run}
-use Rattle.ev_run.specs.Text.{lines, text}
-use Rattle.ev_kernel.specs.declared.node.Literal.TheVariants as literal
+use Rattle.std.specs.Prelude.{◌≡◌, List, [], ◌∷◌, None, Ok, codes}
+use Rattle.ev_run.specs.World.{Script, run}
+use Rattle.ev_run.specs.Text.{text}
+use Rattle.ev_kernel.specs.Reading.{read}
+use Rattle.ev_machine_rows.specs.Endings.{lines}
 use Rattle.ev_kernel.specs.declared.node.Node.{Node}
-use Rattle.ev_kernel.specs.declared.node.Node.TheVariants.{Lit, Noun, Set, Def, Call, Sequence, If, Escape, Try, Finally, Hide, MatchBind, Object, Method, Matcher, Final, Var, Any, ListPattern, Via}
+use Rattle.ev_kernel.specs.declared.node.Node.TheVariants.{Noun, Call, Sequence, Object, Method, Final}
 use Rattle.ev_machine_rows.specs.Keys.{zeros}
 
 -- def aud { method audit(n) { true } }; def x implements aud {}; auditedBy(aud, x)
@@ -32,8 +32,8 @@ script = record {
   fuel = 1000000;
   depth = 400;
   vats =
-    record { name = codes "a"; knows = []; tree = tree_a } ∷
-    [];
+      record { name = codes "a"; knows = []; tree = tree_a } ∷
+      [];
   schedule = [];
 }
 
@@ -49,6 +49,11 @@ Row21Holds = text script (run script) ≡ lines (
     ∷ codes "settle @a true"
     ∷ codes "end"
     ∷ [])
+
+-- the trees are those of these forms
+abbrev pub Row21Reads : Type 0
+Row21Reads =
+    (read (codes "(seq (object (final aud) () (method audit ((final n)) (noun true))) (object (final x) ((noun aud))) (call (noun auditedBy) run (noun aud) (noun x)))") ≡ Ok tree_a)
 
 -- opens the definitions of this file
 unfoldable pub opened_row21 : Unit {0}

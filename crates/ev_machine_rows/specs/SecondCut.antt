@@ -1,11 +1,12 @@
 -- A second cut and a second notice.
-use Rattle.std.specs.Prelude.{◌≡◌, ℕ, pos, negsuc, List, [], ◌∷◌, ◌++◌, Option, Some, None, codes, replicate}
-use Rattle.ev_machine.specs.Values.{Words}
-use Rattle.ev_run.specs.World.{Entry, Turn, Carry, CutLink, NoticeLink, drain, Program, Script, run}
-use Rattle.ev_run.specs.Text.{lines, text}
+use Rattle.std.specs.Prelude.{◌≡◌, pos, List, [], ◌∷◌, None, Ok, codes}
+use Rattle.ev_run.specs.World.{CutLink, NoticeLink, Script, run}
+use Rattle.ev_run.specs.Text.{text}
+use Rattle.ev_kernel.specs.Reading.{read}
+use Rattle.ev_machine_rows.specs.Endings.{lines}
 use Rattle.ev_kernel.specs.declared.node.Literal.TheVariants as literal
 use Rattle.ev_kernel.specs.declared.node.Node.{Node}
-use Rattle.ev_kernel.specs.declared.node.Node.TheVariants.{Lit, Noun, Set, Def, Call, Sequence, If, Escape, Try, Finally, Hide, MatchBind, Object, Method, Matcher, Final, Var, Any, ListPattern, Via}
+use Rattle.ev_kernel.specs.declared.node.Node.TheVariants.{Lit, Noun, Def, Call, Sequence, Object, Method, Final}
 use Rattle.ev_machine_rows.specs.Keys.{zeros}
 
 -- def r := b <- f(1); def go { method run() { b <- f(2) } }; go <- run()
@@ -55,9 +56,9 @@ script = record {
   fuel = 1000000;
   depth = 400;
   vats =
-    record { name = codes "a"; knows = 1 ∷ []; tree = tree_a } ∷
-    record { name = codes "b"; knows = []; tree = tree_b } ∷
-    [];
+      record { name = codes "a"; knows = 1 ∷ []; tree = tree_a } ∷
+      record { name = codes "b"; knows = []; tree = tree_b } ∷
+      [];
   schedule = CutLink 0 1 ∷ CutLink 0 1 ∷ NoticeLink 0 1 ∷ NoticeLink 0 1 ∷ [];
 }
 
@@ -85,6 +86,12 @@ SecondCutHolds = text script (run script) ≡ lines (
     ∷ codes "left queue a a/1"
     ∷ codes "end"
     ∷ [])
+
+-- the trees are those of these forms
+abbrev pub SecondCutReads : Type 0
+SecondCutReads =
+    (read (codes "(seq (def (final r) (call (noun E) send (noun b) (lit \"f\") (call (noun __makeList) run (lit 1)))) (object (final go) () (method run () (call (noun E) send (noun b) (lit \"f\") (call (noun __makeList) run (lit 2))))) (call (noun E) send (noun go) (lit \"run\") (call (noun __makeList) run)))") ≡ Ok tree_a)
+    × (read (codes "(object (final t) () (method f ((final x)) (noun x)))") ≡ Ok tree_b)
 
 -- opens the definitions of this file
 unfoldable pub opened_secondcut : Unit {0}

@@ -1,42 +1,42 @@
 //! Small programs from the corners of the language, and how each ends.
 
-ghost use Rattle.ev_machine_rows.specs.Guards.{GuardsHold};
-ghost use Rattle.ev_machine_rows.specs.Natives.{NativesHold};
-ghost use Rattle.ev_machine_rows.specs.References.{ReferencesHold};
-ghost use Rattle.ev_machine_rows.specs.Audits.{AuditsHold};
-ghost use Rattle.ev_machine_rows.specs.Bounds.{BoundsHold};
+ghost use Rattle.ev_machine_rows.specs.Guards.{GuardsHold, GuardsRead};
+ghost use Rattle.ev_machine_rows.specs.Natives.{NativesHold, NativesRead};
+ghost use Rattle.ev_machine_rows.specs.References.{ReferencesHold, ReferencesRead};
+ghost use Rattle.ev_machine_rows.specs.Audits.{AuditsHold, AuditsRead};
+ghost use Rattle.ev_machine_rows.specs.Bounds.{BoundsHold, BoundsRead};
 
 /// Guards, ejectors and patterns.
-#[tactic(auto, unfolding(crate::specs::Endings::opened_endings, crate::specs::Guards::opened_guards))]
+#[tactic(auto, unfolding(crate::specs::Endings::opened_endings, ev_kernel::specs::Reading::opened_reading, crate::specs::Guards::opened_guards))]
 pub fn guards_hold()
-    ensures { GuardsHold }
-{
-}
+    ensures ends { GuardsHold }
+    ensures trees { GuardsRead }
+{}
 
 /// What data and primitives answer.
-#[tactic(auto, unfolding(crate::specs::Endings::opened_endings, crate::specs::Natives::opened_natives))]
+#[tactic(auto, unfolding(crate::specs::Endings::opened_endings, ev_kernel::specs::Reading::opened_reading, crate::specs::Natives::opened_natives))]
 pub fn natives_hold()
-    ensures { NativesHold }
-{
-}
+    ensures ends { NativesHold }
+    ensures trees { NativesRead }
+{}
 
 /// References inside a vat.
-#[tactic(auto, unfolding(crate::specs::Endings::opened_endings, crate::specs::References::opened_references))]
+#[tactic(auto, unfolding(crate::specs::Endings::opened_endings, ev_kernel::specs::Reading::opened_reading, crate::specs::References::opened_references))]
 pub fn references_hold()
-    ensures { ReferencesHold }
-{
-}
+    ensures ends { ReferencesHold }
+    ensures trees { ReferencesRead }
+{}
 
 /// Auditors and auditions.
-#[tactic(auto, unfolding(crate::specs::Endings::opened_endings, crate::specs::Audits::opened_audits))]
+#[tactic(auto, unfolding(crate::specs::Endings::opened_endings, ev_kernel::specs::Reading::opened_reading, crate::specs::Audits::opened_audits))]
 pub fn audits_hold()
-    ensures { AuditsHold }
-{
-}
+    ensures ends { AuditsHold }
+    ensures trees { AuditsRead }
+{}
 
 /// The least fuel and the depth of small programs.
-#[tactic(auto, unfolding(crate::specs::Endings::opened_endings, crate::specs::Bounds::opened_bounds))]
+#[tactic(auto, unfolding(crate::specs::Endings::opened_endings, ev_kernel::specs::Reading::opened_reading, crate::specs::Bounds::opened_bounds))]
 pub fn bounds_hold()
-    ensures { BoundsHold }
-{
-}
+    ensures ends { BoundsHold }
+    ensures trees { BoundsRead }
+{}

@@ -1,210 +1,225 @@
 //! The worked rows.
 
 ghost use Rattle.ev_machine_rows.specs.Row01.{Row01Holds};
-ghost use Rattle.ev_machine_rows.specs.Row02.{Row02Holds};
-ghost use Rattle.ev_machine_rows.specs.Row03.{Row03Holds};
-ghost use Rattle.ev_machine_rows.specs.Row04.{Row04Holds};
-ghost use Rattle.ev_machine_rows.specs.Row05.{Row05Holds};
-ghost use Rattle.ev_machine_rows.specs.Row06a.{Row06aHolds};
-ghost use Rattle.ev_machine_rows.specs.Row06b.{Row06bHolds};
-ghost use Rattle.ev_machine_rows.specs.Row07.{Row07Holds};
-ghost use Rattle.ev_machine_rows.specs.Row08a.{Row08aHolds};
-ghost use Rattle.ev_machine_rows.specs.Row08b.{Row08bHolds};
-ghost use Rattle.ev_machine_rows.specs.Row08c.{Row08cHolds};
-ghost use Rattle.ev_machine_rows.specs.Row09.{Row09Holds};
-ghost use Rattle.ev_machine_rows.specs.Row10.{Row10Holds};
-ghost use Rattle.ev_machine_rows.specs.Row11.{Row11Holds};
-ghost use Rattle.ev_machine_rows.specs.Row12.{Row12Holds};
-ghost use Rattle.ev_machine_rows.specs.Row13.{Row13Holds};
-ghost use Rattle.ev_machine_rows.specs.Row14.{Row14Holds};
-ghost use Rattle.ev_machine_rows.specs.Row15a.{Row15aHolds};
-ghost use Rattle.ev_machine_rows.specs.Row15b.{Row15bHolds};
-ghost use Rattle.ev_machine_rows.specs.Row16.{Row16Holds};
-ghost use Rattle.ev_machine_rows.specs.Row17.{Row17Holds};
-ghost use Rattle.ev_machine_rows.specs.SecondCut.{SecondCutHolds};
-ghost use Rattle.ev_machine_rows.specs.OrderOverACut.{OrderOverACutHolds};
-ghost use Rattle.ev_machine_rows.specs.AuditorThrows.{AuditorThrowsHolds};
-ghost use Rattle.ev_machine_rows.specs.Row21.{Row21Holds};
-ghost use Rattle.ev_machine_rows.specs.Row19.{Row19Holds};
+ghost use Rattle.ev_machine_rows.specs.Row02.{Row02Holds, Row02Reads};
+ghost use Rattle.ev_machine_rows.specs.Row03.{Row03Holds, Row03Reads};
+ghost use Rattle.ev_machine_rows.specs.Row04.{Row04Holds, Row04Reads};
+ghost use Rattle.ev_machine_rows.specs.Row05.{Row05Holds, Row05Reads};
+ghost use Rattle.ev_machine_rows.specs.Row06a.{Row06aHolds, Row06aReads};
+ghost use Rattle.ev_machine_rows.specs.Row06b.{Row06bHolds, Row06bReads};
+ghost use Rattle.ev_machine_rows.specs.Row07.{Row07Holds, Row07Reads};
+ghost use Rattle.ev_machine_rows.specs.Row08a.{Row08aHolds, Row08aReads};
+ghost use Rattle.ev_machine_rows.specs.Row08b.{Row08bHolds, Row08bReads};
+ghost use Rattle.ev_machine_rows.specs.Row08c.{Row08cHolds, Row08cReads};
+ghost use Rattle.ev_machine_rows.specs.Row09.{Row09Holds, Row09Reads};
+ghost use Rattle.ev_machine_rows.specs.Row10.{Row10Holds, Row10Reads};
+ghost use Rattle.ev_machine_rows.specs.Row11.{Row11Holds, Row11Reads};
+ghost use Rattle.ev_machine_rows.specs.Row12.{Row12Holds, Row12Reads};
+ghost use Rattle.ev_machine_rows.specs.Row13.{Row13Holds, Row13Reads};
+ghost use Rattle.ev_machine_rows.specs.Row14.{Row14Holds, Row14Reads};
+ghost use Rattle.ev_machine_rows.specs.Row15a.{Row15aHolds, Row15aReads};
+ghost use Rattle.ev_machine_rows.specs.Row15b.{Row15bHolds, Row15bReads};
+ghost use Rattle.ev_machine_rows.specs.Row16.{Row16Holds, Row16Reads};
+ghost use Rattle.ev_machine_rows.specs.Row17.{Row17Holds, Row17Reads};
+ghost use Rattle.ev_machine_rows.specs.SecondCut.{SecondCutHolds, SecondCutReads};
+ghost use Rattle.ev_machine_rows.specs.OrderOverACut.{OrderOverACutHolds, OrderOverACutReads};
+ghost use Rattle.ev_machine_rows.specs.AuditorThrows.{AuditorThrowsHolds, AuditorThrowsReads};
+ghost use Rattle.ev_machine_rows.specs.Row21.{Row21Holds, Row21Reads};
+ghost use Rattle.ev_machine_rows.specs.Row11Wire.{Row11WireHolds, Row11WireReads};
+ghost use Rattle.ev_machine_rows.specs.Row14Wire.{Row14WireHolds, Row14WireReads};
+ghost use Rattle.ev_machine_rows.specs.Row19.{Row19Holds, Row19Reads};
 
 /// A run of no vats.
-#[tactic(auto, unfolding(ev_run::specs::Text::opened_text, crate::specs::Row01::opened_row01))]
+#[tactic(auto, unfolding(ev_run::specs::Text::opened_text, crate::specs::Endings::lines, ev_kernel::specs::Reading::opened_reading, crate::specs::Row01::opened_row01))]
 pub fn row_01()
     ensures { Row01Holds }
-{
-}
+{}
 
 /// An integer that answers.
-#[tactic(auto, unfolding(ev_run::specs::Text::opened_text, crate::specs::Row02::opened_row02))]
+#[tactic(auto, unfolding(ev_run::specs::Text::opened_text, crate::specs::Endings::lines, ev_kernel::specs::Reading::opened_reading, crate::specs::Row02::opened_row02))]
 pub fn row_02()
-    ensures { Row02Holds }
-{
-}
+    ensures text { Row02Holds }
+    ensures trees { Row02Reads }
+{}
 
 /// A sum that is out of range.
-#[tactic(auto, unfolding(ev_run::specs::Text::opened_text, crate::specs::Row03::opened_row03))]
+#[tactic(auto, unfolding(ev_run::specs::Text::opened_text, crate::specs::Endings::lines, ev_kernel::specs::Reading::opened_reading, crate::specs::Row03::opened_row03))]
 pub fn row_03()
-    ensures { Row03Holds }
-{
-}
+    ensures text { Row03Holds }
+    ensures trees { Row03Reads }
+{}
 
 /// Two objects share a var slot.
-#[tactic(auto, unfolding(ev_run::specs::Text::opened_text, crate::specs::Row04::opened_row04))]
+#[tactic(auto, unfolding(ev_run::specs::Text::opened_text, crate::specs::Endings::lines, ev_kernel::specs::Reading::opened_reading, crate::specs::Row04::opened_row04))]
 pub fn row_04()
-    ensures { Row04Holds }
-{
-}
+    ensures text { Row04Holds }
+    ensures trees { Row04Reads }
+{}
 
 /// A dead ejector, and a matcher.
-#[tactic(auto, unfolding(ev_run::specs::Text::opened_text, crate::specs::Row05::opened_row05))]
+#[tactic(auto, unfolding(ev_run::specs::Text::opened_text, crate::specs::Endings::lines, ev_kernel::specs::Reading::opened_reading, crate::specs::Row05::opened_row05))]
 pub fn row_05()
-    ensures { Row05Holds }
-{
-}
+    ensures text { Row05Holds }
+    ensures trees { Row05Reads }
+{}
 
 /// A guard that fails.
-#[tactic(auto, unfolding(ev_run::specs::Text::opened_text, crate::specs::Row06a::opened_row06a))]
+#[tactic(auto, unfolding(ev_run::specs::Text::opened_text, crate::specs::Endings::lines, ev_kernel::specs::Reading::opened_reading, crate::specs::Row06a::opened_row06a))]
 pub fn row_06a()
-    ensures { Row06aHolds }
-{
-}
+    ensures text { Row06aHolds }
+    ensures trees { Row06aReads }
+{}
 
 /// A guard that fails with an ejector.
-#[tactic(auto, unfolding(ev_run::specs::Text::opened_text, crate::specs::Row06b::opened_row06b))]
+#[tactic(auto, unfolding(ev_run::specs::Text::opened_text, crate::specs::Endings::lines, ev_kernel::specs::Reading::opened_reading, crate::specs::Row06b::opened_row06b))]
 pub fn row_06b()
-    ensures { Row06bHolds }
-{
-}
+    ensures text { Row06bHolds }
+    ensures trees { Row06bReads }
+{}
 
 /// What DeepFrozen approves.
-#[tactic(auto, unfolding(ev_run::specs::Text::opened_text, crate::specs::Row07::opened_row07))]
+#[tactic(auto, unfolding(ev_run::specs::Text::opened_text, crate::specs::Endings::lines, ev_kernel::specs::Reading::opened_reading, crate::specs::Row07::opened_row07))]
 pub fn row_07()
-    ensures { Row07Holds }
-{
-}
+    ensures text { Row07Holds }
+    ensures trees { Row07Reads }
+{}
 
 /// Fuel that just suffices.
-#[tactic(auto, unfolding(ev_run::specs::Text::opened_text, crate::specs::Row08a::opened_row08a))]
+#[tactic(auto, unfolding(ev_run::specs::Text::opened_text, crate::specs::Endings::lines, ev_kernel::specs::Reading::opened_reading, crate::specs::Row08a::opened_row08a))]
 pub fn row_08a()
-    ensures { Row08aHolds }
-{
-}
+    ensures text { Row08aHolds }
+    ensures trees { Row08aReads }
+{}
 
 /// Fuel that does not suffice.
-#[tactic(auto, unfolding(ev_run::specs::Text::opened_text, crate::specs::Row08b::opened_row08b))]
+#[tactic(auto, unfolding(ev_run::specs::Text::opened_text, crate::specs::Endings::lines, ev_kernel::specs::Reading::opened_reading, crate::specs::Row08b::opened_row08b))]
 pub fn row_08b()
-    ensures { Row08bHolds }
-{
-}
+    ensures text { Row08bHolds }
+    ensures trees { Row08bReads }
+{}
 
 /// A recursion without end.
-#[tactic(auto, unfolding(ev_run::specs::Text::opened_text, crate::specs::Row08c::opened_row08c))]
+#[tactic(auto, unfolding(ev_run::specs::Text::opened_text, crate::specs::Endings::lines, ev_kernel::specs::Reading::opened_reading, crate::specs::Row08c::opened_row08c))]
 pub fn row_08c()
-    ensures { Row08cHolds }
-{
-}
+    ensures text { Row08cHolds }
+    ensures trees { Row08cReads }
+{}
 
 /// Messages are taken in order.
-#[tactic(auto, unfolding(ev_run::specs::Text::opened_text, crate::specs::Row09::opened_row09))]
+#[tactic(auto, unfolding(ev_run::specs::Text::opened_text, crate::specs::Endings::lines, ev_kernel::specs::Reading::opened_reading, crate::specs::Row09::opened_row09))]
 pub fn row_09()
-    ensures { Row09Holds }
-{
-}
+    ensures text { Row09Holds }
+    ensures trees { Row09Reads }
+{}
 
 /// A message sent on an answer that is not there yet.
-#[tactic(auto, unfolding(ev_run::specs::Text::opened_text, crate::specs::Row10::opened_row10))]
+#[tactic(auto, unfolding(ev_run::specs::Text::opened_text, crate::specs::Endings::lines, ev_kernel::specs::Reading::opened_reading, crate::specs::Row10::opened_row10))]
 pub fn row_10()
-    ensures { Row10Holds }
-{
-}
+    ensures text { Row10Holds }
+    ensures trees { Row10Reads }
+{}
 
 /// A vat introduces another to a third.
-#[tactic(auto, unfolding(ev_run::specs::Text::opened_text, crate::specs::Row11::opened_row11))]
+#[tactic(auto, unfolding(ev_run::specs::Text::opened_text, crate::specs::Endings::lines, ev_kernel::specs::Reading::opened_reading, crate::specs::Row11::opened_row11))]
 pub fn row_11()
-    ensures { Row11Holds }
-{
-}
+    ensures text { Row11Holds }
+    ensures trees { Row11Reads }
+{}
 
 /// A partition breaks a gift.
-#[tactic(auto, unfolding(ev_run::specs::Text::opened_text, crate::specs::Row12::opened_row12))]
+#[tactic(auto, unfolding(ev_run::specs::Text::opened_text, crate::specs::Endings::lines, ev_kernel::specs::Reading::opened_reading, crate::specs::Row12::opened_row12))]
 pub fn row_12()
-    ensures { Row12Holds }
-{
-}
+    ensures text { Row12Holds }
+    ensures trees { Row12Reads }
+{}
 
 /// A reference shortened to its own vat.
-#[tactic(auto, unfolding(ev_run::specs::Text::opened_text, crate::specs::Row13::opened_row13))]
+#[tactic(auto, unfolding(ev_run::specs::Text::opened_text, crate::specs::Endings::lines, ev_kernel::specs::Reading::opened_reading, crate::specs::Row13::opened_row13))]
 pub fn row_13()
-    ensures { Row13Holds }
-{
-}
+    ensures text { Row13Holds }
+    ensures trees { Row13Reads }
+{}
 
 /// A reference shortened to a third vat.
-#[tactic(auto, unfolding(ev_run::specs::Text::opened_text, crate::specs::Row14::opened_row14))]
+#[tactic(auto, unfolding(ev_run::specs::Text::opened_text, crate::specs::Endings::lines, ev_kernel::specs::Reading::opened_reading, crate::specs::Row14::opened_row14))]
 pub fn row_14()
-    ensures { Row14Holds }
-{
-}
+    ensures text { Row14Holds }
+    ensures trees { Row14Reads }
+{}
 
 /// Two promises that wait on each other in two vats.
-#[tactic(auto, unfolding(ev_run::specs::Text::opened_text, crate::specs::Row15a::opened_row15a))]
+#[tactic(auto, unfolding(ev_run::specs::Text::opened_text, crate::specs::Endings::lines, ev_kernel::specs::Reading::opened_reading, crate::specs::Row15a::opened_row15a))]
 pub fn row_15a()
-    ensures { Row15aHolds }
-{
-}
+    ensures text { Row15aHolds }
+    ensures trees { Row15aReads }
+{}
 
 /// A promise that is resolved to itself.
-#[tactic(auto, unfolding(ev_run::specs::Text::opened_text, crate::specs::Row15b::opened_row15b))]
+#[tactic(auto, unfolding(ev_run::specs::Text::opened_text, crate::specs::Endings::lines, ev_kernel::specs::Reading::opened_reading, crate::specs::Row15b::opened_row15b))]
 pub fn row_15b()
-    ensures { Row15bHolds }
-{
-}
+    ensures text { Row15bHolds }
+    ensures trees { Row15bReads }
+{}
 
 /// Two gifts that are one object.
-#[tactic(auto, unfolding(ev_run::specs::Text::opened_text, crate::specs::Row16::opened_row16))]
+#[tactic(auto, unfolding(ev_run::specs::Text::opened_text, crate::specs::Endings::lines, ev_kernel::specs::Reading::opened_reading, crate::specs::Row16::opened_row16))]
 pub fn row_16()
-    ensures { Row16Holds }
-{
-}
+    ensures text { Row16Holds }
+    ensures trees { Row16Reads }
+{}
 
 /// A cut that each side notices.
-#[tactic(auto, unfolding(ev_run::specs::Text::opened_text, crate::specs::Row17::opened_row17))]
+#[tactic(auto, unfolding(ev_run::specs::Text::opened_text, crate::specs::Endings::lines, ev_kernel::specs::Reading::opened_reading, crate::specs::Row17::opened_row17))]
 pub fn row_17()
-    ensures { Row17Holds }
-{
-}
+    ensures text { Row17Holds }
+    ensures trees { Row17Reads }
+{}
 
 /// A second cut and a second notice.
-#[tactic(auto, unfolding(ev_run::specs::Text::opened_text, crate::specs::SecondCut::opened_secondcut))]
+#[tactic(auto, unfolding(ev_run::specs::Text::opened_text, crate::specs::Endings::lines, ev_kernel::specs::Reading::opened_reading, crate::specs::SecondCut::opened_secondcut))]
 pub fn second_cut()
-    ensures { SecondCutHolds }
-{
-}
+    ensures text { SecondCutHolds }
+    ensures trees { SecondCutReads }
+{}
 
 /// A message behind one that a cut lost is lost too.
-#[tactic(auto, unfolding(ev_run::specs::Text::opened_text, crate::specs::OrderOverACut::opened_orderoveracut))]
+#[tactic(auto, unfolding(ev_run::specs::Text::opened_text, crate::specs::Endings::lines, ev_kernel::specs::Reading::opened_reading, crate::specs::OrderOverACut::opened_orderoveracut))]
 pub fn order_over_a_cut()
-    ensures { OrderOverACutHolds }
-{
-}
+    ensures text { OrderOverACutHolds }
+    ensures trees { OrderOverACutReads }
+{}
 
 /// An auditor that throws leaves the making.
-#[tactic(auto, unfolding(ev_run::specs::Text::opened_text, crate::specs::AuditorThrows::opened_auditorthrows))]
+#[tactic(auto, unfolding(ev_run::specs::Text::opened_text, crate::specs::Endings::lines, ev_kernel::specs::Reading::opened_reading, crate::specs::AuditorThrows::opened_auditorthrows))]
 pub fn auditor_throws()
-    ensures { AuditorThrowsHolds }
-{
-}
+    ensures text { AuditorThrowsHolds }
+    ensures trees { AuditorThrowsReads }
+{}
 
 /// An auditor written in E.
-#[tactic(auto, unfolding(ev_run::specs::Text::opened_text, crate::specs::Row21::opened_row21))]
+#[tactic(auto, unfolding(ev_run::specs::Text::opened_text, crate::specs::Endings::lines, ev_kernel::specs::Reading::opened_reading, crate::specs::Row21::opened_row21))]
 pub fn row_21()
-    ensures { Row21Holds }
-{
-}
+    ensures text { Row21Holds }
+    ensures trees { Row21Reads }
+{}
+
+/// An introduction, with its frames.
+#[tactic(auto, unfolding(ev_run::specs::Text::opened_text, crate::specs::Endings::lines, ev_kernel::specs::Reading::opened_reading, crate::specs::Row11Wire::opened_row11wire))]
+pub fn row_11_wire()
+    ensures text { Row11WireHolds }
+    ensures trees { Row11WireReads }
+{}
+
+/// A shortening, with its frames.
+#[tactic(auto, unfolding(ev_run::specs::Text::opened_text, crate::specs::Endings::lines, ev_kernel::specs::Reading::opened_reading, crate::specs::Row14Wire::opened_row14wire))]
+pub fn row_14_wire()
+    ensures text { Row14WireHolds }
+    ensures trees { Row14WireReads }
+{}
 
 /// A purchase over three vats.
-#[tactic(auto, unfolding(ev_run::specs::Text::opened_text, crate::specs::Row19::opened_row19))]
+#[tactic(auto, unfolding(ev_run::specs::Text::opened_text, crate::specs::Endings::lines, ev_kernel::specs::Reading::opened_reading, crate::specs::Row19::opened_row19))]
 pub fn row_19()
-    ensures { Row19Holds }
-{
-}
+    ensures text { Row19Holds }
+    ensures trees { Row19Reads }
+{}

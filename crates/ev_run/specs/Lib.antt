@@ -1,3 +1,5 @@
 pub mod Draws
 pub mod World
+pub mod Shown
+pub mod Wire
 pub mod Text

@@ -1,7 +1,7 @@
 -- A run: vats on links, the opening turns, the entries of the schedule, and the closing list.
-use Rattle.std.specs.Prelude.{ℕ, zero, suc, pred, ◌+◌, ◌*◌, Bool, true, false, List, [], ◌∷◌, ◌++◌, Option, Some, None, length, slice_get, map, ◌==◌, ◌&&◌}
-use Rattle.ev_machine.specs.Values.{Words, Value, Null, Flag, Number, Letter, Text, Prim, Broken, Items, Ref, Name, Root, Object, Gift, same_name, host_of, Naming, naming, IsRoot}
-use Rattle.ev_machine.specs.State.{Bound, Fixed, Binding, Message, Known, Passed, Passeds, Plain, AGift, Many, NoMore, More, Note, Deliver, Open, Ask, SettledTo, Elsewhere, Shorten, Put, Happened, Posted, Vat, Stop, Astray, Done, Gives, Throws, Ejects, Stops, Act, begun, is_in}
+use Rattle.std.specs.Prelude.{ℕ, zero, suc, pred, ◌+◌, Bool, true, false, List, [], ◌∷◌, ◌++◌, Option, Some, None, length, slice_get, map, ◌==◌}
+use Rattle.ev_machine.specs.Values.{Words, Value, Null, Flag, Number, Letter, Text, Prim, Broken, Items, Ref, Name, Root, Object, Gift, same_name, host_of, Naming, naming}
+use Rattle.ev_machine.specs.State.{Fixed, Binding, Message, Known, Passed, Passeds, Plain, AGift, Many, NoMore, More, Note, Deliver, Open, Ask, SettledTo, Elsewhere, Shorten, Put, Happened, Posted, Vat, Stop, Astray, Done, Gives, Throws, Ejects, Stops, Act, begun, is_in}
 use Rattle.ev_machine.specs.Arrive.{Incoming, Old, New, arrive, notice}
 use Rattle.ev_machine.specs.Eval.{any_guard, opening, taking}
 use Rattle.ev_kernel.specs.declared.node.Node.{Node}
@@ -31,12 +31,24 @@ pub record Script : Type 0 where
   pub vats : List Program
   pub schedule : List Entry
 
+-- the way from one vat to another
+pub record Link : Type 0 where
+  pub from : ℕ
+  pub to : ℕ
+  pub cut : Bool
+  -- the notes under way, the first in front
+  pub notes : List (Note Name)
+  -- what the receiver knows of the sender from the start
+  pub roots : List Name
+  -- every note that was put, also those that were lost
+  pub log : List (Note Name)
+
 pub data Event : Type 0 where
   Opens : ℕ → Event
   Turned : ℕ → ℕ → Event
   Idle : ℕ → Event
-  -- entry, from, to, note
-  Carried : ℕ → ℕ → ℕ → Note Name → Event
+  -- entry, from, to, note, and the links as they are then
+  Carried : ℕ → ℕ → ℕ → Note Name → List Link → Event
   CutAt : ℕ → ℕ → ℕ → Event
   NoticedAt : ℕ → ℕ → ℕ → Event
   -- at that vat
@@ -49,14 +61,6 @@ pub data Event : Type 0 where
   LeftLink : ℕ → ℕ → Note Name → Event
   Ends : Event
 
--- the way from one vat to another
-pub record Link : Type 0 where
-  pub from : ℕ
-  pub to : ℕ
-  pub cut : Bool
-  -- the notes under way, the first in front
-  pub notes : List (Note Name)
-
 pub record World : Type 0 where
   pub fuel : ℕ
   pub drawn : List ℕ
@@ -65,14 +69,14 @@ pub record World : Type 0 where
   pub links : List Link
   pub history : List Event
 
--- A run, or what is left of it where a step stopped: why, which step, and the history of the steps before.
+-- A run, or what is left of it where a step stopped: why, which step, and the world before it.
 pub data Run : Type 0 where
   Goes : World → Run
-  Stopped : Stop → ℕ → List Event → Run
+  Stopped : Stop → ℕ → World → Run
 
 unfoldable pub then_goes : Run → (World → Run) → Run
 then_goes (Goes w) f = f w
-then_goes (Stopped c k h) f = Stopped c k h
+then_goes (Stopped c k w) f = Stopped c k w
 
 -- ---- links
 
@@ -96,7 +100,7 @@ is_cut v w ls = cut_in (link_at v w ls)
 
 -- a note put on a link that is cut is lost
 unfoldable pub pushed : Note Name → Link → Link
-pushed n l = elim l.cut [ true ↦ l | false ↦ record l { notes = l.notes ++ n ∷ [] } ]
+pushed n l = elim l.cut [ true ↦ record l { log = l.log ++ n ∷ [] } | false ↦ record l { notes = l.notes ++ n ∷ []; log = l.log ++ n ∷ [] } ]
 
 unfoldable pub push_all : ℕ → List (Put Name) → List Link → List Link
 push_all v [] ls = ls
@@ -133,16 +137,16 @@ put_back v w head step (Gives u s) = Goes (record {
   links = push_all v s.outbox w.links;
   history = w.history ++ head ++ events_of w.links v s.happened;
 })
-put_back v w head step (Throws t s) = Stopped Astray step w.history
-put_back v w head step (Ejects n x s) = Stopped Astray step w.history
-put_back v w head step (Stops c s) = Stopped c step w.history
+put_back v w head step (Throws t s) = Stopped Astray step w
+put_back v w head step (Ejects n x s) = Stopped Astray step w
+put_back v w head step (Stops c s) = Stopped c step w
 
 unfoldable pub readied : World → Vat Name → Vat Name
 readied w s = record s { fuel = w.fuel; drawn = w.drawn; outbox = []; happened = [] }
 
 -- a step of vat v
 unfoldable pub within : ℕ → World → List Event → ℕ → Act Name (Unit {0}) → Option (Vat Name) → Run
-within v w head step m None = Stopped Astray step w.history
+within v w head step m None = Stopped Astray step w
 within v w head step m (Some s) = put_back v w head step (m (readied w s))
 
 -- ---- a note that arrives is read by the names that the receiver knows
@@ -243,11 +247,14 @@ unfoldable pub fresh_from : Script → ℕ → List Program → List (Vat Name)
 fresh_from script v [] = []
 fresh_from script v (p ∷ ps) = fresh script v p ∷ fresh_from script (suc v) ps
 
+unfoldable pub roots_for : ℕ → Program → List Name
+roots_for v p = elim (is_in v p.knows) [ true ↦ Root v ∷ [] | false ↦ [] ]
+
 unfoldable pub links_to : ℕ → ℕ → List Program → List Link
 links_to v w [] = []
 links_to v w (p ∷ ps) = elim (v == w) [
   | true ↦ links_to v (suc w) ps
-  | false ↦ record { from = v; to = w; cut = false; notes = [] } ∷ links_to v (suc w) ps
+  | false ↦ record { from = v; to = w; cut = false; notes = []; roots = roots_for v p; log = [] } ∷ links_to v (suc w) ps
 ]
 
 unfoldable pub links_from : List Program → ℕ → List Program → List Link
@@ -301,7 +308,7 @@ module _ (script : Script) where
 
   unfoldable pub arrives : ℕ → ℕ → ℕ → World → Note Name → Option (Vat Name) → Run
   arrives k v w world n None = idle k world
-  arrives k v w world n (Some s) = within w world (Carried k v w n ∷ []) (step_number k) (arrive (names w) v (read_note (names_of s) n)) (Some s)
+  arrives k v w world n (Some s) = within w world (Carried k v w n world.links ∷ []) (step_number k) (arrive (names w) v (read_note (names_of s) n)) (Some s)
 
   unfoldable pub carry_notes : ℕ → ℕ → ℕ → World → List (Note Name) → Run
   carry_notes k v w world [] = idle k world
@@ -387,5 +394,5 @@ drain n (suc rounds) = turns_of zero n ++ carries_of n zero n ++ drain n rounds
 
 -- opens each definition of this file, and of those below
 unfoldable pub opened_world : Unit {0}
-unfolding then_goes is_link link_at with_link cut_in is_cut pushed push_all with_notes severed_link event_of events_of put_at put_back readied within has_name is_old read_name known_after read_value plain_read many_read more_read read_passed read_all read_note names_of known_root knowers fresh fresh_from links_to links_from begins name_at tree_at given names open_vat open_from step_number idle turn_queue turn arrives carry_notes carry_link lost_by lost_on cut step steps_from left_held left_wait left_vat left_vats left_links close run turns_of carries_to carries_of drain opened_arrive opened_eval opened_draws
+unfolding then_goes is_link link_at with_link cut_in is_cut pushed push_all with_notes severed_link event_of events_of put_at put_back readied within has_name is_old read_name known_after read_value plain_read many_read more_read read_passed read_all read_note names_of known_root knowers fresh fresh_from roots_for links_to links_from begins name_at tree_at given names open_vat open_from step_number idle turn_queue turn arrives carry_notes carry_link lost_by lost_on cut step steps_from left_held left_wait left_vat left_vats left_links close run turns_of carries_to carries_of drain opened_arrive opened_eval opened_draws
 opened_world = tt

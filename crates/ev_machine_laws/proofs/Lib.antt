@@ -1,0 +1,9 @@
+pub mod Keeps
+pub mod RefsKeeps
+pub mod ArriveKeeps
+pub mod EvalKeeps
+pub mod StepLaws
+pub mod Quiet
+pub mod RefsQuiet
+pub mod ArriveQuiet
+pub mod StepEnds

@@ -1,0 +1,92 @@
+//! Laws of every step of a vat: an opening turn, a turn, the arrival of a note, a notice.
+
+ghost use Rattle.ev_machine_laws.specs.Laws.{FuelNeverRises};
+ghost use Rattle.ev_machine_laws.specs.Laws.{ObjectsStay};
+ghost use Rattle.ev_machine_laws.specs.Laws.{ResolversStay};
+ghost use Rattle.ev_machine_laws.specs.Laws.{EjectorsStayDead};
+ghost use Rattle.ev_machine_laws.specs.Laws.{AuditionsStayDead};
+ghost use Rattle.ev_machine_laws.specs.Laws.{ListsStay};
+ghost use Rattle.ev_machine_laws.specs.Laws.{GuardsStay};
+ghost use Rattle.ev_machine_laws.specs.Laws.{NamesStay};
+ghost use Rattle.ev_machine_laws.specs.Laws.{MailsStay};
+ghost use Rattle.ev_machine_laws.specs.Laws.{DrawsStay};
+ghost use Rattle.ev_machine_laws.specs.Laws.{SettlingsStay};
+ghost use Rattle.ev_machine_laws.specs.Laws.{BreakingsStay};
+ghost use Rattle.ev_machine_laws.specs.Laws.{NoticesStay};
+ghost use Rattle.ev_machine_laws.specs.Laws.{HistoryGrows};
+ghost use Rattle.ev_machine_laws.specs.Laws.{StepsAreQuiet};
+
+/// The fuel that is left never rises.
+pub fn fuel_never_rises()
+    ensures { FuelNeverRises }
+{}
+
+/// An object keeps its number, and its node, captures and stamps.
+pub fn objects_stay()
+    ensures { ObjectsStay }
+{}
+
+/// A resolver keeps its promise.
+pub fn resolvers_stay()
+    ensures { ResolversStay }
+{}
+
+/// An ejector that is dead stays dead.
+pub fn ejectors_stay_dead()
+    ensures { EjectorsStayDead }
+{}
+
+/// An audition that is dead stays dead.
+pub fn auditions_stay_dead()
+    ensures { AuditionsStayDead }
+{}
+
+/// A list keeps its number and its members.
+pub fn lists_stay()
+    ensures { ListsStay }
+{}
+
+/// A var slot keeps its number and its guard.
+pub fn guards_stay()
+    ensures { GuardsStay }
+{}
+
+/// A name that a vat knows keeps its place among those known, and its host.
+pub fn names_stay()
+    ensures { NamesStay }
+{}
+
+/// A message that a vat has had keeps its place.
+pub fn mails_stay()
+    ensures { MailsStay }
+{}
+
+/// A word that was drawn keeps its number.
+pub fn draws_stay()
+    ensures { DrawsStay }
+{}
+
+/// A name that settled stays settled to the same value.
+pub fn settlings_stay()
+    ensures { SettlingsStay }
+{}
+
+/// A name that settled to a broken reference is followed to it in every state after.
+pub fn breakings_stay()
+    ensures { BreakingsStay }
+{}
+
+/// A cut that was noticed stays noticed.
+pub fn notices_stay()
+    ensures { NoticesStay }
+{}
+
+/// What has happened and the notes put are added to at the end alone.
+pub fn history_grows()
+    ensures { HistoryGrows }
+{}
+
+/// No problem is thrown out of a step, and nothing leaves it by an ejector: it gives or stops.
+pub fn steps_are_quiet()
+    ensures { StepsAreQuiet }
+{}

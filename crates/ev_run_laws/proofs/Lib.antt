@@ -1,0 +1,2 @@
+pub mod RunKeeps
+pub mod RunLaws

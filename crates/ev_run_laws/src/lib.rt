@@ -1,0 +1,4 @@
+//! Laws of every run of the machine.
+#![tactic(auto)]
+
+pub mod runs;

@@ -1,0 +1,68 @@
+//! Laws of every run, from any world and over any entries of a schedule.
+
+ghost use Rattle.ev_run_laws.specs.Runs.{ObjectsStay};
+ghost use Rattle.ev_run_laws.specs.Runs.{ResolversStay};
+ghost use Rattle.ev_run_laws.specs.Runs.{EjectorsStayDead};
+ghost use Rattle.ev_run_laws.specs.Runs.{AuditionsStayDead};
+ghost use Rattle.ev_run_laws.specs.Runs.{ListsStay};
+ghost use Rattle.ev_run_laws.specs.Runs.{GuardsStay};
+ghost use Rattle.ev_run_laws.specs.Runs.{NamesStay};
+ghost use Rattle.ev_run_laws.specs.Runs.{NoticesStay};
+ghost use Rattle.ev_run_laws.specs.Runs.{SettlingsStay};
+ghost use Rattle.ev_run_laws.specs.Runs.{FuelNeverRises};
+ghost use Rattle.ev_run_laws.specs.Runs.{HistoryGrows};
+
+/// In a run an object keeps its number, and its node, captures and stamps.
+pub fn objects_stay()
+    ensures { ObjectsStay }
+{}
+
+/// In a run a resolver keeps its promise.
+pub fn resolvers_stay()
+    ensures { ResolversStay }
+{}
+
+/// In a run an ejector that is dead stays dead.
+pub fn ejectors_stay_dead()
+    ensures { EjectorsStayDead }
+{}
+
+/// In a run an audition that is dead stays dead.
+pub fn auditions_stay_dead()
+    ensures { AuditionsStayDead }
+{}
+
+/// In a run a list keeps its number and its members.
+pub fn lists_stay()
+    ensures { ListsStay }
+{}
+
+/// In a run a var slot keeps its number and its guard.
+pub fn guards_stay()
+    ensures { GuardsStay }
+{}
+
+/// In a run a name keeps its place among those that a vat knows, and its host.
+pub fn names_stay()
+    ensures { NamesStay }
+{}
+
+/// In a run a cut that was noticed stays noticed.
+pub fn notices_stay()
+    ensures { NoticesStay }
+{}
+
+/// In a run a name that settled at a vat stays settled there to the same value.
+pub fn settlings_stay()
+    ensures { SettlingsStay }
+{}
+
+/// In a run the fuel that is left never rises.
+pub fn fuel_never_rises()
+    ensures { FuelNeverRises }
+{}
+
+/// In a run the history is added to at its end alone.
+pub fn history_grows()
+    ensures { HistoryGrows }
+{}
