@@ -1,0 +1,5 @@
+pub mod Tables
+pub mod Open
+pub mod Turns
+pub mod High
+pub mod Reading

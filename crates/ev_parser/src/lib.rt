@@ -1,0 +1,6 @@
+//! The parser of E.
+#![tactic(auto)]
+
+pub mod draft;
+pub mod read;
+pub mod table;
