@@ -3,3 +3,5 @@ pub mod Open
 pub mod Turns
 pub mod High
 pub mod Reading
+pub mod Cuts
+pub mod Marks

@@ -780,7 +780,7 @@ pub fn is_stopping(kind: TokenKind) -> bool
     )
 }
 
-fn is_same(a: TokenKind, b: TokenKind) -> bool
+pub fn is_same(a: TokenKind, b: TokenKind) -> bool
     ensures { result ≡ same a b }
 {
     a as u8 == b as u8
