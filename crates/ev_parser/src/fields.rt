@@ -49,7 +49,13 @@ pub fn word_text(alloc: Global, text: &str, tokens: &[Token], word: Word) -> Res
 }
 
 /// The text of the token that is this part.
-pub fn text_at(alloc: Global, text: &str, tokens: &[Token], parts: &[Part], index: usize) -> Result<Str, Memory>
+pub fn text_at(
+    alloc: Global,
+    text: &str,
+    tokens: &[Token],
+    parts: &[Part],
+    index: usize,
+) -> Result<Str, Memory>
     ensures { IfOk result (λ t. t ≡ text_at text.now tokens.now parts.now index) }
 {
     match parts.get(index) {
@@ -168,7 +174,11 @@ pub fn before(parts: &[Part], kind: TokenKind) -> &[Part]
     ensures { result.now ≡ before kind parts.now }
 {
     let place = mark(parts, kind);
-    if place < parts.len() { &parts[..place] } else { parts }
+    if place < parts.len() {
+        &parts[..place]
+    } else {
+        parts
+    }
 }
 
 /// The parts behind the first token of a kind.
@@ -176,7 +186,11 @@ pub fn behind(parts: &[Part], kind: TokenKind) -> &[Part]
     ensures { result.now ≡ behind kind parts.now }
 {
     let place = mark(parts, kind);
-    if place < parts.len() { &parts[place + 1..] } else { &[] }
+    if place < parts.len() {
+        &parts[place + 1..]
+    } else {
+        &[]
+    }
 }
 
 /// The pattern and the block of a catch, if there is one.
@@ -224,7 +238,10 @@ fn catch_at(parts: &[Part], index: usize) -> Option<(NodeId, NodeId)>
         return None;
     }
     match &parts[index..] {
-        [Part::Token(_), Part::Tree(pattern), Part::Tree(block), ..] => Some((NodeId(*pattern as u64), NodeId(*block as u64))),
+        [Part::Token(_), Part::Tree(pattern), Part::Tree(block), ..] => Some((
+            NodeId(*pattern as u64),
+            NodeId(*block as u64),
+        )),
         _ => None,
     }
 }

@@ -6,7 +6,10 @@ ghost use Rattle.ev_token.specs.declared.token.TokenKind.TheVariants as kinds;
 ghost use Rattle.ev_grammar.specs.declared.syntax.Shape.TheVariants as shapes;
 
 use crate::draft::{Node, Part};
-use crate::fields::{before, behind, catches, caught_at, front, guard_of, is_part, last_tree, rest_of, tail, text_at, tree_at, tree_if, trees, word_text};
+use crate::fields::{
+    before, behind, catches, caught_at, front, guard_of, is_part, last_tree, rest_of, tail,
+    text_at, tree_at, tree_if, trees, word_text,
+};
 use ev_base::{Memory, Str};
 use ev_grammar::{Shape, Word};
 use ev_sugar::Form;
@@ -14,7 +17,13 @@ use ev_token::{Token, TokenKind};
 use std::alloc::Global;
 
 /// A number, a text or a character.
-fn literal(alloc: Global, text: &str, tokens: &[Token], first: Word, parts: &[Part]) -> Result<Form, Memory>
+fn literal(
+    alloc: Global,
+    text: &str,
+    tokens: &[Token],
+    first: Word,
+    parts: &[Part],
+) -> Result<Form, Memory>
     ensures { IfOk result (λ form. IsFormOf shapes.Literal text.now tokens.now first parts.now form) }
 {
     let _ = parts;
@@ -27,7 +36,12 @@ fn literal(alloc: Global, text: &str, tokens: &[Token], first: Word, parts: &[Pa
 }
 
 /// The verb of a send, if there is one.
-fn send_verb(alloc: Global, text: &str, tokens: &[Token], parts: &[Part]) -> Result<Option<Str>, Memory>
+fn send_verb(
+    alloc: Global,
+    text: &str,
+    tokens: &[Token],
+    parts: &[Part],
+) -> Result<Option<Str>, Memory>
     ensures { IfOk result (λ verb. verb ≡ verb_if text.now tokens.now parts.now) }
 {
     if is_part(parts, 2, TokenKind::OpenParen) {
@@ -38,7 +52,12 @@ fn send_verb(alloc: Global, text: &str, tokens: &[Token], parts: &[Part]) -> Res
 }
 
 /// The name of an object, if there is one.
-fn object_name(alloc: Global, text: &str, tokens: &[Token], parts: &[Part]) -> Result<Option<Str>, Memory>
+fn object_name(
+    alloc: Global,
+    text: &str,
+    tokens: &[Token],
+    parts: &[Part],
+) -> Result<Option<Str>, Memory>
     ensures { IfOk result (λ name. name ≡ name_if text.now tokens.now parts.now) }
 {
     if is_part(parts, 0, TokenKind::Ignore) {
@@ -53,14 +72,30 @@ fn for_form(parts: &[Part]) -> Form
     ensures { result ≡ for_form (is_part kinds.FatArrow (slice_get parts.now 1)) parts.now }
 {
     if is_part(parts, 1, TokenKind::FatArrow) {
-        Form::For(Some(tree_at(parts, 0)), tree_at(parts, 2), tree_at(parts, 4), tree_at(parts, 5))
+        Form::For(
+            Some(tree_at(parts, 0)),
+            tree_at(parts, 2),
+            tree_at(parts, 4),
+            tree_at(parts, 5),
+        )
     } else {
-        Form::For(None, tree_at(parts, 0), tree_at(parts, 2), tree_at(parts, 3))
+        Form::For(
+            None,
+            tree_at(parts, 0),
+            tree_at(parts, 2),
+            tree_at(parts, 3),
+        )
     }
 }
 
 /// A noun as an expression.
-fn noun(alloc: Global, text: &str, tokens: &[Token], first: Word, parts: &[Part]) -> Result<Form, Memory>
+fn noun(
+    alloc: Global,
+    text: &str,
+    tokens: &[Token],
+    first: Word,
+    parts: &[Part],
+) -> Result<Form, Memory>
     ensures { IfOk result (λ form. IsFormOf shapes.Noun text.now tokens.now first parts.now form) }
 {
     let noun = word_text(alloc, text, tokens, first)?;
@@ -68,7 +103,13 @@ fn noun(alloc: Global, text: &str, tokens: &[Token], first: Word, parts: &[Part]
 }
 
 /// A list.
-fn list(alloc: Global, text: &str, tokens: &[Token], first: Word, parts: &[Part]) -> Result<Form, Memory>
+fn list(
+    alloc: Global,
+    text: &str,
+    tokens: &[Token],
+    first: Word,
+    parts: &[Part],
+) -> Result<Form, Memory>
     ensures { IfOk result (λ form. IsFormOf shapes.List text.now tokens.now first parts.now form) }
 {
     let members = trees(alloc, parts)?;
@@ -76,7 +117,13 @@ fn list(alloc: Global, text: &str, tokens: &[Token], first: Word, parts: &[Part]
 }
 
 /// A block.
-fn block(alloc: Global, text: &str, tokens: &[Token], first: Word, parts: &[Part]) -> Result<Form, Memory>
+fn block(
+    alloc: Global,
+    text: &str,
+    tokens: &[Token],
+    first: Word,
+    parts: &[Part],
+) -> Result<Form, Memory>
     ensures { IfOk result (λ form. IsFormOf shapes.Block text.now tokens.now first parts.now form) }
 {
     let body = trees(alloc, parts)?;
@@ -84,15 +131,31 @@ fn block(alloc: Global, text: &str, tokens: &[Token], first: Word, parts: &[Part
 }
 
 /// A `try`.
-fn attempt(alloc: Global, text: &str, tokens: &[Token], first: Word, parts: &[Part]) -> Result<Form, Memory>
+fn attempt(
+    alloc: Global,
+    text: &str,
+    tokens: &[Token],
+    first: Word,
+    parts: &[Part],
+) -> Result<Form, Memory>
     ensures { IfOk result (λ form. IsFormOf shapes.Try text.now tokens.now first parts.now form) }
 {
     let caught = catches(alloc, tail(parts))?;
-    Ok(Form::Try(tree_at(parts, 0), caught, tree_if(behind(parts, TokenKind::Finally), 0)))
+    Ok(Form::Try(
+        tree_at(parts, 0),
+        caught,
+        tree_if(behind(parts, TokenKind::Finally), 0),
+    ))
 }
 
 /// A `fn`.
-fn function(alloc: Global, text: &str, tokens: &[Token], first: Word, parts: &[Part]) -> Result<Form, Memory>
+fn function(
+    alloc: Global,
+    text: &str,
+    tokens: &[Token],
+    first: Word,
+    parts: &[Part],
+) -> Result<Form, Memory>
     ensures { IfOk result (λ form. IsFormOf shapes.Function text.now tokens.now first parts.now form) }
 {
     let patterns = trees(alloc, front(parts))?;
@@ -100,7 +163,13 @@ fn function(alloc: Global, text: &str, tokens: &[Token], first: Word, parts: &[P
 }
 
 /// A call.
-fn call(alloc: Global, text: &str, tokens: &[Token], first: Word, parts: &[Part]) -> Result<Form, Memory>
+fn call(
+    alloc: Global,
+    text: &str,
+    tokens: &[Token],
+    first: Word,
+    parts: &[Part],
+) -> Result<Form, Memory>
     ensures { IfOk result (λ form. IsFormOf shapes.Call text.now tokens.now first parts.now form) }
 {
     let arguments = trees(alloc, tail(parts))?;
@@ -108,7 +177,13 @@ fn call(alloc: Global, text: &str, tokens: &[Token], first: Word, parts: &[Part]
 }
 
 /// An index form.
-fn index(alloc: Global, text: &str, tokens: &[Token], first: Word, parts: &[Part]) -> Result<Form, Memory>
+fn index(
+    alloc: Global,
+    text: &str,
+    tokens: &[Token],
+    first: Word,
+    parts: &[Part],
+) -> Result<Form, Memory>
     ensures { IfOk result (λ form. IsFormOf shapes.Index text.now tokens.now first parts.now form) }
 {
     let arguments = trees(alloc, tail(parts))?;
@@ -116,7 +191,13 @@ fn index(alloc: Global, text: &str, tokens: &[Token], first: Word, parts: &[Part
 }
 
 /// A call of a verb.
-fn verb_call(alloc: Global, text: &str, tokens: &[Token], first: Word, parts: &[Part]) -> Result<Form, Memory>
+fn verb_call(
+    alloc: Global,
+    text: &str,
+    tokens: &[Token],
+    first: Word,
+    parts: &[Part],
+) -> Result<Form, Memory>
     ensures { IfOk result (λ form. IsFormOf shapes.VerbCall text.now tokens.now first parts.now form) }
 {
     let verb = text_at(alloc, text, tokens, parts, 2)?;
@@ -125,7 +206,13 @@ fn verb_call(alloc: Global, text: &str, tokens: &[Token], first: Word, parts: &[
 }
 
 /// A send.
-fn send(alloc: Global, text: &str, tokens: &[Token], first: Word, parts: &[Part]) -> Result<Form, Memory>
+fn send(
+    alloc: Global,
+    text: &str,
+    tokens: &[Token],
+    first: Word,
+    parts: &[Part],
+) -> Result<Form, Memory>
     ensures { IfOk result (λ form. IsFormOf shapes.Send text.now tokens.now first parts.now form) }
 {
     let verb = send_verb(alloc, text, tokens, parts)?;
@@ -134,7 +221,13 @@ fn send(alloc: Global, text: &str, tokens: &[Token], first: Word, parts: &[Part]
 }
 
 /// A prefix operator.
-fn prefix(alloc: Global, text: &str, tokens: &[Token], first: Word, parts: &[Part]) -> Result<Form, Memory>
+fn prefix(
+    alloc: Global,
+    text: &str,
+    tokens: &[Token],
+    first: Word,
+    parts: &[Part],
+) -> Result<Form, Memory>
     ensures { IfOk result (λ form. IsFormOf shapes.Prefix text.now tokens.now first parts.now form) }
 {
     let operator = word_text(alloc, text, tokens, first)?;
@@ -142,7 +235,13 @@ fn prefix(alloc: Global, text: &str, tokens: &[Token], first: Word, parts: &[Par
 }
 
 /// An operator between two expressions.
-fn binary(alloc: Global, text: &str, tokens: &[Token], first: Word, parts: &[Part]) -> Result<Form, Memory>
+fn binary(
+    alloc: Global,
+    text: &str,
+    tokens: &[Token],
+    first: Word,
+    parts: &[Part],
+) -> Result<Form, Memory>
     ensures { IfOk result (λ form. IsFormOf shapes.Binary text.now tokens.now first parts.now form) }
 {
     let operator = text_at(alloc, text, tokens, parts, 1)?;
@@ -150,7 +249,13 @@ fn binary(alloc: Global, text: &str, tokens: &[Token], first: Word, parts: &[Par
 }
 
 /// An assignment to a noun.
-fn assign(alloc: Global, text: &str, tokens: &[Token], first: Word, parts: &[Part]) -> Result<Form, Memory>
+fn assign(
+    alloc: Global,
+    text: &str,
+    tokens: &[Token],
+    first: Word,
+    parts: &[Part],
+) -> Result<Form, Memory>
     ensures { IfOk result (λ form. IsFormOf shapes.Assign text.now tokens.now first parts.now form) }
 {
     let noun = word_text(alloc, text, tokens, first)?;
@@ -159,7 +264,13 @@ fn assign(alloc: Global, text: &str, tokens: &[Token], first: Word, parts: &[Par
 }
 
 /// An assignment to an index form.
-fn assign_index(alloc: Global, text: &str, tokens: &[Token], first: Word, parts: &[Part]) -> Result<Form, Memory>
+fn assign_index(
+    alloc: Global,
+    text: &str,
+    tokens: &[Token],
+    first: Word,
+    parts: &[Part],
+) -> Result<Form, Memory>
     ensures { IfOk result (λ form. IsFormOf shapes.AssignIndex text.now tokens.now first parts.now form) }
 {
     let arguments = trees(alloc, front(tail(parts)))?;
@@ -167,7 +278,13 @@ fn assign_index(alloc: Global, text: &str, tokens: &[Token], first: Word, parts:
 }
 
 /// A `return`, `break` or `continue`.
-fn leave(alloc: Global, text: &str, tokens: &[Token], first: Word, parts: &[Part]) -> Result<Form, Memory>
+fn leave(
+    alloc: Global,
+    text: &str,
+    tokens: &[Token],
+    first: Word,
+    parts: &[Part],
+) -> Result<Form, Memory>
     ensures { IfOk result (λ form. IsFormOf shapes.Leave text.now tokens.now first parts.now form) }
 {
     let word = word_text(alloc, text, tokens, first)?;
@@ -175,7 +292,13 @@ fn leave(alloc: Global, text: &str, tokens: &[Token], first: Word, parts: &[Part
 }
 
 /// An object.
-fn object(alloc: Global, text: &str, tokens: &[Token], first: Word, parts: &[Part]) -> Result<Form, Memory>
+fn object(
+    alloc: Global,
+    text: &str,
+    tokens: &[Token],
+    first: Word,
+    parts: &[Part],
+) -> Result<Form, Memory>
     ensures { IfOk result (λ form. IsFormOf shapes.DefineObject text.now tokens.now first parts.now form) }
 {
     let name = object_name(alloc, text, tokens, parts)?;
@@ -185,25 +308,54 @@ fn object(alloc: Global, text: &str, tokens: &[Token], first: Word, parts: &[Par
 }
 
 /// A function.
-fn define_function(alloc: Global, text: &str, tokens: &[Token], first: Word, parts: &[Part]) -> Result<Form, Memory>
+fn define_function(
+    alloc: Global,
+    text: &str,
+    tokens: &[Token],
+    first: Word,
+    parts: &[Part],
+) -> Result<Form, Memory>
     ensures { IfOk result (λ form. IsFormOf shapes.DefineFunction text.now tokens.now first parts.now form) }
 {
     let name = text_at(alloc, text, tokens, parts, 0)?;
     let patterns = trees(alloc, before(parts, TokenKind::CloseParen))?;
     let auditors = trees(alloc, front(behind(rest_of(parts), TokenKind::Implements)))?;
-    Ok(Form::DefineFunction(name, patterns, guard_of(rest_of(parts)), auditors, last_tree(parts)))
+    Ok(Form::DefineFunction(
+        name,
+        patterns,
+        guard_of(rest_of(parts)),
+        auditors,
+        last_tree(parts),
+    ))
 }
 
 /// A definition by `var`.
-fn define_var(alloc: Global, text: &str, tokens: &[Token], first: Word, parts: &[Part]) -> Result<Form, Memory>
+fn define_var(
+    alloc: Global,
+    text: &str,
+    tokens: &[Token],
+    first: Word,
+    parts: &[Part],
+) -> Result<Form, Memory>
     ensures { IfOk result (λ form. IsFormOf shapes.DefineVar text.now tokens.now first parts.now form) }
 {
     let name = text_at(alloc, text, tokens, parts, 0)?;
-    Ok(Form::DefineVar(name, guard_of(parts), tree_if(behind(parts, TokenKind::Exit), 0), last_tree(parts)))
+    Ok(Form::DefineVar(
+        name,
+        guard_of(parts),
+        tree_if(behind(parts, TokenKind::Exit), 0),
+        last_tree(parts),
+    ))
 }
 
 /// A noun as a pattern.
-fn final_pattern(alloc: Global, text: &str, tokens: &[Token], first: Word, parts: &[Part]) -> Result<Form, Memory>
+fn final_pattern(
+    alloc: Global,
+    text: &str,
+    tokens: &[Token],
+    first: Word,
+    parts: &[Part],
+) -> Result<Form, Memory>
     ensures { IfOk result (λ form. IsFormOf shapes.FinalPattern text.now tokens.now first parts.now form) }
 {
     let name = word_text(alloc, text, tokens, first)?;
@@ -211,7 +363,13 @@ fn final_pattern(alloc: Global, text: &str, tokens: &[Token], first: Word, parts
 }
 
 /// A `var` pattern.
-fn var_pattern(alloc: Global, text: &str, tokens: &[Token], first: Word, parts: &[Part]) -> Result<Form, Memory>
+fn var_pattern(
+    alloc: Global,
+    text: &str,
+    tokens: &[Token],
+    first: Word,
+    parts: &[Part],
+) -> Result<Form, Memory>
     ensures { IfOk result (λ form. IsFormOf shapes.VarPattern text.now tokens.now first parts.now form) }
 {
     let name = text_at(alloc, text, tokens, parts, 0)?;
@@ -219,7 +377,13 @@ fn var_pattern(alloc: Global, text: &str, tokens: &[Token], first: Word, parts: 
 }
 
 /// A list pattern.
-fn list_pattern(alloc: Global, text: &str, tokens: &[Token], first: Word, parts: &[Part]) -> Result<Form, Memory>
+fn list_pattern(
+    alloc: Global,
+    text: &str,
+    tokens: &[Token],
+    first: Word,
+    parts: &[Part],
+) -> Result<Form, Memory>
     ensures { IfOk result (λ form. IsFormOf shapes.ListPattern text.now tokens.now first parts.now form) }
 {
     let members = trees(alloc, parts)?;
@@ -227,7 +391,13 @@ fn list_pattern(alloc: Global, text: &str, tokens: &[Token], first: Word, parts:
 }
 
 /// A noun as a guard.
-fn noun_guard(alloc: Global, text: &str, tokens: &[Token], first: Word, parts: &[Part]) -> Result<Form, Memory>
+fn noun_guard(
+    alloc: Global,
+    text: &str,
+    tokens: &[Token],
+    first: Word,
+    parts: &[Part],
+) -> Result<Form, Memory>
     ensures { IfOk result (λ form. IsFormOf shapes.NounGuard text.now tokens.now first parts.now form) }
 {
     let name = word_text(alloc, text, tokens, first)?;
@@ -236,7 +406,13 @@ fn noun_guard(alloc: Global, text: &str, tokens: &[Token], first: Word, parts: &
 }
 
 /// A member by `to`.
-fn to(alloc: Global, text: &str, tokens: &[Token], first: Word, parts: &[Part]) -> Result<Form, Memory>
+fn to(
+    alloc: Global,
+    text: &str,
+    tokens: &[Token],
+    first: Word,
+    parts: &[Part],
+) -> Result<Form, Memory>
     ensures { IfOk result (λ form. IsFormOf shapes.To text.now tokens.now first parts.now form) }
 {
     let verb = text_at(alloc, text, tokens, parts, 0)?;
@@ -245,7 +421,13 @@ fn to(alloc: Global, text: &str, tokens: &[Token], first: Word, parts: &[Part]) 
 }
 
 /// A member by `method`.
-fn method(alloc: Global, text: &str, tokens: &[Token], first: Word, parts: &[Part]) -> Result<Form, Memory>
+fn method(
+    alloc: Global,
+    text: &str,
+    tokens: &[Token],
+    first: Word,
+    parts: &[Part],
+) -> Result<Form, Memory>
     ensures { IfOk result (λ form. IsFormOf shapes.Method text.now tokens.now first parts.now form) }
 {
     let verb = text_at(alloc, text, tokens, parts, 0)?;
@@ -254,7 +436,13 @@ fn method(alloc: Global, text: &str, tokens: &[Token], first: Word, parts: &[Par
 }
 
 /// The whole.
-fn program(alloc: Global, text: &str, tokens: &[Token], first: Word, parts: &[Part]) -> Result<Form, Memory>
+fn program(
+    alloc: Global,
+    text: &str,
+    tokens: &[Token],
+    first: Word,
+    parts: &[Part],
+) -> Result<Form, Memory>
     ensures { IfOk result (λ form. IsFormOf shapes.Program text.now tokens.now first parts.now form) }
 {
     let body = trees(alloc, parts)?;
@@ -276,7 +464,11 @@ pub fn form_of(alloc: Global, text: &str, tokens: &[Token], node: &Node) -> Resu
         Shape::If => Ok(Form::If(tree_at(parts, 1), tree_at(parts, 3), tree_if(parts, 5))),
         Shape::While => Ok(Form::While(tree_at(parts, 1), tree_at(parts, 3))),
         Shape::For => Ok(for_form(parts)),
-        Shape::Escape => Ok(Form::Escape(tree_at(parts, 0), tree_at(parts, 1), caught_at(parts, 3, 4))),
+        Shape::Escape => Ok(Form::Escape(
+            tree_at(parts, 0),
+            tree_at(parts, 1),
+            caught_at(parts, 3, 4),
+        )),
         Shape::Try => attempt(alloc, text, tokens, first, parts),
         Shape::When => Ok(Form::When(tree_at(parts, 1), tree_at(parts, 4), caught_at(parts, 6, 7))),
         Shape::Function => function(alloc, text, tokens, first, parts),
@@ -292,7 +484,11 @@ pub fn form_of(alloc: Global, text: &str, tokens: &[Token], node: &Node) -> Resu
         Shape::Leave => leave(alloc, text, tokens, first, parts),
         Shape::DefineObject => object(alloc, text, tokens, first, parts),
         Shape::DefineFunction => define_function(alloc, text, tokens, first, parts),
-        Shape::Define => Ok(Form::Define(tree_at(parts, 0), tree_if(behind(parts, TokenKind::Exit), 0), last_tree(parts))),
+        Shape::Define => Ok(Form::Define(
+            tree_at(parts, 0),
+            tree_if(behind(parts, TokenKind::Exit), 0),
+            last_tree(parts),
+        )),
         Shape::DefineVar => define_var(alloc, text, tokens, first, parts),
         Shape::AnyPattern => Ok(Form::AnyPattern(guard_of(parts))),
         Shape::FinalPattern => final_pattern(alloc, text, tokens, first, parts),

@@ -7,7 +7,6 @@ pub mod forms;
 pub mod parser;
 pub mod read;
 pub mod table;
-
 #[cfg(test)]
 mod tests;
 

@@ -36,7 +36,12 @@ fn sugar_node(alloc: Global, text: &str, tokens: &[Token], node: &Node) -> Resul
 }
 
 /// The surface nodes of nodes that have been read, in their order.
-fn sugar_nodes(alloc: Global, text: &str, tokens: &[Token], nodes: &[Node]) -> Result<Seq<SugarNode>, Memory>
+fn sugar_nodes(
+    alloc: Global,
+    text: &str,
+    tokens: &[Token],
+    nodes: &[Node],
+) -> Result<Seq<SugarNode>, Memory>
     ensures { IfOk result (λ made. made ≡ map (λ n. node_of text.now tokens.now n) nodes.now) }
 {
     let mut made = Seq::new(alloc);

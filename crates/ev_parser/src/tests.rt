@@ -21,7 +21,13 @@ fn tokens_of(alloc: Global, kinds: &[TokenKind]) -> Result<Vec<Token>, AllocErro
 }
 
 /// So many tokens of a kind, a token of another kind, and so many of a third one.
-fn around(alloc: Global, count: usize, before: TokenKind, middle: TokenKind, behind: TokenKind) -> Result<Vec<Token>, AllocError> {
+fn around(
+    alloc: Global,
+    count: usize,
+    before: TokenKind,
+    middle: TokenKind,
+    behind: TokenKind,
+) -> Result<Vec<Token>, AllocError> {
     let mut kinds = Vec::new(alloc);
     for _ in 0..count {
         kinds.push(before)?;
@@ -68,9 +74,17 @@ fn outcome(parsed: Result<Sugar, ParseFault>) -> (u64, u64) {
 #[test]
 fn sums(rt: HostRuntime) -> Result<(), Fail> {
     let alloc = rt.alloc();
-    let kinds = [TokenKind::Identifier, TokenKind::Plus, TokenKind::Identifier, TokenKind::Times, TokenKind::Number];
+    let kinds = [
+        TokenKind::Identifier,
+        TokenKind::Plus,
+        TokenKind::Identifier,
+        TokenKind::Times,
+        TokenKind::Number,
+    ];
     let tokens = tokens_of(alloc, &kinds)?;
-    let tree = parse(alloc, tokens.as_slice(), "a+b*2").ok().ok_or("no tree")?;
+    let tree = parse(alloc, tokens.as_slice(), "a+b*2")
+        .ok()
+        .ok_or("no tree")?;
     match form_at(&tree, tree.root.0 as usize) {
         Some(Form::Program(body)) => assert_eq!(rt; body.len(), 1),
         _ => assert!(rt; false),
@@ -99,9 +113,21 @@ fn refusals(rt: HostRuntime) -> Result<(), Fail> {
     assert_eq!(rt; outcome(parse(alloc, most.as_slice(), "")), (0, 0));
     let more = call_with(alloc, 256)?;
     assert_eq!(rt; outcome(parse(alloc, more.as_slice(), "")), (1, 511));
-    let high = around(alloc, 60, TokenKind::OpenParen, TokenKind::Number, TokenKind::CloseParen)?;
+    let high = around(
+        alloc,
+        60,
+        TokenKind::OpenParen,
+        TokenKind::Number,
+        TokenKind::CloseParen,
+    )?;
     assert_eq!(rt; outcome(parse(alloc, high.as_slice(), "")), (2, 59));
-    let low = around(alloc, 59, TokenKind::OpenParen, TokenKind::Number, TokenKind::CloseParen)?;
+    let low = around(
+        alloc,
+        59,
+        TokenKind::OpenParen,
+        TokenKind::Number,
+        TokenKind::CloseParen,
+    )?;
     assert_eq!(rt; outcome(parse(alloc, low.as_slice(), "")), (0, 0));
     Ok(())
 }
@@ -109,15 +135,45 @@ fn refusals(rt: HostRuntime) -> Result<(), Fail> {
 #[test]
 fn deep(rt: HostRuntime) -> Result<(), Fail> {
     let alloc = rt.alloc();
-    let parens = around(alloc, 32768, TokenKind::OpenParen, TokenKind::OpenParen, TokenKind::OpenParen)?;
+    let parens = around(
+        alloc,
+        32768,
+        TokenKind::OpenParen,
+        TokenKind::OpenParen,
+        TokenKind::OpenParen,
+    )?;
     assert_eq!(rt; outcome(parse(alloc, parens.as_slice(), "")), (1, 65537));
-    let brackets = around(alloc, 32768, TokenKind::OpenBracket, TokenKind::OpenBracket, TokenKind::OpenBracket)?;
+    let brackets = around(
+        alloc,
+        32768,
+        TokenKind::OpenBracket,
+        TokenKind::OpenBracket,
+        TokenKind::OpenBracket,
+    )?;
     assert_eq!(rt; outcome(parse(alloc, brackets.as_slice(), "")), (1, 65537));
-    let braces = around(alloc, 32768, TokenKind::OpenBrace, TokenKind::OpenBrace, TokenKind::CloseBrace)?;
+    let braces = around(
+        alloc,
+        32768,
+        TokenKind::OpenBrace,
+        TokenKind::OpenBrace,
+        TokenKind::CloseBrace,
+    )?;
     assert_eq!(rt; outcome(parse(alloc, braces.as_slice(), "")), (1, 65537));
-    let signs = around(alloc, 65536, TokenKind::Minus, TokenKind::Number, TokenKind::CloseBrace)?;
+    let signs = around(
+        alloc,
+        65536,
+        TokenKind::Minus,
+        TokenKind::Number,
+        TokenKind::CloseBrace,
+    )?;
     assert_eq!(rt; outcome(parse(alloc, signs.as_slice(), "")), (1, 65537));
-    let returns = around(alloc, 32768, TokenKind::Return, TokenKind::Return, TokenKind::Return)?;
+    let returns = around(
+        alloc,
+        32768,
+        TokenKind::Return,
+        TokenKind::Return,
+        TokenKind::Return,
+    )?;
     assert_eq!(rt; outcome(parse(alloc, returns.as_slice(), "")), (2, 60));
     Ok(())
 }
