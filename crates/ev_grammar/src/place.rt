@@ -190,5 +190,6 @@ pub enum Moves {
     Two(Move, Move),
     Three(Move, Move, Move),
     Four(Move, Move, Move, Move),
+    Five(Move, Move, Move, Move, Move),
     Six(Move, Move, Move, Move, Move, Move),
 }

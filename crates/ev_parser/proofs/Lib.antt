@@ -1,0 +1,7 @@
+pub mod Tables
+pub mod Open
+pub mod Turns
+pub mod High
+pub mod Reading
+pub mod Cuts
+pub mod Marks

@@ -1,0 +1,5 @@
+pub mod Table
+pub mod Draft
+pub mod Parsed
+pub mod Surface
+pub mod Sweet

@@ -1,0 +1,14 @@
+-- The moves of the code as a list.
+use Rattle.std.specs.Prelude.{List, [], ◌∷◌}
+use Rattle.ev_grammar.specs.declared.place.Move.{Move}
+use Rattle.ev_grammar.specs.declared.place.Moves.{Moves}
+use Rattle.ev_grammar.specs.declared.place.Moves.TheVariants as counts
+
+abbrev pub listed : Moves → List Move
+listed counts.None = []
+listed (counts.One a) = a ∷ []
+listed (counts.Two a b) = a ∷ b ∷ []
+listed (counts.Three a b c) = a ∷ b ∷ c ∷ []
+listed (counts.Four a b c d) = a ∷ b ∷ c ∷ d ∷ []
+listed (counts.Five a b c d e) = a ∷ b ∷ c ∷ d ∷ e ∷ []
+listed (counts.Six a b c d e f) = a ∷ b ∷ c ∷ d ∷ e ∷ f ∷ []

@@ -1,0 +1,13 @@
+//! The parser of E: the one surface tree that tokens spell, or the exact place where they spell none or too high a one.
+#![tactic(auto)]
+
+pub mod draft;
+pub mod fields;
+pub mod forms;
+pub mod parser;
+pub mod read;
+pub mod table;
+#[cfg(test)]
+mod tests;
+
+pub use parser::{ParseFault, parse};
