@@ -3,11 +3,14 @@
 
 pub mod connection;
 pub mod fault;
-pub mod number;
 mod names;
+pub mod number;
 mod places;
 mod thing;
 
 pub use connection::Connection;
 pub use fault::TableFault;
 pub use number::Number;
+
+#[cfg(test)]
+mod tests;

@@ -1,6 +1,6 @@
 //! The number of each value that came first.
 
-ghost use Rattle.std.specs.Prelude.{◌≡◌, ◌-◌, [], length, take, is_some, not, IfOk, OnErr};
+ghost use Rattle.std.specs.Prelude.{◌≡◌, ◌-◌, [], length, take, is_some, not, if◌then◌else◌, IfOk, OnErr};
 ghost use Rattle.ev_tables.specs.Table.{name_of, named};
 
 use crate::number::Number;
@@ -56,10 +56,12 @@ impl Names {
         Ok(true)
     }
 
-    /// Forgets the value that came last.
-    pub fn forget_last(&mut self)
-        ensures { self.new ≡ take (length self.old - 1) self.old }
+    /// Takes back what `note` did last, where it counted.
+    pub fn take_back(&mut self, counted: bool)
+        ensures { self.new ≡ (if counted then take (length self.old - 1) self.old else self.old) }
     {
-        let _last = self.numbers.pop();
+        if counted {
+            let _last = self.numbers.pop();
+        }
     }
 }

@@ -1,4 +1,4 @@
-use Rattle.std.proofs.Common.{◌≡◌, Bool, cond, List, [], ◌∷◌, ◌++◌, ap, ◌∙◌}
+use Rattle.std.proofs.Common.{Bool, cond, List, [], ◌∷◌, ◌++◌, ap, ◌∙◌}
 use Rattle.ev_base.specs.declared.values.Value.{Value}
 use Rattle.ev_tables.specs.declared.thing.Thing.{Thing}
 use Rattle.ev_tables.specs.Table.{place_of}
