@@ -1,5 +1,5 @@
 -- The surface node of a node that has been read: its fields by the parts of its line.
-use Rattle.std.specs.Prelude.{◌≡◌, ℕ, zero, suc, List, [], ◌∷◌, ◌-◌, Option, Some, None, Bool, true, false, cond, not, ◌&&◌, ◌||◌, nat_le, nat_lt, slice_get, slice_index, slice_range, length, take, drop}
+use Rattle.std.specs.Prelude.{◌≡◌, ℕ, suc, List, [], ◌∷◌, ◌-◌, Option, Some, None, Bool, true, false, cond, not, ◌&&◌, ◌||◌, nat_le, nat_lt, slice_get, slice_index, slice_range, length, take, drop}
 use Rattle.ev_token.specs.declared.token.Token.{Token}
 use Rattle.ev_token.specs.declared.token.TokenKind.{TokenKind}
 use Rattle.ev_token.specs.declared.token.TokenKind.TheVariants as kinds

@@ -1,5 +1,3 @@
-use Rattle.std.proofs.Common.{◌≡◌, sym, ◌∙◌, ap, ◌++◌, ◌∷◌, []}
-use Rattle.ev_parser.specs.Surface.{CatchAt}
 use Rattle.ev_parser.proofs.Marks.{catches_next}
 use Rattle.ev_parser.proofs.fields.catches.Goals as goal
 

@@ -1,4 +1,4 @@
-use Rattle.std.proofs.Common.{◌≡◌, sym, ◌∙◌, ap, ◌++◌, ◌∷◌, [], List, ℕ, get_or}
+use Rattle.std.proofs.Common.{sym, ◌∙◌, ap, ◌++◌, ◌∷◌, [], List, ℕ, get_or}
 use Rattle.ev_parser.specs.declared.draft.Part.TheVariants as piece
 use Rattle.ev_parser.specs.Surface.{trees}
 use Rattle.ev_parser.proofs.Marks.{trees_next}
