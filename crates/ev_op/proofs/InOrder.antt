@@ -29,7 +29,7 @@ one_more ds i d lt at =
     let front = take i ds in
     let e : take (i + 1) ds ≡ front ++ d ∷ [] = take_more ds i d lt ∙ ap (λ (x : Desc). front ++ x ∷ []) (sym at) in
     let f : all_described (take (i + 1) ds) ≡ join (all_described front) (more (described d) none) =
-        ap all_described e ∙ ap members (map_push described front d) ∙ members-push (map described front) (described d) in
+    ap all_described e ∙ ap members (map_push described front d) ∙ members-push (map described front) (described d) in
     ap members_bytes f ∙ members_bytes-join (all_described front) (more (described d) none) ∙ ap (λ (bs : List ℕ). members_bytes (all_described front) ++ bs) (append-nil (desc_bytes (described d)))
 
 -- six parts put one behind the other

@@ -47,7 +47,7 @@ text_takes room bytes x fits e =
     let len : length text ≡ n = omega (arith, length-take n rest) in
     let whole : rest ≡ text ++ behind = sym (take-append-drop n rest) in
     let parts : bytes ≡ text_bytes text ++ behind =
-        t.0.parts ∙ ap (λ (r : List ℕ). unsigned n ++ r) whole ∙ sym (append_assoc (unsigned n) text behind) ∙ ap (λ (k : ℕ). (unsigned k ++ text) ++ behind) (sym len) in
+    t.0.parts ∙ ap (λ (r : List ℕ). unsigned n ++ r) whole ∙ sym (append_assoc (unsigned n) text behind) ∙ ap (λ (k : ℕ). (unsigned k ++ text) ++ behind) (sym len) in
     subst (TextRead room bytes) g3.1 (record {
       takes = record { parts = parts; fits = IsBytes-drop n rest t.0.fits };
       fits = (omega (arith, len, t.1), IsUtf8-from_is_utf8 text g3.0);
@@ -81,9 +81,9 @@ and_false false = refl
 scalar_small : (c : ℕ) → IsScalar c → c < 2 ^ 64
 scalar_small c h =
     ⊎_elim
-      (λ (lt : c < 1114112). omega arith)
-      (λ (le : 1114112 ≤ c). absurd (true≢false (sym h ∙ rw (le-ltb c 55296 (omega arith), le-ltb c 1114112 le) (and_false (leb 57344 c)))))
-      (cases_lt c 1114112)
+    (λ (lt : c < 1114112). omega arith)
+    (λ (le : 1114112 ≤ c). absurd (true≢false (sym h ∙ rw (le-ltb c 55296 (omega arith), le-ltb c 1114112 le) (and_false (leb 57344 c)))))
+    (cases_lt c 1114112)
 
 pub character_again : (c : ℕ) (rest : List ℕ) → IsScalar c → character_at (unsigned c ++ rest) ≡ Some (c, rest)
 unfolding character_at

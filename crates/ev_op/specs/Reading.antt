@@ -95,8 +95,8 @@ unfoldable pub text_at : ℕ → List ℕ → Option (List ℕ × List ℕ)
 text_at room bytes = do
   n ← unsigned_at bytes
   if nat_lt (length n.1) n.0 then None
-    else if nat_lt room n.0 then None
-    else if is_utf8 (take n.0 n.1) then Some (take n.0 n.1, drop n.0 n.1) else None
+      else if nat_lt room n.0 then None
+      else if is_utf8 (take n.0 n.1) then Some (take n.0 n.1, drop n.0 n.1) else None
 
 unfoldable pub character_at : List ℕ → Option (ℕ × List ℕ)
 character_at bytes = do

@@ -11,4 +11,4 @@ returns c =
     let args = c.args.args.now in
     c.in_ok-put_members.ensures
     ∙ rw (c.in_ok-put_unsigned-2.ensures, c.in_ok-put_text.ensures, c.in_ok-put_desc.ensures, c.in_ok-put_unsigned.ensures, c.in_ok-push.ensures.items, sym (count_members args))
-        (put_six c.args.out.now.items (1 ∷ []) (unsigned c.args.question) (desc_bytes (described c.args.target.now)) (text_bytes c.args.verb.now) (unsigned (count (all_described args))) (members_bytes (all_described args)))
+    (put_six c.args.out.now.items (1 ∷ []) (unsigned c.args.question) (desc_bytes (described c.args.target.now)) (text_bytes c.args.verb.now) (unsigned (count (all_described args))) (members_bytes (all_described args)))
