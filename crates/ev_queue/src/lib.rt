@@ -1,0 +1,9 @@
+//! The turn queue of a vat.
+#![tactic(auto)]
+
+pub mod queue;
+
+pub use queue::TurnQueue;
+
+#[cfg(test)]
+mod tests;
