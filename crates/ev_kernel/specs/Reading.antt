@@ -1,14 +1,24 @@
 -- Reading a form, character by character: which character may come next, and the tree that is read. Nodes are numbered in
 -- the order in which their forms begin.
-use Rattle.std.specs.Prelude.{ℕ, zero, suc, ◌+◌, ◌-◌, ◌*◌, ◌^◌, ◌==◌, nat_lt, nat_le, Bool, true, false, not, ◌&&◌, ◌||◌, if◌then◌else◌, List, [], ◌∷◌, ◌++◌, length, slice_get, slice_set, codes, Option, Some, None, option_map, is_some, Result, Ok, Err, bytes_eq, ℤ, pos, neg_ℤ}
-use Rattle.std.specs.List.{list_any, starts_with}
+use Rattle.std.specs.Prelude.{ℕ, zero, suc, ◌+◌, ◌-◌, ◌^◌, ◌==◌, nat_lt, nat_le, Bool, true, false, not, ◌&&◌, ◌||◌, if◌then◌else◌, List, [], ◌∷◌, ◌++◌, length, slice_get, slice_set, codes, Option, Some, None, option_map, option_and_then, is_some, int_le, negsuc, ◌-ℤ◌, ◌+ℤ◌, ◌*ℤ◌, Result, Ok, Err, bytes_eq, ℤ, pos}
+use Rattle.std.specs.List.{find, list_any, starts_with}
 use Rattle.std.specs.Str.{chars as characters}
-use Rattle.std.specs.Char.{digit_value, encode_utf8 as encoded}
+use Rattle.std.specs.Char.{encode_utf8 as encoded}
 use Rattle.ev_text.specs.Keywords.{is_identifier, begins_identifier, continues_identifier}
 use Rattle.ev_kernel.specs.declared.node.Literal.{Literal}
 use Rattle.ev_kernel.specs.declared.node.Literal.TheVariants.{Int, Char, Text}
 use Rattle.ev_kernel.specs.declared.node.Node.{Node}
 use Rattle.ev_kernel.specs.declared.node.Node.TheVariants as node
+use Rattle.ev_kernel.specs.declared.reader.Item.{Item}
+use Rattle.ev_kernel.specs.declared.reader.Item.TheVariants.{Node as ANode, Nodes as ANodes, Word as AWord, Literal as ALit}
+use Rattle.ev_kernel.specs.declared.reader.Frame.{Frame}
+use Rattle.ev_kernel.specs.declared.reader.Place.{Place}
+use Rattle.ev_kernel.specs.declared.reader.Place.TheVariants.{First, Second, Third, Low, High}
+use Rattle.ev_kernel.specs.declared.reader.Digit.{Digit}
+use Rattle.ev_kernel.specs.declared.reader.Digit.TheVariants.{More, Made}
+use Rattle.ev_kernel.specs.declared.reader.Mode.{Mode}
+use Rattle.ev_kernel.specs.declared.reader.Mode.TheVariants.{Opening as opening, Heading as heading, Behind as behind, Before as before, Grouping as grouping, Exiting as exiting, Bare as bare, Negative as negative, Digits as digits, Text as text, TextEscape as text_escape, TextNumber as text_number, Character as character, CharacterEscape as character_escape, CharacterNumber as character_number, CharacterEnd as character_end, Whole as whole}
+use Rattle.ev_kernel.specs.declared.reader.State.{State}
 use Rattle.ev_kernel.specs.declared.shape.Kind.{Kind}
 use Rattle.ev_kernel.specs.declared.shape.Kind.TheVariants.{Expression, Pattern, Member, Naming}
 use Rattle.ev_kernel.specs.declared.shape.Want.{Want}
@@ -97,48 +107,57 @@ tail_ends _ n = true
 abbrev pub ends : Head → ℕ → Bool
 ends head n = nat_le (length (fixed head)) n && tail_ends (tail head) (n - length (fixed head))
 
--- an item that was read
-pub data Item : Type 0 where
-  node_at : ℕ → Item
-  nodes_at : List ℕ → Item
-  word : List ℕ → Item
-  literal : Literal → Item
-
 -- the numbers of items that are nodes
 abbrev pub numbers : List Item → List ℕ
 numbers [] = []
-numbers (node_at n ∷ items) = n ∷ numbers items
+numbers (ANode n ∷ items) = n ∷ numbers items
 numbers (_ ∷ items) = numbers items
 
 -- a node of these items; where they do not fit the shape this one stands for none
 abbrev pub no_node : Node
 no_node = node.Hide 0
 
+-- the first item and the others, where it is a node, a group, a word or a literal
+abbrev pub taken_node : List Item → Option (ℕ × List Item)
+taken_node (ANode n ∷ items) = Some (n, items)
+taken_node _ = None
+
+abbrev pub taken_nodes : List Item → Option (List ℕ × List Item)
+taken_nodes (ANodes ns ∷ items) = Some (ns, items)
+taken_nodes _ = None
+
+abbrev pub taken_word : List Item → Option (List ℕ × List Item)
+taken_word (AWord w ∷ items) = Some (w, items)
+taken_word _ = None
+
+abbrev pub taken_literal : List Item → Option (Literal × List Item)
+taken_literal (ALit l ∷ items) = Some (l, items)
+taken_literal _ = None
+
+-- a node of what was taken, where it was there
+abbrev pub with_taken : {A : Type 0} → (A → List Item → Node) → Option (A × List Item) → Node
+with_taken f None = no_node
+with_taken f (Some taken) = f taken.0 taken.1
+
 abbrev with_node : (ℕ → List Item → Node) → List Item → Node
-with_node f (node_at n ∷ items) = f n items
-with_node f _ = no_node
+with_node f items = with_taken f (taken_node items)
 
 abbrev with_nodes : (List ℕ → List Item → Node) → List Item → Node
-with_nodes f (nodes_at ns ∷ items) = f ns items
-with_nodes f _ = no_node
+with_nodes f items = with_taken f (taken_nodes items)
 
 abbrev with_word : (List ℕ → List Item → Node) → List Item → Node
-with_word f (word w ∷ items) = f w items
-with_word f _ = no_node
+with_word f items = with_taken f (taken_word items)
 
 abbrev with_literal : (Literal → List Item → Node) → List Item → Node
-with_literal f (literal l ∷ items) = f l items
-with_literal f _ = no_node
+with_literal f items = with_taken f (taken_literal items)
 
 -- the first item, where it is a node
 abbrev pub first_node : List Item → Option ℕ
-first_node (node_at n ∷ items) = Some n
-first_node _ = None
+first_node items = option_map (λ taken. taken.0) (taken_node items)
 
 -- the first two
 abbrev pub first_nodes : List Item → Option (ℕ × ℕ)
-first_nodes (node_at m ∷ items) = option_map (λ n. (m, n)) (first_node items)
-first_nodes _ = None
+first_nodes items = option_and_then (λ taken. option_map (λ n. (taken.0, n)) (first_node taken.1)) (taken_node items)
 
 -- the node of a shape with these items
 abbrev pub node_of : Head → List Item → Node
@@ -167,67 +186,28 @@ node_of FinalName = with_word (λ w _. node.Final w None)
 node_of NoName = λ _. node.Any None
 node_of (Group kind) = λ _. no_node
 
--- a form that was begun: the number of its node, its shape, and the items that stand in it so far
-pub record Frame : Type 0 where
-  pub number : ℕ
-  pub head : Head
-  pub items : List Item
-
--- where reading stands
-pub data Mode : Type 0 where
-  -- the bracket of a form is to come
-  opening : Kind → Mode
-  -- these characters of the word behind the bracket were read
-  heading : Kind → List ℕ → Mode
-  -- behind an item or the word: a space or a closing bracket is to come
-  behind : Mode
-  -- behind a space: an item is to come
-  before : Mode
-  -- behind the bracket of a group: a first item is to come, or its closing bracket
-  grouping : Mode
-  -- these characters of the word `exit`
-  exiting : List ℕ → Mode
-  -- these characters of a noun or a bare verb
-  bare : List ℕ → Mode
-  -- behind a `-`
-  negative : Mode
-  -- these digits, and whether a `-` stands before them
-  digits : Bool → ℕ → Mode
-  -- these characters of a text, which is a verb or a literal
-  text : Bool → List ℕ → Mode
-  text_escape : Bool → List ℕ → Mode
-  -- behind `\u` and so many digits, with the value of the last one
-  text_number : Bool → List ℕ → ℕ → ℕ → Mode
-  character : Mode
-  character_escape : Mode
-  character_number : ℕ → ℕ → Mode
-  -- a character was read, and its closing quote is to come
-  character_end : ℕ → Mode
-  -- the form of the root was read
-  whole : Mode
-
-pub record State : Type 0 where
-  pub frames : List Frame
-  pub nodes : List Node
-  pub mode : Mode
-
 -- what may come next in the innermost form
 abbrev pub next_wanted : List Frame → Option Want
-next_wanted [] = None
-next_wanted (frame ∷ frames) = wanted frame.head (length frame.items)
+next_wanted frames = option_and_then (λ frame. wanted frame.head (length frame.items)) (slice_get frames 0)
+
+abbrev frame_ends : Option Frame → Bool
+frame_ends None = false
+frame_ends (Some frame) = ends frame.head (length frame.items)
 
 abbrev pub innermost_ends : List Frame → Bool
-innermost_ends [] = false
-innermost_ends (frame ∷ frames) = ends frame.head (length frame.items)
+innermost_ends frames = frame_ends (slice_get frames 0)
 
 -- behind its pattern a definition may have an ejector
 abbrev pub takes_exit : Head → ℕ → Bool
 takes_exit Def n = n == 1
 takes_exit _ n = false
 
+abbrev frame_takes_exit : Option Frame → Bool
+frame_takes_exit None = false
+frame_takes_exit (Some frame) = takes_exit frame.head (length frame.items)
+
 abbrev pub may_exit : List Frame → Bool
-may_exit [] = false
-may_exit (frame ∷ frames) = takes_exit frame.head (length frame.items)
+may_exit frames = frame_takes_exit (slice_get frames 0)
 
 abbrev pub with_exit : List Frame → List Frame
 with_exit [] = []
@@ -257,8 +237,8 @@ close_in [] item nodes = go [] nodes whole
 close_in (frame ∷ frames) item nodes = go (add_item item (frame ∷ frames)) nodes behind
 
 abbrev pub close_frame : Head → ℕ → List Item → List Frame → List Node → Option State
-close_frame (Group kind) number items frames nodes = close_in frames (nodes_at (numbers items)) nodes
-close_frame head number items frames nodes = close_in frames (node_at number) (slice_set nodes number (node_of head items))
+close_frame (Group kind) number items frames nodes = close_in frames (ANodes (numbers items)) nodes
+close_frame head number items frames nodes = close_in frames (ANode number) (slice_set nodes number (node_of head items))
 
 abbrev pub close : State → Option State
 close s = elim (innermost_ends s.frames) [
@@ -298,7 +278,7 @@ literal_begins c =
     if c == 34 then Some (text false [])
     else if c == 39 then Some character
     else if c == 45 then Some negative
-    else if is_digit c then Some (digits false (c - 48))
+    else if is_digit c then Some (digits false (pos (c - 48)))
     else None
 
 -- the first character of an item that is no bracket
@@ -324,11 +304,14 @@ step_before c s = elim (c == 40) [
 
 -- the shape of a word
 abbrev pub head_of : List (List ℕ × Head) → List ℕ → Option Head
-head_of [] w = None
-head_of (entry ∷ entries) w = elim (bytes_eq entry.0 w) [ true ↦ Some entry.1 | false ↦ head_of entries w ]
+head_of entries w = option_map (λ entry. entry.1) (find (λ entry. bytes_eq w entry.0) entries)
+
+-- a word among these begins so
+abbrev pub is_front_in : List (List ℕ × Head) → List ℕ → Bool
+is_front_in entries w = list_any (λ entry. starts_with (λ a b. a == b) entry.0 w) entries
 
 abbrev pub is_front_of_head : List ℕ → Kind → Bool
-is_front_of_head w kind = list_any (λ entry. starts_with (λ a b. a == b) entry.0 w) (heads kind)
+is_front_of_head w kind = is_front_in (heads kind) w
 
 abbrev pub ends_word : ℕ → Bool
 ends_word c = (c == 32) || (c == 41)
@@ -357,36 +340,43 @@ step_exiting w c s = elim ((c == 32) && bytes_eq w (codes "exit")) [
 
 abbrev pub step_bare : List ℕ → ℕ → State → Option State
 step_bare w c s = elim (ends_word c) [
-  | true ↦ elim (is_identifier w) [ true ↦ item_ends (word w) c s | false ↦ None ]
+  | true ↦ elim (is_identifier w) [ true ↦ item_ends (AWord w) c s | false ↦ None ]
   | false ↦ elim (continues_identifier c) [ true ↦ Some (record s { mode = bare (w ++ encoded c) }) | false ↦ None ]
 ]
 
--- the integer of these digits
-abbrev pub integer : Bool → ℕ → ℤ
-integer true n = neg_ℤ (pos n)
-integer false n = pos n
+-- the integer with one more digit, where 128 bits hold it
+abbrev pub fits : ℤ → Option ℤ
+fits z = if int_le (negsuc (2 ^ 127 - 1)) z && int_le z (pos (2 ^ 127 - 1)) then Some z else None
 
--- the greatest number that may stand behind a `-`, or without one
-abbrev pub most : Bool → ℕ
-most true = 2 ^ 127
-most false = 2 ^ 127 - 1
+abbrev pub with_digit : Bool → ℕ → ℤ → Option ℤ
+with_digit true d z = option_and_then (λ tens. fits (tens -ℤ pos d)) (fits (z *ℤ pos 10))
+with_digit false d z = option_and_then (λ tens. fits (tens +ℤ pos d)) (fits (z *ℤ pos 10))
 
-abbrev pub step_digits : Bool → ℕ → ℕ → State → Option State
-step_digits minus n c s = elim (is_digit c) [
-  | true ↦ elim (nat_lt 0 n && nat_le (n * 10 + (c - 48)) (most minus)) [
-    | true ↦ Some (record s { mode = digits minus (n * 10 + (c - 48)) })
-    | false ↦ None
-  ]
-  | false ↦ item_ends (literal (Int (integer minus n))) c s
+-- a zero stands alone
+abbrev pub is_zero : ℤ → Bool
+is_zero (pos n) = n == 0
+is_zero (negsuc n) = false
+
+abbrev pub more_digits : Bool → Option ℤ → State → Option State
+more_digits minus None s = None
+more_digits minus (Some z) s = Some (record s { mode = digits minus z })
+
+abbrev pub step_digits : Bool → ℤ → ℕ → State → Option State
+step_digits minus z c s = elim (is_digit c) [
+  | true ↦ elim (is_zero z) [ true ↦ None | false ↦ more_digits minus (with_digit minus (c - 48) z) s ]
+  | false ↦ item_ends (ALit (Int z)) c s
 ]
 
 abbrev pub step_negative : ℕ → State → Option State
-step_negative c s = if is_digit c && not (c == 48) then Some (record s { mode = digits true (c - 48) }) else None
+step_negative c s = elim (is_digit c && not (c == 48)) [
+  | true ↦ Some (record s { mode = digits true (pos 0 -ℤ pos (c - 48)) })
+  | false ↦ None
+]
 
 -- the item that a text is
 abbrev pub text_item : Bool → List ℕ → Item
-text_item true w = word w
-text_item false w = literal (Text w)
+text_item true w = AWord w
+text_item false w = ALit (Text w)
 
 -- a verb that is an identifier stands bare
 abbrev pub may_end_text : Bool → List ℕ → Bool
@@ -416,23 +406,29 @@ letter_escape c =
 
 abbrev pub step_text_escape : Bool → List ℕ → ℕ → State → Option State
 step_text_escape verb w c s = elim (c == 117) [
-  | true ↦ Some (record s { mode = text_number verb w 0 0 })
-  | false ↦ option_map (λ e. record s { mode = text verb (w ++ e ∷ []) }) (letter_escape c)
+  | true ↦ Some (record s { mode = text_number verb w First })
+  | false ↦ option_map (λ e. record s { mode = text verb (w ++ encoded e) }) (letter_escape c)
 ]
 
--- the value of a digit of `\u`, by how many stand before it and the value of the last of these: two zeros, then 0 or 1, then
--- a digit that makes the number of a control character that has no letter
-abbrev pub number_digit : ℕ → ℕ → ℕ → Option ℕ
-number_digit zero last c = if c == 48 then Some 0 else None
-number_digit (suc zero) last c = if c == 48 then Some 0 else None
-number_digit (suc (suc zero)) last c = if (c == 48) || (c == 49) then Some (c - 48) else None
-number_digit (suc (suc (suc n))) last c =
-    if (is_digit c || (nat_le 97 c && nat_le c 102)) && not ((last == 0) && ((digit_value c == 9) || (digit_value c == 10) || (digit_value c == 13)))
-    then Some (last * 16 + digit_value c) else None
+-- the value of a hexadecimal digit of a small letter
+abbrev pub hexadecimal : ℕ → Option ℕ
+hexadecimal c = if is_digit c then Some (c - 48) else if nat_le 97 c && nat_le c 102 then Some (c - 87) else None
 
-abbrev pub text_digit : Bool → List ℕ → ℕ → ℕ → Mode
-text_digit verb w (suc (suc (suc zero))) value = text verb (w ++ value ∷ [])
-text_digit verb w n value = text_number verb w (suc n) value
+-- a control character below 16 that has no letter
+abbrev pub low_control : ℕ → Option Digit
+low_control d = if (d == 9) || (d == 10) || (d == 13) then None else Some (Made d)
+
+-- a digit behind `\u`: two zeros, then 0 or 1, then a digit that makes the number of a control character without a letter
+abbrev pub number_digit : Place → ℕ → Option Digit
+number_digit First c = if c == 48 then Some (More Second) else None
+number_digit Second c = if c == 48 then Some (More Third) else None
+number_digit Third c = if c == 48 then Some (More Low) else if c == 49 then Some (More High) else None
+number_digit Low c = option_and_then low_control (hexadecimal c)
+number_digit High c = option_map (λ d. Made (16 + d)) (hexadecimal c)
+
+abbrev pub text_digit : Bool → List ℕ → Digit → Mode
+text_digit verb w (More place) = text_number verb w place
+text_digit verb w (Made e) = text verb (w ++ encoded e)
 
 abbrev pub step_character : ℕ → State → Option State
 step_character c s = elim (c == 92) [
@@ -445,17 +441,17 @@ character_letter c = if c == 39 then Some 39 else letter_escape c
 
 abbrev pub step_character_escape : ℕ → State → Option State
 step_character_escape c s = elim (c == 117) [
-  | true ↦ Some (record s { mode = character_number 0 0 })
+  | true ↦ Some (record s { mode = character_number First })
   | false ↦ option_map (λ e. record s { mode = character_end e }) (character_letter c)
 ]
 
-abbrev pub character_digit : ℕ → ℕ → Mode
-character_digit (suc (suc (suc zero))) value = character_end value
-character_digit n value = character_number (suc n) value
+abbrev pub character_digit : Digit → Mode
+character_digit (More place) = character_number place
+character_digit (Made e) = character_end e
 
 abbrev pub step_character_end : ℕ → ℕ → State → Option State
 step_character_end e c s =
-    if c == 39 then Some (record s { frames = add_item (literal (Char e)) s.frames; mode = behind }) else None
+    if c == 39 then Some (record s { frames = add_item (ALit (Char e)) s.frames; mode = behind }) else None
 
 -- behind the bracket of a group
 abbrev pub step_grouping : ℕ → State → Option State
@@ -471,18 +467,18 @@ step_in grouping c s = step_grouping c s
 step_in (exiting w) c s = step_exiting w c s
 step_in (bare w) c s = step_bare w c s
 step_in negative c s = step_negative c s
-step_in (digits minus n) c s = step_digits minus n c s
+step_in (digits minus z) c s = step_digits minus z c s
 step_in (text verb w) c s = step_text verb w c s
 step_in (text_escape verb w) c s = step_text_escape verb w c s
-step_in (text_number verb w n last) c s = option_map (λ value. record s { mode = text_digit verb w n value }) (number_digit n last c)
+step_in (text_number verb w place) c s = option_map (λ digit. record s { mode = text_digit verb w digit }) (number_digit place c)
 step_in character c s = step_character c s
 step_in character_escape c s = step_character_escape c s
-step_in (character_number n last) c s = option_map (λ value. record s { mode = character_digit n value }) (number_digit n last c)
+step_in (character_number place) c s = option_map (λ digit. record s { mode = character_digit digit }) (number_digit place c)
 step_in (character_end e) c s = step_character_end e c s
 step_in whole c s = None
 
 abbrev pub step : ℕ → State → Option State
-step c s = step_in s.mode c s
+step c s = step_in s.mode c (record s { mode = whole })
 
 abbrev pub started : State
 started = record { frames = []; nodes = []; mode = opening Expression }

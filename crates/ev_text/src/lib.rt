@@ -7,7 +7,7 @@ pub mod words;
 
 pub use spellings::{EscapeFault, unquote, unquote_undoes_quote};
 pub use texts::{push_quoted, push_quoted_character, push_shortened, quote, shorten_for_trace};
-pub use words::{is_identifier, is_keyword, push_verb};
+pub use words::{begins_identifier, continues_identifier, is_identifier, is_keyword, push_verb};
 
 #[cfg(test)]
 mod tests;

@@ -39,14 +39,14 @@ pub fn is_keyword(word: &str) -> bool
 }
 
 /// Whether an identifier may begin with the character.
-fn begins_identifier(c: char) -> bool
+pub fn begins_identifier(c: char) -> bool
     ensures { result ≡ begins_identifier c }
 {
     unicode_ident::is_xid_start(c) || c == '_'
 }
 
 /// Whether an identifier may go on with the character.
-fn continues_identifier(c: char) -> bool
+pub fn continues_identifier(c: char) -> bool
     ensures { result ≡ continues_identifier c }
 {
     unicode_ident::is_xid_continue(c)
