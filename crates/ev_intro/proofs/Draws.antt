@@ -1,5 +1,5 @@
 -- What a look-up among the first draws tells.
-use Rattle.std.proofs.Common.{◌≡◌, ℕ, zero, suc, ◌+◌, ◌*◌, ◌<◌, ◌≤◌, ⊎_elim, Bool, true, false, true≢false, cond, nat_eq, List, [], ◌∷◌, ◌++◌, length, Option, Some, None, refl, sym, ap, subst, ◌∙◌, arith}
+use Rattle.std.proofs.Common.{◌≡◌, ℕ, zero, suc, ◌*◌, ◌<◌, ◌≤◌, ⊎_elim, Bool, true, false, true≢false, cond, nat_eq, List, [], ◌∷◌, ◌++◌, length, Option, Some, None, refl, sym, ap, subst, ◌∙◌, arith}
 use Rattle.std.specs.Map.{lookup}
 use Rattle.std.proofs.lemmas.Bool.{eqb-true, cases_lt}
 use Rattle.std.proofs.lemmas.Cmp.{nat_eq_equiv}
@@ -36,9 +36,9 @@ unfolding draws
 draws_found key zero w i e = absurd cc
 draws_found key (suc n) w i e =
     either (lookup (nat_eq w) (draws key n)) (nat_eq w (word key n)) n i ((i < suc n) × (w ≡ word key i))
-      (sym (lookup-push (nat_eq w) (draws key n) (word key n) n) ∙ e)
-      (λ h. let p = draws_found key n w i h in (omega (arith, p.0), p.1))
-      (λ h. (omega (arith, h.1), eqb-true w (word key n) h.0 ∙ ap (word key) h.1))
+    (sym (lookup-push (nat_eq w) (draws key n) (word key n) n) ∙ e)
+    (λ h. let p = draws_found key n w i h in (omega (arith, p.0), p.1))
+    (λ h. (omega (arith, h.1), eqb-true w (word key n) h.0 ∙ ap (word key) h.1))
 
 pub draws_none : (key : List ℕ) (n w : ℕ) → lookup (nat_eq w) (draws key n) ≡ None → (i : ℕ) → i < n → word key i ≡ w → ⊥
 unfolding draws
@@ -46,12 +46,12 @@ draws_none key zero w e i lt same = omega arith
 draws_none key (suc n) w e i lt same =
     let p = neither (lookup (nat_eq w) (draws key n)) (nat_eq w (word key n)) n (sym (lookup-push (nat_eq w) (draws key n) (word key n) n) ∙ e) in
     ⊎_elim
-      (λ (below : i < n). draws_none key n w p.0 i below same)
-      (λ (at : n ≤ i).
-        let is : i ≡ n = omega arith in
-        let again : nat_eq w (word key n) ≡ true = subst (λ (x : ℕ). nat_eq w x ≡ true) (sym same ∙ ap (word key) is) (nat_eq_equiv.refl w) in
-        absurd (true≢false (sym again ∙ p.1)))
-      (cases_lt i n)
+    (λ (below : i < n). draws_none key n w p.0 i below same)
+    (λ (at : n ≤ i).
+    let is : i ≡ n = omega arith in
+    let again : nat_eq w (word key n) ≡ true = subst (λ (x : ℕ). nat_eq w x ≡ true) (sym same ∙ ap (word key) is) (nat_eq_equiv.refl w) in
+    absurd (true≢false (sym again ∙ p.1)))
+    (cases_lt i n)
 
 pub draws_length : (key : List ℕ) (n : ℕ) → length (draws key n) ≡ n
 unfolding draws

@@ -1,6 +1,5 @@
 -- Drawn words: numbers of 128 bits out of the key stream of ChaCha20.
-use Rattle.std.specs.Prelude.{◌≡◌, ◌≢◌, ℕ, zero, suc, ◌+◌, ◌*◌, ◌^◌, ◌<◌, nat_eq, List, [], ◌∷◌, ◌++◌, Option, Some, None}
-use Rattle.std.specs.Map.{lookup}
+use Rattle.std.specs.Prelude.{◌≡◌, ◌≢◌, ℕ, zero, suc, ◌+◌, ◌*◌, ◌^◌, ◌<◌, List, [], ◌∷◌, ◌++◌}
 use Rattle.rand_chacha.specs.ChaCha.{word_at, key_of}
 use Rattle.ev_intro.specs.declared.words.DrawFault.{DrawFault}
 use Rattle.ev_intro.specs.declared.words.DrawFault.TheVariants as fault

@@ -6,3 +6,6 @@ pub mod words;
 
 pub use gifts::GiftTable;
 pub use words::{DrawFault, Words};
+
+#[cfg(test)]
+mod tests;

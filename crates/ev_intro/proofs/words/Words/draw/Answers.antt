@@ -1,5 +1,4 @@
-use Rattle.std.proofs.Common.{◌≡◌, ℕ, suc, ◌+◌, ◌*◌, ◌<◌, List, [], ◌∷◌, ◌++◌, Option, None, nat_eq, length, refl, sym, ap, subst, ◌∙◌, arith}
-use Rattle.std.specs.Map.{lookup}
+use Rattle.std.proofs.Common.{◌≡◌, ℕ, suc, ◌+◌, ◌*◌, ◌<◌, [], ◌∷◌, ◌++◌, nat_eq, length, refl, sym, ap, subst, ◌∙◌, arith}
 use Rattle.indexmap.proofs.CallerLemmas.{insert_entry-new}
 use Rattle.rand_chacha.specs.ChaCha.{ChaCha, key_of}
 use Rattle.ev_intro.specs.declared.words.DrawFault.TheVariants as fault
@@ -47,11 +46,12 @@ invariant_of-self-in-Ok c =
     let after = c.insert.new.self.entries in
     let is : number ≡ word key n = number_is key n number c.self.inside.stream c.self.invariant.0 c.next_number-number.ensures.value in
     let grown : after ≡ es ++ (number, count) ∷ [] =
-        c.in-Ok.ensures.entries ∙ insert_entry-new nat_eq c.self.inside.drawn number count (sym (c.in-None.ensures ∙ c.get.ensures.value)) in
+    c.in-Ok.ensures.entries ∙ insert_entry-new nat_eq c.self.inside.drawn number count (sym (c.in-None.ensures ∙ c.get.ensures.value)) in
     let e : after ≡ draws key (suc n) = one_more key n number count es after c.self.invariant.1 is c.len-count.ensures.len grown in
     let len : length after ≡ suc n = ap length e ∙ draws_length key (suc n) in
-    let place : 4 * n + 4 ≡ 4 * length after = omega (arith, len) in
-    (c.next_number-number.ensures.after
-        ∙ ap (λ (s : ChaCha). record s { word_pos = s.word_pos + 4 }) c.self.invariant.0
-        ∙ ap (λ (p : ℕ). record { key = key_of key; stream = 0; word_pos = p }) place,
-     e ∙ ap (draws key) (sym len))
+    let place : 4 * n + 4 ≡ 4 * length after = omega (arith, len) in (
+      c.next_number-number.ensures.after
+          ∙ ap (λ (s : ChaCha). record s { word_pos = s.word_pos + 4 }) c.self.invariant.0
+          ∙ ap (λ (p : ℕ). record { key = key_of key; stream = 0; word_pos = p }) place,
+      e ∙ ap (draws key) (sym len),
+    )

@@ -1,5 +1,4 @@
-use Rattle.std.proofs.Common.{◌≡◌, ◌*◌, List, [], length, sym, ap, subst, ◌∙◌, refl}
-use Rattle.rand_chacha.specs.ChaCha.{ChaCha, key_of}
+use Rattle.std.proofs.Common.{refl}
 use Rattle.ev_intro.specs.Word.{draws}
 use Rattle.ev_intro.proofs.words.Words.new.Goals as goal
 
