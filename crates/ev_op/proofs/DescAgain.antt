@@ -1,14 +1,14 @@
 -- A description that is spelled is read again, whatever follows it.
-use Rattle.std.proofs.Common.{◌≡◌, ℕ, zero, suc, ◌+◌, ◌-◌, ◌*◌, ◌^◌, ◌<◌, ◌≤◌, max, Bool, true, false, cond, ltb, List, [], ◌∷◌, ◌++◌, length, Option, Some, None, refl, sym, ap, subst, ◌∙◌, append_assoc, arith}
-use Rattle.std.specs.Prelude.{ℤ, pos, negsuc}
+use Rattle.std.proofs.Common.{◌≡◌, ℕ, zero, suc, ◌+◌, ◌-◌, ◌^◌, ◌<◌, ◌≤◌, true, false, List, ◌++◌, length, Option, refl, ap, ◌∙◌, append_assoc, arith}
+use Rattle.std.specs.Prelude.{pos, negsuc}
 use Rattle.std.proofs.lemmas.Bool.{lt-ltb}
 use Rattle.std.proofs.lemmas.List.{length-append}
 use Rattle.ev_op.specs.declared.op.Plain.{Plain}
 use Rattle.ev_op.specs.declared.op.Plain.TheVariants as plain
-use Rattle.ev_op.specs.Numbers.{unsigned, signed, swiss}
+use Rattle.ev_op.specs.Numbers.{unsigned}
 use Rattle.ev_op.specs.Frames.{Described, Members, Datum, ListOf, Broken, YourExport, YourAnswer, MyExport, MyPromise, Third, MyAnswer, none, more, count, text_bytes, plain_bytes, desc_bytes, members_bytes, weight, weights, height, heights, PlainFits, DescFits, MembersFit, WithinLimits, IsDesc, AreDescs}
-use Rattle.ev_op.specs.Reading.{◌>>=◌, unsigned_at, Read, read, leaf_at, first_at, members_at, list_at, no_list, desc_at, free_room, free_at}
-use Rattle.ev_op.proofs.NumberLemmas.{IsSigned, unsigned_again, signed_again, low_first_again}
+use Rattle.ev_op.specs.Reading.{Read, read, leaf_at, first_at, members_at, list_at, no_list, desc_at, free_room, free_at}
+use Rattle.ev_op.proofs.NumberLemmas.{unsigned_again, signed_again, low_first_again}
 use Rattle.ev_op.proofs.LeafLemmas.{text_again, character_again}
 
 weight_least : (d : Described) → 1 ≤ weight d
@@ -123,6 +123,7 @@ none_again h room rest = let e : room - 0 ≡ room = omega arith in rw e refl
 
 mutual
   unfolding DescFits weight height count members_bytes
+
   pub desc_again : (d : Described) (h room : ℕ) (rest : List ℕ) → DescFits d → weight d ≤ room → room < 2 ^ 64 → height d ≤ h
       → desc_at h room (desc_bytes d ++ rest) ≡ read d (room - weight d) rest
   desc_again (ListOf ds) h room rest fits le small low =
@@ -141,8 +142,8 @@ mutual
   members_again none h room rest fits le small low = none_again h room rest
   members_again (more d ds) h room rest fits le small low =
       member_step h room (count ds) d ds rest le
-        (desc_again d h room (members_bytes ds ++ rest) fits.0 (omega arith) small (omega arith))
-        (members_again ds h (room - weight d) rest fits.1 (omega arith) (omega arith) (omega arith))
+      (desc_again d h room (members_bytes ds ++ rest) fits.0 (omega arith) small (omega arith))
+      (members_again ds h (room - weight d) rest fits.1 (omega arith) (omega arith) (omega arith))
 
 -- ---- a description round which no list stands
 
@@ -199,7 +200,7 @@ unfolding WithinLimits
 free_list ds room rest is =
     let free : free_room (desc_bytes (ListOf ds) ++ rest) ≡ 65536 = list_room ds rest in
     free_from (ListOf ds) room (65536 - weight (ListOf ds)) rest
-      (ap (λ (n : ℕ). desc_at 100 n (desc_bytes (ListOf ds) ++ rest)) free ∙ desc_again (ListOf ds) 100 65536 rest is.0 is.1.0 (omega arith) is.1.1)
+    (ap (λ (n : ℕ). desc_at 100 n (desc_bytes (ListOf ds) ++ rest)) free ∙ desc_again (ListOf ds) 100 65536 rest is.0 is.1.0 (omega arith) is.1.1)
 
 pub free_again : (d : Described) (room : ℕ) (rest : List ℕ) → IsDesc d → free_at room (desc_bytes d ++ rest) ≡ read d room rest
 free_again (ListOf ds) room rest is = free_list ds room rest is

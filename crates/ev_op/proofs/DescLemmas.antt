@@ -1,15 +1,14 @@
 -- What is read as a description is spelled so.
-use Rattle.std.proofs.Common.{◌≡◌, ℕ, zero, suc, ◌+◌, ◌-◌, ◌*◌, ◌^◌, ◌<◌, ◌≤◌, ⊎_elim, max, Bool, true, false, cond, ltb, List, [], ◌∷◌, ◌++◌, length, Option, Some, None, refl, sym, ap, subst, ◌∙◌, append_assoc, arith}
+use Rattle.std.proofs.Common.{◌≡◌, ℕ, zero, suc, ◌+◌, ◌-◌, ◌^◌, ◌<◌, ◌≤◌, ⊎_elim, true, false, cond, ltb, List, [], ◌∷◌, ◌++◌, length, Option, Some, refl, sym, ap, subst, ◌∙◌, arith}
 use Rattle.std.specs.Prelude.{ℤ, pos, negsuc}
-use Rattle.std.specs.Char.{IsScalar}
 use Rattle.std.proofs.lemmas.Bool.{ltb-true}
 use Rattle.ev_op.specs.declared.op.Plain.TheVariants as plain
 use Rattle.ev_op.specs.declared.kind.Kind.{Kind}
 use Rattle.ev_op.specs.declared.kind.Kind.TheVariants as kind
 use Rattle.ev_op.specs.Numbers.{unsigned, signed, swiss, is_primitive}
-use Rattle.ev_op.specs.Frames.{Described, Members, Datum, ListOf, Broken, YourExport, YourAnswer, MyExport, MyPromise, Third, MyAnswer, none, more, count, text_bytes, IsText, plain_bytes, desc_bytes, members_bytes, weight, weights, height, heights, PlainFits, DescFits, MembersFit, WithinLimits, IsDesc, AreDescs}
+use Rattle.ev_op.specs.Frames.{Described, Members, Datum, ListOf, Broken, YourExport, YourAnswer, MyExport, MyPromise, Third, MyAnswer, none, more, count, text_bytes, plain_bytes, desc_bytes, members_bytes, weight, weights, height, heights, PlainFits, DescFits, MembersFit, WithinLimits, IsDesc, AreDescs}
 use Rattle.ev_op.specs.Reading.{◌>>=◌, unsigned_at, signed_at, swiss_at, text_at, character_at, vat_at, primitive_at, kind_at, Read, read, is_list, leaf_at, first_at, members_at, list_at, no_list, desc_at, free_room, free_at}
-use Rattle.ev_op.proofs.NumberLemmas.{bind_some, then_some, some_is, none_is, chosen, IsBytes, IsBytes-rest, Takes, Takes-then, Takes-cons, IsSigned, unsigned_takes, signed_takes, low_first_takes}
+use Rattle.ev_op.proofs.NumberLemmas.{bind_some, some_is, none_is, chosen, IsBytes, IsBytes-rest, Takes, Takes-then, Takes-cons, IsSigned, unsigned_takes, signed_takes, low_first_takes}
 use Rattle.ev_op.proofs.LeafLemmas.{TextRead, text_takes, character_takes, byte_takes, code, kind_takes}
 
 -- what was read as a description in which at most h lists stand in each other, where so much room was left
@@ -52,7 +51,7 @@ counted h b room bytes d f fits e spelled fit one flat =
     let q = bind_some (unsigned_at bytes) (λ n. read (f n.0) room n.1) d e in
     let t = unsigned_takes bytes q.0 fits q.1 in
     subst (DescRead h (suc room) (b ∷ bytes)) (some_is (made (f q.0.0) room q.0.1) d q.2)
-      (light h b room bytes q.0.1 (unsigned q.0.0) (f q.0.0) t.0 (spelled q.0.0) (fit q.0.0 t.1) (one q.0.0) (flat q.0.0))
+    (light h b room bytes q.0.1 (unsigned q.0.0) (f q.0.0) t.0 (spelled q.0.0) (fit q.0.0 t.1) (one q.0.0) (flat q.0.0))
 
 signed_fits : (z : ℤ) → IsSigned z → PlainFits (plain.Int z)
 unfolding PlainFits
@@ -68,28 +67,28 @@ leaf_takes h kind.Integer room bytes d fits e =
     let q = bind_some (signed_at bytes) (λ z. read (Datum (plain.Int z.0)) room z.1) d e in
     let t = signed_takes bytes q.0 fits q.1 in
     subst (DescRead h (suc room) (3 ∷ bytes)) (some_is (made (Datum (plain.Int q.0.0)) room q.0.1) d q.2)
-      (light h 3 room bytes q.0.1 (signed q.0.0) (Datum (plain.Int q.0.0)) t.0 refl (signed_fits q.0.0 t.1) refl refl)
+    (light h 3 room bytes q.0.1 (signed q.0.0) (Datum (plain.Int q.0.0)) t.0 refl (signed_fits q.0.0 t.1) refl refl)
 leaf_takes h kind.Character room bytes d fits e =
     let q = bind_some (character_at bytes) (λ c. read (Datum (plain.Char c.0)) room c.1) d e in
     let t = character_takes bytes q.0 fits q.1 in
     subst (DescRead h (suc room) (4 ∷ bytes)) (some_is (made (Datum (plain.Char q.0.0)) room q.0.1) d q.2)
-      (light h 4 room bytes q.0.1 (unsigned q.0.0) (Datum (plain.Char q.0.0)) t.0 refl t.1 refl refl)
+    (light h 4 room bytes q.0.1 (unsigned q.0.0) (Datum (plain.Char q.0.0)) t.0 refl t.1 refl refl)
 leaf_takes h kind.Text room bytes d fits e =
     let q = bind_some (text_at room bytes) (λ t. read (Datum (plain.Text t.0)) (room - length t.0) t.1) d e in
     let t = text_takes room bytes q.0 fits q.1 in
     subst (DescRead h (suc room) (5 ∷ bytes)) (some_is (made (Datum (plain.Text q.0.0)) (room - length q.0.0) q.0.1) d q.2)
-      (heavy h 5 room bytes q.0 (Datum (plain.Text q.0.0)) t refl t.fits refl refl)
+    (heavy h 5 room bytes q.0 (Datum (plain.Text q.0.0)) t refl t.fits refl refl)
 leaf_takes h kind.List room bytes d fits e = absurd (none_is d e)
 leaf_takes h kind.Primitive room bytes d fits e =
     let q = bind_some (primitive_at bytes) (λ p. read (Datum (plain.Prim p.0)) room p.1) d e in
     let t = byte_takes is_primitive bytes q.0 fits q.1 in
     subst (DescRead h (suc room) (7 ∷ bytes)) (some_is (made (Datum (plain.Prim q.0.0)) room q.0.1) d q.2)
-      (light h 7 room bytes q.0.1 (q.0.0 ∷ []) (Datum (plain.Prim q.0.0)) t.0 refl t.1 refl refl)
+    (light h 7 room bytes q.0.1 (q.0.0 ∷ []) (Datum (plain.Prim q.0.0)) t.0 refl t.1 refl refl)
 leaf_takes h kind.Broken room bytes d fits e =
     let q = bind_some (text_at room bytes) (λ t. read (Broken t.0) (room - length t.0) t.1) d e in
     let t = text_takes room bytes q.0 fits q.1 in
     subst (DescRead h (suc room) (8 ∷ bytes)) (some_is (made (Broken q.0.0) (room - length q.0.0) q.0.1) d q.2)
-      (heavy h 8 room bytes q.0 (Broken q.0.0) t refl t.fits refl refl)
+    (heavy h 8 room bytes q.0 (Broken q.0.0) t refl t.fits refl refl)
 leaf_takes h kind.YourExport room bytes d fits e = counted h 9 room bytes d YourExport fits e (λ n. refl) (λ n lt. lt) (λ n. refl) (λ n. refl)
 leaf_takes h kind.YourAnswer room bytes d fits e = counted h 10 room bytes d YourAnswer fits e (λ n. refl) (λ n lt. lt) (λ n. refl) (λ n. refl)
 leaf_takes h kind.MyExport room bytes d fits e = counted h 11 room bytes d MyExport fits e (λ n. refl) (λ n lt. lt) (λ n. refl) (λ n. refl)
@@ -100,7 +99,7 @@ leaf_takes h kind.Third room bytes d fits e =
     let t = byte_takes (λ b. ltb b 16) bytes q.0 fits q.1 in
     let u = low_first_takes 16 q.0.1 r.0 t.0.fits r.1 in
     subst (DescRead h (suc room) (13 ∷ bytes)) (some_is (made (Third q.0.0 r.0.0) room r.0.1) d r.2)
-      (light h 13 room bytes r.0.1 (q.0.0 ∷ swiss r.0.0) (Third q.0.0 r.0.0) (Takes-then bytes (q.0.0 ∷ []) q.0.1 (swiss r.0.0) r.0.1 t.0 u.0) refl (ltb-true q.0.0 16 t.1, u.1) refl refl)
+    (light h 13 room bytes r.0.1 (q.0.0 ∷ swiss r.0.0) (Third q.0.0 r.0.0) (Takes-then bytes (q.0.0 ∷ []) q.0.1 (swiss r.0.0) r.0.1 t.0 u.0) refl (ltb-true q.0.0 16 t.1, u.1) refl refl)
 leaf_takes h kind.MyAnswer room bytes d fits e = counted h 14 room bytes d MyAnswer fits e (λ n. refl) (λ n lt. lt) (λ n. refl) (λ n. refl)
 
 -- ---- lists
@@ -123,7 +122,7 @@ members_take : (h : ℕ) (one : ℕ → List ℕ → Option (Read Described)) �
 unfolding members_at members_bytes MembersFit weights heights count
 members_take h one right zero room bytes ds fits e =
     subst (MembersRead h zero room bytes) (some_is (made_all none room bytes) ds e)
-      (record { takes = nothing bytes fits; fits = tt; weighs = omega arith; low = omega arith; counts = refl })
+    (record { takes = nothing bytes fits; fits = tt; weighs = omega arith; low = omega arith; counts = refl })
 members_take h one right (suc n) room bytes ds fits e =
     let q = bind_some (one room bytes) (λ d. members_at one n d.room d.rest >>= λ ds. read (more d.value ds.value) ds.room ds.rest) ds e in
     let d = q.0 in
@@ -189,10 +188,10 @@ first_takes h lists right (suc room) bytes d fits e =
     let first = kind_takes bytes q.0 q.1 in
     let fits' : IsBytes rest = IsBytes-rest (code k) rest (subst IsBytes first fits) in
     subst (λ (bs : List ℕ). DescRead h (suc room) bs d) (sym first)
-      (⊎_elim
-        (λ p. subst (λ (b : ℕ). DescRead h (suc room) (b ∷ rest) d) (sym (is_list_code k p.0)) (right room rest d fits' p.1))
-        (λ p. leaf_takes h k room rest d fits' p.1)
-        (chosen (is_list k) (lists room rest) (leaf_at k room rest) (Some d) q.2))
+    (⊎_elim
+    (λ p. subst (λ (b : ℕ). DescRead h (suc room) (b ∷ rest) d) (sym (is_list_code k p.0)) (right room rest d fits' p.1))
+    (λ p. leaf_takes h k room rest d fits' p.1)
+    (chosen (is_list k) (lists room rest) (leaf_at k room rest) (Some d) q.2))
 
 desc_takes : (h : ℕ) → IsRight h (desc_at h)
 unfolding desc_at
@@ -227,7 +226,7 @@ free_takes room bytes d fits e =
     let found = q.0 in
     let t = desc_takes 100 (free_room bytes) bytes found fits q.1 in
     subst (FreeRead room bytes) (some_is (made found.value room found.rest) d q.2)
-      (record { takes = t.takes; is = (t.fits, limits found.value bytes found.rest found.room t.takes.parts t.weighs t.low); same = refl })
+    (record { takes = t.takes; is = (t.fits, limits found.value bytes found.rest found.room t.takes.parts t.weighs t.low); same = refl })
 
 pub record ArgsRead (n : ℕ) (bytes : List ℕ) (ds : Read Members) : Type 0 where
   pub takes : Takes bytes (members_bytes ds.value) ds.rest

@@ -1,5 +1,5 @@
 -- Spelling descriptions one after the other, as a loop does.
-use Rattle.std.proofs.Common.{◌≡◌, ℕ, zero, suc, ◌+◌, ◌<◌, List, [], ◌∷◌, ◌++◌, length, map, take, get_or, refl, sym, ap, ◌∙◌, append_assoc, arith}
+use Rattle.std.proofs.Common.{◌≡◌, ℕ, ◌+◌, ◌<◌, List, [], ◌∷◌, ◌++◌, length, map, take, get_or, refl, sym, ap, ◌∙◌, append_assoc, arith}
 use Rattle.std.proofs.lemmas.List.{map_push, append-nil, take_more}
 use Rattle.ev_op.specs.declared.op.Desc.{Desc}
 use Rattle.ev_op.specs.Frames.{Described, Members, none, more, members, count, desc_bytes, members_bytes}
@@ -29,7 +29,7 @@ one_more ds i d lt at =
     let front = take i ds in
     let e : take (i + 1) ds ≡ front ++ d ∷ [] = take_more ds i d lt ∙ ap (λ (x : Desc). front ++ x ∷ []) (sym at) in
     let f : all_described (take (i + 1) ds) ≡ join (all_described front) (more (described d) none) =
-        ap all_described e ∙ ap members (map_push described front d) ∙ members-push (map described front) (described d) in
+    ap all_described e ∙ ap members (map_push described front d) ∙ members-push (map described front) (described d) in
     ap members_bytes f ∙ members_bytes-join (all_described front) (more (described d) none) ∙ ap (λ (bs : List ℕ). members_bytes (all_described front) ++ bs) (append-nil (desc_bytes (described d)))
 
 -- six parts put one behind the other

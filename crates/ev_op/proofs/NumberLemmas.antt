@@ -1,9 +1,9 @@
 -- On numbers in digits: what is read is spelled so, and what is spelled so is read.
-use Rattle.std.proofs.Common.{◌≡◌, ℕ, zero, suc, ◌+◌, ◌-◌, ◌*◌, ◌/◌, ◌%◌, ◌^◌, ◌<◌, ◌≤◌, ◌⊎◌, inl, inr, ⊎_elim, Bool, true, false, cond, ltb, leb, List, [], ◌∷◌, ◌++◌, length, get_or, Option, Some, None, refl, sym, ap, subst, ◌∙◌, append_assoc, arith}
+use Rattle.std.proofs.Common.{◌≡◌, ℕ, zero, suc, ◌+◌, ◌-◌, ◌*◌, ◌/◌, ◌%◌, ◌^◌, ◌<◌, ◌≤◌, ◌⊎◌, inl, inr, ⊎_elim, Bool, true, false, cond, ltb, leb, List, [], ◌∷◌, ◌++◌, get_or, Option, Some, None, refl, sym, ap, subst, ◌∙◌, append_assoc, arith}
 use Rattle.std.specs.Prelude.{ℤ, pos, negsuc}
 use Rattle.std.proofs.lemmas.Bool.{ltb-false, ltb-true, le-ltb, lt-ltb, leb-true, leb-false, le-leb, lt-leb, cases_lt}
-use Rattle.ev_op.specs.Numbers.{bound, digit, digits, unsigned, signed, low_first, byte_bound, swiss}
-use Rattle.ev_op.specs.Reading.{◌>>=◌, Digits, last_digit, lower_digit, in_last_place, digits_at, unsigned_at, signed_at, with_sign, low_first_at, swiss_at}
+use Rattle.ev_op.specs.Numbers.{bound, digit, digits, unsigned, signed, low_first, byte_bound}
+use Rattle.ev_op.specs.Reading.{◌>>=◌, Digits, last_digit, lower_digit, in_last_place, digits_at, unsigned_at, signed_at, with_sign, low_first_at}
 
 pub bound_least : (k : ℕ) → 2 ≤ bound k
 bound_least zero = omega arith
@@ -98,10 +98,10 @@ pub record IsRead (last k : ℕ) (bytes : List ℕ) (d : Digits) : Type 0 where
 
 one_read : (last k b : ℕ) (rest : List ℕ) (d : Digits) → 64 ≤ last → IsBytes (b ∷ rest) → b < 128 → digit (leb last b) b < bound k → last_digit last b rest ≡ d → IsRead last k (b ∷ rest) d
 one_read last k b rest d low fits small below e = subst (IsRead last k (b ∷ rest)) e (record {
-    takes = record { parts = ap (λ (t : List ℕ). t ++ rest) (sym (one_digit last (leb last b) k (digit (leb last b) b) (last_small last b low small) below ∙ ap (λ (x : ℕ). x ∷ []) (digit_back (leb last b) b small))); fits = IsBytes-rest b rest fits };
-    below = below;
-    sign = λ h. omega (arith, leb-true last b h);
-  })
+  takes = record { parts = ap (λ (t : List ℕ). t ++ rest) (sym (one_digit last (leb last b) k (digit (leb last b) b) (last_small last b low small) below ∙ ap (λ (x : ℕ). x ∷ []) (digit_back (leb last b) b small))); fits = IsBytes-rest b rest fits };
+  below = below;
+  sign = λ h. omega (arith, leb-true last b h);
+})
 
 more_read : (last k b : ℕ) (rest : List ℕ) (h d : Digits) → IsBytes (b ∷ rest) → 128 ≤ b → IsRead last k rest h → lower_digit last b h ≡ Some d → IsRead last (suc k) (b ∷ rest) d
 more_read last k b rest h d fits large found e =
@@ -114,7 +114,7 @@ more_read last k b rest h d fits large found e =
     let p = parts_of h.number x small in
     let back : 128 + digit h.negative x ≡ b = rw (digit_back h.negative (b - 128) low) (omega arith) in
     let spelled : digits last h.negative (suc k) n ≡ b ∷ digits last h.negative k h.number =
-        more_digits last h.negative k n (leb-true last n g.0) ∙ rw (p.0, p.1, back) refl in
+    more_digits last h.negative k n (leb-true last n g.0) ∙ rw (p.0, p.1, back) refl in
     subst (IsRead last (suc k) (b ∷ rest)) g.1 (record {
       takes = record { parts = ap (λ (t : List ℕ). b ∷ t) found.takes.parts ∙ ap (λ (t : List ℕ). t ++ h.rest) (sym spelled); fits = found.takes.fits };
       below = omega (arith, found.below, small);
@@ -128,16 +128,16 @@ digits_take last (suc k) [] d low fits e = absurd cc
 digits_take last zero (b ∷ rest) d low fits e =
     let c = last_digit last b rest in
     ⊎_elim
-      (λ p. let g = then_some (ltb c.number 2) c d p.1 in one_read last zero b rest d low fits (ltb-true b 128 p.0) (ltb-true c.number 2 g.0) g.1)
-      (λ p. absurd (none_is d p.1))
-      (chosen (ltb b 128) (in_last_place c) None (Some d) e)
+    (λ p. let g = then_some (ltb c.number 2) c d p.1 in one_read last zero b rest d low fits (ltb-true b 128 p.0) (ltb-true c.number 2 g.0) g.1)
+    (λ p. absurd (none_is d p.1))
+    (chosen (ltb b 128) (in_last_place c) None (Some d) e)
 digits_take last (suc k) (b ∷ rest) d low fits e =
     let c = last_digit last b rest in
     ⊎_elim
-      (λ p. let small = ltb-true b 128 p.0 in one_read last (suc k) b rest d low fits small (omega (arith, digit_small (leb last b) b small, bound_least k)) (some_is c d p.1))
-      (λ p. let q = bind_some (digits_at last k rest) (lower_digit last b) d p.1 in
-        more_read last k b rest q.0 d fits (ltb-false b 128 p.0) (digits_take last k rest q.0 low (IsBytes-rest b rest fits) q.1) q.2)
-      (chosen (ltb b 128) (Some c) (digits_at last k rest >>= lower_digit last b) (Some d) e)
+    (λ p. let small = ltb-true b 128 p.0 in one_read last (suc k) b rest d low fits small (omega (arith, digit_small (leb last b) b small, bound_least k)) (some_is c d p.1))
+    (λ p. let q = bind_some (digits_at last k rest) (lower_digit last b) d p.1 in
+    more_read last k b rest q.0 d fits (ltb-false b 128 p.0) (digits_take last k rest q.0 low (IsBytes-rest b rest fits) q.1) q.2)
+    (chosen (ltb b 128) (Some c) (digits_at last k rest >>= lower_digit last b) (Some d) e)
 
 -- the last digit tells the sign
 abbrev pub HasSign : ℕ → Bool → Type 0
@@ -161,8 +161,8 @@ lower_again : (last : ℕ) (negative : Bool) (n : ℕ) (rest : List ℕ) → las
 lower_again last negative n rest le =
     let low : n % 128 < 128 = omega arith in
     let back : digit negative ((128 + digit negative (n % 128)) - 128) ≡ n % 128 =
-        let e : (128 + digit negative (n % 128)) - 128 ≡ digit negative (n % 128) = omega arith in
-        ap (digit negative) e ∙ digit_back negative (n % 128) low in
+    let e : (128 + digit negative (n % 128)) - 128 ≡ digit negative (n % 128) = omega arith in
+    ap (digit negative) e ∙ digit_back negative (n % 128) low in
     let sum : 128 * (n / 128) + digit negative ((128 + digit negative (n % 128)) - 128) ≡ n = rw back (omega arith) in
     rw (sum, le-leb last n le) refl
 
@@ -180,16 +180,16 @@ digits_again last negative zero n rest h fits =
     ∙ rw (lt-ltb (digit negative n) 128 small) (place_again last negative n rest h lt fits)
 digits_again last negative (suc k) n rest h fits =
     ⊎_elim
-      (λ (lt : n < last).
-        let small : digit negative n < 128 = digit_small negative n (omega (arith, low_of last negative h)) in
-        ap (λ (t : List ℕ). digits_at last (suc k) (t ++ rest)) (one_digit last negative (suc k) n lt fits)
-        ∙ rw (lt-ltb (digit negative n) 128 small, last_again last negative n rest h lt) refl)
-      (λ (le : last ≤ n).
-        let high : n / 128 < bound k = omega arith in
-        let large : 128 ≤ 128 + digit negative (n % 128) = omega arith in
-        ap (λ (t : List ℕ). digits_at last (suc k) (t ++ rest)) (more_digits last negative k n le)
-        ∙ rw (le-ltb (128 + digit negative (n % 128)) 128 large, digits_again last negative k (n / 128) rest h high) (lower_again last negative n rest le))
-      (cases_lt n last)
+    (λ (lt : n < last).
+    let small : digit negative n < 128 = digit_small negative n (omega (arith, low_of last negative h)) in
+    ap (λ (t : List ℕ). digits_at last (suc k) (t ++ rest)) (one_digit last negative (suc k) n lt fits)
+    ∙ rw (lt-ltb (digit negative n) 128 small, last_again last negative n rest h lt) refl)
+    (λ (le : last ≤ n).
+    let high : n / 128 < bound k = omega arith in
+    let large : 128 ≤ 128 + digit negative (n % 128) = omega arith in
+    ap (λ (t : List ℕ). digits_at last (suc k) (t ++ rest)) (more_digits last negative k n le)
+    ∙ rw (le-ltb (128 + digit negative (n % 128)) 128 large, digits_again last negative k (n / 128) rest h high) (lower_again last negative n rest le))
+    (cases_lt n last)
 
 -- ---- numbers
 
@@ -204,7 +204,7 @@ unsigned_takes bytes x fits e =
     let found = digits_take 128 9 bytes d (omega arith) fits q.1 in
     let plain = not_turned d.negative found.sign in
     subst (λ (y : ℕ × List ℕ). Takes bytes (unsigned y.0) y.1 × (y.0 < 2 ^ 64)) (some_is (d.number, d.rest) x q.2)
-      (subst (λ (c : Bool). Takes bytes (digits 128 c 9 d.number) d.rest) plain found.takes, found.below)
+    (subst (λ (c : Bool). Takes bytes (digits 128 c 9 d.number) d.rest) plain found.takes, found.below)
 
 pub unsigned_again : (n : ℕ) (rest : List ℕ) → n < 2 ^ 64 → unsigned_at (unsigned n ++ rest) ≡ Some (n, rest)
 unsigned_again n rest lt = ap (λ (o : Option Digits). o >>= λ d. Some (d.number, d.rest)) (digits_again 128 false 9 n rest (omega arith, omega arith) lt)
@@ -225,7 +225,7 @@ signed_takes bytes x fits e =
     let d = q.0 in
     let found = digits_take 64 18 bytes d (omega arith) fits q.1 in
     subst (λ (y : ℤ × List ℕ). Takes bytes (signed y.0) y.1 × IsSigned y.0) (some_is (with_sign d.negative d.number, d.rest) x q.2)
-      (signed_made d.negative d.number bytes d.rest found.takes found.below)
+    (signed_made d.negative d.number bytes d.rest found.takes found.below)
 
 pub signed_again : (z : ℤ) (rest : List ℕ) → IsSigned z → signed_at (signed z ++ rest) ≡ Some (z, rest)
 signed_again (pos n) rest lt = ap (λ (o : Option Digits). o >>= λ d. Some (with_sign d.negative d.number, d.rest)) (digits_again 64 false 18 n rest (omega arith, omega arith) lt)
@@ -246,7 +246,7 @@ low_first_takes (suc k) (b ∷ rest) x fits e =
     let high : n / 256 ≡ m = omega arith in
     let spelled : low_first (suc k) n ≡ b ∷ low_first k m = rw (low, high) refl in
     subst (λ (y : ℕ × List ℕ). Takes (b ∷ rest) (low_first (suc k) y.0) y.1 × (y.0 < 256 * byte_bound k)) (some_is (n, q.0.1) x q.2)
-      (subst (λ (t : List ℕ). Takes (b ∷ rest) t q.0.1) (sym spelled) (Takes-cons b rest (low_first k m) q.0.1 t.0), omega (arith, t.1))
+    (subst (λ (t : List ℕ). Takes (b ∷ rest) t q.0.1) (sym spelled) (Takes-cons b rest (low_first k m) q.0.1 t.0), omega (arith, t.1))
 
 pub low_first_again : (k n : ℕ) (rest : List ℕ) → n < byte_bound k → low_first_at k (low_first k n ++ rest) ≡ Some (n, rest)
 unfolding low_first_at low_first

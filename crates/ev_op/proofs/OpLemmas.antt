@@ -1,15 +1,15 @@
 -- The two laws: what is read as an operation is spelled so, and what is spelled so is read, whatever follows it.
-use Rattle.std.proofs.Common.{◌≡◌, ℕ, zero, suc, ◌+◌, ◌-◌, ◌*◌, ◌^◌, ◌<◌, ◌≤◌, ⊎_elim, Bool, true, false, cond, ltb, nat_eq, List, [], ◌∷◌, ◌++◌, length, Option, Some, None, refl, sym, ap, subst, ◌∙◌, append_assoc, arith}
+use Rattle.std.proofs.Common.{◌≡◌, ℕ, ◌^◌, ◌<◌, ◌≤◌, ⊎_elim, true, false, cond, ltb, nat_eq, List, [], ◌∷◌, ◌++◌, length, Some, None, refl, sym, ap, subst, ◌∙◌, append_assoc, arith}
 use Rattle.std.proofs.lemmas.Bool.{lt-ltb, ltb-true, ltb-false, le-ltb, eqb-true}
 use Rattle.std.proofs.lemmas.List.{length-append}
 use Rattle.ev_op.specs.declared.op.Plain.TheVariants as plain
 use Rattle.ev_op.specs.declared.kind.Kind.{Kind}
 use Rattle.ev_op.specs.declared.kind.Kind.TheVariants as kind
 use Rattle.ev_op.specs.Numbers.{unsigned, swiss}
-use Rattle.ev_op.specs.Frames.{Described, Members, Datum, ListOf, Broken, YourExport, YourAnswer, MyExport, MyPromise, Third, MyAnswer, count, text_bytes, plain_bytes, desc_bytes, members_bytes, Outcome, To, Elsewhere, outcome_bytes, Operation, Deliver, Resolve, Provide, Accept, Shorten, spelling, IsText, IsDesc, AreDescs, IsTarget, IsSubject, OutcomeFits, IsOp}
-use Rattle.ev_op.specs.Reading.{◌>>=◌, unsigned_at, swiss_at, vat_at, text_at, kind_at, counted_at, Read, members_at, free_at, target_behind, target_at, subject_behind, subject_at, outcome_at, few_at, deliver_at, resolve_at, provide_at, accept_at, shorten_at, op_at}
-use Rattle.ev_op.proofs.NumberLemmas.{bind_some, then_some, else_some, some_is, none_is, chosen, IsBytes, IsBytes-rest, Takes, Takes-then, Takes-cons, unsigned_takes, unsigned_again, low_first_takes, low_first_again}
-use Rattle.ev_op.proofs.LeafLemmas.{TextRead, text_takes, text_again, byte_takes, code, kind_takes}
+use Rattle.ev_op.specs.Frames.{Described, Members, Datum, ListOf, Broken, YourExport, YourAnswer, MyExport, MyPromise, Third, MyAnswer, count, text_bytes, plain_bytes, desc_bytes, members_bytes, Outcome, To, Elsewhere, outcome_bytes, Operation, Deliver, Resolve, Provide, Accept, Shorten, spelling, IsTarget, IsSubject, OutcomeFits, IsOp}
+use Rattle.ev_op.specs.Reading.{◌>>=◌, unsigned_at, swiss_at, vat_at, text_at, kind_at, counted_at, members_at, free_at, target_behind, target_at, subject_behind, subject_at, outcome_at, few_at, deliver_at, resolve_at, provide_at, accept_at, shorten_at, op_at}
+use Rattle.ev_op.proofs.NumberLemmas.{bind_some, else_some, some_is, none_is, chosen, IsBytes, IsBytes-rest, Takes, Takes-then, Takes-cons, unsigned_takes, unsigned_again, low_first_takes, low_first_again}
+use Rattle.ev_op.proofs.LeafLemmas.{text_takes, text_again, byte_takes, code, kind_takes}
 use Rattle.ev_op.proofs.DescLemmas.{free_takes, args_take}
 use Rattle.ev_op.proofs.DescAgain.{free_again, args_again}
 
@@ -21,7 +21,7 @@ counted_takes b bytes x f P fits e spelled good =
     let q = bind_some (unsigned_at bytes) (λ n. Some (f n.0, n.1)) x e in
     let t = unsigned_takes bytes q.0 fits q.1 in
     subst (λ (y : Described × List ℕ). Takes (b ∷ bytes) (desc_bytes y.0) y.1 × P y.0) (some_is (f q.0.0, q.0.1) x q.2)
-      (subst (λ (s : List ℕ). Takes (b ∷ bytes) s q.0.1) (sym (spelled q.0.0)) (Takes-cons b bytes (unsigned q.0.0) q.0.1 t.0), good q.0.0 t.1)
+    (subst (λ (s : List ℕ). Takes (b ∷ bytes) s q.0.1) (sym (spelled q.0.0)) (Takes-cons b bytes (unsigned q.0.0) q.0.1 t.0), good q.0.0 t.1)
 
 abbrev TargetRead : Kind → List ℕ → Described × List ℕ → Type 0
 TargetRead k bytes x = Takes (code k ∷ bytes) (desc_bytes x.0) x.1 × IsTarget x.0
@@ -88,14 +88,14 @@ unfolding outcome_at outcome_bytes OutcomeFits
 outcome_takes [] x fits e = absurd (none_is x e)
 outcome_takes (b ∷ rest) x fits e =
     ⊎_elim
-      (λ p. let q = bind_some (vat_at rest) (λ v. Some (Elsewhere v.0, v.1)) x p.1 in
-        let t = byte_takes (λ b. ltb b 16) rest q.0 (IsBytes-rest b rest fits) q.1 in
-        subst (λ (y : Outcome × List ℕ). Takes (b ∷ rest) (outcome_bytes y.0) y.1 × OutcomeFits y.0) (some_is (Elsewhere q.0.0, q.0.1) x q.2)
-          (subst (λ (c : ℕ). Takes (b ∷ rest) (c ∷ q.0.0 ∷ []) q.0.1) (eqb-true b 15 p.0) (Takes-cons b rest (q.0.0 ∷ []) q.0.1 t.0), ltb-true q.0.0 16 t.1))
-      (λ p. let q = bind_some (free_at 0 (b ∷ rest)) (λ d. Some (To d.value, d.rest)) x p.1 in
-        let t = free_takes 0 (b ∷ rest) q.0 fits q.1 in
-        subst (λ (y : Outcome × List ℕ). Takes (b ∷ rest) (outcome_bytes y.0) y.1 × OutcomeFits y.0) (some_is (To q.0.value, q.0.rest) x q.2) (t.takes, t.is))
-      (chosen (nat_eq b 15) (vat_at rest >>= λ v. Some (Elsewhere v.0, v.1)) (free_at 0 (b ∷ rest) >>= λ d. Some (To d.value, d.rest)) (Some x) e)
+    (λ p. let q = bind_some (vat_at rest) (λ v. Some (Elsewhere v.0, v.1)) x p.1 in
+    let t = byte_takes (λ b. ltb b 16) rest q.0 (IsBytes-rest b rest fits) q.1 in
+    subst (λ (y : Outcome × List ℕ). Takes (b ∷ rest) (outcome_bytes y.0) y.1 × OutcomeFits y.0) (some_is (Elsewhere q.0.0, q.0.1) x q.2)
+    (subst (λ (c : ℕ). Takes (b ∷ rest) (c ∷ q.0.0 ∷ []) q.0.1) (eqb-true b 15 p.0) (Takes-cons b rest (q.0.0 ∷ []) q.0.1 t.0), ltb-true q.0.0 16 t.1))
+    (λ p. let q = bind_some (free_at 0 (b ∷ rest)) (λ d. Some (To d.value, d.rest)) x p.1 in
+    let t = free_takes 0 (b ∷ rest) q.0 fits q.1 in
+    subst (λ (y : Outcome × List ℕ). Takes (b ∷ rest) (outcome_bytes y.0) y.1 × OutcomeFits y.0) (some_is (To q.0.value, q.0.rest) x q.2) (t.takes, t.is))
+    (chosen (nat_eq b 15) (vat_at rest >>= λ v. Some (Elsewhere v.0, v.1)) (free_at 0 (b ∷ rest) >>= λ d. Some (To d.value, d.rest)) (Some x) e)
 
 outcome_desc : (d : Described) (rest : List ℕ) → outcome_at (desc_bytes d ++ rest) ≡ (free_at 0 (desc_bytes d ++ rest) >>= λ d. Some (To d.value, d.rest))
 unfolding outcome_at desc_bytes plain_bytes
@@ -162,9 +162,10 @@ deliver_takes bytes x fits e =
     let p2 = Takes-then b.0.1 (text_bytes c.0.0) c.0.1 (unsigned (count ds) ++ members_bytes ds) rest tc.takes p1 in
     let p3 = Takes-then a.0.1 (desc_bytes b.0.0) b.0.1 (text_bytes c.0.0 ++ (unsigned (count ds) ++ members_bytes ds)) rest tb.0 p2 in
     let p4 = Takes-then bytes (unsigned a.0.0) a.0.1 (desc_bytes b.0.0 ++ (text_bytes c.0.0 ++ (unsigned (count ds) ++ members_bytes ds))) rest ta.0 p3 in
-    subst (OpRead 1 bytes) (some_is (Deliver a.0.0 b.0.0 c.0.0 ds, rest) x f.2)
-      (Takes-cons 1 bytes (unsigned a.0.0 ++ (desc_bytes b.0.0 ++ (text_bytes c.0.0 ++ (unsigned (count ds) ++ members_bytes ds)))) rest p4,
-       (ta.1, tb.1, tc.fits, few, tf.are))
+    subst (OpRead 1 bytes) (some_is (Deliver a.0.0 b.0.0 c.0.0 ds, rest) x f.2) (
+      Takes-cons 1 bytes (unsigned a.0.0 ++ (desc_bytes b.0.0 ++ (text_bytes c.0.0 ++ (unsigned (count ds) ++ members_bytes ds)))) rest p4,
+      (ta.1, tb.1, tc.fits, few, tf.are),
+    )
 
 resolve_takes : (bytes : List ℕ) (x : Operation × List ℕ) → IsBytes bytes → resolve_at bytes ≡ Some x → OpRead 2 bytes x
 unfolding resolve_at spelling IsOp
@@ -217,15 +218,15 @@ op_takes (b ∷ rest) x fits e =
     let fits' : IsBytes rest = IsBytes-rest b rest fits in
     let at : (k : ℕ) → nat_eq b k ≡ true → OpRead k rest x → OpRead b rest x = λ k h r. subst (λ (c : ℕ). OpRead c rest x) (sym (eqb-true b k h)) r in
     ⊎_elim (λ p. at 1 p.0 (deliver_takes rest x fits' p.1))
-      (λ n1. ⊎_elim (λ p. at 2 p.0 (resolve_takes rest x fits' p.1))
-        (λ n2. ⊎_elim (λ p. at 3 p.0 (provide_takes rest x fits' p.1))
-          (λ n3. ⊎_elim (λ p. at 4 p.0 (accept_takes rest x fits' p.1))
-            (λ n4. ⊎_elim (λ p. at 5 p.0 (shorten_takes rest x fits' p.1)) (λ n5. absurd (none_is x n5.1))
-              (chosen (nat_eq b 5) (shorten_at rest) None (Some x) n4.1))
-            (chosen (nat_eq b 4) (accept_at rest) (cond (nat_eq b 5) (shorten_at rest) None) (Some x) n3.1))
-          (chosen (nat_eq b 3) (provide_at rest) (cond (nat_eq b 4) (accept_at rest) (cond (nat_eq b 5) (shorten_at rest) None)) (Some x) n2.1))
-        (chosen (nat_eq b 2) (resolve_at rest) (cond (nat_eq b 3) (provide_at rest) (cond (nat_eq b 4) (accept_at rest) (cond (nat_eq b 5) (shorten_at rest) None))) (Some x) n1.1))
-      (chosen (nat_eq b 1) (deliver_at rest) (cond (nat_eq b 2) (resolve_at rest) (cond (nat_eq b 3) (provide_at rest) (cond (nat_eq b 4) (accept_at rest) (cond (nat_eq b 5) (shorten_at rest) None)))) (Some x) e)
+    (λ n1. ⊎_elim (λ p. at 2 p.0 (resolve_takes rest x fits' p.1))
+    (λ n2. ⊎_elim (λ p. at 3 p.0 (provide_takes rest x fits' p.1))
+    (λ n3. ⊎_elim (λ p. at 4 p.0 (accept_takes rest x fits' p.1))
+    (λ n4. ⊎_elim (λ p. at 5 p.0 (shorten_takes rest x fits' p.1)) (λ n5. absurd (none_is x n5.1))
+    (chosen (nat_eq b 5) (shorten_at rest) None (Some x) n4.1))
+    (chosen (nat_eq b 4) (accept_at rest) (cond (nat_eq b 5) (shorten_at rest) None) (Some x) n3.1))
+    (chosen (nat_eq b 3) (provide_at rest) (cond (nat_eq b 4) (accept_at rest) (cond (nat_eq b 5) (shorten_at rest) None)) (Some x) n2.1))
+    (chosen (nat_eq b 2) (resolve_at rest) (cond (nat_eq b 3) (provide_at rest) (cond (nat_eq b 4) (accept_at rest) (cond (nat_eq b 5) (shorten_at rest) None))) (Some x) n1.1))
+    (chosen (nat_eq b 1) (deliver_at rest) (cond (nat_eq b 2) (resolve_at rest) (cond (nat_eq b 3) (provide_at rest) (cond (nat_eq b 4) (accept_at rest) (cond (nat_eq b 5) (shorten_at rest) None)))) (Some x) e)
 
 regroup_2 : (a b r : List ℕ) → (a ++ b) ++ r ≡ a ++ (b ++ r)
 regroup_2 a b r = append_assoc a b r

@@ -51,5 +51,4 @@ fn found(alloc: Global, bytes: &[u8]) -> Result<Option<(Op, u64)>, Memory>
 /// An operation has one spelling, no two have the same, and no spelling begins another.
 pub fn one_spelling()
     ensures { HaveOneSpelling }
-{
-}
+{}

@@ -1,9 +1,9 @@
-use Rattle.std.proofs.Common.{◌≡◌, ◌++◌, ◌∷◌, [], ap, ◌∙◌, map}
+use Rattle.std.proofs.Common.{◌≡◌, ap, ◌∙◌, map}
 use Rattle.std.proofs.lemmas.Result.{err_from_is_err_and}
 use Rattle.std.proofs.lemmas.List.{map_push}
-use Rattle.ev_op.specs.Frames.{Members, none, more, members}
+use Rattle.ev_op.specs.Frames.{none, more, members}
 use Rattle.ev_op.specs.Views.{described, all_described}
-use Rattle.ev_op.specs.Reading.{Read, members_at, member_at}
+use Rattle.ev_op.specs.Reading.{members_at, member_at}
 use Rattle.ev_op.proofs.Loop.{join, members-push, goes_on, ends, is_done}
 use Rattle.ev_op.proofs.reading.+descriptions.Goals as goal
 
@@ -17,7 +17,7 @@ members_of-loop-preserved t c =
     let m = c.in_ok-member.member in
     let old = c.loop.members.items in
     let e : all_described c.push.new.self.items ≡ join (all_described old) (more (described m) none) =
-        rw c.in_ok-push.ensures.items (ap members (map_push described old m) ∙ members-push (map described old) (described m)) in
+    rw c.in_ok-push.ensures.items (ap members (map_push described old m) ∙ members-push (map described old) (described m)) in
     rw e (goes_on (member_at c.args.inside) (all_described old) c.args.count c.loop.counter c.loop.left c.loop.rest.now (record { value = described m; room = c.in_ok-member.room; rest = c.in_ok-member.after.now }) (members_at (member_at c.args.inside) c.args.count c.args.room c.args.bytes.now) c.loop-test.true c.in_ok-member.ensures c.loop.invariant)
 
 pub members_of-returns : goal.members_of-returns

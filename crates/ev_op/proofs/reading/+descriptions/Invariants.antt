@@ -22,4 +22,4 @@ decreases-members_of l = 5 * depth_of l.inside + 2
 abbrev pub invariant-members_of-loop : goal.invariant-members_of-loop
 invariant-members_of-loop l =
     with_front (all_described l.members.items) (members_at (member_at l.inside) (l.count - l.counter) l.left l.rest)
-        ≡ members_at (member_at l.inside) l.count l.room l.bytes
+    ≡ members_at (member_at l.inside) l.count l.room l.bytes
