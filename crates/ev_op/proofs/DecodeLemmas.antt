@@ -6,9 +6,9 @@ use Rattle.ev_base.specs.declared.memory.Memory.{Memory}
 use Rattle.ev_op.specs.declared.op.Op.{Op}
 use Rattle.ev_op.specs.Frames.{Operation, spelling, IsOp}
 use Rattle.ev_op.specs.Views.{operation}
-use Rattle.ev_op.specs.Reading.{◌>>=◌, op_at}
+use Rattle.ev_op.specs.Reading.{op_at}
 use Rattle.ev_op.specs.Decoded.{decoded, found_view}
-use Rattle.ev_op.proofs.NumberLemmas.{bind_some, some_is, none_is, IsBytes, Takes}
+use Rattle.ev_op.proofs.NumberLemmas.{bind_some, some_is, IsBytes}
 use Rattle.ev_op.proofs.OpLemmas.{op_takes, op_again}
 
 -- an operation that begins the bytes, and its length

@@ -1,14 +1,14 @@
 -- A description that is spelled is read again, whatever follows it.
-use Rattle.std.proofs.Common.{◌≡◌, ℕ, zero, suc, ◌+◌, ◌-◌, ◌*◌, ◌^◌, ◌<◌, ◌≤◌, max, Bool, true, false, cond, ltb, List, [], ◌∷◌, ◌++◌, length, Option, Some, None, refl, sym, ap, subst, ◌∙◌, append_assoc, arith}
-use Rattle.std.specs.Prelude.{ℤ, pos, negsuc}
+use Rattle.std.proofs.Common.{◌≡◌, ℕ, zero, suc, ◌+◌, ◌-◌, ◌^◌, ◌<◌, ◌≤◌, true, false, List, ◌++◌, length, Option, refl, ap, ◌∙◌, append_assoc, arith}
+use Rattle.std.specs.Prelude.{pos, negsuc}
 use Rattle.std.proofs.lemmas.Bool.{lt-ltb}
 use Rattle.std.proofs.lemmas.List.{length-append}
 use Rattle.ev_op.specs.declared.op.Plain.{Plain}
 use Rattle.ev_op.specs.declared.op.Plain.TheVariants as plain
-use Rattle.ev_op.specs.Numbers.{unsigned, signed, swiss}
+use Rattle.ev_op.specs.Numbers.{unsigned}
 use Rattle.ev_op.specs.Frames.{Described, Members, Datum, ListOf, Broken, YourExport, YourAnswer, MyExport, MyPromise, Third, MyAnswer, none, more, count, text_bytes, plain_bytes, desc_bytes, members_bytes, weight, weights, height, heights, PlainFits, DescFits, MembersFit, WithinLimits, IsDesc, AreDescs}
-use Rattle.ev_op.specs.Reading.{◌>>=◌, unsigned_at, Read, read, leaf_at, first_at, members_at, list_at, no_list, desc_at, free_room, free_at}
-use Rattle.ev_op.proofs.NumberLemmas.{IsSigned, unsigned_again, signed_again, low_first_again}
+use Rattle.ev_op.specs.Reading.{Read, read, leaf_at, first_at, members_at, list_at, no_list, desc_at, free_room, free_at}
+use Rattle.ev_op.proofs.NumberLemmas.{unsigned_again, signed_again, low_first_again}
 use Rattle.ev_op.proofs.LeafLemmas.{text_again, character_again}
 
 weight_least : (d : Described) → 1 ≤ weight d

@@ -1,5 +1,5 @@
 -- Spelling descriptions one after the other, as a loop does.
-use Rattle.std.proofs.Common.{◌≡◌, ℕ, zero, suc, ◌+◌, ◌<◌, List, [], ◌∷◌, ◌++◌, length, map, take, get_or, refl, sym, ap, ◌∙◌, append_assoc, arith}
+use Rattle.std.proofs.Common.{◌≡◌, ℕ, ◌+◌, ◌<◌, List, [], ◌∷◌, ◌++◌, length, map, take, get_or, refl, sym, ap, ◌∙◌, append_assoc, arith}
 use Rattle.std.proofs.lemmas.List.{map_push, append-nil, take_more}
 use Rattle.ev_op.specs.declared.op.Desc.{Desc}
 use Rattle.ev_op.specs.Frames.{Described, Members, none, more, members, count, desc_bytes, members_bytes}

@@ -1,18 +1,17 @@
 -- On what stands in a description that is no list: what is read is spelled so, and what is spelled so is read.
-use Rattle.std.proofs.Common.{◌≡◌, ℕ, zero, suc, ◌+◌, ◌-◌, ◌*◌, ◌^◌, ◌<◌, ◌≤◌, ⊎_elim, Bool, true, false, true≢false, cond, ltb, leb, ◌&&◌, List, [], ◌∷◌, ◌++◌, length, take, drop, get_or, slice_get, Option, Some, None, refl, sym, ap, subst, ◌∙◌, append_assoc, arith}
+use Rattle.std.proofs.Common.{◌≡◌, ℕ, zero, suc, ◌+◌, ◌^◌, ◌<◌, ◌≤◌, ⊎_elim, Bool, true, false, true≢false, cond, ltb, leb, ◌&&◌, List, [], ◌∷◌, ◌++◌, length, take, drop, slice_get, Option, Some, None, refl, sym, ap, subst, ◌∙◌, append_assoc, arith}
 use Rattle.std.proofs.lemmas.Bool.{ltb-false, le-ltb, cases_lt}
-use Rattle.std.proofs.lemmas.List.{take_at, drop_at, take-append-drop, length-append, length-take, get_or-drop, get_or-take, get_or_past}
+use Rattle.std.proofs.lemmas.List.{take_at, drop_at, take-append-drop, length-append, length-take, get_or-drop}
 use Rattle.std.proofs.lemmas.Str.{IsUtf8-from_is_utf8, is_utf8-from_IsUtf8}
-use Rattle.std.specs.Str.{IsUtf8, is_utf8}
+use Rattle.std.specs.Str.{is_utf8}
 use Rattle.std.specs.Char.{IsScalar}
 use lib.Utf8.{scalar}
-use Rattle.ev_op.specs.declared.op.Plain.TheVariants as plain
 use Rattle.ev_op.specs.declared.kind.Kind.{Kind}
 use Rattle.ev_op.specs.declared.kind.Kind.TheVariants as kind
-use Rattle.ev_op.specs.Numbers.{unsigned, is_primitive}
+use Rattle.ev_op.specs.Numbers.{unsigned}
 use Rattle.ev_op.specs.Frames.{text_bytes, IsText}
-use Rattle.ev_op.specs.Reading.{◌>>=◌, unsigned_at, text_at, character_at, byte_where, kinds, kind_at}
-use Rattle.ev_op.proofs.NumberLemmas.{bind_some, then_some, else_some, some_is, none_is, IsBytes, IsBytes-rest, Takes, Takes-then, unsigned_takes, unsigned_again}
+use Rattle.ev_op.specs.Reading.{unsigned_at, text_at, character_at, byte_where, kinds, kind_at}
+use Rattle.ev_op.proofs.NumberLemmas.{bind_some, then_some, some_is, IsBytes, IsBytes-rest, Takes, unsigned_takes, unsigned_again}
 
 IsBytes-drop : (n : ℕ) (bytes : List ℕ) → IsBytes bytes → IsBytes (drop n bytes)
 IsBytes-drop n bytes h i = rw get_or-drop (h (n + i))

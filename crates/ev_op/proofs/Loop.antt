@@ -1,5 +1,5 @@
 -- Reading descriptions one after the other, as a loop does.
-use Rattle.std.proofs.Common.{◌≡◌, ℕ, zero, suc, ◌-◌, ◌+◌, ◌≤◌, ◌<◌, List, [], ◌∷◌, ◌++◌, map, Option, Some, None, refl, sym, ap, ◌∙◌, arith}
+use Rattle.std.proofs.Common.{◌≡◌, ℕ, suc, ◌-◌, ◌+◌, ◌≤◌, ◌<◌, List, [], ◌∷◌, ◌++◌, Option, Some, None, refl, sym, ap, ◌∙◌, arith}
 use Rattle.ev_op.specs.declared.fault.ReadError.{ReadError}
 use Rattle.ev_op.specs.declared.fault.ReadError.TheVariants as errors
 use Rattle.ev_op.specs.Frames.{Described, Members, none, more, members}

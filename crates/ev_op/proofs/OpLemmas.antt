@@ -1,15 +1,15 @@
 -- The two laws: what is read as an operation is spelled so, and what is spelled so is read, whatever follows it.
-use Rattle.std.proofs.Common.{◌≡◌, ℕ, zero, suc, ◌+◌, ◌-◌, ◌*◌, ◌^◌, ◌<◌, ◌≤◌, ⊎_elim, Bool, true, false, cond, ltb, nat_eq, List, [], ◌∷◌, ◌++◌, length, Option, Some, None, refl, sym, ap, subst, ◌∙◌, append_assoc, arith}
+use Rattle.std.proofs.Common.{◌≡◌, ℕ, ◌^◌, ◌<◌, ◌≤◌, ⊎_elim, true, false, cond, ltb, nat_eq, List, [], ◌∷◌, ◌++◌, length, Some, None, refl, sym, ap, subst, ◌∙◌, append_assoc, arith}
 use Rattle.std.proofs.lemmas.Bool.{lt-ltb, ltb-true, ltb-false, le-ltb, eqb-true}
 use Rattle.std.proofs.lemmas.List.{length-append}
 use Rattle.ev_op.specs.declared.op.Plain.TheVariants as plain
 use Rattle.ev_op.specs.declared.kind.Kind.{Kind}
 use Rattle.ev_op.specs.declared.kind.Kind.TheVariants as kind
 use Rattle.ev_op.specs.Numbers.{unsigned, swiss}
-use Rattle.ev_op.specs.Frames.{Described, Members, Datum, ListOf, Broken, YourExport, YourAnswer, MyExport, MyPromise, Third, MyAnswer, count, text_bytes, plain_bytes, desc_bytes, members_bytes, Outcome, To, Elsewhere, outcome_bytes, Operation, Deliver, Resolve, Provide, Accept, Shorten, spelling, IsText, IsDesc, AreDescs, IsTarget, IsSubject, OutcomeFits, IsOp}
-use Rattle.ev_op.specs.Reading.{◌>>=◌, unsigned_at, swiss_at, vat_at, text_at, kind_at, counted_at, Read, members_at, free_at, target_behind, target_at, subject_behind, subject_at, outcome_at, few_at, deliver_at, resolve_at, provide_at, accept_at, shorten_at, op_at}
-use Rattle.ev_op.proofs.NumberLemmas.{bind_some, then_some, else_some, some_is, none_is, chosen, IsBytes, IsBytes-rest, Takes, Takes-then, Takes-cons, unsigned_takes, unsigned_again, low_first_takes, low_first_again}
-use Rattle.ev_op.proofs.LeafLemmas.{TextRead, text_takes, text_again, byte_takes, code, kind_takes}
+use Rattle.ev_op.specs.Frames.{Described, Members, Datum, ListOf, Broken, YourExport, YourAnswer, MyExport, MyPromise, Third, MyAnswer, count, text_bytes, plain_bytes, desc_bytes, members_bytes, Outcome, To, Elsewhere, outcome_bytes, Operation, Deliver, Resolve, Provide, Accept, Shorten, spelling, IsTarget, IsSubject, OutcomeFits, IsOp}
+use Rattle.ev_op.specs.Reading.{◌>>=◌, unsigned_at, swiss_at, vat_at, text_at, kind_at, counted_at, members_at, free_at, target_behind, target_at, subject_behind, subject_at, outcome_at, few_at, deliver_at, resolve_at, provide_at, accept_at, shorten_at, op_at}
+use Rattle.ev_op.proofs.NumberLemmas.{bind_some, else_some, some_is, none_is, chosen, IsBytes, IsBytes-rest, Takes, Takes-then, Takes-cons, unsigned_takes, unsigned_again, low_first_takes, low_first_again}
+use Rattle.ev_op.proofs.LeafLemmas.{text_takes, text_again, byte_takes, code, kind_takes}
 use Rattle.ev_op.proofs.DescLemmas.{free_takes, args_take}
 use Rattle.ev_op.proofs.DescAgain.{free_again, args_again}
 

@@ -1,6 +1,6 @@
 -- One step of spelling a number.
-use Rattle.std.proofs.Common.{◌≡◌, ℕ, zero, suc, ◌+◌, ◌-◌, ◌*◌, ◌/◌, ◌%◌, ◌<◌, ◌≤◌, Bool, List, ◌∷◌, [], ◌++◌, Result, Ok, Err, cond, ltb, refl, arith, append_assoc, ◌∙◌, ap}
-use Rattle.std.proofs.lemmas.Bool.{ltb-false, le-ltb}
+use Rattle.std.proofs.Common.{◌≡◌, ℕ, zero, suc, ◌+◌, ◌-◌, ◌/◌, ◌%◌, ◌<◌, ◌≤◌, Bool, ◌∷◌, refl, arith}
+use Rattle.std.proofs.lemmas.Bool.{le-ltb}
 use Rattle.ev_op.specs.Numbers.{digit, digits, low_first}
 
 pub digits_more : (last : ℕ) (negative : Bool) (k n : ℕ) → 0 < k → last ≤ n

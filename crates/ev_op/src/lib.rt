@@ -11,3 +11,6 @@ mod writing;
 
 pub use codec::{decode, encode, one_spelling};
 pub use op::{Desc, Op, Plain, Resolved};
+
+#[cfg(test)]
+mod tests;

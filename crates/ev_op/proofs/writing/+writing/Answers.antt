@@ -1,4 +1,4 @@
-use Rattle.std.proofs.Common.{◌≡◌, ℕ, ◌+◌, List, [], ◌∷◌, ◌++◌, take, ap, sym, ◌∙◌, append_assoc}
+use Rattle.std.proofs.Common.{[], ◌∷◌, ◌++◌, take, sym, ◌∙◌, append_assoc}
 use Rattle.ev_op.specs.Numbers.{unsigned}
 use Rattle.ev_op.specs.Frames.{count, desc_bytes, members_bytes}
 use Rattle.ev_op.specs.Views.{described, all_described}

@@ -1,4 +1,4 @@
-use Rattle.std.proofs.Common.{◌≡◌, ℕ, List, [], ◌∷◌, ◌++◌, sym, ◌∙◌, append_assoc}
+use Rattle.std.proofs.Common.{[], ◌∷◌, sym, ◌∙◌}
 use Rattle.ev_op.specs.Numbers.{unsigned}
 use Rattle.ev_op.specs.Frames.{count, text_bytes, desc_bytes, members_bytes, spelling}
 use Rattle.ev_op.specs.Views.{described, all_described}
