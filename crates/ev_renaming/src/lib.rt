@@ -1,0 +1,2 @@
+//! The machine under local numbers and under global names.
+#![tactic(auto)]
