@@ -1,2 +1,3 @@
 pub mod Sim
 pub mod SimRefs
+pub mod SimArrive

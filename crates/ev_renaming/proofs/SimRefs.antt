@@ -2,7 +2,7 @@
 use Rattle.std.proofs.Common.{◌≡◌, ℕ, zero, suc, ◌-◌, Bool, true, false, List, [], ◌∷◌, Option, Some, None, refl, ap, length, map, ◌==◌}
 use Rattle.std.specs.Prelude.{slice_get, option_map, codes}
 use Rattle.ev_machine.specs.Values.{Words, Value, Null, Flag, Number, Letter, Text, Prim, Broken, Items, Ref, Naming, Spot, Own, Foreign, NoObject}
-use Rattle.ev_machine.specs.State.{Message, Standing, Unsettled, WaitsOn, Viewed, Settled, Known, Passed, Passeds, Plain, AGift, Many, NoMore, More, Note, Vat, Act, each, is_in, enqueue}
+use Rattle.ev_machine.specs.State.{Message, Standing, Unsettled, WaitsOn, Viewed, Settled, Known, Passed, Passeds, Plain, AGift, Many, NoMore, More, Note, Vat, Act, each, is_in, enqueue, new_message}
 use Rattle.ev_machine.specs.Native as native
 use Rattle.ev_machine.specs.Native.{list_at}
 use Rattle.ev_machine.specs.Refs as refs
@@ -10,8 +10,8 @@ use Rattle.ev_machine.specs.Refs.{Place, Near, Mine, Away, Gone, Parcel, standin
 use Rattle.ev_renaming.specs.Maps as maps
 use Rattle.ev_renaming.specs.Maps.{coming}
 use Rattle.ev_machine_laws.proofs.Keeps.{Keeps, IsKept, IsKeptUnder, keeps_each}
-use Rattle.ev_machine_laws.proofs.RefsKeeps.{keeps_refs, keeps_pass_all, keeps_settle_at, keeps_address_all}
-use Rattle.ev_renaming.proofs.Sim.{Books, Renames, Sim, Grows, grows, grows_under, id, sims, length_map, map_get}
+use Rattle.ev_machine_laws.proofs.RefsKeeps.{keeps_refs, keeps_pass_all, keeps_settle_at, keeps_settle, keeps_address_all}
+use Rattle.ev_renaming.proofs.Sim.{Books, Renames, Sim, Grows, grows, grows_under, id, sims, sim_message, length_map, map_get}
 
 -- ---- what needs no naming
 
@@ -375,3 +375,38 @@ module _ {N M W V : Type 0} (f : N → M) (w : W → V) (K : Naming N W) (L : Na
   pub sim_resolve : (p : N) (x : Value N) → Sim f Fits id (refs.resolve K p x) (refs.resolve L (f p) (maps.value f x))
   unfolding refs.resolve
   sim_resolve p x = search (sims, same_follow, same_place, sim_resolve_to, keeps_refs, base, under) depth 12
+
+  -- ---- sending and reacting
+
+  answer_host_map : (v : ℕ) (p : Place N) → refs.answer_host L v (maps.place f p) ≡ refs.answer_host K v p
+  unfolding refs.answer_host
+  answer_host_map v Near = refl
+  answer_host_map v (Mine n) = refl
+  answer_host_map v (Away h n o) = refl
+  answer_host_map v (Gone p) = refl
+
+  sim_message_at : (h h' : ℕ) → h' ≡ h → Sim f Fits (maps.pair f) (new_message K h) (new_message L h')
+  sim_message_at h h' e = rw e (sim_message f w K L Fits law h)
+
+  sim_send_first : (m : Message N) (y : Value N) (p : Place N) → Sim f Fits id (refs.send_first K m y p) (refs.send_first L (maps.message f m) (maps.value f y) (maps.place f p))
+  unfolding refs.send_first
+  sim_send_first m y (Away h n o) = search sim_deliver
+  sim_send_first m y Near = sim_send_to (refs.settle K) (refs.settle L) sim_settle (keeps_settle L (Grows Fits) base under) m y Near
+  sim_send_first m y (Mine n) = sim_send_to (refs.settle K) (refs.settle L) sim_settle (keeps_settle L (Grows Fits) base under) m y (Mine n)
+  sim_send_first m y (Gone p) = sim_send_to (refs.settle K) (refs.settle L) sim_settle (keeps_settle L (Grows Fits) base under) m y (Gone p)
+
+  pub sim_send : (act : ℕ) (x : Value N) (verb : Words) (args : List (Value N)) → Sim f Fits (maps.value f) (refs.send K act x verb args) (refs.send L act (maps.value f x) verb (map (maps.value f) args))
+  unfolding refs.send
+  sim_send act x verb args = search (sims, same_follow, same_place, answer_host_map, sim_message_at, sim_send_first, keeps_refs, base, under) depth 14
+
+  sim_react_at : (m : Message N) (p : Place N) → Sim f Fits id (refs.react_at K m p) (refs.react_at L (maps.message f m) (maps.place f p))
+  unfolding refs.react_at
+  sim_react_at m (Mine n) = search (sims, law)
+  sim_react_at m (Away h n false) = search (sims, law)
+  sim_react_at m (Away h n true) = search sims
+  sim_react_at m Near = search sims
+  sim_react_at m (Gone p) = search sims
+
+  pub sim_react : (act : ℕ) (x o near : Value N) → Sim f Fits (maps.value f) (refs.react K act x o near) (refs.react L act (maps.value f x) (maps.value f o) (maps.value f near))
+  unfolding refs.react refs.reaction
+  sim_react act x o near = search (sims, same_place_of, sim_react_at, keeps_refs, base, under, law) depth 14
