@@ -1,3 +1,6 @@
 pub mod Sim
 pub mod SimRefs
 pub mod SimArrive
+pub mod MapMaps
+pub mod Stands
+pub mod Steps

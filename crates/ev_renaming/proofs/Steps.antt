@@ -1,0 +1,28 @@
+-- Each kind of step of a vat under its own numbers stands for that step under names.
+use Rattle.std.proofs.Common.{◌≡◌, ℕ, List, map, refl, ap}
+use Rattle.ev_machine.specs.Values.{Name, Local, numbering, naming}
+use Rattle.ev_machine.specs.State.{Vat, Note, Done, Gives, Throws, Ejects, Stops, Act}
+use Rattle.ev_machine.specs.Arrive.{Incoming, arrive, notice}
+use Rattle.ev_renaming.specs.Maps as maps
+use Rattle.ev_renaming.specs.Maps.{incoming}
+use Rattle.ev_renaming.specs.Stands.{Table, Found, Is, found, finding, IsTable, StandsFor}
+use Rattle.ev_renaming.specs.Renaming.{Wire, EndsWith, HasTable, Stand, ArrivalsStand, NoticesStand}
+use Rattle.ev_renaming.proofs.Sim.{Books, Sim, id}
+use Rattle.ev_renaming.proofs.SimArrive.{sim_arrive, sim_notice}
+use Rattle.ev_renaming.proofs.Stands.{step_stands, books_of, books_after, FitsTable, found_renames, is_renames}
+
+books_same : (t : Table) (d : Done Name (Unit {0})) → EndsWith t d → books_after d ≡ books_of t
+books_same t (Gives a u) h = cc (h.0, h.1)
+books_same t (Throws p u) h = cc (h.0, h.1)
+books_same t (Ejects n x u) h = cc (h.0, h.1)
+books_same t (Stops c u) h = cc (h.0, h.1)
+
+pub arrivals_stand : ArrivalsStand
+arrivals_stand word v t good w from n m e s r stands h = step_stands v t good id id (arrive (numbering word) from n) (arrive (naming word v) from m) (arrive (finding word v) from (maps.note (incoming (found v t) w) n))
+    (sim_arrive (found v t) w (numbering word) (finding word v) (FitsTable v t good) (found_renames v t good word w) from n)
+    (rw e (sim_arrive Is (λ x. x) (naming word v) (finding word v) (λ (b : Books Found). Unit {0}) (is_renames word v) from m)) s r stands (books_same t (arrive (naming word v) from m r) h)
+
+pub notices_stand : NoticesStand
+notices_stand word v t good c s r stands h = step_stands v t good id id (notice (numbering {W = Wire} word) c) (notice (naming word v) c) (notice (finding word v) c)
+    (sim_notice (found v t) (λ (x : Wire). Name.Root 0) (numbering word) (finding word v) (FitsTable v t good) (found_renames v t good word (λ (x : Wire). Name.Root 0)) c)
+    (sim_notice Is (λ x. x) (naming word v) (finding word v) (λ (b : Books Found). Unit {0}) (is_renames word v) c) s r stands (books_same t (notice (naming word v) c r) h)
