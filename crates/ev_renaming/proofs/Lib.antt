@@ -4,3 +4,4 @@ pub mod SimArrive
 pub mod MapMaps
 pub mod Stands
 pub mod Steps
+pub mod NativeMaps
