@@ -5,3 +5,4 @@ pub mod MapMaps
 pub mod Stands
 pub mod Steps
 pub mod NativeMaps
+pub mod EvalPure

@@ -200,3 +200,119 @@ module _ {N M : Type 0} (f : N → M) where
   unfolding native.null_or_reply
   null_reply_map (Prim n) = null_or_map n _
   null_reply_map _ = refl
+
+  -- ---- what data answers
+
+  text_reply_map : (t verb : Words) (hs xs : List (Value N)) → native.text_reply t verb (map (maps.value f) hs) (map (maps.value f) xs) ≡ evals.reply f (native.text_reply t verb hs xs)
+  unfolding native.text_reply native.no_method
+  text_reply_map t verb [] xs = entry_map (evals.reply f) _ _ verb
+  text_reply_map t verb (h ∷ []) [] = refl
+  text_reply_map t verb (h ∷ []) (x ∷ []) = text_with_map _ t h x
+  text_reply_map t verb (h ∷ []) (x ∷ y ∷ []) = rw (ran_text _ x y) (entry_map (evals.reply f) _ _ verb)
+  text_reply_map t verb (h ∷ []) (x ∷ y ∷ z ∷ zs) = refl
+  text_reply_map t verb (h ∷ g ∷ hs) [] = refl
+  text_reply_map t verb (h ∷ g ∷ hs) (x ∷ []) = refl
+  text_reply_map t verb (h ∷ g ∷ hs) (x ∷ y ∷ []) = rw (ran_text _ x y) (entry_map (evals.reply f) _ _ verb)
+  text_reply_map t verb (h ∷ g ∷ hs) (x ∷ y ∷ z ∷ zs) = refl
+
+  list_reply_map : (ls : List (List (Value N))) (vs : List (Value N)) (verb : Words) (hs xs : List (Value N)) → native.list_reply (map (map (maps.value f)) ls) (map (maps.value f) vs) verb (map (maps.value f) hs) (map (maps.value f) xs) ≡ evals.reply f (native.list_reply ls vs verb hs xs)
+  unfolding native.list_reply native.no_method
+  list_reply_map ls vs verb [] xs = rw (length_map (maps.value f) vs) (entry_map (evals.reply f) _ _ verb)
+  list_reply_map ls vs verb (h ∷ []) [] = refl
+  list_reply_map ls vs verb (h ∷ []) (x ∷ []) = list_with_map ls _ vs h x
+  list_reply_map ls vs verb (h ∷ []) (x ∷ y ∷ []) = rw (ran_list vs x y) (entry_map (evals.reply f) _ _ verb)
+  list_reply_map ls vs verb (h ∷ []) (x ∷ y ∷ z ∷ zs) = refl
+  list_reply_map ls vs verb (h ∷ g ∷ hs) [] = refl
+  list_reply_map ls vs verb (h ∷ g ∷ hs) (x ∷ []) = refl
+  list_reply_map ls vs verb (h ∷ g ∷ hs) (x ∷ y ∷ []) = rw (ran_list vs x y) (entry_map (evals.reply f) _ _ verb)
+  list_reply_map ls vs verb (h ∷ g ∷ hs) (x ∷ y ∷ z ∷ zs) = refl
+
+  pub data_map : (ls : List (List (Value N))) (y : Value N) (verb : Words) (hs xs : List (Value N)) → native.data_reply (map (map (maps.value f)) ls) (maps.value f y) verb (map (maps.value f) hs) (map (maps.value f) xs) ≡ evals.reply f (native.data_reply ls y verb hs xs)
+  unfolding native.data_reply native.no_method
+  data_map ls (Number a) verb hs xs = int_reply_map a verb xs
+  data_map ls (Flag b) verb hs xs = flag_reply_map b verb xs
+  data_map ls (Letter c) verb hs xs = letter_reply_map c verb xs
+  data_map ls (Text t) verb hs xs = text_reply_map t verb hs xs
+  data_map ls (Items k) verb hs xs = rw (list_at_map f ls k) (list_reply_map ls (list_at ls k) verb hs xs)
+  data_map ls _ verb hs xs = refl
+
+  -- ---- what is asked of primitives
+
+  list_ask_map : (verb : Words) (xs : List (Value N)) → native.list_ask verb (map (maps.value f) xs) ≡ evals.asked f (native.list_ask verb xs)
+  unfolding native.list_ask
+  list_ask_map verb [] = entry_map (evals.asked f) _ _ verb
+  list_ask_map verb (x ∷ []) = entry_map (evals.asked f) _ _ verb
+  list_ask_map verb (x ∷ y ∷ []) = entry_map (evals.asked f) _ _ verb
+  list_ask_map verb (x ∷ y ∷ z ∷ zs) = entry_map (evals.asked f) _ _ verb
+
+  equalizer_ask_map : (verb : Words) (xs : List (Value N)) → native.equalizer_ask verb (map (maps.value f) xs) ≡ evals.asked f (native.equalizer_ask verb xs)
+  unfolding native.equalizer_ask
+  equalizer_ask_map verb [] = refl
+  equalizer_ask_map verb (x ∷ []) = refl
+  equalizer_ask_map verb (x ∷ y ∷ []) = entry_map (evals.asked f) _ _ verb
+  equalizer_ask_map verb (x ∷ y ∷ z ∷ zs) = refl
+
+  comparer_ask_map : (verb : Words) (xs : List (Value N)) → native.comparer_ask verb (map (maps.value f) xs) ≡ evals.asked f (native.comparer_ask verb xs)
+  unfolding native.comparer_ask
+  comparer_ask_map verb [] = refl
+  comparer_ask_map verb (x ∷ []) = refl
+  comparer_ask_map verb (x ∷ y ∷ []) = entry_map (evals.asked f) _ _ verb
+  comparer_ask_map verb (x ∷ y ∷ z ∷ zs) = refl
+
+  run_ask_map : (F : Value N → Asked N) (G : Value M → Asked M) → ((x : Value N) → G (maps.value f x) ≡ evals.asked f (F x)) → (verb : Words) (xs : List (Value N)) → native.run_ask G verb (map (maps.value f) xs) ≡ evals.asked f (native.run_ask F verb xs)
+  unfolding native.run_ask
+  run_ask_map F G e verb [] = refl
+  run_ask_map F G e verb (x ∷ []) = rw (e x) (entry_map (evals.asked f) _ _ verb)
+  run_ask_map F G e verb (x ∷ y ∷ zs) = refl
+
+  send_ask_map : (verb : Words) (xs : List (Value N)) → native.send_ask verb (map (maps.value f) xs) ≡ evals.asked f (native.send_ask verb xs)
+  unfolding native.send_ask
+  send_ask_map verb [] = refl
+  send_ask_map verb (x ∷ []) = refl
+  send_ask_map verb (x ∷ y ∷ []) = refl
+  send_ask_map verb (x ∷ y ∷ z ∷ []) = entry_map (evals.asked f) _ _ verb
+  send_ask_map verb (x ∷ y ∷ z ∷ u ∷ zs) = refl
+
+  ref_ask_map : (verb : Words) (xs : List (Value N)) → native.ref_ask verb (map (maps.value f) xs) ≡ evals.asked f (native.ref_ask verb xs)
+  unfolding native.ref_ask
+  ref_ask_map verb [] = entry_map (evals.asked f) _ _ verb
+  ref_ask_map verb (x ∷ []) = entry_map (evals.asked f) _ _ verb
+  ref_ask_map verb (x ∷ y ∷ []) = entry_map (evals.asked f) _ _ verb
+  ref_ask_map verb (x ∷ y ∷ z ∷ zs) = refl
+
+  stamp_ask_map : (verb : Words) (xs : List (Value N)) → native.stamp_ask verb (map (maps.value f) xs) ≡ evals.asked f (native.stamp_ask verb xs)
+  unfolding native.stamp_ask
+  stamp_ask_map verb [] = refl
+  stamp_ask_map verb (x ∷ []) = refl
+  stamp_ask_map verb (x ∷ y ∷ []) = entry_map (evals.asked f) _ _ verb
+  stamp_ask_map verb (x ∷ y ∷ z ∷ zs) = refl
+
+  guard_ask_map : (g : Guard) (verb : Words) (xs : List (Value N)) → native.guard_ask g verb (map (maps.value f) xs) ≡ evals.asked f (native.guard_ask g verb xs)
+  unfolding native.guard_ask
+  guard_ask_map g verb (x ∷ y ∷ []) = entry_map (evals.asked f) _ _ verb
+  guard_ask_map NullGuard verb (x ∷ []) = entry_map (evals.asked f) _ _ verb
+  guard_ask_map NullGuard verb [] = refl
+  guard_ask_map NullGuard verb (x ∷ y ∷ z ∷ zs) = refl
+  guard_ask_map AnyGuard verb [] = refl
+  guard_ask_map AnyGuard verb (x ∷ []) = refl
+  guard_ask_map AnyGuard verb (x ∷ y ∷ z ∷ zs) = refl
+  guard_ask_map _ verb [] = refl
+  guard_ask_map _ verb (x ∷ []) = refl
+  guard_ask_map _ verb (x ∷ y ∷ z ∷ zs) = refl
+
+  pub asked_map : (p : Primitive) (verb : Words) (xs : List (Value N)) → native.asked p verb (map (maps.value f) xs) ≡ evals.asked f (native.asked p verb xs)
+  unfolding native.asked
+  asked_map MakeList verb xs = list_ask_map verb xs
+  asked_map Equalizer verb xs = equalizer_ask_map verb xs
+  asked_map Comparer verb xs = comparer_ask_map verb xs
+  asked_map Looper verb xs = run_ask_map Loops Loops (λ x. refl) verb xs
+  asked_map Sender verb xs = send_ask_map verb xs
+  asked_map References verb xs = ref_ask_map verb xs
+  asked_map Thrower verb xs = run_ask_map ThrowsIt ThrowsIt (λ x. refl) verb xs
+  asked_map StampReader verb xs = stamp_ask_map verb xs
+  asked_map (Guarding g) verb xs = guard_ask_map g verb xs
+  asked_map NoPrimitive verb xs = refl
+
+  pub safe_map : (x : Words) → native.safe_value x ≡ option_map (maps.value f) (native.safe_value x)
+  unfolding native.safe_value
+  safe_map x = entry_map (option_map (maps.value f)) _ _ x
