@@ -169,5 +169,196 @@ module _ {N M : Type 0} (f : N → M) where
   stamps_of_map (Some (Made node caught stamps)) = refl
   stamps_of_map _ = refl
 
-  pub with_item_map : (v : Value N) (fs : List (List (Value N))) (K' : Unit {0}) → ◌≡◌ {A = List (List (Value M))} (map (map (maps.value f)) fs) (map (map (maps.value f)) fs)
-  with_item_map v fs k = refl
+module _ {N M W V : Type 0} (f : N → M) (w : W → V) (K : Naming N W) (L : Naming M V) (Fits : Books M → Type 0) (law : Renames f w K L Fits) (tree : List Node) where
+  follows : (s : Vat N) (x : Value N) → refs.follow L (maps.vat f s) (maps.value f x) ≡ maps.value f (refs.follow K s x)
+  follows s x = same_follow f w K L Fits law x (maps.value f x) refl s
+
+  places : (s : Vat N) (y : Value N) → refs.place L (maps.vat f s) (maps.value f y) ≡ maps.place f (refs.place K s y)
+  places s y = same_place f w K L Fits law y s
+
+  pub with_item_map : (v : Value N) (fs : List (List (Value N))) → eval.with_item L tree (maps.value f v) (map (map (maps.value f)) fs) ≡ map (map (maps.value f)) (eval.with_item K tree v fs)
+  unfolding eval.with_item
+  with_item_map v [] = refl
+  with_item_map v (g ∷ fs) = rw (map_end (maps.value f) g v) refl
+
+  pub with_stamp_map : (b : Bool) (y : Value N) (ys : List (Value N)) → eval.with_stamp L tree b (maps.value f y) (map (maps.value f) ys) ≡ map (maps.value f) (eval.with_stamp K tree b y ys)
+  unfolding eval.with_stamp
+  with_stamp_map true y ys = refl
+  with_stamp_map false y ys = refl
+
+  same_stamp_map : (a b : Value N) → eval.same_stamp L tree (maps.value f a) (maps.value f b) ≡ eval.same_stamp K tree a b
+  unfolding eval.same_stamp
+  same_stamp_map (Prim m) (Prim n) = refl
+  same_stamp_map (Ref m) (Ref n) = law.same m n
+  same_stamp_map _ _ = refl
+
+  has_stamp_map : (a : Value N) (bs : List (Value N)) → eval.has_stamp L tree (maps.value f a) (map (maps.value f) bs) ≡ eval.has_stamp K tree a bs
+  unfolding eval.has_stamp
+  has_stamp_map a [] = refl
+  has_stamp_map a (b ∷ bs) = pick_same (eval.same_stamp K tree a b) (eval.same_stamp L tree (maps.value f a) (maps.value f b)) true (eval.has_stamp K tree a bs) true (eval.has_stamp L tree (maps.value f a) (map (maps.value f) bs)) (same_stamp_map a b) refl (has_stamp_map a bs)
+
+  stamps_at_map : (s : Vat N) (p : Spot) → eval.stamps_at L tree (maps.vat f s) p ≡ map (maps.value f) (eval.stamps_at K tree s p)
+  unfolding eval.stamps_at
+  stamps_at_map s (Own i) = rw (map_get (maps.thing f) s.things i) (stamps_of_map f (slice_get s.things i))
+  stamps_at_map s (Foreign h) = refl
+  stamps_at_map s NoObject = refl
+
+  pub stamped_map : (s : Vat N) (a x : Value N) → eval.is_stamped L tree (maps.vat f s) (maps.value f a) (maps.value f x) ≡ eval.is_stamped K tree s a x
+  unfolding eval.is_stamped
+  stamped_map s a (Ref n) = rw (law.spot n, stamps_at_map s (K.spot n)) (has_stamp_map a (eval.stamps_at K tree s (K.spot n)))
+  stamped_map s a _ = refl
+
+  frozen_map : (s : Vat N) (y : Value N) → eval.is_frozen L tree (maps.vat f s) (maps.value f y) ≡ eval.is_frozen K tree s y
+  unfolding eval.is_frozen
+  frozen_map s (Ref n) = stamped_map s (Prim 17) (Ref n)
+  frozen_map s (Items k) = plain_map f highest s.lists (Items k)
+  frozen_map s Null = plain_map f highest s.lists Null
+  frozen_map s (Flag b) = plain_map f highest s.lists (Flag b)
+  frozen_map s (Number z) = plain_map f highest s.lists (Number z)
+  frozen_map s (Letter c) = plain_map f highest s.lists (Letter c)
+  frozen_map s (Text t) = plain_map f highest s.lists (Text t)
+  frozen_map s (Prim n) = plain_map f highest s.lists (Prim n)
+  frozen_map s (Broken p) = plain_map f highest s.lists (Broken p)
+
+  kind_map : (t : Value N → Bool) (u : Value M → Bool) → ((v : Value N) → u (maps.value f v) ≡ t v) → (y : Value N) → eval.where_true (u (maps.value f y)) (maps.value f y) ≡ option_map (maps.value f) (eval.where_true (t y) y)
+  kind_map t u e y = rw (e y) (where_map f (t y) y)
+
+  int_kind : (v : Value N) → eval.is_int (maps.value f v) ≡ eval.is_int v
+  unfolding eval.is_int
+  int_kind (Number z) = refl
+  int_kind _ = refl
+
+  boolean_kind : (v : Value N) → eval.is_boolean (maps.value f v) ≡ eval.is_boolean v
+  unfolding eval.is_boolean
+  boolean_kind (Flag z) = refl
+  boolean_kind _ = refl
+
+  char_kind : (v : Value N) → eval.is_char (maps.value f v) ≡ eval.is_char v
+  unfolding eval.is_char
+  char_kind (Letter z) = refl
+  char_kind _ = refl
+
+  text_kind : (v : Value N) → eval.is_text (maps.value f v) ≡ eval.is_text v
+  unfolding eval.is_text
+  text_kind (Text z) = refl
+  text_kind _ = refl
+
+  list_kind : (v : Value N) → eval.is_list (maps.value f v) ≡ eval.is_list v
+  unfolding eval.is_list
+  list_kind (Items z) = refl
+  list_kind _ = refl
+
+  pub taken_map : (s : Vat N) (g : Guard) (x y : Value N) → eval.taken L tree (maps.vat f s) g (maps.value f x) (maps.value f y) ≡ option_map (maps.value f) (eval.taken K tree s g x y)
+  unfolding eval.taken
+  taken_map s AnyGuard x y = refl
+  taken_map s VoidGuard x y = refl
+  taken_map s IntGuard x y = kind_map eval.is_int eval.is_int int_kind y
+  taken_map s BooleanGuard x y = kind_map eval.is_boolean eval.is_boolean boolean_kind y
+  taken_map s CharGuard x y = kind_map eval.is_char eval.is_char char_kind y
+  taken_map s TextGuard x y = kind_map eval.is_text eval.is_text text_kind y
+  taken_map s ListGuard x y = kind_map eval.is_list eval.is_list list_kind y
+  taken_map s NullGuard x y = kind_map eval.is_null eval.is_null (is_null_map f) y
+  taken_map s NearGuard x y = rw (places s y, is_near_map f (refs.place K s y)) (where_map f (eval.is_near (refs.place K s y)) y)
+  taken_map s FrozenGuard x y = rw (frozen_map s y) (where_map f (eval.is_frozen K tree s y) y)
+  taken_map s (OrNull g) x y = rw (is_null_map f y, eval.taken) (pick_map (option_map (maps.value f)) (eval.is_null y) (Some Null) (eval.taken K tree s g x y) (Some Null) (eval.taken L tree (maps.vat f s) g (maps.value f x) (maps.value f y)) refl (taken_map s g x y))
+
+  -- ---- sameEver
+
+  unsettled_map : (p : Place N) → eval.is_unsettled L tree (maps.place f p) ≡ eval.is_unsettled K tree p
+  unfolding eval.is_unsettled
+  unsettled_map (Mine n) = refl
+  unsettled_map (Away h n o) = refl
+  unsettled_map Near = refl
+  unsettled_map (Gone p) = refl
+
+  open_by_map : (F : List (Value N) → Bool) (G : List (Value M) → Bool) → ((vs : List (Value N)) → G (map (maps.value f) vs) ≡ F vs) → (s : Vat N) (y : Value N) → eval.open_by L tree G (maps.vat f s) (maps.value f y) ≡ eval.open_by K tree F s y
+  unfolding eval.open_by
+  open_by_map F G e s (Items k) = rw (list_at_map f s.lists k) (e (list_at s.lists k))
+  open_by_map F G e s (Ref n) = rw (places s (Ref n)) (unsettled_map (refs.place K s (Ref n)))
+  open_by_map F G e s Null = rw (places s Null) (unsettled_map (refs.place K s Null))
+  open_by_map F G e s (Flag b) = rw (places s (Flag b)) (unsettled_map (refs.place K s (Flag b)))
+  open_by_map F G e s (Number b) = rw (places s (Number b)) (unsettled_map (refs.place K s (Number b)))
+  open_by_map F G e s (Letter b) = rw (places s (Letter b)) (unsettled_map (refs.place K s (Letter b)))
+  open_by_map F G e s (Text b) = rw (places s (Text b)) (unsettled_map (refs.place K s (Text b)))
+  open_by_map F G e s (Prim b) = rw (places s (Prim b)) (unsettled_map (refs.place K s (Prim b)))
+  open_by_map F G e s (Broken b) = rw (places s (Broken b)) (unsettled_map (refs.place K s (Broken b)))
+
+  anys : (F : Value N → Bool) (G : Value M → Bool) → ((v : Value N) → G (maps.value f v) ≡ F v) → (vs : List (Value N)) → refs.any_of L G (map (maps.value f) vs) ≡ refs.any_of K F vs
+  anys = any_map f w K L Fits law
+
+  open_map : (d : ℕ) (s : Vat N) (x : Value N) → eval.is_open L tree d (maps.vat f s) (maps.value f x) ≡ eval.is_open K tree d s x
+  unfolding eval.is_open
+  open_map zero s x = rw (follows s x) (open_by_map (λ vs. false) (λ vs. false) (λ vs. refl) s (refs.follow K s x))
+  open_map (suc d) s x = rw (follows s x) (open_by_map (refs.any_of K (λ v. eval.is_open K tree d s v)) (refs.any_of L (λ v. eval.is_open L tree d (maps.vat f s) v)) (anys (λ v. eval.is_open K tree d s v) (λ v. eval.is_open L tree d (maps.vat f s) v) (open_map d s)) s (refs.follow K s x))
+
+  all_same_map : (F : Value N → Value N → Bool) (G : Value M → Value M → Bool) → ((v u : Value N) → G (maps.value f v) (maps.value f u) ≡ F v u) → (vs us : List (Value N)) → eval.all_same L tree G (map (maps.value f) vs) (map (maps.value f) us) ≡ eval.all_same K tree F vs us
+  unfolding eval.all_same
+  all_same_map F G e [] [] = refl
+  all_same_map F G e [] (u ∷ us) = refl
+  all_same_map F G e (v ∷ vs) [] = refl
+  all_same_map F G e (v ∷ vs) (u ∷ us) = pick_same (F v u) (G (maps.value f v) (maps.value f u)) (eval.all_same K tree F vs us) false (eval.all_same L tree G (map (maps.value f) vs) (map (maps.value f) us)) false (e v u) (all_same_map F G e vs us) refl
+
+  same_by_map : (F : List (Value N) → List (Value N) → Bool) (G : List (Value M) → List (Value M) → Bool) → ((vs us : List (Value N)) → G (map (maps.value f) vs) (map (maps.value f) us) ≡ F vs us) → (s : Vat N) (x y : Value N)
+      → eval.same_by L tree G (maps.vat f s) (maps.value f x) (maps.value f y) ≡ eval.same_by K tree F s x y
+  unfolding eval.same_by
+  same_by_map F G e s Null Null = refl
+  same_by_map F G e s (Flag a) (Flag b) = refl
+  same_by_map F G e s (Number a) (Number b) = refl
+  same_by_map F G e s (Letter a) (Letter b) = refl
+  same_by_map F G e s (Text a) (Text b) = refl
+  same_by_map F G e s (Prim a) (Prim b) = refl
+  same_by_map F G e s (Broken a) (Broken b) = refl
+  same_by_map F G e s (Items j) (Items k) = rw (list_at_map f s.lists j, list_at_map f s.lists k) (e (list_at s.lists j) (list_at s.lists k))
+  same_by_map F G e s (Ref m) (Ref n) = law.same m n
+  same_by_map F G e s _ _ = refl
+
+  is_same_map : (d : ℕ) (s : Vat N) (x y : Value N) → eval.is_same L tree d (maps.vat f s) (maps.value f x) (maps.value f y) ≡ eval.is_same K tree d s x y
+  unfolding eval.is_same
+  is_same_map zero s x y = rw (follows s x, follows s y) (same_by_map (λ vs us. false) (λ vs us. false) (λ vs us. refl) s (refs.follow K s x) (refs.follow K s y))
+  is_same_map (suc d) s x y = rw (follows s x, follows s y) (same_by_map (eval.all_same K tree (λ v u. eval.is_same K tree d s v u)) (eval.all_same L tree (λ v u. eval.is_same L tree d (maps.vat f s) v u))
+      (all_same_map (λ v u. eval.is_same K tree d s v u) (λ v u. eval.is_same L tree d (maps.vat f s) v u) (is_same_map d s)) s (refs.follow K s x) (refs.follow K s y))
+
+  reply_pick : (b b' c c' : Bool) → b' ≡ b → c' ≡ c → ◌≡◌ {A = Reply M} (elim b' [ true ↦ Fails (codes "not settled") | false ↦ Says (Flag c') ]) (evals.reply f (elim b [ true ↦ Fails (codes "not settled") | false ↦ Says (Flag c) ]))
+  reply_pick true true c c' e h = refl
+  reply_pick false false c c' e h = ap (λ z. Says (Flag z)) h
+  reply_pick true false c c' e h = cc
+  reply_pick false true c c' e h = cc
+
+  open_here : (s : Vat N) (vs : List (Value N)) → refs.any_of L (eval.is_open L tree (length (map (map (maps.value f)) s.lists)) (maps.vat f s)) (map (maps.value f) vs) ≡ refs.any_of K (eval.is_open K tree (length s.lists) s) vs
+  open_here s vs = rw (length_map (map (maps.value f)) s.lists) (anys (λ v. eval.is_open K tree (length s.lists) s v) (λ v. eval.is_open L tree (length s.lists) (maps.vat f s) v) (open_map (length s.lists) s) vs)
+
+  same_here : (s : Vat N) (x y : Value N) → eval.is_same L tree (length (map (map (maps.value f)) s.lists)) (maps.vat f s) (maps.value f x) (maps.value f y) ≡ eval.is_same K tree (length s.lists) s x y
+  same_here s x y = rw (length_map (map (maps.value f)) s.lists) (is_same_map (length s.lists) s x y)
+
+  pub same_reply_map : (s : Vat N) (x y : Value N) → eval.same_reply L tree (maps.vat f s) (maps.value f x) (maps.value f y) ≡ evals.reply f (eval.same_reply K tree s x y)
+  unfolding eval.same_reply
+  same_reply_map s x y = reply_pick (refs.any_of K (eval.is_open K tree (length s.lists) s) (x ∷ y ∷ [])) (refs.any_of L (eval.is_open L tree (length (map (map (maps.value f)) s.lists)) (maps.vat f s)) (maps.value f x ∷ maps.value f y ∷ [])) (eval.is_same K tree (length s.lists) s x y) (eval.is_same L tree (length (map (map (maps.value f)) s.lists)) (maps.vat f s) (maps.value f x) (maps.value f y)) (open_here s (x ∷ y ∷ [])) (same_here s x y)
+
+  -- ---- Ref
+
+  pub broken_text_map : (x : Value N) → eval.broken_text L tree (maps.value f x) ≡ evals.reply f (eval.broken_text K tree x)
+  unfolding eval.broken_text
+  broken_text_map (Text t) = refl
+  broken_text_map _ = refl
+
+  pub thrown_text_map : (x : Value N) → eval.thrown_text L tree (maps.value f x) ≡ evals.reply f (eval.thrown_text K tree x)
+  unfolding eval.thrown_text
+  thrown_text_map (Text t) = refl
+  thrown_text_map _ = refl
+
+  fulfilled_map : (x : Value N) (p : Place N) → eval.fulfilled L tree (maps.value f x) (maps.place f p) ≡ evals.reply f (eval.fulfilled K tree x p)
+  unfolding eval.fulfilled
+  fulfilled_map x Near = refl
+  fulfilled_map x (Away h n true) = refl
+  fulfilled_map x (Away h n false) = refl
+  fulfilled_map x (Gone p) = refl
+  fulfilled_map x (Mine n) = refl
+
+  pub test_map : (t : RefTest) (x : Value N) (p : Place N) → eval.test_reply L tree t (maps.value f x) (maps.place f p) ≡ evals.reply f (eval.test_reply K tree t x p)
+  unfolding eval.test_reply eval.is_near eval.is_far eval.is_gone eval.is_unsettled eval.problem_of
+  test_map Fulfillment x p = fulfilled_map x p
+  test_map NoTest x p = refl
+  test_map _ x Near = refl
+  test_map _ x (Mine n) = refl
+  test_map _ x (Away h n o) = refl
+  test_map _ x (Gone p) = refl
