@@ -3,6 +3,7 @@ pub mod SimRefs
 pub mod SimArrive
 pub mod MapMaps
 pub mod Stands
-pub mod Steps
 pub mod NativeMaps
 pub mod EvalPure
+pub mod SimEval
+pub mod Steps

@@ -42,7 +42,7 @@ module _ {N M : Type 0} (f : N → M) where
   own_weight_map (Broken p) = refl
   own_weight_map _ = refl
 
-  behind_map : (F : Value N → ℕ → Option ℕ) (G : Value M → ℕ → Option ℕ) → ((v : Value N) (r : ℕ) → G (maps.value f v) r ≡ F v r) → (vs : List (Value N)) (r : ℕ) → room_behind G (map (maps.value f) vs) r ≡ room_behind F vs r
+  pub behind_map : (F : Value N → ℕ → Option ℕ) (G : Value M → ℕ → Option ℕ) → ((v : Value N) (r : ℕ) → G (maps.value f v) r ≡ F v r) → (vs : List (Value N)) (r : ℕ) → room_behind G (map (maps.value f) vs) r ≡ room_behind F vs r
   unfolding room_behind
   behind_map F G e [] r = refl
   behind_map F G e (v ∷ vs) r = rw (e v r) (elim (F v r) as (λ o. elim o [ Some left ↦ room_behind G (map (maps.value f) vs) left | None ↦ None ] ≡ elim o [ Some left ↦ room_behind F vs left | None ↦ None ]) [ Some left ↦ behind_map F G e vs left | None ↦ refl ])

@@ -3,11 +3,13 @@ use Rattle.std.proofs.Common.{◌≡◌, ℕ, List, map, refl, ap}
 use Rattle.ev_machine.specs.Values.{Name, Local, numbering, naming}
 use Rattle.ev_machine.specs.State.{Vat, Note, Done, Gives, Throws, Ejects, Stops, Act}
 use Rattle.ev_machine.specs.Arrive.{Incoming, arrive, notice}
+use Rattle.ev_machine.specs.Eval.{opening, taking}
 use Rattle.ev_renaming.specs.Maps as maps
 use Rattle.ev_renaming.specs.Maps.{incoming}
 use Rattle.ev_renaming.specs.Stands.{Table, Found, Is, found, finding, IsTable, StandsFor}
-use Rattle.ev_renaming.specs.Renaming.{Wire, EndsWith, HasTable, Stand, ArrivalsStand, NoticesStand}
+use Rattle.ev_renaming.specs.Renaming.{Wire, EndsWith, HasTable, Stand, ArrivalsStand, NoticesStand, TurnsStand, OpeningsStand}
 use Rattle.ev_renaming.proofs.Sim.{Books, Sim, id}
+use Rattle.ev_renaming.proofs.SimEval.{sim_taking, sim_opening}
 use Rattle.ev_renaming.proofs.SimArrive.{sim_arrive, sim_notice}
 use Rattle.ev_renaming.proofs.Stands.{step_stands, books_of, books_after, FitsTable, found_renames, is_renames}
 
@@ -26,3 +28,13 @@ pub notices_stand : NoticesStand
 notices_stand word v t good c s r stands h = step_stands v t good id id (notice (numbering {W = Wire} word) c) (notice (naming word v) c) (notice (finding word v) c)
     (sim_notice (found v t) (λ (x : Wire). Name.Root 0) (numbering word) (finding word v) (FitsTable v t good) (found_renames v t good word (λ (x : Wire). Name.Root 0)) c)
     (sim_notice Is (λ x. x) (naming word v) (finding word v) (λ (b : Books Found). Unit {0}) (is_renames word v) c) s r stands (books_same t (notice (naming word v) c r) h)
+
+pub turns_stand : TurnsStand
+turns_stand word v t good tree depth m n e s r stands h = step_stands v t good id id (taking (numbering {W = Wire} word) tree depth m) (taking (naming word v) tree depth n) (taking (finding word v) tree depth (maps.message (found v t) m))
+    (sim_taking (found v t) (λ (x : Wire). Name.Root 0) (numbering word) (finding word v) (FitsTable v t good) (found_renames v t good word (λ (x : Wire). Name.Root 0)) tree depth m)
+    (rw e (sim_taking Is (λ x. x) (naming word v) (finding word v) (λ (b : Books Found). Unit {0}) (is_renames word v) tree depth n)) s r stands (books_same t (taking (naming word v) tree depth n r) h)
+
+pub openings_stand : OpeningsStand
+openings_stand word v t good tree depth p q bs cs e i s r stands h = step_stands v t good id id (opening (numbering {W = Wire} word) tree depth p bs) (opening (naming word v) tree depth q cs) (opening (finding word v) tree depth (found v t p) (map (maps.binding (found v t)) bs))
+    (sim_opening (found v t) (λ (x : Wire). Name.Root 0) (numbering word) (finding word v) (FitsTable v t good) (found_renames v t good word (λ (x : Wire). Name.Root 0)) tree depth p bs)
+    (rw (e, i) (sim_opening Is (λ x. x) (naming word v) (finding word v) (λ (b : Books Found). Unit {0}) (is_renames word v) tree depth q cs)) s r stands (books_same t (opening (naming word v) tree depth q cs r) h)

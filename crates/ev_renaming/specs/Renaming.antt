@@ -3,6 +3,8 @@ use Rattle.std.specs.Prelude.{◌≡◌, ℕ, Bool, List, map}
 use Rattle.ev_machine.specs.Values.{Name, Local, naming, numbering}
 use Rattle.ev_machine.specs.State.{Vat, Message, Note, Binding, Known, Done, Gives, Throws, Ejects, Stops, Act}
 use Rattle.ev_machine.specs.Arrive.{Incoming, arrive, notice}
+use Rattle.ev_machine.specs.Eval.{opening, taking}
+use Rattle.ev_kernel.specs.declared.node.Node.{Node}
 use Rattle.ev_renaming.specs.Maps as maps
 use Rattle.ev_renaming.specs.Maps.{incoming}
 use Rattle.ev_renaming.specs.Stands.{Table, Found, Is, found, IsTable, StandsFor}
@@ -41,3 +43,13 @@ ArrivalsStand = (word : ℕ → ℕ) (v : ℕ) (t : Table) → IsTable v t → (
 -- the notice of a cut
 abbrev pub NoticesStand : Type 0
 NoticesStand = (word : ℕ → ℕ) (v : ℕ) (t : Table) → IsTable v t → (c : ℕ) → Stand v t (notice (numbering {W = Wire} word) c) (notice (naming word v) c)
+
+-- a turn that takes a message, of which every name is read the same
+abbrev pub TurnsStand : Type 0
+TurnsStand = (word : ℕ → ℕ) (v : ℕ) (t : Table) → IsTable v t → (tree : List Node) (depth : ℕ) (m : Message Local) (n : Message Name)
+    → maps.message (found v t) m ≡ maps.message Is n → Stand v t (taking (numbering {W = Wire} word) tree depth m) (taking (naming word v) tree depth n)
+
+-- the opening turn, with the vat's root and what it is given read the same
+abbrev pub OpeningsStand : Type 0
+OpeningsStand = (word : ℕ → ℕ) (v : ℕ) (t : Table) → IsTable v t → (tree : List Node) (depth : ℕ) (p : Local) (q : Name) (bs : List (Binding Local)) (cs : List (Binding Name))
+    → found v t p ≡ Is q → map (maps.binding (found v t)) bs ≡ map (maps.binding Is) cs → Stand v t (opening (numbering {W = Wire} word) tree depth p bs) (opening (naming word v) tree depth q cs)
