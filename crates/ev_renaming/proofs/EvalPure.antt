@@ -1,12 +1,11 @@
 -- What evaluation looks up and tells apart, under changed names.
-use Rattle.std.proofs.Common.{◌≡◌, ℕ, zero, suc, Bool, true, false, List, [], ◌∷◌, ◌++◌, Option, Some, None, refl, ap, length, map, ◌==◌}
+use Rattle.std.proofs.Common.{◌≡◌, ℕ, zero, suc, Bool, true, false, List, [], ◌∷◌, Option, Some, None, refl, ap, length, map}
 use Rattle.std.specs.Prelude.{slice_get, option_map, codes}
 use Rattle.ev_machine.specs.Values.{Words, Value, Null, Flag, Number, Letter, Text, Prim, Broken, Items, Ref, Naming, Spot, Own, Foreign, NoObject}
-use Rattle.ev_machine.specs.State.{Bound, Fixed, Slot, Binding, Scope, Cell, Freedom, IsSafe, IsItself, IsFinal, IsVar, FreeName, View, Thing, Made, Ejector, Audition, Resolver, Vat}
-use Rattle.ev_machine.specs.Free.{same_words, entry}
+use Rattle.ev_machine.specs.State.{Bound, Fixed, Slot, Binding, Scope, Freedom, IsSafe, IsItself, IsFinal, IsVar, FreeName, Thing, Made, Vat}
+use Rattle.ev_machine.specs.Free.{same_words}
 use Rattle.ev_machine.specs.Form as form
-use Rattle.ev_machine.specs.Native as native
-use Rattle.ev_machine.specs.Native.{list_at, Reply, Says, Fails, Guard, AnyGuard, VoidGuard, IntGuard, BooleanGuard, CharGuard, TextGuard, ListGuard, NullGuard, NearGuard, FrozenGuard, OrNull, RefTest, IsNear, IsFar, IsResolved, IsBroken, OptProblem, Fulfillment, NoTest}
+use Rattle.ev_machine.specs.Native.{list_at, Reply, Says, Fails, Guard, AnyGuard, VoidGuard, IntGuard, BooleanGuard, CharGuard, TextGuard, ListGuard, NullGuard, NearGuard, FrozenGuard, OrNull, RefTest, Fulfillment, NoTest}
 use Rattle.ev_machine.specs.Refs as refs
 use Rattle.ev_machine.specs.Refs.{Place, Near, Mine, Away, Gone, highest}
 use Rattle.ev_machine.specs.Eval as eval
@@ -14,11 +13,11 @@ use Rattle.ev_machine.specs.Eval.{AuditionAsk, ResolverAsk}
 use Rattle.ev_kernel.specs.declared.node.Literal.{Literal}
 use Rattle.ev_kernel.specs.declared.node.Literal.TheVariants as literal
 use Rattle.ev_kernel.specs.declared.node.Node.{Node}
-use Rattle.ev_kernel.specs.declared.node.Node.TheVariants.{Lit, Noun, Set, Def, Call, Sequence, If, Escape, Try, Finally, Hide, MatchBind, Object, Method, Matcher, Final, Var, Any, ListPattern, Via}
+use Rattle.ev_kernel.specs.declared.node.Node.TheVariants.{Final}
 use Rattle.ev_renaming.specs.Maps as maps
 use Rattle.ev_renaming.specs.EvalMaps as evals
 use Rattle.ev_renaming.proofs.Sim.{Books, Renames, map_get, length_map, map_end}
-use Rattle.ev_renaming.proofs.SimRefs.{list_at_map, same_follow, same_place, same_place_of, any_map}
+use Rattle.ev_renaming.proofs.SimRefs.{list_at_map, same_follow, same_place, any_map}
 use Rattle.ev_renaming.proofs.NativeMaps.{entry_map}
 
 pick_map : {A B : Type 0} (g : A → B) (b : Bool) (x y : A) (x' y' : B) → x' ≡ g x → y' ≡ g y → ◌≡◌ {A = B} (elim b [ true ↦ x' | false ↦ y' ]) (g (elim b [ true ↦ x | false ↦ y ]))

@@ -1,13 +1,13 @@
 -- What data and primitives answer does not depend on how things are named.
-use Rattle.std.proofs.Common.{◌≡◌, ℕ, zero, suc, ℤ, pos, Bool, true, false, List, [], ◌∷◌, ◌++◌, Option, Some, None, refl, ap, length, map, ◌==◌, ◌+ℤ◌}
-use Rattle.std.specs.Prelude.{slice_get, option_map, codes, Result, Ok, Err, nat_le, nat_lt, neg_ℤ, negsuc}
-use Rattle.ev_machine.specs.Values.{Words, Value, Null, Flag, Number, Letter, Text, Prim, Broken, Items, Ref}
+use Rattle.std.proofs.Common.{◌≡◌, ℕ, zero, suc, ℤ, pos, Bool, true, false, List, [], ◌∷◌, ◌++◌, Option, Some, None, refl, ap, map, ◌+ℤ◌}
+use Rattle.std.specs.Prelude.{slice_get, option_map, codes, Result, Ok, Err, nat_le, negsuc}
+use Rattle.ev_machine.specs.Values.{Words, Value, Null, Flag, Number, Letter, Text, Prim, Items}
 use Rattle.ev_machine.specs.Free.{entry, same_words}
 use Rattle.ev_machine.specs.Native as native
 use Rattle.ev_machine.specs.Native.{Reply, Says, Writes, Lists, Iterates, Fails, IntVerb, Applies, Negates, AsChar, NoIntVerb, FlagVerb, Both, Either, Unlike, NoFlagVerb, SeqVerb, Gets, Adds, AddsOne, Steps, NoSeqVerb, Order, Guard, NullGuard, OrNull, AnyGuard, VoidGuard, IntGuard, BooleanGuard, CharGuard, TextGuard, ListGuard, NearGuard, FrozenGuard, Primitive, Guarding, MakeList, Equalizer, Comparer, Looper, Sender, References, Thrower, StampReader, NoPrimitive, Asked, MakesList, Ranges, Same, Compares, Loops, SendsTo, CallsTo, MakesPromise, Breaks, Tells, Whens, ThrowsIt, IsStamped, Coerces, AddsNull, NoMethod, list_at, is_less, is_more, is_equal}
 use Rattle.ev_renaming.specs.Maps as maps
 use Rattle.ev_renaming.specs.EvalMaps as evals
-use Rattle.ev_renaming.proofs.Sim.{map_get, length_map, map_end}
+use Rattle.ev_renaming.proofs.Sim.{map_get, length_map}
 use Rattle.ev_renaming.proofs.SimRefs.{list_at_map}
 
 -- an entry of a table whose entries are changed

@@ -1,15 +1,14 @@
 -- Two namings: an act from a vat with its names changed is that act from the vat, with the names of its outcome changed.
-use Rattle.std.proofs.Common.{◌≡◌, ℕ, zero, suc, ◌-◌, Bool, true, false, List, [], ◌∷◌, ◌++◌, Option, Some, None, if◌then◌else◌, refl, ap, length, map, ◌==◌}
+use Rattle.std.proofs.Common.{◌≡◌, ℕ, zero, suc, Bool, true, false, List, [], ◌∷◌, ◌++◌, Option, Some, None, if◌then◌else◌, refl, ap, length, map}
 use Rattle.std.specs.Prelude.{slice_get, option_map, nat_le}
-use Rattle.ev_machine.specs.Values.{Words, Value, Spot, Naming, Coming, Mailing, IsOwn, IsAnswer, IsSent}
+use Rattle.ev_machine.specs.Values.{Words, Value, Naming, Coming, Mailing, IsOwn, IsAnswer, IsSent}
 use Rattle.ev_machine.specs.State
 use Rattle.ev_machine.specs.State.{Binding, Cell, Thing, Made, Ejector, Audition, Resolver, Message, Standing, Unsettled, WaitsOn, Viewed, Settled, Known, Change, Hold, Wait, WaitOn, See, React, Settle, ToTell, Passed, Passeds, Note, Put, GiftEntry, Happened, Vat, Stop, Done, Gives, Throws, Ejects, Stops, Act, ◌>>◌, ◌>>=◌, and_then, for_some, end_by, ending, each, give, throw, eject, stop, look, tell, spend, spent, new_activation, new_thing, kill, dead, new_slot, holding, write_slot, new_list, draw, draws, drawn_at, send_out, new_gift, is_gift, with_opened, open_gift, mark, enqueue, alter, mail, come, new_promise, new_message, changed, changed_to, unless_settled, with_change, begun}
 use Rattle.ev_machine.specs.Refs.{Place, Parcel}
-use Rattle.ev_machine.specs.Arrive.{Incoming}
 use Rattle.ev_renaming.specs.Maps as maps
 use Rattle.ev_renaming.specs.Maps.{coming, mailing}
 use Rattle.ev_machine_laws.specs.Steps.{After}
-use Rattle.ev_machine_laws.proofs.Keeps.{Keeps, IsKept, IsKeptUnder, keeps_each}
+use Rattle.ev_machine_laws.proofs.Keeps.{Keeps, IsKept, IsKeptUnder}
 
 -- the names and the messages that a vat has, in order
 pub record Books (N : Type 0) : Type 0 where

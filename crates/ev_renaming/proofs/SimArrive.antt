@@ -1,8 +1,8 @@
 -- Two namings: what arrives, and the notice of a cut.
-use Rattle.std.proofs.Common.{◌≡◌, ℕ, zero, suc, Bool, true, false, List, [], ◌∷◌, Option, Some, None, refl, ap, length, map, ◌==◌, if◌then◌else◌}
-use Rattle.std.specs.Prelude.{option_map, codes}
+use Rattle.std.proofs.Common.{◌≡◌, ℕ, Bool, true, false, List, [], ◌∷◌, Option, Some, None, refl, map}
+use Rattle.std.specs.Prelude.{option_map}
 use Rattle.ev_machine.specs.Values.{Words, Value, Null, Flag, Number, Letter, Text, Prim, Broken, Items, Ref, Naming, IsGift}
-use Rattle.ev_machine.specs.State.{Message, Standing, Unsettled, WaitsOn, Viewed, Settled, Known, Passed, Passeds, Plain, AGift, Many, NoMore, More, Note, Deliver, Open, Ask, SettledTo, Elsewhere, Shorten, GiftEntry, Vat, Act, each, is_in, is_gift}
+use Rattle.ev_machine.specs.State.{Message, Standing, Unsettled, WaitsOn, Viewed, Settled, Known, Passed, Passeds, Plain, AGift, Many, NoMore, More, Note, Deliver, Open, Ask, SettledTo, Elsewhere, Shorten, GiftEntry, Vat, Act, each, is_gift}
 use Rattle.ev_machine.specs.Refs as refs
 use Rattle.ev_machine.specs.Refs.{Place, Near, Mine, Away, Gone}
 use Rattle.ev_machine.specs.Arrive as arrive
@@ -10,10 +10,10 @@ use Rattle.ev_machine.specs.Arrive.{Incoming, Old, New, gift_at, opened_in}
 use Rattle.ev_renaming.specs.Maps as maps
 use Rattle.ev_renaming.specs.Maps.{coming, incoming}
 use Rattle.ev_machine_laws.proofs.Keeps.{Keeps, IsKept, IsKeptUnder, keeps_each}
-use Rattle.ev_machine_laws.proofs.RefsKeeps.{keeps_refs, keeps_settle}
+use Rattle.ev_machine_laws.proofs.RefsKeeps.{keeps_settle}
 use Rattle.ev_machine_laws.proofs.ArriveKeeps.{keeps_arrive_all, keeps_learn_all}
 use Rattle.ev_renaming.proofs.Sim.{Books, Renames, Sim, Grows, grows, grows_under, id, sims, bind_name, bind_then, sim_come, sim_gift, sim_give}
-use Rattle.ev_renaming.proofs.SimRefs.{same_follow, same_place, same_place_of, same_standing, same_host, sim_settle, sim_resolve, sim_send_on, sim_inform, sim_each}
+use Rattle.ev_renaming.proofs.SimRefs.{same_place_of, same_standing, same_host, sim_settle, sim_resolve, sim_send_on, sim_inform, sim_each}
 
 module _ {N M : Type 0} (f : N → M) where
   gift_map : (p i : ℕ) (gs : List (GiftEntry N)) → gift_at p i (map (maps.gift f) gs) ≡ option_map (maps.gift f) (gift_at p i gs)
@@ -101,6 +101,7 @@ module _ {N M W V : Type 0} (f : N → M) (w : W → V) (K : Naming N W) (L : Na
 
   mutual
     unfolding arrive.learn arrive.learn_all
+
     sim_learn : (p : ℕ) (y : Passed (Incoming N W)) → Sim f Fits (maps.value f) (arrive.learn K p y) (arrive.learn L p (maps.passed (incoming f w) y))
     sim_learn p (Plain y) = search sim_learn_value
     sim_learn p (AGift h i) = search sim_learn_gift

@@ -1,8 +1,8 @@
 -- Two namings: all of evaluation.
-use Rattle.std.proofs.Common.{◌≡◌, ℕ, zero, suc, Bool, true, false, List, [], ◌∷◌, ◌++◌, Option, Some, None, refl, ap, length, map, ◌==◌, ◌+◌, ◌-◌, if◌then◌else◌, pos}
-use Rattle.std.specs.Prelude.{slice_get, option_map, codes, nat_le}
-use Rattle.ev_machine.specs.Values.{Words, Value, Null, Flag, Number, Letter, Text, Prim, Broken, Items, Ref, Naming, Spot, Own, Foreign, NoObject}
-use Rattle.ev_machine.specs.State.{Bound, Fixed, Slot, Binding, Scope, Cell, View, FreeName, Thing, Made, Ejector, Audition, Resolver, Message, Standing, Unsettled, WaitsOn, Viewed, Settled, Vat, Done, Gives, Throws, Ejects, Stops, Act, ◌>>=◌, ◌>>◌, end_by, ending, for_some, give, throw, stop, eject, look, spend, ObjectMade}
+use Rattle.std.proofs.Common.{◌≡◌, ℕ, zero, suc, Bool, true, false, List, [], ◌∷◌, Option, Some, None, refl, ap, length, map, ◌==◌, ◌+◌, ◌-◌, if◌then◌else◌}
+use Rattle.std.specs.Prelude.{slice_get, option_map, nat_le}
+use Rattle.ev_machine.specs.Values.{Words, Value, Null, Flag, Number, Letter, Text, Prim, Broken, Items, Ref, Naming, Spot, Own}
+use Rattle.ev_machine.specs.State.{Bound, Fixed, Slot, Binding, Scope, Cell, View, FreeName, Thing, Made, Ejector, Audition, Resolver, Message, Standing, Unsettled, Vat, Done, Gives, Throws, Ejects, Stops, Act, ◌>>=◌, ◌>>◌, end_by, ending, for_some, give, throw, eject, spend, ObjectMade}
 use Rattle.ev_machine.specs.Form.{Item, Begin, End, Word, Fact}
 use Rattle.ev_machine.specs.Free.{BoundNoun}
 use Rattle.ev_machine.specs.Native as native
@@ -13,7 +13,7 @@ use Rattle.ev_machine.specs.Eval as eval
 use Rattle.ev_machine.specs.Form as form
 use Rattle.ev_machine.specs.Eval.{Answer, Answers, Evaluator, Caller, Body, Case, AuditionAsk, GetsForm, GetsGuard, Asks, NoAuditionAsk, ResolverAsk, Resolves, Smashes, NoResolverAsk}
 use Rattle.ev_kernel.specs.declared.node.Node.{Node}
-use Rattle.ev_kernel.specs.declared.node.Node.TheVariants.{Lit, Noun, Set, Def, Call, Sequence, If, Escape, Try, Finally, Hide, MatchBind, Object, Method, Matcher, Final, Var, Any, ListPattern, Via}
+use Rattle.ev_kernel.specs.declared.node.Node.TheVariants.{Lit, Noun, Set, Def, Call, Sequence, If, Escape, Try, Finally, Hide, MatchBind, Object, Final, Var, Any, ListPattern, Via}
 use Rattle.ev_renaming.specs.Maps as maps
 use Rattle.ev_renaming.specs.EvalMaps as evals
 use Rattle.ev_machine_laws.specs.Steps.{After}

@@ -1,8 +1,8 @@
 -- Two namings: passing, sending, settling and resolving.
-use Rattle.std.proofs.Common.{◌≡◌, ℕ, zero, suc, ◌-◌, Bool, true, false, List, [], ◌∷◌, Option, Some, None, refl, ap, length, map, ◌==◌}
+use Rattle.std.proofs.Common.{◌≡◌, ℕ, zero, suc, Bool, true, false, List, [], ◌∷◌, Option, Some, None, refl, ap, length, map, ◌==◌}
 use Rattle.std.specs.Prelude.{slice_get, option_map, codes}
 use Rattle.ev_machine.specs.Values.{Words, Value, Null, Flag, Number, Letter, Text, Prim, Broken, Items, Ref, Naming, Spot, Own, Foreign, NoObject}
-use Rattle.ev_machine.specs.State.{Message, Standing, Unsettled, WaitsOn, Viewed, Settled, Known, Passed, Passeds, Plain, AGift, Many, NoMore, More, Note, Vat, Act, each, is_in, enqueue, new_message}
+use Rattle.ev_machine.specs.State.{Message, Standing, Unsettled, WaitsOn, Viewed, Settled, Known, Passed, Passeds, Plain, AGift, Many, NoMore, More, Vat, Act, each, is_in, enqueue, new_message}
 use Rattle.ev_machine.specs.Native as native
 use Rattle.ev_machine.specs.Native.{list_at}
 use Rattle.ev_machine.specs.Refs as refs
@@ -258,6 +258,7 @@ module _ {N M W V : Type 0} (f : N → M) (w : W → V) (K : Naming N W) (L : Na
 
   mutual
     unfolding refs.address refs.address_all
+
     sim_address : (h : ℕ) (y : Passed N) → Sim f Fits (maps.passed f) (refs.address K h y) (refs.address L h (maps.passed f y))
     sim_address h (Plain y) = search (sims, same_place, sim_address_plain, keeps_refs, base, under) depth 12
     sim_address h (AGift g i) = search sims

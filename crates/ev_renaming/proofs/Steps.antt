@@ -1,14 +1,14 @@
 -- Each kind of step of a vat under its own numbers stands for that step under names.
-use Rattle.std.proofs.Common.{◌≡◌, ℕ, List, map, refl, ap}
-use Rattle.ev_machine.specs.Values.{Name, Local, numbering, naming}
-use Rattle.ev_machine.specs.State.{Vat, Note, Done, Gives, Throws, Ejects, Stops, Act}
-use Rattle.ev_machine.specs.Arrive.{Incoming, arrive, notice}
+use Rattle.std.proofs.Common.{◌≡◌, map}
+use Rattle.ev_machine.specs.Values.{Name, numbering, naming}
+use Rattle.ev_machine.specs.State.{Done, Gives, Throws, Ejects, Stops}
+use Rattle.ev_machine.specs.Arrive.{arrive, notice}
 use Rattle.ev_machine.specs.Eval.{opening, taking}
 use Rattle.ev_renaming.specs.Maps as maps
 use Rattle.ev_renaming.specs.Maps.{incoming}
-use Rattle.ev_renaming.specs.Stands.{Table, Found, Is, found, finding, IsTable, StandsFor}
-use Rattle.ev_renaming.specs.Renaming.{Wire, EndsWith, HasTable, Stand, ArrivalsStand, NoticesStand, TurnsStand, OpeningsStand}
-use Rattle.ev_renaming.proofs.Sim.{Books, Sim, id}
+use Rattle.ev_renaming.specs.Stands.{Table, Found, Is, found, finding}
+use Rattle.ev_renaming.specs.Renaming.{Wire, EndsWith, ArrivalsStand, NoticesStand, TurnsStand, OpeningsStand}
+use Rattle.ev_renaming.proofs.Sim.{Books, id}
 use Rattle.ev_renaming.proofs.SimEval.{sim_taking, sim_opening}
 use Rattle.ev_renaming.proofs.SimArrive.{sim_arrive, sim_notice}
 use Rattle.ev_renaming.proofs.Stands.{step_stands, books_of, books_after, FitsTable, found_renames, is_renames}

@@ -7,7 +7,7 @@ use Rattle.ev_machine.specs.Eval.{opening, taking}
 use Rattle.ev_kernel.specs.declared.node.Node.{Node}
 use Rattle.ev_renaming.specs.Maps as maps
 use Rattle.ev_renaming.specs.Maps.{incoming}
-use Rattle.ev_renaming.specs.Stands.{Table, Found, Is, found, IsTable, StandsFor}
+use Rattle.ev_renaming.specs.Stands.{Table, Is, found, IsTable, StandsFor}
 
 -- how a note from one vat to another names things
 pub data Wire : Type 0 where
