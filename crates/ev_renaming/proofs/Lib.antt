@@ -1,0 +1,9 @@
+pub mod Sim
+pub mod SimRefs
+pub mod SimArrive
+pub mod MapMaps
+pub mod Stands
+pub mod NativeMaps
+pub mod EvalPure
+pub mod SimEval
+pub mod Steps

@@ -1,0 +1,4 @@
+pub mod Maps
+pub mod EvalMaps
+pub mod Stands
+pub mod Renaming
