@@ -2,6 +2,7 @@
 #![tactic(auto)]
 
 ghost use Rattle.ev_lines.specs.Lines.{LinesArePlaces};
+ghost use Rattle.ev_lines.specs.Numbers.{NumbersDecideNothing};
 ghost use Rattle.ev_lines.specs.Plain.{PlainIsPlaces};
 
 /// Law: a token list spells a tree by the lines exactly where it does by the table of places, from which the parser is
@@ -15,4 +16,10 @@ pub fn lines_are_places()
 #[tactic(auto, using(crate::proofs::Plainness::plain_is_places))]
 pub fn plain_is_places()
     ensures { PlainIsPlaces }
+{}
+
+/// Law: what is spelled depends on the kinds of the tokens alone, and not on their numbers.
+#[tactic(auto, using(crate::proofs::Renumbered::numbers_decide_nothing))]
+pub fn numbers_decide_nothing()
+    ensures { NumbersDecideNothing }
 {}
