@@ -5,3 +5,4 @@ pub mod High
 pub mod Reading
 pub mod Cuts
 pub mod Marks
+pub mod Examples
