@@ -7,3 +7,4 @@ pub mod NativeMaps
 pub mod EvalPure
 pub mod SimEval
 pub mod Steps
+pub mod Example

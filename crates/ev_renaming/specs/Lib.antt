@@ -2,3 +2,4 @@ pub mod Maps
 pub mod EvalMaps
 pub mod Stands
 pub mod Renaming
+pub mod Example

@@ -1,6 +1,7 @@
 //! The steps of a vat in its own numbers stand for its steps in the one global state.
 
 ghost use Rattle.ev_renaming.specs.Renaming.{ArrivalsStand, NoticesStand, OpeningsStand, TurnsStand};
+ghost use Rattle.ev_renaming.specs.Example.{SampleIsTable, SampleSends};
 
 /// The arrival of a note of any kind.
 pub fn arrivals_stand()
@@ -20,4 +21,14 @@ pub fn turns_stand()
 /// The opening turn.
 pub fn openings_stand()
     ensures { OpeningsStand }
+{}
+
+/// A table that meets its laws.
+pub fn sample_is_table()
+    ensures { SampleIsTable }
+{}
+
+/// A send by that table, by computing.
+pub fn sample_sends()
+    ensures { SampleSends }
 {}
