@@ -7,7 +7,8 @@ use Rattle.ev_parser.specs.declared.draft.Waiting.{Waiting}
 use Rattle.ev_parser.specs.declared.draft.Waiting.TheVariants as waits
 use Rattle.ev_grammar.specs.Machine.{Frame, within, after, State, at}
 use Rattle.ev_grammar.specs.Heights.{tallest, base, need, lift, low, low_frames, least, most_height, noted}
-use Rattle.ev_parser.specs.Draft.{capped, ShowsFrames, ShowsState, low_waiting}
+use Rattle.ev_parser.specs.Draft.{ShowsFrames, ShowsState, low_waiting}
+use Rattle.ev_table.specs.Table.{capped}
 use Rattle.ev_parser.proofs.Turns.{Top, top_is, no_snoc}
 
 cap_low : (b l n t x y : ℕ) → min x 61 ≡ min y 61 → min (b + max (max t x + l) n) 61 ≡ min (b + max (max t y + l) n) 61

@@ -1,4 +1,3 @@
-pub mod Tables
 pub mod Open
 pub mod Turns
 pub mod High

@@ -22,7 +22,8 @@ use Rattle.ev_parser.specs.declared.draft.Turn.TheVariants as turns
 use Rattle.ev_grammar.specs.Grammar.{Tree, Trees, node, none, more, leaf, moves, ending, is_stop, shape_of, word_of, parts_of, more_at, again, begun, lead, wrapped}
 use Rattle.ev_grammar.specs.Machine.{Frame, within, after, Begun, begin, pick, Outcome, ended, stuck, opened, ends_before, follow_move, step_in, State, at, settle, pop, step, tail_step, finish, end_in, end_frames, and_then}
 use Rattle.ev_grammar.specs.Heights.{weight, height, tallest}
-use Rattle.ev_parser.specs.Draft.{capped, Shows, ShowsAll, ShowsStand, ShowsFrame, ShowsFrames, ShowsState, Opened, IsOpened, shape_before, end_shape, Comes, IsTaken, IsPut, lead_part, IsAdded, IsWrapped, IsBegun, begun_height, IsBegunStand, Ends, Ended}
+use Rattle.ev_parser.specs.Draft.{Shows, ShowsAll, ShowsStand, ShowsFrame, ShowsFrames, ShowsState, Opened, IsOpened, shape_before, end_shape, Comes, IsTaken, IsPut, lead_part, IsAdded, IsWrapped, IsBegun, begun_height, IsBegunStand, Ends, Ended}
+use Rattle.ev_table.specs.Table.{capped}
 
 -- the machine's step, by the move that the token begins
 pub step_by : (p q : Place) (f : Word) (fs : Trees) (frs : List Frame) (t : Word) (o : Option Move) → o ≡ pick (moves p) t.kind → p ≡ q → step (at q f fs frs) t ≡ settle (follow_move o (ending q) f fs t) frs (λ u. pop frs u t)

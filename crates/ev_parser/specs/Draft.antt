@@ -1,5 +1,5 @@
 -- What the code's nodes and frames stand for.
-use Rattle.std.specs.Prelude.{◌≡◌, ℕ, List, [], ◌∷◌, ◌++◌, Option, Some, None, slice_get, length, ◌+◌, ◌*◌, min, max, cond}
+use Rattle.std.specs.Prelude.{◌≡◌, ℕ, List, [], ◌∷◌, ◌++◌, Option, Some, None, slice_get, length, ◌+◌, ◌*◌, max, cond}
 use Rattle.ev_grammar.specs.declared.syntax.Word.{Word}
 use Rattle.ev_grammar.specs.declared.syntax.Shape.{Shape}
 use Rattle.ev_grammar.specs.declared.syntax.Tail.{Tail}
@@ -20,10 +20,7 @@ use Rattle.ev_grammar.specs.declared.place.Ending.TheVariants as endings
 use Rattle.ev_grammar.specs.Grammar.{Tree, Trees, node, none, more, leaf, no_word, is_stop}
 use Rattle.ev_grammar.specs.Machine.{Frame, within, after, Begun, begin, State, at, step, pop, finish, end_frames}
 use Rattle.ev_grammar.specs.Heights.{weight, tallest, low}
-
--- a height, or one more than the greatest that is allowed
-abbrev pub capped : ℕ → ℕ
-capped n = min n 61
+use Rattle.ev_table.specs.Table.{capped}
 
 -- the node at this place is the root of this tree
 abbrev mutual

@@ -1,4 +1,3 @@
-pub mod Table
 pub mod Draft
 pub mod Parsed
 pub mod Surface

@@ -5,9 +5,9 @@ ghost use Rattle.ev_grammar.specs.Kinds.{same};
 ghost use Rattle.ev_parser.specs.Surface.{CatchAt, before, behind, catches, caught_at, cut, front, guard_of, is_boundary, is_mark, is_part, last_tree, mark, name_if, rest_of, text_at, tree_at, tree_if, trees, verb_if, word_text};
 
 use crate::draft::Part;
-use crate::table::is_same;
 use ev_base::{Memory, NodeId, Seq, Str};
 use ev_grammar::Word;
+use ev_table::is_same;
 use ev_token::{Token, TokenKind};
 use std::alloc::{AllocError, Global};
 

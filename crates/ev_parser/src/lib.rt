@@ -6,7 +6,6 @@ pub mod fields;
 pub mod forms;
 pub mod parser;
 pub mod read;
-pub mod table;
 #[cfg(test)]
 mod tests;
 

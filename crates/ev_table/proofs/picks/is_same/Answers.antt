@@ -4,7 +4,7 @@ use Rattle.ev_token.specs.contracts.token.TokenKind.{the_type}
 use Rattle.ev_token.specs.declared.token.TokenKind.{TokenKind}
 use Rattle.ev_token.specs.declared.token.TokenKind.TheVariants as kinds
 use Rattle.ev_grammar.specs.Kinds.{code}
-use Rattle.ev_parser.proofs.table.is_same.Goals as goal
+use Rattle.ev_table.proofs.picks.is_same.Goals as goal
 
 -- the number of a variant is that of its kind
 tag_is : (k : TokenKind) → tag_of the_type k ≡ code k
