@@ -4,3 +4,4 @@ pub mod Views
 pub mod Reading
 pub mod DigitsView
 pub mod Decoded
+pub mod Items

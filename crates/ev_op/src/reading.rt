@@ -18,7 +18,7 @@ use std::str;
 const WEIGHT: usize = 65536;
 
 /// How many lists may stand in each other.
-const HEIGHT: u32 = 100;
+pub(crate) const HEIGHT: u32 = 100;
 
 /// A text of at most so many bytes.
 #[tactic(auto, using(crate::proofs::Texts::not_utf8, crate::proofs::Texts::is_text), unfolding(crate::specs::Reading::text_at))]
@@ -38,7 +38,7 @@ fn text_of(alloc: Global, room: usize, bytes: &[u8]) -> Result<(String, &[u8]), 
     }
 }
 
-fn is_list(kind: Kind) -> bool
+pub(crate) fn is_list(kind: Kind) -> bool
     ensures { result ≡ is_list kind }
 {
     match kind {
@@ -204,7 +204,7 @@ fn free_of(alloc: Global, room: usize, bytes: &[u8]) -> Result<(Desc, usize, &[u
 }
 
 /// The weight that a description round which no list stands may have.
-fn free_room(bytes: &[u8]) -> usize
+pub(crate) fn free_room(bytes: &[u8]) -> usize
     ensures { result ≡ free_room bytes.now }
 {
     match bytes.first() {
