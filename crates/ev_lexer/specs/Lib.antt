@@ -1,0 +1,5 @@
+pub mod Words
+pub mod Pieces
+pub mod LineEnds
+pub mod Lexed
+pub mod Examples

@@ -1,0 +1,166 @@
+-- What stands at the front of a text: white space and comments, a token, or the first fault.
+use Rattle.std.specs.Prelude.{ℕ, zero, suc, ◌+◌, ◌==◌, ◌&&◌, ◌||◌, not, Bool, true, false, if◌then◌else◌, List, [], ◌∷◌, length, take, drop, Some, None, option_map, is_some, chars, encode_utf8_all, codes, bytes_eq}
+use Rattle.std.specs.declared.option.Option.{Option}
+use Rattle.std.specs.List.{prefix_len}
+use Rattle.std.specs.Char.{is_ascii_digit}
+use Rattle.ev_token.specs.declared.token.TokenKind.{TokenKind}
+use Rattle.ev_token.specs.declared.token.TokenKind.TheVariants.{LineEnd, Number, Text, Character}
+use Rattle.ev_text.specs.Unquoting.{escape}
+use Rattle.ev_text.specs.Keywords.{begins_identifier, continues_identifier}
+use Rattle.ev_num.specs.Numerals.{number_of}
+use Rattle.ev_lexer.specs.Words.{word_kind, longest_operator}
+
+-- of so many bytes; the number of a fault and how many bytes stand before its place
+pub data Piece : Type 0 where
+  Blank : ℕ → Piece
+  Whole : TokenKind → ℕ → Piece
+  Fault : ℕ → ℕ → Piece
+
+-- the kinds of fault: a character that begins no token, an unclosed text or character, a bad escape or a character literal
+-- that is not one character, a number above the greatest integer, an unclosed comment
+abbrev pub begins_nothing : ℕ
+begins_nothing = 1
+
+abbrev pub unclosed_literal : ℕ
+unclosed_literal = 2
+
+abbrev pub bad_literal : ℕ
+bad_literal = 3
+
+abbrev pub great_number : ℕ
+great_number = 4
+
+abbrev pub unclosed_comment : ℕ
+unclosed_comment = 5
+
+-- what a byte begins
+pub data Start : Type 0 where
+  space : Start
+  line_feed : Start
+  return_sign : Start
+  backslash : Start
+  hash : Start
+  slash : Start
+  quote : Start
+  apostrophe : Start
+  digit : Start
+  other : Start
+
+abbrev pub start : ℕ → Start
+start b =
+    if (b == 32) || (b == 9) then space
+    else if b == 10 then line_feed
+    else if b == 13 then return_sign
+    else if b == 92 then backslash
+    else if b == 35 then hash
+    else if b == 47 then slash
+    else if b == 34 then quote
+    else if b == 39 then apostrophe
+    else if is_ascii_digit b then digit
+    else other
+
+-- how long a line end at the front is: a line feed, or a carriage return with a line feed behind it
+abbrev pub line_end : List ℕ → Option ℕ
+line_end [] = None
+line_end (a ∷ []) = if a == 10 then Some 1 else None
+line_end (a ∷ b ∷ more) = if a == 10 then Some 1 else if (a == 13) && (b == 10) then Some 2 else None
+
+-- white space or a fault, by the line end that has to stand behind
+abbrev pub blank_before : Option ℕ → ℕ → Piece
+blank_before None n = Fault begins_nothing 0
+blank_before (Some ended) n = Blank n
+
+abbrev pub blank_with : Option ℕ → Piece
+blank_with None = Fault begins_nothing 0
+blank_with (Some ended) = Blank (1 + ended)
+
+-- how many bytes stand up to and with the first `*/`
+unfoldable pub comment_end : List ℕ → Option ℕ
+comment_end [] = None
+comment_end (a ∷ []) = None
+comment_end (a ∷ b ∷ more) = if (a == 42) && (b == 47) then Some 2 else option_map suc (comment_end (b ∷ more))
+
+abbrev pub commented : Option ℕ → Piece
+commented None = Fault unclosed_comment 0
+commented (Some n) = Blank (3 + n)
+
+-- how many bytes stand before the closing quote: a backslash hides the one character behind it, which is no quote of the
+-- literal
+unfoldable pub closing : ℕ → List ℕ → Option ℕ
+closing mark [] = None
+closing mark (a ∷ []) = if a == mark then Some 0 else None
+closing mark (a ∷ b ∷ more) =
+    if a == mark then Some 0
+    else if a == 92 then option_map (λ n. suc (suc n)) (closing mark more)
+    else option_map suc (closing mark (b ∷ more))
+
+-- the place of the first backslash that begins no escape; so many bytes belong to an escape that was read
+unfoldable pub bad_escape : ℕ → List ℕ → Option ℕ
+bad_escape passed [] = None
+bad_escape (suc passed) (b ∷ more) = option_map suc (bad_escape passed more)
+bad_escape zero (b ∷ more) =
+    if b == 92 then (elim (escape more) [ None ↦ Some 0 | Some found ↦ option_map suc (bad_escape found.1 more) ])
+    else option_map suc (bad_escape zero more)
+
+-- whether what stands between the quotes, without a bad escape, is one character
+abbrev pub is_one : List ℕ → Bool
+is_one [] = false
+is_one (b ∷ more) =
+    if b == 92 then (elim (escape more) [ None ↦ false | Some found ↦ length more == found.1 ])
+    else length (chars (b ∷ more)) == 1
+
+-- a literal, by what stands between its quotes
+abbrev pub literal : TokenKind → Bool → Option ℕ → ℕ → Piece
+literal kind is_right (Some place) n = Fault bad_literal (1 + place)
+literal kind true None n = Whole kind (2 + n)
+literal kind false None n = Fault bad_literal 0
+
+-- a text, by what stands behind its opening quote and how much of it before the closing one
+abbrev pub text_of : List ℕ → Option ℕ → Piece
+text_of more None = Fault unclosed_literal 0
+text_of more (Some n) = literal Text true (bad_escape 0 (take n more)) n
+
+abbrev pub character_of : List ℕ → Option ℕ → Piece
+character_of more None = Fault unclosed_literal 0
+character_of more (Some n) = literal Character (is_one (take n more)) (bad_escape 0 (take n more)) n
+
+-- a number of these digits
+abbrev pub number : List ℕ → Piece
+number digits = if is_some (number_of digits) then Whole Number (length digits) else Fault great_number 0
+
+abbrev pub operator : Option (TokenKind × ℕ) → Piece
+operator None = Fault begins_nothing 0
+operator (Some found) = Whole found.0 found.1
+
+-- the longest word with which the text begins
+abbrev pub front_word : List ℕ → List ℕ
+front_word text = encode_utf8_all (take (prefix_len continues_identifier (chars text)) (chars text))
+
+abbrev pub begins_word : List ℕ → Bool
+begins_word [] = false
+begins_word (c ∷ cs) = begins_identifier c
+
+abbrev pub word : List ℕ → Piece
+word spelling = Whole (word_kind spelling) (length spelling)
+
+abbrev pub word_or_operator : Bool → List ℕ → Piece
+word_or_operator b text = elim b [ true ↦ word (front_word text) | false ↦ operator (longest_operator text) ]
+
+-- what stands at the front of a text that has some byte
+unfoldable pub piece : List ℕ → Piece
+piece [] = Fault begins_nothing 0
+piece (b ∷ more) = elim (start b) [
+  | space ↦ Blank 1
+  | line_feed ↦ Whole LineEnd 1
+  | return_sign ↦ blank_before (line_end (b ∷ more)) 1
+  | backslash ↦ blank_with (line_end more)
+  | hash ↦ Blank (1 + prefix_len (λ c. not (c == 10)) more)
+  | slash ↦ elim (bytes_eq (take 2 more) (codes "**")) [
+    | true ↦ commented (comment_end (drop 2 more))
+    | false ↦ operator (longest_operator (b ∷ more))
+  ]
+  | quote ↦ text_of more (closing 34 more)
+  | apostrophe ↦ character_of more (closing 39 more)
+  | digit ↦ number (take (prefix_len is_ascii_digit (b ∷ more)) (b ∷ more))
+  | other ↦ word_or_operator (begins_word (chars (b ∷ more))) (b ∷ more)
+]
