@@ -41,6 +41,11 @@ pub enum NumFault {
 }
 
 impl fmt::Display for NumFault {
+    ghost use Rattle.std.specs.Prelude.{Some};
+    ghost use Rattle.ev_num.specs.Problems.{problem};
+
+    ghost output = { λ fault. Some (problem fault) };
+
     fn fmt<W: fmt::Write>(&self, f: &mut fmt::Formatter<W>) -> fmt::Result {
         match self {
             NumFault::Overflow => write!(f, "integer overflow"),
