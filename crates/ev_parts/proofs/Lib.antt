@@ -1,0 +1,3 @@
+pub mod WalkLoop
+pub mod Agree
+pub mod WholeLemmas
