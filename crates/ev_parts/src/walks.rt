@@ -1,9 +1,9 @@
 //! Descriptions and operations, item by item.
 
-ghost use Rattle.std.specs.Prelude.{◌≡◌, ◌≢◌, ◌↔◌, ◌++◌, ℕ, List, [], length, Some, None, IfOk};
+ghost use Rattle.std.specs.Prelude.{◌≡◌, ◌≢◌, ◌≤◌, ◌↔◌, ◌++◌, ℕ, List, [], length, Some, None, IfOk};
 ghost use Rattle.ev_op.specs.Frames.{Operation, IsOp, spelling};
 ghost use Rattle.ev_parts.specs.Items.{Walks, walk_leaf, walk_list, walk_members, walk_desc, walk_free, walk_member, walk_named, is_target, is_subject, walk_swiss, walk_vat, walk_outcome, walk_deliver, walk_resolve, walk_provide, walk_accept, walk_op, items_of};
-ghost use Rattle.ev_parts.specs.Whole.{IsWhole};
+ghost use Rattle.ev_parts.specs.Whole.{IsWhole, AreInOrder, place_of};
 
 use crate::spots::{Part, Parts, Spot};
 use crate::walking::{
@@ -284,6 +284,8 @@ pub fn parts(alloc: Global, bytes: &[u8]) -> Result<Parts, Memory>
     // Where an operation begins the bytes and others follow it, the stop is behind it.
     ensures behind { (op : Operation) (rest : List ℕ) → IsOp op → bytes.now ≡ spelling op ++ rest → rest ≢ []
         → IfOk result (λ parts. parts.stop ≡ Some (length (spelling op))) }
+    // The offsets of the items go up, and lie before the stop, or before the end where there is none.
+    ensures order { IfOk result (λ parts. AreInOrder parts.spots (place_of parts (length bytes.now)) × (place_of parts (length bytes.now) ≤ length bytes.now)) }
 {
     items(alloc, bytes)
 }
