@@ -22,6 +22,11 @@ pub enum DrawFault {
 }
 
 impl fmt::Display for DrawFault {
+    ghost use Rattle.std.specs.Prelude.{Some};
+    ghost use Rattle.ev_intro.specs.Message.{fault_text};
+
+    ghost output = { λ fault. Some (fault_text fault) };
+
     fn fmt<W: fmt::Write>(&self, f: &mut fmt::Formatter<W>) -> fmt::Result {
         match *self {
             DrawFault::WordRepeated(first, second) => {

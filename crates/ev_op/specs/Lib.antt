@@ -4,4 +4,3 @@ pub mod Views
 pub mod Reading
 pub mod DigitsView
 pub mod Decoded
-pub mod Items

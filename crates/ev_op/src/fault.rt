@@ -7,7 +7,7 @@ use std::alloc::{AllocError, AllocFailed};
 
 /// Want of memory, or nothing allowed at this place.
 #[derive(Clone, Copy, Debug, PartialEq, Eq)]
-pub(crate) enum ReadError {
+pub enum ReadError {
     Memory,
     Refused,
 }

@@ -1,13 +1,14 @@
 //! The kinds of description, by the first byte.
 
-ghost use Rattle.std.specs.Prelude.{◌≡◌};
-ghost use Rattle.ev_op.specs.Reading.{Gives, kind_at};
+ghost use Rattle.std.specs.Prelude.{◌≡◌, IfErr};
+ghost use Rattle.ev_op.specs.declared.fault.ReadError.TheVariants.{Refused};
+ghost use Rattle.ev_op.specs.Reading.{Gives, kind_at, is_list};
 
 use crate::fault::ReadError;
 
 /// What the first byte of a description tells. Each stands at its code.
 #[derive(Clone, Copy, Debug, PartialEq, Eq)]
-pub(crate) enum Kind {
+pub enum Kind {
     Null,
     False,
     True,
@@ -26,8 +27,9 @@ pub(crate) enum Kind {
 }
 
 /// The kind at the front, and the bytes behind it.
-pub(crate) fn kind_of(bytes: &[u8]) -> Result<(Kind, &[u8]), ReadError>
-    ensures { Gives (λ x. (x.0, x.1.now)) result (kind_at bytes.now) }
+pub fn kind_of(bytes: &[u8]) -> Result<(Kind, &[u8]), ReadError>
+    ensures exact { Gives (λ x. (x.0, x.1.now)) result (kind_at bytes.now) }
+    ensures refused { IfErr result (λ e. e ≡ Refused) }
 {
     let Some((code, rest)) = bytes.split_first() else {
         return Err(ReadError::Refused);
@@ -51,4 +53,14 @@ pub(crate) fn kind_of(bytes: &[u8]) -> Result<(Kind, &[u8]), ReadError>
         _ => return Err(ReadError::Refused),
     };
     Ok((kind, rest))
+}
+
+/// Whether it is a list's.
+pub fn is_list(kind: Kind) -> bool
+    ensures { result ≡ is_list kind }
+{
+    match kind {
+        Kind::List => true,
+        _ => false,
+    }
 }

@@ -2,20 +2,17 @@
 #![tactic(auto)]
 
 pub mod codec;
-mod fault;
-mod kind;
-mod numbers;
+pub mod fault;
+pub mod kind;
+pub mod limits;
+pub mod numbers;
 pub mod op;
 mod reading;
-pub mod spots;
-mod walking;
-mod walks;
+pub mod text;
 mod writing;
 
 pub use codec::{decode, encode, one_spelling};
 pub use op::{Desc, Op, Plain, Resolved};
-pub use spots::{Part, Parts, Spot};
-pub use walks::parts;
 
 #[cfg(test)]
 mod tests;

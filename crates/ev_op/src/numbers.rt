@@ -1,6 +1,7 @@
 //! Numbers at the front of the bytes.
 
-ghost use Rattle.std.specs.Prelude.{◌≡◌, ◌<◌, ◌≤◌, ◌^◌, IfOk};
+ghost use Rattle.std.specs.Prelude.{◌≡◌, ◌<◌, ◌≤◌, ◌^◌, IfOk, IfErr};
+ghost use Rattle.ev_op.specs.declared.fault.ReadError.TheVariants.{Refused};
 ghost use Rattle.ev_op.specs.Numbers.{bound, byte_bound, digit, is_primitive};
 ghost use Rattle.ev_op.specs.Reading.{Gives, digits_at, last_digit, lower_digit, unsigned_at, signed_at, low_first_at, swiss_at, vat_at, primitive_at, few_at, character_at};
 ghost use Rattle.ev_op.specs.DigitsView.{digits_view};
@@ -45,6 +46,7 @@ fn last_digit_of(last: u8, byte: u8, rest: &[u8]) -> Digits<'_>
 fn digits_of(last: u8, places: u32, bytes: &[u8]) -> Result<Digits<'_>, ReadError>
     requires { bound places ≤ 2 ^ 127 }
     ensures exact { Gives digits_view result (digits_at last places bytes.now) }
+    ensures refused { IfErr result (λ e. e ≡ Refused) }
     ensures below { IfOk result (λ d. d.number < bound places) }
 {
     let Some((first, rest)) = bytes.split_first() else {
@@ -74,16 +76,18 @@ fn digits_of(last: u8, places: u32, bytes: &[u8]) -> Result<Digits<'_>, ReadErro
 }
 
 /// A number below 2 ^ 64.
-pub(crate) fn unsigned_of(bytes: &[u8]) -> Result<(u64, &[u8]), ReadError>
-    ensures { Gives (λ x. (x.0, x.1.now)) result (unsigned_at bytes.now) }
+pub fn unsigned_of(bytes: &[u8]) -> Result<(u64, &[u8]), ReadError>
+    ensures exact { Gives (λ x. (x.0, x.1.now)) result (unsigned_at bytes.now) }
+    ensures refused { IfErr result (λ e. e ≡ Refused) }
 {
     let digits = digits_of(128, 9, bytes)?;
     Ok((digits.number as u64, digits.rest))
 }
 
 /// A number of 128 bits with a sign.
-pub(crate) fn signed_of(bytes: &[u8]) -> Result<(i128, &[u8]), ReadError>
-    ensures { Gives (λ x. (x.0, x.1.now)) result (signed_at bytes.now) }
+pub fn signed_of(bytes: &[u8]) -> Result<(i128, &[u8]), ReadError>
+    ensures exact { Gives (λ x. (x.0, x.1.now)) result (signed_at bytes.now) }
+    ensures refused { IfErr result (λ e. e ≡ Refused) }
 {
     let digits = digits_of(64, 18, bytes)?;
     let number = digits.number as i128;
@@ -99,6 +103,7 @@ pub(crate) fn signed_of(bytes: &[u8]) -> Result<(i128, &[u8]), ReadError>
 fn low_first_of(places: u32, bytes: &[u8]) -> Result<(u128, &[u8]), ReadError>
     requires { byte_bound places ≤ 2 ^ 128 }
     ensures exact { Gives (λ x. (x.0, x.1.now)) result (low_first_at places bytes.now) }
+    ensures refused { IfErr result (λ e. e ≡ Refused) }
     ensures below { IfOk result (λ x. x.0 < byte_bound places) }
 {
     if places == 0 {
@@ -112,15 +117,17 @@ fn low_first_of(places: u32, bytes: &[u8]) -> Result<(u128, &[u8]), ReadError>
 }
 
 /// A drawn number, in 16 bytes.
-pub(crate) fn swiss_of(bytes: &[u8]) -> Result<(u128, &[u8]), ReadError>
-    ensures { Gives (λ x. (x.0, x.1.now)) result (swiss_at bytes.now) }
+pub fn swiss_of(bytes: &[u8]) -> Result<(u128, &[u8]), ReadError>
+    ensures exact { Gives (λ x. (x.0, x.1.now)) result (swiss_at bytes.now) }
+    ensures refused { IfErr result (λ e. e ≡ Refused) }
 {
     low_first_of(16, bytes)
 }
 
 /// The place of a vat.
-pub(crate) fn vat_of(bytes: &[u8]) -> Result<(u8, &[u8]), ReadError>
-    ensures { Gives (λ x. (x.0, x.1.now)) result (vat_at bytes.now) }
+pub fn vat_of(bytes: &[u8]) -> Result<(u8, &[u8]), ReadError>
+    ensures exact { Gives (λ x. (x.0, x.1.now)) result (vat_at bytes.now) }
+    ensures refused { IfErr result (λ e. e ≡ Refused) }
 {
     match bytes.split_first() {
         Some((vat, rest)) if *vat < 16 => Ok((*vat, rest)),
@@ -129,8 +136,9 @@ pub(crate) fn vat_of(bytes: &[u8]) -> Result<(u8, &[u8]), ReadError>
 }
 
 /// The number of a primitive.
-pub(crate) fn primitive_of(bytes: &[u8]) -> Result<(u8, &[u8]), ReadError>
-    ensures { Gives (λ x. (x.0, x.1.now)) result (primitive_at bytes.now) }
+pub fn primitive_of(bytes: &[u8]) -> Result<(u8, &[u8]), ReadError>
+    ensures exact { Gives (λ x. (x.0, x.1.now)) result (primitive_at bytes.now) }
+    ensures refused { IfErr result (λ e. e ≡ Refused) }
 {
     match bytes.split_first() {
         Some((number, rest)) if is_primitive(*number) => Ok((*number, rest)),
@@ -146,8 +154,9 @@ fn is_primitive(number: u8) -> bool
 }
 
 /// A count of at most 255.
-pub(crate) fn few_of(bytes: &[u8]) -> Result<(u64, &[u8]), ReadError>
-    ensures { Gives (λ x. (x.0, x.1.now)) result (few_at bytes.now) }
+pub fn few_of(bytes: &[u8]) -> Result<(u64, &[u8]), ReadError>
+    ensures exact { Gives (λ x. (x.0, x.1.now)) result (few_at bytes.now) }
+    ensures refused { IfErr result (λ e. e ≡ Refused) }
 {
     let (count, rest) = unsigned_of(bytes)?;
     if count > 255 {
@@ -158,8 +167,9 @@ pub(crate) fn few_of(bytes: &[u8]) -> Result<(u64, &[u8]), ReadError>
 
 /// A character, by its number.
 #[tactic(auto, unfolding(crate::specs::Reading::character_at))]
-pub(crate) fn character_of(bytes: &[u8]) -> Result<(char, &[u8]), ReadError>
-    ensures { Gives (λ x. (x.0, x.1.now)) result (character_at bytes.now) }
+pub fn character_of(bytes: &[u8]) -> Result<(char, &[u8]), ReadError>
+    ensures exact { Gives (λ x. (x.0, x.1.now)) result (character_at bytes.now) }
+    ensures refused { IfErr result (λ e. e ≡ Refused) }
 {
     let (number, rest) = unsigned_of(bytes)?;
     let Ok(number) = u32::try_from(number) else {

@@ -2,49 +2,26 @@
 
 ghost use Rattle.std.specs.Prelude.{◌≡◌, ◌≤◌, ◌<◌, None, length, map, string_bytes, IfOk};
 ghost use Rattle.ev_op.specs.Views.{described, all_described, outcome, operation};
-ghost use Rattle.ev_op.specs.Reading.{Gives, text_at, leaf_at, is_list, desc_at, list_at, members_at, member_at, free_at, free_room, target_at, subject_at, outcome_at, deliver_at, resolve_at, provide_at, accept_at, shorten_at, op_at};
+ghost use Rattle.ev_op.specs.Reading.{Gives, text_at, leaf_at, desc_at, list_at, members_at, member_at, free_at, target_at, subject_at, outcome_at, deliver_at, resolve_at, provide_at, accept_at, shorten_at, op_at};
 
 use crate::fault::ReadError;
-use crate::kind::{Kind, kind_of};
+use crate::kind::{Kind, is_list, kind_of};
+use crate::limits::{HEIGHT, free_room};
 use crate::numbers::{
     character_of, few_of, primitive_of, signed_of, swiss_of, unsigned_of, vat_of,
 };
 use crate::op::{Desc, Op, Plain, Resolved};
+use crate::text::text_of;
 use ev_base::{PrimId, Seq, Str, VatId};
 use std::alloc::Global;
-use std::str;
 
-/// The greatest weight of a list.
-const WEIGHT: usize = 65536;
-
-/// How many lists may stand in each other.
-pub(crate) const HEIGHT: u32 = 100;
-
-/// A text of at most so many bytes.
-#[tactic(auto, using(crate::proofs::Texts::not_utf8, crate::proofs::Texts::is_text), unfolding(crate::specs::Reading::text_at))]
-fn text_of(alloc: Global, room: usize, bytes: &[u8]) -> Result<(String, &[u8]), ReadError>
+/// A text of at most so many bytes, in memory of its own.
+fn own_text_of(alloc: Global, room: usize, bytes: &[u8]) -> Result<(String, &[u8]), ReadError>
     ensures exact { Gives (λ x. (string_bytes x.0, x.1.now)) result (text_at room bytes.now) }
     ensures within { IfOk result (λ x. length (string_bytes x.0) ≤ room) }
 {
-    let (count, rest) = unsigned_of(bytes)?;
-    let count = count as usize;
-    if rest.len() < count || room < count {
-        return Err(ReadError::Refused);
-    }
-    let (text, rest) = rest.split_at(count);
-    match str::from_utf8(text) {
-        Ok(text) => Ok((String::from_str(alloc, text)?, rest)),
-        Err(_) => Err(ReadError::Refused),
-    }
-}
-
-pub(crate) fn is_list(kind: Kind) -> bool
-    ensures { result ≡ is_list kind }
-{
-    match kind {
-        Kind::List => true,
-        _ => false,
-    }
+    let (text, rest) = text_of(room, bytes)?;
+    Ok((String::from_str(alloc, text)?, rest))
 }
 
 /// What is no list, behind its first byte.
@@ -70,7 +47,7 @@ fn leaf_of(
             Ok((Desc::Plain(Plain::Char(character)), room, rest))
         }
         Kind::Text => {
-            let (text, rest) = text_of(alloc, room, bytes)?;
+            let (text, rest) = own_text_of(alloc, room, bytes)?;
             let left = room - text.len();
             Ok((Desc::Plain(Plain::Text(Str::of(text))), left, rest))
         }
@@ -80,7 +57,7 @@ fn leaf_of(
             Ok((Desc::Plain(Plain::Prim(PrimId(primitive))), room, rest))
         }
         Kind::Broken => {
-            let (problem, rest) = text_of(alloc, room, bytes)?;
+            let (problem, rest) = own_text_of(alloc, room, bytes)?;
             let left = room - problem.len();
             Ok((Desc::Broken(Str::of(problem)), left, rest))
         }
@@ -203,17 +180,6 @@ fn free_of(alloc: Global, room: usize, bytes: &[u8]) -> Result<(Desc, usize, &[u
     Ok((desc, room, rest))
 }
 
-/// The weight that a description round which no list stands may have.
-pub(crate) fn free_room(bytes: &[u8]) -> usize
-    ensures { result ≡ free_room bytes.now }
-{
-    match bytes.first() {
-        None => 0,
-        Some(6) => WEIGHT,
-        Some(_) => bytes.len(),
-    }
-}
-
 /// What an operation is about: an object or promise of the receiver.
 #[tactic(auto, unfolding(crate::specs::Reading::target_at, crate::specs::Reading::target_behind))]
 fn target_of(bytes: &[u8]) -> Result<(Desc, &[u8]), ReadError>
@@ -274,7 +240,7 @@ fn deliver_of(alloc: Global, bytes: &[u8]) -> Result<(Op, &[u8]), ReadError>
 {
     let (question, rest) = unsigned_of(bytes)?;
     let (target, rest) = target_of(rest)?;
-    let (verb, rest) = text_of(alloc, rest.len(), rest)?;
+    let (verb, rest) = own_text_of(alloc, rest.len(), rest)?;
     let (count, rest) = few_of(rest)?;
     let (args, _, rest) = members_of(alloc, None, count, 0, rest)?;
     let op = Op::Deliver {

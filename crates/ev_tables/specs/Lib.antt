@@ -1,3 +1,4 @@
 pub mod Thing
 pub mod SameLaws
 pub mod Table
+pub mod Message

@@ -17,6 +17,11 @@ pub enum TableFault {
 }
 
 impl fmt::Display for TableFault {
+    ghost use Rattle.std.specs.Prelude.{Some};
+    ghost use Rattle.ev_tables.specs.Message.{fault_text};
+
+    ghost output = { λ fault. Some (fault_text fault) };
+
     fn fmt<W: fmt::Write>(&self, f: &mut fmt::Formatter<W>) -> fmt::Result {
         match *self {
             TableFault::Closed => write!(f, "the connection is closed"),

@@ -1,7 +1,7 @@
 use Rattle.std.proofs.Common.{◌≡◌, ◌+◌, ◌-◌, ◌*◌}
-use Rattle.ev_op.specs.Items.{walk_members, walk_member}
-use Rattle.ev_op.proofs.Loop.{depth_of}
-use Rattle.ev_op.proofs.walks.+walks.Given as goal
+use Rattle.ev_parts.specs.Items.{walk_members, walk_member}
+use Rattle.ev_parts.proofs.WalkLoop.{depth_of}
+use Rattle.ev_parts.proofs.walks.+walks.Given as goal
 
 abbrev pub decreases-desc : goal.decreases-desc
 decreases-desc l = 5 * l.height

@@ -2,14 +2,14 @@
 use Rattle.std.specs.Prelude.{◌≡◌, ℕ, zero, suc, ◌-◌, Bool, true, false, not, nat_lt, ◌&&◌, ◌||◌, ◌==◌, if◌then◌else◌, List, [], ◌∷◌, ◌++◌, length, Option, Some, None, Result, Ok, Err}
 use Rattle.ev_op.specs.declared.kind.Kind.{Kind}
 use Rattle.ev_op.specs.declared.kind.Kind.TheVariants as kind
-use Rattle.ev_op.specs.declared.spots.Part.{Part}
-use Rattle.ev_op.specs.declared.spots.Part.TheVariants.{Code, Number, Vat, Swiss, Other}
-use Rattle.ev_op.specs.declared.spots.Spot.{Spot}
-use Rattle.ev_op.specs.declared.spots.Parts.{Parts}
+use Rattle.ev_parts.specs.declared.spots.Part.{Part}
+use Rattle.ev_parts.specs.declared.spots.Part.TheVariants.{Code, Number, Vat, Swiss, Other}
+use Rattle.ev_parts.specs.declared.spots.Spot.{Spot}
+use Rattle.ev_parts.specs.declared.spots.Parts.{Parts}
 use Rattle.ev_op.specs.declared.fault.ReadError.{ReadError}
 use Rattle.ev_op.specs.declared.fault.ReadError.TheVariants as reading
-use Rattle.ev_op.specs.declared.walking.WalkError.{WalkError}
-use Rattle.ev_op.specs.declared.walking.WalkError.TheVariants as errors
+use Rattle.ev_parts.specs.declared.walking.WalkError.{WalkError}
+use Rattle.ev_parts.specs.declared.walking.WalkError.TheVariants as errors
 use Rattle.ev_op.specs.Reading.{◌>>=◌, unsigned_at, signed_at, swiss_at, vat_at, primitive_at, character_at, few_at, text_at, byte_where, kind_at, is_list, free_room}
 
 -- the items so far with what goes on from there, or the items before the first that is not allowed, with its place

@@ -1,20 +1,19 @@
 //! The items of a frame, from left to right.
 
 ghost use Rattle.std.specs.Prelude.{◌≡◌, ◌-◌, ◌++◌, ◌∷◌, [], length, OnOk, IfErr};
-ghost use Rattle.ev_op.specs.declared.spots.Part.TheVariants.{Code, Number, Vat, Swiss, Other};
-ghost use Rattle.ev_op.specs.declared.walking.WalkError.TheVariants.{Memory};
-ghost use Rattle.ev_op.specs.Reading.{Gives, byte_where, unsigned_at, signed_at, swiss_at, vat_at, primitive_at, character_at, few_at, is_list, free_room};
-ghost use Rattle.ev_op.specs.Items.{Walks, item, code, stopped, text_len_at, opening_at, kind_where, is_target, is_subject, is_op};
+ghost use Rattle.ev_parts.specs.declared.spots.Part.TheVariants.{Code, Number, Vat, Swiss, Other};
+ghost use Rattle.ev_parts.specs.declared.walking.WalkError.TheVariants.{Memory};
+ghost use Rattle.ev_op.specs.Reading.{Gives, byte_where, unsigned_at, signed_at, swiss_at, vat_at, primitive_at, character_at, few_at};
+ghost use Rattle.ev_parts.specs.Items.{Walks, item, code, stopped, text_len_at, opening_at, kind_where, is_target, is_subject, is_op};
 
-use crate::fault::ReadError;
-use crate::kind::{Kind, kind_of};
-use crate::numbers::{
+use crate::spots::{Part, Spot};
+use ev_op::fault::ReadError;
+use ev_op::kind::{Kind, is_list, kind_of};
+use ev_op::numbers::{
     character_of, few_of, primitive_of, signed_of, swiss_of, unsigned_of, vat_of,
 };
-use crate::reading::is_list;
-use crate::spots::{Part, Spot};
+use ev_op::text::text_of;
 use std::alloc::{AllocError, AllocFailed};
-use std::str;
 
 /// Want of memory, or the place of the first item that is not allowed.
 #[derive(Clone, Copy, Debug, PartialEq, Eq)]
@@ -271,20 +270,11 @@ fn code(kind: Kind) -> u8
 }
 
 /// How many bytes a text of at most so many has.
-#[tactic(auto, using(crate::proofs::Texts::not_utf8, crate::proofs::Texts::is_text), unfolding(crate::specs::Reading::text_at))]
 fn text_len_of(room: usize, bytes: &[u8]) -> Result<(usize, &[u8]), ReadError>
     ensures { Gives (λ x. (x.0, x.1.now)) result (text_len_at room bytes.now) }
 {
-    let (count, rest) = unsigned_of(bytes)?;
-    let count = count as usize;
-    if rest.len() < count || room < count {
-        return Err(ReadError::Refused);
-    }
-    let (text, rest) = rest.split_at(count);
-    match str::from_utf8(text) {
-        Ok(_) => Ok((text.len(), rest)),
-        Err(_) => Err(ReadError::Refused),
-    }
+    let (text, rest) = text_of(room, bytes)?;
+    Ok((text.len(), rest))
 }
 
 /// The first byte of a description, where so many lists may stand in each other.

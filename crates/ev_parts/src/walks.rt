@@ -1,16 +1,18 @@
 //! Descriptions and operations, item by item.
 
-ghost use Rattle.std.specs.Prelude.{◌≡◌, [], length, IfOk};
-ghost use Rattle.ev_op.specs.Items.{Walks, walk_leaf, walk_list, walk_members, walk_desc, walk_free, walk_member, walk_named, is_target, is_subject, walk_swiss, walk_vat, walk_outcome, walk_deliver, walk_resolve, walk_provide, walk_accept, walk_op, items_of};
+ghost use Rattle.std.specs.Prelude.{◌≡◌, ◌≢◌, ◌≤◌, ◌↔◌, ◌++◌, ℕ, List, [], length, Some, None, IfOk};
+ghost use Rattle.ev_op.specs.Frames.{Operation, IsOp, spelling};
+ghost use Rattle.ev_parts.specs.Items.{Walks, walk_leaf, walk_list, walk_members, walk_desc, walk_free, walk_member, walk_named, is_target, is_subject, walk_swiss, walk_vat, walk_outcome, walk_deliver, walk_resolve, walk_provide, walk_accept, walk_op, items_of};
+ghost use Rattle.ev_parts.specs.Whole.{IsWhole, AreInOrder, place_of};
 
-use crate::kind::Kind;
-use crate::reading::{HEIGHT, free_room, is_list};
 use crate::spots::{Part, Parts, Spot};
 use crate::walking::{
     WalkError, note, walk_character, walk_code, walk_few, walk_integer, walk_number, walk_opening,
     walk_primitive, walk_subject, walk_swiss, walk_target, walk_text, walk_vat,
 };
 use ev_base::{Memory, Seq};
+use ev_op::kind::{Kind, is_list};
+use ev_op::limits::{HEIGHT, free_room};
 use std::alloc::Global;
 
 /// What stands behind the first byte of a description that is no list.
@@ -274,7 +276,21 @@ fn operation<'a>(
 
 /// The items of the bytes that are allowed, from left to right, and the offset of the first that is not: the end cuts
 /// it short, its kind is not allowed there, it passes the limits of a list round it, or the operation is over before it.
+/// It takes no more time and memory than the bytes ask for, whatever counts stand in them.
 pub fn parts(alloc: Global, bytes: &[u8]) -> Result<Parts, Memory>
+    ensures items { IfOk result (λ parts. parts ≡ items_of bytes.now) }
+    // There is no stop exactly where the bytes are the whole spelling of an operation.
+    ensures whole { IfOk result (λ parts. (parts.stop ≡ None) ↔ IsWhole bytes.now) }
+    // Where an operation begins the bytes and others follow it, the stop is behind it.
+    ensures behind { (op : Operation) (rest : List ℕ) → IsOp op → bytes.now ≡ spelling op ++ rest → rest ≢ []
+        → IfOk result (λ parts. parts.stop ≡ Some (length (spelling op))) }
+    // The offsets of the items go up, and lie before the stop, or before the end where there is none.
+    ensures order { IfOk result (λ parts. AreInOrder parts.spots (place_of parts (length bytes.now)) × (place_of parts (length bytes.now) ≤ length bytes.now)) }
+{
+    items(alloc, bytes)
+}
+
+fn items(alloc: Global, bytes: &[u8]) -> Result<Parts, Memory>
     ensures { IfOk result (λ parts. parts ≡ items_of bytes.now) }
 {
     let mut spots = Vec::new(alloc);

@@ -1,9 +1,9 @@
 -- Walking over descriptions one after the other, as a loop does.
-use Rattle.std.proofs.Common.{◌≡◌, ℕ, suc, ◌-◌, ◌+◌, ◌≤◌, ◌<◌, List, refl, sym, ◌∙◌, arith}
-use Rattle.ev_op.specs.declared.spots.Spot.{Spot}
-use Rattle.ev_op.specs.declared.walking.WalkError.{WalkError}
-use Rattle.ev_op.specs.declared.walking.WalkError.TheVariants as errors
-use Rattle.ev_op.specs.Items.{Walk, On, Off, Stops, Left, left, walk_members}
+use Rattle.std.proofs.Common.{◌≡◌, ℕ, suc, ◌-◌, ◌+◌, ◌≤◌, ◌<◌, List, Option, Some, None, refl, sym, ◌∙◌, arith}
+use Rattle.ev_parts.specs.declared.spots.Spot.{Spot}
+use Rattle.ev_parts.specs.declared.walking.WalkError.{WalkError}
+use Rattle.ev_parts.specs.declared.walking.WalkError.TheVariants as errors
+use Rattle.ev_parts.specs.Items.{Walk, On, Off, Stops, Left, left, walk_members}
 
 module _ (one : ℕ → List Spot → List ℕ → Walk Left) where
   pub goes_on : (count i room : ℕ) (spots after : List Spot) (bytes : List ℕ) (x : Left) (total : Walk Left) → i < count → one room spots bytes ≡ On after x
@@ -29,3 +29,8 @@ module _ (one : ℕ → List Spot → List ℕ → Walk Left) where
       let k : count - i ≡ 0 = omega arith in
       let step : walk_members one (count - i) room spots bytes ≡ On spots (left room bytes) = rw k refl in
       sym so_far ∙ step
+
+-- how many lists may stand in each other, by one more than a list's own where nothing stands round it
+abbrev pub depth_of : Option ℕ → ℕ
+depth_of None = 101
+depth_of (Some height) = height

@@ -1,7 +1,7 @@
 use Rattle.std.proofs.lemmas.Result.{err_from_is_err_and}
-use Rattle.ev_op.specs.Items.{left, walk_members, walk_member}
-use Rattle.ev_op.proofs.WalkLoop.{goes_on, ends, is_done}
-use Rattle.ev_op.proofs.walks.+walks.Goals as goal
+use Rattle.ev_parts.specs.Items.{left, walk_members, walk_member}
+use Rattle.ev_parts.proofs.WalkLoop.{goes_on, ends, is_done}
+use Rattle.ev_parts.proofs.walks.+walks.Goals as goal
 
 pub members-returns-in_err-room : goal.members-returns-in_err-room
 members-returns-in_err-room t c =
