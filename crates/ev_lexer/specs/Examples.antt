@@ -1,11 +1,16 @@
 -- Small texts and their tokens.
 use Rattle.std.specs.Prelude.{◌≡◌, ℕ, List, [], ◌∷◌, ◌++◌, codes, Ok, Err}
+use Rattle.std.specs.Char.{encode_utf8}
 use Rattle.std.specs.Str.{chars}
 use Rattle.ev_token.specs.declared.token.Token.{Token}
-use Rattle.ev_token.specs.declared.token.TokenKind.TheVariants.{LineEnd, Number, Text, Character, Identifier, Ignore, If, AsBigAs, AtMost, Minus, Not, Arrow, Send, Through, Till, Dot, FloorDivide, Pow, MultiplyAssign, OpenParen, CloseParen, CloseBracket, OpenBrace}
+use Rattle.ev_token.specs.declared.token.TokenKind.TheVariants.{LineEnd, Number, Text, Character, Identifier, Ignore, If, Assign, AsBigAs, AtMost, Minus, Not, Arrow, Send, Through, Till, Dot, FloorDivide, Pow, MultiplyAssign, OpenParen, CloseParen, CloseBracket, OpenBrace}
 use Rattle.ev_lexer.specs.Pieces.{comment_end, closing, bad_escape, piece}
 use Rattle.ev_lexer.specs.LineEnds.{kept}
 use Rattle.ev_lexer.specs.Lexed.{lexed, split, token}
+use Rattle.ucd_table.specs.Rows.{in_ranges}
+use Rattle.ucd_derived.specs.Binary.{is_xid_start, is_xid_continue}
+use Rattle.ucd_derived.specs.XidStartRanges.{xid_start_ranges}
+use Rattle.ucd_derived.specs.XidContinueRanges.{xid_continue_ranges}
 
 -- a line feed, a carriage return, a backslash, a quote
 abbrev lf : List ℕ
@@ -75,6 +80,12 @@ Words =
     Gives (codes "if _ iff") (token If 0 2 ∷ token Ignore 3 4 ∷ token Identifier 5 8 ∷ [])
     × Gives (codes "__x") (token Identifier 0 3 ∷ [])
 
+-- words with characters outside ASCII: `été`, and a no-break space, which is none
+abbrev pub Accents : Type 0
+Accents =
+    Gives (195 ∷ 169 ∷ 116 ∷ 195 ∷ 169 ∷ codes " := 1") (token Identifier 0 5 ∷ token Assign 6 8 ∷ token Number 9 10 ∷ [])
+    × Fails (194 ∷ 160 ∷ []) 1 0
+
 abbrev pub Operators : Type 0
 Operators =
     Gives (codes "<=><=<-..!...") (token AsBigAs 0 3 ∷ token AtMost 3 5 ∷ token Send 5 7 ∷ token Till 7 10 ∷ token Through 10 12 ∷ token Dot 12 13 ∷ [])
@@ -92,3 +103,8 @@ LineEnds =
 unfoldable pub opened_lexer : Unit {0}
 unfolding chars comment_end closing bad_escape piece split kept
 opened_lexer = tt
+
+-- and the tables of the characters of identifiers
+unfoldable pub opened_characters : Unit {0}
+unfolding encode_utf8 is_xid_start is_xid_continue xid_start_ranges xid_continue_ranges in_ranges opened_lexer
+opened_characters = tt

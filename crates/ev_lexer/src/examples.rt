@@ -1,6 +1,6 @@
 //! Small texts, each with the tokens that the definition gives it.
 
-ghost use Rattle.ev_lexer.specs.Examples.{Broken, Comments, Greatest, LineEnds, Literals, Numbers, Operators, Stray, Words};
+ghost use Rattle.ev_lexer.specs.Examples.{Accents, Broken, Comments, Greatest, LineEnds, Literals, Numbers, Operators, Stray, Words};
 
 /// A character that begins no token is a fault of kind 1, at that character.
 #[tactic(auto, unfolding(crate::specs::Examples::opened_lexer))]
@@ -42,6 +42,11 @@ pub fn literals()
 #[tactic(auto, unfolding(crate::specs::Examples::opened_lexer))]
 pub fn words()
     ensures { Words }
+{}
+
+/// A word may have characters outside ASCII.
+pub fn accents()
+    ensures { Accents }
 {}
 
 /// The longest operator counts.
