@@ -1,0 +1,5 @@
+pub mod Json
+pub mod Head
+pub mod Vats
+pub mod Schedule
+pub mod Script
