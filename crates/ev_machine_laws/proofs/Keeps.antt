@@ -2,7 +2,7 @@
 use Rattle.std.proofs.Common.{ℕ, suc, ◌-◌, Bool, true, false, List, [], ◌∷◌, ◌++◌, Option, Some, None, if◌then◌else◌, length}
 use Rattle.std.specs.Prelude.{nat_le}
 use Rattle.ev_machine_laws.specs.Steps.{After}
-use Rattle.ev_machine.specs.Values.{Words, Value, Naming, Coming, Mailing, IsOwn}
+use Rattle.ev_machine.specs.Values.{Words, Value, Naming, Coming, Mailing, IsOwn, IsAnswer}
 use Rattle.ev_machine.specs.State.{Thing, Cell, Message, Happened, Vat, Stop, Done, Gives, Throws, Ejects, Stops, Act, ◌>>=◌, ◌>>◌, and_then, for_some, end_by, ending, each, give, throw, stop, eject, look, tell, spend, spent, new_activation, new_thing, kill, change, dead, new_slot, holding, write_slot, new_list, enqueue, Change, Note, Put, GiftEntry, send_out, new_gift, with_opened, open_gift, mark, draws, with_change, alter, come, mail, new_promise, new_message, draw, begun}
 
 pub record Keeps {N A : Type 0} (R : Vat N → Vat N → Type 0) (m : Act N A) : Type 0 where
@@ -33,7 +33,7 @@ pub record IsKeptUnder {N W : Type 0} (K : Naming N W) (R : Vat N → Vat N → 
   pub came : (s : Vat N) (c : Coming N W) (h : ℕ) → R s (record s { known = s.known ++ begun (K.made c (length s.known)) h ∷ [] })
   pub mailed : (s : Vat N) (c : Mailing W) → R s (record s { mails = s.mails ++ K.mailed c (length s.mails) ∷ [] })
   pub promised : (s : Vat N) → R s (record s { promises = suc s.promises; known = s.known ++ begun (K.made (IsOwn s.promises) (length s.known)) s.number ∷ [] })
-  pub messaged : (s : Vat N) (h : ℕ) (id a : N) → R s (record s { messages = suc s.messages; mails = s.mails ++ id ∷ []; known = s.known ++ begun a h ∷ [] })
+  pub messaged : (s : Vat N) (h : ℕ) (id : N) → R s (record s { messages = suc s.messages; mails = s.mails ++ id ∷ []; known = s.known ++ begun (K.made (IsAnswer h id) (length s.known)) h ∷ [] })
 
 module _ {N : Type 0} (R : Vat N → Vat N → Type 0) (law : IsKept R) where
   pub widen : {A : Type 0} {s t : Vat N} → R s t → (d : Done N A) → After R t d → After R s d
@@ -185,7 +185,7 @@ module _ {N W : Type 0} (K : Naming N W) (R : Vat N → Vat N → Type 0) (law :
 
   pub keeps_message : (h : ℕ) → Keeps R (new_message K h)
   unfolding new_message
-  keeps_message h = record { after = λ s. law.messaged s h _ _ }
+  keeps_message h = record { after = λ s. law.messaged s h _ }
 
 pub keeps_draw : {N W : Type 0} (K : Naming N W) (R : Vat N → Vat N → Type 0) (law : IsKept R) → Keeps R (draw K)
 unfolding draw

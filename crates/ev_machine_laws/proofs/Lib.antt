@@ -3,6 +3,10 @@ pub mod RefsKeeps
 pub mod ArriveKeeps
 pub mod EvalKeeps
 pub mod StepLaws
+pub mod BreakLaws
+pub mod NoticeKeeps
+pub mod NoticeLaws
+pub mod Restless
 pub mod Quiet
 pub mod RefsQuiet
 pub mod ArriveQuiet

@@ -54,7 +54,7 @@ fuel_names K = record {
   came = λ s c h. omega arith;
   mailed = λ s c. omega arith;
   promised = λ s. omega arith;
-  messaged = λ s h id a. omega arith;
+  messaged = λ s h id. omega arith;
 }
 
 pub fuel_stays : {N W : Type 0} (K : Naming N W) (step : Step N W) (s : Vat N) → After NoMoreFuel s (does K step s)
@@ -99,7 +99,7 @@ objects_names K = record {
   came = λ s c h. (λ i node caught stamps e. e);
   mailed = λ s c. (λ i node caught stamps e. e);
   promised = λ s. (λ i node caught stamps e. e);
-  messaged = λ s h id a. (λ i node caught stamps e. e);
+  messaged = λ s h id. (λ i node caught stamps e. e);
 }
 
 pub objects_stays : {N W : Type 0} (K : Naming N W) (step : Step N W) (s : Vat N) → After SameObjects s (does K step s)
@@ -144,7 +144,7 @@ resolvers_names K = record {
   came = λ s c h. (λ i p e. e);
   mailed = λ s c. (λ i p e. e);
   promised = λ s. (λ i p e. e);
-  messaged = λ s h id a. (λ i p e. e);
+  messaged = λ s h id. (λ i p e. e);
 }
 
 pub resolvers_stays : {N W : Type 0} (K : Naming N W) (step : Step N W) (s : Vat N) → After SameResolvers s (does K step s)
@@ -189,7 +189,7 @@ ejectors_names K = record {
   came = λ s c h. (λ i e. e);
   mailed = λ s c. (λ i e. e);
   promised = λ s. (λ i e. e);
-  messaged = λ s h id a. (λ i e. e);
+  messaged = λ s h id. (λ i e. e);
 }
 
 pub ejectors_stays : {N W : Type 0} (K : Naming N W) (step : Step N W) (s : Vat N) → After DeadEjectors s (does K step s)
@@ -234,7 +234,7 @@ auditions_names K = record {
   came = λ s c h. (λ i view e. e);
   mailed = λ s c. (λ i view e. e);
   promised = λ s. (λ i view e. e);
-  messaged = λ s h id a. (λ i view e. e);
+  messaged = λ s h id. (λ i view e. e);
 }
 
 pub auditions_stays : {N W : Type 0} (K : Naming N W) (step : Step N W) (s : Vat N) → After DeadAuditions s (does K step s)
@@ -268,7 +268,7 @@ lists_names K = record {
   came = λ s c h. (λ i x e. e);
   mailed = λ s c. (λ i x e. e);
   promised = λ s. (λ i x e. e);
-  messaged = λ s h id a. (λ i x e. e);
+  messaged = λ s h id. (λ i x e. e);
 }
 
 pub lists_stays : {N W : Type 0} (K : Naming N W) (step : Step N W) (s : Vat N) → After SameLists s (does K step s)
@@ -302,7 +302,7 @@ mails_names K = record {
   came = λ s c h. (λ i x e. e);
   mailed = λ s c. (λ i x e. get_append s.mails _ i x e);
   promised = λ s. (λ i x e. e);
-  messaged = λ s h id a. (λ i x e. get_append s.mails _ i x e);
+  messaged = λ s h id. (λ i x e. get_append s.mails _ i x e);
 }
 
 pub mails_stays : {N W : Type 0} (K : Naming N W) (step : Step N W) (s : Vat N) → After SameMails s (does K step s)
@@ -336,7 +336,7 @@ draws_names K = record {
   came = λ s c h. (λ i x e. e);
   mailed = λ s c. (λ i x e. e);
   promised = λ s. (λ i x e. e);
-  messaged = λ s h id a. (λ i x e. e);
+  messaged = λ s h id. (λ i x e. e);
 }
 
 pub draws_stays : {N W : Type 0} (K : Naming N W) (step : Step N W) (s : Vat N) → After SameDraws s (does K step s)
@@ -378,7 +378,7 @@ guards_names K = record {
   came = λ s c h. (λ i c e. (c, e, refl));
   mailed = λ s c. (λ i c e. (c, e, refl));
   promised = λ s. (λ i c e. (c, e, refl));
-  messaged = λ s h id a. (λ i c e. (c, e, refl));
+  messaged = λ s h id. (λ i c e. (c, e, refl));
 }
 
 pub guards_stays : {N W : Type 0} (K : Naming N W) (step : Step N W) (s : Vat N) → After SameGuards s (does K step s)
@@ -413,7 +413,7 @@ to_host (React m) k = refl
 to_host (ToTell w) k = refl
 to_host (Settle y) k = refl
 
-changed_head : {N : Type 0} (c : Change N) (k : Known N) → ((changed c k).name ≡ k.name) × ((changed c k).host ≡ k.host)
+pub changed_head : {N : Type 0} (c : Change N) (k : Known N) → ((changed c k).name ≡ k.name) × ((changed c k).host ≡ k.host)
 unfolding changed
 changed_head c k = same_head k.standing k (changed_to c k) (to_name c k) (to_host c k)
 
@@ -459,7 +459,7 @@ names_names K = record {
   came = λ s c h. (λ i k e. (k, get_append s.known _ i k e, refl, refl));
   mailed = λ s c. (λ i k e. (k, e, refl, refl));
   promised = λ s. (λ i k e. (k, get_append s.known _ i k e, refl, refl));
-  messaged = λ s h id a. (λ i k e. (k, get_append s.known _ i k e, refl, refl));
+  messaged = λ s h id. (λ i k e. (k, get_append s.known _ i k e, refl, refl));
 }
 
 pub names_stays : {N W : Type 0} (K : Naming N W) (step : Step N W) (s : Vat N) → After SameNames s (does K step s)
@@ -504,12 +504,12 @@ unfolding with_change
 entry_altered K c m n [] k y e h = e
 entry_altered K c m n (k0 ∷ ks) k y e h = entry_cons K (K.same k0.name m) c n k0 ks (with_change K c m ks) k y e h (λ r. entry_altered K c m n ks k y r h)
 
-entry_append : {N W : Type 0} (K : Naming N W) (n : N) (ks js : List (Known N)) (k : Known N) → entry_of K ks n ≡ Some k → entry_of K (ks ++ js) n ≡ Some k
+pub entry_append : {N W : Type 0} (K : Naming N W) (n : N) (ks js : List (Known N)) (k : Known N) → entry_of K ks n ≡ Some k → entry_of K (ks ++ js) n ≡ Some k
 unfolding refs.entry_of
 entry_append K n [] js k e = cc
 entry_append K n (k0 ∷ ks) js k e = pick_there (K.same k0.name n) k0 k (entry_of K ks n) (entry_of K (ks ++ js) n) e (λ r. entry_append K n ks js k r)
 
-settled_law : {N W : Type 0} (K : Naming N W) → IsKept {N = N} (SettledStays K)
+pub settled_law : {N W : Type 0} (K : Naming N W) → IsKept {N = N} (SettledStays K)
 settled_law K = record {
   same = λ s n k y e h. e;
   trans = λ h j n k y e i. j n k y (h n k y e i) i;
@@ -529,13 +529,13 @@ settled_law K = record {
   drawn = λ s w. (λ n k y e h. e);
 }
 
-settled_names : {N W : Type 0} (K : Naming N W) → IsKeptUnder K (SettledStays K)
+pub settled_names : {N W : Type 0} (K : Naming N W) → IsKeptUnder K (SettledStays K)
 settled_names K = record {
   altered = λ s c n. (λ m k y e h. entry_altered K c n m s.known k y e h);
   came = λ s c h. (λ n k y e i. entry_append K n s.known _ k e);
   mailed = λ s c. (λ n k y e h. e);
   promised = λ s. (λ n k y e h. entry_append K n s.known _ k e);
-  messaged = λ s h id a. (λ n k y e i. entry_append K n s.known _ k e);
+  messaged = λ s h id. (λ n k y e i. entry_append K n s.known _ k e);
 }
 
 pub settled_stays : {N W : Type 0} (K : Naming N W) (step : Step N W) (s : Vat N) → After (SettledStays K) s (does K step s)
@@ -544,10 +544,10 @@ settled_stays K = kept_by_steps K (SettledStays K) (settled_law K) (settled_name
 -- ---- broken references
 
 -- what settled, with its entry
-abbrev SettledEntry : {N : Type 0} → Option (Known N) → Value N → Type 0
+abbrev pub SettledEntry : {N : Type 0} → Option (Known N) → Value N → Type 0
 SettledEntry {N} o y = (k : Known N) × (o ≡ Some k) × (k.standing ≡ Settled y)
 
-settled_entry : {N : Type 0} (o : Option (Known N)) (y : Value N) → standing_in o ≡ Settled y → SettledEntry o y
+pub settled_entry : {N : Type 0} (o : Option (Known N)) (y : Value N) → standing_in o ≡ Settled y → SettledEntry o y
 unfolding standing_in
 settled_entry (Some k) y e = (k, refl, e)
 settled_entry None y e = absurd (elim_none e)
@@ -564,15 +564,15 @@ followed_at : {N W : Type 0} (K : Naming N W) (t : Vat N) (n : N) (p : Words) �
 unfolding follow follow_at refs.led refs.severed
 followed_at K t n p e = rw e (rw (follow_broken K (length t.known) t.known p) refl)
 
-standing_found : {N W : Type 0} (K : Naming N W) (ks : List (Known N)) (n : N) (k : Known N) (y : Value N) → entry_of K ks n ≡ Some k → k.standing ≡ Settled y → standing_of K ks n ≡ Settled y
+pub standing_found : {N W : Type 0} (K : Naming N W) (ks : List (Known N)) (n : N) (k : Known N) (y : Value N) → entry_of K ks n ≡ Some k → k.standing ≡ Settled y → standing_of K ks n ≡ Settled y
 unfolding standing_of standing_in
 standing_found K ks n k y e h = rw e h
 
-broken_from : {N W : Type 0} (K : Naming N W) (s t : Vat N) → SettledStays K s t → BrokenStays K s t
+pub broken_from : {N W : Type 0} (K : Naming N W) (s t : Vat N) → SettledStays K s t → BrokenStays K s t
 unfolding standing_of
 broken_from K s t h n p e = let found = settled_entry (entry_of K s.known n) (Broken p) e in followed_at K t n p (standing_found K t.known n found.0 (Broken p) (h n found.0 (Broken p) found.1 found.2) found.2)
 
-after_map : {N A : Type 0} (R Q : Vat N → Vat N → Type 0) (s : Vat N) (d : Done N A) → ((t : Vat N) → R s t → Q s t) → After R s d → After Q s d
+pub after_map : {N A : Type 0} (R Q : Vat N → Vat N → Type 0) (s : Vat N) (d : Done N A) → ((t : Vat N) → R s t → Q s t) → After R s d → After Q s d
 after_map R Q s (Gives a t) f h = f t h
 after_map R Q s (Throws p t) f h = f t h
 after_map R Q s (Ejects n v t) f h = f t h
@@ -587,12 +587,12 @@ noticed_either : (b : Bool) (w : ℕ) (xs ys : List ℕ) → elim b [ true ↦ t
 noticed_either true w xs ys e h = refl
 noticed_either false w xs ys e h = h e
 
-noticed_append : (w : ℕ) (xs ys : List ℕ) → is_in w xs ≡ true → is_in w (xs ++ ys) ≡ true
+pub noticed_append : (w : ℕ) (xs ys : List ℕ) → is_in w xs ≡ true → is_in w (xs ++ ys) ≡ true
 unfolding is_in
 noticed_append w [] ys e = cc
 noticed_append w (x ∷ xs) ys e = noticed_either (w == x) w xs ys e (λ h. noticed_append w xs ys h)
 
-noticed_law : {N : Type 0} → IsKept {N = N} NoticedStays
+pub noticed_law : {N : Type 0} → IsKept {N = N} NoticedStays
 noticed_law = record {
   same = λ s w e. e;
   trans = λ h k w e. k w (h w e);
@@ -612,13 +612,13 @@ noticed_law = record {
   drawn = λ s w. (λ v e. e);
 }
 
-noticed_names : {N W : Type 0} (K : Naming N W) → IsKeptUnder K NoticedStays
+pub noticed_names : {N W : Type 0} (K : Naming N W) → IsKeptUnder K NoticedStays
 noticed_names K = record {
   altered = λ s c n. (λ v e. e);
   came = λ s c h. (λ v e. e);
   mailed = λ s c. (λ v e. e);
   promised = λ s. (λ v e. e);
-  messaged = λ s h id a. (λ v e. e);
+  messaged = λ s h id. (λ v e. e);
 }
 
 pub noticed_stays : {N W : Type 0} (K : Naming N W) (step : Step N W) (s : Vat N) → After NoticedStays s (does K step s)
@@ -658,7 +658,7 @@ history_names K = record {
   came = λ s c h. (none_added s.happened, none_added s.outbox);
   mailed = λ s c. (none_added s.happened, none_added s.outbox);
   promised = λ s. (none_added s.happened, none_added s.outbox);
-  messaged = λ s h id a. (none_added s.happened, none_added s.outbox);
+  messaged = λ s h id. (none_added s.happened, none_added s.outbox);
 }
 
 pub history_stays : {N W : Type 0} (K : Naming N W) (step : Step N W) (s : Vat N) → After AddsAtEnd s (does K step s)

@@ -15,6 +15,14 @@ ghost use Rattle.ev_machine_laws.specs.Laws.{BreakingsStay};
 ghost use Rattle.ev_machine_laws.specs.Laws.{NoticesStay};
 ghost use Rattle.ev_machine_laws.specs.Laws.{HistoryGrows};
 ghost use Rattle.ev_machine_laws.specs.Laws.{StepsAreQuiet};
+ghost use Rattle.ev_machine_laws.specs.Breaks.{SettledBreaksStay};
+ghost use Rattle.ev_machine_laws.specs.Breaks.{SeveredObjectsStay};
+ghost use Rattle.ev_machine_laws.specs.Breaks.{FollowedBreaksStay};
+ghost use Rattle.ev_machine_laws.specs.Breaks.{SeveringsStay};
+ghost use Rattle.ev_machine_laws.specs.Breaks.{NoticesSever};
+ghost use Rattle.ev_machine_laws.specs.Breaks.{NoticesBreak};
+ghost use Rattle.ev_machine_laws.specs.Breaks.{FarStaysApart};
+ghost use Rattle.ev_machine_laws.specs.Breaks.{RestIsNeeded};
 
 /// The fuel that is left never rises.
 pub fn fuel_never_rises()
@@ -74,6 +82,46 @@ pub fn settlings_stay()
 /// A name that settled to a broken reference is followed to it in every state after.
 pub fn breakings_stay()
     ensures { BreakingsStay }
+{}
+
+/// What settlings lead to a broken reference, however many, is followed to it in every state after.
+pub fn settled_breaks_stay()
+    ensures { SettledBreaksStay }
+{}
+
+/// What settlings lead to an object of a vat whose cut was noticed is followed to broken `partition` in every state after.
+pub fn severed_objects_stay()
+    ensures { SeveredObjectsStay }
+{}
+
+/// What a vat at rest follows to a broken reference, by settlings, views and cuts, is followed to that broken reference after.
+pub fn followed_breaks_stay()
+    ensures { FollowedBreaksStay }
+{}
+
+/// The first notice of a vat breaks each name of that host that neither settled nor is viewed, and each such gift of that provider that was not opened.
+pub fn notices_break()
+    ensures { NoticesBreak }
+{}
+
+/// Of a vat that is not at rest that is false: a name that waits on a noticed host may settle to null.
+pub fn rest_is_needed()
+    ensures { RestIsNeeded }
+{}
+
+/// After a notice nothing that the vat follows has that host.
+pub fn notices_sever()
+    ensures { NoticesSever }
+{}
+
+/// Once a cut was noticed nothing that the vat follows has that host, in every state after.
+pub fn severings_stay()
+    ensures { SeveringsStay }
+{}
+
+/// Under local numbers no object of another vat comes to be among the names known.
+pub fn far_stays_apart()
+    ensures { FarStaysApart }
 {}
 
 /// A cut that was noticed stays noticed.

@@ -1,2 +1,3 @@
 pub mod RunKeeps
 pub mod RunLaws
+pub mod BreakRuns

@@ -2,8 +2,9 @@
 use Rattle.std.specs.Prelude.{◌≡◌, ℕ, ◌≤◌, List, ◌++◌, Some, slice_get}
 use Rattle.ev_machine.specs.Values.{Name}
 use Rattle.ev_machine.specs.State.{Vat}
-use Rattle.ev_machine_laws.specs.Laws.{SameObjects, SameResolvers, DeadEjectors, DeadAuditions, SameLists, SameGuards, SameNames, SettledStays, NoticedStays}
-use Rattle.ev_run.specs.World.{Script, Program, Entry, Event, World, Goes, open_from, steps_from, names}
+use Rattle.ev_machine_laws.specs.Laws.{SameObjects, SameResolvers, DeadEjectors, DeadAuditions, SameLists, SameGuards, SameNames, SettledStays, BrokenStays, NoticedStays}
+use Rattle.ev_machine_laws.specs.Breaks.{AtRest, SettledBreakStays, SeveredObjectStays, FollowedBreakStays, SeveredStays}
+use Rattle.ev_run.specs.World.{Script, Program, Entry, Event, World, Goes, open_from, steps_from, names, fresh}
 
 -- R leads from each vat as it was to it as it is
 abbrev pub EachVat : (ℕ → Vat Name → Vat Name → Type 0) → World → World → Type 0
@@ -51,6 +52,29 @@ NoticesStay = InEachVat NoticedStays
 -- a name that settled at a vat stays settled there to the same value
 abbrev pub SettlingsStay : Type 0
 SettlingsStay = KeptByRuns (λ script. EachVat (λ v. SettledStays (names script v)))
+
+-- a name that settled at a vat to a broken reference is followed there to that broken reference
+abbrev pub BreakingsStay : Type 0
+BreakingsStay = KeptByRuns (λ script. EachVat (λ v. BrokenStays (names script v)))
+
+-- what settlings led to a broken reference at a vat, however many
+abbrev pub SettledBreaksStay : Type 0
+SettledBreaksStay = KeptByRuns (λ script. EachVat (λ v. SettledBreakStays (names script v)))
+
+-- what settlings led to an object of a vat whose cut was noticed
+abbrev pub SeveredObjectsStay : Type 0
+SeveredObjectsStay = KeptByRuns (λ script. EachVat (λ v. SeveredObjectStays (names script v)))
+
+-- what a vat at rest follows to a broken reference
+abbrev pub FollowedBreaksStay : Type 0
+FollowedBreaksStay = KeptByRuns (λ script. EachVat (λ v. FollowedBreakStays (names script v)))
+
+-- nothing that a vat follows has a host whose cut it noticed
+abbrev pub SeveringsStay : Type 0
+SeveringsStay = KeptByRuns (λ script. EachVat (λ v. SeveredStays (names script v)))
+
+abbrev pub BeginAtRest : Type 0
+BeginAtRest = (script : Script) (v : ℕ) (p : Program) → AtRest (names script v) (fresh script v p)
 
 -- the fuel of the run
 abbrev pub FuelNeverRises : Type 0

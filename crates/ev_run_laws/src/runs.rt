@@ -9,6 +9,12 @@ ghost use Rattle.ev_run_laws.specs.Runs.{GuardsStay};
 ghost use Rattle.ev_run_laws.specs.Runs.{NamesStay};
 ghost use Rattle.ev_run_laws.specs.Runs.{NoticesStay};
 ghost use Rattle.ev_run_laws.specs.Runs.{SettlingsStay};
+ghost use Rattle.ev_run_laws.specs.Runs.{BreakingsStay};
+ghost use Rattle.ev_run_laws.specs.Runs.{SettledBreaksStay};
+ghost use Rattle.ev_run_laws.specs.Runs.{SeveredObjectsStay};
+ghost use Rattle.ev_run_laws.specs.Runs.{FollowedBreaksStay};
+ghost use Rattle.ev_run_laws.specs.Runs.{SeveringsStay};
+ghost use Rattle.ev_run_laws.specs.Runs.{BeginAtRest};
 ghost use Rattle.ev_run_laws.specs.Runs.{FuelNeverRises};
 ghost use Rattle.ev_run_laws.specs.Runs.{HistoryGrows};
 
@@ -55,6 +61,36 @@ pub fn notices_stay()
 /// In a run a name that settled at a vat stays settled there to the same value.
 pub fn settlings_stay()
     ensures { SettlingsStay }
+{}
+
+/// In a run a name that settled at a vat to a broken reference is followed there to it ever after.
+pub fn breakings_stay()
+    ensures { BreakingsStay }
+{}
+
+/// In a run what settlings lead to a broken reference at a vat, however many, is followed there to it ever after.
+pub fn settled_breaks_stay()
+    ensures { SettledBreaksStay }
+{}
+
+/// In a run what settlings lead to an object of a vat whose cut was noticed is followed to broken `partition` ever after.
+pub fn severed_objects_stay()
+    ensures { SeveredObjectsStay }
+{}
+
+/// In a run what a vat at rest follows to a broken reference is followed there to it ever after.
+pub fn followed_breaks_stay()
+    ensures { FollowedBreaksStay }
+{}
+
+/// In a run nothing that a vat follows has a host whose cut it noticed, ever after.
+pub fn severings_stay()
+    ensures { SeveringsStay }
+{}
+
+/// Each vat of a script begins at rest.
+pub fn vats_begin_at_rest()
+    ensures { BeginAtRest }
 {}
 
 /// In a run the fuel that is left never rises.
