@@ -1,0 +1,4 @@
+pub mod Depth
+pub mod Exits
+pub mod Meets
+pub mod Words

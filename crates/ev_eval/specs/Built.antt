@@ -1,0 +1,36 @@
+-- The kernel trees that are evaluated so far.
+use Rattle.std.specs.declared.option.Option.{Option}
+use Rattle.std.specs.Prelude.{Bool, true, false, if◌then◌else◌, List, [], ◌∷◌, Some, None, is_none, codes}
+use Rattle.std.specs.Str.{bytes_eq}
+use Rattle.ev_base.specs.declared.values.Value.{Value}
+use Rattle.ev_base.specs.declared.values.Value.TheVariants as held
+use Rattle.ev_base.specs.SafeScope.{safe_value}
+use Rattle.ev_kernel.specs.declared.node.Literal.{Literal}
+use Rattle.ev_kernel.specs.declared.node.Literal.TheVariants as literal
+use Rattle.ev_kernel.specs.declared.node.Node.{Node}
+use Rattle.ev_kernel.specs.declared.node.Node.TheVariants.{Lit, Noun, Def, Call, Sequence, Final}
+
+abbrev pub is_int : Literal → Bool
+is_int (literal.Int z) = true
+is_int _ = false
+
+-- no noun of the safe scope, or null
+abbrev pub is_built_safe : Option Value → Bool
+is_built_safe None = true
+is_built_safe (Some held.Null) = true
+is_built_safe _ = false
+
+-- Literals of integers, nouns, definitions without ejector, calls of `add`, sequences, and final patterns without guard.
+unfoldable pub is_built_node : Node → Bool
+is_built_node (Lit l) = is_int l
+is_built_node (Noun x) = is_built_safe (safe_value x)
+is_built_node (Def p j e) = is_none j
+is_built_node (Call r verb es) = bytes_eq verb (codes "add")
+is_built_node (Sequence es) = true
+is_built_node (Final x g) = is_none g
+is_built_node _ = false
+
+-- a tree whose nodes are all among these
+unfoldable pub is_built : List Node → Bool
+is_built [] = true
+is_built (n ∷ ns) = if is_built_node n then is_built ns else false

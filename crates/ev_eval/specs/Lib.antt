@@ -1,0 +1,4 @@
+pub mod Built
+pub mod Reading
+pub mod Steps
+pub mod Turn

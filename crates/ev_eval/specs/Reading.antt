@@ -1,0 +1,92 @@
+-- What a heap and what happened stand for: a vat of the machine, in local numbers.
+use Rattle.std.specs.Prelude.{ℕ, suc, List, [], ◌∷◌, ◌++◌, map, length, slice_get, unwrap_or, codes}
+use Rattle.std.specs.declared.option.Option.{Option}
+use Rattle.ev_base.specs.declared.values.Value.{Value as Held}
+use Rattle.ev_base.specs.declared.values.Value.TheVariants as held
+use Rattle.ev_heap.specs.Contents.{Contents}
+use Rattle.ev_heap.specs.declared.micro.Micro.{Micro}
+use Rattle.ev_heap.specs.declared.happened.Happened.{Happened as Event}
+use Rattle.ev_heap.specs.declared.happened.Happened.TheVariants as event
+use Rattle.ev_machine.specs.Values.{Words, Value, Null, Flag, Number, Letter, Text, Prim, Broken, Items, Ref, Naming, Local, Obj, Prom, Far, numbering}
+use Rattle.ev_machine.specs.State.{Thing, Cell, Message, Known, GiftEntry, Put, Happened, Called, Back, Thrown, Vat}
+
+-- What evaluation leaves as it is, and neither the heap's activations nor what happened tell.
+pub record World : Type 0 where
+  pub number : ℕ
+  pub drawn : List ℕ
+  pub things : List (Thing Local)
+  pub slots : List (Cell Local)
+  pub lists : List (List (Value Local))
+  pub messages : ℕ
+  pub promises : ℕ
+  pub queue : List (Message Local)
+  pub known : List (Known Local)
+  pub mails : List Local
+  pub gifts : List (GiftEntry Local)
+  pub noticed : List ℕ
+  pub outbox : List (Put Local)
+  -- what happened before
+  pub happened : List (Happened Local)
+  -- the texts of the heap behind the problems
+  pub texts : List Words
+  -- the word of each draw
+  pub word : ℕ → ℕ
+
+-- the problems that evaluation throws, the first texts of a heap
+abbrev pub problems : List Words
+problems = codes "integer overflow" ∷ codes "not int" ∷ codes "no method" ∷ []
+
+abbrev pub text_of : World → ℕ → Words
+text_of w id = unwrap_or (slice_get (problems ++ w.texts) id) []
+
+abbrev pub value_of : World → Held → Value Local
+value_of w held.Null = Null
+value_of w (held.Bool b) = Flag b
+value_of w (held.Int z) = Number z
+value_of w (held.Char c) = Letter c
+value_of w (held.Text id) = Text (text_of w id)
+value_of w (held.List id) = Items id
+value_of w (held.Prim n) = Prim n
+value_of w (held.Obj i) = Ref (Obj i)
+value_of w (held.Prom k) = Ref (Prom k)
+value_of w (held.Far v p) = Ref (Far v p)
+value_of w (held.Broken id) = Broken (text_of w id)
+
+-- a problem, which is a text
+abbrev pub problem_of : World → Held → Words
+problem_of w (held.Text id) = text_of w id
+problem_of w _ = []
+
+-- the line of an event, where it is of a kind that evaluation tells
+unfoldable pub line_of : World → Event → List (Happened Local)
+line_of w (event.Call act target verb args begun) = Called act (value_of w target) verb (map (value_of w) args) begun ∷ []
+line_of w (event.Back act v) = Back act (value_of w v) ∷ []
+line_of w (event.Thrown act p) = Thrown act (problem_of w p) ∷ []
+line_of w _ = []
+
+unfoldable pub lines_of : World → List Event → List (Happened Local)
+lines_of w [] = []
+lines_of w (e ∷ es) = line_of w e ++ lines_of w es
+
+unfoldable pub vat_of : World → Contents → Micro → Vat Local
+vat_of w heap micro = record {
+  number = w.number;
+  fuel = micro.fuel;
+  drawn = w.drawn;
+  things = w.things;
+  slots = w.slots;
+  lists = w.lists;
+  activations = length heap.codes;
+  messages = w.messages;
+  promises = w.promises;
+  queue = w.queue;
+  known = w.known;
+  mails = w.mails;
+  gifts = w.gifts;
+  noticed = w.noticed;
+  outbox = w.outbox;
+  happened = w.happened ++ lines_of w micro.events;
+}
+
+abbrev pub names : World → Naming Local Local
+names w = numbering w.word

@@ -1,0 +1,46 @@
+-- The opening turn in the machine, and what the code answers of it.
+use Rattle.std.specs.Prelude.{◌≡◌, ℕ, List, [], Result, Ok, Err, IsErr}
+use Rattle.ev_base.specs.declared.memory.Memory.{Memory}
+use Rattle.ev_heap.specs.Contents.{Contents}
+use Rattle.ev_heap.specs.declared.micro.Micro.{Micro}
+use Rattle.ev_kernel.specs.declared.node.Node.{Node}
+use Rattle.ev_machine.specs.Values.{Value, Naming, Local}
+use Rattle.ev_machine.specs.State.{Done, Gives, Throws, Stops, Fuel, Deep, Astray, Act, ◌>>=◌, give, new_activation}
+use Rattle.ev_machine.specs.Eval.{evaluator}
+use Rattle.ev_eval.specs.declared.turn.Ended.{Ended}
+use Rattle.ev_eval.specs.declared.turn.Ended.TheVariants as ended
+use Rattle.ev_eval.specs.Reading.{World, text_of, value_of, vat_of}
+use Rattle.ev_eval.specs.Steps.{held_value}
+use Rattle.ev_eval.specs.declared.exit.Exit.{Exit}
+use Rattle.ev_eval.specs.declared.exit.Exit.TheVariants as exit
+use Rattle.ev_eval.specs.declared.plain.Plain.{Plain}
+
+-- the program is evaluated in an activation of its own, where no noun is bound
+unfoldable pub opened : {N W : Type 0} → Naming N W → List Node → ℕ → Act N (Value N)
+opened K tree depth = do
+  a ← new_activation
+  x ← (evaluator K tree depth).expression 0 (record { act = a; nouns = [] })
+  give x.value
+
+-- how a turn ended whose evaluation gave no value
+abbrev pub EndsBy : Exit → Result Ended Memory → Type 0
+EndsBy (exit.Thrown id) r = r ≡ Ok (ended.Thrown id)
+EndsBy exit.Fuel r = r ≡ Ok ended.Fuel
+EndsBy exit.Deep r = r ≡ Ok ended.Deep
+EndsBy exit.Astray r = r ≡ Ok ended.Astray
+EndsBy exit.Unbuilt r = r ≡ Ok ended.Astray
+EndsBy exit.Memory r = IsErr r
+
+-- how a turn ended, by how its evaluation did
+abbrev pub EndsAs : Result Plain Exit → Result Ended Memory → Type 0
+EndsAs (Ok v) r = r ≡ Ok (ended.Value (held_value v))
+EndsAs (Err e) r = EndsBy e r
+
+-- what the code answered and left is the outcome, unless memory ran out
+abbrev pub Ends : World → Result Ended Memory → Contents → Micro → Done Local (Value Local) → Type 0
+Ends w (Ok (ended.Value v)) heap micro out = out ≡ Gives (value_of w v) (vat_of w heap micro)
+Ends w (Ok (ended.Thrown id)) heap micro out = out ≡ Throws (text_of w id) (vat_of w heap micro)
+Ends w (Ok ended.Fuel) heap micro out = out ≡ Stops Fuel (vat_of w heap micro)
+Ends w (Ok ended.Deep) heap micro out = out ≡ Stops Deep (vat_of w heap micro)
+Ends w (Ok ended.Astray) heap micro out = out ≡ Stops Astray (vat_of w heap micro)
+Ends w (Err memory) heap micro out = Unit {0}

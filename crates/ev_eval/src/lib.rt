@@ -1,0 +1,20 @@
+//! The evaluator of one vat: what a kernel tree does in its heap.
+#![tactic(auto)]
+
+pub mod built;
+pub mod call;
+pub mod evaluate;
+pub mod exit;
+pub mod pattern;
+pub mod plain;
+pub mod room;
+pub mod scope;
+pub mod turn;
+
+pub use built::is_built;
+pub use exit::{Exit, Problem};
+pub use room::Room;
+pub use turn::{Ended, Start, new_heap, run_turn};
+
+#[cfg(test)]
+mod tests;

@@ -1,0 +1,35 @@
+//! The values of what is built.
+
+ghost use Rattle.std.specs.Prelude.{◌≡◌, map, IfOk};
+ghost use Rattle.ev_eval.specs.Steps.{held_value};
+
+use ev_base::{Memory, Seq, Value};
+use std::alloc::Global;
+
+/// Null or an integer.
+#[derive(Clone, Copy, Debug, PartialEq, Eq)]
+pub enum Plain {
+    Null,
+    Int(i128),
+}
+
+/// The value as a heap holds it.
+pub fn held_value(value: Plain) -> Value
+    ensures { result ≡ held_value value }
+{
+    match value {
+        Plain::Null => Value::Null,
+        Plain::Int(number) => Value::Int(number),
+    }
+}
+
+/// Values as a heap holds them, in order.
+pub fn held_values(alloc: Global, values: &[Plain]) -> Result<Seq<Value>, Memory>
+    ensures { IfOk result (λ all. all ≡ map held_value values.now) }
+{
+    let mut all = Seq::new(alloc);
+    for value in values {
+        all.push(held_value(*value))?;
+    }
+    Ok(all)
+}

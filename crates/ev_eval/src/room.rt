@@ -1,0 +1,55 @@
+//! Where evaluation works: the heap of a vat, the fuel that is left, and what happened.
+
+ghost use Rattle.std.specs.Prelude.{◌≡◌, IfErr};
+ghost use Rattle.ev_eval.specs.declared.exit.Exit.TheVariants.{Memory as NoMemory};
+ghost use Rattle.ev_eval.specs.Steps.{Gives, new_activation, spend, tell};
+
+use crate::exit::Exit;
+use ev_base::{ActId, Memory, Value};
+use ev_heap::{Happened, Heap, Micro};
+use std::alloc::Global;
+
+/// The heap of a vat, the fuel that is left, and what happened.
+#[derive(Drop)]
+pub struct Room {
+    pub alloc: Global,
+    pub heap: Heap,
+    pub micro: Micro,
+}
+
+/// Spends a unit of fuel for a node that begins.
+#[tactic(auto, unfolding(crate::specs::Steps::opened_steps))]
+pub fn spend(room: &mut Room) -> Result<(), Exit>
+    ensures outcome { Gives result room.new (spend room.old) }
+    ensures kept { room.new.heap ≡ room.old.heap }
+{
+    if room.micro.spend(1) {
+        Ok(())
+    } else {
+        Err(Exit::Fuel)
+    }
+}
+
+/// Tells what happened.
+#[tactic(auto, unfolding(crate::specs::Steps::opened_steps))]
+pub fn tell(room: &mut Room, event: Happened) -> Result<(), Exit>
+    ensures outcome { Gives result room.new (tell event room.old) }
+    ensures kept { room.new.heap ≡ room.old.heap }
+{
+    match room.micro.push(event) {
+        Ok(()) => Ok(()),
+        Err(Memory) => Err(Exit::Memory),
+    }
+}
+
+/// Begins the activation of an opening turn.
+#[tactic(auto, unfolding(crate::specs::Steps::opened_steps))]
+pub fn new_activation(room: &mut Room) -> Result<ActId, Exit>
+    ensures outcome { Gives result room.new (new_activation room.old) }
+    ensures err { IfErr result (λ e. e ≡ NoMemory) }
+{
+    match room.heap.start_activation(Value::Null) {
+        Ok(act) => Ok(act),
+        Err(Memory) => Err(Exit::Memory),
+    }
+}

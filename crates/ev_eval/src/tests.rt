@@ -1,0 +1,83 @@
+use crate::{Ended, Start, is_built, new_heap, run_turn};
+use ev_base::{Limits, TextId, Value};
+use ev_heap::Micro;
+use ev_kernel::read_form;
+use std::alloc::Global;
+use std::test::Fail;
+
+/// How the program of a form ended, the fuel that was left, and how many events it told.
+#[derive(Clone, Copy, Debug, PartialEq, Eq)]
+struct Ran {
+    ended: Ended,
+    fuel: u32,
+    events: usize,
+}
+
+/// The run of a form, or none where it has a node that is not built.
+fn run(alloc: Global, text: &str, fuel: u32, depth: u32) -> Result<Option<Ran>, Fail> {
+    let program = read_form(alloc, text)?;
+    if !is_built(&program) {
+        return Ok(None);
+    }
+    let mut heap = new_heap(alloc)?;
+    let mut micro = Micro::new(alloc, fuel);
+    let ended = run_turn(
+        alloc,
+        &program,
+        &mut heap,
+        Start::Program,
+        Limits { depth },
+        &mut micro,
+    )?;
+    Ok(Some(Ran {
+        ended,
+        fuel: micro.fuel,
+        events: micro.events.len(),
+    }))
+}
+
+fn some(ended: Ended, fuel: u32, events: usize) -> Option<Ran> {
+    Some(Ran {
+        ended,
+        fuel,
+        events,
+    })
+}
+
+#[test]
+fn values(rt: HostRuntime) -> Result<(), Fail> {
+    let alloc = rt.alloc();
+    let sum = "(seq (def (final n) (lit 20)) (call (noun n) add (lit 22)))";
+    assert_eq!(rt;
+        run(alloc, sum, 7, 3)?,
+        some(Ended::Value(Value::Int(42)), 0, 2)
+    );
+    assert_eq!(rt; run(alloc, sum, 6, 3)?, some(Ended::Fuel, 0, 0));
+    assert_eq!(rt; run(alloc, sum, 7, 2)?, some(Ended::Deep, 5, 0));
+    assert_eq!(rt;
+        run(alloc, "(seq)", 1, 1)?,
+        some(Ended::Value(Value::Null), 0, 0)
+    );
+    Ok(())
+}
+
+#[test]
+fn problems(rt: HostRuntime) -> Result<(), Fail> {
+    let alloc = rt.alloc();
+    let least = "(call (lit -170141183460469231731687303715884105728) add (lit 1))";
+    let sum = Ended::Value(Value::Int(-170_141_183_460_469_231_731_687_303_715_884_105_727));
+    assert_eq!(rt; run(alloc, least, 9, 9)?, some(sum, 6, 2));
+    let most = "(call (lit 170141183460469231731687303715884105727) add (lit 1))";
+    assert_eq!(rt;
+        run(alloc, most, 9, 9)?,
+        some(Ended::Thrown(TextId(0)), 6, 2)
+    );
+    let none = "(call (noun null) add)";
+    assert_eq!(rt;
+        run(alloc, none, 9, 9)?,
+        some(Ended::Thrown(TextId(2)), 7, 2)
+    );
+    assert_eq!(rt; run(alloc, "(noun x)", 9, 9)?, some(Ended::Astray, 8, 0));
+    assert_eq!(rt; run(alloc, "(hide (lit 1))", 9, 9)?, None);
+    Ok(())
+}

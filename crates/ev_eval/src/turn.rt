@@ -1,0 +1,108 @@
+//! Turns.
+
+ghost use Rattle.std.specs.Prelude.{◌≡◌, ◌++◌, ◌∷◌, [], true, IfOk, OnOk};
+ghost use Rattle.ev_base.specs.declared.values.Value.TheVariants.{Null};
+ghost use Rattle.ev_heap.specs.Contents.{nothing};
+ghost use Rattle.ev_eval.specs.Built.{is_built};
+ghost use Rattle.ev_eval.specs.Reading.{World, names, problems, vat_of};
+ghost use Rattle.ev_eval.specs.Turn.{Ends, EndsAs, EndsBy, opened};
+
+use crate::evaluate::opening;
+use crate::exit::Exit;
+use crate::plain::{Plain, held_value};
+use crate::room::Room;
+use ev_base::{Limits, Memory, TextId, Value};
+use ev_heap::{Heap, Micro};
+use ev_kernel::Kernel;
+use std::alloc::Global;
+use std::mem;
+
+/// What a turn begins with.
+#[derive(Clone, Copy, Debug, PartialEq, Eq)]
+pub enum Start {
+    /// The opening turn: the program is evaluated.
+    Program,
+}
+
+/// How a turn ended.
+#[derive(Clone, Copy, Debug, PartialEq, Eq)]
+pub enum Ended {
+    /// With a value.
+    Value(Value),
+    /// With a problem.
+    Thrown(TextId),
+    /// The fuel did not suffice for a node that began.
+    Fuel,
+    /// A node would have begun below the greatest depth.
+    Deep,
+    /// The program has a noun that nothing binds, or a number that names no node of its kind.
+    Astray,
+}
+
+/// A heap that holds the texts of the problems that evaluation throws, and nothing else.
+pub fn new_heap(alloc: Global) -> Result<Heap, Memory>
+    ensures { IfOk result (λ heap. heap ≡ record nothing { texts = problems }) }
+{
+    let mut heap = Heap::new(alloc);
+    heap.make_text("integer overflow")?;
+    heap.make_text("not int")?;
+    heap.make_text("no method")?;
+    Ok(heap)
+}
+
+/// How a turn ended whose evaluation gave no value. The evaluation of a built program meets no node that is not built.
+fn without_value(exit: Exit) -> Result<Ended, Memory>
+    ensures { EndsBy exit result }
+{
+    match exit {
+        Exit::Thrown(id) => Ok(Ended::Thrown(id)),
+        Exit::Fuel => Ok(Ended::Fuel),
+        Exit::Deep => Ok(Ended::Deep),
+        Exit::Astray | Exit::Unbuilt => Ok(Ended::Astray),
+        Exit::Memory => Err(Memory),
+    }
+}
+
+/// How a turn ended, by how its evaluation did.
+fn ending(outcome: Result<Plain, Exit>) -> Result<Ended, Memory>
+    ensures { EndsAs outcome result }
+{
+    match outcome {
+        Ok(value) => Ok(Ended::Value(held_value(value))),
+        Err(exit) => without_value(exit),
+    }
+}
+
+/// Runs a turn of a vat whose heap began with the texts of the problems (`new_heap`). What happens is added to `micro`, and each
+/// node that begins spends a unit of its fuel. No node begins below `limits.depth` levels.
+///
+/// After want of memory, heap and micro hold what was done up to there.
+pub fn run_turn(
+    alloc: Global,
+    program: &Kernel,
+    heap: &mut Heap,
+    start: Start,
+    limits: Limits,
+    micro: &mut Micro,
+) -> Result<Ended, Memory>
+    requires built { is_built program.now ≡ true }
+    ensures turn { (w : World) → heap.old.texts ≡ problems ++ w.texts → Ends w result heap.new micro.new (opened (names w) program.now limits.depth (vat_of w heap.old micro.old)) }
+    ensures kept { OnOk result (heap.new ≡ record heap.old { codes = heap.old.codes ++ Null ∷ [] }) }
+{
+    let mut room = Room {
+        alloc,
+        heap: mem::replace(heap, Heap::new(alloc)),
+        micro: mem::replace(micro, Micro::new(alloc, 0)),
+    };
+    let outcome = match start {
+        Start::Program => opening(program.nodes(), limits.depth, &mut room),
+    };
+    let Room {
+        alloc: _,
+        heap: heap_after,
+        micro: micro_after,
+    } = room;
+    *heap = heap_after;
+    *micro = micro_after;
+    ending(outcome)
+}
