@@ -1,2 +1,3 @@
 pub mod Ints
 pub mod Numerals
+pub mod Message

@@ -41,6 +41,11 @@ pub enum NumFault {
 }
 
 impl fmt::Display for NumFault {
+    ghost use Rattle.std.specs.Prelude.{Some};
+    ghost use Rattle.ev_num.specs.Message.{fault_text};
+
+    ghost output = { λ fault. Some (fault_text fault) };
+
     fn fmt<W: fmt::Write>(&self, f: &mut fmt::Formatter<W>) -> fmt::Result {
         match self {
             NumFault::Overflow => write!(f, "integer overflow"),
