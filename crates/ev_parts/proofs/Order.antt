@@ -1,5 +1,5 @@
 -- The items of a frame stand in order, before the place where the walk is.
-use Rattle.std.proofs.Common.{◌≡◌, ℕ, zero, suc, ◌-◌, ◌<◌, ◌≤◌, Bool, true, false, cond, nat_eq, List, [], ◌∷◌, ◌++◌, length, Option, Some, None, All, AllPairs, refl, sym, subst, arith}
+use Rattle.std.proofs.Common.{◌≡◌, ℕ, zero, suc, ◌-◌, ◌<◌, ◌≤◌, Bool, true, false, cond, nat_eq, List, [], ◌∷◌, ◌++◌, length, Option, Some, None, refl, sym, subst, arith}
 use Rattle.std.specs.Prelude.{Result, Ok, Err, IfOk}
 use Rattle.std.proofs.lemmas.List.Quantifiers.{all_pairs_push}
 use Rattle.std.proofs.lemmas.List.Elements.{All-push}
@@ -12,7 +12,7 @@ use Rattle.ev_parts.specs.declared.spots.Part.{Part}
 use Rattle.ev_parts.specs.declared.spots.Part.TheVariants.{Code, Number, Vat, Swiss, Other}
 use Rattle.ev_parts.specs.declared.spots.Spot.{Spot}
 use Rattle.ev_parts.specs.declared.spots.Parts.{Parts}
-use Rattle.ev_parts.specs.Items.{Walk, On, Off, and_then, item, code, Left, left, walk_number, text_len_at, walk_leaf, opening_at, walk_members, walk_list, no_walk, walk_first, walk_desc, walk_free, kind_where, is_target, is_subject, walk_named, walk_swiss, walk_vat, walk_text, walk_outcome, walk_deliver, walk_resolve, walk_provide, walk_accept, is_op, walk_op, parts_of, items_of}
+use Rattle.ev_parts.specs.Items.{Walk, On, Off, and_then, item, code, Left, text_len_at, walk_leaf, opening_at, walk_members, walk_list, no_walk, walk_first, walk_desc, walk_free, kind_where, is_target, is_subject, walk_named, walk_swiss, walk_vat, walk_text, walk_outcome, walk_deliver, walk_resolve, walk_provide, walk_accept, is_op, walk_op, parts_of, items_of}
 use Rattle.ev_parts.specs.Whole.{AreInOrder, place_of}
 use Rattle.ev_parts.proofs.Shorter.{Under, unsigned_shorter, signed_shorter, swiss_shorter, byte_shorter, few_shorter, character_shorter, text_len_shorter, opening_shorter, named_shorter}
 

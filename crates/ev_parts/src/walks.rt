@@ -27,9 +27,7 @@ fn leaf<'a>(
     ensures { Walks (λ x. record { room = x.0; rest = x.1.now }) result spots.new.items (walk_leaf total kind room spots.old.items bytes.now) }
 {
     match kind {
-        Kind::Null => Ok((room, bytes)),
-        Kind::False => Ok((room, bytes)),
-        Kind::True => Ok((room, bytes)),
+        Kind::Null | Kind::False | Kind::True | Kind::List => Ok((room, bytes)),
         Kind::Integer => {
             let (_, rest) = walk_integer(total, bytes, spots)?;
             Ok((room, rest))
@@ -38,41 +36,20 @@ fn leaf<'a>(
             let (_, rest) = walk_character(total, bytes, spots)?;
             Ok((room, rest))
         }
-        Kind::Text => {
+        Kind::Text | Kind::Broken => {
             let (len, rest) = walk_text(total, room, bytes, spots)?;
             Ok((room.saturating_sub(len), rest))
         }
-        Kind::List => Ok((room, bytes)),
         Kind::Primitive => {
             let (_, rest) = walk_primitive(total, bytes, spots)?;
             Ok((room, rest))
-        }
-        Kind::Broken => {
-            let (len, rest) = walk_text(total, room, bytes, spots)?;
-            Ok((room.saturating_sub(len), rest))
         }
         Kind::Third => {
             let (_, rest) = walk_vat(total, bytes, spots)?;
             let (_, rest) = walk_swiss(total, rest, spots)?;
             Ok((room, rest))
         }
-        Kind::YourExport => {
-            let (_, rest) = walk_number(total, bytes, spots)?;
-            Ok((room, rest))
-        }
-        Kind::YourAnswer => {
-            let (_, rest) = walk_number(total, bytes, spots)?;
-            Ok((room, rest))
-        }
-        Kind::MyExport => {
-            let (_, rest) = walk_number(total, bytes, spots)?;
-            Ok((room, rest))
-        }
-        Kind::MyPromise => {
-            let (_, rest) = walk_number(total, bytes, spots)?;
-            Ok((room, rest))
-        }
-        Kind::MyAnswer => {
+        Kind::YourExport | Kind::YourAnswer | Kind::MyExport | Kind::MyPromise | Kind::MyAnswer => {
             let (_, rest) = walk_number(total, bytes, spots)?;
             Ok((room, rest))
         }
