@@ -3,6 +3,9 @@ use Rattle.std.specs.Prelude.{◌≡◌, true, false, ℕ, List, [], ◌∷◌, 
 use Rattle.ev_base.specs.declared.names.Name.TheVariants.{Object, Own, Answer, Gift, Root}
 use Rattle.ev_base.specs.declared.names.Msg.{Msg}
 use Rattle.ev_event.specs.declared.shown.Shown.{Shown, Null, Bool, Int, Char, Text, Broken, Prim, Name, List as ListOf, Slot}
+use Rattle.std.specs.declared.option.Option.{Option}
+use Rattle.ev_base.specs.declared.names.Name.{Name as ShownName}
+use Rattle.ev_event.specs.declared.event.Event.{Event}
 use Rattle.ev_event.specs.declared.event.Event.TheVariants.{Open, Turn, Idle, Carry, Cut, Notice, Frame, Take, Call, Back, Thrown, Gone, Got, Slot as SlotMade, Read, Wrote, List as ListMade, Arrived, Ejector, Audition, Promise, Made, Send, When, Done, Threw, Settle, Wait, View, LostCut, LostBroken, LeftQueue, LeftHeld, LeftWait, LeftLink, End}
 use Rattle.ev_event.specs.declared.note.ShownNote.TheVariants.{Deliver, Settled, Elsewhere, Open as Opens, Ask, Shorten}
 use Rattle.ev_event.specs.Lines.{members, render, opened_lines}
@@ -18,6 +21,21 @@ object v n = Name (Object v n)
 
 abbrev msg : ℕ → ℕ → Msg
 msg v n = record { sender = v; number = n }
+
+abbrev taken : ℕ → Msg → Shown → List ℕ → List Shown → Event
+taken a m x verb args = Take (record { activation = a; message = m; target = x; verb = verb; args = args })
+
+abbrev called : ℕ → Shown → List ℕ → List Shown → Option ℕ → Event
+called a x verb args begun = Call (record { activation = a; target = x; verb = verb; args = args; begun = begun })
+
+abbrev made : ℕ → Shown → List ℕ → List Shown → List Shown → Event
+made a x name caps stamps = Made (record { activation = a; object = x; name = name; caps = caps; stamps = stamps })
+
+abbrev sent : ℕ → Msg → Shown → List ℕ → List Shown → ShownName → Event
+sent a m x verb args answer = Send (record { activation = a; message = m; target = x; verb = verb; args = args; answer = answer })
+
+abbrev reacting : ℕ → Msg → Shown → Shown → ShownName → Event
+reacting a m x o answer = When (record { activation = a; message = m; value = x; reaction = o; answer = answer })
 
 entries : render vats (
     Open 0 ∷ Turn 3 1 ∷ Idle 12 ∷ Cut 4 0 1 ∷ Notice 15 0 1
@@ -45,18 +63,18 @@ unfolding opened_lines
 entries = refl
 
 turns : render vats (
-    Take 0 (msg 0 0) (object 0 0) (codes "f") (Int (pos 1) ∷ [])
-    ∷ Call 0 (object 0 0) (codes "run") [] (Some 1)
-    ∷ Call 1 (Int (pos 0)) (codes "add") (Int (pos 1) ∷ []) None
+    taken 0 (msg 0 0) (object 0 0) (codes "f") (Int (pos 1) ∷ [])
+    ∷ called 0 (object 0 0) (codes "run") [] (Some 1)
+    ∷ called 1 (Int (pos 0)) (codes "add") (Int (pos 1) ∷ []) None
     ∷ Back 1 (Int (pos 1)) ∷ Thrown 0 (Text (codes "integer overflow")) ∷ Gone 2 ∷ Got 1 (Name (Answer 5 (msg 5 1)))
     ∷ SlotMade 0 (0, 0) (Int (pos 0)) ∷ Read 1 (0, 0) (Int (pos 0)) ∷ Wrote 1 (3, 0) (Bool true)
     ∷ ListMade 0 (0, 0) [] ∷ ListMade 1 (0, 1) (Text (codes "zip") ∷ ListOf 0 0 ∷ []) ∷ Arrived (1, 0) (Null ∷ Bool false ∷ [])
     ∷ Ejector 0 (object 0 0) ∷ Audition 0 (object 0 1) ∷ Promise 0 (Own 0 0) (object 0 0)
-    ∷ Made 0 (object 0 1) (codes "q") (Int (pos 3) ∷ []) (Prim 17 ∷ [])
-    ∷ Made 0 (object 0 0) (codes "_") (Slot 0 0 ∷ []) []
-    ∷ Made 0 (object 0 0) (codes "aud") [] []
-    ∷ Send 0 (msg 3 1) (Name (Answer 4 (msg 3 0))) (codes "buy") (Text (codes "tea") ∷ object 3 0 ∷ []) (Answer 4 (msg 3 1))
-    ∷ When 0 (msg 3 2) (Name (Answer 4 (msg 3 1))) (object 3 1) (Answer 3 (msg 3 2))
+    ∷ made 0 (object 0 1) (codes "q") (Int (pos 3) ∷ []) (Prim 17 ∷ [])
+    ∷ made 0 (object 0 0) (codes "_") (Slot 0 0 ∷ []) []
+    ∷ made 0 (object 0 0) (codes "aud") [] []
+    ∷ sent 0 (msg 3 1) (Name (Answer 4 (msg 3 0))) (codes "buy") (Text (codes "tea") ∷ object 3 0 ∷ []) (Answer 4 (msg 3 1))
+    ∷ reacting 0 (msg 3 2) (Name (Answer 4 (msg 3 1))) (object 3 1) (Answer 3 (msg 3 2))
     ∷ Done 0 (Int (negsuc 4)) ∷ Threw 0 (Text (codes "not int"))
     ∷ Settle (Answer 1 (msg 0 0)) (Broken (codes "partition")) ∷ Wait (Root 0) (Answer 1 (msg 0 0)) ∷ View (Answer 1 (msg 0 0)) (Gift 2 0)
     ∷ LostCut (msg 0 3) ∷ LostBroken (msg 0 4) ∷ [])
@@ -83,7 +101,7 @@ turns = refl
 others : render vats (
     Carry 1 0 1 (Settled (Root 0) (members (Int (pos 1) ∷ members [] ∷ members (Null ∷ []) ∷ [])))
     ∷ Done 0 (Char 39) ∷ Done 0 (Text (codes "xxxxxxxxxxxxxxxxxxxxxxxxxxxxxxxxx")) ∷ Done 0 (Prim 40) ∷ Done 0 (Prim 0)
-    ∷ Take 0 (msg 0 0) (object 0 0) (codes "if") [] ∷ Take 0 (msg 0 0) (object 0 0) [] [] ∷ [])
+    ∷ taken 0 (msg 0 0) (object 0 0) (codes "if") [] ∷ taken 0 (msg 0 0) (object 0 0) [] [] ∷ [])
     ≡ text (
     codes "1 carry a b settled @a [1 [] [null]]"
     ∷ codes "!0 done '\\''" ∷ codes "!0 done \"xxxxxxxxxxxxxxxxxxxxxxxxxxxxxxxx\"+1" ∷ codes "!0 done <nullOk:any>" ∷ codes "!0 done <__makeList>"

@@ -118,9 +118,9 @@ module _ (vats : List (List ℕ)) where
   words (Cut k v w) = decimal k ∷ codes "cut" ∷ vat v ∷ vat w ∷ []
   words (Notice k v w) = decimal k ∷ codes "notice" ∷ vat v ∷ vat w ∷ []
   words (Frame bytes) = codes "frame" ∷ hex bytes ∷ []
-  words (Take a m target verb args) = activation a ∷ codes "take" ∷ message m ∷ value target ∷ printed_verb verb ∷ values args
-  words (Call a target verb args begun) =
-      activation a ∷ codes "call" ∷ value target ∷ printed_verb verb ∷ (values args ++ begun_words begun)
+  words (Take t) = activation t.activation ∷ codes "take" ∷ message t.message ∷ value t.target ∷ printed_verb t.verb ∷ values t.args
+  words (Call c) =
+      activation c.activation ∷ codes "call" ∷ value c.target ∷ printed_verb c.verb ∷ (values c.args ++ begun_words c.begun)
   words (Back a x) = activation a ∷ codes "back" ∷ value x ∷ []
   words (Thrown a x) = activation a ∷ codes "thrown" ∷ value x ∷ []
   words (Gone a) = activation a ∷ codes "gone" ∷ []
@@ -133,11 +133,12 @@ module _ (vats : List (List ℕ)) where
   words (Ejector a o) = activation a ∷ codes "ejector" ∷ value o ∷ []
   words (Audition a o) = activation a ∷ codes "audition" ∷ value o ∷ []
   words (Promise a p o) = activation a ∷ codes "promise" ∷ name p ∷ value o ∷ []
-  words (Made a o called caps stamps) =
-      activation a ∷ codes "made" ∷ value o ∷ called ∷ (part (codes "caps") caps ++ part (codes "stamps") stamps)
-  words (Send a m x verb args answer) =
-      activation a ∷ codes "send" ∷ message m ∷ value x ∷ printed_verb verb ∷ (values args ++ codes "->" ∷ name answer ∷ [])
-  words (When a m x o answer) = activation a ∷ codes "when" ∷ message m ∷ value x ∷ value o ∷ codes "->" ∷ name answer ∷ []
+  words (Made o) =
+      activation o.activation ∷ codes "made" ∷ value o.object ∷ o.name ∷ (part (codes "caps") o.caps ++ part (codes "stamps") o.stamps)
+  words (Send m) =
+      activation m.activation ∷ codes "send" ∷ message m.message ∷ value m.target ∷ printed_verb m.verb ∷ (values m.args ++ codes "->" ∷ name m.answer ∷ [])
+  words (When w) =
+      activation w.activation ∷ codes "when" ∷ message w.message ∷ value w.value ∷ value w.reaction ∷ codes "->" ∷ name w.answer ∷ []
   words (Done a x) = activation a ∷ codes "done" ∷ value x ∷ []
   words (Threw a x) = activation a ∷ codes "threw" ∷ value x ∷ []
   words (Settle p x) = codes "settle" ∷ name p ∷ value x ∷ []

@@ -1,10 +1,62 @@
 //! What happens in a run: a variant for each kind of line of a history.
 
+use crate::boxed::Boxed;
 use crate::note::ShownNote;
 use crate::shown::Shown;
 use ev_base::{Msg, Name, Seq, Str, VatId};
 
-/// An event. Numbers of entries and of activations are counted from 0; an activation is numbered in its vat.
+/// A message that a turn takes, its receiver, verb and arguments.
+#[derive(Drop)]
+pub struct Taken {
+    pub activation: u64,
+    pub message: Msg,
+    pub target: Shown,
+    pub verb: Str,
+    pub args: Seq<Shown>,
+}
+
+/// A call: who calls what, and the activation that the call begins, where it begins one.
+#[derive(Drop)]
+pub struct Called {
+    pub activation: u64,
+    pub target: Shown,
+    pub verb: Str,
+    pub args: Seq<Shown>,
+    pub begun: Option<u64>,
+}
+
+/// An object that is made: its name, its captures and its stamps.
+#[derive(Drop)]
+pub struct MadeObject {
+    pub activation: u64,
+    pub object: Shown,
+    pub name: Str,
+    pub caps: Seq<Shown>,
+    pub stamps: Seq<Shown>,
+}
+
+/// A send: the message, the reference that it was sent on, and the answer.
+#[derive(Drop)]
+pub struct Sent {
+    pub activation: u64,
+    pub message: Msg,
+    pub target: Shown,
+    pub verb: Str,
+    pub args: Seq<Shown>,
+    pub answer: Name,
+}
+
+/// A reaction: the message that is to come, what is waited for, what reacts, and the answer.
+#[derive(Drop)]
+pub struct Reacting {
+    pub activation: u64,
+    pub message: Msg,
+    pub value: Shown,
+    pub reaction: Shown,
+    pub answer: Name,
+}
+
+/// An event. What is large lies in memory of its own, since a history has many events. Numbers of entries and of activations are counted from 0; an activation is numbered in its vat.
 #[derive(Drop)]
 pub enum Event {
     /// `open V`: the opening turn of a vat begins.
@@ -14,7 +66,7 @@ pub enum Event {
     /// `K idle`
     Idle(u64),
     /// `K carry V W NOTE`
-    Carry(u64, VatId, VatId, ShownNote),
+    Carry(u64, VatId, VatId, Boxed<ShownNote>),
     /// `K cut V W`
     Cut(u64, VatId, VatId),
     /// `K notice V W`
@@ -22,21 +74,9 @@ pub enum Event {
     /// `frame HEX`: the bytes of the note that was carried.
     Frame(Seq<u8>),
     /// `!A take M TARGET VERB ARGS`
-    Take {
-        activation: u64,
-        message: Msg,
-        target: Shown,
-        verb: Str,
-        args: Seq<Shown>,
-    },
+    Take(Boxed<Taken>),
     /// `!A call TARGET VERB ARGS`, and `as !B` behind it where the call begins the activation B.
-    Call {
-        activation: u64,
-        target: Shown,
-        verb: Str,
-        args: Seq<Shown>,
-        begun: Option<u64>,
-    },
+    Call(Boxed<Called>),
     /// `!A back X`
     Back(u64, Shown),
     /// `!A thrown X`
@@ -62,30 +102,11 @@ pub enum Event {
     /// `!A promise P O`: O is the resolver.
     Promise(u64, Name, Shown),
     /// `!A made O NAME caps X .. stamps X ..`
-    Made {
-        activation: u64,
-        object: Shown,
-        name: Str,
-        caps: Seq<Shown>,
-        stamps: Seq<Shown>,
-    },
+    Made(Boxed<MadeObject>),
     /// `!A send M X VERB ARGS -> ANSWER`
-    Send {
-        activation: u64,
-        message: Msg,
-        target: Shown,
-        verb: Str,
-        args: Seq<Shown>,
-        answer: Name,
-    },
+    Send(Boxed<Sent>),
     /// `!A when M X O -> ANSWER`
-    When {
-        activation: u64,
-        message: Msg,
-        value: Shown,
-        reaction: Shown,
-        answer: Name,
-    },
+    When(Boxed<Reacting>),
     /// `!A done X`
     Done(u64, Shown),
     /// `!A threw X`
@@ -107,7 +128,7 @@ pub enum Event {
     /// `left wait V X M`
     LeftWait(VatId, Shown, Msg),
     /// `left link V W NOTE`
-    LeftLink(VatId, VatId, ShownNote),
+    LeftLink(VatId, VatId, Boxed<ShownNote>),
     /// `end`
     End,
 }

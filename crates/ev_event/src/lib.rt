@@ -1,6 +1,7 @@
 //! What happens in a run, and its lines.
 #![tactic(auto)]
 
+pub mod boxed;
 pub mod event;
 pub mod history;
 pub mod line;
@@ -11,7 +12,8 @@ pub mod shown;
 pub mod values;
 pub mod words;
 
-pub use event::Event;
+pub use boxed::Boxed;
+pub use event::{Called, Event, MadeObject, Reacting, Sent, Taken};
 pub use history::History;
 pub use line::push_line;
 pub use note::ShownNote;

@@ -5,7 +5,7 @@ ghost use Rattle.std.specs.Char.{digit_char};
 ghost use Rattle.ev_event.specs.declared.event.Event.TheVariants.{Take, Call, Made, Send, When};
 ghost use Rattle.ev_event.specs.Lines.{activation, vat, numbered, name, message, value, note_words, begun_words, values, spaced, hex, line_of, render};
 
-use crate::event::Event;
+use crate::event::{Called, Event, MadeObject, Reacting, Sent, Taken};
 use crate::names::{push_activation, push_number};
 use crate::note::ShownNote;
 use crate::notes::add_note;
@@ -130,20 +130,16 @@ fn push_take(
     alloc: Global,
     out: &mut String,
     names: &[Str],
-    id: u64,
-    taken: &Msg,
-    target: &Shown,
-    verb: &Str,
-    args: &[Shown],
+    taken: &Taken,
 ) -> Result<(), AllocError>
-    ensures { OnOk result (string_bytes out.new ≡ string_bytes out.old ++ line_of names.now (Take id taken.now target.now verb.now args.now)) }
+    ensures { OnOk result (string_bytes out.new ≡ string_bytes out.old ++ line_of names.now (Take taken.now)) }
 {
-    push_activation(out, id)?;
+    push_activation(out, taken.activation)?;
     add_word(out, "take")?;
-    add_message(out, names, taken)?;
-    add_value(alloc, out, names, target)?;
-    add_verb(out, verb.as_str())?;
-    add_values(alloc, out, names, args)
+    add_message(out, names, &taken.message)?;
+    add_value(alloc, out, names, &taken.target)?;
+    add_verb(out, taken.verb.as_str())?;
+    add_values(alloc, out, names, taken.args.as_slice())
 }
 
 /// The activation that a call begins.
@@ -164,18 +160,14 @@ fn push_call(
     alloc: Global,
     out: &mut String,
     names: &[Str],
-    id: u64,
-    target: &Shown,
-    verb: &Str,
-    args: &[Shown],
-    begun: Option<u64>,
+    called: &Called,
 ) -> Result<(), AllocError>
-    ensures { OnOk result (string_bytes out.new ≡ string_bytes out.old ++ line_of names.now (Call id target.now verb.now args.now begun)) }
+    ensures { OnOk result (string_bytes out.new ≡ string_bytes out.old ++ line_of names.now (Call called.now)) }
 {
-    push_act(alloc, out, names, id, "call", target)?;
-    add_verb(out, verb.as_str())?;
-    add_values(alloc, out, names, args)?;
-    add_begun(out, begun)
+    push_act(alloc, out, names, called.activation, "call", &called.target)?;
+    add_verb(out, called.verb.as_str())?;
+    add_values(alloc, out, names, called.args.as_slice())?;
+    add_begun(out, called.begun)
 }
 
 /// An object that is made.
@@ -183,18 +175,14 @@ fn push_made(
     alloc: Global,
     out: &mut String,
     names: &[Str],
-    id: u64,
-    object: &Shown,
-    called: &Str,
-    caps: &[Shown],
-    stamps: &[Shown],
+    made: &MadeObject,
 ) -> Result<(), AllocError>
-    ensures { OnOk result (string_bytes out.new ≡ string_bytes out.old ++ line_of names.now (Made id object.now called.now caps.now stamps.now)) }
+    ensures { OnOk result (string_bytes out.new ≡ string_bytes out.old ++ line_of names.now (Made made.now)) }
 {
-    push_act(alloc, out, names, id, "made", object)?;
-    add_word(out, called.as_str())?;
-    add_part(alloc, out, names, "caps", caps)?;
-    add_part(alloc, out, names, "stamps", stamps)
+    push_act(alloc, out, names, made.activation, "made", &made.object)?;
+    add_word(out, made.name.as_str())?;
+    add_part(alloc, out, names, "caps", made.caps.as_slice())?;
+    add_part(alloc, out, names, "stamps", made.stamps.as_slice())
 }
 
 /// An answer.
@@ -206,26 +194,16 @@ fn add_answer(out: &mut String, names: &[Str], answer: &Name) -> Result<(), Allo
 }
 
 /// A send.
-fn push_send(
-    alloc: Global,
-    out: &mut String,
-    names: &[Str],
-    id: u64,
-    sent: &Msg,
-    target: &Shown,
-    verb: &Str,
-    args: &[Shown],
-    answer: &Name,
-) -> Result<(), AllocError>
-    ensures { OnOk result (string_bytes out.new ≡ string_bytes out.old ++ line_of names.now (Send id sent.now target.now verb.now args.now answer.now)) }
+fn push_send(alloc: Global, out: &mut String, names: &[Str], sent: &Sent) -> Result<(), AllocError>
+    ensures { OnOk result (string_bytes out.new ≡ string_bytes out.old ++ line_of names.now (Send sent.now)) }
 {
-    push_activation(out, id)?;
+    push_activation(out, sent.activation)?;
     add_word(out, "send")?;
-    add_message(out, names, sent)?;
-    add_value(alloc, out, names, target)?;
-    add_verb(out, verb.as_str())?;
-    add_values(alloc, out, names, args)?;
-    add_answer(out, names, answer)
+    add_message(out, names, &sent.message)?;
+    add_value(alloc, out, names, &sent.target)?;
+    add_verb(out, sent.verb.as_str())?;
+    add_values(alloc, out, names, sent.args.as_slice())?;
+    add_answer(out, names, &sent.answer)
 }
 
 /// A reaction.
@@ -233,20 +211,16 @@ fn push_when(
     alloc: Global,
     out: &mut String,
     names: &[Str],
-    id: u64,
-    sent: &Msg,
-    x: &Shown,
-    reaction: &Shown,
-    answer: &Name,
+    reacting: &Reacting,
 ) -> Result<(), AllocError>
-    ensures { OnOk result (string_bytes out.new ≡ string_bytes out.old ++ line_of names.now (When id sent.now x.now reaction.now answer.now)) }
+    ensures { OnOk result (string_bytes out.new ≡ string_bytes out.old ++ line_of names.now (When reacting.now)) }
 {
-    push_activation(out, id)?;
+    push_activation(out, reacting.activation)?;
     add_word(out, "when")?;
-    add_message(out, names, sent)?;
-    add_value(alloc, out, names, x)?;
-    add_value(alloc, out, names, reaction)?;
-    add_answer(out, names, answer)
+    add_message(out, names, &reacting.message)?;
+    add_value(alloc, out, names, &reacting.value)?;
+    add_value(alloc, out, names, &reacting.reaction)?;
+    add_answer(out, names, &reacting.answer)
 }
 
 /// A list that is made or arrives.
@@ -312,6 +286,125 @@ fn push_left_queue(out: &mut String, names: &[Str], host: VatId, id: &Msg) -> Re
     add_message(out, names, id)
 }
 
+/// The line of an opening turn.
+fn push_open(out: &mut String, names: &[Str], host: VatId) -> Result<(), AllocError>
+    ensures { OnOk result (string_bytes out.new ≡ string_bytes out.old ++ spaced (codes "open" ∷ vat names.now host ∷ [])) }
+{
+    out.push_str("open")?;
+    add_vat(out, names, host)
+}
+
+/// An entry that begins a turn of a vat.
+fn push_turn(out: &mut String, names: &[Str], entry: u64, host: VatId) -> Result<(), AllocError>
+    ensures { OnOk result (string_bytes out.new ≡ string_bytes out.old ++ spaced (decimal entry ∷ codes "turn" ∷ vat names.now host ∷ [])) }
+{
+    push_number(out, entry)?;
+    add_word(out, "turn")?;
+    add_vat(out, names, host)
+}
+
+/// An entry that finds nothing to do.
+fn push_idle(out: &mut String, entry: u64) -> Result<(), AllocError>
+    ensures { OnOk result (string_bytes out.new ≡ string_bytes out.old ++ spaced (decimal entry ∷ codes "idle" ∷ [])) }
+{
+    push_number(out, entry)?;
+    add_word(out, "idle")
+}
+
+/// The bytes of the note that was carried.
+fn push_frame(out: &mut String, bytes: &[u8]) -> Result<(), AllocError>
+    ensures { OnOk result (string_bytes out.new ≡ string_bytes out.old ++ spaced (codes "frame" ∷ hex bytes.now ∷ [])) }
+{
+    out.push_str("frame ")?;
+    push_hex(out, bytes)
+}
+
+/// A call that an ejector left.
+fn push_gone(out: &mut String, id: u64) -> Result<(), AllocError>
+    ensures { OnOk result (string_bytes out.new ≡ string_bytes out.old ++ spaced (activation id ∷ codes "gone" ∷ [])) }
+{
+    push_activation(out, id)?;
+    add_word(out, "gone")
+}
+
+/// A list that an activation makes.
+fn push_list(
+    alloc: Global,
+    out: &mut String,
+    names: &[Str],
+    id: u64,
+    list: (VatId, u64),
+    members: &[Shown],
+) -> Result<(), AllocError>
+    ensures { OnOk result (string_bytes out.new ≡ string_bytes out.old ++ spaced (activation id ∷ codes "list" ∷ numbered names.now list.0 37 list.1 ∷ values names.now members.now)) }
+{
+    push_activation(out, id)?;
+    add_word(out, "list")?;
+    add_list(alloc, out, names, list, members)
+}
+
+/// A list that arrives.
+fn push_arrived(
+    alloc: Global,
+    out: &mut String,
+    names: &[Str],
+    list: (VatId, u64),
+    members: &[Shown],
+) -> Result<(), AllocError>
+    ensures { OnOk result (string_bytes out.new ≡ string_bytes out.old ++ spaced (codes "list" ∷ numbered names.now list.0 37 list.1 ∷ values names.now members.now)) }
+{
+    out.push_str("list")?;
+    add_list(alloc, out, names, list, members)
+}
+
+/// A name that settles.
+fn push_settle(
+    alloc: Global,
+    out: &mut String,
+    names: &[Str],
+    subject: &Name,
+    x: &Shown,
+) -> Result<(), AllocError>
+    ensures { OnOk result (string_bytes out.new ≡ string_bytes out.old ++ spaced (codes "settle" ∷ name names.now subject.now ∷ value names.now x.now ∷ [])) }
+{
+    out.push_str("settle")?;
+    add_name(out, names, subject)?;
+    add_value(alloc, out, names, x)
+}
+
+/// A message that is left held on a name.
+fn push_left_held(
+    out: &mut String,
+    names: &[Str],
+    host: VatId,
+    held: &Name,
+    id: &Msg,
+) -> Result<(), AllocError>
+    ensures { OnOk result (string_bytes out.new ≡ string_bytes out.old ++ spaced (codes "left" ∷ codes "held" ∷ vat names.now host ∷ name names.now held.now ∷ message names.now id.now ∷ [])) }
+{
+    out.push_str("left held")?;
+    add_vat(out, names, host)?;
+    add_name(out, names, held)?;
+    add_message(out, names, id)
+}
+
+/// A reaction that is left waiting.
+fn push_left_wait(
+    alloc: Global,
+    out: &mut String,
+    names: &[Str],
+    host: VatId,
+    x: &Shown,
+    id: &Msg,
+) -> Result<(), AllocError>
+    ensures { OnOk result (string_bytes out.new ≡ string_bytes out.old ++ spaced (codes "left" ∷ codes "wait" ∷ vat names.now host ∷ value names.now x.now ∷ message names.now id.now ∷ [])) }
+{
+    out.push_str("left wait")?;
+    add_vat(out, names, host)?;
+    add_value(alloc, out, names, x)?;
+    add_message(out, names, id)
+}
+
 /// Appends the line of an event.
 fn push_event(
     alloc: Global,
@@ -322,157 +415,49 @@ fn push_event(
     ensures { OnOk result (string_bytes out.new ≡ string_bytes out.old ++ line_of names.now event.now) }
 {
     match event {
-        Event::Open(host) => {
-            out.push_str("open")?;
-            add_vat(out, names, *host)
-        }
-        Event::Turn(entry, host) => {
-            push_number(out, *entry)?;
-            add_word(out, "turn")?;
-            add_vat(out, names, *host)
-        }
-        Event::Idle(entry) => {
-            push_number(out, *entry)?;
-            add_word(out, "idle")
-        }
-        Event::Carry(entry, from, to, note) => push_carry(
-            alloc, out, names, *entry, *from, *to, note,
-        ),
-        Event::Cut(entry, from, to) => push_entry(out, names, *entry, "cut", *from, *to),
-        Event::Notice(entry, at, peer) => push_entry(out, names, *entry, "notice", *at, *peer),
-        Event::Frame(bytes) => {
-            out.push_str("frame ")?;
-            push_hex(out, bytes.as_slice())
-        }
-        Event::Take {
-            activation,
-            message,
-            target,
-            verb,
-            args,
-        } => push_take(
+        Event::Open(host) => push_open(out, names, *host),
+        Event::Turn(entry, host) => push_turn(out, names, *entry, *host),
+        Event::Idle(entry) => push_idle(out, *entry),
+        Event::Carry(entry, v, w, note) => push_carry(
             alloc,
             out,
             names,
-            *activation,
-            message,
-            target,
-            verb,
-            args.as_slice(),
+            *entry,
+            *v,
+            *w,
+            note.get(),
         ),
-        Event::Call {
-            activation,
-            target,
-            verb,
-            args,
-            begun,
-        } => push_call(
-            alloc,
-            out,
-            names,
-            *activation,
-            target,
-            verb,
-            args.as_slice(),
-            *begun,
-        ),
+        Event::Cut(entry, v, w) => push_entry(out, names, *entry, "cut", *v, *w),
+        Event::Notice(entry, v, w) => push_entry(out, names, *entry, "notice", *v, *w),
+        Event::Frame(bytes) => push_frame(out, bytes.as_slice()),
+        Event::Take(taken) => push_take(alloc, out, names, taken.get()),
+        Event::Call(called) => push_call(alloc, out, names, called.get()),
         Event::Back(id, x) => push_act(alloc, out, names, *id, "back", x),
         Event::Thrown(id, x) => push_act(alloc, out, names, *id, "thrown", x),
-        Event::Gone(id) => {
-            push_activation(out, *id)?;
-            add_word(out, "gone")
-        }
+        Event::Gone(id) => push_gone(out, *id),
         Event::Got(id, x) => push_act(alloc, out, names, *id, "got", x),
         Event::Slot(id, slot, x) => push_slot(alloc, out, names, *id, "slot", *slot, x),
         Event::Read(id, slot, x) => push_slot(alloc, out, names, *id, "read", *slot, x),
         Event::Wrote(id, slot, x) => push_slot(alloc, out, names, *id, "wrote", *slot, x),
-        Event::List(id, list, members) => {
-            push_activation(out, *id)?;
-            add_word(out, "list")?;
-            add_list(alloc, out, names, *list, members.as_slice())
-        }
-        Event::Arrived(list, members) => {
-            out.push_str("list")?;
-            add_list(alloc, out, names, *list, members.as_slice())
-        }
+        Event::List(id, list, xs) => push_list(alloc, out, names, *id, *list, xs.as_slice()),
+        Event::Arrived(list, xs) => push_arrived(alloc, out, names, *list, xs.as_slice()),
         Event::Ejector(id, x) => push_act(alloc, out, names, *id, "ejector", x),
         Event::Audition(id, x) => push_act(alloc, out, names, *id, "audition", x),
-        Event::Promise(id, made, resolver) => push_promise(alloc, out, names, *id, made, resolver),
-        Event::Made {
-            activation,
-            object,
-            name,
-            caps,
-            stamps,
-        } => push_made(
-            alloc,
-            out,
-            names,
-            *activation,
-            object,
-            name,
-            caps.as_slice(),
-            stamps.as_slice(),
-        ),
-        Event::Send {
-            activation,
-            message,
-            target,
-            verb,
-            args,
-            answer,
-        } => push_send(
-            alloc,
-            out,
-            names,
-            *activation,
-            message,
-            target,
-            verb,
-            args.as_slice(),
-            answer,
-        ),
-        Event::When {
-            activation,
-            message,
-            value,
-            reaction,
-            answer,
-        } => push_when(
-            alloc,
-            out,
-            names,
-            *activation,
-            message,
-            value,
-            reaction,
-            answer,
-        ),
+        Event::Promise(id, made, x) => push_promise(alloc, out, names, *id, made, x),
+        Event::Made(made) => push_made(alloc, out, names, made.get()),
+        Event::Send(sent) => push_send(alloc, out, names, sent.get()),
+        Event::When(reacting) => push_when(alloc, out, names, reacting.get()),
         Event::Done(id, x) => push_act(alloc, out, names, *id, "done", x),
         Event::Threw(id, x) => push_act(alloc, out, names, *id, "threw", x),
-        Event::Settle(subject, x) => {
-            out.push_str("settle")?;
-            add_name(out, names, subject)?;
-            add_value(alloc, out, names, x)
-        }
-        Event::Wait(first, second) => push_names(out, names, "wait", first, second),
-        Event::View(first, second) => push_names(out, names, "view", first, second),
+        Event::Settle(subject, x) => push_settle(alloc, out, names, subject, x),
+        Event::Wait(p, q) => push_names(out, names, "wait", p, q),
+        Event::View(p, q) => push_names(out, names, "view", p, q),
         Event::LostCut(id) => push_lost(out, names, id, "cut"),
         Event::LostBroken(id) => push_lost(out, names, id, "broken"),
         Event::LeftQueue(host, id) => push_left_queue(out, names, *host, id),
-        Event::LeftHeld(host, held, id) => {
-            out.push_str("left held")?;
-            add_vat(out, names, *host)?;
-            add_name(out, names, held)?;
-            add_message(out, names, id)
-        }
-        Event::LeftWait(host, x, id) => {
-            out.push_str("left wait")?;
-            add_vat(out, names, *host)?;
-            add_value(alloc, out, names, x)?;
-            add_message(out, names, id)
-        }
-        Event::LeftLink(from, to, note) => push_left_link(alloc, out, names, *from, *to, note),
+        Event::LeftHeld(host, held, id) => push_left_held(out, names, *host, held, id),
+        Event::LeftWait(host, x, id) => push_left_wait(alloc, out, names, *host, x, id),
+        Event::LeftLink(v, w, note) => push_left_link(alloc, out, names, *v, *w, note.get()),
         Event::End => out.push_str("end"),
     }
 }

@@ -55,7 +55,7 @@ fn shows(rt: HostRuntime) -> Result<(), Fail> {
     let note = ShownNote::Settled(Name::Answer(VatId(0), message), nested);
     push_line(
         alloc,
-        &Event::Carry(0, VatId(0), VatId(1), note),
+        &Event::Carry(0, VatId(0), VatId(1), Boxed::new(alloc, note)?),
         &names,
         &mut text,
     )?;
@@ -64,13 +64,14 @@ fn shows(rt: HostRuntime) -> Result<(), Fail> {
     push_line(alloc, &Event::Frame(bytes), &names, &mut text)?;
     let mut args = Seq::new(alloc);
     args.push(Shown::Text(Str::copy_of(alloc, "x")?))?;
-    let call = Event::Call {
+    let call = Called {
         activation: 2,
         target: Shown::Slot(VatId(0), 3),
         verb: Str::copy_of(alloc, "in")?,
         args,
         begun: Some(5),
     };
+    let call = Event::Call(Boxed::new(alloc, call)?);
     push_line(alloc, &call, &names, &mut text)?;
     assert_eq!(rt;
         text.as_str(),

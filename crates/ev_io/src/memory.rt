@@ -27,6 +27,7 @@ pub struct MemorySource {
 }
 
 impl MemorySource {
+    /// A source of these bytes, from the first on, with no call made yet.
     pub fn new(bytes: Seq<u8>, most: u32, fails: Seq<u32>) -> MemorySource
         requires { 0 < most }
         ensures bytes { drop result.at result.bytes ≡ bytes }

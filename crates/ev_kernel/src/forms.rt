@@ -22,6 +22,11 @@ pub enum FormFault {
 }
 
 impl fmt::Display for FormFault {
+    ghost use Rattle.std.specs.Prelude.{Some};
+    ghost use Rattle.ev_kernel.specs.Faults.{fault_text};
+
+    ghost output = { λ fault. Some (fault_text fault) };
+
     fn fmt<W: fmt::Write>(&self, f: &mut fmt::Formatter<W>) -> fmt::Result {
         match self {
             FormFault::At(place) => write!(f, "no form at {place}"),

@@ -1,8 +1,12 @@
 -- The tokens of a text.
-use Rattle.std.specs.Prelude.{ℕ, zero, suc, ◌+◌, ◌-◌, false, List, [], ◌∷◌, Result, Ok, Err}
+use Rattle.std.specs.Prelude.{Vec, ◌≡◌, ℕ, zero, suc, ◌+◌, ◌-◌, false, List, [], ◌∷◌, Result, Ok, Err}
+use Rattle.std.specs.declared.alloc.Global.{Global}
 use Rattle.ev_token.specs.declared.token.Token.{Token}
 use Rattle.ev_token.specs.declared.token.TokenKind.{TokenKind}
-use Rattle.ev_lexer.specs.Pieces.{Blank, Whole, Fault, piece}
+use Rattle.ev_lexer.specs.declared.lexing.LexFault.{LexFault}
+use Rattle.ev_lexer.specs.declared.lexing.LexFault.TheVariants.{At, Memory}
+use Rattle.ev_lexer.specs.declared.pieces.Piece.TheVariants.{Blank, Whole, Fault}
+use Rattle.ev_lexer.specs.Pieces.{piece}
 use Rattle.ev_lexer.specs.LineEnds.{kept}
 
 -- the token of a kind that stands from one place to another
@@ -31,3 +35,15 @@ split zero place (b ∷ more) = elim (piece (b ∷ more)) [
 -- the tokens of a text, or the kind and the place of its first fault
 abbrev pub lexed : List ℕ → Result (List Token) (ℕ × ℕ)
 lexed text = map_tokens (kept [] false) (split 0 0 text)
+
+-- the answer is that of the definition, the tokens or the kind and the place of the first fault, unless memory runs out
+abbrev pub Answers : Result (List Token) LexFault → Result (List Token) (ℕ × ℕ) → Type 0
+Answers (Ok tokens) due = due ≡ Ok tokens
+Answers (Err (At kind offset)) due = due ≡ Err (kind, offset)
+Answers (Err Memory) due = Unit {0}
+
+-- the same of the tokens with each line end among them
+abbrev pub SplitAnswers : Result (Vec Token Global) LexFault → Result (List Token) (ℕ × ℕ) → Type 0
+SplitAnswers (Ok tokens) due = due ≡ Ok tokens.items
+SplitAnswers (Err (At kind offset)) due = due ≡ Err (kind, offset)
+SplitAnswers (Err Memory) due = Unit {0}

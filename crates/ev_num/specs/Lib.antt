@@ -1,3 +1,3 @@
 pub mod Ints
 pub mod Numerals
-pub mod Message
+pub mod Problems

@@ -42,9 +42,9 @@ pub enum NumFault {
 
 impl fmt::Display for NumFault {
     ghost use Rattle.std.specs.Prelude.{Some};
-    ghost use Rattle.ev_num.specs.Message.{fault_text};
+    ghost use Rattle.ev_num.specs.Problems.{problem};
 
-    ghost output = { λ fault. Some (fault_text fault) };
+    ghost output = { λ fault. Some (problem fault) };
 
     fn fmt<W: fmt::Write>(&self, f: &mut fmt::Formatter<W>) -> fmt::Result {
         match self {

@@ -77,8 +77,8 @@ shown_note w (Shorten n c i) = note.Shorten (shown_name n) (name.Gift c i)
 
 -- what happens at vat v
 unfoldable pub shown_happened : ℕ → Happened Name → List ShownEvent
-shown_happened v (Took a m) = event.Take a (shown_msg m.id) (shown_value v m.target) m.verb (shown_values v m.args) ∷ []
-shown_happened v (Called a x verb args b) = event.Call a (shown_value v x) verb (shown_values v args) b ∷ []
+shown_happened v (Took a m) = event.Take (record { activation = a; message = shown_msg m.id; target = shown_value v m.target; verb = m.verb; args = shown_values v m.args }) ∷ []
+shown_happened v (Called a x verb args b) = event.Call (record { activation = a; target = shown_value v x; verb = verb; args = shown_values v args; begun = b }) ∷ []
 shown_happened v (Back a x) = event.Back a (shown_value v x) ∷ []
 shown_happened v (Thrown a p) = event.Thrown a (shown.Text p) ∷ []
 shown_happened v (Left a) = event.Gone a ∷ []
@@ -91,9 +91,9 @@ shown_happened v (ListCame k xs) = event.Arrived (shown_slot v k) (shown_values 
 shown_happened v (EjectorMade a n) = event.Ejector a (shown.Name (shown_name n)) ∷ []
 shown_happened v (AuditionMade a n) = event.Audition a (shown.Name (shown_name n)) ∷ []
 shown_happened v (PromiseMade a p r) = event.Promise a (shown_name p) (shown.Name (shown_name r)) ∷ []
-shown_happened v (ObjectMade a n x caps stamps) = event.Made a (shown.Name (shown_name n)) x (map (shown_capture v) caps) (shown_values v stamps) ∷ []
-shown_happened v (Sends a m) = event.Send a (shown_msg m.id) (shown_value v m.target) m.verb (shown_values v m.args) (shown_name m.answer) ∷ []
-shown_happened v (Reacts a x o m) = event.When a (shown_msg m.id) (shown_value v x) (shown_value v o) (shown_name m.answer) ∷ []
+shown_happened v (ObjectMade a n x caps stamps) = event.Made (record { activation = a; object = shown.Name (shown_name n); name = x; caps = map (shown_capture v) caps; stamps = shown_values v stamps }) ∷ []
+shown_happened v (Sends a m) = event.Send (record { activation = a; message = shown_msg m.id; target = shown_value v m.target; verb = m.verb; args = shown_values v m.args; answer = shown_name m.answer }) ∷ []
+shown_happened v (Reacts a x o m) = event.When (record { activation = a; message = shown_msg m.id; value = shown_value v x; reaction = shown_value v o; answer = shown_name m.answer }) ∷ []
 shown_happened v (Finished a x) = event.Done a (shown_value v x) ∷ []
 shown_happened v (Threw a p) = event.Threw a (shown.Text p) ∷ []
 shown_happened v (Settles n x) = event.Settle (shown_name n) (shown_value v x) ∷ []

@@ -24,6 +24,7 @@ pub fn is_stopping(kind: TokenKind) -> bool
     )
 }
 
+/// Whether two tokens are of one kind.
 pub fn is_same(a: TokenKind, b: TokenKind) -> bool
     ensures { result ≡ same a b }
 {

@@ -1,3 +1,4 @@
 pub mod Quoting
 pub mod Unquoting
 pub mod Keywords
+pub mod Faults

@@ -20,6 +20,11 @@ pub enum EscapeFault {
 }
 
 impl fmt::Display for EscapeFault {
+    ghost use Rattle.std.specs.Prelude.{Some};
+    ghost use Rattle.ev_text.specs.Faults.{fault_text};
+
+    ghost output = { λ fault. Some (fault_text fault) };
+
     fn fmt<W: fmt::Write>(&self, f: &mut fmt::Formatter<W>) -> fmt::Result {
         match self {
             EscapeFault::At(place) => write!(f, "no text at {place}"),
