@@ -1,0 +1,72 @@
+//! Reads the text of standard input as often as it is told, for `bench/` to time.
+//!
+//! Words: `lex TIMES` takes it apart into tokens, `parse TIMES` does so once and parses the tokens so often. It prints nothing,
+//! and ends with status 0 where the text has tokens and memory sufficed. A text that spells no tree is read too.
+#![tactic(auto)]
+
+use ev_base::Seq;
+use ev_io::{StdSource, read_all};
+use ev_lexer::lex;
+use ev_parser::{ParseFault, parse};
+use std::alloc::Global;
+use std::env;
+use std::io::BufReader;
+use std::process::ExitCode;
+use std::str;
+
+/// The greatest input, in bytes.
+const LIMIT: u32 = 1_048_576;
+
+fn read_input(rt: &HostRuntime) -> Option<Seq<u8>> {
+    let reader = BufReader::new(rt.alloc(), rt.reader()).ok()?;
+    let mut source = StdSource::new(reader);
+    read_all(rt.alloc(), &mut source, LIMIT).ok()
+}
+
+fn lex_often(alloc: Global, text: &str, times: u32) -> bool {
+    for _ in 0..times {
+        let Ok(_) = lex(alloc, text) else {
+            return false;
+        };
+    }
+    true
+}
+
+/// Takes the text apart once, and parses its tokens so often.
+fn parse_often(alloc: Global, text: &str, times: u32) -> bool {
+    let Ok(tokens) = lex(alloc, text) else {
+        return false;
+    };
+    for _ in 0..times {
+        if let Err(ParseFault::Memory) = parse(alloc, tokens.as_slice(), text) {
+            return false;
+        }
+    }
+    true
+}
+
+fn work(alloc: Global, kind: &str, bytes: &[u8], times: u32) -> bool {
+    let Ok(text) = str::from_utf8(bytes) else {
+        return false;
+    };
+    match kind {
+        "lex" => lex_often(alloc, text, times),
+        "parse" => parse_often(alloc, text, times),
+        _ => false,
+    }
+}
+
+fn run(rt: &HostRuntime) -> Option<bool> {
+    let mut words = env::args(rt).ok()?.skip(1);
+    let kind = words.next()?;
+    let times: u32 = words.next()?.as_str().parse().ok()?;
+    let bytes = read_input(rt)?;
+    Some(work(rt.alloc(), kind.as_str(), bytes.as_slice(), times))
+}
+
+fn main(rt: HostRuntime) -> ExitCode {
+    match run(&rt) {
+        Some(true) => ExitCode::SUCCESS,
+        _ => ExitCode::from(1),
+    }
+}
