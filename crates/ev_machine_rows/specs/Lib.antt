@@ -33,3 +33,4 @@ pub mod Natives
 pub mod References
 pub mod Audits
 pub mod Bounds
+pub mod Heavy

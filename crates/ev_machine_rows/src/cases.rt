@@ -5,6 +5,7 @@ ghost use Rattle.ev_machine_rows.specs.Natives.{NativesHold, NativesRead};
 ghost use Rattle.ev_machine_rows.specs.References.{ReferencesHold, ReferencesRead};
 ghost use Rattle.ev_machine_rows.specs.Audits.{AuditsHold, AuditsRead};
 ghost use Rattle.ev_machine_rows.specs.Bounds.{BoundsHold, BoundsRead};
+ghost use Rattle.ev_machine_rows.specs.Heavy.{HeavyHolds};
 
 /// Guards, ejectors and patterns.
 #[tactic(auto, unfolding(crate::specs::Endings::opened_endings, ev_kernel::specs::Reading::opened_reading, crate::specs::Guards::opened_guards))]
@@ -39,4 +40,10 @@ pub fn audits_hold()
 pub fn bounds_hold()
     ensures ends { BoundsHold }
     ensures trees { BoundsRead }
+{}
+
+/// A list that is too high passes to another vat as broken, and draws nothing.
+#[tactic(auto, unfolding(crate::specs::Heavy::opened_heavy))]
+pub fn heavy_lists_break()
+    ensures { HeavyHolds }
 {}

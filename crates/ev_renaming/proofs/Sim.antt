@@ -124,7 +124,7 @@ module _ {M V : Type 0} (L : Naming M V) where
     mailed = λ s c e. before.mails _ _ _ e;
     came = λ s c h e. before.names _ _ _ (rw map_end at e);
     promised = λ s e. before.names _ _ _ (rw map_end at e);
-    messaged = λ s h id a e. before.mails _ _ _ (before.names _ _ _ (rw map_end at e));
+    messaged = λ s h id e. before.mails _ _ _ (before.names _ _ _ (rw map_end at e));
   }
 
 -- ---- the structure of acts
