@@ -1,1 +1,4 @@
 pub mod FormLemmas
+pub mod Words
+pub mod WalkLemmas
+pub mod Weights

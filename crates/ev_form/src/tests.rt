@@ -53,3 +53,54 @@ fn deep_trees_are_printed(rt: HostRuntime) -> Result<(), Fail> {
     assert!(rt; is_printed(alloc, text.as_str())?);
     Ok(())
 }
+
+/// Whether the free names of node 0 are these.
+fn has_free_names(alloc: Global, form: &str, due: &[&str]) -> Result<bool, Fail> {
+    let tree = read_form(alloc, form)?;
+    let names = free_names(alloc, &tree, NodeId(0))?;
+    if names.len() != due.len() {
+        return Ok(false);
+    }
+    for (name, other) in names.as_slice().iter().zip(due) {
+        if name.as_str() != *other {
+            return Ok(false);
+        }
+    }
+    Ok(true)
+}
+
+#[test]
+fn finds_free_names(rt: HostRuntime) -> Result<(), Fail> {
+    let alloc = rt.alloc();
+    assert!(rt; has_free_names(alloc, "(noun x)", &["x"])?);
+    assert!(rt; has_free_names(alloc, "(set x (call (noun y) add (noun x)))", &["x", "y"])?);
+    assert!(rt;
+        has_free_names(
+            alloc,
+            "(def (final x (noun g)) exit (noun j) (noun x))",
+            &["j", "x", "g"]
+        )?
+    );
+    assert!(rt;
+        has_free_names(
+            alloc,
+            "(seq (hide (def (final x) (lit 1))) (noun x) (def (var y) (lit 2)) (noun y))",
+            &["x"]
+        )?
+    );
+    assert!(rt;
+        has_free_names(
+            alloc,
+            "(object (final o) ((noun a)) (method run ((final x (noun int))) (seq (noun x) (noun o))) (matcher (any) (noun m)))",
+            &["int", "o", "m"]
+        )?
+    );
+    assert!(rt;
+        has_free_names(
+            alloc,
+            "(hide (object (final o) ((noun a)) (method run ((final x)) (seq (noun x) (noun o) (noun b)))))",
+            &["a", "b"]
+        )?
+    );
+    Ok(())
+}

@@ -1,3 +1,4 @@
+pub mod Names
 pub mod TaskLemmas
 pub mod Weights
 mod Rows

@@ -1,3 +1,4 @@
+pub mod Bindings
 pub mod Scopes
 pub mod Tasks
 pub mod Answers

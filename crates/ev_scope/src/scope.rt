@@ -1,9 +1,11 @@
 //! One scope.
 
-ghost use Rattle.std.specs.Prelude.{◌≡◌, [], OnOk};
+ghost use Rattle.std.specs.Prelude.{◌≡◌, [], None, OnOk};
 ghost use Rattle.ev_scope.specs.Scopes.{bound_in, with_name};
+ghost use Rattle.ev_scope.specs.Bindings.{bindings};
 
-use ev_base::{Memory, Seq, Str};
+use ev_base::{Memory, Str};
+use indexmap::IndexMap;
 use std::alloc::Global;
 use std::marker::Model;
 
@@ -14,31 +16,43 @@ pub struct Binding {
     pub is_var: bool,
 }
 
-/// The names of a scope, in the order in which they were bound.
+/// The names of a scope, each with whether a `var` pattern bound it, in the order in which they were bound. Contracts see
+/// them as bindings.
 #[derive(Drop)]
 pub struct Scope {
-    bindings: Seq<Binding>,
+    names: IndexMap<String, bool>,
 }
 
 impl Model for Scope {
     ghost use Rattle.std.specs.Prelude.{List};
     ghost use Rattle.ev_scope.specs.declared.scope.Binding.{Binding};
+    ghost use Rattle.ev_scope.specs.Bindings.{bindings};
 
     ghost Value = { List Binding };
 
-    ghost view = { λ s. s.bindings };
+    ghost view = { λ s. bindings s.names.entries };
 }
 
-/// Whether a name is among these, and then whether it may be assigned.
-fn find_in(bindings: &[Binding], name: &str) -> Option<bool>
-    ensures { result ≡ bound_in name.now bindings.now }
+/// Whether a name is bound, and then whether it may be assigned.
+fn find_in(names: &IndexMap<String, bool>, name: &str) -> Option<bool>
+    ensures { result ≡ bound_in name.now (bindings names.now.entries) }
 {
-    for binding in bindings {
-        if name == binding.name.as_str() {
-            return Some(binding.is_var);
-        }
-    }
-    None
+    names.get(name).copied()
+}
+
+/// Binds a name that is not bound.
+fn insert_in(
+    names: &mut IndexMap<String, bool>,
+    alloc: Global,
+    name: &str,
+    is_var: bool,
+) -> Result<(), Memory>
+    requires { bound_in name.now (bindings names.old.entries) ≡ None }
+    ensures { OnOk result (bindings names.new.entries ≡ with_name name.now is_var (bindings names.old.entries)) }
+{
+    let key = String::from_str(alloc, name)?;
+    let _old = names.insert(key, is_var)?;
+    Ok(())
 }
 
 impl Scope {
@@ -47,7 +61,7 @@ impl Scope {
         ensures { result ≡ [] }
     {
         Scope {
-            bindings: Seq::new(alloc),
+            names: IndexMap::new(alloc),
         }
     }
 
@@ -55,18 +69,16 @@ impl Scope {
     pub fn find(&self, name: &str) -> Option<bool>
         ensures { result ≡ bound_in name.now self.now }
     {
-        find_in(self.bindings.as_slice(), name)
+        find_in(&self.names, name)
     }
 
     /// Binds a name, unless it is bound.
     pub fn bind(&mut self, alloc: Global, name: &str, is_var: bool) -> Result<(), Memory>
         ensures { OnOk result (self.new ≡ with_name name.now is_var self.old) }
     {
-        if self.find(name).is_some() {
-            return Ok(());
+        match find_in(&self.names, name) {
+            Some(_) => Ok(()),
+            None => insert_in(&mut self.names, alloc, name, is_var),
         }
-        let name = Str::copy_of(alloc, name)?;
-        self.bindings.push(Binding { name, is_var })?;
-        Ok(())
     }
 }
