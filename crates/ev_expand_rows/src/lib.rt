@@ -1,0 +1,4 @@
+//! Worked rows of the expansion, by computing.
+#![tactic(auto)]
+
+pub mod examples;

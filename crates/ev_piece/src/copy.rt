@@ -1,0 +1,152 @@
+//! Copies of pieces.
+
+ghost use Rattle.std.specs.Prelude.{◌≡◌, IfOk};
+ghost use Rattle.ev_kernel.specs.declared.node.Node.TheVariants.{Call, Method, Object};
+
+use ev_base::{Memory, NodeId, Seq, Str};
+use ev_kernel::{Literal, Node};
+use std::alloc::Global;
+
+fn numbers(alloc: Global, ids: &Seq<NodeId>) -> Result<Seq<NodeId>, Memory>
+    ensures { IfOk result (λ copy. copy ≡ ids.now) }
+{
+    Ok(Seq::of(Vec::from_slice(alloc, ids.as_slice())?))
+}
+
+fn word(alloc: Global, text: &Str) -> Result<Str, Memory>
+    ensures { IfOk result (λ copy. copy ≡ text.now) }
+{
+    let copy = Str::copy_of(alloc, text.as_str())?;
+    Ok(copy)
+}
+
+fn literal(alloc: Global, value: &Literal) -> Result<Literal, Memory>
+    ensures { IfOk result (λ copy. copy ≡ value.now) }
+{
+    match value {
+        Literal::Int(number) => Ok(Literal::Int(*number)),
+        Literal::Char(c) => Ok(Literal::Char(*c)),
+        Literal::Text(text) => Ok(Literal::Text(word(alloc, text)?)),
+    }
+}
+
+fn call(alloc: Global, receiver: NodeId, verb: &Str, args: &Seq<NodeId>) -> Result<Node, Memory>
+    ensures { IfOk result (λ copy. copy ≡ Call receiver verb.now args.now) }
+{
+    let verb = word(alloc, verb)?;
+    let args = numbers(alloc, args)?;
+    Ok(Node::Call {
+        receiver,
+        verb,
+        args,
+    })
+}
+
+fn object(
+    alloc: Global,
+    pattern: NodeId,
+    auditors: &Seq<NodeId>,
+    members: &Seq<NodeId>,
+) -> Result<Node, Memory>
+    ensures { IfOk result (λ copy. copy ≡ Object pattern auditors.now members.now) }
+{
+    let auditors = numbers(alloc, auditors)?;
+    let members = numbers(alloc, members)?;
+    Ok(Node::Object {
+        pattern,
+        auditors,
+        members,
+    })
+}
+
+fn method(alloc: Global, verb: &Str, patterns: &Seq<NodeId>, body: NodeId) -> Result<Node, Memory>
+    ensures { IfOk result (λ copy. copy ≡ Method verb.now patterns.now body) }
+{
+    let verb = word(alloc, verb)?;
+    let patterns = numbers(alloc, patterns)?;
+    Ok(Node::Method {
+        verb,
+        patterns,
+        body,
+    })
+}
+
+/// A copy of a node.
+fn node(alloc: Global, node: &Node) -> Result<Node, Memory>
+    ensures { IfOk result (λ copy. copy ≡ node.now) }
+{
+    match node {
+        Node::Lit(value) => Ok(Node::Lit(literal(alloc, value)?)),
+        Node::Noun(name) => Ok(Node::Noun(word(alloc, name)?)),
+        Node::Set(name, value) => Ok(Node::Set(word(alloc, name)?, *value)),
+        Node::Def {
+            pattern,
+            exit,
+            value,
+        } => Ok(Node::Def {
+            pattern: *pattern,
+            exit: *exit,
+            value: *value,
+        }),
+        Node::Call {
+            receiver,
+            verb,
+            args,
+        } => call(alloc, *receiver, verb, args),
+        Node::Sequence(items) => Ok(Node::Sequence(numbers(alloc, items)?)),
+        Node::If(test, yes, no) => Ok(Node::If(*test, *yes, *no)),
+        Node::Escape {
+            pattern,
+            body,
+            caught,
+        } => Ok(Node::Escape {
+            pattern: *pattern,
+            body: *body,
+            caught: *caught,
+        }),
+        Node::Try {
+            body,
+            pattern,
+            handler,
+        } => Ok(Node::Try {
+            body: *body,
+            pattern: *pattern,
+            handler: *handler,
+        }),
+        Node::Finally(body, after) => Ok(Node::Finally(*body, *after)),
+        Node::Hide(body) => Ok(Node::Hide(*body)),
+        Node::MatchBind(value, pattern) => Ok(Node::MatchBind(*value, *pattern)),
+        Node::Object {
+            pattern,
+            auditors,
+            members,
+        } => object(alloc, *pattern, auditors, members),
+        Node::Method {
+            verb,
+            patterns,
+            body,
+        } => method(alloc, verb, patterns, *body),
+        Node::Matcher { pattern, body } => Ok(Node::Matcher {
+            pattern: *pattern,
+            body: *body,
+        }),
+        Node::Final(name, guard) => Ok(Node::Final(word(alloc, name)?, *guard)),
+        Node::Var(name, guard) => Ok(Node::Var(word(alloc, name)?, *guard)),
+        Node::Any(guard) => Ok(Node::Any(*guard)),
+        Node::ListPattern(patterns) => Ok(Node::ListPattern(numbers(alloc, patterns)?)),
+        Node::Via(value, pattern) => Ok(Node::Via(*value, *pattern)),
+    }
+}
+
+/// A copy of a piece.
+pub fn copied(alloc: Global, piece: &Seq<Node>) -> Result<Seq<Node>, Memory>
+    ensures { IfOk result (λ copy. copy ≡ piece.now) }
+{
+    let mut copy = Seq::new(alloc);
+    let nodes = piece.as_slice();
+    for item in nodes {
+        let made = node(alloc, item)?;
+        copy.push(made)?;
+    }
+    Ok(copy)
+}
