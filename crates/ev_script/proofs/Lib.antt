@@ -5,3 +5,4 @@ pub mod PlaceLemmas
 pub mod KnownLemmas
 pub mod RoundLemmas
 pub mod CutLemmas
+pub mod Examples

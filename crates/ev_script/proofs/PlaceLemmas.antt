@@ -1,8 +1,8 @@
 -- The place of a word among names, name by name.
-use Rattle.std.proofs.Common.{◌≡◌, ◌<◌, ◌≤◌, ◌+◌, ◌++◌, ℕ, suc, Bool, true, false, List, [], ◌∷◌, Option, Some, None, length, get_or, drop, take, refl, sym, ◌∙◌, ap, cond, append-nil, arith}
+use Rattle.std.proofs.Common.{◌≡◌, ◌<◌, ◌≤◌, ◌+◌, ℕ, suc, true, false, List, ◌∷◌, Option, Some, None, length, get_or, drop, refl, sym, ◌∙◌, ap, arith}
 use Rattle.std.specs.Prelude.{option_map}
 use Rattle.std.specs.Str.{bytes_eq}
-use Rattle.ev_script.specs.Vats.{place_of, stand_once}
+use Rattle.ev_script.specs.Vats.{place_of}
 use Rattle.ev_script.proofs.EachLemmas.{next_item, nothing_behind}
 
 abbrev pub behind : ℕ → Option ℕ → Option ℕ

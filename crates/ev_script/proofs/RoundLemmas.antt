@@ -1,5 +1,5 @@
 -- Rounds written out, entry by entry.
-use Rattle.std.proofs.Common.{◌≡◌, ◌<◌, ◌≤◌, ◌+◌, ◌-◌, ◌*◌, ◌^◌, ◌++◌, ⊎_elim, Option, Some, None, ℕ, zero, suc, Bool, true, false, List, [], ◌∷◌, length, get_or, drop, take, refl, sym, ◌∙◌, ap, subst, append_assoc, append-nil, arith}
+use Rattle.std.proofs.Common.{◌≡◌, ◌<◌, ◌≤◌, ◌+◌, ◌-◌, ◌*◌, ◌^◌, ◌++◌, ⊎_elim, Option, Some, None, ℕ, zero, suc, Bool, true, false, List, [], ◌∷◌, length, get_or, drop, refl, sym, ◌∙◌, ap, append_assoc, append-nil, arith}
 use Rattle.std.specs.Prelude.{nat_le, ◌==◌, MatchOption, SomeIff}
 use Rattle.std.specs.List.{repeat, range_with_len}
 use Rattle.std.proofs.lemmas.List.{length-append}

@@ -1,5 +1,5 @@
 -- The entries of a schedule: how each is spelled, which vats it names, and how many there are once drains are written out.
-use Rattle.std.specs.Prelude.{ℕ, ◌+◌, ◌*◌, ◌==◌, nat_le, nat_lt, Bool, true, false, not, ◌&&◌, ◌||◌, if◌then◌else◌, List, [], ◌∷◌, ◌++◌, length, codes, map, Some, None, is_some, option_map, option_and_then}
+use Rattle.std.specs.Prelude.{ℕ, ◌==◌, nat_le, nat_lt, Bool, true, false, not, ◌&&◌, ◌||◌, if◌then◌else◌, List, [], ◌∷◌, ◌++◌, length, codes, map, Some, None, is_some, option_map, option_and_then}
 use Rattle.std.specs.List.{list_any, list_all, flat_map, repeat, range_with_len, position_or_len, before_first, after_first}
 use Rattle.std.specs.declared.option.Option.{Option}
 use Rattle.std.specs.Str.{bytes_eq, all_ascii_digits}

@@ -1,5 +1,5 @@
 -- What bytes are a script, and which rule is the first that others break.
-use Rattle.std.specs.Prelude.{◌≡◌, ℕ, nat_le, Bool, not, if◌then◌else◌, List, [], length, Some, None, Result, Ok, Err, ok_or}
+use Rattle.std.specs.Prelude.{◌≡◌, ℕ, nat_le, Bool, if◌then◌else◌, List, [], length, Some, None, Result, Ok, Err}
 use Rattle.std.specs.List.{list_all}
 use Rattle.std.specs.declared.option.Option.{Option}
 use Rattle.serde_json.specs.Data.{Data}
@@ -10,7 +10,6 @@ use Rattle.ev_script.specs.Schedule.{entries_of, step_in, round, written_out, ar
 use Rattle.ev_script.specs.declared.vats.Described.{Described}
 use Rattle.ev_script.specs.declared.entries.Step.{Step}
 use Rattle.ev_script.specs.declared.script.Entry.{Entry}
-use Rattle.ev_script.specs.declared.script.VatScript.{VatScript}
 use Rattle.ev_script.specs.declared.script.Script.{Script}
 use Rattle.ev_script.specs.declared.script.ScriptFault.{ScriptFault}
 use Rattle.ev_script.specs.declared.script.ScriptFault.TheVariants.{Rule, Memory}

@@ -11,3 +11,6 @@ mod vats;
 
 pub use reader::read_script;
 pub use script::{Entry, Script, ScriptFault, VatScript};
+
+#[cfg(test)]
+mod tests;

@@ -1,4 +1,4 @@
-use Rattle.std.proofs.Common.{◌≡◌, List, ◌∙◌, sym, ap, take}
+use Rattle.std.proofs.Common.{List, ◌∙◌, sym, ap, take}
 use Rattle.ev_script.specs.declared.script.Entry.{Entry}
 use Rattle.ev_script.specs.Schedule.{may_follow}
 use Rattle.ev_script.proofs.CutLemmas.{follow_alike, kept_goes, order_goes, order_stops}

@@ -1,4 +1,4 @@
-use Rattle.std.proofs.Common.{◌∙◌, sym, arith}
+use Rattle.std.proofs.Common.{◌∙◌, sym}
 use Rattle.serde_json.specs.View.{view}
 use Rattle.ev_script.specs.Vats.{vat_of}
 use Rattle.ev_script.proofs.EachLemmas.{goes, stops, ends, each_length, each_map}

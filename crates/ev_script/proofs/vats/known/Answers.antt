@@ -1,4 +1,4 @@
-use Rattle.std.proofs.Common.{◌∙◌, sym, ap, refl}
+use Rattle.std.proofs.Common.{◌∙◌, sym, ap}
 use Rattle.ev_script.specs.Vats.{are_others}
 use Rattle.ev_script.proofs.KnownLemmas.{known_by}
 use Rattle.ev_script.proofs.vats.known.Goals as goal

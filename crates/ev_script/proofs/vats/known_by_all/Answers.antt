@@ -1,5 +1,4 @@
-use Rattle.std.proofs.Common.{◌∙◌, sym, ap, arith}
-use Rattle.ev_script.specs.Vats.{known}
+use Rattle.std.proofs.Common.{arith}
 use Rattle.ev_script.proofs.KnownLemmas.{goes, stops, ends, known_same}
 use Rattle.ev_script.proofs.vats.known_by_all.Goals as goal
 
