@@ -8,3 +8,4 @@ pub mod EvalFacts
 pub mod FineEval
 pub mod Reach
 pub mod FrozenSteps
+pub mod RunSound

@@ -1,6 +1,7 @@
 //! What is reached from objects that bear DeepFrozen's stamp.
 
 ghost use Rattle.ev_frozen_laws.specs.Laws.{ReachIsFrozen, StepsStaySound};
+ghost use Rattle.ev_frozen_laws.specs.Runs.{ReachIsFrozenInRuns};
 
 /// Every step of a vat from a sound state ends in a sound state.
 ///
@@ -17,4 +18,13 @@ pub fn steps_stay_sound()
 /// primitives, and objects of that vat with DeepFrozen's stamp.
 pub fn reach_is_frozen()
     ensures { ReachIsFrozen }
+{}
+
+/// In every vat of every world of a run, after any of its opening turns and after any entries of
+/// a schedule, what is reached from an object with DeepFrozen's stamp is frozen.
+///
+/// The script's vats must not be named by the lone `_`, and no pattern of a source may bind it:
+/// it is no identifier, so no script that is read has it as a name.
+pub fn reach_is_frozen_in_runs()
+    ensures { ReachIsFrozenInRuns }
 {}
