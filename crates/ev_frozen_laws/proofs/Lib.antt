@@ -1,0 +1,11 @@
+pub mod Facts
+pub mod Fine
+pub mod Looks
+pub mod FineRefs
+pub mod FineArrive
+pub mod Natives
+pub mod EvalFacts
+pub mod FineEval
+pub mod Reach
+pub mod FrozenSteps
+pub mod RunSound

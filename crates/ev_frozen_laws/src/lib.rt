@@ -1,0 +1,4 @@
+//! Laws of the machine about DeepFrozen.
+#![tactic(auto)]
+
+pub mod frozen;
