@@ -9,10 +9,9 @@ use ev_io::{StdSource, read_all};
 use ev_lexer::lex;
 use ev_parser::{ParseFault, parse};
 use std::alloc::Global;
-use std::env;
 use std::io::BufReader;
 use std::process::ExitCode;
-use std::str;
+use std::{env, str};
 
 /// The greatest input, in bytes.
 const LIMIT: u32 = 1_048_576;
