@@ -55,7 +55,7 @@ fn values(rt: HostRuntime) -> Result<(), Fail> {
     assert_eq!(rt; run(alloc, sum, 6, 3)?, some(Ended::Fuel, 0, 0));
     assert_eq!(rt; run(alloc, sum, 7, 2)?, some(Ended::Deep, 5, 0));
     assert_eq!(rt;
-        run(alloc, "(seq)", 1, 1)?,
+        run(alloc, "(seq (noun null))", 2, 2)?,
         some(Ended::Value(Value::Null), 0, 0)
     );
     Ok(())
