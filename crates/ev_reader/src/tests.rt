@@ -29,7 +29,7 @@ fn reads(rt: HostRuntime) -> Result<(), Fail> {
         ("def null := 1", "expand 3 1"),
         ("d", "scope 1 0"),
         ("c := 1", "scope 2 0"),
-        ("def x := 1\ndef x := 2", "scope 3 4"),
+        ("def x := 1\ndef x := 2", "scope 3 5"),
     ];
     for (text, wanted) in rows {
         assert_eq!(rt; answer(rt.alloc(), text)?.as_str(), wanted);
