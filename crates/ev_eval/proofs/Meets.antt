@@ -19,7 +19,11 @@ use Rattle.ev_machine.specs.State.{Bound, Fixed, Slot, Cell as TheirCell, Bindin
 use Rattle.ev_machine.specs.State as machine
 use Rattle.ev_machine.specs.Ints.{fits, opened_ints}
 use Rattle.ev_machine.specs.Native.{by_int, opened_native}
-use Rattle.ev_machine.specs.Eval.{Answer, Answers, any_guard, bound_in, opened_eval}
+use Rattle.ev_machine.specs.Scopes.{Answer, Answers, any_guard, bound_in}
+use Rattle.ev_machine.specs.Eval.{opened_eval}
+use Rattle.ev_machine.specs.Scopes as scopes
+use Rattle.ev_machine.specs.Perform as perform
+use Rattle.ev_machine.specs.Calls as calls
 use Rattle.ev_machine.specs.Eval as theirs
 use Rattle.ev_machine.specs.Native as native
 use Rattle.ev_eval.specs.declared.exit.Exit.{Exit}
@@ -170,19 +174,19 @@ unfolding opened_steps opened_state
 give_answer_met w v s sound = record { stands = (refl, sound) }
 
 ended_met : (w : World) (act : ℕ) (r : Result Plain Problem) (m : machine.Act Local (Value Local)) (s : Room) (sound : IsSound s)
-    → m (vat w s) ≡ outcome w r (vat w s) → Met w (val w) (ended act r s) (theirs.ended act m (vat w s))
-unfolding ended theirs.ended ◌>>◌ machine.give machine.throw machine.ending machine.end_by machine.◌>>◌
+    → m (vat w s) ≡ outcome w r (vat w s) → Met w (val w) (ended act r s) (scopes.ended act m (vat w s))
+unfolding ended scopes.ended ◌>>◌ machine.give machine.throw machine.ending machine.end_by machine.◌>>◌
 ended_met w act (Ok v) m s sound is = rw is (then_met _ _ (tell_met w (event.Back act (held_value v)) (Back act (val w v)) s sound (back_line w act v)) (λ u t q. give_met w (val w) v t q))
 ended_met w act (Err p) m s sound is = rw is (then_met _ _ (tell_met w (event.Thrown act (held.Text (problem_id p))) (Thrown act (problem_words p)) s sound (thrown_line w act p)) (λ u t q. fail_met w p t q))
 
-fits_or_not : (w : World) (tree : List Node) (rec : theirs.Caller Local) (act : ℕ) (b : Bool) (z : ℤ) (v : Vat Local)
-    → theirs.reply (names w) tree rec act (by_int (elim b [ true ↦ Ok z | false ↦ Err (codes "integer overflow") ])) v ≡ outcome w (if b then Ok (plain.Int z) else Err Overflow) v
+fits_or_not : (w : World) (tree : List Node) (rec : scopes.Caller Local) (act : ℕ) (b : Bool) (z : ℤ) (v : Vat Local)
+    → perform.reply (names w) tree rec act (by_int (elim b [ true ↦ Ok z | false ↦ Err (codes "integer overflow") ])) v ≡ outcome w (if b then Ok (plain.Int z) else Err Overflow) v
 unfolding opened_eval opened_native
 fits_or_not w tree rec act true z v = refl
 fits_or_not w tree rec act false z v = refl
 
-answer_is : (w : World) (tree : List Node) (again : theirs.Caller Local) (act : ℕ) (x : Plain) (args : List Plain) (s : Room)
-    → theirs.data_answer (names w) tree again act (val w x) (codes "add") (map (val w) args) (vat w s) ≡ outcome w (sum_of x args) (vat w s)
+answer_is : (w : World) (tree : List Node) (again : scopes.Caller Local) (act : ℕ) (x : Plain) (args : List Plain) (s : Room)
+    → perform.data_answer (names w) tree again act (val w x) (codes "add") (map (val w) args) (vat w s) ≡ outcome w (sum_of x args) (vat w s)
 unfolding opened_eval opened_native opened_steps opened_ints fits
 answer_is w tree again act plain.Null args s = refl
 answer_is w tree again act (plain.Int x) [] s = refl
@@ -199,9 +203,9 @@ called_line : (w : World) (act : ℕ) (x : Plain) (verb : Words) (args : List Pl
 unfolding line_of
 called_line w act x verb args = ap (λ (vs : List (Value Local)). Called act (val w x) verb vs None ∷ []) (vals_is w args)
 
-call_is : (w : World) (tree : List Node) (rec : theirs.Evaluator Local) (act : ℕ) (x : Plain) (verb : Words) (vs : List (Value Local)) (v : Vat Local)
-    → theirs.call (names w) tree rec act (val w x) verb vs v
-    ≡ theirs.with_lines act (val w x) verb vs (theirs.data_answer (names w) tree (λ a y u xs. theirs.call_at (names w) tree (3 + length v.lists) rec a y u xs) act (val w x) verb vs) v
+call_is : (w : World) (tree : List Node) (rec : scopes.Evaluator Local) (act : ℕ) (x : Plain) (verb : Words) (vs : List (Value Local)) (v : Vat Local)
+    → calls.call (names w) tree rec act (val w x) verb vs v
+    ≡ scopes.with_lines act (val w x) verb vs (perform.data_answer (names w) tree (λ a y u xs. calls.call_at (names w) tree (3 + length v.lists) rec a y u xs) act (val w x) verb vs) v
 unfolding opened_eval
 call_is w tree rec act plain.Null verb vs v =
     let more : 4 + length v.lists ≡ suc (3 + length v.lists) = omega arith in
@@ -210,25 +214,25 @@ call_is w tree rec act (plain.Int z) verb vs v =
     let more : 4 + length v.lists ≡ suc (3 + length v.lists) = omega arith in
     rw more refl
 
-with_lines_met : (w : World) (tree : List Node) (again : theirs.Caller Local) (act : ℕ) (x : Plain) (args : List Plain) (s : Room) (sound : IsSound s)
-    → Met w (val w) (call_add act x (codes "add") args s) (theirs.with_lines act (val w x) (codes "add") (map (val w) args) (theirs.data_answer (names w) tree again act (val w x) (codes "add") (map (val w) args)) (vat w s))
-unfolding call_add theirs.with_lines ◌>>◌ machine.◌>>◌
+with_lines_met : (w : World) (tree : List Node) (again : scopes.Caller Local) (act : ℕ) (x : Plain) (args : List Plain) (s : Room) (sound : IsSound s)
+    → Met w (val w) (call_add act x (codes "add") args s) (scopes.with_lines act (val w x) (codes "add") (map (val w) args) (perform.data_answer (names w) tree again act (val w x) (codes "add") (map (val w) args)) (vat w s))
+unfolding call_add scopes.with_lines ◌>>◌ machine.◌>>◌
 with_lines_met w tree again act x args s sound =
     then_met _ _ (tell_met w (event.Call act (held_value x) (codes "add") (map held_value args) None) (Called act (val w x) (codes "add") (map (val w) args) None) s sound (called_line w act x (codes "add") args))
-    (λ u t q. ended_met w act (sum_of x args) (theirs.data_answer (names w) tree again act (val w x) (codes "add") (map (val w) args)) t q (answer_is w tree again act x args t))
+    (λ u t q. ended_met w act (sum_of x args) (perform.data_answer (names w) tree again act (val w x) (codes "add") (map (val w) args)) t q (answer_is w tree again act x args t))
 
-call_add_met : (w : World) (tree : List Node) (rec : theirs.Evaluator Local) (act : ℕ) (x : Plain) (args : List Plain) (s : Room) (sound : IsSound s)
-    → Met w (val w) (call act x (codes "add") args s) (theirs.call (names w) tree rec act (val w x) (codes "add") (map (val w) args) (vat w s))
+call_add_met : (w : World) (tree : List Node) (rec : scopes.Evaluator Local) (act : ℕ) (x : Plain) (args : List Plain) (s : Room) (sound : IsSound s)
+    → Met w (val w) (call act x (codes "add") args s) (calls.call (names w) tree rec act (val w x) (codes "add") (map (val w) args) (vat w s))
 unfolding call
 call_add_met w tree rec act x args s sound =
     rw (call_is w tree rec act x (codes "add") (map (val w) args) (vat w s))
-    (with_lines_met w tree (λ a y u xs. theirs.call_at (names w) tree (3 + length (vat w s).lists) rec a y u xs) act x args s sound)
+    (with_lines_met w tree (λ a y u xs. calls.call_at (names w) tree (3 + length (vat w s).lists) rec a y u xs) act x args s sound)
 
-call_met : (w : World) (tree : List Node) (rec : theirs.Evaluator Local) (act : ℕ) (x : Plain) (verb : Words) (args : List Plain) (s : Room) (sound : IsSound s)
-    → bytes_eq verb (codes "add") ≡ true → Met w (val w) (call act x verb args s) (theirs.call (names w) tree rec act (val w x) verb (map (val w) args) (vat w s))
+call_met : (w : World) (tree : List Node) (rec : scopes.Evaluator Local) (act : ℕ) (x : Plain) (verb : Words) (args : List Plain) (s : Room) (sound : IsSound s)
+    → bytes_eq verb (codes "add") ≡ true → Met w (val w) (call act x verb args s) (calls.call (names w) tree rec act (val w x) verb (map (val w) args) (vat w s))
 call_met w tree rec act x verb args s sound e =
     let is : verb ≡ codes "add" = (bytes_eq-Decides verb (codes "add")).0 e in
-    subst (λ (v : Words). Met w (val w) (call act x v args s) (theirs.call (names w) tree rec act (val w x) v (map (val w) args) (vat w s))) (sym is) (call_add_met w tree rec act x args s sound)
+    subst (λ (v : Words). Met w (val w) (call act x v args s) (calls.call (names w) tree rec act (val w x) v (map (val w) args) (vat w s))) (sym is) (call_add_met w tree rec act x args s sound)
 
 -- ---- nouns
 
@@ -302,18 +306,18 @@ unfolding line_of
 made_line w act k v = refl
 
 cell_met : (w : World) (act k : ℕ) (v : Plain) (s : Room) (sound : IsSound s)
-    → Met w (val w) (slot_read act k (Some v) s) (theirs.read_cell act k (Some (cell_of w (plain_cell v))) (vat w s))
-unfolding slot_read theirs.read_cell ◌>>◌ machine.◌>>◌
+    → Met w (val w) (slot_read act k (Some v) s) (scopes.read_cell act k (Some (cell_of w (plain_cell v))) (vat w s))
+unfolding slot_read scopes.read_cell ◌>>◌ machine.◌>>◌
 cell_met w act k v s sound = then_met _ _ (tell_met w (event.Read act k (held_value v)) (SlotRead act k (val w v)) s sound (read_line w act k v)) (λ u t q. give_met w (val w) v t q)
 
 cell_found_met : (w : World) (act k : ℕ) (o : Option Cell) (s : Room) (sound : IsSound s) → ((c : Cell) → o ≡ Some c → (v : Plain) × (c ≡ plain_cell v))
-    → Met w (val w) (slot_found act k o s) (theirs.read_cell act k (option_map (cell_of w) o) (vat w s))
-unfolding slot_found theirs.read_cell fail machine.stop
+    → Met w (val w) (slot_found act k o s) (scopes.read_cell act k (option_map (cell_of w) o) (vat w s))
+unfolding slot_found scopes.read_cell fail machine.stop
 cell_found_met w act k None s sound h = record { stands = (refl, sound) }
 cell_found_met w act k (Some c) s sound h =
     let p = h c refl in
-    subst (λ (d : Cell). Met w (val w) (slot_found act k (Some d) s) (theirs.read_cell act k (Some (cell_of w d)) (vat w s))) (sym p.1)
-    (subst (λ (o : Option Plain). Met w (val w) (slot_read act k o s) (theirs.read_cell act k (Some (cell_of w (plain_cell p.0))) (vat w s))) (sym (plain_back p.0)) (cell_met w act k p.0 s sound))
+    subst (λ (d : Cell). Met w (val w) (slot_found act k (Some d) s) (scopes.read_cell act k (Some (cell_of w d)) (vat w s))) (sym p.1)
+    (subst (λ (o : Option Plain). Met w (val w) (slot_read act k o s) (scopes.read_cell act k (Some (cell_of w (plain_cell p.0))) (vat w s))) (sym (plain_back p.0)) (cell_met w act k p.0 s sound))
 
 plain_in : (s : Room) (sound : IsSound s) (k : ℕ) (c : Cell) → slice_get s.heap.slots k ≡ Some c → (v : Plain) × (c ≡ plain_cell v)
 plain_in s sound k c e = plain_at sound.0 k c (subst (λ (cs : List Cell). slice_get cs k ≡ Some c) sound.1 e)
@@ -325,23 +329,23 @@ slots_are w s = refl
 cells_at : (w : World) (s : Room) (k : ℕ) → slice_get (vat w s).slots k ≡ option_map (cell_of w) (slice_get s.heap.slots k)
 cells_at w s k = rw (slots_are w s) (slice_get-map (cell_of w) s.heap.slots k)
 
-slot_is : (w : World) (act k : ℕ) (x : Words) (v : Vat Local) → theirs.read_bound act (Some (Slot k)) x v ≡ theirs.read_cell act k (slice_get v.slots k) v
-unfolding theirs.read_bound opened_state
+slot_is : (w : World) (act k : ℕ) (x : Words) (v : Vat Local) → scopes.read_bound act (Some (Slot k)) x v ≡ scopes.read_cell act k (slice_get v.slots k) v
+unfolding scopes.read_bound opened_state
 slot_is w act k x v = refl
 
-slot_met : (w : World) (act k : ℕ) (x : Words) (s : Room) (sound : IsSound s) → Met w (val w) (read_slot act k s) (theirs.read_bound act (Some (Slot k)) x (vat w s))
+slot_met : (w : World) (act k : ℕ) (x : Words) (s : Room) (sound : IsSound s) → Met w (val w) (read_slot act k s) (scopes.read_bound act (Some (Slot k)) x (vat w s))
 unfolding read_slot
 slot_met w act k x s sound = rw (slot_is w act k x (vat w s), cells_at w s k) (cell_found_met w act k (slice_get s.heap.slots k) s sound (plain_in s sound k))
 
 -- ---- reading and writing what nouns stand for
 
-fixed_met : (w : World) (act : ℕ) (v : Plain) (x : Words) (s : Room) (sound : IsSound s) → Met w (val w) (give v s) (theirs.read_bound act (Some (Fixed (val w v) any_guard)) x (vat w s))
-unfolding theirs.read_bound
+fixed_met : (w : World) (act : ℕ) (v : Plain) (x : Words) (s : Room) (sound : IsSound s) → Met w (val w) (give v s) (scopes.read_bound act (Some (Fixed (val w v) any_guard)) x (vat w s))
+unfolding scopes.read_bound
 fixed_met w act v x s sound = give_met w (val w) v s sound
 
 unbound_met : (w : World) (act : ℕ) (x : Words) (s : Room) (sound : IsSound s) → is_built_safe (safe_value x) ≡ true
-    → Met w (val w) (answer (safe_plain (safe_value x)) s) (theirs.read_bound act None x (vat w s))
-unfolding theirs.read_bound
+    → Met w (val w) (answer (safe_plain (safe_value x)) s) (scopes.read_bound act None x (vat w s))
+unfolding scopes.read_bound
 unbound_met w act x s sound e = safe_met w x s sound e
 
 -- it is no var slot
@@ -349,7 +353,7 @@ abbrev is_fixed : Option (Bound Local) → Bool
 is_fixed (Some (Slot k)) = false
 is_fixed _ = true
 
-not_written_met : (w : World) (tree : List Node) (rec : theirs.Evaluator Local) (act : ℕ) (b : Option (Bound Local)) (v : Plain) (s : Room) (sound : IsSound s) → is_fixed b ≡ true
+not_written_met : (w : World) (tree : List Node) (rec : scopes.Evaluator Local) (act : ℕ) (b : Option (Bound Local)) (v : Plain) (s : Room) (sound : IsSound s) → is_fixed b ≡ true
     → Met w (val w) (fail exit.Astray s) (theirs.write_bound (names w) tree rec act b (val w v) (vat w s))
 unfolding fail theirs.write_bound machine.stop
 not_written_met w tree rec act (Some (Slot k)) v s sound e = absurd (cc)
@@ -357,14 +361,14 @@ not_written_met w tree rec act (Some (Fixed u g)) v s sound e = record { stands 
 not_written_met w tree rec act None v s sound e = record { stands = (refl, sound) }
 
 read_met : (w : World) (act : ℕ) (f : Option Held) (x : Words) (s : Room) (sound : IsSound s) → is_built_safe (safe_value x) ≡ true
-    → Met w (val w) (read_bound act f x s) (theirs.read_bound act (found_of w f) x (vat w s))
+    → Met w (val w) (read_bound act f x s) (scopes.read_bound act (found_of w f) x (vat w s))
 unfolding read_bound read_held
 read_met w act (Some (scope.Fixed v)) x s sound e = fixed_met w act v x s sound
 read_met w act (Some (scope.Slot k)) x s sound e = slot_met w act k x s sound
 read_met w act None x s sound e = unbound_met w act x s sound e
 
 noun_met : (w : World) (x : Words) (here : Scope) (s : Room) (sound : IsSound s) → is_built_safe (safe_value x) ≡ true
-    → Met w (val w) (read_bound here.act (found_from None here.nouns x) x s) (theirs.read_bound here.act (bound_in (scope_of w here).nouns x) x (vat w s))
+    → Met w (val w) (read_bound here.act (found_from None here.nouns x) x s) (scopes.read_bound here.act (bound_in (scope_of w here).nouns x) x (vat w s))
 noun_met w x here s sound e = rw (found_is w here.nouns [] None x (none_bound w x)) (read_met w here.act (found_from None here.nouns x) x s sound e)
 
 changed_is : (w : World) (cs : List Cell) (k : ℕ) (c : Cell) (v : Plain) → slice_get cs k ≡ Some c
@@ -400,7 +404,7 @@ wrote_met : (w : World) (act k : ℕ) (v : Plain) (s : Room) (sound : IsSound s)
 unfolding write_told ◌>>◌
 wrote_met w act k v s sound = then_met _ _ (tell_met w (event.Wrote act k (held_value v)) (SlotWrote act k (val w v)) s sound (wrote_line w act k v)) (λ u t q. give_met w (val w) v t q)
 
-writing_is : (w : World) (tree : List Node) (rec : theirs.Evaluator Local) (act k : ℕ) (u v : Plain) (y : Vat Local)
+writing_is : (w : World) (tree : List Node) (rec : scopes.Evaluator Local) (act k : ℕ) (u v : Plain) (y : Vat Local)
     → theirs.write_cell (names w) tree rec act k (val w v) (Some (cell_of w (plain_cell u))) y
     ≡ machine.and_then (machine.write_slot k (val w v) y) (λ t. λ z. machine.and_then (machine.tell (SlotWrote act k (val w v)) z) (λ u. machine.give (val w v)))
 unfolding opened_eval
@@ -411,7 +415,7 @@ gives_on : {A B : Type 0} (a : A) (v : Vat Local) (f : A → machine.Act Local B
 unfolding opened_state
 gives_on a v f = refl
 
-write_plain_met : (w : World) (tree : List Node) (rec : theirs.Evaluator Local) (act k : ℕ) (u v : Plain) (s : Room) (sound : IsSound s)
+write_plain_met : (w : World) (tree : List Node) (rec : scopes.Evaluator Local) (act k : ℕ) (u v : Plain) (s : Room) (sound : IsSound s)
     → slice_get s.heap.slots k ≡ Some (plain_cell u)
     → Met w (val w) (slot_written act k v (Some (plain_cell u)) s) (theirs.write_cell (names w) tree rec act k (val w v) (Some (cell_of w (plain_cell u))) (vat w s))
 unfolding slot_written
@@ -422,7 +426,7 @@ write_plain_met w tree rec act k u v s sound e =
       gives_on (tt {0}) (vat w (written s k (plain_cell u) v)) (λ t z. machine.and_then (machine.tell (SlotWrote act k (val w v)) z) (λ u. machine.give (val w v))),
     ) (wrote_met w act k v (written s k (plain_cell u) v) (written_sound s sound k (plain_cell u) v e))
 
-write_found_met : (w : World) (tree : List Node) (rec : theirs.Evaluator Local) (act k : ℕ) (v : Plain) (o : Option Cell) (s : Room) (sound : IsSound s)
+write_found_met : (w : World) (tree : List Node) (rec : scopes.Evaluator Local) (act k : ℕ) (v : Plain) (o : Option Cell) (s : Room) (sound : IsSound s)
     → slice_get s.heap.slots k ≡ o
     → Met w (val w) (slot_written act k v o s) (theirs.write_cell (names w) tree rec act k (val w v) (option_map (cell_of w) o) (vat w s))
 unfolding slot_written theirs.write_cell fail machine.stop
@@ -433,18 +437,18 @@ write_found_met w tree rec act k v (Some c) s sound e =
     subst (λ (d : Cell). Met w (val w) (slot_written act k v (Some d) s) (theirs.write_cell (names w) tree rec act k (val w v) (Some (cell_of w d)) (vat w s))) (sym p.1)
     (write_plain_met w tree rec act k p.0 v s sound is)
 
-write_slot_is : (w : World) (tree : List Node) (rec : theirs.Evaluator Local) (act k : ℕ) (v : Value Local) (y : Vat Local)
+write_slot_is : (w : World) (tree : List Node) (rec : scopes.Evaluator Local) (act k : ℕ) (v : Value Local) (y : Vat Local)
     → theirs.write_bound (names w) tree rec act (Some (Slot k)) v y ≡ theirs.write_cell (names w) tree rec act k v (slice_get y.slots k) y
 unfolding theirs.write_bound opened_state
 write_slot_is w tree rec act k v y = refl
 
-write_slot_met : (w : World) (tree : List Node) (rec : theirs.Evaluator Local) (act k : ℕ) (v : Plain) (s : Room) (sound : IsSound s)
+write_slot_met : (w : World) (tree : List Node) (rec : scopes.Evaluator Local) (act k : ℕ) (v : Plain) (s : Room) (sound : IsSound s)
     → Met w (val w) (write_slot act k v s) (theirs.write_bound (names w) tree rec act (Some (Slot k)) (val w v) (vat w s))
 unfolding write_slot
 write_slot_met w tree rec act k v s sound =
     rw (write_slot_is w tree rec act k (val w v) (vat w s), cells_at w s k) (write_found_met w tree rec act k v (slice_get s.heap.slots k) s sound refl)
 
-write_met : (w : World) (tree : List Node) (rec : theirs.Evaluator Local) (act : ℕ) (f : Option Held) (v : Plain) (s : Room) (sound : IsSound s)
+write_met : (w : World) (tree : List Node) (rec : scopes.Evaluator Local) (act : ℕ) (f : Option Held) (v : Plain) (s : Room) (sound : IsSound s)
     → Met w (val w) (write_bound act f v s) (theirs.write_bound (names w) tree rec act (found_of w f) (val w v) (vat w s))
 unfolding write_bound write_held
 write_met w tree rec act (Some (scope.Slot k)) v s sound = write_slot_met w tree rec act k v s sound
@@ -453,7 +457,7 @@ write_met w tree rec act None v s sound = not_written_met w tree rec act None v 
 
 -- ---- nodes
 
-record IsMet (w : World) (rec : Evaluator) (their : theirs.Evaluator Local) : Type 0 where
+record IsMet (w : World) (rec : Evaluator) (their : scopes.Evaluator Local) : Type 0 where
   expression : (id : ℕ) (here : Scope) (s : Room) → IsSound s → Met w (answer_of w) (rec.expression id here s) (their.expression id (scope_of w here) (vat w s))
   pattern : (id : ℕ) (v : Plain) (here : Scope) (s : Room) → IsSound s → Met w (scope_of w) (rec.pattern id v here s) (their.pattern id (val w v) Null (scope_of w here) (vat w s))
 
@@ -488,18 +492,18 @@ front_none (Throws p t) = refl
 front_none (Ejects n v t) = refl
 front_none (Stops c t) = refl
 
-all_of-more : (w : World) (tree : List Node) (their : theirs.Evaluator Local) (e : ℕ) (es : List ℕ) (sc : Surroundings Local) (v : Vat Local)
+all_of-more : (w : World) (tree : List Node) (their : scopes.Evaluator Local) (e : ℕ) (es : List ℕ) (sc : Surroundings Local) (v : Vat Local)
     → theirs.all_of (names w) tree their (e ∷ es) sc v
     ≡ machine.and_then (their.expression e sc v) (λ x t. machine.and_then (theirs.all_of (names w) tree their es x.scope t) (λ xs. machine.give (record { values = x.value ∷ xs.values; scope = xs.scope })))
 unfolding theirs.all_of machine.◌>>=◌
 all_of-more w tree their e es sc v = refl
 
-all_of-none : (w : World) (tree : List Node) (their : theirs.Evaluator Local) (sc : Surroundings Local) (v : Vat Local)
+all_of-none : (w : World) (tree : List Node) (their : scopes.Evaluator Local) (sc : Surroundings Local) (v : Vat Local)
     → theirs.all_of (names w) tree their [] sc v ≡ machine.Gives (record { values = []; scope = sc }) v
 unfolding theirs.all_of opened_state
 all_of-none w tree their sc v = refl
 
-gathered_met : (w : World) (tree : List Node) (rec : Evaluator) (their : theirs.Evaluator Local) (h : IsMet w rec their) (so_far : List Plain) (es : List ℕ) (here : Scope) (s : Room) (sound : IsSound s)
+gathered_met : (w : World) (tree : List Node) (rec : Evaluator) (their : scopes.Evaluator Local) (h : IsMet w rec their) (so_far : List Plain) (es : List ℕ) (here : Scope) (s : Room) (sound : IsSound s)
     → Met w (answers_of w) (gathered rec so_far es here s) (with_front (map (val w) so_far) (theirs.all_of (names w) tree their es (scope_of w here) (vat w s)))
 unfolding gathered ◌>>=◌ with_front
 gathered_met w tree rec their h so_far [] here s sound = rw (all_of-none w tree their (scope_of w here) (vat w s)) (nothing_met w so_far here s sound)
@@ -509,32 +513,32 @@ gathered_met w tree rec their h so_far (e ∷ es) here s sound =
     (λ (vs : List (Value Local)). Met w (answers_of w) (gathered rec (so_far ++ a.0 ∷ []) es a.1 t) (with_front vs (theirs.all_of (names w) tree their es (scope_of w a.1) (vat w t))))
     (map-append (val w) so_far (a.0 ∷ [])) (gathered_met w tree rec their h (so_far ++ a.0 ∷ []) es a.1 t q)))
 
-all_met : (w : World) (tree : List Node) (rec : Evaluator) (their : theirs.Evaluator Local) (h : IsMet w rec their) (es : List ℕ) (here : Scope) (s : Room) (sound : IsSound s)
+all_met : (w : World) (tree : List Node) (rec : Evaluator) (their : scopes.Evaluator Local) (h : IsMet w rec their) (es : List ℕ) (here : Scope) (s : Room) (sound : IsSound s)
     → Met w (answers_of w) (gathered rec [] es here s) (theirs.all_of (names w) tree their es (scope_of w here) (vat w s))
 all_met w tree rec their h es here s sound =
     subst (λ (d : Done Local (Answers Local)). Met w (answers_of w) (gathered rec [] es here s) d) (front_none (theirs.all_of (names w) tree their es (scope_of w here) (vat w s)))
     (gathered_met w tree rec their h [] es here s sound)
 
-last_met : (w : World) (tree : List Node) (rec : Evaluator) (their : theirs.Evaluator Local) (h : IsMet w rec their) (x : Plain) (es : List ℕ) (here : Scope) (s : Room) (sound : IsSound s)
+last_met : (w : World) (tree : List Node) (rec : Evaluator) (their : scopes.Evaluator Local) (h : IsMet w rec their) (x : Plain) (es : List ℕ) (here : Scope) (s : Room) (sound : IsSound s)
     → Met w (answer_of w) (last_of rec x es here s) (theirs.last_of (names w) tree their (record { value = val w x; scope = scope_of w here }) es (vat w s))
 unfolding last_of theirs.last_of ◌>>=◌ machine.◌>>=◌
 last_met w tree rec their h x [] here s sound = give_met w (answer_of w) (x, here) s sound
 last_met w tree rec their h x (e ∷ es) here s sound = then_met _ _ (h.expression e here s sound) (λ a t q. last_met w tree rec their h a.0 es a.1 t q)
 
-call_node_met : (w : World) (tree : List Node) (rec : Evaluator) (their : theirs.Evaluator Local) (h : IsMet w rec their) (id r : ℕ) (verb : Words) (args : List ℕ) (here : Scope) (s : Room) (sound : IsSound s)
+call_node_met : (w : World) (tree : List Node) (rec : Evaluator) (their : scopes.Evaluator Local) (h : IsMet w rec their) (id r : ℕ) (verb : Words) (args : List ℕ) (here : Scope) (s : Room) (sound : IsSound s)
     → bytes_eq verb (codes "add") ≡ true
     → Met w (answer_of w) (call_node rec r verb args here s) (theirs.step (names w) tree their id (Call r verb args) (scope_of w here) (vat w s))
-unfolding call_node theirs.step theirs.answered ◌>>=◌ machine.◌>>=◌
+unfolding call_node theirs.step scopes.answered ◌>>=◌ machine.◌>>=◌
 call_node_met w tree rec their h id r verb args here s sound e =
     then_met _ _ (h.expression r here s sound) (λ x t ts. then_met _ _ (all_met w tree rec their h args x.1 t ts) (λ xs u us. then_met _ _ (call_met w tree their here.act x.0 verb xs.0 u us e) (λ v q qs. give_met w (answer_of w) (v, xs.1) q qs)))
 
-definition_is : (w : World) (tree : List Node) (their : theirs.Evaluator Local) (id p e : ℕ) (sc : Surroundings Local) (v : Vat Local)
+definition_is : (w : World) (tree : List Node) (their : scopes.Evaluator Local) (id p e : ℕ) (sc : Surroundings Local) (v : Vat Local)
     → theirs.step (names w) tree their id (Def p None e) sc v
     ≡ machine.and_then (their.expression e sc v) (λ x t. machine.and_then (their.pattern p x.value Null x.scope t) (λ after. machine.give (record { value = x.value; scope = after })))
 unfolding opened_eval
 definition_is w tree their id p e sc v = refl
 
-define_met : (w : World) (tree : List Node) (rec : Evaluator) (their : theirs.Evaluator Local) (h : IsMet w rec their) (id p : ℕ) (j : Option ℕ) (e : ℕ) (here : Scope) (s : Room) (sound : IsSound s)
+define_met : (w : World) (tree : List Node) (rec : Evaluator) (their : scopes.Evaluator Local) (h : IsMet w rec their) (id p : ℕ) (j : Option ℕ) (e : ℕ) (here : Scope) (s : Room) (sound : IsSound s)
     → is_none j ≡ true
     → Met w (answer_of w) (define rec p j e here s) (theirs.step (names w) tree their id (Def p j e) (scope_of w here) (vat w s))
 unfolding define ◌>>=◌
@@ -543,41 +547,41 @@ define_met w tree rec their h id p None e here s sound none =
     rw (definition_is w tree their id p e (scope_of w here) (vat w s))
     (then_met _ _ (h.expression e here s sound) (λ x t ts. then_met _ _ (h.pattern p x.0 x.1 t ts) (λ after u us. give_met w (answer_of w) (x.0, after) u us)))
 
-noun_node_met : (w : World) (tree : List Node) (their : theirs.Evaluator Local) (id : ℕ) (x : Words) (here : Scope) (s : Room) (sound : IsSound s) → is_built_safe (safe_value x) ≡ true
+noun_node_met : (w : World) (tree : List Node) (their : scopes.Evaluator Local) (id : ℕ) (x : Words) (here : Scope) (s : Room) (sound : IsSound s) → is_built_safe (safe_value x) ≡ true
     → Met w (answer_of w) (noun_node x here s) (theirs.step (names w) tree their id (Noun x) (scope_of w here) (vat w s))
-unfolding noun_node theirs.step theirs.answered ◌>>=◌ machine.◌>>=◌
+unfolding noun_node theirs.step scopes.answered ◌>>=◌ machine.◌>>=◌
 noun_node_met w tree their id x here s sound e = then_met _ _ (noun_met w x here s sound e) (λ v t q. give_met w (answer_of w) (v, here) t q)
 
-set_met : (w : World) (tree : List Node) (rec : Evaluator) (their : theirs.Evaluator Local) (h : IsMet w rec their) (id : ℕ) (x : Words) (e : ℕ) (here : Scope) (s : Room) (sound : IsSound s)
+set_met : (w : World) (tree : List Node) (rec : Evaluator) (their : scopes.Evaluator Local) (h : IsMet w rec their) (id : ℕ) (x : Words) (e : ℕ) (here : Scope) (s : Room) (sound : IsSound s)
     → Met w (answer_of w) (set_node rec x e here s) (theirs.step (names w) tree their id (Set x e) (scope_of w here) (vat w s))
-unfolding set_node theirs.step theirs.answered ◌>>=◌ machine.◌>>=◌
+unfolding set_node theirs.step scopes.answered ◌>>=◌ machine.◌>>=◌
 set_met w tree rec their h id x e here s sound =
     rw (found_is w here.nouns [] None x (none_bound w x))
     (then_met _ _ (h.expression e here s sound) (λ v t ts. then_met _ _ (write_met w tree their here.act (found_from None here.nouns x) v.0 t ts) (λ u q qs. give_met w (answer_of w) (u, v.1) q qs)))
 
-literal_met : (w : World) (tree : List Node) (their : theirs.Evaluator Local) (id : ℕ) (l : Literal) (here : Scope) (s : Room) (sound : IsSound s) → is_int l ≡ true
+literal_met : (w : World) (tree : List Node) (their : scopes.Evaluator Local) (id : ℕ) (l : Literal) (here : Scope) (s : Room) (sound : IsSound s) → is_int l ≡ true
     → Met w (answer_of w) (literal_node l here s) (theirs.step (names w) tree their id (Lit l) (scope_of w here) (vat w s))
 unfolding opened_steps opened_eval
 literal_met w tree their id (literal.Int z) here s sound e = record { stands = (refl, sound) }
 literal_met w tree their id (literal.Char c) here s sound e = absurd (cc)
 literal_met w tree their id (literal.Text t) here s sound e = absurd (cc)
 
-astray_met : (w : World) (tree : List Node) (their : theirs.Evaluator Local) (id : ℕ) (x : Words) (g : Option ℕ) (here : Scope) (s : Room) (sound : IsSound s)
+astray_met : (w : World) (tree : List Node) (their : scopes.Evaluator Local) (id : ℕ) (x : Words) (g : Option ℕ) (here : Scope) (s : Room) (sound : IsSound s)
     → Met w (answer_of w) (fail exit.Astray s) (theirs.step (names w) tree their id (Final x g) (scope_of w here) (vat w s))
 unfolding opened_steps opened_eval
 astray_met w tree their id x g here s sound = record { stands = (refl, sound) }
 
-astray_var_met : (w : World) (tree : List Node) (their : theirs.Evaluator Local) (id : ℕ) (x : Words) (g : Option ℕ) (here : Scope) (s : Room) (sound : IsSound s)
+astray_var_met : (w : World) (tree : List Node) (their : scopes.Evaluator Local) (id : ℕ) (x : Words) (g : Option ℕ) (here : Scope) (s : Room) (sound : IsSound s)
     → Met w (answer_of w) (fail exit.Astray s) (theirs.step (names w) tree their id (Var x g) (scope_of w here) (vat w s))
 unfolding opened_steps opened_eval
 astray_var_met w tree their id x g here s sound = record { stands = (refl, sound) }
 
-sequence_met : (w : World) (tree : List Node) (rec : Evaluator) (their : theirs.Evaluator Local) (h : IsMet w rec their) (id : ℕ) (es : List ℕ) (here : Scope) (s : Room) (sound : IsSound s)
+sequence_met : (w : World) (tree : List Node) (rec : Evaluator) (their : scopes.Evaluator Local) (h : IsMet w rec their) (id : ℕ) (es : List ℕ) (here : Scope) (s : Room) (sound : IsSound s)
     → Met w (answer_of w) (last_of rec plain.Null es here s) (theirs.step (names w) tree their id (Sequence es) (scope_of w here) (vat w s))
 unfolding theirs.step
 sequence_met w tree rec their h id es here s sound = last_met w tree rec their h plain.Null es here s sound
 
-step_met : (w : World) (tree : List Node) (rec : Evaluator) (their : theirs.Evaluator Local) (h : IsMet w rec their) (id : ℕ) (n : Node) (here : Scope) (s : Room) (sound : IsSound s) → is_built_node n ≡ true
+step_met : (w : World) (tree : List Node) (rec : Evaluator) (their : scopes.Evaluator Local) (h : IsMet w rec their) (id : ℕ) (n : Node) (here : Scope) (s : Room) (sound : IsSound s) → is_built_node n ≡ true
     → Met w (answer_of w) (step rec n here s) (theirs.step (names w) tree their id n (scope_of w here) (vat w s))
 unfolding step is_built_node
 step_met w tree rec their h id (Lit l) here s sound e = literal_met w tree their id l here s sound e
@@ -590,14 +594,14 @@ step_met w tree rec their h id (Final x g) here s sound e = astray_met w tree th
 step_met w tree rec their h id (Var x g) here s sound e = astray_var_met w tree their id x g here s sound
 step_met w tree rec their h id _ here s sound e = absurd (cc)
 
-final_is : (w : World) (tree : List Node) (their : theirs.Evaluator Local) (x : Words) (y : Value Local) (sc : Surroundings Local) (v : Vat Local)
-    → theirs.bind_step (names w) tree their (Final x None) y Null sc v ≡ machine.Gives (theirs.with_noun x (Fixed y any_guard) sc) v
+final_is : (w : World) (tree : List Node) (their : scopes.Evaluator Local) (x : Words) (y : Value Local) (sc : Surroundings Local) (v : Vat Local)
+    → theirs.bind_step (names w) tree their (Final x None) y Null sc v ≡ machine.Gives (scopes.with_noun x (Fixed y any_guard) sc) v
 unfolding opened_eval
 final_is w tree their x y sc v = refl
 
-final_met : (w : World) (tree : List Node) (their : theirs.Evaluator Local) (x : Words) (g : Option ℕ) (v : Plain) (here : Scope) (s : Room) (sound : IsSound s) → is_none g ≡ true
+final_met : (w : World) (tree : List Node) (their : scopes.Evaluator Local) (x : Words) (g : Option ℕ) (v : Plain) (here : Scope) (s : Room) (sound : IsSound s) → is_none g ≡ true
     → Met w (scope_of w) (bind_final x g v here s) (theirs.bind_step (names w) tree their (Final x g) (val w v) Null (scope_of w here) (vat w s))
-unfolding bind_final give theirs.with_noun
+unfolding bind_final give scopes.with_noun
 final_met w tree their x (Some g) v here s sound e = absurd (cc)
 final_met w tree their x None v here s sound e = record {
   stands = (
@@ -616,20 +620,20 @@ new_slot_met w v s sound = record {
   );
 }
 
-var_is : (w : World) (tree : List Node) (their : theirs.Evaluator Local) (x : Words) (y : Value Local) (sc : Surroundings Local) (v : Vat Local)
+var_is : (w : World) (tree : List Node) (their : scopes.Evaluator Local) (x : Words) (y : Value Local) (sc : Surroundings Local) (v : Vat Local)
     → theirs.bind_step (names w) tree their (Var x None) y Null sc v
-    ≡ machine.and_then (machine.new_slot any_guard y v) (λ k t. machine.and_then (machine.tell (SlotMade sc.act k y) t) (λ u. machine.give (theirs.with_noun x (Slot k) sc)))
+    ≡ machine.and_then (machine.new_slot any_guard y v) (λ k t. machine.and_then (machine.tell (SlotMade sc.act k y) t) (λ u. machine.give (scopes.with_noun x (Slot k) sc)))
 unfolding opened_eval
 var_is w tree their x y sc v = refl
 
 bound_met : (w : World) (x : Words) (k : ℕ) (here : Scope) (s : Room) (sound : IsSound s)
-    → Met w (scope_of w) (give (with_noun x (scope.Slot k) here) s) (machine.give (theirs.with_noun x (Slot k) (scope_of w here)) (vat w s))
-unfolding give machine.give theirs.with_noun
+    → Met w (scope_of w) (give (with_noun x (scope.Slot k) here) s) (machine.give (scopes.with_noun x (Slot k) (scope_of w here)) (vat w s))
+unfolding give machine.give scopes.with_noun
 bound_met w x k here s sound = record {
   stands = (ap (λ (ns : List (Bond Local)). machine.Gives (record { act = here.act; nouns = ns }) (vat w s)) (sym (onto_more w [] here.nouns (record { noun = x; bound = scope.Slot k }))), sound);
 }
 
-var_met : (w : World) (tree : List Node) (their : theirs.Evaluator Local) (x : Words) (g : Option ℕ) (v : Plain) (here : Scope) (s : Room) (sound : IsSound s) → is_none g ≡ true
+var_met : (w : World) (tree : List Node) (their : scopes.Evaluator Local) (x : Words) (g : Option ℕ) (v : Plain) (here : Scope) (s : Room) (sound : IsSound s) → is_none g ≡ true
     → Met w (scope_of w) (bind_var x g v here s) (theirs.bind_step (names w) tree their (Var x g) (val w v) Null (scope_of w here) (vat w s))
 unfolding bind_var ◌>>=◌ ◌>>◌
 var_met w tree their x (Some g) v here s sound e = absurd (cc)
@@ -637,7 +641,7 @@ var_met w tree their x None v here s sound e =
     rw (var_is w tree their x (val w v) (scope_of w here) (vat w s))
     (then_met _ _ (new_slot_met w v s sound) (λ k t ts. then_met _ _ (tell_met w (event.Slot here.act k (held_value v)) (SlotMade here.act k (val w v)) t ts (made_line w here.act k v)) (λ u q qs. bound_met w x k here q qs)))
 
-bind_step_met : (w : World) (tree : List Node) (their : theirs.Evaluator Local) (n : Node) (v : Plain) (here : Scope) (s : Room) (sound : IsSound s) → is_built_node n ≡ true
+bind_step_met : (w : World) (tree : List Node) (their : scopes.Evaluator Local) (n : Node) (v : Plain) (here : Scope) (s : Room) (sound : IsSound s) → is_built_node n ≡ true
     → Met w (scope_of w) (bind_step n v here s) (theirs.bind_step (names w) tree their n (val w v) Null (scope_of w here) (vat w s))
 unfolding bind_step is_built_node fail theirs.bind_step machine.stop
 bind_step_met w tree their (Final x g) v here s sound e = final_met w tree their x g v here s sound e
@@ -664,21 +668,21 @@ get_built (m ∷ ns) zero n h e =
     subst (λ (k : Node). is_built_node k ≡ true) is (first_built (is_built_node m) (is_built ns) h).0
 get_built (m ∷ ns) (suc id) n h e = get_built ns id n (first_built (is_built_node m) (is_built ns) h).1 e
 
-found_met : (w : World) (tree : List Node) (rec : Evaluator) (their : theirs.Evaluator Local) (h : IsMet w rec their) (id : ℕ) (o : Option Node) (here : Scope) (s : Room) (sound : IsSound s)
+found_met : (w : World) (tree : List Node) (rec : Evaluator) (their : scopes.Evaluator Local) (h : IsMet w rec their) (id : ℕ) (o : Option Node) (here : Scope) (s : Room) (sound : IsSound s)
     → ((n : Node) → o ≡ Some n → is_built_node n ≡ true)
     → Met w (answer_of w) (step_found rec o here s) (theirs.step_found (names w) tree their id o (scope_of w here) (vat w s))
 unfolding step_found fail theirs.step_found machine.stop
 found_met w tree rec their h id None here s sound built = record { stands = (refl, sound) }
 found_met w tree rec their h id (Some n) here s sound built = step_met w tree rec their h id n here s sound (built n refl)
 
-bind_met : (w : World) (tree : List Node) (their : theirs.Evaluator Local) (o : Option Node) (v : Plain) (here : Scope) (s : Room) (sound : IsSound s)
+bind_met : (w : World) (tree : List Node) (their : scopes.Evaluator Local) (o : Option Node) (v : Plain) (here : Scope) (s : Room) (sound : IsSound s)
     → ((n : Node) → o ≡ Some n → is_built_node n ≡ true)
     → Met w (scope_of w) (bind_found o v here s) (theirs.bind_found (names w) tree their o (val w v) Null (scope_of w here) (vat w s))
 unfolding bind_found fail theirs.bind_found machine.stop
 bind_met w tree their None v here s sound built = record { stands = (refl, sound) }
 bind_met w tree their (Some n) v here s sound built = bind_step_met w tree their n v here s sound (built n refl)
 
-deeper_met : (w : World) (tree : List Node) (rec : Evaluator) (their : theirs.Evaluator Local) → IsMet w rec their → is_built tree ≡ true
+deeper_met : (w : World) (tree : List Node) (rec : Evaluator) (their : scopes.Evaluator Local) → IsMet w rec their → is_built tree ≡ true
     → IsMet w (deeper tree rec) (theirs.deeper (names w) tree their)
 unfolding deeper theirs.deeper ◌>>◌ machine.◌>>◌
 deeper_met w tree rec their h built = record {
