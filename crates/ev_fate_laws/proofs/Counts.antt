@@ -5,7 +5,7 @@ use Rattle.std.proofs.lemmas.Bool.{le-leb}
 use Rattle.ev_machine.specs.Values.{Value, Name, Root, Object, Promise, Answer, Gift, Sent, Msg, Naming, same_name}
 use Rattle.ev_machine.specs.State.{Message, Standing, Unsettled, WaitsOn, Viewed, Settled, Known, Change, Hold, Wait, WaitOn, See, React, ToTell, Settle, Put, Happened, begun, changed, changed_to, unless_settled, with_change}
 use Rattle.ev_machine.specs.Refs.{entry_of}
-use Rattle.ev_fate_laws.specs.Fate.{once, one, among, at_names, sent_here, sent_in, gone_here, gone, where_cut, in_note, put_out}
+use Rattle.ev_fate_laws.specs.Fate.{once, one, among, at_names, sent_here, sent_in, gone_here, gone, where_cut, in_note, of_note, put_out}
 use Rattle.ev_fate_laws.specs.Laws.{numbered}
 
 pub among_end : (x : Name) (ms : List (Message Name)) (m : Message Name) → among x (ms ++ m ∷ []) ≡ among x ms + one m.id x
@@ -23,7 +23,7 @@ unfolding gone
 gone_end cut x [] e = omega arith
 gone_end cut x (d ∷ es) e = let rest = gone_end cut x es e in omega arith
 
-pub put_end : (cut : ℕ → Bool) (x : Name) (ps : List (Put Name)) (p : Put Name) → put_out cut x (ps ++ p ∷ []) ≡ put_out cut x ps + where_cut (cut p.to) 0 (in_note (λ m. one m x) p.note)
+pub put_end : (cut : ℕ → Bool) (x : Name) (ps : List (Put Name)) (p : Put Name) → put_out cut x (ps ++ p ∷ []) ≡ put_out cut x ps + where_cut (cut p.to) 0 (of_note x p.note)
 unfolding put_out
 put_end cut x [] p = omega arith
 put_end cut x (q ∷ ps) p = let rest = put_end cut x ps p in omega arith

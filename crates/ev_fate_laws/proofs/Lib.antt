@@ -5,3 +5,6 @@ pub mod RefsCounts
 pub mod RefsAccount
 pub mod ArriveAccount
 pub mod TurnAccount
+pub mod RunCounts
+pub mod RunAccount
+pub mod RunFates

@@ -6,7 +6,7 @@ use Rattle.ev_machine.specs.Refs as refs
 use Rattle.ev_machine.specs.Refs.{Place, Near, Mine, Away, Gone}
 use Rattle.ev_machine_laws.specs.Steps.{After}
 use Rattle.ev_machine_laws.proofs.Keeps.{Keeps}
-use Rattle.ev_fate_laws.specs.Fate.{once, one, among, at_names, at_vat, sent_here, sent_in, gone_here, gone, where_cut, in_note, put_out, account}
+use Rattle.ev_fate_laws.specs.Fate.{once, one, among, at_names, at_vat, sent_here, sent_in, gone_here, gone, where_cut, in_note, of_note, put_out, account}
 use Rattle.ev_fate_laws.specs.Laws.{numbered, Accounted}
 use Rattle.ev_fate_laws.proofs.Spares.{IsSpared, IsSparedUnder, TellsOfNone, spares, keeps_bind, keeps_then, keeps_each, keeps_give, keeps_look}
 use Rattle.ev_fate_laws.proofs.Counts.{among_end, sent_end, gone_end, put_end, names_end, added, with_change_adds, Waits, settling_frees, numbered_next}
@@ -119,7 +119,7 @@ module _ (cut : ℕ → Bool) (v : ℕ) (x : Name) where
   unfolding enqueue account at_vat
   costs_enqueue m = record { after = λ s. let more = among_end x s.queue m in record { kept = omega arith; fresh = omega arith } }
 
-  out_costs : (s : Vat Name) (w : ℕ) (n : Note Name) (c : ℕ) → where_cut (cut w) 0 (in_note (λ m. one m x) n) ≤ c → Accounted cut v x c s (record s { outbox = s.outbox ++ record { to = w; note = n } ∷ [] })
+  out_costs : (s : Vat Name) (w : ℕ) (n : Note Name) (c : ℕ) → where_cut (cut w) 0 (of_note x n) ≤ c → Accounted cut v x c s (record s { outbox = s.outbox ++ record { to = w; note = n } ∷ [] })
   unfolding account at_vat
   out_costs s w n c h = let more = put_end cut x s.outbox (record { to = w; note = n }) in record { kept = omega arith; fresh = omega arith }
 
@@ -129,27 +129,27 @@ module _ (cut : ℕ → Bool) (v : ℕ) (x : Name) where
   where_none false = omega arith
 
   pub free_out_open : (w i : ℕ) (n : Name) → Keeps (Accounted cut v x 0) (send_out w (Open i n))
-  unfolding send_out in_note
+  unfolding send_out in_note of_note
   free_out_open w i n = record { after = λ s. out_costs s w (Open i n) 0 (where_none (cut w)) }
 
   pub free_out_ask : (w p i : ℕ) (n : Name) → Keeps (Accounted cut v x 0) (send_out w (Ask p i n))
-  unfolding send_out in_note
+  unfolding send_out in_note of_note
   free_out_ask w p i n = record { after = λ s. out_costs s w (Ask p i n) 0 (where_none (cut w)) }
 
   pub free_out_settled : (w : ℕ) (n : Name) (y : Passed Name) → Keeps (Accounted cut v x 0) (send_out w (SettledTo n y))
-  unfolding send_out in_note
+  unfolding send_out in_note of_note
   free_out_settled w n y = record { after = λ s. out_costs s w (SettledTo n y) 0 (where_none (cut w)) }
 
   pub free_out_elsewhere : (w : ℕ) (n : Name) (c : ℕ) → Keeps (Accounted cut v x 0) (send_out w (Elsewhere n c))
-  unfolding send_out in_note
+  unfolding send_out in_note of_note
   free_out_elsewhere w n c = record { after = λ s. out_costs s w (Elsewhere n c) 0 (where_none (cut w)) }
 
   pub free_out_shorten : (w : ℕ) (n : Name) (c i : ℕ) → Keeps (Accounted cut v x 0) (send_out w (Shorten n c i))
-  unfolding send_out in_note
+  unfolding send_out in_note of_note
   free_out_shorten w n c i = record { after = λ s. out_costs s w (Shorten n c i) 0 (where_none (cut w)) }
 
   costs_out : (w : ℕ) (m n : Name) (verb : Words) (ys : Passeds Name) → Keeps (Accounted cut v x (where_cut (cut w) 0 (one m x))) (send_out w (Deliver m n verb ys))
-  unfolding send_out in_note
+  unfolding send_out in_note of_note
   costs_out w m n verb ys = record { after = λ s. out_costs s w (Deliver m n verb ys) (where_cut (cut w) 0 (one m x)) (omega arith) }
 
   costs_posted : (w : ℕ) (m : Name) → Keeps (Accounted cut v x (where_cut (cut w) (one m x) 0)) (tell (Posted w m))

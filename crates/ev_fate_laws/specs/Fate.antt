@@ -14,6 +14,11 @@ once false = 0
 unfoldable pub one : Name → Name → ℕ
 one m x = once (same_name m x)
 
+-- f of each, in sum
+unfoldable pub total : {A : Type 0} → (A → ℕ) → List A → ℕ
+total f [] = 0
+total f (x ∷ xs) = f x + total f xs
+
 -- ---- places: in a queue, among what a name holds, among what reacts on a name, in a deliver note on a link
 
 unfoldable pub among : Name → List (Message Name) → ℕ
@@ -27,10 +32,6 @@ at_names x (k ∷ ks) = among x k.held + among x k.reactions + at_names x ks
 unfoldable pub at_vat : Name → Vat Name → ℕ
 at_vat x s = among x s.queue + at_names x s.known
 
-unfoldable pub at_vats : Name → List (Vat Name) → ℕ
-at_vats x [] = 0
-at_vats x (s ∷ ss) = at_vat x s + at_vats x ss
-
 unfoldable pub in_note : {N : Type 0} → (N → ℕ) → Note N → ℕ
 in_note f (Deliver m n verb ys) = f m
 in_note f (Open i n) = 0
@@ -39,17 +40,16 @@ in_note f (SettledTo n y) = 0
 in_note f (Elsewhere n c) = 0
 in_note f (Shorten n c i) = 0
 
-unfoldable pub in_notes : Name → List (Note Name) → ℕ
-in_notes x [] = 0
-in_notes x (n ∷ ns) = in_note (λ m. one m x) n + in_notes x ns
+-- in a note: that of its message
+unfoldable pub of_note : Name → Note Name → ℕ
+of_note x n = in_note (λ m. one m x) n
 
-unfoldable pub on_links : Name → List Link → ℕ
-on_links x [] = 0
-on_links x (l ∷ ls) = in_notes x l.notes + on_links x ls
+unfoldable pub on_link : Name → Link → ℕ
+on_link x l = total (of_note x) l.notes
 
 -- the places of a message in a world
 unfoldable pub places : Name → World → ℕ
-places x w = at_vats x w.vats + on_links x w.links
+places x w = total (at_vat x) w.vats + total (on_link x) w.links
 
 -- ---- lines of a history
 
@@ -65,8 +65,7 @@ sent_by x _ = 0
 
 -- how often a message was sent
 unfoldable pub sent : Name → List Event → ℕ
-sent x [] = 0
-sent x (e ∷ es) = sent_by x e + sent x es
+sent x es = total (sent_by x) es
 
 unfoldable pub took_here : Name → Happened Name → ℕ
 took_here x (Took act m) = one m.id x
@@ -78,8 +77,7 @@ took_by x _ = 0
 
 -- how often it was taken
 unfoldable pub takes : Name → List Event → ℕ
-takes x [] = 0
-takes x (e ∷ es) = took_by x e + takes x es
+takes x es = total (took_by x) es
 
 unfoldable pub lost_here : Name → Happened Name → ℕ
 lost_here x (Lost m) = one m x
@@ -92,20 +90,18 @@ lost_by x _ = 0
 
 -- how often it was lost: on a broken reference, or on a link that is cut
 unfoldable pub losses : Name → List Event → ℕ
-losses x [] = 0
-losses x (e ∷ es) = lost_by x e + losses x es
+losses x es = total (lost_by x) es
 
 unfoldable pub left_by : Name → Event → ℕ
 left_by x (LeftQueue v m) = one m x
 left_by x (LeftHeld v n m) = one m x
 left_by x (LeftWait v n m) = one m x
-left_by x (LeftLink v w n) = in_note (λ m. one m x) n
+left_by x (LeftLink v w n) = of_note x n
 left_by x _ = 0
 
 -- how often it stands in the closing list
 unfoldable pub leavings : Name → List Event → ℕ
-leavings x [] = 0
-leavings x (e ∷ es) = left_by x e + leavings x es
+leavings x es = total (left_by x) es
 
 -- how often a message met its fate
 unfoldable pub fates : Name → List Event → ℕ
@@ -135,7 +131,7 @@ sent_in x (e ∷ es) = sent_here x e + sent_in x es
 -- in the notes put on links that are not cut
 unfoldable pub put_out : (ℕ → Bool) → Name → List (Put Name) → ℕ
 put_out cut x [] = 0
-put_out cut x (p ∷ ps) = where_cut (cut p.to) 0 (in_note (λ m. one m x) p.note) + put_out cut x ps
+put_out cut x (p ∷ ps) = where_cut (cut p.to) 0 (of_note x p.note) + put_out cut x ps
 
 -- its places at a vat and in the notes that the vat put in this step, and what became of it in this step
 unfoldable pub account : (ℕ → Bool) → Name → Vat Name → ℕ
@@ -143,5 +139,5 @@ account cut x s = at_vat x s + put_out cut x s.outbox + gone cut x s.happened
 
 -- opens each definition of this file
 unfoldable pub opened_fate : Unit {0}
-unfolding once one among at_names at_vat at_vats in_note in_notes on_links places sent_here sent_by sent took_here took_by takes lost_here lost_by losses left_by leavings fates where_cut gone_here gone sent_in put_out account opened_values
+unfolding once one total among at_names at_vat in_note of_note on_link places sent_here sent_by sent took_here took_by takes lost_here lost_by losses left_by leavings fates where_cut gone_here gone sent_in put_out account opened_values
 opened_fate = tt
