@@ -1,0 +1,92 @@
+-- The end of the opening turn of a vat that knows its root alone.
+use Rattle.std.proofs.Common.{◌≡◌, ℕ, zero, suc, List, [], ◌∷◌, ◌++◌, refl, length, codes}
+use Rattle.ev_kernel.specs.declared.node.Node.{Node}
+use Rattle.ev_base.specs.declared.values.Value.{Value as Held}
+use Rattle.ev_base.specs.declared.values.Value.TheVariants as held
+use Rattle.ev_heap.specs.Contents.{Contents}
+use Rattle.ev_heap.specs.declared.micro.Micro.{Micro}
+use Rattle.ev_machine.specs.Values.{Words, Value, Broken, Ref, Naming, Local, Prom, numbering}
+use Rattle.ev_machine.specs.State.{Happened, Finished, Threw, Settles, Waits, Settled, WaitsOn, Known, Vat, Done, Gives, Throws, Ejects, Stops, Stop, Astray, Act, ◌>>◌, ◌>>=◌, and_then, end_by, ending, tell, stop, begun, new_activation, opened_state}
+use Rattle.ev_machine.specs.Refs.{resolve, settle, opened_refs}
+use Rattle.ev_machine.specs.Eval.{opening, closes}
+use Rattle.ev_eval.specs.Reading.{World, names, problems, text_of, value_of, vat_of}
+use Rattle.ev_eval.specs.Turn.{opened}
+
+-- what the vat has at the start beside its heap
+pub root_world : (ℕ → ℕ) → World
+root_world word = record {
+  number = zero;
+  drawn = [];
+  things = [];
+  slots = [];
+  lists = [];
+  messages = zero;
+  promises = zero;
+  queue = [];
+  known = begun (Prom zero) zero ∷ [];
+  mails = [];
+  gifts = [];
+  noticed = [];
+  outbox = [];
+  happened = [];
+  texts = [];
+  word = word;
+}
+
+-- the vat after evaluation
+pub after : (ℕ → ℕ) → Contents → Micro → Vat Local
+after word heap micro = vat_of (root_world word) heap micro
+
+-- the turn ends with this line, and the root settles to that value
+pub closed : Happened Local → Value Local → Vat Local → Vat Local
+closed l y s = record s { known = record (begun (Prom zero) zero) { standing = Settled y } ∷ []; happened = (s.happened ++ l ∷ []) ++ Settles (Prom zero) y ∷ [] }
+
+-- what the root waits on is no root
+pub waiting : Happened Local → Local → Vat Local → Vat Local
+waiting l q s = record s { known = record (begun (Prom zero) zero) { standing = WaitsOn q } ∷ []; happened = (s.happened ++ l ∷ []) ++ Waits (Prom zero) q ∷ [] }
+
+-- what the root settles to
+pub target : (ℕ → ℕ) → Held → Value Local
+target word (held.Prom k) = Broken (codes "cycle")
+target word v = value_of (root_world word) v
+
+-- what the vat does at the end of the turn
+pub finishes : (ℕ → ℕ) → Value Local → Act Local (Unit {0})
+finishes word v = tell (Finished zero v) >> resolve (names (root_world word)) (Prom zero) v
+
+pub breaks : (ℕ → ℕ) → Words → Act Local (Unit {0})
+breaks word t = tell (Threw zero t) >> settle (names (root_world word)) (Prom zero) (Broken t)
+
+pub opening-ends : (word : ℕ → ℕ) (tree : List Node) (depth : ℕ) (s : Vat Local) → s.activations ≡ zero
+    → opening (numbering {W = Local} word) tree depth (Prom zero) [] s ≡ end_by (finishes word) (breaks word) (λ n v. stop Astray) (opened (numbering {W = Local} word) tree depth s)
+unfolding opening closes opened ending new_activation ◌>>=◌ and_then finishes breaks root_world
+opening-ends word tree depth s e = rw e refl
+
+abbrev pub IsRootOrNone : Held → Type 0
+IsRootOrNone (held.Prom (suc k)) = ⊥
+IsRootOrNone _ = Unit {0}
+
+module _ (word : ℕ → ℕ) (heap : Contents) (micro : Micro) where
+  pub breaks-closes : (t : Words) → breaks word t (after word heap micro) ≡ Gives tt (closed (Threw zero t) (Broken t) (after word heap micro))
+  unfolding breaks after closed root_world vat_of opened_refs
+  breaks-closes t = refl
+
+  pub finishes-closes : (v : Held) → IsRootOrNone v
+      → finishes word (value_of (root_world word) v) (after word heap micro) ≡ Gives tt (closed (Finished zero (value_of (root_world word) v)) (target word v) (after word heap micro))
+  unfolding finishes after closed root_world vat_of target opened_refs
+  finishes-closes held.Null h = refl
+  finishes-closes (held.Bool b) h = refl
+  finishes-closes (held.Int z) h = refl
+  finishes-closes (held.Char c) h = refl
+  finishes-closes (held.Text id) h = refl
+  finishes-closes (held.List id) h = refl
+  finishes-closes (held.Prim n) h = refl
+  finishes-closes (held.Obj i) h = refl
+  finishes-closes (held.Prom zero) h = refl
+  finishes-closes (held.Prom (suc k)) h = absurd h
+  finishes-closes (held.Far v p) h = refl
+  finishes-closes (held.Broken id) h = refl
+
+  pub finishes-waits : (k : ℕ) → finishes word (Ref (Prom (suc k))) (after word heap micro) ≡ Gives tt (waiting (Finished zero (Ref (Prom (suc k)))) (Prom (suc k)) (after word heap micro))
+  unfolding finishes after waiting root_world vat_of opened_refs
+  finishes-waits k = refl
