@@ -101,6 +101,13 @@ impl Heap {
         Ok(id)
     }
 
+    /// How many var slots are kept.
+    pub fn slot_count(&self) -> u64
+        ensures { result ≡ length self.now.slots }
+    {
+        self.slots.len() as u64
+    }
+
     /// The value of a var slot.
     pub fn read(&self, slot: SlotId) -> Value
         requires { slot < length self.now.slots }

@@ -18,7 +18,6 @@ root_world word = record {
   number = zero;
   drawn = [];
   things = [];
-  slots = [];
   lists = [];
   messages = zero;
   promises = zero;

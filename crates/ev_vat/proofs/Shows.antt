@@ -15,7 +15,7 @@ use Rattle.ev_machine.specs.Values.{Words, Value, Name, Local}
 use Rattle.ev_machine.specs.State.{Bound, Fixed, Slot, Happened, Took, Called, Back, Thrown, Left, Got, SlotMade, SlotRead, SlotWrote, ListMade, ListCame, EjectorMade, AuditionMade, PromiseMade, ObjectMade, Sends, Reacts, Finished, Threw, Settles, Waits, Views, Lost, Posted}
 use Rattle.ev_renaming.specs.Maps as maps
 use Rattle.ev_run.specs.World.{Script, Event, Here, Ends, event_of, events_of, is_cut, cut_in, link_at}
-use Rattle.ev_run.specs.Shown.{shown_value, shown_values, shown_happened, shown_event, shown_name}
+use Rattle.ev_run.specs.Shown.{shown_value, shown_values, shown_slot, shown_happened, shown_event, shown_name}
 use Rattle.ev_run.specs.Text.{shown_events}
 use Rattle.ev_eval.specs.Reading.{World, problems, text_of, value_of, problem_of, line_of, lines_of}
 use Rattle.ev_opening_laws.specs.Alone.{name_of}
@@ -150,10 +150,13 @@ problem-shown word (held.Far v p) = refl
 problem-shown word (held.Broken id) = refl
 
 line-shown : (word : ℕ → ℕ) (e : Heard) → all_shown (line_of (root_world word) e) ≡ ours.lines problems e
-unfolding line_of all_shown shown_of shown_happened
+unfolding line_of all_shown shown_of shown_happened shown_slot
 line-shown word (event.Call act target verb args begun) = rw (value-shown word target, values-shown word args) refl
 line-shown word (event.Back act v) = rw (value-shown word v) refl
 line-shown word (event.Thrown act p) = rw (problem-shown word p) refl
+line-shown word (event.Slot act k v) = rw (value-shown word v) refl
+line-shown word (event.Read act k v) = rw (value-shown word v) refl
+line-shown word (event.Wrote act k v) = rw (value-shown word v) refl
 line-shown word _ = refl
 
 pub lines-shown : (word : ℕ → ℕ) (es : List Heard) → all_shown (lines_of (root_world word) es) ≡ ours.lines_of problems es

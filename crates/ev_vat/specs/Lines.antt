@@ -6,7 +6,7 @@ use Rattle.ev_base.specs.declared.values.Value.TheVariants as held
 use Rattle.ev_eval.specs.declared.turn.Ended.{Ended}
 use Rattle.ev_eval.specs.declared.turn.Ended.TheVariants as ended
 use Rattle.ev_event.specs.declared.event.Event.{Event}
-use Rattle.ev_event.specs.declared.event.Event.TheVariants.{Open, Call, Back, Thrown, Done, Threw, Settle, End}
+use Rattle.ev_event.specs.declared.event.Event.TheVariants.{Open, Call, Back, Thrown, Slot, Read, Wrote, Done, Threw, Settle, End}
 use Rattle.ev_event.specs.declared.shown.Shown.{Shown}
 use Rattle.ev_event.specs.declared.shown.Shown as shown
 use Rattle.ev_event.specs.Lines.{render}
@@ -47,6 +47,9 @@ lines texts (event.Call act target verb args begun) =
     Call (record { activation = act; target = shown_held texts target; verb = verb; args = map (shown_held texts) args; begun = begun }) ∷ []
 lines texts (event.Back act v) = Back act (shown_held texts v) ∷ []
 lines texts (event.Thrown act p) = Thrown act (shown.Text (problem_at texts p)) ∷ []
+lines texts (event.Slot act k v) = Slot act (0, k) (shown_held texts v) ∷ []
+lines texts (event.Read act k v) = Read act (0, k) (shown_held texts v) ∷ []
+lines texts (event.Wrote act k v) = Wrote act (0, k) (shown_held texts v) ∷ []
 lines texts _ = []
 
 abbrev pub lines_of : List (List ℕ) → List Happened → List Event

@@ -74,6 +74,21 @@ fn push_line(
             activation.0,
             Shown::Text(problem(alloc, heap, *value)?),
         )),
+        Happened::Slot(activation, id, value) => history.push(Event::Slot(
+            activation.0,
+            (VAT, id.0),
+            shown(alloc, heap, *value)?,
+        )),
+        Happened::Read(activation, id, value) => history.push(Event::Read(
+            activation.0,
+            (VAT, id.0),
+            shown(alloc, heap, *value)?,
+        )),
+        Happened::Wrote(activation, id, value) => history.push(Event::Wrote(
+            activation.0,
+            (VAT, id.0),
+            shown(alloc, heap, *value)?,
+        )),
         _ => Ok(()),
     }
 }

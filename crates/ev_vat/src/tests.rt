@@ -42,6 +42,18 @@ fn an_overflow(rt: HostRuntime) -> Result<(), Fail> {
 }
 
 #[test]
+fn a_slot(rt: HostRuntime) -> Result<(), Fail> {
+    let form = "(seq (def (var n) (lit 0)) (set n (call (noun n) add (lit 1))))";
+    let told = run(rt.alloc(), form, 1_000_000, 400)?;
+    assert_eq!(rt; told.end, RunEnd::Done);
+    assert_eq!(rt;
+        told.text.as_str(),
+        "open a\n!0 slot a&0 0\n!0 read a&0 0\n!0 call 0 add 1\n!0 back 1\n!0 wrote a&0 1\n!0 done 1\nsettle @a 1\nend\n"
+    );
+    Ok(())
+}
+
+#[test]
 fn stops(rt: HostRuntime) -> Result<(), Fail> {
     let sum = "(call (lit 41) add (lit 1))";
     let spent = run(rt.alloc(), sum, 1, 400)?;
