@@ -93,7 +93,7 @@ module _ (v : ℕ) (t : Table) (good : IsTable v t) where
 
 -- ---- a vat that knows its root alone
 
-pub root_alone : Table
+unfoldable pub root_alone : Table
 root_alone = record { names = Root zero ∷ []; mails = []; exports = λ h p. None }
 
 root_is_table : IsTable zero root_alone
@@ -126,7 +126,7 @@ start_found : ℕ → Vat Found
 start_found fuel = maps.vat (found zero root_alone) (start fuel)
 
 -- one outcome in each of three ways
-pub named_opening : (ℕ → ℕ) → ℕ → ℕ → List Node → Done Name (Unit {0})
+unfoldable pub named_opening : (ℕ → ℕ) → ℕ → ℕ → List Node → Done Name (Unit {0})
 named_opening word fuel depth tree = opening (naming word zero) tree depth (Root zero) [] (start_named fuel)
 
 found_opening : (ℕ → ℕ) → ℕ → ℕ → List Node → Done Found (Unit {0})

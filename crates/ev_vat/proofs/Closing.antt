@@ -1,5 +1,6 @@
 -- The end of the opening turn of a vat that knows its root alone.
-use Rattle.std.proofs.Common.{◌≡◌, ℕ, zero, suc, List, [], ◌∷◌, ◌++◌, refl, length, codes}
+use Rattle.std.proofs.Common.{◌≡◌, ℕ, zero, suc, List, [], ◌∷◌, ◌++◌, refl, length, codes, false, ◌==◌}
+use Rattle.ev_renaming.proofs.Stands.{not_true, same_number}
 use Rattle.ev_kernel.specs.declared.node.Node.{Node}
 use Rattle.ev_base.specs.declared.values.Value.{Value as Held}
 use Rattle.ev_base.specs.declared.values.Value.TheVariants as held
@@ -13,7 +14,7 @@ use Rattle.ev_eval.specs.Reading.{World, names, problems, text_of, value_of, vat
 use Rattle.ev_eval.specs.Turn.{opened}
 
 -- what the vat has at the start beside its heap
-pub root_world : (ℕ → ℕ) → World
+unfoldable pub root_world : (ℕ → ℕ) → World
 root_world word = record {
   number = zero;
   drawn = [];
@@ -33,27 +34,27 @@ root_world word = record {
 }
 
 -- the vat after evaluation
-pub after : (ℕ → ℕ) → Contents → Micro → Vat Local
+unfoldable pub after : (ℕ → ℕ) → Contents → Micro → Vat Local
 after word heap micro = vat_of (root_world word) heap micro
 
 -- the turn ends with this line, and the root settles to that value
-pub closed : Happened Local → Value Local → Vat Local → Vat Local
+unfoldable pub closed : Happened Local → Value Local → Vat Local → Vat Local
 closed l y s = record s { known = record (begun (Prom zero) zero) { standing = Settled y } ∷ []; happened = (s.happened ++ l ∷ []) ++ Settles (Prom zero) y ∷ [] }
 
 -- what the root waits on is no root
-pub waiting : Happened Local → Local → Vat Local → Vat Local
+unfoldable pub waiting : Happened Local → Local → Vat Local → Vat Local
 waiting l q s = record s { known = record (begun (Prom zero) zero) { standing = WaitsOn q } ∷ []; happened = (s.happened ++ l ∷ []) ++ Waits (Prom zero) q ∷ [] }
 
 -- what the root settles to
-pub target : (ℕ → ℕ) → Held → Value Local
+unfoldable pub target : (ℕ → ℕ) → Held → Value Local
 target word (held.Prom k) = Broken (codes "cycle")
 target word v = value_of (root_world word) v
 
 -- what the vat does at the end of the turn
-pub finishes : (ℕ → ℕ) → Value Local → Act Local (Unit {0})
+unfoldable pub finishes : (ℕ → ℕ) → Value Local → Act Local (Unit {0})
 finishes word v = tell (Finished zero v) >> resolve (names (root_world word)) (Prom zero) v
 
-pub breaks : (ℕ → ℕ) → Words → Act Local (Unit {0})
+unfoldable pub breaks : (ℕ → ℕ) → Words → Act Local (Unit {0})
 breaks word t = tell (Threw zero t) >> settle (names (root_world word)) (Prom zero) (Broken t)
 
 pub opening-ends : (word : ℕ → ℕ) (tree : List Node) (depth : ℕ) (s : Vat Local) → s.activations ≡ zero
@@ -86,6 +87,12 @@ module _ (word : ℕ → ℕ) (heap : Contents) (micro : Micro) where
   finishes-closes (held.Far v p) h = refl
   finishes-closes (held.Broken id) h = refl
 
+  apart : (k : ℕ) → (zero == suc k) ≡ false
+  apart k = not_true (zero == suc k) (λ h. let e : zero ≡ suc k = same_number zero (suc k) h in cc)
+
+  apart_too : (k : ℕ) → (suc k == zero) ≡ false
+  apart_too k = not_true (suc k == zero) (λ h. let e : suc k ≡ zero = same_number (suc k) zero h in cc)
+
   pub finishes-waits : (k : ℕ) → finishes word (Ref (Prom (suc k))) (after word heap micro) ≡ Gives tt (waiting (Finished zero (Ref (Prom (suc k)))) (Prom (suc k)) (after word heap micro))
   unfolding finishes after waiting root_world vat_of opened_refs
-  finishes-waits k = refl
+  finishes-waits k = rw (apart k, apart_too k) refl

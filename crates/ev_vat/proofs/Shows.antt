@@ -16,6 +16,8 @@ use Rattle.ev_machine.specs.State.{Bound, Fixed, Slot, Happened, Took, Called, B
 use Rattle.ev_renaming.specs.Maps as maps
 use Rattle.ev_run.specs.World.{Script, Event, Here, Ends, event_of, events_of, is_cut, cut_in, link_at}
 use Rattle.ev_run.specs.Shown.{shown_value, shown_values, shown_slot, shown_happened, shown_event, shown_name}
+use Rattle.ev_run.specs.Draws.{draw_word}
+use Rattle.ev_run.specs.Wire.{frame}
 use Rattle.ev_run.specs.Text.{shown_events}
 use Rattle.ev_eval.specs.Reading.{World, problems, text_of, value_of, problem_of, line_of, lines_of}
 use Rattle.ev_opening_laws.specs.Alone.{name_of}
@@ -24,10 +26,10 @@ use Rattle.ev_vat.specs.Lines as ours
 use Rattle.ev_vat.proofs.Closing.{root_world}
 
 -- what the machine shows of a line of that vat
-pub shown_of : Happened Local → List ShownEvent
+unfoldable pub shown_of : Happened Local → List ShownEvent
 shown_of h = shown_happened zero (maps.line name_of h)
 
-pub all_shown : List (Happened Local) → List ShownEvent
+unfoldable pub all_shown : List (Happened Local) → List ShownEvent
 all_shown [] = []
 all_shown (h ∷ hs) = shown_of h ++ all_shown hs
 
@@ -43,7 +45,9 @@ all_shown-append (h ∷ a) b = ap (λ es. shown_of h ++ es) (all_shown-append a 
 pub shown_events-append : (script : Script) (a b : List Event) → shown_events script (a ++ b) ≡ shown_events script a ++ shown_events script b
 unfolding shown_events
 shown_events-append script [] b = refl
-shown_events-append script (e ∷ a) b = ap (λ es. shown_events script (e ∷ []) ++ es) (shown_events-append script a b) ∙ sym (append_assoc _ (shown_events script a) (shown_events script b))
+shown_events-append script (e ∷ a) b =
+    ap (λ es. shown_event (frame (draw_word script.key)) e ++ es) (shown_events-append script a b)
+    ∙ sym (append_assoc (shown_event (frame (draw_word script.key)) e) (shown_events script a) (shown_events script b))
 
 one_shown : (script : Script) (h : Happened Local) → shown_events script (event_of [] zero (maps.line name_of h)) ≡ shown_of h
 unfolding shown_of shown_events shown_event shown_happened event_of is_cut cut_in link_at

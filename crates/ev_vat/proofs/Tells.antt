@@ -1,6 +1,7 @@
 -- The text that the code makes is that of the machine's run.
-use Rattle.std.proofs.Common.{◌≡◌, ℕ, zero, suc, Bool, true, false, List, [], ◌∷◌, ◌++◌, Option, Some, None, Ok, refl, sym, ap, ◌∙◌, map, length, append_assoc, append-nil, codes, string_bytes, subst}
-use Rattle.std.specs.Prelude.{filter, flat_map}
+use Rattle.std.proofs.Common.{◌≡◌, ℕ, zero, suc, Bool, true, false, List, [], ◌∷◌, ◌++◌, Option, Some, None, Ok, Err, IfOk, refl, sym, ap, ◌∙◌, map, length, append_assoc, append-nil, codes, string_bytes, subst}
+use Rattle.std.specs.Prelude.{Result, filter, flat_map}
+use Rattle.ev_base.specs.declared.memory.Memory.{Memory}
 use Rattle.std.proofs.lemmas.List.Elements.{filter-append}
 use Rattle.ev_base.specs.declared.values.Value.{Value as Held}
 use Rattle.ev_base.specs.declared.values.Value.TheVariants as held
@@ -28,7 +29,8 @@ use Rattle.ev_opening_laws.specs.Alone.{alone, start, opened_alone, name_of, Nam
 use Rattle.ev_opening_laws.proofs.Numbered.{root_alone, named_opening, found_names, runs_alone}
 use Rattle.ev_vat.specs.declared.told.RunEnd.{RunEnd}
 use Rattle.ev_vat.specs.declared.told.RunEnd.TheVariants as end
-use Rattle.ev_vat.specs.Ends.{end_of}
+use Rattle.ev_vat.specs.declared.told.Told.{Told}
+use Rattle.ev_vat.specs.Ends.{Tells, end_of}
 use Rattle.ev_vat.specs.Lines.{text_at, shown_held, settled, history, done_lines, threw_lines, text_by, end_by}
 use Rattle.ev_vat.specs.Lines as ours
 use Rattle.ev_vat.proofs.Closing.{root_world, after, closed, waiting, target, finishes, breaks, opening-ends, breaks-closes, IsRootOrNone, finishes-closes, finishes-waits}
@@ -44,7 +46,7 @@ ended-shown script hs =
     let es = events_of [] zero (map (maps.line name_of) hs) in
     let first : shown_events script (Opens zero ∷ []) ≡ Open zero ∷ [] = unfold opened_text in refl in
     let last : shown_events script (Closes ∷ []) ≡ End ∷ [] = unfold opened_text in refl in
-    rw (append-nil (Opens zero ∷ es), append-nil (Opens zero ∷ es)) (
+    rw (append-nil es, append-nil es) (
     shown_events-append script (Opens zero ∷ es) (Closes ∷ [])
     ∙ ap (λ xs. xs ++ shown_events script (Closes ∷ [])) (shown_events-append script (Opens zero ∷ []) es)
     ∙ rw (first, last, events-shown script hs) refl)
@@ -217,3 +219,28 @@ module _ (key : List ℕ) (fuel depth : ℕ) (name : Words) (tree : List Node) (
   run-is ended.Fuel h = stopped-is Fuel end.FuelSpent refl (stop-is Fuel h)
   run-is ended.Deep h = stopped-is Deep end.TooDeep refl (stop-is Deep h)
   run-is ended.Astray h = stopped-is Astray end.Astray refl (stop-is Astray h)
+
+-- ---- what the code made
+
+-- the vat begins with the texts of the problems, and its texts stay
+module _ (fuel depth : ℕ) (name : Words) (tree : List Node) (before after_turn : Contents) (micro left : Micro) (e : Ended)
+    (begins_so : before ≡ record nothing { texts = problems }) (fuel_so : micro ≡ record { fuel = fuel; events = [] }) (texts_so : after_turn.texts ≡ before.texts)
+    (ends : (w : World) → before.texts ≡ problems ++ w.texts → Ends w (Ok e) after_turn left (opened (names w) tree depth (vat_of w before micro))) where
+  so : (key : List ℕ) → (text_by name problems left.events e ≡ text (alone key fuel depth name tree) (run (alone key fuel depth name tree))) × (end_of (run (alone key fuel depth name tree)) ≡ Some (end_by e))
+  unfolding root_world vat_of lines_of start
+  so key =
+      let same : before.texts ≡ problems = ap (λ (h : Contents). h.texts) begins_so in
+      let x = ends (root_world (draw_word key)) (same ∙ sym (append-nil problems)) in
+      run-is key fuel depth name tree after_turn left e (rw (begins_so, fuel_so) at x)
+
+  pub told-text : (r : Result Told Memory) → IfOk r (λ told. Tells told (end_by e) (text_by name after_turn.texts left.events e))
+      → IfOk r (λ told. (key : List ℕ) → string_bytes told.text ≡ text (alone key fuel depth name tree) (run (alone key fuel depth name tree)))
+  told-text (Ok told) h = λ key.
+      let same : after_turn.texts ≡ problems = texts_so ∙ ap (λ (h : Contents). h.texts) begins_so in
+      h.1 ∙ ap (λ ts. text_by name ts left.events e) same ∙ (so key).0
+  told-text (Err memory) h = tt
+
+  pub told-end : (r : Result Told Memory) → IfOk r (λ told. Tells told (end_by e) (text_by name after_turn.texts left.events e))
+      → IfOk r (λ told. (key : List ℕ) → end_of (run (alone key fuel depth name tree)) ≡ Some told.end)
+  told-end (Ok told) h = λ key. (so key).1 ∙ ap Some (sym h.0)
+  told-end (Err memory) h = tt
