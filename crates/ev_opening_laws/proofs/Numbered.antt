@@ -126,7 +126,7 @@ start_found : ℕ → Vat Found
 start_found fuel = maps.vat (found zero root_alone) (start fuel)
 
 -- one outcome in each of three ways
-unfoldable pub named_opening : (ℕ → ℕ) → ℕ → ℕ → List Node → Done Name (Unit {0})
+pub named_opening : (ℕ → ℕ) → ℕ → ℕ → List Node → Done Name (Unit {0})
 named_opening word fuel depth tree = opening (naming word zero) tree depth (Root zero) [] (start_named fuel)
 
 found_opening : (ℕ → ℕ) → ℕ → ℕ → List Node → Done Found (Unit {0})

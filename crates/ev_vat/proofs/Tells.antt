@@ -1,6 +1,7 @@
 -- The text that the code makes is that of the machine's run.
 use Rattle.std.proofs.Common.{◌≡◌, ℕ, zero, suc, Bool, true, false, List, [], ◌∷◌, ◌++◌, Option, Some, None, Ok, Err, IfOk, refl, sym, ap, ◌∙◌, map, length, append_assoc, append-nil, codes, string_bytes, subst}
 use Rattle.std.specs.Prelude.{Result, filter, flat_map}
+use Rattle.std.specs.Fmt.{digits}
 use Rattle.ev_base.specs.declared.memory.Memory.{Memory}
 use Rattle.std.proofs.lemmas.List.Elements.{filter-append}
 use Rattle.ev_base.specs.declared.values.Value.{Value as Held}
@@ -55,18 +56,18 @@ ended-rendered : (name : Words) (hs : List (Happened Local)) → render_run (nam
 ended-rendered name hs = ap (λ es. render (name ∷ []) (Open zero ∷ es)) (filter-append is_no_frame (all_shown hs) (End ∷ []) ∙ ap (λ es. es ++ End ∷ []) (no_frames hs))
 
 done-shown : (word : ℕ → ℕ) (v : Held) → shown_of (Finished zero (value_of (root_world word) v)) ++ shown_of (Settles (Prom zero) (target word v)) ≡ ShownDone zero (shown_held problems v) ∷ Settle (global.Root zero) (settled problems v) ∷ []
-unfolding shown_of shown_happened shown_name name_of target
+unfolding shown_of shown_happened shown_name shown_value name_of target root_world
 done-shown word held.Null = refl
 done-shown word (held.Bool b) = refl
 done-shown word (held.Int z) = refl
 done-shown word (held.Char c) = refl
-done-shown word (held.Text id) = rw (value-shown word (held.Text id)) refl
-done-shown word (held.List id) = rw (value-shown word (held.List id)) refl
-done-shown word (held.Prim n) = rw (value-shown word (held.Prim n)) refl
-done-shown word (held.Obj i) = rw (value-shown word (held.Obj i)) refl
-done-shown word (held.Prom k) = rw (value-shown word (held.Prom k)) refl
-done-shown word (held.Far v p) = rw (value-shown word (held.Far v p)) refl
-done-shown word (held.Broken id) = rw (value-shown word (held.Broken id)) refl
+done-shown word (held.Text id) = refl
+done-shown word (held.List id) = refl
+done-shown word (held.Prim n) = refl
+done-shown word (held.Obj i) = refl
+done-shown word (held.Prom k) = refl
+done-shown word (held.Far v p) = refl
+done-shown word (held.Broken id) = refl
 
 threw-shown : (word : ℕ → ℕ) (id : ℕ) → shown_of (Threw zero (text_of (root_world word) id)) ++ shown_of (Settles (Prom zero) (Broken (text_of (root_world word) id))) ≡ ShownThrew zero (shown.Text (text_at problems id)) ∷ Settle (global.Root zero) (shown.Broken (text_at problems id)) ∷ []
 unfolding shown_of shown_happened shown_name shown_value name_of root_world
@@ -193,7 +194,7 @@ module _ (key : List ℕ) (fuel depth : ℕ) (name : Words) (tree : List Node) (
   no_other k e =
       let named : NamesNothing (opened_alone word fuel depth tree) = rw e (refl, refl) in
       let same = found_names word fuel depth tree named in
-      waits_on_none k _ _ (named_opening word fuel depth tree) (sym (ap (maps.done (found zero root_alone) (λ u. u)) e) ∙ same)
+      waits_on_none k (Finished zero (Ref (Prom (suc k)))) (after word heap micro) (named_opening word fuel depth tree) (sym (ap (maps.done (found zero root_alone) (λ u. u)) e) ∙ same)
 
   value-is : (v : Held) → IsRootOrNone v → evaluated ≡ Gives (value_of (root_world word) v) (after word heap micro)
       → IsRun (render (name ∷ []) (history problems micro.events (done_lines problems v))) end.Done
@@ -202,7 +203,8 @@ module _ (key : List ℕ) (fuel depth : ℕ) (name : Words) (tree : List Node) (
           (done-shown word v) (gave-is v h ∙ finishes-closes word heap micro v p)
 
   pub run-is : (e : Ended) → Ends (root_world word) (Ok e) heap micro evaluated → IsRun (text_by name problems micro.events e) (end_by e)
-  run-is (ended.Value (held.Prom (suc k))) h = absurd (no_other k (gave-is (held.Prom (suc k)) h ∙ finishes-waits word heap micro k))
+  unfolding after end_of stop_line digits
+  run-is (ended.Value (held.Prom (suc k))) h = absurd (no_other k (gave-is (held.Prom (suc k)) h ∙ finishes-waits word k heap micro))
   run-is (ended.Value (held.Prom zero)) h = value-is (held.Prom zero) tt h
   run-is (ended.Value held.Null) h = value-is held.Null tt h
   run-is (ended.Value (held.Bool b)) h = value-is (held.Bool b) tt h
