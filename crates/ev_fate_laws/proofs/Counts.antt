@@ -91,15 +91,15 @@ module _ {W : Type 0} (K : Naming Name W) where
   settled_frees x y k (Viewed q) h = omega arith
 
   settle_frees : (x : Name) (y : Value Name) (k j : Known Name) (ks js : List (Known Name)) (o : Option (Known Name)) (b : Bool) → elim b [ true ↦ Some j | false ↦ o ] ≡ Some k → Waits k.standing
-      → (o ≡ Some k → at_names x js + at_known x k ≤ at_names x ks)
-      → at_names x (elim b [ true ↦ changed (Settle y) j ∷ ks | false ↦ j ∷ js ]) + at_known x k ≤ at_known x j + at_names x ks
+      → (o ≡ Some k → at_names x js + at_known x k ≡ at_names x ks)
+      → at_names x (elim b [ true ↦ changed (Settle y) j ∷ ks | false ↦ j ∷ js ]) + at_known x k ≡ at_known x j + at_names x ks
   unfolding at_names changed
   settle_frees x y k j ks js o true e h rest = let same : j ≡ k = cc in let none = settled_frees x y k k.standing h in rw same (omega arith)
   settle_frees x y k j ks js o false e h rest = let more = rest e in omega arith
 
   -- a name that settles frees all that it held and all that reacts on it
   pub settling_frees : (x : Name) (y : Value Name) (p : Name) (k : Known Name) (ks : List (Known Name)) → entry_of K ks p ≡ Some k → Waits k.standing
-      → at_names x (with_change K (Settle y) p ks) + at_known x k ≤ at_names x ks
+      → at_names x (with_change K (Settle y) p ks) + at_known x k ≡ at_names x ks
   unfolding with_change entry_of at_names
   settling_frees x y p k [] e h = cc
   settling_frees x y p k (j ∷ ks) e h = settle_frees x y k j ks (with_change K (Settle y) p ks) (entry_of K ks p) (K.same j.name p) e h (λ i. settling_frees x y p k ks i h)

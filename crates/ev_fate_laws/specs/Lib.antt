@@ -1,3 +1,4 @@
 pub mod Fate
 pub mod Laws
 pub mod Runs
+pub mod Lasting
