@@ -13,3 +13,4 @@ pub mod PlacesLast
 pub mod PlacesRefs
 pub mod PlacesArrive
 pub mod PlacesSteps
+pub mod Finding

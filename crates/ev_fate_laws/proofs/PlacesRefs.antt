@@ -57,7 +57,7 @@ module _ (K : Naming Name Name) (v : ℕ) (global : Global K v) where
   mine_is s (Broken p) n e = cc
   mine_is s (Items k) n e = cc
 
-  fits_at : (s : Vat Name) (y : Value Name) (p : Place Name) → refs.place K s y ≡ p → Fits y p
+  pub fits_at : (s : Vat Name) (y : Value Name) (p : Place Name) → refs.place K s y ≡ p → Fits y p
   fits_at s y (Mine n) e = mine_is s y n e
   fits_at s y Near e = tt
   fits_at s y (Away h n o) e = tt
@@ -72,7 +72,7 @@ module _ (K : Naming Name Name) (v : ℕ) (global : Global K v) where
   unfolding spot_of
   object_end s w i = either_end s (Object w i) i w (v == w)
 
-  end_of : (s : Vat Name) (y : Value Name) → NoPromise y → IsEnd (refs.place K s y)
+  pub end_of : (s : Vat Name) (y : Value Name) → NoPromise y → IsEnd (refs.place K s y)
   unfolding refs.place
   end_of s (Ref (Object w i)) h = subst (λ p. IsEnd (refs.spotted K s (Object w i) p)) (sym (global.spot (Object w i))) (object_end s w i)
   end_of s (Ref (Root w)) h = absurd h
@@ -136,7 +136,7 @@ module _ (K : Naming Name Name) (v : ℕ) (global : Global K v) where
   none_found n [] h w = refl
   none_found n (k ∷ ks) h w = let here = w.0 in none_where n k (entry_of K ks n) (K.same k.name n) refl h here.name (none_found n ks h w.1)
 
-  follow_last : (d : ℕ) (ks : List (Known Name)) (y : Value Name) → NoPromise y → Each KnownWell ks → NoPromise (refs.follow_at K d ks y)
+  pub follow_last : (d : ℕ) (ks : List (Known Name)) (y : Value Name) → NoPromise y → Each KnownWell ks → NoPromise (refs.follow_at K d ks y)
   unfolding refs.follow_at refs.led refs.standing_of refs.standing_in
   follow_last zero ks y h w = h
   follow_last (suc d) ks (Ref n) h w = subst (λ o. NoPromise (refs.led K (λ y. refs.follow_at K d ks y) n (refs.standing_in o))) (sym (none_found n ks h w)) h
@@ -159,7 +159,7 @@ module _ (K : Naming Name Name) (v : ℕ) (global : Global K v) where
   spot_last s n (Foreign u) h = by_last n _ (is_in u s.noticed) h
   spot_last s n NoObject h = by_last n _ (is_in (refs.host_at K s.number s.known n) s.noticed) h
 
-  severed_last : (s : Vat Name) (y : Value Name) → NoPromise y → NoPromise (refs.severed K s y)
+  pub severed_last : (s : Vat Name) (y : Value Name) → NoPromise y → NoPromise (refs.severed K s y)
   unfolding refs.severed
   severed_last s (Ref n) h = spot_last s n (K.spot n) h
   severed_last s Null h = tt
@@ -201,7 +201,7 @@ module _ (K : Naming Name Name) (v : ℕ) (global : Global K v) where
   found_where p k j o true e i h r = let same : j ≡ k = cc in let here : KnownWell j × (j.name ≡ p) = (h, global.alike j.name p e) in rw same at here
   found_where p k j o false e i h r = r i
 
-  found_well : (p : Name) (k : Known Name) (ks : List (Known Name)) → entry_of K ks p ≡ Some k → Each KnownWell ks → KnownWell k × (k.name ≡ p)
+  pub found_well : (p : Name) (k : Known Name) (ks : List (Known Name)) → entry_of K ks p ≡ Some k → Each KnownWell ks → KnownWell k × (k.name ≡ p)
   unfolding entry_of
   found_well p k [] e w = cc
   found_well p k (j ∷ ks) e w = found_where p k j (entry_of K ks p) (K.same j.name p) refl e w.0 (λ i. found_well p k ks i w.1)
@@ -302,7 +302,7 @@ module _ (K : Naming Name Name) (v : ℕ) (global : Global K v) where
     cost_put w m n verb ys = cost_less cut x (where_cut (cut w) (one m x) 0 + where_cut (cut w) 0 (one m x)) (one m x) (where_least (cut w) (one m x))
         (cost_then cut x (where_cut (cut w) (one m x) 0) (where_cut (cut w) 0 (one m x)) (cost_tell cut x (Posted w m)) (cost_out cut x w (Deliver m n verb ys)))
 
-    cost_deliver : (m : Message Name) (h : ℕ) (n : Name) → Pays cut x (one m.id x) (refs.deliver K m h n)
+    pub cost_deliver : (m : Message Name) (h : ℕ) (n : Name) → Pays cut x (one m.id x) (refs.deliver K m h n)
     unfolding refs.deliver
     cost_deliver m h n = cost_bind_last cut x (one m.id x) (pays_pass_all h m.args) (λ args. cost_put h m.id n m.verb args)
 
@@ -319,7 +319,7 @@ module _ (K : Naming Name Name) (v : ℕ) (global : Global K v) where
     cost_lost m = cost_tell cut x (Lost m)
 
     module _ (settle : Name → Value Name → Act Name (Unit {0})) (good : LastSettler settle) where
-      cost_send_to : (m : Message Name) (y : Value Name) (p : Place Name) → NamesMessage m.id → IsEnd p → Pays cut x (one m.id x) (refs.send_to K settle m y p)
+      pub cost_send_to : (m : Message Name) (y : Value Name) (p : Place Name) → NamesMessage m.id → IsEnd p → Pays cut x (one m.id x) (refs.send_to K settle m y p)
       unfolding refs.send_to
       cost_send_to m y Near g h = cost_enqueue cut x (record m { target = y })
       cost_send_to m y (Mine n) g h = absurd h
@@ -460,7 +460,7 @@ module _ (K : Naming Name Name) (v : ℕ) (global : Global K v) where
     pays_react_at m Near = pays_enqueue cut x m
     pays_react_at m (Gone p) = pays_enqueue cut x m
 
-    new_named : (n k : ℕ) → NamesMessage (K.mailed (IsSent n) k)
+    pub new_named : (n k : ℕ) → NamesMessage (K.mailed (IsSent n) k)
     unfolding mail_of
     new_named n k = (record { sender = v; number = n }, global.mailed (IsSent n) k)
 
@@ -468,22 +468,28 @@ module _ (K : Naming Name Name) (v : ℕ) (global : Global K v) where
     unfolding name_of answer_of
     new_answer h k id g = subst NamesNoObject (sym (global.made (IsAnswer h id) k)) (rw g.1 tt)
 
+    new_pays : (c : ℕ) (s t : Vat Name) (r : Done Name (Value Name)) → account cut x s ≤ account cut x t → PaysAt cut x c t r → PaysAt cut x c s r
+    new_pays c s t (Gives a u) h k = let i = k.1 in (k.0, omega arith)
+    new_pays c s t (Throws p u) h k = absurd k
+    new_pays c s t (Ejects n y u) h k = absurd k
+    new_pays c s t (Stops e u) h k = tt
+
     -- a message that is numbered and told, with its answer
-    new_at : (s : Vat Name) (h : ℕ) (id : Name) (k : ℕ) (e : Happened Name) (r : Done Name (Value Name)) → NamesMessage id → AllWell s
+    pub new_at : (c : ℕ) (s : Vat Name) (h : ℕ) (id : Name) (k : ℕ) (e : Happened Name) (r : Done Name (Value Name)) → NamesMessage id → AllWell s
         → (AllWell (record s { messages = suc s.messages; mails = s.mails ++ id ∷ []; known = s.known ++ begun (K.made (IsAnswer h id) k) h ∷ []; happened = s.happened ++ e ∷ [] })
-          → PaysAt cut x 0 (record s { messages = suc s.messages; mails = s.mails ++ id ∷ []; known = s.known ++ begun (K.made (IsAnswer h id) k) h ∷ []; happened = s.happened ++ e ∷ [] }) r)
-        → PaysAt cut x 0 s r
+          → PaysAt cut x c (record s { messages = suc s.messages; mails = s.mails ++ id ∷ []; known = s.known ++ begun (K.made (IsAnswer h id) k) h ∷ []; happened = s.happened ++ e ∷ [] }) r)
+        → PaysAt cut x c s r
     unfolding account at_vat
-    new_at s h id k e r g w f = let a = K.made (IsAnswer h id) k in let same = names_end x s.known a h in let more = gone_end cut x s.happened e in
-        pay_more cut x 0 0 s (record s { messages = suc s.messages; mails = s.mails ++ id ∷ []; known = s.known ++ begun a h ∷ []; happened = s.happened ++ e ∷ [] }) r (omega arith) (f (come_well cut x K v global s a h (new_answer h k id g) w))
+    new_at c s h id k e r g w f = let a = K.made (IsAnswer h id) k in let same = names_end x s.known a h in let more = gone_end cut x s.happened e in
+        new_pays c s (record s { messages = suc s.messages; mails = s.mails ++ id ∷ []; known = s.known ++ begun a h ∷ []; happened = s.happened ++ e ∷ [] }) r (omega arith) (f (come_well cut x K v global s a h (new_answer h k id g) w))
 
     pub pays_send : (act : ℕ) (y : Value Name) (verb : Words) (args : List (Value Name)) → Pays cut x 0 (refs.send K act y verb args)
     unfolding refs.send ◌>>=◌ ◌>>◌ and_then look tell new_message
     pays_send act y verb args = record { after = λ s w. let z = refs.follow K s y in let p = refs.place K s z in let id = K.mailed (IsSent s.messages) (length s.mails) in let named = new_named s.messages (length s.mails) in
-        new_at s (refs.answer_host K s.number p) id (length s.known) (Sends act _) _ named w
+        new_at 0 s (refs.answer_host K s.number p) id (length s.known) (Sends act _) _ named w
           ((cost_then_first cut x 0 (pays_send_first _ z p named (fits_at s z p refl)) (pays_give cut x _)).after _) }
 
     pub pays_reacts : (act : ℕ) (y o near : Value Name) → Pays cut x 0 (refs.react K act y o near)
     unfolding refs.react ◌>>=◌ ◌>>◌ and_then look tell new_message
     pays_reacts act y o near = record { after = λ s w. let id = K.mailed (IsSent s.messages) (length s.mails) in let named = new_named s.messages (length s.mails) in
-        new_at s s.number id (length s.known) (Reacts act y o _) _ named w ((cost_then_first cut x 0 (pays_react_at _ _) (pays_give cut x _)).after _) }
+        new_at 0 s s.number id (length s.known) (Reacts act y o _) _ named w ((cost_then_first cut x 0 (pays_react_at _ _) (pays_give cut x _)).after _) }

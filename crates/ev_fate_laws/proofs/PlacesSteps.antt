@@ -94,7 +94,7 @@ same_alike (Gift v i) (Gift w j) e = let h = both_and (v == w) (i == j) e in let
 same_alike (Sent m) (Sent n) e = ap Sent (same_message_alike m n e)
 same_alike _ _ e = cc
 
-global_names : (word : ℕ → ℕ) (v : ℕ) → Global (naming word v) v
+pub global_names : (word : ℕ → ℕ) (v : ℕ) → Global (naming word v) v
 unfolding naming
 global_names word v = record { spot = λ n. refl; alike = same_alike; made = λ c k. refl; mailed = λ c k. refl }
 

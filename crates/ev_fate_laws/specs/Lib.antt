@@ -2,3 +2,4 @@ pub mod Fate
 pub mod Laws
 pub mod Runs
 pub mod Lasting
+pub mod Finding

@@ -1,6 +1,7 @@
 //! Each message has one place at most, until it is taken or lost.
 
 ghost use Rattle.ev_fate_laws.specs.Laws.{StepsDoubleNone};
+ghost use Rattle.ev_fate_laws.specs.Finding.{SendsFindPlaces};
 ghost use Rattle.ev_fate_laws.specs.Lasting.{StepsKeepPlaces};
 ghost use Rattle.ev_fate_laws.specs.Runs.{EachSentOnce, EachTakenOnce, OneFateAtMost, PlacesAndFates};
 
@@ -25,6 +26,17 @@ pub fn steps_double_none()
 /// a message which is sent or arrives in this step finds a place.
 pub fn steps_keep_places()
     ensures { StepsKeepPlaces }
+{}
+
+/// A message that is sent on a value which the vat knows finds a place at once, or is lost with a
+/// line, unless the step stops; and so does a reaction on one.
+///
+/// It asks what `steps_keep_places` asks of the state, and that views end: from each name the vat
+/// comes, by no more views than it knows names, to one that is not viewed. A value is known that is
+/// data, an object, or a name among those that the vat knows. That every value which a vat has in
+/// hand is known, and that views end, is not proved of runs.
+pub fn sends_find_places()
+    ensures { SendsFindPlaces }
 {}
 
 /// In a run each message is sent once at most: its history has one line at most that sends it, as a
