@@ -1,11 +1,11 @@
 -- How single changes change the counts.
-use Rattle.std.proofs.Common.{◌≡◌, ℕ, zero, suc, ◌+◌, ◌≤◌, Bool, true, false, List, [], ◌∷◌, ◌++◌, Option, Some, None, refl, sym, ap, arith, nat_eq, leb, eqb-true, leb-true, ◌∙◌}
+use Rattle.std.proofs.Common.{◌≡◌, ℕ, suc, ◌+◌, ◌≤◌, Bool, true, false, List, [], ◌∷◌, ◌++◌, Option, Some, refl, sym, arith, eqb-true, leb-true, ◌∙◌}
 use Rattle.std.specs.Prelude.{nat_le, ◌==◌, ◌&&◌}
 use Rattle.std.proofs.lemmas.Bool.{le-leb}
 use Rattle.ev_machine.specs.Values.{Value, Name, Root, Object, Promise, Answer, Gift, Sent, Msg, Naming, same_name}
 use Rattle.ev_machine.specs.State.{Message, Standing, Unsettled, WaitsOn, Viewed, Settled, Known, Change, Hold, Wait, WaitOn, See, React, ToTell, Settle, Put, Happened, begun, changed, changed_to, unless_settled, with_change}
 use Rattle.ev_machine.specs.Refs.{entry_of}
-use Rattle.ev_fate_laws.specs.Fate.{once, one, among, at_names, sent_here, sent_in, gone_here, gone, where_cut, in_note, of_note, put_out}
+use Rattle.ev_fate_laws.specs.Fate.{once, one, among, at_names, sent_here, sent_in, gone_here, gone, where_cut, of_note, put_out}
 use Rattle.ev_fate_laws.specs.Laws.{numbered}
 
 pub among_end : (x : Name) (ms : List (Message Name)) (m : Message Name) → among x (ms ++ m ∷ []) ≡ among x ms + one m.id x

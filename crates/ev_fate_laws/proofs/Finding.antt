@@ -1,16 +1,16 @@
 -- What is sent on a value that the vat knows finds a place.
-use Rattle.std.proofs.Common.{◌≡◌, ℕ, zero, suc, ◌+◌, ◌≤◌, Bool, true, false, List, [], ◌∷◌, ◌++◌, Option, Some, None, ◌⊎◌, inl, inr, refl, sym, ap, ◌∙◌, arith, length, subst}
+use Rattle.std.proofs.Common.{◌≡◌, ℕ, zero, suc, ◌+◌, Bool, true, false, List, [], ◌∷◌, ◌++◌, Option, Some, None, ◌⊎◌, inl, inr, refl, sym, ap, arith, length, subst}
 use Rattle.std.specs.Prelude.{◌==◌}
 use Rattle.ev_machine.specs.Values.{Words, Value, Null, Flag, Number, Letter, Text, Prim, Broken, Items, Ref, Name, Root, Object, Promise, Answer, Gift, Sent, Naming, IsAnswer, IsSent, Spot, Own, Foreign, NoObject, naming, mail_of}
-use Rattle.ev_machine.specs.State.{Message, Standing, Unsettled, WaitsOn, Viewed, Settled, Known, Change, Hold, React, Happened, Sends, Reacts, Vat, Done, Gives, Throws, Ejects, Stops, Act, ◌>>=◌, ◌>>◌, and_then, give, look, tell, with_change, changed, changed_to, unless_settled, alter, new_message, begun, is_in}
+use Rattle.ev_machine.specs.State.{Message, Standing, Unsettled, WaitsOn, Viewed, Settled, Known, Change, Hold, React, Sends, Reacts, Vat, Done, Gives, Throws, Ejects, Stops, ◌>>=◌, ◌>>◌, and_then, give, look, tell, with_change, changed, changed_to, unless_settled, alter, new_message, begun, is_in}
 use Rattle.ev_machine.specs.Refs as refs
 use Rattle.ev_machine.specs.Refs.{Place, Near, Mine, Away, Gone, entry_of}
 use Rattle.ev_fate_laws.specs.Fate.{one, among, at_names, at_vat, account}
-use Rattle.ev_fate_laws.specs.Lasting.{Each, NamesMessage, NamesObject, NoPromise, SettledWell, KnownWell, AllWell}
+use Rattle.ev_fate_laws.specs.Lasting.{Each, NamesMessage, NoPromise, SettledWell, KnownWell, AllWell}
 use Rattle.ev_fate_laws.specs.Finding.{IsAmong, ViewIs, ViewsEndIn, ViewsEnd, IsKnown, Finds, SendsFindPlaces}
 use Rattle.ev_fate_laws.proofs.Counts.{among_end, Waits}
 use Rattle.ev_fate_laws.proofs.RunCounts.{pick}
-use Rattle.ev_fate_laws.proofs.PlacesLast.{Global, PaysAt, Pays, cost_then_first, pays_give, cost_enqueue, pays_hold, pays_react}
+use Rattle.ev_fate_laws.proofs.PlacesLast.{Global, PaysAt, cost_enqueue, pays_hold, pays_react}
 use Rattle.ev_fate_laws.proofs.PlacesRefs.{Fits, IsEnd, fits_at, end_of, follow_last, severed_last, found_well, cost_deliver, cost_send_to, pays_settle, new_named, new_at}
 use Rattle.ev_fate_laws.proofs.PlacesSteps.{global_names}
 
@@ -273,5 +273,7 @@ finds_after cut v x s (Stops c t) h = tt
 
 pub sends_find_places : SendsFindPlaces
 unfolding naming mail_of
-sends_find_places word v s cut x w end = (λ act y verb args g. finds_after cut v x s _ (sends_at (naming word v) v (global_names word v) cut x s w end act y verb args g),
-    λ act y o near g. finds_after cut v x s _ (reacts_find (naming word v) v (global_names word v) cut x s w end act y o near g))
+sends_find_places word v s cut x w end = (
+  λ act y verb args g. finds_after cut v x s _ (sends_at (naming word v) v (global_names word v) cut x s w end act y verb args g),
+  λ act y o near g. finds_after cut v x s _ (reacts_find (naming word v) v (global_names word v) cut x s w end act y o near g),
+)

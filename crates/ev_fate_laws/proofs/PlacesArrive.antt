@@ -1,12 +1,12 @@
 -- What arrives and what is noticed lets what has a place last.
-use Rattle.std.proofs.Common.{◌≡◌, ℕ, zero, ◌+◌, ◌≤◌, Bool, true, false, List, [], ◌∷◌, ◌++◌, Option, Some, None, refl, sym, ap, arith, length, subst}
+use Rattle.std.proofs.Common.{ℕ, ◌+◌, ◌≤◌, Bool, true, false, List, [], ◌∷◌, ◌++◌, Option, Some, None, sym, arith, length, subst}
 use Rattle.ev_machine.specs.Values.{Words, Value, Null, Flag, Number, Letter, Text, Prim, Broken, Items, Ref, Name, Naming, IsAnswer, IsLearnt, IsCarried, name_of, mail_of}
-use Rattle.ev_machine.specs.State.{Message, Standing, Unsettled, WaitsOn, Viewed, Settled, Known, ToTell, Passed, Passeds, Plain, AGift, Many, NoMore, More, Note, Deliver, Open, Ask, SettledTo, Elsewhere, Shorten, GiftEntry, ListCame, Vat, Done, Gives, Throws, Ejects, Stops, Act, ◌>>=◌, ◌>>◌, and_then, mail, give, look, tell, new_list, come, alter}
-use Rattle.ev_machine.specs.Refs.{Place, Near, Mine, Away, Gone, settle, send_on}
+use Rattle.ev_machine.specs.State.{Standing, Unsettled, WaitsOn, Viewed, Settled, Known, ToTell, Passed, Passeds, Plain, AGift, Many, NoMore, More, Note, Deliver, Open, Ask, SettledTo, Elsewhere, Shorten, GiftEntry, ListCame, Vat, Done, Gives, Throws, Ejects, Stops, ◌>>=◌, ◌>>◌, and_then, mail, give, look, tell, new_list, come, alter}
+use Rattle.ev_machine.specs.Refs.{Place, Away, settle, send_on}
 use Rattle.ev_machine.specs.Arrive as arrive
 use Rattle.ev_machine.specs.Arrive.{Incoming, Old, New}
 use Rattle.ev_fate_laws.specs.Fate.{at_vat, gone_here, account}
-use Rattle.ev_fate_laws.specs.Lasting.{NamesMessage, NoPromise, AllWell, ComesAsNoObject, ValueComes, PassedComes, AllCome, ValueSettles, PassedSettles, MessageComes, NoteComes}
+use Rattle.ev_fate_laws.specs.Lasting.{NamesMessage, AllWell, ComesAsNoObject, ValueComes, PassedComes, AllCome, ValueSettles, PassedSettles, MessageComes, NoteComes}
 use Rattle.ev_fate_laws.proofs.Counts.{gone_end}
 use Rattle.ev_fate_laws.proofs.PlacesLast.{Global, PaysAt, Pays, pay_more, pays, pays_bind, pays_then, pays_look, pays_come, pays_answer, pays_to_tell}
 use Rattle.ev_fate_laws.proofs.PlacesRefs.{pays_break, pays_resolve, pays_inform, pays_settle, pays_send_on}
@@ -119,18 +119,20 @@ module _ (cut : ℕ → Bool) (x : Name) (K : Naming Name Name) (v : ℕ) (globa
   -- the message that has that name is sent on, once its arguments are learnt
   pays_sent_on : (from : ℕ) (z : Incoming Name Name) (verb : Words) (ys : Passeds (Incoming Name Name)) (id : Name) → NamesMessage id → ComesAsNoObject z → AllCome ys
       → Pays cut x 0 (arrive.learn_all K from ys >>= (λ args. arrive.learn_name K z >>= (λ n. look (λ s. s.number) >>= (λ u. come K (IsAnswer u id) u >>= (λ a. alter K (ToTell from) a >>
-        send_on K (settle K) (record { id = id; target = Ref n; verb = verb; args = args; answer = a }))))))
+      send_on K (settle K) (record { id = id; target = Ref n; verb = verb; args = args; answer = a }))))))
   pays_sent_on from z verb ys id named g all = pays_bind cut x (pays_learn_all from ys all) (λ args. pays_bind cut x (pays_learn_name z g) (λ n. pays_bind cut x (pays_look cut x _) (λ u.
       pays_bind cut x (pays_answer cut x K v global u u id named) (λ a. pays_then cut x (pays_to_tell cut x K v global from a)
-        (pays_send_on K v global cut x (settle K) (pays_settle K v global cut x) (record { id = id; target = Ref n; verb = verb; args = args; answer = a }) named)))))
+      (pays_send_on K v global cut x (settle K) (pays_settle K v global cut x) (record { id = id; target = Ref n; verb = verb; args = args; answer = a }) named)))))
 
   pays_arrive_deliver : (from : ℕ) (m z : Incoming Name Name) (verb : Words) (ys : Passeds (Incoming Name Name)) → MessageComes m → ComesAsNoObject z → AllCome ys → Pays cut x 0 (arrive.arrive_deliver K from m z verb ys)
   unfolding arrive.arrive_deliver arrive.learn_message ◌>>=◌ and_then give mail mail_of account at_vat
   pays_arrive_deliver from (Old m) z verb ys named g all = record { after = λ s w. (pays_sent_on from z verb ys m named g all).after s w }
-  pays_arrive_deliver from (New m h) z verb ys named g all = record { after = λ s w. let id = K.mailed (IsCarried m) (length s.mails) in
-      let carried : NamesMessage id = subst NamesMessage (sym (global.mailed (IsCarried m) (length s.mails))) named in
-      let t : Vat Name = record s { mails = s.mails ++ id ∷ [] } in let same : 0 + account cut x s ≤ account cut x t = omega arith in
-      pay_more cut x 0 0 s t _ same ((pays_sent_on from z verb ys id carried g all).after t w) }
+  pays_arrive_deliver from (New m h) z verb ys named g all = record {
+    after = λ s w. let id = K.mailed (IsCarried m) (length s.mails) in
+        let carried : NamesMessage id = subst NamesMessage (sym (global.mailed (IsCarried m) (length s.mails))) named in
+        let t : Vat Name = record s { mails = s.mails ++ id ∷ [] } in let same : 0 + account cut x s ≤ account cut x t = omega arith in
+        pay_more cut x 0 0 s t _ same ((pays_sent_on from z verb ys id carried g all).after t w);
+  }
 
   -- ---- a name settles by a note: to data, an object or a list
 

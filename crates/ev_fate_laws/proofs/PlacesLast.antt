@@ -1,11 +1,11 @@
 -- What has a place and what became of it lasts through each single change.
-use Rattle.std.proofs.Common.{◌≡◌, ℕ, zero, suc, ◌+◌, ◌≤◌, Bool, true, false, List, [], ◌∷◌, ◌++◌, Option, Some, None, if◌then◌else◌, refl, sym, ap, ◌∙◌, arith, length, subst}
+use Rattle.std.proofs.Common.{◌≡◌, ℕ, ◌+◌, ◌≤◌, Bool, true, false, List, [], ◌∷◌, ◌++◌, Option, Some, None, if◌then◌else◌, refl, sym, arith, length, subst}
 use Rattle.std.specs.Prelude.{nat_le}
-use Rattle.ev_machine.specs.Values.{Words, Value, Null, Flag, Number, Letter, Text, Prim, Broken, Items, Ref, Name, Root, Object, Promise, Answer, Gift, Sent, Msg, Naming, Coming, IsRoot, IsOwn, IsAnswer, IsGift, IsLearnt, Mailing, IsSent, IsCarried, Spot, Own, Foreign, NoObject, spot_of, name_of, answer_of, mail_of}
-use Rattle.ev_machine.specs.State.{Message, Standing, Unsettled, WaitsOn, Viewed, Settled, Known, Change, Hold, Wait, WaitOn, See, React, ToTell, Settle, Passed, Passeds, Note, Deliver, Put, GiftEntry, Happened, Lost, Posted, Vat, Stop, Done, Gives, Throws, Ejects, Stops, Act, ◌>>=◌, ◌>>◌, and_then, each, give, stop, look, tell, spend, spent, enqueue, send_out, new_list, new_gift, open_gift, mark, draws, draw, with_change, changed, changed_to, unless_settled, alter, come, mail, begun}
-use Rattle.ev_fate_laws.specs.Fate.{once, one, among, at_names, at_vat, sent_here, sent_in, gone_here, gone, where_cut, in_note, of_note, put_out, account}
-use Rattle.ev_fate_laws.specs.Lasting.{Each, NamesMessage, NamesNoObject, NamesObject, NoPromise, SettledWell, HeldWell, KnownWell, AllWell}
-use Rattle.ev_fate_laws.proofs.Leads.{Ends, Leads, IsLed}
+use Rattle.ev_machine.specs.Values.{Value, Prim, Name, Naming, Coming, IsAnswer, IsGift, Mailing, spot_of, name_of, answer_of, mail_of}
+use Rattle.ev_machine.specs.State.{Message, Standing, Unsettled, WaitsOn, Viewed, Settled, Known, Change, Hold, Wait, WaitOn, See, React, ToTell, Settle, Note, Happened, Vat, Stop, Done, Gives, Throws, Ejects, Stops, Act, ◌>>=◌, ◌>>◌, and_then, each, give, stop, look, tell, spend, spent, enqueue, send_out, new_list, new_gift, open_gift, mark, draws, draw, with_change, changed, changed_to, unless_settled, alter, come, mail, begun}
+use Rattle.ev_fate_laws.specs.Fate.{one, among, at_names, at_vat, gone_here, where_cut, of_note, account}
+use Rattle.ev_fate_laws.specs.Lasting.{Each, NamesMessage, NamesNoObject, HeldWell, KnownWell, AllWell}
+use Rattle.ev_fate_laws.proofs.Leads.{Ends, Leads}
 use Rattle.ev_fate_laws.proofs.Counts.{among_end, gone_end, put_end, names_end}
 
 -- how a vat names things in the one global state
@@ -251,8 +251,10 @@ module _ (cut : ℕ → Bool) (x : Name) where
 
     pub pays_come : (c : Coming Name Name) (h : ℕ) → NamesNoObject (name_of v c) → Pays cut x 0 (come K c h)
     unfolding come account at_vat
-    pays_come c h g = record { after = λ s w. let n = K.made c (length s.known) in let same = names_end x s.known n h in
-        (come_well s n h (subst NamesNoObject (sym (global.made c (length s.known))) g) w, omega arith) }
+    pays_come c h g = record {
+      after = λ s w. let n = K.made c (length s.known) in let same = names_end x s.known n h in
+          (come_well s n h (subst NamesNoObject (sym (global.made c (length s.known))) g) w, omega arith);
+    }
 
     pub pays_mail : (c : Mailing Name) → Pays cut x 0 (mail K c)
     unfolding mail account at_vat

@@ -1,21 +1,19 @@
 -- What is done with references lets what has a place last.
 use Rattle.std.proofs.Common.{◌≡◌, ℕ, zero, suc, ◌+◌, ◌≤◌, Bool, true, false, List, [], ◌∷◌, ◌++◌, Option, Some, None, refl, sym, ap, ◌∙◌, arith, length, subst}
 use Rattle.std.specs.Prelude.{◌==◌}
-use Rattle.ev_machine.specs.Values.{Words, Value, Null, Flag, Number, Letter, Text, Prim, Broken, Items, Ref, Name, Root, Object, Promise, Answer, Gift, Sent, Msg, Naming, IsOwn, IsAnswer, IsSent, Spot, Own, Foreign, NoObject, spot_of, name_of, answer_of, mail_of}
-use Rattle.ev_machine.specs.State.{Message, Standing, Unsettled, WaitsOn, Viewed, Settled, Known, Hold, React, Settle, Passed, Passeds, Plain, AGift, Many, NoMore, More, Deliver, Happened, Sends, Reacts, Settles, Lost, Posted, Vat, Done, Gives, Throws, Ejects, Stops, Act, ◌>>=◌, ◌>>◌, and_then, each, give, look, tell, enqueue, send_out, with_change, changed, changed_to, unless_settled, alter, new_message, begun, is_in}
+use Rattle.ev_machine.specs.Values.{Words, Value, Null, Flag, Number, Letter, Text, Prim, Broken, Items, Ref, Name, Root, Object, Promise, Answer, Gift, Sent, Naming, IsAnswer, IsSent, Spot, Own, Foreign, NoObject, spot_of, name_of, answer_of, mail_of}
+use Rattle.ev_machine.specs.State.{Message, Standing, Unsettled, WaitsOn, Viewed, Settled, Known, Settle, Passed, Passeds, Plain, AGift, Many, NoMore, More, Deliver, Happened, Sends, Reacts, Settles, Lost, Posted, Vat, Done, Gives, Throws, Ejects, Stops, Act, ◌>>=◌, ◌>>◌, and_then, each, give, look, tell, enqueue, send_out, with_change, changed, changed_to, unless_settled, alter, new_message, begun, is_in}
 use Rattle.ev_machine.specs.Refs as refs
 use Rattle.ev_machine.specs.Refs.{Place, Near, Mine, Away, Gone, entry_of}
 use Rattle.ev_machine_laws.specs.Steps.{After}
 use Rattle.ev_machine_laws.specs.Laws.{SettledStays}
-use Rattle.ev_machine_laws.proofs.Keeps.{Keeps}
 use Rattle.ev_machine_laws.proofs.RefsKeeps.{GoodSettler, keeps_send_on, keeps_settle_at}
 use Rattle.ev_machine_laws.proofs.StepLaws.{settled_law, settled_names}
-use Rattle.ev_fate_laws.specs.Fate.{one, among, at_names, at_vat, gone_here, where_cut, of_note, in_note, account}
-use Rattle.ev_fate_laws.specs.Lasting.{Each, NamesMessage, NamesNoObject, NamesObject, NoPromise, SettledWell, HeldWell, KnownWell, AllWell}
-use Rattle.ev_fate_laws.proofs.Leads.{IsLed, IsLedUnder}
+use Rattle.ev_fate_laws.specs.Fate.{one, among, at_vat, gone_here, where_cut, of_note, in_note, account}
+use Rattle.ev_fate_laws.specs.Lasting.{Each, NamesMessage, NamesNoObject, NamesObject, NoPromise, HeldWell, KnownWell, AllWell}
 use Rattle.ev_fate_laws.proofs.Counts.{gone_end, names_end, Waits, settling_frees}
 use Rattle.ev_fate_laws.proofs.RunCounts.{pick}
-use Rattle.ev_fate_laws.proofs.PlacesLast.{Global, Whatever, Stays, PaysAt, Pays, pay_more, pay_less, then_at, cost_less, cost_then, cost_bind_last, cost_then_last, cost_then_first, led_by_pays, pays, pays_each, pays_give, cost_tell, cost_enqueue, pays_enqueue, cost_out, pays_hold, pays_react, pays_answer, each_end, come_well}
+use Rattle.ev_fate_laws.proofs.PlacesLast.{Global, PaysAt, Pays, pay_more, then_at, cost_less, cost_then, cost_bind_last, cost_then_last, cost_then_first, pays, pays_each, pays_give, cost_tell, cost_enqueue, pays_enqueue, cost_out, pays_hold, pays_react, pays_answer, come_well}
 
 -- a message whose target is followed to that may be put at this place
 abbrev pub Fits : Value Name → Place Name → Type 0
@@ -395,8 +393,8 @@ module _ (K : Naming Name Name) (v : ℕ) (global : Global K v) where
           let held : Each (HeldWell p) k.held = subst (λ n. Each (HeldWell n) k.held) known.1 of_k.held in
           let first = all_sent settle good settled p (changed (Settle y) k) y (settled_standing y k k.standing h) last k.held t held well (settled_entry p y k s.known e) in
           paid_at (among x k.held + among x k.reactions) s t _ (frees_at p y k s e h)
-            (then_at cut x (among x k.held) (among x k.reactions) t (each (refs.send_on K settle) k.held t) _ first
-              (cost_then_last cut x (among x k.reactions) (pays_each cut x k.waiting (λ q. good q y last)) (cost_then_first cut x (among x k.reactions) (cost_queued k.reactions) (pays_each cut x k.told (pays_inform p)))))
+          (then_at cut x (among x k.held) (among x k.reactions) t (each (refs.send_on K settle) k.held t) _ first
+          (cost_then_last cut x (among x k.reactions) (pays_each cut x k.waiting (λ q. good q y last)) (cost_then_first cut x (among x k.reactions) (cost_queued k.reactions) (pays_each cut x k.told (pays_inform p)))))
 
       settles_standing : (p : Name) (y : Value Name) (k : Known Name) (s : Vat Name) → entry_of K s.known p ≡ Some k → (t : Standing Name) → k.standing ≡ t → NoPromise y → AllWell s → PaysAt cut x 0 s (refs.settle_standing K settle p y k t s)
       unfolding refs.settle_standing give
@@ -477,7 +475,7 @@ module _ (K : Naming Name Name) (v : ℕ) (global : Global K v) where
     -- a message that is numbered and told, with its answer
     pub new_at : (c : ℕ) (s : Vat Name) (h : ℕ) (id : Name) (k : ℕ) (e : Happened Name) (r : Done Name (Value Name)) → NamesMessage id → AllWell s
         → (AllWell (record s { messages = suc s.messages; mails = s.mails ++ id ∷ []; known = s.known ++ begun (K.made (IsAnswer h id) k) h ∷ []; happened = s.happened ++ e ∷ [] })
-          → PaysAt cut x c (record s { messages = suc s.messages; mails = s.mails ++ id ∷ []; known = s.known ++ begun (K.made (IsAnswer h id) k) h ∷ []; happened = s.happened ++ e ∷ [] }) r)
+        → PaysAt cut x c (record s { messages = suc s.messages; mails = s.mails ++ id ∷ []; known = s.known ++ begun (K.made (IsAnswer h id) k) h ∷ []; happened = s.happened ++ e ∷ [] }) r)
         → PaysAt cut x c s r
     unfolding account at_vat
     new_at c s h id k e r g w f = let a = K.made (IsAnswer h id) k in let same = names_end x s.known a h in let more = gone_end cut x s.happened e in
@@ -485,11 +483,15 @@ module _ (K : Naming Name Name) (v : ℕ) (global : Global K v) where
 
     pub pays_send : (act : ℕ) (y : Value Name) (verb : Words) (args : List (Value Name)) → Pays cut x 0 (refs.send K act y verb args)
     unfolding refs.send ◌>>=◌ ◌>>◌ and_then look tell new_message
-    pays_send act y verb args = record { after = λ s w. let z = refs.follow K s y in let p = refs.place K s z in let id = K.mailed (IsSent s.messages) (length s.mails) in let named = new_named s.messages (length s.mails) in
-        new_at 0 s (refs.answer_host K s.number p) id (length s.known) (Sends act _) _ named w
-          ((cost_then_first cut x 0 (pays_send_first _ z p named (fits_at s z p refl)) (pays_give cut x _)).after _) }
+    pays_send act y verb args = record {
+      after = λ s w. let z = refs.follow K s y in let p = refs.place K s z in let id = K.mailed (IsSent s.messages) (length s.mails) in let named = new_named s.messages (length s.mails) in
+          new_at 0 s (refs.answer_host K s.number p) id (length s.known) (Sends act _) _ named w
+          ((cost_then_first cut x 0 (pays_send_first _ z p named (fits_at s z p refl)) (pays_give cut x _)).after _);
+    }
 
     pub pays_reacts : (act : ℕ) (y o near : Value Name) → Pays cut x 0 (refs.react K act y o near)
     unfolding refs.react ◌>>=◌ ◌>>◌ and_then look tell new_message
-    pays_reacts act y o near = record { after = λ s w. let id = K.mailed (IsSent s.messages) (length s.mails) in let named = new_named s.messages (length s.mails) in
-        new_at 0 s s.number id (length s.known) (Reacts act y o _) _ named w ((cost_then_first cut x 0 (pays_react_at _ _) (pays_give cut x _)).after _) }
+    pays_reacts act y o near = record {
+      after = λ s w. let id = K.mailed (IsSent s.messages) (length s.mails) in let named = new_named s.messages (length s.mails) in
+          new_at 0 s s.number id (length s.known) (Reacts act y o _) _ named w ((cost_then_first cut x 0 (pays_react_at _ _) (pays_give cut x _)).after _);
+    }

@@ -1,7 +1,7 @@
 -- Every step of a vat lets what has a place last.
-use Rattle.std.proofs.Common.{◌≡◌, ℕ, ◌+◌, ◌≤◌, Bool, true, false, List, refl, sym, ap, ◌∙◌, arith, length, subst, eqb-true, ◌&&◌, ◌==◌}
-use Rattle.ev_machine.specs.Values.{Value, Name, Naming, IsOwn, naming, name_of, mail_of, spot_of, same_name, same_msg, Root, Object, Promise, Answer, Gift, Sent, Msg}
-use Rattle.ev_machine.specs.State.{Binding, Message, Vat, Done, Gives, Throws, Ejects, Stops, Took, tell}
+use Rattle.std.proofs.Common.{◌≡◌, ℕ, Bool, true, false, List, refl, sym, ap, ◌∙◌, arith, length, subst, eqb-true, ◌&&◌, ◌==◌}
+use Rattle.ev_machine.specs.Values.{Name, Naming, IsOwn, naming, name_of, same_name, same_msg, Root, Object, Promise, Answer, Gift, Sent, Msg}
+use Rattle.ev_machine.specs.State.{Message, Vat, Done, Gives, Throws, Ejects, Stops, Took, tell}
 use Rattle.ev_machine.specs.Eval as eval
 use Rattle.ev_kernel.specs.declared.node.Node.{Node}
 use Rattle.ev_machine_laws.specs.Steps.{Step, Opens, Takes, Receives, Notices, does}

@@ -1,11 +1,11 @@
 -- Every step of a vat doubles no message.
-use Rattle.std.proofs.Common.{◌≡◌, ℕ, ◌+◌, Bool, refl}
-use Rattle.ev_machine.specs.Values.{Value, Name, Sent, Naming, IsSent, IsCarried, naming, mail_of}
-use Rattle.ev_machine.specs.State.{Binding, Message, Vat, Act, Took, ◌>>=◌, ◌>>◌, tell, new_activation}
+use Rattle.std.proofs.Common.{◌≡◌, ℕ, Bool, refl}
+use Rattle.ev_machine.specs.Values.{Name, Sent, Naming, IsSent, IsCarried, naming, mail_of}
+use Rattle.ev_machine.specs.State.{Binding, Message}
 use Rattle.ev_machine.specs.Eval as eval
 use Rattle.ev_kernel.specs.declared.node.Node.{Node}
 use Rattle.std.specs.Prelude.{List}
-use Rattle.ev_machine_laws.specs.Steps.{Step, Opens, Takes, Receives, Notices, does, After}
+use Rattle.ev_machine_laws.specs.Steps.{Step, Opens, Takes, Receives, Notices, does}
 use Rattle.ev_machine_laws.proofs.Keeps.{Keeps}
 use Rattle.ev_fate_laws.specs.Fate.{one}
 use Rattle.ev_fate_laws.specs.Laws.{Accounted, brought, StepsDoubleNone}
@@ -27,7 +27,7 @@ module _ (cut : ℕ → Bool) (v : ℕ) (x : Name) (K : Naming Name Name) (sent 
   unfolding eval.taking
   costs_taking depth m = free_bind cut v x (one m.id x) (keeps_activation _ (spared cut v x)) (λ a. then_free cut v x (one m.id x) (costs_took cut v x a m)
       (all_by (Accounted cut v x 0) _ (leads_closes K (Accounted cut v x 0) (Accounted cut v x 0) base law tree a m.answer _
-        (leads_turn_value K (Accounted cut v x 0) (Accounted cut v x 0) base law tree (eval.evaluator K tree depth) (good_evaluator K (Accounted cut v x 0) (Accounted cut v x 0) base law tree depth) a m.target m.verb m.args))))
+      (leads_turn_value K (Accounted cut v x 0) (Accounted cut v x 0) base law tree (eval.evaluator K tree depth) (good_evaluator K (Accounted cut v x 0) (Accounted cut v x 0) base law tree depth) a m.target m.verb m.args))))
 
   free_opening : (depth : ℕ) (root : Name) (given : List (Binding Name)) → Keeps (Accounted cut v x 0) (eval.opening K tree depth root given)
   free_opening depth root given = all_by (Accounted cut v x 0) _ (leads_opening K (Accounted cut v x 0) (Accounted cut v x 0) base law tree depth root given)
