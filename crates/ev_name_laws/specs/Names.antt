@@ -1,0 +1,2 @@
+-- Names that are known.
+use Rattle.std.specs.Prelude.{ℕ}

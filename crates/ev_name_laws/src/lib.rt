@@ -1,0 +1,2 @@
+//! Laws of names over whole runs of the machine.
+#![tactic(auto)]
