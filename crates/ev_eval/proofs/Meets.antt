@@ -19,7 +19,11 @@ use Rattle.ev_machine.specs.State as machine
 use Rattle.ev_machine.specs.Ints.{fits, opened_ints}
 use Rattle.ev_machine.specs.Native.{by_int, opened_native}
 use Rattle.ev_machine.specs.Free.{same_words}
-use Rattle.ev_machine.specs.Eval.{Answer, Answers, any_guard, bound_in, opened_eval}
+use Rattle.ev_machine.specs.Scopes.{Answer, Answers, any_guard, bound_in}
+use Rattle.ev_machine.specs.Eval.{opened_eval}
+use Rattle.ev_machine.specs.Scopes as scopes
+use Rattle.ev_machine.specs.Perform as perform
+use Rattle.ev_machine.specs.Calls as calls
 use Rattle.ev_machine.specs.Eval as theirs
 use Rattle.ev_machine.specs.Native as native
 use Rattle.ev_eval.specs.declared.exit.Exit.{Exit}
@@ -159,19 +163,19 @@ unfolding opened_steps opened_state
 give_answer_met w v s = record { stands = refl }
 
 ended_met : (w : World) (act : ℕ) (r : Result Plain Problem) (m : machine.Act Local (Value Local)) (s : Room)
-    → m (vat w s) ≡ outcome w r (vat w s) → Met w (val w) (ended act r s) (theirs.ended act m (vat w s))
-unfolding ended theirs.ended ◌>>◌ machine.give machine.throw machine.ending machine.end_by machine.◌>>◌
+    → m (vat w s) ≡ outcome w r (vat w s) → Met w (val w) (ended act r s) (scopes.ended act m (vat w s))
+unfolding ended scopes.ended ◌>>◌ machine.give machine.throw machine.ending machine.end_by machine.◌>>◌
 ended_met w act (Ok v) m s is = rw is (then_met _ _ (tell_met w (event.Back act (held_value v)) (Back act (val w v)) s (back_line w act v)) (λ u t. give_met w (val w) v t))
 ended_met w act (Err p) m s is = rw is (then_met _ _ (tell_met w (event.Thrown act (held.Text (problem_id p))) (Thrown act (problem_words p)) s (thrown_line w act p)) (λ u t. fail_met w p t))
 
-fits_or_not : (w : World) (tree : List Node) (rec : theirs.Caller Local) (act : ℕ) (b : Bool) (z : ℤ) (v : Vat Local)
-    → theirs.reply (names w) tree rec act (by_int (elim b [ true ↦ Ok z | false ↦ Err (codes "integer overflow") ])) v ≡ outcome w (if b then Ok (plain.Int z) else Err Overflow) v
+fits_or_not : (w : World) (tree : List Node) (rec : scopes.Caller Local) (act : ℕ) (b : Bool) (z : ℤ) (v : Vat Local)
+    → perform.reply (names w) tree rec act (by_int (elim b [ true ↦ Ok z | false ↦ Err (codes "integer overflow") ])) v ≡ outcome w (if b then Ok (plain.Int z) else Err Overflow) v
 unfolding opened_eval opened_native
 fits_or_not w tree rec act true z v = refl
 fits_or_not w tree rec act false z v = refl
 
-answer_is : (w : World) (tree : List Node) (again : theirs.Caller Local) (act : ℕ) (x : Plain) (args : List Plain) (s : Room)
-    → theirs.data_answer (names w) tree again act (val w x) (codes "add") (map (val w) args) (vat w s) ≡ outcome w (sum_of x args) (vat w s)
+answer_is : (w : World) (tree : List Node) (again : scopes.Caller Local) (act : ℕ) (x : Plain) (args : List Plain) (s : Room)
+    → perform.data_answer (names w) tree again act (val w x) (codes "add") (map (val w) args) (vat w s) ≡ outcome w (sum_of x args) (vat w s)
 unfolding opened_eval opened_native opened_steps opened_ints fits
 answer_is w tree again act plain.Null args s = refl
 answer_is w tree again act (plain.Int x) [] s = refl
@@ -188,9 +192,9 @@ called_line : (w : World) (act : ℕ) (x : Plain) (verb : Words) (args : List Pl
 unfolding line_of
 called_line w act x verb args = ap (λ (vs : List (Value Local)). Called act (val w x) verb vs None ∷ []) (vals_is w args)
 
-call_is : (w : World) (tree : List Node) (rec : theirs.Evaluator Local) (act : ℕ) (x : Plain) (verb : Words) (vs : List (Value Local)) (v : Vat Local)
-    → theirs.call (names w) tree rec act (val w x) verb vs v
-    ≡ theirs.with_lines act (val w x) verb vs (theirs.data_answer (names w) tree (λ a y u xs. theirs.call_at (names w) tree (3 + length v.lists) rec a y u xs) act (val w x) verb vs) v
+call_is : (w : World) (tree : List Node) (rec : scopes.Evaluator Local) (act : ℕ) (x : Plain) (verb : Words) (vs : List (Value Local)) (v : Vat Local)
+    → calls.call (names w) tree rec act (val w x) verb vs v
+    ≡ scopes.with_lines act (val w x) verb vs (perform.data_answer (names w) tree (λ a y u xs. calls.call_at (names w) tree (3 + length v.lists) rec a y u xs) act (val w x) verb vs) v
 unfolding opened_eval
 call_is w tree rec act plain.Null verb vs v =
     let more : 4 + length v.lists ≡ suc (3 + length v.lists) = omega arith in
@@ -199,25 +203,25 @@ call_is w tree rec act (plain.Int z) verb vs v =
     let more : 4 + length v.lists ≡ suc (3 + length v.lists) = omega arith in
     rw more refl
 
-with_lines_met : (w : World) (tree : List Node) (again : theirs.Caller Local) (act : ℕ) (x : Plain) (args : List Plain) (s : Room)
-    → Met w (val w) (call_add act x (codes "add") args s) (theirs.with_lines act (val w x) (codes "add") (map (val w) args) (theirs.data_answer (names w) tree again act (val w x) (codes "add") (map (val w) args)) (vat w s))
-unfolding call_add theirs.with_lines ◌>>◌ machine.◌>>◌
+with_lines_met : (w : World) (tree : List Node) (again : scopes.Caller Local) (act : ℕ) (x : Plain) (args : List Plain) (s : Room)
+    → Met w (val w) (call_add act x (codes "add") args s) (scopes.with_lines act (val w x) (codes "add") (map (val w) args) (perform.data_answer (names w) tree again act (val w x) (codes "add") (map (val w) args)) (vat w s))
+unfolding call_add scopes.with_lines ◌>>◌ machine.◌>>◌
 with_lines_met w tree again act x args s =
     then_met _ _ (tell_met w (event.Call act (held_value x) (codes "add") (map held_value args) None) (Called act (val w x) (codes "add") (map (val w) args) None) s (called_line w act x (codes "add") args))
-    (λ u t. ended_met w act (sum_of x args) (theirs.data_answer (names w) tree again act (val w x) (codes "add") (map (val w) args)) t (answer_is w tree again act x args t))
+    (λ u t. ended_met w act (sum_of x args) (perform.data_answer (names w) tree again act (val w x) (codes "add") (map (val w) args)) t (answer_is w tree again act x args t))
 
-call_add_met : (w : World) (tree : List Node) (rec : theirs.Evaluator Local) (act : ℕ) (x : Plain) (args : List Plain) (s : Room)
-    → Met w (val w) (call act x (codes "add") args s) (theirs.call (names w) tree rec act (val w x) (codes "add") (map (val w) args) (vat w s))
+call_add_met : (w : World) (tree : List Node) (rec : scopes.Evaluator Local) (act : ℕ) (x : Plain) (args : List Plain) (s : Room)
+    → Met w (val w) (call act x (codes "add") args s) (calls.call (names w) tree rec act (val w x) (codes "add") (map (val w) args) (vat w s))
 unfolding call
 call_add_met w tree rec act x args s =
     rw (call_is w tree rec act x (codes "add") (map (val w) args) (vat w s))
-    (with_lines_met w tree (λ a y u xs. theirs.call_at (names w) tree (3 + length (vat w s).lists) rec a y u xs) act x args s)
+    (with_lines_met w tree (λ a y u xs. calls.call_at (names w) tree (3 + length (vat w s).lists) rec a y u xs) act x args s)
 
-call_met : (w : World) (tree : List Node) (rec : theirs.Evaluator Local) (act : ℕ) (x : Plain) (verb : Words) (args : List Plain) (s : Room)
-    → bytes_eq verb (codes "add") ≡ true → Met w (val w) (call act x verb args s) (theirs.call (names w) tree rec act (val w x) verb (map (val w) args) (vat w s))
+call_met : (w : World) (tree : List Node) (rec : scopes.Evaluator Local) (act : ℕ) (x : Plain) (verb : Words) (args : List Plain) (s : Room)
+    → bytes_eq verb (codes "add") ≡ true → Met w (val w) (call act x verb args s) (calls.call (names w) tree rec act (val w x) verb (map (val w) args) (vat w s))
 call_met w tree rec act x verb args s e =
     let is : verb ≡ codes "add" = (bytes_eq-Decides verb (codes "add")).0 e in
-    subst (λ (v : Words). Met w (val w) (call act x v args s) (theirs.call (names w) tree rec act (val w x) v (map (val w) args) (vat w s))) (sym is) (call_add_met w tree rec act x args s)
+    subst (λ (v : Words). Met w (val w) (call act x v args s) (calls.call (names w) tree rec act (val w x) v (map (val w) args) (vat w s))) (sym is) (call_add_met w tree rec act x args s)
 
 -- ---- nouns
 
@@ -268,19 +272,19 @@ safe_met w x s e =
     rw (safe_is x) (safe_cases w (bytes_eq x (codes "null")) (bytes_eq x (codes "true")) (bytes_eq x (codes "false")) (position (bytes_eq x) primitives) (others x) s e (no_others x))
 
 read_met : (w : World) (act : ℕ) (f : Option Plain) (x : Words) (s : Room) → is_built_safe (safe_value x) ≡ true
-    → Met w (val w) (answer (noun_value_of f x) s) (theirs.read_bound act (fixed_of w f) x (vat w s))
-unfolding noun_value_of theirs.read_bound
+    → Met w (val w) (answer (noun_value_of f x) s) (scopes.read_bound act (fixed_of w f) x (vat w s))
+unfolding noun_value_of scopes.read_bound
 read_met w act (Some v) x s e = give_answer_met w v s
 read_met w act None x s e = safe_met w x s e
 
 noun_met : (w : World) (x : Words) (here : Scope) (s : Room) → is_built_safe (safe_value x) ≡ true
-    → Met w (val w) (answer (noun_value x here) s) (theirs.read_bound here.act (bound_in (scope_of w here).nouns x) x (vat w s))
+    → Met w (val w) (answer (noun_value x here) s) (scopes.read_bound here.act (bound_in (scope_of w here).nouns x) x (vat w s))
 unfolding noun_value
 noun_met w x here s e = rw (found_is w here.nouns [] None x (none_bound w x)) (read_met w here.act (found_from None here.nouns x) x s e)
 
 -- ---- nodes
 
-record IsMet (w : World) (rec : Evaluator) (their : theirs.Evaluator Local) : Type 0 where
+record IsMet (w : World) (rec : Evaluator) (their : scopes.Evaluator Local) : Type 0 where
   expression : (id : ℕ) (here : Scope) (s : Room) → Met w (answer_of w) (rec.expression id here s) (their.expression id (scope_of w here) (vat w s))
   pattern : (id : ℕ) (v : Plain) (here : Scope) (s : Room) → Met w (scope_of w) (rec.pattern id v here s) (their.pattern id (val w v) Null (scope_of w here) (vat w s))
 
@@ -315,18 +319,18 @@ front_none (Throws p t) = refl
 front_none (Ejects n v t) = refl
 front_none (Stops c t) = refl
 
-all_of-more : (w : World) (tree : List Node) (their : theirs.Evaluator Local) (e : ℕ) (es : List ℕ) (sc : Surroundings Local) (v : Vat Local)
+all_of-more : (w : World) (tree : List Node) (their : scopes.Evaluator Local) (e : ℕ) (es : List ℕ) (sc : Surroundings Local) (v : Vat Local)
     → theirs.all_of (names w) tree their (e ∷ es) sc v
     ≡ machine.and_then (their.expression e sc v) (λ x t. machine.and_then (theirs.all_of (names w) tree their es x.scope t) (λ xs. machine.give (record { values = x.value ∷ xs.values; scope = xs.scope })))
 unfolding theirs.all_of machine.◌>>=◌
 all_of-more w tree their e es sc v = refl
 
-all_of-none : (w : World) (tree : List Node) (their : theirs.Evaluator Local) (sc : Surroundings Local) (v : Vat Local)
+all_of-none : (w : World) (tree : List Node) (their : scopes.Evaluator Local) (sc : Surroundings Local) (v : Vat Local)
     → theirs.all_of (names w) tree their [] sc v ≡ machine.Gives (record { values = []; scope = sc }) v
 unfolding theirs.all_of opened_state
 all_of-none w tree their sc v = refl
 
-gathered_met : (w : World) (tree : List Node) (rec : Evaluator) (their : theirs.Evaluator Local) (h : IsMet w rec their) (so_far : List Plain) (es : List ℕ) (here : Scope) (s : Room)
+gathered_met : (w : World) (tree : List Node) (rec : Evaluator) (their : scopes.Evaluator Local) (h : IsMet w rec their) (so_far : List Plain) (es : List ℕ) (here : Scope) (s : Room)
     → Met w (answers_of w) (gathered rec so_far es here s) (with_front (map (val w) so_far) (theirs.all_of (names w) tree their es (scope_of w here) (vat w s)))
 unfolding gathered ◌>>=◌ with_front
 gathered_met w tree rec their h so_far [] here s = rw (all_of-none w tree their (scope_of w here) (vat w s)) (nothing_met w so_far here s)
@@ -336,32 +340,32 @@ gathered_met w tree rec their h so_far (e ∷ es) here s =
     (λ (vs : List (Value Local)). Met w (answers_of w) (gathered rec (so_far ++ a.0 ∷ []) es a.1 t) (with_front vs (theirs.all_of (names w) tree their es (scope_of w a.1) (vat w t))))
     (map-append (val w) so_far (a.0 ∷ [])) (gathered_met w tree rec their h (so_far ++ a.0 ∷ []) es a.1 t)))
 
-all_met : (w : World) (tree : List Node) (rec : Evaluator) (their : theirs.Evaluator Local) (h : IsMet w rec their) (es : List ℕ) (here : Scope) (s : Room)
+all_met : (w : World) (tree : List Node) (rec : Evaluator) (their : scopes.Evaluator Local) (h : IsMet w rec their) (es : List ℕ) (here : Scope) (s : Room)
     → Met w (answers_of w) (gathered rec [] es here s) (theirs.all_of (names w) tree their es (scope_of w here) (vat w s))
 all_met w tree rec their h es here s =
     subst (λ (d : Done Local (Answers Local)). Met w (answers_of w) (gathered rec [] es here s) d) (front_none (theirs.all_of (names w) tree their es (scope_of w here) (vat w s)))
     (gathered_met w tree rec their h [] es here s)
 
-last_met : (w : World) (tree : List Node) (rec : Evaluator) (their : theirs.Evaluator Local) (h : IsMet w rec their) (x : Plain) (es : List ℕ) (here : Scope) (s : Room)
+last_met : (w : World) (tree : List Node) (rec : Evaluator) (their : scopes.Evaluator Local) (h : IsMet w rec their) (x : Plain) (es : List ℕ) (here : Scope) (s : Room)
     → Met w (answer_of w) (last_of rec x es here s) (theirs.last_of (names w) tree their (record { value = val w x; scope = scope_of w here }) es (vat w s))
 unfolding last_of theirs.last_of ◌>>=◌ machine.◌>>=◌
 last_met w tree rec their h x [] here s = give_met w (answer_of w) (x, here) s
 last_met w tree rec their h x (e ∷ es) here s = then_met _ _ (h.expression e here s) (λ a t. last_met w tree rec their h a.0 es a.1 t)
 
-call_node_met : (w : World) (tree : List Node) (rec : Evaluator) (their : theirs.Evaluator Local) (h : IsMet w rec their) (id r : ℕ) (verb : Words) (args : List ℕ) (here : Scope) (s : Room)
+call_node_met : (w : World) (tree : List Node) (rec : Evaluator) (their : scopes.Evaluator Local) (h : IsMet w rec their) (id r : ℕ) (verb : Words) (args : List ℕ) (here : Scope) (s : Room)
     → bytes_eq verb (codes "add") ≡ true
     → Met w (answer_of w) (call_node rec r verb args here s) (theirs.step (names w) tree their id (Call r verb args) (scope_of w here) (vat w s))
-unfolding call_node theirs.step theirs.answered ◌>>=◌ machine.◌>>=◌
+unfolding call_node theirs.step scopes.answered ◌>>=◌ machine.◌>>=◌
 call_node_met w tree rec their h id r verb args here s e =
     then_met _ _ (h.expression r here s) (λ x t. then_met _ _ (all_met w tree rec their h args x.1 t) (λ xs u. then_met _ _ (call_met w tree their here.act x.0 verb xs.0 u e) (λ v q. give_met w (answer_of w) (v, xs.1) q)))
 
-definition_is : (w : World) (tree : List Node) (their : theirs.Evaluator Local) (id p e : ℕ) (sc : Surroundings Local) (v : Vat Local)
+definition_is : (w : World) (tree : List Node) (their : scopes.Evaluator Local) (id p e : ℕ) (sc : Surroundings Local) (v : Vat Local)
     → theirs.step (names w) tree their id (Def p None e) sc v
     ≡ machine.and_then (their.expression e sc v) (λ x t. machine.and_then (their.pattern p x.value Null x.scope t) (λ after. machine.give (record { value = x.value; scope = after })))
 unfolding opened_eval
 definition_is w tree their id p e sc v = refl
 
-define_met : (w : World) (tree : List Node) (rec : Evaluator) (their : theirs.Evaluator Local) (h : IsMet w rec their) (id p : ℕ) (j : Option ℕ) (e : ℕ) (here : Scope) (s : Room)
+define_met : (w : World) (tree : List Node) (rec : Evaluator) (their : scopes.Evaluator Local) (h : IsMet w rec their) (id p : ℕ) (j : Option ℕ) (e : ℕ) (here : Scope) (s : Room)
     → is_none j ≡ true
     → Met w (answer_of w) (define rec p j e here s) (theirs.step (names w) tree their id (Def p j e) (scope_of w here) (vat w s))
 unfolding define ◌>>=◌
@@ -370,29 +374,29 @@ define_met w tree rec their h id p None e here s none =
     rw (definition_is w tree their id p e (scope_of w here) (vat w s))
     (then_met _ _ (h.expression e here s) (λ x t. then_met _ _ (h.pattern p x.0 x.1 t) (λ after u. give_met w (answer_of w) (x.0, after) u)))
 
-noun_node_met : (w : World) (tree : List Node) (their : theirs.Evaluator Local) (id : ℕ) (x : Words) (here : Scope) (s : Room) → is_built_safe (safe_value x) ≡ true
+noun_node_met : (w : World) (tree : List Node) (their : scopes.Evaluator Local) (id : ℕ) (x : Words) (here : Scope) (s : Room) → is_built_safe (safe_value x) ≡ true
     → Met w (answer_of w) (in_scope here (noun_value x here) s) (theirs.step (names w) tree their id (Noun x) (scope_of w here) (vat w s))
-unfolding in_scope theirs.step theirs.answered ◌>>=◌ machine.◌>>=◌
+unfolding in_scope theirs.step scopes.answered ◌>>=◌ machine.◌>>=◌
 noun_node_met w tree their id x here s e = then_met _ _ (noun_met w x here s e) (λ v t. give_met w (answer_of w) (v, here) t)
 
-literal_met : (w : World) (tree : List Node) (their : theirs.Evaluator Local) (id : ℕ) (l : Literal) (here : Scope) (s : Room) → is_int l ≡ true
+literal_met : (w : World) (tree : List Node) (their : scopes.Evaluator Local) (id : ℕ) (l : Literal) (here : Scope) (s : Room) → is_int l ≡ true
     → Met w (answer_of w) (in_scope here (literal_value l) s) (theirs.step (names w) tree their id (Lit l) (scope_of w here) (vat w s))
 unfolding opened_steps opened_eval
 literal_met w tree their id (literal.Int z) here s e = record { stands = refl }
 literal_met w tree their id (literal.Char c) here s e = absurd (cc)
 literal_met w tree their id (literal.Text t) here s e = absurd (cc)
 
-astray_met : (w : World) (tree : List Node) (their : theirs.Evaluator Local) (id : ℕ) (x : Words) (g : Option ℕ) (here : Scope) (s : Room)
+astray_met : (w : World) (tree : List Node) (their : scopes.Evaluator Local) (id : ℕ) (x : Words) (g : Option ℕ) (here : Scope) (s : Room)
     → Met w (answer_of w) (fail exit.Astray s) (theirs.step (names w) tree their id (Final x g) (scope_of w here) (vat w s))
 unfolding opened_steps opened_eval
 astray_met w tree their id x g here s = record { stands = refl }
 
-sequence_met : (w : World) (tree : List Node) (rec : Evaluator) (their : theirs.Evaluator Local) (h : IsMet w rec their) (id : ℕ) (es : List ℕ) (here : Scope) (s : Room)
+sequence_met : (w : World) (tree : List Node) (rec : Evaluator) (their : scopes.Evaluator Local) (h : IsMet w rec their) (id : ℕ) (es : List ℕ) (here : Scope) (s : Room)
     → Met w (answer_of w) (last_of rec plain.Null es here s) (theirs.step (names w) tree their id (Sequence es) (scope_of w here) (vat w s))
 unfolding theirs.step
 sequence_met w tree rec their h id es here s = last_met w tree rec their h plain.Null es here s
 
-step_met : (w : World) (tree : List Node) (rec : Evaluator) (their : theirs.Evaluator Local) (h : IsMet w rec their) (id : ℕ) (n : Node) (here : Scope) (s : Room) → is_built_node n ≡ true
+step_met : (w : World) (tree : List Node) (rec : Evaluator) (their : scopes.Evaluator Local) (h : IsMet w rec their) (id : ℕ) (n : Node) (here : Scope) (s : Room) → is_built_node n ≡ true
     → Met w (answer_of w) (step rec n here s) (theirs.step (names w) tree their id n (scope_of w here) (vat w s))
 unfolding step is_built_node
 step_met w tree rec their h id (Lit l) here s e = literal_met w tree their id l here s e
@@ -403,21 +407,21 @@ step_met w tree rec their h id (Sequence es) here s e = sequence_met w tree rec 
 step_met w tree rec their h id (Final x g) here s e = astray_met w tree their id x g here s
 step_met w tree rec their h id _ here s e = absurd (cc)
 
-final_is : (w : World) (tree : List Node) (their : theirs.Evaluator Local) (x : Words) (y : Value Local) (sc : Surroundings Local) (v : Vat Local)
-    → theirs.bind_step (names w) tree their (Final x None) y Null sc v ≡ machine.Gives (theirs.with_noun x (Fixed y any_guard) sc) v
+final_is : (w : World) (tree : List Node) (their : scopes.Evaluator Local) (x : Words) (y : Value Local) (sc : Surroundings Local) (v : Vat Local)
+    → theirs.bind_step (names w) tree their (Final x None) y Null sc v ≡ machine.Gives (scopes.with_noun x (Fixed y any_guard) sc) v
 unfolding opened_eval
 final_is w tree their x y sc v = refl
 
-final_met : (w : World) (tree : List Node) (their : theirs.Evaluator Local) (x : Words) (g : Option ℕ) (v : Plain) (here : Scope) (s : Room) → is_none g ≡ true
+final_met : (w : World) (tree : List Node) (their : scopes.Evaluator Local) (x : Words) (g : Option ℕ) (v : Plain) (here : Scope) (s : Room) → is_none g ≡ true
     → Met w (scope_of w) (bind_final x g v here s) (theirs.bind_step (names w) tree their (Final x g) (val w v) Null (scope_of w here) (vat w s))
-unfolding bind_final give theirs.with_noun
+unfolding bind_final give scopes.with_noun
 final_met w tree their x (Some g) v here s e = absurd (cc)
 final_met w tree their x None v here s e = record {
   stands = final_is w tree their x (val w v) (scope_of w here) (vat w s)
       ∙ ap (λ (ns : List (Bond Local)). machine.Gives (record { act = here.act; nouns = ns }) (vat w s)) (sym (onto_more w [] here.nouns (record { noun = x; value = v })));
 }
 
-bind_step_met : (w : World) (tree : List Node) (their : theirs.Evaluator Local) (n : Node) (v : Plain) (here : Scope) (s : Room) → is_built_node n ≡ true
+bind_step_met : (w : World) (tree : List Node) (their : scopes.Evaluator Local) (n : Node) (v : Plain) (here : Scope) (s : Room) → is_built_node n ≡ true
     → Met w (scope_of w) (bind_step n v here s) (theirs.bind_step (names w) tree their n (val w v) Null (scope_of w here) (vat w s))
 unfolding bind_step is_built_node fail theirs.bind_step machine.stop
 bind_step_met w tree their (Final x g) v here s e = final_met w tree their x g v here s e
@@ -442,21 +446,21 @@ get_built (m ∷ ns) zero n h e =
     subst (λ (k : Node). is_built_node k ≡ true) is (first_built (is_built_node m) (is_built ns) h).0
 get_built (m ∷ ns) (suc id) n h e = get_built ns id n (first_built (is_built_node m) (is_built ns) h).1 e
 
-found_met : (w : World) (tree : List Node) (rec : Evaluator) (their : theirs.Evaluator Local) (h : IsMet w rec their) (id : ℕ) (o : Option Node) (here : Scope) (s : Room)
+found_met : (w : World) (tree : List Node) (rec : Evaluator) (their : scopes.Evaluator Local) (h : IsMet w rec their) (id : ℕ) (o : Option Node) (here : Scope) (s : Room)
     → ((n : Node) → o ≡ Some n → is_built_node n ≡ true)
     → Met w (answer_of w) (step_found rec o here s) (theirs.step_found (names w) tree their id o (scope_of w here) (vat w s))
 unfolding step_found fail theirs.step_found machine.stop
 found_met w tree rec their h id None here s built = record { stands = refl }
 found_met w tree rec their h id (Some n) here s built = step_met w tree rec their h id n here s (built n refl)
 
-bind_met : (w : World) (tree : List Node) (their : theirs.Evaluator Local) (o : Option Node) (v : Plain) (here : Scope) (s : Room)
+bind_met : (w : World) (tree : List Node) (their : scopes.Evaluator Local) (o : Option Node) (v : Plain) (here : Scope) (s : Room)
     → ((n : Node) → o ≡ Some n → is_built_node n ≡ true)
     → Met w (scope_of w) (bind_found o v here s) (theirs.bind_found (names w) tree their o (val w v) Null (scope_of w here) (vat w s))
 unfolding bind_found fail theirs.bind_found machine.stop
 bind_met w tree their None v here s built = record { stands = refl }
 bind_met w tree their (Some n) v here s built = bind_step_met w tree their n v here s (built n refl)
 
-deeper_met : (w : World) (tree : List Node) (rec : Evaluator) (their : theirs.Evaluator Local) → IsMet w rec their → is_built tree ≡ true
+deeper_met : (w : World) (tree : List Node) (rec : Evaluator) (their : scopes.Evaluator Local) → IsMet w rec their → is_built tree ≡ true
     → IsMet w (deeper tree rec) (theirs.deeper (names w) tree their)
 unfolding deeper theirs.deeper ◌>>◌ machine.◌>>◌
 deeper_met w tree rec their h built = record {
