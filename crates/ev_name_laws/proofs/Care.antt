@@ -6,7 +6,8 @@ use Rattle.ev_machine.specs.State.{Bound, Binding, Scope, Cell, View, Thing, Mad
 use Rattle.ev_machine.specs.Refs.{Place, Parcel}
 use Rattle.ev_machine.specs.Native.{Reply}
 use Rattle.ev_machine.specs.Scopes.{Answer, Answers}
-use Rattle.ev_name_laws.proofs.Facts.{Bit, Named, Mail, Drew, AllOf, all_map, all_end, ValueOk, ValuesOk, NameOk, MessageOk, StandingOk, KnownOk, CellOk, ThingOk, NoteOk, PutOk, GiftOk, ChangeOk, values_up, message_up, known_up, cell_up, thing_up, note_up, gift_up, Fact, Nothing, Also, IsName, IsMail, IsDraw, AreNames, IsValue, AreValues, IsBound, AreNouns, IsMessage, AreMessages, IsKnown, AreKnown, IsGiftEntry, AreGifts, IsPlace, IsThing, IsView, IsCell, IsChange, MayValue, MayBound, MayCell, MayThing, MayKnown, MayGift, IsReply, DoesPass, DoAllPass, NoteDoes, scope, answer, answers, parcel, new_names, nothing, Holds, holds_up}
+use Rattle.ev_name_laws.specs.Names.{Bit, Named, Mail, Drew, AllOf, ValueOk, ValuesOk, NameOk, MessageOk, StandingOk, KnownOk, CellOk, ThingOk, NoteOk, PutOk, GiftOk, Parts}
+use Rattle.ev_name_laws.proofs.Facts.{all_map, all_end, ChangeOk, values_up, message_up, known_up, cell_up, thing_up, note_up, gift_up, Fact, Nothing, Also, IsName, IsMail, IsDraw, AreNames, IsValue, AreValues, IsBound, AreNouns, IsMessage, AreMessages, IsKnown, AreKnown, IsGiftEntry, AreGifts, IsPlace, IsThing, IsView, IsCell, IsChange, MayValue, MayBound, MayCell, MayThing, MayKnown, MayGift, IsReply, DoesPass, DoAllPass, NoteDoes, scope, answer, answers, parcel, new_names, nothing, Holds, holds_up}
 
 -- What is cared for: when a name is good in a state, what more a state keeps, how states may follow each other; and that each single change is so.
 pub record Care (N : Type 0) : Type 1 where
@@ -45,16 +46,6 @@ pub record Under {N W : Type 0} (K : Naming N W) (S : Care N) : Type 0 where
       S.rel s t × (S.more s → S.more t) × S.ok t (Named (K.made (IsOwn s.promises) (length s.known)))
   pub messaged : (s : Vat N) (h : ℕ) → let id = K.mailed (IsSent s.messages) (length s.mails) in let a = K.made (IsAnswer h id) (length s.known) in let t = record s { messages = suc s.messages; mails = s.mails ++ id ∷ []; known = s.known ++ begun a h ∷ [] } in
       S.rel s t × (S.more s → S.more t) × S.ok t (Mail id) × S.ok t (Named a)
-
--- all names that a vat has are good
-pub record Parts {N : Type 0} (P : Bit N → Type 0) (ts : List (Thing N)) (cs : List (Cell N)) (ls : List (List (Value N))) (ms : List (Message N)) (ks : List (Known N)) (gs : List (GiftEntry N)) (ps : List (Put N)) : Type 0 where
-  pub things : AllOf (ThingOk P) ts
-  pub slots : AllOf (CellOk P) cs
-  pub lists : AllOf (ValuesOk P) ls
-  pub queue : AllOf (MessageOk P) ms
-  pub known : AllOf (KnownOk P) ks
-  pub gifts : AllOf (GiftOk P) gs
-  pub outbox : AllOf (PutOk P) ps
 
 pub parts_up : {N : Type 0} (P Q : Bit N → Type 0) → ((b : Bit N) → P b → Q b) → (ts : List (Thing N)) (cs : List (Cell N)) (ls : List (List (Value N))) (ms : List (Message N)) (ks : List (Known N)) (gs : List (GiftEntry N)) (ps : List (Put N))
     → Parts P ts cs ls ms ks gs ps → Parts Q ts cs ls ms ks gs ps

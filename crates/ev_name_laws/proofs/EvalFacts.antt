@@ -20,7 +20,8 @@ use Rattle.ev_kernel.specs.declared.node.Node.{Node}
 use Rattle.ev_kernel.specs.declared.node.Node.TheVariants.{Lit, Noun, Set, Def, Call, Sequence, If, Escape, Try, Finally, Hide, MatchBind, Object, Method, Matcher, Final, Var, Any, ListPattern, Via}
 use Rattle.ev_kernel.specs.declared.node.Literal.{Literal}
 use Rattle.ev_kernel.specs.declared.node.Literal.TheVariants as literal
-use Rattle.ev_name_laws.proofs.Facts.{Bit, Named, AllOf, MayBe, ValueOk, ValuesOk, KnownOk, FreedomOk, BoundOk, NounOk, ReplyOk, AuditionAskOk, ResolverAskOk, Fact, IsName, IsValue, AreValues, AreLists, IsBound, AreNouns, IsThing, IsView, MayValue, MayBound, IsReply, IsAsked, IsAuditionAsk, IsResolverAsk, PlaceOk}
+use Rattle.ev_name_laws.specs.Names.{Bit, Named, AllOf, ValueOk, ValuesOk, KnownOk, FreedomOk, BoundOk, NounOk}
+use Rattle.ev_name_laws.proofs.Facts.{MayBe, ReplyOk, AuditionAskOk, ResolverAskOk, Fact, IsName, IsValue, AreValues, AreLists, IsBound, AreNouns, IsThing, IsView, MayValue, MayBound, IsReply, IsAsked, IsAuditionAsk, IsResolverAsk, PlaceOk}
 use Rattle.ev_name_laws.proofs.Care.{Care, Gets, Fine, fine_sees}
 use Rattle.ev_name_laws.proofs.Looks.{get_all, follow_ok}
 use Rattle.ev_name_laws.proofs.Natives.{either_has, entry_has, data_ok, range_ok, compared_ok, null_reply_ok, asked_ok}

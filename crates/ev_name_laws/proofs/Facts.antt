@@ -2,23 +2,10 @@
 use Rattle.std.proofs.Common.{ℕ, Bool, true, false, List, [], ◌∷◌, ◌++◌, Option, Some, None}
 use Rattle.ev_machine.specs.Values.{Words, Value, Null, Flag, Number, Letter, Text, Prim, Broken, Items, Ref, Coming, IsRoot, IsOwn, IsAnswer, IsGift, IsLearnt}
 use Rattle.ev_machine.specs.State.{Bound, Fixed, Slot, Binding, Scope, Cell, Freedom, IsSafe, IsItself, IsFinal, IsVar, FreeName, View, Thing, Made, Ejector, Audition, Resolver, Message, Standing, Unsettled, WaitsOn, Viewed, Settled, Known, Change, Hold, Wait, WaitOn, See, React, ToTell, Settle, Passed, Passeds, Plain, AGift, Many, NoMore, More, Note, Deliver, Open, Ask, SettledTo, Elsewhere, Shorten, Put, GiftEntry}
+use Rattle.ev_name_laws.specs.Names.{Bit, Named, Mail, Drew, AllOf, ValueOk, ValuesOk, NameOk, MessageOk, StandingOk, KnownOk, CellOk, FreedomOk, ViewOk, BoundOk, NounOk, ThingOk, PassedOk, PassedsOk, NoteOk, GiftOk}
 use Rattle.ev_machine.specs.Refs.{Place, Near, Mine, Away, Gone, Parcel}
 use Rattle.ev_machine.specs.Native.{Reply, Says, Writes, Lists as Listed, Iterates, Fails, Asked, MakesList, Ranges, Same, Compares, Loops, SendsTo, CallsTo, MakesPromise, Breaks, Tells, Whens, ThrowsIt, IsStamped, Coerces, AddsNull, NoMethod}
 use Rattle.ev_machine.specs.Scopes.{Answer, Answers, AuditionAsk, GetsForm, GetsGuard, Asks, NoAuditionAsk, ResolverAsk, Resolves, Smashes, NoResolverAsk}
-
--- what a fact is about
-pub data Bit (N : Type 0) : Type 0 where
-  -- a name
-  Named : N → Bit N
-  -- the name of a message
-  Mail : N → Bit N
-  -- the draw of that number
-  Drew : ℕ → Bit N
-
--- it holds of each
-abbrev pub AllOf : {A : Type 0} → (A → Type 0) → List A → Type 0
-AllOf P [] = Unit {0}
-AllOf P (x ∷ xs) = P x × AllOf P xs
 
 abbrev pub MayBe : {A : Type 0} → (A → Type 0) → Option A → Type 0
 MayBe P (Some x) = P x
@@ -41,84 +28,6 @@ may_map f (Some x) h = f x h
 may_map f None h = tt
 
 module _ {N : Type 0} (P : Bit N → Type 0) where
-  abbrev pub ValueOk : Value N → Type 0
-  ValueOk (Ref n) = P (Named n)
-  ValueOk (Items k) = Unit {0}
-  ValueOk Null = Unit {0}
-  ValueOk (Flag b) = Unit {0}
-  ValueOk (Number z) = Unit {0}
-  ValueOk (Letter c) = Unit {0}
-  ValueOk (Text t) = Unit {0}
-  ValueOk (Prim n) = Unit {0}
-  ValueOk (Broken p) = Unit {0}
-
-  abbrev pub ValuesOk : List (Value N) → Type 0
-  ValuesOk = AllOf ValueOk
-
-  abbrev pub NameOk : N → Type 0
-  NameOk n = P (Named n)
-
-  abbrev pub MessageOk : Message N → Type 0
-  MessageOk m = P (Mail m.id) × ValueOk m.target × ValuesOk m.args × P (Named m.answer)
-
-  abbrev pub StandingOk : Standing N → Type 0
-  StandingOk Unsettled = Unit {0}
-  StandingOk (WaitsOn q) = P (Named q)
-  StandingOk (Viewed q) = P (Named q)
-  StandingOk (Settled y) = ValueOk y
-
-  abbrev pub KnownOk : Known N → Type 0
-  KnownOk k = P (Named k.name) × StandingOk k.standing × AllOf MessageOk k.held × AllOf NameOk k.waiting × AllOf MessageOk k.reactions
-
-  abbrev pub CellOk : Cell N → Type 0
-  CellOk c = ValueOk c.guard × ValueOk c.value
-
-  abbrev pub FreedomOk : Freedom N → Type 0
-  FreedomOk IsSafe = Unit {0}
-  FreedomOk IsItself = Unit {0}
-  FreedomOk (IsFinal g) = ValueOk g
-  FreedomOk IsVar = Unit {0}
-
-  abbrev pub ViewOk : View N → Type 0
-  ViewOk view = AllOf (λ f. FreedomOk f.freedom) view.free
-
-  abbrev pub BoundOk : Bound N → Type 0
-  BoundOk (Fixed v g) = ValueOk v × ValueOk g
-  BoundOk (Slot k) = Unit {0}
-
-  abbrev pub NounOk : Binding N → Type 0
-  NounOk b = BoundOk b.bound
-
-  abbrev pub ThingOk : Thing N → Type 0
-  ThingOk (Made node caught stamps) = AllOf NounOk caught × ValuesOk stamps
-  ThingOk (Ejector live) = Unit {0}
-  ThingOk (Audition live view) = ViewOk view
-  ThingOk (Resolver p) = P (Named p)
-
-  abbrev mutual
-    pub PassedOk : Passed N → Type 0
-    PassedOk (Plain y) = ValueOk y
-    PassedOk (AGift h i) = P (Drew i)
-    PassedOk (Many ys) = PassedsOk ys
-
-    pub PassedsOk : Passeds N → Type 0
-    PassedsOk NoMore = Unit {0}
-    PassedsOk (More y ys) = PassedOk y × PassedsOk ys
-
-  abbrev pub NoteOk : Note N → Type 0
-  NoteOk (Deliver m n verb ys) = P (Mail m) × P (Named n) × PassedsOk ys
-  NoteOk (Open i n) = P (Drew i) × P (Named n)
-  NoteOk (Ask p i n) = P (Drew i) × P (Named n)
-  NoteOk (SettledTo n y) = P (Named n) × PassedOk y
-  NoteOk (Elsewhere n c) = P (Named n)
-  NoteOk (Shorten n c i) = P (Named n) × P (Drew i)
-
-  abbrev pub PutOk : Put N → Type 0
-  PutOk p = NoteOk p.note
-
-  abbrev pub GiftOk : GiftEntry N → Type 0
-  GiftOk g = P (Named g.name) × P (Drew g.number)
-
   abbrev pub PlaceOk : Place N → Type 0
   PlaceOk Near = Unit {0}
   PlaceOk (Mine n) = P (Named n)

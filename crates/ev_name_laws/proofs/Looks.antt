@@ -7,7 +7,8 @@ use Rattle.ev_machine.specs.Refs as refs
 use Rattle.ev_machine.specs.Refs.{Place, Near, Mine, Away, Gone, Parcel}
 use Rattle.ev_machine.specs.Arrive as arrive
 use Rattle.ev_machine.specs.Native.{list_at}
-use Rattle.ev_name_laws.proofs.Facts.{Bit, Named, Mail, Drew, AllOf, MayBe, ValueOk, ValuesOk, StandingOk, KnownOk, CellOk, ThingOk, GiftOk, PlaceOk, PassedOk, PassedsOk, Fact, Also, IsName, IsMail, IsDraw, AreNames, IsValue, AreValues, IsMessage, AreMessages, IsKnown, AreKnown, IsGiftEntry, AreGifts, IsPlace, MayCell, MayThing, MayKnown, MayGift, DoesPass, DoAllPass, NoteDoes, parcel, nothing}
+use Rattle.ev_name_laws.specs.Names.{Bit, Named, Mail, Drew, AllOf, ValueOk, ValuesOk, StandingOk, KnownOk, CellOk, ThingOk, GiftOk, PassedOk, PassedsOk}
+use Rattle.ev_name_laws.proofs.Facts.{MayBe, PlaceOk, Fact, Also, IsName, IsMail, IsDraw, AreNames, IsValue, AreValues, IsMessage, AreMessages, IsKnown, AreKnown, IsGiftEntry, AreGifts, IsPlace, MayCell, MayThing, MayKnown, MayGift, DoesPass, DoAllPass, NoteDoes, parcel, nothing}
 use Rattle.ev_name_laws.proofs.Care.{Care, Sound, Under, Gets, Fine, fine_sees, fine_then, fine_give, got_nothing}
 
 pub get_all : {A : Type 0} (P : A → Type 0) (xs : List A) (n : ℕ) → AllOf P xs → MayBe P (slice_get xs n)

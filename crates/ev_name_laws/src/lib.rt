@@ -1,2 +1,4 @@
-//! Laws of names over whole runs of the machine.
+//! Laws of names over every run of the machine.
 #![tactic(auto)]
+
+pub mod names;

@@ -1,0 +1,55 @@
+-- The laws of names in runs.
+use Rattle.std.proofs.Common.{◌≡◌, ℕ, ◌<◌, zero, List, [], Some, length, sym, append-nil, arith}
+use Rattle.std.specs.Prelude.{slice_get}
+use Rattle.ev_machine.specs.Values.{Name, Promise, Answer, Gift, Msg}
+use Rattle.ev_machine.specs.State.{Vat}
+use Rattle.ev_run.specs.World.{Script, Program, World}
+use Rattle.ev_name_laws.specs.Names.{Bit, Named, IsAmong, promises_of, messages_of, WasMade, IsMade, IsHad, names_in}
+use Rattle.ev_name_laws.specs.Runs.{KnowsOnce, InRuns, InEachVat, NamesWereMade, NotesNameWhatWasMade, NamesAreKnown, HostsAreTrue, RootsAndPromisesAreKnownOnce, OwnPromisesAreKnown, NextNamesAreNew}
+use Rattle.ev_name_laws.proofs.Care.{parts_up}
+use Rattle.ev_name_laws.proofs.Among.{promises_at, messages_at}
+use Rattle.ev_name_laws.proofs.Run.{Had, VatStands, Stands, name_had, steps_stand, opened_stands}
+
+in_runs : (P : World → Type 0) → ((script : Script) (w : World) → Stands script w → P w) → InRuns P
+in_runs P f script once = (
+  λ ps rest w e opened. f script w (opened_stands script once ps rest w e opened),
+  λ w x es k opened stepped. f script x (steps_stand script es k w x (opened_stands script once script.vats [] w (sym (append-nil script.vats)) opened) stepped),
+)
+
+in_each : (P : World → ℕ → Vat Name → Type 0) → ((script : Script) (w : World) (v : ℕ) (s : Vat Name) → slice_get w.vats v ≡ Some s → VatStands script w v s → P w v s) → InEachVat P
+in_each P f = in_runs (λ w. (v : ℕ) (s : Vat Name) → slice_get w.vats v ≡ Some s → P w v s) (λ script w h v s e. f script w v s e (h.vats v s e))
+
+pub names_made : NamesWereMade
+names_made = in_each _ (λ script w v s e h. parts_up (Had w s) (IsMade w.vats (length w.drawn)) (λ b i. i.0) s.things s.slots s.lists s.queue s.known s.gifts s.outbox h.parts)
+
+pub notes_made : NotesNameWhatWasMade
+notes_made = in_runs _ (λ script w h. h.links)
+
+pub names_known : NamesAreKnown
+names_known = in_each _ (λ script w v s e h. parts_up (Had w s) (IsHad (names_in s.known) s.mails) (λ b i. i.1) s.things s.slots s.lists s.queue s.known s.gifts s.outbox h.parts)
+
+pub hosts_true : HostsAreTrue
+hosts_true = in_each _ (λ script w v s e h. h.kept.hosts)
+
+pub plain_once : RootsAndPromisesAreKnownOnce
+plain_once = in_each _ (λ script w v s e h. h.kept.once)
+
+pub own_known : OwnPromisesAreKnown
+own_known = in_each _ (λ script w v s e h. h.kept.own)
+
+-- what is known was made, so what is not made yet is not known
+known_made : (script : Script) (w : World) → Stands script w → (u : ℕ) (t : Vat Name) → slice_get w.vats u ≡ Some t → (n : Name) → IsAmong n (names_in t.known) → WasMade w.vats (length w.drawn) n
+known_made script w h u t e n a = (name_had (Had w t) t.known n (h.vats u t e).parts.known a).0
+
+no_less : (i j : ℕ) → i < j → j ≡ i → ⊥
+no_less i j h e = omega arith
+
+no_self : (i : ℕ) → i < i → ⊥
+no_self i h = omega arith
+
+pub next_new : NextNamesAreNew
+next_new = in_runs _ (λ script w h v s e u t i. (
+  λ a. no_less s.promises (promises_of w.vats v) (known_made script w h u t i (Promise v s.promises) a) (promises_at w.vats v s e),
+  λ x a. no_less s.messages (messages_of w.vats v) (known_made script w h u t i (Answer x (record { sender = v; number = s.messages })) a) (messages_at w.vats v s e),
+  λ x a. no_self (length w.drawn) (known_made script w h u t i (Gift x (length w.drawn)) a),
+))

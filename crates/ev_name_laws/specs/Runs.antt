@@ -1,0 +1,50 @@
+-- What holds of names in every world of every run.
+use Rattle.std.specs.Prelude.{◌≡◌, ℕ, zero, ◌<◌, List, ◌∷◌, ◌++◌, Some, slice_get, length}
+use Rattle.ev_machine.specs.Values.{Name, Promise, Answer, Gift}
+use Rattle.ev_machine.specs.State.{Vat}
+use Rattle.ev_run.specs.World.{Script, Program, Entry, World, Goes, begins, open_from, steps_from}
+use Rattle.ev_name_laws.specs.Names.{AllOf, IsAmong, NoteOk, Everywhere, IsMade, IsHad, names_in, HostIsTrue, PlainOnce, Once}
+
+-- No vat is told twice that it knows a vat, and none that it knows itself.
+abbrev pub KnowsOnce : Script → Type 0
+KnowsOnce script = (v : ℕ) (p : Program) → slice_get script.vats v ≡ Some p → Once (v ∷ p.knows)
+
+-- It holds of the world after any of the opening turns, and after all of them and any entries.
+abbrev pub InRuns : (World → Type 0) → Type 0
+InRuns P = (script : Script) → KnowsOnce script
+    → ((ps rest : List Program) (w : World) → script.vats ≡ ps ++ rest → open_from script zero ps (begins script) ≡ Goes w → P w)
+    × ((w x : World) (es : List Entry) (k : ℕ) → open_from script zero script.vats (begins script) ≡ Goes w → steps_from script es k w ≡ Goes x → P x)
+
+abbrev pub InEachVat : (World → ℕ → Vat Name → Type 0) → Type 0
+InEachVat P = InRuns (λ w. (v : ℕ) (s : Vat Name) → slice_get w.vats v ≡ Some s → P w v s)
+
+-- every name in what a vat has was made
+abbrev pub NamesWereMade : Type 0
+NamesWereMade = InEachVat (λ w v s. Everywhere (IsMade w.vats (length w.drawn)) s)
+
+-- and every name in a note under way
+abbrev pub NotesNameWhatWasMade : Type 0
+NotesNameWhatWasMade = InRuns (λ w. AllOf (λ l. AllOf (NoteOk (IsMade w.vats (length w.drawn))) l.notes) w.links)
+
+-- every name in what a vat has is known to it or an object, and every message is one that it has had
+abbrev pub NamesAreKnown : Type 0
+NamesAreKnown = InEachVat (λ w v s. Everywhere (IsHad (names_in s.known) s.mails) s)
+
+-- the vat that tells of a name is its host
+abbrev pub HostsAreTrue : Type 0
+HostsAreTrue = InEachVat (λ w v s. AllOf HostIsTrue s.known)
+
+-- no root and no promise is known twice to a vat
+abbrev pub RootsAndPromisesAreKnownOnce : Type 0
+RootsAndPromisesAreKnownOnce = InEachVat (λ w v s. PlainOnce (names_in s.known))
+
+-- a vat knows each promise that it has made
+abbrev pub OwnPromisesAreKnown : Type 0
+OwnPromisesAreKnown = InEachVat (λ w v s. (i : ℕ) → i < s.promises → IsAmong (Promise v i) (names_in s.known))
+
+-- The next promise of a vat, each answer of its next message, and each gift of the next draw are known to no vat.
+abbrev pub NextNamesAreNew : Type 0
+NextNamesAreNew = InEachVat (λ w v s. (u : ℕ) (t : Vat Name) → slice_get w.vats u ≡ Some t →
+    (IsAmong (Promise v s.promises) (names_in t.known) → ⊥)
+    × ((h : ℕ) → IsAmong (Answer h (record { sender = v; number = s.messages })) (names_in t.known) → ⊥)
+    × ((h : ℕ) → IsAmong (Gift h (length w.drawn)) (names_in t.known) → ⊥))
