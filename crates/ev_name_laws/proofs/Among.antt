@@ -7,6 +7,7 @@ use Rattle.ev_run.specs.World.{put_at}
 use Rattle.ev_name_laws.specs.Names.{Bit, Named, Mail, Drew, AllOf, IsAmong, promises_of, messages_of, WasMade, IsMessageMade, IsMade, names_in, IsPlain, PlainOnce}
 
 pub among_more : {A : Type 0} (x : A) (xs : List A) (y : A) → IsAmong x xs → IsAmong x (xs ++ y ∷ [])
+among_more x [] y h = absurd h
 among_more x (z ∷ xs) y (inl e) = inl e
 among_more x (z ∷ xs) y (inr h) = inr (among_more x xs y h)
 
@@ -24,7 +25,11 @@ among_or x (z ∷ xs) y (inr h) = go (among_or x xs y h)
     go (inl k) = inl (inr k)
     go (inr e) = inr e
 
+pub among_is : {A : Type 0} (x y : A) (xs : List A) → x ≡ y → IsAmong y xs → IsAmong x xs
+among_is x y xs e h = rw (sym e) at h
+
 pub all_among : {A : Type 0} (P : A → Type 0) (xs : List A) (x : A) → AllOf P xs → IsAmong x xs → P x
+all_among P [] x h i = absurd i
 all_among P (y ∷ ys) x h (inl e) = rw (sym e) at h.0
 all_among P (y ∷ ys) x h (inr i) = all_among P ys x h.1 i
 
@@ -70,11 +75,11 @@ messages_grow (x ∷ xs) (suc v) s t (suc w) h = messages_grow xs v s t w h
 
 pub promises_at : (vats : List (Vat Name)) (v : ℕ) (s : Vat Name) → slice_get vats v ≡ Some s → promises_of vats v ≡ s.promises
 unfolding promises_of
-promises_at vats v s e = rw e refl
+promises_at vats v s e = rw (e, promises_of) refl
 
 pub messages_at : (vats : List (Vat Name)) (v : ℕ) (s : Vat Name) → slice_get vats v ≡ Some s → messages_of vats v ≡ s.messages
 unfolding messages_of
-messages_at vats v s e = rw e refl
+messages_at vats v s e = rw (e, messages_of) refl
 
 less : (i a b : ℕ) → i < a → a ≤ b → i < b
 less i a b h k = omega arith

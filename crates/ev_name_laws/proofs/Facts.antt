@@ -35,13 +35,13 @@ module _ {N : Type 0} (P : Bit N → Type 0) where
   PlaceOk (Gone p) = Unit {0}
 
   abbrev pub ChangeOk : Change N → Type 0
-  ChangeOk (Hold m) = MessageOk m
+  ChangeOk (Hold m) = MessageOk P m
   ChangeOk (Wait q) = P (Named q)
   ChangeOk (WaitOn q) = P (Named q)
   ChangeOk (See q) = P (Named q)
-  ChangeOk (React m) = MessageOk m
+  ChangeOk (React m) = MessageOk P m
   ChangeOk (ToTell w) = Unit {0}
-  ChangeOk (Settle y) = ValueOk y
+  ChangeOk (Settle y) = ValueOk P y
 
   -- what comes to be known by the vat's own doing; what is learnt from a note is another thing
   abbrev pub ComingOk : {W : Type 0} → Coming N W → Type 0
@@ -52,39 +52,39 @@ module _ {N : Type 0} (P : Bit N → Type 0) where
   ComingOk (IsLearnt x) = ⊥
 
   abbrev pub ReplyOk : Reply N → Type 0
-  ReplyOk (Says v) = ValueOk v
+  ReplyOk (Says v) = ValueOk P v
   ReplyOk (Writes t) = Unit {0}
-  ReplyOk (Listed vs) = ValuesOk vs
-  ReplyOk (Iterates o vs) = ValueOk o × ValuesOk vs
+  ReplyOk (Listed vs) = ValuesOk P vs
+  ReplyOk (Iterates o vs) = ValueOk P o × ValuesOk P vs
   ReplyOk (Fails p) = Unit {0}
 
   abbrev pub AskedOk : Asked N → Type 0
-  AskedOk (MakesList vs) = ValuesOk vs
+  AskedOk (MakesList vs) = ValuesOk P vs
   AskedOk (Ranges b x y) = Unit {0}
   AskedOk (Same x y) = Unit {0}
   AskedOk (Compares t x y) = Unit {0}
-  AskedOk (Loops o) = ValueOk o
-  AskedOk (SendsTo x v l) = ValueOk x × ValueOk v × ValueOk l
-  AskedOk (CallsTo x v l) = ValueOk x × ValueOk v × ValueOk l
+  AskedOk (Loops o) = ValueOk P o
+  AskedOk (SendsTo x v l) = ValueOk P x × ValueOk P v × ValueOk P l
+  AskedOk (CallsTo x v l) = ValueOk P x × ValueOk P v × ValueOk P l
   AskedOk MakesPromise = Unit {0}
-  AskedOk (Breaks x) = ValueOk x
-  AskedOk (Tells t x) = ValueOk x
-  AskedOk (Whens x o) = ValueOk x × ValueOk o
+  AskedOk (Breaks x) = ValueOk P x
+  AskedOk (Tells t x) = ValueOk P x
+  AskedOk (Whens x o) = ValueOk P x × ValueOk P o
   AskedOk (ThrowsIt x) = Unit {0}
   AskedOk (IsStamped a x) = Unit {0}
-  AskedOk (Coerces g x j) = ValueOk x × ValueOk j
-  AskedOk (AddsNull x) = ValueOk x
+  AskedOk (Coerces g x j) = ValueOk P x × ValueOk P j
+  AskedOk (AddsNull x) = ValueOk P x
   AskedOk NoMethod = Unit {0}
 
   abbrev pub AuditionAskOk : AuditionAsk N → Type 0
   AuditionAskOk GetsForm = Unit {0}
-  AuditionAskOk (GetsGuard x) = ValueOk x
-  AuditionAskOk (Asks x) = ValueOk x
+  AuditionAskOk (GetsGuard x) = ValueOk P x
+  AuditionAskOk (Asks x) = ValueOk P x
   AuditionAskOk NoAuditionAsk = Unit {0}
 
   abbrev pub ResolverAskOk : ResolverAsk N → Type 0
-  ResolverAskOk (Resolves x) = ValueOk x
-  ResolverAskOk (Smashes x) = ValueOk x
+  ResolverAskOk (Resolves x) = ValueOk P x
+  ResolverAskOk (Smashes x) = ValueOk P x
   ResolverAskOk NoResolverAsk = Unit {0}
 
 -- what may be known of what a vat has in hand

@@ -3,23 +3,23 @@ use Rattle.std.proofs.Common.{◌≡◌, ℕ, ◌<◌, zero, suc, Bool, true, fa
 use Rattle.std.specs.Prelude.{slice_get}
 use Rattle.std.proofs.lemmas.Bool.{eqb-true, eq-eqb}
 use Rattle.ev_machine.specs.Values.{Words, Value, Null, Flag, Number, Letter, Text, Prim, Broken, Items, Ref, Name, Root, Object, Promise, Answer, Gift, Sent, host_of, Naming, naming, name_of, mail_of, IsGift, IsLearnt, IsCarried}
-use Rattle.ev_machine.specs.State.{Known, Passed, Passeds, Plain, AGift, Many, NoMore, More, Note, Deliver, Open, Ask, SettledTo, Elsewhere, Shorten, Vat, Done, Gives, Throws, Ejects, Stops, Act, ◌>>=◌, and_then, give, come, mail, begun}
+use Rattle.ev_machine.specs.State.{Known, Passed, Passeds, Plain, AGift, Many, NoMore, More, Note, Deliver, Open, Ask, SettledTo, Elsewhere, Shorten, Vat, Done, Gives, Throws, Ejects, Stops, Act, ◌>>=◌, ◌>>◌, and_then, give, come, mail, begun}
 use Rattle.ev_machine.specs.Arrive as arrive
 use Rattle.ev_machine.specs.Arrive.{Incoming, Old, New}
 use Rattle.ev_machine_laws.specs.Steps.{After}
 use Rattle.ev_run.specs.World as world
 use Rattle.ev_run.specs.World.{put_at, is_old, read_name, known_after}
-use Rattle.ev_name_laws.specs.Names.{Bit, Named, Mail, Drew, AllOf, IsAmong, promises_of, WasMade, IsMessageMade, IsMade, ValueOk, ValuesOk, PassedOk, PassedsOk, NoteOk, names_in, IsKnownIn, HostIsTrue, IsPlain, MessageOk, KnownOk}
+use Rattle.ev_name_laws.specs.Names.{Bit, Named, Mail, Drew, AllOf, IsAmong, promises_of, WasMade, IsMessageMade, IsMade, ValueOk, ValuesOk, PassedOk, PassedsOk, NoteOk, names_in, IsKnownIn, HostIsTrue, IsPlain, MessageOk, KnownOk, Parts}
 use Rattle.ev_name_laws.proofs.Facts.{all_end, Fact, Nothing, Also, IsName, IsMail, IsDraw, IsValue, AreValues, nothing, Holds, holds_up}
 use Rattle.ev_name_laws.proofs.Care.{Care, Sound, Under, Ends, Gets, Fine, fine_give, got, got_left, got_right, parts_up, begun_ok, come_gift}
 use Rattle.ev_name_laws.proofs.CareArrive.{fine_ask_for, fine_make_list, fine_arrive_ask, fine_delivered, fine_opened, fine_went, fine_shortened}
 use Rattle.ev_name_laws.proofs.CareRefs.{fine_settle}
-use Rattle.ev_name_laws.proofs.Among.{among_more, among_last, among_or, names_end, all_among}
+use Rattle.ev_name_laws.proofs.Among.{among_more, among_last, among_or, among_is, names_end, all_among}
 use Rattle.ev_name_laws.proofs.SameNames.{false_true, old_known, new_unknown}
 use Rattle.ev_name_laws.proofs.Tracked.{IsTold, Follows, Kept, follows_trans, follows_known, kept_known, known_among, Ok, Goes, Onward, Keeps, quiet, made_on, ok_on, tracked, tracked_under}
 
 module _ (vats : List (Vat Name)) (v : ℕ) (q : Vat Name) (there : slice_get vats v ≡ Some q) (word : ℕ → ℕ) (us : List (Vat Name)) (d0 : ℕ) where
-  abbrev Good : Vat Name → Bit Name → Type 0
+  abbrev pub Good : Vat Name → Bit Name → Type 0
   Good s b = Ok vats v q there s b
 
   -- whatever comes to be known
@@ -33,14 +33,14 @@ module _ (vats : List (Vat Name)) (v : ℕ) (q : Vat Name) (there : slice_get va
     pub own : (i : ℕ) → i < promises_of us v → IsAmong (Promise v i) ks
     pub made : (b : Bit Name) → IsMade us d0 b → IsMade (put_at v s vats) (length s.drawn) b
 
-  abbrev Learned : {A : Type 0} → List Name → (A → Fact Name) → Vat Name → Done Name A → Type 0
+  abbrev pub Learned : {A : Type 0} → List Name → (A → Fact Name) → Vat Name → Done Name A → Type 0
   Learned ks G s (Gives a t) = Grew s t × Sound (tracked vats v q there) t × Knows ks t × Holds (Good t) (G a)
   Learned ks G s (Throws p t) = Grew s t × Sound (tracked vats v q there) t
   Learned ks G s (Ejects n x t) = Grew s t × Sound (tracked vats v q there) t
   Learned ks G s (Stops c t) = Grew s t × Sound (tracked vats v q there) t
 
-  record Learns {A : Type 0} (ks : List Name) (C : Fact Name) (m : Act Name A) (ks' : List Name) (G : A → Fact Name) : Type 0 where
-    after : (s : Vat Name) → Sound (tracked vats v q there) s → Knows ks s → Holds (Good s) C → Learned ks' G s (m s)
+  pub record Learns {A : Type 0} (ks : List Name) (C : Fact Name) (m : Act Name A) (ks' : List Name) (G : A → Fact Name) : Type 0 where
+    pub after : (s : Vat Name) → Sound (tracked vats v q there) s → Knows ks s → Holds (Good s) C → Learned ks' G s (m s)
 
   -- what is read, and then whatever
   pub record Reads {A : Type 0} (ks : List Name) (C : Fact Name) (m : Act Name A) : Type 0 where
@@ -89,6 +89,13 @@ module _ (vats : List (Vat Name)) (v : ℕ) (q : Vat Name) (there : slice_get va
   learns_bind : {A B : Type 0} {ks ks' ks'' : List Name} {C : Fact Name} {m : Act Name A} {f : A → Act Name B} {H : B → Fact Name} (P : A → Fact Name) → Learns ks C m ks' P → ((a : A) → Learns ks' (Also C (P a)) (f a) ks'' H) → Learns ks C (m >>= f) ks'' H
   unfolding ◌>>=◌
   learns_bind {ks' = ks'} {ks'' = ks''} {C = C} {m = m} {f = f} {H = H} P h k = record { after = λ s g w c. bind_learned ks' ks'' C P H s (m s) f c (h.after s g w c) k }
+
+  learns_left : {A : Type 0} {ks ks' : List Name} {C D : Fact Name} {m : Act Name A} {H : A → Fact Name} → Learns ks C m ks' H → Learns ks (Also C D) m ks' H
+  learns_left h = record { after = λ s g k c. h.after s g k c.0 }
+
+  learns_then : {A B : Type 0} {ks ks' ks'' : List Name} {C : Fact Name} {m : Act Name A} {n : Act Name B} {H : B → Fact Name} (P : A → Fact Name) → Learns ks C m ks' P → Learns ks' C n ks'' H → Learns ks C (m >> n) ks'' H
+  unfolding ◌>>◌
+  learns_then {ks' = ks'} {ks'' = ks''} {C = C} {m = m} {n = n} {H = H} P h k = record { after = λ s g w c. bind_learned ks' ks'' C P H s (m s) (λ _. n) c (h.after s g w c) (λ a. learns_left k) }
 
   abbrev Ended : Vat Name → Vat Name → Type 0
   Ended s t = Grew s t × Sound (tracked vats v q there) t
@@ -151,6 +158,9 @@ module _ (vats : List (Vat Name)) (v : ℕ) (q : Vat Name) (there : slice_get va
   grew_known : (s : Vat Name) (k : Known Name) → Grew s (record s { known = s.known ++ k ∷ [] })
   grew_known s k = follows_known (λ n. ⊥) s.known k s.mails s.promises s.messages (length s.drawn) (λ b. b)
 
+  good_is : (t : Vat Name) (x n : Name) → x ≡ n → Good t (Named n) → Good t (Named x)
+  good_is t x n e h = rw (sym e) at h
+
   -- a name that is new comes to be known
   new_learned : (ks : List Name) (s : Vat Name) (n : Name) → WasMade us d0 n → (IsAmong n ks → ⊥) → Sound (tracked vats v q there) s → Knows ks s
       → Learned (ks ++ n ∷ []) IsName s (Gives n (record s { known = s.known ++ begun n (host_of n) ∷ [] }))
@@ -172,17 +182,19 @@ module _ (vats : List (Vat Name)) (v : ℕ) (q : Vat Name) (there : slice_get va
       good : Good t (Named n)
       good = (made_on vats v q there (λ n. ⊥) s t r (Named n) (k.made (Named n) m), known_among (names_in t.known) n among)
 
+      old : Parts (Good t) s.things s.slots s.lists s.queue s.known s.gifts s.outbox
       old = parts_up (Good s) (Good t) (ok_on vats v q there (λ n. ⊥) s t r) s.things s.slots s.lists s.queue s.known s.gifts s.outbox h.parts
 
+      parts : Parts (Good t) t.things t.slots t.lists t.queue t.known t.gifts t.outbox
       parts = record { things = old.things; slots = old.slots; lists = old.lists; queue = old.queue; known = all_end (KnownOk (Good t)) s.known j old.known (begun_ok (naming word v) (tracked vats v q there) (tracked_under vats v q there word) (Good t) n (host_of n) good); gifts = old.gifts; outbox = old.outbox }
 
       all : (x : Name) → IsAmong x ks ⊎ (x ≡ n) → Good t (Named x)
       all x (inl a) = ok_on vats v q there (λ n. ⊥) s t r (Named x) (k.all x a)
-      all x (inr e) = rw (sym e) at good
+      all x (inr e) = good_is t x n e good
 
       told : (x : Name) → IsTold v x → IsAmong x (names_in s.known) ⊎ (x ≡ n) → IsAmong x (ks ++ n ∷ [])
       told x i (inl a) = among_more x ks n (k.told x i a)
-      told x i (inr e) = rw (sym e) at (among_last ks n)
+      told x i (inr e) = among_is x n (ks ++ n ∷ []) e (among_last ks n)
 
       knows : Knows (ks ++ n ∷ []) t
       knows = record {
@@ -254,12 +266,12 @@ module _ (vats : List (Vat Name)) (v : ℕ) (q : Vat Name) (there : slice_get va
 
   come_known : {C : Fact Name} (ks : List Name) (h i : ℕ) → Gets (tracked vats v q there) C (IsDraw i) → Learns ks C (come (naming word v) (IsGift h i) h) (ks ++ Gift h i ∷ []) IsName
   unfolding come naming name_of
-  come_known ks w i g = let f = come_gift (naming word v) (tracked vats v q there) (tracked_under vats v q there word) w i g in record { after = λ s h k c. gift_ends ks s (Gift w i) _ (λ a t e. same_given (Gift w i) a _ t e) k (f.after s h c) }
+  come_known ks w i g = let f = come_gift (naming word v) (tracked vats v q there) (tracked_under vats v q there word) w i g in record { after = λ s h k c. gift_ends ks s (Gift w i) (come (naming word v) (IsGift w i) w s) (λ a t e. same_given (Gift w i) a (record s { known = s.known ++ begun (Gift w i) w ∷ [] }) t e) k (f.after s h c) }
 
   learn_gift : {C : Fact Name} (ks : List Name) (p h i : ℕ) → i < d0 → Learns ks C (arrive.learn_gift (naming word v) p h i) (ks ++ Gift h i ∷ []) IsValue
   unfolding arrive.learn_gift
-  learn_gift {C = C} ks p h i l = record { after = λ s g k c. (learns_bind {C = IsDraw i} IsName (come_known ks h i (record { at = λ s c. c })) (λ n. learns_bind {C = Also (IsDraw i) (IsName n)} nothing (learns_fine (fine_ask_for (naming word v) (tracked vats v q there) (tracked_under vats v q there word) p h i (record { at = λ s c. c.0 }) n (record { at = λ s c. c.1 })))
-      (λ u. learns_fine (fine_give (tracked vats v q there) (Ref n) (record { at = λ s c. c.0.1 }))))).after s g k (k.made (Drew i) l, tt) }
+  learn_gift {C = C} ks p h i l = record { after = λ s g k c. (learns_bind {C = IsDraw i} {H = IsValue} IsName (come_known ks h i (record { at = λ s c. c })) (λ n. learns_then {C = Also (IsDraw i) (IsName n)} nothing (learns_fine (fine_ask_for (naming word v) (tracked vats v q there) (tracked_under vats v q there word) p h i (record { at = λ s c. c.0 }) n (record { at = λ s c. c.1 })))
+      (learns_fine (fine_give (tracked vats v q there) (Ref n) (record { at = λ s c. c.1 }))))).after s g k (k.made (Drew i) l, tt) }
 
   mutual
     unfolding arrive.learn arrive.learn_all world.read_passed world.read_all world.plain_read world.many_read world.more_read
@@ -286,7 +298,7 @@ module _ (vats : List (Vat Name)) (v : ℕ) (q : Vat Name) (there : slice_get va
 
   -- with a draw that was made
   with_draw : {A : Type 0} (ks : List Name) (i : ℕ) (m : Act Name A) → i < d0 → Reads ks (IsDraw i) m → Reads ks Nothing m
-  with_draw ks i m l h = record { after = λ s g k c. h.after s g k (k.made (Drew i) l) }
+  with_draw ks i m l h = record { after = λ s g k c. h.after s g k (k.made (Drew i) l, tt) }
 
   pub reads_note : (from : ℕ) (ks : List Name) (n : Note Name) → NoteOk (IsMade us d0) n → Reads ks Nothing (arrive.arrive (naming word v) from (world.read_note ks n))
   unfolding arrive.arrive world.read_note arrive.arrive_deliver arrive.arrive_open arrive.arrive_settled arrive.arrive_elsewhere arrive.arrive_shorten

@@ -107,7 +107,8 @@ module _ (P : Note Name → Type 0) where
   link_holds v w [] h = tt
   link_holds v w (l ∷ ls) h = either_link (world.is_link v w l) l (world.link_at v w ls) h.0 (link_holds v w ls h.1)
 
-name_had : (P : Bit Name → Type 0) (ks : List (Known Name)) (n : Name) → AllOf (KnownOk P) ks → IsAmong n (names_in ks) → P (Named n)
+pub name_had : (P : Bit Name → Type 0) (ks : List (Known Name)) (n : Name) → AllOf (KnownOk P) ks → IsAmong n (names_in ks) → P (Named n)
+name_had P [] n h i = absurd i
 name_had P (k ∷ ks) n h (inl e) = rw (sym e) at h.0.0
 name_had P (k ∷ ks) n h (inr i) = name_had P ks n h.1 i
 
@@ -309,6 +310,7 @@ module _ (script : Script) where
 
   roots_among : (ws : List ℕ) (u : ℕ) → IsAmong u ws → IsAmong (Root u) (names_in (map world.known_root ws))
   unfolding world.known_root begun
+  roots_among [] u h = absurd h
   roots_among (w ∷ ws) u (inl e) = inl (ap Root e)
   roots_among (w ∷ ws) u (inr i) = inr (roots_among ws u i)
 
@@ -323,8 +325,12 @@ module _ (script : Script) where
 
   root_back : (ws : List ℕ) (n : Name) → IsAmong n (names_in (map world.known_root ws)) → (u : ℕ) × (n ≡ Root u) × IsAmong u ws
   unfolding world.known_root begun
+  root_back [] n h = absurd h
   root_back (w ∷ ws) n (inl e) = (w, e, inl refl)
   root_back (w ∷ ws) n (inr i) = let r = root_back ws n i in (r.0, r.1, inr r.2)
+
+  among_list : (u v : ℕ) (xs ys : List ℕ) → xs ≡ ys → IsAmong u (v ∷ ys) → IsAmong u (v ∷ xs)
+  among_list u v xs ys e h = rw (sym e) at h
 
   same_root : (u w : ℕ) → Root u ≡ Root w → u ≡ w
   same_root u w e = cc
@@ -394,7 +400,7 @@ module _ (script : Script) where
         e' x i = sym e ∙ i
 
         same : (x : Program) → Some p ≡ Some x → AllOf (λ (u : ℕ). IsAmong (Root u) (names_in Fresh.known)) (v ∷ x.knows)
-        same x i = let f : p ≡ x = cc in let all : AllOf (λ (u : ℕ). IsAmong (Root u) (names_in Fresh.known)) (v ∷ p.knows) = all_roots (names_in Fresh.known) (v ∷ p.knows) root_in in rw (ap (λ (y : Program). y.knows) f) at all
+        same x i = let f : p ≡ x = cc in all_roots (names_in Fresh.known) (v ∷ x.knows) (λ u a. root_in u (among_list u v p.knows x.knows (ap (λ (y : Program). y.knows) f) a))
 
   fresh_at : (v : ℕ) (ps : List Program) (n : ℕ) (s : Vat Name) → slice_get (world.fresh_from script v ps) n ≡ Some s → (p : Program) × (u : ℕ) × (slice_get ps n ≡ Some p) × (u ≡ v + n) × (world.fresh script u p ≡ s)
   unfolding world.fresh_from

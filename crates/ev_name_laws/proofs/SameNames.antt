@@ -93,6 +93,7 @@ has_either false c (inr e) = e
 
 pub among_has : (ns : List Name) (n : Name) → IsAmong n ns → has_name ns n ≡ true
 unfolding has_name
+among_has [] n h = absurd h
 among_has (m ∷ ms) n (inl e) = has_either (same_name m n) (has_name ms n) (inl (ap (λ x. same_name x n) (sym e) ∙ same_self n))
 among_has (m ∷ ms) n (inr i) = has_either (same_name m n) (has_name ms n) (inr (among_has ms n i))
 

@@ -7,7 +7,7 @@ use Rattle.ev_run.specs.World.{put_at}
 use Rattle.ev_name_laws.specs.Names.{Bit, Named, Mail, Drew, AllOf, IsAmong, promises_of, messages_of, WasMade, IsMessageMade, IsMade, names_in, IsKnownIn, IsHad, HostIsTrue, IsPlain, PlainOnce}
 use Rattle.ev_name_laws.proofs.Facts.{all_end}
 use Rattle.ev_name_laws.proofs.Care.{Care, Under}
-use Rattle.ev_name_laws.proofs.Among.{among_more, among_last, among_or, names_end, length_end, plain_end, get_put, promises_grow, messages_grow, promises_at, messages_at, made_up, is_made_up}
+use Rattle.ev_name_laws.proofs.Among.{among_more, among_last, among_or, among_is, names_end, length_end, plain_end, get_put, promises_grow, messages_grow, promises_at, messages_at, made_up, is_made_up}
 
 -- a root, or a promise of another vat: what comes to be known by vat v from notes alone
 abbrev pub IsTold : ℕ → Name → Type 0
@@ -28,8 +28,8 @@ pub record Follows (T : Name → Type 0) (ns ms : List Name) (p m d : ℕ) (ns' 
   pub told : (n : Name) → T n → IsAmong n ns' → IsAmong n ns
 
 -- what is kept of the names that vat v knows
-pub record Kept (v number : ℕ) (ks : List (Known Name)) (p : ℕ) : Type 0 where
-  pub number : number ≡ v
+pub record Kept (v u : ℕ) (ks : List (Known Name)) (p : ℕ) : Type 0 where
+  pub number : u ≡ v
   pub hosts : AllOf HostIsTrue ks
   pub once : PlainOnce (names_in ks)
   pub own : (i : ℕ) → i < p → IsAmong (Promise v i) (names_in ks)
@@ -117,11 +117,11 @@ follows_trans T ns ms p m d ns' ms' p' m' d' ns'' ms'' p'' m'' d'' h k =
     let a : p ≤ p' = h.promises in let b : p' ≤ p'' = k.promises in let c : m ≤ m' = h.messages in let e : m' ≤ m'' = k.messages in let f : d ≤ d' = h.draws in let g : d' ≤ d'' = k.draws in
     record { names = λ n i. k.names n (h.names n i); mails = λ n i. k.mails n (h.mails n i); promises = omega arith; messages = omega arith; draws = omega arith; told = λ n t i. h.told n t (k.told n t i) }
 
-follows_drawn : (T : Name → Type 0) (ns ms : List Name) (p m : ℕ) (ds : List ℕ) (w : ℕ) → Follows T ns ms p m (length ds) ns ms p m (length (ds ++ w ∷ []))
+pub follows_drawn : (T : Name → Type 0) (ns ms : List Name) (p m : ℕ) (ds : List ℕ) (w : ℕ) → Follows T ns ms p m (length ds) ns ms p m (length (ds ++ w ∷ []))
 follows_drawn T ns ms p m ds w = let e : length (ds ++ w ∷ []) ≡ suc (length ds) = length_end ds w in
     record { names = λ n h. h; mails = λ n h. h; promises = omega arith; messages = omega arith; draws = omega arith; told = λ n t h. h }
 
-follows_change : (K : Naming Name Name) (T : Name → Type 0) (c : Change Name) (n : Name) (ks : List (Known Name)) (ms : List Name) (p m d : ℕ) → Follows T (names_in ks) ms p m d (names_in (with_change K c n ks)) ms p m d
+pub follows_change : (K : Naming Name Name) (T : Name → Type 0) (c : Change Name) (n : Name) (ks : List (Known Name)) (ms : List Name) (p m d : ℕ) → Follows T (names_in ks) ms p m d (names_in (with_change K c n ks)) ms p m d
 follows_change K T c n ks ms p m d = let e : names_in (with_change K c n ks) ≡ names_in ks = names_change K c n ks in
     record { names = λ x h. rw (sym e) at h; mails = λ x h. h; promises = omega arith; messages = omega arith; draws = omega arith; told = λ x t h. rw e at h }
 
@@ -184,7 +184,7 @@ kept_promise v number ks p h = let k : Known Name = begun (Promise v p) number i
 
     mine : (i : ℕ) → (i < p) ⊎ (i ≡ p) → IsAmong (Promise v i) (names_in ks ++ Promise v p ∷ [])
     mine i (inl l) = among_more (Promise v i) (names_in ks) (Promise v p) (h.own i l)
-    mine i (inr e) = rw (sym e) at (among_last (names_in ks) (Promise v p))
+    mine i (inr e) = among_is (Promise v i) (Promise v p) (names_in ks ++ Promise v p ∷ []) (ap (Promise v) e) (among_last (names_in ks) (Promise v p))
 
     low : (i : ℕ) → IsAmong (Promise v i) (names_in ks) ⊎ (Promise v i ≡ Promise v p) → i < suc p
     low i (inl a) = let l : i < p = h.below i a in omega arith
@@ -217,7 +217,7 @@ module _ (vats : List (Vat Name)) (v : ℕ) (q : Vat Name) (there : slice_get va
   pub ok_on : (T : Name → Type 0) (s t : Vat Name) → Onward T s t → (b : Bit Name) → Ok s b → Ok t b
   ok_on T s t r b h = (made_on T s t r b h.0, had_up T s t r b h.1)
 
-  pub tracked : Care Name
+  abbrev pub tracked : Care Name
   tracked = record {
     ok = Ok;
     more = Keeps;
