@@ -1,7 +1,7 @@
 -- Members of lists, and the states of the vats of a world with one of them changed.
-use Rattle.std.proofs.Common.{◌≡◌, ℕ, ◌≤◌, ◌<◌, zero, suc, List, [], ◌∷◌, ◌++◌, Option, Some, None, refl, sym, ap, ◌∙◌, ◌⊎◌, inl, inr, length, map, arith}
+use Rattle.std.proofs.Common.{◌≡◌, ℕ, ◌≤◌, ◌<◌, zero, suc, List, [], ◌∷◌, ◌++◌, Some, refl, sym, ap, ◌⊎◌, inl, inr, length, arith}
 use Rattle.std.specs.Prelude.{slice_get}
-use Rattle.ev_machine.specs.Values.{Name, Root, Object, Promise, Answer, Gift, Sent, host_of}
+use Rattle.ev_machine.specs.Values.{Name, Root, Object, Promise, Answer, Gift, Sent}
 use Rattle.ev_machine.specs.State.{Known, Vat}
 use Rattle.ev_run.specs.World.{put_at}
 use Rattle.ev_name_laws.specs.Names.{Bit, Named, Mail, Drew, AllOf, IsAmong, promises_of, messages_of, WasMade, IsMessageMade, IsMade, names_in, IsPlain, PlainOnce}

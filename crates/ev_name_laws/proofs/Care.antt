@@ -1,13 +1,13 @@
 -- What a vat does from a sound state, under facts on what it has in hand, ends in a sound state with facts on what it gives.
 use Rattle.std.proofs.Common.{ℕ, zero, suc, ◌-◌, Bool, true, false, List, [], ◌∷◌, ◌++◌, Option, Some, None, if◌then◌else◌, length}
 use Rattle.std.specs.Prelude.{nat_le}
-use Rattle.ev_machine.specs.Values.{Words, Value, Null, Flag, Number, Text, Prim, Broken, Items, Ref, Naming, Coming, IsOwn, IsAnswer, IsGift, IsSent}
-use Rattle.ev_machine.specs.State.{Bound, Binding, Scope, Cell, View, Thing, Made, Ejector, Audition, Resolver, Message, Standing, Unsettled, WaitsOn, Viewed, Settled, Known, Change, Hold, Wait, WaitOn, See, React, ToTell, Settle, Passed, Passeds, Note, Put, GiftEntry, Happened, Vat, Stop, Done, Gives, Throws, Ejects, Stops, Act, ◌>>=◌, ◌>>◌, and_then, for_some, end_by, ending, each, give, throw, stop, eject, look, tell, spend, spent, new_activation, new_thing, kill, change, dead, new_slot, holding, write_slot, new_list, enqueue, send_out, new_gift, with_opened, open_gift, is_gift, mark, draws, with_change, changed, changed_to, unless_settled, alter, come, new_promise, new_message, draw, begun}
+use Rattle.ev_machine.specs.Values.{Words, Value, Null, Flag, Number, Text, Prim, Broken, Items, Ref, Naming, IsOwn, IsAnswer, IsGift, IsSent}
+use Rattle.ev_machine.specs.State.{Bound, Scope, Cell, View, Thing, Made, Ejector, Audition, Resolver, Message, Standing, Unsettled, WaitsOn, Viewed, Settled, Known, Change, Hold, Wait, WaitOn, See, React, ToTell, Settle, Passed, Passeds, Note, Put, GiftEntry, Happened, Vat, Stop, Done, Gives, Throws, Ejects, Stops, Act, ◌>>=◌, ◌>>◌, and_then, for_some, end_by, ending, each, give, throw, stop, eject, look, tell, spend, spent, new_activation, new_thing, kill, change, dead, new_slot, holding, write_slot, new_list, enqueue, send_out, new_gift, with_opened, open_gift, is_gift, mark, draws, with_change, changed, changed_to, unless_settled, alter, come, new_promise, new_message, draw, begun}
 use Rattle.ev_machine.specs.Refs.{Place, Parcel}
 use Rattle.ev_machine.specs.Native.{Reply}
 use Rattle.ev_machine.specs.Scopes.{Answer, Answers}
-use Rattle.ev_name_laws.specs.Names.{Bit, Named, Mail, Drew, AllOf, ValueOk, ValuesOk, NameOk, MessageOk, StandingOk, KnownOk, CellOk, ThingOk, NoteOk, PutOk, GiftOk, Parts}
-use Rattle.ev_name_laws.proofs.Facts.{all_map, all_end, ChangeOk, values_up, message_up, known_up, cell_up, thing_up, note_up, gift_up, Fact, Nothing, Also, IsName, IsMail, IsDraw, AreNames, IsValue, AreValues, IsBound, AreNouns, IsMessage, AreMessages, IsKnown, AreKnown, IsGiftEntry, AreGifts, IsPlace, IsThing, IsView, IsCell, IsChange, MayValue, MayBound, MayCell, MayThing, MayKnown, MayGift, IsReply, DoesPass, DoAllPass, NoteDoes, scope, answer, answers, parcel, new_names, nothing, Holds, holds_up}
+use Rattle.ev_name_laws.specs.Names.{Bit, Named, Mail, Drew, AllOf, ValueOk, ValuesOk, NameOk, MessageOk, KnownOk, CellOk, ThingOk, PutOk, GiftOk, Parts}
+use Rattle.ev_name_laws.proofs.Facts.{all_map, all_end, ChangeOk, values_up, message_up, known_up, cell_up, thing_up, note_up, gift_up, Fact, Nothing, Also, IsName, IsMail, IsDraw, IsValue, AreValues, IsBound, AreNouns, IsMessage, AreKnown, IsGiftEntry, AreGifts, IsPlace, IsThing, IsView, IsChange, MayValue, MayCell, MayThing, MayKnown, MayGift, IsReply, DoesPass, DoAllPass, NoteDoes, scope, answer, answers, parcel, new_names, nothing, Holds, holds_up}
 
 -- What is cared for: when a name is good in a state, what more a state keeps, how states may follow each other; and that each single change is so.
 pub record Care (N : Type 0) : Type 1 where

@@ -1,7 +1,7 @@
 -- What a vat does with gifts, with what arrives once it is learnt, and at a notice, from a sound state ends in a sound state.
 use Rattle.std.proofs.Common.{ℕ, Bool, true, false, List, Option, Some, None, if◌then◌else◌, codes}
 use Rattle.ev_machine.specs.Values.{Words, Value, Broken, Ref, Naming, IsAnswer}
-use Rattle.ev_machine.specs.State.{Standing, Unsettled, WaitsOn, Viewed, Settled, Known, ToTell, GiftEntry, Act, ◌>>=◌, ◌>>◌, look, alter, come, open_gift, is_in}
+use Rattle.ev_machine.specs.State.{Standing, Unsettled, WaitsOn, Viewed, Settled, Known, ToTell, GiftEntry, ◌>>=◌, ◌>>◌, look, alter, come, open_gift, is_in}
 use Rattle.ev_machine.specs.Refs as refs
 use Rattle.ev_machine.specs.Refs.{Place, Away}
 use Rattle.ev_machine.specs.Arrive as arrive

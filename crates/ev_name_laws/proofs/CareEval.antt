@@ -1,13 +1,12 @@
 -- All of evaluation, from a sound state, ends in a sound state.
-use Rattle.std.proofs.Common.{◌≡◌, ℕ, zero, suc, Bool, true, false, List, [], ◌∷◌, ◌++◌, Option, Some, None, refl, sym, ap, length, map, codes, ◌⊎◌, inl, inr}
+use Rattle.std.proofs.Common.{ℕ, zero, suc, Bool, true, false, List, [], ◌∷◌, Option, Some, None}
 use Rattle.std.specs.Prelude.{slice_get}
-use Rattle.ev_machine.specs.Values.{Words, Value, Null, Flag, Number, Letter, Text, Prim, Broken, Items, Ref, Naming, Spot, Own}
-use Rattle.ev_machine.specs.State.{Bound, Fixed, Slot, Scope, Binding, Cell, View, FreeName, IsItself, Thing, Made, Ejector, Audition, Resolver, Message, Standing, Unsettled, Vat, Act, ◌>>=◌, ◌>>◌, and_then, give, throw, eject, look, tell, new_thing, ObjectMade}
+use Rattle.ev_machine.specs.Values.{Words, Value, Flag, Text, Prim, Broken, Items, Ref, Naming, Spot, Own}
+use Rattle.ev_machine.specs.State.{Bound, Fixed, Slot, Scope, Binding, Cell, View, Thing, Made, Ejector, Audition, Resolver, Message, Standing, Unsettled, Act, give, throw, eject}
 use Rattle.ev_machine.specs.Refs.{Place, Near}
 use Rattle.ev_machine.specs.Form.{Item, Begin, End, Word, Fact as Fixing, literal_value}
-use Rattle.ev_machine.specs.Free.{BoundNoun, same_words, bound_nouns}
-use Rattle.ev_machine.specs.Native as native
-use Rattle.ev_machine.specs.Native.{Reply, Says, Writes, Lists as Listed, Iterates, Fails, Guard, guard_name, native_guard, primitive, Primitive, MakeList, Equalizer, Comparer, Looper, Sender, References, Thrower, StampReader, Guarding, NoPrimitive, Asked, MakesList, Ranges, Same, Compares, Loops, SendsTo, CallsTo, MakesPromise, Breaks, Tells, Whens, ThrowsIt, IsStamped, Coerces, AddsNull, NoMethod}
+use Rattle.ev_machine.specs.Free.{BoundNoun}
+use Rattle.ev_machine.specs.Native.{Reply, Says, Writes, Lists as Listed, Iterates, Fails, Guard, Asked, MakesList, Ranges, Same, Compares, Loops, SendsTo, CallsTo, MakesPromise, Breaks, Tells, Whens, ThrowsIt, IsStamped, Coerces, AddsNull, NoMethod}
 use Rattle.ev_machine.specs.Scopes as scopes
 use Rattle.ev_machine.specs.Perform as perform
 use Rattle.ev_machine.specs.Calls as calls

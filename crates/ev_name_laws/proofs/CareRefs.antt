@@ -4,7 +4,7 @@ use Rattle.ev_machine.specs.Values.{Words, Value, Prim, Naming}
 use Rattle.ev_machine.specs.State.{Message, Standing, Settled, Known, Passed, Passeds, Plain, AGift, Many, NoMore, More, Act}
 use Rattle.ev_machine.specs.Refs as refs
 use Rattle.ev_machine.specs.Refs.{Place, Near, Mine, Away, Gone}
-use Rattle.ev_name_laws.proofs.Facts.{Fact, IsName, IsMail, IsDraw, AreNames, IsValue, AreValues, IsMessage, AreMessages, IsKnown, IsPlace, MayKnown, DoesPass, DoAllPass, nothing}
+use Rattle.ev_name_laws.proofs.Facts.{Fact, IsName, IsMail, AreNames, IsValue, AreValues, IsMessage, AreMessages, IsKnown, IsPlace, MayKnown, DoesPass, DoAllPass, nothing}
 use Rattle.ev_name_laws.proofs.Care.{Care, Under, Gets, Fine, fine, fine_give}
 use Rattle.ev_name_laws.proofs.Looks.{looks}
 

@@ -1,13 +1,10 @@
 -- What evaluation knows of the names in what it has in hand: scopes, captures, views and replies.
-use Rattle.std.proofs.Common.{◌≡◌, ℕ, zero, suc, Bool, true, false, List, [], ◌∷◌, ◌++◌, Option, Some, None, refl, sym, ap, ◌∙◌, length, map, codes, ◌==◌, inl, inr}
-use Rattle.std.specs.Prelude.{slice_get}
-use Rattle.std.proofs.lemmas.Bool.{eqb-true}
-use Rattle.ev_machine.specs.Values.{Words, Value, Null, Flag, Number, Letter, Text, Prim, Broken, Items, Ref, Naming, Spot, Own, Foreign, NoObject}
-use Rattle.ev_machine.specs.State.{Bound, Fixed, Slot, Binding, Scope, Freedom, IsSafe, IsItself, IsFinal, IsVar, FreeName, View, Thing, Made, Ejector, Audition, Resolver, Vat, Act, look, for_some, give}
+use Rattle.std.proofs.Common.{ℕ, Bool, true, false, List, [], ◌∷◌, ◌++◌, Option, Some, None, length, map}
+use Rattle.ev_machine.specs.Values.{Words, Value, Null, Flag, Number, Letter, Text, Prim, Broken, Items, Ref, Naming}
+use Rattle.ev_machine.specs.State.{Bound, Fixed, Slot, Binding, Scope, Freedom, IsSafe, IsItself, IsFinal, IsVar, FreeName, View, Made, Vat, look}
 use Rattle.ev_machine.specs.Refs as refs
 use Rattle.ev_machine.specs.Refs.{Place, Near, Mine, Away, Gone}
-use Rattle.ev_machine.specs.Free.{same_words, entry, BoundNoun}
-use Rattle.ev_machine.specs.Free as free
+use Rattle.ev_machine.specs.Free.{same_words}
 use Rattle.ev_machine.specs.Form as form
 use Rattle.ev_machine.specs.Native as native
 use Rattle.ev_machine.specs.Native.{list_at, Reply, Says, Writes, Lists as Listed, Iterates, Fails, Guard, AnyGuard, VoidGuard, IntGuard, BooleanGuard, CharGuard, TextGuard, ListGuard, NullGuard, NearGuard, FrozenGuard, OrNull, Primitive, Guarding, RefTest, IsNear, IsFar, IsResolved, IsBroken, OptProblem, Fulfillment, NoTest, Order, primitive}
@@ -20,10 +17,10 @@ use Rattle.ev_kernel.specs.declared.node.Node.{Node}
 use Rattle.ev_kernel.specs.declared.node.Node.TheVariants.{Lit, Noun, Set, Def, Call, Sequence, If, Escape, Try, Finally, Hide, MatchBind, Object, Method, Matcher, Final, Var, Any, ListPattern, Via}
 use Rattle.ev_kernel.specs.declared.node.Literal.{Literal}
 use Rattle.ev_kernel.specs.declared.node.Literal.TheVariants as literal
-use Rattle.ev_name_laws.specs.Names.{Bit, Named, AllOf, ValueOk, ValuesOk, KnownOk, FreedomOk, BoundOk, NounOk}
-use Rattle.ev_name_laws.proofs.Facts.{MayBe, ReplyOk, AuditionAskOk, ResolverAskOk, Fact, IsName, IsValue, AreValues, AreLists, IsBound, AreNouns, IsThing, IsView, MayValue, MayBound, IsReply, IsAsked, IsAuditionAsk, IsResolverAsk, PlaceOk}
+use Rattle.ev_name_laws.specs.Names.{Bit, AllOf, ValueOk, ValuesOk, KnownOk, FreedomOk, BoundOk, NounOk}
+use Rattle.ev_name_laws.proofs.Facts.{MayBe, ReplyOk, AuditionAskOk, ResolverAskOk, Fact, IsValue, AreValues, AreLists, IsBound, AreNouns, IsThing, IsView, MayValue, MayBound, IsReply, IsAsked, IsAuditionAsk, IsResolverAsk}
 use Rattle.ev_name_laws.proofs.Care.{Care, Gets, Fine, fine_sees}
-use Rattle.ev_name_laws.proofs.Looks.{get_all, follow_ok}
+use Rattle.ev_name_laws.proofs.Looks.{follow_ok}
 use Rattle.ev_name_laws.proofs.Natives.{either_has, entry_has, data_ok, range_ok, compared_ok, null_reply_ok, asked_ok}
 
 module _ {N : Type 0} (S : Care N) where

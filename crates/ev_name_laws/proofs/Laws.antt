@@ -1,11 +1,11 @@
 -- The laws of names in runs.
-use Rattle.std.proofs.Common.{◌≡◌, ℕ, ◌<◌, zero, List, [], Some, length, sym, append-nil, arith}
+use Rattle.std.proofs.Common.{◌≡◌, ℕ, ◌<◌, [], Some, length, sym, append-nil, arith}
 use Rattle.std.specs.Prelude.{slice_get}
-use Rattle.ev_machine.specs.Values.{Name, Promise, Answer, Gift, Msg}
+use Rattle.ev_machine.specs.Values.{Name, Promise, Answer, Gift}
 use Rattle.ev_machine.specs.State.{Vat}
-use Rattle.ev_run.specs.World.{Script, Program, World}
-use Rattle.ev_name_laws.specs.Names.{Bit, Named, IsAmong, promises_of, messages_of, WasMade, IsMade, IsHad, names_in}
-use Rattle.ev_name_laws.specs.Runs.{KnowsOnce, InRuns, InEachVat, NamesWereMade, NotesNameWhatWasMade, NamesAreKnown, HostsAreTrue, RootsAndPromisesAreKnownOnce, OwnPromisesAreKnown, NextNamesAreNew}
+use Rattle.ev_run.specs.World.{Script, World}
+use Rattle.ev_name_laws.specs.Names.{IsAmong, promises_of, messages_of, WasMade, IsMade, IsHad, names_in}
+use Rattle.ev_name_laws.specs.Runs.{InRuns, InEachVat, NamesWereMade, NotesNameWhatWasMade, NamesAreKnown, HostsAreTrue, RootsAndPromisesAreKnownOnce, OwnPromisesAreKnown, NextNamesAreNew}
 use Rattle.ev_name_laws.proofs.Care.{parts_up}
 use Rattle.ev_name_laws.proofs.Among.{promises_at, messages_at}
 use Rattle.ev_name_laws.proofs.Run.{Had, VatStands, Stands, name_had, steps_stand, opened_stands}

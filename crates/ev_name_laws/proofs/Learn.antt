@@ -1,22 +1,22 @@
 -- What a vat learns from a note: each name is read by the names that it knows by then.
-use Rattle.std.proofs.Common.{◌≡◌, ℕ, ◌<◌, zero, suc, Bool, true, false, List, [], ◌∷◌, ◌++◌, Option, Some, None, refl, sym, ap, ◌∙◌, ◌⊎◌, inl, inr, length, ◌==◌, arith}
+use Rattle.std.proofs.Common.{◌≡◌, ℕ, ◌<◌, Bool, true, false, List, [], ◌∷◌, ◌++◌, Some, refl, sym, ◌∙◌, ◌⊎◌, inl, inr, length, ◌==◌, arith}
 use Rattle.std.specs.Prelude.{slice_get}
 use Rattle.std.proofs.lemmas.Bool.{eqb-true, eq-eqb}
-use Rattle.ev_machine.specs.Values.{Words, Value, Null, Flag, Number, Letter, Text, Prim, Broken, Items, Ref, Name, Root, Object, Promise, Answer, Gift, Sent, host_of, Naming, naming, name_of, mail_of, IsGift, IsLearnt, IsCarried}
+use Rattle.ev_machine.specs.Values.{Value, Null, Flag, Number, Letter, Text, Prim, Broken, Items, Ref, Name, Root, Object, Promise, Answer, Gift, Sent, host_of, naming, name_of, mail_of, IsGift}
 use Rattle.ev_machine.specs.State.{Known, Passed, Passeds, Plain, AGift, Many, NoMore, More, Note, Deliver, Open, Ask, SettledTo, Elsewhere, Shorten, Vat, Done, Gives, Throws, Ejects, Stops, Act, ◌>>=◌, ◌>>◌, and_then, give, come, mail, begun}
 use Rattle.ev_machine.specs.Arrive as arrive
 use Rattle.ev_machine.specs.Arrive.{Incoming, Old, New}
 use Rattle.ev_machine_laws.specs.Steps.{After}
 use Rattle.ev_run.specs.World as world
 use Rattle.ev_run.specs.World.{put_at, is_old, read_name, known_after}
-use Rattle.ev_name_laws.specs.Names.{Bit, Named, Mail, Drew, AllOf, IsAmong, promises_of, WasMade, IsMessageMade, IsMade, ValueOk, ValuesOk, PassedOk, PassedsOk, NoteOk, names_in, IsKnownIn, HostIsTrue, IsPlain, MessageOk, KnownOk, Parts}
+use Rattle.ev_name_laws.specs.Names.{Bit, Named, Mail, Drew, IsAmong, promises_of, WasMade, IsMessageMade, IsMade, ValueOk, PassedOk, PassedsOk, NoteOk, names_in, IsKnownIn, IsPlain, KnownOk, Parts}
 use Rattle.ev_name_laws.proofs.Facts.{all_end, Fact, Nothing, Also, IsName, IsMail, IsDraw, IsValue, AreValues, nothing, Holds, holds_up}
-use Rattle.ev_name_laws.proofs.Care.{Care, Sound, Under, Ends, Gets, Fine, fine_give, got, got_left, got_right, parts_up, begun_ok, come_gift}
+use Rattle.ev_name_laws.proofs.Care.{Sound, Ends, Gets, Fine, fine_give, parts_up, begun_ok, come_gift}
 use Rattle.ev_name_laws.proofs.CareArrive.{fine_ask_for, fine_make_list, fine_arrive_ask, fine_delivered, fine_opened, fine_went, fine_shortened}
 use Rattle.ev_name_laws.proofs.CareRefs.{fine_settle}
-use Rattle.ev_name_laws.proofs.Among.{among_more, among_last, among_or, among_is, names_end, all_among}
+use Rattle.ev_name_laws.proofs.Among.{among_more, among_last, among_or, among_is, names_end}
 use Rattle.ev_name_laws.proofs.SameNames.{false_true, old_known, new_unknown}
-use Rattle.ev_name_laws.proofs.Tracked.{IsTold, Follows, Kept, follows_trans, follows_known, kept_known, known_among, Ok, Goes, Onward, Keeps, quiet, made_on, ok_on, tracked, tracked_under}
+use Rattle.ev_name_laws.proofs.Tracked.{IsTold, follows_trans, follows_known, kept_known, known_among, Ok, Goes, Onward, quiet, made_on, ok_on, tracked, tracked_under}
 
 module _ (vats : List (Vat Name)) (v : ℕ) (q : Vat Name) (there : slice_get vats v ≡ Some q) (word : ℕ → ℕ) (us : List (Vat Name)) (d0 : ℕ) where
   abbrev pub Good : Vat Name → Bit Name → Type 0
@@ -270,8 +270,10 @@ module _ (vats : List (Vat Name)) (v : ℕ) (q : Vat Name) (there : slice_get va
 
   learn_gift : {C : Fact Name} (ks : List Name) (p h i : ℕ) → i < d0 → Learns ks C (arrive.learn_gift (naming word v) p h i) (ks ++ Gift h i ∷ []) IsValue
   unfolding arrive.learn_gift
-  learn_gift {C = C} ks p h i l = record { after = λ s g k c. (learns_bind {C = IsDraw i} {H = IsValue} IsName (come_known ks h i (record { at = λ s c. c })) (λ n. learns_then {C = Also (IsDraw i) (IsName n)} nothing (learns_fine (fine_ask_for (naming word v) (tracked vats v q there) (tracked_under vats v q there word) p h i (record { at = λ s c. c.0 }) n (record { at = λ s c. c.1 })))
-      (learns_fine (fine_give (tracked vats v q there) (Ref n) (record { at = λ s c. c.1 }))))).after s g k (k.made (Drew i) l, tt) }
+  learn_gift {C = C} ks p h i l = record {
+    after = λ s g k c. (learns_bind {C = IsDraw i} {H = IsValue} IsName (come_known ks h i (record { at = λ s c. c })) (λ n. learns_then {C = Also (IsDraw i) (IsName n)} nothing (learns_fine (fine_ask_for (naming word v) (tracked vats v q there) (tracked_under vats v q there word) p h i (record { at = λ s c. c.0 }) n (record { at = λ s c. c.1 })))
+        (learns_fine (fine_give (tracked vats v q there) (Ref n) (record { at = λ s c. c.1 }))))).after s g k (k.made (Drew i) l, tt);
+  }
 
   mutual
     unfolding arrive.learn arrive.learn_all world.read_passed world.read_all world.plain_read world.many_read world.more_read

@@ -1,15 +1,15 @@
 -- What is looked at in a sound state.
-use Rattle.std.proofs.Common.{ℕ, zero, suc, Bool, true, false, List, [], ◌∷◌, Option, Some, None, length, ◌==◌, ◌-◌}
+use Rattle.std.proofs.Common.{ℕ, zero, suc, Bool, true, false, List, [], ◌∷◌, Option, Some, None, length, ◌==◌}
 use Rattle.std.specs.Prelude.{slice_get}
 use Rattle.ev_machine.specs.Values.{Words, Value, Null, Flag, Number, Letter, Text, Prim, Broken, Items, Ref, Naming, Spot, Own, Foreign, NoObject}
-use Rattle.ev_machine.specs.State.{Message, Standing, Unsettled, WaitsOn, Viewed, Settled, Known, Passed, Passeds, Plain, AGift, Many, NoMore, More, Note, Deliver, Open, Ask, SettledTo, Elsewhere, Shorten, GiftEntry, Vat, Act, each, look, is_in, is_gift}
+use Rattle.ev_machine.specs.State.{Message, Standing, Unsettled, WaitsOn, Viewed, Settled, Known, Passed, Passeds, Plain, AGift, Many, NoMore, More, Deliver, Open, Ask, SettledTo, Elsewhere, Shorten, GiftEntry, Vat, Act, each, look, is_in, is_gift}
 use Rattle.ev_machine.specs.Refs as refs
 use Rattle.ev_machine.specs.Refs.{Place, Near, Mine, Away, Gone, Parcel}
 use Rattle.ev_machine.specs.Arrive as arrive
 use Rattle.ev_machine.specs.Native.{list_at}
-use Rattle.ev_name_laws.specs.Names.{Bit, Named, Mail, Drew, AllOf, ValueOk, ValuesOk, StandingOk, KnownOk, CellOk, ThingOk, GiftOk, PassedOk, PassedsOk}
+use Rattle.ev_name_laws.specs.Names.{Bit, Named, AllOf, ValueOk, ValuesOk, StandingOk, KnownOk, CellOk, ThingOk, GiftOk, PassedOk, PassedsOk}
 use Rattle.ev_name_laws.proofs.Facts.{MayBe, PlaceOk, Fact, Also, IsName, IsMail, IsDraw, AreNames, IsValue, AreValues, IsMessage, AreMessages, IsKnown, AreKnown, IsGiftEntry, AreGifts, IsPlace, MayCell, MayThing, MayKnown, MayGift, DoesPass, DoAllPass, NoteDoes, parcel, nothing}
-use Rattle.ev_name_laws.proofs.Care.{Care, Sound, Under, Gets, Fine, fine_sees, fine_then, fine_give, got_nothing}
+use Rattle.ev_name_laws.proofs.Care.{Care, Gets, Fine, fine_sees, fine_then, fine_give, got_nothing}
 
 pub get_all : {A : Type 0} (P : A → Type 0) (xs : List A) (n : ℕ) → AllOf P xs → MayBe P (slice_get xs n)
 get_all P [] n h = tt

@@ -6,7 +6,7 @@ use Rattle.ev_machine.specs.Values.{Words, Value, Null, Flag, Number, Letter, Te
 use Rattle.ev_machine.specs.Free.{entry, same_words}
 use Rattle.ev_machine.specs.Native as native
 use Rattle.ev_machine.specs.Native.{list_at, Reply, Says, Writes, Lists as Listed, Iterates, Fails, IntVerb, Applies, Negates, AsChar, NoIntVerb, FlagVerb, Both, Either, Unlike, NoFlagVerb, SeqVerb, Gets as GetsOne, Adds, AddsOne, Steps, NoSeqVerb, Guard, AnyGuard, VoidGuard, IntGuard, BooleanGuard, CharGuard, TextGuard, ListGuard, NullGuard, NearGuard, FrozenGuard, OrNull, Primitive, MakeList, Equalizer, Comparer, Looper, Sender, References, Thrower, StampReader, Guarding, NoPrimitive, Order, Asked, NoMethod}
-use Rattle.ev_name_laws.specs.Names.{Bit, Named, AllOf, ValueOk, ValuesOk}
+use Rattle.ev_name_laws.specs.Names.{Bit, AllOf, ValueOk, ValuesOk}
 use Rattle.ev_name_laws.proofs.Facts.{MayBe, ReplyOk, AskedOk, all_append, all_end}
 use Rattle.ev_name_laws.proofs.Looks.{get_all, list_at_ok}
 

@@ -1,8 +1,8 @@
 -- In every world of a run the names in each vat were made and are known to it, and roots and promises are known once.
 use Rattle.std.proofs.Common.{◌≡◌, ℕ, ◌≤◌, ◌<◌, zero, suc, ◌+◌, Bool, true, false, List, [], ◌∷◌, ◌++◌, Option, Some, None, refl, sym, ap, ◌∙◌, inl, inr, ◌⊎◌, length, map, ◌==◌, append_assoc, arith}
 use Rattle.std.specs.Prelude.{slice_get}
-use Rattle.ev_machine.specs.Values.{Value, Name, Root, Object, Promise, Answer, Gift, Sent, host_of, Naming, naming}
-use Rattle.ev_machine.specs.State.{Binding, Known, Message, Note, Put, Vat, Done, Gives, Throws, Ejects, Stops, Act, begun}
+use Rattle.ev_machine.specs.Values.{Name, Root, Promise, host_of, naming}
+use Rattle.ev_machine.specs.State.{Known, Message, Note, Put, Vat, Done, Gives, Throws, Ejects, Stops, Act, begun}
 use Rattle.ev_machine.specs.Scopes.{any_guard}
 use Rattle.ev_machine.specs.Eval.{opening, taking}
 use Rattle.ev_machine.specs.Arrive.{arrive, notice}
@@ -10,12 +10,12 @@ use Rattle.ev_machine_laws.specs.Steps.{After}
 use Rattle.ev_run.specs.Draws.{draw_word}
 use Rattle.ev_run.specs.World as world
 use Rattle.ev_run.specs.World.{Script, Program, Opens, Entry, Turn, Carry, CutLink, NoticeLink, Event, Turned, Idle, Carried, CutAt, NoticedAt, Link, World, Run, Goes as Going, Stopped, names, names_of, read_note, put_at}
-use Rattle.ev_name_laws.specs.Names.{Bit, Named, Mail, Drew, AllOf, IsAmong, promises_of, messages_of, WasMade, IsMessageMade, IsMade, NounOk, MessageOk, NoteOk, PutOk, KnownOk, Parts, names_in, IsKnownIn, IsHad, HostIsTrue, IsPlain, PlainOnce, Once}
-use Rattle.ev_name_laws.proofs.Facts.{MayBe, all_map, all_end, all_append, message_up, nouns_up, note_up, Fact, Nothing, Also, IsName, AreNouns, IsMessage, nothing, Holds}
-use Rattle.ev_name_laws.proofs.Care.{Care, Sound, Ends, Gets, Fine, fine_more, parts_up}
+use Rattle.ev_name_laws.specs.Names.{Bit, Named, AllOf, IsAmong, promises_of, messages_of, IsMade, NounOk, MessageOk, NoteOk, KnownOk, Parts, names_in, IsHad, HostIsTrue, PlainOnce, Once}
+use Rattle.ev_name_laws.proofs.Facts.{MayBe, all_map, all_end, all_append, message_up, nouns_up, note_up, Fact, Nothing, Also, IsName, AreNouns, IsMessage, Holds}
+use Rattle.ev_name_laws.proofs.Care.{Care, Sound, parts_up}
 use Rattle.ev_name_laws.proofs.CareEval.{fine_opening, fine_taking}
 use Rattle.ev_name_laws.proofs.CareArrive.{fine_notice}
-use Rattle.ev_name_laws.proofs.Among.{among_more, all_among, get_put, promises_at, length_end, is_made_up}
+use Rattle.ev_name_laws.proofs.Among.{promises_at, length_end, is_made_up}
 use Rattle.ev_name_laws.proofs.Tracked.{Kept, Ok, tracked, tracked_under}
 use Rattle.ev_name_laws.proofs.Learn.{Grew, Knows, Reads, reads_fine, reads_note}
 
@@ -246,8 +246,10 @@ module _ (script : Script) where
 
   cut_stands : (k v to : ℕ) (w x : World) → Stands script w → world.cut script k v to w ≡ Going x → Stands script x
   unfolding world.cut world.severed_link
-  cut_stands k v to w x h e = let P = NoteOk (IsMade w.vats (length w.drawn)) in moved _ x (record { vats = λ u s j. let g = h.vats u s j in record { parts = g.parts; kept = g.kept; roots = g.roots };
-      links = with_link_holds P world.severed_link (λ l i. tt) to v (world.with_link world.severed_link v to w.links) (with_link_holds P world.severed_link (λ l i. tt) v to w.links h.links) }) e
+  cut_stands k v to w x h e = let P = NoteOk (IsMade w.vats (length w.drawn)) in moved _ x (record {
+    vats = λ u s j. let g = h.vats u s j in record { parts = g.parts; kept = g.kept; roots = g.roots };
+    links = with_link_holds P world.severed_link (λ l i. tt) to v (world.with_link world.severed_link v to w.links) (with_link_holds P world.severed_link (λ l i. tt) v to w.links h.links);
+  }) e
 
   notice_stands : (k v to : ℕ) (w x : World) → Stands script w → (o : Option (Vat Name)) → slice_get w.vats v ≡ o → world.within v w (NoticedAt k v to ∷ []) (world.step_number script k) (notice (names script v) to) o ≡ Going x → Stands script x
   unfolding world.within names

@@ -1,13 +1,13 @@
 -- What is kept of names in a step of one vat: each was made, and is known to the vat; roots and promises are known once, and each host is true.
-use Rattle.std.proofs.Common.{◌≡◌, ℕ, ◌≤◌, ◌<◌, zero, suc, Bool, true, false, List, [], ◌∷◌, ◌++◌, Option, Some, None, refl, sym, ap, ◌∙◌, ◌⊎◌, inl, inr, length, map, arith}
+use Rattle.std.proofs.Common.{◌≡◌, ℕ, ◌≤◌, ◌<◌, zero, suc, Bool, true, false, List, [], ◌∷◌, ◌++◌, Some, refl, sym, ap, ◌⊎◌, inl, inr, length, arith}
 use Rattle.std.specs.Prelude.{slice_get}
-use Rattle.ev_machine.specs.Values.{Value, Name, Root, Object, Promise, Answer, Gift, Sent, Msg, host_of, Naming, naming, name_of, answer_of, mail_of, Coming, IsOwn, IsAnswer, IsGift, IsSent}
+use Rattle.ev_machine.specs.Values.{Name, Root, Object, Promise, Answer, Gift, Sent, Msg, host_of, Naming, naming, name_of, answer_of, mail_of}
 use Rattle.ev_machine.specs.State.{Known, Standing, Unsettled, WaitsOn, Viewed, Settled, Change, Hold, Wait, WaitOn, See, React, ToTell, Settle, Vat, with_change, changed, changed_to, unless_settled, begun}
 use Rattle.ev_run.specs.World.{put_at}
-use Rattle.ev_name_laws.specs.Names.{Bit, Named, Mail, Drew, AllOf, IsAmong, promises_of, messages_of, WasMade, IsMessageMade, IsMade, names_in, IsKnownIn, IsHad, HostIsTrue, IsPlain, PlainOnce}
+use Rattle.ev_name_laws.specs.Names.{Bit, Named, Mail, Drew, AllOf, IsAmong, promises_of, messages_of, IsMade, names_in, IsKnownIn, IsHad, HostIsTrue, IsPlain, PlainOnce}
 use Rattle.ev_name_laws.proofs.Facts.{all_end}
 use Rattle.ev_name_laws.proofs.Care.{Care, Under}
-use Rattle.ev_name_laws.proofs.Among.{among_more, among_last, among_or, among_is, names_end, length_end, plain_end, get_put, promises_grow, messages_grow, promises_at, messages_at, made_up, is_made_up}
+use Rattle.ev_name_laws.proofs.Among.{among_more, among_last, among_or, among_is, names_end, length_end, plain_end, get_put, promises_grow, messages_grow, promises_at, messages_at, is_made_up}
 
 -- a root, or a promise of another vat: what comes to be known by vat v from notes alone
 abbrev pub IsTold : ℕ → Name → Type 0
