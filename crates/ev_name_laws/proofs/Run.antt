@@ -10,7 +10,7 @@ use Rattle.ev_machine_laws.specs.Steps.{After}
 use Rattle.ev_run.specs.Draws.{draw_word}
 use Rattle.ev_run.specs.World as world
 use Rattle.ev_run.specs.World.{Script, Program, Opens, Entry, Turn, Carry, CutLink, NoticeLink, Event, Turned, Idle, Carried, CutAt, NoticedAt, Link, World, Run, Goes as Going, Stopped, names, names_of, read_note, put_at}
-use Rattle.ev_name_laws.specs.Names.{Bit, Named, AllOf, IsAmong, promises_of, messages_of, IsMade, NounOk, MessageOk, NoteOk, KnownOk, Parts, names_in, IsHad, HostIsTrue, PlainOnce, Once}
+use Rattle.ev_name_laws.specs.Names.{Bit, Named, AllOf, IsAmong, promises_of, messages_of, IsMade, NounOk, MessageOk, NoteOk, KnownOk, Parts, names_in, IsHad, HostIsTrue, IsNoObject, PlainOnce, Once}
 use Rattle.ev_name_laws.proofs.Facts.{MayBe, all_map, all_end, all_append, message_up, nouns_up, note_up, Fact, Nothing, Also, IsName, AreNouns, IsMessage, Holds}
 use Rattle.ev_name_laws.proofs.Care.{Care, Sound, parts_up}
 use Rattle.ev_name_laws.proofs.CareEval.{fine_opening, fine_taking}
@@ -345,6 +345,11 @@ module _ (script : Script) where
   roots_once [] h = tt
   roots_once (w ∷ ws) h = (λ p i. let r = root_back ws (Root w) i in h.0 (rw (sym (same_root w r.0 r.1)) at r.2), roots_once ws h.1)
 
+  roots_apart : (ws : List ℕ) → AllOf IsNoObject (names_in (map world.known_root ws))
+  unfolding world.known_root begun
+  roots_apart [] = tt
+  roots_apart (w ∷ ws) = (tt, roots_apart ws)
+
   roots_hosted : (ws : List ℕ) → AllOf HostIsTrue (map world.known_root ws)
   unfolding world.known_root begun host_of
   roots_hosted [] = tt
@@ -389,6 +394,7 @@ module _ (script : Script) where
       once = (λ x i. let r = root_back p.knows (Root v) i in once.0 (rw (sym (same_root v r.0 r.1)) at r.2), roots_once p.knows once.1);
       own = λ i l. absurd (omega arith);
       below = λ i a. absurd (no_own i a);
+      apart = (tt, roots_apart p.knows);
     }
       where
         no_own : (i : ℕ) → IsAmong (Promise v i) (Root v ∷ names_in (map world.known_root p.knows)) → ⊥

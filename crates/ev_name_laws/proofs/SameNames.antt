@@ -1,9 +1,11 @@
 -- When names are the same, and which names a reader of notes knows.
-use Rattle.std.proofs.Common.{◌≡◌, ℕ, Bool, true, false, List, [], ◌∷◌, refl, sym, ap, ◌∙◌, ◌⊎◌, inl, inr, ◌==◌, ◌&&◌}
+use Rattle.std.proofs.Common.{◌≡◌, ℕ, Bool, true, false, List, [], ◌∷◌, refl, sym, ap, ◌∙◌, ◌⊎◌, inl, inr, ◌==◌, ◌&&◌, Option, Some, None}
 use Rattle.std.proofs.lemmas.Bool.{eqb-true, eq-eqb}
-use Rattle.ev_machine.specs.Values.{Name, Root, Object, Promise, Answer, Gift, Sent, Msg, same_name, same_msg}
+use Rattle.ev_machine.specs.Values.{Name, Root, Object, Promise, Answer, Gift, Sent, Msg, same_name, same_msg, Foreign, spot_of, naming}
 use Rattle.ev_run.specs.World.{has_name, is_old}
-use Rattle.ev_name_laws.specs.Names.{IsAmong, IsKnownIn}
+use Rattle.ev_machine.specs.Refs.{entry_of}
+use Rattle.ev_machine.specs.State.{Known}
+use Rattle.ev_name_laws.specs.Names.{AllOf, IsAmong, IsKnownIn, IsNoObject, names_in}
 
 pub false_true : false ≡ true → ⊥
 false_true e = cc
@@ -119,3 +121,36 @@ new_unknown ns (Promise w i) e a = true_false (has_name ns (Promise w i)) (among
 new_unknown ns (Answer w m) e a = true_false (has_name ns (Answer w m)) (among_has ns (Answer w m) a) e
 new_unknown ns (Gift w i) e a = true_false (has_name ns (Gift w i)) (among_has ns (Gift w i) a) e
 new_unknown ns (Sent m) e a = true_false (has_name ns (Sent m)) (among_has ns (Sent m) a) e
+
+-- what is new is no object
+pub new_no_object : (ns : List Name) (n : Name) → is_old ns n ≡ false → IsNoObject n
+unfolding is_old
+new_no_object ns (Object w i) e = absurd (false_true (sym e))
+new_no_object ns (Root w) e = tt
+new_no_object ns (Promise w i) e = tt
+new_no_object ns (Answer w m) e = tt
+new_no_object ns (Gift w i) e = tt
+new_no_object ns (Sent m) e = tt
+
+-- ---- no object is found among names that are no objects
+
+far_is : (v : ℕ) (m : Name) (h : ℕ) → spot_of v m ≡ Foreign h → IsNoObject m → ⊥
+unfolding spot_of
+far_is v (Object w i) h e o = o
+far_is v (Root w) h e o = cc
+far_is v (Promise w i) h e o = cc
+far_is v (Answer w x) h e o = cc
+far_is v (Gift w i) h e o = cc
+far_is v (Sent x) h e o = cc
+
+no_entry : (b : Bool) (k : Known Name) (o : Option (Known Name)) → (b ≡ true → ⊥) → o ≡ None → ◌≡◌ {A = Option (Known Name)} (elim b [ true ↦ Some k | false ↦ o ]) None
+no_entry true k o f e = absurd (f refl)
+no_entry false k o f e = e
+
+no_object_is : (a b : Name) → a ≡ b → IsNoObject a → IsNoObject b
+no_object_is a b e h = rw e at h
+
+pub far_apart : (word : ℕ → ℕ) (v : ℕ) (ks : List (Known Name)) → AllOf IsNoObject (names_in ks) → (m : Name) (h : ℕ) → spot_of v m ≡ Foreign h → entry_of (naming word v) ks m ≡ None
+unfolding entry_of naming
+far_apart word v [] o m h e = refl
+far_apart word v (k ∷ ks) o m h e = no_entry (same_name k.name m) k (entry_of (naming word v) ks m) (λ f. far_is v m h e (no_object_is k.name m (same_is k.name m f) o.0)) (far_apart word v ks o.1 m h e)

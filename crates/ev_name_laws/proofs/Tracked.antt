@@ -4,7 +4,7 @@ use Rattle.std.specs.Prelude.{slice_get}
 use Rattle.ev_machine.specs.Values.{Name, Root, Object, Promise, Answer, Gift, Sent, Msg, host_of, Naming, naming, name_of, answer_of, mail_of}
 use Rattle.ev_machine.specs.State.{Known, Standing, Unsettled, WaitsOn, Viewed, Settled, Change, Hold, Wait, WaitOn, See, React, ToTell, Settle, Vat, with_change, changed, changed_to, unless_settled, begun}
 use Rattle.ev_run.specs.World.{put_at}
-use Rattle.ev_name_laws.specs.Names.{Bit, Named, Mail, Drew, AllOf, IsAmong, promises_of, messages_of, IsMade, names_in, IsKnownIn, IsHad, HostIsTrue, IsPlain, PlainOnce}
+use Rattle.ev_name_laws.specs.Names.{Bit, Named, Mail, Drew, AllOf, IsAmong, promises_of, messages_of, IsMade, names_in, IsKnownIn, IsHad, HostIsTrue, IsNoObject, IsPlain, PlainOnce}
 use Rattle.ev_name_laws.proofs.Facts.{all_end}
 use Rattle.ev_name_laws.proofs.Care.{Care, Under}
 use Rattle.ev_name_laws.proofs.Among.{among_more, among_last, among_or, among_is, names_end, length_end, plain_end, get_put, promises_grow, messages_grow, promises_at, messages_at, is_made_up}
@@ -34,6 +34,7 @@ pub record Kept (v u : ℕ) (ks : List (Known Name)) (p : ℕ) : Type 0 where
   pub once : PlainOnce (names_in ks)
   pub own : (i : ℕ) → i < p → IsAmong (Promise v i) (names_in ks)
   pub below : (i : ℕ) → IsAmong (Promise v i) (names_in ks) → i < p
+  pub apart : AllOf IsNoObject (names_in ks)
 
 known_up : (ns ms : List Name) → ((n : Name) → IsAmong n ns → IsAmong n ms) → (n : Name) → IsKnownIn ns n → IsKnownIn ms n
 known_up ns ms f (Object w i) h = tt
@@ -107,7 +108,7 @@ module _ (K : Naming Name Name) where
 
   kept_change : (v number : ℕ) (c : Change Name) (n : Name) (ks : List (Known Name)) (p : ℕ) → Kept v number ks p → Kept v number (with_change K c n ks) p
   kept_change v number c n ks p h = let e : names_in ks ≡ names_in (with_change K c n ks) = sym (names_change c n ks) in
-      record { number = h.number; hosts = hosts_change c n ks h.hosts; once = rw e at h.once; own = λ i l. rw e at (h.own i l); below = λ i a. h.below i (rw (sym e) at a) }
+      record { number = h.number; hosts = hosts_change c n ks h.hosts; once = rw e at h.once; own = λ i l. rw e at (h.own i l); below = λ i a. h.below i (rw (sym e) at a); apart = rw e at h.apart }
 
 pub follows_same : (T : Name → Type 0) (ns ms : List Name) (p m d : ℕ) → Follows T ns ms p m d ns ms p m d
 follows_same T ns ms p m d = record { names = λ n h. h; mails = λ n h. h; promises = omega arith; messages = omega arith; draws = omega arith; told = λ n t h. h }
@@ -134,14 +135,15 @@ follows_known T ks k ms p m d f = let e : names_in (ks ++ k ∷ []) ≡ names_in
     old n t (inl h) = h
     old n t (inr e) = absurd (f (rw e at t))
 
-pub kept_known : (v number : ℕ) (ks : List (Known Name)) (k : Known Name) (p : ℕ) → HostIsTrue k → (IsPlain k.name → IsAmong k.name (names_in ks) → ⊥) → ((i : ℕ) → Promise v i ≡ k.name → i < p) → Kept v number ks p → Kept v number (ks ++ k ∷ []) p
-kept_known v number ks k p t f g h = let e : names_in (ks ++ k ∷ []) ≡ names_in ks ++ k.name ∷ [] = names_end ks k in
+pub kept_known : (v number : ℕ) (ks : List (Known Name)) (k : Known Name) (p : ℕ) → HostIsTrue k → IsNoObject k.name → (IsPlain k.name → IsAmong k.name (names_in ks) → ⊥) → ((i : ℕ) → Promise v i ≡ k.name → i < p) → Kept v number ks p → Kept v number (ks ++ k ∷ []) p
+kept_known v number ks k p t o f g h = let e : names_in (ks ++ k ∷ []) ≡ names_in ks ++ k.name ∷ [] = names_end ks k in
     record {
       number = h.number;
       hosts = all_end HostIsTrue ks k h.hosts t;
       once = rw (sym e) at (plain_end (names_in ks) k.name h.once f);
       own = λ i l. rw (sym e) at (among_more (Promise v i) (names_in ks) k.name (h.own i l));
       below = λ i a. low i (among_or (Promise v i) (names_in ks) k.name (rw e at a));
+      apart = rw (sym e) at (all_end IsNoObject (names_in ks) k.name h.apart o);
     }
   where
     low : (i : ℕ) → IsAmong (Promise v i) (names_in ks) ⊎ (Promise v i ≡ k.name) → i < p
@@ -177,6 +179,7 @@ kept_promise v number ks p h = let k : Known Name = begun (Promise v p) number i
       once = rw (sym e) at (plain_end (names_in ks) (Promise v p) h.once (λ x a. fresh a));
       own = λ i l. rw (sym e) at (mine i (either_below i p l));
       below = λ i a. low i (among_or (Promise v i) (names_in ks) (Promise v p) (rw e at a));
+      apart = rw (sym e) at (all_end IsNoObject (names_in ks) (Promise v p) h.apart tt);
     }
   where
     fresh : IsAmong (Promise v p) (names_in ks) → ⊥
@@ -248,7 +251,7 @@ module _ (vats : List (Vat Name)) (v : ℕ) (q : Vat Name) (there : slice_get va
     answer_made s h m l = let k : Known Name = begun (Answer h m) h in let t : Vat Name = record s { known = s.known ++ k ∷ [] } in
         let r : Goes s t = follows_known (IsTold v) s.known k s.mails s.promises s.messages (length s.drawn) (λ x. x) in
         let among : IsAmong (Answer h m) (names_in (s.known ++ k ∷ [])) = rw (sym (names_end s.known k)) at (among_last (names_in s.known) (Answer h m)) in
-        (r, λ c. kept_known v s.number s.known k s.promises refl (λ x i. x) (λ i e. absurd (no_answer v i h m e)) c, (made_on (IsTold v) s t r (Named (Answer h m)) l, among))
+        (r, λ c. kept_known v s.number s.known k s.promises refl tt (λ x i. x) (λ i e. absurd (no_answer v i h m e)) c, (made_on (IsTold v) s t r (Named (Answer h m)) l, among))
 
     gift_made : (s : Vat Name) (h i : ℕ) → i < length s.drawn →
         let t : Vat Name = record s { known = s.known ++ begun (Gift h i) h ∷ [] } in Goes s t × (Keeps s → Keeps t) × Ok t (Named (Gift h i))
@@ -256,7 +259,7 @@ module _ (vats : List (Vat Name)) (v : ℕ) (q : Vat Name) (there : slice_get va
     gift_made s h i l = let k : Known Name = begun (Gift h i) h in let t : Vat Name = record s { known = s.known ++ k ∷ [] } in
         let r : Goes s t = follows_known (IsTold v) s.known k s.mails s.promises s.messages (length s.drawn) (λ x. x) in
         let among : IsAmong (Gift h i) (names_in (s.known ++ k ∷ [])) = rw (sym (names_end s.known k)) at (among_last (names_in s.known) (Gift h i)) in
-        (r, λ c. kept_known v s.number s.known k s.promises refl (λ x a. x) (λ j e. absurd (no_gift v j h i e)) c, (made_on (IsTold v) s t r (Named (Gift h i)) l, among))
+        (r, λ c. kept_known v s.number s.known k s.promises refl tt (λ x a. x) (λ j e. absurd (no_gift v j h i e)) c, (made_on (IsTold v) s t r (Named (Gift h i)) l, among))
 
     promise_made : (s : Vat Name) → let t : Vat Name = record s { promises = suc s.promises; known = s.known ++ begun (Promise v s.promises) s.number ∷ [] } in Goes s t × (Keeps s → Keeps t) × Ok t (Named (Promise v s.promises))
     unfolding begun
@@ -277,7 +280,7 @@ module _ (vats : List (Vat Name)) (v : ℕ) (q : Vat Name) (there : slice_get va
         let among : IsAmong (Answer h m) (names_in (s.known ++ k ∷ [])) = rw (sym (names_end s.known k)) at (among_last (names_in s.known) (Answer h m)) in
         let e : messages_of (put_at v t vats) v ≡ suc s.messages = messages_at (put_at v t vats) v t (get_put vats v q t there) in
         let l : s.messages < messages_of (put_at v t vats) v = omega arith in
-        (r, λ c. kept_known v s.number s.known k s.promises refl (λ x a. x) (λ i e. absurd (no_answer v i h m e)) c, (l, among_last s.mails (Sent m)), (l, among))
+        (r, λ c. kept_known v s.number s.known k s.promises refl tt (λ x a. x) (λ i e. absurd (no_answer v i h m e)) c, (l, among_last s.mails (Sent m)), (l, among))
 
     object_ok : (s : Vat Name) (i : ℕ) → Ok s (Named (Object v i))
     object_ok s i = (tt, tt)

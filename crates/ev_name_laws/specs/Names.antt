@@ -167,6 +167,15 @@ IsHad ns mails (Drew i) = Unit {0}
 abbrev pub HostIsTrue : Known Name → Type 0
 HostIsTrue k = k.host ≡ host_of k.name
 
+-- it is no object's
+abbrev pub IsNoObject : Name → Type 0
+IsNoObject (Object w i) = ⊥
+IsNoObject (Root w) = Unit {0}
+IsNoObject (Promise w i) = Unit {0}
+IsNoObject (Answer h m) = Unit {0}
+IsNoObject (Gift h i) = Unit {0}
+IsNoObject (Sent m) = Unit {0}
+
 -- a root, or a promise that was made by Ref.promise()
 abbrev pub IsPlain : Name → Type 0
 IsPlain (Root w) = Unit {0}

@@ -9,6 +9,8 @@ ghost use Rattle.ev_name_laws.specs.Runs.{HostsAreTrue};
 ghost use Rattle.ev_name_laws.specs.Runs.{RootsAndPromisesAreKnownOnce};
 ghost use Rattle.ev_name_laws.specs.Runs.{OwnPromisesAreKnown};
 ghost use Rattle.ev_name_laws.specs.Runs.{NextNamesAreNew};
+ghost use Rattle.ev_name_laws.specs.Runs.{ObjectsAreApart};
+ghost use Rattle.ev_name_laws.specs.Runs.{SeveredObjectsStayBroken};
 
 /// Every name in what a vat has was made: a promise is numbered below the count of its vat's
 /// promises, an answer is of a message numbered below the count of its sender's messages, and a
@@ -48,4 +50,15 @@ pub fn own_promises_are_known()
 /// draw at any host are known to no vat.
 pub fn next_names_are_new()
     ensures { NextNamesAreNew }
+{}
+
+/// No object is among the names that a vat knows: objects need not come to be known.
+pub fn objects_are_apart()
+    ensures { ObjectsAreApart }
+{}
+
+/// From any world of a run on, what settlings led, at a vat, to an object of a vat whose cut it
+/// noticed is followed there to broken `partition`.
+pub fn severed_objects_stay_broken()
+    ensures { SeveredObjectsStayBroken }
 {}
