@@ -1,7 +1,8 @@
 //! What is due for the bytes of a script.
 
 ghost use Rattle.std.specs.Prelude.{◌≡◌, IfOk, option_and_then, string_bytes};
-ghost use Rattle.ev_top.specs.Due.{IsFor, due_of_sum, due_of_vat, due_of_script};
+ghost use Rattle.ev_top.specs.Debt.{IsFor};
+ghost use Rattle.ev_top.specs.Due.{due_of_sum, due_of_vat, due_of_script};
 ghost use Rattle.ev_top.specs.Run.{history_of, run_of};
 ghost use Rattle.ev_top.specs.Script.{script_from};
 ghost use Rattle.ev_top.specs.Tree.{tree_of};
@@ -101,7 +102,7 @@ fn reply_script(alloc: Global, script: Option<Script>) -> Result<Reply, Memory>
 }
 
 /// The run of the script that bytes spell.
-pub fn reply_bytes(alloc: Global, bytes: &[u8]) -> Result<Reply, Memory>
+pub fn run_bytes(alloc: Global, bytes: &[u8]) -> Result<Reply, Memory>
     ensures { IfOk result (λ reply. IsFor reply.status (string_bytes reply.text) (due_of_script (script_from bytes.now))) }
 {
     let script = read_script(alloc, bytes)?;
