@@ -1,3 +1,4 @@
+pub mod Cells
 pub mod Depth
 pub mod Exits
 pub mod Meets

@@ -8,7 +8,7 @@ use Rattle.ev_base.specs.SafeScope.{safe_value}
 use Rattle.ev_kernel.specs.declared.node.Literal.{Literal}
 use Rattle.ev_kernel.specs.declared.node.Literal.TheVariants as literal
 use Rattle.ev_kernel.specs.declared.node.Node.{Node}
-use Rattle.ev_kernel.specs.declared.node.Node.TheVariants.{Lit, Noun, Def, Call, Sequence, Final}
+use Rattle.ev_kernel.specs.declared.node.Node.TheVariants.{Lit, Noun, Set, Def, Call, Sequence, Final, Var}
 
 abbrev pub is_int : Literal → Bool
 is_int (literal.Int z) = true
@@ -20,14 +20,17 @@ is_built_safe None = true
 is_built_safe (Some held.Null) = true
 is_built_safe _ = false
 
--- Literals of integers, nouns, definitions without ejector, calls of `add`, sequences, and final patterns without guard.
+-- Literals of integers, nouns, assignments, definitions without ejector, calls of `add`, sequences, and final and var patterns
+-- without guard.
 unfoldable pub is_built_node : Node → Bool
 is_built_node (Lit l) = is_int l
 is_built_node (Noun x) = is_built_safe (safe_value x)
+is_built_node (Set x e) = true
 is_built_node (Def p j e) = is_none j
 is_built_node (Call r verb es) = bytes_eq verb (codes "add")
 is_built_node (Sequence es) = true
 is_built_node (Final x g) = is_none g
+is_built_node (Var x g) = is_none g
 is_built_node _ = false
 
 -- a tree whose nodes are all among these

@@ -1,6 +1,5 @@
 -- What a heap and what happened stand for: a vat of the machine, in local numbers.
-use Rattle.std.specs.Prelude.{ℕ, suc, List, [], ◌∷◌, ◌++◌, map, length, slice_get, unwrap_or, codes}
-use Rattle.std.specs.declared.option.Option.{Option}
+use Rattle.std.specs.Prelude.{ℕ, List, [], ◌∷◌, ◌++◌, map, length, slice_get, unwrap_or, codes}
 use Rattle.ev_base.specs.declared.values.Value.{Value as Held}
 use Rattle.ev_base.specs.declared.values.Value.TheVariants as held
 use Rattle.ev_heap.specs.Contents.{Contents}
@@ -8,14 +7,16 @@ use Rattle.ev_heap.specs.declared.micro.Micro.{Micro}
 use Rattle.ev_heap.specs.declared.happened.Happened.{Happened as Event}
 use Rattle.ev_heap.specs.declared.happened.Happened.TheVariants as event
 use Rattle.ev_machine.specs.Values.{Words, Value, Null, Flag, Number, Letter, Text, Prim, Broken, Items, Ref, Naming, Local, Obj, Prom, Far, numbering}
-use Rattle.ev_machine.specs.State.{Thing, Cell, Message, Known, GiftEntry, Put, Happened, Called, Back, Thrown, Vat}
+use Rattle.ev_heap.specs.declared.kept.Cell.{Cell as HeldCell}
+use Rattle.ev_heap.specs.declared.kept.GuardKind.{GuardKind}
+use Rattle.ev_heap.specs.declared.kept.GuardKind.TheVariants as guard
+use Rattle.ev_machine.specs.State.{Thing, Cell, Message, Known, GiftEntry, Put, Happened, Called, Back, Thrown, SlotMade, SlotRead, SlotWrote, Vat}
 
--- What evaluation leaves as it is, and neither the heap's activations nor what happened tell.
+-- What evaluation leaves as it is, and neither the heap's slots and activations nor what happened tell.
 pub record World : Type 0 where
   pub number : ℕ
   pub drawn : List ℕ
   pub things : List (Thing Local)
-  pub slots : List (Cell Local)
   pub lists : List (List (Value Local))
   pub messages : ℕ
   pub promises : ℕ
@@ -57,11 +58,21 @@ abbrev pub problem_of : World → Held → Words
 problem_of w (held.Text id) = text_of w id
 problem_of w _ = []
 
+abbrev pub guard_of : GuardKind → Value Local
+guard_of (guard.Native n) = Prim n
+guard_of (guard.User i) = Ref (Obj i)
+
+abbrev pub cell_of : World → HeldCell → Cell Local
+cell_of w c = record { guard = guard_of c.guard; value = value_of w c.value }
+
 -- the line of an event, where it is of a kind that evaluation tells
 unfoldable pub line_of : World → Event → List (Happened Local)
 line_of w (event.Call act target verb args begun) = Called act (value_of w target) verb (map (value_of w) args) begun ∷ []
 line_of w (event.Back act v) = Back act (value_of w v) ∷ []
 line_of w (event.Thrown act p) = Thrown act (problem_of w p) ∷ []
+line_of w (event.Slot act k v) = SlotMade act k (value_of w v) ∷ []
+line_of w (event.Read act k v) = SlotRead act k (value_of w v) ∷ []
+line_of w (event.Wrote act k v) = SlotWrote act k (value_of w v) ∷ []
 line_of w _ = []
 
 unfoldable pub lines_of : World → List Event → List (Happened Local)
@@ -74,7 +85,7 @@ vat_of w heap micro = record {
   fuel = micro.fuel;
   drawn = w.drawn;
   things = w.things;
-  slots = w.slots;
+  slots = map (cell_of w) heap.slots;
   lists = w.lists;
   activations = length heap.codes;
   messages = w.messages;

@@ -1,5 +1,5 @@
 -- Evaluation over the state of the code: the machine's evaluation of the trees that are built.
-use Rattle.std.specs.Prelude.{◌≡◌, ℕ, zero, suc, ℤ, ◌+ℤ◌, ◌-◌, Bool, true, false, if◌then◌else◌, nat_le, List, [], ◌∷◌, ◌++◌, Some, None, Result, Ok, Err, map, length, slice_get, codes}
+use Rattle.std.specs.Prelude.{◌≡◌, ℕ, zero, suc, ℤ, ◌+ℤ◌, ◌-◌, Bool, true, false, if◌then◌else◌, nat_le, List, [], ◌∷◌, ◌++◌, Some, None, Result, Ok, Err, map, length, slice_get, slice_set, codes}
 use Rattle.std.specs.declared.option.Option.{Option}
 use Rattle.std.specs.Str.{bytes_eq}
 use Rattle.ev_base.specs.declared.values.Value.{Value}
@@ -10,17 +10,21 @@ use Rattle.ev_heap.specs.declared.happened.Happened.TheVariants as event
 use Rattle.ev_kernel.specs.declared.node.Literal.{Literal}
 use Rattle.ev_kernel.specs.declared.node.Literal.TheVariants as literal
 use Rattle.ev_kernel.specs.declared.node.Node.{Node}
-use Rattle.ev_kernel.specs.declared.node.Node.TheVariants.{Lit, Noun, Def, Call, Sequence, Final}
+use Rattle.ev_kernel.specs.declared.node.Node.TheVariants.{Lit, Noun, Set, Def, Call, Sequence, Final, Var}
 use Rattle.ev_machine.specs.Values.{Words}
 use Rattle.ev_machine.specs.Ints.{fits}
+use Rattle.ev_eval.specs.Plain.{held_value, plain_cell}
 use Rattle.ev_eval.specs.declared.exit.Exit.{Exit}
 use Rattle.ev_eval.specs.declared.exit.Exit.TheVariants.{Thrown, Fuel, Deep, Astray, Unbuilt, Memory}
 use Rattle.ev_eval.specs.declared.exit.Problem.{Problem}
 use Rattle.ev_eval.specs.declared.exit.Problem.TheVariants.{Overflow, NotInt, NoMethod}
 use Rattle.ev_eval.specs.declared.plain.Plain.{Plain}
 use Rattle.ev_eval.specs.declared.plain.Plain.TheVariants.{Null, Int}
+use Rattle.ev_heap.specs.declared.kept.Cell.{Cell}
 use Rattle.ev_eval.specs.declared.room.Room.{Room}
 use Rattle.ev_eval.specs.declared.scope.Binding.{Binding}
+use Rattle.ev_eval.specs.declared.scope.Bound.{Bound}
+use Rattle.ev_eval.specs.declared.scope.Bound.TheVariants.{Fixed, Slot}
 use Rattle.ev_eval.specs.declared.scope.Scope.{Scope}
 
 -- what something gives, or how it ends without a value, and the state after
@@ -99,31 +103,74 @@ spend = λ s. spent (nat_le 1 s.micro.fuel) s
 unfoldable pub new_activation : Act ℕ
 new_activation = λ s. (Ok (length s.heap.codes), record s { heap = record s.heap { codes = s.heap.codes ++ held.Null ∷ [] } })
 
-abbrev pub held_value : Plain → Value
-held_value Null = held.Null
-held_value (Int z) = held.Int z
+-- ---- var slots
+
+abbrev pub plain_of : Value → Option Plain
+plain_of held.Null = Some Null
+plain_of (held.Int z) = Some (Int z)
+plain_of _ = None
+
+unfoldable pub new_slot : Plain → Act ℕ
+new_slot v = λ s. (Ok (length s.heap.slots), record s { heap = record s.heap { slots = s.heap.slots ++ plain_cell v ∷ [] } })
+
+unfoldable pub write_told : ℕ → ℕ → Plain → Act Plain
+write_told act k v = do
+  tell (event.Wrote act k (held_value v))
+  give v
+
+unfoldable pub slot_read : ℕ → ℕ → Option Plain → Act Plain
+slot_read act k None = fail Unbuilt
+slot_read act k (Some v) = do
+  tell (event.Read act k (held_value v))
+  give v
+
+unfoldable pub slot_found : ℕ → ℕ → Option Cell → Act Plain
+slot_found act k None = fail Astray
+slot_found act k (Some c) = slot_read act k (plain_of c.value)
+
+-- the value of a slot, which is told
+unfoldable pub read_slot : ℕ → ℕ → Act Plain
+read_slot act k = λ s. slot_found act k (slice_get s.heap.slots k) s
+
+unfoldable pub slot_written : ℕ → ℕ → Plain → Option Cell → Act Plain
+slot_written act k v None = fail Astray
+slot_written act k v (Some c) = λ s. write_told act k v (record s { heap = record s.heap { slots = slice_set s.heap.slots k (record c { value = held_value v }) } })
+
+-- a slot is written, which is told
+unfoldable pub write_slot : ℕ → ℕ → Plain → Act Plain
+write_slot act k v = λ s. slot_written act k v (slice_get s.heap.slots k) s
 
 -- ---- nouns
 
--- the value of the last binding of a noun, or that one
-unfoldable pub found_from : Option Plain → List Binding → Words → Option Plain
+-- what the last binding of a noun binds it to, or that one
+unfoldable pub found_from : Option Bound → List Binding → Words → Option Bound
 found_from found [] x = found
-found_from found (b ∷ bs) x = found_from (if bytes_eq b.noun x then Some b.value else found) bs x
+found_from found (b ∷ bs) x = found_from (if bytes_eq b.noun x then Some b.bound else found) bs x
 
 unfoldable pub safe_plain : Option Value → Result Plain Exit
 safe_plain None = Err Astray
 safe_plain (Some held.Null) = Ok Null
 safe_plain _ = Err Unbuilt
 
-unfoldable pub noun_value_of : Option Plain → Words → Result Plain Exit
-noun_value_of (Some v) x = Ok v
-noun_value_of None x = safe_plain (safe_value x)
+unfoldable pub read_held : ℕ → Bound → Act Plain
+read_held act (Fixed v) = give v
+read_held act (Slot k) = read_slot act k
 
-unfoldable pub noun_value : Words → Scope → Result Plain Exit
-noun_value x here = noun_value_of (found_from None here.nouns x) x
+-- the value of a noun, by what it is bound to
+unfoldable pub read_bound : ℕ → Option Bound → Words → Act Plain
+read_bound act (Some b) x = read_held act b
+read_bound act None x = answer (safe_plain (safe_value x))
 
-abbrev pub with_noun : Words → Plain → Scope → Scope
-with_noun x v here = record here { nouns = here.nouns ++ record { noun = x; value = v } ∷ [] }
+unfoldable pub write_held : ℕ → Bound → Plain → Act Plain
+write_held act (Slot k) v = write_slot act k v
+write_held act (Fixed u) v = fail Astray
+
+unfoldable pub write_bound : ℕ → Option Bound → Plain → Act Plain
+write_bound act (Some b) v = write_held act b v
+write_bound act None v = fail Astray
+
+abbrev pub with_noun : Words → Bound → Scope → Scope
+with_noun x b here = record here { nouns = here.nouns ++ record { noun = x; bound = b } ∷ [] }
 
 -- ---- calls
 
@@ -200,28 +247,51 @@ unfoldable pub literal_value : Literal → Result Plain Exit
 literal_value (literal.Int z) = Ok (Int z)
 literal_value _ = Err Unbuilt
 
-unfoldable pub in_scope : Scope → Result Plain Exit → Act (Plain × Scope)
-in_scope here r = do
-  v ← answer r
+unfoldable pub literal_node : Literal → Scope → Act (Plain × Scope)
+literal_node l here = do
+  v ← answer (literal_value l)
   give (v, here)
 
+unfoldable pub noun_node : Words → Scope → Act (Plain × Scope)
+noun_node x here = do
+  v ← read_bound here.act (found_from None here.nouns x) x
+  give (v, here)
+
+-- what the noun stands for before the value is evaluated is written
+unfoldable pub set_node : Evaluator → Words → ℕ → Scope → Act (Plain × Scope)
+set_node rec x e here = do
+  v ← rec.expression e here
+  u ← write_bound here.act (found_from None here.nouns x) v.0
+  give (u, v.1)
+
 unfoldable pub step : Evaluator → Node → Scope → Act (Plain × Scope)
-step rec (Lit l) here = in_scope here (literal_value l)
-step rec (Noun x) here = in_scope here (noun_value x here)
+step rec (Lit l) here = literal_node l here
+step rec (Noun x) here = noun_node x here
+step rec (Set x e) here = set_node rec x e here
 step rec (Def p j e) here = define rec p j e here
 step rec (Call r verb args) here = call_node rec r verb args here
 step rec (Sequence es) here = last_of rec Null es here
 step rec (Final x g) here = fail Astray
+step rec (Var x g) here = fail Astray
 step rec _ here = fail Unbuilt
 
 unfoldable pub bind_final : Words → Option ℕ → Plain → Scope → Act Scope
-bind_final x None v here = give (with_noun x v here)
+bind_final x None v here = give (with_noun x (Fixed v) here)
 bind_final x (Some g) v here = fail Unbuilt
+
+unfoldable pub bind_var : Words → Option ℕ → Plain → Scope → Act Scope
+bind_var x (Some g) v here = fail Unbuilt
+bind_var x None v here = do
+  k ← new_slot v
+  tell (event.Slot here.act k (held_value v))
+  give (with_noun x (Slot k) here)
 
 unfoldable pub bind_step : Node → Plain → Scope → Act Scope
 bind_step (Final x g) v here = bind_final x g v here
+bind_step (Var x g) v here = bind_var x g v here
 bind_step (Lit l) v here = fail Astray
 bind_step (Noun x) v here = fail Astray
+bind_step (Set x e) v here = fail Astray
 bind_step (Def p j e) v here = fail Astray
 bind_step (Call r verb args) v here = fail Astray
 bind_step (Sequence es) v here = fail Astray
@@ -255,5 +325,5 @@ opening tree depth = do
 
 -- opens the steps, and not the recursions
 unfoldable pub opened_steps : Unit {0}
-unfolding and_then ◌>>=◌ ◌>>◌ give fail answer tell spent spend new_activation safe_plain noun_value_of noun_value sum added sum_of ended call_add call call_node define literal_value in_scope step bind_final bind_step step_found bind_found opening
+unfolding and_then ◌>>=◌ ◌>>◌ give fail answer tell spent spend new_activation new_slot write_told slot_read slot_found read_slot slot_written write_slot safe_plain read_held read_bound write_held write_bound sum added sum_of ended call_add call call_node define literal_value literal_node noun_node set_node step bind_final bind_var bind_step step_found bind_found opening
 opened_steps = tt

@@ -30,16 +30,19 @@ fn is_built_node(node: &Node) -> bool
     match node {
         Node::Lit(literal) => is_int(literal),
         Node::Noun(noun) => is_built_noun(noun.as_str()),
+        Node::Set(_, _) => true,
         Node::Def { exit, .. } => exit.is_none(),
         Node::Call { verb, .. } => verb.as_str() == "add",
         Node::Sequence(_) => true,
         Node::Final(_, guard) => guard.is_none(),
+        Node::Var(_, guard) => guard.is_none(),
         _ => false,
     }
 }
 
 /// Whether each node of a program is of a kind that is evaluated so far: a literal of an integer, a noun that is `null` or not
-/// in the safe scope, a definition without an ejector, a call of `add`, a sequence, or a final pattern without a guard.
+/// in the safe scope, an assignment, a definition without an ejector, a call of `add`, a sequence, or a final or var pattern
+/// without a guard.
 #[tactic(auto, unfolding(crate::specs::Built::is_built))]
 pub fn is_built(program: &Kernel) -> bool
     ensures { result ≡ is_built program.now }

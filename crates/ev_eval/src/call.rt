@@ -3,7 +3,8 @@
 ghost use Rattle.std.specs.Prelude.{◌≡◌, None, IfOk, map, codes};
 ghost use Rattle.std.specs.Str.{bytes_eq};
 ghost use Rattle.ev_heap.specs.declared.happened.Happened.TheVariants.{Call};
-ghost use Rattle.ev_eval.specs.Steps.{Gives, added, call, call_add, ended, held_value, problem_id, sum, sum_of};
+ghost use Rattle.ev_eval.specs.Plain.{held_value};
+ghost use Rattle.ev_eval.specs.Steps.{Gives, added, call, call_add, ended, problem_id, sum, sum_of};
 
 use crate::exit::{Exit, Problem};
 use crate::plain::{Plain, held_value, held_values};

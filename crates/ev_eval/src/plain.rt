@@ -1,7 +1,7 @@
 //! The values of what is built.
 
 ghost use Rattle.std.specs.Prelude.{◌≡◌, map, IfOk};
-ghost use Rattle.ev_eval.specs.Steps.{held_value};
+ghost use Rattle.ev_eval.specs.Plain.{held_value};
 
 use ev_base::{Memory, Seq, Value};
 use std::alloc::Global;

@@ -81,3 +81,21 @@ fn problems(rt: HostRuntime) -> Result<(), Fail> {
     assert_eq!(rt; run(alloc, "(hide (lit 1))", 9, 9)?, None);
     Ok(())
 }
+
+#[test]
+fn slots(rt: HostRuntime) -> Result<(), Fail> {
+    let alloc = rt.alloc();
+    let more = "(seq (def (var n) (lit 1)) (set n (call (noun n) add (lit 4))) (noun n))";
+    let five = Ended::Value(Value::Int(5));
+    assert_eq!(rt; run(alloc, more, 9, 4)?, some(five, 0, 6));
+    let hidden = "(seq (def (var n) (lit 1)) (set n (seq (def (final n) (lit 7)) (noun n))))";
+    let seven = Ended::Value(Value::Int(7));
+    assert_eq!(rt; run(alloc, hidden, 10, 9)?, some(seven, 0, 2));
+    let fixed = "(seq (def (final n) (lit 1)) (set n (lit 2)))";
+    assert_eq!(rt; run(alloc, fixed, 9, 9)?, some(Ended::Astray, 3, 0));
+    assert_eq!(rt;
+        run(alloc, "(set x (lit 1))", 9, 9)?,
+        some(Ended::Astray, 7, 0)
+    );
+    Ok(())
+}

@@ -5,7 +5,7 @@ use Rattle.ev_machine.specs.Values.{Words, Value, Null, Flag, Number, Text, Prim
 use Rattle.ev_machine.specs.State.{Bound, Binding, Scope, Cell, FreeName, View, Thing, Made, Ejector, Audition, Resolver, Message, Standing, Unsettled, WaitsOn, Viewed, Settled, Known, Change, Hold, Wait, WaitOn, See, React, ToTell, Settle, Passed, Passeds, Note, Put, GiftEntry, Happened, Vat, Stop, Done, Gives, Throws, Ejects, Stops, Act, ◌>>=◌, ◌>>◌, and_then, for_some, end_by, ending, each, give, throw, stop, eject, look, tell, spend, spent, new_activation, new_thing, kill, change, dead, new_slot, holding, write_slot, new_list, enqueue, send_out, new_gift, open_gift, mark, draws, with_change, changed, changed_to, unless_settled, alter, come, mail, new_promise, new_message, draw, begun}
 use Rattle.ev_machine.specs.Refs.{Place, Parcel}
 use Rattle.ev_machine.specs.Native.{Reply, Says, Writes, Lists as Listed, Iterates, Fails, Asked, MakesList, Ranges, Same, Compares, Loops, SendsTo, CallsTo, MakesPromise, Breaks, Tells, Whens, ThrowsIt, IsStamped, Coerces, AddsNull, NoMethod}
-use Rattle.ev_machine.specs.Eval.{meets, Answer, Answers, AuditionAsk, GetsForm, GetsGuard, Asks, NoAuditionAsk, ResolverAsk, Resolves, Smashes, NoResolverAsk}
+use Rattle.ev_machine.specs.Scopes.{meets, Answer, Answers, AuditionAsk, GetsForm, GetsGuard, Asks, NoAuditionAsk, ResolverAsk, Resolves, Smashes, NoResolverAsk}
 use Rattle.ev_machine_laws.proofs.StepLaws.{get_append}
 use Rattle.ev_frozen_laws.specs.Frozen.{AllOf, IsAmong, Lists, IsThere, AreThere, MessageThere, KnownThere, CellThere, ViewThere, Passes, AllPass, NotePasses, BoundWell, NounWell, ThingWell, SoundParts, Sound, deep_frozen}
 use Rattle.ev_frozen_laws.proofs.Facts.{Grows, all_map, all_end, there_up, message_up, known_up, cell_up, view_up, bound_up, noun_up, thing_up}

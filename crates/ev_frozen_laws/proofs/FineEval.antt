@@ -8,8 +8,11 @@ use Rattle.ev_machine.specs.Form.{Item, Begin, End, Word, Fact as Fixing, litera
 use Rattle.ev_machine.specs.Free.{BoundNoun, same_words, bound_nouns}
 use Rattle.ev_machine.specs.Native as native
 use Rattle.ev_machine.specs.Native.{Reply, Says, Writes, Lists as Listed, Iterates, Fails, Guard, guard_name, native_guard, primitive, Primitive, MakeList, Equalizer, Comparer, Looper, Sender, References, Thrower, StampReader, Guarding, NoPrimitive, Asked, MakesList, Ranges, Same, Compares, Loops, SendsTo, CallsTo, MakesPromise, Breaks, Tells, Whens, ThrowsIt, IsStamped, Coerces, AddsNull, NoMethod}
+use Rattle.ev_machine.specs.Scopes as scopes
+use Rattle.ev_machine.specs.Perform as perform
+use Rattle.ev_machine.specs.Calls as calls
 use Rattle.ev_machine.specs.Eval as eval
-use Rattle.ev_machine.specs.Eval.{meets, any_guard, frozen_guard, freezes, Answer, Answers, Evaluator, Caller, Body, Case, AuditionAsk, GetsForm, GetsGuard, Asks, NoAuditionAsk, ResolverAsk, Resolves, Smashes, NoResolverAsk}
+use Rattle.ev_machine.specs.Scopes.{meets, any_guard, frozen_guard, freezes, Answer, Answers, Evaluator, Caller, Body, Case, AuditionAsk, GetsForm, GetsGuard, Asks, NoAuditionAsk, ResolverAsk, Resolves, Smashes, NoResolverAsk}
 use Rattle.ev_kernel.specs.declared.node.Node.{Node}
 use Rattle.ev_kernel.specs.declared.node.Node.TheVariants.{Lit, Noun, Set, Def, Call, Sequence, If, Escape, Try, Finally, Hide, MatchBind, Object, Final, Var, Any, ListPattern, Via}
 use Rattle.ev_frozen_laws.specs.Frozen.{AllOf, IsAmong, Lists, IsThere, AreThere, IsFrozen, BoundWell, NounWell, FrozenCapture, ThingWell, NamesWell, TreeWell, Sound, deep_frozen}
@@ -29,53 +32,53 @@ pub record GoodEvaluator {N W : Type 0} (K : Naming N W) (rec : Evaluator N) : T
   pub pattern : (C : Fact N) (id : ℕ) (v : Value N) → Gets K C (IsValue v) → (j : Value N) → Gets K C (IsValue j) → (here : Scope N) → Gets K C (AreNouns here.nouns) → Fine K C (rec.pattern id v j here) scope
 
 module _ {N W : Type 0} (K : Naming N W) (spots : (i : ℕ) → K.spot (K.object i) ≡ Own i) (tree : List Node) (trees : TreeWell tree) where
-  pub fine_answered : {C : Fact N} → (x1 : Scope N) → Gets K C (AreNouns x1.nouns) → (x2 : Value N) → Gets K C (IsValue x2) → Fine K C (eval.answered x1 x2) answer
-  unfolding eval.answered
+  pub fine_answered : {C : Fact N} → (x1 : Scope N) → Gets K C (AreNouns x1.nouns) → (x2 : Value N) → Gets K C (IsValue x2) → Fine K C (scopes.answered x1 x2) answer
+  unfolding scopes.answered
   fine_answered {C = C} here g1 v g2 = search (fine, looks, knows) depth 30
 
-  pub fine_read_cell : {C : Fact N} → (x1 : ℕ) → (x2 : ℕ) → (x3 : Option (Cell N)) → Gets K C (MayCell x3) → Fine K C (eval.read_cell x1 x2 x3) IsValue
-  unfolding eval.read_cell
+  pub fine_read_cell : {C : Fact N} → (x1 : ℕ) → (x2 : ℕ) → (x3 : Option (Cell N)) → Gets K C (MayCell x3) → Fine K C (scopes.read_cell x1 x2 x3) IsValue
+  unfolding scopes.read_cell
   fine_read_cell {C = C} act k None g1 = search (fine, looks, knows) depth 30
   fine_read_cell {C = C} act k (Some c) g1 = let dg_g1 : Gets K C (IsValue c.guard) = record { at = λ ts ls h. (g1.at ts ls h).0 } in let dv_g1 : Gets K C (IsValue c.value) = record { at = λ ts ls h. (g1.at ts ls h).1 } in search (fine, looks, knows) depth 30
 
-  pub fine_read_bound : {C : Fact N} → (x1 : ℕ) → (x2 : Option (Bound N)) → Gets K C (MayBound x2) → (x3 : Words) → Fine K C (eval.read_bound x1 x2 x3) IsValue
-  unfolding eval.read_bound
+  pub fine_read_bound : {C : Fact N} → (x1 : ℕ) → (x2 : Option (Bound N)) → Gets K C (MayBound x2) → (x3 : Words) → Fine K C (scopes.read_bound x1 x2 x3) IsValue
+  unfolding scopes.read_bound
   fine_read_bound {C = C} act (Some (Fixed v g)) g1 x = let d_g1 : Gets K C (IsValue v) = record { at = λ ts ls h. (g1.at ts ls h).0 } in search (fine, looks, knows) depth 30
   fine_read_bound {C = C} act (Some (Slot k)) g1 x = search (fine, looks, knows, fine_read_cell) depth 30
   fine_read_bound {C = C} act None g1 x = search (fine, looks, knows) depth 30
 
-  pub fine_ended : {C : Fact N} → (x1 : ℕ) → (x2 : Act N (Value N)) → Fine K C x2 IsValue → Fine K C (eval.ended x1 x2) IsValue
-  unfolding eval.ended
+  pub fine_ended : {C : Fact N} → (x1 : ℕ) → (x2 : Act N (Value N)) → Fine K C x2 IsValue → Fine K C (scopes.ended x1 x2) IsValue
+  unfolding scopes.ended
   fine_ended {C = C} act m h2 = search (fine, looks, knows) depth 30
 
-  pub fine_with_lines : {C : Fact N} → (x1 : ℕ) → (x2 : Value N) → Gets K C (IsValue x2) → (x3 : Words) → (x4 : List (Value N)) → Gets K C (AreValues x4) → (x5 : Act N (Value N)) → Fine K C x5 IsValue → Fine K C (eval.with_lines x1 x2 x3 x4 x5) IsValue
-  unfolding eval.with_lines
+  pub fine_with_lines : {C : Fact N} → (x1 : ℕ) → (x2 : Value N) → Gets K C (IsValue x2) → (x3 : Words) → (x4 : List (Value N)) → Gets K C (AreValues x4) → (x5 : Act N (Value N)) → Fine K C x5 IsValue → Fine K C (scopes.with_lines x1 x2 x3 x4 x5) IsValue
+  unfolding scopes.with_lines
   fine_with_lines {C = C} act x g1 verb args g2 m h5 = search (fine, looks, knows, fine_ended) depth 30
 
-  pub fine_fail_by : {C : Fact N} → {A : Type 0} → {G : A → Fact N} → (x1 : Caller N) → GoodCaller K x1 → (x2 : ℕ) → (x3 : Value N) → Gets K C (IsValue x3) → (x4 : Words) → (x5 : Bool) → Fine K C (eval.fail_by K tree {A = A} x1 x2 x3 x4 x5) G
-  unfolding eval.fail_by
+  pub fine_fail_by : {C : Fact N} → {A : Type 0} → {G : A → Fact N} → (x1 : Caller N) → GoodCaller K x1 → (x2 : ℕ) → (x3 : Value N) → Gets K C (IsValue x3) → (x4 : Words) → (x5 : Bool) → Fine K C (perform.fail_by K tree {A = A} x1 x2 x3 x4 x5) G
+  unfolding perform.fail_by
   fine_fail_by {C = C} again h1 act j g1 p true = search (fine, looks, knows) depth 30
   fine_fail_by {C = C} again h1 act j g1 p false = search (fine, looks, knows) depth 30
 
-  pub fine_failed : {C : Fact N} → {A : Type 0} → {G : A → Fact N} → (x1 : Caller N) → GoodCaller K x1 → (x2 : ℕ) → (x3 : Value N) → Gets K C (IsValue x3) → (x4 : Words) → Fine K C (eval.failed K tree {A = A} x1 x2 x3 x4) G
-  unfolding eval.failed
+  pub fine_failed : {C : Fact N} → {A : Type 0} → {G : A → Fact N} → (x1 : Caller N) → GoodCaller K x1 → (x2 : ℕ) → (x3 : Value N) → Gets K C (IsValue x3) → (x4 : Words) → Fine K C (perform.failed K tree {A = A} x1 x2 x3 x4) G
+  unfolding perform.failed
   fine_failed {C = C} again h1 act j g1 p = search (fine, looks, knows, fine_fail_by) depth 30
 
-  pub fine_handed : {C : Fact N} → (x1 : Value N) → Gets K C (IsValue x1) → Fine K C (eval.handed K tree x1) IsValue
-  unfolding eval.handed
+  pub fine_handed : {C : Fact N} → (x1 : Value N) → Gets K C (IsValue x1) → Fine K C (perform.handed K tree x1) IsValue
+  unfolding perform.handed
   fine_handed {C = C} j g1 = search (fine, looks, knows) depth 30
 
-  pub fine_native_coerce : {C : Fact N} → (again : Caller N) → GoodCaller K again → (act : ℕ) → (g : Guard) → (j : Value N) → Gets K C (IsValue j) → (x : Value N) → Gets K C (IsValue x) → Fine K C (eval.native_coerce K tree again act g j x) IsValue
-  unfolding eval.native_coerce
+  pub fine_native_coerce : {C : Fact N} → (again : Caller N) → GoodCaller K again → (act : ℕ) → (g : Guard) → (j : Value N) → Gets K C (IsValue j) → (x : Value N) → Gets K C (IsValue x) → Fine K C (perform.native_coerce K tree again act g j x) IsValue
+  unfolding perform.native_coerce
   fine_native_coerce {C = C} again h1 act g j g1 x g2 = search (fine, looks, knows, fine_failed) depth 30
 
-  native_bound : {C : Fact N} → (again : Caller N) → GoodCaller K again → (act n : ℕ) → (g : Guard) → primitive n ≡ Guarding g → (j : Value N) → Gets K C (IsValue j) → (x : Value N) → Gets K C (IsValue x) → Fine K C (eval.native_coerce K tree again act g j x) (λ v. IsBound (Fixed v (Prim n)))
-  unfolding eval.native_coerce
+  native_bound : {C : Fact N} → (again : Caller N) → GoodCaller K again → (act n : ℕ) → (g : Guard) → primitive n ≡ Guarding g → (j : Value N) → Gets K C (IsValue j) → (x : Value N) → Gets K C (IsValue x) → Fine K C (perform.native_coerce K tree again act g j x) (λ v. IsBound (Fixed v (Prim n)))
+  unfolding perform.native_coerce
   native_bound {C = C} again h1 act n g e j g1 x g2 = fine_bind K (λ o. MayBound (under K (Prim n) o)) (look_bound K tree n g e x g2)
       (λ o. some_bound K (Prim n) o (got K C (MayBound (under K (Prim n) o))) (fine_failed {C = Also C (MayBound (under K (Prim n) o))} again h1 act j (got_left K C (MayBound (under K (Prim n) o)) (IsValue j) g1) (codes "not " ++ guard_name g)))
 
-  coerce_prim : {C : Fact N} → (again : Caller N) → GoodCaller K again → (act n : ℕ) → (p : Primitive) → primitive n ≡ p → (j : Value N) → Gets K C (IsValue j) → (x : Value N) → Gets K C (IsValue x) → Fine K C (eval.coerce_native K tree again act (native_guard p) j x) (λ v. IsBound (Fixed v (Prim n)))
-  unfolding eval.coerce_native native_guard
+  coerce_prim : {C : Fact N} → (again : Caller N) → GoodCaller K again → (act n : ℕ) → (p : Primitive) → primitive n ≡ p → (j : Value N) → Gets K C (IsValue j) → (x : Value N) → Gets K C (IsValue x) → Fine K C (perform.coerce_native K tree again act (native_guard p) j x) (λ v. IsBound (Fixed v (Prim n)))
+  unfolding perform.coerce_native native_guard
   coerce_prim {C = C} again h1 act n (Guarding g) e j g1 x g2 = native_bound again h1 act n g e j g1 x g2
   coerce_prim {C = C} again h1 act n MakeList e j g1 x g2 = fine_throw K _
   coerce_prim {C = C} again h1 act n Equalizer e j g1 x g2 = fine_throw K _
@@ -87,15 +90,15 @@ module _ {N W : Type 0} (K : Naming N W) (spots : (i : ℕ) → K.spot (K.object
   coerce_prim {C = C} again h1 act n StampReader e j g1 x g2 = fine_throw K _
   coerce_prim {C = C} again h1 act n NoPrimitive e j g1 x g2 = fine_throw K _
 
-  pub fine_coerce_near : {C : Fact N} → (x1 : Caller N) → GoodCaller K x1 → (x2 : ℕ) → (x3 : Value N) → Gets K C (IsValue x3) → (x4 : Value N) → Gets K C (IsValue x4) → (x5 : Value N) → Gets K C (IsValue x5) → (x6 : Place N) → Fine K C (eval.coerce_near K tree x1 x2 x3 x4 x5 x6) IsValue
-  unfolding eval.coerce_near
+  pub fine_coerce_near : {C : Fact N} → (x1 : Caller N) → GoodCaller K x1 → (x2 : ℕ) → (x3 : Value N) → Gets K C (IsValue x3) → (x4 : Value N) → Gets K C (IsValue x4) → (x5 : Value N) → Gets K C (IsValue x5) → (x6 : Place N) → Fine K C (perform.coerce_near K tree x1 x2 x3 x4 x5 x6) IsValue
+  unfolding perform.coerce_near
   fine_coerce_near {C = C} again h1 act g g1 j g2 x g3 Near = search (fine, looks, knows, fine_handed) depth 30
   fine_coerce_near {C = C} again h1 act g g1 j g2 x g3 _ = search (fine, looks, knows) depth 30
 
-  pub coerce_bound : {C : Fact N} → (again : Caller N) → GoodCaller K again → (act : ℕ) → (g : Value N) → Gets K C (IsValue g) → (j : Value N) → Gets K C (IsValue j) → (x : Value N) → Gets K C (IsValue x) → Fine K C (eval.coerce K tree again act g j x) (λ v. IsBound (Fixed v g))
-  unfolding eval.coerce
+  pub coerce_bound : {C : Fact N} → (again : Caller N) → GoodCaller K again → (act : ℕ) → (g : Value N) → Gets K C (IsValue g) → (j : Value N) → Gets K C (IsValue j) → (x : Value N) → Gets K C (IsValue x) → Fine K C (perform.coerce K tree again act g j x) (λ v. IsBound (Fixed v g))
+  unfolding perform.coerce
   coerce_bound {C = C} again h1 act (Prim n) g0 j g1 x g2 = coerce_prim again h1 act n (primitive n) refl j g1 x g2
-  coerce_bound {C = C} again h1 act (Ref n) g0 j g1 x g2 = let all : Fine K C (eval.coerce K tree again act (Ref n) j x) IsValue = search (fine, looks, knows, fine_coerce_near) depth 30 in fine_more K IsValue (λ v. IsBound (Fixed v (Ref n))) all (λ v. got_unguarded K v n)
+  coerce_bound {C = C} again h1 act (Ref n) g0 j g1 x g2 = let all : Fine K C (perform.coerce K tree again act (Ref n) j x) IsValue = search (fine, looks, knows, fine_coerce_near) depth 30 in fine_more K IsValue (λ v. IsBound (Fixed v (Ref n))) all (λ v. got_unguarded K v n)
   coerce_bound {C = C} again h1 act Null g0 j g1 x g2 = fine_throw K _
   coerce_bound {C = C} again h1 act (Flag b) g0 j g1 x g2 = fine_throw K _
   coerce_bound {C = C} again h1 act (Number z) g0 j g1 x g2 = fine_throw K _
@@ -104,90 +107,90 @@ module _ {N W : Type 0} (K : Naming N W) (spots : (i : ℕ) → K.spot (K.object
   coerce_bound {C = C} again h1 act (Broken t) g0 j g1 x g2 = fine_throw K _
   coerce_bound {C = C} again h1 act (Items k) g0 j g1 x g2 = fine_throw K _
 
-  pub fine_coerce : {C : Fact N} → (again : Caller N) → GoodCaller K again → (act : ℕ) → (g : Value N) → Gets K C (IsValue g) → (j : Value N) → Gets K C (IsValue j) → (x : Value N) → Gets K C (IsValue x) → Fine K C (eval.coerce K tree again act g j x) IsValue
+  pub fine_coerce : {C : Fact N} → (again : Caller N) → GoodCaller K again → (act : ℕ) → (g : Value N) → Gets K C (IsValue g) → (j : Value N) → Gets K C (IsValue j) → (x : Value N) → Gets K C (IsValue x) → Fine K C (perform.coerce K tree again act g j x) IsValue
   fine_coerce {C = C} again h1 act g g0 j g1 x g2 = fine_more K (λ v. IsBound (Fixed v g)) IsValue (coerce_bound again h1 act g g0 j g1 x g2) (λ v. got_of_bound K v g)
 
-  pub fine_store : {C : Fact N} → (x1 : ℕ) → (x2 : List (Value N)) → Gets K C (AreValues x2) → Fine K C (eval.store K tree x1 x2) IsValue
-  unfolding eval.store
+  pub fine_store : {C : Fact N} → (x1 : ℕ) → (x2 : List (Value N)) → Gets K C (AreValues x2) → Fine K C (perform.store K tree x1 x2) IsValue
+  unfolding perform.store
   fine_store {C = C} act vs g1 = search (fine, looks, knows) depth 30
 
-  pub fine_make_list : {C : Fact N} → (x1 : ℕ) → (x2 : List (Value N)) → Gets K C (AreValues x2) → Fine K C (eval.make_list K tree x1 x2) IsValue
-  unfolding eval.make_list
+  pub fine_make_list : {C : Fact N} → (x1 : ℕ) → (x2 : List (Value N)) → Gets K C (AreValues x2) → Fine K C (perform.make_list K tree x1 x2) IsValue
+  unfolding perform.make_list
   fine_make_list {C = C} act vs g1 = search (fine, looks, knows, fine_store) depth 30
 
-  pub fine_spell : {C : Fact N} → (x1 : Words) → Fine K C (eval.spell K tree x1) IsValue
-  unfolding eval.spell
+  pub fine_spell : {C : Fact N} → (x1 : Words) → Fine K C (perform.spell K tree x1) IsValue
+  unfolding perform.spell
   fine_spell {C = C} t = search (fine, looks, knows) depth 30
 
-  pub fine_write_text : {C : Fact N} → (x1 : Words) → Fine K C (eval.write_text K tree x1) IsValue
-  unfolding eval.write_text
+  pub fine_write_text : {C : Fact N} → (x1 : Words) → Fine K C (perform.write_text K tree x1) IsValue
+  unfolding perform.write_text
   fine_write_text {C = C} t = search (fine, looks, knows, fine_spell) depth 30
 
-  pub fine_iterate : {C : Fact N} → (x1 : Caller N) → GoodCaller K x1 → (x2 : ℕ) → (x3 : Value N) → Gets K C (IsValue x3) → (x4 : ℕ) → (x5 : List (Value N)) → Gets K C (AreValues x5) → Fine K C (eval.iterate K tree x1 x2 x3 x4 x5) IsValue
-  unfolding eval.iterate
+  pub fine_iterate : {C : Fact N} → (x1 : Caller N) → GoodCaller K x1 → (x2 : ℕ) → (x3 : Value N) → Gets K C (IsValue x3) → (x4 : ℕ) → (x5 : List (Value N)) → Gets K C (AreValues x5) → Fine K C (perform.iterate K tree x1 x2 x3 x4 x5) IsValue
+  unfolding perform.iterate
   fine_iterate {C = C} again h act o g1 k [] g2 = search (fine, looks, knows) depth 30
-  fine_iterate {C = C} again h act o g1 k (v ∷ vs) g2 = let d0_g2 : Gets K C (IsValue v) = record { at = λ ts ls h. (g2.at ts ls h).0 } in let d1_g2 : Gets K C (AreValues vs) = record { at = λ ts ls h. (g2.at ts ls h).1 } in let rest : (D : Fact N) → Gets K D (IsValue o) → Gets K D (AreValues vs) → Fine K D (eval.iterate K tree again act o (suc k) vs) IsValue = λ D a b. fine_iterate {C = D} again h act o a (suc k) vs b in search (fine, looks, knows) depth 30
+  fine_iterate {C = C} again h act o g1 k (v ∷ vs) g2 = let d0_g2 : Gets K C (IsValue v) = record { at = λ ts ls h. (g2.at ts ls h).0 } in let d1_g2 : Gets K C (AreValues vs) = record { at = λ ts ls h. (g2.at ts ls h).1 } in let rest : (D : Fact N) → Gets K D (IsValue o) → Gets K D (AreValues vs) → Fine K D (perform.iterate K tree again act o (suc k) vs) IsValue = λ D a b. fine_iterate {C = D} again h act o a (suc k) vs b in search (fine, looks, knows) depth 30
 
-  pub fine_reply : {C : Fact N} → (x1 : Caller N) → GoodCaller K x1 → (x2 : ℕ) → (x3 : Reply N) → Gets K C (IsReply x3) → Fine K C (eval.reply K tree x1 x2 x3) IsValue
-  unfolding eval.reply
+  pub fine_reply : {C : Fact N} → (x1 : Caller N) → GoodCaller K x1 → (x2 : ℕ) → (x3 : Reply N) → Gets K C (IsReply x3) → Fine K C (perform.reply K tree x1 x2 x3) IsValue
+  unfolding perform.reply
   fine_reply {C = C} again h1 act (Says v) g1 = let d_g1 : Gets K C (IsValue v) = record { at = λ ts ls h. (g1.at ts ls h) } in search (fine, looks, knows) depth 30
   fine_reply {C = C} again h1 act (Writes t) g1 = search (fine, looks, knows, fine_write_text) depth 30
   fine_reply {C = C} again h1 act (Listed vs) g1 = let d_g1 : Gets K C (AreValues vs) = record { at = λ ts ls h. (g1.at ts ls h) } in search (fine, looks, knows, fine_make_list) depth 30
   fine_reply {C = C} again h1 act (Iterates o vs) g1 = let do_g1 : Gets K C (IsValue o) = record { at = λ ts ls h. (g1.at ts ls h).0 } in let d_g1 : Gets K C (AreValues vs) = record { at = λ ts ls h. (g1.at ts ls h).1 } in search (fine, looks, knows, fine_iterate) depth 30
   fine_reply {C = C} again h1 act (Fails p) g1 = search (fine, looks, knows) depth 30
 
-  pub fine_data_answer : {C : Fact N} → (x1 : Caller N) → GoodCaller K x1 → (x2 : ℕ) → (x3 : Value N) → Gets K C (IsValue x3) → (x4 : Words) → (x5 : List (Value N)) → Gets K C (AreValues x5) → Fine K C (eval.data_answer K tree x1 x2 x3 x4 x5) IsValue
-  unfolding eval.data_answer
+  pub fine_data_answer : {C : Fact N} → (x1 : Caller N) → GoodCaller K x1 → (x2 : ℕ) → (x3 : Value N) → Gets K C (IsValue x3) → (x4 : Words) → (x5 : List (Value N)) → Gets K C (AreValues x5) → Fine K C (perform.data_answer K tree x1 x2 x3 x4 x5) IsValue
+  unfolding perform.data_answer
   fine_data_answer {C = C} again h1 act y g1 verb args g2 = search (fine, looks, knows, fine_reply) depth 30
 
-  pub fine_send_listed : {C : Fact N} → (x1 : ℕ) → (x2 : Value N) → Gets K C (IsValue x2) → (x3 : Words) → (x4 : List (Value N)) → Gets K C (AreValues x4) → Fine K C (eval.send_listed K tree x1 x2 x3 x4) IsValue
-  unfolding eval.send_listed
+  pub fine_send_listed : {C : Fact N} → (x1 : ℕ) → (x2 : Value N) → Gets K C (IsValue x2) → (x3 : Words) → (x4 : List (Value N)) → Gets K C (AreValues x4) → Fine K C (perform.send_listed K tree x1 x2 x3 x4) IsValue
+  unfolding perform.send_listed
   fine_send_listed {C = C} act x g1 verb args g2 = search (fine, looks, knows, fine_send) depth 30
 
-  pub fine_send_with : {C : Fact N} → (x1 : ℕ) → (x2 : Value N) → Gets K C (IsValue x2) → (x3 : Value N) → Gets K C (IsValue x3) → (x4 : Value N) → Gets K C (IsValue x4) → Fine K C (eval.send_with K tree x1 x2 x3 x4) IsValue
-  unfolding eval.send_with
+  pub fine_send_with : {C : Fact N} → (x1 : ℕ) → (x2 : Value N) → Gets K C (IsValue x2) → (x3 : Value N) → Gets K C (IsValue x3) → (x4 : Value N) → Gets K C (IsValue x4) → Fine K C (perform.send_with K tree x1 x2 x3 x4) IsValue
+  unfolding perform.send_with
   fine_send_with {C = C} act x g1 (Text verb) g2 (Items k) g3 = search (fine, looks, knows, fine_send_listed) depth 30
   fine_send_with {C = C} act x g1 _ g2 _ g3 = search (fine, looks, knows) depth 30
 
-  pub fine_call_listed : {C : Fact N} → (x1 : Caller N) → GoodCaller K x1 → (x2 : ℕ) → (x3 : Value N) → Gets K C (IsValue x3) → (x4 : Words) → (x5 : List (Value N)) → Gets K C (AreValues x5) → Fine K C (eval.call_listed K tree x1 x2 x3 x4 x5) IsValue
-  unfolding eval.call_listed
+  pub fine_call_listed : {C : Fact N} → (x1 : Caller N) → GoodCaller K x1 → (x2 : ℕ) → (x3 : Value N) → Gets K C (IsValue x3) → (x4 : Words) → (x5 : List (Value N)) → Gets K C (AreValues x5) → Fine K C (perform.call_listed K tree x1 x2 x3 x4 x5) IsValue
+  unfolding perform.call_listed
   fine_call_listed {C = C} again h1 act x g1 verb args g2 = search (fine, looks, knows) depth 30
 
-  pub fine_call_with : {C : Fact N} → (x1 : Caller N) → GoodCaller K x1 → (x2 : ℕ) → (x3 : Value N) → Gets K C (IsValue x3) → (x4 : Value N) → Gets K C (IsValue x4) → (x5 : Value N) → Gets K C (IsValue x5) → Fine K C (eval.call_with K tree x1 x2 x3 x4 x5) IsValue
-  unfolding eval.call_with
+  pub fine_call_with : {C : Fact N} → (x1 : Caller N) → GoodCaller K x1 → (x2 : ℕ) → (x3 : Value N) → Gets K C (IsValue x3) → (x4 : Value N) → Gets K C (IsValue x4) → (x5 : Value N) → Gets K C (IsValue x5) → Fine K C (perform.call_with K tree x1 x2 x3 x4 x5) IsValue
+  unfolding perform.call_with
   fine_call_with {C = C} again h1 act x g1 (Text verb) g2 (Items k) g3 = search (fine, looks, knows, fine_call_listed) depth 30
   fine_call_with {C = C} again h1 act x g1 _ g2 _ g3 = search (fine, looks, knows) depth 30
 
-  pub fine_make_promise : {C : Fact N} → (x1 : ℕ) → Fine K C (eval.make_promise K tree x1) IsValue
-  unfolding eval.make_promise
+  pub fine_make_promise : {C : Fact N} → (x1 : ℕ) → Fine K C (perform.make_promise K tree x1) IsValue
+  unfolding perform.make_promise
   fine_make_promise {C = C} act = search (fine, looks, knows, fine_make_list) depth 30
 
-  pub fine_react_near : {C : Fact N} → (x1 : ℕ) → (x2 : Value N) → Gets K C (IsValue x2) → (x3 : Value N) → Gets K C (IsValue x3) → (x4 : Value N) → Gets K C (IsValue x4) → (x5 : Place N) → Fine K C (eval.react_near K tree x1 x2 x3 x4 x5) IsValue
-  unfolding eval.react_near
+  pub fine_react_near : {C : Fact N} → (x1 : ℕ) → (x2 : Value N) → Gets K C (IsValue x2) → (x3 : Value N) → Gets K C (IsValue x3) → (x4 : Value N) → Gets K C (IsValue x4) → (x5 : Place N) → Fine K C (perform.react_near K tree x1 x2 x3 x4 x5) IsValue
+  unfolding perform.react_near
   fine_react_near {C = C} act x g1 o g2 y g3 Near = search (fine, looks, knows, fine_react) depth 30
   fine_react_near {C = C} act x g1 o g2 y g3 _ = search (fine, looks, knows) depth 30
 
-  pub fine_when_resolved : {C : Fact N} → (x1 : ℕ) → (x2 : Value N) → Gets K C (IsValue x2) → (x3 : Value N) → Gets K C (IsValue x3) → Fine K C (eval.when_resolved K tree x1 x2 x3) IsValue
-  unfolding eval.when_resolved
+  pub fine_when_resolved : {C : Fact N} → (x1 : ℕ) → (x2 : Value N) → Gets K C (IsValue x2) → (x3 : Value N) → Gets K C (IsValue x3) → Fine K C (perform.when_resolved K tree x1 x2 x3) IsValue
+  unfolding perform.when_resolved
   fine_when_resolved {C = C} act x g1 o g2 = search (fine, looks, knows, fine_react_near) depth 30
 
-  pub fine_after_turn : {C : Fact N} → (x1 : Act N (Value N)) → Fine K C x1 IsValue → (x2 : Value N) → Gets K C (IsValue x2) → Fine K C (eval.after_turn K tree x1 x2) IsValue
-  unfolding eval.after_turn
+  pub fine_after_turn : {C : Fact N} → (x1 : Act N (Value N)) → Fine K C x1 IsValue → (x2 : Value N) → Gets K C (IsValue x2) → Fine K C (perform.after_turn K tree x1 x2) IsValue
+  unfolding perform.after_turn
   fine_after_turn {C = C} more h1 (Flag true) g1 = search (fine, looks, knows) depth 30
   fine_after_turn {C = C} more h1 (Flag false) g1 = search (fine, looks, knows) depth 30
   fine_after_turn {C = C} more h1 _ g1 = search (fine, looks, knows) depth 30
 
-  pub fine_turns : {C : Fact N} → (x1 : ℕ) → (x2 : Act N (Value N)) → Fine K C x2 IsValue → Fine K C (eval.turns K tree x1 x2) IsValue
-  unfolding eval.turns
+  pub fine_turns : {C : Fact N} → (x1 : ℕ) → (x2 : Act N (Value N)) → Fine K C x2 IsValue → Fine K C (perform.turns K tree x1 x2) IsValue
+  unfolding perform.turns
   fine_turns {C = C} zero body h = search (fine, looks, knows) depth 30
-  fine_turns {C = C} (suc n) body h = let rest : (x y : Value N) → Fine K (Also (Also C (IsValue x)) (IsValue y)) (λ s. eval.turns K tree n body s) IsValue = λ x y. fine_left K (fine_left K (fine_turns {C = C} n body h)) in search (fine, looks, knows, fine_after_turn) depth 30
+  fine_turns {C = C} (suc n) body h = let rest : (x y : Value N) → Fine K (Also (Also C (IsValue x)) (IsValue y)) (λ s. perform.turns K tree n body s) IsValue = λ x y. fine_left K (fine_left K (fine_turns {C = C} n body h)) in search (fine, looks, knows, fine_after_turn) depth 30
 
-  pub fine_loop : {C : Fact N} → (x1 : Act N (Value N)) → Fine K C x1 IsValue → Fine K C (eval.loop K tree x1) IsValue
-  unfolding eval.loop
+  pub fine_loop : {C : Fact N} → (x1 : Act N (Value N)) → Fine K C x1 IsValue → Fine K C (perform.loop K tree x1) IsValue
+  unfolding perform.loop
   fine_loop {C = C} body h1 = search (fine, looks, knows, fine_turns) depth 30
 
-  pub fine_perform : {C : Fact N} → (x1 : Caller N) → GoodCaller K x1 → (x2 : ℕ) → (x3 : Asked N) → Gets K C (IsAsked x3) → Fine K C (eval.perform K tree x1 x2 x3) IsValue
-  unfolding eval.perform
+  pub fine_perform : {C : Fact N} → (x1 : Caller N) → GoodCaller K x1 → (x2 : ℕ) → (x3 : Asked N) → Gets K C (IsAsked x3) → Fine K C (perform.perform K tree x1 x2 x3) IsValue
+  unfolding perform.perform
   fine_perform {C = C} again h1 act (MakesList vs) g1 = let d_g1 : Gets K C (AreValues vs) = record { at = λ ts ls h. (g1.at ts ls h) } in search (fine, looks, knows, fine_make_list) depth 30
   fine_perform {C = C} again h1 act (Ranges last a b) g1 = search (fine, looks, knows, fine_reply) depth 30
   fine_perform {C = C} again h1 act (Same a b) g1 = search (fine, looks, knows, fine_reply) depth 30
@@ -205,26 +208,26 @@ module _ {N W : Type 0} (K : Naming N W) (spots : (i : ℕ) → K.spot (K.object
   fine_perform {C = C} again h1 act (AddsNull g) g1 = let d_g1 : Gets K C (IsValue g) = record { at = λ ts ls h. (g1.at ts ls h) } in search (fine, looks, knows, fine_reply) depth 30
   fine_perform {C = C} again h1 act NoMethod g1 = search (fine, looks, knows) depth 30
 
-  pub fine_leave : {C : Fact N} → {A : Type 0} → {G : A → Fact N} → (x1 : ℕ) → (x2 : Act N A) → Fine K C x2 G → Fine K C (eval.leave K tree {A = A} x1 x2) G
-  unfolding eval.leave
+  pub fine_leave : {C : Fact N} → {A : Type 0} → {G : A → Fact N} → (x1 : ℕ) → (x2 : Act N A) → Fine K C x2 G → Fine K C (calls.leave K tree {A = A} x1 x2) G
+  unfolding calls.leave
   fine_leave {C = C} j m h2 = search (fine, looks, knows) depth 30
 
-  pub fine_leaving : {C : Fact N} → {A : Type 0} → {G : A → Fact N} → (n : ℕ) → (m : Act N A) → Fine K C m G → Fine K C (eval.leaving K tree {A = A} n m) G
-  unfolding eval.leaving
+  pub fine_leaving : {C : Fact N} → {A : Type 0} → {G : A → Fact N} → (n : ℕ) → (m : Act N A) → Fine K C m G → Fine K C (calls.leaving K tree {A = A} n m) G
+  unfolding calls.leaving
   fine_leaving {C = C} {G = G} n m h = fine_ending K G h (λ a. fine_leave n (give a) (fine_give K a (got K C (G a)))) (λ p. fine_leave n (throw p) (fine_throw K p)) (λ k v. fine_leave n (eject k v) (fine_eject K k v (got K C (IsValue v))))
 
-  pub fine_audit : {C : Fact N} → (x1 : Caller N) → GoodCaller K x1 → (x2 : ℕ) → (x3 : View N) → Gets K C (IsView x3) → (x4 : Value N) → Gets K C (IsValue x4) → (x5 : Place N) → Fine K C (eval.audit K tree x1 x2 x3 x4 x5) nothing
-  unfolding eval.audit
+  pub fine_audit : {C : Fact N} → (x1 : Caller N) → GoodCaller K x1 → (x2 : ℕ) → (x3 : View N) → Gets K C (IsView x3) → (x4 : Value N) → Gets K C (IsValue x4) → (x5 : Place N) → Fine K C (calls.audit K tree x1 x2 x3 x4 x5) nothing
+  unfolding calls.audit
   fine_audit {C = C} again h1 act view g1 a g2 Near = search (fine, looks, knows, fine_leaving) depth 30
   fine_audit {C = C} again h1 act view g1 a g2 _ = search (fine, looks, knows) depth 30
 
   no_prim : (n : N) → Ref n ≡ deep_frozen → ⊥
   no_prim n e = cc
 
-  pub fine_verdict : {C : Fact N} → (again : Caller N) → GoodCaller K again → (act : ℕ) → (view : View N) → Gets K C (IsView view) → (a : Value N) → Gets K C (IsValue a) → (y : Value N) → Fine K C (eval.verdict K tree again act view a y) (λ b. Approves view.free y b)
-  unfolding eval.verdict
-  fine_verdict {C = C} again h1 act view g1 a g2 (Prim n) = fine_if K (eval.is_auditor (primitive n)) (fine_give K _ (record { at = λ ts ls c e d. d })) (fine_throw K _)
-  fine_verdict {C = C} again h1 act view g1 a g2 (Ref n) = let all : Fine K C (eval.verdict K tree again act view a (Ref n)) nothing = search (fine, looks, knows, fine_audit) depth 30 in fine_more K nothing (λ b. Approves view.free (Ref n) b) all (λ b. record { at = λ ts ls c e. absurd (no_prim n e) })
+  pub fine_verdict : {C : Fact N} → (again : Caller N) → GoodCaller K again → (act : ℕ) → (view : View N) → Gets K C (IsView view) → (a : Value N) → Gets K C (IsValue a) → (y : Value N) → Fine K C (calls.verdict K tree again act view a y) (λ b. Approves view.free y b)
+  unfolding calls.verdict
+  fine_verdict {C = C} again h1 act view g1 a g2 (Prim n) = fine_if K (scopes.is_auditor (primitive n)) (fine_give K _ (record { at = λ ts ls c e d. d })) (fine_throw K _)
+  fine_verdict {C = C} again h1 act view g1 a g2 (Ref n) = let all : Fine K C (calls.verdict K tree again act view a (Ref n)) nothing = search (fine, looks, knows, fine_audit) depth 30 in fine_more K nothing (λ b. Approves view.free (Ref n) b) all (λ b. record { at = λ ts ls c e. absurd (no_prim n e) })
   fine_verdict {C = C} again h1 act view g1 a g2 Null = fine_throw K _
   fine_verdict {C = C} again h1 act view g1 a g2 (Flag b) = fine_throw K _
   fine_verdict {C = C} again h1 act view g1 a g2 (Number z) = fine_throw K _
@@ -233,7 +236,7 @@ module _ {N W : Type 0} (K : Naming N W) (spots : (i : ℕ) → K.spot (K.object
   fine_verdict {C = C} again h1 act view g1 a g2 (Broken t) = fine_throw K _
   fine_verdict {C = C} again h1 act view g1 a g2 (Items k) = fine_throw K _
 
-  pub any_verdict : {C : Fact N} → (again : Caller N) → GoodCaller K again → (act : ℕ) → (view : View N) → Gets K C (IsView view) → (a : Value N) → Gets K C (IsValue a) → (y : Value N) → Fine K C (eval.verdict K tree again act view a y) nothing
+  pub any_verdict : {C : Fact N} → (again : Caller N) → GoodCaller K again → (act : ℕ) → (view : View N) → Gets K C (IsView view) → (a : Value N) → Gets K C (IsValue a) → (y : Value N) → Fine K C (calls.verdict K tree again act view a y) nothing
   any_verdict {C = C} again h1 act view g1 a g2 y = fine_more K (λ b. Approves view.free y b) nothing (fine_verdict again h1 act view g1 a g2 y) (λ b. got_nothing K (Approves view.free y b))
 
   among_meets : (fs : List (FreeName N)) (y : Value N) (ys : List (Value N)) → (y ≡ deep_frozen → meets fs ≡ true) → (IsAmong deep_frozen ys → meets fs ≡ true) → (deep_frozen ≡ y) ⊎ IsAmong deep_frozen ys → meets fs ≡ true
@@ -241,151 +244,151 @@ module _ {N W : Type 0} (K : Naming N W) (spots : (i : ℕ) → K.spot (K.object
   among_meets fs y ys f g (inr e) = g e
 
   stamped : (ls : Lists N) (fs : List (FreeName N)) (b : Bool) (y : Value N) (ys : List (Value N)) → IsThere ls y → (y ≡ deep_frozen → b ≡ true → meets fs ≡ true) → AreThere ls ys → (IsAmong deep_frozen ys → meets fs ≡ true)
-      → AreThere ls (eval.with_stamp K tree b y ys) × (IsAmong deep_frozen (eval.with_stamp K tree b y ys) → meets fs ≡ true)
-  unfolding eval.with_stamp
+      → AreThere ls (calls.with_stamp K tree b y ys) × (IsAmong deep_frozen (calls.with_stamp K tree b y ys) → meets fs ≡ true)
+  unfolding calls.with_stamp
   stamped ls fs true y ys i f h k = ((i, h), λ a. among_meets fs y ys (λ e. f e refl) k a)
   stamped ls fs false y ys i f h k = (h, k)
 
-  pub fine_ask_all : {C : Fact N} → (again : Caller N) → GoodCaller K again → (act : ℕ) → (view : View N) → Gets K C (IsView view) → (xs : List (Value N)) → Gets K C (AreValues xs) → Fine K C (eval.ask_all K tree again act view xs) (λ ys. Also (AreValues ys) (StampsMeet view.free ys))
-  unfolding eval.ask_all
+  pub fine_ask_all : {C : Fact N} → (again : Caller N) → GoodCaller K again → (act : ℕ) → (view : View N) → Gets K C (IsView view) → (xs : List (Value N)) → Gets K C (AreValues xs) → Fine K C (calls.ask_all K tree again act view xs) (λ ys. Also (AreValues ys) (StampsMeet view.free ys))
+  unfolding calls.ask_all
   fine_ask_all {C = C} again h1 act view g1 [] g2 = fine_give K [] (record { at = λ ts ls c. (tt, λ e. absurd e) })
   fine_ask_all {C = C} again h1 act view g1 (a ∷ as') g2 = let da : Gets K C (IsValue a) = record { at = λ ts ls h. (g2.at ts ls h).0 } in let ds : Gets K C (AreValues as') = record { at = λ ts ls h. (g2.at ts ls h).1 } in
       fine_bind K IsValue (look_follow K a da) (λ y. fine_bind K (λ b. Approves view.free y b) (fine_verdict {C = Also C (IsValue y)} again h1 act view (got_left K C (IsValue y) (IsView view) g1) a (got_left K C (IsValue y) (IsValue a) da) y)
       (λ b. fine_bind K (λ ys. Also (AreValues ys) (StampsMeet view.free ys)) (fine_ask_all {C = Also (Also C (IsValue y)) (Approves view.free y b)} again h1 act view (got_left K (Also C (IsValue y)) (Approves view.free y b) (IsView view) (got_left K C (IsValue y) (IsView view) g1)) as' (got_left K (Also C (IsValue y)) (Approves view.free y b) (AreValues as') (got_left K C (IsValue y) (AreValues as') ds)))
       (λ ys. fine_give K _ (record { at = λ ts ls c. stamped ls view.free b y ys c.0.0.1 c.0.1 c.1.0 c.1.1 }))))
 
-  pub fine_build : {C : Fact N} → (act : ℕ) → (is : List Item) → (fs : Lists N) → Gets K C (AreLists fs) → Fine K C (eval.build K tree act is fs) IsValue
-  unfolding eval.build
+  pub fine_build : {C : Fact N} → (act : ℕ) → (is : List Item) → (fs : Lists N) → Gets K C (AreLists fs) → Fine K C (calls.build K tree act is fs) IsValue
+  unfolding calls.build
   fine_build {C = C} act (Begin ∷ is) fs g = fine_build {C = C} act is ([] ∷ fs) (got_lists K C fs g)
-  fine_build {C = C} act (Word w ∷ is) fs g = fine_build {C = C} act is (eval.with_item K tree (Text w) fs) (got_item K tree C (Text w) fs (got_text K C w) g)
-  fine_build {C = C} act (Fixing l ∷ is) fs g = fine_build {C = C} act is (eval.with_item K tree (literal_value l) fs) (got_item K tree C (literal_value l) fs (got_literal K C l) g)
+  fine_build {C = C} act (Word w ∷ is) fs g = fine_build {C = C} act is (calls.with_item K tree (Text w) fs) (got_item K tree C (Text w) fs (got_text K C w) g)
+  fine_build {C = C} act (Fixing l ∷ is) fs g = fine_build {C = C} act is (calls.with_item K tree (literal_value l) fs) (got_item K tree C (literal_value l) fs (got_literal K C l) g)
   fine_build {C = C} act (End ∷ []) (f ∷ fs) g = fine_make_list act f (record { at = λ ts ls h. (g.at ts ls h).0 })
-  fine_build {C = C} act (End ∷ i ∷ is) (f ∷ fs) g = fine_bind K IsValue (fine_make_list act f (record { at = λ ts ls h. (g.at ts ls h).0 })) (λ v. fine_build {C = Also C (IsValue v)} act (i ∷ is) (eval.with_item K tree v fs) (got_item K tree (Also C (IsValue v)) v fs (got K C (IsValue v)) (record { at = λ ts ls h. (g.at ts ls h.0).1 })))
+  fine_build {C = C} act (End ∷ i ∷ is) (f ∷ fs) g = fine_bind K IsValue (fine_make_list act f (record { at = λ ts ls h. (g.at ts ls h).0 })) (λ v. fine_build {C = Also C (IsValue v)} act (i ∷ is) (calls.with_item K tree v fs) (got_item K tree (Also C (IsValue v)) v fs (got K C (IsValue v)) (record { at = λ ts ls h. (g.at ts ls h.0).1 })))
   fine_build {C = C} act _ _ g = fine_stop K _
 
-  pub fine_audition_live : {C : Fact N} → (x1 : Caller N) → GoodCaller K x1 → (x2 : ℕ) → (x3 : View N) → Gets K C (IsView x3) → (x4 : AuditionAsk N) → Gets K C (IsAuditionAsk x4) → Fine K C (eval.audition_live K tree x1 x2 x3 x4) IsValue
-  unfolding eval.audition_live
+  pub fine_audition_live : {C : Fact N} → (x1 : Caller N) → GoodCaller K x1 → (x2 : ℕ) → (x3 : View N) → Gets K C (IsView x3) → (x4 : AuditionAsk N) → Gets K C (IsAuditionAsk x4) → Fine K C (calls.audition_live K tree x1 x2 x3 x4) IsValue
+  unfolding calls.audition_live
   fine_audition_live {C = C} again h1 act view g1 GetsForm g2 = search (fine, looks, knows, fine_build) depth 30
   fine_audition_live {C = C} again h1 act view g1 (GetsGuard x) g2 = let d_g2 : Gets K C (IsValue x) = record { at = λ ts ls h. (g2.at ts ls h) } in search (fine, looks, knows, fine_reply) depth 30
   fine_audition_live {C = C} again h1 act view g1 (Asks a) g2 = let d_g2 : Gets K C (IsValue a) = record { at = λ ts ls h. (g2.at ts ls h) } in search (fine, looks, knows, any_verdict) depth 30
   fine_audition_live {C = C} again h1 act view g1 NoAuditionAsk g2 = search (fine, looks, knows) depth 30
 
-  pub fine_audition_answer : {C : Fact N} → (x1 : Caller N) → GoodCaller K x1 → (x2 : ℕ) → (x3 : Bool) → (x4 : View N) → Gets K C (IsView x4) → (x5 : AuditionAsk N) → Gets K C (IsAuditionAsk x5) → Fine K C (eval.audition_answer K tree x1 x2 x3 x4 x5) IsValue
-  unfolding eval.audition_answer
+  pub fine_audition_answer : {C : Fact N} → (x1 : Caller N) → GoodCaller K x1 → (x2 : ℕ) → (x3 : Bool) → (x4 : View N) → Gets K C (IsView x4) → (x5 : AuditionAsk N) → Gets K C (IsAuditionAsk x5) → Fine K C (calls.audition_answer K tree x1 x2 x3 x4 x5) IsValue
+  unfolding calls.audition_answer
   fine_audition_answer {C = C} again h1 act live view g1 NoAuditionAsk g2 = search (fine, looks, knows) depth 30
   fine_audition_answer {C = C} again h1 act true view g1 ask g2 = search (fine, looks, knows, fine_audition_live) depth 30
   fine_audition_answer {C = C} again h1 act false view g1 ask g2 = search (fine, looks, knows) depth 30
 
-  pub fine_ejector_answer : {C : Fact N} → (x1 : ℕ) → (x2 : Bool) → (x3 : Option (Value N)) → Gets K C (MayValue x3) → Fine K C (eval.ejector_answer K tree x1 x2 x3) IsValue
-  unfolding eval.ejector_answer
+  pub fine_ejector_answer : {C : Fact N} → (x1 : ℕ) → (x2 : Bool) → (x3 : Option (Value N)) → Gets K C (MayValue x3) → Fine K C (calls.ejector_answer K tree x1 x2 x3) IsValue
+  unfolding calls.ejector_answer
   fine_ejector_answer {C = C} i live None g1 = search (fine, looks, knows) depth 30
   fine_ejector_answer {C = C} i true (Some v) g1 = let d_g1 : Gets K C (IsValue v) = record { at = λ ts ls h. (g1.at ts ls h) } in search (fine, looks, knows) depth 30
   fine_ejector_answer {C = C} i false (Some v) g1 = let d_g1 : Gets K C (IsValue v) = record { at = λ ts ls h. (g1.at ts ls h) } in search (fine, looks, knows) depth 30
 
-  pub fine_where_unresolved : {C : Fact N} → (x1 : Standing N) → (x2 : Act N (Unit {0})) → Fine K C x2 nothing → Fine K C (eval.where_unresolved K tree x1 x2) IsValue
-  unfolding eval.where_unresolved
+  pub fine_where_unresolved : {C : Fact N} → (x1 : Standing N) → (x2 : Act N (Unit {0})) → Fine K C x2 nothing → Fine K C (calls.where_unresolved K tree x1 x2) IsValue
+  unfolding calls.where_unresolved
   fine_where_unresolved {C = C} Unsettled m h2 = search (fine, looks, knows) depth 30
   fine_where_unresolved {C = C} _ m h2 = search (fine, looks, knows) depth 30
 
-  pub fine_smash : {C : Fact N} → (x1 : N) → (x2 : Value N) → Gets K C (IsValue x2) → Fine K C (eval.smash K tree x1 x2) IsValue
-  unfolding eval.smash
+  pub fine_smash : {C : Fact N} → (x1 : N) → (x2 : Value N) → Gets K C (IsValue x2) → Fine K C (calls.smash K tree x1 x2) IsValue
+  unfolding calls.smash
   fine_smash {C = C} p (Text t) g1 = search (fine, looks, knows, fine_where_unresolved, fine_settle) depth 30
   fine_smash {C = C} p _ g1 = search (fine, looks, knows) depth 30
 
-  pub fine_resolver_answer : {C : Fact N} → (x1 : N) → (x2 : ResolverAsk N) → Gets K C (IsResolverAsk x2) → Fine K C (eval.resolver_answer K tree x1 x2) IsValue
-  unfolding eval.resolver_answer
+  pub fine_resolver_answer : {C : Fact N} → (x1 : N) → (x2 : ResolverAsk N) → Gets K C (IsResolverAsk x2) → Fine K C (calls.resolver_answer K tree x1 x2) IsValue
+  unfolding calls.resolver_answer
   fine_resolver_answer {C = C} p (Resolves x) g1 = let d_g1 : Gets K C (IsValue x) = record { at = λ ts ls h. (g1.at ts ls h) } in search (fine, looks, knows, fine_where_unresolved, fine_resolve) depth 30
   fine_resolver_answer {C = C} p (Smashes x) g1 = let d_g1 : Gets K C (IsValue x) = record { at = λ ts ls h. (g1.at ts ls h) } in search (fine, looks, knows, fine_smash) depth 30
   fine_resolver_answer {C = C} p NoResolverAsk g1 = search (fine, looks, knows) depth 30
 
-  pub fine_bind_all : {C : Fact N} → (x1 : Evaluator N) → GoodEvaluator K x1 → (x2 : List ℕ) → (x3 : List (Value N)) → Gets K C (AreValues x3) → (x4 : Value N) → Gets K C (IsValue x4) → (x5 : Scope N) → Gets K C (AreNouns x5.nouns) → Fine K C (eval.bind_all K tree x1 x2 x3 x4 x5) scope
-  unfolding eval.bind_all
+  pub fine_bind_all : {C : Fact N} → (x1 : Evaluator N) → GoodEvaluator K x1 → (x2 : List ℕ) → (x3 : List (Value N)) → Gets K C (AreValues x3) → (x4 : Value N) → Gets K C (IsValue x4) → (x5 : Scope N) → Gets K C (AreNouns x5.nouns) → Fine K C (calls.bind_all K tree x1 x2 x3 x4 x5) scope
+  unfolding calls.bind_all
   fine_bind_all {C = C} rec good [] vs g1 j g2 here g3 = search (fine, looks, knows) depth 30
   fine_bind_all {C = C} rec good (p ∷ ps) [] g1 j g2 here g3 = search (fine, looks, knows) depth 30
-  fine_bind_all {C = C} rec good (p ∷ ps) (v ∷ vs) g1 j g2 here g3 = let d0_g1 : Gets K C (IsValue v) = record { at = λ ts ls h. (g1.at ts ls h).0 } in let d1_g1 : Gets K C (AreValues vs) = record { at = λ ts ls h. (g1.at ts ls h).1 } in let rest : (D : Fact N) (next : Scope N) → Gets K D (AreValues vs) → Gets K D (IsValue j) → Gets K D (AreNouns next.nouns) → Fine K D (eval.bind_all K tree rec ps vs j next) scope = λ D next a b c. fine_bind_all {C = D} rec good ps vs a j b next c in search (fine, looks, knows, good.pattern) depth 30
+  fine_bind_all {C = C} rec good (p ∷ ps) (v ∷ vs) g1 j g2 here g3 = let d0_g1 : Gets K C (IsValue v) = record { at = λ ts ls h. (g1.at ts ls h).0 } in let d1_g1 : Gets K C (AreValues vs) = record { at = λ ts ls h. (g1.at ts ls h).1 } in let rest : (D : Fact N) (next : Scope N) → Gets K D (AreValues vs) → Gets K D (IsValue j) → Gets K D (AreNouns next.nouns) → Fine K D (calls.bind_all K tree rec ps vs j next) scope = λ D next a b c. fine_bind_all {C = D} rec good ps vs a j b next c in search (fine, looks, knows, good.pattern) depth 30
 
-  pub fine_new_ejector : {C : Fact N} → (x1 : ℕ) → Fine K C (eval.new_ejector K tree x1) nothing
-  unfolding eval.new_ejector
+  pub fine_new_ejector : {C : Fact N} → (x1 : ℕ) → Fine K C (calls.new_ejector K tree x1) nothing
+  unfolding calls.new_ejector
   fine_new_ejector {C = C} act = search (fine, looks, knows) depth 30
 
-  pub fine_hand_over : {C : Fact N} → (x1 : ℕ) → (x2 : ℕ) → (x3 : Act N (Value N)) → Fine K C x3 IsValue → (x4 : ℕ) → (x5 : Value N) → Gets K C (IsValue x5) → Fine K C (eval.hand_over K tree x1 x2 x3 x4 x5) IsValue
-  unfolding eval.hand_over
+  pub fine_hand_over : {C : Fact N} → (x1 : ℕ) → (x2 : ℕ) → (x3 : Act N (Value N)) → Fine K C x3 IsValue → (x4 : ℕ) → (x5 : Value N) → Gets K C (IsValue x5) → Fine K C (calls.hand_over K tree x1 x2 x3 x4 x5) IsValue
+  unfolding calls.hand_over
   fine_hand_over {C = C} act j next h3 n v g1 = search (fine, looks, knows) depth 30
 
-  pub fine_matched : {C : Fact N} → (x1 : Evaluator N) → GoodEvaluator K x1 → (x2 : ℕ) → (x3 : ℕ) → (x4 : ℕ) → (x5 : Act N (Value N)) → Fine K C x5 IsValue → (x6 : Act N (Scope N)) → Fine K C x6 scope → Fine K C (eval.matched K tree x1 x2 x3 x4 x5 x6) IsValue
-  unfolding eval.matched
+  pub fine_matched : {C : Fact N} → (x1 : Evaluator N) → GoodEvaluator K x1 → (x2 : ℕ) → (x3 : ℕ) → (x4 : ℕ) → (x5 : Act N (Value N)) → Fine K C x5 IsValue → (x6 : Act N (Scope N)) → Fine K C x6 scope → Fine K C (calls.matched K tree x1 x2 x3 x4 x5 x6) IsValue
+  unfolding calls.matched
   fine_matched {C = C} rec good act j body next h5 m h6 = let later : (v : Value N) → Fine K (Also C (IsValue v)) next IsValue = λ v. fine_left K h5 in search (fine, looks, knows, fine_leave, fine_hand_over, good.expression) depth 30
 
-  pub fine_match_all : {C : Fact N} → (x1 : Evaluator N) → GoodEvaluator K x1 → (x2 : List Case) → (x3 : Value N) → Gets K C (IsValue x3) → (x4 : Scope N) → Gets K C (AreNouns x4.nouns) → Fine K C (eval.match_all K tree x1 x2 x3 x4) IsValue
-  unfolding eval.match_all
+  pub fine_match_all : {C : Fact N} → (x1 : Evaluator N) → GoodEvaluator K x1 → (x2 : List Case) → (x3 : Value N) → Gets K C (IsValue x3) → (x4 : Scope N) → Gets K C (AreNouns x4.nouns) → Fine K C (calls.match_all K tree x1 x2 x3 x4) IsValue
+  unfolding calls.match_all
   fine_match_all {C = C} rec good [] v g1 here g2 = search (fine, looks, knows) depth 30
-  fine_match_all {C = C} rec good (m ∷ ms) v g1 here g2 = let rest : Fine K C (λ s. eval.match_all K tree rec ms v here s) IsValue = fine_match_all {C = C} rec good ms v g1 here g2 in search (fine, looks, knows, fine_new_ejector, fine_matched, good.pattern) depth 30
+  fine_match_all {C = C} rec good (m ∷ ms) v g1 here g2 = let rest : Fine K C (λ s. calls.match_all K tree rec ms v here s) IsValue = fine_match_all {C = C} rec good ms v g1 here g2 in search (fine, looks, knows, fine_new_ejector, fine_matched, good.pattern) depth 30
 
-  pub fine_try_matchers : {C : Fact N} → (x1 : Evaluator N) → GoodEvaluator K x1 → (x2 : List Case) → (x3 : Words) → (x4 : List (Value N)) → Gets K C (AreValues x4) → (x5 : Scope N) → Gets K C (AreNouns x5.nouns) → Fine K C (eval.try_matchers K tree x1 x2 x3 x4 x5) IsValue
-  unfolding eval.try_matchers
+  pub fine_try_matchers : {C : Fact N} → (x1 : Evaluator N) → GoodEvaluator K x1 → (x2 : List Case) → (x3 : Words) → (x4 : List (Value N)) → Gets K C (AreValues x4) → (x5 : Scope N) → Gets K C (AreNouns x5.nouns) → Fine K C (calls.try_matchers K tree x1 x2 x3 x4 x5) IsValue
+  unfolding calls.try_matchers
   fine_try_matchers {C = C} rec good [] verb args g1 here g2 = search (fine, looks, knows) depth 30
   fine_try_matchers {C = C} rec good (m ∷ ms) verb args g1 here g2 = search (fine, looks, knows, fine_make_list, fine_match_all) depth 30
 
-  pub fine_run_body : {C : Fact N} → (x1 : Evaluator N) → GoodEvaluator K x1 → (x2 : List Case) → (x3 : Words) → (x4 : Option Body) → (x5 : List (Value N)) → Gets K C (AreValues x5) → (x6 : Scope N) → Gets K C (AreNouns x6.nouns) → Fine K C (eval.run_body K tree x1 x2 x3 x4 x5 x6) IsValue
-  unfolding eval.run_body
+  pub fine_run_body : {C : Fact N} → (x1 : Evaluator N) → GoodEvaluator K x1 → (x2 : List Case) → (x3 : Words) → (x4 : Option Body) → (x5 : List (Value N)) → Gets K C (AreValues x5) → (x6 : Scope N) → Gets K C (AreNouns x6.nouns) → Fine K C (calls.run_body K tree x1 x2 x3 x4 x5 x6) IsValue
+  unfolding calls.run_body
   fine_run_body {C = C} rec good ms verb (Some b) args g1 here g2 = search (fine, looks, knows, fine_bind_all, good.expression) depth 30
   fine_run_body {C = C} rec good ms verb None args g1 here g2 = search (fine, looks, knows, fine_try_matchers) depth 30
 
-  pub fine_run_object : {C : Fact N} → (x1 : Evaluator N) → GoodEvaluator K x1 → (x2 : List ℕ) → (x3 : Words) → (x4 : List (Value N)) → Gets K C (AreValues x4) → (x5 : Scope N) → Gets K C (AreNouns x5.nouns) → Fine K C (eval.run_object K tree x1 x2 x3 x4 x5) IsValue
-  unfolding eval.run_object
+  pub fine_run_object : {C : Fact N} → (x1 : Evaluator N) → GoodEvaluator K x1 → (x2 : List ℕ) → (x3 : Words) → (x4 : List (Value N)) → Gets K C (AreValues x4) → (x5 : Scope N) → Gets K C (AreNouns x5.nouns) → Fine K C (calls.run_object K tree x1 x2 x3 x4 x5) IsValue
+  unfolding calls.run_object
   fine_run_object {C = C} rec good members verb args g1 here g2 = search (fine, looks, knows, fine_run_body) depth 30
 
-  pub fine_thing_answer : {C : Fact N} → (x1 : Caller N) → GoodCaller K x1 → (x2 : ℕ) → (x3 : ℕ) → (x4 : Thing N) → Gets K C (IsThing x4) → (x5 : Words) → (x6 : List (Value N)) → Gets K C (AreValues x6) → Fine K C (eval.thing_answer K tree x1 x2 x3 x4 x5 x6) IsValue
-  unfolding eval.thing_answer
+  pub fine_thing_answer : {C : Fact N} → (x1 : Caller N) → GoodCaller K x1 → (x2 : ℕ) → (x3 : ℕ) → (x4 : Thing N) → Gets K C (IsThing x4) → (x5 : Words) → (x6 : List (Value N)) → Gets K C (AreValues x6) → Fine K C (calls.thing_answer K tree x1 x2 x3 x4 x5 x6) IsValue
+  unfolding calls.thing_answer
   fine_thing_answer {C = C} again h1 act i (Ejector live) g1 verb args g2 = search (fine, looks, knows, fine_ejector_answer) depth 30
   fine_thing_answer {C = C} again h1 act i (Audition live view) g1 verb args g2 = let d_g1 : Gets K C (IsView view) = record { at = λ ts ls h. (g1.at ts ls h) } in search (fine, looks, knows, fine_audition_answer) depth 30
   fine_thing_answer {C = C} again h1 act i (Resolver p) g1 verb args g2 = search (fine, looks, knows, fine_resolver_answer) depth 30
   fine_thing_answer {C = C} again h1 act i (Made node caught stamps) g1 verb args g2 = search (fine, looks, knows) depth 30
 
-  pub fine_call_thing : {C : Fact N} → (x1 : Evaluator N) → GoodEvaluator K x1 → (x2 : Caller N) → GoodCaller K x2 → (x3 : ℕ) → (x4 : Value N) → Gets K C (IsValue x4) → (x5 : ℕ) → (x6 : Option (Thing N)) → Gets K C (MayThing x6) → (x7 : Words) → (x8 : List (Value N)) → Gets K C (AreValues x8) → Fine K C (eval.call_thing K tree x1 x2 x3 x4 x5 x6 x7 x8) IsValue
-  unfolding eval.call_thing
+  pub fine_call_thing : {C : Fact N} → (x1 : Evaluator N) → GoodEvaluator K x1 → (x2 : Caller N) → GoodCaller K x2 → (x3 : ℕ) → (x4 : Value N) → Gets K C (IsValue x4) → (x5 : ℕ) → (x6 : Option (Thing N)) → Gets K C (MayThing x6) → (x7 : Words) → (x8 : List (Value N)) → Gets K C (AreValues x8) → Fine K C (calls.call_thing K tree x1 x2 x3 x4 x5 x6 x7 x8) IsValue
+  unfolding calls.call_thing
   fine_call_thing {C = C} rec good again h2 act x g1 i None g2 verb args g3 = search (fine, looks, knows) depth 30
   fine_call_thing {C = C} rec good again h2 act x g1 i (Some (Made node caught stamps)) g2 verb args g3 = let dc_g2 : Gets K C (AreNouns caught) = record { at = λ ts ls h. (g2.at ts ls h).0 } in search (fine, looks, knows, fine_ended, fine_run_object) depth 30
   fine_call_thing {C = C} rec good again h2 act x g1 i (Some t) g2 verb args g3 = let dt_g2 : Gets K C (IsThing t) = record { at = λ ts ls h. (g2.at ts ls h) } in search (fine, looks, knows, fine_with_lines, fine_thing_answer) depth 30
 
-  pub fine_call_spot : {C : Fact N} → (x1 : Evaluator N) → GoodEvaluator K x1 → (x2 : Caller N) → GoodCaller K x2 → (x3 : ℕ) → (x4 : Value N) → Gets K C (IsValue x4) → (x5 : Spot) → (x6 : Words) → (x7 : List (Value N)) → Gets K C (AreValues x7) → Fine K C (eval.call_spot K tree x1 x2 x3 x4 x5 x6 x7) IsValue
-  unfolding eval.call_spot
+  pub fine_call_spot : {C : Fact N} → (x1 : Evaluator N) → GoodEvaluator K x1 → (x2 : Caller N) → GoodCaller K x2 → (x3 : ℕ) → (x4 : Value N) → Gets K C (IsValue x4) → (x5 : Spot) → (x6 : Words) → (x7 : List (Value N)) → Gets K C (AreValues x7) → Fine K C (calls.call_spot K tree x1 x2 x3 x4 x5 x6 x7) IsValue
+  unfolding calls.call_spot
   fine_call_spot {C = C} rec good again h2 act x g1 (Own i) verb args g2 = search (fine, looks, knows, fine_call_thing) depth 30
   fine_call_spot {C = C} rec good again h2 act x g1 _ verb args g2 = search (fine, looks, knows) depth 30
 
-  pub fine_call_value : {C : Fact N} → (x1 : Evaluator N) → GoodEvaluator K x1 → (x2 : Caller N) → GoodCaller K x2 → (x3 : ℕ) → (x4 : Value N) → Gets K C (IsValue x4) → (x5 : Value N) → Gets K C (IsValue x5) → (x6 : Words) → (x7 : List (Value N)) → Gets K C (AreValues x7) → Fine K C (eval.call_value K tree x1 x2 x3 x4 x5 x6 x7) IsValue
-  unfolding eval.call_value
+  pub fine_call_value : {C : Fact N} → (x1 : Evaluator N) → GoodEvaluator K x1 → (x2 : Caller N) → GoodCaller K x2 → (x3 : ℕ) → (x4 : Value N) → Gets K C (IsValue x4) → (x5 : Value N) → Gets K C (IsValue x5) → (x6 : Words) → (x7 : List (Value N)) → Gets K C (AreValues x7) → Fine K C (calls.call_value K tree x1 x2 x3 x4 x5 x6 x7) IsValue
+  unfolding calls.call_value
   fine_call_value {C = C} rec good again h2 act x g1 (Ref n) g2 verb args g3 = search (fine, looks, knows, fine_call_spot) depth 30
   fine_call_value {C = C} rec good again h2 act x g1 (Broken p) g2 verb args g3 = search (fine, looks, knows) depth 30
   fine_call_value {C = C} rec good again h2 act x g1 (Prim n) g2 verb args g3 = search (fine, looks, knows, fine_perform) depth 30
   fine_call_value {C = C} rec good again h2 act x g1 y g2 verb args g3 = search (fine, looks, knows, fine_with_lines, fine_data_answer) depth 30
 
-  pub fine_call_one : {C : Fact N} → (x1 : Evaluator N) → GoodEvaluator K x1 → (x2 : Caller N) → GoodCaller K x2 → (x3 : ℕ) → (x4 : Value N) → Gets K C (IsValue x4) → (x5 : Words) → (x6 : List (Value N)) → Gets K C (AreValues x6) → Fine K C (eval.call_one K tree x1 x2 x3 x4 x5 x6) IsValue
-  unfolding eval.call_one
+  pub fine_call_one : {C : Fact N} → (x1 : Evaluator N) → GoodEvaluator K x1 → (x2 : Caller N) → GoodCaller K x2 → (x3 : ℕ) → (x4 : Value N) → Gets K C (IsValue x4) → (x5 : Words) → (x6 : List (Value N)) → Gets K C (AreValues x6) → Fine K C (calls.call_one K tree x1 x2 x3 x4 x5 x6) IsValue
+  unfolding calls.call_one
   fine_call_one {C = C} rec good again h2 act x g1 verb args g2 = search (fine, looks, knows, fine_call_value) depth 30
 
-  pub fine_call_at : {C : Fact N} → (x1 : ℕ) → (x2 : Evaluator N) → GoodEvaluator K x2 → (x3 : ℕ) → (x4 : Value N) → Gets K C (IsValue x4) → (x5 : Words) → (x6 : List (Value N)) → Gets K C (AreValues x6) → Fine K C (eval.call_at K tree x1 x2 x3 x4 x5 x6) IsValue
-  unfolding eval.call_at
+  pub fine_call_at : {C : Fact N} → (x1 : ℕ) → (x2 : Evaluator N) → GoodEvaluator K x2 → (x3 : ℕ) → (x4 : Value N) → Gets K C (IsValue x4) → (x5 : Words) → (x6 : List (Value N)) → Gets K C (AreValues x6) → Fine K C (calls.call_at K tree x1 x2 x3 x4 x5 x6) IsValue
+  unfolding calls.call_at
   fine_call_at {C = C} zero rec good act x g1 verb args g2 = search (fine, looks, knows) depth 30
-  fine_call_at {C = C} (suc d) rec good act x g1 verb args g2 = fine_call_one rec good (λ a y v xs. eval.call_at K tree d rec a y v xs) (λ D a y g v xs k. fine_call_at {C = D} d rec good a y g v xs k) act x g1 verb args g2
+  fine_call_at {C = C} (suc d) rec good act x g1 verb args g2 = fine_call_one rec good (λ a y v xs. calls.call_at K tree d rec a y v xs) (λ D a y g v xs k. fine_call_at {C = D} d rec good a y g v xs k) act x g1 verb args g2
 
-  pub fine_call : {C : Fact N} → (x1 : Evaluator N) → GoodEvaluator K x1 → (x2 : ℕ) → (x3 : Value N) → Gets K C (IsValue x3) → (x4 : Words) → (x5 : List (Value N)) → Gets K C (AreValues x5) → Fine K C (eval.call K tree x1 x2 x3 x4 x5) IsValue
-  unfolding eval.call
+  pub fine_call : {C : Fact N} → (x1 : Evaluator N) → GoodEvaluator K x1 → (x2 : ℕ) → (x3 : Value N) → Gets K C (IsValue x3) → (x4 : Words) → (x5 : List (Value N)) → Gets K C (AreValues x5) → Fine K C (calls.call K tree x1 x2 x3 x4 x5) IsValue
+  unfolding calls.call
   fine_call {C = C} rec good act x g1 verb args g2 = search (fine, looks, knows, fine_call_at) depth 30
 
-  pub fine_turn_thing : {C : Fact N} → (x1 : Evaluator N) → GoodEvaluator K x1 → (x2 : ℕ) → (x3 : ℕ) → (x4 : Option (Thing N)) → Gets K C (MayThing x4) → (x5 : Words) → (x6 : List (Value N)) → Gets K C (AreValues x6) → Fine K C (eval.turn_thing K tree x1 x2 x3 x4 x5 x6) IsValue
-  unfolding eval.turn_thing
+  pub fine_turn_thing : {C : Fact N} → (x1 : Evaluator N) → GoodEvaluator K x1 → (x2 : ℕ) → (x3 : ℕ) → (x4 : Option (Thing N)) → Gets K C (MayThing x4) → (x5 : Words) → (x6 : List (Value N)) → Gets K C (AreValues x6) → Fine K C (calls.turn_thing K tree x1 x2 x3 x4 x5 x6) IsValue
+  unfolding calls.turn_thing
   fine_turn_thing {C = C} rec good act i None g1 verb args g2 = search (fine, looks, knows) depth 30
   fine_turn_thing {C = C} rec good act i (Some (Made node caught stamps)) g1 verb args g2 = let dc_g1 : Gets K C (AreNouns caught) = record { at = λ ts ls h. (g1.at ts ls h).0 } in search (fine, looks, knows, fine_run_object) depth 30
   fine_turn_thing {C = C} rec good act i (Some t) g1 verb args g2 = let dt_g1 : Gets K C (IsThing t) = record { at = λ ts ls h. (g1.at ts ls h) } in search (fine, looks, knows, fine_thing_answer, fine_call) depth 30
 
-  pub fine_turn_spot : {C : Fact N} → (x1 : Evaluator N) → GoodEvaluator K x1 → (x2 : ℕ) → (x3 : Spot) → (x4 : Words) → (x5 : List (Value N)) → Gets K C (AreValues x5) → Fine K C (eval.turn_spot K tree x1 x2 x3 x4 x5) IsValue
-  unfolding eval.turn_spot
+  pub fine_turn_spot : {C : Fact N} → (x1 : Evaluator N) → GoodEvaluator K x1 → (x2 : ℕ) → (x3 : Spot) → (x4 : Words) → (x5 : List (Value N)) → Gets K C (AreValues x5) → Fine K C (calls.turn_spot K tree x1 x2 x3 x4 x5) IsValue
+  unfolding calls.turn_spot
   fine_turn_spot {C = C} rec good act (Own i) verb args g1 = search (fine, looks, knows, fine_turn_thing) depth 30
   fine_turn_spot {C = C} rec good act _ verb args g1 = search (fine, looks, knows) depth 30
 
-  pub fine_turn_value : {C : Fact N} → (x1 : Evaluator N) → GoodEvaluator K x1 → (x2 : ℕ) → (x3 : Value N) → Gets K C (IsValue x3) → (x4 : Words) → (x5 : List (Value N)) → Gets K C (AreValues x5) → Fine K C (eval.turn_value K tree x1 x2 x3 x4 x5) IsValue
-  unfolding eval.turn_value
+  pub fine_turn_value : {C : Fact N} → (x1 : Evaluator N) → GoodEvaluator K x1 → (x2 : ℕ) → (x3 : Value N) → Gets K C (IsValue x3) → (x4 : Words) → (x5 : List (Value N)) → Gets K C (AreValues x5) → Fine K C (calls.turn_value K tree x1 x2 x3 x4 x5) IsValue
+  unfolding calls.turn_value
   fine_turn_value {C = C} rec good act (Ref n) g1 verb args g2 = search (fine, looks, knows, fine_turn_spot) depth 30
   fine_turn_value {C = C} rec good act (Broken p) g1 verb args g2 = search (fine, looks, knows) depth 30
   fine_turn_value {C = C} rec good act (Prim n) g1 verb args g2 = search (fine, looks, knows, fine_perform, fine_call) depth 30
@@ -405,48 +408,48 @@ module _ {N W : Type 0} (K : Naming N W) (spots : (i : ℕ) → K.spot (K.object
   first_may ts ls x (Some b) h = h.0
   first_may ts ls x None h = tt
 
-  caught_well : (ts : List (Thing N)) (ls : Lists N) (here : Scope N) (xs : List Words) → AllOf (NounWell K ts ls) here.nouns → AllOf (NounWell K ts ls) (eval.captures here xs)
-  unfolding eval.captures
+  caught_well : (ts : List (Thing N)) (ls : Lists N) (here : Scope N) (xs : List Words) → AllOf (NounWell K ts ls) here.nouns → AllOf (NounWell K ts ls) (scopes.captures here xs)
+  unfolding scopes.captures
   caught_well ts ls here [] h = tt
-  caught_well ts ls here (x ∷ xs) h = caught_one (NounWell K ts ls) x (eval.bound_in here.nouns x) (eval.captures here xs) (swap_may ts ls x (eval.bound_in here.nouns x) (bound_well K ts ls here.nouns x h)) (caught_well ts ls here xs h)
+  caught_well ts ls here (x ∷ xs) h = caught_one (NounWell K ts ls) x (scopes.bound_in here.nouns x) (scopes.captures here xs) (swap_may ts ls x (scopes.bound_in here.nouns x) (bound_well K ts ls here.nouns x h)) (caught_well ts ls here xs h)
 
   both_true : (b c : Bool) → elim b [ true ↦ c | false ↦ false ] ≡ true → (b ≡ true) × (c ≡ true)
   both_true true c e = (refl, e)
   both_true false c e = absurd (false_true e)
 
-  freedom_frozen : (ts : List (Thing N)) (ls : Lists N) (o : Option (Bound N)) (x : Words) → MayBe (BoundWell K ts ls) o → eval.frozen_freedom (eval.freedom_of_bound o x) ≡ true → MayBe (FrozenCapture K ts ls) o
-  unfolding eval.frozen_freedom eval.freedom_of_bound
+  freedom_frozen : (ts : List (Thing N)) (ls : Lists N) (o : Option (Bound N)) (x : Words) → MayBe (BoundWell K ts ls) o → scopes.frozen_freedom (scopes.freedom_of_bound o x) ≡ true → MayBe (FrozenCapture K ts ls) o
+  unfolding scopes.frozen_freedom scopes.freedom_of_bound
   freedom_frozen ts ls (Some (Fixed v g)) x h e = h.2 e
   freedom_frozen ts ls (Some (Slot k)) x h e = absurd (false_true e)
   freedom_frozen ts ls None x h e = tt
 
   final_frozen : (ts : List (Thing N)) (ls : Lists N) (b : Bool) (o : Option (Bound N)) (x : Words) (v : Value N) → MayBe (BoundWell K ts ls) o → IsFrozen K ts ls v
-      → eval.frozen_freedom (elim b [ true ↦ IsItself | false ↦ eval.freedom_of_bound o x ]) ≡ true → MayBe (FrozenCapture K ts ls) (elim b [ true ↦ Some (Fixed v any_guard) | false ↦ o ])
+      → scopes.frozen_freedom (elim b [ true ↦ IsItself | false ↦ scopes.freedom_of_bound o x ]) ≡ true → MayBe (FrozenCapture K ts ls) (elim b [ true ↦ Some (Fixed v any_guard) | false ↦ o ])
   final_frozen ts ls true o x v h f e = f
   final_frozen ts ls false o x v h f e = freedom_frozen ts ls o x h e
 
   other_frozen : (ts : List (Thing N)) (ls : Lists N) (b : Bool) (o : Option (Bound N)) (x : Words) → same_words (codes "_") x ≡ b → MayBe (λ b. BoundWell K ts ls b × (same_words x (codes "_") ≡ false)) o
-      → eval.frozen_freedom (elim b [ true ↦ IsItself | false ↦ eval.freedom_of_bound o x ]) ≡ true → MayBe (FrozenCapture K ts ls) o
+      → scopes.frozen_freedom (elim b [ true ↦ IsItself | false ↦ scopes.freedom_of_bound o x ]) ≡ true → MayBe (FrozenCapture K ts ls) o
   unfolding same_words
   other_frozen ts ls true (Some c) x q h e = absurd (no_true (same_words x (codes "_")) h.1 (sym (ap (λ (z : Words). same_words z (codes "_")) (same_is (codes "_") x q))))
   other_frozen ts ls true None x q h e = tt
   other_frozen ts ls false o x q h e = freedom_frozen ts ls o x (first_may ts ls x o h) e
 
   name_frozen : (ts : List (Thing N)) (ls : Lists N) (p : Option Node) (here : Scope N) (v : Value N) (x : Words) → AllOf (NounWell K ts ls) here.nouns → IsFrozen K ts ls v
-      → eval.frozen_freedom (eval.freedom_of (eval.name_of p) here.nouns x) ≡ true → MayBe (FrozenCapture K ts ls) (eval.bound_in (eval.named p v here).nouns x)
-  unfolding eval.freedom_of eval.name_of eval.named eval.with_noun eval.bound_in
-  name_frozen ts ls (Some (Final y g)) here v x h f e = final_frozen ts ls (same_words y x) (eval.bound_in here.nouns x) x v (first_may ts ls x (eval.bound_in here.nouns x) (bound_well K ts ls here.nouns x h)) f e
-  name_frozen ts ls _ here v x h f e = other_frozen ts ls (same_words (codes "_") x) (eval.bound_in here.nouns x) x refl (bound_well K ts ls here.nouns x h) e
+      → scopes.frozen_freedom (scopes.freedom_of (scopes.name_of p) here.nouns x) ≡ true → MayBe (FrozenCapture K ts ls) (scopes.bound_in (scopes.named p v here).nouns x)
+  unfolding scopes.freedom_of scopes.name_of scopes.named scopes.with_noun scopes.bound_in
+  name_frozen ts ls (Some (Final y g)) here v x h f e = final_frozen ts ls (same_words y x) (scopes.bound_in here.nouns x) x v (first_may ts ls x (scopes.bound_in here.nouns x) (bound_well K ts ls here.nouns x h)) f e
+  name_frozen ts ls _ here v x h f e = other_frozen ts ls (same_words (codes "_") x) (scopes.bound_in here.nouns x) x refl (bound_well K ts ls here.nouns x h) e
 
   all_frozen : (ts : List (Thing N)) (ls : Lists N) (p : Option Node) (here : Scope N) (v : Value N) (xs : List Words) → AllOf (NounWell K ts ls) here.nouns → IsFrozen K ts ls v
-      → meets (eval.free_names (eval.name_of p) here.nouns xs) ≡ true → AllOf (λ b. FrozenCapture K ts ls b.bound) (eval.captures (eval.named p v here) xs)
-  unfolding eval.captures eval.free_names meets
+      → meets (scopes.free_names (scopes.name_of p) here.nouns xs) ≡ true → AllOf (λ b. FrozenCapture K ts ls b.bound) (scopes.captures (scopes.named p v here) xs)
+  unfolding scopes.captures scopes.free_names meets
   all_frozen ts ls p here v [] h f e = tt
-  all_frozen ts ls p here v (x ∷ xs) h f e = let parts : (eval.frozen_freedom (eval.freedom_of (eval.name_of p) here.nouns x) ≡ true) × (meets (eval.free_names (eval.name_of p) here.nouns xs) ≡ true) = both_true (eval.frozen_freedom (eval.freedom_of (eval.name_of p) here.nouns x)) (meets (eval.free_names (eval.name_of p) here.nouns xs)) e in
-      caught_one (λ b. FrozenCapture K ts ls b.bound) x (eval.bound_in (eval.named p v here).nouns x) (eval.captures (eval.named p v here) xs) (name_frozen ts ls p here v x h f parts.0) (all_frozen ts ls p here v xs h f parts.1)
+  all_frozen ts ls p here v (x ∷ xs) h f e = let parts : (scopes.frozen_freedom (scopes.freedom_of (scopes.name_of p) here.nouns x) ≡ true) × (meets (scopes.free_names (scopes.name_of p) here.nouns xs) ≡ true) = both_true (scopes.frozen_freedom (scopes.freedom_of (scopes.name_of p) here.nouns x)) (meets (scopes.free_names (scopes.name_of p) here.nouns xs)) e in
+      caught_one (λ b. FrozenCapture K ts ls b.bound) x (scopes.bound_in (scopes.named p v here).nouns x) (scopes.captures (scopes.named p v here) xs) (name_frozen ts ls p here v x h f parts.0) (all_frozen ts ls p here v xs h f parts.1)
 
-  named_well : (ts : List (Thing N)) (ls : Lists N) (p : Option Node) (n : N) (here : Scope N) → MayBe NamesWell p → AllOf (NounWell K ts ls) here.nouns → AllOf (NounWell K ts ls) (eval.named p (Ref n) here).nouns
-  unfolding eval.named eval.with_noun any_guard frozen_guard freezes primitive native.numbered native.primitives
+  named_well : (ts : List (Thing N)) (ls : Lists N) (p : Option Node) (n : N) (here : Scope N) → MayBe NamesWell p → AllOf (NounWell K ts ls) here.nouns → AllOf (NounWell K ts ls) (scopes.named p (Ref n) here).nouns
+  unfolding scopes.named scopes.with_noun any_guard frozen_guard freezes primitive native.numbered native.primitives
   named_well ts ls (Some (Final y g)) n here w h = ((w, (tt, tt, λ e. absurd (false_true e))), h)
   named_well ts ls _ n here w h = h
 
@@ -458,27 +461,27 @@ module _ {N W : Type 0} (K : Naming N W) (spots : (i : ℕ) → K.spot (K.object
       widen K answer s t (rest t) grown (r.after t (record { things = all_end _ s.things (Made node caught stamps) (all_map (thing_up s.things s.lists us s.lists grown K) s.things h.things) w; slots = h.slots; lists = h.lists; queue = h.queue; known = h.known; outbox = h.outbox }) c)
 
   object_ends : (node : ℕ) (p : Option Node) (xs : List Words) (stamps : List (Value N)) (here : Scope N) (s : Vat N) → MayBe NamesWell p → Sound K s → AllOf (NounWell K s.things s.lists) here.nouns → AreThere s.lists stamps
-      → (IsAmong deep_frozen stamps → meets (eval.free_names (eval.name_of p) here.nouns xs) ≡ true)
-      → Ends K answer s (eval.object_as K tree node p xs stamps (K.object (length s.things)) here s)
-  unfolding eval.object_as eval.object_in eval.object_made
+      → (IsAmong deep_frozen stamps → meets (scopes.free_names (scopes.name_of p) here.nouns xs) ≡ true)
+      → Ends K answer s (calls.object_as K tree node p xs stamps (K.object (length s.things)) here s)
+  unfolding calls.object_as calls.object_in calls.object_made
   object_ends node p xs stamps here s w h nouns i m =
-      let me : N = K.object (length s.things) in let after : Scope N = eval.named p (Ref me) here in let caught : List (Binding N) = eval.captures after xs in
+      let me : N = K.object (length s.things) in let after : Scope N = scopes.named p (Ref me) here in let caught : List (Binding N) = scopes.captures after xs in
       let us : List (Thing N) = s.things ++ Made node caught stamps ∷ [] in let grown = grows_things s.things s.lists (Made node caught stamps) in
       let here_now : AllOf (NounWell K us s.lists) here.nouns = all_map (noun_up s.things s.lists us s.lists grown K) here.nouns nouns in
       let after_now : AllOf (NounWell K us s.lists) after.nouns = named_well us s.lists p me here w here_now in
-      made_ends node caught stamps (tell (ObjectMade here.act me (eval.name_of p) (map (λ b. b.bound) caught) stamps) >> eval.answered after (Ref me)) (AreNouns after.nouns) s h
+      made_ends node caught stamps (tell (ObjectMade here.act me (scopes.name_of p) (map (λ b. b.bound) caught) stamps) >> scopes.answered after (Ref me)) (AreNouns after.nouns) s h
       (caught_well us s.lists after xs after_now, i, λ a. all_frozen us s.lists p here (Ref me) xs here_now (length s.things, spots (length s.things), (node, caught, stamps, get_end s.things (Made node caught stamps), a)) (m a))
       after_now (then_unit K (fine_tell K _) (fine_answered after (got_itself K (AreNouns after.nouns)) (Ref me) (got_ref K (AreNouns after.nouns) me)))
 
-  object_after : {C : Fact N} (node : ℕ) (p : Option Node) (xs : List Words) (stamps : List (Value N)) (here : Scope N) → MayBe NamesWell p → Gets K C (AreNouns here.nouns) → Gets K C (AreValues stamps) → Gets K C (StampsMeet (eval.free_names (eval.name_of p) here.nouns xs) stamps)
-      → Fine K C (look (λ s. length s.things) >>= (λ n. eval.object_as K tree node p xs stamps (K.object n) here)) answer
+  object_after : {C : Fact N} (node : ℕ) (p : Option Node) (xs : List Words) (stamps : List (Value N)) (here : Scope N) → MayBe NamesWell p → Gets K C (AreNouns here.nouns) → Gets K C (AreValues stamps) → Gets K C (StampsMeet (scopes.free_names (scopes.name_of p) here.nouns xs) stamps)
+      → Fine K C (look (λ s. length s.things) >>= (λ n. calls.object_as K tree node p xs stamps (K.object n) here)) answer
   unfolding ◌>>=◌ look and_then
   object_after node p xs stamps here w g i m = record { after = λ s h c. object_ends node p xs stamps here s w h (g.at s.things s.lists c) (i.at s.things s.lists c) (m.at s.things s.lists c) }
 
-  pub fine_make_object : {C : Fact N} → (again : Caller N) → GoodCaller K again → (node : ℕ) → (p : Option Node) → MayBe NamesWell p → (xs : List Words) → (auditors : List (Value N)) → Gets K C (AreValues auditors) → (here : Scope N) → Gets K C (AreNouns here.nouns) → Fine K C (eval.make_object K tree again node p xs auditors here) answer
-  unfolding eval.make_object eval.view_of
-  fine_make_object {C = C} again h1 node p w xs auditors g1 here g2 = let fs : List (FreeName N) = eval.free_names (eval.name_of p) here.nouns xs in
-      fine_bind K (λ ys. Also (AreValues ys) (StampsMeet fs ys)) (fine_ask_all again h1 here.act (eval.view_of K tree node p xs here) (got_view K tree C node p xs here g2) auditors g1)
+  pub fine_make_object : {C : Fact N} → (again : Caller N) → GoodCaller K again → (node : ℕ) → (p : Option Node) → MayBe NamesWell p → (xs : List Words) → (auditors : List (Value N)) → Gets K C (AreValues auditors) → (here : Scope N) → Gets K C (AreNouns here.nouns) → Fine K C (calls.make_object K tree again node p xs auditors here) answer
+  unfolding calls.make_object calls.view_of
+  fine_make_object {C = C} again h1 node p w xs auditors g1 here g2 = let fs : List (FreeName N) = scopes.free_names (scopes.name_of p) here.nouns xs in
+      fine_bind K (λ ys. Also (AreValues ys) (StampsMeet fs ys)) (fine_ask_all again h1 here.act (calls.view_of K tree node p xs here) (got_view K tree C node p xs here g2) auditors g1)
       (λ stamps. object_after node p xs stamps here w (got_left K C (Also (AreValues stamps) (StampsMeet fs stamps)) (AreNouns here.nouns) g2) (record { at = λ ts ls c. c.1.0 }) (record { at = λ ts ls c. c.1.1 }))
 
   pub fine_all_of : {C : Fact N} → (x1 : Evaluator N) → GoodEvaluator K x1 → (x2 : List ℕ) → (x3 : Scope N) → Gets K C (AreNouns x3.nouns) → Fine K C (eval.all_of K tree x1 x2 x3) answers
@@ -529,9 +532,9 @@ module _ {N W : Type 0} (K : Naming N W) (spots : (i : ℕ) → K.spot (K.object
   fine_unmatched_noun {C = C} act true = search (fine, looks, knows) depth 30
 
   pub fine_unmatched : {C : Fact N} → (bs : List BoundNoun) → AllOf (λ (b : BoundNoun). same_words b.noun (codes "_") ≡ false) bs → (here : Scope N) → Gets K C (AreNouns here.nouns) → Fine K C (eval.unmatched K tree bs here) scope
-  unfolding eval.unmatched eval.with_noun
+  unfolding eval.unmatched scopes.with_noun
   fine_unmatched {C = C} [] h here g = fine_give K here g
-  fine_unmatched {C = C} (b ∷ bs) h here g = fine_bind K IsBound (fine_unmatched_noun here.act b.is_var) (λ n. fine_unmatched {C = Also C (IsBound n)} bs h.1 (eval.with_noun b.noun n here) (got_noun K (Also C (IsBound n)) b.noun n here.nouns h.0 (got K C (IsBound n)) (got_left K C (IsBound n) (AreNouns here.nouns) g)))
+  fine_unmatched {C = C} (b ∷ bs) h here g = fine_bind K IsBound (fine_unmatched_noun here.act b.is_var) (λ n. fine_unmatched {C = Also C (IsBound n)} bs h.1 (scopes.with_noun b.noun n here) (got_noun K (Also C (IsBound n)) b.noun n here.nouns h.0 (got K C (IsBound n)) (got_left K C (IsBound n) (AreNouns here.nouns) g)))
 
   pub fine_not_matched : {C : Fact N} → (p : ℕ) → (here : Scope N) → Gets K C (AreNouns here.nouns) → (v : Value N) → Fine K C (eval.not_matched K tree p here v) answer
   unfolding eval.not_matched
@@ -583,13 +586,13 @@ module _ {N W : Type 0} (K : Naming N W) (spots : (i : ℕ) → K.spot (K.object
   fine_bind_items {C = C} rec good ps j g1 here g2 _ g3 = search (fine, looks, knows, fine_failed, fine_call) depth 30
 
   pub fine_bind_step : {C : Fact N} → (rec : Evaluator N) → GoodEvaluator K rec → (n : Node) → NamesWell n → (v : Value N) → Gets K C (IsValue v) → (j : Value N) → Gets K C (IsValue j) → (here : Scope N) → Gets K C (AreNouns here.nouns) → Fine K C (eval.bind_step K tree rec n v j here) scope
-  unfolding eval.bind_step eval.with_noun
+  unfolding eval.bind_step scopes.with_noun
   fine_bind_step {C = C} rec good (Final x g) w v g1 j g2 here g3 = bind_answer K (fine_guard_of rec good g here g3) (λ a.
-      fine_bind K (λ y. IsBound (Fixed y a.value)) (coerce_bound {C = Also C (Also (IsValue a.value) (AreNouns a.scope.nouns))} (eval.call K tree rec) (λ D act y h verb args i. fine_call {C = D} rec good act y h verb args i) here.act a.value (record { at = λ ts ls c. c.1.0 }) j (record { at = λ ts ls c. g2.at ts ls c.0 }) v (record { at = λ ts ls c. g1.at ts ls c.0 }))
-      (λ y. fine_give K (eval.with_noun x (Fixed y a.value) a.scope) (record { at = λ ts ls c. ((w, c.1), c.0.1.1) })))
+      fine_bind K (λ y. IsBound (Fixed y a.value)) (coerce_bound {C = Also C (Also (IsValue a.value) (AreNouns a.scope.nouns))} (calls.call K tree rec) (λ D act y h verb args i. fine_call {C = D} rec good act y h verb args i) here.act a.value (record { at = λ ts ls c. c.1.0 }) j (record { at = λ ts ls c. g2.at ts ls c.0 }) v (record { at = λ ts ls c. g1.at ts ls c.0 }))
+      (λ y. fine_give K (scopes.with_noun x (Fixed y a.value) a.scope) (record { at = λ ts ls c. ((w, c.1), c.0.1.1) })))
   fine_bind_step {C = C} rec good (Var x g) w v g1 j g2 here g3 = bind_answer K (fine_guard_of rec good g here g3) (λ a.
-      bind_value K (fine_coerce {C = Also C (Also (IsValue a.value) (AreNouns a.scope.nouns))} (eval.call K tree rec) (λ D act y h verb args i. fine_call {C = D} rec good act y h verb args i) here.act a.value (record { at = λ ts ls c. c.1.0 }) j (record { at = λ ts ls c. g2.at ts ls c.0 }) v (record { at = λ ts ls c. g1.at ts ls c.0 }))
-      (λ y. bind_number K (fine_slot K a.value y (record { at = λ ts ls c. c.0.1.0 }) (record { at = λ ts ls c. c.1 })) (λ k. then_unit K (fine_tell K _) (fine_give K (eval.with_noun x (Slot k) a.scope) (record { at = λ ts ls c. ((w, tt), c.0.1.1) })))))
+      bind_value K (fine_coerce {C = Also C (Also (IsValue a.value) (AreNouns a.scope.nouns))} (calls.call K tree rec) (λ D act y h verb args i. fine_call {C = D} rec good act y h verb args i) here.act a.value (record { at = λ ts ls c. c.1.0 }) j (record { at = λ ts ls c. g2.at ts ls c.0 }) v (record { at = λ ts ls c. g1.at ts ls c.0 }))
+      (λ y. bind_number K (fine_slot K a.value y (record { at = λ ts ls c. c.0.1.0 }) (record { at = λ ts ls c. c.1 })) (λ k. then_unit K (fine_tell K _) (fine_give K (scopes.with_noun x (Slot k) a.scope) (record { at = λ ts ls c. ((w, tt), c.0.1.1) })))))
   fine_bind_step {C = C} rec good (Any g) w v g1 j g2 here g3 = search (fine, looks, knows, fine_guard_of, fine_coerce, fine_call) depth 30
   fine_bind_step {C = C} rec good (ListPattern ps) w v g1 j g2 here g3 = search (fine, looks, knows, fine_bind_items) depth 30
   fine_bind_step {C = C} rec good (Via e p) w v g1 j g2 here g3 = search (fine, looks, knows, fine_handed, fine_call, good.expression, good.pattern) depth 30

@@ -5,8 +5,9 @@ use Rattle.ev_machine.specs.Values.{Value, Null, Flag, Number, Letter, Text, Pri
 use Rattle.ev_machine.specs.State.{Message, Passed, Passeds, Plain, AGift, Many, NoMore, More, Note, Deliver, Open, Ask, SettledTo, Elsewhere, Shorten, Put, Vat, Done, Gives, Throws, Ejects, Stops, begun}
 use Rattle.ev_machine.specs.Free.{same_words}
 use Rattle.ev_machine.specs.Native as native
-use Rattle.ev_machine.specs.Eval as eval
-use Rattle.ev_machine.specs.Eval.{opening, any_guard}
+use Rattle.ev_machine.specs.Scopes as scopes
+use Rattle.ev_machine.specs.Scopes.{any_guard}
+use Rattle.ev_machine.specs.Eval.{opening}
 use Rattle.ev_machine.specs.Arrive.{notice}
 use Rattle.ev_machine_laws.specs.Steps.{Step, Opens as Starts, Takes, Receives, Notices, does, After}
 use Rattle.ev_run.specs.Draws.{draw_word}
@@ -219,7 +220,7 @@ module _ (script : Script) where
     false_true e = cc
 
     given_well : (v : ℕ) (s : Vat Name) (ws : List ℕ) → AllOf (NounWell (names script v) s.things s.lists) (world.given script.vats ws)
-    unfolding world.given world.name_at any_guard eval.frozen_guard eval.freezes native.primitive native.numbered native.primitives
+    unfolding world.given world.name_at any_guard scopes.frozen_guard scopes.freezes native.primitive native.numbered native.primitives
     given_well v s [] = tt
     given_well v s (u ∷ us) = ((name_of (slice_get script.vats u) (get_all _ script.vats u well), (tt, tt, λ e. absurd (false_true e))), given_well v s us)
 

@@ -6,4 +6,7 @@ pub mod Ints
 pub mod Native
 pub mod Refs
 pub mod Arrive
+pub mod Calls
 pub mod Eval
+pub mod Perform
+pub mod Scopes

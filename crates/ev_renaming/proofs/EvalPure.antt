@@ -8,8 +8,10 @@ use Rattle.ev_machine.specs.Form as form
 use Rattle.ev_machine.specs.Native.{list_at, Reply, Says, Fails, Guard, AnyGuard, VoidGuard, IntGuard, BooleanGuard, CharGuard, TextGuard, ListGuard, NullGuard, NearGuard, FrozenGuard, OrNull, RefTest, Fulfillment, NoTest}
 use Rattle.ev_machine.specs.Refs as refs
 use Rattle.ev_machine.specs.Refs.{Place, Near, Mine, Away, Gone, highest}
-use Rattle.ev_machine.specs.Eval as eval
-use Rattle.ev_machine.specs.Eval.{AuditionAsk, ResolverAsk}
+use Rattle.ev_machine.specs.Scopes as scopes
+use Rattle.ev_machine.specs.Perform as perform
+use Rattle.ev_machine.specs.Calls as calls
+use Rattle.ev_machine.specs.Scopes.{AuditionAsk, ResolverAsk}
 use Rattle.ev_kernel.specs.declared.node.Literal.{Literal}
 use Rattle.ev_kernel.specs.declared.node.Literal.TheVariants as literal
 use Rattle.ev_kernel.specs.declared.node.Node.{Node}
@@ -37,13 +39,13 @@ module _ {N M : Type 0} (f : N → M) where
   literal_map (literal.Char c) = refl
   literal_map (literal.Text t) = refl
 
-  pub bound_map : (bs : List (Binding N)) (x : Words) → eval.bound_in (map (maps.binding f) bs) x ≡ option_map (maps.bound f) (eval.bound_in bs x)
-  unfolding eval.bound_in
+  pub bound_map : (bs : List (Binding N)) (x : Words) → scopes.bound_in (map (maps.binding f) bs) x ≡ option_map (maps.bound f) (scopes.bound_in bs x)
+  unfolding scopes.bound_in
   bound_map [] x = refl
-  bound_map (b ∷ bs) x = pick_map (option_map (maps.bound f)) (same_words b.noun x) (Some b.bound) (eval.bound_in bs x) (Some (maps.bound f b.bound)) (eval.bound_in (map (maps.binding f) bs) x) refl (bound_map bs x)
+  bound_map (b ∷ bs) x = pick_map (option_map (maps.bound f)) (same_words b.noun x) (Some b.bound) (scopes.bound_in bs x) (Some (maps.bound f b.bound)) (scopes.bound_in (map (maps.binding f) bs) x) refl (bound_map bs x)
 
-  pub with_noun_map : (x : Words) (b : Bound N) (here : Scope N) → eval.with_noun x (maps.bound f b) (maps.scope f here) ≡ maps.scope f (eval.with_noun x b here)
-  unfolding eval.with_noun
+  pub with_noun_map : (x : Words) (b : Bound N) (here : Scope N) → scopes.with_noun x (maps.bound f b) (maps.scope f here) ≡ maps.scope f (scopes.with_noun x b here)
+  unfolding scopes.with_noun
   with_noun_map x b here = refl
 
   capture_pick : (x : Words) (o : Option (Bound N)) (rest : List (Binding N)) (rest' : List (Binding M)) → rest' ≡ map (maps.binding f) rest
@@ -51,120 +53,120 @@ module _ {N M : Type 0} (f : N → M) where
   capture_pick x (Some b) rest rest' e = ap (λ zs. record { noun = x; bound = maps.bound f b } ∷ zs) e
   capture_pick x None rest rest' e = e
 
-  pub captures_map : (here : Scope N) (xs : List Words) → eval.captures (maps.scope f here) xs ≡ map (maps.binding f) (eval.captures here xs)
-  unfolding eval.captures
+  pub captures_map : (here : Scope N) (xs : List Words) → scopes.captures (maps.scope f here) xs ≡ map (maps.binding f) (scopes.captures here xs)
+  unfolding scopes.captures
   captures_map here [] = refl
-  captures_map here (x ∷ xs) = rw (bound_map here.nouns x, eval.captures) (capture_pick x (eval.bound_in here.nouns x) (eval.captures here xs) (eval.captures (maps.scope f here) xs) (captures_map here xs))
+  captures_map here (x ∷ xs) = rw (bound_map here.nouns x, scopes.captures) (capture_pick x (scopes.bound_in here.nouns x) (scopes.captures here xs) (scopes.captures (maps.scope f here) xs) (captures_map here xs))
 
-  pub named_map : (p : Option Node) (v : Value N) (here : Scope N) → eval.named p (maps.value f v) (maps.scope f here) ≡ maps.scope f (eval.named p v here)
-  unfolding eval.named eval.with_noun eval.any_guard
+  pub named_map : (p : Option Node) (v : Value N) (here : Scope N) → scopes.named p (maps.value f v) (maps.scope f here) ≡ maps.scope f (scopes.named p v here)
+  unfolding scopes.named scopes.with_noun scopes.any_guard
   named_map (Some (Final x g)) v here = refl
   named_map _ v here = refl
 
-  freedom_bound_map : (o : Option (Bound N)) (x : Words) → eval.freedom_of_bound (option_map (maps.bound f) o) x ≡ maps.freedom f (eval.freedom_of_bound o x)
-  unfolding eval.freedom_of_bound
+  freedom_bound_map : (o : Option (Bound N)) (x : Words) → scopes.freedom_of_bound (option_map (maps.bound f) o) x ≡ maps.freedom f (scopes.freedom_of_bound o x)
+  unfolding scopes.freedom_of_bound
   freedom_bound_map (Some (Fixed v g)) x = refl
   freedom_bound_map (Some (Slot k)) x = refl
   freedom_bound_map None x = refl
 
-  freedom_map : (own : Words) (bs : List (Binding N)) (x : Words) → eval.freedom_of own (map (maps.binding f) bs) x ≡ maps.freedom f (eval.freedom_of own bs x)
-  unfolding eval.freedom_of
-  freedom_map own bs x = pick_map (maps.freedom f) (same_words own x) IsItself (eval.freedom_of_bound (eval.bound_in bs x) x) IsItself (eval.freedom_of_bound (eval.bound_in (map (maps.binding f) bs) x) x) refl (rw (bound_map bs x) (freedom_bound_map (eval.bound_in bs x) x))
+  freedom_map : (own : Words) (bs : List (Binding N)) (x : Words) → scopes.freedom_of own (map (maps.binding f) bs) x ≡ maps.freedom f (scopes.freedom_of own bs x)
+  unfolding scopes.freedom_of
+  freedom_map own bs x = pick_map (maps.freedom f) (same_words own x) IsItself (scopes.freedom_of_bound (scopes.bound_in bs x) x) IsItself (scopes.freedom_of_bound (scopes.bound_in (map (maps.binding f) bs) x) x) refl (rw (bound_map bs x) (freedom_bound_map (scopes.bound_in bs x) x))
 
-  pub free_names_map : (own : Words) (bs : List (Binding N)) (xs : List Words) → eval.free_names own (map (maps.binding f) bs) xs ≡ map (maps.free_name f) (eval.free_names own bs xs)
-  unfolding eval.free_names
+  pub free_names_map : (own : Words) (bs : List (Binding N)) (xs : List Words) → scopes.free_names own (map (maps.binding f) bs) xs ≡ map (maps.free_name f) (scopes.free_names own bs xs)
+  unfolding scopes.free_names
   free_names_map own bs [] = refl
   free_names_map own bs (x ∷ xs) = rw (freedom_map own bs x, free_names_map own bs xs) refl
 
-  frozen_guard_map : (g : Value N) → eval.frozen_guard (maps.value f g) ≡ eval.frozen_guard g
-  unfolding eval.frozen_guard
+  frozen_guard_map : (g : Value N) → scopes.frozen_guard (maps.value f g) ≡ scopes.frozen_guard g
+  unfolding scopes.frozen_guard
   frozen_guard_map (Prim n) = refl
   frozen_guard_map _ = refl
 
-  frozen_freedom_map : (x : Freedom N) → eval.frozen_freedom (maps.freedom f x) ≡ eval.frozen_freedom x
-  unfolding eval.frozen_freedom
+  frozen_freedom_map : (x : Freedom N) → scopes.frozen_freedom (maps.freedom f x) ≡ scopes.frozen_freedom x
+  unfolding scopes.frozen_freedom
   frozen_freedom_map IsSafe = refl
   frozen_freedom_map IsItself = refl
   frozen_freedom_map (IsFinal g) = frozen_guard_map g
   frozen_freedom_map IsVar = refl
 
-  pub meets_map : (xs : List (FreeName N)) → eval.meets (map (maps.free_name f) xs) ≡ eval.meets xs
-  unfolding eval.meets
+  pub meets_map : (xs : List (FreeName N)) → scopes.meets (map (maps.free_name f) xs) ≡ scopes.meets xs
+  unfolding scopes.meets
   meets_map [] = refl
-  meets_map (x ∷ xs) = pick_same (eval.frozen_freedom x.freedom) (eval.frozen_freedom (maps.freedom f x.freedom)) (eval.meets xs) false (eval.meets (map (maps.free_name f) xs)) false (frozen_freedom_map x.freedom) (meets_map xs) refl
+  meets_map (x ∷ xs) = pick_same (scopes.frozen_freedom x.freedom) (scopes.frozen_freedom (maps.freedom f x.freedom)) (scopes.meets xs) false (scopes.meets (map (maps.free_name f) xs)) false (frozen_freedom_map x.freedom) (meets_map xs) refl
 
-  guard_told_map : (x : Freedom N) → eval.guard_told (maps.freedom f x) ≡ maps.value f (eval.guard_told x)
-  unfolding eval.guard_told eval.any_guard
+  guard_told_map : (x : Freedom N) → scopes.guard_told (maps.freedom f x) ≡ maps.value f (scopes.guard_told x)
+  unfolding scopes.guard_told scopes.any_guard
   guard_told_map IsSafe = refl
   guard_told_map IsItself = refl
   guard_told_map (IsFinal g) = refl
   guard_told_map IsVar = refl
 
-  guard_at_map : (xs : List (FreeName N)) (x : Words) → eval.guard_at (map (maps.free_name f) xs) x ≡ evals.reply f (eval.guard_at xs x)
-  unfolding eval.guard_at
+  guard_at_map : (xs : List (FreeName N)) (x : Words) → scopes.guard_at (map (maps.free_name f) xs) x ≡ evals.reply f (scopes.guard_at xs x)
+  unfolding scopes.guard_at
   guard_at_map [] x = refl
-  guard_at_map (y ∷ ys) x = pick_map (evals.reply f) (same_words y.noun x) (Says (eval.guard_told y.freedom)) (eval.guard_at ys x) (Says (eval.guard_told (maps.freedom f y.freedom))) (eval.guard_at (map (maps.free_name f) ys) x) (ap Says (guard_told_map y.freedom)) (guard_at_map ys x)
+  guard_at_map (y ∷ ys) x = pick_map (evals.reply f) (same_words y.noun x) (Says (scopes.guard_told y.freedom)) (scopes.guard_at ys x) (Says (scopes.guard_told (maps.freedom f y.freedom))) (scopes.guard_at (map (maps.free_name f) ys) x) (ap Says (guard_told_map y.freedom)) (guard_at_map ys x)
 
-  pub guard_asked_map : (xs : List (FreeName N)) (x : Value N) → eval.guard_asked (map (maps.free_name f) xs) (maps.value f x) ≡ evals.reply f (eval.guard_asked xs x)
-  unfolding eval.guard_asked
+  pub guard_asked_map : (xs : List (FreeName N)) (x : Value N) → scopes.guard_asked (map (maps.free_name f) xs) (maps.value f x) ≡ evals.reply f (scopes.guard_asked xs x)
+  unfolding scopes.guard_asked
   guard_asked_map xs (Text t) = guard_at_map xs t
   guard_asked_map xs _ = refl
 
-  pub audition_ask_map : (verb : Words) (xs : List (Value N)) → eval.audition_ask verb (map (maps.value f) xs) ≡ evals.audition_ask f (eval.audition_ask verb xs)
-  unfolding eval.audition_ask
+  pub audition_ask_map : (verb : Words) (xs : List (Value N)) → scopes.audition_ask verb (map (maps.value f) xs) ≡ evals.audition_ask f (scopes.audition_ask verb xs)
+  unfolding scopes.audition_ask
   audition_ask_map verb [] = entry_map (evals.audition_ask f) _ _ verb
   audition_ask_map verb (x ∷ []) = entry_map (evals.audition_ask f) _ _ verb
   audition_ask_map verb (x ∷ y ∷ zs) = refl
 
-  pub resolver_ask_map : (verb : Words) (xs : List (Value N)) → eval.resolver_ask verb (map (maps.value f) xs) ≡ evals.resolver_ask f (eval.resolver_ask verb xs)
-  unfolding eval.resolver_ask
+  pub resolver_ask_map : (verb : Words) (xs : List (Value N)) → scopes.resolver_ask verb (map (maps.value f) xs) ≡ evals.resolver_ask f (scopes.resolver_ask verb xs)
+  unfolding scopes.resolver_ask
   resolver_ask_map verb [] = refl
   resolver_ask_map verb (x ∷ []) = entry_map (evals.resolver_ask f) _ _ verb
   resolver_ask_map verb (x ∷ y ∷ zs) = refl
 
-  pub ejector_ask_map : (verb : Words) (xs : List (Value N)) → eval.ejector_ask verb (map (maps.value f) xs) ≡ option_map (maps.value f) (eval.ejector_ask verb xs)
-  unfolding eval.ejector_ask
+  pub ejector_ask_map : (verb : Words) (xs : List (Value N)) → scopes.ejector_ask verb (map (maps.value f) xs) ≡ option_map (maps.value f) (scopes.ejector_ask verb xs)
+  unfolding scopes.ejector_ask
   ejector_ask_map verb [] = entry_map (option_map (maps.value f)) _ _ verb
   ejector_ask_map verb (x ∷ []) = entry_map (option_map (maps.value f)) _ _ verb
   ejector_ask_map verb (x ∷ y ∷ zs) = refl
 
-  pub is_null_map : (x : Value N) → eval.is_null (maps.value f x) ≡ eval.is_null x
-  unfolding eval.is_null
+  pub is_null_map : (x : Value N) → scopes.is_null (maps.value f x) ≡ scopes.is_null x
+  unfolding scopes.is_null
   is_null_map Null = refl
   is_null_map _ = refl
 
-  pub is_true_map : (x : Value N) → eval.is_true (maps.value f x) ≡ eval.is_true x
-  unfolding eval.is_true
+  pub is_true_map : (x : Value N) → scopes.is_true (maps.value f x) ≡ scopes.is_true x
+  unfolding scopes.is_true
   is_true_map (Flag b) = refl
   is_true_map _ = refl
 
-  is_near_map : (p : Place N) → eval.is_near (maps.place f p) ≡ eval.is_near p
-  unfolding eval.is_near
+  is_near_map : (p : Place N) → scopes.is_near (maps.place f p) ≡ scopes.is_near p
+  unfolding scopes.is_near
   is_near_map Near = refl
   is_near_map _ = refl
 
-  where_map : (b : Bool) (y : Value N) → eval.where_true b (maps.value f y) ≡ option_map (maps.value f) (eval.where_true b y)
-  unfolding eval.where_true
+  where_map : (b : Bool) (y : Value N) → scopes.where_true b (maps.value f y) ≡ option_map (maps.value f) (scopes.where_true b y)
+  unfolding scopes.where_true
   where_map true y = refl
   where_map false y = refl
 
-  all_plain_map : (F : Value N → Bool) (G : Value M → Bool) → ((v : Value N) → G (maps.value f v) ≡ F v) → (vs : List (Value N)) → eval.all_plain G (map (maps.value f) vs) ≡ eval.all_plain F vs
-  unfolding eval.all_plain
+  all_plain_map : (F : Value N → Bool) (G : Value M → Bool) → ((v : Value N) → G (maps.value f v) ≡ F v) → (vs : List (Value N)) → scopes.all_plain G (map (maps.value f) vs) ≡ scopes.all_plain F vs
+  unfolding scopes.all_plain
   all_plain_map F G e [] = refl
-  all_plain_map F G e (v ∷ vs) = pick_same (F v) (G (maps.value f v)) (eval.all_plain F vs) false (eval.all_plain G (map (maps.value f) vs)) false (e v) (all_plain_map F G e vs) refl
+  all_plain_map F G e (v ∷ vs) = pick_same (F v) (G (maps.value f v)) (scopes.all_plain F vs) false (scopes.all_plain G (map (maps.value f) vs)) false (e v) (all_plain_map F G e vs) refl
 
-  plain_by_map : (F : List (Value N) → Bool) (G : List (Value M) → Bool) → ((vs : List (Value N)) → G (map (maps.value f) vs) ≡ F vs) → (ls : List (List (Value N))) (v : Value N) → eval.plain_by G (map (map (maps.value f)) ls) (maps.value f v) ≡ eval.plain_by F ls v
-  unfolding eval.plain_by
+  plain_by_map : (F : List (Value N) → Bool) (G : List (Value M) → Bool) → ((vs : List (Value N)) → G (map (maps.value f) vs) ≡ F vs) → (ls : List (List (Value N))) (v : Value N) → scopes.plain_by G (map (map (maps.value f)) ls) (maps.value f v) ≡ scopes.plain_by F ls v
+  unfolding scopes.plain_by
   plain_by_map F G e ls (Items k) = rw (list_at_map f ls k) (e (list_at ls k))
   plain_by_map F G e ls _ = refl
 
-  plain_map : (d : ℕ) (ls : List (List (Value N))) (v : Value N) → eval.is_plain d (map (map (maps.value f)) ls) (maps.value f v) ≡ eval.is_plain d ls v
-  unfolding eval.is_plain
+  plain_map : (d : ℕ) (ls : List (List (Value N))) (v : Value N) → scopes.is_plain d (map (map (maps.value f)) ls) (maps.value f v) ≡ scopes.is_plain d ls v
+  unfolding scopes.is_plain
   plain_map zero ls v = plain_by_map (λ vs. false) (λ vs. false) (λ vs. refl) ls v
-  plain_map (suc d) ls v = plain_by_map (eval.all_plain (λ w. eval.is_plain d ls w)) (eval.all_plain (λ w. eval.is_plain d (map (map (maps.value f)) ls) w)) (all_plain_map (λ w. eval.is_plain d ls w) (λ w. eval.is_plain d (map (map (maps.value f)) ls) w) (plain_map d ls)) ls v
+  plain_map (suc d) ls v = plain_by_map (scopes.all_plain (λ w. scopes.is_plain d ls w)) (scopes.all_plain (λ w. scopes.is_plain d (map (map (maps.value f)) ls) w)) (all_plain_map (λ w. scopes.is_plain d ls w) (λ w. scopes.is_plain d (map (map (maps.value f)) ls) w) (plain_map d ls)) ls v
 
-  stamps_of_map : (t : Option (Thing N)) → eval.stamps_of (option_map (maps.thing f) t) ≡ map (maps.value f) (eval.stamps_of t)
-  unfolding eval.stamps_of
+  stamps_of_map : (t : Option (Thing N)) → scopes.stamps_of (option_map (maps.thing f) t) ≡ map (maps.value f) (scopes.stamps_of t)
+  unfolding scopes.stamps_of
   stamps_of_map (Some (Made node caught stamps)) = refl
   stamps_of_map _ = refl
 
@@ -175,40 +177,40 @@ module _ {N M W V : Type 0} (f : N → M) (w : W → V) (K : Naming N W) (L : Na
   places : (s : Vat N) (y : Value N) → refs.place L (maps.vat f s) (maps.value f y) ≡ maps.place f (refs.place K s y)
   places s y = same_place f w K L Fits law y s
 
-  pub with_item_map : (v : Value N) (fs : List (List (Value N))) → eval.with_item L tree (maps.value f v) (map (map (maps.value f)) fs) ≡ map (map (maps.value f)) (eval.with_item K tree v fs)
-  unfolding eval.with_item
+  pub with_item_map : (v : Value N) (fs : List (List (Value N))) → calls.with_item L tree (maps.value f v) (map (map (maps.value f)) fs) ≡ map (map (maps.value f)) (calls.with_item K tree v fs)
+  unfolding calls.with_item
   with_item_map v [] = refl
   with_item_map v (g ∷ fs) = rw (map_end (maps.value f) g v) refl
 
-  pub with_stamp_map : (b : Bool) (y : Value N) (ys : List (Value N)) → eval.with_stamp L tree b (maps.value f y) (map (maps.value f) ys) ≡ map (maps.value f) (eval.with_stamp K tree b y ys)
-  unfolding eval.with_stamp
+  pub with_stamp_map : (b : Bool) (y : Value N) (ys : List (Value N)) → calls.with_stamp L tree b (maps.value f y) (map (maps.value f) ys) ≡ map (maps.value f) (calls.with_stamp K tree b y ys)
+  unfolding calls.with_stamp
   with_stamp_map true y ys = refl
   with_stamp_map false y ys = refl
 
-  same_stamp_map : (a b : Value N) → eval.same_stamp L tree (maps.value f a) (maps.value f b) ≡ eval.same_stamp K tree a b
-  unfolding eval.same_stamp
+  same_stamp_map : (a b : Value N) → perform.same_stamp L tree (maps.value f a) (maps.value f b) ≡ perform.same_stamp K tree a b
+  unfolding perform.same_stamp
   same_stamp_map (Prim m) (Prim n) = refl
   same_stamp_map (Ref m) (Ref n) = law.same m n
   same_stamp_map _ _ = refl
 
-  has_stamp_map : (a : Value N) (bs : List (Value N)) → eval.has_stamp L tree (maps.value f a) (map (maps.value f) bs) ≡ eval.has_stamp K tree a bs
-  unfolding eval.has_stamp
+  has_stamp_map : (a : Value N) (bs : List (Value N)) → perform.has_stamp L tree (maps.value f a) (map (maps.value f) bs) ≡ perform.has_stamp K tree a bs
+  unfolding perform.has_stamp
   has_stamp_map a [] = refl
-  has_stamp_map a (b ∷ bs) = pick_same (eval.same_stamp K tree a b) (eval.same_stamp L tree (maps.value f a) (maps.value f b)) true (eval.has_stamp K tree a bs) true (eval.has_stamp L tree (maps.value f a) (map (maps.value f) bs)) (same_stamp_map a b) refl (has_stamp_map a bs)
+  has_stamp_map a (b ∷ bs) = pick_same (perform.same_stamp K tree a b) (perform.same_stamp L tree (maps.value f a) (maps.value f b)) true (perform.has_stamp K tree a bs) true (perform.has_stamp L tree (maps.value f a) (map (maps.value f) bs)) (same_stamp_map a b) refl (has_stamp_map a bs)
 
-  stamps_at_map : (s : Vat N) (p : Spot) → eval.stamps_at L tree (maps.vat f s) p ≡ map (maps.value f) (eval.stamps_at K tree s p)
-  unfolding eval.stamps_at
+  stamps_at_map : (s : Vat N) (p : Spot) → perform.stamps_at L tree (maps.vat f s) p ≡ map (maps.value f) (perform.stamps_at K tree s p)
+  unfolding perform.stamps_at
   stamps_at_map s (Own i) = rw (map_get (maps.thing f) s.things i) (stamps_of_map f (slice_get s.things i))
   stamps_at_map s (Foreign h) = refl
   stamps_at_map s NoObject = refl
 
-  pub stamped_map : (s : Vat N) (a x : Value N) → eval.is_stamped L tree (maps.vat f s) (maps.value f a) (maps.value f x) ≡ eval.is_stamped K tree s a x
-  unfolding eval.is_stamped
-  stamped_map s a (Ref n) = rw (law.spot n, stamps_at_map s (K.spot n)) (has_stamp_map a (eval.stamps_at K tree s (K.spot n)))
+  pub stamped_map : (s : Vat N) (a x : Value N) → perform.is_stamped L tree (maps.vat f s) (maps.value f a) (maps.value f x) ≡ perform.is_stamped K tree s a x
+  unfolding perform.is_stamped
+  stamped_map s a (Ref n) = rw (law.spot n, stamps_at_map s (K.spot n)) (has_stamp_map a (perform.stamps_at K tree s (K.spot n)))
   stamped_map s a _ = refl
 
-  frozen_map : (s : Vat N) (y : Value N) → eval.is_frozen L tree (maps.vat f s) (maps.value f y) ≡ eval.is_frozen K tree s y
-  unfolding eval.is_frozen
+  frozen_map : (s : Vat N) (y : Value N) → perform.is_frozen L tree (maps.vat f s) (maps.value f y) ≡ perform.is_frozen K tree s y
+  unfolding perform.is_frozen
   frozen_map s (Ref n) = stamped_map s (Prim 17) (Ref n)
   frozen_map s (Items k) = plain_map f highest s.lists (Items k)
   frozen_map s Null = plain_map f highest s.lists Null
@@ -219,59 +221,59 @@ module _ {N M W V : Type 0} (f : N → M) (w : W → V) (K : Naming N W) (L : Na
   frozen_map s (Prim n) = plain_map f highest s.lists (Prim n)
   frozen_map s (Broken p) = plain_map f highest s.lists (Broken p)
 
-  kind_map : (t : Value N → Bool) (u : Value M → Bool) → ((v : Value N) → u (maps.value f v) ≡ t v) → (y : Value N) → eval.where_true (u (maps.value f y)) (maps.value f y) ≡ option_map (maps.value f) (eval.where_true (t y) y)
+  kind_map : (t : Value N → Bool) (u : Value M → Bool) → ((v : Value N) → u (maps.value f v) ≡ t v) → (y : Value N) → scopes.where_true (u (maps.value f y)) (maps.value f y) ≡ option_map (maps.value f) (scopes.where_true (t y) y)
   kind_map t u e y = rw (e y) (where_map f (t y) y)
 
-  int_kind : (v : Value N) → eval.is_int (maps.value f v) ≡ eval.is_int v
-  unfolding eval.is_int
+  int_kind : (v : Value N) → scopes.is_int (maps.value f v) ≡ scopes.is_int v
+  unfolding scopes.is_int
   int_kind (Number z) = refl
   int_kind _ = refl
 
-  boolean_kind : (v : Value N) → eval.is_boolean (maps.value f v) ≡ eval.is_boolean v
-  unfolding eval.is_boolean
+  boolean_kind : (v : Value N) → scopes.is_boolean (maps.value f v) ≡ scopes.is_boolean v
+  unfolding scopes.is_boolean
   boolean_kind (Flag z) = refl
   boolean_kind _ = refl
 
-  char_kind : (v : Value N) → eval.is_char (maps.value f v) ≡ eval.is_char v
-  unfolding eval.is_char
+  char_kind : (v : Value N) → scopes.is_char (maps.value f v) ≡ scopes.is_char v
+  unfolding scopes.is_char
   char_kind (Letter z) = refl
   char_kind _ = refl
 
-  text_kind : (v : Value N) → eval.is_text (maps.value f v) ≡ eval.is_text v
-  unfolding eval.is_text
+  text_kind : (v : Value N) → scopes.is_text (maps.value f v) ≡ scopes.is_text v
+  unfolding scopes.is_text
   text_kind (Text z) = refl
   text_kind _ = refl
 
-  list_kind : (v : Value N) → eval.is_list (maps.value f v) ≡ eval.is_list v
-  unfolding eval.is_list
+  list_kind : (v : Value N) → scopes.is_list (maps.value f v) ≡ scopes.is_list v
+  unfolding scopes.is_list
   list_kind (Items z) = refl
   list_kind _ = refl
 
-  pub taken_map : (s : Vat N) (g : Guard) (x y : Value N) → eval.taken L tree (maps.vat f s) g (maps.value f x) (maps.value f y) ≡ option_map (maps.value f) (eval.taken K tree s g x y)
-  unfolding eval.taken
+  pub taken_map : (s : Vat N) (g : Guard) (x y : Value N) → perform.taken L tree (maps.vat f s) g (maps.value f x) (maps.value f y) ≡ option_map (maps.value f) (perform.taken K tree s g x y)
+  unfolding perform.taken
   taken_map s AnyGuard x y = refl
   taken_map s VoidGuard x y = refl
-  taken_map s IntGuard x y = kind_map eval.is_int eval.is_int int_kind y
-  taken_map s BooleanGuard x y = kind_map eval.is_boolean eval.is_boolean boolean_kind y
-  taken_map s CharGuard x y = kind_map eval.is_char eval.is_char char_kind y
-  taken_map s TextGuard x y = kind_map eval.is_text eval.is_text text_kind y
-  taken_map s ListGuard x y = kind_map eval.is_list eval.is_list list_kind y
-  taken_map s NullGuard x y = kind_map eval.is_null eval.is_null (is_null_map f) y
-  taken_map s NearGuard x y = rw (places s y, is_near_map f (refs.place K s y)) (where_map f (eval.is_near (refs.place K s y)) y)
-  taken_map s FrozenGuard x y = rw (frozen_map s y) (where_map f (eval.is_frozen K tree s y) y)
-  taken_map s (OrNull g) x y = rw (is_null_map f y, eval.taken) (pick_map (option_map (maps.value f)) (eval.is_null y) (Some Null) (eval.taken K tree s g x y) (Some Null) (eval.taken L tree (maps.vat f s) g (maps.value f x) (maps.value f y)) refl (taken_map s g x y))
+  taken_map s IntGuard x y = kind_map scopes.is_int scopes.is_int int_kind y
+  taken_map s BooleanGuard x y = kind_map scopes.is_boolean scopes.is_boolean boolean_kind y
+  taken_map s CharGuard x y = kind_map scopes.is_char scopes.is_char char_kind y
+  taken_map s TextGuard x y = kind_map scopes.is_text scopes.is_text text_kind y
+  taken_map s ListGuard x y = kind_map scopes.is_list scopes.is_list list_kind y
+  taken_map s NullGuard x y = kind_map scopes.is_null scopes.is_null (is_null_map f) y
+  taken_map s NearGuard x y = rw (places s y, is_near_map f (refs.place K s y)) (where_map f (scopes.is_near (refs.place K s y)) y)
+  taken_map s FrozenGuard x y = rw (frozen_map s y) (where_map f (perform.is_frozen K tree s y) y)
+  taken_map s (OrNull g) x y = rw (is_null_map f y, perform.taken) (pick_map (option_map (maps.value f)) (scopes.is_null y) (Some Null) (perform.taken K tree s g x y) (Some Null) (perform.taken L tree (maps.vat f s) g (maps.value f x) (maps.value f y)) refl (taken_map s g x y))
 
   -- ---- sameEver
 
-  unsettled_map : (p : Place N) → eval.is_unsettled L tree (maps.place f p) ≡ eval.is_unsettled K tree p
-  unfolding eval.is_unsettled
+  unsettled_map : (p : Place N) → perform.is_unsettled L tree (maps.place f p) ≡ perform.is_unsettled K tree p
+  unfolding perform.is_unsettled
   unsettled_map (Mine n) = refl
   unsettled_map (Away h n o) = refl
   unsettled_map Near = refl
   unsettled_map (Gone p) = refl
 
-  open_by_map : (F : List (Value N) → Bool) (G : List (Value M) → Bool) → ((vs : List (Value N)) → G (map (maps.value f) vs) ≡ F vs) → (s : Vat N) (y : Value N) → eval.open_by L tree G (maps.vat f s) (maps.value f y) ≡ eval.open_by K tree F s y
-  unfolding eval.open_by
+  open_by_map : (F : List (Value N) → Bool) (G : List (Value M) → Bool) → ((vs : List (Value N)) → G (map (maps.value f) vs) ≡ F vs) → (s : Vat N) (y : Value N) → perform.open_by L tree G (maps.vat f s) (maps.value f y) ≡ perform.open_by K tree F s y
+  unfolding perform.open_by
   open_by_map F G e s (Items k) = rw (list_at_map f s.lists k) (e (list_at s.lists k))
   open_by_map F G e s (Ref n) = rw (places s (Ref n)) (unsettled_map (refs.place K s (Ref n)))
   open_by_map F G e s Null = rw (places s Null) (unsettled_map (refs.place K s Null))
@@ -285,21 +287,21 @@ module _ {N M W V : Type 0} (f : N → M) (w : W → V) (K : Naming N W) (L : Na
   anys : (F : Value N → Bool) (G : Value M → Bool) → ((v : Value N) → G (maps.value f v) ≡ F v) → (vs : List (Value N)) → refs.any_of L G (map (maps.value f) vs) ≡ refs.any_of K F vs
   anys = any_map f w K L Fits law
 
-  open_map : (d : ℕ) (s : Vat N) (x : Value N) → eval.is_open L tree d (maps.vat f s) (maps.value f x) ≡ eval.is_open K tree d s x
-  unfolding eval.is_open
+  open_map : (d : ℕ) (s : Vat N) (x : Value N) → perform.is_open L tree d (maps.vat f s) (maps.value f x) ≡ perform.is_open K tree d s x
+  unfolding perform.is_open
   open_map zero s x = rw (follows s x) (open_by_map (λ vs. false) (λ vs. false) (λ vs. refl) s (refs.follow K s x))
-  open_map (suc d) s x = rw (follows s x) (open_by_map (refs.any_of K (λ v. eval.is_open K tree d s v)) (refs.any_of L (λ v. eval.is_open L tree d (maps.vat f s) v)) (anys (λ v. eval.is_open K tree d s v) (λ v. eval.is_open L tree d (maps.vat f s) v) (open_map d s)) s (refs.follow K s x))
+  open_map (suc d) s x = rw (follows s x) (open_by_map (refs.any_of K (λ v. perform.is_open K tree d s v)) (refs.any_of L (λ v. perform.is_open L tree d (maps.vat f s) v)) (anys (λ v. perform.is_open K tree d s v) (λ v. perform.is_open L tree d (maps.vat f s) v) (open_map d s)) s (refs.follow K s x))
 
-  all_same_map : (F : Value N → Value N → Bool) (G : Value M → Value M → Bool) → ((v u : Value N) → G (maps.value f v) (maps.value f u) ≡ F v u) → (vs us : List (Value N)) → eval.all_same L tree G (map (maps.value f) vs) (map (maps.value f) us) ≡ eval.all_same K tree F vs us
-  unfolding eval.all_same
+  all_same_map : (F : Value N → Value N → Bool) (G : Value M → Value M → Bool) → ((v u : Value N) → G (maps.value f v) (maps.value f u) ≡ F v u) → (vs us : List (Value N)) → perform.all_same L tree G (map (maps.value f) vs) (map (maps.value f) us) ≡ perform.all_same K tree F vs us
+  unfolding perform.all_same
   all_same_map F G e [] [] = refl
   all_same_map F G e [] (u ∷ us) = refl
   all_same_map F G e (v ∷ vs) [] = refl
-  all_same_map F G e (v ∷ vs) (u ∷ us) = pick_same (F v u) (G (maps.value f v) (maps.value f u)) (eval.all_same K tree F vs us) false (eval.all_same L tree G (map (maps.value f) vs) (map (maps.value f) us)) false (e v u) (all_same_map F G e vs us) refl
+  all_same_map F G e (v ∷ vs) (u ∷ us) = pick_same (F v u) (G (maps.value f v) (maps.value f u)) (perform.all_same K tree F vs us) false (perform.all_same L tree G (map (maps.value f) vs) (map (maps.value f) us)) false (e v u) (all_same_map F G e vs us) refl
 
   same_by_map : (F : List (Value N) → List (Value N) → Bool) (G : List (Value M) → List (Value M) → Bool) → ((vs us : List (Value N)) → G (map (maps.value f) vs) (map (maps.value f) us) ≡ F vs us) → (s : Vat N) (x y : Value N)
-      → eval.same_by L tree G (maps.vat f s) (maps.value f x) (maps.value f y) ≡ eval.same_by K tree F s x y
-  unfolding eval.same_by
+      → perform.same_by L tree G (maps.vat f s) (maps.value f x) (maps.value f y) ≡ perform.same_by K tree F s x y
+  unfolding perform.same_by
   same_by_map F G e s Null Null = refl
   same_by_map F G e s (Flag a) (Flag b) = refl
   same_by_map F G e s (Number a) (Number b) = refl
@@ -311,11 +313,11 @@ module _ {N M W V : Type 0} (f : N → M) (w : W → V) (K : Naming N W) (L : Na
   same_by_map F G e s (Ref m) (Ref n) = law.same m n
   same_by_map F G e s _ _ = refl
 
-  is_same_map : (d : ℕ) (s : Vat N) (x y : Value N) → eval.is_same L tree d (maps.vat f s) (maps.value f x) (maps.value f y) ≡ eval.is_same K tree d s x y
-  unfolding eval.is_same
+  is_same_map : (d : ℕ) (s : Vat N) (x y : Value N) → perform.is_same L tree d (maps.vat f s) (maps.value f x) (maps.value f y) ≡ perform.is_same K tree d s x y
+  unfolding perform.is_same
   is_same_map zero s x y = rw (follows s x, follows s y) (same_by_map (λ vs us. false) (λ vs us. false) (λ vs us. refl) s (refs.follow K s x) (refs.follow K s y))
-  is_same_map (suc d) s x y = rw (follows s x, follows s y) (same_by_map (eval.all_same K tree (λ v u. eval.is_same K tree d s v u)) (eval.all_same L tree (λ v u. eval.is_same L tree d (maps.vat f s) v u))
-      (all_same_map (λ v u. eval.is_same K tree d s v u) (λ v u. eval.is_same L tree d (maps.vat f s) v u) (is_same_map d s)) s (refs.follow K s x) (refs.follow K s y))
+  is_same_map (suc d) s x y = rw (follows s x, follows s y) (same_by_map (perform.all_same K tree (λ v u. perform.is_same K tree d s v u)) (perform.all_same L tree (λ v u. perform.is_same L tree d (maps.vat f s) v u))
+      (all_same_map (λ v u. perform.is_same K tree d s v u) (λ v u. perform.is_same L tree d (maps.vat f s) v u) (is_same_map d s)) s (refs.follow K s x) (refs.follow K s y))
 
   reply_pick : (b b' c c' : Bool) → b' ≡ b → c' ≡ c → ◌≡◌ {A = Reply M} (elim b' [ true ↦ Fails (codes "not settled") | false ↦ Says (Flag c') ]) (evals.reply f (elim b [ true ↦ Fails (codes "not settled") | false ↦ Says (Flag c) ]))
   reply_pick true true c c' e h = refl
@@ -323,38 +325,38 @@ module _ {N M W V : Type 0} (f : N → M) (w : W → V) (K : Naming N W) (L : Na
   reply_pick true false c c' e h = cc
   reply_pick false true c c' e h = cc
 
-  open_here : (s : Vat N) (vs : List (Value N)) → refs.any_of L (eval.is_open L tree (length (map (map (maps.value f)) s.lists)) (maps.vat f s)) (map (maps.value f) vs) ≡ refs.any_of K (eval.is_open K tree (length s.lists) s) vs
-  open_here s vs = rw (length_map (map (maps.value f)) s.lists) (anys (λ v. eval.is_open K tree (length s.lists) s v) (λ v. eval.is_open L tree (length s.lists) (maps.vat f s) v) (open_map (length s.lists) s) vs)
+  open_here : (s : Vat N) (vs : List (Value N)) → refs.any_of L (perform.is_open L tree (length (map (map (maps.value f)) s.lists)) (maps.vat f s)) (map (maps.value f) vs) ≡ refs.any_of K (perform.is_open K tree (length s.lists) s) vs
+  open_here s vs = rw (length_map (map (maps.value f)) s.lists) (anys (λ v. perform.is_open K tree (length s.lists) s v) (λ v. perform.is_open L tree (length s.lists) (maps.vat f s) v) (open_map (length s.lists) s) vs)
 
-  same_here : (s : Vat N) (x y : Value N) → eval.is_same L tree (length (map (map (maps.value f)) s.lists)) (maps.vat f s) (maps.value f x) (maps.value f y) ≡ eval.is_same K tree (length s.lists) s x y
+  same_here : (s : Vat N) (x y : Value N) → perform.is_same L tree (length (map (map (maps.value f)) s.lists)) (maps.vat f s) (maps.value f x) (maps.value f y) ≡ perform.is_same K tree (length s.lists) s x y
   same_here s x y = rw (length_map (map (maps.value f)) s.lists) (is_same_map (length s.lists) s x y)
 
-  pub same_reply_map : (s : Vat N) (x y : Value N) → eval.same_reply L tree (maps.vat f s) (maps.value f x) (maps.value f y) ≡ evals.reply f (eval.same_reply K tree s x y)
-  unfolding eval.same_reply
-  same_reply_map s x y = reply_pick (refs.any_of K (eval.is_open K tree (length s.lists) s) (x ∷ y ∷ [])) (refs.any_of L (eval.is_open L tree (length (map (map (maps.value f)) s.lists)) (maps.vat f s)) (maps.value f x ∷ maps.value f y ∷ [])) (eval.is_same K tree (length s.lists) s x y) (eval.is_same L tree (length (map (map (maps.value f)) s.lists)) (maps.vat f s) (maps.value f x) (maps.value f y)) (open_here s (x ∷ y ∷ [])) (same_here s x y)
+  pub same_reply_map : (s : Vat N) (x y : Value N) → perform.same_reply L tree (maps.vat f s) (maps.value f x) (maps.value f y) ≡ evals.reply f (perform.same_reply K tree s x y)
+  unfolding perform.same_reply
+  same_reply_map s x y = reply_pick (refs.any_of K (perform.is_open K tree (length s.lists) s) (x ∷ y ∷ [])) (refs.any_of L (perform.is_open L tree (length (map (map (maps.value f)) s.lists)) (maps.vat f s)) (maps.value f x ∷ maps.value f y ∷ [])) (perform.is_same K tree (length s.lists) s x y) (perform.is_same L tree (length (map (map (maps.value f)) s.lists)) (maps.vat f s) (maps.value f x) (maps.value f y)) (open_here s (x ∷ y ∷ [])) (same_here s x y)
 
   -- ---- Ref
 
-  pub broken_text_map : (x : Value N) → eval.broken_text L tree (maps.value f x) ≡ evals.reply f (eval.broken_text K tree x)
-  unfolding eval.broken_text
+  pub broken_text_map : (x : Value N) → perform.broken_text L tree (maps.value f x) ≡ evals.reply f (perform.broken_text K tree x)
+  unfolding perform.broken_text
   broken_text_map (Text t) = refl
   broken_text_map _ = refl
 
-  pub thrown_text_map : (x : Value N) → eval.thrown_text L tree (maps.value f x) ≡ evals.reply f (eval.thrown_text K tree x)
-  unfolding eval.thrown_text
+  pub thrown_text_map : (x : Value N) → perform.thrown_text L tree (maps.value f x) ≡ evals.reply f (perform.thrown_text K tree x)
+  unfolding perform.thrown_text
   thrown_text_map (Text t) = refl
   thrown_text_map _ = refl
 
-  fulfilled_map : (x : Value N) (p : Place N) → eval.fulfilled L tree (maps.value f x) (maps.place f p) ≡ evals.reply f (eval.fulfilled K tree x p)
-  unfolding eval.fulfilled
+  fulfilled_map : (x : Value N) (p : Place N) → perform.fulfilled L tree (maps.value f x) (maps.place f p) ≡ evals.reply f (perform.fulfilled K tree x p)
+  unfolding perform.fulfilled
   fulfilled_map x Near = refl
   fulfilled_map x (Away h n true) = refl
   fulfilled_map x (Away h n false) = refl
   fulfilled_map x (Gone p) = refl
   fulfilled_map x (Mine n) = refl
 
-  pub test_map : (t : RefTest) (x : Value N) (p : Place N) → eval.test_reply L tree t (maps.value f x) (maps.place f p) ≡ evals.reply f (eval.test_reply K tree t x p)
-  unfolding eval.test_reply eval.is_near eval.is_far eval.is_gone eval.is_unsettled eval.problem_of
+  pub test_map : (t : RefTest) (x : Value N) (p : Place N) → perform.test_reply L tree t (maps.value f x) (maps.place f p) ≡ evals.reply f (perform.test_reply K tree t x p)
+  unfolding perform.test_reply scopes.is_near perform.is_far perform.is_gone perform.is_unsettled perform.problem_of
   test_map Fulfillment x p = fulfilled_map x p
   test_map NoTest x p = refl
   test_map _ x Near = refl

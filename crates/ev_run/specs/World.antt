@@ -3,7 +3,8 @@ use Rattle.std.specs.Prelude.{ℕ, zero, suc, pred, ◌+◌, Bool, true, false, 
 use Rattle.ev_machine.specs.Values.{Words, Value, Null, Flag, Number, Letter, Text, Prim, Broken, Items, Ref, Name, Root, Object, Gift, same_name, host_of, Naming, naming}
 use Rattle.ev_machine.specs.State.{Fixed, Binding, Message, Known, Passed, Passeds, Plain, AGift, Many, NoMore, More, Note, Deliver, Open, Ask, SettledTo, Elsewhere, Shorten, Put, Happened, Posted, Vat, Stop, Astray, Done, Gives, Throws, Ejects, Stops, Act, begun, is_in}
 use Rattle.ev_machine.specs.Arrive.{Incoming, Old, New, arrive, notice}
-use Rattle.ev_machine.specs.Eval.{any_guard, opening, taking}
+use Rattle.ev_machine.specs.Scopes.{any_guard}
+use Rattle.ev_machine.specs.Eval.{opening, taking}
 use Rattle.ev_kernel.specs.declared.node.Node.{Node}
 use Rattle.ev_run.specs.Draws.{draw_word}
 use Rattle.ev_machine.specs.Arrive.{opened_arrive}

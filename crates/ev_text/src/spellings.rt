@@ -1,6 +1,6 @@
 //! What a text between quotes stands for.
 
-ghost use Rattle.std.specs.Prelude.{◌≡◌, ℕ, ◌+◌, ◌-◌, ◌<◌, ◌^◌, ◌++◌, IfNone, IfSome, IsTrue, List, slice_get, encode_utf8, drop, Ok, Err, length, if◌then◌else◌, nat_lt, Some, None};
+ghost use Rattle.std.specs.Prelude.{◌≡◌, ℕ, ◌+◌, ◌-◌, ◌<◌, ◌≤◌, ◌^◌, ◌++◌, IfNone, IfSome, IsTrue, List, slice_get, encode_utf8, drop, Ok, Err, length, if◌then◌else◌, nat_lt, Some, None};
 ghost use Rattle.std.specs.Char.{digit_value};
 ghost use Rattle.std.specs.List.{prefix_len};
 ghost use Rattle.ev_text.specs.Quoting.{quoted};
@@ -81,7 +81,8 @@ fn hexadecimal(a: u8, b: u8, c: u8, d: u8) -> Option<u32>
 
 /// The character of four digits, and how many bytes behind the backslash stand for it.
 fn by_digits(bytes: &[u8]) -> Option<(char, usize)>
-    ensures { result ≡ by_digits bytes.now }
+    ensures value { result ≡ by_digits bytes.now }
+    ensures short { IfSome result (λ found. found.1 ≤ 5) }
 {
     match bytes {
         [a, b, c, d, ..] => match char::from_u32(hexadecimal(*a, *b, *c, *d)?) {
@@ -92,9 +93,11 @@ fn by_digits(bytes: &[u8]) -> Option<(char, usize)>
     }
 }
 
-/// The character of the escape whose backslash stands before the bytes, and how many of them it takes.
-fn escape(bytes: &[u8]) -> Option<(char, usize)>
-    ensures { result ≡ escape bytes.now }
+/// The character of the escape whose backslash stands before the bytes, and how many of them it takes: 1 of an escape of one
+/// letter, 5 of one by number.
+pub fn escape(bytes: &[u8]) -> Option<(char, usize)>
+    ensures value { result ≡ escape bytes.now }
+    ensures short { IfSome result (λ found. found.1 ≤ 5) }
 {
     match bytes {
         [] => None,

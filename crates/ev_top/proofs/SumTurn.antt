@@ -7,7 +7,9 @@ use Rattle.ev_machine.specs.Ints.{fits, in_range}
 use Rattle.ev_machine.specs.Native.{Says, by_int, data_reply, opened_native}
 use Rattle.ev_machine.specs.Values.{Value, Number, Naming}
 use Rattle.ev_machine.specs.State.{Scope, Happened, Called, Back, Vat, Gives, Act, and_then, ◌>>=◌, ◌>>◌, spend, opened_state}
-use Rattle.ev_machine.specs.Eval.{Evaluator, evaluator, call, all_of, opened_eval}
+use Rattle.ev_machine.specs.Scopes.{Evaluator}
+use Rattle.ev_machine.specs.Calls.{call}
+use Rattle.ev_machine.specs.Eval.{evaluator, all_of, opened_eval}
 use Rattle.ev_top.specs.Tree.{integer}
 use Rattle.ev_top.specs.Sum.{total, stays_within}
 use Rattle.ev_top.proofs.Arena.{Holds}
