@@ -6,11 +6,11 @@ use Rattle.ev_top.proofs.expansion.reply_text.Goals as goal
 pub returns-in-Ok : goal.returns-in-Ok
 returns-in-Ok c =
     IfOk-weaker c.reply_form.result _ _
-    (λ reply told. (Ok c.in-Ok.scoped, subst (λ (given : List (List ℕ)). Answers (Ok c.in-Ok.scoped) c.args.text.now given) c.in_ok-safe_names.ensures c.in-Ok.ensures, told))
+    (λ reply told. (Ok c.in-Ok.scoped, subst (λ (given : List (List ℕ)). Answers (Ok c.in-Ok.scoped) c.args.text.now given) c.in_ok-given.ensures c.in-Ok.ensures, told))
     c.reply_form.ensures
 
-pub returns-in-Err : goal.returns-in-Err
-returns-in-Err c =
+pub returns : goal.returns
+returns c =
     IfOk-weaker c.reply_fault.result _ _
-    (λ reply told. (Err c.in-Err.fault, subst (λ (given : List (List ℕ)). Answers (Err c.in-Err.fault) c.args.text.now given) c.in_ok-safe_names.ensures c.in-Err.ensures, told))
+    (λ reply told. (Err c.in-Err.fault, subst (λ (given : List (List ℕ)). Answers (Err c.in-Err.fault) c.args.text.now given) c.in_ok-given.ensures c.in-Err.ensures, told))
     c.reply_fault.ensures
