@@ -1,5 +1,5 @@
 -- Reading and writing a var slot that stands in a heap.
-use Rattle.std.proofs.Common.{◌≡◌, ℕ, zero, suc, ◌<◌, ◌≤◌, List, [], ◌∷◌, length, Option, Some, None, refl, arith}
+use Rattle.std.proofs.Common.{◌≡◌, ℕ, zero, suc, ◌<◌, ◌≤◌, Bool, true, false, nat_lt, List, [], ◌∷◌, length, Option, Some, None, refl, ap, arith}
 use Rattle.std.specs.Prelude.{slice_get, slice_set, option_map, IfSome, Err}
 use Rattle.std.proofs.lemmas.Option.{slice_get_past}
 use Rattle.ev_base.specs.declared.values.Value.{Value}
@@ -8,7 +8,7 @@ use Rattle.ev_heap.specs.declared.kept.Cell.{Cell}
 use Rattle.ev_eval.specs.declared.exit.Exit.TheVariants.{Astray}
 use Rattle.ev_eval.specs.declared.plain.Plain.{Plain}
 use Rattle.ev_eval.specs.declared.room.Room.{Room}
-use Rattle.ev_eval.specs.Plain.{held_value}
+use Rattle.ev_eval.specs.Plain.{held_value, Keeps}
 use Rattle.ev_eval.specs.Steps.{plain_of, slot_read, slot_found, slot_written, read_slot, write_slot, write_told, fail}
 
 found_at : (act k : ℕ) (o : Option Cell) (v : Value) (s : Room) → option_map (λ c. c.value) o ≡ Some v → slot_found act k o s ≡ slot_read act k (plain_of v) s
@@ -51,10 +51,10 @@ unfolding write_slot slot_written fail
 write_astray act k p s h = rw (slice_get_past s.heap.slots k h) refl
 
 keeps_at : (o : Option Cell) (s h : Contents) (k : ℕ) (v : Value) → (x : Cell) × (o ≡ Some x)
-    → IfSome o (λ c. h ≡ record s { slots = slice_set s.slots k (record c { value = v }) }) → h ≡ record s { slots = h.slots }
-keeps_at None s h k v some e = cc (some.1)
-keeps_at (Some c) s h k v some e = rw e refl
+    → IfSome o (λ c. h ≡ record s { slots = slice_set s.slots k (record c { value = v }) }) → Keeps s h
+keeps_at None s h k v some e = absurd (cc (some.1))
+keeps_at (Some c) s h k v some e = rw e (refl, refl)
 
 pub write_keeps : (s h : Contents) (k : ℕ) (v : Value) → k < length s.slots
-    → IfSome (slice_get s.slots k) (λ c. h ≡ record s { slots = slice_set s.slots k (record c { value = v }) }) → h ≡ record s { slots = h.slots }
+    → IfSome (slice_get s.slots k) (λ c. h ≡ record s { slots = slice_set s.slots k (record c { value = v }) }) → Keeps s h
 write_keeps s h k v lt e = keeps_at (slice_get s.slots k) s h k v (stands_at s.slots k lt) e

@@ -6,6 +6,7 @@ pub mod call;
 pub mod evaluate;
 pub mod exit;
 pub mod nouns;
+pub mod object;
 pub mod pattern;
 pub mod plain;
 pub mod room;

@@ -2,6 +2,7 @@
 
 ghost use Rattle.std.specs.Prelude.{◌≡◌};
 ghost use Rattle.ev_base.specs.SafeScope.{safe_value};
+ghost use Rattle.ev_eval.specs.Plain.{Keeps};
 ghost use Rattle.ev_eval.specs.Steps.{Answers, Gives, read_bound, read_held, safe_plain, write_bound, write_held};
 
 use crate::exit::Exit;
@@ -27,7 +28,7 @@ fn safe_plain(noun: &str) -> Result<Plain, Exit>
 #[tactic(auto, using(crate::proofs::Exits::ends), unfolding(crate::specs::Steps::opened_steps))]
 fn read_held(act: ActId, bound: Bound, room: &mut Room) -> Result<Plain, Exit>
     ensures outcome { Gives result room.new (read_held act bound room.old) }
-    ensures kept { room.new.heap ≡ record room.old.heap { slots = room.new.heap.slots } }
+    ensures kept { Keeps room.old.heap room.new.heap }
 {
     match bound {
         Bound::Fixed(value) => Ok(value),
@@ -44,7 +45,7 @@ pub fn read_bound(
     room: &mut Room,
 ) -> Result<Plain, Exit>
     ensures outcome { Gives result room.new (read_bound act bound noun.now room.old) }
-    ensures kept { room.new.heap ≡ record room.old.heap { slots = room.new.heap.slots } }
+    ensures kept { Keeps room.old.heap room.new.heap }
 {
     match bound {
         Some(bound) => read_held(act, bound, room),
@@ -56,7 +57,7 @@ pub fn read_bound(
 #[tactic(auto, using(crate::proofs::Exits::ends), unfolding(crate::specs::Steps::opened_steps))]
 fn write_held(act: ActId, bound: Bound, value: Plain, room: &mut Room) -> Result<Plain, Exit>
     ensures outcome { Gives result room.new (write_held act bound value room.old) }
-    ensures kept { room.new.heap ≡ record room.old.heap { slots = room.new.heap.slots } }
+    ensures kept { Keeps room.old.heap room.new.heap }
 {
     match bound {
         Bound::Slot(slot) => write_slot(act, slot, value, room),
@@ -73,7 +74,7 @@ pub fn write_bound(
     room: &mut Room,
 ) -> Result<Plain, Exit>
     ensures outcome { Gives result room.new (write_bound act bound value room.old) }
-    ensures kept { room.new.heap ≡ record room.old.heap { slots = room.new.heap.slots } }
+    ensures kept { Keeps room.old.heap room.new.heap }
 {
     match bound {
         Some(bound) => write_held(act, bound, value, room),

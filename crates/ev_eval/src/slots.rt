@@ -1,6 +1,7 @@
 //! Var slots.
 
 ghost use Rattle.std.specs.Prelude.{◌≡◌, ℕ, ◌<◌, length};
+ghost use Rattle.ev_eval.specs.Plain.{Keeps};
 ghost use Rattle.ev_eval.specs.Steps.{Gives, new_slot, plain_of, read_slot, slot_read, write_slot, write_told};
 
 use crate::exit::Exit;
@@ -10,12 +11,13 @@ use ev_base::{ActId, Memory, PrimId, SlotId, Value};
 use ev_heap::{GuardKind, Happened};
 
 /// The value of what is built, and none for any other.
-fn plain_of(value: Value) -> Option<Plain>
+pub fn plain_of(value: Value) -> Option<Plain>
     ensures { result ≡ plain_of value }
 {
     match value {
         Value::Null => Some(Plain::Null),
         Value::Int(number) => Some(Plain::Int(number)),
+        Value::Obj(object) => Some(Plain::Obj(object.0)),
         _ => None,
     }
 }
@@ -24,7 +26,7 @@ fn plain_of(value: Value) -> Option<Plain>
 #[tactic(auto, unfolding(crate::specs::Steps::opened_steps))]
 pub fn new_slot(value: Plain, room: &mut Room) -> Result<SlotId, Exit>
     ensures outcome { Gives result room.new (new_slot value room.old) }
-    ensures kept { room.new.heap ≡ record room.old.heap { slots = room.new.heap.slots } }
+    ensures kept { Keeps room.old.heap room.new.heap }
 {
     match room
         .heap
@@ -39,7 +41,7 @@ pub fn new_slot(value: Plain, room: &mut Room) -> Result<SlotId, Exit>
 #[tactic(auto, using(crate::proofs::Exits::ends), unfolding(crate::specs::Steps::opened_steps))]
 fn slot_read(act: ActId, slot: SlotId, value: Value, room: &mut Room) -> Result<Plain, Exit>
     ensures outcome { Gives result room.new (slot_read act slot (plain_of value) room.old) }
-    ensures kept { room.new.heap ≡ room.old.heap }
+    ensures kept { Keeps room.old.heap room.new.heap }
 {
     match plain_of(value) {
         None => Err(Exit::Unbuilt),
@@ -54,7 +56,7 @@ fn slot_read(act: ActId, slot: SlotId, value: Value, room: &mut Room) -> Result<
 #[tactic(auto, using(crate::proofs::Cells::read_goes, crate::proofs::Cells::read_astray))]
 pub fn read_slot(act: ActId, slot: SlotId, room: &mut Room) -> Result<Plain, Exit>
     ensures outcome { Gives result room.new (read_slot act slot room.old) }
-    ensures kept { room.new.heap ≡ record room.old.heap { slots = room.new.heap.slots } }
+    ensures kept { Keeps room.old.heap room.new.heap }
 {
     if slot.0 >= room.heap.slot_count() {
         return Err(Exit::Astray);
@@ -67,7 +69,7 @@ pub fn read_slot(act: ActId, slot: SlotId, room: &mut Room) -> Result<Plain, Exi
 #[tactic(auto, using(crate::proofs::Exits::ends), unfolding(crate::specs::Steps::opened_steps))]
 fn write_told(act: ActId, slot: SlotId, value: Plain, room: &mut Room) -> Result<Plain, Exit>
     ensures outcome { Gives result room.new (write_told act slot value room.old) }
-    ensures kept { room.new.heap ≡ room.old.heap }
+    ensures kept { Keeps room.old.heap room.new.heap }
 {
     tell(room, Happened::Wrote(act, slot, held_value(value)))?;
     Ok(value)
@@ -78,7 +80,7 @@ fn write_told(act: ActId, slot: SlotId, value: Plain, room: &mut Room) -> Result
 fn write_cell(slot: SlotId, value: Plain, room: &mut Room)
     requires { slot < length room.old.heap.slots }
     ensures outcome { (act : ℕ) → write_slot act slot value room.old ≡ write_told act slot value room.new }
-    ensures kept { room.new.heap ≡ record room.old.heap { slots = room.new.heap.slots } }
+    ensures kept { Keeps room.old.heap room.new.heap }
 {
     room.heap.write(slot, held_value(value));
 }
@@ -87,7 +89,7 @@ fn write_cell(slot: SlotId, value: Plain, room: &mut Room)
 #[tactic(auto, using(crate::proofs::Cells::write_astray))]
 pub fn write_slot(act: ActId, slot: SlotId, value: Plain, room: &mut Room) -> Result<Plain, Exit>
     ensures outcome { Gives result room.new (write_slot act slot value room.old) }
-    ensures kept { room.new.heap ≡ record room.old.heap { slots = room.new.heap.slots } }
+    ensures kept { Keeps room.old.heap room.new.heap }
 {
     if slot.0 >= room.heap.slot_count() {
         return Err(Exit::Astray);

@@ -101,6 +101,13 @@ impl Heap {
         Ok(id)
     }
 
+    /// How many objects, ejectors, resolvers and auditions are kept.
+    pub fn object_count(&self) -> u64
+        ensures { result ≡ length self.now.things }
+    {
+        self.things.len() as u64
+    }
+
     /// How many var slots are kept.
     pub fn slot_count(&self) -> u64
         ensures { result ≡ length self.now.slots }

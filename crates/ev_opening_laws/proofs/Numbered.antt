@@ -1,16 +1,16 @@
 -- Where the opening turn under numbers names nothing new, it stands for the turn under names.
-use Rattle.std.proofs.Common.{◌≡◌, ℕ, zero, suc, Bool, true, false, List, [], ◌∷◌, ◌++◌, Option, Some, None, refl, sym, ap, subst, ◌∙◌, length, map, ◌==◌}
-use Rattle.std.specs.Prelude.{slice_get, option_map}
+use Rattle.std.proofs.Common.{◌≡◌, ℕ, zero, suc, List, [], ◌∷◌, ◌++◌, Option, Some, None, refl, sym, ap, subst, ◌∙◌, length, map, ◌==◌}
+use Rattle.std.specs.Prelude.{slice_get}
 use Rattle.ev_kernel.specs.declared.node.Node.{Node}
-use Rattle.ev_machine.specs.Values.{Words, Value, Null, Ref, Name, Root, Object, Sent, same_name, spot_of, NoObject, Naming, Local, Obj, Prom, Far, Mess, naming, numbering}
-use Rattle.ev_machine.specs.State.{Known, Vat, Done, Gives, Throws, Ejects, Stops, Binding, begun, is_in}
+use Rattle.ev_machine.specs.Values.{Words, Value, Null, Ref, Name, Root, Object, same_name, spot_of, NoObject, Naming, Local, Obj, Prom, Far, Mess, naming, numbering}
+use Rattle.ev_machine.specs.State.{Known, Vat, Done, Gives, Throws, Ejects, Stops, begun, is_in}
 use Rattle.ev_machine.specs.Eval.{opening}
 use Rattle.ev_machine_laws.specs.Steps.{Opens, After, does}
-use Rattle.ev_machine_laws.specs.Laws.{SameNames, SameMails}
-use Rattle.ev_machine_laws.proofs.StepLaws.{names_stays, mails_stays}
+use Rattle.ev_machine_laws.specs.Laws.{SameNames}
+use Rattle.ev_machine_laws.proofs.StepLaws.{names_stays}
 use Rattle.ev_renaming.specs.Maps as maps
 use Rattle.ev_renaming.specs.Stands.{Table, Found, Is, Nothing, prom_found, mess_found, far_found, found, found_spot, found_same, IsTable, finding}
-use Rattle.ev_renaming.proofs.Sim.{Books, books, names, Renames, Sim, FitsAfter, id}
+use Rattle.ev_renaming.proofs.Sim.{Books, books, names, Renames, FitsAfter, id}
 use Rattle.ev_renaming.proofs.SimEval.{sim_opening}
 use Rattle.ev_renaming.proofs.Stands.{found_renames}
 use Rattle.ev_renaming.proofs.MapMaps.{vat_twice}

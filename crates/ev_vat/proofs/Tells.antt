@@ -116,10 +116,10 @@ module _ (key : List ℕ) (fuel depth : ℕ) (name : Words) (tree : List Node) (
   closed-tells l y last e =
       let hs = (lines_of (root_world word) micro.events ++ l ∷ []) ++ Settles (Prom zero) y ∷ [] in
       let told : all_shown hs ≡ ours.lines_of problems micro.events ++ last =
-          all_shown-append (lines_of (root_world word) micro.events ++ l ∷ []) (Settles (Prom zero) y ∷ [])
-          ∙ ap (λ es. es ++ all_shown (Settles (Prom zero) y ∷ [])) (all_shown-append (lines_of (root_world word) micro.events) (l ∷ []))
-          ∙ append_assoc (all_shown (lines_of (root_world word) micro.events)) (all_shown (l ∷ [])) (all_shown (Settles (Prom zero) y ∷ []))
-          ∙ (rw (one_line l, one_line (Settles (Prom zero) y), e, lines-shown word micro.events) refl) in
+      all_shown-append (lines_of (root_world word) micro.events ++ l ∷ []) (Settles (Prom zero) y ∷ [])
+      ∙ ap (λ es. es ++ all_shown (Settles (Prom zero) y ∷ [])) (all_shown-append (lines_of (root_world word) micro.events) (l ∷ []))
+      ∙ append_assoc (all_shown (lines_of (root_world word) micro.events)) (all_shown (l ∷ [])) (all_shown (Settles (Prom zero) y ∷ []))
+      ∙ (rw (one_line l, one_line (Settles (Prom zero) y), e, lines-shown word micro.events) refl) in
       closed-text l y
       ∙ append-nil _
       ∙ ap (render_run (name ∷ [])) (ended-shown script hs)
@@ -200,7 +200,7 @@ module _ (key : List ℕ) (fuel depth : ℕ) (name : Words) (tree : List Node) (
       → IsRun (render (name ∷ []) (history problems micro.events (done_lines problems v))) end.Done
   value-is v p h =
       closed-is (Finished zero (value_of (root_world word) v)) (target word v) (ShownDone zero (shown_held problems v) ∷ Settle (global.Root zero) (settled problems v) ∷ [])
-          (done-shown word v) (gave-is v h ∙ finishes-closes word heap micro v p)
+      (done-shown word v) (gave-is v h ∙ finishes-closes word heap micro v p)
 
   pub run-is : (e : Ended) → Ends (root_world word) (Ok e) heap micro evaluated → IsRun (text_by name problems micro.events e) (end_by e)
   unfolding after end_of stop_line digits

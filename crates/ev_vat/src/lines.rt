@@ -132,9 +132,6 @@ pub(crate) fn push_threw(
     ensures { OnOk result (history.new ≡ history.old ++ threw_lines heap.now.texts id) }
 {
     history.push(Event::Threw(0, Shown::Text(copied(alloc, heap, id)?)))?;
-    history.push(Event::Settle(
-        Name::Root(VAT),
-        Shown::Broken(copied(alloc, heap, id)?),
-    ))?;
+    history.push(Event::Settle(Name::Root(VAT), Shown::Broken(copied(alloc, heap, id)?)))?;
     history.push(Event::End)
 }

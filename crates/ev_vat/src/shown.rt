@@ -41,11 +41,7 @@ pub(crate) fn shown(alloc: Global, heap: &Heap, value: Value) -> Result<Shown, M
 }
 
 /// Values by their global names.
-pub(crate) fn shown_all(
-    alloc: Global,
-    heap: &Heap,
-    values: &[Value],
-) -> Result<Seq<Shown>, Memory>
+pub(crate) fn shown_all(alloc: Global, heap: &Heap, values: &[Value]) -> Result<Seq<Shown>, Memory>
     ensures { IfOk result (λ all. all ≡ map (shown_held heap.now.texts) values.now) }
 {
     let mut all = Seq::new(alloc);

@@ -1,0 +1,16 @@
+pub mod Spares
+pub mod Leads
+pub mod TurnLeads
+pub mod Counts
+pub mod RefsCounts
+pub mod RefsAccount
+pub mod ArriveAccount
+pub mod TurnAccount
+pub mod RunCounts
+pub mod RunAccount
+pub mod RunFates
+pub mod PlacesLast
+pub mod PlacesRefs
+pub mod PlacesArrive
+pub mod PlacesSteps
+pub mod Finding
