@@ -128,7 +128,11 @@ fn long_sums(rt: HostRuntime) -> Result<(), Fail> {
     let script = script_of(alloc, ones(alloc, 100)?.as_str())?;
     let (status, written) = answer(alloc, &["run"], script.as_bytes(), &quiet())?;
     assert_eq!(rt; status, 7);
-    assert!(rt; written.as_slice().starts_with(b"refused program a nested 0 "));
+    assert!(rt;
+        written
+            .as_slice()
+            .starts_with(b"refused program a nested 0 ")
+    );
     Ok(())
 }
 
@@ -155,7 +159,11 @@ fn scripts(rt: HostRuntime) -> Result<(), Fail> {
             "stop fuel 0\n",
         ),
         (r#""vats":[]"#, 6, "refused script 2\n"),
-        (r#""vats":[],"schedule":[],"fuel":0"#, 6, "refused script 4\n"),
+        (
+            r#""vats":[],"schedule":[],"fuel":0"#,
+            6,
+            "refused script 4\n",
+        ),
         (
             r#""vats":[],"schedule":[],"fuel":10000001"#,
             6,
@@ -285,7 +293,13 @@ fn no_programs(rt: HostRuntime) -> Result<(), Fail> {
 #[test]
 fn words(rt: HostRuntime) -> Result<(), Fail> {
     let alloc = rt.alloc();
-    let rows: [&[&str]; 5] = [&["run", "fast"], &["expand", "all"], &[], &["walk"], &["--help"]];
+    let rows: [&[&str]; 5] = [
+        &["run", "fast"],
+        &["expand", "all"],
+        &[],
+        &["walk"],
+        &["--help"],
+    ];
     for words in rows {
         let (status, written) = answer(alloc, words, EMPTY.as_bytes(), &quiet())?;
         assert_eq!(rt; status, 2);

@@ -156,7 +156,7 @@ long_only command input status (Long long e) is = long
 long_only command input status (Broken rule breaks e) is = cc
 long_only command input status (Faulty part kind place fault e) is = cc
 long_only command input status (NotBuilt u e) is = cc
-long_only command input status (Ran script vat scoped run has answers built e) is = 
+long_only command input status (Ran script vat scoped run has answers built e) is =
     absurd (never (λ s. s ≡ TooLong) (λ h. cc) (λ k h. cc) (λ k h. cc) (run_by script vat scoped) (sym e ∙ is))
 long_only command input status (Finished e) is = cc
 
@@ -292,7 +292,7 @@ vats_fault part kind place early key fuel [] vat program status text is source f
 vats_fault part kind place early key fuel (first ∷ more) vat program status text is source fault (answer, answers, due) =
     let same : first.source ≡ program = ap (λ (v : VatScript). v.source) is ∙ source in
     source_fault part kind place key fuel first.name answer status text due
-        (early_once part kind place program safe_names answer early fault (subst (λ (p : List ℕ). Answers answer p safe_names) same answers))
+    (early_once part kind place program safe_names answer early fault (subst (λ (p : List ℕ). Answers answer p safe_names) same answers))
 
 fault_there : (part : Part) (kind place : ℕ) → IsEarly part → (command : Option Command) (input : List ℕ) (status : Status) (text : List ℕ)
     → IsDue command input status text → HasFault part kind place command input → IsRefused part kind place status
@@ -413,15 +413,15 @@ pub fault_comes : (left held held' : Option (List ℕ)) (result : Status) (comma
 fault_comes None held held' result command pays = tt
 fault_comes (Some input) held held' result command (written, appends, pays) = λ part kind place.
     only (IsRefused part kind place) (HasFault part kind place command input) result command input written (λ stopped is. subst IsInterrupted is stopped)
-        (fault_only part kind place command input result) pays
+    (fault_only part kind place command input result) pays
 
 pub early_comes : (left held held' : Option (List ℕ)) (result : Status) (command : Option Command) → OfLeft left held held' result command
     → IfSome left (λ input. (part : Part) (kind place : ℕ) → IsEarly part
-        → Follows (λ s. s ≡ ProgramRefused (refusal part kind place)) result (HasFault part kind place command input))
+    → Follows (λ s. s ≡ ProgramRefused (refusal part kind place)) result (HasFault part kind place command input))
 early_comes None held held' result command pays = tt
 early_comes (Some input) held held' result command (written, appends, pays) = λ part kind place early.
     there (IsRefused part kind place) (HasFault part kind place command input) result command input written
-        (fault_there part kind place early command input result written) pays
+    (fault_there part kind place early command input result written) pays
 
 pub no_tree_comes : (left held held' : Option (List ℕ)) (result : Status) (command : Option Command) → OfLeft left held held' result command
     → IfSome left (λ input. Follows IsProgramRefused result (HasNoTree command input))
@@ -434,21 +434,21 @@ pub unbuilt_comes : (left held held' : Option (List ℕ)) (result : Status) (com
 unbuilt_comes None held held' result command pays = tt
 unbuilt_comes (Some input) held held' result command (written, appends, pays) =
     only (λ s. s ≡ ProgramRefused unbuilt) (IsUnbuilt command input) result command input written (λ stopped is. subst IsInterrupted is stopped)
-        (unbuilt_only command input result) pays
+    (unbuilt_only command input result) pays
 
 pub fuel_comes : (left held held' : Option (List ℕ)) (result : Status) (command : Option Command) → OfLeft left held held' result command
     → IfSome left (λ input. (step : ℕ) → result ≡ FuelSpent step → Stops Fuel step command input)
 fuel_comes None held held' result command pays = tt
 fuel_comes (Some input) held held' result command (written, appends, pays) = λ step.
     only (λ s. s ≡ FuelSpent step) (Stops Fuel step command input) result command input written (λ stopped is. subst IsInterrupted is stopped)
-        (fuel_only step command input result) pays
+    (fuel_only step command input result) pays
 
 pub deep_comes : (left held held' : Option (List ℕ)) (result : Status) (command : Option Command) → OfLeft left held held' result command
     → IfSome left (λ input. (step : ℕ) → result ≡ TooDeep step → Stops Deep step command input)
 deep_comes None held held' result command pays = tt
 deep_comes (Some input) held held' result command (written, appends, pays) = λ step.
     only (λ s. s ≡ TooDeep step) (Stops Deep step command input) result command input written (λ stopped is. subst IsInterrupted is stopped)
-        (deep_only step command input result) pays
+    (deep_only step command input result) pays
 
 -- without a fault
 abbrev IsWholeAnswer : Option Command → List ℕ → Status → Type 0
