@@ -62,45 +62,39 @@ const EMPTY: &str =
 
 const GREATEST: &str = "170141183460469231731687303715884105727";
 
-/// A sum of so many ones.
-fn ones(alloc: Global, count: usize) -> Result<String, Memory> {
-    let mut source = String::from_str(alloc, "1")?;
-    for _ in 1..count {
-        source.push_str(" + 1")?;
-    }
-    Ok(source)
-}
-
 #[test]
-fn sums(rt: HostRuntime) -> Result<(), Fail> {
+fn sources(rt: HostRuntime) -> Result<(), Fail> {
     let alloc = rt.alloc();
     let too_great = format!(in alloc; "{GREATEST} + 1")?;
-    let greatest = format!(in alloc; "{GREATEST} + 0")?;
-    let greatest_text = format!(in alloc;
-        "open a\n!0 call {GREATEST} add 0\n!0 back {GREATEST}\n!0 done {GREATEST}\nsettle @a {GREATEST}\nend\n"
+    let thrown = format!(in alloc;
+        "open a\n!0 call {GREATEST} add 1\n!0 thrown \"integer overflow\"\n!0 threw \"integer overflow\"\nsettle @a broken:\"integer overflow\"\nend\n"
     )?;
-    let unbuilt = "refused program a unbuilt 0 0\n";
+    let sum = "open a\n!0 call 41 add 1\n!0 back 42\n!0 done 42\nsettle @a 42\nend\n";
+    let null = "open a\n!0 done null\nsettle @a null\nend\n";
     let rows = [
-        (
-            "41 + 1",
-            0,
-            "open a\n!0 call 41 add 1\n!0 back 42\n!0 done 42\nsettle @a 42\nend\n",
-        ),
+        ("41 + 1", 0, sum),
+        ("41+1", 0, sum),
         ("5", 0, "open a\n!0 done 5\nsettle @a 5\nend\n"),
         (
             "1 + 2 + 3",
             0,
             "open a\n!0 call 1 add 2\n!0 back 3\n!0 call 3 add 3\n!0 back 6\n!0 done 6\nsettle @a 6\nend\n",
         ),
-        ("007", 0, "open a\n!0 done 7\nsettle @a 7\nend\n"),
-        (greatest.as_str(), 0, greatest_text.as_str()),
-        (too_great.as_str(), 7, unbuilt),
-        ("170141183460469231731687303715884105728", 7, unbuilt),
-        ("41+1", 7, unbuilt),
-        ("41 +  1", 7, unbuilt),
-        ("41 + ", 7, unbuilt),
-        ("", 7, unbuilt),
-        ("x", 7, unbuilt),
+        ("", 0, null),
+        ("null", 0, null),
+        ("def x := 2; x", 0, "open a\n!0 done 2\nsettle @a 2\nend\n"),
+        (too_great.as_str(), 0, thrown.as_str()),
+        (
+            "170141183460469231731687303715884105728",
+            7,
+            "refused program a lex 4 0\n",
+        ),
+        ("(lit 41)", 7, "refused program a parse 0 2\n"),
+        ("41 + ", 7, "refused program a parse 0 2\n"),
+        ("return 1", 7, "refused program a expand 1 0\n"),
+        ("x", 7, "refused program a scope 1 0\n"),
+        ("true", 7, "refused program a unbuilt 0 0\n"),
+        ("1 * 2", 7, "refused program a unbuilt 0 0\n"),
     ];
     for (source, code, text) in rows {
         let script = script_of(alloc, source)?;
@@ -109,6 +103,15 @@ fn sums(rt: HostRuntime) -> Result<(), Fail> {
         assert!(rt; written.as_slice() == text.as_bytes(), "{source}");
     }
     Ok(())
+}
+
+/// A sum of so many ones.
+fn ones(alloc: Global, count: usize) -> Result<String, Memory> {
+    let mut source = String::from_str(alloc, "1")?;
+    for _ in 1..count {
+        source.push_str(" + 1")?;
+    }
+    Ok(source)
 }
 
 #[test]
@@ -122,43 +125,167 @@ fn long_sums(rt: HostRuntime) -> Result<(), Fail> {
             b"!0 call 39 add 1\n!0 back 40\n!0 done 40\nsettle @a 40\nend\n"
         )
     );
-    let script = script_of(alloc, ones(alloc, 41)?.as_str())?;
+    let script = script_of(alloc, ones(alloc, 100)?.as_str())?;
     let (status, written) = answer(alloc, &["run"], script.as_bytes(), &quiet())?;
     assert_eq!(rt; status, 7);
-    assert!(rt; written.as_slice() == b"refused program a unbuilt 0 0\n".as_slice());
+    assert!(rt;
+        written
+            .as_slice()
+            .starts_with(b"refused program a nested 0 ")
+    );
     Ok(())
+}
+
+/// A script of members beside the key.
+fn members_of(alloc: Global, members: &str) -> Result<String, Memory> {
+    let key = "0000000000000000000000000000000000000000000000000000000000000000";
+    Ok(format!(in alloc; "{{\"key\":\"{key}\",{members}}}")?)
 }
 
 #[test]
 fn scripts(rt: HostRuntime) -> Result<(), Fail> {
     let alloc = rt.alloc();
-    let refused = "refused script 0\n";
+    let sum = "open a\n!0 call 41 add 1\n!0 back 42\n!0 done 42\nsettle @a 42\nend\n";
     let rows = [
-        (EMPTY, 0, "end\n"),
-        (r#"{"key":"#, 6, refused),
-        ("", 6, refused),
-        ("[]", 6, refused),
-        (r#"{"key":"00","vats":[],"schedule":[]}"#, 6, refused),
+        (r#""vats":[],"schedule":[]"#, 0, "end\n"),
         (
-            r#"{"key":"0000000000000000000000000000000000000000000000000000000000000000","vats":[],"schedule":["turn a"]}"#,
-            6,
-            refused,
+            r#""vats":[{"name":"a","knows":[],"source":"41 + 1"}],"schedule":[],"fuel":3"#,
+            0,
+            sum,
         ),
         (
-            r#"{"key":"0000000000000000000000000000000000000000000000000000000000000000","vats":[],"schedule":[],"fuel":5}"#,
+            r#""vats":[{"name":"a","knows":[],"source":"41 + 1"}],"schedule":[],"fuel":2"#,
+            8,
+            "stop fuel 0\n",
+        ),
+        (r#""vats":[]"#, 6, "refused script 2\n"),
+        (
+            r#""vats":[],"schedule":[],"fuel":0"#,
             6,
-            refused,
+            "refused script 4\n",
         ),
         (
-            r#"{"key":"0000000000000000000000000000000000000000000000000000000000000000","vats":[{"name":"A","knows":[],"source":"5"}],"schedule":[]}"#,
+            r#""vats":[],"schedule":[],"fuel":10000001"#,
             6,
-            refused,
+            "refused script 4\n",
+        ),
+        (r#""vats":[1],"schedule":[]"#, 6, "refused script 5\n"),
+        (
+            r#""vats":[{"name":"a","knows":[],"source":""},{"name":"b","knows":[],"source":""}],"schedule":[]"#,
+            6,
+            "refused script 5\n",
+        ),
+        (
+            r#""vats":[{"name":"if","knows":[],"source":"1"}],"schedule":[]"#,
+            6,
+            "refused script 6\n",
+        ),
+        (
+            r#""vats":[{"name":"a","knows":["a"],"source":"1"}],"schedule":[]"#,
+            6,
+            "refused script 8\n",
+        ),
+        (
+            r#""vats":[{"name":"a","knows":[],"source":"1"}],"schedule":["turn  a"]"#,
+            6,
+            "refused script 9\n",
+        ),
+        (
+            r#""vats":[{"name":"a","knows":[],"source":"1"}],"schedule":["turn a"]"#,
+            6,
+            "refused script 9\n",
+        ),
+        (
+            r#""vats":[{"name":"a","knows":[],"source":"1"}],"schedule":["carry a a"]"#,
+            6,
+            "refused script 10\n",
+        ),
+        (
+            r#""vats":[{"name":"a","knows":[],"source":"1"}],"schedule":["drain 100000","turn a"]"#,
+            6,
+            "refused script 11\n",
         ),
     ];
-    for (script, code, text) in rows {
+    for (members, code, text) in rows {
+        let script = members_of(alloc, members)?;
         let (status, written) = answer(alloc, &["run"], script.as_bytes(), &quiet())?;
-        assert_eq!(rt; status, code, "{script}");
-        assert!(rt; written.as_slice() == text.as_bytes(), "{script}");
+        assert_eq!(rt; status, code, "{members}");
+        assert!(rt; written.as_slice() == text.as_bytes(), "{members}");
+    }
+    for script in [r#"{"key":"#, ""] {
+        let (status, written) = answer(alloc, &["run"], script.as_bytes(), &quiet())?;
+        assert_eq!(rt; status, 6);
+        assert!(rt; written.as_slice() == b"refused script 1\n".as_slice());
+    }
+    Ok(())
+}
+
+#[test]
+fn large_sources(rt: HostRuntime) -> Result<(), Fail> {
+    let alloc = rt.alloc();
+    for (count, code, text) in [
+        (65_536, 0, "open a\n!0 done null\nsettle @a null\nend\n"),
+        (65_537, 6, "refused script 7\n"),
+    ] {
+        let spaces = String::from_utf8(vec![in alloc; b' '; count]?).unwrap();
+        let script = script_of(alloc, spaces.as_str())?;
+        let (status, written) = answer(alloc, &["run"], script.as_bytes(), &quiet())?;
+        assert_eq!(rt; status, code);
+        assert!(rt; written.as_slice() == text.as_bytes());
+    }
+    Ok(())
+}
+
+#[test]
+fn expansions(rt: HostRuntime) -> Result<(), Fail> {
+    let alloc = rt.alloc();
+    let rows = [
+        (
+            "def f(n) { return n + 1 }",
+            0,
+            "(object (final f) () (method run ((final n)) (escape (final __return) (seq (call (noun __return) run (call (noun n) add (lit 1))) (noun null)))))\n",
+        ),
+        ("41", 0, "(lit 41)\n"),
+        ("null", 0, "(noun null)\n"),
+        ("DeepFrozen", 0, "(noun DeepFrozen)\n"),
+        (
+            "170141183460469231731687303715884105728",
+            7,
+            "refused program - lex 4 0\n",
+        ),
+        ("(lit 41)", 7, "refused program - parse 0 2\n"),
+        ("return 1", 7, "refused program - expand 1 0\n"),
+        ("x", 7, "refused program - scope 1 0\n"),
+    ];
+    for (source, code, text) in rows {
+        let (status, written) = answer(alloc, &["expand"], source.as_bytes(), &quiet())?;
+        assert_eq!(rt; status, code, "{source}");
+        assert!(rt; written.as_slice() == text.as_bytes(), "{source}");
+    }
+    Ok(())
+}
+
+#[test]
+fn no_programs(rt: HostRuntime) -> Result<(), Fail> {
+    let alloc = rt.alloc();
+    let (status, written) = answer(alloc, &["expand"], &[b'1', 255], &quiet())?;
+    assert_eq!(rt; status, 6);
+    assert!(rt; written.as_slice() == b"refused script 1\n".as_slice());
+    let large = Outside {
+        source_serves: 4096,
+        source_fails: &[],
+        sink_takes: 100,
+        sink_fails: &[],
+    };
+    for (count, code, text) in [
+        (65_536, 0, "(noun null)\n"),
+        (65_537, 6, "refused script 7\n"),
+        (1_048_577, 5, "refused long\n"),
+    ] {
+        let spaces = vec![in alloc; b' '; count]?;
+        let (status, written) = answer(alloc, &["expand"], spaces.as_slice(), &large)?;
+        assert_eq!(rt; status, code);
+        assert!(rt; written.as_slice() == text.as_bytes());
     }
     Ok(())
 }
@@ -271,7 +398,7 @@ fn lengths(rt: HostRuntime) -> Result<(), Fail> {
     };
     for (count, code, text) in [
         (1_048_577, 5, "refused long\n"),
-        (1_048_576, 6, "refused script 0\n"),
+        (1_048_576, 6, "refused script 1\n"),
     ] {
         let spaces = vec![in alloc; b' '; count]?;
         let (status, written) = answer(alloc, &["run"], spaces.as_slice(), &large)?;

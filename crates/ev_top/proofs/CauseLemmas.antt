@@ -1,7 +1,13 @@
 -- Why a status is due.
-use Rattle.std.proofs.Common.{◌≡◌, ◌≢◌, ◌⊎◌, inl, inr, ◌<◌, ◌≤◌, ℕ, ℤ, nat_lt, length, List, Bool, true, false, cond, Option, Some, None, IfSome, IsSome, Result, Ok, Err, refl, sym, ap, subst, arith, ◌∙◌}
+use Rattle.std.proofs.Common.{◌≡◌, ◌≢◌, ◌⊎◌, inl, inr, ◌<◌, ◌≤◌, ℕ, nat_lt, length, List, [], ◌∷◌, Bool, true, false, cond, Option, Some, None, IfSome, IsSome, Result, Ok, Err, refl, sym, ap, subst, arith, ◌∙◌}
 use Rattle.std.proofs.lemmas.Bool.Decides.{nat_tests}
+use Rattle.ev_eval.specs.Built.{is_built}
+use Rattle.ev_machine.specs.State.{Fuel, Deep, Repeated, Astray}
+use Rattle.ev_run.specs.World as machine
+use Rattle.ev_run.specs.World.{World, run, Goes, Stopped}
 use Rattle.ev_scope.specs.declared.accepted.Scoped.{Scoped}
+use Rattle.ev_script.specs.declared.script.Script.{Script}
+use Rattle.ev_script.specs.declared.script.VatScript.{VatScript}
 use Rattle.ev_reader.specs.Program.{Answers}
 use Rattle.ev_reader.specs.declared.fault.ProgramFault.{ProgramFault}
 use Rattle.ev_reader.specs.declared.fault.ProgramFault.TheVariants as faults
@@ -9,31 +15,76 @@ use Rattle.ev_reader.specs.declared.fault.Stage.{Stage as Part}
 use Rattle.ev_reader.specs.declared.fault.Stage.TheVariants as parts
 use Rattle.ev_top.specs.Debt.{Debt, IsFor, most_bytes, too_long}
 use Rattle.ev_top.specs.Script.{script_from}
-use Rattle.ev_top.specs.Sum.{sum_of}
-use Rattle.ev_top.specs.Expansion.{text_from, safe_names, refusal, stage_of, IsDueOfText, IsDueOfProgram, Tells}
-use Rattle.ev_top.specs.Due.{IsDue, IsOfWhole, IsFrontOfDue, Pays, PaysWith, unbuilt, due_of_script, due_of_vat, due_of_sum}
-use Rattle.ev_top.specs.Causes.{IsInterrupted, Follows, ComesWhere, IsLong, Breaks, VatIsUnbuilt, IsUnbuilt, HasProgram, HasFault, IsEarly, HasNoTree, IsProgramRefused}
+use Rattle.ev_top.specs.Programs.{safe_names, refusal, stage_of, IsDueOfFault}
+use Rattle.ev_top.specs.Expansion.{text_from, nameless, IsDueOfText, IsDueOfForm}
+use Rattle.ev_top.specs.Machine.{program, machine_script}
+use Rattle.ev_top.specs.Due.{IsDue, IsDueOfInput, IsDueOfBytes, IsDueOfScript, IsDueOfSource, IsDueOfTree, IsDueOfVats, Pays, PaysWith, status_of, unbuilt}
+use Rattle.ev_top.specs.Causes.{IsInterrupted, Follows, ComesWhere, IsLong, Breaks, IsVatOf, HasVat, HasProgram, HasFault, IsEarly, HasNoTree, IsProgramRefused, IsUnbuilt, Stops}
 use Rattle.ev_top.specs.declared.command.Command.{Command}
 use Rattle.ev_top.specs.declared.command.Command.TheVariants.{Run, Expand}
-use Rattle.ev_top.specs.declared.script.Script.{Script}
-use Rattle.ev_top.specs.declared.script.VatSource.{VatSource}
 use Rattle.ev_top.specs.declared.status.Status.{Status}
-use Rattle.ev_top.specs.declared.status.Status.TheVariants.{Done, Usage, ReadFault, WriteFault, TooLong, ScriptRefused, ProgramRefused, Memory}
-use Rattle.ev_top.specs.declared.status.Refusal.{Refusal}
+use Rattle.ev_top.specs.declared.status.Status.TheVariants.{Done, Usage, ReadFault, WriteFault, TooLong, ScriptRefused, ProgramRefused, FuelSpent, TooDeep, Memory}
 use Rattle.ev_top.specs.declared.status.Stage.{Stage}
-use Rattle.ev_top.specs.declared.status.Stage.TheVariants.{Lex, Parse, Nested, Expand as Expanding, Scope, Unbuilt}
-use Rattle.ev_top.proofs.DueLemmas.{is_few, is_long, whole_run, whole_program}
+use Rattle.ev_top.specs.declared.status.Stage.TheVariants.{Unbuilt}
+use Rattle.ev_top.proofs.DueLemmas.{is_few, is_long}
 use Rattle.ev_top.proofs.EarlyFaults.{early_once}
+use Rattle.ev_top.proofs.Empty.{done_empty}
 
--- what is due for bytes that were all read
-abbrev pub IsDueOfBytes : Command → List ℕ → Status → List ℕ → Type 0
-IsDueOfBytes Run input status text = IsFor status text (due_of_script (script_from input))
-IsDueOfBytes Expand input status text = IsDueOfText (text_from input) status text
+-- ---- why a status is due
 
--- bytes that are too many, or all that is due for them
-abbrev pub Splits : Command → List ℕ → Status → List ℕ → Type 0
-Splits command input status text =
-    ((most_bytes < length input) × (status ≡ TooLong)) ⊎ ((length input ≤ most_bytes) × IsDueOfBytes command input status text)
+abbrev IsRefused : Part → ℕ → ℕ → Status → Type 0
+IsRefused part kind place status = status ≡ ProgramRefused (refusal part kind place)
+
+abbrev run_by : Script → VatScript → Scoped → machine.Run
+run_by script vat scoped = run (machine_script script.key script.fuel (program vat.name scoped.tree ∷ []))
+
+data Why (command : Option Command) (input : List ℕ) (status : Status) : Type 0 where
+  Misused : status ≡ Usage → Why command input status
+  Long : IsLong command input → status ≡ TooLong → Why command input status
+  Broken : (rule : ℕ) → Breaks rule command input → status ≡ ScriptRefused rule → Why command input status
+  Faulty : (part : Part) (kind place : ℕ) → HasFault part kind place command input → IsRefused part kind place status → Why command input status
+  NotBuilt : IsUnbuilt command input → status ≡ ProgramRefused unbuilt → Why command input status
+  Ran : (script : Script) (vat : VatScript) (scoped : Scoped) → command ≡ Some Run → HasVat input script vat → Answers (Ok scoped) vat.source safe_names
+      → is_built scoped.tree ≡ true → status ≡ status_of (run_by script vat scoped) → Why command input status
+  Finished : status ≡ Done → Why command input status
+
+faulty : (name program : List ℕ) (command : Option Command) (input : List ℕ) (fault : ProgramFault) (status : Status) (text : List ℕ)
+    → HasProgram command input program → Answers (Err fault) program safe_names → IsDueOfFault name fault status text → Why command input status
+faulty name program command input (faults.At part kind place) status text has answers due = Faulty part kind place (program, has, answers) due.0
+faulty name program command input faults.Memory status text has answers due = absurd due
+
+formed : (program input : List ℕ) (answer : Result Scoped ProgramFault) (status : Status) (text : List ℕ) → HasProgram (Some Expand) input program
+    → Answers answer program safe_names → IsDueOfForm answer status text → Why (Some Expand) input status
+formed program input (Ok scoped) status text has answers due = Finished due.0
+formed program input (Err fault) status text has answers due = faulty nameless program (Some Expand) input fault status text has answers due
+
+of_text : (input : List ℕ) (found : Result (List ℕ) ℕ) (status : Status) (text : List ℕ) → length input ≤ most_bytes → text_from input ≡ found
+    → IsDueOfText found status text → Why (Some Expand) input status
+of_text input (Ok program) status text few e (answer, answers, due) = formed program input answer status text (few, e) answers due
+of_text input (Err rule) status text few e due = Broken rule (few, e) due.0
+
+of_tree : (built : Bool) (input : List ℕ) (script : Script) (vat : VatScript) (scoped : Scoped) (status : Status) (text : List ℕ) → is_built scoped.tree ≡ built
+    → HasVat input script vat → Answers (Ok scoped) vat.source safe_names → IsDueOfTree built script.key script.fuel vat.name scoped.tree status text
+    → Why (Some Run) input status
+of_tree true input script vat scoped status text e has answers due = Ran script vat scoped refl has answers e due.0
+of_tree false input script vat scoped status text e has answers due = NotBuilt (refl, vat.source, (script, vat, has, refl), scoped, answers, e) due.0
+
+of_source : (input : List ℕ) (script : Script) (vat : VatScript) (answer : Result Scoped ProgramFault) (status : Status) (text : List ℕ)
+    → HasVat input script vat → Answers answer vat.source safe_names → IsDueOfSource script.key script.fuel vat.name answer status text → Why (Some Run) input status
+of_source input script vat (Ok scoped) status text has answers due = of_tree (is_built scoped.tree) input script vat scoped status text refl has answers due
+of_source input script vat (Err fault) status text has answers due =
+    faulty vat.name vat.source (Some Run) input fault status text (script, vat, has, refl) answers due
+
+of_vats : (input : List ℕ) (script : Script) (vats : List VatScript) (status : Status) (text : List ℕ) → length input ≤ most_bytes
+    → script_from input ≡ Ok script → script.vats ≡ vats → IsDueOfVats script.key script.fuel vats status text → Why (Some Run) input status
+of_vats input script [] status text few e v due = Finished (due.0 ∙ done_empty script.key script.fuel)
+of_vats input script (vat ∷ more) status text few e v (answer, answers, due) =
+    of_source input script vat answer status text (few, e, rw v refl) answers due
+
+of_script : (input : List ℕ) (found : Result Script ℕ) (status : Status) (text : List ℕ) → length input ≤ most_bytes → script_from input ≡ found
+    → IsDueOfScript found status text → Why (Some Run) input status
+of_script input (Ok script) status text few e due = of_vats input script script.vats status text few e refl due
+of_script input (Err rule) status text few e due = Broken rule (few, e) due.0
 
 at_long : (most n : ℕ) → nat_lt most n ≡ true → most < n
 at_long most n test = grind (arith, nat_tests)
@@ -41,24 +92,24 @@ at_long most n test = grind (arith, nat_tests)
 at_few : (most n : ℕ) → nat_lt most n ≡ false → n ≤ most
 at_few most n test = grind (arith, nat_tests)
 
-pub splits : (command : Command) (input : List ℕ) (status : Status) (text : List ℕ) → IsDue (Some command) input status text → Splits command input status text
-splits Run input status text due =
-    elim (nat_lt most_bytes (length input)) as (λ b. nat_lt most_bytes (length input) ≡ b
-    → IsFor status text (cond b too_long (due_of_script (script_from input))) → Splits Run input status text) [
-      | true ↦ λ test due. inl (at_long most_bytes (length input) test, due.0)
-      | false ↦ λ test due. inr (at_few most_bytes (length input) test, due)
-    ] refl due
-splits Expand input status text due =
-    elim (nat_lt most_bytes (length input)) as (λ b. nat_lt most_bytes (length input) ≡ b
-    → IsDueOfProgram b input status text → Splits Expand input status text) [
-      | true ↦ λ test due. inl (at_long most_bytes (length input) test, due.0)
-      | false ↦ λ test due. inr (at_few most_bytes (length input) test, due)
-    ] refl due
+of_bytes : (command : Command) (input : List ℕ) (status : Status) (text : List ℕ) → length input ≤ most_bytes → IsDueOfBytes command input status text
+    → Why (Some command) input status
+of_bytes Run input status text few due = of_script input (script_from input) status text few refl due
+of_bytes Expand input status text few due = of_text input (text_from input) status text few refl due
+
+of_input : (long : Bool) (command : Command) (input : List ℕ) (status : Status) (text : List ℕ) → nat_lt most_bytes (length input) ≡ long
+    → IsDueOfInput long command input status text → Why (Some command) input status
+of_input true command input status text e due = Long (refl, at_long most_bytes (length input) e) due.0
+of_input false command input status text e due = of_bytes command input status text (at_few most_bytes (length input) e) due
+
+why : (command : Option Command) (input : List ℕ) (status : Status) (text : List ℕ) → IsDue command input status text → Why command input status
+why None input status text due = Misused due.0
+why (Some command) input status text due = of_input (nat_lt most_bytes (length input)) command input status text refl due
 
 -- ---- from what a call owes to why it answers
 
 -- what is due, where no fault and no want of memory stands in its place
-pub due_or_not : (status : Status) (written : List ℕ) (command : Option Command) (input : List ℕ) → PaysWith status written command input
+due_or_not : (status : Status) (written : List ℕ) (command : Option Command) (input : List ℕ) → PaysWith status written command input
     → IsDue command input status written ⊎ IsInterrupted status
 due_or_not Done written command input pays = inl pays
 due_or_not Usage written command input pays = inl pays
@@ -67,15 +118,17 @@ due_or_not WriteFault written command input pays = inr tt
 due_or_not TooLong written command input pays = inl pays
 due_or_not (ScriptRefused r) written command input pays = inl pays
 due_or_not (ProgramRefused r) written command input pays = inl pays
+due_or_not (FuelSpent step) written command input pays = inl pays
+due_or_not (TooDeep step) written command input pays = inl pays
 due_or_not Memory written command input pays = inr tt
 
 only : (Is : Status → Type 0) (fact : Type 0) (status : Status) (command : Option Command) (input written : List ℕ)
-    → (IsInterrupted status → Is status → ⊥) → (IsDue command input status written → Is status → fact) → PaysWith status written command input
+    → (IsInterrupted status → Is status → ⊥) → (Why command input status → Is status → fact) → PaysWith status written command input
     → Is status → fact
 only Is fact status command input written apart from pays is = by (due_or_not status written command input pays)
   where
     by : IsDue command input status written ⊎ IsInterrupted status → fact
-    by (inl due) = from due is
+    by (inl due) = from (why command input status written due) is
     by (inr stopped) = absurd (apart stopped is)
 
 there : (Is : Status → Type 0) (fact : Type 0) (status : Status) (command : Option Command) (input written : List ℕ)
@@ -86,150 +139,74 @@ there Is fact status command input written to pays f = by (due_or_not status wri
     by (inl due) = inl (to due f)
     by (inr stopped) = inr stopped
 
-whole_bytes : (command : Command) (input : List ℕ) (status : Status) (text : List ℕ) → IsDueOfBytes command input status text → IsOfWhole status
-whole_bytes Run input status text due = whole_run (script_from input) status text due
-whole_bytes Expand input status text due = whole_program (text_from input) status text due
+-- the status of a run is one of three
+never : (Is : Status → Type 0) → (Is Done → ⊥) → ((step : ℕ) → Is (FuelSpent step) → ⊥) → ((step : ℕ) → Is (TooDeep step) → ⊥)
+    → (r : machine.Run) → Is (status_of r) → ⊥
+never Is done fuel deep (Goes w) is = done is
+never Is done fuel deep (Stopped Fuel step w) is = fuel step is
+never Is done fuel deep (Stopped Deep step w) is = deep step is
+never Is done fuel deep (Stopped (Repeated i j) step w) is = done is
+never Is done fuel deep (Stopped Astray step w) is = done is
 
 -- ---- too many bytes
 
-long_only : (command : Option Command) (input : List ℕ) (status : Status) (text : List ℕ) → IsDue command input status text → status ≡ TooLong → IsLong command input
-long_only None input status text due is = let used : status ≡ Usage = due.0 in cc
-long_only (Some c) input status text due is = from (splits c input status text due)
-  where
-    from : Splits c input status text → IsLong (Some c) input
-    from (inl (long, too)) = (refl, long)
-    from (inr (few, d)) = absurd (subst IsOfWhole is (whole_bytes c input status text d))
+long_only : (command : Option Command) (input : List ℕ) (status : Status) → Why command input status → status ≡ TooLong → IsLong command input
+long_only command input status (Misused e) is = cc
+long_only command input status (Long long e) is = long
+long_only command input status (Broken rule breaks e) is = cc
+long_only command input status (Faulty part kind place fault e) is = cc
+long_only command input status (NotBuilt u e) is = cc
+long_only command input status (Ran script vat scoped run has answers built e) is =
+    absurd (never (λ s. s ≡ TooLong) (λ h. cc) (λ k h. cc) (λ k h. cc) (run_by script vat scoped) (sym e ∙ is))
+long_only command input status (Finished e) is = cc
 
 long_there : (command : Option Command) (input : List ℕ) (status : Status) (text : List ℕ) → IsDue command input status text → IsLong command input → status ≡ TooLong
 long_there None input status text due (some, long) = cc
-long_there (Some Run) input status text due (some, long) = (rw (is_long most_bytes (length input) long) at due).0
-long_there (Some Expand) input status text due (some, long) = (rw (is_long most_bytes (length input) long) at due).0
+long_there (Some command) input status text due (some, long) = (rw (is_long most_bytes (length input) long) at due).0
 
--- ---- the rule by which a script, or the text of a program, is refused
+-- ---- a rule
 
-abbrev pub IsRule : ℕ → Status → Type 0
-IsRule rule (ScriptRefused r) = r ≡ rule
-IsRule rule _ = ⊥
-
-no_rule_sum : (rule : ℕ) (key name : List ℕ) (numbers : Option (List ℤ)) → IsRule rule (due_of_sum key name numbers).status → ⊥
-no_rule_sum rule key name None h = h
-no_rule_sum rule key name (Some numbers) h = h
-
-no_rule_vat : (rule : ℕ) (key : List ℕ) (vat : Option VatSource) → IsRule rule (due_of_vat key vat).status → ⊥
-no_rule_vat rule key None h = h
-no_rule_vat rule key (Some vat) h = no_rule_sum rule key vat.name (sum_of vat.source) h
-
-rule_of_script : (rule : ℕ) (script : Option Script) → IsRule rule (due_of_script script).status → (rule ≡ 0) × (script ≡ None)
-rule_of_script rule None h = (sym h, refl)
-rule_of_script rule (Some script) h = absurd (no_rule_vat rule script.key script.vat h)
-
-no_rule_told : (rule : ℕ) (answer : Result Scoped ProgramFault) (status : Status) (text : List ℕ) → Tells answer status text → IsRule rule status → ⊥
-no_rule_told rule (Ok scoped) status text due h = subst (IsRule rule) due.0 h
-no_rule_told rule (Err (faults.At part kind place)) status text due h = subst (IsRule rule) due.0 h
-no_rule_told rule (Err faults.Memory) status text due h = due
-
-rule_of_text : (rule : ℕ) (found : Result (List ℕ) ℕ) (status : Status) (text : List ℕ) → IsDueOfText found status text → IsRule rule status → found ≡ Err rule
-rule_of_text rule (Ok program) status text due h = absurd (no_rule_told rule due.0 status text due.2 h)
-rule_of_text rule (Err r) status text due h = ap Err (subst (IsRule rule) due.0 h)
-
-by_rule : (rule : ℕ) (status : Status) → status ≡ ScriptRefused rule → IsRule rule status
-by_rule rule status is = subst (IsRule rule) (sym is) refl
-
-rule_only : (rule : ℕ) (command : Option Command) (input : List ℕ) (status : Status) (text : List ℕ) → IsDue command input status text
-    → status ≡ ScriptRefused rule → Breaks rule command input
-rule_only rule None input status text due is = let used : status ≡ Usage = due.0 in cc
-rule_only rule (Some Run) input status text due is = from (splits Run input status text due)
-  where
-    from : Splits Run input status text → Breaks rule (Some Run) input
-    from (inl (long, too)) = cc
-    from (inr (few, d)) = let r = rule_of_script rule (script_from input) (subst (IsRule rule) d.0 (by_rule rule status is)) in (few, r.0, r.1)
-rule_only rule (Some Expand) input status text due is = from (splits Expand input status text due)
-  where
-    from : Splits Expand input status text → Breaks rule (Some Expand) input
-    from (inl (long, too)) = cc
-    from (inr (few, d)) = (few, rule_of_text rule (text_from input) status text d (by_rule rule status is))
+rule_only : (rule : ℕ) (command : Option Command) (input : List ℕ) (status : Status) → Why command input status → status ≡ ScriptRefused rule → Breaks rule command input
+rule_only rule command input status (Misused e) is = cc
+rule_only rule command input status (Long long e) is = cc
+rule_only rule command input status (Broken broken breaks e) is =
+    let same : broken ≡ rule = cc in subst (λ (r : ℕ). Breaks r command input) same breaks
+rule_only rule command input status (Faulty part kind place fault e) is = cc
+rule_only rule command input status (NotBuilt u e) is = cc
+rule_only rule command input status (Ran script vat scoped run has answers built e) is =
+    absurd (never (λ s. s ≡ ScriptRefused rule) (λ h. cc) (λ k h. cc) (λ k h. cc) (run_by script vat scoped) (sym e ∙ is))
+rule_only rule command input status (Finished e) is = cc
 
 rule_there : (rule : ℕ) (command : Option Command) (input : List ℕ) (status : Status) (text : List ℕ) → IsDue command input status text
     → Breaks rule command input → status ≡ ScriptRefused rule
-rule_there rule None input status text due cause = absurd cause
-rule_there rule (Some Run) input status text due (few, zero_rule, none) = rw zero_rule (rw (is_few most_bytes (length input) few, none) at due).0
+rule_there rule None input status text due breaks = absurd breaks
+rule_there rule (Some Run) input status text due (few, refused) = (rw (is_few most_bytes (length input) few, refused) at due).0
 rule_there rule (Some Expand) input status text due (few, refused) = (rw (is_few most_bytes (length input) few, refused) at due).0
-
--- ---- a program that is not built
-
-not_unbuilt : (part : Part) → stage_of part ≢ Unbuilt
-not_unbuilt parts.Lex e = cc
-not_unbuilt parts.Parse e = cc
-not_unbuilt parts.Nested e = cc
-not_unbuilt parts.Expand e = cc
-not_unbuilt parts.Scope e = cc
-
--- the stage of a status that refuses a program
-abbrev IsStage : Stage → Status → Type 0
-IsStage stage (ProgramRefused r) = r.stage ≡ stage
-IsStage stage _ = ⊥
-
-unbuilt_vat : (key : List ℕ) (vat : Option VatSource) → IsStage Unbuilt (due_of_vat key vat).status → VatIsUnbuilt vat
-unbuilt_vat key None h = absurd h
-unbuilt_vat key (Some vat) h = by (sum_of vat.source) refl h
-  where
-    by : (numbers : Option (List ℤ)) → sum_of vat.source ≡ numbers → IsStage Unbuilt (due_of_sum key vat.name numbers).status → sum_of vat.source ≡ None
-    by None e g = e
-    by (Some ns) e g = absurd g
-
-unbuilt_script : (input : List ℕ) (found : Option Script) → script_from input ≡ found → IsStage Unbuilt (due_of_script found).status
-    → (script : Script) × (script_from input ≡ Some script) × VatIsUnbuilt script.vat
-unbuilt_script input None e h = absurd h
-unbuilt_script input (Some script) e h = (script, e, unbuilt_vat script.key script.vat h)
-
-no_stage_told : (answer : Result Scoped ProgramFault) (status : Status) (text : List ℕ) → Tells answer status text → IsStage Unbuilt status → ⊥
-no_stage_told (Ok scoped) status text due h = subst (IsStage Unbuilt) due.0 h
-no_stage_told (Err (faults.At part kind place)) status text due h = not_unbuilt part (subst (IsStage Unbuilt) due.0 h)
-no_stage_told (Err faults.Memory) status text due h = due
-
-no_stage_text : (found : Result (List ℕ) ℕ) (status : Status) (text : List ℕ) → IsDueOfText found status text → IsStage Unbuilt status → ⊥
-no_stage_text (Ok program) status text due h = no_stage_told due.0 status text due.2 h
-no_stage_text (Err r) status text due h = subst (IsStage Unbuilt) due.0 h
-
-by_stage : (status : Status) → status ≡ ProgramRefused unbuilt → IsStage Unbuilt status
-by_stage status is = subst (IsStage Unbuilt) (sym is) refl
-
-unbuilt_only : (command : Option Command) (input : List ℕ) (status : Status) (text : List ℕ) → IsDue command input status text
-    → status ≡ ProgramRefused unbuilt → IsUnbuilt command input
-unbuilt_only None input status text due is = let used : status ≡ Usage = due.0 in cc
-unbuilt_only (Some Run) input status text due is = from (splits Run input status text due)
-  where
-    from : Splits Run input status text → IsUnbuilt (Some Run) input
-    from (inl (long, too)) = cc
-    from (inr (few, d)) =
-        let u = unbuilt_script input (script_from input) refl (subst (IsStage Unbuilt) d.0 (by_stage status is)) in (refl, few, u.0, u.1, u.2)
-unbuilt_only (Some Expand) input status text due is = from (splits Expand input status text due)
-  where
-    from : Splits Expand input status text → IsUnbuilt (Some Expand) input
-    from (inl (long, too)) = cc
-    from (inr (few, d)) = absurd (no_stage_text (text_from input) status text d (by_stage status is))
-
-unbuilt_due : (key : List ℕ) (vat : Option VatSource) → VatIsUnbuilt vat → (due_of_vat key vat).status ≡ ProgramRefused unbuilt
-unbuilt_due key None u = absurd u
-unbuilt_due key (Some vat) u = rw u refl
-
-unbuilt_there : (command : Option Command) (input : List ℕ) (status : Status) (text : List ℕ) → IsDue command input status text
-    → IsUnbuilt command input → status ≡ ProgramRefused unbuilt
-unbuilt_there None input status text due u = absurd (not_none u.0)
-  where
-    not_none : None ≡ Some Run → ⊥
-    not_none e = cc
-unbuilt_there (Some Run) input status text due (run, few, script, is, u) =
-    (rw (is_few most_bytes (length input) few, is) at due).0 ∙ unbuilt_due script.key script.vat u
-unbuilt_there (Some Expand) input status text due (run, few, script, is, u) = absurd (not_run run)
-  where
-    not_run : Some Expand ≡ Some Run → ⊥
-    not_run e = cc
 
 -- ---- a program that is refused where it is read
 
-abbrev IsRefused : Part → ℕ → ℕ → Status → Type 0
-IsRefused part kind place status = status ≡ ProgramRefused (refusal part kind place)
+-- the parts of a refusal
+abbrev stage_in : Status → Stage
+stage_in (ProgramRefused r) = r.stage
+stage_in _ = Unbuilt
+
+abbrev kind_in : Status → ℕ
+kind_in (ProgramRefused r) = r.kind
+kind_in _ = 0
+
+abbrev place_in : Status → ℕ
+place_in (ProgramRefused r) = r.place
+place_in _ = 0
+
+stage_apart : (part : Part) → stage_of part ≢ Unbuilt
+stage_apart parts.Lex e = cc
+stage_apart parts.Parse e = cc
+stage_apart parts.Nested e = cc
+stage_apart parts.Expand e = cc
+stage_apart parts.Scope e = cc
+
+unbuilt_apart : (part : Part) (kind place : ℕ) → ProgramRefused unbuilt ≡ ProgramRefused (refusal part kind place) → ⊥
+unbuilt_apart part kind place e = stage_apart part (ap stage_in (sym e))
 
 one_part : (a b : Part) → stage_of a ≡ stage_of b → a ≡ b
 one_part parts.Lex parts.Lex e = refl
@@ -258,103 +235,154 @@ one_part parts.Scope parts.Nested e = cc
 one_part parts.Scope parts.Expand e = cc
 one_part parts.Scope parts.Scope e = refl
 
--- the parts of a refusal
-abbrev stage_in : Status → Stage
-stage_in (ProgramRefused r) = r.stage
-stage_in _ = Unbuilt
-
-abbrev kind_in : Status → ℕ
-kind_in (ProgramRefused r) = r.kind
-kind_in _ = 0
-
-abbrev place_in : Status → ℕ
-place_in (ProgramRefused r) = r.place
-place_in _ = 0
-
 -- a refusal tells its fault
-told_once : (a b : Part) (k l p q : ℕ) → ProgramRefused (refusal a k p) ≡ ProgramRefused (refusal b l q) → faults.At a k p ≡ faults.At b l q
+told_once : (a b : Part) (k l p q : ℕ) → ProgramRefused (refusal a k p) ≡ ProgramRefused (refusal b l q) → (a ≡ b) × (k ≡ l) × (p ≡ q)
 told_once a b k l p q e =
     let stages : stage_of a ≡ stage_of b = ap stage_in e in
     let kinds : k ≡ l = ap kind_in e in
     let places : p ≡ q = ap place_in e in
-    let same : a ≡ b = one_part a b stages in
-    cc
+    (one_part a b stages, kinds, places)
 
-fault_told : (part : Part) (kind place : ℕ) (answer : Result Scoped ProgramFault) (status : Status) (text : List ℕ) → Tells answer status text
-    → IsRefused part kind place status → answer ≡ Err (faults.At part kind place)
-fault_told part kind place (Ok scoped) status text due is = let done : status ≡ Done = due.0 in cc
-fault_told part kind place (Err (faults.At p k q)) status text due is = ap Err (told_once p part k kind q place (sym due.0 ∙ is))
-fault_told part kind place (Err faults.Memory) status text due is = absurd due
+fault_same : (a b : Part) (k l p q : ℕ) (command : Option Command) (input : List ℕ) → (a ≡ b) × (k ≡ l) × (p ≡ q) → HasFault a k p command input → HasFault b l q command input
+fault_same a b k l p q command input (part, kind, place) fault =
+    subst (λ (c : Part). HasFault c l q command input) part
+    (subst (λ (n : ℕ). HasFault a n q command input) kind (subst (λ (n : ℕ). HasFault a k n command input) place fault))
 
-fault_text : (part : Part) (kind place : ℕ) (found : Result (List ℕ) ℕ) (status : Status) (text : List ℕ) → IsDueOfText found status text
-    → IsRefused part kind place status → (program : List ℕ) × (found ≡ Ok program) × Answers (Err (faults.At part kind place)) program safe_names
-fault_text part kind place (Ok program) status text due is =
-    (program, refl, subst (λ (a : Result Scoped ProgramFault). Answers a program safe_names) (fault_told part kind place due.0 status text due.2 is) due.1)
-fault_text part kind place (Err r) status text due is = let refused : status ≡ ScriptRefused r = due.0 in cc
-
-run_sum : (key name : List ℕ) (numbers : Option (List ℤ)) (part : Part) (kind place : ℕ) → IsRefused part kind place (due_of_sum key name numbers).status → ⊥
-run_sum key name None part kind place is = not_unbuilt part (ap stage_in (sym is))
-run_sum key name (Some ns) part kind place is = cc
-
-run_vat : (key : List ℕ) (vat : Option VatSource) (part : Part) (kind place : ℕ) → IsRefused part kind place (due_of_vat key vat).status → ⊥
-run_vat key None part kind place is = cc
-run_vat key (Some vat) part kind place is = run_sum key vat.name (sum_of vat.source) part kind place is
-
-run_script : (script : Option Script) (part : Part) (kind place : ℕ) → IsRefused part kind place (due_of_script script).status → ⊥
-run_script None part kind place is = cc
-run_script (Some script) part kind place is = run_vat script.key script.vat part kind place is
-
-fault_only : (part : Part) (kind place : ℕ) (command : Option Command) (input : List ℕ) (status : Status) (text : List ℕ) → IsDue command input status text
+fault_only : (part : Part) (kind place : ℕ) (command : Option Command) (input : List ℕ) (status : Status) → Why command input status
     → IsRefused part kind place status → HasFault part kind place command input
-fault_only part kind place None input status text due is = let used : status ≡ Usage = due.0 in cc
-fault_only part kind place (Some Run) input status text due is = from (splits Run input status text due)
-  where
-    from : Splits Run input status text → HasFault part kind place (Some Run) input
-    from (inl (long, too)) = cc
-    from (inr (few, d)) = absurd (run_script (script_from input) part kind place (sym d.0 ∙ is))
-fault_only part kind place (Some Expand) input status text due is = from (splits Expand input status text due)
-  where
-    from : Splits Expand input status text → HasFault part kind place (Some Expand) input
-    from (inl (long, too)) = cc
-    from (inr (few, d)) = let f = fault_text part kind place (text_from input) status text d is in (f.0, (refl, few, f.1), f.2)
+fault_only part kind place command input status (Misused e) is = cc
+fault_only part kind place command input status (Long long e) is = cc
+fault_only part kind place command input status (Broken rule breaks e) is = cc
+fault_only part kind place command input status (Faulty p k q fault e) is =
+    fault_same p part k kind q place command input (told_once p part k kind q place (sym e ∙ is)) fault
+fault_only part kind place command input status (NotBuilt u e) is = absurd (unbuilt_apart part kind place (sym e ∙ is))
+fault_only part kind place command input status (Ran script vat scoped run has answers built e) is =
+    absurd (never (IsRefused part kind place) (λ h. cc) (λ k h. cc) (λ k h. cc) (run_by script vat scoped) (sym e ∙ is))
+fault_only part kind place command input status (Finished e) is = cc
 
-fault_answer : (part : Part) (kind place : ℕ) (program : List ℕ) (answer : Result Scoped ProgramFault) (status : Status) (text : List ℕ)
-    → Tells answer status text → (answer ≡ Err faults.Memory) ⊎ (answer ≡ Err (faults.At part kind place)) → IsRefused part kind place status
-fault_answer part kind place program answer status text due (inl none) = absurd (subst (λ (a : Result Scoped ProgramFault). Tells a status text) none due)
-fault_answer part kind place program answer status text due (inr same) = (subst (λ (a : Result Scoped ProgramFault). Tells a status text) same due).0
+abbrev failed : ProgramFault → Result Scoped ProgramFault
+failed fault = Err fault
+
+-- what a fault is due, where a program has no other reading
+of_fault : (part : Part) (kind place : ℕ) (name : List ℕ) (fault : ProgramFault) (status : Status) (text : List ℕ) → IsDueOfFault name fault status text
+    → (failed fault ≡ failed faults.Memory) ⊎ (failed fault ≡ failed (faults.At part kind place)) → IsRefused part kind place status
+of_fault part kind place name (faults.At p k q) status text due (inl none) = cc
+of_fault part kind place name (faults.At p k q) status text due (inr same) =
+    let parts_same : p ≡ part = cc in
+    let kinds : k ≡ kind = cc in
+    let places : q ≡ place = cc in
+    due.0 ∙ rw (parts_same, kinds, places) refl
+of_fault part kind place name faults.Memory status text due same = absurd due
+
+form_fault : (part : Part) (kind place : ℕ) (answer : Result Scoped ProgramFault) (status : Status) (text : List ℕ) → IsDueOfForm answer status text
+    → (answer ≡ Err faults.Memory) ⊎ (answer ≡ Err (faults.At part kind place)) → IsRefused part kind place status
+form_fault part kind place (Ok scoped) status text due (inl none) = cc
+form_fault part kind place (Ok scoped) status text due (inr same) = cc
+form_fault part kind place (Err fault) status text due same = of_fault part kind place nameless fault status text due same
+
+source_fault : (part : Part) (kind place : ℕ) (key : List ℕ) (fuel : ℕ) (name : List ℕ) (answer : Result Scoped ProgramFault) (status : Status) (text : List ℕ)
+    → IsDueOfSource key fuel name answer status text → (answer ≡ Err faults.Memory) ⊎ (answer ≡ Err (faults.At part kind place)) → IsRefused part kind place status
+source_fault part kind place key fuel name (Ok scoped) status text due (inl none) = cc
+source_fault part kind place key fuel name (Ok scoped) status text due (inr same) = cc
+source_fault part kind place key fuel name (Err fault) status text due same = of_fault part kind place name fault status text due same
+
+vats_fault : (part : Part) (kind place : ℕ) → IsEarly part → (key : List ℕ) (fuel : ℕ) (vats : List VatScript) (vat : VatScript) (program : List ℕ) (status : Status) (text : List ℕ)
+    → IsVatOf vats vat → vat.source ≡ program → Answers (Err (faults.At part kind place)) program safe_names → IsDueOfVats key fuel vats status text → IsRefused part kind place status
+vats_fault part kind place early key fuel [] vat program status text is source fault due = absurd is
+vats_fault part kind place early key fuel (first ∷ more) vat program status text is source fault (answer, answers, due) =
+    let same : first.source ≡ program = ap (λ (v : VatScript). v.source) is ∙ source in
+    source_fault part kind place key fuel first.name answer status text due
+    (early_once part kind place program safe_names answer early fault (subst (λ (p : List ℕ). Answers answer p safe_names) same answers))
 
 fault_there : (part : Part) (kind place : ℕ) → IsEarly part → (command : Option Command) (input : List ℕ) (status : Status) (text : List ℕ)
     → IsDue command input status text → HasFault part kind place command input → IsRefused part kind place status
-fault_there part kind place early None input status text due (program, (expand, few, found), fault) = absurd (not_none expand)
-  where
-    not_none : None ≡ Some Expand → ⊥
-    not_none e = cc
-fault_there part kind place early (Some Run) input status text due (program, (expand, few, found), fault) = absurd (not_run expand)
-  where
-    not_run : Some Run ≡ Some Expand → ⊥
-    not_run e = cc
-fault_there part kind place early (Some Expand) input status text due (program, (expand, few, found), fault) =
+fault_there part kind place early None input status text due (program, has, fault) = absurd has
+fault_there part kind place early (Some Run) input status text due (program, (script, vat, (few, found, is), source), fault) =
     let d = rw (is_few most_bytes (length input) few, found) at due in
-    fault_answer part kind place program d.0 status text d.2 (early_once part kind place program safe_names d.0 early fault d.1)
+    vats_fault part kind place early script.key script.fuel script.vats vat program status text is source fault d
+fault_there part kind place early (Some Expand) input status text due (program, (few, found), fault) =
+    let d = rw (is_few most_bytes (length input) few, found) at due in
+    form_fault part kind place d.0 status text d.2 (early_once part kind place program safe_names d.0 early fault d.1)
 
-tree_missed : (program : List ℕ) (answer : Result Scoped ProgramFault) (status : Status) (text : List ℕ) → Answers answer program safe_names
-    → Tells answer status text → ((scoped : Scoped) → Answers (Ok scoped) program safe_names → ⊥) → IsProgramRefused status
-tree_missed program (Ok scoped) status text answers due none = absurd (none scoped answers)
-tree_missed program (Err (faults.At part kind place)) status text answers due none = subst IsProgramRefused (sym due.0) tt
-tree_missed program (Err faults.Memory) status text answers due none = absurd due
+-- ---- no tree
+
+fault_refuses : (name : List ℕ) (fault : ProgramFault) (status : Status) (text : List ℕ) → IsDueOfFault name fault status text → IsProgramRefused status
+fault_refuses name (faults.At part kind place) status text due = subst IsProgramRefused (sym due.0) tt
+fault_refuses name faults.Memory status text due = absurd due
+
+no_form : (program : List ℕ) (answer : Result Scoped ProgramFault) (status : Status) (text : List ℕ) → Answers answer program safe_names
+    → IsDueOfForm answer status text → ((scoped : Scoped) → Answers (Ok scoped) program safe_names → ⊥) → IsProgramRefused status
+no_form program (Ok scoped) status text answers due none = absurd (none scoped answers)
+no_form program (Err fault) status text answers due none = fault_refuses nameless fault status text due
+
+no_source : (program key : List ℕ) (fuel : ℕ) (name : List ℕ) (answer : Result Scoped ProgramFault) (status : Status) (text : List ℕ) → Answers answer program safe_names
+    → IsDueOfSource key fuel name answer status text → ((scoped : Scoped) → Answers (Ok scoped) program safe_names → ⊥) → IsProgramRefused status
+no_source program key fuel name (Ok scoped) status text answers due none = absurd (none scoped answers)
+no_source program key fuel name (Err fault) status text answers due none = fault_refuses name fault status text due
+
+no_vats : (key : List ℕ) (fuel : ℕ) (vats : List VatScript) (vat : VatScript) (program : List ℕ) (status : Status) (text : List ℕ)
+    → IsVatOf vats vat → vat.source ≡ program → ((scoped : Scoped) → Answers (Ok scoped) program safe_names → ⊥) → IsDueOfVats key fuel vats status text → IsProgramRefused status
+no_vats key fuel [] vat program status text is source none due = absurd is
+no_vats key fuel (first ∷ more) vat program status text is source none (answer, answers, due) =
+    let same : first.source ≡ program = ap (λ (v : VatScript). v.source) is ∙ source in
+    no_source program key fuel first.name answer status text (subst (λ (p : List ℕ). Answers answer p safe_names) same answers) due none
 
 tree_there : (command : Option Command) (input : List ℕ) (status : Status) (text : List ℕ) → IsDue command input status text
     → HasNoTree command input → IsProgramRefused status
-tree_there None input status text due (program, (expand, few, found), none) = absurd (not_none expand)
-  where
-    not_none : None ≡ Some Expand → ⊥
-    not_none e = cc
-tree_there (Some Run) input status text due (program, (expand, few, found), none) = absurd (not_run expand)
-  where
-    not_run : Some Run ≡ Some Expand → ⊥
-    not_run e = cc
-tree_there (Some Expand) input status text due (program, (expand, few, found), none) =
-    let d = rw (is_few most_bytes (length input) few, found) at due in tree_missed program d.0 status text d.1 d.2 none
+tree_there None input status text due (program, has, none) = absurd has
+tree_there (Some Run) input status text due (program, (script, vat, (few, found, is), source), none) =
+    let d = rw (is_few most_bytes (length input) few, found) at due in
+    no_vats script.key script.fuel script.vats vat program status text is source none d
+tree_there (Some Expand) input status text due (program, (few, found), none) =
+    let d = rw (is_few most_bytes (length input) few, found) at due in no_form program d.0 status text d.1 d.2 none
+
+-- ---- a tree that is not built
+
+unbuilt_only : (command : Option Command) (input : List ℕ) (status : Status) → Why command input status → status ≡ ProgramRefused unbuilt → IsUnbuilt command input
+unbuilt_only command input status (Misused e) is = cc
+unbuilt_only command input status (Long long e) is = cc
+unbuilt_only command input status (Broken rule breaks e) is = cc
+unbuilt_only command input status (Faulty part kind place fault e) is = absurd (unbuilt_apart part kind place (sym is ∙ e))
+unbuilt_only command input status (NotBuilt u e) is = u
+unbuilt_only command input status (Ran script vat scoped run has answers built e) is =
+    absurd (never (λ s. s ≡ ProgramRefused unbuilt) (λ h. cc) (λ k h. cc) (λ k h. cc) (run_by script vat scoped) (sym e ∙ is))
+unbuilt_only command input status (Finished e) is = cc
+
+-- ---- a run that stops
+
+fuel_stop : (step : ℕ) (r : machine.Run) → status_of r ≡ FuelSpent step → (world : World) × (r ≡ Stopped Fuel step world)
+fuel_stop step (Goes w) e = cc
+fuel_stop step (Stopped Fuel k w) e = let same : k ≡ step = cc in (w, ap (λ n. Stopped Fuel n w) same)
+fuel_stop step (Stopped Deep k w) e = cc
+fuel_stop step (Stopped (Repeated i j) k w) e = cc
+fuel_stop step (Stopped Astray k w) e = cc
+
+deep_stop : (step : ℕ) (r : machine.Run) → status_of r ≡ TooDeep step → (world : World) × (r ≡ Stopped Deep step world)
+deep_stop step (Goes w) e = cc
+deep_stop step (Stopped Fuel k w) e = cc
+deep_stop step (Stopped Deep k w) e = let same : k ≡ step = cc in (w, ap (λ n. Stopped Deep n w) same)
+deep_stop step (Stopped (Repeated i j) k w) e = cc
+deep_stop step (Stopped Astray k w) e = cc
+
+fuel_only : (step : ℕ) (command : Option Command) (input : List ℕ) (status : Status) → Why command input status → status ≡ FuelSpent step → Stops Fuel step command input
+fuel_only step command input status (Misused e) is = cc
+fuel_only step command input status (Long long e) is = cc
+fuel_only step command input status (Broken rule breaks e) is = cc
+fuel_only step command input status (Faulty part kind place fault e) is = cc
+fuel_only step command input status (NotBuilt u e) is = cc
+fuel_only step command input status (Ran script vat scoped run has answers built e) is =
+    let stop = fuel_stop step (run_by script vat scoped) (sym e ∙ is) in (run, script, vat, has, scoped, answers, built, stop.0, stop.1)
+fuel_only step command input status (Finished e) is = cc
+
+deep_only : (step : ℕ) (command : Option Command) (input : List ℕ) (status : Status) → Why command input status → status ≡ TooDeep step → Stops Deep step command input
+deep_only step command input status (Misused e) is = cc
+deep_only step command input status (Long long e) is = cc
+deep_only step command input status (Broken rule breaks e) is = cc
+deep_only step command input status (Faulty part kind place fault e) is = cc
+deep_only step command input status (NotBuilt u e) is = cc
+deep_only step command input status (Ran script vat scoped run has answers built e) is =
+    let stop = deep_stop step (run_by script vat scoped) (sym e ∙ is) in (run, script, vat, has, scoped, answers, built, stop.0, stop.1)
+deep_only step command input status (Finished e) is = cc
 
 -- ---- of a call
 
@@ -367,7 +395,7 @@ pub long_comes : (left held held' : Option (List ℕ)) (result : Status) (comman
 long_comes None held held' result command pays = tt
 long_comes (Some input) held held' result command (written, appends, pays) = (
   only (λ s. s ≡ TooLong) (IsLong command input) result command input written (λ stopped is. subst IsInterrupted is stopped)
-      (long_only command input result written) pays,
+      (long_only command input result) pays,
   there (λ s. s ≡ TooLong) (IsLong command input) result command input written (long_there command input result written) pays,
 )
 
@@ -376,17 +404,8 @@ pub rule_comes : (left held held' : Option (List ℕ)) (result : Status) (comman
 rule_comes None held held' result command pays = tt
 rule_comes (Some input) held held' result command (written, appends, pays) = λ rule. (
   only (λ s. s ≡ ScriptRefused rule) (Breaks rule command input) result command input written (λ stopped is. subst IsInterrupted is stopped)
-      (rule_only rule command input result written) pays,
+      (rule_only rule command input result) pays,
   there (λ s. s ≡ ScriptRefused rule) (Breaks rule command input) result command input written (rule_there rule command input result written) pays,
-)
-
-pub unbuilt_comes : (left held held' : Option (List ℕ)) (result : Status) (command : Option Command) → OfLeft left held held' result command
-    → IfSome left (λ input. ComesWhere (λ s. s ≡ ProgramRefused unbuilt) result (IsUnbuilt command input))
-unbuilt_comes None held held' result command pays = tt
-unbuilt_comes (Some input) held held' result command (written, appends, pays) = (
-  only (λ s. s ≡ ProgramRefused unbuilt) (IsUnbuilt command input) result command input written (λ stopped is. subst IsInterrupted is stopped)
-      (unbuilt_only command input result written) pays,
-  there (λ s. s ≡ ProgramRefused unbuilt) (IsUnbuilt command input) result command input written (unbuilt_there command input result written) pays,
 )
 
 pub fault_comes : (left held held' : Option (List ℕ)) (result : Status) (command : Option Command) → OfLeft left held held' result command
@@ -394,7 +413,7 @@ pub fault_comes : (left held held' : Option (List ℕ)) (result : Status) (comma
 fault_comes None held held' result command pays = tt
 fault_comes (Some input) held held' result command (written, appends, pays) = λ part kind place.
     only (IsRefused part kind place) (HasFault part kind place command input) result command input written (λ stopped is. subst IsInterrupted is stopped)
-    (fault_only part kind place command input result written) pays
+    (fault_only part kind place command input result) pays
 
 pub early_comes : (left held held' : Option (List ℕ)) (result : Status) (command : Option Command) → OfLeft left held held' result command
     → IfSome left (λ input. (part : Part) (kind place : ℕ) → IsEarly part
@@ -410,6 +429,27 @@ no_tree_comes None held held' result command pays = tt
 no_tree_comes (Some input) held held' result command (written, appends, pays) =
     there IsProgramRefused (HasNoTree command input) result command input written (tree_there command input result written) pays
 
+pub unbuilt_comes : (left held held' : Option (List ℕ)) (result : Status) (command : Option Command) → OfLeft left held held' result command
+    → IfSome left (λ input. result ≡ ProgramRefused unbuilt → IsUnbuilt command input)
+unbuilt_comes None held held' result command pays = tt
+unbuilt_comes (Some input) held held' result command (written, appends, pays) =
+    only (λ s. s ≡ ProgramRefused unbuilt) (IsUnbuilt command input) result command input written (λ stopped is. subst IsInterrupted is stopped)
+    (unbuilt_only command input result) pays
+
+pub fuel_comes : (left held held' : Option (List ℕ)) (result : Status) (command : Option Command) → OfLeft left held held' result command
+    → IfSome left (λ input. (step : ℕ) → result ≡ FuelSpent step → Stops Fuel step command input)
+fuel_comes None held held' result command pays = tt
+fuel_comes (Some input) held held' result command (written, appends, pays) = λ step.
+    only (λ s. s ≡ FuelSpent step) (Stops Fuel step command input) result command input written (λ stopped is. subst IsInterrupted is stopped)
+    (fuel_only step command input result) pays
+
+pub deep_comes : (left held held' : Option (List ℕ)) (result : Status) (command : Option Command) → OfLeft left held held' result command
+    → IfSome left (λ input. (step : ℕ) → result ≡ TooDeep step → Stops Deep step command input)
+deep_comes None held held' result command pays = tt
+deep_comes (Some input) held held' result command (written, appends, pays) = λ step.
+    only (λ s. s ≡ TooDeep step) (Stops Deep step command input) result command input written (λ stopped is. subst IsInterrupted is stopped)
+    (deep_only step command input result) pays
+
 -- without a fault
 abbrev IsWholeAnswer : Option Command → List ℕ → Status → Type 0
 IsWholeAnswer command input result = result ≡ Memory ⊎ ((text : List ℕ) × IsDue command input result text)
@@ -423,6 +463,8 @@ complete_with WriteFault written command input r w pays = absurd (w refl)
 complete_with TooLong written command input r w pays = inr (written, pays)
 complete_with (ScriptRefused k) written command input r w pays = inr (written, pays)
 complete_with (ProgramRefused f) written command input r w pays = inr (written, pays)
+complete_with (FuelSpent step) written command input r w pays = inr (written, pays)
+complete_with (TooDeep step) written command input r w pays = inr (written, pays)
 complete_with Memory written command input r w pays = inl refl
 
 pub complete_comes : (left held held' : Option (List ℕ)) (result : Status) (command : Option Command) (R W : Type 0)

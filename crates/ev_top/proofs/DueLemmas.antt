@@ -1,51 +1,74 @@
 -- What is due for a command, by how many bytes there are, and what pays for it.
-use Rattle.std.proofs.Common.{◌≡◌, ◌⊎◌, inl, inr, ◌<◌, ◌≤◌, ℕ, ℤ, ◌+◌, nat_lt, length, length-append, List, [], ◌++◌, append-nil, ap, ◌∙◌, codes, Bool, true, false, Option, Some, None, IfSome, IsSome, Result, Ok, Err, refl, sym, subst, arith}
+use Rattle.std.proofs.Common.{◌≡◌, ◌⊎◌, inl, inr, ◌<◌, ◌≤◌, ℕ, ◌+◌, nat_lt, length, length-append, List, [], ◌∷◌, ◌++◌, append-nil, ap, ◌∙◌, codes, Bool, true, false, Option, Some, None, IfSome, IsSome, Result, Ok, Err, refl, sym, subst, arith}
 use Rattle.std.specs.Io.KnownBytes.{IsAtEnd}
 use Rattle.std.proofs.KnownBytes.{Appends-nil}
 use Rattle.ev_io.specs.Ends.{Takes}
 use Rattle.ev_io.specs.declared.read.ReadEnd.TheVariants.{TooLong as TooMany}
 use Rattle.std.proofs.lemmas.Bool.Decides.{nat_tests}
-use Rattle.ev_scope.specs.declared.accepted.Scoped.{Scoped}
+use Rattle.ev_eval.specs.Built.{is_built}
+use Rattle.ev_kernel.specs.declared.node.Node.{Node}
+use Rattle.ev_machine.specs.State.{Fuel, Deep, Repeated, Astray}
 use Rattle.ev_reader.specs.declared.fault.ProgramFault.{ProgramFault}
 use Rattle.ev_reader.specs.declared.fault.ProgramFault.TheVariants as faults
+use Rattle.ev_run.specs.World as machine
+use Rattle.ev_run.specs.World.{run, Goes, Stopped}
+use Rattle.ev_scope.specs.declared.accepted.Scoped.{Scoped}
+use Rattle.ev_script.specs.declared.script.Script.{Script}
+use Rattle.ev_script.specs.declared.script.VatScript.{VatScript}
 use Rattle.ev_top.specs.Words.{line}
 use Rattle.ev_top.specs.Debt.{IsFor, most_bytes, too_long}
 use Rattle.ev_top.specs.Script.{script_from}
-use Rattle.ev_top.specs.Sum.{sum_of}
-use Rattle.ev_top.specs.Expansion.{text_from, IsDueOfText, Tells}
-use Rattle.ev_top.specs.Due.{IsDue, IsOfWhole, IsOfRead, Finishes, Pays, PaysWith, due_of_script, due_of_vat, due_of_sum}
+use Rattle.ev_top.specs.Programs.{IsDueOfFault}
+use Rattle.ev_top.specs.Expansion.{text_from, IsDueOfText, IsDueOfForm}
+use Rattle.ev_top.specs.Due.{IsDue, IsDueOfBytes, IsDueOfScript, IsDueOfSource, IsDueOfTree, IsDueOfVats, IsOfWhole, IsOfRead, Finishes, Pays, PaysWith, status_of}
+use Rattle.ev_top.specs.Machine.{program, machine_script}
 use Rattle.ev_top.specs.declared.command.Command.{Command}
 use Rattle.ev_top.specs.declared.command.Command.TheVariants.{Run, Expand}
-use Rattle.ev_top.specs.declared.script.Script.{Script}
-use Rattle.ev_top.specs.declared.script.VatSource.{VatSource}
 use Rattle.ev_top.specs.declared.status.Status.{Status}
-use Rattle.ev_top.specs.declared.status.Status.TheVariants.{Done, Usage, ReadFault, WriteFault, TooLong, ScriptRefused, ProgramRefused, Memory}
+use Rattle.ev_top.specs.declared.status.Status.TheVariants.{Done, Usage, ReadFault, WriteFault, TooLong, ScriptRefused, ProgramRefused, FuelSpent, TooDeep, Memory}
 
 -- ---- what is due for bytes that are few enough needs all of them
 
-of_sum : (key name : List ℕ) (numbers : Option (List ℤ)) → IsOfWhole (due_of_sum key name numbers).status
-of_sum key name None = tt
-of_sum key name (Some numbers) = tt
+of_fault : (name : List ℕ) (fault : ProgramFault) (status : Status) (text : List ℕ) → IsDueOfFault name fault status text → IsOfWhole status
+of_fault name (faults.At part kind place) status text due = subst IsOfWhole (sym due.0) tt
+of_fault name faults.Memory status text due = absurd due
 
-of_vat : (key : List ℕ) (vat : Option VatSource) → IsOfWhole (due_of_vat key vat).status
-of_vat key None = tt
-of_vat key (Some vat) = of_sum key vat.name (sum_of vat.source)
+of_form : (answer : Result Scoped ProgramFault) (status : Status) (text : List ℕ) → IsDueOfForm answer status text → IsOfWhole status
+of_form (Ok scoped) status text due = subst IsOfWhole (sym due.0) tt
+of_form (Err fault) status text due = of_fault _ fault status text due
 
-of_script : (script : Option Script) → IsOfWhole (due_of_script script).status
-of_script None = tt
-of_script (Some script) = of_vat script.key script.vat
+of_text : (found : Result (List ℕ) ℕ) (status : Status) (text : List ℕ) → IsDueOfText found status text → IsOfWhole status
+of_text (Ok program) status text due = of_form due.0 status text due.2
+of_text (Err rule) status text due = subst IsOfWhole (sym due.0) tt
 
-pub whole_run : (script : Option Script) (status : Status) (text : List ℕ) → IsFor status text (due_of_script script) → IsOfWhole status
-whole_run script status text due = subst IsOfWhole (sym due.0) (of_script script)
+of_end : (r : machine.Run) → IsOfWhole (status_of r)
+of_end (Goes w) = tt
+of_end (Stopped Fuel step w) = tt
+of_end (Stopped Deep step w) = tt
+of_end (Stopped (Repeated i j) step w) = tt
+of_end (Stopped Astray step w) = tt
 
-told : (answer : Result Scoped ProgramFault) (status : Status) (text : List ℕ) → Tells answer status text → IsOfWhole status
-told (Ok scoped) status text due = subst IsOfWhole (sym due.0) tt
-told (Err (faults.At part kind place)) status text due = subst IsOfWhole (sym due.0) tt
-told (Err faults.Memory) status text due = absurd due
+of_tree : (built : Bool) (key : List ℕ) (fuel : ℕ) (name : List ℕ) (tree : List Node) (status : Status) (text : List ℕ)
+    → IsDueOfTree built key fuel name tree status text → IsOfWhole status
+of_tree true key fuel name tree status text due = subst IsOfWhole (sym due.0) (of_end (run (machine_script key fuel (program name tree ∷ []))))
+of_tree false key fuel name tree status text due = subst IsOfWhole (sym due.0) tt
 
-pub whole_program : (found : Result (List ℕ) ℕ) (status : Status) (text : List ℕ) → IsDueOfText found status text → IsOfWhole status
-whole_program (Ok program) status text due = told due.0 status text due.2
-whole_program (Err rule) status text due = subst IsOfWhole (sym due.0) tt
+of_source : (key : List ℕ) (fuel : ℕ) (name : List ℕ) (answer : Result Scoped ProgramFault) (status : Status) (text : List ℕ)
+    → IsDueOfSource key fuel name answer status text → IsOfWhole status
+of_source key fuel name (Ok scoped) status text due = of_tree (is_built scoped.tree) key fuel name scoped.tree status text due
+of_source key fuel name (Err fault) status text due = of_fault name fault status text due
+
+of_vats : (key : List ℕ) (fuel : ℕ) (vats : List VatScript) (status : Status) (text : List ℕ) → IsDueOfVats key fuel vats status text → IsOfWhole status
+of_vats key fuel [] status text due = subst IsOfWhole (sym due.0) (of_end (run (machine_script key fuel [])))
+of_vats key fuel (vat ∷ more) status text due = of_source key fuel vat.name due.0 status text due.2
+
+of_script : (found : Result Script ℕ) (status : Status) (text : List ℕ) → IsDueOfScript found status text → IsOfWhole status
+of_script (Ok script) status text due = of_vats script.key script.fuel script.vats status text due
+of_script (Err rule) status text due = subst IsOfWhole (sym due.0) tt
+
+pub whole : (command : Command) (input : List ℕ) (status : Status) (text : List ℕ) → IsDueOfBytes command input status text → IsOfWhole status
+whole Run input status text due = of_script (script_from input) status text due
+whole Expand input status text due = of_text (text_from input) status text due
 
 -- ---- what is due, by how many bytes there are
 
@@ -55,18 +78,13 @@ is_few most n few = grind (arith, nat_tests)
 pub is_long : (most n : ℕ) → most < n → nat_lt most n ≡ true
 is_long most n long = grind (arith, nat_tests)
 
-pub few_run : (input : List ℕ) (status : Status) (text : List ℕ) → length input ≤ most_bytes
-    → IsFor status text (due_of_script (script_from input)) → IsDue (Some Run) input status text
-few_run input status text few due = rw (is_few most_bytes (length input) few) due
-
-pub few_program : (input : List ℕ) (status : Status) (text : List ℕ) → length input ≤ most_bytes
-    → IsDueOfText (text_from input) status text → IsDue (Some Expand) input status text
-few_program input status text few due = rw (is_few most_bytes (length input) few) due
+pub due_few : (command : Command) (input : List ℕ) (status : Status) (text : List ℕ) → length input ≤ most_bytes
+    → IsDueOfBytes command input status text → IsDue (Some command) input status text
+due_few command input status text few due = rw (is_few most_bytes (length input) few) due
 
 pub due_long : (command : Command) (input : List ℕ) (status : Status) (text : List ℕ) → most_bytes < length input
     → IsFor status text too_long → IsDue (Some command) input status text
-due_long Run input status text long due = rw (is_long most_bytes (length input) long) due
-due_long Expand input status text long due = rw (is_long most_bytes (length input) long) due
+due_long command input status text long due = rw (is_long most_bytes (length input) long) due
 
 -- what is due for the bytes that were read to their end is due for all that the source had
 pub due_read : (command : Command) (left left' : Option (List ℕ)) (bytes : List ℕ) (status : Status) (text : List ℕ) → Takes most_bytes left left' (Ok bytes)
@@ -109,6 +127,8 @@ plain WriteFault kind = absurd kind
 plain TooLong kind = tt
 plain (ScriptRefused r) kind = tt
 plain (ProgramRefused r) kind = tt
+plain (FuelSpent step) kind = tt
+plain (TooDeep step) kind = tt
 plain Memory kind = absurd kind
 
 pays_with : (command : Option Command) (input : List ℕ) (status : Status) (text : List ℕ) → IsPlain status → IsDue command input status text
@@ -120,6 +140,8 @@ pays_with command input WriteFault text kind due = absurd kind
 pays_with command input TooLong text kind due = due
 pays_with command input (ScriptRefused r) text kind due = due
 pays_with command input (ProgramRefused r) text kind due = due
+pays_with command input (FuelSpent step) text kind due = due
+pays_with command input (TooDeep step) text kind due = due
 pays_with command input Memory text kind due = absurd kind
 
 pub pays : (command : Option Command) (input : List ℕ) (status : Status) (text : List ℕ) (held held' : Option (List ℕ)) (result : Status)

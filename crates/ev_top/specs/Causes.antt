@@ -1,20 +1,24 @@
 -- Why each answer comes.
-use Rattle.std.specs.Prelude.{◌≡◌, ◌⊎◌, ◌<◌, ◌≤◌, ℕ, List, length, Some, None, IsSome, Result, Ok, Err}
+use Rattle.std.specs.Prelude.{◌≡◌, ◌⊎◌, ◌<◌, ◌≤◌, ℕ, true, false, List, [], ◌∷◌, length, Some, None, IsSome, Result, Ok, Err}
 use Rattle.std.specs.declared.option.Option.{Option}
-use Rattle.ev_scope.specs.declared.accepted.Scoped.{Scoped}
+use Rattle.ev_eval.specs.Built.{is_built}
+use Rattle.ev_machine.specs.State.{Stop, Fuel, Deep}
 use Rattle.ev_reader.specs.Program.{Answers}
-use Rattle.ev_reader.specs.declared.fault.ProgramFault.TheVariants.{At}
+use Rattle.ev_reader.specs.declared.fault.ProgramFault.{ProgramFault}
+use Rattle.ev_reader.specs.declared.fault.ProgramFault.TheVariants.{At, Memory as NoMemory}
 use Rattle.ev_reader.specs.declared.fault.Stage.{Stage as Part}
 use Rattle.ev_reader.specs.declared.fault.Stage.TheVariants as parts
+use Rattle.ev_run.specs.World.{run, World, Stopped}
+use Rattle.ev_scope.specs.declared.accepted.Scoped.{Scoped}
+use Rattle.ev_script.specs.declared.script.Script.{Script}
+use Rattle.ev_script.specs.declared.script.VatScript.{VatScript}
 use Rattle.ev_top.specs.Debt.{most_bytes}
-use Rattle.ev_top.specs.Due.{unbuilt}
-use Rattle.ev_top.specs.Expansion.{text_from, safe_names}
+use Rattle.ev_top.specs.Expansion.{text_from}
+use Rattle.ev_top.specs.Machine.{program, machine_script}
+use Rattle.ev_top.specs.Programs.{safe_names}
 use Rattle.ev_top.specs.Script.{script_from}
-use Rattle.ev_top.specs.Sum.{sum_of}
 use Rattle.ev_top.specs.declared.command.Command.{Command}
 use Rattle.ev_top.specs.declared.command.Command.TheVariants.{Run, Expand}
-use Rattle.ev_top.specs.declared.script.Script.{Script}
-use Rattle.ev_top.specs.declared.script.VatSource.{VatSource}
 use Rattle.ev_top.specs.declared.status.Status.{Status}
 use Rattle.ev_top.specs.declared.status.Status.TheVariants.{ReadFault, WriteFault, ProgramRefused, Memory}
 
@@ -40,22 +44,25 @@ IsLong command input = IsSome command × (most_bytes < length input)
 -- the whole input breaks the rule of this number
 abbrev pub Breaks : ℕ → Option Command → List ℕ → Type 0
 Breaks rule None input = ⊥
-Breaks rule (Some Run) input = (length input ≤ most_bytes) × (rule ≡ 0) × (script_from input ≡ None)
+Breaks rule (Some Run) input = (length input ≤ most_bytes) × (script_from input ≡ Err rule)
 Breaks rule (Some Expand) input = (length input ≤ most_bytes) × (text_from input ≡ Err rule)
 
 -- ---- programs
 
-abbrev pub VatIsUnbuilt : Option VatSource → Type 0
-VatIsUnbuilt None = ⊥
-VatIsUnbuilt (Some vat) = sum_of vat.source ≡ None
+-- the vat of a script, of which there is at most one
+abbrev pub IsVatOf : List VatScript → VatScript → Type 0
+IsVatOf [] vat = ⊥
+IsVatOf (first ∷ more) vat = first ≡ vat
 
--- a script of a vat whose source spells no sum
-abbrev pub IsUnbuilt : Option Command → List ℕ → Type 0
-IsUnbuilt command input = (command ≡ Some Run) × (length input ≤ most_bytes) × (script : Script) × (script_from input ≡ Some script) × VatIsUnbuilt script.vat
+-- the whole input is a script with that vat
+abbrev pub HasVat : List ℕ → Script → VatScript → Type 0
+HasVat input script vat = (length input ≤ most_bytes) × (script_from input ≡ Ok script) × IsVatOf script.vats vat
 
--- the whole input is the text of this program
+-- the whole input has this program: as the source of the script's vat, or as the text that it is
 abbrev pub HasProgram : Option Command → List ℕ → List ℕ → Type 0
-HasProgram command input program = (command ≡ Some Expand) × (length input ≤ most_bytes) × (text_from input ≡ Ok program)
+HasProgram None input program = ⊥
+HasProgram (Some Run) input program = (script : Script) × (vat : VatScript) × HasVat input script vat × (vat.source ≡ program)
+HasProgram (Some Expand) input program = (length input ≤ most_bytes) × (text_from input ≡ Ok program)
 
 -- its reading ends with this fault
 abbrev pub HasFault : Part → ℕ → ℕ → Option Command → List ℕ → Type 0
@@ -77,3 +84,14 @@ HasNoTree command input =
 abbrev pub IsProgramRefused : Status → Type 0
 IsProgramRefused (ProgramRefused r) = Unit {0}
 IsProgramRefused _ = ⊥
+
+-- it is read to a tree that is not built
+abbrev pub IsUnbuilt : Option Command → List ℕ → Type 0
+IsUnbuilt command input = (command ≡ Some Run) × (program : List ℕ) × HasProgram command input program
+    × (scoped : Scoped) × Answers (Ok scoped) program safe_names × (is_built scoped.tree ≡ false)
+
+-- it is read to a tree that is built, whose run stops in this step
+abbrev pub Stops : Stop → ℕ → Option Command → List ℕ → Type 0
+Stops stop step command input = (command ≡ Some Run) × (script : Script) × (vat : VatScript) × HasVat input script vat
+    × (scoped : Scoped) × Answers (Ok scoped) vat.source safe_names × (is_built scoped.tree ≡ true)
+    × (world : World) × (run (machine_script script.key script.fuel (program vat.name scoped.tree ∷ [])) ≡ Stopped stop step world)

@@ -1,65 +1,88 @@
 -- What a call owes: its status and its text, by its command and the bytes that were read.
-use Rattle.std.specs.Prelude.{◌≡◌, ◌⊎◌, ◌≤◌, ℕ, ℤ, nat_lt, if◌then◌else◌, List, [], ◌∷◌, ◌++◌, length, codes, Some, None, IsSome, ◌+◌, Result, Ok, Err}
+use Rattle.std.specs.Prelude.{◌≡◌, ◌⊎◌, ◌≤◌, ◌+◌, ℕ, Bool, true, false, nat_lt, List, [], ◌∷◌, ◌++◌, length, codes, Some, None, IsSome, Result, Ok, Err}
 use Rattle.std.specs.declared.option.Option.{Option}
 use Rattle.std.specs.Io.KnownBytes.{Appends, Consumes}
-use Rattle.ev_top.specs.Words.{line, IsPrefix}
-use Rattle.ev_top.specs.Debt.{Debt, IsFor, most_bytes, usage, too_long, bytes_refused}
-use Rattle.ev_top.specs.Expansion.{IsDueOfProgram}
+use Rattle.ev_eval.specs.Built.{is_built}
+use Rattle.ev_kernel.specs.declared.node.Node.{Node}
+use Rattle.ev_machine.specs.State.{Stop, Fuel, Deep, Repeated, Astray}
+use Rattle.ev_reader.specs.declared.fault.ProgramFault.{ProgramFault}
+use Rattle.ev_run.specs.World as machine
+use Rattle.ev_run.specs.World.{run, Goes, Stopped}
+use Rattle.ev_run.specs.Text.{text as machine_text}
+use Rattle.ev_scope.specs.declared.accepted.Scoped.{Scoped}
+use Rattle.ev_script.specs.declared.script.Script.{Script}
+use Rattle.ev_script.specs.declared.script.VatScript.{VatScript}
+use Rattle.ev_top.specs.Words.{IsPrefix}
+use Rattle.ev_top.specs.Debt.{Debt, IsFor, most_bytes, usage, too_long, bytes_refused, program_refused}
+use Rattle.ev_top.specs.Expansion.{IsDueOfText, text_from}
+use Rattle.ev_top.specs.Machine.{program, machine_script}
+use Rattle.ev_top.specs.Programs.{ReadAs, IsDueOfFault}
+use Rattle.ev_top.specs.Script.{script_from}
 use Rattle.ev_top.specs.declared.command.Command.{Command}
 use Rattle.ev_top.specs.declared.command.Command.TheVariants.{Run, Expand}
-use Rattle.ev_run.specs.World as machine
-use Rattle.ev_run.specs.World.{run}
-use Rattle.ev_run.specs.Text.{text as machine_text}
-use Rattle.ev_top.specs.Machine.{fuel_of_run, greatest_depth, program, machine_script}
-use Rattle.ev_top.specs.Sum.{sum_of}
-use Rattle.ev_top.specs.Tree.{tree_of}
-use Rattle.ev_top.specs.Script.{script_from}
-use Rattle.ev_top.specs.declared.script.Script.{Script}
-use Rattle.ev_top.specs.declared.script.VatSource.{VatSource}
 use Rattle.ev_top.specs.declared.reply.Reply.{Reply}
 use Rattle.ev_top.specs.declared.program.Early.{Early}
 use Rattle.ev_top.specs.declared.program.Early.TheVariants as early
-use Rattle.ev_top.specs.declared.status.Status.{Status}
 use Rattle.ev_top.specs.declared.status.Refusal.{Refusal}
 use Rattle.ev_top.specs.declared.status.Stage.TheVariants.{Unbuilt}
-use Rattle.ev_top.specs.declared.status.Status.TheVariants.{Done, Usage, ReadFault, WriteFault, TooLong, ScriptRefused, ProgramRefused, Memory}
+use Rattle.ev_top.specs.declared.status.Status.{Status}
+use Rattle.ev_top.specs.declared.status.Status.TheVariants.{Done, Usage, ReadFault, WriteFault, TooLong, ScriptRefused, ProgramRefused, FuelSpent, TooDeep, Memory}
 
--- where no stage refuses a source, and it is not built
+-- ---- a run
+
+-- The status that tells how a run ended: a step stopped for fuel or for depth, or else the text tells all. A run of one
+-- vat draws no word, so none repeats.
+abbrev pub status_of : machine.Run → Status
+status_of (Goes w) = Done
+status_of (Stopped Fuel step w) = FuelSpent step
+status_of (Stopped Deep step w) = TooDeep step
+status_of (Stopped (Repeated i j) step w) = Done
+status_of (Stopped Astray step w) = Done
+
+-- what is due for the machine's run on a script: how it ended, and its text
+abbrev pub due_of_run : machine.Script → Debt
+due_of_run script = record { status = status_of (run script); text = machine_text script (run script) }
+
+-- where no stage refuses a program, and it is not built
 abbrev pub unbuilt : Refusal
 unbuilt = record { vat = 0; stage = Unbuilt; kind = 0; place = 0 }
 
--- What is due for the machine's run on a script of sums. Such a run comes to its end, which `SumsEnd` says.
-unfoldable pub due_text : machine.Script → List ℕ
-due_text script = machine_text script (run script)
+-- what is due for the tree of the vat of that name, by whether it is built: its run, or its refusal
+abbrev pub IsDueOfTree : Bool → List ℕ → ℕ → List ℕ → List Node → Status → List ℕ → Type 0
+IsDueOfTree true key fuel name tree status text = IsFor status text (due_of_run (machine_script key fuel (program name tree ∷ [])))
+IsDueOfTree false key fuel name tree status text = IsFor status text (program_refused name unbuilt (codes "unbuilt 0 0"))
 
-abbrev pub due_of_run : machine.Script → Debt
-due_of_run script = record { status = Done; text = due_text script }
+-- what is due for the source of a vat by what it is read as
+abbrev pub IsDueOfSource : List ℕ → ℕ → List ℕ → Result Scoped ProgramFault → Status → List ℕ → Type 0
+IsDueOfSource key fuel name (Ok scoped) status text = IsDueOfTree (is_built scoped.tree) key fuel name scoped.tree status text
+IsDueOfSource key fuel name (Err fault) status text = IsDueOfFault name fault status text
 
--- the run of a sum in one vat, or the refusal of a source that spells none
-abbrev pub due_of_sum : List ℕ → List ℕ → Option (List ℤ) → Debt
-due_of_sum key name (Some numbers) = due_of_run (machine_script key fuel_of_run greatest_depth (program name (tree_of numbers) ∷ []))
-due_of_sum key name None = record {
-  status = ProgramRefused unbuilt;
-  text = line (codes "refused program " ++ name ++ codes " unbuilt 0 0");
-}
+-- what is due for the vat of a script, or for a script without vats; there is at most one
+abbrev pub IsDueOfVats : List ℕ → ℕ → List VatScript → Status → List ℕ → Type 0
+IsDueOfVats key fuel [] status text = IsFor status text (due_of_run (machine_script key fuel []))
+IsDueOfVats key fuel (vat ∷ more) status text = ReadAs vat.source (λ answer. IsDueOfSource key fuel vat.name answer status text)
 
-abbrev pub due_of_vat : List ℕ → Option VatSource → Debt
-due_of_vat key None = due_of_run (machine_script key fuel_of_run greatest_depth [])
-due_of_vat key (Some vat) = due_of_sum key vat.name (sum_of vat.source)
+-- what is due for a script, or for bytes that are none
+abbrev pub IsDueOfScript : Result Script ℕ → Status → List ℕ → Type 0
+IsDueOfScript (Ok script) status text = IsDueOfVats script.key script.fuel script.vats status text
+IsDueOfScript (Err rule) status text = IsFor status text (bytes_refused rule)
 
-abbrev pub due_of_script : Option Script → Debt
-due_of_script None = bytes_refused 0
-due_of_script (Some script) = due_of_vat script.key script.vat
+-- ---- a call
 
--- what is due for the bytes of a source, up to one more than the most
-abbrev pub due_of_input : List ℕ → Debt
-due_of_input input = if nat_lt most_bytes (length input) then too_long else due_of_script (script_from input)
+-- what is due for bytes that were all read
+abbrev pub IsDueOfBytes : Command → List ℕ → Status → List ℕ → Type 0
+IsDueOfBytes Run input status text = IsDueOfScript (script_from input) status text
+IsDueOfBytes Expand input status text = IsDueOfText (text_from input) status text
 
--- a status and a text are what is due for a command, or for words that are none
+-- what is due for the bytes of a source, by whether they are more than are read
+abbrev pub IsDueOfInput : Bool → Command → List ℕ → Status → List ℕ → Type 0
+IsDueOfInput true command input status text = IsFor status text too_long
+IsDueOfInput false command input status text = IsDueOfBytes command input status text
+
+-- what is due for a command, or for words that are none
 abbrev pub IsDue : Option Command → List ℕ → Status → List ℕ → Type 0
 IsDue None input status text = IsFor status text usage
-IsDue (Some Run) input status text = IsFor status text (due_of_input input)
-IsDue (Some Expand) input status text = IsDueOfProgram (nat_lt most_bytes (length input)) input status text
+IsDue (Some command) input status text = IsDueOfInput (nat_lt most_bytes (length input)) command input status text
 
 -- a front of a text that is due
 abbrev pub IsFrontOfDue : Option Command → List ℕ → List ℕ → Type 0
@@ -81,6 +104,8 @@ abbrev pub IsOfWhole : Status → Type 0
 IsOfWhole Done = Unit {0}
 IsOfWhole (ScriptRefused r) = Unit {0}
 IsOfWhole (ProgramRefused r) = Unit {0}
+IsOfWhole (FuelSpent step) = Unit {0}
+IsOfWhole (TooDeep step) = Unit {0}
 IsOfWhole _ = ⊥
 
 -- the status of a call that began to read

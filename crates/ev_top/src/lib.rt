@@ -2,7 +2,6 @@
 #![tactic(auto)]
 
 mod command;
-mod evaluate;
 mod expansion;
 pub mod laws;
 mod program;
@@ -10,8 +9,6 @@ mod reply;
 mod run;
 mod script;
 mod status;
-mod sum;
-mod tree;
 
 pub use program::top;
 pub use status::{Refusal, Stage, Status};

@@ -1,20 +1,13 @@
-//! What is due for the bytes of a script.
+//! What a call is to answer and to write.
 
-ghost use Rattle.std.specs.Prelude.{◌≡◌, IfOk, option_and_then, string_bytes};
-ghost use Rattle.ev_top.specs.Debt.{IsFor, bytes_refused};
-ghost use Rattle.ev_top.specs.Due.{due_of_sum, due_of_vat, due_of_script};
-ghost use Rattle.ev_top.specs.Run.{history_of, run_of};
-ghost use Rattle.ev_top.specs.Script.{script_from};
-ghost use Rattle.ev_top.specs.Tree.{tree_of};
+ghost use Rattle.std.specs.Prelude.{◌≡◌, IfOk, map, string_bytes};
+ghost use Rattle.ev_top.specs.Debt.{IsFor, bytes_refused, program_refused};
+ghost use Rattle.ev_top.specs.Programs.{IsDueOfFault, safe_names, stage_of};
 ghost use Rattle.ev_top.specs.Words.{line};
 
-use crate::evaluate::Event;
-use crate::run::{render, run_vat};
-use crate::script::{Script, VatSource, read_script};
 use crate::status::{Refusal, Stage, Status};
-use crate::sum::read_numbers;
-use crate::tree::sum_tree;
-use ev_base::{Memory, Seq};
+use ev_base::{Memory, Seq, Str};
+use ev_reader::ProgramFault;
 use std::alloc::Global;
 
 /// What is to be answered and written.
@@ -44,77 +37,77 @@ pub fn reply_rule(alloc: Global, rule: u8) -> Result<Reply, Memory>
     })
 }
 
-/// The refusal of a source that is not built.
-fn reply_unbuilt(alloc: Global, key: &str, name: &str) -> Result<Reply, Memory>
-    ensures { IfOk result (λ reply. IsFor reply.status (string_bytes reply.text) (due_of_sum key.now name.now None)) }
+/// The stage of a refusal.
+fn stage_of(part: ev_reader::Stage) -> Stage
+    ensures { result ≡ stage_of part }
 {
+    match part {
+        ev_reader::Stage::Lex => Stage::Lex,
+        ev_reader::Stage::Parse => Stage::Parse,
+        ev_reader::Stage::Nested => Stage::Nested,
+        ev_reader::Stage::Expand => Stage::Expand,
+        ev_reader::Stage::Scope => Stage::Scope,
+    }
+}
+
+/// The refusal of a program that goes by this name, by the fault to which it is read.
+pub fn reply_fault(alloc: Global, name: &str, fault: ProgramFault) -> Result<Reply, Memory>
+    ensures { IfOk result (λ reply. IsDueOfFault name.now fault reply.status (string_bytes reply.text)) }
+{
+    let ProgramFault::At(part, kind, place) = fault else {
+        return Err(Memory);
+    };
     let refusal = Refusal {
         vat: 0,
-        stage: Stage::Unbuilt,
-        kind: 0,
-        place: 0,
+        stage: stage_of(part),
+        kind,
+        place,
     };
     Ok(Reply {
         status: Status::ProgramRefused(refusal),
-        text: format!(in alloc; "refused program {name} unbuilt 0 0\n")?,
+        text: format!(in alloc; "refused program {name} {fault}\n")?,
     })
 }
 
-/// The history of the run of a source, if it is built.
-fn run_source(alloc: Global, source: &str) -> Result<Option<Seq<Event>>, Memory>
-    ensures { IfOk result (λ history. history ≡ history_of source.now) }
+/// The names of the safe scope.
+const SAFE_NAMES: [&str; 21] = [
+    "null",
+    "true",
+    "false",
+    "__makeList",
+    "__equalizer",
+    "__comparer",
+    "__loop",
+    "E",
+    "Ref",
+    "throw",
+    "auditedBy",
+    "any",
+    "void",
+    "int",
+    "boolean",
+    "char",
+    "String",
+    "List",
+    "nullOk",
+    "near",
+    "DeepFrozen",
+];
+
+/// Copies of these texts.
+fn copies_of(alloc: Global, texts: &[&str]) -> Result<Seq<Str>, Memory>
+    ensures { IfOk result (λ copies. copies ≡ map (λ text. text.now) texts.now) }
 {
-    match read_numbers(alloc, source.as_bytes())? {
-        None => Ok(None),
-        Some(numbers) => run_vat(alloc, sum_tree(alloc, &numbers)?.nodes()),
+    let mut copies = Seq::new(alloc);
+    for text in texts {
+        copies.push(Str::copy_of(alloc, text)?)?;
     }
+    Ok(copies)
 }
 
-/// The run of a vat.
-fn reply_vat(alloc: Global, key: &str, vat: &VatSource) -> Result<Reply, Memory>
-    ensures { IfOk result (λ reply. IsFor reply.status (string_bytes reply.text) (due_of_vat key.now (Some vat.now))) }
+/// The names that every program is given.
+pub fn safe_names(alloc: Global) -> Result<Seq<Str>, Memory>
+    ensures { IfOk result (λ names. names ≡ safe_names) }
 {
-    let name = vat.name.as_str();
-    match run_source(alloc, vat.source.as_str())? {
-        None => reply_unbuilt(alloc, key, name),
-        Some(history) => Ok(Reply {
-            status: Status::Done,
-            text: render(alloc, name, history.as_slice())?,
-        }),
-    }
-}
-
-/// The run of no vat.
-fn reply_empty(alloc: Global, key: &str) -> Result<Reply, Memory>
-    ensures { IfOk result (λ reply. IsFor reply.status (string_bytes reply.text) (due_of_vat key.now None)) }
-{
-    reply_line(alloc, Status::Done, "end")
-}
-
-/// The run of the vat of a script, if it has one.
-fn reply_vats(alloc: Global, key: &str, vat: &Option<VatSource>) -> Result<Reply, Memory>
-    ensures { IfOk result (λ reply. IsFor reply.status (string_bytes reply.text) (due_of_vat key.now vat.now)) }
-{
-    match vat {
-        None => reply_empty(alloc, key),
-        Some(vat) => reply_vat(alloc, key, vat),
-    }
-}
-
-/// The run of a script, or the refusal of bytes that spell none.
-fn reply_script(alloc: Global, script: Option<Script>) -> Result<Reply, Memory>
-    ensures { IfOk result (λ reply. IsFor reply.status (string_bytes reply.text) (due_of_script script)) }
-{
-    match script {
-        None => reply_rule(alloc, 0),
-        Some(script) => reply_vats(alloc, script.key.as_str(), &script.vat),
-    }
-}
-
-/// The run of the script that bytes spell.
-pub fn run_bytes(alloc: Global, bytes: &[u8]) -> Result<Reply, Memory>
-    ensures { IfOk result (λ reply. IsFor reply.status (string_bytes reply.text) (due_of_script (script_from bytes.now))) }
-{
-    let script = read_script(alloc, bytes)?;
-    reply_script(alloc, script)
+    copies_of(alloc, &SAFE_NAMES)
 }

@@ -1,59 +1,120 @@
-//! The run of a vat whose program is a sum, and its text.
+//! What is due for the bytes of a script: the run of its vat, or a refusal.
 
-ghost use Rattle.std.specs.Prelude.{◌≡◌, ◌++◌, IfOk, OnOk, string_bytes};
-ghost use Rattle.ev_top.specs.Run.{render, run_of, text_of};
-ghost use Rattle.ev_top.specs.Words.{line};
+ghost use Rattle.std.specs.Prelude.{◌≡◌, true, List, ℕ, [], ◌∷◌, IfOk, codes, string_bytes};
+ghost use Rattle.ev_eval.specs.Built.{is_built};
+ghost use Rattle.ev_top.specs.Debt.{IsFor, program_refused};
+ghost use Rattle.ev_top.specs.Due.{IsDueOfScript, IsDueOfSource, IsDueOfTree, IsDueOfVats, due_of_run, unbuilt};
+ghost use Rattle.ev_top.specs.Ends.{status_by};
+ghost use Rattle.ev_top.specs.Machine.{machine_script, program};
+ghost use Rattle.ev_top.specs.Programs.{ReadAs};
+ghost use Rattle.ev_top.specs.Script.{script_from};
 
-use crate::evaluate::{Event, Exit, evaluate};
-use ev_base::{Memory, NodeId, Seq};
-use ev_kernel::Node;
+use crate::reply::{Reply, reply_fault, reply_line, reply_rule, safe_names};
+use crate::script::script_from;
+use crate::status::{Refusal, Stage, Status};
+use ev_base::{Limits, Memory};
+use ev_eval::is_built;
+use ev_kernel::Kernel;
+use ev_reader::read_program;
+use ev_script::{ScriptFault, VatScript};
+use ev_vat::{RunEnd, run_program};
 use std::alloc::Global;
-use std::fmt::Write;
 
 /// The greatest depth at which a node begins.
 const GREATEST_DEPTH: u32 = 400;
 
-/// The history of the run of a vat, if its program is built.
-#[tactic(auto, unfolding(crate::specs::Run::run_of))]
-pub fn run_vat(alloc: Global, tree: &[Node]) -> Result<Option<Seq<Event>>, Memory>
-    ensures { IfOk result (λ history. history ≡ run_of tree.now) }
+/// The run of no vat, whatever the key and the fuel of the script.
+#[tactic(auto, using(crate::proofs::Empty::due_empty))]
+fn reply_empty(alloc: Global) -> Result<Reply, Memory>
+    ensures { (key : List ℕ) (fuel : ℕ) → IfOk result (λ reply. IsDueOfVats key fuel [] reply.status (string_bytes reply.text)) }
 {
-    let mut events = Seq::new(alloc);
-    events.push(Event::Opened)?;
-    match evaluate(tree, GREATEST_DEPTH, NodeId(0), &mut events) {
-        Ok(value) => {
-            events.push(Event::Done(value))?;
-            events.push(Event::Settled(value))?;
-            events.push(Event::Ended)?;
-            Ok(Some(events))
-        }
-        Err(Exit::Unbuilt) => Ok(None),
-        Err(Exit::Memory) => Err(Memory),
+    reply_line(alloc, Status::Done, "end")
+}
+
+/// The status that tells how the run of a program ended; its one step is that of number 0.
+fn status_of(end: RunEnd) -> Status
+    ensures { result ≡ status_by end }
+{
+    match end {
+        RunEnd::Done | RunEnd::Astray => Status::Done,
+        RunEnd::FuelSpent => Status::FuelSpent(0),
+        RunEnd::TooDeep => Status::TooDeep(0),
     }
 }
 
-/// Appends the line of an event.
-fn write_event(text: &mut String, name: &str, event: Event) -> Result<(), Memory>
-    ensures { OnOk result (string_bytes text.new ≡ string_bytes text.old ++ line (text_of name.now event)) }
+/// The run of a program that is built.
+fn reply_run(alloc: Global, fuel: u32, name: &str, tree: &Kernel) -> Result<Reply, Memory>
+    requires { is_built tree.now ≡ true }
+    ensures { (key : List ℕ) → IfOk result (λ reply. IsFor reply.status (string_bytes reply.text)
+        (due_of_run (machine_script key fuel (program name.now tree.now ∷ [])))) }
 {
-    match event {
-        Event::Opened => writeln!(text, "open {name}")?,
-        Event::Called(x, y) => writeln!(text, "!0 call {x} add {y}")?,
-        Event::Back(value) => writeln!(text, "!0 back {value}")?,
-        Event::Done(value) => writeln!(text, "!0 done {value}")?,
-        Event::Settled(value) => writeln!(text, "settle @{name} {value}")?,
-        Event::Ended => writeln!(text, "end")?,
-    }
-    Ok(())
+    let limits = Limits {
+        depth: GREATEST_DEPTH,
+    };
+    let told = run_program(alloc, name, tree, fuel, limits)?;
+    Ok(Reply {
+        status: status_of(told.end),
+        text: told.text,
+    })
 }
 
-/// The text of a history.
-pub fn render(alloc: Global, name: &str, events: &[Event]) -> Result<String, Memory>
-    ensures { IfOk result (λ text. string_bytes text ≡ render name.now events.now) }
+/// The refusal of a program that is not built.
+fn reply_unbuilt(alloc: Global, name: &str) -> Result<Reply, Memory>
+    ensures { IfOk result (λ reply. IsFor reply.status (string_bytes reply.text) (program_refused name.now unbuilt (codes "unbuilt 0 0"))) }
 {
-    let mut text = String::new(alloc);
-    for event in events {
-        write_event(&mut text, name, *event)?;
+    let refusal = Refusal {
+        vat: 0,
+        stage: Stage::Unbuilt,
+        kind: 0,
+        place: 0,
+    };
+    Ok(Reply {
+        status: Status::ProgramRefused(refusal),
+        text: format!(in alloc; "refused program {name} unbuilt 0 0\n")?,
+    })
+}
+
+/// The run of a tree, if it is built, and else its refusal.
+fn reply_tree(alloc: Global, fuel: u32, name: &str, tree: &Kernel) -> Result<Reply, Memory>
+    ensures { (key : List ℕ) → IfOk result (λ reply. IsDueOfTree (is_built tree.now) key fuel name.now tree.now reply.status (string_bytes reply.text)) }
+{
+    if is_built(tree) {
+        reply_run(alloc, fuel, name, tree)
+    } else {
+        reply_unbuilt(alloc, name)
     }
-    Ok(text)
+}
+
+/// The run of a vat, or the refusal of its source.
+fn reply_vat(alloc: Global, fuel: u32, vat: &VatScript) -> Result<Reply, Memory>
+    ensures { (key : List ℕ) → IfOk result (λ reply. ReadAs vat.now.source
+        (λ answer. IsDueOfSource key fuel vat.now.name answer reply.status (string_bytes reply.text))) }
+{
+    let given = safe_names(alloc)?;
+    let name = vat.name.as_str();
+    match read_program(alloc, vat.source.as_str(), &given) {
+        Ok(scoped) => reply_tree(alloc, fuel, name, scoped.tree()),
+        Err(fault) => reply_fault(alloc, name, fault),
+    }
+}
+
+/// The run of the vat of a script, or of no vat.
+fn reply_vats(alloc: Global, fuel: u32, vats: &[VatScript]) -> Result<Reply, Memory>
+    ensures { (key : List ℕ) → IfOk result (λ reply. IsDueOfVats key fuel vats.now reply.status (string_bytes reply.text)) }
+{
+    match vats {
+        [] => reply_empty(alloc),
+        [vat, ..] => reply_vat(alloc, fuel, vat),
+    }
+}
+
+/// The run of the script that bytes spell, or their refusal.
+pub fn run_bytes(alloc: Global, bytes: &[u8]) -> Result<Reply, Memory>
+    ensures { IfOk result (λ reply. IsDueOfScript (script_from bytes.now) reply.status (string_bytes reply.text)) }
+{
+    match script_from(alloc, bytes) {
+        Ok(script) => reply_vats(alloc, script.fuel, script.vats.as_slice()),
+        Err(ScriptFault::Rule(rule)) => reply_rule(alloc, rule),
+        Err(ScriptFault::Memory) => Err(Memory),
+    }
 }
