@@ -105,6 +105,32 @@ fn sources(rt: HostRuntime) -> Result<(), Fail> {
     Ok(())
 }
 
+#[test]
+fn objects(rt: HostRuntime) -> Result<(), Fail> {
+    let alloc = rt.alloc();
+    let shared = "open a\n!0 slot a&0 0\n!0 made a.0 up caps a&0\n!0 made a.1 get caps a&0\n!0 call a.0 run as !1\n!1 read a&0 0\n!1 call 0 add 1\n!1 back 1\n!1 wrote a&0 1\n!0 back 1\n!0 call a.1 run as !2\n!2 read a&0 1\n!0 back 1\n!0 done 1\nsettle @a 1\nend\n";
+    let rows = [
+        (
+            "var n := 0; def up { method run() { n += 1 } }; def get { method run() { n } }; up(); get()",
+            0,
+            shared,
+        ),
+        ("def f { method run() { f() } }; f()", 9, "stop depth 0\n"),
+        (
+            "def f() { return f() }; f()",
+            7,
+            "refused program a unbuilt 0 0\n",
+        ),
+    ];
+    for (source, code, text) in rows {
+        let script = script_of(alloc, source)?;
+        let (status, written) = answer(alloc, &["run"], script.as_bytes(), &quiet())?;
+        assert_eq!(rt; status, code, "{source}");
+        assert!(rt; written.as_slice() == text.as_bytes(), "{source}");
+    }
+    Ok(())
+}
+
 /// A sum of so many ones.
 fn ones(alloc: Global, count: usize) -> Result<String, Memory> {
     let mut source = String::from_str(alloc, "1")?;
@@ -230,60 +256,6 @@ fn large_sources(rt: HostRuntime) -> Result<(), Fail> {
         let spaces = String::from_utf8(vec![in alloc; b' '; count]?).unwrap();
         let script = script_of(alloc, spaces.as_str())?;
         let (status, written) = answer(alloc, &["run"], script.as_bytes(), &quiet())?;
-        assert_eq!(rt; status, code);
-        assert!(rt; written.as_slice() == text.as_bytes());
-    }
-    Ok(())
-}
-
-#[test]
-fn expansions(rt: HostRuntime) -> Result<(), Fail> {
-    let alloc = rt.alloc();
-    let rows = [
-        (
-            "def f(n) { return n + 1 }",
-            0,
-            "(object (final f) () (method run ((final n)) (escape (final __return) (seq (call (noun __return) run (call (noun n) add (lit 1))) (noun null)))))\n",
-        ),
-        ("41", 0, "(lit 41)\n"),
-        ("null", 0, "(noun null)\n"),
-        ("DeepFrozen", 0, "(noun DeepFrozen)\n"),
-        (
-            "170141183460469231731687303715884105728",
-            7,
-            "refused program - lex 4 0\n",
-        ),
-        ("(lit 41)", 7, "refused program - parse 0 2\n"),
-        ("return 1", 7, "refused program - expand 1 0\n"),
-        ("x", 7, "refused program - scope 1 0\n"),
-    ];
-    for (source, code, text) in rows {
-        let (status, written) = answer(alloc, &["expand"], source.as_bytes(), &quiet())?;
-        assert_eq!(rt; status, code, "{source}");
-        assert!(rt; written.as_slice() == text.as_bytes(), "{source}");
-    }
-    Ok(())
-}
-
-#[test]
-fn no_programs(rt: HostRuntime) -> Result<(), Fail> {
-    let alloc = rt.alloc();
-    let (status, written) = answer(alloc, &["expand"], &[b'1', 255], &quiet())?;
-    assert_eq!(rt; status, 6);
-    assert!(rt; written.as_slice() == b"refused script 1\n".as_slice());
-    let large = Outside {
-        source_serves: 4096,
-        source_fails: &[],
-        sink_takes: 100,
-        sink_fails: &[],
-    };
-    for (count, code, text) in [
-        (65_536, 0, "(noun null)\n"),
-        (65_537, 6, "refused script 7\n"),
-        (1_048_577, 5, "refused long\n"),
-    ] {
-        let spaces = vec![in alloc; b' '; count]?;
-        let (status, written) = answer(alloc, &["expand"], spaces.as_slice(), &large)?;
         assert_eq!(rt; status, code);
         assert!(rt; written.as_slice() == text.as_bytes());
     }

@@ -4,7 +4,8 @@ use Rattle.std.proofs.lemmas.Bool.Decides.{nat_tests}
 use Rattle.ev_eval.specs.Built.{is_built}
 use Rattle.ev_machine.specs.State.{Fuel, Deep, Repeated, Astray}
 use Rattle.ev_run.specs.World as machine
-use Rattle.ev_run.specs.World.{World, run, Goes, Stopped}
+use Rattle.ev_run.specs.World.{World, Goes, Stopped}
+use Rattle.ev_run.specs.Text.{text as machine_text}
 use Rattle.ev_scope.specs.declared.accepted.Scoped.{Scoped}
 use Rattle.ev_script.specs.declared.script.Script.{Script}
 use Rattle.ev_script.specs.declared.script.VatScript.{VatScript}
@@ -18,8 +19,8 @@ use Rattle.ev_top.specs.Script.{script_from}
 use Rattle.ev_top.specs.Programs.{safe_names, refusal, stage_of, IsDueOfFault}
 use Rattle.ev_top.specs.Expansion.{text_from, nameless, IsDueOfText, IsDueOfForm}
 use Rattle.ev_top.specs.Machine.{program, machine_script}
-use Rattle.ev_top.specs.Due.{IsDue, IsDueOfInput, IsDueOfBytes, IsDueOfScript, IsDueOfSource, IsDueOfTree, IsDueOfVats, Pays, PaysWith, status_of, unbuilt}
-use Rattle.ev_top.specs.Causes.{IsInterrupted, Follows, ComesWhere, IsLong, Breaks, IsVatOf, HasVat, HasProgram, HasFault, IsEarly, HasNoTree, IsProgramRefused, IsUnbuilt, Stops}
+use Rattle.ev_top.specs.Due.{IsDue, IsDueOfInput, IsDueOfBytes, IsDueOfScript, IsDueOfSource, IsDueOfTree, IsDueOfVats, Pays, PaysWith, due_of_run, unbuilt}
+use Rattle.ev_top.specs.Causes.{IsInterrupted, Follows, ComesWhere, IsLong, Breaks, IsVatOf, HasVat, HasProgram, HasFault, IsEarly, HasNoTree, IsProgramRefused, IsUnbuilt, Stops, run_of, IsAstray}
 use Rattle.ev_top.specs.declared.command.Command.{Command}
 use Rattle.ev_top.specs.declared.command.Command.TheVariants.{Run, Expand}
 use Rattle.ev_top.specs.declared.status.Status.{Status}
@@ -28,15 +29,16 @@ use Rattle.ev_top.specs.declared.status.Stage.{Stage}
 use Rattle.ev_top.specs.declared.status.Stage.TheVariants.{Unbuilt}
 use Rattle.ev_top.proofs.DueLemmas.{is_few, is_long}
 use Rattle.ev_top.proofs.EarlyFaults.{early_once}
-use Rattle.ev_top.proofs.Empty.{done_empty}
 
 -- ---- why a status is due
 
 abbrev IsRefused : Part → ℕ → ℕ → Status → Type 0
 IsRefused part kind place status = status ≡ ProgramRefused (refusal part kind place)
 
-abbrev run_by : Script → VatScript → Scoped → machine.Run
-run_by script vat scoped = run (machine_script script.key script.fuel (program vat.name scoped.tree ∷ []))
+-- what is due for the run of this tree
+abbrev ran : Script → VatScript → Scoped → Debt
+ran script vat scoped =
+    due_of_run vat.name (machine_text (machine_script script.key script.fuel (program vat.name scoped.tree ∷ [])) (run_of script vat scoped)) (run_of script vat scoped)
 
 data Why (command : Option Command) (input : List ℕ) (status : Status) : Type 0 where
   Misused : status ≡ Usage → Why command input status
@@ -45,7 +47,7 @@ data Why (command : Option Command) (input : List ℕ) (status : Status) : Type 
   Faulty : (part : Part) (kind place : ℕ) → HasFault part kind place command input → IsRefused part kind place status → Why command input status
   NotBuilt : IsUnbuilt command input → status ≡ ProgramRefused unbuilt → Why command input status
   Ran : (script : Script) (vat : VatScript) (scoped : Scoped) → command ≡ Some Run → HasVat input script vat → Answers (Ok scoped) vat.source safe_names
-      → is_built scoped.tree ≡ true → status ≡ status_of (run_by script vat scoped) → Why command input status
+      → is_built scoped.tree ≡ true → status ≡ (ran script vat scoped).status → Why command input status
   Finished : status ≡ Done → Why command input status
 
 faulty : (name program : List ℕ) (command : Option Command) (input : List ℕ) (fault : ProgramFault) (status : Status) (text : List ℕ)
@@ -67,7 +69,7 @@ of_tree : (built : Bool) (input : List ℕ) (script : Script) (vat : VatScript) 
     → HasVat input script vat → Answers (Ok scoped) vat.source safe_names → IsDueOfTree built script.key script.fuel vat.name scoped.tree status text
     → Why (Some Run) input status
 of_tree true input script vat scoped status text e has answers due = Ran script vat scoped refl has answers e due.0
-of_tree false input script vat scoped status text e has answers due = NotBuilt (refl, vat.source, (script, vat, has, refl), scoped, answers, e) due.0
+of_tree false input script vat scoped status text e has answers due = NotBuilt (refl, script, vat, has, scoped, answers, inl e) due.0
 
 of_source : (input : List ℕ) (script : Script) (vat : VatScript) (answer : Result Scoped ProgramFault) (status : Status) (text : List ℕ)
     → HasVat input script vat → Answers answer vat.source safe_names → IsDueOfSource script.key script.fuel vat.name answer status text → Why (Some Run) input status
@@ -77,7 +79,7 @@ of_source input script vat (Err fault) status text has answers due =
 
 of_vats : (input : List ℕ) (script : Script) (vats : List VatScript) (status : Status) (text : List ℕ) → length input ≤ most_bytes
     → script_from input ≡ Ok script → script.vats ≡ vats → IsDueOfVats script.key script.fuel vats status text → Why (Some Run) input status
-of_vats input script [] status text few e v due = Finished (due.0 ∙ done_empty script.key script.fuel)
+of_vats input script [] status text few e v due = Finished due.0
 of_vats input script (vat ∷ more) status text few e v (answer, answers, due) =
     of_source input script vat answer status text (few, e, rw v refl) answers due
 
@@ -139,14 +141,14 @@ there Is fact status command input written to pays f = by (due_or_not status wri
     by (inl due) = inl (to due f)
     by (inr stopped) = inr stopped
 
--- the status of a run is one of three
-never : (Is : Status → Type 0) → (Is Done → ⊥) → ((step : ℕ) → Is (FuelSpent step) → ⊥) → ((step : ℕ) → Is (TooDeep step) → ⊥)
-    → (r : machine.Run) → Is (status_of r) → ⊥
-never Is done fuel deep (Goes w) is = done is
-never Is done fuel deep (Stopped Fuel step w) is = fuel step is
-never Is done fuel deep (Stopped Deep step w) is = deep step is
-never Is done fuel deep (Stopped (Repeated i j) step w) is = done is
-never Is done fuel deep (Stopped Astray step w) is = done is
+-- the status of a run is one of four
+never : (Is : Status → Type 0) → (Is Done → ⊥) → ((step : ℕ) → Is (FuelSpent step) → ⊥) → ((step : ℕ) → Is (TooDeep step) → ⊥) → (Is (ProgramRefused unbuilt) → ⊥)
+    → (name text : List ℕ) (r : machine.Run) → Is (due_of_run name text r).status → ⊥
+never Is done fuel deep astray name text (Goes w) is = done is
+never Is done fuel deep astray name text (Stopped Fuel step w) is = fuel step is
+never Is done fuel deep astray name text (Stopped Deep step w) is = deep step is
+never Is done fuel deep astray name text (Stopped (Repeated i j) step w) is = astray is
+never Is done fuel deep astray name text (Stopped Astray step w) is = astray is
 
 -- ---- too many bytes
 
@@ -157,7 +159,7 @@ long_only command input status (Broken rule breaks e) is = cc
 long_only command input status (Faulty part kind place fault e) is = cc
 long_only command input status (NotBuilt u e) is = cc
 long_only command input status (Ran script vat scoped run has answers built e) is =
-    absurd (never (λ s. s ≡ TooLong) (λ h. cc) (λ k h. cc) (λ k h. cc) (run_by script vat scoped) (sym e ∙ is))
+    absurd (never (λ s. s ≡ TooLong) (λ h. cc) (λ k h. cc) (λ k h. cc) (λ h. cc) vat.name _ (run_of script vat scoped) (sym e ∙ is))
 long_only command input status (Finished e) is = cc
 
 long_there : (command : Option Command) (input : List ℕ) (status : Status) (text : List ℕ) → IsDue command input status text → IsLong command input → status ≡ TooLong
@@ -174,7 +176,7 @@ rule_only rule command input status (Broken broken breaks e) is =
 rule_only rule command input status (Faulty part kind place fault e) is = cc
 rule_only rule command input status (NotBuilt u e) is = cc
 rule_only rule command input status (Ran script vat scoped run has answers built e) is =
-    absurd (never (λ s. s ≡ ScriptRefused rule) (λ h. cc) (λ k h. cc) (λ k h. cc) (run_by script vat scoped) (sym e ∙ is))
+    absurd (never (λ s. s ≡ ScriptRefused rule) (λ h. cc) (λ k h. cc) (λ k h. cc) (λ h. cc) vat.name _ (run_of script vat scoped) (sym e ∙ is))
 rule_only rule command input status (Finished e) is = cc
 
 rule_there : (rule : ℕ) (command : Option Command) (input : List ℕ) (status : Status) (text : List ℕ) → IsDue command input status text
@@ -257,7 +259,7 @@ fault_only part kind place command input status (Faulty p k q fault e) is =
     fault_same p part k kind q place command input (told_once p part k kind q place (sym e ∙ is)) fault
 fault_only part kind place command input status (NotBuilt u e) is = absurd (unbuilt_apart part kind place (sym e ∙ is))
 fault_only part kind place command input status (Ran script vat scoped run has answers built e) is =
-    absurd (never (IsRefused part kind place) (λ h. cc) (λ k h. cc) (λ k h. cc) (run_by script vat scoped) (sym e ∙ is))
+    absurd (never (IsRefused part kind place) (λ h. cc) (λ k h. cc) (λ k h. cc) (unbuilt_apart part kind place) vat.name _ (run_of script vat scoped) (sym e ∙ is))
 fault_only part kind place command input status (Finished e) is = cc
 
 abbrev failed : ProgramFault → Result Scoped ProgramFault
@@ -338,6 +340,13 @@ tree_there (Some Expand) input status text due (program, (few, found), none) =
 
 -- ---- a tree that is not built
 
+astray_stop : (name text : List ℕ) (r : machine.Run) → (due_of_run name text r).status ≡ ProgramRefused unbuilt → IsAstray r
+astray_stop name text (Goes w) e = cc
+astray_stop name text (Stopped Fuel k w) e = cc
+astray_stop name text (Stopped Deep k w) e = cc
+astray_stop name text (Stopped (Repeated i j) k w) e = tt
+astray_stop name text (Stopped Astray k w) e = tt
+
 unbuilt_only : (command : Option Command) (input : List ℕ) (status : Status) → Why command input status → status ≡ ProgramRefused unbuilt → IsUnbuilt command input
 unbuilt_only command input status (Misused e) is = cc
 unbuilt_only command input status (Long long e) is = cc
@@ -345,24 +354,24 @@ unbuilt_only command input status (Broken rule breaks e) is = cc
 unbuilt_only command input status (Faulty part kind place fault e) is = absurd (unbuilt_apart part kind place (sym is ∙ e))
 unbuilt_only command input status (NotBuilt u e) is = u
 unbuilt_only command input status (Ran script vat scoped run has answers built e) is =
-    absurd (never (λ s. s ≡ ProgramRefused unbuilt) (λ h. cc) (λ k h. cc) (λ k h. cc) (run_by script vat scoped) (sym e ∙ is))
+    (run, script, vat, has, scoped, answers, inr (astray_stop vat.name _ (run_of script vat scoped) (sym e ∙ is)))
 unbuilt_only command input status (Finished e) is = cc
 
 -- ---- a run that stops
 
-fuel_stop : (step : ℕ) (r : machine.Run) → status_of r ≡ FuelSpent step → (world : World) × (r ≡ Stopped Fuel step world)
-fuel_stop step (Goes w) e = cc
-fuel_stop step (Stopped Fuel k w) e = let same : k ≡ step = cc in (w, ap (λ n. Stopped Fuel n w) same)
-fuel_stop step (Stopped Deep k w) e = cc
-fuel_stop step (Stopped (Repeated i j) k w) e = cc
-fuel_stop step (Stopped Astray k w) e = cc
+fuel_stop : (step : ℕ) (name text : List ℕ) (r : machine.Run) → (due_of_run name text r).status ≡ FuelSpent step → (world : World) × (r ≡ Stopped Fuel step world)
+fuel_stop step name text (Goes w) e = cc
+fuel_stop step name text (Stopped Fuel k w) e = let same : k ≡ step = cc in (w, ap (λ n. Stopped Fuel n w) same)
+fuel_stop step name text (Stopped Deep k w) e = cc
+fuel_stop step name text (Stopped (Repeated i j) k w) e = cc
+fuel_stop step name text (Stopped Astray k w) e = cc
 
-deep_stop : (step : ℕ) (r : machine.Run) → status_of r ≡ TooDeep step → (world : World) × (r ≡ Stopped Deep step world)
-deep_stop step (Goes w) e = cc
-deep_stop step (Stopped Fuel k w) e = cc
-deep_stop step (Stopped Deep k w) e = let same : k ≡ step = cc in (w, ap (λ n. Stopped Deep n w) same)
-deep_stop step (Stopped (Repeated i j) k w) e = cc
-deep_stop step (Stopped Astray k w) e = cc
+deep_stop : (step : ℕ) (name text : List ℕ) (r : machine.Run) → (due_of_run name text r).status ≡ TooDeep step → (world : World) × (r ≡ Stopped Deep step world)
+deep_stop step name text (Goes w) e = cc
+deep_stop step name text (Stopped Fuel k w) e = cc
+deep_stop step name text (Stopped Deep k w) e = let same : k ≡ step = cc in (w, ap (λ n. Stopped Deep n w) same)
+deep_stop step name text (Stopped (Repeated i j) k w) e = cc
+deep_stop step name text (Stopped Astray k w) e = cc
 
 fuel_only : (step : ℕ) (command : Option Command) (input : List ℕ) (status : Status) → Why command input status → status ≡ FuelSpent step → Stops Fuel step command input
 fuel_only step command input status (Misused e) is = cc
@@ -371,7 +380,7 @@ fuel_only step command input status (Broken rule breaks e) is = cc
 fuel_only step command input status (Faulty part kind place fault e) is = cc
 fuel_only step command input status (NotBuilt u e) is = cc
 fuel_only step command input status (Ran script vat scoped run has answers built e) is =
-    let stop = fuel_stop step (run_by script vat scoped) (sym e ∙ is) in (run, script, vat, has, scoped, answers, built, stop.0, stop.1)
+    let stop = fuel_stop step vat.name _ (run_of script vat scoped) (sym e ∙ is) in (run, script, vat, has, scoped, answers, built, stop.0, stop.1)
 fuel_only step command input status (Finished e) is = cc
 
 deep_only : (step : ℕ) (command : Option Command) (input : List ℕ) (status : Status) → Why command input status → status ≡ TooDeep step → Stops Deep step command input
@@ -381,7 +390,7 @@ deep_only step command input status (Broken rule breaks e) is = cc
 deep_only step command input status (Faulty part kind place fault e) is = cc
 deep_only step command input status (NotBuilt u e) is = cc
 deep_only step command input status (Ran script vat scoped run has answers built e) is =
-    let stop = deep_stop step (run_by script vat scoped) (sym e ∙ is) in (run, script, vat, has, scoped, answers, built, stop.0, stop.1)
+    let stop = deep_stop step vat.name _ (run_of script vat scoped) (sym e ∙ is) in (run, script, vat, has, scoped, answers, built, stop.0, stop.1)
 deep_only step command input status (Finished e) is = cc
 
 -- ---- of a call

@@ -12,6 +12,7 @@ use Rattle.ev_reader.specs.declared.fault.ProgramFault.{ProgramFault}
 use Rattle.ev_reader.specs.declared.fault.ProgramFault.TheVariants as faults
 use Rattle.ev_run.specs.World as machine
 use Rattle.ev_run.specs.World.{run, Goes, Stopped}
+use Rattle.ev_run.specs.Text.{text as machine_text}
 use Rattle.ev_scope.specs.declared.accepted.Scoped.{Scoped}
 use Rattle.ev_script.specs.declared.script.Script.{Script}
 use Rattle.ev_script.specs.declared.script.VatScript.{VatScript}
@@ -20,7 +21,7 @@ use Rattle.ev_top.specs.Debt.{IsFor, most_bytes, too_long}
 use Rattle.ev_top.specs.Script.{script_from}
 use Rattle.ev_top.specs.Programs.{IsDueOfFault}
 use Rattle.ev_top.specs.Expansion.{text_from, IsDueOfText, IsDueOfForm}
-use Rattle.ev_top.specs.Due.{IsDue, IsDueOfBytes, IsDueOfScript, IsDueOfSource, IsDueOfTree, IsDueOfVats, IsOfWhole, IsOfRead, Finishes, Pays, PaysWith, status_of}
+use Rattle.ev_top.specs.Due.{IsDue, IsDueOfBytes, IsDueOfScript, IsDueOfSource, IsDueOfTree, IsDueOfVats, IsOfWhole, IsOfRead, Finishes, Pays, PaysWith, due_of_run}
 use Rattle.ev_top.specs.Machine.{program, machine_script}
 use Rattle.ev_top.specs.declared.command.Command.{Command}
 use Rattle.ev_top.specs.declared.command.Command.TheVariants.{Run, Expand}
@@ -41,16 +42,17 @@ of_text : (found : Result (List ℕ) ℕ) (status : Status) (text : List ℕ) �
 of_text (Ok program) status text due = of_form due.0 status text due.2
 of_text (Err rule) status text due = subst IsOfWhole (sym due.0) tt
 
-of_end : (r : machine.Run) → IsOfWhole (status_of r)
-of_end (Goes w) = tt
-of_end (Stopped Fuel step w) = tt
-of_end (Stopped Deep step w) = tt
-of_end (Stopped (Repeated i j) step w) = tt
-of_end (Stopped Astray step w) = tt
+of_end : (name text : List ℕ) (r : machine.Run) → IsOfWhole (due_of_run name text r).status
+of_end name text (Goes w) = tt
+of_end name text (Stopped Fuel step w) = tt
+of_end name text (Stopped Deep step w) = tt
+of_end name text (Stopped (Repeated i j) step w) = tt
+of_end name text (Stopped Astray step w) = tt
 
 of_tree : (built : Bool) (key : List ℕ) (fuel : ℕ) (name : List ℕ) (tree : List Node) (status : Status) (text : List ℕ)
     → IsDueOfTree built key fuel name tree status text → IsOfWhole status
-of_tree true key fuel name tree status text due = subst IsOfWhole (sym due.0) (of_end (run (machine_script key fuel (program name tree ∷ []))))
+of_tree true key fuel name tree status text due = 
+    let script = machine_script key fuel (program name tree ∷ []) in subst IsOfWhole (sym due.0) (of_end name (machine_text script (run script)) (run script))
 of_tree false key fuel name tree status text due = subst IsOfWhole (sym due.0) tt
 
 of_source : (key : List ℕ) (fuel : ℕ) (name : List ℕ) (answer : Result Scoped ProgramFault) (status : Status) (text : List ℕ)
@@ -59,7 +61,7 @@ of_source key fuel name (Ok scoped) status text due = of_tree (is_built scoped.t
 of_source key fuel name (Err fault) status text due = of_fault name fault status text due
 
 of_vats : (key : List ℕ) (fuel : ℕ) (vats : List VatScript) (status : Status) (text : List ℕ) → IsDueOfVats key fuel vats status text → IsOfWhole status
-of_vats key fuel [] status text due = subst IsOfWhole (sym due.0) (of_end (run (machine_script key fuel [])))
+of_vats key fuel [] status text due = subst IsOfWhole (sym due.0) tt
 of_vats key fuel (vat ∷ more) status text due = of_source key fuel vat.name due.0 status text due.2
 
 of_script : (found : Result Script ℕ) (status : Status) (text : List ℕ) → IsDueOfScript found status text → IsOfWhole status

@@ -1,11 +1,11 @@
 -- The run of no vat.
-use Rattle.std.proofs.Common.{◌≡◌, ℕ, List, [], ◌∷◌, codes, refl, sym, ◌∙◌}
+use Rattle.std.proofs.Common.{◌≡◌, ℕ, List, [], codes, refl, sym, ◌∙◌}
 use Rattle.ev_run.specs.World.{run}
 use Rattle.ev_run.specs.Text.{text, opened_text}
 use Rattle.ev_top.specs.Words.{line}
 use Rattle.ev_top.specs.Debt.{IsFor}
 use Rattle.ev_top.specs.Machine.{machine_script}
-use Rattle.ev_top.specs.Due.{IsDueOfVats, status_of}
+use Rattle.ev_top.specs.Due.{IsDueOfVats}
 use Rattle.ev_top.specs.declared.status.Status.{Status}
 use Rattle.ev_top.specs.declared.status.Status.TheVariants.{Done}
 
@@ -14,11 +14,6 @@ text_empty : (key : List ℕ) (fuel : ℕ) → text (machine_script key fuel [])
 unfolding opened_text
 text_empty key fuel = refl
 
--- it comes to its end
-pub done_empty : (key : List ℕ) (fuel : ℕ) → status_of (run (machine_script key fuel [])) ≡ Done
-unfolding opened_text
-done_empty key fuel = refl
-
 pub due_empty : (key : List ℕ) (fuel : ℕ) (status : Status) (written : List ℕ) → IsFor status written (record { status = Done; text = line (codes "end") })
     → IsDueOfVats key fuel [] status written
-due_empty key fuel status written due = (due.0 ∙ sym (done_empty key fuel), due.1 ∙ sym (text_empty key fuel))
+due_empty key fuel status written due = (due.0, due.1 ∙ sym (text_empty key fuel))

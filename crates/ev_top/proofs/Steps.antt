@@ -1,18 +1,17 @@
 -- A run of one vat that stops, stops in its first step.
-use Rattle.std.proofs.Common.{◌≡◌, ℕ, zero, List, [], ◌∷◌, Option, Some, None, refl, sym, ◌∙◌}
+use Rattle.std.proofs.Common.{◌≡◌, ℕ, zero, List, [], ◌∷◌, Some, refl, ap, ◌∙◌}
 use Rattle.ev_kernel.specs.declared.node.Node.{Node}
 use Rattle.ev_machine.specs.Values.{Name}
 use Rattle.ev_machine.specs.State.{Done as Outcome, Gives, Throws, Ejects, Stops, Fuel, Deep, Repeated, Astray}
 use Rattle.ev_run.specs.World as machine
 use Rattle.ev_run.specs.World.{World, Script, Event, run, Goes, Stopped, then_goes, put_back, open_from, steps_from, close, opened_world}
-use Rattle.ev_run.specs.Text.{opened_text}
+use Rattle.ev_run.specs.Text.{text as machine_text, opened_text}
 use Rattle.ev_opening_laws.specs.Alone.{alone}
 use Rattle.ev_vat.specs.Ends.{end_of}
 use Rattle.ev_vat.specs.declared.told.RunEnd.{RunEnd}
 use Rattle.ev_vat.specs.declared.told.RunEnd.TheVariants as end
-use Rattle.ev_top.specs.Ends.{status_by}
-use Rattle.ev_top.specs.Due.{status_of}
-use Rattle.ev_top.specs.declared.status.Status.{Status}
+use Rattle.ev_top.specs.Ends.{due_by}
+use Rattle.ev_top.specs.Due.{due_of_run, due_of_machine}
 
 -- where a run stopped, it did so in the step of number 0
 abbrev StopsFirst : machine.Run → Type 0
@@ -31,27 +30,31 @@ pub stops_first : (key : List ℕ) (fuel depth : ℕ) (name : List ℕ) (tree : 
 unfolding opened_text
 stops_first key fuel depth name tree = after_step (alone key fuel depth name tree) _ _ _
 
--- its end tells its status
-told_end : (r : machine.Run) (e : RunEnd) → StopsFirst r → end_of r ≡ Some e → status_of r ≡ status_by e
+-- its end tells what is due
+told_end : (name text : List ℕ) (r : machine.Run) (e : RunEnd) → StopsFirst r → end_of r ≡ Some e → due_by name text e ≡ due_of_run name text r
 unfolding end_of
-told_end (Goes w) end.Done first is = refl
-told_end (Goes w) end.FuelSpent first is = cc
-told_end (Goes w) end.TooDeep first is = cc
-told_end (Goes w) end.Astray first is = cc
-told_end (Stopped Fuel step w) end.FuelSpent first is = rw first refl
-told_end (Stopped Fuel step w) end.Done first is = cc
-told_end (Stopped Fuel step w) end.TooDeep first is = cc
-told_end (Stopped Fuel step w) end.Astray first is = cc
-told_end (Stopped Deep step w) end.TooDeep first is = rw first refl
-told_end (Stopped Deep step w) end.Done first is = cc
-told_end (Stopped Deep step w) end.FuelSpent first is = cc
-told_end (Stopped Deep step w) end.Astray first is = cc
-told_end (Stopped Astray step w) end.Astray first is = refl
-told_end (Stopped Astray step w) end.Done first is = cc
-told_end (Stopped Astray step w) end.FuelSpent first is = cc
-told_end (Stopped Astray step w) end.TooDeep first is = cc
-told_end (Stopped (Repeated i j) step w) e first is = cc
+told_end name text (Goes w) end.Done first is = refl
+told_end name text (Goes w) end.FuelSpent first is = cc
+told_end name text (Goes w) end.TooDeep first is = cc
+told_end name text (Goes w) end.Astray first is = cc
+told_end name text (Stopped Fuel step w) end.FuelSpent first is = rw first refl
+told_end name text (Stopped Fuel step w) end.Done first is = cc
+told_end name text (Stopped Fuel step w) end.TooDeep first is = cc
+told_end name text (Stopped Fuel step w) end.Astray first is = cc
+told_end name text (Stopped Deep step w) end.TooDeep first is = rw first refl
+told_end name text (Stopped Deep step w) end.Done first is = cc
+told_end name text (Stopped Deep step w) end.FuelSpent first is = cc
+told_end name text (Stopped Deep step w) end.Astray first is = cc
+told_end name text (Stopped Astray step w) end.Astray first is = refl
+told_end name text (Stopped Astray step w) end.Done first is = cc
+told_end name text (Stopped Astray step w) end.FuelSpent first is = cc
+told_end name text (Stopped Astray step w) end.TooDeep first is = cc
+told_end name text (Stopped (Repeated i j) step w) e first is = cc
 
-pub run_told : (key : List ℕ) (fuel depth : ℕ) (name : List ℕ) (tree : List Node) (e : RunEnd) → end_of (run (alone key fuel depth name tree)) ≡ Some e
-    → status_of (run (alone key fuel depth name tree)) ≡ status_by e
-run_told key fuel depth name tree e is = told_end (run (alone key fuel depth name tree)) e (stops_first key fuel depth name tree) is
+-- what is due for a run that was told with this end and this text
+pub run_told : (key : List ℕ) (fuel depth : ℕ) (name : List ℕ) (tree : List Node) (e : RunEnd) (written : List ℕ)
+    → end_of (run (alone key fuel depth name tree)) ≡ Some e → written ≡ machine_text (alone key fuel depth name tree) (run (alone key fuel depth name tree))
+    → due_by name written e ≡ due_of_machine name (alone key fuel depth name tree)
+run_told key fuel depth name tree e written is same =
+    let r = run (alone key fuel depth name tree) in
+    ap (λ t. due_by name t e) same ∙ told_end name (machine_text (alone key fuel depth name tree) r) r e (stops_first key fuel depth name tree) is

@@ -2,13 +2,13 @@
 use Rattle.std.specs.Prelude.{◌≡◌, ◌⊎◌, ◌<◌, ◌≤◌, ℕ, true, false, List, [], ◌∷◌, length, Some, None, IsSome, Result, Ok, Err}
 use Rattle.std.specs.declared.option.Option.{Option}
 use Rattle.ev_eval.specs.Built.{is_built}
-use Rattle.ev_machine.specs.State.{Stop, Fuel, Deep}
+use Rattle.ev_machine.specs.State.{Stop, Fuel, Deep, Repeated, Astray}
 use Rattle.ev_reader.specs.Program.{Answers}
 use Rattle.ev_reader.specs.declared.fault.ProgramFault.{ProgramFault}
 use Rattle.ev_reader.specs.declared.fault.ProgramFault.TheVariants.{At, Memory as NoMemory}
 use Rattle.ev_reader.specs.declared.fault.Stage.{Stage as Part}
 use Rattle.ev_reader.specs.declared.fault.Stage.TheVariants as parts
-use Rattle.ev_run.specs.World.{run, World, Stopped}
+use Rattle.ev_run.specs.World.{run, Run as Machine, World, Goes, Stopped}
 use Rattle.ev_scope.specs.declared.accepted.Scoped.{Scoped}
 use Rattle.ev_script.specs.declared.script.Script.{Script}
 use Rattle.ev_script.specs.declared.script.VatScript.{VatScript}
@@ -85,13 +85,25 @@ abbrev pub IsProgramRefused : Status → Type 0
 IsProgramRefused (ProgramRefused r) = Unit {0}
 IsProgramRefused _ = ⊥
 
--- it is read to a tree that is not built
+-- the machine's run of this tree in the vat of a script
+abbrev pub run_of : Script → VatScript → Scoped → Machine
+run_of script vat scoped = run (machine_script script.key script.fuel (program vat.name scoped.tree ∷ []))
+
+-- a run that met a noun which nothing binds, or drew a word twice
+abbrev pub IsAstray : Machine → Type 0
+IsAstray (Goes w) = ⊥
+IsAstray (Stopped Fuel step w) = ⊥
+IsAstray (Stopped Deep step w) = ⊥
+IsAstray (Stopped Astray step w) = Unit {0}
+IsAstray (Stopped (Repeated i j) step w) = Unit {0}
+
+-- the vat's program is read to a tree that is not built, or whose run goes astray
 abbrev pub IsUnbuilt : Option Command → List ℕ → Type 0
-IsUnbuilt command input = (command ≡ Some Run) × (program : List ℕ) × HasProgram command input program
-    × (scoped : Scoped) × Answers (Ok scoped) program safe_names × (is_built scoped.tree ≡ false)
+IsUnbuilt command input = (command ≡ Some Run) × (script : Script) × (vat : VatScript) × HasVat input script vat
+    × (scoped : Scoped) × Answers (Ok scoped) vat.source safe_names × ((is_built scoped.tree ≡ false) ⊎ IsAstray (run_of script vat scoped))
 
 -- it is read to a tree that is built, whose run stops in this step
 abbrev pub Stops : Stop → ℕ → Option Command → List ℕ → Type 0
 Stops stop step command input = (command ≡ Some Run) × (script : Script) × (vat : VatScript) × HasVat input script vat
     × (scoped : Scoped) × Answers (Ok scoped) vat.source safe_names × (is_built scoped.tree ≡ true)
-    × (world : World) × (run (machine_script script.key script.fuel (program vat.name scoped.tree ∷ [])) ≡ Stopped stop step world)
+    × (world : World) × (run_of script vat scoped ≡ Stopped stop step world)

@@ -30,36 +30,41 @@ use Rattle.ev_top.specs.declared.status.Status.TheVariants.{Done, Usage, ReadFau
 
 -- ---- a run
 
--- The status that tells how a run ended: a step stopped for fuel or for depth, or else the text tells all. A run of one
--- vat draws no word, so none repeats.
-abbrev pub status_of : machine.Run → Status
-status_of (Goes w) = Done
-status_of (Stopped Fuel step w) = FuelSpent step
-status_of (Stopped Deep step w) = TooDeep step
-status_of (Stopped (Repeated i j) step w) = Done
-status_of (Stopped Astray step w) = Done
-
--- what is due for the machine's run on a script: how it ended, and its text
-abbrev pub due_of_run : machine.Script → Debt
-due_of_run script = record { status = status_of (run script); text = machine_text script (run script) }
-
 -- where no stage refuses a program, and it is not built
 abbrev pub unbuilt : Refusal
 unbuilt = record { vat = 0; stage = Unbuilt; kind = 0; place = 0 }
 
+-- what is due for a program of that name that is not built
+abbrev pub not_built : List ℕ → Debt
+not_built name = program_refused name unbuilt (codes "unbuilt 0 0")
+
+-- What is due for a run with this text, of the vat of that name: its status tells how it ended, at its end or in a step that
+-- stopped for fuel or for depth. A run goes astray where a noun is met that nothing binds; such a program counts as not
+-- built. So does one whose run draws a word twice, which a run of one vat never does.
+abbrev pub due_of_run : List ℕ → List ℕ → machine.Run → Debt
+due_of_run name text (Goes w) = record { status = Done; text = text }
+due_of_run name text (Stopped Fuel step w) = record { status = FuelSpent step; text = text }
+due_of_run name text (Stopped Deep step w) = record { status = TooDeep step; text = text }
+due_of_run name text (Stopped Astray step w) = not_built name
+due_of_run name text (Stopped (Repeated i j) step w) = not_built name
+
+-- the same for the machine's run on a script
+abbrev pub due_of_machine : List ℕ → machine.Script → Debt
+due_of_machine name script = due_of_run name (machine_text script (run script)) (run script)
+
 -- what is due for the tree of the vat of that name, by whether it is built: its run, or its refusal
 abbrev pub IsDueOfTree : Bool → List ℕ → ℕ → List ℕ → List Node → Status → List ℕ → Type 0
-IsDueOfTree true key fuel name tree status text = IsFor status text (due_of_run (machine_script key fuel (program name tree ∷ [])))
-IsDueOfTree false key fuel name tree status text = IsFor status text (program_refused name unbuilt (codes "unbuilt 0 0"))
+IsDueOfTree true key fuel name tree status text = IsFor status text (due_of_machine name (machine_script key fuel (program name tree ∷ [])))
+IsDueOfTree false key fuel name tree status text = IsFor status text (not_built name)
 
 -- what is due for the source of a vat by what it is read as
 abbrev pub IsDueOfSource : List ℕ → ℕ → List ℕ → Result Scoped ProgramFault → Status → List ℕ → Type 0
 IsDueOfSource key fuel name (Ok scoped) status text = IsDueOfTree (is_built scoped.tree) key fuel name scoped.tree status text
 IsDueOfSource key fuel name (Err fault) status text = IsDueOfFault name fault status text
 
--- what is due for the vat of a script, or for a script without vats; there is at most one
+-- what is due for the vat of a script, of which there is at most one, or for the run of none
 abbrev pub IsDueOfVats : List ℕ → ℕ → List VatScript → Status → List ℕ → Type 0
-IsDueOfVats key fuel [] status text = IsFor status text (due_of_run (machine_script key fuel []))
+IsDueOfVats key fuel [] status text = (status ≡ Done) × (text ≡ machine_text (machine_script key fuel []) (run (machine_script key fuel [])))
 IsDueOfVats key fuel (vat ∷ more) status text = ReadAs vat.source (λ answer. IsDueOfSource key fuel vat.name answer status text)
 
 -- what is due for a script, or for bytes that are none

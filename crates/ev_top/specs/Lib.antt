@@ -7,6 +7,6 @@ pub mod Commands
 pub mod Programs
 pub mod Given
 pub mod Expansion
-pub mod Ends
 pub mod Due
+pub mod Ends
 pub mod Causes

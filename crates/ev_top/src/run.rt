@@ -1,10 +1,10 @@
 //! What is due for the bytes of a script: the run of its vat, or a refusal.
 
-ghost use Rattle.std.specs.Prelude.{◌≡◌, true, List, ℕ, [], ◌∷◌, IfOk, codes, string_bytes};
+ghost use Rattle.std.specs.Prelude.{◌≡◌, true, List, ℕ, [], ◌∷◌, IfOk, string_bytes};
 ghost use Rattle.ev_eval.specs.Built.{is_built};
-ghost use Rattle.ev_top.specs.Debt.{IsFor, program_refused};
-ghost use Rattle.ev_top.specs.Due.{IsDueOfScript, IsDueOfSource, IsDueOfTree, IsDueOfVats, due_of_run, unbuilt};
-ghost use Rattle.ev_top.specs.Ends.{status_by};
+ghost use Rattle.ev_top.specs.Debt.{IsFor};
+ghost use Rattle.ev_top.specs.Due.{IsDueOfScript, IsDueOfSource, IsDueOfTree, IsDueOfVats, due_of_machine, not_built};
+ghost use Rattle.ev_top.specs.Ends.{due_by};
 ghost use Rattle.ev_top.specs.Machine.{machine_script, program};
 ghost use Rattle.ev_top.specs.Programs.{ReadAs};
 ghost use Rattle.ev_top.specs.Script.{script_from};
@@ -17,7 +17,7 @@ use ev_eval::is_built;
 use ev_kernel::Kernel;
 use ev_reader::read_program;
 use ev_script::{ScriptFault, VatScript};
-use ev_vat::{RunEnd, run_program};
+use ev_vat::{RunEnd, Told, run_program};
 use std::alloc::Global;
 
 /// The greatest depth at which a node begins.
@@ -31,36 +31,9 @@ fn reply_empty(alloc: Global) -> Result<Reply, Memory>
     reply_line(alloc, Status::Done, "end")
 }
 
-/// The status that tells how the run of a program ended; its one step is that of number 0.
-fn status_of(end: RunEnd) -> Status
-    ensures { result ≡ status_by end }
-{
-    match end {
-        RunEnd::Done | RunEnd::Astray => Status::Done,
-        RunEnd::FuelSpent => Status::FuelSpent(0),
-        RunEnd::TooDeep => Status::TooDeep(0),
-    }
-}
-
-/// The run of a program that is built.
-fn reply_run(alloc: Global, fuel: u32, name: &str, tree: &Kernel) -> Result<Reply, Memory>
-    requires { is_built tree.now ≡ true }
-    ensures { (key : List ℕ) → IfOk result (λ reply. IsFor reply.status (string_bytes reply.text)
-        (due_of_run (machine_script key fuel (program name.now tree.now ∷ [])))) }
-{
-    let limits = Limits {
-        depth: GREATEST_DEPTH,
-    };
-    let told = run_program(alloc, name, tree, fuel, limits)?;
-    Ok(Reply {
-        status: status_of(told.end),
-        text: told.text,
-    })
-}
-
 /// The refusal of a program that is not built.
 fn reply_unbuilt(alloc: Global, name: &str) -> Result<Reply, Memory>
-    ensures { IfOk result (λ reply. IsFor reply.status (string_bytes reply.text) (program_refused name.now unbuilt (codes "unbuilt 0 0"))) }
+    ensures { IfOk result (λ reply. IsFor reply.status (string_bytes reply.text) (not_built name.now)) }
 {
     let refusal = Refusal {
         vat: 0,
@@ -72,6 +45,40 @@ fn reply_unbuilt(alloc: Global, name: &str) -> Result<Reply, Memory>
         status: Status::ProgramRefused(refusal),
         text: format!(in alloc; "refused program {name} unbuilt 0 0\n")?,
     })
+}
+
+/// The run of a program that was told, or the refusal of one whose run went astray. A run of one vat has one step, of number 0.
+fn reply_told(alloc: Global, name: &str, told: Told) -> Result<Reply, Memory>
+    ensures { IfOk result (λ reply. IsFor reply.status (string_bytes reply.text) (due_by name.now (string_bytes told.text) told.end)) }
+{
+    match told.end {
+        RunEnd::Done => Ok(Reply {
+            status: Status::Done,
+            text: told.text,
+        }),
+        RunEnd::FuelSpent => Ok(Reply {
+            status: Status::FuelSpent(0),
+            text: told.text,
+        }),
+        RunEnd::TooDeep => Ok(Reply {
+            status: Status::TooDeep(0),
+            text: told.text,
+        }),
+        RunEnd::Astray => reply_unbuilt(alloc, name),
+    }
+}
+
+/// The run of a program that is built.
+fn reply_run(alloc: Global, fuel: u32, name: &str, tree: &Kernel) -> Result<Reply, Memory>
+    requires { is_built tree.now ≡ true }
+    ensures { (key : List ℕ) → IfOk result (λ reply. IsFor reply.status (string_bytes reply.text)
+        (due_of_machine name.now (machine_script key fuel (program name.now tree.now ∷ [])))) }
+{
+    let limits = Limits {
+        depth: GREATEST_DEPTH,
+    };
+    let told = run_program(alloc, name, tree, fuel, limits)?;
+    reply_told(alloc, name, told)
 }
 
 /// The run of a tree, if it is built, and else its refusal.
