@@ -3,3 +3,4 @@ pub mod Laws
 pub mod Runs
 pub mod Lasting
 pub mod Finding
+pub mod Example

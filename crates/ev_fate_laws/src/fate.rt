@@ -1,6 +1,7 @@
 //! Each message has one place at most, until it is taken or lost.
 
 ghost use Rattle.ev_fate_laws.specs.Laws.{StepsDoubleNone};
+ghost use Rattle.ev_fate_laws.specs.Example.{FatesAreMet};
 ghost use Rattle.ev_fate_laws.specs.Finding.{SendsFindPlaces};
 ghost use Rattle.ev_fate_laws.specs.Lasting.{StepsKeepPlaces};
 ghost use Rattle.ev_fate_laws.specs.Runs.{EachSentOnce, EachTakenOnce, OneFateAtMost, PlacesAndFates};
@@ -65,4 +66,11 @@ pub fn places_and_fates()
 /// lost line, one place in the closing list; and none where it was not sent.
 pub fn one_fate_at_most()
     ensures { OneFateAtMost }
+{}
+
+/// The counts of a run, by computing: of three messages the first is taken, the second stands in
+/// the closing list and the third is lost, each once.
+#[tactic(auto, unfolding(ev_run::specs::World::opened_world, crate::specs::Fate::opened_fate, crate::specs::Example::opened_example))]
+pub fn fates_are_met()
+    ensures { FatesAreMet }
 {}
