@@ -2,7 +2,7 @@
 use Rattle.std.proofs.Common.{◌≡◌, ℕ, zero, suc, ◌+◌, ◌≤◌, Bool, true, false, List, [], ◌∷◌, ◌++◌, Option, Some, None, refl, sym, ap, ◌∙◌, arith, length, subst, if◌then◌else◌, ◌-◌, eqb-true}
 use Rattle.std.specs.Prelude.{◌==◌, nat_le}
 use Rattle.ev_machine.specs.Values.{Words, Value, Null, Flag, Number, Letter, Text, Prim, Broken, Items, Ref, Name, Root, Object, Promise, Answer, Gift, Sent, Naming, IsAnswer, IsSent, Spot, Own, Foreign, NoObject, spot_of, name_of, answer_of, mail_of}
-use Rattle.ev_machine.specs.State.{Message, Standing, Unsettled, WaitsOn, Viewed, Settled, Known, Settle, Passed, Passeds, Plain, AGift, Many, NoMore, More, Deliver, Happened, Sends, Reacts, Settles, Lost, Posted, Vat, Done, Gives, Throws, Ejects, Stops, Act, ◌>>=◌, ◌>>◌, and_then, each, give, look, tell, enqueue, send_out, with_change, changed, changed_to, unless_settled, alter, new_message, begun, is_in, SettledTo, spend, spent, Elsewhere}
+use Rattle.ev_machine.specs.State.{Message, Standing, Unsettled, WaitsOn, Viewed, Settled, Known, Settle, Passed, Passeds, Plain, AGift, Many, NoMore, More, Deliver, Happened, Sends, Reacts, Settles, Lost, Posted, Vat, Done, Gives, Throws, Ejects, Stops, Act, ◌>>=◌, ◌>>◌, and_then, each, give, look, tell, enqueue, send_out, with_change, changed, changed_to, unless_settled, alter, new_message, begun, is_in, SettledTo, spend, spent}
 use Rattle.ev_machine.specs.Refs as refs
 use Rattle.ev_machine.specs.Refs.{Place, Near, Mine, Away, Gone, entry_of}
 use Rattle.ev_machine_laws.specs.Steps.{After}
@@ -13,10 +13,10 @@ use Rattle.ev_machine.specs.Native.{list_at}
 use Rattle.std.proofs.lemmas.Bool.{eq-eqb}
 use Rattle.ev_machine_laws.proofs.StepLaws.{settled_law, settled_names}
 use Rattle.ev_fate_laws.specs.Fate.{one, among, at_vat, gone_here, where_cut, of_note, in_note, account}
-use Rattle.ev_fate_laws.specs.Lasting.{PassedLast, NoteWell, Each, NamesMessage, NamesNoObject, NamesObject, NoPromise, HeldWell, KnownWell, AllWell}
+use Rattle.ev_fate_laws.specs.Lasting.{PassedLast, Each, NamesMessage, NamesNoObject, NamesObject, NoPromise, HeldWell, KnownWell, AllWell}
 use Rattle.ev_fate_laws.proofs.Counts.{gone_end, names_end, Waits, settling_frees}
 use Rattle.ev_fate_laws.proofs.RunCounts.{pick}
-use Rattle.ev_fate_laws.proofs.PlacesLast.{Global, PaysAt, Pays, pay_more, cost_less, cost_then, cost_bind_last, cost_then_last, cost_then_first, pays, pays_each, pays_give, cost_tell, cost_enqueue, pays_enqueue, cost_out, pays_hold, pays_react, pays_answer, come_well, pays_out, pays_out_elsewhere}
+use Rattle.ev_fate_laws.proofs.PlacesLast.{Global, PaysAt, Pays, pay_more, cost_less, cost_then, cost_bind_last, cost_then_first, pays, pays_each, pays_give, cost_tell, cost_enqueue, pays_enqueue, cost_out, pays_hold, pays_react, pays_answer, come_well, pays_out, pays_out_elsewhere}
 
 -- a message whose target is followed to that may be put at this place
 abbrev pub Fits : Value Name → Place Name → Type 0
@@ -644,11 +644,11 @@ module _ (K : Naming Name Name) (v : ℕ) (global : Global K v) where
       unfolding ◌>>◌
       goes_on p y k j t e i last held well =
           loop_at settle good (among x k.held) (0 + (among x k.reactions + 0)) t p j y (each (refs.send_on K settle) k.held t) _ (all_sent settle good settled p j y i last k.held t held well e)
-            ((kept.keeps_each (SettledStays K) (settled_law K) k.held (λ m. keeps_send_on K (SettledStays K) (settled_law K) (settled_names K) settle settled m)).after t) e i (λ t1 w1 e1.
+          ((kept.keeps_each (SettledStays K) (settled_law K) k.held (λ m. keeps_send_on K (SettledStays K) (settled_law K) (settled_names K) settle settled m)).after t) e i (λ t1 w1 e1.
           loop_at settle good 0 (among x k.reactions + 0) t1 p j y (each (λ q. settle q y) k.waiting t1) _ ((pays_each cut x k.waiting (λ q. good q y last)).after t1 w1)
-            ((kept.keeps_each (SettledStays K) (settled_law K) k.waiting (λ q. settled q y)).after t1) e1 i (λ t2 w2 e2.
+          ((kept.keeps_each (SettledStays K) (settled_law K) k.waiting (λ q. settled q y)).after t1) e1 i (λ t2 w2 e2.
           loop_at settle good (among x k.reactions) 0 t2 p j y (each enqueue k.reactions t2) _ ((cost_queued k.reactions).after t2 w2)
-            ((kept.keeps_each (SettledStays K) (settled_law K) k.reactions (λ m. kept.keeps_enqueue (SettledStays K) (settled_law K) m)).after t2) e2 i (λ t3 w3 e3.
+          ((kept.keeps_each (SettledStays K) (settled_law K) k.reactions (λ m. kept.keeps_enqueue (SettledStays K) (settled_law K) m)).after t2) e2 i (λ t3 w3 e3.
           all_told p j y i last k.told t3 w3 e3)))
 
       settles_known : (p : Name) (y : Value Name) (k : Known Name) (s : Vat Name) → entry_of K s.known p ≡ Some k → Waits K k.standing → NoPromise y → AllWell s → PaysAt cut x 0 s (refs.settle_known K settle p y k s)
@@ -660,7 +660,7 @@ module _ (K : Naming Name Name) (v : ℕ) (global : Global K v) where
           let free : account cut x s ≤ account cut x t + (among x k.held + among x k.reactions) = frees_at p y k s e h in
           let owed : account cut x s ≤ account cut x t + (among x k.held + (0 + (among x k.reactions + 0))) = omega arith in
           paid_at (among x k.held + (0 + (among x k.reactions + 0))) s t _ owed
-            (goes_on p y k (changed (Settle y) k) t (settled_entry p y k s.known e) (settled_standing y k k.standing h) last held (settle_well y p s.known last w.0, w.1))
+          (goes_on p y k (changed (Settle y) k) t (settled_entry p y k s.known e) (settled_standing y k k.standing h) last held (settle_well y p s.known last w.0, w.1))
 
       settles_standing : (p : Name) (y : Value Name) (k : Known Name) (s : Vat Name) → entry_of K s.known p ≡ Some k → (t : Standing Name) → k.standing ≡ t → NoPromise y → AllWell s → PaysAt cut x 0 s (refs.settle_standing K settle p y k t s)
       unfolding refs.settle_standing give

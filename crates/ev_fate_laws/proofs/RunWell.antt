@@ -1,15 +1,15 @@
 -- In every world of a run all is well in each vat, and with each note under way.
-use Rattle.std.proofs.Common.{◌≡◌, ℕ, zero, suc, Bool, true, false, List, [], ◌∷◌, ◌++◌, Option, Some, None, refl, sym, ap, inl, inr, ◌⊎◌, map, subst}
+use Rattle.std.proofs.Common.{◌≡◌, ℕ, zero, suc, Bool, true, false, List, [], ◌∷◌, ◌++◌, Option, Some, None, refl, inl, inr, ◌⊎◌, map, subst}
 use Rattle.std.specs.Prelude.{slice_get, ◌==◌}
 use Rattle.ev_machine.specs.Values.{Value, Null, Flag, Number, Letter, Text, Prim, Broken, Items, Ref, Name, Root, Object, Promise, Answer, Gift, Sent}
-use Rattle.ev_machine.specs.State.{Message, Known, Passed, Passeds, Plain, AGift, Many, NoMore, More, Note, Deliver, Open, Ask, SettledTo, Elsewhere, Shorten, Put, Vat, Done, Gives, Throws, Ejects, Stops, begun}
+use Rattle.ev_machine.specs.State.{Message, Passed, Passeds, Plain, AGift, Many, NoMore, More, Note, Deliver, Open, Ask, SettledTo, Elsewhere, Shorten, Put, Vat, Done, Gives, Throws, Ejects, Stops, begun}
 use Rattle.ev_machine.specs.Arrive.{Old, New, notice}
 use Rattle.ev_machine.specs.Eval.{opening}
 use Rattle.ev_machine_laws.specs.Steps.{Step, Opens as Starts, Takes, Receives, Notices, does}
 use Rattle.ev_run.specs.Draws.{draw_word}
 use Rattle.ev_run.specs.World as world
 use Rattle.ev_run.specs.World.{Script, Program, Opens, Entry, Turn, Carry, CutLink, NoticeLink, Event, Turned, Idle, Carried, CutAt, NoticedAt, Link, World, Run, Goes, Stopped, names, names_of, read_note, begins}
-use Rattle.ev_fate_laws.specs.Lasting.{Each, NamesObject, NoPromise, KnownWell, PassedLast, NoteWell, AllWell, ComesAsNoObject, ValueComes, PassedComes, AllCome, ValueSettles, PassedSettles, NoteComes, StepComes, PlacesLast}
+use Rattle.ev_fate_laws.specs.Lasting.{Each, NoPromise, KnownWell, PassedLast, NoteWell, ComesAsNoObject, ValueComes, PassedComes, AllCome, ValueSettles, PassedSettles, NoteComes, StepComes, PlacesLast}
 use Rattle.ev_fate_laws.specs.Runs.{Reached}
 use Rattle.ev_fate_laws.specs.Wellness.{WorldWell, RunsStayWell}
 use Rattle.ev_fate_laws.proofs.RunCounts.{pick}
@@ -269,5 +269,7 @@ goes_well (Goes y) w e h = let same : y ≡ w = cc in rw same at h
 goes_well (Stopped c k y) w e h = cc
 
 pub runs_stay_well : RunsStayWell
-runs_stay_well script = (λ ps. opens_well script zero ps (begins script) (begins_well script),
-    λ w es k e. steps_well script es k w (goes_well (world.open_from script zero script.vats (begins script)) w e (opens_well script zero script.vats (begins script) (begins_well script))))
+runs_stay_well script = (
+  λ ps. opens_well script zero ps (begins script) (begins_well script),
+  λ w es k e. steps_well script es k w (goes_well (world.open_from script zero script.vats (begins script)) w e (opens_well script zero script.vats (begins script) (begins_well script))),
+)

@@ -1,6 +1,6 @@
 -- A run in which one message is taken, one stands in the closing list and one is lost.
 use Rattle.std.specs.Prelude.{◌≡◌, ℕ, pos, List, [], ◌∷◌, None, codes}
-use Rattle.ev_machine.specs.Values.{Name, Sent}
+use Rattle.ev_machine.specs.Values.{Sent}
 use Rattle.ev_run.specs.World.{Turn, Script, Event, Run, Goes, Stopped, run}
 use Rattle.ev_kernel.specs.declared.node.Literal.TheVariants as literal
 use Rattle.ev_kernel.specs.declared.node.Node.{Node}
