@@ -101,6 +101,20 @@ impl Heap {
         Ok(id)
     }
 
+    /// How many objects, ejectors, resolvers and auditions are kept.
+    pub fn object_count(&self) -> u64
+        ensures { result ≡ length self.now.things }
+    {
+        self.things.len() as u64
+    }
+
+    /// How many var slots are kept.
+    pub fn slot_count(&self) -> u64
+        ensures { result ≡ length self.now.slots }
+    {
+        self.slots.len() as u64
+    }
+
     /// The value of a var slot.
     pub fn read(&self, slot: SlotId) -> Value
         requires { slot < length self.now.slots }
@@ -262,6 +276,16 @@ impl Heap {
         ensures { slice_get self.now.texts id ≡ Some result.now }
     {
         self.texts.as_slice()[id.0 as usize].as_str()
+    }
+
+    /// A text, or none where none is kept of that number.
+    pub fn find_text(&self, id: TextId) -> Option<&str>
+        ensures { option_map (λ text. text.now) result ≡ slice_get self.now.texts id }
+    {
+        let Ok(index) = usize::try_from(id.0) else {
+            return None;
+        };
+        self.texts.as_slice().get(index).map(|text| text.as_str())
     }
 
     /// The receiver whose code an activation runs.

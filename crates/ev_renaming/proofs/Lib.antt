@@ -5,6 +5,7 @@ pub mod MapMaps
 pub mod Stands
 pub mod NativeMaps
 pub mod EvalPure
+pub mod SimPerform
 pub mod SimEval
 pub mod Steps
 pub mod Example

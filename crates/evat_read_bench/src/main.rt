@@ -1,13 +1,18 @@
 //! Reads the text of standard input as often as it is told, for `bench/` to time.
 //!
-//! Words: `lex TIMES` takes it apart into tokens, `parse TIMES` does so once and parses the tokens so often. It prints nothing,
-//! and ends with status 0 where the text has tokens and memory sufficed. A text that spells no tree is read too.
+//! Words: `lex TIMES` takes it apart into tokens, `parse TIMES` does so once and parses the tokens so often, `expand TIMES` parses
+//! once and expands the tree so often, `program TIMES` reads a program from its text on and `script TIMES` a script. It prints
+//! nothing, and ends with status 0 where memory sufficed, and the text of the first three has tokens and that of `expand` spells a
+//! tree. What is refused is read too.
 #![tactic(auto)]
 
-use ev_base::Seq;
+use ev_base::{Seq, Str};
+use ev_expand::{ExpandFault, expand};
 use ev_io::{StdSource, read_all};
 use ev_lexer::lex;
 use ev_parser::{ParseFault, parse};
+use ev_reader::{ProgramFault, read_program};
+use ev_script::{ScriptFault, read_script};
 use std::alloc::Global;
 use std::io::BufReader;
 use std::process::ExitCode;
@@ -44,14 +49,60 @@ fn parse_often(alloc: Global, text: &str, times: u32) -> bool {
     true
 }
 
-fn work(alloc: Global, kind: &str, bytes: &[u8], times: u32) -> bool {
-    let Ok(text) = str::from_utf8(bytes) else {
+/// Parses the text once, and expands its tree so often.
+fn expand_often(alloc: Global, text: &str, times: u32) -> bool {
+    let Ok(tokens) = lex(alloc, text) else {
         return false;
     };
+    let Ok(tree) = parse(alloc, tokens.as_slice(), text) else {
+        return false;
+    };
+    for _ in 0..times {
+        if let Err(ExpandFault::Memory) = expand(alloc, &tree) {
+            return false;
+        }
+    }
+    true
+}
+
+/// Reads a program so often that is given no names.
+fn read_often(alloc: Global, text: &str, times: u32) -> bool {
+    let given: Seq<Str> = Seq::new(alloc);
+    for _ in 0..times {
+        if let Err(ProgramFault::Memory) = read_program(alloc, text, &given) {
+            return false;
+        }
+    }
+    true
+}
+
+/// Reads a script so often.
+fn script_often(alloc: Global, bytes: &[u8], times: u32) -> bool {
+    for _ in 0..times {
+        if let Err(ScriptFault::Memory) = read_script(alloc, bytes) {
+            return false;
+        }
+    }
+    true
+}
+
+fn work_on_text(alloc: Global, kind: &str, text: &str, times: u32) -> bool {
     match kind {
         "lex" => lex_often(alloc, text, times),
         "parse" => parse_often(alloc, text, times),
+        "expand" => expand_often(alloc, text, times),
+        "program" => read_often(alloc, text, times),
         _ => false,
+    }
+}
+
+fn work(alloc: Global, kind: &str, bytes: &[u8], times: u32) -> bool {
+    if kind == "script" {
+        return script_often(alloc, bytes, times);
+    }
+    match str::from_utf8(bytes) {
+        Ok(text) => work_on_text(alloc, kind, text, times),
+        Err(_) => false,
     }
 }
 

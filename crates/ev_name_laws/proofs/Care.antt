@@ -1,0 +1,552 @@
+-- What a vat does from a sound state, under facts on what it has in hand, ends in a sound state with facts on what it gives.
+use Rattle.std.proofs.Common.{ℕ, zero, suc, ◌-◌, Bool, true, false, List, [], ◌∷◌, ◌++◌, Option, Some, None, if◌then◌else◌, length}
+use Rattle.std.specs.Prelude.{nat_le}
+use Rattle.ev_machine.specs.Values.{Words, Value, Null, Flag, Number, Text, Prim, Broken, Items, Ref, Naming, IsOwn, IsAnswer, IsGift, IsSent}
+use Rattle.ev_machine.specs.State.{Bound, Scope, Cell, View, Thing, Made, Ejector, Audition, Resolver, Message, Standing, Unsettled, WaitsOn, Viewed, Settled, Known, Change, Hold, Wait, WaitOn, See, React, ToTell, Settle, Passed, Passeds, Note, Put, GiftEntry, Happened, Vat, Stop, Done, Gives, Throws, Ejects, Stops, Act, ◌>>=◌, ◌>>◌, and_then, for_some, end_by, ending, each, give, throw, stop, eject, look, tell, spend, spent, new_activation, new_thing, kill, change, dead, new_slot, holding, write_slot, new_list, enqueue, send_out, new_gift, with_opened, open_gift, is_gift, mark, draws, with_change, changed, changed_to, unless_settled, alter, come, new_promise, new_message, draw, begun}
+use Rattle.ev_machine.specs.Refs.{Place, Parcel}
+use Rattle.ev_machine.specs.Native.{Reply}
+use Rattle.ev_machine.specs.Scopes.{Answer, Answers}
+use Rattle.ev_name_laws.specs.Names.{Bit, Named, Mail, Drew, AllOf, ValueOk, ValuesOk, NameOk, MessageOk, KnownOk, CellOk, ThingOk, PutOk, GiftOk, Parts}
+use Rattle.ev_name_laws.proofs.Facts.{all_map, all_end, ChangeOk, values_up, message_up, known_up, cell_up, thing_up, note_up, gift_up, Fact, Nothing, Also, IsName, IsMail, IsDraw, IsValue, AreValues, IsBound, AreNouns, IsMessage, AreKnown, IsGiftEntry, AreGifts, IsPlace, IsThing, IsView, IsChange, MayValue, MayCell, MayThing, MayKnown, MayGift, IsReply, DoesPass, DoAllPass, NoteDoes, scope, answer, answers, parcel, new_names, nothing, Holds, holds_up}
+
+-- What is cared for: when a name is good in a state, what more a state keeps, how states may follow each other; and that each single change is so.
+pub record Care (N : Type 0) : Type 1 where
+  pub ok : Vat N → Bit N → Type 0
+  pub more : Vat N → Type 0
+  pub rel : Vat N → Vat N → Type 0
+  pub same : (s : Vat N) → rel s s
+  pub trans : (s t u : Vat N) → rel s t → rel t u → rel s u
+  pub up : (s t : Vat N) → rel s t → (b : Bit N) → ok s b → ok t b
+  pub fuel : (s : Vat N) (n : ℕ) → rel s (record s { fuel = s.fuel - n }) × (more s → more (record s { fuel = s.fuel - n }))
+  pub happened : (s : Vat N) (e : Happened N) → rel s (record s { happened = s.happened ++ e ∷ [] }) × (more s → more (record s { happened = s.happened ++ e ∷ [] }))
+  pub activations : (s : Vat N) → rel s (record s { activations = suc s.activations }) × (more s → more (record s { activations = suc s.activations }))
+  pub thing : (s : Vat N) (t : Thing N) → rel s (record s { things = s.things ++ t ∷ [] }) × (more s → more (record s { things = s.things ++ t ∷ [] }))
+  pub killed : (s : Vat N) (n : ℕ) → rel s (record s { things = change dead n s.things }) × (more s → more (record s { things = change dead n s.things }))
+  pub slot : (s : Vat N) (c : Cell N) → rel s (record s { slots = s.slots ++ c ∷ [] }) × (more s → more (record s { slots = s.slots ++ c ∷ [] }))
+  pub written : (s : Vat N) (n : ℕ) (v : Value N) → rel s (record s { slots = change (holding v) n s.slots }) × (more s → more (record s { slots = change (holding v) n s.slots }))
+  pub list : (s : Vat N) (vs : List (Value N)) → rel s (record s { lists = s.lists ++ vs ∷ [] }) × (more s → more (record s { lists = s.lists ++ vs ∷ [] }))
+  pub queue : (s : Vat N) (m : Message N) → rel s (record s { queue = s.queue ++ m ∷ [] }) × (more s → more (record s { queue = s.queue ++ m ∷ [] }))
+  pub outbox : (s : Vat N) (p : Put N) → PutOk (ok s) p → rel s (record s { outbox = s.outbox ++ p ∷ [] }) × (more s → more (record s { outbox = s.outbox ++ p ∷ [] }))
+  pub gift : (s : Vat N) (g : GiftEntry N) → GiftOk (ok s) g → rel s (record s { gifts = s.gifts ++ g ∷ [] }) × (more s → more (record s { gifts = s.gifts ++ g ∷ [] }))
+  pub opened : (s : Vat N) (p i : ℕ) → rel s (record s { gifts = with_opened p i s.gifts }) × (more s → more (record s { gifts = with_opened p i s.gifts }))
+  pub noticed : (s : Vat N) (w : ℕ) → rel s (record s { noticed = s.noticed ++ w ∷ [] }) × (more s → more (record s { noticed = s.noticed ++ w ∷ [] }))
+  pub drawn : (s : Vat N) (w : ℕ) → rel s (record s { drawn = s.drawn ++ w ∷ [] }) × (more s → more (record s { drawn = s.drawn ++ w ∷ [] })) × ok (record s { drawn = s.drawn ++ w ∷ [] }) (Drew (length s.drawn))
+
+-- and of each change of what is known
+pub record Under {N W : Type 0} (K : Naming N W) (S : Care N) : Type 0 where
+  pub object : (s : Vat N) (i : ℕ) → S.ok s (Named (K.object i))
+  pub altered : (s : Vat N) (c : Change N) (n : N) → ChangeOk (S.ok s) c → S.rel s (record s { known = with_change K c n s.known }) × (S.more s → S.more (record s { known = with_change K c n s.known }))
+  pub answered : (s : Vat N) (h : ℕ) (m : N) → S.ok s (Mail m)
+      → S.rel s (record s { known = s.known ++ begun (K.made (IsAnswer h m) (length s.known)) h ∷ [] }) × (S.more s → S.more (record s { known = s.known ++ begun (K.made (IsAnswer h m) (length s.known)) h ∷ [] }))
+      × S.ok (record s { known = s.known ++ begun (K.made (IsAnswer h m) (length s.known)) h ∷ [] }) (Named (K.made (IsAnswer h m) (length s.known)))
+  pub given : (s : Vat N) (h i : ℕ) → S.ok s (Drew i)
+      → S.rel s (record s { known = s.known ++ begun (K.made (IsGift h i) (length s.known)) h ∷ [] }) × (S.more s → S.more (record s { known = s.known ++ begun (K.made (IsGift h i) (length s.known)) h ∷ [] }))
+      × S.ok (record s { known = s.known ++ begun (K.made (IsGift h i) (length s.known)) h ∷ [] }) (Named (K.made (IsGift h i) (length s.known)))
+  pub promised : (s : Vat N) → let t = record s { promises = suc s.promises; known = s.known ++ begun (K.made (IsOwn s.promises) (length s.known)) s.number ∷ [] } in
+      S.rel s t × (S.more s → S.more t) × S.ok t (Named (K.made (IsOwn s.promises) (length s.known)))
+  pub messaged : (s : Vat N) (h : ℕ) → let id = K.mailed (IsSent s.messages) (length s.mails) in let a = K.made (IsAnswer h id) (length s.known) in let t = record s { messages = suc s.messages; mails = s.mails ++ id ∷ []; known = s.known ++ begun a h ∷ [] } in
+      S.rel s t × (S.more s → S.more t) × S.ok t (Mail id) × S.ok t (Named a)
+
+pub parts_up : {N : Type 0} (P Q : Bit N → Type 0) → ((b : Bit N) → P b → Q b) → (ts : List (Thing N)) (cs : List (Cell N)) (ls : List (List (Value N))) (ms : List (Message N)) (ks : List (Known N)) (gs : List (GiftEntry N)) (ps : List (Put N))
+    → Parts P ts cs ls ms ks gs ps → Parts Q ts cs ls ms ks gs ps
+parts_up P Q up ts cs ls ms ks gs ps h = record {
+  things = all_map (thing_up P Q up) ts h.things;
+  slots = all_map (cell_up P Q up) cs h.slots;
+  lists = all_map (values_up P Q up) ls h.lists;
+  queue = all_map (message_up P Q up) ms h.queue;
+  known = all_map (known_up P Q up) ks h.known;
+  gifts = all_map (gift_up P Q up) gs h.gifts;
+  outbox = all_map (λ p. note_up P Q up p.note) ps h.outbox;
+}
+
+pub record Sound {N : Type 0} (S : Care N) (s : Vat N) : Type 0 where
+  pub parts : Parts (S.ok s) s.things s.slots s.lists s.queue s.known s.gifts s.outbox
+  pub more : S.more s
+
+module _ {N : Type 0} (S : Care N) where
+  -- what follows from a fact
+  pub record Gets (C F : Fact N) : Type 0 where
+    pub at : (s : Vat N) → Holds (S.ok s) C → Holds (S.ok s) F
+
+  -- how it ends
+  abbrev pub Ends : {A : Type 0} → (A → Fact N) → Vat N → Done N A → Type 0
+  Ends G s (Gives a t) = S.rel s t × Sound S t × Holds (S.ok t) (G a)
+  Ends G s (Throws p t) = S.rel s t × Sound S t
+  Ends G s (Ejects n v t) = S.rel s t × Sound S t × ValueOk (S.ok t) v
+  Ends G s (Stops c t) = S.rel s t × Sound S t
+
+  pub record Fine {A : Type 0} (C : Fact N) (m : Act N A) (G : A → Fact N) : Type 0 where
+    pub after : (s : Vat N) → Sound S s → Holds (S.ok s) C → Ends G s (m s)
+
+  -- all that a state has, in the next
+  pub still : (s t : Vat N) → S.rel s t → Sound S s → Parts (S.ok t) s.things s.slots s.lists s.queue s.known s.gifts s.outbox
+  still s t r h = parts_up (S.ok s) (S.ok t) (S.up s t r) s.things s.slots s.lists s.queue s.known s.gifts s.outbox h.parts
+
+  -- ---- what follows from facts
+
+  pub got : (C D : Fact N) → Gets (Also C D) D
+  got C D = record { at = λ s h. h.1 }
+
+  pub got_left : (C D F : Fact N) → Gets C F → Gets (Also C D) F
+  got_left C D F g = record { at = λ s h. g.at s h.0 }
+
+  pub got_right : (C D F : Fact N) → Gets D F → Gets (Also C D) F
+  got_right C D F g = record { at = λ s h. g.at s h.1 }
+
+  pub got_itself : (C : Fact N) → Gets C C
+  got_itself C = record { at = λ s h. h }
+
+  pub got_both : (C D F : Fact N) → Gets C D → Gets C F → Gets C (Also D F)
+  got_both C D F g k = record { at = λ s h. (g.at s h, k.at s h) }
+
+  pub got_nothing : (C : Fact N) → Gets C Nothing
+  got_nothing C = record { at = λ s h. tt }
+
+  pub got_null : (C : Fact N) → Gets C (IsValue Null)
+  got_null C = record { at = λ s h. tt }
+
+  pub got_flag : (C : Fact N) (b : Bool) → Gets C (IsValue (Flag b))
+  got_flag C b = record { at = λ s h. tt }
+
+  pub got_number : (C : Fact N) (z : _) → Gets C (IsValue (Number z))
+  got_number C z = record { at = λ s h. tt }
+
+  pub got_text : (C : Fact N) (t : Words) → Gets C (IsValue (Text t))
+  got_text C t = record { at = λ s h. tt }
+
+  pub got_prim : (C : Fact N) (n : ℕ) → Gets C (IsValue (Prim n))
+  got_prim C n = record { at = λ s h. tt }
+
+  pub got_broken : (C : Fact N) (t : Words) → Gets C (IsValue (Broken t))
+  got_broken C t = record { at = λ s h. tt }
+
+  pub got_items : (C : Fact N) (k : ℕ) → Gets C (IsValue (Items k))
+  got_items C k = record { at = λ s h. tt }
+
+  pub got_ref : (C : Fact N) (n : N) → Gets C (IsName n) → Gets C (IsValue (Ref n))
+  got_ref C n g = record { at = λ s h. g.at s h }
+
+  pub got_none : (C : Fact N) → Gets C (AreValues [])
+  got_none C = record { at = λ s h. tt }
+
+  pub got_more : (C : Fact N) (v : Value N) (vs : List (Value N)) → Gets C (IsValue v) → Gets C (AreValues vs) → Gets C (AreValues (v ∷ vs))
+  got_more C v vs g k = record { at = λ s h. (g.at s h, k.at s h) }
+
+  pub got_message : (C : Fact N) (m : Message N) → Gets C (IsMail m.id) → Gets C (IsValue m.target) → Gets C (AreValues m.args) → Gets C (IsName m.answer) → Gets C (IsMessage m)
+  got_message C m i g k a = record { at = λ s h. (i.at s h, g.at s h, k.at s h, a.at s h) }
+
+  pub got_hold : (C : Fact N) (m : Message N) → Gets C (IsMessage m) → Gets C (IsChange (Hold m))
+  got_hold C m g = record { at = λ s h. g.at s h }
+
+  pub got_react : (C : Fact N) (m : Message N) → Gets C (IsMessage m) → Gets C (IsChange (React m))
+  got_react C m g = record { at = λ s h. g.at s h }
+
+  pub got_settle : (C : Fact N) (y : Value N) → Gets C (IsValue y) → Gets C (IsChange (Settle y))
+  got_settle C y g = record { at = λ s h. g.at s h }
+
+  pub got_wait : (C : Fact N) (q : N) → Gets C (IsName q) → Gets C (IsChange (Wait q))
+  got_wait C q g = record { at = λ s h. g.at s h }
+
+  pub got_wait_on : (C : Fact N) (q : N) → Gets C (IsName q) → Gets C (IsChange (WaitOn q))
+  got_wait_on C q g = record { at = λ s h. g.at s h }
+
+  pub got_see : (C : Fact N) (q : N) → Gets C (IsName q) → Gets C (IsChange (See q))
+  got_see C q g = record { at = λ s h. g.at s h }
+
+  pub got_to_tell : (C : Fact N) (w : ℕ) → Gets C (IsChange (ToTell w))
+  got_to_tell C w = record { at = λ s h. tt }
+
+  pub got_ejector : (C : Fact N) (b : Bool) → Gets C (IsThing (Ejector b))
+  got_ejector C b = record { at = λ s h. tt }
+
+  pub got_resolver : (C : Fact N) (p : N) → Gets C (IsName p) → Gets C (IsThing (Resolver p))
+  got_resolver C p g = record { at = λ s h. g.at s h }
+
+  pub got_audition : (C : Fact N) (b : Bool) (x : View N) → Gets C (IsView x) → Gets C (IsThing (Audition b x))
+  got_audition C b x g = record { at = λ s h. g.at s h }
+
+  -- ---- one thing after another
+
+  pub widen : {A : Type 0} (G : A → Fact N) (s t : Vat N) (d : Done N A) → S.rel s t → Ends G t d → Ends G s d
+  widen G s t (Gives a u) g h = (S.trans s t u g h.0, h.1, h.2)
+  widen G s t (Throws p u) g h = (S.trans s t u g h.0, h.1)
+  widen G s t (Ejects n v u) g h = (S.trans s t u g h.0, h.1, h.2)
+  widen G s t (Stops c u) g h = (S.trans s t u g h.0, h.1)
+
+  rise : (s t : Vat N) → S.rel s t → (C : Fact N) → Holds (S.ok s) C → Holds (S.ok t) C
+  rise s t r C c = holds_up (S.ok s) (S.ok t) (S.up s t r) C c
+
+  bind_ends : {A B : Type 0} (C : Fact N) (P : A → Fact N) (H : B → Fact N) (s : Vat N) (d : Done N A) (f : A → Act N B) → Holds (S.ok s) C → Ends P s d
+      → ((a : A) → Fine (Also C (P a)) (f a) H) → Ends H s (and_then d f)
+  unfolding and_then
+  bind_ends C P H s (Gives a t) f c h k = widen H s t (f a t) h.0 ((k a).after t h.1 (rise s t h.0 C c, h.2))
+  bind_ends C P H s (Throws p t) f c h k = h
+  bind_ends C P H s (Ejects n v t) f c h k = h
+  bind_ends C P H s (Stops r t) f c h k = h
+
+  pub fine_bind : {A B : Type 0} {C : Fact N} {m : Act N A} {f : A → Act N B} {H : B → Fact N} (P : A → Fact N) → Fine C m P → ((a : A) → Fine (Also C (P a)) (f a) H) → Fine C (m >>= f) H
+  unfolding ◌>>=◌
+  fine_bind {C = C} {m = m} {f = f} {H = H} P h k = record { after = λ s g c. bind_ends C P H s (m s) f c (h.after s g c) k }
+
+  less_ends : {A B : Type 0} (C : Fact N) (P : A → Fact N) (H : B → Fact N) (s : Vat N) (d : Done N A) (f : A → Act N B) → Holds (S.ok s) C → Ends P s d
+      → ((a : A) → Fine C (f a) H) → Ends H s (and_then d f)
+  unfolding and_then
+  less_ends C P H s (Gives a t) f c h k = widen H s t (f a t) h.0 ((k a).after t h.1 (rise s t h.0 C c))
+  less_ends C P H s (Throws p t) f c h k = h
+  less_ends C P H s (Ejects n v t) f c h k = h
+  less_ends C P H s (Stops r t) f c h k = h
+
+  pub fine_less : {A B : Type 0} {C : Fact N} {m : Act N A} {f : A → Act N B} {H : B → Fact N} (P : A → Fact N) → Fine C m P → ((a : A) → Fine C (f a) H) → Fine C (m >>= f) H
+  unfolding ◌>>=◌
+  fine_less {C = C} {m = m} {f = f} {H = H} P h k = record { after = λ s g c. less_ends C P H s (m s) f c (h.after s g c) k }
+
+  pub fine_then : {A B : Type 0} {C : Fact N} {m : Act N A} {n : Act N B} {H : B → Fact N} (P : A → Fact N) → Fine C m P → Fine C n H → Fine C (m >> n) H
+  unfolding ◌>>◌
+  fine_then {C = C} {m = m} {n = n} {H = H} P h k = record { after = λ s g c. less_ends C P H s (m s) (λ _. n) c (h.after s g c) (λ _. k) }
+
+  end_ends : {A B : Type 0} (C : Fact N) (P : A → Fact N) (H : B → Fact N) (s : Vat N) (d : Done N A) (f : A → Act N B) (k : Words → Act N B) (l : ℕ → Value N → Act N B) → Holds (S.ok s) C → Ends P s d
+      → ((a : A) → Fine (Also C (P a)) (f a) H) → ((p : Words) → Fine C (k p) H) → ((n : ℕ) (v : Value N) → Fine (Also C (IsValue v)) (l n v) H) → Ends H s (end_by f k l d)
+  unfolding end_by
+  end_ends C P H s (Gives a t) f k l c h x y z = widen H s t (f a t) h.0 ((x a).after t h.1 (rise s t h.0 C c, h.2))
+  end_ends C P H s (Throws p t) f k l c h x y z = widen H s t (k p t) h.0 ((y p).after t h.1 (rise s t h.0 C c))
+  end_ends C P H s (Ejects n v t) f k l c h x y z = widen H s t (l n v t) h.0 ((z n v).after t h.1 (rise s t h.0 C c, h.2))
+  end_ends C P H s (Stops r t) f k l c h x y z = h
+
+  pub fine_ending : {A B : Type 0} {C : Fact N} {m : Act N A} {f : A → Act N B} {k : Words → Act N B} {l : ℕ → Value N → Act N B} {H : B → Fact N} (P : A → Fact N) → Fine C m P
+      → ((a : A) → Fine (Also C (P a)) (f a) H) → ((p : Words) → Fine C (k p) H) → ((n : ℕ) (v : Value N) → Fine (Also C (IsValue v)) (l n v) H) → Fine C (ending f k l m) H
+  unfolding ending
+  fine_ending {C = C} {m = m} {f = f} {k = k} {l = l} {H = H} P h x y z = record { after = λ s g c. end_ends C P H s (m s) f k l c (h.after s g c) x y z }
+
+  pub fine_some : {B : Type 0} {C : Fact N} (o : Option (Value N)) {f : Value N → Act N B} {m : Act N B} {H : B → Fact N} → Gets C (MayValue o) → ((a : Value N) → Fine (Also C (IsValue a)) (f a) H) → Fine C m H → Fine C (for_some o f m) H
+  unfolding for_some
+  fine_some (Some a) g h k = record { after = λ s i c. (h a).after s i (c, g.at s c) }
+  fine_some None g h k = k
+
+  pub fine_if : {A : Type 0} {C : Fact N} (b : Bool) {m n : Act N A} {H : A → Fact N} → Fine C m H → Fine C n H → Fine C (if b then m else n) H
+  fine_if true h k = h
+  fine_if false h k = k
+
+  pub fine_give : {A : Type 0} {C : Fact N} (a : A) {H : A → Fact N} → Gets C (H a) → Fine C (give a) H
+  unfolding give
+  fine_give a g = record { after = λ s h c. (S.same s, h, g.at s c) }
+
+  pub fine_throw : {A : Type 0} {C : Fact N} (p : Words) {H : A → Fact N} → Fine C (throw {A = A} p) H
+  unfolding throw
+  fine_throw p = record { after = λ s h c. (S.same s, h) }
+
+  pub fine_eject : {A : Type 0} {C : Fact N} (n : ℕ) (v : Value N) {H : A → Fact N} → Gets C (IsValue v) → Fine C (eject {A = A} n v) H
+  unfolding eject
+  fine_eject n v g = record { after = λ s h c. (S.same s, h, g.at s c) }
+
+  pub fine_stop : {A : Type 0} {C : Fact N} (c : Stop) {H : A → Fact N} → Fine C (stop {A = A} c) H
+  unfolding stop
+  fine_stop r = record { after = λ s h c. (S.same s, h) }
+
+  more_ends : {A : Type 0} (P H : A → Fact N) (s : Vat N) (d : Done N A) → ((a : A) → Gets (P a) (H a)) → Ends P s d → Ends H s d
+  more_ends P H s (Gives a t) g h = (h.0, h.1, (g a).at t h.2)
+  more_ends P H s (Throws p t) g h = h
+  more_ends P H s (Ejects n v t) g h = h
+  more_ends P H s (Stops r t) g h = h
+
+  pub fine_more : {A : Type 0} {C : Fact N} {m : Act N A} (P H : A → Fact N) → Fine C m P → ((a : A) → Gets (P a) (H a)) → Fine C m H
+  fine_more {m = m} P H h g = record { after = λ s i c. more_ends P H s (m s) g (h.after s i c) }
+
+  pub fine_left : {A : Type 0} {C D : Fact N} {m : Act N A} {H : A → Fact N} → Fine C m H → Fine (Also C D) m H
+  fine_left h = record { after = λ s i c. h.after s i c.0 }
+
+  pub fine_under : {A : Type 0} {C D : Fact N} {m : Act N A} {H : A → Fact N} → Gets C D → Fine D m H → Fine C m H
+  fine_under g h = record { after = λ s i c. h.after s i (g.at s c) }
+
+  pub fine_look : {A : Type 0} {C : Fact N} (f : Vat N → A) → Fine C (look f) nothing
+  unfolding look
+  fine_look f = record { after = λ s h c. (S.same s, h, tt) }
+
+  -- a fact on what is looked at
+  pub fine_sees : {A : Type 0} {C : Fact N} (f : Vat N → A) (H : A → Fact N) → ((s : Vat N) → Sound S s → Holds (S.ok s) C → Holds (S.ok s) (H (f s))) → Fine C (look f) H
+  unfolding look
+  fine_sees f H g = record { after = λ s h c. (S.same s, h, g s h c) }
+
+  pub fine_tell : {C : Fact N} (e : Happened N) → Fine C (tell e) nothing
+  unfolding tell
+  fine_tell e = record { after = λ s h c. let r = S.happened s e in (r.0, record { parts = still s _ r.0 h; more = r.1 h.more }, tt) }
+
+  spend_ends : (s : Vat N) (n : ℕ) (b : Bool) → Sound S s → Ends nothing s (spent n b s)
+  unfolding spent
+  spend_ends s n true h = let r = S.fuel s n in (r.0, record { parts = still s _ r.0 h; more = r.1 h.more }, tt)
+  spend_ends s n false h = (S.same s, h)
+
+  pub fine_spend : {C : Fact N} (n : ℕ) → Fine C (spend n) nothing
+  unfolding spend
+  fine_spend n = record { after = λ s h c. spend_ends s n (nat_le n s.fuel) h }
+
+  pub fine_activation : {C : Fact N} → Fine C new_activation nothing
+  unfolding new_activation
+  fine_activation = record { after = λ s h c. let r = S.activations s in (r.0, record { parts = still s _ r.0 h; more = r.1 h.more }, tt) }
+
+  pub fine_thing : {C : Fact N} (x : Thing N) → Gets C (IsThing x) → Fine C (new_thing x) nothing
+  unfolding new_thing
+  fine_thing x g = record {
+    after = λ s h c. let r = S.thing s x in let t = record s { things = s.things ++ x ∷ [] } in let p = still s t r.0 h in
+        (r.0, record { parts = record { things = all_end (ThingOk (S.ok t)) s.things x p.things (thing_up (S.ok s) (S.ok t) (S.up s t r.0) x (g.at s c)); slots = p.slots; lists = p.lists; queue = p.queue; known = p.known; gifts = p.gifts; outbox = p.outbox }; more = r.1 h.more }, tt);
+  }
+
+  dead_ok : (P : Bit N → Type 0) (x : Thing N) → ThingOk P x → ThingOk P (dead x)
+  unfolding dead
+  dead_ok P (Made node caught stamps) h = h
+  dead_ok P (Ejector live) h = tt
+  dead_ok P (Audition live view) h = h
+  dead_ok P (Resolver p) h = h
+
+  change_ok : {A : Type 0} (P : A → Type 0) (f : A → A) → ((x : A) → P x → P (f x)) → (n : ℕ) (xs : List A) → AllOf P xs → AllOf P (change f n xs)
+  unfolding change
+  change_ok P f k n [] h = tt
+  change_ok P f k zero (x ∷ xs) h = (k x h.0, h.1)
+  change_ok P f k (suc n) (x ∷ xs) h = (h.0, change_ok P f k n xs h.1)
+
+  pub fine_kill : {C : Fact N} (n : ℕ) → Fine C (kill n) nothing
+  unfolding kill
+  fine_kill n = record {
+    after = λ s h c. let r = S.killed s n in let t = record s { things = change dead n s.things } in let p = still s t r.0 h in
+        (r.0, record { parts = record { things = change_ok (ThingOk (S.ok t)) dead (dead_ok (S.ok t)) n s.things p.things; slots = p.slots; lists = p.lists; queue = p.queue; known = p.known; gifts = p.gifts; outbox = p.outbox }; more = r.1 h.more }, tt);
+  }
+
+  pub fine_slot : {C : Fact N} (g v : Value N) → Gets C (IsValue g) → Gets C (IsValue v) → Fine C (new_slot g v) nothing
+  unfolding new_slot
+  fine_slot g v i j = record {
+    after = λ s h c. let x : Cell N = record { guard = g; value = v } in let r = S.slot s x in let t = record s { slots = s.slots ++ x ∷ [] } in let p = still s t r.0 h in
+        (r.0, record { parts = record { things = p.things; slots = all_end (CellOk (S.ok t)) s.slots x p.slots (cell_up (S.ok s) (S.ok t) (S.up s t r.0) x (i.at s c, j.at s c)); lists = p.lists; queue = p.queue; known = p.known; gifts = p.gifts; outbox = p.outbox }; more = r.1 h.more }, tt);
+  }
+
+  pub fine_write : {C : Fact N} (n : ℕ) (v : Value N) → Gets C (IsValue v) → Fine C (write_slot n v) nothing
+  unfolding write_slot holding
+  fine_write {C = C} n v g = record {
+    after = λ s h c. let r = S.written s n v in let t = record s { slots = change (holding v) n s.slots } in let p = still s t r.0 h in
+        let w : ValueOk (S.ok t) v = rise s t r.0 (IsValue v) (g.at s c) in
+        (r.0, record { parts = record { things = p.things; slots = change_ok (CellOk (S.ok t)) (holding v) (λ x k. (k.0, w)) n s.slots p.slots; lists = p.lists; queue = p.queue; known = p.known; gifts = p.gifts; outbox = p.outbox }; more = r.1 h.more }, tt);
+  }
+
+  pub fine_list : {C : Fact N} (vs : List (Value N)) → Gets C (AreValues vs) → Fine C (new_list vs) nothing
+  unfolding new_list
+  fine_list vs g = record {
+    after = λ s h c. let r = S.list s vs in let t = record s { lists = s.lists ++ vs ∷ [] } in let p = still s t r.0 h in
+        (r.0, record { parts = record { things = p.things; slots = p.slots; lists = all_end (ValuesOk (S.ok t)) s.lists vs p.lists (rise s t r.0 (AreValues vs) (g.at s c)); queue = p.queue; known = p.known; gifts = p.gifts; outbox = p.outbox }; more = r.1 h.more }, tt);
+  }
+
+  pub fine_enqueue : {C : Fact N} (m : Message N) → Gets C (IsMessage m) → Fine C (enqueue m) nothing
+  unfolding enqueue
+  fine_enqueue m g = record {
+    after = λ s h c. let r = S.queue s m in let t = record s { queue = s.queue ++ m ∷ [] } in let p = still s t r.0 h in
+        (r.0, record { parts = record { things = p.things; slots = p.slots; lists = p.lists; queue = all_end (MessageOk (S.ok t)) s.queue m p.queue (rise s t r.0 (IsMessage m) (g.at s c)); known = p.known; gifts = p.gifts; outbox = p.outbox }; more = r.1 h.more }, tt);
+  }
+
+  pub fine_out : {C : Fact N} (to : ℕ) (n : Note N) → Gets C (NoteDoes n) → Fine C (send_out to n) nothing
+  unfolding send_out
+  fine_out to n g = record {
+    after = λ s h c. let q : Put N = record { to = to; note = n } in let r = S.outbox s q (g.at s c) in let t = record s { outbox = s.outbox ++ q ∷ [] } in let p = still s t r.0 h in
+        (r.0, record { parts = record { things = p.things; slots = p.slots; lists = p.lists; queue = p.queue; known = p.known; gifts = p.gifts; outbox = all_end (PutOk (S.ok t)) s.outbox q p.outbox (rise s t r.0 (NoteDoes n) (g.at s c)) }; more = r.1 h.more }, tt);
+  }
+
+  pub fine_gift : {C : Fact N} (n : N) (p i : ℕ) → Gets C (IsName n) → Gets C (IsDraw i) → Fine C (new_gift n p i) nothing
+  unfolding new_gift
+  fine_gift n w i g k = record {
+    after = λ s h c. let x : GiftEntry N = record { name = n; provider = w; number = i; opened = false } in let r = S.gift s x (g.at s c, k.at s c) in let t = record s { gifts = s.gifts ++ x ∷ [] } in let p = still s t r.0 h in
+        (r.0, record { parts = record { things = p.things; slots = p.slots; lists = p.lists; queue = p.queue; known = p.known; gifts = all_end (GiftOk (S.ok t)) s.gifts x p.gifts (rise s t r.0 (IsGiftEntry x) (g.at s c, k.at s c)); outbox = p.outbox }; more = r.1 h.more }, tt);
+  }
+
+  opened_either : (P : Bit N → Type 0) (b : Bool) (g k : GiftEntry N) (gs ks : List (GiftEntry N)) → GiftOk P g → GiftOk P k → AllOf (GiftOk P) gs → AllOf (GiftOk P) ks → AllOf (GiftOk P) (elim b [ true ↦ g ∷ gs | false ↦ k ∷ ks ])
+  opened_either P true g k gs ks a b c d = (a, c)
+  opened_either P false g k gs ks a b c d = (b, d)
+
+  opened_ok : (P : Bit N → Type 0) (p i : ℕ) (gs : List (GiftEntry N)) → AllOf (GiftOk P) gs → AllOf (GiftOk P) (with_opened p i gs)
+  unfolding with_opened
+  opened_ok P p i [] h = tt
+  opened_ok P p i (g ∷ gs) h = opened_either P (is_gift p i g) (record g { opened = true }) g gs (with_opened p i gs) h.0 h.0 h.1 (opened_ok P p i gs h.1)
+
+  pub fine_open : {C : Fact N} (p i : ℕ) → Fine C (open_gift p i) nothing
+  unfolding open_gift
+  fine_open w i = record {
+    after = λ s h c. let r = S.opened s w i in let t = record s { gifts = with_opened w i s.gifts } in let p = still s t r.0 h in
+        (r.0, record { parts = record { things = p.things; slots = p.slots; lists = p.lists; queue = p.queue; known = p.known; gifts = opened_ok (S.ok t) w i s.gifts p.gifts; outbox = p.outbox }; more = r.1 h.more }, tt);
+  }
+
+  pub fine_mark : {C : Fact N} (w : ℕ) → Fine C (mark w) nothing
+  unfolding mark
+  fine_mark w = record { after = λ s h c. let r = S.noticed s w in (r.0, record { parts = still s _ r.0 h; more = r.1 h.more }, tt) }
+
+  pub fine_each : {A : Type 0} {C : Fact N} {f : A → Act N (Unit {0})} (xs : List A) → ((x : A) → Fine C (f x) nothing) → Fine C (each f xs) nothing
+  unfolding each
+  fine_each [] h = fine_give tt (got_nothing _)
+  fine_each (x ∷ xs) h = fine_then nothing (h x) (fine_each xs h)
+
+  draws_ends : (s : Vat N) (w : ℕ) (o : Option ℕ) → Sound S s → Ends IsDraw s (draws w o s)
+  unfolding draws
+  draws_ends s w (Some i) h = (S.same s, h)
+  draws_ends s w None h = let r = S.drawn s w in (r.0, record { parts = still s _ r.0 h; more = r.1 h.more }, r.2)
+
+  -- ---- by what is given
+
+  pub then_unit : {B : Type 0} {C : Fact N} {m : Act N (Unit {0})} {n : Act N B} {H : B → Fact N} → Fine C m nothing → Fine C n H → Fine C (m >> n) H
+  then_unit h k = fine_then nothing h k
+
+  pub then_number : {B : Type 0} {C : Fact N} {m : Act N ℕ} {n : Act N B} {H : B → Fact N} → Fine C m nothing → Fine C n H → Fine C (m >> n) H
+  then_number h k = fine_then nothing h k
+
+  pub then_value : {B : Type 0} {C : Fact N} {m : Act N (Value N)} {n : Act N B} {H : B → Fact N} → Fine C m IsValue → Fine C n H → Fine C (m >> n) H
+  then_value h k = fine_then IsValue h k
+
+  pub then_answer : {B : Type 0} {C : Fact N} {m : Act N (Answer N)} {n : Act N B} {H : B → Fact N} → Fine C m answer → Fine C n H → Fine C (m >> n) H
+  then_answer h k = fine_then answer h k
+
+  pub bind_number : {B : Type 0} {C : Fact N} {m : Act N ℕ} {f : ℕ → Act N B} {H : B → Fact N} → Fine C m nothing → ((a : ℕ) → Fine C (f a) H) → Fine C (m >>= f) H
+  bind_number h k = fine_less nothing h k
+
+  pub bind_draw : {B : Type 0} {C : Fact N} {m : Act N ℕ} {f : ℕ → Act N B} {H : B → Fact N} → Fine C m IsDraw → ((a : ℕ) → Fine (Also C (IsDraw a)) (f a) H) → Fine C (m >>= f) H
+  bind_draw h k = fine_bind IsDraw h k
+
+  pub bind_name : {B : Type 0} {C : Fact N} {m : Act N N} {f : N → Act N B} {H : B → Fact N} → Fine C m IsName → ((a : N) → Fine (Also C (IsName a)) (f a) H) → Fine C (m >>= f) H
+  bind_name h k = fine_bind IsName h k
+
+  pub bind_names : {B : Type 0} {C : Fact N} {m : Act N (N × N)} {f : N × N → Act N B} {H : B → Fact N} → Fine C m new_names → ((a : N × N) → Fine (Also C (Also (IsMail a.0) (IsName a.1))) (f a) H) → Fine C (m >>= f) H
+  bind_names h k = fine_bind new_names h k
+
+  pub bind_flag : {B : Type 0} {C : Fact N} {m : Act N Bool} {f : Bool → Act N B} {H : B → Fact N} → Fine C m nothing → ((a : Bool) → Fine C (f a) H) → Fine C (m >>= f) H
+  bind_flag h k = fine_less nothing h k
+
+  pub bind_place : {B : Type 0} {C : Fact N} {m : Act N (Place N)} {f : Place N → Act N B} {H : B → Fact N} → Fine C m IsPlace → ((a : Place N) → Fine (Also C (IsPlace a)) (f a) H) → Fine C (m >>= f) H
+  bind_place h k = fine_bind IsPlace h k
+
+  pub bind_standing : {B : Type 0} {C : Fact N} {m : Act N (Standing N)} {f : Standing N → Act N B} {H : B → Fact N} → Fine C m nothing → ((a : Standing N) → Fine C (f a) H) → Fine C (m >>= f) H
+  bind_standing h k = fine_less nothing h k
+
+  pub bind_gifts : {B : Type 0} {C : Fact N} {m : Act N (List (GiftEntry N))} {f : List (GiftEntry N) → Act N B} {H : B → Fact N} → Fine C m AreGifts → ((a : List (GiftEntry N)) → Fine (Also C (AreGifts a)) (f a) H) → Fine C (m >>= f) H
+  bind_gifts h k = fine_bind AreGifts h k
+
+  pub bind_gift : {B : Type 0} {C : Fact N} {m : Act N (Option (GiftEntry N))} {f : Option (GiftEntry N) → Act N B} {H : B → Fact N} → Fine C m MayGift → ((a : Option (GiftEntry N)) → Fine (Also C (MayGift a)) (f a) H) → Fine C (m >>= f) H
+  bind_gift h k = fine_bind MayGift h k
+
+  pub bind_knowns : {B : Type 0} {C : Fact N} {m : Act N (List (Known N))} {f : List (Known N) → Act N B} {H : B → Fact N} → Fine C m AreKnown → ((a : List (Known N)) → Fine (Also C (AreKnown a)) (f a) H) → Fine C (m >>= f) H
+  bind_knowns h k = fine_bind AreKnown h k
+
+  pub bind_value : {B : Type 0} {C : Fact N} {m : Act N (Value N)} {f : Value N → Act N B} {H : B → Fact N} → Fine C m IsValue → ((a : Value N) → Fine (Also C (IsValue a)) (f a) H) → Fine C (m >>= f) H
+  bind_value h k = fine_bind IsValue h k
+
+  pub bind_values : {B : Type 0} {C : Fact N} {m : Act N (List (Value N))} {f : List (Value N) → Act N B} {H : B → Fact N} → Fine C m AreValues → ((a : List (Value N)) → Fine (Also C (AreValues a)) (f a) H) → Fine C (m >>= f) H
+  bind_values h k = fine_bind AreValues h k
+
+  pub bind_scope : {B : Type 0} {C : Fact N} {m : Act N (Scope N)} {f : Scope N → Act N B} {H : B → Fact N} → Fine C m scope → ((a : Scope N) → Fine (Also C (AreNouns a.nouns)) (f a) H) → Fine C (m >>= f) H
+  bind_scope h k = fine_bind scope h k
+
+  pub bind_answer : {B : Type 0} {C : Fact N} {m : Act N (Answer N)} {f : Answer N → Act N B} {H : B → Fact N} → Fine C m answer → ((a : Answer N) → Fine (Also C (Also (IsValue a.value) (AreNouns a.scope.nouns))) (f a) H) → Fine C (m >>= f) H
+  bind_answer h k = fine_bind answer h k
+
+  pub bind_answers : {B : Type 0} {C : Fact N} {m : Act N (Answers N)} {f : Answers N → Act N B} {H : B → Fact N} → Fine C m answers → ((a : Answers N) → Fine (Also C (Also (AreValues a.values) (AreNouns a.scope.nouns))) (f a) H) → Fine C (m >>= f) H
+  bind_answers h k = fine_bind answers h k
+
+  pub bind_may_value : {B : Type 0} {C : Fact N} {m : Act N (Option (Value N))} {f : Option (Value N) → Act N B} {H : B → Fact N} → Fine C m MayValue → ((a : Option (Value N)) → Fine (Also C (MayValue a)) (f a) H) → Fine C (m >>= f) H
+  bind_may_value h k = fine_bind MayValue h k
+
+  pub bind_may_cell : {B : Type 0} {C : Fact N} {m : Act N (Option (Cell N))} {f : Option (Cell N) → Act N B} {H : B → Fact N} → Fine C m MayCell → ((a : Option (Cell N)) → Fine (Also C (MayCell a)) (f a) H) → Fine C (m >>= f) H
+  bind_may_cell h k = fine_bind MayCell h k
+
+  pub bind_may_thing : {B : Type 0} {C : Fact N} {m : Act N (Option (Thing N))} {f : Option (Thing N) → Act N B} {H : B → Fact N} → Fine C m MayThing → ((a : Option (Thing N)) → Fine (Also C (MayThing a)) (f a) H) → Fine C (m >>= f) H
+  bind_may_thing h k = fine_bind MayThing h k
+
+  pub bind_may_known : {B : Type 0} {C : Fact N} {m : Act N (Option (Known N))} {f : Option (Known N) → Act N B} {H : B → Fact N} → Fine C m MayKnown → ((a : Option (Known N)) → Fine (Also C (MayKnown a)) (f a) H) → Fine C (m >>= f) H
+  bind_may_known h k = fine_bind MayKnown h k
+
+  pub bind_reply : {B : Type 0} {C : Fact N} {m : Act N (Reply N)} {f : Reply N → Act N B} {H : B → Fact N} → Fine C m IsReply → ((a : Reply N) → Fine (Also C (IsReply a)) (f a) H) → Fine C (m >>= f) H
+  bind_reply h k = fine_bind IsReply h k
+
+  pub bind_bound : {B : Type 0} {C : Fact N} {m : Act N (Bound N)} {f : Bound N → Act N B} {H : B → Fact N} → Fine C m IsBound → ((a : Bound N) → Fine (Also C (IsBound a)) (f a) H) → Fine C (m >>= f) H
+  bind_bound h k = fine_bind IsBound h k
+
+  pub bind_passed : {B : Type 0} {C : Fact N} {m : Act N (Passed N)} {f : Passed N → Act N B} {H : B → Fact N} → Fine C m DoesPass → ((a : Passed N) → Fine (Also C (DoesPass a)) (f a) H) → Fine C (m >>= f) H
+  bind_passed h k = fine_bind DoesPass h k
+
+  pub bind_passeds : {B : Type 0} {C : Fact N} {m : Act N (Passeds N)} {f : Passeds N → Act N B} {H : B → Fact N} → Fine C m DoAllPass → ((a : Passeds N) → Fine (Also C (DoAllPass a)) (f a) H) → Fine C (m >>= f) H
+  bind_passeds h k = fine_bind DoAllPass h k
+
+  pub bind_parcel : {B : Type 0} {C : Fact N} {m : Act N (Parcel N)} {f : Parcel N → Act N B} {H : B → Fact N} → Fine C m parcel → ((a : Parcel N) → Fine (Also C (DoesPass a.value)) (f a) H) → Fine C (m >>= f) H
+  bind_parcel h k = fine_bind parcel h k
+
+  pub end_value : {B : Type 0} {C : Fact N} {m : Act N (Value N)} {f : Value N → Act N B} {k : Words → Act N B} {l : ℕ → Value N → Act N B} {H : B → Fact N} → Fine C m IsValue
+      → ((a : Value N) → Fine (Also C (IsValue a)) (f a) H) → ((p : Words) → Fine C (k p) H) → ((n : ℕ) (v : Value N) → Fine (Also C (IsValue v)) (l n v) H) → Fine C (ending f k l m) H
+  end_value h x y z = fine_ending IsValue h x y z
+
+  pub end_scope : {B : Type 0} {C : Fact N} {m : Act N (Scope N)} {f : Scope N → Act N B} {k : Words → Act N B} {l : ℕ → Value N → Act N B} {H : B → Fact N} → Fine C m scope
+      → ((a : Scope N) → Fine (Also C (AreNouns a.nouns)) (f a) H) → ((p : Words) → Fine C (k p) H) → ((n : ℕ) (v : Value N) → Fine (Also C (IsValue v)) (l n v) H) → Fine C (ending f k l m) H
+  end_scope h x y z = fine_ending scope h x y z
+
+  pub end_answer : {B : Type 0} {C : Fact N} {m : Act N (Answer N)} {f : Answer N → Act N B} {k : Words → Act N B} {l : ℕ → Value N → Act N B} {H : B → Fact N} → Fine C m answer
+      → ((a : Answer N) → Fine (Also C (Also (IsValue a.value) (AreNouns a.scope.nouns))) (f a) H) → ((p : Words) → Fine C (k p) H) → ((n : ℕ) (v : Value N) → Fine (Also C (IsValue v)) (l n v) H) → Fine C (ending f k l m) H
+  end_answer h x y z = fine_ending answer h x y z
+
+module _ {N W : Type 0} (K : Naming N W) (S : Care N) (law : Under K S) where
+  pub got_object : (C : Fact N) (i : ℕ) → Gets S C (IsName (K.object i))
+  got_object C i = record { at = λ s h. law.object s i }
+
+  pub fine_draw : {C : Fact N} → Fine S C (draw K) IsDraw
+  unfolding draw
+  fine_draw = record { after = λ s h c. draws_ends S s _ _ h }
+
+  to_ok : (P : Bit N → Type 0) (c : Change N) (k : Known N) → ChangeOk P c → KnownOk P k → KnownOk P (changed_to c k)
+  unfolding changed_to
+  to_ok P (Hold m) k g h = (h.0, h.1, all_end (MessageOk P) k.held m h.2 g, h.3, h.4)
+  to_ok P (Wait q) k g h = (h.0, h.1, h.2, all_end (NameOk P) k.waiting q h.3 g, h.4)
+  to_ok P (WaitOn q) k g h = (h.0, g, h.2, h.3, h.4)
+  to_ok P (See q) k g h = (h.0, g, h.2, h.3, h.4)
+  to_ok P (React m) k g h = (h.0, h.1, h.2, h.3, all_end (MessageOk P) k.reactions m h.4 g)
+  to_ok P (ToTell w) k g h = h
+  to_ok P (Settle y) k g h = (h.0, g, tt, tt, tt)
+
+  unless_ok : (P : Bit N → Type 0) (x : Standing N) (k new : Known N) → KnownOk P k → KnownOk P new → KnownOk P (unless_settled x k new)
+  unfolding unless_settled
+  unless_ok P (Settled y) k new h i = h
+  unless_ok P Unsettled k new h i = i
+  unless_ok P (WaitsOn q) k new h i = i
+  unless_ok P (Viewed q) k new h i = i
+
+  either_ok : (P : Bit N → Type 0) (b : Bool) (k j : Known N) (ks js : List (Known N)) → KnownOk P k → KnownOk P j → AllOf (KnownOk P) ks → AllOf (KnownOk P) js → AllOf (KnownOk P) (elim b [ true ↦ k ∷ ks | false ↦ j ∷ js ])
+  either_ok P true k j ks js a b c d = (a, c)
+  either_ok P false k j ks js a b c d = (b, d)
+
+  changes_ok : (P : Bit N → Type 0) (c : Change N) (n : N) (ks : List (Known N)) → ChangeOk P c → AllOf (KnownOk P) ks → AllOf (KnownOk P) (with_change K c n ks)
+  unfolding with_change changed
+  changes_ok P c n [] g h = tt
+  changes_ok P c n (k ∷ ks) g h = either_ok P (K.same k.name n) (changed c k) k ks (with_change K c n ks) (unless_ok P k.standing k (changed_to c k) h.0 (to_ok P c k g h.0)) h.0 h.1 (changes_ok P c n ks g h.1)
+
+  pub fine_alter : {C : Fact N} (c : Change N) (n : N) → Gets S C (IsChange c) → Fine S C (alter K c n) nothing
+  unfolding alter
+  fine_alter d n g = record {
+    after = λ s h c. let r = law.altered s d n (g.at s c) in let t = record s { known = with_change K d n s.known } in let p = still S s t r.0 h in
+        let e : ChangeOk (S.ok t) d = holds_up (S.ok s) (S.ok t) (S.up s t r.0) (IsChange d) (g.at s c) in
+        (r.0, record { parts = record { things = p.things; slots = p.slots; lists = p.lists; queue = p.queue; known = changes_ok (S.ok t) d n s.known e p.known; gifts = p.gifts; outbox = p.outbox }; more = r.1 h.more }, tt);
+  }
+
+  pub begun_ok : (P : Bit N → Type 0) (n : N) (h : ℕ) → P (Named n) → KnownOk P (begun n h)
+  unfolding begun
+  begun_ok P n h g = (g, tt, tt, tt, tt)
+
+  pub with_known : (s t : Vat N) (n : N) (h : ℕ) → S.rel s t → S.ok t (Named n) → Sound S s → Parts (S.ok t) s.things s.slots s.lists s.queue (s.known ++ begun n h ∷ []) s.gifts s.outbox
+  with_known s t n w r g h = let p = still S s t r h in
+      record { things = p.things; slots = p.slots; lists = p.lists; queue = p.queue; known = all_end (KnownOk (S.ok t)) s.known (begun n w) p.known (begun_ok (S.ok t) n w g); gifts = p.gifts; outbox = p.outbox }
+
+  pub come_answer : {C : Fact N} (h : ℕ) (m : N) → Gets S C (IsMail m) → Fine S C (come K (IsAnswer h m) h) IsName
+  unfolding come
+  come_answer w m g = record { after = λ s h c. let r = law.answered s w m (g.at s c) in (r.0, record { parts = with_known s _ _ w r.0 r.2 h; more = r.1 h.more }, r.2) }
+
+  pub come_gift : {C : Fact N} (h i : ℕ) → Gets S C (IsDraw i) → Fine S C (come K (IsGift h i) h) IsName
+  unfolding come
+  come_gift w i g = record { after = λ s h c. let r = law.given s w i (g.at s c) in (r.0, record { parts = with_known s _ _ w r.0 r.2 h; more = r.1 h.more }, r.2) }
+
+  pub fine_promise : {C : Fact N} → Fine S C (new_promise K) IsName
+  unfolding new_promise
+  fine_promise = record { after = λ s h c. let r = law.promised s in (r.0, record { parts = with_known s _ _ s.number r.0 r.2 h; more = r.1 h.more }, r.2) }
+
+  pub fine_new_message : {C : Fact N} (h : ℕ) → Fine S C (new_message K h) new_names
+  unfolding new_message
+  fine_new_message w = record { after = λ s h c. let r = law.messaged s w in (r.0, record { parts = with_known s _ _ w r.0 r.3 h; more = r.1 h.more }, (r.2, r.3)) }
+
+pub ruleset gets = (got, got_left, got_right, got_itself, got_both, got_nothing, got_null, got_flag, got_number, got_text, got_prim, got_broken, got_items, got_ref, got_object, got_none, got_more, got_message, got_hold, got_react, got_settle, got_wait, got_wait_on, got_see, got_to_tell, got_ejector, got_resolver, got_audition)
+
+pub ruleset fine = (gets, then_unit, then_number, then_value, then_answer, bind_number, bind_draw, bind_name, bind_names, bind_flag, bind_place, bind_standing, bind_gifts, bind_gift, bind_knowns, bind_value, bind_values, bind_scope, bind_answer, bind_answers, bind_may_value, bind_may_cell, bind_may_thing, bind_may_known, bind_reply, bind_bound, bind_passed, bind_passeds, bind_parcel, end_value, end_scope, end_answer, fine_some, fine_if, fine_give, fine_throw, fine_eject, fine_stop, fine_look, fine_tell, fine_spend, fine_activation, fine_thing, fine_kill, fine_slot, fine_write, fine_list, fine_enqueue, fine_out, fine_gift, fine_open, fine_mark, fine_each, fine_draw, fine_alter, come_answer, come_gift, fine_promise, fine_new_message)

@@ -1,0 +1,14 @@
+pub mod Facts
+pub mod Care
+pub mod Looks
+pub mod Natives
+pub mod CareRefs
+pub mod EvalFacts
+pub mod CareEval
+pub mod Among
+pub mod Tracked
+pub mod CareArrive
+pub mod SameNames
+pub mod Learn
+pub mod Run
+pub mod Laws

@@ -1,0 +1,4 @@
+//! Laws of names over every run of the machine.
+#![tactic(auto)]
+
+pub mod names;
