@@ -14,7 +14,7 @@ expression_deep tree zero id here s e = refl
 expression_deep tree (suc d) id here s e = cc
 
 pub expression_goes : (tree : List Node) (d id : ℕ) (here : Scope) (s : Room) → 0 < d
-    → (evaluator tree d).expression id here s ≡ (spend >> step_found (evaluator tree (d - 1)) (slice_get tree id) here) s
+    → (evaluator tree d).expression id here s ≡ (spend >> step_found tree (evaluator tree (d - 1)) id (slice_get tree id) here) s
 unfolding evaluator deeper
 expression_goes tree zero id here s h = absurd (omega arith)
 expression_goes tree (suc d) id here s h = rw sub-one refl

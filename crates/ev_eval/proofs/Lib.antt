@@ -1,4 +1,8 @@
+pub mod Cells
 pub mod Depth
 pub mod Exits
 pub mod Meets
+pub mod Objects
+pub mod Stands
+pub mod Things
 pub mod Words

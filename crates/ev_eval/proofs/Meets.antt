@@ -1,28 +1,32 @@
 -- Evaluation over the state of the code is the machine's, on the trees that are built.
 use Rattle.std.proofs.Common.{◌≡◌, ℕ, zero, suc, ◌+◌, ◌-◌, Bool, true, false, List, [], ◌∷◌, ◌++◌, Option, Some, None, Ok, Err, length, map, refl, sym, ap, subst, ◌∙◌, arith, append_assoc, append-nil}
-use Rattle.std.specs.Prelude.{ℤ, ◌+ℤ◌, Result, slice_get, codes, if◌then◌else◌, option_map, nat_le, is_none}
-use Rattle.std.specs.List.{position}
+use Rattle.std.specs.Prelude.{OnOk, not, reverse, ◌&&◌, ◌||◌, ◌==◌, ℤ, ◌+ℤ◌, Result, slice_get, slice_set, codes, if◌then◌else◌, option_map, nat_le, is_none}
+use Rattle.std.specs.List.{position, list_any}
 use Rattle.std.specs.Str.{bytes_eq}
-use Rattle.std.proofs.lemmas.List.{map-append}
+use Rattle.std.proofs.lemmas.List.{map-append, length-map}
+use Rattle.std.proofs.lemmas.Option.{slice_get-map}
 use Rattle.std.proofs.lemmas.Slice.Eq.{bytes_eq-Decides}
 use Rattle.ev_base.specs.SafeScope.{primitives, safe_value}
+use Rattle.ev_base.specs.declared.values.Value.{Value as HeldValue}
 use Rattle.ev_base.specs.declared.values.Value.TheVariants as held
 use Rattle.ev_heap.specs.declared.happened.Happened.{Happened as Event}
 use Rattle.ev_heap.specs.declared.happened.Happened.TheVariants as event
 use Rattle.ev_kernel.specs.declared.node.Literal.{Literal}
 use Rattle.ev_kernel.specs.declared.node.Literal.TheVariants as literal
 use Rattle.ev_kernel.specs.declared.node.Node.{Node}
-use Rattle.ev_kernel.specs.declared.node.Node.TheVariants.{Lit, Noun, Set, Def, Call, Sequence, If, Escape, Try, Finally, Hide, MatchBind, Object, Method, Matcher, Final, Var, Any, ListPattern, Via}
-use Rattle.ev_machine.specs.Values.{Words, Value, Null, Flag, Number, Local}
-use Rattle.ev_machine.specs.State.{Bound, Fixed, Binding as Bond, Scope as Surroundings, Happened, Called, Back, Thrown, Vat, Done, Throws, Ejects, Stops, Fuel, Deep, Astray, for_some, opened_state}
+use Rattle.ev_kernel.specs.declared.node.Node.TheVariants.{Lit, Noun, Set, Def, Call, Sequence, If, Escape, Try, Finally, Hide, MatchBind, Object as ObjectNode, Method, Matcher, Final, Var, Any, ListPattern, Via}
+use Rattle.ev_machine.specs.Values.{Words, Value, Null, Flag, Number, Ref, Local, Obj, Prom, Far, Mess, same_local, local_spot, numbering}
+use Rattle.ev_machine.specs.State.{Bound, Fixed, Slot, Cell as TheirCell, Binding as Bond, Scope as Surroundings, Happened, Called, Back, Thrown, SlotMade, SlotRead, SlotWrote, ObjectMade, Made, Known, Vat, Done, Throws, Ejects, Stops, Fuel, Deep, Astray, for_some, opened_state}
 use Rattle.ev_machine.specs.State as machine
-use Rattle.ev_machine.specs.Ints.{fits, opened_ints}
-use Rattle.ev_machine.specs.Native.{by_int, opened_native}
-use Rattle.ev_machine.specs.Free.{same_words}
+use Rattle.ev_machine.specs.Ints.{fits, Add, Subtract, Multiply, FloorDivide, Remainder, Mod, Pow, And, Or, Xor, opened_ints}
+use Rattle.ev_machine.specs.Native.{by_int, data_reply, int_reply, int_alone, int_with, int_unary, int_binary, IntVerb, Applies, Negates, AsChar, NoIntVerb, no_method, opened_native}
+use Rattle.ev_machine.specs.Refs.{follow, follow_at, led, standing_of, standing_in, severed, severed_at, entry_of}
+use Rattle.ev_machine.specs.Free.{same_words, entry, free_nouns}
+use Rattle.ev_form.specs.FreeNames.{free_names, counted}
+use mathlib.Core.List.{reverse_aux}
 use Rattle.ev_machine.specs.Scopes.{Answer, Answers, any_guard, bound_in}
 use Rattle.ev_machine.specs.Eval.{opened_eval}
 use Rattle.ev_machine.specs.Scopes as scopes
-use Rattle.ev_machine.specs.Perform as perform
 use Rattle.ev_machine.specs.Calls as calls
 use Rattle.ev_machine.specs.Eval as theirs
 use Rattle.ev_machine.specs.Native as native
@@ -30,263 +34,28 @@ use Rattle.ev_eval.specs.declared.exit.Exit.{Exit}
 use Rattle.ev_eval.specs.declared.exit.Exit.TheVariants as exit
 use Rattle.ev_eval.specs.declared.exit.Problem.{Problem}
 use Rattle.ev_eval.specs.declared.exit.Problem.TheVariants.{Overflow, NotInt, NoMethod}
+use Rattle.ev_eval.specs.declared.object.Object.{Object}
 use Rattle.ev_eval.specs.declared.plain.Plain.{Plain}
 use Rattle.ev_eval.specs.declared.plain.Plain.TheVariants as plain
 use Rattle.ev_eval.specs.declared.room.Room.{Room}
 use Rattle.ev_eval.specs.declared.scope.Binding.{Binding}
+use Rattle.ev_eval.specs.declared.scope.Bound.{Bound as Held}
+use Rattle.ev_eval.specs.declared.scope.Bound.TheVariants as scope
+use Rattle.ev_heap.specs.declared.kept.Cell.{Cell}
+use Rattle.ev_heap.specs.declared.kept.Thing.{Thing as HeldThing}
 use Rattle.ev_eval.specs.declared.scope.Scope.{Scope}
-use Rattle.ev_eval.specs.Built.{is_int, is_built_safe, is_built_node, is_built}
-use Rattle.ev_eval.specs.Reading.{World, names, text_of, value_of, line_of, lines_of, vat_of}
-use Rattle.ev_eval.specs.Steps.{Out, Act, Gives, Evaluator, and_then, ◌>>=◌, ◌>>◌, give, fail, answer, tell, spent, spend, new_activation, held_value, found_from, safe_plain, noun_value_of, noun_value, with_noun, problem_id, sum, added, sum_of, ended, call_add, call, gathered, last_of, call_node, define, literal_value, in_scope, step, bind_final, bind_step, step_found, bind_found, deeper, evaluator, opening, opened_steps}
+use Rattle.ev_eval.specs.Built.{is_int, is_nil, is_built_safe, is_built_verb, unbuilt_unary, unbuilt_binary, is_built_node, is_built}
+use Rattle.ev_eval.specs.Reading.{World, names, all_promises, is_promise, text_of, value_of, cell_of, thing_of, caught_in, capture_in, line_of, lines_of, vat_of}
+use Rattle.ev_eval.specs.Plain.{held_value, plain_cell, plain_thing, capture_of, caught_of, IsPlain}
+use Rattle.ev_eval.specs.Steps.{Out, Act, Gives, Evaluator, and_then, ◌>>=◌, ◌>>◌, give, fail, answer, tell, spent, spend, new_activation, plain_of, new_slot, write_told, slot_read, slot_found, read_slot, slot_written, write_slot, found_from, safe_plain, read_held, read_bound, write_held, write_bound, with_noun, problem_id, sum, added, sum_of, ended, data_answer, call_data, call_plain, call, bound_back, with_back, all_back, with_bound, captures, new_object, named, object_made, object_in, make_object, object_node, bind_all, suits, first_method, run_method, run_found, run_object, closed_by, closed, call_made, object_back, code_of, code_in, look_code, call_object, gathered, last_of, call_node, define, literal_value, literal_node, noun_node, set_node, step, bind_final, bind_var, bind_any, bind_step, step_found, bind_found, deeper, evaluator, opening, opened_steps}
 use Rattle.ev_base.specs.declared.memory.Memory.{Memory}
 use Rattle.ev_eval.specs.declared.turn.Ended.{Ended}
 use Rattle.ev_eval.specs.Turn.{Ends, EndsAs, opened}
-use Rattle.ev_eval.proofs.Words.{same_is, safe_is, chosen, others, no_others}
-
--- what the state of the code stands for
-abbrev pub vat : World → Room → Vat Local
-vat w s = vat_of w s.heap s.micro
-
-abbrev pub val : World → Plain → Value Local
-val w v = value_of w (held_value v)
-
-abbrev pub bond_of : World → Binding → Bond Local
-bond_of w b = record { noun = b.noun; bound = Fixed (val w b.value) any_guard }
-
--- bindings, the last one first, onto others
-unfoldable pub bonds_onto : World → List (Bond Local) → List Binding → List (Bond Local)
-bonds_onto w acc [] = acc
-bonds_onto w acc (b ∷ bs) = bonds_onto w (bond_of w b ∷ acc) bs
-
-abbrev pub scope_of : World → Scope → Surroundings Local
-scope_of w here = record { act = here.act; nouns = bonds_onto w [] here.nouns }
-
-abbrev answer_of : World → (Plain × Scope) → Answer Local
-answer_of w a = record { value = val w a.0; scope = scope_of w a.1 }
-
-abbrev answers_of : World → (List Plain × Scope) → Answers Local
-answers_of w a = record { values = map (val w) a.0; scope = scope_of w a.1 }
-
--- an outcome of the machine is what an outcome over the state of the code stands for
-abbrev pub Stands : {A B : Type 0} → World → (A → B) → Out A → Done Local B → Type 0
-Stands w look (Ok a, s) d = d ≡ machine.Gives (look a) (vat w s)
-Stands w look (Err (exit.Thrown id), s) d = d ≡ Throws (text_of w id) (vat w s)
-Stands w look (Err exit.Fuel, s) d = d ≡ Stops Fuel (vat w s)
-Stands w look (Err exit.Deep, s) d = d ≡ Stops Deep (vat w s)
-Stands w look (Err exit.Astray, s) d = d ≡ Stops Astray (vat w s)
-Stands w look (Err exit.Unbuilt, s) d = ⊥
-Stands w look (Err exit.Memory, s) d = ⊥
-
-pub record Met {A B : Type 0} (w : World) (look : A → B) (o : Out A) (d : Done Local B) : Type 0 where
-  pub stands : Stands w look o d
-
--- ---- one thing after another
-
-then_stands : {A B C D : Type 0} (w : World) (look : A → B) (look' : C → D) (o : Out A) (d : Done Local B) (f : A → Act C) (g : B → machine.Act Local D)
-    → Stands w look o d → ((a : A) (t : Room) → Met w look' (f a t) (g (look a) (vat w t))) → Met w look' (and_then o f) (machine.and_then d g)
-unfolding and_then opened_state
-then_stands {B = B} w look look' (Ok a, s) d f g h k = record { stands = subst (λ (x : Done Local B). Stands w look' (f a s) (machine.and_then x g)) (sym h) (k a s).stands }
-then_stands w look look' (Err (exit.Thrown id), s) d f g h k = record { stands = rw h refl }
-then_stands w look look' (Err exit.Fuel, s) d f g h k = record { stands = rw h refl }
-then_stands w look look' (Err exit.Deep, s) d f g h k = record { stands = rw h refl }
-then_stands w look look' (Err exit.Astray, s) d f g h k = record { stands = rw h refl }
-then_stands w look look' (Err exit.Unbuilt, s) d f g h k = absurd h
-then_stands w look look' (Err exit.Memory, s) d f g h k = absurd h
-
-then_met : {A B C D : Type 0} {w : World} {look : A → B} {look' : C → D} {o : Out A} {d : Done Local B} (f : A → Act C) (g : B → machine.Act Local D)
-    → Met w look o d → ((a : A) (t : Room) → Met w look' (f a t) (g (look a) (vat w t))) → Met w look' (and_then o f) (machine.and_then d g)
-then_met {w = w} {look = look} {look' = look'} {o = o} {d = d} f g h k = then_stands w look look' o d f g h.stands k
-
--- ---- the single changes
-
-spent_met : (w : World) (b : Bool) (s : Room) → Met w (λ (u : Unit {0}). u) (spent b s) (machine.spent 1 b (vat w s))
-unfolding opened_steps opened_state vat_of
-spent_met w true s = record { stands = refl }
-spent_met w false s = record { stands = refl }
-
-spend_met : (w : World) (s : Room) → Met w (λ (u : Unit {0}). u) (spend s) (machine.spend 1 (vat w s))
-unfolding spend opened_state vat_of
-spend_met w s = spent_met w (nat_le 1 s.micro.fuel) s
-
-lines_more : (w : World) (es : List Event) (e : Event) → lines_of w (es ++ e ∷ []) ≡ lines_of w es ++ line_of w e
-unfolding lines_of
-lines_more w [] e = append-nil (line_of w e)
-lines_more w (x ∷ es) e = rw (lines_more w es e) (sym (append_assoc (line_of w x) (lines_of w es) (line_of w e)))
-
-told : (w : World) (es : List Event) (e : Event) (h : Happened Local) → line_of w e ≡ h ∷ []
-    → (w.happened ++ lines_of w es) ++ h ∷ [] ≡ w.happened ++ lines_of w (es ++ e ∷ [])
-told w es e h is = rw (lines_more w es e, is) (append_assoc w.happened (lines_of w es) (h ∷ []))
-
-tell_met : (w : World) (e : Event) (h : Happened Local) (s : Room) → line_of w e ≡ h ∷ [] → Met w (λ (u : Unit {0}). u) (tell e s) (machine.tell h (vat w s))
-unfolding opened_steps opened_state vat_of
-tell_met w e h s is = record { stands = ap (λ (hs : List (Happened Local)). machine.Gives tt (record (vat w s) { happened = hs })) (told w s.micro.events e h is) }
-
--- ---- calls
-
-abbrev problem_words : Problem → Words
-problem_words Overflow = codes "integer overflow"
-problem_words NotInt = codes "not int"
-problem_words NoMethod = codes "no method"
-
-problem_text : (w : World) (p : Problem) → text_of w (problem_id p) ≡ problem_words p
-problem_text w Overflow = refl
-problem_text w NotInt = refl
-problem_text w NoMethod = refl
-
-abbrev outcome : World → Result Plain Problem → machine.Act Local (Value Local)
-outcome w (Ok v) = machine.give (val w v)
-outcome w (Err p) = machine.throw (problem_words p)
-
-back_line : (w : World) (act : ℕ) (v : Plain) → line_of w (event.Back act (held_value v)) ≡ Back act (val w v) ∷ []
-unfolding line_of
-back_line w act v = refl
-
-thrown_line : (w : World) (act : ℕ) (p : Problem) → line_of w (event.Thrown act (held.Text (problem_id p))) ≡ Thrown act (problem_words p) ∷ []
-unfolding line_of
-thrown_line w act p = ap (λ (t : Words). Thrown act t ∷ []) (problem_text w p)
-
-fail_met : (w : World) (p : Problem) (s : Room) → Met w (val w) (fail (exit.Thrown (problem_id p)) s) (machine.throw (problem_words p) (vat w s))
-unfolding opened_steps opened_state
-fail_met w p s = record { stands = ap (λ (t : Words). Throws t (vat w s)) (sym (problem_text w p)) }
-
-give_met : {A B : Type 0} (w : World) (look : A → B) (a : A) (s : Room) → Met w look (give a s) (machine.give (look a) (vat w s))
-unfolding opened_steps opened_state
-give_met w look a s = record { stands = refl }
-
-nothing_met : (w : World) (so_far : List Plain) (here : Scope) (s : Room)
-    → Met w (answers_of w) (give (so_far, here) s) (machine.Gives (record { values = map (val w) so_far ++ []; scope = scope_of w here }) (vat w s))
-unfolding opened_steps
-nothing_met w so_far here s = record { stands = rw (append-nil (map (val w) so_far)) refl }
-
-give_answer_met : (w : World) (v : Plain) (s : Room) → Met w (val w) (answer (Ok v) s) (machine.give (val w v) (vat w s))
-unfolding opened_steps opened_state
-give_answer_met w v s = record { stands = refl }
-
-ended_met : (w : World) (act : ℕ) (r : Result Plain Problem) (m : machine.Act Local (Value Local)) (s : Room)
-    → m (vat w s) ≡ outcome w r (vat w s) → Met w (val w) (ended act r s) (scopes.ended act m (vat w s))
-unfolding ended scopes.ended ◌>>◌ machine.give machine.throw machine.ending machine.end_by machine.◌>>◌
-ended_met w act (Ok v) m s is = rw is (then_met _ _ (tell_met w (event.Back act (held_value v)) (Back act (val w v)) s (back_line w act v)) (λ u t. give_met w (val w) v t))
-ended_met w act (Err p) m s is = rw is (then_met _ _ (tell_met w (event.Thrown act (held.Text (problem_id p))) (Thrown act (problem_words p)) s (thrown_line w act p)) (λ u t. fail_met w p t))
-
-fits_or_not : (w : World) (tree : List Node) (rec : scopes.Caller Local) (act : ℕ) (b : Bool) (z : ℤ) (v : Vat Local)
-    → perform.reply (names w) tree rec act (by_int (elim b [ true ↦ Ok z | false ↦ Err (codes "integer overflow") ])) v ≡ outcome w (if b then Ok (plain.Int z) else Err Overflow) v
-unfolding opened_eval opened_native
-fits_or_not w tree rec act true z v = refl
-fits_or_not w tree rec act false z v = refl
-
-answer_is : (w : World) (tree : List Node) (again : scopes.Caller Local) (act : ℕ) (x : Plain) (args : List Plain) (s : Room)
-    → perform.data_answer (names w) tree again act (val w x) (codes "add") (map (val w) args) (vat w s) ≡ outcome w (sum_of x args) (vat w s)
-unfolding opened_eval opened_native opened_steps opened_ints fits
-answer_is w tree again act plain.Null args s = refl
-answer_is w tree again act (plain.Int x) [] s = refl
-answer_is w tree again act (plain.Int x) (plain.Int y ∷ []) s = fits_or_not w tree again act (fits (x +ℤ y)) (x +ℤ y) (vat w s)
-answer_is w tree again act (plain.Int x) (plain.Null ∷ []) s = refl
-answer_is w tree again act (plain.Int x) (y ∷ z ∷ zs) s = refl
-
-vals_is : (w : World) (args : List Plain) → map (value_of w) (map held_value args) ≡ map (val w) args
-vals_is w [] = refl
-vals_is w (x ∷ xs) = ap (λ (vs : List (Value Local)). val w x ∷ vs) (vals_is w xs)
-
-called_line : (w : World) (act : ℕ) (x : Plain) (verb : Words) (args : List Plain)
-    → line_of w (event.Call act (held_value x) verb (map held_value args) None) ≡ Called act (val w x) verb (map (val w) args) None ∷ []
-unfolding line_of
-called_line w act x verb args = ap (λ (vs : List (Value Local)). Called act (val w x) verb vs None ∷ []) (vals_is w args)
-
-call_is : (w : World) (tree : List Node) (rec : scopes.Evaluator Local) (act : ℕ) (x : Plain) (verb : Words) (vs : List (Value Local)) (v : Vat Local)
-    → calls.call (names w) tree rec act (val w x) verb vs v
-    ≡ scopes.with_lines act (val w x) verb vs (perform.data_answer (names w) tree (λ a y u xs. calls.call_at (names w) tree (3 + length v.lists) rec a y u xs) act (val w x) verb vs) v
-unfolding opened_eval
-call_is w tree rec act plain.Null verb vs v =
-    let more : 4 + length v.lists ≡ suc (3 + length v.lists) = omega arith in
-    rw more refl
-call_is w tree rec act (plain.Int z) verb vs v =
-    let more : 4 + length v.lists ≡ suc (3 + length v.lists) = omega arith in
-    rw more refl
-
-with_lines_met : (w : World) (tree : List Node) (again : scopes.Caller Local) (act : ℕ) (x : Plain) (args : List Plain) (s : Room)
-    → Met w (val w) (call_add act x (codes "add") args s) (scopes.with_lines act (val w x) (codes "add") (map (val w) args) (perform.data_answer (names w) tree again act (val w x) (codes "add") (map (val w) args)) (vat w s))
-unfolding call_add scopes.with_lines ◌>>◌ machine.◌>>◌
-with_lines_met w tree again act x args s =
-    then_met _ _ (tell_met w (event.Call act (held_value x) (codes "add") (map held_value args) None) (Called act (val w x) (codes "add") (map (val w) args) None) s (called_line w act x (codes "add") args))
-    (λ u t. ended_met w act (sum_of x args) (perform.data_answer (names w) tree again act (val w x) (codes "add") (map (val w) args)) t (answer_is w tree again act x args t))
-
-call_add_met : (w : World) (tree : List Node) (rec : scopes.Evaluator Local) (act : ℕ) (x : Plain) (args : List Plain) (s : Room)
-    → Met w (val w) (call act x (codes "add") args s) (calls.call (names w) tree rec act (val w x) (codes "add") (map (val w) args) (vat w s))
-unfolding call
-call_add_met w tree rec act x args s =
-    rw (call_is w tree rec act x (codes "add") (map (val w) args) (vat w s))
-    (with_lines_met w tree (λ a y u xs. calls.call_at (names w) tree (3 + length (vat w s).lists) rec a y u xs) act x args s)
-
-call_met : (w : World) (tree : List Node) (rec : scopes.Evaluator Local) (act : ℕ) (x : Plain) (verb : Words) (args : List Plain) (s : Room)
-    → bytes_eq verb (codes "add") ≡ true → Met w (val w) (call act x verb args s) (calls.call (names w) tree rec act (val w x) verb (map (val w) args) (vat w s))
-call_met w tree rec act x verb args s e =
-    let is : verb ≡ codes "add" = (bytes_eq-Decides verb (codes "add")).0 e in
-    subst (λ (v : Words). Met w (val w) (call act x v args s) (calls.call (names w) tree rec act (val w x) v (map (val w) args) (vat w s))) (sym is) (call_add_met w tree rec act x args s)
-
--- ---- nouns
-
-abbrev fixed_of : World → Option Plain → Option (Bound Local)
-fixed_of w (Some v) = Some (Fixed (val w v) any_guard)
-fixed_of w None = None
-
-one_bond : (w : World) (b : Bool) (v : Plain) (found : Option Plain) (o : Option (Bound Local)) → o ≡ fixed_of w found
-    → elim b [ true ↦ Some (Fixed (val w v) any_guard) | false ↦ o ] ≡ fixed_of w (if b then Some v else found)
-one_bond w true v found o h = refl
-one_bond w false v found o h = h
-
-first_bond : (w : World) (b : Binding) (acc : List (Bond Local)) (found : Option Plain) (x : Words) → bound_in acc x ≡ fixed_of w found
-    → bound_in (bond_of w b ∷ acc) x ≡ fixed_of w (if bytes_eq b.noun x then Some b.value else found)
-unfolding bound_in
-first_bond w b acc found x h = rw (same_is b.noun x, bound_in) (one_bond w (bytes_eq b.noun x) b.value found (bound_in acc x) h)
-
-found_is : (w : World) (bs : List Binding) (acc : List (Bond Local)) (found : Option Plain) (x : Words) → bound_in acc x ≡ fixed_of w found
-    → bound_in (bonds_onto w acc bs) x ≡ fixed_of w (found_from found bs x)
-unfolding bonds_onto found_from
-found_is w [] acc found x h = h
-found_is w (b ∷ bs) acc found x h = found_is w bs (bond_of w b ∷ acc) (if bytes_eq b.noun x then Some b.value else found) x (first_bond w b acc found x h)
-
-none_bound : (w : World) (x : Words) → bound_in [] x ≡ fixed_of w None
-unfolding bound_in
-none_bound w x = refl
-
-onto_more : (w : World) (acc : List (Bond Local)) (bs : List Binding) (b : Binding) → bonds_onto w acc (bs ++ b ∷ []) ≡ bond_of w b ∷ bonds_onto w acc bs
-unfolding bonds_onto
-onto_more w acc [] b = refl
-onto_more w acc (c ∷ bs) b = onto_more w (bond_of w c ∷ acc) bs b
-
-safe_cases : (w : World) (a b c : Bool) (o : Option ℕ) (m : Option (Value Local)) (s : Room)
-    → is_built_safe (if a then Some held.Null else if b then Some (held.Bool true) else if c then Some (held.Bool false) else option_map held.Prim o) ≡ true
-    → (o ≡ None → m ≡ None)
-    → Met w (val w) (answer (safe_plain (if a then Some held.Null else if b then Some (held.Bool true) else if c then Some (held.Bool false) else option_map held.Prim o)) s)
-    (for_some (chosen a b c (Some Null) (Some (Flag true)) (Some (Flag false)) m) machine.give (machine.stop Astray) (vat w s))
-unfolding opened_steps opened_state chosen
-safe_cases w true b c o m s e h = record { stands = refl }
-safe_cases w false true c o m s e h = absurd (cc)
-safe_cases w false false true o m s e h = absurd (cc)
-safe_cases w false false false (Some n) m s e h = absurd (cc)
-safe_cases w false false false None m s e h = record { stands = rw (h refl) refl }
-
-safe_met : (w : World) (x : Words) (s : Room) → is_built_safe (safe_value x) ≡ true
-    → Met w (val w) (answer (safe_plain (safe_value x)) s) (for_some (native.safe_value x) machine.give (machine.stop Astray) (vat w s))
-safe_met w x s e =
-    rw (safe_is x) (safe_cases w (bytes_eq x (codes "null")) (bytes_eq x (codes "true")) (bytes_eq x (codes "false")) (position (bytes_eq x) primitives) (others x) s e (no_others x))
-
-read_met : (w : World) (act : ℕ) (f : Option Plain) (x : Words) (s : Room) → is_built_safe (safe_value x) ≡ true
-    → Met w (val w) (answer (noun_value_of f x) s) (scopes.read_bound act (fixed_of w f) x (vat w s))
-unfolding noun_value_of scopes.read_bound
-read_met w act (Some v) x s e = give_answer_met w v s
-read_met w act None x s e = safe_met w x s e
-
-noun_met : (w : World) (x : Words) (here : Scope) (s : Room) → is_built_safe (safe_value x) ≡ true
-    → Met w (val w) (answer (noun_value x here) s) (scopes.read_bound here.act (bound_in (scope_of w here).nouns x) x (vat w s))
-unfolding noun_value
-noun_met w x here s e = rw (found_is w here.nouns [] None x (none_bound w x)) (read_met w here.act (found_from None here.nouns x) x s e)
+use Rattle.ev_eval.proofs.Words.{same_is, same_turned, safe_is, chosen, others, no_others}
+use Rattle.ev_eval.proofs.Stands.{IsMet, IsSound, Met, Stands, activation_met, again_at, answer_of, answers_of, back_line, bond_of, bonds_onto, both, bound_of, call_by, call_plain_met, called_line, cell_found_met, cell_met, cells_at, changed_is, ended_met, fail_met, first_bond, fixed_met, follow_plain, found_is, found_of, get_built, give_answer_met, give_met, gives_on, is_data, is_fixed, lines_more, made_line, none_bound, not_written_met, nothing_met, noun_met, one_bond, onto_more, outcome, plain_at, plain_back, plain_in, problem_text, problem_words, read_line, read_met, safe_cases, safe_met, scope_of, set_plain, slot_is, slot_met, slots_are, spend_met, spent_met, tell_met, then_met, then_stands, thrown_line, told, unbound_met, val, vat, write_found_met, write_met, write_plain_met, write_slot_is, write_slot_met, writing_is, written, written_met, written_sound, wrote_line, wrote_met}
+use Rattle.ev_eval.proofs.Objects.{object_met, call_object_met}
 
 -- ---- nodes
-
-record IsMet (w : World) (rec : Evaluator) (their : scopes.Evaluator Local) : Type 0 where
-  expression : (id : ℕ) (here : Scope) (s : Room) → Met w (answer_of w) (rec.expression id here s) (their.expression id (scope_of w here) (vat w s))
-  pattern : (id : ℕ) (v : Plain) (here : Scope) (s : Room) → Met w (scope_of w) (rec.pattern id v here s) (their.pattern id (val w v) Null (scope_of w here) (vat w s))
 
 -- what an outcome gives, behind other values
 unfoldable with_front : List (Value Local) → Done Local (Answers Local) → Done Local (Answers Local)
@@ -330,34 +99,41 @@ all_of-none : (w : World) (tree : List Node) (their : scopes.Evaluator Local) (s
 unfolding theirs.all_of opened_state
 all_of-none w tree their sc v = refl
 
-gathered_met : (w : World) (tree : List Node) (rec : Evaluator) (their : scopes.Evaluator Local) (h : IsMet w rec their) (so_far : List Plain) (es : List ℕ) (here : Scope) (s : Room)
+gathered_met : (w : World) (tree : List Node) (rec : Evaluator) (their : scopes.Evaluator Local) (h : IsMet w rec their) (so_far : List Plain) (es : List ℕ) (here : Scope) (s : Room) (sound : IsSound s)
     → Met w (answers_of w) (gathered rec so_far es here s) (with_front (map (val w) so_far) (theirs.all_of (names w) tree their es (scope_of w here) (vat w s)))
 unfolding gathered ◌>>=◌ with_front
-gathered_met w tree rec their h so_far [] here s = rw (all_of-none w tree their (scope_of w here) (vat w s)) (nothing_met w so_far here s)
-gathered_met w tree rec their h so_far (e ∷ es) here s =
+gathered_met w tree rec their h so_far [] here s sound = rw (all_of-none w tree their (scope_of w here) (vat w s)) (nothing_met w so_far here s sound)
+gathered_met w tree rec their h so_far (e ∷ es) here s sound =
     rw (all_of-more w tree their e es (scope_of w here) (vat w s), front_then (map (val w) so_far) (their.expression e (scope_of w here) (vat w s)) (λ x. theirs.all_of (names w) tree their es x.scope))
-    (then_met _ _ (h.expression e here s) (λ a t. subst
+    (then_met _ _ (h.expression e here s sound) (λ a t q. subst
     (λ (vs : List (Value Local)). Met w (answers_of w) (gathered rec (so_far ++ a.0 ∷ []) es a.1 t) (with_front vs (theirs.all_of (names w) tree their es (scope_of w a.1) (vat w t))))
-    (map-append (val w) so_far (a.0 ∷ [])) (gathered_met w tree rec their h (so_far ++ a.0 ∷ []) es a.1 t)))
+    (map-append (val w) so_far (a.0 ∷ [])) (gathered_met w tree rec their h (so_far ++ a.0 ∷ []) es a.1 t q)))
 
-all_met : (w : World) (tree : List Node) (rec : Evaluator) (their : scopes.Evaluator Local) (h : IsMet w rec their) (es : List ℕ) (here : Scope) (s : Room)
+all_met : (w : World) (tree : List Node) (rec : Evaluator) (their : scopes.Evaluator Local) (h : IsMet w rec their) (es : List ℕ) (here : Scope) (s : Room) (sound : IsSound s)
     → Met w (answers_of w) (gathered rec [] es here s) (theirs.all_of (names w) tree their es (scope_of w here) (vat w s))
-all_met w tree rec their h es here s =
+all_met w tree rec their h es here s sound =
     subst (λ (d : Done Local (Answers Local)). Met w (answers_of w) (gathered rec [] es here s) d) (front_none (theirs.all_of (names w) tree their es (scope_of w here) (vat w s)))
-    (gathered_met w tree rec their h [] es here s)
+    (gathered_met w tree rec their h [] es here s sound)
 
-last_met : (w : World) (tree : List Node) (rec : Evaluator) (their : scopes.Evaluator Local) (h : IsMet w rec their) (x : Plain) (es : List ℕ) (here : Scope) (s : Room)
+last_met : (w : World) (tree : List Node) (rec : Evaluator) (their : scopes.Evaluator Local) (h : IsMet w rec their) (x : Plain) (es : List ℕ) (here : Scope) (s : Room) (sound : IsSound s)
     → Met w (answer_of w) (last_of rec x es here s) (theirs.last_of (names w) tree their (record { value = val w x; scope = scope_of w here }) es (vat w s))
 unfolding last_of theirs.last_of ◌>>=◌ machine.◌>>=◌
-last_met w tree rec their h x [] here s = give_met w (answer_of w) (x, here) s
-last_met w tree rec their h x (e ∷ es) here s = then_met _ _ (h.expression e here s) (λ a t. last_met w tree rec their h a.0 es a.1 t)
+last_met w tree rec their h x [] here s sound = give_met w (answer_of w) (x, here) s sound
+last_met w tree rec their h x (e ∷ es) here s sound = then_met _ _ (h.expression e here s sound) (λ a t q. last_met w tree rec their h a.0 es a.1 t q)
 
-call_node_met : (w : World) (tree : List Node) (rec : Evaluator) (their : scopes.Evaluator Local) (h : IsMet w rec their) (id r : ℕ) (verb : Words) (args : List ℕ) (here : Scope) (s : Room)
-    → bytes_eq verb (codes "add") ≡ true
-    → Met w (answer_of w) (call_node rec r verb args here s) (theirs.step (names w) tree their id (Call r verb args) (scope_of w here) (vat w s))
+call_met : (w : World) → all_promises w.known ≡ true → (tree : List Node) (rec : Evaluator) (their : scopes.Evaluator Local) (h : IsMet w rec their) (act : ℕ) (x : Plain) (verb : Words) (args : List Plain) (s : Room) (sound : IsSound s) → is_built tree ≡ true
+    → is_built_verb verb ≡ true → Met w (val w) (call tree rec act x verb args s) (calls.call (names w) tree their act (val w x) verb (map (val w) args) (vat w s))
+unfolding call
+call_met w fair tree rec their h act (plain.Obj i) verb args s sound built e = call_object_met w fair tree rec their h act i verb args s sound built
+call_met w fair tree rec their h act plain.Null verb args s sound built e = call_plain_met w fair tree their act plain.Null verb args s sound refl e
+call_met w fair tree rec their h act (plain.Int z) verb args s sound built e = call_plain_met w fair tree their act (plain.Int z) verb args s sound refl e
+
+call_node_met : (w : World) → all_promises w.known ≡ true → (tree : List Node) (rec : Evaluator) (their : scopes.Evaluator Local) (h : IsMet w rec their) (id r : ℕ) (verb : Words) (args : List ℕ) (here : Scope) (s : Room) (sound : IsSound s) → is_built tree ≡ true
+    → is_built_verb verb ≡ true
+    → Met w (answer_of w) (call_node tree rec r verb args here s) (theirs.step (names w) tree their id (Call r verb args) (scope_of w here) (vat w s))
 unfolding call_node theirs.step scopes.answered ◌>>=◌ machine.◌>>=◌
-call_node_met w tree rec their h id r verb args here s e =
-    then_met _ _ (h.expression r here s) (λ x t. then_met _ _ (all_met w tree rec their h args x.1 t) (λ xs u. then_met _ _ (call_met w tree their here.act x.0 verb xs.0 u e) (λ v q. give_met w (answer_of w) (v, xs.1) q)))
+call_node_met w fair tree rec their h id r verb args here s sound built e =
+    then_met _ _ (h.expression r here s sound) (λ x t ts. then_met _ _ (all_met w tree rec their h args x.1 t ts) (λ xs u us. then_met _ _ (call_met w fair tree rec their h here.act x.0 verb xs.0 u us built e) (λ v q qs. give_met w (answer_of w) (v, xs.1) q qs)))
 
 definition_is : (w : World) (tree : List Node) (their : scopes.Evaluator Local) (id p e : ℕ) (sc : Surroundings Local) (v : Vat Local)
     → theirs.step (names w) tree their id (Def p None e) sc v
@@ -365,136 +141,198 @@ definition_is : (w : World) (tree : List Node) (their : scopes.Evaluator Local) 
 unfolding opened_eval
 definition_is w tree their id p e sc v = refl
 
-define_met : (w : World) (tree : List Node) (rec : Evaluator) (their : scopes.Evaluator Local) (h : IsMet w rec their) (id p : ℕ) (j : Option ℕ) (e : ℕ) (here : Scope) (s : Room)
+define_met : (w : World) (tree : List Node) (rec : Evaluator) (their : scopes.Evaluator Local) (h : IsMet w rec their) (id p : ℕ) (j : Option ℕ) (e : ℕ) (here : Scope) (s : Room) (sound : IsSound s)
     → is_none j ≡ true
     → Met w (answer_of w) (define rec p j e here s) (theirs.step (names w) tree their id (Def p j e) (scope_of w here) (vat w s))
 unfolding define ◌>>=◌
-define_met w tree rec their h id p (Some j) e here s none = absurd (cc)
-define_met w tree rec their h id p None e here s none =
+define_met w tree rec their h id p (Some j) e here s sound none = absurd (cc)
+define_met w tree rec their h id p None e here s sound none =
     rw (definition_is w tree their id p e (scope_of w here) (vat w s))
-    (then_met _ _ (h.expression e here s) (λ x t. then_met _ _ (h.pattern p x.0 x.1 t) (λ after u. give_met w (answer_of w) (x.0, after) u)))
+    (then_met _ _ (h.expression e here s sound) (λ x t ts. then_met _ _ (h.pattern p x.0 x.1 t ts) (λ after u us. give_met w (answer_of w) (x.0, after) u us)))
 
-noun_node_met : (w : World) (tree : List Node) (their : scopes.Evaluator Local) (id : ℕ) (x : Words) (here : Scope) (s : Room) → is_built_safe (safe_value x) ≡ true
-    → Met w (answer_of w) (in_scope here (noun_value x here) s) (theirs.step (names w) tree their id (Noun x) (scope_of w here) (vat w s))
-unfolding in_scope theirs.step scopes.answered ◌>>=◌ machine.◌>>=◌
-noun_node_met w tree their id x here s e = then_met _ _ (noun_met w x here s e) (λ v t. give_met w (answer_of w) (v, here) t)
+noun_node_met : (w : World) (tree : List Node) (their : scopes.Evaluator Local) (id : ℕ) (x : Words) (here : Scope) (s : Room) (sound : IsSound s) → is_built_safe (safe_value x) ≡ true
+    → Met w (answer_of w) (noun_node x here s) (theirs.step (names w) tree their id (Noun x) (scope_of w here) (vat w s))
+unfolding noun_node theirs.step scopes.answered ◌>>=◌ machine.◌>>=◌
+noun_node_met w tree their id x here s sound e = then_met _ _ (noun_met w x here s sound e) (λ v t q. give_met w (answer_of w) (v, here) t q)
 
-literal_met : (w : World) (tree : List Node) (their : scopes.Evaluator Local) (id : ℕ) (l : Literal) (here : Scope) (s : Room) → is_int l ≡ true
-    → Met w (answer_of w) (in_scope here (literal_value l) s) (theirs.step (names w) tree their id (Lit l) (scope_of w here) (vat w s))
+set_met : (w : World) (tree : List Node) (rec : Evaluator) (their : scopes.Evaluator Local) (h : IsMet w rec their) (id : ℕ) (x : Words) (e : ℕ) (here : Scope) (s : Room) (sound : IsSound s)
+    → Met w (answer_of w) (set_node rec x e here s) (theirs.step (names w) tree their id (Set x e) (scope_of w here) (vat w s))
+unfolding set_node theirs.step scopes.answered ◌>>=◌ machine.◌>>=◌
+set_met w tree rec their h id x e here s sound =
+    rw (found_is w here.nouns [] None x (none_bound w x))
+    (then_met _ _ (h.expression e here s sound) (λ v t ts. then_met _ _ (write_met w tree their here.act (found_from None here.nouns x) v.0 t ts) (λ u q qs. give_met w (answer_of w) (u, v.1) q qs)))
+
+literal_met : (w : World) (tree : List Node) (their : scopes.Evaluator Local) (id : ℕ) (l : Literal) (here : Scope) (s : Room) (sound : IsSound s) → is_int l ≡ true
+    → Met w (answer_of w) (literal_node l here s) (theirs.step (names w) tree their id (Lit l) (scope_of w here) (vat w s))
 unfolding opened_steps opened_eval
-literal_met w tree their id (literal.Int z) here s e = record { stands = refl }
-literal_met w tree their id (literal.Char c) here s e = absurd (cc)
-literal_met w tree their id (literal.Text t) here s e = absurd (cc)
+literal_met w tree their id (literal.Int z) here s sound e = record { stands = (refl, sound) }
+literal_met w tree their id (literal.Char c) here s sound e = absurd (cc)
+literal_met w tree their id (literal.Text t) here s sound e = absurd (cc)
 
-astray_met : (w : World) (tree : List Node) (their : scopes.Evaluator Local) (id : ℕ) (x : Words) (g : Option ℕ) (here : Scope) (s : Room)
-    → Met w (answer_of w) (fail exit.Astray s) (theirs.step (names w) tree their id (Final x g) (scope_of w here) (vat w s))
-unfolding opened_steps opened_eval
-astray_met w tree their id x g here s = record { stands = refl }
-
-sequence_met : (w : World) (tree : List Node) (rec : Evaluator) (their : scopes.Evaluator Local) (h : IsMet w rec their) (id : ℕ) (es : List ℕ) (here : Scope) (s : Room)
+sequence_met : (w : World) (tree : List Node) (rec : Evaluator) (their : scopes.Evaluator Local) (h : IsMet w rec their) (id : ℕ) (es : List ℕ) (here : Scope) (s : Room) (sound : IsSound s)
     → Met w (answer_of w) (last_of rec plain.Null es here s) (theirs.step (names w) tree their id (Sequence es) (scope_of w here) (vat w s))
 unfolding theirs.step
-sequence_met w tree rec their h id es here s = last_met w tree rec their h plain.Null es here s
+sequence_met w tree rec their h id es here s sound = last_met w tree rec their h plain.Null es here s sound
 
-step_met : (w : World) (tree : List Node) (rec : Evaluator) (their : scopes.Evaluator Local) (h : IsMet w rec their) (id : ℕ) (n : Node) (here : Scope) (s : Room) → is_built_node n ≡ true
-    → Met w (answer_of w) (step rec n here s) (theirs.step (names w) tree their id n (scope_of w here) (vat w s))
-unfolding step is_built_node
-step_met w tree rec their h id (Lit l) here s e = literal_met w tree their id l here s e
-step_met w tree rec their h id (Noun x) here s e = noun_node_met w tree their id x here s e
-step_met w tree rec their h id (Def p j v) here s e = define_met w tree rec their h id p j v here s e
-step_met w tree rec their h id (Call r verb args) here s e = call_node_met w tree rec their h id r verb args here s e
-step_met w tree rec their h id (Sequence es) here s e = sequence_met w tree rec their h id es here s
-step_met w tree rec their h id (Final x g) here s e = astray_met w tree their id x g here s
-step_met w tree rec their h id _ here s e = absurd (cc)
+step_met : (w : World) → all_promises w.known ≡ true → (tree : List Node) (rec : Evaluator) (their : scopes.Evaluator Local) (h : IsMet w rec their) (id : ℕ) (n : Node) (here : Scope) (s : Room) (sound : IsSound s) → is_built tree ≡ true
+    → slice_get tree id ≡ Some n → is_built_node n ≡ true
+    → Met w (answer_of w) (step tree rec id n here s) (theirs.step (names w) tree their id n (scope_of w here) (vat w s))
+unfolding step is_built_node fail theirs.step machine.stop
+step_met w fair tree rec their h id (Lit l) here s sound built found e = literal_met w tree their id l here s sound e
+step_met w fair tree rec their h id (Noun x) here s sound built found e = noun_node_met w tree their id x here s sound e
+step_met w fair tree rec their h id (Set x v) here s sound built found e = set_met w tree rec their h id x v here s sound
+step_met w fair tree rec their h id (Def p j v) here s sound built found e = define_met w tree rec their h id p j v here s sound e
+step_met w fair tree rec their h id (Call r verb args) here s sound built found e = call_node_met w fair tree rec their h id r verb args here s sound built e
+step_met w fair tree rec their h id (Sequence es) here s sound built found e = sequence_met w tree rec their h id es here s sound
+step_met w fair tree rec their h id (ObjectNode p auditors ms) here s sound built found e = object_met w tree their id p auditors ms here s sound found e
+step_met w fair tree rec their h id (Method v ps b) here s sound built found e = record { stands = (refl, sound) }
+step_met w fair tree rec their h id (Final x g) here s sound built found e = record { stands = (refl, sound) }
+step_met w fair tree rec their h id (Var x g) here s sound built found e = record { stands = (refl, sound) }
+step_met w fair tree rec their h id (Any g) here s sound built found e = record { stands = (refl, sound) }
+step_met w fair tree rec their h id _ here s sound built found e = absurd (cc)
 
 final_is : (w : World) (tree : List Node) (their : scopes.Evaluator Local) (x : Words) (y : Value Local) (sc : Surroundings Local) (v : Vat Local)
     → theirs.bind_step (names w) tree their (Final x None) y Null sc v ≡ machine.Gives (scopes.with_noun x (Fixed y any_guard) sc) v
 unfolding opened_eval
 final_is w tree their x y sc v = refl
 
-final_met : (w : World) (tree : List Node) (their : scopes.Evaluator Local) (x : Words) (g : Option ℕ) (v : Plain) (here : Scope) (s : Room) → is_none g ≡ true
+final_met : (w : World) (tree : List Node) (their : scopes.Evaluator Local) (x : Words) (g : Option ℕ) (v : Plain) (here : Scope) (s : Room) (sound : IsSound s) → is_none g ≡ true
     → Met w (scope_of w) (bind_final x g v here s) (theirs.bind_step (names w) tree their (Final x g) (val w v) Null (scope_of w here) (vat w s))
 unfolding bind_final give scopes.with_noun
-final_met w tree their x (Some g) v here s e = absurd (cc)
-final_met w tree their x None v here s e = record {
-  stands = final_is w tree their x (val w v) (scope_of w here) (vat w s)
-      ∙ ap (λ (ns : List (Bond Local)). machine.Gives (record { act = here.act; nouns = ns }) (vat w s)) (sym (onto_more w [] here.nouns (record { noun = x; value = v })));
+final_met w tree their x (Some g) v here s sound e = absurd (cc)
+final_met w tree their x None v here s sound e = record {
+  stands = (
+    final_is w tree their x (val w v) (scope_of w here) (vat w s)
+        ∙ ap (λ (ns : List (Bond Local)). machine.Gives (record { act = here.act; nouns = ns }) (vat w s)) (sym (onto_more w [] here.nouns (record { noun = x; bound = scope.Fixed v }))),
+    sound,
+  );
 }
 
-bind_step_met : (w : World) (tree : List Node) (their : scopes.Evaluator Local) (n : Node) (v : Plain) (here : Scope) (s : Room) → is_built_node n ≡ true
+new_slot_met : (w : World) (v : Plain) (s : Room) (sound : IsSound s) → Met w (λ (k : ℕ). k) (new_slot v s) (machine.new_slot any_guard (val w v) (vat w s))
+unfolding opened_steps opened_state vat_of any_guard
+new_slot_met w v s sound = record {
+  stands = (
+    rw (length-map s.heap.slots (cell_of w), map-append (cell_of w) s.heap.slots (plain_cell v ∷ [])) refl,
+    ((sound.0.0 ++ v ∷ [], rw (sound.0.1) (sym (map-append plain_cell sound.0.0 (v ∷ [])))), sound.1),
+  );
+}
+
+var_is : (w : World) (tree : List Node) (their : scopes.Evaluator Local) (x : Words) (y : Value Local) (sc : Surroundings Local) (v : Vat Local)
+    → theirs.bind_step (names w) tree their (Var x None) y Null sc v
+    ≡ machine.and_then (machine.new_slot any_guard y v) (λ k t. machine.and_then (machine.tell (SlotMade sc.act k y) t) (λ u. machine.give (scopes.with_noun x (Slot k) sc)))
+unfolding opened_eval
+var_is w tree their x y sc v = refl
+
+bound_met : (w : World) (x : Words) (k : ℕ) (here : Scope) (s : Room) (sound : IsSound s)
+    → Met w (scope_of w) (give (with_noun x (scope.Slot k) here) s) (machine.give (scopes.with_noun x (Slot k) (scope_of w here)) (vat w s))
+unfolding give machine.give scopes.with_noun
+bound_met w x k here s sound = record {
+  stands = (ap (λ (ns : List (Bond Local)). machine.Gives (record { act = here.act; nouns = ns }) (vat w s)) (sym (onto_more w [] here.nouns (record { noun = x; bound = scope.Slot k }))), sound);
+}
+
+var_met : (w : World) (tree : List Node) (their : scopes.Evaluator Local) (x : Words) (g : Option ℕ) (v : Plain) (here : Scope) (s : Room) (sound : IsSound s) → is_none g ≡ true
+    → Met w (scope_of w) (bind_var x g v here s) (theirs.bind_step (names w) tree their (Var x g) (val w v) Null (scope_of w here) (vat w s))
+unfolding bind_var ◌>>=◌ ◌>>◌
+var_met w tree their x (Some g) v here s sound e = absurd (cc)
+var_met w tree their x None v here s sound e =
+    rw (var_is w tree their x (val w v) (scope_of w here) (vat w s))
+    (then_met _ _ (new_slot_met w v s sound) (λ k t ts. then_met _ _ (tell_met w (event.Slot here.act k (held_value v)) (SlotMade here.act k (val w v)) t ts (made_line w here.act k v)) (λ u q qs. bound_met w x k here q qs)))
+
+any_is : (w : World) (tree : List Node) (their : scopes.Evaluator Local) (y : Value Local) (sc : Surroundings Local) (v : Vat Local)
+    → theirs.bind_step (names w) tree their (Any None) y Null sc v ≡ machine.Gives sc v
+unfolding opened_eval
+any_is w tree their y sc v = refl
+
+any_met : (w : World) (tree : List Node) (their : scopes.Evaluator Local) (g : Option ℕ) (v : Plain) (here : Scope) (s : Room) (sound : IsSound s) → is_none g ≡ true
+    → Met w (scope_of w) (bind_any g here s) (theirs.bind_step (names w) tree their (Any g) (val w v) Null (scope_of w here) (vat w s))
+unfolding bind_any give
+any_met w tree their (Some g) v here s sound e = absurd (cc)
+any_met w tree their None v here s sound e = record { stands = (any_is w tree their (val w v) (scope_of w here) (vat w s), sound) }
+
+bind_step_met : (w : World) (tree : List Node) (their : scopes.Evaluator Local) (n : Node) (v : Plain) (here : Scope) (s : Room) (sound : IsSound s) → is_built_node n ≡ true
     → Met w (scope_of w) (bind_step n v here s) (theirs.bind_step (names w) tree their n (val w v) Null (scope_of w here) (vat w s))
 unfolding bind_step is_built_node fail theirs.bind_step machine.stop
-bind_step_met w tree their (Final x g) v here s e = final_met w tree their x g v here s e
-bind_step_met w tree their (Lit l) v here s e = record { stands = refl }
-bind_step_met w tree their (Noun x) v here s e = record { stands = refl }
-bind_step_met w tree their (Def p j b) v here s e = record { stands = refl }
-bind_step_met w tree their (Call r verb args) v here s e = record { stands = refl }
-bind_step_met w tree their (Sequence es) v here s e = record { stands = refl }
-bind_step_met w tree their _ v here s e = absurd (cc)
+bind_step_met w tree their (Final x g) v here s sound e = final_met w tree their x g v here s sound e
+bind_step_met w tree their (Var x g) v here s sound e = var_met w tree their x g v here s sound e
+bind_step_met w tree their (Any g) v here s sound e = any_met w tree their g v here s sound e
+bind_step_met w tree their (Lit l) v here s sound e = record { stands = (refl, sound) }
+bind_step_met w tree their (Noun x) v here s sound e = record { stands = (refl, sound) }
+bind_step_met w tree their (Set x b) v here s sound e = record { stands = (refl, sound) }
+bind_step_met w tree their (Def p j b) v here s sound e = record { stands = (refl, sound) }
+bind_step_met w tree their (Call r verb args) v here s sound e = record { stands = (refl, sound) }
+bind_step_met w tree their (Sequence es) v here s sound e = record { stands = (refl, sound) }
+bind_step_met w tree their (ObjectNode p auditors ms) v here s sound e = record { stands = (refl, sound) }
+bind_step_met w tree their (Method u ps b) v here s sound e = record { stands = (refl, sound) }
+bind_step_met w tree their _ v here s sound e = absurd (cc)
 
 -- ---- the tree and the depth
 
-first_built : (a b : Bool) → (if a then b else false) ≡ true → (a ≡ true) × (b ≡ true)
-first_built true b h = (refl, h)
-first_built false b h = cc
-
-get_built : (ns : List Node) (id : ℕ) (n : Node) → is_built ns ≡ true → slice_get ns id ≡ Some n → is_built_node n ≡ true
-unfolding is_built
-get_built [] id n h e = absurd (cc)
-get_built (m ∷ ns) zero n h e =
-    let is : m ≡ n = cc in
-    subst (λ (k : Node). is_built_node k ≡ true) is (first_built (is_built_node m) (is_built ns) h).0
-get_built (m ∷ ns) (suc id) n h e = get_built ns id n (first_built (is_built_node m) (is_built ns) h).1 e
-
-found_met : (w : World) (tree : List Node) (rec : Evaluator) (their : scopes.Evaluator Local) (h : IsMet w rec their) (id : ℕ) (o : Option Node) (here : Scope) (s : Room)
-    → ((n : Node) → o ≡ Some n → is_built_node n ≡ true)
-    → Met w (answer_of w) (step_found rec o here s) (theirs.step_found (names w) tree their id o (scope_of w here) (vat w s))
+found_met : (w : World) → all_promises w.known ≡ true → (tree : List Node) (rec : Evaluator) (their : scopes.Evaluator Local) (h : IsMet w rec their) (id : ℕ) (o : Option Node) (here : Scope) (s : Room) (sound : IsSound s) → is_built tree ≡ true
+    → slice_get tree id ≡ o
+    → Met w (answer_of w) (step_found tree rec id o here s) (theirs.step_found (names w) tree their id o (scope_of w here) (vat w s))
 unfolding step_found fail theirs.step_found machine.stop
-found_met w tree rec their h id None here s built = record { stands = refl }
-found_met w tree rec their h id (Some n) here s built = step_met w tree rec their h id n here s (built n refl)
+found_met w fair tree rec their h id None here s sound built e = record { stands = (refl, sound) }
+found_met w fair tree rec their h id (Some n) here s sound built e = step_met w fair tree rec their h id n here s sound built e (get_built tree id n built e)
 
-bind_met : (w : World) (tree : List Node) (their : scopes.Evaluator Local) (o : Option Node) (v : Plain) (here : Scope) (s : Room)
+bind_met : (w : World) (tree : List Node) (their : scopes.Evaluator Local) (o : Option Node) (v : Plain) (here : Scope) (s : Room) (sound : IsSound s)
     → ((n : Node) → o ≡ Some n → is_built_node n ≡ true)
     → Met w (scope_of w) (bind_found o v here s) (theirs.bind_found (names w) tree their o (val w v) Null (scope_of w here) (vat w s))
 unfolding bind_found fail theirs.bind_found machine.stop
-bind_met w tree their None v here s built = record { stands = refl }
-bind_met w tree their (Some n) v here s built = bind_step_met w tree their n v here s (built n refl)
+bind_met w tree their None v here s sound built = record { stands = (refl, sound) }
+bind_met w tree their (Some n) v here s sound built = bind_step_met w tree their n v here s sound (built n refl)
 
-deeper_met : (w : World) (tree : List Node) (rec : Evaluator) (their : scopes.Evaluator Local) → IsMet w rec their → is_built tree ≡ true
+deeper_met : (w : World) → all_promises w.known ≡ true → (tree : List Node) (rec : Evaluator) (their : scopes.Evaluator Local) → IsMet w rec their → is_built tree ≡ true
     → IsMet w (deeper tree rec) (theirs.deeper (names w) tree their)
 unfolding deeper theirs.deeper ◌>>◌ machine.◌>>◌
-deeper_met w tree rec their h built = record {
-  expression = λ id here s. then_met _ _ (spend_met w s) (λ u t. found_met w tree rec their h id (slice_get tree id) here t (λ n e. get_built tree id n built e));
-  pattern = λ id v here s. then_met _ _ (spend_met w s) (λ u t. bind_met w tree their (slice_get tree id) v here t (λ n e. get_built tree id n built e));
+deeper_met w fair tree rec their h built = record {
+  expression = λ id here s sound. then_met _ _ (spend_met w s sound) (λ u t q. found_met w fair tree rec their h id (slice_get tree id) here t q built refl);
+  pattern = λ id v here s sound. then_met _ _ (spend_met w s sound) (λ u t q. bind_met w tree their (slice_get tree id) v here t q (λ n e. get_built tree id n built e));
 }
 
-evaluator_met : (w : World) (tree : List Node) (d : ℕ) → is_built tree ≡ true → IsMet w (evaluator tree d) (theirs.evaluator (names w) tree d)
+evaluator_met : (w : World) → all_promises w.known ≡ true → (tree : List Node) (d : ℕ) → is_built tree ≡ true → IsMet w (evaluator tree d) (theirs.evaluator (names w) tree d)
 unfolding evaluator theirs.evaluator fail machine.stop
-evaluator_met w tree zero built = record { expression = λ id here s. record { stands = refl }; pattern = λ id v here s. record { stands = refl } }
-evaluator_met w tree (suc d) built = deeper_met w tree (evaluator tree d) (theirs.evaluator (names w) tree d) (evaluator_met w tree d built) built
+evaluator_met w fair tree zero built = record { expression = λ id here s sound. record { stands = (refl, sound) }; pattern = λ id v here s sound. record { stands = (refl, sound) } }
+evaluator_met w fair tree (suc d) built = deeper_met w fair tree (evaluator tree d) (theirs.evaluator (names w) tree d) (evaluator_met w fair tree d built) built
 
 -- ---- the opening turn
 
-one_longer : {A : Type 0} (xs : List A) (x : A) → suc (length xs) ≡ length (xs ++ x ∷ [])
-one_longer [] x = refl
-one_longer (y ∷ ys) x = ap suc (one_longer ys x)
-
-activation_met : (w : World) (s : Room) → Met w (λ (n : ℕ). n) (new_activation s) (machine.new_activation (vat w s))
-unfolding opened_steps opened_state vat_of
-activation_met w s = record { stands = ap (λ (n : ℕ). machine.Gives (length s.heap.codes) (record (vat w s) { activations = n })) (one_longer s.heap.codes held.Null) }
-
-pub opening_met : (w : World) (tree : List Node) (d : ℕ) (s : Room) → is_built tree ≡ true → Met w (val w) (opening tree d s) (opened (names w) tree d (vat w s))
+pub opening_met : (w : World) → all_promises w.known ≡ true → (tree : List Node) (d : ℕ) (s : Room) (sound : IsSound s) → is_built tree ≡ true → Met w (val w) (opening tree d s) (opened (names w) tree d (vat w s))
 unfolding opening opened bonds_onto ◌>>=◌ machine.◌>>=◌
-opening_met w tree d s built =
-    then_met _ _ (activation_met w s) (λ a t. then_met _ _ ((evaluator_met w tree d built).expression 0 (record { act = a; nouns = [] }) t) (λ x u. give_met w (val w) x.0 u))
+opening_met w fair tree d s sound built =
+    then_met _ _ (activation_met w held.Null s sound) (λ a t q. then_met _ _ ((evaluator_met w fair tree d built).expression 0 (record { act = a; nouns = [] }) t q) (λ x u us. give_met w (val w) x.0 u us))
 
-pub turn_is : (w : World) (tree : List Node) (d : ℕ) (r : Result Plain Exit) (s t : Room) (q : Result Ended Memory)
+-- what a run of the code stands for
+run_stands : (w : World) → all_promises w.known ≡ true → (tree : List Node) (d : ℕ) (r : Result Plain Exit) (s t : Room) (sound : IsSound s) → is_built tree ≡ true → (opening tree d s ≡ (r, t))
+    → Stands w (val w) (r, t) (opened (names w) tree d (vat w s))
+run_stands w fair tree d r s t sound b g = subst (λ (o : Out Plain). Stands w (val w) o (opened (names w) tree d (vat w s))) g (opening_met w fair tree d s sound b).stands
+
+pub turn_is : (w : World) → all_promises w.known ≡ true → (tree : List Node) (d : ℕ) (r : Result Plain Exit) (s t : Room) (sound : IsSound s) (q : Result Ended Memory)
     → is_built tree ≡ true → Gives r t (opening tree d s) → EndsAs r q → Ends w q t.heap t.micro (opened (names w) tree d (vat w s))
-turn_is w tree d (Ok v) s t q b g e = rw e (subst (λ (o : Out Plain). Stands w (val w) o (opened (names w) tree d (vat w s))) g (opening_met w tree d s b).stands)
-turn_is w tree d (Err (exit.Thrown id)) s t q b g e = rw e (subst (λ (o : Out Plain). Stands w (val w) o (opened (names w) tree d (vat w s))) g (opening_met w tree d s b).stands)
-turn_is w tree d (Err exit.Fuel) s t q b g e = rw e (subst (λ (o : Out Plain). Stands w (val w) o (opened (names w) tree d (vat w s))) g (opening_met w tree d s b).stands)
-turn_is w tree d (Err exit.Deep) s t q b g e = rw e (subst (λ (o : Out Plain). Stands w (val w) o (opened (names w) tree d (vat w s))) g (opening_met w tree d s b).stands)
-turn_is w tree d (Err exit.Astray) s t q b g e = rw e (subst (λ (o : Out Plain). Stands w (val w) o (opened (names w) tree d (vat w s))) g (opening_met w tree d s b).stands)
-turn_is w tree d (Err exit.Unbuilt) s t q b g e = absurd (subst (λ (o : Out Plain). Stands w (val w) o (opened (names w) tree d (vat w s))) g (opening_met w tree d s b).stands)
-turn_is w tree d (Err exit.Memory) s t (Ok x) b g e = absurd (cc)
-turn_is w tree d (Err exit.Memory) s t (Err m) b g e = tt
+turn_is w fair tree d (Ok v) s t sound q b g e = rw e (run_stands w fair tree d (Ok v) s t sound b g).0
+turn_is w fair tree d (Err (exit.Thrown id)) s t sound q b g e = rw e (run_stands w fair tree d (Err (exit.Thrown id)) s t sound b g).0
+turn_is w fair tree d (Err exit.Fuel) s t sound q b g e = rw e (run_stands w fair tree d (Err exit.Fuel) s t sound b g).0
+turn_is w fair tree d (Err exit.Deep) s t sound q b g e = rw e (run_stands w fair tree d (Err exit.Deep) s t sound b g).0
+turn_is w fair tree d (Err exit.Astray) s t sound q b g e = rw e (run_stands w fair tree d (Err exit.Astray) s t sound b g).0
+turn_is w fair tree d (Err exit.Unbuilt) s t sound q b g e = absurd (run_stands w fair tree d (Err exit.Unbuilt) s t sound b g)
+turn_is w fair tree d (Err exit.Memory) s t sound (Ok x) b g e = absurd (cc)
+turn_is w fair tree d (Err exit.Memory) s t sound (Err m) b g e = tt
+
+-- some world
+unfoldable any_world : World
+any_world = record { number = 0; drawn = []; lists = []; messages = 0; promises = 0; queue = []; known = []; mails = []; gifts = []; noticed = []; outbox = []; happened = []; texts = []; word = λ n. n }
+
+kept_at : (w : World) → all_promises w.known ≡ true → (tree : List Node) (d : ℕ) (r : Result Plain Exit) (s t : Room) (sound : IsSound s) (q : Result Ended Memory)
+    → is_built tree ≡ true → Gives r t (opening tree d s) → EndsAs r q → OnOk q (IsPlain t.heap)
+kept_at w fair tree d (Ok v) s t sound q b g e = rw e (run_stands w fair tree d (Ok v) s t sound b g).1
+kept_at w fair tree d (Err (exit.Thrown id)) s t sound q b g e = rw e (run_stands w fair tree d (Err (exit.Thrown id)) s t sound b g).1
+kept_at w fair tree d (Err exit.Fuel) s t sound q b g e = rw e (run_stands w fair tree d (Err exit.Fuel) s t sound b g).1
+kept_at w fair tree d (Err exit.Deep) s t sound q b g e = rw e (run_stands w fair tree d (Err exit.Deep) s t sound b g).1
+kept_at w fair tree d (Err exit.Astray) s t sound q b g e = rw e (run_stands w fair tree d (Err exit.Astray) s t sound b g).1
+kept_at w fair tree d (Err exit.Unbuilt) s t sound q b g e = absurd (run_stands w fair tree d (Err exit.Unbuilt) s t sound b g)
+kept_at w fair tree d (Err exit.Memory) s t sound (Ok x) b g e = absurd (cc)
+kept_at w fair tree d (Err exit.Memory) s t sound (Err m) b g e = tt
+
+pub turn_keeps : (tree : List Node) (d : ℕ) (r : Result Plain Exit) (s t : Room) (sound : IsSound s) (q : Result Ended Memory)
+    → is_built tree ≡ true → Gives r t (opening tree d s) → EndsAs r q → OnOk q (IsPlain t.heap)
+unfolding any_world
+turn_keeps tree d r s t sound q b g e = kept_at any_world refl tree d r s t sound q b g e

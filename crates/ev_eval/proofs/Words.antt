@@ -40,7 +40,7 @@ same_self (x ∷ xs) = rw (nat_self x, same_words) (same_self xs)
 same_of : (a b : Words) → b ≡ a → same_words a b ≡ true
 same_of a b e = rw e (same_self a)
 
-same_turned : (a b : Words) → same_words a b ≡ bytes_eq b a
+pub same_turned : (a b : Words) → same_words a b ≡ bytes_eq b a
 same_turned a b = same_from_decides _ _ (same_true a b, same_of a b) (bytes_eq-Decides b a)
 
 pub same_is : (a b : Words) → same_words a b ≡ bytes_eq a b

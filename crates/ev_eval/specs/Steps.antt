@@ -1,5 +1,5 @@
 -- Evaluation over the state of the code: the machine's evaluation of the trees that are built.
-use Rattle.std.specs.Prelude.{◌≡◌, ℕ, zero, suc, ℤ, ◌+ℤ◌, ◌-◌, Bool, true, false, if◌then◌else◌, nat_le, List, [], ◌∷◌, ◌++◌, Some, None, Result, Ok, Err, map, length, slice_get, codes}
+use Rattle.std.specs.Prelude.{◌≡◌, ◌==◌, reverse, option_map, ℕ, zero, suc, ℤ, ◌+ℤ◌, ◌-◌, Bool, true, false, if◌then◌else◌, nat_le, List, [], ◌∷◌, ◌++◌, Some, None, Result, Ok, Err, map, length, slice_get, slice_set, codes}
 use Rattle.std.specs.declared.option.Option.{Option}
 use Rattle.std.specs.Str.{bytes_eq}
 use Rattle.ev_base.specs.declared.values.Value.{Value}
@@ -10,17 +10,31 @@ use Rattle.ev_heap.specs.declared.happened.Happened.TheVariants as event
 use Rattle.ev_kernel.specs.declared.node.Literal.{Literal}
 use Rattle.ev_kernel.specs.declared.node.Literal.TheVariants as literal
 use Rattle.ev_kernel.specs.declared.node.Node.{Node}
-use Rattle.ev_kernel.specs.declared.node.Node.TheVariants.{Lit, Noun, Def, Call, Sequence, Final}
+use Rattle.ev_kernel.specs.declared.node.Node.TheVariants.{Lit, Noun, Set, Def, Call, Sequence, Object as ObjectNode, Method, Final, Var, Any}
 use Rattle.ev_machine.specs.Values.{Words}
 use Rattle.ev_machine.specs.Ints.{fits}
+use Rattle.ev_heap.specs.declared.kept.Capture.{Capture}
+use Rattle.ev_heap.specs.declared.kept.Capture.TheVariants as capture
+use Rattle.ev_heap.specs.declared.kept.Caught.{Caught}
+use Rattle.ev_heap.specs.declared.kept.Shape.{Shape}
+use Rattle.ev_heap.specs.declared.kept.Shape.TheVariants as shape
+use Rattle.ev_heap.specs.declared.kept.Thing.{Thing}
+use Rattle.ev_form.specs.FreeNames.{free_names}
+use Rattle.ev_machine.specs.Scopes.{members_of, name_of}
+use Rattle.ev_eval.specs.Built.{is_built_verb}
+use Rattle.ev_eval.specs.Plain.{held_value, plain_cell, capture_of, plain_thing}
+use Rattle.ev_eval.specs.declared.object.Object.{Object}
 use Rattle.ev_eval.specs.declared.exit.Exit.{Exit}
 use Rattle.ev_eval.specs.declared.exit.Exit.TheVariants.{Thrown, Fuel, Deep, Astray, Unbuilt, Memory}
 use Rattle.ev_eval.specs.declared.exit.Problem.{Problem}
 use Rattle.ev_eval.specs.declared.exit.Problem.TheVariants.{Overflow, NotInt, NoMethod}
 use Rattle.ev_eval.specs.declared.plain.Plain.{Plain}
-use Rattle.ev_eval.specs.declared.plain.Plain.TheVariants.{Null, Int}
+use Rattle.ev_eval.specs.declared.plain.Plain.TheVariants.{Null, Int, Obj}
+use Rattle.ev_heap.specs.declared.kept.Cell.{Cell}
 use Rattle.ev_eval.specs.declared.room.Room.{Room}
 use Rattle.ev_eval.specs.declared.scope.Binding.{Binding}
+use Rattle.ev_eval.specs.declared.scope.Bound.{Bound}
+use Rattle.ev_eval.specs.declared.scope.Bound.TheVariants.{Fixed, Slot}
 use Rattle.ev_eval.specs.declared.scope.Scope.{Scope}
 
 -- what something gives, or how it ends without a value, and the state after
@@ -96,34 +110,83 @@ spent false = λ s. (Err Fuel, s)
 unfoldable pub spend : Act (Unit {0})
 spend = λ s. spent (nat_le 1 s.micro.fuel) s
 
-unfoldable pub new_activation : Act ℕ
-new_activation = λ s. (Ok (length s.heap.codes), record s { heap = record s.heap { codes = s.heap.codes ++ held.Null ∷ [] } })
+-- an activation that runs the code of that receiver
+unfoldable pub new_activation : Value → Act ℕ
+new_activation x = λ s. (Ok (length s.heap.codes), record s { heap = record s.heap { codes = s.heap.codes ++ x ∷ [] } })
 
-abbrev pub held_value : Plain → Value
-held_value Null = held.Null
-held_value (Int z) = held.Int z
+-- ---- var slots
+
+abbrev pub plain_of : Value → Option Plain
+plain_of held.Null = Some Null
+plain_of (held.Int z) = Some (Int z)
+plain_of (held.Obj i) = Some (Obj i)
+plain_of _ = None
+
+unfoldable pub new_slot : Plain → Act ℕ
+new_slot v = λ s. (Ok (length s.heap.slots), record s { heap = record s.heap { slots = s.heap.slots ++ plain_cell v ∷ [] } })
+
+unfoldable pub write_told : ℕ → ℕ → Plain → Act Plain
+write_told act k v = do
+  tell (event.Wrote act k (held_value v))
+  give v
+
+unfoldable pub slot_read : ℕ → ℕ → Option Plain → Act Plain
+slot_read act k None = fail Unbuilt
+slot_read act k (Some v) = do
+  tell (event.Read act k (held_value v))
+  give v
+
+unfoldable pub slot_found : ℕ → ℕ → Option Cell → Act Plain
+slot_found act k None = fail Astray
+slot_found act k (Some c) = slot_read act k (plain_of c.value)
+
+-- the value of a slot, which is told
+unfoldable pub read_slot : ℕ → ℕ → Act Plain
+read_slot act k = λ s. slot_found act k (slice_get s.heap.slots k) s
+
+unfoldable pub slot_written : ℕ → ℕ → Plain → Option Cell → Act Plain
+slot_written act k v None = fail Astray
+slot_written act k v (Some c) = λ s. write_told act k v (record s { heap = record s.heap { slots = slice_set s.heap.slots k (record c { value = held_value v }) } })
+
+-- a slot is written, which is told
+unfoldable pub write_slot : ℕ → ℕ → Plain → Act Plain
+write_slot act k v = λ s. slot_written act k v (slice_get s.heap.slots k) s
 
 -- ---- nouns
 
--- the value of the last binding of a noun, or that one
-unfoldable pub found_from : Option Plain → List Binding → Words → Option Plain
+-- what the last binding of a noun binds it to, or that one
+unfoldable pub found_from : Option Bound → List Binding → Words → Option Bound
 found_from found [] x = found
-found_from found (b ∷ bs) x = found_from (if bytes_eq b.noun x then Some b.value else found) bs x
+found_from found (b ∷ bs) x = found_from (if bytes_eq b.noun x then Some b.bound else found) bs x
 
 unfoldable pub safe_plain : Option Value → Result Plain Exit
 safe_plain None = Err Astray
 safe_plain (Some held.Null) = Ok Null
 safe_plain _ = Err Unbuilt
 
-unfoldable pub noun_value_of : Option Plain → Words → Result Plain Exit
-noun_value_of (Some v) x = Ok v
-noun_value_of None x = safe_plain (safe_value x)
+unfoldable pub read_held : ℕ → Bound → Act Plain
+read_held act (Fixed v) = give v
+read_held act (Slot k) = read_slot act k
 
-unfoldable pub noun_value : Words → Scope → Result Plain Exit
-noun_value x here = noun_value_of (found_from None here.nouns x) x
+-- the value of a noun, by what it is bound to
+unfoldable pub read_bound : ℕ → Option Bound → Words → Act Plain
+read_bound act (Some b) x = read_held act b
+read_bound act None x = answer (safe_plain (safe_value x))
 
-abbrev pub with_noun : Words → Plain → Scope → Scope
-with_noun x v here = record here { nouns = here.nouns ++ record { noun = x; value = v } ∷ [] }
+unfoldable pub write_held : ℕ → Bound → Plain → Act Plain
+write_held act (Slot k) v = write_slot act k v
+write_held act (Fixed u) v = fail Astray
+
+unfoldable pub write_bound : ℕ → Option Bound → Plain → Act Plain
+write_bound act (Some b) v = write_held act b v
+write_bound act None v = fail Astray
+
+unfoldable pub with_bound : List Binding → Words → Option Bound → List Binding
+with_bound bs x (Some b) = bs ++ record { noun = x; bound = b } ∷ []
+with_bound bs x None = bs
+
+abbrev pub with_noun : Words → Bound → Scope → Scope
+with_noun x b here = record here { nouns = here.nouns ++ record { noun = x; bound = b } ∷ [] }
 
 -- ---- calls
 
@@ -137,14 +200,18 @@ sum x y = if fits (x +ℤ y) then Ok (Int (x +ℤ y)) else Err Overflow
 
 unfoldable pub added : ℤ → Plain → Result Plain Problem
 added x (Int y) = sum x y
-added x Null = Err NotInt
+added x _ = Err NotInt
 
 -- what a value answers to `add`
 unfoldable pub sum_of : Plain → List Plain → Result Plain Problem
 sum_of (Int x) (y ∷ []) = added x y
 sum_of (Int x) [] = Err NoMethod
 sum_of (Int x) (y ∷ z ∷ zs) = Err NoMethod
-sum_of Null args = Err NoMethod
+sum_of _ args = Err NoMethod
+
+-- what a value that is no object answers
+unfoldable pub data_answer : Words → Plain → List Plain → Result Plain Problem
+data_answer verb x args = if bytes_eq verb (codes "add") then sum_of x args else Err NoMethod
 
 -- the last line of a call, and its outcome
 unfoldable pub ended : ℕ → Result Plain Problem → Act Plain
@@ -155,19 +222,143 @@ ended act (Err p) = do
   tell (event.Thrown act (held.Text (problem_id p)))
   fail (Thrown (problem_id p))
 
-unfoldable pub call_add : ℕ → Plain → Words → List Plain → Act Plain
-call_add act x verb args = do
+-- a call on what is no object
+unfoldable pub call_data : ℕ → Plain → Words → List Plain → Act Plain
+call_data act x verb args = do
   tell (event.Call act (held_value x) verb (map held_value args) None)
-  ended act (sum_of x args)
+  ended act (data_answer verb x args)
 
-unfoldable pub call : ℕ → Plain → Words → List Plain → Act Plain
-call act x verb args = if bytes_eq verb (codes "add") then call_add act x verb args else fail Unbuilt
-
--- ---- nodes
+unfoldable pub call_plain : ℕ → Plain → Words → List Plain → Act Plain
+call_plain act x verb args = if is_built_verb verb then call_data act x verb args else fail Unbuilt
 
 pub record Evaluator : Type 0 where
   pub expression : ℕ → Scope → Act (Plain × Scope)
   pub pattern : ℕ → Plain → Scope → Act Scope
+
+-- ---- objects
+
+-- what a name was bound to that an object holds
+abbrev pub bound_back : Capture → Option Bound
+bound_back (capture.Fixed v g) = option_map Fixed (plain_of v)
+bound_back (capture.Slot k) = Some (Slot k)
+
+unfoldable pub with_back : List Binding → Words → Option Bound → Option (List Binding)
+with_back bs x (Some b) = Some (bs ++ record { noun = x; bound = b } ∷ [])
+with_back bs x None = None
+
+-- what the names were bound to that an object holds, behind others
+unfoldable pub all_back : Option (List Binding) → List Caught → Option (List Binding)
+all_back None cs = None
+all_back (Some bs) [] = Some bs
+all_back (Some bs) (c ∷ cs) = all_back (with_back bs c.noun (bound_back c.capture)) cs
+
+-- the bindings of these names, of those that are bound, behind others
+unfoldable pub captures : List Binding → List Binding → List Words → List Binding
+captures so_far bs [] = so_far
+captures so_far bs (x ∷ xs) = captures (with_bound so_far x (found_from None bs x)) bs xs
+
+unfoldable pub new_object : ℕ → List Binding → Act ℕ
+new_object node bs = λ s. (Ok (length s.heap.things), record s { heap = record s.heap { things = s.heap.things ++ plain_thing (record { node = node; nouns = bs }) ∷ [] } })
+
+-- the scope in which an object's name is bound to it
+unfoldable pub named : Option Node → ℕ → Scope → Scope
+named (Some (Final x g)) me here = with_noun x (Fixed (Obj me)) here
+named _ me here = here
+
+unfoldable pub object_made : ℕ → Words → List Binding → ℕ → Scope → Act (Plain × Scope)
+object_made node x bs me here = do
+  i ← new_object node bs
+  tell (event.Made here.act (held.Obj me) x (map (λ b. capture_of b.bound) bs) [])
+  give (Obj me, here)
+
+unfoldable pub object_in : ℕ → Words → List Words → ℕ → Scope → Act (Plain × Scope)
+object_in node x free me here = object_made node x (captures [] here.nouns free) me here
+
+unfoldable pub make_object : ℕ → Option Node → List Words → Scope → Act (Plain × Scope)
+make_object node p free here = λ s. object_in node (name_of p) free (length s.heap.things) (named p (length s.heap.things) here) s
+
+unfoldable pub object_node : List Node → ℕ → ℕ → List ℕ → Scope → Act (Plain × Scope)
+object_node tree id p [] here = make_object id (slice_get tree p) (free_names tree id) here
+object_node tree id p (a ∷ as') here = fail Unbuilt
+
+-- patterns at values, one after another
+unfoldable pub bind_all : Evaluator → List ℕ → List Plain → Scope → Act Scope
+bind_all rec [] vs here = give here
+bind_all rec (p ∷ ps) [] here = give here
+bind_all rec (p ∷ ps) (v ∷ vs) here = do
+  after ← rec.pattern p v here
+  bind_all rec ps vs after
+
+unfoldable pub suits : Words → ℕ → Option Node → Bool
+suits verb n (Some (Method v ps b)) = if bytes_eq v verb then length ps == n else false
+suits verb n _ = false
+
+-- the first method of that verb and that many patterns
+unfoldable pub first_method : List Node → List ℕ → Words → ℕ → Option Node
+first_method tree [] verb n = None
+first_method tree (m ∷ ms) verb n = if suits verb n (slice_get tree m) then slice_get tree m else first_method tree ms verb n
+
+unfoldable pub run_method : Evaluator → List ℕ → ℕ → List Plain → Scope → Act Plain
+run_method rec ps b args here = do
+  inner ← bind_all rec ps args here
+  x ← rec.expression b inner
+  give x.0
+
+unfoldable pub run_found : Evaluator → Option Node → List Plain → Scope → Act Plain
+run_found rec (Some (Method v ps b)) args here = run_method rec ps b args here
+run_found rec _ args here = fail (Thrown (problem_id NoMethod))
+
+-- what an object does with a message, in the environment of its captures
+unfoldable pub run_object : List Node → Evaluator → ℕ → Words → List Plain → Scope → Act Plain
+run_object tree rec node verb args here = run_found rec (first_method tree (members_of (slice_get tree node)) verb (length args)) args here
+
+-- with the last line of a call, by how it ended
+unfoldable pub closed_by : ℕ → Out Plain → Out Plain
+closed_by act (Ok v, s) = (tell (event.Back act (held_value v)) >> give v) s
+closed_by act (Err (Thrown id), s) = (tell (event.Thrown act (held.Text id)) >> fail (Thrown id)) s
+closed_by act (Err Fuel, s) = (Err Fuel, s)
+closed_by act (Err Deep, s) = (Err Deep, s)
+closed_by act (Err Astray, s) = (Err Astray, s)
+closed_by act (Err Unbuilt, s) = (Err Unbuilt, s)
+closed_by act (Err Memory, s) = (Err Memory, s)
+
+unfoldable pub closed : ℕ → Act Plain → Act Plain
+closed act m = λ s. closed_by act (m s)
+
+-- a call on an object begins an activation, in which the object's code runs
+unfoldable pub call_made : List Node → Evaluator → ℕ → ℕ → Words → List Plain → Object → Act Plain
+call_made tree rec act i verb args o = do
+  b ← new_activation (held.Obj i)
+  tell (event.Call act (held.Obj i) verb (map held_value args) (Some b))
+  closed act (run_object tree rec o.node verb args (record { act = b; nouns = reverse o.nouns }))
+
+unfoldable pub object_back : ℕ → Option (List Binding) → Result Object Exit
+object_back node (Some bs) = Ok (record { node = node; nouns = bs })
+object_back node None = Err Unbuilt
+
+unfoldable pub code_of : Shape → Result Object Exit
+code_of (shape.Made node caught stamps) = object_back node (all_back (Some []) caught)
+code_of _ = Err Unbuilt
+
+-- the code of what bears a number, and its captures
+unfoldable pub code_in : Option Thing → Result Object Exit
+code_in None = Err Astray
+code_in (Some t) = code_of t.shape
+
+unfoldable pub look_code : ℕ → Act Object
+look_code i = λ s. (code_in (slice_get s.heap.things i), s)
+
+unfoldable pub call_object : List Node → Evaluator → ℕ → ℕ → Words → List Plain → Act Plain
+call_object tree rec act i verb args = do
+  o ← look_code i
+  call_made tree rec act i verb args o
+
+unfoldable pub call : List Node → Evaluator → ℕ → Plain → Words → List Plain → Act Plain
+call tree rec act (Obj i) verb args = call_object tree rec act i verb args
+call tree rec act Null verb args = call_plain act Null verb args
+call tree rec act (Int z) verb args = call_plain act (Int z) verb args
+
+-- ---- nodes
 
 -- expressions from left to right, behind the values so far
 unfoldable pub gathered : Evaluator → List Plain → List ℕ → Scope → Act (List Plain × Scope)
@@ -182,11 +373,11 @@ last_of rec x (e ∷ es) here = do
   y ← rec.expression e here
   last_of rec y.0 es y.1
 
-unfoldable pub call_node : Evaluator → ℕ → Words → List ℕ → Scope → Act (Plain × Scope)
-call_node rec r verb args here = do
+unfoldable pub call_node : List Node → Evaluator → ℕ → Words → List ℕ → Scope → Act (Plain × Scope)
+call_node tree rec r verb args here = do
   x ← rec.expression r here
   xs ← gathered rec [] args x.1
-  v ← call here.act x.0 verb xs.0
+  v ← call tree rec here.act x.0 verb xs.0
   give (v, xs.1)
 
 unfoldable pub define : Evaluator → ℕ → Option ℕ → ℕ → Scope → Act (Plain × Scope)
@@ -200,36 +391,69 @@ unfoldable pub literal_value : Literal → Result Plain Exit
 literal_value (literal.Int z) = Ok (Int z)
 literal_value _ = Err Unbuilt
 
-unfoldable pub in_scope : Scope → Result Plain Exit → Act (Plain × Scope)
-in_scope here r = do
-  v ← answer r
+unfoldable pub literal_node : Literal → Scope → Act (Plain × Scope)
+literal_node l here = do
+  v ← answer (literal_value l)
   give (v, here)
 
-unfoldable pub step : Evaluator → Node → Scope → Act (Plain × Scope)
-step rec (Lit l) here = in_scope here (literal_value l)
-step rec (Noun x) here = in_scope here (noun_value x here)
-step rec (Def p j e) here = define rec p j e here
-step rec (Call r verb args) here = call_node rec r verb args here
-step rec (Sequence es) here = last_of rec Null es here
-step rec (Final x g) here = fail Astray
-step rec _ here = fail Unbuilt
+unfoldable pub noun_node : Words → Scope → Act (Plain × Scope)
+noun_node x here = do
+  v ← read_bound here.act (found_from None here.nouns x) x
+  give (v, here)
+
+-- what the noun stands for before the value is evaluated is written
+unfoldable pub set_node : Evaluator → Words → ℕ → Scope → Act (Plain × Scope)
+set_node rec x e here = do
+  v ← rec.expression e here
+  u ← write_bound here.act (found_from None here.nouns x) v.0
+  give (u, v.1)
+
+unfoldable pub step : List Node → Evaluator → ℕ → Node → Scope → Act (Plain × Scope)
+step tree rec id (Lit l) here = literal_node l here
+step tree rec id (Noun x) here = noun_node x here
+step tree rec id (Set x e) here = set_node rec x e here
+step tree rec id (Def p j e) here = define rec p j e here
+step tree rec id (Call r verb args) here = call_node tree rec r verb args here
+step tree rec id (Sequence es) here = last_of rec Null es here
+step tree rec id (ObjectNode p auditors members) here = object_node tree id p auditors here
+step tree rec id (Method v ps b) here = fail Astray
+step tree rec id (Final x g) here = fail Astray
+step tree rec id (Var x g) here = fail Astray
+step tree rec id (Any g) here = fail Astray
+step tree rec id _ here = fail Unbuilt
 
 unfoldable pub bind_final : Words → Option ℕ → Plain → Scope → Act Scope
-bind_final x None v here = give (with_noun x v here)
+bind_final x None v here = give (with_noun x (Fixed v) here)
 bind_final x (Some g) v here = fail Unbuilt
+
+unfoldable pub bind_var : Words → Option ℕ → Plain → Scope → Act Scope
+bind_var x (Some g) v here = fail Unbuilt
+bind_var x None v here = do
+  k ← new_slot v
+  tell (event.Slot here.act k (held_value v))
+  give (with_noun x (Slot k) here)
+
+unfoldable pub bind_any : Option ℕ → Scope → Act Scope
+bind_any None here = give here
+bind_any (Some g) here = fail Unbuilt
 
 unfoldable pub bind_step : Node → Plain → Scope → Act Scope
 bind_step (Final x g) v here = bind_final x g v here
+bind_step (Var x g) v here = bind_var x g v here
+bind_step (Any g) v here = bind_any g here
 bind_step (Lit l) v here = fail Astray
 bind_step (Noun x) v here = fail Astray
+bind_step (Set x e) v here = fail Astray
 bind_step (Def p j e) v here = fail Astray
 bind_step (Call r verb args) v here = fail Astray
 bind_step (Sequence es) v here = fail Astray
+bind_step (ObjectNode p auditors members) v here = fail Astray
+bind_step (Method u ps b) v here = fail Astray
 bind_step _ v here = fail Unbuilt
 
-unfoldable pub step_found : Evaluator → Option Node → Scope → Act (Plain × Scope)
-step_found rec None here = fail Astray
-step_found rec (Some n) here = step rec n here
+unfoldable pub step_found : List Node → Evaluator → ℕ → Option Node → Scope → Act (Plain × Scope)
+step_found tree rec id None here = fail Astray
+step_found tree rec id (Some n) here = step tree rec id n here
 
 unfoldable pub bind_found : Option Node → Plain → Scope → Act Scope
 bind_found None v here = fail Astray
@@ -237,7 +461,7 @@ bind_found (Some n) v here = bind_step n v here
 
 unfoldable pub deeper : List Node → Evaluator → Evaluator
 deeper tree rec = record {
-  expression = λ id here. spend >> step_found rec (slice_get tree id) here;
+  expression = λ id here. spend >> step_found tree rec id (slice_get tree id) here;
   pattern = λ id v here. spend >> bind_found (slice_get tree id) v here;
 }
 
@@ -249,11 +473,11 @@ evaluator tree (suc d) = deeper tree (evaluator tree d)
 -- the opening turn evaluates the program in an activation of its own, where no noun is bound
 unfoldable pub opening : List Node → ℕ → Act Plain
 opening tree depth = do
-  a ← new_activation
+  a ← new_activation held.Null
   x ← (evaluator tree depth).expression 0 (record { act = a; nouns = [] })
   give x.0
 
 -- opens the steps, and not the recursions
 unfoldable pub opened_steps : Unit {0}
-unfolding and_then ◌>>=◌ ◌>>◌ give fail answer tell spent spend new_activation safe_plain noun_value_of noun_value sum added sum_of ended call_add call call_node define literal_value in_scope step bind_final bind_step step_found bind_found opening
+unfolding and_then ◌>>=◌ ◌>>◌ give fail answer tell spent spend new_activation new_slot write_told slot_read slot_found read_slot slot_written write_slot safe_plain read_held read_bound write_held write_bound sum added sum_of data_answer ended call_data call_plain call_node with_back with_bound new_object named object_made object_in make_object object_node suits run_method run_found run_object closed_by closed call_made object_back code_of code_in look_code call_object call define literal_value literal_node noun_node set_node step bind_final bind_var bind_any bind_step step_found bind_found opening
 opened_steps = tt

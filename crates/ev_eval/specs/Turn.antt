@@ -10,7 +10,7 @@ use Rattle.ev_machine.specs.Eval.{evaluator}
 use Rattle.ev_eval.specs.declared.turn.Ended.{Ended}
 use Rattle.ev_eval.specs.declared.turn.Ended.TheVariants as ended
 use Rattle.ev_eval.specs.Reading.{World, text_of, value_of, vat_of}
-use Rattle.ev_eval.specs.Steps.{held_value}
+use Rattle.ev_eval.specs.Plain.{held_value}
 use Rattle.ev_eval.specs.declared.exit.Exit.{Exit}
 use Rattle.ev_eval.specs.declared.exit.Exit.TheVariants as exit
 use Rattle.ev_eval.specs.declared.plain.Plain.{Plain}

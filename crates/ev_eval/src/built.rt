@@ -2,7 +2,7 @@
 
 ghost use Rattle.std.specs.Prelude.{◌≡◌};
 ghost use Rattle.ev_base.specs.SafeScope.{safe_value};
-ghost use Rattle.ev_eval.specs.Built.{is_built, is_built_node, is_built_safe, is_int};
+ghost use Rattle.ev_eval.specs.Built.{is_built, is_built_node, is_built_safe, is_built_verb, is_int};
 
 use ev_base::{Value, safe_value};
 use ev_kernel::{Kernel, Literal, Node};
@@ -23,6 +23,27 @@ fn is_built_noun(noun: &str) -> bool
     }
 }
 
+/// Whether integers answer to a verb in a way that is built. They answer `no method` to all verbs but `add` and those that are not
+/// built.
+pub fn is_built_verb(verb: &str) -> bool
+    ensures { result ≡ is_built_verb verb.now }
+{
+    !matches!(
+        verb,
+        "subtract"
+            | "multiply"
+            | "floorDivide"
+            | "remainder"
+            | "mod"
+            | "pow"
+            | "and"
+            | "or"
+            | "xor"
+            | "negate"
+            | "asChar"
+    )
+}
+
 #[tactic(auto, unfolding(crate::specs::Built::is_built_node))]
 fn is_built_node(node: &Node) -> bool
     ensures { result ≡ is_built_node node.now }
@@ -30,16 +51,22 @@ fn is_built_node(node: &Node) -> bool
     match node {
         Node::Lit(literal) => is_int(literal),
         Node::Noun(noun) => is_built_noun(noun.as_str()),
+        Node::Set(_, _) => true,
         Node::Def { exit, .. } => exit.is_none(),
-        Node::Call { verb, .. } => verb.as_str() == "add",
+        Node::Call { verb, .. } => is_built_verb(verb.as_str()),
         Node::Sequence(_) => true,
+        Node::Object { auditors, .. } => auditors.is_empty(),
+        Node::Method { .. } => true,
         Node::Final(_, guard) => guard.is_none(),
+        Node::Var(_, guard) => guard.is_none(),
+        Node::Any(guard) => guard.is_none(),
         _ => false,
     }
 }
 
 /// Whether each node of a program is of a kind that is evaluated so far: a literal of an integer, a noun that is `null` or not
-/// in the safe scope, a definition without an ejector, a call of `add`, a sequence, or a final pattern without a guard.
+/// in the safe scope, an assignment, a definition without an ejector, a call of a verb that is built, a sequence, an object without
+/// auditors, a method, or a final, var or any pattern without a guard.
 #[tactic(auto, unfolding(crate::specs::Built::is_built))]
 pub fn is_built(program: &Kernel) -> bool
     ensures { result ≡ is_built program.now }

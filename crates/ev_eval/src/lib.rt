@@ -5,10 +5,13 @@ pub mod built;
 pub mod call;
 pub mod evaluate;
 pub mod exit;
+pub mod nouns;
+pub mod object;
 pub mod pattern;
 pub mod plain;
 pub mod room;
 pub mod scope;
+pub mod slots;
 pub mod turn;
 
 pub use built::is_built;

@@ -1,14 +1,19 @@
 //! Binding of patterns.
 
 ghost use Rattle.std.specs.Prelude.{◌≡◌, option_map, slice_get};
-ghost use Rattle.ev_eval.specs.Steps.{Binds, bind_final, bind_step, evaluator};
+ghost use Rattle.ev_eval.specs.Plain.{Keeps};
+ghost use Rattle.ev_eval.specs.declared.room.Room.{Room};
+ghost use Rattle.ev_eval.specs.declared.scope.Scope.{Scope};
+ghost use Rattle.ev_eval.specs.Steps.{Binds, bind_all, bind_any, bind_final, bind_step, bind_var, evaluator};
 
 use crate::exit::Exit;
-use crate::plain::Plain;
-use crate::room::{Room, spend};
-use crate::scope::{Binding, Scope};
+use crate::plain::{Plain, held_value};
+use crate::room::{Room, spend, tell};
+use crate::scope::{Binding, Bound, Scope};
+use crate::slots::new_slot;
 use ev_base::{NodeId, Str};
-use ev_kernel::Node;
+use ev_heap::Happened;
+use ev_kernel::{Kernel, Node};
 
 /// The node of a number.
 pub fn node_at(tree: &[Node], id: NodeId) -> Option<&Node>
@@ -30,15 +35,56 @@ fn bind_final(
     room: &mut Room,
 ) -> Result<(), Exit>
     ensures outcome { Binds result here.new room.new (bind_final noun.now guard value here.old room.old) }
-    ensures kept { room.new.heap ≡ room.old.heap }
+    ensures kept { Keeps room.old.heap room.new.heap }
 {
     match guard {
         Some(_) => Err(Exit::Unbuilt),
         None => {
             let noun = Str::copy_of(room.alloc, noun)?;
-            here.nouns.push(Binding { noun, value })?;
+            here.nouns.push(Binding {
+                noun,
+                bound: Bound::Fixed(value),
+            })?;
             Ok(())
         }
+    }
+}
+
+/// Binds a noun to a new var slot with a value.
+#[tactic(auto, using(crate::proofs::Exits::ends), unfolding(crate::specs::Steps::opened_steps))]
+fn bind_var(
+    noun: &str,
+    guard: Option<NodeId>,
+    value: Plain,
+    here: &mut Scope,
+    room: &mut Room,
+) -> Result<(), Exit>
+    ensures outcome { Binds result here.new room.new (bind_var noun.now guard value here.old room.old) }
+    ensures kept { Keeps room.old.heap room.new.heap }
+{
+    match guard {
+        Some(_) => Err(Exit::Unbuilt),
+        None => {
+            let slot = new_slot(value, room)?;
+            tell(room, Happened::Slot(here.act, slot, held_value(value)))?;
+            let noun = Str::copy_of(room.alloc, noun)?;
+            here.nouns.push(Binding {
+                noun,
+                bound: Bound::Slot(slot),
+            })?;
+            Ok(())
+        }
+    }
+}
+
+/// Takes any value, and binds nothing.
+#[tactic(auto, unfolding(crate::specs::Steps::opened_steps))]
+fn bind_any(guard: Option<NodeId>) -> Result<(), Exit>
+    ensures { (here : Scope) → (room : Room) → Binds result here room (bind_any guard here room) }
+{
+    match guard {
+        Some(_) => Err(Exit::Unbuilt),
+        None => Ok(()),
     }
 }
 
@@ -46,12 +92,20 @@ fn bind_final(
 #[tactic(auto, using(crate::proofs::Exits::ends), unfolding(crate::specs::Steps::opened_steps))]
 fn bind_step(node: &Node, value: Plain, here: &mut Scope, room: &mut Room) -> Result<(), Exit>
     ensures outcome { Binds result here.new room.new (bind_step node.now value here.old room.old) }
-    ensures kept { room.new.heap ≡ room.old.heap }
+    ensures kept { Keeps room.old.heap room.new.heap }
 {
     match node {
         Node::Final(noun, guard) => bind_final(noun.as_str(), *guard, value, here, room),
-        Node::Lit(_) | Node::Noun(_) | Node::Def { .. } | Node::Call { .. } | Node::Sequence(_) =>
-            Err(Exit::Astray),
+        Node::Var(noun, guard) => bind_var(noun.as_str(), *guard, value, here, room),
+        Node::Any(guard) => bind_any(*guard),
+        Node::Lit(_)
+        | Node::Noun(_)
+        | Node::Set(_, _)
+        | Node::Def { .. }
+        | Node::Call { .. }
+        | Node::Sequence(_)
+        | Node::Object { .. }
+        | Node::Method { .. } => Err(Exit::Astray),
         _ => Err(Exit::Unbuilt),
     }
 }
@@ -59,22 +113,44 @@ fn bind_step(node: &Node, value: Plain, here: &mut Scope, room: &mut Room) -> Re
 /// Binds the names of the pattern at a node to a value, at most so many levels deep.
 #[tactic(auto, using(crate::proofs::Depth::pattern_deep, crate::proofs::Depth::pattern_goes, crate::proofs::Exits::ends), unfolding(crate::specs::Steps::opened_steps))]
 pub fn bind(
-    tree: &[Node],
+    program: &Kernel,
     depth: u32,
     id: NodeId,
     value: Plain,
     here: &mut Scope,
     room: &mut Room,
 ) -> Result<(), Exit>
-    ensures outcome { Binds result here.new room.new ((evaluator tree.now depth).pattern id value here.old room.old) }
-    ensures kept { room.new.heap ≡ room.old.heap }
+    ensures outcome { Binds result here.new room.new ((evaluator program.now depth).pattern id value here.old room.old) }
+    ensures kept { Keeps room.old.heap room.new.heap }
 {
     if depth == 0 {
         return Err(Exit::Deep);
     }
     spend(room)?;
-    match node_at(tree, id) {
+    match node_at(program.nodes(), id) {
         None => Err(Exit::Astray),
         Some(node) => bind_step(node, value, here, room),
     }
+}
+
+/// Binds the names of patterns to values, one after another.
+#[tactic(auto, using(crate::proofs::Exits::ends), unfolding(crate::specs::Steps::opened_steps, crate::specs::Steps::bind_all))]
+pub fn bind_all(
+    program: &Kernel,
+    depth: u32,
+    patterns: &[NodeId],
+    values: &[Plain],
+    here: &mut Scope,
+    room: &mut Room,
+) -> Result<(), Exit>
+    ensures outcome { Binds result here.new room.new (bind_all (evaluator program.now depth) patterns.now values.now here.old room.old) }
+    ensures kept { Keeps room.old.heap room.new.heap }
+{
+    for (index, pattern) in patterns.iter().enumerate() {
+        let Some(value) = values.get(index) else {
+            return Ok(());
+        };
+        bind(program, depth, *pattern, *value, here, room)?;
+    }
+    Ok(())
 }

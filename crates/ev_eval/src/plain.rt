@@ -1,16 +1,18 @@
 //! The values of what is built.
 
 ghost use Rattle.std.specs.Prelude.{◌≡◌, map, IfOk};
-ghost use Rattle.ev_eval.specs.Steps.{held_value};
+ghost use Rattle.ev_eval.specs.Plain.{held_value};
 
-use ev_base::{Memory, Seq, Value};
+use ev_base::{Memory, ObjId, Seq, Value};
 use std::alloc::Global;
 
-/// Null or an integer.
+/// Null, an integer, or an object of this vat.
 #[derive(Clone, Copy, Debug, PartialEq, Eq)]
 pub enum Plain {
     Null,
     Int(i128),
+    /// An object, by its number.
+    Obj(u64),
 }
 
 /// The value as a heap holds it.
@@ -20,6 +22,7 @@ pub fn held_value(value: Plain) -> Value
     match value {
         Plain::Null => Value::Null,
         Plain::Int(number) => Value::Int(number),
+        Plain::Obj(number) => Value::Obj(ObjId(number)),
     }
 }
 

@@ -1,7 +1,6 @@
 //! Where evaluation works: the heap of a vat, the fuel that is left, and what happened.
 
-ghost use Rattle.std.specs.Prelude.{◌≡◌, IfErr};
-ghost use Rattle.ev_eval.specs.declared.exit.Exit.TheVariants.{Memory as NoMemory};
+ghost use Rattle.ev_eval.specs.Plain.{Keeps};
 ghost use Rattle.ev_eval.specs.Steps.{Gives, new_activation, spend, tell};
 
 use crate::exit::Exit;
@@ -21,7 +20,7 @@ pub struct Room {
 #[tactic(auto, unfolding(crate::specs::Steps::opened_steps))]
 pub fn spend(room: &mut Room) -> Result<(), Exit>
     ensures outcome { Gives result room.new (spend room.old) }
-    ensures kept { room.new.heap ≡ room.old.heap }
+    ensures kept { Keeps room.old.heap room.new.heap }
 {
     if room.micro.spend(1) {
         Ok(())
@@ -34,7 +33,7 @@ pub fn spend(room: &mut Room) -> Result<(), Exit>
 #[tactic(auto, unfolding(crate::specs::Steps::opened_steps))]
 pub fn tell(room: &mut Room, event: Happened) -> Result<(), Exit>
     ensures outcome { Gives result room.new (tell event room.old) }
-    ensures kept { room.new.heap ≡ room.old.heap }
+    ensures kept { Keeps room.old.heap room.new.heap }
 {
     match room.micro.push(event) {
         Ok(()) => Ok(()),
@@ -42,13 +41,13 @@ pub fn tell(room: &mut Room, event: Happened) -> Result<(), Exit>
     }
 }
 
-/// Begins the activation of an opening turn.
+/// Begins an activation, which runs the code of that receiver.
 #[tactic(auto, unfolding(crate::specs::Steps::opened_steps))]
-pub fn new_activation(room: &mut Room) -> Result<ActId, Exit>
-    ensures outcome { Gives result room.new (new_activation room.old) }
-    ensures err { IfErr result (λ e. e ≡ NoMemory) }
+pub fn new_activation(receiver: Value, room: &mut Room) -> Result<ActId, Exit>
+    ensures outcome { Gives result room.new (new_activation receiver room.old) }
+    ensures kept { Keeps room.old.heap room.new.heap }
 {
-    match room.heap.start_activation(Value::Null) {
+    match room.heap.start_activation(receiver) {
         Ok(act) => Ok(act),
         Err(Memory) => Err(Exit::Memory),
     }

@@ -1,5 +1,5 @@
 use crate::{Ended, Start, is_built, new_heap, run_turn};
-use ev_base::{Limits, TextId, Value};
+use ev_base::{Limits, ObjId, TextId, Value};
 use ev_heap::Micro;
 use ev_kernel::read_form;
 use std::alloc::Global;
@@ -79,5 +79,48 @@ fn problems(rt: HostRuntime) -> Result<(), Fail> {
     );
     assert_eq!(rt; run(alloc, "(noun x)", 9, 9)?, some(Ended::Astray, 8, 0));
     assert_eq!(rt; run(alloc, "(hide (lit 1))", 9, 9)?, None);
+    Ok(())
+}
+
+#[test]
+fn slots(rt: HostRuntime) -> Result<(), Fail> {
+    let alloc = rt.alloc();
+    let more = "(seq (def (var n) (lit 1)) (set n (call (noun n) add (lit 4))) (noun n))";
+    let five = Ended::Value(Value::Int(5));
+    assert_eq!(rt; run(alloc, more, 9, 4)?, some(five, 0, 6));
+    let hidden = "(seq (def (var n) (lit 1)) (set n (seq (def (final n) (lit 7)) (noun n))))";
+    let seven = Ended::Value(Value::Int(7));
+    assert_eq!(rt; run(alloc, hidden, 10, 9)?, some(seven, 0, 2));
+    let fixed = "(seq (def (final n) (lit 1)) (set n (lit 2)))";
+    assert_eq!(rt; run(alloc, fixed, 9, 9)?, some(Ended::Astray, 3, 0));
+    assert_eq!(rt;
+        run(alloc, "(set x (lit 1))", 9, 9)?,
+        some(Ended::Astray, 7, 0)
+    );
+    Ok(())
+}
+
+#[test]
+fn objects(rt: HostRuntime) -> Result<(), Fail> {
+    let alloc = rt.alloc();
+    let counter = "(seq (def (var n) (lit 0)) \
+        (object (final up) () (method run () (set n (call (noun n) add (lit 1))))) \
+        (object (final get) () (method run () (noun n))) \
+        (call (noun up) run) (call (noun get) run))";
+    let one = Ended::Value(Value::Int(1));
+    assert_eq!(rt; run(alloc, counter, 15, 5)?, some(one, 0, 12));
+    assert_eq!(rt; run(alloc, counter, 15, 4)?, some(Ended::Deep, 5, 4));
+    let sum = "(seq (object (final sum) () \
+        (method of ((final a)) (noun a)) \
+        (method of ((final a) (any)) (call (noun a) add (noun b)))) \
+        (call (noun sum) of (lit 3)))";
+    let three = Ended::Value(Value::Int(3));
+    assert_eq!(rt; run(alloc, sum, 7, 9)?, some(three, 0, 3));
+    let itself = "(call (object (final me) () (method run () (noun me))) run)";
+    let me = Ended::Value(Value::Obj(ObjId(0)));
+    assert_eq!(rt; run(alloc, itself, 3, 9)?, some(me, 0, 3));
+    let none = "(call (object (any) () (method run () (lit 1))) run (lit 2))";
+    let thrown = Ended::Thrown(TextId(2));
+    assert_eq!(rt; run(alloc, none, 9, 9)?, some(thrown, 6, 3));
     Ok(())
 }

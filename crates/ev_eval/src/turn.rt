@@ -1,10 +1,10 @@
 //! Turns.
 
 ghost use Rattle.std.specs.Prelude.{◌≡◌, ◌++◌, ◌∷◌, [], true, IfOk, OnOk};
-ghost use Rattle.ev_base.specs.declared.values.Value.TheVariants.{Null};
 ghost use Rattle.ev_heap.specs.Contents.{nothing};
 ghost use Rattle.ev_eval.specs.Built.{is_built};
-ghost use Rattle.ev_eval.specs.Reading.{World, names, problems, vat_of};
+ghost use Rattle.ev_eval.specs.Plain.{IsPlain, Keeps};
+ghost use Rattle.ev_eval.specs.Reading.{World, all_promises, names, problems, vat_of};
 ghost use Rattle.ev_eval.specs.Turn.{Ends, EndsAs, EndsBy, opened};
 
 use crate::evaluate::opening;
@@ -41,7 +41,8 @@ pub enum Ended {
 
 /// A heap that holds the texts of the problems that evaluation throws, and nothing else.
 pub fn new_heap(alloc: Global) -> Result<Heap, Memory>
-    ensures { IfOk result (λ heap. heap ≡ record nothing { texts = problems }) }
+    ensures texts { IfOk result (λ heap. heap ≡ record nothing { texts = problems }) }
+    ensures plain { IfOk result IsPlain }
 {
     let mut heap = Heap::new(alloc);
     heap.make_text("integer overflow")?;
@@ -73,8 +74,10 @@ fn ending(outcome: Result<Plain, Exit>) -> Result<Ended, Memory>
     }
 }
 
-/// Runs a turn of a vat whose heap began with the texts of the problems (`new_heap`). What happens is added to `micro`, and each
-/// node that begins spends a unit of its fuel. No node begins below `limits.depth` levels.
+/// Runs the opening turn of a vat whose heap began with the texts of the problems (`new_heap`), and in which only turns of
+/// this program have made var slots and objects.
+/// What happens is added to `micro`, and each node that begins spends a unit of its fuel. No node begins below
+/// `limits.depth` levels.
 ///
 /// After want of memory, heap and micro hold what was done up to there.
 pub fn run_turn(
@@ -86,8 +89,10 @@ pub fn run_turn(
     micro: &mut Micro,
 ) -> Result<Ended, Memory>
     requires built { is_built program.now ≡ true }
-    ensures turn { (w : World) → heap.old.texts ≡ problems ++ w.texts → Ends w result heap.new micro.new (opened (names w) program.now limits.depth (vat_of w heap.old micro.old)) }
-    ensures kept { OnOk result (heap.new ≡ record heap.old { codes = heap.old.codes ++ Null ∷ [] }) }
+    requires plain { IsPlain heap.old }
+    ensures turn { (w : World) → heap.old.texts ≡ problems ++ w.texts → all_promises w.known ≡ true → Ends w result heap.new micro.new (opened (names w) program.now limits.depth (vat_of w heap.old micro.old)) }
+    ensures kept { Keeps heap.old heap.new }
+    ensures plain { OnOk result (IsPlain heap.new) }
 {
     let mut room = Room {
         alloc,
@@ -95,7 +100,7 @@ pub fn run_turn(
         micro: mem::replace(micro, Micro::new(alloc, 0)),
     };
     let outcome = match start {
-        Start::Program => opening(program.nodes(), limits.depth, &mut room),
+        Start::Program => opening(program, limits.depth, &mut room),
     };
     let Room {
         alloc: _,

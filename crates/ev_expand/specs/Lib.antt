@@ -1,3 +1,4 @@
 pub mod Marked
 pub mod Table
 pub mod Expanded
+pub mod Faults

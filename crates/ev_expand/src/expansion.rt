@@ -29,6 +29,11 @@ pub enum ExpandFault {
 }
 
 impl fmt::Display for ExpandFault {
+    ghost use Rattle.std.specs.Prelude.{Some};
+    ghost use Rattle.ev_expand.specs.Faults.{fault_text};
+
+    ghost output = { λ fault. Some (fault_text fault) };
+
     fn fmt<W: fmt::Write>(&self, f: &mut fmt::Formatter<W>) -> fmt::Result {
         match self {
             ExpandFault::MisplacedReturn(token) => write!(f, "misplaced return at token {token}"),

@@ -101,6 +101,20 @@ impl Heap {
         Ok(id)
     }
 
+    /// How many objects, ejectors, resolvers and auditions are kept.
+    pub fn object_count(&self) -> u64
+        ensures { result ≡ length self.now.things }
+    {
+        self.things.len() as u64
+    }
+
+    /// How many var slots are kept.
+    pub fn slot_count(&self) -> u64
+        ensures { result ≡ length self.now.slots }
+    {
+        self.slots.len() as u64
+    }
+
     /// The value of a var slot.
     pub fn read(&self, slot: SlotId) -> Value
         requires { slot < length self.now.slots }

@@ -1,6 +1,6 @@
 //! What a heap keeps.
 
-use ev_base::{NodeId, ObjId, PrimId, PromId, Seq, SlotId, Value};
+use ev_base::{NodeId, ObjId, PrimId, PromId, Seq, SlotId, Str, Value};
 
 /// The guard under which a name is bound: a native guard, or an object.
 #[derive(Clone, Copy, Debug, PartialEq, Eq)]
@@ -16,8 +16,13 @@ pub enum Capture {
     Fixed { value: Value, guard: GuardKind },
     /// A name that was bound by `var`.
     Slot(SlotId),
-    /// The object's own name.
-    Itself,
+}
+
+/// A name that an object's code uses, and what the object holds of it. Its own name is bound finally to it.
+#[derive(Drop)]
+pub struct Caught {
+    pub noun: Str,
+    pub capture: Capture,
 }
 
 /// What bears a number of a vat's one count of objects.
@@ -26,7 +31,7 @@ pub enum Shape {
     /// An object of the program: the node of its object expression, its captures in order of first use, and its stamps.
     Made {
         node: NodeId,
-        captures: Seq<Capture>,
+        captures: Seq<Caught>,
         stamps: Seq<Value>,
     },
     Ejector,

@@ -8,7 +8,7 @@ pub mod micro;
 
 pub use happened::Happened;
 pub use heap::{Heap, ListFault};
-pub use kept::{Capture, Cell, GuardKind, Listed, Shape, Thing};
+pub use kept::{Capture, Caught, Cell, GuardKind, Listed, Shape, Thing};
 pub use micro::Micro;
 
 #[cfg(test)]

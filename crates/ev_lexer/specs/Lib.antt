@@ -1,4 +1,5 @@
 pub mod Words
+pub mod Faults
 pub mod Pieces
 pub mod LineEnds
 pub mod Lexed

@@ -2,3 +2,4 @@ pub mod Bindings
 pub mod Scopes
 pub mod Tasks
 pub mod Answers
+pub mod Faults

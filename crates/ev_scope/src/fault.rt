@@ -17,6 +17,11 @@ pub enum ScopeFault {
 }
 
 impl fmt::Display for ScopeFault {
+    ghost use Rattle.std.specs.Prelude.{Some};
+    ghost use Rattle.ev_scope.specs.Faults.{fault_text};
+
+    ghost output = { λ fault. Some (fault_text fault) };
+
     fn fmt<W: fmt::Write>(&self, f: &mut fmt::Formatter<W>) -> fmt::Result {
         match self {
             ScopeFault::Unbound(id) => write!(f, "unbound noun at node {}", id.0),

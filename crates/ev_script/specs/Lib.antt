@@ -3,3 +3,4 @@ pub mod Head
 pub mod Vats
 pub mod Schedule
 pub mod Script
+pub mod Faults

@@ -1,5 +1,5 @@
 use Rattle.std.proofs.Common.{◌≡◌, map, take}
-use Rattle.ev_eval.specs.Steps.{held_value}
+use Rattle.ev_eval.specs.Plain.{held_value}
 use Rattle.ev_eval.proofs.plain.held_values.Given as goal
 
 abbrev pub invariant-loop-value : goal.invariant-loop-value

@@ -1,0 +1,10 @@
+pub mod Spares
+pub mod TurnKeeps
+pub mod Counts
+pub mod RefsCounts
+pub mod RefsAccount
+pub mod ArriveAccount
+pub mod TurnAccount
+pub mod RunCounts
+pub mod RunAccount
+pub mod RunFates
