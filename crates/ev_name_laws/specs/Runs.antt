@@ -1,6 +1,6 @@
 -- What holds of names in every world of every run.
-use Rattle.std.specs.Prelude.{◌≡◌, ℕ, zero, ◌<◌, List, ◌∷◌, ◌++◌, Some, true, slice_get, length, codes}
-use Rattle.ev_machine.specs.Values.{Value, Broken, Ref, Name, Promise, Answer, Gift, Foreign, spot_of}
+use Rattle.std.specs.Prelude.{◌≡◌, ℕ, zero, ◌<◌, List, ◌∷◌, ◌++◌, Some, true, false, slice_get, length, codes}
+use Rattle.ev_machine.specs.Values.{Value, Broken, Ref, Name, Promise, Answer, Gift, Foreign, spot_of, NoObject, same_name}
 use Rattle.ev_machine.specs.State.{Vat, is_in}
 use Rattle.ev_machine.specs.Refs.{follow}
 use Rattle.ev_machine_laws.specs.Breaks.{AtRest, settled_value}
@@ -55,6 +55,12 @@ NextNamesAreNew = InEachVat (λ w v s. (u : ℕ) (t : Vat Name) → slice_get w.
 -- what a vat knows are roots, promises, answers and gifts, and what it has had are messages
 abbrev pub NamesAndMessagesAreApart : Type 0
 NamesAndMessagesAreApart = InEachVat (λ w v s. AllOf IsEventual (names_in s.known) × AllOf IsMessageName s.mails)
+
+-- What the table of a vat has for a promise or a message is no object, and no name is both: the premises of the naming theorem, but that none is there twice.
+abbrev pub TablesAreApart : Type 0
+TablesAreApart = InEachVat (λ w v s. ((k : ℕ) (n : Name) → slice_get (names_in s.known) k ≡ Some n → spot_of v n ≡ NoObject)
+    × ((k : ℕ) (n : Name) → slice_get s.mails k ≡ Some n → spot_of v n ≡ NoObject)
+    × ((i j : ℕ) (a b : Name) → slice_get (names_in s.known) i ≡ Some a → slice_get s.mails j ≡ Some b → (same_name a b ≡ false) × (same_name b a ≡ false)))
 
 -- From any world of a run on: what settlings led, at a vat, to an object of a vat whose cut it noticed is followed there to broken partition.
 abbrev pub SeveredObjectsStayBroken : Type 0

@@ -10,6 +10,7 @@ ghost use Rattle.ev_name_laws.specs.Runs.{RootsAndPromisesAreKnownOnce};
 ghost use Rattle.ev_name_laws.specs.Runs.{OwnPromisesAreKnown};
 ghost use Rattle.ev_name_laws.specs.Runs.{NextNamesAreNew};
 ghost use Rattle.ev_name_laws.specs.Runs.{NamesAndMessagesAreApart};
+ghost use Rattle.ev_name_laws.specs.Runs.{TablesAreApart};
 ghost use Rattle.ev_name_laws.specs.Runs.{SeveredObjectsStayBroken};
 ghost use Rattle.ev_name_laws.specs.Runs.{FollowedBreaksStayBroken};
 
@@ -57,6 +58,13 @@ pub fn next_names_are_new()
 /// object is among the names known, and no name is both.
 pub fn names_and_messages_are_apart()
     ensures { NamesAndMessagesAreApart }
+{}
+
+/// In the table of a vat, which reads its own numbers, a promise and a message are no objects, and
+/// no name is both. The theorem on a vat's numbers asks this of its table, and that no name is there
+/// twice.
+pub fn tables_are_apart()
+    ensures { TablesAreApart }
 {}
 
 /// From any world of a run on, what settlings led, at a vat, to an object of a vat whose cut it
