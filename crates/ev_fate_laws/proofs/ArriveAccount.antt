@@ -1,16 +1,15 @@
 -- What arrives and what is noticed doubles no message.
-use Rattle.std.proofs.Common.{◌≡◌, ℕ, ◌+◌, ◌≤◌, Bool, true, false, List, Option, Some, None, refl, arith, length}
+use Rattle.std.proofs.Common.{◌≡◌, ℕ, ◌+◌, Bool, true, false, List, Option, Some, None, arith, length}
 use Rattle.ev_machine.specs.Values.{Words, Value, Null, Flag, Number, Letter, Text, Prim, Broken, Items, Ref, Name, Naming, IsAnswer, IsCarried}
-use Rattle.ev_machine.specs.State.{Message, Standing, Unsettled, WaitsOn, Viewed, Settled, Known, Passed, Passeds, Plain, AGift, Many, NoMore, More, Note, Deliver, Open, Ask, SettledTo, Elsewhere, Shorten, GiftEntry, Vat, Act, ◌>>=◌, ◌>>◌, ToTell, and_then, mail, give, look, come, alter}
-use Rattle.ev_machine.specs.Refs.{Place, Near, Mine, Away, Gone, settle, send_on}
+use Rattle.ev_machine.specs.State.{Standing, Unsettled, WaitsOn, Viewed, Settled, Known, Passed, Passeds, Plain, AGift, Many, NoMore, More, Note, Deliver, Open, Ask, SettledTo, Elsewhere, Shorten, GiftEntry, ◌>>=◌, ◌>>◌, ToTell, and_then, mail, give, look, come, alter}
+use Rattle.ev_machine.specs.Refs.{Place, Away, settle, send_on}
 use Rattle.ev_machine.specs.Arrive as arrive
 use Rattle.ev_machine.specs.Arrive.{Incoming, Old, New}
-use Rattle.ev_machine_laws.specs.Steps.{After}
 use Rattle.ev_machine_laws.proofs.Keeps.{Keeps}
 use Rattle.ev_fate_laws.specs.Fate.{one, in_note}
 use Rattle.ev_fate_laws.specs.Laws.{Accounted, coming}
 use Rattle.ev_fate_laws.proofs.Spares.{keeps_look}
-use Rattle.ev_fate_laws.proofs.RefsCounts.{free, spared, free_bind, free_then, after_trans, after_more, free_mail, free_come, free_to_tell}
+use Rattle.ev_fate_laws.proofs.RefsCounts.{spared, free_bind, free_then, after_trans, after_more, free_mail, free_come, free_to_tell}
 use Rattle.ev_fate_laws.proofs.RefsAccount.{free_refs, free_settle, free_resolve, free_inform, costs_send_on}
 
 module _ (cut : ℕ → Bool) (v : ℕ) (x : Name) (K : Naming Name Name) where
@@ -123,7 +122,7 @@ module _ (cut : ℕ → Bool) (v : ℕ) (x : Name) (K : Naming Name Name) where
   -- the message that has that name is sent on, once its arguments are learnt
   costs_sent_on : (from : ℕ) (z : Incoming Name Name) (verb : Words) (ys : Passeds (Incoming Name Name)) (id : Name)
       → Keeps (Accounted cut v x (one id x)) (arrive.learn_all K from ys >>= (λ args. arrive.learn_name K z >>= (λ n. look (λ s. s.number) >>= (λ u. come K (IsAnswer u id) u >>= (λ a. alter K (ToTell from) a >>
-        send_on K (settle K) (record { id = id; target = Ref n; verb = verb; args = args; answer = a }))))))
+      send_on K (settle K) (record { id = id; target = Ref n; verb = verb; args = args; answer = a }))))))
   costs_sent_on from z verb ys id = free_bind cut v x (one id x) (free_learn_all from ys) (λ args. free_bind cut v x (one id x) (free_learn_name z) (λ n. free_bind cut v x (one id x) (keeps_look _ (spared cut v x) _) (λ u.
       free_bind cut v x (one id x) (free_come cut v x K (IsAnswer u id) u) (λ a. free_then cut v x (one id x) (free_to_tell cut v x K from a) (costs_send_on cut v x K (settle K) (free_settle cut v x K) (record { id = id; target = Ref n; verb = verb; args = args; answer = a }))))))
 
@@ -131,8 +130,10 @@ module _ (cut : ℕ → Bool) (v : ℕ) (x : Name) (K : Naming Name Name) where
     costs_arrive_deliver : (from : ℕ) (m z : Incoming Name Name) (verb : Words) (ys : Passeds (Incoming Name Name)) → Keeps (Accounted cut v x (coming x m)) (arrive.arrive_deliver K from m z verb ys)
     unfolding arrive.arrive_deliver arrive.learn_message ◌>>=◌ and_then give mail coming
     costs_arrive_deliver from (Old m) z verb ys = record { after = λ s. (costs_sent_on from z verb ys m).after s }
-    costs_arrive_deliver from (New m h) z verb ys = record { after = λ s. let id = K.mailed (IsCarried m) (length s.mails) in
-        after_more cut v x (0 + one id x) (one m x) s (rw (carried m (length s.mails)) (omega arith)) _ (after_trans cut v x 0 (one id x) s _ ((free_mail cut v x K (IsCarried m)).after s) _ ((costs_sent_on from z verb ys id).after _)) }
+    costs_arrive_deliver from (New m h) z verb ys = record {
+      after = λ s. let id = K.mailed (IsCarried m) (length s.mails) in
+          after_more cut v x (0 + one id x) (one m x) s (rw (carried m (length s.mails)) (omega arith)) _ (after_trans cut v x 0 (one id x) s _ ((free_mail cut v x K (IsCarried m)).after s) _ ((costs_sent_on from z verb ys id).after _));
+    }
 
     pub costs_arrive : (from : ℕ) (n : Note (Incoming Name Name)) → Keeps (Accounted cut v x (in_note (coming x) n)) (arrive.arrive K from n)
     unfolding arrive.arrive in_note

@@ -1,11 +1,11 @@
 -- How single changes change the counts.
-use Rattle.std.proofs.Common.{◌≡◌, ℕ, zero, suc, ◌+◌, ◌≤◌, Bool, true, false, List, [], ◌∷◌, ◌++◌, Option, Some, None, refl, sym, ap, arith, nat_eq, leb, eqb-true, leb-true, ◌∙◌}
+use Rattle.std.proofs.Common.{◌≡◌, ℕ, suc, ◌+◌, ◌≤◌, Bool, true, false, List, [], ◌∷◌, ◌++◌, Option, Some, refl, sym, arith, eqb-true, leb-true, ◌∙◌}
 use Rattle.std.specs.Prelude.{nat_le, ◌==◌, ◌&&◌}
 use Rattle.std.proofs.lemmas.Bool.{le-leb}
 use Rattle.ev_machine.specs.Values.{Value, Name, Root, Object, Promise, Answer, Gift, Sent, Msg, Naming, same_name}
 use Rattle.ev_machine.specs.State.{Message, Standing, Unsettled, WaitsOn, Viewed, Settled, Known, Change, Hold, Wait, WaitOn, See, React, ToTell, Settle, Put, Happened, begun, changed, changed_to, unless_settled, with_change}
 use Rattle.ev_machine.specs.Refs.{entry_of}
-use Rattle.ev_fate_laws.specs.Fate.{once, one, among, at_names, sent_here, sent_in, gone_here, gone, where_cut, in_note, of_note, put_out}
+use Rattle.ev_fate_laws.specs.Fate.{once, one, among, at_names, sent_here, sent_in, gone_here, gone, where_cut, of_note, put_out}
 use Rattle.ev_fate_laws.specs.Laws.{numbered}
 
 pub among_end : (x : Name) (ms : List (Message Name)) (m : Message Name) → among x (ms ++ m ∷ []) ≡ among x ms + one m.id x
@@ -91,15 +91,15 @@ module _ {W : Type 0} (K : Naming Name W) where
   settled_frees x y k (Viewed q) h = omega arith
 
   settle_frees : (x : Name) (y : Value Name) (k j : Known Name) (ks js : List (Known Name)) (o : Option (Known Name)) (b : Bool) → elim b [ true ↦ Some j | false ↦ o ] ≡ Some k → Waits k.standing
-      → (o ≡ Some k → at_names x js + at_known x k ≤ at_names x ks)
-      → at_names x (elim b [ true ↦ changed (Settle y) j ∷ ks | false ↦ j ∷ js ]) + at_known x k ≤ at_known x j + at_names x ks
+      → (o ≡ Some k → at_names x js + at_known x k ≡ at_names x ks)
+      → at_names x (elim b [ true ↦ changed (Settle y) j ∷ ks | false ↦ j ∷ js ]) + at_known x k ≡ at_known x j + at_names x ks
   unfolding at_names changed
   settle_frees x y k j ks js o true e h rest = let same : j ≡ k = cc in let none = settled_frees x y k k.standing h in rw same (omega arith)
   settle_frees x y k j ks js o false e h rest = let more = rest e in omega arith
 
   -- a name that settles frees all that it held and all that reacts on it
   pub settling_frees : (x : Name) (y : Value Name) (p : Name) (k : Known Name) (ks : List (Known Name)) → entry_of K ks p ≡ Some k → Waits k.standing
-      → at_names x (with_change K (Settle y) p ks) + at_known x k ≤ at_names x ks
+      → at_names x (with_change K (Settle y) p ks) + at_known x k ≡ at_names x ks
   unfolding with_change entry_of at_names
   settling_frees x y p k [] e h = cc
   settling_frees x y p k (j ∷ ks) e h = settle_frees x y k j ks (with_change K (Settle y) p ks) (entry_of K ks p) (K.same j.name p) e h (λ i. settling_frees x y p k ks i h)

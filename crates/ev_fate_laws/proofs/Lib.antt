@@ -1,5 +1,6 @@
 pub mod Spares
-pub mod TurnKeeps
+pub mod Leads
+pub mod TurnLeads
 pub mod Counts
 pub mod RefsCounts
 pub mod RefsAccount
@@ -8,3 +9,8 @@ pub mod TurnAccount
 pub mod RunCounts
 pub mod RunAccount
 pub mod RunFates
+pub mod PlacesLast
+pub mod PlacesRefs
+pub mod PlacesArrive
+pub mod PlacesSteps
+pub mod Finding

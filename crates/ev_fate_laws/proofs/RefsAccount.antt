@@ -1,14 +1,14 @@
 -- Passing, sending, settling, resolving and reacting double no message.
-use Rattle.std.proofs.Common.{◌≡◌, ℕ, zero, suc, ◌+◌, ◌≤◌, Bool, true, false, List, [], ◌∷◌, ◌++◌, Option, Some, None, refl, sym, ap, arith, length}
-use Rattle.ev_machine.specs.Values.{Words, Value, Broken, Ref, Name, Sent, Naming, IsAnswer, IsSent}
+use Rattle.std.proofs.Common.{◌≡◌, ℕ, zero, suc, ◌+◌, ◌≤◌, Bool, true, false, List, [], ◌∷◌, ◌++◌, Option, Some, None, refl, arith, length}
+use Rattle.ev_machine.specs.Values.{Words, Value, Broken, Name, Sent, Naming, IsAnswer, IsSent}
 use Rattle.ev_machine.specs.State.{Message, Standing, Unsettled, WaitsOn, Viewed, Settled, Known, Settle, Passed, Passeds, Plain, AGift, Many, NoMore, More, Sends, Reacts, Settles, Happened, Vat, Act, ◌>>=◌, ◌>>◌, and_then, each, give, look, tell, enqueue, with_change, alter, new_message, begun}
 use Rattle.ev_machine.specs.Refs as refs
 use Rattle.ev_machine.specs.Refs.{Place, Near, Mine, Away, Gone, entry_of}
 use Rattle.ev_machine_laws.specs.Steps.{After}
 use Rattle.ev_machine_laws.proofs.Keeps.{Keeps}
-use Rattle.ev_fate_laws.specs.Fate.{one, among, at_vat, sent_here, sent_in, gone_here, account}
+use Rattle.ev_fate_laws.specs.Fate.{one, among, at_vat, sent_here, gone_here, account}
 use Rattle.ev_fate_laws.specs.Laws.{numbered, Accounted}
-use Rattle.ev_fate_laws.proofs.Spares.{IsSparedUnder, spares, keeps_give, keeps_each, keeps_look}
+use Rattle.ev_fate_laws.proofs.Spares.{IsSparedUnder, keeps_give, keeps_each, keeps_look}
 use Rattle.ev_fate_laws.proofs.Counts.{sent_end, gone_end, names_end, Waits, settling_frees, numbered_next}
 use Rattle.ev_fate_laws.proofs.RefsCounts.{Owes, free, spared, after_pays, costs_more, costs_then, free_bind, free_then, then_free, costs_enqueue, costs_put, costs_lost, costs_hold, costs_react, free_come, free_promise}
 
@@ -171,13 +171,17 @@ module _ (cut : ℕ → Bool) (v : ℕ) (x : Name) where
 
       pub free_send : (act : ℕ) (y : Value Name) (verb : Words) (args : List (Value Name)) → Keeps (Accounted cut v x 0) (refs.send K act y verb args)
       unfolding refs.send ◌>>=◌ ◌>>◌ and_then look tell new_message gone_here sent_here
-      free_send act y verb args = record { after = λ s. let id = K.mailed (IsSent s.messages) (length s.mails) in
-          after_pays cut v x (one id x) s _ (owes_new s _ id _ (Sends act _) (sent s.messages (length s.mails)) refl refl) _ ((then_free cut v x (one id x) (costs_send_first _ _ _) (keeps_give _ (spared cut v x) _)).after _) }
+      free_send act y verb args = record {
+        after = λ s. let id = K.mailed (IsSent s.messages) (length s.mails) in
+            after_pays cut v x (one id x) s _ (owes_new s _ id _ (Sends act _) (sent s.messages (length s.mails)) refl refl) _ ((then_free cut v x (one id x) (costs_send_first _ _ _) (keeps_give _ (spared cut v x) _)).after _);
+      }
 
       pub free_react : (act : ℕ) (y o near : Value Name) → Keeps (Accounted cut v x 0) (refs.react K act y o near)
       unfolding refs.react ◌>>=◌ ◌>>◌ and_then look tell new_message refs.reaction gone_here sent_here
-      free_react act y o near = record { after = λ s. let id = K.mailed (IsSent s.messages) (length s.mails) in
-          after_pays cut v x (one id x) s _ (owes_new s _ id _ (Reacts act y o _) (sent s.messages (length s.mails)) refl refl) _ ((then_free cut v x (one id x) (costs_react_at _ _) (keeps_give _ (spared cut v x) _)).after _) }
+      free_react act y o near = record {
+        after = λ s. let id = K.mailed (IsSent s.messages) (length s.mails) in
+            after_pays cut v x (one id x) s _ (owes_new s _ id _ (Reacts act y o _) (sent s.messages (length s.mails)) refl refl) _ ((then_free cut v x (one id x) (costs_react_at _ _) (keeps_give _ (spared cut v x) _)).after _);
+      }
 
       pub spared_under : IsSparedUnder K (Accounted cut v x 0)
       spared_under = record { promised = free_promise cut v x K; settles = free_settle; resolves = free_resolve; sends = free_send; reacts = free_react }

@@ -1,15 +1,13 @@
 -- What is done with references doubles no message.
-use Rattle.std.proofs.Common.{◌≡◌, ℕ, zero, suc, ◌+◌, ◌≤◌, Bool, true, false, List, [], ◌∷◌, ◌++◌, Option, Some, None, refl, sym, ap, arith, length}
-use Rattle.ev_machine.specs.Values.{Words, Value, Broken, Ref, Name, Sent, Naming, Coming, IsAnswer, Mailing, IsSent, IsOwn}
-use Rattle.ev_machine.specs.State.{Message, Standing, Unsettled, WaitsOn, Viewed, Settled, Known, Change, Hold, Wait, WaitOn, See, React, ToTell, Settle, Passed, Passeds, Plain, AGift, Many, NoMore, More, Note, Deliver, Open, Ask, SettledTo, Elsewhere, Shorten, Happened, Took, Sends, Reacts, Lost, Posted, Vat, Done, Gives, Throws, Ejects, Stops, Act, ◌>>=◌, ◌>>◌, and_then, each, give, look, tell, enqueue, send_out, new_gift, open_gift, mark, draws, draw, drawn_at, with_change, alter, come, mail, new_promise, new_message, begun}
-use Rattle.ev_machine.specs.Refs as refs
-use Rattle.ev_machine.specs.Refs.{Place, Near, Mine, Away, Gone}
+use Rattle.std.proofs.Common.{◌≡◌, ℕ, suc, ◌+◌, ◌≤◌, Bool, true, false, [], ◌∷◌, ◌++◌, Option, Some, None, arith, length}
+use Rattle.ev_machine.specs.Values.{Words, Name, Naming, Coming, Mailing, IsOwn}
+use Rattle.ev_machine.specs.State.{Message, Change, Hold, Wait, WaitOn, See, React, ToTell, Passed, Passeds, Note, Deliver, Open, Ask, SettledTo, Elsewhere, Shorten, Happened, Took, Sends, Reacts, Lost, Posted, Vat, Done, Gives, Throws, Ejects, Stops, Act, ◌>>=◌, ◌>>◌, and_then, tell, enqueue, send_out, new_gift, open_gift, mark, draws, draw, with_change, alter, come, mail, begun}
 use Rattle.ev_machine_laws.specs.Steps.{After}
 use Rattle.ev_machine_laws.proofs.Keeps.{Keeps}
-use Rattle.ev_fate_laws.specs.Fate.{once, one, among, at_names, at_vat, sent_here, sent_in, gone_here, gone, where_cut, in_note, of_note, put_out, account}
+use Rattle.ev_fate_laws.specs.Fate.{one, at_vat, sent_here, sent_in, gone_here, where_cut, in_note, of_note, account}
 use Rattle.ev_fate_laws.specs.Laws.{numbered, Accounted}
 use Rattle.ev_fate_laws.proofs.Spares.{IsSpared, IsSparedUnder, TellsOfNone, spares, keeps_bind, keeps_then, keeps_each, keeps_give, keeps_look}
-use Rattle.ev_fate_laws.proofs.Counts.{among_end, sent_end, gone_end, put_end, names_end, added, with_change_adds, Waits, settling_frees, numbered_next}
+use Rattle.ev_fate_laws.proofs.Counts.{among_end, sent_end, gone_end, put_end, names_end, added, with_change_adds}
 
 -- so many are owed from s to t: sent, and not placed yet, or freed
 pub record Owes (cut : ℕ → Bool) (v : ℕ) (x : Name) (owed : ℕ) (s t : Vat Name) : Type 0 where

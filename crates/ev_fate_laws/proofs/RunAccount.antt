@@ -1,18 +1,18 @@
 -- In every world of a run places, takes and losses of a message are no more than its sends, and of these there is one at most.
-use Rattle.std.proofs.Common.{◌≡◌, ℕ, zero, suc, ◌+◌, ◌≤◌, Bool, true, false, List, [], ◌∷◌, ◌++◌, Option, Some, None, refl, sym, ap, ◌∙◌, arith, map, eqb-true, append_assoc}
-use Rattle.std.specs.Prelude.{slice_get, ◌==◌}
+use Rattle.std.proofs.Common.{◌≡◌, ℕ, suc, ◌+◌, ◌≤◌, Bool, true, false, List, [], ◌∷◌, ◌++◌, Option, Some, None, refl, ap, arith}
+use Rattle.std.specs.Prelude.{slice_get}
 use Rattle.ev_machine.specs.Values.{Name, Root}
-use Rattle.ev_machine.specs.State.{Message, Known, Note, Deliver, Open, Ask, SettledTo, Elsewhere, Shorten, Put, Vat, Done, Gives, Throws, Ejects, Stops, begun}
+use Rattle.ev_machine.specs.State.{Message, Note, Deliver, Open, Ask, SettledTo, Elsewhere, Shorten, Vat, Done, Gives, Throws, Ejects, Stops}
 use Rattle.ev_machine.specs.Arrive.{notice}
 use Rattle.ev_machine.specs.Eval.{opening}
 use Rattle.ev_machine_laws.specs.Steps.{Step, Opens as Starts, Takes, Receives, Notices, does, After}
 use Rattle.ev_run.specs.Draws.{draw_word}
 use Rattle.ev_run.specs.World as world
 use Rattle.ev_run.specs.World.{Script, Program, Opens, Entry, Turn, Carry, CutLink, NoticeLink, Event, Turned, Idle, Carried, CutAt, NoticedAt, LostCut, LeftQueue, LeftHeld, LeftWait, LeftLink, Ends, Link, World, Run, Goes, Stopped, names, names_of, read_note}
-use Rattle.ev_fate_laws.specs.Fate.{one, total, among, at_names, at_vat, of_note, in_note, on_link, places, sent_by, sent, took_by, takes, lost_by, losses, left_by, leavings, fates, gone, sent_in, put_out, account}
+use Rattle.ev_fate_laws.specs.Fate.{one, total, among, at_vat, of_note, in_note, on_link, places, sent_by, sent, took_by, takes, lost_by, losses, left_by, leavings, gone, sent_in, put_out, account}
 use Rattle.ev_fate_laws.specs.Laws.{numbered, Accounted, coming, brought}
 use Rattle.ev_fate_laws.specs.Runs.{Reached}
-use Rattle.ev_fate_laws.proofs.RunCounts.{pick, total_append, total_put, all_numbered, numbered_put, numbered_once, push_all_adds, Apart, AllApart, with_link_apart, push_all_apart, with_link_changes, with_link_absent, severed_back, ends_told, sends_told, none_left}
+use Rattle.ev_fate_laws.proofs.RunCounts.{pick, total_append, total_put, all_numbered, numbered_put, push_all_adds, AllApart, with_link_apart, push_all_apart, with_link_changes, with_link_absent, severed_back, ends_told, sends_told, none_left}
 use Rattle.ev_fate_laws.proofs.TurnAccount.{steps_double_none}
 
 -- what holds in every world of a run, with so many messages in hand
@@ -219,7 +219,7 @@ module _ (x : Name) where
         let lost : ℕ = total (lost_by x) (world.lost_on script (world.link_at v to w.links)) + total (lost_by x) (world.lost_on script (world.link_at to v w.links)) in
         let told = cut_line v to k w.links (lost_by x) refl in
         line_added 0 lost (record w { links = world.with_link world.severed_link to v (world.with_link world.severed_link v to w.links) }) (CutAt k v to ∷ (world.lost_on script (world.link_at v to w.links) ++ world.lost_on script (world.link_at to v w.links)))
-            (cut_hand v to w h) (no_cut_line v to k w.links (sent_by x) refl (λ m. refl)) (no_cut_line v to k w.links (took_by x) refl (λ m. refl)) (omega arith) (no_cut_line v to k w.links (left_by x) refl (λ m. refl))
+        (cut_hand v to w h) (no_cut_line v to k w.links (sent_by x) refl (λ m. refl)) (no_cut_line v to k w.links (took_by x) refl (λ m. refl)) (omega arith) (no_cut_line v to k w.links (left_by x) refl (λ m. refl))
 
     -- ---- runs
 

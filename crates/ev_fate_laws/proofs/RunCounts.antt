@@ -1,12 +1,12 @@
 -- How what a world is made of changes the counts: vats, links, histories.
-use Rattle.std.proofs.Common.{◌≡◌, ℕ, zero, suc, ◌+◌, ◌≤◌, Bool, true, false, List, [], ◌∷◌, ◌++◌, Option, Some, None, refl, sym, ap, ◌∙◌, arith, map, eqb-true}
+use Rattle.std.proofs.Common.{◌≡◌, ℕ, zero, suc, ◌+◌, ◌≤◌, Bool, true, false, List, [], ◌∷◌, ◌++◌, Option, Some, None, refl, sym, ap, ◌∙◌, arith, eqb-true}
 use Rattle.std.specs.Prelude.{slice_get, nat_le, ◌==◌}
 use Rattle.ev_machine.specs.Values.{Name, Root, Object, Promise, Answer, Gift, Sent, Msg}
-use Rattle.ev_machine.specs.State.{Message, Known, Note, Deliver, Open, Ask, SettledTo, Elsewhere, Shorten, Put, Happened, Took, Called, Back, Thrown, Left, Got, SlotMade, SlotRead, SlotWrote, ListMade, ListCame, EjectorMade, AuditionMade, PromiseMade, ObjectMade, Sends, Reacts, Finished, Threw, Settles, Waits, Views, Lost, Posted, Vat}
+use Rattle.ev_machine.specs.State.{Note, Put, Happened, Took, Sends, Reacts, Lost, Posted, Vat}
 use Rattle.ev_run.specs.World as world
 use Rattle.ev_run.specs.World.{Link, Event, Here, LostCut, LeftQueue, LeftHeld, LeftWait, LeftLink, World}
-use Rattle.ev_fate_laws.specs.Fate.{once, one, total, among, at_names, at_vat, in_note, of_note, on_link, sent_here, sent_by, took_here, took_by, lost_here, lost_by, left_by, gone_here, gone, where_cut, sent_in, put_out}
-use Rattle.ev_fate_laws.specs.Laws.{numbered, coming}
+use Rattle.ev_fate_laws.specs.Fate.{once, one, total, of_note, on_link, sent_here, sent_by, took_here, took_by, lost_here, lost_by, left_by, gone_here, gone, where_cut, sent_in, put_out}
+use Rattle.ev_fate_laws.specs.Laws.{numbered}
 
 pub total_append : {A : Type 0} (f : A → ℕ) (xs ys : List A) → total f (xs ++ ys) ≡ total f xs + total f ys
 unfolding total

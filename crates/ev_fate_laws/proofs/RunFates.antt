@@ -1,15 +1,15 @@
 -- A run begins with no message, and its closing list names each place.
-use Rattle.std.proofs.Common.{◌≡◌, ℕ, zero, suc, ◌+◌, ◌≤◌, Bool, true, false, List, [], ◌∷◌, ◌++◌, Option, Some, None, refl, sym, ap, ◌∙◌, arith, map, nat_eq, eqb-true}
-use Rattle.std.specs.Prelude.{slice_get, ◌==◌}
+use Rattle.std.proofs.Common.{◌≡◌, ℕ, zero, suc, ◌+◌, ◌≤◌, Bool, true, false, List, [], ◌∷◌, ◌++◌, refl, arith, map}
+use Rattle.std.specs.Prelude.{◌==◌}
 use Rattle.std.proofs.lemmas.Bool.{eq-eqb}
-use Rattle.ev_machine.specs.Values.{Name, Root}
+use Rattle.ev_machine.specs.Values.{Name}
 use Rattle.ev_machine.specs.State.{Message, Known, Note, Vat, begun}
 use Rattle.ev_run.specs.World as world
 use Rattle.ev_run.specs.World.{Script, Program, Entry, Event, LeftQueue, LeftHeld, LeftWait, LeftLink, Ends, Link, World, Run, Goes, Stopped, begins}
 use Rattle.ev_fate_laws.specs.Fate.{one, total, among, at_names, at_vat, of_note, on_link, places, sent_by, sent, took_by, takes, lost_by, losses, left_by, leavings, fates}
 use Rattle.ev_fate_laws.specs.Runs.{Reached, EachSentOnce, EachTakenOnce, PlacesAndFates, OneFateAtMost}
-use Rattle.ev_fate_laws.proofs.RunCounts.{pick, total_append, all_numbered, numbered_once, Apart, AllApart}
-use Rattle.ev_fate_laws.proofs.RunAccount.{Holds, Fated, steps_fated, opens_fated}
+use Rattle.ev_fate_laws.proofs.RunCounts.{pick, total_append, numbered_once, AllApart}
+use Rattle.ev_fate_laws.proofs.RunAccount.{Fated, steps_fated, opens_fated}
 
 -- ---- the start
 
@@ -191,6 +191,8 @@ pub each_taken_once : EachTakenOnce
 each_taken_once x script = reached_map x script (Ended x script) (λ w. takes x w.history ≤ 1) (ended_takes x script) (world.run script) (run_ends x script)
 
 pub places_and_fates : PlacesAndFates
-places_and_fates x script = (λ ps. reached_map x script (Fated x) (λ w. (places x w + fates x w.history ≤ sent x w.history) × (sent x w.history ≤ 1)) (fated_places x script) (world.open_from script zero ps (begins script)) (opens_fated x script zero ps (begins script) (begins_fated x script)),
-    λ w es k e. reached_map x script (Fated x) (λ y. (places x y + fates x y.history ≤ sent x y.history) × (sent x y.history ≤ 1)) (fated_places x script) (world.steps_from script es k w)
-        (steps_fated x script es k w (goes_fated x script (world.open_from script zero script.vats (begins script)) w e (opens_fated x script zero script.vats (begins script) (begins_fated x script)))))
+places_and_fates x script = (
+  λ ps. reached_map x script (Fated x) (λ w. (places x w + fates x w.history ≤ sent x w.history) × (sent x w.history ≤ 1)) (fated_places x script) (world.open_from script zero ps (begins script)) (opens_fated x script zero ps (begins script) (begins_fated x script)),
+  λ w es k e. reached_map x script (Fated x) (λ y. (places x y + fates x y.history ≤ sent x y.history) × (sent x y.history ≤ 1)) (fated_places x script) (world.steps_from script es k w)
+      (steps_fated x script es k w (goes_fated x script (world.open_from script zero script.vats (begins script)) w e (opens_fated x script zero script.vats (begins script) (begins_fated x script)))),
+)

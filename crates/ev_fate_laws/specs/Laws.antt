@@ -1,6 +1,6 @@
 -- No step of a vat doubles a message.
 use Rattle.std.specs.Prelude.{ℕ, suc, ◌+◌, ◌≤◌, Bool, true, false, nat_le, ◌==◌}
-use Rattle.ev_machine.specs.Values.{Name, Root, Object, Promise, Answer, Gift, Sent, naming}
+use Rattle.ev_machine.specs.Values.{Name, Sent, naming}
 use Rattle.ev_machine.specs.State.{Vat}
 use Rattle.ev_machine.specs.Arrive.{Incoming, Old, New}
 use Rattle.ev_machine_laws.specs.Steps.{Step, Opens, Takes, Receives, Notices, does, After}

@@ -1,6 +1,8 @@
 //! Each message has one place at most, until it is taken or lost.
 
 ghost use Rattle.ev_fate_laws.specs.Laws.{StepsDoubleNone};
+ghost use Rattle.ev_fate_laws.specs.Finding.{SendsFindPlaces};
+ghost use Rattle.ev_fate_laws.specs.Lasting.{StepsKeepPlaces};
 ghost use Rattle.ev_fate_laws.specs.Runs.{EachSentOnce, EachTakenOnce, OneFateAtMost, PlacesAndFates};
 
 /// No step of a vat doubles a message, and what it sends is a message that the vat numbers then.
@@ -11,6 +13,30 @@ ghost use Rattle.ev_fate_laws.specs.Runs.{EachSentOnce, EachTakenOnce, OneFateAt
 /// taken, or that of the note that arrives), and its sends in this step.
 pub fn steps_double_none()
     ensures { StepsDoubleNone }
+{}
+
+/// No step of a vat loses a message that has a place: its places at the vat and in the notes that it
+/// put, and what became of it in this step, are no fewer than its places before, unless the step
+/// stops. So it stays where it is, or moves, or is taken or lost with a line.
+///
+/// It asks that all is well in the state before: no name that is known is that of an object, what
+/// settled settled to data or an object, and each message that is held at a name has that name as
+/// its target; and all is well after it. Of a note that arrives it asks that it settles a name to
+/// no promise, names its message as one, and brings no object as a new name. It does not say that
+/// a message which is sent or arrives in this step finds a place.
+pub fn steps_keep_places()
+    ensures { StepsKeepPlaces }
+{}
+
+/// A message that is sent on a value which the vat knows finds a place at once, or is lost with a
+/// line, unless the step stops; and so does a reaction on one.
+///
+/// It asks what `steps_keep_places` asks of the state, and that views end: from each name the vat
+/// comes, by no more views than it knows names, to one that is not viewed. A value is known that is
+/// data, an object, or a name among those that the vat knows. That every value which a vat has in
+/// hand is known, and that views end, is not proved of runs.
+pub fn sends_find_places()
+    ensures { SendsFindPlaces }
 {}
 
 /// In a run each message is sent once at most: its history has one line at most that sends it, as a

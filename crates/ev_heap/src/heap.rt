@@ -278,6 +278,16 @@ impl Heap {
         self.texts.as_slice()[id.0 as usize].as_str()
     }
 
+    /// A text, or none where none is kept of that number.
+    pub fn find_text(&self, id: TextId) -> Option<&str>
+        ensures { option_map (λ text. text.now) result ≡ slice_get self.now.texts id }
+    {
+        let Ok(index) = usize::try_from(id.0) else {
+            return None;
+        };
+        self.texts.as_slice().get(index).map(|text| text.as_str())
+    }
+
     /// The receiver whose code an activation runs.
     pub fn code(&self, activation: ActId) -> Value
         requires { activation < length self.now.codes }

@@ -164,9 +164,69 @@ fn scripts(rt: HostRuntime) -> Result<(), Fail> {
 }
 
 #[test]
+fn expansions(rt: HostRuntime) -> Result<(), Fail> {
+    let alloc = rt.alloc();
+    let rows = [
+        (
+            "def f(n) { return n + 1 }",
+            0,
+            "(object (final f) () (method run ((final n)) (escape (final __return) (seq (call (noun __return) run (call (noun n) add (lit 1))) (noun null)))))\n",
+        ),
+        ("41", 0, "(lit 41)\n"),
+        ("null", 0, "(noun null)\n"),
+        ("DeepFrozen", 0, "(noun DeepFrozen)\n"),
+        (
+            "170141183460469231731687303715884105728",
+            7,
+            "refused program - lex 4 0\n",
+        ),
+        ("(lit 41)", 7, "refused program - parse 0 2\n"),
+        ("return 1", 7, "refused program - expand 1 0\n"),
+        ("x", 7, "refused program - scope 1 0\n"),
+    ];
+    for (source, code, text) in rows {
+        let (status, written) = answer(alloc, &["expand"], source.as_bytes(), &quiet())?;
+        assert_eq!(rt; status, code, "{source}");
+        assert!(rt; written.as_slice() == text.as_bytes(), "{source}");
+    }
+    Ok(())
+}
+
+#[test]
+fn no_programs(rt: HostRuntime) -> Result<(), Fail> {
+    let alloc = rt.alloc();
+    let (status, written) = answer(alloc, &["expand"], &[b'1', 255], &quiet())?;
+    assert_eq!(rt; status, 6);
+    assert!(rt; written.as_slice() == b"refused script 1\n".as_slice());
+    let large = Outside {
+        source_serves: 4096,
+        source_fails: &[],
+        sink_takes: 100,
+        sink_fails: &[],
+    };
+    for (count, code, text) in [
+        (65_536, 0, "(noun null)\n"),
+        (65_537, 6, "refused script 7\n"),
+        (1_048_577, 5, "refused long\n"),
+    ] {
+        let spaces = vec![in alloc; b' '; count]?;
+        let (status, written) = answer(alloc, &["expand"], spaces.as_slice(), &large)?;
+        assert_eq!(rt; status, code);
+        assert!(rt; written.as_slice() == text.as_bytes());
+    }
+    Ok(())
+}
+
+#[test]
 fn words(rt: HostRuntime) -> Result<(), Fail> {
     let alloc = rt.alloc();
-    let rows: [&[&str]; 4] = [&["run", "fast"], &[], &["walk"], &["--help"]];
+    let rows: [&[&str]; 5] = [
+        &["run", "fast"],
+        &["expand", "all"],
+        &[],
+        &["walk"],
+        &["--help"],
+    ];
     for words in rows {
         let (status, written) = answer(alloc, words, EMPTY.as_bytes(), &quiet())?;
         assert_eq!(rt; status, 2);

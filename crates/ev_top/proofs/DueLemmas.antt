@@ -1,43 +1,165 @@
--- Want of memory pays for what a read asks.
-use Rattle.std.proofs.Common.{◌≡◌, ◌≢◌, ℕ, ℤ, nat_lt, length, codes, List, [], Bool, true, false, Option, Some, None, IfSome, cond, refl, sym, ◌∙◌, ap, subst}
+-- What is due for a command, by how many bytes there are, and what pays for it.
+use Rattle.std.proofs.Common.{◌≡◌, ◌⊎◌, inl, inr, ◌<◌, ◌≤◌, ℕ, ℤ, ◌+◌, nat_lt, length, length-append, List, [], ◌++◌, append-nil, ap, ◌∙◌, codes, Bool, true, false, Option, Some, None, IfSome, IsSome, Result, Ok, Err, refl, sym, subst, arith}
+use Rattle.std.specs.Io.KnownBytes.{IsAtEnd}
 use Rattle.std.proofs.KnownBytes.{Appends-nil}
+use Rattle.ev_io.specs.Ends.{Takes}
+use Rattle.ev_io.specs.declared.read.ReadEnd.TheVariants.{TooLong as TooMany}
+use Rattle.std.proofs.lemmas.Bool.Decides.{nat_tests}
+use Rattle.ev_scope.specs.declared.accepted.Scoped.{Scoped}
+use Rattle.ev_reader.specs.declared.fault.ProgramFault.{ProgramFault}
+use Rattle.ev_reader.specs.declared.fault.ProgramFault.TheVariants as faults
 use Rattle.ev_top.specs.Words.{line}
+use Rattle.ev_top.specs.Debt.{IsFor, most_bytes, too_long}
 use Rattle.ev_top.specs.Script.{script_from}
 use Rattle.ev_top.specs.Sum.{sum_of}
-use Rattle.ev_top.specs.Due.{Debt, due, is_run, due_of_input, due_of_script, due_of_vat, due_of_sum, most_bytes, IsOfRead, Pays}
+use Rattle.ev_top.specs.Expansion.{text_from, IsDueOfText, Tells}
+use Rattle.ev_top.specs.Due.{IsDue, IsOfWhole, IsOfRead, Finishes, Pays, PaysWith, due_of_script, due_of_vat, due_of_sum}
+use Rattle.ev_top.specs.declared.command.Command.{Command}
+use Rattle.ev_top.specs.declared.command.Command.TheVariants.{Run, Expand}
 use Rattle.ev_top.specs.declared.script.Script.{Script}
 use Rattle.ev_top.specs.declared.script.VatSource.{VatSource}
-use Rattle.ev_top.specs.declared.status.Status.TheVariants.{Usage, TooLong, Memory}
+use Rattle.ev_top.specs.declared.status.Status.{Status}
+use Rattle.ev_top.specs.declared.status.Status.TheVariants.{Done, Usage, ReadFault, WriteFault, TooLong, ScriptRefused, ProgramRefused, Memory}
 
-of_sum : (key name : List ℕ) (numbers : Option (List ℤ)) → IsOfRead (due_of_sum key name numbers).status
+-- ---- what is due for bytes that are few enough needs all of them
+
+of_sum : (key name : List ℕ) (numbers : Option (List ℤ)) → IsOfWhole (due_of_sum key name numbers).status
 of_sum key name None = tt
 of_sum key name (Some numbers) = tt
 
-of_vat : (key : List ℕ) (vat : Option VatSource) → IsOfRead (due_of_vat key vat).status
+of_vat : (key : List ℕ) (vat : Option VatSource) → IsOfWhole (due_of_vat key vat).status
 of_vat key None = tt
 of_vat key (Some vat) = of_sum key vat.name (sum_of vat.source)
 
-of_script : (script : Option Script) → IsOfRead (due_of_script script).status
+of_script : (script : Option Script) → IsOfWhole (due_of_script script).status
 of_script None = tt
 of_script (Some script) = of_vat script.key script.vat
 
-either : (b : Bool) (text : List ℕ) (e : Debt) → IsOfRead e.status → IsOfRead (cond b (record { status = TooLong; text = text }) e).status
-either true text e p = tt
-either false text e p = p
+pub whole_run : (script : Option Script) (status : Status) (text : List ℕ) → IsFor status text (due_of_script script) → IsOfWhole status
+whole_run script status text due = subst IsOfWhole (sym due.0) (of_script script)
 
-of_input : (input : List ℕ) → IsOfRead (due_of_input input).status
-of_input input =
-    either (nat_lt most_bytes (length input)) (line (codes "refused long")) (due_of_script (script_from input)) (of_script (script_from input))
+told : (answer : Result Scoped ProgramFault) (status : Status) (text : List ℕ) → Tells answer status text → IsOfWhole status
+told (Ok scoped) status text due = subst IsOfWhole (sym due.0) tt
+told (Err (faults.At part kind place)) status text due = subst IsOfWhole (sym due.0) tt
+told (Err faults.Memory) status text due = absurd due
 
-due-run : (words : List (List ℕ)) (input : List ℕ) → is_run words ≡ true → due words input ≡ due_of_input input
-due-run words input run = rw run refl
+pub whole_program : (found : Result (List ℕ) ℕ) (status : Status) (text : List ℕ) → IsDueOfText found status text → IsOfWhole status
+whole_program (Ok program) status text due = told due.0 status text due.2
+whole_program (Err rule) status text due = subst IsOfWhole (sym due.0) tt
 
--- what a read asks is no usage
-asks : (words : List (List ℕ)) (input : List ℕ) → is_run words ≡ true → (due words input).status ≢ Usage
-asks words input run e = subst IsOfRead (ap (λ d. d.status) (sym (due-run words input run)) ∙ e) (of_input input)
+-- ---- what is due, by how many bytes there are
+
+pub is_few : (most n : ℕ) → n ≤ most → nat_lt most n ≡ false
+is_few most n few = grind (arith, nat_tests)
+
+pub is_long : (most n : ℕ) → most < n → nat_lt most n ≡ true
+is_long most n long = grind (arith, nat_tests)
+
+pub few_run : (input : List ℕ) (status : Status) (text : List ℕ) → length input ≤ most_bytes
+    → IsFor status text (due_of_script (script_from input)) → IsDue (Some Run) input status text
+few_run input status text few due = rw (is_few most_bytes (length input) few) due
+
+pub few_program : (input : List ℕ) (status : Status) (text : List ℕ) → length input ≤ most_bytes
+    → IsDueOfText (text_from input) status text → IsDue (Some Expand) input status text
+few_program input status text few due = rw (is_few most_bytes (length input) few) due
+
+pub due_long : (command : Command) (input : List ℕ) (status : Status) (text : List ℕ) → most_bytes < length input
+    → IsFor status text too_long → IsDue (Some command) input status text
+due_long Run input status text long due = rw (is_long most_bytes (length input) long) due
+due_long Expand input status text long due = rw (is_long most_bytes (length input) long) due
+
+-- what is due for the bytes that were read to their end is due for all that the source had
+pub due_read : (command : Command) (left left' : Option (List ℕ)) (bytes : List ℕ) (status : Status) (text : List ℕ) → Takes most_bytes left left' (Ok bytes)
+    → IsAtEnd left' → IsDue (Some command) bytes status text → IfSome left (λ input. IsDue (Some command) input status text)
+due_read command None left' bytes status text takes end due = tt
+due_read command (Some input) None bytes status text takes end due = absurd takes.1
+due_read command (Some input) (Some rest) bytes status text takes end due =
+    let all : input ≡ takes.0 ++ rest = takes.1 in
+    let none : rest ≡ [] = end in
+    let same : bytes ≡ takes.0 = takes.2.0 in
+    let whole : bytes ≡ input = same ∙ sym (all ∙ ap (λ r. takes.0 ++ r) none ∙ append-nil takes.0) in
+    subst (λ (i : List ℕ). IsDue (Some command) i status text) whole due
+
+-- and so for one byte more than the most
+pub due_unread : (command : Command) (left left' : Option (List ℕ)) (status : Status) (text : List ℕ) → Takes most_bytes left left' (Err TooMany)
+    → ((input : List ℕ) → most_bytes < length input → IsDue (Some command) input status text)
+    → IfSome left (λ input. IsDue (Some command) input status text)
+due_unread command None left' status text takes due = tt
+due_unread command (Some input) None status text takes due = absurd takes.1
+due_unread command (Some input) (Some rest) status text takes due =
+    let all : input ≡ takes.0 ++ rest = takes.1 in
+    let count : length input ≡ length takes.0 + length rest = ap length all ∙ length-append takes.0 rest in
+    let more : length takes.0 ≡ most_bytes + 1 = takes.2 in
+    due input (omega (arith, count, more))
+
+-- ---- what pays
+
+-- a status other than a fault and want of memory
+abbrev pub IsPlain : Status → Type 0
+IsPlain ReadFault = ⊥
+IsPlain WriteFault = ⊥
+IsPlain Memory = ⊥
+IsPlain _ = Unit {0}
+
+pub plain : (status : Status) → IsOfRead status → IsPlain status
+plain Done kind = tt
+plain Usage kind = tt
+plain ReadFault kind = absurd kind
+plain WriteFault kind = absurd kind
+plain TooLong kind = tt
+plain (ScriptRefused r) kind = tt
+plain (ProgramRefused r) kind = tt
+plain Memory kind = absurd kind
+
+pays_with : (command : Option Command) (input : List ℕ) (status : Status) (text : List ℕ) → IsPlain status → IsDue command input status text
+    → PaysWith status text command input
+pays_with command input Done text kind due = due
+pays_with command input Usage text kind due = due
+pays_with command input ReadFault text kind due = absurd kind
+pays_with command input WriteFault text kind due = absurd kind
+pays_with command input TooLong text kind due = due
+pays_with command input (ScriptRefused r) text kind due = due
+pays_with command input (ProgramRefused r) text kind due = due
+pays_with command input Memory text kind due = absurd kind
+
+pub pays : (command : Option Command) (input : List ℕ) (status : Status) (text : List ℕ) (held held' : Option (List ℕ)) (result : Status)
+    → IsPlain status → IsDue command input status text → Finishes held held' status text result → Pays held held' result command input
+pays command input status text held held' result kind due (written, appends, inl (same, whole)) =
+    (written, appends, rw (same, whole) (pays_with command input status text kind due))
+pays command input status text held held' result kind due (written, appends, inr (fault, front)) =
+    (written, appends, rw fault (record { status = status; text = text }, due, front))
+
+-- the same for all that a source has left
+pub pays_left : (command : Option Command) (left : Option (List ℕ)) (status : Status) (text : List ℕ) (held held' : Option (List ℕ)) (result : Status)
+    → IsPlain status → IfSome left (λ input. IsDue command input status text) → Finishes held held' status text result
+    → IfSome left (λ input. Pays held held' result command input)
+pays_left command None status text held held' result kind due finishes = tt
+pays_left command (Some input) status text held held' result kind due finishes =
+    pays command input status text held held' result kind due finishes
 
 -- want of memory before anything is written
-pub pays-memory : (words : List (List ℕ)) (left held : Option (List ℕ)) → is_run words ≡ true
-    → IfSome left (λ input. Pays held held Memory (due words input))
-pays-memory words None held run = tt
-pays-memory words (Some input) held run = ([], Appends-nil held, (asks words input run, ((due words input).text, refl)))
+pub pays_memory : (command : Option Command) (left held : Option (List ℕ)) → IsSome command
+    → IfSome left (λ input. Pays held held Memory command input)
+pays_memory command None held some = tt
+pays_memory command (Some input) held some = ([], Appends-nil held, (some, refl))
+
+pub pays_read_fault : (command : Option Command) (left held : Option (List ℕ)) → IsSome command
+    → IfSome left (λ input. Pays held held ReadFault command input)
+pays_read_fault command None held some = tt
+pays_read_fault command (Some input) held some = ([], Appends-nil held, (some, refl))
+
+pub no_usage : (status : Status) → IsOfRead status → status ≡ Usage → ⊥
+no_usage status kind is = subst IsOfRead is kind
+
+-- words that are no command
+pub pays_usage : (found command : Option Command) (left held held' : Option (List ℕ)) (result : Status) → found ≡ command
+    → ((c : Command) → found ≡ Some c → ⊥) → Finishes held held' Usage (line (codes "refused usage")) result
+    → IfSome left (λ input. Pays held held' result command input)
+pays_usage (Some c) command left held held' result same none finishes = absurd (none c refl)
+pays_usage None command left held held' result same none finishes =
+    subst (λ (c : Option Command). IfSome left (λ input. Pays held held' result c input)) same
+    (pays_left None left Usage (line (codes "refused usage")) held held' result tt (for_all left) finishes)
+  where
+    for_all : (l : Option (List ℕ)) → IfSome l (λ input. IsDue None input Usage (line (codes "refused usage")))
+    for_all None = tt
+    for_all (Some input) = (refl, refl)

@@ -7,4 +7,8 @@ pub mod SumTurn
 pub mod SumRun
 pub mod EvaluationSteps
 pub mod DueLemmas
+pub mod CauseLemmas
+pub mod EarlyFaults
 pub mod Ran
+pub mod Texts
+pub mod GivenNames

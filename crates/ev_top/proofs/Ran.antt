@@ -13,7 +13,8 @@ use Rattle.ev_top.specs.Sum.{numbers_of, rows, numbers_in, few_enough, sum_of, b
 use Rattle.ev_top.specs.Run.{run_of, closed, history_of, render}
 use Rattle.ev_top.specs.Machine.{fuel_of_run, greatest_depth, program, machine_script}
 use Rattle.ev_top.specs.Ends.{comes_to_its_end, SumsEnd}
-use Rattle.ev_top.specs.Due.{Debt, IsFor, due_text, due_of_sum, due_of_vat}
+use Rattle.ev_top.specs.Debt.{Debt, IsFor}
+use Rattle.ev_top.specs.Due.{due_text, due_of_sum, due_of_vat}
 use Rattle.ev_top.specs.declared.status.Status.{Status}
 use Rattle.ev_top.specs.declared.status.Status.TheVariants.{Done as Completed}
 use Rattle.ev_top.specs.Words.{line}

@@ -6,5 +6,10 @@ pub mod Evaluation
 pub mod Run
 pub mod Machine
 pub mod Codes
+pub mod Debt
+pub mod Commands
+pub mod Expansion
+pub mod Given
 pub mod Due
+pub mod Causes
 pub mod Ends

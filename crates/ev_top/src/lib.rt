@@ -1,7 +1,9 @@
 //! The top call: from the words of a command and the bytes of its input to the lines of its output.
 #![tactic(auto)]
 
+mod command;
 mod evaluate;
+mod expansion;
 pub mod laws;
 mod program;
 mod reply;

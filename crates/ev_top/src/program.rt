@@ -1,28 +1,25 @@
 //! The top call.
 
-ghost use Rattle.std.specs.Prelude.{◌≡◌, ◌<◌, ◌≤◌, ◌⊎◌, true, false, length, None, IfOk, IfSome, string_bytes};
+ghost use Rattle.std.specs.Prelude.{◌≡◌, ◌<◌, ◌≤◌, ◌⊎◌, true, false, length, List, ℕ, IfOk, IfSome, IsSome, string_bytes};
 ghost use Rattle.std.specs.Io.KnownBytes.{IsAtEnd};
 ghost use Rattle.ev_io.specs.Causes.{Rose};
-ghost use Rattle.ev_top.specs.Due.{ComesWhere, IsScriptRefused, IsProgramRefused, IsReadWhole, IsUnbuilt, most_bytes, IsFor, IsOfWhole, Pays, IsOfRead, Finishes, Reads, ReadsFor, due, due_of_input, is_run};
-ghost use Rattle.ev_top.specs.Script.{script_from};
+ghost use Rattle.ev_top.specs.Commands.{command_of};
+ghost use Rattle.ev_top.specs.Debt.{most_bytes};
+ghost use Rattle.ev_reader.specs.declared.fault.Stage.{Stage as Part};
+ghost use Rattle.ev_top.specs.Causes.{Breaks, ComesWhere, Follows, HasFault, HasNoTree, IsEarly, IsLong, IsProgramRefused, IsUnbuilt};
+ghost use Rattle.ev_top.specs.Due.{IsDue, IsOfWhole, Pays, IsOfRead, Finishes, Reads, ReadsFor, unbuilt};
+ghost use Rattle.ev_top.specs.Expansion.{refusal};
 
-use crate::reply::{Reply, reply_bytes, reply_line};
+use crate::command::{Command, command_of};
+use crate::expansion::expand_bytes;
+use crate::reply::{Reply, reply_line, run_bytes};
 use crate::status::Status;
-use ev_base::{Seq, Str};
+use ev_base::{Memory, Seq, Str};
 use ev_io::{ReadEnd, Sink, Source, read_all, write_all};
 use std::alloc::Global;
 
-/// The most bytes of a script.
+/// The most bytes that are read.
 const MOST_BYTES: u32 = 1048576;
-
-fn is_run(words: &Seq<Str>) -> bool
-    ensures { result ≡ is_run words.now }
-{
-    match words.as_slice() {
-        [word] => word.as_str() == "run",
-        _ => false,
-    }
-}
 
 /// Why nothing was asked for.
 #[derive(Clone, Copy, Debug, PartialEq, Eq)]
@@ -31,23 +28,56 @@ enum Early {
     Memory,
 }
 
-/// What the source asks for.
-fn reply_to<S: Source>(alloc: Global, src: &mut S) -> Result<Reply, Early>
+impl From<Memory> for Early {
+    ghost use Rattle.std.specs.Prelude.{◌≡◌};
+    ghost use Rattle.ev_top.specs.declared.program.Early.TheVariants.{Memory as NoMemory};
+
+    ghost from_gives = { λ _ e. e ≡ NoMemory };
+
+    fn from(_error: Memory) -> Early {
+        Early::Memory
+    }
+}
+
+/// What a command asks for, of bytes that are few enough.
+#[tactic(auto, using(crate::proofs::DueLemmas::few_run, crate::proofs::DueLemmas::few_program, crate::proofs::DueLemmas::whole_run, crate::proofs::DueLemmas::whole_program))]
+fn reply_bytes(alloc: Global, command: Command, bytes: &[u8]) -> Result<Reply, Memory>
+    requires { length bytes.now ≤ most_bytes }
+    ensures due { IfOk result (λ reply. IsDue (Some command) bytes.now reply.status (string_bytes reply.text)) }
+    ensures whole { IfOk result (λ reply. IsOfWhole reply.status) }
+{
+    match command {
+        Command::Run => run_bytes(alloc, bytes),
+        Command::Expand => expand_bytes(alloc, bytes),
+    }
+}
+
+/// What a command asks for, of bytes that are too many.
+#[tactic(auto, using(crate::proofs::DueLemmas::due_long))]
+fn reply_long(alloc: Global, command: Command) -> Result<Reply, Memory>
+    ensures due { (input : List ℕ) → most_bytes < length input → IfOk result (λ reply. IsDue (Some command) input reply.status (string_bytes reply.text)) }
+    ensures long { IfOk result (λ reply. reply.status ≡ Status.TooLong) }
+{
+    reply_line(alloc, Status::TooLong, "refused long")
+}
+
+/// What a command asks for, of what the source has.
+#[tactic(auto, using(crate::proofs::DueLemmas::due_read, crate::proofs::DueLemmas::due_unread))]
+fn reply_to<S: Source>(alloc: Global, command: Command, src: &mut S) -> Result<Reply, Early>
     ensures due { IfSome (S.left src.old)
-        (λ input. IfOk result (λ reply. IsFor reply.status (string_bytes reply.text) (due_of_input input))) }
+        (λ input. IfOk result (λ reply. IsDue (Some command) input reply.status (string_bytes reply.text))) }
     ensures kind { IfOk result (λ reply. IsOfRead reply.status) }
     ensures reads { ReadsFor (S.left src.old) (S.left src.new) result }
     ensures end { IfOk result (λ reply. IsOfWhole reply.status → IsAtEnd (S.left src.new)) }
     ensures fault { result ≡ Err Early.ReadFault → Rose (S.faults src.old) (S.faults src.new) }
     ensures later { S.faults src.old ≤ S.faults src.new }
 {
-    let found = match read_all(alloc, src, MOST_BYTES) {
-        Ok(bytes) => reply_bytes(alloc, bytes.as_slice()),
-        Err(ReadEnd::TooLong) => reply_line(alloc, Status::TooLong, "refused long"),
-        Err(ReadEnd::Failed) => return Err(Early::ReadFault),
-        Err(ReadEnd::Memory) => return Err(Early::Memory),
-    };
-    found.map_err(|_| Early::Memory)
+    match read_all(alloc, src, MOST_BYTES) {
+        Ok(bytes) => Ok(reply_bytes(alloc, command, bytes.as_slice())?),
+        Err(ReadEnd::TooLong) => Ok(reply_long(alloc, command)?),
+        Err(ReadEnd::Failed) => Err(Early::ReadFault),
+        Err(ReadEnd::Memory) => Err(Early::Memory),
+    }
 }
 
 /// Writes the text of a status.
@@ -62,35 +92,53 @@ fn finish<K: Sink>(out: &mut K, status: Status, text: &[u8]) -> Status
     }
 }
 
-/// Does what the words ask for.
-pub fn top<S: Source, K: Sink>(alloc: Global, words: &Seq<Str>, src: &mut S, out: &mut K) -> Status
-    // What is appended is what is due for the words and for all that the source has left, and so is the status.
-    ensures due { IfSome (S.left src.old) (λ input. Pays (K.written out.old) (K.written out.new) result (due words.now input)) }
+/// Answers a call, without the causes of each answer.
+#[tactic(auto, using(crate::proofs::DueLemmas::plain, crate::proofs::DueLemmas::no_usage, crate::proofs::DueLemmas::pays_left, crate::proofs::DueLemmas::pays_memory, crate::proofs::DueLemmas::pays_read_fault))]
+fn answer<S: Source, K: Sink>(alloc: Global, words: &Seq<Str>, src: &mut S, out: &mut K) -> Status
+    ensures due { IfSome (S.left src.old) (λ input. Pays (K.written out.old) (K.written out.new) result (command_of words.now) input) }
     ensures end { IsOfWhole result → IsAtEnd (S.left src.new) }
     ensures reads { Reads (S.left src.old) (S.left src.new) result }
-
-    // Each answer has its cause.
-    ensures usage { (result ≡ Status.Usage → is_run words.now ≡ false)
-        × (is_run words.now ≡ false → result ≡ Status.Usage ⊎ result ≡ Status.WriteFault) }
-    ensures long { IfSome (S.left src.old) (λ input. ComesWhere (λ s. s ≡ Status.TooLong) result
-        ((is_run words.now ≡ true) × (most_bytes < length input))) }
-    ensures script { IfSome (S.left src.old) (λ input. ComesWhere IsScriptRefused result
-        (IsReadWhole words.now input × (script_from input ≡ None))) }
-    ensures program { IfSome (S.left src.old) (λ input. ComesWhere IsProgramRefused result
-        (IsReadWhole words.now input × IsUnbuilt (script_from input))) }
-    // Without a fault in the call, the answer is what is due, or want of memory.
-    ensures complete { IfSome (S.left src.old) (λ input. ¬ Rose (S.faults src.old) (S.faults src.new)
-        → ¬ Rose (K.faults out.old) (K.faults out.new)
-        → result ≡ Status.Memory ⊎ result ≡ (due words.now input).status) }
+    ensures usage { (result ≡ Status.Usage → command_of words.now ≡ None)
+        × (command_of words.now ≡ None → result ≡ Status.Usage ⊎ result ≡ Status.WriteFault) }
     ensures read_fault { result ≡ Status.ReadFault → Rose (S.faults src.old) (S.faults src.new) }
     ensures write_fault { result ≡ Status.WriteFault → Rose (K.faults out.old) (K.faults out.new) }
 {
-    if !is_run(words) {
+    let Some(command) = command_of(words) else {
         return finish(out, Status::Usage, b"refused usage\n");
-    }
-    match reply_to(alloc, src) {
+    };
+    match reply_to(alloc, command, src) {
         Ok(reply) => finish(out, reply.status, reply.text.as_bytes()),
         Err(Early::ReadFault) => Status::ReadFault,
         Err(Early::Memory) => Status::Memory,
     }
+}
+
+/// Does what the words ask for.
+pub fn top<S: Source, K: Sink>(alloc: Global, words: &Seq<Str>, src: &mut S, out: &mut K) -> Status
+    // What is appended is what is due for the words and for all that the source has left, and so is the status.
+    ensures due { IfSome (S.left src.old) (λ input. Pays (K.written out.old) (K.written out.new) result (command_of words.now) input) }
+    ensures end { IsOfWhole result → IsAtEnd (S.left src.new) }
+    ensures reads { Reads (S.left src.old) (S.left src.new) result }
+
+    // Each answer has its cause.
+    ensures usage { (result ≡ Status.Usage → command_of words.now ≡ None)
+        × (command_of words.now ≡ None → result ≡ Status.Usage ⊎ result ≡ Status.WriteFault) }
+    ensures long { IfSome (S.left src.old) (λ input. ComesWhere (λ s. s ≡ Status.TooLong) result (IsLong (command_of words.now) input)) }
+    ensures rule { IfSome (S.left src.old) (λ input. (rule : ℕ) → ComesWhere (λ s. s ≡ Status.ScriptRefused rule) result
+        (Breaks rule (command_of words.now) input)) }
+    ensures unbuilt { IfSome (S.left src.old) (λ input. ComesWhere (λ s. s ≡ Status.ProgramRefused unbuilt) result
+        (IsUnbuilt (command_of words.now) input)) }
+    ensures refused { IfSome (S.left src.old) (λ input. (part : Part) (kind place : ℕ)
+        → result ≡ Status.ProgramRefused (refusal part kind place) → HasFault part kind place (command_of words.now) input) }
+    ensures early { IfSome (S.left src.old) (λ input. (part : Part) (kind place : ℕ) → IsEarly part
+        → Follows (λ s. s ≡ Status.ProgramRefused (refusal part kind place)) result (HasFault part kind place (command_of words.now) input)) }
+    ensures no_tree { IfSome (S.left src.old) (λ input. Follows IsProgramRefused result (HasNoTree (command_of words.now) input)) }
+    ensures read_fault { result ≡ Status.ReadFault → Rose (S.faults src.old) (S.faults src.new) }
+    ensures write_fault { result ≡ Status.WriteFault → Rose (K.faults out.old) (K.faults out.new) }
+    // Without a fault in the call, the answer is what is due, or want of memory.
+    ensures complete { IfSome (S.left src.old) (λ input. ¬ Rose (S.faults src.old) (S.faults src.new)
+        → ¬ Rose (K.faults out.old) (K.faults out.new)
+        → result ≡ Status.Memory ⊎ ((text : List ℕ) × IsDue (command_of words.now) input result text)) }
+{
+    answer(alloc, words, src, out)
 }

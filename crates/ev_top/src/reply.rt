@@ -1,7 +1,8 @@
 //! What is due for the bytes of a script.
 
 ghost use Rattle.std.specs.Prelude.{◌≡◌, IfOk, option_and_then, string_bytes};
-ghost use Rattle.ev_top.specs.Due.{IsFor, due_of_sum, due_of_vat, due_of_script};
+ghost use Rattle.ev_top.specs.Debt.{IsFor, bytes_refused};
+ghost use Rattle.ev_top.specs.Due.{due_of_sum, due_of_vat, due_of_script};
 ghost use Rattle.ev_top.specs.Run.{history_of, run_of};
 ghost use Rattle.ev_top.specs.Script.{script_from};
 ghost use Rattle.ev_top.specs.Tree.{tree_of};
@@ -30,6 +31,16 @@ pub fn reply_line(alloc: Global, status: Status, text: &str) -> Result<Reply, Me
     Ok(Reply {
         status,
         text: format!(in alloc; "{text}\n")?,
+    })
+}
+
+/// The refusal of bytes that break a rule.
+pub fn reply_rule(alloc: Global, rule: u8) -> Result<Reply, Memory>
+    ensures { IfOk result (λ reply. IsFor reply.status (string_bytes reply.text) (bytes_refused rule)) }
+{
+    Ok(Reply {
+        status: Status::ScriptRefused(rule),
+        text: format!(in alloc; "refused script {rule}\n")?,
     })
 }
 
@@ -95,13 +106,13 @@ fn reply_script(alloc: Global, script: Option<Script>) -> Result<Reply, Memory>
     ensures { IfOk result (λ reply. IsFor reply.status (string_bytes reply.text) (due_of_script script)) }
 {
     match script {
-        None => reply_line(alloc, Status::ScriptRefused(0), "refused script 0"),
+        None => reply_rule(alloc, 0),
         Some(script) => reply_vats(alloc, script.key.as_str(), &script.vat),
     }
 }
 
 /// The run of the script that bytes spell.
-pub fn reply_bytes(alloc: Global, bytes: &[u8]) -> Result<Reply, Memory>
+pub fn run_bytes(alloc: Global, bytes: &[u8]) -> Result<Reply, Memory>
     ensures { IfOk result (λ reply. IsFor reply.status (string_bytes reply.text) (due_of_script (script_from bytes.now))) }
 {
     let script = read_script(alloc, bytes)?;

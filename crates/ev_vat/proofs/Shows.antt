@@ -1,0 +1,169 @@
+-- The lines of the one vat of a run are those that the machine shows.
+use Rattle.std.proofs.Common.{◌≡◌, ℕ, zero, suc, Bool, true, false, List, [], ◌∷◌, ◌++◌, refl, sym, ap, ◌∙◌, map, length, append_assoc, append-nil, codes, string_bytes}
+use Rattle.std.specs.Prelude.{slice_get, unwrap_or, filter, flat_map}
+use Rattle.std.proofs.lemmas.List.Elements.{filter-append}
+use Rattle.ev_base.specs.declared.names.Name.TheVariants as name
+use Rattle.ev_base.specs.declared.values.Value.{Value as Held}
+use Rattle.ev_base.specs.declared.values.Value.TheVariants as held
+use Rattle.ev_heap.specs.declared.happened.Happened.{Happened as Heard}
+use Rattle.ev_heap.specs.declared.happened.Happened.TheVariants as event
+use Rattle.ev_event.specs.declared.event.Event.{Event as ShownEvent}
+use Rattle.ev_event.specs.declared.event.Event.TheVariants.{Open, End}
+use Rattle.ev_event.specs.declared.shown.Shown.{Shown}
+use Rattle.ev_event.specs.Lines.{is_no_frame, render, render_run}
+use Rattle.ev_machine.specs.Values.{Words, Value, Name, Local}
+use Rattle.ev_machine.specs.State.{Bound, Fixed, Slot, Happened, Took, Called, Back, Thrown, Left, Got, SlotMade, SlotRead, SlotWrote, ListMade, ListCame, EjectorMade, AuditionMade, PromiseMade, ObjectMade, Sends, Reacts, Finished, Threw, Settles, Waits, Views, Lost, Posted}
+use Rattle.ev_renaming.specs.Maps as maps
+use Rattle.ev_run.specs.World.{Script, Event, Here, Ends, event_of, events_of, is_cut, cut_in, link_at}
+use Rattle.ev_run.specs.Shown.{shown_value, shown_values, shown_slot, shown_happened, shown_event, shown_name}
+use Rattle.ev_run.specs.Draws.{draw_word}
+use Rattle.ev_run.specs.Wire.{frame}
+use Rattle.ev_run.specs.Text.{shown_events}
+use Rattle.ev_eval.specs.Reading.{World, problems, text_of, value_of, problem_of, line_of, lines_of}
+use Rattle.ev_opening_laws.specs.Alone.{name_of}
+use Rattle.ev_vat.specs.Lines.{text_at, shown_held, problem_at}
+use Rattle.ev_vat.specs.Lines as ours
+use Rattle.ev_vat.proofs.Closing.{root_world}
+
+-- what the machine shows of a line of that vat
+unfoldable pub shown_of : Happened Local → List ShownEvent
+shown_of h = shown_happened zero (maps.line name_of h)
+
+unfoldable pub all_shown : List (Happened Local) → List ShownEvent
+all_shown [] = []
+all_shown (h ∷ hs) = shown_of h ++ all_shown hs
+
+pub one_line : (h : Happened Local) → all_shown (h ∷ []) ≡ shown_of h
+unfolding all_shown
+one_line h = append-nil (shown_of h)
+
+pub all_shown-append : (a b : List (Happened Local)) → all_shown (a ++ b) ≡ all_shown a ++ all_shown b
+unfolding all_shown
+all_shown-append [] b = refl
+all_shown-append (h ∷ a) b = ap (λ es. shown_of h ++ es) (all_shown-append a b) ∙ sym (append_assoc (shown_of h) (all_shown a) (all_shown b))
+
+pub shown_events-append : (script : Script) (a b : List Event) → shown_events script (a ++ b) ≡ shown_events script a ++ shown_events script b
+unfolding shown_events
+shown_events-append script [] b = refl
+shown_events-append script (e ∷ a) b =
+    ap (λ es. shown_event (frame (draw_word script.key)) e ++ es) (shown_events-append script a b)
+    ∙ sym (append_assoc (shown_event (frame (draw_word script.key)) e) (shown_events script a) (shown_events script b))
+
+one_shown : (script : Script) (h : Happened Local) → shown_events script (event_of [] zero (maps.line name_of h)) ≡ shown_of h
+unfolding shown_of shown_events shown_event shown_happened event_of is_cut cut_in link_at
+one_shown script (Posted w m) = refl
+one_shown script (Took a m) = refl
+one_shown script (Called a x verb args b) = refl
+one_shown script (Back a v) = refl
+one_shown script (Thrown a p) = refl
+one_shown script (Left a) = refl
+one_shown script (Got a v) = refl
+one_shown script (SlotMade a k v) = refl
+one_shown script (SlotRead a k v) = refl
+one_shown script (SlotWrote a k v) = refl
+one_shown script (ListMade a k vs) = refl
+one_shown script (ListCame k vs) = refl
+one_shown script (EjectorMade a j) = refl
+one_shown script (AuditionMade a j) = refl
+one_shown script (PromiseMade a p r) = refl
+one_shown script (ObjectMade a n x bs vs) = refl
+one_shown script (Sends a m) = refl
+one_shown script (Reacts a x o m) = refl
+one_shown script (Finished a v) = refl
+one_shown script (Threw a p) = refl
+one_shown script (Settles p y) = refl
+one_shown script (Waits p q) = refl
+one_shown script (Views p q) = refl
+one_shown script (Lost m) = refl
+
+pub events-shown : (script : Script) (hs : List (Happened Local)) → shown_events script (events_of [] zero (map (maps.line name_of) hs)) ≡ all_shown hs
+unfolding events_of all_shown
+events-shown script [] = unfold shown_events in refl
+events-shown script (h ∷ hs) =
+    shown_events-append script (event_of [] zero (maps.line name_of h)) (events_of [] zero (map (maps.line name_of) hs))
+    ∙ ap (λ es. es ++ shown_events script (events_of [] zero (map (maps.line name_of) hs))) (one_shown script h)
+    ∙ ap (λ es. shown_of h ++ es) (events-shown script hs)
+
+-- ---- no frames
+
+no_frame : (h : Happened Local) → filter is_no_frame (shown_of h) ≡ shown_of h
+unfolding shown_of shown_happened
+no_frame (Posted w m) = refl
+no_frame (Took a m) = refl
+no_frame (Called a x verb args b) = refl
+no_frame (Back a v) = refl
+no_frame (Thrown a p) = refl
+no_frame (Left a) = refl
+no_frame (Got a v) = refl
+no_frame (SlotMade a k v) = refl
+no_frame (SlotRead a k v) = refl
+no_frame (SlotWrote a k v) = refl
+no_frame (ListMade a k vs) = refl
+no_frame (ListCame k vs) = refl
+no_frame (EjectorMade a j) = refl
+no_frame (AuditionMade a j) = refl
+no_frame (PromiseMade a p r) = refl
+no_frame (ObjectMade a n x bs vs) = refl
+no_frame (Sends a m) = refl
+no_frame (Reacts a x o m) = refl
+no_frame (Finished a v) = refl
+no_frame (Threw a p) = refl
+no_frame (Settles p y) = refl
+no_frame (Waits p q) = refl
+no_frame (Views p q) = refl
+no_frame (Lost m) = refl
+
+pub no_frames : (hs : List (Happened Local)) → filter is_no_frame (all_shown hs) ≡ all_shown hs
+unfolding all_shown
+no_frames [] = refl
+no_frames (h ∷ hs) = filter-append is_no_frame (shown_of h) (all_shown hs) ∙ rw (no_frame h, no_frames hs) refl
+
+-- ---- what the code shows
+
+pub value-shown : (word : ℕ → ℕ) (v : Held) → shown_value zero (maps.value name_of (value_of (root_world word) v)) ≡ shown_held problems v
+unfolding shown_value shown_name name_of root_world
+value-shown word held.Null = refl
+value-shown word (held.Bool b) = refl
+value-shown word (held.Int z) = refl
+value-shown word (held.Char c) = refl
+value-shown word (held.Text id) = refl
+value-shown word (held.List id) = refl
+value-shown word (held.Prim n) = refl
+value-shown word (held.Obj i) = refl
+value-shown word (held.Prom k) = refl
+value-shown word (held.Far v p) = refl
+value-shown word (held.Broken id) = refl
+
+pub values-shown : (word : ℕ → ℕ) (vs : List Held) → shown_values zero (map (maps.value name_of) (map (value_of (root_world word)) vs)) ≡ map (shown_held problems) vs
+unfolding shown_values
+values-shown word [] = refl
+values-shown word (v ∷ vs) = cc (value-shown word v, values-shown word vs)
+
+problem-shown : (word : ℕ → ℕ) (v : Held) → problem_of (root_world word) v ≡ problem_at problems v
+unfolding root_world
+problem-shown word held.Null = refl
+problem-shown word (held.Bool b) = refl
+problem-shown word (held.Int z) = refl
+problem-shown word (held.Char c) = refl
+problem-shown word (held.Text id) = refl
+problem-shown word (held.List id) = refl
+problem-shown word (held.Prim n) = refl
+problem-shown word (held.Obj i) = refl
+problem-shown word (held.Prom k) = refl
+problem-shown word (held.Far v p) = refl
+problem-shown word (held.Broken id) = refl
+
+line-shown : (word : ℕ → ℕ) (e : Heard) → all_shown (line_of (root_world word) e) ≡ ours.lines problems e
+unfolding line_of all_shown shown_of shown_happened shown_slot
+line-shown word (event.Call act target verb args begun) = rw (value-shown word target, values-shown word args) refl
+line-shown word (event.Back act v) = rw (value-shown word v) refl
+line-shown word (event.Thrown act p) = rw (problem-shown word p) refl
+line-shown word (event.Slot act k v) = rw (value-shown word v) refl
+line-shown word (event.Read act k v) = rw (value-shown word v) refl
+line-shown word (event.Wrote act k v) = rw (value-shown word v) refl
+line-shown word _ = refl
+
+pub lines-shown : (word : ℕ → ℕ) (es : List Heard) → all_shown (lines_of (root_world word) es) ≡ ours.lines_of problems es
+unfolding lines_of all_shown
+lines-shown word [] = refl
+lines-shown word (e ∷ es) = all_shown-append (line_of (root_world word) e) (lines_of (root_world word) es) ∙ rw (line-shown word e, lines-shown word es) refl

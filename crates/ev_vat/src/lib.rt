@@ -1,0 +1,13 @@
+//! One vat that knows no other: its run, and the text of it.
+#![tactic(auto)]
+
+pub mod lines;
+pub mod run;
+pub mod shown;
+pub mod told;
+
+pub use run::run_program;
+pub use told::{RunEnd, Told};
+
+#[cfg(test)]
+mod tests;

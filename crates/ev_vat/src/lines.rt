@@ -1,0 +1,137 @@
+//! The lines of a turn.
+
+ghost use Rattle.std.specs.Prelude.{◌≡◌, ◌++◌, IfOk, OnOk, map};
+ghost use Rattle.ev_event.specs.declared.event.Event.TheVariants.{Call};
+ghost use Rattle.ev_vat.specs.Lines.{done_lines, lines, lines_of, shown_held, threw_lines};
+
+use crate::shown::{VAT, copied, problem, settled, shown, shown_all};
+use ev_base::{ActId, Memory, Name, Str, TextId, Value};
+use ev_event::{Boxed, Called, Event, History, Shown};
+use ev_heap::{Happened, Heap};
+use std::alloc::Global;
+
+/// The number of an activation.
+fn number(activation: Option<ActId>) -> Option<u64>
+    ensures { result ≡ activation }
+{
+    match activation {
+        None => None,
+        Some(id) => Some(id.0),
+    }
+}
+
+/// The line of a call.
+fn call_line(
+    alloc: Global,
+    heap: &Heap,
+    activation: ActId,
+    target: Value,
+    verb: &str,
+    args: &[Value],
+    begun: Option<ActId>,
+) -> Result<Event, Memory>
+    ensures { IfOk result (λ line. line ≡ Call (record { activation = activation; target = shown_held heap.now.texts target; verb = verb.now; args = map (shown_held heap.now.texts) args.now; begun = begun })) }
+{
+    let called = Called {
+        activation: activation.0,
+        target: shown(alloc, heap, target)?,
+        verb: Str::copy_of(alloc, verb)?,
+        args: shown_all(alloc, heap, args)?,
+        begun: number(begun),
+    };
+    Ok(Event::Call(Boxed::new(alloc, called)?))
+}
+
+/// Adds the line of what happened, where it is of a kind that evaluation tells.
+fn push_line(
+    alloc: Global,
+    heap: &Heap,
+    event: &Happened,
+    history: &mut History,
+) -> Result<(), Memory>
+    ensures { OnOk result (history.new ≡ history.old ++ lines heap.now.texts event.now) }
+{
+    match event {
+        Happened::Call {
+            activation,
+            target,
+            verb,
+            args,
+            begun,
+        } => history.push(call_line(
+            alloc,
+            heap,
+            *activation,
+            *target,
+            verb.as_str(),
+            args.as_slice(),
+            *begun,
+        )?),
+        Happened::Back(activation, value) => {
+            history.push(Event::Back(activation.0, shown(alloc, heap, *value)?))
+        }
+        Happened::Thrown(activation, value) => history.push(Event::Thrown(
+            activation.0,
+            Shown::Text(problem(alloc, heap, *value)?),
+        )),
+        Happened::Slot(activation, id, value) => history.push(Event::Slot(
+            activation.0,
+            (VAT, id.0),
+            shown(alloc, heap, *value)?,
+        )),
+        Happened::Read(activation, id, value) => history.push(Event::Read(
+            activation.0,
+            (VAT, id.0),
+            shown(alloc, heap, *value)?,
+        )),
+        Happened::Wrote(activation, id, value) => history.push(Event::Wrote(
+            activation.0,
+            (VAT, id.0),
+            shown(alloc, heap, *value)?,
+        )),
+        _ => Ok(()),
+    }
+}
+
+/// Adds the lines of all that happened, in order.
+pub(crate) fn push_lines(
+    alloc: Global,
+    heap: &Heap,
+    events: &[Happened],
+    history: &mut History,
+) -> Result<(), Memory>
+    ensures { OnOk result (history.new ≡ history.old ++ lines_of heap.now.texts events.now) }
+{
+    for event in events {
+        push_line(alloc, heap, event, history)?;
+    }
+    Ok(())
+}
+
+/// Adds the last lines of an opening turn that ended with a value, and of the run.
+pub(crate) fn push_done(
+    alloc: Global,
+    heap: &Heap,
+    value: Value,
+    history: &mut History,
+) -> Result<(), Memory>
+    ensures { OnOk result (history.new ≡ history.old ++ done_lines heap.now.texts value) }
+{
+    history.push(Event::Done(0, shown(alloc, heap, value)?))?;
+    history.push(Event::Settle(Name::Root(VAT), settled(alloc, heap, value)?))?;
+    history.push(Event::End)
+}
+
+/// Adds the last lines of an opening turn that ended with a problem, and of the run.
+pub(crate) fn push_threw(
+    alloc: Global,
+    heap: &Heap,
+    id: TextId,
+    history: &mut History,
+) -> Result<(), Memory>
+    ensures { OnOk result (history.new ≡ history.old ++ threw_lines heap.now.texts id) }
+{
+    history.push(Event::Threw(0, Shown::Text(copied(alloc, heap, id)?)))?;
+    history.push(Event::Settle(Name::Root(VAT), Shown::Broken(copied(alloc, heap, id)?)))?;
+    history.push(Event::End)
+}
