@@ -1,5 +1,5 @@
 -- Reading and writing a var slot that stands in a heap.
-use Rattle.std.proofs.Common.{◌≡◌, ℕ, zero, suc, ◌<◌, ◌≤◌, Bool, true, false, nat_lt, List, [], ◌∷◌, length, Option, Some, None, refl, ap, arith}
+use Rattle.std.proofs.Common.{◌≡◌, ℕ, zero, suc, ◌<◌, ◌≤◌, List, [], ◌∷◌, length, Option, Some, None, refl, arith}
 use Rattle.std.specs.Prelude.{slice_get, slice_set, option_map, IfSome, Err}
 use Rattle.std.proofs.lemmas.Option.{slice_get_past}
 use Rattle.ev_base.specs.declared.values.Value.{Value}

@@ -1,5 +1,5 @@
 -- The recursion on the depth, as code counts it down.
-use Rattle.std.proofs.Common.{◌≡◌, ℕ, zero, suc, ◌-◌, ◌<◌, List, Option, Err, refl, arith, sub-one}
+use Rattle.std.proofs.Common.{◌≡◌, ℕ, zero, suc, ◌-◌, ◌<◌, List, Err, refl, arith, sub-one}
 use Rattle.std.specs.Prelude.{slice_get}
 use Rattle.ev_kernel.specs.declared.node.Node.{Node}
 use Rattle.ev_eval.specs.declared.exit.Exit.TheVariants.{Deep}

@@ -1,27 +1,17 @@
 -- Objects in the code's evaluation stand for the machine's: making them, and calls on them.
-use Rattle.std.proofs.Common.{◌≡◌, ℕ, zero, suc, ◌+◌, ◌-◌, Bool, true, false, List, [], ◌∷◌, ◌++◌, Option, Some, None, Ok, Err, length, map, refl, sym, ap, subst, ◌∙◌, arith, append_assoc, append-nil}
-use Rattle.std.specs.Prelude.{OnOk, not, reverse, ◌&&◌, ◌||◌, ◌==◌, ℤ, ◌+ℤ◌, Result, slice_get, slice_set, codes, if◌then◌else◌, option_map, nat_le, is_none}
-use Rattle.std.specs.List.{position, list_any}
+use Rattle.std.proofs.Common.{◌≡◌, ℕ, zero, suc, Bool, true, false, List, [], ◌∷◌, ◌++◌, Option, Some, None, Ok, Err, length, map, refl, sym, ap, subst, ◌∙◌, append_assoc, append-nil}
+use Rattle.std.specs.Prelude.{reverse, ◌&&◌, ◌==◌, slice_get, if◌then◌else◌, option_map}
 use Rattle.std.specs.Str.{bytes_eq}
 use Rattle.std.proofs.lemmas.List.{map-append, length-map}
 use Rattle.std.proofs.lemmas.Option.{slice_get-map}
-use Rattle.std.proofs.lemmas.Slice.Eq.{bytes_eq-Decides}
-use Rattle.ev_base.specs.SafeScope.{primitives, safe_value}
-use Rattle.ev_base.specs.declared.values.Value.{Value as HeldValue}
 use Rattle.ev_base.specs.declared.values.Value.TheVariants as held
-use Rattle.ev_heap.specs.declared.happened.Happened.{Happened as Event}
 use Rattle.ev_heap.specs.declared.happened.Happened.TheVariants as event
-use Rattle.ev_kernel.specs.declared.node.Literal.{Literal}
-use Rattle.ev_kernel.specs.declared.node.Literal.TheVariants as literal
 use Rattle.ev_kernel.specs.declared.node.Node.{Node}
-use Rattle.ev_kernel.specs.declared.node.Node.TheVariants.{Lit, Noun, Set, Def, Call, Sequence, If, Escape, Try, Finally, Hide, MatchBind, Object as ObjectNode, Method, Matcher, Final, Var, Any, ListPattern, Via}
-use Rattle.ev_machine.specs.Values.{Words, Value, Null, Flag, Number, Ref, Local, Obj, Prom, Far, Mess, same_local, local_spot, numbering}
+use Rattle.ev_kernel.specs.declared.node.Node.TheVariants.{Object as ObjectNode, Method, Matcher, Final}
+use Rattle.ev_machine.specs.Values.{Words, Value, Null, Ref, Local, Obj, local_spot, numbering}
 use Rattle.ev_machine.specs.State.{Bound, Fixed, Slot, Cell as TheirCell, Binding as Bond, Scope as Surroundings, Happened, Called, Back, Thrown, SlotMade, SlotRead, SlotWrote, ObjectMade, Made, Known, Vat, Done, Throws, Ejects, Stops, Fuel, Deep, Astray, for_some, opened_state}
 use Rattle.ev_machine.specs.State as machine
-use Rattle.ev_machine.specs.Ints.{fits, Add, Subtract, Multiply, FloorDivide, Remainder, Mod, Pow, And, Or, Xor, opened_ints}
-use Rattle.ev_machine.specs.Native.{by_int, data_reply, int_reply, int_alone, int_with, int_unary, int_binary, IntVerb, Applies, Negates, AsChar, NoIntVerb, no_method, opened_native}
-use Rattle.ev_machine.specs.Refs.{follow, follow_at, led, standing_of, standing_in, severed, severed_at, entry_of}
-use Rattle.ev_machine.specs.Free.{same_words, entry, free_nouns}
+use Rattle.ev_machine.specs.Free.{free_nouns}
 use Rattle.ev_form.specs.FreeNames.{free_names, counted}
 use mathlib.Core.List.{reverse_aux}
 use Rattle.ev_machine.specs.Scopes.{Answer, Answers, any_guard, bound_in}
@@ -29,11 +19,8 @@ use Rattle.ev_machine.specs.Eval.{opened_eval}
 use Rattle.ev_machine.specs.Scopes as scopes
 use Rattle.ev_machine.specs.Calls as calls
 use Rattle.ev_machine.specs.Eval as theirs
-use Rattle.ev_machine.specs.Native as native
-use Rattle.ev_eval.specs.declared.exit.Exit.{Exit}
 use Rattle.ev_eval.specs.declared.exit.Exit.TheVariants as exit
-use Rattle.ev_eval.specs.declared.exit.Problem.{Problem}
-use Rattle.ev_eval.specs.declared.exit.Problem.TheVariants.{Overflow, NotInt, NoMethod}
+use Rattle.ev_eval.specs.declared.exit.Problem.TheVariants.{NoMethod}
 use Rattle.ev_eval.specs.declared.object.Object.{Object}
 use Rattle.ev_eval.specs.declared.plain.Plain.{Plain}
 use Rattle.ev_eval.specs.declared.plain.Plain.TheVariants as plain
@@ -41,18 +28,14 @@ use Rattle.ev_eval.specs.declared.room.Room.{Room}
 use Rattle.ev_eval.specs.declared.scope.Binding.{Binding}
 use Rattle.ev_eval.specs.declared.scope.Bound.{Bound as Held}
 use Rattle.ev_eval.specs.declared.scope.Bound.TheVariants as scope
-use Rattle.ev_heap.specs.declared.kept.Cell.{Cell}
 use Rattle.ev_heap.specs.declared.kept.Thing.{Thing as HeldThing}
 use Rattle.ev_eval.specs.declared.scope.Scope.{Scope}
-use Rattle.ev_eval.specs.Built.{is_int, is_nil, is_built_safe, is_built_verb, unbuilt_unary, unbuilt_binary, is_built_node, is_built}
-use Rattle.ev_eval.specs.Reading.{World, names, all_promises, is_promise, text_of, value_of, cell_of, thing_of, caught_in, capture_in, line_of, lines_of, vat_of}
-use Rattle.ev_eval.specs.Plain.{held_value, plain_cell, plain_thing, capture_of, caught_of, IsPlain}
-use Rattle.ev_eval.specs.Steps.{Out, Act, Gives, Evaluator, and_then, ◌>>=◌, ◌>>◌, give, fail, answer, tell, spent, spend, new_activation, plain_of, new_slot, write_told, slot_read, slot_found, read_slot, slot_written, write_slot, found_from, safe_plain, read_held, read_bound, write_held, write_bound, with_noun, problem_id, sum, added, sum_of, ended, data_answer, call_data, call_plain, call, bound_back, with_back, all_back, with_bound, captures, new_object, named, object_made, object_in, make_object, object_node, bind_all, suits, first_method, run_method, run_found, run_object, closed_by, closed, call_made, object_back, code_of, code_in, look_code, call_object, gathered, last_of, call_node, define, literal_value, literal_node, noun_node, set_node, step, bind_final, bind_var, bind_any, bind_step, step_found, bind_found, deeper, evaluator, opening, opened_steps}
-use Rattle.ev_base.specs.declared.memory.Memory.{Memory}
-use Rattle.ev_eval.specs.declared.turn.Ended.{Ended}
-use Rattle.ev_eval.specs.Turn.{Ends, EndsAs, opened}
-use Rattle.ev_eval.proofs.Words.{same_is, same_turned, safe_is, chosen, others, no_others}
-use Rattle.ev_eval.proofs.Stands.{IsMet, IsSound, Met, Stands, activation_met, again_at, answer_of, answers_of, back_line, bond_of, bonds_onto, both, bound_of, call_by, call_plain_met, called_line, cell_found_met, cell_met, cells_at, changed_is, ended_met, fail_met, first_bond, fixed_met, follow_plain, found_is, found_of, get_built, give_answer_met, give_met, gives_on, is_data, is_fixed, lines_more, made_line, none_bound, not_written_met, nothing_met, noun_met, one_bond, onto_more, outcome, plain_at, plain_back, plain_in, problem_text, problem_words, read_line, read_met, safe_cases, safe_met, scope_of, set_plain, slot_is, slot_met, slots_are, spend_met, spent_met, tell_met, then_met, then_stands, thrown_line, told, unbound_met, val, vat, write_found_met, write_met, write_plain_met, write_slot_is, write_slot_met, writing_is, written, written_met, written_sound, wrote_line, wrote_met}
+use Rattle.ev_eval.specs.Built.{is_nil, is_built_node, is_built}
+use Rattle.ev_eval.specs.Reading.{World, names, all_promises, text_of, thing_of, caught_in, capture_in, line_of, vat_of}
+use Rattle.ev_eval.specs.Plain.{held_value, plain_thing, capture_of, caught_of}
+use Rattle.ev_eval.specs.Steps.{Out, Evaluator, and_then, ◌>>=◌, ◌>>◌, fail, found_from, problem_id, bound_back, with_back, all_back, with_bound, captures, new_object, named, object_made, object_in, make_object, object_node, bind_all, suits, first_method, run_method, run_found, run_object, closed_by, closed, call_made, object_back, code_of, code_in, look_code, call_object}
+use Rattle.ev_eval.proofs.Words.{same_is}
+use Rattle.ev_eval.proofs.Stands.{IsMet, IsSound, Met, Stands, activation_met, again_at, answer_of, back_line, bond_of, bonds_onto, bound_of, call_by, called_line, fail_met, follow_plain, found_is, found_of, get_built, give_met, none_bound, onto_more, scope_of, tell_met, then_met, val, vat}
 
 -- ---- what an object holds
 

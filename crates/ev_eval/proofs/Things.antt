@@ -1,5 +1,5 @@
 -- The code of an object that stands in a heap.
-use Rattle.std.proofs.Common.{◌≡◌, ℕ, ◌≤◌, List, length, Option, Some, None, Ok, Err, refl, ap}
+use Rattle.std.proofs.Common.{◌≡◌, ℕ, ◌≤◌, length, Option, Some, None, Ok, Err, refl, ap}
 use Rattle.std.specs.Prelude.{Result, slice_get, option_map}
 use Rattle.std.proofs.lemmas.Option.{slice_get_past}
 use Rattle.ev_heap.specs.declared.kept.Shape.{Shape}
@@ -8,7 +8,7 @@ use Rattle.ev_eval.specs.declared.exit.Exit.TheVariants.{Thrown, Fuel, Deep, Ast
 use Rattle.ev_eval.specs.declared.exit.Exit.{Exit}
 use Rattle.ev_eval.specs.declared.object.Object.{Object}
 use Rattle.ev_eval.specs.declared.room.Room.{Room}
-use Rattle.ev_eval.specs.Steps.{Out, Answers, Gives, code_of, code_in, look_code}
+use Rattle.ev_eval.specs.Steps.{Answers, Gives, code_of, code_in, look_code}
 
 code_at : (o : Option Thing) (sh : Shape) → option_map (λ t. t.shape) o ≡ Some sh → code_in o ≡ code_of sh
 unfolding code_in

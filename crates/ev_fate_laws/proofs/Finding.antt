@@ -59,10 +59,10 @@ module _ (K : Naming Name Name) (v : ℕ) (global : Global K v) where
   severed_opens s y (inr h) = subst (λ z. Opened s.known (refs.severed K s z)) (sym h.2) (spot_opens s h.0 h.1 (K.spot h.0) h.3 h.4)
 
   named_opens : (s : Vat Name) (n : Name) → AllWell s → ViewsEnd K s → IsAmong K s.known n → Opened s.known (refs.follow_at K (suc (length s.known)) s.known (Ref n))
-  named_opens s n w end a = follow_opens (length s.known) s.known n a.0 w a.1 (end n)
+  named_opens s n w end a = follow_opens (length s.known) s.known n a.0 w.0 a.1 (end n)
 
   last_opens : (s : Vat Name) (y : Value Name) → AllWell s → NoPromise y → Opened s.known (refs.follow_at K (suc (length s.known)) s.known y)
-  last_opens s y w h = inl (follow_last K v global (suc (length s.known)) s.known y h w)
+  last_opens s y w h = inl (follow_last K v global (suc (length s.known)) s.known y h w.0)
 
   known_opens : (s : Vat Name) (y : Value Name) → AllWell s → ViewsEnd K s → IsKnown K s y → Opened s.known (refs.follow_at K (suc (length s.known)) s.known y)
   known_opens s (Ref (Object h i)) w end g = last_opens s (Ref (Object h i)) w tt
@@ -157,7 +157,7 @@ module _ (K : Naming Name Name) (v : ℕ) (global : Global K v) where
 
     first_at : (s : Vat Name) (m : Message Name) (y : Value Name) (p : Place Name) → NamesMessage m.id → Fits y p → OpenAt s.known p → AllWell s → PaysAt cut x (one m.id x) s (refs.send_first K m y p s)
     unfolding refs.send_first refs.send_to
-    first_at s m y (Away h n o) g f q w = (cost_deliver K v global cut x m h n).after s w
+    first_at s m y (Away h n o) g f q w = (cost_deliver K v global cut x m h n g).after s w
     first_at s m y Near g f q w = (cost_enqueue cut x (record m { target = y })).after s w
     first_at s m y (Mine n) g f q w = holds_at s (record m { target = y }) n q.0 f g q.1 q.2 w
     first_at s m y (Gone p) g f q w = (cost_send_to K v global cut x (refs.settle K) (pays_settle K v global cut x) m y (Gone p) g tt).after s w

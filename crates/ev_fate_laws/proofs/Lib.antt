@@ -14,3 +14,4 @@ pub mod PlacesRefs
 pub mod PlacesArrive
 pub mod PlacesSteps
 pub mod Finding
+pub mod RunWell

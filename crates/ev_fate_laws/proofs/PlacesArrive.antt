@@ -1,17 +1,17 @@
 -- What arrives and what is noticed lets what has a place last.
-use Rattle.std.proofs.Common.{ℕ, ◌+◌, ◌≤◌, Bool, true, false, List, [], ◌∷◌, ◌++◌, Option, Some, None, sym, arith, length, subst}
+use Rattle.std.proofs.Common.{ℕ, ◌+◌, ◌≤◌, Bool, true, false, List, [], ◌∷◌, ◌++◌, Option, Some, None, sym, arith, length, subst, refl, ◌≡◌}
 use Rattle.ev_machine.specs.Values.{Words, Value, Null, Flag, Number, Letter, Text, Prim, Broken, Items, Ref, Name, Naming, IsAnswer, IsLearnt, IsCarried, name_of, mail_of}
 use Rattle.ev_machine.specs.State.{Standing, Unsettled, WaitsOn, Viewed, Settled, Known, ToTell, Passed, Passeds, Plain, AGift, Many, NoMore, More, Note, Deliver, Open, Ask, SettledTo, Elsewhere, Shorten, GiftEntry, ListCame, Vat, Done, Gives, Throws, Ejects, Stops, ◌>>=◌, ◌>>◌, and_then, mail, give, look, tell, new_list, come, alter}
-use Rattle.ev_machine.specs.Refs.{Place, Away, settle, send_on}
+use Rattle.ev_machine.specs.Refs.{Place, Away, settle, send_on, entry_of, standing_in, standing_of}
 use Rattle.ev_machine.specs.Arrive as arrive
 use Rattle.ev_machine.specs.Arrive.{Incoming, Old, New}
 use Rattle.ev_fate_laws.specs.Fate.{at_vat, gone_here, account}
-use Rattle.ev_fate_laws.specs.Lasting.{NamesMessage, AllWell, ComesAsNoObject, ValueComes, PassedComes, AllCome, ValueSettles, PassedSettles, MessageComes, NoteComes}
+use Rattle.ev_fate_laws.specs.Lasting.{NamesMessage, AllWell, ComesAsNoObject, ValueComes, PassedComes, AllCome, ValueSettles, PassedSettles, MessageComes, NoteComes, SettledWell}
 use Rattle.ev_fate_laws.proofs.Counts.{gone_end}
 use Rattle.ev_fate_laws.proofs.PlacesLast.{Global, PaysAt, Pays, pay_more, pays, pays_bind, pays_then, pays_look, pays_come, pays_answer, pays_to_tell}
-use Rattle.ev_fate_laws.proofs.PlacesRefs.{pays_break, pays_resolve, pays_inform, pays_settle, pays_send_on}
+use Rattle.ev_fate_laws.proofs.PlacesRefs.{pays_break, pays_resolve, inform_at, found_well, pays_settle, pays_send_on}
 
-ruleset pays_all = (pays, pays_break, pays_resolve, pays_inform)
+ruleset pays_all = (pays, pays_break, pays_resolve)
 
 module _ (cut : ℕ → Bool) (x : Name) (K : Naming Name Name) (v : ℕ) (global : Global K v) where
   pub pays_learn_name : (z : Incoming Name Name) → ComesAsNoObject z → Pays cut x 0 (arrive.learn_name K z)
@@ -74,18 +74,9 @@ module _ (cut : ℕ → Bool) (x : Name) (K : Naming Name Name) (v : ℕ) (globa
   pays_break_unopened n true = search (pays_all) depth 14
   pays_break_unopened n false = search (pays_all, pays_break_at) depth 14
 
-  pub pays_tell_asker : (x1 : Name) → (x2 : ℕ) → (x3 : Standing Name) → Pays cut x 0 (arrive.tell_asker K x1 x2 x3)
-  unfolding arrive.tell_asker
-  pays_tell_asker n w (Settled y) = search (pays_all, pays_inform) depth 14
-  pays_tell_asker n w _ = search (pays_all) depth 14
-
   pub pays_break_orphan : (x1 : ℕ) → (x2 : ℕ) → (x3 : Name) → Pays cut x 0 (arrive.break_orphan K x1 x2 x3)
   unfolding arrive.break_orphan
   pays_break_orphan p i n = search (pays_all, pays_break_unopened) depth 14
-
-  pub pays_arrive_ask : (x1 : ℕ) → (x2 : ℕ) → (x3 : ℕ) → Pays cut x 0 (arrive.arrive_ask K x1 x2 x3)
-  unfolding arrive.arrive_ask
-  pays_arrive_ask from p i = search (pays_all, pays_have_gift, pays_break_orphan, pays_tell_asker) depth 14
 
   pub pays_see : (x1 : Name) → (x2 : Name) → Pays cut x 0 (arrive.see K x1 x2)
   unfolding arrive.see
@@ -103,6 +94,27 @@ module _ (cut : ℕ → Bool) (x : Name) (K : Naming Name Name) (v : ℕ) (globa
   unfolding arrive.shorten_to
   pays_shorten_to i (Away h n true) = search (pays_all) depth 14
   pays_shorten_to i _ = search (pays_all) depth 14
+
+  entry_from : (n : Name) (y : Value Name) (o : Option (Known Name)) → standing_in o ≡ Settled y → (k : Known Name) × (o ≡ Some k) × (k.standing ≡ Settled y)
+  unfolding standing_in
+  entry_from n y (Some k) e = (k, refl, e)
+  entry_from n y None e = cc
+
+  asker_told : (n : Name) (w : ℕ) (t : Standing Name) (s : Vat Name) → standing_of K s.known n ≡ t → AllWell s → PaysAt cut x 0 s (arrive.tell_asker K n w t s)
+  unfolding arrive.tell_asker standing_of
+  asker_told n w (Settled y) s e well = let found = entry_from n y (entry_of K s.known n) e in let k = found.0 in let of_k = found_well K v global n k s.known found.1 well.0 in let known = of_k.0 in
+      inform_at K v global cut x n k y w s found.1 found.2 (subst SettledWell found.2 known.standing) well
+  asker_told n w Unsettled s e well = (pays_to_tell cut x K v global w n).after s well
+  asker_told n w (WaitsOn q) s e well = (pays_to_tell cut x K v global w n).after s well
+  asker_told n w (Viewed q) s e well = (pays_to_tell cut x K v global w n).after s well
+
+  asks_told : (n : Name) (w : ℕ) → Pays cut x 0 (look (λ s. standing_of K s.known n) >>= (λ t. arrive.tell_asker K n w t))
+  unfolding ◌>>=◌ and_then look
+  asks_told n w = record { after = λ s well. asker_told n w (standing_of K s.known n) s refl well }
+
+  pub pays_arrive_ask : (from p i : ℕ) → Pays cut x 0 (arrive.arrive_ask K from p i)
+  unfolding arrive.arrive_ask
+  pays_arrive_ask from p i = pays_bind cut x (pays_have_gift p i) (λ n. pays_then cut x (pays_break_orphan p i n) (asks_told n from))
 
   pub pays_arrive_open : (from i : ℕ) (z : Incoming Name Name) → ComesAsNoObject z → Pays cut x 0 (arrive.arrive_open K from i z)
   unfolding arrive.arrive_open

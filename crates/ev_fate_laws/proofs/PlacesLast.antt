@@ -2,9 +2,9 @@
 use Rattle.std.proofs.Common.{◌≡◌, ℕ, ◌+◌, ◌≤◌, Bool, true, false, List, [], ◌∷◌, ◌++◌, Option, Some, None, if◌then◌else◌, refl, sym, arith, length, subst}
 use Rattle.std.specs.Prelude.{nat_le}
 use Rattle.ev_machine.specs.Values.{Value, Prim, Name, Naming, Coming, IsAnswer, IsGift, Mailing, spot_of, name_of, answer_of, mail_of}
-use Rattle.ev_machine.specs.State.{Message, Standing, Unsettled, WaitsOn, Viewed, Settled, Known, Change, Hold, Wait, WaitOn, See, React, ToTell, Settle, Note, Happened, Vat, Stop, Done, Gives, Throws, Ejects, Stops, Act, ◌>>=◌, ◌>>◌, and_then, each, give, stop, look, tell, spend, spent, enqueue, send_out, new_list, new_gift, open_gift, mark, draws, draw, with_change, changed, changed_to, unless_settled, alter, come, mail, begun}
+use Rattle.ev_machine.specs.State.{Message, Standing, Unsettled, WaitsOn, Viewed, Settled, Known, Change, Hold, Wait, WaitOn, See, React, ToTell, Settle, Note, Open, Ask, Elsewhere, Shorten, Happened, Vat, Stop, Done, Gives, Throws, Ejects, Stops, Act, ◌>>=◌, ◌>>◌, and_then, each, give, stop, look, tell, spend, spent, enqueue, send_out, new_list, new_gift, open_gift, mark, draws, draw, with_change, changed, changed_to, unless_settled, alter, come, mail, begun, Put}
 use Rattle.ev_fate_laws.specs.Fate.{one, among, at_names, at_vat, gone_here, where_cut, of_note, account}
-use Rattle.ev_fate_laws.specs.Lasting.{Each, NamesMessage, NamesNoObject, HeldWell, KnownWell, AllWell}
+use Rattle.ev_fate_laws.specs.Lasting.{NoteWell, Each, NamesMessage, NamesNoObject, HeldWell, KnownWell, AllWell}
 use Rattle.ev_fate_laws.proofs.Leads.{Ends, Leads}
 use Rattle.ev_fate_laws.proofs.Counts.{among_end, gone_end, put_end, names_end}
 
@@ -140,12 +140,24 @@ module _ (cut : ℕ → Bool) (x : Name) where
   pub pays_enqueue : (m : Message Name) → Pays cut x 0 (enqueue m)
   pays_enqueue m = cost_less (one m.id x) 0 (omega arith) (cost_enqueue m)
 
-  pub cost_out : (w : ℕ) (n : Note Name) → Pays cut x (where_cut (cut w) 0 (of_note x n)) (send_out w n)
+  pub cost_out : (w : ℕ) (n : Note Name) → NoteWell n → Pays cut x (where_cut (cut w) 0 (of_note x n)) (send_out w n)
   unfolding send_out account at_vat
-  cost_out to n = record { after = λ s w. let more = put_end cut x s.outbox (record { to = to; note = n }) in (w, omega arith) }
+  cost_out to n g = record { after = λ s w. let p : Put Name = record { to = to; note = n } in let more = put_end cut x s.outbox p in ((w.0, each_end (λ (q : Put Name). NoteWell q.note) s.outbox p w.1 g), omega arith) }
 
-  pub pays_out : (w : ℕ) (n : Note Name) → Pays cut x 0 (send_out w n)
-  pays_out w n = cost_less (where_cut (cut w) 0 (of_note x n)) 0 (omega arith) (cost_out w n)
+  pub pays_out : (w : ℕ) (n : Note Name) → NoteWell n → Pays cut x 0 (send_out w n)
+  pays_out w n g = cost_less (where_cut (cut w) 0 (of_note x n)) 0 (omega arith) (cost_out w n g)
+
+  pub pays_out_open : (w i : ℕ) (n : Name) → Pays cut x 0 (send_out w (Open i n))
+  pays_out_open w i n = pays_out w (Open i n) tt
+
+  pub pays_out_ask : (w p i : ℕ) (n : Name) → Pays cut x 0 (send_out w (Ask p i n))
+  pays_out_ask w p i n = pays_out w (Ask p i n) tt
+
+  pub pays_out_elsewhere : (w : ℕ) (n : Name) (c : ℕ) → Pays cut x 0 (send_out w (Elsewhere n c))
+  pays_out_elsewhere w n c = pays_out w (Elsewhere n c) tt
+
+  pub pays_out_shorten : (w : ℕ) (n : Name) (c i : ℕ) → Pays cut x 0 (send_out w (Shorten n c i))
+  pays_out_shorten w n c i = pays_out w (Shorten n c i) tt
 
   pub pays_gift : (n : Name) (p i : ℕ) → Pays cut x 0 (new_gift n p i)
   unfolding new_gift account at_vat
@@ -222,7 +234,7 @@ module _ (cut : ℕ → Bool) (x : Name) where
 
     pays_alter : (c : Change Name) (n : Name) → ChangeWell n c → Pays cut x 0 (alter K c n)
     unfolding alter account at_vat
-    pays_alter c n g = record { after = λ s w. let new = change_well c n s.known g w in let more = new.1 in (new.0, omega arith) }
+    pays_alter c n g = record { after = λ s w. let new = change_well c n s.known g w.0 in let more = new.1 in ((new.0, w.1), omega arith) }
 
     pub pays_hold : (m : Message Name) (n : Name) → HeldWell n m → Pays cut x 0 (alter K (Hold m) n)
     pays_hold m n g = pays_alter (Hold m) n g
@@ -246,14 +258,14 @@ module _ (cut : ℕ → Bool) (x : Name) where
     unfolding begun
     begun_well n h g = record { name = g; standing = tt; held = tt }
 
-    pub come_well : (s : Vat Name) (n : Name) (h : ℕ) → NamesNoObject n → AllWell s → Each KnownWell (s.known ++ begun n h ∷ [])
+    pub come_well : (s : Vat Name) (n : Name) (h : ℕ) → NamesNoObject n → Each KnownWell s.known → Each KnownWell (s.known ++ begun n h ∷ [])
     come_well s n h g w = each_end KnownWell s.known (begun n h) w (begun_well n h g)
 
     pub pays_come : (c : Coming Name Name) (h : ℕ) → NamesNoObject (name_of v c) → Pays cut x 0 (come K c h)
     unfolding come account at_vat
     pays_come c h g = record {
       after = λ s w. let n = K.made c (length s.known) in let same = names_end x s.known n h in
-          (come_well s n h (subst NamesNoObject (sym (global.made c (length s.known))) g) w, omega arith);
+          ((come_well s n h (subst NamesNoObject (sym (global.made c (length s.known))) g) w.0, w.1), omega arith);
     }
 
     pub pays_mail : (c : Mailing Name) → Pays cut x 0 (mail K c)
@@ -272,4 +284,4 @@ module _ (cut : ℕ → Bool) (x : Name) where
     unfolding name_of
     pays_gift_name h i u = pays_come (IsGift h i) u tt
 
-pub ruleset pays = (pays_bind, pays_then, pays_if, pays_give, pays_look, pays_stop, pays_tell, pays_spend, pays_list, pays_enqueue, pays_out, pays_gift, pays_open, pays_mark, pays_each, pays_draw, pays_wait, pays_wait_on, pays_see, pays_react, pays_to_tell, pays_mail, pays_gift_name)
+pub ruleset pays = (pays_bind, pays_then, pays_if, pays_give, pays_look, pays_stop, pays_tell, pays_spend, pays_list, pays_enqueue, pays_out_open, pays_out_ask, pays_out_elsewhere, pays_out_shorten, pays_gift, pays_open, pays_mark, pays_each, pays_draw, pays_wait, pays_wait_on, pays_see, pays_react, pays_to_tell, pays_mail, pays_gift_name)

@@ -1,19 +1,22 @@
 -- What is done with references lets what has a place last.
-use Rattle.std.proofs.Common.{◌≡◌, ℕ, zero, suc, ◌+◌, ◌≤◌, Bool, true, false, List, [], ◌∷◌, ◌++◌, Option, Some, None, refl, sym, ap, ◌∙◌, arith, length, subst}
-use Rattle.std.specs.Prelude.{◌==◌}
+use Rattle.std.proofs.Common.{◌≡◌, ℕ, zero, suc, ◌+◌, ◌≤◌, Bool, true, false, List, [], ◌∷◌, ◌++◌, Option, Some, None, refl, sym, ap, ◌∙◌, arith, length, subst, if◌then◌else◌, ◌-◌, eqb-true}
+use Rattle.std.specs.Prelude.{◌==◌, nat_le}
 use Rattle.ev_machine.specs.Values.{Words, Value, Null, Flag, Number, Letter, Text, Prim, Broken, Items, Ref, Name, Root, Object, Promise, Answer, Gift, Sent, Naming, IsAnswer, IsSent, Spot, Own, Foreign, NoObject, spot_of, name_of, answer_of, mail_of}
-use Rattle.ev_machine.specs.State.{Message, Standing, Unsettled, WaitsOn, Viewed, Settled, Known, Settle, Passed, Passeds, Plain, AGift, Many, NoMore, More, Deliver, Happened, Sends, Reacts, Settles, Lost, Posted, Vat, Done, Gives, Throws, Ejects, Stops, Act, ◌>>=◌, ◌>>◌, and_then, each, give, look, tell, enqueue, send_out, with_change, changed, changed_to, unless_settled, alter, new_message, begun, is_in}
+use Rattle.ev_machine.specs.State.{Message, Standing, Unsettled, WaitsOn, Viewed, Settled, Known, Settle, Passed, Passeds, Plain, AGift, Many, NoMore, More, Deliver, Happened, Sends, Reacts, Settles, Lost, Posted, Vat, Done, Gives, Throws, Ejects, Stops, Act, ◌>>=◌, ◌>>◌, and_then, each, give, look, tell, enqueue, send_out, with_change, changed, changed_to, unless_settled, alter, new_message, begun, is_in, SettledTo, spend, spent}
 use Rattle.ev_machine.specs.Refs as refs
 use Rattle.ev_machine.specs.Refs.{Place, Near, Mine, Away, Gone, entry_of}
 use Rattle.ev_machine_laws.specs.Steps.{After}
 use Rattle.ev_machine_laws.specs.Laws.{SettledStays}
-use Rattle.ev_machine_laws.proofs.RefsKeeps.{GoodSettler, keeps_send_on, keeps_settle_at}
+use Rattle.ev_machine_laws.proofs.RefsKeeps.{GoodSettler, keeps_send_on, keeps_settle_at, keeps_inform}
+use Rattle.ev_machine_laws.proofs.Keeps as kept
+use Rattle.ev_machine.specs.Native.{list_at}
+use Rattle.std.proofs.lemmas.Bool.{eq-eqb}
 use Rattle.ev_machine_laws.proofs.StepLaws.{settled_law, settled_names}
 use Rattle.ev_fate_laws.specs.Fate.{one, among, at_vat, gone_here, where_cut, of_note, in_note, account}
-use Rattle.ev_fate_laws.specs.Lasting.{Each, NamesMessage, NamesNoObject, NamesObject, NoPromise, HeldWell, KnownWell, AllWell}
+use Rattle.ev_fate_laws.specs.Lasting.{PassedLast, Each, NamesMessage, NamesNoObject, NamesObject, NoPromise, HeldWell, KnownWell, AllWell}
 use Rattle.ev_fate_laws.proofs.Counts.{gone_end, names_end, Waits, settling_frees}
 use Rattle.ev_fate_laws.proofs.RunCounts.{pick}
-use Rattle.ev_fate_laws.proofs.PlacesLast.{Global, PaysAt, Pays, pay_more, then_at, cost_less, cost_then, cost_bind_last, cost_then_last, cost_then_first, pays, pays_each, pays_give, cost_tell, cost_enqueue, pays_enqueue, cost_out, pays_hold, pays_react, pays_answer, come_well}
+use Rattle.ev_fate_laws.proofs.PlacesLast.{Global, PaysAt, Pays, pay_more, cost_less, cost_then, cost_bind_last, cost_then_first, pays, pays_each, pays_give, cost_tell, cost_enqueue, pays_enqueue, cost_out, pays_hold, pays_react, pays_answer, come_well, pays_out, pays_out_elsewhere}
 
 -- a message whose target is followed to that may be put at this place
 abbrev pub Fits : Value Name → Place Name → Type 0
@@ -30,7 +33,39 @@ IsEnd (Away h n true) = Unit {0}
 IsEnd (Away h n false) = ⊥
 IsEnd (Gone p) = Unit {0}
 
+-- the place of what is here
+abbrev pub IsHere : Place Name → Type 0
+IsHere Near = Unit {0}
+IsHere (Mine n) = ⊥
+IsHere (Away h n o) = ⊥
+IsHere (Gone p) = Unit {0}
+
+true_false : true ≡ false → ⊥
+true_false e = cc
+
 module _ (K : Naming Name Name) (v : ℕ) (global : Global K v) where
+  -- data, or an object of this vat
+  abbrev NearValue : Value Name → Type 0
+  NearValue (Ref (Object w i)) = w ≡ v
+  NearValue (Ref (Root w)) = ⊥
+  NearValue (Ref (Promise w i)) = ⊥
+  NearValue (Ref (Answer w m)) = ⊥
+  NearValue (Ref (Gift w i)) = ⊥
+  NearValue (Ref (Sent m)) = ⊥
+  NearValue Null = Unit {0}
+  NearValue (Flag b) = Unit {0}
+  NearValue (Number z) = Unit {0}
+  NearValue (Letter c) = Unit {0}
+  NearValue (Text t) = Unit {0}
+  NearValue (Prim p) = Unit {0}
+  NearValue (Broken p) = Unit {0}
+  NearValue (Items k) = Unit {0}
+
+  abbrev PassedNear : Passed Name → Type 0
+  PassedNear (Plain y) = NearValue y
+  PassedNear (AGift h i) = ⊥
+  PassedNear (Many ys) = Unit {0}
+
   -- ---- places
 
   hosted_mine : (h : ℕ) (m n : Name) (b : Bool) → elim b [ true ↦ Mine m | false ↦ Away h m false ] ≡ Mine n → m ≡ n
@@ -174,7 +209,7 @@ module _ (K : Naming Name Name) (v : ℕ) (global : Global K v) where
   unfolding refs.follow refs.follow_at refs.led refs.standing_of refs.standing_in
   settled_follow s p k y e i h w = let on : Value Name → Value Name = λ y. refs.follow_at K (length s.known) s.known y in
       let same : refs.standing_in (entry_of K s.known p) ≡ Settled y = ap refs.standing_in e ∙ i in
-      subst (λ t. NoPromise (refs.severed K s (refs.led K on p t))) (sym same) (severed_last s (on y) (follow_last (length s.known) s.known y h w))
+      subst (λ t. NoPromise (refs.severed K s (refs.led K on p t))) (sym same) (severed_last s (on y) (follow_last (length s.known) s.known y h w.0))
 
   cut_last : (b : Bool) (y : Value Name) → NoPromise y → NoPromise (refs.cut_cycle K b y)
   unfolding refs.cut_cycle
@@ -256,6 +291,145 @@ module _ (K : Naming Name Name) (v : ℕ) (global : Global K v) where
   settled_standing y k (WaitsOn q) h = refl
   settled_standing y k (Viewed q) h = refl
 
+  -- ---- what is here: data, or an object of this vat
+
+  near_by : (n : Name) (t : Words) (b : Bool) → NearValue (Ref n) → NearValue (pick b (Broken t) (Ref n))
+  near_by n t true h = tt
+  near_by n t false h = h
+
+  near_spot : (s : Vat Name) (n : Name) (p : Spot) → NearValue (Ref n) → NearValue (refs.severed_at K s n p)
+  unfolding refs.severed_at refs.severed_by
+  near_spot s n (Own i) h = h
+  near_spot s n (Foreign u) h = near_by n _ (is_in u s.noticed) h
+  near_spot s n NoObject h = near_by n _ (is_in (refs.host_at K s.number s.known n) s.noticed) h
+
+  near_severed : (s : Vat Name) (y : Value Name) → NearValue y → NearValue (refs.severed K s y)
+  unfolding refs.severed
+  near_severed s (Ref n) h = near_spot s n (K.spot n) h
+  near_severed s Null h = tt
+  near_severed s (Flag b) h = tt
+  near_severed s (Number z) h = tt
+  near_severed s (Letter c) h = tt
+  near_severed s (Text t) h = tt
+  near_severed s (Prim p) h = tt
+  near_severed s (Broken p) h = tt
+  near_severed s (Items k) h = tt
+
+  near_object : (n : Name) → NearValue (Ref n) → NamesObject n
+  near_object (Object w i) h = tt
+  near_object (Root w) h = h
+  near_object (Promise w i) h = h
+  near_object (Answer w m) h = h
+  near_object (Gift w i) h = h
+  near_object (Sent m) h = h
+
+  near_at : (d : ℕ) (ks : List (Known Name)) (y : Value Name) → NearValue y → Each KnownWell ks → NearValue (refs.follow_at K d ks y)
+  unfolding refs.follow_at refs.led refs.standing_of refs.standing_in
+  near_at zero ks y h w = h
+  near_at (suc d) ks (Ref n) h w = subst (λ o. NearValue (refs.led K (λ y. refs.follow_at K d ks y) n (refs.standing_in o))) (sym (none_found n ks (near_object n h) w)) h
+  near_at (suc d) ks Null h w = tt
+  near_at (suc d) ks (Flag b) h w = tt
+  near_at (suc d) ks (Number z) h w = tt
+  near_at (suc d) ks (Letter c) h w = tt
+  near_at (suc d) ks (Text t) h w = tt
+  near_at (suc d) ks (Prim p) h w = tt
+  near_at (suc d) ks (Broken p) h w = tt
+  near_at (suc d) ks (Items k) h w = tt
+
+  near_follow : (s : Vat Name) (y : Value Name) → NearValue y → Each KnownWell s.known → NearValue (refs.follow K s y)
+  unfolding refs.follow
+  near_follow s y h w = near_severed s (refs.follow_at K (suc (length s.known)) s.known y) (near_at (suc (length s.known)) s.known y h w)
+
+  here_where : (s : Vat Name) (n : Name) (w i : ℕ) (b : Bool) → (v == w) ≡ b → w ≡ v → IsHere (refs.spotted K s n (pick b (Own i) (Foreign w)))
+  unfolding refs.spotted
+  here_where s n w i true e h = tt
+  here_where s n w i false e h = let yes = eq-eqb v w (sym h) in absurd (true_false (sym yes ∙ e))
+
+  object_here : (s : Vat Name) (w i : ℕ) → w ≡ v → IsHere (refs.spotted K s (Object w i) (spot_of v (Object w i)))
+  unfolding spot_of
+  object_here s w i h = here_where s (Object w i) w i (v == w) refl h
+
+  near_here : (s : Vat Name) (y : Value Name) → NearValue y → IsHere (refs.place K s y)
+  unfolding refs.place
+  near_here s (Ref (Object w i)) h = subst (λ p. IsHere (refs.spotted K s (Object w i) p)) (sym (global.spot (Object w i))) (object_here s w i h)
+  near_here s (Ref (Root w)) h = absurd h
+  near_here s (Ref (Promise w i)) h = absurd h
+  near_here s (Ref (Answer w m)) h = absurd h
+  near_here s (Ref (Gift w i)) h = absurd h
+  near_here s (Ref (Sent m)) h = absurd h
+  near_here s Null h = tt
+  near_here s (Flag b) h = tt
+  near_here s (Number z) h = tt
+  near_here s (Letter c) h = tt
+  near_here s (Text t) h = tt
+  near_here s (Prim p) h = tt
+  near_here s (Broken p) h = tt
+  near_here s (Items k) h = tt
+
+  near_where : (s : Vat Name) (n : Name) (w i : ℕ) (b : Bool) → (v == w) ≡ b → IsHere (refs.spotted K s n (pick b (Own i) (Foreign w))) → w ≡ v
+  unfolding refs.spotted
+  near_where s n w i true e h = sym (eqb-true v w e)
+  near_where s n w i false e h = absurd h
+
+  here_object : (s : Vat Name) (w i : ℕ) → IsHere (refs.spotted K s (Object w i) (spot_of v (Object w i))) → w ≡ v
+  unfolding spot_of
+  here_object s w i h = near_where s (Object w i) w i (v == w) refl h
+
+  here_near : (s : Vat Name) (y : Value Name) → NoPromise y → IsHere (refs.place K s y) → NearValue y
+  unfolding refs.place
+  here_near s (Ref (Object w i)) l h = here_object s w i (subst (λ p. IsHere (refs.spotted K s (Object w i) p)) (global.spot (Object w i)) h)
+  here_near s (Ref (Root w)) l h = absurd l
+  here_near s (Ref (Promise w i)) l h = absurd l
+  here_near s (Ref (Answer w m)) l h = absurd l
+  here_near s (Ref (Gift w i)) l h = absurd l
+  here_near s (Ref (Sent m)) l h = absurd l
+  here_near s Null l h = tt
+  here_near s (Flag b) l h = tt
+  here_near s (Number z) l h = tt
+  here_near s (Letter c) l h = tt
+  here_near s (Text t) l h = tt
+  here_near s (Prim p) l h = tt
+  here_near s (Broken p) l h = tt
+  here_near s (Items k) l h = tt
+
+  shape_near : (f : List (Value Name) → Passed Name) (ls : List (List (Value Name))) (y : Value Name) → ((vs : List (Value Name)) → PassedNear (f vs)) → NearValue y → PassedNear (refs.shape_by K f ls y)
+  unfolding refs.shape_by
+  shape_near f ls (Items k) g h = g (list_at ls k)
+  shape_near f ls (Ref n) g h = h
+  shape_near f ls Null g h = tt
+  shape_near f ls (Flag b) g h = tt
+  shape_near f ls (Number z) g h = tt
+  shape_near f ls (Letter c) g h = tt
+  shape_near f ls (Text t) g h = tt
+  shape_near f ls (Prim p) g h = tt
+  shape_near f ls (Broken p) g h = tt
+
+  shapes_near : (d : ℕ) (s : Vat Name) (y : Value Name) → NearValue (refs.follow K s y) → PassedNear (refs.shape K d s y)
+  unfolding refs.shape
+  shapes_near zero s y h = shape_near _ s.lists (refs.follow K s y) (λ vs. tt) h
+  shapes_near (suc d) s y h = shape_near _ s.lists (refs.follow K s y) (λ vs. tt) h
+
+  list_near : (s : Vat Name) (y : Value Name) (o : Option ℕ) → NearValue (refs.follow K s y) → PassedNear (refs.parcel_of_list K s y o).value
+  unfolding refs.parcel_of_list refs.too_heavy
+  list_near s y (Some left) h = shapes_near refs.highest s y h
+  list_near s y None h = tt
+
+  parcels_near : (s : Vat Name) (y : Value Name) → NearValue y → Each KnownWell s.known → PassedNear (refs.parcel_at K s y).value
+  unfolding refs.parcel_at
+  parcels_near s (Items k) h w = list_near s (Items k) _ (near_follow s (Items k) tt w)
+  parcels_near s (Ref n) h w = h
+  parcels_near s Null h w = tt
+  parcels_near s (Flag b) h w = tt
+  parcels_near s (Number z) h w = tt
+  parcels_near s (Letter c) h w = tt
+  parcels_near s (Text t) h w = tt
+  parcels_near s (Prim p) h w = tt
+  parcels_near s (Broken p) h w = tt
+
+  parcel_near : (s : Vat Name) (y : Value Name) → NearValue y → Each KnownWell s.known → PassedNear (refs.parcel K s y).value
+  unfolding refs.parcel
+  parcel_near s y h w = parcels_near s (refs.follow K s y) (near_follow s y h w) w
+
   -- ---- acts
 
   module _ (cut : ℕ → Bool) (x : Name) where
@@ -295,14 +469,14 @@ module _ (K : Naming Name Name) (v : ℕ) (global : Global K v) where
     where_least true c = omega arith
     where_least false c = omega arith
 
-    cost_put : (w : ℕ) (m n : Name) (verb : Words) (ys : Passeds Name) → Pays cut x (one m x) (tell (Posted w m) >> send_out w (Deliver m n verb ys))
+    cost_put : (w : ℕ) (m n : Name) (verb : Words) (ys : Passeds Name) → NamesMessage m → Pays cut x (one m x) (tell (Posted w m) >> send_out w (Deliver m n verb ys))
     unfolding gone_here of_note in_note
-    cost_put w m n verb ys = cost_less cut x (where_cut (cut w) (one m x) 0 + where_cut (cut w) 0 (one m x)) (one m x) (where_least (cut w) (one m x))
-        (cost_then cut x (where_cut (cut w) (one m x) 0) (where_cut (cut w) 0 (one m x)) (cost_tell cut x (Posted w m)) (cost_out cut x w (Deliver m n verb ys)))
+    cost_put w m n verb ys g = cost_less cut x (where_cut (cut w) (one m x) 0 + where_cut (cut w) 0 (one m x)) (one m x) (where_least (cut w) (one m x))
+        (cost_then cut x (where_cut (cut w) (one m x) 0) (where_cut (cut w) 0 (one m x)) (cost_tell cut x (Posted w m)) (cost_out cut x w (Deliver m n verb ys) g))
 
-    pub cost_deliver : (m : Message Name) (h : ℕ) (n : Name) → Pays cut x (one m.id x) (refs.deliver K m h n)
+    pub cost_deliver : (m : Message Name) (h : ℕ) (n : Name) → NamesMessage m.id → Pays cut x (one m.id x) (refs.deliver K m h n)
     unfolding refs.deliver
-    cost_deliver m h n = cost_bind_last cut x (one m.id x) (pays_pass_all h m.args) (λ args. cost_put h m.id n m.verb args)
+    cost_deliver m h n g = cost_bind_last cut x (one m.id x) (pays_pass_all h m.args) (λ args. cost_put h m.id n m.verb args g)
 
     pays_waits_on : (p q : Name) → Pays cut x 0 (refs.wait_on K p q)
     unfolding refs.wait_on
@@ -310,7 +484,7 @@ module _ (K : Naming Name Name) (v : ℕ) (global : Global K v) where
 
     cost_pass_on : (m : Message Name) (h : ℕ) (n : Name) → NamesMessage m.id → Pays cut x (one m.id x) (refs.pass_on K m h n)
     unfolding refs.pass_on
-    cost_pass_on m h n g = cost_bind_last cut x (one m.id x) (pays_answer cut x K v global h h m.id g) (λ a. cost_then_first cut x (one m.id x) (cost_deliver m h n) (pays_waits_on m.answer a))
+    cost_pass_on m h n g = cost_bind_last cut x (one m.id x) (pays_answer cut x K v global h h m.id g) (λ a. cost_then_first cut x (one m.id x) (cost_deliver m h n g) (pays_waits_on m.answer a))
 
     cost_lost : (m : Name) → Pays cut x (one m x) (tell (Lost m))
     unfolding gone_here
@@ -364,14 +538,87 @@ module _ (K : Naming Name Name) (v : ℕ) (global : Global K v) where
     cost_queued [] = pays_give cut x tt
     cost_queued (m ∷ ms) = cost_then cut x (one m.id x) (among x ms) (cost_enqueue cut x m) (cost_queued ms)
 
-    pays_inform_of : (p : Name) (w : ℕ) (y : Value Name) (q : Place Name) → Pays cut x 0 (refs.inform_of K p w y q)
-    unfolding refs.inform_of
-    pays_inform_of p w y (Away h n true) = search (pays) depth 14
-    pays_inform_of p w y _ = search (pays, pays_pass) depth 14
+    -- ---- a vat is told what a name settled to
 
-    pub pays_inform : (p : Name) (w : ℕ) → Pays cut x 0 (refs.inform K p w)
-    unfolding refs.inform
-    pays_inform p w = search (pays, pays_inform_of) depth 14
+    -- it gives what may stand in a note that settles
+    abbrev GivesLast : Vat Name → Done Name (Passed Name) → Type 0
+    GivesLast s (Gives z t) = (AllWell t × (0 + account cut x s ≤ account cut x t)) × PassedLast z
+    GivesLast s (Throws p t) = ⊥
+    GivesLast s (Ejects n y t) = ⊥
+    GivesLast s (Stops e t) = Unit {0}
+
+    near_last : (y : Value Name) → NearValue y → NoPromise y
+    near_last (Ref (Object w i)) h = tt
+    near_last (Ref (Root w)) h = h
+    near_last (Ref (Promise w i)) h = h
+    near_last (Ref (Answer w m)) h = h
+    near_last (Ref (Gift w i)) h = h
+    near_last (Ref (Sent m)) h = h
+    near_last Null h = tt
+    near_last (Flag b) h = tt
+    near_last (Number z) h = tt
+    near_last (Letter c) h = tt
+    near_last (Text t) h = tt
+    near_last (Prim p) h = tt
+    near_last (Broken p) h = tt
+    near_last (Items k) h = tt
+
+    address_here : (w : ℕ) (y : Value Name) (p : Place Name) (s : Vat Name) → IsHere p → NoPromise y → AllWell s → GivesLast s (refs.address_plain K w y p s)
+    unfolding refs.address_plain give
+    address_here w y Near s h last well = ((well, omega arith), last)
+    address_here w y (Gone p) s h last well = ((well, omega arith), last)
+    address_here w y (Mine n) s h last well = absurd h
+    address_here w y (Away u n o) s h last well = absurd h
+
+    many_last : (s : Vat Name) (r : Done Name (Passeds Name)) → PaysAt cut x 0 s r → GivesLast s (and_then r (λ zs. give (Many zs)))
+    unfolding and_then give
+    many_last s (Gives zs t) h = (h, tt)
+    many_last s (Throws p t) h = h
+    many_last s (Ejects n y t) h = h
+    many_last s (Stops e t) h = tt
+
+    address_last : (w : ℕ) (z : Passed Name) (s : Vat Name) → PassedNear z → AllWell s → GivesLast s (refs.address K w z s)
+    unfolding refs.address ◌>>=◌ and_then look
+    address_last w (Plain y) s g well = address_here w y (refs.place K s y) s (near_here s y g) (near_last y g) well
+    address_last w (AGift h i) s g well = absurd g
+    address_last w (Many ys) s g well = many_last s (refs.address_all K w ys s) ((pays_address_all w ys).after s well)
+
+    spent_last : (w n : ℕ) (z : Passed Name) (s : Vat Name) (b : Bool) → PassedNear z → AllWell s → GivesLast s (and_then (spent n b s) (λ _. refs.address K w z))
+    unfolding spent and_then account at_vat
+    spent_last w n z s true g well = address_last w z (record s { fuel = s.fuel - n }) g well
+    spent_last w n z s false g well = tt
+
+    pass_last : (w : ℕ) (y : Value Name) (s : Vat Name) → NearValue y → AllWell s → GivesLast s (refs.pass K w y s)
+    unfolding refs.pass ◌>>=◌ ◌>>◌ and_then look spend
+    pass_last w y s g well = let c = refs.parcel K s y in spent_last w c.weight c.value s (nat_le c.weight s.fuel) (parcel_near s y g well.0) well
+
+    told_at : (p : Name) (w : ℕ) (s : Vat Name) (r : Done Name (Passed Name)) → GivesLast s r → PaysAt cut x 0 s (and_then r (λ z. send_out w (SettledTo p z)))
+    unfolding and_then
+    told_at p w s (Gives z t) h = let i = h.0 in pay_more cut x 0 0 s t (send_out w (SettledTo p z) t) i.1 ((pays_out cut x w (SettledTo p z) h.1).after t i.0)
+    told_at p w s (Throws q t) h = absurd h
+    told_at p w s (Ejects n y t) h = absurd h
+    told_at p w s (Stops e t) h = tt
+
+    here_told : (p : Name) (w : ℕ) (y : Value Name) (s : Vat Name) → NearValue y → AllWell s → PaysAt cut x 0 s (and_then (refs.pass K w y s) (λ z. send_out w (SettledTo p z)))
+    here_told p w y s g well = told_at p w s (refs.pass K w y s) (pass_last w y s g well)
+
+    inform_of_at : (p : Name) (w : ℕ) (y : Value Name) (q : Place Name) (s : Vat Name) → NoPromise y → refs.place K s y ≡ q → AllWell s → PaysAt cut x 0 s (refs.inform_of K p w y q s)
+    unfolding refs.inform_of ◌>>=◌
+    inform_of_at p w y (Away h n true) s last e well = (pays_out_elsewhere cut x w p h).after s well
+    inform_of_at p w y (Away h n false) s last e well = absurd (subst IsEnd e (end_of s y last))
+    inform_of_at p w y (Mine n) s last e well = absurd (subst IsEnd e (end_of s y last))
+    inform_of_at p w y Near s last e well = here_told p w y s (here_near s y last (subst IsHere (sym e) tt)) well
+    inform_of_at p w y (Gone t) s last e well = here_told p w y s (here_near s y last (subst IsHere (sym e) tt)) well
+
+    unless_gone : (b : Bool) (m : Act Name (Unit {0})) (s : Vat Name) → AllWell s → PaysAt cut x 0 s (m s) → PaysAt cut x 0 s ((if b then give tt else m) s)
+    unfolding give
+    unless_gone true m s well h = (well, omega arith)
+    unless_gone false m s well h = h
+
+    pub inform_at : (p : Name) (k : Known Name) (y : Value Name) (w : ℕ) (s : Vat Name) → entry_of K s.known p ≡ Some k → k.standing ≡ Settled y → NoPromise y → AllWell s → PaysAt cut x 0 s (refs.inform K p w s)
+    unfolding refs.inform ◌>>=◌ and_then look
+    inform_at p k y w s e i last well = let z = refs.follow K s (Ref p) in let zl = settled_follow s p k y e i last well in
+        unless_gone (is_in w s.noticed) (refs.inform_of K p w z (refs.place K s z)) s well (inform_of_at p w z (refs.place K s z) s zl refl well)
 
     paid_at : (owed : ℕ) (s t : Vat Name) (r : Done Name (Unit {0})) → account cut x s ≤ account cut x t + owed → PaysAt cut x owed t r → PaysAt cut x 0 s r
     paid_at owed s t (Gives a u) h k = let i = k.1 in (k.0, omega arith)
@@ -385,16 +632,35 @@ module _ (K : Naming Name Name) (v : ℕ) (global : Global K v) where
       unfolding account at_vat gone_here
       frees_at p y k s e h = let same = settling_frees K x y p k s.known e h in let a = gone_end cut x s.happened (Settles p y) in omega arith
 
+      all_told : (p : Name) (k : Known Name) (y : Value Name) → k.standing ≡ Settled y → NoPromise y → (ws : List ℕ) (s : Vat Name) → AllWell s → entry_of K s.known p ≡ Some k → PaysAt cut x 0 s (each (refs.inform K p) ws s)
+      unfolding each give ◌>>◌
+      all_told p k y i last [] s well e = (well, omega arith)
+      all_told p k y i last (w ∷ ws) s well e = loop_at settle good 0 0 s p k y (refs.inform K p w s) (each (refs.inform K p) ws) (inform_at p k y w s e i last well)
+          ((keeps_inform K (SettledStays K) (settled_law K) (settled_names K) p w).after s) e i (λ t wt et. all_told p k y i last ws t wt et)
+
+      -- once it has settled: its held messages, the names that wait, its reactions and those who are to be told
+      goes_on : (p : Name) (y : Value Name) (k j : Known Name) (t : Vat Name) → entry_of K t.known p ≡ Some j → j.standing ≡ Settled y → NoPromise y → Each (HeldWell p) k.held → AllWell t
+          → PaysAt cut x (among x k.held + (0 + (among x k.reactions + 0))) t ((each (refs.send_on K settle) k.held >> (each (λ q. settle q y) k.waiting >> (each enqueue k.reactions >> each (refs.inform K p) k.told))) t)
+      unfolding ◌>>◌
+      goes_on p y k j t e i last held well =
+          loop_at settle good (among x k.held) (0 + (among x k.reactions + 0)) t p j y (each (refs.send_on K settle) k.held t) _ (all_sent settle good settled p j y i last k.held t held well e)
+          ((kept.keeps_each (SettledStays K) (settled_law K) k.held (λ m. keeps_send_on K (SettledStays K) (settled_law K) (settled_names K) settle settled m)).after t) e i (λ t1 w1 e1.
+          loop_at settle good 0 (among x k.reactions + 0) t1 p j y (each (λ q. settle q y) k.waiting t1) _ ((pays_each cut x k.waiting (λ q. good q y last)).after t1 w1)
+          ((kept.keeps_each (SettledStays K) (settled_law K) k.waiting (λ q. settled q y)).after t1) e1 i (λ t2 w2 e2.
+          loop_at settle good (among x k.reactions) 0 t2 p j y (each enqueue k.reactions t2) _ ((cost_queued k.reactions).after t2 w2)
+          ((kept.keeps_each (SettledStays K) (settled_law K) k.reactions (λ m. kept.keeps_enqueue (SettledStays K) (settled_law K) m)).after t2) e2 i (λ t3 w3 e3.
+          all_told p j y i last k.told t3 w3 e3)))
+
       settles_known : (p : Name) (y : Value Name) (k : Known Name) (s : Vat Name) → entry_of K s.known p ≡ Some k → Waits K k.standing → NoPromise y → AllWell s → PaysAt cut x 0 s (refs.settle_known K settle p y k s)
       unfolding refs.settle_known ◌>>◌ and_then tell alter changed
       settles_known p y k s e h last w =
           let t : Vat Name = record s { happened = s.happened ++ Settles p y ∷ []; known = with_change K (Settle y) p s.known } in
-          let well = settle_well y p s.known last w in let known = found_well p k s.known e w in let of_k = known.0 in
+          let known = found_well p k s.known e w.0 in let of_k = known.0 in
           let held : Each (HeldWell p) k.held = subst (λ n. Each (HeldWell n) k.held) known.1 of_k.held in
-          let first = all_sent settle good settled p (changed (Settle y) k) y (settled_standing y k k.standing h) last k.held t held well (settled_entry p y k s.known e) in
-          paid_at (among x k.held + among x k.reactions) s t _ (frees_at p y k s e h)
-          (then_at cut x (among x k.held) (among x k.reactions) t (each (refs.send_on K settle) k.held t) _ first
-          (cost_then_last cut x (among x k.reactions) (pays_each cut x k.waiting (λ q. good q y last)) (cost_then_first cut x (among x k.reactions) (cost_queued k.reactions) (pays_each cut x k.told (pays_inform p)))))
+          let free : account cut x s ≤ account cut x t + (among x k.held + among x k.reactions) = frees_at p y k s e h in
+          let owed : account cut x s ≤ account cut x t + (among x k.held + (0 + (among x k.reactions + 0))) = omega arith in
+          paid_at (among x k.held + (0 + (among x k.reactions + 0))) s t _ owed
+          (goes_on p y k (changed (Settle y) k) t (settled_entry p y k s.known e) (settled_standing y k k.standing h) last held (settle_well y p s.known last w.0, w.1))
 
       settles_standing : (p : Name) (y : Value Name) (k : Known Name) (s : Vat Name) → entry_of K s.known p ≡ Some k → (t : Standing Name) → k.standing ≡ t → NoPromise y → AllWell s → PaysAt cut x 0 s (refs.settle_standing K settle p y k t s)
       unfolding refs.settle_standing give
@@ -445,7 +711,7 @@ module _ (K : Naming Name Name) (v : ℕ) (global : Global K v) where
 
     pays_send_first : (m : Message Name) (y : Value Name) (p : Place Name) → NamesMessage m.id → Fits y p → Pays cut x 0 (refs.send_first K m y p)
     unfolding refs.send_first
-    pays_send_first m y (Away h n o) g f = cost_less cut x (one m.id x) 0 (omega arith) (cost_deliver m h n)
+    pays_send_first m y (Away h n o) g f = cost_less cut x (one m.id x) 0 (omega arith) (cost_deliver m h n g)
     pays_send_first m y Near g f = pays_send_to (refs.settle K) pays_settle m y Near g tt
     pays_send_first m y (Mine n) g f = pays_send_to (refs.settle K) pays_settle m y (Mine n) g f
     pays_send_first m y (Gone p) g f = pays_send_to (refs.settle K) pays_settle m y (Gone p) g tt
@@ -479,7 +745,7 @@ module _ (K : Naming Name Name) (v : ℕ) (global : Global K v) where
         → PaysAt cut x c s r
     unfolding account at_vat
     new_at c s h id k e r g w f = let a = K.made (IsAnswer h id) k in let same = names_end x s.known a h in let more = gone_end cut x s.happened e in
-        new_pays c s (record s { messages = suc s.messages; mails = s.mails ++ id ∷ []; known = s.known ++ begun a h ∷ []; happened = s.happened ++ e ∷ [] }) r (omega arith) (f (come_well cut x K v global s a h (new_answer h k id g) w))
+        new_pays c s (record s { messages = suc s.messages; mails = s.mails ++ id ∷ []; known = s.known ++ begun a h ∷ []; happened = s.happened ++ e ∷ [] }) r (omega arith) (f (come_well cut x K v global s a h (new_answer h k id g) w.0, w.1))
 
     pub pays_send : (act : ℕ) (y : Value Name) (verb : Words) (args : List (Value Name)) → Pays cut x 0 (refs.send K act y verb args)
     unfolding refs.send ◌>>=◌ ◌>>◌ and_then look tell new_message

@@ -47,7 +47,7 @@ module _ (cut : ℕ → Bool) (x : Name) where
     under : IsLedUnder K Whatever (Stays cut x 0)
     unfolding account at_vat
     under = record {
-      promised = λ s. record { after = λ w. let n = K.made (IsOwn s.promises) (length s.known) in let same = names_end x s.known n s.number in (come_well cut x K v global s n s.number (own_promise s.promises (length s.known)) w, omega arith) };
+      promised = λ s. record { after = λ w. let n = K.made (IsOwn s.promises) (length s.known) in let same = names_end x s.known n s.number in ((come_well cut x K v global s n s.number (own_promise s.promises (length s.known)) w.0, w.1), omega arith) };
       breaks = λ p t. led_by_pays cut x _ (pays_break K v global cut x p t);
       resolves = λ p y. led_by_pays cut x _ (pays_resolve K v global cut x p y);
       sends = λ act y verb args. led_by_pays cut x _ (pays_send K v global cut x act y verb args);

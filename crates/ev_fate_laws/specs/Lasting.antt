@@ -1,7 +1,7 @@
 -- In which states, and of which notes, nothing that has a place is lost without a line.
 use Rattle.std.specs.Prelude.{◌≡◌, ℕ, ◌≤◌, Bool, List, [], ◌∷◌}
 use Rattle.ev_machine.specs.Values.{Value, Null, Flag, Number, Letter, Text, Prim, Broken, Items, Ref, Name, Root, Object, Promise, Answer, Gift, Sent, Msg, naming}
-use Rattle.ev_machine.specs.State.{Message, Standing, Unsettled, WaitsOn, Viewed, Settled, Known, Passed, Passeds, Plain, AGift, Many, NoMore, More, Note, Deliver, Open, Ask, SettledTo, Elsewhere, Shorten, Vat, Done, Gives, Throws, Ejects, Stops}
+use Rattle.ev_machine.specs.State.{Message, Standing, Unsettled, WaitsOn, Viewed, Settled, Known, Passed, Passeds, Plain, AGift, Many, NoMore, More, Note, Deliver, Open, Ask, SettledTo, Elsewhere, Shorten, Put, Vat, Done, Gives, Throws, Ejects, Stops}
 use Rattle.ev_machine.specs.Arrive.{Incoming, Old, New}
 use Rattle.ev_machine_laws.specs.Steps.{Step, Opens, Takes, Receives, Notices, does}
 use Rattle.ev_fate_laws.specs.Fate.{account}
@@ -59,9 +59,24 @@ pub record KnownWell (k : Known Name) : Type 0 where
   pub standing : SettledWell k.standing
   pub held : Each (HeldWell k.name) k.held
 
--- of all that a vat knows
+-- what passes for what a name settled to: data, an object, or a list by its members
+abbrev pub PassedLast : Passed Name → Type 0
+PassedLast (Plain y) = NoPromise y
+PassedLast (AGift h i) = ⊥
+PassedLast (Many ys) = Unit {0}
+
+-- A note under way: its message is named as one, and it settles a name to no promise.
+abbrev pub NoteWell : Note Name → Type 0
+NoteWell (Deliver m n verb ys) = NamesMessage m
+NoteWell (Open i n) = Unit {0}
+NoteWell (Ask p i n) = Unit {0}
+NoteWell (SettledTo n y) = PassedLast y
+NoteWell (Elsewhere n c) = Unit {0}
+NoteWell (Shorten n c i) = Unit {0}
+
+-- of all that a vat knows, and of the notes that it put in this step
 abbrev pub AllWell : Vat Name → Type 0
-AllWell s = Each KnownWell s.known
+AllWell s = Each KnownWell s.known × Each (λ (p : Put Name). NoteWell p.note) s.outbox
 
 -- ---- notes that arrive
 

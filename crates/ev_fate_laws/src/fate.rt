@@ -1,8 +1,10 @@
 //! Each message has one place at most, until it is taken or lost.
 
 ghost use Rattle.ev_fate_laws.specs.Laws.{StepsDoubleNone};
+ghost use Rattle.ev_fate_laws.specs.Example.{FatesAreMet};
 ghost use Rattle.ev_fate_laws.specs.Finding.{SendsFindPlaces};
 ghost use Rattle.ev_fate_laws.specs.Lasting.{StepsKeepPlaces};
+ghost use Rattle.ev_fate_laws.specs.Wellness.{RunsStayWell};
 ghost use Rattle.ev_fate_laws.specs.Runs.{EachSentOnce, EachTakenOnce, OneFateAtMost, PlacesAndFates};
 
 /// No step of a vat doubles a message, and what it sends is a message that the vat numbers then.
@@ -21,11 +23,18 @@ pub fn steps_double_none()
 ///
 /// It asks that all is well in the state before: no name that is known is that of an object, what
 /// settled settled to data or an object, and each message that is held at a name has that name as
-/// its target; and all is well after it. Of a note that arrives it asks that it settles a name to
-/// no promise, names its message as one, and brings no object as a new name. It does not say that
-/// a message which is sent or arrives in this step finds a place.
+/// its target; and that each note put in this step settles a name to no promise and names its
+/// message as one. All is well after it. Of a note that arrives it asks the same, and that it
+/// brings no object as a new name. It does not say that a message which is sent or arrives in this
+/// step finds a place.
 pub fn steps_keep_places()
     ensures { StepsKeepPlaces }
+{}
+
+/// In every world of a run all is well in each vat, and with each note under way: so what
+/// `steps_keep_places` asks holds of each step of a run.
+pub fn runs_stay_well()
+    ensures { RunsStayWell }
 {}
 
 /// A message that is sent on a value which the vat knows finds a place at once, or is lost with a
@@ -65,4 +74,11 @@ pub fn places_and_fates()
 /// lost line, one place in the closing list; and none where it was not sent.
 pub fn one_fate_at_most()
     ensures { OneFateAtMost }
+{}
+
+/// The counts of a run, by computing: of three messages the first is taken, the second stands in
+/// the closing list and the third is lost, each once.
+#[tactic(auto, unfolding(ev_run::specs::World::opened_world, crate::specs::Fate::opened_fate, crate::specs::Example::opened_example))]
+pub fn fates_are_met()
+    ensures { FatesAreMet }
 {}

@@ -92,7 +92,7 @@ module _ (us vs : List (Vat Name)) (d e : ℕ) (promises : (w : ℕ) → promise
   made_up (Promise w i) h = less i (promises_of us w) (promises_of vs w) h (promises w)
   made_up (Answer w m) h = less m.number (messages_of us m.sender) (messages_of vs m.sender) h (messages m.sender)
   made_up (Gift w i) h = less i d e h draws
-  made_up (Sent m) h = less m.number (messages_of us m.sender) (messages_of vs m.sender) h (messages m.sender)
+  made_up (Sent m) h = absurd h
 
   mail_up : (n : Name) → IsMessageMade us n → IsMessageMade vs n
   mail_up (Sent m) h = less m.number (messages_of us m.sender) (messages_of vs m.sender) h (messages m.sender)

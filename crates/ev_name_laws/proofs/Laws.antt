@@ -4,12 +4,12 @@ use Rattle.std.specs.Prelude.{slice_get}
 use Rattle.ev_machine.specs.Values.{Name, Promise, Answer, Gift, Foreign, spot_of, naming}
 use Rattle.ev_machine.specs.State.{Vat}
 use Rattle.ev_run.specs.World.{Script, World, names}
-use Rattle.ev_name_laws.specs.Names.{IsAmong, promises_of, messages_of, WasMade, IsMade, IsHad, names_in}
-use Rattle.ev_name_laws.specs.Runs.{InRuns, InEachVat, NamesWereMade, NotesNameWhatWasMade, NamesAreKnown, HostsAreTrue, RootsAndPromisesAreKnownOnce, OwnPromisesAreKnown, NextNamesAreNew, ObjectsAreApart, SeveredObjectsStayBroken}
+use Rattle.ev_name_laws.specs.Names.{IsAmong, promises_of, messages_of, WasMade, IsMade, IsHad, names_in, IsEventual, IsMessageName}
+use Rattle.ev_name_laws.specs.Runs.{InRuns, InEachVat, NamesWereMade, NotesNameWhatWasMade, NamesAreKnown, HostsAreTrue, RootsAndPromisesAreKnownOnce, OwnPromisesAreKnown, NextNamesAreNew, NamesAndMessagesAreApart, TablesAreApart, SeveredObjectsStayBroken, FollowedBreaksStayBroken}
 use Rattle.ev_machine_laws.specs.Breaks.{FarApart}
 use Rattle.ev_run.specs.Draws.{draw_word}
-use Rattle.ev_run_laws.proofs.BreakRuns.{severed_objects_run}
-use Rattle.ev_name_laws.proofs.SameNames.{far_apart}
+use Rattle.ev_run_laws.proofs.BreakRuns.{severed_objects_run, followed_breaks_run}
+use Rattle.ev_name_laws.proofs.SameNames.{far_apart, at_all, eventual_spot, message_spot, kinds_apart}
 use Rattle.ev_name_laws.proofs.Care.{parts_up}
 use Rattle.ev_name_laws.proofs.Among.{promises_at, messages_at}
 use Rattle.ev_name_laws.proofs.Run.{Had, VatStands, Stands, name_had, steps_stand, opened_stands}
@@ -58,8 +58,8 @@ next_new = in_runs _ (λ script w h v s e u t i. (
   λ x a. no_self (length w.drawn) (known_made script w h u t i (Gift x (length w.drawn)) a),
 ))
 
-pub objects_apart : ObjectsAreApart
-objects_apart = in_each _ (λ script w v s e h. h.kept.apart)
+pub names_apart : NamesAndMessagesAreApart
+names_apart = in_each _ (λ script w v s e h. (h.kept.apart, h.kept.mails))
 
 far : (script : Script) (w : World) → Stands script w → (v : ℕ) (t : Vat Name) → slice_get w.vats v ≡ Some t → FarApart (names script v) t
 unfolding names naming
@@ -74,3 +74,16 @@ severed_broken script once w y x es fs k l opened stepped more v s e =
     let a = severed_objects_run script fs l y x more v s e in
     let stands : Stands script x = steps_stand script fs l y x (steps_stand script es k w y (opened_stands script once script.vats [] w (sym (append-nil script.vats)) opened) stepped) more in
     (a.0, a.1, λ z m h i j n. a.2 (far script x stands v a.0 a.1) z m h i (spot_is script v m h j) n)
+
+pub followed_broken : FollowedBreaksStayBroken
+followed_broken script once w y x es fs k l opened stepped more v s e =
+    let a = followed_breaks_run script fs l y x more v s e in
+    let stands : Stands script x = steps_stand script fs l y x (steps_stand script es k w y (opened_stands script once script.vats [] w (sym (append-nil script.vats)) opened) stepped) more in
+    (a.0, a.1, λ rest z p i. a.2 rest (far script x stands v a.0 a.1) z p i)
+
+pub tables_apart : TablesAreApart
+tables_apart = in_each _ (λ script w v s e h. (
+  λ k n i. eventual_spot v n (at_all IsEventual (names_in s.known) k n h.kept.apart i),
+  λ k n i. message_spot v n (at_all IsMessageName s.mails k n h.kept.mails i),
+  λ i j a b x y. kinds_apart a b (at_all IsEventual (names_in s.known) i a h.kept.apart x) (at_all IsMessageName s.mails j b h.kept.mails y),
+))

@@ -9,14 +9,14 @@ use Rattle.ev_machine.specs.Arrive.{Incoming, Old, New}
 use Rattle.ev_machine_laws.specs.Steps.{After}
 use Rattle.ev_run.specs.World as world
 use Rattle.ev_run.specs.World.{put_at, is_old, read_name, known_after}
-use Rattle.ev_name_laws.specs.Names.{IsNoObject, Bit, Named, Mail, Drew, IsAmong, promises_of, WasMade, IsMessageMade, IsMade, ValueOk, PassedOk, PassedsOk, NoteOk, names_in, IsKnownIn, IsPlain, KnownOk, Parts}
+use Rattle.ev_name_laws.specs.Names.{IsEventual, IsMessageName, Bit, Named, Mail, Drew, IsAmong, promises_of, WasMade, IsMessageMade, IsMade, ValueOk, PassedOk, PassedsOk, NoteOk, names_in, IsKnownIn, IsPlain, KnownOk, Parts}
 use Rattle.ev_name_laws.proofs.Facts.{all_end, Fact, Nothing, Also, IsName, IsMail, IsDraw, IsValue, AreValues, nothing, Holds, holds_up}
 use Rattle.ev_name_laws.proofs.Care.{Sound, Ends, Gets, Fine, fine_give, parts_up, begun_ok, come_gift}
 use Rattle.ev_name_laws.proofs.CareArrive.{fine_ask_for, fine_make_list, fine_arrive_ask, fine_delivered, fine_opened, fine_went, fine_shortened}
 use Rattle.ev_name_laws.proofs.CareRefs.{fine_settle}
 use Rattle.ev_name_laws.proofs.Among.{among_more, among_last, among_or, among_is, names_end}
-use Rattle.ev_name_laws.proofs.SameNames.{new_no_object, false_true, old_known, new_unknown}
-use Rattle.ev_name_laws.proofs.Tracked.{IsTold, follows_trans, follows_known, kept_known, known_among, Ok, Goes, Onward, quiet, made_on, ok_on, tracked, tracked_under}
+use Rattle.ev_name_laws.proofs.SameNames.{new_eventual, false_true, old_known, new_unknown}
+use Rattle.ev_name_laws.proofs.Tracked.{IsTold, follows_trans, follows_known, kept_known, kept_mail, known_among, Ok, Goes, Onward, quiet, made_on, ok_on, tracked, tracked_under}
 
 module _ (vats : List (Vat Name)) (v : ℕ) (q : Vat Name) (there : slice_get vats v ≡ Some q) (word : ℕ → ℕ) (us : List (Vat Name)) (d0 : ℕ) where
   abbrev pub Good : Vat Name → Bit Name → Type 0
@@ -162,10 +162,10 @@ module _ (vats : List (Vat Name)) (v : ℕ) (q : Vat Name) (there : slice_get va
   good_is t x n e h = rw (sym e) at h
 
   -- a name that is new comes to be known
-  new_learned : (ks : List Name) (s : Vat Name) (n : Name) → WasMade us d0 n → IsNoObject n → (IsAmong n ks → ⊥) → Sound (tracked vats v q there) s → Knows ks s
+  new_learned : (ks : List Name) (s : Vat Name) (n : Name) → WasMade us d0 n → IsEventual n → (IsAmong n ks → ⊥) → Sound (tracked vats v q there) s → Knows ks s
       → Learned (ks ++ n ∷ []) IsName s (Gives n (record s { known = s.known ++ begun n (host_of n) ∷ [] }))
   unfolding begun
-  new_learned ks s n m o f h k = (r, record { parts = parts; more = kept_known v s.number s.known j s.promises refl o (new_plain ks s n m k f) (new_own ks s n m k f) h.more }, knows, good)
+  new_learned ks s n m o f h k = (r, record { parts = parts; more = kept_known v s.number s.known j s.mails s.promises refl o (new_plain ks s n m k f) (new_own ks s n m k f) h.more }, knows, good)
     where
       j : Known Name
       j = begun n (host_of n)
@@ -208,7 +208,7 @@ module _ (vats : List (Vat Name)) (v : ℕ) (q : Vat Name) (there : slice_get va
       → Learns ks C (arrive.learn_name (naming word v) (elim b [ true ↦ Old n | false ↦ New n (host_of n) ])) (elim b [ true ↦ ks | false ↦ ks ++ n ∷ [] ]) IsName
   unfolding arrive.learn_name give come naming name_of
   either_name ks n true e m = record { after = λ s h k c. (grew s s (quiet vats v q there s), h, k, old_good ks s n m k (old_known ks n e)) }
-  either_name ks n false e m = record { after = λ s h k c. new_learned ks s n m (new_no_object ks n e) (new_unknown ks n e) h k }
+  either_name ks n false e m = record { after = λ s h k c. new_learned ks s n m (new_eventual ks us d0 n e m) (new_unknown ks n e) h k }
 
   pub learn_name : {C : Fact Name} (ks : List Name) (n : Name) → WasMade us d0 n → Learns ks C (arrive.learn_name (naming word v) (read_name ks n)) (known_after ks n) IsName
   unfolding read_name known_after
@@ -289,13 +289,21 @@ module _ (vats : List (Vat Name)) (v : ℕ) (q : Vat Name) (there : slice_get va
 
   -- ---- notes
 
+  message_name : (m : Name) → IsMessageMade us m → IsMessageName m
+  message_name (Sent m) h = tt
+  message_name (Root w) h = absurd h
+  message_name (Object w i) h = absurd h
+  message_name (Promise w i) h = absurd h
+  message_name (Answer w m) h = absurd h
+  message_name (Gift w i) h = absurd h
+
   message_learned : {C : Fact Name} (ks : List Name) (m : Name) (h : ℕ) → IsMessageMade us m → Learns ks C (arrive.learn_message (naming word v) (New m h)) ks IsMail
   unfolding arrive.learn_message mail naming mail_of
   message_learned ks m w made = record {
     after = λ s h k c. let t : Vat Name = record s { mails = s.mails ++ m ∷ [] } in
         let r : Goes vats v q there s t = record { names = λ n a. a; mails = λ n a. among_more n s.mails m a; promises = omega arith; messages = omega arith; draws = omega arith; told = λ n i a. a } in
         let on : Knows ks t = knows_on ks s t r k in
-        (grew s t r, record { parts = parts_up (Good s) (Good t) (ok_on vats v q there (IsTold v) s t r) s.things s.slots s.lists s.queue s.known s.gifts s.outbox h.parts; more = h.more }, on, (on.made (Mail m) made, among_last s.mails m));
+        (grew s t r, record { parts = parts_up (Good s) (Good t) (ok_on vats v q there (IsTold v) s t r) s.things s.slots s.lists s.queue s.known s.gifts s.outbox h.parts; more = kept_mail v s.number s.known s.mails s.promises m (message_name m made) h.more }, on, (on.made (Mail m) made, among_last s.mails m));
   }
 
   -- with a draw that was made

@@ -10,7 +10,7 @@ use Rattle.ev_machine_laws.specs.Steps.{After}
 use Rattle.ev_run.specs.Draws.{draw_word}
 use Rattle.ev_run.specs.World as world
 use Rattle.ev_run.specs.World.{Script, Program, Opens, Entry, Turn, Carry, CutLink, NoticeLink, Event, Turned, Idle, Carried, CutAt, NoticedAt, Link, World, Run, Goes as Going, Stopped, names, names_of, read_note, put_at}
-use Rattle.ev_name_laws.specs.Names.{Bit, Named, AllOf, IsAmong, promises_of, messages_of, IsMade, NounOk, MessageOk, NoteOk, KnownOk, Parts, names_in, IsHad, HostIsTrue, IsNoObject, PlainOnce, Once}
+use Rattle.ev_name_laws.specs.Names.{Bit, Named, AllOf, IsAmong, promises_of, messages_of, IsMade, NounOk, MessageOk, NoteOk, KnownOk, Parts, names_in, IsHad, HostIsTrue, IsEventual, PlainOnce, Once}
 use Rattle.ev_name_laws.proofs.Facts.{MayBe, all_map, all_end, all_append, message_up, nouns_up, note_up, Fact, Nothing, Also, IsName, AreNouns, IsMessage, Holds}
 use Rattle.ev_name_laws.proofs.Care.{Care, Sound, parts_up}
 use Rattle.ev_name_laws.proofs.CareEval.{fine_opening, fine_taking}
@@ -26,7 +26,7 @@ Had w s b = IsMade w.vats (length w.drawn) b × IsHad (names_in s.known) s.mails
 -- how vat v of a world stands
 pub record VatStands (script : Script) (w : World) (v : ℕ) (s : Vat Name) : Type 0 where
   pub parts : Parts (Had w s) s.things s.slots s.lists s.queue s.known s.gifts s.outbox
-  pub kept : Kept v s.number s.known s.promises
+  pub kept : Kept v s.number s.known s.mails s.promises
   -- the roots that it is given are known
   pub roots : (p : Program) → slice_get script.vats v ≡ Some p → AllOf (λ (u : ℕ). IsAmong (Root u) (names_in s.known)) (v ∷ p.knows)
 
@@ -172,7 +172,7 @@ module _ (script : Script) where
     put_back_stands x head n (Ejects m y t) e k i = cc
     put_back_stands x head n (Stops c t) e k i = cc
 
-    module _ (parts : Parts (λ b. IsMade w.vats (length w.drawn) b × IsHad (names_in q.known) q.mails b) q.things q.slots q.lists q.queue q.known q.gifts q.outbox) (kept : Kept v q.number q.known q.promises) where
+    module _ (parts : Parts (λ b. IsMade w.vats (length w.drawn) b × IsHad (names_in q.known) q.mails b) q.things q.slots q.lists q.queue q.known q.gifts q.outbox) (kept : Kept v q.number q.known q.mails q.promises) where
       had_ready : (b : Bit Name) → IsMade w.vats (length w.drawn) b × IsHad (names_in q.known) q.mails b → Ok w.vats v s there Ready b
       unfolding world.readied
       had_ready b i = (made_ready b i.0, i.1)
@@ -345,7 +345,7 @@ module _ (script : Script) where
   roots_once [] h = tt
   roots_once (w ∷ ws) h = (λ p i. let r = root_back ws (Root w) i in h.0 (rw (sym (same_root w r.0 r.1)) at r.2), roots_once ws h.1)
 
-  roots_apart : (ws : List ℕ) → AllOf IsNoObject (names_in (map world.known_root ws))
+  roots_apart : (ws : List ℕ) → AllOf IsEventual (names_in (map world.known_root ws))
   unfolding world.known_root begun
   roots_apart [] = tt
   roots_apart (w ∷ ws) = (tt, roots_apart ws)
@@ -386,7 +386,7 @@ module _ (script : Script) where
         each [] f = tt
         each (u ∷ us) f = ((tt, f u (inl refl)), each us (λ x i. f x (inr i)))
 
-    fresh_kept : Kept v Fresh.number Fresh.known Fresh.promises
+    fresh_kept : Kept v Fresh.number Fresh.known Fresh.mails Fresh.promises
     unfolding world.fresh world.known_root begun host_of
     fresh_kept = record {
       number = refl;
@@ -395,6 +395,7 @@ module _ (script : Script) where
       own = λ i l. absurd (omega arith);
       below = λ i a. absurd (no_own i a);
       apart = (tt, roots_apart p.knows);
+      mails = tt;
     }
       where
         no_own : (i : ℕ) → IsAmong (Promise v i) (Root v ∷ names_in (map world.known_root p.knows)) → ⊥

@@ -1,11 +1,12 @@
 -- When names are the same, and which names a reader of notes knows.
-use Rattle.std.proofs.Common.{◌≡◌, ℕ, Bool, true, false, List, [], ◌∷◌, refl, sym, ap, ◌∙◌, ◌⊎◌, inl, inr, ◌==◌, ◌&&◌, Option, Some, None}
+use Rattle.std.proofs.Common.{◌≡◌, ℕ, Bool, true, false, List, [], ◌∷◌, refl, sym, ap, ◌∙◌, ◌⊎◌, inl, inr, ◌==◌, ◌&&◌, Option, Some, None, zero, suc}
+use Rattle.std.specs.Prelude.{slice_get}
 use Rattle.std.proofs.lemmas.Bool.{eqb-true, eq-eqb}
-use Rattle.ev_machine.specs.Values.{Name, Root, Object, Promise, Answer, Gift, Sent, Msg, same_name, same_msg, Foreign, spot_of, naming}
+use Rattle.ev_machine.specs.Values.{Name, Root, Object, Promise, Answer, Gift, Sent, Msg, same_name, same_msg, Foreign, NoObject, spot_of, naming}
 use Rattle.ev_run.specs.World.{has_name, is_old}
 use Rattle.ev_machine.specs.Refs.{entry_of}
-use Rattle.ev_machine.specs.State.{Known}
-use Rattle.ev_name_laws.specs.Names.{AllOf, IsAmong, IsKnownIn, IsNoObject, names_in}
+use Rattle.ev_machine.specs.State.{Known, Vat}
+use Rattle.ev_name_laws.specs.Names.{AllOf, IsAmong, IsKnownIn, IsEventual, IsMessageName, WasMade, names_in}
 
 pub false_true : false ≡ true → ⊥
 false_true e = cc
@@ -122,19 +123,19 @@ new_unknown ns (Answer w m) e a = true_false (has_name ns (Answer w m)) (among_h
 new_unknown ns (Gift w i) e a = true_false (has_name ns (Gift w i)) (among_has ns (Gift w i) a) e
 new_unknown ns (Sent m) e a = true_false (has_name ns (Sent m)) (among_has ns (Sent m) a) e
 
--- what is new is no object
-pub new_no_object : (ns : List Name) (n : Name) → is_old ns n ≡ false → IsNoObject n
+-- what is new, and was made, is a root, a promise, an answer or a gift
+pub new_eventual : (ns : List Name) (vats : List (Vat Name)) (d : ℕ) (n : Name) → is_old ns n ≡ false → WasMade vats d n → IsEventual n
 unfolding is_old
-new_no_object ns (Object w i) e = absurd (false_true (sym e))
-new_no_object ns (Root w) e = tt
-new_no_object ns (Promise w i) e = tt
-new_no_object ns (Answer w m) e = tt
-new_no_object ns (Gift w i) e = tt
-new_no_object ns (Sent m) e = tt
+new_eventual ns vats d (Object w i) e m = absurd (false_true (sym e))
+new_eventual ns vats d (Root w) e m = tt
+new_eventual ns vats d (Promise w i) e m = tt
+new_eventual ns vats d (Answer w x) e m = tt
+new_eventual ns vats d (Gift w i) e m = tt
+new_eventual ns vats d (Sent x) e m = absurd m
 
--- ---- no object is found among names that are no objects
+-- ---- no object is found among names of that kind
 
-far_is : (v : ℕ) (m : Name) (h : ℕ) → spot_of v m ≡ Foreign h → IsNoObject m → ⊥
+far_is : (v : ℕ) (m : Name) (h : ℕ) → spot_of v m ≡ Foreign h → IsEventual m → ⊥
 unfolding spot_of
 far_is v (Object w i) h e o = o
 far_is v (Root w) h e o = cc
@@ -147,10 +148,53 @@ no_entry : (b : Bool) (k : Known Name) (o : Option (Known Name)) → (b ≡ true
 no_entry true k o f e = absurd (f refl)
 no_entry false k o f e = e
 
-no_object_is : (a b : Name) → a ≡ b → IsNoObject a → IsNoObject b
-no_object_is a b e h = rw e at h
+eventual_is : (a b : Name) → a ≡ b → IsEventual a → IsEventual b
+eventual_is a b e h = rw e at h
 
-pub far_apart : (word : ℕ → ℕ) (v : ℕ) (ks : List (Known Name)) → AllOf IsNoObject (names_in ks) → (m : Name) (h : ℕ) → spot_of v m ≡ Foreign h → entry_of (naming word v) ks m ≡ None
+pub far_apart : (word : ℕ → ℕ) (v : ℕ) (ks : List (Known Name)) → AllOf IsEventual (names_in ks) → (m : Name) (h : ℕ) → spot_of v m ≡ Foreign h → entry_of (naming word v) ks m ≡ None
 unfolding entry_of naming
 far_apart word v [] o m h e = refl
-far_apart word v (k ∷ ks) o m h e = no_entry (same_name k.name m) k (entry_of (naming word v) ks m) (λ f. far_is v m h e (no_object_is k.name m (same_is k.name m f) o.0)) (far_apart word v ks o.1 m h e)
+far_apart word v (k ∷ ks) o m h e = no_entry (same_name k.name m) k (entry_of (naming word v) ks m) (λ f. far_is v m h e (eventual_is k.name m (same_is k.name m f) o.0)) (far_apart word v ks o.1 m h e)
+
+-- ---- kinds of names
+
+pub at_all : {A : Type 0} (P : A → Type 0) (xs : List A) (i : ℕ) (x : A) → AllOf P xs → slice_get xs i ≡ Some x → P x
+at_all P [] i x h e = cc
+at_all P (y ∷ ys) zero x h e = let same : y ≡ x = cc in rw same at h.0
+at_all P (y ∷ ys) (suc i) x h e = at_all P ys i x h.1 e
+
+pub eventual_spot : (v : ℕ) (n : Name) → IsEventual n → spot_of v n ≡ NoObject
+unfolding spot_of
+eventual_spot v (Root w) h = refl
+eventual_spot v (Promise w i) h = refl
+eventual_spot v (Answer w m) h = refl
+eventual_spot v (Gift w i) h = refl
+eventual_spot v (Object w i) h = absurd h
+eventual_spot v (Sent m) h = absurd h
+
+pub message_spot : (v : ℕ) (n : Name) → IsMessageName n → spot_of v n ≡ NoObject
+unfolding spot_of
+message_spot v (Sent m) h = refl
+message_spot v (Root w) h = absurd h
+message_spot v (Promise w i) h = absurd h
+message_spot v (Answer w m) h = absurd h
+message_spot v (Gift w i) h = absurd h
+message_spot v (Object w i) h = absurd h
+
+not_both : (n : Name) → IsEventual n → IsMessageName n → ⊥
+not_both (Root w) h k = k
+not_both (Promise w i) h k = k
+not_both (Answer w m) h k = k
+not_both (Gift w i) h k = k
+not_both (Object w i) h k = k
+not_both (Sent m) h k = h
+
+is_false : (b : Bool) → (b ≡ true → ⊥) → b ≡ false
+is_false true f = absurd (f refl)
+is_false false f = refl
+
+as_message : (a b : Name) → a ≡ b → IsMessageName b → IsMessageName a
+as_message a b e h = rw (sym e) at h
+
+pub kinds_apart : (a b : Name) → IsEventual a → IsMessageName b → (same_name a b ≡ false) × (same_name b a ≡ false)
+kinds_apart a b h k = (is_false (same_name a b) (λ e. not_both a h (as_message a b (same_is a b e) k)), is_false (same_name b a) (λ e. not_both a h (as_message a b (sym (same_is b a e)) k)))

@@ -4,7 +4,7 @@ use Rattle.std.specs.Prelude.{slice_get}
 use Rattle.ev_machine.specs.Values.{Name, Root, Object, Promise, Answer, Gift, Sent, Msg, host_of, Naming, naming, name_of, answer_of, mail_of}
 use Rattle.ev_machine.specs.State.{Known, Standing, Unsettled, WaitsOn, Viewed, Settled, Change, Hold, Wait, WaitOn, See, React, ToTell, Settle, Vat, with_change, changed, changed_to, unless_settled, begun}
 use Rattle.ev_run.specs.World.{put_at}
-use Rattle.ev_name_laws.specs.Names.{Bit, Named, Mail, Drew, AllOf, IsAmong, promises_of, messages_of, IsMade, names_in, IsKnownIn, IsHad, HostIsTrue, IsNoObject, IsPlain, PlainOnce}
+use Rattle.ev_name_laws.specs.Names.{Bit, Named, Mail, Drew, AllOf, IsAmong, promises_of, messages_of, IsMade, names_in, IsKnownIn, IsHad, HostIsTrue, IsEventual, IsMessageName, IsPlain, PlainOnce}
 use Rattle.ev_name_laws.proofs.Facts.{all_end}
 use Rattle.ev_name_laws.proofs.Care.{Care, Under}
 use Rattle.ev_name_laws.proofs.Among.{among_more, among_last, among_or, among_is, names_end, length_end, plain_end, get_put, promises_grow, messages_grow, promises_at, messages_at, is_made_up}
@@ -28,13 +28,14 @@ pub record Follows (T : Name → Type 0) (ns ms : List Name) (p m d : ℕ) (ns' 
   pub told : (n : Name) → T n → IsAmong n ns' → IsAmong n ns
 
 -- what is kept of the names that vat v knows
-pub record Kept (v u : ℕ) (ks : List (Known Name)) (p : ℕ) : Type 0 where
+pub record Kept (v u : ℕ) (ks : List (Known Name)) (ms : List Name) (p : ℕ) : Type 0 where
   pub number : u ≡ v
   pub hosts : AllOf HostIsTrue ks
   pub once : PlainOnce (names_in ks)
   pub own : (i : ℕ) → i < p → IsAmong (Promise v i) (names_in ks)
   pub below : (i : ℕ) → IsAmong (Promise v i) (names_in ks) → i < p
-  pub apart : AllOf IsNoObject (names_in ks)
+  pub apart : AllOf IsEventual (names_in ks)
+  pub mails : AllOf IsMessageName ms
 
 known_up : (ns ms : List Name) → ((n : Name) → IsAmong n ns → IsAmong n ms) → (n : Name) → IsKnownIn ns n → IsKnownIn ms n
 known_up ns ms f (Object w i) h = tt
@@ -106,9 +107,9 @@ module _ (K : Naming Name Name) where
   hosts_change c n [] h = tt
   hosts_change c n (k ∷ ks) h = either_host (K.same k.name n) (changed c k) k (with_change K c n ks) ks (unless_host k.standing k (changed_to c k) h.0 (to_host c k h.0)) h.0 (hosts_change c n ks h.1) h.1
 
-  kept_change : (v number : ℕ) (c : Change Name) (n : Name) (ks : List (Known Name)) (p : ℕ) → Kept v number ks p → Kept v number (with_change K c n ks) p
-  kept_change v number c n ks p h = let e : names_in ks ≡ names_in (with_change K c n ks) = sym (names_change c n ks) in
-      record { number = h.number; hosts = hosts_change c n ks h.hosts; once = rw e at h.once; own = λ i l. rw e at (h.own i l); below = λ i a. h.below i (rw (sym e) at a); apart = rw e at h.apart }
+  kept_change : (v number : ℕ) (c : Change Name) (n : Name) (ks : List (Known Name)) (ms : List Name) (p : ℕ) → Kept v number ks ms p → Kept v number (with_change K c n ks) ms p
+  kept_change v number c n ks ms p h = let e : names_in ks ≡ names_in (with_change K c n ks) = sym (names_change c n ks) in
+      record { number = h.number; hosts = hosts_change c n ks h.hosts; once = rw e at h.once; own = λ i l. rw e at (h.own i l); below = λ i a. h.below i (rw (sym e) at a); apart = rw e at h.apart; mails = h.mails }
 
 pub follows_same : (T : Name → Type 0) (ns ms : List Name) (p m d : ℕ) → Follows T ns ms p m d ns ms p m d
 follows_same T ns ms p m d = record { names = λ n h. h; mails = λ n h. h; promises = omega arith; messages = omega arith; draws = omega arith; told = λ n t h. h }
@@ -135,20 +136,25 @@ follows_known T ks k ms p m d f = let e : names_in (ks ++ k ∷ []) ≡ names_in
     old n t (inl h) = h
     old n t (inr e) = absurd (f (rw e at t))
 
-pub kept_known : (v number : ℕ) (ks : List (Known Name)) (k : Known Name) (p : ℕ) → HostIsTrue k → IsNoObject k.name → (IsPlain k.name → IsAmong k.name (names_in ks) → ⊥) → ((i : ℕ) → Promise v i ≡ k.name → i < p) → Kept v number ks p → Kept v number (ks ++ k ∷ []) p
-kept_known v number ks k p t o f g h = let e : names_in (ks ++ k ∷ []) ≡ names_in ks ++ k.name ∷ [] = names_end ks k in
+pub kept_known : (v number : ℕ) (ks : List (Known Name)) (k : Known Name) (ms : List Name) (p : ℕ) → HostIsTrue k → IsEventual k.name → (IsPlain k.name → IsAmong k.name (names_in ks) → ⊥) → ((i : ℕ) → Promise v i ≡ k.name → i < p) → Kept v number ks ms p → Kept v number (ks ++ k ∷ []) ms p
+kept_known v number ks k ms p t o f g h = let e : names_in (ks ++ k ∷ []) ≡ names_in ks ++ k.name ∷ [] = names_end ks k in
     record {
       number = h.number;
       hosts = all_end HostIsTrue ks k h.hosts t;
       once = rw (sym e) at (plain_end (names_in ks) k.name h.once f);
       own = λ i l. rw (sym e) at (among_more (Promise v i) (names_in ks) k.name (h.own i l));
       below = λ i a. low i (among_or (Promise v i) (names_in ks) k.name (rw e at a));
-      apart = rw (sym e) at (all_end IsNoObject (names_in ks) k.name h.apart o);
+      apart = rw (sym e) at (all_end IsEventual (names_in ks) k.name h.apart o);
+      mails = h.mails;
     }
   where
     low : (i : ℕ) → IsAmong (Promise v i) (names_in ks) ⊎ (Promise v i ≡ k.name) → i < p
     low i (inl a) = h.below i a
     low i (inr e) = g i e
+
+-- a message comes to be had
+pub kept_mail : (v u : ℕ) (ks : List (Known Name)) (ms : List Name) (p : ℕ) (m : Name) → IsMessageName m → Kept v u ks ms p → Kept v u ks (ms ++ m ∷ []) p
+kept_mail v u ks ms p m i h = record { number = h.number; hosts = h.hosts; once = h.once; own = h.own; below = h.below; apart = h.apart; mails = all_end IsMessageName ms m h.mails i }
 
 pub no_answer : (v i h : ℕ) (m : Msg) → Promise v i ≡ Answer h m → ⊥
 no_answer v i h m e = cc
@@ -170,16 +176,17 @@ either_below (suc i) (suc p) h = go (either_below i p (omega arith))
     go (inr e) = inr (ap suc e)
 
 -- a promise of the vat's own comes to be known
-kept_promise : (v number : ℕ) (ks : List (Known Name)) (p : ℕ) → Kept v number ks p → Kept v number (ks ++ begun (Promise v p) number ∷ []) (suc p)
+kept_promise : (v number : ℕ) (ks : List (Known Name)) (ms : List Name) (p : ℕ) → Kept v number ks ms p → Kept v number (ks ++ begun (Promise v p) number ∷ []) ms (suc p)
 unfolding begun host_of
-kept_promise v number ks p h = let k : Known Name = begun (Promise v p) number in let e : names_in (ks ++ k ∷ []) ≡ names_in ks ++ Promise v p ∷ [] = names_end ks k in
+kept_promise v number ks ms p h = let k : Known Name = begun (Promise v p) number in let e : names_in (ks ++ k ∷ []) ≡ names_in ks ++ Promise v p ∷ [] = names_end ks k in
     record {
       number = h.number;
       hosts = all_end HostIsTrue ks k h.hosts h.number;
       once = rw (sym e) at (plain_end (names_in ks) (Promise v p) h.once (λ x a. fresh a));
       own = λ i l. rw (sym e) at (mine i (either_below i p l));
       below = λ i a. low i (among_or (Promise v i) (names_in ks) (Promise v p) (rw e at a));
-      apart = rw (sym e) at (all_end IsNoObject (names_in ks) (Promise v p) h.apart tt);
+      apart = rw (sym e) at (all_end IsEventual (names_in ks) (Promise v p) h.apart tt);
+      mails = h.mails;
     }
   where
     fresh : IsAmong (Promise v p) (names_in ks) → ⊥
@@ -201,7 +208,7 @@ module _ (vats : List (Vat Name)) (v : ℕ) (q : Vat Name) (there : slice_get va
   Goes s t = Follows (IsTold v) (names_in s.known) s.mails s.promises s.messages (length s.drawn) (names_in t.known) t.mails t.promises t.messages (length t.drawn)
 
   abbrev pub Keeps : Vat Name → Type 0
-  Keeps s = Kept v s.number s.known s.promises
+  Keeps s = Kept v s.number s.known s.mails s.promises
 
   pub quiet : (s : Vat Name) → Goes s s
   quiet s = follows_same (IsTold v) (names_in s.known) s.mails s.promises s.messages (length s.drawn)
@@ -251,7 +258,7 @@ module _ (vats : List (Vat Name)) (v : ℕ) (q : Vat Name) (there : slice_get va
     answer_made s h m l = let k : Known Name = begun (Answer h m) h in let t : Vat Name = record s { known = s.known ++ k ∷ [] } in
         let r : Goes s t = follows_known (IsTold v) s.known k s.mails s.promises s.messages (length s.drawn) (λ x. x) in
         let among : IsAmong (Answer h m) (names_in (s.known ++ k ∷ [])) = rw (sym (names_end s.known k)) at (among_last (names_in s.known) (Answer h m)) in
-        (r, λ c. kept_known v s.number s.known k s.promises refl tt (λ x i. x) (λ i e. absurd (no_answer v i h m e)) c, (made_on (IsTold v) s t r (Named (Answer h m)) l, among))
+        (r, λ c. kept_known v s.number s.known k s.mails s.promises refl tt (λ x i. x) (λ i e. absurd (no_answer v i h m e)) c, (made_on (IsTold v) s t r (Named (Answer h m)) l, among))
 
     gift_made : (s : Vat Name) (h i : ℕ) → i < length s.drawn →
         let t : Vat Name = record s { known = s.known ++ begun (Gift h i) h ∷ [] } in Goes s t × (Keeps s → Keeps t) × Ok t (Named (Gift h i))
@@ -259,7 +266,7 @@ module _ (vats : List (Vat Name)) (v : ℕ) (q : Vat Name) (there : slice_get va
     gift_made s h i l = let k : Known Name = begun (Gift h i) h in let t : Vat Name = record s { known = s.known ++ k ∷ [] } in
         let r : Goes s t = follows_known (IsTold v) s.known k s.mails s.promises s.messages (length s.drawn) (λ x. x) in
         let among : IsAmong (Gift h i) (names_in (s.known ++ k ∷ [])) = rw (sym (names_end s.known k)) at (among_last (names_in s.known) (Gift h i)) in
-        (r, λ c. kept_known v s.number s.known k s.promises refl tt (λ x a. x) (λ j e. absurd (no_gift v j h i e)) c, (made_on (IsTold v) s t r (Named (Gift h i)) l, among))
+        (r, λ c. kept_known v s.number s.known k s.mails s.promises refl tt (λ x a. x) (λ j e. absurd (no_gift v j h i e)) c, (made_on (IsTold v) s t r (Named (Gift h i)) l, among))
 
     promise_made : (s : Vat Name) → let t : Vat Name = record s { promises = suc s.promises; known = s.known ++ begun (Promise v s.promises) s.number ∷ [] } in Goes s t × (Keeps s → Keeps t) × Ok t (Named (Promise v s.promises))
     unfolding begun
@@ -269,7 +276,7 @@ module _ (vats : List (Vat Name)) (v : ℕ) (q : Vat Name) (there : slice_get va
         let among : IsAmong (Promise v s.promises) (names_in (s.known ++ k ∷ [])) = rw (sym (names_end s.known k)) at (among_last (names_in s.known) (Promise v s.promises)) in
         let e : promises_of (put_at v t vats) v ≡ suc s.promises = promises_at (put_at v t vats) v t (get_put vats v q t there) in
         let l : s.promises < promises_of (put_at v t vats) v = omega arith in
-        (r, λ c. kept_promise v s.number s.known s.promises c, (l, among))
+        (r, λ c. kept_promise v s.number s.known s.mails s.promises c, (l, among))
 
     message_made : (s : Vat Name) (h : ℕ) → let m : Msg = record { sender = v; number = s.messages } in let t : Vat Name = record s { messages = suc s.messages; mails = s.mails ++ Sent m ∷ []; known = s.known ++ begun (Answer h m) h ∷ [] } in
         Goes s t × (Keeps s → Keeps t) × Ok t (Mail (Sent m)) × Ok t (Named (Answer h m))
@@ -280,7 +287,7 @@ module _ (vats : List (Vat Name)) (v : ℕ) (q : Vat Name) (there : slice_get va
         let among : IsAmong (Answer h m) (names_in (s.known ++ k ∷ [])) = rw (sym (names_end s.known k)) at (among_last (names_in s.known) (Answer h m)) in
         let e : messages_of (put_at v t vats) v ≡ suc s.messages = messages_at (put_at v t vats) v t (get_put vats v q t there) in
         let l : s.messages < messages_of (put_at v t vats) v = omega arith in
-        (r, λ c. kept_known v s.number s.known k s.promises refl tt (λ x a. x) (λ i e. absurd (no_answer v i h m e)) c, (l, among_last s.mails (Sent m)), (l, among))
+        (r, λ c. kept_mail v s.number (s.known ++ k ∷ []) s.mails s.promises (Sent m) tt (kept_known v s.number s.known k s.mails s.promises refl tt (λ x a. x) (λ i e. absurd (no_answer v i h m e)) c), (l, among_last s.mails (Sent m)), (l, among))
 
     object_ok : (s : Vat Name) (i : ℕ) → Ok s (Named (Object v i))
     object_ok s i = (tt, tt)
@@ -298,7 +305,7 @@ module _ (vats : List (Vat Name)) (v : ℕ) (q : Vat Name) (there : slice_get va
     unfolding naming name_of answer_of mail_of
     tracked_under = record {
       object = λ s i. object_ok s i;
-      altered = λ s c n h. (follows_change (naming word v) (IsTold v) c n s.known s.mails s.promises s.messages (length s.drawn), λ k. kept_change (naming word v) v s.number c n s.known s.promises k);
+      altered = λ s c n h. (follows_change (naming word v) (IsTold v) c n s.known s.mails s.promises s.messages (length s.drawn), λ k. kept_change (naming word v) v s.number c n s.known s.mails s.promises k);
       answered = λ s h n l. answered_ok s h n l;
       given = λ s h i l. gift_made s h i l.0;
       promised = λ s. promise_made s;

@@ -124,14 +124,14 @@ promises_of vats v = elim (slice_get vats v) [ Some s ↦ s.promises | None ↦ 
 unfoldable pub messages_of : List (Vat Name) → ℕ → ℕ
 messages_of vats v = elim (slice_get vats v) [ Some s ↦ s.messages | None ↦ zero ]
 
--- Its number is one that its vat has given: a promise of that vat, an answer of a message of that vat, a gift of a draw that was made.
+-- Its number is one that its vat has given: a promise of that vat, an answer of a message of that vat, a gift of a draw that was made. A message is no thing to be named.
 abbrev pub WasMade : List (Vat Name) → ℕ → Name → Type 0
 WasMade vats draws (Root w) = Unit {0}
 WasMade vats draws (Object w i) = Unit {0}
 WasMade vats draws (Promise w i) = i < promises_of vats w
 WasMade vats draws (Answer h m) = m.number < messages_of vats m.sender
 WasMade vats draws (Gift h i) = i < draws
-WasMade vats draws (Sent m) = m.number < messages_of vats m.sender
+WasMade vats draws (Sent m) = ⊥
 
 -- a message that its sender has made
 abbrev pub IsMessageMade : List (Vat Name) → Name → Type 0
@@ -167,14 +167,22 @@ IsHad ns mails (Drew i) = Unit {0}
 abbrev pub HostIsTrue : Known Name → Type 0
 HostIsTrue k = k.host ≡ host_of k.name
 
--- it is no object's
-abbrev pub IsNoObject : Name → Type 0
-IsNoObject (Object w i) = ⊥
-IsNoObject (Root w) = Unit {0}
-IsNoObject (Promise w i) = Unit {0}
-IsNoObject (Answer h m) = Unit {0}
-IsNoObject (Gift h i) = Unit {0}
-IsNoObject (Sent m) = Unit {0}
+-- a root, a promise, an answer or a gift: what comes to be known
+abbrev pub IsEventual : Name → Type 0
+IsEventual (Object w i) = ⊥
+IsEventual (Root w) = Unit {0}
+IsEventual (Promise w i) = Unit {0}
+IsEventual (Answer h m) = Unit {0}
+IsEventual (Gift h i) = Unit {0}
+IsEventual (Sent m) = ⊥
+
+abbrev pub IsMessageName : Name → Type 0
+IsMessageName (Sent m) = Unit {0}
+IsMessageName (Root w) = ⊥
+IsMessageName (Object w i) = ⊥
+IsMessageName (Promise w i) = ⊥
+IsMessageName (Answer h m) = ⊥
+IsMessageName (Gift h i) = ⊥
 
 -- a root, or a promise that was made by Ref.promise()
 abbrev pub IsPlain : Name → Type 0

@@ -1,12 +1,12 @@
 -- What holds of names in every world of every run.
-use Rattle.std.specs.Prelude.{◌≡◌, ℕ, zero, ◌<◌, List, ◌∷◌, ◌++◌, Some, true, slice_get, length, codes}
-use Rattle.ev_machine.specs.Values.{Value, Broken, Ref, Name, Promise, Answer, Gift, Foreign, spot_of}
+use Rattle.std.specs.Prelude.{◌≡◌, ℕ, zero, ◌<◌, List, ◌∷◌, ◌++◌, Some, true, false, slice_get, length, codes}
+use Rattle.ev_machine.specs.Values.{Value, Broken, Ref, Name, Promise, Answer, Gift, Foreign, spot_of, NoObject, same_name}
 use Rattle.ev_machine.specs.State.{Vat, is_in}
 use Rattle.ev_machine.specs.Refs.{follow}
-use Rattle.ev_machine_laws.specs.Breaks.{settled_value}
+use Rattle.ev_machine_laws.specs.Breaks.{AtRest, settled_value}
 use Rattle.ev_run_laws.specs.Runs.{EachVat}
 use Rattle.ev_run.specs.World.{Script, Program, Entry, World, Goes, begins, open_from, steps_from, names}
-use Rattle.ev_name_laws.specs.Names.{AllOf, IsAmong, NoteOk, Everywhere, IsMade, IsHad, names_in, HostIsTrue, IsNoObject, PlainOnce, Once}
+use Rattle.ev_name_laws.specs.Names.{AllOf, IsAmong, NoteOk, Everywhere, IsMade, IsHad, names_in, HostIsTrue, IsEventual, IsMessageName, PlainOnce, Once}
 
 -- No vat is told twice that it knows a vat, and none that it knows itself.
 abbrev pub KnowsOnce : Script → Type 0
@@ -52,11 +52,22 @@ NextNamesAreNew = InEachVat (λ w v s. (u : ℕ) (t : Vat Name) → slice_get w.
     × ((h : ℕ) → IsAmong (Answer h (record { sender = v; number = s.messages })) (names_in t.known) → ⊥)
     × ((h : ℕ) → IsAmong (Gift h (length w.drawn)) (names_in t.known) → ⊥))
 
--- no object is among the names that a vat knows
-abbrev pub ObjectsAreApart : Type 0
-ObjectsAreApart = InEachVat (λ w v s. AllOf IsNoObject (names_in s.known))
+-- what a vat knows are roots, promises, answers and gifts, and what it has had are messages
+abbrev pub NamesAndMessagesAreApart : Type 0
+NamesAndMessagesAreApart = InEachVat (λ w v s. AllOf IsEventual (names_in s.known) × AllOf IsMessageName s.mails)
+
+-- What the table of a vat has for a promise or a message is no object, and no name is both: the premises of the naming theorem, but that none is there twice.
+abbrev pub TablesAreApart : Type 0
+TablesAreApart = InEachVat (λ w v s. ((k : ℕ) (n : Name) → slice_get (names_in s.known) k ≡ Some n → spot_of v n ≡ NoObject)
+    × ((k : ℕ) (n : Name) → slice_get s.mails k ≡ Some n → spot_of v n ≡ NoObject)
+    × ((i j : ℕ) (a b : Name) → slice_get (names_in s.known) i ≡ Some a → slice_get s.mails j ≡ Some b → (same_name a b ≡ false) × (same_name b a ≡ false)))
 
 -- From any world of a run on: what settlings led, at a vat, to an object of a vat whose cut it noticed is followed there to broken partition.
 abbrev pub SeveredObjectsStayBroken : Type 0
 SeveredObjectsStayBroken = (script : Script) → KnowsOnce script → (w y x : World) (es fs : List Entry) (k l : ℕ) → open_from script zero script.vats (begins script) ≡ Goes w → steps_from script es k w ≡ Goes y → steps_from script fs l y ≡ Goes x
     → EachVat (λ v s t. (z : Value Name) (m : Name) (h : ℕ) → settled_value (names script v) s z ≡ Ref m → spot_of v m ≡ Foreign h → is_in h s.noticed ≡ true → follow (names script v) t z ≡ Broken (codes "partition")) y x
+
+-- And what a vat at rest followed to a broken reference is followed to it.
+abbrev pub FollowedBreaksStayBroken : Type 0
+FollowedBreaksStayBroken = (script : Script) → KnowsOnce script → (w y x : World) (es fs : List Entry) (k l : ℕ) → open_from script zero script.vats (begins script) ≡ Goes w → steps_from script es k w ≡ Goes y → steps_from script fs l y ≡ Goes x
+    → EachVat (λ v s t. AtRest (names script v) s → (z : Value Name) (p : List ℕ) → follow (names script v) s z ≡ Broken p → follow (names script v) t z ≡ Broken p) y x

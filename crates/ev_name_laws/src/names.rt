@@ -9,8 +9,10 @@ ghost use Rattle.ev_name_laws.specs.Runs.{HostsAreTrue};
 ghost use Rattle.ev_name_laws.specs.Runs.{RootsAndPromisesAreKnownOnce};
 ghost use Rattle.ev_name_laws.specs.Runs.{OwnPromisesAreKnown};
 ghost use Rattle.ev_name_laws.specs.Runs.{NextNamesAreNew};
-ghost use Rattle.ev_name_laws.specs.Runs.{ObjectsAreApart};
+ghost use Rattle.ev_name_laws.specs.Runs.{NamesAndMessagesAreApart};
+ghost use Rattle.ev_name_laws.specs.Runs.{TablesAreApart};
 ghost use Rattle.ev_name_laws.specs.Runs.{SeveredObjectsStayBroken};
+ghost use Rattle.ev_name_laws.specs.Runs.{FollowedBreaksStayBroken};
 
 /// Every name in what a vat has was made: a promise is numbered below the count of its vat's
 /// promises, an answer is of a message numbered below the count of its sender's messages, and a
@@ -52,13 +54,27 @@ pub fn next_names_are_new()
     ensures { NextNamesAreNew }
 {}
 
-/// No object is among the names that a vat knows: objects need not come to be known.
-pub fn objects_are_apart()
-    ensures { ObjectsAreApart }
+/// What a vat knows are roots, promises, answers and gifts, and what it has had are messages: no
+/// object is among the names known, and no name is both.
+pub fn names_and_messages_are_apart()
+    ensures { NamesAndMessagesAreApart }
+{}
+
+/// In the table of a vat, which reads its own numbers, a promise and a message are no objects, and
+/// no name is both. The theorem on a vat's numbers asks this of its table, and that no name is there
+/// twice.
+pub fn tables_are_apart()
+    ensures { TablesAreApart }
 {}
 
 /// From any world of a run on, what settlings led, at a vat, to an object of a vat whose cut it
 /// noticed is followed there to broken `partition`.
 pub fn severed_objects_stay_broken()
     ensures { SeveredObjectsStayBroken }
+{}
+
+/// From any world of a run on, what a vat that is at rest follows to a broken reference is followed
+/// there to it.
+pub fn followed_breaks_stay_broken()
+    ensures { FollowedBreaksStayBroken }
 {}

@@ -1,5 +1,5 @@
 -- One turn of the code is one of the machine.
-use Rattle.std.proofs.Common.{◌≡◌, ℕ, zero, suc, List, [], ◌∷◌, ◌++◌, Bool, true, false, cond, Option, Some, None, refl, sym, ◌∙◌, subst, ap, append_assoc, length, slice_get, Vec, Global, ◌+◌, max, min, arith}
+use Rattle.std.proofs.Common.{◌≡◌, ◌<◌, ℕ, zero, suc, List, [], ◌∷◌, ◌++◌, Bool, true, false, cond, Option, Some, None, refl, sym, ◌∙◌, subst, ap, append_assoc, length, slice_get, Vec, Global, ◌+◌, max, min, arith}
 use Rattle.ev_token.specs.declared.token.TokenKind.{TokenKind}
 use Rattle.ev_grammar.specs.declared.syntax.Word.{Word}
 use Rattle.ev_grammar.specs.declared.syntax.Shape.{Shape}
@@ -22,7 +22,7 @@ use Rattle.ev_parser.specs.declared.draft.Turn.TheVariants as turns
 use Rattle.ev_grammar.specs.Grammar.{Tree, Trees, node, none, more, leaf, moves, ending, is_stop, shape_of, word_of, parts_of, more_at, again, begun, lead, wrapped}
 use Rattle.ev_grammar.specs.Machine.{Frame, within, after, Begun, begin, pick, Outcome, ended, stuck, opened, ends_before, follow_move, step_in, State, at, settle, pop, step, tail_step, finish, end_in, end_frames, and_then}
 use Rattle.ev_grammar.specs.Heights.{weight, height, tallest}
-use Rattle.ev_parser.specs.Draft.{Shows, ShowsAll, ShowsStand, ShowsFrame, ShowsFrames, ShowsState, Opened, IsOpened, shape_before, end_shape, Comes, IsTaken, IsPut, lead_part, IsAdded, IsWrapped, IsBegun, begun_height, IsBegunStand, Ends, Ended}
+use Rattle.ev_parser.specs.Draft.{Shows, ShowsAll, StandBefore, ShowsStand, ShowsFrame, ShowsFrames, ShowsState, Opened, IsOpened, shape_before, end_shape, Comes, IsTaken, IsPut, lead_part, IsAdded, IsWrapped, IsBegun, begun_height, IsBegunStand, Ends, Ended}
 use Rattle.ev_table.specs.Table.{capped}
 
 -- the machine's step, by the move that the token begins
@@ -87,7 +87,7 @@ slice_get_last (m ∷ ns) x = slice_get_last ns x
 
 mutual
   shows_more : (ns : List Node) (x : Node) (w : Tree) (i : ℕ) → Shows ns i w → Shows (ns ++ x ∷ []) i w
-  shows_more ns x (node s t ts) i h = (h.0, slice_get_more ns i h.0 x h.1, h.2, h.3, shows_all_more ns x ts h.0.parts.items h.4, h.5)
+  shows_more ns x (node s t ts) i h = (h.0, slice_get_more ns i h.0 x h.1, h.2, h.3, shows_all_more ns x ts h.0.parts.items h.4, h.5, h.6)
 
   shows_all_more : (ns : List Node) (x : Node) (ts : Trees) (is : List Part) → ShowsAll ns is ts → ShowsAll (ns ++ x ∷ []) is ts
   shows_all_more ns x none is h = h
@@ -104,11 +104,36 @@ shows_frames_more : (ns : List Node) (x : Node) (ws : List Waiting) (frs : List 
 shows_frames_more ns x ws [] h = h
 shows_frames_more ns x ws (fr ∷ frs) h = (h.0, h.1, h.2, shows_frame_more ns x h.1 fr h.3, shows_frames_more ns x h.0 frs h.4)
 
+stands_there : (ns : List Node) (i : ℕ) (n : Node) → slice_get ns i ≡ Some n → i < length ns
+stands_there [] i n e = cc
+stands_there (m ∷ ns) zero n e = omega arith
+stands_there (m ∷ ns) (suc i) n e = let k = stands_there ns i n e in omega arith
+
+shown_there : (ns : List Node) (i : ℕ) (w : Tree) → Shows ns i w → i < length ns
+shown_there ns i (node s t ts) h = stands_there ns i h.0 h.1
+
+before_tree : (i j : ℕ) (is : List Part) → StandBefore i is → j < i → StandBefore i (is ++ piece.Tree j ∷ [])
+before_tree i j [] h k = (k, tt)
+before_tree i j (piece.Token t ∷ is) h k = before_tree i j is h k
+before_tree i j (piece.Tree m ∷ is) h k = (h.0, before_tree i j is h.1 k)
+
+before_token : (i : ℕ) (t : Word) (is : List Part) → StandBefore i is → StandBefore i (is ++ piece.Token t ∷ [])
+before_token i t [] h = tt
+before_token i t (piece.Token u ∷ is) h = before_token i t is h
+before_token i t (piece.Tree m ∷ is) h = (h.0, before_token i t is h.1)
+
+-- what is shown stands before the end
+all_before : (ns : List Node) (ts : Trees) (is : List Part) → ShowsAll ns is ts → StandBefore (length ns) is
+all_before ns none is h = subst (λ (x : List Part). StandBefore (length ns) x) (sym h) tt
+all_before ns (more ts t) is h =
+    subst (λ (x : List Part). StandBefore (length ns) x) (sym h.2) (before_tree (length ns) h.1 h.0 (all_before ns ts h.0 h.3) (shown_there ns h.1 t h.4))
+all_before ns (leaf ts t) is h = subst (λ (x : List Part). StandBefore (length ns) x) (sym h.1) (before_token (length ns) t h.0 (all_before ns ts h.0 h.2))
+
 -- the node that was added shows the tree that it ends
 shows_added : (ns ms : List Node) (st : Stand) (s : Shape) (f g : Word) (fs : Trees) (i : ℕ) → IsAdded ns ms s g st i → g ≡ f → ShowsAll ns st.parts.items fs → st.tallest ≡ capped (tallest fs) → Shows ms i (node s f fs)
 shows_added ns ms st s f g fs i a e h k =
     let n : Node = a.0 in
-    let here : Shows (ns ++ n ∷ []) (length ns) (node s f fs) = (n, slice_get_last ns n, a.1.0, a.1.1 ∙ e, subst (λ (ps : Vec Part Global). ShowsAll (ns ++ n ∷ []) ps.items fs) (sym a.1.2) (shows_all_more ns n fs st.parts.items h), a.1.3 ∙ k) in
+    let here : Shows (ns ++ n ∷ []) (length ns) (node s f fs) = (n, slice_get_last ns n, a.1.0, a.1.1 ∙ e, subst (λ (ps : Vec Part Global). ShowsAll (ns ++ n ∷ []) ps.items fs) (sym a.1.2) (shows_all_more ns n fs st.parts.items h), a.1.3 ∙ k, subst (λ (ps : Vec Part Global). StandBefore (length ns) ps.items) (sym a.1.2) (all_before ns fs st.parts.items h)) in
     subst (λ (m : List Node). Shows m i (node s f fs)) (sym a.2) (subst (λ (j : ℕ). Shows (ns ++ n ∷ []) j (node s f fs)) (sym a.3) here)
 
 frames_added : (ns ms : List Node) (st : Stand) (s : Shape) (g : Word) (i : ℕ) (ws : List Waiting) (frs : List Frame) → IsAdded ns ms s g st i → ShowsFrames ns ws frs → ShowsFrames ms ws frs

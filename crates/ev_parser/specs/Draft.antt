@@ -1,5 +1,5 @@
 -- What the code's nodes and frames stand for.
-use Rattle.std.specs.Prelude.{◌≡◌, ℕ, List, [], ◌∷◌, ◌++◌, Option, Some, None, slice_get, length, ◌+◌, ◌*◌, max, cond}
+use Rattle.std.specs.Prelude.{◌≡◌, ◌<◌, ℕ, List, [], ◌∷◌, ◌++◌, Option, Some, None, slice_get, length, ◌+◌, ◌*◌, max, cond}
 use Rattle.ev_grammar.specs.declared.syntax.Word.{Word}
 use Rattle.ev_grammar.specs.declared.syntax.Shape.{Shape}
 use Rattle.ev_grammar.specs.declared.syntax.Tail.{Tail}
@@ -22,10 +22,16 @@ use Rattle.ev_grammar.specs.Machine.{Frame, within, after, Begun, begin, State, 
 use Rattle.ev_grammar.specs.Heights.{weight, tallest, low}
 use Rattle.ev_table.specs.Table.{capped}
 
--- the node at this place is the root of this tree
+-- the trees among these parts stand before that place
+abbrev pub StandBefore : ℕ → List Part → Type 0
+StandBefore i [] = Unit {0}
+StandBefore i (piece.Token t ∷ is) = StandBefore i is
+StandBefore i (piece.Tree j ∷ is) = (j < i) × StandBefore i is
+
+-- the node at this place is the root of this tree, and each node stands behind its parts
 abbrev mutual
   pub Shows : List Node → ℕ → Tree → Type 0
-  Shows ns i (node s t ts) = (n : Node) × (slice_get ns i ≡ Some n) × (n.shape ≡ s) × (n.first ≡ t) × ShowsAll ns n.parts.items ts × (n.tallest ≡ capped (tallest ts))
+  Shows ns i (node s t ts) = (n : Node) × (slice_get ns i ≡ Some n) × (n.shape ≡ s) × (n.first ≡ t) × ShowsAll ns n.parts.items ts × (n.tallest ≡ capped (tallest ts)) × StandBefore i n.parts.items
 
   pub ShowsAll : List Node → List Part → Trees → Type 0
   ShowsAll ns is none = is ≡ []

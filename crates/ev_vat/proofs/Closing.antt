@@ -1,5 +1,5 @@
 -- The end of the opening turn of a vat that knows its root alone.
-use Rattle.std.proofs.Common.{◌≡◌, ℕ, zero, suc, List, [], ◌∷◌, ◌++◌, refl, length, codes, false, None, ◌==◌}
+use Rattle.std.proofs.Common.{◌≡◌, ℕ, zero, suc, List, [], ◌∷◌, ◌++◌, refl, codes, false, None, ◌==◌}
 use Rattle.ev_renaming.proofs.Stands.{not_true, same_number}
 use Rattle.ev_kernel.specs.declared.node.Node.{Node}
 use Rattle.ev_base.specs.declared.values.Value.{Value as Held}
@@ -7,10 +7,10 @@ use Rattle.ev_base.specs.declared.values.Value.TheVariants as held
 use Rattle.ev_heap.specs.Contents.{Contents}
 use Rattle.ev_heap.specs.declared.micro.Micro.{Micro}
 use Rattle.ev_machine.specs.Values.{Words, Value, Broken, Ref, Naming, Local, Prom, numbering, same_local, local_spot}
-use Rattle.ev_machine.specs.State.{Happened, Finished, Threw, Settles, Waits, Settled, WaitsOn, Known, Vat, Done, Gives, Throws, Ejects, Stops, Stop, Astray, Act, ◌>>◌, ◌>>=◌, and_then, end_by, ending, tell, stop, look, alter, with_change, changed, changed_to, unless_settled, Wait, WaitOn, is_in, begun, new_activation, opened_state}
-use Rattle.ev_machine.specs.Refs.{Place, Mine, entry_of, follow, severed, severed_at, severed_by, follow_at, led, standing_of, standing_in, host_at, host_in, place, spotted, hosted, waits_lead, led_by_wait, wait_on, wait_unless_cycle, resolve_to, resolve, settle, opened_refs}
+use Rattle.ev_machine.specs.State.{Happened, Finished, Threw, Settles, Waits, Settled, WaitsOn, Known, Vat, Gives, Astray, Act, ◌>>◌, ◌>>=◌, and_then, end_by, ending, tell, stop, look, alter, with_change, changed, changed_to, unless_settled, Wait, WaitOn, is_in, begun, new_activation}
+use Rattle.ev_machine.specs.Refs.{Mine, entry_of, follow, severed, severed_at, severed_by, follow_at, led, standing_of, standing_in, host_at, host_in, place, spotted, hosted, waits_lead, led_by_wait, wait_on, wait_unless_cycle, resolve_to, resolve, settle, opened_refs}
 use Rattle.ev_machine.specs.Eval.{opening, closes}
-use Rattle.ev_eval.specs.Reading.{World, names, problems, text_of, value_of, vat_of}
+use Rattle.ev_eval.specs.Reading.{World, names, value_of, vat_of}
 use Rattle.ev_eval.specs.Turn.{opened}
 
 -- what the vat has at the start beside its heap
@@ -18,7 +18,6 @@ unfoldable pub root_world : (ℕ → ℕ) → World
 root_world word = record {
   number = zero;
   drawn = [];
-  things = [];
   lists = [];
   messages = zero;
   promises = zero;

@@ -1,25 +1,24 @@
 -- The lines of the one vat of a run are those that the machine shows.
-use Rattle.std.proofs.Common.{◌≡◌, ℕ, zero, suc, Bool, true, false, List, [], ◌∷◌, ◌++◌, refl, sym, ap, ◌∙◌, map, length, append_assoc, append-nil, codes, string_bytes}
-use Rattle.std.specs.Prelude.{slice_get, unwrap_or, filter, flat_map}
+use Rattle.std.proofs.Common.{◌≡◌, ℕ, zero, List, [], ◌∷◌, ◌++◌, refl, sym, ap, ◌∙◌, map, append_assoc, append-nil}
+use Rattle.std.specs.Prelude.{filter}
 use Rattle.std.proofs.lemmas.List.Elements.{filter-append}
-use Rattle.ev_base.specs.declared.names.Name.TheVariants as name
 use Rattle.ev_base.specs.declared.values.Value.{Value as Held}
 use Rattle.ev_base.specs.declared.values.Value.TheVariants as held
+use Rattle.ev_heap.specs.declared.kept.Capture.{Capture}
+use Rattle.ev_heap.specs.declared.kept.Capture.TheVariants as capture
 use Rattle.ev_heap.specs.declared.happened.Happened.{Happened as Heard}
 use Rattle.ev_heap.specs.declared.happened.Happened.TheVariants as event
 use Rattle.ev_event.specs.declared.event.Event.{Event as ShownEvent}
-use Rattle.ev_event.specs.declared.event.Event.TheVariants.{Open, End}
-use Rattle.ev_event.specs.declared.shown.Shown.{Shown}
-use Rattle.ev_event.specs.Lines.{is_no_frame, render, render_run}
-use Rattle.ev_machine.specs.Values.{Words, Value, Name, Local}
-use Rattle.ev_machine.specs.State.{Bound, Fixed, Slot, Happened, Took, Called, Back, Thrown, Left, Got, SlotMade, SlotRead, SlotWrote, ListMade, ListCame, EjectorMade, AuditionMade, PromiseMade, ObjectMade, Sends, Reacts, Finished, Threw, Settles, Waits, Views, Lost, Posted}
+use Rattle.ev_event.specs.Lines.{is_no_frame}
+use Rattle.ev_machine.specs.Values.{Words, Local}
+use Rattle.ev_machine.specs.State.{Happened, Took, Called, Back, Thrown, Left, Got, SlotMade, SlotRead, SlotWrote, ListMade, ListCame, EjectorMade, AuditionMade, PromiseMade, ObjectMade, Sends, Reacts, Finished, Threw, Settles, Waits, Views, Lost, Posted}
 use Rattle.ev_renaming.specs.Maps as maps
-use Rattle.ev_run.specs.World.{Script, Event, Here, Ends, event_of, events_of, is_cut, cut_in, link_at}
-use Rattle.ev_run.specs.Shown.{shown_value, shown_values, shown_slot, shown_happened, shown_event, shown_name}
+use Rattle.ev_run.specs.World.{Script, Event, event_of, events_of, is_cut, cut_in, link_at}
+use Rattle.ev_run.specs.Shown.{shown_value, shown_values, shown_capture, shown_slot, shown_happened, shown_event, shown_name}
 use Rattle.ev_run.specs.Draws.{draw_word}
 use Rattle.ev_run.specs.Wire.{frame}
 use Rattle.ev_run.specs.Text.{shown_events}
-use Rattle.ev_eval.specs.Reading.{World, problems, text_of, value_of, problem_of, line_of, lines_of}
+use Rattle.ev_eval.specs.Reading.{problems, value_of, problem_of, capture_in, made_line, line_of, lines_of}
 use Rattle.ev_opening_laws.specs.Alone.{name_of}
 use Rattle.ev_vat.specs.Lines.{text_at, shown_held, problem_at}
 use Rattle.ev_vat.specs.Lines as ours
@@ -153,6 +152,29 @@ problem-shown word (held.Prom k) = refl
 problem-shown word (held.Far v p) = refl
 problem-shown word (held.Broken id) = refl
 
+capture-shown : (word : ℕ → ℕ) (c : Capture) → shown_capture zero (maps.bound name_of (capture_in (root_world word) c)) ≡ ours.shown_capture problems c
+unfolding shown_capture
+capture-shown word (capture.Fixed v g) = value-shown word v
+capture-shown word (capture.Slot k) = refl
+
+captures-shown : (word : ℕ → ℕ) (cs : List Capture) → map (shown_capture zero) (map (maps.bound name_of) (map (capture_in (root_world word)) cs)) ≡ map (ours.shown_capture problems) cs
+captures-shown word [] = refl
+captures-shown word (c ∷ cs) = cc (capture-shown word c, captures-shown word cs)
+
+made-shown : (word : ℕ → ℕ) (act : ℕ) (v : Held) (x : Words) (cs : List Capture) (vs : List Held) → all_shown (made_line (root_world word) act v x cs vs) ≡ ours.made_lines problems act v x cs vs
+unfolding all_shown shown_of shown_happened shown_name name_of
+made-shown word act (held.Obj i) x cs vs = rw (captures-shown word cs, values-shown word vs) refl
+made-shown word act held.Null x cs vs = refl
+made-shown word act (held.Bool b) x cs vs = refl
+made-shown word act (held.Int z) x cs vs = refl
+made-shown word act (held.Char c) x cs vs = refl
+made-shown word act (held.Text id) x cs vs = refl
+made-shown word act (held.List id) x cs vs = refl
+made-shown word act (held.Prim n) x cs vs = refl
+made-shown word act (held.Prom k) x cs vs = refl
+made-shown word act (held.Far h p) x cs vs = refl
+made-shown word act (held.Broken id) x cs vs = refl
+
 line-shown : (word : ℕ → ℕ) (e : Heard) → all_shown (line_of (root_world word) e) ≡ ours.lines problems e
 unfolding line_of all_shown shown_of shown_happened shown_slot
 line-shown word (event.Call act target verb args begun) = rw (value-shown word target, values-shown word args) refl
@@ -161,6 +183,7 @@ line-shown word (event.Thrown act p) = rw (problem-shown word p) refl
 line-shown word (event.Slot act k v) = rw (value-shown word v) refl
 line-shown word (event.Read act k v) = rw (value-shown word v) refl
 line-shown word (event.Wrote act k v) = rw (value-shown word v) refl
+line-shown word (event.Made act v x cs vs) = made-shown word act v x cs vs
 line-shown word _ = refl
 
 pub lines-shown : (word : ℕ → ℕ) (es : List Heard) → all_shown (lines_of (root_world word) es) ≡ ours.lines_of problems es

@@ -1,6 +1,6 @@
 -- The text that the code makes is that of the machine's run.
-use Rattle.std.proofs.Common.{◌≡◌, ℕ, zero, suc, Bool, true, false, List, [], ◌∷◌, ◌++◌, Option, Some, None, Ok, Err, IfOk, refl, sym, ap, ◌∙◌, map, length, append_assoc, append-nil, codes, string_bytes, subst}
-use Rattle.std.specs.Prelude.{Result, filter, flat_map}
+use Rattle.std.proofs.Common.{◌≡◌, ℕ, zero, suc, true, List, [], ◌∷◌, ◌++◌, Some, Ok, Err, IfOk, refl, sym, ap, ◌∙◌, map, append_assoc, append-nil, string_bytes}
+use Rattle.std.specs.Prelude.{Result}
 use Rattle.std.specs.Fmt.{digits}
 use Rattle.ev_base.specs.declared.memory.Memory.{Memory}
 use Rattle.std.proofs.lemmas.List.Elements.{filter-append}
@@ -14,17 +14,17 @@ use Rattle.ev_event.specs.declared.shown.Shown as shown
 use Rattle.ev_base.specs.declared.names.Name.TheVariants as global
 use Rattle.ev_event.specs.Lines.{is_no_frame, render, render_run}
 use Rattle.ev_kernel.specs.declared.node.Node.{Node}
-use Rattle.ev_machine.specs.Values.{Words, Value, Broken, Ref, Name, Local, Prom, numbering, naming}
+use Rattle.ev_machine.specs.Values.{Words, Value, Broken, Ref, Name, Local, Prom}
 use Rattle.ev_machine.specs.State.{Happened, Finished, Threw, Settles, Standing, Unsettled, WaitsOn, Viewed, Settled, Known, Vat, Done, Gives, Throws, Ejects, Stops, Stop, Fuel, Deep, Astray, begun, end_by as end_machine, stop}
 use Rattle.ev_renaming.specs.Maps as maps
 use Rattle.ev_renaming.specs.Stands.{Found, Is, found, prom_found}
 use Rattle.ev_run.specs.Draws.{draw_word}
 use Rattle.ev_run.specs.Shown.{shown_value, shown_name, shown_happened}
-use Rattle.ev_run.specs.World.{Script, Run, Event, Opens, Ends as Closes, Goes, Stopped, run, events_of, then_goes, put_back, begins, links_from, links_to, fresh_from, push_all, put_at, close, left_vats, left_vat, left_held, left_wait, left_links}
+use Rattle.ev_run.specs.World.{Script, Event, Opens, Ends as Closes, Stopped, run, events_of, then_goes, put_back, begins, links_from, links_to, fresh_from, push_all, put_at, close, left_vats, left_vat, left_held, left_wait, left_links}
 use Rattle.ev_run.specs.Text.{text, stop_line, stop_text, history_of, vat_names, shown_events, opened_text}
 use Rattle.ev_eval.specs.declared.turn.Ended.{Ended}
 use Rattle.ev_eval.specs.declared.turn.Ended.TheVariants as ended
-use Rattle.ev_eval.specs.Reading.{World, names, problems, text_of, value_of, lines_of, vat_of}
+use Rattle.ev_eval.specs.Reading.{World, all_promises, names, problems, text_of, value_of, lines_of, vat_of}
 use Rattle.ev_eval.specs.Turn.{Ends, opened}
 use Rattle.ev_opening_laws.specs.Alone.{alone, start, opened_alone, name_of, NamesNothing, run_of_step}
 use Rattle.ev_opening_laws.proofs.Numbered.{root_alone, named_opening, found_names, runs_alone}
@@ -35,7 +35,7 @@ use Rattle.ev_vat.specs.Ends.{Tells, end_of}
 use Rattle.ev_vat.specs.Lines.{text_at, shown_held, settled, history, done_lines, threw_lines, text_by, end_by}
 use Rattle.ev_vat.specs.Lines as ours
 use Rattle.ev_vat.proofs.Closing.{root_world, after, closed, waiting, target, finishes, breaks, opening-ends, breaks-closes, IsRootOrNone, finishes-closes, finishes-waits}
-use Rattle.ev_vat.proofs.Shows.{shown_of, one_line, all_shown, all_shown-append, shown_events-append, events-shown, no_frames, value-shown, lines-shown}
+use Rattle.ev_vat.proofs.Shows.{shown_of, one_line, all_shown, all_shown-append, shown_events-append, events-shown, no_frames, lines-shown}
 
 -- the history of a run that came to its end, where that happened in its one turn
 ended_history : List (Happened Local) → List Event
@@ -227,12 +227,12 @@ module _ (key : List ℕ) (fuel depth : ℕ) (name : Words) (tree : List Node) (
 -- the vat begins with the texts of the problems, and its texts stay
 module _ (fuel depth : ℕ) (name : Words) (tree : List Node) (before after_turn : Contents) (micro left : Micro) (e : Ended)
     (begins_so : before ≡ record nothing { texts = problems }) (fuel_so : micro ≡ record { fuel = fuel; events = [] }) (texts_so : after_turn.texts ≡ before.texts)
-    (ends : (w : World) → before.texts ≡ problems ++ w.texts → Ends w (Ok e) after_turn left (opened (names w) tree depth (vat_of w before micro))) where
+    (ends : (w : World) → before.texts ≡ problems ++ w.texts → all_promises w.known ≡ true → Ends w (Ok e) after_turn left (opened (names w) tree depth (vat_of w before micro))) where
   so : (key : List ℕ) → (text_by name problems left.events e ≡ text (alone key fuel depth name tree) (run (alone key fuel depth name tree))) × (end_of (run (alone key fuel depth name tree)) ≡ Some (end_by e))
-  unfolding root_world vat_of lines_of start
+  unfolding root_world vat_of lines_of start begun
   so key =
       let same : before.texts ≡ problems = ap (λ (h : Contents). h.texts) begins_so in
-      let x = ends (root_world (draw_word key)) (same ∙ sym (append-nil problems)) in
+      let x = ends (root_world (draw_word key)) (same ∙ sym (append-nil problems)) refl in
       run-is key fuel depth name tree after_turn left e (rw (begins_so, fuel_so) at x)
 
   pub told-text : (r : Result Told Memory) → IfOk r (λ told. Tells told (end_by e) (text_by name after_turn.texts left.events e))

@@ -6,10 +6,12 @@ use Rattle.ev_base.specs.declared.values.Value.TheVariants as held
 use Rattle.ev_eval.specs.declared.turn.Ended.{Ended}
 use Rattle.ev_eval.specs.declared.turn.Ended.TheVariants as ended
 use Rattle.ev_event.specs.declared.event.Event.{Event}
-use Rattle.ev_event.specs.declared.event.Event.TheVariants.{Open, Call, Back, Thrown, Slot, Read, Wrote, Done, Threw, Settle, End}
+use Rattle.ev_event.specs.declared.event.Event.TheVariants.{Open, Call, Back, Thrown, Slot, Read, Wrote, Made, Done, Threw, Settle, End}
 use Rattle.ev_event.specs.declared.shown.Shown.{Shown}
 use Rattle.ev_event.specs.declared.shown.Shown as shown
 use Rattle.ev_event.specs.Lines.{render}
+use Rattle.ev_heap.specs.declared.kept.Capture.{Capture}
+use Rattle.ev_heap.specs.declared.kept.Capture.TheVariants as capture
 use Rattle.ev_heap.specs.declared.happened.Happened.{Happened}
 use Rattle.ev_heap.specs.declared.happened.Happened.TheVariants as event
 use Rattle.ev_vat.specs.declared.told.RunEnd.{RunEnd}
@@ -41,6 +43,17 @@ abbrev pub problem_at : List (List ℕ) → Held → List ℕ
 problem_at texts (held.Text id) = text_at texts id
 problem_at texts _ = []
 
+-- what an object holds of a name
+abbrev pub shown_capture : List (List ℕ) → Capture → Shown
+shown_capture texts (capture.Fixed v g) = shown_held texts v
+shown_capture texts (capture.Slot k) = shown.Slot 0 k
+
+-- the line of an object, which is no other value
+abbrev pub made_lines : List (List ℕ) → ℕ → Held → List ℕ → List Capture → List Held → List Event
+made_lines texts act (held.Obj i) x caps stamps =
+    Made (record { activation = act; object = shown.Name (name.Object 0 i); name = x; caps = map (shown_capture texts) caps; stamps = map (shown_held texts) stamps }) ∷ []
+made_lines texts act _ x caps stamps = []
+
 -- the line of what happened, where it is of a kind that evaluation tells
 abbrev pub lines : List (List ℕ) → Happened → List Event
 lines texts (event.Call act target verb args begun) =
@@ -50,6 +63,7 @@ lines texts (event.Thrown act p) = Thrown act (shown.Text (problem_at texts p)) 
 lines texts (event.Slot act k v) = Slot act (0, k) (shown_held texts v) ∷ []
 lines texts (event.Read act k v) = Read act (0, k) (shown_held texts v) ∷ []
 lines texts (event.Wrote act k v) = Wrote act (0, k) (shown_held texts v) ∷ []
+lines texts (event.Made act object x caps stamps) = made_lines texts act object x caps stamps
 lines texts _ = []
 
 abbrev pub lines_of : List (List ℕ) → List Happened → List Event

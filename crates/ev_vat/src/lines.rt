@@ -1,13 +1,15 @@
 //! The lines of a turn.
 
 ghost use Rattle.std.specs.Prelude.{◌≡◌, ◌++◌, IfOk, OnOk, map};
-ghost use Rattle.ev_event.specs.declared.event.Event.TheVariants.{Call};
-ghost use Rattle.ev_vat.specs.Lines.{done_lines, lines, lines_of, shown_held, threw_lines};
+ghost use Rattle.ev_event.specs.declared.event.Event.TheVariants.{Call, Made};
+ghost use Rattle.ev_event.specs.declared.shown.Shown as shown_as;
+ghost use Rattle.ev_base.specs.declared.names.Name.TheVariants as name_as;
+ghost use Rattle.ev_vat.specs.Lines.{done_lines, lines, lines_of, made_lines, shown_capture, shown_held, threw_lines};
 
-use crate::shown::{VAT, copied, problem, settled, shown, shown_all};
-use ev_base::{ActId, Memory, Name, Str, TextId, Value};
-use ev_event::{Boxed, Called, Event, History, Shown};
-use ev_heap::{Happened, Heap};
+use crate::shown::{VAT, caught_all, copied, problem, settled, shown, shown_all};
+use ev_base::{ActId, Memory, Name, ObjId, Str, TextId, Value};
+use ev_event::{Boxed, Called, Event, History, MadeObject, Shown};
+use ev_heap::{Capture, Happened, Heap};
 use std::alloc::Global;
 
 /// The number of an activation.
@@ -40,6 +42,49 @@ fn call_line(
         begun: number(begun),
     };
     Ok(Event::Call(Boxed::new(alloc, called)?))
+}
+
+/// The line of an object that was made.
+fn object_line(
+    alloc: Global,
+    heap: &Heap,
+    activation: ActId,
+    object: ObjId,
+    name: &str,
+    caps: &[Capture],
+    stamps: &[Value],
+) -> Result<Event, Memory>
+    ensures { IfOk result (λ line. line ≡ Made (record { activation = activation; object = shown_as.Name (name_as.Object 0 object); name = name.now; caps = map (shown_capture heap.now.texts) caps.now; stamps = map (shown_held heap.now.texts) stamps.now })) }
+{
+    let made = MadeObject {
+        activation: activation.0,
+        object: Shown::Name(Name::Object(VAT, object.0)),
+        name: Str::copy_of(alloc, name)?,
+        caps: caught_all(alloc, heap, caps)?,
+        stamps: shown_all(alloc, heap, stamps)?,
+    };
+    Ok(Event::Made(Boxed::new(alloc, made)?))
+}
+
+/// Adds the line of an object, which is no other value.
+fn push_made(
+    alloc: Global,
+    heap: &Heap,
+    activation: ActId,
+    object: Value,
+    name: &str,
+    caps: &[Capture],
+    stamps: &[Value],
+    history: &mut History,
+) -> Result<(), Memory>
+    ensures { OnOk result (history.new ≡ history.old ++ made_lines heap.now.texts activation object name.now caps.now stamps.now) }
+{
+    match object {
+        Value::Obj(id) => history.push(object_line(
+            alloc, heap, activation, id, name, caps, stamps,
+        )?),
+        _ => Ok(()),
+    }
 }
 
 /// Adds the line of what happened, where it is of a kind that evaluation tells.
@@ -89,6 +134,22 @@ fn push_line(
             (VAT, id.0),
             shown(alloc, heap, *value)?,
         )),
+        Happened::Made {
+            activation,
+            object,
+            name,
+            caps,
+            stamps,
+        } => push_made(
+            alloc,
+            heap,
+            *activation,
+            *object,
+            name.as_str(),
+            caps.as_slice(),
+            stamps.as_slice(),
+            history,
+        ),
         _ => Ok(()),
     }
 }

@@ -1,11 +1,11 @@
 //! What the one vat of a run holds, by its global names.
 
 ghost use Rattle.std.specs.Prelude.{◌≡◌, IfOk, map};
-ghost use Rattle.ev_vat.specs.Lines.{problem_at, settled, shown_held, text_at};
+ghost use Rattle.ev_vat.specs.Lines.{problem_at, settled, shown_capture, shown_held, text_at};
 
 use ev_base::{Memory, Name, Seq, Str, TextId, Value, VatId};
 use ev_event::Shown;
-use ev_heap::Heap;
+use ev_heap::{Capture, Heap};
 use std::alloc::Global;
 
 /// The one vat of the run.
@@ -47,6 +47,31 @@ pub(crate) fn shown_all(alloc: Global, heap: &Heap, values: &[Value]) -> Result<
     let mut all = Seq::new(alloc);
     for value in values {
         all.push(shown(alloc, heap, *value)?)?;
+    }
+    Ok(all)
+}
+
+/// What an object holds of a name.
+fn caught(alloc: Global, heap: &Heap, capture: Capture) -> Result<Shown, Memory>
+    ensures { IfOk result (λ s. s ≡ shown_capture heap.now.texts capture) }
+{
+    match capture {
+        Capture::Fixed { value, guard: _ } => shown(alloc, heap, value),
+        Capture::Slot(id) => Ok(Shown::Slot(VAT, id.0)),
+    }
+}
+
+/// What an object holds of its names.
+pub(crate) fn caught_all(
+    alloc: Global,
+    heap: &Heap,
+    captures: &[Capture],
+) -> Result<Seq<Shown>, Memory>
+    ensures { IfOk result (λ all. all ≡ map (shown_capture heap.now.texts) captures.now) }
+{
+    let mut all = Seq::new(alloc);
+    for capture in captures {
+        all.push(caught(alloc, heap, *capture)?)?;
     }
     Ok(all)
 }
