@@ -20,7 +20,7 @@ use Rattle.ev_top.specs.Words.{line}
 use Rattle.ev_top.specs.Debt.{IsFor, most_bytes, too_long}
 use Rattle.ev_top.specs.Script.{script_from}
 use Rattle.ev_top.specs.Programs.{IsDueOfFault}
-use Rattle.ev_top.specs.Expansion.{text_from, IsDueOfText, IsDueOfForm}
+use Rattle.ev_top.specs.Expansion.{text_from, nameless, IsDueOfText, IsDueOfForm}
 use Rattle.ev_top.specs.Due.{IsDue, IsDueOfBytes, IsDueOfScript, IsDueOfSource, IsDueOfTree, IsDueOfVats, IsOfWhole, IsOfRead, Finishes, Pays, PaysWith, due_of_run}
 use Rattle.ev_top.specs.Machine.{program, machine_script}
 use Rattle.ev_top.specs.declared.command.Command.{Command}
@@ -36,7 +36,7 @@ of_fault name faults.Memory status text due = absurd due
 
 of_form : (answer : Result Scoped ProgramFault) (status : Status) (text : List ℕ) → IsDueOfForm answer status text → IsOfWhole status
 of_form (Ok scoped) status text due = subst IsOfWhole (sym due.0) tt
-of_form (Err fault) status text due = of_fault _ fault status text due
+of_form (Err fault) status text due = of_fault nameless fault status text due
 
 of_text : (found : Result (List ℕ) ℕ) (status : Status) (text : List ℕ) → IsDueOfText found status text → IsOfWhole status
 of_text (Ok program) status text due = of_form due.0 status text due.2

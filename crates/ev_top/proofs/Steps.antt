@@ -4,7 +4,7 @@ use Rattle.ev_kernel.specs.declared.node.Node.{Node}
 use Rattle.ev_machine.specs.Values.{Name}
 use Rattle.ev_machine.specs.State.{Done as Outcome, Gives, Throws, Ejects, Stops, Fuel, Deep, Repeated, Astray}
 use Rattle.ev_run.specs.World as machine
-use Rattle.ev_run.specs.World.{World, Script, Event, run, Goes, Stopped, then_goes, put_back, open_from, steps_from, close, opened_world}
+use Rattle.ev_run.specs.World.{World, Script, Event, run, Goes, Stopped, then_goes, put_back, begins, Opens, close}
 use Rattle.ev_run.specs.Text.{text as machine_text, opened_text}
 use Rattle.ev_opening_laws.specs.Alone.{alone}
 use Rattle.ev_vat.specs.Ends.{end_of}
@@ -28,7 +28,7 @@ after_step script w head (Stops c s) = refl
 
 pub stops_first : (key : List ℕ) (fuel depth : ℕ) (name : List ℕ) (tree : List Node) → StopsFirst (run (alone key fuel depth name tree))
 unfolding opened_text
-stops_first key fuel depth name tree = after_step (alone key fuel depth name tree) _ _ _
+stops_first key fuel depth name tree = after_step (alone key fuel depth name tree) (begins (alone key fuel depth name tree)) (Opens zero ∷ []) _
 
 -- its end tells what is due
 told_end : (name text : List ℕ) (r : machine.Run) (e : RunEnd) → StopsFirst r → end_of r ≡ Some e → due_by name text e ≡ due_of_run name text r

@@ -17,14 +17,13 @@ use ev_eval::is_built;
 use ev_kernel::Kernel;
 use ev_reader::read_program;
 use ev_script::{ScriptFault, VatScript};
-use ev_vat::{RunEnd, Told, run_program};
+use ev_vat::{RunEnd, run_program};
 use std::alloc::Global;
 
 /// The greatest depth at which a node begins.
 const GREATEST_DEPTH: u32 = 400;
 
 /// The run of no vat, whatever the key and the fuel of the script.
-#[tactic(auto, using(crate::proofs::Empty::due_empty))]
 fn reply_empty(alloc: Global) -> Result<Reply, Memory>
     ensures { (key : List ℕ) (fuel : ℕ) → IfOk result (λ reply. IsDueOfVats key fuel [] reply.status (string_bytes reply.text)) }
 {
@@ -47,22 +46,23 @@ fn reply_unbuilt(alloc: Global, name: &str) -> Result<Reply, Memory>
     })
 }
 
-/// The run of a program that was told, or the refusal of one whose run went astray. A run of one vat has one step, of number 0.
-fn reply_told(alloc: Global, name: &str, told: Told) -> Result<Reply, Memory>
-    ensures { IfOk result (λ reply. IsFor reply.status (string_bytes reply.text) (due_by name.now (string_bytes told.text) told.end)) }
+/// The run of a program that ended so, with its text, or the refusal of one whose run went astray. A run of one vat has one step, of
+/// number 0.
+fn reply_told(alloc: Global, name: &str, end: RunEnd, text: String) -> Result<Reply, Memory>
+    ensures { IfOk result (λ reply. IsFor reply.status (string_bytes reply.text) (due_by name.now (string_bytes text) end)) }
 {
-    match told.end {
+    match end {
         RunEnd::Done => Ok(Reply {
             status: Status::Done,
-            text: told.text,
+            text,
         }),
         RunEnd::FuelSpent => Ok(Reply {
             status: Status::FuelSpent(0),
-            text: told.text,
+            text,
         }),
         RunEnd::TooDeep => Ok(Reply {
             status: Status::TooDeep(0),
-            text: told.text,
+            text,
         }),
         RunEnd::Astray => reply_unbuilt(alloc, name),
     }
@@ -78,7 +78,7 @@ fn reply_run(alloc: Global, fuel: u32, name: &str, tree: &Kernel) -> Result<Repl
         depth: GREATEST_DEPTH,
     };
     let told = run_program(alloc, name, tree, fuel, limits)?;
-    reply_told(alloc, name, told)
+    reply_told(alloc, name, told.end, told.text)
 }
 
 /// The run of a tree, if it is built, and else its refusal.

@@ -1,0 +1,7 @@
+use Rattle.std.proofs.Common.{string_bytes}
+use Rattle.std.proofs.lemmas.Result.{IfOk-weaker}
+use Rattle.ev_top.proofs.Empty.{due_empty}
+use Rattle.ev_top.proofs.run.reply_empty.Goals as goal
+
+pub returns : goal.returns
+returns c = λ key fuel. IfOk-weaker c.reply_line.result _ _ (λ reply due. due_empty key fuel reply.status (string_bytes reply.text) due) c.reply_line.ensures
