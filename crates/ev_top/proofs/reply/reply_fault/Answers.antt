@@ -10,9 +10,9 @@ use Rattle.ev_top.specs.declared.status.Status.TheVariants.{ProgramRefused}
 use Rattle.ev_top.proofs.reply.reply_fault.Goals as goal
 
 at_fault : (name : List ℕ) (fault : ProgramFault) (part : Part) (kind place : ℕ) (status : Status) (text : List ℕ) → fault ≡ At part kind place
-    → status ≡ ProgramRefused (refusal part kind place) → text ≡ line (codes "refused program " ++ name ++ 32 ∷ fault_text fault) → IsDueOfFault name fault status text
+    → status ≡ ProgramRefused (refusal part kind place) → text ≡ line (codes "refused program " ++ name ++ 32 ∷ fault_text (At part kind place)) → IsDueOfFault name fault status text
 at_fault name fault part kind place status text e same told =
-    subst (λ (f : ProgramFault). text ≡ line (codes "refused program " ++ name ++ 32 ∷ fault_text f) → IsDueOfFault name f status text) (sym e) (λ t. (same, t)) told
+    subst (λ (f : ProgramFault). IsDueOfFault name f status text) (sym e) (same, told)
 
 pub returns : goal.returns
 returns c =
