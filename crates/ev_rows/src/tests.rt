@@ -108,7 +108,8 @@ fn sources(rt: HostRuntime) -> Result<(), Fail> {
 #[test]
 fn objects(rt: HostRuntime) -> Result<(), Fail> {
     let alloc = rt.alloc();
-    let shared = "open a\n!0 slot a&0 0\n!0 made a.0 up caps a&0\n!0 made a.1 get caps a&0\n!0 call a.0 run as !1\n!1 read a&0 0\n!1 call 0 add 1\n!1 back 1\n!1 wrote a&0 1\n!0 back 1\n!0 call a.1 run as !2\n!2 read a&0 1\n!0 back 1\n!0 done 1\nsettle @a 1\nend\n";
+    let shared =
+        "open a\n!0 slot a&0 0\n!0 made a.0 up caps a&0\n!0 made a.1 get caps a&0\n!0 call a.0 run as !1\n!1 read a&0 0\n!1 call 0 add 1\n!1 back 1\n!1 wrote a&0 1\n!0 back 1\n!0 call a.1 run as !2\n!2 read a&0 1\n!0 back 1\n!0 done 1\nsettle @a 1\nend\n";
     let rows = [
         (
             "var n := 0; def up { method run() { n += 1 } }; def get { method run() { n } }; up(); get()",
