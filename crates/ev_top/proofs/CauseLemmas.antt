@@ -1,5 +1,5 @@
 -- Why a status is due.
-use Rattle.std.proofs.Common.{◌≡◌, ◌≢◌, ◌⊎◌, inl, inr, ◌<◌, ◌≤◌, ℕ, nat_lt, length, List, [], ◌∷◌, Bool, true, false, cond, Option, Some, None, IfSome, IsSome, Result, Ok, Err, refl, sym, ap, subst, arith, ◌∙◌}
+use Rattle.std.proofs.Common.{◌≡◌, ◌≢◌, ◌⊎◌, inl, inr, ◌<◌, ◌≤◌, ℕ, nat_lt, length, List, [], ◌∷◌, Bool, true, false, Option, Some, None, IfSome, Result, Ok, Err, refl, sym, ap, subst, arith, ◌∙◌}
 use Rattle.std.proofs.lemmas.Bool.Decides.{nat_tests}
 use Rattle.ev_eval.specs.Built.{is_built}
 use Rattle.ev_machine.specs.State.{Fuel, Deep, Repeated, Astray}
@@ -14,7 +14,7 @@ use Rattle.ev_reader.specs.declared.fault.ProgramFault.{ProgramFault}
 use Rattle.ev_reader.specs.declared.fault.ProgramFault.TheVariants as faults
 use Rattle.ev_reader.specs.declared.fault.Stage.{Stage as Part}
 use Rattle.ev_reader.specs.declared.fault.Stage.TheVariants as parts
-use Rattle.ev_top.specs.Debt.{Debt, IsFor, most_bytes, too_long}
+use Rattle.ev_top.specs.Debt.{Debt, most_bytes}
 use Rattle.ev_top.specs.Script.{script_from}
 use Rattle.ev_top.specs.Programs.{safe_names, refusal, stage_of, IsDueOfFault}
 use Rattle.ev_top.specs.Expansion.{text_from, nameless, IsDueOfText, IsDueOfForm}

@@ -1,5 +1,5 @@
 -- What is due for a command, by how many bytes there are, and what pays for it.
-use Rattle.std.proofs.Common.{◌≡◌, ◌⊎◌, inl, inr, ◌<◌, ◌≤◌, ℕ, ◌+◌, nat_lt, length, length-append, List, [], ◌∷◌, ◌++◌, append-nil, ap, ◌∙◌, codes, Bool, true, false, Option, Some, None, IfSome, IsSome, Result, Ok, Err, refl, sym, subst, arith}
+use Rattle.std.proofs.Common.{◌≡◌, inl, inr, ◌<◌, ◌≤◌, ℕ, ◌+◌, nat_lt, length, length-append, List, [], ◌∷◌, ◌++◌, append-nil, ap, ◌∙◌, codes, Bool, true, false, Option, Some, None, IfSome, IsSome, Result, Ok, Err, refl, sym, subst, arith}
 use Rattle.std.specs.Io.KnownBytes.{IsAtEnd}
 use Rattle.std.proofs.KnownBytes.{Appends-nil}
 use Rattle.ev_io.specs.Ends.{Takes}
@@ -51,7 +51,7 @@ of_end name text (Stopped Astray step w) = tt
 
 of_tree : (built : Bool) (key : List ℕ) (fuel : ℕ) (name : List ℕ) (tree : List Node) (status : Status) (text : List ℕ)
     → IsDueOfTree built key fuel name tree status text → IsOfWhole status
-of_tree true key fuel name tree status text due = 
+of_tree true key fuel name tree status text due =
     let script = machine_script key fuel (program name tree ∷ []) in subst IsOfWhole (sym due.0) (of_end name (machine_text script (run script)) (run script))
 of_tree false key fuel name tree status text due = subst IsOfWhole (sym due.0) tt
 

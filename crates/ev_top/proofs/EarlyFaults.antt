@@ -1,5 +1,5 @@
 -- A text with a fault before its expansion is read to that fault alone.
-use Rattle.std.proofs.Common.{◌≡◌, ◌⊎◌, inl, inr, ◌<◌, ◌≤◌, ℕ, zero, suc, List, [], ◌∷◌, ◌++◌, length, take, drop, Result, Ok, Err, Option, refl, sym, ap, subst, arith, ◌∙◌, append_assoc}
+use Rattle.std.proofs.Common.{◌≡◌, ◌⊎◌, inl, inr, ◌<◌, ◌≤◌, ℕ, zero, suc, List, [], ◌∷◌, ◌++◌, length, take, drop, Result, Ok, Err, refl, sym, ap, subst, arith, ◌∙◌, append_assoc}
 use Rattle.std.proofs.lemmas.Bool.{cases_lt}
 use Rattle.std.proofs.lemmas.List.{take-append-drop}
 use Rattle.ev_token.specs.declared.token.Token.{Token}
@@ -10,7 +10,7 @@ use Rattle.ev_grammar.specs.Exact.{Viable, IsFirstBad}
 use Rattle.ev_grammar.proofs.Verdicts.{one_tree}
 use Rattle.ev_lexer.specs.Lexed.{lexed}
 use Rattle.ev_parser.specs.Parsed.{IsParsed, numbered}
-use Rattle.ev_parser.specs.declared.parser.ParseFault.TheVariants.{NoSpelling, TooNested}
+use Rattle.ev_parser.specs.declared.parser.ParseFault.TheVariants.{TooNested}
 use Rattle.ev_sugar.specs.declared.sugar.Sugar.{Sugar}
 use Rattle.ev_scope.specs.declared.accepted.Scoped.{Scoped}
 use Rattle.ev_reader.specs.Program.{Answers, Spells}

@@ -1,11 +1,10 @@
 -- Why each answer comes.
-use Rattle.std.specs.Prelude.{◌≡◌, ◌⊎◌, ◌<◌, ◌≤◌, ℕ, true, false, List, [], ◌∷◌, length, Some, None, IsSome, Result, Ok, Err}
+use Rattle.std.specs.Prelude.{◌≡◌, ◌⊎◌, ◌<◌, ◌≤◌, ℕ, true, false, List, [], ◌∷◌, length, Some, None, IsSome, Ok, Err}
 use Rattle.std.specs.declared.option.Option.{Option}
 use Rattle.ev_eval.specs.Built.{is_built}
 use Rattle.ev_machine.specs.State.{Stop, Fuel, Deep, Repeated, Astray}
 use Rattle.ev_reader.specs.Program.{Answers}
-use Rattle.ev_reader.specs.declared.fault.ProgramFault.{ProgramFault}
-use Rattle.ev_reader.specs.declared.fault.ProgramFault.TheVariants.{At, Memory as NoMemory}
+use Rattle.ev_reader.specs.declared.fault.ProgramFault.TheVariants.{At}
 use Rattle.ev_reader.specs.declared.fault.Stage.{Stage as Part}
 use Rattle.ev_reader.specs.declared.fault.Stage.TheVariants as parts
 use Rattle.ev_run.specs.World.{run, Run as Machine, World, Goes, Stopped}

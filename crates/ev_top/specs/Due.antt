@@ -1,10 +1,10 @@
 -- What a call owes: its status and its text, by its command and the bytes that were read.
-use Rattle.std.specs.Prelude.{◌≡◌, ◌⊎◌, ◌≤◌, ◌+◌, ℕ, Bool, true, false, nat_lt, List, [], ◌∷◌, ◌++◌, length, codes, Some, None, IsSome, Result, Ok, Err}
+use Rattle.std.specs.Prelude.{◌≡◌, ◌⊎◌, ◌≤◌, ◌+◌, ℕ, Bool, true, false, nat_lt, List, [], ◌∷◌, length, codes, Some, None, IsSome, Result, Ok, Err}
 use Rattle.std.specs.declared.option.Option.{Option}
 use Rattle.std.specs.Io.KnownBytes.{Appends, Consumes}
 use Rattle.ev_eval.specs.Built.{is_built}
 use Rattle.ev_kernel.specs.declared.node.Node.{Node}
-use Rattle.ev_machine.specs.State.{Stop, Fuel, Deep, Repeated, Astray}
+use Rattle.ev_machine.specs.State.{Fuel, Deep, Repeated, Astray}
 use Rattle.ev_reader.specs.declared.fault.ProgramFault.{ProgramFault}
 use Rattle.ev_run.specs.World as machine
 use Rattle.ev_run.specs.World.{run, Goes, Stopped}

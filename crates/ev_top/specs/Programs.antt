@@ -1,5 +1,5 @@
 -- Programs: the names that they are given, what they are read as, and how one is refused.
-use Rattle.std.specs.Prelude.{◌≡◌, ℕ, List, ◌∷◌, codes, Result, Ok, Err}
+use Rattle.std.specs.Prelude.{ℕ, List, ◌∷◌, codes, Result}
 use Rattle.ev_base.specs.SafeScope.{primitives}
 use Rattle.ev_scope.specs.declared.accepted.Scoped.{Scoped}
 use Rattle.ev_reader.specs.Program.{Answers}

@@ -1,6 +1,6 @@
-use Rattle.std.proofs.Common.{◌≡◌, string_bytes, sym, subst, Some, Option, IfSome, List, ℕ}
+use Rattle.std.proofs.Common.{string_bytes, subst, Some, Option, IfSome, List, ℕ}
 use Rattle.ev_top.specs.Commands.{command_of}
-use Rattle.ev_top.specs.Due.{IsDue, Pays, Finishes}
+use Rattle.ev_top.specs.Due.{Pays, Finishes}
 use Rattle.ev_top.specs.declared.command.Command.{Command}
 use Rattle.ev_top.proofs.DueLemmas.{plain, pays_left, pays_usage}
 use Rattle.ev_top.proofs.program.answer.Goals as goal

@@ -1,4 +1,4 @@
-use Rattle.std.proofs.Common.{◌≡◌, string_bytes, subst, Some, List, ℕ}
+use Rattle.std.proofs.Common.{string_bytes, subst, Some, List, ℕ}
 use Rattle.ev_top.specs.Due.{IsDue}
 use Rattle.ev_top.proofs.DueLemmas.{due_read}
 use Rattle.ev_top.proofs.program.reply_to.Goals as goal

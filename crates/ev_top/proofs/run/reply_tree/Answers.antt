@@ -7,5 +7,5 @@ pub returns-then-is_built : goal.returns-then-is_built
 returns-then-is_built c = λ key.
     IfOk-weaker c.reply_run.result _ _
     (λ reply due. subst (λ (built : Bool). IsDueOfTree built key c.args.fuel c.args.name.now c.args.tree.now reply.status (string_bytes reply.text))
-        (sym c.if-is_built.true ∙ c.is_built.ensures) due)
+    (sym c.if-is_built.true ∙ c.is_built.ensures) due)
     (c.reply_run.ensures key)

@@ -1,4 +1,4 @@
-use Rattle.std.proofs.Common.{◌≡◌, ◌<◌, ◌≤◌, ℕ, List, [], ◌∷◌, length, get_or, string_bytes, refl, sym, ap, subst, arith}
+use Rattle.std.proofs.Common.{◌≡◌, ◌<◌, ◌≤◌, List, [], ◌∷◌, length, get_or, string_bytes, refl, sym, ap, subst, arith}
 use Rattle.std.proofs.lemmas.Result.{IfOk-weaker}
 use Rattle.ev_script.specs.declared.script.VatScript.{VatScript}
 use Rattle.ev_top.specs.Due.{IsDueOfVats}
@@ -16,7 +16,7 @@ pub returns-in-empty : goal.returns-in-empty
 returns-in-empty c = λ key.
     IfOk-weaker c.reply_empty.result _ _
     (λ reply due. subst (λ (vats : List VatScript). IsDueOfVats key c.args.fuel vats reply.status (string_bytes reply.text))
-        (sym (none c.args.vats.now c.in-empty.len_below)) due)
+    (sym (none c.args.vats.now c.in-empty.len_below)) due)
     (c.reply_empty.ensures key c.args.fuel)
 
 pub returns-in-len1-up : goal.returns-in-len1-up

@@ -11,5 +11,5 @@ returns-in-Ok c =
     let fuel = c.in-Ok.script.fuel in
     IfOk-weaker c.reply_vats.result _ _
     (λ reply due. subst (λ (found : Result Script ℕ). IsDueOfScript found reply.status (string_bytes reply.text)) (sym c.in-Ok.ensures)
-        (subst (λ (vats : List VatScript). IsDueOfVats key fuel vats reply.status (string_bytes reply.text)) c.as_slice.ensures due))
+    (subst (λ (vats : List VatScript). IsDueOfVats key fuel vats reply.status (string_bytes reply.text)) c.as_slice.ensures due))
     (c.reply_vats.ensures key)
