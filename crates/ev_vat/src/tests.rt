@@ -1,29 +1,34 @@
-use crate::{RunEnd, Told, run_program};
+use crate::{RunEnd, run_program};
 use ev_base::Limits;
+use ev_eval::is_built;
 use ev_kernel::read_form;
 use std::alloc::Global;
 use std::test::Fail;
 
-/// The run of a form in the vat `a`.
-fn run(alloc: Global, form: &str, fuel: u32, depth: u32) -> Result<Told, Fail> {
+/// How the run of a form in the vat `a` ends, and its text; nothing of a form with a node that is not built.
+fn run(alloc: Global, form: &str, fuel: u32, depth: u32) -> Result<(Option<RunEnd>, String), Fail> {
     let program = read_form(alloc, form)?;
-    Ok(run_program(alloc, "a", &program, fuel, Limits { depth })?)
+    if !is_built(&program) {
+        return Ok((None, String::new(alloc)));
+    }
+    let told = run_program(alloc, "a", &program, fuel, Limits { depth })?;
+    Ok((Some(told.end), told.text))
 }
 
 #[test]
 fn a_literal(rt: HostRuntime) -> Result<(), Fail> {
-    let told = run(rt.alloc(), "(lit 5)", 1, 1)?;
-    assert_eq!(rt; told.end, RunEnd::Done);
-    assert_eq!(rt; told.text.as_str(), "open a\n!0 done 5\nsettle @a 5\nend\n");
+    let (end, text) = run(rt.alloc(), "(lit 5)", 1, 1)?;
+    assert_eq!(rt; end, Some(RunEnd::Done));
+    assert_eq!(rt; text.as_str(), "open a\n!0 done 5\nsettle @a 5\nend\n");
     Ok(())
 }
 
 #[test]
 fn a_sum(rt: HostRuntime) -> Result<(), Fail> {
-    let told = run(rt.alloc(), "(call (lit 41) add (lit 1))", 1_000_000, 400)?;
-    assert_eq!(rt; told.end, RunEnd::Done);
+    let (end, text) = run(rt.alloc(), "(call (lit 41) add (lit 1))", 1_000_000, 400)?;
+    assert_eq!(rt; end, Some(RunEnd::Done));
     assert_eq!(rt;
-        told.text.as_str(),
+        text.as_str(),
         "open a\n!0 call 41 add 1\n!0 back 42\n!0 done 42\nsettle @a 42\nend\n"
     );
     Ok(())
@@ -32,10 +37,10 @@ fn a_sum(rt: HostRuntime) -> Result<(), Fail> {
 #[test]
 fn an_overflow(rt: HostRuntime) -> Result<(), Fail> {
     let form = "(call (lit 170141183460469231731687303715884105727) add (lit 1))";
-    let told = run(rt.alloc(), form, 1_000_000, 400)?;
-    assert_eq!(rt; told.end, RunEnd::Done);
+    let (end, text) = run(rt.alloc(), form, 1_000_000, 400)?;
+    assert_eq!(rt; end, Some(RunEnd::Done));
     assert_eq!(rt;
-        told.text.as_str(),
+        text.as_str(),
         "open a\n!0 call 170141183460469231731687303715884105727 add 1\n!0 thrown \"integer overflow\"\n!0 threw \"integer overflow\"\nsettle @a broken:\"integer overflow\"\nend\n"
     );
     Ok(())
@@ -44,10 +49,10 @@ fn an_overflow(rt: HostRuntime) -> Result<(), Fail> {
 #[test]
 fn a_slot(rt: HostRuntime) -> Result<(), Fail> {
     let form = "(seq (def (var n) (lit 0)) (set n (call (noun n) add (lit 1))))";
-    let told = run(rt.alloc(), form, 1_000_000, 400)?;
-    assert_eq!(rt; told.end, RunEnd::Done);
+    let (end, text) = run(rt.alloc(), form, 1_000_000, 400)?;
+    assert_eq!(rt; end, Some(RunEnd::Done));
     assert_eq!(rt;
-        told.text.as_str(),
+        text.as_str(),
         "open a\n!0 slot a&0 0\n!0 read a&0 0\n!0 call 0 add 1\n!0 back 1\n!0 wrote a&0 1\n!0 done 1\nsettle @a 1\nend\n"
     );
     Ok(())
@@ -56,14 +61,27 @@ fn a_slot(rt: HostRuntime) -> Result<(), Fail> {
 #[test]
 fn stops(rt: HostRuntime) -> Result<(), Fail> {
     let sum = "(call (lit 41) add (lit 1))";
-    let spent = run(rt.alloc(), sum, 1, 400)?;
-    assert_eq!(rt; spent.end, RunEnd::FuelSpent);
-    assert_eq!(rt; spent.text.as_str(), "stop fuel 0\n");
-    let deep = run(rt.alloc(), sum, 9, 1)?;
-    assert_eq!(rt; deep.end, RunEnd::TooDeep);
-    assert_eq!(rt; deep.text.as_str(), "stop depth 0\n");
-    let astray = run(rt.alloc(), "(noun x)", 9, 9)?;
-    assert_eq!(rt; astray.end, RunEnd::Astray);
-    assert_eq!(rt; astray.text.as_str(), "stop astray 0\n");
+    let (spent_end, spent_text) = run(rt.alloc(), sum, 1, 400)?;
+    assert_eq!(rt; spent_end, Some(RunEnd::FuelSpent));
+    assert_eq!(rt; spent_text.as_str(), "stop fuel 0\n");
+    let (deep_end, deep_text) = run(rt.alloc(), sum, 9, 1)?;
+    assert_eq!(rt; deep_end, Some(RunEnd::TooDeep));
+    assert_eq!(rt; deep_text.as_str(), "stop depth 0\n");
+    let (astray_end, astray_text) = run(rt.alloc(), "(noun x)", 9, 9)?;
+    assert_eq!(rt; astray_end, Some(RunEnd::Astray));
+    assert_eq!(rt; astray_text.as_str(), "stop astray 0\n");
+    Ok(())
+}
+
+#[test]
+fn objects(rt: HostRuntime) -> Result<(), Fail> {
+    let form =
+        "(seq (def (var n) (lit 0)) (object (final up) () (method run () (set n (call (noun n) add (lit 1))))) (object (final get) () (method run () (noun n))) (call (noun up) run) (call (noun get) run))";
+    let (end, text) = run(rt.alloc(), form, 1_000_000, 400)?;
+    assert_eq!(rt; end, Some(RunEnd::Done));
+    assert_eq!(rt;
+        text.as_str(),
+        "open a\n!0 slot a&0 0\n!0 made a.0 up caps a&0\n!0 made a.1 get caps a&0\n!0 call a.0 run as !1\n!1 read a&0 0\n!1 call 0 add 1\n!1 back 1\n!1 wrote a&0 1\n!0 back 1\n!0 call a.1 run as !2\n!2 read a&0 1\n!0 back 1\n!0 done 1\nsettle @a 1\nend\n"
+    );
     Ok(())
 }
