@@ -137,6 +137,15 @@ fn objects(rt: HostRuntime) -> Result<(), Fail> {
     Ok(())
 }
 
+/// So many spaces.
+fn spaces(alloc: Global, count: usize) -> Result<String, Memory> {
+    let mut text = String::new(alloc);
+    for _ in 0..count {
+        text.push(' ')?;
+    }
+    Ok(text)
+}
+
 /// A sum of so many ones.
 fn ones(alloc: Global, count: usize) -> Result<String, Memory> {
     let mut source = String::from_str(alloc, "1")?;
@@ -255,7 +264,7 @@ fn large_sources(rt: HostRuntime) -> Result<(), Fail> {
         (65_536, 0, "open a\n!0 done null\nsettle @a null\nend\n"),
         (65_537, 6, "refused script 7\n"),
     ] {
-        let spaces = String::from_utf8(vec![in alloc; b' '; count]?).unwrap();
+        let spaces = spaces(alloc, count)?;
         let script = script_of(alloc, spaces.as_str())?;
         let (status, written) = answer(alloc, &["run"], script.as_bytes(), &quiet())?;
         assert_eq!(rt; status, code);
