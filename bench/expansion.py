@@ -3,7 +3,7 @@
 
 Run it at the top of the repository. It builds crates/evat_read_bench. For programs of 1, 4, 16 and 64 KiB, of each form of the
 language and of all of them together, it prints the time of one expansion of the parsed tree, that of one whole reading (tokens,
-tree, expansion and scopes), and each by the byte. Then it prints the same of scripts of up to 1 MiB, which are long by their
+tree, expansion and scopes), and each by the byte. Then it prints the same of scripts of up to 1 MB, which are long by their
 schedule, by a drain or by their sources. The time of a byte should stay level.
 """
 import json
@@ -14,7 +14,7 @@ import time
 CRATE = pathlib.Path("crates/evat_read_bench")
 PROGRAM = CRATE / "out" / "evat_read_bench"
 SIZES = [1024, 4096, 16_384, 65_536]
-SCRIPT_SIZES = [1024, 16_384, 262_144, 1_048_576]
+SCRIPT_SIZES = [1024, 16_384, 262_144, 1_048_000]
 
 # Each stands in a block of its own, so that its names are bound once.
 FORMS = {
@@ -51,7 +51,7 @@ def vat(index: int, source: str) -> dict:
 
 def scripts(size: int) -> dict[str, bytes]:
     two = [vat(0, "1"), vat(1, "2")]
-    share = size // 16
+    share = max(1, size // 16 - 64)
     return {
         "turns": script(two, ["turn v0"] * (size // 11)),
         "carries": script(two, ["carry v0 v1"] * (size // 15)),
