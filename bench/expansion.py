@@ -7,13 +7,9 @@ tree, expansion and scopes), and each by the byte. Then it prints the same of sc
 schedule, by a drain or by their sources. The time of a byte should stay level.
 """
 import json
-import pathlib
-import subprocess
-import time
 
-CRATE = pathlib.Path("crates/evat_read_bench")
-PROGRAM = CRATE / "out" / "evat_read_bench"
-SIZES = [1024, 4096, 16_384, 65_536]
+from timing import SIZES, build, per_call
+
 SCRIPT_SIZES = [1024, 16_384, 262_144, 1_048_000]
 
 # Each stands in a block of its own, so that its names are bound once.
@@ -59,17 +55,6 @@ def scripts(size: int) -> dict[str, bytes]:
     }
 
 
-def seconds(word: str, times: int, text: bytes) -> float:
-    begin = time.perf_counter()
-    subprocess.run([PROGRAM, word, str(times)], input=text, check=True)
-    return time.perf_counter() - begin
-
-
-def per_call(word: str, times: int, text: bytes) -> float:
-    """The time of one call, without that of a run that makes none."""
-    return (seconds(word, times, text) - seconds(word, 0, text)) / times
-
-
 def print_programs() -> None:
     print(f"{'program':12} {'bytes':>7} {'expand us':>10} {'ns/byte':>8} {'read us':>10} {'ns/byte':>8}")
     for name, unit in FORMS.items():
@@ -95,6 +80,6 @@ def print_scripts() -> None:
 
 
 if __name__ == "__main__":
-    subprocess.run(["rt", "run", "--", "lex", "1"], cwd=CRATE, check=True, stdin=subprocess.DEVNULL, stdout=subprocess.DEVNULL)
+    build()
     print_programs()
     print_scripts()

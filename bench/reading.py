@@ -4,13 +4,7 @@
 Run it at the top of the repository. It builds crates/evat_read_bench and prints, for each form of the language, for each
 deep nesting and for texts of 1, 4, 16 and 64 KiB, the time of one call and of one byte. The time of a byte should stay level.
 """
-import pathlib
-import subprocess
-import time
-
-CRATE = pathlib.Path("crates/evat_read_bench")
-PROGRAM = CRATE / "out" / "evat_read_bench"
-SIZES = [1024, 4096, 16_384, 65_536]
+from timing import SIZES, build, per_call
 
 FORMS = {
     "calls": "f(x, y)[1].put(2)\n",
@@ -53,19 +47,8 @@ def texts() -> dict[str, bytes]:
     return made
 
 
-def seconds(word: str, times: int, text: bytes) -> float:
-    begin = time.perf_counter()
-    subprocess.run([PROGRAM, word, str(times)], input=text, check=True)
-    return time.perf_counter() - begin
-
-
-def per_call(word: str, times: int, text: bytes) -> float:
-    """The time of one call, without that of a run that makes none."""
-    return (seconds(word, times, text) - seconds(word, 0, text)) / times
-
-
 if __name__ == "__main__":
-    subprocess.run(["rt", "run", "--", "lex", "1"], cwd=CRATE, check=True, stdin=subprocess.DEVNULL, stdout=subprocess.DEVNULL)
+    build()
     print(f"{'text':20} {'bytes':>6} {'lex ns':>11} {'ns/byte':>8} {'parse ns':>12} {'ns/byte':>8}")
     for name, text in texts().items():
         length = len(text)
