@@ -5,4 +5,7 @@ pub mod PlaceLemmas
 pub mod KnownLemmas
 pub mod RoundLemmas
 pub mod CutLemmas
+pub mod RuleLemmas
+pub mod RuleSteps
+pub mod Admitted
 pub mod Examples

@@ -2,6 +2,7 @@
 
 ghost use Rattle.std.specs.Prelude.{◌≡◌, ◌≤◌, IfOk, length};
 ghost use Rattle.serde_json.specs.View.{view};
+ghost use Rattle.ev_script.specs.Rules.{IsAdmitted};
 ghost use Rattle.ev_script.specs.Script.{Reads, read, read_rest, read_schedule, read_value, read_vats};
 
 use crate::entries::{entries_of, steps_of};
@@ -96,14 +97,24 @@ fn read_value(alloc: Global, value: &Value) -> Result<Script, ScriptFault>
     read_rest(alloc, key, fuel, vats.as_slice(), value)
 }
 
-/// Reads a script. `Rule(k)` comes exactly where rules 1 to k - 1 hold of the bytes and rule k fails, and a script exactly
-/// where all twelve hold; then it is the one that the rules read. `Memory` comes only for want of memory.
+/// The script that bytes are, by the rules one after another.
 #[tactic(auto, unfolding(crate::specs::Script::read))]
-pub fn read_script(alloc: Global, bytes: &[u8]) -> Result<Script, ScriptFault>
+fn read_bytes(alloc: Global, bytes: &[u8]) -> Result<Script, ScriptFault>
     ensures { Reads result (read bytes.now) }
 {
     match read_json(alloc, bytes)? {
         None => Err(ScriptFault::Rule(1)),
         Some(value) => read_value(alloc, &value),
     }
+}
+
+/// Reads a script. `Rule(k)` comes exactly where rules 1 to k - 1 hold of the bytes and rule k fails, and a script exactly
+/// where all twelve hold; then it is the one that the rules read, and it is as they say (`admitted`). `Memory` comes only
+/// for want of memory.
+#[tactic(auto, using(crate::proofs::Admitted::read_admitted))]
+pub fn read_script(alloc: Global, bytes: &[u8]) -> Result<Script, ScriptFault>
+    ensures reads { Reads result (read bytes.now) }
+    ensures admitted { IfOk result IsAdmitted }
+{
+    read_bytes(alloc, bytes)
 }
