@@ -5,3 +5,4 @@ pub mod Reading
 pub mod Cuts
 pub mod Marks
 pub mod Examples
+pub mod Stacks

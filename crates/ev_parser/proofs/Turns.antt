@@ -241,24 +241,20 @@ snoc_same (c ∷ a) (d ∷ b) x y e =
     let r = snoc_same a b x y k in
     ((let z : (c ∷ a) ≡ (d ∷ b) = cc (r.0, h) in z), r.1)
 
-pub no_snoc : (a : List Waiting) (x : Waiting) → [] ≡ a ++ x ∷ [] → ⊥
+no_snoc : (a : List Waiting) (x : Waiting) → [] ≡ a ++ x ∷ [] → ⊥
 no_snoc [] x e = cc
 no_snoc (c ∷ a) x e = cc
 
 -- the topmost frame is that of the code
-abbrev pub Top : List Node → List Waiting → Waiting → List Frame → Type 0
+abbrev Top : List Node → List Waiting → Waiting → List Frame → Type 0
 Top ns vs w [] = ⊥
 Top ns vs w (fr ∷ frs) = ShowsFrame ns w fr × ShowsFrames ns vs frs
 
-pub top_is : (ns : List Node) (ws vs : List Waiting) (w : Waiting) (frs : List Frame) → ws ≡ vs ++ w ∷ [] → ShowsFrames ns ws frs → Top ns vs w frs
+top_is : (ns : List Node) (ws vs : List Waiting) (w : Waiting) (frs : List Frame) → ws ≡ vs ++ w ∷ [] → ShowsFrames ns ws frs → Top ns vs w frs
 top_is ns ws vs w [] e h = no_snoc vs w (sym h ∙ e)
 top_is ns ws vs w (fr ∷ frs) e h =
     let r = snoc_same h.0 vs h.1 w (sym h.2 ∙ e) in
     (subst (λ (x : Waiting). ShowsFrame ns x fr) r.1 h.3, subst (λ (x : List Waiting). ShowsFrames ns x frs) r.0 h.4)
-
-pub no_length : (ws : List Waiting) → length ws ≡ 0 → ws ≡ []
-no_length [] e = refl
-no_length (w ∷ ws) e = cc
 
 pub have_none : (ns : List Node) (ws : List Waiting) (t : Word) (i : ℕ) (o : Option State) → ws ≡ [] → Comes ns ws t o (turns.Have i) → None ≡ o
 unfolding pop

@@ -4,6 +4,7 @@
 pub mod draft;
 pub mod fields;
 pub mod forms;
+pub mod frames;
 pub mod parser;
 pub mod read;
 #[cfg(test)]

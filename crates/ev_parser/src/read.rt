@@ -1,16 +1,17 @@
 //! Reads tokens with a stack of its own, one step for each token.
 
-ghost use Rattle.std.specs.Prelude.{◌≡◌, ◌<◌, ◌+◌, ℕ, List, vec_len, IfOk, IsTrue, MatchOption, slice_get, Option, ◌∷◌, ◌++◌, [], nat_lt, ◌↔◌};
+ghost use Rattle.std.specs.Prelude.{◌≡◌, ◌<◌, ◌+◌, ℕ, List, length, IfOk, IsTrue, MatchOption, slice_get, Option, ◌∷◌, ◌++◌, [], nat_lt, ◌↔◌};
 ghost use Rattle.ev_grammar.specs.Heights.{least, most_height, noted, weight};
 ghost use Rattle.ev_grammar.specs.Grammar.{Tree, ending};
 ghost use Rattle.ev_grammar.specs.Machine.{State, begin};
-ghost use Rattle.ev_parser.specs.Draft.{Came, Comes, Ended, Ends, IsAdded, IsBegun, IsBegunStand, IsCopied, begun_height, IsPut, IsTaken, IsOpened, IsWrapped, Opened, ShowsState, end_shape, lead_part, low_waiting, shape_before, turns_left};
+ghost use Rattle.ev_parser.specs.Draft.{Came, Comes, Ended, Ends, IsAdded, IsBegun, IsBegunStand, IsCopied, begun_height, IsPut, IsTaken, IsOpened, IsWrapped, Opened, ShowsState, end_shape, lead_part, shape_before, turns_left};
 ghost use Rattle.ev_table.specs.Table.{capped};
 ghost use Rattle.ev_parser.specs.Parsed.{IsRead};
 ghost use Rattle.ev_parser.specs.declared.draft.Turn.TheVariants.{At, Have};
 ghost use Rattle.ev_parser.specs.declared.draft.Waiting.{Waiting};
 
 use crate::draft::{Node, Part, Stand, Turn, Waiting};
+use crate::frames::Frames;
 use ev_grammar::{Ending, Line, Move, Place, Shape, Tail, Word};
 use ev_table::{
     ending_of, form_of, is_stopping, low_at, more_of, moves_of, once_more, pick_move, tower_at,
@@ -20,19 +21,15 @@ use ev_token::{Token, TokenKind};
 use std::alloc::{AllocError, Global};
 
 /// Opens a line: the frames round the node that the token begins, and where that node goes on.
-fn open_line(
-    frames: &mut Vec<Waiting>,
-    line: Line,
-    kind: TokenKind,
-) -> Result<Option<Place>, AllocError>
-    ensures { IfOk result (λ r. Opened (begin line kind) r frames.old.items frames.new.items) }
+fn open_line(frames: &mut Frames, line: Line, kind: TokenKind) -> Result<Option<Place>, AllocError>
+    ensures { IfOk result (λ r. Opened (begin line kind) r frames.old frames.new) }
 {
     match form_of(line, kind) {
         Some(place) => Ok(Some(place)),
         None => match tower_at(line) {
             None => Ok(None),
             Some((inner, tail)) => {
-                frames.push(Waiting::After(tail))?;
+                frames.push_after(tail)?;
                 let opened = open_line(frames, inner, kind)?;
                 Ok(opened)
             }
@@ -235,13 +232,13 @@ fn begin_stand(
 /// The node that is being read goes on with a tree of a line, which the token begins.
 fn open(
     alloc: Global,
-    frames: &mut Vec<Waiting>,
+    frames: &mut Frames,
     stand: Stand,
     line: Line,
     next: Place,
     word: Word,
 ) -> Result<Turn, AllocError>
-    ensures { IfOk result (λ r. IsOpened frames.old.items frames.new.items stand line next word r) }
+    ensures { IfOk result (λ r. IsOpened frames.old frames.new stand line next word r) }
 {
     let Stand {
         place: _,
@@ -249,12 +246,12 @@ fn open(
         parts,
         tallest,
     } = stand;
-    frames.push(Waiting::Inside(Stand {
+    frames.push_inside(Stand {
         place: next,
         first,
         parts,
         tallest,
-    }))?;
+    })?;
     let opened = open_line(frames, line, word.kind)?;
     match opened {
         None => Ok(Turn::Failed),
@@ -282,12 +279,12 @@ fn ends_before(place: Place, kind: TokenKind) -> Option<Shape>
 fn turn_at(
     alloc: Global,
     nodes: &mut Vec<Node>,
-    frames: &mut Vec<Waiting>,
+    frames: &mut Frames,
     stand: Stand,
     word: Word,
 ) -> Result<Turn, AllocError>
-    ensures comes { IfOk result (λ r. (o : Option State) → Comes nodes.old.items frames.old.items word o (At stand) → Comes nodes.new.items frames.new.items word o r) }
-    ensures less { IfOk result (λ r. turns_left r (vec_len frames.new) < turns_left (At stand) (vec_len frames.old)) }
+    ensures comes { IfOk result (λ r. (o : Option State) → Comes nodes.old.items frames.old word o (At stand) → Comes nodes.new.items frames.new word o r) }
+    ensures less { IfOk result (λ r. turns_left r (length frames.new) < turns_left (At stand) (length frames.old)) }
 {
     match pick_move(moves_of(stand.place), word.kind) {
         Some(Move::Takes(_, next)) => {
@@ -324,12 +321,12 @@ fn turn_at(
 fn turn_have(
     alloc: Global,
     nodes: &Vec<Node>,
-    frames: &mut Vec<Waiting>,
+    frames: &mut Frames,
     tree: usize,
     word: Word,
 ) -> Result<Turn, AllocError>
-    ensures comes { IfOk result (λ r. (o : Option State) → Comes nodes.now.items frames.old.items word o (Have tree) → Comes nodes.now.items frames.new.items word o r) }
-    ensures less { IfOk result (λ r. turns_left r (vec_len frames.new) < turns_left (Have tree) (vec_len frames.old)) }
+    ensures comes { IfOk result (λ r. (o : Option State) → Comes nodes.now.items frames.old word o (Have tree) → Comes nodes.now.items frames.new word o r) }
+    ensures less { IfOk result (λ r. turns_left r (length frames.new) < turns_left (Have tree) (length frames.old)) }
 {
     match frames.pop() {
         None => Ok(Turn::Failed),
@@ -343,7 +340,7 @@ fn turn_have(
                 None => Ok(Turn::Have(tree)),
                 Some(place) => {
                     let stand = begin_stand(alloc, place, tail, tree, node, word)?;
-                    frames.push(Waiting::After(once_more(tail)))?;
+                    frames.push_after(once_more(tail))?;
                     Ok(Turn::Moved(stand))
                 }
             },
@@ -355,11 +352,11 @@ fn turn_have(
 fn advance(
     alloc: Global,
     nodes: &mut Vec<Node>,
-    frames: &mut Vec<Waiting>,
+    frames: &mut Frames,
     stand: Stand,
     word: Word,
 ) -> Result<Option<Stand>, AllocError>
-    ensures { IfOk result (λ r. (o : Option State) → Comes nodes.old.items frames.old.items word o (At stand) → Came nodes.new.items frames.new.items word o r) }
+    ensures { IfOk result (λ r. (o : Option State) → Comes nodes.old.items frames.old word o (At stand) → Came nodes.new.items frames.new word o r) }
 {
     let mut turn = Turn::At(stand);
     'turns: loop {
@@ -404,10 +401,10 @@ fn shape_at_end(place: Place) -> Option<Shape>
 /// The tree at the end of the tokens, or None where they are not at the end of one.
 fn close(
     nodes: &mut Vec<Node>,
-    frames: &mut Vec<Waiting>,
+    frames: &mut Frames,
     stand: Stand,
 ) -> Result<Option<usize>, AllocError>
-    ensures { IfOk result (λ r. (o : Option Tree) → Ends nodes.old.items frames.old.items o (At stand) → Ended nodes.new.items o r) }
+    ensures { IfOk result (λ r. (o : Option Tree) → Ends nodes.old.items frames.old o (At stand) → Ended nodes.new.items o r) }
 {
     let mut turn = Turn::At(stand);
     'turns: loop {
@@ -425,31 +422,15 @@ fn close(
 }
 
 /// Whether each tree that goes on from here is higher than 60.
-fn is_high(frames: &Vec<Waiting>, stand: &Stand) -> bool
-    ensures { (ns : List Node) (s : State) → ShowsState ns frames.now.items stand.now s → result ≡ nat_lt most_height (least s) }
+fn is_high(frames: &Frames, stand: &Stand) -> bool
+    ensures { (ns : List Node) (s : State) → ShowsState ns frames.now stand.now s → result ≡ nat_lt most_height (least s) }
 {
-    let mut height = low_at(stand.place, stand.tallest);
-    let mut left = frames.len();
-    while left > 0 {
-        left -= 1;
-        height = low_in(&frames[left], height);
-    }
-    height > 60
-}
-
-/// The least height of the node that waits for a tree of this height, or of the tree itself; or 61 where that is more.
-fn low_in(frame: &Waiting, height: u8) -> u8
-    ensures { result ≡ low_waiting frame.now height }
-{
-    match frame {
-        Waiting::Inside(stand) => low_at(stand.place, stand.tallest.max(height)),
-        Waiting::After(_) => height,
-    }
+    frames.lowered(low_at(stand.place, stand.tallest)) > 60
 }
 
 /// The first token behind which each tree is higher than 60, if there is one so far.
-fn note(high: Option<u64>, number: u64, frames: &Vec<Waiting>, stand: &Stand) -> Option<u64>
-    ensures { (ns : List Node) (s : State) → ShowsState ns frames.now.items stand.now s → result ≡ noted high number s }
+fn note(high: Option<u64>, number: u64, frames: &Frames, stand: &Stand) -> Option<u64>
+    ensures { (ns : List Node) (s : State) → ShowsState ns frames.now stand.now s → result ≡ noted high number s }
 {
     match high {
         Some(before) => Some(before),
@@ -468,7 +449,7 @@ pub fn read(alloc: Global, tokens: &[Token]) -> Result<Reading, AllocError>
     ensures { IfOk result (λ r. IsRead tokens.now r) }
 {
     let mut nodes = Vec::new(alloc);
-    let mut frames = Vec::new(alloc);
+    let mut frames = Frames::new(alloc);
     let mut stand = Stand {
         place: Place::Program,
         first: Word {

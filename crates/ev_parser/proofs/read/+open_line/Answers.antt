@@ -11,4 +11,4 @@ returns-in-None-tower_at t c = opened_none _ _ _ _ (sym c.in-None.ensures) (sym 
 pub returns-in_ok-opened-in-Some-tower_at : goal.returns-in_ok-opened-in-Some-tower_at
 returns-in_ok-opened-in-Some-tower_at t c =
     opened_tower _ c.in-Some-tower_at.inner c.in-Some-tower_at.tail _ _ _ _ (sym c.in-None.ensures) (sym c.in-Some-tower_at.ensures)
-    (rw c.in_ok-push-in-Some-tower_at.ensures.items at c.in_ok-opened-in-Some-tower_at.ensures)
+    (rw c.in_ok-push_after-in-Some-tower_at.ensures.ok at c.in_ok-opened-in-Some-tower_at.ensures)

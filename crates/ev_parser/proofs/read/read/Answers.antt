@@ -7,7 +7,7 @@ use Rattle.ev_parser.proofs.Reading.{read_on, read_stuck, read_ended, drop_here}
 use Rattle.ev_parser.proofs.read.read.Goals as goal
 
 pub loop-i-init : goal.loop-i-init
-loop-i-init c = (started, ((refl, refl, c.new.ensures.items, refl), c.new-frames.ensures.items), refl)
+loop-i-init c = (started, ((refl, refl, c.new.ensures.items, refl), c.new-frames.ensures), refl)
 
 pub returns-in-None : goal.returns-in-None
 returns-in-None c =
