@@ -1,0 +1,15 @@
+//! What is read of the forms of trees.
+
+ghost use Rattle.ev_form_laws.specs.Laws.{FormOfOneTree, ReadingUndoesPrinting};
+
+/// The form of a tree is read as that tree.
+#[tactic(auto, using(crate::proofs::Undoing::undoes))]
+pub fn reading_undoes_printing()
+    ensures { ReadingUndoesPrinting }
+{}
+
+/// A text is the form of one tree at most.
+#[tactic(auto, using(crate::proofs::Undoing::one_tree))]
+pub fn a_text_is_the_form_of_one_tree()
+    ensures { FormOfOneTree }
+{}
