@@ -1,0 +1,12 @@
+pub mod Entries
+pub mod Gentle
+pub mod Settles
+pub mod RefsGentle
+pub mod ArriveGentle
+pub mod ViewsGo
+pub mod ViewsMade
+pub mod ViewsSteps
+pub mod RunLift
+pub mod ViewsRuns
+pub mod Ends
+pub mod Laws

@@ -1,0 +1,25 @@
+//! What rests in every vat of every world of a run: after any of the opening turns of a script, and
+//! after all of them and any entries of a schedule. No vat of the script may be told twice that it
+//! knows a vat, or that it knows itself, which the reading of scripts refuses.
+
+ghost use Rattle.ev_rest_laws.specs.Rest.{ViewsWaitInRuns};
+ghost use Rattle.ev_rest_laws.specs.Rest.{ReferencesRestInRuns};
+ghost use Rattle.ev_rest_laws.specs.Rest.{FollowedBreaksStayBroken};
+
+/// Each name that is viewed waits on its view: the view is known, it came to be known later than the
+/// name, it did not settle, and the name is among those that settle with it.
+pub fn views_wait()
+    ensures { ViewsWaitInRuns }
+{}
+
+/// A vat is at rest but for the hosts of what waits: each view is of a name that did not settle, no
+/// object of another vat is among the names known, and nothing is followed in a circle.
+pub fn references_rest()
+    ensures { ReferencesRestInRuns }
+{}
+
+/// From any world of a run on, where what waits at a vat has no host whose cut the vat noticed, what
+/// the vat follows to a broken reference is followed there to it.
+pub fn followed_breaks_stay_broken()
+    ensures { FollowedBreaksStayBroken }
+{}
