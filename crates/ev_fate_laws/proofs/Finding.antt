@@ -11,7 +11,7 @@ use Rattle.ev_fate_laws.specs.Finding.{IsAmong, ViewIs, ViewsEndIn, ViewsEnd, Is
 use Rattle.ev_fate_laws.proofs.Counts.{among_end, Waits}
 use Rattle.ev_fate_laws.proofs.RunCounts.{pick}
 use Rattle.ev_fate_laws.proofs.PlacesLast.{Global, PaysAt, cost_enqueue, pays_hold, pays_react}
-use Rattle.ev_fate_laws.proofs.PlacesRefs.{Fits, IsEnd, fits_at, end_of, follow_last, severed_last, found_well, cost_deliver, cost_send_to, pays_settle, new_named, new_at}
+use Rattle.ev_fate_laws.proofs.PlacesRefs.{Fits, IsEnd, fits_at, end_of, follow_last, severed_last, found_well, cost_deliver, cost_pass_on, cost_send_to, pays_settle, new_named, new_at}
 use Rattle.ev_fate_laws.proofs.PlacesSteps.{global_names}
 
 module _ (K : Naming Name Name) (v : ℕ) (global : Global K v) where
@@ -169,6 +169,18 @@ module _ (K : Naming Name Name) (v : ℕ) (global : Global K v) where
     react_at s m (Away h n true) q w = (cost_enqueue cut x m).after s w
     react_at s m Near q w = (cost_enqueue cut x m).after s w
     react_at s m (Gone p) q w = (cost_enqueue cut x m).after s w
+
+    to_at : (s : Vat Name) (m : Message Name) (y : Value Name) (p : Place Name) → NamesMessage m.id → Fits y p → OpenAt s.known p → AllWell s → PaysAt cut x (one m.id x) s (refs.send_to K (refs.settle K) m y p s)
+    unfolding refs.send_to
+    to_at s m y (Away h n o) g f q w = (cost_pass_on K v global cut x m h n g).after s w
+    to_at s m y (Mine n) g f q w = holds_at s (record m { target = y }) n q.0 f g q.1 q.2 w
+    to_at s m y Near g f q w = (cost_enqueue cut x (record m { target = y })).after s w
+    to_at s m y (Gone p) g f q w = (cost_send_to K v global cut x (refs.settle K) (pays_settle K v global cut x) m y (Gone p) g tt).after s w
+
+    -- a message on a value that the vat knows, sent on
+    pub send_on_finds : (s : Vat Name) (m : Message Name) → AllWell s → ViewsEnd K s → NamesMessage m.id → IsKnown K s m.target → PaysAt cut x (one m.id x) s (refs.send_on K (refs.settle K) m s)
+    unfolding refs.send_on ◌>>=◌ and_then look
+    send_on_finds s m w end g known = let y = refs.follow K s m.target in to_at s m y (refs.place K s y) g (fits_at K v global s y (refs.place K s y) refl) (place_opens s y (followed_opens s m.target w end known)) w
 
     entry_later : (ks js : List (Known Name)) (n : Name) (k : Known Name) → entry_of K ks n ≡ Some k → entry_of K (ks ++ js) n ≡ Some k
     unfolding entry_of

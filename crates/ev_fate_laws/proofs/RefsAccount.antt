@@ -145,7 +145,7 @@ module _ (cut : ℕ → Bool) (v : ℕ) (x : Name) where
 
     -- ---- new messages
 
-    costs_send_first : (m : Message Name) (y : Value Name) (p : Place Name) → Keeps (Accounted cut v x (one m.id x)) (refs.send_first K m y p)
+    pub costs_send_first : (m : Message Name) (y : Value Name) (p : Place Name) → Keeps (Accounted cut v x (one m.id x)) (refs.send_first K m y p)
     unfolding refs.send_first
     costs_send_first m y (Away h n o) = costs_deliver m h n
     costs_send_first m y Near = costs_send_to (refs.settle K) free_settle m y Near

@@ -93,7 +93,7 @@ module _ (x : Name) where
       let c : total (of_note x) l.notes ≡ of_note x n + total (of_note x) ns = rw i refl in
       record { kept = omega arith; unlisted = h.unlisted; fresh = h.fresh; apart = with_link_apart (world.with_notes ns) (λ l j. j) v to w.links h.apart }
 
-  note_brings : (ks : List Name) (n : Note Name) → in_note (coming x) (read_note ks n) ≡ of_note x n
+  pub note_brings : (ks : List Name) (n : Note Name) → in_note (coming x) (read_note ks n) ≡ of_note x n
   unfolding read_note in_note coming of_note
   note_brings ks (Deliver m n verb ys) = refl
   note_brings ks (Open i n) = refl
@@ -151,7 +151,7 @@ module _ (x : Name) where
     notice_fated k v to w None e h = h
     notice_fated k v to w (Some s) e h = within_fated v w (NoticedAt k v to ∷ []) (world.step_number script k) (Notices to) s s e (in_place 0 v w s e h) h refl (plain_one (NoticedAt k v to) refl refl refl refl)
 
-    open_fated : (v : ℕ) (p : Program) (w : World) (o : Option (Vat Name)) → slice_get w.vats v ≡ o → Fated x w → Reached (Fated x) (world.within v w (Opens v ∷ []) v (opening (names script v) p.tree script.depth (Root v) (world.given script.vats p.knows)) o)
+    pub open_fated : (v : ℕ) (p : Program) (w : World) (o : Option (Vat Name)) → slice_get w.vats v ≡ o → Fated x w → Reached (Fated x) (world.within v w (Opens v ∷ []) v (opening (names script v) p.tree script.depth (Root v) (world.given script.vats p.knows)) o)
     unfolding does world.within brought sent_by took_by lost_by left_by
     open_fated v p w None e h = h
     open_fated v p w (Some s) e h = within_fated v w (Opens v ∷ []) v (Starts p.tree script.depth (Root v) (world.given script.vats p.knows)) s s e (in_place 0 v w s e h) h refl (plain_one (Opens v) refl refl refl refl)
@@ -189,12 +189,12 @@ module _ (x : Name) where
     severed_loses v to ls None e = let same = ap (total (on_link x)) (with_link_absent world.severed_link v to ls e) in omega arith
     severed_loses v to ls (Some l) e = let a = with_link_changes x world.severed_link v to ls l e in let b = lost_notes l.notes in omega arith
 
-    cut_links : (v to : ℕ) (ls : List Link) → AllApart ls
+    pub cut_links : (v to : ℕ) (ls : List Link) → AllApart ls
         → total (on_link x) (world.with_link world.severed_link to v (world.with_link world.severed_link v to ls)) + total (lost_by x) (world.lost_on script (world.link_at v to ls)) + total (lost_by x) (world.lost_on script (world.link_at to v ls)) ≡ total (on_link x) ls
     cut_links v to ls h = let a = severed_loses v to ls (world.link_at v to ls) refl in
         let b = severed_loses to v (world.with_link world.severed_link v to ls) (world.link_at to v ls) (severed_back v to ls h) in omega arith
 
-    cut_line : (v to k : ℕ) (ls : List Link) (f : Event → ℕ) → f (CutAt k v to) ≡ 0
+    pub cut_line : (v to k : ℕ) (ls : List Link) (f : Event → ℕ) → f (CutAt k v to) ≡ 0
         → total f (CutAt k v to ∷ (world.lost_on script (world.link_at v to ls) ++ world.lost_on script (world.link_at to v ls))) ≡ total f (world.lost_on script (world.link_at v to ls)) + total f (world.lost_on script (world.link_at to v ls))
     unfolding total
     cut_line v to k ls f z = let a = total_append f (world.lost_on script (world.link_at v to ls)) (world.lost_on script (world.link_at to v ls)) in omega arith
@@ -209,7 +209,7 @@ module _ (x : Name) where
     cut_hand v to w h = let k = h.kept in let a = cut_links v to w.links h.apart in
         record { kept = omega arith; unlisted = h.unlisted; fresh = h.fresh; apart = severed_apart to v (world.with_link world.severed_link v to w.links) (severed_apart v to w.links h.apart) }
 
-    no_cut_line : (v to k : ℕ) (ls : List Link) (f : Event → ℕ) → f (CutAt k v to) ≡ 0 → ((m : Name) → f (LostCut m) ≡ 0)
+    pub no_cut_line : (v to k : ℕ) (ls : List Link) (f : Event → ℕ) → f (CutAt k v to) ≡ 0 → ((m : Name) → f (LostCut m) ≡ 0)
         → total f (CutAt k v to ∷ (world.lost_on script (world.link_at v to ls) ++ world.lost_on script (world.link_at to v ls))) ≡ 0
     no_cut_line v to k ls f z y = let a = cut_line v to k ls f z in let b = only_lost_on f y (world.link_at v to ls) in let c = only_lost_on f y (world.link_at to v ls) in omega arith
 
@@ -223,7 +223,7 @@ module _ (x : Name) where
 
     -- ---- runs
 
-    step_fated : (entry : Entry) (k : ℕ) (w : World) → Fated x w → Reached (Fated x) (world.step script entry k w)
+    pub step_fated : (entry : Entry) (k : ℕ) (w : World) → Fated x w → Reached (Fated x) (world.step script entry k w)
     unfolding world.step
     step_fated (Turn v) k w h = turn_fated k v w (slice_get w.vats v) refl h
     step_fated (Carry v to) k w h = carry_link_fated k v to w (world.link_at v to w.links) refl h

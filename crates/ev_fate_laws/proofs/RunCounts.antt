@@ -97,7 +97,7 @@ pushed_cut n l = either l.cut
     either true = refl
     either false = refl
 
-pushed_link : (n : Note Name) (v w : ℕ) (l : Link) → world.is_link v w (world.pushed n l) ≡ world.is_link v w l
+pub pushed_link : (n : Note Name) (v w : ℕ) (l : Link) → world.is_link v w (world.pushed n l) ≡ world.is_link v w l
 unfolding world.pushed world.is_link
 pushed_link n v w l = either l.cut
   where
@@ -134,7 +134,7 @@ cut_where u t k l ls ms false h i j = either (world.is_link u t l)
     either true = refl
     either false = j
 
-push_cut : (v w u t : ℕ) (n : Note Name) (ls : List Link) → world.is_cut u t (world.with_link (world.pushed n) v w ls) ≡ world.is_cut u t ls
+pub push_cut : (v w u t : ℕ) (n : Note Name) (ls : List Link) → world.is_cut u t (world.with_link (world.pushed n) v w ls) ≡ world.is_cut u t ls
 unfolding world.with_link world.is_cut
 push_cut v w u t n [] = refl
 push_cut v w u t n (l ∷ ls) = cut_where u t (world.pushed n l) l ls (world.with_link (world.pushed n) v w ls) (world.is_link v w l) (pushed_link n u t l) (pushed_cut n l) (push_cut v w u t n ls)

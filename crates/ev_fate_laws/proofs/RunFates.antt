@@ -78,7 +78,7 @@ module _ (x : Name) where
         let q : List Event = map (λ (m : Message Name). LeftQueue s.number m.id) s.queue in
         let c = total_append (left_by x) (q ++ world.left_held script s.number s.known) (world.left_wait script s.number s.known) in let d = total_append (left_by x) q (world.left_held script s.number s.known) in omega arith
 
-    vats_listed : (ss : List (Vat Name)) → total (left_by x) (world.left_vats script ss) ≡ total (at_vat x) ss
+    pub vats_listed : (ss : List (Vat Name)) → total (left_by x) (world.left_vats script ss) ≡ total (at_vat x) ss
     unfolding total world.left_vats
     vats_listed [] = refl
     vats_listed (s ∷ ss) = let a = total_append (left_by x) (world.left_vat script s) (world.left_vats script ss) in let b = vat_listed s in let rest = vats_listed ss in omega arith
@@ -88,7 +88,7 @@ module _ (x : Name) where
     notes_listed v w [] = refl
     notes_listed v w (n ∷ ns) = let rest = notes_listed v w ns in omega arith
 
-    links_listed : (ls : List Link) → total (left_by x) (world.left_links script ls) ≡ total (on_link x) ls
+    pub links_listed : (ls : List Link) → total (left_by x) (world.left_links script ls) ≡ total (on_link x) ls
     unfolding total world.left_links on_link
     links_listed [] = refl
     links_listed (l ∷ ls) = let a = total_append (left_by x) (map (λ n. LeftLink l.from l.to n) l.notes) (world.left_links script ls) in let b = notes_listed l.from l.to l.notes in let rest = links_listed ls in omega arith
@@ -120,18 +120,18 @@ module _ (x : Name) where
           let b = total_append f (q ++ world.left_held script s.number s.known) (world.left_wait script s.number s.known) in let c = total_append f q (world.left_held script s.number s.known) in
           let d = none_held s.number s.known in let e = none_wait s.number s.known in omega arith
 
-      none_vats : (ss : List (Vat Name)) → total f (world.left_vats script ss) ≡ 0
+      pub none_vats : (ss : List (Vat Name)) → total f (world.left_vats script ss) ≡ 0
       unfolding total world.left_vats
       none_vats [] = refl
       none_vats (s ∷ ss) = let a = total_append f (world.left_vat script s) (world.left_vats script ss) in let b = none_vat s in let rest = none_vats ss in omega arith
 
-      none_links : (ls : List Link) → total f (world.left_links script ls) ≡ 0
+      pub none_links : (ls : List Link) → total f (world.left_links script ls) ≡ 0
       unfolding total world.left_links
       none_links [] = refl
       none_links (l ∷ ls) = let a = total_append f (map (λ n. LeftLink l.from l.to n) l.notes) (world.left_links script ls) in let b = none_of (λ n. LeftLink l.from l.to n) (λ n. link l.from l.to n) l.notes in let rest = none_links ls in omega arith
 
     -- the closing list in a sum over the whole history
-    closing : (f : Event → ℕ) → f Ends ≡ 0 → (w : World) → total f (((w.history ++ world.left_vats script w.vats) ++ world.left_links script w.links) ++ Ends ∷ [])
+    pub closing : (f : Event → ℕ) → f Ends ≡ 0 → (w : World) → total f (((w.history ++ world.left_vats script w.vats) ++ world.left_links script w.links) ++ Ends ∷ [])
         ≡ total f w.history + total f (world.left_vats script w.vats) + total f (world.left_links script w.links)
     unfolding total
     closing f z w = let h : List Event = w.history ++ world.left_vats script w.vats in
@@ -145,7 +145,7 @@ module _ (x : Name) where
     unfolding places fates
     fated_ends w h = let k = h.kept in let u = h.unlisted in let f = h.fresh in let one = numbered_once x 0 w.vats in (omega arith, omega arith)
 
-    close_ends : (w : World) → Fated x w → Reached Ended (world.close script w)
+    pub close_ends : (w : World) → Fated x w → Reached Ended (world.close script w)
     unfolding world.close fates sent takes losses leavings places sent_by took_by lost_by left_by
     close_ends w h =
         let k = h.kept in let u = h.unlisted in let f = h.fresh in let most = numbered_once x 0 w.vats in
@@ -160,16 +160,16 @@ module _ (x : Name) where
     reached_then P Q i (Goes w) f h g = g w h
     reached_then P Q i (Stopped c k w) f h g = i w h
 
-    run_ends : Reached Ended (world.run script)
+    pub run_ends : Reached Ended (world.run script)
     unfolding world.run
     run_ends = reached_then (Fated x) Ended fated_ends (world.open_from script zero script.vats (begins script)) _ (opens_fated x script zero script.vats (begins script) (begins_fated x script))
         (λ w h. reached_then (Fated x) Ended fated_ends (world.steps_from script script.schedule 1 w) (world.close script) (steps_fated x script script.schedule 1 w h) close_ends)
 
-    reached_map : (P Q : World → Type 0) → ((w : World) → P w → Q w) → (r : Run) → Reached P r → Reached Q r
+    pub reached_map : (P Q : World → Type 0) → ((w : World) → P w → Q w) → (r : Run) → Reached P r → Reached Q r
     reached_map P Q i (Goes w) h = i w h
     reached_map P Q i (Stopped c k w) h = i w h
 
-    goes_fated : (r : Run) (w : World) → r ≡ Goes w → Reached (Fated x) r → Fated x w
+    pub goes_fated : (r : Run) (w : World) → r ≡ Goes w → Reached (Fated x) r → Fated x w
     goes_fated (Goes y) w e h = let same : y ≡ w = cc in rw same at h
     goes_fated (Stopped c k y) w e h = cc
 

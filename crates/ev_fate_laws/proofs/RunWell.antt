@@ -22,7 +22,7 @@ either_comes : (n : Name) (h : ℕ) (b : Bool) → ComesAsNoObject (New n h) →
 either_comes n h true g = tt
 either_comes n h false g = g
 
-read_comes : (n : Name) (ks : List Name) → ComesAsNoObject (world.read_name ks n)
+pub read_comes : (n : Name) (ks : List Name) → ComesAsNoObject (world.read_name ks n)
 unfolding world.read_name world.is_old
 read_comes (Object w i) ks = tt
 read_comes (Root w) ks = either_comes (Root w) _ (world.has_name ks (Root w)) tt
@@ -51,7 +51,7 @@ mutual
   passed_comes (AGift p i) ks = tt
   passed_comes (Many ys) ks = all_come ys ks
 
-  all_come : (ys : Passeds Name) (ks : List Name) → AllCome (world.read_all ys ks).read
+  pub all_come : (ys : Passeds Name) (ks : List Name) → AllCome (world.read_all ys ks).read
   all_come NoMore ks = tt
   all_come (More y ys) ks = (passed_comes y ks, all_come ys (world.read_passed y ks).known)
 
@@ -78,7 +78,7 @@ passed_settles (Plain y) ks h = value_settles y ks h
 passed_settles (AGift p i) ks h = absurd h
 passed_settles (Many ys) ks h = all_come ys ks
 
-note_comes : (ks : List Name) (n : Note Name) → NoteWell n → NoteComes (read_note ks n)
+pub note_comes : (ks : List Name) (n : Note Name) → NoteWell n → NoteComes (read_note ks n)
 unfolding read_note
 note_comes ks (Deliver m n verb ys) h = (h, read_comes n (world.read_all ys ks).known, all_come ys ks)
 note_comes ks (Open i n) h = read_comes n ks
@@ -195,12 +195,12 @@ module _ (script : Script) where
   notice_well k v to w None e h = h
   notice_well k v to w (Some s) e h = within_well v w (NoticedAt k v to ∷ []) (world.step_number script k) (Notices to) s h (h.vats v s e) tt
 
-  open_well : (v : ℕ) (p : Program) (w : World) (o : Option (Vat Name)) → slice_get w.vats v ≡ o → WorldWell w → Reached WorldWell (world.within v w (Opens v ∷ []) v (opening (names script v) p.tree script.depth (Root v) (world.given script.vats p.knows)) o)
+  pub open_well : (v : ℕ) (p : Program) (w : World) (o : Option (Vat Name)) → slice_get w.vats v ≡ o → WorldWell w → Reached WorldWell (world.within v w (Opens v ∷ []) v (opening (names script v) p.tree script.depth (Root v) (world.given script.vats p.knows)) o)
   unfolding does world.within
   open_well v p w None e h = h
   open_well v p w (Some s) e h = within_well v w (Opens v ∷ []) v (Starts p.tree script.depth (Root v) (world.given script.vats p.knows)) s h (h.vats v s e) tt
 
-  step_well : (entry : Entry) (k : ℕ) (w : World) → WorldWell w → Reached WorldWell (world.step script entry k w)
+  pub step_well : (entry : Entry) (k : ℕ) (w : World) → WorldWell w → Reached WorldWell (world.step script entry k w)
   unfolding world.step
   step_well (Turn v) k w h = turn_well k v w (slice_get w.vats v) refl h
   step_well (Carry v to) k w h = carry_link_well k v to w (world.link_at v to w.links) refl h
@@ -260,11 +260,11 @@ unfolding world.links_from
 links_from_well all v [] = tt
 links_from_well all v (p ∷ ps) = each_append LinkWell (world.links_to v zero all) (world.links_from all (suc v) ps) (links_to_well v zero all) (links_from_well all (suc v) ps)
 
-begins_well : (script : Script) → WorldWell (begins script)
+pub begins_well : (script : Script) → WorldWell (begins script)
 unfolding begins
 begins_well script = record { vats = λ v s e. fresh_well script zero script.vats v s e; links = links_from_well script.vats zero script.vats }
 
-goes_well : (r : Run) (w : World) → r ≡ Goes w → Reached WorldWell r → WorldWell w
+pub goes_well : (r : Run) (w : World) → r ≡ Goes w → Reached WorldWell r → WorldWell w
 goes_well (Goes y) w e h = let same : y ≡ w = cc in rw same at h
 goes_well (Stopped c k y) w e h = cc
 

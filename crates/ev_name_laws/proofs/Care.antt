@@ -2,14 +2,23 @@
 use Rattle.std.proofs.Common.{ℕ, zero, suc, ◌-◌, Bool, true, false, List, [], ◌∷◌, ◌++◌, Option, Some, None, if◌then◌else◌, length}
 use Rattle.std.specs.Prelude.{nat_le}
 use Rattle.ev_machine.specs.Values.{Words, Value, Null, Flag, Number, Text, Prim, Broken, Items, Ref, Naming, IsOwn, IsAnswer, IsGift, IsSent}
-use Rattle.ev_machine.specs.State.{Bound, Scope, Cell, View, Thing, Made, Ejector, Audition, Resolver, Message, Standing, Unsettled, WaitsOn, Viewed, Settled, Known, Change, Hold, Wait, WaitOn, See, React, ToTell, Settle, Passed, Passeds, Note, Put, GiftEntry, Happened, Vat, Stop, Done, Gives, Throws, Ejects, Stops, Act, ◌>>=◌, ◌>>◌, and_then, for_some, end_by, ending, each, give, throw, stop, eject, look, tell, spend, spent, new_activation, new_thing, kill, change, dead, new_slot, holding, write_slot, new_list, enqueue, send_out, new_gift, with_opened, open_gift, is_gift, mark, draws, with_change, changed, changed_to, unless_settled, alter, come, new_promise, new_message, draw, begun}
+use Rattle.ev_machine.specs.State.{Bound, Scope, Cell, View, Thing, Made, Ejector, Audition, Resolver, Message, Standing, Unsettled, WaitsOn, Viewed, Settled, Known, Change, Hold, Wait, WaitOn, See, React, ToTell, Settle, Passed, Passeds, Note, Put, GiftEntry, Happened, Took, Called, Back, Thrown, Left, Got, SlotMade, SlotRead, SlotWrote, ListMade, EjectorMade, AuditionMade, PromiseMade, ObjectMade, Sends, Reacts, Finished, Threw, Lost, Posted, Vat, Stop, Done, Gives, Throws, Ejects, Stops, Act, ◌>>=◌, ◌>>◌, and_then, for_some, end_by, ending, each, give, throw, stop, eject, look, tell, spend, spent, new_activation, new_thing, kill, change, dead, new_slot, holding, write_slot, new_list, enqueue, send_out, new_gift, with_opened, open_gift, is_gift, mark, draws, with_change, changed, changed_to, unless_settled, alter, come, new_promise, new_message, draw, begun}
 use Rattle.ev_machine.specs.Refs.{Place, Parcel}
 use Rattle.ev_machine.specs.Native.{Reply}
 use Rattle.ev_machine.specs.Scopes.{Answer, Answers}
 use Rattle.ev_name_laws.specs.Names.{Bit, Named, Mail, Drew, AllOf, ValueOk, ValuesOk, NameOk, MessageOk, KnownOk, CellOk, ThingOk, PutOk, GiftOk, Parts}
 use Rattle.ev_name_laws.proofs.Facts.{all_map, all_end, ChangeOk, values_up, message_up, known_up, cell_up, thing_up, note_up, gift_up, Fact, Nothing, Also, IsName, IsMail, IsDraw, IsValue, AreValues, IsBound, AreNouns, IsMessage, AreKnown, IsGiftEntry, AreGifts, IsPlace, IsThing, IsView, IsChange, MayValue, MayCell, MayThing, MayKnown, MayGift, IsReply, DoesPass, DoAllPass, NoteDoes, scope, answer, answers, parcel, new_names, nothing, Holds, holds_up}
 
--- What is cared for: when a name is good in a state, what more a state keeps, how states may follow each other; and that each single change is so.
+-- a line that tells of no message
+abbrev pub TellsOfNone : {N : Type 0} → Happened N → Type 0
+TellsOfNone (Took act m) = ⊥
+TellsOfNone (Sends act m) = ⊥
+TellsOfNone (Reacts act y o m) = ⊥
+TellsOfNone (Lost m) = ⊥
+TellsOfNone (Posted w m) = ⊥
+TellsOfNone _ = Unit {0}
+
+-- What is cared for: when a name is good in a state, what more a state keeps, how states may follow each other; and that each single change that touches no message and nothing that is known is so.
 pub record Care (N : Type 0) : Type 1 where
   pub ok : Vat N → Bit N → Type 0
   pub more : Vat N → Type 0
@@ -18,30 +27,38 @@ pub record Care (N : Type 0) : Type 1 where
   pub trans : (s t u : Vat N) → rel s t → rel t u → rel s u
   pub up : (s t : Vat N) → rel s t → (b : Bit N) → ok s b → ok t b
   pub fuel : (s : Vat N) (n : ℕ) → rel s (record s { fuel = s.fuel - n }) × (more s → more (record s { fuel = s.fuel - n }))
-  pub happened : (s : Vat N) (e : Happened N) → rel s (record s { happened = s.happened ++ e ∷ [] }) × (more s → more (record s { happened = s.happened ++ e ∷ [] }))
+  pub told : (s : Vat N) (e : Happened N) → TellsOfNone e → rel s (record s { happened = s.happened ++ e ∷ [] }) × (more s → more (record s { happened = s.happened ++ e ∷ [] }))
   pub activations : (s : Vat N) → rel s (record s { activations = suc s.activations }) × (more s → more (record s { activations = suc s.activations }))
   pub thing : (s : Vat N) (t : Thing N) → rel s (record s { things = s.things ++ t ∷ [] }) × (more s → more (record s { things = s.things ++ t ∷ [] }))
   pub killed : (s : Vat N) (n : ℕ) → rel s (record s { things = change dead n s.things }) × (more s → more (record s { things = change dead n s.things }))
   pub slot : (s : Vat N) (c : Cell N) → rel s (record s { slots = s.slots ++ c ∷ [] }) × (more s → more (record s { slots = s.slots ++ c ∷ [] }))
   pub written : (s : Vat N) (n : ℕ) (v : Value N) → rel s (record s { slots = change (holding v) n s.slots }) × (more s → more (record s { slots = change (holding v) n s.slots }))
   pub list : (s : Vat N) (vs : List (Value N)) → rel s (record s { lists = s.lists ++ vs ∷ [] }) × (more s → more (record s { lists = s.lists ++ vs ∷ [] }))
-  pub queue : (s : Vat N) (m : Message N) → rel s (record s { queue = s.queue ++ m ∷ [] }) × (more s → more (record s { queue = s.queue ++ m ∷ [] }))
-  pub outbox : (s : Vat N) (p : Put N) → PutOk (ok s) p → rel s (record s { outbox = s.outbox ++ p ∷ [] }) × (more s → more (record s { outbox = s.outbox ++ p ∷ [] }))
-  pub gift : (s : Vat N) (g : GiftEntry N) → GiftOk (ok s) g → rel s (record s { gifts = s.gifts ++ g ∷ [] }) × (more s → more (record s { gifts = s.gifts ++ g ∷ [] }))
-  pub opened : (s : Vat N) (p i : ℕ) → rel s (record s { gifts = with_opened p i s.gifts }) × (more s → more (record s { gifts = with_opened p i s.gifts }))
-  pub noticed : (s : Vat N) (w : ℕ) → rel s (record s { noticed = s.noticed ++ w ∷ [] }) × (more s → more (record s { noticed = s.noticed ++ w ∷ [] }))
-  pub drawn : (s : Vat N) (w : ℕ) → rel s (record s { drawn = s.drawn ++ w ∷ [] }) × (more s → more (record s { drawn = s.drawn ++ w ∷ [] })) × ok (record s { drawn = s.drawn ++ w ∷ [] }) (Drew (length s.drawn))
 
--- and of each change of what is known
+-- a change by which no name comes to be viewed
+abbrev pub ViewsNone : {N : Type 0} → Change N → Type 0
+ViewsNone (See q) = ⊥
+ViewsNone _ = Unit {0}
+
 pub record Under {N W : Type 0} (K : Naming N W) (S : Care N) : Type 0 where
   pub object : (s : Vat N) (i : ℕ) → S.ok s (Named (K.object i))
-  pub altered : (s : Vat N) (c : Change N) (n : N) → ChangeOk (S.ok s) c → S.rel s (record s { known = with_change K c n s.known }) × (S.more s → S.more (record s { known = with_change K c n s.known }))
+  pub happened : (s : Vat N) (e : Happened N) → S.rel s (record s { happened = s.happened ++ e ∷ [] }) × (S.more s → S.more (record s { happened = s.happened ++ e ∷ [] }))
+  pub queue : (s : Vat N) (m : Message N) → S.rel s (record s { queue = s.queue ++ m ∷ [] }) × (S.more s → S.more (record s { queue = s.queue ++ m ∷ [] }))
+  pub outbox : (s : Vat N) (p : Put N) → PutOk (S.ok s) p → S.rel s (record s { outbox = s.outbox ++ p ∷ [] }) × (S.more s → S.more (record s { outbox = s.outbox ++ p ∷ [] }))
+  pub gift : (s : Vat N) (g : GiftEntry N) → GiftOk (S.ok s) g → S.rel s (record s { gifts = s.gifts ++ g ∷ [] }) × (S.more s → S.more (record s { gifts = s.gifts ++ g ∷ [] }))
+  pub opened : (s : Vat N) (p i : ℕ) → S.rel s (record s { gifts = with_opened p i s.gifts }) × (S.more s → S.more (record s { gifts = with_opened p i s.gifts }))
+  pub noticed : (s : Vat N) (w : ℕ) → S.rel s (record s { noticed = s.noticed ++ w ∷ [] }) × (S.more s → S.more (record s { noticed = s.noticed ++ w ∷ [] }))
+  pub drawn : (s : Vat N) (w : ℕ) → S.rel s (record s { drawn = s.drawn ++ w ∷ [] }) × (S.more s → S.more (record s { drawn = s.drawn ++ w ∷ [] })) × S.ok (record s { drawn = s.drawn ++ w ∷ [] }) (Drew (length s.drawn))
+  pub altered : (s : Vat N) (c : Change N) (n : N) → ViewsNone c → ChangeOk (S.ok s) c → S.rel s (record s { known = with_change K c n s.known }) × (S.more s → S.more (record s { known = with_change K c n s.known }))
   pub answered : (s : Vat N) (h : ℕ) (m : N) → S.ok s (Mail m)
       → S.rel s (record s { known = s.known ++ begun (K.made (IsAnswer h m) (length s.known)) h ∷ [] }) × (S.more s → S.more (record s { known = s.known ++ begun (K.made (IsAnswer h m) (length s.known)) h ∷ [] }))
       × S.ok (record s { known = s.known ++ begun (K.made (IsAnswer h m) (length s.known)) h ∷ [] }) (Named (K.made (IsAnswer h m) (length s.known)))
   pub given : (s : Vat N) (h i : ℕ) → S.ok s (Drew i)
       → S.rel s (record s { known = s.known ++ begun (K.made (IsGift h i) (length s.known)) h ∷ [] }) × (S.more s → S.more (record s { known = s.known ++ begun (K.made (IsGift h i) (length s.known)) h ∷ [] }))
       × S.ok (record s { known = s.known ++ begun (K.made (IsGift h i) (length s.known)) h ∷ [] }) (Named (K.made (IsGift h i) (length s.known)))
+
+-- and of a new promise, and of a new message with its answer
+pub record Makes {N W : Type 0} (K : Naming N W) (S : Care N) : Type 0 where
   pub promised : (s : Vat N) → let t = record s { promises = suc s.promises; known = s.known ++ begun (K.made (IsOwn s.promises) (length s.known)) s.number ∷ [] } in
       S.rel s t × (S.more s → S.more t) × S.ok t (Named (K.made (IsOwn s.promises) (length s.known)))
   pub messaged : (s : Vat N) (h : ℕ) → let id = K.mailed (IsSent s.messages) (length s.mails) in let a = K.made (IsAnswer h id) (length s.known) in let t = record s { messages = suc s.messages; mails = s.mails ++ id ∷ []; known = s.known ++ begun a h ∷ [] } in
@@ -68,12 +85,12 @@ module _ {N : Type 0} (S : Care N) where
   pub record Gets (C F : Fact N) : Type 0 where
     pub at : (s : Vat N) → Holds (S.ok s) C → Holds (S.ok s) F
 
-  -- how it ends
+  -- how it ends; of a stop nothing is said
   abbrev pub Ends : {A : Type 0} → (A → Fact N) → Vat N → Done N A → Type 0
   Ends G s (Gives a t) = S.rel s t × Sound S t × Holds (S.ok t) (G a)
   Ends G s (Throws p t) = S.rel s t × Sound S t
   Ends G s (Ejects n v t) = S.rel s t × Sound S t × ValueOk (S.ok t) v
-  Ends G s (Stops c t) = S.rel s t × Sound S t
+  Ends G s (Stops c t) = Unit {0}
 
   pub record Fine {A : Type 0} (C : Fact N) (m : Act N A) (G : A → Fact N) : Type 0 where
     pub after : (s : Vat N) → Sound S s → Holds (S.ok s) C → Ends G s (m s)
@@ -150,9 +167,6 @@ module _ {N : Type 0} (S : Care N) where
   pub got_wait_on : (C : Fact N) (q : N) → Gets C (IsName q) → Gets C (IsChange (WaitOn q))
   got_wait_on C q g = record { at = λ s h. g.at s h }
 
-  pub got_see : (C : Fact N) (q : N) → Gets C (IsName q) → Gets C (IsChange (See q))
-  got_see C q g = record { at = λ s h. g.at s h }
-
   pub got_to_tell : (C : Fact N) (w : ℕ) → Gets C (IsChange (ToTell w))
   got_to_tell C w = record { at = λ s h. tt }
 
@@ -171,9 +185,9 @@ module _ {N : Type 0} (S : Care N) where
   widen G s t (Gives a u) g h = (S.trans s t u g h.0, h.1, h.2)
   widen G s t (Throws p u) g h = (S.trans s t u g h.0, h.1)
   widen G s t (Ejects n v u) g h = (S.trans s t u g h.0, h.1, h.2)
-  widen G s t (Stops c u) g h = (S.trans s t u g h.0, h.1)
+  widen G s t (Stops c u) g h = tt
 
-  rise : (s t : Vat N) → S.rel s t → (C : Fact N) → Holds (S.ok s) C → Holds (S.ok t) C
+  pub rise : (s t : Vat N) → S.rel s t → (C : Fact N) → Holds (S.ok s) C → Holds (S.ok t) C
   rise s t r C c = holds_up (S.ok s) (S.ok t) (S.up s t r) C c
 
   bind_ends : {A B : Type 0} (C : Fact N) (P : A → Fact N) (H : B → Fact N) (s : Vat N) (d : Done N A) (f : A → Act N B) → Holds (S.ok s) C → Ends P s d
@@ -182,7 +196,7 @@ module _ {N : Type 0} (S : Care N) where
   bind_ends C P H s (Gives a t) f c h k = widen H s t (f a t) h.0 ((k a).after t h.1 (rise s t h.0 C c, h.2))
   bind_ends C P H s (Throws p t) f c h k = h
   bind_ends C P H s (Ejects n v t) f c h k = h
-  bind_ends C P H s (Stops r t) f c h k = h
+  bind_ends C P H s (Stops r t) f c h k = tt
 
   pub fine_bind : {A B : Type 0} {C : Fact N} {m : Act N A} {f : A → Act N B} {H : B → Fact N} (P : A → Fact N) → Fine C m P → ((a : A) → Fine (Also C (P a)) (f a) H) → Fine C (m >>= f) H
   unfolding ◌>>=◌
@@ -194,7 +208,7 @@ module _ {N : Type 0} (S : Care N) where
   less_ends C P H s (Gives a t) f c h k = widen H s t (f a t) h.0 ((k a).after t h.1 (rise s t h.0 C c))
   less_ends C P H s (Throws p t) f c h k = h
   less_ends C P H s (Ejects n v t) f c h k = h
-  less_ends C P H s (Stops r t) f c h k = h
+  less_ends C P H s (Stops r t) f c h k = tt
 
   pub fine_less : {A B : Type 0} {C : Fact N} {m : Act N A} {f : A → Act N B} {H : B → Fact N} (P : A → Fact N) → Fine C m P → ((a : A) → Fine C (f a) H) → Fine C (m >>= f) H
   unfolding ◌>>=◌
@@ -210,7 +224,7 @@ module _ {N : Type 0} (S : Care N) where
   end_ends C P H s (Gives a t) f k l c h x y z = widen H s t (f a t) h.0 ((x a).after t h.1 (rise s t h.0 C c, h.2))
   end_ends C P H s (Throws p t) f k l c h x y z = widen H s t (k p t) h.0 ((y p).after t h.1 (rise s t h.0 C c))
   end_ends C P H s (Ejects n v t) f k l c h x y z = widen H s t (l n v t) h.0 ((z n v).after t h.1 (rise s t h.0 C c, h.2))
-  end_ends C P H s (Stops r t) f k l c h x y z = h
+  end_ends C P H s (Stops r t) f k l c h x y z = tt
 
   pub fine_ending : {A B : Type 0} {C : Fact N} {m : Act N A} {f : A → Act N B} {k : Words → Act N B} {l : ℕ → Value N → Act N B} {H : B → Fact N} (P : A → Fact N) → Fine C m P
       → ((a : A) → Fine (Also C (P a)) (f a) H) → ((p : Words) → Fine C (k p) H) → ((n : ℕ) (v : Value N) → Fine (Also C (IsValue v)) (l n v) H) → Fine C (ending f k l m) H
@@ -240,13 +254,13 @@ module _ {N : Type 0} (S : Care N) where
 
   pub fine_stop : {A : Type 0} {C : Fact N} (c : Stop) {H : A → Fact N} → Fine C (stop {A = A} c) H
   unfolding stop
-  fine_stop r = record { after = λ s h c. (S.same s, h) }
+  fine_stop r = record { after = λ s h c. tt }
 
   more_ends : {A : Type 0} (P H : A → Fact N) (s : Vat N) (d : Done N A) → ((a : A) → Gets (P a) (H a)) → Ends P s d → Ends H s d
   more_ends P H s (Gives a t) g h = (h.0, h.1, (g a).at t h.2)
   more_ends P H s (Throws p t) g h = h
   more_ends P H s (Ejects n v t) g h = h
-  more_ends P H s (Stops r t) g h = h
+  more_ends P H s (Stops r t) g h = tt
 
   pub fine_more : {A : Type 0} {C : Fact N} {m : Act N A} (P H : A → Fact N) → Fine C m P → ((a : A) → Gets (P a) (H a)) → Fine C m H
   fine_more {m = m} P H h g = record { after = λ s i c. more_ends P H s (m s) g (h.after s i c) }
@@ -266,14 +280,59 @@ module _ {N : Type 0} (S : Care N) where
   unfolding look
   fine_sees f H g = record { after = λ s h c. (S.same s, h, g s h c) }
 
-  pub fine_tell : {C : Fact N} (e : Happened N) → Fine C (tell e) nothing
+  fine_told : {C : Fact N} (e : Happened N) → TellsOfNone e → Fine C (tell e) nothing
   unfolding tell
-  fine_tell e = record { after = λ s h c. let r = S.happened s e in (r.0, record { parts = still s _ r.0 h; more = r.1 h.more }, tt) }
+  fine_told e n = record { after = λ s h c. let r = S.told s e n in (r.0, record { parts = still s _ r.0 h; more = r.1 h.more }, tt) }
+
+  pub told_called : {C : Fact N} (act : ℕ) (y : Value N) (verb : Words) (args : List (Value N)) (begins : Option ℕ) → Fine C (tell (Called act y verb args begins)) nothing
+  told_called act y verb args begins = fine_told (Called act y verb args begins) tt
+
+  pub told_back : {C : Fact N} (act : ℕ) (y : Value N) → Fine C (tell (Back act y)) nothing
+  told_back act y = fine_told (Back act y) tt
+
+  pub told_thrown : {C : Fact N} (act : ℕ) (p : Words) → Fine C (tell (Thrown act p)) nothing
+  told_thrown act p = fine_told (Thrown act p) tt
+
+  pub told_left : {C : Fact N} (act : ℕ) → Fine C (tell (Left act)) nothing
+  told_left act = fine_told (Left act) tt
+
+  pub told_got : {C : Fact N} (act : ℕ) (y : Value N) → Fine C (tell (Got act y)) nothing
+  told_got act y = fine_told (Got act y) tt
+
+  pub told_slot_made : {C : Fact N} (act k : ℕ) (y : Value N) → Fine C (tell (SlotMade act k y)) nothing
+  told_slot_made act k y = fine_told (SlotMade act k y) tt
+
+  pub told_slot_read : {C : Fact N} (act k : ℕ) (y : Value N) → Fine C (tell (SlotRead act k y)) nothing
+  told_slot_read act k y = fine_told (SlotRead act k y) tt
+
+  pub told_slot_wrote : {C : Fact N} (act k : ℕ) (y : Value N) → Fine C (tell (SlotWrote act k y)) nothing
+  told_slot_wrote act k y = fine_told (SlotWrote act k y) tt
+
+  pub told_list_made : {C : Fact N} (act k : ℕ) (vs : List (Value N)) → Fine C (tell (ListMade act k vs)) nothing
+  told_list_made act k vs = fine_told (ListMade act k vs) tt
+
+  pub told_ejector_made : {C : Fact N} (act : ℕ) (n : N) → Fine C (tell (EjectorMade act n)) nothing
+  told_ejector_made act n = fine_told (EjectorMade act n) tt
+
+  pub told_audition_made : {C : Fact N} (act : ℕ) (n : N) → Fine C (tell (AuditionMade act n)) nothing
+  told_audition_made act n = fine_told (AuditionMade act n) tt
+
+  pub told_promise_made : {C : Fact N} (act : ℕ) (p n : N) → Fine C (tell (PromiseMade act p n)) nothing
+  told_promise_made act p n = fine_told (PromiseMade act p n) tt
+
+  pub told_object_made : {C : Fact N} (act : ℕ) (n : N) (x : Words) (bs : List (Bound N)) (stamps : List (Value N)) → Fine C (tell (ObjectMade act n x bs stamps)) nothing
+  told_object_made act n x bs stamps = fine_told (ObjectMade act n x bs stamps) tt
+
+  pub told_finished : {C : Fact N} (act : ℕ) (y : Value N) → Fine C (tell (Finished act y)) nothing
+  told_finished act y = fine_told (Finished act y) tt
+
+  pub told_threw : {C : Fact N} (act : ℕ) (p : Words) → Fine C (tell (Threw act p)) nothing
+  told_threw act p = fine_told (Threw act p) tt
 
   spend_ends : (s : Vat N) (n : ℕ) (b : Bool) → Sound S s → Ends nothing s (spent n b s)
   unfolding spent
   spend_ends s n true h = let r = S.fuel s n in (r.0, record { parts = still s _ r.0 h; more = r.1 h.more }, tt)
-  spend_ends s n false h = (S.same s, h)
+  spend_ends s n false h = tt
 
   pub fine_spend : {C : Fact N} (n : ℕ) → Fine C (spend n) nothing
   unfolding spend
@@ -332,56 +391,10 @@ module _ {N : Type 0} (S : Care N) where
         (r.0, record { parts = record { things = p.things; slots = p.slots; lists = all_end (ValuesOk (S.ok t)) s.lists vs p.lists (rise s t r.0 (AreValues vs) (g.at s c)); queue = p.queue; known = p.known; gifts = p.gifts; outbox = p.outbox }; more = r.1 h.more }, tt);
   }
 
-  pub fine_enqueue : {C : Fact N} (m : Message N) → Gets C (IsMessage m) → Fine C (enqueue m) nothing
-  unfolding enqueue
-  fine_enqueue m g = record {
-    after = λ s h c. let r = S.queue s m in let t = record s { queue = s.queue ++ m ∷ [] } in let p = still s t r.0 h in
-        (r.0, record { parts = record { things = p.things; slots = p.slots; lists = p.lists; queue = all_end (MessageOk (S.ok t)) s.queue m p.queue (rise s t r.0 (IsMessage m) (g.at s c)); known = p.known; gifts = p.gifts; outbox = p.outbox }; more = r.1 h.more }, tt);
-  }
-
-  pub fine_out : {C : Fact N} (to : ℕ) (n : Note N) → Gets C (NoteDoes n) → Fine C (send_out to n) nothing
-  unfolding send_out
-  fine_out to n g = record {
-    after = λ s h c. let q : Put N = record { to = to; note = n } in let r = S.outbox s q (g.at s c) in let t = record s { outbox = s.outbox ++ q ∷ [] } in let p = still s t r.0 h in
-        (r.0, record { parts = record { things = p.things; slots = p.slots; lists = p.lists; queue = p.queue; known = p.known; gifts = p.gifts; outbox = all_end (PutOk (S.ok t)) s.outbox q p.outbox (rise s t r.0 (NoteDoes n) (g.at s c)) }; more = r.1 h.more }, tt);
-  }
-
-  pub fine_gift : {C : Fact N} (n : N) (p i : ℕ) → Gets C (IsName n) → Gets C (IsDraw i) → Fine C (new_gift n p i) nothing
-  unfolding new_gift
-  fine_gift n w i g k = record {
-    after = λ s h c. let x : GiftEntry N = record { name = n; provider = w; number = i; opened = false } in let r = S.gift s x (g.at s c, k.at s c) in let t = record s { gifts = s.gifts ++ x ∷ [] } in let p = still s t r.0 h in
-        (r.0, record { parts = record { things = p.things; slots = p.slots; lists = p.lists; queue = p.queue; known = p.known; gifts = all_end (GiftOk (S.ok t)) s.gifts x p.gifts (rise s t r.0 (IsGiftEntry x) (g.at s c, k.at s c)); outbox = p.outbox }; more = r.1 h.more }, tt);
-  }
-
-  opened_either : (P : Bit N → Type 0) (b : Bool) (g k : GiftEntry N) (gs ks : List (GiftEntry N)) → GiftOk P g → GiftOk P k → AllOf (GiftOk P) gs → AllOf (GiftOk P) ks → AllOf (GiftOk P) (elim b [ true ↦ g ∷ gs | false ↦ k ∷ ks ])
-  opened_either P true g k gs ks a b c d = (a, c)
-  opened_either P false g k gs ks a b c d = (b, d)
-
-  opened_ok : (P : Bit N → Type 0) (p i : ℕ) (gs : List (GiftEntry N)) → AllOf (GiftOk P) gs → AllOf (GiftOk P) (with_opened p i gs)
-  unfolding with_opened
-  opened_ok P p i [] h = tt
-  opened_ok P p i (g ∷ gs) h = opened_either P (is_gift p i g) (record g { opened = true }) g gs (with_opened p i gs) h.0 h.0 h.1 (opened_ok P p i gs h.1)
-
-  pub fine_open : {C : Fact N} (p i : ℕ) → Fine C (open_gift p i) nothing
-  unfolding open_gift
-  fine_open w i = record {
-    after = λ s h c. let r = S.opened s w i in let t = record s { gifts = with_opened w i s.gifts } in let p = still s t r.0 h in
-        (r.0, record { parts = record { things = p.things; slots = p.slots; lists = p.lists; queue = p.queue; known = p.known; gifts = opened_ok (S.ok t) w i s.gifts p.gifts; outbox = p.outbox }; more = r.1 h.more }, tt);
-  }
-
-  pub fine_mark : {C : Fact N} (w : ℕ) → Fine C (mark w) nothing
-  unfolding mark
-  fine_mark w = record { after = λ s h c. let r = S.noticed s w in (r.0, record { parts = still s _ r.0 h; more = r.1 h.more }, tt) }
-
   pub fine_each : {A : Type 0} {C : Fact N} {f : A → Act N (Unit {0})} (xs : List A) → ((x : A) → Fine C (f x) nothing) → Fine C (each f xs) nothing
   unfolding each
   fine_each [] h = fine_give tt (got_nothing _)
   fine_each (x ∷ xs) h = fine_then nothing (h x) (fine_each xs h)
-
-  draws_ends : (s : Vat N) (w : ℕ) (o : Option ℕ) → Sound S s → Ends IsDraw s (draws w o s)
-  unfolding draws
-  draws_ends s w (Some i) h = (S.same s, h)
-  draws_ends s w None h = let r = S.drawn s w in (r.0, record { parts = still s _ r.0 h; more = r.1 h.more }, r.2)
 
   -- ---- by what is given
 
@@ -485,9 +498,59 @@ module _ {N W : Type 0} (K : Naming N W) (S : Care N) (law : Under K S) where
   pub got_object : (C : Fact N) (i : ℕ) → Gets S C (IsName (K.object i))
   got_object C i = record { at = λ s h. law.object s i }
 
+  pub fine_tell : {C : Fact N} (e : Happened N) → Fine S C (tell e) nothing
+  unfolding tell
+  fine_tell e = record { after = λ s h c. let r = law.happened s e in (r.0, record { parts = still S s _ r.0 h; more = r.1 h.more }, tt) }
+
+  pub fine_enqueue : {C : Fact N} (m : Message N) → Gets S C (IsMessage m) → Fine S C (enqueue m) nothing
+  unfolding enqueue
+  fine_enqueue m g = record {
+    after = λ s h c. let r = law.queue s m in let t = record s { queue = s.queue ++ m ∷ [] } in let p = still S s t r.0 h in
+        (r.0, record { parts = record { things = p.things; slots = p.slots; lists = p.lists; queue = all_end (MessageOk (S.ok t)) s.queue m p.queue (rise S s t r.0 (IsMessage m) (g.at s c)); known = p.known; gifts = p.gifts; outbox = p.outbox }; more = r.1 h.more }, tt);
+  }
+
+  pub fine_out : {C : Fact N} (to : ℕ) (n : Note N) → Gets S C (NoteDoes n) → Fine S C (send_out to n) nothing
+  unfolding send_out
+  fine_out to n g = record {
+    after = λ s h c. let q : Put N = record { to = to; note = n } in let r = law.outbox s q (g.at s c) in let t = record s { outbox = s.outbox ++ q ∷ [] } in let p = still S s t r.0 h in
+        (r.0, record { parts = record { things = p.things; slots = p.slots; lists = p.lists; queue = p.queue; known = p.known; gifts = p.gifts; outbox = all_end (PutOk (S.ok t)) s.outbox q p.outbox (rise S s t r.0 (NoteDoes n) (g.at s c)) }; more = r.1 h.more }, tt);
+  }
+
+  pub fine_gift : {C : Fact N} (n : N) (p i : ℕ) → Gets S C (IsName n) → Gets S C (IsDraw i) → Fine S C (new_gift n p i) nothing
+  unfolding new_gift
+  fine_gift n w i g k = record {
+    after = λ s h c. let x : GiftEntry N = record { name = n; provider = w; number = i; opened = false } in let r = law.gift s x (g.at s c, k.at s c) in let t = record s { gifts = s.gifts ++ x ∷ [] } in let p = still S s t r.0 h in
+        (r.0, record { parts = record { things = p.things; slots = p.slots; lists = p.lists; queue = p.queue; known = p.known; gifts = all_end (GiftOk (S.ok t)) s.gifts x p.gifts (rise S s t r.0 (IsGiftEntry x) (g.at s c, k.at s c)); outbox = p.outbox }; more = r.1 h.more }, tt);
+  }
+
+  opened_either : (P : Bit N → Type 0) (b : Bool) (g k : GiftEntry N) (gs ks : List (GiftEntry N)) → GiftOk P g → GiftOk P k → AllOf (GiftOk P) gs → AllOf (GiftOk P) ks → AllOf (GiftOk P) (elim b [ true ↦ g ∷ gs | false ↦ k ∷ ks ])
+  opened_either P true g k gs ks a b c d = (a, c)
+  opened_either P false g k gs ks a b c d = (b, d)
+
+  opened_ok : (P : Bit N → Type 0) (p i : ℕ) (gs : List (GiftEntry N)) → AllOf (GiftOk P) gs → AllOf (GiftOk P) (with_opened p i gs)
+  unfolding with_opened
+  opened_ok P p i [] h = tt
+  opened_ok P p i (g ∷ gs) h = opened_either P (is_gift p i g) (record g { opened = true }) g gs (with_opened p i gs) h.0 h.0 h.1 (opened_ok P p i gs h.1)
+
+  pub fine_open : {C : Fact N} (p i : ℕ) → Fine S C (open_gift p i) nothing
+  unfolding open_gift
+  fine_open w i = record {
+    after = λ s h c. let r = law.opened s w i in let t = record s { gifts = with_opened w i s.gifts } in let p = still S s t r.0 h in
+        (r.0, record { parts = record { things = p.things; slots = p.slots; lists = p.lists; queue = p.queue; known = p.known; gifts = opened_ok (S.ok t) w i s.gifts p.gifts; outbox = p.outbox }; more = r.1 h.more }, tt);
+  }
+
+  pub fine_mark : {C : Fact N} (w : ℕ) → Fine S C (mark w) nothing
+  unfolding mark
+  fine_mark w = record { after = λ s h c. let r = law.noticed s w in (r.0, record { parts = still S s _ r.0 h; more = r.1 h.more }, tt) }
+
+  draws_ends : (s : Vat N) (w : ℕ) (o : Option ℕ) → Sound S s → Ends S IsDraw s (draws w o s)
+  unfolding draws
+  draws_ends s w (Some i) h = tt
+  draws_ends s w None h = let r = law.drawn s w in (r.0, record { parts = still S s _ r.0 h; more = r.1 h.more }, r.2)
+
   pub fine_draw : {C : Fact N} → Fine S C (draw K) IsDraw
   unfolding draw
-  fine_draw = record { after = λ s h c. draws_ends S s _ _ h }
+  fine_draw = record { after = λ s h c. draws_ends s _ _ h }
 
   to_ok : (P : Bit N → Type 0) (c : Change N) (k : Known N) → ChangeOk P c → KnownOk P k → KnownOk P (changed_to c k)
   unfolding changed_to
@@ -510,18 +573,36 @@ module _ {N W : Type 0} (K : Naming N W) (S : Care N) (law : Under K S) where
   either_ok P true k j ks js a b c d = (a, c)
   either_ok P false k j ks js a b c d = (b, d)
 
-  changes_ok : (P : Bit N → Type 0) (c : Change N) (n : N) (ks : List (Known N)) → ChangeOk P c → AllOf (KnownOk P) ks → AllOf (KnownOk P) (with_change K c n ks)
+  pub changes_ok : (P : Bit N → Type 0) (c : Change N) (n : N) (ks : List (Known N)) → ChangeOk P c → AllOf (KnownOk P) ks → AllOf (KnownOk P) (with_change K c n ks)
   unfolding with_change changed
   changes_ok P c n [] g h = tt
   changes_ok P c n (k ∷ ks) g h = either_ok P (K.same k.name n) (changed c k) k ks (with_change K c n ks) (unless_ok P k.standing k (changed_to c k) h.0 (to_ok P c k g h.0)) h.0 h.1 (changes_ok P c n ks g h.1)
 
-  pub fine_alter : {C : Fact N} (c : Change N) (n : N) → Gets S C (IsChange c) → Fine S C (alter K c n) nothing
+  fine_alter : {C : Fact N} (c : Change N) (n : N) → ViewsNone c → Gets S C (IsChange c) → Fine S C (alter K c n) nothing
   unfolding alter
-  fine_alter d n g = record {
-    after = λ s h c. let r = law.altered s d n (g.at s c) in let t = record s { known = with_change K d n s.known } in let p = still S s t r.0 h in
+  fine_alter d n none g = record {
+    after = λ s h c. let r = law.altered s d n none (g.at s c) in let t = record s { known = with_change K d n s.known } in let p = still S s t r.0 h in
         let e : ChangeOk (S.ok t) d = holds_up (S.ok s) (S.ok t) (S.up s t r.0) (IsChange d) (g.at s c) in
         (r.0, record { parts = record { things = p.things; slots = p.slots; lists = p.lists; queue = p.queue; known = changes_ok (S.ok t) d n s.known e p.known; gifts = p.gifts; outbox = p.outbox }; more = r.1 h.more }, tt);
   }
+
+  pub fine_hold : {C : Fact N} (m : Message N) (n : N) → Gets S C (IsChange (Hold m)) → Fine S C (alter K (Hold m) n) nothing
+  fine_hold m n g = fine_alter (Hold m) n tt g
+
+  pub fine_wait : {C : Fact N} (q n : N) → Gets S C (IsChange (Wait q)) → Fine S C (alter K (Wait q) n) nothing
+  fine_wait q n g = fine_alter (Wait q) n tt g
+
+  pub fine_waits_on : {C : Fact N} (q n : N) → Gets S C (IsChange (WaitOn q)) → Fine S C (alter K (WaitOn q) n) nothing
+  fine_waits_on q n g = fine_alter (WaitOn q) n tt g
+
+  pub fine_reacts : {C : Fact N} (m : Message N) (n : N) → Gets S C (IsChange (React m)) → Fine S C (alter K (React m) n) nothing
+  fine_reacts m n g = fine_alter (React m) n tt g
+
+  pub fine_to_tell : {C : Fact N} (w : ℕ) (n : N) → Gets S C (IsChange (ToTell w)) → Fine S C (alter K (ToTell w) n) nothing
+  fine_to_tell w n g = fine_alter (ToTell w) n tt g
+
+  pub fine_settles : {C : Fact N} (y : Value N) (n : N) → Gets S C (IsChange (Settle y)) → Fine S C (alter K (Settle y) n) nothing
+  fine_settles y n g = fine_alter (Settle y) n tt g
 
   pub begun_ok : (P : Bit N → Type 0) (n : N) (h : ℕ) → P (Named n) → KnownOk P (begun n h)
   unfolding begun
@@ -539,14 +620,21 @@ module _ {N W : Type 0} (K : Naming N W) (S : Care N) (law : Under K S) where
   unfolding come
   come_gift w i g = record { after = λ s h c. let r = law.given s w i (g.at s c) in (r.0, record { parts = with_known s _ _ w r.0 r.2 h; more = r.1 h.more }, r.2) }
 
+module _ {N W : Type 0} (K : Naming N W) (S : Care N) (law : Under K S) (makes : Makes K S) where
   pub fine_promise : {C : Fact N} → Fine S C (new_promise K) IsName
   unfolding new_promise
-  fine_promise = record { after = λ s h c. let r = law.promised s in (r.0, record { parts = with_known s _ _ s.number r.0 r.2 h; more = r.1 h.more }, r.2) }
+  fine_promise = record { after = λ s h c. let r = makes.promised s in (r.0, record { parts = with_known K S law s _ _ s.number r.0 r.2 h; more = r.1 h.more }, r.2) }
 
   pub fine_new_message : {C : Fact N} (h : ℕ) → Fine S C (new_message K h) new_names
   unfolding new_message
-  fine_new_message w = record { after = λ s h c. let r = law.messaged s w in (r.0, record { parts = with_known s _ _ w r.0 r.3 h; more = r.1 h.more }, (r.2, r.3)) }
+  fine_new_message w = record { after = λ s h c. let r = makes.messaged s w in (r.0, record { parts = with_known K S law s _ _ w r.0 r.3 h; more = r.1 h.more }, (r.2, r.3)) }
 
-pub ruleset gets = (got, got_left, got_right, got_itself, got_both, got_nothing, got_null, got_flag, got_number, got_text, got_prim, got_broken, got_items, got_ref, got_object, got_none, got_more, got_message, got_hold, got_react, got_settle, got_wait, got_wait_on, got_see, got_to_tell, got_ejector, got_resolver, got_audition)
+pub ruleset gets = (got, got_left, got_right, got_itself, got_both, got_nothing, got_null, got_flag, got_number, got_text, got_prim, got_broken, got_items, got_ref, got_none, got_more, got_message, got_hold, got_react, got_settle, got_wait, got_wait_on, got_to_tell, got_ejector, got_resolver, got_audition)
 
-pub ruleset fine = (gets, then_unit, then_number, then_value, then_answer, bind_number, bind_draw, bind_name, bind_names, bind_flag, bind_place, bind_standing, bind_gifts, bind_gift, bind_knowns, bind_value, bind_values, bind_scope, bind_answer, bind_answers, bind_may_value, bind_may_cell, bind_may_thing, bind_may_known, bind_reply, bind_bound, bind_passed, bind_passeds, bind_parcel, end_value, end_scope, end_answer, fine_some, fine_if, fine_give, fine_throw, fine_eject, fine_stop, fine_look, fine_tell, fine_spend, fine_activation, fine_thing, fine_kill, fine_slot, fine_write, fine_list, fine_enqueue, fine_out, fine_gift, fine_open, fine_mark, fine_each, fine_draw, fine_alter, come_answer, come_gift, fine_promise, fine_new_message)
+-- what touches no message and nothing that is known
+pub ruleset quiet = (gets, then_unit, then_number, then_value, then_answer, bind_number, bind_draw, bind_name, bind_names, bind_flag, bind_place, bind_standing, bind_gifts, bind_gift, bind_knowns, bind_value, bind_values, bind_scope, bind_answer, bind_answers, bind_may_value, bind_may_cell, bind_may_thing, bind_may_known, bind_reply, bind_bound, bind_passed, bind_passeds, bind_parcel, end_value, end_scope, end_answer, fine_some, fine_if, fine_give, fine_throw, fine_eject, fine_stop, fine_look, fine_spend, fine_activation, fine_thing, fine_kill, fine_slot, fine_write, fine_list, fine_each)
+
+-- and lines that tell of no message
+pub ruleset quiet_told = (quiet, told_called, told_back, told_thrown, told_left, told_got, told_slot_made, told_slot_read, told_slot_wrote, told_list_made, told_ejector_made, told_audition_made, told_promise_made, told_object_made, told_finished, told_threw)
+
+pub ruleset fine = (quiet, got_object, fine_tell, fine_enqueue, fine_out, fine_gift, fine_open, fine_mark, fine_draw, fine_hold, fine_wait, fine_waits_on, fine_reacts, fine_to_tell, fine_settles, come_answer, come_gift)

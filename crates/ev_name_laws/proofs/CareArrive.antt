@@ -51,17 +51,9 @@ module _ {N W : Type 0} (K : Naming N W) (S : Care N) (law : Under K S) where
   unfolding arrive.arrive_ask
   fine_arrive_ask {C = C} from p i g1 = search (fine, looks, fine_have_gift, fine_break_orphan, fine_tell_asker) depth 30
 
-  pub fine_see : {C : Fact N} → (n : N) → Gets S C (IsName n) → (g : N) → Gets S C (IsName g) → Fine S C (arrive.see K n g) nothing
-  unfolding arrive.see
-  fine_see {C = C} n g1 g g2 = search (fine, looks) depth 30
-
   pub fine_gift_there : {C : Fact N} → (v h c i : ℕ) → Gets S C (IsDraw i) → Fine S C (arrive.gift_there K v h c i) IsName
   unfolding arrive.gift_there
   fine_gift_there {C = C} v h c i g1 = search (fine, looks, fine_have_gift) depth 30
-
-  pub fine_view_there : {C : Fact N} → (n : N) → Gets S C (IsName n) → (c : ℕ) → Fine S C (arrive.view_there K n c) nothing
-  unfolding arrive.view_there
-  fine_view_there {C = C} n g1 c = search (fine, looks, fine_gift_there, fine_see) depth 30
 
   pub fine_shorten_to : {C : Fact N} → (i : ℕ) → Gets S C (IsDraw i) → (p : Place N) → Gets S C (IsPlace p) → Fine S C (arrive.shorten_to K i p) nothing
   unfolding arrive.shorten_to
@@ -100,8 +92,9 @@ module _ {N W : Type 0} (K : Naming N W) (S : Care N) (law : Under K S) where
   pub fine_opened : {C : Fact N} → (from i : ℕ) → Gets S C (IsDraw i) → (y : N) → Gets S C (IsName y) → Fine S C (arrive.have_gift K from i >>= (λ n. open_gift from i >> refs.resolve K n (Ref y))) nothing
   fine_opened {C = C} from i g1 y g2 = search (fine, looks, fine_have_gift, fine_resolve) depth 30
 
-  pub fine_went : {C : Fact N} → (n : N) → Gets S C (IsName n) → (c : ℕ) → Fine S C (look (λ s. is_in c s.noticed) >>= (λ gone. if gone then refs.settle K n (Broken (codes "partition")) else arrive.view_there K n c)) nothing
-  fine_went {C = C} n g1 c = search (fine, looks, fine_settle, fine_view_there) depth 30
+  -- where a gift comes to be the view of a name, is given
+  pub fine_went : ((D : Fact N) (n : N) → Gets S D (IsName n) → (c : ℕ) → Fine S D (arrive.view_there K n c) nothing) → {C : Fact N} → (n : N) → Gets S C (IsName n) → (c : ℕ) → Fine S C (look (λ s. is_in c s.noticed) >>= (λ gone. if gone then refs.settle K n (Broken (codes "partition")) else arrive.view_there K n c)) nothing
+  fine_went views {C = C} n g1 c = search (fine, looks, fine_settle, views) depth 30
 
   pub fine_shortened : {C : Fact N} → (n : N) → Gets S C (IsName n) → (i : ℕ) → Gets S C (IsDraw i) → Fine S C (look (λ s. refs.place K s (refs.follow K s (Ref n))) >>= (λ p. arrive.shorten_to K i p)) nothing
   fine_shortened {C = C} n g1 i g2 = search (fine, looks, fine_shorten_to) depth 30

@@ -1,12 +1,12 @@
 -- What a vat does with references, from a sound state, ends in a sound state.
 use Rattle.std.proofs.Common.{ℕ, zero, suc, true, false, List, [], ◌∷◌, Option, Some, None}
-use Rattle.ev_machine.specs.Values.{Words, Value, Prim, Naming}
-use Rattle.ev_machine.specs.State.{Message, Standing, Settled, Known, Passed, Passeds, Plain, AGift, Many, NoMore, More, Act}
+use Rattle.ev_machine.specs.Values.{Words, Value, Prim, Ref, Naming}
+use Rattle.ev_machine.specs.State.{Sends, Reacts, ◌>>=◌, ◌>>◌, tell, give, look, Message, Standing, Settled, Known, Passed, Passeds, Plain, AGift, Many, NoMore, More, Act}
 use Rattle.ev_machine.specs.Refs as refs
 use Rattle.ev_machine.specs.Refs.{Place, Near, Mine, Away, Gone}
-use Rattle.ev_name_laws.proofs.Facts.{Fact, IsName, IsMail, AreNames, IsValue, AreValues, IsMessage, AreMessages, IsKnown, IsPlace, MayKnown, DoesPass, DoAllPass, nothing}
-use Rattle.ev_name_laws.proofs.Care.{Care, Under, Gets, Fine, fine, fine_give}
-use Rattle.ev_name_laws.proofs.Looks.{looks}
+use Rattle.ev_name_laws.proofs.Facts.{Fact, Also, IsName, IsMail, AreNames, IsValue, AreValues, IsMessage, AreMessages, IsKnown, IsPlace, MayKnown, DoesPass, DoAllPass, nothing}
+use Rattle.ev_name_laws.proofs.Care.{Care, Under, Makes, Gets, Fine, fine, fine_give, fine_look, fine_new_message, bind_value, bind_place, fine_tell, bind_number, bind_names, then_unit, got, got_left, got_right, got_itself, got_message, got_more, got_none, got_ref}
+use Rattle.ev_name_laws.proofs.Looks.{looks, look_follow, look_place, look_place_of}
 
 -- what settles a name so, does so from every sound state
 abbrev pub GoodSettler : {N : Type 0} → Care N → (N → Value N → Act N (Unit {0})) → Type 0
@@ -118,16 +118,30 @@ module _ {N W : Type 0} (K : Naming N W) (S : Care N) (law : Under K S) where
   fine_send_first {C = C} m g1 y g2 (Away h n o) p4 = let mi_m : Gets S C (IsMail m.id) = record { at = λ s h. (g1.at s h).0 } in let mt_m : Gets S C (IsValue m.target) = record { at = λ s h. (g1.at s h).1 } in let ma_m : Gets S C (AreValues m.args) = record { at = λ s h. (g1.at s h).2 } in let mr_m : Gets S C (IsName m.answer) = record { at = λ s h. (g1.at s h).3 } in let pn4 : Gets S C (IsName n) = record { at = λ s h. p4.at s h } in search (fine, looks, fine_deliver) depth 30
   fine_send_first {C = C} m g1 y g2 p p4 = let mi_m : Gets S C (IsMail m.id) = record { at = λ s h. (g1.at s h).0 } in let mt_m : Gets S C (IsValue m.target) = record { at = λ s h. (g1.at s h).1 } in let ma_m : Gets S C (AreValues m.args) = record { at = λ s h. (g1.at s h).2 } in let mr_m : Gets S C (IsName m.answer) = record { at = λ s h. (g1.at s h).3 } in search (fine, looks, fine_send_to, fine_settle) depth 30
 
-  pub fine_send : {C : Fact N} → (x1 : ℕ) → (x2 : Value N) → Gets S C (IsValue x2) → (x3 : Words) → (x4 : List (Value N)) → Gets S C (AreValues x4) → Fine S C (refs.send K x1 x2 x3 x4) IsValue
-  unfolding refs.send
-  fine_send {C = C} act x g1 verb args g2 = search (fine, looks, fine_send_first) depth 30
-
   pub fine_react_at : {C : Fact N} → (x1 : Message N) → Gets S C (IsMessage x1) → (x2 : Place N) → Gets S C (IsPlace x2) → Fine S C (refs.react_at K x1 x2) nothing
   unfolding refs.react_at
   fine_react_at {C = C} m g1 (Mine n) p2 = let mi_m : Gets S C (IsMail m.id) = record { at = λ s h. (g1.at s h).0 } in let mt_m : Gets S C (IsValue m.target) = record { at = λ s h. (g1.at s h).1 } in let ma_m : Gets S C (AreValues m.args) = record { at = λ s h. (g1.at s h).2 } in let mr_m : Gets S C (IsName m.answer) = record { at = λ s h. (g1.at s h).3 } in let pn2 : Gets S C (IsName n) = record { at = λ s h. p2.at s h } in search (fine, looks) depth 30
   fine_react_at {C = C} m g1 (Away h n false) p2 = let mi_m : Gets S C (IsMail m.id) = record { at = λ s h. (g1.at s h).0 } in let mt_m : Gets S C (IsValue m.target) = record { at = λ s h. (g1.at s h).1 } in let ma_m : Gets S C (AreValues m.args) = record { at = λ s h. (g1.at s h).2 } in let mr_m : Gets S C (IsName m.answer) = record { at = λ s h. (g1.at s h).3 } in let pn2 : Gets S C (IsName n) = record { at = λ s h. p2.at s h } in search (fine, looks) depth 30
   fine_react_at {C = C} m g1 _ p2 = let mi_m : Gets S C (IsMail m.id) = record { at = λ s h. (g1.at s h).0 } in let mt_m : Gets S C (IsValue m.target) = record { at = λ s h. (g1.at s h).1 } in let ma_m : Gets S C (AreValues m.args) = record { at = λ s h. (g1.at s h).2 } in let mr_m : Gets S C (IsName m.answer) = record { at = λ s h. (g1.at s h).3 } in search (fine, looks) depth 30
 
+module _ {N W : Type 0} (K : Naming N W) (S : Care N) (law : Under K S) (makes : Makes K S) where
+  pub fine_send : {C : Fact N} → (x1 : ℕ) → (x2 : Value N) → Gets S C (IsValue x2) → (x3 : Words) → (x4 : List (Value N)) → Gets S C (AreValues x4) → Fine S C (refs.send K x1 x2 x3 x4) IsValue
+  unfolding refs.send
+  fine_send {C = C} act x g1 verb args g2 = bind_value S (look_follow K S x g1) (λ y. bind_place S (look_place K S y (got S C (IsValue y))) (λ p. bind_number S (fine_look S _) (λ v. bind_names S (fine_new_message K S law makes _) (λ new. sent y p new.0 new.1))))
+    where
+      sent : (y : Value N) (p : Place N) (id a : N) → Fine S (Also (Also (Also C (IsValue y)) (IsPlace p)) (Also (IsMail id) (IsName a))) (tell (Sends act (record { id = id; target = x; verb = verb; args = args; answer = a })) >> (refs.send_first K (record { id = id; target = y; verb = verb; args = args; answer = a }) y p >> give (Ref a))) IsValue
+      sent y p id a = search (fine, looks, fine_send_first) depth 30
+
   pub fine_react : {C : Fact N} → (x1 : ℕ) → (x2 : Value N) → Gets S C (IsValue x2) → (x3 : Value N) → Gets S C (IsValue x3) → (x4 : Value N) → Gets S C (IsValue x4) → Fine S C (refs.react K x1 x2 x3 x4) IsValue
   unfolding refs.react refs.reaction
-  fine_react {C = C} act x g1 o g2 near g3 = search (fine, looks, fine_react_at) depth 30
+  fine_react {C = C} act x g1 o g2 near g3 = bind_number S (fine_look S _) (λ v. bind_names S (fine_new_message K S law makes _) (λ new. reacted new.0 new.1))
+    where
+      reacted : (id a : N) → Fine S (Also C (Also (IsMail id) (IsName a))) (tell (Reacts act x o (refs.reaction K id near x a)) >> (look (λ s. refs.place K s (refs.follow K s x)) >>= (λ p. refs.react_at K (refs.reaction K id near x a) p >> give (Ref a)))) IsValue
+      reacted id a = let M : Fact N = IsMail id in let A : Fact N = IsName a in let D : Fact N = Also C (Also M A) in
+          let mail : Gets S D M = got_right S C (Also M A) M (got_left S M A M (got_itself S M)) in
+          let name : Gets S D A = got_right S C (Also M A) A (got S M A) in
+          let value : Gets S D (IsValue x) = got_left S C (Also M A) (IsValue x) g1 in
+          let message : Gets S D (IsMessage (refs.reaction K id near x a)) = got_message S D (refs.reaction K id near x a) mail (got_left S C (Also M A) (IsValue near) g3) (got_more S D x [] value (got_none S D)) name in
+          then_unit S (fine_tell K S law (Reacts act x o (refs.reaction K id near x a))) (bind_place S (look_place_of K S x value) (λ p.
+          then_unit S (fine_react_at K S law (refs.reaction K id near x a) (got_left S D (IsPlace p) (IsMessage (refs.reaction K id near x a)) message) p (got S D (IsPlace p)))
+          (fine_give S (Ref a) (got_ref S (Also D (IsPlace p)) a (got_left S D (IsPlace p) A name)))))

@@ -14,13 +14,13 @@ use Rattle.ev_name_laws.proofs.Care.{parts_up}
 use Rattle.ev_name_laws.proofs.Among.{promises_at, messages_at}
 use Rattle.ev_name_laws.proofs.Run.{Had, VatStands, Stands, name_had, steps_stand, opened_stands}
 
-in_runs : (P : World → Type 0) → ((script : Script) (w : World) → Stands script w → P w) → InRuns P
+pub in_runs : (P : World → Type 0) → ((script : Script) (w : World) → Stands script w → P w) → InRuns P
 in_runs P f script once = (
   λ ps rest w e opened. f script w (opened_stands script once ps rest w e opened),
   λ w x es k opened stepped. f script x (steps_stand script es k w x (opened_stands script once script.vats [] w (sym (append-nil script.vats)) opened) stepped),
 )
 
-in_each : (P : World → ℕ → Vat Name → Type 0) → ((script : Script) (w : World) (v : ℕ) (s : Vat Name) → slice_get w.vats v ≡ Some s → VatStands script w v s → P w v s) → InEachVat P
+pub in_each : (P : World → ℕ → Vat Name → Type 0) → ((script : Script) (w : World) (v : ℕ) (s : Vat Name) → slice_get w.vats v ≡ Some s → VatStands script w v s → P w v s) → InEachVat P
 in_each P f = in_runs (λ w. (v : ℕ) (s : Vat Name) → slice_get w.vats v ≡ Some s → P w v s) (λ script w h v s e. f script w v s e (h.vats v s e))
 
 pub names_made : NamesWereMade

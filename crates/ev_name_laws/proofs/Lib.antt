@@ -4,9 +4,12 @@ pub mod Looks
 pub mod Natives
 pub mod CareRefs
 pub mod EvalFacts
+pub mod Serves
 pub mod CareEval
 pub mod Among
+pub mod Views
 pub mod Tracked
+pub mod TrackedViews
 pub mod CareArrive
 pub mod SameNames
 pub mod Learn

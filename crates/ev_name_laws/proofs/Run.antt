@@ -6,18 +6,19 @@ use Rattle.ev_machine.specs.State.{Known, Message, Note, Put, Vat, Done, Gives, 
 use Rattle.ev_machine.specs.Scopes.{any_guard}
 use Rattle.ev_machine.specs.Eval.{opening, taking}
 use Rattle.ev_machine.specs.Arrive.{arrive, notice}
-use Rattle.ev_machine_laws.specs.Steps.{After}
 use Rattle.ev_run.specs.Draws.{draw_word}
 use Rattle.ev_run.specs.World as world
 use Rattle.ev_run.specs.World.{Script, Program, Opens, Entry, Turn, Carry, CutLink, NoticeLink, Event, Turned, Idle, Carried, CutAt, NoticedAt, Link, World, Run, Goes as Going, Stopped, names, names_of, read_note, put_at}
 use Rattle.ev_name_laws.specs.Names.{Bit, Named, AllOf, IsAmong, promises_of, messages_of, IsMade, NounOk, MessageOk, NoteOk, KnownOk, Parts, names_in, IsHad, HostIsTrue, IsEventual, PlainOnce, Once}
 use Rattle.ev_name_laws.proofs.Facts.{MayBe, all_map, all_end, all_append, message_up, nouns_up, note_up, Fact, Nothing, Also, IsName, AreNouns, IsMessage, Holds}
 use Rattle.ev_name_laws.proofs.Care.{Care, Sound, parts_up}
+use Rattle.ev_name_laws.proofs.Serves.{served_by}
 use Rattle.ev_name_laws.proofs.CareEval.{fine_opening, fine_taking}
 use Rattle.ev_name_laws.proofs.CareArrive.{fine_notice}
 use Rattle.ev_name_laws.proofs.Among.{promises_at, length_end, is_made_up}
-use Rattle.ev_name_laws.proofs.Tracked.{Kept, Ok, tracked, tracked_under}
-use Rattle.ev_name_laws.proofs.Learn.{Grew, Knows, Reads, reads_fine, reads_note}
+use Rattle.ev_name_laws.proofs.Views.{AllLookOn}
+use Rattle.ev_name_laws.proofs.Tracked.{Kept, Ok, tracked, tracked_under, tracked_makes}
+use Rattle.ev_name_laws.proofs.Learn.{Grew, Knows, Ended, Reads, reads_fine, reads_note}
 
 -- each name was made, and is known here
 abbrev pub Had : World → Vat Name → Bit Name → Type 0
@@ -30,7 +31,7 @@ pub record VatStands (script : Script) (w : World) (v : ℕ) (s : Vat Name) : Ty
   -- the roots that it is given are known
   pub roots : (p : Program) → slice_get script.vats v ≡ Some p → AllOf (λ (u : ℕ). IsAmong (Root u) (names_in s.known)) (v ∷ p.knows)
 
-abbrev LinkStands : World → Link → Type 0
+abbrev pub LinkStands : World → Link → Type 0
 LinkStands w l = AllOf (NoteOk (IsMade w.vats (length w.drawn))) l.notes
 
 pub record Stands (script : Script) (w : World) : Type 0 where
@@ -102,7 +103,7 @@ module _ (P : Note Name → Type 0) where
   either_link true l o h i = h
   either_link false l o h i = i
 
-  link_holds : (v w : ℕ) (ls : List Link) → AllOf Holding ls → MayBe Holding (world.link_at v w ls)
+  pub link_holds : (v w : ℕ) (ls : List Link) → AllOf Holding ls → MayBe Holding (world.link_at v w ls)
   unfolding world.link_at
   link_holds v w [] h = tt
   link_holds v w (l ∷ ls) h = either_link (world.is_link v w l) l (world.link_at v w ls) h.0 (link_holds v w ls h.1)
@@ -122,18 +123,18 @@ module _ (script : Script) where
   -- ---- a step of one vat
 
   module _ (v : ℕ) (w : World) (s q : Vat Name) (there : slice_get w.vats v ≡ Some s) (same_promises : q.promises ≡ s.promises) (same_messages : q.messages ≡ s.messages) (h : Stands script w) where
-    abbrev Ready : Vat Name
+    abbrev pub Ready : Vat Name
     Ready = world.readied w q
 
     abbrev Tracked : Care Name
-    Tracked = tracked w.vats v s there
+    Tracked = tracked true w.vats v s there
 
     -- what was made before the step is made in it
     made_ready : (b : Bit Name) → IsMade w.vats (length w.drawn) b → IsMade (put_at v Ready w.vats) (length w.drawn) b
     unfolding world.readied
     made_ready b i = made_put w.vats (length w.drawn) (length w.drawn) v s Ready there (let e = same_promises in omega arith) (let e = same_messages in omega arith) (omega arith) b i
 
-    module _ (t : Vat Name) (grown : Grew w.vats v s there (draw_word script.key) w.vats (length w.drawn) Ready t) where
+    module _ (t : Vat Name) (grown : Grew true w.vats v s there (draw_word script.key) w.vats (length w.drawn) Ready t) where
       abbrev Next : List (Vat Name)
       Next = put_at v t w.vats
 
@@ -152,7 +153,7 @@ module _ (script : Script) where
       this_next : (x : World) → x.vats ≡ Next → x.drawn ≡ t.drawn → names_in q.known ≡ names_in s.known → Sound Tracked t → VatStands script x v t
       unfolding world.readied
       this_next x a d n g = record {
-        parts = parts_up (Ok w.vats v s there t) (Had x t) (λ b i. (rw (sym a, sym d) at i.0, i.1)) t.things t.slots t.lists t.queue t.known t.gifts t.outbox g.parts;
+        parts = parts_up (Ok true w.vats v s there t) (Had x t) (λ b i. (rw (sym a, sym d) at i.0, i.1)) t.things t.slots t.lists t.queue t.known t.gifts t.outbox g.parts;
         kept = g.more;
         roots = λ p i. all_map (λ u j. grown.names (Root u) (rw (sym n) at j)) (v ∷ p.knows) ((h.vats v s there).roots p i);
       }
@@ -162,10 +163,10 @@ module _ (script : Script) where
       each_next x a d n g u r (inr e) = other_next x a d u r (h.vats u r e)
 
       links_next : Sound Tracked t → AllOf (λ (l : Link). AllOf (NoteOk (IsMade Next (length t.drawn))) l.notes) (world.push_all v t.outbox w.links)
-      links_next g = push_all_holds (NoteOk (IsMade Next (length t.drawn))) v t.outbox w.links (all_map (λ p i. note_up (Ok w.vats v s there t) (IsMade Next (length t.drawn)) (λ b j. j.0) p.note i) t.outbox g.parts.outbox)
+      links_next g = push_all_holds (NoteOk (IsMade Next (length t.drawn))) v t.outbox w.links (all_map (λ p i. note_up (Ok true w.vats v s there t) (IsMade Next (length t.drawn)) (λ b j. j.0) p.note i) t.outbox g.parts.outbox)
           (all_map (λ l i. all_map (λ m j. note_up (IsMade w.vats (length w.drawn)) (IsMade Next (length t.drawn)) made_next m j) l.notes i) w.links h.links)
 
-    put_back_stands : (x : World) (head : List Event) (n : ℕ) (d : Done Name (Unit {0})) → names_in q.known ≡ names_in s.known → After (λ r t. Grew w.vats v s there (draw_word script.key) w.vats (length w.drawn) Ready t × Sound Tracked t) Ready d → world.put_back v w head n d ≡ Going x → Stands script x
+    put_back_stands : (x : World) (head : List Event) (n : ℕ) (d : Done Name (Unit {0})) → names_in q.known ≡ names_in s.known → Ended true w.vats v s there (draw_word script.key) w.vats (length w.drawn) Ready d → world.put_back v w head n d ≡ Going x → Stands script x
     unfolding world.put_back
     put_back_stands x head n (Gives a t) e k i = moved _ x (record { vats = λ u r j. each_next t k.0 (record { fuel = t.fuel; drawn = t.drawn; vats = put_at v t w.vats; links = world.push_all v t.outbox w.links; history = w.history ++ head ++ world.events_of w.links v t.happened }) refl refl e k.1 u r (put_at_or v t w.vats u r j); links = links_next t k.0 k.1 }) i
     put_back_stands x head n (Throws p t) e k i = cc
@@ -173,13 +174,13 @@ module _ (script : Script) where
     put_back_stands x head n (Stops c t) e k i = cc
 
     module _ (parts : Parts (λ b. IsMade w.vats (length w.drawn) b × IsHad (names_in q.known) q.mails b) q.things q.slots q.lists q.queue q.known q.gifts q.outbox) (kept : Kept v q.number q.known q.mails q.promises) where
-      had_ready : (b : Bit Name) → IsMade w.vats (length w.drawn) b × IsHad (names_in q.known) q.mails b → Ok w.vats v s there Ready b
+      pub had_ready : (b : Bit Name) → IsMade w.vats (length w.drawn) b × IsHad (names_in q.known) q.mails b → Ok true w.vats v s there Ready b
       unfolding world.readied
       had_ready b i = (made_ready b i.0, i.1)
 
-      sound_ready : Sound Tracked Ready
+      pub sound_ready : Sound Tracked Ready
       unfolding world.readied
-      sound_ready = record { parts = parts_up (λ b. IsMade w.vats (length w.drawn) b × IsHad (names_in q.known) q.mails b) (Ok w.vats v s there Ready) had_ready q.things q.slots q.lists q.queue q.known q.gifts [] emptied; more = kept }
+      sound_ready = record { parts = parts_up (λ b. IsMade w.vats (length w.drawn) b × IsHad (names_in q.known) q.mails b) (Ok true w.vats v s there Ready) had_ready q.things q.slots q.lists q.queue q.known q.gifts [] emptied; more = kept }
         where
           emptied : Parts (λ b. IsMade w.vats (length w.drawn) b × IsHad (names_in q.known) q.mails b) q.things q.slots q.lists q.queue q.known q.gifts []
           emptied = record { things = parts.things; slots = parts.slots; lists = parts.lists; queue = parts.queue; known = parts.known; gifts = parts.gifts; outbox = tt }
@@ -188,7 +189,7 @@ module _ (script : Script) where
       unfolding promises_of
       own_ready i l = let e : promises_of w.vats v ≡ s.promises = promises_at w.vats v s there in let f = same_promises in kept.own i (omega arith)
 
-      knows_ready : Knows w.vats v s there (draw_word script.key) w.vats (length w.drawn) (names_in q.known) Ready
+      pub knows_ready : Knows true w.vats v s there (draw_word script.key) w.vats (length w.drawn) (names_in q.known) Ready
       unfolding world.readied
       knows_ready = record {
         all = λ n a. had_ready (Named n) (name_had (λ b. IsMade w.vats (length w.drawn) b × IsHad (names_in q.known) q.mails b) q.known n parts.known a);
@@ -197,8 +198,8 @@ module _ (script : Script) where
         made = made_ready;
       }
 
-      within_stands : (x : World) (head : List Event) (n : ℕ) (C : Fact Name) (m : Act Name (Unit {0})) → names_in q.known ≡ names_in s.known → Reads w.vats v s there (draw_word script.key) w.vats (length w.drawn) (names_in q.known) C m
-          → Holds (Ok w.vats v s there Ready) C → world.within v w head n m (Some q) ≡ Going x → Stands script x
+      within_stands : (x : World) (head : List Event) (n : ℕ) (C : Fact Name) (m : Act Name (Unit {0})) → names_in q.known ≡ names_in s.known → Reads true w.vats v s there (draw_word script.key) w.vats (length w.drawn) (names_in q.known) C m
+          → Holds (Ok true w.vats v s there Ready) C → world.within v w head n m (Some q) ≡ Going x → Stands script x
       unfolding world.within
       within_stands x head n C m e r c i = put_back_stands x head n (m Ready) e (r.after Ready sound_ready knows_ready c) i
 
@@ -214,8 +215,8 @@ module _ (script : Script) where
   turn_queue_stands k v w x s i h (m ∷ ms) q e = let g = h.vats v s i in let p = g.parts in let waiting : AllOf (MessageOk (Had w s)) (m ∷ ms) = rw q at p.queue in
       let parts : Parts (Had w s) s.things s.slots s.lists ms s.known s.gifts s.outbox = record { things = p.things; slots = p.slots; lists = p.lists; queue = waiting.1; known = p.known; gifts = p.gifts; outbox = p.outbox } in
       within_stands v w s (record s { queue = ms }) i refl refl h parts g.kept x (Turned k v ∷ []) (world.step_number script k) (IsMessage m) (taking (naming (draw_word script.key) v) (world.tree_at script.vats v) script.depth m) refl
-      (reads_fine w.vats v s i (draw_word script.key) w.vats (length w.drawn) (fine_taking (naming (draw_word script.key) v) (tracked w.vats v s i) (tracked_under w.vats v s i (draw_word script.key)) (world.tree_at script.vats v) script.depth m (record { at = λ r c. c })))
-      (message_up (Had w s) (Ok w.vats v s i (world.readied w (record s { queue = ms }))) (had_ready v w s (record s { queue = ms }) i refl refl h parts g.kept) m waiting.0) e
+      (reads_fine true w.vats v s i (draw_word script.key) w.vats (length w.drawn) (fine_taking (naming (draw_word script.key) v) (tracked true w.vats v s i) (tracked_under true w.vats v s i (draw_word script.key)) (tracked_makes w.vats v s i (draw_word script.key)) (world.tree_at script.vats v) script.depth m (record { at = λ r c. c })))
+      (message_up (Had w s) (Ok true w.vats v s i (world.readied w (record s { queue = ms }))) (had_ready v w s (record s { queue = ms }) i refl refl h parts g.kept) m waiting.0) e
 
   turn_stands : (k v : ℕ) (w x : World) → Stands script w → (o : Option (Vat Name)) → slice_get w.vats v ≡ o → world.turn script k v w o ≡ Going x → Stands script x
   unfolding world.turn
@@ -227,7 +228,7 @@ module _ (script : Script) where
   arrives_stands k v to w x n h i None q e = idle_stands k w x h e
   arrives_stands k v to w x n h i (Some s) q e = let g = h.vats to s q in
       within_stands to w s s q refl refl h g.parts g.kept x (Carried k v to n w.links ∷ []) (world.step_number script k) Nothing (arrive (naming (draw_word script.key) to) v (read_note (names_in s.known) n)) refl
-      (reads_note w.vats to s q (draw_word script.key) w.vats (length w.drawn) v (names_in s.known) n i) tt e
+      (reads_note true w.vats to s q (draw_word script.key) w.vats (length w.drawn) v (names_in s.known) n i) tt e
 
   carry_notes_stands : (k v to : ℕ) (w x : World) → Stands script w → (ns : List (Note Name)) → AllOf (NoteOk (IsMade w.vats (length w.drawn))) ns → world.carry_notes script k v to w ns ≡ Going x → Stands script x
   unfolding world.carry_notes world.with_notes
@@ -256,9 +257,9 @@ module _ (script : Script) where
   notice_stands k v to w x h None q e = cc
   notice_stands k v to w x h (Some s) q e = let g = h.vats v s q in
       within_stands v w s s q refl refl h g.parts g.kept x (NoticedAt k v to ∷ []) (world.step_number script k) Nothing (notice (naming (draw_word script.key) v) to) refl
-      (reads_fine w.vats v s q (draw_word script.key) w.vats (length w.drawn) (fine_notice (naming (draw_word script.key) v) (tracked w.vats v s q) (tracked_under w.vats v s q (draw_word script.key)) to)) tt e
+      (reads_fine true w.vats v s q (draw_word script.key) w.vats (length w.drawn) (fine_notice (naming (draw_word script.key) v) (tracked true w.vats v s q) (tracked_under true w.vats v s q (draw_word script.key)) to)) tt e
 
-  step_stands : (entry : Entry) (k : ℕ) (w x : World) → Stands script w → world.step script entry k w ≡ Going x → Stands script x
+  pub step_stands : (entry : Entry) (k : ℕ) (w x : World) → Stands script w → world.step script entry k w ≡ Going x → Stands script x
   unfolding world.step
   step_stands (Turn v) k w x h e = turn_stands k v w x h (slice_get w.vats v) refl e
   step_stands (Carry v to) k w x h e = carry_link_stands k v to w x h (world.link_at v to w.links) (link_holds (NoteOk (IsMade w.vats (length w.drawn))) v to w.links h.links) e
@@ -277,21 +278,21 @@ module _ (script : Script) where
 
   -- ---- the opening turns
 
-  given_ok : (w : World) (s : Vat Name) (us : List ℕ) → AllOf (λ (u : ℕ). IsAmong (Root u) (names_in s.known)) us → AllOf (NounOk (Had w s)) (world.given script.vats us)
+  pub given_ok : (w : World) (s : Vat Name) (us : List ℕ) → AllOf (λ (u : ℕ). IsAmong (Root u) (names_in s.known)) us → AllOf (NounOk (Had w s)) (world.given script.vats us)
   unfolding world.given any_guard
   given_ok w s [] h = tt
   given_ok w s (u ∷ us) h = (((tt, h.0), tt), given_ok w s us h.1)
 
-  open_stands : (v : ℕ) (p : Program) (w x : World) → slice_get script.vats v ≡ Some p → Stands script w → (o : Option (Vat Name)) → slice_get w.vats v ≡ o
+  pub open_stands : (v : ℕ) (p : Program) (w x : World) → slice_get script.vats v ≡ Some p → Stands script w → (o : Option (Vat Name)) → slice_get w.vats v ≡ o
       → world.within v w (Opens v ∷ []) v (opening (names script v) p.tree script.depth (Root v) (world.given script.vats p.knows)) o ≡ Going x → Stands script x
   unfolding world.within names
   open_stands v p w x t h None q e = cc
   open_stands v p w x t h (Some s) q e = let g = h.vats v s q in let roots : AllOf (λ (u : ℕ). IsAmong (Root u) (names_in s.known)) (v ∷ p.knows) = g.roots p t in
       let given : AllOf (NounOk (Had w s)) (world.given script.vats p.knows) = given_ok w s p.knows roots.1 in
-      let up : (b : Bit Name) → Had w s b → Ok w.vats v s q (world.readied w s) b = had_ready v w s s q refl refl h g.parts g.kept in
+      let up : (b : Bit Name) → Had w s b → Ok true w.vats v s q (world.readied w s) b = had_ready v w s s q refl refl h g.parts g.kept in
       within_stands v w s s q refl refl h g.parts g.kept x (Opens v ∷ []) v (Also (IsName (Root v)) (AreNouns (world.given script.vats p.knows))) (opening (naming (draw_word script.key) v) p.tree script.depth (Root v) (world.given script.vats p.knows)) refl
-      (reads_fine w.vats v s q (draw_word script.key) w.vats (length w.drawn) (fine_opening (naming (draw_word script.key) v) (tracked w.vats v s q) (tracked_under w.vats v s q (draw_word script.key)) p.tree script.depth (Root v) (record { at = λ r c. c.0 }) (world.given script.vats p.knows) (record { at = λ r c. c.1 })))
-      (up (Named (Root v)) (tt, roots.0), nouns_up (Had w s) (Ok w.vats v s q (world.readied w s)) up (world.given script.vats p.knows) given) e
+      (reads_fine true w.vats v s q (draw_word script.key) w.vats (length w.drawn) (fine_opening (naming (draw_word script.key) v) (tracked true w.vats v s q) (served_by (naming (draw_word script.key) v) (tracked true w.vats v s q) (tracked_under true w.vats v s q (draw_word script.key)) (tracked_makes w.vats v s q (draw_word script.key))) p.tree script.depth (Root v) (record { at = λ r c. c.0 }) (world.given script.vats p.knows) (record { at = λ r c. c.1 })))
+      (up (Named (Root v)) (tt, roots.0), nouns_up (Had w s) (Ok true w.vats v s q (world.readied w s)) up (world.given script.vats p.knows) given) e
 
 get_mid : (front : List Program) (p : Program) (ps : List Program) → slice_get (front ++ p ∷ ps) (length front) ≡ Some p
 get_mid [] p ps = refl
@@ -355,6 +356,11 @@ module _ (script : Script) where
   roots_hosted [] = tt
   roots_hosted (w ∷ ws) = (refl, roots_hosted ws)
 
+  roots_look : (before : List Name) (ws : List ℕ) → AllLookOn before (map world.known_root ws)
+  unfolding world.known_root begun
+  roots_look before [] = tt
+  roots_look before (w ∷ ws) = (tt, roots_look (before ++ Root w ∷ []) ws)
+
   either_links : (b : Bool) (l : Link) (ls : List Link) (P : Note Name → Type 0) → Holding P l → AllOf (Holding P) ls → AllOf (Holding P) (elim b [ true ↦ ls | false ↦ l ∷ ls ])
   either_links true l ls P h i = i
   either_links false l ls P h i = (h, i)
@@ -396,6 +402,7 @@ module _ (script : Script) where
       below = λ i a. absurd (no_own i a);
       apart = (tt, roots_apart p.knows);
       mails = tt;
+      views = (tt, roots_look (Root v ∷ []) p.knows);
     }
       where
         no_own : (i : ℕ) → IsAmong (Promise v i) (Root v ∷ names_in (map world.known_root p.knows)) → ⊥
@@ -420,7 +427,7 @@ module _ (script : Script) where
   fresh_at v (p ∷ ps) zero s e = (p, v, refl, (omega arith), some_is (world.fresh script v p) s e)
   fresh_at v (p ∷ ps) (suc n) s e = let r = fresh_at (suc v) ps n s e in let f = r.3 in (r.0, r.1, r.2, (omega arith), r.4)
 
-  begins_stands : ((v : ℕ) (p : Program) → slice_get script.vats v ≡ Some p → Once (v ∷ p.knows)) → Stands script (world.begins script)
+  pub begins_stands : ((v : ℕ) (p : Program) → slice_get script.vats v ≡ Some p → Once (v ∷ p.knows)) → Stands script (world.begins script)
   unfolding world.begins
   begins_stands once = record { vats = λ v s e. at v s (fresh_at zero script.vats v s e); links = links_from_hold (NoteOk (IsMade (world.begins script).vats zero)) script.vats zero script.vats }
     where

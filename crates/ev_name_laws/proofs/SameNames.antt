@@ -32,7 +32,7 @@ two_is f w u i j e = let h = both (w == u) (i == j) e in ap (λ x. f x i) (eqb-t
 two_same : (w i : ℕ) → ((w == w) && (i == i)) ≡ true
 two_same w i = and_true (w == w) (i == i) (eq-eqb w w refl) (eq-eqb i i refl)
 
-same_is : (a b : Name) → same_name a b ≡ true → a ≡ b
+pub same_is : (a b : Name) → same_name a b ≡ true → a ≡ b
 unfolding same_name
 same_is (Root w) (Root u) e = ap Root (eqb-true w u e)
 same_is (Root w) (Object u j) e = absurd (false_true e)
@@ -71,7 +71,7 @@ same_is (Sent m) (Answer u n) e = absurd (false_true e)
 same_is (Sent m) (Gift u j) e = absurd (false_true e)
 same_is (Sent m) (Sent n) e = ap Sent (msg_is m n e)
 
-same_self : (a : Name) → same_name a a ≡ true
+pub same_self : (a : Name) → same_name a a ≡ true
 unfolding same_name
 same_self (Root w) = eq-eqb w w refl
 same_self (Object w i) = two_same w i

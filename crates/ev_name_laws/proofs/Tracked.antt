@@ -1,12 +1,13 @@
 -- What is kept of names in a step of one vat: each was made, and is known to the vat; roots and promises are known once, and each host is true.
-use Rattle.std.proofs.Common.{◌≡◌, ℕ, ◌≤◌, ◌<◌, zero, suc, Bool, true, false, List, [], ◌∷◌, ◌++◌, Some, refl, sym, ap, ◌⊎◌, inl, inr, length, arith}
+use Rattle.std.proofs.Common.{◌≡◌, ℕ, ◌≤◌, ◌<◌, zero, suc, Bool, true, false, List, [], ◌∷◌, ◌++◌, Some, refl, sym, ap, ◌∙◌, ◌⊎◌, inl, inr, length, arith}
 use Rattle.std.specs.Prelude.{slice_get}
 use Rattle.ev_machine.specs.Values.{Name, Root, Object, Promise, Answer, Gift, Sent, Msg, host_of, Naming, naming, name_of, answer_of, mail_of}
 use Rattle.ev_machine.specs.State.{Known, Standing, Unsettled, WaitsOn, Viewed, Settled, Change, Hold, Wait, WaitOn, See, React, ToTell, Settle, Vat, with_change, changed, changed_to, unless_settled, begun}
 use Rattle.ev_run.specs.World.{put_at}
 use Rattle.ev_name_laws.specs.Names.{Bit, Named, Mail, Drew, AllOf, IsAmong, promises_of, messages_of, IsMade, names_in, IsKnownIn, IsHad, HostIsTrue, IsEventual, IsMessageName, IsPlain, PlainOnce}
 use Rattle.ev_name_laws.proofs.Facts.{all_end}
-use Rattle.ev_name_laws.proofs.Care.{Care, Under}
+use Rattle.ev_name_laws.proofs.Care.{ViewsNone, Care, Under, Makes}
+use Rattle.ev_name_laws.proofs.Views.{AllLookOn, look_on_end, look_on_change}
 use Rattle.ev_name_laws.proofs.Among.{among_more, among_last, among_or, among_is, names_end, length_end, plain_end, get_put, promises_grow, messages_grow, promises_at, messages_at, is_made_up}
 
 -- a root, or a promise of another vat: what comes to be known by vat v from notes alone
@@ -18,12 +19,29 @@ IsTold v (Answer h m) = ⊥
 IsTold v (Gift h i) = ⊥
 IsTold v (Sent m) = ⊥
 
+-- how the count of messages goes on: where new ones may be made, and where none are
+abbrev pub Counts : Bool → ℕ → ℕ → Type 0
+Counts true m m' = m ≤ m'
+Counts false m m' = m ≡ m'
+
+pub count_same : (news : Bool) (m : ℕ) → Counts news m m
+count_same true m = omega arith
+count_same false m = refl
+
+count_trans : (news : Bool) (m m' m'' : ℕ) → Counts news m m' → Counts news m' m'' → Counts news m m''
+count_trans true m m' m'' h k = omega arith
+count_trans false m m' m'' h k = h ∙ k
+
+pub count_most : (news : Bool) (m m' : ℕ) → Counts news m m' → m ≤ m'
+count_most true m m' h = h
+count_most false m m' h = omega arith
+
 -- how the names known, the messages had, and the counts of promises, messages and draws go on, where no name of T comes to be known
-pub record Follows (T : Name → Type 0) (ns ms : List Name) (p m d : ℕ) (ns' ms' : List Name) (p' m' d' : ℕ) : Type 0 where
+pub record Follows (news : Bool) (T : Name → Type 0) (ns ms : List Name) (p m d : ℕ) (ns' ms' : List Name) (p' m' d' : ℕ) : Type 0 where
   pub names : (n : Name) → IsAmong n ns → IsAmong n ns'
   pub mails : (n : Name) → IsAmong n ms → IsAmong n ms'
   pub promises : p ≤ p'
-  pub messages : m ≤ m'
+  pub messages : Counts news m m'
   pub draws : d ≤ d'
   pub told : (n : Name) → T n → IsAmong n ns' → IsAmong n ns
 
@@ -36,6 +54,7 @@ pub record Kept (v u : ℕ) (ks : List (Known Name)) (ms : List Name) (p : ℕ) 
   pub below : (i : ℕ) → IsAmong (Promise v i) (names_in ks) → i < p
   pub apart : AllOf IsEventual (names_in ks)
   pub mails : AllOf IsMessageName ms
+  pub views : AllLookOn [] ks
 
 known_up : (ns ms : List Name) → ((n : Name) → IsAmong n ns → IsAmong n ms) → (n : Name) → IsKnownIn ns n → IsKnownIn ms n
 known_up ns ms f (Object w i) h = tt
@@ -107,37 +126,45 @@ module _ (K : Naming Name Name) where
   hosts_change c n [] h = tt
   hosts_change c n (k ∷ ks) h = either_host (K.same k.name n) (changed c k) k (with_change K c n ks) ks (unless_host k.standing k (changed_to c k) h.0 (to_host c k h.0)) h.0 (hosts_change c n ks h.1) h.1
 
-  kept_change : (v number : ℕ) (c : Change Name) (n : Name) (ks : List (Known Name)) (ms : List Name) (p : ℕ) → Kept v number ks ms p → Kept v number (with_change K c n ks) ms p
-  kept_change v number c n ks ms p h = let e : names_in ks ≡ names_in (with_change K c n ks) = sym (names_change c n ks) in
-      record { number = h.number; hosts = hosts_change c n ks h.hosts; once = rw e at h.once; own = λ i l. rw e at (h.own i l); below = λ i a. h.below i (rw (sym e) at a); apart = rw e at h.apart; mails = h.mails }
+  -- a change of what is known of a name, after which each view is among the later names
+  pub kept_looking : (v number : ℕ) (c : Change Name) (n : Name) (ks : List (Known Name)) (ms : List Name) (p : ℕ) → AllLookOn [] (with_change K c n ks) → Kept v number ks ms p → Kept v number (with_change K c n ks) ms p
+  kept_looking v number c n ks ms p views h = let e : names_in ks ≡ names_in (with_change K c n ks) = sym (names_change c n ks) in
+      record { number = h.number; hosts = hosts_change c n ks h.hosts; once = rw e at h.once; own = λ i l. rw e at (h.own i l); below = λ i a. h.below i (rw (sym e) at a); apart = rw e at h.apart; mails = h.mails; views = views }
 
-pub follows_same : (T : Name → Type 0) (ns ms : List Name) (p m d : ℕ) → Follows T ns ms p m d ns ms p m d
-follows_same T ns ms p m d = record { names = λ n h. h; mails = λ n h. h; promises = omega arith; messages = omega arith; draws = omega arith; told = λ n t h. h }
+  pub same_name : (c : Change Name) (k : Known Name) → (changed c k).name ≡ k.name
+  unfolding changed
+  same_name c k = unless_name k.standing k (changed_to c k) (to_name c k)
 
-pub follows_trans : (T : Name → Type 0) (ns ms : List Name) (p m d : ℕ) (ns' ms' : List Name) (p' m' d' : ℕ) (ns'' ms'' : List Name) (p'' m'' d'' : ℕ) → Follows T ns ms p m d ns' ms' p' m' d' → Follows T ns' ms' p' m' d' ns'' ms'' p'' m'' d'' → Follows T ns ms p m d ns'' ms'' p'' m'' d''
-follows_trans T ns ms p m d ns' ms' p' m' d' ns'' ms'' p'' m'' d'' h k =
-    let a : p ≤ p' = h.promises in let b : p' ≤ p'' = k.promises in let c : m ≤ m' = h.messages in let e : m' ≤ m'' = k.messages in let f : d ≤ d' = h.draws in let g : d' ≤ d'' = k.draws in
-    record { names = λ n i. k.names n (h.names n i); mails = λ n i. k.mails n (h.mails n i); promises = omega arith; messages = omega arith; draws = omega arith; told = λ n t i. h.told n t (k.told n t i) }
+  kept_change : (v number : ℕ) (c : Change Name) (n : Name) (ks : List (Known Name)) (ms : List Name) (p : ℕ) → ViewsNone c → Kept v number ks ms p → Kept v number (with_change K c n ks) ms p
+  kept_change v number c n ks ms p none h = kept_looking v number c n ks ms p (look_on_change K names_change same_name [] c n ks none h.views) h
 
-pub follows_drawn : (T : Name → Type 0) (ns ms : List Name) (p m : ℕ) (ds : List ℕ) (w : ℕ) → Follows T ns ms p m (length ds) ns ms p m (length (ds ++ w ∷ []))
-follows_drawn T ns ms p m ds w = let e : length (ds ++ w ∷ []) ≡ suc (length ds) = length_end ds w in
-    record { names = λ n h. h; mails = λ n h. h; promises = omega arith; messages = omega arith; draws = omega arith; told = λ n t h. h }
+pub follows_same : (news : Bool) (T : Name → Type 0) (ns ms : List Name) (p m d : ℕ) → Follows news T ns ms p m d ns ms p m d
+follows_same news T ns ms p m d = record { names = λ n h. h; mails = λ n h. h; promises = omega arith; messages = count_same news m; draws = omega arith; told = λ n t h. h }
 
-pub follows_change : (K : Naming Name Name) (T : Name → Type 0) (c : Change Name) (n : Name) (ks : List (Known Name)) (ms : List Name) (p m d : ℕ) → Follows T (names_in ks) ms p m d (names_in (with_change K c n ks)) ms p m d
-follows_change K T c n ks ms p m d = let e : names_in (with_change K c n ks) ≡ names_in ks = names_change K c n ks in
-    record { names = λ x h. rw (sym e) at h; mails = λ x h. h; promises = omega arith; messages = omega arith; draws = omega arith; told = λ x t h. rw e at h }
+pub follows_trans : (news : Bool) (T : Name → Type 0) (ns ms : List Name) (p m d : ℕ) (ns' ms' : List Name) (p' m' d' : ℕ) (ns'' ms'' : List Name) (p'' m'' d'' : ℕ) → Follows news T ns ms p m d ns' ms' p' m' d' → Follows news T ns' ms' p' m' d' ns'' ms'' p'' m'' d'' → Follows news T ns ms p m d ns'' ms'' p'' m'' d''
+follows_trans news T ns ms p m d ns' ms' p' m' d' ns'' ms'' p'' m'' d'' h k =
+    let a : p ≤ p' = h.promises in let b : p' ≤ p'' = k.promises in let f : d ≤ d' = h.draws in let g : d' ≤ d'' = k.draws in
+    record { names = λ n i. k.names n (h.names n i); mails = λ n i. k.mails n (h.mails n i); promises = omega arith; messages = count_trans news m m' m'' h.messages k.messages; draws = omega arith; told = λ n t i. h.told n t (k.told n t i) }
+
+pub follows_drawn : (news : Bool) (T : Name → Type 0) (ns ms : List Name) (p m : ℕ) (ds : List ℕ) (w : ℕ) → Follows news T ns ms p m (length ds) ns ms p m (length (ds ++ w ∷ []))
+follows_drawn news T ns ms p m ds w = let e : length (ds ++ w ∷ []) ≡ suc (length ds) = length_end ds w in
+    record { names = λ n h. h; mails = λ n h. h; promises = omega arith; messages = count_same news m; draws = omega arith; told = λ n t h. h }
+
+pub follows_change : (K : Naming Name Name) (news : Bool) (T : Name → Type 0) (c : Change Name) (n : Name) (ks : List (Known Name)) (ms : List Name) (p m d : ℕ) → Follows news T (names_in ks) ms p m d (names_in (with_change K c n ks)) ms p m d
+follows_change K news T c n ks ms p m d = let e : names_in (with_change K c n ks) ≡ names_in ks = names_change K c n ks in
+    record { names = λ x h. rw (sym e) at h; mails = λ x h. h; promises = omega arith; messages = count_same news m; draws = omega arith; told = λ x t h. rw e at h }
 
 -- a name that is not told comes to be known
-pub follows_known : (T : Name → Type 0) (ks : List (Known Name)) (k : Known Name) (ms : List Name) (p m d : ℕ) → (T k.name → ⊥) → Follows T (names_in ks) ms p m d (names_in (ks ++ k ∷ [])) ms p m d
-follows_known T ks k ms p m d f = let e : names_in (ks ++ k ∷ []) ≡ names_in ks ++ k.name ∷ [] = names_end ks k in
-    record { names = λ n h. rw (sym e) at (among_more n (names_in ks) k.name h); mails = λ x h. h; promises = omega arith; messages = omega arith; draws = omega arith; told = λ n t h. old n t (among_or n (names_in ks) k.name (rw e at h)) }
+pub follows_known : (news : Bool) (T : Name → Type 0) (ks : List (Known Name)) (k : Known Name) (ms : List Name) (p m d : ℕ) → (T k.name → ⊥) → Follows news T (names_in ks) ms p m d (names_in (ks ++ k ∷ [])) ms p m d
+follows_known news T ks k ms p m d f = let e : names_in (ks ++ k ∷ []) ≡ names_in ks ++ k.name ∷ [] = names_end ks k in
+    record { names = λ n h. rw (sym e) at (among_more n (names_in ks) k.name h); mails = λ x h. h; promises = omega arith; messages = count_same news m; draws = omega arith; told = λ n t h. old n t (among_or n (names_in ks) k.name (rw e at h)) }
   where
     old : (n : Name) → T n → IsAmong n (names_in ks) ⊎ (n ≡ k.name) → IsAmong n (names_in ks)
     old n t (inl h) = h
     old n t (inr e) = absurd (f (rw e at t))
 
-pub kept_known : (v number : ℕ) (ks : List (Known Name)) (k : Known Name) (ms : List Name) (p : ℕ) → HostIsTrue k → IsEventual k.name → (IsPlain k.name → IsAmong k.name (names_in ks) → ⊥) → ((i : ℕ) → Promise v i ≡ k.name → i < p) → Kept v number ks ms p → Kept v number (ks ++ k ∷ []) ms p
-kept_known v number ks k ms p t o f g h = let e : names_in (ks ++ k ∷ []) ≡ names_in ks ++ k.name ∷ [] = names_end ks k in
+pub kept_known : (v number : ℕ) (ks : List (Known Name)) (k : Known Name) (ms : List Name) (p : ℕ) → k.standing ≡ Unsettled → HostIsTrue k → IsEventual k.name → (IsPlain k.name → IsAmong k.name (names_in ks) → ⊥) → ((i : ℕ) → Promise v i ≡ k.name → i < p) → Kept v number ks ms p → Kept v number (ks ++ k ∷ []) ms p
+kept_known v number ks k ms p u t o f g h = let e : names_in (ks ++ k ∷ []) ≡ names_in ks ++ k.name ∷ [] = names_end ks k in
     record {
       number = h.number;
       hosts = all_end HostIsTrue ks k h.hosts t;
@@ -146,6 +173,7 @@ kept_known v number ks k ms p t o f g h = let e : names_in (ks ++ k ∷ []) ≡ 
       below = λ i a. low i (among_or (Promise v i) (names_in ks) k.name (rw e at a));
       apart = rw (sym e) at (all_end IsEventual (names_in ks) k.name h.apart o);
       mails = h.mails;
+      views = look_on_end [] ks k u h.views;
     }
   where
     low : (i : ℕ) → IsAmong (Promise v i) (names_in ks) ⊎ (Promise v i ≡ k.name) → i < p
@@ -154,7 +182,7 @@ kept_known v number ks k ms p t o f g h = let e : names_in (ks ++ k ∷ []) ≡ 
 
 -- a message comes to be had
 pub kept_mail : (v u : ℕ) (ks : List (Known Name)) (ms : List Name) (p : ℕ) (m : Name) → IsMessageName m → Kept v u ks ms p → Kept v u ks (ms ++ m ∷ []) p
-kept_mail v u ks ms p m i h = record { number = h.number; hosts = h.hosts; once = h.once; own = h.own; below = h.below; apart = h.apart; mails = all_end IsMessageName ms m h.mails i }
+kept_mail v u ks ms p m i h = record { number = h.number; hosts = h.hosts; once = h.once; own = h.own; below = h.below; apart = h.apart; mails = all_end IsMessageName ms m h.mails i; views = h.views }
 
 pub no_answer : (v i h : ℕ) (m : Msg) → Promise v i ≡ Answer h m → ⊥
 no_answer v i h m e = cc
@@ -187,6 +215,7 @@ kept_promise v number ks ms p h = let k : Known Name = begun (Promise v p) numbe
       below = λ i a. low i (among_or (Promise v i) (names_in ks) (Promise v p) (rw e at a));
       apart = rw (sym e) at (all_end IsEventual (names_in ks) (Promise v p) h.apart tt);
       mails = h.mails;
+      views = look_on_end [] ks k refl h.views;
     }
   where
     fresh : IsAmong (Promise v p) (names_in ks) → ⊥
@@ -200,24 +229,24 @@ kept_promise v number ks ms p h = let k : Known Name = begun (Promise v p) numbe
     low i (inl a) = let l : i < p = h.below i a in omega arith
     low i (inr e) = let l : i ≡ p = same_promise v i p e in omega arith
 
-module _ (vats : List (Vat Name)) (v : ℕ) (q : Vat Name) (there : slice_get vats v ≡ Some q) where
+module _ (news : Bool) (vats : List (Vat Name)) (v : ℕ) (q : Vat Name) (there : slice_get vats v ≡ Some q) where
   abbrev pub Ok : Vat Name → Bit Name → Type 0
   Ok s b = IsMade (put_at v s vats) (length s.drawn) b × IsHad (names_in s.known) s.mails b
 
   abbrev pub Goes : Vat Name → Vat Name → Type 0
-  Goes s t = Follows (IsTold v) (names_in s.known) s.mails s.promises s.messages (length s.drawn) (names_in t.known) t.mails t.promises t.messages (length t.drawn)
+  Goes s t = Follows news (IsTold v) (names_in s.known) s.mails s.promises s.messages (length s.drawn) (names_in t.known) t.mails t.promises t.messages (length t.drawn)
 
   abbrev pub Keeps : Vat Name → Type 0
   Keeps s = Kept v s.number s.known s.mails s.promises
 
   pub quiet : (s : Vat Name) → Goes s s
-  quiet s = follows_same (IsTold v) (names_in s.known) s.mails s.promises s.messages (length s.drawn)
+  quiet s = follows_same news (IsTold v) (names_in s.known) s.mails s.promises s.messages (length s.drawn)
 
   abbrev pub Onward : (Name → Type 0) → Vat Name → Vat Name → Type 0
-  Onward T s t = Follows T (names_in s.known) s.mails s.promises s.messages (length s.drawn) (names_in t.known) t.mails t.promises t.messages (length t.drawn)
+  Onward T s t = Follows news T (names_in s.known) s.mails s.promises s.messages (length s.drawn) (names_in t.known) t.mails t.promises t.messages (length t.drawn)
 
   pub made_on : (T : Name → Type 0) (s t : Vat Name) → Onward T s t → (b : Bit Name) → IsMade (put_at v s vats) (length s.drawn) b → IsMade (put_at v t vats) (length t.drawn) b
-  made_on T s t r b h = is_made_up (put_at v s vats) (put_at v t vats) (length s.drawn) (length t.drawn) (λ w. promises_grow vats v s t w r.promises) (λ w. messages_grow vats v s t w r.messages) r.draws b h
+  made_on T s t r b h = is_made_up (put_at v s vats) (put_at v t vats) (length s.drawn) (length t.drawn) (λ w. promises_grow vats v s t w r.promises) (λ w. messages_grow vats v s t w (count_most news s.messages t.messages r.messages)) r.draws b h
 
   had_up : (T : Name → Type 0) (s t : Vat Name) → Onward T s t → (b : Bit Name) → IsHad (names_in s.known) s.mails b → IsHad (names_in t.known) t.mails b
   had_up T s t r (Named n) h = known_up (names_in s.known) (names_in t.known) r.names n h
@@ -233,22 +262,16 @@ module _ (vats : List (Vat Name)) (v : ℕ) (q : Vat Name) (there : slice_get va
     more = Keeps;
     rel = Goes;
     same = quiet;
-    trans = λ s t u h k. follows_trans (IsTold v) (names_in s.known) s.mails s.promises s.messages (length s.drawn) (names_in t.known) t.mails t.promises t.messages (length t.drawn) (names_in u.known) u.mails u.promises u.messages (length u.drawn) h k;
+    trans = λ s t u h k. follows_trans news (IsTold v) (names_in s.known) s.mails s.promises s.messages (length s.drawn) (names_in t.known) t.mails t.promises t.messages (length t.drawn) (names_in u.known) u.mails u.promises u.messages (length u.drawn) h k;
     up = λ s t r b h. ok_on (IsTold v) s t r b h;
     fuel = λ s n. (quiet s, λ h. h);
-    happened = λ s e. (quiet s, λ h. h);
+    told = λ s e n. (quiet s, λ h. h);
     activations = λ s. (quiet s, λ h. h);
     thing = λ s t. (quiet s, λ h. h);
     killed = λ s n. (quiet s, λ h. h);
     slot = λ s c. (quiet s, λ h. h);
     written = λ s n x. (quiet s, λ h. h);
     list = λ s vs. (quiet s, λ h. h);
-    queue = λ s m. (quiet s, λ h. h);
-    outbox = λ s p h. (quiet s, λ h. h);
-    gift = λ s g h. (quiet s, λ h. h);
-    opened = λ s p i. (quiet s, λ h. h);
-    noticed = λ s w. (quiet s, λ h. h);
-    drawn = λ s w. (follows_drawn (IsTold v) (names_in s.known) s.mails s.promises s.messages s.drawn w, λ h. h, (let e : length (s.drawn ++ w ∷ []) ≡ suc (length s.drawn) = length_end s.drawn w in omega arith, tt));
   }
 
   module _ (word : ℕ → ℕ) where
@@ -256,38 +279,27 @@ module _ (vats : List (Vat Name)) (v : ℕ) (q : Vat Name) (there : slice_get va
         let t : Vat Name = record s { known = s.known ++ begun (Answer h m) h ∷ [] } in Goes s t × (Keeps s → Keeps t) × Ok t (Named (Answer h m))
     unfolding begun host_of
     answer_made s h m l = let k : Known Name = begun (Answer h m) h in let t : Vat Name = record s { known = s.known ++ k ∷ [] } in
-        let r : Goes s t = follows_known (IsTold v) s.known k s.mails s.promises s.messages (length s.drawn) (λ x. x) in
+        let r : Goes s t = follows_known news (IsTold v) s.known k s.mails s.promises s.messages (length s.drawn) (λ x. x) in
         let among : IsAmong (Answer h m) (names_in (s.known ++ k ∷ [])) = rw (sym (names_end s.known k)) at (among_last (names_in s.known) (Answer h m)) in
-        (r, λ c. kept_known v s.number s.known k s.mails s.promises refl tt (λ x i. x) (λ i e. absurd (no_answer v i h m e)) c, (made_on (IsTold v) s t r (Named (Answer h m)) l, among))
+        (r, λ c. kept_known v s.number s.known k s.mails s.promises refl refl tt (λ x i. x) (λ i e. absurd (no_answer v i h m e)) c, (made_on (IsTold v) s t r (Named (Answer h m)) l, among))
 
     gift_made : (s : Vat Name) (h i : ℕ) → i < length s.drawn →
         let t : Vat Name = record s { known = s.known ++ begun (Gift h i) h ∷ [] } in Goes s t × (Keeps s → Keeps t) × Ok t (Named (Gift h i))
     unfolding begun host_of
     gift_made s h i l = let k : Known Name = begun (Gift h i) h in let t : Vat Name = record s { known = s.known ++ k ∷ [] } in
-        let r : Goes s t = follows_known (IsTold v) s.known k s.mails s.promises s.messages (length s.drawn) (λ x. x) in
+        let r : Goes s t = follows_known news (IsTold v) s.known k s.mails s.promises s.messages (length s.drawn) (λ x. x) in
         let among : IsAmong (Gift h i) (names_in (s.known ++ k ∷ [])) = rw (sym (names_end s.known k)) at (among_last (names_in s.known) (Gift h i)) in
-        (r, λ c. kept_known v s.number s.known k s.mails s.promises refl tt (λ x a. x) (λ j e. absurd (no_gift v j h i e)) c, (made_on (IsTold v) s t r (Named (Gift h i)) l, among))
+        (r, λ c. kept_known v s.number s.known k s.mails s.promises refl refl tt (λ x a. x) (λ j e. absurd (no_gift v j h i e)) c, (made_on (IsTold v) s t r (Named (Gift h i)) l, among))
 
-    promise_made : (s : Vat Name) → let t : Vat Name = record s { promises = suc s.promises; known = s.known ++ begun (Promise v s.promises) s.number ∷ [] } in Goes s t × (Keeps s → Keeps t) × Ok t (Named (Promise v s.promises))
+    pub promise_made : (s : Vat Name) → let t : Vat Name = record s { promises = suc s.promises; known = s.known ++ begun (Promise v s.promises) s.number ∷ [] } in Goes s t × (Keeps s → Keeps t) × Ok t (Named (Promise v s.promises))
     unfolding begun
     promise_made s = let k : Known Name = begun (Promise v s.promises) s.number in let t : Vat Name = record s { promises = suc s.promises; known = s.known ++ k ∷ [] } in
-        let f : Follows (IsTold v) (names_in s.known) s.mails s.promises s.messages (length s.drawn) (names_in (s.known ++ k ∷ [])) s.mails s.promises s.messages (length s.drawn) = follows_known (IsTold v) s.known k s.mails s.promises s.messages (length s.drawn) (λ x. x refl) in
-        let r : Goes s t = record { names = f.names; mails = f.mails; promises = omega arith; messages = omega arith; draws = omega arith; told = f.told } in
+        let f : Follows news (IsTold v) (names_in s.known) s.mails s.promises s.messages (length s.drawn) (names_in (s.known ++ k ∷ [])) s.mails s.promises s.messages (length s.drawn) = follows_known news (IsTold v) s.known k s.mails s.promises s.messages (length s.drawn) (λ x. x refl) in
+        let r : Goes s t = record { names = f.names; mails = f.mails; promises = omega arith; messages = count_same news s.messages; draws = omega arith; told = f.told } in
         let among : IsAmong (Promise v s.promises) (names_in (s.known ++ k ∷ [])) = rw (sym (names_end s.known k)) at (among_last (names_in s.known) (Promise v s.promises)) in
         let e : promises_of (put_at v t vats) v ≡ suc s.promises = promises_at (put_at v t vats) v t (get_put vats v q t there) in
         let l : s.promises < promises_of (put_at v t vats) v = omega arith in
         (r, λ c. kept_promise v s.number s.known s.mails s.promises c, (l, among))
-
-    message_made : (s : Vat Name) (h : ℕ) → let m : Msg = record { sender = v; number = s.messages } in let t : Vat Name = record s { messages = suc s.messages; mails = s.mails ++ Sent m ∷ []; known = s.known ++ begun (Answer h m) h ∷ [] } in
-        Goes s t × (Keeps s → Keeps t) × Ok t (Mail (Sent m)) × Ok t (Named (Answer h m))
-    unfolding begun host_of
-    message_made s h = let m : Msg = record { sender = v; number = s.messages } in let k : Known Name = begun (Answer h m) h in let t : Vat Name = record s { messages = suc s.messages; mails = s.mails ++ Sent m ∷ []; known = s.known ++ k ∷ [] } in
-        let f : Follows (IsTold v) (names_in s.known) s.mails s.promises s.messages (length s.drawn) (names_in (s.known ++ k ∷ [])) s.mails s.promises s.messages (length s.drawn) = follows_known (IsTold v) s.known k s.mails s.promises s.messages (length s.drawn) (λ x. x) in
-        let r : Goes s t = record { names = f.names; mails = λ n a. among_more n s.mails (Sent m) a; promises = omega arith; messages = omega arith; draws = omega arith; told = f.told } in
-        let among : IsAmong (Answer h m) (names_in (s.known ++ k ∷ [])) = rw (sym (names_end s.known k)) at (among_last (names_in s.known) (Answer h m)) in
-        let e : messages_of (put_at v t vats) v ≡ suc s.messages = messages_at (put_at v t vats) v t (get_put vats v q t there) in
-        let l : s.messages < messages_of (put_at v t vats) v = omega arith in
-        (r, λ c. kept_mail v s.number (s.known ++ k ∷ []) s.mails s.promises (Sent m) tt (kept_known v s.number s.known k s.mails s.promises refl tt (λ x a. x) (λ i e. absurd (no_answer v i h m e)) c), (l, among_last s.mails (Sent m)), (l, among))
 
     object_ok : (s : Vat Name) (i : ℕ) → Ok s (Named (Object v i))
     object_ok s i = (tt, tt)
@@ -305,9 +317,34 @@ module _ (vats : List (Vat Name)) (v : ℕ) (q : Vat Name) (there : slice_get va
     unfolding naming name_of answer_of mail_of
     tracked_under = record {
       object = λ s i. object_ok s i;
-      altered = λ s c n h. (follows_change (naming word v) (IsTold v) c n s.known s.mails s.promises s.messages (length s.drawn), λ k. kept_change (naming word v) v s.number c n s.known s.mails s.promises k);
+      happened = λ s e. (quiet s, λ h. h);
+      queue = λ s m. (quiet s, λ h. h);
+      outbox = λ s p h. (quiet s, λ h. h);
+      gift = λ s g h. (quiet s, λ h. h);
+      opened = λ s p i. (quiet s, λ h. h);
+      noticed = λ s w. (quiet s, λ h. h);
+      drawn = λ s w. (follows_drawn news (IsTold v) (names_in s.known) s.mails s.promises s.messages s.drawn w, λ h. h, (let e : length (s.drawn ++ w ∷ []) ≡ suc (length s.drawn) = length_end s.drawn w in omega arith, tt));
+      altered = λ s c n none h. (follows_change (naming word v) news (IsTold v) c n s.known s.mails s.promises s.messages (length s.drawn), λ k. kept_change (naming word v) v s.number c n s.known s.mails s.promises none k);
       answered = λ s h n l. answered_ok s h n l;
       given = λ s h i l. gift_made s h i l.0;
-      promised = λ s. promise_made s;
-      messaged = λ s h. message_made s h;
     }
+
+-- where new messages may be made
+module _ (vats : List (Vat Name)) (v : ℕ) (q : Vat Name) (there : slice_get vats v ≡ Some q) (word : ℕ → ℕ) where
+  message_made : (s : Vat Name) (h : ℕ) → let m : Msg = record { sender = v; number = s.messages } in let t : Vat Name = record s { messages = suc s.messages; mails = s.mails ++ Sent m ∷ []; known = s.known ++ begun (Answer h m) h ∷ [] } in
+      Goes true vats v q there s t × (Keeps true vats v q there s → Keeps true vats v q there t) × Ok true vats v q there t (Mail (Sent m)) × Ok true vats v q there t (Named (Answer h m))
+  unfolding begun host_of
+  message_made s h = let m : Msg = record { sender = v; number = s.messages } in let k : Known Name = begun (Answer h m) h in let t : Vat Name = record s { messages = suc s.messages; mails = s.mails ++ Sent m ∷ []; known = s.known ++ k ∷ [] } in
+      let f : Follows true (IsTold v) (names_in s.known) s.mails s.promises s.messages (length s.drawn) (names_in (s.known ++ k ∷ [])) s.mails s.promises s.messages (length s.drawn) = follows_known true (IsTold v) s.known k s.mails s.promises s.messages (length s.drawn) (λ x. x) in
+      let r : Goes true vats v q there s t = record { names = f.names; mails = λ n a. among_more n s.mails (Sent m) a; promises = omega arith; messages = omega arith; draws = omega arith; told = f.told } in
+      let among : IsAmong (Answer h m) (names_in (s.known ++ k ∷ [])) = rw (sym (names_end s.known k)) at (among_last (names_in s.known) (Answer h m)) in
+      let e : messages_of (put_at v t vats) v ≡ suc s.messages = messages_at (put_at v t vats) v t (get_put vats v q t there) in
+      let l : s.messages < messages_of (put_at v t vats) v = omega arith in
+      (r, λ c. kept_mail v s.number (s.known ++ k ∷ []) s.mails s.promises (Sent m) tt (kept_known v s.number s.known k s.mails s.promises refl refl tt (λ x a. x) (λ i e. absurd (no_answer v i h m e)) c), (l, among_last s.mails (Sent m)), (l, among))
+
+  pub tracked_makes : Makes (naming word v) (tracked true vats v q there)
+  unfolding naming name_of answer_of mail_of
+  tracked_makes = record {
+    promised = λ s. promise_made true vats v q there word s;
+    messaged = λ s h. message_made s h;
+  }

@@ -1,0 +1,41 @@
+-- In every run each message that is sent has one place or one fate.
+use Rattle.std.specs.Prelude.{◌≡◌, ℕ, ◌+◌, ◌≤◌, ◌<◌, length}
+use Rattle.ev_machine.specs.Values.{Name}
+use Rattle.ev_machine.specs.State.{Note, Deliver, Open, Ask, SettledTo, Elsewhere, Shorten, Put, Vat, Done, Gives, Throws, Ejects, Stops}
+use Rattle.ev_machine_laws.specs.Steps.{Step, does}
+use Rattle.ev_run.specs.World.{Script, World, Goes, names, run}
+use Rattle.ev_name_laws.specs.Names.{AllOf}
+use Rattle.ev_name_laws.specs.Runs.{KnowsOnce}
+use Rattle.ev_fate_laws.specs.Fate.{places, sent, fates}
+use Rattle.ev_whole_fate_laws.specs.Steps.{OfEachStep, InRunsOf}
+
+-- a deliver note of vat v is put to another of so many vats
+abbrev pub GoesToVat : ℕ → ℕ → ℕ → Note Name → Type 0
+GoesToVat count v to (Deliver m n verb ys) = to < count × (v ≡ to → ⊥)
+GoesToVat count v to (Open i n) = Unit {0}
+GoesToVat count v to (Ask p i n) = Unit {0}
+GoesToVat count v to (SettledTo n y) = Unit {0}
+GoesToVat count v to (Elsewhere n c) = Unit {0}
+GoesToVat count v to (Shorten n c i) = Unit {0}
+
+-- each of the notes that were put, where it gives
+abbrev pub PutsToVats : ℕ → ℕ → Done Name (Unit {0}) → Type 0
+PutsToVats count v (Gives a t) = AllOf (λ (p : Put Name). GoesToVat count v p.to p.note) t.outbox
+PutsToVats count v (Throws p t) = Unit {0}
+PutsToVats count v (Ejects n y t) = Unit {0}
+PutsToVats count v (Stops c t) = Unit {0}
+
+abbrev pub StepPutsToVats : Script → ℕ → (Name → ℕ) → Step Name Name → Vat Name → Type 0
+StepPutsToVats script v came step s = PutsToVats (length script.vats) v (does (names script v) step s)
+
+-- in every world of the runs of that script, each deliver note that a step of a vat puts is put to another vat of the script
+abbrev pub NotesGoToVats : Script → Type 0
+NotesGoToVats script = InRunsOf script (λ w. OfEachStep script w (StepPutsToVats script))
+
+-- in every world of a run each message has as many places, takes and losses as sends
+abbrev pub EachMessageHasAFate : Type 0
+EachMessageHasAFate = (script : Script) → KnowsOnce script → NotesGoToVats script → (x : Name) → InRunsOf script (λ w. places x w + fates x w.history ≡ sent x w.history)
+
+-- in the history of a whole run, with its closing list, each message has as many fates as it was sent, and of these there is one at most
+abbrev pub ExactlyOneFate : Type 0
+ExactlyOneFate = (script : Script) → KnowsOnce script → NotesGoToVats script → (x : Name) (w : World) → run script ≡ Goes w → (fates x w.history ≡ sent x w.history) × (sent x w.history ≤ 1)
