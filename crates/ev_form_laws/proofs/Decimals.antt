@@ -55,7 +55,7 @@ ten_times q = ap (λ k. neg_ℤ (pos k)) (suc_ten q)
 further_down : (t d : ℕ) → negsuc t -ℤ pos d ≡ negsuc (t + d)
 further_down t d = omega (arith, ints)
 
-one_down : (d : ℕ) → pos 0 -ℤ pos (suc d) ≡ negsuc d
+pub one_down : (d : ℕ) → pos 0 -ℤ pos (suc d) ≡ negsuc d
 one_down d = omega (arith, ints)
 
 -- one more digit

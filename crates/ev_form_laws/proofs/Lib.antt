@@ -11,4 +11,8 @@ pub mod Decimals
 pub mod Literals
 pub mod ReadingTrees
 pub mod Undoing
+pub mod Shapes
+pub mod Standing
+pub mod Stepping
+pub mod Reached
 mod Rows

@@ -1,5 +1,6 @@
 -- What holds of trees and their forms.
-use Rattle.std.specs.Prelude.{◌≡◌, List, Ok}
+use Rattle.std.specs.Prelude.{◌≡◌, ℕ, List, Ok}
+use Rattle.std.specs.Str.{IsUtf8}
 use Rattle.ev_kernel.specs.declared.node.Node.{Node}
 use Rattle.ev_kernel.specs.Forms.{form}
 use Rattle.ev_kernel.specs.Reading.{read}
@@ -12,3 +13,7 @@ ReadingUndoesPrinting = (nodes : List Node) → IsTree nodes → read (form node
 -- two trees with the same form are the same tree
 abbrev pub FormOfOneTree : Type 0
 FormOfOneTree = (left right : List Node) → IsTree left → IsTree right → form left 0 ≡ form right 0 → left ≡ right
+
+-- what is read of a text is a tree
+abbrev pub WhatIsReadIsATree : Type 0
+WhatIsReadIsATree = (text : List ℕ) (nodes : List Node) → IsUtf8 text → read text ≡ Ok nodes → IsTree nodes

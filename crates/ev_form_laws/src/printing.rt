@@ -1,6 +1,6 @@
 //! What is read of the forms of trees.
 
-ghost use Rattle.ev_form_laws.specs.Laws.{FormOfOneTree, ReadingUndoesPrinting};
+ghost use Rattle.ev_form_laws.specs.Laws.{FormOfOneTree, ReadingUndoesPrinting, WhatIsReadIsATree};
 
 /// The form of a tree is read as that tree.
 #[tactic(auto, using(crate::proofs::Undoing::undoes))]
@@ -12,4 +12,10 @@ pub fn reading_undoes_printing()
 #[tactic(auto, using(crate::proofs::Undoing::one_tree))]
 pub fn a_text_is_the_form_of_one_tree()
     ensures { FormOfOneTree }
+{}
+
+/// What is read of a text is a tree, numbered in the order in which the forms begin.
+#[tactic(auto, using(crate::proofs::Reached::read_is_tree))]
+pub fn what_is_read_is_a_tree()
+    ensures { WhatIsReadIsATree }
 {}

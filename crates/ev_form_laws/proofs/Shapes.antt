@@ -1,0 +1,217 @@
+-- Items of a form that fit its shape, and the trees that they make.
+use Rattle.std.proofs.Common.{◌≡◌, ℕ, suc, ◌+◌, ◌≤◌, Bool, true, false, cond, List, [], ◌∷◌, ◌++◌, length, map, Option, Some, option_map, refl, sym, ◌∙◌, ap, subst, arith}
+use Rattle.std.specs.Prelude.{bytes_eq}
+use Rattle.std.specs.List.{find}
+use Rattle.std.specs.Str.{IsUtf8}
+use Rattle.std.proofs.lemmas.Option.{same_Some}
+use Rattle.ev_kernel.specs.declared.node.Literal.{Literal}
+use Rattle.ev_kernel.specs.declared.node.Node.{Node}
+use Rattle.ev_kernel.specs.declared.node.Node.TheVariants as node
+use Rattle.ev_kernel.specs.declared.reader.Item.{Item}
+use Rattle.ev_kernel.specs.declared.reader.Item.TheVariants.{Node as ANode, Nodes as ANodes, Word as AWord, Literal as ALit}
+use Rattle.ev_kernel.specs.declared.shape.Kind.{Kind}
+use Rattle.ev_kernel.specs.declared.shape.Kind.TheVariants.{Expression, Pattern, Member, Naming}
+use Rattle.ev_kernel.specs.declared.shape.Head.{Head}
+use Rattle.ev_kernel.specs.declared.shape.Head.TheVariants as head
+use Rattle.ev_kernel.specs.declared.shape.Want.{Want}
+use Rattle.ev_kernel.specs.declared.shape.Want.TheVariants as want
+use Rattle.ev_kernel.specs.declared.shape.Tail.TheVariants.{Many}
+use Rattle.ev_kernel.specs.Reading.{heads, head_of, fixed, tail, wanted, ends, numbers, node_of}
+use Rattle.ev_form_laws.specs.Trees.{Has, IsName, IsLiteral, Tree, Row, literal, noun, set, def, def_exit, call, sequence, choice, escape, escape_catch, try_catch, finally, hide, match_bind, object, method, matcher, final, final_guarded, variable, variable_guarded, any, any_guarded, list, via, named, unnamed, none, one_more}
+use Rattle.ev_form_laws.proofs.Going.{wants_more}
+use Rattle.ev_form_laws.proofs.Groups.{numbers_are}
+
+-- an item that is what is wanted; its nodes are those from the first number to before the second
+pub data ItemFits (nodes : List Node) : Option Want → Item → ℕ → ℕ → Type 0 where
+  a_tree : {kind : Kind} {a b : ℕ} → Tree nodes kind a b → ItemFits nodes (Some (want.Tree kind)) (ANode a) a b
+  a_group : {kind : Kind} {starts : List ℕ} {a b : ℕ} → Row nodes kind starts a b → ItemFits nodes (Some (want.Group kind)) (ANodes starts) a b
+  a_name : {w : List ℕ} {a : ℕ} → IsName w → ItemFits nodes (Some want.Name) (AWord w) a a
+  a_verb : {w : List ℕ} {a : ℕ} → IsUtf8 w → ItemFits nodes (Some want.Verb) (AWord w) a a
+  a_literal : {l : Literal} {a : ℕ} → IsLiteral l → ItemFits nodes (Some want.Literal) (ALit l) a a
+
+-- items that are what a form wants from so many items on
+pub data Fits (nodes : List Node) (shape : Head) : ℕ → List Item → ℕ → ℕ → Type 0 where
+  no_more : {k a : ℕ} → Fits nodes shape k [] a a
+  also : {k : ℕ} {i : Item} {items : List Item} {a b m : ℕ} → ItemFits nodes (wanted shape k) i a b → Fits nodes shape (suc k) items b m → Fits nodes shape k (i ∷ items) a m
+
+at_end : (j k : ℕ) → j ≡ k + 0 → j ≡ k
+at_end j k e = omega arith
+
+-- one more item
+pub fits_more : {nodes : List Node} {shape : Head} {k : ℕ} {items : List Item} {a b m : ℕ} {i : Item} (j : ℕ) → j ≡ k + length items → Fits nodes shape k items a b
+    → ItemFits nodes (wanted shape j) i b m → Fits nodes shape k (items ++ i ∷ []) a m
+fits_more {nodes = nodes} {shape = shape} {k = k} {b = b} {m = m} {i = i} j e no_more f =
+    also (subst (λ x. ItemFits nodes (wanted shape x) i b m) (at_end j k e) f) no_more
+fits_more j e (also g rest) f = also g (fits_more j (omega arith) rest f)
+
+-- trees alone
+record RowOf (nodes : List Node) (items : List Item) (kind : Kind) (a m : ℕ) : Type 0 where
+  pub starts : List ℕ
+  pub are : items ≡ map ANode starts
+  pub row : Row nodes kind starts a m
+
+record TreeOf (nodes : List Node) (i : Item) (kind : Kind) (a b : ℕ) : Type 0 where
+  pub is : i ≡ ANode a
+  pub tree : Tree nodes kind a b
+
+tree_of : {nodes : List Node} {i : Item} {a b : ℕ} (o : Option Want) (kind : Kind) → o ≡ Some (want.Tree kind) → ItemFits nodes o i a b → TreeOf nodes i kind a b
+tree_of {nodes = nodes} {a = a} {b = b} _ kind e (a_tree {kind = other} t) =
+    let same : other ≡ kind = cc in record { is = refl; tree = subst (λ k. Tree nodes k a b) same t }
+tree_of _ kind e (a_group row) = absurd (cc)
+tree_of _ kind e (a_name is) = absurd (cc)
+tree_of _ kind e (a_verb is) = absurd (cc)
+tree_of _ kind e (a_literal is) = absurd (cc)
+
+row_of : {nodes : List Node} {shape : Head} {k : ℕ} {items : List Item} {a m : ℕ} (kind : Kind) → tail shape ≡ Many kind → length (fixed shape) ≤ k → Fits nodes shape k items a m → RowOf nodes items kind a m
+row_of kind many enough no_more = record { starts = []; are = refl; row = none }
+row_of {shape = shape} {k = k} kind many enough (also {i = i} {items = items} {a = a} f rest) =
+    let t = tree_of (wanted shape k) kind (wants_more shape kind k many enough) f in
+    let r = row_of kind many (omega arith) rest in
+    record { starts = a ∷ r.starts; are = ap (λ x. x ∷ items) t.is ∙ ap (λ xs. ANode a ∷ xs) r.are; row = one_more t.tree r.row }
+
+numbers_of : {nodes : List Node} {items : List Item} {kind : Kind} {a m : ℕ} (r : RowOf nodes items kind a m) → numbers items ≡ r.starts
+numbers_of r = ap numbers r.are ∙ numbers_are r.starts
+
+-- the shapes of each kind
+pub data Of : Kind → Head → Type 0 where
+  of_lit : Of Expression head.Lit
+  of_noun : Of Expression head.Noun
+  of_set : Of Expression head.Set
+  of_def : Of Expression head.Def
+  of_call : Of Expression head.Call
+  of_seq : Of Expression head.Seq
+  of_if : Of Expression head.If
+  of_escape : Of Expression head.Escape
+  of_try : Of Expression head.Try
+  of_finally : Of Expression head.Finally
+  of_hide : Of Expression head.Hide
+  of_match : Of Expression head.Match
+  of_object : Of Expression head.Object
+  of_final : Of Pattern head.Final
+  of_var : Of Pattern head.Var
+  of_any : Of Pattern head.Any
+  of_list : Of Pattern head.List
+  of_via : Of Pattern head.Via
+  of_method : Of Member head.Method
+  of_matcher : Of Member head.Matcher
+  of_final_name : Of Naming head.FinalName
+  of_no_name : Of Naming head.NoName
+  of_def_exit : Of Expression head.DefExit
+
+-- what all shapes of these words have
+abbrev AllOf : (Head → Type 0) → List (List ℕ × Head) → Type 0
+AllOf P [] = Unit {0}
+AllOf P (entry ∷ entries) = P entry.1 × AllOf P entries
+
+found_so : (P : Head → Type 0) (b : Bool) (entry : List ℕ × Head) (rest : Option (List ℕ × Head)) (shape : Head) → option_map (λ (x : List ℕ × Head). x.1) (cond b (Some entry) rest) ≡ Some shape
+    → P entry.1 → (option_map (λ (x : List ℕ × Head). x.1) rest ≡ Some shape → P shape) → P shape
+found_so P true entry rest shape e p later = subst P (same_Some entry.1 shape e) p
+found_so P false entry rest shape e p later = later e
+
+found_in : (P : Head → Type 0) (entries : List (List ℕ × Head)) (w : List ℕ) (shape : Head) → head_of entries w ≡ Some shape → AllOf P entries → P shape
+found_in P [] w shape e all = absurd (cc)
+found_in P (entry ∷ entries) w shape e all =
+    found_so P (bytes_eq w entry.0) entry (find (λ x. bytes_eq w x.0) entries) shape e all.0 (λ later. found_in P entries w shape later all.1)
+
+pub of_word : (kind : Kind) (w : List ℕ) (shape : Head) → head_of (heads kind) w ≡ Some shape → Of kind shape
+of_word Expression w shape e = found_in (Of Expression) (heads Expression) w shape e (of_lit, (of_noun, (of_set, (of_def, (of_call, (of_seq, (of_if, (of_escape, (of_try, (of_finally, (of_hide, (of_match, (of_object, tt)))))))))))))
+of_word Pattern w shape e = found_in (Of Pattern) (heads Pattern) w shape e (of_final, (of_var, (of_any, (of_list, (of_via, tt)))))
+of_word Member w shape e = found_in (Of Member) (heads Member) w shape e (of_method, (of_matcher, tt))
+of_word Naming w shape e = found_in (Of Naming) (heads Naming) w shape e (of_final_name, (of_no_name, tt))
+
+-- a form whose items are all there is a tree
+pub closes : {nodes : List Node} {kind : Kind} {shape : Head} {items : List Item} {n m : ℕ} → Of kind shape → Fits nodes shape 0 items (suc n) m → ends shape (length items) ≡ true
+    → Has nodes n (node_of shape items) → Tree nodes kind n m
+closes of_lit no_more e has = absurd (cc)
+closes of_lit (also (a_literal l0) no_more) e has = literal has l0
+closes of_lit (also _ (also x _)) e has = elim x [ ]
+closes of_noun no_more e has = absurd (cc)
+closes of_noun (also (a_name n0) no_more) e has = noun has n0
+closes of_noun (also _ (also x _)) e has = elim x [ ]
+closes of_set no_more e has = absurd (cc)
+closes of_set (also _ no_more) e has = absurd (cc)
+closes of_set (also (a_name n0) (also (a_tree t1) no_more)) e has = set has n0 t1
+closes of_set (also _ (also _ (also x _))) e has = elim x [ ]
+closes of_def no_more e has = absurd (cc)
+closes of_def (also _ no_more) e has = absurd (cc)
+closes of_def (also (a_tree t0) (also (a_tree t1) no_more)) e has = def has t0 t1
+closes of_def (also _ (also _ (also x _))) e has = elim x [ ]
+closes of_def_exit no_more e has = absurd (cc)
+closes of_def_exit (also _ no_more) e has = absurd (cc)
+closes of_def_exit (also _ (also _ no_more)) e has = absurd (cc)
+closes of_def_exit (also (a_tree t0) (also (a_tree t1) (also (a_tree t2) no_more))) e has = def_exit has t0 t1 t2
+closes of_def_exit (also _ (also _ (also _ (also x _)))) e has = elim x [ ]
+closes of_call no_more e has = absurd (cc)
+closes of_call (also _ no_more) e has = absurd (cc)
+closes {n = n} of_call (also (a_tree t) (also (a_verb {w = verb} v) rest)) e has =
+    let r = row_of Expression refl (omega arith) rest in call (has ∙ ap (λ ns. Some (node.Call (suc n) verb ns)) (numbers_of r)) v t r.row
+closes of_seq no_more e has = absurd (cc)
+closes {n = n} of_seq (also (a_tree t) rest) e has =
+    let r = row_of Expression refl (omega arith) rest in sequence (has ∙ ap (λ ns. Some (node.Sequence (suc n ∷ ns))) (numbers_of r)) t r.row
+closes of_if no_more e has = absurd (cc)
+closes of_if (also _ no_more) e has = absurd (cc)
+closes of_if (also _ (also _ no_more)) e has = absurd (cc)
+closes of_if (also (a_tree t0) (also (a_tree t1) (also (a_tree t2) no_more))) e has = choice has t0 t1 t2
+closes of_if (also _ (also _ (also _ (also x _)))) e has = elim x [ ]
+closes of_escape no_more e has = absurd (cc)
+closes of_escape (also _ no_more) e has = absurd (cc)
+closes of_escape (also (a_tree t0) (also (a_tree t1) no_more)) e has = escape has t0 t1
+closes of_escape (also _ (also _ (also _ no_more))) e has = absurd (cc)
+closes of_escape (also (a_tree t0) (also (a_tree t1) (also (a_tree t2) (also (a_tree t3) no_more)))) e has = escape_catch has t0 t1 t2 t3
+closes of_escape (also _ (also _ (also _ (also _ (also x _))))) e has = elim x [ ]
+closes of_try no_more e has = absurd (cc)
+closes of_try (also _ no_more) e has = absurd (cc)
+closes of_try (also _ (also _ no_more)) e has = absurd (cc)
+closes of_try (also (a_tree t0) (also (a_tree t1) (also (a_tree t2) no_more))) e has = try_catch has t0 t1 t2
+closes of_try (also _ (also _ (also _ (also x _)))) e has = elim x [ ]
+closes of_finally no_more e has = absurd (cc)
+closes of_finally (also _ no_more) e has = absurd (cc)
+closes of_finally (also (a_tree t0) (also (a_tree t1) no_more)) e has = finally has t0 t1
+closes of_finally (also _ (also _ (also x _))) e has = elim x [ ]
+closes of_hide no_more e has = absurd (cc)
+closes of_hide (also (a_tree t0) no_more) e has = hide has t0
+closes of_hide (also _ (also x _)) e has = elim x [ ]
+closes of_match no_more e has = absurd (cc)
+closes of_match (also _ no_more) e has = absurd (cc)
+closes of_match (also (a_tree t0) (also (a_tree t1) no_more)) e has = match_bind has t0 t1
+closes of_match (also _ (also _ (also x _))) e has = elim x [ ]
+closes of_object no_more e has = absurd (cc)
+closes of_object (also _ no_more) e has = absurd (cc)
+closes {n = n} of_object (also (a_tree t) (also (a_group {starts = auditors} g) rest)) e has =
+    let r = row_of Member refl (omega arith) rest in object (has ∙ ap (λ ns. Some (node.Object (suc n) auditors ns)) (numbers_of r)) t g r.row
+closes of_method no_more e has = absurd (cc)
+closes of_method (also _ no_more) e has = absurd (cc)
+closes of_method (also _ (also _ no_more)) e has = absurd (cc)
+closes of_method (also (a_verb v0) (also (a_group g1) (also (a_tree t2) no_more))) e has = method has v0 g1 t2
+closes of_method (also _ (also _ (also _ (also x _)))) e has = elim x [ ]
+closes of_matcher no_more e has = absurd (cc)
+closes of_matcher (also _ no_more) e has = absurd (cc)
+closes of_matcher (also (a_tree t0) (also (a_tree t1) no_more)) e has = matcher has t0 t1
+closes of_matcher (also _ (also _ (also x _))) e has = elim x [ ]
+closes of_final no_more e has = absurd (cc)
+closes of_final (also (a_name n0) no_more) e has = final has n0
+closes of_final (also (a_name n0) (also (a_tree t1) no_more)) e has = final_guarded has n0 t1
+closes of_final (also _ (also _ (also x _))) e has = elim x [ ]
+closes of_var no_more e has = absurd (cc)
+closes of_var (also (a_name n0) no_more) e has = variable has n0
+closes of_var (also (a_name n0) (also (a_tree t1) no_more)) e has = variable_guarded has n0 t1
+closes of_var (also _ (also _ (also x _))) e has = elim x [ ]
+closes of_any no_more e has = any has
+closes of_any (also (a_tree t0) no_more) e has = any_guarded has t0
+closes of_any (also _ (also x _)) e has = elim x [ ]
+closes of_list rest e has =
+    let r = row_of Pattern refl (omega arith) rest in list (has ∙ ap (λ ns. Some (node.ListPattern ns)) (numbers_of r)) r.row
+closes of_via no_more e has = absurd (cc)
+closes of_via (also _ no_more) e has = absurd (cc)
+closes of_via (also (a_tree t0) (also (a_tree t1) no_more)) e has = via has t0 t1
+closes of_via (also _ (also _ (also x _))) e has = elim x [ ]
+closes of_final_name no_more e has = absurd (cc)
+closes of_final_name (also (a_name n0) no_more) e has = named has n0
+closes of_final_name (also _ (also x _)) e has = elim x [ ]
+closes of_no_name no_more e has = unnamed has
+closes of_no_name (also x _) e has = elim x [ ]
+
+-- trees between brackets
+pub closes_row : {nodes : List Node} {kind : Kind} {items : List Item} {a m : ℕ} → Fits nodes (head.Group kind) 0 items a m → Row nodes kind (numbers items) a m
+closes_row {nodes = nodes} {kind = kind} {a = a} {m = m} fits =
+    let r = row_of kind refl (omega arith) fits in subst (λ ns. Row nodes kind ns a m) (sym (numbers_of r)) r.row
