@@ -1,9 +1,10 @@
 -- Where each view is known later than what it views, following ends at what waits.
 use Rattle.std.proofs.Common.{◌≡◌, ℕ, zero, suc, ◌+◌, ◌<◌, ◌≤◌, true, List, Some, None, refl, sym, ◌∙◌, length, arith}
-use Rattle.ev_machine.specs.Values.{Value, Null, Flag, Number, Letter, Text, Prim, Broken, Items, Ref, Naming}
+use Rattle.ev_machine.specs.Values.{Name, Value, Null, Flag, Number, Letter, Text, Prim, Broken, Items, Ref, Naming}
 use Rattle.ev_machine.specs.State.{Standing, Unsettled, WaitsOn, Viewed, Settled, Known}
 use Rattle.ev_machine.specs.Refs.{entry_of, standing_of, standing_in, follow_at, led}
 use Rattle.ev_machine_laws.specs.Breaks.{still_waits, IsPending}
+use Rattle.ev_fate_laws.specs.Finding.{IsAmong, ViewIs, ViewsEndIn}
 use Rattle.ev_rest_laws.specs.Views.{IsOpen, index_at, Awaits, ViewsWait}
 use Rattle.ev_rest_laws.proofs.Entries.{index_less}
 
@@ -41,14 +42,14 @@ module _ {N W : Type 0} (K : Naming N W) where
     place_of : (n q : N) → Awaits K ks n q → (index_at K ks n < index_at K ks q) × (index_at K ks q < length ks)
     place_of n q aw = (aw.later, index_less K ks q aw.entry aw.found)
 
-    views_end : (d : ℕ) (n m : N) → IsOpen (standing_of K ks n) → length ks ≤ d + index_at K ks n → follow_at K (suc d) ks (Ref n) ≡ Ref m → still_waits (standing_of K ks m) ≡ true
+    followed_end : (d : ℕ) (n m : N) → IsOpen (standing_of K ks n) → length ks ≤ d + index_at K ks n → follow_at K (suc d) ks (Ref n) ≡ Ref m → still_waits (standing_of K ks m) ≡ true
     unfolding follow_at
-    views_end zero n m pends most h = led_ends (λ y. follow_at K zero ks y) ks n m (standing_of K ks n) refl (λ y e i. absurd (pends y e)) (λ q e i. absurd (none q e)) h
+    followed_end zero n m pends most h = led_ends (λ y. follow_at K zero ks y) ks n m (standing_of K ks n) refl (λ y e i. absurd (pends y e)) (λ q e i. absurd (none q e)) h
       where
         none : (q : N) → standing_of K ks n ≡ Viewed q → ⊥
         none q e = let at = place_of n q (views n q e) in let a : index_at K ks n < index_at K ks q = at.0 in let b : index_at K ks q < length ks = at.1 in omega arith
-    views_end (suc d) n m pends most h = led_ends (λ y. follow_at K (suc d) ks y) ks n m (standing_of K ks n) refl (λ y e i. absurd (pends y e))
-        (λ q e i. let aw = views n q e in views_end d q m (entry_open ks q aw.entry aw.found aw.pending) (let a : index_at K ks n < index_at K ks q = aw.later in omega arith) i) h
+    followed_end (suc d) n m pends most h = led_ends (λ y. follow_at K (suc d) ks y) ks n m (standing_of K ks n) refl (λ y e i. absurd (pends y e))
+        (λ q e i. let aw = views n q e in followed_end d q m (entry_open ks q aw.entry aw.found aw.pending) (let a : index_at K ks n < index_at K ks q = aw.later in omega arith) i) h
 
     final_ends : (d : ℕ) (y : Value N) (m : N) → Final ks y → follow_at K d ks y ≡ Ref m → still_waits (standing_of K ks m) ≡ true
     unfolding follow_at standing_of standing_in still_waits led
@@ -78,7 +79,7 @@ module _ {N W : Type 0} (K : Naming N W) where
     either_ends final n m (Settled y) e h = final_ends (length ks) y m (final n y e) h
     either_ends final n m (WaitsOn q) e h = waits_at ks n m (WaitsOn q) e refl h
     either_ends final n m Unsettled e h = waits_at ks n m Unsettled e refl h
-    either_ends final n m (Viewed q) e h = views_end (length ks) n m (viewed_open n q e) (omega arith) (viewed_on n m q e h)
+    either_ends final n m (Viewed q) e h = followed_end (length ks) n m (viewed_open n q e) (omega arith) (viewed_on n m q e h)
 
     pub following_ends : SettledFinal ks → (x : Value N) (m : N) → follow_at K (suc (length ks)) ks x ≡ Ref m → still_waits (standing_of K ks m) ≡ true
     unfolding follow_at
@@ -91,3 +92,26 @@ module _ {N W : Type 0} (K : Naming N W) where
     following_ends final (Prim p) m h = cc
     following_ends final (Broken p) m h = cc
     following_ends final (Items k) m h = cc
+
+-- ---- views end
+
+module _ (K : Naming Name Name) (ks : List (Known Name)) (views : ViewsWait K ks) where
+  known_among : (n q : Name) → Awaits K ks n q → IsAmong K ks q
+  known_among n q aw = (aw.entry, aw.found)
+
+  view_is : (P : Name → Type 0) (n : Name) (t : Standing Name) → standing_of K ks n ≡ t → ((q : Name) → standing_of K ks n ≡ Viewed q → P q) → ViewIs K P ks t
+  view_is P n (Viewed q) e f = (f q e, known_among n q (views n q e))
+  view_is P n (Settled y) e f = tt
+  view_is P n (WaitsOn q) e f = tt
+  view_is P n Unsettled e f = tt
+
+  -- where the place of a name and so many views reach the end of the names
+  end_in : (d : ℕ) (n : Name) → length ks ≤ d + index_at K ks n → ViewsEndIn K d ks n
+  end_in zero n most = view_is (λ q. ⊥) n (standing_of K ks n) refl none
+    where
+      none : (q : Name) → standing_of K ks n ≡ Viewed q → ⊥
+      none q e = let aw = views n q e in let a : index_at K ks n < index_at K ks q = aw.later in let b : index_at K ks q < length ks = index_less K ks q aw.entry aw.found in omega arith
+  end_in (suc d) n most = view_is (ViewsEndIn K d ks) n (standing_of K ks n) refl (λ q e. end_in d q (let a : index_at K ks n < index_at K ks q = (views n q e).later in omega arith))
+
+  pub views_end : (n : Name) → ViewsEndIn K (length ks) ks n
+  views_end n = end_in (length ks) n (omega arith)

@@ -181,6 +181,12 @@ gives_after R P s (Throws p t) f h = tt
 gives_after R P s (Ejects n v t) f h = tt
 gives_after R P s (Stops c t) f h = tt
 
+pub gives_map : {N A : Type 0} (P Q : Vat N → Type 0) (d : Done N A) → ((t : Vat N) → P t → Q t) → AfterGives P d → AfterGives Q d
+gives_map P Q (Gives a t) f h = f t h
+gives_map P Q (Throws p t) f h = tt
+gives_map P Q (Ejects n v t) f h = tt
+gives_map P Q (Stops c t) f h = tt
+
 pub gives_by : {N A : Type 0} (R : Vat N → Vat N → Type 0) (P : Vat N → Type 0) (s : Vat N) (d : Done N A) → ((t : Vat N) → R s t → P t) → GivesBy R s d → AfterGives P d
 gives_by R P s (Gives a t) f h = f t h
 gives_by R P s (Throws p t) f h = tt

@@ -5,7 +5,11 @@ pub mod RefsGentle
 pub mod ArriveGentle
 pub mod ViewsGo
 pub mod ViewsMade
+pub mod TurnsGentle
 pub mod ViewsSteps
+pub mod NoticedSteps
+pub mod LinksCut
+pub mod NoticedRuns
 pub mod RunLift
 pub mod ViewsRuns
 pub mod Ends

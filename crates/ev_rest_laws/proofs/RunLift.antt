@@ -37,14 +37,29 @@ unfolding world.link_at
 link_ok P v w [] h = tt
 link_ok P v w (l ∷ ls) h = either_link P (world.is_link v w l) l (world.link_at v w ls) h.0 (link_ok P v w ls h.1)
 
-module _ (script : Script) (P : ℕ → Vat Name → Type 0) where
-  -- P holds of the state after each step of a vat, in any world in which names stand as they do in runs
+-- an entry that is no notice, or a notice that is allowed
+abbrev pub IsAllowed : (ℕ → ℕ → Type 0) → Entry → Type 0
+IsAllowed Allowed (NoticeLink v to) = Allowed v to
+IsAllowed Allowed (Turn v) = Unit {0}
+IsAllowed Allowed (Carry v to) = Unit {0}
+IsAllowed Allowed (CutLink v to) = Unit {0}
+
+-- where each notice is allowed, each entry is
+pub all_allowed : (Allowed : ℕ → ℕ → Type 0) → ((v to : ℕ) → Allowed v to) → (es : List Entry) → AllOf (IsAllowed Allowed) es
+all_allowed Allowed f [] = tt
+all_allowed Allowed f (NoticeLink v to ∷ es) = (f v to, all_allowed Allowed f es)
+all_allowed Allowed f (Turn v ∷ es) = (tt, all_allowed Allowed f es)
+all_allowed Allowed f (Carry v to ∷ es) = (tt, all_allowed Allowed f es)
+all_allowed Allowed f (CutLink v to ∷ es) = (tt, all_allowed Allowed f es)
+
+module _ (script : Script) (P : ℕ → Vat Name → Type 0) (Allowed : ℕ → ℕ → Type 0) where
+  -- P holds of the state after each step of a vat, but for notices that are not allowed, in any world in which names stand as they do in runs
   pub record StepsKeep : Type 0 where
     pub turn : (w : World) (v : ℕ) (s : Vat Name) (m : Message Name) (ms : List (Message Name)) → Stands script w → slice_get w.vats v ≡ Some s → s.queue ≡ m ∷ ms → P v s
         → AfterGives (P v) (taking (names script v) (world.tree_at script.vats v) script.depth m (readied w (record s { queue = ms })))
     pub note : (w : World) (from v : ℕ) (s : Vat Name) (n : Note Name) → Stands script w → slice_get w.vats v ≡ Some s → NoteOk (IsMade w.vats (length w.drawn)) n → P v s
         → AfterGives (P v) (arrive (names script v) from (read_note (names_of s) n) (readied w s))
-    pub notice : (w : World) (v to : ℕ) (s : Vat Name) → Stands script w → slice_get w.vats v ≡ Some s → P v s → AfterGives (P v) (notice (names script v) to (readied w s))
+    pub notice : (w : World) (v to : ℕ) (s : Vat Name) → Stands script w → slice_get w.vats v ≡ Some s → Allowed v to → P v s → AfterGives (P v) (notice (names script v) to (readied w s))
     pub opening : (w : World) (v : ℕ) (p : Program) (s : Vat Name) → Stands script w → slice_get w.vats v ≡ Some s → P v s
         → AfterGives (P v) (opening (names script v) p.tree script.depth (Root v) (world.given script.vats p.knows) (readied w s))
 
@@ -103,10 +118,10 @@ module _ (script : Script) (P : ℕ → Vat Name → Type 0) where
     unfolding world.cut
     cut_keeps k v to w x h e = moved _ x h e
 
-    notice_keeps : (k v to : ℕ) (w x : World) → Stands script w → InVats w → (o : Option (Vat Name)) → slice_get w.vats v ≡ o → world.within v w (NoticedAt k v to ∷ []) (world.step_number script k) (notice (names script v) to) o ≡ Going x → InVats x
+    notice_keeps : (k v to : ℕ) (w x : World) → Stands script w → Allowed v to → InVats w → (o : Option (Vat Name)) → slice_get w.vats v ≡ o → world.within v w (NoticedAt k v to ∷ []) (world.step_number script k) (notice (names script v) to) o ≡ Going x → InVats x
     unfolding world.within
-    notice_keeps k v to w x g h None q e = cc
-    notice_keeps k v to w x g h (Some s) q e = put_back_keeps w x v (NoticedAt k v to ∷ []) (world.step_number script k) _ h (law.notice w v to s g q (h v s q)) e
+    notice_keeps k v to w x g ok h None q e = cc
+    notice_keeps k v to w x g ok h (Some s) q e = put_back_keeps w x v (NoticedAt k v to ∷ []) (world.step_number script k) _ h (law.notice w v to s g q ok (h v s q)) e
 
     open_keeps : (v : ℕ) (p : Program) (w x : World) → Stands script w → InVats w → (o : Option (Vat Name)) → slice_get w.vats v ≡ o
         → world.within v w (Opens v ∷ []) v (opening (names script v) p.tree script.depth (Root v) (world.given script.vats p.knows)) o ≡ Going x → InVats x
@@ -114,12 +129,12 @@ module _ (script : Script) (P : ℕ → Vat Name → Type 0) where
     open_keeps v p w x g h None q e = cc
     open_keeps v p w x g h (Some s) q e = put_back_keeps w x v (Opens v ∷ []) v _ h (law.opening w v p s g q (h v s q)) e
 
-    step_keeps : (entry : Entry) (k : ℕ) (w x : World) → Stands script w → InVats w → world.step script entry k w ≡ Going x → InVats x
+    pub step_keeps : (entry : Entry) (k : ℕ) (w x : World) → Stands script w → IsAllowed Allowed entry → InVats w → world.step script entry k w ≡ Going x → InVats x
     unfolding world.step
-    step_keeps (Turn v) k w x g h e = turn_keeps k v w x g h (slice_get w.vats v) refl e
-    step_keeps (Carry v to) k w x g h e = carry_link_keeps k v to w x g h (world.link_at v to w.links) (link_ok (λ (l : Link). AllOf (NoteOk (IsMade w.vats (length w.drawn))) l.notes) v to w.links g.links) e
-    step_keeps (CutLink v to) k w x g h e = cut_keeps k v to w x h e
-    step_keeps (NoticeLink v to) k w x g h e = notice_keeps k v to w x g h (slice_get w.vats v) refl e
+    step_keeps (Turn v) k w x g ok h e = turn_keeps k v w x g h (slice_get w.vats v) refl e
+    step_keeps (Carry v to) k w x g ok h e = carry_link_keeps k v to w x g h (world.link_at v to w.links) (link_ok (λ (l : Link). AllOf (NoteOk (IsMade w.vats (length w.drawn))) l.notes) v to w.links g.links) e
+    step_keeps (CutLink v to) k w x g ok h e = cut_keeps k v to w x h e
+    step_keeps (NoticeLink v to) k w x g ok h e = notice_keeps k v to w x g ok h (slice_get w.vats v) refl e
 
     then_keeps : (x : World) (r : Run) (f : World → Run) → ((y : World) → r ≡ Going y → Stands script y × InVats y) → ((y : World) → Stands script y → InVats y → f y ≡ Going x → InVats x) → world.then_goes r f ≡ Going x → InVats x
     unfolding world.then_goes
@@ -134,13 +149,13 @@ module _ (script : Script) (P : ℕ → Vat Name → Type 0) where
     unfolding world.steps_from
     one_step entry k w y e = then_once (world.step script entry k w) (λ z. Going z) y e refl
 
-    step_stands : (entry : Entry) (k : ℕ) (w y : World) → Stands script w → world.step script entry k w ≡ Going y → Stands script y
+    pub step_stands : (entry : Entry) (k : ℕ) (w y : World) → Stands script w → world.step script entry k w ≡ Going y → Stands script y
     step_stands entry k w y g e = steps_stand script (entry ∷ []) k w y g (one_step entry k w y e)
 
-    pub steps_keep : (es : List Entry) (k : ℕ) (w x : World) → Stands script w → InVats w → world.steps_from script es k w ≡ Going x → InVats x
+    pub steps_keep : (es : List Entry) (k : ℕ) (w x : World) → Stands script w → AllOf (IsAllowed Allowed) es → InVats w → world.steps_from script es k w ≡ Going x → InVats x
     unfolding world.steps_from
-    steps_keep [] k w x g h e = moved w x h e
-    steps_keep (entry ∷ es) k w x g h e = then_keeps x (world.step script entry k w) (world.steps_from script es (suc k)) (λ y i. (step_stands entry k w y g i, step_keeps entry k w y g h i)) (λ y a b j. steps_keep es (suc k) y x a b j) e
+    steps_keep [] k w x g ok h e = moved w x h e
+    steps_keep (entry ∷ es) k w x g ok h e = then_keeps x (world.step script entry k w) (world.steps_from script es (suc k)) (λ y i. (step_stands entry k w y g i, step_keeps entry k w y g ok.0 h i)) (λ y a b j. steps_keep es (suc k) y x a ok.1 b j) e
 
     one_open : (v : ℕ) (p : Program) (w y : World) → world.open_vat script v p w ≡ Going y → world.open_from script v (p ∷ []) w ≡ Going y
     unfolding world.open_from

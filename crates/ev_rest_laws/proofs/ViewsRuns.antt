@@ -15,7 +15,7 @@ use Rattle.ev_rest_laws.specs.Views.{ViewsWait}
 use Rattle.ev_rest_laws.specs.Rest.{ViewsWaitInRuns}
 use Rattle.ev_rest_laws.proofs.ViewsMade.{GiftsAreNew, same_is}
 use Rattle.ev_rest_laws.proofs.ViewsSteps.{TellsNoNewGift, views_taking, views_opening, views_notice, views_arrive}
-use Rattle.ev_rest_laws.proofs.RunLift.{StepsKeep, InVats, steps_keep, opens_keep}
+use Rattle.ev_rest_laws.proofs.RunLift.{StepsKeep, InVats, steps_keep, opens_keep, all_allowed}
 
 -- ---- the gifts of the next draw are new
 
@@ -71,12 +71,16 @@ module _ (script : Script) where
   abbrev Waiting : ℕ → Vat Name → Type 0
   Waiting v s = ViewsWait (names script v) s.known
 
-  views_keep : StepsKeep script Waiting
+  -- each notice is allowed
+  abbrev Any : ℕ → ℕ → Type 0
+  Any v to = Unit {0}
+
+  views_keep : StepsKeep script Waiting Any
   unfolding names world.names_of readied
   views_keep = record {
     turn = λ w v s m ms g i q h. views_taking (draw_word script.key) v (world.tree_at script.vats v) script.depth m (readied w (record s { queue = ms })) h;
     note = λ w from v s n g i ok h. views_arrive (draw_word script.key) v from (names_in s.known) n (readied w s) h (new_gifts w v s g i) (tells_none w s n ok);
-    notice = λ w v to s g i h. views_notice (draw_word script.key) v to (readied w s) h;
+    notice = λ w v to s g i ok h. views_notice (draw_word script.key) v to (readied w s) h;
     opening = λ w v p s g i h. views_opening (draw_word script.key) v p.tree script.depth (Root v) (world.given script.vats p.knows) (readied w s) h;
   }
 
@@ -113,7 +117,7 @@ module _ (script : Script) where
   fresh_views u (p ∷ ps) v zero s e = let one : Waiting v (world.fresh script u p) = λ m g i. absurd (fresh_view v u p m g i) in rw (some_same (world.fresh script u p) s e) at one
   fresh_views u (p ∷ ps) v (suc n) s e = fresh_views (suc u) ps v n s e
 
-  begins_views : InVats script Waiting (world.begins script)
+  begins_views : InVats script Waiting Any (world.begins script)
   unfolding world.begins
   begins_views v s e = fresh_views zero script.vats v v s e
 
@@ -124,11 +128,11 @@ module _ (script : Script) where
     unfolding world.open_from
     begins_stand = opened_stands script once [] script.vats (world.begins script) refl refl
 
-    opened_views : (ps rest : List Program) (w : World) → script.vats ≡ ps ++ rest → world.open_from script zero ps (world.begins script) ≡ Goes w → InVats script Waiting w
-    opened_views ps rest w e i = opens_keep script Waiting views_keep [] ps rest (world.begins script) w e begins_stand begins_views i
+    opened_views : (ps rest : List Program) (w : World) → script.vats ≡ ps ++ rest → world.open_from script zero ps (world.begins script) ≡ Goes w → InVats script Waiting Any w
+    opened_views ps rest w e i = opens_keep script Waiting Any views_keep [] ps rest (world.begins script) w e begins_stand begins_views i
 
-    stepped_views : (w x : World) (es : List Entry) (k : ℕ) → world.open_from script zero script.vats (world.begins script) ≡ Goes w → world.steps_from script es k w ≡ Goes x → InVats script Waiting x
-    stepped_views w x es k e i = steps_keep script Waiting views_keep es k w x (opened_stands script once script.vats [] w (sym (append-nil script.vats)) e) (opened_views script.vats [] w (sym (append-nil script.vats)) e) i
+    stepped_views : (w x : World) (es : List Entry) (k : ℕ) → world.open_from script zero script.vats (world.begins script) ≡ Goes w → world.steps_from script es k w ≡ Goes x → InVats script Waiting Any x
+    stepped_views w x es k e i = steps_keep script Waiting Any views_keep es k w x (opened_stands script once script.vats [] w (sym (append-nil script.vats)) e) (all_allowed Any (λ v to. tt) es) (opened_views script.vats [] w (sym (append-nil script.vats)) e) i
 
 pub views_wait_in_runs : ViewsWaitInRuns
 views_wait_in_runs script once = (

@@ -2,20 +2,18 @@
 use Rattle.std.proofs.Common.{◌≡◌, ℕ, Bool, true, false, List, [], ◌∷◌, ◌++◌, Option, Some, None, refl, ◌∙◌, length, if◌then◌else◌}
 use Rattle.std.specs.Prelude.{codes}
 use Rattle.ev_machine.specs.Values.{Broken, Name, Gift, Naming, naming, name_of, host_of, same_name}
-use Rattle.ev_machine.specs.State.{Binding, Message, Took, Unsettled, Known, Note, Deliver, Open, Ask, SettledTo, Elsewhere, Shorten, Vat, Act, ◌>>=◌, and_then, give, look, mark, come, new_activation, begun, is_in}
+use Rattle.ev_machine.specs.State.{Binding, Message, Unsettled, Known, Note, Deliver, Open, Ask, SettledTo, Elsewhere, Shorten, Vat, Act, ◌>>=◌, and_then, give, look, mark, come, begun, is_in}
 use Rattle.ev_machine.specs.Refs as refs
 use Rattle.ev_machine.specs.Refs.{entry_of, standing_of}
 use Rattle.ev_machine.specs.Arrive as arrive
 use Rattle.ev_machine.specs.Arrive.{Old, New}
 use Rattle.ev_machine.specs.Eval as eval
 use Rattle.ev_kernel.specs.declared.node.Node.{Node}
-use Rattle.ev_machine_laws.proofs.RefsQuiet.{quiet_settle, quiet_resolve, quiet_send, quiet_react}
-use Rattle.ev_fate_laws.proofs.Leads.{IsLed, IsLedUnder}
-use Rattle.ev_fate_laws.proofs.TurnLeads.{good_evaluator, leads_turn_value, leads_closes, leads_opening}
 use Rattle.ev_run.specs.World as world
 use Rattle.ev_rest_laws.specs.Views.{ViewsWait}
-use Rattle.ev_rest_laws.proofs.Gentle.{AfterGives, Gentle, IsGentle, Any, gentle, gentle_bind, gentle_then, gentle_tell, gentle_leads, leads_gentle, gives_by}
-use Rattle.ev_rest_laws.proofs.RefsGentle.{SettlesBy, gentle_settle, gentle_resolve, gentle_send, gentle_react}
+use Rattle.ev_rest_laws.proofs.Gentle.{AfterGives, Gentle, IsGentle, gentle, gives_by}
+use Rattle.ev_rest_laws.proofs.RefsGentle.{SettlesBy, gentle_settle}
+use Rattle.ev_rest_laws.proofs.TurnsGentle.{IsFree, gentle_taking, gentle_opening}
 use Rattle.ev_rest_laws.proofs.ArriveGentle.{gentle_arrive_deliver, gentle_arrive_open, gentle_arrive_ask, gentle_arrive_settled, gentle_arrive_shorten, gentle_notice_name, gentle_notice_gift}
 use Rattle.ev_rest_laws.proofs.ViewsGo.{ViewsGo, go_same, go_append, entry_last, views_gentle, settles_views}
 use Rattle.ev_rest_laws.proofs.ViewsMade.{GiftsAreNew, views_there, same_is}
@@ -37,49 +35,14 @@ module _ (word : ℕ → ℕ) (v : ℕ) where
   block : SettlesBy Names (ViewsGo Names)
   block = settles_views Names
 
-  -- ---- turns
+  free : IsFree (ViewsGo Names)
+  free = record { activations = λ s. go_same Names s.known; thing = λ s x. go_same Names s.known; killed = λ s n. go_same Names s.known; slot = λ s c. go_same Names s.known; written = λ s n x. go_same Names s.known }
 
-  led : IsLed Any (ViewsGo Names)
-  led = record {
-    same = λ s. go_same Names s.known;
-    trans = λ h k n g e. let back = k n g e in let on = h n g back.0 in (on.0, λ aw. back.1 (on.1 aw));
-    stops = λ s. tt;
-    stopped = λ h k. tt;
-    fuel = λ s n. go_same Names s.known;
-    told = λ s e h. go_same Names s.known;
-    activations = λ s. go_same Names s.known;
-    thing = λ s t. go_same Names s.known;
-    killed = λ s n. go_same Names s.known;
-    slot = λ s c. go_same Names s.known;
-    written = λ s n x. go_same Names s.known;
-    list = λ s xs. go_same Names s.known;
-  }
-
-  led_under : IsLedUnder Names Any (ViewsGo Names)
-  led_under = record {
-    promised = λ s. law.promised s;
-    breaks = λ p t. leads_gentle (ViewsGo Names) (refs.settle Names p (Broken t)) (quiet_settle Names p (Broken t)) (gentle_settle Names (ViewsGo Names) law block p (Broken t));
-    resolves = λ p y. leads_gentle (ViewsGo Names) (refs.resolve Names p y) (quiet_resolve Names p y) (gentle_resolve Names (ViewsGo Names) law block p y);
-    sends = λ act x verb args. leads_gentle (ViewsGo Names) (refs.send Names act x verb args) (quiet_send Names act x verb args) (gentle_send Names (ViewsGo Names) law block act x verb args);
-    reacts = λ act x o near. leads_gentle (ViewsGo Names) (refs.react Names act x o near) (quiet_react Names act x o near) (gentle_react Names (ViewsGo Names) law block act x o near);
-  }
-
-  activation : Gentle (ViewsGo Names) new_activation
-  unfolding new_activation
-  activation = record { after = λ s. go_same Names s.known }
+  -- ---- notices
 
   marked : (w : ℕ) → Gentle (ViewsGo Names) (mark w)
   unfolding mark
   marked w = record { after = λ s. go_same Names s.known }
-
-  gentle_taking : (tree : List Node) (depth : ℕ) (m : Message Name) → Gentle (ViewsGo Names) (eval.taking Names tree depth m)
-  unfolding eval.taking
-  gentle_taking tree depth m = gentle_bind Names (ViewsGo Names) law activation (λ a. gentle_then Names (ViewsGo Names) law (gentle_tell Names (ViewsGo Names) law (Took a m))
-      (gentle_leads (ViewsGo Names) _ (leads_closes Names Any (ViewsGo Names) led led_under tree a m.answer _
-      (leads_turn_value Names Any (ViewsGo Names) led led_under tree (eval.evaluator Names tree depth) (good_evaluator Names Any (ViewsGo Names) led led_under tree depth) a m.target m.verb m.args))))
-
-  gentle_opening : (tree : List Node) (depth : ℕ) (root : Name) (given : List (Binding Name)) → Gentle (ViewsGo Names) (eval.opening Names tree depth root given)
-  gentle_opening tree depth root given = gentle_leads (ViewsGo Names) _ (leads_opening Names Any (ViewsGo Names) led led_under tree depth root given)
 
   gentle_notice_all : (w : ℕ) → Gentle (ViewsGo Names) (arrive.notice_all Names w)
   unfolding arrive.notice_all
@@ -98,10 +61,10 @@ module _ (word : ℕ → ℕ) (v : ℕ) where
   after_gentle m s h views = gives_by (ViewsGo Names) Good s (m s) (λ t go. views_on s t views go) (h.after s)
 
   pub views_taking : (tree : List Node) (depth : ℕ) (m : Message Name) (s : Vat Name) → Good s → AfterGives Good (eval.taking Names tree depth m s)
-  views_taking tree depth m s views = after_gentle (eval.taking Names tree depth m) s (gentle_taking tree depth m) views
+  views_taking tree depth m s views = after_gentle (eval.taking Names tree depth m) s (gentle_taking Names (ViewsGo Names) law block free tree depth m) views
 
   pub views_opening : (tree : List Node) (depth : ℕ) (root : Name) (given : List (Binding Name)) (s : Vat Name) → Good s → AfterGives Good (eval.opening Names tree depth root given s)
-  views_opening tree depth root given s views = after_gentle (eval.opening Names tree depth root given) s (gentle_opening tree depth root given) views
+  views_opening tree depth root given s views = after_gentle (eval.opening Names tree depth root given) s (gentle_opening Names (ViewsGo Names) law block free tree depth root given) views
 
   pub views_notice : (w : ℕ) (s : Vat Name) → Good s → AfterGives Good (arrive.notice Names w s)
   views_notice w s views = after_gentle (arrive.notice Names w) s (gentle_notice w) views

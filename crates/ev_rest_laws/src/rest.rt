@@ -3,6 +3,8 @@
 //! knows a vat, or that it knows itself, which the reading of scripts refuses.
 
 ghost use Rattle.ev_rest_laws.specs.Rest.{ViewsWaitInRuns};
+ghost use Rattle.ev_rest_laws.specs.Cuts.{NoticedLinksAreCut};
+ghost use Rattle.ev_rest_laws.specs.Rest.{ViewsEndInRuns};
 ghost use Rattle.ev_rest_laws.specs.Rest.{ReferencesRestInRuns};
 ghost use Rattle.ev_rest_laws.specs.Rest.{FollowedBreaksStayBroken};
 
@@ -10,6 +12,12 @@ ghost use Rattle.ev_rest_laws.specs.Rest.{FollowedBreaksStayBroken};
 /// name, it did not settle, and the name is among those that settle with it.
 pub fn views_wait()
     ensures { ViewsWaitInRuns }
+{}
+
+/// Views end: from each name one comes, by no more views than there are names known, to a name that
+/// is not viewed.
+pub fn views_end()
+    ensures { ViewsEndInRuns }
 {}
 
 /// A vat is at rest but for the hosts of what waits: each view is of a name that did not settle, no
@@ -22,4 +30,10 @@ pub fn references_rest()
 /// the vat follows to a broken reference is followed there to it.
 pub fn followed_breaks_stay_broken()
     ensures { FollowedBreaksStayBroken }
+{}
+
+/// Where each notice of a schedule stands behind a cut of the same two vats, which are not one:
+/// whoever noticed a vat as cut off is another vat, and the links between the two are cut.
+pub fn noticed_links_are_cut()
+    ensures { NoticedLinksAreCut }
 {}
