@@ -2,7 +2,8 @@
 use Rattle.std.proofs.Common.{◌≡◌, ◌≢◌, ◌⊎◌, inl, inr, ◌<◌, ◌≤◌, ℕ, nat_lt, length, List, [], ◌∷◌, Bool, true, false, Option, Some, None, IfSome, Result, Ok, Err, refl, sym, ap, subst, arith, ◌∙◌}
 use Rattle.std.proofs.lemmas.Bool.Decides.{nat_tests}
 use Rattle.ev_eval.specs.Built.{is_built}
-use Rattle.ev_machine.specs.State.{Fuel, Deep, Repeated, Astray}
+use Rattle.ev_kernel.specs.declared.node.Node.{Node}
+use Rattle.ev_machine.specs.State.{Stop, Fuel, Deep, Repeated, Astray}
 use Rattle.ev_run.specs.World as machine
 use Rattle.ev_run.specs.World.{World, Goes, Stopped}
 use Rattle.ev_run.specs.Text.{text as machine_text}
@@ -16,11 +17,11 @@ use Rattle.ev_reader.specs.declared.fault.Stage.{Stage as Part}
 use Rattle.ev_reader.specs.declared.fault.Stage.TheVariants as parts
 use Rattle.ev_top.specs.Debt.{Debt, most_bytes}
 use Rattle.ev_top.specs.Script.{script_from}
-use Rattle.ev_top.specs.Programs.{safe_names, refusal, stage_of, IsDueOfFault}
+use Rattle.ev_top.specs.Programs.{ReadAs, safe_names, refusal, stage_of, IsDueOfFault}
 use Rattle.ev_top.specs.Expansion.{text_from, nameless, IsDueOfText, IsDueOfForm}
 use Rattle.ev_top.specs.Machine.{program, machine_script}
 use Rattle.ev_top.specs.Due.{IsDue, IsDueOfInput, IsDueOfBytes, IsDueOfScript, IsDueOfSource, IsDueOfTree, IsDueOfVats, Pays, PaysWith, due_of_run, unbuilt}
-use Rattle.ev_top.specs.Causes.{IsInterrupted, Follows, ComesWhere, IsLong, Breaks, IsVatOf, HasVat, HasProgram, HasFault, IsEarly, HasNoTree, IsProgramRefused, IsUnbuilt, Stops, run_of, IsAstray}
+use Rattle.ev_top.specs.Causes.{IsInterrupted, Follows, ComesWhere, IsLong, Breaks, IsVatOf, HasVat, HasProgram, HasFault, HasNoTree, IsProgramRefused, IsUnbuilt, Stops, run_of, IsAstray}
 use Rattle.ev_top.specs.declared.command.Command.{Command}
 use Rattle.ev_top.specs.declared.command.Command.TheVariants.{Run, Expand}
 use Rattle.ev_top.specs.declared.status.Status.{Status}
@@ -28,7 +29,7 @@ use Rattle.ev_top.specs.declared.status.Status.TheVariants.{Done, Usage, ReadFau
 use Rattle.ev_top.specs.declared.status.Stage.{Stage}
 use Rattle.ev_top.specs.declared.status.Stage.TheVariants.{Unbuilt}
 use Rattle.ev_top.proofs.DueLemmas.{is_few, is_long}
-use Rattle.ev_top.proofs.EarlyFaults.{early_once}
+use Rattle.ev_top.proofs.OneReading.{IsTree, fault_once, tree_once}
 
 -- ---- why a status is due
 
@@ -288,23 +289,23 @@ source_fault part kind place key fuel name (Ok scoped) status text due (inl none
 source_fault part kind place key fuel name (Ok scoped) status text due (inr same) = cc
 source_fault part kind place key fuel name (Err fault) status text due same = of_fault part kind place name fault status text due same
 
-vats_fault : (part : Part) (kind place : ℕ) → IsEarly part → (key : List ℕ) (fuel : ℕ) (vats : List VatScript) (vat : VatScript) (program : List ℕ) (status : Status) (text : List ℕ)
+vats_fault : (part : Part) (kind place : ℕ) (key : List ℕ) (fuel : ℕ) (vats : List VatScript) (vat : VatScript) (program : List ℕ) (status : Status) (text : List ℕ)
     → IsVatOf vats vat → vat.source ≡ program → Answers (Err (faults.At part kind place)) program safe_names → IsDueOfVats key fuel vats status text → IsRefused part kind place status
-vats_fault part kind place early key fuel [] vat program status text is source fault due = absurd is
-vats_fault part kind place early key fuel (first ∷ more) vat program status text is source fault (answer, answers, due) =
+vats_fault part kind place key fuel [] vat program status text is source fault due = absurd is
+vats_fault part kind place key fuel (first ∷ more) vat program status text is source fault (answer, answers, due) =
     let same : first.source ≡ program = ap (λ (v : VatScript). v.source) is ∙ source in
     source_fault part kind place key fuel first.name answer status text due
-    (early_once part kind place program safe_names answer early fault (subst (λ (p : List ℕ). Answers answer p safe_names) same answers))
+    (fault_once part kind place program safe_names answer fault (subst (λ (p : List ℕ). Answers answer p safe_names) same answers))
 
-fault_there : (part : Part) (kind place : ℕ) → IsEarly part → (command : Option Command) (input : List ℕ) (status : Status) (text : List ℕ)
+fault_there : (part : Part) (kind place : ℕ) (command : Option Command) (input : List ℕ) (status : Status) (text : List ℕ)
     → IsDue command input status text → HasFault part kind place command input → IsRefused part kind place status
-fault_there part kind place early None input status text due (program, has, fault) = absurd has
-fault_there part kind place early (Some Run) input status text due (program, (script, vat, (few, found, is), source), fault) =
+fault_there part kind place None input status text due (program, has, fault) = absurd has
+fault_there part kind place (Some Run) input status text due (program, (script, vat, (few, found, is), source), fault) =
     let d = rw (is_few most_bytes (length input) few, found) at due in
-    vats_fault part kind place early script.key script.fuel script.vats vat program status text is source fault d
-fault_there part kind place early (Some Expand) input status text due (program, (few, found), fault) =
+    vats_fault part kind place script.key script.fuel script.vats vat program status text is source fault d
+fault_there part kind place (Some Expand) input status text due (program, (few, found), fault) =
     let d = rw (is_few most_bytes (length input) few, found) at due in
-    form_fault part kind place d.0 status text d.2 (early_once part kind place program safe_names d.0 early fault d.1)
+    form_fault part kind place d.0 status text d.2 (fault_once part kind place program safe_names d.0 fault d.1)
 
 -- ---- no tree
 
@@ -393,6 +394,74 @@ deep_only step command input status (Ran script vat scoped run has answers built
     let stop = deep_stop step vat.name _ (run_of script vat scoped) (sym e ∙ is) in (run, script, vat, has, scoped, answers, built, stop.0, stop.1)
 deep_only step command input status (Finished e) is = cc
 
+-- ---- what is due for a tree, where the vat's program is read to it
+
+-- what is due for the tree that a script's vat has
+abbrev IsDueOfRead : Script → VatScript → Scoped → Status → List ℕ → Type 0
+IsDueOfRead script vat scoped status text = IsDueOfTree (is_built scoped.tree) script.key script.fuel vat.name scoped.tree status text
+
+source_tree : (script : Script) (vat : VatScript) (scoped : Scoped) (answer : Result Scoped ProgramFault) (status : Status) (text : List ℕ) → IsTree scoped answer
+    → IsDueOfSource script.key script.fuel vat.name answer status text → IsDueOfRead script vat scoped status text
+source_tree script vat scoped (Ok other) status text same due =
+    subst (λ (tree : List Node). IsDueOfTree (is_built tree) script.key script.fuel vat.name tree status text) same due
+source_tree script vat scoped (Err faults.Memory) status text same due = absurd due
+source_tree script vat scoped (Err (faults.At part kind place)) status text same due = absurd same
+
+vats_tree : (script : Script) (vats : List VatScript) (vat : VatScript) (scoped : Scoped) (status : Status) (text : List ℕ) → IsVatOf vats vat
+    → Answers (Ok scoped) vat.source safe_names → IsDueOfVats script.key script.fuel vats status text → IsDueOfRead script vat scoped status text
+vats_tree script [] vat scoped status text is tree due = absurd is
+vats_tree script (first ∷ more) vat scoped status text is tree due =
+    let d = subst (λ (v : VatScript). ReadAs v.source (λ answer. IsDueOfSource script.key script.fuel v.name answer status text)) is due in
+    source_tree script vat scoped d.0 status text (tree_once scoped vat.source safe_names d.0 tree d.1) d.2
+
+read_due : (command : Option Command) (input : List ℕ) (script : Script) (vat : VatScript) (scoped : Scoped) (status : Status) (text : List ℕ)
+    → command ≡ Some Run → HasVat input script vat → Answers (Ok scoped) vat.source safe_names → IsDue command input status text
+    → IsDueOfRead script vat scoped status text
+read_due command input script vat scoped status text run (few, found, is) tree due =
+    let d : IsDue (Some Run) input status text = subst (λ (c : Option Command). IsDue c input status text) run due in
+    vats_tree script script.vats vat scoped status text is tree (rw (is_few most_bytes (length input) few, found) at d)
+
+astray_due : (name text : List ℕ) (r : machine.Run) → IsAstray r → (due_of_run name text r).status ≡ ProgramRefused unbuilt
+astray_due name text (Goes w) h = absurd h
+astray_due name text (Stopped Fuel k w) h = absurd h
+astray_due name text (Stopped Deep k w) h = absurd h
+astray_due name text (Stopped (Repeated i j) k w) h = refl
+astray_due name text (Stopped Astray k w) h = refl
+
+tree_astray : (built : Bool) (script : Script) (vat : VatScript) (scoped : Scoped) (status : Status) (text : List ℕ)
+    → IsDueOfTree built script.key script.fuel vat.name scoped.tree status text → (built ≡ false) ⊎ IsAstray (run_of script vat scoped)
+    → status ≡ ProgramRefused unbuilt
+tree_astray false script vat scoped status text due why = due.0
+tree_astray true script vat scoped status text due (inl not) = cc
+tree_astray true script vat scoped status text due (inr astray) = due.0 ∙ astray_due vat.name _ (run_of script vat scoped) astray
+
+unbuilt_there : (command : Option Command) (input : List ℕ) (status : Status) (text : List ℕ) → IsDue command input status text → IsUnbuilt command input
+    → status ≡ ProgramRefused unbuilt
+unbuilt_there command input status text due (run, script, vat, has, scoped, tree, why) =
+    tree_astray (is_built scoped.tree) script vat scoped status text (read_due command input script vat scoped status text run has tree due) why
+
+-- the status of a run that stops for fuel or for depth
+abbrev stopped_as : Stop → ℕ → Status
+stopped_as Fuel step = FuelSpent step
+stopped_as Deep step = TooDeep step
+stopped_as (Repeated i j) step = ProgramRefused unbuilt
+stopped_as Astray step = ProgramRefused unbuilt
+
+stop_due : (name text : List ℕ) (stop : Stop) (step : ℕ) (w : World) → (due_of_run name text (Stopped stop step w)).status ≡ stopped_as stop step
+stop_due name text Fuel step w = refl
+stop_due name text Deep step w = refl
+stop_due name text (Repeated i j) step w = refl
+stop_due name text Astray step w = refl
+
+stop_there : (stop : Stop) (step : ℕ) (command : Option Command) (input : List ℕ) (status : Status) (text : List ℕ) → IsDue command input status text
+    → Stops stop step command input → status ≡ stopped_as stop step
+stop_there stop step command input status text due (run, script, vat, has, scoped, tree, built, world, stops) =
+    let d = read_due command input script vat scoped status text run has tree due in
+    let e : IsDueOfTree true script.key script.fuel vat.name scoped.tree status text =
+    subst (λ (b : Bool). IsDueOfTree b script.key script.fuel vat.name scoped.tree status text) built d in
+    e.0 ∙ ap (λ (r : machine.Run). (due_of_run vat.name (machine_text (machine_script script.key script.fuel (program vat.name scoped.tree ∷ [])) r) r).status) stops
+    ∙ stop_due vat.name _ stop step world
+
 -- ---- of a call
 
 -- of all that a source has left
@@ -418,19 +487,14 @@ rule_comes (Some input) held held' result command (written, appends, pays) = λ 
 )
 
 pub fault_comes : (left held held' : Option (List ℕ)) (result : Status) (command : Option Command) → OfLeft left held held' result command
-    → IfSome left (λ input. (part : Part) (kind place : ℕ) → result ≡ ProgramRefused (refusal part kind place) → HasFault part kind place command input)
+    → IfSome left (λ input. (part : Part) (kind place : ℕ) → ComesWhere (λ s. s ≡ ProgramRefused (refusal part kind place)) result (HasFault part kind place command input))
 fault_comes None held held' result command pays = tt
-fault_comes (Some input) held held' result command (written, appends, pays) = λ part kind place.
-    only (IsRefused part kind place) (HasFault part kind place command input) result command input written (λ stopped is. subst IsInterrupted is stopped)
-    (fault_only part kind place command input result) pays
-
-pub early_comes : (left held held' : Option (List ℕ)) (result : Status) (command : Option Command) → OfLeft left held held' result command
-    → IfSome left (λ input. (part : Part) (kind place : ℕ) → IsEarly part
-    → Follows (λ s. s ≡ ProgramRefused (refusal part kind place)) result (HasFault part kind place command input))
-early_comes None held held' result command pays = tt
-early_comes (Some input) held held' result command (written, appends, pays) = λ part kind place early.
-    there (IsRefused part kind place) (HasFault part kind place command input) result command input written
-    (fault_there part kind place early command input result written) pays
+fault_comes (Some input) held held' result command (written, appends, pays) = λ part kind place. (
+  only (IsRefused part kind place) (HasFault part kind place command input) result command input written (λ stopped is. subst IsInterrupted is stopped)
+      (fault_only part kind place command input result) pays,
+  there (IsRefused part kind place) (HasFault part kind place command input) result command input written
+      (fault_there part kind place command input result written) pays,
+)
 
 pub no_tree_comes : (left held held' : Option (List ℕ)) (result : Status) (command : Option Command) → OfLeft left held held' result command
     → IfSome left (λ input. Follows IsProgramRefused result (HasNoTree command input))
@@ -439,25 +503,33 @@ no_tree_comes (Some input) held held' result command (written, appends, pays) =
     there IsProgramRefused (HasNoTree command input) result command input written (tree_there command input result written) pays
 
 pub unbuilt_comes : (left held held' : Option (List ℕ)) (result : Status) (command : Option Command) → OfLeft left held held' result command
-    → IfSome left (λ input. result ≡ ProgramRefused unbuilt → IsUnbuilt command input)
+    → IfSome left (λ input. ComesWhere (λ s. s ≡ ProgramRefused unbuilt) result (IsUnbuilt command input))
 unbuilt_comes None held held' result command pays = tt
-unbuilt_comes (Some input) held held' result command (written, appends, pays) =
-    only (λ s. s ≡ ProgramRefused unbuilt) (IsUnbuilt command input) result command input written (λ stopped is. subst IsInterrupted is stopped)
-    (unbuilt_only command input result) pays
+unbuilt_comes (Some input) held held' result command (written, appends, pays) = (
+  only (λ s. s ≡ ProgramRefused unbuilt) (IsUnbuilt command input) result command input written (λ stopped is. subst IsInterrupted is stopped)
+      (unbuilt_only command input result) pays,
+  there (λ s. s ≡ ProgramRefused unbuilt) (IsUnbuilt command input) result command input written (unbuilt_there command input result written) pays,
+)
 
 pub fuel_comes : (left held held' : Option (List ℕ)) (result : Status) (command : Option Command) → OfLeft left held held' result command
-    → IfSome left (λ input. (step : ℕ) → result ≡ FuelSpent step → Stops Fuel step command input)
+    → IfSome left (λ input. (step : ℕ) → ComesWhere (λ s. s ≡ FuelSpent step) result (Stops Fuel step command input))
 fuel_comes None held held' result command pays = tt
-fuel_comes (Some input) held held' result command (written, appends, pays) = λ step.
-    only (λ s. s ≡ FuelSpent step) (Stops Fuel step command input) result command input written (λ stopped is. subst IsInterrupted is stopped)
-    (fuel_only step command input result) pays
+fuel_comes (Some input) held held' result command (written, appends, pays) = λ step. (
+  only (λ s. s ≡ FuelSpent step) (Stops Fuel step command input) result command input written (λ stopped is. subst IsInterrupted is stopped)
+      (fuel_only step command input result) pays,
+  there (λ s. s ≡ FuelSpent step) (Stops Fuel step command input) result command input written
+      (λ due stops. stop_there Fuel step command input result written due stops) pays,
+)
 
 pub deep_comes : (left held held' : Option (List ℕ)) (result : Status) (command : Option Command) → OfLeft left held held' result command
-    → IfSome left (λ input. (step : ℕ) → result ≡ TooDeep step → Stops Deep step command input)
+    → IfSome left (λ input. (step : ℕ) → ComesWhere (λ s. s ≡ TooDeep step) result (Stops Deep step command input))
 deep_comes None held held' result command pays = tt
-deep_comes (Some input) held held' result command (written, appends, pays) = λ step.
-    only (λ s. s ≡ TooDeep step) (Stops Deep step command input) result command input written (λ stopped is. subst IsInterrupted is stopped)
-    (deep_only step command input result) pays
+deep_comes (Some input) held held' result command (written, appends, pays) = λ step. (
+  only (λ s. s ≡ TooDeep step) (Stops Deep step command input) result command input written (λ stopped is. subst IsInterrupted is stopped)
+      (deep_only step command input result) pays,
+  there (λ s. s ≡ TooDeep step) (Stops Deep step command input) result command input written
+      (λ due stops. stop_there Deep step command input result written due stops) pays,
+)
 
 -- without a fault
 abbrev IsWholeAnswer : Option Command → List ℕ → Status → Type 0

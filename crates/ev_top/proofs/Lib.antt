@@ -1,7 +1,7 @@
 pub mod Texts
 pub mod GivenNames
 pub mod DueLemmas
-pub mod EarlyFaults
+pub mod OneReading
 pub mod Empty
 pub mod Steps
 pub mod CauseLemmas

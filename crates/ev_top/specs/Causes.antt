@@ -6,7 +6,6 @@ use Rattle.ev_machine.specs.State.{Stop, Fuel, Deep, Repeated, Astray}
 use Rattle.ev_reader.specs.Program.{Answers}
 use Rattle.ev_reader.specs.declared.fault.ProgramFault.TheVariants.{At}
 use Rattle.ev_reader.specs.declared.fault.Stage.{Stage as Part}
-use Rattle.ev_reader.specs.declared.fault.Stage.TheVariants as parts
 use Rattle.ev_run.specs.World.{run, Run as Machine, World, Goes, Stopped}
 use Rattle.ev_scope.specs.declared.accepted.Scoped.{Scoped}
 use Rattle.ev_script.specs.declared.script.Script.{Script}
@@ -66,14 +65,6 @@ HasProgram (Some Expand) input program = (length input ≤ most_bytes) × (text_
 -- its reading ends with this fault
 abbrev pub HasFault : Part → ℕ → ℕ → Option Command → List ℕ → Type 0
 HasFault part kind place command input = (program : List ℕ) × HasProgram command input program × Answers (Err (At part kind place)) program safe_names
-
--- a stage before the expansion
-abbrev pub IsEarly : Part → Type 0
-IsEarly parts.Lex = Unit {0}
-IsEarly parts.Parse = Unit {0}
-IsEarly parts.Nested = Unit {0}
-IsEarly parts.Expand = ⊥
-IsEarly parts.Scope = ⊥
 
 -- no tree is read of it
 abbrev pub HasNoTree : Option Command → List ℕ → Type 0

@@ -7,7 +7,7 @@ ghost use Rattle.ev_top.specs.Commands.{command_of};
 ghost use Rattle.ev_top.specs.Debt.{most_bytes};
 ghost use Rattle.ev_machine.specs.State.{Fuel, Deep};
 ghost use Rattle.ev_reader.specs.declared.fault.Stage.{Stage as Part};
-ghost use Rattle.ev_top.specs.Causes.{Breaks, ComesWhere, Follows, HasFault, HasNoTree, IsEarly, IsLong, IsProgramRefused, IsUnbuilt, Stops};
+ghost use Rattle.ev_top.specs.Causes.{Breaks, ComesWhere, Follows, HasFault, HasNoTree, IsLong, IsProgramRefused, IsUnbuilt, Stops};
 ghost use Rattle.ev_top.specs.Due.{IsDue, IsOfWhole, Pays, IsOfRead, Finishes, Reads, ReadsFor, unbuilt};
 ghost use Rattle.ev_top.specs.Programs.{refusal};
 
@@ -129,15 +129,13 @@ pub fn top<S: Source, K: Sink>(alloc: Global, words: &Seq<Str>, src: &mut S, out
     ensures rule { IfSome (S.left src.old) (λ input. (rule : ℕ) → ComesWhere (λ s. s ≡ Status.ScriptRefused rule) result
         (Breaks rule (command_of words.now) input)) }
     ensures refused { IfSome (S.left src.old) (λ input. (part : Part) (kind place : ℕ)
-        → result ≡ Status.ProgramRefused (refusal part kind place) → HasFault part kind place (command_of words.now) input) }
-    ensures early { IfSome (S.left src.old) (λ input. (part : Part) (kind place : ℕ) → IsEarly part
-        → Follows (λ s. s ≡ Status.ProgramRefused (refusal part kind place)) result (HasFault part kind place (command_of words.now) input)) }
+        → ComesWhere (λ s. s ≡ Status.ProgramRefused (refusal part kind place)) result (HasFault part kind place (command_of words.now) input)) }
     ensures no_tree { IfSome (S.left src.old) (λ input. Follows IsProgramRefused result (HasNoTree (command_of words.now) input)) }
-    ensures unbuilt { IfSome (S.left src.old) (λ input. result ≡ Status.ProgramRefused unbuilt → IsUnbuilt (command_of words.now) input) }
-    ensures fuel { IfSome (S.left src.old) (λ input. (step : ℕ) → result ≡ Status.FuelSpent step
-        → Stops Fuel step (command_of words.now) input) }
-    ensures depth { IfSome (S.left src.old) (λ input. (step : ℕ) → result ≡ Status.TooDeep step
-        → Stops Deep step (command_of words.now) input) }
+    ensures unbuilt { IfSome (S.left src.old) (λ input. ComesWhere (λ s. s ≡ Status.ProgramRefused unbuilt) result (IsUnbuilt (command_of words.now) input)) }
+    ensures fuel { IfSome (S.left src.old) (λ input. (step : ℕ) → ComesWhere (λ s. s ≡ Status.FuelSpent step) result
+        (Stops Fuel step (command_of words.now) input)) }
+    ensures depth { IfSome (S.left src.old) (λ input. (step : ℕ) → ComesWhere (λ s. s ≡ Status.TooDeep step) result
+        (Stops Deep step (command_of words.now) input)) }
     ensures read_fault { result ≡ Status.ReadFault → Rose (S.faults src.old) (S.faults src.new) }
     ensures write_fault { result ≡ Status.WriteFault → Rose (K.faults out.old) (K.faults out.new) }
     // Without a fault in the call, the answer is what is due, or want of memory.
