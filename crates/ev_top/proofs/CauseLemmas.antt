@@ -19,7 +19,7 @@ use Rattle.ev_top.specs.Debt.{Debt, most_bytes}
 use Rattle.ev_top.specs.Script.{script_from}
 use Rattle.ev_top.specs.Programs.{ReadAs, safe_names, refusal, stage_of, IsDueOfFault}
 use Rattle.ev_top.specs.Expansion.{text_from, nameless, IsDueOfText, IsDueOfForm}
-use Rattle.ev_top.specs.Machine.{program, machine_script}
+use Rattle.ev_top.specs.Machine.{script_of}
 use Rattle.ev_top.specs.Due.{IsDue, IsDueOfInput, IsDueOfBytes, IsDueOfScript, IsDueOfSource, IsDueOfTree, IsDueOfVats, Pays, PaysWith, due_of_run, unbuilt}
 use Rattle.ev_top.specs.Causes.{IsInterrupted, Follows, ComesWhere, IsLong, Breaks, IsVatOf, HasVat, HasProgram, HasFault, HasNoTree, IsProgramRefused, IsUnbuilt, Stops, run_of, IsAstray}
 use Rattle.ev_top.specs.declared.command.Command.{Command}
@@ -39,7 +39,7 @@ IsRefused part kind place status = status ≡ ProgramRefused (refusal part kind 
 -- what is due for the run of this tree
 abbrev ran : Script → VatScript → Scoped → Debt
 ran script vat scoped =
-    due_of_run vat.name (machine_text (machine_script script.key script.fuel (program vat.name scoped.tree ∷ [])) (run_of script vat scoped)) (run_of script vat scoped)
+    due_of_run vat.name (machine_text (script_of script.key script.fuel vat.name scoped.tree) (run_of script vat scoped)) (run_of script vat scoped)
 
 data Why (command : Option Command) (input : List ℕ) (status : Status) : Type 0 where
   Misused : status ≡ Usage → Why command input status
@@ -459,7 +459,7 @@ stop_there stop step command input status text due (run, script, vat, has, scope
     let d = read_due command input script vat scoped status text run has tree due in
     let e : IsDueOfTree true script.key script.fuel vat.name scoped.tree status text =
     subst (λ (b : Bool). IsDueOfTree b script.key script.fuel vat.name scoped.tree status text) built d in
-    e.0 ∙ ap (λ (r : machine.Run). (due_of_run vat.name (machine_text (machine_script script.key script.fuel (program vat.name scoped.tree ∷ [])) r) r).status) stops
+    e.0 ∙ ap (λ (r : machine.Run). (due_of_run vat.name (machine_text (script_of script.key script.fuel vat.name scoped.tree) r) r).status) stops
     ∙ stop_due vat.name _ stop step world
 
 -- ---- of a call

@@ -22,7 +22,7 @@ use Rattle.ev_top.specs.Script.{script_from}
 use Rattle.ev_top.specs.Programs.{IsDueOfFault}
 use Rattle.ev_top.specs.Expansion.{text_from, nameless, IsDueOfText, IsDueOfForm}
 use Rattle.ev_top.specs.Due.{IsDue, IsDueOfBytes, IsDueOfScript, IsDueOfSource, IsDueOfTree, IsDueOfVats, IsOfWhole, IsOfRead, Finishes, Pays, PaysWith, due_of_run}
-use Rattle.ev_top.specs.Machine.{program, machine_script}
+use Rattle.ev_top.specs.Machine.{script_of}
 use Rattle.ev_top.specs.declared.command.Command.{Command}
 use Rattle.ev_top.specs.declared.command.Command.TheVariants.{Run, Expand}
 use Rattle.ev_top.specs.declared.status.Status.{Status}
@@ -52,7 +52,7 @@ of_end name text (Stopped Astray step w) = tt
 of_tree : (built : Bool) (key : List ℕ) (fuel : ℕ) (name : List ℕ) (tree : List Node) (status : Status) (text : List ℕ)
     → IsDueOfTree built key fuel name tree status text → IsOfWhole status
 of_tree true key fuel name tree status text due =
-    let script = machine_script key fuel (program name tree ∷ []) in subst IsOfWhole (sym due.0) (of_end name (machine_text script (run script)) (run script))
+    let script = script_of key fuel name tree in subst IsOfWhole (sym due.0) (of_end name (machine_text script (run script)) (run script))
 of_tree false key fuel name tree status text due = subst IsOfWhole (sym due.0) tt
 
 of_source : (key : List ℕ) (fuel : ℕ) (name : List ℕ) (answer : Result Scoped ProgramFault) (status : Status) (text : List ℕ)

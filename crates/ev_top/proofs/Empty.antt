@@ -4,13 +4,13 @@ use Rattle.ev_run.specs.World.{run}
 use Rattle.ev_run.specs.Text.{text, opened_text}
 use Rattle.ev_top.specs.Words.{line}
 use Rattle.ev_top.specs.Debt.{IsFor}
-use Rattle.ev_top.specs.Machine.{machine_script}
+use Rattle.ev_top.specs.Machine.{no_vat}
 use Rattle.ev_top.specs.Due.{IsDueOfVats}
 use Rattle.ev_top.specs.declared.status.Status.{Status}
 use Rattle.ev_top.specs.declared.status.Status.TheVariants.{Done}
 
 -- its text
-text_empty : (key : List ℕ) (fuel : ℕ) → text (machine_script key fuel []) (run (machine_script key fuel [])) ≡ line (codes "end")
+text_empty : (key : List ℕ) (fuel : ℕ) → text (no_vat key fuel) (run (no_vat key fuel)) ≡ line (codes "end")
 unfolding opened_text
 text_empty key fuel = refl
 

@@ -12,7 +12,7 @@ use Rattle.ev_script.specs.declared.script.Script.{Script}
 use Rattle.ev_script.specs.declared.script.VatScript.{VatScript}
 use Rattle.ev_top.specs.Debt.{most_bytes}
 use Rattle.ev_top.specs.Expansion.{text_from}
-use Rattle.ev_top.specs.Machine.{program, machine_script}
+use Rattle.ev_top.specs.Machine.{script_of}
 use Rattle.ev_top.specs.Programs.{safe_names}
 use Rattle.ev_top.specs.Script.{script_from}
 use Rattle.ev_top.specs.declared.command.Command.{Command}
@@ -77,7 +77,7 @@ IsProgramRefused _ = ⊥
 
 -- the machine's run of this tree in the vat of a script
 abbrev pub run_of : Script → VatScript → Scoped → Machine
-run_of script vat scoped = run (machine_script script.key script.fuel (program vat.name scoped.tree ∷ []))
+run_of script vat scoped = run (script_of script.key script.fuel vat.name scoped.tree)
 
 -- a run that met a noun which nothing binds, or drew a word twice
 abbrev pub IsAstray : Machine → Type 0

@@ -15,7 +15,7 @@ use Rattle.ev_script.specs.declared.script.VatScript.{VatScript}
 use Rattle.ev_top.specs.Words.{IsPrefix}
 use Rattle.ev_top.specs.Debt.{Debt, IsFor, most_bytes, usage, too_long, bytes_refused, program_refused}
 use Rattle.ev_top.specs.Expansion.{IsDueOfText, text_from}
-use Rattle.ev_top.specs.Machine.{program, machine_script}
+use Rattle.ev_top.specs.Machine.{script_of, no_vat}
 use Rattle.ev_top.specs.Programs.{ReadAs, IsDueOfFault}
 use Rattle.ev_top.specs.Script.{script_from}
 use Rattle.ev_top.specs.declared.command.Command.{Command}
@@ -54,7 +54,7 @@ due_of_machine name script = due_of_run name (machine_text script (run script)) 
 
 -- what is due for the tree of the vat of that name, by whether it is built: its run, or its refusal
 abbrev pub IsDueOfTree : Bool → List ℕ → ℕ → List ℕ → List Node → Status → List ℕ → Type 0
-IsDueOfTree true key fuel name tree status text = IsFor status text (due_of_machine name (machine_script key fuel (program name tree ∷ [])))
+IsDueOfTree true key fuel name tree status text = IsFor status text (due_of_machine name (script_of key fuel name tree))
 IsDueOfTree false key fuel name tree status text = IsFor status text (not_built name)
 
 -- what is due for the source of a vat by what it is read as
@@ -64,7 +64,7 @@ IsDueOfSource key fuel name (Err fault) status text = IsDueOfFault name fault st
 
 -- what is due for the vat of a script, of which there is at most one, or for the run of none
 abbrev pub IsDueOfVats : List ℕ → ℕ → List VatScript → Status → List ℕ → Type 0
-IsDueOfVats key fuel [] status text = (status ≡ Done) × (text ≡ machine_text (machine_script key fuel []) (run (machine_script key fuel [])))
+IsDueOfVats key fuel [] status text = (status ≡ Done) × (text ≡ machine_text (no_vat key fuel) (run (no_vat key fuel)))
 IsDueOfVats key fuel (vat ∷ more) status text = ReadAs vat.source (λ answer. IsDueOfSource key fuel vat.name answer status text)
 
 -- what is due for a script, or for bytes that are none

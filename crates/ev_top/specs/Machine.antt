@@ -1,16 +1,17 @@
 -- The machine's script of what is run.
 use Rattle.std.specs.Prelude.{ℕ, List, []}
 use Rattle.ev_kernel.specs.declared.node.Node.{Node}
-use Rattle.ev_run.specs.World.{Program, Script}
+use Rattle.ev_opening_laws.specs.Alone.{alone}
+use Rattle.ev_run.specs.World.{Script}
 
 -- the greatest depth at which a node begins
 abbrev pub greatest_depth : ℕ
 greatest_depth = 400
 
--- a vat that knows no other
-abbrev pub program : List ℕ → List Node → Program
-program name tree = record { name = name; knows = []; tree = tree }
+-- the script of one vat of that name and tree, which knows no other, with an empty schedule
+abbrev pub script_of : List ℕ → ℕ → List ℕ → List Node → Script
+script_of key fuel name tree = alone key fuel greatest_depth name tree
 
--- a script with an empty schedule
-abbrev pub machine_script : List ℕ → ℕ → List Program → Script
-machine_script key fuel programs = record { key = key; fuel = fuel; depth = greatest_depth; vats = programs; schedule = [] }
+-- the script of no vat
+abbrev pub no_vat : List ℕ → ℕ → Script
+no_vat key fuel = record { key = key; fuel = fuel; depth = greatest_depth; vats = []; schedule = [] }

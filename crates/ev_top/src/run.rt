@@ -5,7 +5,7 @@ ghost use Rattle.ev_eval.specs.Built.{is_built};
 ghost use Rattle.ev_top.specs.Debt.{IsFor};
 ghost use Rattle.ev_top.specs.Due.{IsDueOfScript, IsDueOfSource, IsDueOfTree, IsDueOfVats, due_of_machine, not_built};
 ghost use Rattle.ev_top.specs.Ends.{due_by};
-ghost use Rattle.ev_top.specs.Machine.{machine_script, program};
+ghost use Rattle.ev_top.specs.Machine.{script_of};
 ghost use Rattle.ev_top.specs.Programs.{ReadAs};
 ghost use Rattle.ev_top.specs.Script.{script_from};
 
@@ -72,7 +72,7 @@ fn reply_told(alloc: Global, name: &str, end: RunEnd, text: String) -> Result<Re
 fn reply_run(alloc: Global, fuel: u32, name: &str, tree: &Kernel) -> Result<Reply, Memory>
     requires { is_built tree.now ≡ true }
     ensures { (key : List ℕ) → IfOk result (λ reply. IsFor reply.status (string_bytes reply.text)
-        (due_of_machine name.now (machine_script key fuel (program name.now tree.now ∷ [])))) }
+        (due_of_machine name.now (script_of key fuel name.now tree.now))) }
 {
     let limits = Limits {
         depth: GREATEST_DEPTH,
