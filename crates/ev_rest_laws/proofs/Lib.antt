@@ -14,3 +14,7 @@ pub mod RunLift
 pub mod ViewsRuns
 pub mod Ends
 pub mod Laws
+pub mod OwnKeeps
+pub mod OwnTurns
+pub mod OwnArrive
+pub mod OwnRuns

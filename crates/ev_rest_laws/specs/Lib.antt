@@ -1,3 +1,4 @@
 pub mod Views
 pub mod Rest
 pub mod Cuts
+pub mod Own

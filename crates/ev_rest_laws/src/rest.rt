@@ -4,6 +4,7 @@
 
 ghost use Rattle.ev_rest_laws.specs.Rest.{ViewsWaitInRuns};
 ghost use Rattle.ev_rest_laws.specs.Cuts.{NoticedLinksAreCut};
+ghost use Rattle.ev_rest_laws.specs.Own.{WhatAVatHasIsItsOwn};
 ghost use Rattle.ev_rest_laws.specs.Rest.{ViewsEndInRuns};
 ghost use Rattle.ev_rest_laws.specs.Rest.{ReferencesRestInRuns};
 ghost use Rattle.ev_rest_laws.specs.Rest.{FollowedBreaksStayBroken};
@@ -36,4 +37,11 @@ pub fn followed_breaks_stay_broken()
 /// whoever noticed a vat as cut off is another vat, and the links between the two are cut.
 pub fn noticed_links_are_cut()
     ensures { NoticedLinksAreCut }
+{}
+
+/// A vat hosts the answer of each message that it has: in its queue, held at a name, or among the
+/// reactions on one. It hosts each gift that it has for others, and each name of which it is to tell
+/// others.
+pub fn what_a_vat_has_is_its_own()
+    ensures { WhatAVatHasIsItsOwn }
 {}

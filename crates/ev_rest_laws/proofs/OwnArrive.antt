@@ -1,0 +1,237 @@
+-- What arrives and what is noticed leave what a vat has its own.
+use Rattle.std.proofs.Common.{◌≡◌, ℕ, Bool, true, false, List, [], ◌∷◌, ◌++◌, Option, Some, None, refl, sym, ◌∙◌, if◌then◌else◌, ◌==◌}
+use Rattle.ev_machine.specs.Values.{Words, Value, Null, Flag, Number, Letter, Text, Prim, Broken, Items, Ref, Name, Root, Object, Promise, Answer, Gift, Sent, host_of, Naming, naming, name_of, answer_of, mail_of, IsAnswer, IsGift}
+use Rattle.ev_machine.specs.State.{Standing, Unsettled, WaitsOn, Viewed, Settled, Known, ToTell, Passed, Passeds, Plain, AGift, Many, NoMore, More, Note, Deliver, Open, Ask, SettledTo, Elsewhere, Shorten, GiftEntry, Vat, Act, ◌>>=◌, ◌>>◌, and_then, give, look, mail, mark, come, new_list, new_gift, open_gift, with_opened, is_gift, begun, send_out, alter}
+use Rattle.ev_machine.specs.Refs as refs
+use Rattle.ev_machine.specs.Refs.{Place, Near, Mine, Away, Gone}
+use Rattle.ev_machine.specs.Arrive as arrive
+use Rattle.ev_machine.specs.Arrive.{Incoming, Old, New}
+use Rattle.ev_run.specs.World as world
+use Rattle.ev_name_laws.specs.Names.{AllOf, IsMessageName}
+use Rattle.ev_name_laws.proofs.Facts.{all_end}
+use Rattle.ev_rest_laws.specs.Own.{IsOwnGift, Own}
+use Rattle.ev_rest_laws.proofs.Gentle.{GivesBy, Gentle}
+use Rattle.ev_rest_laws.proofs.OwnKeeps.{KeepsOwn, widen, with_own, own_bind, own_then, own_if, own_give, own_look, own_tell, own_out, own_draw, own_all, own_wait, own_view, own_to_tell, came_own, own_send_on, own_inform, own_settle, own_resolve}
+
+module _ (word : ℕ → ℕ) (v : ℕ) where
+  abbrev Names : Naming Name Name
+  Names = naming word v
+
+  abbrev Keeping : {A : Type 0} → Act Name A → Type 0
+  Keeping m = Gentle (KeepsOwn word v) m
+
+  -- ---- learning
+
+  own_gift : (h i : ℕ) → Keeping (come Names (IsGift h i) h)
+  unfolding come naming name_of host_of
+  own_gift h i = record { after = λ s o. (o.0, o.1, came_own word v s (Gift h i) h refl o, o.3) }
+
+  own_new : (n : Name) → Keeping (arrive.learn_name Names (New n (host_of n)))
+  unfolding arrive.learn_name come naming name_of
+  own_new n = record { after = λ s o. (o.0, o.1, came_own word v s n (host_of n) refl o, o.3) }
+
+  own_old : (n : Name) → Keeping (arrive.learn_name Names (Old n))
+  unfolding arrive.learn_name
+  own_old n = own_give word v n
+
+  own_either : (n : Name) (b : Bool) → Keeping (arrive.learn_name Names (elim b [ true ↦ Old n | false ↦ New n (host_of n) ]))
+  own_either n true = own_old n
+  own_either n false = own_new n
+
+  own_name : (ks : List Name) (n : Name) → Keeping (arrive.learn_name Names (world.read_name ks n))
+  unfolding world.read_name
+  own_name ks n = own_either n (world.is_old ks n)
+
+  own_value : (ks : List Name) (y : Value Name) → Keeping (arrive.learn_value Names (world.read_value ks y).read)
+  unfolding arrive.learn_value world.read_value
+  own_value ks Null = own_give word v Null
+  own_value ks (Flag b) = own_give word v (Flag b)
+  own_value ks (Number z) = own_give word v (Number z)
+  own_value ks (Letter c) = own_give word v (Letter c)
+  own_value ks (Text t) = own_give word v (Text t)
+  own_value ks (Prim n) = own_give word v (Prim n)
+  own_value ks (Broken p) = own_give word v (Broken p)
+  own_value ks (Items k) = own_give word v (Items k)
+  own_value ks (Ref n) = own_bind word v (own_name ks n) (λ x. own_give word v (Ref x))
+
+  own_ask_for : (p h i : ℕ) (n : Name) → Keeping (arrive.ask_for Names p h i n)
+  unfolding arrive.ask_for
+  own_ask_for p h i n = own_bind word v (own_look word v _) (λ gone. own_if word v gone (own_settle word v n _) (own_out word v h _))
+
+  own_learn_gift : (p h i : ℕ) → Keeping (arrive.learn_gift Names p h i)
+  unfolding arrive.learn_gift
+  own_learn_gift p h i = own_bind word v (own_gift h i) (λ n. own_then word v (own_ask_for p h i n) (own_give word v (Ref n)))
+
+  own_list : (vs : List (Value Name)) → Keeping (new_list vs)
+  unfolding new_list
+  own_list vs = record { after = λ s o. o }
+
+  own_make_list : (vs : List (Value Name)) → Keeping (arrive.make_list Names vs)
+  unfolding arrive.make_list
+  own_make_list vs = own_bind word v (own_list vs) (λ k. own_then word v (own_tell word v _) (own_give word v _))
+
+  mutual
+    unfolding arrive.learn arrive.learn_all world.read_passed world.read_all world.plain_read world.many_read world.more_read
+
+    own_learn : (p : ℕ) (y : Passed Name) (ks : List Name) → Keeping (arrive.learn Names p (world.read_passed y ks).read)
+    own_learn p (Plain y) ks = own_value ks y
+    own_learn p (AGift h i) ks = own_learn_gift p h i
+    own_learn p (Many ys) ks = own_bind word v (own_learn_all p ys ks) (λ vs. own_make_list vs)
+
+    own_learn_all : (p : ℕ) (ys : Passeds Name) (ks : List Name) → Keeping (arrive.learn_all Names p (world.read_all ys ks).read)
+    own_learn_all p NoMore ks = own_give word v []
+    own_learn_all p (More y ys) ks = own_bind word v (own_learn p y ks) (λ x. own_bind word v (own_learn_all p ys (world.read_passed y ks).known) (λ xs. own_give word v (x ∷ xs)))
+
+  -- ---- gifts at their host
+
+  found_gift : (b : Bool) (g0 g : GiftEntry Name) (o : Option (GiftEntry Name)) → IsOwnGift v g0 → ◌≡◌ {A = Option (GiftEntry Name)} (elim b [ true ↦ Some g0 | false ↦ o ]) (Some g) → (o ≡ Some g → IsOwnGift v g) → IsOwnGift v g
+  found_gift true g0 g o h e f = let same : g0 ≡ g = cc in rw same at h
+  found_gift false g0 g o h e f = f e
+
+  gift_own : (p i : ℕ) (gs : List (GiftEntry Name)) (g : GiftEntry Name) → AllOf (IsOwnGift v) gs → arrive.gift_at p i gs ≡ Some g → IsOwnGift v g
+  unfolding arrive.gift_at
+  gift_own p i [] g h e = cc
+  gift_own p i (g0 ∷ gs) g h e = found_gift (is_gift p i g0) g0 g (arrive.gift_at p i gs) h.0 e (λ j. gift_own p i gs g h.1 j)
+
+  -- the gift, which the vat hosts, and what is done with it
+  had_or_new : {A : Type 0} (p i : ℕ) (s : Vat Name) (o : Option (GiftEntry Name)) (f : Name → Act Name A) → arrive.gift_at p i s.gifts ≡ o → ((n : Name) → host_of n ≡ v → Keeping (f n)) → Own v s → GivesBy (KeepsOwn word v) s ((arrive.gift_or_new Names s.number p i o >>= f) s)
+  unfolding arrive.gift_or_new ◌>>=◌ ◌>>◌ and_then come new_gift give naming name_of host_of
+  had_or_new p i s (Some g) f e k h = (k g.name (gift_own p i s.gifts g h.3 e)).after s
+  had_or_new p i s None f e k h = let g : GiftEntry Name = record { name = Gift s.number i; provider = p; number = i; opened = false } in let t : Vat Name = record s { known = s.known ++ begun (Gift s.number i) s.number ∷ []; gifts = s.gifts ++ g ∷ [] } in
+      widen word v s t (f (Gift s.number i) t) (λ o. (o.0, o.1, came_own word v s (Gift s.number i) s.number refl o, all_end (IsOwnGift v) s.gifts g o.3 o.0)) ((k (Gift s.number i) h.0).after t)
+
+  with_gift : {A : Type 0} (p i : ℕ) (f : Name → Act Name A) → ((n : Name) → host_of n ≡ v → Keeping (f n)) → Keeping (arrive.have_gift Names p i >>= f)
+  unfolding arrive.have_gift ◌>>=◌ look and_then
+  with_gift p i f k = record { after = λ s. with_own word v s _ (λ o. had_or_new p i s (arrive.gift_at p i s.gifts) f refl k o) }
+
+  opened_head : (b : Bool) (g j : GiftEntry Name) (gs rest : List (GiftEntry Name)) → IsOwnGift v g → IsOwnGift v j → AllOf (IsOwnGift v) gs → AllOf (IsOwnGift v) rest → AllOf (IsOwnGift v) (elim b [ true ↦ j ∷ gs | false ↦ g ∷ rest ])
+  opened_head true g j gs rest a b c d = (b, c)
+  opened_head false g j gs rest a b c d = (a, d)
+
+  opened_own : (p i : ℕ) (gs : List (GiftEntry Name)) → AllOf (IsOwnGift v) gs → AllOf (IsOwnGift v) (with_opened p i gs)
+  unfolding with_opened
+  opened_own p i [] h = tt
+  opened_own p i (g ∷ gs) h = opened_head (is_gift p i g) g _ gs (with_opened p i gs) h.0 h.0 h.1 (opened_own p i gs h.1)
+
+  own_open : (p i : ℕ) → Keeping (open_gift p i)
+  unfolding open_gift
+  own_open p i = record { after = λ s o. (o.0, o.1, o.2, opened_own p i s.gifts o.3) }
+
+  own_break_at : (n : Name) (p : Words) (t : Standing Name) → Keeping (arrive.break_at Names n p t)
+  unfolding arrive.break_at
+  own_break_at n p (Settled y) = own_give word v tt
+  own_break_at n p (Viewed q) = own_settle word v n _
+  own_break_at n p (WaitsOn q) = own_settle word v n _
+  own_break_at n p Unsettled = own_settle word v n _
+
+  own_break_unopened : (n : Name) (b : Bool) → Keeping (arrive.break_unopened Names n b)
+  unfolding arrive.break_unopened
+  own_break_unopened n true = own_give word v tt
+  own_break_unopened n false = own_bind word v (own_look word v _) (λ t. own_break_at n _ t)
+
+  own_orphan : (p i : ℕ) (n : Name) → Keeping (arrive.break_orphan Names p i n)
+  unfolding arrive.break_orphan
+  own_orphan p i n = own_bind word v (own_look word v _) (λ gone. own_bind word v (own_look word v _) (λ opened. own_if word v gone (own_break_unopened n opened) (own_give word v tt)))
+
+  own_tell_asker : (n : Name) (w : ℕ) (t : Standing Name) → host_of n ≡ v → Keeping (arrive.tell_asker Names n w t)
+  unfolding arrive.tell_asker
+  own_tell_asker n w (Settled y) e = own_inform word v n w
+  own_tell_asker n w (Viewed q) e = own_to_tell word v w n e
+  own_tell_asker n w (WaitsOn q) e = own_to_tell word v w n e
+  own_tell_asker n w Unsettled e = own_to_tell word v w n e
+
+  -- ---- the notes
+
+  mailed : (m : Name) (h : ℕ) (f : Name → Act Name (Unit {0})) → Keeping (f m) → Keeping (arrive.learn_message Names (New m h) >>= f)
+  unfolding arrive.learn_message ◌>>=◌ mail and_then naming mail_of
+  mailed m h f k = record { after = λ s. let t : Vat Name = record s { mails = s.mails ++ m ∷ [] } in widen word v s t (f m t) (λ o. o) (k.after t) }
+
+  answer_own : (u : ℕ) (m : Name) → IsMessageName m → host_of (answer_of u m) ≡ u
+  unfolding answer_of host_of
+  answer_own u (Sent m) i = refl
+  answer_own u (Root w) i = absurd i
+  answer_own u (Object w j) i = absurd i
+  answer_own u (Promise w j) i = absurd i
+  answer_own u (Answer w m) i = absurd i
+  answer_own u (Gift w j) i = absurd i
+
+  came_answer : (u : ℕ) (m : Name) (f : Name → Act Name (Unit {0})) → IsMessageName m → Keeping (f (answer_of u m)) → Keeping (come Names (IsAnswer u m) u >>= f)
+  unfolding ◌>>=◌ come and_then naming name_of
+  came_answer u m f i k = record { after = λ s. let t : Vat Name = record s { known = s.known ++ begun (answer_of u m) u ∷ [] } in widen word v s t (f (answer_of u m) t) (λ o. (o.0, o.1, came_own word v s (answer_of u m) u (sym (answer_own u m i)) o, o.3)) (k.after t) }
+
+  delivered : (from : ℕ) (m n : Name) (verb : Words) (args : List (Value Name)) (u : ℕ) → IsMessageName m → u ≡ v → Keeping (come Names (IsAnswer u m) u >>= (λ a. alter Names (ToTell from) a >> refs.send_on Names (refs.settle Names) (record { id = m; target = Ref n; verb = verb; args = args; answer = a })))
+  delivered from m n verb args u i e = let own : host_of (answer_of u m) ≡ v = answer_own u m i ∙ e in came_answer u m _ i (own_then word v (own_to_tell word v from (answer_of u m) own) (own_send_on word v (refs.settle Names) (own_settle word v) _ (i, own)))
+
+  numbered : (f : ℕ → Act Name (Unit {0})) → ((u : ℕ) → u ≡ v → Keeping (f u)) → Keeping (look (λ (s : Vat Name). s.number) >>= f)
+  unfolding ◌>>=◌ look and_then
+  numbered f k = record { after = λ s. with_own word v s _ (λ o. (k s.number o.0).after s) }
+
+  own_see : (n g : Name) → Keeping (arrive.see Names n g)
+  unfolding arrive.see
+  own_see n g = own_then word v (own_tell word v _) (own_then word v (own_view word v g n) (own_wait word v n g))
+
+  asked_there : (n : Name) (h c i : ℕ) → Keeping ((come Names (IsGift c i) c >>= (λ g. send_out c (Ask h i g) >> give g)) >>= (λ g. arrive.see Names n g))
+  asked_there n h c i = own_bind word v (own_bind word v (own_gift c i) (λ g. own_then word v (own_out word v c _) (own_give word v g))) (λ g. own_see n g)
+
+  own_there : (n : Name) (u h c i : ℕ) (b : Bool) → Keeping ((if b then arrive.have_gift Names h i else (come Names (IsGift c i) c >>= (λ g. send_out c (Ask h i g) >> give g))) >>= (λ g. arrive.see Names n g))
+  own_there n u h c i true = with_gift h i _ (λ g e. own_see n g)
+  own_there n u h c i false = asked_there n h c i
+
+  own_view_there : (n : Name) (c : ℕ) → Keeping (arrive.view_there Names n c)
+  unfolding arrive.view_there arrive.gift_there
+  own_view_there n c = own_bind word v (own_look word v _) (λ u. own_bind word v (own_look word v _) (λ h. own_bind word v (own_draw word v) (λ i. own_then word v (own_out word v h _) (own_there n u h c i (c == u)))))
+
+  own_shorten : (i : ℕ) (p : Place Name) → Keeping (arrive.shorten_to Names i p)
+  unfolding arrive.shorten_to
+  own_shorten i (Away h n true) = own_out word v h _
+  own_shorten i (Away h n false) = own_give word v tt
+  own_shorten i Near = own_give word v tt
+  own_shorten i (Mine n) = own_give word v tt
+  own_shorten i (Gone t) = own_give word v tt
+
+  -- a note whose message is named as one
+  abbrev pub NamesMail : Note Name → Type 0
+  NamesMail (Deliver m n verb ys) = IsMessageName m
+  NamesMail (Open i n) = Unit {0}
+  NamesMail (Ask p i n) = Unit {0}
+  NamesMail (SettledTo n y) = Unit {0}
+  NamesMail (Elsewhere n c) = Unit {0}
+  NamesMail (Shorten n c i) = Unit {0}
+
+  pub own_arrive : (from : ℕ) (ks : List Name) (n : Note Name) → NamesMail n → Keeping (arrive.arrive Names from (world.read_note ks n))
+  unfolding arrive.arrive world.read_note arrive.arrive_deliver arrive.arrive_open arrive.arrive_ask arrive.arrive_settled arrive.arrive_elsewhere arrive.arrive_shorten
+  own_arrive from ks (Deliver m n verb ys) i = mailed m (host_of m) _ (own_bind word v (own_learn_all from ys ks) (λ args. own_bind word v (own_name (world.read_all ys ks).known n) (λ x. numbered _ (λ u e. delivered from m x verb args u i e))))
+  own_arrive from ks (Open i n) h = own_bind word v (own_name ks n) (λ y. with_gift from i _ (λ g e. own_then word v (own_open from i) (own_resolve word v g (Ref y))))
+  own_arrive from ks (Ask p i n) h = with_gift p i _ (λ g e. own_then word v (own_orphan p i g) (own_bind word v (own_look word v _) (λ t. own_tell_asker g from t e)))
+  own_arrive from ks (SettledTo n y) h = own_bind word v (own_name ks n) (λ x. own_bind word v (own_learn from y (world.known_after ks n)) (λ z. own_settle word v x z))
+  own_arrive from ks (Elsewhere n c) h = own_bind word v (own_name ks n) (λ x. own_bind word v (own_look word v _) (λ gone. own_if word v gone (own_settle word v x _) (own_view_there x c)))
+  own_arrive from ks (Shorten n c i) h = own_bind word v (own_name ks n) (λ x. own_bind word v (own_look word v _) (λ p. own_shorten i p))
+
+  -- ---- the notice
+
+  own_mark : (w : ℕ) → Keeping (mark w)
+  unfolding mark
+  own_mark w = record { after = λ s o. o }
+
+  own_break_hosted : (w : ℕ) (n : Name) (p : Words) (t : Standing Name) → Keeping (arrive.break_hosted Names w n p t)
+  unfolding arrive.break_hosted
+  own_break_hosted w n p Unsettled = own_settle word v n _
+  own_break_hosted w n p (WaitsOn q) = own_settle word v n _
+  own_break_hosted w n p (Viewed q) = own_give word v tt
+  own_break_hosted w n p (Settled y) = own_give word v tt
+
+  own_notice_name : (w : ℕ) (k : Known Name) → Keeping (arrive.notice_name Names w k)
+  unfolding arrive.notice_name
+  own_notice_name w k = own_bind word v (own_look word v _) (λ t. own_if word v (k.host == w) (own_break_hosted w k.name _ t) (own_give word v tt))
+
+  own_notice_gift : (w : ℕ) (g : GiftEntry Name) → Keeping (arrive.notice_gift Names w g)
+  unfolding arrive.notice_gift
+  own_notice_gift w g = own_if word v (g.provider == w) (own_break_unopened g.name g.opened) (own_give word v tt)
+
+  own_notice_all : (w : ℕ) → Keeping (arrive.notice_all Names w)
+  unfolding arrive.notice_all
+  own_notice_all w = own_then word v (own_mark w) (own_bind word v (own_look word v _) (λ names. own_then word v (own_all word v names (λ k. own_notice_name w k)) (own_bind word v (own_look word v _) (λ gifts. own_all word v gifts (λ g. own_notice_gift w g)))))
+
+  pub own_notice : (w : ℕ) → Keeping (arrive.notice Names w)
+  unfolding arrive.notice
+  own_notice w = own_bind word v (own_look word v _) (λ gone. own_if word v gone (own_give word v tt) (own_notice_all w))
