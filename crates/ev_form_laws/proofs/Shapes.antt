@@ -19,6 +19,11 @@ use Rattle.ev_kernel.specs.declared.shape.Tail.TheVariants.{Many}
 use Rattle.ev_kernel.specs.Reading.{heads, head_of, fixed, tail, wanted, ends, numbers, node_of}
 use Rattle.ev_form_laws.specs.Trees.{Has, IsName, IsLiteral, Tree, Row, literal, noun, set, def, def_exit, call, sequence, choice, escape, escape_catch, try_catch, finally, hide, match_bind, object, method, matcher, final, final_guarded, variable, variable_guarded, any, any_guarded, list, via, named, unnamed, none, one_more}
 use Rattle.ev_form_laws.proofs.Going.{wants_more}
+use Rattle.std.specs.Prelude.{codes}
+use Rattle.ev_text.specs.Keywords.{printed_verb}
+use Rattle.ev_text.specs.Quoting.{quoted}
+use Rattle.ev_kernel.specs.Forms.{enclosed, items as written}
+use Rattle.ev_form_laws.proofs.Writing.{item_text, inner_words}
 use Rattle.ev_form_laws.proofs.Groups.{numbers_are}
 
 -- an item that is what is wanted; its nodes are those from the first number to before the second
@@ -210,6 +215,108 @@ closes of_final_name (also (a_name n0) no_more) e has = named has n0
 closes of_final_name (also _ (also x _)) e has = elim x [ ]
 closes of_no_name no_more e has = unnamed has
 closes of_no_name (also x _) e has = elim x [ ]
+
+-- the words of trees alone
+row_words : (form : ℕ → List ℕ) (starts : List ℕ) → map (item_text form) (map ANode starts) ≡ map form starts
+row_words form [] = refl
+row_words form (n ∷ starts) = ap (λ ws. form n ∷ ws) (row_words form starts)
+
+row_text : {nodes : List Node} {items : List Item} {kind : Kind} {a m : ℕ} (form : ℕ → List ℕ) (r : RowOf nodes items kind a m) → map form (numbers items) ≡ map (item_text form) items
+row_text form r = ap (map form) (numbers_of r) ∙ sym (row_words form r.starts) ∙ sym (ap (map (item_text form)) r.are)
+
+-- a name is printed as it is
+name_prints : {w : List ℕ} → IsName w → w ≡ printed_verb w
+name_prints {w = w} is = sym (ap (λ b. cond b w (quoted w)) is.is_one)
+
+-- what is written of the node of a form's items
+pub written_words : {nodes : List Node} {kind : Kind} {shape : Head} {items : List Item} {n m : ℕ} (form : ℕ → List ℕ) → Of kind shape → Fits nodes shape 0 items n m → ends shape (length items) ≡ true
+    → written form (node_of shape items) ≡ inner_words shape (map (item_text form) items)
+written_words form of_lit no_more e = absurd (cc)
+written_words form of_lit (also (a_literal l0) no_more) e = refl
+written_words form of_lit (also _ (also x _)) e = elim x [ ]
+written_words form of_noun no_more e = absurd (cc)
+written_words form of_noun (also (a_name n0) no_more) e = ap (λ w. codes "noun" ∷ w ∷ []) (name_prints n0)
+written_words form of_noun (also _ (also x _)) e = elim x [ ]
+written_words form of_set no_more e = absurd (cc)
+written_words form of_set (also _ no_more) e = absurd (cc)
+written_words form of_set (also (a_name n0) (also (a_tree {a = n1} _) no_more)) e = ap (λ w. codes "set" ∷ w ∷ form n1 ∷ []) (name_prints n0)
+written_words form of_set (also _ (also _ (also x _))) e = elim x [ ]
+written_words form of_def no_more e = absurd (cc)
+written_words form of_def (also _ no_more) e = absurd (cc)
+written_words form of_def (also (a_tree t0) (also (a_tree t1) no_more)) e = refl
+written_words form of_def (also _ (also _ (also x _))) e = elim x [ ]
+written_words form of_def_exit no_more e = absurd (cc)
+written_words form of_def_exit (also _ no_more) e = absurd (cc)
+written_words form of_def_exit (also _ (also _ no_more)) e = absurd (cc)
+written_words form of_def_exit (also (a_tree t0) (also (a_tree t1) (also (a_tree t2) no_more))) e = refl
+written_words form of_def_exit (also _ (also _ (also _ (also x _)))) e = elim x [ ]
+written_words form of_call no_more e = absurd (cc)
+written_words form of_call (also _ no_more) e = absurd (cc)
+written_words form of_call (also (a_tree {a = a} t) (also (a_verb {w = verb} v) rest)) e =
+    ap (λ ws. codes "call" ∷ form a ∷ printed_verb verb ∷ ws) (row_text form (row_of Expression refl (omega arith) rest))
+written_words form of_seq no_more e = absurd (cc)
+written_words form of_seq (also (a_tree {a = a} t) rest) e = ap (λ ws. codes "seq" ∷ form a ∷ ws) (row_text form (row_of Expression refl (omega arith) rest))
+written_words form of_if no_more e = absurd (cc)
+written_words form of_if (also _ no_more) e = absurd (cc)
+written_words form of_if (also _ (also _ no_more)) e = absurd (cc)
+written_words form of_if (also (a_tree t0) (also (a_tree t1) (also (a_tree t2) no_more))) e = refl
+written_words form of_if (also _ (also _ (also _ (also x _)))) e = elim x [ ]
+written_words form of_escape no_more e = absurd (cc)
+written_words form of_escape (also _ no_more) e = absurd (cc)
+written_words form of_escape (also (a_tree t0) (also (a_tree t1) no_more)) e = refl
+written_words form of_escape (also _ (also _ (also _ no_more))) e = absurd (cc)
+written_words form of_escape (also (a_tree t0) (also (a_tree t1) (also (a_tree t2) (also (a_tree t3) no_more)))) e = refl
+written_words form of_escape (also _ (also _ (also _ (also _ (also x _))))) e = elim x [ ]
+written_words form of_try no_more e = absurd (cc)
+written_words form of_try (also _ no_more) e = absurd (cc)
+written_words form of_try (also _ (also _ no_more)) e = absurd (cc)
+written_words form of_try (also (a_tree t0) (also (a_tree t1) (also (a_tree t2) no_more))) e = refl
+written_words form of_try (also _ (also _ (also _ (also x _)))) e = elim x [ ]
+written_words form of_finally no_more e = absurd (cc)
+written_words form of_finally (also _ no_more) e = absurd (cc)
+written_words form of_finally (also (a_tree t0) (also (a_tree t1) no_more)) e = refl
+written_words form of_finally (also _ (also _ (also x _))) e = elim x [ ]
+written_words form of_hide no_more e = absurd (cc)
+written_words form of_hide (also (a_tree t0) no_more) e = refl
+written_words form of_hide (also _ (also x _)) e = elim x [ ]
+written_words form of_match no_more e = absurd (cc)
+written_words form of_match (also _ no_more) e = absurd (cc)
+written_words form of_match (also (a_tree t0) (also (a_tree t1) no_more)) e = refl
+written_words form of_match (also _ (also _ (also x _))) e = elim x [ ]
+written_words form of_object no_more e = absurd (cc)
+written_words form of_object (also _ no_more) e = absurd (cc)
+written_words form of_object (also (a_tree {a = a} t) (also (a_group {starts = auditors} g) rest)) e =
+    ap (λ ws. codes "object" ∷ form a ∷ enclosed (map form auditors) ∷ ws) (row_text form (row_of Member refl (omega arith) rest))
+written_words form of_method no_more e = absurd (cc)
+written_words form of_method (also _ no_more) e = absurd (cc)
+written_words form of_method (also _ (also _ no_more)) e = absurd (cc)
+written_words form of_method (also (a_verb v0) (also (a_group g1) (also (a_tree t2) no_more))) e = refl
+written_words form of_method (also _ (also _ (also _ (also x _)))) e = elim x [ ]
+written_words form of_matcher no_more e = absurd (cc)
+written_words form of_matcher (also _ no_more) e = absurd (cc)
+written_words form of_matcher (also (a_tree t0) (also (a_tree t1) no_more)) e = refl
+written_words form of_matcher (also _ (also _ (also x _))) e = elim x [ ]
+written_words form of_final no_more e = absurd (cc)
+written_words form of_final (also (a_name n0) no_more) e = ap (λ w. codes "final" ∷ w ∷ []) (name_prints n0)
+written_words form of_final (also (a_name n0) (also (a_tree {a = n1} _) no_more)) e = ap (λ w. codes "final" ∷ w ∷ form n1 ∷ []) (name_prints n0)
+written_words form of_final (also _ (also _ (also x _))) e = elim x [ ]
+written_words form of_var no_more e = absurd (cc)
+written_words form of_var (also (a_name n0) no_more) e = ap (λ w. codes "var" ∷ w ∷ []) (name_prints n0)
+written_words form of_var (also (a_name n0) (also (a_tree {a = n1} _) no_more)) e = ap (λ w. codes "var" ∷ w ∷ form n1 ∷ []) (name_prints n0)
+written_words form of_var (also _ (also _ (also x _))) e = elim x [ ]
+written_words form of_any no_more e = refl
+written_words form of_any (also (a_tree t0) no_more) e = refl
+written_words form of_any (also _ (also x _)) e = elim x [ ]
+written_words form of_list rest e = ap (λ ws. codes "list" ∷ ws) (row_text form (row_of Pattern refl (omega arith) rest))
+written_words form of_via no_more e = absurd (cc)
+written_words form of_via (also _ no_more) e = absurd (cc)
+written_words form of_via (also (a_tree t0) (also (a_tree t1) no_more)) e = refl
+written_words form of_via (also _ (also _ (also x _))) e = elim x [ ]
+written_words form of_final_name no_more e = absurd (cc)
+written_words form of_final_name (also (a_name n0) no_more) e = ap (λ w. codes "final" ∷ w ∷ []) (name_prints n0)
+written_words form of_final_name (also _ (also x _)) e = elim x [ ]
+written_words form of_no_name no_more e = refl
+written_words form of_no_name (also x _) e = elim x [ ]
 
 -- trees between brackets
 pub closes_row : {nodes : List Node} {kind : Kind} {items : List Item} {a m : ℕ} → Fits nodes (head.Group kind) 0 items a m → Row nodes kind (numbers items) a m
