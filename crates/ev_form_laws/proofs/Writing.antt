@@ -1,6 +1,6 @@
 -- What was read so far, as text, in terms of the nodes of its end.
-use Rattle.std.proofs.Common.{◌≡◌, ℕ, zero, suc, ◌+◌, ◌≤◌, cond, eqb, Bool, true, false, ℤ, List, [], ◌∷◌, ◌++◌, length, map, Some, None, refl, sym, ◌∙◌, ap, arith, append_assoc}
-use Rattle.std.specs.Prelude.{codes, slice_get}
+use Rattle.std.proofs.Common.{◌≡◌, ℕ, cond, eqb, Bool, true, false, ℤ, pos, negsuc, List, [], ◌∷◌, ◌++◌, length, map, refl, sym, ◌∙◌, ap, append_assoc}
+use Rattle.std.specs.Prelude.{codes}
 use Rattle.std.specs.List.{flat_map}
 use Rattle.std.specs.Fmt.{signed_decimal}
 use Rattle.std.proofs.lemmas.List.{append-nil, map-append}
@@ -14,12 +14,11 @@ use Rattle.ev_kernel.specs.declared.reader.Frame.{Frame}
 use Rattle.ev_kernel.specs.declared.reader.Place.{Place as Digits}
 use Rattle.ev_kernel.specs.declared.reader.Place.TheVariants.{First, Second, Third, Low, High}
 use Rattle.ev_kernel.specs.declared.reader.Mode.{Mode}
-use Rattle.ev_kernel.specs.declared.reader.Mode.TheVariants.{Opening as opening, Heading as heading, Behind as behind, Before as before, Grouping as grouping, Exiting as exiting, Bare as bare, Negative as negative, Digits as digits, Text as text, TextEscape as text_escape, TextNumber as text_number, Character as character, CharacterEscape as character_escape, CharacterNumber as character_number, CharacterEnd as character_end, Whole as whole}
+use Rattle.ev_kernel.specs.declared.reader.Mode.TheVariants.{Heading as heading, Behind as behind, Exiting as exiting, Bare as bare, Negative as negative, Digits as digits, Text as text, TextEscape as text_escape, TextNumber as text_number, Character as character, CharacterEscape as character_escape, CharacterNumber as character_number, CharacterEnd as character_end, Whole as whole}
 use Rattle.ev_kernel.specs.declared.reader.State.{State}
 use Rattle.ev_kernel.specs.declared.shape.Head.{Head}
 use Rattle.ev_kernel.specs.declared.shape.Head.TheVariants as head
 use Rattle.ev_kernel.specs.Forms.{spaced, enclosed, literal_form, form_within}
-use Rattle.ev_kernel.specs.Reading.{add_item}
 use Rattle.ev_form_laws.proofs.Going.{behind_spaces}
 
 -- an item by the forms of the nodes
@@ -128,6 +127,13 @@ last_form last = form_within (length last) last
 abbrev pub read_text : List Node → State → List ℕ
 read_text last s = text_at (last_form last) s.frames s.mode
 
+-- an integer that `-` begins, or not
+abbrev pub IsSigned : Bool → ℤ → Type 0
+IsSigned true (negsuc n) = Unit {0}
+IsSigned true (pos n) = ⊥
+IsSigned false (pos n) = Unit {0}
+IsSigned false (negsuc n) = ⊥
+
 -- one more word
 pub spaced_more : (ws : List (List ℕ)) (w : List ℕ) → spaced (ws ++ w ∷ []) ≡ (spaced ws ++ gap_behind ws) ++ w
 spaced_more [] w = append-nil w
@@ -167,7 +173,7 @@ gap_added form shape items i = refl
 -- one more item of a form
 pub item_added : (form : ℕ → List ℕ) (number : ℕ) (shape : Head) (items : List Item) (frames : List Frame) (i : Item) → Ready shape items
     → open_text form (record { number = number; head = shape; items = items ++ i ∷ [] } ∷ frames)
-      ≡ up_to_item form (record { number = number; head = shape; items = items } ∷ frames) ++ item_text form i
+    ≡ up_to_item form (record { number = number; head = shape; items = items } ∷ frames) ++ item_text form i
 item_added form number shape items frames i ready =
     let pre = up_to_item form frames in
     let ws = inner_words shape (map (item_text form) items) in
