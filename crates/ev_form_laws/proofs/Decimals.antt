@@ -1,5 +1,5 @@
 -- Decimal digits are read as the integer that they are of.
-use Rattle.std.proofs.Common.{◌≡◌, ℕ, zero, suc, ◌+◌, ◌-◌, ◌*◌, ◌/◌, ◌%◌, ◌^◌, ◌<◌, ◌≤◌, ◌&&◌, cond, eqb, leb, Bool, true, false, ℤ, pos, negsuc, List, [], ◌∷◌, ◌++◌, length, Option, Some, None, option_and_then, option_map, refl, sym, ◌∙◌, ap, arith, lit<}
+use Rattle.std.proofs.Common.{◌≡◌, ℕ, zero, suc, ◌+◌, ◌-◌, ◌*◌, ◌/◌, ◌%◌, ◌^◌, ◌<◌, ◌≤◌, ◌&&◌, cond, eqb, leb, Bool, true, false, ℤ, pos, negsuc, List, [], ◌∷◌, ◌++◌, length, Option, Some, None, option_and_then, option_map, refl, sym, ◌∙◌, ap, subst, append_assoc, arith, lit<}
 use Rattle.std.specs.Prelude.{◌-ℤ◌, ◌+ℤ◌, ◌*ℤ◌, neg_ℤ}
 use Rattle.std.specs.Fmt.{digit_glyph, digits_onto, signed_decimal}
 use Rattle.std.specs.Fmt.{digits as digits_of}
@@ -16,7 +16,11 @@ use Rattle.ev_kernel.specs.declared.reader.State.{State}
 use Rattle.ev_kernel.specs.declared.shape.Head.{Head}
 use Rattle.ev_kernel.specs.declared.shape.Want.TheVariants.{Literal as ALiteral}
 use Rattle.ev_kernel.specs.Reading.{step, add_item, wanted, takes_exit, literal_begins, is_digit, is_zero, fits, with_digit, more_digits, item_ends}
+use Rattle.std.specs.Char.{encode_utf8}
+use Rattle.std.proofs.lemmas.Str.{encode_ascii}
+use Rattle.std.proofs.lemmas.Option.{same_Some, option_and_then_some}
 use Rattle.ev_form_laws.specs.Trees.{IsInt}
+use Rattle.ev_form_laws.proofs.Writing.{IsSigned}
 use Rattle.ev_form_laws.proofs.Steps.{steps, reads_one, Stops, space, bracket, Goes, item, state, framed, at, space_wanted}
 use Rattle.ev_form_laws.proofs.Names.{begins_wanted}
 use Rattle.ev_form_laws.proofs.Spelled.{either, Spells, ascii, nothing, spells_utf8, spells_chars}
@@ -239,3 +243,121 @@ pub int_item : (z : ℤ) → IsInt z → IntItem z
 int_item (pos zero) h = zero_item
 int_item (pos (suc n)) h = positive_item n h
 int_item (negsuc n) h = negative_item n h
+
+onto_by : (k n : ℕ) (acc : List ℕ) (b : Bool) → ((more : List ℕ) → digits_onto k 10 false (n / 10) more ≡ digits_onto k 10 false (n / 10) [] ++ more)
+    → cond b (digit_glyph false (n % 10) ∷ acc) (digits_onto k 10 false (n / 10) (digit_glyph false (n % 10) ∷ acc))
+    ≡ cond b (digit_glyph false (n % 10) ∷ []) (digits_onto k 10 false (n / 10) (digit_glyph false (n % 10) ∷ [])) ++ acc
+onto_by k n acc true later = refl
+onto_by k n acc false later =
+    later (digit_glyph false (n % 10) ∷ acc) ∙ sym (append_assoc (digits_onto k 10 false (n / 10) []) (digit_glyph false (n % 10) ∷ []) acc)
+    ∙ ap (λ xs. xs ++ acc) (sym (later (digit_glyph false (n % 10) ∷ [])))
+
+fuel_by : (k n : ℕ) (acc : List ℕ) (b : Bool) → eqb (n / 10) 0 ≡ b
+    → (eqb (n / 10) 0 ≡ false → digits_onto (suc k) 10 false (n / 10) (digit_glyph false (n % 10) ∷ acc) ≡ digits_onto k 10 false (n / 10) (digit_glyph false (n % 10) ∷ acc))
+    → cond b (digit_glyph false (n % 10) ∷ acc) (digits_onto (suc k) 10 false (n / 10) (digit_glyph false (n % 10) ∷ acc))
+    ≡ cond b (digit_glyph false (n % 10) ∷ acc) (digits_onto k 10 false (n / 10) (digit_glyph false (n % 10) ∷ acc))
+fuel_by k n acc true e later = refl
+fuel_by k n acc false e later = later e
+
+more_than : (a q : ℕ) → a ≡ q → 0 < q → 0 < a
+more_than a q e h = omega arith
+
+fewer : (n : ℕ) → n ≤ 2 ^ 127 → n < limit 63
+fewer n h = let l : 2 ^ 127 < limit 63 = lit< tt in omega arith
+
+digit_above : (c : ℕ) → is_digit c ≡ true → 48 ≤ c
+digit_above c e = grind (arith, nat_tests)
+
+digit_below_58 : (c : ℕ) → is_digit c ≡ true → c ≤ 57
+digit_below_58 c e = grind (arith, nat_tests)
+
+above_48 : (c : ℕ) → 48 ≤ c → eqb c 48 ≡ false → 48 < c
+above_48 c h e = grind (arith, nat_tests)
+
+not_none : (q : ℕ) → eqb q 0 ≡ false → 0 < q
+not_none q e = grind (arith, nat_tests)
+
+fits_by : (z y : ℤ) (b : Bool) → cond b (Some z) None ≡ Some y → z ≡ y
+fits_by z y true e = same_Some z y e
+fits_by z y false e = absurd (cc)
+
+-- the digits of a number, and then these characters
+onto_append : (k n : ℕ) (acc : List ℕ) → digits_onto k 10 false n acc ≡ digits_onto k 10 false n [] ++ acc
+onto_append zero n acc = refl
+onto_append (suc k) n acc = onto_by k n acc (eqb (n / 10) 0) (λ more. onto_append k (n / 10) more)
+
+-- one digit less is enough where the number has fewer
+less_fuel : (k n : ℕ) (acc : List ℕ) → 0 < n → n < limit k → digits_onto (suc k) 10 false n acc ≡ digits_onto k 10 false n acc
+less_fuel zero n acc some low = absurd (omega arith)
+less_fuel (suc k) n acc some low = fuel_by k n acc (eqb (n / 10) 0) refl (λ e. less_fuel k (n / 10) (digit_glyph false (n % 10) ∷ acc) (tens_there n e) (less_digits n (limit k) low))
+
+tens : (q d n : ℕ) → d < 10 → n ≡ q * 10 + d → n / 10 ≡ q
+tens q d n h e = omega arith
+
+ones : (q d n : ℕ) → d < 10 → n ≡ q * 10 + d → n % 10 ≡ d
+ones q d n h e = omega arith
+
+-- one more digit of a number
+digits_more : (q d n : ℕ) → 0 < q → d < 10 → n ≡ q * 10 + d → n ≤ 2 ^ 127 → digits_onto 64 10 false n [] ≡ digits_onto 64 10 false q [] ++ (48 + d) ∷ []
+digits_more q d n some low e h =
+    ap (λ b. cond b (digit_glyph false (n % 10) ∷ []) (digits_onto 63 10 false (n / 10) (digit_glyph false (n % 10) ∷ []))) (positive (n / 10) (more_than (n / 10) q (tens q d n low e) some))
+    ∙ ap (λ x. digits_onto 63 10 false x (digit_glyph false (n % 10) ∷ [])) (tens q d n low e)
+    ∙ ap (λ x. digits_onto 63 10 false q (x ∷ [])) (ap (digit_glyph false) (ones q d n low e) ∙ glyph_is d low)
+    ∙ onto_append 63 q ((48 + d) ∷ []) ∙ ap (λ xs. xs ++ (48 + d) ∷ []) (sym (less_fuel 63 q [] some (fewer q (omega arith))))
+
+-- each number of one digit
+one_text : (d : ℕ) → d < 10 → digits_onto 64 10 false d [] ≡ (48 + d) ∷ []
+one_text zero h = refl
+one_text (suc d) h = by_digit (λ d. digits_onto 64 10 false d [] ≡ (48 + d) ∷ []) refl refl refl refl refl refl refl refl refl (suc d) (omega arith) h
+
+digit_bounds : (c : ℕ) → is_digit c ≡ true → (48 ≤ c) × (c ≤ 57)
+digit_bounds c e = (digit_above c e, digit_below_58 c e)
+
+-- the first digit of a number without a sign
+pub first_text : (c : ℕ) → is_digit c ≡ true → encode_utf8 c ≡ signed_decimal (pos (c - 48))
+unfolding digits_of
+first_text c e =
+    let b = digit_bounds c e in
+    encode_ascii c (omega arith) ∙ ap (λ x. x ∷ []) (omega arith) ∙ sym (one_text (c - 48) (omega arith))
+
+-- and behind `-`
+negative_digit : (c d : ℕ) → c ≡ 48 + suc d → suc d < 10 → 45 ∷ encode_utf8 c ≡ signed_decimal (pos 0 -ℤ pos (suc d))
+unfolding digits_of
+negative_digit c d e h =
+    ap (λ xs. 45 ∷ xs) (encode_ascii c (omega arith) ∙ ap (λ x. x ∷ []) e ∙ sym (one_text (suc d) h)) ∙ ap signed_decimal (sym (one_down d))
+
+pub negative_text : (c : ℕ) → is_digit c ≡ true → eqb c 48 ≡ false → 45 ∷ encode_utf8 c ≡ signed_decimal (pos 0 -ℤ pos (c - 48))
+negative_text c e n =
+    let b = digit_bounds c e in
+    let more : 48 < c = above_48 c b.0 n in
+    let same : suc (c - 49) ≡ c - 48 = omega arith in
+    negative_digit c (c - 49) (omega arith) (omega arith) ∙ ap (λ d. signed_decimal (pos 0 -ℤ pos d)) same
+
+fits_same : (z y : ℤ) → fits z ≡ Some y → z ≡ y
+fits_same z y e = fits_by z y _ e
+
+-- one more digit of an integer
+pub added_text : (minus : Bool) (c : ℕ) (z y : ℤ) → IsSigned minus z → IsInt y → is_zero z ≡ false → is_digit c ≡ true → with_digit minus (c - 48) z ≡ Some y
+    → (signed_decimal z ++ encode_utf8 c ≡ signed_decimal y) × IsSigned minus y
+unfolding digits_of
+added_text true c (pos q) y is int some digit e = absurd is
+added_text false c (negsuc q) y is int some digit e = absurd is
+added_text false c (pos q) y is int some digit e =
+    let b = digit_bounds c digit in
+    option_and_then_some (λ x. fits (x +ℤ pos (c - 48))) (fits (pos (q * 10))) y e (λ x at made.
+    let same : pos (q * 10 + (c - 48)) ≡ y = ap (λ w. w +ℤ pos (c - 48)) (fits_same (pos (q * 10)) x at) ∙ fits_same (x +ℤ pos (c - 48)) y made in
+    let small : IsInt (pos (q * 10 + (c - 48))) = subst IsInt (sym same) int in (
+      ap (λ xs. digits_onto 64 10 false q [] ++ xs) (encode_ascii c (omega arith) ∙ ap (λ x. x ∷ []) (omega arith))
+          ∙ sym (digits_more q (c - 48) (q * 10 + (c - 48)) (not_none q some) (omega arith) refl (omega arith)) ∙ ap signed_decimal same,
+      subst (IsSigned false) same tt,
+    ))
+added_text true c (negsuc q) y is int some digit e =
+    let b = digit_bounds c digit in
+    option_and_then_some (λ x. fits (x -ℤ pos (c - 48))) (fits (negsuc q *ℤ pos 10)) y e (λ x at made.
+    let same : negsuc (q * 10 + 9 + (c - 48)) ≡ y =
+    sym (further_down (q * 10 + 9) (c - 48)) ∙ ap (λ w. w -ℤ pos (c - 48)) (sym (ten_times q) ∙ fits_same (negsuc q *ℤ pos 10) x at) ∙ fits_same (x -ℤ pos (c - 48)) y made in
+    let small : IsInt (negsuc (q * 10 + 9 + (c - 48))) = subst IsInt (sym same) int in (
+      ap (λ xs. (45 ∷ digits_onto 64 10 false (suc q) []) ++ xs) (encode_ascii c (omega arith) ∙ ap (λ x. x ∷ []) (omega arith))
+          ∙ ap (λ xs. 45 ∷ xs) (sym (digits_more (suc q) (c - 48) (suc (q * 10 + 9 + (c - 48))) (omega arith) (omega arith) (omega arith) (omega arith))) ∙ ap signed_decimal same,
+      subst (IsSigned true) same tt,
+    ))

@@ -57,6 +57,10 @@ pub record TreeRead (nodes : List Node) (kind : Kind) (n m : ℕ) : Type 0 where
   pub part : List Node
   pub is : Part nodes n m part
   pub reads : (height : ℕ) → length nodes ≤ height + n → ReadsTree (form_within height nodes n) kind n part
+  pub node : Node
+  pub has : Has nodes n node
+  pub steady : (height other : ℕ) → length nodes ≤ height + n → length nodes ≤ other + n → form_within height nodes n ≡ form_within other nodes n
+  pub prints : (height : ℕ) → length nodes ≤ height + n → form_within height nodes n ≡ enclosed (written (form_within height nodes) node)
 
 -- A form of the node with this number, which was begun, is read as far as these items. Its nodes so far end before the last
 -- number.
@@ -65,12 +69,14 @@ pub record Going (nodes : List Node) (n : ℕ) (first head : Head) (texts : ℕ 
   pub is : Part nodes (suc n) m part
   pub reads : (height : ℕ) → length nodes ≤ height + suc n → (frames : List Frame) (start : List Node) → length start ≡ n
       → Goes (behind_spaces (texts height)) (at n first [] frames (start ++ no_node ∷ [])) (at n head items frames (start ++ no_node ∷ part))
+  pub steady : (height other : ℕ) → length nodes ≤ height + suc n → length nodes ≤ other + suc n → texts height ≡ texts other
 
 pub begin : (nodes : List Node) (n : ℕ) (head : Head) → Going nodes n head head (λ _. []) [] (suc n)
 begin nodes n head = record {
   part = [];
   is = done;
   reads = λ height enough frames start l. goes_nowhere (at n head [] frames (start ++ no_node ∷ []));
+  steady = λ height other enough also_enough. refl;
 }
 
 -- behind these nodes
@@ -85,8 +91,9 @@ pub further : {nodes : List Node} {n : ℕ} {first head : Head} {texts : ℕ →
     → (ws : ℕ → List (List ℕ)) (new : Head) (new_items : List Item) (added : List Node) (m : ℕ) → Part nodes a m added
     → ((height : ℕ) → length nodes ≤ height + a → (frames : List Frame) (now : List Node) → length now ≡ a
     → Goes (behind_spaces (ws height)) (at n head items frames now) (at n new new_items frames (now ++ added)))
+    → ((height other : ℕ) → length nodes ≤ height + a → length nodes ≤ other + a → ws height ≡ ws other)
     → Going nodes n first new (λ height. texts height ++ ws height) new_items m
-further {nodes = nodes} {n = n} {first = first} {head = head} {texts = texts} {items = items} {a = a} g ws new new_items added m is reads = record {
+further {nodes = nodes} {n = n} {first = first} {head = head} {texts = texts} {items = items} {a = a} g ws new new_items added m is reads same = record {
   part = g.part ++ added;
   is = joined g.is is;
   reads = λ height enough frames start l.
@@ -97,6 +104,9 @@ further {nodes = nodes} {n = n} {first = first} {head = head} {texts = texts} {i
       (subst (λ ns. Goes (behind_spaces (texts height) ++ behind_spaces (ws height)) front (at n new new_items frames ns)) (append_assoc start (no_node ∷ g.part) added)
       (goes_on (behind_spaces (texts height)) (behind_spaces (ws height)) front middle last (g.reads height enough frames start l)
       (reads height (deeper nodes g.part n a height g.is enough) frames (start ++ no_node ∷ g.part) (reached nodes start g.part n a l g.is))));
+  steady = λ height other enough also_enough.
+      ap (λ ts. ts ++ ws height) (g.steady height other enough also_enough)
+      ∙ ap (λ ts. texts other ++ ts) (same height other (deeper nodes g.part n a height g.is enough) (deeper nodes g.part n a other g.is also_enough));
 }
 
 -- a tree
@@ -107,6 +117,7 @@ then_tree {nodes = nodes} {n = n} {head = head} {items = items} {a = a} {m = m} 
     further g (λ height. form_within height nodes a ∷ []) head (items ++ ANode a ∷ []) tree.part m tree.is (λ height enough frames now l.
     one (form_within height nodes a) (at n head items frames now) (at n head (items ++ ANode a ∷ []) frames (now ++ tree.part))
     (tree_item (form_within height nodes a) kind a tree.part (tree.reads height enough) n head items frames now wants l))
+    (λ height other enough also_enough. ap (λ w. w ∷ []) (tree.steady height other enough also_enough))
 
 -- an item that is no tree
 pub then_word : {nodes : List Node} {n : ℕ} {first head : Head} {texts : ℕ → List (List ℕ)} {items : List Item} {a : ℕ} → Going nodes n first head texts items a
@@ -116,6 +127,7 @@ then_word {n = n} {head = head} {items = items} {a = a} g w new new_items reads 
     further g (λ _. w ∷ []) new new_items [] a done (λ height enough frames now l.
     subst (λ ns. Goes (behind_spaces (w ∷ [])) (at n head items frames now) (at n new new_items frames ns)) (sym (append-nil now))
     (one w (at n head items frames now) (at n new new_items frames now) (reads frames now)))
+    (λ height other enough also_enough. refl)
 
 -- the word `exit`
 exit_utf8 : IsUtf8 (codes "exit")
@@ -181,6 +193,26 @@ at_height nodes n node kind part has reads zero enough = let within : n < length
 at_height nodes n node kind part has reads (suc height) enough =
     subst (λ o. ReadsTree (form_of (form_within height nodes) o) kind n part) (sym has) (reads height (omega arith))
 
+-- its form at all heights that are enough
+steady_at : (nodes : List Node) (n : ℕ) (node : Node) (word : List ℕ) (texts : ℕ → List (List ℕ)) → Has nodes n node → ((height : ℕ) → written (form_within height nodes) node ≡ word ∷ texts height)
+    → ((height other : ℕ) → length nodes ≤ height + suc n → length nodes ≤ other + suc n → texts height ≡ texts other)
+    → (height other : ℕ) → length nodes ≤ height + n → length nodes ≤ other + n → form_within height nodes n ≡ form_within other nodes n
+steady_at nodes n node word texts has same steady zero other enough also_enough = let within : n < length nodes = slice_get_within nodes n node has in absurd (omega arith)
+steady_at nodes n node word texts has same steady (suc height) zero enough also_enough = let within : n < length nodes = slice_get_within nodes n node has in absurd (omega arith)
+steady_at nodes n node word texts has same steady (suc height) (suc other) enough also_enough =
+    ap (λ o. form_of (form_within height nodes) o) has
+    ∙ ap enclosed (same height ∙ ap (λ ts. word ∷ ts) (steady height other (omega arith) (omega arith)) ∙ sym (same other))
+    ∙ sym (ap (λ o. form_of (form_within other nodes) o) has)
+
+-- its form, by the forms of its parts
+prints_at : (nodes : List Node) (n : ℕ) (node : Node) (word : List ℕ) (texts : ℕ → List (List ℕ)) → Has nodes n node → ((height : ℕ) → written (form_within height nodes) node ≡ word ∷ texts height)
+    → ((height other : ℕ) → length nodes ≤ height + suc n → length nodes ≤ other + suc n → texts height ≡ texts other)
+    → (height : ℕ) → length nodes ≤ height + n → form_within height nodes n ≡ enclosed (written (form_within height nodes) node)
+prints_at nodes n node word texts has same steady zero enough = let within : n < length nodes = slice_get_within nodes n node has in absurd (omega arith)
+prints_at nodes n node word texts has same steady (suc height) enough =
+    ap (λ o. form_of (form_within height nodes) o) has
+    ∙ ap enclosed (same height ∙ ap (λ ts. word ∷ ts) (steady height (suc height) (omega arith) (omega arith)) ∙ sym (same (suc height)))
+
 pub node_read : {nodes : List Node} {n : ℕ} {kind : Kind} {word : List ℕ} {first head : Head} {texts : ℕ → List (List ℕ)} {items : List Item} {m : ℕ} (node : Node)
     → Has nodes n node → Begins kind word first → Going nodes n first head texts items m
     → ((frames : List Frame) (ns : List Node) → close_frame head n items frames ns ≡ close_in frames (ANode n) (slice_set ns n (node_of head items)))
@@ -191,4 +223,8 @@ node_read {nodes = nodes} {n = n} {kind = kind} {word = word} {first = first} {h
   reads = at_height nodes n node kind (node ∷ g.part) has (λ height enough.
       subst (λ ws. ReadsTree (enclosed ws) kind n (node ∷ g.part)) (sym (same height))
       (whole_form kind word first head (texts height) items n g.part node begins (g.reads height enough) is_node may_close made));
+  node = node;
+  has = has;
+  steady = steady_at nodes n node word texts has same g.steady;
+  prints = prints_at nodes n node word texts has same g.steady;
 }

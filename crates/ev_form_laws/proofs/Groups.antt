@@ -36,6 +36,7 @@ pub record RowRead (nodes : List Node) (kind : Kind) (starts : List ℕ) (n m : 
   pub grouped : (height : ℕ) → length nodes ≤ height + n → (frames : List Frame) (now : List Node) → length now ≡ n → (rest : List ℕ)
       → steps (chars (spaced (forms nodes height starts)) ++ 41 ∷ rest) (state (framed 0 (Group kind) [] frames) now grouping)
       ≡ steps (41 ∷ rest) (at 0 (Group kind) (map ANode starts) frames (now ++ part))
+  pub steady : (height other : ℕ) → length nodes ≤ height + n → length nodes ≤ other + n → forms nodes height starts ≡ forms nodes other starts
 
 pub empty_row : (nodes : List Node) (kind : Kind) (n : ℕ) → RowRead nodes kind [] n n
 empty_row nodes kind n = record {
@@ -45,6 +46,7 @@ empty_row nodes kind n = record {
       subst (λ ns. Goes [] (at number head items frames now) (at number head (items ++ []) frames ns)) (sym (append-nil now))
       (subst (λ is. Goes [] (at number head items frames now) (at number head is frames now)) (sym (append-nil items)) (goes_nowhere (at number head items frames now)));
   utf8 = λ height enough. IsUtf8-nil;
+  steady = λ height other enough also_enough. refl;
   grouped = λ height enough frames now l rest.
       ap (λ cs. steps (cs ++ 41 ∷ rest) (state (framed 0 (Group kind) [] frames) now grouping)) chars-nil
       ∙ ap (λ ns. steps (41 ∷ rest) (at 0 (Group kind) [] frames ns)) (sym (append-nil now));
@@ -85,6 +87,9 @@ longer_row {nodes = nodes} {kind = kind} {n = n} {a = a} {m = m} {starts = start
       (at number head (items ++ ANode n ∷ []) frames (now ++ tree.part)) (at number head (items ++ ANode n ∷ map ANode starts) frames (now ++ (tree.part ++ row.part)))
       (tree_item (form_within height nodes n) kind n tree.part (tree.reads height enough) number head items frames now (wants (length items) (omega arith)) l)
       (row_on nodes kind n a m starts tree row height enough number head items wants frames now l);
+  steady = λ height other enough also_enough.
+      ap (λ w. w ∷ forms nodes height starts) (tree.steady height other enough also_enough)
+      ∙ ap (λ ws. form_within other nodes n ∷ ws) (row.steady height other (deeper nodes tree.part n a height tree.is enough) (deeper nodes tree.part n a other tree.is also_enough));
   utf8 = λ height enough.
       IsUtf8-append (form_within height nodes n) (behind_spaces (forms nodes height starts)) (tree.reads height enough).utf8
       (row.reads height (deeper nodes tree.part n a height tree.is enough) 0 (Group kind) [] (wants_group kind 0) [] (replicate a no_node) (length-replicate a no_node)).utf8;
@@ -105,7 +110,7 @@ pub then_row : {nodes : List Node} {n : ℕ} {first head : Head} {texts : ℕ �
     → RowRead nodes kind starts a m → ((k : ℕ) → length items ≤ k → wanted head k ≡ Some (Tree kind))
     → Going nodes n first head (λ height. texts height ++ map (form_within height nodes) starts) (items ++ map ANode starts) m
 then_row {nodes = nodes} {n = n} {head = head} {items = items} {m = m} {starts = starts} g row wants =
-    further g (λ height. forms nodes height starts) head (items ++ map ANode starts) row.part m row.is (λ height enough frames now l. row.reads height enough n head items wants frames now l)
+    further g (λ height. forms nodes height starts) head (items ++ map ANode starts) row.part m row.is (λ height enough frames now l. row.reads height enough n head items wants frames now l) row.steady
 
 opens_group : (number : ℕ) (head : Head) (items : List Item) (frames : List Frame) (nodes : List Node) (kind : Kind) → wanted head (length items) ≡ Some (Grouped kind)
     → step 40 (state (framed number head items frames) nodes before) ≡ Some (state (framed 0 (Group kind) [] (framed number head items frames)) nodes grouping)
@@ -134,3 +139,4 @@ then_group {nodes = nodes} {n = n} {head = head} {items = items} {m = m} {kind =
     (opens_group n head items frames now kind wants)
     ∙ row.grouped height enough (framed n head items frames) now l rest
     ∙ reads_one 41 rest (at 0 (Group kind) (map ANode starts) (framed n head items frames) (now ++ row.part)) to (closes_group n head items frames (now ++ row.part) kind starts))))
+    (λ height other enough also_enough. ap (λ ws. enclosed ws ∷ []) (row.steady height other enough also_enough))

@@ -12,6 +12,7 @@ pub mod Literals
 pub mod ReadingTrees
 pub mod Undoing
 pub mod Shapes
+pub mod Writing
 pub mod Standing
 pub mod Stepping
 pub mod Reached

@@ -40,16 +40,16 @@ made_low false false true d p q r = absurd (cc)
 made_low false true z d p q r = absurd (cc)
 made_low true y z d p q r = absurd (cc)
 
-no_tens : (b : ℕ) → b < 16 → b / 16 ≡ 0
+pub no_tens : (b : ℕ) → b < 16 → b / 16 ≡ 0
 no_tens b h = omega arith
 
-units : (b : ℕ) → b < 16 → b % 16 ≡ b
+pub units : (b : ℕ) → b < 16 → b % 16 ≡ b
 units b h = omega arith
 
-one_ten : (b : ℕ) → 16 ≤ b → b < 32 → b / 16 ≡ 1
+pub one_ten : (b : ℕ) → 16 ≤ b → b < 32 → b / 16 ≡ 1
 one_ten b l h = omega arith
 
-high_units : (b : ℕ) → 16 ≤ b → b < 32 → b % 16 ≡ b - 16
+pub high_units : (b : ℕ) → 16 ≤ b → b < 32 → b % 16 ≡ b - 16
 high_units b l h = omega arith
 
 numbered_low : (b : ℕ) → b < 16 → eqb b 9 ≡ false → eqb b 10 ≡ false → eqb b 13 ≡ false → Numbered b

@@ -4,6 +4,7 @@ use Rattle.std.specs.Prelude.{bytes_eq}
 use Rattle.std.specs.List.{find}
 use Rattle.std.specs.Str.{IsUtf8}
 use Rattle.std.proofs.lemmas.Option.{same_Some}
+use Rattle.std.proofs.lemmas.Slice.Eq.{bytes_eq-Decides}
 use Rattle.ev_kernel.specs.declared.node.Literal.{Literal}
 use Rattle.ev_kernel.specs.declared.node.Node.{Node}
 use Rattle.ev_kernel.specs.declared.node.Node.TheVariants as node
@@ -19,6 +20,11 @@ use Rattle.ev_kernel.specs.declared.shape.Tail.TheVariants.{Many}
 use Rattle.ev_kernel.specs.Reading.{heads, head_of, fixed, tail, wanted, ends, numbers, node_of}
 use Rattle.ev_form_laws.specs.Trees.{Has, IsName, IsLiteral, Tree, Row, literal, noun, set, def, def_exit, call, sequence, choice, escape, escape_catch, try_catch, finally, hide, match_bind, object, method, matcher, final, final_guarded, variable, variable_guarded, any, any_guarded, list, via, named, unnamed, none, one_more}
 use Rattle.ev_form_laws.proofs.Going.{wants_more}
+use Rattle.std.specs.Prelude.{codes}
+use Rattle.ev_text.specs.Keywords.{printed_verb}
+use Rattle.ev_text.specs.Quoting.{quoted}
+use Rattle.ev_kernel.specs.Forms.{enclosed, spaced, items as written}
+use Rattle.ev_form_laws.proofs.Writing.{item_text, inner_words, word, Ready, gap_behind}
 use Rattle.ev_form_laws.proofs.Groups.{numbers_are}
 
 -- an item that is what is wanted; its nodes are those from the first number to before the second
@@ -98,26 +104,33 @@ pub data Of : Kind → Head → Type 0 where
   of_no_name : Of Naming head.NoName
   of_def_exit : Of Expression head.DefExit
 
--- what all shapes of these words have
-abbrev AllOf : (Head → Type 0) → List (List ℕ × Head) → Type 0
-AllOf P [] = Unit {0}
-AllOf P (entry ∷ entries) = P entry.1 × AllOf P entries
+-- a shape of this kind, whose word this is
+pub record Spelt (kind : Kind) (w : List ℕ) (shape : Head) : Type 0 where
+  pub of : Of kind shape
+  pub is : w ≡ word shape
+  pub ready : Ready shape []
 
-found_so : (P : Head → Type 0) (b : Bool) (entry : List ℕ × Head) (rest : Option (List ℕ × Head)) (shape : Head) → option_map (λ (x : List ℕ × Head). x.1) (cond b (Some entry) rest) ≡ Some shape
-    → P entry.1 → (option_map (λ (x : List ℕ × Head). x.1) rest ≡ Some shape → P shape) → P shape
-found_so P true entry rest shape e p later = subst P (same_Some entry.1 shape e) p
-found_so P false entry rest shape e p later = later e
+-- what all words have
+abbrev AllOf : Kind → List (List ℕ × Head) → Type 0
+AllOf kind [] = Unit {0}
+AllOf kind (entry ∷ entries) = Spelt kind entry.0 entry.1 × AllOf kind entries
 
-found_in : (P : Head → Type 0) (entries : List (List ℕ × Head)) (w : List ℕ) (shape : Head) → head_of entries w ≡ Some shape → AllOf P entries → P shape
-found_in P [] w shape e all = absurd (cc)
-found_in P (entry ∷ entries) w shape e all =
-    found_so P (bytes_eq w entry.0) entry (find (λ x. bytes_eq w x.0) entries) shape e all.0 (λ later. found_in P entries w shape later all.1)
+found_so : (kind : Kind) (w : List ℕ) (b : Bool) (entry : List ℕ × Head) (rest : Option (List ℕ × Head)) (shape : Head) → bytes_eq w entry.0 ≡ b → option_map (λ (x : List ℕ × Head). x.1) (cond b (Some entry) rest) ≡ Some shape
+    → Spelt kind entry.0 entry.1 → (option_map (λ (x : List ℕ × Head). x.1) rest ≡ Some shape → Spelt kind w shape) → Spelt kind w shape
+found_so kind w true entry rest shape same e p later =
+    subst (λ h. Spelt kind w h) (same_Some entry.1 shape e) (subst (λ v. Spelt kind v entry.1) (sym ((bytes_eq-Decides w entry.0).0 same)) p)
+found_so kind w false entry rest shape same e p later = later e
 
-pub of_word : (kind : Kind) (w : List ℕ) (shape : Head) → head_of (heads kind) w ≡ Some shape → Of kind shape
-of_word Expression w shape e = found_in (Of Expression) (heads Expression) w shape e (of_lit, (of_noun, (of_set, (of_def, (of_call, (of_seq, (of_if, (of_escape, (of_try, (of_finally, (of_hide, (of_match, (of_object, tt)))))))))))))
-of_word Pattern w shape e = found_in (Of Pattern) (heads Pattern) w shape e (of_final, (of_var, (of_any, (of_list, (of_via, tt)))))
-of_word Member w shape e = found_in (Of Member) (heads Member) w shape e (of_method, (of_matcher, tt))
-of_word Naming w shape e = found_in (Of Naming) (heads Naming) w shape e (of_final_name, (of_no_name, tt))
+found_in : (kind : Kind) (entries : List (List ℕ × Head)) (w : List ℕ) (shape : Head) → head_of entries w ≡ Some shape → AllOf kind entries → Spelt kind w shape
+found_in kind [] w shape e all = absurd (cc)
+found_in kind (entry ∷ entries) w shape e all =
+    found_so kind w (bytes_eq w entry.0) entry (find (λ x. bytes_eq w x.0) entries) shape refl e all.0 (λ later. found_in kind entries w shape later all.1)
+
+pub of_word : (kind : Kind) (w : List ℕ) (shape : Head) → head_of (heads kind) w ≡ Some shape → Spelt kind w shape
+of_word Expression w shape e = found_in Expression (heads Expression) w shape e (record { of = of_lit; is = refl; ready = tt }, (record { of = of_noun; is = refl; ready = tt }, (record { of = of_set; is = refl; ready = tt }, (record { of = of_def; is = refl; ready = tt }, (record { of = of_call; is = refl; ready = tt }, (record { of = of_seq; is = refl; ready = tt }, (record { of = of_if; is = refl; ready = tt }, (record { of = of_escape; is = refl; ready = tt }, (record { of = of_try; is = refl; ready = tt }, (record { of = of_finally; is = refl; ready = tt }, (record { of = of_hide; is = refl; ready = tt }, (record { of = of_match; is = refl; ready = tt }, (record { of = of_object; is = refl; ready = tt }, tt)))))))))))))
+of_word Pattern w shape e = found_in Pattern (heads Pattern) w shape e (record { of = of_final; is = refl; ready = tt }, (record { of = of_var; is = refl; ready = tt }, (record { of = of_any; is = refl; ready = tt }, (record { of = of_list; is = refl; ready = tt }, (record { of = of_via; is = refl; ready = tt }, tt)))))
+of_word Member w shape e = found_in Member (heads Member) w shape e (record { of = of_method; is = refl; ready = tt }, (record { of = of_matcher; is = refl; ready = tt }, tt))
+of_word Naming w shape e = found_in Naming (heads Naming) w shape e (record { of = of_final_name; is = refl; ready = tt }, (record { of = of_no_name; is = refl; ready = tt }, tt))
 
 -- a form whose items are all there is a tree
 pub closes : {nodes : List Node} {kind : Kind} {shape : Head} {items : List Item} {n m : ℕ} → Of kind shape → Fits nodes shape 0 items (suc n) m → ends shape (length items) ≡ true
@@ -211,7 +224,164 @@ closes of_final_name (also _ (also x _)) e has = elim x [ ]
 closes of_no_name no_more e has = unnamed has
 closes of_no_name (also x _) e has = elim x [ ]
 
+-- the words of trees alone
+row_words : (form : ℕ → List ℕ) (starts : List ℕ) → map (item_text form) (map ANode starts) ≡ map form starts
+row_words form [] = refl
+row_words form (n ∷ starts) = ap (λ ws. form n ∷ ws) (row_words form starts)
+
+row_text : {nodes : List Node} {items : List Item} {kind : Kind} {a m : ℕ} (form : ℕ → List ℕ) (r : RowOf nodes items kind a m) → map form (numbers items) ≡ map (item_text form) items
+row_text form r = ap (map form) (numbers_of r) ∙ sym (row_words form r.starts) ∙ sym (ap (map (item_text form)) r.are)
+
+-- a name is printed as it is
+name_prints : {w : List ℕ} → IsName w → w ≡ printed_verb w
+name_prints {w = w} is = sym (ap (λ b. cond b w (quoted w)) is.is_one)
+
+-- what is written of the node of a form's items
+pub written_words : {nodes : List Node} {kind : Kind} {shape : Head} {items : List Item} {n m : ℕ} (form : ℕ → List ℕ) → Of kind shape → Fits nodes shape 0 items n m → ends shape (length items) ≡ true
+    → written form (node_of shape items) ≡ inner_words shape (map (item_text form) items)
+written_words form of_lit no_more e = absurd (cc)
+written_words form of_lit (also (a_literal l0) no_more) e = refl
+written_words form of_lit (also _ (also x _)) e = elim x [ ]
+written_words form of_noun no_more e = absurd (cc)
+written_words form of_noun (also (a_name n0) no_more) e = ap (λ w. codes "noun" ∷ w ∷ []) (name_prints n0)
+written_words form of_noun (also _ (also x _)) e = elim x [ ]
+written_words form of_set no_more e = absurd (cc)
+written_words form of_set (also _ no_more) e = absurd (cc)
+written_words form of_set (also (a_name n0) (also (a_tree {a = n1} _) no_more)) e = ap (λ w. codes "set" ∷ w ∷ form n1 ∷ []) (name_prints n0)
+written_words form of_set (also _ (also _ (also x _))) e = elim x [ ]
+written_words form of_def no_more e = absurd (cc)
+written_words form of_def (also _ no_more) e = absurd (cc)
+written_words form of_def (also (a_tree t0) (also (a_tree t1) no_more)) e = refl
+written_words form of_def (also _ (also _ (also x _))) e = elim x [ ]
+written_words form of_def_exit no_more e = absurd (cc)
+written_words form of_def_exit (also _ no_more) e = absurd (cc)
+written_words form of_def_exit (also _ (also _ no_more)) e = absurd (cc)
+written_words form of_def_exit (also (a_tree t0) (also (a_tree t1) (also (a_tree t2) no_more))) e = refl
+written_words form of_def_exit (also _ (also _ (also _ (also x _)))) e = elim x [ ]
+written_words form of_call no_more e = absurd (cc)
+written_words form of_call (also _ no_more) e = absurd (cc)
+written_words form of_call (also (a_tree {a = a} t) (also (a_verb {w = verb} v) rest)) e =
+    ap (λ ws. codes "call" ∷ form a ∷ printed_verb verb ∷ ws) (row_text form (row_of Expression refl (omega arith) rest))
+written_words form of_seq no_more e = absurd (cc)
+written_words form of_seq (also (a_tree {a = a} t) rest) e = ap (λ ws. codes "seq" ∷ form a ∷ ws) (row_text form (row_of Expression refl (omega arith) rest))
+written_words form of_if no_more e = absurd (cc)
+written_words form of_if (also _ no_more) e = absurd (cc)
+written_words form of_if (also _ (also _ no_more)) e = absurd (cc)
+written_words form of_if (also (a_tree t0) (also (a_tree t1) (also (a_tree t2) no_more))) e = refl
+written_words form of_if (also _ (also _ (also _ (also x _)))) e = elim x [ ]
+written_words form of_escape no_more e = absurd (cc)
+written_words form of_escape (also _ no_more) e = absurd (cc)
+written_words form of_escape (also (a_tree t0) (also (a_tree t1) no_more)) e = refl
+written_words form of_escape (also _ (also _ (also _ no_more))) e = absurd (cc)
+written_words form of_escape (also (a_tree t0) (also (a_tree t1) (also (a_tree t2) (also (a_tree t3) no_more)))) e = refl
+written_words form of_escape (also _ (also _ (also _ (also _ (also x _))))) e = elim x [ ]
+written_words form of_try no_more e = absurd (cc)
+written_words form of_try (also _ no_more) e = absurd (cc)
+written_words form of_try (also _ (also _ no_more)) e = absurd (cc)
+written_words form of_try (also (a_tree t0) (also (a_tree t1) (also (a_tree t2) no_more))) e = refl
+written_words form of_try (also _ (also _ (also _ (also x _)))) e = elim x [ ]
+written_words form of_finally no_more e = absurd (cc)
+written_words form of_finally (also _ no_more) e = absurd (cc)
+written_words form of_finally (also (a_tree t0) (also (a_tree t1) no_more)) e = refl
+written_words form of_finally (also _ (also _ (also x _))) e = elim x [ ]
+written_words form of_hide no_more e = absurd (cc)
+written_words form of_hide (also (a_tree t0) no_more) e = refl
+written_words form of_hide (also _ (also x _)) e = elim x [ ]
+written_words form of_match no_more e = absurd (cc)
+written_words form of_match (also _ no_more) e = absurd (cc)
+written_words form of_match (also (a_tree t0) (also (a_tree t1) no_more)) e = refl
+written_words form of_match (also _ (also _ (also x _))) e = elim x [ ]
+written_words form of_object no_more e = absurd (cc)
+written_words form of_object (also _ no_more) e = absurd (cc)
+written_words form of_object (also (a_tree {a = a} t) (also (a_group {starts = auditors} g) rest)) e =
+    ap (λ ws. codes "object" ∷ form a ∷ enclosed (map form auditors) ∷ ws) (row_text form (row_of Member refl (omega arith) rest))
+written_words form of_method no_more e = absurd (cc)
+written_words form of_method (also _ no_more) e = absurd (cc)
+written_words form of_method (also _ (also _ no_more)) e = absurd (cc)
+written_words form of_method (also (a_verb v0) (also (a_group g1) (also (a_tree t2) no_more))) e = refl
+written_words form of_method (also _ (also _ (also _ (also x _)))) e = elim x [ ]
+written_words form of_matcher no_more e = absurd (cc)
+written_words form of_matcher (also _ no_more) e = absurd (cc)
+written_words form of_matcher (also (a_tree t0) (also (a_tree t1) no_more)) e = refl
+written_words form of_matcher (also _ (also _ (also x _))) e = elim x [ ]
+written_words form of_final no_more e = absurd (cc)
+written_words form of_final (also (a_name n0) no_more) e = ap (λ w. codes "final" ∷ w ∷ []) (name_prints n0)
+written_words form of_final (also (a_name n0) (also (a_tree {a = n1} _) no_more)) e = ap (λ w. codes "final" ∷ w ∷ form n1 ∷ []) (name_prints n0)
+written_words form of_final (also _ (also _ (also x _))) e = elim x [ ]
+written_words form of_var no_more e = absurd (cc)
+written_words form of_var (also (a_name n0) no_more) e = ap (λ w. codes "var" ∷ w ∷ []) (name_prints n0)
+written_words form of_var (also (a_name n0) (also (a_tree {a = n1} _) no_more)) e = ap (λ w. codes "var" ∷ w ∷ form n1 ∷ []) (name_prints n0)
+written_words form of_var (also _ (also _ (also x _))) e = elim x [ ]
+written_words form of_any no_more e = refl
+written_words form of_any (also (a_tree t0) no_more) e = refl
+written_words form of_any (also _ (also x _)) e = elim x [ ]
+written_words form of_list rest e = ap (λ ws. codes "list" ∷ ws) (row_text form (row_of Pattern refl (omega arith) rest))
+written_words form of_via no_more e = absurd (cc)
+written_words form of_via (also _ no_more) e = absurd (cc)
+written_words form of_via (also (a_tree t0) (also (a_tree t1) no_more)) e = refl
+written_words form of_via (also _ (also _ (also x _))) e = elim x [ ]
+written_words form of_final_name no_more e = absurd (cc)
+written_words form of_final_name (also (a_name n0) no_more) e = ap (λ w. codes "final" ∷ w ∷ []) (name_prints n0)
+written_words form of_final_name (also _ (also x _)) e = elim x [ ]
+written_words form of_no_name no_more e = refl
+written_words form of_no_name (also x _) e = elim x [ ]
+
 -- trees between brackets
 pub closes_row : {nodes : List Node} {kind : Kind} {items : List Item} {a m : ℕ} → Fits nodes (head.Group kind) 0 items a m → Row nodes kind (numbers items) a m
 closes_row {nodes = nodes} {kind = kind} {a = a} {m = m} fits =
     let r = row_of kind refl (omega arith) fits in subst (λ ns. Row nodes kind ns a m) (sym (numbers_of r)) r.row
+
+-- and their text
+pub group_words : {nodes : List Node} {kind : Kind} {items : List Item} {a m : ℕ} (form : ℕ → List ℕ) → Fits nodes (head.Group kind) 0 items a m → map (item_text form) items ≡ map form (numbers items)
+group_words {kind = kind} form fits = sym (row_text form (row_of kind refl (omega arith) fits))
+
+-- what a form begins with
+pub first_words : {kind : Kind} {shape : Head} → Of kind shape → spaced (inner_words shape []) ≡ word shape
+first_words of_lit = refl
+first_words of_noun = refl
+first_words of_set = refl
+first_words of_def = refl
+first_words of_call = refl
+first_words of_seq = refl
+first_words of_if = refl
+first_words of_escape = refl
+first_words of_try = refl
+first_words of_finally = refl
+first_words of_hide = refl
+first_words of_match = refl
+first_words of_object = refl
+first_words of_final = refl
+first_words of_var = refl
+first_words of_any = refl
+first_words of_list = refl
+first_words of_via = refl
+first_words of_method = refl
+first_words of_matcher = refl
+first_words of_final_name = refl
+first_words of_no_name = refl
+first_words of_def_exit = refl
+
+pub first_gap : {kind : Kind} {shape : Head} → Of kind shape → gap_behind (inner_words shape []) ≡ 32 ∷ []
+first_gap of_lit = refl
+first_gap of_noun = refl
+first_gap of_set = refl
+first_gap of_def = refl
+first_gap of_call = refl
+first_gap of_seq = refl
+first_gap of_if = refl
+first_gap of_escape = refl
+first_gap of_try = refl
+first_gap of_finally = refl
+first_gap of_hide = refl
+first_gap of_match = refl
+first_gap of_object = refl
+first_gap of_final = refl
+first_gap of_var = refl
+first_gap of_any = refl
+first_gap of_list = refl
+first_gap of_via = refl
+first_gap of_method = refl
+first_gap of_matcher = refl
+first_gap of_final_name = refl
+first_gap of_no_name = refl
+first_gap of_def_exit = refl

@@ -17,3 +17,7 @@ FormOfOneTree = (left right : List Node) → IsTree left → IsTree right → fo
 -- what is read of a text is a tree
 abbrev pub WhatIsReadIsATree : Type 0
 WhatIsReadIsATree = (text : List ℕ) (nodes : List Node) → IsUtf8 text → read text ≡ Ok nodes → IsTree nodes
+
+-- and its form is the text
+abbrev pub WhatIsReadPrintsTheSame : Type 0
+WhatIsReadPrintsTheSame = (text : List ℕ) (nodes : List Node) → IsUtf8 text → read text ≡ Ok nodes → form nodes 0 ≡ text

@@ -1,9 +1,8 @@
 -- Which lists of nodes are kernel trees, numbered in the order in which their forms begin.
-use Rattle.std.specs.Prelude.{◌≡◌, ℕ, suc, ◌<◌, ◌^◌, List, [], ◌∷◌, length, slice_get, Some, None, ℤ, pos, negsuc}
+use Rattle.std.specs.Prelude.{◌≡◌, ℕ, suc, ◌<◌, ◌^◌, true, List, [], ◌∷◌, length, slice_get, Some, None, ℤ, pos, negsuc}
 use Rattle.std.specs.Char.{IsScalar}
 use Rattle.std.specs.Str.{IsUtf8}
 use Rattle.ev_text.specs.Keywords.{is_identifier}
-use Rattle.std.specs.Prelude.{true}
 use Rattle.ev_kernel.specs.declared.node.Literal.{Literal}
 use Rattle.ev_kernel.specs.declared.node.Literal.TheVariants.{Int, Char, Text}
 use Rattle.ev_kernel.specs.declared.node.Node.{Node}
@@ -32,9 +31,11 @@ abbrev pub Has : List Node → ℕ → Node → Type 0
 Has nodes n node = slice_get nodes n ≡ Some node
 
 -- The nodes from the first number to before the second are one tree of this kind: its own node comes first, and behind it
--- its parts, one behind another in the order of its form. Where a part ends, the next one begins.
+-- its parts, one behind another in the order of its form. Where a part ends, the next one begins. So the first part of the
+-- node with the number n begins at n + 1, and the tree ends where its last part does.
 mutual
   pub data Tree (nodes : List Node) : Kind → ℕ → ℕ → Type 0 where
+    -- expressions
     literal : {n : ℕ} {l : Literal} → Has nodes n (Lit l) → IsLiteral l → Tree nodes Expression n (suc n)
     noun : {n : ℕ} {name : List ℕ} → Has nodes n (Noun name) → IsName name → Tree nodes Expression n (suc n)
     set : {n m : ℕ} {name : List ℕ} → Has nodes n (Set name (suc n)) → IsName name → Tree nodes Expression (suc n) m → Tree nodes Expression n m
@@ -57,9 +58,11 @@ mutual
     match_bind : {n a m : ℕ} → Has nodes n (MatchBind (suc n) a) → Tree nodes Expression (suc n) a → Tree nodes Pattern a m → Tree nodes Expression n m
     object : {n a b m : ℕ} {auditors members : List ℕ} → Has nodes n (Object (suc n) auditors members)
         → Tree nodes Naming (suc n) a → Row nodes Expression auditors a b → Row nodes Member members b m → Tree nodes Expression n m
+    -- members of an object
     method : {n a m : ℕ} {verb : List ℕ} {patterns : List ℕ} → Has nodes n (Method verb patterns a) → IsUtf8 verb
         → Row nodes Pattern patterns (suc n) a → Tree nodes Expression a m → Tree nodes Member n m
     matcher : {n a m : ℕ} → Has nodes n (Matcher (suc n) a) → Tree nodes Pattern (suc n) a → Tree nodes Expression a m → Tree nodes Member n m
+    -- patterns, without a guard and with one
     final : {n : ℕ} {name : List ℕ} → Has nodes n (Final name None) → IsName name → Tree nodes Pattern n (suc n)
     final_guarded : {n m : ℕ} {name : List ℕ} → Has nodes n (Final name (Some (suc n))) → IsName name → Tree nodes Expression (suc n) m → Tree nodes Pattern n m
     variable : {n : ℕ} {name : List ℕ} → Has nodes n (Var name None) → IsName name → Tree nodes Pattern n (suc n)

@@ -1,6 +1,6 @@
 //! What is read of the forms of trees.
 
-ghost use Rattle.ev_form_laws.specs.Laws.{FormOfOneTree, ReadingUndoesPrinting, WhatIsReadIsATree};
+ghost use Rattle.ev_form_laws.specs.Laws.{FormOfOneTree, ReadingUndoesPrinting, WhatIsReadIsATree, WhatIsReadPrintsTheSame};
 
 /// The form of a tree is read as that tree.
 #[tactic(auto, using(crate::proofs::Undoing::undoes))]
@@ -18,4 +18,10 @@ pub fn a_text_is_the_form_of_one_tree()
 #[tactic(auto, using(crate::proofs::Reached::read_is_tree))]
 pub fn what_is_read_is_a_tree()
     ensures { WhatIsReadIsATree }
+{}
+
+/// The form of what is read of a text is that text.
+#[tactic(auto, using(crate::proofs::Reached::read_is_printed))]
+pub fn what_is_read_prints_the_same()
+    ensures { WhatIsReadPrintsTheSame }
 {}
