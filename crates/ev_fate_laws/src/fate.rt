@@ -42,8 +42,8 @@ pub fn runs_stay_well()
 ///
 /// It asks what `steps_keep_places` asks of the state, and that views end: from each name the vat
 /// comes, by no more views than it knows names, to one that is not viewed. A value is known that is
-/// data, an object, or a name among those that the vat knows. That every value which a vat has in
-/// hand is known, and that views end, is not proved of runs.
+/// data, an object, or a name among those that the vat knows. `steps_find_places` of
+/// `ev_whole_fate_laws` says it of every step of a run.
 pub fn sends_find_places()
     ensures { SendsFindPlaces }
 {}

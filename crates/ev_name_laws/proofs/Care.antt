@@ -3,11 +3,11 @@ use Rattle.std.proofs.Common.{ℕ, zero, suc, ◌-◌, Bool, true, false, List, 
 use Rattle.std.specs.Prelude.{nat_le}
 use Rattle.ev_machine.specs.Values.{Words, Value, Null, Flag, Number, Text, Prim, Broken, Items, Ref, Naming, IsOwn, IsAnswer, IsGift, IsSent}
 use Rattle.ev_machine.specs.State.{Bound, Scope, Cell, View, Thing, Made, Ejector, Audition, Resolver, Message, Standing, Unsettled, WaitsOn, Viewed, Settled, Known, Change, Hold, Wait, WaitOn, See, React, ToTell, Settle, Passed, Passeds, Note, Put, GiftEntry, Happened, Took, Called, Back, Thrown, Left, Got, SlotMade, SlotRead, SlotWrote, ListMade, EjectorMade, AuditionMade, PromiseMade, ObjectMade, Sends, Reacts, Finished, Threw, Lost, Posted, Vat, Stop, Done, Gives, Throws, Ejects, Stops, Act, ◌>>=◌, ◌>>◌, and_then, for_some, end_by, ending, each, give, throw, stop, eject, look, tell, spend, spent, new_activation, new_thing, kill, change, dead, new_slot, holding, write_slot, new_list, enqueue, send_out, new_gift, with_opened, open_gift, is_gift, mark, draws, with_change, changed, changed_to, unless_settled, alter, come, new_promise, new_message, draw, begun}
-use Rattle.ev_machine.specs.Refs.{Place, Parcel}
+use Rattle.ev_machine.specs.Refs.{Place, Parcel, spotted}
 use Rattle.ev_machine.specs.Native.{Reply}
 use Rattle.ev_machine.specs.Scopes.{Answer, Answers}
-use Rattle.ev_name_laws.specs.Names.{Bit, Named, Mail, Drew, AllOf, ValueOk, ValuesOk, NameOk, MessageOk, KnownOk, CellOk, ThingOk, PutOk, GiftOk, Parts}
-use Rattle.ev_name_laws.proofs.Facts.{all_map, all_end, ChangeOk, values_up, message_up, known_up, cell_up, thing_up, note_up, gift_up, Fact, Nothing, Also, IsName, IsMail, IsDraw, IsValue, AreValues, IsBound, AreNouns, IsMessage, AreKnown, IsGiftEntry, AreGifts, IsPlace, IsThing, IsView, IsChange, MayValue, MayCell, MayThing, MayKnown, MayGift, IsReply, DoesPass, DoAllPass, NoteDoes, scope, answer, answers, parcel, new_names, nothing, Holds, holds_up}
+use Rattle.ev_name_laws.specs.Names.{Bit, Named, Mail, Drew, At, Off, AllOf, ValueOk, ValuesOk, NameOk, MessageOk, KnownOk, CellOk, ThingOk, PutOk, GiftOk, Parts}
+use Rattle.ev_name_laws.proofs.Facts.{all_map, all_end, ChangeOk, PlaceOk, put_up, values_up, message_up, known_up, cell_up, thing_up, gift_up, Fact, Nothing, Also, IsName, IsMail, IsDraw, IsVat, IsOff, NoteGoes, IsValue, AreValues, IsBound, AreNouns, IsMessage, AreKnown, IsGiftEntry, AreGifts, IsPlace, IsThing, IsView, IsChange, MayValue, MayCell, MayThing, MayKnown, MayGift, IsReply, DoesPass, DoAllPass, NoteDoes, scope, answer, answers, parcel, new_names, nothing, Holds, holds_up}
 
 -- a line that tells of no message
 abbrev pub TellsOfNone : {N : Type 0} → Happened N → Type 0
@@ -26,6 +26,9 @@ pub record Care (N : Type 0) : Type 1 where
   pub same : (s : Vat N) → rel s s
   pub trans : (s t u : Vat N) → rel s t → rel t u → rel s u
   pub up : (s t : Vat N) → rel s t → (b : Bit N) → ok s b → ok t b
+  -- the vat itself is one, and another one is one
+  pub here : (s : Vat N) → more s → ok s (At s.number)
+  pub near : (s : Vat N) (h : ℕ) → ok s (Off h) → ok s (At h)
   pub fuel : (s : Vat N) (n : ℕ) → rel s (record s { fuel = s.fuel - n }) × (more s → more (record s { fuel = s.fuel - n }))
   pub told : (s : Vat N) (e : Happened N) → TellsOfNone e → rel s (record s { happened = s.happened ++ e ∷ [] }) × (more s → more (record s { happened = s.happened ++ e ∷ [] }))
   pub activations : (s : Vat N) → rel s (record s { activations = suc s.activations }) × (more s → more (record s { activations = suc s.activations }))
@@ -40,7 +43,13 @@ abbrev pub ViewsNone : {N : Type 0} → Change N → Type 0
 ViewsNone (See q) = ⊥
 ViewsNone _ = Unit {0}
 
+-- A name in hand that is of another host is of another vat.
+pub record Spots {N W : Type 0} (K : Naming N W) (S : Care N) : Type 0 where
+  pub placed : (s : Vat N) → S.more s → (n : N) → S.ok s (Named n) → PlaceOk (S.ok s) (spotted K s n (K.spot n))
+
+-- and that each other change is so, but views
 pub record Under {N W : Type 0} (K : Naming N W) (S : Care N) : Type 0 where
+  pub spots : Spots K S
   pub object : (s : Vat N) (i : ℕ) → S.ok s (Named (K.object i))
   pub happened : (s : Vat N) (e : Happened N) → S.rel s (record s { happened = s.happened ++ e ∷ [] }) × (S.more s → S.more (record s { happened = s.happened ++ e ∷ [] }))
   pub queue : (s : Vat N) (m : Message N) → S.rel s (record s { queue = s.queue ++ m ∷ [] }) × (S.more s → S.more (record s { queue = s.queue ++ m ∷ [] }))
@@ -50,10 +59,10 @@ pub record Under {N W : Type 0} (K : Naming N W) (S : Care N) : Type 0 where
   pub noticed : (s : Vat N) (w : ℕ) → S.rel s (record s { noticed = s.noticed ++ w ∷ [] }) × (S.more s → S.more (record s { noticed = s.noticed ++ w ∷ [] }))
   pub drawn : (s : Vat N) (w : ℕ) → S.rel s (record s { drawn = s.drawn ++ w ∷ [] }) × (S.more s → S.more (record s { drawn = s.drawn ++ w ∷ [] })) × S.ok (record s { drawn = s.drawn ++ w ∷ [] }) (Drew (length s.drawn))
   pub altered : (s : Vat N) (c : Change N) (n : N) → ViewsNone c → ChangeOk (S.ok s) c → S.rel s (record s { known = with_change K c n s.known }) × (S.more s → S.more (record s { known = with_change K c n s.known }))
-  pub answered : (s : Vat N) (h : ℕ) (m : N) → S.ok s (Mail m)
+  pub answered : (s : Vat N) (h : ℕ) (m : N) → S.ok s (Mail m) → S.ok s (At h)
       → S.rel s (record s { known = s.known ++ begun (K.made (IsAnswer h m) (length s.known)) h ∷ [] }) × (S.more s → S.more (record s { known = s.known ++ begun (K.made (IsAnswer h m) (length s.known)) h ∷ [] }))
       × S.ok (record s { known = s.known ++ begun (K.made (IsAnswer h m) (length s.known)) h ∷ [] }) (Named (K.made (IsAnswer h m) (length s.known)))
-  pub given : (s : Vat N) (h i : ℕ) → S.ok s (Drew i)
+  pub given : (s : Vat N) (h i : ℕ) → S.ok s (Drew i) → S.ok s (At h)
       → S.rel s (record s { known = s.known ++ begun (K.made (IsGift h i) (length s.known)) h ∷ [] }) × (S.more s → S.more (record s { known = s.known ++ begun (K.made (IsGift h i) (length s.known)) h ∷ [] }))
       × S.ok (record s { known = s.known ++ begun (K.made (IsGift h i) (length s.known)) h ∷ [] }) (Named (K.made (IsGift h i) (length s.known)))
 
@@ -61,7 +70,7 @@ pub record Under {N W : Type 0} (K : Naming N W) (S : Care N) : Type 0 where
 pub record Makes {N W : Type 0} (K : Naming N W) (S : Care N) : Type 0 where
   pub promised : (s : Vat N) → let t = record s { promises = suc s.promises; known = s.known ++ begun (K.made (IsOwn s.promises) (length s.known)) s.number ∷ [] } in
       S.rel s t × (S.more s → S.more t) × S.ok t (Named (K.made (IsOwn s.promises) (length s.known)))
-  pub messaged : (s : Vat N) (h : ℕ) → let id = K.mailed (IsSent s.messages) (length s.mails) in let a = K.made (IsAnswer h id) (length s.known) in let t = record s { messages = suc s.messages; mails = s.mails ++ id ∷ []; known = s.known ++ begun a h ∷ [] } in
+  pub messaged : (s : Vat N) (h : ℕ) → S.ok s (At h) → let id = K.mailed (IsSent s.messages) (length s.mails) in let a = K.made (IsAnswer h id) (length s.known) in let t = record s { messages = suc s.messages; mails = s.mails ++ id ∷ []; known = s.known ++ begun a h ∷ [] } in
       S.rel s t × (S.more s → S.more t) × S.ok t (Mail id) × S.ok t (Named a)
 
 pub parts_up : {N : Type 0} (P Q : Bit N → Type 0) → ((b : Bit N) → P b → Q b) → (ts : List (Thing N)) (cs : List (Cell N)) (ls : List (List (Value N))) (ms : List (Message N)) (ks : List (Known N)) (gs : List (GiftEntry N)) (ps : List (Put N))
@@ -73,7 +82,7 @@ parts_up P Q up ts cs ls ms ks gs ps h = record {
   queue = all_map (message_up P Q up) ms h.queue;
   known = all_map (known_up P Q up) ks h.known;
   gifts = all_map (gift_up P Q up) gs h.gifts;
-  outbox = all_map (λ p. note_up P Q up p.note) ps h.outbox;
+  outbox = all_map (put_up P Q up) ps h.outbox;
 }
 
 pub record Sound {N : Type 0} (S : Care N) (s : Vat N) : Type 0 where
@@ -178,6 +187,9 @@ module _ {N : Type 0} (S : Care N) where
 
   pub got_audition : (C : Fact N) (b : Bool) (x : View N) → Gets C (IsView x) → Gets C (IsThing (Audition b x))
   got_audition C b x g = record { at = λ s h. g.at s h }
+
+  pub got_vat : (C : Fact N) (h : ℕ) → Gets C (IsOff h) → Gets C (IsVat h)
+  got_vat C h g = record { at = λ s c. S.near s h (g.at s c) }
 
   -- ---- one thing after another
 
@@ -410,6 +422,9 @@ module _ {N : Type 0} (S : Care N) where
   pub then_answer : {B : Type 0} {C : Fact N} {m : Act N (Answer N)} {n : Act N B} {H : B → Fact N} → Fine C m answer → Fine C n H → Fine C (m >> n) H
   then_answer h k = fine_then answer h k
 
+  pub bind_vat : {B : Type 0} {C : Fact N} {m : Act N ℕ} {f : ℕ → Act N B} {H : B → Fact N} → Fine C m IsVat → ((a : ℕ) → Fine (Also C (IsVat a)) (f a) H) → Fine C (m >>= f) H
+  bind_vat h k = fine_bind IsVat h k
+
   pub bind_number : {B : Type 0} {C : Fact N} {m : Act N ℕ} {f : ℕ → Act N B} {H : B → Fact N} → Fine C m nothing → ((a : ℕ) → Fine C (f a) H) → Fine C (m >>= f) H
   bind_number h k = fine_less nothing h k
 
@@ -509,11 +524,11 @@ module _ {N W : Type 0} (K : Naming N W) (S : Care N) (law : Under K S) where
         (r.0, record { parts = record { things = p.things; slots = p.slots; lists = p.lists; queue = all_end (MessageOk (S.ok t)) s.queue m p.queue (rise S s t r.0 (IsMessage m) (g.at s c)); known = p.known; gifts = p.gifts; outbox = p.outbox }; more = r.1 h.more }, tt);
   }
 
-  pub fine_out : {C : Fact N} (to : ℕ) (n : Note N) → Gets S C (NoteDoes n) → Fine S C (send_out to n) nothing
+  pub fine_out : {C : Fact N} (to : ℕ) (n : Note N) → Gets S C (NoteDoes n) → Gets S C (NoteGoes to n) → Fine S C (send_out to n) nothing
   unfolding send_out
-  fine_out to n g = record {
-    after = λ s h c. let q : Put N = record { to = to; note = n } in let r = law.outbox s q (g.at s c) in let t = record s { outbox = s.outbox ++ q ∷ [] } in let p = still S s t r.0 h in
-        (r.0, record { parts = record { things = p.things; slots = p.slots; lists = p.lists; queue = p.queue; known = p.known; gifts = p.gifts; outbox = all_end (PutOk (S.ok t)) s.outbox q p.outbox (rise S s t r.0 (NoteDoes n) (g.at s c)) }; more = r.1 h.more }, tt);
+  fine_out to n g k = record {
+    after = λ s h c. let q : Put N = record { to = to; note = n } in let r = law.outbox s q (g.at s c, k.at s c) in let t = record s { outbox = s.outbox ++ q ∷ [] } in let p = still S s t r.0 h in
+        (r.0, record { parts = record { things = p.things; slots = p.slots; lists = p.lists; queue = p.queue; known = p.known; gifts = p.gifts; outbox = all_end (PutOk (S.ok t)) s.outbox q p.outbox (rise S s t r.0 (NoteDoes n) (g.at s c), rise S s t r.0 (NoteGoes to n) (k.at s c)) }; more = r.1 h.more }, tt);
   }
 
   pub fine_gift : {C : Fact N} (n : N) (p i : ℕ) → Gets S C (IsName n) → Gets S C (IsDraw i) → Fine S C (new_gift n p i) nothing
@@ -612,27 +627,27 @@ module _ {N W : Type 0} (K : Naming N W) (S : Care N) (law : Under K S) where
   with_known s t n w r g h = let p = still S s t r h in
       record { things = p.things; slots = p.slots; lists = p.lists; queue = p.queue; known = all_end (KnownOk (S.ok t)) s.known (begun n w) p.known (begun_ok (S.ok t) n w g); gifts = p.gifts; outbox = p.outbox }
 
-  pub come_answer : {C : Fact N} (h : ℕ) (m : N) → Gets S C (IsMail m) → Fine S C (come K (IsAnswer h m) h) IsName
+  pub come_answer : {C : Fact N} (h : ℕ) (m : N) → Gets S C (IsMail m) → Gets S C (IsVat h) → Fine S C (come K (IsAnswer h m) h) IsName
   unfolding come
-  come_answer w m g = record { after = λ s h c. let r = law.answered s w m (g.at s c) in (r.0, record { parts = with_known s _ _ w r.0 r.2 h; more = r.1 h.more }, r.2) }
+  come_answer w m g k = record { after = λ s h c. let r = law.answered s w m (g.at s c) (k.at s c) in (r.0, record { parts = with_known s _ _ w r.0 r.2 h; more = r.1 h.more }, r.2) }
 
-  pub come_gift : {C : Fact N} (h i : ℕ) → Gets S C (IsDraw i) → Fine S C (come K (IsGift h i) h) IsName
+  pub come_gift : {C : Fact N} (h i : ℕ) → Gets S C (IsDraw i) → Gets S C (IsVat h) → Fine S C (come K (IsGift h i) h) IsName
   unfolding come
-  come_gift w i g = record { after = λ s h c. let r = law.given s w i (g.at s c) in (r.0, record { parts = with_known s _ _ w r.0 r.2 h; more = r.1 h.more }, r.2) }
+  come_gift w i g k = record { after = λ s h c. let r = law.given s w i (g.at s c) (k.at s c) in (r.0, record { parts = with_known s _ _ w r.0 r.2 h; more = r.1 h.more }, r.2) }
 
 module _ {N W : Type 0} (K : Naming N W) (S : Care N) (law : Under K S) (makes : Makes K S) where
   pub fine_promise : {C : Fact N} → Fine S C (new_promise K) IsName
   unfolding new_promise
   fine_promise = record { after = λ s h c. let r = makes.promised s in (r.0, record { parts = with_known K S law s _ _ s.number r.0 r.2 h; more = r.1 h.more }, r.2) }
 
-  pub fine_new_message : {C : Fact N} (h : ℕ) → Fine S C (new_message K h) new_names
+  pub fine_new_message : {C : Fact N} (h : ℕ) → Gets S C (IsVat h) → Fine S C (new_message K h) new_names
   unfolding new_message
-  fine_new_message w = record { after = λ s h c. let r = makes.messaged s w in (r.0, record { parts = with_known K S law s _ _ w r.0 r.3 h; more = r.1 h.more }, (r.2, r.3)) }
+  fine_new_message w g = record { after = λ s h c. let r = makes.messaged s w (g.at s c) in (r.0, record { parts = with_known K S law s _ _ w r.0 r.3 h; more = r.1 h.more }, (r.2, r.3)) }
 
-pub ruleset gets = (got, got_left, got_right, got_itself, got_both, got_nothing, got_null, got_flag, got_number, got_text, got_prim, got_broken, got_items, got_ref, got_none, got_more, got_message, got_hold, got_react, got_settle, got_wait, got_wait_on, got_to_tell, got_ejector, got_resolver, got_audition)
+pub ruleset gets = (got, got_vat, got_left, got_right, got_itself, got_both, got_nothing, got_null, got_flag, got_number, got_text, got_prim, got_broken, got_items, got_ref, got_none, got_more, got_message, got_hold, got_react, got_settle, got_wait, got_wait_on, got_to_tell, got_ejector, got_resolver, got_audition)
 
 -- what touches no message and nothing that is known
-pub ruleset quiet = (gets, then_unit, then_number, then_value, then_answer, bind_number, bind_draw, bind_name, bind_names, bind_flag, bind_place, bind_standing, bind_gifts, bind_gift, bind_knowns, bind_value, bind_values, bind_scope, bind_answer, bind_answers, bind_may_value, bind_may_cell, bind_may_thing, bind_may_known, bind_reply, bind_bound, bind_passed, bind_passeds, bind_parcel, end_value, end_scope, end_answer, fine_some, fine_if, fine_give, fine_throw, fine_eject, fine_stop, fine_look, fine_spend, fine_activation, fine_thing, fine_kill, fine_slot, fine_write, fine_list, fine_each)
+pub ruleset quiet = (gets, then_unit, then_number, then_value, then_answer, bind_vat, bind_number, bind_draw, bind_name, bind_names, bind_flag, bind_place, bind_standing, bind_gifts, bind_gift, bind_knowns, bind_value, bind_values, bind_scope, bind_answer, bind_answers, bind_may_value, bind_may_cell, bind_may_thing, bind_may_known, bind_reply, bind_bound, bind_passed, bind_passeds, bind_parcel, end_value, end_scope, end_answer, fine_some, fine_if, fine_give, fine_throw, fine_eject, fine_stop, fine_look, fine_spend, fine_activation, fine_thing, fine_kill, fine_slot, fine_write, fine_list, fine_each)
 
 -- and lines that tell of no message
 pub ruleset quiet_told = (quiet, told_called, told_back, told_thrown, told_left, told_got, told_slot_made, told_slot_read, told_slot_wrote, told_list_made, told_ejector_made, told_audition_made, told_promise_made, told_object_made, told_finished, told_threw)

@@ -1,8 +1,8 @@
 -- Facts on the names that occur in what a vat has.
 use Rattle.std.proofs.Common.{ℕ, List, [], ◌∷◌, ◌++◌, Option, Some, None}
 use Rattle.ev_machine.specs.Values.{Value, Null, Flag, Number, Letter, Text, Prim, Broken, Items, Ref, Coming, IsRoot, IsOwn, IsAnswer, IsGift, IsLearnt}
-use Rattle.ev_machine.specs.State.{Bound, Fixed, Slot, Binding, Scope, Cell, Freedom, IsSafe, IsItself, IsFinal, IsVar, View, Thing, Made, Ejector, Audition, Resolver, Message, Standing, Unsettled, WaitsOn, Viewed, Settled, Known, Change, Hold, Wait, WaitOn, See, React, ToTell, Settle, Passed, Passeds, Plain, AGift, Many, NoMore, More, Note, Deliver, Open, Ask, SettledTo, Elsewhere, Shorten, GiftEntry}
-use Rattle.ev_name_laws.specs.Names.{Bit, Named, Mail, Drew, AllOf, ValueOk, ValuesOk, NameOk, MessageOk, StandingOk, KnownOk, CellOk, FreedomOk, ViewOk, BoundOk, NounOk, ThingOk, PassedOk, PassedsOk, NoteOk, GiftOk}
+use Rattle.ev_machine.specs.State.{Bound, Fixed, Slot, Binding, Scope, Cell, Freedom, IsSafe, IsItself, IsFinal, IsVar, View, Thing, Made, Ejector, Audition, Resolver, Message, Standing, Unsettled, WaitsOn, Viewed, Settled, Known, Change, Hold, Wait, WaitOn, See, React, ToTell, Settle, Passed, Passeds, Plain, AGift, Many, NoMore, More, Note, Deliver, Open, Ask, SettledTo, Elsewhere, Shorten, Put, GiftEntry}
+use Rattle.ev_name_laws.specs.Names.{Bit, Named, Mail, Drew, At, Off, AllOf, ValueOk, ValuesOk, NameOk, MessageOk, StandingOk, KnownOk, CellOk, FreedomOk, ViewOk, BoundOk, NounOk, ThingOk, PassedOk, PassedsOk, NoteOk, GoesOk, PutOk, GiftOk}
 use Rattle.ev_machine.specs.Refs.{Place, Near, Mine, Away, Gone, Parcel}
 use Rattle.ev_machine.specs.Native.{Reply, Says, Writes, Lists as Listed, Iterates, Fails, Asked, MakesList, Ranges, Same, Compares, Loops, SendsTo, CallsTo, MakesPromise, Breaks, Tells, Whens, ThrowsIt, IsStamped, Coerces, AddsNull, NoMethod}
 use Rattle.ev_machine.specs.Scopes.{Answer, Answers, AuditionAsk, GetsForm, GetsGuard, Asks, NoAuditionAsk, ResolverAsk, Resolves, Smashes, NoResolverAsk}
@@ -31,7 +31,7 @@ module _ {N : Type 0} (P : Bit N → Type 0) where
   abbrev pub PlaceOk : Place N → Type 0
   PlaceOk Near = Unit {0}
   PlaceOk (Mine n) = P (Named n)
-  PlaceOk (Away h n o) = P (Named n)
+  PlaceOk (Away h n o) = P (Named n) × P (Off h)
   PlaceOk (Gone p) = Unit {0}
 
   abbrev pub ChangeOk : Change N → Type 0
@@ -94,6 +94,8 @@ pub data Fact (N : Type 0) : Type 0 where
   IsName : N → Fact N
   IsMail : N → Fact N
   IsDraw : ℕ → Fact N
+  IsVat : ℕ → Fact N
+  IsOff : ℕ → Fact N
   AreNames : List N → Fact N
   IsValue : Value N → Fact N
   AreValues : List (Value N) → Fact N
@@ -124,6 +126,7 @@ pub data Fact (N : Type 0) : Type 0 where
   DoesPass : Passed N → Fact N
   DoAllPass : Passeds N → Fact N
   NoteDoes : Note N → Fact N
+  NoteGoes : ℕ → Note N → Fact N
 
 -- what each kind of outcome is known to be
 abbrev pub scope : {N : Type 0} → Scope N → Fact N
@@ -151,6 +154,8 @@ module _ {N : Type 0} (P : Bit N → Type 0) where
   Holds (IsName n) = P (Named n)
   Holds (IsMail n) = P (Mail n)
   Holds (IsDraw i) = P (Drew i)
+  Holds (IsVat h) = P (At h)
+  Holds (IsOff h) = P (Off h)
   Holds (AreNames ns) = AllOf (NameOk P) ns
   Holds (IsValue v) = ValueOk P v
   Holds (AreValues vs) = ValuesOk P vs
@@ -181,6 +186,7 @@ module _ {N : Type 0} (P : Bit N → Type 0) where
   Holds (DoesPass y) = PassedOk P y
   Holds (DoAllPass ys) = PassedsOk P ys
   Holds (NoteDoes n) = NoteOk P n
+  Holds (NoteGoes to n) = GoesOk P to n
 
 -- what holds of names that are so holds where more are
 module _ {N : Type 0} (P Q : Bit N → Type 0) (up : (b : Bit N) → P b → Q b) where
@@ -238,7 +244,7 @@ module _ {N : Type 0} (P Q : Bit N → Type 0) (up : (b : Bit N) → P b → Q b
   mutual
     pub passed_up : (y : Passed N) → PassedOk P y → PassedOk Q y
     passed_up (Plain y) h = value_up y h
-    passed_up (AGift w i) h = up (Drew i) h
+    passed_up (AGift w i) h = (up (At w) h.0, up (Drew i) h.1)
     passed_up (Many ys) h = passeds_up ys h
 
     pub passeds_up : (ys : Passeds N) → PassedsOk P ys → PassedsOk Q ys
@@ -250,8 +256,19 @@ module _ {N : Type 0} (P Q : Bit N → Type 0) (up : (b : Bit N) → P b → Q b
   note_up (Open i n) h = (up (Drew i) h.0, up (Named n) h.1)
   note_up (Ask p i n) h = (up (Drew i) h.0, up (Named n) h.1)
   note_up (SettledTo n y) h = (up (Named n) h.0, passed_up y h.1)
-  note_up (Elsewhere n c) h = up (Named n) h
+  note_up (Elsewhere n c) h = (up (Named n) h.0, up (At c) h.1)
   note_up (Shorten n c i) h = (up (Named n) h.0, up (Drew i) h.1)
+
+  pub goes_up : (to : ℕ) (n : Note N) → GoesOk P to n → GoesOk Q to n
+  goes_up to (Deliver m n verb ys) h = up (Off to) h
+  goes_up to (Open i n) h = tt
+  goes_up to (Ask p i n) h = tt
+  goes_up to (SettledTo n y) h = tt
+  goes_up to (Elsewhere n c) h = tt
+  goes_up to (Shorten n c i) h = tt
+
+  pub put_up : (p : Put N) → PutOk P p → PutOk Q p
+  put_up p h = (note_up p.note h.0, goes_up p.to p.note h.1)
 
   pub gift_up : (g : GiftEntry N) → GiftOk P g → GiftOk Q g
   gift_up g h = (up (Named g.name) h.0, up (Drew g.number) h.1)
@@ -259,7 +276,7 @@ module _ {N : Type 0} (P Q : Bit N → Type 0) (up : (b : Bit N) → P b → Q b
   place_up : (p : Place N) → PlaceOk P p → PlaceOk Q p
   place_up Near h = tt
   place_up (Mine n) h = up (Named n) h
-  place_up (Away w n o) h = up (Named n) h
+  place_up (Away w n o) h = (up (Named n) h.0, up (Off w) h.1)
   place_up (Gone t) h = tt
 
   change_up : (c : Change N) → ChangeOk P c → ChangeOk Q c
@@ -313,6 +330,8 @@ module _ {N : Type 0} (P Q : Bit N → Type 0) (up : (b : Bit N) → P b → Q b
   holds_up (IsName n) h = up (Named n) h
   holds_up (IsMail n) h = up (Mail n) h
   holds_up (IsDraw i) h = up (Drew i) h
+  holds_up (IsVat w) h = up (At w) h
+  holds_up (IsOff w) h = up (Off w) h
   holds_up (AreNames ns) h = all_map (λ n. up (Named n)) ns h
   holds_up (IsValue v) h = value_up v h
   holds_up (AreValues vs) h = values_up vs h
@@ -343,3 +362,4 @@ module _ {N : Type 0} (P Q : Bit N → Type 0) (up : (b : Bit N) → P b → Q b
   holds_up (DoesPass y) h = passed_up y h
   holds_up (DoAllPass ys) h = passeds_up ys h
   holds_up (NoteDoes n) h = note_up n h
+  holds_up (NoteGoes to n) h = goes_up to n h

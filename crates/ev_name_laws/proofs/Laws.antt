@@ -10,9 +10,10 @@ use Rattle.ev_machine_laws.specs.Breaks.{FarApart}
 use Rattle.ev_run.specs.Draws.{draw_word}
 use Rattle.ev_run_laws.proofs.BreakRuns.{severed_objects_run, followed_breaks_run}
 use Rattle.ev_name_laws.proofs.SameNames.{far_apart, at_all, eventual_spot, message_spot, kinds_apart}
+use Rattle.ev_name_laws.proofs.Facts.{all_map, note_up}
 use Rattle.ev_name_laws.proofs.Care.{parts_up}
 use Rattle.ev_name_laws.proofs.Among.{promises_at, messages_at}
-use Rattle.ev_name_laws.proofs.Run.{Had, VatStands, Stands, name_had, steps_stand, opened_stands}
+use Rattle.ev_name_laws.proofs.Run.{Had, Told, VatStands, Stands, name_had, steps_stand, opened_stands}
 
 pub in_runs : (P : World → Type 0) → ((script : Script) (w : World) → Stands script w → P w) → InRuns P
 in_runs P f script once = (
@@ -24,13 +25,13 @@ pub in_each : (P : World → ℕ → Vat Name → Type 0) → ((script : Script)
 in_each P f = in_runs (λ w. (v : ℕ) (s : Vat Name) → slice_get w.vats v ≡ Some s → P w v s) (λ script w h v s e. f script w v s e (h.vats v s e))
 
 pub names_made : NamesWereMade
-names_made = in_each _ (λ script w v s e h. parts_up (Had w s) (IsMade w.vats (length w.drawn)) (λ b i. i.0) s.things s.slots s.lists s.queue s.known s.gifts s.outbox h.parts)
+names_made = in_each _ (λ script w v s e h. parts_up (Had script w v s) (IsMade w.vats (length w.drawn)) (λ b i. i.0) s.things s.slots s.lists s.queue s.known s.gifts s.outbox h.parts)
 
 pub notes_made : NotesNameWhatWasMade
-notes_made = in_runs _ (λ script w h. h.links)
+notes_made = in_runs _ (λ script w h. all_map (λ l i. all_map (λ n j. note_up (Told script w) (IsMade w.vats (length w.drawn)) (λ b k. k.0) n j) l.notes i) w.links h.links)
 
 pub names_known : NamesAreKnown
-names_known = in_each _ (λ script w v s e h. parts_up (Had w s) (IsHad (names_in s.known) s.mails) (λ b i. i.1) s.things s.slots s.lists s.queue s.known s.gifts s.outbox h.parts)
+names_known = in_each _ (λ script w v s e h. parts_up (Had script w v s) (IsHad (names_in s.known) s.mails) (λ b i. i.1) s.things s.slots s.lists s.queue s.known s.gifts s.outbox h.parts)
 
 pub hosts_true : HostsAreTrue
 hosts_true = in_each _ (λ script w v s e h. h.kept.hosts)
@@ -43,7 +44,7 @@ own_known = in_each _ (λ script w v s e h. h.kept.own)
 
 -- what is known was made, so what is not made yet is not known
 known_made : (script : Script) (w : World) → Stands script w → (u : ℕ) (t : Vat Name) → slice_get w.vats u ≡ Some t → (n : Name) → IsAmong n (names_in t.known) → WasMade w.vats (length w.drawn) n
-known_made script w h u t e n a = (name_had (Had w t) t.known n (h.vats u t e).parts.known a).0
+known_made script w h u t e n a = (name_had (Had script w u t) t.known n (h.vats u t e).parts.known a).0
 
 no_less : (i j : ℕ) → i < j → j ≡ i → ⊥
 no_less i j h e = omega arith

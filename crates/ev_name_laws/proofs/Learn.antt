@@ -8,23 +8,27 @@ use Rattle.ev_machine.specs.Arrive as arrive
 use Rattle.ev_machine.specs.Arrive.{Incoming, Old, New}
 use Rattle.ev_run.specs.World as world
 use Rattle.ev_run.specs.World.{put_at, is_old, read_name, known_after}
-use Rattle.ev_name_laws.specs.Names.{IsEventual, IsMessageName, Bit, Named, Mail, Drew, IsAmong, promises_of, WasMade, IsMessageMade, IsMade, ValueOk, PassedOk, PassedsOk, NoteOk, names_in, IsKnownIn, IsPlain, KnownOk, Parts}
-use Rattle.ev_name_laws.proofs.Facts.{all_end, Fact, Nothing, Also, IsName, IsMail, IsDraw, IsValue, AreValues, nothing, Holds, holds_up}
-use Rattle.ev_name_laws.proofs.Care.{Sound, Ends, Gets, Fine, fine_give, parts_up, begun_ok, come_gift}
+use Rattle.ev_name_laws.specs.Names.{IsEventual, IsMessageName, Bit, Named, Mail, Drew, At, IsAmong, promises_of, WasMade, IsMessageMade, IsMade, ValueOk, PassedOk, PassedsOk, NoteOk, names_in, IsKnownIn, IsPlain, KnownOk, Parts}
+use Rattle.ev_name_laws.proofs.Facts.{all_end, Fact, Nothing, Also, IsName, IsMail, IsDraw, IsVat, IsValue, AreValues, nothing, Holds, holds_up}
+use Rattle.ev_name_laws.proofs.Care.{Sound, Ends, Gets, Fine, got, got_left, got_itself, got_ref, fine_give, parts_up, begun_ok, come_gift}
 use Rattle.ev_name_laws.proofs.CareArrive.{fine_ask_for, fine_make_list, fine_arrive_ask, fine_delivered, fine_opened, fine_went, fine_shortened}
 use Rattle.ev_name_laws.proofs.CareRefs.{fine_settle}
 use Rattle.ev_name_laws.proofs.Among.{among_more, among_last, among_or, among_is, names_end}
 use Rattle.ev_name_laws.proofs.SameNames.{new_eventual, false_true, old_known, new_unknown}
-use Rattle.ev_name_laws.proofs.Tracked.{IsTold, count_same, follows_trans, follows_known, kept_known, kept_mail, known_among, Ok, Goes, Onward, quiet, made_on, ok_on, tracked, tracked_under}
+use Rattle.ev_name_laws.proofs.Tracked.{IsTold, Marked, count_same, follows_trans, follows_known, kept_known, kept_mail, known_among, Ok, Goes, Onward, quiet, made_on, ok_on, tracked, tracked_under}
 use Rattle.ev_name_laws.proofs.TrackedViews.{tracked_views}
 
-module _ (news : Bool) (vats : List (Vat Name)) (v : ℕ) (q : Vat Name) (there : slice_get vats v ≡ Some q) (word : ℕ → ℕ) (us : List (Vat Name)) (d0 : ℕ) where
+module _ (news : Bool) (M : Marked) (vats : List (Vat Name)) (v : ℕ) (q : Vat Name) (there : slice_get vats v ≡ Some q) (here : M.mark (At v)) (word : ℕ → ℕ) (us : List (Vat Name)) (d0 : ℕ) where
+  -- what was made before, and is marked
+  abbrev pub Was : Bit Name → Type 0
+  Was b = IsMade us d0 b × M.mark b
+
   abbrev pub Good : Vat Name → Bit Name → Type 0
-  Good s b = Ok news vats v q there s b
+  Good s b = Ok news M vats v q there here s b
 
   -- whatever comes to be known
   abbrev pub Grew : Vat Name → Vat Name → Type 0
-  Grew s t = Onward news vats v q there (λ n. ⊥) s t
+  Grew s t = Onward news M vats v q there here (λ n. ⊥) s t
 
   -- The names read so far are known, and so is each promise of the vat's own that a note may name; of what is told no more is known.
   pub record Knows (ks : List Name) (s : Vat Name) : Type 0 where
@@ -34,48 +38,48 @@ module _ (news : Bool) (vats : List (Vat Name)) (v : ℕ) (q : Vat Name) (there 
     pub made : (b : Bit Name) → IsMade us d0 b → IsMade (put_at v s vats) (length s.drawn) b
 
   abbrev pub Learned : {A : Type 0} → List Name → (A → Fact Name) → Vat Name → Done Name A → Type 0
-  Learned ks G s (Gives a t) = Grew s t × Sound (tracked news vats v q there) t × Knows ks t × Holds (Good t) (G a)
-  Learned ks G s (Throws p t) = Grew s t × Sound (tracked news vats v q there) t
-  Learned ks G s (Ejects n x t) = Grew s t × Sound (tracked news vats v q there) t
+  Learned ks G s (Gives a t) = Grew s t × Sound (tracked news M vats v q there here) t × Knows ks t × Holds (Good t) (G a)
+  Learned ks G s (Throws p t) = Grew s t × Sound (tracked news M vats v q there here) t
+  Learned ks G s (Ejects n x t) = Grew s t × Sound (tracked news M vats v q there here) t
   Learned ks G s (Stops c t) = Unit {0}
 
   pub record Learns {A : Type 0} (ks : List Name) (C : Fact Name) (m : Act Name A) (ks' : List Name) (G : A → Fact Name) : Type 0 where
-    pub after : (s : Vat Name) → Sound (tracked news vats v q there) s → Knows ks s → Holds (Good s) C → Learned ks' G s (m s)
+    pub after : (s : Vat Name) → Sound (tracked news M vats v q there here) s → Knows ks s → Holds (Good s) C → Learned ks' G s (m s)
 
   abbrev pub Ended : {A : Type 0} → Vat Name → Done Name A → Type 0
-  Ended s (Gives a t) = Grew s t × Sound (tracked news vats v q there) t
-  Ended s (Throws p t) = Grew s t × Sound (tracked news vats v q there) t
-  Ended s (Ejects n x t) = Grew s t × Sound (tracked news vats v q there) t
+  Ended s (Gives a t) = Grew s t × Sound (tracked news M vats v q there here) t
+  Ended s (Throws p t) = Grew s t × Sound (tracked news M vats v q there here) t
+  Ended s (Ejects n x t) = Grew s t × Sound (tracked news M vats v q there here) t
   Ended s (Stops c t) = Unit {0}
 
   -- what is read, and then whatever
   pub record Reads {A : Type 0} (ks : List Name) (C : Fact Name) (m : Act Name A) : Type 0 where
-    pub after : (s : Vat Name) → Sound (tracked news vats v q there) s → Knows ks s → Holds (Good s) C → Ended s (m s)
+    pub after : (s : Vat Name) → Sound (tracked news M vats v q there here) s → Knows ks s → Holds (Good s) C → Ended s (m s)
 
-  pub grew : (s t : Vat Name) → Goes news vats v q there s t → Grew s t
+  pub grew : (s t : Vat Name) → Goes news M vats v q there here s t → Grew s t
   grew s t r = record { names = r.names; mails = r.mails; promises = r.promises; messages = r.messages; draws = r.draws; told = λ n b. absurd b }
 
   grew_on : (s t u : Vat Name) → Grew s t → Grew t u → Grew s u
   grew_on s t u h k = follows_trans news (λ n. ⊥) (names_in s.known) s.mails s.promises s.messages (length s.drawn) (names_in t.known) t.mails t.promises t.messages (length t.drawn) (names_in u.known) u.mails u.promises u.messages (length u.drawn) h k
 
   pub rise : (s t : Vat Name) → Grew s t → (C : Fact Name) → Holds (Good s) C → Holds (Good t) C
-  rise s t r C c = holds_up (Good s) (Good t) (ok_on news vats v q there (λ n. ⊥) s t r) C c
+  rise s t r C c = holds_up (Good s) (Good t) (ok_on news M vats v q there here (λ n. ⊥) s t r) C c
 
-  pub knows_on : (ks : List Name) (s t : Vat Name) → Goes news vats v q there s t → Knows ks s → Knows ks t
+  pub knows_on : (ks : List Name) (s t : Vat Name) → Goes news M vats v q there here s t → Knows ks s → Knows ks t
   knows_on ks s t r k = record {
-    all = λ n a. ok_on news vats v q there (IsTold v) s t r (Named n) (k.all n a);
+    all = λ n a. ok_on news M vats v q there here (IsTold v) s t r (Named n) (k.all n a);
     told = λ n x a. k.told n x (r.told n x a);
     own = k.own;
-    made = λ b h. made_on news vats v q there (IsTold v) s t r b (k.made b h);
+    made = λ b h. made_on news M vats v q there here (IsTold v) s t r b (k.made b h);
   }
 
-  from_ends : {A : Type 0} (ks : List Name) (G : A → Fact Name) (s : Vat Name) (d : Done Name A) → Knows ks s → Ends (tracked news vats v q there) G s d → Learned ks G s d
+  from_ends : {A : Type 0} (ks : List Name) (G : A → Fact Name) (s : Vat Name) (d : Done Name A) → Knows ks s → Ends (tracked news M vats v q there here) G s d → Learned ks G s d
   from_ends ks G s (Gives a t) k h = (grew s t h.0, h.1, knows_on ks s t h.0 k, h.2)
   from_ends ks G s (Throws p t) k h = (grew s t h.0, h.1)
   from_ends ks G s (Ejects n x t) k h = (grew s t h.0, h.1)
   from_ends ks G s (Stops c t) k h = tt
 
-  pub learns_fine : {A : Type 0} {ks : List Name} {C : Fact Name} {m : Act Name A} {G : A → Fact Name} → Fine (tracked news vats v q there) C m G → Learns ks C m ks G
+  pub learns_fine : {A : Type 0} {ks : List Name} {C : Fact Name} {m : Act Name A} {G : A → Fact Name} → Fine (tracked news M vats v q there here) C m G → Learns ks C m ks G
   learns_fine {ks = ks} {m = m} {G = G} f = record { after = λ s h k c. from_ends ks G s (m s) k (f.after s h c) }
 
   wider : {A : Type 0} (ks : List Name) (G : A → Fact Name) (s t : Vat Name) (d : Done Name A) → Grew s t → Learned ks G t d → Learned ks G s d
@@ -121,19 +125,19 @@ module _ (news : Bool) (vats : List (Vat Name)) (v : ℕ) (q : Vat Name) (there 
   unfolding ◌>>=◌
   reads_bind {ks' = ks'} {C = C} {m = m} {f = f} P h k = record { after = λ s g w c. bind_read ks' C P s (m s) f c (h.after s g w c) k }
 
-  fine_ended : {A : Type 0} (G : A → Fact Name) (s : Vat Name) (d : Done Name A) → Ends (tracked news vats v q there) G s d → Ended s d
+  fine_ended : {A : Type 0} (G : A → Fact Name) (s : Vat Name) (d : Done Name A) → Ends (tracked news M vats v q there here) G s d → Ended s d
   fine_ended G s (Gives a t) h = (grew s t h.0, h.1)
   fine_ended G s (Throws p t) h = (grew s t h.0, h.1)
   fine_ended G s (Ejects n x t) h = (grew s t h.0, h.1)
   fine_ended G s (Stops c t) h = tt
 
-  pub reads_fine : {A : Type 0} {ks : List Name} {C : Fact Name} {m : Act Name A} {G : A → Fact Name} → Fine (tracked news vats v q there) C m G → Reads ks C m
+  pub reads_fine : {A : Type 0} {ks : List Name} {C : Fact Name} {m : Act Name A} {G : A → Fact Name} → Fine (tracked news M vats v q there here) C m G → Reads ks C m
   reads_fine {m = m} {G = G} f = record { after = λ s h k c. fine_ended G s (m s) (f.after s h c) }
 
   -- ---- names
 
-  old_good : (ks : List Name) (s : Vat Name) (n : Name) → WasMade us d0 n → Knows ks s → IsKnownIn ks n → Good s (Named n)
-  old_good ks s (Object w i) m k h = (k.made (Named (Object w i)) m, tt)
+  old_good : (ks : List Name) (s : Vat Name) (n : Name) → Was (Named n) → Knows ks s → IsKnownIn ks n → Good s (Named n)
+  old_good ks s (Object w i) m k h = (k.made (Named (Object w i)) m.0, tt, tt, m.1)
   old_good ks s (Root w) m k h = k.all (Root w) h
   old_good ks s (Promise w i) m k h = k.all (Promise w i) h
   old_good ks s (Answer w x) m k h = k.all (Answer w x) h
@@ -165,10 +169,10 @@ module _ (news : Bool) (vats : List (Vat Name)) (v : ℕ) (q : Vat Name) (there 
   good_is t x n e h = rw (sym e) at h
 
   -- a name that is new comes to be known
-  new_learned : (ks : List Name) (s : Vat Name) (n : Name) → WasMade us d0 n → IsEventual n → (IsAmong n ks → ⊥) → Sound (tracked news vats v q there) s → Knows ks s
+  new_learned : (ks : List Name) (s : Vat Name) (n : Name) → Was (Named n) → IsEventual n → (IsAmong n ks → ⊥) → Sound (tracked news M vats v q there here) s → Knows ks s
       → Learned (ks ++ n ∷ []) IsName s (Gives n (record s { known = s.known ++ begun n (host_of n) ∷ [] }))
   unfolding begun
-  new_learned ks s n m o f h k = (r, record { parts = parts; more = kept_known v s.number s.known j s.mails s.promises refl refl o (new_plain ks s n m k f) (new_own ks s n m k f) h.more }, knows, good)
+  new_learned ks s n m o f h k = (r, record { parts = parts; more = kept_known v s.number s.known j s.mails s.promises refl refl o (new_plain ks s n m.0 k f) (new_own ks s n m.0 k f) h.more }, knows, good)
     where
       j : Known Name
       j = begun n (host_of n)
@@ -183,16 +187,16 @@ module _ (news : Bool) (vats : List (Vat Name)) (v : ℕ) (q : Vat Name) (there 
       among = rw (sym (names_end s.known j)) at (among_last (names_in s.known) n)
 
       good : Good t (Named n)
-      good = (made_on news vats v q there (λ n. ⊥) s t r (Named n) (k.made (Named n) m), known_among (names_in t.known) n among)
+      good = (made_on news M vats v q there here (λ n. ⊥) s t r (Named n) (k.made (Named n) m.0), known_among (names_in t.known) n among, tt, m.1)
 
       old : Parts (Good t) s.things s.slots s.lists s.queue s.known s.gifts s.outbox
-      old = parts_up (Good s) (Good t) (ok_on news vats v q there (λ n. ⊥) s t r) s.things s.slots s.lists s.queue s.known s.gifts s.outbox h.parts
+      old = parts_up (Good s) (Good t) (ok_on news M vats v q there here (λ n. ⊥) s t r) s.things s.slots s.lists s.queue s.known s.gifts s.outbox h.parts
 
       parts : Parts (Good t) t.things t.slots t.lists t.queue t.known t.gifts t.outbox
-      parts = record { things = old.things; slots = old.slots; lists = old.lists; queue = old.queue; known = all_end (KnownOk (Good t)) s.known j old.known (begun_ok (naming word v) (tracked news vats v q there) (tracked_under news vats v q there word) (Good t) n (host_of n) good); gifts = old.gifts; outbox = old.outbox }
+      parts = record { things = old.things; slots = old.slots; lists = old.lists; queue = old.queue; known = all_end (KnownOk (Good t)) s.known j old.known (begun_ok (naming word v) (tracked news M vats v q there here) (tracked_under news M vats v q there here word) (Good t) n (host_of n) good); gifts = old.gifts; outbox = old.outbox }
 
       all : (x : Name) → IsAmong x ks ⊎ (x ≡ n) → Good t (Named x)
-      all x (inl a) = ok_on news vats v q there (λ n. ⊥) s t r (Named x) (k.all x a)
+      all x (inl a) = ok_on news M vats v q there here (λ n. ⊥) s t r (Named x) (k.all x a)
       all x (inr e) = good_is t x n e good
 
       told : (x : Name) → IsTold v x → IsAmong x (names_in s.known) ⊎ (x ≡ n) → IsAmong x (ks ++ n ∷ [])
@@ -204,23 +208,23 @@ module _ (news : Bool) (vats : List (Vat Name)) (v : ℕ) (q : Vat Name) (there 
         all = λ x a. all x (among_or x ks n a);
         told = λ x i a. told x i (among_or x (names_in s.known) n (rw (names_end s.known j) at a));
         own = λ i l. among_more (Promise v i) ks n (k.own i l);
-        made = λ b l. made_on news vats v q there (λ n. ⊥) s t r b (k.made b l);
+        made = λ b l. made_on news M vats v q there here (λ n. ⊥) s t r b (k.made b l);
       }
 
-  either_name : {C : Fact Name} (ks : List Name) (n : Name) (b : Bool) → is_old ks n ≡ b → WasMade us d0 n
+  either_name : {C : Fact Name} (ks : List Name) (n : Name) (b : Bool) → is_old ks n ≡ b → Was (Named n)
       → Learns ks C (arrive.learn_name (naming word v) (elim b [ true ↦ Old n | false ↦ New n (host_of n) ])) (elim b [ true ↦ ks | false ↦ ks ++ n ∷ [] ]) IsName
   unfolding arrive.learn_name give come naming name_of
-  either_name ks n true e m = record { after = λ s h k c. (grew s s (quiet news vats v q there s), h, k, old_good ks s n m k (old_known ks n e)) }
-  either_name ks n false e m = record { after = λ s h k c. new_learned ks s n m (new_eventual ks us d0 n e m) (new_unknown ks n e) h k }
+  either_name ks n true e m = record { after = λ s h k c. (grew s s (quiet news M vats v q there here s), h, k, old_good ks s n m k (old_known ks n e)) }
+  either_name ks n false e m = record { after = λ s h k c. new_learned ks s n m (new_eventual ks us d0 n e m.0) (new_unknown ks n e) h k }
 
-  pub learn_name : {C : Fact Name} (ks : List Name) (n : Name) → WasMade us d0 n → Learns ks C (arrive.learn_name (naming word v) (read_name ks n)) (known_after ks n) IsName
+  pub learn_name : {C : Fact Name} (ks : List Name) (n : Name) → Was (Named n) → Learns ks C (arrive.learn_name (naming word v) (read_name ks n)) (known_after ks n) IsName
   unfolding read_name known_after
   learn_name ks n m = either_name ks n (is_old ks n) refl m
 
   -- ---- values
 
   plainly : {C : Fact Name} (ks : List Name) (y : Value Name) → Holds (λ b. ⊥) (IsValue y) → Learns ks C (give y) ks IsValue
-  plainly ks y h = learns_fine (fine_give (tracked news vats v q there) y (record { at = λ s c. sure y h (Good s) }))
+  plainly ks y h = learns_fine (fine_give (tracked news M vats v q there here) y (record { at = λ s c. sure y h (Good s) }))
     where
       sure : (y : Value Name) → ValueOk (λ (b : Bit Name). ⊥) y → (P : Bit Name → Type 0) → ValueOk P y
       sure Null h P = tt
@@ -233,7 +237,7 @@ module _ (news : Bool) (vats : List (Vat Name)) (v : ℕ) (q : Vat Name) (there 
       sure (Items k) h P = tt
       sure (Ref n) h P = absurd h
 
-  learn_value : {C : Fact Name} (ks : List Name) (y : Value Name) → ValueOk (IsMade us d0) y → Learns ks C (arrive.learn_value (naming word v) (world.read_value ks y).read) (world.read_value ks y).known IsValue
+  learn_value : {C : Fact Name} (ks : List Name) (y : Value Name) → ValueOk Was y → Learns ks C (arrive.learn_value (naming word v) (world.read_value ks y).read) (world.read_value ks y).known IsValue
   unfolding arrive.learn_value world.read_value
   learn_value ks Null m = plainly ks Null tt
   learn_value ks (Flag b) m = plainly ks (Flag b) tt
@@ -243,10 +247,10 @@ module _ (news : Bool) (vats : List (Vat Name)) (v : ℕ) (q : Vat Name) (there 
   learn_value ks (Prim n) m = plainly ks (Prim n) tt
   learn_value ks (Broken p) m = plainly ks (Broken p) tt
   learn_value ks (Items k) m = plainly ks (Items k) tt
-  learn_value {C = C} ks (Ref n) m = learns_bind IsName (learn_name ks n m) (λ a. learns_fine (fine_give (tracked news vats v q there) (Ref a) (record { at = λ s c. c.1 })))
+  learn_value {C = C} ks (Ref n) m = learns_bind IsName (learn_name ks n m) (λ a. learns_fine (fine_give (tracked news M vats v q there here) (Ref a) (record { at = λ s c. c.1 })))
 
   -- a gift comes to be known as one more name
-  knows_gift : (ks : List Name) (s t : Vat Name) (n : Name) → Goes news vats v q there s t → Good t (Named n) → Knows ks s → Knows (ks ++ n ∷ []) t
+  knows_gift : (ks : List Name) (s t : Vat Name) (n : Name) → Goes news M vats v q there here s t → Good t (Named n) → Knows ks s → Knows (ks ++ n ∷ []) t
   knows_gift ks s t n r g k = let o = knows_on ks s t r k in record {
     all = λ x a. all x (among_or x ks n a);
     told = λ x i a. among_more x ks n (o.told x i a);
@@ -258,7 +262,7 @@ module _ (news : Bool) (vats : List (Vat Name)) (v : ℕ) (q : Vat Name) (there 
       all x (inl a) = (knows_on ks s t r k).all x a
       all x (inr e) = rw (sym e) at g
 
-  gift_ends : (ks : List Name) (s : Vat Name) (n : Name) (d : Done Name Name) → ((a : Name) (t : Vat Name) → d ≡ Gives a t → a ≡ n) → Knows ks s → Ends (tracked news vats v q there) IsName s d → Learned (ks ++ n ∷ []) IsName s d
+  gift_ends : (ks : List Name) (s : Vat Name) (n : Name) (d : Done Name Name) → ((a : Name) (t : Vat Name) → d ≡ Gives a t → a ≡ n) → Knows ks s → Ends (tracked news M vats v q there here) IsName s d → Learned (ks ++ n ∷ []) IsName s d
   gift_ends ks s n (Gives a t) f k h = let e : a ≡ n = f a t refl in (grew s t h.0, h.1, knows_gift ks s t n h.0 (rw e at h.2) k, h.2)
   gift_ends ks s n (Throws p t) f k h = (grew s t h.0, h.1)
   gift_ends ks s n (Ejects i x t) f k h = (grew s t h.0, h.1)
@@ -267,28 +271,29 @@ module _ (news : Bool) (vats : List (Vat Name)) (v : ℕ) (q : Vat Name) (there 
   same_given : (a b : Name) (s t : Vat Name) → Gives a s ≡ Gives b t → b ≡ a
   same_given a b s t e = cc
 
-  come_known : {C : Fact Name} (ks : List Name) (h i : ℕ) → Gets (tracked news vats v q there) C (IsDraw i) → Learns ks C (come (naming word v) (IsGift h i) h) (ks ++ Gift h i ∷ []) IsName
+  come_known : {C : Fact Name} (ks : List Name) (h i : ℕ) → Gets (tracked news M vats v q there here) C (IsDraw i) → Gets (tracked news M vats v q there here) C (IsVat h) → Learns ks C (come (naming word v) (IsGift h i) h) (ks ++ Gift h i ∷ []) IsName
   unfolding come naming name_of
-  come_known ks w i g = let f = come_gift (naming word v) (tracked news vats v q there) (tracked_under news vats v q there word) w i g in record { after = λ s h k c. gift_ends ks s (Gift w i) (come (naming word v) (IsGift w i) w s) (λ a t e. same_given (Gift w i) a (record s { known = s.known ++ begun (Gift w i) w ∷ [] }) t e) k (f.after s h c) }
+  come_known ks w i g at = let f = come_gift (naming word v) (tracked news M vats v q there here) (tracked_under news M vats v q there here word) w i g at in record { after = λ s h k c. gift_ends ks s (Gift w i) (come (naming word v) (IsGift w i) w s) (λ a t e. same_given (Gift w i) a (record s { known = s.known ++ begun (Gift w i) w ∷ [] }) t e) k (f.after s h c) }
 
-  learn_gift : {C : Fact Name} (ks : List Name) (p h i : ℕ) → i < d0 → Learns ks C (arrive.learn_gift (naming word v) p h i) (ks ++ Gift h i ∷ []) IsValue
+  learn_gift : {C : Fact Name} (ks : List Name) (p h i : ℕ) → M.mark (At h) → i < d0 → Learns ks C (arrive.learn_gift (naming word v) p h i) (ks ++ Gift h i ∷ []) IsValue
   unfolding arrive.learn_gift
-  learn_gift {C = C} ks p h i l = record {
-    after = λ s g k c. (learns_bind {C = IsDraw i} {H = IsValue} IsName (come_known ks h i (record { at = λ s c. c })) (λ n. learns_then {C = Also (IsDraw i) (IsName n)} nothing (learns_fine (fine_ask_for (naming word v) (tracked news vats v q there) (tracked_under news vats v q there word) p h i (record { at = λ s c. c.0 }) n (record { at = λ s c. c.1 })))
-        (learns_fine (fine_give (tracked news vats v q there) (Ref n) (record { at = λ s c. c.1 }))))).after s g k (k.made (Drew i) l, tt);
+  learn_gift {C = C} ks p h i at l = let S = tracked news M vats v q there here in let D : Fact Name = Also (IsDraw i) (IsVat h) in record {
+    after = λ s g k c. (learns_bind {C = D} {H = IsValue} IsName (come_known {C = D} ks h i (got_left S (IsDraw i) (IsVat h) (IsDraw i) (got_itself S (IsDraw i))) (got S (IsDraw i) (IsVat h))) (λ n. learns_then {C = Also D (IsName n)} nothing
+        (learns_fine (fine_ask_for (naming word v) S (tracked_under news M vats v q there here word) p h i (got_left S D (IsName n) (IsDraw i) (got_left S (IsDraw i) (IsVat h) (IsDraw i) (got_itself S (IsDraw i)))) n (got S D (IsName n))))
+        (learns_fine (fine_give S (Ref n) (got_ref S (Also D (IsName n)) n (got S D (IsName n))))))).after s g k ((k.made (Drew i) l, tt, tt, M.draw i), (tt, tt, tt, at));
   }
 
   mutual
     unfolding arrive.learn arrive.learn_all world.read_passed world.read_all world.plain_read world.many_read world.more_read
 
-    pub learn : {C : Fact Name} (p : ℕ) (y : Passed Name) (ks : List Name) → PassedOk (IsMade us d0) y → Learns ks C (arrive.learn (naming word v) p (world.read_passed y ks).read) (world.read_passed y ks).known IsValue
+    pub learn : {C : Fact Name} (p : ℕ) (y : Passed Name) (ks : List Name) → PassedOk Was y → Learns ks C (arrive.learn (naming word v) p (world.read_passed y ks).read) (world.read_passed y ks).known IsValue
     learn p (Plain y) ks m = learn_value ks y m
-    learn p (AGift h i) ks m = learn_gift ks p h i m
-    learn {C = C} p (Many ys) ks m = learns_bind AreValues (learn_all p ys ks m) (λ vs. learns_fine (fine_make_list (naming word v) (tracked news vats v q there) (tracked_under news vats v q there word) vs (record { at = λ s c. c.1 })))
+    learn p (AGift h i) ks m = learn_gift ks p h i m.0.1 m.1.0
+    learn {C = C} p (Many ys) ks m = learns_bind AreValues (learn_all p ys ks m) (λ vs. learns_fine (fine_make_list (naming word v) (tracked news M vats v q there here) (tracked_under news M vats v q there here word) vs (record { at = λ s c. c.1 })))
 
-    pub learn_all : {C : Fact Name} (p : ℕ) (ys : Passeds Name) (ks : List Name) → PassedsOk (IsMade us d0) ys → Learns ks C (arrive.learn_all (naming word v) p (world.read_all ys ks).read) (world.read_all ys ks).known AreValues
-    learn_all p NoMore ks m = learns_fine (fine_give (tracked news vats v q there) [] (record { at = λ s c. tt }))
-    learn_all p (More y ys) ks m = learns_bind IsValue (learn p y ks m.0) (λ x. learns_bind AreValues (learn_all p ys (world.read_passed y ks).known m.1) (λ xs. learns_fine (fine_give (tracked news vats v q there) (x ∷ xs) (record { at = λ s c. (c.0.1, c.1) }))))
+    pub learn_all : {C : Fact Name} (p : ℕ) (ys : Passeds Name) (ks : List Name) → PassedsOk Was ys → Learns ks C (arrive.learn_all (naming word v) p (world.read_all ys ks).read) (world.read_all ys ks).known AreValues
+    learn_all p NoMore ks m = learns_fine (fine_give (tracked news M vats v q there here) [] (record { at = λ s c. tt }))
+    learn_all p (More y ys) ks m = learns_bind IsValue (learn p y ks m.0) (λ x. learns_bind AreValues (learn_all p ys (world.read_passed y ks).known m.1) (λ xs. learns_fine (fine_give (tracked news M vats v q there here) (x ∷ xs) (record { at = λ s c. (c.0.1, c.1) }))))
 
   -- ---- notes
 
@@ -300,25 +305,29 @@ module _ (news : Bool) (vats : List (Vat Name)) (v : ℕ) (q : Vat Name) (there 
   message_name (Answer w m) h = absurd h
   message_name (Gift w i) h = absurd h
 
-  pub message_learned : {C : Fact Name} (ks : List Name) (m : Name) (h : ℕ) → IsMessageMade us m → Learns ks C (arrive.learn_message (naming word v) (New m h)) ks IsMail
+  pub message_learned : {C : Fact Name} (ks : List Name) (m : Name) (h : ℕ) → Was (Mail m) → Learns ks C (arrive.learn_message (naming word v) (New m h)) ks IsMail
   unfolding arrive.learn_message mail naming mail_of
   message_learned ks m w made = record {
     after = λ s h k c. let t : Vat Name = record s { mails = s.mails ++ m ∷ [] } in
-        let r : Goes news vats v q there s t = record { names = λ n a. a; mails = λ n a. among_more n s.mails m a; promises = omega arith; messages = count_same news s.messages; draws = omega arith; told = λ n i a. a } in
+        let r : Goes news M vats v q there here s t = record { names = λ n a. a; mails = λ n a. among_more n s.mails m a; promises = omega arith; messages = count_same news s.messages; draws = omega arith; told = λ n i a. a } in
         let on : Knows ks t = knows_on ks s t r k in
-        (grew s t r, record { parts = parts_up (Good s) (Good t) (ok_on news vats v q there (IsTold v) s t r) s.things s.slots s.lists s.queue s.known s.gifts s.outbox h.parts; more = kept_mail v s.number s.known s.mails s.promises m (message_name m made) h.more }, on, (on.made (Mail m) made, among_last s.mails m));
+        (grew s t r, record { parts = parts_up (Good s) (Good t) (ok_on news M vats v q there here (IsTold v) s t r) s.things s.slots s.lists s.queue s.known s.gifts s.outbox h.parts; more = kept_mail v s.number s.known s.mails s.promises m (message_name m made.0) h.more }, on, (on.made (Mail m) made.0, among_last s.mails m, tt, made.1));
   }
 
   -- with a draw that was made
   with_draw : {A : Type 0} (ks : List Name) (i : ℕ) (m : Act Name A) → i < d0 → Reads ks (IsDraw i) m → Reads ks Nothing m
-  with_draw ks i m l h = record { after = λ s g k c. h.after s g k (k.made (Drew i) l, tt) }
+  with_draw ks i m l h = record { after = λ s g k c. h.after s g k (k.made (Drew i) l, tt, tt, M.draw i) }
 
-  pub reads_note : (from : ℕ) (ks : List Name) (n : Note Name) → NoteOk (IsMade us d0) n → Reads ks Nothing (arrive.arrive (naming word v) from (world.read_note ks n))
+  -- with a vat that is marked
+  with_vat : {A : Type 0} (ks : List Name) (w : ℕ) (m : Act Name A) → M.mark (At w) → Reads ks (IsVat w) m → Reads ks Nothing m
+  with_vat ks w m at h = record { after = λ s g k c. h.after s g k (tt, tt, tt, at) }
+
+  pub reads_note : (from : ℕ) (ks : List Name) (n : Note Name) → NoteOk Was n → Reads ks Nothing (arrive.arrive (naming word v) from (world.read_note ks n))
   unfolding arrive.arrive world.read_note arrive.arrive_deliver arrive.arrive_open arrive.arrive_settled arrive.arrive_elsewhere arrive.arrive_shorten
   reads_note from ks (Deliver m n verb ys) h = reads_bind IsMail (message_learned ks m (host_of m) h.0) (λ id. reads_bind AreValues (learn_all from ys ks h.2) (λ args. reads_bind IsName (learn_name (world.read_all ys ks).known n h.1)
-      (λ x. reads_fine (fine_delivered (naming word v) (tracked news vats v q there) (tracked_under news vats v q there word) from id (record { at = λ s c. c.0.0.1 }) x (record { at = λ s c. c.1 }) verb args (record { at = λ s c. c.0.1 })))))
-  reads_note from ks (Open i n) h = with_draw ks i _ h.0 (reads_bind IsName (learn_name ks n h.1) (λ y. reads_fine (fine_opened (naming word v) (tracked news vats v q there) (tracked_under news vats v q there word) from i (record { at = λ s c. c.0 }) y (record { at = λ s c. c.1 }))))
-  reads_note from ks (Ask p i n) h = with_draw ks i _ h.0 (reads_fine (fine_arrive_ask (naming word v) (tracked news vats v q there) (tracked_under news vats v q there word) from p i (record { at = λ s c. c })))
-  reads_note from ks (SettledTo n y) h = reads_bind IsName (learn_name ks n h.0) (λ x. reads_bind IsValue (learn from y (known_after ks n) h.1) (λ z. reads_fine (fine_settle (naming word v) (tracked news vats v q there) (tracked_under news vats v q there word) x (record { at = λ s c. c.0.1 }) z (record { at = λ s c. c.1 }))))
-  reads_note from ks (Elsewhere n c) h = reads_bind IsName (learn_name ks n h) (λ x. reads_fine (fine_went (naming word v) (tracked news vats v q there) (tracked_under news vats v q there word) (λ D n g c. tracked_views news vats v q there word n g c) x (record { at = λ s c. c.1 }) c))
-  reads_note from ks (Shorten n c i) h = with_draw ks i _ h.1 (reads_bind IsName (learn_name ks n h.0) (λ x. reads_fine (fine_shortened (naming word v) (tracked news vats v q there) (tracked_under news vats v q there word) x (record { at = λ s c. c.1 }) i (record { at = λ s c. c.0 }))))
+      (λ x. reads_fine (fine_delivered (naming word v) (tracked news M vats v q there here) (tracked_under news M vats v q there here word) from id (record { at = λ s c. c.0.0.1 }) x (record { at = λ s c. c.1 }) verb args (record { at = λ s c. c.0.1 })))))
+  reads_note from ks (Open i n) h = with_draw ks i _ h.0.0 (reads_bind IsName (learn_name ks n h.1) (λ y. reads_fine (fine_opened (naming word v) (tracked news M vats v q there here) (tracked_under news M vats v q there here word) from i (record { at = λ s c. c.0 }) y (record { at = λ s c. c.1 }))))
+  reads_note from ks (Ask p i n) h = with_draw ks i _ h.0.0 (reads_fine (fine_arrive_ask (naming word v) (tracked news M vats v q there here) (tracked_under news M vats v q there here word) from p i (record { at = λ s c. c })))
+  reads_note from ks (SettledTo n y) h = reads_bind IsName (learn_name ks n h.0) (λ x. reads_bind IsValue (learn from y (known_after ks n) h.1) (λ z. reads_fine (fine_settle (naming word v) (tracked news M vats v q there here) (tracked_under news M vats v q there here word) x (record { at = λ s c. c.0.1 }) z (record { at = λ s c. c.1 }))))
+  reads_note from ks (Elsewhere n c) h = with_vat ks c _ h.1.1 (reads_bind IsName (learn_name ks n h.0) (λ x. reads_fine (fine_went (naming word v) (tracked news M vats v q there here) (tracked_under news M vats v q there here word) (λ D n g w k. tracked_views news M vats v q there here word n g w k) x (record { at = λ s c. c.1 }) c (record { at = λ s c. c.0 }))))
+  reads_note from ks (Shorten n c i) h = with_draw ks i _ h.1.0 (reads_bind IsName (learn_name ks n h.0) (λ x. reads_fine (fine_shortened (naming word v) (tracked news M vats v q there here) (tracked_under news M vats v q there here word) x (record { at = λ s c. c.1 }) i (record { at = λ s c. c.0 }))))

@@ -1,5 +1,5 @@
 -- What is looked at in a sound state.
-use Rattle.std.proofs.Common.{ℕ, zero, suc, Bool, true, false, List, [], ◌∷◌, Option, Some, None, length, ◌==◌}
+use Rattle.std.proofs.Common.{ℕ, zero, suc, Bool, true, false, List, [], ◌∷◌, Option, Some, None, length}
 use Rattle.std.specs.Prelude.{slice_get}
 use Rattle.ev_machine.specs.Values.{Words, Value, Null, Flag, Number, Letter, Text, Prim, Broken, Items, Ref, Naming, Spot, Own, Foreign, NoObject}
 use Rattle.ev_machine.specs.State.{Message, Standing, Unsettled, WaitsOn, Viewed, Settled, Known, Passed, Passeds, Plain, AGift, Many, NoMore, More, Deliver, Open, Ask, SettledTo, Elsewhere, Shorten, GiftEntry, Vat, Act, each, look, is_in, is_gift}
@@ -8,8 +8,8 @@ use Rattle.ev_machine.specs.Refs.{Place, Near, Mine, Away, Gone, Parcel}
 use Rattle.ev_machine.specs.Arrive as arrive
 use Rattle.ev_machine.specs.Native.{list_at}
 use Rattle.ev_name_laws.specs.Names.{Bit, Named, AllOf, ValueOk, ValuesOk, StandingOk, KnownOk, CellOk, ThingOk, GiftOk, PassedOk, PassedsOk}
-use Rattle.ev_name_laws.proofs.Facts.{MayBe, PlaceOk, Fact, Also, IsName, IsMail, IsDraw, AreNames, IsValue, AreValues, IsMessage, AreMessages, IsKnown, AreKnown, IsGiftEntry, AreGifts, IsPlace, MayCell, MayThing, MayKnown, MayGift, DoesPass, DoAllPass, NoteDoes, parcel, nothing}
-use Rattle.ev_name_laws.proofs.Care.{Care, Gets, Fine, fine_sees, fine_then, fine_give, got_nothing}
+use Rattle.ev_name_laws.proofs.Facts.{MayBe, PlaceOk, Fact, Also, IsName, IsMail, IsDraw, IsVat, IsOff, NoteGoes, AreNames, IsValue, AreValues, IsMessage, AreMessages, IsKnown, AreKnown, IsGiftEntry, AreGifts, IsPlace, MayCell, MayThing, MayKnown, MayGift, DoesPass, DoAllPass, NoteDoes, parcel, nothing}
+use Rattle.ev_name_laws.proofs.Care.{Care, Spots, Gets, Fine, fine_sees, fine_then, fine_give, got_nothing}
 
 pub get_all : {A : Type 0} (P : A → Type 0) (xs : List A) (n : ℕ) → AllOf P xs → MayBe P (slice_get xs n)
 get_all P [] n h = tt
@@ -96,27 +96,17 @@ module _ {N W : Type 0} (K : Naming N W) (P : Bit N → Type 0) where
   unfolding refs.follow
   follow_ok s h x i = severed_ok s (refs.follow_at K (suc (length s.known)) s.known x) (follow_at_ok (suc (length s.known)) s.known x h i)
 
-  hosted_ok : (b : Bool) (n : N) (h : ℕ) → P (Named n) → PlaceOk P (elim b [ true ↦ Mine n | false ↦ Away h n false ])
-  hosted_ok true n h i = i
-  hosted_ok false n h i = i
-
-  spotted_ok : (s : Vat N) (n : N) (p : Spot) → P (Named n) → PlaceOk P (refs.spotted K s n p)
-  unfolding refs.spotted refs.hosted
-  spotted_ok s n (Own i) h = tt
-  spotted_ok s n (Foreign w) h = h
-  spotted_ok s n NoObject h = hosted_ok (s.number == refs.host_at K s.number s.known n) n (refs.host_at K s.number s.known n) h
-
-  pub place_ok : (s : Vat N) (y : Value N) → ValueOk P y → PlaceOk P (refs.place K s y)
+  pub place_ok : (s : Vat N) → ((n : N) → P (Named n) → PlaceOk P (refs.spotted K s n (K.spot n))) → (y : Value N) → ValueOk P y → PlaceOk P (refs.place K s y)
   unfolding refs.place
-  place_ok s (Ref n) h = spotted_ok s n (K.spot n) h
-  place_ok s (Broken p) h = tt
-  place_ok s Null h = tt
-  place_ok s (Flag b) h = tt
-  place_ok s (Number z) h = tt
-  place_ok s (Letter c) h = tt
-  place_ok s (Text t) h = tt
-  place_ok s (Prim p) h = tt
-  place_ok s (Items k) h = tt
+  place_ok s f (Ref n) h = f n h
+  place_ok s f (Broken p) h = tt
+  place_ok s f Null h = tt
+  place_ok s f (Flag b) h = tt
+  place_ok s f (Number z) h = tt
+  place_ok s f (Letter c) h = tt
+  place_ok s f (Text t) h = tt
+  place_ok s f (Prim p) h = tt
+  place_ok s f (Items k) h = tt
 
   -- ---- passing
 
@@ -237,8 +227,8 @@ module _ {N : Type 0} (S : Care N) where
   pub got_plain : (C : Fact N) (y : Value N) → Gets S C (IsValue y) → Gets S C (DoesPass (Plain y))
   got_plain C y g = record { at = λ s c. g.at s c }
 
-  pub got_gift : (C : Fact N) (h i : ℕ) → Gets S C (IsDraw i) → Gets S C (DoesPass (AGift h i))
-  got_gift C h i g = record { at = λ s c. g.at s c }
+  pub got_gift : (C : Fact N) (h i : ℕ) → Gets S C (IsVat h) → Gets S C (IsDraw i) → Gets S C (DoesPass (AGift h i))
+  got_gift C h i k g = record { at = λ s c. (k.at s c, g.at s c) }
 
   pub got_many : (C : Fact N) (ys : Passeds N) → Gets S C (DoAllPass ys) → Gets S C (DoesPass (Many ys))
   got_many C ys g = record { at = λ s c. g.at s c }
@@ -261,8 +251,36 @@ module _ {N : Type 0} (S : Care N) where
   pub note_settled : (C : Fact N) (n : N) (y : Passed N) → Gets S C (IsName n) → Gets S C (DoesPass y) → Gets S C (NoteDoes (SettledTo n y))
   note_settled C n y k g = record { at = λ s c. (k.at s c, g.at s c) }
 
-  pub note_elsewhere : (C : Fact N) (n : N) (h : ℕ) → Gets S C (IsName n) → Gets S C (NoteDoes (Elsewhere n h))
-  note_elsewhere C n h g = record { at = λ s c. g.at s c }
+  pub note_elsewhere : (C : Fact N) (n : N) (h : ℕ) → Gets S C (IsName n) → Gets S C (IsVat h) → Gets S C (NoteDoes (Elsewhere n h))
+  note_elsewhere C n h g k = record { at = λ s c. (g.at s c, k.at s c) }
+
+  pub goes_deliver : (C : Fact N) (to : ℕ) (m n : N) (verb : Words) (ys : Passeds N) → Gets S C (IsOff to) → Gets S C (NoteGoes to (Deliver m n verb ys))
+  goes_deliver C to m n verb ys g = record { at = λ s c. g.at s c }
+
+  pub goes_open : (C : Fact N) (to i : ℕ) (n : N) → Gets S C (NoteGoes to (Open i n))
+  goes_open C to i n = record { at = λ s c. tt }
+
+  pub goes_ask : (C : Fact N) (to p i : ℕ) (n : N) → Gets S C (NoteGoes to (Ask p i n))
+  goes_ask C to p i n = record { at = λ s c. tt }
+
+  pub goes_settled : (C : Fact N) (to : ℕ) (n : N) (y : Passed N) → Gets S C (NoteGoes to (SettledTo n y))
+  goes_settled C to n y = record { at = λ s c. tt }
+
+  pub goes_elsewhere : (C : Fact N) (to : ℕ) (n : N) (h : ℕ) → Gets S C (NoteGoes to (Elsewhere n h))
+  goes_elsewhere C to n h = record { at = λ s c. tt }
+
+  pub goes_shorten : (C : Fact N) (to : ℕ) (n : N) (h i : ℕ) → Gets S C (NoteGoes to (Shorten n h i))
+  goes_shorten C to n h i = record { at = λ s c. tt }
+
+  pub look_number : {C : Fact N} → Fine S C (look (λ s. s.number)) IsVat
+  look_number = fine_sees S (λ s. s.number) IsVat (λ s h c. S.here s h.more)
+
+  pub got_answer_host : {W : Type 0} (K : Naming N W) (C : Fact N) (v : ℕ) (p : Place N) → Gets S C (IsVat v) → Gets S C (IsPlace p) → Gets S C (IsVat (refs.answer_host K v p))
+  unfolding refs.answer_host
+  got_answer_host K C v (Away h n o) g k = record { at = λ s c. S.near s h (k.at s c).1 }
+  got_answer_host K C v Near g k = g
+  got_answer_host K C v (Mine n) g k = g
+  got_answer_host K C v (Gone p) g k = g
 
   pub note_shorten : (C : Fact N) (n : N) (h i : ℕ) → Gets S C (IsName n) → Gets S C (IsDraw i) → Gets S C (NoteDoes (Shorten n h i))
   note_shorten C n h i g k = record { at = λ s c. (g.at s c, k.at s c) }
@@ -270,12 +288,6 @@ module _ {N : Type 0} (S : Care N) where
 module _ {N W : Type 0} (K : Naming N W) (S : Care N) where
   pub look_follow : {C : Fact N} (x : Value N) → Gets S C (IsValue x) → Fine S C (look (λ s. refs.follow K s x)) IsValue
   look_follow x g = fine_sees S (λ s. refs.follow K s x) IsValue (λ s h c. follow_ok K (S.ok s) s h.parts.known x (g.at s c))
-
-  pub look_place : {C : Fact N} (y : Value N) → Gets S C (IsValue y) → Fine S C (look (λ s. refs.place K s y)) IsPlace
-  look_place y g = fine_sees S (λ s. refs.place K s y) IsPlace (λ s h c. place_ok K (S.ok s) s y (g.at s c))
-
-  pub look_place_of : {C : Fact N} (x : Value N) → Gets S C (IsValue x) → Fine S C (look (λ s. refs.place K s (refs.follow K s x))) IsPlace
-  look_place_of x g = fine_sees S (λ s. refs.place K s (refs.follow K s x)) IsPlace (λ s h c. place_ok K (S.ok s) s (refs.follow K s x) (follow_ok K (S.ok s) s h.parts.known x (g.at s c)))
 
   pub look_entry : {C : Fact N} (n : N) → Fine S C (look (λ s. refs.entry_of K s.known n)) MayKnown
   look_entry n = fine_sees S (λ s. refs.entry_of K s.known n) MayKnown (λ s h c. entry_ok K (S.ok s) s.known n h.parts.known)
@@ -286,4 +298,11 @@ module _ {N W : Type 0} (K : Naming N W) (S : Care N) where
   pub look_parcel : {C : Fact N} (x : Value N) → Gets S C (IsValue x) → Fine S C (look (λ s. refs.parcel K s x)) parcel
   look_parcel x g = fine_sees S (λ s. refs.parcel K s x) parcel (λ s h c. parcel_ok K (S.ok s) s h.parts.known h.parts.lists x (g.at s c))
 
-pub ruleset looks = (look_follow, look_place, look_place_of, look_list, look_entry, look_target, look_parcel, look_cell, look_thing, look_gift, look_known, look_gifts, each_message, each_name, each_known, each_gift, got_plain, got_gift, got_many, got_no_more, got_one_more, note_deliver, note_open, note_ask, note_settled, note_elsewhere, note_shorten)
+module _ {N W : Type 0} (K : Naming N W) (S : Care N) (spots : Spots K S) where
+  pub look_place : {C : Fact N} (y : Value N) → Gets S C (IsValue y) → Fine S C (look (λ s. refs.place K s y)) IsPlace
+  look_place y g = fine_sees S (λ s. refs.place K s y) IsPlace (λ s h c. place_ok K (S.ok s) s (spots.placed s h.more) y (g.at s c))
+
+  pub look_place_of : {C : Fact N} (x : Value N) → Gets S C (IsValue x) → Fine S C (look (λ s. refs.place K s (refs.follow K s x))) IsPlace
+  look_place_of x g = fine_sees S (λ s. refs.place K s (refs.follow K s x)) IsPlace (λ s h c. place_ok K (S.ok s) s (spots.placed s h.more) (refs.follow K s x) (follow_ok K (S.ok s) s h.parts.known x (g.at s c)))
+
+pub ruleset looks = (look_number, got_answer_host, goes_deliver, goes_open, goes_ask, goes_settled, goes_elsewhere, goes_shorten, look_follow, look_list, look_entry, look_target, look_parcel, look_cell, look_thing, look_gift, look_known, look_gifts, each_message, each_name, each_known, each_gift, got_plain, got_gift, got_many, got_no_more, got_one_more, note_deliver, note_open, note_ask, note_settled, note_elsewhere, note_shorten)

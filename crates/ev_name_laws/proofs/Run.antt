@@ -1,7 +1,7 @@
 -- In every world of a run the names in each vat were made and are known to it, and roots and promises are known once.
 use Rattle.std.proofs.Common.{◌≡◌, ℕ, ◌≤◌, ◌<◌, zero, suc, ◌+◌, Bool, true, false, List, [], ◌∷◌, ◌++◌, Option, Some, None, refl, sym, ap, ◌∙◌, inl, inr, ◌⊎◌, length, map, ◌==◌, append_assoc, arith}
 use Rattle.std.specs.Prelude.{slice_get}
-use Rattle.ev_machine.specs.Values.{Name, Root, Promise, host_of, naming}
+use Rattle.ev_machine.specs.Values.{Name, Root, Object, Promise, Answer, Gift, Msg, host_of, naming}
 use Rattle.ev_machine.specs.State.{Known, Message, Note, Put, Vat, Done, Gives, Throws, Ejects, Stops, Act, begun}
 use Rattle.ev_machine.specs.Scopes.{any_guard}
 use Rattle.ev_machine.specs.Eval.{opening, taking}
@@ -9,7 +9,7 @@ use Rattle.ev_machine.specs.Arrive.{arrive, notice}
 use Rattle.ev_run.specs.Draws.{draw_word}
 use Rattle.ev_run.specs.World as world
 use Rattle.ev_run.specs.World.{Script, Program, Opens, Entry, Turn, Carry, CutLink, NoticeLink, Event, Turned, Idle, Carried, CutAt, NoticedAt, Link, World, Run, Goes as Going, Stopped, names, names_of, read_note, put_at}
-use Rattle.ev_name_laws.specs.Names.{Bit, Named, AllOf, IsAmong, promises_of, messages_of, IsMade, NounOk, MessageOk, NoteOk, KnownOk, Parts, names_in, IsHad, HostIsTrue, IsEventual, PlainOnce, Once}
+use Rattle.ev_name_laws.specs.Names.{Bit, Named, Mail, Drew, At, Off, AllOf, IsAmong, promises_of, messages_of, IsMade, NounOk, MessageOk, NoteOk, KnownOk, Parts, names_in, IsHad, HostIsTrue, IsEventual, PlainOnce, Once}
 use Rattle.ev_name_laws.proofs.Facts.{MayBe, all_map, all_end, all_append, message_up, nouns_up, note_up, Fact, Nothing, Also, IsName, AreNouns, IsMessage, Holds}
 use Rattle.ev_name_laws.proofs.Care.{Care, Sound, parts_up}
 use Rattle.ev_name_laws.proofs.Serves.{served_by}
@@ -17,26 +17,82 @@ use Rattle.ev_name_laws.proofs.CareEval.{fine_opening, fine_taking}
 use Rattle.ev_name_laws.proofs.CareArrive.{fine_notice}
 use Rattle.ev_name_laws.proofs.Among.{promises_at, length_end, is_made_up}
 use Rattle.ev_name_laws.proofs.Views.{AllLookOn}
-use Rattle.ev_name_laws.proofs.Tracked.{Kept, Ok, tracked, tracked_under, tracked_makes}
+use Rattle.ev_name_laws.proofs.Tracked.{Marked, IsFar, Kept, Ok, tracked, tracked_under, tracked_makes}
 use Rattle.ev_name_laws.proofs.Learn.{Grew, Knows, Ended, Reads, reads_fine, reads_note}
 
--- each name was made, and is known here
-abbrev pub Had : World → Vat Name → Bit Name → Type 0
-Had w s b = IsMade w.vats (length w.drawn) b × IsHad (names_in s.known) s.mails b
+-- each vat of the script knows only vats of the script
+abbrev pub KnowsVats : Script → Type 0
+KnowsVats script = (v : ℕ) (p : Program) → slice_get script.vats v ≡ Some p → AllOf (λ (u : ℕ). u < length script.vats) p.knows
+
+-- the host of a name, or a vat, is one of so many
+abbrev pub IsInside : ℕ → Bit Name → Type 0
+IsInside count (Named n) = host_of n < count
+IsInside count (Mail n) = Unit {0}
+IsInside count (Drew i) = Unit {0}
+IsInside count (At h) = h < count
+IsInside count (Off h) = h < count
+
+-- what follows where each vat of the script knows only vats of it
+abbrev pub Inside : Script → Bit Name → Type 0
+Inside script b = KnowsVats script → IsInside (length script.vats) b
+
+pub inside_object : (script : Script) (v i : ℕ) → Inside script (At v) → Inside script (Named (Object v i))
+unfolding host_of
+inside_object script v i f k = f k
+
+pub inside_promise : (script : Script) (v i : ℕ) → Inside script (At v) → Inside script (Named (Promise v i))
+unfolding host_of
+inside_promise script v i f k = f k
+
+pub inside_answer : (script : Script) (h : ℕ) (m : Msg) → Inside script (At h) → Inside script (Named (Answer h m))
+unfolding host_of
+inside_answer script h m f k = f k
+
+pub inside_gift : (script : Script) (h i : ℕ) → Inside script (At h) → Inside script (Named (Gift h i))
+unfolding host_of
+inside_gift script h i f k = f k
+
+pub inside_root : (script : Script) (u : ℕ) → Inside script (At u) → Inside script (Named (Root u))
+unfolding host_of
+inside_root script u f k = f k
+
+-- where each vat knows only vats of the script, all hosts are vats of the script
+abbrev pub inside : Script → Marked
+inside script = record {
+  mark = λ b. Inside script b;
+  object = inside_object script;
+  promise = inside_promise script;
+  answer = inside_answer script;
+  gift = inside_gift script;
+  mail = λ m k. tt;
+  draw = λ i k. tt;
+  near = λ h f k. f k;
+  off = λ h f k. f k;
+  host = λ n f k. f k;
+}
+
+-- each name was made, is known here, and is of a vat of the script
+abbrev pub Had : Script → World → ℕ → Vat Name → Bit Name → Type 0
+Had script w v s b = IsMade w.vats (length w.drawn) b × IsHad (names_in s.known) s.mails b × IsFar v b × Inside script b
+
+-- what may stand in a note
+abbrev pub Told : Script → World → Bit Name → Type 0
+Told script w b = IsMade w.vats (length w.drawn) b × Inside script b
 
 -- how vat v of a world stands
 pub record VatStands (script : Script) (w : World) (v : ℕ) (s : Vat Name) : Type 0 where
-  pub parts : Parts (Had w s) s.things s.slots s.lists s.queue s.known s.gifts s.outbox
+  pub parts : Parts (Had script w v s) s.things s.slots s.lists s.queue s.known s.gifts s.outbox
   pub kept : Kept v s.number s.known s.mails s.promises
   -- the roots that it is given are known
   pub roots : (p : Program) → slice_get script.vats v ≡ Some p → AllOf (λ (u : ℕ). IsAmong (Root u) (names_in s.known)) (v ∷ p.knows)
+  pub low : v < length script.vats
 
-abbrev pub LinkStands : World → Link → Type 0
-LinkStands w l = AllOf (NoteOk (IsMade w.vats (length w.drawn))) l.notes
+abbrev pub LinkStands : Script → World → Link → Type 0
+LinkStands script w l = AllOf (NoteOk (Told script w)) l.notes
 
 pub record Stands (script : Script) (w : World) : Type 0 where
   pub vats : (v : ℕ) (s : Vat Name) → slice_get w.vats v ≡ Some s → VatStands script w v s
-  pub links : AllOf (LinkStands w) w.links
+  pub links : AllOf (LinkStands script w) w.links
 
 -- ---- counts of a world in which one vat went on
 
@@ -116,9 +172,18 @@ name_had P (k ∷ ks) n h (inr i) = name_had P ks n h.1 i
 going_is : (w x : World) → Going w ≡ Going x → w ≡ x
 going_is w x e = cc
 
+below_length : (v : ℕ) (p : Program) (ps : List Program) → slice_get ps v ≡ Some p → v < length ps
+below_length v p [] e = cc
+below_length zero p (r ∷ ps) e = omega arith
+below_length (suc v) p (r ∷ ps) e = let l = below_length v p ps e in omega arith
+
 module _ (script : Script) where
   moved : (w x : World) → Stands script w → Going w ≡ Going x → Stands script x
   moved w x h e = rw (going_is w x e) at h
+
+  -- each vat of a world is a vat of the script
+  pub low_at : (w : World) → Stands script w → (v : ℕ) (s : Vat Name) → slice_get w.vats v ≡ Some s → Inside script (At v)
+  low_at w h v s e k = let g = h.vats v s e in g.low
 
   -- ---- a step of one vat
 
@@ -127,14 +192,14 @@ module _ (script : Script) where
     Ready = world.readied w q
 
     abbrev Tracked : Care Name
-    Tracked = tracked true w.vats v s there
+    Tracked = tracked true (inside script) w.vats v s there (low_at w h v s there)
 
     -- what was made before the step is made in it
     made_ready : (b : Bit Name) → IsMade w.vats (length w.drawn) b → IsMade (put_at v Ready w.vats) (length w.drawn) b
     unfolding world.readied
     made_ready b i = made_put w.vats (length w.drawn) (length w.drawn) v s Ready there (let e = same_promises in omega arith) (let e = same_messages in omega arith) (omega arith) b i
 
-    module _ (t : Vat Name) (grown : Grew true w.vats v s there (draw_word script.key) w.vats (length w.drawn) Ready t) where
+    module _ (t : Vat Name) (grown : Grew true (inside script) w.vats v s there (low_at w h v s there) (draw_word script.key) w.vats (length w.drawn) Ready t) where
       abbrev Next : List (Vat Name)
       Next = put_at v t w.vats
 
@@ -145,61 +210,67 @@ module _ (script : Script) where
 
       other_next : (x : World) → x.vats ≡ Next → x.drawn ≡ t.drawn → (u : ℕ) (r : Vat Name) → VatStands script w u r → VatStands script x u r
       other_next x a d u r k = record {
-        parts = parts_up (Had w r) (Had x r) (λ b i. (rw (sym a, sym d) at (made_next b i.0), i.1)) r.things r.slots r.lists r.queue r.known r.gifts r.outbox k.parts;
+        parts = parts_up (Had script w u r) (Had script x u r) (λ b i. (rw (sym a, sym d) at (made_next b i.0), i.1, i.2, i.3)) r.things r.slots r.lists r.queue r.known r.gifts r.outbox k.parts;
         kept = k.kept;
         roots = k.roots;
+        low = k.low;
       }
 
       this_next : (x : World) → x.vats ≡ Next → x.drawn ≡ t.drawn → names_in q.known ≡ names_in s.known → Sound Tracked t → VatStands script x v t
       unfolding world.readied
       this_next x a d n g = record {
-        parts = parts_up (Ok true w.vats v s there t) (Had x t) (λ b i. (rw (sym a, sym d) at i.0, i.1)) t.things t.slots t.lists t.queue t.known t.gifts t.outbox g.parts;
+        parts = parts_up (Ok true (inside script) w.vats v s there (low_at w h v s there) t) (Had script x v t) (λ b i. (rw (sym a, sym d) at i.0, i.1, i.2, i.3)) t.things t.slots t.lists t.queue t.known t.gifts t.outbox g.parts;
         kept = g.more;
         roots = λ p i. all_map (λ u j. grown.names (Root u) (rw (sym n) at j)) (v ∷ p.knows) ((h.vats v s there).roots p i);
+        low = (h.vats v s there).low;
       }
 
       each_next : (x : World) → x.vats ≡ Next → x.drawn ≡ t.drawn → names_in q.known ≡ names_in s.known → Sound Tracked t → (u : ℕ) (r : Vat Name) → ((u ≡ v) × (t ≡ r)) ⊎ (slice_get w.vats u ≡ Some r) → VatStands script x u r
       each_next x a d n g u r (inl e) = let one : VatStands script x u t = rw (sym e.0) at (this_next x a d n g) in rw e.1 at one
       each_next x a d n g u r (inr e) = other_next x a d u r (h.vats u r e)
 
-      links_next : Sound Tracked t → AllOf (λ (l : Link). AllOf (NoteOk (IsMade Next (length t.drawn))) l.notes) (world.push_all v t.outbox w.links)
-      links_next g = push_all_holds (NoteOk (IsMade Next (length t.drawn))) v t.outbox w.links (all_map (λ p i. note_up (Ok true w.vats v s there t) (IsMade Next (length t.drawn)) (λ b j. j.0) p.note i) t.outbox g.parts.outbox)
-          (all_map (λ l i. all_map (λ m j. note_up (IsMade w.vats (length w.drawn)) (IsMade Next (length t.drawn)) made_next m j) l.notes i) w.links h.links)
+      -- what may stand in a note after it
+      abbrev Next_told : Bit Name → Type 0
+      Next_told b = IsMade Next (length t.drawn) b × Inside script b
 
-    put_back_stands : (x : World) (head : List Event) (n : ℕ) (d : Done Name (Unit {0})) → names_in q.known ≡ names_in s.known → Ended true w.vats v s there (draw_word script.key) w.vats (length w.drawn) Ready d → world.put_back v w head n d ≡ Going x → Stands script x
+      links_next : Sound Tracked t → AllOf (λ (l : Link). AllOf (NoteOk Next_told) l.notes) (world.push_all v t.outbox w.links)
+      links_next g = push_all_holds (NoteOk Next_told) v t.outbox w.links (all_map (λ p i. note_up (Ok true (inside script) w.vats v s there (low_at w h v s there) t) Next_told (λ b j. (j.0, j.3)) p.note i.0) t.outbox g.parts.outbox)
+          (all_map (λ l i. all_map (λ m j. note_up (Told script w) Next_told (λ b j. (made_next b j.0, j.1)) m j) l.notes i) w.links h.links)
+
+    put_back_stands : (x : World) (head : List Event) (n : ℕ) (d : Done Name (Unit {0})) → names_in q.known ≡ names_in s.known → Ended true (inside script) w.vats v s there (low_at w h v s there) (draw_word script.key) w.vats (length w.drawn) Ready d → world.put_back v w head n d ≡ Going x → Stands script x
     unfolding world.put_back
     put_back_stands x head n (Gives a t) e k i = moved _ x (record { vats = λ u r j. each_next t k.0 (record { fuel = t.fuel; drawn = t.drawn; vats = put_at v t w.vats; links = world.push_all v t.outbox w.links; history = w.history ++ head ++ world.events_of w.links v t.happened }) refl refl e k.1 u r (put_at_or v t w.vats u r j); links = links_next t k.0 k.1 }) i
     put_back_stands x head n (Throws p t) e k i = cc
     put_back_stands x head n (Ejects m y t) e k i = cc
     put_back_stands x head n (Stops c t) e k i = cc
 
-    module _ (parts : Parts (λ b. IsMade w.vats (length w.drawn) b × IsHad (names_in q.known) q.mails b) q.things q.slots q.lists q.queue q.known q.gifts q.outbox) (kept : Kept v q.number q.known q.mails q.promises) where
-      pub had_ready : (b : Bit Name) → IsMade w.vats (length w.drawn) b × IsHad (names_in q.known) q.mails b → Ok true w.vats v s there Ready b
+    module _ (parts : Parts (λ b. IsMade w.vats (length w.drawn) b × IsHad (names_in q.known) q.mails b × IsFar v b × Inside script b) q.things q.slots q.lists q.queue q.known q.gifts q.outbox) (kept : Kept v q.number q.known q.mails q.promises) where
+      pub had_ready : (b : Bit Name) → IsMade w.vats (length w.drawn) b × IsHad (names_in q.known) q.mails b × IsFar v b × Inside script b → Ok true (inside script) w.vats v s there (low_at w h v s there) Ready b
       unfolding world.readied
-      had_ready b i = (made_ready b i.0, i.1)
+      had_ready b i = (made_ready b i.0, i.1, i.2, i.3)
 
       pub sound_ready : Sound Tracked Ready
       unfolding world.readied
-      sound_ready = record { parts = parts_up (λ b. IsMade w.vats (length w.drawn) b × IsHad (names_in q.known) q.mails b) (Ok true w.vats v s there Ready) had_ready q.things q.slots q.lists q.queue q.known q.gifts [] emptied; more = kept }
+      sound_ready = record { parts = parts_up (λ b. IsMade w.vats (length w.drawn) b × IsHad (names_in q.known) q.mails b × IsFar v b × Inside script b) (Ok true (inside script) w.vats v s there (low_at w h v s there) Ready) had_ready q.things q.slots q.lists q.queue q.known q.gifts [] emptied; more = kept }
         where
-          emptied : Parts (λ b. IsMade w.vats (length w.drawn) b × IsHad (names_in q.known) q.mails b) q.things q.slots q.lists q.queue q.known q.gifts []
+          emptied : Parts (λ b. IsMade w.vats (length w.drawn) b × IsHad (names_in q.known) q.mails b × IsFar v b × Inside script b) q.things q.slots q.lists q.queue q.known q.gifts []
           emptied = record { things = parts.things; slots = parts.slots; lists = parts.lists; queue = parts.queue; known = parts.known; gifts = parts.gifts; outbox = tt }
 
       own_ready : (i : ℕ) → i < promises_of w.vats v → IsAmong (Promise v i) (names_in q.known)
       unfolding promises_of
       own_ready i l = let e : promises_of w.vats v ≡ s.promises = promises_at w.vats v s there in let f = same_promises in kept.own i (omega arith)
 
-      pub knows_ready : Knows true w.vats v s there (draw_word script.key) w.vats (length w.drawn) (names_in q.known) Ready
+      pub knows_ready : Knows true (inside script) w.vats v s there (low_at w h v s there) (draw_word script.key) w.vats (length w.drawn) (names_in q.known) Ready
       unfolding world.readied
       knows_ready = record {
-        all = λ n a. had_ready (Named n) (name_had (λ b. IsMade w.vats (length w.drawn) b × IsHad (names_in q.known) q.mails b) q.known n parts.known a);
+        all = λ n a. had_ready (Named n) (name_had (λ b. IsMade w.vats (length w.drawn) b × IsHad (names_in q.known) q.mails b × IsFar v b × Inside script b) q.known n parts.known a);
         told = λ n i a. a;
         own = own_ready;
         made = made_ready;
       }
 
-      within_stands : (x : World) (head : List Event) (n : ℕ) (C : Fact Name) (m : Act Name (Unit {0})) → names_in q.known ≡ names_in s.known → Reads true w.vats v s there (draw_word script.key) w.vats (length w.drawn) (names_in q.known) C m
-          → Holds (Ok true w.vats v s there Ready) C → world.within v w head n m (Some q) ≡ Going x → Stands script x
+      within_stands : (x : World) (head : List Event) (n : ℕ) (C : Fact Name) (m : Act Name (Unit {0})) → names_in q.known ≡ names_in s.known → Reads true (inside script) w.vats v s there (low_at w h v s there) (draw_word script.key) w.vats (length w.drawn) (names_in q.known) C m
+          → Holds (Ok true (inside script) w.vats v s there (low_at w h v s there) Ready) C → world.within v w head n m (Some q) ≡ Going x → Stands script x
       unfolding world.within
       within_stands x head n C m e r c i = put_back_stands x head n (m Ready) e (r.after Ready sound_ready knows_ready c) i
 
@@ -207,48 +278,48 @@ module _ (script : Script) where
 
   idle_stands : (k : ℕ) (w x : World) → Stands script w → world.idle script k w ≡ Going x → Stands script x
   unfolding world.idle
-  idle_stands k w x h e = moved (record w { history = w.history ++ Idle k ∷ [] }) x (record { vats = λ v s i. let g = h.vats v s i in record { parts = g.parts; kept = g.kept; roots = g.roots }; links = h.links }) e
+  idle_stands k w x h e = moved (record w { history = w.history ++ Idle k ∷ [] }) x (record { vats = λ v s i. let g = h.vats v s i in record { parts = g.parts; kept = g.kept; roots = g.roots; low = g.low }; links = h.links }) e
 
   turn_queue_stands : (k v : ℕ) (w x : World) (s : Vat Name) → slice_get w.vats v ≡ Some s → Stands script w → (qs : List (Message Name)) → s.queue ≡ qs → world.turn_queue script k v w s qs ≡ Going x → Stands script x
   unfolding world.turn_queue names
   turn_queue_stands k v w x s i h [] q e = idle_stands k w x h e
-  turn_queue_stands k v w x s i h (m ∷ ms) q e = let g = h.vats v s i in let p = g.parts in let waiting : AllOf (MessageOk (Had w s)) (m ∷ ms) = rw q at p.queue in
-      let parts : Parts (Had w s) s.things s.slots s.lists ms s.known s.gifts s.outbox = record { things = p.things; slots = p.slots; lists = p.lists; queue = waiting.1; known = p.known; gifts = p.gifts; outbox = p.outbox } in
+  turn_queue_stands k v w x s i h (m ∷ ms) q e = let g = h.vats v s i in let p = g.parts in let waiting : AllOf (MessageOk (Had script w v s)) (m ∷ ms) = rw q at p.queue in
+      let parts : Parts (Had script w v s) s.things s.slots s.lists ms s.known s.gifts s.outbox = record { things = p.things; slots = p.slots; lists = p.lists; queue = waiting.1; known = p.known; gifts = p.gifts; outbox = p.outbox } in
       within_stands v w s (record s { queue = ms }) i refl refl h parts g.kept x (Turned k v ∷ []) (world.step_number script k) (IsMessage m) (taking (naming (draw_word script.key) v) (world.tree_at script.vats v) script.depth m) refl
-      (reads_fine true w.vats v s i (draw_word script.key) w.vats (length w.drawn) (fine_taking (naming (draw_word script.key) v) (tracked true w.vats v s i) (tracked_under true w.vats v s i (draw_word script.key)) (tracked_makes w.vats v s i (draw_word script.key)) (world.tree_at script.vats v) script.depth m (record { at = λ r c. c })))
-      (message_up (Had w s) (Ok true w.vats v s i (world.readied w (record s { queue = ms }))) (had_ready v w s (record s { queue = ms }) i refl refl h parts g.kept) m waiting.0) e
+      (reads_fine true (inside script) w.vats v s i (low_at w h v s i) (draw_word script.key) w.vats (length w.drawn) (fine_taking (naming (draw_word script.key) v) (tracked true (inside script) w.vats v s i (low_at w h v s i)) (tracked_under true (inside script) w.vats v s i (low_at w h v s i) (draw_word script.key)) (tracked_makes (inside script) w.vats v s i (low_at w h v s i) (draw_word script.key)) (world.tree_at script.vats v) script.depth m (record { at = λ r c. c })))
+      (message_up (Had script w v s) (Ok true (inside script) w.vats v s i (low_at w h v s i) (world.readied w (record s { queue = ms }))) (had_ready v w s (record s { queue = ms }) i refl refl h parts g.kept) m waiting.0) e
 
   turn_stands : (k v : ℕ) (w x : World) → Stands script w → (o : Option (Vat Name)) → slice_get w.vats v ≡ o → world.turn script k v w o ≡ Going x → Stands script x
   unfolding world.turn
   turn_stands k v w x h None q e = idle_stands k w x h e
   turn_stands k v w x h (Some s) q e = turn_queue_stands k v w x s q h s.queue refl e
 
-  arrives_stands : (k v to : ℕ) (w x : World) (n : Note Name) → Stands script w → NoteOk (IsMade w.vats (length w.drawn)) n → (o : Option (Vat Name)) → slice_get w.vats to ≡ o → world.arrives script k v to w n o ≡ Going x → Stands script x
+  arrives_stands : (k v to : ℕ) (w x : World) (n : Note Name) → Stands script w → NoteOk (Told script w) n → (o : Option (Vat Name)) → slice_get w.vats to ≡ o → world.arrives script k v to w n o ≡ Going x → Stands script x
   unfolding world.arrives names world.names_of
   arrives_stands k v to w x n h i None q e = idle_stands k w x h e
   arrives_stands k v to w x n h i (Some s) q e = let g = h.vats to s q in
       within_stands to w s s q refl refl h g.parts g.kept x (Carried k v to n w.links ∷ []) (world.step_number script k) Nothing (arrive (naming (draw_word script.key) to) v (read_note (names_in s.known) n)) refl
-      (reads_note true w.vats to s q (draw_word script.key) w.vats (length w.drawn) v (names_in s.known) n i) tt e
+      (reads_note true (inside script) w.vats to s q (low_at w h to s q) (draw_word script.key) w.vats (length w.drawn) v (names_in s.known) n i) tt e
 
-  carry_notes_stands : (k v to : ℕ) (w x : World) → Stands script w → (ns : List (Note Name)) → AllOf (NoteOk (IsMade w.vats (length w.drawn))) ns → world.carry_notes script k v to w ns ≡ Going x → Stands script x
+  carry_notes_stands : (k v to : ℕ) (w x : World) → Stands script w → (ns : List (Note Name)) → AllOf (NoteOk (Told script w)) ns → world.carry_notes script k v to w ns ≡ Going x → Stands script x
   unfolding world.carry_notes world.with_notes
   carry_notes_stands k v to w x h [] i e = idle_stands k w x h e
   carry_notes_stands k v to w x h (n ∷ ns) i e = arrives_stands k v to (record w { links = world.with_link (world.with_notes ns) v to w.links }) x n
-      (record { vats = λ u s j. let g = h.vats u s j in record { parts = g.parts; kept = g.kept; roots = g.roots }; links = with_link_holds (NoteOk (IsMade w.vats (length w.drawn))) (world.with_notes ns) (λ l j. i.1) v to w.links h.links }) i.0 (slice_get w.vats to) refl e
+      (record { vats = λ u s j. let g = h.vats u s j in record { parts = g.parts; kept = g.kept; roots = g.roots; low = g.low }; links = with_link_holds (NoteOk (Told script w)) (world.with_notes ns) (λ l j. i.1) v to w.links h.links }) i.0 (slice_get w.vats to) refl e
 
-  carry_cut_stands : (k v to : ℕ) (w x : World) → Stands script w → (l : Link) → LinkStands w l → (b : Bool) → elim b [ true ↦ world.idle script k w | false ↦ world.carry_notes script k v to w l.notes ] ≡ Going x → Stands script x
+  carry_cut_stands : (k v to : ℕ) (w x : World) → Stands script w → (l : Link) → LinkStands script w l → (b : Bool) → elim b [ true ↦ world.idle script k w | false ↦ world.carry_notes script k v to w l.notes ] ≡ Going x → Stands script x
   carry_cut_stands k v to w x h l i true e = idle_stands k w x h e
   carry_cut_stands k v to w x h l i false e = carry_notes_stands k v to w x h l.notes i e
 
-  carry_link_stands : (k v to : ℕ) (w x : World) → Stands script w → (o : Option Link) → MayBe (LinkStands w) o → world.carry_link script k v to w o ≡ Going x → Stands script x
+  carry_link_stands : (k v to : ℕ) (w x : World) → Stands script w → (o : Option Link) → MayBe (LinkStands script w) o → world.carry_link script k v to w o ≡ Going x → Stands script x
   unfolding world.carry_link
   carry_link_stands k v to w x h None i e = idle_stands k w x h e
   carry_link_stands k v to w x h (Some l) i e = carry_cut_stands k v to w x h l i l.cut e
 
   cut_stands : (k v to : ℕ) (w x : World) → Stands script w → world.cut script k v to w ≡ Going x → Stands script x
   unfolding world.cut world.severed_link
-  cut_stands k v to w x h e = let P = NoteOk (IsMade w.vats (length w.drawn)) in moved _ x (record {
-    vats = λ u s j. let g = h.vats u s j in record { parts = g.parts; kept = g.kept; roots = g.roots };
+  cut_stands k v to w x h e = let P = NoteOk (Told script w) in moved _ x (record {
+    vats = λ u s j. let g = h.vats u s j in record { parts = g.parts; kept = g.kept; roots = g.roots; low = g.low };
     links = with_link_holds P world.severed_link (λ l i. tt) to v (world.with_link world.severed_link v to w.links) (with_link_holds P world.severed_link (λ l i. tt) v to w.links h.links);
   }) e
 
@@ -257,12 +328,12 @@ module _ (script : Script) where
   notice_stands k v to w x h None q e = cc
   notice_stands k v to w x h (Some s) q e = let g = h.vats v s q in
       within_stands v w s s q refl refl h g.parts g.kept x (NoticedAt k v to ∷ []) (world.step_number script k) Nothing (notice (naming (draw_word script.key) v) to) refl
-      (reads_fine true w.vats v s q (draw_word script.key) w.vats (length w.drawn) (fine_notice (naming (draw_word script.key) v) (tracked true w.vats v s q) (tracked_under true w.vats v s q (draw_word script.key)) to)) tt e
+      (reads_fine true (inside script) w.vats v s q (low_at w h v s q) (draw_word script.key) w.vats (length w.drawn) (fine_notice (naming (draw_word script.key) v) (tracked true (inside script) w.vats v s q (low_at w h v s q)) (tracked_under true (inside script) w.vats v s q (low_at w h v s q) (draw_word script.key)) to)) tt e
 
   pub step_stands : (entry : Entry) (k : ℕ) (w x : World) → Stands script w → world.step script entry k w ≡ Going x → Stands script x
   unfolding world.step
   step_stands (Turn v) k w x h e = turn_stands k v w x h (slice_get w.vats v) refl e
-  step_stands (Carry v to) k w x h e = carry_link_stands k v to w x h (world.link_at v to w.links) (link_holds (NoteOk (IsMade w.vats (length w.drawn))) v to w.links h.links) e
+  step_stands (Carry v to) k w x h e = carry_link_stands k v to w x h (world.link_at v to w.links) (link_holds (NoteOk (Told script w)) v to w.links h.links) e
   step_stands (CutLink v to) k w x h e = cut_stands k v to w x h e
   step_stands (NoticeLink v to) k w x h e = notice_stands k v to w x h (slice_get w.vats v) refl e
 
@@ -278,21 +349,26 @@ module _ (script : Script) where
 
   -- ---- the opening turns
 
-  pub given_ok : (w : World) (s : Vat Name) (us : List ℕ) → AllOf (λ (u : ℕ). IsAmong (Root u) (names_in s.known)) us → AllOf (NounOk (Had w s)) (world.given script.vats us)
+  -- each vat that is known is one of the script
+  pub knows_low : (us : List ℕ) → (KnowsVats script → AllOf (λ (u : ℕ). u < length script.vats) us) → AllOf (λ (u : ℕ). Inside script (At u)) us
+  knows_low [] f = tt
+  knows_low (u ∷ us) f = (λ k. (f k).0, knows_low us (λ k. (f k).1))
+
+  pub given_ok : (w : World) (v : ℕ) (s : Vat Name) (us : List ℕ) → AllOf (λ (u : ℕ). IsAmong (Root u) (names_in s.known)) us → AllOf (λ (u : ℕ). Inside script (At u)) us → AllOf (NounOk (Had script w v s)) (world.given script.vats us)
   unfolding world.given any_guard
-  given_ok w s [] h = tt
-  given_ok w s (u ∷ us) h = (((tt, h.0), tt), given_ok w s us h.1)
+  given_ok w v s [] h l = tt
+  given_ok w v s (u ∷ us) h l = (((tt, h.0, tt, inside_root script u l.0), tt), given_ok w v s us h.1 l.1)
 
   pub open_stands : (v : ℕ) (p : Program) (w x : World) → slice_get script.vats v ≡ Some p → Stands script w → (o : Option (Vat Name)) → slice_get w.vats v ≡ o
       → world.within v w (Opens v ∷ []) v (opening (names script v) p.tree script.depth (Root v) (world.given script.vats p.knows)) o ≡ Going x → Stands script x
   unfolding world.within names
   open_stands v p w x t h None q e = cc
   open_stands v p w x t h (Some s) q e = let g = h.vats v s q in let roots : AllOf (λ (u : ℕ). IsAmong (Root u) (names_in s.known)) (v ∷ p.knows) = g.roots p t in
-      let given : AllOf (NounOk (Had w s)) (world.given script.vats p.knows) = given_ok w s p.knows roots.1 in
-      let up : (b : Bit Name) → Had w s b → Ok true w.vats v s q (world.readied w s) b = had_ready v w s s q refl refl h g.parts g.kept in
+      let given : AllOf (NounOk (Had script w v s)) (world.given script.vats p.knows) = given_ok w v s p.knows roots.1 (knows_low p.knows (λ k. k v p t)) in
+      let up : (b : Bit Name) → Had script w v s b → Ok true (inside script) w.vats v s q (low_at w h v s q) (world.readied w s) b = had_ready v w s s q refl refl h g.parts g.kept in
       within_stands v w s s q refl refl h g.parts g.kept x (Opens v ∷ []) v (Also (IsName (Root v)) (AreNouns (world.given script.vats p.knows))) (opening (naming (draw_word script.key) v) p.tree script.depth (Root v) (world.given script.vats p.knows)) refl
-      (reads_fine true w.vats v s q (draw_word script.key) w.vats (length w.drawn) (fine_opening (naming (draw_word script.key) v) (tracked true w.vats v s q) (served_by (naming (draw_word script.key) v) (tracked true w.vats v s q) (tracked_under true w.vats v s q (draw_word script.key)) (tracked_makes w.vats v s q (draw_word script.key))) p.tree script.depth (Root v) (record { at = λ r c. c.0 }) (world.given script.vats p.knows) (record { at = λ r c. c.1 })))
-      (up (Named (Root v)) (tt, roots.0), nouns_up (Had w s) (Ok true w.vats v s q (world.readied w s)) up (world.given script.vats p.knows) given) e
+      (reads_fine true (inside script) w.vats v s q (low_at w h v s q) (draw_word script.key) w.vats (length w.drawn) (fine_opening (naming (draw_word script.key) v) (tracked true (inside script) w.vats v s q (low_at w h v s q)) (served_by (naming (draw_word script.key) v) (tracked true (inside script) w.vats v s q (low_at w h v s q)) (tracked_under true (inside script) w.vats v s q (low_at w h v s q) (draw_word script.key)) (tracked_makes (inside script) w.vats v s q (low_at w h v s q) (draw_word script.key))) p.tree script.depth (Root v) (record { at = λ r c. c.0 }) (world.given script.vats p.knows) (record { at = λ r c. c.1 })))
+      (up (Named (Root v)) (tt, roots.0, tt, inside_root script v (low_at w h v s q)), nouns_up (Had script w v s) (Ok true (inside script) w.vats v s q (low_at w h v s q) (world.readied w s)) up (world.given script.vats p.knows) given) e
 
 get_mid : (front : List Program) (p : Program) (ps : List Program) → slice_get (front ++ p ∷ ps) (length front) ≡ Some p
 get_mid [] p ps = refl
@@ -375,7 +451,7 @@ module _ (script : Script) where
   links_from_hold P all v [] = tt
   links_from_hold P all v (p ∷ ps) = all_append (Holding P) (world.links_to v zero all) (world.links_from all (suc v) ps) (links_to_hold P v zero all) (links_from_hold P all (suc v) ps)
 
-  module _ (w : World) (v : ℕ) (p : Program) (once : Once (v ∷ p.knows)) where
+  module _ (w : World) (v : ℕ) (p : Program) (once : Once (v ∷ p.knows)) (low : v < length script.vats) (others : AllOf (λ (u : ℕ). Inside script (At u)) p.knows) where
     abbrev Fresh : Vat Name
     Fresh = world.fresh script v p
 
@@ -384,13 +460,13 @@ module _ (script : Script) where
     root_in u (inl e) = inl (ap Root e)
     root_in u (inr i) = inr (roots_among p.knows u i)
 
-    fresh_parts : Parts (Had w Fresh) Fresh.things Fresh.slots Fresh.lists Fresh.queue Fresh.known Fresh.gifts Fresh.outbox
+    fresh_parts : Parts (Had script w v Fresh) Fresh.things Fresh.slots Fresh.lists Fresh.queue Fresh.known Fresh.gifts Fresh.outbox
     unfolding world.fresh world.known_root begun
-    fresh_parts = record { things = tt; slots = tt; lists = tt; queue = tt; known = (((tt, inl refl), tt, tt, tt, tt), roots_known (Had w Fresh) p.knows (each p.knows (λ u i. inr (roots_among p.knows u i)))); gifts = tt; outbox = tt }
+    fresh_parts = record { things = tt; slots = tt; lists = tt; queue = tt; known = (((tt, inl refl, tt, inside_root script v (λ k. low)), tt, tt, tt, tt), roots_known (Had script w v Fresh) p.knows (each p.knows (λ u i. inr (roots_among p.knows u i)) others)); gifts = tt; outbox = tt }
       where
-        each : (us : List ℕ) → ((u : ℕ) → IsAmong u us → IsAmong (Root u) (names_in Fresh.known)) → AllOf (λ (u : ℕ). Had w Fresh (Named (Root u))) us
-        each [] f = tt
-        each (u ∷ us) f = ((tt, f u (inl refl)), each us (λ x i. f x (inr i)))
+        each : (us : List ℕ) → ((u : ℕ) → IsAmong u us → IsAmong (Root u) (names_in Fresh.known)) → AllOf (λ (u : ℕ). Inside script (At u)) us → AllOf (λ (u : ℕ). Had script w v Fresh (Named (Root u))) us
+        each [] f l = tt
+        each (u ∷ us) f l = ((tt, f u (inl refl), tt, inside_root script u l.0), each us (λ x i. f x (inr i)) l.1)
 
     fresh_kept : Kept v Fresh.number Fresh.known Fresh.mails Fresh.promises
     unfolding world.fresh world.known_root begun host_of
@@ -410,7 +486,7 @@ module _ (script : Script) where
         no_own i (inr j) = let r = root_back p.knows (Promise v i) j in no_root v i r.0 r.1
 
     fresh_stands : slice_get script.vats v ≡ Some p → VatStands script w v Fresh
-    fresh_stands e = record { parts = fresh_parts; kept = fresh_kept; roots = λ x i. same x (e' x i) }
+    fresh_stands e = record { parts = fresh_parts; kept = fresh_kept; roots = λ x i. same x (e' x i); low = low }
       where
         e' : (x : Program) → slice_get script.vats v ≡ Some x → Some p ≡ Some x
         e' x i = sym e ∙ i
@@ -429,10 +505,10 @@ module _ (script : Script) where
 
   pub begins_stands : ((v : ℕ) (p : Program) → slice_get script.vats v ≡ Some p → Once (v ∷ p.knows)) → Stands script (world.begins script)
   unfolding world.begins
-  begins_stands once = record { vats = λ v s e. at v s (fresh_at zero script.vats v s e); links = links_from_hold (NoteOk (IsMade (world.begins script).vats zero)) script.vats zero script.vats }
+  begins_stands once = record { vats = λ v s e. at v s (fresh_at zero script.vats v s e); links = links_from_hold (NoteOk (Told script (world.begins script))) script.vats zero script.vats }
     where
       at : (v : ℕ) (s : Vat Name) → (p : Program) × (u : ℕ) × (slice_get script.vats v ≡ Some p) × (u ≡ zero + v) × (world.fresh script u p ≡ s) → VatStands script (world.begins script) v s
-      at v s r = let f : r.1 ≡ v = let g = r.3 in omega arith in let one : VatStands script (world.begins script) v (world.fresh script v r.0) = fresh_stands (world.begins script) v r.0 (once v r.0 r.2) r.2 in
+      at v s r = let f : r.1 ≡ v = let g = r.3 in omega arith in let one : VatStands script (world.begins script) v (world.fresh script v r.0) = fresh_stands (world.begins script) v r.0 (once v r.0 r.2) (below_length v r.0 script.vats r.2) (knows_low script r.0.knows (λ k. k v r.0 r.2)) r.2 in
           let same : world.fresh script v r.0 ≡ s = ap (λ u. world.fresh script u r.0) (sym f) ∙ r.4 in rw same at one
 
   pub opened_stands : ((v : ℕ) (p : Program) → slice_get script.vats v ≡ Some p → Once (v ∷ p.knows)) → (ps rest : List Program) (w : World) → script.vats ≡ ps ++ rest → world.open_from script zero ps (world.begins script) ≡ Going w → Stands script w

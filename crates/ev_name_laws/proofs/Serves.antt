@@ -5,10 +5,11 @@ use Rattle.ev_machine.specs.State.{Vat, new_promise}
 use Rattle.ev_machine.specs.Refs.{settle, resolve, send, react}
 use Rattle.ev_name_laws.specs.Names.{Named}
 use Rattle.ev_name_laws.proofs.Facts.{Fact, IsName, IsValue, AreValues, nothing}
-use Rattle.ev_name_laws.proofs.Care.{Care, Under, Makes, Gets, Fine, quiet_told, fine_promise}
+use Rattle.ev_name_laws.proofs.Care.{Care, Spots, Under, Makes, Gets, Fine, quiet_told, fine_promise}
 use Rattle.ev_name_laws.proofs.CareRefs.{fine_settle, fine_resolve, fine_send, fine_react}
 
 pub record Serves {N W : Type 0} (K : Naming N W) (S : Care N) : Type 0 where
+  pub spots : Spots K S
   pub object : (s : Vat N) (i : ℕ) → S.ok s (Named (K.object i))
   pub promises : (C : Fact N) → Fine S C (new_promise K) IsName
   pub breaks : (C : Fact N) (p : N) → Gets S C (IsName p) → (t : Words) → Fine S C (settle K p (Broken t)) nothing
@@ -40,6 +41,7 @@ pub ruleset served = (quiet_told, own_object, serve_promise, serve_break, serve_
 -- where each single change is cared for, so is each of these
 pub served_by : {N W : Type 0} (K : Naming N W) (S : Care N) → Under K S → Makes K S → Serves K S
 served_by K S law makes = record {
+  spots = law.spots;
   object = λ s i. law.object s i;
   promises = λ C. fine_promise K S law makes;
   breaks = λ C p g t. fine_settle K S law p g (Broken t) (record { at = λ s c. tt });

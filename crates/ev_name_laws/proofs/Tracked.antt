@@ -1,12 +1,16 @@
 -- What is kept of names in a step of one vat: each was made, and is known to the vat; roots and promises are known once, and each host is true.
-use Rattle.std.proofs.Common.{◌≡◌, ℕ, ◌≤◌, ◌<◌, zero, suc, Bool, true, false, List, [], ◌∷◌, ◌++◌, Some, refl, sym, ap, ◌∙◌, ◌⊎◌, inl, inr, length, arith}
+use Rattle.std.proofs.Common.{◌≡◌, ℕ, ◌≤◌, ◌<◌, zero, suc, Bool, true, false, List, [], ◌∷◌, ◌++◌, Some, refl, sym, ap, ◌∙◌, ◌⊎◌, inl, inr, subst, Option, ◌==◌, length, arith}
 use Rattle.std.specs.Prelude.{slice_get}
-use Rattle.ev_machine.specs.Values.{Name, Root, Object, Promise, Answer, Gift, Sent, Msg, host_of, Naming, naming, name_of, answer_of, mail_of}
+use Rattle.std.proofs.lemmas.Bool.{eq-eqb}
+use Rattle.ev_machine.specs.Refs as refs
+use Rattle.ev_machine.specs.Refs.{Mine, Away}
+use Rattle.ev_machine.specs.Values.{Name, Root, Object, Promise, Answer, Gift, Sent, Msg, Own, Foreign, NoObject, same_name as same_name_of, spot_of, host_of, Naming, naming, name_of, answer_of, mail_of}
 use Rattle.ev_machine.specs.State.{Known, Standing, Unsettled, WaitsOn, Viewed, Settled, Change, Hold, Wait, WaitOn, See, React, ToTell, Settle, Vat, with_change, changed, changed_to, unless_settled, begun}
 use Rattle.ev_run.specs.World.{put_at}
-use Rattle.ev_name_laws.specs.Names.{Bit, Named, Mail, Drew, AllOf, IsAmong, promises_of, messages_of, IsMade, names_in, IsKnownIn, IsHad, HostIsTrue, IsEventual, IsMessageName, IsPlain, PlainOnce}
-use Rattle.ev_name_laws.proofs.Facts.{all_end}
-use Rattle.ev_name_laws.proofs.Care.{ViewsNone, Care, Under, Makes}
+use Rattle.ev_name_laws.specs.Names.{Bit, Named, Mail, Drew, At, Off, AllOf, IsAmong, promises_of, messages_of, IsMade, names_in, IsKnownIn, IsHad, HostIsTrue, IsEventual, IsMessageName, IsPlain, PlainOnce}
+use Rattle.ev_name_laws.proofs.Facts.{all_end, PlaceOk}
+use Rattle.ev_name_laws.proofs.Care.{ViewsNone, Care, Spots, Under, Makes}
+use Rattle.ev_name_laws.proofs.SameNames.{false_true, same_is}
 use Rattle.ev_name_laws.proofs.Views.{AllLookOn, look_on_end, look_on_change}
 use Rattle.ev_name_laws.proofs.Among.{among_more, among_last, among_or, among_is, names_end, length_end, plain_end, get_put, promises_grow, messages_grow, promises_at, messages_at, is_made_up}
 
@@ -18,6 +22,27 @@ IsTold v (Object w i) = ⊥
 IsTold v (Answer h m) = ⊥
 IsTold v (Gift h i) = ⊥
 IsTold v (Sent m) = ⊥
+
+-- a mark of names and vats: names that are made of a vat that bears it bear it, and a name's host does
+pub record Marked : Type 1 where
+  pub mark : Bit Name → Type 0
+  pub object : (v i : ℕ) → mark (At v) → mark (Named (Object v i))
+  pub promise : (v i : ℕ) → mark (At v) → mark (Named (Promise v i))
+  pub answer : (h : ℕ) (m : Msg) → mark (At h) → mark (Named (Answer h m))
+  pub gift : (h i : ℕ) → mark (At h) → mark (Named (Gift h i))
+  pub mail : (m : Msg) → mark (Mail (Sent m))
+  pub draw : (i : ℕ) → mark (Drew i)
+  pub near : (h : ℕ) → mark (Off h) → mark (At h)
+  pub off : (h : ℕ) → mark (At h) → mark (Off h)
+  pub host : (n : Name) → mark (Named n) → mark (At (host_of n))
+
+-- another vat is not the vat itself
+abbrev pub IsFar : ℕ → Bit Name → Type 0
+IsFar v (Off h) = v ≡ h → ⊥
+IsFar v (Named n) = Unit {0}
+IsFar v (Mail n) = Unit {0}
+IsFar v (Drew i) = Unit {0}
+IsFar v (At h) = Unit {0}
 
 -- how the count of messages goes on: where new ones may be made, and where none are
 abbrev pub Counts : Bool → ℕ → ℕ → Type 0
@@ -229,9 +254,9 @@ kept_promise v number ks ms p h = let k : Known Name = begun (Promise v p) numbe
     low i (inl a) = let l : i < p = h.below i a in omega arith
     low i (inr e) = let l : i ≡ p = same_promise v i p e in omega arith
 
-module _ (news : Bool) (vats : List (Vat Name)) (v : ℕ) (q : Vat Name) (there : slice_get vats v ≡ Some q) where
+module _ (news : Bool) (M : Marked) (vats : List (Vat Name)) (v : ℕ) (q : Vat Name) (there : slice_get vats v ≡ Some q) (here : M.mark (At v)) where
   abbrev pub Ok : Vat Name → Bit Name → Type 0
-  Ok s b = IsMade (put_at v s vats) (length s.drawn) b × IsHad (names_in s.known) s.mails b
+  Ok s b = IsMade (put_at v s vats) (length s.drawn) b × IsHad (names_in s.known) s.mails b × IsFar v b × M.mark b
 
   abbrev pub Goes : Vat Name → Vat Name → Type 0
   Goes s t = Follows news (IsTold v) (names_in s.known) s.mails s.promises s.messages (length s.drawn) (names_in t.known) t.mails t.promises t.messages (length t.drawn)
@@ -252,9 +277,11 @@ module _ (news : Bool) (vats : List (Vat Name)) (v : ℕ) (q : Vat Name) (there 
   had_up T s t r (Named n) h = known_up (names_in s.known) (names_in t.known) r.names n h
   had_up T s t r (Mail n) h = r.mails n h
   had_up T s t r (Drew i) h = tt
+  had_up T s t r (At w) h = tt
+  had_up T s t r (Off w) h = tt
 
   pub ok_on : (T : Name → Type 0) (s t : Vat Name) → Onward T s t → (b : Bit Name) → Ok s b → Ok t b
-  ok_on T s t r b h = (made_on T s t r b h.0, had_up T s t r b h.1)
+  ok_on T s t r b h = (made_on T s t r b h.0, had_up T s t r b h.1, h.2, h.3)
 
   abbrev pub tracked : Care Name
   tracked = record {
@@ -264,6 +291,8 @@ module _ (news : Bool) (vats : List (Vat Name)) (v : ℕ) (q : Vat Name) (there 
     same = quiet;
     trans = λ s t u h k. follows_trans news (IsTold v) (names_in s.known) s.mails s.promises s.messages (length s.drawn) (names_in t.known) t.mails t.promises t.messages (length t.drawn) (names_in u.known) u.mails u.promises u.messages (length u.drawn) h k;
     up = λ s t r b h. ok_on (IsTold v) s t r b h;
+    here = λ s h. (tt, tt, tt, subst (λ w. M.mark (At w)) (sym h.number) here);
+    near = λ s w h. (tt, tt, tt, M.near w h.3);
     fuel = λ s n. (quiet s, λ h. h);
     told = λ s e n. (quiet s, λ h. h);
     activations = λ s. (quiet s, λ h. h);
@@ -275,21 +304,21 @@ module _ (news : Bool) (vats : List (Vat Name)) (v : ℕ) (q : Vat Name) (there 
   }
 
   module _ (word : ℕ → ℕ) where
-    answer_made : (s : Vat Name) (h : ℕ) (m : Msg) → m.number < messages_of (put_at v s vats) m.sender →
+    answer_made : (s : Vat Name) (h : ℕ) (m : Msg) → m.number < messages_of (put_at v s vats) m.sender → M.mark (At h) →
         let t : Vat Name = record s { known = s.known ++ begun (Answer h m) h ∷ [] } in Goes s t × (Keeps s → Keeps t) × Ok t (Named (Answer h m))
     unfolding begun host_of
-    answer_made s h m l = let k : Known Name = begun (Answer h m) h in let t : Vat Name = record s { known = s.known ++ k ∷ [] } in
+    answer_made s h m l at = let k : Known Name = begun (Answer h m) h in let t : Vat Name = record s { known = s.known ++ k ∷ [] } in
         let r : Goes s t = follows_known news (IsTold v) s.known k s.mails s.promises s.messages (length s.drawn) (λ x. x) in
         let among : IsAmong (Answer h m) (names_in (s.known ++ k ∷ [])) = rw (sym (names_end s.known k)) at (among_last (names_in s.known) (Answer h m)) in
-        (r, λ c. kept_known v s.number s.known k s.mails s.promises refl refl tt (λ x i. x) (λ i e. absurd (no_answer v i h m e)) c, (made_on (IsTold v) s t r (Named (Answer h m)) l, among))
+        (r, λ c. kept_known v s.number s.known k s.mails s.promises refl refl tt (λ x i. x) (λ i e. absurd (no_answer v i h m e)) c, (made_on (IsTold v) s t r (Named (Answer h m)) l, among, tt, M.answer h m at))
 
-    gift_made : (s : Vat Name) (h i : ℕ) → i < length s.drawn →
+    gift_made : (s : Vat Name) (h i : ℕ) → i < length s.drawn → M.mark (At h) →
         let t : Vat Name = record s { known = s.known ++ begun (Gift h i) h ∷ [] } in Goes s t × (Keeps s → Keeps t) × Ok t (Named (Gift h i))
     unfolding begun host_of
-    gift_made s h i l = let k : Known Name = begun (Gift h i) h in let t : Vat Name = record s { known = s.known ++ k ∷ [] } in
+    gift_made s h i l at = let k : Known Name = begun (Gift h i) h in let t : Vat Name = record s { known = s.known ++ k ∷ [] } in
         let r : Goes s t = follows_known news (IsTold v) s.known k s.mails s.promises s.messages (length s.drawn) (λ x. x) in
         let among : IsAmong (Gift h i) (names_in (s.known ++ k ∷ [])) = rw (sym (names_end s.known k)) at (among_last (names_in s.known) (Gift h i)) in
-        (r, λ c. kept_known v s.number s.known k s.mails s.promises refl refl tt (λ x a. x) (λ j e. absurd (no_gift v j h i e)) c, (made_on (IsTold v) s t r (Named (Gift h i)) l, among))
+        (r, λ c. kept_known v s.number s.known k s.mails s.promises refl refl tt (λ x a. x) (λ j e. absurd (no_gift v j h i e)) c, (made_on (IsTold v) s t r (Named (Gift h i)) l, among, tt, M.gift h i at))
 
     pub promise_made : (s : Vat Name) → let t : Vat Name = record s { promises = suc s.promises; known = s.known ++ begun (Promise v s.promises) s.number ∷ [] } in Goes s t × (Keeps s → Keeps t) × Ok t (Named (Promise v s.promises))
     unfolding begun
@@ -299,23 +328,63 @@ module _ (news : Bool) (vats : List (Vat Name)) (v : ℕ) (q : Vat Name) (there 
         let among : IsAmong (Promise v s.promises) (names_in (s.known ++ k ∷ [])) = rw (sym (names_end s.known k)) at (among_last (names_in s.known) (Promise v s.promises)) in
         let e : promises_of (put_at v t vats) v ≡ suc s.promises = promises_at (put_at v t vats) v t (get_put vats v q t there) in
         let l : s.promises < promises_of (put_at v t vats) v = omega arith in
-        (r, λ c. kept_promise v s.number s.known s.mails s.promises c, (l, among))
+        (r, λ c. kept_promise v s.number s.known s.mails s.promises c, (l, among, tt, M.promise v s.promises here))
 
     object_ok : (s : Vat Name) (i : ℕ) → Ok s (Named (Object v i))
-    object_ok s i = (tt, tt)
+    object_ok s i = (tt, tt, tt, M.object v i here)
 
-    answered_ok : (s : Vat Name) (h : ℕ) (n : Name) → Ok s (Mail n) → let t : Vat Name = record s { known = s.known ++ begun (answer_of h n) h ∷ [] } in Goes s t × (Keeps s → Keeps t) × Ok t (Named (answer_of h n))
+    answered_ok : (s : Vat Name) (h : ℕ) (n : Name) → Ok s (Mail n) → M.mark (At h) → let t : Vat Name = record s { known = s.known ++ begun (answer_of h n) h ∷ [] } in Goes s t × (Keeps s → Keeps t) × Ok t (Named (answer_of h n))
     unfolding answer_of
-    answered_ok s h (Sent m) l = answer_made s h m l.0
-    answered_ok s h (Root w) l = absurd l.0
-    answered_ok s h (Object w i) l = absurd l.0
-    answered_ok s h (Promise w i) l = absurd l.0
-    answered_ok s h (Answer w m) l = absurd l.0
-    answered_ok s h (Gift w i) l = absurd l.0
+    answered_ok s h (Sent m) l at = answer_made s h m l.0 at
+    answered_ok s h (Root w) l at = absurd l.0
+    answered_ok s h (Object w i) l at = absurd l.0
+    answered_ok s h (Promise w i) l at = absurd l.0
+    answered_ok s h (Answer w m) l at = absurd l.0
+    answered_ok s h (Gift w i) l at = absurd l.0
+
+    -- the host that is told of a name is the host of that name
+    host_either : (s : Vat Name) (k : Known Name) (n : Name) (o : Option (Known Name)) (b : Bool) → same_name_of k.name n ≡ b → HostIsTrue k → (refs.host_in s.number o ≡ host_of n) ⊎ (refs.host_in s.number o ≡ s.number)
+        → (refs.host_in s.number (elim b [ true ↦ Some k | false ↦ o ]) ≡ host_of n) ⊎ (refs.host_in s.number (elim b [ true ↦ Some k | false ↦ o ]) ≡ s.number)
+    unfolding refs.host_in
+    host_either s k n o true e h i = inl (h ∙ ap host_of (same_is k.name n e))
+    host_either s k n o false e h i = i
+
+    host_told : (s : Vat Name) (n : Name) (ks : List (Known Name)) → AllOf HostIsTrue ks → (refs.host_in s.number (refs.entry_of (naming word v) ks n) ≡ host_of n) ⊎ (refs.host_in s.number (refs.entry_of (naming word v) ks n) ≡ s.number)
+    unfolding refs.entry_of refs.host_in naming
+    host_told s n [] h = inr refl
+    host_told s n (k ∷ ks) h = host_either s k n (refs.entry_of (naming word v) ks n) (same_name_of k.name n) refl h.0 (host_told s n ks h.1)
+
+    hosted_far : (s : Vat Name) (n : Name) (h : ℕ) (b : Bool) → (s.number == h) ≡ b → Ok s (Named n) → s.number ≡ v → (h ≡ host_of n) ⊎ (h ≡ s.number) → PlaceOk (Ok s) (elim b [ true ↦ Mine n | false ↦ Away h n false ])
+    hosted_far s n h true e g i j = g
+    hosted_far s n h false e g i (inl j) = (g, (tt, tt, (λ k. false_true (sym e ∙ eq-eqb s.number h (i ∙ k))), M.off h (subst (λ w. M.mark (At w)) (sym j) (M.host n g.3))))
+    hosted_far s n h false e g i (inr j) = absurd (false_true (sym e ∙ eq-eqb s.number h (sym j)))
+
+    foreign_far : (s : Vat Name) (w i : ℕ) (b : Bool) → (v == w) ≡ b → Ok s (Named (Object w i)) → PlaceOk (Ok s) (refs.spotted (naming word v) s (Object w i) (elim b [ true ↦ Own i | false ↦ Foreign w ]))
+    unfolding refs.spotted host_of
+    foreign_far s w i true e g = tt
+    foreign_far s w i false e g = (g, (tt, tt, (λ k. false_true (sym e ∙ eq-eqb v w k)), M.off w (M.host (Object w i) g.3)))
+
+    eventual_far : (s : Vat Name) → Keeps s → (n : Name) → Ok s (Named n) → PlaceOk (Ok s) (refs.spotted (naming word v) s n NoObject)
+    unfolding refs.spotted refs.hosted refs.host_at
+    eventual_far s h n g = hosted_far s n (refs.host_in s.number (refs.entry_of (naming word v) s.known n)) (s.number == refs.host_in s.number (refs.entry_of (naming word v) s.known n)) refl g h.number (host_told s n s.known h.hosts)
+
+    spots_far : (s : Vat Name) → Keeps s → (n : Name) → Ok s (Named n) → PlaceOk (Ok s) (refs.spotted (naming word v) s n (spot_of v n))
+    unfolding spot_of
+    spots_far s h (Object w i) g = foreign_far s w i (v == w) refl g
+    spots_far s h (Root w) g = eventual_far s h (Root w) g
+    spots_far s h (Promise w i) g = eventual_far s h (Promise w i) g
+    spots_far s h (Answer w m) g = eventual_far s h (Answer w m) g
+    spots_far s h (Gift w i) g = eventual_far s h (Gift w i) g
+    spots_far s h (Sent m) g = eventual_far s h (Sent m) g
+
+    tracked_spots : Spots (naming word v) tracked
+    unfolding naming
+    tracked_spots = record { placed = spots_far }
 
     pub tracked_under : Under (naming word v) tracked
     unfolding naming name_of answer_of mail_of
     tracked_under = record {
+      spots = tracked_spots;
       object = λ s i. object_ok s i;
       happened = λ s e. (quiet s, λ h. h);
       queue = λ s m. (quiet s, λ h. h);
@@ -323,28 +392,28 @@ module _ (news : Bool) (vats : List (Vat Name)) (v : ℕ) (q : Vat Name) (there 
       gift = λ s g h. (quiet s, λ h. h);
       opened = λ s p i. (quiet s, λ h. h);
       noticed = λ s w. (quiet s, λ h. h);
-      drawn = λ s w. (follows_drawn news (IsTold v) (names_in s.known) s.mails s.promises s.messages s.drawn w, λ h. h, (let e : length (s.drawn ++ w ∷ []) ≡ suc (length s.drawn) = length_end s.drawn w in omega arith, tt));
+      drawn = λ s w. (follows_drawn news (IsTold v) (names_in s.known) s.mails s.promises s.messages s.drawn w, λ h. h, (let e : length (s.drawn ++ w ∷ []) ≡ suc (length s.drawn) = length_end s.drawn w in omega arith, tt, tt, M.draw (length s.drawn)));
       altered = λ s c n none h. (follows_change (naming word v) news (IsTold v) c n s.known s.mails s.promises s.messages (length s.drawn), λ k. kept_change (naming word v) v s.number c n s.known s.mails s.promises none k);
-      answered = λ s h n l. answered_ok s h n l;
-      given = λ s h i l. gift_made s h i l.0;
+      answered = λ s h n l at. answered_ok s h n l at.3;
+      given = λ s h i l at. gift_made s h i l.0 at.3;
     }
 
 -- where new messages may be made
-module _ (vats : List (Vat Name)) (v : ℕ) (q : Vat Name) (there : slice_get vats v ≡ Some q) (word : ℕ → ℕ) where
-  message_made : (s : Vat Name) (h : ℕ) → let m : Msg = record { sender = v; number = s.messages } in let t : Vat Name = record s { messages = suc s.messages; mails = s.mails ++ Sent m ∷ []; known = s.known ++ begun (Answer h m) h ∷ [] } in
-      Goes true vats v q there s t × (Keeps true vats v q there s → Keeps true vats v q there t) × Ok true vats v q there t (Mail (Sent m)) × Ok true vats v q there t (Named (Answer h m))
+module _ (M : Marked) (vats : List (Vat Name)) (v : ℕ) (q : Vat Name) (there : slice_get vats v ≡ Some q) (here : M.mark (At v)) (word : ℕ → ℕ) where
+  message_made : (s : Vat Name) (h : ℕ) → M.mark (At h) → let m : Msg = record { sender = v; number = s.messages } in let t : Vat Name = record s { messages = suc s.messages; mails = s.mails ++ Sent m ∷ []; known = s.known ++ begun (Answer h m) h ∷ [] } in
+      Goes true M vats v q there here s t × (Keeps true M vats v q there here s → Keeps true M vats v q there here t) × Ok true M vats v q there here t (Mail (Sent m)) × Ok true M vats v q there here t (Named (Answer h m))
   unfolding begun host_of
-  message_made s h = let m : Msg = record { sender = v; number = s.messages } in let k : Known Name = begun (Answer h m) h in let t : Vat Name = record s { messages = suc s.messages; mails = s.mails ++ Sent m ∷ []; known = s.known ++ k ∷ [] } in
+  message_made s h at = let m : Msg = record { sender = v; number = s.messages } in let k : Known Name = begun (Answer h m) h in let t : Vat Name = record s { messages = suc s.messages; mails = s.mails ++ Sent m ∷ []; known = s.known ++ k ∷ [] } in
       let f : Follows true (IsTold v) (names_in s.known) s.mails s.promises s.messages (length s.drawn) (names_in (s.known ++ k ∷ [])) s.mails s.promises s.messages (length s.drawn) = follows_known true (IsTold v) s.known k s.mails s.promises s.messages (length s.drawn) (λ x. x) in
-      let r : Goes true vats v q there s t = record { names = f.names; mails = λ n a. among_more n s.mails (Sent m) a; promises = omega arith; messages = omega arith; draws = omega arith; told = f.told } in
+      let r : Goes true M vats v q there here s t = record { names = f.names; mails = λ n a. among_more n s.mails (Sent m) a; promises = omega arith; messages = omega arith; draws = omega arith; told = f.told } in
       let among : IsAmong (Answer h m) (names_in (s.known ++ k ∷ [])) = rw (sym (names_end s.known k)) at (among_last (names_in s.known) (Answer h m)) in
       let e : messages_of (put_at v t vats) v ≡ suc s.messages = messages_at (put_at v t vats) v t (get_put vats v q t there) in
       let l : s.messages < messages_of (put_at v t vats) v = omega arith in
-      (r, λ c. kept_mail v s.number (s.known ++ k ∷ []) s.mails s.promises (Sent m) tt (kept_known v s.number s.known k s.mails s.promises refl refl tt (λ x a. x) (λ i e. absurd (no_answer v i h m e)) c), (l, among_last s.mails (Sent m)), (l, among))
+      (r, λ c. kept_mail v s.number (s.known ++ k ∷ []) s.mails s.promises (Sent m) tt (kept_known v s.number s.known k s.mails s.promises refl refl tt (λ x a. x) (λ i e. absurd (no_answer v i h m e)) c), (l, among_last s.mails (Sent m), tt, M.mail m), (l, among, tt, M.answer h m at))
 
-  pub tracked_makes : Makes (naming word v) (tracked true vats v q there)
+  pub tracked_makes : Makes (naming word v) (tracked true M vats v q there here)
   unfolding naming name_of answer_of mail_of
   tracked_makes = record {
-    promised = λ s. promise_made true vats v q there word s;
-    messaged = λ s h. message_made s h;
+    promised = λ s. promise_made true M vats v q there here word s;
+    messaged = λ s h at. message_made s h at.3;
   }

@@ -6,14 +6,14 @@ use Rattle.ev_machine.specs.Values.{Name, Gift, IsGift, naming, name_of}
 use Rattle.ev_machine.specs.State.{Known, See, Wait, Shorten, Ask, Views, GiftEntry, Vat, Done, Gives, Throws, Ejects, Stops, ◌>>=◌, ◌>>◌, and_then, give, look, tell, send_out, come, new_gift, alter, draw, draws, with_change, is_gift, begun}
 use Rattle.ev_machine.specs.Refs.{host_at}
 use Rattle.ev_machine.specs.Arrive as arrive
-use Rattle.ev_name_laws.specs.Names.{Named, Drew, AllOf, IsAmong, names_in, KnownOk, GiftOk}
-use Rattle.ev_name_laws.proofs.Facts.{Fact, Nothing, Also, IsName, IsDraw, nothing}
+use Rattle.ev_name_laws.specs.Names.{Named, Drew, At, AllOf, IsAmong, names_in, KnownOk, GiftOk}
+use Rattle.ev_name_laws.proofs.Facts.{Fact, Nothing, Also, IsName, IsDraw, IsVat, nothing}
 use Rattle.ev_name_laws.proofs.Care.{Care, Sound, Ends, Gets, Fine, widen, still, changes_ok, fine_tell, fine_out, fine_wait}
-use Rattle.ev_name_laws.proofs.Looks.{note_shorten}
+use Rattle.ev_name_laws.proofs.Looks.{note_shorten, goes_shorten}
 use Rattle.ev_name_laws.proofs.CareArrive.{fine_gift_there}
 use Rattle.ev_name_laws.proofs.SameNames.{same_is}
 use Rattle.ev_name_laws.proofs.Views.{AllLookOn, look_on_see}
-use Rattle.ev_name_laws.proofs.Tracked.{IsTold, Kept, Ok, Goes, ok_on, follows_change, names_change, same_name, kept_looking, tracked, tracked_under}
+use Rattle.ev_name_laws.proofs.Tracked.{IsTold, Marked, Kept, Ok, Goes, ok_on, follows_change, names_change, same_name, kept_looking, tracked, tracked_under}
 
 less_not : (i j : ℕ) → i < j → i ≡ j → ⊥
 less_not i j h e = omega arith
@@ -25,9 +25,9 @@ IsLast i s (Throws p t) = Unit {0}
 IsLast i s (Ejects n y t) = Unit {0}
 IsLast i s (Stops c t) = Unit {0}
 
-module _ (news : Bool) (vats : List (Vat Name)) (v : ℕ) (q : Vat Name) (there : slice_get vats v ≡ Some q) (word : ℕ → ℕ) where
+module _ (news : Bool) (M : Marked) (vats : List (Vat Name)) (v : ℕ) (q : Vat Name) (there : slice_get vats v ≡ Some q) (here : M.mark (At v)) (word : ℕ → ℕ) where
   abbrev S : Care Name
-  S = tracked news vats v q there
+  S = tracked news M vats v q there here
 
   -- ---- the gift is new
 
@@ -65,8 +65,8 @@ module _ (news : Bool) (vats : List (Vat Name)) (v : ℕ) (q : Vat Name) (there 
   numbers_below s (g ∷ gs) h = let k = h.0 in let l = k.1 in (l.0, numbers_below s gs h.1)
 
   -- a name that was made before is no gift of the next draw
-  other_name : (s : Vat Name) (n : Name) (x : ℕ) → Ok news vats v q there s (Named n) → n ≡ Gift x (length s.drawn) → ⊥
-  other_name s n x h e = let g : Ok news vats v q there s (Named (Gift x (length s.drawn))) = rw e at h in less_not (length s.drawn) (length s.drawn) g.0 refl
+  other_name : (s : Vat Name) (n : Name) (x : ℕ) → Ok news M vats v q there here s (Named n) → n ≡ Gift x (length s.drawn) → ⊥
+  other_name s n x h e = let g : Ok news M vats v q there here s (Named (Gift x (length s.drawn))) = rw e at h in less_not (length s.drawn) (length s.drawn) g.0 refl
 
   not_known : (s : Vat Name) (x : ℕ) (ks : List (Known Name)) → AllOf (KnownOk (S.ok s)) ks → IsAmong (Gift x (length s.drawn)) (names_in ks) → ⊥
   not_known s x [] h a = absurd a
@@ -84,49 +84,49 @@ module _ (news : Bool) (vats : List (Vat Name)) (v : ℕ) (q : Vat Name) (there 
 
   -- a change by which a name that was known comes to be viewed as the one that came last
   seen : (t : Vat Name) (ks : List (Known Name)) (k : Known Name) (n g : Name) → Sound S t → S.ok t (Named g) → t.known ≡ ks ++ k ∷ [] → k.name ≡ g → (IsAmong g (names_in ks) → ⊥) → (n ≡ g → ⊥)
-      → Goes news vats v q there t (record t { known = with_change (naming word v) (See g) n t.known }) × Sound S (record t { known = with_change (naming word v) (See g) n t.known })
+      → Goes news M vats v q there here t (record t { known = with_change (naming word v) (See g) n t.known }) × Sound S (record t { known = with_change (naming word v) (See g) n t.known })
   seen t ks k n g h b e f new other = let u : Vat Name = record t { known = with_change (naming word v) (See g) n t.known } in
-      let r : Goes news vats v q there t u = follows_change (naming word v) news (IsTold v) (See g) n t.known t.mails t.promises t.messages (length t.drawn) in let p = still S t u r h in
-      let good : S.ok u (Named g) = ok_on news vats v q there (IsTold v) t u r (Named g) b in
-      (r, record { parts = record { things = p.things; slots = p.slots; lists = p.lists; queue = p.queue; known = changes_ok (naming word v) S (tracked_under news vats v q there word) (S.ok u) (See g) n t.known good p.known; gifts = p.gifts; outbox = p.outbox }; more = see_known t t ks k n g e f new other h.more })
+      let r : Goes news M vats v q there here t u = follows_change (naming word v) news (IsTold v) (See g) n t.known t.mails t.promises t.messages (length t.drawn) in let p = still S t u r h in
+      let good : S.ok u (Named g) = ok_on news M vats v q there here (IsTold v) t u r (Named g) b in
+      (r, record { parts = record { things = p.things; slots = p.slots; lists = p.lists; queue = p.queue; known = changes_ok (naming word v) S (tracked_under news M vats v q there here word) (S.ok u) (See g) n t.known good p.known; gifts = p.gifts; outbox = p.outbox }; more = see_known t t ks k n g e f new other h.more })
 
   see_ends : (s : Vat Name) (ks : List (Known Name)) (k : Known Name) (n g : Name) → Sound S s → S.ok s (Named n) → S.ok s (Named g) → s.known ≡ ks ++ k ∷ [] → k.name ≡ g → (IsAmong g (names_in ks) → ⊥) → (n ≡ g → ⊥) → Ends S nothing s (arrive.see (naming word v) n g s)
   unfolding arrive.see ◌>>◌ and_then tell alter
   see_ends s ks k n g h a b e f new other = let t : Vat Name = record s { happened = s.happened ++ Views n g ∷ [] } in
-      let told = (fine_tell (naming word v) S (tracked_under news vats v q there word) {C = Nothing} (Views n g)).after s h tt in
+      let told = (fine_tell (naming word v) S (tracked_under news M vats v q there here word) {C = Nothing} (Views n g)).after s h tt in
       let u : Vat Name = record t { known = with_change (naming word v) (See g) n t.known } in
-      let after = seen t ks k n g told.1 (ok_on news vats v q there (IsTold v) s t told.0 (Named g) b) e f new other in
-      let known : S.ok u (Named n) = ok_on news vats v q there (IsTold v) t u after.0 (Named n) (ok_on news vats v q there (IsTold v) s t told.0 (Named n) a) in
-      let last = (fine_wait (naming word v) S (tracked_under news vats v q there word) {C = IsName n} n g (record { at = λ r c. c })).after u after.1 known in
+      let after = seen t ks k n g told.1 (ok_on news M vats v q there here (IsTold v) s t told.0 (Named g) b) e f new other in
+      let known : S.ok u (Named n) = ok_on news M vats v q there here (IsTold v) t u after.0 (Named n) (ok_on news M vats v q there here (IsTold v) s t told.0 (Named n) a) in
+      let last = (fine_wait (naming word v) S (tracked_under news M vats v q there here word) {C = IsName n} n g (record { at = λ r c. c })).after u after.1 known in
       let d : Done Name (Unit {0}) = alter (naming word v) (Wait n) g u in widen S {A = Unit {0}} nothing s t d told.0 (widen S {A = Unit {0}} nothing t u d after.0 last)
 
   -- ---- the gift and the view
 
   gift_then : (s : Vat Name) (n : Name) (i : ℕ) (d : Done Name Name) → Ends S IsName s d → IsLast i s d → S.ok s (Named n) → ((x : ℕ) → IsAmong (Gift x i) (names_in s.known) → ⊥) → ((x : ℕ) → n ≡ Gift x i → ⊥) → Ends S nothing s (and_then d (λ g. arrive.see (naming word v) n g))
   unfolding and_then
-  gift_then s n i (Gives g t) h (x, k, e, f, j) a new other = widen S {A = Unit {0}} nothing s t (arrive.see (naming word v) n g t) h.0 (see_ends t s.known k n g h.1 (ok_on news vats v q there (IsTold v) s t h.0 (Named n) a) h.2 j f (λ b. new x (rw e at b)) (λ y. other x (y ∙ e)))
+  gift_then s n i (Gives g t) h (x, k, e, f, j) a new other = widen S {A = Unit {0}} nothing s t (arrive.see (naming word v) n g t) h.0 (see_ends t s.known k n g h.1 (ok_on news M vats v q there here (IsTold v) s t h.0 (Named n) a) h.2 j f (λ b. new x (rw e at b)) (λ y. other x (y ∙ e)))
   gift_then s n i (Throws p t) h l a new other = h
   gift_then s n i (Ejects m y t) h l a new other = h
   gift_then s n i (Stops c t) h l a new other = tt
 
-  put_then : (s : Vat Name) (u h i c : ℕ) (n : Name) → Sound S s → S.ok s (Named n) → S.ok s (Drew i) → arrive.gift_at h i s.gifts ≡ None → ((x : ℕ) → IsAmong (Gift x i) (names_in s.known) → ⊥) → ((x : ℕ) → n ≡ Gift x i → ⊥)
+  put_then : (s : Vat Name) (u h i c : ℕ) (n : Name) → Sound S s → S.ok s (Named n) → S.ok s (At c) → S.ok s (Drew i) → arrive.gift_at h i s.gifts ≡ None → ((x : ℕ) → IsAmong (Gift x i) (names_in s.known) → ⊥) → ((x : ℕ) → n ≡ Gift x i → ⊥)
       → Ends S nothing s (and_then (arrive.gift_there (naming word v) u h c i s) (λ g. arrive.see (naming word v) n g))
-  put_then s u w i c n h a b e new other = gift_then s n i (arrive.gift_there (naming word v) u w c i s) ((fine_gift_there (naming word v) S (tracked_under news vats v q there word) {C = IsDraw i} u w c i (record { at = λ r d. d })).after s h b) (gift_last s u w c i e) a new other
+  put_then s u w i c n h a at b e new other = gift_then s n i (arrive.gift_there (naming word v) u w c i s) ((fine_gift_there (naming word v) S (tracked_under news M vats v q there here word) {C = Also (IsDraw i) (IsVat c)} u w c i (record { at = λ r d. d.1 }) (record { at = λ r d. d.0 })).after s h (b, at)) (gift_last s u w c i e) a new other
 
-  drawn_then : (s : Vat Name) (u h c : ℕ) (n : Name) (w : ℕ) (o : Option ℕ) → Sound S s → S.ok s (Named n)
+  drawn_then : (s : Vat Name) (u h c : ℕ) (n : Name) (w : ℕ) (o : Option ℕ) → Sound S s → S.ok s (Named n) → S.ok s (At c)
       → Ends S nothing s (and_then (draws w o s) (λ i. send_out h (Shorten n c i) >> (arrive.gift_there (naming word v) u h c i >>= (λ g. arrive.see (naming word v) n g))))
   unfolding draws and_then send_out ◌>>◌ ◌>>=◌
-  drawn_then s u p c n w (Some j) h a = tt
-  drawn_then s u p c n w None h a = let i : ℕ = length s.drawn in let law = tracked_under news vats v q there word in let r = law.drawn s w in let t : Vat Name = record s { drawn = s.drawn ++ w ∷ [] } in
+  drawn_then s u p c n w (Some j) h a at = tt
+  drawn_then s u p c n w None h a at = let i : ℕ = length s.drawn in let law = tracked_under news M vats v q there here word in let r = law.drawn s w in let t : Vat Name = record s { drawn = s.drawn ++ w ∷ [] } in
       let drew : Sound S t = record { parts = still S s t r.0 h; more = r.1 h.more } in
-      let known : S.ok t (Named n) = ok_on news vats v q there (IsTold v) s t r.0 (Named n) a in
-      let put = (fine_out (naming word v) S law {C = Also (IsName n) (IsDraw i)} p (Shorten n c i) (note_shorten S (Also (IsName n) (IsDraw i)) n c i (record { at = λ r d. d.0 }) (record { at = λ r d. d.1 }))).after t drew (known, r.2) in
+      let known : S.ok t (Named n) = ok_on news M vats v q there here (IsTold v) s t r.0 (Named n) a in
+      let put = (fine_out (naming word v) S law {C = Also (IsName n) (IsDraw i)} p (Shorten n c i) (note_shorten S (Also (IsName n) (IsDraw i)) n c i (record { at = λ r d. d.0 }) (record { at = λ r d. d.1 })) (goes_shorten S (Also (IsName n) (IsDraw i)) p n c i)).after t drew (known, r.2) in
       let z : Vat Name = record t { outbox = t.outbox ++ record { to = p; note = Shorten n c i } ∷ [] } in
       let d : Done Name (Unit {0}) = and_then (arrive.gift_there (naming word v) u p c i z) (λ g. arrive.see (naming word v) n g) in
-      widen S {A = Unit {0}} nothing s t d r.0 (widen S {A = Unit {0}} nothing t z d put.0 (put_then z u p i c n put.1 (ok_on news vats v q there (IsTold v) t z put.0 (Named n) known) (ok_on news vats v q there (IsTold v) t z put.0 (Drew i) r.2)
+      widen S {A = Unit {0}} nothing s t d r.0 (widen S {A = Unit {0}} nothing t z d put.0 (put_then z u p i c n put.1 (ok_on news M vats v q there here (IsTold v) t z put.0 (Named n) known) (ok_on news M vats v q there here (IsTold v) t z put.0 (At c) (ok_on news M vats v q there here (IsTold v) s t r.0 (At c) at)) (ok_on news M vats v q there here (IsTold v) t z put.0 (Drew i) r.2)
       (gift_absent s i i p s.gifts refl (numbers_below s s.gifts h.parts.gifts)) (λ x b. not_known s x s.known h.parts.known b) (λ x b. other_name s n x a b)))
 
   -- what a name is viewed as is asked of its host, and comes later among the names known
-  pub tracked_views : {C : Fact Name} (n : Name) → Gets S C (IsName n) → (c : ℕ) → Fine S C (arrive.view_there (naming word v) n c) nothing
+  pub tracked_views : {C : Fact Name} (n : Name) → Gets S C (IsName n) → (c : ℕ) → Gets S C (IsVat c) → Fine S C (arrive.view_there (naming word v) n c) nothing
   unfolding arrive.view_there ◌>>=◌ and_then look draw
-  tracked_views n g c = record { after = λ s h d. drawn_then s s.number (host_at (naming word v) s.number s.known n) c n _ _ h (g.at s d) }
+  tracked_views n g c k = record { after = λ s h d. drawn_then s s.number (host_at (naming word v) s.number s.known n) c n _ _ h (g.at s d) (k.at s d) }

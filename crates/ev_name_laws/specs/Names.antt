@@ -11,6 +11,9 @@ pub data Bit (N : Type 0) : Type 0 where
   Mail : N → Bit N
   -- the draw of that number
   Drew : ℕ → Bit N
+  -- a vat, and another vat than that of the state
+  At : ℕ → Bit N
+  Off : ℕ → Bit N
 
 -- it holds of each
 abbrev pub AllOf : {A : Type 0} → (A → Type 0) → List A → Type 0
@@ -81,7 +84,7 @@ module _ {N : Type 0} (P : Bit N → Type 0) where
   abbrev mutual
     pub PassedOk : Passed N → Type 0
     PassedOk (Plain y) = ValueOk y
-    PassedOk (AGift h i) = P (Drew i)
+    PassedOk (AGift h i) = P (At h) × P (Drew i)
     PassedOk (Many ys) = PassedsOk ys
 
     pub PassedsOk : Passeds N → Type 0
@@ -93,11 +96,20 @@ module _ {N : Type 0} (P : Bit N → Type 0) where
   NoteOk (Open i n) = P (Drew i) × P (Named n)
   NoteOk (Ask p i n) = P (Drew i) × P (Named n)
   NoteOk (SettledTo n y) = P (Named n) × PassedOk y
-  NoteOk (Elsewhere n c) = P (Named n)
+  NoteOk (Elsewhere n c) = P (Named n) × P (At c)
   NoteOk (Shorten n c i) = P (Named n) × P (Drew i)
 
+  -- a deliver note is put to another vat
+  abbrev pub GoesOk : ℕ → Note N → Type 0
+  GoesOk to (Deliver m n verb ys) = P (Off to)
+  GoesOk to (Open i n) = Unit {0}
+  GoesOk to (Ask p i n) = Unit {0}
+  GoesOk to (SettledTo n y) = Unit {0}
+  GoesOk to (Elsewhere n c) = Unit {0}
+  GoesOk to (Shorten n c i) = Unit {0}
+
   abbrev pub PutOk : Put N → Type 0
-  PutOk p = NoteOk p.note
+  PutOk p = NoteOk p.note × GoesOk p.to p.note
 
   abbrev pub GiftOk : GiftEntry N → Type 0
   GiftOk g = P (Named g.name) × P (Drew g.number)
@@ -146,6 +158,8 @@ abbrev pub IsMade : List (Vat Name) → ℕ → Bit Name → Type 0
 IsMade vats draws (Named n) = WasMade vats draws n
 IsMade vats draws (Mail n) = IsMessageMade vats n
 IsMade vats draws (Drew i) = i < draws
+IsMade vats draws (At h) = Unit {0}
+IsMade vats draws (Off h) = Unit {0}
 
 -- ---- names that a vat knows
 
@@ -162,6 +176,8 @@ abbrev pub IsHad : List Name → List Name → Bit Name → Type 0
 IsHad ns mails (Named n) = IsKnownIn ns n
 IsHad ns mails (Mail n) = IsAmong n mails
 IsHad ns mails (Drew i) = Unit {0}
+IsHad ns mails (At h) = Unit {0}
+IsHad ns mails (Off h) = Unit {0}
 
 -- the vat that tells of it is its host
 abbrev pub HostIsTrue : Known Name → Type 0

@@ -1,13 +1,13 @@
 -- The laws of whole fates, over runs.
-use Rattle.std.proofs.Common.{◌≡◌, ℕ, zero, suc, ◌+◌, ◌≤◌, List, [], ◌∷◌, ◌++◌, Some, refl, sym, ◌∙◌, inl, inr, length, append-nil, append_assoc, subst, arith}
+use Rattle.std.proofs.Common.{◌≡◌, ℕ, zero, suc, ◌+◌, ◌≤◌, List, [], ◌∷◌, ◌++◌, Some, refl, sym, ◌∙◌, inl, inr, length, append-nil, append_assoc, subst, arith, Bool, false}
 use Rattle.std.specs.Prelude.{slice_get}
-use Rattle.ev_machine.specs.Values.{Name}
+use Rattle.ev_machine.specs.Values.{Name, Root}
 use Rattle.ev_run.specs.World as world
 use Rattle.ev_run.specs.World.{Script, Program, Entry, Event, Ends, Link, World, Run, Goes, Stopped, begins}
-use Rattle.ev_name_laws.specs.Names.{IsAmong, IsMade, NoteOk}
+use Rattle.ev_name_laws.specs.Names.{IsAmong, NoteOk}
 use Rattle.ev_name_laws.specs.Runs.{KnowsOnce}
 use Rattle.ev_name_laws.proofs.Among.{all_among, length_end}
-use Rattle.ev_name_laws.proofs.Run.{LinkStands, Stands, begins_stands, open_stands, step_stands, opened_stands, steps_stand}
+use Rattle.ev_name_laws.proofs.Run.{Told, LinkStands, Stands, begins_stands, open_stands, step_stands, opened_stands, steps_stand}
 use Rattle.ev_name_laws.proofs.Laws.{in_each}
 use Rattle.ev_fate_laws.specs.Fate.{places, sent_by, sent, took_by, takes, lost_by, losses, left_by, leavings, fates}
 use Rattle.ev_fate_laws.specs.Lasting.{Each, NoteWell}
@@ -17,9 +17,9 @@ use Rattle.ev_fate_laws.proofs.RunAccount.{Fated, step_fated, open_fated}
 use Rattle.ev_fate_laws.proofs.RunFates.{begins_fated, goes_fated, closing, none_vats, none_links, vats_listed, links_listed}
 use Rattle.ev_fate_laws.proofs.RunWell.{begins_well, open_well, step_well, goes_well, runs_stay_well}
 use Rattle.ev_whole_fate_laws.specs.Steps.{ViewsEndInRuns, OfEachStep, Finds, StepsFindPlaces}
-use Rattle.ev_whole_fate_laws.specs.Runs.{StepPutsToVats, NotesGoToVats, EachMessageHasAFate, ExactlyOneFate}
+use Rattle.ev_whole_fate_laws.specs.Runs.{KnowsVats, StepPutsToVats, NotesGoToVats, NotesGoToVatsOfTheRun, EachMessageHasAFate, ExactlyOneFate}
 use Rattle.ev_whole_fate_laws.proofs.ViewsEnd.{views_end}
-use Rattle.ev_whole_fate_laws.proofs.WholeSteps.{opens_find, takes_find, note_finds, notices_find}
+use Rattle.ev_whole_fate_laws.proofs.WholeSteps.{opens_find, takes_find, note_finds, notices_find, opens_put, takes_put, note_put, notices_put}
 use Rattle.ev_whole_fate_laws.proofs.RunWhole.{Kept, begins_kept, step_kept, open_kept}
 
 pub views_end_in_runs : ViewsEndInRuns
@@ -36,7 +36,7 @@ finds_each : (script : Script) (w : World) → Stands script w → WorldWell w �
 finds_each script w h g v s e = (
   λ p i cut x. opens_find script w h g v s e cut x p i,
   λ m ms i cut x. takes_find script w h g v s e cut x m ms i,
-  λ from l n i j cut x. note_finds script w h g v s e cut x from n (all_among (NoteOk (IsMade w.vats (length w.drawn))) l.notes n (all_among (LinkStands w) w.links l h.links i) j)
+  λ from l n i j cut x. note_finds script w h g v s e cut x from n (all_among (NoteOk (Told script w)) l.notes n (all_among (LinkStands script w) w.links l h.links i) j)
       (each_among NoteWell l.notes n (each_among (λ (k : Link). Each NoteWell k.notes) w.links l g.links i) j),
   λ u cut x. notices_find script w h g v s e cut x u,
 )
@@ -46,6 +46,21 @@ steps_find_places script once = (
   λ ps rest w e opened. let well = runs_stay_well script in finds_each script w (opened_stands script once ps rest w e opened) (goes_well (world.open_from script zero ps (begins script)) w opened (well.0 ps)),
   λ w y es k opened stepped. let well = runs_stay_well script in
       finds_each script y (steps_stand script es k w y (opened_stands script once script.vats [] w (sym (append-nil script.vats)) opened) stepped) (goes_well (world.steps_from script es k w) y stepped (well.1 w es k opened)),
+)
+
+puts_each : (script : Script) → KnowsVats script → (w : World) → Stands script w → WorldWell w → OfEachStep script w (StepPutsToVats script)
+puts_each script knows w h g v s e = let cut : ℕ → Bool = λ u. false in let x : Name = Root 0 in (
+  λ p i. opens_put script w h g v s e cut x knows p i,
+  λ m ms i. takes_put script w h g v s e cut x knows m ms i,
+  λ from l n i j. note_put script w h g v s e cut x knows from n (all_among (NoteOk (Told script w)) l.notes n (all_among (LinkStands script w) w.links l h.links i) j),
+  λ u. notices_put script w h g v s e cut x knows u,
+)
+
+pub notes_go_to_vats_of_the_run : NotesGoToVatsOfTheRun
+notes_go_to_vats_of_the_run script once knows = (
+  λ ps rest w e opened. let well = runs_stay_well script in puts_each script knows w (opened_stands script once ps rest w e opened) (goes_well (world.open_from script zero ps (begins script)) w opened (well.0 ps)),
+  λ w y es k opened stepped. let well = runs_stay_well script in
+      puts_each script knows y (steps_stand script es k w y (opened_stands script once script.vats [] w (sym (append-nil script.vats)) opened) stepped) (goes_well (world.steps_from script es k w) y stepped (well.1 w es k opened)),
 )
 
 -- ---- runs
@@ -173,10 +188,10 @@ module _ (script : Script) where
         close_exact z y (stepped_stood w z script.schedule 1 opened stepped) j))
 
 pub each_message_has_a_fate : EachMessageHasAFate
-each_message_has_a_fate script once puts x = (
+each_message_has_a_fate script once knows x = let puts = notes_go_to_vats_of_the_run script once knows in (
   λ ps rest w e opened. exact script once puts x w (opened_stood script once puts x ps rest w e opened),
   λ w y es k opened stepped. exact script once puts x y (stepped_stood script once puts x w y es k opened stepped),
 )
 
 pub exactly_one_fate : ExactlyOneFate
-exactly_one_fate script once puts x y e = run_exact script once puts x y e
+exactly_one_fate script once knows x y e = run_exact script once (notes_go_to_vats_of_the_run script once knows) x y e

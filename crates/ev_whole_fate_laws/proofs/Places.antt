@@ -7,14 +7,14 @@ use Rattle.ev_machine.specs.Refs as refs
 use Rattle.ev_machine.specs.Refs.{Place, Near, Mine, Away, Gone}
 use Rattle.ev_machine_laws.specs.Steps.{After}
 use Rattle.ev_machine_laws.proofs.Keeps.{Keeps}
-use Rattle.ev_name_laws.specs.Names.{Named, Mail, ValueOk, ValuesOk, MessageOk}
+use Rattle.ev_name_laws.specs.Names.{Named, Mail, At, ValueOk, ValuesOk, MessageOk}
 use Rattle.ev_name_laws.proofs.Facts.{PlaceOk, Fact, Nothing, Also, IsName, IsValue, AreValues, IsMessage, IsPlace, nothing, value_up, values_up, holds_up}
 use Rattle.ev_name_laws.proofs.Care.{TellsOfNone, Care, Under, Sound, Ends, Gets, Fine, fine_tell, with_known, fine_promise}
 use Rattle.ev_name_laws.proofs.Looks.{follow_ok, place_ok}
 use Rattle.ev_name_laws.proofs.CareRefs.{fine_settle, fine_resolve, fine_send_first, fine_send, fine_react}
 use Rattle.ev_name_laws.proofs.Serves.{Serves}
 use Rattle.ev_name_laws.proofs.SameNames.{same_is, same_self}
-use Rattle.ev_name_laws.proofs.Tracked.{Goes, tracked, tracked_under, tracked_makes}
+use Rattle.ev_name_laws.proofs.Tracked.{Marked, Goes, tracked, tracked_under, tracked_makes}
 use Rattle.ev_fate_laws.specs.Fate.{one, at_vat, sent_here, sent_in, account}
 use Rattle.ev_fate_laws.specs.Lasting.{AllWell}
 use Rattle.ev_fate_laws.specs.Finding as finding
@@ -56,26 +56,26 @@ sent_none cut v x c s (Throws p t) h e = tt
 sent_none cut v x c s (Ejects n y t) h e = tt
 sent_none cut v x c s (Stops r t) h e = tt
 
-module _ (vats : List (Vat Name)) (v : ℕ) (q : Vat Name) (there : slice_get vats v ≡ Some q) (word : ℕ → ℕ) where
+module _ (M : Marked) (vats : List (Vat Name)) (v : ℕ) (q : Vat Name) (there : slice_get vats v ≡ Some q) (here : M.mark (At v)) (word : ℕ → ℕ) where
   -- the names, where new messages are made
   abbrev pub T : Care Name
-  T = tracked true vats v q there
+  T = tracked true M vats v q there here
 
   -- and where none are
   abbrev pub F : Care Name
-  F = tracked false vats v q there
+  F = tracked false M vats v q there here
 
   pub under : Under (naming word v) T
-  under = tracked_under true vats v q there word
+  under = tracked_under true M vats v q there here word
 
   pub quiet_under : Under (naming word v) F
-  quiet_under = tracked_under false vats v q there word
+  quiet_under = tracked_under false M vats v q there here word
 
   pub quiet_sound : (s : Vat Name) → Sound T s → Sound F s
   quiet_sound s h = record { parts = h.parts; more = h.more }
 
   pub unnumbered : {A : Type 0} (G : A → Fact Name) (s : Vat Name) (d : Done Name A) → Ends F G s d → Unnumbered s d
-  unnumbered G s (Gives a t) h = let r : Goes false vats v q there s t = h.0 in r.messages
+  unnumbered G s (Gives a t) h = let r : Goes false M vats v q there here s t = h.0 in r.messages
   unnumbered G s (Throws p t) h = tt
   unnumbered G s (Ejects n y t) h = tt
   unnumbered G s (Stops c t) h = tt
@@ -156,6 +156,8 @@ module _ (vats : List (Vat Name)) (v : ℕ) (q : Vat Name) (there : slice_get va
       same = λ s. (T.same s, same_grows s);
       trans = λ s t u h k. (T.trans s t u h.0 k.0, none_grows s t u h.1 k.1);
       up = λ s t r b h. T.up s t r.0 b h;
+      here = λ s m. T.here s m.0;
+      near = λ s h g. T.near s h g;
       fuel = λ s n. let r = T.fuel s n in ((r.0, fuel_grows s n), λ m. (r.1 m.0, m.1));
       told = λ s e n. let r = T.told s e n in ((r.0, told_grows s e n), λ m. (r.1 m.0, m.1));
       activations = λ s. let r = T.activations s in ((r.0, activation_grows s), λ m. (r.1 m.0, m.1));
@@ -213,7 +215,7 @@ module _ (vats : List (Vat Name)) (v : ℕ) (q : Vat Name) (there : slice_get va
 
     whole_promises : (C : Fact Name) → Fine whole C (new_promise (naming word v)) IsName
     whole_promises C = record {
-      after = λ s g c. joined IsName 0 s (new_promise (naming word v) s) ((fine_promise (naming word v) T under (tracked_makes vats v q there word) {C = C}).after s (known_sound s g) c) (promise_pays s (well s g)) (promise_sent s);
+      after = λ s g c. joined IsName 0 s (new_promise (naming word v) s) ((fine_promise (naming word v) T under (tracked_makes M vats v q there here word) {C = C}).after s (known_sound s g) c) (promise_pays s (well s g)) (promise_sent s);
     }
 
     -- ---- new messages
@@ -231,10 +233,20 @@ module _ (vats : List (Vat Name)) (v : ℕ) (q : Vat Name) (there : slice_get va
     sent_then c s t (Ejects n y u) b e h = tt
     sent_then c s t (Stops r u) b e h = tt
 
+    -- the host of an answer is a vat that is good
+    host_good : (s : Vat Name) (p : Place Name) → T.ok s (At s.number) → PlaceOk (T.ok s) p → T.ok s (At (refs.answer_host (naming word v) s.number p))
+    unfolding refs.answer_host
+    host_good s (Away h n o) g k = T.near s h k.1
+    host_good s Near g k = g
+    host_good s (Mine n) g k = g
+    host_good s (Gone p) g k = g
+
     send_sent : (s : Vat Name) → Sound T s → (act : ℕ) (y : Value Name) → ValueOk (T.ok s) y → (verb : Words) (args : List (Value Name)) → ValuesOk (T.ok s) args → SentAt x (one (Sent (record { sender = v; number = s.messages })) x) s (refs.send (naming word v) act y verb args s)
     unfolding refs.send ◌>>=◌ ◌>>◌ and_then look tell new_message naming mail_of name_of answer_of sent_here
     send_sent s h act y g verb args k = let K = naming word v in let z : Value Name = refs.follow K s y in let p : Place Name = refs.place K s z in let host : ℕ = refs.answer_host K s.number p in
-        let id : Name = Sent (record { sender = v; number = s.messages }) in let a : Name = Answer host (record { sender = v; number = s.messages }) in let makes = tracked_makes vats v q there word in let r = makes.messaged s host in
+        let id : Name = Sent (record { sender = v; number = s.messages }) in let a : Name = Answer host (record { sender = v; number = s.messages }) in let makes = tracked_makes M vats v q there here word in let spots = under.spots in
+        let value : ValueOk (T.ok s) z = follow_ok K (T.ok s) s h.parts.known y g in let placed : PlaceOk (T.ok s) p = place_ok K (T.ok s) s (spots.placed s h.more) z value in
+        let r = makes.messaged s host (host_good s p (T.here s h.more) placed) in
         let t : Vat Name = record s { messages = suc s.messages; mails = s.mails ++ id ∷ []; known = s.known ++ begun a host ∷ [] } in
         let made : Sound T t = record { parts = with_known K T under s t a host r.0 r.3 h; more = r.1 h.more } in
         let e : Happened Name = Sends act (record { id = id; target = y; verb = verb; args = args; answer = a }) in
@@ -242,9 +254,8 @@ module _ (vats : List (Vat Name)) (v : ℕ) (q : Vat Name) (there : slice_get va
         let u : Vat Name = record t { happened = t.happened ++ e ∷ [] } in
         let on : T.rel s u = T.trans s t u r.0 told.0 in
         let m : Message Name = record { id = id; target = z; verb = verb; args = args; answer = a } in
-        let value : ValueOk (T.ok s) z = follow_ok K (T.ok s) s h.parts.known y g in
         let value_on : ValueOk (T.ok u) z = value_up (T.ok s) (T.ok u) (T.up s u on) z value in
-        let place_on : PlaceOk (T.ok u) p = holds_up (T.ok s) (T.ok u) (T.up s u on) (IsPlace p) (place_ok K (T.ok s) s z value) in
+        let place_on : PlaceOk (T.ok u) p = holds_up (T.ok s) (T.ok u) (T.up s u on) (IsPlace p) placed in
         let message_on : MessageOk (T.ok u) m = (T.up t u told.0 (Mail id) r.2, value_on, values_up (T.ok s) (T.ok u) (T.up s u on) args k, T.up t u told.0 (Named a) r.3) in
         let sent = sent_end x s.happened e in
         sent_then (one id x) s u (refs.send_first K m z p u) (Ref a) sent (sent_none cut v x (one id x) u (refs.send_first K m z p u) ((costs_send_first cut v x K m z p).after u)
@@ -270,7 +281,7 @@ module _ (vats : List (Vat Name)) (v : ℕ) (q : Vat Name) (there : slice_get va
     whole_sends C act y g verb args k = record {
       after = λ s h c. let K = naming word v in let names : Sound T s = known_sound s h in let d : Done Name (Value Name) = refs.send K act y verb args s in
           let finds = (sends_find_places word v s cut x (well s h) (good_views s names)).0 act y verb args (good_known s y (g.at s c)) in
-          joined IsValue (one (Sent (record { sender = v; number = s.messages })) x) s d ((fine_send K T under (tracked_makes vats v q there word) act y (gets_known g) verb args (gets_known k)).after s names c)
+          joined IsValue (one (Sent (record { sender = v; number = s.messages })) x) s d ((fine_send K T under (tracked_makes M vats v q there here word) act y (gets_known g) verb args (gets_known k)).after s names c)
           (found_pays s d ((pays_send K v (global_names word v) cut x act y verb args).after s (well s h)) finds) (send_sent s names act y (g.at s c) verb args (k.at s c));
     }
 
@@ -278,13 +289,14 @@ module _ (vats : List (Vat Name)) (v : ℕ) (q : Vat Name) (there : slice_get va
     whole_reacts C act y g o k near l = record {
       after = λ s h c. let K = naming word v in let names : Sound T s = known_sound s h in let d : Done Name (Value Name) = refs.react K act y o near s in
           let finds = (sends_find_places word v s cut x (well s h) (good_views s names)).1 act y o near (good_known s y (g.at s c)) in
-          joined IsValue (one (Sent (record { sender = v; number = s.messages })) x) s d ((fine_react K T under (tracked_makes vats v q there word) act y (gets_known g) o (gets_known k) near (gets_known l)).after s names c)
+          joined IsValue (one (Sent (record { sender = v; number = s.messages })) x) s d ((fine_react K T under (tracked_makes M vats v q there here word) act y (gets_known g) o (gets_known k) near (gets_known l)).after s names c)
           (found_pays s d ((pays_reacts K v (global_names word v) cut x act y o near).after s (well s h)) finds) (react_sent s act y o near);
     }
 
     pub whole_serves : Serves (naming word v) whole
     unfolding naming
     whole_serves = record {
+      spots = record { placed = λ s m n g. let spots = under.spots in spots.placed s m.0 n g };
       object = λ s i. under.object s i;
       promises = whole_promises;
       breaks = whole_breaks;

@@ -8,10 +8,11 @@ use Rattle.ev_machine.specs.Arrive as arrive
 use Rattle.ev_machine.specs.Arrive.{New}
 use Rattle.ev_run.specs.World as world
 use Rattle.ev_run.specs.World.{read_note, read_name}
-use Rattle.ev_name_laws.specs.Names.{WasMade, IsMessageMade, IsMade, PassedsOk}
-use Rattle.ev_name_laws.proofs.Facts.{Fact, Nothing, IsName, IsMail, AreValues, nothing, Holds}
-use Rattle.ev_name_laws.proofs.Care.{Sound, Ends, come_answer, fine_to_tell}
-use Rattle.ev_name_laws.proofs.Learn.{Good, Grew, Knows, Learned, grew, rise, message_learned, learn_all, learn_name}
+use Rattle.ev_name_laws.specs.Names.{Named, Mail, At, PassedsOk}
+use Rattle.ev_name_laws.proofs.Facts.{Fact, Nothing, Also, IsName, IsMail, IsVat, AreValues, nothing, Holds}
+use Rattle.ev_name_laws.proofs.Care.{Sound, Ends, got, got_left, got_itself, come_answer, fine_to_tell}
+use Rattle.ev_name_laws.proofs.Tracked.{Marked}
+use Rattle.ev_name_laws.proofs.Learn.{Was, Good, Grew, Knows, Learned, grew, rise, message_learned, learn_all, learn_name}
 use Rattle.ev_fate_laws.specs.Fate.{one}
 use Rattle.ev_fate_laws.specs.Lasting.{NamesMessage, AllWell}
 use Rattle.ev_fate_laws.proofs.PlacesLast.{PaysAt, pay_more, pay_less, pays_mail, pays_answer, pays_to_tell}
@@ -21,48 +22,48 @@ use Rattle.ev_fate_laws.proofs.Finding.{send_on_finds}
 use Rattle.ev_fate_laws.proofs.RunWell.{read_comes, all_come}
 use Rattle.ev_whole_fate_laws.proofs.Places.{T, F, quiet_under, good_known, good_views}
 
-module _ (vats : List (Vat Name)) (v : ℕ) (q : Vat Name) (there : slice_get vats v ≡ Some q) (word : ℕ → ℕ) (us : List (Vat Name)) (d0 : ℕ) (cut : ℕ → Bool) (x : Name) where
+module _ (M : Marked) (vats : List (Vat Name)) (v : ℕ) (q : Vat Name) (there : slice_get vats v ≡ Some q) (here : M.mark (At v)) (word : ℕ → ℕ) (us : List (Vat Name)) (d0 : ℕ) (cut : ℕ → Bool) (x : Name) where
   abbrev Quiet : Vat Name → Type 0
-  Quiet s = Sound (F vats v q there word) s
+  Quiet s = Sound (F M vats v q there here word) s
 
-  loud : (s : Vat Name) → Quiet s → Sound (T vats v q there word) s
+  loud : (s : Vat Name) → Quiet s → Sound (T M vats v q there here word) s
   loud s h = record { parts = h.parts; more = h.more }
 
-  learned_pays : {A B : Type 0} (ks : List Name) (G : A → Fact Name) (c : ℕ) (s : Vat Name) (d : Done Name A) (f : A → Act Name B) → Learned false vats v q there word us d0 ks G s d → PaysAt cut x 0 s d
-      → ((a : A) (t : Vat Name) → Grew false vats v q there word us d0 s t → Quiet t → Knows false vats v q there word us d0 ks t → Holds (Good false vats v q there word us d0 t) (G a) → AllWell t → PaysAt cut x c t (f a t)) → PaysAt cut x c s (and_then d f)
+  learned_pays : {A B : Type 0} (ks : List Name) (G : A → Fact Name) (c : ℕ) (s : Vat Name) (d : Done Name A) (f : A → Act Name B) → Learned false M vats v q there here word us d0 ks G s d → PaysAt cut x 0 s d
+      → ((a : A) (t : Vat Name) → Grew false M vats v q there here word us d0 s t → Quiet t → Knows false M vats v q there here word us d0 ks t → Holds (Good false M vats v q there here word us d0 t) (G a) → AllWell t → PaysAt cut x c t (f a t)) → PaysAt cut x c s (and_then d f)
   unfolding and_then
   learned_pays ks G c s (Gives a t) f h p k = pay_less cut x (0 + c) c s (f a t) (omega arith) (pay_more cut x 0 c s t (f a t) p.1 (k a t h.0 h.1 h.2 h.3 p.0))
   learned_pays ks G c s (Throws e t) f h p k = absurd p
   learned_pays ks G c s (Ejects n y t) f h p k = absurd p
   learned_pays ks G c s (Stops e t) f h p k = tt
 
-  ends_pays : {A B : Type 0} (G : A → Fact Name) (c : ℕ) (s : Vat Name) (d : Done Name A) (f : A → Act Name B) → Ends (F vats v q there word) G s d → PaysAt cut x 0 s d
-      → ((a : A) (t : Vat Name) → Grew false vats v q there word us d0 s t → Quiet t → Holds (Good false vats v q there word us d0 t) (G a) → AllWell t → PaysAt cut x c t (f a t)) → PaysAt cut x c s (and_then d f)
+  ends_pays : {A B : Type 0} (G : A → Fact Name) (c : ℕ) (s : Vat Name) (d : Done Name A) (f : A → Act Name B) → Ends (F M vats v q there here word) G s d → PaysAt cut x 0 s d
+      → ((a : A) (t : Vat Name) → Grew false M vats v q there here word us d0 s t → Quiet t → Holds (Good false M vats v q there here word us d0 t) (G a) → AllWell t → PaysAt cut x c t (f a t)) → PaysAt cut x c s (and_then d f)
   unfolding and_then
-  ends_pays G c s (Gives a t) f h p k = pay_less cut x (0 + c) c s (f a t) (omega arith) (pay_more cut x 0 c s t (f a t) p.1 (k a t (grew false vats v q there word us d0 s t h.0) h.1 h.2 p.0))
+  ends_pays G c s (Gives a t) f h p k = pay_less cut x (0 + c) c s (f a t) (omega arith) (pay_more cut x 0 c s t (f a t) p.1 (k a t (grew false M vats v q there here word us d0 s t h.0) h.1 h.2 p.0))
   ends_pays G c s (Throws e t) f h p k = absurd p
   ends_pays G c s (Ejects n y t) f h p k = absurd p
   ends_pays G c s (Stops e t) f h p k = tt
 
-  up : (s t : Vat Name) → Grew false vats v q there word us d0 s t → (C : Fact Name) → Holds (Good false vats v q there word us d0 s) C → Holds (Good false vats v q there word us d0 t) C
-  up s t r C h = rise false vats v q there word us d0 s t r C h
+  up : (s t : Vat Name) → Grew false M vats v q there here word us d0 s t → (C : Fact Name) → Holds (Good false M vats v q there here word us d0 s) C → Holds (Good false M vats v q there here word us d0 t) C
+  up s t r C h = rise false M vats v q there here word us d0 s t r C h
 
   -- once its answer is told of, the message is sent on
-  told_finds : (s : Vat Name) (from : ℕ) (id n a : Name) (verb : Words) (args : List (Value Name)) → Quiet s → AllWell s → NamesMessage id → Holds (Good false vats v q there word us d0 s) (IsName n)
+  told_finds : (s : Vat Name) (from : ℕ) (id n a : Name) (verb : Words) (args : List (Value Name)) → Quiet s → AllWell s → NamesMessage id → Holds (Good false M vats v q there here word us d0 s) (IsName n)
       → PaysAt cut x (one id x) s (and_then (alter (naming word v) (ToTell from) a s) (λ u. send_on (naming word v) (settle (naming word v)) (record { id = id; target = Ref n; verb = verb; args = args; answer = a })))
   told_finds s from id n a verb args h w named known = let K = naming word v in
-      ends_pays nothing (one id x) s (alter K (ToTell from) a s) (λ u. send_on K (settle K) (record { id = id; target = Ref n; verb = verb; args = args; answer = a })) ((fine_to_tell K (F vats v q there word) (quiet_under vats v q there word) {C = IsName n} from a (record { at = λ s c. tt })).after s h known) ((pays_to_tell cut x K v (global_names word v) from a).after s w)
-      (λ u t r g z y. send_on_finds K v (global_names word v) cut x t (record { id = id; target = Ref n; verb = verb; args = args; answer = a }) y (good_views vats v q there word t (loud t g)) named (good_known vats v q there word t (Ref n) (up s t r (IsName n) known)))
+      ends_pays nothing (one id x) s (alter K (ToTell from) a s) (λ u. send_on K (settle K) (record { id = id; target = Ref n; verb = verb; args = args; answer = a })) ((fine_to_tell K (F M vats v q there here word) (quiet_under M vats v q there here word) {C = IsName n} from a (record { at = λ s c. tt })).after s h known) ((pays_to_tell cut x K v (global_names word v) from a).after s w)
+      (λ u t r g z y. send_on_finds K v (global_names word v) cut x t (record { id = id; target = Ref n; verb = verb; args = args; answer = a }) y (good_views M vats v q there here word t (loud t g)) named (good_known M vats v q there here word t (Ref n) (up s t r (IsName n) known)))
 
   -- the answer comes to be known
-  answered_finds : (s : Vat Name) (from : ℕ) (id n : Name) (verb : Words) (args : List (Value Name)) → Quiet s → AllWell s → NamesMessage id → Holds (Good false vats v q there word us d0 s) (IsMail id) → Holds (Good false vats v q there word us d0 s) (IsName n)
+  answered_finds : (s : Vat Name) (from : ℕ) (id n : Name) (verb : Words) (args : List (Value Name)) → Quiet s → AllWell s → NamesMessage id → Holds (Good false M vats v q there here word us d0 s) (IsMail id) → Holds (Good false M vats v q there here word us d0 s) (IsName n)
       → PaysAt cut x (one id x) s (and_then (come (naming word v) (IsAnswer s.number id) s.number s) (λ a. alter (naming word v) (ToTell from) a >> send_on (naming word v) (settle (naming word v)) (record { id = id; target = Ref n; verb = verb; args = args; answer = a })))
   unfolding ◌>>◌
   answered_finds s from id n verb args h w named mail known = let K = naming word v in
-      ends_pays IsName (one id x) s (come K (IsAnswer s.number id) s.number s) (λ a. alter K (ToTell from) a >> send_on K (settle K) (record { id = id; target = Ref n; verb = verb; args = args; answer = a })) ((come_answer K (F vats v q there word) (quiet_under vats v q there word) {C = IsMail id} s.number id (record { at = λ s c. c })).after s h mail)
+      ends_pays IsName (one id x) s (come K (IsAnswer s.number id) s.number s) (λ a. alter K (ToTell from) a >> send_on K (settle K) (record { id = id; target = Ref n; verb = verb; args = args; answer = a })) ((come_answer K (F M vats v q there here word) (quiet_under M vats v q there here word) {C = Also (IsMail id) (IsVat s.number)} s.number id (got_left (F M vats v q there here word) (IsMail id) (IsVat s.number) (IsMail id) (got_itself (F M vats v q there here word) (IsMail id))) (got (F M vats v q there here word) (IsMail id) (IsVat s.number))).after s h (mail, (F M vats v q there here word).here s h.more))
       ((pays_answer cut x K v (global_names word v) s.number s.number id named).after s w) (λ a t r g z y. told_finds t from id n a verb args g y named (up s t r (IsName n) known))
 
-  module _ (from : ℕ) (ks : List Name) (m n : Name) (verb : Words) (ys : Passeds Name) (made : IsMessageMade us m) (target : WasMade us d0 n) (parts : PassedsOk (IsMade us d0) ys) (named : NamesMessage m) where
+  module _ (from : ℕ) (ks : List Name) (m n : Name) (verb : Words) (ys : Passeds Name) (made : Was false M vats v q there here word us d0 (Mail m)) (target : Was false M vats v q there here word us d0 (Named n)) (parts : PassedsOk (Was false M vats v q there here word us d0) ys) (named : NamesMessage m) where
     abbrev Later : List Name
     Later = (world.read_all ys ks).known
 
@@ -74,16 +75,16 @@ module _ (vats : List (Vat Name)) (v : ℕ) (q : Vat Name) (there : slice_get va
     Learnt args = arrive.learn_name (naming word v) (read_name Later n) >>= (λ y. Answered args y)
 
     -- the target is learnt
-    target_finds : (args : List (Value Name)) (s : Vat Name) → Quiet s → AllWell s → Knows false vats v q there word us d0 Later s → Holds (Good false vats v q there word us d0 s) (IsMail m) → PaysAt cut x (one m x) s (Learnt args s)
+    target_finds : (args : List (Value Name)) (s : Vat Name) → Quiet s → AllWell s → Knows false M vats v q there here word us d0 Later s → Holds (Good false M vats v q there here word us d0 s) (IsMail m) → PaysAt cut x (one m x) s (Learnt args s)
     unfolding ◌>>=◌ and_then look
-    target_finds args s h w k mail = learned_pays (world.known_after Later n) IsName (one m x) s (arrive.learn_name (naming word v) (read_name Later n) s) (λ y. Answered args y) ((learn_name false vats v q there word us d0 {C = IsMail m} Later n target).after s h k mail)
+    target_finds args s h w k mail = learned_pays (world.known_after Later n) IsName (one m x) s (arrive.learn_name (naming word v) (read_name Later n) s) (λ y. Answered args y) ((learn_name false M vats v q there here word us d0 {C = IsMail m} Later n target).after s h k mail)
         ((pays_learn_name cut x (naming word v) v (global_names word v) (read_name Later n) (read_comes n Later)).after s w) (λ y t r g z known e. answered_finds t from m y verb args g e named (up s t r (IsMail m) mail) known)
 
-    pub deliver_finds : (s : Vat Name) → Quiet s → AllWell s → Knows false vats v q there word us d0 ks s → PaysAt cut x (one m x) s (arrive.arrive (naming word v) from (read_note ks (Deliver m n verb ys)) s)
+    pub deliver_finds : (s : Vat Name) → Quiet s → AllWell s → Knows false M vats v q there here word us d0 ks s → PaysAt cut x (one m x) s (arrive.arrive (naming word v) from (read_note ks (Deliver m n verb ys)) s)
     unfolding arrive.arrive read_note arrive.arrive_deliver arrive.learn_message ◌>>=◌ and_then mail naming mail_of
-    deliver_finds s h w k = let first = (message_learned false vats v q there word us d0 {C = Nothing} ks m (host_of m) made).after s h k tt in let t : Vat Name = record s { mails = s.mails ++ m ∷ [] } in
+    deliver_finds s h w k = let first = (message_learned false M vats v q there here word us d0 {C = Nothing} ks m (host_of m) made).after s h k tt in let t : Vat Name = record s { mails = s.mails ++ m ∷ [] } in
         let placed = (pays_mail cut x (naming word v) v (global_names word v) (IsCarried m)).after s w in
         let d : Done Name (Unit {0}) = and_then (arrive.learn_all (naming word v) from (world.read_all ys ks).read t) (λ args. Learnt args) in
-        let rest : PaysAt cut x (one m x) t d = learned_pays Later AreValues (one m x) t (arrive.learn_all (naming word v) from (world.read_all ys ks).read t) (λ args. Learnt args) ((learn_all false vats v q there word us d0 {C = IsMail m} from ys ks parts).after t first.1 first.2 first.3)
+        let rest : PaysAt cut x (one m x) t d = learned_pays Later AreValues (one m x) t (arrive.learn_all (naming word v) from (world.read_all ys ks).read t) (λ args. Learnt args) ((learn_all false M vats v q there here word us d0 {C = IsMail m} from ys ks parts).after t first.1 first.2 first.3)
         ((pays_learn_all cut x (naming word v) v (global_names word v) from (world.read_all ys ks).read (all_come ys ks)).after t placed.0) (λ args u r g z values e. target_finds args u g e z (up t u r (IsMail m) first.3)) in
         pay_less cut x (0 + one m x) (one m x) s d (omega arith) (pay_more cut x 0 (one m x) s t d placed.1 rest)

@@ -1,13 +1,17 @@
 -- In every run each message that is sent has one place or one fate.
-use Rattle.std.specs.Prelude.{◌≡◌, ℕ, ◌+◌, ◌≤◌, ◌<◌, length}
+use Rattle.std.specs.Prelude.{◌≡◌, ℕ, ◌+◌, ◌≤◌, ◌<◌, Some, length, slice_get}
 use Rattle.ev_machine.specs.Values.{Name}
 use Rattle.ev_machine.specs.State.{Note, Deliver, Open, Ask, SettledTo, Elsewhere, Shorten, Put, Vat, Done, Gives, Throws, Ejects, Stops}
 use Rattle.ev_machine_laws.specs.Steps.{Step, does}
-use Rattle.ev_run.specs.World.{Script, World, Goes, names, run}
+use Rattle.ev_run.specs.World.{Script, Program, World, Goes, names, run}
 use Rattle.ev_name_laws.specs.Names.{AllOf}
 use Rattle.ev_name_laws.specs.Runs.{KnowsOnce}
 use Rattle.ev_fate_laws.specs.Fate.{places, sent, fates}
 use Rattle.ev_whole_fate_laws.specs.Steps.{OfEachStep, InRunsOf}
+
+-- each vat of the script knows only vats of the script
+abbrev pub KnowsVats : Script → Type 0
+KnowsVats script = (v : ℕ) (p : Program) → slice_get script.vats v ≡ Some p → AllOf (λ (u : ℕ). u < length script.vats) p.knows
 
 -- a deliver note of vat v is put to another of so many vats
 abbrev pub GoesToVat : ℕ → ℕ → ℕ → Note Name → Type 0
@@ -32,10 +36,14 @@ StepPutsToVats script v came step s = PutsToVats (length script.vats) v (does (n
 abbrev pub NotesGoToVats : Script → Type 0
 NotesGoToVats script = InRunsOf script (λ w. OfEachStep script w (StepPutsToVats script))
 
+-- so it is where each vat of a script knows only vats of it
+abbrev pub NotesGoToVatsOfTheRun : Type 0
+NotesGoToVatsOfTheRun = (script : Script) → KnowsOnce script → KnowsVats script → NotesGoToVats script
+
 -- in every world of a run each message has as many places, takes and losses as sends
 abbrev pub EachMessageHasAFate : Type 0
-EachMessageHasAFate = (script : Script) → KnowsOnce script → NotesGoToVats script → (x : Name) → InRunsOf script (λ w. places x w + fates x w.history ≡ sent x w.history)
+EachMessageHasAFate = (script : Script) → KnowsOnce script → KnowsVats script → (x : Name) → InRunsOf script (λ w. places x w + fates x w.history ≡ sent x w.history)
 
 -- in the history of a whole run, with its closing list, each message has as many fates as it was sent, and of these there is one at most
 abbrev pub ExactlyOneFate : Type 0
-ExactlyOneFate = (script : Script) → KnowsOnce script → NotesGoToVats script → (x : Name) (w : World) → run script ≡ Goes w → (fates x w.history ≡ sent x w.history) × (sent x w.history ≤ 1)
+ExactlyOneFate = (script : Script) → KnowsOnce script → KnowsVats script → (x : Name) (w : World) → run script ≡ Goes w → (fates x w.history ≡ sent x w.history) × (sent x w.history ≤ 1)

@@ -4,6 +4,7 @@
 
 ghost use Rattle.ev_whole_fate_laws.specs.Steps.{ViewsEndInRuns};
 ghost use Rattle.ev_whole_fate_laws.specs.Steps.{StepsFindPlaces};
+ghost use Rattle.ev_whole_fate_laws.specs.Runs.{NotesGoToVatsOfTheRun};
 ghost use Rattle.ev_whole_fate_laws.specs.Runs.{EachMessageHasAFate};
 ghost use Rattle.ev_whole_fate_laws.specs.Runs.{ExactlyOneFate};
 
@@ -26,13 +27,21 @@ pub fn steps_find_places()
     ensures { StepsFindPlaces }
 {}
 
+/// In every world of the runs of a script, each deliver note that a step of a vat puts is put to
+/// another vat of the script, so that there is a link for it.
+///
+/// It asks that each vat of the script knows only vats of the script, which the reading of scripts
+/// makes sure of.
+pub fn notes_go_to_vats_of_the_run()
+    ensures { NotesGoToVatsOfTheRun }
+{}
+
 /// In every world of a run the places of a message, its takes and its losses are together exactly
 /// as many as its sends: so each message that was sent stands in one place, or was taken once, or
 /// was lost once.
 ///
-/// It asks of the script that in every world of its runs each deliver note which a step of a vat
-/// puts is put to another vat of the script. It is said of the world after any opening turns and
-/// after any entries, and not of a run that stopped.
+/// It asks that each vat of the script knows only vats of the script. It is said of the world after
+/// any opening turns and after any entries, and not of a run that stopped.
 pub fn each_message_has_a_fate()
     ensures { EachMessageHasAFate }
 {}
