@@ -1,0 +1,4 @@
+pub mod Light
+pub mod RefsLight
+pub mod ArriveLight
+pub mod StepsLight

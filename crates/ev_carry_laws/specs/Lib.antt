@@ -1,0 +1,4 @@
+pub mod Carry
+pub mod Sound
+pub mod Laws
+pub mod Example

@@ -1,0 +1,27 @@
+//! Each message is carried at most twice.
+
+ghost use Rattle.ev_carry_laws.specs.Example.{IsCarriedTwice};
+ghost use Rattle.ev_carry_laws.specs.Laws.{StepsLighten};
+
+/// No step of a vat lets a message be carried more often than twice for each time that it is sent.
+///
+/// A message in a queue, or one that reacts, is carried no more; one that is held at a name once
+/// more; one in a deliver note once where the target is an object, and twice at most where it is a
+/// promise. This is its weight. However the step ends, unless it stops, what it weighs after the
+/// step, at the vat and in the notes that the vat put, is no more than before, and twice its sends
+/// in this step, and what a note that arrives leaves it: one where it comes on a promise, and
+/// nothing where it comes on an object.
+///
+/// It asks that all is in place in the state before (`Sound`), and of a note that arrives what
+/// `steps_keep_places` asks, that a deliver note comes to the host of its target, and that no note
+/// tells a host of its own name where that settled. All is in place after it.
+pub fn steps_lighten()
+    ensures { StepsLighten }
+{}
+
+/// A run by computing in which one message is carried twice: to the host of a promise, and on to
+/// the host of the object to which it settled.
+#[tactic(auto, unfolding(ev_run::specs::World::opened_world, crate::specs::Carry::opened_carry, crate::specs::Example::opened_example))]
+pub fn one_is_carried_twice()
+    ensures { IsCarriedTwice }
+{}
