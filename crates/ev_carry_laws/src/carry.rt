@@ -2,6 +2,7 @@
 
 ghost use Rattle.ev_carry_laws.specs.Example.{IsCarriedTwice};
 ghost use Rattle.ev_carry_laws.specs.Laws.{StepsLighten};
+ghost use Rattle.ev_carry_laws.specs.Runs.{CarriesAndWeight, TwoCarriesAtMost};
 
 /// No step of a vat lets a message be carried more often than twice for each time that it is sent.
 ///
@@ -17,6 +18,27 @@ ghost use Rattle.ev_carry_laws.specs.Laws.{StepsLighten};
 /// tells a host of its own name where that settled. All is in place after it.
 pub fn steps_lighten()
     ensures { StepsLighten }
+{}
+
+/// In every world of a run the carries of a message, and what it weighs there, are together no more
+/// than twice its sends, and of these there is one at most.
+///
+/// It is said of the world after any opening turns and after any entries, and of the world at which
+/// a run stopped. So a message that was carried twice stands in no deliver note on a link, and is
+/// held at no name.
+pub fn carries_and_weight()
+    ensures { CarriesAndWeight }
+{}
+
+/// In every run each message is carried at most twice, whatever the script and the schedule: to the
+/// host of its target, and, where that was a promise, on to the host of the object to which it
+/// settled.
+///
+/// A carry is the line of an entry that brings a deliver note of the message to the other end of its
+/// link. It is said of every world of a run, also of one at which it stopped, and of the whole
+/// history with its closing list.
+pub fn two_carries_at_most()
+    ensures { TwoCarriesAtMost }
 {}
 
 /// A run by computing in which one message is carried twice: to the host of a promise, and on to

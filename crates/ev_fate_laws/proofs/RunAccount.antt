@@ -209,7 +209,7 @@ module _ (x : Name) where
     cut_hand v to w h = let k = h.kept in let a = cut_links v to w.links h.apart in
         record { kept = omega arith; unlisted = h.unlisted; fresh = h.fresh; apart = severed_apart to v (world.with_link world.severed_link v to w.links) (severed_apart v to w.links h.apart) }
 
-    no_cut_line : (v to k : ℕ) (ls : List Link) (f : Event → ℕ) → f (CutAt k v to) ≡ 0 → ((m : Name) → f (LostCut m) ≡ 0)
+    pub no_cut_line : (v to k : ℕ) (ls : List Link) (f : Event → ℕ) → f (CutAt k v to) ≡ 0 → ((m : Name) → f (LostCut m) ≡ 0)
         → total f (CutAt k v to ∷ (world.lost_on script (world.link_at v to ls) ++ world.lost_on script (world.link_at to v ls))) ≡ 0
     no_cut_line v to k ls f z y = let a = cut_line v to k ls f z in let b = only_lost_on f y (world.link_at v to ls) in let c = only_lost_on f y (world.link_at to v ls) in omega arith
 

@@ -120,18 +120,18 @@ module _ (x : Name) where
           let b = total_append f (q ++ world.left_held script s.number s.known) (world.left_wait script s.number s.known) in let c = total_append f q (world.left_held script s.number s.known) in
           let d = none_held s.number s.known in let e = none_wait s.number s.known in omega arith
 
-      none_vats : (ss : List (Vat Name)) → total f (world.left_vats script ss) ≡ 0
+      pub none_vats : (ss : List (Vat Name)) → total f (world.left_vats script ss) ≡ 0
       unfolding total world.left_vats
       none_vats [] = refl
       none_vats (s ∷ ss) = let a = total_append f (world.left_vat script s) (world.left_vats script ss) in let b = none_vat s in let rest = none_vats ss in omega arith
 
-      none_links : (ls : List Link) → total f (world.left_links script ls) ≡ 0
+      pub none_links : (ls : List Link) → total f (world.left_links script ls) ≡ 0
       unfolding total world.left_links
       none_links [] = refl
       none_links (l ∷ ls) = let a = total_append f (map (λ n. LeftLink l.from l.to n) l.notes) (world.left_links script ls) in let b = none_of (λ n. LeftLink l.from l.to n) (λ n. link l.from l.to n) l.notes in let rest = none_links ls in omega arith
 
     -- the closing list in a sum over the whole history
-    closing : (f : Event → ℕ) → f Ends ≡ 0 → (w : World) → total f (((w.history ++ world.left_vats script w.vats) ++ world.left_links script w.links) ++ Ends ∷ [])
+    pub closing : (f : Event → ℕ) → f Ends ≡ 0 → (w : World) → total f (((w.history ++ world.left_vats script w.vats) ++ world.left_links script w.links) ++ Ends ∷ [])
         ≡ total f w.history + total f (world.left_vats script w.vats) + total f (world.left_links script w.links)
     unfolding total
     closing f z w = let h : List Event = w.history ++ world.left_vats script w.vats in
