@@ -20,7 +20,7 @@ use Rattle.ev_fate_laws.proofs.RunWell.{LinkWell, found_link, note_comes, step_w
 use Rattle.ev_carry_laws.specs.Carry.{carried_by, carries, weight, put_weight, load, vat_weight, world_weight}
 use Rattle.ev_carry_laws.specs.Sound.{NoteSound, StepArrives}
 use Rattle.ev_carry_laws.specs.Laws.{Lightened, leaves, AfterLightened}
-use Rattle.ev_carry_laws.specs.Runs.{CarriesAndWeight, TwoCarriesAtMost}
+use Rattle.ev_carry_laws.specs.Runs.{CarriesAndWeight, TwoCarriesAtMost, WorldSound, MessagesGoToHosts}
 use Rattle.ev_carry_laws.proofs.StepsLight.{steps_lighten}
 use Rattle.ev_carry_laws.proofs.WorldLight.{LinkSound, VatSound, note_arrives, note_pays, with_link_sound, push_all_sound, found_sound_link, push_all_weighs, sever_weighs, first_weighs, none_carried, fresh_weighs, links_from_weigh, links_from_sound, put_at_or, put_one, fresh_sound}
 
@@ -244,4 +244,18 @@ two_carries_at_most x = (
     λ w es k e. reached_map (Bounded x script) (λ w. carries x w.history ≤ 2) (twice x script) _ (all.1 w es k e),
   ),
   λ script. both x script (Doubled x script) (λ w. sent x w.history ≤ 1) (λ w. carries x w.history ≤ 2) (twice_once x script) (world.run script) (run_doubled x script) (each_sent_once x script),
+)
+
+notes_sound : (ls : List Link) → Each LinkSound ls → Each (λ (l : Link). Each (NoteSound l.from l.to) l.notes) ls
+notes_sound [] h = tt
+notes_sound (l ∷ ls) h = let here = h.0 in (here.1, notes_sound ls h.1)
+
+borne_sound : (x : Name) (w : World) → Borne x 0 w → WorldSound w
+borne_sound x w h = record { vats = h.vats; links = notes_sound w.links h.links }
+
+pub messages_go_to_hosts : MessagesGoToHosts
+messages_go_to_hosts script = let x : Name = Root 0 in (
+  λ ps. reached_map (Borne x 0) WorldSound (borne_sound x) (world.open_from script zero ps (begins script)) (opens_borne x script zero ps (begins script) (begins_well script) (begins_borne x script)),
+  λ w es k e. let at = goes_borne x script (world.open_from script zero script.vats (begins script)) w e (opened x script) in
+      reached_map (Borne x 0) WorldSound (borne_sound x) (world.steps_from script es k w) (steps_borne x script es k w at.0 at.1),
 )

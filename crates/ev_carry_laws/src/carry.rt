@@ -2,7 +2,7 @@
 
 ghost use Rattle.ev_carry_laws.specs.Example.{IsCarriedTwice};
 ghost use Rattle.ev_carry_laws.specs.Laws.{StepsLighten};
-ghost use Rattle.ev_carry_laws.specs.Runs.{CarriesAndWeight, TwoCarriesAtMost};
+ghost use Rattle.ev_carry_laws.specs.Runs.{CarriesAndWeight, MessagesGoToHosts, TwoCarriesAtMost};
 
 /// No step of a vat lets a message be carried more often than twice for each time that it is sent.
 ///
@@ -39,6 +39,13 @@ pub fn carries_and_weight()
 /// history with its closing list.
 pub fn two_carries_at_most()
     ensures { TwoCarriesAtMost }
+{}
+
+/// In every world of a run each message under way is on a link to the host of its target; each vat
+/// knows the host of each name, has no view of a name of its own, and tells others of its own names
+/// alone. So what `steps_lighten` asks holds of each step of a run, with `runs_stay_well`.
+pub fn messages_go_to_hosts()
+    ensures { MessagesGoToHosts }
 {}
 
 /// A run by computing in which one message is carried twice: to the host of a promise, and on to
