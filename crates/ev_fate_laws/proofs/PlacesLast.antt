@@ -227,7 +227,7 @@ module _ (cut : ℕ → Bool) (x : Name) where
     change_one c n k ks js true e g h hs r = let new = unless_well k.standing k (changed_to c k) h (to_well c k (renamed c k.name n (global.alike k.name n e) g) h) in let more = new.1 in ((new.0, hs), omega arith)
     change_one c n k ks js false e g h hs r = let more = r.1 in ((h, r.0), omega arith)
 
-    change_well : (c : Change Name) (n : Name) (ks : List (Known Name)) → ChangeWell n c → Each KnownWell ks → Each KnownWell (with_change K c n ks) × (at_names x ks ≤ at_names x (with_change K c n ks))
+    pub change_well : (c : Change Name) (n : Name) (ks : List (Known Name)) → ChangeWell n c → Each KnownWell ks → Each KnownWell (with_change K c n ks) × (at_names x ks ≤ at_names x (with_change K c n ks))
     unfolding with_change at_names
     change_well c n [] g h = (tt, omega arith)
     change_well c n (k ∷ ks) g h = change_one c n k ks (with_change K c n ks) (K.same k.name n) refl g h.0 h.1 (change_well c n ks g h.1)

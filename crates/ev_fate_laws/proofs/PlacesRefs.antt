@@ -45,7 +45,7 @@ true_false e = cc
 
 module _ (K : Naming Name Name) (v : ℕ) (global : Global K v) where
   -- data, or an object of this vat
-  abbrev NearValue : Value Name → Type 0
+  abbrev pub NearValue : Value Name → Type 0
   NearValue (Ref (Object w i)) = w ≡ v
   NearValue (Ref (Root w)) = ⊥
   NearValue (Ref (Promise w i)) = ⊥
@@ -133,7 +133,7 @@ module _ (K : Naming Name Name) (v : ℕ) (global : Global K v) where
   no_end : (s : Vat Name) (n : Name) → spot_of v n ≡ NoObject → IsEnd (refs.spotted K s n (K.spot n)) → ⊥
   no_end s n e h = spotted_open s n (subst (λ p. IsEnd (refs.spotted K s n p)) (global.spot n ∙ e) h)
 
-  of_end : (s : Vat Name) (y : Value Name) → IsEnd (refs.place K s y) → NoPromise y
+  pub of_end : (s : Vat Name) (y : Value Name) → IsEnd (refs.place K s y) → NoPromise y
   unfolding refs.place spot_of
   of_end s (Ref (Object w i)) h = tt
   of_end s (Ref (Root w)) h = absurd (no_end s (Root w) refl h)
@@ -164,7 +164,7 @@ module _ (K : Naming Name Name) (v : ℕ) (global : Global K v) where
   none_where n k o true e h i j = absurd (object_or_not n (subst NamesNoObject (global.alike k.name n e) i) h)
   none_where n k o false e h i j = j
 
-  none_found : (n : Name) (ks : List (Known Name)) → NamesObject n → Each KnownWell ks → entry_of K ks n ≡ None
+  pub none_found : (n : Name) (ks : List (Known Name)) → NamesObject n → Each KnownWell ks → entry_of K ks n ≡ None
   unfolding entry_of
   none_found n [] h w = refl
   none_found n (k ∷ ks) h w = let here = w.0 in none_where n k (entry_of K ks n) (K.same k.name n) refl h here.name (none_found n ks h w.1)
@@ -216,7 +216,7 @@ module _ (K : Naming Name Name) (v : ℕ) (global : Global K v) where
   cut_last true y h = tt
   cut_last false y h = h
 
-  target_last : (s : Vat Name) (p : Name) (y : Value Name) → NoPromise y → NoPromise (refs.target_of K s p y)
+  pub target_last : (s : Vat Name) (p : Name) (y : Value Name) → NoPromise y → NoPromise (refs.target_of K s p y)
   unfolding refs.target_of
   target_last s p (Items k) h = cut_last _ (Items k) tt
   target_last s p (Ref n) h = h
@@ -251,7 +251,7 @@ module _ (K : Naming Name Name) (v : ℕ) (global : Global K v) where
   settled_where true y k ks js h w ws us = (unless_settles y k k.standing h w, ws)
   settled_where false y k ks js h w ws us = (w, us)
 
-  settle_well : (y : Value Name) (p : Name) (ks : List (Known Name)) → NoPromise y → Each KnownWell ks → Each KnownWell (with_change K (Settle y) p ks)
+  pub settle_well : (y : Value Name) (p : Name) (ks : List (Known Name)) → NoPromise y → Each KnownWell ks → Each KnownWell (with_change K (Settle y) p ks)
   unfolding with_change
   settle_well y p [] h w = tt
   settle_well y p (k ∷ ks) h w = settled_where (K.same k.name p) y k ks (with_change K (Settle y) p ks) h w.0 w.1 (settle_well y p ks h w.1)
@@ -279,12 +279,12 @@ module _ (K : Naming Name Name) (v : ℕ) (global : Global K v) where
       past true h g = cc
       past false h g = g
 
-  settled_entry : (p : Name) (y : Value Name) (k : Known Name) (ks : List (Known Name)) → entry_of K ks p ≡ Some k → entry_of K (with_change K (Settle y) p ks) p ≡ Some (changed (Settle y) k)
+  pub settled_entry : (p : Name) (y : Value Name) (k : Known Name) (ks : List (Known Name)) → entry_of K ks p ≡ Some k → entry_of K (with_change K (Settle y) p ks) p ≡ Some (changed (Settle y) k)
   unfolding with_change entry_of
   settled_entry p y k [] e = cc
   settled_entry p y k (j ∷ ks) e = entry_where p y k j ks (with_change K (Settle y) p ks) (K.same j.name p) refl e (λ i. settled_entry p y k ks i)
 
-  settled_standing : (y : Value Name) (k : Known Name) (t : Standing Name) → Waits K t → (unless_settled t k (changed_to (Settle y) k)).standing ≡ Settled y
+  pub settled_standing : (y : Value Name) (k : Known Name) (t : Standing Name) → Waits K t → (unless_settled t k (changed_to (Settle y) k)).standing ≡ Settled y
   unfolding unless_settled changed_to
   settled_standing y k (Settled z) h = absurd h
   settled_standing y k Unsettled h = refl
@@ -336,7 +336,7 @@ module _ (K : Naming Name Name) (v : ℕ) (global : Global K v) where
   near_at (suc d) ks (Broken p) h w = tt
   near_at (suc d) ks (Items k) h w = tt
 
-  near_follow : (s : Vat Name) (y : Value Name) → NearValue y → Each KnownWell s.known → NearValue (refs.follow K s y)
+  pub near_follow : (s : Vat Name) (y : Value Name) → NearValue y → Each KnownWell s.known → NearValue (refs.follow K s y)
   unfolding refs.follow
   near_follow s y h w = near_severed s (refs.follow_at K (suc (length s.known)) s.known y) (near_at (suc (length s.known)) s.known y h w)
 
@@ -349,7 +349,7 @@ module _ (K : Naming Name Name) (v : ℕ) (global : Global K v) where
   unfolding spot_of
   object_here s w i h = here_where s (Object w i) w i (v == w) refl h
 
-  near_here : (s : Vat Name) (y : Value Name) → NearValue y → IsHere (refs.place K s y)
+  pub near_here : (s : Vat Name) (y : Value Name) → NearValue y → IsHere (refs.place K s y)
   unfolding refs.place
   near_here s (Ref (Object w i)) h = subst (λ p. IsHere (refs.spotted K s (Object w i) p)) (sym (global.spot (Object w i))) (object_here s w i h)
   near_here s (Ref (Root w)) h = absurd h

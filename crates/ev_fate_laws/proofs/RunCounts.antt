@@ -205,7 +205,7 @@ both_true : (b c : Bool) → pick b c false ≡ true → (b ≡ true) × (c ≡ 
 both_true true c e = (refl, e)
 both_true false c e = cc
 
-ends_of : (v w : ℕ) (l : Link) → world.is_link v w l ≡ true → (l.from ≡ v) × (l.to ≡ w)
+pub ends_of : (v w : ℕ) (l : Link) → world.is_link v w l ≡ true → (l.from ≡ v) × (l.to ≡ w)
 unfolding world.is_link
 ends_of v w l e = let h = both_true (l.from == v) (l.to == w) e in (eqb-true l.from v h.0, eqb-true l.to w h.1)
 

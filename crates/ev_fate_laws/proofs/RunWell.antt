@@ -89,10 +89,10 @@ note_comes ks (Shorten n c i) h = read_comes n ks
 
 -- ---- links
 
-abbrev LinkWell : Link → Type 0
+abbrev pub LinkWell : Link → Type 0
 LinkWell l = Each NoteWell l.notes
 
-with_link_well : (f : Link → Link) → ((l : Link) → LinkWell l → LinkWell (f l)) → (v w : ℕ) (ls : List Link) → Each LinkWell ls → Each LinkWell (world.with_link f v w ls)
+pub with_link_well : (f : Link → Link) → ((l : Link) → LinkWell l → LinkWell (f l)) → (v w : ℕ) (ls : List Link) → Each LinkWell ls → Each LinkWell (world.with_link f v w ls)
 unfolding world.with_link
 with_link_well f g v w [] h = tt
 with_link_well f g v w (l ∷ ls) h = either (world.is_link v w l) (with_link_well f g v w ls h.1)
@@ -114,7 +114,7 @@ unfolding world.push_all
 push_all_well v [] ls h i = i
 push_all_well v (p ∷ ps) ls h i = push_all_well v ps (world.with_link (world.pushed p.note) v p.to ls) h.1 (with_link_well (world.pushed p.note) (pushed_well p.note h.0) v p.to ls i)
 
-found_link : (v w : ℕ) (ls : List Link) (k : Link) → world.link_at v w ls ≡ Some k → Each LinkWell ls → LinkWell k
+pub found_link : (v w : ℕ) (ls : List Link) (k : Link) → world.link_at v w ls ≡ Some k → Each LinkWell ls → LinkWell k
 unfolding world.link_at
 found_link v w [] k e h = cc
 found_link v w (l ∷ ls) k e h = either (world.is_link v w l) e (λ i. found_link v w ls k i h.1)
@@ -125,7 +125,7 @@ found_link v w (l ∷ ls) k e h = either (world.is_link v w l) e (λ i. found_li
 
 -- ---- what a step of a vat makes of the world
 
-put_at_or : (v : ℕ) (y : Vat Name) (xs : List (Vat Name)) (u : ℕ) (t : Vat Name) → slice_get (world.put_at v y xs) u ≡ Some t → (y ≡ t) ⊎ (slice_get xs u ≡ Some t)
+pub put_at_or : (v : ℕ) (y : Vat Name) (xs : List (Vat Name)) (u : ℕ) (t : Vat Name) → slice_get (world.put_at v y xs) u ≡ Some t → (y ≡ t) ⊎ (slice_get xs u ≡ Some t)
 unfolding world.put_at
 put_at_or v y [] u t e = inr e
 put_at_or zero y (x ∷ xs) zero t e = let same : y ≡ t = cc in inl same
@@ -217,32 +217,32 @@ module _ (script : Script) where
   steps_well [] k w h = h
   steps_well (e ∷ es) k w h = then_well (world.step script e k w) (world.steps_from script es (suc k)) (step_well e k w h) (λ y i. steps_well es (suc k) y i)
 
-  opens_well : (v : ℕ) (ps : List Program) (w : World) → WorldWell w → Reached WorldWell (world.open_from script v ps w)
+  pub opens_well : (v : ℕ) (ps : List Program) (w : World) → WorldWell w → Reached WorldWell (world.open_from script v ps w)
   unfolding world.open_from world.open_vat
   opens_well v [] w h = h
   opens_well v (p ∷ ps) w h = then_well (world.open_vat script v p w) (world.open_from script (suc v) ps) (open_well v p w (slice_get w.vats v) refl h) (λ y i. opens_well (suc v) ps y i)
 
 -- ---- the start
 
-roots_well : (ws : List ℕ) → Each KnownWell (map world.known_root ws)
+pub roots_well : (ws : List ℕ) → Each KnownWell (map world.known_root ws)
 unfolding world.known_root begun
 roots_well [] = tt
 roots_well (w ∷ ws) = (record { name = tt; standing = tt; held = tt }, roots_well ws)
 
-some_same : (a b : Vat Name) → Some a ≡ Some b → a ≡ b
+pub some_same : (a b : Vat Name) → Some a ≡ Some b → a ≡ b
 some_same a b e = cc
 
 first_well : (script : Script) (v : ℕ) (p : Program) → Each KnownWell (world.fresh script v p).known
 unfolding world.fresh world.known_root begun
 first_well script v p = (record { name = tt; standing = tt; held = tt }, roots_well p.knows)
 
-fresh_well : (script : Script) (v : ℕ) (ps : List Program) (u : ℕ) (s : Vat Name) → slice_get (world.fresh_from script v ps) u ≡ Some s → Each KnownWell s.known
+pub fresh_well : (script : Script) (v : ℕ) (ps : List Program) (u : ℕ) (s : Vat Name) → slice_get (world.fresh_from script v ps) u ≡ Some s → Each KnownWell s.known
 unfolding world.fresh_from
 fresh_well script v [] u s e = cc
 fresh_well script v (p ∷ ps) zero s e = subst (λ (r : Vat Name). Each KnownWell r.known) (some_same (world.fresh script v p) s e) (first_well script v p)
 fresh_well script v (p ∷ ps) (suc u) s e = fresh_well script (suc v) ps u s e
 
-each_append : (P : Link → Type 0) (xs ys : List Link) → Each P xs → Each P ys → Each P (xs ++ ys)
+pub each_append : (P : Link → Type 0) (xs ys : List Link) → Each P xs → Each P ys → Each P (xs ++ ys)
 each_append P [] ys h k = k
 each_append P (x ∷ xs) ys h k = (h.0, each_append P xs ys h.1 k)
 

@@ -1,0 +1,5 @@
+pub mod Carry
+pub mod Sound
+pub mod Laws
+pub mod Runs
+pub mod Example
