@@ -14,24 +14,17 @@ use Rattle.ev_fate_laws.specs.Lasting.{Each, NamesMessage, NoPromise, SettledWel
 use Rattle.ev_fate_laws.proofs.Counts.{sent_end}
 use Rattle.ev_fate_laws.proofs.RunCounts.{pick}
 use Rattle.ev_fate_laws.proofs.PlacesLast.{Global}
-use Rattle.ev_fate_laws.proofs.PlacesRefs.{IsHere, follow_last, severed_last, found_well, near_follow, near_here}
+use Rattle.ev_fate_laws.proofs.PlacesRefs.{follow_last, severed_last, found_well, near_follow, near_here}
 use Rattle.ev_carry_laws.specs.Carry.{load}
 use Rattle.ev_carry_laws.specs.Sound.{ViewsAnother, Sound, name_in, HostComes, ValueHosts, PassedHosts, AllHosts, NoteArrives}
 use Rattle.ev_carry_laws.specs.Laws.{further, note_leaves}
 use Rattle.ev_carry_laws.proofs.Light.{LightAt, Light, light_on, light_next, cost_bind_last, cost_then_last, light, light_bind, light_then, light_give, light_look, light_tell, light_if, light_come, come_at, light_gift, light_see as sees, light_to_tell, own_host, found_sound, answer_at, answer_host, light_wait}
-use Rattle.ev_carry_laws.proofs.RefsLight.{ride, end_rides, light_settle, light_break, light_resolve, light_inform, sent_at}
+use Rattle.ev_carry_laws.proofs.RefsLight.{ride, here_rides, end_rides, light_settle, light_break, light_resolve, light_inform, sent_at}
 
 ruleset light_all = (light, light_break, light_resolve)
 
 true_false : true ≡ false → ⊥
 true_false e = cc
-
-here_rides : (p : Place Name) (c : ℕ) → IsHere p → ride p c ≤ 0
-unfolding ride
-here_rides Near c h = omega arith
-here_rides (Mine n) c h = absurd h
-here_rides (Away u n o) c h = absurd h
-here_rides (Gone p) c h = omega arith
 
 module _ (x : Name) (K : Naming Name Name) (v : ℕ) (global : Global K v) where
   -- ---- a message that comes to the host of its target

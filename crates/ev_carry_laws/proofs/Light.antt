@@ -164,9 +164,9 @@ module _ (v : ℕ) (x : Name) where
   unfolding weight
   light_out_ask w p i n = cost_out w (Ask p i n) tt
 
-  pub light_out_settled : (w : ℕ) (n : Name) (y : Passed Name) → Light v x 0 (send_out w (SettledTo n y))
+  pub light_out_settled : (w : ℕ) (n : Name) (y : Passed Name) → host_of n ≡ v → Light v x 0 (send_out w (SettledTo n y))
   unfolding weight
-  light_out_settled w n y = cost_out w (SettledTo n y) tt
+  light_out_settled w n y h = cost_out w (SettledTo n y) h
 
   pub light_out_elsewhere : (w : ℕ) (n : Name) (c : ℕ) → host_of n ≡ v → Light v x 0 (send_out w (Elsewhere n c))
   unfolding weight
@@ -241,9 +241,6 @@ module _ (v : ℕ) (x : Name) where
       either : (b : Bool) → Each (λ (u : ℕ). h) (elim b [ true ↦ ws | false ↦ ws ++ w ∷ [] ])
       either true = k
       either false = each_end (λ (u : ℕ). h) ws w k i
-
-  Change_to : Known Name → Known Name → ℕ → Type 0
-  Change_to k new c = KnownSound v new × (among x new.held ≤ among x k.held + c)
 
   to_sound : (c : Change Name) (k : Known Name) → Suits c k.name (Some k) → KnownSound v k → KnownSound v (changed_to c k) × (among x (changed_to c k).held ≤ among x k.held + Added c)
   unfolding changed_to host_in among
@@ -375,4 +372,4 @@ module _ (v : ℕ) (x : Name) where
     unfolding name_of host_of
     light_gift_name h i = light_come (IsGift h i) h tt refl
 
-pub ruleset light = (light_bind, light_then, light_if, light_give, light_look, light_stop, light_tell, light_spend, light_list, light_enqueue, light_out_open, light_out_ask, light_out_settled, light_out_shorten, light_open, light_mark, light_each, light_draw, light_wait, light_wait_on, light_react, light_mail, light_gift_name)
+pub ruleset light = (light_bind, light_then, light_if, light_give, light_look, light_stop, light_tell, light_spend, light_list, light_enqueue, light_out_open, light_out_ask, light_out_shorten, light_open, light_mark, light_each, light_draw, light_wait, light_wait_on, light_react, light_mail, light_gift_name)

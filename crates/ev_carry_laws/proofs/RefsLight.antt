@@ -1,9 +1,9 @@
 -- What a message weighs through what is done with references.
-use Rattle.std.proofs.Common.{◌≡◌, ℕ, zero, suc, ◌+◌, ◌≤◌, Bool, true, false, List, [], ◌∷◌, ◌++◌, Option, Some, None, refl, sym, ap, ◌∙◌, arith, length, subst, eqb-true, ◌⊎◌, inl, inr}
+use Rattle.std.proofs.Common.{◌≡◌, ℕ, zero, suc, ◌+◌, ◌≤◌, Bool, true, false, List, [], ◌∷◌, ◌++◌, Option, Some, None, refl, sym, ◌∙◌, arith, length, subst, eqb-true, ◌⊎◌, inl, inr}
 use Rattle.std.specs.Prelude.{◌==◌}
 use Rattle.std.proofs.lemmas.Bool.{eq-eqb}
 use Rattle.ev_machine.specs.Values.{Words, Value, Null, Flag, Number, Letter, Text, Prim, Broken, Items, Ref, Name, Root, Object, Promise, Answer, Gift, Sent, Naming, IsAnswer, IsSent, Own, Foreign, NoObject, spot_of, name_of, answer_of, host_of}
-use Rattle.ev_machine.specs.State.{Message, Standing, Unsettled, WaitsOn, Viewed, Settled, Known, Settle, ToTell, Passed, Passeds, Plain, AGift, Many, NoMore, More, Deliver, Happened, Sends, Reacts, Settles, Lost, Posted, Vat, Done, Gives, Throws, Ejects, Stops, Act, ◌>>=◌, ◌>>◌, and_then, each, give, look, tell, enqueue, send_out, with_change, changed, changed_to, unless_settled, alter, new_message, begun}
+use Rattle.ev_machine.specs.State.{Message, Standing, Unsettled, WaitsOn, Viewed, Settled, Known, Settle, ToTell, Passed, Passeds, Plain, AGift, Many, NoMore, More, Deliver, SettledTo, Happened, Sends, Reacts, Settles, Lost, Posted, Vat, Done, Gives, Throws, Ejects, Stops, Act, ◌>>=◌, ◌>>◌, and_then, each, give, look, tell, enqueue, send_out, with_change, changed, changed_to, unless_settled, alter, new_message, begun}
 use Rattle.ev_machine.specs.Refs as refs
 use Rattle.ev_machine.specs.Refs.{Place, Near, Mine, Away, Gone, entry_of, host_in}
 use Rattle.ev_machine_laws.specs.Steps.{After}
@@ -12,14 +12,14 @@ use Rattle.ev_machine_laws.proofs.RefsKeeps.{GoodSettler, keeps_send_on, keeps_s
 use Rattle.ev_machine_laws.proofs.StepLaws.{settled_law, settled_names}
 use Rattle.ev_fate_laws.specs.Fate.{one, among, sent_here, sent_in}
 use Rattle.ev_machine_laws.proofs.Keeps as kept
-use Rattle.ev_fate_laws.specs.Lasting.{Each, NamesMessage, NamesNoObject, NoPromise, HeldWell, KnownWell}
+use Rattle.ev_fate_laws.specs.Lasting.{Each, NamesMessage, NamesNoObject, NoPromise, HeldWell}
 use Rattle.ev_fate_laws.proofs.Counts.{sent_end, Waits}
 use Rattle.ev_fate_laws.proofs.RunCounts.{pick}
 use Rattle.ev_fate_laws.proofs.PlacesLast.{Global}
-use Rattle.ev_fate_laws.proofs.PlacesRefs.{Fits, IsEnd, IsHere, fits_at, of_end, follow_last, severed_last, target_last, found_well, settle_well, settled_entry, settled_standing, new_named}
+use Rattle.ev_fate_laws.proofs.PlacesRefs.{Fits, IsEnd, IsHere, fits_at, of_end, settled_follow, target_last, found_well, settle_well, settled_entry, settled_standing, new_named}
 use Rattle.ev_carry_laws.specs.Carry.{fare, weight, held_at, load}
 use Rattle.ev_carry_laws.specs.Sound.{Sound}
-use Rattle.ev_carry_laws.proofs.Light.{LightAt, Light, held_end, light_on, lighter, cost_bind_last, cost_then_first, cost_then_last, then_at, light, light_bind, light_look, light_if, light_then, light_give, light_tell, light_enqueue, light_each, light_out_elsewhere, unmoved, cost_out, cost_hold, light_react, tell_at, change_sound, found_sound, host_known, come_sound, light_answer}
+use Rattle.ev_carry_laws.proofs.Light.{LightAt, Light, held_end, light_on, lighter, cost_bind_last, cost_then_first, cost_then_last, then_at, light, light_bind, light_look, light_if, light_then, light_give, light_tell, light_enqueue, light_each, light_out_elsewhere, light_out_settled, unmoved, cost_out, cost_hold, light_react, tell_at, change_sound, found_sound, host_known, come_sound, light_answer}
 
 true_false : true ≡ false → ⊥
 true_false e = cc
@@ -47,12 +47,13 @@ ride_most (Mine n) c = omega arith
 ride_most (Away h n o) c = fare_most n c
 ride_most (Gone p) c = omega arith
 
-here_rides : (p : Place Name) (c : ℕ) → IsHere p → ride p c ≡ 0
+-- what is here goes nowhere
+pub here_rides : (p : Place Name) (c : ℕ) → IsHere p → ride p c ≤ 0
 unfolding ride
-here_rides Near c h = refl
+here_rides Near c h = omega arith
 here_rides (Mine n) c h = absurd h
 here_rides (Away u n o) c h = absurd h
-here_rides (Gone p) c h = refl
+here_rides (Gone p) c h = omega arith
 
 module _ (K : Naming Name Name) (v : ℕ) (global : Global K v) where
   -- what goes to another vat goes to its host, and a name of v itself has v as its host
@@ -130,13 +131,6 @@ module _ (K : Naming Name Name) (v : ℕ) (global : Global K v) where
   end_rides s (Broken p) c h = omega arith
   end_rides s (Items k) c h = omega arith
 
-  -- a name that settled is followed to no promise
-  settled_follow : (s : Vat Name) (p : Name) (k : Known Name) (y : Value Name) → entry_of K s.known p ≡ Some k → k.standing ≡ Settled y → NoPromise y → Each KnownWell s.known → NoPromise (refs.follow K s (Ref p))
-  unfolding refs.follow refs.follow_at refs.led refs.standing_of refs.standing_in
-  settled_follow s p k y e i h w = let on : Value Name → Value Name = λ y. refs.follow_at K (length s.known) s.known y in
-      let same : refs.standing_in (entry_of K s.known p) ≡ Settled y = ap refs.standing_in e ∙ i in
-      subst (λ t. NoPromise (refs.severed K s (refs.led K on p t))) (sym same) (severed_last K v global s (on y) (follow_last K v global (length s.known) s.known y h w))
-
   -- ---- acts
 
   module _ (x : Name) where
@@ -213,7 +207,7 @@ module _ (K : Naming Name Name) (v : ℕ) (global : Global K v) where
       -- a message that was held at a name that settled since
       sent_on : (s : Vat Name) (p : Name) (k : Known Name) (y : Value Name) (m : Message Name) → entry_of K s.known p ≡ Some k → k.standing ≡ Settled y → NoPromise y → HeldWell p m → Sound v s
           → LightAt v x (one m.id x) s (refs.send_on K settle m s)
-      sent_on s p k y m e i h g w = let last : NoPromise (refs.follow K s m.target) = subst (λ u. NoPromise (refs.follow K s u)) (sym g.0) (settled_follow s p k y e i h w.well) in
+      sent_on s p k y m e i h g w = let last : NoPromise (refs.follow K s m.target) = subst (λ u. NoPromise (refs.follow K s u)) (sym g.0) (settled_follow K v global s p k y e i h w.well) in
           sent_at (one m.id x) m s g.1 w (end_rides s (refs.follow K s m.target) (one m.id x) last)
 
       loop_at : (c d : ℕ) (s : Vat Name) (p : Name) (k : Known Name) (r : Done Name (Unit {0})) (rest : Act Name (Unit {0})) → LightAt v x c s r → After (SettledStays K) s r → (y : Value Name) → entry_of K s.known p ≡ Some k → k.standing ≡ Settled y
@@ -234,13 +228,16 @@ module _ (K : Naming Name Name) (v : ℕ) (global : Global K v) where
 
     -- ---- a vat is told what a name of this vat settled to
 
+    told_settled : (p : Name) (w : ℕ) (y : Value Name) → host_of p ≡ v → Light v x 0 (refs.pass K w y >>= (λ z. send_out w (SettledTo p z)))
+    told_settled p w y e = light_bind v x (light_pass w y) (λ z. light_out_settled v x w p z e)
+
     light_inform_of : (p : Name) (w : ℕ) (y : Value Name) (q : Place Name) → host_of p ≡ v → Light v x 0 (refs.inform_of K p w y q)
     unfolding refs.inform_of
     light_inform_of p w y (Away h n true) e = light_out_elsewhere v x w p h e
-    light_inform_of p w y (Away h n false) e = search (light, light_pass) depth 14
-    light_inform_of p w y (Mine n) e = search (light, light_pass) depth 14
-    light_inform_of p w y Near e = search (light, light_pass) depth 14
-    light_inform_of p w y (Gone t) e = search (light, light_pass) depth 14
+    light_inform_of p w y (Away h n false) e = told_settled p w y e
+    light_inform_of p w y (Mine n) e = told_settled p w y e
+    light_inform_of p w y Near e = told_settled p w y e
+    light_inform_of p w y (Gone t) e = told_settled p w y e
 
     pub light_inform : (p : Name) (w : ℕ) → host_of p ≡ v → Light v x 0 (refs.inform K p w)
     unfolding refs.inform

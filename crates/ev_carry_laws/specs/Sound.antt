@@ -24,7 +24,7 @@ abbrev pub NoteSound : ℕ → ℕ → Note Name → Type 0
 NoteSound v w (Deliver m n verb ys) = host_of n ≡ w
 NoteSound v w (Open i n) = Unit {0}
 NoteSound v w (Ask p i n) = Unit {0}
-NoteSound v w (SettledTo n y) = Unit {0}
+NoteSound v w (SettledTo n y) = host_of n ≡ v
 NoteSound v w (Elsewhere n c) = host_of n ≡ v
 NoteSound v w (Shorten n c i) = Unit {0}
 

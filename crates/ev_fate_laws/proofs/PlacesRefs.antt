@@ -205,11 +205,11 @@ module _ (K : Naming Name Name) (v : ℕ) (global : Global K v) where
   severed_last s (Items k) h = tt
 
   -- a name that settled is followed to no promise
-  settled_follow : (s : Vat Name) (p : Name) (k : Known Name) (y : Value Name) → entry_of K s.known p ≡ Some k → k.standing ≡ Settled y → NoPromise y → AllWell s → NoPromise (refs.follow K s (Ref p))
+  pub settled_follow : (s : Vat Name) (p : Name) (k : Known Name) (y : Value Name) → entry_of K s.known p ≡ Some k → k.standing ≡ Settled y → NoPromise y → Each KnownWell s.known → NoPromise (refs.follow K s (Ref p))
   unfolding refs.follow refs.follow_at refs.led refs.standing_of refs.standing_in
   settled_follow s p k y e i h w = let on : Value Name → Value Name = λ y. refs.follow_at K (length s.known) s.known y in
       let same : refs.standing_in (entry_of K s.known p) ≡ Settled y = ap refs.standing_in e ∙ i in
-      subst (λ t. NoPromise (refs.severed K s (refs.led K on p t))) (sym same) (severed_last s (on y) (follow_last (length s.known) s.known y h w.0))
+      subst (λ t. NoPromise (refs.severed K s (refs.led K on p t))) (sym same) (severed_last s (on y) (follow_last (length s.known) s.known y h w))
 
   cut_last : (b : Bool) (y : Value Name) → NoPromise y → NoPromise (refs.cut_cycle K b y)
   unfolding refs.cut_cycle
@@ -514,7 +514,7 @@ module _ (K : Naming Name Name) (v : ℕ) (global : Global K v) where
           → PaysAt cut x (one m.id x) s (refs.send_on K settle m s)
       unfolding refs.send_on ◌>>=◌ and_then look
       sent_on s p k y m e i h g w = let z = refs.follow K s m.target in
-          let last : NoPromise (refs.follow K s m.target) = subst (λ u. NoPromise (refs.follow K s u)) (sym g.0) (settled_follow s p k y e i h w) in
+          let last : NoPromise (refs.follow K s m.target) = subst (λ u. NoPromise (refs.follow K s u)) (sym g.0) (settled_follow s p k y e i h w.0) in
           (cost_send_to m z (refs.place K s z) g.1 (end_of s z last)).after s w
 
       loop_at : (c d : ℕ) (s : Vat Name) (p : Name) (k : Known Name) (y : Value Name) (r : Done Name (Unit {0})) (rest : Act Name (Unit {0})) → PaysAt cut x c s r → After (SettledStays K) s r → entry_of K s.known p ≡ Some k → k.standing ≡ Settled y
@@ -617,7 +617,7 @@ module _ (K : Naming Name Name) (v : ℕ) (global : Global K v) where
 
     pub inform_at : (p : Name) (k : Known Name) (y : Value Name) (w : ℕ) (s : Vat Name) → entry_of K s.known p ≡ Some k → k.standing ≡ Settled y → NoPromise y → AllWell s → PaysAt cut x 0 s (refs.inform K p w s)
     unfolding refs.inform ◌>>=◌ and_then look
-    inform_at p k y w s e i last well = let z = refs.follow K s (Ref p) in let zl = settled_follow s p k y e i last well in
+    inform_at p k y w s e i last well = let z = refs.follow K s (Ref p) in let zl = settled_follow s p k y e i last well.0 in
         unless_gone (is_in w s.noticed) (refs.inform_of K p w z (refs.place K s z)) s well (inform_of_at p w z (refs.place K s z) s zl refl well)
 
     paid_at : (owed : ℕ) (s t : Vat Name) (r : Done Name (Unit {0})) → account cut x s ≤ account cut x t + owed → PaysAt cut x owed t r → PaysAt cut x 0 s r
