@@ -8,9 +8,9 @@ use Rattle.ev_machine.specs.Arrive.{arrive, notice}
 use Rattle.ev_run.specs.World as world
 use Rattle.ev_run.specs.World.{Script, Program, Opens, Entry, Turn, Carry, CutLink, NoticeLink, Event, Turned, Idle, Carried, CutAt, NoticedAt, Link, World, Run, Goes as Going, Stopped, names, names_of, read_note, put_at, readied}
 use Rattle.ev_name_laws.specs.Names.{AllOf, IsMade, NoteOk}
-use Rattle.ev_name_laws.proofs.Facts.{MayBe}
+use Rattle.ev_name_laws.proofs.Facts.{MayBe, all_map, note_up}
 use Rattle.ev_name_laws.proofs.Among.{length_end}
-use Rattle.ev_name_laws.proofs.Run.{Stands, steps_stand, opens_stand}
+use Rattle.ev_name_laws.proofs.Run.{Stands, Told, steps_stand, opens_stand}
 use Rattle.ev_rest_laws.proofs.Gentle.{AfterGives}
 
 put_at_or : (v : ℕ) (y : Vat Name) (xs : List (Vat Name)) (u : ℕ) (t : Vat Name) → slice_get (put_at v y xs) u ≡ Some t → ((u ≡ v) × (y ≡ t)) ⊎ (slice_get xs u ≡ Some t)
@@ -129,10 +129,14 @@ module _ (script : Script) (P : ℕ → Vat Name → Type 0) (Allowed : ℕ → 
     open_keeps v p w x g h None q e = cc
     open_keeps v p w x g h (Some s) q e = put_back_keeps w x v (Opens v ∷ []) v _ h (law.opening w v p s g q (h v s q)) e
 
+    -- each name in a note under way was made
+    links_made : (w : World) → Stands script w → AllOf (λ (l : Link). AllOf (NoteOk (IsMade w.vats (length w.drawn))) l.notes) w.links
+    links_made w g = all_map (λ l i. all_map (λ n j. note_up (Told script w) (IsMade w.vats (length w.drawn)) (λ b k. k.0) n j) l.notes i) w.links g.links
+
     pub step_keeps : (entry : Entry) (k : ℕ) (w x : World) → Stands script w → IsAllowed Allowed entry → InVats w → world.step script entry k w ≡ Going x → InVats x
     unfolding world.step
     step_keeps (Turn v) k w x g ok h e = turn_keeps k v w x g h (slice_get w.vats v) refl e
-    step_keeps (Carry v to) k w x g ok h e = carry_link_keeps k v to w x g h (world.link_at v to w.links) (link_ok (λ (l : Link). AllOf (NoteOk (IsMade w.vats (length w.drawn))) l.notes) v to w.links g.links) e
+    step_keeps (Carry v to) k w x g ok h e = carry_link_keeps k v to w x g h (world.link_at v to w.links) (link_ok (λ (l : Link). AllOf (NoteOk (IsMade w.vats (length w.drawn))) l.notes) v to w.links (links_made w g)) e
     step_keeps (CutLink v to) k w x g ok h e = cut_keeps k v to w x h e
     step_keeps (NoticeLink v to) k w x g ok h e = notice_keeps k v to w x g ok h (slice_get w.vats v) refl e
 
