@@ -6,3 +6,5 @@ pub mod Costs
 pub mod RefsCosts
 pub mod ArriveCosts
 pub mod Steps
+pub mod Bounds
+pub mod KnownRuns

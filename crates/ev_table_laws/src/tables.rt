@@ -5,6 +5,7 @@
 ghost use Rattle.ev_table_laws.specs.Exports.{ExportsAreDistinct, PositionsAreOfOneName};
 ghost use Rattle.ev_table_laws.specs.Knowing.{StepsKnowOnce};
 ghost use Rattle.ev_table_laws.specs.Returns.{AMessageReturns};
+ghost use Rattle.ev_table_laws.specs.Runs.{NamesAreKnownOnce};
 
 /// The names that a vat exported to another, in the order of their positions, differ pairwise, and
 /// the exporter is the host of each.
@@ -37,4 +38,14 @@ pub fn a_message_returns()
 /// message, and the gift that it opens or asks for where that is absent.
 pub fn steps_know_once()
     ensures { StepsKnowOnce }
+{}
+
+/// The names that each vat knows differ pairwise: after any of the opening turns, and after all of
+/// them and any entries of a schedule by which each note that arrives brings each name once at most,
+/// and none that is claimed at the receiver or that one of the two has not numbered yet.
+///
+/// No vat of the script may be told twice that it knows a vat, or that it knows itself. That the
+/// notes of every run bring what is new is not proved.
+pub fn names_are_known_once()
+    ensures { NamesAreKnownOnce }
 {}
