@@ -60,7 +60,7 @@ module _ (v : ℕ) (x : Name) (word : ℕ → ℕ) where
     costs_learn p (AGift h i) = costs_learn_gift p h i
     costs_learn p (Many ys) = bind_free v x (new_in_all x ys) (costs_learn_all p ys) (λ vs. free_make_list vs)
 
-    costs_learn_all : (p : ℕ) (ys : Passeds (Incoming Name Name)) → Keeps (Knowing v x (new_in_all x ys)) (arrive.learn_all K p ys)
+    pub costs_learn_all : (p : ℕ) (ys : Passeds (Incoming Name Name)) → Keeps (Knowing v x (new_in_all x ys)) (arrive.learn_all K p ys)
     costs_learn_all p NoMore = keeps_give _ (spared v x) _
     costs_learn_all p (More y ys) = costs_bind v x (new_in x y) (new_in_all x ys) (costs_learn p y) (λ z. bind_free v x (new_in_all x ys) (costs_learn_all p ys) (λ zs. keeps_give _ (spared v x) _))
 

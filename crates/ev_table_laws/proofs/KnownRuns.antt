@@ -14,9 +14,11 @@ use Rattle.ev_run.specs.World.{Script, Program, Entry, Turn, Carry, CutLink, Not
 use Rattle.ev_name_laws.specs.Names.{Once, names_in}
 use Rattle.ev_name_laws.specs.Runs.{KnowsOnce}
 use Rattle.ev_table_laws.specs.Knowing.{claims, onward_all, Knowing, brought, brings}
-use Rattle.ev_table_laws.specs.Runs.{allowed, BringsNew, EntryBringsNew, NotesBringNew, NamesDiffer, NamesAreKnownOnce}
+use Rattle.ev_machine.specs.Arrive.{Incoming}
+use Rattle.ev_table_laws.specs.Runs.{allowed, brings_here, BringsNew, EntryBringsNew, NotesBringNew, NamesDiffer, NamesAreKnownOnce}
 use Rattle.ev_table_laws.proofs.Bounds.{Bounded, bounded_more, step_bounded, stays_longer, allowed_once, claims_once, differ, roots_allowed}
 use Rattle.ev_table_laws.proofs.Steps.{steps_know_once}
+use Rattle.ev_table_laws.proofs.OwnTargets.{news_after}
 
 abbrev pub AllBounded : World → Type 0
 AllBounded w = (v : ℕ) (s : Vat Name) → slice_get w.vats v ≡ Some s → Bounded (length w.drawn) v s
@@ -67,6 +69,13 @@ module _ (script : Script) where
   does_bounded v w x head n s q step h b e f g m c i = put_back_bounded v w x head n (world.readied w q) (λ z. brought v z q.gifts step) _ h (e ∙ b.0) refl
       (λ z. steps_know_once (draw_word script.key) v step (world.readied w q) z) (draws_stays (names script v) step (world.readied w q)) (λ z. rw (f, g, m) (c z)) i
 
+  -- a note that arrives
+  receives_bounded : (v from : ℕ) (w x : World) (head : List Event) (n : ℕ) (s : Vat Name) (m : Note (Incoming Name Name)) → AllBounded w → Bounded (length w.drawn) v s
+      → ((z : Name) → claims v z s.known + brings_here v z from s.gifts m ≤ allowed v z s (length w.drawn)) → world.put_back v w head n (arrive (names script v) from m (world.readied w s)) ≡ Going x → AllBounded x
+  unfolding world.readied names allowed does
+  receives_bounded v from w x head n s m h b c i = put_back_bounded v w x head n (world.readied w s) (λ z. brings_here v z from s.gifts m) _ h b.0 refl
+      (λ z. news_after v (draw_word script.key) z from m (world.readied w s) b.0 c) (draws_stays (names script v) (Receives from m) (world.readied w s)) c i
+
   -- where nothing is brought
   alone : (v : ℕ) (w : World) (s : Vat Name) → Bounded (length w.drawn) v s → (z : Name) → claims v z s.known + 0 ≤ allowed v z s (length w.drawn)
   alone v w s b z = let a = b.1 z in omega arith
@@ -82,9 +91,9 @@ module _ (script : Script) where
   turn_bounded k v w x (Some s) i h e = turn_queue_bounded k v w x s s.queue h (h v s i) e
 
   arrives_bounded : (k v to : ℕ) (w x : World) (ls : List Link) (n : Note Name) (o : Option (Vat Name)) → slice_get w.vats to ≡ o → AllBounded w → ((s : Vat Name) → slice_get w.vats to ≡ Some s → BringsNew w v to n s) → world.arrives script k v to (record w { links = ls }) n o ≡ Going x → AllBounded x
-  unfolding world.arrives world.within does brought
+  unfolding world.arrives world.within
   arrives_bounded k v to w x ls n None i h b e = idle_bounded k (record w { links = ls }) x h e
-  arrives_bounded k v to w x ls n (Some s) i h b e = does_bounded to (record w { links = ls }) x _ _ s s (Receives v (read_note (names_of s) n)) h (h to s i) refl refl refl refl (b s i) e
+  arrives_bounded k v to w x ls n (Some s) i h b e = receives_bounded to v (record w { links = ls }) x _ _ s (read_note (names_of s) n) h (h to s i) (b s i) e
 
   carry_notes_bounded : (k v to : ℕ) (w x : World) (ns : List (Note Name)) → AllBounded w → ((n : Note Name) (rest : List (Note Name)) (s : Vat Name) → ns ≡ n ∷ rest → slice_get w.vats to ≡ Some s → BringsNew w v to n s) → world.carry_notes script k v to w ns ≡ Going x → AllBounded x
   unfolding world.carry_notes

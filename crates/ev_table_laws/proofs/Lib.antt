@@ -7,4 +7,5 @@ pub mod RefsCosts
 pub mod ArriveCosts
 pub mod Steps
 pub mod Bounds
+pub mod OwnTargets
 pub mod KnownRuns

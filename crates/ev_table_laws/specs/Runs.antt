@@ -5,12 +5,15 @@ use Rattle.ev_machine.specs.State.{Note, Vat}
 use Rattle.ev_run.specs.World.{Script, Program, Entry, Turn, Carry, CutLink, NoticeLink, Link, World, Goes, link_at, read_note, names_of, begins, open_from, step, steps_from}
 use Rattle.ev_name_laws.specs.Names.{names_in}
 use Rattle.ev_name_laws.specs.Runs.{KnowsOnce}
-use Rattle.ev_table_laws.specs.Knowing.{claims, numbered, brings}
+use Rattle.ev_machine.specs.State.{Deliver, Open, Ask, SettledTo, Elsewhere, Shorten, GiftEntry}
+use Rattle.ev_machine.specs.Values.{answer_of}
+use Rattle.ev_machine.specs.Arrive.{Incoming, Old, New}
+use Rattle.ev_table_laws.specs.Knowing.{one, claims, numbered, new_in_all, brings}
 
--- One where x is a name that vat v gives no number to: no promise of it, no answer of a message of it, and no gift.
+-- One where x may be known to vat v and has no number of it: it is no object, no promise of it, no answer of a message of it, and no gift.
 unfoldable pub other : ℕ → Name → ℕ
 other v (Root w) = 1
-other v (Object w i) = 1
+other v (Object w i) = 0
 other v (Promise w i) = elim (v == w) [ true ↦ 0 | false ↦ 1 ]
 other v (Answer h m) = elim (v == m.sender) [ true ↦ 0 | false ↦ 1 ]
 other v (Gift h i) = 0
@@ -20,9 +23,28 @@ other v (Sent m) = 1
 unfoldable pub allowed : ℕ → Name → Vat Name → ℕ → ℕ
 allowed v x s d = other v x + numbered v x s.promises s.messages d
 
+unfoldable pub is_own_name : ℕ → Name → Bool
+is_own_name v (Object w i) = v == w
+is_own_name v _ = false
+
+-- whether it is an object of vat v
+unfoldable pub is_own : ℕ → Incoming Name Name → Bool
+is_own v (Old n) = is_own_name v n
+is_own v (New n h) = false
+
+-- the answer that a message brings here
+unfoldable pub answer_here : ℕ → Name → Incoming Name Name → ℕ
+answer_here v x (Old m) = one (answer_of v m) x
+answer_here v x (New m h) = one (answer_of v m) x
+
+-- How often a note brings x: as `brings` has it, but that a message on an object of this vat is not sent on.
+unfoldable pub brings_here : ℕ → Name → ℕ → List (GiftEntry Name) → Note (Incoming Name Name) → ℕ
+brings_here v x from gs (Deliver m n verb ys) = elim (is_own v n) [ true ↦ answer_here v x m + new_in_all x ys | false ↦ brings v x from gs (Deliver m n verb ys) ]
+brings_here v x from gs n = brings v x from gs n
+
 -- The note brings to that vat each name once at most, and none that is claimed there.
 abbrev pub BringsNew : World → ℕ → ℕ → Note Name → Vat Name → Type 0
-BringsNew w from to n s = (x : Name) → claims to x s.known + brings to x from s.gifts (read_note (names_of s) n) ≤ allowed to x s (length w.drawn)
+BringsNew w from to n s = (x : Name) → claims to x s.known + brings_here to x from s.gifts (read_note (names_of s) n) ≤ allowed to x s (length w.drawn)
 
 -- and so does the first note on the link that an entry carries from
 abbrev pub EntryBringsNew : World → Entry → Type 0
@@ -49,5 +71,5 @@ NamesAreKnownOnce = (script : Script) → KnowsOnce script
 
 -- opens the definitions of this file
 unfoldable pub opened_runs : Unit {0}
-unfolding other allowed
+unfolding other allowed is_own_name is_own answer_here brings_here
 opened_runs = tt
