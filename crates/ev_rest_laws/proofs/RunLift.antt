@@ -165,10 +165,10 @@ module _ (script : Script) (P : ℕ → Vat Name → Type 0) (Allowed : ℕ → 
     unfolding world.open_from
     one_open v p w y e = then_once (world.open_vat script v p w) (λ z. Going z) y e refl
 
-    open_stands : (front rest : List Program) (p : Program) (w y : World) → script.vats ≡ front ++ (p ∷ rest) → Stands script w → world.open_vat script (length front) p w ≡ Going y → Stands script y
+    pub open_stands : (front rest : List Program) (p : Program) (w y : World) → script.vats ≡ front ++ (p ∷ rest) → Stands script w → world.open_vat script (length front) p w ≡ Going y → Stands script y
     open_stands front rest p w y i g e = opens_stand script front (p ∷ []) rest w y i g (one_open (length front) p w y e)
 
-    opened_keeps : (v : ℕ) (p : Program) (w y : World) → Stands script w → InVats w → world.open_vat script v p w ≡ Going y → InVats y
+    pub opened_keeps : (v : ℕ) (p : Program) (w y : World) → Stands script w → InVats w → world.open_vat script v p w ≡ Going y → InVats y
     unfolding world.open_vat
     opened_keeps v p w y g h e = open_keeps v p w y g h (slice_get w.vats v) refl e
 
