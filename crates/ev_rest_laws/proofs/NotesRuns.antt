@@ -15,7 +15,7 @@ use Rattle.ev_name_laws.proofs.Among.{length_end}
 use Rattle.ev_name_laws.proofs.Run.{Stands}
 use Rattle.ev_rest_laws.specs.Notes.{IsBetween, LinkFits, NotesNameTheirEnds}
 use Rattle.ev_rest_laws.proofs.Gentle.{AfterGives}
-use Rattle.ev_rest_laws.proofs.RunLift.{IsAllowed, InVats, link_ok, step_keeps, step_stands, opened_keeps, open_stands}
+use Rattle.ev_rest_laws.proofs.RunLift.{IsAllowed, InVats, links_made, link_ok, step_keeps, step_stands, opened_keeps, open_stands}
 use Rattle.ev_rest_laws.proofs.OwnKeeps.{IsOwnPut}
 use Rattle.ev_rest_laws.proofs.OwnRuns.{Any, InScript, own_keep, begins_own, begins_stand}
 
@@ -165,7 +165,7 @@ module _ (script : Script) where
   step_fits : (entry : Entry) (k : ℕ) (w x : World) → Stands script w → InVats script Its (Any script) w → InLinks w → world.step script entry k w ≡ Going x → InLinks x
   unfolding world.step
   step_fits (Turn v) k w x g a h e = turn_fits k v w x g a h (slice_get w.vats v) refl e
-  step_fits (Carry v to) k w x g a h e = carry_link_fits k v to w x g a h (world.link_at v to w.links) (link_ok (λ (l : Link). AllOf (NoteOk (IsMade w.vats (length w.drawn))) l.notes) v to w.links g.links) (found_fits v to w.links h) e
+  step_fits (Carry v to) k w x g a h e = carry_link_fits k v to w x g a h (world.link_at v to w.links) (link_ok (λ (l : Link). AllOf (NoteOk (IsMade w.vats (length w.drawn))) l.notes) v to w.links (links_made script w g)) (found_fits v to w.links h) e
   step_fits (CutLink v to) k w x g a h e = cut_fits k v to w x h e
   step_fits (NoticeLink v to) k w x g a h e = notice_fits k v to w x g a h (slice_get w.vats v) refl e
 
