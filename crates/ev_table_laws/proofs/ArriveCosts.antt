@@ -1,8 +1,8 @@
 -- What arrives makes known what the note brings, and a notice makes nothing known that was not claimed.
-use Rattle.std.proofs.Common.{◌≡◌, ℕ, ◌+◌, ◌≤◌, Bool, true, false, List, [], ◌∷◌, ◌++◌, Option, Some, None, refl, sym, ◌∙◌, arith, length, if◌then◌else◌, ◌==◌}
+use Rattle.std.proofs.Common.{◌≡◌, ℕ, ◌+◌, ◌≤◌, Bool, true, false, List, [], ◌∷◌, ◌++◌, Option, Some, None, refl, ◌∙◌, arith, length, if◌then◌else◌, ◌==◌}
 use Rattle.std.proofs.lemmas.Bool.{eqb-true}
 use Rattle.ev_machine.specs.Values.{Words, Value, Null, Flag, Number, Letter, Text, Prim, Broken, Items, Ref, Name, Gift, Naming, IsAnswer, IsGift, IsLearnt, IsCarried, naming, name_of, mail_of, answer_of}
-use Rattle.ev_machine.specs.State.{Standing, Unsettled, WaitsOn, Viewed, Settled, Known, Passed, Passeds, Plain, AGift, Many, NoMore, More, Note, Deliver, Open, Ask, SettledTo, Elsewhere, Shorten, GiftEntry, Vat, Act, ◌>>=◌, ◌>>◌, ToTell, and_then, mail, give, look, come, alter, begun, draw, draws, drawn_at, send_out, new_gift, open_gift}
+use Rattle.ev_machine.specs.State.{Standing, Unsettled, WaitsOn, Viewed, Settled, Known, Passed, Passeds, Plain, AGift, Many, NoMore, More, Note, Deliver, Open, Ask, SettledTo, Elsewhere, Shorten, GiftEntry, Vat, Act, ◌>>=◌, ◌>>◌, ToTell, and_then, mail, give, look, come, alter, begun, draw, draws, send_out, open_gift}
 use Rattle.ev_machine.specs.Refs.{Place, Away, settle, send_on, resolve}
 use Rattle.ev_machine.specs.Arrive as arrive
 use Rattle.ev_machine.specs.Arrive.{Incoming, Old, New, gift_at}
@@ -10,7 +10,7 @@ use Rattle.ev_machine_laws.specs.Steps.{After}
 use Rattle.ev_machine_laws.proofs.Keeps.{Keeps}
 use Rattle.ev_fate_laws.proofs.Spares.{keeps_give, keeps_look}
 use Rattle.ev_table_laws.specs.Knowing.{one, onward, Knowing, new_name, new_in_value, new_in, new_in_all, new_answer, new_gift_here, brings}
-use Rattle.ev_table_laws.proofs.Costs.{spared, none, free, after_here, after_more, after_pays, after_trans, bind_after, costs_more, costs_bind, costs_then, bind_free, free_bind, free_then, then_free, free_gift, free_open, free_out, free_to_tell, free_mail, costs_come, draw_owes, known_after}
+use Rattle.ev_table_laws.proofs.Costs.{spared, none, free, after_here, after_more, after_pays, after_trans, bind_after, costs_more, costs_bind, bind_free, free_bind, free_then, then_free, free_gift, free_open, free_out, free_to_tell, free_mail, costs_come, draw_owes, known_after}
 use Rattle.ev_table_laws.proofs.RefsCosts.{free_refs, free_settle, free_resolve, free_inform, costs_send_on}
 
 module _ (v : ℕ) (x : Name) (word : ℕ → ℕ) where

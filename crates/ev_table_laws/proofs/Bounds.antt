@@ -1,5 +1,5 @@
 -- The claims on each name at a vat stay within what is allowed, by any step whose note brings what is new.
-use Rattle.std.proofs.Common.{◌≡◌, ℕ, zero, suc, ◌+◌, ◌≤◌, Bool, true, false, List, [], ◌∷◌, ◌++◌, Option, Some, None, refl, sym, ap, ◌∙◌, arith, length, map, ◌==◌, ◌⊎◌, inl, inr, leb-true}
+use Rattle.std.proofs.Common.{◌≡◌, ℕ, zero, suc, ◌+◌, ◌≤◌, Bool, true, false, List, [], ◌∷◌, Some, None, refl, sym, ap, ◌∙◌, arith, length, map, ◌==◌, inl, inr, leb-true}
 use Rattle.std.specs.Prelude.{slice_get, nat_le}
 use Rattle.std.proofs.lemmas.Bool.{eqb-true, eq-eqb, le-leb}
 use Rattle.ev_machine.specs.Values.{Name, Root, Object, Promise, Answer, Gift, Sent, same_name}
@@ -8,7 +8,7 @@ use Rattle.ev_run.specs.World.{known_root}
 use Rattle.ev_machine_laws.specs.Laws.{Stays}
 use Rattle.ev_name_laws.specs.Names.{IsAmong, Once, names_in}
 use Rattle.ev_name_laws.proofs.SameNames.{same_is, same_self, false_true}
-use Rattle.ev_table_laws.specs.Knowing.{once, one, onward, onward_all, claims, numbered, numbered_at, Knowing}
+use Rattle.ev_table_laws.specs.Knowing.{once, one, onward_all, claims, numbered, numbered_at, Knowing}
 use Rattle.ev_table_laws.specs.Runs.{other, allowed}
 use Rattle.ev_table_laws.proofs.Positions.{one_position}
 

@@ -1,8 +1,8 @@
 -- How single changes change the claims on a name.
-use Rattle.std.proofs.Common.{◌≡◌, ℕ, suc, ◌+◌, ◌≤◌, Bool, true, false, List, [], ◌∷◌, ◌++◌, Option, Some, refl, sym, arith, eqb-true, leb-true, ◌∙◌, length}
+use Rattle.std.proofs.Common.{◌≡◌, ℕ, suc, ◌+◌, ◌≤◌, Bool, true, false, List, [], ◌∷◌, ◌++◌, Option, Some, refl, sym, arith, eqb-true, leb-true, ◌∙◌}
 use Rattle.std.specs.Prelude.{nat_le, ◌==◌, ◌&&◌}
-use Rattle.std.proofs.lemmas.Bool.{le-leb, eq-eqb}
-use Rattle.ev_machine.specs.Values.{Value, Name, Root, Object, Promise, Answer, Gift, Sent, Msg, Naming, same_name, same_msg, answer_of, host_of}
+use Rattle.std.proofs.lemmas.Bool.{le-leb}
+use Rattle.ev_machine.specs.Values.{Value, Name, Root, Object, Promise, Answer, Gift, Sent, Naming, same_name}
 use Rattle.ev_machine.specs.State.{Message, Standing, Unsettled, WaitsOn, Viewed, Settled, Known, Change, Hold, Wait, WaitOn, See, React, ToTell, Settle, begun, changed, changed_to, unless_settled, with_change}
 use Rattle.ev_machine.specs.Refs.{entry_of}
 use Rattle.ev_table_laws.specs.Knowing.{once, one, onward, onward_all, claims, numbered}

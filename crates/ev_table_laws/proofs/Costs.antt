@@ -1,12 +1,12 @@
 -- What single changes, and one thing after another, add to the claims on a name.
-use Rattle.std.proofs.Common.{◌≡◌, ℕ, suc, ◌+◌, ◌≤◌, Bool, true, false, List, [], ◌∷◌, ◌++◌, Option, Some, None, arith, length}
-use Rattle.ev_machine.specs.Values.{Words, Value, Name, Coming, Mailing, Gift, Promise, Naming, naming, name_of}
+use Rattle.std.proofs.Common.{◌≡◌, ℕ, suc, ◌+◌, ◌≤◌, [], ◌∷◌, ◌++◌, Option, Some, None, arith, length}
+use Rattle.ev_machine.specs.Values.{Name, Coming, Mailing, Gift, Promise, Naming, naming, name_of}
 use Rattle.ev_machine.specs.State.{Message, Change, Hold, Wait, WaitOn, See, React, ToTell, Note, Happened, Vat, Done, Gives, Throws, Ejects, Stops, Act, ◌>>=◌, ◌>>◌, and_then, tell, enqueue, send_out, new_gift, open_gift, mark, draws, draw, with_change, alter, come, mail, begun}
 use Rattle.ev_machine_laws.specs.Steps.{After}
 use Rattle.ev_machine_laws.proofs.Keeps.{Keeps}
 use Rattle.ev_fate_laws.proofs.Spares.{IsSpared, spares}
 use Rattle.ev_name_laws.proofs.Among.{length_end}
-use Rattle.ev_table_laws.specs.Knowing.{one, onward, onward_all, claims, numbered, numbered_at, Knowing}
+use Rattle.ev_table_laws.specs.Knowing.{one, onward, claims, numbered_at, Knowing}
 use Rattle.ev_table_laws.proofs.Claims.{added, claims_end, with_change_adds, promise_next, gift_next}
 
 -- so much is owed from s to t: numbered, and not claimed yet, or freed

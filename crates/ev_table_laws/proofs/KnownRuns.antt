@@ -1,9 +1,9 @@
 -- In every world of a run whose notes bring what is new, the claims on each name at each vat are within what is allowed.
-use Rattle.std.proofs.Common.{◌≡◌, ℕ, ◌+◌, ◌≤◌, zero, suc, Bool, true, false, List, [], ◌∷◌, ◌++◌, Option, Some, None, refl, sym, ap, ◌∙◌, ◌⊎◌, inl, inr, length, arith, append_assoc, append-nil}
+use Rattle.std.proofs.Common.{◌≡◌, ℕ, ◌+◌, ◌≤◌, zero, suc, Bool, true, false, List, [], ◌∷◌, ◌++◌, Option, Some, None, refl, sym, ap, ◌∙◌, ◌⊎◌, inl, inr, length, arith}
 use Rattle.std.specs.Prelude.{slice_get}
-use Rattle.ev_machine.specs.Values.{Name, Root, naming}
+use Rattle.ev_machine.specs.Values.{Name, Root}
 use Rattle.ev_machine.specs.State.{Message, Note, Vat, Done, Gives, Throws, Ejects, Stops, begun}
-use Rattle.ev_machine.specs.Eval.{opening, taking}
+use Rattle.ev_machine.specs.Eval.{opening}
 use Rattle.ev_machine.specs.Arrive.{arrive, notice}
 use Rattle.ev_machine_laws.specs.Steps.{Step, Opens, Takes, Receives, Notices, does, After}
 use Rattle.ev_machine_laws.specs.Laws.{SameDraws}
@@ -13,7 +13,7 @@ use Rattle.ev_run.specs.World as world
 use Rattle.ev_run.specs.World.{Script, Program, Entry, Turn, Carry, CutLink, NoticeLink, Event, Idle, Link, World, Run, Goes as Going, Stopped, names, names_of, read_note, put_at}
 use Rattle.ev_name_laws.specs.Names.{Once, names_in}
 use Rattle.ev_name_laws.specs.Runs.{KnowsOnce}
-use Rattle.ev_table_laws.specs.Knowing.{claims, onward_all, Knowing, brought, brings}
+use Rattle.ev_table_laws.specs.Knowing.{claims, Knowing, brought}
 use Rattle.ev_machine.specs.Arrive.{Incoming}
 use Rattle.ev_table_laws.specs.Runs.{allowed, brings_here, BringsNew, EntryBringsNew, NotesBringNew, NamesDiffer, NamesAreKnownOnce}
 use Rattle.ev_table_laws.proofs.Bounds.{Bounded, bounded_more, step_bounded, stays_longer, allowed_once, claims_once, differ, roots_allowed}
@@ -52,7 +52,7 @@ unfolding world.put_back
 put_back_bounded v w x head n q came (Gives a t) h e same k draws b i =
     let longer : length q.drawn ≤ length t.drawn = stays_longer q.drawn t.drawn draws in let l : length w.drawn ≤ length t.drawn = rw same at longer in
     moved (record { fuel = t.fuel; drawn = t.drawn; vats = put_at v t w.vats; links = world.push_all v t.outbox w.links; history = w.history ++ head ++ world.events_of w.links v t.happened }) x
-        (λ u r j. put_one (length w.drawn) (length t.drawn) v w.vats t l h (step_bounded v q t came e k b) u r (put_at_or v t w.vats u r j)) i
+    (λ u r j. put_one (length w.drawn) (length t.drawn) v w.vats t l h (step_bounded v q t came e k b) u r (put_at_or v t w.vats u r j)) i
 put_back_bounded v w x head n q came (Throws p t) h e same k draws b i = cc
 put_back_bounded v w x head n q came (Ejects m y t) h e same k draws b i = cc
 put_back_bounded v w x head n q came (Stops c t) h e same k draws b i = cc

@@ -1,14 +1,13 @@
 -- A message on an object of this vat is queued, so it brings no answer of another host.
-use Rattle.std.proofs.Common.{◌≡◌, ℕ, suc, ◌+◌, ◌≤◌, Bool, true, false, List, [], ◌∷◌, ◌++◌, Option, Some, None, refl, sym, subst, arith, length, ◌==◌}
+use Rattle.std.proofs.Common.{◌≡◌, ℕ, ◌+◌, ◌≤◌, Bool, true, false, List, [], ◌∷◌, ◌++◌, Option, Some, None, refl, sym, subst, arith, length, ◌==◌}
 use Rattle.std.proofs.lemmas.Bool.{eqb-true, eq-eqb}
 use Rattle.ev_machine.specs.Values.{Words, Value, Ref, Name, Root, Object, Promise, Answer, Gift, Sent, Naming, IsAnswer, IsCarried, naming, name_of, mail_of, answer_of, Spot, Own, Foreign, NoObject, spot_of, same_name}
-use Rattle.ev_machine.specs.State.{Message, Known, ToTell, Passed, Passeds, Note, Deliver, Open, Ask, SettledTo, Elsewhere, Shorten, Vat, Done, Gives, Throws, Ejects, Stops, Act, ◌>>=◌, ◌>>◌, and_then, give, look, come, mail, alter, with_change, begun}
+use Rattle.ev_machine.specs.State.{Message, Known, ToTell, Passeds, Note, Deliver, Open, Ask, SettledTo, Elsewhere, Shorten, Vat, Done, Gives, Throws, Ejects, Stops, ◌>>=◌, ◌>>◌, and_then, give, look, come, mail, alter, with_change, begun}
 use Rattle.ev_machine.specs.Refs as refs
 use Rattle.ev_machine.specs.Refs.{Place, Near, settle, send_on}
 use Rattle.ev_machine.specs.Arrive as arrive
 use Rattle.ev_machine.specs.Arrive.{Incoming, Old, New}
 use Rattle.ev_machine_laws.specs.Steps.{After}
-use Rattle.ev_machine_laws.proofs.Keeps.{Keeps}
 use Rattle.ev_table_laws.specs.Knowing.{once, one, claims, numbered, numbered_at, Knowing, new_in_all, brings}
 use Rattle.ev_table_laws.specs.Runs.{allowed, other, is_own_name, is_own, answer_here, brings_here}
 use Rattle.ev_table_laws.proofs.Claims.{claims_end, with_change_adds, added}

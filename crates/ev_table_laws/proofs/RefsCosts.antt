@@ -1,14 +1,14 @@
 -- What is done with references makes known, of the names that were numbered, those that were not claimed.
 use Rattle.std.proofs.Common.{◌≡◌, ℕ, zero, suc, ◌+◌, ◌≤◌, Bool, true, false, List, [], ◌∷◌, ◌++◌, Option, Some, None, refl, sym, ◌∙◌, arith, length, ◌==◌, ◌&&◌}
 use Rattle.std.proofs.lemmas.Bool.{eqb-true, eq-eqb}
-use Rattle.ev_machine.specs.Values.{Words, Value, Null, Flag, Number, Letter, Text, Prim, Broken, Items, Ref, Name, Root, Object, Promise, Answer, Gift, Sent, Msg, Spot, Own, Foreign, NoObject, Naming, IsAnswer, IsSent, naming, name_of, mail_of, answer_of, spot_of, host_of, same_name, same_msg}
-use Rattle.ev_machine.specs.State.{Message, Standing, Unsettled, WaitsOn, Viewed, Settled, Known, Settle, Passed, Passeds, Plain, AGift, Many, NoMore, More, Sends, Reacts, Settles, Lost, Posted, Deliver, Happened, Vat, Act, ◌>>=◌, ◌>>◌, and_then, each, give, look, tell, enqueue, with_change, alter, new_message, begun}
+use Rattle.ev_machine.specs.Values.{Words, Value, Null, Flag, Number, Letter, Text, Prim, Broken, Items, Ref, Name, Root, Object, Promise, Answer, Gift, Sent, Msg, Spot, Own, Foreign, NoObject, Naming, IsAnswer, naming, name_of, mail_of, answer_of, spot_of, host_of, same_name, same_msg}
+use Rattle.ev_machine.specs.State.{Message, Standing, Unsettled, WaitsOn, Viewed, Settled, Known, Settle, Passed, Passeds, Plain, AGift, Many, NoMore, More, Sends, Reacts, Settles, Lost, Happened, Vat, Act, ◌>>=◌, ◌>>◌, and_then, each, give, look, tell, enqueue, with_change, alter, new_message, begun}
 use Rattle.ev_machine.specs.Refs as refs
 use Rattle.ev_machine.specs.Refs.{Place, Near, Mine, Away, Gone, entry_of}
 use Rattle.ev_machine_laws.specs.Steps.{After}
 use Rattle.ev_machine_laws.proofs.Keeps.{Keeps}
-use Rattle.ev_fate_laws.proofs.Spares.{IsSparedUnder, keeps_give, keeps_each, keeps_look}
-use Rattle.ev_table_laws.specs.Knowing.{once, one, onward, onward_all, claims, numbered, numbered_at, Knowing}
+use Rattle.ev_fate_laws.proofs.Spares.{IsSparedUnder, keeps_give, keeps_each}
+use Rattle.ev_table_laws.specs.Knowing.{once, one, onward, onward_all, numbered_at, Knowing}
 use Rattle.ev_table_laws.proofs.Claims.{Waits, settling_frees, claims_end, answers, answer_next, answer_at}
 use Rattle.ev_table_laws.proofs.Costs.{Owes, free, spared, none, after_here, after_pays, costs_more, costs_then, costs_bind, bind_free, free_bind, free_then, then_free, free_tell, free_enqueue, free_out, free_react, costs_hold, costs_come, free_promise}
 

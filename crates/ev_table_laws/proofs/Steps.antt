@@ -1,5 +1,5 @@
 -- Every step of a vat makes known what it numbers, what the note brings and what was claimed.
-use Rattle.std.proofs.Common.{◌≡◌, ℕ, Bool, List, refl}
+use Rattle.std.proofs.Common.{ℕ, List}
 use Rattle.ev_machine.specs.Values.{Name, Naming, naming}
 use Rattle.ev_machine.specs.State.{Binding, Message, Vat, Took}
 use Rattle.ev_machine.specs.Eval as eval

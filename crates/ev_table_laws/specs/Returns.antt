@@ -1,8 +1,8 @@
 -- A run in which a message comes back to the vat that sent it.
 use Rattle.std.specs.Prelude.{◌≡◌, ℕ, List, [], ◌∷◌, Some, None, Option, slice_get, codes}
-use Rattle.ev_machine.specs.Values.{Name, Sent, Answer}
+use Rattle.ev_machine.specs.Values.{Name, Sent}
 use Rattle.ev_machine.specs.State.{Vat}
-use Rattle.ev_run.specs.World.{Carry, Script, Run, Goes, Stopped, run, names_of}
+use Rattle.ev_run.specs.World.{Carry, Script, Run, Goes, Stopped, run}
 use Rattle.ev_kernel.specs.declared.node.Literal.TheVariants as literal
 use Rattle.ev_kernel.specs.declared.node.Node.{Node}
 use Rattle.ev_kernel.specs.declared.node.Node.TheVariants.{Lit, Noun, Call, Sequence, Object, Final}

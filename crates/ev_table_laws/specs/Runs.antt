@@ -5,7 +5,7 @@ use Rattle.ev_machine.specs.State.{Note, Vat}
 use Rattle.ev_run.specs.World.{Script, Program, Entry, Turn, Carry, CutLink, NoticeLink, Link, World, Goes, link_at, read_note, names_of, begins, open_from, step, steps_from}
 use Rattle.ev_name_laws.specs.Names.{names_in}
 use Rattle.ev_name_laws.specs.Runs.{KnowsOnce}
-use Rattle.ev_machine.specs.State.{Deliver, Open, Ask, SettledTo, Elsewhere, Shorten, GiftEntry}
+use Rattle.ev_machine.specs.State.{Deliver, GiftEntry}
 use Rattle.ev_machine.specs.Values.{answer_of}
 use Rattle.ev_machine.specs.Arrive.{Incoming, Old, New}
 use Rattle.ev_table_laws.specs.Knowing.{one, claims, numbered, new_in_all, brings}
@@ -23,11 +23,12 @@ other v (Sent m) = 1
 unfoldable pub allowed : ℕ → Name → Vat Name → ℕ → ℕ
 allowed v x s d = other v x + numbered v x s.promises s.messages d
 
+-- whether it is the name of an object of vat v
 unfoldable pub is_own_name : ℕ → Name → Bool
 is_own_name v (Object w i) = v == w
 is_own_name v _ = false
 
--- whether it is an object of vat v
+-- whether a note names such an object
 unfoldable pub is_own : ℕ → Incoming Name Name → Bool
 is_own v (Old n) = is_own_name v n
 is_own v (New n h) = false
