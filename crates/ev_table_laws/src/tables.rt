@@ -22,6 +22,7 @@ pub fn exports_are_distinct()
 /// A message may come back to its sender, which has it twice from then on, by computing.
 ///
 /// It was sent to a promise of another vat, which settled to an object of the sender.
+/// The two vats know the answers of it at both, each once.
 #[tactic(auto, unfolding(ev_run::specs::World::opened_world, crate::specs::Returns::opened_returns))]
 pub fn a_message_returns()
     ensures { AMessageReturns }
