@@ -8,3 +8,4 @@ pub mod ArriveCalm
 pub mod TurnsCalm
 pub mod RinglessSteps
 pub mod RinglessRuns
+pub mod ListChains

@@ -1,8 +1,8 @@
 -- Chains of waits and views inside a vat.
 use Rattle.std.specs.Prelude.{◌≡◌, ℕ, zero, suc, true, List, length}
-use Rattle.ev_machine.specs.Values.{Name, Naming, naming}
-use Rattle.ev_machine.specs.State.{Standing, Unsettled, WaitsOn, Viewed, Settled, Known}
-use Rattle.ev_machine.specs.Refs.{standing_of, waits_lead}
+use Rattle.ev_machine.specs.Values.{Value, Name, Naming, naming}
+use Rattle.ev_machine.specs.State.{Standing, Unsettled, WaitsOn, Viewed, Settled, Known, Vat}
+use Rattle.ev_machine.specs.Refs.{standing_of, waits_lead, reaches}
 use Rattle.ev_run.specs.World.{names}
 use Rattle.ev_name_laws.specs.Names.{Once, names_in}
 use Rattle.ev_rest_laws.specs.Rest.{InEachVat}
@@ -35,3 +35,7 @@ WaitsEndInRuns = InEachVat (λ script v s. Once (names_in s.known) → NoneWaits
 -- Where a chain of waits and views leads from n to p in any number of steps, the test for a cycle finds it in as many steps as names are known.
 abbrev pub CycleTestsSuffice : Type 0
 CycleTestsSuffice = (word : ℕ → ℕ) (v : ℕ) (ks : List (Known Name)) (p n : Name) (d : ℕ) → waits_lead (naming word v) d ks p n ≡ true → waits_lead (naming word v) (length ks) ks p n ≡ true
+
+-- Where members, each followed, lead from a value to a name in any number of steps, the test finds it in as many steps as there are lists, and one.
+abbrev pub ListTestsSuffice : Type 0
+ListTestsSuffice = (word : ℕ → ℕ) (v : ℕ) (s : Vat Name) (p : Name) (x : Value Name) (d : ℕ) → reaches (naming word v) d s p x ≡ true → reaches (naming word v) (suc (length s.lists)) s p x ≡ true
