@@ -18,3 +18,4 @@ pub mod OwnKeeps
 pub mod OwnTurns
 pub mod OwnArrive
 pub mod OwnRuns
+pub mod NotesRuns

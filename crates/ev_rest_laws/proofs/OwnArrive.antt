@@ -1,17 +1,20 @@
 -- What arrives and what is noticed leave what a vat has its own.
-use Rattle.std.proofs.Common.{◌≡◌, ℕ, Bool, true, false, List, [], ◌∷◌, ◌++◌, Option, Some, None, refl, sym, ◌∙◌, if◌then◌else◌, ◌==◌}
+use Rattle.std.proofs.Common.{◌≡◌, ℕ, Bool, true, false, List, [], ◌∷◌, ◌++◌, Option, Some, None, refl, sym, ◌∙◌, if◌then◌else◌, ◌==◌, codes}
 use Rattle.ev_machine.specs.Values.{Words, Value, Null, Flag, Number, Letter, Text, Prim, Broken, Items, Ref, Name, Root, Object, Promise, Answer, Gift, Sent, host_of, Naming, naming, name_of, answer_of, mail_of, IsAnswer, IsGift}
-use Rattle.ev_machine.specs.State.{Standing, Unsettled, WaitsOn, Viewed, Settled, Known, ToTell, Passed, Passeds, Plain, AGift, Many, NoMore, More, Note, Deliver, Open, Ask, SettledTo, Elsewhere, Shorten, GiftEntry, Vat, Act, ◌>>=◌, ◌>>◌, and_then, give, look, mail, mark, come, new_list, new_gift, open_gift, with_opened, is_gift, begun, send_out, alter}
+use Rattle.ev_machine.specs.State.{Standing, Unsettled, WaitsOn, Viewed, Settled, Known, ToTell, Passed, Passeds, Plain, AGift, Many, NoMore, More, Note, Deliver, Open, Ask, SettledTo, Elsewhere, Shorten, GiftEntry, Vat, Act, ◌>>=◌, ◌>>◌, and_then, give, look, mail, mark, come, new_list, new_gift, open_gift, with_opened, is_gift, is_in, begun, draw, send_out, alter}
 use Rattle.ev_machine.specs.Refs as refs
-use Rattle.ev_machine.specs.Refs.{Place, Near, Mine, Away, Gone}
+use Rattle.ev_machine.specs.Refs.{Place, Near, Mine, Away, Gone, host_at}
 use Rattle.ev_machine.specs.Arrive as arrive
 use Rattle.ev_machine.specs.Arrive.{Incoming, Old, New}
 use Rattle.ev_run.specs.World as world
-use Rattle.ev_name_laws.specs.Names.{AllOf, IsMessageName}
+use Rattle.ev_name_laws.specs.Names.{AllOf, IsAmong, IsMessageName, IsEventual, IsKnownIn, names_in}
 use Rattle.ev_name_laws.proofs.Facts.{all_end}
-use Rattle.ev_rest_laws.specs.Own.{IsOwnGift, Own}
+use Rattle.ev_name_laws.proofs.Among.{among_last, names_end}
+use Rattle.ev_name_laws.proofs.SameNames.{old_known}
+use Rattle.ev_name_laws.proofs.Tracked.{known_among}
+use Rattle.ev_rest_laws.specs.Own.{IsOwnGift}
 use Rattle.ev_rest_laws.proofs.Gentle.{GivesBy, Gentle}
-use Rattle.ev_rest_laws.proofs.OwnKeeps.{KeepsOwn, widen, with_own, own_bind, own_then, own_if, own_give, own_look, own_tell, own_out, own_draw, own_all, own_wait, own_view, own_to_tell, came_own, own_send_on, own_inform, own_settle, own_resolve}
+use Rattle.ev_rest_laws.proofs.OwnKeeps.{KeepsOwn, widen, with_own, own_bind, own_then, own_if, own_give, own_look, own_tell, own_out, own_draw, own_all, own_wait, own_view, own_to_tell, came_own, own_send_on, own_inform, own_settle, own_resolve, Whole, PlaceFits, place_fits, known_host, eventual_known}
 
 module _ (word : ℕ → ℕ) (v : ℕ) where
   abbrev Names : Naming Name Name
@@ -24,11 +27,11 @@ module _ (word : ℕ → ℕ) (v : ℕ) where
 
   own_gift : (h i : ℕ) → Keeping (come Names (IsGift h i) h)
   unfolding come naming name_of host_of
-  own_gift h i = record { after = λ s o. (o.0, o.1, came_own word v s (Gift h i) h refl o, o.3) }
+  own_gift h i = record { after = λ s o. (o.0, o.1, came_own word v s (Gift h i) h refl o, o.3, o.4) }
 
   own_new : (n : Name) → Keeping (arrive.learn_name Names (New n (host_of n)))
   unfolding arrive.learn_name come naming name_of
-  own_new n = record { after = λ s o. (o.0, o.1, came_own word v s n (host_of n) refl o, o.3) }
+  own_new n = record { after = λ s o. (o.0, o.1, came_own word v s n (host_of n) refl o, o.3, o.4) }
 
   own_old : (n : Name) → Keeping (arrive.learn_name Names (Old n))
   unfolding arrive.learn_name
@@ -54,13 +57,18 @@ module _ (word : ℕ → ℕ) (v : ℕ) where
   own_value ks (Items k) = own_give word v (Items k)
   own_value ks (Ref n) = own_bind word v (own_name ks n) (λ x. own_give word v (Ref x))
 
-  own_ask_for : (p h i : ℕ) (n : Name) → Keeping (arrive.ask_for Names p h i n)
+  own_ask_for : (p h i : ℕ) (n : Name) → host_of n ≡ h → Keeping (arrive.ask_for Names p h i n)
   unfolding arrive.ask_for
-  own_ask_for p h i n = own_bind word v (own_look word v _) (λ gone. own_if word v gone (own_settle word v n _) (own_out word v h _))
+  own_ask_for p h i n e = own_bind word v (own_look word v _) (λ gone. own_if word v gone (own_settle word v n _) (own_out word v h (Ask p i n) e))
+
+  -- the gift that comes to be known, and what is done with it
+  came_gift : {A : Type 0} (h i : ℕ) (f : Name → Act Name A) → Keeping (f (Gift h i)) → Keeping (come Names (IsGift h i) h >>= f)
+  unfolding ◌>>=◌ come and_then naming name_of host_of
+  came_gift h i f k = record { after = λ s. let t : Vat Name = record s { known = s.known ++ begun (Gift h i) h ∷ [] } in widen word v s t (f (Gift h i) t) (λ o. (o.0, o.1, came_own word v s (Gift h i) h refl o, o.3, o.4)) (k.after t) }
 
   own_learn_gift : (p h i : ℕ) → Keeping (arrive.learn_gift Names p h i)
-  unfolding arrive.learn_gift
-  own_learn_gift p h i = own_bind word v (own_gift h i) (λ n. own_then word v (own_ask_for p h i n) (own_give word v (Ref n)))
+  unfolding arrive.learn_gift host_of
+  own_learn_gift p h i = came_gift h i _ (own_then word v (own_ask_for p h i (Gift h i) refl) (own_give word v (Ref (Gift h i))))
 
   own_list : (vs : List (Value Name)) → Keeping (new_list vs)
   unfolding new_list
@@ -94,11 +102,11 @@ module _ (word : ℕ → ℕ) (v : ℕ) where
   gift_own p i (g0 ∷ gs) g h e = found_gift (is_gift p i g0) g0 g (arrive.gift_at p i gs) h.0 e (λ j. gift_own p i gs g h.1 j)
 
   -- the gift, which the vat hosts, and what is done with it
-  had_or_new : {A : Type 0} (p i : ℕ) (s : Vat Name) (o : Option (GiftEntry Name)) (f : Name → Act Name A) → arrive.gift_at p i s.gifts ≡ o → ((n : Name) → host_of n ≡ v → Keeping (f n)) → Own v s → GivesBy (KeepsOwn word v) s ((arrive.gift_or_new Names s.number p i o >>= f) s)
+  had_or_new : {A : Type 0} (p i : ℕ) (s : Vat Name) (o : Option (GiftEntry Name)) (f : Name → Act Name A) → arrive.gift_at p i s.gifts ≡ o → ((n : Name) → host_of n ≡ v → Keeping (f n)) → Whole word v s → GivesBy (KeepsOwn word v) s ((arrive.gift_or_new Names s.number p i o >>= f) s)
   unfolding arrive.gift_or_new ◌>>=◌ ◌>>◌ and_then come new_gift give naming name_of host_of
   had_or_new p i s (Some g) f e k h = (k g.name (gift_own p i s.gifts g h.3 e)).after s
   had_or_new p i s None f e k h = let g : GiftEntry Name = record { name = Gift s.number i; provider = p; number = i; opened = false } in let t : Vat Name = record s { known = s.known ++ begun (Gift s.number i) s.number ∷ []; gifts = s.gifts ++ g ∷ [] } in
-      widen word v s t (f (Gift s.number i) t) (λ o. (o.0, o.1, came_own word v s (Gift s.number i) s.number refl o, all_end (IsOwnGift v) s.gifts g o.3 o.0)) ((k (Gift s.number i) h.0).after t)
+      widen word v s t (f (Gift s.number i) t) (λ o. (o.0, o.1, came_own word v s (Gift s.number i) s.number refl o, all_end (IsOwnGift v) s.gifts g o.3 o.0, o.4)) ((k (Gift s.number i) h.0).after t)
 
   with_gift : {A : Type 0} (p i : ℕ) (f : Name → Act Name A) → ((n : Name) → host_of n ≡ v → Keeping (f n)) → Keeping (arrive.have_gift Names p i >>= f)
   unfolding arrive.have_gift ◌>>=◌ look and_then
@@ -115,7 +123,7 @@ module _ (word : ℕ → ℕ) (v : ℕ) where
 
   own_open : (p i : ℕ) → Keeping (open_gift p i)
   unfolding open_gift
-  own_open p i = record { after = λ s o. (o.0, o.1, o.2, opened_own p i s.gifts o.3) }
+  own_open p i = record { after = λ s o. (o.0, o.1, o.2, opened_own p i s.gifts o.3, o.4) }
 
   own_break_at : (n : Name) (p : Words) (t : Standing Name) → Keeping (arrive.break_at Names n p t)
   unfolding arrive.break_at
@@ -135,7 +143,7 @@ module _ (word : ℕ → ℕ) (v : ℕ) where
 
   own_tell_asker : (n : Name) (w : ℕ) (t : Standing Name) → host_of n ≡ v → Keeping (arrive.tell_asker Names n w t)
   unfolding arrive.tell_asker
-  own_tell_asker n w (Settled y) e = own_inform word v n w
+  own_tell_asker n w (Settled y) e = own_inform word v n w e
   own_tell_asker n w (Viewed q) e = own_to_tell word v w n e
   own_tell_asker n w (WaitsOn q) e = own_to_tell word v w n e
   own_tell_asker n w Unsettled e = own_to_tell word v w n e
@@ -157,7 +165,7 @@ module _ (word : ℕ → ℕ) (v : ℕ) where
 
   came_answer : (u : ℕ) (m : Name) (f : Name → Act Name (Unit {0})) → IsMessageName m → Keeping (f (answer_of u m)) → Keeping (come Names (IsAnswer u m) u >>= f)
   unfolding ◌>>=◌ come and_then naming name_of
-  came_answer u m f i k = record { after = λ s. let t : Vat Name = record s { known = s.known ++ begun (answer_of u m) u ∷ [] } in widen word v s t (f (answer_of u m) t) (λ o. (o.0, o.1, came_own word v s (answer_of u m) u (sym (answer_own u m i)) o, o.3)) (k.after t) }
+  came_answer u m f i k = record { after = λ s. let t : Vat Name = record s { known = s.known ++ begun (answer_of u m) u ∷ [] } in widen word v s t (f (answer_of u m) t) (λ o. (o.0, o.1, came_own word v s (answer_of u m) u (sym (answer_own u m i)) o, o.3, o.4)) (k.after t) }
 
   delivered : (from : ℕ) (m n : Name) (verb : Words) (args : List (Value Name)) (u : ℕ) → IsMessageName m → u ≡ v → Keeping (come Names (IsAnswer u m) u >>= (λ a. alter Names (ToTell from) a >> refs.send_on Names (refs.settle Names) (record { id = m; target = Ref n; verb = verb; args = args; answer = a })))
   delivered from m n verb args u i e = let own : host_of (answer_of u m) ≡ v = answer_own u m i ∙ e in came_answer u m _ i (own_then word v (own_to_tell word v from (answer_of u m) own) (own_send_on word v (refs.settle Names) (own_settle word v) _ (i, own)))
@@ -171,23 +179,30 @@ module _ (word : ℕ → ℕ) (v : ℕ) where
   own_see n g = own_then word v (own_tell word v _) (own_then word v (own_view word v g n) (own_wait word v n g))
 
   asked_there : (n : Name) (h c i : ℕ) → Keeping ((come Names (IsGift c i) c >>= (λ g. send_out c (Ask h i g) >> give g)) >>= (λ g. arrive.see Names n g))
-  asked_there n h c i = own_bind word v (own_bind word v (own_gift c i) (λ g. own_then word v (own_out word v c _) (own_give word v g))) (λ g. own_see n g)
+  unfolding host_of
+  asked_there n h c i = own_bind word v (came_gift c i _ (own_then word v (own_out word v c (Ask h i (Gift c i)) refl) (own_give word v (Gift c i)))) (λ g. own_see n g)
 
   own_there : (n : Name) (u h c i : ℕ) (b : Bool) → Keeping ((if b then arrive.have_gift Names h i else (come Names (IsGift c i) c >>= (λ g. send_out c (Ask h i g) >> give g))) >>= (λ g. arrive.see Names n g))
   own_there n u h c i true = with_gift h i _ (λ g e. own_see n g)
   own_there n u h c i false = asked_there n h c i
 
-  own_view_there : (n : Name) (c : ℕ) → Keeping (arrive.view_there Names n c)
-  unfolding arrive.view_there arrive.gift_there
-  own_view_there n c = own_bind word v (own_look word v _) (λ u. own_bind word v (own_look word v _) (λ h. own_bind word v (own_draw word v) (λ i. own_then word v (own_out word v h _) (own_there n u h c i (c == u)))))
+  -- where an eventual name is hosted as it says
+  viewed_there : (n : Name) (c u h : ℕ) → (IsEventual n → host_of n ≡ h) → Keeping (draw Names >>= (λ i. send_out h (Shorten n c i) >> (arrive.gift_there Names u h c i >>= (λ g. arrive.see Names n g))))
+  unfolding arrive.gift_there
+  viewed_there n c u h e = own_bind word v (own_draw word v) (λ i. own_then word v (own_out word v h (Shorten n c i) e) (own_there n u h c i (c == u)))
 
-  own_shorten : (i : ℕ) (p : Place Name) → Keeping (arrive.shorten_to Names i p)
+  -- a name that is known, or an object
+  own_view_there : (n : Name) (c : ℕ) (s : Vat Name) → IsKnownIn (names_in s.known) n → GivesBy (KeepsOwn word v) s (arrive.view_there Names n c s)
+  unfolding arrive.view_there ◌>>=◌ look and_then host_at
+  own_view_there n c s a = with_own word v s _ (λ o. (viewed_there n c s.number (host_at Names s.number s.known n) (λ i. sym (known_host word v s.number s.known n o.2 (eventual_known word v (names_in s.known) n i a)))).after s)
+
+  own_shorten : (i : ℕ) (p : Place Name) → PlaceFits word v p → Keeping (arrive.shorten_to Names i p)
   unfolding arrive.shorten_to
-  own_shorten i (Away h n true) = own_out word v h _
-  own_shorten i (Away h n false) = own_give word v tt
-  own_shorten i Near = own_give word v tt
-  own_shorten i (Mine n) = own_give word v tt
-  own_shorten i (Gone t) = own_give word v tt
+  own_shorten i (Away h n true) e = own_out word v h (Open i n) e
+  own_shorten i (Away h n false) e = own_give word v tt
+  own_shorten i Near e = own_give word v tt
+  own_shorten i (Mine n) e = own_give word v tt
+  own_shorten i (Gone t) e = own_give word v tt
 
   -- a note whose message is named as one
   abbrev pub NamesMail : Note Name → Type 0
@@ -198,14 +213,60 @@ module _ (word : ℕ → ℕ) (v : ℕ) where
   NamesMail (Elsewhere n c) = Unit {0}
   NamesMail (Shorten n c i) = Unit {0}
 
-  pub own_arrive : (from : ℕ) (ks : List Name) (n : Note Name) → NamesMail n → Keeping (arrive.arrive Names from (world.read_note ks n))
-  unfolding arrive.arrive world.read_note arrive.arrive_deliver arrive.arrive_open arrive.arrive_ask arrive.arrive_settled arrive.arrive_elsewhere arrive.arrive_shorten
-  own_arrive from ks (Deliver m n verb ys) i = mailed m (host_of m) _ (own_bind word v (own_learn_all from ys ks) (λ args. own_bind word v (own_name (world.read_all ys ks).known n) (λ x. numbered _ (λ u e. delivered from m x verb args u i e))))
-  own_arrive from ks (Open i n) h = own_bind word v (own_name ks n) (λ y. with_gift from i _ (λ g e. own_then word v (own_open from i) (own_resolve word v g (Ref y))))
-  own_arrive from ks (Ask p i n) h = with_gift p i _ (λ g e. own_then word v (own_orphan p i g) (own_bind word v (own_look word v _) (λ t. own_tell_asker g from t e)))
-  own_arrive from ks (SettledTo n y) h = own_bind word v (own_name ks n) (λ x. own_bind word v (own_learn from y (world.known_after ks n)) (λ z. own_settle word v x z))
-  own_arrive from ks (Elsewhere n c) h = own_bind word v (own_name ks n) (λ x. own_bind word v (own_look word v _) (λ gone. own_if word v gone (own_settle word v x _) (own_view_there x c)))
-  own_arrive from ks (Shorten n c i) h = own_bind word v (own_name ks n) (λ x. own_bind word v (own_look word v _) (λ p. own_shorten i p))
+  -- the place of what a name was followed to
+  shortened : (n : Name) (i : ℕ) → Keeping (look (λ (s : Vat Name). refs.place Names s (refs.follow Names s (Ref n))) >>= (λ p. arrive.shorten_to Names i p))
+  unfolding ◌>>=◌ look and_then
+  shortened n i = record { after = λ s. with_own word v s _ (λ o. (own_shorten i (refs.place Names s (refs.follow Names s (Ref n))) (place_fits word v s (refs.follow Names s (Ref n)) o)).after s) }
+
+  went_if : (n : Name) (c : ℕ) (s : Vat Name) (b : Bool) → IsKnownIn (names_in s.known) n → GivesBy (KeepsOwn word v) s ((if b then refs.settle Names n (Broken (codes "partition")) else arrive.view_there Names n c) s)
+  went_if n c s true a = (own_settle word v n (Broken (codes "partition"))).after s
+  went_if n c s false a = own_view_there n c s a
+
+  abbrev Went : Name → ℕ → Act Name (Unit {0})
+  Went n c = look (λ (s : Vat Name). is_in c s.noticed) >>= (λ gone. if gone then refs.settle Names n (Broken (codes "partition")) else arrive.view_there Names n c)
+
+  went : (n : Name) (c : ℕ) (s : Vat Name) → IsKnownIn (names_in s.known) n → GivesBy (KeepsOwn word v) s (Went n c s)
+  unfolding ◌>>=◌ look and_then
+  went n c s a = went_if n c s (is_in c s.noticed) a
+
+  -- once the name is learnt it is known
+  went_read : (n : Name) (c : ℕ) (s : Vat Name) (b : Bool) → world.is_old (names_in s.known) n ≡ b → GivesBy (KeepsOwn word v) s ((arrive.learn_name Names (elim b [ true ↦ Old n | false ↦ New n (host_of n) ]) >>= (λ x. Went x c)) s)
+  unfolding arrive.learn_name come give naming name_of ◌>>=◌ and_then begun
+  went_read n c s true e = went n c s (old_known (names_in s.known) n e)
+  went_read n c s false e = let t : Vat Name = record s { known = s.known ++ begun n (host_of n) ∷ [] } in
+      let among : IsAmong n (names_in t.known) = rw (sym (names_end s.known (begun n (host_of n)))) at (among_last (names_in s.known) n) in
+      widen word v s t (Went n c t) (λ o. (o.0, o.1, came_own word v s n (host_of n) refl o, o.3, o.4)) (went n c t (known_among (names_in t.known) n among))
+
+  own_elsewhere : (n : Name) (c : ℕ) (s : Vat Name) → GivesBy (KeepsOwn word v) s (arrive.arrive_elsewhere Names (world.read_name (names_in s.known) n) c s)
+  unfolding arrive.arrive_elsewhere world.read_name
+  own_elsewhere n c s = went_read n c s (world.is_old (names_in s.known) n) refl
+
+  -- a note that tells of no move of an object
+  abbrev IsNoMove : Note Name → Type 0
+  IsNoMove (Elsewhere n c) = ⊥
+  IsNoMove (Deliver m n verb ys) = Unit {0}
+  IsNoMove (Open i n) = Unit {0}
+  IsNoMove (Ask p i n) = Unit {0}
+  IsNoMove (SettledTo n y) = Unit {0}
+  IsNoMove (Shorten n c i) = Unit {0}
+
+  arrives : (from : ℕ) (ks : List Name) (n : Note Name) → NamesMail n → IsNoMove n → Keeping (arrive.arrive Names from (world.read_note ks n))
+  unfolding arrive.arrive world.read_note arrive.arrive_deliver arrive.arrive_open arrive.arrive_ask arrive.arrive_settled arrive.arrive_shorten
+  arrives from ks (Deliver m n verb ys) i k = mailed m (host_of m) _ (own_bind word v (own_learn_all from ys ks) (λ args. own_bind word v (own_name (world.read_all ys ks).known n) (λ x. numbered _ (λ u e. delivered from m x verb args u i e))))
+  arrives from ks (Open i n) h k = own_bind word v (own_name ks n) (λ y. with_gift from i _ (λ g e. own_then word v (own_open from i) (own_resolve word v g (Ref y))))
+  arrives from ks (Ask p i n) h k = with_gift p i _ (λ g e. own_then word v (own_orphan p i g) (own_bind word v (own_look word v _) (λ t. own_tell_asker g from t e)))
+  arrives from ks (SettledTo n y) h k = own_bind word v (own_name ks n) (λ x. own_bind word v (own_learn from y (world.known_after ks n)) (λ z. own_settle word v x z))
+  arrives from ks (Elsewhere n c) h k = absurd k
+  arrives from ks (Shorten n c i) h k = own_bind word v (own_name ks n) (λ x. shortened x i)
+
+  pub own_arrive : (from : ℕ) (s : Vat Name) (n : Note Name) → NamesMail n → GivesBy (KeepsOwn word v) s (arrive.arrive Names from (world.read_note (names_in s.known) n) s)
+  unfolding arrive.arrive world.read_note
+  own_arrive from s (Elsewhere n c) h = own_elsewhere n c s
+  own_arrive from s (Deliver m n verb ys) h = (arrives from (names_in s.known) (Deliver m n verb ys) h tt).after s
+  own_arrive from s (Open i n) h = (arrives from (names_in s.known) (Open i n) h tt).after s
+  own_arrive from s (Ask p i n) h = (arrives from (names_in s.known) (Ask p i n) h tt).after s
+  own_arrive from s (SettledTo n y) h = (arrives from (names_in s.known) (SettledTo n y) h tt).after s
+  own_arrive from s (Shorten n c i) h = (arrives from (names_in s.known) (Shorten n c i) h tt).after s
 
   -- ---- the notice
 

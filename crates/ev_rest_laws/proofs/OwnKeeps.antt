@@ -1,24 +1,33 @@
--- All that a vat does with references leaves what it has its own.
-use Rattle.std.proofs.Common.{◌≡◌, ℕ, zero, suc, Bool, true, false, List, [], ◌∷◌, ◌++◌, Option, Some, None, refl, sym, ap, ◌∙◌, if◌then◌else◌, ◌==◌}
+-- All that a vat does with references leaves what it has its own, and what it puts about a name of the two vats.
+use Rattle.std.proofs.Common.{◌≡◌, ℕ, zero, suc, Bool, true, false, List, [], ◌∷◌, ◌++◌, Option, Some, None, refl, sym, ap, ◌∙◌, if◌then◌else◌, ◌==◌, ◌⊎◌, inl, inr}
 use Rattle.std.specs.Prelude.{nat_le}
-use Rattle.std.proofs.lemmas.Bool.{eqb-true}
-use Rattle.ev_machine.specs.Values.{Value, Null, Flag, Number, Letter, Text, Prim, Broken, Items, Ref, Name, Root, Object, Sent, Answer, Promise, Gift, host_of, Naming, naming, name_of, answer_of, Spot, Own as OwnThing, Foreign, NoObject, IsAnswer}
-use Rattle.ev_machine.specs.State.{Message, Happened, Standing, Unsettled, WaitsOn, Viewed, Settled, Known, Change, Hold, Wait, WaitOn, See, React, ToTell, Settle, Passed, Passeds, Plain, AGift, Many, NoMore, More, Open, Note, Vat, Stop, Done, Gives, Throws, Ejects, Stops, Act, ◌>>=◌, ◌>>◌, and_then, each, give, stop, look, tell, spend, spent, enqueue, send_out, draws, draw, with_change, with_vat, changed, changed_to, alter, come, begun}
+use Rattle.std.proofs.lemmas.Bool.{eqb-true, eq-eqb}
+use Rattle.ev_machine.specs.Values.{Value, Null, Flag, Number, Letter, Text, Prim, Broken, Items, Ref, Name, Root, Object, Sent, Answer, Promise, Gift, host_of, same_name, Naming, naming, name_of, answer_of, spot_of, Spot, Own as OwnThing, Foreign, NoObject, IsAnswer}
+use Rattle.ev_machine.specs.State.{Message, Happened, Standing, Unsettled, WaitsOn, Viewed, Settled, Known, Change, Hold, Wait, WaitOn, See, React, ToTell, Settle, Passed, Passeds, Plain, AGift, Many, NoMore, More, Open, Note, Deliver, SettledTo, Elsewhere, Put, Vat, Stop, Done, Gives, Throws, Ejects, Stops, Act, ◌>>=◌, ◌>>◌, and_then, each, give, stop, look, tell, spend, spent, enqueue, send_out, draws, draw, with_change, with_vat, changed, changed_to, alter, come, begun}
 use Rattle.ev_machine.specs.Refs as refs
 use Rattle.ev_machine.specs.Refs.{Place, Near, Mine, Away, Gone, entry_of, host_at, host_in, place, spotted, hosted}
-use Rattle.ev_name_laws.specs.Names.{AllOf, IsMessageName}
+use Rattle.ev_name_laws.specs.Names.{AllOf, IsAmong, IsMessageName, IsEventual, IsKnownIn, names_in}
 use Rattle.ev_name_laws.proofs.Facts.{all_end}
-use Rattle.ev_rest_laws.specs.Own.{IsOwnMail, IsOwnKnown, Own}
+use Rattle.ev_rest_laws.specs.Own.{IsOwnMail, IsOwnKnown, IsOwnGift}
+use Rattle.ev_rest_laws.specs.Notes.{IsBetween}
 use Rattle.ev_rest_laws.proofs.Entries.{unless_either}
 use Rattle.ev_rest_laws.proofs.Gentle.{GivesBy, Gentle}
-use Rattle.ev_rest_laws.proofs.ViewsMade.{same_is}
+use Rattle.ev_name_laws.proofs.SameNames.{same_is, same_self}
 
 module _ (word : ℕ → ℕ) (v : ℕ) where
   abbrev Names : Naming Name Name
   Names = naming word v
 
+  -- what vat v puts for its receiver
+  abbrev pub IsOwnPut : Put Name → Type 0
+  IsOwnPut p = IsBetween v p.to p.note
+
+  -- what the vat has is its own, and each note that it puts is about a name of the two vats
+  abbrev pub Whole : Vat Name → Type 0
+  Whole s = (s.number ≡ v) × AllOf (IsOwnMail v) s.queue × AllOf (IsOwnKnown v) s.known × AllOf (IsOwnGift v) s.gifts × AllOf IsOwnPut s.outbox
+
   abbrev pub KeepsOwn : Vat Name → Vat Name → Type 0
-  KeepsOwn s t = Own v s → Own v t
+  KeepsOwn s t = Whole s → Whole t
 
   -- ---- one thing after another
 
@@ -72,9 +81,9 @@ module _ (word : ℕ → ℕ) (v : ℕ) where
   unfolding spend
   own_spend n = record { after = λ s. spend_gives s n (nat_le n s.fuel) }
 
-  pub own_out : (to : ℕ) (n : Note Name) → Gentle KeepsOwn (send_out to n)
+  pub own_out : (to : ℕ) (n : Note Name) → IsBetween v to n → Gentle KeepsOwn (send_out to n)
   unfolding send_out
-  own_out to n = record { after = λ s o. o }
+  own_out to n h = record { after = λ s o. (o.0, o.1, o.2, o.3, all_end IsOwnPut s.outbox (record { to = to; note = n }) o.4 h) }
 
   draws_give : (s : Vat Name) (w : ℕ) (o : Option ℕ) → GivesBy KeepsOwn s (draws w o s)
   unfolding draws
@@ -97,7 +106,14 @@ module _ (word : ℕ → ℕ) (v : ℕ) where
 
   pub own_enqueue : (m : Message Name) → IsOwnMail v m → Gentle KeepsOwn (enqueue m)
   unfolding enqueue
-  own_enqueue m h = record { after = λ s o. (o.0, all_end (IsOwnMail v) s.queue m o.1 h, o.2, o.3) }
+  own_enqueue m h = record { after = λ s o. (o.0, all_end (IsOwnMail v) s.queue m o.1 h, o.2, o.3, o.4) }
+
+  -- where what is kept of the state is asked for
+  pub with_own : {A : Type 0} (s : Vat Name) (d : Done Name A) → (Whole s → GivesBy KeepsOwn s d) → GivesBy KeepsOwn s d
+  with_own s (Gives a t) f = λ o. f o o
+  with_own s (Throws p t) f = tt
+  with_own s (Ejects n y t) f = tt
+  with_own s (Stops c t) f = tt
 
   -- ---- changes of what is known
 
@@ -124,7 +140,7 @@ module _ (word : ℕ → ℕ) (v : ℕ) where
 
   altered : (c : Change Name) (n : Name) → ((k : Known Name) → IsOwnKnown v k → IsOwnKnown v (changed_to c k)) → Gentle KeepsOwn (alter Names c n)
   unfolding alter
-  altered c n f = record { after = λ s o. (o.0, o.1, all_changed c n s.known o.2 (λ k e. f k), o.3) }
+  altered c n f = record { after = λ s o. (o.0, o.1, all_changed c n s.known o.2 (λ k e. f k), o.3, o.4) }
 
   pub own_hold : (m : Message Name) (n : Name) → IsOwnMail v m → Gentle KeepsOwn (alter Names (Hold m) n)
   unfolding changed_to
@@ -170,15 +186,115 @@ module _ (word : ℕ → ℕ) (v : ℕ) where
   -- a name that the vat hosts, of which another is to be told
   pub own_to_tell : (w : ℕ) (n : Name) → host_of n ≡ v → Gentle KeepsOwn (alter Names (ToTell w) n)
   unfolding alter
-  own_to_tell w n e = record { after = λ s o. (o.0, o.1, all_changed (ToTell w) n s.known o.2 (λ k i. told_own w k (ap host_of (entry_name s.known n k i) ∙ e)), o.3) }
+  own_to_tell w n e = record { after = λ s o. (o.0, o.1, all_changed (ToTell w) n s.known o.2 (λ k i. told_own w k (ap host_of (entry_name s.known n k i) ∙ e)), o.3, o.4) }
 
   -- or that it has as its own
   mine_told : (w : ℕ) (n : Name) (s : Vat Name) → host_at Names s.number s.known n ≡ s.number → GivesBy KeepsOwn s (alter Names (ToTell w) n s)
   unfolding alter host_at host_in
-  mine_told w n s e = λ o. (o.0, o.1, all_changed (ToTell w) n s.known o.2 (λ k i h. told_own w k (sym h.0 ∙ hosted_here k i ∙ o.0) h), o.3)
+  mine_told w n s e = λ o. (o.0, o.1, all_changed (ToTell w) n s.known o.2 (λ k i h. told_own w k (sym h.0 ∙ hosted_here k i ∙ o.0) h), o.3, o.4)
     where
       hosted_here : (k : Known Name) → entry_of Names s.known n ≡ Some k → k.host ≡ s.number
       hosted_here k i = rw i at e
+
+  entry_own : (b : Bool) (k0 k : Known Name) (o : Option (Known Name)) → IsOwnKnown v k0 → ◌≡◌ {A = Option (Known Name)} (elim b [ true ↦ Some k0 | false ↦ o ]) (Some k) → (o ≡ Some k → IsOwnKnown v k) → IsOwnKnown v k
+  entry_own true k0 k o h e f = let same : k0 ≡ k = cc in rw same at h
+  entry_own false k0 k o h e f = f e
+
+  found_own : (ks : List (Known Name)) (n : Name) (k : Known Name) → AllOf (IsOwnKnown v) ks → entry_of Names ks n ≡ Some k → IsOwnKnown v k
+  unfolding entry_of
+  found_own [] n k h e = cc
+  found_own (k0 ∷ ks) n k h e = entry_own (Names.same k0.name n) k0 k (entry_of Names ks n) h.0 e (λ i. found_own ks n k h.1 i)
+
+  -- ---- what is away is of that host
+
+  spot_host : (b : Bool) (w i h : ℕ) → ◌≡◌ {A = Spot} (elim b [ true ↦ OwnThing i | false ↦ Foreign w ]) (Foreign h) → w ≡ h
+  spot_host true w i h e = cc
+  spot_host false w i h e = cc
+
+  foreign_host : (n : Name) (h : ℕ) → Names.spot n ≡ Foreign h → host_of n ≡ h
+  unfolding naming spot_of host_of
+  foreign_host (Object w i) h e = spot_host (v == w) w i h e
+  foreign_host (Root w) h e = cc
+  foreign_host (Promise w i) h e = cc
+  foreign_host (Answer w m) h e = cc
+  foreign_host (Gift w i) h e = cc
+  foreign_host (Sent m) h e = cc
+
+  no_away : (n m : Name) (h : ℕ) (o : Bool) → Mine n ≡ Away h m o → ⊥
+  no_away n m h o e = cc
+
+  -- what is known, where its host is not this vat
+  entry_host : (u : ℕ) (n m : Name) (h : ℕ) (o : Bool) (j : Option (Known Name)) → ((k : Known Name) → j ≡ Some k → host_of n ≡ k.host) → hosted Names u n (host_in u j) ≡ Away h m o → host_of m ≡ h
+  unfolding hosted host_in
+  entry_host u n m h o None f e = absurd (no_away n m h o (sym (mine_self (u == u) (eq-eqb u u refl)) ∙ e))
+    where
+      mine_self : (b : Bool) → b ≡ true → ◌≡◌ {A = Place Name} (elim b [ true ↦ Mine n | false ↦ Away u n false ]) (Mine n)
+      mine_self b i = rw i refl
+  entry_host u n m h o (Some k) f e = either (u == k.host) e
+    where
+      either : (b : Bool) → ◌≡◌ {A = Place Name} (elim b [ true ↦ Mine n | false ↦ Away k.host n false ]) (Away h m o) → host_of m ≡ h
+      either true i = cc
+      either false i = let same : n ≡ m = cc in let at : k.host ≡ h = cc in ap host_of (sym same) ∙ f k refl ∙ at
+
+  away_spot : (s : Vat Name) (n m : Name) (h : ℕ) (o : Bool) (t : Spot) → Names.spot n ≡ t → Whole s → spotted Names s n t ≡ Away h m o → host_of m ≡ h
+  unfolding spotted host_at
+  away_spot s n m h o (OwnThing i) g w e = cc
+  away_spot s n m h o (Foreign u) g w e = let same : n ≡ m = cc in let at : u ≡ h = cc in ap host_of (sym same) ∙ foreign_host n u g ∙ at
+  away_spot s n m h o NoObject g w e = entry_host s.number n m h o (entry_of Names s.known n) (λ k i. ap host_of (sym (entry_name s.known n k i)) ∙ sym (found_own s.known n k w.2 i).0) e
+
+  pub away_hosted : (s : Vat Name) (y : Value Name) (m : Name) (h : ℕ) (o : Bool) → Whole s → place Names s y ≡ Away h m o → host_of m ≡ h
+  unfolding place
+  away_hosted s (Ref n) m h o w e = away_spot s n m h o (Names.spot n) refl w e
+  away_hosted s (Broken p) m h o w e = cc
+  away_hosted s Null m h o w e = cc
+  away_hosted s (Flag b) m h o w e = cc
+  away_hosted s (Number z) m h o w e = cc
+  away_hosted s (Letter c) m h o w e = cc
+  away_hosted s (Text t) m h o w e = cc
+  away_hosted s (Prim i) m h o w e = cc
+  away_hosted s (Items i) m h o w e = cc
+
+  -- a place whose host, where it is away, is that of its name
+  abbrev pub PlaceFits : Place Name → Type 0
+  PlaceFits (Away h n o) = host_of n ≡ h
+  PlaceFits Near = Unit {0}
+  PlaceFits (Mine n) = Unit {0}
+  PlaceFits (Gone t) = Unit {0}
+
+  fits_at : (s : Vat Name) (y : Value Name) (p : Place Name) → Whole s → place Names s y ≡ p → PlaceFits p
+  fits_at s y (Away h n o) w e = away_hosted s y n h o w e
+  fits_at s y Near w e = tt
+  fits_at s y (Mine n) w e = tt
+  fits_at s y (Gone t) w e = tt
+
+  pub place_fits : (s : Vat Name) (y : Value Name) → Whole s → PlaceFits (place Names s y)
+  place_fits s y w = fits_at s y (place Names s y) w refl
+
+  no_same : (b : Bool) → b ≡ true → b ≡ false → ⊥
+  no_same b e f = cc
+
+  -- a name that is known has its own host
+  same_head : (b : Bool) (u : ℕ) (k0 : Known Name) (n : Name) (o : Option (Known Name)) → (b ≡ true → host_of n ≡ k0.host) → (b ≡ false → host_in u o ≡ host_of n) → host_in u (elim b [ true ↦ Some k0 | false ↦ o ]) ≡ host_of n
+  unfolding host_in
+  same_head true u k0 n o f g = sym (f refl)
+  same_head false u k0 n o f g = g refl
+
+  pub known_host : (u : ℕ) (ks : List (Known Name)) (n : Name) → AllOf (IsOwnKnown v) ks → IsAmong n (names_in ks) → host_at Names u ks n ≡ host_of n
+  unfolding host_at entry_of naming
+  known_host u [] n h a = absurd a
+  known_host u (k0 ∷ ks) n h a = same_head (same_name k0.name n) u k0 n (entry_of Names ks n) (λ e. ap host_of (sym (same_is k0.name n e)) ∙ sym h.0.0) (λ e. rest a e (λ i. known_host u ks n h.1 i))
+    where
+      rest : (n ≡ k0.name) ⊎ IsAmong n (names_in ks) → same_name k0.name n ≡ false → (IsAmong n (names_in ks) → host_in u (entry_of Names ks n) ≡ host_of n) → host_in u (entry_of Names ks n) ≡ host_of n
+      rest (inl i) e f = absurd (no_same (same_name k0.name n) (ap (λ x. same_name x n) (sym i) ∙ same_self n) e)
+      rest (inr i) e f = f i
+
+  pub eventual_known : (ns : List Name) (n : Name) → IsEventual n → IsKnownIn ns n → IsAmong n ns
+  eventual_known ns (Object w i) e a = absurd e
+  eventual_known ns (Sent m) e a = absurd e
+  eventual_known ns (Root w) e a = a
+  eventual_known ns (Promise w i) e a = a
+  eventual_known ns (Answer w m) e a = a
+  eventual_known ns (Gift w i) e a = a
 
   -- ---- passing
 
@@ -205,8 +321,8 @@ module _ (word : ℕ → ℕ) (v : ℕ) where
   place_mine s (Prim i) m e = cc
   place_mine s (Items i) m e = cc
 
-  drawn_gift : (w h : ℕ) (y : Value Name) (n : Name) → Gentle KeepsOwn (if h == w then give (Plain y) else (draw Names >>= (λ i. send_out h (Open i n) >> give (AGift h i))))
-  drawn_gift w h y n = own_if (h == w) (own_give (Plain y)) (own_bind own_draw (λ i. own_then (own_out h (Open i n)) (own_give (AGift h i))))
+  drawn_gift : (w h : ℕ) (y : Value Name) (n : Name) → host_of n ≡ h → Gentle KeepsOwn (if h == w then give (Plain y) else (draw Names >>= (λ i. send_out h (Open i n) >> give (AGift h i))))
+  drawn_gift w h y n e = own_if (h == w) (own_give (Plain y)) (own_bind own_draw (λ i. own_then (own_out h (Open i n) e) (own_give (AGift h i))))
 
   told_plain : (w : ℕ) (y : Value Name) (n : Name) (s : Vat Name) → host_at Names s.number s.known n ≡ s.number → GivesBy KeepsOwn s ((alter Names (ToTell w) n >> give (Plain y)) s)
   unfolding ◌>>◌
@@ -214,7 +330,7 @@ module _ (word : ℕ → ℕ) (v : ℕ) where
 
   address_placed : (w : ℕ) (y : Value Name) (p : Place Name) (s : Vat Name) → place Names s y ≡ p → GivesBy KeepsOwn s (refs.address_plain Names w y p s)
   unfolding refs.address_plain
-  address_placed w y (Away h n o) s e = (drawn_gift w h y n).after s
+  address_placed w y (Away h n o) s e = with_own s _ (λ k. (drawn_gift w h y n (away_hosted s y n h o k e)).after s)
   address_placed w y (Mine n) s e = told_plain w y n s (place_mine s y n e)
   address_placed w y Near s e = (own_give (Plain y)).after s
   address_placed w y (Gone p) s e = (own_give (Plain y)).after s
@@ -244,9 +360,9 @@ module _ (word : ℕ → ℕ) (v : ℕ) where
   own_pass_all w [] = own_give NoMore
   own_pass_all w (x ∷ xs) = own_bind (own_pass w x) (λ y. own_bind (own_pass_all w xs) (λ ys. own_give (More y ys)))
 
-  pub own_deliver : (m : Message Name) (h : ℕ) (n : Name) → Gentle KeepsOwn (refs.deliver Names m h n)
+  pub own_deliver : (m : Message Name) (h : ℕ) (n : Name) → host_of n ≡ h → Gentle KeepsOwn (refs.deliver Names m h n)
   unfolding refs.deliver
-  own_deliver m h n = own_bind (own_pass_all h m.args) (λ ys. own_then (own_tell _) (own_out h _))
+  own_deliver m h n e = own_bind (own_pass_all h m.args) (λ ys. own_then (own_tell _) (own_out h (Deliver m.id n m.verb ys) e))
 
   -- ---- what comes to be known
 
@@ -254,7 +370,7 @@ module _ (word : ℕ → ℕ) (v : ℕ) where
   unfolding begun
   begun_own n h e = (e, tt, tt, tt)
 
-  pub came_own : (s : Vat Name) (n : Name) (h : ℕ) → h ≡ host_of n → Own v s → AllOf (IsOwnKnown v) (s.known ++ begun n h ∷ [])
+  pub came_own : (s : Vat Name) (n : Name) (h : ℕ) → h ≡ host_of n → Whole s → AllOf (IsOwnKnown v) (s.known ++ begun n h ∷ [])
   came_own s n h e o = all_end (IsOwnKnown v) s.known (begun n h) o.2 (begun_own n h e)
 
   answer_hosted : (h : ℕ) (m : Name) → IsMessageName m → h ≡ host_of (answer_of h m)
@@ -268,7 +384,7 @@ module _ (word : ℕ → ℕ) (v : ℕ) where
 
   pub own_answer : (h : ℕ) (m : Name) → IsMessageName m → Gentle KeepsOwn (come Names (IsAnswer h m) h)
   unfolding come naming name_of
-  own_answer h m i = record { after = λ s o. (o.0, o.1, came_own s (answer_of h m) h (answer_hosted h m i) o, o.3) }
+  own_answer h m i = record { after = λ s o. (o.0, o.1, came_own s (answer_of h m) h (answer_hosted h m i) o, o.3, o.4) }
 
   -- ---- sending on and settling
 
@@ -279,65 +395,52 @@ module _ (word : ℕ → ℕ) (v : ℕ) where
   unfolding refs.wait_on
   own_wait_for p q = own_then (own_tell _) (own_then (own_wait_on q p) (own_wait p q))
 
-  own_pass_on : (m : Message Name) (h : ℕ) (n : Name) → IsOwnMail v m → Gentle KeepsOwn (refs.pass_on Names m h n)
+  own_pass_on : (m : Message Name) (h : ℕ) (n : Name) → IsOwnMail v m → host_of n ≡ h → Gentle KeepsOwn (refs.pass_on Names m h n)
   unfolding refs.pass_on
-  own_pass_on m h n i = own_bind (own_answer h m.id i.0) (λ a. own_then (own_deliver m h n) (own_wait_for m.answer a))
+  own_pass_on m h n i e = own_bind (own_answer h m.id i.0) (λ a. own_then (own_deliver m h n e) (own_wait_for m.answer a))
 
-  pub own_send_to : (settle : Name → Value Name → Act Name (Unit {0})) → OwnSettler settle → (m : Message Name) (y : Value Name) (p : Place Name) → IsOwnMail v m → Gentle KeepsOwn (refs.send_to Names settle m y p)
+  pub own_send_to : (settle : Name → Value Name → Act Name (Unit {0})) → OwnSettler settle → (m : Message Name) (y : Value Name) (p : Place Name) → IsOwnMail v m → PlaceFits p → Gentle KeepsOwn (refs.send_to Names settle m y p)
   unfolding refs.send_to
-  own_send_to settle good m y Near i = own_enqueue _ i
-  own_send_to settle good m y (Mine n) i = own_hold _ n i
-  own_send_to settle good m y (Away h n o) i = own_pass_on m h n i
-  own_send_to settle good m y (Gone p) i = own_then (own_tell _) (good m.answer (Broken p))
+  own_send_to settle good m y Near i f = own_enqueue _ i
+  own_send_to settle good m y (Mine n) i f = own_hold _ n i
+  own_send_to settle good m y (Away h n o) i f = own_pass_on m h n i f
+  own_send_to settle good m y (Gone p) i f = own_then (own_tell _) (good m.answer (Broken p))
 
   pub own_send_on : (settle : Name → Value Name → Act Name (Unit {0})) → OwnSettler settle → (m : Message Name) → IsOwnMail v m → Gentle KeepsOwn (refs.send_on Names settle m)
-  unfolding refs.send_on
-  own_send_on settle good m i = own_bind (own_look _) (λ y. own_bind (own_look _) (λ p. own_send_to settle good m y p i))
+  unfolding refs.send_on ◌>>=◌ look and_then
+  own_send_on settle good m i = record { after = λ s. with_own s _ (λ o. let y : Value Name = refs.follow Names s m.target in (own_send_to settle good m y (place Names s y) i (place_fits s y o)).after s) }
 
-  own_inform_of : (p : Name) (w : ℕ) (y : Value Name) (q : Place Name) → Gentle KeepsOwn (refs.inform_of Names p w y q)
+  own_told : (p : Name) (w : ℕ) (y : Value Name) → host_of p ≡ v → Gentle KeepsOwn (refs.pass Names w y >>= (λ z. send_out w (SettledTo p z)))
+  own_told p w y e = own_bind (own_pass w y) (λ z. own_out w (SettledTo p z) e)
+
+  own_inform_of : (p : Name) (w : ℕ) (y : Value Name) (q : Place Name) → host_of p ≡ v → Gentle KeepsOwn (refs.inform_of Names p w y q)
   unfolding refs.inform_of
-  own_inform_of p w y (Away h n true) = own_out w _
-  own_inform_of p w y (Away h n false) = own_bind (own_pass w y) (λ z. own_out w _)
-  own_inform_of p w y Near = own_bind (own_pass w y) (λ z. own_out w _)
-  own_inform_of p w y (Mine n) = own_bind (own_pass w y) (λ z. own_out w _)
-  own_inform_of p w y (Gone t) = own_bind (own_pass w y) (λ z. own_out w _)
+  own_inform_of p w y (Away h n true) e = own_out w (Elsewhere p h) e
+  own_inform_of p w y (Away h n false) e = own_told p w y e
+  own_inform_of p w y Near e = own_told p w y e
+  own_inform_of p w y (Mine n) e = own_told p w y e
+  own_inform_of p w y (Gone t) e = own_told p w y e
 
-  pub own_inform : (p : Name) (w : ℕ) → Gentle KeepsOwn (refs.inform Names p w)
+  pub own_inform : (p : Name) (w : ℕ) → host_of p ≡ v → Gentle KeepsOwn (refs.inform Names p w)
   unfolding refs.inform
-  own_inform p w = own_bind (own_look _) (λ y. own_bind (own_look _) (λ q. own_bind (own_look _) (λ gone. own_if gone (own_give tt) (own_inform_of p w y q))))
+  own_inform p w e = own_bind (own_look _) (λ y. own_bind (own_look _) (λ q. own_bind (own_look _) (λ gone. own_if gone (own_give tt) (own_inform_of p w y q e))))
 
-  own_settle_known : (settle : Name → Value Name → Act Name (Unit {0})) → OwnSettler settle → (p : Name) (y : Value Name) (k : Known Name) → IsOwnKnown v k → Gentle KeepsOwn (refs.settle_known Names settle p y k)
+  own_settle_known : (settle : Name → Value Name → Act Name (Unit {0})) → OwnSettler settle → (p : Name) (y : Value Name) (k : Known Name) → k.name ≡ p → IsOwnKnown v k → Gentle KeepsOwn (refs.settle_known Names settle p y k)
   unfolding refs.settle_known
-  own_settle_known settle good p y k h = own_then (own_tell _) (own_then (own_settled y p) (own_then (own_each (IsOwnMail v) k.held h.1 (λ m i. own_send_on settle good m i))
-      (own_then (own_all k.waiting (λ q. good q y)) (own_then (own_each (IsOwnMail v) k.reactions h.2 (λ m i. own_enqueue m i)) (own_all k.told (λ w. own_inform p w))))))
+  own_settle_known settle good p y k e h = own_then (own_tell _) (own_then (own_settled y p) (own_then (own_each (IsOwnMail v) k.held h.1 (λ m i. own_send_on settle good m i))
+      (own_then (own_all k.waiting (λ q. good q y)) (own_then (own_each (IsOwnMail v) k.reactions h.2 (λ m i. own_enqueue m i)) (own_each (λ (w : ℕ). host_of k.name ≡ v) k.told h.3 (λ w i. own_inform p w (ap host_of (sym e) ∙ i)))))))
 
-  own_standing : (settle : Name → Value Name → Act Name (Unit {0})) → OwnSettler settle → (p : Name) (y : Value Name) (k : Known Name) (t : Standing Name) → IsOwnKnown v k → Gentle KeepsOwn (refs.settle_standing Names settle p y k t)
+  own_standing : (settle : Name → Value Name → Act Name (Unit {0})) → OwnSettler settle → (p : Name) (y : Value Name) (k : Known Name) (t : Standing Name) → k.name ≡ p → IsOwnKnown v k → Gentle KeepsOwn (refs.settle_standing Names settle p y k t)
   unfolding refs.settle_standing
-  own_standing settle good p y k (Settled z) h = own_give tt
-  own_standing settle good p y k (Viewed q) h = own_settle_known settle good p y k h
-  own_standing settle good p y k (WaitsOn q) h = own_settle_known settle good p y k h
-  own_standing settle good p y k Unsettled h = own_settle_known settle good p y k h
-
-  entry_own : (b : Bool) (k0 k : Known Name) (o : Option (Known Name)) → IsOwnKnown v k0 → ◌≡◌ {A = Option (Known Name)} (elim b [ true ↦ Some k0 | false ↦ o ]) (Some k) → (o ≡ Some k → IsOwnKnown v k) → IsOwnKnown v k
-  entry_own true k0 k o h e f = let same : k0 ≡ k = cc in rw same at h
-  entry_own false k0 k o h e f = f e
-
-  found_own : (ks : List (Known Name)) (n : Name) (k : Known Name) → AllOf (IsOwnKnown v) ks → entry_of Names ks n ≡ Some k → IsOwnKnown v k
-  unfolding entry_of
-  found_own [] n k h e = cc
-  found_own (k0 ∷ ks) n k h e = entry_own (Names.same k0.name n) k0 k (entry_of Names ks n) h.0 e (λ i. found_own ks n k h.1 i)
-
-  -- where what is kept of the state is asked for
-  pub with_own : {A : Type 0} (s : Vat Name) (d : Done Name A) → (Own v s → GivesBy KeepsOwn s d) → GivesBy KeepsOwn s d
-  with_own s (Gives a t) f = λ o. f o o
-  with_own s (Throws p t) f = tt
-  with_own s (Ejects n y t) f = tt
-  with_own s (Stops c t) f = tt
+  own_standing settle good p y k (Settled z) e h = own_give tt
+  own_standing settle good p y k (Viewed q) e h = own_settle_known settle good p y k e h
+  own_standing settle good p y k (WaitsOn q) e h = own_settle_known settle good p y k e h
+  own_standing settle good p y k Unsettled e h = own_settle_known settle good p y k e h
 
   gives_entry : (settle : Name → Value Name → Act Name (Unit {0})) → OwnSettler settle → (p : Name) (y : Value Name) (o : Option (Known Name)) (s : Vat Name) → entry_of Names s.known p ≡ o → GivesBy KeepsOwn s (refs.settle_entry Names settle p y o s)
   unfolding refs.settle_entry give
   gives_entry settle good p y None s e = λ o. o
-  gives_entry settle good p y (Some k) s e = with_own s (refs.settle_standing Names settle p y k k.standing s) (λ o. (own_standing settle good p y k k.standing (found_own s.known p k o.2 e)).after s)
+  gives_entry settle good p y (Some k) s e = with_own s (refs.settle_standing Names settle p y k k.standing s) (λ o. (own_standing settle good p y k k.standing (entry_name s.known p k e) (found_own s.known p k o.2 e)).after s)
 
   own_settle_one : (settle : Name → Value Name → Act Name (Unit {0})) → OwnSettler settle → OwnSettler (refs.settle_one Names settle)
   unfolding refs.settle_one ◌>>=◌ look and_then

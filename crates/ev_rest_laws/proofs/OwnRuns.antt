@@ -2,15 +2,15 @@
 use Rattle.std.proofs.Common.{◌≡◌, ℕ, zero, suc, List, [], ◌∷◌, ◌++◌, Some, refl, sym, length, map, append-nil, ◌+◌, arith}
 use Rattle.std.specs.Prelude.{slice_get}
 use Rattle.ev_machine.specs.Values.{Name, Root, Object, Promise, Answer, Gift, Sent, host_of}
-use Rattle.ev_machine.specs.State.{Message, Note, Deliver, Open, Ask, SettledTo, Elsewhere, Shorten, Vat, Act, begun}
+use Rattle.ev_machine.specs.State.{Message, Note, Deliver, Open, Ask, SettledTo, Elsewhere, Shorten, Vat, Done, begun}
 use Rattle.ev_run.specs.Draws.{draw_word}
 use Rattle.ev_run.specs.World as world
 use Rattle.ev_run.specs.World.{Script, Program, Entry, World, Goes, names, readied}
-use Rattle.ev_name_laws.specs.Names.{AllOf, IsMade, IsMessageMade, IsMessageName, NoteOk, names_in, Once}
+use Rattle.ev_name_laws.specs.Names.{AllOf, IsMade, IsMessageMade, IsMessageName, NoteOk, Once}
 use Rattle.ev_name_laws.proofs.Run.{Stands, opened_stands}
 use Rattle.ev_rest_laws.specs.Own.{IsOwnMail, IsOwnKnown, Own, WhatAVatHasIsItsOwn}
-use Rattle.ev_rest_laws.proofs.Gentle.{AfterGives, Gentle, gives_by}
-use Rattle.ev_rest_laws.proofs.OwnKeeps.{KeepsOwn}
+use Rattle.ev_rest_laws.proofs.Gentle.{AfterGives, GivesBy, gives_by}
+use Rattle.ev_rest_laws.proofs.OwnKeeps.{KeepsOwn, Whole}
 use Rattle.ev_rest_laws.proofs.OwnTurns.{own_taking, own_opening}
 use Rattle.ev_rest_laws.proofs.OwnArrive.{NamesMail, own_arrive, own_notice}
 use Rattle.ev_rest_laws.proofs.RunLift.{StepsKeep, InVats, steps_keep, opens_keep, all_allowed}
@@ -31,8 +31,8 @@ names_mail word v vats d (SettledTo n y) h = tt
 names_mail word v vats d (Elsewhere n c) h = tt
 names_mail word v vats d (Shorten n c i) h = tt
 
-after_own : {A : Type 0} (word : ℕ → ℕ) (v : ℕ) (m : Act Name A) (s : Vat Name) → Gentle (KeepsOwn word v) m → Own v s → AfterGives (Own v) (m s)
-after_own word v m s h o = gives_by (KeepsOwn word v) (Own v) s (m s) (λ t k. k o) (h.after s)
+after_own : {A : Type 0} (word : ℕ → ℕ) (v : ℕ) (s : Vat Name) (d : Done Name A) → GivesBy (KeepsOwn word v) s d → Whole word v s → AfterGives (Whole word v) d
+after_own word v s d h o = gives_by (KeepsOwn word v) (Whole word v) s d (λ t k. k o) h
 
 sum_zero : (u : ℕ) → (u + zero) ≡ u
 sum_zero u = omega arith
@@ -45,19 +45,22 @@ sum_suc u n = omega arith
 
 module _ (script : Script) where
   -- each notice is allowed
-  abbrev Any : ℕ → ℕ → Type 0
+  abbrev pub Any : ℕ → ℕ → Type 0
   Any v to = Unit {0}
 
   rest_of : (v : ℕ) (s : Vat Name) (m : Message Name) (ms : List (Message Name)) → s.queue ≡ m ∷ ms → AllOf (IsOwnMail v) s.queue → AllOf (IsOwnMail v) ms
   rest_of v s m ms e h = let both : AllOf (IsOwnMail v) (m ∷ ms) = rw e at h in both.1
 
-  own_keep : StepsKeep script Own Any
+  abbrev pub InScript : ℕ → Vat Name → Type 0
+  InScript v s = Whole (draw_word script.key) v s
+
+  pub own_keep : StepsKeep script InScript Any
   unfolding names world.names_of readied
   own_keep = record {
-    turn = λ w v s m ms g i q h. after_own (draw_word script.key) v _ (readied w (record s { queue = ms })) (own_taking (draw_word script.key) v (world.tree_at script.vats v) script.depth m) (h.0, rest_of v s m ms q h.1, h.2, h.3);
-    note = λ w from v s n g i ok h. after_own (draw_word script.key) v _ (readied w s) (own_arrive (draw_word script.key) v from (names_in s.known) n (names_mail (draw_word script.key) v w.vats (length w.drawn) n ok)) h;
-    notice = λ w v to s g i ok h. after_own (draw_word script.key) v _ (readied w s) (own_notice (draw_word script.key) v to) h;
-    opening = λ w v p s g i h. after_own (draw_word script.key) v _ (readied w s) (own_opening (draw_word script.key) v p.tree script.depth (Root v) (world.given script.vats p.knows)) h;
+    turn = λ w v s m ms g i q h. let r : Vat Name = readied w (record s { queue = ms }) in after_own (draw_word script.key) v r _ ((own_taking (draw_word script.key) v (world.tree_at script.vats v) script.depth m).after r) (h.0, rest_of v s m ms q h.1, h.2, h.3, tt);
+    note = λ w from v s n g i ok h. let r : Vat Name = readied w s in after_own (draw_word script.key) v r _ (own_arrive (draw_word script.key) v from r n (names_mail (draw_word script.key) v w.vats (length w.drawn) n ok)) (h.0, h.1, h.2, h.3, tt);
+    notice = λ w v to s g i ok h. let r : Vat Name = readied w s in after_own (draw_word script.key) v r _ ((own_notice (draw_word script.key) v to).after r) (h.0, h.1, h.2, h.3, tt);
+    opening = λ w v p s g i h. let r : Vat Name = readied w s in after_own (draw_word script.key) v r _ ((own_opening (draw_word script.key) v p.tree script.depth (Root v) (world.given script.vats p.knows)).after r) (h.0, h.1, h.2, h.3, tt);
   }
 
   -- ---- the start
@@ -71,38 +74,41 @@ module _ (script : Script) where
   roots_own v [] = tt
   roots_own v (u ∷ us) = ((refl, tt, tt, tt), roots_own v us)
 
-  fresh_own : (u : ℕ) (p : Program) → Own u (world.fresh script u p)
+  fresh_own : (u : ℕ) (p : Program) → InScript u (world.fresh script u p)
   unfolding world.fresh world.known_root begun host_of
-  fresh_own u p = (refl, tt, ((refl, tt, tt, all_of (λ (w : ℕ). u ≡ u) (world.knowers u zero script.vats) (λ w. refl)), roots_own u p.knows), tt)
+  fresh_own u p = (refl, tt, ((refl, tt, tt, all_of (λ (w : ℕ). u ≡ u) (world.knowers u zero script.vats) (λ w. refl)), roots_own u p.knows), tt, tt)
 
   some_same : (a b : Vat Name) → Some a ≡ Some b → a ≡ b
   some_same a b e = cc
 
-  fresh_from_own : (u : ℕ) (ps : List Program) (n : ℕ) (s : Vat Name) → slice_get (world.fresh_from script u ps) n ≡ Some s → Own (u + n) s
+  fresh_from_own : (u : ℕ) (ps : List Program) (n : ℕ) (s : Vat Name) → slice_get (world.fresh_from script u ps) n ≡ Some s → InScript (u + n) s
   unfolding world.fresh_from
   fresh_from_own u [] n s e = cc
-  fresh_from_own u (p ∷ ps) zero s e = let one : Own (u + zero) (world.fresh script u p) = rw (sum_zero u) (fresh_own u p) in rw (some_same (world.fresh script u p) s e) at one
-  fresh_from_own u (p ∷ ps) (suc n) s e = let rest : Own (suc u + n) s = fresh_from_own (suc u) ps n s e in rw (sum_suc u n) rest
+  fresh_from_own u (p ∷ ps) zero s e = let one : InScript (u + zero) (world.fresh script u p) = rw (sum_zero u) (fresh_own u p) in rw (some_same (world.fresh script u p) s e) at one
+  fresh_from_own u (p ∷ ps) (suc n) s e = let rest : InScript (suc u + n) s = fresh_from_own (suc u) ps n s e in rw (sum_suc u n) rest
 
-  begins_own : InVats script Own Any (world.begins script)
+  pub begins_own : InVats script InScript Any (world.begins script)
   unfolding world.begins
-  begins_own v s e = let one : Own (zero + v) s = fresh_from_own zero script.vats v s e in rw (zero_sum v) at one
+  begins_own v s e = let one : InScript (zero + v) s = fresh_from_own zero script.vats v s e in rw (zero_sum v) at one
 
   -- ---- the worlds of a run
 
   module _ (once : (v : ℕ) (p : Program) → slice_get script.vats v ≡ Some p → Once (v ∷ p.knows)) where
-    begins_stand : Stands script (world.begins script)
+    pub begins_stand : Stands script (world.begins script)
     unfolding world.open_from
     begins_stand = opened_stands script once [] script.vats (world.begins script) refl refl
 
-    opened_own : (ps rest : List Program) (w : World) → script.vats ≡ ps ++ rest → world.open_from script zero ps (world.begins script) ≡ Goes w → InVats script Own Any w
-    opened_own ps rest w e i = opens_keep script Own Any own_keep [] ps rest (world.begins script) w e begins_stand begins_own i
+    pub opened_own : (ps rest : List Program) (w : World) → script.vats ≡ ps ++ rest → world.open_from script zero ps (world.begins script) ≡ Goes w → InVats script InScript Any w
+    opened_own ps rest w e i = opens_keep script InScript Any own_keep [] ps rest (world.begins script) w e begins_stand begins_own i
 
-    stepped_own : (w x : World) (es : List Entry) (k : ℕ) → world.open_from script zero script.vats (world.begins script) ≡ Goes w → world.steps_from script es k w ≡ Goes x → InVats script Own Any x
-    stepped_own w x es k e i = steps_keep script Own Any own_keep es k w x (opened_stands script once script.vats [] w (sym (append-nil script.vats)) e) (all_allowed Any (λ v to. tt) es) (opened_own script.vats [] w (sym (append-nil script.vats)) e) i
+    stepped_own : (w x : World) (es : List Entry) (k : ℕ) → world.open_from script zero script.vats (world.begins script) ≡ Goes w → world.steps_from script es k w ≡ Goes x → InVats script InScript Any x
+    stepped_own w x es k e i = steps_keep script InScript Any own_keep es k w x (opened_stands script once script.vats [] w (sym (append-nil script.vats)) e) (all_allowed Any (λ v to. tt) es) (opened_own script.vats [] w (sym (append-nil script.vats)) e) i
+
+its_own : (word : ℕ → ℕ) (v : ℕ) (s : Vat Name) → Whole word v s → Own v s
+its_own word v s h = (h.0, h.1, h.2, h.3)
 
 pub own_in_runs : WhatAVatHasIsItsOwn
 own_in_runs script once = (
-  λ ps rest w e i. opened_own script once ps rest w e i,
-  λ w x es k e i. stepped_own script once w x es k e i,
+  λ ps rest w e i v s j. its_own (draw_word script.key) v s (opened_own script once ps rest w e i v s j),
+  λ w x es k e i v s j. its_own (draw_word script.key) v s (stepped_own script once w x es k e i v s j),
 )

@@ -12,7 +12,7 @@ use Rattle.ev_fate_laws.proofs.TurnLeads.{good_evaluator, leads_turn_value, lead
 use Rattle.ev_name_laws.specs.Names.{IsMessageName}
 use Rattle.ev_rest_laws.specs.Own.{IsOwnMail}
 use Rattle.ev_rest_laws.proofs.Gentle.{Gentle, Any, gentle_leads, leads_gentle}
-use Rattle.ev_rest_laws.proofs.OwnKeeps.{KeepsOwn, widen, with_own, own_bind, own_then, own_give, own_look, own_tell, own_enqueue, own_react, came_own, own_deliver, own_send_to, own_settle, own_resolve}
+use Rattle.ev_rest_laws.proofs.OwnKeeps.{KeepsOwn, widen, with_own, own_bind, own_then, own_give, own_look, own_tell, own_enqueue, own_react, came_own, own_deliver, own_send_to, own_settle, own_resolve, PlaceFits, place_fits}
 
 module _ (word : ℕ → ℕ) (v : ℕ) where
   abbrev Names : Naming Name Name
@@ -20,44 +20,44 @@ module _ (word : ℕ → ℕ) (v : ℕ) where
 
   -- the message, whose answer the vat hosts where its target is not away
   abbrev OwnAt : Place Name → Message Name → Type 0
-  OwnAt (Away h n o) m = IsMessageName m.id
+  OwnAt (Away h n o) m = IsMessageName m.id × (host_of n ≡ h)
   OwnAt Near m = IsOwnMail v m
   OwnAt (Mine n) m = IsOwnMail v m
   OwnAt (Gone t) m = IsOwnMail v m
 
   own_first : (m : Message Name) (y : Value Name) (p : Place Name) → OwnAt p m → Gentle (KeepsOwn word v) (refs.send_first Names m y p)
   unfolding refs.send_first
-  own_first m y (Away h n o) i = own_deliver word v m h n
-  own_first m y Near i = own_send_to word v (refs.settle Names) (own_settle word v) m y Near i
-  own_first m y (Mine n) i = own_send_to word v (refs.settle Names) (own_settle word v) m y (Mine n) i
-  own_first m y (Gone t) i = own_send_to word v (refs.settle Names) (own_settle word v) m y (Gone t) i
+  own_first m y (Away h n o) i = own_deliver word v m h n i.1
+  own_first m y Near i = own_send_to word v (refs.settle Names) (own_settle word v) m y Near i tt
+  own_first m y (Mine n) i = own_send_to word v (refs.settle Names) (own_settle word v) m y (Mine n) i tt
+  own_first m y (Gone t) i = own_send_to word v (refs.settle Names) (own_settle word v) m y (Gone t) i tt
 
   -- with a new message, whose answer is at that host
   with_message : {A : Type 0} (h : ℕ) (f : Name × Name → Act Name A) → ((i : ℕ) → Gentle (KeepsOwn word v) (f (Sent (record { sender = v; number = i }), Answer h (record { sender = v; number = i })))) → Gentle (KeepsOwn word v) (new_message Names h >>= f)
   unfolding ◌>>=◌ new_message and_then naming mail_of name_of answer_of host_of
   with_message h f g = record {
     after = λ s. let m : Msg = record { sender = v; number = s.messages } in let t : Vat Name = record s { messages = suc s.messages; mails = s.mails ++ Sent m ∷ []; known = s.known ++ begun (Answer h m) h ∷ [] } in
-        widen word v s t (f (Sent m, Answer h m) t) (λ o. (o.0, o.1, came_own word v s (Answer h m) h refl o, o.3)) ((g s.messages).after t);
+        widen word v s t (f (Sent m, Answer h m) t) (λ o. (o.0, o.1, came_own word v s (Answer h m) h refl o, o.3, o.4)) ((g s.messages).after t);
   }
 
-  own_at : (u i : ℕ) (p : Place Name) (y : Value Name) (verb : Words) (args : List (Value Name)) → u ≡ v
+  own_at : (u i : ℕ) (p : Place Name) (y : Value Name) (verb : Words) (args : List (Value Name)) → u ≡ v → PlaceFits word v p
       → OwnAt p (record { id = Sent (record { sender = v; number = i }); target = y; verb = verb; args = args; answer = Answer (answer_host Names u p) (record { sender = v; number = i }) })
   unfolding answer_host host_of
-  own_at u i (Away h n o) y verb args e = tt
-  own_at u i Near y verb args e = (tt, e)
-  own_at u i (Mine n) y verb args e = (tt, e)
-  own_at u i (Gone t) y verb args e = (tt, e)
+  own_at u i (Away h n o) y verb args e f = (tt, f)
+  own_at u i Near y verb args e f = (tt, e)
+  own_at u i (Mine n) y verb args e f = (tt, e)
+  own_at u i (Gone t) y verb args e f = (tt, e)
 
   abbrev SendNew : ℕ → Value Name → Value Name → Words → List (Value Name) → Place Name → ℕ → Act Name (Value Name)
   SendNew act x y verb args p u = new_message Names (answer_host Names u p) >>= (λ new. tell (Sends act (record { id = new.0; target = x; verb = verb; args = args; answer = new.1 }))
       >> (refs.send_first Names (record { id = new.0; target = y; verb = verb; args = args; answer = new.1 }) y p >> give (Ref new.1)))
 
-  own_sent : (act : ℕ) (x y : Value Name) (verb : Words) (args : List (Value Name)) (p : Place Name) (u : ℕ) → u ≡ v → Gentle (KeepsOwn word v) (SendNew act x y verb args p u)
-  own_sent act x y verb args p u e = with_message (answer_host Names u p) _ (λ i. own_then word v (own_tell word v _) (own_then word v (own_first _ y p (own_at u i p y verb args e)) (own_give word v _)))
+  own_sent : (act : ℕ) (x y : Value Name) (verb : Words) (args : List (Value Name)) (p : Place Name) (u : ℕ) → u ≡ v → PlaceFits word v p → Gentle (KeepsOwn word v) (SendNew act x y verb args p u)
+  own_sent act x y verb args p u e f = with_message (answer_host Names u p) _ (λ i. own_then word v (own_tell word v _) (own_then word v (own_first _ y p (own_at u i p y verb args e f)) (own_give word v _)))
 
   pub own_send : (act : ℕ) (x : Value Name) (verb : Words) (args : List (Value Name)) → Gentle (KeepsOwn word v) (refs.send Names act x verb args)
   unfolding refs.send ◌>>=◌ look and_then
-  own_send act x verb args = record { after = λ s. with_own word v s _ (λ o. (own_sent act x (refs.follow Names s x) verb args (refs.place Names s (refs.follow Names s x)) s.number o.0).after s) }
+  own_send act x verb args = record { after = λ s. with_own word v s _ (λ o. (own_sent act x (refs.follow Names s x) verb args (refs.place Names s (refs.follow Names s x)) s.number o.0 (place_fits word v s (refs.follow Names s x) o)).after s) }
 
   own_react_at : (m : Message Name) (p : Place Name) → IsOwnMail v m → Gentle (KeepsOwn word v) (refs.react_at Names m p)
   unfolding refs.react_at
@@ -85,7 +85,7 @@ module _ (word : ℕ → ℕ) (v : ℕ) where
 
   promise_own : (s : Vat Name) → KeepsOwn word v s (record s { promises = suc s.promises; known = s.known ++ begun (Names.made (IsOwn s.promises) (length s.known)) s.number ∷ [] })
   unfolding naming name_of host_of
-  promise_own s = λ o. (o.0, o.1, came_own word v s (Promise v s.promises) s.number o.0 o, o.3)
+  promise_own s = λ o. (o.0, o.1, came_own word v s (Promise v s.promises) s.number o.0 o, o.3, o.4)
 
   led_under : IsLedUnder Names Any (KeepsOwn word v)
   led_under = record {

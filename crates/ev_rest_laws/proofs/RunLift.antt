@@ -52,6 +52,10 @@ all_allowed Allowed f (Turn v ∷ es) = (tt, all_allowed Allowed f es)
 all_allowed Allowed f (Carry v to ∷ es) = (tt, all_allowed Allowed f es)
 all_allowed Allowed f (CutLink v to ∷ es) = (tt, all_allowed Allowed f es)
 
+-- each name in a note under way was made
+pub links_made : (script : Script) (w : World) → Stands script w → AllOf (λ (l : Link). AllOf (NoteOk (IsMade w.vats (length w.drawn))) l.notes) w.links
+links_made script w g = all_map (λ l i. all_map (λ n j. note_up (Told script w) (IsMade w.vats (length w.drawn)) (λ b k. k.0) n j) l.notes i) w.links g.links
+
 module _ (script : Script) (P : ℕ → Vat Name → Type 0) (Allowed : ℕ → ℕ → Type 0) where
   -- P holds of the state after each step of a vat, but for notices that are not allowed, in any world in which names stand as they do in runs
   pub record StepsKeep : Type 0 where
@@ -129,14 +133,10 @@ module _ (script : Script) (P : ℕ → Vat Name → Type 0) (Allowed : ℕ → 
     open_keeps v p w x g h None q e = cc
     open_keeps v p w x g h (Some s) q e = put_back_keeps w x v (Opens v ∷ []) v _ h (law.opening w v p s g q (h v s q)) e
 
-    -- each name in a note under way was made
-    links_made : (w : World) → Stands script w → AllOf (λ (l : Link). AllOf (NoteOk (IsMade w.vats (length w.drawn))) l.notes) w.links
-    links_made w g = all_map (λ l i. all_map (λ n j. note_up (Told script w) (IsMade w.vats (length w.drawn)) (λ b k. k.0) n j) l.notes i) w.links g.links
-
     pub step_keeps : (entry : Entry) (k : ℕ) (w x : World) → Stands script w → IsAllowed Allowed entry → InVats w → world.step script entry k w ≡ Going x → InVats x
     unfolding world.step
     step_keeps (Turn v) k w x g ok h e = turn_keeps k v w x g h (slice_get w.vats v) refl e
-    step_keeps (Carry v to) k w x g ok h e = carry_link_keeps k v to w x g h (world.link_at v to w.links) (link_ok (λ (l : Link). AllOf (NoteOk (IsMade w.vats (length w.drawn))) l.notes) v to w.links (links_made w g)) e
+    step_keeps (Carry v to) k w x g ok h e = carry_link_keeps k v to w x g h (world.link_at v to w.links) (link_ok (λ (l : Link). AllOf (NoteOk (IsMade w.vats (length w.drawn))) l.notes) v to w.links (links_made script w g)) e
     step_keeps (CutLink v to) k w x g ok h e = cut_keeps k v to w x h e
     step_keeps (NoticeLink v to) k w x g ok h e = notice_keeps k v to w x g ok h (slice_get w.vats v) refl e
 
@@ -165,10 +165,10 @@ module _ (script : Script) (P : ℕ → Vat Name → Type 0) (Allowed : ℕ → 
     unfolding world.open_from
     one_open v p w y e = then_once (world.open_vat script v p w) (λ z. Going z) y e refl
 
-    open_stands : (front rest : List Program) (p : Program) (w y : World) → script.vats ≡ front ++ (p ∷ rest) → Stands script w → world.open_vat script (length front) p w ≡ Going y → Stands script y
+    pub open_stands : (front rest : List Program) (p : Program) (w y : World) → script.vats ≡ front ++ (p ∷ rest) → Stands script w → world.open_vat script (length front) p w ≡ Going y → Stands script y
     open_stands front rest p w y i g e = opens_stand script front (p ∷ []) rest w y i g (one_open (length front) p w y e)
 
-    opened_keeps : (v : ℕ) (p : Program) (w y : World) → Stands script w → InVats w → world.open_vat script v p w ≡ Going y → InVats y
+    pub opened_keeps : (v : ℕ) (p : Program) (w y : World) → Stands script w → InVats w → world.open_vat script v p w ≡ Going y → InVats y
     unfolding world.open_vat
     opened_keeps v p w y g h e = open_keeps v p w y g h (slice_get w.vats v) refl e
 

@@ -2,3 +2,4 @@ pub mod Views
 pub mod Rest
 pub mod Cuts
 pub mod Own
+pub mod Notes

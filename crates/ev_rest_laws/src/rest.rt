@@ -5,6 +5,7 @@
 ghost use Rattle.ev_rest_laws.specs.Rest.{ViewsWaitInRuns};
 ghost use Rattle.ev_rest_laws.specs.Cuts.{NoticedLinksAreCut};
 ghost use Rattle.ev_rest_laws.specs.Own.{WhatAVatHasIsItsOwn};
+ghost use Rattle.ev_rest_laws.specs.Notes.{NotesNameTheirEnds};
 ghost use Rattle.ev_rest_laws.specs.Rest.{ViewsEndInRuns};
 ghost use Rattle.ev_rest_laws.specs.Rest.{ReferencesRestInRuns};
 ghost use Rattle.ev_rest_laws.specs.Rest.{FollowedBreaksStayBroken};
@@ -44,4 +45,11 @@ pub fn noticed_links_are_cut()
 /// others.
 pub fn what_a_vat_has_is_its_own()
     ensures { WhatAVatHasIsItsOwn }
+{}
+
+/// Each note that was put on the link from a vat to another is about a name of one of the two. A vat
+/// tells only of its own names. It sends messages only to names of the receiver, opens gifts only as
+/// these, asks only for these, and asks only of these that they be shortened.
+pub fn notes_name_their_ends()
+    ensures { NotesNameTheirEnds }
 {}

@@ -1,12 +1,12 @@
 -- The laws of exports in runs.
-use Rattle.std.proofs.Common.{◌≡◌, ℕ, zero, suc, Bool, true, false, List, [], ◌∷◌, Option, Some, None, refl, sym, ap, ◌∙◌, ◌==◌, ◌&&◌}
+use Rattle.std.proofs.Common.{◌≡◌, ℕ, zero, Bool, true, false, List, [], ◌∷◌, Option, Some, None, refl, sym, ap, ◌∙◌, ◌==◌, ◌&&◌}
 use Rattle.std.specs.Prelude.{slice_get}
 use Rattle.std.proofs.lemmas.Bool.{eqb-true, eq-eqb}
 use Rattle.ev_machine.specs.Values.{Name, Root, Object, Promise, Answer, Gift, Sent, host_of, same_name, Foreign, spot_of}
 use Rattle.ev_run.specs.World as world
 use Rattle.ev_run.specs.World.{Script, Program, Entry, Link, World}
 use Rattle.ev_run.specs.Wire as wire
-use Rattle.ev_name_laws.specs.Names.{AllOf, Once}
+use Rattle.ev_name_laws.specs.Names.{AllOf}
 use Rattle.ev_name_laws.proofs.SameNames.{false_true}
 use Rattle.ev_table_laws.specs.Exports.{InAllRuns, PositionsAreOfOneName, object_of, exported_at, ExportsAreDistinct}
 use Rattle.ev_table_laws.proofs.Positions.{Fine, exports_fine, one_position, host_at}

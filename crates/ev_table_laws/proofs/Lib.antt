@@ -1,3 +1,11 @@
 pub mod Positions
 pub mod Roots
 pub mod Laws
+pub mod Claims
+pub mod Costs
+pub mod RefsCosts
+pub mod ArriveCosts
+pub mod Steps
+pub mod Bounds
+pub mod OwnTargets
+pub mod KnownRuns

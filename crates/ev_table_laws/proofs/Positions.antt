@@ -1,10 +1,10 @@
 -- What is exported gets one position, behind those that have one.
-use Rattle.std.proofs.Common.{◌≡◌, ℕ, zero, suc, Bool, true, false, List, [], ◌∷◌, ◌++◌, Option, Some, None, refl, sym, ap, ◌∙◌, ◌⊎◌, inl, inr, ◌==◌, ◌&&◌}
+use Rattle.std.proofs.Common.{◌≡◌, ℕ, zero, suc, Bool, true, false, List, [], ◌∷◌, ◌++◌, Some, refl, sym, ap, ◌⊎◌, inl, inr, ◌==◌}
 use Rattle.std.specs.Prelude.{slice_get}
-use Rattle.std.proofs.lemmas.Bool.{eqb-true, eq-eqb}
-use Rattle.ev_machine.specs.Values.{Value, Null, Flag, Number, Letter, Text, Prim, Broken, Items, Ref, Name, Object, host_of, same_name}
+use Rattle.std.proofs.lemmas.Bool.{eqb-true}
+use Rattle.ev_machine.specs.Values.{Value, Null, Flag, Number, Letter, Text, Prim, Broken, Items, Ref, Name, host_of}
 use Rattle.ev_machine.specs.State.{Passed, Passeds, Plain, AGift, Many, NoMore, More, Note, Deliver, Open, Ask, SettledTo, Elsewhere, Shorten}
-use Rattle.ev_run.specs.World.{Link, has_name, link_at, is_link}
+use Rattle.ev_run.specs.World.{has_name}
 use Rattle.ev_run.specs.Wire as wire
 use Rattle.ev_name_laws.specs.Names.{AllOf, IsAmong, Once}
 use Rattle.ev_name_laws.proofs.Facts.{all_end}

@@ -1,12 +1,11 @@
 -- The roots that have a position from the start: in every world of a run each link has those that it began with.
-use Rattle.std.proofs.Common.{◌≡◌, ℕ, zero, suc, Bool, true, false, List, [], ◌∷◌, ◌++◌, Option, Some, None, refl, sym, ap, ◌∙◌, ◌==◌}
+use Rattle.std.proofs.Common.{◌≡◌, ℕ, zero, suc, Bool, true, false, List, [], ◌∷◌, ◌++◌, Option, Some, None, refl, ◌==◌}
 use Rattle.std.specs.Prelude.{slice_get}
-use Rattle.std.proofs.lemmas.Bool.{eqb-true}
 use Rattle.ev_machine.specs.Values.{Name, Root, host_of}
 use Rattle.ev_machine.specs.State.{Message, Note, Put, Vat, Done, Gives, Throws, Ejects, Stops, Act, is_in}
 use Rattle.ev_run.specs.World as world
 use Rattle.ev_run.specs.World.{Script, Program, Entry, Turn, Carry, CutLink, NoticeLink, Event, Idle, Link, World, Run, Goes as Going, Stopped}
-use Rattle.ev_name_laws.specs.Names.{AllOf, Once}
+use Rattle.ev_name_laws.specs.Names.{AllOf}
 use Rattle.ev_name_laws.proofs.Facts.{all_append}
 use Rattle.ev_table_laws.proofs.Positions.{Fine}
 

@@ -1,5 +1,5 @@
 -- What a vat exported to another has one position each, in every world of every run.
-use Rattle.std.specs.Prelude.{◌≡◌, ℕ, zero, List, Bool, true, false, Option, Some, None, slice_get, ◌==◌, ◌&&◌}
+use Rattle.std.specs.Prelude.{◌≡◌, ℕ, zero, List, true, false, Option, Some, None, slice_get, ◌==◌, ◌&&◌}
 use Rattle.ev_machine.specs.Values.{Name, Root, Object, Promise, Answer, Gift, Sent, same_name, host_of, Foreign, spot_of}
 use Rattle.ev_run.specs.World.{Script, Program, World, Goes, Entry, Link, begins, open_from, steps_from}
 use Rattle.ev_run.specs.Wire.{exports}

@@ -1,2 +1,4 @@
 pub mod Returns
 pub mod Exports
+pub mod Knowing
+pub mod Runs

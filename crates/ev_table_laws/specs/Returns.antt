@@ -1,6 +1,6 @@
 -- A run in which a message comes back to the vat that sent it.
 use Rattle.std.specs.Prelude.{◌≡◌, ℕ, List, [], ◌∷◌, Some, None, Option, slice_get, codes}
-use Rattle.ev_machine.specs.Values.{Name, Sent, Answer}
+use Rattle.ev_machine.specs.Values.{Name, Root, Answer, Sent, Msg}
 use Rattle.ev_machine.specs.State.{Vat}
 use Rattle.ev_run.specs.World.{Carry, Script, Run, Goes, Stopped, run, names_of}
 use Rattle.ev_kernel.specs.declared.node.Literal.TheVariants as literal
@@ -47,11 +47,20 @@ mails_in None = []
 unfoldable pub mails_at : ℕ → List Name
 mails_at v = mails_in (slice_get (vats_of (run script)) v)
 
--- the sender has it twice, the other vat once
+unfoldable pub names_in : Option (Vat Name) → List Name
+names_in (Some s) = names_of s
+names_in None = []
+
+-- the names that vat v knows
+unfoldable pub names_at : ℕ → List Name
+names_at v = names_in (slice_get (vats_of (run script)) v)
+
+-- The sender has it twice, the other vat once; and each of the two knows its answers at both, once.
 abbrev pub AMessageReturns : Type 0
-AMessageReturns = let m = Sent (record { sender = 0; number = 0 }) in (mails_at 0 ≡ m ∷ m ∷ []) × (mails_at 1 ≡ m ∷ [])
+AMessageReturns = let m : Msg = record { sender = 0; number = 0 } in (mails_at 0 ≡ Sent m ∷ Sent m ∷ []) × (mails_at 1 ≡ Sent m ∷ [])
+    × (names_at 0 ≡ Root 0 ∷ Root 1 ∷ Answer 1 m ∷ Answer 0 m ∷ []) × (names_at 1 ≡ Root 1 ∷ Root 0 ∷ Answer 1 m ∷ Answer 0 m ∷ [])
 
 -- opens the definitions of this file
 unfoldable pub opened_returns : Unit {0}
-unfolding tree_a tree_b script vats_of mails_in mails_at
+unfolding tree_a tree_b script vats_of mails_in mails_at names_in names_at
 opened_returns = tt
