@@ -52,14 +52,14 @@ absent_gift vats d P made p [] h = refl
 absent_gift vats d P made p (g ∷ gs) h = gift_other (is_gift p d g) g (gift_at p d gs) (λ e. no_self g.number d (made (Drew g.number) h.0.1) (is_number p d g e)) (absent_gift vats d P made p gs h.1)
 
 module _ (script : Script) where
-  new_gifts : (w : World) (v : ℕ) (s : Vat Name) → Stands script w → slice_get w.vats v ≡ Some s → GiftsAreNew (draw_word script.key) v (readied w s)
+  pub new_gifts : (w : World) (v : ℕ) (s : Vat Name) → Stands script w → slice_get w.vats v ≡ Some s → GiftsAreNew (draw_word script.key) v (readied w s)
   unfolding readied
   new_gifts w v s h e = let g = (h.vats v s e).parts in record {
     names = λ c. unknown_gift (draw_word script.key) v w.vats (length w.drawn) (Had script w v s) (λ b i. i.0) c s.known g.known;
     gifts = λ p. absent_gift w.vats (length w.drawn) (Had script w v s) (λ b i. i.0) p s.gifts g.gifts;
   }
 
-  tells_none : (w : World) (s : Vat Name) (n : Note Name) → NoteOk (IsMade w.vats (length w.drawn)) n → TellsNoNewGift (draw_word script.key) zero (readied w s) n
+  pub tells_none : (w : World) (s : Vat Name) (n : Note Name) → NoteOk (IsMade w.vats (length w.drawn)) n → TellsNoNewGift (draw_word script.key) zero (readied w s) n
   unfolding readied
   tells_none w s (Elsewhere n c) h = λ a e. made_gift w.vats (length w.drawn) a n h.0 e
   tells_none w s (Deliver m n verb ys) h = tt

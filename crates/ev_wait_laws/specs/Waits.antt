@@ -1,0 +1,41 @@
+-- Chains of waits and views inside a vat.
+use Rattle.std.specs.Prelude.{◌≡◌, ℕ, zero, suc, true, List, length}
+use Rattle.ev_machine.specs.Values.{Value, Name, Naming, naming}
+use Rattle.ev_machine.specs.State.{Standing, Unsettled, WaitsOn, Viewed, Settled, Known, Vat}
+use Rattle.ev_machine.specs.Refs.{standing_of, waits_lead, reaches}
+use Rattle.ev_run.specs.World.{names}
+use Rattle.ev_name_laws.specs.Names.{Once, names_in}
+use Rattle.ev_rest_laws.specs.Rest.{InEachVat}
+
+-- it neither waits nor is viewed, or P holds of the name on which it waits or that is its view
+abbrev pub WaitIs : (Name → Type 0) → Standing Name → Type 0
+WaitIs P (WaitsOn q) = P q
+WaitIs P (Viewed q) = P q
+WaitIs P Unsettled = Unit {0}
+WaitIs P (Settled y) = Unit {0}
+
+module _ (K : Naming Name Name) where
+  -- the waits and views from that name on end, after so many at most
+  abbrev pub WaitsEndIn : ℕ → List (Known Name) → Name → Type 0
+  WaitsEndIn zero ks n = WaitIs (λ q. ⊥) (standing_of K ks n)
+  WaitsEndIn (suc d) ks n = WaitIs (WaitsEndIn d ks) (standing_of K ks n)
+
+  -- from every name, after no more than there are names known
+  abbrev pub WaitsEnd : List (Known Name) → Type 0
+  WaitsEnd ks = (n : Name) → WaitsEndIn (length ks) ks n
+
+  -- no name waits on itself or is its own view
+  abbrev pub NoneWaitsOnItself : List (Known Name) → Type 0
+  NoneWaitsOnItself ks = (n : Name) → WaitIs (λ q. n ≡ q → ⊥) (standing_of K ks n)
+
+-- In each vat of a run that knows no name twice, and of whose names none waits on itself, waits and views end.
+abbrev pub WaitsEndInRuns : Type 0
+WaitsEndInRuns = InEachVat (λ script v s. Once (names_in s.known) → NoneWaitsOnItself (names script v) s.known → WaitsEnd (names script v) s.known)
+
+-- Where a chain of waits and views leads from n to p in any number of steps, the test for a cycle finds it in as many steps as names are known.
+abbrev pub CycleTestsSuffice : Type 0
+CycleTestsSuffice = (word : ℕ → ℕ) (v : ℕ) (ks : List (Known Name)) (p n : Name) (d : ℕ) → waits_lead (naming word v) d ks p n ≡ true → waits_lead (naming word v) (length ks) ks p n ≡ true
+
+-- Where members, each followed, lead from a value to a name in any number of steps, the test finds it in as many steps as there are lists, and one.
+abbrev pub ListTestsSuffice : Type 0
+ListTestsSuffice = (word : ℕ → ℕ) (v : ℕ) (s : Vat Name) (p : Name) (x : Value Name) (d : ℕ) → reaches (naming word v) d s p x ≡ true → reaches (naming word v) (suc (length s.lists)) s p x ≡ true

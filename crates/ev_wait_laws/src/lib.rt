@@ -1,0 +1,4 @@
+//! Laws of the waits of names inside a vat.
+#![tactic(auto)]
+
+pub mod waits;
