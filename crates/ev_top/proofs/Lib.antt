@@ -5,3 +5,4 @@ pub mod OneReading
 pub mod Empty
 pub mod Steps
 pub mod CauseLemmas
+pub mod Fates

@@ -10,3 +10,4 @@ pub mod Expansion
 pub mod Due
 pub mod Ends
 pub mod Causes
+pub mod Headline

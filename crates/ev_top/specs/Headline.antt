@@ -1,0 +1,27 @@
+-- What holds of the history that a call owes for a script.
+use Rattle.std.specs.Prelude.{◌≡◌, ◌≤◌, ℕ, List, Some, Ok}
+use Rattle.std.specs.declared.option.Option.{Option}
+use Rattle.ev_machine.specs.Values.{Name}
+use Rattle.ev_run.specs.World as machine
+use Rattle.ev_run.specs.World.{World, run, Goes}
+use Rattle.ev_fate_laws.specs.Fate.{fates, sent}
+use Rattle.ev_reader.specs.Program.{Answers}
+use Rattle.ev_scope.specs.declared.accepted.Scoped.{Scoped}
+use Rattle.ev_script.specs.declared.script.Script.{Script}
+use Rattle.ev_script.specs.declared.script.VatScript.{VatScript}
+use Rattle.ev_top.specs.Causes.{HasVat}
+use Rattle.ev_top.specs.Machine.{script_of}
+use Rattle.ev_top.specs.Programs.{safe_names}
+use Rattle.ev_top.specs.declared.command.Command.{Command}
+use Rattle.ev_top.specs.declared.command.Command.TheVariants.{Run}
+
+-- the whole input is a script whose program is read, and the machine's run of it goes to its end in that world
+abbrev pub RunsTo : Option Command → List ℕ → machine.Script → World → Type 0
+RunsTo command input script world = (command ≡ Some Run) × (read : Script) × (vat : VatScript) × HasVat input read vat
+    × (scoped : Scoped) × Answers (Ok scoped) vat.source safe_names
+    × (script ≡ script_of read.key read.fuel vat.name scoped.tree) × (run script ≡ Goes world)
+
+-- In its history no message is sent twice, and each that is sent is taken once, lost once, or stands once in the closing list.
+abbrev pub MessagesHaveOneFate : Option Command → List ℕ → Type 0
+MessagesHaveOneFate command input = (script : machine.Script) (world : World) → RunsTo command input script world
+    → (x : Name) → (fates x world.history ≡ sent x world.history) × (sent x world.history ≤ 1)
