@@ -1,7 +1,7 @@
 -- What the notes between two vats are about: a vat tells only of its own names, and asks only for names of the receiver.
-use Rattle.std.specs.Prelude.{◌≡◌, ℕ, zero, List, ◌++◌}
-use Rattle.ev_machine.specs.Values.{Name, host_of}
-use Rattle.ev_machine.specs.State.{Note, Deliver, Open, Ask, SettledTo, Elsewhere, Shorten}
+use Rattle.std.specs.Prelude.{◌≡◌, ℕ, zero, List, ◌++◌, ◌⊎◌}
+use Rattle.ev_machine.specs.Values.{Value, Null, Flag, Number, Letter, Text, Prim, Broken, Items, Ref, Name, host_of}
+use Rattle.ev_machine.specs.State.{Passed, Passeds, Plain, AGift, Many, NoMore, More, Note, Deliver, Open, Ask, SettledTo, Elsewhere, Shorten}
 use Rattle.ev_run.specs.World.{Script, Program, Entry, Link, World, Goes, begins, open_from, steps_from}
 use Rattle.ev_name_laws.specs.Names.{AllOf, IsEventual}
 use Rattle.ev_name_laws.specs.Runs.{KnowsOnce}
@@ -24,3 +24,45 @@ abbrev pub NotesNameTheirEnds : Type 0
 NotesNameTheirEnds = (script : Script) → KnowsOnce script
     → ((ps rest : List Program) (w : World) → script.vats ≡ ps ++ rest → open_from script zero ps (begins script) ≡ Goes w → AllOf LinkFits w.links)
     × ((w x : World) (es : List Entry) (k : ℕ) → open_from script zero script.vats (begins script) ≡ Goes w → steps_from script es k w ≡ Goes x → AllOf LinkFits x.links)
+
+-- a name of one of the two vats, or data
+abbrev pub IsOfEither : ℕ → ℕ → Value Name → Type 0
+IsOfEither v w (Ref n) = (host_of n ≡ v) ⊎ (host_of n ≡ w)
+IsOfEither v w Null = Unit {0}
+IsOfEither v w (Flag b) = Unit {0}
+IsOfEither v w (Number z) = Unit {0}
+IsOfEither v w (Letter c) = Unit {0}
+IsOfEither v w (Text t) = Unit {0}
+IsOfEither v w (Prim i) = Unit {0}
+IsOfEither v w (Broken t) = Unit {0}
+IsOfEither v w (Items k) = Unit {0}
+
+-- the same of each part of what passes that is no gift
+abbrev mutual
+  pub PassesBetween : ℕ → ℕ → Passed Name → Type 0
+  PassesBetween v w (Plain y) = IsOfEither v w y
+  PassesBetween v w (AGift h i) = Unit {0}
+  PassesBetween v w (Many ys) = AllPassBetween v w ys
+
+  pub AllPassBetween : ℕ → ℕ → Passeds Name → Type 0
+  AllPassBetween v w NoMore = Unit {0}
+  AllPassBetween v w (More y ys) = PassesBetween v w y × AllPassBetween v w ys
+
+-- of the arguments of a message, and of what a name settled to
+abbrev pub Carries : ℕ → ℕ → Note Name → Type 0
+Carries v w (Deliver m n verb ys) = AllPassBetween v w ys
+Carries v w (SettledTo n y) = PassesBetween v w y
+Carries v w (Open i n) = Unit {0}
+Carries v w (Ask p i n) = Unit {0}
+Carries v w (Elsewhere n c) = Unit {0}
+Carries v w (Shorten n c i) = Unit {0}
+
+-- on a link, of all notes that were put and of all that are under way
+abbrev pub LinkCarries : Link → Type 0
+LinkCarries l = AllOf (Carries l.from l.to) l.log × AllOf (Carries l.from l.to) l.notes
+
+-- In every world of a run each name that passes in a note, and not as a gift, is of one of the two vats of its link.
+abbrev pub NotesCarryTheirEnds : Type 0
+NotesCarryTheirEnds = (script : Script) → KnowsOnce script
+    → ((ps rest : List Program) (w : World) → script.vats ≡ ps ++ rest → open_from script zero ps (begins script) ≡ Goes w → AllOf LinkCarries w.links)
+    × ((w x : World) (es : List Entry) (k : ℕ) → open_from script zero script.vats (begins script) ≡ Goes w → steps_from script es k w ≡ Goes x → AllOf LinkCarries x.links)
