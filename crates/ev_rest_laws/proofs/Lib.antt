@@ -23,3 +23,4 @@ pub mod CareNotes
 pub mod CarryCare
 pub mod CarryArrive
 pub mod NotesLift
+pub mod NotesSpared

@@ -76,7 +76,7 @@ module _ (B : ℕ → ℕ → Note Name → Type 0) where
   found_head true v w l o f h = f refl
   found_head false v w l o f h = h
 
-  found_fits : (v w : ℕ) (ls : List Link) → AllOf Fits ls → MayBe (At v w) (world.link_at v w ls)
+  pub found_fits : (v w : ℕ) (ls : List Link) → AllOf Fits ls → MayBe (At v w) (world.link_at v w ls)
   unfolding world.link_at
   found_fits v w [] h = tt
   found_fits v w (l ∷ ls) h = found_head (world.is_link v w l) v w l (world.link_at v w ls) (λ e. at_ends l v w h.0 (ends_are l v w e)) (found_fits v w ls h.1)

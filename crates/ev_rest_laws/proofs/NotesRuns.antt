@@ -133,7 +133,7 @@ half_links : (B C : ℕ → ℕ → Note Name → Type 0) → ((v w : ℕ) (n : 
 half_links B C f [] h = tt
 half_links B C f (l ∷ ls) h = let one = h.0 in ((all_map (f l.from l.to) l.log one.0, all_map (f l.from l.to) l.notes one.1), half_links B C f ls h.1)
 
-links_of : (script : Script) (x : World) → lift.All script (Its script) (OfNotes script) (Ever script) (Any script) x → AllOf (lift.Fits (OfNotes script)) x.links
+pub links_of : (script : Script) (x : World) → lift.All script (Its script) (OfNotes script) (Ever script) (Any script) x → AllOf (lift.Fits (OfNotes script)) x.links
 links_of script x h = let both = h.2 in both.1
 
 pub notes_name_ends : NotesNameTheirEnds

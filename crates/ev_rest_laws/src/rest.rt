@@ -7,6 +7,7 @@ ghost use Rattle.ev_rest_laws.specs.Cuts.{NoticedLinksAreCut};
 ghost use Rattle.ev_rest_laws.specs.Own.{WhatAVatHasIsItsOwn};
 ghost use Rattle.ev_rest_laws.specs.Notes.{NotesNameTheirEnds};
 ghost use Rattle.ev_rest_laws.specs.Notes.{NotesCarryTheirEnds};
+ghost use Rattle.ev_rest_laws.specs.Notes.{NotesNameNobodyNoticed};
 ghost use Rattle.ev_rest_laws.specs.Rest.{ViewsEndInRuns};
 ghost use Rattle.ev_rest_laws.specs.Rest.{ReferencesRestInRuns};
 ghost use Rattle.ev_rest_laws.specs.Rest.{FollowedBreaksStayBroken};
@@ -59,4 +60,11 @@ pub fn notes_name_their_ends()
 /// one of the two vats of its link: what is of a third vat passes as a gift.
 pub fn notes_carry_their_ends()
     ensures { NotesCarryTheirEnds }
+{}
+
+/// Where each notice of a schedule stands behind a cut of the same two vats, which are not one: a
+/// note that is under way to a vat, on a link that is not cut, is about no name whose host the vat
+/// noticed, and none passes in it but as a gift.
+pub fn notes_name_nobody_noticed()
+    ensures { NotesNameNobodyNoticed }
 {}
