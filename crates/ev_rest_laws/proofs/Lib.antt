@@ -19,3 +19,8 @@ pub mod OwnTurns
 pub mod OwnArrive
 pub mod OwnRuns
 pub mod NotesRuns
+pub mod CareNotes
+pub mod CarryCare
+pub mod CarryArrive
+pub mod NotesLift
+pub mod NotesSpared

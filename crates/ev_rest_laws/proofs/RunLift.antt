@@ -13,7 +13,7 @@ use Rattle.ev_name_laws.proofs.Among.{length_end}
 use Rattle.ev_name_laws.proofs.Run.{Stands, Told, steps_stand, opens_stand}
 use Rattle.ev_rest_laws.proofs.Gentle.{AfterGives}
 
-put_at_or : (v : ℕ) (y : Vat Name) (xs : List (Vat Name)) (u : ℕ) (t : Vat Name) → slice_get (put_at v y xs) u ≡ Some t → ((u ≡ v) × (y ≡ t)) ⊎ (slice_get xs u ≡ Some t)
+pub put_at_or : (v : ℕ) (y : Vat Name) (xs : List (Vat Name)) (u : ℕ) (t : Vat Name) → slice_get (put_at v y xs) u ≡ Some t → ((u ≡ v) × (y ≡ t)) ⊎ (slice_get xs u ≡ Some t)
 unfolding put_at
 put_at_or v y [] u t e = inr e
 put_at_or zero y (x ∷ xs) zero t e = let same : y ≡ t = cc in inl (refl, same)

@@ -6,6 +6,8 @@ ghost use Rattle.ev_rest_laws.specs.Rest.{ViewsWaitInRuns};
 ghost use Rattle.ev_rest_laws.specs.Cuts.{NoticedLinksAreCut};
 ghost use Rattle.ev_rest_laws.specs.Own.{WhatAVatHasIsItsOwn};
 ghost use Rattle.ev_rest_laws.specs.Notes.{NotesNameTheirEnds};
+ghost use Rattle.ev_rest_laws.specs.Notes.{NotesCarryTheirEnds};
+ghost use Rattle.ev_rest_laws.specs.Notes.{NotesNameNobodyNoticed};
 ghost use Rattle.ev_rest_laws.specs.Rest.{ViewsEndInRuns};
 ghost use Rattle.ev_rest_laws.specs.Rest.{ReferencesRestInRuns};
 ghost use Rattle.ev_rest_laws.specs.Rest.{FollowedBreaksStayBroken};
@@ -52,4 +54,17 @@ pub fn what_a_vat_has_is_its_own()
 /// these, asks only for these, and asks only of these that they be shortened.
 pub fn notes_name_their_ends()
     ensures { NotesNameTheirEnds }
+{}
+
+/// Each name that passes in a note, in an argument of a message or in what a name settled to, is of
+/// one of the two vats of its link: what is of a third vat passes as a gift.
+pub fn notes_carry_their_ends()
+    ensures { NotesCarryTheirEnds }
+{}
+
+/// Where each notice of a schedule stands behind a cut of the same two vats, which are not one: a
+/// note that is under way to a vat, on a link that is not cut, is about no name whose host the vat
+/// noticed, and none passes in it but as a gift.
+pub fn notes_name_nobody_noticed()
+    ensures { NotesNameNobodyNoticed }
 {}
