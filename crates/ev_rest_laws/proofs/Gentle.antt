@@ -213,6 +213,10 @@ quiet_ends R s (Stops c t) q h = tt
 pub leads_gentle : {N A : Type 0} (R : Vat N → Vat N → Type 0) (m : Act N A) → Quiet m → Gentle R m → Leads Any R m
 leads_gentle R m q h = record { after = λ s. quiet_ends R s (m s) (q.ends s) (h.after s) }
 
+-- so it does from one state
+pub leads_at : {N A : Type 0} (R : Vat N → Vat N → Type 0) (m : Act N A) → Quiet m → (s : Vat N) → GivesBy R s (m s) → Ends Any R s (m s)
+leads_at R m q s h = quiet_ends R s (m s) (q.ends s) h
+
 ends_give : {N A : Type 0} (R : Vat N → Vat N → Type 0) (s : Vat N) (d : Done N A) → Ends Any R s d → GivesBy R s d
 ends_give R s (Gives a t) h = h
 ends_give R s (Throws p t) h = tt

@@ -20,7 +20,9 @@ use Rattle.ev_fate_laws.proofs.RunWell.{runs_stay_well}
 use Rattle.ev_rest_laws.specs.Views.{ViewsWait}
 use Rattle.ev_rest_laws.specs.Rest.{ViewsEndInRuns, HostsRest, ReferencesRest, ReferencesRestInRuns, FollowedBreaksStayBroken}
 use Rattle.ev_rest_laws.proofs.ViewsMade.{same_is}
+use Rattle.ev_rest_laws.specs.Hosts.{VatsRestInRuns, BreaksStayBroken}
 use Rattle.ev_rest_laws.proofs.ViewsRuns.{views_wait_in_runs}
+use Rattle.ev_rest_laws.proofs.HostsRuns.{hosts_rest_in_runs}
 use Rattle.ev_rest_laws.proofs.Ends.{views_end, Final, SettledFinal, pends, following_ends}
 
 -- ---- what settled, settled for good
@@ -111,3 +113,13 @@ followed_broken script once w y x es fs k l opened stepped more v s e =
     let all : (w z : World) (gs : List Entry) (n : ℕ) → world.open_from script zero script.vats (world.begins script) ≡ Goes w → world.steps_from script gs n w ≡ Goes z → (u : ℕ) (r : Vat Name) → slice_get z.vats u ≡ Some r → ReferencesRest (names script u) r = (references_rest script once).1 in
     let stands : Stands script x = steps_stand script fs l y x (steps_stand script es k w y (opened_stands script once script.vats [] w (sym (append-nil script.vats)) opened) stepped) more in
     (a.0, a.1, λ hosts z p i. a.2 (whole_rest (names script v) s hosts (all w y es k opened stepped v s e)) (far script x stands v a.0 a.1) z p i)
+
+pub vats_rest : VatsRestInRuns
+vats_rest script once = (
+  λ ps rest w e i v s j. whole_rest (names script v) s ((hosts_rest_in_runs script once).0 ps rest w e i v s j) ((references_rest script once).0 ps rest w e i v s j),
+  λ w x es k f e i v s j. whole_rest (names script v) s ((hosts_rest_in_runs script once).1 w x es k f e i v s j) ((references_rest script once).1 w x es k e i v s j),
+)
+
+pub breaks_stay : BreaksStayBroken
+breaks_stay script once w y x es fs k l follow opened stepped more v s e =
+    let a = followed_broken script once w y x es fs k l opened stepped more v s e in (a.0, a.1, λ z p i. a.2 ((hosts_rest_in_runs script once).1 w y es k follow opened stepped v s e) z p i)

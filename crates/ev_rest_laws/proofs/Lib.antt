@@ -1,4 +1,5 @@
 pub mod Entries
+pub mod Wakes
 pub mod Gentle
 pub mod Settles
 pub mod RefsGentle
@@ -13,7 +14,8 @@ pub mod NoticedRuns
 pub mod RunLift
 pub mod ViewsRuns
 pub mod Ends
-pub mod Laws
+pub mod TurnOpens
+pub mod NameSettles
 pub mod OwnKeeps
 pub mod OwnTurns
 pub mod OwnArrive
@@ -24,3 +26,6 @@ pub mod CarryCare
 pub mod CarryArrive
 pub mod NotesLift
 pub mod NotesSpared
+pub mod HostsSteps
+pub mod HostsRuns
+pub mod Laws

@@ -2,10 +2,10 @@
 use Rattle.std.proofs.Common.{◌≡◌, ℕ, Bool, true, false, List, [], ◌∷◌, ◌++◌, Option, Some, None, refl, ◌∙◌}
 use Rattle.std.specs.Prelude.{slice_get}
 use Rattle.ev_machine.specs.Values.{Name}
-use Rattle.ev_machine.specs.State.{Message, Note, Put, Vat, Done, Gives, Throws, Ejects, Stops}
+use Rattle.ev_machine.specs.State.{Message, Note, Put, Vat, Done, Gives, Throws, Ejects, Stops, Act}
 use Rattle.ev_machine.specs.Arrive.{notice}
 use Rattle.ev_run.specs.World as world
-use Rattle.ev_run.specs.World.{Script, Entry, Turn, Carry, CutLink, NoticeLink, Event, Turned, Idle, Carried, NoticedAt, Link, World, Goes as Going, names, put_at}
+use Rattle.ev_run.specs.World.{Script, Program, Opens, Entry, Turn, Carry, CutLink, NoticeLink, Event, Turned, Idle, Carried, NoticedAt, Link, World, Goes as Going, names, put_at}
 use Rattle.ev_rest_laws.specs.Cuts.{IsCutThere}
 
 going_is : (w x : World) → Going w ≡ Going x → w ≡ x
@@ -145,6 +145,15 @@ module _ (v u : ℕ) where
     cut_cut : (k a b : ℕ) (w x : World) → IsCutThere v u w.links → world.cut script k a b w ≡ Going x → IsCutThere v u x.links
     unfolding world.cut
     cut_cut k a b w x h e = moved _ x (stays_cut world.severed_link fits_severed b a (world.with_link world.severed_link a b w.links) (stays_cut world.severed_link fits_severed a b w.links h)) e
+
+    within_cut : (a n : ℕ) (head : List Event) (m : Act Name (Unit {0})) (w x : World) (o : Option (Vat Name)) → IsCutThere v u w.links → world.within a w head n m o ≡ Going x → IsCutThere v u x.links
+    unfolding world.within
+    within_cut a n head m w x None h e = cc
+    within_cut a n head m w x (Some s) h e = put_back_cut w x a head n _ h e
+
+    pub open_cut : (a : ℕ) (p : Program) (w x : World) → IsCutThere v u w.links → world.open_vat script a p w ≡ Going x → IsCutThere v u x.links
+    unfolding world.open_vat
+    open_cut a p w x h e = within_cut a a (Opens a ∷ []) _ w x (slice_get w.vats a) h e
 
     pub step_cut : (entry : Entry) (k : ℕ) (w x : World) → IsCutThere v u w.links → world.step script entry k w ≡ Going x → IsCutThere v u x.links
     unfolding world.step

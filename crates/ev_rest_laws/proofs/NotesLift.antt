@@ -219,7 +219,7 @@ module _ (script : Script) (P : ℕ → Vat Name → Type 0) (B : ℕ → ℕ �
     unfolding world.steps_from
     one_step entry k w y e = then_once (world.step script entry k w) (λ z. Going z) y e refl
 
-    step_all : (entry : Entry) (k : ℕ) (w y : World) → IsAllowed Allowed entry → All w → world.step script entry k w ≡ Going y → All y
+    pub step_all : (entry : Entry) (k : ℕ) (w y : World) → IsAllowed Allowed entry → All w → world.step script entry k w ≡ Going y → All y
     step_all entry k w y ok h e = (steps_stand script (entry ∷ []) k w y h.0 (one_step entry k w y e), law.step_on entry k w y h.0 h.1 ok e, step_fits entry k w y h.0 h.1 ok h.2 e)
 
     pub steps_all : (es : List Entry) (k : ℕ) (w x : World) → AllOf (IsAllowed Allowed) es → All w → world.steps_from script es k w ≡ Going x → All x

@@ -95,7 +95,7 @@ module _ (script : Script) where
   both_all P Q [] h k = tt
   both_all P Q (x ∷ xs) h k = ((h.0, k.0), both_all P Q xs h.1 k.1)
 
-  its_keep : NotesKeep script Its OfNotes Ever (Any script)
+  pub its_keep : NotesKeep script Its OfNotes Ever (Any script)
   its_keep = record {
     turn = λ w v s m ms g j i q h. both_give v _ ((own_keep script).turn w v s m ms g i q h.0) (turn_carries w v s m ms g i q);
     note = λ w from v s n g j i ok b o h. both_give v _ ((own_keep script).note w from v s n g i (note_up (Told script w) (IsMade w.vats (length w.drawn)) (λ b k. k.0) n ok) h.0) (note_carries w from v s n g i ok);
@@ -118,7 +118,7 @@ module _ (script : Script) where
   none_out v s e = rw e tt
 
   module _ (once : (v : ℕ) (p : Program) → slice_get script.vats v ≡ Some p → Once (v ∷ p.knows)) where
-    begins_all : lift.All script Its OfNotes Ever (Any script) (world.begins script)
+    pub begins_all : lift.All script Its OfNotes Ever (Any script) (world.begins script)
     unfolding world.begins
     begins_all = (begins_stand script once, tt, ((λ v s i. (begins_own script v s i, none_out v s (fresh_carries zero script.vats v s i))), links_from_fit OfNotes script.vats zero script.vats))
 

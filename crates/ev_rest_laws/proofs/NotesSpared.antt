@@ -11,11 +11,11 @@ use Rattle.ev_rest_laws.proofs.NotesLift.{At, found_fits}
 use Rattle.ev_rest_laws.proofs.NotesRuns.{OfNotes, stepped_all, links_of}
 use Rattle.ev_rest_laws.proofs.NoticedRuns.{noticed_links_cut}
 
-not_true : (b : Bool) → (b ≡ true → ⊥) → b ≡ false
+pub not_true : (b : Bool) → (b ≡ true → ⊥) → b ≡ false
 not_true true f = absurd (f refl)
 not_true false f = refl
 
-true_false : (b : Bool) → b ≡ true → b ≡ false → ⊥
+pub true_false : (b : Bool) → b ≡ true → b ≡ false → ⊥
 true_false b e f = cc
 
 -- neither the receiver nor the sender was noticed by the receiver
@@ -48,7 +48,7 @@ module _ (u v : ℕ) (s : Vat Name) (near : is_in v s.noticed ≡ false) (far : 
     all_spared NoMore h = tt
     all_spared (More y ys) h = (passes_spared y h.0, all_spared ys h.1)
 
-  note_spared : (n : Note Name) → IsBetween u v n → Carries u v n → NoteSpared s n
+  pub note_spared : (n : Note Name) → IsBetween u v n → Carries u v n → NoteSpared s n
   note_spared (Deliver m n verb ys) h k = (of_receiver n h, all_spared ys k)
   note_spared (Open i n) h k = of_receiver n h
   note_spared (Ask p i n) h k = of_receiver n h

@@ -42,20 +42,20 @@ module _ (script : Script) (Sure : ℕ → ℕ → Type 0) where
 
 module _ (script : Script) where
   -- the two are not one, and the links between them are cut
-  abbrev Sure : World → ℕ → ℕ → Type 0
+  abbrev pub Sure : World → ℕ → ℕ → Type 0
   Sure w v u = (v ≡ u → ⊥) × IsCutThere v u w.links × IsCutThere u v w.links
 
   -- how a world stands after these entries
-  record Cut (done : List Entry) (w : World) : Type 0 where
-    stands : Stands script w
-    noticed : InVats script (AllSure script (Sure w)) (Sure w) w
-    cut : (v u : ℕ) → IsAmong (CutLink v u) done → IsCutThere v u w.links × IsCutThere u v w.links
+  pub record Cut (done : List Entry) (w : World) : Type 0 where
+    pub stands : Stands script w
+    pub noticed : InVats script (AllSure script (Sure w)) (Sure w) w
+    pub cut : (v u : ℕ) → IsAmong (CutLink v u) done → IsCutThere v u w.links × IsCutThere u v w.links
 
-  either_cut : (done : List Entry) (w : World) → Cut done w → (v u : ℕ) → IsCutAmong v u done → IsCutThere v u w.links × IsCutThere u v w.links
+  pub either_cut : (done : List Entry) (w : World) → Cut done w → (v u : ℕ) → IsCutAmong v u done → IsCutThere v u w.links × IsCutThere u v w.links
   either_cut done w h v u (inl i) = h.cut v u i
   either_cut done w h v u (inr i) = let both = h.cut u v i in (both.1, both.0)
 
-  sure_on : (entry : Entry) (k : ℕ) (w x : World) → world.step script entry k w ≡ Going x → (v u : ℕ) → Sure w v u → Sure x v u
+  pub sure_on : (entry : Entry) (k : ℕ) (w x : World) → world.step script entry k w ≡ Going x → (v u : ℕ) → Sure w v u → Sure x v u
   sure_on entry k w x e v u h = (h.0, step_cut v u script entry k w x h.1 e, step_cut u v script entry k w x h.2 e)
 
   sure_vats : (entry : Entry) (k : ℕ) (w x : World) → world.step script entry k w ≡ Going x → InVats script (AllSure script (Sure w)) (Sure w) x → InVats script (AllSure script (Sure x)) (Sure x) x
@@ -79,14 +79,14 @@ module _ (script : Script) where
   cuts_on entry done k w x h e v u (inl i) = same_entry v u entry k w x i e
   cuts_on entry done k w x h e v u (inr i) = let both = h.cut v u i in (step_cut v u script entry k w x both.0 e, step_cut u v script entry k w x both.1 e)
 
-  cut_step : (entry : Entry) (done : List Entry) (k : ℕ) (w x : World) → Cut done w → IsAllowed (Sure w) entry → world.step script entry k w ≡ Going x → Cut (entry ∷ done) x
+  pub cut_step : (entry : Entry) (done : List Entry) (k : ℕ) (w x : World) → Cut done w → IsAllowed (Sure w) entry → world.step script entry k w ≡ Going x → Cut (entry ∷ done) x
   cut_step entry done k w x h ok e = record {
     stands = step_stands script (AllSure script (Sure w)) (Sure w) (noticed_sure script (Sure w)) entry k w x h.stands e;
     noticed = sure_vats entry k w x e (step_keeps script (AllSure script (Sure w)) (Sure w) (noticed_sure script (Sure w)) entry k w x h.stands ok h.noticed e);
     cut = cuts_on entry done k w x h e;
   }
 
-  then_cut : (P : Type 0) (x : World) (r : Run) (f : World → Run) → ((y : World) → r ≡ Going y → f y ≡ Going x → P) → world.then_goes r f ≡ Going x → P
+  pub then_cut : (P : Type 0) (x : World) (r : Run) (f : World → Run) → ((y : World) → r ≡ Going y → f y ≡ Going x → P) → world.then_goes r f ≡ Going x → P
   unfolding world.then_goes
   then_cut P x (Going y) f g e = g y refl e
   then_cut P x (Stopped c n y) f g e = cc
@@ -109,16 +109,16 @@ module _ (script : Script) where
   unfolding is_in
   not_noticed u e = cc
 
-  fresh_noticed : (u : ℕ) (ps : List Program) (n : ℕ) (s : Vat Name) → slice_get (world.fresh_from script u ps) n ≡ Some s → s.noticed ≡ []
+  pub fresh_noticed : (u : ℕ) (ps : List Program) (n : ℕ) (s : Vat Name) → slice_get (world.fresh_from script u ps) n ≡ Some s → s.noticed ≡ []
   unfolding world.fresh_from world.fresh
   fresh_noticed u [] n s e = cc
   fresh_noticed u (p ∷ ps) zero s e = cc
   fresh_noticed u (p ∷ ps) (suc n) s e = fresh_noticed (suc u) ps n s e
 
-  abbrev Never : ℕ → ℕ → Type 0
+  abbrev pub Never : ℕ → ℕ → Type 0
   Never v u = ⊥
 
-  begins_noticed : InVats script (AllSure script Never) Never (world.begins script)
+  pub begins_noticed : InVats script (AllSure script Never) Never (world.begins script)
   unfolding world.begins
   begins_noticed v s e u i = not_noticed u (rw (fresh_noticed zero script.vats v s e) at i)
 
@@ -130,7 +130,7 @@ module _ (script : Script) where
     opened_noticed : (w : World) → world.open_from script zero script.vats (world.begins script) ≡ Going w → InVats script (AllSure script Never) Never w
     opened_noticed w e = opens_keep script (AllSure script Never) Never (noticed_sure script Never) [] script.vats [] (world.begins script) w (sym (append-nil script.vats)) begins_stand begins_noticed e
 
-    opened_cut : (w : World) → world.open_from script zero script.vats (world.begins script) ≡ Going w → Cut [] w
+    pub opened_cut : (w : World) → world.open_from script zero script.vats (world.begins script) ≡ Going w → Cut [] w
     opened_cut w e = record {
       stands = opened_stands script once script.vats [] w (sym (append-nil script.vats)) e;
       noticed = λ v s i u j. absurd (opened_noticed w e v s i u j);

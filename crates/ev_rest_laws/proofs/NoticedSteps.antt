@@ -79,10 +79,10 @@ module _ {N W : Type 0} (K : Naming N W) where
 
   -- ---- the notice
 
-  breakings : ℕ → Act N (Unit {0})
+  unfoldable pub breakings : ℕ → Act N (Unit {0})
   breakings w = look (λ s. s.known) >>= (λ names. each (arrive.notice_name K w) names >> (look (λ s. s.gifts) >>= (λ gifts. each (arrive.notice_gift K w) gifts)))
 
-  same_breakings : (w : ℕ) → Gentle SameNoticed (breakings w)
+  pub same_breakings : (w : ℕ) → Gentle SameNoticed (breakings w)
   unfolding breakings
   same_breakings w = search (gentle, gentle_notice_name, gentle_notice_gift, law, block) depth 14
 
@@ -98,7 +98,7 @@ module _ {N W : Type 0} (K : Naming N W) where
   in_last true u w f e = f refl
   in_last false u w f e = cc
 
-  in_append : (u w : ℕ) (xs : List ℕ) → is_in u (xs ++ w ∷ []) ≡ true → (is_in u xs ≡ true) ⊎ (u ≡ w)
+  pub in_append : (u w : ℕ) (xs : List ℕ) → is_in u (xs ++ w ∷ []) ≡ true → (is_in u xs ≡ true) ⊎ (u ≡ w)
   unfolding is_in
   in_append u w [] e = inr (in_last (u == w) u w (eqb-true u w) e)
   in_append u w (x ∷ xs) e = in_head (u == x) u w x xs (xs ++ w ∷ []) (eqb-true u x) (in_append u w xs) e

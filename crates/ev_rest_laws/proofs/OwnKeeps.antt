@@ -1,20 +1,22 @@
 -- All that a vat does with references leaves what it has its own, and what it puts about a name of the two vats.
-use Rattle.std.proofs.Common.{◌≡◌, ℕ, zero, suc, Bool, true, false, List, [], ◌∷◌, ◌++◌, Option, Some, None, refl, sym, ap, ◌∙◌, if◌then◌else◌, ◌==◌, ◌⊎◌, inl, inr}
+use Rattle.std.proofs.Common.{◌≡◌, ℕ, zero, suc, Bool, true, false, List, [], ◌∷◌, ◌++◌, Option, Some, None, refl, sym, ap, ◌∙◌, if◌then◌else◌, ◌==◌, ◌⊎◌, inl, inr, length, codes}
 use Rattle.std.specs.Prelude.{nat_le}
 use Rattle.std.proofs.lemmas.Bool.{eqb-true, eq-eqb}
 use Rattle.ev_machine.specs.Values.{Value, Null, Flag, Number, Letter, Text, Prim, Broken, Items, Ref, Name, Root, Object, Sent, Answer, Promise, Gift, host_of, same_name, Naming, naming, name_of, answer_of, spot_of, Spot, Own as OwnThing, Foreign, NoObject, IsAnswer}
-use Rattle.ev_machine.specs.State.{Message, Happened, Standing, Unsettled, WaitsOn, Viewed, Settled, Known, Change, Hold, Wait, WaitOn, See, React, ToTell, Settle, Passed, Passeds, Plain, AGift, Many, NoMore, More, Open, Note, Deliver, SettledTo, Elsewhere, Put, Vat, Stop, Done, Gives, Throws, Ejects, Stops, Act, ◌>>=◌, ◌>>◌, and_then, each, give, stop, look, tell, spend, spent, enqueue, send_out, draws, draw, with_change, with_vat, changed, changed_to, alter, come, begun}
+use Rattle.ev_machine.specs.State.{Message, Happened, Standing, Unsettled, WaitsOn, Viewed, Settled, Known, Change, Hold, Wait, WaitOn, See, React, ToTell, Settle, Passed, Passeds, Plain, AGift, Many, NoMore, More, Open, Note, Deliver, SettledTo, Elsewhere, Put, Vat, Stop, Done, Gives, Throws, Ejects, Stops, Act, ◌>>=◌, ◌>>◌, and_then, each, give, stop, look, tell, spend, spent, enqueue, send_out, draws, draw, with_change, with_vat, changed, changed_to, alter, come, begun, is_in, Waits}
 use Rattle.ev_machine.specs.Refs as refs
-use Rattle.ev_machine.specs.Refs.{Place, Near, Mine, Away, Gone, entry_of, host_at, host_in, place, spotted, hosted}
+use Rattle.ev_machine.specs.Refs.{Place, Near, Mine, Away, Gone, entry_of, standing_of, host_at, host_in, place, spotted, hosted}
 use Rattle.ev_name_laws.specs.Names.{AllOf, IsAmong, IsMessageName, IsEventual, IsKnownIn, names_in}
 use Rattle.ev_name_laws.proofs.Facts.{all_end}
 use Rattle.ev_rest_laws.specs.Own.{IsOwnMail, IsOwnKnown, IsOwnGift}
 use Rattle.ev_rest_laws.specs.Notes.{IsBetween}
 use Rattle.ev_rest_laws.proofs.Entries.{unless_either}
+use Rattle.ev_machine_laws.proofs.BreakLaws.{nothing_of}
 use Rattle.ev_rest_laws.proofs.Gentle.{GivesBy, Gentle}
+use Rattle.ev_rest_laws.proofs.Wakes.{Wakes, wakes_on, hold_wakes, react_wakes, wait_wakes, tell_wakes, see_wakes, settle_wakes, free_wait_wakes, open_wait_wakes, came_wakes}
 use Rattle.ev_name_laws.proofs.SameNames.{same_is, same_self}
 
-module _ (word : ℕ → ℕ) (v : ℕ) where
+module _ (word : ℕ → ℕ) (v : ℕ) (Spares : ℕ → Type 0) where
   abbrev Names : Naming Name Name
   Names = naming word v
 
@@ -24,15 +26,23 @@ module _ (word : ℕ → ℕ) (v : ℕ) where
 
   -- what the vat has is its own, and each note that it puts is about a name of the two vats
   abbrev pub Whole : Vat Name → Type 0
-  Whole s = (s.number ≡ v) × AllOf (IsOwnMail v) s.queue × AllOf (IsOwnKnown v) s.known × AllOf (IsOwnGift v) s.gifts × AllOf IsOwnPut s.outbox
+  Whole s = (s.number ≡ v) × AllOf (IsOwnMail v) s.queue × AllOf (IsOwnKnown v) s.known × AllOf (IsOwnGift v) s.gifts × AllOf IsOwnPut s.outbox × ((h : ℕ) → is_in h s.noticed ≡ false → Spares h)
+
+  -- a name of a host that is spared, or of the vat
+  abbrev pub IsFree : Name → Type 0
+  IsFree n = (host_of n ≡ v) ⊎ Spares (host_of n)
+
+  -- which names wait after it
+  abbrev pub Woken : Vat Name → Vat Name → Type 0
+  Woken s t = Wakes word v IsFree s.known t.known
 
   abbrev pub KeepsOwn : Vat Name → Vat Name → Type 0
-  KeepsOwn s t = Whole s → Whole t
+  KeepsOwn s t = Whole s → Whole t × Woken s t
 
   -- ---- one thing after another
 
   pub widen : {A : Type 0} (s t : Vat Name) (d : Done Name A) → KeepsOwn s t → GivesBy KeepsOwn t d → GivesBy KeepsOwn s d
-  widen s t (Gives a u) r h = λ o. h (r o)
+  widen s t (Gives a u) r h = λ o. let b = r o in let c = h b.0 in (c.0, wakes_on word v IsFree s.known t.known u.known b.1 c.1)
   widen s t (Throws p u) r h = tt
   widen s t (Ejects n y u) r h = tt
   widen s t (Stops c u) r h = tt
@@ -58,7 +68,7 @@ module _ (word : ℕ → ℕ) (v : ℕ) where
 
   pub own_give : {A : Type 0} (a : A) → Gentle KeepsOwn (give a)
   unfolding give
-  own_give a = record { after = λ s o. o }
+  own_give a = record { after = λ s o. (o, λ n w. inl w) }
 
   pub own_stop : {A : Type 0} (c : Stop) → Gentle KeepsOwn (stop {A = A} c)
   unfolding stop
@@ -66,15 +76,15 @@ module _ (word : ℕ → ℕ) (v : ℕ) where
 
   pub own_look : {A : Type 0} (f : Vat Name → A) → Gentle KeepsOwn (look f)
   unfolding look
-  own_look f = record { after = λ s o. o }
+  own_look f = record { after = λ s o. (o, λ n w. inl w) }
 
   pub own_tell : (e : Happened Name) → Gentle KeepsOwn (tell e)
   unfolding tell
-  own_tell e = record { after = λ s o. o }
+  own_tell e = record { after = λ s o. (o, λ n w. inl w) }
 
   spend_gives : (s : Vat Name) (n : ℕ) (b : Bool) → GivesBy KeepsOwn s (spent n b s)
   unfolding spent
-  spend_gives s n true = λ o. o
+  spend_gives s n true = λ o. (o, λ m w. inl w)
   spend_gives s n false = tt
 
   pub own_spend : (n : ℕ) → Gentle KeepsOwn (spend n)
@@ -83,12 +93,12 @@ module _ (word : ℕ → ℕ) (v : ℕ) where
 
   pub own_out : (to : ℕ) (n : Note Name) → IsBetween v to n → Gentle KeepsOwn (send_out to n)
   unfolding send_out
-  own_out to n h = record { after = λ s o. (o.0, o.1, o.2, o.3, all_end IsOwnPut s.outbox (record { to = to; note = n }) o.4 h) }
+  own_out to n h = record { after = λ s o. ((o.0, o.1, o.2, o.3, all_end IsOwnPut s.outbox (record { to = to; note = n }) o.4 h, o.5), λ m w. inl w) }
 
   draws_give : (s : Vat Name) (w : ℕ) (o : Option ℕ) → GivesBy KeepsOwn s (draws w o s)
   unfolding draws
   draws_give s w (Some i) = tt
-  draws_give s w None = λ o. o
+  draws_give s w None = λ o. (o, λ m i. inl i)
 
   pub own_draw : Gentle KeepsOwn (draw Names)
   unfolding draw
@@ -106,7 +116,7 @@ module _ (word : ℕ → ℕ) (v : ℕ) where
 
   pub own_enqueue : (m : Message Name) → IsOwnMail v m → Gentle KeepsOwn (enqueue m)
   unfolding enqueue
-  own_enqueue m h = record { after = λ s o. (o.0, all_end (IsOwnMail v) s.queue m o.1 h, o.2, o.3, o.4) }
+  own_enqueue m h = record { after = λ s o. ((o.0, all_end (IsOwnMail v) s.queue m o.1 h, o.2, o.3, o.4, o.5), λ n w. inl w) }
 
   -- where what is kept of the state is asked for
   pub with_own : {A : Type 0} (s : Vat Name) (d : Done Name A) → (Whole s → GivesBy KeepsOwn s d) → GivesBy KeepsOwn s d
@@ -138,33 +148,33 @@ module _ (word : ℕ → ℕ) (v : ℕ) where
       (λ e. changed_own c k0 h.0 (f k0 (pick_one (Names.same k0.name n) k0 (entry_of Names ks n) e) h.0))
       (λ e. all_changed c n ks h.1 (λ k i. f k (pick_rest (Names.same k0.name n) k0 (entry_of Names ks n) e ∙ i)))
 
-  altered : (c : Change Name) (n : Name) → ((k : Known Name) → IsOwnKnown v k → IsOwnKnown v (changed_to c k)) → Gentle KeepsOwn (alter Names c n)
+  altered : (c : Change Name) (n : Name) → ((k : Known Name) → IsOwnKnown v k → IsOwnKnown v (changed_to c k)) → ((ks : List (Known Name)) → Wakes word v IsFree ks (with_change Names c n ks)) → Gentle KeepsOwn (alter Names c n)
   unfolding alter
-  altered c n f = record { after = λ s o. (o.0, o.1, all_changed c n s.known o.2 (λ k e. f k), o.3, o.4) }
+  altered c n f g = record { after = λ s o. ((o.0, o.1, all_changed c n s.known o.2 (λ k e. f k), o.3, o.4, o.5), g s.known) }
 
   pub own_hold : (m : Message Name) (n : Name) → IsOwnMail v m → Gentle KeepsOwn (alter Names (Hold m) n)
   unfolding changed_to
-  own_hold m n h = altered (Hold m) n (λ k i. (i.0, all_end (IsOwnMail v) k.held m i.1 h, i.2, i.3))
+  own_hold m n h = altered (Hold m) n (λ k i. (i.0, all_end (IsOwnMail v) k.held m i.1 h, i.2, i.3)) (hold_wakes word v IsFree m n)
 
   pub own_react : (m : Message Name) (n : Name) → IsOwnMail v m → Gentle KeepsOwn (alter Names (React m) n)
   unfolding changed_to
-  own_react m n h = altered (React m) n (λ k i. (i.0, i.1, all_end (IsOwnMail v) k.reactions m i.2 h, i.3))
+  own_react m n h = altered (React m) n (λ k i. (i.0, i.1, all_end (IsOwnMail v) k.reactions m i.2 h, i.3)) (react_wakes word v IsFree m n)
 
   pub own_wait : (q n : Name) → Gentle KeepsOwn (alter Names (Wait q) n)
   unfolding changed_to
-  own_wait q n = altered (Wait q) n (λ k i. i)
+  own_wait q n = altered (Wait q) n (λ k i. i) (wait_wakes word v IsFree q n)
 
-  pub own_wait_on : (q n : Name) → Gentle KeepsOwn (alter Names (WaitOn q) n)
+  pub own_wait_on : (q n : Name) → IsFree n → Gentle KeepsOwn (alter Names (WaitOn q) n)
   unfolding changed_to
-  own_wait_on q n = altered (WaitOn q) n (λ k i. i)
+  own_wait_on q n f = altered (WaitOn q) n (λ k i. i) (λ ks. free_wait_wakes word v IsFree q n ks f)
 
   pub own_view : (q n : Name) → Gentle KeepsOwn (alter Names (See q) n)
   unfolding changed_to
-  own_view q n = altered (See q) n (λ k i. i)
+  own_view q n = altered (See q) n (λ k i. i) (see_wakes word v IsFree q n)
 
   pub own_settled : (y : Value Name) (n : Name) → Gentle KeepsOwn (alter Names (Settle y) n)
   unfolding changed_to
-  own_settled y n = altered (Settle y) n (λ k i. (i.0, tt, tt, tt))
+  own_settled y n = altered (Settle y) n (λ k i. (i.0, tt, tt, tt)) (settle_wakes word v IsFree y n)
 
   vat_added : (b : Bool) (P : ℕ → Type 0) (w : ℕ) (ws : List ℕ) → AllOf P ws → P w → AllOf P (elim b [ true ↦ ws | false ↦ ws ++ w ∷ [] ])
   vat_added true P w ws h i = h
@@ -178,7 +188,7 @@ module _ (word : ℕ → ℕ) (v : ℕ) where
   entry_head true k0 k n o f e g = let same : k0 ≡ k = cc in ap (λ (x : Known Name). x.name) (sym same) ∙ f refl
   entry_head false k0 k n o f e g = g e
 
-  entry_name : (ks : List (Known Name)) (n : Name) (k : Known Name) → entry_of Names ks n ≡ Some k → k.name ≡ n
+  pub entry_name : (ks : List (Known Name)) (n : Name) (k : Known Name) → entry_of Names ks n ≡ Some k → k.name ≡ n
   unfolding entry_of naming
   entry_name [] n k e = cc
   entry_name (k0 ∷ ks) n k e = entry_head (Names.same k0.name n) k0 k n (entry_of Names ks n) (same_is k0.name n) e (λ h. entry_name ks n k h)
@@ -186,12 +196,12 @@ module _ (word : ℕ → ℕ) (v : ℕ) where
   -- a name that the vat hosts, of which another is to be told
   pub own_to_tell : (w : ℕ) (n : Name) → host_of n ≡ v → Gentle KeepsOwn (alter Names (ToTell w) n)
   unfolding alter
-  own_to_tell w n e = record { after = λ s o. (o.0, o.1, all_changed (ToTell w) n s.known o.2 (λ k i. told_own w k (ap host_of (entry_name s.known n k i) ∙ e)), o.3, o.4) }
+  own_to_tell w n e = record { after = λ s o. ((o.0, o.1, all_changed (ToTell w) n s.known o.2 (λ k i. told_own w k (ap host_of (entry_name s.known n k i) ∙ e)), o.3, o.4, o.5), tell_wakes word v IsFree w n s.known) }
 
   -- or that it has as its own
   mine_told : (w : ℕ) (n : Name) (s : Vat Name) → host_at Names s.number s.known n ≡ s.number → GivesBy KeepsOwn s (alter Names (ToTell w) n s)
   unfolding alter host_at host_in
-  mine_told w n s e = λ o. (o.0, o.1, all_changed (ToTell w) n s.known o.2 (λ k i h. told_own w k (sym h.0 ∙ hosted_here k i ∙ o.0) h), o.3, o.4)
+  mine_told w n s e = λ o. ((o.0, o.1, all_changed (ToTell w) n s.known o.2 (λ k i h. told_own w k (sym h.0 ∙ hosted_here k i ∙ o.0) h), o.3, o.4, o.5), tell_wakes word v IsFree w n s.known)
     where
       hosted_here : (k : Known Name) → entry_of Names s.known n ≡ Some k → k.host ≡ s.number
       hosted_here k i = rw i at e
@@ -200,7 +210,7 @@ module _ (word : ℕ → ℕ) (v : ℕ) where
   entry_own true k0 k o h e f = let same : k0 ≡ k = cc in rw same at h
   entry_own false k0 k o h e f = f e
 
-  found_own : (ks : List (Known Name)) (n : Name) (k : Known Name) → AllOf (IsOwnKnown v) ks → entry_of Names ks n ≡ Some k → IsOwnKnown v k
+  pub found_own : (ks : List (Known Name)) (n : Name) (k : Known Name) → AllOf (IsOwnKnown v) ks → entry_of Names ks n ≡ Some k → IsOwnKnown v k
   unfolding entry_of
   found_own [] n k h e = cc
   found_own (k0 ∷ ks) n k h e = entry_own (Names.same k0.name n) k0 k (entry_of Names ks n) h.0 e (λ i. found_own ks n k h.1 i)
@@ -256,19 +266,24 @@ module _ (word : ℕ → ℕ) (v : ℕ) where
 
   -- a place whose host, where it is away, is that of its name
   abbrev pub PlaceFits : Place Name → Type 0
-  PlaceFits (Away h n o) = host_of n ≡ h
+  PlaceFits (Away h n o) = (host_of n ≡ h) × Spares h
   PlaceFits Near = Unit {0}
   PlaceFits (Mine n) = Unit {0}
   PlaceFits (Gone t) = Unit {0}
 
-  fits_at : (s : Vat Name) (y : Value Name) (p : Place Name) → Whole s → place Names s y ≡ p → PlaceFits p
-  fits_at s y (Away h n o) w e = away_hosted s y n h o w e
-  fits_at s y Near w e = tt
-  fits_at s y (Mine n) w e = tt
-  fits_at s y (Gone t) w e = tt
+  not_true : (b : Bool) → (b ≡ true → ⊥) → b ≡ false
+  not_true true f = absurd (f refl)
+  not_true false f = refl
 
-  pub place_fits : (s : Vat Name) (y : Value Name) → Whole s → PlaceFits (place Names s y)
-  place_fits s y w = fits_at s y (place Names s y) w refl
+  fits_at : (s : Vat Name) (x : Value Name) (p : Place Name) → Whole s → place Names s (refs.follow Names s x) ≡ p → PlaceFits p
+  fits_at s x (Away h n o) w e = (away_hosted s (refs.follow Names s x) n h o w e, w.5 h (not_true (is_in h s.noticed) (λ i. nothing_of Names s h i x n o e)))
+  fits_at s x Near w e = tt
+  fits_at s x (Mine n) w e = tt
+  fits_at s x (Gone t) w e = tt
+
+  -- where a value is followed to
+  pub place_fits : (s : Vat Name) (x : Value Name) → Whole s → PlaceFits (place Names s (refs.follow Names s x))
+  place_fits s x w = fits_at s x (place Names s (refs.follow Names s x)) w refl
 
   no_same : (b : Bool) → b ≡ true → b ≡ false → ⊥
   no_same b e f = cc
@@ -382,22 +397,22 @@ module _ (word : ℕ → ℕ) (v : ℕ) where
   answer_hosted h (Answer w m) i = absurd i
   answer_hosted h (Gift w j) i = absurd i
 
-  pub own_answer : (h : ℕ) (m : Name) → IsMessageName m → Gentle KeepsOwn (come Names (IsAnswer h m) h)
+  pub own_answer : (h : ℕ) (m : Name) → IsMessageName m → Spares h → Gentle KeepsOwn (come Names (IsAnswer h m) h)
   unfolding come naming name_of
-  own_answer h m i = record { after = λ s o. (o.0, o.1, came_own s (answer_of h m) h (answer_hosted h m i) o, o.3, o.4) }
+  own_answer h m i f = record { after = λ s o. ((o.0, o.1, came_own s (answer_of h m) h (answer_hosted h m i) o, o.3, o.4, o.5), came_wakes word v IsFree s.known (answer_of h m) h (inr (rw (answer_hosted h m i) at f))) }
 
   -- ---- sending on and settling
 
   abbrev pub OwnSettler : (Name → Value Name → Act Name (Unit {0})) → Type 0
   OwnSettler settle = (p : Name) (y : Value Name) → Gentle KeepsOwn (settle p y)
 
-  own_wait_for : (p q : Name) → Gentle KeepsOwn (refs.wait_on Names p q)
+  own_wait_for : (p q : Name) → IsFree p → Gentle KeepsOwn (refs.wait_on Names p q)
   unfolding refs.wait_on
-  own_wait_for p q = own_then (own_tell _) (own_then (own_wait_on q p) (own_wait p q))
+  own_wait_for p q f = own_then (own_tell _) (own_then (own_wait_on q p f) (own_wait p q))
 
-  own_pass_on : (m : Message Name) (h : ℕ) (n : Name) → IsOwnMail v m → host_of n ≡ h → Gentle KeepsOwn (refs.pass_on Names m h n)
+  own_pass_on : (m : Message Name) (h : ℕ) (n : Name) → IsOwnMail v m → (host_of n ≡ h) × Spares h → Gentle KeepsOwn (refs.pass_on Names m h n)
   unfolding refs.pass_on
-  own_pass_on m h n i e = own_bind (own_answer h m.id i.0) (λ a. own_then (own_deliver m h n e) (own_wait_for m.answer a))
+  own_pass_on m h n i e = own_bind (own_answer h m.id i.0 e.1) (λ a. own_then (own_deliver m h n e.0) (own_wait_for m.answer a (inl i.1)))
 
   pub own_send_to : (settle : Name → Value Name → Act Name (Unit {0})) → OwnSettler settle → (m : Message Name) (y : Value Name) (p : Place Name) → IsOwnMail v m → PlaceFits p → Gentle KeepsOwn (refs.send_to Names settle m y p)
   unfolding refs.send_to
@@ -408,7 +423,7 @@ module _ (word : ℕ → ℕ) (v : ℕ) where
 
   pub own_send_on : (settle : Name → Value Name → Act Name (Unit {0})) → OwnSettler settle → (m : Message Name) → IsOwnMail v m → Gentle KeepsOwn (refs.send_on Names settle m)
   unfolding refs.send_on ◌>>=◌ look and_then
-  own_send_on settle good m i = record { after = λ s. with_own s _ (λ o. let y : Value Name = refs.follow Names s m.target in (own_send_to settle good m y (place Names s y) i (place_fits s y o)).after s) }
+  own_send_on settle good m i = record { after = λ s. with_own s _ (λ o. let y : Value Name = refs.follow Names s m.target in (own_send_to settle good m y (place Names s y) i (place_fits s m.target o)).after s) }
 
   own_told : (p : Name) (w : ℕ) (y : Value Name) → host_of p ≡ v → Gentle KeepsOwn (refs.pass Names w y >>= (λ z. send_out w (SettledTo p z)))
   own_told p w y e = own_bind (own_pass w y) (λ z. own_out w (SettledTo p z) e)
@@ -439,7 +454,7 @@ module _ (word : ℕ → ℕ) (v : ℕ) where
 
   gives_entry : (settle : Name → Value Name → Act Name (Unit {0})) → OwnSettler settle → (p : Name) (y : Value Name) (o : Option (Known Name)) (s : Vat Name) → entry_of Names s.known p ≡ o → GivesBy KeepsOwn s (refs.settle_entry Names settle p y o s)
   unfolding refs.settle_entry give
-  gives_entry settle good p y None s e = λ o. o
+  gives_entry settle good p y None s e = λ o. (o, λ n w. inl w)
   gives_entry settle good p y (Some k) s e = with_own s (refs.settle_standing Names settle p y k k.standing s) (λ o. (own_standing settle good p y k k.standing (entry_name s.known p k e) (found_own s.known p k o.2 e)).after s)
 
   own_settle_one : (settle : Name → Value Name → Act Name (Unit {0})) → OwnSettler settle → OwnSettler (refs.settle_one Names settle)
@@ -455,18 +470,49 @@ module _ (word : ℕ → ℕ) (v : ℕ) where
   unfolding refs.settle
   own_settle p y = own_bind (own_look _) (λ n. own_settle_at n p y)
 
-  own_wait_unless : (p q : Name) → Gentle KeepsOwn (refs.wait_unless_cycle Names p q)
+  own_wait_unless : (p q : Name) → IsFree p → Gentle KeepsOwn (refs.wait_unless_cycle Names p q)
   unfolding refs.wait_unless_cycle
-  own_wait_unless p q = own_bind (own_look _) (λ back. own_if back (own_settle p _) (own_wait_for p q))
+  own_wait_unless p q f = own_bind (own_look _) (λ back. own_if back (own_settle p _) (own_wait_for p q f))
 
-  own_resolve_to : (p : Name) (y : Value Name) (q : Place Name) → Gentle KeepsOwn (refs.resolve_to Names p y q)
+  own_resolve_to : (p : Name) (y : Value Name) (q : Place Name) → IsFree p → Gentle KeepsOwn (refs.resolve_to Names p y q)
   unfolding refs.resolve_to
-  own_resolve_to p y (Mine q) = own_wait_unless p q
-  own_resolve_to p y (Away h q false) = own_wait_unless p q
-  own_resolve_to p y (Away h q true) = own_settle p y
-  own_resolve_to p y Near = own_settle p y
-  own_resolve_to p y (Gone t) = own_settle p y
+  own_resolve_to p y (Mine q) f = own_wait_unless p q f
+  own_resolve_to p y (Away h q false) f = own_wait_unless p q f
+  own_resolve_to p y (Away h q true) f = own_settle p y
+  own_resolve_to p y Near f = own_settle p y
+  own_resolve_to p y (Gone t) f = own_settle p y
 
-  pub own_resolve : (p : Name) (x : Value Name) → Gentle KeepsOwn (refs.resolve Names p x)
+  pub own_resolve : (p : Name) (x : Value Name) → IsFree p → Gentle KeepsOwn (refs.resolve Names p x)
   unfolding refs.resolve
-  own_resolve p x = own_bind (own_look _) (λ y. own_bind (own_look _) (λ q. own_resolve_to p y q))
+  own_resolve p x f = own_bind (own_look _) (λ y. own_bind (own_look _) (λ q. own_resolve_to p y q f))
+
+  -- ---- resolving what neither settled nor waits
+
+  open_wait : (p q : Name) (s : Vat Name) → standing_of Names s.known p ≡ Unsettled → GivesBy KeepsOwn s (refs.wait_on Names p q s)
+  unfolding refs.wait_on ◌>>◌ and_then tell alter changed_to
+  open_wait p q s e = λ o. let t : Vat Name = record s { happened = s.happened ++ Waits p q ∷ []; known = with_change Names (WaitOn q) p s.known } in
+      let b = (own_wait p q).after t (o.0, o.1, all_changed (WaitOn q) p s.known o.2 (λ k i h. waits_own q k h), o.3, o.4, o.5) in
+      (b.0, wakes_on word v IsFree s.known t.known (with_change Names (Wait p) q t.known) (open_wait_wakes word v IsFree q p s.known e) b.1)
+    where
+      waits_own : (q : Name) (k : Known Name) → IsOwnKnown v k → IsOwnKnown v (changed_to (WaitOn q) k)
+      waits_own q k h = h
+
+  open_if : (b : Bool) (p q : Name) (s : Vat Name) → standing_of Names s.known p ≡ Unsettled → GivesBy KeepsOwn s ((if b then refs.settle Names p (Broken (codes "cycle")) else refs.wait_on Names p q) s)
+  open_if true p q s e = (own_settle p (Broken (codes "cycle"))).after s
+  open_if false p q s e = open_wait p q s e
+
+  open_unless : (p q : Name) (s : Vat Name) → standing_of Names s.known p ≡ Unsettled → GivesBy KeepsOwn s (refs.wait_unless_cycle Names p q s)
+  unfolding refs.wait_unless_cycle ◌>>=◌ look and_then
+  open_unless p q s e = open_if (refs.waits_lead Names (length s.known) s.known p q) p q s e
+
+  open_resolve_to : (p : Name) (y : Value Name) (q : Place Name) (s : Vat Name) → standing_of Names s.known p ≡ Unsettled → GivesBy KeepsOwn s (refs.resolve_to Names p y q s)
+  unfolding refs.resolve_to
+  open_resolve_to p y (Mine q) s e = open_unless p q s e
+  open_resolve_to p y (Away h q false) s e = open_unless p q s e
+  open_resolve_to p y (Away h q true) s e = (own_settle p y).after s
+  open_resolve_to p y Near s e = (own_settle p y).after s
+  open_resolve_to p y (Gone t) s e = (own_settle p y).after s
+
+  pub open_resolve : (p : Name) (x : Value Name) (s : Vat Name) → standing_of Names s.known p ≡ Unsettled → GivesBy KeepsOwn s (refs.resolve Names p x s)
+  unfolding refs.resolve ◌>>=◌ look and_then
+  open_resolve p x s e = open_resolve_to p (refs.follow Names s x) (place Names s (refs.follow Names s x)) s e

@@ -1,21 +1,21 @@
 -- In every world of a run what a vat has is its own.
-use Rattle.std.proofs.Common.{◌≡◌, ℕ, zero, suc, List, [], ◌∷◌, ◌++◌, Some, refl, sym, length, map, append-nil, ◌+◌, arith}
+use Rattle.std.proofs.Common.{◌≡◌, ℕ, zero, suc, List, [], ◌∷◌, ◌++◌, Some, refl, sym, length, map, append-nil, ◌+◌, inr, arith}
 use Rattle.std.specs.Prelude.{slice_get}
-use Rattle.ev_machine.specs.Values.{Name, Root, Object, Promise, Answer, Gift, Sent, host_of}
-use Rattle.ev_machine.specs.State.{Message, Note, Deliver, Open, Ask, SettledTo, Elsewhere, Shorten, Vat, Done, begun}
+use Rattle.ev_machine.specs.Values.{Value, Null, Flag, Number, Letter, Text, Prim, Broken, Items, Ref, Name, Root, Object, Promise, Answer, Gift, Sent, host_of}
+use Rattle.ev_machine.specs.State.{Message, Passed, Passeds, Plain, AGift, Many, NoMore, More, Note, Deliver, Open, Ask, SettledTo, Elsewhere, Shorten, Vat, Done, begun}
 use Rattle.ev_run.specs.Draws.{draw_word}
 use Rattle.ev_run.specs.World as world
 use Rattle.ev_run.specs.World.{Script, Program, Entry, World, Goes, names, readied}
-use Rattle.ev_name_laws.specs.Names.{AllOf, IsMade, IsMessageMade, IsMessageName, NoteOk, Once}
+use Rattle.ev_name_laws.specs.Names.{AllOf, IsMade, IsMessageMade, IsMessageName, NoteOk, names_in, Once}
 use Rattle.ev_name_laws.proofs.Run.{Stands, opened_stands}
 use Rattle.ev_rest_laws.specs.Own.{IsOwnMail, IsOwnKnown, Own, WhatAVatHasIsItsOwn}
 use Rattle.ev_rest_laws.proofs.Gentle.{AfterGives, GivesBy, gives_by}
 use Rattle.ev_rest_laws.proofs.OwnKeeps.{KeepsOwn, Whole}
 use Rattle.ev_rest_laws.proofs.OwnTurns.{own_taking, own_opening}
-use Rattle.ev_rest_laws.proofs.OwnArrive.{NamesMail, own_arrive, own_notice}
+use Rattle.ev_rest_laws.proofs.OwnArrive.{FreeValue, FreePassed, AllFree, NoteFree, own_arrive, own_notice}
 use Rattle.ev_rest_laws.proofs.RunLift.{StepsKeep, InVats, steps_keep, opens_keep, all_allowed}
 
-message_named : (vats : List (Vat Name)) (m : Name) → IsMessageMade vats m → IsMessageName m
+pub message_named : (vats : List (Vat Name)) (m : Name) → IsMessageMade vats m → IsMessageName m
 message_named vats (Sent m) h = tt
 message_named vats (Root w) h = absurd h
 message_named vats (Object w i) h = absurd h
@@ -23,16 +23,42 @@ message_named vats (Promise w i) h = absurd h
 message_named vats (Answer w m) h = absurd h
 message_named vats (Gift w i) h = absurd h
 
-names_mail : (word : ℕ → ℕ) (v : ℕ) (vats : List (Vat Name)) (d : ℕ) (n : Note Name) → NoteOk (IsMade vats d) n → NamesMail word v n
-names_mail word v vats d (Deliver m n verb ys) h = message_named vats m h.0
-names_mail word v vats d (Open i n) h = tt
-names_mail word v vats d (Ask p i n) h = tt
-names_mail word v vats d (SettledTo n y) h = tt
-names_mail word v vats d (Elsewhere n c) h = tt
-names_mail word v vats d (Shorten n c i) h = tt
+-- each host
+abbrev pub Each : ℕ → Type 0
+Each h = Unit {0}
 
-after_own : {A : Type 0} (word : ℕ → ℕ) (v : ℕ) (s : Vat Name) (d : Done Name A) → GivesBy (KeepsOwn word v) s d → Whole word v s → AfterGives (Whole word v) d
-after_own word v s d h o = gives_by (KeepsOwn word v) (Whole word v) s d (λ t k. k o) h
+module _ (word : ℕ → ℕ) (v : ℕ) where
+  value_free : (y : Value Name) → FreeValue word v Each y
+  value_free (Ref n) = inr tt
+  value_free Null = tt
+  value_free (Flag b) = tt
+  value_free (Number z) = tt
+  value_free (Letter c) = tt
+  value_free (Text t) = tt
+  value_free (Prim i) = tt
+  value_free (Broken t) = tt
+  value_free (Items k) = tt
+
+  mutual
+    passed_free : (y : Passed Name) → FreePassed word v Each y
+    passed_free (Plain y) = value_free y
+    passed_free (AGift h i) = tt
+    passed_free (Many ys) = all_free ys
+
+    all_free : (ys : Passeds Name) → AllFree word v Each ys
+    all_free NoMore = tt
+    all_free (More y ys) = (passed_free y, all_free ys)
+
+  note_free : (vats : List (Vat Name)) (d : ℕ) (ks : List Name) (n : Note Name) → NoteOk (IsMade vats d) n → NoteFree word v Each ks n
+  note_free vats d ks (Deliver m n verb ys) h = (message_named vats m h.0, inr tt, all_free ys)
+  note_free vats d ks (Open i n) h = inr tt
+  note_free vats d ks (Ask p i n) h = tt
+  note_free vats d ks (SettledTo n y) h = (inr tt, passed_free y)
+  note_free vats d ks (Elsewhere n c) h = inr tt
+  note_free vats d ks (Shorten n c i) h = λ e. inr tt
+
+after_own : {A : Type 0} (word : ℕ → ℕ) (v : ℕ) (s : Vat Name) (d : Done Name A) → GivesBy (KeepsOwn word v Each) s d → Whole word v Each s → AfterGives (Whole word v Each) d
+after_own word v s d h o = gives_by (KeepsOwn word v Each) (Whole word v Each) s d (λ t k. (k o).0) h
 
 sum_zero : (u : ℕ) → (u + zero) ≡ u
 sum_zero u = omega arith
@@ -48,19 +74,22 @@ module _ (script : Script) where
   abbrev pub Any : ℕ → ℕ → Type 0
   Any v to = Unit {0}
 
-  rest_of : (v : ℕ) (s : Vat Name) (m : Message Name) (ms : List (Message Name)) → s.queue ≡ m ∷ ms → AllOf (IsOwnMail v) s.queue → AllOf (IsOwnMail v) ms
+  pub rest_of : (v : ℕ) (s : Vat Name) (m : Message Name) (ms : List (Message Name)) → s.queue ≡ m ∷ ms → AllOf (IsOwnMail v) s.queue → AllOf (IsOwnMail v) ms
   rest_of v s m ms e h = let both : AllOf (IsOwnMail v) (m ∷ ms) = rw e at h in both.1
 
+  pub answer_of_own : (v : ℕ) (s : Vat Name) (m : Message Name) (ms : List (Message Name)) → s.queue ≡ m ∷ ms → AllOf (IsOwnMail v) s.queue → host_of m.answer ≡ v
+  answer_of_own v s m ms e h = let both : AllOf (IsOwnMail v) (m ∷ ms) = rw e at h in both.0.1
+
   abbrev pub InScript : ℕ → Vat Name → Type 0
-  InScript v s = Whole (draw_word script.key) v s
+  InScript v s = Whole (draw_word script.key) v Each s
 
   pub own_keep : StepsKeep script InScript Any
-  unfolding names world.names_of readied
+  unfolding names world.names_of readied host_of
   own_keep = record {
-    turn = λ w v s m ms g i q h. let r : Vat Name = readied w (record s { queue = ms }) in after_own (draw_word script.key) v r _ ((own_taking (draw_word script.key) v (world.tree_at script.vats v) script.depth m).after r) (h.0, rest_of v s m ms q h.1, h.2, h.3, tt);
-    note = λ w from v s n g i ok h. let r : Vat Name = readied w s in after_own (draw_word script.key) v r _ (own_arrive (draw_word script.key) v from r n (names_mail (draw_word script.key) v w.vats (length w.drawn) n ok)) (h.0, h.1, h.2, h.3, tt);
-    notice = λ w v to s g i ok h. let r : Vat Name = readied w s in after_own (draw_word script.key) v r _ ((own_notice (draw_word script.key) v to).after r) (h.0, h.1, h.2, h.3, tt);
-    opening = λ w v p s g i h. let r : Vat Name = readied w s in after_own (draw_word script.key) v r _ ((own_opening (draw_word script.key) v p.tree script.depth (Root v) (world.given script.vats p.knows)).after r) (h.0, h.1, h.2, h.3, tt);
+    turn = λ w v s m ms g i q h. let r : Vat Name = readied w (record s { queue = ms }) in after_own (draw_word script.key) v r _ ((own_taking (draw_word script.key) v Each (world.tree_at script.vats v) script.depth m (answer_of_own v s m ms q h.1)).after r) (h.0, rest_of v s m ms q h.1, h.2, h.3, tt, λ u e. tt);
+    note = λ w from v s n g i ok h. let r : Vat Name = readied w s in after_own (draw_word script.key) v r _ (own_arrive (draw_word script.key) v Each from r n (note_free (draw_word script.key) v w.vats (length w.drawn) (names_in s.known) n ok)) (h.0, h.1, h.2, h.3, tt, λ u e. tt);
+    notice = λ w v to s g i ok h. let r : Vat Name = readied w s in after_own (draw_word script.key) v r _ ((own_notice (draw_word script.key) v Each to).after r) (h.0, h.1, h.2, h.3, tt, λ u e. tt);
+    opening = λ w v p s g i h. let r : Vat Name = readied w s in after_own (draw_word script.key) v r _ ((own_opening (draw_word script.key) v Each p.tree script.depth (Root v) (world.given script.vats p.knows) refl).after r) (h.0, h.1, h.2, h.3, tt, λ u e. tt);
   }
 
   -- ---- the start
@@ -76,7 +105,7 @@ module _ (script : Script) where
 
   fresh_own : (u : ℕ) (p : Program) → InScript u (world.fresh script u p)
   unfolding world.fresh world.known_root begun host_of
-  fresh_own u p = (refl, tt, ((refl, tt, tt, all_of (λ (w : ℕ). u ≡ u) (world.knowers u zero script.vats) (λ w. refl)), roots_own u p.knows), tt, tt)
+  fresh_own u p = (refl, tt, ((refl, tt, tt, all_of (λ (w : ℕ). u ≡ u) (world.knowers u zero script.vats) (λ w. refl)), roots_own u p.knows), tt, tt, λ h e. tt)
 
   some_same : (a b : Vat Name) → Some a ≡ Some b → a ≡ b
   some_same a b e = cc
@@ -104,7 +133,7 @@ module _ (script : Script) where
     stepped_own : (w x : World) (es : List Entry) (k : ℕ) → world.open_from script zero script.vats (world.begins script) ≡ Goes w → world.steps_from script es k w ≡ Goes x → InVats script InScript Any x
     stepped_own w x es k e i = steps_keep script InScript Any own_keep es k w x (opened_stands script once script.vats [] w (sym (append-nil script.vats)) e) (all_allowed Any (λ v to. tt) es) (opened_own script.vats [] w (sym (append-nil script.vats)) e) i
 
-its_own : (word : ℕ → ℕ) (v : ℕ) (s : Vat Name) → Whole word v s → Own v s
+its_own : (word : ℕ → ℕ) (v : ℕ) (s : Vat Name) → Whole word v Each s → Own v s
 its_own word v s h = (h.0, h.1, h.2, h.3)
 
 pub own_in_runs : WhatAVatHasIsItsOwn

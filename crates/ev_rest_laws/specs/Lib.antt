@@ -3,3 +3,4 @@ pub mod Rest
 pub mod Cuts
 pub mod Own
 pub mod Notes
+pub mod Hosts

@@ -11,6 +11,9 @@ ghost use Rattle.ev_rest_laws.specs.Notes.{NotesNameNobodyNoticed};
 ghost use Rattle.ev_rest_laws.specs.Rest.{ViewsEndInRuns};
 ghost use Rattle.ev_rest_laws.specs.Rest.{ReferencesRestInRuns};
 ghost use Rattle.ev_rest_laws.specs.Rest.{FollowedBreaksStayBroken};
+ghost use Rattle.ev_rest_laws.specs.Hosts.{HostsRestInRuns};
+ghost use Rattle.ev_rest_laws.specs.Hosts.{VatsRestInRuns};
+ghost use Rattle.ev_rest_laws.specs.Hosts.{BreaksStayBroken};
 
 /// Each name that is viewed waits on its view: the view is known, it came to be known later than the
 /// name, it did not settle, and the name is among those that settle with it.
@@ -67,4 +70,22 @@ pub fn notes_carry_their_ends()
 /// noticed, and none passes in it but as a gift.
 pub fn notes_name_nobody_noticed()
     ensures { NotesNameNobodyNoticed }
+{}
+
+/// Where each notice of a schedule stands behind a cut of the same two vats, which are not one: each
+/// name that neither settled at a vat nor is viewed there as another has a host whose cut the vat did
+/// not notice.
+pub fn hosts_rest()
+    ensures { HostsRestInRuns }
+{}
+
+/// In such a run each vat is at rest, after any of the opening turns and after any entries.
+pub fn vats_rest()
+    ensures { VatsRestInRuns }
+{}
+
+/// From any world of such a run on, what a vat follows to a broken reference is followed there to it
+/// ever after.
+pub fn breaks_stay_broken()
+    ensures { BreaksStayBroken }
 {}
