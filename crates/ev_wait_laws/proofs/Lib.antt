@@ -2,6 +2,7 @@ pub mod Calm
 pub mod Chains
 pub mod Closing
 pub mod Rings
+pub mod Owned
 pub mod RefsCalm
 pub mod Ringless
 pub mod ArriveCalm

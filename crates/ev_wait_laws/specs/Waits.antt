@@ -24,13 +24,9 @@ module _ (K : Naming Name Name) where
   abbrev pub WaitsEnd : List (Known Name) → Type 0
   WaitsEnd ks = (n : Name) → WaitsEndIn (length ks) ks n
 
-  -- no name waits on itself or is its own view
-  abbrev pub NoneWaitsOnItself : List (Known Name) → Type 0
-  NoneWaitsOnItself ks = (n : Name) → WaitIs (λ q. n ≡ q → ⊥) (standing_of K ks n)
-
--- In each vat of a run that knows no name twice, and of whose names none waits on itself, waits and views end.
+-- In each vat of a run that knows no name twice waits and views end.
 abbrev pub WaitsEndInRuns : Type 0
-WaitsEndInRuns = InEachVat (λ script v s. Once (names_in s.known) → NoneWaitsOnItself (names script v) s.known → WaitsEnd (names script v) s.known)
+WaitsEndInRuns = InEachVat (λ script v s. Once (names_in s.known) → WaitsEnd (names script v) s.known)
 
 -- Where a chain of waits and views leads from n to p in any number of steps, the test for a cycle finds it in as many steps as names are known.
 abbrev pub CycleTestsSuffice : Type 0

@@ -5,8 +5,7 @@ ghost use Rattle.ev_wait_laws.specs.Waits.{CycleTestsSuffice, ListTestsSuffice, 
 /// Waits and views end: from each name one comes, by no more waits and views than there are names
 /// known, to a name that neither waits on another nor is viewed. So no chain of them has a ring.
 ///
-/// It is said of each vat, in every world of a run, that knows no name twice and of whose names none
-/// waits on itself.
+/// It is said of each vat, in every world of a run, that knows no name twice.
 pub fn waits_end()
     ensures { WaitsEndInRuns }
 {}
