@@ -9,4 +9,5 @@ pub mod ArriveCalm
 pub mod TurnsCalm
 pub mod RinglessSteps
 pub mod RinglessRuns
+pub mod KnownOnce
 pub mod ListChains
