@@ -1,15 +1,16 @@
 -- What arrives, but for the news that a name settled elsewhere, and what a notice breaks, lead as references lead.
-use Rattle.std.proofs.Common.{ℕ, Bool, true, false, List, Option, Some, None}
-use Rattle.ev_machine.specs.Values.{Words, Value, Null, Flag, Number, Letter, Text, Prim, Broken, Items, Ref, Naming}
-use Rattle.ev_machine.specs.State.{Standing, Unsettled, WaitsOn, Viewed, Settled, Known, Passed, Passeds, Plain, AGift, Many, NoMore, More, GiftEntry, Vat}
+use Rattle.std.proofs.Common.{ℕ, Bool, true, false, List, [], ◌∷◌, ◌++◌, Option, Some, None, length}
+use Rattle.ev_machine.specs.Values.{Words, Value, Null, Flag, Number, Letter, Text, Prim, Broken, Items, Ref, Naming, IsAnswer, IsCarried}
+use Rattle.ev_machine.specs.State.{Standing, Unsettled, WaitsOn, Viewed, Settled, Known, Passed, Passeds, Plain, AGift, Many, NoMore, More, GiftEntry, Vat, Act, ◌>>=◌, and_then, look, come, mail}
+use Rattle.ev_machine.specs.Refs as refs
 use Rattle.ev_machine.specs.Refs.{Place, Away}
 use Rattle.ev_machine.specs.Arrive as arrive
 use Rattle.ev_machine.specs.Arrive.{Incoming, Old, New}
-use Rattle.ev_rest_laws.proofs.Gentle.{Gentle}
-use Rattle.ev_wait_laws.proofs.Calm.{IsCalm, calm}
-use Rattle.ev_wait_laws.proofs.RefsCalm.{PassesBy, WaitsBy, calm_settle, calm_resolve, calm_send_on, calm_inform}
+use Rattle.ev_rest_laws.proofs.Gentle.{GivesBy, Gentle}
+use Rattle.ev_wait_laws.proofs.Calm.{IsCalm, calm, widen, calm_bind, calm_then, calm_to_tell}
+use Rattle.ev_wait_laws.proofs.RefsCalm.{Minds, PassesBy, WaitsBy, calm_settle, calm_resolve, calm_send_on, calm_inform}
 
-module _ {N W : Type 0} (K : Naming N W) (R : Vat N → Vat N → Type 0) (law : IsCalm K R) (passes : PassesBy K R) (waits : WaitsBy K R) where
+module _ {N W : Type 0} (K : Naming N W) (G : N → N → Type 0) (Far : ℕ → Type 0) (R : Vat N → Vat N → Type 0) (law : IsCalm K G R) (minds : Minds K G Far R) (passes : PassesBy K G Far R) (waits : WaitsBy K R) where
   pub calm_learn_name : (x1 : Incoming N W) → Gentle R (arrive.learn_name K x1)
   unfolding arrive.learn_name
   calm_learn_name (Old n) = search (calm) depth 14
@@ -51,11 +52,6 @@ module _ {N W : Type 0} (K : Naming N W) (R : Vat N → Vat N → Type 0) (law :
     calm_learn_all p NoMore = search calm
     calm_learn_all p (More y ys) = let one = calm_learn p y in let rest = calm_learn_all p ys in search calm
 
-  pub calm_learn_message : (x1 : Incoming N W) → Gentle R (arrive.learn_message K x1)
-  unfolding arrive.learn_message
-  calm_learn_message (Old n) = search (calm) depth 14
-  calm_learn_message (New x h) = search (calm) depth 14
-
   pub calm_gift_or_new : (x1 : ℕ) → (x2 : ℕ) → (x3 : ℕ) → (x4 : Option (GiftEntry N)) → Gentle R (arrive.gift_or_new K x1 x2 x3 x4)
   unfolding arrive.gift_or_new
   calm_gift_or_new v p i (Some g) = search (calm) depth 14
@@ -80,9 +76,22 @@ module _ {N W : Type 0} (K : Naming N W) (R : Vat N → Vat N → Type 0) (law :
   calm_tell_asker n w (Settled y) = search (calm, calm_inform) depth 14
   calm_tell_asker n w _ = search (calm) depth 14
 
-  pub calm_arrive_deliver : (x1 : ℕ) → (x2 : Incoming N W) → (x3 : Incoming N W) → (x4 : Words) → (x5 : Passeds (Incoming N W)) → Gentle R (arrive.arrive_deliver K x1 x2 x3 x4 x5)
-  unfolding arrive.arrive_deliver
-  calm_arrive_deliver from m x verb ys = search (calm, calm_learn_message, calm_learn_all, calm_learn_name, calm_send_on, calm_settle) depth 14
+  mailed_then : (m : W) (f : N → Act N (Unit {0})) → ((k : ℕ) → Gentle R (f (K.mailed (IsCarried m) k))) → Gentle R (mail K (IsCarried m) >>= f)
+  unfolding ◌>>=◌ mail and_then
+  mailed_then m f g = record { after = λ s. widen K G R law (law.mailed s (IsCarried m)) (f (K.mailed (IsCarried m) (length s.mails)) (record s { mails = s.mails ++ K.mailed (IsCarried m) (length s.mails) ∷ [] })) ((g (length s.mails)).after _) }
+
+  numbered_then : (f : ℕ → Act N (Unit {0})) → ((s : Vat N) → GivesBy R s (f s.number s)) → Gentle R (look (λ (s : Vat N). s.number) >>= f)
+  unfolding ◌>>=◌ look and_then
+  numbered_then f g = record { after = g }
+
+  -- the answer here of a message that came so is good
+  abbrev pub AnswersHere : W → Type 0
+  AnswersHere m = (s : Vat N) (k : ℕ) (f : N → Act N (Unit {0})) → ((a : N) → G (K.mailed (IsCarried m) k) a → Gentle R (f a)) → GivesBy R s ((come K (IsAnswer s.number (K.mailed (IsCarried m) k)) s.number >>= f) s)
+
+  pub calm_arrive_deliver : (from : ℕ) (m : W) (h : ℕ) → AnswersHere m → (x : Incoming N W) (verb : Words) (ys : Passeds (Incoming N W)) → Gentle R (arrive.arrive_deliver K from (New m h) x verb ys)
+  unfolding arrive.arrive_deliver arrive.learn_message
+  calm_arrive_deliver from m h good x verb ys = mailed_then m _ (λ k. calm_bind K G R law (calm_learn_all from ys) (λ args. calm_bind K G R law (calm_learn_name x) (λ n. numbered_then _ (λ s. good s k _ (λ a g.
+      calm_then K G R law (calm_to_tell K G R law from a) (calm_send_on K G Far R law minds passes (refs.settle K) (λ p y. calm_settle K G Far R law minds passes p y) _ g))))))
 
   pub calm_arrive_open : (x1 : ℕ) → (x2 : ℕ) → (x3 : Incoming N W) → Gentle R (arrive.arrive_open K x1 x2 x3)
   unfolding arrive.arrive_open

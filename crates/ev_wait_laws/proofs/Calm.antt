@@ -3,6 +3,7 @@ use Rattle.std.proofs.Common.{◌≡◌, ℕ, suc, ◌-◌, Bool, true, false, L
 use Rattle.std.specs.Prelude.{nat_le}
 use Rattle.ev_machine.specs.Values.{Value, Naming, Coming, Mailing, IsOwn, IsAnswer}
 use Rattle.ev_machine.specs.State.{Message, Happened, Standing, Unsettled, WaitsOn, Viewed, Settled, Known, Vat, Stop, Done, Gives, Throws, Ejects, Stops, Act, ◌>>=◌, ◌>>◌, and_then, each, give, stop, look, tell, spend, spent, new_list, enqueue, Change, Hold, Wait, React, ToTell, Settle, Note, Put, GiftEntry, send_out, new_gift, with_opened, open_gift, draws, with_change, changed, changed_to, alter, come, mail, new_promise, new_message, draw, begun}
+use Rattle.ev_name_laws.specs.Names.{AllOf}
 use Rattle.ev_rest_laws.proofs.Gentle.{GivesBy, Gentle}
 use Rattle.ev_rest_laws.proofs.Entries.{unless_either}
 
@@ -42,8 +43,13 @@ change_settle : {N : Type 0} (y : Value N) → IsCalmChange (Settle y)
 unfolding changed_to next
 change_settle y = of_new (Settle y) (λ k q e. cc)
 
--- what is to be shown of the relation: of no change, of two in a row, and of each change that makes no wait and no view
-pub record IsCalm {N W : Type 0} (K : Naming N W) (R : Vat N → Vat N → Type 0) : Type 0 where
+-- where it is a message that is held, G holds of its name and its answer
+abbrev pub HoldsBy : {N : Type 0} → (N → N → Type 0) → Change N → Type 0
+HoldsBy G (Hold m) = G m.id m.answer
+HoldsBy G _ = Unit {0}
+
+-- what is to be shown of the relation: of no change, of two in a row, and of each change that makes no wait and no view and holds none but good messages
+pub record IsCalm {N W : Type 0} (K : Naming N W) (G : N → N → Type 0) (R : Vat N → Vat N → Type 0) : Type 0 where
   pub same : (s : Vat N) → R s s
   pub trans : {s t u : Vat N} → R s t → R t u → R s u
   pub fuel : (s : Vat N) (n : ℕ) → R s (record s { fuel = s.fuel - n })
@@ -54,13 +60,13 @@ pub record IsCalm {N W : Type 0} (K : Naming N W) (R : Vat N → Vat N → Type 
   pub gift : (s : Vat N) (g : GiftEntry N) → R s (record s { gifts = s.gifts ++ g ∷ [] })
   pub opened : (s : Vat N) (p i : ℕ) → R s (record s { gifts = with_opened p i s.gifts })
   pub drawn : (s : Vat N) (w : ℕ) → R s (record s { drawn = s.drawn ++ w ∷ [] })
-  pub altered : (s : Vat N) (c : Change N) (n : N) → IsCalmChange c → R s (record s { known = with_change K c n s.known })
+  pub altered : (s : Vat N) (c : Change N) (n : N) → IsCalmChange c → HoldsBy G c → R s (record s { known = with_change K c n s.known })
   pub came : (s : Vat N) (c : Coming N W) (h : ℕ) → R s (record s { known = s.known ++ begun (K.made c (length s.known)) h ∷ [] })
   pub mailed : (s : Vat N) (c : Mailing W) → R s (record s { mails = s.mails ++ K.mailed c (length s.mails) ∷ [] })
   pub promised : (s : Vat N) → R s (record s { promises = suc s.promises; known = s.known ++ begun (K.made (IsOwn s.promises) (length s.known)) s.number ∷ [] })
   pub messaged : (s : Vat N) (h : ℕ) (id : N) → R s (record s { messages = suc s.messages; mails = s.mails ++ id ∷ []; known = s.known ++ begun (K.made (IsAnswer h id) (length s.known)) h ∷ [] })
 
-module _ {N W : Type 0} (K : Naming N W) (R : Vat N → Vat N → Type 0) (law : IsCalm K R) where
+module _ {N W : Type 0} (K : Naming N W) (G : N → N → Type 0) (R : Vat N → Vat N → Type 0) (law : IsCalm K G R) where
   pub widen : {A : Type 0} {s t : Vat N} → R s t → (d : Done N A) → GivesBy R t d → GivesBy R s d
   widen r (Gives a u) h = law.trans r h
   widen r (Throws p u) h = tt
@@ -136,6 +142,11 @@ module _ {N W : Type 0} (K : Naming N W) (R : Vat N → Vat N → Type 0) (law :
   calm_each [] h = calm_give tt
   calm_each (x ∷ xs) h = calm_then (h x) (calm_each xs h)
 
+  pub calm_each_of : {A : Type 0} {f : A → Act N (Unit {0})} (P : A → Type 0) (xs : List A) → AllOf P xs → ((x : A) → P x → Gentle R (f x)) → Gentle R (each f xs)
+  unfolding each
+  calm_each_of P [] h g = calm_give tt
+  calm_each_of P (x ∷ xs) h g = calm_then (g x h.0) (calm_each_of P xs h.1 g)
+
   draws_give : (s : Vat N) (w : ℕ) (o : Option ℕ) → GivesBy R s (draws w o s)
   unfolding draws
   draws_give s w (Some i) = tt
@@ -145,25 +156,25 @@ module _ {N W : Type 0} (K : Naming N W) (R : Vat N → Vat N → Type 0) (law :
   unfolding draw
   calm_draw = record { after = λ s. draws_give s _ _ }
 
-  pub calm_hold : (m : Message N) (n : N) → Gentle R (alter K (Hold m) n)
+  pub calm_hold : (m : Message N) (n : N) → G m.id m.answer → Gentle R (alter K (Hold m) n)
   unfolding alter
-  calm_hold m n = record { after = λ s. law.altered s (Hold m) n (change_hold m) }
+  calm_hold m n g = record { after = λ s. law.altered s (Hold m) n (change_hold m) g }
 
   pub calm_wait : (q n : N) → Gentle R (alter K (Wait q) n)
   unfolding alter
-  calm_wait q n = record { after = λ s. law.altered s (Wait q) n (change_wait q) }
+  calm_wait q n = record { after = λ s. law.altered s (Wait q) n (change_wait q) tt }
 
   pub calm_settled : (y : Value N) (n : N) → Gentle R (alter K (Settle y) n)
   unfolding alter
-  calm_settled y n = record { after = λ s. law.altered s (Settle y) n (change_settle y) }
+  calm_settled y n = record { after = λ s. law.altered s (Settle y) n (change_settle y) tt }
 
   pub calm_react : (m : Message N) (n : N) → Gentle R (alter K (React m) n)
   unfolding alter
-  calm_react m n = record { after = λ s. law.altered s (React m) n (change_react m) }
+  calm_react m n = record { after = λ s. law.altered s (React m) n (change_react m) tt }
 
   pub calm_to_tell : (w : ℕ) (n : N) → Gentle R (alter K (ToTell w) n)
   unfolding alter
-  calm_to_tell w n = record { after = λ s. law.altered s (ToTell w) n (change_to_tell w) }
+  calm_to_tell w n = record { after = λ s. law.altered s (ToTell w) n (change_to_tell w) tt }
 
   pub calm_come : (c : Coming N W) (h : ℕ) → Gentle R (come K c h)
   unfolding come

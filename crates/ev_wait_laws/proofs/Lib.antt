@@ -2,10 +2,12 @@ pub mod Calm
 pub mod Chains
 pub mod Closing
 pub mod Rings
+pub mod Owned
 pub mod RefsCalm
 pub mod Ringless
 pub mod ArriveCalm
 pub mod TurnsCalm
 pub mod RinglessSteps
 pub mod RinglessRuns
+pub mod KnownOnce
 pub mod ListChains

@@ -1,16 +1,17 @@
 -- Everything that a vat does with references leads as calm changes lead, as the sending on of a message leads, and as the wait behind the test for a cycle.
-use Rattle.std.proofs.Common.{ℕ, zero, suc, true, false, List, [], ◌∷◌, Option, Some, None}
-use Rattle.ev_machine.specs.Values.{Words, Value, Prim, Naming}
-use Rattle.ev_machine.specs.State.{Message, Standing, Unsettled, WaitsOn, Viewed, Settled, Known, Passed, Passeds, Plain, AGift, Many, NoMore, More, Vat, Act}
+use Rattle.std.proofs.Common.{◌≡◌, ℕ, zero, suc, Bool, true, false, List, [], ◌∷◌, Option, Some, None, refl}
+use Rattle.ev_machine.specs.Values.{Words, Value, Broken, Ref, Naming}
+use Rattle.ev_machine.specs.State.{Message, Standing, Unsettled, WaitsOn, Viewed, Settled, Known, Passed, Passeds, Plain, AGift, Many, NoMore, More, Vat, Done, Act, Sends, ◌>>=◌, ◌>>◌, and_then, give, look, tell, new_message}
 use Rattle.ev_machine.specs.Refs as refs
-use Rattle.ev_machine.specs.Refs.{Place, Near, Mine, Away, Gone, entry_of}
-use Rattle.ev_rest_laws.proofs.Gentle.{Gentle}
-use Rattle.ev_wait_laws.proofs.Calm.{IsCalm, calm}
+use Rattle.ev_machine.specs.Refs.{Place, Near, Mine, Away, Gone, entry_of, place}
+use Rattle.ev_name_laws.specs.Names.{AllOf}
+use Rattle.ev_rest_laws.proofs.Gentle.{GivesBy, Gentle}
+use Rattle.ev_wait_laws.proofs.Calm.{IsCalm, calm, calm_then, calm_give, calm_tell, calm_each, calm_each_of, calm_enqueue, calm_hold, calm_settled}
 
 abbrev pub GoodSettler : {N : Type 0} → (Vat N → Vat N → Type 0) → (N → Value N → Act N (Unit {0})) → Type 0
 GoodSettler {N} R settle = (p : N) (y : Value N) → Gentle R (settle p y)
 
-module _ {N W : Type 0} (K : Naming N W) (R : Vat N → Vat N → Type 0) (law : IsCalm K R) where
+module _ {N W : Type 0} (K : Naming N W) (G : N → N → Type 0) (R : Vat N → Vat N → Type 0) (law : IsCalm K G R) where
   pub calm_address_plain : (x1 : ℕ) → (x2 : Value N) → (x3 : Place N) → Gentle R (refs.address_plain K x1 x2 x3)
   unfolding refs.address_plain
   calm_address_plain w y (Away h n o) = search (calm) depth 14
@@ -52,40 +53,63 @@ module _ {N W : Type 0} (K : Naming N W) (R : Vat N → Vat N → Type 0) (law :
   calm_inform p w = search (calm, calm_inform_of) depth 14
 
 -- a message that is sent on to another host
-abbrev pub PassesBy : {N W : Type 0} → Naming N W → (Vat N → Vat N → Type 0) → Type 0
-PassesBy {N} K R = (m : Message N) (h : ℕ) (n : N) → Gentle R (refs.pass_on K m h n)
+abbrev pub PassesBy : {N W : Type 0} → Naming N W → (N → N → Type 0) → (ℕ → Type 0) → (Vat N → Vat N → Type 0) → Type 0
+PassesBy {N} K G Far R = (m : Message N) (h : ℕ) (n : N) → G m.id m.answer → Far h → Gentle R (refs.pass_on K m h n)
 
-module _ {N W : Type 0} (K : Naming N W) (R : Vat N → Vat N → Type 0) (law : IsCalm K R) (passes : PassesBy K R) where
-  pub calm_send_to : (x1 : N → Value N → Act N (Unit {0})) → GoodSettler R x1 → (x2 : Message N) → (x3 : Value N) → (x4 : Place N) → Gentle R (refs.send_to K x1 x2 x3 x4)
+-- what may be asked of a state: that held messages are good, that what is placed elsewhere is far, and that a new message with its answer here is good
+pub record Minds {N W : Type 0} (K : Naming N W) (G : N → N → Type 0) (Far : ℕ → Type 0) (R : Vat N → Vat N → Type 0) : Type 0 where
+  pub found : (s : Vat N) (p : N) (k : Known N) (d : Done N (Unit {0})) → entry_of K s.known p ≡ Some k → (AllOf (λ (m : Message N). G m.id m.answer) k.held → GivesBy R s d) → GivesBy R s d
+  pub far : (s : Vat N) (y : Value N) (h : ℕ) (n : N) (o : Bool) (d : Done N (Unit {0})) → place K s y ≡ Away h n o → (Far h → GivesBy R s d) → GivesBy R s d
+  pub sent : (s : Vat N) (f : N × N → Act N (Value N)) → ((id a : N) → G id a → Gentle R (f (id, a))) → GivesBy R s ((new_message K s.number >>= f) s)
+
+module _ {N W : Type 0} (K : Naming N W) (G : N → N → Type 0) (Far : ℕ → Type 0) (R : Vat N → Vat N → Type 0) (law : IsCalm K G R) (minds : Minds K G Far R) (passes : PassesBy K G Far R) where
+  -- what is away is far
+  abbrev pub IsFarPlace : Place N → Type 0
+  IsFarPlace (Away h n o) = Far h
+  IsFarPlace Near = Unit {0}
+  IsFarPlace (Mine n) = Unit {0}
+  IsFarPlace (Gone p) = Unit {0}
+
+  pub calm_send_to : (settle : N → Value N → Act N (Unit {0})) → GoodSettler R settle → (m : Message N) → G m.id m.answer → (y : Value N) (p : Place N) → IsFarPlace p → Gentle R (refs.send_to K settle m y p)
   unfolding refs.send_to
-  calm_send_to settle h1 m y Near = search (calm) depth 14
-  calm_send_to settle h1 m y (Mine n) = search (calm) depth 14
-  calm_send_to settle h1 m y (Away h n o) = passes m h n
-  calm_send_to settle h1 m y (Gone p) = search (calm) depth 14
+  calm_send_to settle good m g y Near f = calm_enqueue K G R law _
+  calm_send_to settle good m g y (Mine n) f = calm_hold K G R law _ n g
+  calm_send_to settle good m g y (Away h n o) f = passes m h n g f
+  calm_send_to settle good m g y (Gone p) f = calm_then K G R law (calm_tell K G R law _) (good m.answer (Broken p))
 
-  pub calm_send_on : (x1 : N → Value N → Act N (Unit {0})) → GoodSettler R x1 → (x2 : Message N) → Gentle R (refs.send_on K x1 x2)
-  unfolding refs.send_on
-  calm_send_on settle h1 m = search (calm, calm_send_to) depth 14
+  send_placed : (settle : N → Value N → Act N (Unit {0})) → GoodSettler R settle → (m : Message N) → G m.id m.answer → (s : Vat N) (y : Value N) (p : Place N) → place K s y ≡ p → GivesBy R s (refs.send_to K settle m y p s)
+  send_placed settle good m g s y (Away h n o) e = minds.far s y h n o _ e (λ f. (calm_send_to settle good m g y (Away h n o) f).after s)
+  send_placed settle good m g s y Near e = (calm_send_to settle good m g y Near tt).after s
+  send_placed settle good m g s y (Mine n) e = (calm_send_to settle good m g y (Mine n) tt).after s
+  send_placed settle good m g s y (Gone p) e = (calm_send_to settle good m g y (Gone p) tt).after s
 
-  calm_settle_known : (settle : N → Value N → Act N (Unit {0})) → GoodSettler R settle → (p : N) (y : Value N) (k : Known N) → Gentle R (refs.settle_known K settle p y k)
+  pub calm_send_on : (settle : N → Value N → Act N (Unit {0})) → GoodSettler R settle → (m : Message N) → G m.id m.answer → Gentle R (refs.send_on K settle m)
+  unfolding refs.send_on ◌>>=◌ look and_then
+  calm_send_on settle good m g = record { after = λ s. send_placed settle good m g s (refs.follow K s m.target) (place K s (refs.follow K s m.target)) refl }
+
+  abbrev AllHeld : Known N → Type 0
+  AllHeld k = AllOf (λ (m : Message N). G m.id m.answer) k.held
+
+  calm_settle_known : (settle : N → Value N → Act N (Unit {0})) → GoodSettler R settle → (p : N) (y : Value N) (k : Known N) → AllHeld k → Gentle R (refs.settle_known K settle p y k)
   unfolding refs.settle_known
-  calm_settle_known settle good p y k = search (calm, calm_send_on, calm_inform) depth 18
+  calm_settle_known settle good p y k h = calm_then K G R law (calm_tell K G R law _) (calm_then K G R law (calm_settled K G R law y p) (calm_then K G R law (calm_each_of K G R law (λ (m : Message N). G m.id m.answer) k.held h (λ m g. calm_send_on settle good m g))
+      (calm_then K G R law (calm_each K G R law k.waiting (λ q. good q y)) (calm_then K G R law (calm_each K G R law k.reactions (λ m. calm_enqueue K G R law m)) (calm_each K G R law k.told (λ w. calm_inform K G R law p w))))))
 
-  calm_settle_standing : (settle : N → Value N → Act N (Unit {0})) → GoodSettler R settle → (p : N) (y : Value N) (k : Known N) (t : Standing N) → Gentle R (refs.settle_standing K settle p y k t)
+  calm_settle_standing : (settle : N → Value N → Act N (Unit {0})) → GoodSettler R settle → (p : N) (y : Value N) (k : Known N) (t : Standing N) → AllHeld k → Gentle R (refs.settle_standing K settle p y k t)
   unfolding refs.settle_standing
-  calm_settle_standing settle good p y k (Settled z) = search calm
-  calm_settle_standing settle good p y k (Viewed q) = calm_settle_known settle good p y k
-  calm_settle_standing settle good p y k (WaitsOn q) = calm_settle_known settle good p y k
-  calm_settle_standing settle good p y k Unsettled = calm_settle_known settle good p y k
+  calm_settle_standing settle good p y k (Settled z) h = calm_give K G R law tt
+  calm_settle_standing settle good p y k (Viewed q) h = calm_settle_known settle good p y k h
+  calm_settle_standing settle good p y k (WaitsOn q) h = calm_settle_known settle good p y k h
+  calm_settle_standing settle good p y k Unsettled h = calm_settle_known settle good p y k h
 
-  calm_settle_entry : (settle : N → Value N → Act N (Unit {0})) → GoodSettler R settle → (p : N) (y : Value N) (o : Option (Known N)) → Gentle R (refs.settle_entry K settle p y o)
+  settle_found : (settle : N → Value N → Act N (Unit {0})) → GoodSettler R settle → (p : N) (y : Value N) (s : Vat N) (o : Option (Known N)) → entry_of K s.known p ≡ o → GivesBy R s (refs.settle_entry K settle p y o s)
   unfolding refs.settle_entry
-  calm_settle_entry settle good p y None = search calm
-  calm_settle_entry settle good p y (Some k) = calm_settle_standing settle good p y k k.standing
+  settle_found settle good p y s None e = (calm_give K G R law tt).after s
+  settle_found settle good p y s (Some k) e = minds.found s p k _ e (λ h. (calm_settle_standing settle good p y k k.standing h).after s)
 
   calm_settle_one : (settle : N → Value N → Act N (Unit {0})) → GoodSettler R settle → (p : N) (y : Value N) → Gentle R (refs.settle_one K settle p y)
-  unfolding refs.settle_one
-  calm_settle_one settle good p y = search (calm, calm_settle_entry) depth 14
+  unfolding refs.settle_one ◌>>=◌ look and_then
+  calm_settle_one settle good p y = record { after = λ s. settle_found settle good p (refs.target_of K s p y) s (entry_of K s.known p) refl }
 
   calm_settle_at : (d : ℕ) (p : N) (y : Value N) → Gentle R (refs.settle_at K d p y)
   unfolding refs.settle_at
@@ -100,7 +124,7 @@ module _ {N W : Type 0} (K : Naming N W) (R : Vat N → Vat N → Type 0) (law :
 abbrev pub WaitsBy : {N W : Type 0} → Naming N W → (Vat N → Vat N → Type 0) → Type 0
 WaitsBy {N} K R = (p q : N) → Gentle R (refs.wait_unless_cycle K p q)
 
-module _ {N W : Type 0} (K : Naming N W) (R : Vat N → Vat N → Type 0) (law : IsCalm K R) (passes : PassesBy K R) (waits : WaitsBy K R) where
+module _ {N W : Type 0} (K : Naming N W) (G : N → N → Type 0) (Far : ℕ → Type 0) (R : Vat N → Vat N → Type 0) (law : IsCalm K G R) (minds : Minds K G Far R) (passes : PassesBy K G Far R) (waits : WaitsBy K R) where
   pub calm_resolve_to : (x1 : N) → (x2 : Value N) → (x3 : Place N) → Gentle R (refs.resolve_to K x1 x2 x3)
   unfolding refs.resolve_to
   calm_resolve_to p y (Mine q) = search (calm, waits) depth 14
@@ -111,14 +135,30 @@ module _ {N W : Type 0} (K : Naming N W) (R : Vat N → Vat N → Type 0) (law :
   unfolding refs.resolve
   calm_resolve p x = search (calm, calm_resolve_to) depth 14
 
-  pub calm_send_first : (x1 : Message N) → (x2 : Value N) → (x3 : Place N) → Gentle R (refs.send_first K x1 x2 x3)
-  unfolding refs.send_first
-  calm_send_first m y (Away h n o) = search (calm, calm_deliver) depth 14
-  calm_send_first m y p = search (calm, calm_send_to, calm_settle) depth 14
+  -- the message is made and goes out
+  abbrev Sending : ℕ → ℕ → Value N → Value N → Words → List (Value N) → Place N → Act N (Value N)
+  Sending act v x y verb args p = new_message K (refs.answer_host K v p) >>= (λ new. tell (Sends act (record { id = new.0; target = x; verb = verb; args = args; answer = new.1 }))
+      >> (refs.send_first K (record { id = new.0; target = y; verb = verb; args = args; answer = new.1 }) y p >> give (Ref new.1)))
 
-  pub calm_send : (x1 : ℕ) → (x2 : Value N) → (x3 : Words) → (x4 : List (Value N)) → Gentle R (refs.send K x1 x2 x3 x4)
-  unfolding refs.send
-  calm_send act x verb args = search (calm, calm_send_first) depth 14
+  calm_sends_away : (h : ℕ) (n : N) (o : Bool) (act v : ℕ) (x y : Value N) (verb : Words) (args : List (Value N)) → Gentle R (Sending act v x y verb args (Away h n o))
+  unfolding refs.send_first
+  calm_sends_away h n o act v x y verb args = search (calm, calm_deliver) depth 14
+
+  -- a message whose target is not away
+  calm_sends_here : (act : ℕ) (x y : Value N) (verb : Words) (args : List (Value N)) (p : Place N) (id a : N) → G id a → IsFarPlace K G Far R law minds passes p
+      → Gentle R (tell (Sends act (record { id = id; target = x; verb = verb; args = args; answer = a })) >> (refs.send_to K (refs.settle K) (record { id = id; target = y; verb = verb; args = args; answer = a }) y p >> give (Ref a)))
+  calm_sends_here act x y verb args p id a g f = calm_then K G R law (calm_tell K G R law _) (calm_then K G R law (calm_send_to K G Far R law minds passes (refs.settle K) (λ q z. calm_settle K G Far R law minds passes q z) _ g y p f) (calm_give K G R law _))
+
+  sent_placed : (act : ℕ) (x y : Value N) (verb : Words) (args : List (Value N)) (p : Place N) (s : Vat N) → GivesBy R s (Sending act s.number x y verb args p s)
+  unfolding refs.send_first refs.answer_host
+  sent_placed act x y verb args (Away h n o) s = (calm_sends_away h n o act s.number x y verb args).after s
+  sent_placed act x y verb args Near s = minds.sent s _ (λ id a g. calm_sends_here act x y verb args Near id a g tt)
+  sent_placed act x y verb args (Mine n) s = minds.sent s _ (λ id a g. calm_sends_here act x y verb args (Mine n) id a g tt)
+  sent_placed act x y verb args (Gone t) s = minds.sent s _ (λ id a g. calm_sends_here act x y verb args (Gone t) id a g tt)
+
+  pub calm_send : (act : ℕ) (x : Value N) (verb : Words) (args : List (Value N)) → Gentle R (refs.send K act x verb args)
+  unfolding refs.send ◌>>=◌ look and_then
+  calm_send act x verb args = record { after = λ s. sent_placed act x (refs.follow K s x) verb args (place K s (refs.follow K s x)) s }
 
   pub calm_react_at : (x1 : Message N) → (x2 : Place N) → Gentle R (refs.react_at K x1 x2)
   unfolding refs.react_at

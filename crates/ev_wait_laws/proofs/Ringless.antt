@@ -1,22 +1,23 @@
 -- Where a vat knows no name twice, all that it does but making a view closes no ring of waits and views.
-use Rattle.std.proofs.Common.{◌≡◌, ℕ, Bool, true, false, List, [], ◌∷◌, ◌++◌, Option, Some, None, refl, sym, ap, ◌∙◌, ◌⊎◌, inl, inr, length, if◌then◌else◌, append-nil, append_assoc}
+use Rattle.std.proofs.Common.{◌≡◌, ℕ, zero, Bool, true, false, List, [], ◌∷◌, ◌++◌, Option, Some, None, refl, sym, ap, ◌∙◌, ◌⊎◌, inl, inr, length, if◌then◌else◌, append-nil, append_assoc}
 use Rattle.std.specs.Prelude.{codes}
 use Rattle.ev_machine.specs.Values.{Broken, Name, Naming, IsAnswer}
 use Rattle.ev_machine.specs.State.{Known, Change, Wait, WaitOn, See, Vat, Done, Gives, Throws, Ejects, Stops, ◌>>=◌, ◌>>◌, and_then, look, tell, alter, come, with_change, changed, changed_to, begun}
 use Rattle.ev_machine.specs.Refs as refs
 use Rattle.ev_machine.specs.Refs.{entry_of, standing_of, standing_in, waits_lead}
 use Rattle.ev_machine_laws.proofs.StepLaws.{entry_append}
-use Rattle.ev_name_laws.specs.Names.{IsAmong, Once, names_in}
+use Rattle.ev_name_laws.specs.Names.{AllOf, IsAmong, Once, names_in}
 use Rattle.ev_name_laws.proofs.Among.{among_last, among_is, names_end}
 use Rattle.ev_name_laws.proofs.Tracked.{names_change}
 use Rattle.ev_rest_laws.proofs.Entries.{SameOr, same_or, unless_either}
 use Rattle.ev_rest_laws.proofs.Gentle.{GivesBy}
 use Rattle.ev_rest_laws.proofs.ViewsGo.{entry_last}
 use Rattle.ev_rest_laws.proofs.ViewsMade.{entry_name}
-use Rattle.ev_wait_laws.proofs.Calm.{next, IsCalmChange, change_wait, IsCalm}
+use Rattle.ev_wait_laws.proofs.Calm.{next, IsCalmChange, HoldsBy, change_wait, IsCalm}
 use Rattle.ev_wait_laws.proofs.Chains.{leads_within}
 use Rattle.ev_wait_laws.proofs.Rings.{AllLoose, Fewer, fewer_loose, adds_loose, lone}
-use Rattle.ev_wait_laws.proofs.RefsCalm.{PassesBy, WaitsBy, calm_deliver, calm_settle}
+use Rattle.ev_wait_laws.proofs.Owned.{IsOwnPair, IsOther, HoldsOwn, Owned, owned_begun, owned_changed}
+use Rattle.ev_wait_laws.proofs.RefsCalm.{Minds, PassesBy, WaitsBy, calm_deliver, calm_settle}
 
 -- ---- lists without repetition
 
@@ -29,7 +30,7 @@ once_front : (xs ys : List Name) → Once (xs ++ ys) → Once xs
 once_front [] ys h = tt
 once_front (x ∷ xs) ys h = ((λ i. h.0 (among_front x xs ys i)), once_front xs ys h.1)
 
-once_last : (xs : List Name) (a : Name) → Once (xs ++ a ∷ []) → IsAmong a xs → ⊥
+pub once_last : (xs : List Name) (a : Name) → Once (xs ++ a ∷ []) → IsAmong a xs → ⊥
 once_last [] a h i = i
 once_last (x ∷ xs) a h (inl e) = h.0 (among_is x a (xs ++ a ∷ []) (sym e) (among_last xs a))
 once_last (x ∷ xs) a h (inr i) = once_last xs a h.1 i
@@ -68,11 +69,15 @@ module _ (K : Naming Name Name) (is : (a b : Name) → K.same a b ≡ true → a
   abbrev pub LessIn : List (Known Name) → List (Known Name) → Type 0
   LessIn ks ls = Grows ks ls × Fewer K is self ks ls
 
+  -- no name waits on itself or is its own view
+  abbrev pub NoneOnItself : List (Known Name) → Type 0
+  NoneOnItself ks = (n : Name) → next (standing_of K ks n) ≡ Some n → ⊥
+
   abbrev pub StepIn : List (Known Name) → List (Known Name) → Type 0
-  StepIn ks ls = Grows ks ls × (Once (names_in ls) → AllLoose K is self ks → AllLoose K is self ls)
+  StepIn ks ls = Grows ks ls × (Once (names_in ls) → AllLoose K is self ks → AllLoose K is self ls) × (Once (names_in ls) → NoneOnItself ks → NoneOnItself ls)
 
   pub less_step : (ks ls : List (Known Name)) → LessIn ks ls → StepIn ks ls
-  less_step ks ls h = (h.0, λ o all. fewer_loose K is self ks ls h.1 all)
+  less_step ks ls h = (h.0, λ o all. fewer_loose K is self ks ls h.1 all, λ o none n e. none n (h.1 n n e))
 
   pub less_same : (ks : List (Known Name)) → LessIn ks ks
   less_same ks = (grows_same ks ks refl, λ n q e. e)
@@ -81,7 +86,7 @@ module _ (K : Naming Name Name) (is : (a b : Name) → K.same a b ≡ true → a
   less_trans ks ls ms h k = (grows_trans ks ls ms h.0 k.0, λ n q e. h.1 n q (k.1 n q e))
 
   pub step_trans : (ks ls ms : List (Known Name)) → StepIn ks ls → StepIn ls ms → StepIn ks ms
-  step_trans ks ls ms h k = (grows_trans ks ls ms h.0 k.0, λ o all. k.1 o (h.1 (once_grows ls ms k.0 o) all))
+  step_trans ks ls ms h k = (grows_trans ks ls ms h.0 k.0, λ o all. k.1 o (h.1 (once_grows ls ms k.0 o) all), λ o none. k.2 o (h.2 (once_grows ls ms k.0 o) none))
 
   next_at : (ks : List (Known Name)) (n q : Name) (k : Known Name) → entry_of K ks n ≡ Some k → next k.standing ≡ Some q → next (standing_of K ks n) ≡ Some q
   unfolding standing_of standing_in
@@ -155,94 +160,120 @@ module _ (K : Naming Name Name) (is : (a b : Name) → K.same a b ≡ true → a
   linked_loose : (c : Change Name) (q : Name) → IsEdge c q → (p : Name) (ks : List (Known Name)) → ((d : ℕ) → waits_lead K d ks p q ≡ true → q ≡ p) → AllLoose K is self ks → AllLoose K is self (Linked c p q ks)
   linked_loose c q edge p ks back all = fewer_loose K is self (with_change K c p ks) (Linked c p q ks) (less_changed (Wait p) (change_wait p) q (with_change K c p ks)).1 (edge_step c q edge p ks back all)
 
+  linked_apart : (c : Change Name) (q : Name) → IsEdge c q → (p : Name) (ks : List (Known Name)) → (p ≡ q → ⊥) → NoneOnItself ks → NoneOnItself (Linked c p q ks)
+  linked_apart c q edge p ks apart none n e = pick (edge_or c q edge p n n ks (with_change K c p ks) (same_or K c p n ks) ((less_changed (Wait p) (change_wait p) q (with_change K c p ks)).1 n n e))
+    where
+      pick : (next (standing_of K ks n) ≡ Some n) ⊎ ((n ≡ p) × (n ≡ q)) → ⊥
+      pick (inl i) = none n i
+      pick (inr i) = apart (sym i.0 ∙ i.1)
+
   -- the name a comes to be known, and later p comes to wait on it
-  pub new_linked : (c : Change Name) (p a : Name) (h : ℕ) → IsEdge c a → (ks ls : List (Known Name)) → LessIn (ks ++ begun a h ∷ []) ls → StepIn ks (Linked c p a ls)
-  new_linked c p a h edge ks ls less = (grows, λ o all. linked_loose c a edge p ls (λ d i. lone K is self ls p a (alone o) d i) (fewer_loose K is self (ks ++ begun a h ∷ []) ls less.1 (fewer_loose K is self ks (ks ++ begun a h ∷ []) (less_begun ks a h).1 all)))
+  pub new_linked : (c : Change Name) (p a : Name) (h : ℕ) → IsEdge c a → (ks ls : List (Known Name)) → LessIn (ks ++ begun a h ∷ []) ls → (Once (names_in ks ++ a ∷ []) → p ≡ a → ⊥) → StepIn ks (Linked c p a ls)
+  new_linked c p a h edge ks ls less apart = (
+    grows,
+    λ o all. linked_loose c a edge p ls (λ d i. lone K is self ls p a (alone o) d i) (fewer_loose K is self (ks ++ begun a h ∷ []) ls less.1 (fewer_loose K is self ks (ks ++ begun a h ∷ []) (less_begun ks a h).1 all)),
+    λ o none. linked_apart c a edge p ls (apart (ended o)) (λ n e. none n ((less_begun ks a h).1 n n (less.1 n n e))),
+  )
     where
       grows : Grows ks (Linked c p a ls)
       grows = grows_trans ks ls (Linked c p a ls) (grows_trans ks (ks ++ begun a h ∷ []) ls (less_begun ks a h).0 less.0) (linked_grows c p a ls)
 
+      ended : Once (names_in (Linked c p a ls)) → Once (names_in ks ++ a ∷ [])
+      ended o = rw (begun_names ks a h) at (once_grows (ks ++ begun a h ∷ []) ls less.0 (once_grows ls (Linked c p a ls) (linked_grows c p a ls) o))
+
       fresh : Once (names_in (Linked c p a ls)) → entry_of K ks a ≡ None
-      fresh o = entry_none ks a (once_last (names_in ks) a (rw (begun_names ks a h) at (once_grows (ks ++ begun a h ∷ []) ls less.0 (once_grows ls (Linked c p a ls) (linked_grows c p a ls) o))))
+      fresh o = entry_none ks a (once_last (names_in ks) a (ended o))
 
       alone : Once (names_in (Linked c p a ls)) → (q : Name) → next (standing_of K ls a) ≡ Some q → ⊥
       alone o q e = new_next ks a a h q (fresh o) (less.1 a q e)
 
-  -- ---- the relations
-
-  abbrev pub Less : Vat Name → Vat Name → Type 0
-  Less s t = LessIn s.known t.known
-
-  abbrev pub Step : Vat Name → Vat Name → Type 0
-  Step s t = StepIn s.known t.known
-
-  less_law : IsCalm K Less
-  less_law = record {
-    same = λ s. less_same s.known;
-    trans = λ {s} {t} {u} h k. less_trans s.known t.known u.known h k;
-    fuel = λ s n. less_same s.known;
-    happened = λ s e. less_same s.known;
-    list = λ s vs. less_same s.known;
-    queue = λ s m. less_same s.known;
-    outbox = λ s n. less_same s.known;
-    gift = λ s g. less_same s.known;
-    opened = λ s p i. less_same s.known;
-    drawn = λ s w. less_same s.known;
-    altered = λ s c n calm. less_changed c calm n s.known;
-    came = λ s c h. less_begun s.known _ h;
-    mailed = λ s c. less_same s.known;
-    promised = λ s. less_begun s.known _ s.number;
-    messaged = λ s h id. less_begun s.known _ h;
-  }
-
   pub stays : (ks : List (Known Name)) → StepIn ks ks
   stays ks = less_step ks ks (less_same ks)
 
-  pub step_law : IsCalm K Step
-  step_law = record {
-    same = λ s. stays s.known;
-    trans = λ {s} {t} {u} h k. step_trans s.known t.known u.known h k;
-    fuel = λ s n. stays s.known;
-    happened = λ s e. stays s.known;
-    list = λ s vs. stays s.known;
-    queue = λ s m. stays s.known;
-    outbox = λ s n. stays s.known;
-    gift = λ s g. stays s.known;
-    opened = λ s p i. stays s.known;
-    drawn = λ s w. stays s.known;
-    altered = λ s c n calm. less_step s.known _ (less_changed c calm n s.known);
-    came = λ s c h. less_step s.known _ (less_begun s.known _ h);
-    mailed = λ s c. stays s.known;
-    promised = λ s. less_step s.known _ (less_begun s.known _ s.number);
-    messaged = λ s h id. less_step s.known _ (less_begun s.known _ h);
-  }
-
-  -- ---- a message that is sent on
-
-  waits_after : (s : Vat Name) (p a : Name) (h : ℕ) (d : Done Name (Unit {0})) → GivesBy Less (record s { known = s.known ++ begun a h ∷ [] }) d → GivesBy Step s (and_then d (λ u. refs.wait_on K p a))
-  unfolding and_then refs.wait_on ◌>>◌ tell alter
-  waits_after s p a h (Gives u t) l = new_linked (WaitOn a) p a h (edge_wait a) s.known t.known l
-  waits_after s p a h (Throws x t) l = tt
-  waits_after s p a h (Ejects i y t) l = tt
-  waits_after s p a h (Stops c t) l = tt
-
-  pub step_passes : PassesBy K Step
-  unfolding refs.pass_on come ◌>>=◌ ◌>>◌ and_then
-  step_passes m h n = record { after = λ s. let a : Name = K.made (IsAnswer h m.id) (length s.known) in let t : Vat Name = record s { known = s.known ++ begun a h ∷ [] } in waits_after s m.answer a h (refs.deliver K m h n t) ((calm_deliver K Less less_law m h n).after t) }
-
-  -- ---- a wait behind the test
-
   tested : (p q : Name) (ks : List (Known Name)) → waits_lead K (length ks) ks p q ≡ false → StepIn ks (Linked (WaitOn q) p q ks)
-  tested p q ks e = (linked_grows (WaitOn q) p q ks, λ o all. linked_loose (WaitOn q) q (edge_wait q) p ks (λ d h. absurd (clash d h)) all)
+  unfolding waits_lead
+  tested p q ks e = (linked_grows (WaitOn q) p q ks, λ o all. linked_loose (WaitOn q) q (edge_wait q) p ks (λ d h. absurd (clash d h)) all, λ o none. linked_apart (WaitOn q) q (edge_wait q) p ks (λ i. clash zero (rw i (self q))) none)
     where
       clash : (d : ℕ) → waits_lead K d ks p q ≡ true → ⊥
       clash d h = let both : false ≡ true = sym e ∙ leads_within K is ks p d q h in cc
 
-  by_test : (p q : Name) (s : Vat Name) (b : Bool) → waits_lead K (length s.known) s.known p q ≡ b → GivesBy Step s ((if b then refs.settle K p (Broken (codes "cycle")) else refs.wait_on K p q) s)
-  unfolding refs.wait_on ◌>>◌ tell alter and_then
-  by_test p q s true e = (calm_settle K Step step_law step_passes p (Broken (codes "cycle"))).after s
-  by_test p q s false e = tested p q s.known e
+  -- ---- the relations, at vat v
 
-  pub step_waits : WaitsBy K Step
-  unfolding refs.wait_unless_cycle ◌>>=◌ look and_then
-  step_waits p q = record { after = λ s. by_test p q s (waits_lead K (length s.known) s.known p q) refl }
+  module _ (v : ℕ) where
+    abbrev pub Less : Vat Name → Vat Name → Type 0
+    Less s t = LessIn s.known t.known × (Owned v s → Owned v t)
+
+    abbrev pub Step : Vat Name → Vat Name → Type 0
+    Step s t = Owned v s → Owned v t × StepIn s.known t.known
+
+    still : (s : Vat Name) → LessIn s.known s.known × (Owned v s → Owned v s)
+    still s = (less_same s.known, λ o. o)
+
+    less_law : IsCalm K (IsOwnPair v) Less
+    less_law = record {
+      same = λ s. still s;
+      trans = λ {s} {t} {u} h k. (less_trans s.known t.known u.known h.0 k.0, λ o. k.1 (h.1 o));
+      fuel = λ s n. still s;
+      happened = λ s e. still s;
+      list = λ s vs. still s;
+      queue = λ s m. still s;
+      outbox = λ s n. still s;
+      gift = λ s g. still s;
+      opened = λ s p i. still s;
+      drawn = λ s w. still s;
+      altered = λ s c n calm g. (less_changed c calm n s.known, λ o. (o.0, owned_changed v K c n s.known g o.1));
+      came = λ s c h. (less_begun s.known _ h, λ o. (o.0, owned_begun v s.known _ h o.1));
+      mailed = λ s c. still s;
+      promised = λ s. (less_begun s.known _ s.number, λ o. (o.0, owned_begun v s.known _ s.number o.1));
+      messaged = λ s h id. (less_begun s.known _ h, λ o. (o.0, owned_begun v s.known _ h o.1));
+    }
+
+    pub step_law : IsCalm K (IsOwnPair v) Step
+    step_law = record {
+      same = λ s o. (o, stays s.known);
+      trans = λ {s} {t} {u} h k o. let first = h o in let second = k first.0 in (second.0, step_trans s.known t.known u.known first.1 second.1);
+      fuel = λ s n o. (o, stays s.known);
+      happened = λ s e o. (o, stays s.known);
+      list = λ s vs o. (o, stays s.known);
+      queue = λ s m o. (o, stays s.known);
+      outbox = λ s n o. (o, stays s.known);
+      gift = λ s g o. (o, stays s.known);
+      opened = λ s p i o. (o, stays s.known);
+      drawn = λ s w o. (o, stays s.known);
+      altered = λ s c n calm g o. ((o.0, owned_changed v K c n s.known g o.1), less_step s.known _ (less_changed c calm n s.known));
+      came = λ s c h o. ((o.0, owned_begun v s.known _ h o.1), less_step s.known _ (less_begun s.known _ h));
+      mailed = λ s c o. (o, stays s.known);
+      promised = λ s o. ((o.0, owned_begun v s.known _ s.number o.1), less_step s.known _ (less_begun s.known _ s.number));
+      messaged = λ s h id o. ((o.0, owned_begun v s.known _ h o.1), less_step s.known _ (less_begun s.known _ h));
+    }
+
+    -- ---- a message that is sent on
+
+    pub owned_linked : (c : Change Name) (p a : Name) (ks : List (Known Name)) → HoldsBy (IsOwnPair v) c → AllOf (HoldsOwn v) ks → AllOf (HoldsOwn v) (Linked c p a ks)
+    owned_linked c p a ks g h = owned_changed v K (Wait p) a (with_change K c p ks) tt (owned_changed v K c p ks g h)
+
+    waits_after : (s : Vat Name) (p a : Name) (h : ℕ) (d : Done Name (Unit {0})) → (p ≡ a → ⊥) → GivesBy Less (record s { known = s.known ++ begun a h ∷ [] }) d → GivesBy Step s (and_then d (λ u. refs.wait_on K p a))
+    unfolding and_then refs.wait_on ◌>>◌ tell alter
+    waits_after s p a h (Gives u t) apart l = λ o. let held : Owned v t = l.1 (o.0, owned_begun v s.known a h o.1) in ((held.0, owned_linked (WaitOn a) p a t.known tt held.1), new_linked (WaitOn a) p a h (edge_wait a) s.known t.known l.0 (λ once. apart))
+    waits_after s p a h (Throws x t) apart l = tt
+    waits_after s p a h (Ejects i y t) apart l = tt
+    waits_after s p a h (Stops c t) apart l = tt
+
+    -- an answer here is none of another vat
+    abbrev pub AnswersDiffer : Type 0
+    AnswersDiffer = (h k : ℕ) (i a : Name) → IsOwnPair v i a → IsOther v h → a ≡ K.made (IsAnswer h i) k → ⊥
+
+    pub step_passes : AnswersDiffer → PassesBy K (IsOwnPair v) (IsOther v) Step
+    unfolding refs.pass_on come ◌>>=◌ ◌>>◌ and_then
+    step_passes differ m h n g f = record { after = λ s. let a : Name = K.made (IsAnswer h m.id) (length s.known) in let t : Vat Name = record s { known = s.known ++ begun a h ∷ [] } in waits_after s m.answer a h (refs.deliver K m h n t) (differ h (length s.known) m.id m.answer g f) ((calm_deliver K (IsOwnPair v) Less less_law m h n).after t) }
+
+    -- ---- a wait behind the test
+
+    by_test : Minds K (IsOwnPair v) (IsOther v) Step → PassesBy K (IsOwnPair v) (IsOther v) Step → (p q : Name) (s : Vat Name) (b : Bool) → waits_lead K (length s.known) s.known p q ≡ b → GivesBy Step s ((if b then refs.settle K p (Broken (codes "cycle")) else refs.wait_on K p q) s)
+    unfolding refs.wait_on ◌>>◌ tell alter and_then
+    by_test minds passes p q s true e = (calm_settle K (IsOwnPair v) (IsOther v) Step step_law minds passes p (Broken (codes "cycle"))).after s
+    by_test minds passes p q s false e = λ o. ((o.0, owned_linked (WaitOn q) p q s.known tt o.1), tested p q s.known e)
+
+    pub step_waits : Minds K (IsOwnPair v) (IsOther v) Step → PassesBy K (IsOwnPair v) (IsOther v) Step → WaitsBy K Step
+    unfolding refs.wait_unless_cycle ◌>>=◌ look and_then
+    step_waits minds passes p q = record { after = λ s. by_test minds passes p q s (waits_lead K (length s.known) s.known p q) refl }

@@ -1,43 +1,66 @@
 -- In each vat of a run that knows no name twice chains of waits and views end.
-use Rattle.std.proofs.Common.{◌≡◌, ℕ, zero, suc, Bool, true, false, List, [], ◌∷◌, ◌++◌, Option, Some, None, refl, sym, ◌∙◌, map, append-nil}
+use Rattle.std.proofs.Common.{◌≡◌, ℕ, zero, suc, Bool, true, false, List, [], ◌∷◌, ◌++◌, Option, Some, None, refl, sym, ◌∙◌, map, length, append-nil}
 use Rattle.std.specs.Prelude.{slice_get}
-use Rattle.ev_machine.specs.Values.{Name, Root, naming}
-use Rattle.ev_machine.specs.State.{Unsettled, Known, Vat, Done, begun}
+use Rattle.ev_machine.specs.Values.{Name, Root, Object, Sent, Answer, Promise, Gift, naming}
+use Rattle.ev_machine.specs.State.{Note, Deliver, Open, Ask, SettledTo, Elsewhere, Shorten, Unsettled, Known, Vat, Done, begun}
 use Rattle.ev_machine.specs.Refs.{entry_of, standing_of, standing_in}
 use Rattle.ev_run.specs.Draws.{draw_word}
 use Rattle.ev_run.specs.World as world
 use Rattle.ev_run.specs.World.{Script, Program, Entry, World, Goes, names, names_of, readied}
-use Rattle.ev_name_laws.specs.Names.{names_in, Once}
+use Rattle.ev_name_laws.specs.Names.{IsMade, IsMessageMade, IsMessageName, NoteOk, names_in, Once}
+use Rattle.ev_name_laws.proofs.Facts.{all_map}
 use Rattle.ev_name_laws.proofs.Run.{Stands, opened_stands}
 use Rattle.ev_rest_laws.proofs.Gentle.{AfterGives, gives_map}
+use Rattle.ev_rest_laws.proofs.OwnArrive.{NamesMail}
+use Rattle.ev_rest_laws.proofs.OwnKeeps.{Whole}
+use Rattle.ev_rest_laws.proofs.OwnRuns.{begins_own}
 use Rattle.ev_rest_laws.proofs.RunLift.{StepsKeep, InVats, steps_keep, opens_keep, all_allowed}
 use Rattle.ev_rest_laws.proofs.ViewsRuns.{new_gifts}
-use Rattle.ev_wait_laws.specs.Waits.{NoneWaitsOnItself, WaitsEnd, WaitsEndInRuns}
+use Rattle.ev_wait_laws.specs.Waits.{WaitsEnd, WaitsEndInRuns}
 use Rattle.ev_wait_laws.proofs.Calm.{next}
 use Rattle.ev_wait_laws.proofs.Chains.{ends_within}
+use Rattle.ev_wait_laws.proofs.Owned.{Owned}
 use Rattle.ev_wait_laws.proofs.Rings.{AllLoose, loose_ends}
-use Rattle.ev_wait_laws.proofs.Ringless.{once_grows}
-use Rattle.ev_wait_laws.proofs.RinglessSteps.{is, self, By, ring_taking, ring_opening, ring_notice, ring_arrive}
+use Rattle.ev_wait_laws.proofs.Ringless.{NoneOnItself, once_grows}
+use Rattle.ev_wait_laws.proofs.RinglessSteps.{is, self, By, On, ring_taking, ring_opening, ring_notice, ring_arrive}
+
+message_named : (vats : List (Vat Name)) (m : Name) → IsMessageMade vats m → IsMessageName m
+message_named vats (Sent m) h = tt
+message_named vats (Root w) h = absurd h
+message_named vats (Object w i) h = absurd h
+message_named vats (Promise w i) h = absurd h
+message_named vats (Answer w m) h = absurd h
+message_named vats (Gift w i) h = absurd h
+
+-- what is delivered is named as a message
+names_mail : (word : ℕ → ℕ) (v : ℕ) (vats : List (Vat Name)) (d : ℕ) (n : Note Name) → NoteOk (IsMade vats d) n → NamesMail word v n
+names_mail word v vats d (Deliver m n verb ys) h = message_named vats m h.0
+names_mail word v vats d (Open i n) h = tt
+names_mail word v vats d (Ask p i n) h = tt
+names_mail word v vats d (SettledTo n y) h = tt
+names_mail word v vats d (Elsewhere n c) h = tt
+names_mail word v vats d (Shorten n c i) h = tt
 
 module _ (script : Script) where
   abbrev word : ℕ → ℕ
   word = draw_word script.key
 
   abbrev Ringless : ℕ → Vat Name → Type 0
-  Ringless v s = Once (names_in s.known) → AllLoose (naming word v) (is word v) (self word v) s.known
+  Ringless v s = Owned v s × (Once (names_in s.known) → AllLoose (naming word v) (is word v) (self word v) s.known × NoneOnItself (naming word v) (is word v) (self word v) s.known)
 
   -- each notice is allowed
   abbrev Any : ℕ → ℕ → Type 0
   Any v to = Unit {0}
 
   after_ring : (v : ℕ) (s : Vat Name) (d : Done Name (Unit {0})) → Ringless v s → AfterGives (By word v s) d → AfterGives (Ringless v) d
-  after_ring v s d h = gives_map (By word v s) (Ringless v) d (λ t r o. r.1 o (h (once_grows (naming word v) (is word v) (self word v) s.known t.known r.0 o)))
+  after_ring v s d h = gives_map (By word v s) (Ringless v) d (λ t r. let next : Owned v t × On word v s.known t.known = r h.0 in let back : Once (names_in t.known) → Once (names_in s.known) = once_grows (naming word v) (is word v) (self word v) s.known t.known next.1.0 in
+      (next.0, λ o. let all = h.1 (back o) in (next.1.1 o all.0, next.1.2 o all.1)))
 
   rings_keep : StepsKeep script Ringless Any
   unfolding names world.names_of readied
   rings_keep = record {
     turn = λ w v s m ms g i q h. after_ring v s _ h (ring_taking word v (world.tree_at script.vats v) script.depth m (readied w (record s { queue = ms })));
-    note = λ w from v s n g i ok h. after_ring v s _ h (ring_arrive word v from (names_in s.known) n (readied w s) (new_gifts script w v s g i).gifts);
+    note = λ w from v s n g i ok h. after_ring v s _ h (ring_arrive word v from (names_in s.known) n (readied w s) refl (names_mail word v w.vats (length w.drawn) n ok) (new_gifts script w v s g i).gifts);
     notice = λ w v to s g i ok h. after_ring v s _ h (ring_notice word v to (readied w s));
     opening = λ w v p s g i h. after_ring v s _ h (ring_opening word v p.tree script.depth (Root v) (world.given script.vats p.knows) (readied w s));
   }
@@ -69,15 +92,18 @@ module _ (script : Script) where
   some_same : (a b : Vat Name) → Some a ≡ Some b → a ≡ b
   some_same a b e = cc
 
-  fresh_ringless : (u : ℕ) (ps : List Program) (v n : ℕ) (s : Vat Name) → slice_get (world.fresh_from script u ps) n ≡ Some s → Ringless v s
+  fresh_has_none : (u : ℕ) (ps : List Program) (v n : ℕ) (s : Vat Name) → slice_get (world.fresh_from script u ps) n ≡ Some s → (m q : Name) → next (standing_of (names script v) s.known m) ≡ Some q → ⊥
   unfolding world.fresh_from names
-  fresh_ringless u [] v n s e = cc
-  fresh_ringless u (p ∷ ps) v zero s e = let one : Ringless v (world.fresh script u p) = λ o m. (zero, λ q i. absurd (fresh_next v u p m q i)) in rw (some_same (world.fresh script u p) s e) at one
-  fresh_ringless u (p ∷ ps) v (suc n) s e = fresh_ringless (suc u) ps v n s e
+  fresh_has_none u [] v n s e m q i = cc
+  fresh_has_none u (p ∷ ps) v zero s e m q i = fresh_next v u p m q (rw (sym (some_same (world.fresh script u p) s e)) at i)
+  fresh_has_none u (p ∷ ps) v (suc n) s e m q i = fresh_has_none (suc u) ps v n s e m q i
+
+  owned_whole : (v : ℕ) (s : Vat Name) → Whole word v s → Owned v s
+  owned_whole v s h = (h.0, all_map (λ k i. i.1) s.known h.2)
 
   begins_ringless : InVats script Ringless Any (world.begins script)
-  unfolding world.begins
-  begins_ringless v s e = fresh_ringless zero script.vats v v s e
+  unfolding world.begins names
+  begins_ringless v s e = (owned_whole v s (begins_own script v s e), λ o. ((λ m. (zero, λ q i. absurd (fresh_has_none zero script.vats v v s e m q i))), λ m i. fresh_has_none zero script.vats v v s e m m i))
 
   -- ---- the worlds of a run
 
@@ -92,9 +118,9 @@ module _ (script : Script) where
     stepped_ringless : (w x : World) (es : List Entry) (k : ℕ) → world.open_from script zero script.vats (world.begins script) ≡ Goes w → world.steps_from script es k w ≡ Goes x → InVats script Ringless Any x
     stepped_ringless w x es k e i = steps_keep script Ringless Any rings_keep es k w x (opened_stands script once script.vats [] w (sym (append-nil script.vats)) e) (all_allowed Any (λ v to. tt) es) (opened_ringless script.vats [] w (sym (append-nil script.vats)) e) i
 
-  ends : (v : ℕ) (s : Vat Name) → Ringless v s → Once (names_in s.known) → NoneWaitsOnItself (names script v) s.known → WaitsEnd (names script v) s.known
+  ends : (v : ℕ) (s : Vat Name) → Ringless v s → Once (names_in s.known) → WaitsEnd (names script v) s.known
   unfolding names
-  ends v s h o none n = let at = h o n in ends_within (naming word v) (is word v) s.known at.0 n (loose_ends (naming word v) (is word v) (self word v) s.known none at.0 n at.1)
+  ends v s h o n = let all = h.1 o in let at = all.0 n in ends_within (naming word v) (is word v) s.known at.0 n (loose_ends (naming word v) (is word v) (self word v) s.known all.1 at.0 n at.1)
 
 pub waits_end_in_runs : WaitsEndInRuns
 waits_end_in_runs script once = (

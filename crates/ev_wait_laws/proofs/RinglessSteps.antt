@@ -1,23 +1,30 @@
 -- Where a vat knows no name twice, no step of it closes a ring of waits and views.
-use Rattle.std.proofs.Common.{◌≡◌, ℕ, zero, Bool, true, false, List, [], ◌∷◌, ◌++◌, Option, Some, None, refl, sym, length, if◌then◌else◌, ◌==◌}
+use Rattle.std.proofs.Common.{◌≡◌, ℕ, zero, suc, Bool, true, false, List, [], ◌∷◌, ◌++◌, Option, Some, None, refl, sym, ap, ◌∙◌, length, if◌then◌else◌, ◌==◌}
 use Rattle.std.specs.Prelude.{codes}
-use Rattle.ev_machine.specs.Values.{Broken, Name, Naming, naming, name_of, host_of, IsGift}
-use Rattle.ev_machine.specs.State.{Binding, Message, Known, See, Ask, Shorten, Note, Deliver, Open, SettledTo, Elsewhere, GiftEntry, Put, Vat, Act, ◌>>=◌, ◌>>◌, and_then, give, look, tell, alter, come, draw, draws, drawn_at, send_out, new_gift, mark, begun, is_in}
+use Rattle.std.proofs.lemmas.Bool.{eq-eqb}
+use Rattle.ev_machine.specs.Values.{Value, Null, Flag, Number, Letter, Text, Prim, Broken, Items, Ref, Name, Root, Object, Sent, Answer, Promise, Gift, Msg, Spot, Own as OwnThing, Foreign, NoObject, Naming, naming, name_of, answer_of, mail_of, spot_of, host_of, IsAnswer, IsGift, IsLearnt}
+use Rattle.ev_machine.specs.State.{Binding, Message, Known, See, Ask, Shorten, Note, Deliver, Open, SettledTo, Elsewhere, GiftEntry, Put, Vat, Done, Gives, Throws, Ejects, Stops, Act, ◌>>=◌, ◌>>◌, and_then, give, look, tell, alter, come, draw, draws, drawn_at, send_out, new_gift, new_message, mark, begun, is_in}
 use Rattle.ev_machine.specs.Refs as refs
-use Rattle.ev_machine.specs.Refs.{host_at}
+use Rattle.ev_machine.specs.Refs.{Place, Mine, Away, host_at, hosted, place, spotted}
 use Rattle.ev_machine.specs.Arrive as arrive
 use Rattle.ev_machine.specs.Arrive.{Old, New}
 use Rattle.ev_machine.specs.Eval as eval
 use Rattle.ev_kernel.specs.declared.node.Node.{Node}
 use Rattle.ev_run.specs.World as world
-use Rattle.ev_rest_laws.proofs.Gentle.{AfterGives, Gentle, gives_by, gives_map}
+use Rattle.ev_name_laws.specs.Names.{AllOf, IsAmong, IsKnownIn, IsMessageName, Once, names_in}
+use Rattle.ev_name_laws.proofs.Among.{among_last, names_end}
+use Rattle.ev_name_laws.proofs.SameNames.{old_known}
+use Rattle.ev_name_laws.proofs.Tracked.{known_among}
+use Rattle.ev_rest_laws.proofs.Gentle.{AfterGives, GivesBy, Gentle, gives_by, gives_map}
+use Rattle.ev_rest_laws.proofs.OwnArrive.{NamesMail}
 use Rattle.ev_rest_laws.proofs.TurnsGentle.{IsFree}
 use Rattle.ev_rest_laws.proofs.ViewsMade.{same_is, same_self}
-use Rattle.ev_wait_laws.proofs.Calm.{IsCalm, calm}
-use Rattle.ev_wait_laws.proofs.RefsCalm.{PassesBy, WaitsBy, calm_settle}
-use Rattle.ev_wait_laws.proofs.ArriveCalm.{calm_arrive_deliver, calm_arrive_open, calm_arrive_ask, calm_arrive_settled, calm_arrive_shorten, calm_notice_name, calm_notice_gift}
+use Rattle.ev_wait_laws.proofs.Calm.{IsCalm, calm, widen}
+use Rattle.ev_wait_laws.proofs.Owned.{IsOwnPair, IsOther, HoldsOwn, Owned, owned_begun, found_held}
+use Rattle.ev_wait_laws.proofs.RefsCalm.{Minds, PassesBy, WaitsBy, calm_settle}
+use Rattle.ev_wait_laws.proofs.ArriveCalm.{AnswersHere, calm_arrive_deliver, calm_arrive_open, calm_arrive_ask, calm_arrive_settled, calm_arrive_shorten, calm_notice_name, calm_notice_gift}
 use Rattle.ev_wait_laws.proofs.TurnsCalm.{calm_taking, calm_opening}
-use Rattle.ev_wait_laws.proofs.Ringless.{StepIn, Linked, less_step, less_same, less_begun, step_trans, stays, new_linked, edge_see, step_law, step_passes, step_waits}
+use Rattle.ev_wait_laws.proofs.Ringless.{StepIn, Linked, AnswersDiffer, once_last, less_same, new_linked, owned_linked, edge_see, step_law, step_passes, step_waits}
 
 module _ (word : ℕ → ℕ) (v : ℕ) where
   abbrev Names : Naming Name Name
@@ -36,19 +43,97 @@ module _ (word : ℕ → ℕ) (v : ℕ) where
   On ks ls = StepIn Names is self ks ls
 
   abbrev pub By : Vat Name → Vat Name → Type 0
-  By s t = On s.known t.known
+  By s t = Owned v s → Owned v t × On s.known t.known
 
-  law : IsCalm Names By
-  law = step_law Names is self
+  abbrev Good : Name → Name → Type 0
+  Good = IsOwnPair v
 
-  passes : PassesBy Names By
-  passes = step_passes Names is self
+  law : IsCalm Names Good By
+  law = step_law Names is self v
+
+  with_owned : {A : Type 0} (s : Vat Name) (d : Done Name A) → (Owned v s → GivesBy By s d) → GivesBy By s d
+  with_owned s (Gives a t) f = λ o. f o o
+  with_owned s (Throws p t) f = tt
+  with_owned s (Ejects n y t) f = tt
+  with_owned s (Stops c t) f = tt
+
+  -- ---- what is away is of another vat
+
+  other_spot : (b : Bool) (w i h : ℕ) → (v == w) ≡ b → ◌≡◌ {A = Spot} (elim b [ true ↦ OwnThing i | false ↦ Foreign w ]) (Foreign h) → h ≡ v → ⊥
+  other_spot true w i h t e f = cc
+  other_spot false w i h t e f = let same : w ≡ h = cc in let yes : (v == w) ≡ true = eq-eqb v w (sym f ∙ sym same) in cc
+
+  foreign_other : (n : Name) (h : ℕ) → Names.spot n ≡ Foreign h → h ≡ v → ⊥
+  unfolding naming spot_of
+  foreign_other (Object w i) h e f = other_spot (v == w) w i h refl e f
+  foreign_other (Root w) h e f = cc
+  foreign_other (Promise w i) h e f = cc
+  foreign_other (Answer w m) h e f = cc
+  foreign_other (Gift w i) h e f = cc
+  foreign_other (Sent m) h e f = cc
+
+  hosted_other : (b : Bool) (u w h : ℕ) (n m : Name) (o : Bool) → (u == w) ≡ b → ◌≡◌ {A = Place Name} (elim b [ true ↦ Mine n | false ↦ Away w n false ]) (Away h m o) → u ≡ h → ⊥
+  hosted_other true u w h n m o t e f = cc
+  hosted_other false u w h n m o t e f = let same : w ≡ h = cc in let yes : (u == w) ≡ true = eq-eqb u w (f ∙ sym same) in cc
+
+  spotted_other : (s : Vat Name) (n m : Name) (h : ℕ) (o : Bool) (t : Spot) → s.number ≡ v → Names.spot n ≡ t → spotted Names s n t ≡ Away h m o → h ≡ v → ⊥
+  unfolding spotted hosted
+  spotted_other s n m h o (OwnThing i) u g e f = cc
+  spotted_other s n m h o (Foreign w) u g e f = let same : w ≡ h = cc in foreign_other n w g (same ∙ f)
+  spotted_other s n m h o NoObject u g e f = hosted_other (s.number == host_at Names s.number s.known n) s.number (host_at Names s.number s.known n) h n m o refl e (u ∙ sym f)
+
+  away_other : (s : Vat Name) (y : Value Name) (m : Name) (h : ℕ) (o : Bool) → s.number ≡ v → place Names s y ≡ Away h m o → h ≡ v → ⊥
+  unfolding place
+  away_other s (Ref n) m h o u e f = spotted_other s n m h o (Names.spot n) u refl e f
+  away_other s (Broken p) m h o u e f = cc
+  away_other s Null m h o u e f = cc
+  away_other s (Flag b) m h o u e f = cc
+  away_other s (Number z) m h o u e f = cc
+  away_other s (Letter c) m h o u e f = cc
+  away_other s (Text t) m h o u e f = cc
+  away_other s (Prim i) m h o u e f = cc
+  away_other s (Items i) m h o u e f = cc
+
+  -- ---- new messages
+
+  new_sent : (s : Vat Name) (f : Name × Name → Act Name (Value Name)) → ((i a : Name) → Good i a → Gentle By (f (i, a))) → GivesBy By s ((new_message Names s.number >>= f) s)
+  unfolding ◌>>=◌ new_message and_then naming mail_of name_of answer_of host_of
+  new_sent s f g = with_owned s _ (λ o. let m : Msg = record { sender = v; number = s.messages } in let t : Vat Name = record s { messages = suc s.messages; mails = s.mails ++ Sent m ∷ []; known = s.known ++ begun (Answer s.number m) s.number ∷ [] } in
+      widen Names Good By law {s = s} {t = t} (law.messaged s s.number (Sent m)) (f (Sent m, Answer s.number m) t) ((g (Sent m) (Answer s.number m) (tt, o.0)).after t))
+
+  minds : Minds Names Good (IsOther v) By
+  minds = record {
+    found = λ s p k d e f. with_owned s d (λ o. f (found_held v Names s.known p k o.1 e));
+    far = λ s y h n o d e f. with_owned s d (λ w. f (away_other s y n h o w.0 e));
+    sent = new_sent;
+  }
+
+  answer_host : (u : ℕ) (m : Name) → IsMessageName m → host_of (answer_of u m) ≡ u
+  unfolding answer_of host_of
+  answer_host u (Sent m) i = refl
+  answer_host u (Root w) i = absurd i
+  answer_host u (Object w j) i = absurd i
+  answer_host u (Promise w j) i = absurd i
+  answer_host u (Answer w m) i = absurd i
+  answer_host u (Gift w j) i = absurd i
+
+  differ : AnswersDiffer Names is self v
+  unfolding naming name_of
+  differ h k i a g f e = f (sym (answer_host h i g.0) ∙ ap host_of (sym e) ∙ g.1)
+
+  passes : PassesBy Names Good (IsOther v) By
+  passes = step_passes Names is self v differ
 
   waits : WaitsBy Names By
-  waits = step_waits Names is self
+  waits = step_waits Names is self v minds passes
+
+  carried : (m : Name) → IsMessageName m → AnswersHere Names Good (IsOther v) By law minds passes waits m
+  unfolding ◌>>=◌ come and_then naming mail_of name_of
+  carried m i s k f g = with_owned s _ (λ o. let a : Name = answer_of s.number m in let t : Vat Name = record s { known = s.known ++ begun a s.number ∷ [] } in
+      widen Names Good By law {s = s} {t = t} (law.came s (IsAnswer s.number m) s.number) (f a t) ((g a (i, answer_host s.number m i ∙ o.0)).after t))
 
   free : IsFree By
-  free = record { activations = λ s. stays Names is self s.known; thing = λ s x. stays Names is self s.known; killed = λ s n. stays Names is self s.known; slot = λ s c. stays Names is self s.known; written = λ s n x. stays Names is self s.known }
+  free = record { activations = λ s. law.same s; thing = λ s x. law.same s; killed = λ s n. law.same s; slot = λ s c. law.same s; written = λ s n x. law.same s }
 
   after_calm : {A : Type 0} (m : Act Name A) (s : Vat Name) → Gentle By m → AfterGives (By s) (m s)
   after_calm m s h = gives_by By (By s) s (m s) (λ t r. r) (h.after s)
@@ -57,21 +142,21 @@ module _ (word : ℕ → ℕ) (v : ℕ) where
 
   marked : (w : ℕ) → Gentle By (mark w)
   unfolding mark
-  marked w = record { after = λ s. stays Names is self s.known }
+  marked w = record { after = law.same }
 
   calm_notice_all : (w : ℕ) → Gentle By (arrive.notice_all Names w)
   unfolding arrive.notice_all
-  calm_notice_all w = search (calm, marked, calm_notice_name, calm_notice_gift, law, passes, waits) depth 14
+  calm_notice_all w = search (calm, marked, calm_notice_name, calm_notice_gift, law, minds, passes, waits) depth 14
 
   calm_notice : (w : ℕ) → Gentle By (arrive.notice Names w)
   unfolding arrive.notice
   calm_notice w = search (calm, calm_notice_all, law) depth 14
 
   pub ring_taking : (tree : List Node) (depth : ℕ) (m : Message Name) (s : Vat Name) → AfterGives (By s) (eval.taking Names tree depth m s)
-  ring_taking tree depth m s = after_calm (eval.taking Names tree depth m) s (calm_taking Names By law passes waits free tree depth m)
+  ring_taking tree depth m s = after_calm (eval.taking Names tree depth m) s (calm_taking Names Good (IsOther v) By law minds passes waits free tree depth m)
 
   pub ring_opening : (tree : List Node) (depth : ℕ) (root : Name) (given : List (Binding Name)) (s : Vat Name) → AfterGives (By s) (eval.opening Names tree depth root given s)
-  ring_opening tree depth root given s = after_calm (eval.opening Names tree depth root given) s (calm_opening Names By law passes waits free tree depth root given)
+  ring_opening tree depth root given s = after_calm (eval.opening Names tree depth root given) s (calm_opening Names Good (IsOther v) By law minds passes waits free tree depth root given)
 
   pub ring_notice : (w : ℕ) (s : Vat Name) → AfterGives (By s) (arrive.notice Names w s)
   ring_notice w s = after_calm (arrive.notice Names w) s (calm_notice w)
@@ -82,57 +167,65 @@ module _ (word : ℕ → ℕ) (v : ℕ) where
   abbrev pub NoGiftNext : Vat Name → Type 0
   NoGiftNext s = (p : ℕ) → arrive.gift_at p (length s.drawn) s.gifts ≡ None
 
-  seen : (ks : List (Known Name)) (n g : Name) (h : ℕ) → On ks (Linked Names is self (See g) n g (ks ++ begun g h ∷ []))
-  seen ks n g h = new_linked Names is self (See g) n g h (edge_see g) ks (ks ++ begun g h ∷ []) (less_same Names is self (ks ++ begun g h ∷ []))
+  -- a name that is known is not the gift that comes to be known
+  seen_apart : (ks : List (Known Name)) (n : Name) (u i : ℕ) → IsKnownIn (names_in ks) n → Once (names_in ks ++ Gift u i ∷ []) → n ≡ Gift u i → ⊥
+  seen_apart ks n u i a o e = let known : IsKnownIn (names_in ks) (Gift u i) = rw e at a in once_last (names_in ks) (Gift u i) o known
+
+  seen : (ks : List (Known Name)) (n : Name) (u i h : ℕ) → IsKnownIn (names_in ks) n → On ks (Linked Names is self (See (Gift u i)) n (Gift u i) (ks ++ begun (Gift u i) h ∷ []))
+  seen ks n u i h a = let g : Name = Gift u i in new_linked Names is self (See g) n g h (edge_see g) ks (ks ++ begun g h ∷ []) (less_same Names is self (ks ++ begun g h ∷ [])) (seen_apart ks n u i a)
+
+  seen_owned : (ks : List (Known Name)) (n g : Name) (h : ℕ) → AllOf (HoldsOwn v) ks → AllOf (HoldsOwn v) (Linked Names is self (See g) n g (ks ++ begun g h ∷ []))
+  seen_owned ks n g h o = owned_linked Names is self v (See g) n g (ks ++ begun g h ∷ []) tt (owned_begun v ks g h o)
 
   -- here: it is a gift that this vat hosts
-  view_own : (s : Vat Name) (n : Name) (h u i w : ℕ) (p : Put Name) (o : Option (GiftEntry Name)) → o ≡ None
+  view_own : (s : Vat Name) (n : Name) (h u i w : ℕ) (p : Put Name) (o : Option (GiftEntry Name)) → o ≡ None → IsKnownIn (names_in s.known) n
       → AfterGives (By s) ((arrive.gift_or_new Names u h i o >>= (λ g. arrive.see Names n g)) (record s { drawn = s.drawn ++ w ∷ []; outbox = s.outbox ++ p ∷ [] }))
-  unfolding arrive.gift_or_new arrive.see ◌>>=◌ ◌>>◌ and_then come new_gift give tell alter
-  view_own s n h u i w p (Some g) e = cc
-  view_own s n h u i w p None e = seen s.known n (Names.made (IsGift u i) (length s.known)) u
+  unfolding arrive.gift_or_new arrive.see ◌>>=◌ ◌>>◌ and_then come new_gift give tell alter naming name_of
+  view_own s n h u i w p (Some g) e a = cc
+  view_own s n h u i w p None e a = λ o. ((o.0, seen_owned s.known n (Gift u i) u o.1), seen s.known n u i u a)
 
   -- elsewhere: the gift is asked for
-  view_asked : (s : Vat Name) (n : Name) (h c i w : ℕ) (p : Put Name)
+  view_asked : (s : Vat Name) (n : Name) (h c i w : ℕ) (p : Put Name) → IsKnownIn (names_in s.known) n
       → AfterGives (By s) (((come Names (IsGift c i) c >>= (λ g. send_out c (Ask h i g) >> give g)) >>= (λ g. arrive.see Names n g)) (record s { drawn = s.drawn ++ w ∷ []; outbox = s.outbox ++ p ∷ [] }))
-  unfolding arrive.see ◌>>=◌ ◌>>◌ and_then come send_out give tell alter
-  view_asked s n h c i w p = seen s.known n (Names.made (IsGift c i) (length s.known)) c
+  unfolding arrive.see ◌>>=◌ ◌>>◌ and_then come send_out give tell alter naming name_of
+  view_asked s n h c i w p a = λ o. ((o.0, seen_owned s.known n (Gift c i) c o.1), seen s.known n c i c a)
 
-  view_had : (s : Vat Name) (n : Name) (h i w : ℕ) (p : Put Name) → i ≡ length s.drawn → NoGiftNext s
+  view_had : (s : Vat Name) (n : Name) (h i w : ℕ) (p : Put Name) → i ≡ length s.drawn → NoGiftNext s → IsKnownIn (names_in s.known) n
       → AfterGives (By s) ((arrive.have_gift Names h i >>= (λ g. arrive.see Names n g)) (record s { drawn = s.drawn ++ w ∷ []; outbox = s.outbox ++ p ∷ [] }))
   unfolding arrive.have_gift ◌>>=◌ and_then look
-  view_had s n h i w p l new = view_own s n h s.number i w p (arrive.gift_at h i s.gifts) (rw (sym l) at (new h))
+  view_had s n h i w p l new a = view_own s n h s.number i w p (arrive.gift_at h i s.gifts) (rw (sym l) at (new h)) a
 
-  view_there_at : (s : Vat Name) (n : Name) (h c i w : ℕ) (p : Put Name) (b : Bool) → i ≡ length s.drawn → NoGiftNext s
+  view_there_at : (s : Vat Name) (n : Name) (h c i w : ℕ) (p : Put Name) (b : Bool) → i ≡ length s.drawn → NoGiftNext s → IsKnownIn (names_in s.known) n
       → AfterGives (By s) (((if b then arrive.have_gift Names h i else (come Names (IsGift c i) c >>= (λ g. send_out c (Ask h i g) >> give g))) >>= (λ g. arrive.see Names n g)) (record s { drawn = s.drawn ++ w ∷ []; outbox = s.outbox ++ p ∷ [] }))
-  view_there_at s n h c i w p true l new = view_had s n h i w p l new
-  view_there_at s n h c i w p false l new = view_asked s n h c i w p
+  view_there_at s n h c i w p true l new a = view_had s n h i w p l new a
+  view_there_at s n h c i w p false l new a = view_asked s n h c i w p a
 
-  view_drawn : (s : Vat Name) (n : Name) (h c w : ℕ) (o : Option ℕ) → NoGiftNext s
+  view_drawn : (s : Vat Name) (n : Name) (h c w : ℕ) (o : Option ℕ) → NoGiftNext s → IsKnownIn (names_in s.known) n
       → AfterGives (By s) (and_then (draws w o s) (λ i. send_out h (Shorten n c i) >> (arrive.gift_there Names s.number h c i >>= (λ g. arrive.see Names n g))))
   unfolding draws and_then ◌>>◌ send_out arrive.gift_there
-  view_drawn s n h c w (Some j) new = tt
-  view_drawn s n h c w None new = view_there_at s n h c (length s.drawn) w (record { to = h; note = Shorten n c (length s.drawn) }) (c == s.number) refl new
+  view_drawn s n h c w (Some j) new a = tt
+  view_drawn s n h c w None new a = view_there_at s n h c (length s.drawn) w (record { to = h; note = Shorten n c (length s.drawn) }) (c == s.number) refl new a
 
-  view_there : (s : Vat Name) (n : Name) (c : ℕ) → NoGiftNext s → AfterGives (By s) (arrive.view_there Names n c s)
+  view_there : (s : Vat Name) (n : Name) (c : ℕ) → NoGiftNext s → IsKnownIn (names_in s.known) n → AfterGives (By s) (arrive.view_there Names n c s)
   unfolding arrive.view_there ◌>>=◌ and_then look draw
-  view_there s n c new = view_drawn s n (host_at Names s.number s.known n) c (Names.word (length s.drawn)) (drawn_at zero (Names.word (length s.drawn)) s.drawn) new
+  view_there s n c new a = view_drawn s n (host_at Names s.number s.known n) c (Names.word (length s.drawn)) (drawn_at zero (Names.word (length s.drawn)) s.drawn) new a
 
-  went : (n : Name) (c : ℕ) (s : Vat Name) (b : Bool) → NoGiftNext s → AfterGives (By s) ((if b then refs.settle Names n (Broken (codes "partition")) else arrive.view_there Names n c) s)
-  went n c s true new = after_calm (refs.settle Names n (Broken (codes "partition"))) s (calm_settle Names By law passes n (Broken (codes "partition")))
-  went n c s false new = view_there s n c new
+  went : (n : Name) (c : ℕ) (s : Vat Name) (b : Bool) → NoGiftNext s → IsKnownIn (names_in s.known) n → AfterGives (By s) ((if b then refs.settle Names n (Broken (codes "partition")) else arrive.view_there Names n c) s)
+  went n c s true new a = after_calm (refs.settle Names n (Broken (codes "partition"))) s (calm_settle Names Good (IsOther v) By law minds passes n (Broken (codes "partition")))
+  went n c s false new a = view_there s n c new a
 
-  either_old : (x : Name) (c : ℕ) (s : Vat Name) (b : Bool) → NoGiftNext s → AfterGives (By s) (arrive.arrive_elsewhere Names (elim b [ true ↦ Old x | false ↦ New x (host_of x) ]) c s)
-  unfolding arrive.arrive_elsewhere arrive.learn_name ◌>>=◌ and_then give look come naming name_of
-  either_old x c s true new = went x c s (is_in c s.noticed) new
-  either_old x c s false new = let t : Vat Name = record s { known = s.known ++ begun x (host_of x) ∷ [] } in
-      gives_map (By t) (By s) _ (λ u r. step_trans Names is self s.known t.known u.known (less_step Names is self s.known t.known (less_begun Names is self s.known x (host_of x))) r) (went x c t (is_in c s.noticed) new)
+  either_old : (x : Name) (c : ℕ) (s : Vat Name) (b : Bool) → world.is_old (names_in s.known) x ≡ b → NoGiftNext s → AfterGives (By s) (arrive.arrive_elsewhere Names (elim b [ true ↦ Old x | false ↦ New x (host_of x) ]) c s)
+  unfolding arrive.arrive_elsewhere arrive.learn_name ◌>>=◌ and_then give look come naming name_of begun
+  either_old x c s true e new = went x c s (is_in c s.noticed) new (old_known (names_in s.known) x e)
+  either_old x c s false e new = let t : Vat Name = record s { known = s.known ++ begun x (host_of x) ∷ [] } in
+      let among : IsAmong x (names_in t.known) = rw (sym (names_end s.known (begun x (host_of x)))) at (among_last (names_in s.known) x) in
+      gives_map (By t) (By s) _ (λ u r. law.trans {s = s} {t = t} {u = u} (law.came s (IsLearnt x) (host_of x)) r) (went x c t (is_in c s.noticed) new (known_among (names_in t.known) x among))
 
-  pub ring_arrive : (from : ℕ) (ks : List Name) (n : Note Name) (s : Vat Name) → NoGiftNext s → AfterGives (By s) (arrive.arrive Names from (world.read_note ks n) s)
+  pub ring_arrive : (from : ℕ) (ks : List Name) (n : Note Name) (s : Vat Name) → ks ≡ names_in s.known → NamesMail word v n → NoGiftNext s → AfterGives (By s) (arrive.arrive Names from (world.read_note ks n) s)
   unfolding arrive.arrive world.read_note world.read_name
-  ring_arrive from ks (Deliver m n verb ys) s new = after_calm _ s (calm_arrive_deliver Names By law passes waits from _ _ verb _)
-  ring_arrive from ks (Open i n) s new = after_calm _ s (calm_arrive_open Names By law passes waits from i _)
-  ring_arrive from ks (Ask p i n) s new = after_calm _ s (calm_arrive_ask Names By law passes waits from p i)
-  ring_arrive from ks (SettledTo n y) s new = after_calm _ s (calm_arrive_settled Names By law passes waits from _ _)
-  ring_arrive from ks (Elsewhere n c) s new = either_old n c s (world.is_old ks n) new
-  ring_arrive from ks (Shorten n c i) s new = after_calm _ s (calm_arrive_shorten Names By law passes waits _ i)
+  ring_arrive from ks (Deliver m n verb ys) s e mail new = after_calm _ s (calm_arrive_deliver Names Good (IsOther v) By law minds passes waits from _ _ (carried m mail) _ verb _)
+  ring_arrive from ks (Open i n) s e mail new = after_calm _ s (calm_arrive_open Names Good (IsOther v) By law minds passes waits from i _)
+  ring_arrive from ks (Ask p i n) s e mail new = after_calm _ s (calm_arrive_ask Names Good (IsOther v) By law minds passes waits from p i)
+  ring_arrive from ks (SettledTo n y) s e mail new = after_calm _ s (calm_arrive_settled Names Good (IsOther v) By law minds passes waits from _ _)
+  ring_arrive from ks (Elsewhere n c) s e mail new = either_old n c s (world.is_old ks n) (ap (λ ns. world.is_old ns n) (sym e)) new
+  ring_arrive from ks (Shorten n c i) s e mail new = after_calm _ s (calm_arrive_shorten Names Good (IsOther v) By law minds passes waits _ i)

@@ -1,11 +1,11 @@
 -- A wait that is added closes no ring where no chain leads back: every chain comes still to an end, or to a name that waits on itself.
-use Rattle.std.proofs.Common.{◌≡◌, ℕ, zero, suc, Bool, true, false, List, Option, Some, None, refl, sym, ◌∙◌, ◌⊎◌, inl, inr}
+use Rattle.std.proofs.Common.{◌≡◌, ℕ, zero, suc, Bool, true, false, List, Option, Some, None, refl, sym, ap, ◌∙◌, ◌⊎◌, inl, inr}
 use Rattle.ev_machine.specs.Values.{Name, Naming}
 use Rattle.ev_machine.specs.State.{Known}
 use Rattle.ev_machine.specs.Refs.{standing_of, waits_lead, led_by_wait}
-use Rattle.ev_wait_laws.specs.Waits.{WaitIs, WaitsEndIn}
+use Rattle.ev_wait_laws.specs.Waits.{WaitsEndIn}
 use Rattle.ev_wait_laws.proofs.Calm.{next}
-use Rattle.ev_wait_laws.proofs.Chains.{some_same, none_some, led_next, next_led, lead_true, next_wait, wait_next}
+use Rattle.ev_wait_laws.proofs.Chains.{some_same, none_some, led_next, next_led, lead_true, next_wait}
 
 pub or_map : {A B C : Type 0} → (B → C) → A ⊎ B → A ⊎ C
 or_map f (inl a) = inl a
@@ -121,9 +121,9 @@ module _ (K : Naming Name Name) (is : (a b : Name) → K.same a b ≡ true → a
 
   -- ---- where none waits on itself
 
-  module _ (ks : List (Known Name)) (none : (n : Name) → WaitIs (λ q. n ≡ q → ⊥) (standing_of K ks n)) where
+  module _ (ks : List (Known Name)) (none : (n : Name) → Next ks n n → ⊥) where
     no_self : (n q : Name) → Next ks n q → q ≡ n → ⊥
-    no_self n q e s = wait_next K is ks (λ r. n ≡ r → ⊥) (standing_of K ks n) q e (none n) (sym s)
+    no_self n q e s = none n (e ∙ ap Some s)
 
     on_end : (P : Name → Type 0) (n q : Name) → Next ks n q → (q ≡ n) ⊎ P q → P q
     on_end P n q e (inl s) = absurd (no_self n q e s)

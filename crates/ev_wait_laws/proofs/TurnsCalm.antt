@@ -11,9 +11,9 @@ use Rattle.ev_fate_laws.proofs.TurnLeads.{good_evaluator, leads_turn_value, lead
 use Rattle.ev_rest_laws.proofs.Gentle.{Gentle, Any, gentle_leads, leads_gentle}
 use Rattle.ev_rest_laws.proofs.TurnsGentle.{IsFree}
 use Rattle.ev_wait_laws.proofs.Calm.{IsCalm, calm_bind, calm_then, calm_tell}
-use Rattle.ev_wait_laws.proofs.RefsCalm.{PassesBy, WaitsBy, calm_settle, calm_resolve, calm_send, calm_react}
+use Rattle.ev_wait_laws.proofs.RefsCalm.{Minds, PassesBy, WaitsBy, calm_settle, calm_resolve, calm_send, calm_react}
 
-module _ {N W : Type 0} (K : Naming N W) (R : Vat N → Vat N → Type 0) (law : IsCalm K R) (passes : PassesBy K R) (waits : WaitsBy K R) (free : IsFree R) where
+module _ {N W : Type 0} (K : Naming N W) (G : N → N → Type 0) (Far : ℕ → Type 0) (R : Vat N → Vat N → Type 0) (law : IsCalm K G R) (minds : Minds K G Far R) (passes : PassesBy K G Far R) (waits : WaitsBy K R) (free : IsFree R) where
   led : IsLed Any R
   led = record {
     same = law.same;
@@ -33,10 +33,10 @@ module _ {N W : Type 0} (K : Naming N W) (R : Vat N → Vat N → Type 0) (law :
   led_under : IsLedUnder K Any R
   led_under = record {
     promised = law.promised;
-    breaks = λ p t. leads_gentle R (refs.settle K p (Broken t)) (quiet_settle K p (Broken t)) (calm_settle K R law passes p (Broken t));
-    resolves = λ p y. leads_gentle R (refs.resolve K p y) (quiet_resolve K p y) (calm_resolve K R law passes waits p y);
-    sends = λ act x verb args. leads_gentle R (refs.send K act x verb args) (quiet_send K act x verb args) (calm_send K R law passes waits act x verb args);
-    reacts = λ act x o near. leads_gentle R (refs.react K act x o near) (quiet_react K act x o near) (calm_react K R law passes waits act x o near);
+    breaks = λ p t. leads_gentle R (refs.settle K p (Broken t)) (quiet_settle K p (Broken t)) (calm_settle K G Far R law minds passes p (Broken t));
+    resolves = λ p y. leads_gentle R (refs.resolve K p y) (quiet_resolve K p y) (calm_resolve K G Far R law minds passes waits p y);
+    sends = λ act x verb args. leads_gentle R (refs.send K act x verb args) (quiet_send K act x verb args) (calm_send K G Far R law minds passes waits act x verb args);
+    reacts = λ act x o near. leads_gentle R (refs.react K act x o near) (quiet_react K act x o near) (calm_react K G Far R law minds passes waits act x o near);
   }
 
   activation : Gentle R new_activation
@@ -45,7 +45,7 @@ module _ {N W : Type 0} (K : Naming N W) (R : Vat N → Vat N → Type 0) (law :
 
   pub calm_taking : (tree : List Node) (depth : ℕ) (m : Message N) → Gentle R (eval.taking K tree depth m)
   unfolding eval.taking
-  calm_taking tree depth m = calm_bind K R law activation (λ a. calm_then K R law (calm_tell K R law (Took a m))
+  calm_taking tree depth m = calm_bind K G R law activation (λ a. calm_then K G R law (calm_tell K G R law (Took a m))
       (gentle_leads R _ (leads_closes K Any R led led_under tree a m.answer _ (leads_turn_value K Any R led led_under tree (eval.evaluator K tree depth) (good_evaluator K Any R led led_under tree depth) a m.target m.verb m.args))))
 
   pub calm_opening : (tree : List Node) (depth : ℕ) (root : N) (given : List (Binding N)) → Gentle R (eval.opening K tree depth root given)

@@ -1,11 +1,13 @@
 -- Chains of waits and views inside a vat.
-use Rattle.std.specs.Prelude.{◌≡◌, ℕ, zero, suc, true, List, length}
+use Rattle.std.specs.Prelude.{◌≡◌, ℕ, zero, suc, true, List, ◌++◌, Some, length, slice_get}
 use Rattle.ev_machine.specs.Values.{Value, Name, Naming, naming}
 use Rattle.ev_machine.specs.State.{Standing, Unsettled, WaitsOn, Viewed, Settled, Known, Vat}
 use Rattle.ev_machine.specs.Refs.{standing_of, waits_lead, reaches}
-use Rattle.ev_run.specs.World.{names}
+use Rattle.ev_run.specs.World.{Script, Program, Entry, World, Goes, begins, open_from, steps_from, names}
 use Rattle.ev_name_laws.specs.Names.{Once, names_in}
+use Rattle.ev_name_laws.specs.Runs.{KnowsOnce}
 use Rattle.ev_rest_laws.specs.Rest.{InEachVat}
+use Rattle.ev_table_laws.specs.Runs.{NotesBringNew}
 
 -- it neither waits nor is viewed, or P holds of the name on which it waits or that is its view
 abbrev pub WaitIs : (Name → Type 0) → Standing Name → Type 0
@@ -24,13 +26,15 @@ module _ (K : Naming Name Name) where
   abbrev pub WaitsEnd : List (Known Name) → Type 0
   WaitsEnd ks = (n : Name) → WaitsEndIn (length ks) ks n
 
-  -- no name waits on itself or is its own view
-  abbrev pub NoneWaitsOnItself : List (Known Name) → Type 0
-  NoneWaitsOnItself ks = (n : Name) → WaitIs (λ q. n ≡ q → ⊥) (standing_of K ks n)
-
--- In each vat of a run that knows no name twice, and of whose names none waits on itself, waits and views end.
+-- In each vat of a run that knows no name twice waits and views end.
 abbrev pub WaitsEndInRuns : Type 0
-WaitsEndInRuns = InEachVat (λ script v s. Once (names_in s.known) → NoneWaitsOnItself (names script v) s.known → WaitsEnd (names script v) s.known)
+WaitsEndInRuns = InEachVat (λ script v s. Once (names_in s.known) → WaitsEnd (names script v) s.known)
+
+-- So they do in every vat after any of the opening turns, and after all of them and any entries by which notes bring what is new.
+abbrev pub WaitsEndWhereNotesBringNew : Type 0
+WaitsEndWhereNotesBringNew = (script : Script) → KnowsOnce script
+    → ((ps rest : List Program) (w : World) → script.vats ≡ ps ++ rest → open_from script zero ps (begins script) ≡ Goes w → (v : ℕ) (s : Vat Name) → slice_get w.vats v ≡ Some s → WaitsEnd (names script v) s.known)
+    × ((w x : World) (es : List Entry) (k : ℕ) → open_from script zero script.vats (begins script) ≡ Goes w → NotesBringNew script es k w → steps_from script es k w ≡ Goes x → (v : ℕ) (s : Vat Name) → slice_get x.vats v ≡ Some s → WaitsEnd (names script v) s.known)
 
 -- Where a chain of waits and views leads from n to p in any number of steps, the test for a cycle finds it in as many steps as names are known.
 abbrev pub CycleTestsSuffice : Type 0
