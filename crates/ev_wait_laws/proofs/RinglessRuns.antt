@@ -11,9 +11,8 @@ use Rattle.ev_name_laws.specs.Names.{IsMade, IsMessageMade, IsMessageName, NoteO
 use Rattle.ev_name_laws.proofs.Facts.{all_map}
 use Rattle.ev_name_laws.proofs.Run.{Stands, opened_stands}
 use Rattle.ev_rest_laws.proofs.Gentle.{AfterGives, gives_map}
-use Rattle.ev_rest_laws.proofs.OwnArrive.{NamesMail}
 use Rattle.ev_rest_laws.proofs.OwnKeeps.{Whole}
-use Rattle.ev_rest_laws.proofs.OwnRuns.{begins_own}
+use Rattle.ev_rest_laws.proofs.OwnRuns.{Each, begins_own}
 use Rattle.ev_rest_laws.proofs.RunLift.{StepsKeep, InVats, steps_keep, opens_keep, all_allowed}
 use Rattle.ev_rest_laws.proofs.ViewsRuns.{new_gifts}
 use Rattle.ev_wait_laws.specs.Waits.{WaitsEnd, WaitsEndInRuns}
@@ -22,7 +21,7 @@ use Rattle.ev_wait_laws.proofs.Chains.{ends_within}
 use Rattle.ev_wait_laws.proofs.Owned.{Owned}
 use Rattle.ev_wait_laws.proofs.Rings.{AllLoose, loose_ends}
 use Rattle.ev_wait_laws.proofs.Ringless.{NoneOnItself, once_grows}
-use Rattle.ev_wait_laws.proofs.RinglessSteps.{is, self, By, On, ring_taking, ring_opening, ring_notice, ring_arrive}
+use Rattle.ev_wait_laws.proofs.RinglessSteps.{NamesMail, is, self, By, On, ring_taking, ring_opening, ring_notice, ring_arrive}
 
 message_named : (vats : List (Vat Name)) (m : Name) → IsMessageMade vats m → IsMessageName m
 message_named vats (Sent m) h = tt
@@ -33,7 +32,7 @@ message_named vats (Answer w m) h = absurd h
 message_named vats (Gift w i) h = absurd h
 
 -- what is delivered is named as a message
-names_mail : (word : ℕ → ℕ) (v : ℕ) (vats : List (Vat Name)) (d : ℕ) (n : Note Name) → NoteOk (IsMade vats d) n → NamesMail word v n
+names_mail : (word : ℕ → ℕ) (v : ℕ) (vats : List (Vat Name)) (d : ℕ) (n : Note Name) → NoteOk (IsMade vats d) n → NamesMail n
 names_mail word v vats d (Deliver m n verb ys) h = message_named vats m h.0
 names_mail word v vats d (Open i n) h = tt
 names_mail word v vats d (Ask p i n) h = tt
@@ -98,7 +97,7 @@ module _ (script : Script) where
   fresh_has_none u (p ∷ ps) v zero s e m q i = fresh_next v u p m q (rw (sym (some_same (world.fresh script u p) s e)) at i)
   fresh_has_none u (p ∷ ps) v (suc n) s e m q i = fresh_has_none (suc u) ps v n s e m q i
 
-  owned_whole : (v : ℕ) (s : Vat Name) → Whole word v s → Owned v s
+  owned_whole : (v : ℕ) (s : Vat Name) → Whole word v Each s → Owned v s
   owned_whole v s h = (h.0, all_map (λ k i. i.1) s.known h.2)
 
   begins_ringless : InVats script Ringless Any (world.begins script)

@@ -16,7 +16,6 @@ use Rattle.ev_name_laws.proofs.Among.{among_last, names_end}
 use Rattle.ev_name_laws.proofs.SameNames.{old_known}
 use Rattle.ev_name_laws.proofs.Tracked.{known_among}
 use Rattle.ev_rest_laws.proofs.Gentle.{AfterGives, GivesBy, Gentle, gives_by, gives_map}
-use Rattle.ev_rest_laws.proofs.OwnArrive.{NamesMail}
 use Rattle.ev_rest_laws.proofs.TurnsGentle.{IsFree}
 use Rattle.ev_rest_laws.proofs.ViewsMade.{same_is, same_self}
 use Rattle.ev_wait_laws.proofs.Calm.{IsCalm, calm, widen}
@@ -25,6 +24,15 @@ use Rattle.ev_wait_laws.proofs.RefsCalm.{Minds, PassesBy, WaitsBy, calm_settle}
 use Rattle.ev_wait_laws.proofs.ArriveCalm.{AnswersHere, calm_arrive_deliver, calm_arrive_open, calm_arrive_ask, calm_arrive_settled, calm_arrive_shorten, calm_notice_name, calm_notice_gift}
 use Rattle.ev_wait_laws.proofs.TurnsCalm.{calm_taking, calm_opening}
 use Rattle.ev_wait_laws.proofs.Ringless.{StepIn, Linked, AnswersDiffer, once_last, less_same, new_linked, owned_linked, edge_see, step_law, step_passes, step_waits}
+
+-- what a note delivers is named as a message
+abbrev pub NamesMail : Note Name → Type 0
+NamesMail (Deliver m n verb ys) = IsMessageName m
+NamesMail (Open i n) = Unit {0}
+NamesMail (Ask p i n) = Unit {0}
+NamesMail (SettledTo n y) = Unit {0}
+NamesMail (Elsewhere n c) = Unit {0}
+NamesMail (Shorten n c i) = Unit {0}
 
 module _ (word : ℕ → ℕ) (v : ℕ) where
   abbrev Names : Naming Name Name
@@ -221,7 +229,7 @@ module _ (word : ℕ → ℕ) (v : ℕ) where
       let among : IsAmong x (names_in t.known) = rw (sym (names_end s.known (begun x (host_of x)))) at (among_last (names_in s.known) x) in
       gives_map (By t) (By s) _ (λ u r. law.trans {s = s} {t = t} {u = u} (law.came s (IsLearnt x) (host_of x)) r) (went x c t (is_in c s.noticed) new (known_among (names_in t.known) x among))
 
-  pub ring_arrive : (from : ℕ) (ks : List Name) (n : Note Name) (s : Vat Name) → ks ≡ names_in s.known → NamesMail word v n → NoGiftNext s → AfterGives (By s) (arrive.arrive Names from (world.read_note ks n) s)
+  pub ring_arrive : (from : ℕ) (ks : List Name) (n : Note Name) (s : Vat Name) → ks ≡ names_in s.known → NamesMail n → NoGiftNext s → AfterGives (By s) (arrive.arrive Names from (world.read_note ks n) s)
   unfolding arrive.arrive world.read_note world.read_name
   ring_arrive from ks (Deliver m n verb ys) s e mail new = after_calm _ s (calm_arrive_deliver Names Good (IsOther v) By law minds passes waits from _ _ (carried m mail) _ verb _)
   ring_arrive from ks (Open i n) s e mail new = after_calm _ s (calm_arrive_open Names Good (IsOther v) By law minds passes waits from i _)
