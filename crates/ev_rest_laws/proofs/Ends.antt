@@ -1,10 +1,9 @@
 -- Where each view is known later than what it views, following ends at what waits.
 use Rattle.std.proofs.Common.{◌≡◌, ℕ, zero, suc, ◌+◌, ◌<◌, ◌≤◌, true, List, Some, None, refl, sym, ◌∙◌, length, arith}
-use Rattle.ev_machine.specs.Values.{Name, Value, Null, Flag, Number, Letter, Text, Prim, Broken, Items, Ref, Naming}
+use Rattle.ev_machine.specs.Values.{Value, Null, Flag, Number, Letter, Text, Prim, Broken, Items, Ref, Naming}
 use Rattle.ev_machine.specs.State.{Standing, Unsettled, WaitsOn, Viewed, Settled, Known}
 use Rattle.ev_machine.specs.Refs.{entry_of, standing_of, standing_in, follow_at, led}
 use Rattle.ev_machine_laws.specs.Breaks.{still_waits, IsPending}
-use Rattle.ev_fate_laws.specs.Finding.{IsAmong, ViewIs, ViewsEndIn}
 use Rattle.ev_rest_laws.specs.Views.{IsOpen, index_at, Awaits, ViewsWait}
 use Rattle.ev_rest_laws.proofs.Entries.{index_less}
 
@@ -92,26 +91,3 @@ module _ {N W : Type 0} (K : Naming N W) where
     following_ends final (Prim p) m h = cc
     following_ends final (Broken p) m h = cc
     following_ends final (Items k) m h = cc
-
--- ---- views end
-
-module _ (K : Naming Name Name) (ks : List (Known Name)) (views : ViewsWait K ks) where
-  known_among : (n q : Name) → Awaits K ks n q → IsAmong K ks q
-  known_among n q aw = (aw.entry, aw.found)
-
-  view_is : (P : Name → Type 0) (n : Name) (t : Standing Name) → standing_of K ks n ≡ t → ((q : Name) → standing_of K ks n ≡ Viewed q → P q) → ViewIs K P ks t
-  view_is P n (Viewed q) e f = (f q e, known_among n q (views n q e))
-  view_is P n (Settled y) e f = tt
-  view_is P n (WaitsOn q) e f = tt
-  view_is P n Unsettled e f = tt
-
-  -- where the place of a name and so many views reach the end of the names
-  end_in : (d : ℕ) (n : Name) → length ks ≤ d + index_at K ks n → ViewsEndIn K d ks n
-  end_in zero n most = view_is (λ q. ⊥) n (standing_of K ks n) refl none
-    where
-      none : (q : Name) → standing_of K ks n ≡ Viewed q → ⊥
-      none q e = let aw = views n q e in let a : index_at K ks n < index_at K ks q = aw.later in let b : index_at K ks q < length ks = index_less K ks q aw.entry aw.found in omega arith
-  end_in (suc d) n most = view_is (ViewsEndIn K d ks) n (standing_of K ks n) refl (λ q e. end_in d q (let a : index_at K ks n < index_at K ks q = (views n q e).later in omega arith))
-
-  pub views_end : (n : Name) → ViewsEndIn K (length ks) ks n
-  views_end n = end_in (length ks) n (omega arith)

@@ -18,12 +18,12 @@ use Rattle.ev_fate_laws.specs.Runs.{Reached}
 use Rattle.ev_fate_laws.specs.Wellness.{WorldWell}
 use Rattle.ev_fate_laws.proofs.RunWell.{runs_stay_well}
 use Rattle.ev_rest_laws.specs.Views.{ViewsWait}
-use Rattle.ev_rest_laws.specs.Rest.{ViewsEndInRuns, HostsRest, ReferencesRest, ReferencesRestInRuns, FollowedBreaksStayBroken}
+use Rattle.ev_rest_laws.specs.Rest.{HostsRest, ReferencesRest, ReferencesRestInRuns, FollowedBreaksStayBroken}
 use Rattle.ev_rest_laws.proofs.ViewsMade.{same_is}
 use Rattle.ev_rest_laws.specs.Hosts.{VatsRestInRuns, BreaksStayBroken}
 use Rattle.ev_rest_laws.proofs.ViewsRuns.{views_wait_in_runs}
 use Rattle.ev_rest_laws.proofs.HostsRuns.{hosts_rest_in_runs}
-use Rattle.ev_rest_laws.proofs.Ends.{views_end, Final, SettledFinal, pends, following_ends}
+use Rattle.ev_rest_laws.proofs.Ends.{Final, SettledFinal, pends, following_ends}
 
 -- ---- what settled, settled for good
 
@@ -91,12 +91,6 @@ rest_at script w v s h well e views = record {
 
 reached_well : (r : Run) (w : World) → r ≡ Goes w → Reached WorldWell r → WorldWell w
 reached_well r w e h = rw e at h
-
-pub views_end_in_runs : ViewsEndInRuns
-views_end_in_runs script once = (
-  λ ps rest w e i v s j n. views_end (names script v) s.known ((views_wait_in_runs script once).0 ps rest w e i v s j) n,
-  λ w x es k e i v s j n. views_end (names script v) s.known ((views_wait_in_runs script once).1 w x es k e i v s j) n,
-)
 
 pub references_rest : ReferencesRestInRuns
 references_rest script once = (

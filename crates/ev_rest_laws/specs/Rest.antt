@@ -7,7 +7,6 @@ use Rattle.ev_machine_laws.specs.Breaks.{still_waits, IsPending, FarApart}
 use Rattle.ev_run_laws.specs.Runs.{EachVat}
 use Rattle.ev_run.specs.World.{Script, Program, Entry, World, Goes, begins, open_from, steps_from, names}
 use Rattle.ev_name_laws.specs.Runs.{KnowsOnce}
-use Rattle.ev_fate_laws.specs.Finding.{ViewsEnd}
 use Rattle.ev_rest_laws.specs.Views.{ViewsWait}
 
 -- It holds of each vat in the world after any of the opening turns of a script, and after all of them and any entries.
@@ -19,10 +18,6 @@ InEachVat P = (script : Script) → KnowsOnce script
 -- Each name that is viewed waits on its view, which is known later than it and did not settle.
 abbrev pub ViewsWaitInRuns : Type 0
 ViewsWaitInRuns = InEachVat (λ script v s. ViewsWait (names script v) s.known)
-
--- From each name one comes, by no more views than there are names known, to a name that is not viewed, and each name on the way is known.
-abbrev pub ViewsEndInRuns : Type 0
-ViewsEndInRuns = InEachVat (λ script v s. ViewsEnd (names script v) s)
 
 module _ (K : Naming Name Name) where
   -- what waits has a host whose cut was not noticed

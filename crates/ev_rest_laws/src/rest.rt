@@ -2,29 +2,16 @@
 //! after all of them and any entries of a schedule. No vat of the script may be told twice that it
 //! knows a vat, or that it knows itself, which the reading of scripts refuses.
 
-ghost use Rattle.ev_rest_laws.specs.Rest.{ViewsWaitInRuns};
 ghost use Rattle.ev_rest_laws.specs.Cuts.{NoticedLinksAreCut};
+ghost use Rattle.ev_rest_laws.specs.Hosts.{BreaksStayBroken, HostsRestInRuns, VatsRestInRuns};
+ghost use Rattle.ev_rest_laws.specs.Notes.{NotesCarryTheirEnds, NotesNameNobodyNoticed, NotesNameTheirEnds};
 ghost use Rattle.ev_rest_laws.specs.Own.{WhatAVatHasIsItsOwn};
-ghost use Rattle.ev_rest_laws.specs.Notes.{NotesNameTheirEnds};
-ghost use Rattle.ev_rest_laws.specs.Notes.{NotesCarryTheirEnds};
-ghost use Rattle.ev_rest_laws.specs.Notes.{NotesNameNobodyNoticed};
-ghost use Rattle.ev_rest_laws.specs.Rest.{ViewsEndInRuns};
-ghost use Rattle.ev_rest_laws.specs.Rest.{ReferencesRestInRuns};
-ghost use Rattle.ev_rest_laws.specs.Rest.{FollowedBreaksStayBroken};
-ghost use Rattle.ev_rest_laws.specs.Hosts.{HostsRestInRuns};
-ghost use Rattle.ev_rest_laws.specs.Hosts.{VatsRestInRuns};
-ghost use Rattle.ev_rest_laws.specs.Hosts.{BreaksStayBroken};
+ghost use Rattle.ev_rest_laws.specs.Rest.{FollowedBreaksStayBroken, ReferencesRestInRuns, ViewsWaitInRuns};
 
 /// Each name that is viewed waits on its view: the view is known, it came to be known later than the
 /// name, it did not settle, and the name is among those that settle with it.
 pub fn views_wait()
     ensures { ViewsWaitInRuns }
-{}
-
-/// Views end: from each name one comes, by no more views than there are names known, to a name that
-/// is not viewed.
-pub fn views_end()
-    ensures { ViewsEndInRuns }
 {}
 
 /// A vat is at rest but for the hosts of what waits: each view is of a name that did not settle, no

@@ -1,18 +1,18 @@
 -- In each vat of a run that knows no name twice chains of waits and views end.
 use Rattle.std.proofs.Common.{◌≡◌, ℕ, zero, suc, Bool, true, false, List, [], ◌∷◌, ◌++◌, Option, Some, None, refl, sym, ◌∙◌, map, length, append-nil}
 use Rattle.std.specs.Prelude.{slice_get}
-use Rattle.ev_machine.specs.Values.{Name, Root, Object, Sent, Answer, Promise, Gift, naming}
+use Rattle.ev_machine.specs.Values.{Name, Root, naming}
 use Rattle.ev_machine.specs.State.{Note, Deliver, Open, Ask, SettledTo, Elsewhere, Shorten, Unsettled, Known, Vat, Done, begun}
 use Rattle.ev_machine.specs.Refs.{entry_of, standing_of, standing_in}
 use Rattle.ev_run.specs.Draws.{draw_word}
 use Rattle.ev_run.specs.World as world
 use Rattle.ev_run.specs.World.{Script, Program, Entry, World, Goes, names, names_of, readied}
-use Rattle.ev_name_laws.specs.Names.{IsMade, IsMessageMade, IsMessageName, NoteOk, names_in, Once}
+use Rattle.ev_name_laws.specs.Names.{IsMade, NoteOk, names_in, Once}
 use Rattle.ev_name_laws.proofs.Facts.{all_map}
 use Rattle.ev_name_laws.proofs.Run.{Stands, opened_stands}
 use Rattle.ev_rest_laws.proofs.Gentle.{AfterGives, gives_map}
 use Rattle.ev_rest_laws.proofs.OwnKeeps.{Whole}
-use Rattle.ev_rest_laws.proofs.OwnRuns.{Each, begins_own}
+use Rattle.ev_rest_laws.proofs.OwnRuns.{Each, message_named, begins_own}
 use Rattle.ev_rest_laws.proofs.RunLift.{StepsKeep, InVats, steps_keep, opens_keep, all_allowed}
 use Rattle.ev_rest_laws.proofs.ViewsRuns.{new_gifts}
 use Rattle.ev_wait_laws.specs.Waits.{WaitsEnd, WaitsEndInRuns}
@@ -22,14 +22,6 @@ use Rattle.ev_wait_laws.proofs.Owned.{Owned}
 use Rattle.ev_wait_laws.proofs.Rings.{AllLoose, loose_ends}
 use Rattle.ev_wait_laws.proofs.Ringless.{NoneOnItself, once_grows}
 use Rattle.ev_wait_laws.proofs.RinglessSteps.{NamesMail, is, self, By, On, ring_taking, ring_opening, ring_notice, ring_arrive}
-
-message_named : (vats : List (Vat Name)) (m : Name) → IsMessageMade vats m → IsMessageName m
-message_named vats (Sent m) h = tt
-message_named vats (Root w) h = absurd h
-message_named vats (Object w i) h = absurd h
-message_named vats (Promise w i) h = absurd h
-message_named vats (Answer w m) h = absurd h
-message_named vats (Gift w i) h = absurd h
 
 -- what is delivered is named as a message
 names_mail : (word : ℕ → ℕ) (v : ℕ) (vats : List (Vat Name)) (d : ℕ) (n : Note Name) → NoteOk (IsMade vats d) n → NamesMail n
