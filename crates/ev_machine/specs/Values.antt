@@ -54,6 +54,11 @@ same_name (Gift v i) (Gift w j) = (v == w) && (i == j)
 same_name (Sent m) (Sent n) = same_msg m n
 same_name _ _ = false
 
+-- Whether two references name one thing. A message is no reference: a vat may have had one message twice, and counts it twice.
+unfoldable pub same_reference : Name → Name → Bool
+same_reference (Sent m) n = false
+same_reference a b = same_name a b
+
 -- what a name is at a vat, as far as the name itself tells
 pub data Spot : Type 0 where
   -- what bears this number of this vat
@@ -90,6 +95,7 @@ pub record Naming (N W : Type 0) : Type 0 where
   -- the name of the message that came so, as number k of the vat's messages
   pub mailed : Mailing W → ℕ → N
   pub spot : N → Spot
+  -- whether two references name one thing; a message is none
   pub same : N → N → Bool
   -- the word of each draw of the run
   pub word : ℕ → ℕ
@@ -118,7 +124,7 @@ name_of v (IsLearnt n) = n
 
 -- how vat v names things in the one global state
 unfoldable pub naming : (ℕ → ℕ) → ℕ → Naming Name Name
-naming word v = record { object = Object v; made = λ c k. name_of v c; mailed = λ c k. mail_of v c; spot = spot_of v; same = same_name; word = word }
+naming word v = record { object = Object v; made = λ c k. name_of v c; mailed = λ c k. mail_of v c; spot = spot_of v; same = same_reference; word = word }
 
 unfoldable pub host_of : Name → ℕ
 host_of (Root v) = v
@@ -141,11 +147,11 @@ pub data Local : Type 0 where
   -- a message, by the order in which it came to be at the vat
   Mess : ℕ → Local
 
+-- whether two references are one; a message is none
 unfoldable pub same_local : Local → Local → Bool
 same_local (Obj i) (Obj j) = i == j
 same_local (Prom i) (Prom j) = i == j
 same_local (Far h p) (Far g q) = (h == g) && (p == q)
-same_local (Mess i) (Mess j) = i == j
 same_local _ _ = false
 
 unfoldable pub local_spot : Local → Spot
@@ -159,5 +165,5 @@ numbering word = record { object = Obj; made = λ c k. Prom k; mailed = λ c k. 
 
 -- opens each definition of this file
 unfoldable pub opened_values : Unit {0}
-unfolding same_name spot_of name_of answer_of mail_of naming host_of same_local local_spot numbering
+unfolding same_name same_reference spot_of name_of answer_of mail_of naming host_of same_local local_spot numbering
 opened_values = tt

@@ -2,7 +2,7 @@
 use Rattle.std.proofs.Common.{◌≡◌, ℕ, zero, suc, List, [], ◌∷◌, ◌++◌, Option, Some, None, refl, sym, ap, subst, ◌∙◌, length, map, ◌==◌}
 use Rattle.std.specs.Prelude.{slice_get}
 use Rattle.ev_kernel.specs.declared.node.Node.{Node}
-use Rattle.ev_machine.specs.Values.{Words, Value, Null, Ref, Name, Root, Object, same_name, spot_of, NoObject, Naming, Local, Obj, Prom, Far, Mess, naming, numbering}
+use Rattle.ev_machine.specs.Values.{Words, Value, Null, Ref, Name, Root, Object, same_name, same_reference, spot_of, NoObject, Naming, Local, Obj, Prom, Far, Mess, naming, numbering}
 use Rattle.ev_machine.specs.State.{Known, Vat, Done, Gives, Throws, Ejects, Stops, begun, is_in}
 use Rattle.ev_machine.specs.Eval.{opening}
 use Rattle.ev_machine_laws.specs.Steps.{Opens, After, does}
@@ -97,13 +97,11 @@ unfoldable pub root_alone : Table
 root_alone = record { names = Root zero ∷ []; mails = []; exports = λ h p. None }
 
 root_is_table : IsTable zero root_alone
-unfolding root_alone same_name spot_of
+unfolding root_alone same_name same_reference spot_of
 root_is_table = record {
   promises = promises;
   distinct = distinct;
   messages = λ k n e. cc;
-  mails_distinct = λ i j a b e h. cc;
-  apart = λ i j a b e h. cc;
   abroad = λ h p j e. cc;
   exports_distinct = λ h p g q i j e k. cc;
 }
@@ -112,7 +110,7 @@ root_is_table = record {
     promises zero n e = let i : Root zero ≡ n = cc in rw (sym i) refl
     promises (suc k) n e = cc
 
-    distinct : (i j : ℕ) (a b : Name) → slice_get root_alone.names i ≡ Some a → slice_get root_alone.names j ≡ Some b → same_name a b ≡ (i == j)
+    distinct : (i j : ℕ) (a b : Name) → slice_get root_alone.names i ≡ Some a → slice_get root_alone.names j ≡ Some b → same_reference a b ≡ (i == j)
     distinct zero zero a b e h = let i : Root zero ≡ a = cc in let j : Root zero ≡ b = cc in rw (sym i, sym j) refl
     distinct zero (suc j) a b e h = cc
     distinct (suc i) j a b e h = cc

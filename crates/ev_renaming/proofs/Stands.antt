@@ -1,7 +1,7 @@
 -- The two namings of a vat: its own numbers, and the names that every vat means the same by.
 use Rattle.std.proofs.Common.{◌≡◌, ℕ, zero, suc, Bool, true, false, List, [], ◌∷◌, ◌++◌, Option, Some, None, refl, sym, ap, ◌∙◌, length, map, ◌==◌, ◌&&◌}
 use Rattle.std.specs.Prelude.{slice_get, option_map}
-use Rattle.ev_machine.specs.Values.{Name, Root, Object, Promise, Answer, Gift, same_name, Own, Foreign, NoObject, spot_of, Coming, IsRoot, IsOwn, IsAnswer, IsGift, IsLearnt, name_of, Local, Obj, Prom, Far, Mess, Sent, Mailing, IsSent, IsCarried, mail_of, local_spot, same_local, numbering, naming}
+use Rattle.ev_machine.specs.Values.{Name, Msg, Root, Object, Promise, Answer, Gift, same_name, same_reference, Own, Foreign, NoObject, spot_of, Coming, IsRoot, IsOwn, IsAnswer, IsGift, IsLearnt, name_of, Local, Obj, Prom, Far, Mess, Sent, Mailing, IsSent, IsCarried, mail_of, local_spot, same_local, numbering, naming}
 use Rattle.ev_machine.specs.State.{Vat, Known, Act, Done, Gives, Throws, Ejects, Stops}
 use Rattle.std.proofs.lemmas.Bool.{eqb-true, eq-eqb}
 use Rattle.ev_renaming.specs.Maps as maps
@@ -63,8 +63,8 @@ object_spot true u j e = cc
 object_spot false u j e = cc
 
 -- an object is no promise
-object_promise : (v w i : ℕ) (n : Name) → spot_of v n ≡ NoObject → same_name (Object w i) n ≡ false
-unfolding spot_of same_name
+object_promise : (v w i : ℕ) (n : Name) → spot_of v n ≡ NoObject → same_reference (Object w i) n ≡ false
+unfolding spot_of same_name same_reference
 object_promise v w i (Object u j) e = absurd (object_spot (v == u) u j e)
 object_promise v w i (Root _) e = refl
 object_promise v w i (Promise _ _) e = refl
@@ -72,8 +72,8 @@ object_promise v w i (Answer _ _) e = refl
 object_promise v w i (Gift _ _) e = refl
 object_promise v w i (Sent _) e = refl
 
-promise_object : (v w i : ℕ) (n : Name) → spot_of v n ≡ NoObject → same_name n (Object w i) ≡ false
-unfolding spot_of same_name
+promise_object : (v w i : ℕ) (n : Name) → spot_of v n ≡ NoObject → same_reference n (Object w i) ≡ false
+unfolding spot_of same_name same_reference
 promise_object v w i (Object u j) e = absurd (object_spot (v == u) u j e)
 promise_object v w i (Root _) e = refl
 promise_object v w i (Promise _ _) e = refl
@@ -86,17 +86,33 @@ abroad_spot true h j e = cc
 abroad_spot false h j e = refl
 
 -- an object of another vat is none of this
-home_abroad : (v i h j : ℕ) → spot_of v (Object h j) ≡ Foreign h → same_name (Object v i) (Object h j) ≡ false
-unfolding spot_of same_name
+home_abroad : (v i h j : ℕ) → spot_of v (Object h j) ≡ Foreign h → same_reference (Object v i) (Object h j) ≡ false
+unfolding spot_of same_name same_reference
 home_abroad v i h j e = and_false (v == h) (i == j) (abroad_spot (v == h) h j e)
 
-abroad_home : (v i h j : ℕ) → spot_of v (Object h j) ≡ Foreign h → same_name (Object h j) (Object v i) ≡ false
-unfolding spot_of same_name
+abroad_home : (v i h j : ℕ) → spot_of v (Object h j) ≡ Foreign h → same_reference (Object h j) (Object v i) ≡ false
+unfolding spot_of same_name same_reference
 abroad_home v i h j e = and_false (h == v) (j == i) (rw (flip_number h v) (abroad_spot (v == h) h j e))
 
-home_home : (v i j : ℕ) → same_name (Object v i) (Object v j) ≡ (i == j)
-unfolding same_name
+home_home : (v i j : ℕ) → same_reference (Object v i) (Object v j) ≡ (i == j)
+unfolding same_name same_reference
 home_home v i j = rw (number_same v v refl) refl
+
+no_message : (a : Name) (m : Msg) → same_reference a (Sent m) ≡ false
+unfolding same_reference same_name
+no_message (Root _) m = refl
+no_message (Object _ _) m = refl
+no_message (Promise _ _) m = refl
+no_message (Answer _ _) m = refl
+no_message (Gift _ _) m = refl
+no_message (Sent _) m = refl
+
+no_mess : (a : Local) (k : ℕ) → same_local a (Mess k) ≡ false
+unfolding same_local
+no_mess (Obj _) k = refl
+no_mess (Prom _) k = refl
+no_mess (Far _ _) k = refl
+no_mess (Mess _) k = refl
 
 own_spot : (v i : ℕ) → found_spot v (Is (Object v i)) ≡ Own i
 unfolding found_spot spot_of
@@ -117,7 +133,7 @@ module _ (v : ℕ) (t : Table) (good : IsTable v t) where
 
   mess_spot : (k : ℕ) (o : Option Name) → slice_get t.mails k ≡ o → found_spot v (mess_found k o) ≡ NoObject
   unfolding found_spot mess_found local_spot
-  mess_spot k (Some n) e = good.messages k n e
+  mess_spot k (Some n) e = let m = good.messages k n e in rw (m.1, spot_of) refl
   mess_spot k None e = refl
 
   far_spot : (h p : ℕ) (o : Option ℕ) → t.exports h p ≡ o → found_spot v (far_found h p o) ≡ Foreign h
@@ -180,34 +196,23 @@ module _ (v : ℕ) (t : Table) (good : IsTable v t) where
   far_far h p g q (Some i) None e k = sym (not_true _ (λ x. let b = and_both (h == g) (p == q) x in let y : h ≡ g = same_number h g b.0 in let z : p ≡ q = same_number p q b.1 in cc))
   far_far h p g q None (Some j) e k = sym (not_true _ (λ x. let b = and_both (h == g) (p == q) x in let y : h ≡ g = same_number h g b.0 in let z : p ≡ q = same_number p q b.1 in cc))
 
-  mess_mess : (i j : ℕ) (o q : Option Name) → slice_get t.mails i ≡ o → slice_get t.mails j ≡ q → found_same (mess_found i o) (mess_found j q) ≡ (i == j)
-  unfolding found_same mess_found same_local
-  mess_mess i j (Some a) (Some b) e k = good.mails_distinct i j a b e k
-  mess_mess i j None None e k = refl
-  mess_mess i j (Some a) None e k = sym (not_true (i == j) (λ h. let x : i ≡ j = same_number i j h in cc))
-  mess_mess i j None (Some b) e k = sym (not_true (i == j) (λ h. let x : i ≡ j = same_number i j h in cc))
+  -- a message is the same as nothing
+  mess_first : (k : ℕ) (o : Option Name) (x : Found) → slice_get t.mails k ≡ o → found_same (mess_found k o) x ≡ false
+  unfolding found_same mess_found same_local same_reference
+  mess_first k (Some n) (Is a) e = let m = good.messages k n e in rw (m.1) refl
+  mess_first k (Some n) (Nothing a) e = refl
+  mess_first k None (Is a) e = refl
+  mess_first k None (Nothing a) e = refl
 
-  prom_mess : (i j : ℕ) (o q : Option Name) → slice_get t.names i ≡ o → slice_get t.mails j ≡ q → (found_same (prom_found i o) (mess_found j q) ≡ false) × (found_same (mess_found j q) (prom_found i o) ≡ false)
-  unfolding found_same prom_found mess_found same_local
-  prom_mess i j (Some a) (Some b) e k = good.apart i j a b e k
-  prom_mess i j None None e k = (refl, refl)
-  prom_mess i j (Some a) None e k = (refl, refl)
-  prom_mess i j None (Some b) e k = (refl, refl)
-
-  obj_mess : (i k : ℕ) (o : Option Name) → slice_get t.mails k ≡ o → (found_same (Is (Object v i)) (mess_found k o) ≡ false) × (found_same (mess_found k o) (Is (Object v i)) ≡ false)
+  mess_last : (k : ℕ) (o : Option Name) (x : Found) → slice_get t.mails k ≡ o → found_same x (mess_found k o) ≡ false
   unfolding found_same mess_found
-  obj_mess i k (Some n) e = (object_promise v v i n (good.messages k n e), promise_object v v i n (good.messages k n e))
-  obj_mess i k None e = (refl, refl)
-
-  far_mess : (k h p : ℕ) (o : Option Name) (q : Option ℕ) → slice_get t.mails k ≡ o → (found_same (mess_found k o) (far_found h p q) ≡ false) × (found_same (far_found h p q) (mess_found k o) ≡ false)
-  unfolding found_same far_found mess_found same_local
-  far_mess k h p (Some n) (Some j) e = (promise_object v h j n (good.messages k n e), object_promise v h j n (good.messages k n e))
-  far_mess k h p None (Some j) e = (refl, refl)
-  far_mess k h p (Some n) None e = (refl, refl)
-  far_mess k h p None None e = (refl, refl)
+  mess_last k (Some n) (Is a) e = let m = good.messages k n e in rw (m.1) (no_message a m.0)
+  mess_last k (Some n) (Nothing a) e = refl
+  mess_last k None (Is a) e = refl
+  mess_last k None (Nothing a) e = no_mess a k
 
   sames : (a b : Local) → found_same (found v t a) (found v t b) ≡ same_local a b
-  unfolding found same_local found_same same_name
+  unfolding found same_local found_same
   sames (Obj i) (Obj j) = home_home v i j
   sames (Obj i) (Prom k) = obj_prom i k _ refl
   sames (Obj i) (Far h p) = obj_far i h p _ refl
@@ -217,13 +222,13 @@ module _ (v : ℕ) (t : Table) (good : IsTable v t) where
   sames (Far h p) (Obj i) = far_obj i h p _ refl
   sames (Far h p) (Prom k) = far_prom k h p _ _ refl
   sames (Far h p) (Far g q) = far_far h p g q _ _ refl refl
-  sames (Obj i) (Mess k) = (obj_mess i k _ refl).0
-  sames (Prom i) (Mess j) = (prom_mess i j _ _ refl refl).0
-  sames (Far h p) (Mess k) = (far_mess k h p _ _ refl).1
-  sames (Mess k) (Obj i) = (obj_mess i k _ refl).1
-  sames (Mess j) (Prom i) = (prom_mess i j _ _ refl refl).1
-  sames (Mess k) (Far h p) = (far_mess k h p _ _ refl).0
-  sames (Mess i) (Mess j) = mess_mess i j _ _ refl refl
+  sames (Mess k) (Obj i) = mess_first k _ (Is (Object v i)) refl
+  sames (Mess k) (Prom i) = mess_first k _ (prom_found i (slice_get t.names i)) refl
+  sames (Mess k) (Far h p) = mess_first k _ (far_found h p (t.exports h p)) refl
+  sames (Mess i) (Mess j) = mess_first i _ (mess_found j (slice_get t.mails j)) refl
+  sames (Obj i) (Mess k) = mess_last k _ (Is (Object v i)) refl
+  sames (Prom i) (Mess k) = mess_last k _ (prom_found i (slice_get t.names i)) refl
+  sames (Far h p) (Mess k) = mess_last k _ (far_found h p (t.exports h p)) refl
 
   -- the names known fit a table where each stands at its place
   pub record FitsTable (b : Books Found) : Type 0 where

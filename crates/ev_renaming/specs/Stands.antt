@@ -1,6 +1,6 @@
 -- What the numbers of a vat stand for.
 use Rattle.std.specs.Prelude.{◌≡◌, ℕ, Bool, false, List, Option, Some, None, slice_get, ◌==◌, ◌&&◌}
-use Rattle.ev_machine.specs.Values.{Name, Root, Object, Promise, Gift, same_name, Spot, Foreign, NoObject, spot_of, Naming, Coming, IsRoot, IsOwn, IsAnswer, IsGift, IsLearnt, answer_of, Local, Obj, Prom, Far, Mess, mail_of, local_spot, same_local}
+use Rattle.ev_machine.specs.Values.{Name, Root, Object, Promise, Gift, Sent, Msg, same_reference, Spot, Foreign, NoObject, spot_of, Naming, Coming, IsRoot, IsOwn, IsAnswer, IsGift, IsLearnt, answer_of, Local, Obj, Prom, Far, Mess, mail_of, local_spot, same_local}
 use Rattle.ev_machine.specs.State.{Vat}
 use Rattle.ev_renaming.specs.Maps as maps
 
@@ -44,7 +44,7 @@ found_spot v (Is n) = spot_of v n
 found_spot v (Nothing a) = local_spot a
 
 unfoldable pub found_same : Found → Found → Bool
-found_same (Is a) (Is b) = same_name a b
+found_same (Is a) (Is b) = same_reference a b
 found_same (Nothing a) (Nothing b) = same_local a b
 found_same _ _ = false
 
@@ -65,9 +65,7 @@ finding word v = record { object = λ i. Is (Object v i); made = λ c k. found_n
 -- A table by which no two numbers stand for one thing.
 pub record IsTable (v : ℕ) (t : Table) : Type 0 where
   pub promises : (k : ℕ) (n : Name) → slice_get t.names k ≡ Some n → spot_of v n ≡ NoObject
-  pub distinct : (i j : ℕ) (a b : Name) → slice_get t.names i ≡ Some a → slice_get t.names j ≡ Some b → same_name a b ≡ (i == j)
-  pub messages : (k : ℕ) (n : Name) → slice_get t.mails k ≡ Some n → spot_of v n ≡ NoObject
-  pub mails_distinct : (i j : ℕ) (a b : Name) → slice_get t.mails i ≡ Some a → slice_get t.mails j ≡ Some b → same_name a b ≡ (i == j)
-  pub apart : (i j : ℕ) (a b : Name) → slice_get t.names i ≡ Some a → slice_get t.mails j ≡ Some b → (same_name a b ≡ false) × (same_name b a ≡ false)
+  pub distinct : (i j : ℕ) (a b : Name) → slice_get t.names i ≡ Some a → slice_get t.names j ≡ Some b → same_reference a b ≡ (i == j)
+  pub messages : (k : ℕ) (n : Name) → slice_get t.mails k ≡ Some n → (m : Msg) × (n ≡ Sent m)
   pub abroad : (h p j : ℕ) → t.exports h p ≡ Some j → spot_of v (Object h j) ≡ Foreign h
-  pub exports_distinct : (h p g q i j : ℕ) → t.exports h p ≡ Some i → t.exports g q ≡ Some j → same_name (Object h i) (Object g j) ≡ ((h == g) && (p == q))
+  pub exports_distinct : (h p g q i j : ℕ) → t.exports h p ≡ Some i → t.exports g q ≡ Some j → same_reference (Object h i) (Object g j) ≡ ((h == g) && (p == q))
