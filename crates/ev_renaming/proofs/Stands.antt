@@ -132,8 +132,8 @@ module _ (v : ℕ) (t : Table) (good : IsTable v t) where
   prom_spot k None e = refl
 
   mess_spot : (k : ℕ) (o : Option Name) → slice_get t.mails k ≡ o → found_spot v (mess_found k o) ≡ NoObject
-  unfolding found_spot mess_found local_spot
-  mess_spot k (Some n) e = let m = good.messages k n e in rw (m.1, spot_of) refl
+  unfolding found_spot mess_found local_spot spot_of
+  mess_spot k (Some n) e = let m = good.messages k n e in rw (m.1) refl
   mess_spot k None e = refl
 
   far_spot : (h p : ℕ) (o : Option ℕ) → t.exports h p ≡ o → found_spot v (far_found h p o) ≡ Foreign h
