@@ -1,6 +1,6 @@
 -- Every step of a vat lets what has a place last.
 use Rattle.std.proofs.Common.{◌≡◌, ℕ, Bool, true, false, List, refl, sym, ap, ◌∙◌, arith, length, subst, eqb-true, ◌&&◌, ◌==◌}
-use Rattle.ev_machine.specs.Values.{Name, Naming, IsOwn, naming, name_of, same_name, same_msg, Root, Object, Promise, Answer, Gift, Sent, Msg}
+use Rattle.ev_machine.specs.Values.{Name, Naming, IsOwn, naming, name_of, same_name, same_reference, same_msg, Root, Object, Promise, Answer, Gift, Sent, Msg}
 use Rattle.ev_machine.specs.State.{Message, Vat, Done, Gives, Throws, Ejects, Stops, Took, tell}
 use Rattle.ev_machine.specs.Eval as eval
 use Rattle.ev_kernel.specs.declared.node.Node.{Node}
@@ -94,9 +94,18 @@ same_alike (Gift v i) (Gift w j) e = let h = both_and (v == w) (i == j) e in let
 same_alike (Sent m) (Sent n) e = ap Sent (same_message_alike m n e)
 same_alike _ _ e = cc
 
+reference_alike : (a b : Name) → same_reference a b ≡ true → a ≡ b
+unfolding same_reference
+reference_alike (Root v) b e = same_alike (Root v) b e
+reference_alike (Object v i) b e = same_alike (Object v i) b e
+reference_alike (Promise v i) b e = same_alike (Promise v i) b e
+reference_alike (Answer v m) b e = same_alike (Answer v m) b e
+reference_alike (Gift v i) b e = same_alike (Gift v i) b e
+reference_alike (Sent m) b e = cc
+
 pub global_names : (word : ℕ → ℕ) (v : ℕ) → Global (naming word v) v
 unfolding naming
-global_names word v = record { spot = λ n. refl; alike = same_alike; made = λ c k. refl; mailed = λ c k. refl }
+global_names word v = record { spot = λ n. refl; alike = reference_alike; made = λ c k. refl; mailed = λ c k. refl }
 
 pub steps_keep_places : StepsKeepPlaces
 steps_keep_places word v step s cut x w g = lasts_after cut x s _ w ((step_lasts cut x (naming word v) v (global_names word v) step g).after s)

@@ -9,7 +9,7 @@ use Rattle.ev_name_laws.specs.Runs.{InRuns, InEachVat, NamesWereMade, NotesNameW
 use Rattle.ev_machine_laws.specs.Breaks.{FarApart}
 use Rattle.ev_run.specs.Draws.{draw_word}
 use Rattle.ev_run_laws.proofs.BreakRuns.{severed_objects_run, followed_breaks_run}
-use Rattle.ev_name_laws.proofs.SameNames.{far_apart, at_all, eventual_spot, message_spot, kinds_apart}
+use Rattle.ev_name_laws.proofs.SameNames.{far_apart, at_all, eventual_spot, message_is, kinds_apart}
 use Rattle.ev_name_laws.proofs.Facts.{all_map, note_up}
 use Rattle.ev_name_laws.proofs.Care.{parts_up}
 use Rattle.ev_name_laws.proofs.Among.{promises_at, messages_at}
@@ -85,6 +85,6 @@ followed_broken script once w y x es fs k l opened stepped more v s e =
 pub tables_apart : TablesAreApart
 tables_apart = in_each _ (λ script w v s e h. (
   λ k n i. eventual_spot v n (at_all IsEventual (names_in s.known) k n h.kept.apart i),
-  λ k n i. message_spot v n (at_all IsMessageName s.mails k n h.kept.mails i),
+  λ k n i. message_is n (at_all IsMessageName s.mails k n h.kept.mails i),
   λ i j a b x y. kinds_apart a b (at_all IsEventual (names_in s.known) i a h.kept.apart x) (at_all IsMessageName s.mails j b h.kept.mails y),
 ))

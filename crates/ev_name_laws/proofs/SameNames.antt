@@ -2,7 +2,7 @@
 use Rattle.std.proofs.Common.{◌≡◌, ℕ, Bool, true, false, List, [], ◌∷◌, refl, sym, ap, ◌∙◌, ◌⊎◌, inl, inr, ◌==◌, ◌&&◌, Option, Some, None, zero, suc}
 use Rattle.std.specs.Prelude.{slice_get}
 use Rattle.std.proofs.lemmas.Bool.{eqb-true, eq-eqb}
-use Rattle.ev_machine.specs.Values.{Name, Root, Object, Promise, Answer, Gift, Sent, Msg, same_name, same_msg, Foreign, NoObject, spot_of, naming}
+use Rattle.ev_machine.specs.Values.{Name, Root, Object, Promise, Answer, Gift, Sent, Msg, same_name, same_reference, same_msg, Foreign, NoObject, spot_of, naming}
 use Rattle.ev_run.specs.World.{has_name, is_old}
 use Rattle.ev_machine.specs.Refs.{entry_of}
 use Rattle.ev_machine.specs.State.{Known, Vat}
@@ -71,6 +71,15 @@ same_is (Sent m) (Answer u n) e = absurd (false_true e)
 same_is (Sent m) (Gift u j) e = absurd (false_true e)
 same_is (Sent m) (Sent n) e = ap Sent (msg_is m n e)
 
+pub reference_is : (a b : Name) → same_reference a b ≡ true → a ≡ b
+unfolding same_reference
+reference_is (Root w) b e = same_is (Root w) b e
+reference_is (Object w i) b e = same_is (Object w i) b e
+reference_is (Promise w i) b e = same_is (Promise w i) b e
+reference_is (Answer w m) b e = same_is (Answer w m) b e
+reference_is (Gift w i) b e = same_is (Gift w i) b e
+reference_is (Sent m) b e = absurd (false_true e)
+
 pub same_self : (a : Name) → same_name a a ≡ true
 unfolding same_name
 same_self (Root w) = eq-eqb w w refl
@@ -79,6 +88,16 @@ same_self (Promise w i) = two_same w i
 same_self (Answer w m) = and_true (w == w) (same_msg m m) (eq-eqb w w refl) (msg_same m)
 same_self (Gift w i) = two_same w i
 same_self (Sent m) = msg_same m
+
+-- a root, a promise, an answer or a gift is the same as itself
+pub reference_self : (a : Name) → IsEventual a → same_reference a a ≡ true
+unfolding same_reference
+reference_self (Root w) h = same_self (Root w)
+reference_self (Promise w i) h = same_self (Promise w i)
+reference_self (Answer w m) h = same_self (Answer w m)
+reference_self (Gift w i) h = same_self (Gift w i)
+reference_self (Object w i) h = absurd h
+reference_self (Sent m) h = absurd h
 
 among_either : (b : Bool) (m n : Name) (ms : List Name) → (b ≡ true → m ≡ n) → (has_name ms n ≡ true → IsAmong n ms) → elim b [ true ↦ true | false ↦ has_name ms n ] ≡ true → IsAmong n (m ∷ ms)
 among_either true m n ms f g e = inl (sym (f refl))
@@ -154,7 +173,7 @@ eventual_is a b e h = rw e at h
 pub far_apart : (word : ℕ → ℕ) (v : ℕ) (ks : List (Known Name)) → AllOf IsEventual (names_in ks) → (m : Name) (h : ℕ) → spot_of v m ≡ Foreign h → entry_of (naming word v) ks m ≡ None
 unfolding entry_of naming
 far_apart word v [] o m h e = refl
-far_apart word v (k ∷ ks) o m h e = no_entry (same_name k.name m) k (entry_of (naming word v) ks m) (λ f. far_is v m h e (eventual_is k.name m (same_is k.name m f) o.0)) (far_apart word v ks o.1 m h e)
+far_apart word v (k ∷ ks) o m h e = no_entry (same_reference k.name m) k (entry_of (naming word v) ks m) (λ f. far_is v m h e (eventual_is k.name m (reference_is k.name m f) o.0)) (far_apart word v ks o.1 m h e)
 
 -- ---- kinds of names
 
@@ -172,14 +191,13 @@ eventual_spot v (Gift w i) h = refl
 eventual_spot v (Object w i) h = absurd h
 eventual_spot v (Sent m) h = absurd h
 
-pub message_spot : (v : ℕ) (n : Name) → IsMessageName n → spot_of v n ≡ NoObject
-unfolding spot_of
-message_spot v (Sent m) h = refl
-message_spot v (Root w) h = absurd h
-message_spot v (Promise w i) h = absurd h
-message_spot v (Answer w m) h = absurd h
-message_spot v (Gift w i) h = absurd h
-message_spot v (Object w i) h = absurd h
+pub message_is : (n : Name) → IsMessageName n → (m : Msg) × (n ≡ Sent m)
+message_is (Sent m) h = (m, refl)
+message_is (Root w) h = absurd h
+message_is (Promise w i) h = absurd h
+message_is (Answer w m) h = absurd h
+message_is (Gift w i) h = absurd h
+message_is (Object w i) h = absurd h
 
 not_both : (n : Name) → IsEventual n → IsMessageName n → ⊥
 not_both (Root w) h k = k

@@ -4,13 +4,13 @@ use Rattle.std.specs.Prelude.{slice_get}
 use Rattle.std.proofs.lemmas.Bool.{eq-eqb}
 use Rattle.ev_machine.specs.Refs as refs
 use Rattle.ev_machine.specs.Refs.{Mine, Away}
-use Rattle.ev_machine.specs.Values.{Name, Root, Object, Promise, Answer, Gift, Sent, Msg, Own, Foreign, NoObject, same_name as same_name_of, spot_of, host_of, Naming, naming, name_of, answer_of, mail_of}
+use Rattle.ev_machine.specs.Values.{Name, Root, Object, Promise, Answer, Gift, Sent, Msg, Own, Foreign, NoObject, same_reference, spot_of, host_of, Naming, naming, name_of, answer_of, mail_of}
 use Rattle.ev_machine.specs.State.{Known, Standing, Unsettled, WaitsOn, Viewed, Settled, Change, Hold, Wait, WaitOn, See, React, ToTell, Settle, Vat, with_change, changed, changed_to, unless_settled, begun}
 use Rattle.ev_run.specs.World.{put_at}
 use Rattle.ev_name_laws.specs.Names.{Bit, Named, Mail, Drew, At, Off, AllOf, IsAmong, promises_of, messages_of, IsMade, names_in, IsKnownIn, IsHad, HostIsTrue, IsEventual, IsMessageName, IsPlain, PlainOnce}
 use Rattle.ev_name_laws.proofs.Facts.{all_end, PlaceOk}
 use Rattle.ev_name_laws.proofs.Care.{ViewsNone, Care, Spots, Under, Makes}
-use Rattle.ev_name_laws.proofs.SameNames.{false_true, same_is}
+use Rattle.ev_name_laws.proofs.SameNames.{false_true, reference_is}
 use Rattle.ev_name_laws.proofs.Views.{AllLookOn, look_on_end, look_on_change}
 use Rattle.ev_name_laws.proofs.Among.{among_more, among_last, among_or, among_is, names_end, length_end, plain_end, get_put, promises_grow, messages_grow, promises_at, messages_at, is_made_up}
 
@@ -343,16 +343,16 @@ module _ (news : Bool) (M : Marked) (vats : List (Vat Name)) (v : ℕ) (q : Vat 
     answered_ok s h (Gift w i) l at = absurd l.0
 
     -- the host that is told of a name is the host of that name
-    host_either : (s : Vat Name) (k : Known Name) (n : Name) (o : Option (Known Name)) (b : Bool) → same_name_of k.name n ≡ b → HostIsTrue k → (refs.host_in s.number o ≡ host_of n) ⊎ (refs.host_in s.number o ≡ s.number)
+    host_either : (s : Vat Name) (k : Known Name) (n : Name) (o : Option (Known Name)) (b : Bool) → same_reference k.name n ≡ b → HostIsTrue k → (refs.host_in s.number o ≡ host_of n) ⊎ (refs.host_in s.number o ≡ s.number)
         → (refs.host_in s.number (elim b [ true ↦ Some k | false ↦ o ]) ≡ host_of n) ⊎ (refs.host_in s.number (elim b [ true ↦ Some k | false ↦ o ]) ≡ s.number)
     unfolding refs.host_in
-    host_either s k n o true e h i = inl (h ∙ ap host_of (same_is k.name n e))
+    host_either s k n o true e h i = inl (h ∙ ap host_of (reference_is k.name n e))
     host_either s k n o false e h i = i
 
     host_told : (s : Vat Name) (n : Name) (ks : List (Known Name)) → AllOf HostIsTrue ks → (refs.host_in s.number (refs.entry_of (naming word v) ks n) ≡ host_of n) ⊎ (refs.host_in s.number (refs.entry_of (naming word v) ks n) ≡ s.number)
     unfolding refs.entry_of refs.host_in naming
     host_told s n [] h = inr refl
-    host_told s n (k ∷ ks) h = host_either s k n (refs.entry_of (naming word v) ks n) (same_name_of k.name n) refl h.0 (host_told s n ks h.1)
+    host_told s n (k ∷ ks) h = host_either s k n (refs.entry_of (naming word v) ks n) (same_reference k.name n) refl h.0 (host_told s n ks h.1)
 
     hosted_far : (s : Vat Name) (n : Name) (h : ℕ) (b : Bool) → (s.number == h) ≡ b → Ok s (Named n) → s.number ≡ v → (h ≡ host_of n) ⊎ (h ≡ s.number) → PlaceOk (Ok s) (elim b [ true ↦ Mine n | false ↦ Away h n false ])
     hosted_far s n h true e g i j = g

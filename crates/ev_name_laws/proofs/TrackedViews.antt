@@ -11,7 +11,7 @@ use Rattle.ev_name_laws.proofs.Facts.{Fact, Nothing, Also, IsName, IsDraw, IsVat
 use Rattle.ev_name_laws.proofs.Care.{Care, Sound, Ends, Gets, Fine, widen, still, changes_ok, fine_tell, fine_out, fine_wait}
 use Rattle.ev_name_laws.proofs.Looks.{note_shorten, goes_shorten}
 use Rattle.ev_name_laws.proofs.CareArrive.{fine_gift_there}
-use Rattle.ev_name_laws.proofs.SameNames.{same_is}
+use Rattle.ev_name_laws.proofs.SameNames.{reference_is}
 use Rattle.ev_name_laws.proofs.Views.{AllLookOn, look_on_see}
 use Rattle.ev_name_laws.proofs.Tracked.{IsTold, Marked, Kept, Ok, Goes, ok_on, follows_change, names_change, same_name, kept_looking, tracked, tracked_under}
 
@@ -80,7 +80,7 @@ module _ (news : Bool) (M : Marked) (vats : List (Vat Name)) (v : ℕ) (q : Vat 
   see_known s t ks k n g e f new other h = kept_looking (naming word v) v t.number (See g) n t.known t.mails t.promises looks h
     where
       looks : AllLookOn [] (with_change (naming word v) (See g) n t.known)
-      looks = rw (sym e) at (look_on_see (naming word v) (names_change (naming word v)) (same_name (naming word v)) g n other (λ j i. same_is j.name n i) [] ks k f (λ a. a) new (rw e at h.views))
+      looks = rw (sym e) at (look_on_see (naming word v) (names_change (naming word v)) (same_name (naming word v)) g n other (λ j i. reference_is j.name n i) [] ks k f (λ a. a) new (rw e at h.views))
 
   -- a change by which a name that was known comes to be viewed as the one that came last
   seen : (t : Vat Name) (ks : List (Known Name)) (k : Known Name) (n g : Name) → Sound S t → S.ok t (Named g) → t.known ≡ ks ++ k ∷ [] → k.name ≡ g → (IsAmong g (names_in ks) → ⊥) → (n ≡ g → ⊥)

@@ -56,10 +56,10 @@ NextNamesAreNew = InEachVat (λ w v s. (u : ℕ) (t : Vat Name) → slice_get w.
 abbrev pub NamesAndMessagesAreApart : Type 0
 NamesAndMessagesAreApart = InEachVat (λ w v s. AllOf IsEventual (names_in s.known) × AllOf IsMessageName s.mails)
 
--- What the table of a vat has for a promise or a message is no object, and no name is both: the premises of the naming theorem, but that none is there twice.
+-- What the table of a vat has for a promise is no object, what it has for a message is a message, and no name is both: the premises of the naming theorem on them, but that no promise is there twice.
 abbrev pub TablesAreApart : Type 0
 TablesAreApart = InEachVat (λ w v s. ((k : ℕ) (n : Name) → slice_get (names_in s.known) k ≡ Some n → spot_of v n ≡ NoObject)
-    × ((k : ℕ) (n : Name) → slice_get s.mails k ≡ Some n → spot_of v n ≡ NoObject)
+    × ((k : ℕ) (n : Name) → slice_get s.mails k ≡ Some n → (m : Msg) × (n ≡ Sent m))
     × ((i j : ℕ) (a b : Name) → slice_get (names_in s.known) i ≡ Some a → slice_get s.mails j ≡ Some b → (same_name a b ≡ false) × (same_name b a ≡ false)))
 
 -- From any world of a run on: what settlings led, at a vat, to an object of a vat whose cut it noticed is followed there to broken partition.

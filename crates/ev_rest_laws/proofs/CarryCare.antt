@@ -2,15 +2,15 @@
 use Rattle.std.proofs.Common.{◌≡◌, ℕ, Bool, true, false, List, [], ◌∷◌, Option, Some, None, refl, sym, ap, ◌∙◌, ◌⊎◌, inl, inr, if◌then◌else◌, ◌==◌}
 use Rattle.std.specs.Prelude.{slice_get}
 use Rattle.std.proofs.lemmas.Bool.{eqb-true}
-use Rattle.ev_machine.specs.Values.{Value, Null, Flag, Number, Letter, Text, Prim, Broken, Items, Ref, Name, Root, Object, Promise, Answer, Gift, Sent, host_of, same_name, Naming, naming, spot_of, Own as OwnThing, Foreign}
+use Rattle.ev_machine.specs.Values.{Value, Null, Flag, Number, Letter, Text, Prim, Broken, Items, Ref, Name, Root, Object, Promise, Answer, Gift, Sent, host_of, same_reference, Naming, naming, spot_of, Own as OwnThing, Foreign}
 use Rattle.ev_machine.specs.State.{Message, Known, ToTell, Passed, Passeds, Plain, AGift, Many, NoMore, More, Note, Deliver, Open, Ask, SettledTo, Elsewhere, Put, Vat, Done, Gives, Throws, Ejects, Stops, Act, ◌>>=◌, ◌>>◌, and_then, give, look, tell, enqueue, send_out, new_gift, open_gift, mark, draws, draw, alter, come, new_message, new_promise, Posted}
 use Rattle.ev_machine.specs.Refs as refs
 use Rattle.ev_machine.specs.Refs.{Place, Near, Mine, Away, Gone, entry_of, host_at, host_in, place, spotted, hosted}
-use Rattle.ev_name_laws.specs.Names.{Named, At, AllOf, IsAmong, ValueOk, HostIsTrue, names_in}
+use Rattle.ev_name_laws.specs.Names.{Named, At, AllOf, IsAmong, IsEventual, ValueOk, HostIsTrue, names_in}
 use Rattle.ev_name_laws.proofs.Facts.{all_end, PlaceOk, Fact, Also, IsName, IsDraw, IsOff, IsValue, AreValues, IsMessage, IsPlace, DoesPass, DoAllPass, NoteDoes, NoteGoes, parcel, nothing, Holds}
 use Rattle.ev_name_laws.proofs.Care.{Care, Under, Makes, Sound, Ends, Gets, Fine, widen, rise, fine_give, fine_spend, fine_tell, fine_enqueue, fine_out, fine_gift, fine_open, fine_mark, fine_draw, fine_hold, fine_wait, fine_waits_on, fine_reacts, fine_to_tell, fine_settles, come_answer, come_gift, fine_new_message, fine_promise}
 use Rattle.ev_name_laws.proofs.Looks.{look_parcel, place_ok, note_deliver, note_open, note_ask, note_settled, note_elsewhere, goes_deliver, goes_open, goes_ask, goes_settled, goes_elsewhere}
-use Rattle.ev_name_laws.proofs.SameNames.{same_is, same_self}
+use Rattle.ev_name_laws.proofs.SameNames.{reference_is, reference_self}
 use Rattle.ev_name_laws.proofs.Tracked.{Marked, tracked, tracked_under, tracked_makes}
 use Rattle.ev_rest_laws.specs.Notes.{IsOfEither, PassesBetween, AllPassBetween, Carries}
 use Rattle.ev_rest_laws.proofs.CareNotes.{Puts}
@@ -176,13 +176,13 @@ module _ (M : Marked) (vats : List (Vat Name)) (v : ℕ) (q : Vat Name) (there :
   same_host true u k0 n o f g = sym (f refl)
   same_host false u k0 n o f g = g refl
 
-  true_host : (u : ℕ) (ks : List (Known Name)) (n : Name) → AllOf HostIsTrue ks → IsAmong n (names_in ks) → host_at Names u ks n ≡ host_of n
+  true_host : (u : ℕ) (ks : List (Known Name)) (n : Name) → IsEventual n → AllOf HostIsTrue ks → IsAmong n (names_in ks) → host_at Names u ks n ≡ host_of n
   unfolding host_at entry_of naming
-  true_host u [] n h a = absurd a
-  true_host u (k0 ∷ ks) n h a = same_host (same_name k0.name n) u k0 n (entry_of Names ks n) (λ e. ap host_of (sym (same_is k0.name n e)) ∙ sym h.0) (λ e. rest a e (λ i. true_host u ks n h.1 i))
+  true_host u [] n eventual h a = absurd a
+  true_host u (k0 ∷ ks) n eventual h a = same_host (same_reference k0.name n) u k0 n (entry_of Names ks n) (λ e. ap host_of (sym (reference_is k0.name n e)) ∙ sym h.0) (λ e. rest a e (λ i. true_host u ks n eventual h.1 i))
     where
-      rest : (n ≡ k0.name) ⊎ IsAmong n (names_in ks) → same_name k0.name n ≡ false → (IsAmong n (names_in ks) → host_in u (entry_of Names ks n) ≡ host_of n) → host_in u (entry_of Names ks n) ≡ host_of n
-      rest (inl i) e f = absurd (no_same (same_name k0.name n) (ap (λ x. same_name x n) (sym i) ∙ same_self n) e)
+      rest : (n ≡ k0.name) ⊎ IsAmong n (names_in ks) → same_reference k0.name n ≡ false → (IsAmong n (names_in ks) → host_in u (entry_of Names ks n) ≡ host_of n) → host_in u (entry_of Names ks n) ≡ host_of n
+      rest (inl i) e f = absurd (no_same (same_reference k0.name n) (ap (λ x. same_reference x n) (sym i) ∙ reference_self n eventual) e)
       rest (inr i) e f = f i
 
   -- of which host a value is, by its place
@@ -201,17 +201,17 @@ module _ (M : Marked) (vats : List (Vat Name)) (v : ℕ) (q : Vat Name) (there :
   hosted_says u h n true f e g = sym g ∙ sym (f refl) ∙ e
   hosted_says u h n false f e g = sym g
 
-  eventual_says : (s : Vat Name) (n : Name) → Sound T s → IsAmong n (names_in s.known) → PlaceSays (Ref n) (hosted Names s.number n (host_at Names s.number s.known n))
+  eventual_says : (s : Vat Name) (n : Name) → IsEventual n → Sound T s → IsAmong n (names_in s.known) → PlaceSays (Ref n) (hosted Names s.number n (host_at Names s.number s.known n))
   unfolding hosted
-  eventual_says s n h a = let m = h.more in hosted_says s.number (host_at Names s.number s.known n) n (s.number == host_at Names s.number s.known n) (eqb-true s.number (host_at Names s.number s.known n)) m.number (true_host s.number s.known n m.hosts a)
+  eventual_says s n eventual h a = let m = h.more in hosted_says s.number (host_at Names s.number s.known n) n (s.number == host_at Names s.number s.known n) (eqb-true s.number (host_at Names s.number s.known n)) m.number (true_host s.number s.known n eventual m.hosts a)
 
   place_says : (s : Vat Name) (y : Value Name) → Sound T s → ValueOk (T.ok s) y → PlaceSays y (place Names s y)
   unfolding place naming spot_of spotted
   place_says s (Ref (Object w i)) h g = object_says s (v == w) w i (eqb-true v w)
-  place_says s (Ref (Root w)) h g = eventual_says s (Root w) h g.1
-  place_says s (Ref (Promise w i)) h g = eventual_says s (Promise w i) h g.1
-  place_says s (Ref (Answer w m)) h g = eventual_says s (Answer w m) h g.1
-  place_says s (Ref (Gift w i)) h g = eventual_says s (Gift w i) h g.1
+  place_says s (Ref (Root w)) h g = eventual_says s (Root w) tt h g.1
+  place_says s (Ref (Promise w i)) h g = eventual_says s (Promise w i) tt h g.1
+  place_says s (Ref (Answer w m)) h g = eventual_says s (Answer w m) tt h g.1
+  place_says s (Ref (Gift w i)) h g = eventual_says s (Gift w i) tt h g.1
   place_says s (Ref (Sent m)) h g = absurd g.0
   place_says s Null h g = tt
   place_says s (Flag b) h g = tt

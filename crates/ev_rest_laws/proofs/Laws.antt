@@ -1,7 +1,7 @@
 -- The laws of what rests in runs.
 use Rattle.std.proofs.Common.{◌≡◌, ℕ, zero, Bool, true, false, List, [], ◌∷◌, Option, Some, None, refl, sym, append-nil}
 use Rattle.std.specs.Prelude.{slice_get}
-use Rattle.ev_machine.specs.Values.{Value, Null, Flag, Number, Letter, Text, Prim, Broken, Items, Ref, Name, Root, Object, Promise, Answer, Gift, Sent, Naming, naming, same_name, Foreign, spot_of}
+use Rattle.ev_machine.specs.Values.{Value, Null, Flag, Number, Letter, Text, Prim, Broken, Items, Ref, Name, Root, Object, Promise, Answer, Gift, Sent, Naming, naming, same_reference, Foreign, spot_of}
 use Rattle.ev_machine.specs.State.{Settled, Known, Vat}
 use Rattle.ev_machine.specs.Refs.{entry_of, standing_of}
 use Rattle.ev_machine_laws.specs.Breaks.{FarApart, AtRest}
@@ -11,7 +11,7 @@ use Rattle.ev_run.specs.World as world
 use Rattle.ev_run.specs.World.{Script, Program, Entry, World, Run, Goes, names}
 use Rattle.ev_run_laws.proofs.BreakRuns.{followed_breaks_run}
 use Rattle.ev_name_laws.specs.Names.{AllOf, IsEventual, names_in}
-use Rattle.ev_name_laws.proofs.SameNames.{far_apart}
+use Rattle.ev_name_laws.proofs.SameNames.{far_apart, reference_is}
 use Rattle.ev_name_laws.proofs.Run.{Stands, steps_stand, opened_stands}
 use Rattle.ev_fate_laws.specs.Lasting.{Each, NoPromise, NamesObject, KnownWell}
 use Rattle.ev_fate_laws.specs.Runs.{Reached}
@@ -19,7 +19,6 @@ use Rattle.ev_fate_laws.specs.Wellness.{WorldWell}
 use Rattle.ev_fate_laws.proofs.RunWell.{runs_stay_well}
 use Rattle.ev_rest_laws.specs.Views.{ViewsWait}
 use Rattle.ev_rest_laws.specs.Rest.{HostsRest, ReferencesRest, ReferencesRestInRuns, FollowedBreaksStayBroken}
-use Rattle.ev_rest_laws.proofs.ViewsMade.{same_is}
 use Rattle.ev_rest_laws.specs.Hosts.{VatsRestInRuns, BreaksStayBroken}
 use Rattle.ev_rest_laws.proofs.ViewsRuns.{views_wait_in_runs}
 use Rattle.ev_rest_laws.proofs.HostsRuns.{hosts_rest_in_runs}
@@ -42,7 +41,7 @@ no_object n (Sent i) e o v = o
 object_unknown : (word : ℕ → ℕ) (v : ℕ) (ks : List (Known Name)) (m : Name) → AllOf IsEventual (names_in ks) → NamesObject m → entry_of (naming word v) ks m ≡ None
 unfolding entry_of naming
 object_unknown word v [] m h o = refl
-object_unknown word v (k ∷ ks) m h o = pick_other (same_name k.name m) k (entry_of (naming word v) ks m) (λ e. no_object k.name m (same_is k.name m e) o h.0) (object_unknown word v ks m h.1 o)
+object_unknown word v (k ∷ ks) m h o = pick_other (same_reference k.name m) k (entry_of (naming word v) ks m) (λ e. no_object k.name m (reference_is k.name m e) o h.0) (object_unknown word v ks m h.1 o)
 
 well_head : (b : Bool) (k0 k : Known Name) (o : Option (Known Name)) → KnownWell k0 → ◌≡◌ {A = Option (Known Name)} (elim b [ true ↦ Some k0 | false ↦ o ]) (Some k) → (o ≡ Some k → KnownWell k) → KnownWell k
 well_head true k0 k o h e f = let same : k0 ≡ k = cc in rw same at h

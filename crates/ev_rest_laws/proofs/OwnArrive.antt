@@ -106,7 +106,7 @@ module _ (word : ℕ → ℕ) (v : ℕ) (Spares : ℕ → Type 0) where
 
   -- a gift of a host that was noticed settles as it comes to be known
   gift_settles : (h i : ℕ) (t : Words) (s : Vat Name) → GivesBy (KeepsOwn word v Spares) s (refs.settle Names (Gift h i) (Broken t) (CameGift h i s))
-  gift_settles h i t s = let u : Vat Name = CameGift h i s in let g : Name = Gift h i in let found = came_found word v FreeName s.known g h in let d : Done Name (Unit {0}) = refs.settle Names g (Broken t) u in
+  gift_settles h i t s = let u : Vat Name = CameGift h i s in let g : Name = Gift h i in let found = came_found word v FreeName s.known g h tt in let d : Done Name (Unit {0}) = refs.settle Names g (Broken t) u in
       by_gives (KeepsOwn word v Spares) (KeepsOwn word v Spares) (IsSettled Names g) u s d (λ x r z o. let b = r (came_whole h i s o) in (b.0, came_settled word v FreeName s.known x.known g h z.0 z.1 b.1))
       ((own_settle word v Spares g (Broken t)).after u) (gives_after (λ r x. IsSettled Names g x) (IsSettled Names g) u d (λ x z. z) (settles Names g (Broken t) found.0 u found.1))
 
@@ -253,7 +253,7 @@ module _ (word : ℕ → ℕ) (v : ℕ) (Spares : ℕ → Type 0) where
   -- a name that is known, or an object
   own_view_there : (n : Name) (c : ℕ) (s : Vat Name) → is_in c s.noticed ≡ false → IsKnownIn (names_in s.known) n → GivesBy (KeepsOwn word v Spares) s (arrive.view_there Names n c s)
   unfolding arrive.view_there ◌>>=◌ look and_then host_at
-  own_view_there n c s g a = with_own word v Spares s _ (λ o. (viewed_there n c s.number (host_at Names s.number s.known n) (o.5 c g) (λ i. sym (known_host word v Spares s.number s.known n o.2 (eventual_known word v Spares (names_in s.known) n i a)))).after s)
+  own_view_there n c s g a = with_own word v Spares s _ (λ o. (viewed_there n c s.number (host_at Names s.number s.known n) (o.5 c g) (λ i. sym (known_host word v Spares s.number s.known n i o.2 (eventual_known word v Spares (names_in s.known) n i a)))).after s)
 
   own_shorten : (i : ℕ) (p : Place Name) → PlaceFits word v Spares p → Keeping (arrive.shorten_to Names i p)
   unfolding arrive.shorten_to

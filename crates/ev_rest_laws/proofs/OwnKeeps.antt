@@ -2,7 +2,7 @@
 use Rattle.std.proofs.Common.{◌≡◌, ℕ, zero, suc, Bool, true, false, List, [], ◌∷◌, ◌++◌, Option, Some, None, refl, sym, ap, ◌∙◌, if◌then◌else◌, ◌==◌, ◌⊎◌, inl, inr, length, codes}
 use Rattle.std.specs.Prelude.{nat_le}
 use Rattle.std.proofs.lemmas.Bool.{eqb-true, eq-eqb}
-use Rattle.ev_machine.specs.Values.{Value, Null, Flag, Number, Letter, Text, Prim, Broken, Items, Ref, Name, Root, Object, Sent, Answer, Promise, Gift, host_of, same_name, Naming, naming, name_of, answer_of, spot_of, Spot, Own as OwnThing, Foreign, NoObject, IsAnswer}
+use Rattle.ev_machine.specs.Values.{Value, Null, Flag, Number, Letter, Text, Prim, Broken, Items, Ref, Name, Root, Object, Sent, Answer, Promise, Gift, host_of, same_reference, Naming, naming, name_of, answer_of, spot_of, Spot, Own as OwnThing, Foreign, NoObject, IsAnswer}
 use Rattle.ev_machine.specs.State.{Message, Happened, Standing, Unsettled, WaitsOn, Viewed, Settled, Known, Change, Hold, Wait, WaitOn, See, React, ToTell, Settle, Passed, Passeds, Plain, AGift, Many, NoMore, More, Open, Note, Deliver, SettledTo, Elsewhere, Put, Vat, Stop, Done, Gives, Throws, Ejects, Stops, Act, ◌>>=◌, ◌>>◌, and_then, each, give, stop, look, tell, spend, spent, enqueue, send_out, draws, draw, with_change, with_vat, changed, changed_to, alter, come, begun, is_in, Waits}
 use Rattle.ev_machine.specs.Refs as refs
 use Rattle.ev_machine.specs.Refs.{Place, Near, Mine, Away, Gone, entry_of, standing_of, host_at, host_in, place, spotted, hosted}
@@ -14,7 +14,7 @@ use Rattle.ev_rest_laws.proofs.Entries.{unless_either}
 use Rattle.ev_machine_laws.proofs.BreakLaws.{nothing_of}
 use Rattle.ev_rest_laws.proofs.Gentle.{GivesBy, Gentle}
 use Rattle.ev_rest_laws.proofs.Wakes.{Wakes, wakes_on, hold_wakes, react_wakes, wait_wakes, tell_wakes, see_wakes, settle_wakes, free_wait_wakes, open_wait_wakes, came_wakes}
-use Rattle.ev_name_laws.proofs.SameNames.{same_is, same_self}
+use Rattle.ev_name_laws.proofs.SameNames.{reference_is, reference_self}
 
 module _ (word : ℕ → ℕ) (v : ℕ) (Spares : ℕ → Type 0) where
   abbrev Names : Naming Name Name
@@ -191,7 +191,7 @@ module _ (word : ℕ → ℕ) (v : ℕ) (Spares : ℕ → Type 0) where
   pub entry_name : (ks : List (Known Name)) (n : Name) (k : Known Name) → entry_of Names ks n ≡ Some k → k.name ≡ n
   unfolding entry_of naming
   entry_name [] n k e = cc
-  entry_name (k0 ∷ ks) n k e = entry_head (Names.same k0.name n) k0 k n (entry_of Names ks n) (same_is k0.name n) e (λ h. entry_name ks n k h)
+  entry_name (k0 ∷ ks) n k e = entry_head (Names.same k0.name n) k0 k n (entry_of Names ks n) (reference_is k0.name n) e (λ h. entry_name ks n k h)
 
   -- a name that the vat hosts, of which another is to be told
   pub own_to_tell : (w : ℕ) (n : Name) → host_of n ≡ v → Gentle KeepsOwn (alter Names (ToTell w) n)
@@ -294,13 +294,13 @@ module _ (word : ℕ → ℕ) (v : ℕ) (Spares : ℕ → Type 0) where
   same_head true u k0 n o f g = sym (f refl)
   same_head false u k0 n o f g = g refl
 
-  pub known_host : (u : ℕ) (ks : List (Known Name)) (n : Name) → AllOf (IsOwnKnown v) ks → IsAmong n (names_in ks) → host_at Names u ks n ≡ host_of n
+  pub known_host : (u : ℕ) (ks : List (Known Name)) (n : Name) → IsEventual n → AllOf (IsOwnKnown v) ks → IsAmong n (names_in ks) → host_at Names u ks n ≡ host_of n
   unfolding host_at entry_of naming
-  known_host u [] n h a = absurd a
-  known_host u (k0 ∷ ks) n h a = same_head (same_name k0.name n) u k0 n (entry_of Names ks n) (λ e. ap host_of (sym (same_is k0.name n e)) ∙ sym h.0.0) (λ e. rest a e (λ i. known_host u ks n h.1 i))
+  known_host u [] n eventual h a = absurd a
+  known_host u (k0 ∷ ks) n eventual h a = same_head (same_reference k0.name n) u k0 n (entry_of Names ks n) (λ e. ap host_of (sym (reference_is k0.name n e)) ∙ sym h.0.0) (λ e. rest a e (λ i. known_host u ks n eventual h.1 i))
     where
-      rest : (n ≡ k0.name) ⊎ IsAmong n (names_in ks) → same_name k0.name n ≡ false → (IsAmong n (names_in ks) → host_in u (entry_of Names ks n) ≡ host_of n) → host_in u (entry_of Names ks n) ≡ host_of n
-      rest (inl i) e f = absurd (no_same (same_name k0.name n) (ap (λ x. same_name x n) (sym i) ∙ same_self n) e)
+      rest : (n ≡ k0.name) ⊎ IsAmong n (names_in ks) → same_reference k0.name n ≡ false → (IsAmong n (names_in ks) → host_in u (entry_of Names ks n) ≡ host_of n) → host_in u (entry_of Names ks n) ≡ host_of n
+      rest (inl i) e f = absurd (no_same (same_reference k0.name n) (ap (λ x. same_reference x n) (sym i) ∙ reference_self n eventual) e)
       rest (inr i) e f = f i
 
   pub eventual_known : (ns : List Name) (n : Name) → IsEventual n → IsKnownIn ns n → IsAmong n ns

@@ -1,39 +1,17 @@
 -- Making a view: the gift that becomes the view is new, and the name waits on it.
-use Rattle.std.proofs.Common.{◌≡◌, ℕ, zero, ◌<◌, ◌≤◌, Bool, true, false, List, [], ◌∷◌, ◌++◌, Option, Some, None, refl, sym, ap, ◌∙◌, ◌⊎◌, inl, inr, length, arith, if◌then◌else◌, ◌==◌}
-use Rattle.ev_machine.specs.Values.{Value, Name, Gift, Naming, naming, name_of, same_name, IsGift}
+use Rattle.std.proofs.Common.{◌≡◌, ℕ, zero, ◌<◌, ◌≤◌, Bool, true, false, List, [], ◌∷◌, ◌++◌, Option, Some, None, refl, sym, ap, subst, ◌∙◌, ◌⊎◌, inl, inr, length, arith, if◌then◌else◌, ◌==◌}
+use Rattle.ev_machine.specs.Values.{Value, Name, Gift, Naming, naming, name_of, IsGift}
 use Rattle.ev_machine.specs.State.{Unsettled, Viewed, Settled, Known, Wait, See, Ask, Shorten, GiftEntry, Put, Vat, ◌>>=◌, ◌>>◌, and_then, give, look, tell, alter, come, draw, draws, drawn_at, send_out, new_gift, with_change, changed, changed_to, unless_settled, begun}
 use Rattle.ev_machine.specs.Refs.{entry_of, standing_of, standing_in, host_at}
 use Rattle.ev_machine.specs.Arrive as arrive
-use Rattle.ev_run.specs.World.{has_name}
-use Rattle.ev_name_laws.specs.Names.{IsAmong}
-use Rattle.ev_name_laws.proofs.SameNames.{has_among, among_has}
+use Rattle.ev_name_laws.specs.Names.{IsEventual}
+use Rattle.ev_name_laws.proofs.SameNames.{reference_is, reference_self}
 use Rattle.ev_rest_laws.specs.Views.{IsOpen, index_at, Awaits, ViewsWait}
 use Rattle.ev_rest_laws.proofs.Entries.{SameOr, same_or, changed_at, Knows, index_changed, index_append, index_less, index_last, unless_either, mild_wait}
 use Rattle.ev_rest_laws.proofs.Gentle.{AfterGives}
 use Rattle.ev_rest_laws.proofs.ViewsGo.{go_append, go_changed, awaits_changed, entry_last}
 
--- ---- names that are the same
-
-pick_true : (b : Bool) → b ≡ true → (elim b [ true ↦ true | false ↦ false ]) ≡ true
-pick_true b e = rw e refl
-
-pick_is : (b : Bool) → (elim b [ true ↦ true | false ↦ false ]) ≡ true → b ≡ true
-pick_is true e = refl
-pick_is false e = cc
-
-one_is : (a b : Name) → IsAmong b (a ∷ []) → a ≡ b
-one_is a b (inl e) = sym e
-one_is a b (inr h) = absurd h
-
-pub same_is : (a b : Name) → same_name a b ≡ true → a ≡ b
-unfolding has_name
-same_is a b e = one_is a b (has_among (a ∷ []) b (pick_true (same_name a b) e))
-
-pub same_self : (a : Name) → same_name a a ≡ true
-unfolding has_name
-same_self a = pick_is (same_name a a) (among_has (a ∷ []) a (inl refl))
-
-module _ (K : Naming Name Name) (is : (a b : Name) → K.same a b ≡ true → a ≡ b) (self : (a : Name) → K.same a a ≡ true) where
+module _ (K : Naming Name Name) (is : (a b : Name) → K.same a b ≡ true → a ≡ b) where
   named_head : (b : Bool) (k0 k : Known Name) (n : Name) (o : Option (Known Name)) → K.same k0.name n ≡ b → ◌≡◌ {A = Option (Known Name)} (elim b [ true ↦ Some k0 | false ↦ o ]) (Some k) → (o ≡ Some k → K.same k.name n ≡ true) → K.same k.name n ≡ true
   named_head true k0 k n o i e f = let same : k0 ≡ k = cc in rw same at i
   named_head false k0 k n o i e f = f e
@@ -46,6 +24,10 @@ module _ (K : Naming Name Name) (is : (a b : Name) → K.same a b ≡ true → a
 
   pub entry_name : (ks : List (Known Name)) (n : Name) (k : Known Name) → entry_of K ks n ≡ Some k → k.name ≡ n
   entry_name ks n k e = is k.name n (entry_same ks n k e)
+
+  -- so a name that is found is the same as itself
+  pub entry_self : (ks : List (Known Name)) (n : Name) (k : Known Name) → entry_of K ks n ≡ Some k → K.same n n ≡ true
+  entry_self ks n k e = let same = entry_same ks n k e in subst (λ x. K.same x n ≡ true) (is k.name n same) same
 
   see_either : (g q : Name) (k : Known Name) → (changed (See g) k).standing ≡ Viewed q → (g ≡ q) ⊎ (k.standing ≡ Viewed q)
   unfolding changed changed_to
@@ -99,7 +81,7 @@ module _ (K : Naming Name Name) (is : (a b : Name) → K.same a b ≡ true → a
   unfolding standing_of
   standing_same ks ls n q e h = rw e at h
 
-  module _ (ks : List (Known Name)) (n g : Name) (h : ℕ) (views : ViewsWait K ks) (fresh : entry_of K ks g ≡ None) (other : n ≡ g → ⊥) where
+  module _ (ks : List (Known Name)) (n g : Name) (h : ℕ) (views : ViewsWait K ks) (fresh : entry_of K ks g ≡ None) (self : K.same g g ≡ true) (other : n ≡ g → ⊥) where
     abbrev Come : List (Known Name)
     Come = ks ++ begun g h ∷ []
 
@@ -113,7 +95,7 @@ module _ (K : Naming Name Name) (is : (a b : Name) → K.same a b ≡ true → a
     views_come m q e = let back = go_append K ks (begun g h) (begun_unsettled g h) m q e in back.1 (views m q back.0)
 
     gift_come : entry_of K Come g ≡ Some (begun g h)
-    gift_come = entry_last K ks (begun g h) g fresh ∙ pick_self (K.same (begun g h).name g) (begun g h) (rw (begun_name g h) (self g))
+    gift_come = entry_last K ks (begun g h) g fresh ∙ pick_self (K.same (begun g h).name g) (begun g h) (rw (begun_name g h) self)
 
     not_gift : (k : Known Name) → entry_of K Come n ≡ Some k → entry_of K Come g ≡ Some k → ⊥
     not_gift k e f = let same : k ≡ begun g h = some_is k (begun g h) (sym f ∙ gift_come) in let name : k.name ≡ n = entry_name Come n k e in other (sym name ∙ ap (λ (x : Known Name). x.name) same ∙ begun_name g h)
@@ -174,22 +156,22 @@ module _ (word : ℕ → ℕ) (v : ℕ) where
   abbrev Good : Vat Name → Type 0
   Good t = ViewsWait (naming word v) t.known
 
-  seen : (ks : List (Known Name)) (n g : Name) (h : ℕ) → ViewsWait (naming word v) ks → entry_of (naming word v) ks g ≡ None → (n ≡ g → ⊥) → ViewsWait (naming word v) (with_change (naming word v) (Wait n) g (with_change (naming word v) (See g) n (ks ++ begun g h ∷ [])))
+  seen : (ks : List (Known Name)) (n g : Name) (h : ℕ) → ViewsWait (naming word v) ks → entry_of (naming word v) ks g ≡ None → IsEventual g → (n ≡ g → ⊥) → ViewsWait (naming word v) (with_change (naming word v) (Wait n) g (with_change (naming word v) (See g) n (ks ++ begun g h ∷ [])))
   unfolding naming
-  seen ks n g h views fresh other = see_views (naming word v) (λ a b. same_is a b) (λ a. same_self a) ks n g h views fresh other
+  seen ks n g h views fresh eventual other = see_views (naming word v) (λ a b. reference_is a b) ks n g h views fresh (reference_self g eventual) other
 
   -- here: it is a gift that this vat hosts
   view_own : (s : Vat Name) (n : Name) (h u i w : ℕ) (p : Put Name) (o : Option (GiftEntry Name)) → o ≡ None → i ≡ length s.drawn → Good s → GiftsAreNew s → (n ≡ Gift u i → ⊥)
       → AfterGives Good ((arrive.gift_or_new (naming word v) u h i o >>= (λ g. arrive.see (naming word v) n g)) (record s { drawn = s.drawn ++ w ∷ []; outbox = s.outbox ++ p ∷ [] }))
   unfolding arrive.gift_or_new arrive.see ◌>>=◌ ◌>>◌ and_then come new_gift give tell alter naming name_of
   view_own s n h u i w p (Some g) e l views new other = cc
-  view_own s n h u i w p None e l views new other = seen s.known n (Gift u i) u views (rw (sym l) at (new.names u)) other
+  view_own s n h u i w p None e l views new other = seen s.known n (Gift u i) u views (rw (sym l) at (new.names u)) tt other
 
   -- elsewhere: the gift is asked for
   view_asked : (s : Vat Name) (n : Name) (h c i w : ℕ) (p : Put Name) → i ≡ length s.drawn → Good s → GiftsAreNew s → (n ≡ Gift c i → ⊥)
       → AfterGives Good (((come (naming word v) (IsGift c i) c >>= (λ g. send_out c (Ask h i g) >> give g)) >>= (λ g. arrive.see (naming word v) n g)) (record s { drawn = s.drawn ++ w ∷ []; outbox = s.outbox ++ p ∷ [] }))
   unfolding arrive.see ◌>>=◌ ◌>>◌ and_then come send_out give tell alter naming name_of
-  view_asked s n h c i w p l views new other = seen s.known n (Gift c i) c views (rw (sym l) at (new.names c)) other
+  view_asked s n h c i w p l views new other = seen s.known n (Gift c i) c views (rw (sym l) at (new.names c)) tt other
 
   view_had : (s : Vat Name) (n : Name) (h i w : ℕ) (p : Put Name) → i ≡ length s.drawn → Good s → GiftsAreNew s → ((a : ℕ) → n ≡ Gift a i → ⊥)
       → AfterGives Good ((arrive.have_gift (naming word v) h i >>= (λ g. arrive.see (naming word v) n g)) (record s { drawn = s.drawn ++ w ∷ []; outbox = s.outbox ++ p ∷ [] }))

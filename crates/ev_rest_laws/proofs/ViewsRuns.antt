@@ -2,7 +2,7 @@
 use Rattle.std.proofs.Common.{◌≡◌, ℕ, zero, suc, ◌<◌, Bool, true, false, List, [], ◌∷◌, ◌++◌, Option, Some, None, refl, sym, length, map, arith, append-nil, ◌∙◌, ◌==◌}
 use Rattle.std.specs.Prelude.{slice_get}
 use Rattle.std.proofs.lemmas.Bool.{eqb-true}
-use Rattle.ev_machine.specs.Values.{Name, Root, Gift, naming, same_name}
+use Rattle.ev_machine.specs.Values.{Name, Root, Gift, naming, same_reference}
 use Rattle.ev_machine.specs.State.{Note, Deliver, Open, Ask, SettledTo, Elsewhere, Shorten, Unsettled, Viewed, Known, GiftEntry, Vat, is_gift, begun}
 use Rattle.ev_machine.specs.Refs.{entry_of, standing_of, standing_in}
 use Rattle.ev_machine.specs.Arrive.{gift_at}
@@ -13,7 +13,8 @@ use Rattle.ev_name_laws.specs.Names.{Bit, Named, Drew, AllOf, IsMade, NoteOk, Kn
 use Rattle.ev_name_laws.proofs.Run.{Had, Stands, opened_stands}
 use Rattle.ev_rest_laws.specs.Views.{ViewsWait}
 use Rattle.ev_rest_laws.specs.Rest.{ViewsWaitInRuns}
-use Rattle.ev_rest_laws.proofs.ViewsMade.{GiftsAreNew, same_is}
+use Rattle.ev_rest_laws.proofs.ViewsMade.{GiftsAreNew}
+use Rattle.ev_name_laws.proofs.SameNames.{reference_is}
 use Rattle.ev_rest_laws.proofs.ViewsSteps.{TellsNoNewGift, views_taking, views_opening, views_notice, views_arrive}
 use Rattle.ev_rest_laws.proofs.RunLift.{StepsKeep, InVats, steps_keep, opens_keep, all_allowed}
 
@@ -32,7 +33,7 @@ made_gift vats d a n m e = let less : d < d = rw e at m in no_self d d less refl
 unknown_gift : (word : ℕ → ℕ) (v : ℕ) (vats : List (Vat Name)) (d : ℕ) (P : Bit Name → Type 0) → ((b : Bit Name) → P b → IsMade vats d b) → (a : ℕ) (ks : List (Known Name)) → AllOf (KnownOk P) ks → entry_of (naming word v) ks (Gift a d) ≡ None
 unfolding entry_of naming
 unknown_gift word v vats d P made a [] h = refl
-unknown_gift word v vats d P made a (k ∷ ks) h = pick_other (same_name k.name (Gift a d)) k (entry_of (naming word v) ks (Gift a d)) (λ e. made_gift vats d a k.name (made (Named k.name) h.0.0) (same_is k.name (Gift a d) e)) (unknown_gift word v vats d P made a ks h.1)
+unknown_gift word v vats d P made a (k ∷ ks) h = pick_other (same_reference k.name (Gift a d)) k (entry_of (naming word v) ks (Gift a d)) (λ e. made_gift vats d a k.name (made (Named k.name) h.0.0) (reference_is k.name (Gift a d) e)) (unknown_gift word v vats d P made a ks h.1)
 
 gift_other : (b : Bool) (g : GiftEntry Name) (o : Option (GiftEntry Name)) → (b ≡ true → ⊥) → o ≡ None → ◌≡◌ {A = Option (GiftEntry Name)} (elim b [ true ↦ Some g | false ↦ o ]) None
 gift_other true g o f e = absurd (f refl)

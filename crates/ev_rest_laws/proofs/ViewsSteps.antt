@@ -1,7 +1,7 @@
 -- In every step what is viewed waits on its view.
 use Rattle.std.proofs.Common.{◌≡◌, ℕ, Bool, true, false, List, [], ◌∷◌, ◌++◌, Option, Some, None, refl, ◌∙◌, length, if◌then◌else◌}
 use Rattle.std.specs.Prelude.{codes}
-use Rattle.ev_machine.specs.Values.{Broken, Name, Gift, Naming, naming, name_of, host_of, same_name}
+use Rattle.ev_machine.specs.Values.{Broken, Name, Gift, Naming, naming, name_of, host_of, same_reference}
 use Rattle.ev_machine.specs.State.{Binding, Message, Unsettled, Known, Note, Deliver, Open, Ask, SettledTo, Elsewhere, Shorten, Vat, Act, ◌>>=◌, and_then, give, look, mark, come, begun, is_in}
 use Rattle.ev_machine.specs.Refs as refs
 use Rattle.ev_machine.specs.Refs.{entry_of, standing_of}
@@ -16,7 +16,8 @@ use Rattle.ev_rest_laws.proofs.RefsGentle.{SettlesBy, gentle_settle}
 use Rattle.ev_rest_laws.proofs.TurnsGentle.{IsFree, gentle_taking, gentle_opening}
 use Rattle.ev_rest_laws.proofs.ArriveGentle.{gentle_arrive_deliver, gentle_arrive_open, gentle_arrive_ask, gentle_arrive_settled, gentle_arrive_shorten, gentle_notice_name, gentle_notice_gift}
 use Rattle.ev_rest_laws.proofs.ViewsGo.{ViewsGo, go_same, go_append, entry_last, views_gentle, settles_views}
-use Rattle.ev_rest_laws.proofs.ViewsMade.{GiftsAreNew, views_there, same_is}
+use Rattle.ev_rest_laws.proofs.ViewsMade.{GiftsAreNew, views_there}
+use Rattle.ev_name_laws.proofs.SameNames.{reference_is}
 
 unsettled : (n : Name) (h : ℕ) → (begun n h).standing ≡ Unsettled
 unfolding begun
@@ -79,13 +80,13 @@ module _ (word : ℕ → ℕ) (v : ℕ) where
   went n c s true views new other = after_gentle (refs.settle Names n (Broken (codes "partition"))) s (gentle_settle Names (ViewsGo Names) law block n (Broken (codes "partition"))) views
   went n c s false views new other = views_there word v s n c views new other
 
-  not_same : (x g : Name) (h : ℕ) (b : Bool) → same_name x g ≡ b → (x ≡ g → ⊥) → ◌≡◌ {A = Option (Known Name)} (elim b [ true ↦ Some (begun x h) | false ↦ None ]) None
-  not_same x g h true e f = absurd (f (same_is x g e))
+  not_same : (x g : Name) (h : ℕ) (b : Bool) → same_reference x g ≡ b → (x ≡ g → ⊥) → ◌≡◌ {A = Option (Known Name)} (elim b [ true ↦ Some (begun x h) | false ↦ None ]) None
+  not_same x g h true e f = absurd (f (reference_is x g e))
   not_same x g h false e f = refl
 
-  not_begun : (x g : Name) (h : ℕ) → (x ≡ g → ⊥) → ◌≡◌ {A = Option (Known Name)} (elim (same_name (begun x h).name g) [ true ↦ Some (begun x h) | false ↦ None ]) None
+  not_begun : (x g : Name) (h : ℕ) → (x ≡ g → ⊥) → ◌≡◌ {A = Option (Known Name)} (elim (same_reference (begun x h).name g) [ true ↦ Some (begun x h) | false ↦ None ]) None
   unfolding begun
-  not_begun x g h f = not_same x g h (same_name x g) refl f
+  not_begun x g h f = not_same x g h (same_reference x g) refl f
 
   still_new : (s : Vat Name) (x g : Name) (h : ℕ) → entry_of Names s.known g ≡ None → (x ≡ g → ⊥) → entry_of Names (s.known ++ begun x h ∷ []) g ≡ None
   unfolding naming

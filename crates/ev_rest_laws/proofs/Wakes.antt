@@ -1,10 +1,10 @@
 -- Which names come to wait: those that waited, and those that are free to.
 use Rattle.std.proofs.Common.{◌≡◌, ℕ, Bool, true, false, List, [], ◌∷◌, ◌++◌, Option, Some, None, refl, sym, ap, ◌∙◌, ◌⊎◌, inl, inr}
-use Rattle.ev_machine.specs.Values.{Value, Name, same_name, Naming, naming}
+use Rattle.ev_machine.specs.Values.{Value, Name, same_reference, Naming, naming}
 use Rattle.ev_machine.specs.State.{Standing, Unsettled, WaitsOn, Viewed, Settled, Known, Change, Hold, Wait, WaitOn, See, React, ToTell, Settle, with_change, changed, changed_to, unless_settled, begun}
 use Rattle.ev_machine.specs.Refs.{entry_of, standing_of, standing_in}
 use Rattle.ev_machine_laws.specs.Breaks.{still_waits}
-use Rattle.ev_name_laws.proofs.SameNames.{same_is, same_self}
+use Rattle.ev_name_laws.proofs.SameNames.{reference_is, reference_self}
 use Rattle.ev_name_laws.proofs.Tracked.{same_name as name_stays}
 
 -- what is known of it neither settled nor is a view
@@ -61,9 +61,9 @@ module _ (word : ℕ → ℕ) (v : ℕ) (IsFree : Name → Type 0) where
   head_wakes : (b : Bool) (c : Change Name) (k0 : Known Name) (ks rest : List (Known Name)) (m : Name) → (b ≡ true → k0.name ≡ m → Waiting (Some (changed_to c k0)) → Waiting (Some k0) ⊎ IsFree m) → (b ≡ false → WaitsAt rest m → WaitsAt ks m ⊎ IsFree m)
       → WaitsAt (elim b [ true ↦ changed c k0 ∷ ks | false ↦ k0 ∷ rest ]) m → WaitsAt (k0 ∷ ks) m ⊎ IsFree m
   unfolding entry_of naming
-  head_wakes true c k0 ks rest m f g w = let same : same_name (changed c k0).name m ≡ same_name k0.name m = ap (λ n. same_name n m) (name_stays Names c k0) in
-      found_now (same_name k0.name m) k0 (changed c k0) (entry_of Names ks m) m (λ e. changed_wakes c k0 m (f refl (same_is k0.name m e))) (same_head (same_name (changed c k0).name m) (same_name k0.name m) (changed c k0) (entry_of Names ks m) same w)
-  head_wakes false c k0 ks rest m f g w = found_later (same_name k0.name m) k0 (entry_of Names ks m) (entry_of Names rest m) m (g refl) w
+  head_wakes true c k0 ks rest m f g w = let same : same_reference (changed c k0).name m ≡ same_reference k0.name m = ap (λ n. same_reference n m) (name_stays Names c k0) in
+      found_now (same_reference k0.name m) k0 (changed c k0) (entry_of Names ks m) m (λ e. changed_wakes c k0 m (f refl (reference_is k0.name m e))) (same_head (same_reference (changed c k0).name m) (same_reference k0.name m) (changed c k0) (entry_of Names ks m) same w)
+  head_wakes false c k0 ks rest m f g w = found_later (same_reference k0.name m) k0 (entry_of Names ks m) (entry_of Names rest m) m (g refl) w
 
   pick_one : (b : Bool) (k0 : Known Name) (o : Option (Known Name)) → b ≡ true → ◌≡◌ {A = Option (Known Name)} (elim b [ true ↦ Some k0 | false ↦ o ]) (Some k0)
   pick_one b k0 o e = rw e refl
@@ -78,7 +78,7 @@ module _ (word : ℕ → ℕ) (v : ℕ) (IsFree : Name → Type 0) where
   unfolding with_change entry_of naming
   change_wakes c n [] f m w = absurd w
   change_wakes c n (k0 ∷ ks) f m w = head_wakes (Names.same k0.name n) c k0 ks (with_change Names c n ks) m
-      (λ e i w. free_is n m (sym (same_is k0.name n e) ∙ i) k0 (f k0 (pick_one (Names.same k0.name n) k0 (entry_of Names ks n) e) w))
+      (λ e i w. free_is n m (sym (reference_is k0.name n e) ∙ i) k0 (f k0 (pick_one (Names.same k0.name n) k0 (entry_of Names ks n) e) w))
       (λ e w. change_wakes c n ks (λ k i. f k (pick_rest (Names.same k0.name n) k0 (entry_of Names ks n) e ∙ i)) m w) w
 
   -- each kind of change but a wait wakes nothing
@@ -134,8 +134,8 @@ module _ (word : ℕ → ℕ) (v : ℕ) (IsFree : Name → Type 0) where
 
   pub last_or : (ks : List (Known Name)) (n : Name) (h : ℕ) (m : Name) → WaitsAt (ks ++ begun n h ∷ []) m → WaitsAt ks m ⊎ (n ≡ m)
   unfolding entry_of naming begun
-  last_or [] n h m w = inr (last_wakes (same_name n m) (begun n h) n m (same_is n m) w)
-  last_or (k0 ∷ ks) n h m w = either (same_name k0.name m) w (λ i. last_or ks n h m i)
+  last_or [] n h m w = inr (last_wakes (same_reference n m) (begun n h) n m (reference_is n m) w)
+  last_or (k0 ∷ ks) n h m w = either (same_reference k0.name m) w (λ i. last_or ks n h m i)
     where
       either : (d : Bool) → Waiting (elim d [ true ↦ Some k0 | false ↦ entry_of Names (ks ++ begun n h ∷ []) m ]) → (WaitsAt (ks ++ begun n h ∷ []) m → WaitsAt ks m ⊎ (n ≡ m)) → Waiting (elim d [ true ↦ Some k0 | false ↦ entry_of Names ks m ]) ⊎ (n ≡ m)
       either true i g = inl i
@@ -165,10 +165,10 @@ module _ (word : ℕ → ℕ) (v : ℕ) (IsFree : Name → Type 0) where
   either_found false k0 o h = h
 
   -- a name that came to be known is found
-  pub came_found : (ks : List (Known Name)) (n : Name) (h : ℕ) → (k : Known Name) × (entry_of Names (ks ++ begun n h ∷ []) n ≡ Some k)
+  pub came_found : (ks : List (Known Name)) (n : Name) (h : ℕ) → IsEventual n → (k : Known Name) × (entry_of Names (ks ++ begun n h ∷ []) n ≡ Some k)
   unfolding entry_of naming begun
-  came_found [] n h = (begun n h, pick_one (same_name n n) (begun n h) None (same_self n))
-  came_found (k0 ∷ ks) n h = either_found (same_name k0.name n) k0 (entry_of Names (ks ++ begun n h ∷ []) n) (came_found ks n h)
+  came_found [] n h eventual = (begun n h, pick_one (same_reference n n) (begun n h) None (reference_self n eventual))
+  came_found (k0 ∷ ks) n h eventual = either_found (same_reference k0.name n) k0 (entry_of Names (ks ++ begun n h ∷ []) n) (came_found ks n h eventual)
 
   -- where a name settled, that it came to be known wakes nothing
   pub came_settled : (ks us : List (Known Name)) (g : Name) (h : ℕ) (y : Value Name) → standing_of Names us g ≡ Settled y → Wakes (ks ++ begun g h ∷ []) us → Wakes ks us

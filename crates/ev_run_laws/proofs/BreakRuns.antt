@@ -1,6 +1,6 @@
 -- The laws of broken references in runs, from what no step undoes.
 use Rattle.std.proofs.Common.{◌≡◌, ℕ, ◌≤◌, zero, suc, Bool, true, false, List, [], ◌∷◌, Option, Some, None, refl, length, map, arith}
-use Rattle.ev_machine.specs.Values.{Words, Value, Null, Flag, Number, Letter, Text, Prim, Broken, Items, Ref, Name, Root, Object, Promise, Answer, Gift, Sent, Naming, Foreign, NoObject, Own, naming, spot_of, same_name}
+use Rattle.ev_machine.specs.Values.{Words, Value, Null, Flag, Number, Letter, Text, Prim, Broken, Items, Ref, Name, Root, Object, Promise, Answer, Gift, Sent, Naming, Foreign, NoObject, Own, naming, spot_of, same_name, same_reference}
 use Rattle.ev_machine.specs.State.{Known, Standing, Unsettled, WaitsOn, Viewed, Settled, Vat, begun, is_in}
 use Rattle.ev_machine.specs.Refs.{entry_of, standing_of, standing_in, follow_at}
 use Rattle.ev_machine_laws.specs.Laws.{SettledStays, BrokenStays}
@@ -82,8 +82,8 @@ module _ (K : Naming Name Name) where
   no_views ks u n g e = let i = u n in cc
 
 module _ (word : ℕ → ℕ) (v : ℕ) where
-  far_root : (w : ℕ) (m : Name) (h : ℕ) → spot_of v m ≡ Foreign h → same_name (Root w) m ≡ false
-  unfolding spot_of same_name
+  far_root : (w : ℕ) (m : Name) (h : ℕ) → spot_of v m ≡ Foreign h → same_reference (Root w) m ≡ false
+  unfolding spot_of same_name same_reference
   far_root w (Root u) h e = cc
   far_root w (Object u i) h e = refl
   far_root w (Promise u i) h e = cc
@@ -97,7 +97,7 @@ module _ (word : ℕ → ℕ) (v : ℕ) where
   roots_apart : (ws : List ℕ) (m : Name) (h : ℕ) → spot_of v m ≡ Foreign h → entry_of (naming word v) (map known_root ws) m ≡ None
   unfolding entry_of known_root begun naming
   roots_apart [] m h e = refl
-  roots_apart (w ∷ ws) m h e = far_head (same_name (Root w) m) (begun (Root w) w) (entry_of (naming word v) (map known_root ws) m) (far_root w m h e) (roots_apart ws m h e)
+  roots_apart (w ∷ ws) m h e = far_head (same_reference (Root w) m) (begun (Root w) w) (entry_of (naming word v) (map known_root ws) m) (far_root w m h e) (roots_apart ws m h e)
 
 fresh_unsettled : (script : Script) (v : ℕ) (p : Program) (n : Name) → standing_of (names script v) (fresh script v p).known n ≡ Unsettled
 unfolding standing_of entry_of fresh known_root begun
@@ -105,7 +105,7 @@ fresh_unsettled script v p n = root_head (names script v) ((names script v).same
 
 fresh_apart : (script : Script) (v : ℕ) (p : Program) (m : Name) (h : ℕ) → (names script v).spot m ≡ Foreign h → entry_of (names script v) (fresh script v p).known m ≡ None
 unfolding entry_of fresh known_root begun names naming
-fresh_apart script v p m h e = far_head (draw_word script.key) v (same_name (Root v) m) _ (entry_of (names script v) (map known_root p.knows) m) (far_root (draw_word script.key) v v m h e) (roots_apart (draw_word script.key) v p.knows m h e)
+fresh_apart script v p m h e = far_head (draw_word script.key) v (same_reference (Root v) m) _ (entry_of (names script v) (map known_root p.knows) m) (far_root (draw_word script.key) v v m h e) (roots_apart (draw_word script.key) v p.knows m h e)
 
 fresh_near : (script : Script) (v : ℕ) (p : Program) (h : ℕ) → is_in h (fresh script v p).noticed ≡ false
 unfolding fresh is_in

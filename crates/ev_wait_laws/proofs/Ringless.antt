@@ -12,10 +12,10 @@ use Rattle.ev_name_laws.proofs.Tracked.{names_change}
 use Rattle.ev_rest_laws.proofs.Entries.{SameOr, same_or, unless_either}
 use Rattle.ev_rest_laws.proofs.Gentle.{GivesBy}
 use Rattle.ev_rest_laws.proofs.ViewsGo.{entry_last}
-use Rattle.ev_rest_laws.proofs.ViewsMade.{entry_name}
+use Rattle.ev_rest_laws.proofs.ViewsMade.{entry_name, entry_self}
 use Rattle.ev_wait_laws.proofs.Calm.{next, IsCalmChange, HoldsBy, change_wait, IsCalm}
 use Rattle.ev_wait_laws.proofs.Chains.{leads_within}
-use Rattle.ev_wait_laws.proofs.Rings.{AllLoose, Fewer, fewer_loose, adds_loose, lone}
+use Rattle.ev_wait_laws.proofs.Rings.{AllLoose, Fewer, Added, fewer_loose, adds_loose, lone}
 use Rattle.ev_wait_laws.proofs.Owned.{IsOwnPair, IsOther, HoldsOwn, Owned, owned_begun, owned_changed}
 use Rattle.ev_wait_laws.proofs.RefsCalm.{Minds, PassesBy, WaitsBy, calm_deliver, calm_settle}
 
@@ -51,7 +51,7 @@ pub edge_see : (q : Name) → IsEdge (See q) q
 unfolding changed_to next
 edge_see q = edge_new (See q) q (λ k r e. cc)
 
-module _ (K : Naming Name Name) (is : (a b : Name) → K.same a b ≡ true → a ≡ b) (self : (a : Name) → K.same a a ≡ true) where
+module _ (K : Naming Name Name) (is : (a b : Name) → K.same a b ≡ true → a ≡ b) where
   -- ---- more names, and no new waits
 
   abbrev pub Grows : List (Known Name) → List (Known Name) → Type 0
@@ -67,17 +67,17 @@ module _ (K : Naming Name Name) (is : (a b : Name) → K.same a b ≡ true → a
   once_grows ks ls g h = once_front (names_in ks) g.0 (rw g.1 at h)
 
   abbrev pub LessIn : List (Known Name) → List (Known Name) → Type 0
-  LessIn ks ls = Grows ks ls × Fewer K is self ks ls
+  LessIn ks ls = Grows ks ls × Fewer K is ks ls
 
   -- no name waits on itself or is its own view
   abbrev pub NoneOnItself : List (Known Name) → Type 0
   NoneOnItself ks = (n : Name) → next (standing_of K ks n) ≡ Some n → ⊥
 
   abbrev pub StepIn : List (Known Name) → List (Known Name) → Type 0
-  StepIn ks ls = Grows ks ls × (Once (names_in ls) → AllLoose K is self ks → AllLoose K is self ls) × (Once (names_in ls) → NoneOnItself ks → NoneOnItself ls)
+  StepIn ks ls = Grows ks ls × (Once (names_in ls) → AllLoose K is ks → AllLoose K is ls) × (Once (names_in ls) → NoneOnItself ks → NoneOnItself ls)
 
   pub less_step : (ks ls : List (Known Name)) → LessIn ks ls → StepIn ks ls
-  less_step ks ls h = (h.0, λ o all. fewer_loose K is self ks ls h.1 all, λ o none n e. none n (h.1 n n e))
+  less_step ks ls h = (h.0, λ o all. fewer_loose K is ks ls h.1 all, λ o none n e. none n (h.1 n n e))
 
   pub less_same : (ks : List (Known Name)) → LessIn ks ks
   less_same ks = (grows_same ks ks refl, λ n q e. e)
@@ -139,16 +139,16 @@ module _ (K : Naming Name Name) (is : (a b : Name) → K.same a b ≡ true → a
       none_head true g e = absurd (g refl)
       none_head false g e = e
 
-  edge_or : (c : Change Name) (q : Name) → IsEdge c q → (p n r : Name) (ks ls : List (Known Name)) → SameOr K c p ks ls n → next (standing_of K ls n) ≡ Some r → (next (standing_of K ks n) ≡ Some r) ⊎ ((n ≡ p) × (r ≡ q))
+  edge_or : (c : Change Name) (q : Name) → IsEdge c q → (p n r : Name) (ks ls : List (Known Name)) → SameOr K c p ks ls n → next (standing_of K ls n) ≡ Some r → (next (standing_of K ks n) ≡ Some r) ⊎ Added K is p q n r
   edge_or c q edge p n r ks ls (inl e) h = inl (same_next ks ls n r e h)
   edge_or c q edge p n r ks ls (inr x) h = pick (edge x.0 r (at_next ls n r (changed c x.0) x.3 h))
     where
-      pick : (r ≡ q) ⊎ (next x.0.standing ≡ Some r) → (next (standing_of K ks n) ≡ Some r) ⊎ ((n ≡ p) × (r ≡ q))
-      pick (inl i) = inr (sym (entry_name K is self ks n x.0 x.1) ∙ entry_name K is self ks p x.0 x.2, i)
+      pick : (r ≡ q) ⊎ (next x.0.standing ≡ Some r) → (next (standing_of K ks n) ≡ Some r) ⊎ Added K is p q n r
+      pick (inl i) = inr (sym (entry_name K is ks n x.0 x.1) ∙ entry_name K is ks p x.0 x.2, i, entry_self K is ks p x.0 x.2)
       pick (inr i) = inl (next_at ks n r x.0 x.1 i)
 
-  pub edge_step : (c : Change Name) (q : Name) → IsEdge c q → (p : Name) (ks : List (Known Name)) → ((d : ℕ) → waits_lead K d ks p q ≡ true → q ≡ p) → AllLoose K is self ks → AllLoose K is self (with_change K c p ks)
-  edge_step c q edge p ks back all = adds_loose K is self ks (with_change K c p ks) p q (λ n r e. edge_or c q edge p n r ks (with_change K c p ks) (same_or K c p n ks) e) back all
+  pub edge_step : (c : Change Name) (q : Name) → IsEdge c q → (p : Name) (ks : List (Known Name)) → ((d : ℕ) → waits_lead K d ks p q ≡ true → q ≡ p) → AllLoose K is ks → AllLoose K is (with_change K c p ks)
+  edge_step c q edge p ks back all = adds_loose K is ks (with_change K c p ks) p q (λ n r e. edge_or c q edge p n r ks (with_change K c p ks) (same_or K c p n ks) e) back all
 
   -- p comes to wait on a, which waits on p
   abbrev pub Linked : Change Name → Name → Name → List (Known Name) → List (Known Name)
@@ -157,22 +157,22 @@ module _ (K : Naming Name Name) (is : (a b : Name) → K.same a b ≡ true → a
   linked_grows : (c : Change Name) (p a : Name) (ls : List (Known Name)) → Grows ls (Linked c p a ls)
   linked_grows c p a ls = grows_same ls (Linked c p a ls) (names_change K (Wait p) a (with_change K c p ls) ∙ names_change K c p ls)
 
-  linked_loose : (c : Change Name) (q : Name) → IsEdge c q → (p : Name) (ks : List (Known Name)) → ((d : ℕ) → waits_lead K d ks p q ≡ true → q ≡ p) → AllLoose K is self ks → AllLoose K is self (Linked c p q ks)
-  linked_loose c q edge p ks back all = fewer_loose K is self (with_change K c p ks) (Linked c p q ks) (less_changed (Wait p) (change_wait p) q (with_change K c p ks)).1 (edge_step c q edge p ks back all)
+  linked_loose : (c : Change Name) (q : Name) → IsEdge c q → (p : Name) (ks : List (Known Name)) → ((d : ℕ) → waits_lead K d ks p q ≡ true → q ≡ p) → AllLoose K is ks → AllLoose K is (Linked c p q ks)
+  linked_loose c q edge p ks back all = fewer_loose K is (with_change K c p ks) (Linked c p q ks) (less_changed (Wait p) (change_wait p) q (with_change K c p ks)).1 (edge_step c q edge p ks back all)
 
-  linked_apart : (c : Change Name) (q : Name) → IsEdge c q → (p : Name) (ks : List (Known Name)) → (p ≡ q → ⊥) → NoneOnItself ks → NoneOnItself (Linked c p q ks)
+  linked_apart : (c : Change Name) (q : Name) → IsEdge c q → (p : Name) (ks : List (Known Name)) → (K.same p p ≡ true → p ≡ q → ⊥) → NoneOnItself ks → NoneOnItself (Linked c p q ks)
   linked_apart c q edge p ks apart none n e = pick (edge_or c q edge p n n ks (with_change K c p ks) (same_or K c p n ks) ((less_changed (Wait p) (change_wait p) q (with_change K c p ks)).1 n n e))
     where
-      pick : (next (standing_of K ks n) ≡ Some n) ⊎ ((n ≡ p) × (n ≡ q)) → ⊥
+      pick : (next (standing_of K ks n) ≡ Some n) ⊎ Added K is p q n n → ⊥
       pick (inl i) = none n i
-      pick (inr i) = apart (sym i.0 ∙ i.1)
+      pick (inr i) = apart i.2 (sym i.0 ∙ i.1)
 
   -- the name a comes to be known, and later p comes to wait on it
   pub new_linked : (c : Change Name) (p a : Name) (h : ℕ) → IsEdge c a → (ks ls : List (Known Name)) → LessIn (ks ++ begun a h ∷ []) ls → (Once (names_in ks ++ a ∷ []) → p ≡ a → ⊥) → StepIn ks (Linked c p a ls)
   new_linked c p a h edge ks ls less apart = (
     grows,
-    λ o all. linked_loose c a edge p ls (λ d i. lone K is self ls p a (alone o) d i) (fewer_loose K is self (ks ++ begun a h ∷ []) ls less.1 (fewer_loose K is self ks (ks ++ begun a h ∷ []) (less_begun ks a h).1 all)),
-    λ o none. linked_apart c a edge p ls (apart (ended o)) (λ n e. none n ((less_begun ks a h).1 n n (less.1 n n e))),
+    λ o all. linked_loose c a edge p ls (λ d i. lone K is ls p a (alone o) d i) (fewer_loose K is (ks ++ begun a h ∷ []) ls less.1 (fewer_loose K is ks (ks ++ begun a h ∷ []) (less_begun ks a h).1 all)),
+    λ o none. linked_apart c a edge p ls (λ self. apart (ended o)) (λ n e. none n ((less_begun ks a h).1 n n (less.1 n n e))),
   )
     where
       grows : Grows ks (Linked c p a ls)
@@ -192,7 +192,7 @@ module _ (K : Naming Name Name) (is : (a b : Name) → K.same a b ≡ true → a
 
   tested : (p q : Name) (ks : List (Known Name)) → waits_lead K (length ks) ks p q ≡ false → StepIn ks (Linked (WaitOn q) p q ks)
   unfolding waits_lead
-  tested p q ks e = (linked_grows (WaitOn q) p q ks, λ o all. linked_loose (WaitOn q) q (edge_wait q) p ks (λ d h. absurd (clash d h)) all, λ o none. linked_apart (WaitOn q) q (edge_wait q) p ks (λ i. clash zero (rw i (self q))) none)
+  tested p q ks e = (linked_grows (WaitOn q) p q ks, λ o all. linked_loose (WaitOn q) q (edge_wait q) p ks (λ d h. absurd (clash d h)) all, λ o none. linked_apart (WaitOn q) q (edge_wait q) p ks (λ self i. clash zero (rw (sym i) self)) none)
     where
       clash : (d : ℕ) → waits_lead K d ks p q ≡ true → ⊥
       clash d h = let both : false ≡ true = sym e ∙ leads_within K is ks p d q h in cc

@@ -21,7 +21,7 @@ use Rattle.ev_wait_laws.proofs.Chains.{ends_within}
 use Rattle.ev_wait_laws.proofs.Owned.{Owned}
 use Rattle.ev_wait_laws.proofs.Rings.{AllLoose, loose_ends}
 use Rattle.ev_wait_laws.proofs.Ringless.{NoneOnItself, once_grows}
-use Rattle.ev_wait_laws.proofs.RinglessSteps.{NamesMail, is, self, By, On, ring_taking, ring_opening, ring_notice, ring_arrive}
+use Rattle.ev_wait_laws.proofs.RinglessSteps.{NamesMail, is, By, On, ring_taking, ring_opening, ring_notice, ring_arrive}
 
 -- what is delivered is named as a message
 names_mail : (word : ℕ → ℕ) (v : ℕ) (vats : List (Vat Name)) (d : ℕ) (n : Note Name) → NoteOk (IsMade vats d) n → NamesMail n
@@ -37,14 +37,14 @@ module _ (script : Script) where
   word = draw_word script.key
 
   abbrev Ringless : ℕ → Vat Name → Type 0
-  Ringless v s = Owned v s × (Once (names_in s.known) → AllLoose (naming word v) (is word v) (self word v) s.known × NoneOnItself (naming word v) (is word v) (self word v) s.known)
+  Ringless v s = Owned v s × (Once (names_in s.known) → AllLoose (naming word v) (is word v) s.known × NoneOnItself (naming word v) (is word v) s.known)
 
   -- each notice is allowed
   abbrev Any : ℕ → ℕ → Type 0
   Any v to = Unit {0}
 
   after_ring : (v : ℕ) (s : Vat Name) (d : Done Name (Unit {0})) → Ringless v s → AfterGives (By word v s) d → AfterGives (Ringless v) d
-  after_ring v s d h = gives_map (By word v s) (Ringless v) d (λ t r. let next : Owned v t × On word v s.known t.known = r h.0 in let back : Once (names_in t.known) → Once (names_in s.known) = once_grows (naming word v) (is word v) (self word v) s.known t.known next.1.0 in
+  after_ring v s d h = gives_map (By word v s) (Ringless v) d (λ t r. let next : Owned v t × On word v s.known t.known = r h.0 in let back : Once (names_in t.known) → Once (names_in s.known) = once_grows (naming word v) (is word v) s.known t.known next.1.0 in
       (next.0, λ o. let all = h.1 (back o) in (next.1.1 o all.0, next.1.2 o all.1)))
 
   rings_keep : StepsKeep script Ringless Any
@@ -111,7 +111,7 @@ module _ (script : Script) where
 
   ends : (v : ℕ) (s : Vat Name) → Ringless v s → Once (names_in s.known) → WaitsEnd (names script v) s.known
   unfolding names
-  ends v s h o n = let all = h.1 o in let at = all.0 n in ends_within (naming word v) (is word v) s.known at.0 n (loose_ends (naming word v) (is word v) (self word v) s.known all.1 at.0 n at.1)
+  ends v s h o n = let all = h.1 o in let at = all.0 n in ends_within (naming word v) (is word v) s.known at.0 n (loose_ends (naming word v) (is word v) s.known all.1 at.0 n at.1)
 
 pub waits_end_in_runs : WaitsEndInRuns
 waits_end_in_runs script once = (

@@ -13,11 +13,10 @@ use Rattle.ev_kernel.specs.declared.node.Node.{Node}
 use Rattle.ev_run.specs.World as world
 use Rattle.ev_name_laws.specs.Names.{AllOf, IsAmong, IsKnownIn, IsMessageName, Once, names_in}
 use Rattle.ev_name_laws.proofs.Among.{among_last, names_end}
-use Rattle.ev_name_laws.proofs.SameNames.{old_known}
+use Rattle.ev_name_laws.proofs.SameNames.{old_known, reference_is}
 use Rattle.ev_name_laws.proofs.Tracked.{known_among}
 use Rattle.ev_rest_laws.proofs.Gentle.{AfterGives, GivesBy, Gentle, gives_by, gives_map}
 use Rattle.ev_rest_laws.proofs.TurnsGentle.{IsFree}
-use Rattle.ev_rest_laws.proofs.ViewsMade.{same_is, same_self}
 use Rattle.ev_wait_laws.proofs.Calm.{IsCalm, calm, widen}
 use Rattle.ev_wait_laws.proofs.Owned.{IsOwnPair, IsOther, HoldsOwn, Owned, owned_begun, found_held}
 use Rattle.ev_wait_laws.proofs.RefsCalm.{Minds, PassesBy, WaitsBy, calm_settle}
@@ -40,15 +39,11 @@ module _ (word : ℕ → ℕ) (v : ℕ) where
 
   pub is : (a b : Name) → Names.same a b ≡ true → a ≡ b
   unfolding naming
-  is a b e = same_is a b e
-
-  pub self : (a : Name) → Names.same a a ≡ true
-  unfolding naming
-  self a = same_self a
+  is a b e = reference_is a b e
 
   -- from what was known to what is known
   abbrev pub On : List (Known Name) → List (Known Name) → Type 0
-  On ks ls = StepIn Names is self ks ls
+  On ks ls = StepIn Names is ks ls
 
   abbrev pub By : Vat Name → Vat Name → Type 0
   By s t = Owned v s → Owned v t × On s.known t.known
@@ -57,7 +52,7 @@ module _ (word : ℕ → ℕ) (v : ℕ) where
   Good = IsOwnPair v
 
   law : IsCalm Names Good By
-  law = step_law Names is self v
+  law = step_law Names is v
 
   with_owned : {A : Type 0} (s : Vat Name) (d : Done Name A) → (Owned v s → GivesBy By s d) → GivesBy By s d
   with_owned s (Gives a t) f = λ o. f o o
@@ -125,15 +120,15 @@ module _ (word : ℕ → ℕ) (v : ℕ) where
   answer_host u (Answer w m) i = absurd i
   answer_host u (Gift w j) i = absurd i
 
-  differ : AnswersDiffer Names is self v
+  differ : AnswersDiffer Names is v
   unfolding naming name_of
   differ h k i a g f e = f (sym (answer_host h i g.0) ∙ ap host_of (sym e) ∙ g.1)
 
   passes : PassesBy Names Good (IsOther v) By
-  passes = step_passes Names is self v differ
+  passes = step_passes Names is v differ
 
   waits : WaitsBy Names By
-  waits = step_waits Names is self v minds passes
+  waits = step_waits Names is v minds passes
 
   carried : (m : Name) → IsMessageName m → AnswersHere Names Good (IsOther v) By law minds passes waits m
   unfolding ◌>>=◌ come and_then naming mail_of name_of
@@ -179,11 +174,11 @@ module _ (word : ℕ → ℕ) (v : ℕ) where
   seen_apart : (ks : List (Known Name)) (n : Name) (u i : ℕ) → IsKnownIn (names_in ks) n → Once (names_in ks ++ Gift u i ∷ []) → n ≡ Gift u i → ⊥
   seen_apart ks n u i a o e = let known : IsKnownIn (names_in ks) (Gift u i) = rw e at a in once_last (names_in ks) (Gift u i) o known
 
-  seen : (ks : List (Known Name)) (n : Name) (u i h : ℕ) → IsKnownIn (names_in ks) n → On ks (Linked Names is self (See (Gift u i)) n (Gift u i) (ks ++ begun (Gift u i) h ∷ []))
-  seen ks n u i h a = let g : Name = Gift u i in new_linked Names is self (See g) n g h (edge_see g) ks (ks ++ begun g h ∷ []) (less_same Names is self (ks ++ begun g h ∷ [])) (seen_apart ks n u i a)
+  seen : (ks : List (Known Name)) (n : Name) (u i h : ℕ) → IsKnownIn (names_in ks) n → On ks (Linked Names is (See (Gift u i)) n (Gift u i) (ks ++ begun (Gift u i) h ∷ []))
+  seen ks n u i h a = let g : Name = Gift u i in new_linked Names is (See g) n g h (edge_see g) ks (ks ++ begun g h ∷ []) (less_same Names is (ks ++ begun g h ∷ [])) (seen_apart ks n u i a)
 
-  seen_owned : (ks : List (Known Name)) (n g : Name) (h : ℕ) → AllOf (HoldsOwn v) ks → AllOf (HoldsOwn v) (Linked Names is self (See g) n g (ks ++ begun g h ∷ []))
-  seen_owned ks n g h o = owned_linked Names is self v (See g) n g (ks ++ begun g h ∷ []) tt (owned_begun v ks g h o)
+  seen_owned : (ks : List (Known Name)) (n g : Name) (h : ℕ) → AllOf (HoldsOwn v) ks → AllOf (HoldsOwn v) (Linked Names is (See g) n g (ks ++ begun g h ∷ []))
+  seen_owned ks n g h o = owned_linked Names is v (See g) n g (ks ++ begun g h ∷ []) tt (owned_begun v ks g h o)
 
   -- here: it is a gift that this vat hosts
   view_own : (s : Vat Name) (n : Name) (h u i w : ℕ) (p : Put Name) (o : Option (GiftEntry Name)) → o ≡ None → IsKnownIn (names_in s.known) n

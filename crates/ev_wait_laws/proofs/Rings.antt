@@ -11,7 +11,7 @@ pub or_map : {A B C : Type 0} → (B → C) → A ⊎ B → A ⊎ C
 or_map f (inl a) = inl a
 or_map f (inr b) = inr (f b)
 
-module _ (K : Naming Name Name) (is : (a b : Name) → K.same a b ≡ true → a ≡ b) (self : (a : Name) → K.same a a ≡ true) where
+module _ (K : Naming Name Name) (is : (a b : Name) → K.same a b ≡ true → a ≡ b) where
   abbrev pub Next : List (Known Name) → Name → Name → Type 0
   Next ks n q = next (standing_of K ks n) ≡ Some q
 
@@ -30,9 +30,13 @@ module _ (K : Naming Name Name) (is : (a b : Name) → K.same a b ≡ true → a
   abbrev pub Fewer : List (Known Name) → List (Known Name) → Type 0
   Fewer ks ls = (n q : Name) → Next ls n q → Next ks n q
 
-  -- none but that of p on q
+  -- that of p on q, where p is the same as itself
+  abbrev pub Added : Name → Name → Name → Name → Type 0
+  Added p q n r = (n ≡ p) × (r ≡ q) × (K.same p p ≡ true)
+
+  -- none but that one
   abbrev pub Adds : List (Known Name) → List (Known Name) → Name → Name → Type 0
-  Adds ks ls p q = (n r : Name) → Next ls n r → (Next ks n r) ⊎ ((n ≡ p) × (r ≡ q))
+  Adds ks ls p q = (n r : Name) → Next ls n r → (Next ks n r) ⊎ Added p q n r
 
   fewer_in : (ks ls : List (Known Name)) → Fewer ks ls → (d : ℕ) (n : Name) → Loose d ks n → Loose d ls n
   fewer_in ks ls f zero n h = λ q e. h q (f n q e)
@@ -47,9 +51,9 @@ module _ (K : Naming Name Name) (is : (a b : Name) → K.same a b ≡ true → a
   unfolding waits_lead
   on_lead ks p n r d e h = lead_true (K.same n p) (led_by_wait K (λ q. waits_lead K d ks p q) (standing_of K ks n)) (next_led K is ks p (λ q. waits_lead K d ks p q) (standing_of K ks n) r e h)
 
-  hit : (ks : List (Known Name)) (p n : Name) → n ≡ p → waits_lead K zero ks p n ≡ true
+  hit : (ks : List (Known Name)) (p n : Name) → n ≡ p → K.same p p ≡ true → waits_lead K zero ks p n ≡ true
   unfolding waits_lead
-  hit ks p n e = rw e (self p)
+  hit ks p n e self = rw e self
 
   lone_at : (b : Bool) (ks : List (Known Name)) (f : Name → Bool) (p a : Name) → K.same a p ≡ b → ((q : Name) → Next ks a q → ⊥) → (elim b [ true ↦ true | false ↦ led_by_wait K f (standing_of K ks a) ]) ≡ true → a ≡ p
   lone_at true ks f p a s none h = is a p s
@@ -65,9 +69,9 @@ module _ (K : Naming Name Name) (is : (a b : Name) → K.same a b ≡ true → a
 
   module _ (ks ls : List (Known Name)) (p q : Name) (adds : Adds ks ls p q) where
     module _ (apart : (d : ℕ) → waits_lead K d ks p q ≡ true → ⊥) (all : AllLoose ks) where
-      split : {C : Type 0} (n r : Name) → (Next ks n r) ⊎ ((n ≡ p) × (r ≡ q)) → ((e : ℕ) → waits_lead K e ks p n ≡ true → ⊥) → (Next ks n r → C) → C
+      split : {C : Type 0} (n r : Name) → (Next ks n r) ⊎ Added p q n r → ((e : ℕ) → waits_lead K e ks p n ≡ true → ⊥) → (Next ks n r → C) → C
       split n r (inl i) f g = g i
-      split n r (inr i) f g = absurd (f zero (hit ks p n i.0))
+      split n r (inr i) f g = absurd (f zero (hit ks p n i.0 i.2))
 
       -- from where no chain led to p, all chains are as they were
       avoid : (d : ℕ) (n : Name) → Loose d ks n → ((e : ℕ) → waits_lead K e ks p n ≡ true → ⊥) → Loose d ls n
@@ -84,7 +88,7 @@ module _ (K : Naming Name Name) (is : (a b : Name) → K.same a b ≡ true → a
       either n r i (inl s) = (zero, λ t e. some_same t r (sym e ∙ i) ∙ s)
       either n r i (inr l) = more n r i l
 
-      at_any : (n r : Name) → Next ls n r → (Next ks n r → (r ≡ n) ⊎ LooseAt ls r) → (Next ks n r) ⊎ ((n ≡ p) × (r ≡ q)) → LooseAt ls n
+      at_any : (n r : Name) → Next ls n r → (Next ks n r → (r ≡ n) ⊎ LooseAt ls r) → (Next ks n r) ⊎ Added p q n r → LooseAt ls n
       at_any n r i f (inl j) = either n r i (f j)
       at_any n r i f (inr j) = let at = all q in more n r i (via q r (sym j.1) (at.0, avoid at.0 q at.1 apart))
 
@@ -97,10 +101,10 @@ module _ (K : Naming Name Name) (is : (a b : Name) → K.same a b ≡ true → a
       loose_in (suc d) n h = at_end n (next (standing_of K ls n)) refl (λ r i. at_any n r i (λ j. or_map (λ l. loose_in d r l) (h r j)) (adds n r i))
 
     module _ (one : q ≡ p) where
-      own : (n r : Name) → (n ≡ p) × (r ≡ q) → r ≡ n
+      own : (n r : Name) → Added p q n r → r ≡ n
       own n r i = i.1 ∙ one ∙ sym i.0
 
-      or_own : {C : Type 0} (n r : Name) → (Next ks n r) ⊎ ((n ≡ p) × (r ≡ q)) → (r ≡ n → C) → (Next ks n r → C) → C
+      or_own : {C : Type 0} (n r : Name) → (Next ks n r) ⊎ Added p q n r → (r ≡ n → C) → (Next ks n r → C) → C
       or_own n r (inl i) f g = g i
       or_own n r (inr i) f g = f (own n r i)
 
@@ -108,16 +112,28 @@ module _ (K : Naming Name Name) (is : (a b : Name) → K.same a b ≡ true → a
       same_in zero n h = λ r e. or_own n r (adds n r e) (λ s. s) (λ i. h r i)
       same_in (suc d) n h = λ r e. or_own n r (adds n r e) (λ s. inl s) (λ i. or_map (λ l. same_in d r l) (h r i))
 
-    by_test : (b : Bool) → K.same q p ≡ b → ((d : ℕ) → waits_lead K d ks p q ≡ true → q ≡ p) → AllLoose ks → AllLoose ls
-    by_test true s back all n = let at = all n in (at.0, same_in (is q p s) at.0 n at.1)
-    by_test false s back all n = let at = all n in loose_in (λ d h. clash (back d h)) all at.0 n at.1
+    by_test : (b : Bool) → K.same q p ≡ b → K.same p p ≡ true → ((d : ℕ) → waits_lead K d ks p q ≡ true → q ≡ p) → AllLoose ks → AllLoose ls
+    by_test true s self back all n = let at = all n in (at.0, same_in (is q p s) at.0 n at.1)
+    by_test false s self back all n = let at = all n in loose_in (λ d h. clash (back d h)) all at.0 n at.1
       where
         clash : q ≡ p → ⊥
-        clash e = let same : K.same p p ≡ false = rw e at s in let both : true ≡ false = sym (self p) ∙ same in cc
+        clash e = let same : K.same p p ≡ false = rw e at s in let both : true ≡ false = sym self ∙ same in cc
+
+    -- where p is not the same as itself nothing is added
+    none_added : K.same p p ≡ false → Fewer ks ls
+    none_added other n r e = only (adds n r e)
+      where
+        only : (Next ks n r) ⊎ Added p q n r → Next ks n r
+        only (inl i) = i
+        only (inr i) = let both : true ≡ false = sym i.2 ∙ other in cc
+
+    by_self : (b : Bool) → K.same p p ≡ b → ((d : ℕ) → waits_lead K d ks p q ≡ true → q ≡ p) → AllLoose ks → AllLoose ls
+    by_self true self back all = by_test (K.same q p) refl self back all
+    by_self false other back all = fewer_loose ks ls (none_added other) all
 
     -- where no chain leads from q to p, but that q may be p
     pub adds_loose : ((d : ℕ) → waits_lead K d ks p q ≡ true → q ≡ p) → AllLoose ks → AllLoose ls
-    adds_loose back all = by_test (K.same q p) refl back all
+    adds_loose back all = by_self (K.same p p) refl back all
 
   -- ---- where none waits on itself
 

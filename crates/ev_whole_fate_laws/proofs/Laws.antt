@@ -23,7 +23,7 @@ use Rattle.ev_whole_fate_laws.proofs.WholeSteps.{opens_find, takes_find, note_fi
 use Rattle.ev_whole_fate_laws.proofs.RunWhole.{Kept, begins_kept, step_kept, open_kept}
 
 pub views_end_in_runs : ViewsEndInRuns
-views_end_in_runs = in_each _ (λ script w v s e h word. let k = h.kept in views_end word v s k.views)
+views_end_in_runs = in_each _ (λ script w v s e h word. let k = h.kept in views_end word v s k.apart k.views)
 
 -- ---- every step
 

@@ -13,7 +13,7 @@ use Rattle.ev_name_laws.proofs.Care.{TellsOfNone, Care, Under, Sound, Ends, Gets
 use Rattle.ev_name_laws.proofs.Looks.{follow_ok, place_ok}
 use Rattle.ev_name_laws.proofs.CareRefs.{fine_settle, fine_resolve, fine_send_first, fine_send, fine_react}
 use Rattle.ev_name_laws.proofs.Serves.{Serves}
-use Rattle.ev_name_laws.proofs.SameNames.{same_is, same_self}
+use Rattle.ev_name_laws.proofs.SameNames.{reference_is, reference_self}
 use Rattle.ev_name_laws.proofs.Tracked.{Marked, Goes, tracked, tracked_under, tracked_makes}
 use Rattle.ev_fate_laws.specs.Fate.{one, at_vat, sent_here, sent_in, account}
 use Rattle.ev_fate_laws.specs.Lasting.{AllWell}
@@ -84,10 +84,10 @@ module _ (M : Marked) (vats : List (Vat Name)) (v : ℕ) (q : Vat Name) (there :
   pub good_known : (s : Vat Name) (y : Value Name) → ValueOk (T.ok s) y → IsKnown (naming word v) s y
   unfolding naming
   good_known s (Ref (Object w i)) h = tt
-  good_known s (Ref (Root w)) h = among_known (naming word v) same_is same_self s.known (Root w) h.1
-  good_known s (Ref (Promise w i)) h = among_known (naming word v) same_is same_self s.known (Promise w i) h.1
-  good_known s (Ref (Answer w m)) h = among_known (naming word v) same_is same_self s.known (Answer w m) h.1
-  good_known s (Ref (Gift w i)) h = among_known (naming word v) same_is same_self s.known (Gift w i) h.1
+  good_known s (Ref (Root w)) h = among_known (naming word v) reference_is reference_self s.known (Root w) (reference_self (Root w) tt) h.1
+  good_known s (Ref (Promise w i)) h = among_known (naming word v) reference_is reference_self s.known (Promise w i) (reference_self (Promise w i) tt) h.1
+  good_known s (Ref (Answer w m)) h = among_known (naming word v) reference_is reference_self s.known (Answer w m) (reference_self (Answer w m) tt) h.1
+  good_known s (Ref (Gift w i)) h = among_known (naming word v) reference_is reference_self s.known (Gift w i) (reference_self (Gift w i) tt) h.1
   good_known s (Ref (Sent m)) h = absurd h.0
   good_known s Null h = tt
   good_known s (Flag b) h = tt
@@ -99,7 +99,7 @@ module _ (M : Marked) (vats : List (Vat Name)) (v : ℕ) (q : Vat Name) (there :
   good_known s (Items k) h = tt
 
   pub good_views : (s : Vat Name) → Sound T s → ViewsEnd (naming word v) s
-  good_views s h = let m = h.more in views_end word v s m.views
+  good_views s h = let m = h.more in views_end word v s m.apart m.views
 
   module _ (cut : ℕ → Bool) (x : Name) where
     -- as many more are placed as came and were sent

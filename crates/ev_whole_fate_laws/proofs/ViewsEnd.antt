@@ -3,28 +3,31 @@ use Rattle.std.proofs.Common.{◌≡◌, ℕ, ◌≤◌, zero, suc, Bool, true, 
 use Rattle.ev_machine.specs.Values.{Prim, Name, Naming, naming}
 use Rattle.ev_machine.specs.State.{Known, Standing, Unsettled, WaitsOn, Viewed, Settled, Vat}
 use Rattle.ev_machine.specs.Refs.{entry_of, standing_of, standing_in}
-use Rattle.ev_name_laws.specs.Names.{IsAmong, names_in}
+use Rattle.ev_name_laws.specs.Names.{AllOf, IsAmong, IsEventual, names_in}
 use Rattle.ev_name_laws.proofs.Views.{LooksOn, AllLookOn}
-use Rattle.ev_name_laws.proofs.Among.{among_or, names_end}
-use Rattle.ev_name_laws.proofs.SameNames.{same_is, same_self}
+use Rattle.ev_name_laws.proofs.Among.{among_or, names_end, all_among}
+use Rattle.ev_name_laws.proofs.SameNames.{reference_is, reference_self}
 use Rattle.ev_fate_laws.specs.Finding as finding
 use Rattle.ev_fate_laws.specs.Finding.{ViewIs, ViewsEndIn, ViewsEnd}
 
 true_false : true ≡ false → ⊥
 true_false e = cc
 
-module _ (K : Naming Name Name) (alike : (a b : Name) → K.same a b ≡ true → a ≡ b) (alone : (a : Name) → K.same a a ≡ true) where
-  found_either : (k : Known Name) (q : Name) (o : Option (Known Name)) (b : Bool) → K.same k.name q ≡ b → (q ≡ k.name) ⊎ ((j : Known Name) × (o ≡ Some j)) → (j : Known Name) × (elim b [ true ↦ Some k | false ↦ o ] ≡ Some j)
-  found_either k q o true e h = (k, refl)
-  found_either k q o false e (inl i) = absurd (true_false (sym (alone q) ∙ ap (λ n. K.same n q) i ∙ e))
-  found_either k q o false e (inr h) = h
+module _ (K : Naming Name Name) (alike : (a b : Name) → K.same a b ≡ true → a ≡ b) (alone : (a : Name) → IsEventual a → K.same a a ≡ true) where
+  found_either : (k : Known Name) (q : Name) (o : Option (Known Name)) (b : Bool) → K.same q q ≡ true → K.same k.name q ≡ b → (q ≡ k.name) ⊎ ((j : Known Name) × (o ≡ Some j)) → (j : Known Name) × (elim b [ true ↦ Some k | false ↦ o ] ≡ Some j)
+  found_either k q o true self e h = (k, refl)
+  found_either k q o false self e (inl i) = absurd (true_false (sym self ∙ ap (λ n. K.same n q) i ∙ e))
+  found_either k q o false self e (inr h) = h
 
   -- a name that is known has an entry
-  pub among_known : (ks : List (Known Name)) (q : Name) → IsAmong q (names_in ks) → finding.IsAmong K ks q
+  pub among_known : (ks : List (Known Name)) (q : Name) → K.same q q ≡ true → IsAmong q (names_in ks) → finding.IsAmong K ks q
   unfolding entry_of
-  among_known [] q h = absurd h
-  among_known (k ∷ ks) q (inl e) = found_either k q (entry_of K ks q) (K.same k.name q) refl (inl e)
-  among_known (k ∷ ks) q (inr a) = found_either k q (entry_of K ks q) (K.same k.name q) refl (inr (among_known ks q a))
+  among_known [] q self h = absurd h
+  among_known (k ∷ ks) q self (inl e) = found_either k q (entry_of K ks q) (K.same k.name q) self refl (inl e)
+  among_known (k ∷ ks) q self (inr a) = found_either k q (entry_of K ks q) (K.same k.name q) self refl (inr (among_known ks q self a))
+
+  known_self : (all : List (Known Name)) (q : Name) → AllOf IsEventual (names_in all) → IsAmong q (names_in all) → K.same q q ≡ true
+  known_self all q eventual a = alone q (all_among IsEventual (names_in all) q eventual a)
 
   past_either : (k : Known Name) (o p : Option (Known Name)) (n : Name) (b : Bool) → K.same k.name n ≡ b → (n ≡ k.name → ⊥) → o ≡ p → elim b [ true ↦ Some k | false ↦ o ] ≡ p
   past_either k o p n true e f g = absurd (f (sym (alike k.name n e)))
@@ -54,29 +57,29 @@ module _ (K : Naming Name Name) (alike : (a b : Name) → K.same a b ≡ true �
   hit k o true e = refl
   hit k o false e = cc
 
-  ends_either : (d : ℕ) (all front : List (Known Name)) (k : Known Name) (ks : List (Known Name)) (n : Name) (b : Bool) → K.same k.name n ≡ b → all ≡ front ++ (k ∷ ks) → LooksOn (names_in front ++ k.name ∷ []) (names_in ks) k.standing
+  ends_either : (d : ℕ) (all front : List (Known Name)) (k : Known Name) (ks : List (Known Name)) (n : Name) (b : Bool) → AllOf IsEventual (names_in all) → K.same k.name n ≡ b → all ≡ front ++ (k ∷ ks) → LooksOn (names_in front ++ k.name ∷ []) (names_in ks) k.standing
       → ((q : Name) → (IsAmong q (names_in front ++ k.name ∷ []) → ⊥) → ViewsEndIn K d all q) → ((IsAmong n (names_in front ++ k.name ∷ []) → ⊥) → ViewsEndIn K (suc d) all n) → (IsAmong n (names_in front) → ⊥) → ViewsEndIn K (suc d) all n
   unfolding standing_of standing_in entry_of
-  ends_either d all front k ks n true i e h on same f = subst (λ t. ViewIs K (ViewsEndIn K d all) all t) (sym stands) (view_ends d all (names_in front ++ k.name ∷ []) (names_in ks) k.standing h (λ q a b. (on q a, among_known all q (rw (sym e) at (among_later front q (k ∷ ks) (inr b))))))
+  ends_either d all front k ks n true eventual i e h on same f = subst (λ t. ViewIs K (ViewsEndIn K d all) all t) (sym stands) (view_ends d all (names_in front ++ k.name ∷ []) (names_in ks) k.standing h (λ q a b. let known : IsAmong q (names_in all) = rw (sym e) at (among_later front q (k ∷ ks) (inr b)) in (on q a, among_known all q (known_self all q eventual known) known)))
     where
       stands : standing_of K all n ≡ k.standing
       stands = ap standing_in (ap (λ js. entry_of K js n) e ∙ (entry_past front (k ∷ ks) n f ∙ hit k (entry_of K ks n) (K.same k.name n) i))
-  ends_either d all front k ks n false i e h on same f = same (λ a. or (among_or n (names_in front) k.name a))
+  ends_either d all front k ks n false eventual i e h on same f = same (λ a. or (among_or n (names_in front) k.name a))
     where
       or : IsAmong n (names_in front) ⊎ (n ≡ k.name) → ⊥
       or (inl a) = f a
-      or (inr j) = true_false (sym (alone n) ∙ (ap (λ m. K.same m n) j ∙ i))
+      or (inr j) = true_false (sym (known_self all n eventual (rw (sym e) at (among_later front n (k ∷ ks) (inl j)))) ∙ (ap (λ m. K.same m n) j ∙ i))
 
-  ends_at : (d : ℕ) (all front ks : List (Known Name)) → all ≡ front ++ ks → length ks ≤ d → AllLookOn (names_in front) ks → (n : Name) → (IsAmong n (names_in front) → ⊥) → ViewsEndIn K d all n
+  ends_at : (d : ℕ) (all front ks : List (Known Name)) → AllOf IsEventual (names_in all) → all ≡ front ++ ks → length ks ≤ d → AllLookOn (names_in front) ks → (n : Name) → (IsAmong n (names_in front) → ⊥) → ViewsEndIn K d all n
   unfolding standing_of standing_in entry_of
-  ends_at d all front [] e l h n f = none_ends d all n (ap standing_in (ap (λ ks. entry_of K ks n) e ∙ entry_past front [] n f))
-  ends_at zero all front (k ∷ ks) e l h n f = absurd (omega arith)
-  ends_at (suc d) all front (k ∷ ks) e l h n f = let joined : all ≡ (front ++ k ∷ []) ++ ks = e ∙ sym (append_assoc front (k ∷ []) ks) in
+  ends_at d all front [] eventual e l h n f = none_ends d all n (ap standing_in (ap (λ ks. entry_of K ks n) e ∙ entry_past front [] n f))
+  ends_at zero all front (k ∷ ks) eventual e l h n f = absurd (omega arith)
+  ends_at (suc d) all front (k ∷ ks) eventual e l h n f = let joined : all ≡ (front ++ k ∷ []) ++ ks = e ∙ sym (append_assoc front (k ∷ []) ks) in
       let looks : AllLookOn (names_in (front ++ k ∷ [])) ks = rw (sym (names_end front k)) at h.1 in
-      ends_either d all front k ks n (K.same k.name n) refl e h.0 (λ q a. ends_at d all (front ++ k ∷ []) ks joined (omega arith) looks q (λ b. a (rw (names_end front k) at b)))
-      (λ a. ends_at (suc d) all (front ++ k ∷ []) ks joined (omega arith) looks n (λ b. a (rw (names_end front k) at b))) f
+      ends_either d all front k ks n (K.same k.name n) eventual refl e h.0 (λ q a. ends_at d all (front ++ k ∷ []) ks eventual joined (omega arith) looks q (λ b. a (rw (names_end front k) at b)))
+      (λ a. ends_at (suc d) all (front ++ k ∷ []) ks eventual joined (omega arith) looks n (λ b. a (rw (names_end front k) at b))) f
 
 -- from each name, where names are global
-pub views_end : (word : ℕ → ℕ) (v : ℕ) (s : Vat Name) → AllLookOn [] s.known → ViewsEnd (naming word v) s
+pub views_end : (word : ℕ → ℕ) (v : ℕ) (s : Vat Name) → AllOf IsEventual (names_in s.known) → AllLookOn [] s.known → ViewsEnd (naming word v) s
 unfolding naming
-views_end word v s h n = ends_at (naming word v) same_is same_self (length s.known) s.known [] s.known refl (omega arith) h n (λ a. a)
+views_end word v s eventual h n = ends_at (naming word v) reference_is reference_self (length s.known) s.known [] s.known eventual refl (omega arith) h n (λ a. a)
