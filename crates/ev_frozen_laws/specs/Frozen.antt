@@ -1,5 +1,5 @@
 -- What is said of a vat's state: that its lists are there, what is bound under a frozen guard, and what objects with DeepFrozen's stamp have.
-use Rattle.std.specs.Prelude.{◌≡◌, ℕ, zero, suc, true, false, List, [], ◌∷◌, Some, slice_get, codes, ◌⊎◌}
+use Rattle.std.specs.Prelude.{◌≡◌, ℕ, zero, suc, ◌<◌, Bool, true, false, List, [], ◌∷◌, Some, slice_get, codes, ◌⊎◌}
 use Rattle.ev_machine.specs.Values.{Value, Null, Flag, Number, Letter, Text, Prim, Broken, Items, Ref, Naming, Own}
 use Rattle.ev_machine.specs.State.{Bound, Fixed, Slot, Binding, Cell, Freedom, IsSafe, IsItself, IsFinal, IsVar, View, Thing, Made, Ejector, Audition, Resolver, Message, Standing, Unsettled, WaitsOn, Viewed, Settled, Known, Passed, Passeds, Plain, AGift, Many, NoMore, More, Note, Deliver, Open, Ask, SettledTo, Elsewhere, Shorten, Put, Vat}
 use Rattle.ev_machine.specs.Free.{same_words}
@@ -36,6 +36,23 @@ IsThere ls (Ref n) = Unit {0}
 
 abbrev pub AreThere : {N : Type 0} → Lists N → List (Value N) → Type 0
 AreThere ls = AllOf (IsThere ls)
+
+-- below that number, where it is a list
+abbrev pub IsBelow : {N : Type 0} → ℕ → Value N → Type 0
+IsBelow n (Items k) = k < n
+IsBelow n Null = Unit {0}
+IsBelow n (Flag b) = Unit {0}
+IsBelow n (Number z) = Unit {0}
+IsBelow n (Letter c) = Unit {0}
+IsBelow n (Text t) = Unit {0}
+IsBelow n (Prim p) = Unit {0}
+IsBelow n (Broken p) = Unit {0}
+IsBelow n (Ref r) = Unit {0}
+
+-- a list is made of what was there: a list among the members of another has the lower number
+abbrev pub AreStacked : {N : Type 0} → ℕ → Lists N → Type 0
+AreStacked n [] = Unit {0}
+AreStacked n (vs ∷ ls) = AllOf (IsBelow n) vs × AreStacked (suc n) ls
 
 abbrev pub MessageThere : {N : Type 0} → Lists N → Message N → Type 0
 MessageThere ls m = IsThere ls m.target × AreThere ls m.args
@@ -139,38 +156,10 @@ module _ {N W : Type 0} (K : Naming N W) where
   IsFrozen ts ls (Broken p) = Unit {0}
   IsFrozen ts ls (Items k) = HasNoName 100 ls (Items k)
 
-  -- what is bound under a frozen guard is frozen
-  abbrev pub BoundWell : List (Thing N) → Lists N → Bound N → Type 0
-  BoundWell ts ls (Fixed v g) = IsThere ls v × IsThere ls g × (frozen_guard g ≡ true → IsFrozen ts ls v)
-  BoundWell ts ls (Slot k) = Unit {0}
-
-  -- and no noun is the lone _
-  abbrev pub NounWell : List (Thing N) → Lists N → Binding N → Type 0
-  NounWell ts ls b = (same_words b.noun (codes "_") ≡ false) × BoundWell ts ls b.bound
-
   -- a capture that is no var slot, and frozen
   abbrev pub FrozenCapture : List (Thing N) → Lists N → Bound N → Type 0
   FrozenCapture ts ls (Fixed v g) = IsFrozen ts ls v
   FrozenCapture ts ls (Slot k) = ⊥
-
-  -- an object with DeepFrozen's stamp has no capture but such
-  abbrev pub ThingWell : List (Thing N) → Lists N → Thing N → Type 0
-  ThingWell ts ls (Made node caught stamps) = AllOf (NounWell ts ls) caught × AreThere ls stamps × (IsAmong deep_frozen stamps → AllOf (λ b. FrozenCapture ts ls b.bound) caught)
-  ThingWell ts ls (Ejector live) = Unit {0}
-  ThingWell ts ls (Audition live view) = ViewThere ls view
-  ThingWell ts ls (Resolver p) = Unit {0}
-
-  -- what is kept of a vat's things, slots, lists, queue, known names and outbox
-  pub record SoundParts (ts : List (Thing N)) (cells : List (Cell N)) (ls : Lists N) (ms : List (Message N)) (ks : List (Known N)) (ps : List (Put N)) : Type 0 where
-    pub things : AllOf (ThingWell ts ls) ts
-    pub slots : AllOf (CellThere ls) cells
-    pub lists : AllOf (AreThere ls) ls
-    pub queue : AllOf (MessageThere ls) ms
-    pub known : AllOf (KnownThere ls) ks
-    pub outbox : AllOf (λ (p : Put N). NotePasses p.note) ps
-
-  abbrev pub Sound : Vat N → Type 0
-  Sound s = SoundParts s.things s.slots s.lists s.queue s.known s.outbox
 
   -- ---- what is reached
 
@@ -201,3 +190,34 @@ module _ {N W : Type 0} (K : Naming N W) where
   -- From an object with DeepFrozen's stamp one meets, by captures and members of lists any number of times, frozen values and no var slot.
   abbrev pub FrozenReach : Vat N → Type 0
   FrozenReach s = (i n : ℕ) (w : Value N) → BearsFrozen s.things i → Reaches n s (Ref (K.object i)) w → IsFrozen s.things s.lists w × HasNoSlot s w
+
+-- What is kept of a vat. Strict says whether it is presumed that no noun is the lone _: what is frozen rests on that, and that lists are there does not.
+module _ {N W : Type 0} (K : Naming N W) (strict : Bool) where
+  -- what is bound under a frozen guard is frozen
+  abbrev pub BoundWell : List (Thing N) → Lists N → Bound N → Type 0
+  BoundWell ts ls (Fixed v g) = IsThere ls v × IsThere ls g × (strict ≡ true → frozen_guard g ≡ true → IsFrozen K ts ls v)
+  BoundWell ts ls (Slot k) = Unit {0}
+
+  -- and no noun is the lone _
+  abbrev pub NounWell : List (Thing N) → Lists N → Binding N → Type 0
+  NounWell ts ls b = (strict ≡ true → same_words b.noun (codes "_") ≡ false) × BoundWell ts ls b.bound
+
+  -- an object with DeepFrozen's stamp has no capture but such
+  abbrev pub ThingWell : List (Thing N) → Lists N → Thing N → Type 0
+  ThingWell ts ls (Made node caught stamps) = AllOf (NounWell ts ls) caught × AreThere ls stamps × (strict ≡ true → IsAmong deep_frozen stamps → AllOf (λ b. FrozenCapture K ts ls b.bound) caught)
+  ThingWell ts ls (Ejector live) = Unit {0}
+  ThingWell ts ls (Audition live view) = ViewThere ls view
+  ThingWell ts ls (Resolver p) = Unit {0}
+
+  -- what is kept of a vat's things, slots, lists, queue, known names and outbox
+  pub record SoundParts (ts : List (Thing N)) (cells : List (Cell N)) (ls : Lists N) (ms : List (Message N)) (ks : List (Known N)) (ps : List (Put N)) : Type 0 where
+    pub things : AllOf (ThingWell ts ls) ts
+    pub slots : AllOf (CellThere ls) cells
+    pub lists : AllOf (AreThere ls) ls
+    pub stacked : AreStacked zero ls
+    pub queue : AllOf (MessageThere ls) ms
+    pub known : AllOf (KnownThere ls) ks
+    pub outbox : AllOf (λ (p : Put N). NotePasses p.note) ps
+
+  abbrev pub Sound : Vat N → Type 0
+  Sound s = SoundParts s.things s.slots s.lists s.queue s.known s.outbox

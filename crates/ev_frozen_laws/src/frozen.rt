@@ -7,8 +7,9 @@ ghost use Rattle.ev_frozen_laws.specs.Runs.{ReachIsFrozenInRuns};
 ///
 /// In a sound state each object with DeepFrozen's stamp has captures that are frozen and no var
 /// slot, what is bound under a frozen guard is frozen, and each list that stands in a value is
-/// there. The step's tree must bind no lone `_`, which the reading of trees refuses, and its
-/// message, note or given names must hold no list but those that are there.
+/// there, and is made of what was there before it. The step's tree must bind no lone `_`, which the
+/// reading of trees refuses, where what is frozen is to be kept, and its message, note or given
+/// names must hold no list but those that are there.
 pub fn steps_stay_sound()
     ensures { StepsStaySound }
 {}

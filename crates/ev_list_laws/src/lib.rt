@@ -1,0 +1,4 @@
+//! Laws of the lists of a vat.
+#![tactic(auto)]
+
+pub mod lists;
