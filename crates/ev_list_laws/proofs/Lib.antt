@@ -1,1 +1,13 @@
+pub mod TmpViews
+pub mod TmpEntries
+pub mod TmpChains
+pub mod TmpListChains
 pub mod Stacked
+pub mod Following
+pub mod Rings
+pub mod NewLists
+pub mod Heights
+pub mod FarEnough
+pub mod ViewSettles
+pub mod Needed
+pub mod Laws

@@ -1,9 +1,9 @@
 //! What lists are made of, and where their members lead.
 
-ghost use Rattle.ev_list_laws.specs.Lists.{ListsAreThere, MembersEndInRuns};
+ghost use Rattle.ev_list_laws.specs.Lists.{ListsAreThere, MembersEndInRuns, ChangesCloseNoRing, NewListsCloseNoRing, NewNamesCloseNoRing, NoticesCloseNoRing, FollowingSuffices, RinglessListsEnd, ConditionsAreNeeded};
 
-/// In each vat of every world of a run each list that stands in a value is there, and no note under
-/// way to it holds a list by its number. A list that is a member of another was made before it.
+/// In each vat of every world of a run each list that stands in a value is there. A list that is a
+/// member of another was made before it.
 pub fn lists_are_there()
     ensures { ListsAreThere }
 {}
@@ -11,4 +11,48 @@ pub fn lists_are_there()
 /// By its members alone each list comes to an end: list number k after no more than k + 1 steps.
 pub fn members_end()
     ensures { MembersEndInRuns }
+{}
+
+/// No change of what is known of a name makes a list lead back to itself by members, each followed:
+/// where a name settles behind the test, a name is viewed, or it waits, and whatever else of it
+/// changes. It is asked that a name which settles neither settled nor is viewed and is followed to
+/// itself, so that its host was not noticed, and settles to no name that leads on; or that its view
+/// settled to the same. Of a view it is asked that it leads nowhere. So it holds of every state of a
+/// vat.
+pub fn changes_close_no_ring()
+    ensures { ChangesCloseNoRing }
+{}
+
+/// Nor does a new list, which is made of what is there.
+pub fn new_lists_close_no_ring()
+    ensures { NewListsCloseNoRing }
+{}
+
+/// Nor does a name that comes to be known.
+pub fn new_names_close_no_ring()
+    ensures { NewNamesCloseNoRing }
+{}
+
+/// Nor does the notice of a cut.
+pub fn notices_close_no_ring()
+    ensures { NoticesCloseNoRing }
+{}
+
+/// What is asked of a name that settles is needed: there is a state with a name that waits, whose
+/// host was noticed, and one with a name that is viewed, which settles behind the test to a list that
+/// leads back to itself from then on.
+pub fn conditions_are_needed()
+    ensures { ConditionsAreNeeded }
+{}
+
+/// Following looks far enough: where settlings and views lead from a value to a list, in any number
+/// of steps, it is followed to that list. So it holds of every state of a vat.
+pub fn following_suffices()
+    ensures { FollowingSuffices }
+{}
+
+/// Where no list leads back to itself, one comes from each value by members, each followed, after no
+/// more than as many steps as there are lists, to values without members.
+pub fn ringless_lists_end()
+    ensures { RinglessListsEnd }
 {}
