@@ -19,20 +19,11 @@ leading t = Unsettled
 leads_as : Known Name → Known Name
 leads_as k = record k { standing = leading k.standing }
 
-list_same : (j k : ℕ) → Items {N = Name} j ≡ Items k → j ≡ k
-list_same j k e = cc
-
 list_name : (j : ℕ) (m : Name) → Settled (Ref m) ≡ Settled (Items j) → ⊥
 list_name j m e = cc
 
 list_view : (j : ℕ) (m : Name) → Viewed m ≡ Settled (Items j) → ⊥
 list_view j m e = cc
-
-list_wait : (j : ℕ) (m : Name) → WaitsOn m ≡ Settled (Items j) → ⊥
-list_wait j m e = cc
-
-list_open : (j : ℕ) → Unsettled {N = Name} ≡ Settled (Items j) → ⊥
-list_open j e = cc
 
 length_map : (ks : List (Known Name)) → length (map leads_as ks) ≡ length ks
 length_map [] = refl

@@ -11,7 +11,7 @@ no_true e = cc
 pub name_list : (n : Name) (k : ℕ) → Ref n ≡ Items k → ⊥
 name_list n k e = cc
 
-pub broken_list : (t : List ℕ) (k : ℕ) → Broken {N = Name} t ≡ Items k → ⊥
+pub broken_list : (t : List ℕ) (k : ℕ) → ◌≡◌ {A = Value Name} (Broken t) (Items k) → ⊥
 broken_list t k e = cc
 
 -- no name
@@ -149,14 +149,15 @@ module _ (K : Naming Name Name) where
     -- ---- to what it leads on
 
     -- a name that waited, but where it is p
+    stuck_at : (m : Name) → still_waits (standing_of K ks m) ≡ true → (d k : ℕ) → (follow_at K d ls (Ref m) ≡ Items k → ⊥) → ((led K (λ y. follow_at K d ls y) p new ≡ Items k) → (follow_at K d ls (Ref m) ≡ Items k → ⊥) → ⊥)
+        → (standing_of K ls m ≡ standing_of K ks m) ⊎ ((m ≡ p) × (standing_of K ls m ≡ new)) → led K (λ y. follow_at K d ls y) m (standing_of K ls m) ≡ Items k → ⊥
+    stuck_at m w d k no f (inl i) e = name_list m k (sym (waits_led (λ y. follow_at K d ls y) m (standing_of K ls m) (ap still_waits i ∙ w)) ∙ e)
+    stuck_at m w d k no f (inr i) e = f (sym (ap (λ t. led K (λ y. follow_at K d ls y) p t) i.1) ∙ ap (λ x. led K (λ y. follow_at K d ls y) x (standing_of K ls m)) (sym i.0) ∙ e) no
+
     stuck : (m : Name) → still_waits (standing_of K ks m) ≡ true → ((d k : ℕ) → (led K (λ y. follow_at K d ls y) p new ≡ Items k) → (follow_at K d ls (Ref m) ≡ Items k → ⊥) → ⊥) → (d k : ℕ) → follow_at K d ls (Ref m) ≡ Items k → ⊥
     unfolding follow_at
     stuck m w f zero k e = name_list m k e
-    stuck m w f (suc d) k e = pick (moves m)
-      where
-        pick : (standing_of K ls m ≡ standing_of K ks m) ⊎ ((m ≡ p) × (standing_of K ls m ≡ new)) → ⊥
-        pick (inl i) = name_list m k (sym (waits_led (λ y. follow_at K d ls y) m (standing_of K ls m) (ap still_waits i ∙ w)) ∙ e)
-        pick (inr i) = f d k (sym (ap (λ t. led K (λ y. follow_at K d ls y) p t) i.1) ∙ ap (λ x. led K (λ y. follow_at K d ls y) x (standing_of K ls m)) (sym i.0) ∙ e) (λ j. stuck m w f d k j)
+    stuck m w f (suc d) k e = stuck_at m w d k (λ i. stuck m w f d k i) (f d k) (moves m) e
 
   -- a settling leads on to no list but that to which the name settled
   pub settled_on : (ks ls : List (Known Name)) (p : Name) (y : Value Name) (moves : Moves ks ls p (Settled y)) → ((n : Name) → y ≡ Ref n → still_waits (standing_of K ks n) ≡ true) → LeadsOn ks ls p (Settled y) moves

@@ -1,19 +1,17 @@
 -- The laws of single changes, under global names.
-use Rattle.std.proofs.Common.{inl, inr}
 use Rattle.ev_machine.specs.Values.{naming}
 use Rattle.ev_machine.specs.State.{Hold, Wait, WaitOn, See, React, ToTell, Settle}
 use Rattle.ev_name_laws.proofs.SameNames.{reference_is}
 use Rattle.ev_list_laws.specs.Lists.{ChangesCloseNoRing, NewListsCloseNoRing, NewNamesCloseNoRing, NoticesCloseNoRing, FollowingSuffices, RinglessListsEnd}
-use Rattle.ev_list_laws.proofs.Rings.{settle_closes_none, hold_closes_none, wait_closes_none, react_closes_none, tell_closes_none, sees, waits}
-use Rattle.ev_list_laws.proofs.ViewSettles.{view_closes_none}
+use Rattle.ev_list_laws.proofs.Rings.{hold_closes_none, wait_closes_none, react_closes_none, tell_closes_none, sees, waits}
+use Rattle.ev_list_laws.proofs.ViewSettles.{settle_keeps_none}
 use Rattle.ev_list_laws.proofs.NewLists.{new_list_closes_none}
 use Rattle.ev_list_laws.proofs.FarEnough.{follows_within, new_name_closes_none, notice_closes_none}
 use Rattle.ev_list_laws.proofs.Heights.{leading_ends}
 
 pub changes_close_no_ring : ChangesCloseNoRing
 unfolding naming
-changes_close_no_ring word v s (Settle y) p (inl h) none = settle_closes_none (naming word v) reference_is s y p h none
-changes_close_no_ring word v s (Settle y) p (inr h) none = view_closes_none (naming word v) reference_is s p h.0 y h.1 h.2 none
+changes_close_no_ring word v s (Settle y) p h none = settle_keeps_none (naming word v) reference_is s y p h none
 changes_close_no_ring word v s (See g) p h none = sees (naming word v) reference_is s g p h none
 changes_close_no_ring word v s (WaitOn q) p h none = waits (naming word v) reference_is s q p none
 changes_close_no_ring word v s (Hold m) p h none = hold_closes_none (naming word v) reference_is s m p none

@@ -233,8 +233,14 @@ module _ (K : Naming Name Name) where
     settles s p x y None e t ends w own none = subst (λ ks. NoListLeadsBack K (record s { known = ks })) (sym (with_none (Settle y) p s.known e)) none
     settles s p x y (Some k) e t ends w own none = settle_known s p x y k e t ends w own none
 
-    pub settle_closes_none : (s : Vat Name) (y : Value Name) (p : Name) → IsTested K s y p → NoListLeadsBack K s → NoListLeadsBack K (record s { known = with_change K (Settle y) p s.known })
-    settle_closes_none s y p h none = settles s p h.0 y (entry_of K s.known p) refl h.1 h.2 h.3 h.4 none
+    pub settle_closes_none : (s : Vat Name) (y : Value Name) (p : Name) → IsEnd K s y → IsTested K s y p → NoListLeadsBack K s → NoListLeadsBack K (record s { known = with_change K (Settle y) p s.known })
+    settle_closes_none s y p ends h none = settles s p h.0 y (entry_of K s.known p) refl h.1 ends h.2 h.3 none
+
+    -- what is no list may settle as it is
+    pub plain_closes_none : (s : Vat Name) (y : Value Name) (p : Name) → IsEnd K s y → ((c : ℕ) → y ≡ Items c → ⊥) → NoListLeadsBack K s → NoListLeadsBack K (record s { known = with_change K (Settle y) p s.known })
+    unfolding changed_to
+    plain_closes_none s y p ends not = let ls : List (Known Name) = with_change K (Settle y) p s.known in let moves : Moves K s.known ls p (Settled y) = moves_by (Settle y) p s.known (Settled y) (λ k e. stands_or (Settle y) k (Settled y) refl) in
+        closes_none s ls p (Settled y) moves (settled_on K s.known ls p y moves ends) (λ k e. absurd (not k (value_same y (Items k) e))) (length_changed K (Settle y) p s.known) (λ k e. absurd (not k (value_same y (Items k) e))) (λ k e. absurd (not k (value_same y (Items k) e)))
 
     pub hold_closes_none : (s : Vat Name) (m : Message Name) (p : Name) → NoListLeadsBack K s → NoListLeadsBack K (record s { known = with_change K (Hold m) p s.known })
     unfolding changed_to

@@ -3,9 +3,9 @@ use Rattle.std.proofs.Common.{◌≡◌, ℕ, zero, suc, Bool, true, false, List
 use Rattle.ev_machine.specs.Values.{Value, Null, Flag, Number, Letter, Text, Prim, Broken, Items, Ref, Name, Naming}
 use Rattle.ev_machine.specs.State.{Standing, Unsettled, WaitsOn, Viewed, Settled, Known, Settle, Vat, with_change, changed_to}
 use Rattle.ev_machine.specs.Refs.{standing_of, led, follow_at, follow, severed}
-use Rattle.ev_list_laws.specs.Lists.{NoListLeadsBack}
+use Rattle.ev_list_laws.specs.Lists.{NoListLeadsBack, IsEnd, IsTested, ViewSettled, IsBehind}
 use Rattle.ev_list_laws.proofs.Following.{name_list, stands_or, length_changed, Moves, severed_list, list_severed}
-use Rattle.ev_list_laws.proofs.Rings.{moves_by}
+use Rattle.ev_list_laws.proofs.Rings.{moves_by, settle_closes_none, plain_closes_none}
 use Rattle.ev_list_laws.proofs.FarEnough.{follows_within, fewer_close_none}
 
 module _ (K : Naming Name Name) (is : (a b : Name) → K.same a b ≡ true → a ≡ b) where
@@ -52,3 +52,23 @@ module _ (K : Naming Name Name) (is : (a b : Name) → K.same a b ≡ true → a
   unfolding changed_to
   view_closes_none s p g y view settled = let ls : List (Known Name) = with_change K (Settle y) p s.known in let moves : Moves K s.known ls p (Settled y) = moves_by K is (Settle y) p s.known (Settled y) (λ k e. stands_or (Settle y) k (Settled y) refl) in
       fewer_close_none K is s (record s { known = ls }) refl (λ v k. same_followed s ls v k (λ d. comes s.known ls p g y moves view settled k d v))
+
+  -- ---- a name that settles
+
+  list_or : {A : Type 0} (y : Value Name) → ((c : ℕ) → y ≡ Items c → A) → (((c : ℕ) → y ≡ Items c → ⊥) → A) → A
+  list_or (Items c) f g = f c refl
+  list_or Null f g = g (λ c e. cc)
+  list_or (Flag b) f g = g (λ c e. cc)
+  list_or (Number z) f g = g (λ c e. cc)
+  list_or (Letter l) f g = g (λ c e. cc)
+  list_or (Text t) f g = g (λ c e. cc)
+  list_or (Prim n) f g = g (λ c e. cc)
+  list_or (Broken t) f g = g (λ c e. cc)
+  list_or (Ref n) f g = g (λ c e. cc)
+
+  either_closes_none : (s : Vat Name) (y : Value Name) (p : Name) → IsEnd K s y → IsTested K s y p ⊎ ViewSettled K s y p → NoListLeadsBack K s → NoListLeadsBack K (record s { known = with_change K (Settle y) p s.known })
+  either_closes_none s y p ends (inl h) none = settle_closes_none K is s y p ends h none
+  either_closes_none s y p ends (inr h) none = view_closes_none s p h.0 y h.1 h.2 none
+
+  pub settle_keeps_none : (s : Vat Name) (y : Value Name) (p : Name) → IsBehind K s (Settle y) p → NoListLeadsBack K s → NoListLeadsBack K (record s { known = with_change K (Settle y) p s.known })
+  settle_keeps_none s y p h none = list_or y (λ c e. either_closes_none s y p h.0 (h.1 c e) none) (λ not. plain_closes_none K is s y p h.0 not none)

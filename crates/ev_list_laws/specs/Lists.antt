@@ -90,15 +90,16 @@ module _ (K : Naming Name Name) where
 
   -- p neither settled nor is viewed, and is followed to itself; and y is what it settles to behind the test
   abbrev pub IsTested : Vat Name → Value Name → Name → Type 0
-  IsTested s y p = (x : Value Name) × (y ≡ target_of K s p x) × IsEnd s y × (still_waits (standing_of K s.known p) ≡ true) × (follow K s (Ref p) ≡ Ref p)
+  IsTested s y p = (x : Value Name) × (y ≡ target_of K s p x) × (still_waits (standing_of K s.known p) ≡ true) × (follow K s (Ref p) ≡ Ref p)
 
   -- its view settled to y
   abbrev pub ViewSettled : Vat Name → Value Name → Name → Type 0
   ViewSettled s y p = (g : Name) × (standing_of K s.known p ≡ Viewed g) × (standing_of K s.known g ≡ Settled y)
 
-  -- What is asked of a change of what is known of p: where p settles, that it does so behind the test or with its view, and where it is viewed, that its view leads nowhere.
+  -- What is asked of a change of what is known of p: where p settles, that it does so to no name that leads on, and to a list behind the test or with its view;
+  -- and where it is viewed, that its view leads nowhere.
   abbrev pub IsBehind : Vat Name → Change Name → Name → Type 0
-  IsBehind s (Settle y) p = IsTested s y p ⊎ ViewSettled s y p
+  IsBehind s (Settle y) p = IsEnd s y × ((c : ℕ) → y ≡ Items c → IsTested s y p ⊎ ViewSettled s y p)
   IsBehind s (See g) p = still_waits (standing_of K s.known g) ≡ true
   IsBehind s (Hold m) p = Unit {0}
   IsBehind s (Wait q) p = Unit {0}
