@@ -151,8 +151,8 @@ module _ (K : Naming Name Name) where
     -- a name that waited, but where it is p
     stuck_at : (m : Name) → still_waits (standing_of K ks m) ≡ true → (d k : ℕ) → (follow_at K d ls (Ref m) ≡ Items k → ⊥) → ((led K (λ y. follow_at K d ls y) p new ≡ Items k) → (follow_at K d ls (Ref m) ≡ Items k → ⊥) → ⊥)
         → (standing_of K ls m ≡ standing_of K ks m) ⊎ ((m ≡ p) × (standing_of K ls m ≡ new)) → led K (λ y. follow_at K d ls y) m (standing_of K ls m) ≡ Items k → ⊥
-    stuck_at m w d k no f (inl i) e = name_list m k (sym (waits_led (λ y. follow_at K d ls y) m (standing_of K ls m) (ap still_waits i ∙ w)) ∙ e)
-    stuck_at m w d k no f (inr i) e = f (sym (ap (λ t. led K (λ y. follow_at K d ls y) p t) i.1) ∙ ap (λ x. led K (λ y. follow_at K d ls y) x (standing_of K ls m)) (sym i.0) ∙ e) no
+    stuck_at m w d k missed f (inl i) e = name_list m k (sym (waits_led (λ y. follow_at K d ls y) m (standing_of K ls m) (ap still_waits i ∙ w)) ∙ e)
+    stuck_at m w d k missed f (inr i) e = f (sym (ap (λ t. led K (λ y. follow_at K d ls y) p t) i.1) ∙ ap (λ x. led K (λ y. follow_at K d ls y) x (standing_of K ls m)) (sym i.0) ∙ e) missed
 
     stuck : (m : Name) → still_waits (standing_of K ks m) ≡ true → ((d k : ℕ) → (led K (λ y. follow_at K d ls y) p new ≡ Items k) → (follow_at K d ls (Ref m) ≡ Items k → ⊥) → ⊥) → (d k : ℕ) → follow_at K d ls (Ref m) ≡ Items k → ⊥
     unfolding follow_at

@@ -10,7 +10,6 @@ use Rattle.ev_machine.specs.Refs.{entry_of, standing_of, standing_in, waits_lead
 use Rattle.ev_list_laws.proofs.TmpViews.{index_at}
 use Rattle.ev_list_laws.proofs.TmpEntries.{index_less}
 
-
 unfoldable pub next : {N : Type 0} → Standing N → Option N
 next (WaitsOn q) = Some q
 next (Viewed q) = Some q
@@ -134,4 +133,3 @@ module _ (K : Naming Name Name) (is : (a b : Name) → K.same a b ≡ true → a
       -- so the chain is no longer than there are names
       pub no_longer : (d : ℕ) (n : Name) → Exact d n → d ≤ length ks
       no_longer d n h = let count = length-le_from_distinct_below (places d n h) (length ks) (distinct d n h) (λ i e. below d n h i e) in rw (length_places d n h) at count
-

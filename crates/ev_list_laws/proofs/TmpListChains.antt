@@ -155,4 +155,3 @@ module _ (K : Naming Name Name) (s : Vat Name) (p : Name) where
   pub reaches_within : (d : ℕ) (x : Value Name) → Test d x ≡ true → Test (suc (length s.lists)) x ≡ true
   reaches_within zero x h = within zero (suc (length s.lists)) x (omega arith) h
   reaches_within (suc d) x h = least_at (reaches K d s p x) d x refl h (λ i. reaches_within d x i)
-
