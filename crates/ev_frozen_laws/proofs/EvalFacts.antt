@@ -21,7 +21,7 @@ use Rattle.ev_kernel.specs.declared.node.Node.TheVariants.{Lit, Noun, Set, Def, 
 use Rattle.ev_kernel.specs.declared.node.Literal.{Literal}
 use Rattle.ev_kernel.specs.declared.node.Literal.TheVariants as literal
 use Rattle.ev_frozen_laws.specs.Frozen.{AllOf, IsAmong, Lists, IsThere, AreThere, FreedomThere, HasNoName, BearsFrozen, IsFrozen, BoundWell, NounWell, NamesWell, TreeWell, Sound, deep_frozen}
-use Rattle.ev_frozen_laws.proofs.Fine.{MayBe, Fact, IsValue, AreValues, AreLists, IsBound, AreNouns, IsView, MayValue, MayBound, IsReply, IsAsked, IsAuditionAsk, IsResolverAsk, ReplyThere, AuditionAskThere, ResolverAskThere, Gets, Fine, fine_sees, fine_give}
+use Rattle.ev_frozen_laws.proofs.Fine.{Keeper, MayBe, Fact, IsValue, AreValues, AreLists, IsBound, AreNouns, IsView, MayValue, MayBound, IsReply, IsAsked, IsAuditionAsk, IsResolverAsk, ReplyThere, AuditionAskThere, ResolverAskThere, Gets, Fine, fine_sees, fine_give}
 use Rattle.ev_frozen_laws.proofs.Looks.{get_all, follow_there}
 use Rattle.ev_frozen_laws.proofs.Facts.{all_append}
 use Rattle.ev_frozen_laws.proofs.Natives.{either_has, entry_has, data_there, range_there, compared_there, null_reply_there, asked_there}
@@ -134,10 +134,10 @@ module _ {N W : Type 0} (K : Naming N W) (strict : Bool) where
   value_taken ts ls g (Some v) h = h.0
   value_taken ts ls g None h = tt
 
-  pub some_bound : {C : Fact N} (g : Value N) (o : Option (Value N)) {m : Act N (Value N)} → Gets K strict C (MayBound (under g o)) → Fine K strict C m (λ v. IsBound (Fixed v g)) → Fine K strict C (for_some o give m) (λ v. IsBound (Fixed v g))
+  pub some_bound : (M : Keeper K strict) → {C : Fact N} (g : Value N) (o : Option (Value N)) {m : Act N (Value N)} → Gets K strict C (MayBound (under g o)) → Fine K strict M C m (λ v. IsBound (Fixed v g)) → Fine K strict M C (for_some o give m) (λ v. IsBound (Fixed v g))
   unfolding for_some
-  some_bound g (Some v) i h = fine_give K strict v (record { at = λ ts ls c. i.at ts ls c })
-  some_bound g None i h = h
+  some_bound M g (Some v) i h = fine_give K strict M v (record { at = λ ts ls c. i.at ts ls c })
+  some_bound M g None i h = h
 
   bound_either : (ts : List (Thing N)) (ls : Lists N) (b : Binding N) (o : Option (Bound N)) (x : Words) (c : Bool) → same_words b.noun x ≡ c → NounWell K strict ts ls b
       → MayBe (λ b. BoundWell K strict ts ls b × (strict ≡ true → same_words x (codes "_") ≡ false)) o → MayBe (λ b. BoundWell K strict ts ls b × (strict ≡ true → same_words x (codes "_") ≡ false)) (elim c [ true ↦ Some b.bound | false ↦ o ])
@@ -262,24 +262,24 @@ module _ {N W : Type 0} (K : Naming N W) (strict : Bool) where
   guard_asked_there ls fs (Items k) h = tt
   guard_asked_there ls fs (Ref n) h = tt
 
-  pub look_guard : {C : Fact N} (view : View N) (x : Value N) → Gets K strict C (IsView view) → Fine K strict C (look (λ s. scopes.guard_asked view.free (refs.follow K s x))) IsReply
-  look_guard view x g = fine_sees K strict (λ s. scopes.guard_asked view.free (refs.follow K s x)) IsReply (λ s h c. guard_asked_there s.lists view.free (refs.follow K s x) (g.at s.things s.lists c))
+  pub look_guard : (M : Keeper K strict) → {C : Fact N} (view : View N) (x : Value N) → Gets K strict C (IsView view) → Fine K strict M C (look (λ s. scopes.guard_asked view.free (refs.follow K s x))) IsReply
+  look_guard M view x g = fine_sees K strict M (λ s. scopes.guard_asked view.free (refs.follow K s x)) IsReply (λ s h c. guard_asked_there s.lists view.free (refs.follow K s x) (g.at s.things s.lists c))
 
   follows_there : (s : Vat N) → Sound K strict s → (xs : List (Value N)) → AreThere s.lists xs → AreThere s.lists (map (refs.follow K s) xs)
   follows_there s h [] i = tt
   follows_there s h (x ∷ xs) i = (follow_there K strict s h x i.0, follows_there s h xs i.1)
 
-  pub look_data : {C : Fact N} (y : Value N) (verb : Words) (args : List (Value N)) → Gets K strict C (AreValues args) → Fine K strict C (look (λ s. native.data_reply s.lists y verb args (map (refs.follow K s) args))) IsReply
-  look_data y verb args g = fine_sees K strict (λ s. native.data_reply s.lists y verb args (map (refs.follow K s) args)) IsReply (λ s h c. data_there s.lists s.lists h.lists y verb args (map (refs.follow K s) args) (g.at s.things s.lists c))
+  pub look_data : (M : Keeper K strict) → {C : Fact N} (y : Value N) (verb : Words) (args : List (Value N)) → Gets K strict C (AreValues args) → Fine K strict M C (look (λ s. native.data_reply s.lists y verb args (map (refs.follow K s) args))) IsReply
+  look_data M y verb args g = fine_sees K strict M (λ s. native.data_reply s.lists y verb args (map (refs.follow K s) args)) IsReply (λ s h c. data_there s.lists s.lists h.lists y verb args (map (refs.follow K s) args) (g.at s.things s.lists c))
 
-  pub look_range : {C : Fact N} (last : Bool) (a b : Value N) → Fine K strict C (look (λ s. native.range_reply last (refs.follow K s a) (refs.follow K s b))) IsReply
-  look_range last a b = fine_sees K strict (λ s. native.range_reply last (refs.follow K s a) (refs.follow K s b)) IsReply (λ s h c. range_there s.lists last (refs.follow K s a) (refs.follow K s b))
+  pub look_range : (M : Keeper K strict) → {C : Fact N} (last : Bool) (a b : Value N) → Fine K strict M C (look (λ s. native.range_reply last (refs.follow K s a) (refs.follow K s b))) IsReply
+  look_range M last a b = fine_sees K strict M (λ s. native.range_reply last (refs.follow K s a) (refs.follow K s b)) IsReply (λ s h c. range_there s.lists last (refs.follow K s a) (refs.follow K s b))
 
-  pub look_compared : {C : Fact N} (test : Order → Bool) (a b : Value N) → Fine K strict C (look (λ s. native.compared test (native.value_order (refs.follow K s a) (refs.follow K s b)))) IsReply
-  look_compared test a b = fine_sees K strict (λ s. native.compared test (native.value_order (refs.follow K s a) (refs.follow K s b))) IsReply (λ s h c. compared_there s.lists test _)
+  pub look_compared : (M : Keeper K strict) → {C : Fact N} (test : Order → Bool) (a b : Value N) → Fine K strict M C (look (λ s. native.compared test (native.value_order (refs.follow K s a) (refs.follow K s b)))) IsReply
+  look_compared M test a b = fine_sees K strict M (λ s. native.compared test (native.value_order (refs.follow K s a) (refs.follow K s b))) IsReply (λ s h c. compared_there s.lists test _)
 
-  pub look_null_or : {C : Fact N} (x : Value N) → Fine K strict C (look (λ s. native.null_or_reply (refs.follow K s x))) IsReply
-  look_null_or x = fine_sees K strict (λ s. native.null_or_reply (refs.follow K s x)) IsReply (λ s h c. null_reply_there s.lists (refs.follow K s x))
+  pub look_null_or : (M : Keeper K strict) → {C : Fact N} (x : Value N) → Fine K strict M C (look (λ s. native.null_or_reply (refs.follow K s x))) IsReply
+  look_null_or M x = fine_sees K strict M (λ s. native.null_or_reply (refs.follow K s x)) IsReply (λ s h c. null_reply_there s.lists (refs.follow K s x))
 
   pub got_lists : (C : Fact N) (fs : Lists N) → Gets K strict C (AreLists fs) → Gets K strict C (AreLists ([] ∷ fs))
   got_lists C fs h = record { at = λ ts ls c. (tt, h.at ts ls c) }
@@ -386,11 +386,11 @@ module _ {N W : Type 0} (K : Naming N W) (strict : Bool) (tree : List Node) wher
   taken_well s h FrozenGuard x y i j = where_taken K strict _ (perform.is_frozen K tree s y) y (λ e. (j, λ d. frozen_from s h y j e))
   taken_well s h (OrNull g) x y i j = by_null K strict _ (scopes.is_null y) (perform.taken K tree s g x y) (tt, λ e. absurd (false_true e)) (there_of K strict s.things s.lists g (OrNull g) (perform.taken K tree s g x y) (λ e. false_true e) (taken_well s h g x y i j))
 
-  pub look_taken : {C : Fact N} (g : Guard) (x : Value N) → Gets K strict C (IsValue x) → Fine K strict C (look (λ s. perform.taken K tree s g x (refs.follow K s x))) MayValue
-  look_taken g x k = fine_sees K strict (λ s. perform.taken K tree s g x (refs.follow K s x)) MayValue (λ s h c. value_taken K strict s.things s.lists g _ (taken_well s h g x (refs.follow K s x) (k.at s.things s.lists c) (follow_there K strict s h x (k.at s.things s.lists c))))
+  pub look_taken : (M : Keeper K strict) → {C : Fact N} (g : Guard) (x : Value N) → Gets K strict C (IsValue x) → Fine K strict M C (look (λ s. perform.taken K tree s g x (refs.follow K s x))) MayValue
+  look_taken M g x k = fine_sees K strict M (λ s. perform.taken K tree s g x (refs.follow K s x)) MayValue (λ s h c. value_taken K strict s.things s.lists g _ (taken_well s h g x (refs.follow K s x) (k.at s.things s.lists c) (follow_there K strict s h x (k.at s.things s.lists c))))
 
-  pub look_bound : {C : Fact N} (n : ℕ) (g : Guard) → primitive n ≡ Guarding g → (x : Value N) → Gets K strict C (IsValue x) → Fine K strict C (look (λ s. perform.taken K tree s g x (refs.follow K s x))) (λ o. MayBound (under K strict (Prim n) o))
-  look_bound n g e x k = fine_sees K strict (λ s. perform.taken K tree s g x (refs.follow K s x)) (λ o. MayBound (under K strict (Prim n) o)) (λ s h c. bound_taken K strict s.things s.lists n g e _ (taken_well s h g x (refs.follow K s x) (k.at s.things s.lists c) (follow_there K strict s h x (k.at s.things s.lists c))))
+  pub look_bound : (M : Keeper K strict) → {C : Fact N} (n : ℕ) (g : Guard) → primitive n ≡ Guarding g → (x : Value N) → Gets K strict C (IsValue x) → Fine K strict M C (look (λ s. perform.taken K tree s g x (refs.follow K s x))) (λ o. MayBound (under K strict (Prim n) o))
+  look_bound M n g e x k = fine_sees K strict M (λ s. perform.taken K tree s g x (refs.follow K s x)) (λ o. MayBound (under K strict (Prim n) o)) (λ s h c. bound_taken K strict s.things s.lists n g e _ (taken_well s h g x (refs.follow K s x) (k.at s.things s.lists c) (follow_there K strict s h x (k.at s.things s.lists c))))
 
   pub got_no_match : (C : Fact N) → Gets K strict C (IsValue (eval.no_match K tree))
   unfolding eval.no_match
@@ -404,8 +404,8 @@ module _ {N W : Type 0} (K : Naming N W) (strict : Bool) (tree : List Node) wher
   unfolding perform.same_reply
   same_there s a b = either_has (ReplyThere s.lists) (refs.any_of K (perform.is_open K tree (length s.lists) s) (a ∷ b ∷ [])) _ _ tt tt
 
-  pub look_same : {C : Fact N} (a b : Value N) → Fine K strict C (look (λ s. perform.same_reply K tree s a b)) IsReply
-  look_same a b = fine_sees K strict (λ s. perform.same_reply K tree s a b) IsReply (λ s h c. same_there s a b)
+  pub look_same : (M : Keeper K strict) → {C : Fact N} (a b : Value N) → Fine K strict M C (look (λ s. perform.same_reply K tree s a b)) IsReply
+  look_same M a b = fine_sees K strict M (λ s. perform.same_reply K tree s a b) IsReply (λ s h c. same_there s a b)
 
   broken_there : (ls : Lists N) (x : Value N) → ReplyThere ls (perform.broken_text K tree x)
   unfolding perform.broken_text
@@ -419,8 +419,8 @@ module _ {N W : Type 0} (K : Naming N W) (strict : Bool) (tree : List Node) wher
   broken_there ls (Items k) = tt
   broken_there ls (Ref n) = tt
 
-  pub look_broken : {C : Fact N} (x : Value N) → Fine K strict C (look (λ s. perform.broken_text K tree (refs.follow K s x))) IsReply
-  look_broken x = fine_sees K strict (λ s. perform.broken_text K tree (refs.follow K s x)) IsReply (λ s h c. broken_there s.lists (refs.follow K s x))
+  pub look_broken : (M : Keeper K strict) → {C : Fact N} (x : Value N) → Fine K strict M C (look (λ s. perform.broken_text K tree (refs.follow K s x))) IsReply
+  look_broken M x = fine_sees K strict M (λ s. perform.broken_text K tree (refs.follow K s x)) IsReply (λ s h c. broken_there s.lists (refs.follow K s x))
 
   thrown_there : (ls : Lists N) (x : Value N) → ReplyThere ls (perform.thrown_text K tree x)
   unfolding perform.thrown_text
@@ -434,8 +434,8 @@ module _ {N W : Type 0} (K : Naming N W) (strict : Bool) (tree : List Node) wher
   thrown_there ls (Items k) = tt
   thrown_there ls (Ref n) = tt
 
-  pub look_thrown : {C : Fact N} (x : Value N) → Fine K strict C (look (λ s. perform.thrown_text K tree (refs.follow K s x))) IsReply
-  look_thrown x = fine_sees K strict (λ s. perform.thrown_text K tree (refs.follow K s x)) IsReply (λ s h c. thrown_there s.lists (refs.follow K s x))
+  pub look_thrown : (M : Keeper K strict) → {C : Fact N} (x : Value N) → Fine K strict M C (look (λ s. perform.thrown_text K tree (refs.follow K s x))) IsReply
+  look_thrown M x = fine_sees K strict M (λ s. perform.thrown_text K tree (refs.follow K s x)) IsReply (λ s h c. thrown_there s.lists (refs.follow K s x))
 
   problem_there : (ls : Lists N) (p : Place N) → IsThere ls (perform.problem_of K tree p)
   unfolding perform.problem_of
@@ -462,8 +462,8 @@ module _ {N W : Type 0} (K : Naming N W) (strict : Bool) (tree : List Node) wher
   test_there ls Fulfillment x p i = fulfilled_there ls x p i
   test_there ls NoTest x p i = tt
 
-  pub look_test : {C : Fact N} (t : RefTest) (x : Value N) → Gets K strict C (IsValue x) → Fine K strict C (look (λ s. perform.test_reply K tree t x (refs.place K s (refs.follow K s x)))) IsReply
-  look_test t x g = fine_sees K strict (λ s. perform.test_reply K tree t x (refs.place K s (refs.follow K s x))) IsReply (λ s h c. test_there s.lists t x (refs.place K s (refs.follow K s x)) (g.at s.things s.lists c))
+  pub look_test : (M : Keeper K strict) → {C : Fact N} (t : RefTest) (x : Value N) → Gets K strict C (IsValue x) → Fine K strict M C (look (λ s. perform.test_reply K tree t x (refs.place K s (refs.follow K s x)))) IsReply
+  look_test M t x g = fine_sees K strict M (λ s. perform.test_reply K tree t x (refs.place K s (refs.follow K s x))) IsReply (λ s h c. test_there s.lists t x (refs.place K s (refs.follow K s x)) (g.at s.things s.lists c))
 
   item_there : (ls : Lists N) (v : Value N) (fs : Lists N) → IsThere ls v → AllOf (AreThere ls) fs → AllOf (AreThere ls) (calls.with_item K tree v fs)
   unfolding calls.with_item

@@ -1,8 +1,8 @@
 -- What a vat does from a sound state, under facts on what it has in hand, ends in a sound state with facts on what it gives.
-use Rattle.std.proofs.Common.{◌≡◌, ℕ, zero, suc, ◌+◌, ◌<◌, Bool, true, false, List, [], ◌∷◌, ◌++◌, Option, Some, None, if◌then◌else◌, refl, length, arith}
+use Rattle.std.proofs.Common.{◌≡◌, ℕ, zero, suc, ◌+◌, ◌-◌, ◌<◌, ◌⊎◌, inl, inr, Bool, true, false, List, [], ◌∷◌, ◌++◌, Option, Some, None, if◌then◌else◌, refl, length, arith}
 use Rattle.std.specs.Prelude.{slice_get, nat_le}
-use Rattle.ev_machine.specs.Values.{Words, Value, Null, Flag, Number, Letter, Text, Prim, Broken, Items, Ref, Naming, Coming, Mailing, IsOwn}
-use Rattle.ev_machine.specs.State.{Bound, Binding, Scope, Cell, FreeName, View, Thing, Made, Ejector, Audition, Resolver, Message, Standing, Unsettled, WaitsOn, Viewed, Settled, Known, Change, Hold, Wait, WaitOn, See, React, ToTell, Settle, Passed, Passeds, Note, Put, GiftEntry, Happened, Vat, Stop, Done, Gives, Throws, Ejects, Stops, Act, ◌>>=◌, ◌>>◌, and_then, for_some, end_by, ending, each, give, throw, stop, eject, look, tell, spend, spent, new_activation, new_thing, kill, change, dead, new_slot, holding, write_slot, new_list, enqueue, send_out, new_gift, open_gift, mark, draws, with_change, changed, changed_to, unless_settled, alter, come, mail, new_promise, new_message, draw, begun}
+use Rattle.ev_machine.specs.Values.{Words, Value, Null, Flag, Number, Letter, Text, Prim, Broken, Items, Ref, Naming, Coming, Mailing, IsOwn, IsAnswer, IsSent}
+use Rattle.ev_machine.specs.State.{Bound, Binding, Scope, Cell, FreeName, View, Thing, Made, Ejector, Audition, Resolver, Message, Standing, Unsettled, WaitsOn, Viewed, Settled, Known, Change, Hold, Wait, WaitOn, See, React, ToTell, Settle, Passed, Passeds, Note, Put, GiftEntry, Happened, Vat, Stop, Done, Gives, Throws, Ejects, Stops, Act, ◌>>=◌, ◌>>◌, and_then, for_some, end_by, ending, each, give, throw, stop, eject, look, tell, spend, spent, new_activation, new_thing, kill, change, dead, new_slot, holding, write_slot, new_list, enqueue, send_out, new_gift, with_opened, open_gift, mark, draws, with_change, changed, changed_to, unless_settled, alter, come, mail, new_promise, new_message, draw, begun}
 use Rattle.ev_machine.specs.Refs.{Place, Parcel}
 use Rattle.ev_machine.specs.Native.{Reply, Says, Writes, Lists as Listed, Iterates, Fails, Asked, MakesList, Ranges, Same, Compares, Loops, SendsTo, CallsTo, MakesPromise, Breaks, Tells, Whens, ThrowsIt, IsStamped, Coerces, AddsNull, NoMethod}
 use Rattle.ev_machine.specs.Scopes.{meets, Answer, Answers, AuditionAsk, GetsForm, GetsGuard, Asks, NoAuditionAsk, ResolverAsk, Resolves, Smashes, NoResolverAsk}
@@ -178,15 +178,34 @@ module _ {N W : Type 0} (K : Naming N W) (strict : Bool) where
   pub record Gets (C F : Fact N) : Type 0 where
     pub at : (ts : List (Thing N)) (ls : Lists N) → Holds ts ls C → Holds ts ls F
 
+-- no list but one of what is there comes to be
+abbrev pub ListsGrow : {N : Type 0} → Lists N → Lists N → Type 0
+ListsGrow {N} ls ms = (ms ≡ ls) ⊎ ((vs : List (Value N)) × AreThere ls vs × (ms ≡ ls ++ vs ∷ []))
+
+-- a change by which nothing changes of what is known, and of lists no more than that
+abbrev pub Quiet : {N : Type 0} → Vat N → Vat N → Type 0
+Quiet s t = (t.number ≡ s.number) × (t.known ≡ s.known) × (t.noticed ≡ s.noticed) × ListsGrow s.lists t.lists
+
+-- What is kept of a vat: that it is sound, and what each change that is quiet keeps in a sound state.
+pub record Keeper {N W : Type 0} (K : Naming N W) (strict : Bool) : Type 1 where
+  pub holds : Vat N → Type 0
+  pub sound : (s : Vat N) → holds s → Sound K strict s
+  pub quiet : (s t : Vat N) → Quiet s t → holds s → Sound K strict t → holds t
+
+-- where every change keeps it in a sound state
+pub record Loose {N W : Type 0} (K : Naming N W) (strict : Bool) (M : Keeper K strict) : Type 0 where
+  pub any : (s t : Vat N) → M.holds s → Sound K strict t → M.holds t
+
+module _ {N W : Type 0} (K : Naming N W) (strict : Bool) (M : Keeper K strict) where
   -- how it ends
   abbrev pub Ends : {A : Type 0} → (A → Fact N) → Vat N → Done N A → Type 0
-  Ends G s (Gives a t) = Grows s.things s.lists t.things t.lists × Sound K strict t × Holds t.things t.lists (G a)
-  Ends G s (Throws p t) = Grows s.things s.lists t.things t.lists × Sound K strict t
-  Ends G s (Ejects n v t) = Grows s.things s.lists t.things t.lists × Sound K strict t × IsThere t.lists v
-  Ends G s (Stops c t) = Grows s.things s.lists t.things t.lists × Sound K strict t
+  Ends G s (Gives a t) = Grows s.things s.lists t.things t.lists × M.holds t × Holds K strict t.things t.lists (G a)
+  Ends G s (Throws p t) = Grows s.things s.lists t.things t.lists × M.holds t
+  Ends G s (Ejects n v t) = Grows s.things s.lists t.things t.lists × M.holds t × IsThere t.lists v
+  Ends G s (Stops c t) = Grows s.things s.lists t.things t.lists × M.holds t
 
   pub record Fine {A : Type 0} (C : Fact N) (m : Act N A) (G : A → Fact N) : Type 0 where
-    pub after : (s : Vat N) → Sound K strict s → Holds s.things s.lists C → Ends G s (m s)
+    pub after : (s : Vat N) → M.holds s → Holds K strict s.things s.lists C → Ends G s (m s)
 
 module _ {N : Type 0} where
   pub grows_same : (ts : List (Thing N)) (ls : Lists N) → Grows ts ls ts ls
@@ -371,126 +390,131 @@ module _ {N W : Type 0} (K : Naming N W) (strict : Bool) where
   pub got_audition : (C : Fact N) (b : Bool) (x : View N) → Gets K strict C (IsView x) → Gets K strict C (IsThing (Audition b x))
   got_audition C b x g = record { at = λ ts ls h. g.at ts ls h }
 
+module _ {N W : Type 0} (K : Naming N W) (strict : Bool) (M : Keeper K strict) where
   -- ---- one thing after another
 
-  pub widen : {A : Type 0} (G : A → Fact N) (s t : Vat N) (d : Done N A) → Grows s.things s.lists t.things t.lists → Ends K strict G t d → Ends K strict G s d
+  pub widen : {A : Type 0} (G : A → Fact N) (s t : Vat N) (d : Done N A) → Grows s.things s.lists t.things t.lists → Ends K strict M G t d → Ends K strict M G s d
   widen G s t (Gives a u) g h = (grows_trans _ _ _ _ _ _ g h.0, h.1, h.2)
   widen G s t (Throws p u) g h = (grows_trans _ _ _ _ _ _ g h.0, h.1)
   widen G s t (Ejects n v u) g h = (grows_trans _ _ _ _ _ _ g h.0, h.1, h.2)
   widen G s t (Stops c u) g h = (grows_trans _ _ _ _ _ _ g h.0, h.1)
 
-  bind_ends : {A B : Type 0} (C : Fact N) (P : A → Fact N) (H : B → Fact N) (s : Vat N) (d : Done N A) (f : A → Act N B) → Holds K strict s.things s.lists C → Ends K strict P s d
-      → ((a : A) → Fine K strict (Also C (P a)) (f a) H) → Ends K strict H s (and_then d f)
+  bind_ends : {A B : Type 0} (C : Fact N) (P : A → Fact N) (H : B → Fact N) (s : Vat N) (d : Done N A) (f : A → Act N B) → Holds K strict s.things s.lists C → Ends K strict M P s d
+      → ((a : A) → Fine K strict M (Also C (P a)) (f a) H) → Ends K strict M H s (and_then d f)
   unfolding and_then
-  bind_ends C P H s (Gives a t) f c h k = widen H s t (f a t) h.0 ((k a).after t h.1 (holds_up s.things s.lists t.things t.lists h.0 C c, h.2))
+  bind_ends C P H s (Gives a t) f c h k = widen H s t (f a t) h.0 ((k a).after t h.1 (holds_up K strict s.things s.lists t.things t.lists h.0 C c, h.2))
   bind_ends C P H s (Throws p t) f c h k = h
   bind_ends C P H s (Ejects n v t) f c h k = h
   bind_ends C P H s (Stops r t) f c h k = h
 
-  pub fine_bind : {A B : Type 0} {C : Fact N} {m : Act N A} {f : A → Act N B} {H : B → Fact N} (P : A → Fact N) → Fine K strict C m P → ((a : A) → Fine K strict (Also C (P a)) (f a) H) → Fine K strict C (m >>= f) H
+  pub fine_bind : {A B : Type 0} {C : Fact N} {m : Act N A} {f : A → Act N B} {H : B → Fact N} (P : A → Fact N) → Fine K strict M C m P → ((a : A) → Fine K strict M (Also C (P a)) (f a) H) → Fine K strict M C (m >>= f) H
   unfolding ◌>>=◌
   fine_bind {C = C} {m = m} {f = f} {H = H} P h k = record { after = λ s g c. bind_ends C P H s (m s) f c (h.after s g c) k }
 
-  less_ends : {A B : Type 0} (C : Fact N) (P : A → Fact N) (H : B → Fact N) (s : Vat N) (d : Done N A) (f : A → Act N B) → Holds K strict s.things s.lists C → Ends K strict P s d
-      → ((a : A) → Fine K strict C (f a) H) → Ends K strict H s (and_then d f)
+  less_ends : {A B : Type 0} (C : Fact N) (P : A → Fact N) (H : B → Fact N) (s : Vat N) (d : Done N A) (f : A → Act N B) → Holds K strict s.things s.lists C → Ends K strict M P s d
+      → ((a : A) → Fine K strict M C (f a) H) → Ends K strict M H s (and_then d f)
   unfolding and_then
-  less_ends C P H s (Gives a t) f c h k = widen H s t (f a t) h.0 ((k a).after t h.1 (holds_up s.things s.lists t.things t.lists h.0 C c))
+  less_ends C P H s (Gives a t) f c h k = widen H s t (f a t) h.0 ((k a).after t h.1 (holds_up K strict s.things s.lists t.things t.lists h.0 C c))
   less_ends C P H s (Throws p t) f c h k = h
   less_ends C P H s (Ejects n v t) f c h k = h
   less_ends C P H s (Stops r t) f c h k = h
 
-  pub fine_less : {A B : Type 0} {C : Fact N} {m : Act N A} {f : A → Act N B} {H : B → Fact N} (P : A → Fact N) → Fine K strict C m P → ((a : A) → Fine K strict C (f a) H) → Fine K strict C (m >>= f) H
+  pub fine_less : {A B : Type 0} {C : Fact N} {m : Act N A} {f : A → Act N B} {H : B → Fact N} (P : A → Fact N) → Fine K strict M C m P → ((a : A) → Fine K strict M C (f a) H) → Fine K strict M C (m >>= f) H
   unfolding ◌>>=◌
   fine_less {C = C} {m = m} {f = f} {H = H} P h k = record { after = λ s g c. less_ends C P H s (m s) f c (h.after s g c) k }
 
-  pub fine_then : {A B : Type 0} {C : Fact N} {m : Act N A} {n : Act N B} {H : B → Fact N} (P : A → Fact N) → Fine K strict C m P → Fine K strict C n H → Fine K strict C (m >> n) H
+  pub fine_then : {A B : Type 0} {C : Fact N} {m : Act N A} {n : Act N B} {H : B → Fact N} (P : A → Fact N) → Fine K strict M C m P → Fine K strict M C n H → Fine K strict M C (m >> n) H
   unfolding ◌>>◌
   fine_then {C = C} {m = m} {n = n} {H = H} P h k = record { after = λ s g c. less_ends C P H s (m s) (λ _. n) c (h.after s g c) (λ _. k) }
 
-  end_ends : {A B : Type 0} (C : Fact N) (P : A → Fact N) (H : B → Fact N) (s : Vat N) (d : Done N A) (f : A → Act N B) (k : Words → Act N B) (l : ℕ → Value N → Act N B) → Holds K strict s.things s.lists C → Ends K strict P s d
-      → ((a : A) → Fine K strict (Also C (P a)) (f a) H) → ((p : Words) → Fine K strict C (k p) H) → ((n : ℕ) (v : Value N) → Fine K strict (Also C (IsValue v)) (l n v) H) → Ends K strict H s (end_by f k l d)
+  end_ends : {A B : Type 0} (C : Fact N) (P : A → Fact N) (H : B → Fact N) (s : Vat N) (d : Done N A) (f : A → Act N B) (k : Words → Act N B) (l : ℕ → Value N → Act N B) → Holds K strict s.things s.lists C → Ends K strict M P s d
+      → ((a : A) → Fine K strict M (Also C (P a)) (f a) H) → ((p : Words) → Fine K strict M C (k p) H) → ((n : ℕ) (v : Value N) → Fine K strict M (Also C (IsValue v)) (l n v) H) → Ends K strict M H s (end_by f k l d)
   unfolding end_by
-  end_ends C P H s (Gives a t) f k l c h x y z = widen H s t (f a t) h.0 ((x a).after t h.1 (holds_up s.things s.lists t.things t.lists h.0 C c, h.2))
-  end_ends C P H s (Throws p t) f k l c h x y z = widen H s t (k p t) h.0 ((y p).after t h.1 (holds_up s.things s.lists t.things t.lists h.0 C c))
-  end_ends C P H s (Ejects n v t) f k l c h x y z = widen H s t (l n v t) h.0 ((z n v).after t h.1 (holds_up s.things s.lists t.things t.lists h.0 C c, h.2))
+  end_ends C P H s (Gives a t) f k l c h x y z = widen H s t (f a t) h.0 ((x a).after t h.1 (holds_up K strict s.things s.lists t.things t.lists h.0 C c, h.2))
+  end_ends C P H s (Throws p t) f k l c h x y z = widen H s t (k p t) h.0 ((y p).after t h.1 (holds_up K strict s.things s.lists t.things t.lists h.0 C c))
+  end_ends C P H s (Ejects n v t) f k l c h x y z = widen H s t (l n v t) h.0 ((z n v).after t h.1 (holds_up K strict s.things s.lists t.things t.lists h.0 C c, h.2))
   end_ends C P H s (Stops r t) f k l c h x y z = h
 
-  pub fine_ending : {A B : Type 0} {C : Fact N} {m : Act N A} {f : A → Act N B} {k : Words → Act N B} {l : ℕ → Value N → Act N B} {H : B → Fact N} (P : A → Fact N) → Fine K strict C m P
-      → ((a : A) → Fine K strict (Also C (P a)) (f a) H) → ((p : Words) → Fine K strict C (k p) H) → ((n : ℕ) (v : Value N) → Fine K strict (Also C (IsValue v)) (l n v) H) → Fine K strict C (ending f k l m) H
+  pub fine_ending : {A B : Type 0} {C : Fact N} {m : Act N A} {f : A → Act N B} {k : Words → Act N B} {l : ℕ → Value N → Act N B} {H : B → Fact N} (P : A → Fact N) → Fine K strict M C m P
+      → ((a : A) → Fine K strict M (Also C (P a)) (f a) H) → ((p : Words) → Fine K strict M C (k p) H) → ((n : ℕ) (v : Value N) → Fine K strict M (Also C (IsValue v)) (l n v) H) → Fine K strict M C (ending f k l m) H
   unfolding ending
   fine_ending {C = C} {m = m} {f = f} {k = k} {l = l} {H = H} P h x y z = record { after = λ s g c. end_ends C P H s (m s) f k l c (h.after s g c) x y z }
 
-  pub fine_some : {B : Type 0} {C : Fact N} (o : Option (Value N)) {f : Value N → Act N B} {m : Act N B} {H : B → Fact N} → Gets K strict C (MayValue o) → ((a : Value N) → Fine K strict (Also C (IsValue a)) (f a) H) → Fine K strict C m H → Fine K strict C (for_some o f m) H
+  pub fine_some : {B : Type 0} {C : Fact N} (o : Option (Value N)) {f : Value N → Act N B} {m : Act N B} {H : B → Fact N} → Gets K strict C (MayValue o) → ((a : Value N) → Fine K strict M (Also C (IsValue a)) (f a) H) → Fine K strict M C m H → Fine K strict M C (for_some o f m) H
   unfolding for_some
   fine_some (Some a) g h k = record { after = λ s i c. (h a).after s i (c, g.at s.things s.lists c) }
   fine_some None g h k = k
 
-  pub fine_if : {A : Type 0} {C : Fact N} (b : Bool) {m n : Act N A} {H : A → Fact N} → Fine K strict C m H → Fine K strict C n H → Fine K strict C (if b then m else n) H
+  pub fine_if : {A : Type 0} {C : Fact N} (b : Bool) {m n : Act N A} {H : A → Fact N} → Fine K strict M C m H → Fine K strict M C n H → Fine K strict M C (if b then m else n) H
   fine_if true h k = h
   fine_if false h k = k
 
-  pub fine_give : {A : Type 0} {C : Fact N} (a : A) {H : A → Fact N} → Gets K strict C (H a) → Fine K strict C (give a) H
+  pub fine_give : {A : Type 0} {C : Fact N} (a : A) {H : A → Fact N} → Gets K strict C (H a) → Fine K strict M C (give a) H
   unfolding give
   fine_give a g = record { after = λ s h c. (grows_same s.things s.lists, h, g.at s.things s.lists c) }
 
-  pub fine_throw : {A : Type 0} {C : Fact N} (p : Words) {H : A → Fact N} → Fine K strict C (throw {A = A} p) H
+  pub fine_throw : {A : Type 0} {C : Fact N} (p : Words) {H : A → Fact N} → Fine K strict M C (throw {A = A} p) H
   unfolding throw
   fine_throw p = record { after = λ s h c. (grows_same s.things s.lists, h) }
 
-  pub fine_eject : {A : Type 0} {C : Fact N} (n : ℕ) (v : Value N) {H : A → Fact N} → Gets K strict C (IsValue v) → Fine K strict C (eject {A = A} n v) H
+  pub fine_eject : {A : Type 0} {C : Fact N} (n : ℕ) (v : Value N) {H : A → Fact N} → Gets K strict C (IsValue v) → Fine K strict M C (eject {A = A} n v) H
   unfolding eject
   fine_eject n v g = record { after = λ s h c. (grows_same s.things s.lists, h, g.at s.things s.lists c) }
 
-  pub fine_stop : {A : Type 0} {C : Fact N} (c : Stop) {H : A → Fact N} → Fine K strict C (stop {A = A} c) H
+  pub fine_stop : {A : Type 0} {C : Fact N} (c : Stop) {H : A → Fact N} → Fine K strict M C (stop {A = A} c) H
   unfolding stop
   fine_stop r = record { after = λ s h c. (grows_same s.things s.lists, h) }
 
-  more_ends : {A : Type 0} (P H : A → Fact N) (s : Vat N) (d : Done N A) → ((a : A) → Gets K strict (P a) (H a)) → Ends K strict P s d → Ends K strict H s d
+  more_ends : {A : Type 0} (P H : A → Fact N) (s : Vat N) (d : Done N A) → ((a : A) → Gets K strict (P a) (H a)) → Ends K strict M P s d → Ends K strict M H s d
   more_ends P H s (Gives a t) g h = (h.0, h.1, (g a).at t.things t.lists h.2)
   more_ends P H s (Throws p t) g h = h
   more_ends P H s (Ejects n v t) g h = h
   more_ends P H s (Stops r t) g h = h
 
-  pub fine_more : {A : Type 0} {C : Fact N} {m : Act N A} (P H : A → Fact N) → Fine K strict C m P → ((a : A) → Gets K strict (P a) (H a)) → Fine K strict C m H
+  pub fine_more : {A : Type 0} {C : Fact N} {m : Act N A} (P H : A → Fact N) → Fine K strict M C m P → ((a : A) → Gets K strict (P a) (H a)) → Fine K strict M C m H
   fine_more {m = m} P H h g = record { after = λ s i c. more_ends P H s (m s) g (h.after s i c) }
 
-  pub fine_left : {A : Type 0} {C D : Fact N} {m : Act N A} {H : A → Fact N} → Fine K strict C m H → Fine K strict (Also C D) m H
+  pub fine_left : {A : Type 0} {C D : Fact N} {m : Act N A} {H : A → Fact N} → Fine K strict M C m H → Fine K strict M (Also C D) m H
   fine_left h = record { after = λ s i c. h.after s i c.0 }
 
-  pub fine_look : {A : Type 0} {C : Fact N} (f : Vat N → A) → Fine K strict C (look f) nothing
+  pub fine_look : {A : Type 0} {C : Fact N} (f : Vat N → A) → Fine K strict M C (look f) nothing
   unfolding look
   fine_look f = record { after = λ s h c. (grows_same s.things s.lists, h, tt) }
 
   -- a fact on what is looked at
-  pub fine_sees : {A : Type 0} {C : Fact N} (f : Vat N → A) (H : A → Fact N) → ((s : Vat N) → Sound K strict s → Holds K strict s.things s.lists C → Holds K strict s.things s.lists (H (f s))) → Fine K strict C (look f) H
+  -- a change by which nothing known changes, and no list
+  stays : (s t : Vat N) → t.number ≡ s.number → t.known ≡ s.known → t.noticed ≡ s.noticed → t.lists ≡ s.lists → M.holds s → (Sound K strict s → Sound K strict t) → M.holds t
+  stays s t a b c d h f = M.quiet s t (a, b, c, inl d) h (f (M.sound s h))
+
+  pub fine_sees : {A : Type 0} {C : Fact N} (f : Vat N → A) (H : A → Fact N) → ((s : Vat N) → Sound K strict s → Holds K strict s.things s.lists C → Holds K strict s.things s.lists (H (f s))) → Fine K strict M C (look f) H
   unfolding look
-  fine_sees f H g = record { after = λ s h c. (grows_same s.things s.lists, h, g s h c) }
+  fine_sees f H g = record { after = λ s h c. (grows_same s.things s.lists, h, g s (M.sound s h) c) }
 
-  pub fine_tell : {C : Fact N} (e : Happened N) → Fine K strict C (tell e) nothing
+  pub fine_tell : {C : Fact N} (e : Happened N) → Fine K strict M C (tell e) nothing
   unfolding tell
-  fine_tell e = record { after = λ s h c. (grows_same s.things s.lists, h, tt) }
+  fine_tell e = record { after = λ s h c. (grows_same s.things s.lists, stays s (record s { happened = s.happened ++ e ∷ [] }) refl refl refl refl h (λ g. g), tt) }
 
-  spend_ends : (s : Vat N) (n : ℕ) (b : Bool) → Sound K strict s → Ends K strict nothing s (spent n b s)
+  spend_ends : (s : Vat N) (n : ℕ) (b : Bool) → M.holds s → Ends K strict M nothing s (spent n b s)
   unfolding spent
-  spend_ends s n true h = (grows_same s.things s.lists, h, tt)
+  spend_ends s n true h = (grows_same s.things s.lists, stays s (record s { fuel = s.fuel - n }) refl refl refl refl h (λ g. g), tt)
   spend_ends s n false h = (grows_same s.things s.lists, h)
 
-  pub fine_spend : {C : Fact N} (n : ℕ) → Fine K strict C (spend n) nothing
+  pub fine_spend : {C : Fact N} (n : ℕ) → Fine K strict M C (spend n) nothing
   unfolding spend
   fine_spend n = record { after = λ s h c. spend_ends s n (nat_le n s.fuel) h }
 
-  pub fine_activation : {C : Fact N} → Fine K strict C new_activation nothing
+  pub fine_activation : {C : Fact N} → Fine K strict M C new_activation nothing
   unfolding new_activation
-  fine_activation = record { after = λ s h c. (grows_same s.things s.lists, h, tt) }
+  fine_activation = record { after = λ s h c. (grows_same s.things s.lists, stays s (record s { activations = suc s.activations }) refl refl refl refl h (λ g. g), tt) }
 
   sound_thing : (s : Vat N) (us : List (Thing N)) → Grows s.things s.lists us s.lists → Sound K strict s → AllOf (ThingWell K strict us s.lists) us → SoundParts K strict us s.slots s.lists s.queue s.known s.outbox
   sound_thing s us g h a = record { things = a; slots = h.slots; lists = h.lists; stacked = h.stacked; queue = h.queue; known = h.known; outbox = h.outbox }
 
-  pub fine_thing : {C : Fact N} (x : Thing N) → Gets K strict C (IsThing x) → Fine K strict C (new_thing x) nothing
+  pub fine_thing : {C : Fact N} (x : Thing N) → Gets K strict C (IsThing x) → Fine K strict M C (new_thing x) nothing
   unfolding new_thing
-  fine_thing x g = record {
+  fine_thing x i = record {
     after = λ s h c. let grown = grows_things s.things s.lists x in
-        (grown, sound_thing s (s.things ++ x ∷ []) grown h (all_end _ s.things x (all_map (thing_up s.things s.lists (s.things ++ x ∷ []) s.lists grown K strict) s.things h.things) (thing_up s.things s.lists (s.things ++ x ∷ []) s.lists grown K strict x (g.at s.things s.lists c))), tt);
+        (grown, stays s (record s { things = s.things ++ x ∷ [] }) refl refl refl refl h (λ g. sound_thing s (s.things ++ x ∷ []) grown g (all_end _ s.things x (all_map (thing_up s.things s.lists (s.things ++ x ∷ []) s.lists grown K strict) s.things g.things) (thing_up s.things s.lists (s.things ++ x ∷ []) s.lists grown K strict x (i.at s.things s.lists c)))), tt);
   }
 
   dead_well : (ts : List (Thing N)) (ls : Lists N) (x : Thing N) → ThingWell K strict ts ls x → ThingWell K strict ts ls (dead x)
@@ -506,78 +530,174 @@ module _ {N W : Type 0} (K : Naming N W) (strict : Bool) where
   change_well P f k zero (x ∷ xs) h = (k x h.0, h.1)
   change_well P f k (suc n) (x ∷ xs) h = (h.0, change_well P f k n xs h.1)
 
-  pub fine_kill : {C : Fact N} (n : ℕ) → Fine K strict C (kill n) nothing
+  pub fine_kill : {C : Fact N} (n : ℕ) → Fine K strict M C (kill n) nothing
   unfolding kill
   fine_kill n = record {
     after = λ s h c. let grown = grows_dead s.things s.lists n in
-        (grown, sound_thing s (change dead n s.things) grown h (change_well _ dead (dead_well (change dead n s.things) s.lists) n s.things (all_map (thing_up s.things s.lists (change dead n s.things) s.lists grown K strict) s.things h.things)), tt);
+        (grown, stays s (record s { things = change dead n s.things }) refl refl refl refl h (λ g. sound_thing s (change dead n s.things) grown g (change_well _ dead (dead_well (change dead n s.things) s.lists) n s.things (all_map (thing_up s.things s.lists (change dead n s.things) s.lists grown K strict) s.things g.things))), tt);
   }
 
-  pub fine_slot : {C : Fact N} (g v : Value N) → Gets K strict C (IsValue g) → Gets K strict C (IsValue v) → Fine K strict C (new_slot g v) nothing
+  pub fine_slot : {C : Fact N} (g v : Value N) → Gets K strict C (IsValue g) → Gets K strict C (IsValue v) → Fine K strict M C (new_slot g v) nothing
   unfolding new_slot
-  fine_slot g v i j = record { after = λ s h c. (grows_same s.things s.lists, record { things = h.things; slots = all_end _ s.slots (record { guard = g; value = v }) h.slots (i.at s.things s.lists c, j.at s.things s.lists c); lists = h.lists; stacked = h.stacked; queue = h.queue; known = h.known; outbox = h.outbox }, tt) }
+  fine_slot k v i j = record { after = λ s h c. (grows_same s.things s.lists, stays s (record s { slots = s.slots ++ record { guard = k; value = v } ∷ [] }) refl refl refl refl h (λ g. record { things = g.things; slots = all_end _ s.slots (record { guard = k; value = v }) g.slots (i.at s.things s.lists c, j.at s.things s.lists c); lists = g.lists; stacked = g.stacked; queue = g.queue; known = g.known; outbox = g.outbox }), tt) }
 
-  pub fine_write : {C : Fact N} (n : ℕ) (v : Value N) → Gets K strict C (IsValue v) → Fine K strict C (write_slot n v) nothing
+  pub fine_write : {C : Fact N} (n : ℕ) (v : Value N) → Gets K strict C (IsValue v) → Fine K strict M C (write_slot n v) nothing
   unfolding write_slot holding
-  fine_write n v g = record { after = λ s h c. (grows_same s.things s.lists, record { things = h.things; slots = change_well (CellThere s.lists) (holding v) (λ x k. (k.0, g.at s.things s.lists c)) n s.slots h.slots; lists = h.lists; stacked = h.stacked; queue = h.queue; known = h.known; outbox = h.outbox }, tt) }
+  fine_write n v i = record { after = λ s h c. (grows_same s.things s.lists, stays s (record s { slots = change (holding v) n s.slots }) refl refl refl refl h (λ g. record { things = g.things; slots = change_well (CellThere s.lists) (holding v) (λ x k. (k.0, i.at s.things s.lists c)) n s.slots g.slots; lists = g.lists; stacked = g.stacked; queue = g.queue; known = g.known; outbox = g.outbox }), tt) }
 
   stacked_end : (n : ℕ) (ls : Lists N) (vs : List (Value N)) → AreStacked n ls → ((m : ℕ) → m ≡ n + length ls → AllOf (IsBelow m) vs) → AreStacked n (ls ++ vs ∷ [])
   stacked_end n [] vs h f = (f n (omega arith), tt)
   stacked_end n (xs ∷ ls) vs h f = (h.0, stacked_end (suc n) ls vs h.1 (λ m e. f m (omega arith)))
 
-  pub fine_list : {C : Fact N} (vs : List (Value N)) → Gets K strict C (AreValues vs) → Fine K strict C (new_list vs) (λ k. IsValue (Items k))
+  pub fine_list : {C : Fact N} (vs : List (Value N)) → Gets K strict C (AreValues vs) → Fine K strict M C (new_list vs) (λ k. IsValue (Items k))
   unfolding new_list
   fine_list vs g = record {
     after = λ s h c. let ms : Lists N = s.lists ++ vs ∷ [] in let grown = grows_lists s.things s.lists vs in let there = there_up s.things s.lists s.things ms grown in (
       grown,
-      record {
-        things = all_map (thing_up s.things s.lists s.things ms grown K strict) s.things h.things;
-        slots = all_map (cell_up s.things s.lists s.things ms grown) s.slots h.slots;
-        lists = all_end _ s.lists vs (all_map (λ xs k. all_map there xs k) s.lists h.lists) (all_map there vs (g.at s.things s.lists c));
-        stacked = stacked_end zero s.lists vs h.stacked (λ n l. all_map (there_below s.lists n l) vs (g.at s.things s.lists c));
-        queue = all_map (message_up s.things s.lists s.things ms grown) s.queue h.queue;
-        known = all_map (known_up s.things s.lists s.things ms grown) s.known h.known;
-        outbox = h.outbox;
-      },
+      M.quiet s (record s { lists = ms }) (refl, refl, refl, inr (vs, g.at s.things s.lists c, refl)) h (record {
+        things = all_map (thing_up s.things s.lists s.things ms grown K strict) s.things (M.sound s h).things;
+        slots = all_map (cell_up s.things s.lists s.things ms grown) s.slots (M.sound s h).slots;
+        lists = all_end _ s.lists vs (all_map (λ xs k. all_map there xs k) s.lists (M.sound s h).lists) (all_map there vs (g.at s.things s.lists c));
+        stacked = stacked_end zero s.lists vs (M.sound s h).stacked (λ n l. all_map (there_below s.lists n l) vs (g.at s.things s.lists c));
+        queue = all_map (message_up s.things s.lists s.things ms grown) s.queue (M.sound s h).queue;
+        known = all_map (known_up s.things s.lists s.things ms grown) s.known (M.sound s h).known;
+        outbox = (M.sound s h).outbox;
+      }),
       (vs, get_end s.lists vs),
     );
   }
 
-  pub fine_enqueue : {C : Fact N} (m : Message N) → Gets K strict C (IsMessage m) → Fine K strict C (enqueue m) nothing
+  pub fine_enqueue : {C : Fact N} (m : Message N) → Gets K strict C (IsMessage m) → Fine K strict M C (enqueue m) nothing
   unfolding enqueue
-  fine_enqueue m g = record { after = λ s h c. (grows_same s.things s.lists, record { things = h.things; slots = h.slots; lists = h.lists; stacked = h.stacked; queue = all_end _ s.queue m h.queue (g.at s.things s.lists c); known = h.known; outbox = h.outbox }, tt) }
+  fine_enqueue m i = record { after = λ s h c. (grows_same s.things s.lists, stays s (record s { queue = s.queue ++ m ∷ [] }) refl refl refl refl h (λ g. record { things = g.things; slots = g.slots; lists = g.lists; stacked = g.stacked; queue = all_end _ s.queue m g.queue (i.at s.things s.lists c); known = g.known; outbox = g.outbox }), tt) }
 
-  pub fine_out : {C : Fact N} (to : ℕ) (n : Note N) → Gets K strict C (NoteDoes n) → Fine K strict C (send_out to n) nothing
+  pub fine_out : {C : Fact N} (to : ℕ) (n : Note N) → Gets K strict C (NoteDoes n) → Fine K strict M C (send_out to n) nothing
   unfolding send_out
-  fine_out to n g = record { after = λ s h c. (grows_same s.things s.lists, record { things = h.things; slots = h.slots; lists = h.lists; stacked = h.stacked; queue = h.queue; known = h.known; outbox = all_end _ s.outbox (record { to = to; note = n }) h.outbox (g.at s.things s.lists c) }, tt) }
+  fine_out to n i = record { after = λ s h c. (grows_same s.things s.lists, stays s (record s { outbox = s.outbox ++ record { to = to; note = n } ∷ [] }) refl refl refl refl h (λ g. record { things = g.things; slots = g.slots; lists = g.lists; stacked = g.stacked; queue = g.queue; known = g.known; outbox = all_end _ s.outbox (record { to = to; note = n }) g.outbox (i.at s.things s.lists c) }), tt) }
 
-  pub fine_gift : {C : Fact N} (n : N) (p i : ℕ) → Fine K strict C (new_gift n p i) nothing
+  pub fine_gift : {C : Fact N} (n : N) (p i : ℕ) → Fine K strict M C (new_gift n p i) nothing
   unfolding new_gift
-  fine_gift n p i = record { after = λ s h c. (grows_same s.things s.lists, h, tt) }
+  fine_gift n p i = record { after = λ s h c. (grows_same s.things s.lists, stays s (record s { gifts = s.gifts ++ record { name = n; provider = p; number = i; opened = false } ∷ [] }) refl refl refl refl h (λ g. g), tt) }
 
-  pub fine_open : {C : Fact N} (p i : ℕ) → Fine K strict C (open_gift p i) nothing
+  pub fine_open : {C : Fact N} (p i : ℕ) → Fine K strict M C (open_gift p i) nothing
   unfolding open_gift
-  fine_open p i = record { after = λ s h c. (grows_same s.things s.lists, h, tt) }
+  fine_open p i = record { after = λ s h c. (grows_same s.things s.lists, stays s (record s { gifts = with_opened p i s.gifts }) refl refl refl refl h (λ g. g), tt) }
 
-  pub fine_mark : {C : Fact N} (w : ℕ) → Fine K strict C (mark w) nothing
-  unfolding mark
-  fine_mark w = record { after = λ s h c. (grows_same s.things s.lists, h, tt) }
-
-  pub fine_each : {A : Type 0} {C : Fact N} {f : A → Act N (Unit {0})} (xs : List A) → ((x : A) → Fine K strict C (f x) nothing) → Fine K strict C (each f xs) nothing
+  pub fine_each : {A : Type 0} {C : Fact N} {f : A → Act N (Unit {0})} (xs : List A) → ((x : A) → Fine K strict M C (f x) nothing) → Fine K strict M C (each f xs) nothing
   unfolding each
-  fine_each [] h = fine_give tt (got_nothing _)
+  fine_each [] h = fine_give tt (got_nothing K strict _)
   fine_each (x ∷ xs) h = fine_then nothing (h x) (fine_each xs h)
 
-  draws_ends : (s : Vat N) (w : ℕ) (o : Option ℕ) → Sound K strict s → Ends K strict nothing s (draws w o s)
+  draws_ends : (s : Vat N) (w : ℕ) (o : Option ℕ) → M.holds s → Ends K strict M nothing s (draws w o s)
   unfolding draws
   draws_ends s w (Some i) h = (grows_same s.things s.lists, h)
-  draws_ends s w None h = (grows_same s.things s.lists, h, tt)
+  draws_ends s w None h = (grows_same s.things s.lists, stays s (record s { drawn = s.drawn ++ w ∷ [] }) refl refl refl refl h (λ g. g), tt)
 
-  pub fine_draw : {C : Fact N} → Fine K strict C (draw K) nothing
+  pub fine_draw : {C : Fact N} → Fine K strict M C (draw K) nothing
   unfolding draw
   fine_draw = record { after = λ s h c. draws_ends s _ _ h }
 
-  sound_known : (s : Vat N) (ks : List (Known N)) → Sound K strict s → AllOf (KnownThere s.lists) ks → SoundParts K strict s.things s.slots s.lists s.queue ks s.outbox
+  pub fine_mail : {C : Fact N} (c : Mailing W) → Fine K strict M C (mail K c) nothing
+  unfolding mail
+  fine_mail d = record { after = λ s h c. (grows_same s.things s.lists, stays s (record s { mails = s.mails ++ K.mailed d (length s.mails) ∷ [] }) refl refl refl refl h (λ g. g), tt) }
+
+  -- ---- by what is given
+
+  pub then_unit : {B : Type 0} {C : Fact N} {m : Act N (Unit {0})} {n : Act N B} {H : B → Fact N} → Fine K strict M C m nothing → Fine K strict M C n H → Fine K strict M C (m >> n) H
+  then_unit h k = fine_then nothing h k
+
+  pub then_number : {B : Type 0} {C : Fact N} {m : Act N ℕ} {n : Act N B} {H : B → Fact N} → Fine K strict M C m nothing → Fine K strict M C n H → Fine K strict M C (m >> n) H
+  then_number h k = fine_then nothing h k
+
+  pub then_value : {B : Type 0} {C : Fact N} {m : Act N (Value N)} {n : Act N B} {H : B → Fact N} → Fine K strict M C m IsValue → Fine K strict M C n H → Fine K strict M C (m >> n) H
+  then_value h k = fine_then IsValue h k
+
+  pub then_answer : {B : Type 0} {C : Fact N} {m : Act N (Answer N)} {n : Act N B} {H : B → Fact N} → Fine K strict M C m answer → Fine K strict M C n H → Fine K strict M C (m >> n) H
+  then_answer h k = fine_then answer h k
+
+  pub bind_number : {B : Type 0} {C : Fact N} {m : Act N ℕ} {f : ℕ → Act N B} {H : B → Fact N} → Fine K strict M C m nothing → ((a : ℕ) → Fine K strict M C (f a) H) → Fine K strict M C (m >>= f) H
+  bind_number h k = fine_less nothing h k
+
+  pub bind_name : {B : Type 0} {C : Fact N} {m : Act N N} {f : N → Act N B} {H : B → Fact N} → Fine K strict M C m nothing → ((a : N) → Fine K strict M C (f a) H) → Fine K strict M C (m >>= f) H
+  bind_name h k = fine_less nothing h k
+
+  pub bind_names : {B : Type 0} {C : Fact N} {m : Act N (N × N)} {f : N × N → Act N B} {H : B → Fact N} → Fine K strict M C m nothing → ((a : N × N) → Fine K strict M C (f a) H) → Fine K strict M C (m >>= f) H
+  bind_names h k = fine_less nothing h k
+
+  pub bind_flag : {B : Type 0} {C : Fact N} {m : Act N Bool} {f : Bool → Act N B} {H : B → Fact N} → Fine K strict M C m nothing → ((a : Bool) → Fine K strict M C (f a) H) → Fine K strict M C (m >>= f) H
+  bind_flag h k = fine_less nothing h k
+
+  pub bind_place : {B : Type 0} {C : Fact N} {m : Act N (Place N)} {f : Place N → Act N B} {H : B → Fact N} → Fine K strict M C m nothing → ((a : Place N) → Fine K strict M C (f a) H) → Fine K strict M C (m >>= f) H
+  bind_place h k = fine_less nothing h k
+
+  pub bind_standing : {B : Type 0} {C : Fact N} {m : Act N (Standing N)} {f : Standing N → Act N B} {H : B → Fact N} → Fine K strict M C m nothing → ((a : Standing N) → Fine K strict M C (f a) H) → Fine K strict M C (m >>= f) H
+  bind_standing h k = fine_less nothing h k
+
+  pub bind_gifts : {B : Type 0} {C : Fact N} {m : Act N (List (GiftEntry N))} {f : List (GiftEntry N) → Act N B} {H : B → Fact N} → Fine K strict M C m nothing → ((a : List (GiftEntry N)) → Fine K strict M C (f a) H) → Fine K strict M C (m >>= f) H
+  bind_gifts h k = fine_less nothing h k
+
+  pub bind_gift : {B : Type 0} {C : Fact N} {m : Act N (Option (GiftEntry N))} {f : Option (GiftEntry N) → Act N B} {H : B → Fact N} → Fine K strict M C m nothing → ((a : Option (GiftEntry N)) → Fine K strict M C (f a) H) → Fine K strict M C (m >>= f) H
+  bind_gift h k = fine_less nothing h k
+
+  pub bind_knowns : {B : Type 0} {C : Fact N} {m : Act N (List (Known N))} {f : List (Known N) → Act N B} {H : B → Fact N} → Fine K strict M C m nothing → ((a : List (Known N)) → Fine K strict M C (f a) H) → Fine K strict M C (m >>= f) H
+  bind_knowns h k = fine_less nothing h k
+
+  pub bind_value : {B : Type 0} {C : Fact N} {m : Act N (Value N)} {f : Value N → Act N B} {H : B → Fact N} → Fine K strict M C m IsValue → ((a : Value N) → Fine K strict M (Also C (IsValue a)) (f a) H) → Fine K strict M C (m >>= f) H
+  bind_value h k = fine_bind IsValue h k
+
+  pub bind_values : {B : Type 0} {C : Fact N} {m : Act N (List (Value N))} {f : List (Value N) → Act N B} {H : B → Fact N} → Fine K strict M C m AreValues → ((a : List (Value N)) → Fine K strict M (Also C (AreValues a)) (f a) H) → Fine K strict M C (m >>= f) H
+  bind_values h k = fine_bind AreValues h k
+
+  pub bind_scope : {B : Type 0} {C : Fact N} {m : Act N (Scope N)} {f : Scope N → Act N B} {H : B → Fact N} → Fine K strict M C m scope → ((a : Scope N) → Fine K strict M (Also C (AreNouns a.nouns)) (f a) H) → Fine K strict M C (m >>= f) H
+  bind_scope h k = fine_bind scope h k
+
+  pub bind_answer : {B : Type 0} {C : Fact N} {m : Act N (Answer N)} {f : Answer N → Act N B} {H : B → Fact N} → Fine K strict M C m answer → ((a : Answer N) → Fine K strict M (Also C (Also (IsValue a.value) (AreNouns a.scope.nouns))) (f a) H) → Fine K strict M C (m >>= f) H
+  bind_answer h k = fine_bind answer h k
+
+  pub bind_answers : {B : Type 0} {C : Fact N} {m : Act N (Answers N)} {f : Answers N → Act N B} {H : B → Fact N} → Fine K strict M C m answers → ((a : Answers N) → Fine K strict M (Also C (Also (AreValues a.values) (AreNouns a.scope.nouns))) (f a) H) → Fine K strict M C (m >>= f) H
+  bind_answers h k = fine_bind answers h k
+
+  pub bind_may_value : {B : Type 0} {C : Fact N} {m : Act N (Option (Value N))} {f : Option (Value N) → Act N B} {H : B → Fact N} → Fine K strict M C m MayValue → ((a : Option (Value N)) → Fine K strict M (Also C (MayValue a)) (f a) H) → Fine K strict M C (m >>= f) H
+  bind_may_value h k = fine_bind MayValue h k
+
+  pub bind_may_cell : {B : Type 0} {C : Fact N} {m : Act N (Option (Cell N))} {f : Option (Cell N) → Act N B} {H : B → Fact N} → Fine K strict M C m MayCell → ((a : Option (Cell N)) → Fine K strict M (Also C (MayCell a)) (f a) H) → Fine K strict M C (m >>= f) H
+  bind_may_cell h k = fine_bind MayCell h k
+
+  pub bind_may_thing : {B : Type 0} {C : Fact N} {m : Act N (Option (Thing N))} {f : Option (Thing N) → Act N B} {H : B → Fact N} → Fine K strict M C m MayThing → ((a : Option (Thing N)) → Fine K strict M (Also C (MayThing a)) (f a) H) → Fine K strict M C (m >>= f) H
+  bind_may_thing h k = fine_bind MayThing h k
+
+  pub bind_may_known : {B : Type 0} {C : Fact N} {m : Act N (Option (Known N))} {f : Option (Known N) → Act N B} {H : B → Fact N} → Fine K strict M C m MayKnown → ((a : Option (Known N)) → Fine K strict M (Also C (MayKnown a)) (f a) H) → Fine K strict M C (m >>= f) H
+  bind_may_known h k = fine_bind MayKnown h k
+
+  pub bind_reply : {B : Type 0} {C : Fact N} {m : Act N (Reply N)} {f : Reply N → Act N B} {H : B → Fact N} → Fine K strict M C m IsReply → ((a : Reply N) → Fine K strict M (Also C (IsReply a)) (f a) H) → Fine K strict M C (m >>= f) H
+  bind_reply h k = fine_bind IsReply h k
+
+  pub bind_bound : {B : Type 0} {C : Fact N} {m : Act N (Bound N)} {f : Bound N → Act N B} {H : B → Fact N} → Fine K strict M C m IsBound → ((a : Bound N) → Fine K strict M (Also C (IsBound a)) (f a) H) → Fine K strict M C (m >>= f) H
+  bind_bound h k = fine_bind IsBound h k
+
+  pub bind_passed : {B : Type 0} {C : Fact N} {m : Act N (Passed N)} {f : Passed N → Act N B} {H : B → Fact N} → Fine K strict M C m DoesPass → ((a : Passed N) → Fine K strict M (Also C (DoesPass a)) (f a) H) → Fine K strict M C (m >>= f) H
+  bind_passed h k = fine_bind DoesPass h k
+
+  pub bind_passeds : {B : Type 0} {C : Fact N} {m : Act N (Passeds N)} {f : Passeds N → Act N B} {H : B → Fact N} → Fine K strict M C m DoAllPass → ((a : Passeds N) → Fine K strict M (Also C (DoAllPass a)) (f a) H) → Fine K strict M C (m >>= f) H
+  bind_passeds h k = fine_bind DoAllPass h k
+
+  pub bind_parcel : {B : Type 0} {C : Fact N} {m : Act N (Parcel N)} {f : Parcel N → Act N B} {H : B → Fact N} → Fine K strict M C m parcel → ((a : Parcel N) → Fine K strict M (Also C (DoesPass a.value)) (f a) H) → Fine K strict M C (m >>= f) H
+  bind_parcel h k = fine_bind parcel h k
+
+  pub end_value : {B : Type 0} {C : Fact N} {m : Act N (Value N)} {f : Value N → Act N B} {k : Words → Act N B} {l : ℕ → Value N → Act N B} {H : B → Fact N} → Fine K strict M C m IsValue
+      → ((a : Value N) → Fine K strict M (Also C (IsValue a)) (f a) H) → ((p : Words) → Fine K strict M C (k p) H) → ((n : ℕ) (v : Value N) → Fine K strict M (Also C (IsValue v)) (l n v) H) → Fine K strict M C (ending f k l m) H
+  end_value h x y z = fine_ending IsValue h x y z
+
+  pub end_scope : {B : Type 0} {C : Fact N} {m : Act N (Scope N)} {f : Scope N → Act N B} {k : Words → Act N B} {l : ℕ → Value N → Act N B} {H : B → Fact N} → Fine K strict M C m scope
+      → ((a : Scope N) → Fine K strict M (Also C (AreNouns a.nouns)) (f a) H) → ((p : Words) → Fine K strict M C (k p) H) → ((n : ℕ) (v : Value N) → Fine K strict M (Also C (IsValue v)) (l n v) H) → Fine K strict M C (ending f k l m) H
+  end_scope h x y z = fine_ending scope h x y z
+
+  pub end_answer : {B : Type 0} {C : Fact N} {m : Act N (Answer N)} {f : Answer N → Act N B} {k : Words → Act N B} {l : ℕ → Value N → Act N B} {H : B → Fact N} → Fine K strict M C m answer
+      → ((a : Answer N) → Fine K strict M (Also C (Also (IsValue a.value) (AreNouns a.scope.nouns))) (f a) H) → ((p : Words) → Fine K strict M C (k p) H) → ((n : ℕ) (v : Value N) → Fine K strict M (Also C (IsValue v)) (l n v) H) → Fine K strict M C (ending f k l m) H
+  end_answer h x y z = fine_ending answer h x y z
+
+module _ {N W : Type 0} (K : Naming N W) (strict : Bool) where
+  pub sound_known : (s : Vat N) (ks : List (Known N)) → Sound K strict s → AllOf (KnownThere s.lists) ks → SoundParts K strict s.things s.slots s.lists s.queue ks s.outbox
   sound_known s ks h a = record { things = h.things; slots = h.slots; lists = h.lists; stacked = h.stacked; queue = h.queue; known = a; outbox = h.outbox }
 
   to_there : (ls : Lists N) (c : Change N) (k : Known N) → ChangeThere ls c → KnownThere ls k → KnownThere ls (changed_to c k)
@@ -602,132 +722,38 @@ module _ {N W : Type 0} (K : Naming N W) (strict : Bool) where
   either_there ls true k j ks js a b c d = (a, c)
   either_there ls false k j ks js a b c d = (b, d)
 
-  changes_there : (ls : Lists N) (c : Change N) (n : N) (ks : List (Known N)) → ChangeThere ls c → AllOf (KnownThere ls) ks → AllOf (KnownThere ls) (with_change K c n ks)
+  pub changes_there : (ls : Lists N) (c : Change N) (n : N) (ks : List (Known N)) → ChangeThere ls c → AllOf (KnownThere ls) ks → AllOf (KnownThere ls) (with_change K c n ks)
   unfolding with_change changed
   changes_there ls c n [] g h = tt
   changes_there ls c n (k ∷ ks) g h = either_there ls (K.same k.name n) (changed c k) k ks (with_change K c n ks) (unless_there ls k.standing k (changed_to c k) h.0 (to_there ls c k g h.0)) h.0 h.1 (changes_there ls c n ks g h.1)
-
-  pub fine_alter : {C : Fact N} (c : Change N) (n : N) → Gets K strict C (IsChange c) → Fine K strict C (alter K c n) nothing
-  unfolding alter
-  fine_alter d n g = record { after = λ s h c. (grows_same s.things s.lists, sound_known s (with_change K d n s.known) h (changes_there s.lists d n s.known (g.at s.things s.lists c) h.known), tt) }
 
   begun_there : (ls : Lists N) (n : N) (h : ℕ) → KnownThere ls (begun n h)
   unfolding begun
   begun_there ls n h = (tt, tt, tt)
 
-  pub fine_come : {C : Fact N} (c : Coming N W) (h : ℕ) → Fine K strict C (come K c h) nothing
-  unfolding come
-  fine_come d w = record { after = λ s h c. (grows_same s.things s.lists, sound_known s _ h (all_end _ s.known (begun (K.made d (length s.known)) w) h.known (begun_there s.lists (K.made d (length s.known)) w)), tt) }
-
-  pub fine_mail : {C : Fact N} (c : Mailing W) → Fine K strict C (mail K c) nothing
-  unfolding mail
-  fine_mail d = record { after = λ s h c. (grows_same s.things s.lists, h, tt) }
-
-  pub fine_promise : {C : Fact N} → Fine K strict C (new_promise K) nothing
-  unfolding new_promise
-  fine_promise = record { after = λ s h c. (grows_same s.things s.lists, sound_known s _ h (all_end _ s.known (begun (K.made (IsOwn s.promises) (length s.known)) s.number) h.known (begun_there s.lists (K.made (IsOwn s.promises) (length s.known)) s.number)), tt) }
-
-  known_begun : (s : Vat N) (n : N) (w : ℕ) → Sound K strict s → SoundParts K strict s.things s.slots s.lists s.queue (s.known ++ begun n w ∷ []) s.outbox
+  pub known_begun : (s : Vat N) (n : N) (w : ℕ) → Sound K strict s → SoundParts K strict s.things s.slots s.lists s.queue (s.known ++ begun n w ∷ []) s.outbox
   known_begun s n w h = sound_known s (s.known ++ begun n w ∷ []) h (all_end _ s.known (begun n w) h.known (begun_there s.lists n w))
 
-  pub fine_new_message : {C : Fact N} (h : ℕ) → Fine K strict C (new_message K h) nothing
+module _ {N W : Type 0} (K : Naming N W) (strict : Bool) (M : Keeper K strict) (law : Loose K strict M) where
+  pub fine_mark : {C : Fact N} (w : ℕ) → Fine K strict M C (mark w) nothing
+  unfolding mark
+  fine_mark w = record { after = λ s h c. (grows_same s.things s.lists, law.any s (record s { noticed = s.noticed ++ w ∷ [] }) h (M.sound s h), tt) }
+
+  pub fine_alter : {C : Fact N} (c : Change N) (n : N) → Gets K strict C (IsChange c) → Fine K strict M C (alter K c n) nothing
+  unfolding alter
+  fine_alter d n g = record { after = λ s h c. let i = M.sound s h in (grows_same s.things s.lists, law.any s (record s { known = with_change K d n s.known }) h (sound_known K strict s (with_change K d n s.known) i (changes_there K strict s.lists d n s.known (g.at s.things s.lists c) i.known)), tt) }
+
+  pub fine_come : {C : Fact N} (c : Coming N W) (h : ℕ) → Fine K strict M C (come K c h) nothing
+  unfolding come
+  fine_come d w = record { after = λ s h c. (grows_same s.things s.lists, law.any s (record s { known = s.known ++ begun (K.made d (length s.known)) w ∷ [] }) h (known_begun K strict s (K.made d (length s.known)) w (M.sound s h)), tt) }
+
+  pub fine_promise : {C : Fact N} → Fine K strict M C (new_promise K) nothing
+  unfolding new_promise
+  fine_promise = record { after = λ s h c. (grows_same s.things s.lists, law.any s (record s { promises = suc s.promises; known = s.known ++ begun (K.made (IsOwn s.promises) (length s.known)) s.number ∷ [] }) h (known_begun K strict s (K.made (IsOwn s.promises) (length s.known)) s.number (M.sound s h)), tt) }
+
+  pub fine_new_message : {C : Fact N} (h : ℕ) → Fine K strict M C (new_message K h) nothing
   unfolding new_message
-  fine_new_message w = record { after = λ s h c. (grows_same s.things s.lists, known_begun s _ w h, tt) }
-
-  -- ---- by what is given
-
-  pub then_unit : {B : Type 0} {C : Fact N} {m : Act N (Unit {0})} {n : Act N B} {H : B → Fact N} → Fine K strict C m nothing → Fine K strict C n H → Fine K strict C (m >> n) H
-  then_unit h k = fine_then nothing h k
-
-  pub then_number : {B : Type 0} {C : Fact N} {m : Act N ℕ} {n : Act N B} {H : B → Fact N} → Fine K strict C m nothing → Fine K strict C n H → Fine K strict C (m >> n) H
-  then_number h k = fine_then nothing h k
-
-  pub then_value : {B : Type 0} {C : Fact N} {m : Act N (Value N)} {n : Act N B} {H : B → Fact N} → Fine K strict C m IsValue → Fine K strict C n H → Fine K strict C (m >> n) H
-  then_value h k = fine_then IsValue h k
-
-  pub then_answer : {B : Type 0} {C : Fact N} {m : Act N (Answer N)} {n : Act N B} {H : B → Fact N} → Fine K strict C m answer → Fine K strict C n H → Fine K strict C (m >> n) H
-  then_answer h k = fine_then answer h k
-
-  pub bind_number : {B : Type 0} {C : Fact N} {m : Act N ℕ} {f : ℕ → Act N B} {H : B → Fact N} → Fine K strict C m nothing → ((a : ℕ) → Fine K strict C (f a) H) → Fine K strict C (m >>= f) H
-  bind_number h k = fine_less nothing h k
-
-  pub bind_name : {B : Type 0} {C : Fact N} {m : Act N N} {f : N → Act N B} {H : B → Fact N} → Fine K strict C m nothing → ((a : N) → Fine K strict C (f a) H) → Fine K strict C (m >>= f) H
-  bind_name h k = fine_less nothing h k
-
-  pub bind_names : {B : Type 0} {C : Fact N} {m : Act N (N × N)} {f : N × N → Act N B} {H : B → Fact N} → Fine K strict C m nothing → ((a : N × N) → Fine K strict C (f a) H) → Fine K strict C (m >>= f) H
-  bind_names h k = fine_less nothing h k
-
-  pub bind_flag : {B : Type 0} {C : Fact N} {m : Act N Bool} {f : Bool → Act N B} {H : B → Fact N} → Fine K strict C m nothing → ((a : Bool) → Fine K strict C (f a) H) → Fine K strict C (m >>= f) H
-  bind_flag h k = fine_less nothing h k
-
-  pub bind_place : {B : Type 0} {C : Fact N} {m : Act N (Place N)} {f : Place N → Act N B} {H : B → Fact N} → Fine K strict C m nothing → ((a : Place N) → Fine K strict C (f a) H) → Fine K strict C (m >>= f) H
-  bind_place h k = fine_less nothing h k
-
-  pub bind_standing : {B : Type 0} {C : Fact N} {m : Act N (Standing N)} {f : Standing N → Act N B} {H : B → Fact N} → Fine K strict C m nothing → ((a : Standing N) → Fine K strict C (f a) H) → Fine K strict C (m >>= f) H
-  bind_standing h k = fine_less nothing h k
-
-  pub bind_gifts : {B : Type 0} {C : Fact N} {m : Act N (List (GiftEntry N))} {f : List (GiftEntry N) → Act N B} {H : B → Fact N} → Fine K strict C m nothing → ((a : List (GiftEntry N)) → Fine K strict C (f a) H) → Fine K strict C (m >>= f) H
-  bind_gifts h k = fine_less nothing h k
-
-  pub bind_gift : {B : Type 0} {C : Fact N} {m : Act N (Option (GiftEntry N))} {f : Option (GiftEntry N) → Act N B} {H : B → Fact N} → Fine K strict C m nothing → ((a : Option (GiftEntry N)) → Fine K strict C (f a) H) → Fine K strict C (m >>= f) H
-  bind_gift h k = fine_less nothing h k
-
-  pub bind_knowns : {B : Type 0} {C : Fact N} {m : Act N (List (Known N))} {f : List (Known N) → Act N B} {H : B → Fact N} → Fine K strict C m nothing → ((a : List (Known N)) → Fine K strict C (f a) H) → Fine K strict C (m >>= f) H
-  bind_knowns h k = fine_less nothing h k
-
-  pub bind_value : {B : Type 0} {C : Fact N} {m : Act N (Value N)} {f : Value N → Act N B} {H : B → Fact N} → Fine K strict C m IsValue → ((a : Value N) → Fine K strict (Also C (IsValue a)) (f a) H) → Fine K strict C (m >>= f) H
-  bind_value h k = fine_bind IsValue h k
-
-  pub bind_values : {B : Type 0} {C : Fact N} {m : Act N (List (Value N))} {f : List (Value N) → Act N B} {H : B → Fact N} → Fine K strict C m AreValues → ((a : List (Value N)) → Fine K strict (Also C (AreValues a)) (f a) H) → Fine K strict C (m >>= f) H
-  bind_values h k = fine_bind AreValues h k
-
-  pub bind_scope : {B : Type 0} {C : Fact N} {m : Act N (Scope N)} {f : Scope N → Act N B} {H : B → Fact N} → Fine K strict C m scope → ((a : Scope N) → Fine K strict (Also C (AreNouns a.nouns)) (f a) H) → Fine K strict C (m >>= f) H
-  bind_scope h k = fine_bind scope h k
-
-  pub bind_answer : {B : Type 0} {C : Fact N} {m : Act N (Answer N)} {f : Answer N → Act N B} {H : B → Fact N} → Fine K strict C m answer → ((a : Answer N) → Fine K strict (Also C (Also (IsValue a.value) (AreNouns a.scope.nouns))) (f a) H) → Fine K strict C (m >>= f) H
-  bind_answer h k = fine_bind answer h k
-
-  pub bind_answers : {B : Type 0} {C : Fact N} {m : Act N (Answers N)} {f : Answers N → Act N B} {H : B → Fact N} → Fine K strict C m answers → ((a : Answers N) → Fine K strict (Also C (Also (AreValues a.values) (AreNouns a.scope.nouns))) (f a) H) → Fine K strict C (m >>= f) H
-  bind_answers h k = fine_bind answers h k
-
-  pub bind_may_value : {B : Type 0} {C : Fact N} {m : Act N (Option (Value N))} {f : Option (Value N) → Act N B} {H : B → Fact N} → Fine K strict C m MayValue → ((a : Option (Value N)) → Fine K strict (Also C (MayValue a)) (f a) H) → Fine K strict C (m >>= f) H
-  bind_may_value h k = fine_bind MayValue h k
-
-  pub bind_may_cell : {B : Type 0} {C : Fact N} {m : Act N (Option (Cell N))} {f : Option (Cell N) → Act N B} {H : B → Fact N} → Fine K strict C m MayCell → ((a : Option (Cell N)) → Fine K strict (Also C (MayCell a)) (f a) H) → Fine K strict C (m >>= f) H
-  bind_may_cell h k = fine_bind MayCell h k
-
-  pub bind_may_thing : {B : Type 0} {C : Fact N} {m : Act N (Option (Thing N))} {f : Option (Thing N) → Act N B} {H : B → Fact N} → Fine K strict C m MayThing → ((a : Option (Thing N)) → Fine K strict (Also C (MayThing a)) (f a) H) → Fine K strict C (m >>= f) H
-  bind_may_thing h k = fine_bind MayThing h k
-
-  pub bind_may_known : {B : Type 0} {C : Fact N} {m : Act N (Option (Known N))} {f : Option (Known N) → Act N B} {H : B → Fact N} → Fine K strict C m MayKnown → ((a : Option (Known N)) → Fine K strict (Also C (MayKnown a)) (f a) H) → Fine K strict C (m >>= f) H
-  bind_may_known h k = fine_bind MayKnown h k
-
-  pub bind_reply : {B : Type 0} {C : Fact N} {m : Act N (Reply N)} {f : Reply N → Act N B} {H : B → Fact N} → Fine K strict C m IsReply → ((a : Reply N) → Fine K strict (Also C (IsReply a)) (f a) H) → Fine K strict C (m >>= f) H
-  bind_reply h k = fine_bind IsReply h k
-
-  pub bind_bound : {B : Type 0} {C : Fact N} {m : Act N (Bound N)} {f : Bound N → Act N B} {H : B → Fact N} → Fine K strict C m IsBound → ((a : Bound N) → Fine K strict (Also C (IsBound a)) (f a) H) → Fine K strict C (m >>= f) H
-  bind_bound h k = fine_bind IsBound h k
-
-  pub bind_passed : {B : Type 0} {C : Fact N} {m : Act N (Passed N)} {f : Passed N → Act N B} {H : B → Fact N} → Fine K strict C m DoesPass → ((a : Passed N) → Fine K strict (Also C (DoesPass a)) (f a) H) → Fine K strict C (m >>= f) H
-  bind_passed h k = fine_bind DoesPass h k
-
-  pub bind_passeds : {B : Type 0} {C : Fact N} {m : Act N (Passeds N)} {f : Passeds N → Act N B} {H : B → Fact N} → Fine K strict C m DoAllPass → ((a : Passeds N) → Fine K strict (Also C (DoAllPass a)) (f a) H) → Fine K strict C (m >>= f) H
-  bind_passeds h k = fine_bind DoAllPass h k
-
-  pub bind_parcel : {B : Type 0} {C : Fact N} {m : Act N (Parcel N)} {f : Parcel N → Act N B} {H : B → Fact N} → Fine K strict C m parcel → ((a : Parcel N) → Fine K strict (Also C (DoesPass a.value)) (f a) H) → Fine K strict C (m >>= f) H
-  bind_parcel h k = fine_bind parcel h k
-
-  pub end_value : {B : Type 0} {C : Fact N} {m : Act N (Value N)} {f : Value N → Act N B} {k : Words → Act N B} {l : ℕ → Value N → Act N B} {H : B → Fact N} → Fine K strict C m IsValue
-      → ((a : Value N) → Fine K strict (Also C (IsValue a)) (f a) H) → ((p : Words) → Fine K strict C (k p) H) → ((n : ℕ) (v : Value N) → Fine K strict (Also C (IsValue v)) (l n v) H) → Fine K strict C (ending f k l m) H
-  end_value h x y z = fine_ending IsValue h x y z
-
-  pub end_scope : {B : Type 0} {C : Fact N} {m : Act N (Scope N)} {f : Scope N → Act N B} {k : Words → Act N B} {l : ℕ → Value N → Act N B} {H : B → Fact N} → Fine K strict C m scope
-      → ((a : Scope N) → Fine K strict (Also C (AreNouns a.nouns)) (f a) H) → ((p : Words) → Fine K strict C (k p) H) → ((n : ℕ) (v : Value N) → Fine K strict (Also C (IsValue v)) (l n v) H) → Fine K strict C (ending f k l m) H
-  end_scope h x y z = fine_ending scope h x y z
-
-  pub end_answer : {B : Type 0} {C : Fact N} {m : Act N (Answer N)} {f : Answer N → Act N B} {k : Words → Act N B} {l : ℕ → Value N → Act N B} {H : B → Fact N} → Fine K strict C m answer
-      → ((a : Answer N) → Fine K strict (Also C (Also (IsValue a.value) (AreNouns a.scope.nouns))) (f a) H) → ((p : Words) → Fine K strict C (k p) H) → ((n : ℕ) (v : Value N) → Fine K strict (Also C (IsValue v)) (l n v) H) → Fine K strict C (ending f k l m) H
-  end_answer h x y z = fine_ending answer h x y z
+  fine_new_message w = record { after = λ s h c. let id = K.mailed (IsSent s.messages) (length s.mails) in let a = K.made (IsAnswer w id) (length s.known) in (grows_same s.things s.lists, law.any s (record s { messages = suc s.messages; mails = s.mails ++ id ∷ []; known = s.known ++ begun a w ∷ [] }) h (known_begun K strict s a w (M.sound s h)), tt) }
 
 pub ruleset gets = (got, got_left, got_right, got_itself, got_both, got_nothing, got_null, got_flag, got_number, got_text, got_prim, got_broken, got_ref, got_none, got_more, got_message, got_hold, got_react, got_settle, got_wait, got_wait_on, got_see, got_to_tell, got_ejector, got_resolver, got_audition)
 

@@ -2,6 +2,7 @@ pub mod Facts
 pub mod Fine
 pub mod Looks
 pub mod FineRefs
+pub mod Serves
 pub mod FineArrive
 pub mod Natives
 pub mod EvalFacts

@@ -7,7 +7,7 @@ use Rattle.ev_machine.specs.Refs as refs
 use Rattle.ev_machine.specs.Refs.{Parcel}
 use Rattle.ev_machine.specs.Native.{list_at}
 use Rattle.ev_frozen_laws.specs.Frozen.{AllOf, Lists, IsThere, AreThere, StandingThere, KnownThere, CellThere, Passes, AllPass, ThingWell, Sound}
-use Rattle.ev_frozen_laws.proofs.Fine.{MayBe, Fact, Also, IsValue, AreValues, IsMessage, AreMessages, MayCell, MayThing, MayKnown, DoesPass, DoAllPass, NoteDoes, parcel, nothing, Gets, Fine, fine_sees, fine_bind, fine_then, fine_give, got_nothing}
+use Rattle.ev_frozen_laws.proofs.Fine.{Keeper, MayBe, Fact, Also, IsValue, AreValues, IsMessage, AreMessages, MayCell, MayThing, MayKnown, DoesPass, DoAllPass, NoteDoes, parcel, nothing, Gets, Fine, fine_sees, fine_bind, fine_then, fine_give, got_nothing}
 
 pub get_all : {A : Type 0} (P : A → Type 0) (xs : List A) (n : ℕ) → AllOf P xs → MayBe P (slice_get xs n)
 get_all P [] n h = tt
@@ -137,7 +137,7 @@ module _ {N W : Type 0} (K : Naming N W) (strict : Bool) where
   cut_there ls true y h = tt
   cut_there ls false y h = h
 
-  target_there : (s : Vat N) (p : N) (x : Value N) → IsThere s.lists x → IsThere s.lists (refs.target_of K s p x)
+  pub target_there : (s : Vat N) (p : N) (x : Value N) → IsThere s.lists x → IsThere s.lists (refs.target_of K s p x)
   unfolding refs.target_of
   target_there s p Null h = tt
   target_there s p (Flag b) h = tt
@@ -151,38 +151,38 @@ module _ {N W : Type 0} (K : Naming N W) (strict : Bool) where
 
   -- ---- looks
 
-  pub look_follow : {C : Fact N} (x : Value N) → Gets K strict C (IsValue x) → Fine K strict C (look (λ s. refs.follow K s x)) IsValue
-  look_follow x g = fine_sees K strict (λ s. refs.follow K s x) IsValue (λ s h c. follow_there s h x (g.at s.things s.lists c))
+  pub look_follow : (M : Keeper K strict) → {C : Fact N} (x : Value N) → Gets K strict C (IsValue x) → Fine K strict M C (look (λ s. refs.follow K s x)) IsValue
+  look_follow M x g = fine_sees K strict M (λ s. refs.follow K s x) IsValue (λ s h c. follow_there s h x (g.at s.things s.lists c))
 
-  pub look_list : {C : Fact N} (k : ℕ) → Fine K strict C (look (λ s. list_at s.lists k)) AreValues
-  look_list k = fine_sees K strict (λ s. list_at s.lists k) AreValues (λ s h c. list_at_there s.lists s.lists k h.lists)
+  pub look_list : (M : Keeper K strict) → {C : Fact N} (k : ℕ) → Fine K strict M C (look (λ s. list_at s.lists k)) AreValues
+  look_list M k = fine_sees K strict M (λ s. list_at s.lists k) AreValues (λ s h c. list_at_there s.lists s.lists k h.lists)
 
-  pub look_entry : {C : Fact N} (n : N) → Fine K strict C (look (λ s. refs.entry_of K s.known n)) MayKnown
-  look_entry n = fine_sees K strict (λ s. refs.entry_of K s.known n) MayKnown (λ s h c. entry_there s.lists s.known n h.known)
+  pub look_entry : (M : Keeper K strict) → {C : Fact N} (n : N) → Fine K strict M C (look (λ s. refs.entry_of K s.known n)) MayKnown
+  look_entry M n = fine_sees K strict M (λ s. refs.entry_of K s.known n) MayKnown (λ s h c. entry_there s.lists s.known n h.known)
 
-  pub look_target : {C : Fact N} (p : N) (x : Value N) → Gets K strict C (IsValue x) → Fine K strict C (look (λ s. refs.target_of K s p x)) IsValue
-  look_target p x g = fine_sees K strict (λ s. refs.target_of K s p x) IsValue (λ s h c. target_there s p x (g.at s.things s.lists c))
+  pub look_target : (M : Keeper K strict) → {C : Fact N} (p : N) (x : Value N) → Gets K strict C (IsValue x) → Fine K strict M C (look (λ s. refs.target_of K s p x)) IsValue
+  look_target M p x g = fine_sees K strict M (λ s. refs.target_of K s p x) IsValue (λ s h c. target_there s p x (g.at s.things s.lists c))
 
-  pub look_parcel : {C : Fact N} (x : Value N) → Fine K strict C (look (λ s. refs.parcel K s x)) parcel
-  look_parcel x = fine_sees K strict (λ s. refs.parcel K s x) parcel (λ s h c. parcel_passes s x)
+  pub look_parcel : (M : Keeper K strict) → {C : Fact N} (x : Value N) → Fine K strict M C (look (λ s. refs.parcel K s x)) parcel
+  look_parcel M x = fine_sees K strict M (λ s. refs.parcel K s x) parcel (λ s h c. parcel_passes s x)
 
-  pub look_cell : {C : Fact N} (k : ℕ) → Fine K strict C (look (λ s. slice_get s.slots k)) MayCell
-  look_cell k = fine_sees K strict (λ s. slice_get s.slots k) MayCell (λ s h c. get_all (CellThere s.lists) s.slots k h.slots)
+  pub look_cell : (M : Keeper K strict) → {C : Fact N} (k : ℕ) → Fine K strict M C (look (λ s. slice_get s.slots k)) MayCell
+  look_cell M k = fine_sees K strict M (λ s. slice_get s.slots k) MayCell (λ s h c. get_all (CellThere s.lists) s.slots k h.slots)
 
-  pub look_thing : {C : Fact N} (i : ℕ) → Fine K strict C (look (λ s. slice_get s.things i)) MayThing
-  look_thing i = fine_sees K strict (λ s. slice_get s.things i) MayThing (λ s h c. get_all (ThingWell K strict s.things s.lists) s.things i h.things)
+  pub look_thing : (M : Keeper K strict) → {C : Fact N} (i : ℕ) → Fine K strict M C (look (λ s. slice_get s.things i)) MayThing
+  look_thing M i = fine_sees K strict M (λ s. slice_get s.things i) MayThing (λ s h c. get_all (ThingWell K strict s.things s.lists) s.things i h.things)
 
-  pub each_message : {C : Fact N} {f : Message N → Act N (Unit {0})} (ms : List (Message N)) → Gets K strict C (AreMessages ms) → ((m : Message N) → Fine K strict (Also C (IsMessage m)) (f m) nothing) → Fine K strict C (each f ms) nothing
+  pub each_message : (M : Keeper K strict) → {C : Fact N} {f : Message N → Act N (Unit {0})} (ms : List (Message N)) → Gets K strict C (AreMessages ms) → ((m : Message N) → Fine K strict M (Also C (IsMessage m)) (f m) nothing) → Fine K strict M C (each f ms) nothing
   unfolding each
-  each_message {C = C} [] g h = fine_give K strict tt (got_nothing K strict C)
-  each_message {C = C} {f = f} (m ∷ ms) g h = fine_then K strict nothing first (each_message ms (record { at = λ ts ls c. (g.at ts ls c).1 }) h)
+  each_message M {C = C} [] g h = fine_give K strict M tt (got_nothing K strict C)
+  each_message M {C = C} {f = f} (m ∷ ms) g h = fine_then K strict M nothing first (each_message M ms (record { at = λ ts ls c. (g.at ts ls c).1 }) h)
     where
-      first : Fine K strict C (f m) nothing
+      first : Fine K strict M C (f m) nothing
       first = record { after = λ s i c. (h m).after s i (c, (g.at s.things s.lists c).0) }
 
   -- a list that is made is there
-  pub bind_list : {B : Type 0} {C : Fact N} {m : Act N ℕ} {f : ℕ → Act N B} {H : B → Fact N} → Fine K strict C m (λ k. IsValue (Items k)) → ((k : ℕ) → Fine K strict (Also C (IsValue (Items k))) (f k) H) → Fine K strict C (m >>= f) H
-  bind_list h k = fine_bind K strict (λ k. IsValue (Items k)) h k
+  pub bind_list : (M : Keeper K strict) → {B : Type 0} {C : Fact N} {m : Act N ℕ} {f : ℕ → Act N B} {H : B → Fact N} → Fine K strict M C m (λ k. IsValue (Items k)) → ((k : ℕ) → Fine K strict M (Also C (IsValue (Items k))) (f k) H) → Fine K strict M C (m >>= f) H
+  bind_list M h k = fine_bind K strict M (λ k. IsValue (Items k)) h k
 
   -- ---- what passes
 

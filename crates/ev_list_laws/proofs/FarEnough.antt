@@ -137,7 +137,7 @@ module _ (K : Naming Name Name) (is : (a b : Name) → K.same a b ≡ true → a
   append_head true k o p e = refl
   append_head false k o p e = e
 
-  append_standing : (ks : List (Known Name)) (n : Name) (h : ℕ) (m : Name) → standing_of K (ks ++ begun n h ∷ []) m ≡ standing_of K ks m
+  pub append_standing : (ks : List (Known Name)) (n : Name) (h : ℕ) (m : Name) → standing_of K (ks ++ begun n h ∷ []) m ≡ standing_of K ks m
   unfolding standing_of entry_of standing_in
   append_standing [] n h m = last_standing (K.same (begun n h).name m) n h
   append_standing (k ∷ ks) n h m = append_head (K.same k.name m) k (entry_of K ks m) (entry_of K (ks ++ begun n h ∷ []) m) (append_standing ks n h m)

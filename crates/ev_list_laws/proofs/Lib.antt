@@ -11,3 +11,7 @@ pub mod FarEnough
 pub mod ViewSettles
 pub mod Needed
 pub mod Laws
+pub mod Kept
+pub mod Changes
+pub mod RefsRing
+pub mod TurnsRing

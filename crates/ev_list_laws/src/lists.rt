@@ -1,5 +1,6 @@
 //! What lists are made of, and where their members lead.
 
+ghost use Rattle.ev_list_laws.specs.Ringless.{TurnsCloseNoRing};
 ghost use Rattle.ev_list_laws.specs.Lists.{ListsAreThere, MembersEndInRuns, ChangesCloseNoRing, NewListsCloseNoRing, NewNamesCloseNoRing, NoticesCloseNoRing, FollowingSuffices, RinglessListsEnd, ConditionsAreNeeded};
 
 /// In each vat of every world of a run each list that stands in a value is there. A list that is a
@@ -55,4 +56,14 @@ pub fn following_suffices()
 /// more than as many steps as there are lists, to values without members.
 pub fn ringless_lists_end()
     ensures { RinglessListsEnd }
+{}
+
+/// Every opening turn and every turn, from a state in which no list leads back to itself, ends in such
+/// a state. Of the state it is asked too that each list that stands in a value is there, that what
+/// waits has a host that was not noticed, that a name that is viewed is of another vat and waits on
+/// its view alone, that the vat hosts the answers of the messages that it holds, and that what it
+/// knows is no object; and all that holds of the state after. Of the turn it is asked that the name
+/// which it resolves at its end is the vat's own.
+pub fn turns_close_no_ring()
+    ensures { TurnsCloseNoRing }
 {}
