@@ -15,3 +15,4 @@ pub mod Kept
 pub mod Changes
 pub mod RefsRing
 pub mod TurnsRing
+pub mod ArriveRing

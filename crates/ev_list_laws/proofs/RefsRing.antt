@@ -92,7 +92,7 @@ module _ (word : ℕ → ℕ) (v : ℕ) where
   sent_at ls settle good C m y (Away w n o) own g i s h c f = pass_ends ls C m w n own g s h c (f w n o refl)
   sent_at ls settle good C m y (Gone t) own g i s h c f = (fine_then N false (M ls) {C = C} nothing (fine_tell N false (M ls) {C = C} (Lost m.id)) (breaks ls settle good C m.answer t)).after s h c
 
-  sends_on : (ls : List Mark) (settle : Settler) → Good ls settle → (C : Fact Name) (m : Message Name) → IsOwn v m → Gets N false C (IsMessage m) → Does ls C (refs.send_on N settle m) nothing
+  pub sends_on : (ls : List Mark) (settle : Settler) → Good ls settle → (C : Fact Name) (m : Message Name) → IsOwn v m → Gets N false C (IsMessage m) → Does ls C (refs.send_on N settle m) nothing
   unfolding refs.send_on ◌>>=◌ look and_then
   sends_on ls settle good C m own g = record {
     after = λ s h c. let y : Value Name = follow N s m.target in
@@ -295,7 +295,7 @@ module _ (word : ℕ → ℕ) (v : ℕ) where
   made_holds ls s h i spared = let t : Vat Name = record s { messages = suc s.messages; mails = s.mails ++ made_id s ∷ [] } in let a : Kept ls t = (M ls).quiet s t (refl, refl, refl, inl refl) i i.0 in
       begun_holds word v ls t (made_at s h) h a spared (made_answer h (length s.known) (made_id s) (made_mail s))
 
-  here_spared : (ls : List Mark) (s : Vat Name) → Kept ls s → is_in s.number s.noticed ≡ false
+  pub here_spared : (ls : List Mark) (s : Vat Name) → Kept ls s → is_in s.number s.noticed ≡ false
   here_spared ls s h = ap (λ i. is_in i s.noticed) h.1.number ∙ h.1.names.here
 
   -- a new message, in a state in which it was just made

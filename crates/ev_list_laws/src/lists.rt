@@ -1,6 +1,6 @@
 //! What lists are made of, and where their members lead.
 
-ghost use Rattle.ev_list_laws.specs.Ringless.{TurnsCloseNoRing};
+ghost use Rattle.ev_list_laws.specs.Ringless.{ArrivalsCloseNoRing, TurnsCloseNoRing};
 ghost use Rattle.ev_list_laws.specs.Lists.{ListsAreThere, MembersEndInRuns, ChangesCloseNoRing, NewListsCloseNoRing, NewNamesCloseNoRing, NoticesCloseNoRing, FollowingSuffices, RinglessListsEnd, ConditionsAreNeeded};
 
 /// In each vat of every world of a run each list that stands in a value is there. A list that is a
@@ -66,4 +66,11 @@ pub fn ringless_lists_end()
 /// which it resolves at its end is the vat's own.
 pub fn turns_close_no_ring()
     ensures { TurnsCloseNoRing }
+{}
+
+/// So does the arrival of every note but the news that a name settled elsewhere. Of the note it is
+/// asked that no name which it brings is of a host that was noticed, that a gift which it opens is the
+/// vat's own, and that a name which it settles is not viewed and settles to no promise.
+pub fn arrivals_close_no_ring()
+    ensures { ArrivalsCloseNoRing }
 {}
