@@ -34,7 +34,7 @@ open_waits : still_waits {N = Name} Unsettled ≡ true
 unfolding still_waits
 open_waits = refl
 
-among_end : (n q : Name) (xs : List Name) → IsAmong n (xs ++ q ∷ []) → (IsAmong n xs) ⊎ (n ≡ q)
+pub among_end : (n q : Name) (xs : List Name) → IsAmong n (xs ++ q ∷ []) → (IsAmong n xs) ⊎ (n ≡ q)
 among_end n q [] (inl e) = inr e
 among_end n q [] (inr a) = absurd a
 among_end n q (x ∷ xs) (inl e) = inl (inl e)
@@ -66,14 +66,14 @@ module _ (word : ℕ → ℕ) (v : ℕ) where
 
   -- ---- which changes are kept
 
-  same_stands : (c : Change Name) (k : Known Name) → (changed_to c k).standing ≡ k.standing → (changed c k).standing ≡ k.standing
+  pub same_stands : (c : Change Name) (k : Known Name) → (changed_to c k).standing ≡ k.standing → (changed c k).standing ≡ k.standing
   same_stands c k e = pick (changed_or c k)
     where
       pick : (changed c k ≡ k) ⊎ (changed c k ≡ changed_to c k) → (changed c k).standing ≡ k.standing
       pick (inl i) = ap (λ (x : Known Name). x.standing) i
       pick (inr i) = ap (λ (x : Known Name). x.standing) i ∙ e
 
-  same_waiting : (c : Change Name) (k : Known Name) → (changed_to c k).waiting ≡ k.waiting → (changed c k).waiting ≡ k.waiting
+  pub same_waiting : (c : Change Name) (k : Known Name) → (changed_to c k).waiting ≡ k.waiting → (changed c k).waiting ≡ k.waiting
   same_waiting c k e = pick (changed_or c k)
     where
       pick : (changed c k ≡ k) ⊎ (changed c k ≡ changed_to c k) → (changed c k).waiting ≡ k.waiting

@@ -97,7 +97,7 @@ module _ (v : ℕ) where
   to_held (ToTell w) k g h = h
   to_held (Settle y) k g h = tt
 
-  held_changed : (c : Change Name) (k : Known Name) → HoldsBy c → HoldsOwn v k → HoldsOwn v (changed c k)
+  pub held_changed : (c : Change Name) (k : Known Name) → HoldsBy c → HoldsOwn v k → HoldsOwn v (changed c k)
   unfolding changed
   held_changed c k g h = unless_either (HoldsOwn v) k.standing k (changed_to c k) h (to_held c k g h)
 
@@ -133,7 +133,7 @@ module _ (word : ℕ → ℕ) (v : ℕ) where
   either_all P true j k ks ls a b c d = (a, c)
   either_all P false j k ks ls a b c d = (b, d)
 
-  all_changed : (P : Known Name → Type 0) (c : Change Name) (n : Name) → ((k : Known Name) → P k → P (changed c k)) → (ks : List (Known Name)) → AllOf P ks → AllOf P (with_change K c n ks)
+  pub all_changed : (P : Known Name → Type 0) (c : Change Name) (n : Name) → ((k : Known Name) → P k → P (changed c k)) → (ks : List (Known Name)) → AllOf P ks → AllOf P (with_change K c n ks)
   unfolding with_change
   all_changed P c n f [] h = tt
   all_changed P c n f (k ∷ ks) h = either_all P (K.same k.name n) (changed c k) k ks (with_change K c n ks) (f k h.0) h.0 h.1 (all_changed P c n f ks h.1)
@@ -196,7 +196,7 @@ module _ (word : ℕ → ℕ) (v : ℕ) where
   begun_last true new = inr refl
   begun_last false new = inl refl
 
-  begun_or : (ks : List (Known Name)) (n m : Name) (h : ℕ) → (entry_of K (ks ++ begun n h ∷ []) m ≡ entry_of K ks m) ⊎ (entry_of K (ks ++ begun n h ∷ []) m ≡ Some (begun n h))
+  pub begun_or : (ks : List (Known Name)) (n m : Name) (h : ℕ) → (entry_of K (ks ++ begun n h ∷ []) m ≡ entry_of K ks m) ⊎ (entry_of K (ks ++ begun n h ∷ []) m ≡ Some (begun n h))
   unfolding entry_of
   begun_or [] n m h = begun_last (K.same (begun n h).name m) (begun n h)
   begun_or (k ∷ ks) n m h = begun_head (K.same k.name m) k (entry_of K ks m) (entry_of K (ks ++ begun n h ∷ []) m) (begun n h) (begun_or ks n m h)
