@@ -1,4 +1,4 @@
--- What arrives, but for the news that a name settled elsewhere, makes no list lead back to itself.
+-- What arrives makes no list lead back to itself.
 use Rattle.std.proofs.Common.{◌≡◌, ℕ, zero, suc, Bool, true, false, List, [], ◌∷◌, ◌++◌, Option, Some, None, refl, sym, ap, subst, ◌∙◌, ◌⊎◌, inl, inr, length, if◌then◌else◌}
 use Rattle.ev_machine.specs.Values.{Words, Value, Null, Flag, Number, Letter, Text, Prim, Broken, Items, Ref, Name, Root, Object, Promise, Answer, Gift, Sent, Naming, naming, name_of, answer_of, mail_of, host_of, IsAnswer, IsGift, IsLearnt, IsCarried}
 use Rattle.ev_machine.specs.State.{Message, Standing, Unsettled, WaitsOn, Viewed, Settled, ToTell, Known, Passed, Passeds, Plain, AGift, Many, NoMore, More, Note, Deliver, Open, Ask, SettledTo, Elsewhere, Shorten, GiftEntry, ListCame, Vat, Done, Gives, Throws, Ejects, Stops, Act, ◌>>=◌, ◌>>◌, and_then, give, look, tell, alter, come, mail, new_list, new_gift, open_gift, begun, is_in}
@@ -16,6 +16,7 @@ use Rattle.ev_list_laws.specs.Ringless.{IsOwn, Ringless, IsToldWell, told_name, 
 use Rattle.ev_list_laws.proofs.FarEnough.{append_standing}
 use Rattle.ev_list_laws.proofs.Kept.{Mark, Noticed, Unviewed, K, is, keeper}
 use Rattle.ev_list_laws.proofs.Changes.{Holds, NotViewed, NoPromise, ByView, answer_eventual, begun_holds}
+use Rattle.ev_list_laws.proofs.ViewRing.{elsewhere}
 use Rattle.ev_list_laws.proofs.RefsRing.{Does, tells, here_spared, good_settle, settle_broken, sends_on, resolve_own, drop}
 
 name_same : (m n : Name) → Ref m ≡ Ref n → m ≡ n
@@ -294,7 +295,7 @@ module _ (word : ℕ → ℕ) (v : ℕ) where
   arrives from (Open i x) s b q k = unnoticed s s.noticed _ (opened s.noticed [] s from i x b.0 b.1 (noticed_mark s k))
   arrives from (Ask p i x) s b q k = unnoticed s s.noticed _ ((asked s.noticed [] from p i).after s (noticed_mark s k) tt)
   arrives from (SettledTo x y) s b q k = settled s from x y b.0 q b.1 b.2 b.3 k
-  arrives from (Elsewhere x c) s b q k = absurd b
+  arrives from (Elsewhere x c) s b q k = elsewhere word v s x c b.0 b.1 b.2 b.3 b.4 k
   arrives from (Shorten x c i) s b q k = unnoticed s s.noticed _ ((shortened s.noticed [] x i b).after s (noticed_mark s k) tt)
 
   ends_after : (s : Vat Name) (d : Done Name (Unit {0})) → At [] nothing s d → After (λ r t. Sound N false t × Ringless N v t) s d

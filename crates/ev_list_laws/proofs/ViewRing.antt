@@ -1,7 +1,7 @@
 -- The news that a name settled elsewhere makes no list lead back to itself: its view just came to be known.
 use Rattle.std.proofs.Common.{◌≡◌, ℕ, zero, suc, Bool, true, false, List, [], ◌∷◌, ◌++◌, Option, Some, None, refl, sym, ap, subst, ◌∙◌, ◌⊎◌, inl, inr, length, if◌then◌else◌, codes, ◌==◌}
 use Rattle.ev_machine.specs.Values.{Value, Broken, Name, Gift, Naming, naming, name_of, host_of, IsGift, IsLearnt}
-use Rattle.ev_machine.specs.State.{Standing, Unsettled, WaitsOn, Viewed, Settled, Known, Change, Wait, See, Views, Ask, Shorten, Put, GiftEntry, Vat, Done, Gives, Throws, Ejects, Stops, Act, ◌>>=◌, ◌>>◌, and_then, give, look, tell, alter, come, draw, draws, drawn_at, send_out, new_gift, with_change, changed, changed_to, begun, is_in}
+use Rattle.ev_machine.specs.State.{Standing, Unsettled, WaitsOn, Viewed, Settled, Known, Change, Wait, See, Views, Note, Ask, Shorten, Put, GiftEntry, Vat, Done, Gives, Throws, Ejects, Stops, Act, ◌>>=◌, ◌>>◌, and_then, give, look, tell, alter, come, draw, draws, drawn_at, send_out, new_gift, with_change, changed, changed_to, begun, is_in}
 use Rattle.ev_machine.specs.Refs as refs
 use Rattle.ev_machine.specs.Refs.{entry_of, standing_of, standing_in, host_at}
 use Rattle.ev_machine.specs.Arrive as arrive
@@ -11,9 +11,10 @@ use Rattle.ev_machine_laws.proofs.StepLaws.{changed_head}
 use Rattle.ev_name_laws.specs.Names.{AllOf, IsAmong, IsEventual}
 use Rattle.ev_frozen_laws.specs.Frozen.{NotePasses, Sound}
 use Rattle.ev_frozen_laws.proofs.Facts.{all_end}
-use Rattle.ev_frozen_laws.proofs.Fine.{Keeper, Nothing, nothing, Ends, grows_same, widen, sound_known, changes_there}
+use Rattle.ev_frozen_laws.proofs.Fine.{Keeper, Nothing, NoteDoes, nothing, Gets, Ends, fine_out, grows_same, widen, sound_known, changes_there}
+use Rattle.ev_frozen_laws.proofs.Looks.{note_ask, note_shorten}
 use Rattle.ev_list_laws.specs.Lists.{NoListLeadsBack}
-use Rattle.ev_list_laws.specs.Ringless.{HoldsOwn, NamesRest, Ringless, IsToldWell, told_name}
+use Rattle.ev_list_laws.specs.Ringless.{HoldsOwn, NamesRest, Ringless, IsToldWell, told_name, WaitsNowhere, NextIsNew}
 use Rattle.ev_list_laws.proofs.TmpEntries.{SameOr, same_or, changed_at}
 use Rattle.ev_list_laws.proofs.Following.{no_true, standing_same, standing_found}
 use Rattle.ev_list_laws.proofs.FarEnough.{append_standing}
@@ -183,13 +184,8 @@ module _ (word : ℕ → ℕ) (v : ℕ) where
 
   -- ---- the gift comes to be known
 
-  -- it waits nowhere
-  abbrev pub Nowhere : Vat Name → Name → Type 0
-  Nowhere s n = (p : Name) (k : Known Name) → entry_of N s.known p ≡ Some k → IsAmong n k.waiting → ⊥
-
-  -- the gift of the next draw is not known
-  abbrev pub NextIsNew : Vat Name → Type 0
-  NextIsNew s = ((h : ℕ) → entry_of N s.known (Gift h (length s.drawn)) ≡ None) × ((p : ℕ) → gift_at p (length s.drawn) s.gifts ≡ None)
+  abbrev Nowhere : Vat Name → Name → Type 0
+  Nowhere s n = WaitsNowhere N s.known n
 
   gift_is : (h i k : ℕ) → N.made (IsGift h i) k ≡ Gift h i
   unfolding naming name_of
@@ -213,3 +209,80 @@ module _ (word : ℕ → ℕ) (v : ℕ) where
   -- n is viewed as a gift that comes to be known just then
   seen_new : (s : Vat Name) (n g : Name) (h : ℕ) → Holds word v [] (record s { known = s.known ++ begun g h ∷ [] }) → entry_of N s.known g ≡ None → (host_of n ≡ v → ⊥) → Nowhere s n → At (record s { known = s.known ++ begun g h ∷ [] }) (arrive.see N n g (record s { known = s.known ++ begun g h ∷ [] }))
   seen_new s n g h a e other not = see_ends (record s { known = s.known ++ begun g h ∷ [] }) n g a (new_waits s g h e) other (λ p w. nowhere_begun s g n h not p w.0 w.1 w.2)
+
+  -- ---- the news that it settled elsewhere
+
+  put_holds : (s : Vat Name) (to : ℕ) (n : Note Name) → Gets N false Nothing (NoteDoes n) → Holds word v [] s → Holds word v [] (record s { outbox = s.outbox ++ record { to = to; note = n } ∷ [] })
+  unfolding send_out
+  put_holds s to n g h = ((fine_out N false M {C = Nothing} to n g).after s h tt).1
+
+  -- no gift of that draw is known
+  abbrev IsNew : Vat Name → ℕ → Type 0
+  IsNew s i = ((h : ℕ) → entry_of N s.known (Gift h i) ≡ None) × ((p : ℕ) → gift_at p i s.gifts ≡ None)
+
+  gift_new : (s : Vat Name) (h i : ℕ) → IsNew s i → entry_of N s.known (N.made (IsGift h i) (length s.known)) ≡ None
+  gift_new s h i new = ap (λ g. entry_of N s.known g) (gift_is h i (length s.known)) ∙ new.0 h
+
+  gift_eventual : (h i k : ℕ) → IsEventual (N.made (IsGift h i) k)
+  unfolding naming name_of
+  gift_eventual h i k = tt
+
+  view_own : (s : Vat Name) (n : Name) (p i : ℕ) (o : Option (GiftEntry Name)) → o ≡ None → Holds word v [] s → IsNew s i → (host_of n ≡ v → ⊥) → Nowhere s n → At s ((arrive.gift_or_new N s.number p i o >>= (λ g. arrive.see N n g)) s)
+  unfolding arrive.gift_or_new ◌>>=◌ ◌>>◌ and_then come new_gift give
+  view_own s n p i (Some g) e k new other not = cc
+  view_own s n p i None e k new other not = let g : Name = N.made (IsGift s.number i) (length s.known) in let x : GiftEntry Name = record { name = g; provider = p; number = i; opened = false } in
+      let r : Vat Name = record s { gifts = s.gifts ++ x ∷ [] } in let t : Vat Name = record s { known = s.known ++ begun g s.number ∷ [] } in let u : Vat Name = record t { gifts = t.gifts ++ x ∷ [] } in
+      let a : Holds word v [] t = begun_holds word v [] s g s.number k (here_spared word v [] s k) (gift_eventual s.number i (length s.known)) in
+      widen N false M nothing s u _ (grows_same s.things s.lists) (seen_new r n g s.number (M.quiet t u (refl, refl, refl, inl refl) a a.0) (gift_new s s.number i new) other not)
+
+  view_asked : (s : Vat Name) (n : Name) (p c i : ℕ) → is_in c s.noticed ≡ false → Holds word v [] s → IsNew s i → (host_of n ≡ v → ⊥) → Nowhere s n → At s (((come N (IsGift c i) c >>= (λ g. send_out c (Ask p i g) >> give g)) >>= (λ g. arrive.see N n g)) s)
+  unfolding ◌>>=◌ ◌>>◌ and_then come send_out give
+  view_asked s n p c i spared k new other not = let g : Name = N.made (IsGift c i) (length s.known) in let q : Put Name = record { to = c; note = Ask p i g } in
+      let r : Vat Name = record s { outbox = s.outbox ++ q ∷ [] } in let t : Vat Name = record s { known = s.known ++ begun g c ∷ [] } in let u : Vat Name = record t { outbox = t.outbox ++ q ∷ [] } in
+      widen N false M nothing s u _ (grows_same s.things s.lists) (seen_new r n g c (put_holds t c (Ask p i g) (note_ask N false Nothing p i g) (begun_holds word v [] s g c k spared (gift_eventual c i (length s.known)))) (gift_new s c i new) other not)
+
+  view_had : (s : Vat Name) (n : Name) (p i : ℕ) → Holds word v [] s → IsNew s i → (host_of n ≡ v → ⊥) → Nowhere s n → At s ((arrive.have_gift N p i >>= (λ g. arrive.see N n g)) s)
+  unfolding arrive.have_gift ◌>>=◌ look and_then
+  view_had s n p i k new other not = view_own s n p i (gift_at p i s.gifts) (new.1 p) k new other not
+
+  view_at : (s : Vat Name) (n : Name) (p c i : ℕ) (b : Bool) → is_in c s.noticed ≡ false → Holds word v [] s → IsNew s i → (host_of n ≡ v → ⊥) → Nowhere s n
+      → At s (((if b then arrive.have_gift N p i else (come N (IsGift c i) c >>= (λ g. send_out c (Ask p i g) >> give g))) >>= (λ g. arrive.see N n g)) s)
+  view_at s n p c i true spared k new other not = view_had s n p i k new other not
+  view_at s n p c i false spared k new other not = view_asked s n p c i spared k new other not
+
+  view_drawn : (s : Vat Name) (n : Name) (h c w : ℕ) (o : Option ℕ) → is_in c s.noticed ≡ false → Holds word v [] s → NextIsNew N s → (host_of n ≡ v → ⊥) → Nowhere s n
+      → At s (and_then (draws w o s) (λ i. send_out h (Shorten n c i) >> (arrive.gift_there N s.number h c i >>= (λ g. arrive.see N n g))))
+  unfolding draws and_then ◌>>◌ send_out arrive.gift_there
+  view_drawn s n h c w (Some j) spared k new other not = (grows_same s.things s.lists, k)
+  view_drawn s n h c w None spared k new other not = let t : Vat Name = record s { drawn = s.drawn ++ w ∷ [] } in let i : ℕ = length s.drawn in let u : Vat Name = record t { outbox = t.outbox ++ record { to = h; note = Shorten n c i } ∷ [] } in
+      widen N false M nothing s u _ (grows_same s.things s.lists) (view_at u n h c i (c == s.number) spared (put_holds t h (Shorten n c i) (note_shorten N false Nothing n c i) (M.quiet s t (refl, refl, refl, inl refl) k k.0)) new other not)
+
+  view_there : (s : Vat Name) (n : Name) (c : ℕ) → is_in c s.noticed ≡ false → Holds word v [] s → NextIsNew N s → (host_of n ≡ v → ⊥) → Nowhere s n → At s (arrive.view_there N n c s)
+  unfolding arrive.view_there ◌>>=◌ and_then look draw
+  view_there s n c spared k new other not = view_drawn s n (host_at N s.number s.known n) c (N.word (length s.drawn)) (drawn_at zero (N.word (length s.drawn)) s.drawn) spared k new other not
+
+  went : (n : Name) (c : ℕ) (s : Vat Name) (b : Bool) → is_in c s.noticed ≡ b → Holds word v [] s → NextIsNew N s → (host_of n ≡ v → ⊥) → Nowhere s n → At s ((if b then refs.settle N n (Broken (codes "partition")) else arrive.view_there N n c) s)
+  went n c s true e k new other not = (settle_broken word v [] Nothing n (codes "partition")).after s k tt
+  went n c s false e k new other not = view_there s n c e k new other not
+
+  learnt_is : (x : Name) (k : ℕ) → N.made (IsLearnt x) k ≡ x
+  unfolding naming name_of
+  learnt_is x k = refl
+
+  begun_known : (n : Name) (h : ℕ) → (begun n h).name ≡ n
+  unfolding begun
+  begun_known n h = refl
+
+  new_end : (s : Vat Name) (n g : Name) (h : ℕ) → entry_of N s.known g ≡ None → (n ≡ g → ⊥) → (entry_of N (s.known ++ begun n h ∷ []) g ≡ entry_of N s.known g) ⊎ (entry_of N (s.known ++ begun n h ∷ []) g ≡ Some (begun n h)) → entry_of N (s.known ++ begun n h ∷ []) g ≡ None
+  new_end s n g h e other (inl i) = i ∙ e
+  new_end s n g h e other (inr i) = absurd (other (sym (begun_known n h) ∙ entry_name word v (s.known ++ begun n h ∷ []) g (begun n h) i))
+
+  next_begun : (s : Vat Name) (n : Name) (h : ℕ) → NextIsNew N s → ((g : ℕ) → n ≡ Gift g (length s.drawn) → ⊥) → NextIsNew N (record s { known = s.known ++ begun n h ∷ [] })
+  next_begun s n h new apart = (λ g. new_end s n (Gift g (length s.drawn)) h (new.0 g) (apart g) (begun_or word v s.known n (Gift g (length s.drawn)) h), new.1)
+
+  pub elsewhere : (s : Vat Name) (x : Incoming Name Name) (c : ℕ) → IsToldWell s.noticed x → (host_of (told_name x) ≡ v → ⊥) → Nowhere s (told_name x) → NextIsNew N s → ((g : ℕ) → told_name x ≡ Gift g (length s.drawn) → ⊥) → Holds word v [] s → At s (arrive.arrive_elsewhere N x c s)
+  unfolding arrive.arrive_elsewhere arrive.learn_name ◌>>=◌ give look come and_then
+  elsewhere s (Old n) c t other not new apart k = went n c s (is_in c s.noticed) refl k new other not
+  elsewhere s (New x h) c t other not new apart k = let n : Name = N.made (IsLearnt x) (length s.known) in let r : Vat Name = record s { known = s.known ++ begun n h ∷ [] } in let same : n ≡ x = learnt_is x (length s.known) in
+      widen N false M nothing s r _ (grows_same s.things s.lists) (went n c r (is_in c s.noticed) refl (begun_holds word v [] s n h k t.0 (subst IsEventual (sym same) t.1)) (next_begun s n h new (λ g e. apart g (sym same ∙ e)))
+      (λ e. other (ap host_of (sym same) ∙ e)) (nowhere_begun s n n h (subst (λ y. Nowhere s y) (sym same) not)))

@@ -1,7 +1,7 @@
 -- A vat in which no list leads back to itself, with what of its names keeps that so in a turn.
-use Rattle.std.specs.Prelude.{◌≡◌, ℕ, true, false, List, Some}
+use Rattle.std.specs.Prelude.{◌≡◌, ℕ, true, false, List, Some, None, length}
 use Rattle.ev_kernel.specs.declared.node.Node.{Node}
-use Rattle.ev_machine.specs.Values.{Value, Null, Flag, Number, Letter, Text, Prim, Broken, Items, Ref, Name, Naming, naming, host_of}
+use Rattle.ev_machine.specs.Values.{Value, Null, Flag, Number, Letter, Text, Prim, Broken, Items, Ref, Name, Gift, Naming, naming, host_of}
 use Rattle.ev_machine.specs.State.{Binding, Message, Viewed, Known, Passed, Passeds, Plain, AGift, Many, NoMore, More, Note, Deliver, Open, Ask, SettledTo, Elsewhere, Shorten, GiftEntry, Vat, is_in}
 use Rattle.ev_machine.specs.Arrive.{Incoming, Old, New, gift_at}
 use Rattle.ev_machine.specs.Refs.{entry_of, standing_of}
@@ -114,7 +114,15 @@ SettlesWell (Plain (Broken p)) = Unit {0}
 SettlesWell (Plain (Items k)) = Unit {0}
 SettlesWell (Many ys) = Unit {0}
 
--- What is asked of a note that arrives. Of the news that a name settled elsewhere nothing is said.
+-- it waits on no other name
+abbrev pub WaitsNowhere : Naming Name Name → List (Known Name) → Name → Type 0
+WaitsNowhere K ks n = (p : Name) (k : Known Name) → entry_of K ks p ≡ Some k → IsAmong n k.waiting → ⊥
+
+-- no gift of the next draw is known
+abbrev pub NextIsNew : Naming Name Name → Vat Name → Type 0
+NextIsNew K s = ((h : ℕ) → entry_of K s.known (Gift h (length s.drawn)) ≡ None) × ((p : ℕ) → gift_at p (length s.drawn) s.gifts ≡ None)
+
+-- What is asked of a note that arrives.
 abbrev pub NoteBehind : Naming Name Name → ℕ → ℕ → Vat Name → Note (Incoming Name Name) → Type 0
 NoteBehind K v from s (Deliver m x verb ys) = IsToldMail m × IsToldWell s.noticed x × ToldPasseds s.noticed ys
 -- a gift that the vat has is its own
@@ -122,7 +130,8 @@ NoteBehind K v from s (Open i x) = IsToldWell s.noticed x × ((g : GiftEntry Nam
 NoteBehind K v from s (Ask p i x) = Unit {0}
 -- the name that settles is not viewed
 NoteBehind K v from s (SettledTo x y) = IsToldWell s.noticed x × ToldPassed s.noticed y × SettlesWell y × ((g : Name) → standing_of K s.known (told_name x) ≡ Viewed g → ⊥)
-NoteBehind K v from s (Elsewhere x c) = ⊥
+-- the name is of another vat and waits nowhere, and the gift of the next draw is new
+NoteBehind K v from s (Elsewhere x c) = IsToldWell s.noticed x × (host_of (told_name x) ≡ v → ⊥) × WaitsNowhere K s.known (told_name x) × NextIsNew K s × ((g : ℕ) → told_name x ≡ Gift g (length s.drawn) → ⊥)
 NoteBehind K v from s (Shorten x c i) = IsToldWell s.noticed x
 
 -- So does the arrival of every such note.

@@ -68,9 +68,10 @@ pub fn turns_close_no_ring()
     ensures { TurnsCloseNoRing }
 {}
 
-/// So does the arrival of every note but the news that a name settled elsewhere. Of the note it is
-/// asked that no name which it brings is of a host that was noticed, that a gift which it opens is the
-/// vat's own, and that a name which it settles is not viewed and settles to no promise.
+/// So does the arrival of every note. Of the note it is asked that nothing which it brings is of a
+/// host that was noticed, that a gift which it opens is the vat's own, that a name which it settles is
+/// not viewed and settles to no promise, and that a name which it tells to have settled elsewhere is
+/// of another vat and waits nowhere, where the gift of the next draw is new.
 pub fn arrivals_close_no_ring()
     ensures { ArrivalsCloseNoRing }
 {}
