@@ -11,7 +11,7 @@ use Rattle.ev_frozen_laws.proofs.Fine.{Keeper, Fact, nothing, Ends, ChangeThere,
 use Rattle.ev_list_laws.specs.Lists.{IsEnd, IsTested, ViewSettled, IsBehind}
 use Rattle.ev_list_laws.specs.Ringless.{IsOwn, HoldsOwn}
 use Rattle.ev_list_laws.proofs.Following.{no_true, standing_found, waits_stays}
-use Rattle.ev_list_laws.proofs.Kept.{Settling, HoldsBy, K, is, settled_is, changed_or, Kept, IsSettling, Fair, ringless_changed, settling_changed, view_back, ringless_begun, settling_begun, keeper}
+use Rattle.ev_list_laws.proofs.Kept.{Mark, HoldsBy, K, is, settled_is, changed_or, Kept, IsMarked, Fair, ringless_changed, settling_changed, view_back, ringless_begun, settling_begun, keeper}
 
 view_wait : (q g : Name) → WaitsOn q ≡ Viewed g → ⊥
 view_wait q g e = cc
@@ -34,7 +34,7 @@ open_waits : still_waits {N = Name} Unsettled ≡ true
 unfolding still_waits
 open_waits = refl
 
-among_end : (n q : Name) (xs : List Name) → IsAmong n (xs ++ q ∷ []) → (IsAmong n xs) ⊎ (n ≡ q)
+pub among_end : (n q : Name) (xs : List Name) → IsAmong n (xs ++ q ∷ []) → (IsAmong n xs) ⊎ (n ≡ q)
 among_end n q [] (inl e) = inr e
 among_end n q [] (inr a) = absurd a
 among_end n q (x ∷ xs) (inl e) = inl (inl e)
@@ -57,7 +57,7 @@ module _ (word : ℕ → ℕ) (v : ℕ) where
   abbrev N : Naming Name Name
   N = K word v
 
-  abbrev pub Holds : List Settling → Vat Name → Type 0
+  abbrev pub Holds : List Mark → Vat Name → Type 0
   Holds ls s = (keeper word v ls).holds s
 
   -- it is not viewed
@@ -66,14 +66,14 @@ module _ (word : ℕ → ℕ) (v : ℕ) where
 
   -- ---- which changes are kept
 
-  same_stands : (c : Change Name) (k : Known Name) → (changed_to c k).standing ≡ k.standing → (changed c k).standing ≡ k.standing
+  pub same_stands : (c : Change Name) (k : Known Name) → (changed_to c k).standing ≡ k.standing → (changed c k).standing ≡ k.standing
   same_stands c k e = pick (changed_or c k)
     where
       pick : (changed c k ≡ k) ⊎ (changed c k ≡ changed_to c k) → (changed c k).standing ≡ k.standing
       pick (inl i) = ap (λ (x : Known Name). x.standing) i
       pick (inr i) = ap (λ (x : Known Name). x.standing) i ∙ e
 
-  same_waiting : (c : Change Name) (k : Known Name) → (changed_to c k).waiting ≡ k.waiting → (changed c k).waiting ≡ k.waiting
+  pub same_waiting : (c : Change Name) (k : Known Name) → (changed_to c k).waiting ≡ k.waiting → (changed c k).waiting ≡ k.waiting
   same_waiting c k e = pick (changed_or c k)
     where
       pick : (changed c k ≡ k) ⊎ (changed c k ≡ changed_to c k) → (changed c k).waiting ≡ k.waiting
@@ -171,21 +171,21 @@ module _ (word : ℕ → ℕ) (v : ℕ) where
 
   -- ---- the state after them
 
-  pub changed_holds : (ls : List Settling) (s : Vat Name) (c : Change Name) (p : Name) → Holds ls s → Fair word v s c p → ChangeThere s.lists c → Holds ls (record s { known = with_change N c p s.known })
+  pub changed_holds : (ls : List Mark) (s : Vat Name) (c : Change Name) (p : Name) → Holds ls s → Fair word v s c p → ChangeThere s.lists c → Holds ls (record s { known = with_change N c p s.known })
   changed_holds ls s c p h fair there = (sound_known N false s (with_change N c p s.known) h.0 (changes_there N false s.lists c p s.known there h.0.known), ringless_changed word v s c p fair h.1, settling_changed word v s c p fair ls h.2)
 
-  pub altered : (ls : List Settling) (s : Vat Name) (c : Change Name) (p : Name) → Holds ls s → Fair word v s c p → ChangeThere s.lists c → Ends N false (keeper word v ls) nothing s (alter N c p s)
+  pub altered : (ls : List Mark) (s : Vat Name) (c : Change Name) (p : Name) → Holds ls s → Fair word v s c p → ChangeThere s.lists c → Ends N false (keeper word v ls) nothing s (alter N c p s)
   unfolding alter
   altered ls s c p h fair there = (grows_same s.things s.lists, changed_holds ls s c p h fair there, tt)
 
-  pub begun_holds : (ls : List Settling) (s : Vat Name) (n : Name) (h : ℕ) → Holds ls s → is_in h s.noticed ≡ false → IsEventual n → Holds ls (record s { known = s.known ++ begun n h ∷ [] })
+  pub begun_holds : (ls : List Mark) (s : Vat Name) (n : Name) (h : ℕ) → Holds ls s → is_in h s.noticed ≡ false → IsEventual n → Holds ls (record s { known = s.known ++ begun n h ∷ [] })
   begun_holds ls s n h i spared eventual = (known_begun N false s n h i.0, ringless_begun word v s n h spared eventual i.1, settling_begun word v s n h spared eventual ls i.2)
 
-  told_holds : (ls : List Settling) (s : Vat Name) (p q : Name) → Holds ls s → Holds ls (record s { happened = s.happened ++ Waits p q ∷ [] })
+  told_holds : (ls : List Mark) (s : Vat Name) (p q : Name) → Holds ls s → Holds ls (record s { happened = s.happened ++ Waits p q ∷ [] })
   told_holds ls s p q h = (keeper word v ls).quiet s (record s { happened = s.happened ++ Waits p q ∷ [] }) (refl, refl, refl, inl refl) h h.0
 
   -- a name that is not viewed comes to wait, as one
-  pub wait_ends : (ls : List Settling) (s : Vat Name) (p q : Name) → Holds ls s → NotViewed s p → Ends N false (keeper word v ls) nothing s (refs.wait_on N p q s)
+  pub wait_ends : (ls : List Mark) (s : Vat Name) (p q : Name) → Holds ls s → NotViewed s p → Ends N false (keeper word v ls) nothing s (refs.wait_on N p q s)
   unfolding refs.wait_on ◌>>◌ tell alter and_then
   wait_ends ls s p q h not = let t : Vat Name = record s { happened = s.happened ++ Waits p q ∷ [] } in let a : Holds ls t = told_holds ls s p q h in let fair : Fair word v t (WaitOn q) p = fair_wait_on t q p a.1 not in
       let u : Vat Name = record t { known = with_change N (WaitOn q) p t.known } in let b : Holds ls u = changed_holds ls t (WaitOn q) p a fair tt in

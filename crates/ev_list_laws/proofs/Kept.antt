@@ -70,6 +70,12 @@ pub record Settling : Type 0 where
   pub value : Value Name
   pub waiting : List Name
 
+-- what is kept in mind: that names settled so, that a name is not viewed, and which vats were noticed
+pub data Mark : Type 0 where
+  With : Settling → Mark
+  Unviewed : Name → Mark
+  Noticed : List ℕ → Mark
+
 module _ (v : ℕ) where
   -- a message that comes to be held is one whose answer the vat hosts
   abbrev pub HoldsBy : Change Name → Type 0
@@ -91,7 +97,7 @@ module _ (v : ℕ) where
   to_held (ToTell w) k g h = h
   to_held (Settle y) k g h = tt
 
-  held_changed : (c : Change Name) (k : Known Name) → HoldsBy c → HoldsOwn v k → HoldsOwn v (changed c k)
+  pub held_changed : (c : Change Name) (k : Known Name) → HoldsBy c → HoldsOwn v k → HoldsOwn v (changed c k)
   unfolding changed
   held_changed c k g h = unless_either (HoldsOwn v) k.standing k (changed_to c k) h (to_held c k g h)
 
@@ -109,8 +115,10 @@ module _ (word : ℕ → ℕ) (v : ℕ) where
   abbrev pub Kept : Vat Name → Type 0
   Kept s = Ringless K v s
 
-  abbrev pub IsSettling : List (Known Name) → Settling → Type 0
-  IsSettling ks l = (standing_of K ks l.name ≡ Settled l.value) × ((q : Name) → IsAmong q l.waiting → (g : Name) → standing_of K ks q ≡ Viewed g → g ≡ l.name)
+  abbrev pub IsMarked : List (Known Name) → List ℕ → Mark → Type 0
+  IsMarked ks hs (Unviewed n) = (g : Name) → standing_of K ks n ≡ Viewed g → ⊥
+  IsMarked ks hs (Noticed js) = hs ≡ js
+  IsMarked ks hs (With l) = (standing_of K ks l.name ≡ Settled l.value) × ((q : Name) → IsAmong q l.waiting → (g : Name) → standing_of K ks q ≡ Viewed g → g ≡ l.name)
 
   -- ---- a change of what is known
 
@@ -125,7 +133,7 @@ module _ (word : ℕ → ℕ) (v : ℕ) where
   either_all P true j k ks ls a b c d = (a, c)
   either_all P false j k ks ls a b c d = (b, d)
 
-  all_changed : (P : Known Name → Type 0) (c : Change Name) (n : Name) → ((k : Known Name) → P k → P (changed c k)) → (ks : List (Known Name)) → AllOf P ks → AllOf P (with_change K c n ks)
+  pub all_changed : (P : Known Name → Type 0) (c : Change Name) (n : Name) → ((k : Known Name) → P k → P (changed c k)) → (ks : List (Known Name)) → AllOf P ks → AllOf P (with_change K c n ks)
   unfolding with_change
   all_changed P c n f [] h = tt
   all_changed P c n f (k ∷ ks) h = either_all P (K.same k.name n) (changed c k) k ks (with_change K c n ks) (f k h.0) h.0 h.1 (all_changed P c n f ks h.1)
@@ -171,9 +179,11 @@ module _ (word : ℕ → ℕ) (v : ℕ) where
     settled_or n y (inl i) e = standing_same K s.known After n i ∙ e
     settled_or n y (inr x) e = let t : x.0.standing ≡ Settled y = sym (standing_found K s.known n x.0 x.1) ∙ e in standing_found K After n (changed c x.0) x.3 ∙ ap (λ (k : Known Name). k.standing) (settled_is c x.0 y t) ∙ t
 
-    pub settling_changed : (ls : List Settling) → AllOf (IsSettling s.known) ls → AllOf (IsSettling After) ls
+    pub settling_changed : (ls : List Mark) → AllOf (IsMarked s.known s.noticed) ls → AllOf (IsMarked After s.noticed) ls
     settling_changed [] h = tt
-    settling_changed (l ∷ ls) h = ((settled_or l.name l.value (same_or K c p l.name s.known) h.0.0, λ q a g e. h.0.1 q a g (view_back q g e)), settling_changed ls h.1)
+    settling_changed (Unviewed n ∷ ls) h = (λ g e. h.0 g (view_back n g e), settling_changed ls h.1)
+    settling_changed (Noticed js ∷ ls) h = (h.0, settling_changed ls h.1)
+    settling_changed (With l ∷ ls) h = ((settled_or l.name l.value (same_or K c p l.name s.known) h.0.0, λ q a g e. h.0.1 q a g (view_back q g e)), settling_changed ls h.1)
 
   -- ---- a name that comes to be known
 
@@ -186,7 +196,7 @@ module _ (word : ℕ → ℕ) (v : ℕ) where
   begun_last true new = inr refl
   begun_last false new = inl refl
 
-  begun_or : (ks : List (Known Name)) (n m : Name) (h : ℕ) → (entry_of K (ks ++ begun n h ∷ []) m ≡ entry_of K ks m) ⊎ (entry_of K (ks ++ begun n h ∷ []) m ≡ Some (begun n h))
+  pub begun_or : (ks : List (Known Name)) (n m : Name) (h : ℕ) → (entry_of K (ks ++ begun n h ∷ []) m ≡ entry_of K ks m) ⊎ (entry_of K (ks ++ begun n h ∷ []) m ≡ Some (begun n h))
   unfolding entry_of
   begun_or [] n m h = begun_last (K.same (begun n h).name m) (begun n h)
   begun_or (k ∷ ks) n m h = begun_head (K.same k.name m) k (entry_of K ks m) (entry_of K (ks ++ begun n h ∷ []) m) (begun n h) (begun_or ks n m h)
@@ -232,9 +242,11 @@ module _ (word : ℕ → ℕ) (v : ℕ) where
     pub ringless_begun : Kept s → Kept (record s { known = More })
     ringless_begun i = record { number = i.number; names = names_begun i.names; none = new_name_closes_none K is s n h i.none }
 
-    pub settling_begun : (ls : List Settling) → AllOf (IsSettling s.known) ls → AllOf (IsSettling More) ls
+    pub settling_begun : (ls : List Mark) → AllOf (IsMarked s.known s.noticed) ls → AllOf (IsMarked More s.noticed) ls
     settling_begun [] i = tt
-    settling_begun (l ∷ ls) i = ((append_standing K is s.known n h l.name ∙ i.0.0, λ q a g e. i.0.1 q a g (sym (append_standing K is s.known n h q) ∙ e)), settling_begun ls i.1)
+    settling_begun (Unviewed m ∷ ls) i = (λ g e. i.0 g (sym (append_standing K is s.known n h m) ∙ e), settling_begun ls i.1)
+    settling_begun (Noticed js ∷ ls) i = (i.0, settling_begun ls i.1)
+    settling_begun (With l ∷ ls) i = ((append_standing K is s.known n h l.name ∙ i.0.0, λ q a g e. i.0.1 q a g (sym (append_standing K is s.known n h q) ∙ e)), settling_begun ls i.1)
 
   -- ---- what changes nothing that is known
 
@@ -277,9 +289,9 @@ module _ (word : ℕ → ℕ) (v : ℕ) where
 
   -- ---- the keeper, while those settle
 
-  abbrev pub keeper : List Settling → Keeper K false
+  abbrev pub keeper : List Mark → Keeper K false
   keeper ls = record {
-    holds = λ s. Sound K false s × Kept s × AllOf (IsSettling s.known) ls;
+    holds = λ s. Sound K false s × Kept s × AllOf (IsMarked s.known s.noticed) ls;
     sound = λ s h. h.0;
-    quiet = λ s t q h i. (i, ringless_quiet s t h.0 q h.1, subst (λ ks. AllOf (IsSettling ks) ls) (sym q.1) h.2);
+    quiet = λ s t q h i. (i, ringless_quiet s t h.0 q h.1, subst (λ ks. AllOf (IsMarked ks t.noticed) ls) (sym q.1) (subst (λ hs. AllOf (IsMarked s.known hs) ls) (sym q.2) h.2));
   }

@@ -15,3 +15,5 @@ pub mod Kept
 pub mod Changes
 pub mod RefsRing
 pub mod TurnsRing
+pub mod ViewRing
+pub mod ArriveRing

@@ -1,13 +1,14 @@
 -- A vat in which no list leads back to itself, with what of its names keeps that so in a turn.
-use Rattle.std.specs.Prelude.{◌≡◌, ℕ, true, false, List, Some}
+use Rattle.std.specs.Prelude.{◌≡◌, ℕ, true, false, List, Some, None, length}
 use Rattle.ev_kernel.specs.declared.node.Node.{Node}
-use Rattle.ev_machine.specs.Values.{Name, Naming, naming, host_of}
-use Rattle.ev_machine.specs.State.{Binding, Message, Viewed, Known, Vat, is_in}
+use Rattle.ev_machine.specs.Values.{Value, Null, Flag, Number, Letter, Text, Prim, Broken, Items, Ref, Name, Gift, Naming, naming, host_of}
+use Rattle.ev_machine.specs.State.{Binding, Message, Viewed, Known, Passed, Passeds, Plain, AGift, Many, NoMore, More, Note, Deliver, Open, Ask, SettledTo, Elsewhere, Shorten, GiftEntry, Vat, is_in}
+use Rattle.ev_machine.specs.Arrive.{Incoming, Old, New, gift_at}
 use Rattle.ev_machine.specs.Refs.{entry_of, standing_of}
 use Rattle.ev_machine_laws.specs.Breaks.{still_waits}
 use Rattle.ev_machine_laws.specs.Steps.{Step, Opens, Takes, Receives, Notices, does, After}
 use Rattle.ev_name_laws.specs.Names.{AllOf, IsAmong, IsMessageName, IsEventual}
-use Rattle.ev_frozen_laws.specs.Frozen.{Sound}
+use Rattle.ev_frozen_laws.specs.Frozen.{NotePasses, Sound}
 use Rattle.ev_frozen_laws.specs.Laws.{StepWell}
 use Rattle.ev_list_laws.specs.Lists.{NoListLeadsBack}
 
@@ -58,3 +59,82 @@ IsOwnTurn v (Notices w) = ⊥
 abbrev pub TurnsCloseNoRing : Type 0
 TurnsCloseNoRing = (word : ℕ → ℕ) (v : ℕ) (step : Step Name Name) (s : Vat Name) → IsOwnTurn v step → Sound (naming word v) false s → StepWell (naming word v) false s step → Ringless (naming word v) v s
     → After (λ r t. Sound (naming word v) false t × Ringless (naming word v) v t) s (does (naming word v) step s)
+
+-- ---- what is asked of a note
+
+-- the name that a note tells
+abbrev pub told_name : Incoming Name Name → Name
+told_name (Old n) = n
+told_name (New x h) = x
+
+-- It is known, or it is no object and has a host that was not noticed.
+abbrev pub IsToldWell : List ℕ → Incoming Name Name → Type 0
+IsToldWell hs (Old n) = Unit {0}
+IsToldWell hs (New x h) = (is_in h hs ≡ false) × IsEventual x
+
+abbrev pub ToldValue : List ℕ → Value (Incoming Name Name) → Type 0
+ToldValue hs (Ref x) = IsToldWell hs x
+ToldValue hs Null = Unit {0}
+ToldValue hs (Flag b) = Unit {0}
+ToldValue hs (Number z) = Unit {0}
+ToldValue hs (Letter c) = Unit {0}
+ToldValue hs (Text t) = Unit {0}
+ToldValue hs (Prim n) = Unit {0}
+ToldValue hs (Broken p) = Unit {0}
+ToldValue hs (Items k) = Unit {0}
+
+-- so is each name that passes, and each gift has such a host
+abbrev mutual
+  pub ToldPassed : List ℕ → Passed (Incoming Name Name) → Type 0
+  ToldPassed hs (Plain y) = ToldValue hs y
+  ToldPassed hs (AGift h i) = is_in h hs ≡ false
+  ToldPassed hs (Many ys) = ToldPasseds hs ys
+
+  pub ToldPasseds : List ℕ → Passeds (Incoming Name Name) → Type 0
+  ToldPasseds hs NoMore = Unit {0}
+  ToldPasseds hs (More y ys) = ToldPassed hs y × ToldPasseds hs ys
+
+-- the name of a message
+abbrev pub IsToldMail : Incoming Name Name → Type 0
+IsToldMail (Old n) = IsMessageName n
+IsToldMail (New x h) = IsMessageName x
+
+-- a list, data, or an object that is told so
+abbrev pub SettlesWell : Passed (Incoming Name Name) → Type 0
+SettlesWell (Plain (Ref (Old n))) = IsEventual n → ⊥
+SettlesWell (Plain (Ref (New x h))) = ⊥
+SettlesWell (AGift h i) = ⊥
+SettlesWell (Plain Null) = Unit {0}
+SettlesWell (Plain (Flag b)) = Unit {0}
+SettlesWell (Plain (Number z)) = Unit {0}
+SettlesWell (Plain (Letter c)) = Unit {0}
+SettlesWell (Plain (Text t)) = Unit {0}
+SettlesWell (Plain (Prim n)) = Unit {0}
+SettlesWell (Plain (Broken p)) = Unit {0}
+SettlesWell (Plain (Items k)) = Unit {0}
+SettlesWell (Many ys) = Unit {0}
+
+-- it waits on no other name
+abbrev pub WaitsNowhere : Naming Name Name → List (Known Name) → Name → Type 0
+WaitsNowhere K ks n = (p : Name) (k : Known Name) → entry_of K ks p ≡ Some k → IsAmong n k.waiting → ⊥
+
+-- no gift of the next draw is known
+abbrev pub NextIsNew : Naming Name Name → Vat Name → Type 0
+NextIsNew K s = ((h : ℕ) → entry_of K s.known (Gift h (length s.drawn)) ≡ None) × ((p : ℕ) → gift_at p (length s.drawn) s.gifts ≡ None)
+
+-- What is asked of a note that arrives.
+abbrev pub NoteBehind : Naming Name Name → ℕ → ℕ → Vat Name → Note (Incoming Name Name) → Type 0
+NoteBehind K v from s (Deliver m x verb ys) = IsToldMail m × IsToldWell s.noticed x × ToldPasseds s.noticed ys
+-- a gift that the vat has is its own
+NoteBehind K v from s (Open i x) = IsToldWell s.noticed x × ((g : GiftEntry Name) → gift_at from i s.gifts ≡ Some g → host_of g.name ≡ v)
+NoteBehind K v from s (Ask p i x) = Unit {0}
+-- the name that settles is not viewed
+NoteBehind K v from s (SettledTo x y) = IsToldWell s.noticed x × ToldPassed s.noticed y × SettlesWell y × ((g : Name) → standing_of K s.known (told_name x) ≡ Viewed g → ⊥)
+-- the name is of another vat and waits nowhere, and the gift of the next draw is new
+NoteBehind K v from s (Elsewhere x c) = IsToldWell s.noticed x × (host_of (told_name x) ≡ v → ⊥) × WaitsNowhere K s.known (told_name x) × NextIsNew K s × ((g : ℕ) → told_name x ≡ Gift g (length s.drawn) → ⊥)
+NoteBehind K v from s (Shorten x c i) = IsToldWell s.noticed x
+
+-- So does the arrival of every such note.
+abbrev pub ArrivalsCloseNoRing : Type 0
+ArrivalsCloseNoRing = (word : ℕ → ℕ) (v from : ℕ) (n : Note (Incoming Name Name)) (s : Vat Name) → NoteBehind (naming word v) v from s n → Sound (naming word v) false s → NotePasses n → Ringless (naming word v) v s
+    → After (λ r t. Sound (naming word v) false t × Ringless (naming word v) v t) s (does (naming word v) (Receives from n) s)

@@ -1,6 +1,6 @@
 //! What lists are made of, and where their members lead.
 
-ghost use Rattle.ev_list_laws.specs.Ringless.{TurnsCloseNoRing};
+ghost use Rattle.ev_list_laws.specs.Ringless.{ArrivalsCloseNoRing, TurnsCloseNoRing};
 ghost use Rattle.ev_list_laws.specs.Lists.{ListsAreThere, MembersEndInRuns, ChangesCloseNoRing, NewListsCloseNoRing, NewNamesCloseNoRing, NoticesCloseNoRing, FollowingSuffices, RinglessListsEnd, ConditionsAreNeeded};
 
 /// In each vat of every world of a run each list that stands in a value is there. A list that is a
@@ -66,4 +66,12 @@ pub fn ringless_lists_end()
 /// which it resolves at its end is the vat's own.
 pub fn turns_close_no_ring()
     ensures { TurnsCloseNoRing }
+{}
+
+/// So does the arrival of every note. Of the note it is asked that nothing which it brings is of a
+/// host that was noticed, that a gift which it opens is the vat's own, that a name which it settles is
+/// not viewed and settles to no promise, and that a name which it tells to have settled elsewhere is
+/// of another vat and waits nowhere, where the gift of the next draw is new.
+pub fn arrivals_close_no_ring()
+    ensures { ArrivalsCloseNoRing }
 {}
