@@ -1,0 +1,6 @@
+pub mod Puts
+pub mod RefsPuts
+pub mod ArrivePuts
+pub mod StepsPuts
+pub mod Links
+pub mod Laws

@@ -1,0 +1,25 @@
+//! What holds of gifts in every world of every run: after any of the opening turns of a script, and
+//! after all of them and any entries of a schedule. Of the script nothing is asked.
+//!
+//! A name that is neither of the vat that passes it nor of the receiver passes as a gift, under a word
+//! that is drawn for it; and a vat that is told that a name settled at another vat has a gift there as
+//! its view, under a word that it draws.
+
+ghost use Rattle.ev_gift_laws.specs.Passing.{GiftsPassOnce, EachDrawHasOneProvider};
+
+/// Of each draw at most one gift was ever put, in all notes on all links together, and none of a draw
+/// that was not made; and so it is with the notes that are under way.
+pub fn gifts_pass_once()
+    ensures { GiftsPassOnce }
+{}
+
+/// Each draw has one provider: the vat that passed a gift under it, or the old host of the name whose
+/// view is the gift under it.
+///
+/// All notes that were put, and all gifts at their hosts, tell of it. The gift that passes in a note is of
+/// neither vat, and the sender provides it. What is opened in a note, its sender provides. Who asks for
+/// a gift names its provider. Who wants an object as a gift asks the provider of it. And each gift at
+/// its host is entered with its provider.
+pub fn each_draw_has_one_provider()
+    ensures { EachDrawHasOneProvider }
+{}
