@@ -1,19 +1,18 @@
 -- What arrives puts gifts of new draws alone, each once, and tells of their provider: of a view the old host of the name, and else the vat itself.
-use Rattle.std.proofs.Common.{◌≡◌, ℕ, suc, ◌+◌, ◌≤◌, Bool, true, false, List, [], ◌∷◌, ◌++◌, Option, Some, None, refl, sym, ◌∙◌, arith, length, if◌then◌else◌, codes, ◌==◌, subst}
+use Rattle.std.proofs.Common.{◌≡◌, ℕ, ◌+◌, ◌≤◌, Bool, true, false, List, [], ◌∷◌, ◌++◌, Option, Some, None, refl, sym, arith, length, if◌then◌else◌, codes, ◌==◌, subst}
 use Rattle.ev_machine.specs.Values.{Words, Value, Null, Flag, Number, Letter, Text, Prim, Broken, Items, Ref, Name, Naming, IsGift, naming, name_of}
-use Rattle.ev_machine.specs.State.{Standing, Unsettled, WaitsOn, Viewed, Settled, Known, See, Wait, Passed, Passeds, Plain, AGift, Many, NoMore, More, Note, Deliver, Open, Ask, SettledTo, Elsewhere, Shorten, Put, GiftEntry, Views, Vat, Done, Gives, Throws, Ejects, Stops, Act, ◌>>=◌, ◌>>◌, and_then, give, look, come, new_gift, alter, tell, draw, draws, send_out, is_in, begun}
+use Rattle.ev_machine.specs.State.{Standing, Unsettled, WaitsOn, Viewed, Settled, Known, Passed, Passeds, Plain, AGift, Many, NoMore, More, Note, Deliver, Open, Ask, SettledTo, Elsewhere, Shorten, Put, GiftEntry, Vat, Gives, Act, ◌>>=◌, ◌>>◌, and_then, give, look, come, new_gift, alter, tell, draw, draws, send_out, is_in, begun}
 use Rattle.ev_machine.specs.Refs.{Place, Near, Mine, Away, Gone, host_at, settle}
 use Rattle.ev_machine.specs.Arrive as arrive
 use Rattle.ev_machine.specs.Arrive.{Incoming, Old, New}
 use Rattle.ev_run.specs.World as world
 use Rattle.ev_machine_laws.specs.Steps.{After}
 use Rattle.ev_machine_laws.proofs.Keeps.{Keeps}
-use Rattle.ev_fate_laws.specs.Lasting.{Each}
 use Rattle.ev_fate_laws.proofs.PlacesLast.{each_end}
-use Rattle.ev_fate_laws.proofs.Spares.{widen, keeps_give}
-use Rattle.ev_gift_laws.specs.Passing.{gifts_in_note, drawn_of, IsProvidedBy, PassesFrom, AllPassFrom, Provides, IsProvided}
-use Rattle.ev_gift_laws.proofs.Puts.{PutsOn, Puts, Fair, Nothing, PutTells, same, first_fair, fair_trans, spared, drawn_after, drawn_more, drawn_up, length_more, gifts_out, out_end, fair, fair_gift, fair_ask, fair_open_out}
-use Rattle.ev_gift_laws.proofs.RefsPuts.{fair_refs, fair_settle, fair_resolve, fair_inform, fair_send_on}
+use Rattle.ev_fate_laws.proofs.Spares.{widen}
+use Rattle.ev_gift_laws.specs.Passing.{gifts_in_note, IsProvidedBy, PassesFrom, AllPassFrom, Provides, IsProvided}
+use Rattle.ev_gift_laws.proofs.Puts.{PutsOn, Fair, Nothing, PutTells, same, spared, drawn_after, drawn_more, length_more, out_end, fair, fair_gift, fair_ask, fair_open_out}
+use Rattle.ev_gift_laws.proofs.RefsPuts.{fair_refs, fair_settle, fair_inform, fair_send_on}
 
 module _ (v d0 : ℕ) (F : ℕ → ℕ) (fresh : (i : ℕ) → d0 ≤ i → F i ≡ v) (word : ℕ → ℕ) where
   abbrev K : Naming Name Name

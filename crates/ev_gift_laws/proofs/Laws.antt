@@ -1,17 +1,17 @@
 -- In every world of a run each draw passes as a gift once at most, and has one provider.
-use Rattle.std.proofs.Common.{◌≡◌, ℕ, zero, suc, ◌+◌, ◌≤◌, Bool, true, false, List, [], ◌∷◌, ◌++◌, Option, Some, None, refl, sym, ap, ◌∙◌, ◌⊎◌, inl, inr, length, arith}
+use Rattle.std.proofs.Common.{◌≡◌, ℕ, zero, suc, ◌+◌, ◌≤◌, Bool, true, false, List, [], ◌∷◌, Option, Some, None, refl, sym, ap, ◌⊎◌, inl, inr, length, arith}
 use Rattle.std.specs.Prelude.{slice_get}
-use Rattle.ev_machine.specs.Values.{Name, Root, naming}
-use Rattle.ev_machine.specs.State.{Message, Note, Put, GiftEntry, Vat, Done, Gives, Throws, Ejects, Stops}
-use Rattle.ev_machine.specs.Eval.{opening, taking}
-use Rattle.ev_machine.specs.Arrive.{arrive, notice}
+use Rattle.ev_machine.specs.Values.{Name, Root}
+use Rattle.ev_machine.specs.State.{Message, Note, GiftEntry, Vat, Done, Gives, Throws, Ejects, Stops}
+use Rattle.ev_machine.specs.Eval.{opening}
+use Rattle.ev_machine.specs.Arrive.{notice}
 use Rattle.ev_machine_laws.specs.Steps.{After}
 use Rattle.ev_run.specs.Draws.{draw_word}
 use Rattle.ev_run.specs.World as world
-use Rattle.ev_run.specs.World.{Script, Program, Entry, Turn, Carry, CutLink, NoticeLink, Event, Idle, Link, World, Run, Goes as Going, Stopped, names, names_of, read_note, put_at}
+use Rattle.ev_run.specs.World.{Script, Program, Entry, Turn, Carry, CutLink, NoticeLink, Event, Link, World, Run, Goes as Going, Stopped, names, names_of, put_at}
 use Rattle.ev_fate_laws.specs.Lasting.{Each}
 use Rattle.ev_fate_laws.specs.Runs.{Reached, InRuns}
-use Rattle.ev_gift_laws.specs.Passing.{gifts_on, gifts_put, gifts_under_way, drawn_of, IsProvidedBy, Provides, IsProvided, GiftsPassOnce, HasProviders, EachDrawHasOneProvider}
+use Rattle.ev_gift_laws.specs.Passing.{gifts_put, gifts_under_way, drawn_of, Provides, IsProvided, GiftsPassOnce, EachDrawHasOneProvider}
 use Rattle.ev_gift_laws.proofs.Puts.{Fair, gifts_out, each_up, provides_up}
 use Rattle.ev_gift_laws.proofs.ArrivePuts.{fair_notice}
 use Rattle.ev_gift_laws.proofs.StepsPuts.{later, later_new, later_up, fair_taking, fair_opening, arrival_ends}

@@ -4,3 +4,5 @@ pub mod ArrivePuts
 pub mod StepsPuts
 pub mod Links
 pub mod Laws
+pub mod Reading
+pub mod NewsLaws

@@ -1,10 +1,9 @@
 -- What a vat draws and puts: the gifts that pass in its notes are of new draws, each once, and its notes and the gifts that it hosts tell of the provider of each draw.
-use Rattle.std.proofs.Common.{◌≡◌, ℕ, suc, ◌+◌, ◌≤◌, ◌<◌, Bool, true, false, List, [], ◌∷◌, ◌++◌, Option, Some, None, refl, sym, ◌∙◌, arith, length, leb-true, ◌==◌}
+use Rattle.std.proofs.Common.{◌≡◌, ℕ, suc, ◌+◌, ◌≤◌, ◌<◌, Bool, true, false, List, [], ◌∷◌, ◌++◌, refl, sym, ◌∙◌, arith, length, leb-true, ◌==◌}
 use Rattle.std.specs.Prelude.{nat_le}
 use Rattle.std.proofs.lemmas.Bool.{eqb-true, le-leb}
 use Rattle.ev_machine.specs.Values.{Name, Coming, Mailing, Naming}
-use Rattle.ev_machine.specs.State.{Message, Change, Passed, Passeds, Plain, AGift, Many, NoMore, More, Note, Deliver, Open, Ask, SettledTo, Elsewhere, Shorten, Put, GiftEntry, Happened, Vat, Done, Gives, Throws, Ejects, Stops, Act, ◌>>=◌, and_then, tell, enqueue, send_out, new_gift, with_opened, open_gift, is_gift, mark, draws, draw, with_change, alter, come, mail, new_message, begun}
-use Rattle.ev_machine_laws.specs.Steps.{After}
+use Rattle.ev_machine.specs.State.{Message, Change, Passed, Passeds, Plain, AGift, Many, NoMore, More, Note, Deliver, Open, Ask, SettledTo, Elsewhere, Shorten, Put, GiftEntry, Happened, Vat, tell, enqueue, send_out, new_gift, with_opened, open_gift, is_gift, mark, draws, draw, alter, come, mail, new_message}
 use Rattle.ev_machine_laws.proofs.Keeps.{Keeps}
 use Rattle.ev_fate_laws.specs.Fate.{once}
 use Rattle.ev_fate_laws.specs.Lasting.{Each}

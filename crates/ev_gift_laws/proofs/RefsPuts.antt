@@ -1,20 +1,19 @@
 -- All that a vat does with references puts gifts of new draws alone, each once, and tells of their provider, which is the vat itself.
 use Rattle.std.proofs.Common.{◌≡◌, ℕ, zero, suc, ◌+◌, ◌≤◌, Bool, true, false, List, [], ◌∷◌, ◌++◌, Option, Some, None, refl, sym, ◌∙◌, arith, length, if◌then◌else◌, ◌==◌}
 use Rattle.std.specs.Prelude.{nat_le}
-use Rattle.std.proofs.lemmas.Bool.{eqb-true, eq-eqb}
+use Rattle.std.proofs.lemmas.Bool.{eq-eqb}
 use Rattle.ev_machine.specs.Values.{Words, Value, Null, Flag, Number, Letter, Text, Prim, Broken, Items, Ref, Name, Root, Object, Promise, Answer, Gift, Sent, Spot, Own, Foreign, NoObject, Naming, naming, spot_of}
-use Rattle.ev_machine.specs.State.{Message, Standing, Settled, Known, ToTell, Passed, Passeds, Plain, AGift, Many, NoMore, More, Deliver, Open, SettledTo, Elsewhere, Put, Vat, Done, Gives, Throws, Ejects, Stops, Act, ◌>>=◌, ◌>>◌, and_then, each, give, look, spend, spent, draw, draws, send_out, alter, tell, Posted}
+use Rattle.ev_machine.specs.State.{Message, Standing, Settled, Known, ToTell, Passed, Passeds, Plain, AGift, Many, NoMore, More, Deliver, Open, SettledTo, Put, Vat, Done, Gives, Throws, Ejects, Stops, Act, ◌>>=◌, ◌>>◌, and_then, each, give, look, spend, spent, draw, draws, send_out, alter, tell, Posted}
 use Rattle.ev_machine.specs.Refs as refs
-use Rattle.ev_machine.specs.Refs.{Place, Near, Mine, Away, Gone, Parcel}
+use Rattle.ev_machine.specs.Refs.{Place, Near, Mine, Away, Gone}
 use Rattle.ev_machine.specs.Native.{list_at}
 use Rattle.ev_machine_laws.specs.Steps.{After}
 use Rattle.ev_machine_laws.proofs.Keeps.{Keeps}
 use Rattle.ev_fate_laws.specs.Fate.{once}
-use Rattle.ev_fate_laws.specs.Lasting.{Each}
 use Rattle.ev_fate_laws.proofs.PlacesLast.{each_end}
-use Rattle.ev_fate_laws.proofs.Spares.{IsSparedUnder, keeps_give, keeps_each, widen}
-use Rattle.ev_gift_laws.specs.Passing.{gifts_in, gifts_in_all, gifts_in_note, drawn_of, IsProvidedBy, PassesFrom, AllPassFrom, Provides}
-use Rattle.ev_gift_laws.proofs.Puts.{PutsOn, Puts, Fair, Nothing, PutTells, same, then_puts, first_fair, less_fair, fair_trans, spared, drawn_after, drawn_more, next_draw, length_more, gifts_out, out_end, drawn_up, all_up, passes_up, fair, fair_alter, fair_tell}
+use Rattle.ev_fate_laws.proofs.Spares.{IsSparedUnder}
+use Rattle.ev_gift_laws.specs.Passing.{gifts_in, gifts_in_all, gifts_in_note, PassesFrom, AllPassFrom, Provides}
+use Rattle.ev_gift_laws.proofs.Puts.{PutsOn, Puts, Fair, Nothing, PutTells, same, then_puts, first_fair, less_fair, fair_trans, spared, drawn_after, next_draw, length_more, out_end, drawn_up, passes_up, fair}
 
 -- ---- what is followed is no gift yet
 

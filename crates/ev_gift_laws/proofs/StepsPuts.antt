@@ -1,5 +1,5 @@
 -- Turns put gifts of new draws alone, each once, and tell of the vat as their provider; and so does what arrives, but that a view has the old host as its provider.
-use Rattle.std.proofs.Common.{◌≡◌, ℕ, suc, ◌≤◌, ◌<◌, Bool, true, false, List, [], ◌∷◌, refl, sym, ◌∙◌, arith, length, leb-true}
+use Rattle.std.proofs.Common.{◌≡◌, ℕ, suc, ◌≤◌, ◌<◌, Bool, true, false, List, refl, ◌∙◌, arith, leb-true}
 use Rattle.std.specs.Prelude.{nat_le}
 use Rattle.std.proofs.lemmas.Bool.{le-leb}
 use Rattle.ev_machine.specs.Values.{Name, Naming, naming}

@@ -1,10 +1,11 @@
 //! What holds of gifts in every world of every run: after any of the opening turns of a script, and
-//! after all of them and any entries of a schedule. Of the script nothing is asked.
+//! after all of them and any entries of a schedule.
 //!
 //! A name that is neither of the vat that passes it nor of the receiver passes as a gift, under a word
 //! that is drawn for it; and a vat that is told that a name settled at another vat has a gift there as
 //! its view, under a word that it draws.
 
+ghost use Rattle.ev_gift_laws.specs.News.{GiftsComeNew};
 ghost use Rattle.ev_gift_laws.specs.Passing.{GiftsPassOnce, EachDrawHasOneProvider};
 
 /// Of each draw at most one gift was ever put, in all notes on all links together, and none of a draw
@@ -22,4 +23,15 @@ pub fn gifts_pass_once()
 /// its host is entered with its provider.
 pub fn each_draw_has_one_provider()
     ensures { EachDrawHasOneProvider }
+{}
+
+/// The first note on a link brings each gift once at most, and none that is claimed at the receiver,
+/// where its gifts stand apart, and where the receiver claims each gift no more often than it may.
+///
+/// They stand apart where a gift that passes in the note is neither known to the receiver nor named in
+/// the note, and where each gift of the receiver's own that it knows, or that the note names, stands
+/// among its gifts. That they do in every run is not proved. No vat of the script may be told twice
+/// that it knows a vat, or that it knows itself.
+pub fn gifts_come_new()
+    ensures { GiftsComeNew }
 {}
