@@ -6,3 +6,4 @@ pub mod Links
 pub mod Laws
 pub mod Reading
 pub mod NewsLaws
+pub mod Standing

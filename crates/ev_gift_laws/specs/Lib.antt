@@ -1,2 +1,3 @@
 pub mod Passing
 pub mod News
+pub mod Standing

@@ -7,6 +7,7 @@
 
 ghost use Rattle.ev_gift_laws.specs.News.{GiftsComeNew};
 ghost use Rattle.ev_gift_laws.specs.Passing.{GiftsPassOnce, EachDrawHasOneProvider};
+ghost use Rattle.ev_gift_laws.specs.Standing.{GiftsStay, WhatIsOpenedOrAskedForStands};
 
 /// Of each draw at most one gift was ever put, in all notes on all links together, and none of a draw
 /// that was not made; and so it is with the notes that are under way.
@@ -23,6 +24,17 @@ pub fn gifts_pass_once()
 /// its host is entered with its provider.
 pub fn each_draw_has_one_provider()
     ensures { EachDrawHasOneProvider }
+{}
+
+/// A gift that stands at its host stands there after every step, whatever the names are and however
+/// the step ends.
+pub fn gifts_stay()
+    ensures { GiftsStay }
+{}
+
+/// Once a gift was opened by its provider, or asked for, it stands at the vat where that note arrived.
+pub fn what_is_opened_or_asked_for_stands()
+    ensures { WhatIsOpenedOrAskedForStands }
 {}
 
 /// The first note on a link brings each gift once at most, and none that is claimed at the receiver,
