@@ -1,5 +1,5 @@
 -- What arrives puts gifts of new draws alone, each once, and tells of their provider: of a view the old host of the name, and else the vat itself.
-use Rattle.std.proofs.Common.{◌≡◌, ℕ, ◌+◌, ◌≤◌, Bool, true, false, List, [], ◌∷◌, ◌++◌, Option, Some, None, refl, sym, arith, length, if◌then◌else◌, codes, ◌==◌, subst}
+use Rattle.std.proofs.Common.{◌≡◌, ℕ, ◌≤◌, Bool, true, false, List, [], ◌∷◌, ◌++◌, Option, Some, None, refl, sym, arith, length, if◌then◌else◌, codes, ◌==◌, subst}
 use Rattle.ev_machine.specs.Values.{Words, Value, Null, Flag, Number, Letter, Text, Prim, Broken, Items, Ref, Name, Naming, IsGift, naming, name_of}
 use Rattle.ev_machine.specs.State.{Standing, Unsettled, WaitsOn, Viewed, Settled, Known, Passed, Passeds, Plain, AGift, Many, NoMore, More, Note, Deliver, Open, Ask, SettledTo, Elsewhere, Shorten, Put, GiftEntry, Vat, Gives, Act, ◌>>=◌, ◌>>◌, and_then, give, look, come, new_gift, alter, tell, draw, draws, send_out, is_in, begun}
 use Rattle.ev_machine.specs.Refs.{Place, Near, Mine, Away, Gone, host_at, settle}

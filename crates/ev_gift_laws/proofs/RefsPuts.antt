@@ -1,15 +1,14 @@
 -- All that a vat does with references puts gifts of new draws alone, each once, and tells of their provider, which is the vat itself.
-use Rattle.std.proofs.Common.{◌≡◌, ℕ, zero, suc, ◌+◌, ◌≤◌, Bool, true, false, List, [], ◌∷◌, ◌++◌, Option, Some, None, refl, sym, ◌∙◌, arith, length, if◌then◌else◌, ◌==◌}
+use Rattle.std.proofs.Common.{◌≡◌, ℕ, zero, suc, ◌≤◌, Bool, true, false, List, [], ◌∷◌, ◌++◌, Option, Some, None, refl, sym, ◌∙◌, arith, length, if◌then◌else◌, ◌==◌}
 use Rattle.std.specs.Prelude.{nat_le}
 use Rattle.std.proofs.lemmas.Bool.{eq-eqb}
 use Rattle.ev_machine.specs.Values.{Words, Value, Null, Flag, Number, Letter, Text, Prim, Broken, Items, Ref, Name, Root, Object, Promise, Answer, Gift, Sent, Spot, Own, Foreign, NoObject, Naming, naming, spot_of}
-use Rattle.ev_machine.specs.State.{Message, Standing, Settled, Known, ToTell, Passed, Passeds, Plain, AGift, Many, NoMore, More, Deliver, Open, SettledTo, Put, Vat, Done, Gives, Throws, Ejects, Stops, Act, ◌>>=◌, ◌>>◌, and_then, each, give, look, spend, spent, draw, draws, send_out, alter, tell, Posted}
+use Rattle.ev_machine.specs.State.{Message, Standing, Settled, Known, ToTell, Passed, Passeds, Plain, AGift, Many, NoMore, More, Deliver, Open, SettledTo, Put, Vat, Done, Gives, Throws, Ejects, Stops, Act, ◌>>=◌, ◌>>◌, and_then, give, look, spend, spent, draw, draws, send_out, alter, tell, Posted}
 use Rattle.ev_machine.specs.Refs as refs
 use Rattle.ev_machine.specs.Refs.{Place, Near, Mine, Away, Gone}
 use Rattle.ev_machine.specs.Native.{list_at}
 use Rattle.ev_machine_laws.specs.Steps.{After}
 use Rattle.ev_machine_laws.proofs.Keeps.{Keeps}
-use Rattle.ev_fate_laws.specs.Fate.{once}
 use Rattle.ev_fate_laws.proofs.PlacesLast.{each_end}
 use Rattle.ev_fate_laws.proofs.Spares.{IsSparedUnder}
 use Rattle.ev_gift_laws.specs.Passing.{gifts_in, gifts_in_all, gifts_in_note, PassesFrom, AllPassFrom, Provides}

@@ -1,12 +1,12 @@
 -- A gift that stands at its host stays, and one that is opened or asked for stands.
-use Rattle.std.proofs.Common.{◌≡◌, ℕ, Bool, true, false, List, [], ◌∷◌, ◌++◌, Option, Some, None, refl, length, ◌⊎◌, inl, inr, ◌==◌}
+use Rattle.std.proofs.Common.{◌≡◌, ℕ, Bool, true, false, List, [], ◌∷◌, ◌++◌, Option, Some, None, refl, length, inl, inr, ◌==◌}
 use Rattle.std.proofs.lemmas.Bool.{eqb-true}
 use Rattle.ev_machine.specs.Values.{Name, Ref, Naming, IsGift, IsLearnt}
 use Rattle.ev_machine.specs.State.{GiftEntry, Vat, Done, Gives, Throws, Ejects, Stops, Act, ◌>>=◌, ◌>>◌, and_then, give, look, come, new_gift, open_gift, with_opened, is_gift, begun, Open, Ask}
 use Rattle.ev_machine.specs.Refs as refs
 use Rattle.ev_machine.specs.Arrive as arrive
 use Rattle.ev_machine.specs.Arrive.{Incoming, Old, New}
-use Rattle.ev_machine_laws.specs.Steps.{Step, After, does}
+use Rattle.ev_machine_laws.specs.Steps.{After}
 use Rattle.ev_machine_laws.proofs.Keeps.{Keeps, IsKept, IsKeptUnder, keeps_bind, keeps_then, keeps_open, keeps_look}
 use Rattle.ev_machine_laws.proofs.RefsKeeps.{keeps_resolve}
 use Rattle.ev_machine_laws.proofs.ArriveKeeps.{keeps_break_orphan, keeps_tell_asker}

@@ -1,7 +1,7 @@
 -- Gifts at their host.
 use Rattle.std.specs.Prelude.{◌≡◌, ℕ, List, [], ◌∷◌, ◌⊎◌}
 use Rattle.ev_machine.specs.Values.{Name, Naming}
-use Rattle.ev_machine.specs.State.{GiftEntry, Vat, Done, Gives, Throws, Ejects, Stops, Note, Open, Ask}
+use Rattle.ev_machine.specs.State.{GiftEntry, Vat, Done, Gives, Throws, Ejects, Stops, Open, Ask}
 use Rattle.ev_machine.specs.Arrive.{Incoming, arrive}
 use Rattle.ev_machine_laws.specs.Steps.{KeptBySteps}
 
