@@ -7,3 +7,4 @@ pub mod Laws
 pub mod Reading
 pub mod NewsLaws
 pub mod Standing
+pub mod Apart

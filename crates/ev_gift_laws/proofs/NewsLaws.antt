@@ -196,7 +196,7 @@ module _ (vats : List (Vat Name)) (d : ℕ) (P : ℕ → ℕ) (from to : ℕ) (s
   note_fine (Elsewhere nn c) t k o g = (name_alone nn, name_low nn k.0)
   note_fine (Shorten nn c j) t k o g = (name_alone nn, name_low nn k.0)
 
-allowed_is : (to h i d : ℕ) (s : Vat Name) → allowed to (Gift h i) s d ≡ once (nat_le (suc i) d)
+pub allowed_is : (to h i d : ℕ) (s : Vat Name) → allowed to (Gift h i) s d ≡ once (nat_le (suc i) d)
 unfolding allowed other numbered
 allowed_is to h i d s = omega arith
 

@@ -261,7 +261,7 @@ module _ (h i : ℕ) where
   unfolding onward one same_name once host_of
   onward_sent v m = never (h == v)
 
-  onward_none : (v : ℕ) (n : Name) (ms : List (Message Name)) → Each (HeldWell n) ms → onward_all v X ms ≡ 0
+  pub onward_none : (v : ℕ) (n : Name) (ms : List (Message Name)) → Each (HeldWell n) ms → onward_all v X ms ≡ 0
   unfolding onward_all
   onward_none v n [] w = refl
   onward_none v n (m ∷ ms) w = let here = w.0 in let id : NamesMessage m.id = here.1 in let a : onward v X m.id ≡ 0 = subst (λ z. onward v X z ≡ 0) (sym id.1) (onward_sent v id.0) in let rest = onward_none v n ms w.1 in omega arith

@@ -5,6 +5,7 @@
 //! that is drawn for it; and a vat that is told that a name settled at another vat has a gift there as
 //! its view, under a word that it draws.
 
+ghost use Rattle.ev_gift_laws.specs.Apart.{NewWhereApart};
 ghost use Rattle.ev_gift_laws.specs.News.{GiftsComeNew};
 ghost use Rattle.ev_gift_laws.specs.Passing.{GiftsPassOnce, EachDrawHasOneProvider};
 ghost use Rattle.ev_gift_laws.specs.Standing.{GiftsStay, WhatIsOpenedOrAskedForStands};
@@ -46,4 +47,11 @@ pub fn what_is_opened_or_asked_for_stands()
 /// that it knows a vat, or that it knows itself.
 pub fn gifts_come_new()
     ensures { GiftsComeNew }
+{}
+
+/// So the notes of a run bring what is new, as `names_are_known_once` asks of them, where the gifts of
+/// each note that arrives stand apart and where, of all names that are no gifts, it brings each once at
+/// most and none that is claimed at the receiver.
+pub fn notes_bring_new_where_gifts_stand_apart()
+    ensures { NewWhereApart }
 {}
