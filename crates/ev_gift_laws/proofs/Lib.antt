@@ -1,0 +1,10 @@
+pub mod Puts
+pub mod RefsPuts
+pub mod ArrivePuts
+pub mod StepsPuts
+pub mod Links
+pub mod Laws
+pub mod Reading
+pub mod NewsLaws
+pub mod Standing
+pub mod Apart

@@ -1,0 +1,4 @@
+pub mod Passing
+pub mod News
+pub mod Standing
+pub mod Apart

@@ -1,0 +1,27 @@
+-- Gifts at their host.
+use Rattle.std.specs.Prelude.{◌≡◌, ℕ, List, [], ◌∷◌, ◌⊎◌}
+use Rattle.ev_machine.specs.Values.{Name, Naming}
+use Rattle.ev_machine.specs.State.{GiftEntry, Vat, Done, Gives, Throws, Ejects, Stops, Open, Ask}
+use Rattle.ev_machine.specs.Arrive.{Incoming, arrive}
+use Rattle.ev_machine_laws.specs.Steps.{KeptBySteps}
+
+-- a gift of that provider and draw is among them
+abbrev pub Stands : ℕ → ℕ → List (GiftEntry Name) → Type 0
+Stands p i [] = ⊥
+Stands p i (g ∷ gs) = ((g.provider ≡ p) × (g.number ≡ i)) ⊎ Stands p i gs
+
+-- A gift that stands at a vat stands there after every step, whatever the names are and however the step ends.
+abbrev pub GiftsStay : Type 0
+GiftsStay = KeptBySteps {N = Name} {W = Name} (λ K s t. (p i : ℕ) → Stands p i s.gifts → Stands p i t.gifts)
+
+-- of the gifts at the vat, where what it does gives
+abbrev pub ThenStands : ℕ → ℕ → Done Name (Unit {0}) → Type 0
+ThenStands p i (Gives a t) = Stands p i t.gifts
+ThenStands p i (Throws x t) = Unit {0}
+ThenStands p i (Ejects n v t) = Unit {0}
+ThenStands p i (Stops c t) = Unit {0}
+
+-- So does a gift once it was opened by its provider, and once it was asked for.
+abbrev pub WhatIsOpenedOrAskedForStands : Type 0
+WhatIsOpenedOrAskedForStands = (K : Naming Name Name) (from p i : ℕ) (x : Incoming Name Name) (s : Vat Name)
+    → ThenStands from i (arrive K from (Open i x) s) × ThenStands p i (arrive K from (Ask p i x) s)
