@@ -1,8 +1,11 @@
 pub mod Cells
+pub mod Chars
 pub mod Depth
 pub mod Exits
+pub mod Grows
 pub mod Meets
 pub mod Objects
+pub mod Replies
 pub mod Stands
 pub mod Things
 pub mod Words

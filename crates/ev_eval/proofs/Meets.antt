@@ -1,5 +1,5 @@
 -- Evaluation over the state of the code is the machine's, on the trees that are built.
-use Rattle.std.proofs.Common.{◌≡◌, ℕ, zero, suc, true, List, [], ◌∷◌, ◌++◌, Option, Some, None, Ok, Err, map, refl, sym, ap, subst, ◌∙◌, append_assoc}
+use Rattle.std.proofs.Common.{◌≡◌, ℕ, zero, suc, true, false, List, [], ◌∷◌, ◌++◌, Option, Some, None, Ok, Err, length, map, refl, sym, ap, subst, ◌∙◌, append_assoc}
 use Rattle.std.specs.Prelude.{OnOk, Result, slice_get, is_none}
 use Rattle.std.proofs.lemmas.List.{map-append, length-map}
 use Rattle.ev_base.specs.SafeScope.{safe_value}
@@ -8,12 +8,13 @@ use Rattle.ev_heap.specs.declared.happened.Happened.TheVariants as event
 use Rattle.ev_kernel.specs.declared.node.Literal.{Literal}
 use Rattle.ev_kernel.specs.declared.node.Literal.TheVariants as literal
 use Rattle.ev_kernel.specs.declared.node.Node.{Node}
-use Rattle.ev_kernel.specs.declared.node.Node.TheVariants.{Lit, Noun, Set, Def, Call, Sequence, Object as ObjectNode, Method, Final, Var, Any}
+use Rattle.ev_kernel.specs.declared.node.Node.TheVariants.{Lit, Noun, Set, Def, Call, Sequence, If, Hide, Object as ObjectNode, Method, Final, Var, Any}
 use Rattle.ev_machine.specs.Values.{Words, Value, Null, Local}
 use Rattle.ev_machine.specs.State.{Bound, Fixed, Slot, Cell as TheirCell, Binding as Bond, Scope as Surroundings, Happened, Called, Back, Thrown, SlotMade, SlotRead, SlotWrote, ObjectMade, Made, Known, Vat, Done, Throws, Ejects, Stops, Fuel, Deep, Astray, for_some, opened_state}
 use Rattle.ev_machine.specs.State as machine
 use Rattle.ev_machine.specs.Scopes.{Answer, Answers, any_guard, bound_in}
 use Rattle.ev_machine.specs.Eval.{opened_eval}
+use Rattle.ev_machine.specs.Refs.{follow}
 use Rattle.ev_machine.specs.Scopes as scopes
 use Rattle.ev_machine.specs.Calls as calls
 use Rattle.ev_machine.specs.Eval as theirs
@@ -24,14 +25,16 @@ use Rattle.ev_eval.specs.declared.plain.Plain.TheVariants as plain
 use Rattle.ev_eval.specs.declared.room.Room.{Room}
 use Rattle.ev_eval.specs.declared.scope.Bound.TheVariants as scope
 use Rattle.ev_eval.specs.declared.scope.Scope.{Scope}
-use Rattle.ev_eval.specs.Built.{is_int, is_built_safe, is_built_verb, is_built_node, is_built}
+use Rattle.ev_eval.specs.Built.{is_built_literal, is_built_safe, is_built_node, is_built}
 use Rattle.ev_eval.specs.Reading.{World, names, all_promises, cell_of, vat_of}
 use Rattle.ev_eval.specs.Plain.{held_value, plain_cell, IsPlain}
-use Rattle.ev_eval.specs.Steps.{Out, Gives, Evaluator, ◌>>=◌, ◌>>◌, give, fail, new_slot, found_from, with_noun, call, gathered, last_of, call_node, define, literal_node, noun_node, set_node, step, bind_final, bind_var, bind_any, bind_step, step_found, bind_found, deeper, evaluator, opening, opened_steps}
+use Rattle.ev_eval.specs.Steps.{Out, Gives, Evaluator, ◌>>=◌, ◌>>◌, give, fail, new_slot, found_from, with_noun, call, gathered, last_of, call_node, define, literal_node, noun_node, set_node, within, hide_node, choose, if_node, step, bind_final, bind_var, bind_any, bind_step, step_found, bind_found, deeper, evaluator, opening, opened_steps}
 use Rattle.ev_base.specs.declared.memory.Memory.{Memory}
 use Rattle.ev_eval.specs.declared.turn.Ended.{Ended}
 use Rattle.ev_eval.specs.Turn.{Ends, EndsAs, opened}
-use Rattle.ev_eval.proofs.Stands.{IsMet, IsSound, Met, Stands, activation_met, answer_of, answers_of, bonds_onto, call_plain_met, found_is, get_built, give_met, made_line, none_bound, nothing_met, noun_met, onto_more, scope_of, spend_met, tell_met, then_met, val, vat, write_met}
+use Rattle.ev_eval.proofs.Stands.{IsMet, IsSound, Met, Stands, activation_met, answer_of, answers_of, bonds_onto, call_data_met, follow_plain, found_is, get_built, give_met, made_line, none_bound, nothing_met, noun_met, onto_more, scope_of, spend_met, tell_met, then_met, then_met_of, vat, write_met}
+use Rattle.ev_eval.proofs.Grows.{Grows, same, onward, cut_back, deeper_grows, none_grows}
+use Rattle.ev_eval.proofs.Replies.{val}
 use Rattle.ev_eval.proofs.Objects.{object_met, call_object_met}
 
 -- ---- nodes
@@ -101,18 +104,19 @@ last_met w tree rec their h x [] here s sound = give_met w (answer_of w) (x, her
 last_met w tree rec their h x (e ∷ es) here s sound = then_met _ _ (h.expression e here s sound) (λ a t q. last_met w tree rec their h a.0 es a.1 t q)
 
 call_met : (w : World) → all_promises w.known ≡ true → (tree : List Node) (rec : Evaluator) (their : scopes.Evaluator Local) (h : IsMet w rec their) (act : ℕ) (x : Plain) (verb : Words) (args : List Plain) (s : Room) (sound : IsSound s) → is_built tree ≡ true
-    → is_built_verb verb ≡ true → Met w (val w) (call tree rec act x verb args s) (calls.call (names w) tree their act (val w x) verb (map (val w) args) (vat w s))
+    → Met w (val w) (call tree rec act x verb args s) (calls.call (names w) tree their act (val w x) verb (map (val w) args) (vat w s))
 unfolding call
-call_met w fair tree rec their h act (plain.Obj i) verb args s sound built e = call_object_met w fair tree rec their h act i verb args s sound built
-call_met w fair tree rec their h act plain.Null verb args s sound built e = call_plain_met w fair tree their act plain.Null verb args s sound refl e
-call_met w fair tree rec their h act (plain.Int z) verb args s sound built e = call_plain_met w fair tree their act (plain.Int z) verb args s sound refl e
+call_met w fair tree rec their h act (plain.Obj i) verb args s sound built = call_object_met w fair tree rec their h act i verb args s sound built
+call_met w fair tree rec their h act plain.Null verb args s sound built = call_data_met w fair tree their act plain.Null verb args s sound refl
+call_met w fair tree rec their h act (plain.Bool b) verb args s sound built = call_data_met w fair tree their act (plain.Bool b) verb args s sound refl
+call_met w fair tree rec their h act (plain.Int z) verb args s sound built = call_data_met w fair tree their act (plain.Int z) verb args s sound refl
+call_met w fair tree rec their h act (plain.Char c) verb args s sound built = call_data_met w fair tree their act (plain.Char c) verb args s sound refl
 
 call_node_met : (w : World) → all_promises w.known ≡ true → (tree : List Node) (rec : Evaluator) (their : scopes.Evaluator Local) (h : IsMet w rec their) (id r : ℕ) (verb : Words) (args : List ℕ) (here : Scope) (s : Room) (sound : IsSound s) → is_built tree ≡ true
-    → is_built_verb verb ≡ true
     → Met w (answer_of w) (call_node tree rec r verb args here s) (theirs.step (names w) tree their id (Call r verb args) (scope_of w here) (vat w s))
 unfolding call_node theirs.step scopes.answered ◌>>=◌ machine.◌>>=◌
-call_node_met w fair tree rec their h id r verb args here s sound built e =
-    then_met _ _ (h.expression r here s sound) (λ x t ts. then_met _ _ (all_met w tree rec their h args x.1 t ts) (λ xs u us. then_met _ _ (call_met w fair tree rec their h here.act x.0 verb xs.0 u us built e) (λ v q qs. give_met w (answer_of w) (v, xs.1) q qs)))
+call_node_met w fair tree rec their h id r verb args here s sound built =
+    then_met _ _ (h.expression r here s sound) (λ x t ts. then_met _ _ (all_met w tree rec their h args x.1 t ts) (λ xs u us. then_met _ _ (call_met w fair tree rec their h here.act x.0 verb xs.0 u us built) (λ v q qs. give_met w (answer_of w) (v, xs.1) q qs)))
 
 definition_is : (w : World) (tree : List Node) (their : scopes.Evaluator Local) (id p e : ℕ) (sc : Surroundings Local) (v : Vat Local)
     → theirs.step (names w) tree their id (Def p None e) sc v
@@ -141,17 +145,56 @@ set_met w tree rec their h id x e here s sound =
     rw (found_is w here.nouns [] None x (none_bound w x))
     (then_met _ _ (h.expression e here s sound) (λ v t ts. then_met _ _ (write_met w tree their here.act (found_from None here.nouns x) v.0 t ts) (λ u q qs. give_met w (answer_of w) (u, v.1) q qs)))
 
-literal_met : (w : World) (tree : List Node) (their : scopes.Evaluator Local) (id : ℕ) (l : Literal) (here : Scope) (s : Room) (sound : IsSound s) → is_int l ≡ true
+literal_met : (w : World) (tree : List Node) (their : scopes.Evaluator Local) (id : ℕ) (l : Literal) (here : Scope) (s : Room) (sound : IsSound s) → is_built_literal l ≡ true
     → Met w (answer_of w) (literal_node l here s) (theirs.step (names w) tree their id (Lit l) (scope_of w here) (vat w s))
 unfolding opened_steps opened_eval
 literal_met w tree their id (literal.Int z) here s sound e = record { stands = (refl, sound) }
-literal_met w tree their id (literal.Char c) here s sound e = absurd (cc)
+literal_met w tree their id (literal.Char c) here s sound e = record { stands = (refl, sound) }
 literal_met w tree their id (literal.Text t) here s sound e = absurd (cc)
 
 sequence_met : (w : World) (tree : List Node) (rec : Evaluator) (their : scopes.Evaluator Local) (h : IsMet w rec their) (id : ℕ) (es : List ℕ) (here : Scope) (s : Room) (sound : IsSound s)
     → Met w (answer_of w) (last_of rec plain.Null es here s) (theirs.step (names w) tree their id (Sequence es) (scope_of w here) (vat w s))
 unfolding theirs.step
 sequence_met w tree rec their h id es here s sound = last_met w tree rec their h plain.Null es here s sound
+
+-- an expression whose names are dropped, in a scope that has grown from another
+within_met : (w : World) (rec : Evaluator) (their : scopes.Evaluator Local) (h : IsMet w rec their) (e : ℕ) (here inner : Scope) → Grows here inner → (s : Room) (sound : IsSound s)
+    → Met w (answer_of w) (within rec (length here.nouns) e inner s) (machine.and_then (their.expression e (scope_of w inner) (vat w s)) (λ x. scopes.answered (scope_of w here) x.value))
+unfolding within scopes.answered ◌>>=◌
+within_met w rec their h e here inner g s sound =
+    then_met_of _ _ (h.expression e inner s sound) (h.grows.expression e inner s)
+    (λ x t ts more. subst (λ (after : Scope). Met w (answer_of w) (give (x.0, after) t) (machine.give (record { value = val w x.0; scope = scope_of w here }) (vat w t)))
+    (sym (cut_back (onward g more))) (give_met w (answer_of w) (x.0, here) t ts))
+
+hide_met : (w : World) (tree : List Node) (rec : Evaluator) (their : scopes.Evaluator Local) (h : IsMet w rec their) (id e : ℕ) (here : Scope) (s : Room) (sound : IsSound s)
+    → Met w (answer_of w) (hide_node rec e here s) (theirs.step (names w) tree their id (Hide e) (scope_of w here) (vat w s))
+unfolding hide_node theirs.step machine.◌>>=◌
+hide_met w tree rec their h id e here s sound = within_met w rec their h e here here (same here) s sound
+
+choose_met : (w : World) (tree : List Node) (rec : Evaluator) (their : scopes.Evaluator Local) (h : IsMet w rec their) (a b : ℕ) (x : Plain) (here inner : Scope) → Grows here inner → (s : Room) (sound : IsSound s)
+    → Met w (answer_of w) (choose rec (length here.nouns) a b x inner s) (theirs.choose (names w) tree their a b (scope_of w here) (scope_of w inner) (val w x) (vat w s))
+unfolding choose fail theirs.choose machine.throw machine.◌>>=◌
+choose_met w tree rec their h a b (plain.Bool true) here inner g s sound = within_met w rec their h a here inner g s sound
+choose_met w tree rec their h a b (plain.Bool false) here inner g s sound =
+    subst (λ (after : Scope). Met w (answer_of w) (within rec (length here.nouns) b after s) (machine.and_then (their.expression b (scope_of w here) (vat w s)) (λ x. scopes.answered (scope_of w here) x.value)))
+    (sym (cut_back g)) (within_met w rec their h b here here (same here) s sound)
+choose_met w tree rec their h a b plain.Null here inner g s sound = record { stands = (refl, sound) }
+choose_met w tree rec their h a b (plain.Int z) here inner g s sound = record { stands = (refl, sound) }
+choose_met w tree rec their h a b (plain.Char c) here inner g s sound = record { stands = (refl, sound) }
+choose_met w tree rec their h a b (plain.Obj i) here inner g s sound = record { stands = (refl, sound) }
+
+if_is : (w : World) (tree : List Node) (their : scopes.Evaluator Local) (id c a b : ℕ) (sc : Surroundings Local) (v : Vat Local)
+    → theirs.step (names w) tree their id (If c a b) sc v
+    ≡ machine.and_then (their.expression c sc v) (λ x t. theirs.choose (names w) tree their a b sc x.scope (follow (names w) t x.value) t)
+unfolding theirs.step machine.◌>>=◌ machine.look machine.and_then
+if_is w tree their id c a b sc v = refl
+
+if_met : (w : World) → all_promises w.known ≡ true → (tree : List Node) (rec : Evaluator) (their : scopes.Evaluator Local) (h : IsMet w rec their) (id c a b : ℕ) (here : Scope) (s : Room) (sound : IsSound s)
+    → Met w (answer_of w) (if_node rec c a b here s) (theirs.step (names w) tree their id (If c a b) (scope_of w here) (vat w s))
+unfolding if_node ◌>>=◌
+if_met w fair tree rec their h id c a b here s sound =
+    rw (if_is w tree their id c a b (scope_of w here) (vat w s))
+    (then_met_of _ _ (h.expression c here s sound) (h.grows.expression c here s) (λ x t ts more. rw (follow_plain w fair t x.0) (choose_met w tree rec their h a b x.0 here x.1 more t ts)))
 
 step_met : (w : World) → all_promises w.known ≡ true → (tree : List Node) (rec : Evaluator) (their : scopes.Evaluator Local) (h : IsMet w rec their) (id : ℕ) (n : Node) (here : Scope) (s : Room) (sound : IsSound s) → is_built tree ≡ true
     → slice_get tree id ≡ Some n → is_built_node n ≡ true
@@ -161,8 +204,10 @@ step_met w fair tree rec their h id (Lit l) here s sound built found e = literal
 step_met w fair tree rec their h id (Noun x) here s sound built found e = noun_node_met w tree their id x here s sound e
 step_met w fair tree rec their h id (Set x v) here s sound built found e = set_met w tree rec their h id x v here s sound
 step_met w fair tree rec their h id (Def p j v) here s sound built found e = define_met w tree rec their h id p j v here s sound e
-step_met w fair tree rec their h id (Call r verb args) here s sound built found e = call_node_met w fair tree rec their h id r verb args here s sound built e
+step_met w fair tree rec their h id (Call r verb args) here s sound built found e = call_node_met w fair tree rec their h id r verb args here s sound built
 step_met w fair tree rec their h id (Sequence es) here s sound built found e = sequence_met w tree rec their h id es here s sound
+step_met w fair tree rec their h id (If c a b) here s sound built found e = if_met w fair tree rec their h id c a b here s sound
+step_met w fair tree rec their h id (Hide v) here s sound built found e = hide_met w tree rec their h id v here s sound
 step_met w fair tree rec their h id (ObjectNode p auditors ms) here s sound built found e = object_met w tree their id p auditors ms here s sound found e
 step_met w fair tree rec their h id (Method v ps b) here s sound built found e = record { stands = (refl, sound) }
 step_met w fair tree rec their h id (Final x g) here s sound built found e = record { stands = (refl, sound) }
@@ -240,6 +285,8 @@ bind_step_met w tree their (Set x b) v here s sound e = record { stands = (refl,
 bind_step_met w tree their (Def p j b) v here s sound e = record { stands = (refl, sound) }
 bind_step_met w tree their (Call r verb args) v here s sound e = record { stands = (refl, sound) }
 bind_step_met w tree their (Sequence es) v here s sound e = record { stands = (refl, sound) }
+bind_step_met w tree their (If c a b) v here s sound e = record { stands = (refl, sound) }
+bind_step_met w tree their (Hide b) v here s sound e = record { stands = (refl, sound) }
 bind_step_met w tree their (ObjectNode p auditors ms) v here s sound e = record { stands = (refl, sound) }
 bind_step_met w tree their (Method u ps b) v here s sound e = record { stands = (refl, sound) }
 bind_step_met w tree their _ v here s sound e = absurd (cc)
@@ -266,11 +313,12 @@ unfolding deeper theirs.deeper ◌>>◌ machine.◌>>◌
 deeper_met w fair tree rec their h built = record {
   expression = λ id here s sound. then_met _ _ (spend_met w s sound) (λ u t q. found_met w fair tree rec their h id (slice_get tree id) here t q built refl);
   pattern = λ id v here s sound. then_met _ _ (spend_met w s sound) (λ u t q. bind_met w tree their (slice_get tree id) v here t q (λ n e. get_built tree id n built e));
+  grows = deeper_grows tree rec h.grows;
 }
 
 evaluator_met : (w : World) → all_promises w.known ≡ true → (tree : List Node) (d : ℕ) → is_built tree ≡ true → IsMet w (evaluator tree d) (theirs.evaluator (names w) tree d)
 unfolding evaluator theirs.evaluator fail machine.stop
-evaluator_met w fair tree zero built = record { expression = λ id here s sound. record { stands = (refl, sound) }; pattern = λ id v here s sound. record { stands = (refl, sound) } }
+evaluator_met w fair tree zero built = record { expression = λ id here s sound. record { stands = (refl, sound) }; pattern = λ id v here s sound. record { stands = (refl, sound) }; grows = none_grows tree }
 evaluator_met w fair tree (suc d) built = deeper_met w fair tree (evaluator tree d) (theirs.evaluator (names w) tree d) (evaluator_met w fair tree d built) built
 
 -- ---- the opening turn

@@ -34,8 +34,9 @@ use Rattle.ev_eval.specs.Built.{is_nil, is_built_node, is_built}
 use Rattle.ev_eval.specs.Reading.{World, names, all_promises, text_of, thing_of, caught_in, capture_in, line_of, vat_of}
 use Rattle.ev_eval.specs.Plain.{held_value, plain_thing, capture_of, caught_of}
 use Rattle.ev_eval.specs.Steps.{Out, Evaluator, and_then, ◌>>=◌, ◌>>◌, fail, found_from, problem_id, bound_back, with_back, all_back, with_bound, captures, new_object, named, object_made, object_in, make_object, object_node, bind_all, suits, first_method, run_method, run_found, run_object, closed_by, closed, call_made, object_back, code_of, code_in, look_code, call_object}
+use Rattle.ev_eval.proofs.Replies.{val}
 use Rattle.ev_eval.proofs.Words.{same_is}
-use Rattle.ev_eval.proofs.Stands.{IsMet, IsSound, Met, Stands, activation_met, again_at, answer_of, back_line, bond_of, bonds_onto, bound_of, call_by, called_line, fail_met, follow_plain, found_is, found_of, get_built, give_met, none_bound, onto_more, scope_of, tell_met, then_met, val, vat}
+use Rattle.ev_eval.proofs.Stands.{IsMet, IsSound, Met, Stands, activation_met, again_at, answer_of, back_line, bond_of, bonds_onto, bound_of, call_by, called_line, fail_met, follow_plain, found_is, found_of, get_built, give_met, none_bound, onto_more, scope_of, tell_met, then_met, vat}
 
 -- ---- what an object holds
 
@@ -63,7 +64,9 @@ turned_is w bs = bonds_turned w [] bs [] ∙ append-nil (map (bond_of w) bs)
 
 bound_back_is : (b : Held) → bound_back (capture_of b) ≡ Some b
 bound_back_is (scope.Fixed plain.Null) = refl
+bound_back_is (scope.Fixed (plain.Bool b)) = refl
 bound_back_is (scope.Fixed (plain.Int z)) = refl
+bound_back_is (scope.Fixed (plain.Char c)) = refl
 bound_back_is (scope.Fixed (plain.Obj i)) = refl
 bound_back_is (scope.Slot k) = refl
 

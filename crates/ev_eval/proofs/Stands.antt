@@ -1,10 +1,9 @@
 -- What the state of the code stands for, and how its single steps stand for the machine's.
 use Rattle.std.proofs.Common.{◌≡◌, ℕ, zero, suc, ◌+◌, Bool, true, false, List, [], ◌∷◌, ◌++◌, Option, Some, None, Ok, Err, length, map, refl, sym, ap, subst, ◌∙◌, arith, append_assoc, append-nil}
-use Rattle.std.specs.Prelude.{not, ◌||◌, ℤ, ◌+ℤ◌, Result, slice_get, slice_set, codes, if◌then◌else◌, option_map, nat_le}
-use Rattle.std.specs.List.{position, list_any}
+use Rattle.std.specs.Prelude.{Result, slice_get, slice_set, codes, if◌then◌else◌, option_map, nat_le}
+use Rattle.std.specs.List.{position}
 use Rattle.std.specs.Str.{bytes_eq}
 use Rattle.std.proofs.lemmas.Option.{slice_get-map}
-use Rattle.std.proofs.lemmas.Slice.Eq.{bytes_eq-Decides}
 use Rattle.ev_base.specs.SafeScope.{primitives, safe_value}
 use Rattle.ev_base.specs.declared.values.Value.{Value as HeldValue}
 use Rattle.ev_base.specs.declared.values.Value.TheVariants as held
@@ -14,10 +13,8 @@ use Rattle.ev_kernel.specs.declared.node.Node.{Node}
 use Rattle.ev_machine.specs.Values.{Words, Value, Null, Flag, Ref, Local, Obj, Prom, Far, Mess, same_local, local_spot, numbering}
 use Rattle.ev_machine.specs.State.{Bound, Fixed, Slot, Cell as TheirCell, Binding as Bond, Scope as Surroundings, Happened, Called, Back, Thrown, SlotMade, SlotRead, SlotWrote, ObjectMade, Made, Known, Vat, Done, Throws, Ejects, Stops, Fuel, Deep, Astray, for_some, opened_state}
 use Rattle.ev_machine.specs.State as machine
-use Rattle.ev_machine.specs.Ints.{fits, Add, Subtract, Multiply, FloorDivide, Remainder, Mod, Pow, And, Or, Xor, opened_ints}
-use Rattle.ev_machine.specs.Native.{by_int, data_reply, int_reply, int_alone, int_with, int_unary, int_binary, IntVerb, Applies, Negates, AsChar, NoIntVerb, no_method, opened_native}
+use Rattle.ev_machine.specs.Native.{Reply, data_reply}
 use Rattle.ev_machine.specs.Refs.{follow, follow_at, led, standing_of, standing_in, severed, severed_at, entry_of}
-use Rattle.ev_machine.specs.Free.{same_words, entry}
 use Rattle.ev_machine.specs.Scopes.{Answer, Answers, any_guard, bound_in}
 use Rattle.ev_machine.specs.Eval.{opened_eval}
 use Rattle.ev_machine.specs.Scopes as scopes
@@ -27,7 +24,8 @@ use Rattle.ev_machine.specs.Eval as theirs
 use Rattle.ev_machine.specs.Native as native
 use Rattle.ev_eval.specs.declared.exit.Exit.TheVariants as exit
 use Rattle.ev_eval.specs.declared.exit.Problem.{Problem}
-use Rattle.ev_eval.specs.declared.exit.Problem.TheVariants.{Overflow, NotInt, NoMethod}
+use Rattle.ev_eval.specs.declared.exit.Problem.TheVariants.{Arithmetic, NotInt, NoMethod, NotChar, NotBoolean}
+use Rattle.ev_num.specs.declared.arithmetic.NumFault.TheVariants.{Overflow, ZeroDivisor, NegativePower}
 use Rattle.ev_eval.specs.declared.plain.Plain.{Plain}
 use Rattle.ev_eval.specs.declared.plain.Plain.TheVariants as plain
 use Rattle.ev_eval.specs.declared.room.Room.{Room}
@@ -36,18 +34,18 @@ use Rattle.ev_eval.specs.declared.scope.Bound.{Bound as Held}
 use Rattle.ev_eval.specs.declared.scope.Bound.TheVariants as scope
 use Rattle.ev_heap.specs.declared.kept.Cell.{Cell}
 use Rattle.ev_eval.specs.declared.scope.Scope.{Scope}
-use Rattle.ev_eval.specs.Built.{is_built_safe, is_built_verb, unbuilt_unary, unbuilt_binary, is_built_node, is_built}
+use Rattle.ev_eval.specs.Built.{is_built_safe, is_built_node, is_built}
+use Rattle.ev_eval.specs.Natives.{data_answer}
 use Rattle.ev_eval.specs.Reading.{World, names, all_promises, is_promise, text_of, value_of, cell_of, line_of, lines_of, vat_of}
 use Rattle.ev_eval.specs.Plain.{held_value, plain_cell, IsPlain}
-use Rattle.ev_eval.specs.Steps.{Out, Act, Evaluator, and_then, ◌>>◌, give, fail, answer, tell, spent, spend, new_activation, plain_of, write_told, slot_read, slot_found, read_slot, slot_written, write_slot, found_from, safe_plain, read_held, read_bound, write_held, write_bound, problem_id, sum_of, ended, data_answer, call_data, call_plain, opened_steps}
-use Rattle.ev_eval.proofs.Words.{same_is, same_turned, safe_is, chosen, others, no_others}
+use Rattle.ev_eval.specs.Steps.{Out, Act, Evaluator, and_then, ◌>>◌, give, fail, answer, tell, spent, spend, new_activation, plain_of, write_told, slot_read, slot_found, read_slot, slot_written, write_slot, found_from, safe_plain, read_held, read_bound, write_held, write_bound, problem_id, ended, call_data, opened_steps}
+use Rattle.ev_eval.proofs.Grows.{Holds, Of, free, IsGrowing}
+use Rattle.ev_eval.proofs.Replies.{val, problem_words, reply_of, reply_is}
+use Rattle.ev_eval.proofs.Words.{same_is, safe_is, chosen, others, no_others}
 
 -- what the state of the code stands for
 abbrev pub vat : World → Room → Vat Local
 vat w s = vat_of w s.heap s.micro
-
-abbrev pub val : World → Plain → Value Local
-val w v = value_of w (held_value v)
 
 abbrev pub bound_of : World → Held → Bound Local
 bound_of w (scope.Fixed v) = Fixed (val w v) any_guard
@@ -88,20 +86,25 @@ pub record Met {A B : Type 0} (w : World) (look : A → B) (o : Out A) (d : Done
 
 -- ---- one thing after another
 
-pub then_stands : {A B C D : Type 0} (w : World) (look : A → B) (look' : C → D) (o : Out A) (d : Done Local B) (f : A → Act C) (g : B → machine.Act Local D)
-    → Stands w look o d → ((a : A) (t : Room) → IsSound t → Met w look' (f a t) (g (look a) (vat w t))) → Met w look' (and_then o f) (machine.and_then d g)
+pub then_stands : {A B C D : Type 0} (w : World) (look : A → B) (look' : C → D) (P : A → Type 0) (o : Out A) (d : Done Local B) (f : A → Act C) (g : B → machine.Act Local D)
+    → Stands w look o d → Holds P o → ((a : A) (t : Room) → IsSound t → P a → Met w look' (f a t) (g (look a) (vat w t))) → Met w look' (and_then o f) (machine.and_then d g)
 unfolding and_then opened_state
-then_stands {B = B} w look look' (Ok a, s) d f g h k = record { stands = subst (λ (x : Done Local B). Stands w look' (f a s) (machine.and_then x g)) (sym h.0) (k a s h.1).stands }
-then_stands w look look' (Err (exit.Thrown id), s) d f g h k = record { stands = (rw h.0 refl, h.1) }
-then_stands w look look' (Err exit.Fuel, s) d f g h k = record { stands = (rw h.0 refl, h.1) }
-then_stands w look look' (Err exit.Deep, s) d f g h k = record { stands = (rw h.0 refl, h.1) }
-then_stands w look look' (Err exit.Astray, s) d f g h k = record { stands = (rw h.0 refl, h.1) }
-then_stands w look look' (Err exit.Unbuilt, s) d f g h k = absurd h
-then_stands w look look' (Err exit.Memory, s) d f g h k = absurd h
+then_stands {B = B} w look look' P (Ok a, s) d f g h p k = record { stands = subst (λ (x : Done Local B). Stands w look' (f a s) (machine.and_then x g)) (sym h.0) (k a s h.1 p).stands }
+then_stands w look look' P (Err (exit.Thrown id), s) d f g h p k = record { stands = (rw h.0 refl, h.1) }
+then_stands w look look' P (Err exit.Fuel, s) d f g h p k = record { stands = (rw h.0 refl, h.1) }
+then_stands w look look' P (Err exit.Deep, s) d f g h p k = record { stands = (rw h.0 refl, h.1) }
+then_stands w look look' P (Err exit.Astray, s) d f g h p k = record { stands = (rw h.0 refl, h.1) }
+then_stands w look look' P (Err exit.Unbuilt, s) d f g h p k = absurd h
+then_stands w look look' P (Err exit.Memory, s) d f g h p k = absurd h
 
 pub then_met : {A B C D : Type 0} {w : World} {look : A → B} {look' : C → D} {o : Out A} {d : Done Local B} (f : A → Act C) (g : B → machine.Act Local D)
     → Met w look o d → ((a : A) (t : Room) → IsSound t → Met w look' (f a t) (g (look a) (vat w t))) → Met w look' (and_then o f) (machine.and_then d g)
-then_met {w = w} {look = look} {look' = look'} {o = o} {d = d} f g h k = then_stands w look look' o d f g h.stands k
+then_met {A = A} {w = w} {look = look} {look' = look'} {o = o} {d = d} f g h k = then_stands w look look' (λ (a : A). Unit {0}) o d f g h.stands (free o) (λ a t q u. k a t q)
+
+-- the same, where something is known of what is given
+pub then_met_of : {A B C D : Type 0} {w : World} {look : A → B} {look' : C → D} {P : A → Type 0} {o : Out A} {d : Done Local B} (f : A → Act C) (g : B → machine.Act Local D)
+    → Met w look o d → Of P o → ((a : A) (t : Room) → IsSound t → P a → Met w look' (f a t) (g (look a) (vat w t))) → Met w look' (and_then o f) (machine.and_then d g)
+then_met_of {w = w} {look = look} {look' = look'} {P = P} {o = o} {d = d} f g h p k = then_stands w look look' P o d f g h.stands p.holds k
 
 -- ---- the single changes
 
@@ -129,15 +132,14 @@ tell_met w e h s sound is = record { stands = (ap (λ (hs : List (Happened Local
 
 -- ---- calls
 
-abbrev pub problem_words : Problem → Words
-problem_words Overflow = codes "integer overflow"
-problem_words NotInt = codes "not int"
-problem_words NoMethod = codes "no method"
-
 pub problem_text : (w : World) (p : Problem) → text_of w (problem_id p) ≡ problem_words p
-problem_text w Overflow = refl
+problem_text w (Arithmetic Overflow) = refl
+problem_text w (Arithmetic ZeroDivisor) = refl
+problem_text w (Arithmetic NegativePower) = refl
 problem_text w NotInt = refl
 problem_text w NoMethod = refl
+problem_text w NotChar = refl
+problem_text w NotBoolean = refl
 
 abbrev pub outcome : World → Result Plain Problem → machine.Act Local (Value Local)
 outcome w (Ok v) = machine.give (val w v)
@@ -181,15 +183,6 @@ pub both : (a b : Bool) → (if a then b else false) ≡ true → (a ≡ true) �
 both true b h = (refl, h)
 both false b h = cc
 
-neither : (a b : Bool) → not (a || b) ≡ true → (a ≡ false) × (b ≡ false)
-neither true b h = cc
-neither false true h = cc
-neither false false h = (refl, refl)
-
-one_false : (a b : Bool) → (a || b) ≡ false → (a ≡ false) × (b ≡ false)
-one_false true b h = cc
-one_false false b h = (refl, h)
-
 passed : {A : Type 0} (b : Bool) (a c : A) → b ≡ false → elim b [ true ↦ a | false ↦ c ] ≡ c
 passed true a c h = absurd (cc)
 passed false a c h = refl
@@ -230,7 +223,9 @@ follow_object w fair s i = follow_none w (vat w s) i (rw (known_is w s) (no_entr
 pub follow_plain : (w : World) → all_promises w.known ≡ true → (s : Room) (x : Plain) → follow (names w) (vat w s) (val w x) ≡ val w x
 unfolding follow follow_at severed
 follow_plain w fair s plain.Null = refl
+follow_plain w fair s (plain.Bool b) = refl
 follow_plain w fair s (plain.Int z) = refl
+follow_plain w fair s (plain.Char c) = refl
 follow_plain w fair s (plain.Obj i) = follow_object w fair s i
 
 follow_all : (w : World) → all_promises w.known ≡ true → (s : Room) (xs : List Plain) → map (follow (names w) (vat w s)) (map (val w) xs) ≡ map (val w) xs
@@ -243,101 +238,23 @@ abbrev pub is_data : Plain → Bool
 is_data (plain.Obj i) = false
 is_data _ = true
 
-lists_are : (w : World) (s : Room) → (vat w s).lists ≡ w.lists
-unfolding vat_of
-lists_are w s = refl
-
-reply_is : (w : World) (tree : List Node) (again : scopes.Caller Local) (act : ℕ) (y : Value Local) (verb : Words) (vs : List (Value Local)) (v : Vat Local)
+replied : (w : World) (tree : List Node) (again : scopes.Caller Local) (act : ℕ) (y : Value Local) (verb : Words) (vs : List (Value Local)) (v : Vat Local)
     → perform.data_answer (names w) tree again act y verb vs v ≡ perform.reply (names w) tree again act (data_reply v.lists y verb vs (map (follow (names w) v) vs)) v
 unfolding perform.data_answer opened_state
-reply_is w tree again act y verb vs v = refl
+replied w tree again act y verb vs v = refl
 
--- what a value that evaluation makes answers, in the machine
-unfoldable answered_by : (w : World) (tree : List Node) (again : scopes.Caller Local) (act : ℕ) (x : Plain) (verb : Words) (args : List Plain) (v : Vat Local) → Done Local (Value Local)
-answered_by w tree again act x verb args v = perform.reply (names w) tree again act (data_reply v.lists (val w x) verb (map (val w) args) (map (val w) args)) v
+outcome_is : (w : World) (tree : List Node) (again : scopes.Caller Local) (act : ℕ) (r : Result Plain Problem) (v : Vat Local) → perform.reply (names w) tree again act (reply_of w r) v ≡ outcome w r v
+unfolding perform.reply
+outcome_is w tree again act (Ok x) v = refl
+outcome_is w tree again act (Err p) v = refl
 
-fits_or_not : (w : World) (tree : List Node) (rec : scopes.Caller Local) (act : ℕ) (b : Bool) (z : ℤ) (v : Vat Local)
-    → perform.reply (names w) tree rec act (by_int (elim b [ true ↦ Ok z | false ↦ Err (codes "integer overflow") ])) v ≡ outcome w (if b then Ok (plain.Int z) else Err Overflow) v
-unfolding opened_eval opened_native
-fits_or_not w tree rec act true z v = refl
-fits_or_not w tree rec act false z v = refl
-
-sum_is : (w : World) (tree : List Node) (again : scopes.Caller Local) (act : ℕ) (x : Plain) (args : List Plain) (v : Vat Local) → is_data x ≡ true
-    → answered_by w tree again act x (codes "add") args v ≡ outcome w (sum_of x args) v
-unfolding answered_by opened_eval opened_native opened_steps opened_ints fits
-sum_is w tree again act plain.Null args v e = refl
-sum_is w tree again act (plain.Obj i) args v e = absurd (cc)
-sum_is w tree again act (plain.Int x) [] v e = refl
-sum_is w tree again act (plain.Int x) (plain.Int y ∷ []) v e = fits_or_not w tree again act (fits (x +ℤ y)) (x +ℤ y) v
-sum_is w tree again act (plain.Int x) (plain.Null ∷ []) v e = refl
-sum_is w tree again act (plain.Int x) (plain.Obj i ∷ []) v e = refl
-sum_is w tree again act (plain.Int x) (y ∷ z ∷ zs) v e = refl
-
--- the last one, where a text is no key of a table
-none_entered : {A : Type 0} (es : List (Words × A)) (d : A) (x : Words) → list_any (bytes_eq x) (map (λ e. e.0) es) ≡ false → entry es d x ≡ d
-unfolding entry
-none_entered [] d x h = refl
-none_entered (e ∷ es) d x h =
-    let s = one_false (bytes_eq x e.0) (list_any (bytes_eq x) (map (λ e. e.0) es)) h in
-    passed (same_words e.0 x) e.1 (entry es d x) (same_turned e.0 x ∙ s.0) ∙ none_entered es d x s.1
-
-no_unary : (verb : Words) → list_any (bytes_eq verb) unbuilt_unary ≡ false → int_unary verb ≡ NoIntVerb
-unfolding int_unary
-no_unary verb h = none_entered ((codes "negate", Negates) ∷ (codes "asChar", AsChar) ∷ []) NoIntVerb verb h
-
-or_false : (a b : Bool) → a ≡ false → b ≡ false → (a || b) ≡ false
-or_false true b h k = cc
-or_false false b h k = k
-
-no_binary : (verb : Words) → bytes_eq verb (codes "add") ≡ false → list_any (bytes_eq verb) unbuilt_binary ≡ false → int_binary verb ≡ NoIntVerb
-unfolding int_binary
-no_binary verb a h = none_entered (
-    (codes "add", Applies Add) ∷ (codes "subtract", Applies Subtract) ∷ (codes "multiply", Applies Multiply) ∷ (codes "floorDivide", Applies FloorDivide)
-    ∷ (codes "remainder", Applies Remainder) ∷ (codes "mod", Applies Mod) ∷ (codes "pow", Applies Pow)
-    ∷ (codes "and", Applies And) ∷ (codes "or", Applies Or) ∷ (codes "xor", Applies Xor) ∷ []) NoIntVerb verb (or_false (bytes_eq verb (codes "add")) (list_any (bytes_eq verb) unbuilt_binary) a h)
-
-int_none : (x : ℤ) (verb : Words) (args : List (Value Local)) → int_unary verb ≡ NoIntVerb → int_binary verb ≡ NoIntVerb → int_reply x verb args ≡ no_method
-unfolding int_reply int_alone int_with
-int_none x verb [] u b = rw u refl
-int_none x verb (y ∷ []) u b = rw b refl
-int_none x verb (y ∷ z ∷ zs) u b = refl
-
-plain_none : (x : Plain) (ls : List (List (Value Local))) (w : World) (verb : Words) (vs : List (Value Local)) → int_unary verb ≡ NoIntVerb → int_binary verb ≡ NoIntVerb
-    → data_reply ls (val w x) verb vs vs ≡ no_method
-unfolding data_reply
-plain_none plain.Null ls w verb vs u b = refl
-plain_none (plain.Int x) ls w verb vs u b = int_none x verb vs u b
-plain_none (plain.Obj i) ls w verb vs u b = refl
-
-no_method_is : (w : World) (tree : List Node) (again : scopes.Caller Local) (act : ℕ) (v : Vat Local) → perform.reply (names w) tree again act no_method v ≡ outcome w (Err NoMethod) v
-unfolding perform.reply no_method opened_state
-no_method_is w tree again act v = refl
-
-other_is : (w : World) (tree : List Node) (again : scopes.Caller Local) (act : ℕ) (x : Plain) (verb : Words) (args : List Plain) (v : Vat Local)
-    → bytes_eq verb (codes "add") ≡ false → is_built_verb verb ≡ true → answered_by w tree again act x verb args v ≡ outcome w (Err NoMethod) v
-unfolding answered_by
-other_is w tree again act x verb args v a e =
-    let s = neither (list_any (bytes_eq verb) unbuilt_binary) (list_any (bytes_eq verb) unbuilt_unary) e in
-    rw (plain_none x v.lists w verb (map (val w) args) (no_unary verb s.1) (no_binary verb a s.0)) (no_method_is w tree again act v)
-
-add_is : (w : World) (tree : List Node) (again : scopes.Caller Local) (act : ℕ) (x : Plain) (verb : Words) (args : List Plain) (v : Vat Local) → is_data x ≡ true
-    → bytes_eq verb (codes "add") ≡ true → answered_by w tree again act x verb args v ≡ outcome w (sum_of x args) v
-add_is w tree again act x verb args v d a =
-    let is : verb ≡ codes "add" = (bytes_eq-Decides verb (codes "add")).0 a in
-    subst (λ (u : Words). answered_by w tree again act x u args v ≡ outcome w (sum_of x args) v) (sym is) (sum_is w tree again act x args v d)
-
-by_verb : (w : World) (tree : List Node) (again : scopes.Caller Local) (act : ℕ) (x : Plain) (verb : Words) (args : List Plain) (v : Vat Local) (b : Bool) → is_data x ≡ true
-    → bytes_eq verb (codes "add") ≡ b → is_built_verb verb ≡ true → answered_by w tree again act x verb args v ≡ outcome w (if b then sum_of x args else Err NoMethod) v
-by_verb w tree again act x verb args v true d a e = add_is w tree again act x verb args v d a
-by_verb w tree again act x verb args v false d a e = other_is w tree again act x verb args v a e
-
-answer_is : (w : World) → all_promises w.known ≡ true → (tree : List Node) (again : scopes.Caller Local) (act : ℕ) (x : Plain) (verb : Words) (args : List Plain) (s : Room) → is_data x ≡ true
-    → is_built_verb verb ≡ true → perform.data_answer (names w) tree again act (val w x) verb (map (val w) args) (vat w s) ≡ outcome w (data_answer verb x args) (vat w s)
-unfolding data_answer answered_by
-answer_is w fair tree again act x verb args s d e =
-    reply_is w tree again act (val w x) verb (map (val w) args) (vat w s)
+answer_is : (w : World) → all_promises w.known ≡ true → (tree : List Node) (again : scopes.Caller Local) (act : ℕ) (x : Plain) (verb : Words) (args : List Plain) (s : Room)
+    → perform.data_answer (names w) tree again act (val w x) verb (map (val w) args) (vat w s) ≡ outcome w (data_answer verb x args) (vat w s)
+answer_is w fair tree again act x verb args s =
+    replied w tree again act (val w x) verb (map (val w) args) (vat w s)
     ∙ ap (λ (vs : List (Value Local)). perform.reply (names w) tree again act (data_reply (vat w s).lists (val w x) verb (map (val w) args) vs) (vat w s)) (follow_all w fair s args)
-    ∙ by_verb w tree again act x verb args (vat w s) (bytes_eq verb (codes "add")) d refl e
+    ∙ ap (λ (r : Reply Local). perform.reply (names w) tree again act r (vat w s)) (reply_is w (vat w s).lists x verb args)
+    ∙ outcome_is w tree again act (data_answer verb x args) (vat w s)
 
 vals_is : (w : World) (args : List Plain) → map (value_of w) (map held_value args) ≡ map (val w) args
 vals_is w [] = refl
@@ -365,29 +282,25 @@ data_lines : (w : World) (tree : List Node) (rec : scopes.Evaluator Local) (agai
     ≡ scopes.with_lines act (val w x) verb vs (perform.data_answer (names w) tree again act (val w x) verb vs) v
 unfolding calls.call_value
 data_lines w tree rec again act plain.Null verb vs v d = refl
+data_lines w tree rec again act (plain.Bool b) verb vs v d = refl
 data_lines w tree rec again act (plain.Int z) verb vs v d = refl
+data_lines w tree rec again act (plain.Char c) verb vs v d = refl
 data_lines w tree rec again act (plain.Obj i) verb vs v d = absurd (cc)
 
-with_lines_met : (w : World) → all_promises w.known ≡ true → (tree : List Node) (again : scopes.Caller Local) (act : ℕ) (x : Plain) (verb : Words) (args : List Plain) (s : Room) (sound : IsSound s) → is_data x ≡ true
-    → is_built_verb verb ≡ true
+with_lines_met : (w : World) → all_promises w.known ≡ true → (tree : List Node) (again : scopes.Caller Local) (act : ℕ) (x : Plain) (verb : Words) (args : List Plain) (s : Room) (sound : IsSound s)
     → Met w (val w) (call_data act x verb args s) (scopes.with_lines act (val w x) verb (map (val w) args) (perform.data_answer (names w) tree again act (val w x) verb (map (val w) args)) (vat w s))
 unfolding call_data scopes.with_lines ◌>>◌ machine.◌>>◌
-with_lines_met w fair tree again act x verb args s sound d e =
+with_lines_met w fair tree again act x verb args s sound =
     then_met _ _ (tell_met w (event.Call act (held_value x) verb (map held_value args) None) (Called act (val w x) verb (map (val w) args) None) s sound (called_line w act x verb args None))
-    (λ u t q. ended_met w act (data_answer verb x args) (perform.data_answer (names w) tree again act (val w x) verb (map (val w) args)) t q (answer_is w fair tree again act x verb args t d e))
+    (λ u t q. ended_met w act (data_answer verb x args) (perform.data_answer (names w) tree again act (val w x) verb (map (val w) args)) t q (answer_is w fair tree again act x verb args t))
 
-plain_built : (act : ℕ) (x : Plain) (verb : Words) (args : List Plain) (s : Room) → is_built_verb verb ≡ true → call_plain act x verb args s ≡ call_data act x verb args s
-unfolding call_plain
-plain_built act x verb args s e = rw e refl
-
-pub call_plain_met : (w : World) → all_promises w.known ≡ true → (tree : List Node) (rec : scopes.Evaluator Local) (act : ℕ) (x : Plain) (verb : Words) (args : List Plain) (s : Room) (sound : IsSound s) → is_data x ≡ true
-    → is_built_verb verb ≡ true → Met w (val w) (call_plain act x verb args s) (calls.call (names w) tree rec act (val w x) verb (map (val w) args) (vat w s))
-call_plain_met w fair tree rec act x verb args s sound d e =
+pub call_data_met : (w : World) → all_promises w.known ≡ true → (tree : List Node) (rec : scopes.Evaluator Local) (act : ℕ) (x : Plain) (verb : Words) (args : List Plain) (s : Room) (sound : IsSound s) → is_data x ≡ true
+    → Met w (val w) (call_data act x verb args s) (calls.call (names w) tree rec act (val w x) verb (map (val w) args) (vat w s))
+call_data_met w fair tree rec act x verb args s sound d =
     rw (
-      plain_built act x verb args s e,
       call_by w tree rec act (val w x) (val w x) verb (map (val w) args) (vat w s) (follow_plain w fair s x),
       data_lines w tree rec (again_at w tree rec (vat w s)) act x verb (map (val w) args) (vat w s) d,
-    ) (with_lines_met w fair tree (again_at w tree rec (vat w s)) act x verb args s sound d e)
+    ) (with_lines_met w fair tree (again_at w tree rec (vat w s)) act x verb args s sound)
 
 -- ---- nouns
 
@@ -427,8 +340,8 @@ pub safe_cases : (w : World) (a b c : Bool) (o : Option ℕ) (m : Option (Value 
     (for_some (chosen a b c (Some Null) (Some (Flag true)) (Some (Flag false)) m) machine.give (machine.stop Astray) (vat w s))
 unfolding opened_steps opened_state chosen
 safe_cases w true b c o m s sound e h = record { stands = (refl, sound) }
-safe_cases w false true c o m s sound e h = absurd (cc)
-safe_cases w false false true o m s sound e h = absurd (cc)
+safe_cases w false true c o m s sound e h = record { stands = (refl, sound) }
+safe_cases w false false true o m s sound e h = record { stands = (refl, sound) }
 safe_cases w false false false (Some n) m s sound e h = absurd (cc)
 safe_cases w false false false None m s sound e h = record { stands = (rw (h refl) refl, sound) }
 
@@ -446,7 +359,9 @@ plain_at (v ∷ vs) (suc k) c e = plain_at vs k c e
 
 pub plain_back : (v : Plain) → plain_of (held_value v) ≡ Some v
 plain_back plain.Null = refl
+plain_back (plain.Bool b) = refl
 plain_back (plain.Int z) = refl
+plain_back (plain.Char c) = refl
 plain_back (plain.Obj i) = refl
 
 pub read_line : (w : World) (act k : ℕ) (v : Plain) → line_of w (event.Read act k (held_value v)) ≡ SlotRead act k (val w v) ∷ []
@@ -565,7 +480,9 @@ pub writing_is : (w : World) (tree : List Node) (rec : scopes.Evaluator Local) (
     ≡ machine.and_then (machine.write_slot k (val w v) y) (λ t. λ z. machine.and_then (machine.tell (SlotWrote act k (val w v)) z) (λ u. machine.give (val w v)))
 unfolding opened_eval
 writing_is w tree rec act k u plain.Null y = refl
+writing_is w tree rec act k u (plain.Bool b) y = refl
 writing_is w tree rec act k u (plain.Int z) y = refl
+writing_is w tree rec act k u (plain.Char c) y = refl
 writing_is w tree rec act k u (plain.Obj i) y = refl
 
 pub gives_on : {A B : Type 0} (a : A) (v : Vat Local) (f : A → machine.Act Local B) → machine.and_then (machine.Gives a v) f ≡ f a v
@@ -635,3 +552,4 @@ get_built (m ∷ ns) (suc id) n h e = get_built ns id n (both (is_built_node m) 
 pub record IsMet (w : World) (rec : Evaluator) (their : scopes.Evaluator Local) : Type 0 where
   pub expression : (id : ℕ) (here : Scope) (s : Room) → IsSound s → Met w (answer_of w) (rec.expression id here s) (their.expression id (scope_of w here) (vat w s))
   pub pattern : (id : ℕ) (v : Plain) (here : Scope) (s : Room) → IsSound s → Met w (scope_of w) (rec.pattern id v here s) (their.pattern id (val w v) Null (scope_of w here) (vat w s))
+  pub grows : IsGrowing rec

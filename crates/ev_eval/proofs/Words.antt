@@ -1,6 +1,6 @@
 -- The two tests of words are one, and the safe scope of the code is that of the machine.
-use Rattle.std.proofs.Common.{◌≡◌, ℕ, suc, Bool, true, false, nat_eq, List, [], ◌∷◌, Option, Some, None, refl, sym, ◌∙◌, arith}
-use Rattle.std.specs.Prelude.{codes}
+use Rattle.std.proofs.Common.{◌≡◌, ℕ, suc, Bool, true, false, nat_eq, List, [], ◌∷◌, Option, Some, None, map, refl, sym, ◌∙◌, arith}
+use Rattle.std.specs.Prelude.{codes, if◌then◌else◌}
 use Rattle.std.specs.List.{position}
 use Rattle.std.specs.Str.{bytes_eq}
 use Rattle.std.proofs.lemmas.Bool.Decides.{nat_tests, same_from_decides}
@@ -10,6 +10,7 @@ use Rattle.ev_base.specs.SafeScope.{primitives}
 use Rattle.ev_machine.specs.Values.{Words, Value, Null, Flag, Prim}
 use Rattle.ev_machine.specs.Free.{same_words, entry}
 use Rattle.ev_machine.specs.Native.{safe_value}
+use Rattle.ev_eval.specs.Natives.{picked}
 
 split : (t u : Bool) → elim t [ true ↦ u | false ↦ false ] ≡ true → (t ≡ true) × (u ≡ true)
 split true u h = (refl, h)
@@ -45,6 +46,21 @@ same_turned a b = same_from_decides _ _ (same_true a b, same_of a b) (bytes_eq-D
 
 pub same_is : (a b : Words) → same_words a b ≡ bytes_eq a b
 same_is a b = same_from_decides _ _ ((λ e. sym (same_true a b e)), (λ e. same_of a b (sym e))) (bytes_eq-Decides a b)
+
+-- ---- tables
+
+turned_choice : {A B : Type 0} (f : A → B) (b c : Bool) (a r : A) (q : B) → c ≡ b → f r ≡ q → f (if b then a else r) ≡ elim c [ true ↦ f a | false ↦ q ]
+turned_choice f true true a r q e h = refl
+turned_choice f false false a r q e h = h
+turned_choice f true false a r q e h = absurd (cc)
+turned_choice f false true a r q e h = absurd (cc)
+
+-- an entry of the code is that of the machine's table
+pub entry_picked : {A B : Type 0} (f : A → B) (es : List (Words × A)) (d : A) (x : Words) → f (picked es d x) ≡ entry (map (λ (e : Words × A). (e.0, f e.1)) es) (f d) x
+unfolding entry
+entry_picked f [] d x = refl
+entry_picked {A = A} f (e ∷ es) d x =
+    turned_choice f (bytes_eq x e.0) (same_words e.0 x) e.1 (picked es d x) (entry (map (λ (g : Words × A). (g.0, f g.1)) es) (f d) x) (same_turned e.0 x) (entry_picked f es d x)
 
 -- ---- the safe scope
 

@@ -13,14 +13,16 @@ use Rattle.ev_heap.specs.declared.kept.Shape.TheVariants.{Made}
 use Rattle.ev_heap.specs.declared.kept.Thing.{Thing}
 use Rattle.ev_eval.specs.declared.object.Object.{Object}
 use Rattle.ev_eval.specs.declared.plain.Plain.{Plain}
-use Rattle.ev_eval.specs.declared.plain.Plain.TheVariants.{Null, Int, Obj}
+use Rattle.ev_eval.specs.declared.plain.Plain.TheVariants.{Null, Bool, Int, Char, Obj}
 use Rattle.ev_eval.specs.declared.scope.Binding.{Binding}
 use Rattle.ev_eval.specs.declared.scope.Bound.{Bound}
 use Rattle.ev_eval.specs.declared.scope.Bound.TheVariants.{Fixed, Slot}
 
 abbrev pub held_value : Plain → Value
 held_value Null = held.Null
+held_value (Bool b) = held.Bool b
 held_value (Int z) = held.Int z
+held_value (Char c) = held.Char c
 held_value (Obj i) = held.Obj i
 
 -- the guard of a name that has none

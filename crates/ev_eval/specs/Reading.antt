@@ -40,7 +40,9 @@ pub record World : Type 0 where
 
 -- the problems that evaluation throws, the first texts of a heap
 abbrev pub problems : List Words
-problems = codes "integer overflow" ∷ codes "not int" ∷ codes "no method" ∷ []
+problems =
+    codes "integer overflow" ∷ codes "not int" ∷ codes "no method" ∷ codes "zero divisor" ∷ codes "negative power" ∷ codes "not char"
+    ∷ codes "not boolean" ∷ []
 
 abbrev pub text_of : World → ℕ → Words
 text_of w id = unwrap_or (slice_get (problems ++ w.texts) id) []

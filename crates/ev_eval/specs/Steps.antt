@@ -1,5 +1,5 @@
 -- Evaluation over the state of the code: the machine's evaluation of the trees that are built.
-use Rattle.std.specs.Prelude.{◌≡◌, ◌==◌, reverse, option_map, ℕ, zero, suc, ℤ, ◌+ℤ◌, ◌-◌, Bool, true, false, if◌then◌else◌, nat_le, List, [], ◌∷◌, ◌++◌, Some, None, Result, Ok, Err, map, length, slice_get, slice_set, codes}
+use Rattle.std.specs.Prelude.{◌≡◌, ◌==◌, reverse, option_map, ℕ, zero, suc, ◌-◌, Bool, true, false, if◌then◌else◌, nat_le, List, [], ◌∷◌, ◌++◌, Some, None, Result, Ok, Err, map, length, take, slice_get, slice_set}
 use Rattle.std.specs.declared.option.Option.{Option}
 use Rattle.std.specs.Str.{bytes_eq}
 use Rattle.ev_base.specs.declared.values.Value.{Value}
@@ -10,9 +10,8 @@ use Rattle.ev_heap.specs.declared.happened.Happened.TheVariants as event
 use Rattle.ev_kernel.specs.declared.node.Literal.{Literal}
 use Rattle.ev_kernel.specs.declared.node.Literal.TheVariants as literal
 use Rattle.ev_kernel.specs.declared.node.Node.{Node}
-use Rattle.ev_kernel.specs.declared.node.Node.TheVariants.{Lit, Noun, Set, Def, Call, Sequence, Object as ObjectNode, Method, Final, Var, Any}
+use Rattle.ev_kernel.specs.declared.node.Node.TheVariants.{Lit, Noun, Set, Def, Call, Sequence, If, Hide, Object as ObjectNode, Method, Final, Var, Any}
 use Rattle.ev_machine.specs.Values.{Words}
-use Rattle.ev_machine.specs.Ints.{fits}
 use Rattle.ev_heap.specs.declared.kept.Capture.{Capture}
 use Rattle.ev_heap.specs.declared.kept.Capture.TheVariants as capture
 use Rattle.ev_heap.specs.declared.kept.Caught.{Caught}
@@ -21,15 +20,16 @@ use Rattle.ev_heap.specs.declared.kept.Shape.TheVariants as shape
 use Rattle.ev_heap.specs.declared.kept.Thing.{Thing}
 use Rattle.ev_form.specs.FreeNames.{free_names}
 use Rattle.ev_machine.specs.Scopes.{members_of, name_of}
-use Rattle.ev_eval.specs.Built.{is_built_verb}
+use Rattle.ev_num.specs.declared.arithmetic.NumFault.TheVariants.{Overflow, ZeroDivisor, NegativePower}
+use Rattle.ev_eval.specs.Natives.{data_answer}
 use Rattle.ev_eval.specs.Plain.{held_value, plain_cell, capture_of, plain_thing}
 use Rattle.ev_eval.specs.declared.object.Object.{Object}
 use Rattle.ev_eval.specs.declared.exit.Exit.{Exit}
 use Rattle.ev_eval.specs.declared.exit.Exit.TheVariants.{Thrown, Fuel, Deep, Astray, Unbuilt, Memory}
 use Rattle.ev_eval.specs.declared.exit.Problem.{Problem}
-use Rattle.ev_eval.specs.declared.exit.Problem.TheVariants.{Overflow, NotInt, NoMethod}
+use Rattle.ev_eval.specs.declared.exit.Problem.TheVariants.{Arithmetic, NotInt, NoMethod, NotChar, NotBoolean}
 use Rattle.ev_eval.specs.declared.plain.Plain.{Plain}
-use Rattle.ev_eval.specs.declared.plain.Plain.TheVariants.{Null, Int, Obj}
+use Rattle.ev_eval.specs.declared.plain.Plain.TheVariants.{Null, Bool as Flag, Int, Char, Obj}
 use Rattle.ev_heap.specs.declared.kept.Cell.{Cell}
 use Rattle.ev_eval.specs.declared.room.Room.{Room}
 use Rattle.ev_eval.specs.declared.scope.Binding.{Binding}
@@ -118,7 +118,9 @@ new_activation x = λ s. (Ok (length s.heap.codes), record s { heap = record s.h
 
 abbrev pub plain_of : Value → Option Plain
 plain_of held.Null = Some Null
+plain_of (held.Bool b) = Some (Flag b)
 plain_of (held.Int z) = Some (Int z)
+plain_of (held.Char c) = Some (Char c)
 plain_of (held.Obj i) = Some (Obj i)
 plain_of _ = None
 
@@ -162,6 +164,7 @@ found_from found (b ∷ bs) x = found_from (if bytes_eq b.noun x then Some b.bou
 unfoldable pub safe_plain : Option Value → Result Plain Exit
 safe_plain None = Err Astray
 safe_plain (Some held.Null) = Ok Null
+safe_plain (Some (held.Bool b)) = Ok (Flag b)
 safe_plain _ = Err Unbuilt
 
 unfoldable pub read_held : ℕ → Bound → Act Plain
@@ -185,33 +188,23 @@ unfoldable pub with_bound : List Binding → Words → Option Bound → List Bin
 with_bound bs x (Some b) = bs ++ record { noun = x; bound = b } ∷ []
 with_bound bs x None = bs
 
+-- the first so many bindings
+abbrev pub cut : ℕ → Scope → Scope
+cut mark here = record here { nouns = take mark here.nouns }
+
 abbrev pub with_noun : Words → Bound → Scope → Scope
 with_noun x b here = record here { nouns = here.nouns ++ record { noun = x; bound = b } ∷ [] }
 
 -- ---- calls
 
 abbrev pub problem_id : Problem → ℕ
-problem_id Overflow = 0
+problem_id (Arithmetic Overflow) = 0
 problem_id NotInt = 1
 problem_id NoMethod = 2
-
-unfoldable pub sum : ℤ → ℤ → Result Plain Problem
-sum x y = if fits (x +ℤ y) then Ok (Int (x +ℤ y)) else Err Overflow
-
-unfoldable pub added : ℤ → Plain → Result Plain Problem
-added x (Int y) = sum x y
-added x _ = Err NotInt
-
--- what a value answers to `add`
-unfoldable pub sum_of : Plain → List Plain → Result Plain Problem
-sum_of (Int x) (y ∷ []) = added x y
-sum_of (Int x) [] = Err NoMethod
-sum_of (Int x) (y ∷ z ∷ zs) = Err NoMethod
-sum_of _ args = Err NoMethod
-
--- what a value that is no object answers
-unfoldable pub data_answer : Words → Plain → List Plain → Result Plain Problem
-data_answer verb x args = if bytes_eq verb (codes "add") then sum_of x args else Err NoMethod
+problem_id (Arithmetic ZeroDivisor) = 3
+problem_id (Arithmetic NegativePower) = 4
+problem_id NotChar = 5
+problem_id NotBoolean = 6
 
 -- the last line of a call, and its outcome
 unfoldable pub ended : ℕ → Result Plain Problem → Act Plain
@@ -227,9 +220,6 @@ unfoldable pub call_data : ℕ → Plain → Words → List Plain → Act Plain
 call_data act x verb args = do
   tell (event.Call act (held_value x) verb (map held_value args) None)
   ended act (data_answer verb x args)
-
-unfoldable pub call_plain : ℕ → Plain → Words → List Plain → Act Plain
-call_plain act x verb args = if is_built_verb verb then call_data act x verb args else fail Unbuilt
 
 pub record Evaluator : Type 0 where
   pub expression : ℕ → Scope → Act (Plain × Scope)
@@ -355,8 +345,10 @@ call_object tree rec act i verb args = do
 
 unfoldable pub call : List Node → Evaluator → ℕ → Plain → Words → List Plain → Act Plain
 call tree rec act (Obj i) verb args = call_object tree rec act i verb args
-call tree rec act Null verb args = call_plain act Null verb args
-call tree rec act (Int z) verb args = call_plain act (Int z) verb args
+call tree rec act Null verb args = call_data act Null verb args
+call tree rec act (Flag b) verb args = call_data act (Flag b) verb args
+call tree rec act (Int z) verb args = call_data act (Int z) verb args
+call tree rec act (Char c) verb args = call_data act (Char c) verb args
 
 -- ---- nodes
 
@@ -389,7 +381,8 @@ define rec p None e here = do
 
 unfoldable pub literal_value : Literal → Result Plain Exit
 literal_value (literal.Int z) = Ok (Int z)
-literal_value _ = Err Unbuilt
+literal_value (literal.Char c) = Ok (Char c)
+literal_value (literal.Text t) = Err Unbuilt
 
 unfoldable pub literal_node : Literal → Scope → Act (Plain × Scope)
 literal_node l here = do
@@ -408,6 +401,29 @@ set_node rec x e here = do
   u ← write_bound here.act (found_from None here.nouns x) v.0
   give (u, v.1)
 
+-- an expression whose names are dropped behind it, down to so many
+unfoldable pub within : Evaluator → ℕ → ℕ → Scope → Act (Plain × Scope)
+within rec mark e here = do
+  x ← rec.expression e here
+  give (x.0, cut mark x.1)
+
+unfoldable pub hide_node : Evaluator → ℕ → Scope → Act (Plain × Scope)
+hide_node rec e here = within rec (length here.nouns) e here
+
+-- the branch that a value chooses, in the scope after the test
+unfoldable pub choose : Evaluator → ℕ → ℕ → ℕ → Plain → Scope → Act (Plain × Scope)
+choose rec mark a b (Flag true) inner = within rec mark a inner
+choose rec mark a b (Flag false) inner = within rec mark b (cut mark inner)
+choose rec mark a b Null inner = fail (Thrown (problem_id NotBoolean))
+choose rec mark a b (Int z) inner = fail (Thrown (problem_id NotBoolean))
+choose rec mark a b (Char c) inner = fail (Thrown (problem_id NotBoolean))
+choose rec mark a b (Obj i) inner = fail (Thrown (problem_id NotBoolean))
+
+unfoldable pub if_node : Evaluator → ℕ → ℕ → ℕ → Scope → Act (Plain × Scope)
+if_node rec t a b here = do
+  x ← rec.expression t here
+  choose rec (length here.nouns) a b x.0 x.1
+
 unfoldable pub step : List Node → Evaluator → ℕ → Node → Scope → Act (Plain × Scope)
 step tree rec id (Lit l) here = literal_node l here
 step tree rec id (Noun x) here = noun_node x here
@@ -415,6 +431,8 @@ step tree rec id (Set x e) here = set_node rec x e here
 step tree rec id (Def p j e) here = define rec p j e here
 step tree rec id (Call r verb args) here = call_node tree rec r verb args here
 step tree rec id (Sequence es) here = last_of rec Null es here
+step tree rec id (If t a b) here = if_node rec t a b here
+step tree rec id (Hide e) here = hide_node rec e here
 step tree rec id (ObjectNode p auditors members) here = object_node tree id p auditors here
 step tree rec id (Method v ps b) here = fail Astray
 step tree rec id (Final x g) here = fail Astray
@@ -447,6 +465,8 @@ bind_step (Set x e) v here = fail Astray
 bind_step (Def p j e) v here = fail Astray
 bind_step (Call r verb args) v here = fail Astray
 bind_step (Sequence es) v here = fail Astray
+bind_step (If t a b) v here = fail Astray
+bind_step (Hide e) v here = fail Astray
 bind_step (ObjectNode p auditors members) v here = fail Astray
 bind_step (Method u ps b) v here = fail Astray
 bind_step _ v here = fail Unbuilt
@@ -479,5 +499,5 @@ opening tree depth = do
 
 -- opens the steps, and not the recursions
 unfoldable pub opened_steps : Unit {0}
-unfolding and_then ◌>>=◌ ◌>>◌ give fail answer tell spent spend new_activation new_slot write_told slot_read slot_found read_slot slot_written write_slot safe_plain read_held read_bound write_held write_bound sum added sum_of data_answer ended call_data call_plain call_node with_back with_bound new_object named object_made object_in make_object object_node suits run_method run_found run_object closed_by closed call_made object_back code_of code_in look_code call_object call define literal_value literal_node noun_node set_node step bind_final bind_var bind_any bind_step step_found bind_found opening
+unfolding and_then ◌>>=◌ ◌>>◌ give fail answer tell spent spend new_activation new_slot write_told slot_read slot_found read_slot slot_written write_slot safe_plain read_held read_bound write_held write_bound ended call_data call_node with_back with_bound new_object named object_made object_in make_object object_node suits run_method run_found run_object closed_by closed call_made object_back code_of code_in look_code call_object call define literal_value literal_node noun_node set_node within hide_node choose if_node step bind_final bind_var bind_any bind_step step_found bind_found opening
 opened_steps = tt

@@ -2,46 +2,29 @@
 
 ghost use Rattle.std.specs.Prelude.{◌≡◌};
 ghost use Rattle.ev_base.specs.SafeScope.{safe_value};
-ghost use Rattle.ev_eval.specs.Built.{is_built, is_built_node, is_built_safe, is_built_verb, is_int};
+ghost use Rattle.ev_eval.specs.Built.{is_built, is_built_literal, is_built_node, is_built_safe};
 
 use ev_base::{Value, safe_value};
 use ev_kernel::{Kernel, Literal, Node};
 
-fn is_int(literal: &Literal) -> bool
-    ensures { result ≡ is_int literal.now }
+/// Whether a literal is no text.
+fn is_built_literal(literal: &Literal) -> bool
+    ensures { result ≡ is_built_literal literal.now }
 {
-    matches!(literal, Literal::Int(_))
+    match literal {
+        Literal::Int(_) | Literal::Char(_) => true,
+        Literal::Text(_) => false,
+    }
 }
 
-/// Whether a noun is not in the safe scope, or is `null`.
+/// Whether a noun is not in the safe scope, or is `null`, `true` or `false`.
 fn is_built_noun(noun: &str) -> bool
     ensures { result ≡ is_built_safe (safe_value noun.now) }
 {
     match safe_value(noun) {
-        None | Some(Value::Null) => true,
+        None | Some(Value::Null) | Some(Value::Bool(_)) => true,
         Some(_) => false,
     }
-}
-
-/// Whether integers answer to a verb in a way that is built. They answer `no method` to all verbs but `add` and those that are not
-/// built.
-pub fn is_built_verb(verb: &str) -> bool
-    ensures { result ≡ is_built_verb verb.now }
-{
-    !matches!(
-        verb,
-        "subtract"
-            | "multiply"
-            | "floorDivide"
-            | "remainder"
-            | "mod"
-            | "pow"
-            | "and"
-            | "or"
-            | "xor"
-            | "negate"
-            | "asChar"
-    )
 }
 
 #[tactic(auto, unfolding(crate::specs::Built::is_built_node))]
@@ -49,12 +32,14 @@ fn is_built_node(node: &Node) -> bool
     ensures { result ≡ is_built_node node.now }
 {
     match node {
-        Node::Lit(literal) => is_int(literal),
+        Node::Lit(literal) => is_built_literal(literal),
         Node::Noun(noun) => is_built_noun(noun.as_str()),
         Node::Set(_, _) => true,
         Node::Def { exit, .. } => exit.is_none(),
-        Node::Call { verb, .. } => is_built_verb(verb.as_str()),
+        Node::Call { .. } => true,
         Node::Sequence(_) => true,
+        Node::If(_, _, _) => true,
+        Node::Hide(_) => true,
         Node::Object { auditors, .. } => auditors.is_empty(),
         Node::Method { .. } => true,
         Node::Final(_, guard) => guard.is_none(),
@@ -64,9 +49,9 @@ fn is_built_node(node: &Node) -> bool
     }
 }
 
-/// Whether each node of a program is of a kind that is evaluated so far: a literal of an integer, a noun that is `null` or not
-/// in the safe scope, an assignment, a definition without an ejector, a call of a verb that is built, a sequence, an object without
-/// auditors, a method, or a final, var or any pattern without a guard.
+/// Whether each node of a program is of a kind that is evaluated so far: a literal of an integer or a character, a noun that is
+/// `null`, `true`, `false` or not in the safe scope, an assignment, a definition without an ejector, a call, a sequence, an if, a
+/// hide, an object without auditors, a method, or a final, var or any pattern without a guard.
 #[tactic(auto, unfolding(crate::specs::Built::is_built))]
 pub fn is_built(program: &Kernel) -> bool
     ensures { result ≡ is_built program.now }

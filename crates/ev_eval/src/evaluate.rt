@@ -1,18 +1,18 @@
 //! Evaluation of expressions.
 
-ghost use Rattle.std.specs.Prelude.{◌≡◌, [], Some, option_map};
+ghost use Rattle.std.specs.Prelude.{◌≡◌, [], Some, length, option_map};
 ghost use Rattle.ev_eval.specs.Plain.{Keeps};
-ghost use Rattle.ev_eval.specs.Steps.{Answers, Gives, GivesIn, call, call_node, call_object, define, evaluator, gathered, last_of, literal_value, noun_node, opening, run_found, run_method, run_object, set_node, step};
+ghost use Rattle.ev_eval.specs.Steps.{Answers, Gives, GivesIn, call, call_node, call_object, choose, define, evaluator, gathered, hide_node, if_node, last_of, literal_value, noun_node, opening, run_found, run_method, run_object, set_node, step, within};
 ghost use Rattle.ev_eval.specs.declared.plain.Plain.TheVariants.{Null};
 
-use crate::call::{begun_line, call_plain, closed, problem_id};
+use crate::call::{begun_line, call_data, closed, problem_id};
 use crate::exit::{Exit, Problem};
 use crate::nouns::{read_bound, write_bound};
 use crate::object::{first_method, look_code, members_of, object_node, turned};
 use crate::pattern::{bind, bind_all, node_at};
 use crate::plain::Plain;
 use crate::room::{Room, new_activation, spend, tell};
-use crate::scope::{Scope, found};
+use crate::scope::{Scope, cut, found};
 use ev_base::{ActId, NodeId, ObjId, Seq, Value};
 use ev_kernel::{Kernel, Literal, Node};
 
@@ -22,7 +22,8 @@ fn literal_value(literal: &Literal) -> Result<Plain, Exit>
 {
     match literal {
         Literal::Int(number) => Ok(Plain::Int(*number)),
-        _ => Err(Exit::Unbuilt),
+        Literal::Char(letter) => Ok(Plain::Char(*letter)),
+        Literal::Text(_) => Err(Exit::Unbuilt),
     }
 }
 
@@ -97,6 +98,8 @@ fn step(
             room,
         ),
         Node::Sequence(parts) => last_of(program, depth, parts.as_slice(), here, room),
+        Node::If(test, yes, no) => if_node(program, depth, *test, *yes, *no, here, room),
+        Node::Hide(inner) => hide_node(program, depth, *inner, here, room),
         Node::Object {
             pattern,
             auditors,
@@ -155,6 +158,89 @@ fn define(
     }
 }
 
+/// Evaluates an expression whose names are dropped behind it, down to so many.
+#[cycle(evaluate)]
+#[tactic(auto, using(crate::proofs::Exits::ends), unfolding(crate::specs::Steps::opened_steps))]
+fn within(
+    program: &Kernel,
+    depth: u32,
+    mark: usize,
+    id: NodeId,
+    here: &mut Scope,
+    room: &mut Room,
+) -> Result<Plain, Exit>
+    ensures outcome { GivesIn result here.new room.new (within (evaluator program.now depth) mark id here.old room.old) }
+    ensures kept { Keeps room.old.heap room.new.heap }
+{
+    let value = evaluate(program, depth, id, here, room)?;
+    cut(room.alloc, mark, here);
+    Ok(value)
+}
+
+/// Evaluates an expression whose names are dropped behind it.
+#[cycle(evaluate)]
+#[tactic(auto, using(crate::proofs::Exits::ends), unfolding(crate::specs::Steps::opened_steps))]
+fn hide_node(
+    program: &Kernel,
+    depth: u32,
+    id: NodeId,
+    here: &mut Scope,
+    room: &mut Room,
+) -> Result<Plain, Exit>
+    ensures outcome { GivesIn result here.new room.new (hide_node (evaluator program.now depth) id here.old room.old) }
+    ensures kept { Keeps room.old.heap room.new.heap }
+{
+    let mark = here.nouns.len();
+    within(program, depth, mark, id, here, room)
+}
+
+/// Evaluates an if: its test, and then the branch that the test chooses. The names of the test are known in the first branch,
+/// and none of either behind it.
+#[cycle(evaluate)]
+#[tactic(auto, using(crate::proofs::Exits::ends), unfolding(crate::specs::Steps::opened_steps))]
+fn if_node(
+    program: &Kernel,
+    depth: u32,
+    test: NodeId,
+    yes: NodeId,
+    no: NodeId,
+    here: &mut Scope,
+    room: &mut Room,
+) -> Result<Plain, Exit>
+    ensures outcome { GivesIn result here.new room.new (if_node (evaluator program.now depth) test yes no here.old room.old) }
+    ensures kept { Keeps room.old.heap room.new.heap }
+{
+    let mark = here.nouns.len();
+    let value = evaluate(program, depth, test, here, room)?;
+    choose(program, depth, mark, yes, no, value, here, room)
+}
+
+/// Evaluates the branch of an if that a value chooses, in the scope after the test.
+#[cycle(evaluate)]
+#[tactic(auto, using(crate::proofs::Exits::ends), unfolding(crate::specs::Steps::opened_steps))]
+fn choose(
+    program: &Kernel,
+    depth: u32,
+    mark: usize,
+    yes: NodeId,
+    no: NodeId,
+    value: Plain,
+    here: &mut Scope,
+    room: &mut Room,
+) -> Result<Plain, Exit>
+    ensures outcome { GivesIn result here.new room.new (choose (evaluator program.now depth) mark yes no value here.old room.old) }
+    ensures kept { Keeps room.old.heap room.new.heap }
+{
+    match value {
+        Plain::Bool(true) => within(program, depth, mark, yes, here, room),
+        Plain::Bool(false) => {
+            cut(room.alloc, mark, here);
+            within(program, depth, mark, no, here, room)
+        }
+        _ => Err(Exit::Thrown(problem_id(Problem::NotBoolean))),
+    }
+}
+
 /// Evaluates a call: the receiver, then the arguments from left to right, then the call itself.
 #[cycle(evaluate)]
 #[tactic(auto, using(crate::proofs::Exits::ends), unfolding(crate::specs::Steps::opened_steps))]
@@ -194,7 +280,9 @@ fn call(
 {
     match receiver {
         Plain::Obj(number) => { call_object(program, depth, act, ObjId(number), verb, args, room) }
-        Plain::Null | Plain::Int(_) => call_plain(act, receiver, verb, args, room),
+        Plain::Null | Plain::Bool(_) | Plain::Int(_) | Plain::Char(_) => {
+            call_data(act, receiver, verb, args, room)
+        }
     }
 }
 

@@ -5,6 +5,7 @@ pub mod built;
 pub mod call;
 pub mod evaluate;
 pub mod exit;
+pub mod natives;
 pub mod nouns;
 pub mod object;
 pub mod pattern;

@@ -20,6 +20,7 @@ fn safe_plain(noun: &str) -> Result<Plain, Exit>
     match safe_value(noun) {
         None => Err(Exit::Astray),
         Some(Value::Null) => Ok(Plain::Null),
+        Some(Value::Bool(flag)) => Ok(Plain::Bool(flag)),
         Some(_) => Err(Exit::Unbuilt),
     }
 }

@@ -104,6 +104,8 @@ fn bind_step(node: &Node, value: Plain, here: &mut Scope, room: &mut Room) -> Re
         | Node::Def { .. }
         | Node::Call { .. }
         | Node::Sequence(_)
+        | Node::If(_, _, _)
+        | Node::Hide(_)
         | Node::Object { .. }
         | Node::Method { .. } => Err(Exit::Astray),
         _ => Err(Exit::Unbuilt),

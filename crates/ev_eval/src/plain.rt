@@ -6,11 +6,13 @@ ghost use Rattle.ev_eval.specs.Plain.{held_value};
 use ev_base::{Memory, ObjId, Seq, Value};
 use std::alloc::Global;
 
-/// Null, an integer, or an object of this vat.
+/// Null, a boolean, an integer, a character, or an object of this vat.
 #[derive(Clone, Copy, Debug, PartialEq, Eq)]
 pub enum Plain {
     Null,
+    Bool(bool),
     Int(i128),
+    Char(char),
     /// An object, by its number.
     Obj(u64),
 }
@@ -21,7 +23,9 @@ pub fn held_value(value: Plain) -> Value
 {
     match value {
         Plain::Null => Value::Null,
+        Plain::Bool(flag) => Value::Bool(flag),
         Plain::Int(number) => Value::Int(number),
+        Plain::Char(letter) => Value::Char(letter),
         Plain::Obj(number) => Value::Obj(ObjId(number)),
     }
 }

@@ -1,10 +1,12 @@
 //! What nouns stand for.
 
 ghost use Rattle.std.specs.Prelude.{◌≡◌, None};
-ghost use Rattle.ev_eval.specs.Steps.{found_from};
+ghost use Rattle.ev_eval.specs.Steps.{cut, found_from};
 
 use crate::plain::Plain;
 use ev_base::{ActId, Seq, SlotId, Str};
+use std::alloc::Global;
+use std::mem;
 
 /// What a noun stands for.
 #[derive(Clone, Copy, Debug, PartialEq, Eq)]
@@ -41,4 +43,14 @@ pub fn found(nouns: &[Binding], noun: &str) -> Option<Bound>
         }
     }
     found
+}
+
+/// Takes away the bindings behind so many. What was bound before a node of a tree stands in front of what it binds, so this
+/// brings back the scope before it.
+pub fn cut(alloc: Global, mark: usize, here: &mut Scope)
+    ensures { here.new ≡ cut mark here.old }
+{
+    let mut nouns = mem::replace(&mut here.nouns, Seq::new(alloc)).into_vec();
+    nouns.truncate(mark);
+    here.nouns = Seq::of(nouns);
 }

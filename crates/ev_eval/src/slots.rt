@@ -16,7 +16,9 @@ pub fn plain_of(value: Value) -> Option<Plain>
 {
     match value {
         Value::Null => Some(Plain::Null),
+        Value::Bool(flag) => Some(Plain::Bool(flag)),
         Value::Int(number) => Some(Plain::Int(number)),
+        Value::Char(letter) => Some(Plain::Char(letter)),
         Value::Obj(object) => Some(Plain::Obj(object.0)),
         _ => None,
     }

@@ -78,7 +78,7 @@ fn problems(rt: HostRuntime) -> Result<(), Fail> {
         some(Ended::Thrown(TextId(2)), 7, 2)
     );
     assert_eq!(rt; run(alloc, "(noun x)", 9, 9)?, some(Ended::Astray, 8, 0));
-    assert_eq!(rt; run(alloc, "(hide (lit 1))", 9, 9)?, None);
+    assert_eq!(rt; run(alloc, "(lit \"a\")", 9, 9)?, None);
     Ok(())
 }
 
@@ -122,5 +122,57 @@ fn objects(rt: HostRuntime) -> Result<(), Fail> {
     let none = "(call (object (any) () (method run () (lit 1))) run (lit 2))";
     let thrown = Ended::Thrown(TextId(2));
     assert_eq!(rt; run(alloc, none, 9, 9)?, some(thrown, 6, 3));
+    Ok(())
+}
+
+#[test]
+fn choices(rt: HostRuntime) -> Result<(), Fail> {
+    let alloc = rt.alloc();
+    let one = some(Ended::Value(Value::Int(1)), 0, 0);
+    let two = some(Ended::Value(Value::Int(2)), 0, 0);
+    assert_eq!(rt; run(alloc, "(if (noun true) (lit 1) (lit 2))", 3, 2)?, one);
+    assert_eq!(rt; run(alloc, "(if (noun false) (lit 1) (lit 2))", 3, 2)?, two);
+    let number = "(if (lit 1) (lit 1) (lit 2))";
+    assert_eq!(rt;
+        run(alloc, number, 9, 9)?,
+        some(Ended::Thrown(TextId(6)), 7, 0)
+    );
+    let inner = "(seq (def (final x) (lit 7)) (if (def (final x) (noun false)) (noun x) (noun x)))";
+    let seven = Ended::Value(Value::Int(7));
+    assert_eq!(rt; run(alloc, inner, 9, 9)?, some(seven, 0, 0));
+    let behind = "(seq (if (def (final x) (noun true)) (noun x) (lit 1)) (noun x))";
+    assert_eq!(rt; run(alloc, behind, 9, 9)?, some(Ended::Astray, 2, 0));
+    let hidden = "(seq (hide (def (final x) (lit 1))) (noun x))";
+    assert_eq!(rt; run(alloc, hidden, 9, 9)?, some(Ended::Astray, 3, 0));
+    Ok(())
+}
+
+#[test]
+fn natives(rt: HostRuntime) -> Result<(), Fail> {
+    let alloc = rt.alloc();
+    let rows = [
+        (
+            "(call (lit 7) floorDivide (lit -2))",
+            Ended::Value(Value::Int(-4)),
+        ),
+        ("(call (lit 1) mod (lit 0))", Ended::Thrown(TextId(3))),
+        ("(call (lit 2) pow (lit -1))", Ended::Thrown(TextId(4))),
+        ("(call (lit 65) asChar)", Ended::Value(Value::Char('A'))),
+        ("(call (lit 55296) asChar)", Ended::Thrown(TextId(5))),
+        ("(call (lit 5) negate)", Ended::Value(Value::Int(-5))),
+        (
+            "(call (noun true) xor (noun true))",
+            Ended::Value(Value::Bool(false)),
+        ),
+        ("(call (noun true) and (lit 1))", Ended::Thrown(TextId(6))),
+        ("(call (noun false) not)", Ended::Value(Value::Bool(true))),
+        ("(call (lit 'A') asInteger)", Ended::Value(Value::Int(65))),
+        ("(call (lit 'A') not)", Ended::Thrown(TextId(2))),
+    ];
+    for (text, ended) in rows {
+        let ran = run(alloc, text, 9, 9)?.ok_or("not built")?;
+        assert_eq!(rt; ran.ended, ended, "{text}");
+        assert_eq!(rt; ran.events, 2, "{text}");
+    }
     Ok(())
 }

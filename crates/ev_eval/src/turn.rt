@@ -48,6 +48,10 @@ pub fn new_heap(alloc: Global) -> Result<Heap, Memory>
     heap.make_text("integer overflow")?;
     heap.make_text("not int")?;
     heap.make_text("no method")?;
+    heap.make_text("zero divisor")?;
+    heap.make_text("negative power")?;
+    heap.make_text("not char")?;
+    heap.make_text("not boolean")?;
     Ok(heap)
 }
 

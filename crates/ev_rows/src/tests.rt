@@ -93,8 +93,8 @@ fn sources(rt: HostRuntime) -> Result<(), Fail> {
         ("41 + ", 7, "refused program a parse 0 2\n"),
         ("return 1", 7, "refused program a expand 1 0\n"),
         ("x", 7, "refused program a scope 1 0\n"),
-        ("true", 7, "refused program a unbuilt 0 0\n"),
-        ("1 * 2", 7, "refused program a unbuilt 0 0\n"),
+        ("true", 0, "open a\n!0 done true\nsettle @a true\nend\n"),
+        ("1 < 2", 7, "refused program a unbuilt 0 0\n"),
     ];
     for (source, code, text) in rows {
         let script = script_of(alloc, source)?;
@@ -132,6 +132,40 @@ fn objects(rt: HostRuntime) -> Result<(), Fail> {
         let script = script_of(alloc, source)?;
         let (status, written) = answer(alloc, &["run"], script.as_bytes(), &quiet())?;
         assert_eq!(rt; status, code, "{source}");
+        assert!(rt; written.as_slice() == text.as_bytes(), "{source}");
+    }
+    Ok(())
+}
+
+#[test]
+fn choices(rt: HostRuntime) -> Result<(), Fail> {
+    let alloc = rt.alloc();
+    let rows = [
+        (
+            "if (1) { 2 }",
+            "open a\n!0 threw \"not boolean\"\nsettle @a broken:\"not boolean\"\nend\n",
+        ),
+        (
+            "def x := 7; if (def x := false) { x } else { x }",
+            "open a\n!0 done 7\nsettle @a 7\nend\n",
+        ),
+        (
+            "-7 // 2",
+            "open a\n!0 call 7 negate\n!0 back -7\n!0 call -7 floorDivide 2\n!0 back -4\n!0 done -4\nsettle @a -4\nend\n",
+        ),
+        (
+            "1 % 0",
+            "open a\n!0 call 1 remainder 0\n!0 thrown \"zero divisor\"\n!0 threw \"zero divisor\"\nsettle @a broken:\"zero divisor\"\nend\n",
+        ),
+        (
+            "98.asChar()",
+            "open a\n!0 call 98 asChar\n!0 back 'b'\n!0 done 'b'\nsettle @a 'b'\nend\n",
+        ),
+    ];
+    for (source, text) in rows {
+        let script = script_of(alloc, source)?;
+        let (status, written) = answer(alloc, &["run"], script.as_bytes(), &quiet())?;
+        assert_eq!(rt; status, 0, "{source}");
         assert!(rt; written.as_slice() == text.as_bytes(), "{source}");
     }
     Ok(())

@@ -11,9 +11,10 @@ use std::alloc::Global;
 use std::process::ExitCode;
 use std::{fs, io};
 
-const PROGRAMS: [&str; 13] = [
+const PROGRAMS: [&str; 14] = [
     "caretaker",
     "counter",
+    "door",
     "escape",
     "failing",
     "frozen",
@@ -27,7 +28,7 @@ const PROGRAMS: [&str; 13] = [
     "sums",
 ];
 
-const SCRIPTS: [&str; 2] = ["counter", "sums"];
+const SCRIPTS: [&str; 4] = ["counter", "door", "operators", "sums"];
 
 /// What a command writes for its input.
 fn answer(alloc: Global, command: &str, input: &[u8]) -> Result<Vec<u8>, Memory> {

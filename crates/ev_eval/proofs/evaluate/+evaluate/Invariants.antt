@@ -19,6 +19,18 @@ decreases-define l = 10 * l.depth + 8
 abbrev pub decreases-call_node : goal.decreases-call_node
 decreases-call_node l = 10 * l.depth + 8
 
+abbrev pub decreases-if_node : goal.decreases-if_node
+decreases-if_node l = 10 * l.depth + 8
+
+abbrev pub decreases-hide_node : goal.decreases-hide_node
+decreases-hide_node l = 10 * l.depth + 8
+
+abbrev pub decreases-choose : goal.decreases-choose
+decreases-choose l = 10 * l.depth + 7
+
+abbrev pub decreases-within : goal.decreases-within
+decreases-within l = 10 * l.depth + 6
+
 abbrev pub decreases-gathered : goal.decreases-gathered
 decreases-gathered l = 10 * l.depth + 7
 
