@@ -17,3 +17,4 @@ pub mod RefsRing
 pub mod TurnsRing
 pub mod ViewRing
 pub mod ArriveRing
+pub mod NoticeRing

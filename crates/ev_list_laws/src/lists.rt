@@ -1,6 +1,6 @@
 //! What lists are made of, and where their members lead.
 
-ghost use Rattle.ev_list_laws.specs.Ringless.{ArrivalsCloseNoRing, TurnsCloseNoRing};
+ghost use Rattle.ev_list_laws.specs.Ringless.{ArrivalsCloseNoRing, NoticeStepsCloseNoRing, TurnsCloseNoRing};
 ghost use Rattle.ev_list_laws.specs.Lists.{ListsAreThere, MembersEndInRuns, ChangesCloseNoRing, NewListsCloseNoRing, NewNamesCloseNoRing, NoticesCloseNoRing, FollowingSuffices, RinglessListsEnd, ConditionsAreNeeded};
 
 /// In each vat of every world of a run each list that stands in a value is there. A list that is a
@@ -74,4 +74,9 @@ pub fn turns_close_no_ring()
 /// of another vat and waits nowhere, where the gift of the next draw is new.
 pub fn arrivals_close_no_ring()
     ensures { ArrivalsCloseNoRing }
+{}
+
+/// So does the notice of a cut. Of what waits nothing is asked, and nothing is said of it after.
+pub fn notice_steps_close_no_ring()
+    ensures { NoticeStepsCloseNoRing }
 {}
