@@ -101,7 +101,7 @@ module _ (v : ℕ) where
   unfolding changed
   held_changed c k g h = unless_either (HoldsOwn v) k.standing k (changed_to c k) h (to_held c k g h)
 
-is_in_none : (h : ℕ) → is_in h [] ≡ false
+pub is_in_none : (h : ℕ) → is_in h [] ≡ false
 unfolding is_in
 is_in_none h = refl
 

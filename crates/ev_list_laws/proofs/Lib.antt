@@ -18,3 +18,4 @@ pub mod TurnsRing
 pub mod ViewRing
 pub mod ArriveRing
 pub mod NoticeRing
+pub mod RunRing
