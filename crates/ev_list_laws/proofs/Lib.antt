@@ -1,7 +1,7 @@
-pub mod TmpViews
-pub mod TmpEntries
-pub mod TmpChains
-pub mod TmpListChains
+pub mod Views
+pub mod Entries
+pub mod Chains
+pub mod ListChains
 pub mod Stacked
 pub mod Following
 pub mod Rings
