@@ -55,7 +55,7 @@ mutual
   reads_pass NoMore ks h = tt
   reads_pass (More y ys) ks h = (read_passes y ks h.0, reads_pass ys (world.read_passed y ks).known h.1)
 
-note_read : (ks : List Name) (n : Note Name) → NotePasses n → NotePasses (read_note ks n)
+pub note_read : (ks : List Name) (n : Note Name) → NotePasses n → NotePasses (read_note ks n)
 unfolding read_note
 note_read ks (Deliver m n verb ys) h = reads_pass ys ks h
 note_read ks (Open i n) h = tt
@@ -92,14 +92,14 @@ either_link : (b : Bool) (l : Link) (o : Option Link) → LinkPasses l → MayBe
 either_link true l o h i = h
 either_link false l o h i = i
 
-link_passes : (v w : ℕ) (ls : List Link) → AllOf LinkPasses ls → MayBe LinkPasses (world.link_at v w ls)
+pub link_passes : (v w : ℕ) (ls : List Link) → AllOf LinkPasses ls → MayBe LinkPasses (world.link_at v w ls)
 unfolding world.link_at
 link_passes v w [] h = tt
 link_passes v w (l ∷ ls) h = either_link (world.is_link v w l) l (world.link_at v w ls) h.0 (link_passes v w ls h.1)
 
 -- ---- what a step of a vat makes of the world
 
-put_at_or : (v : ℕ) (y : Vat Name) (xs : List (Vat Name)) (u : ℕ) (t : Vat Name) → slice_get (world.put_at v y xs) u ≡ Some t → ((u ≡ v) × (y ≡ t)) ⊎ (slice_get xs u ≡ Some t)
+pub put_at_or : (v : ℕ) (y : Vat Name) (xs : List (Vat Name)) (u : ℕ) (t : Vat Name) → slice_get (world.put_at v y xs) u ≡ Some t → ((u ≡ v) × (y ≡ t)) ⊎ (slice_get xs u ≡ Some t)
 unfolding world.put_at
 put_at_or v y [] u t e = inr e
 put_at_or zero y (x ∷ xs) zero t e = let same : y ≡ t = cc in inl (refl, same)
@@ -192,7 +192,7 @@ module _ (script : Script) (strict : Bool) where
     notice_sound k v to w x h None q e = cc
     notice_sound k v to w x h (Some s) q e = within_sound v w x (NoticedAt k v to ∷ []) (world.step_number script k) (Notices to) s h (h.vats v s q) tt e
 
-    step_sound : (entry : Entry) (k : ℕ) (w x : World) → WorldSound script strict w → world.step script entry k w ≡ Goes x → WorldSound script strict x
+    pub step_sound : (entry : Entry) (k : ℕ) (w x : World) → WorldSound script strict w → world.step script entry k w ≡ Goes x → WorldSound script strict x
     unfolding world.step
     step_sound (Turn v) k w x h e = turn_sound k v w x h (slice_get w.vats v) refl e
     step_sound (Carry v to) k w x h e = carry_link_sound k v to w x h (world.link_at v to w.links) (link_passes v to w.links h.links) e
@@ -219,12 +219,12 @@ module _ (script : Script) (strict : Bool) where
     false_true : false ≡ true → ⊥
     false_true e = cc
 
-    given_well : (v : ℕ) (s : Vat Name) (ws : List ℕ) → AllOf (NounWell (names script v) strict s.things s.lists) (world.given script.vats ws)
+    pub given_well : (v : ℕ) (s : Vat Name) (ws : List ℕ) → AllOf (NounWell (names script v) strict s.things s.lists) (world.given script.vats ws)
     unfolding world.given world.name_at any_guard scopes.frozen_guard scopes.freezes native.primitive native.numbered native.primitives
     given_well v s [] = tt
     given_well v s (u ∷ us) = ((λ q. name_of (slice_get script.vats u) (get_all _ script.vats u (well q)), (tt, tt, λ q e. absurd (false_true e))), given_well v s us)
 
-    open_sound : (v : ℕ) (p : Program) (w x : World) → (strict ≡ true → TreeWell p.tree) → WorldSound script strict w → (o : Option (Vat Name)) → slice_get w.vats v ≡ o
+    pub open_sound : (v : ℕ) (p : Program) (w x : World) → (strict ≡ true → TreeWell p.tree) → WorldSound script strict w → (o : Option (Vat Name)) → slice_get w.vats v ≡ o
         → world.within v w (Opens v ∷ []) v (opening (names script v) p.tree script.depth (Root v) (world.given script.vats p.knows)) o ≡ Goes x → WorldSound script strict x
     unfolding does world.within
     open_sound v p w x t h None q e = cc

@@ -12,9 +12,9 @@ use Rattle.ev_frozen_laws.specs.Frozen.{AreThere, PlainPasses, Passes, AllPass, 
 use Rattle.ev_frozen_laws.proofs.Fine.{Keeper, Fact, Nothing, Also, IsValue, AreValues, nothing, Holds as Knows, Gets, Ends, Fine, fine, grows_same, widen, get_end, got, got_left, got_itself, got_ref, got_none, got_more, got_null, got_flag, got_text, got_prim, got_broken, got_nothing, bind_name, bind_value, bind_values, fine_bind, fine_then, fine_give, fine_open, fine_list}
 use Rattle.ev_frozen_laws.proofs.Looks.{looks}
 use Rattle.ev_frozen_laws.proofs.FineRefs.{fine_inform}
-use Rattle.ev_list_laws.specs.Ringless.{IsOwn, Ringless, IsToldWell, told_name, ToldValue, ToldPassed, ToldPasseds, IsToldMail, SettlesWell, NoteBehind, ArrivalsCloseNoRing}
+use Rattle.ev_list_laws.specs.Ringless.{IsOwn, Ringless, IsToldWell, told_name, ToldValue, ToldPassed, ToldPasseds, IsToldMail, SettlesWell, IsHeeded, NoteBehind, ArrivalsCloseNoRing}
 use Rattle.ev_list_laws.proofs.FarEnough.{append_standing}
-use Rattle.ev_list_laws.proofs.Kept.{Mark, Noticed, Unviewed, K, is, keeper}
+use Rattle.ev_list_laws.proofs.Kept.{heeds, heeds_spared, Mark, Noticed, Unviewed, K, is, keeper}
 use Rattle.ev_list_laws.proofs.Changes.{Holds, NotViewed, NoPromise, ByView, answer_eventual, begun_holds}
 use Rattle.ev_list_laws.proofs.ViewRing.{elsewhere}
 use Rattle.ev_list_laws.proofs.RefsRing.{Does, tells, here_spared, good_settle, settle_broken, sends_on, resolve_own, drop}
@@ -22,15 +22,15 @@ use Rattle.ev_list_laws.proofs.RefsRing.{Does, tells, here_spared, good_settle, 
 name_same : (m n : Name) → Ref m ≡ Ref n → m ≡ n
 name_same m n e = cc
 
-module _ (word : ℕ → ℕ) (v : ℕ) where
+module _ (word : ℕ → ℕ) (v : ℕ) (heed : Bool) where
   abbrev N : Naming Name Name
   N = K word v
 
   abbrev M : List Mark → Keeper N false
-  M ls = keeper word v ls
+  M ls = keeper word v heed ls
 
   abbrev Kept : List Mark → Vat Name → Type 0
-  Kept ls s = Holds word v ls s
+  Kept ls s = Holds word v heed ls s
 
   abbrev At : List Mark → {A : Type 0} → (A → Fact Name) → Vat Name → Done Name A → Type 0
   At ls G s d = Ends N false (M ls) G s d
@@ -73,13 +73,13 @@ module _ (word : ℕ → ℕ) (v : ℕ) where
     abbrev js : List Mark
     js = Noticed hs ∷ ls
 
-    spared : (s : Vat Name) (h : ℕ) → Kept js s → is_in h hs ≡ false → is_in h s.noticed ≡ false
+    spared : (s : Vat Name) (h : ℕ) → Kept js s → is_in h hs ≡ false → is_in h (heeds word v heed s) ≡ false
     spared s h k e = ap (λ xs. is_in h xs) k.2.0 ∙ e
 
     pub learns_name : (C : Fact Name) (x : Incoming Name Name) → IsToldWell hs x → Is js C (arrive.learn_name N x) nothing
     unfolding arrive.learn_name come
     learns_name C (Old n) t = fine_give N false (M js) n (got_nothing N false C)
-    learns_name C (New x h) t = record { after = λ s k c. (grows_same s.things s.lists, begun_holds word v js s (N.made (IsLearnt x) (length s.known)) h k (spared s h k t.0) (subst IsEventual (sym (learnt_is x (length s.known))) t.1), tt) }
+    learns_name C (New x h) t = record { after = λ s k c. (grows_same s.things s.lists, begun_holds word v heed js s (N.made (IsLearnt x) (length s.known)) h k (spared s h k t.0) (subst IsEventual (sym (learnt_is x (length s.known))) t.1), tt) }
 
     learns_ref : (C : Fact Name) (x : Incoming Name Name) → IsToldWell hs x → Is js C (arrive.learn_name N x >>= (λ n. give (Ref n))) IsValue
     learns_ref C x t = bind_name N false (M js) {C = C} {H = IsValue} (learns_name C x t) (λ n. fine_give N false (M js) {C = C} (Ref n) (got_ref N false C n))
@@ -98,11 +98,11 @@ module _ (word : ℕ → ℕ) (v : ℕ) where
 
     asks : {C : Fact Name} (p h i : ℕ) (n : Name) → Is js C (arrive.ask_for N p h i n) nothing
     unfolding arrive.ask_for
-    asks {C = C} p h i n = let broken = settle_broken word v js in search (fine, looks, broken) depth 30
+    asks {C = C} p h i n = let broken = settle_broken word v heed js in search (fine, looks, broken) depth 30
 
     gift_comes : {C : Fact Name} (h i : ℕ) → is_in h hs ≡ false → Is js C (come N (IsGift h i) h) nothing
     unfolding come
-    gift_comes h i e = record { after = λ s k c. (grows_same s.things s.lists, begun_holds word v js s (N.made (IsGift h i) (length s.known)) h k (spared s h k e) (gift_eventual h i (length s.known)), tt) }
+    gift_comes h i e = record { after = λ s k c. (grows_same s.things s.lists, begun_holds word v heed js s (N.made (IsGift h i) (length s.known)) h k (spared s h k e) (gift_eventual h i (length s.known)), tt) }
 
     learns_gift : (C : Fact Name) (p h i : ℕ) → is_in h hs ≡ false → Is js C (arrive.learn_gift N p h i) IsValue
     unfolding arrive.learn_gift
@@ -140,8 +140,8 @@ module _ (word : ℕ → ℕ) (v : ℕ) where
     unfolding ◌>>=◌ look come and_then
     answered C from id n verb args mail g = record {
       after = λ s k c. let a : Name = N.made (IsAnswer s.number id) (length s.known) in let made = made_answer s.number (length s.known) id mail in let t : Vat Name = record s { known = s.known ++ begun a s.number ∷ [] } in
-          widen N false (M js) nothing s t _ (grows_same s.things s.lists) ((fine_then N false (M js) {C = C} {H = nothing} nothing ((tells word v js).tells C from a)
-          (sends_on word v js (refs.settle N) (good_settle word v js) C (record { id = id; target = Ref n; verb = verb; args = args; answer = a }) (mail, made.1 ∙ k.1.number) (record { at = λ ts ms h. (tt, g.at ts ms h) }))).after t (begun_holds word v js s a s.number k (here_spared word v js s k) made.0) c);
+          widen N false (M js) nothing s t _ (grows_same s.things s.lists) ((fine_then N false (M js) {C = C} {H = nothing} nothing ((tells word v heed js).tells C from a)
+          (sends_on word v heed js (refs.settle N) (good_settle word v heed js) C (record { id = id; target = Ref n; verb = verb; args = args; answer = a }) (mail, made.1 ∙ k.1.number) (record { at = λ ts ms h. (tt, g.at ts ms h) }))).after t (begun_holds word v heed js s a s.number k (here_spared word v heed js s k) made.0) c);
     }
 
     pub delivers : (from : ℕ) (m x : Incoming Name Name) (verb : Words) (ys : Passeds (Incoming Name Name)) → IsToldMail m → IsToldWell hs x → AllPass ys → ToldPasseds hs ys → Is js Nothing (arrive.arrive_deliver N from m x verb ys) nothing
@@ -152,7 +152,7 @@ module _ (word : ℕ → ℕ) (v : ℕ) where
     -- ---- gifts
 
     new_gift_holds : (s : Vat Name) (p i : ℕ) → Kept js s → let n = N.made (IsGift s.number i) (length s.known) in Kept js (record s { known = s.known ++ begun n s.number ∷ []; gifts = s.gifts ++ record { name = n; provider = p; number = i; opened = false } ∷ [] })
-    new_gift_holds s p i k = let n : Name = N.made (IsGift s.number i) (length s.known) in let t : Vat Name = record s { known = s.known ++ begun n s.number ∷ [] } in let a : Kept js t = begun_holds word v js s n s.number k (here_spared word v js s k) (gift_eventual s.number i (length s.known)) in
+    new_gift_holds s p i k = let n : Name = N.made (IsGift s.number i) (length s.known) in let t : Vat Name = record s { known = s.known ++ begun n s.number ∷ [] } in let a : Kept js t = begun_holds word v heed js s n s.number k (here_spared word v heed js s k) (gift_eventual s.number i (length s.known)) in
         (M js).quiet t (record t { gifts = t.gifts ++ record { name = n; provider = p; number = i; opened = false } ∷ [] }) (refl, refl, refl, inl refl) a a.0
 
     had_or : (s : Vat Name) (p i : ℕ) (o : Option (GiftEntry Name)) → Kept js s → At js nothing s (arrive.gift_or_new N s.number p i o s)
@@ -167,11 +167,11 @@ module _ (word : ℕ → ℕ) (v : ℕ) where
     broke_at : {C : Fact Name} (n : Name) (p : Words) (t : Standing Name) → Is js C (arrive.break_at N n p t) nothing
     unfolding arrive.break_at
     broke_at {C = C} n p (Settled y) = search (fine, looks) depth 30
-    broke_at {C = C} n p Unsettled = settle_broken word v js C n p
-    broke_at {C = C} n p (WaitsOn q) = settle_broken word v js C n p
-    broke_at {C = C} n p (Viewed q) = settle_broken word v js C n p
+    broke_at {C = C} n p Unsettled = settle_broken word v heed js C n p
+    broke_at {C = C} n p (WaitsOn q) = settle_broken word v heed js C n p
+    broke_at {C = C} n p (Viewed q) = settle_broken word v heed js C n p
 
-    broke_unopened : {C : Fact Name} (n : Name) (b : Bool) → Is js C (arrive.break_unopened N n b) nothing
+    pub broke_unopened : {C : Fact Name} (n : Name) (b : Bool) → Is js C (arrive.break_unopened N n b) nothing
     unfolding arrive.break_unopened
     broke_unopened {C = C} n true = search (fine, looks) depth 30
     broke_unopened {C = C} n false = search (fine, looks, broke_at) depth 30
@@ -182,10 +182,10 @@ module _ (word : ℕ → ℕ) (v : ℕ) where
 
     told_asker : {C : Fact Name} (n : Name) (w : ℕ) (t : Standing Name) → Is js C (arrive.tell_asker N n w t) nothing
     unfolding arrive.tell_asker
-    told_asker {C = C} n w (Settled y) = fine_inform N false (M js) (tells word v js) {C = C} n w
-    told_asker {C = C} n w Unsettled = (tells word v js).tells C w n
-    told_asker {C = C} n w (WaitsOn q) = (tells word v js).tells C w n
-    told_asker {C = C} n w (Viewed q) = (tells word v js).tells C w n
+    told_asker {C = C} n w (Settled y) = fine_inform N false (M js) (tells word v heed js) {C = C} n w
+    told_asker {C = C} n w Unsettled = (tells word v heed js).tells C w n
+    told_asker {C = C} n w (WaitsOn q) = (tells word v heed js).tells C w n
+    told_asker {C = C} n w (Viewed q) = (tells word v heed js).tells C w n
 
     pub asked : (from p i : ℕ) → Is js Nothing (arrive.arrive_ask N from p i) nothing
     unfolding arrive.arrive_ask
@@ -200,36 +200,36 @@ module _ (word : ℕ → ℕ) (v : ℕ) where
     unfolding arrive.arrive_shorten
     shortened x i t = let named : (C : Fact Name) → Is js C (arrive.learn_name N x) nothing = λ C. learns_name C x t in search (fine, looks, named, shortens) depth 30
 
-    opens_own : (p i : ℕ) (y n : Name) → host_of n ≡ v → Is js Nothing (open_gift p i >> refs.resolve N n (Ref y)) nothing
-    opens_own p i y n e = fine_then N false (M js) {C = Nothing} {H = nothing} nothing (fine_open N false (M js) {C = Nothing} p i) (resolve_own word v js Nothing n e (Ref y) (got_ref N false Nothing y))
+    opens_own : heed ≡ true → (p i : ℕ) (y n : Name) → host_of n ≡ v → Is js Nothing (open_gift p i >> refs.resolve N n (Ref y)) nothing
+    opens_own on p i y n e = fine_then N false (M js) {C = Nothing} {H = nothing} nothing (fine_open N false (M js) {C = Nothing} p i) (resolve_own word v heed on js Nothing n e (Ref y) (got_ref N false Nothing y))
 
-    opens_or : (s : Vat Name) (p i : ℕ) (y : Name) (o : Option (GiftEntry Name)) → ((g : GiftEntry Name) → o ≡ Some g → host_of g.name ≡ v) → Kept js s → At js nothing s ((arrive.gift_or_new N s.number p i o >>= (λ n. open_gift p i >> refs.resolve N n (Ref y))) s)
+    opens_or : heed ≡ true → (s : Vat Name) (p i : ℕ) (y : Name) (o : Option (GiftEntry Name)) → ((g : GiftEntry Name) → o ≡ Some g → host_of g.name ≡ v) → Kept js s → At js nothing s ((arrive.gift_or_new N s.number p i o >>= (λ n. open_gift p i >> refs.resolve N n (Ref y))) s)
     unfolding arrive.gift_or_new ◌>>=◌ ◌>>◌ and_then come new_gift give
-    opens_or s p i y (Some g) own k = (opens_own p i y g.name (own g refl)).after s k tt
-    opens_or s p i y None own k = let n : Name = N.made (IsGift s.number i) (length s.known) in let t : Vat Name = record s { known = s.known ++ begun n s.number ∷ []; gifts = s.gifts ++ record { name = n; provider = p; number = i; opened = false } ∷ [] } in
-        widen N false (M js) nothing s t _ (grows_same s.things s.lists) ((opens_own p i y n (gift_host s.number i (length s.known) ∙ k.1.number)).after t (new_gift_holds s p i k) tt)
+    opens_or on s p i y (Some g) own k = (opens_own on p i y g.name (own g refl)).after s k tt
+    opens_or on s p i y None own k = let n : Name = N.made (IsGift s.number i) (length s.known) in let t : Vat Name = record s { known = s.known ++ begun n s.number ∷ []; gifts = s.gifts ++ record { name = n; provider = p; number = i; opened = false } ∷ [] } in
+        widen N false (M js) nothing s t _ (grows_same s.things s.lists) ((opens_own on p i y n (gift_host s.number i (length s.known) ∙ k.1.number)).after t (new_gift_holds s p i k) tt)
 
-    opens_at : (s : Vat Name) (p i : ℕ) (y : Name) → ((g : GiftEntry Name) → gift_at p i s.gifts ≡ Some g → host_of g.name ≡ v) → Kept js s → At js nothing s ((arrive.have_gift N p i >>= (λ n. open_gift p i >> refs.resolve N n (Ref y))) s)
+    opens_at : heed ≡ true → (s : Vat Name) (p i : ℕ) (y : Name) → ((g : GiftEntry Name) → gift_at p i s.gifts ≡ Some g → host_of g.name ≡ v) → Kept js s → At js nothing s ((arrive.have_gift N p i >>= (λ n. open_gift p i >> refs.resolve N n (Ref y))) s)
     unfolding arrive.have_gift ◌>>=◌ look and_then
-    opens_at s p i y own k = opens_or s p i y (gift_at p i s.gifts) own k
+    opens_at on s p i y own k = opens_or on s p i y (gift_at p i s.gifts) own k
 
-    pub opened : (s : Vat Name) (from i : ℕ) (x : Incoming Name Name) → IsToldWell hs x → ((g : GiftEntry Name) → gift_at from i s.gifts ≡ Some g → host_of g.name ≡ v) → Kept js s → At js nothing s (arrive.arrive_open N from i x s)
+    pub opened : heed ≡ true → (s : Vat Name) (from i : ℕ) (x : Incoming Name Name) → IsToldWell hs x → ((g : GiftEntry Name) → gift_at from i s.gifts ≡ Some g → host_of g.name ≡ v) → Kept js s → At js nothing s (arrive.arrive_open N from i x s)
     unfolding arrive.arrive_open arrive.learn_name ◌>>=◌ give come and_then
-    opened s from i (Old n) t own k = opens_at s from i n own k
-    opened s from i (New x h) t own k = let n : Name = N.made (IsLearnt x) (length s.known) in let u : Vat Name = record s { known = s.known ++ begun n h ∷ [] } in
-        widen N false (M js) nothing s u _ (grows_same s.things s.lists) (opens_at u from i n own (begun_holds word v js s n h k (spared s h k t.0) (subst IsEventual (sym (learnt_is x (length s.known))) t.1)))
+    opened on s from i (Old n) t own k = opens_at on s from i n own k
+    opened on s from i (New x h) t own k = let n : Name = N.made (IsLearnt x) (length s.known) in let u : Vat Name = record s { known = s.known ++ begun n h ∷ [] } in
+        widen N false (M js) nothing s u _ (grows_same s.things s.lists) (opens_at on u from i n own (begun_holds word v heed js s n h k (spared s h k t.0) (subst IsEventual (sym (learnt_is x (length s.known))) t.1)))
 
   -- ---- a name that a note settles
 
-  module _ (hs : List ℕ) (n : Name) where
+  module _ (on : heed ≡ true) (hs : List ℕ) (n : Name) where
     abbrev is' : List Mark
     is' = Noticed hs ∷ Unviewed n ∷ []
 
-    by_none : (s : Vat Name) (z : Value Name) → Kept is' s → ByView word v s n z
+    by_none : (s : Vat Name) (z : Value Name) → Kept is' s → ByView word v heed s n z
     by_none s z k c g e view = absurd (k.2.1.0 g view)
 
-    settles : (C : Fact Name) (z : Value Name) → Gets N false C (IsValue z) → NoPromise word v z → (s : Vat Name) → Kept is' s → Knows N false s.things s.lists C → At is' nothing s (refs.settle N n z s)
-    settles C z g not s k c = good_settle word v is' C n z g not s k c (by_none s z k)
+    settles : (C : Fact Name) (z : Value Name) → Gets N false C (IsValue z) → NoPromise word v heed z → (s : Vat Name) → Kept is' s → Knows N false s.things s.lists C → At is' nothing s (refs.settle N n z s)
+    settles C z g not s k c = good_settle word v heed is' C n z g not (λ i f. on) s k c (by_none s z k)
 
     list_name : (k : ℕ) (m : Name) → Items k ≡ Ref m → ⊥
     list_name k m e = cc
@@ -267,38 +267,39 @@ module _ (word : ℕ → ℕ) (v : ℕ) where
     settles_to from (AGift h i) q t w s k = absurd w
     settles_to from (Many ys) q t w s k = many_then s (arrive.learn_all N from ys s) ((learns_all hs (Unviewed n ∷ []) Nothing from ys q t).after s k tt)
 
-  marked : (s : Vat Name) (n : Name) → Kept [] s → NotViewed word v s n → Kept (Noticed s.noticed ∷ Unviewed n ∷ []) s
+  marked : (s : Vat Name) (n : Name) → Kept [] s → NotViewed word v heed s n → Kept (Noticed (heeds word v heed s) ∷ Unviewed n ∷ []) s
   marked s n k not = (k.0, k.1, (refl, (not, tt)))
 
   unmarked : (s : Vat Name) (hs : List ℕ) (n : Name) (d : Done Name (Unit {0})) → At (Noticed hs ∷ Unviewed n ∷ []) nothing s d → At [] nothing s d
-  unmarked s hs n d h = drop word v (Unviewed n) [] nothing s d (drop word v (Noticed hs) (Unviewed n ∷ []) nothing s d h)
+  unmarked s hs n d h = drop word v heed (Unviewed n) [] nothing s d (drop word v heed (Noticed hs) (Unviewed n ∷ []) nothing s d h)
 
-  settled : (s : Vat Name) (from : ℕ) (x : Incoming Name Name) (y : Passed (Incoming Name Name)) → IsToldWell s.noticed x → Passes y → ToldPassed s.noticed y → SettlesWell y → NotViewed word v s (told_name x) → Kept [] s → At [] nothing s (arrive.arrive_settled N from x y s)
+  settled : heed ≡ true → (s : Vat Name) (from : ℕ) (x : Incoming Name Name) (y : Passed (Incoming Name Name)) → IsToldWell (heeds word v heed s) x → Passes y → ToldPassed (heeds word v heed s) y → SettlesWell y → NotViewed word v heed s (told_name x) → Kept [] s → At [] nothing s (arrive.arrive_settled N from x y s)
   unfolding arrive.arrive_settled arrive.learn_name ◌>>=◌ give come and_then
-  settled s from (Old n) y t q u w not k = unmarked s s.noticed n _ (settles_to s.noticed n from y q u w s (marked s n k not))
-  settled s from (New x h) y t q u w not k = let n : Name = N.made (IsLearnt x) (length s.known) in let r : Vat Name = record s { known = s.known ++ begun n h ∷ [] } in
-      let a : Kept [] r = begun_holds word v [] s n h k t.0 (subst IsEventual (sym (learnt_is x (length s.known))) t.1) in
-      widen N false (M []) nothing s r _ (grows_same s.things s.lists) (unmarked r s.noticed n _ (settles_to s.noticed n from y q u w r (marked r n a
+  settled on s from (Old n) y t q u w not k = unmarked s (heeds word v heed s) n _ (settles_to on (heeds word v heed s) n from y q u w s (marked s n k not))
+  settled on s from (New x h) y t q u w not k = let n : Name = N.made (IsLearnt x) (length s.known) in let r : Vat Name = record s { known = s.known ++ begun n h ∷ [] } in
+      let a : Kept [] r = begun_holds word v heed [] s n h k t.0 (subst IsEventual (sym (learnt_is x (length s.known))) t.1) in
+      widen N false (M []) nothing s r _ (grows_same s.things s.lists) (unmarked r (heeds word v heed s) n _ (settles_to on (heeds word v heed s) n from y q u w r (marked r n a
       (λ g e. not g (ap (λ m. standing_of N s.known m) (sym (learnt_is x (length s.known))) ∙ sym (append_standing N (is word v) s.known n h n) ∙ e)))))
 
   -- ---- a note
 
-  noticed_mark : (s : Vat Name) → Kept [] s → Kept (Noticed s.noticed ∷ []) s
+  noticed_mark : (s : Vat Name) → Kept [] s → Kept (Noticed (heeds word v heed s) ∷ []) s
   noticed_mark s k = (k.0, k.1, (refl, tt))
 
   unnoticed : (s : Vat Name) (hs : List ℕ) (d : Done Name (Unit {0})) → At (Noticed hs ∷ []) nothing s d → At [] nothing s d
-  unnoticed s hs d h = drop word v (Noticed hs) [] nothing s d h
+  unnoticed s hs d h = drop word v heed (Noticed hs) [] nothing s d h
 
-  arrives : (from : ℕ) (n : Note (Incoming Name Name)) (s : Vat Name) → NoteBehind N v from s n → NotePasses n → Kept [] s → At [] nothing s (arrive.arrive N from n s)
+  -- where a note may settle a name to a list, what was noticed is heeded
+  arrives : (from : ℕ) (n : Note (Incoming Name Name)) (s : Vat Name) → IsHeeded heed n → NoteBehind N v from (heeds word v heed s) s n → NotePasses n → Kept [] s → At [] nothing s (arrive.arrive N from n s)
   unfolding arrive.arrive
-  arrives from (Deliver m x verb ys) s b q k = unnoticed s s.noticed _ ((delivers s.noticed [] from m x verb ys b.0 b.1 q b.2).after s (noticed_mark s k) tt)
-  arrives from (Open i x) s b q k = unnoticed s s.noticed _ (opened s.noticed [] s from i x b.0 b.1 (noticed_mark s k))
-  arrives from (Ask p i x) s b q k = unnoticed s s.noticed _ ((asked s.noticed [] from p i).after s (noticed_mark s k) tt)
-  arrives from (SettledTo x y) s b q k = settled s from x y b.0 q b.1 b.2 b.3 k
-  arrives from (Elsewhere x c) s b q k = elsewhere word v s x c b.0 b.1 b.2 b.3 b.4 k
-  arrives from (Shorten x c i) s b q k = unnoticed s s.noticed _ ((shortened s.noticed [] x i b).after s (noticed_mark s k) tt)
+  arrives from (Deliver m x verb ys) s on b q k = unnoticed s (heeds word v heed s) _ ((delivers (heeds word v heed s) [] from m x verb ys b.0 b.1 q b.2).after s (noticed_mark s k) tt)
+  arrives from (Open i x) s on b q k = unnoticed s (heeds word v heed s) _ (opened (heeds word v heed s) [] on s from i x b.0 b.1 (noticed_mark s k))
+  arrives from (Ask p i x) s on b q k = unnoticed s (heeds word v heed s) _ ((asked (heeds word v heed s) [] from p i).after s (noticed_mark s k) tt)
+  arrives from (SettledTo x y) s on b q k = settled on s from x y b.0 q b.1 b.2 b.3 k
+  arrives from (Elsewhere x c) s on b q k = elsewhere word v heed s x c b.0 b.1 b.2 b.3 b.4 k
+  arrives from (Shorten x c i) s on b q k = unnoticed s (heeds word v heed s) _ ((shortened (heeds word v heed s) [] x i b).after s (noticed_mark s k) tt)
 
-  ends_after : (s : Vat Name) (d : Done Name (Unit {0})) → At [] nothing s d → After (λ r t. Sound N false t × Ringless N v t) s d
+  ends_after : (s : Vat Name) (d : Done Name (Unit {0})) → At [] nothing s d → After (λ r t. Sound N false t × Ringless N v (heeds word v heed t) t) s d
   ends_after s (Gives a t) h = (h.1.0, h.1.1)
   ends_after s (Throws p t) h = (h.1.0, h.1.1)
   ends_after s (Ejects n x t) h = (h.1.0, h.1.1)
@@ -306,4 +307,4 @@ module _ (word : ℕ → ℕ) (v : ℕ) where
 
 pub arrivals_close_no_ring : ArrivalsCloseNoRing
 unfolding does
-arrivals_close_no_ring word v from n s behind sound passes r = ends_after word v s _ (arrives word v from n s behind passes (sound, r, tt))
+arrivals_close_no_ring word v from n heed s on behind sound passes r = ends_after word v heed s _ (arrives word v heed from n s on behind passes (sound, r, tt))

@@ -11,7 +11,7 @@ use Rattle.ev_frozen_laws.proofs.Fine.{Keeper, Fact, nothing, Ends, ChangeThere,
 use Rattle.ev_list_laws.specs.Lists.{IsEnd, IsTested, ViewSettled, IsBehind}
 use Rattle.ev_list_laws.specs.Ringless.{IsOwn, HoldsOwn}
 use Rattle.ev_list_laws.proofs.Following.{no_true, standing_found, waits_stays}
-use Rattle.ev_list_laws.proofs.Kept.{Mark, HoldsBy, K, is, settled_is, changed_or, Kept, IsMarked, Fair, ringless_changed, settling_changed, view_back, ringless_begun, settling_begun, keeper}
+use Rattle.ev_list_laws.proofs.Kept.{heeds, heeds_all, Mark, HoldsBy, K, is, settled_is, changed_or, Kept, IsMarked, Fair, ringless_changed, settling_changed, view_back, ringless_begun, settling_begun, keeper}
 
 view_wait : (q g : Name) → WaitsOn q ≡ Viewed g → ⊥
 view_wait q g e = cc
@@ -53,12 +53,12 @@ answer_eventual h (Promise w j) g = absurd g
 answer_eventual h (Answer w m) g = absurd g
 answer_eventual h (Gift w j) g = absurd g
 
-module _ (word : ℕ → ℕ) (v : ℕ) where
+module _ (word : ℕ → ℕ) (v : ℕ) (heed : Bool) where
   abbrev N : Naming Name Name
   N = K word v
 
   abbrev pub Holds : List Mark → Vat Name → Type 0
-  Holds ls s = (keeper word v ls).holds s
+  Holds ls s = (keeper word v heed ls).holds s
 
   -- it is not viewed
   abbrev pub NotViewed : Vat Name → Name → Type 0
@@ -81,7 +81,7 @@ module _ (word : ℕ → ℕ) (v : ℕ) where
       pick (inr i) = ap (λ (x : Known Name). x.waiting) i ∙ e
 
   -- a change by which no name stands otherwise, and none waits that did not
-  fair_same : (s : Vat Name) (c : Change Name) (p : Name) → Kept word v s → IsBehind N s c p → HoldsBy v c → ((k : Known Name) → (changed_to c k).standing ≡ k.standing) → ((k : Known Name) → (changed_to c k).waiting ≡ k.waiting) → Fair word v s c p
+  fair_same : (s : Vat Name) (c : Change Name) (p : Name) → Kept word v heed s → IsBehind N s c p → HoldsBy v c → ((k : Known Name) → (changed_to c k).standing ≡ k.standing) → ((k : Known Name) → (changed_to c k).waiting ≡ k.waiting) → Fair word v heed s c p
   fair_same s c p r b h stand wait = record {
     behind = b;
     holds = h;
@@ -90,19 +90,19 @@ module _ (word : ℕ → ℕ) (v : ℕ) where
     waiting = λ k n a. inl (subst (λ xs. IsAmong n xs) (same_waiting c k (wait k)) a);
   }
 
-  pub fair_hold : (s : Vat Name) (m : Message Name) (p : Name) → Kept word v s → IsOwn v m → Fair word v s (Hold m) p
+  pub fair_hold : (s : Vat Name) (m : Message Name) (p : Name) → Kept word v heed s → IsOwn v m → Fair word v heed s (Hold m) p
   unfolding changed_to
   fair_hold s m p r own = fair_same s (Hold m) p r tt own (λ k. refl) (λ k. refl)
 
-  pub fair_react : (s : Vat Name) (m : Message Name) (p : Name) → Kept word v s → Fair word v s (React m) p
+  pub fair_react : (s : Vat Name) (m : Message Name) (p : Name) → Kept word v heed s → Fair word v heed s (React m) p
   unfolding changed_to
   fair_react s m p r = fair_same s (React m) p r tt tt (λ k. refl) (λ k. refl)
 
-  pub fair_tell : (s : Vat Name) (w : ℕ) (p : Name) → Kept word v s → Fair word v s (ToTell w) p
+  pub fair_tell : (s : Vat Name) (w : ℕ) (p : Name) → Kept word v heed s → Fair word v heed s (ToTell w) p
   unfolding changed_to
   fair_tell s w p r = fair_same s (ToTell w) p r tt tt (λ k. refl) (λ k. refl)
 
-  waits_spared : (s : Vat Name) (q p : Name) (k : Known Name) (t : Standing Name) → Kept word v s → NotViewed s p → entry_of N s.known p ≡ Some k → k.standing ≡ t → still_waits (changed (WaitOn q) k).standing ≡ true → is_in k.host s.noticed ≡ false
+  waits_spared : (s : Vat Name) (q p : Name) (k : Known Name) (t : Standing Name) → Kept word v heed s → NotViewed s p → entry_of N s.known p ≡ Some k → k.standing ≡ t → still_waits (changed (WaitOn q) k).standing ≡ true → is_in k.host (heeds word v heed s) ≡ false
   unfolding still_waits
   waits_spared s q p k (Settled y) r not e i w = absurd (settled_waits y (sym (ap (λ (x : Known Name). still_waits x.standing) (settled_is (WaitOn q) k y i) ∙ ap still_waits i) ∙ w))
   waits_spared s q p k (Viewed g) r not e i w = absurd (not g (standing_found N s.known p k e ∙ i))
@@ -115,7 +115,7 @@ module _ (word : ℕ → ℕ) (v : ℕ) where
   view_wait_on q g k (inr i) e = absurd (view_wait q g (sym (ap (λ (x : Known Name). x.standing) i) ∙ e))
 
   -- a name that is not viewed comes to wait on another
-  pub fair_wait_on : (s : Vat Name) (q p : Name) → Kept word v s → NotViewed s p → Fair word v s (WaitOn q) p
+  pub fair_wait_on : (s : Vat Name) (q p : Name) → Kept word v heed s → NotViewed s p → Fair word v heed s (WaitOn q) p
   unfolding changed_to
   fair_wait_on s q p r not = record {
     behind = tt;
@@ -135,7 +135,7 @@ module _ (word : ℕ → ℕ) (v : ℕ) where
       pick (inr j) = inr (subst (λ m. NotViewed s m) (sym j) not)
 
   -- and so one waits there
-  pub fair_wait : (s : Vat Name) (q p : Name) → Kept word v s → NotViewed s q → Fair word v s (Wait q) p
+  pub fair_wait : (s : Vat Name) (q p : Name) → Kept word v heed s → NotViewed s q → Fair word v heed s (Wait q) p
   unfolding changed_to
   fair_wait s q p r not = record {
     behind = tt;
@@ -145,7 +145,7 @@ module _ (word : ℕ → ℕ) (v : ℕ) where
     waiting = λ k n a. waits_end s q n k not (changed_or (Wait q) k) a;
   }
 
-  settle_spared : (s : Vat Name) (y : Value Name) (p : Name) (k : Known Name) → Kept word v s → entry_of N s.known p ≡ Some k → (changed (Settle y) k ≡ k) ⊎ (changed (Settle y) k ≡ changed_to (Settle y) k) → still_waits (changed (Settle y) k).standing ≡ true → is_in k.host s.noticed ≡ false
+  settle_spared : (s : Vat Name) (y : Value Name) (p : Name) (k : Known Name) → Kept word v heed s → entry_of N s.known p ≡ Some k → (changed (Settle y) k ≡ k) ⊎ (changed (Settle y) k ≡ changed_to (Settle y) k) → still_waits (changed (Settle y) k).standing ≡ true → is_in k.host (heeds word v heed s) ≡ false
   unfolding changed_to
   settle_spared s y p k r e (inl i) w = r.names.spared p k e (sym (ap (λ (x : Known Name). still_waits x.standing) i) ∙ w)
   settle_spared s y p k r e (inr i) w = absurd (settled_waits y (sym (ap (λ (x : Known Name). still_waits x.standing) i) ∙ w))
@@ -160,7 +160,7 @@ module _ (word : ℕ → ℕ) (v : ℕ) where
   settle_waiting y n k (inl i) a = subst (λ (x : Known Name). IsAmong n x.waiting) i a
   settle_waiting y n k (inr i) a = absurd (subst (λ (x : Known Name). IsAmong n x.waiting) i a)
 
-  pub fair_settle : (s : Vat Name) (y : Value Name) (p : Name) → Kept word v s → IsBehind N s (Settle y) p → Fair word v s (Settle y) p
+  pub fair_settle : (s : Vat Name) (y : Value Name) (p : Name) → Kept word v heed s → IsBehind N s (Settle y) p → Fair word v heed s (Settle y) p
   fair_settle s y p r b = record {
     behind = b;
     holds = tt;
@@ -171,25 +171,25 @@ module _ (word : ℕ → ℕ) (v : ℕ) where
 
   -- ---- the state after them
 
-  pub changed_holds : (ls : List Mark) (s : Vat Name) (c : Change Name) (p : Name) → Holds ls s → Fair word v s c p → ChangeThere s.lists c → Holds ls (record s { known = with_change N c p s.known })
-  changed_holds ls s c p h fair there = (sound_known N false s (with_change N c p s.known) h.0 (changes_there N false s.lists c p s.known there h.0.known), ringless_changed word v s c p fair h.1, settling_changed word v s c p fair ls h.2)
+  pub changed_holds : (ls : List Mark) (s : Vat Name) (c : Change Name) (p : Name) → Holds ls s → Fair word v heed s c p → ChangeThere s.lists c → Holds ls (record s { known = with_change N c p s.known })
+  changed_holds ls s c p h fair there = (sound_known N false s (with_change N c p s.known) h.0 (changes_there N false s.lists c p s.known there h.0.known), ringless_changed word v heed s c p fair h.1, settling_changed word v heed s c p fair ls h.2)
 
-  pub altered : (ls : List Mark) (s : Vat Name) (c : Change Name) (p : Name) → Holds ls s → Fair word v s c p → ChangeThere s.lists c → Ends N false (keeper word v ls) nothing s (alter N c p s)
+  pub altered : (ls : List Mark) (s : Vat Name) (c : Change Name) (p : Name) → Holds ls s → Fair word v heed s c p → ChangeThere s.lists c → Ends N false (keeper word v heed ls) nothing s (alter N c p s)
   unfolding alter
   altered ls s c p h fair there = (grows_same s.things s.lists, changed_holds ls s c p h fair there, tt)
 
-  pub begun_holds : (ls : List Mark) (s : Vat Name) (n : Name) (h : ℕ) → Holds ls s → is_in h s.noticed ≡ false → IsEventual n → Holds ls (record s { known = s.known ++ begun n h ∷ [] })
-  begun_holds ls s n h i spared eventual = (known_begun N false s n h i.0, ringless_begun word v s n h spared eventual i.1, settling_begun word v s n h spared eventual ls i.2)
+  pub begun_holds : (ls : List Mark) (s : Vat Name) (n : Name) (h : ℕ) → Holds ls s → is_in h (heeds word v heed s) ≡ false → IsEventual n → Holds ls (record s { known = s.known ++ begun n h ∷ [] })
+  begun_holds ls s n h i spared eventual = (known_begun N false s n h i.0, ringless_begun word v heed s n h spared eventual i.1, settling_begun word v heed s n h spared eventual ls i.2)
 
   told_holds : (ls : List Mark) (s : Vat Name) (p q : Name) → Holds ls s → Holds ls (record s { happened = s.happened ++ Waits p q ∷ [] })
-  told_holds ls s p q h = (keeper word v ls).quiet s (record s { happened = s.happened ++ Waits p q ∷ [] }) (refl, refl, refl, inl refl) h h.0
+  told_holds ls s p q h = (keeper word v heed ls).quiet s (record s { happened = s.happened ++ Waits p q ∷ [] }) (refl, refl, refl, inl refl) h h.0
 
   -- a name that is not viewed comes to wait, as one
-  pub wait_ends : (ls : List Mark) (s : Vat Name) (p q : Name) → Holds ls s → NotViewed s p → Ends N false (keeper word v ls) nothing s (refs.wait_on N p q s)
+  pub wait_ends : (ls : List Mark) (s : Vat Name) (p q : Name) → Holds ls s → NotViewed s p → Ends N false (keeper word v heed ls) nothing s (refs.wait_on N p q s)
   unfolding refs.wait_on ◌>>◌ tell alter and_then
-  wait_ends ls s p q h not = let t : Vat Name = record s { happened = s.happened ++ Waits p q ∷ [] } in let a : Holds ls t = told_holds ls s p q h in let fair : Fair word v t (WaitOn q) p = fair_wait_on t q p a.1 not in
+  wait_ends ls s p q h not = let t : Vat Name = record s { happened = s.happened ++ Waits p q ∷ [] } in let a : Holds ls t = told_holds ls s p q h in let fair : Fair word v heed t (WaitOn q) p = fair_wait_on t q p a.1 not in
       let u : Vat Name = record t { known = with_change N (WaitOn q) p t.known } in let b : Holds ls u = changed_holds ls t (WaitOn q) p a fair tt in
-      (grows_same s.things s.lists, changed_holds ls u (Wait p) q b (fair_wait u p q b.1 (λ g e. not g (view_back word v t (WaitOn q) p fair p g e))) tt, tt)
+      (grows_same s.things s.lists, changed_holds ls u (Wait p) q b (fair_wait u p q b.1 (λ g e. not g (view_back word v heed t (WaitOn q) p fair p g e))) tt, tt)
 
   -- ---- a name that settles
 
@@ -211,10 +211,10 @@ module _ (word : ℕ → ℕ) (v : ℕ) where
   entry_name [] n k e = cc
   entry_name (k0 ∷ ks) n k e = name_head (N.same k0.name n) k0 k n (entry_of N ks n) (is word v k0.name n) e (λ h. entry_name ks n k h)
 
-  pub known_eventual : (s : Vat Name) (n : Name) (k : Known Name) → Kept word v s → entry_of N s.known n ≡ Some k → IsEventual n
+  pub known_eventual : (s : Vat Name) (n : Name) (k : Known Name) → Kept word v heed s → entry_of N s.known n ≡ Some k → IsEventual n
   known_eventual s n k r e = subst IsEventual (entry_name s.known n k e) (found_all (λ (x : Known Name). IsEventual x.name) s.known n k r.names.eventual e)
 
-  pub found_held : (s : Vat Name) (n : Name) (k : Known Name) → Kept word v s → entry_of N s.known n ≡ Some k → HoldsOwn v k
+  pub found_held : (s : Vat Name) (n : Name) (k : Known Name) → Kept word v heed s → entry_of N s.known n ≡ Some k → HoldsOwn v k
   found_held s n k r e = found_all (HoldsOwn v) s.known n k r.names.held e
 
   -- no promise
@@ -225,12 +225,12 @@ module _ (word : ℕ → ℕ) (v : ℕ) where
   abbrev pub ByView : Vat Name → Name → Value Name → Type 0
   ByView s p x = (c : ℕ) (g : Name) → x ≡ Items c → standing_of N s.known p ≡ Viewed g → standing_of N s.known g ≡ Settled (Items c)
 
-  end_at : (s : Vat Name) (n : Name) (o : Option (Known Name)) → Kept word v s → (IsEventual n → ⊥) → entry_of N s.known n ≡ o → still_waits (standing_of N s.known n) ≡ true
+  end_at : (s : Vat Name) (n : Name) (o : Option (Known Name)) → Kept word v heed s → (IsEventual n → ⊥) → entry_of N s.known n ≡ o → still_waits (standing_of N s.known n) ≡ true
   unfolding standing_of standing_in
   end_at s n None r not e = ap (λ o. still_waits (standing_in o)) e ∙ open_waits
   end_at s n (Some k) r not e = absurd (not (known_eventual s n k r e))
 
-  no_promise_end : (s : Vat Name) (x : Value Name) → Kept word v s → NoPromise x → IsEnd N s x
+  no_promise_end : (s : Vat Name) (x : Value Name) → Kept word v heed s → NoPromise x → IsEnd N s x
   no_promise_end s x r not n e = end_at s n (entry_of N s.known n) r (λ i. not n e i) refl
 
   cut_ref : (b : Bool) (k : ℕ) (n : Name) → cut_cycle N b (Items k) ≡ Ref n → Items k ≡ Ref n
@@ -295,16 +295,20 @@ module _ (word : ℕ → ℕ) (v : ℕ) where
   severed_self s n k (Foreign w) e f h = cc
   severed_self s n k NoObject e f h = severed_none (host_at N s.number s.known n) s n (ap (λ x. is_in x s.noticed) (host_found s n k f) ∙ h)
 
-  self_followed : (s : Vat Name) (n : Name) (k : Known Name) → Kept word v s → entry_of N s.known n ≡ Some k → still_waits k.standing ≡ true → follow N s (Ref n) ≡ Ref n
+  self_followed : heed ≡ true → (s : Vat Name) (n : Name) (k : Known Name) → Kept word v heed s → entry_of N s.known n ≡ Some k → still_waits k.standing ≡ true → follow N s (Ref n) ≡ Ref n
   unfolding follow severed
-  self_followed s n k r e w = ap (severed N s) (waits_stays N (suc (length s.known)) s.known n (ap still_waits (standing_found N s.known n k e) ∙ w)) ∙ severed_self s n k (N.spot n) (spot_none n (known_eventual s n k r e)) e (r.names.spared n k e w)
+  self_followed on s n k r e w = ap (severed N s) (waits_stays N (suc (length s.known)) s.known n (ap still_waits (standing_found N s.known n k e) ∙ w)) ∙ severed_self s n k (N.spot n) (spot_none n (known_eventual s n k r e)) e (subst (λ hs. is_in k.host hs ≡ false) (heeds_all word v heed s on) (r.names.spared n k e w))
 
-  tested_or : (s : Vat Name) (p : Name) (x : Value Name) (k : Known Name) (t : Standing Name) (c : ℕ) → Kept word v s → entry_of N s.known p ≡ Some k → k.standing ≡ t → ((z : Value Name) → t ≡ Settled z → ⊥) → ByView s p x → target_of N s p x ≡ Items c → IsTested N s (target_of N s p x) p ⊎ ViewSettled N s (target_of N s p x) p
+  tested_or : heed ≡ true → (s : Vat Name) (p : Name) (x : Value Name) (k : Known Name) (t : Standing Name) (c : ℕ) → Kept word v heed s → entry_of N s.known p ≡ Some k → k.standing ≡ t → ((z : Value Name) → t ≡ Settled z → ⊥) → ByView s p x → target_of N s p x ≡ Items c → IsTested N s (target_of N s p x) p ⊎ ViewSettled N s (target_of N s p x) p
   unfolding still_waits
-  tested_or s p x k (Settled z) c r e i unsettled by f = absurd (unsettled z refl)
-  tested_or s p x k (Viewed g) c r e i unsettled by f = let view : standing_of N s.known p ≡ Viewed g = standing_found N s.known p k e ∙ i in inr (g, view, by c g (target_list s p x c f) view ∙ ap (λ y. Settled y) (sym f))
-  tested_or s p x k (WaitsOn q) c r e i unsettled by f = inl (x, refl, ap still_waits (standing_found N s.known p k e ∙ i), self_followed s p k r e (ap still_waits i))
-  tested_or s p x k Unsettled c r e i unsettled by f = inl (x, refl, ap still_waits (standing_found N s.known p k e ∙ i), self_followed s p k r e (ap still_waits i))
+  tested_or on s p x k (Settled z) c r e i unsettled by f = absurd (unsettled z refl)
+  tested_or on s p x k (Viewed g) c r e i unsettled by f = let view : standing_of N s.known p ≡ Viewed g = standing_found N s.known p k e ∙ i in inr (g, view, by c g (target_list s p x c f) view ∙ ap (λ y. Settled y) (sym f))
+  tested_or on s p x k (WaitsOn q) c r e i unsettled by f = inl (x, refl, ap still_waits (standing_found N s.known p k e ∙ i), self_followed on s p k r e (ap still_waits i))
+  tested_or on s p x k Unsettled c r e i unsettled by f = inl (x, refl, ap still_waits (standing_found N s.known p k e ∙ i), self_followed on s p k r e (ap still_waits i))
 
-  pub settle_behind : (s : Vat Name) (p : Name) (x : Value Name) (k : Known Name) → Kept word v s → entry_of N s.known p ≡ Some k → ((z : Value Name) → k.standing ≡ Settled z → ⊥) → NoPromise x → ByView s p x → IsBehind N s (Settle (target_of N s p x)) p
-  settle_behind s p x k r e unsettled not by = (no_promise_end s (target_of N s p x) r (λ n i. not n (target_ref s p x n i)), λ c f. tested_or s p x k k.standing c r e refl unsettled by f)
+  -- a list settles only where what was noticed is heeded
+  abbrev pub ListIf : Value Name → Type 0
+  ListIf x = (c : ℕ) → x ≡ Items c → heed ≡ true
+
+  pub settle_behind : (s : Vat Name) (p : Name) (x : Value Name) (k : Known Name) → Kept word v heed s → entry_of N s.known p ≡ Some k → ((z : Value Name) → k.standing ≡ Settled z → ⊥) → NoPromise x → ListIf x → ByView s p x → IsBehind N s (Settle (target_of N s p x)) p
+  settle_behind s p x k r e unsettled not lists by = (no_promise_end s (target_of N s p x) r (λ n i. not n (target_ref s p x n i)), λ c f. tested_or (lists c (target_list s p x c f)) s p x k k.standing c r e refl unsettled by f)

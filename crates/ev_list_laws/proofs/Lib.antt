@@ -1,7 +1,7 @@
-pub mod TmpViews
-pub mod TmpEntries
-pub mod TmpChains
-pub mod TmpListChains
+pub mod Views
+pub mod Entries
+pub mod Chains
+pub mod ListChains
 pub mod Stacked
 pub mod Following
 pub mod Rings
@@ -17,3 +17,5 @@ pub mod RefsRing
 pub mod TurnsRing
 pub mod ViewRing
 pub mod ArriveRing
+pub mod NoticeRing
+pub mod RunRing

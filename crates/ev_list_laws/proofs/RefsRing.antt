@@ -14,9 +14,9 @@ use Rattle.ev_frozen_laws.proofs.FineRefs.{Tells, fine_deliver, fine_inform}
 use Rattle.ev_frozen_laws.proofs.Serves.{Serves, Closing}
 use Rattle.ev_list_laws.specs.Ringless.{IsOwn, HoldsOwn}
 use Rattle.ev_list_laws.proofs.Following.{standing_found}
-use Rattle.ev_list_laws.proofs.Kept.{Settling, Mark, With, K, IsMarked, Fair, keeper, view_back, open_changed}
-use Rattle.ev_list_laws.proofs.Changes.{Holds, NotViewed, NoPromise, ByView, answer_eventual, fair_hold, fair_react, fair_tell, fair_settle, changed_holds, altered, begun_holds, wait_ends, entry_name, known_eventual, found_held, target_ref, target_list, settle_behind}
-use Rattle.ev_list_laws.proofs.TmpEntries.{changed_at}
+use Rattle.ev_list_laws.proofs.Kept.{heeds, heeds_spared, Settling, Mark, With, K, IsMarked, Fair, keeper, view_back, open_changed}
+use Rattle.ev_list_laws.proofs.Changes.{Holds, NotViewed, ListIf, NoPromise, ByView, answer_eventual, fair_hold, fair_react, fair_tell, fair_settle, changed_holds, altered, begun_holds, wait_ends, entry_name, known_eventual, found_held, target_ref, target_list, settle_behind}
+use Rattle.ev_list_laws.proofs.Entries.{changed_at}
 
 not_true : (b : Bool) → (b ≡ true → ⊥) → b ≡ false
 not_true true f = absurd (f refl)
@@ -31,12 +31,12 @@ broken_name t n e = cc
 same_value : (y z : Value Name) → Settled y ≡ Settled z → y ≡ z
 same_value y z e = cc
 
-module _ (word : ℕ → ℕ) (v : ℕ) where
+module _ (word : ℕ → ℕ) (v : ℕ) (heed : Bool) where
   abbrev N : Naming Name Name
   N = K word v
 
   abbrev M : List Mark → Keeper N false
-  M ls = keeper word v ls
+  M ls = keeper word v heed ls
 
   -- what is done so is kept
   abbrev pub Does : List Mark → Fact Name → {A : Type 0} → Act Name A → (A → Fact Name) → Type 0
@@ -46,49 +46,49 @@ module _ (word : ℕ → ℕ) (v : ℕ) where
   At ls G s d = Ends N false (M ls) G s d
 
   abbrev Kept : List Mark → Vat Name → Type 0
-  Kept ls s = Holds word v ls s
+  Kept ls s = Holds word v heed ls s
 
   pub tells : (ls : List Mark) → Tells N false (M ls)
-  tells ls = record { tells = λ C w n. record { after = λ s h c. altered word v ls s (ToTell w) n h (fair_tell word v s w n h.1) tt } }
+  tells ls = record { tells = λ C w n. record { after = λ s h c. altered word v heed ls s (ToTell w) n h (fair_tell word v heed s w n h.1) tt } }
 
   -- ---- a message that is sent on
 
-  own_far : (ls : List Mark) (s : Vat Name) (p : Name) → Kept ls s → host_of p ≡ v → NotViewed word v s p
+  own_far : (ls : List Mark) (s : Vat Name) (p : Name) → Kept ls s → host_of p ≡ v → NotViewed word v heed s p
   own_far ls s p h own g e = h.1.names.far p g e own
 
   wait_own : (ls : List Mark) (C : Fact Name) (p q : Name) → host_of p ≡ v → Does ls C (refs.wait_on N p q) nothing
-  wait_own ls C p q own = record { after = λ s h c. wait_ends word v ls s p q h (own_far ls s p h own) }
+  wait_own ls C p q own = record { after = λ s h c. wait_ends word v heed ls s p q h (own_far ls s p h own) }
 
   made_answer : (h k : ℕ) (i : Name) → IsMessageName i → IsEventual (N.made (IsAnswer h i) k)
   unfolding naming name_of
   made_answer h k i g = answer_eventual h i g
 
-  pass_ends : (ls : List Mark) (C : Fact Name) (m : Message Name) (h : ℕ) (n : Name) → IsOwn v m → Gets N false C (IsMessage m) → (s : Vat Name) → Kept ls s → Knows N false s.things s.lists C → is_in h s.noticed ≡ false → At ls nothing s (refs.pass_on N m h n s)
+  pass_ends : (ls : List Mark) (C : Fact Name) (m : Message Name) (h : ℕ) (n : Name) → IsOwn v m → Gets N false C (IsMessage m) → (s : Vat Name) → Kept ls s → Knows N false s.things s.lists C → is_in h (heeds word v heed s) ≡ false → At ls nothing s (refs.pass_on N m h n s)
   unfolding refs.pass_on ◌>>=◌ come and_then
   pass_ends ls C m h n own g s i c spared = let a : Name = N.made (IsAnswer h m.id) (length s.known) in let t : Vat Name = record s { known = s.known ++ begun a h ∷ [] } in
-      widen N false (M ls) nothing s t _ (grows_same s.things s.lists) ((fine_then N false (M ls) {C = C} nothing (fine_deliver N false (M ls) (tells ls) {C = C} m g h n) (wait_own ls C m.answer a own.1)).after t (begun_holds word v ls s a h i spared (made_answer h (length s.known) m.id own.0)) c)
+      widen N false (M ls) nothing s t _ (grows_same s.things s.lists) ((fine_then N false (M ls) {C = C} nothing (fine_deliver N false (M ls) (tells ls) {C = C} m g h n) (wait_own ls C m.answer a own.1)).after t (begun_holds word v heed ls s a h i spared (made_answer h (length s.known) m.id own.0)) c)
 
   -- a name settles to that, under what is asked of it
   abbrev pub Settler : Type 0
   Settler = Name → Value Name → Act Name (Unit {0})
 
   abbrev pub Good : List Mark → Settler → Type 0
-  Good ls settle = (C : Fact Name) (p : Name) (x : Value Name) → Gets N false C (IsValue x) → NoPromise word v x → (s : Vat Name) → Kept ls s → Knows N false s.things s.lists C → ByView word v s p x → At ls nothing s (settle p x s)
+  Good ls settle = (C : Fact Name) (p : Name) (x : Value Name) → Gets N false C (IsValue x) → NoPromise word v heed x → ListIf word v heed x → (s : Vat Name) → Kept ls s → Knows N false s.things s.lists C → ByView word v heed s p x → At ls nothing s (settle p x s)
 
   breaks : (ls : List Mark) (settle : Settler) → Good ls settle → (C : Fact Name) (p : Name) (t : Words) → Does ls C (settle p (Broken t)) nothing
-  breaks ls settle good C p t = record { after = λ s h c. good C p (Broken t) (got_broken N false C t) (λ n e i. broken_name t n e) s h c (λ k g e. absurd (broken_list t k e)) }
+  breaks ls settle good C p t = record { after = λ s h c. good C p (Broken t) (got_broken N false C t) (λ n e i. broken_name t n e) (λ k e. absurd (broken_list t k e)) s h c (λ k g e. absurd (broken_list t k e)) }
 
-  away_spared : (s : Vat Name) (x : Value Name) (h : ℕ) (n : Name) (o : Bool) → place N s (follow N s x) ≡ Away h n o → is_in h s.noticed ≡ false
-  away_spared s x h n o e = not_true (is_in h s.noticed) (λ i. nothing_of N s h i x n o e)
+  away_spared : (s : Vat Name) (x : Value Name) (h : ℕ) (n : Name) (o : Bool) → place N s (follow N s x) ≡ Away h n o → is_in h (heeds word v heed s) ≡ false
+  away_spared s x h n o e = heeds_spared word v heed s h (not_true (is_in h s.noticed) (λ i. nothing_of N s h i x n o e))
 
   with_target : (C : Fact Name) (m : Message Name) (y : Value Name) → Gets N false C (IsMessage m) → Gets N false C (IsValue y) → Gets N false C (IsMessage (record m { target = y }))
   with_target C m y g i = record { at = λ ts ls h. (i.at ts ls h, (g.at ts ls h).1) }
 
   sent_at : (ls : List Mark) (settle : Settler) → Good ls settle → (C : Fact Name) (m : Message Name) (y : Value Name) (p : Place Name) → IsOwn v m → Gets N false C (IsMessage m) → Gets N false C (IsValue y) → (s : Vat Name) → Kept ls s → Knows N false s.things s.lists C
-      → ((h : ℕ) (n : Name) (o : Bool) → p ≡ Away h n o → is_in h s.noticed ≡ false) → At ls nothing s (refs.send_to N settle m y p s)
+      → ((h : ℕ) (n : Name) (o : Bool) → p ≡ Away h n o → is_in h (heeds word v heed s) ≡ false) → At ls nothing s (refs.send_to N settle m y p s)
   unfolding refs.send_to
   sent_at ls settle good C m y Near own g i s h c f = (fine_enqueue N false (M ls) {C = C} (record m { target = y }) (with_target C m y g i)).after s h c
-  sent_at ls settle good C m y (Mine n) own g i s h c f = altered word v ls s (Hold (record m { target = y })) n h (fair_hold word v s (record m { target = y }) n h.1 own) ((with_target C m y g i).at s.things s.lists c)
+  sent_at ls settle good C m y (Mine n) own g i s h c f = altered word v heed ls s (Hold (record m { target = y })) n h (fair_hold word v heed s (record m { target = y }) n h.1 own) ((with_target C m y g i).at s.things s.lists c)
   sent_at ls settle good C m y (Away w n o) own g i s h c f = pass_ends ls C m w n own g s h c (f w n o refl)
   sent_at ls settle good C m y (Gone t) own g i s h c f = (fine_then N false (M ls) {C = C} nothing (fine_tell N false (M ls) {C = C} (Lost m.id)) (breaks ls settle good C m.answer t)).after s h c
 
@@ -112,7 +112,7 @@ module _ (word : ℕ → ℕ) (v : ℕ) where
   each_among ls C f (n ∷ ns) i = fine_then N false (M ls) {C = C} nothing (i n (inl refl)) (each_among ls C f ns (λ m a. i m (inr a)))
 
   -- what waits on a name that settles, settles with it
-  with_view : (l : Settling) (ls : List Mark) (s : Vat Name) (q : Name) → Kept (With l ∷ ls) s → IsAmong q l.waiting → ByView word v s q l.value
+  with_view : (l : Settling) (ls : List Mark) (s : Vat Name) (q : Name) → Kept (With l ∷ ls) s → IsAmong q l.waiting → ByView word v heed s q l.value
   with_view l ls s q h a c g e view = let same : g ≡ l.name = h.2.0.1 q a g view in ap (λ n. standing_of N s.known n) same ∙ h.2.0.0 ∙ ap (λ y. Settled y) e
 
   pub drop : {A : Type 0} (l : Mark) (ls : List Mark) (G : A → Fact Name) (s : Vat Name) (d : Done Name A) → At (l ∷ ls) G s d → At ls G s d
@@ -132,79 +132,79 @@ module _ (word : ℕ → ℕ) (v : ℕ) where
   Known3 y k = Also (IsValue y) (Also (AreMessages k.held) (AreMessages k.reactions))
 
   -- what follows once it settled
-  rest_of : (ls : List Mark) (settle : Settler) (p : Name) (y : Value Name) (k : Known Name) → Good (With (settling p y k) ∷ ls) settle → HoldsOwn v k → NoPromise word v y
+  rest_of : (ls : List Mark) (settle : Settler) (p : Name) (y : Value Name) (k : Known Name) → Good (With (settling p y k) ∷ ls) settle → HoldsOwn v k → NoPromise word v heed y → ListIf word v heed y
       → Does (With (settling p y k) ∷ ls) (Known3 y k) (each (refs.send_on N settle) k.held >> (each (λ q. settle q y) k.waiting >> (each enqueue k.reactions >> each (refs.inform N p) k.told))) nothing
   unfolding settling
-  rest_of ls settle p y k good own not = let js : List Mark = With (settling p y k) ∷ ls in let C : Fact Name = Known3 y k in let here : Gets N false C (IsValue y) = record { at = λ ts ms h. h.0 } in
+  rest_of ls settle p y k good own not lists = let js : List Mark = With (settling p y k) ∷ ls in let C : Fact Name = Known3 y k in let here : Gets N false C (IsValue y) = record { at = λ ts ms h. h.0 } in
       fine_then N false (M js) {C = C} nothing (own_each js C (refs.send_on N settle) k.held own (record { at = λ ts ms h. h.1.0 }) (λ m o g. sends_on js settle good C m o g))
-      (fine_then N false (M js) {C = C} nothing (each_among js C (λ q. settle q y) k.waiting (λ q a. record { after = λ s h c. good C q y here not s h c (with_view (settling p y k) ls s q h a) }))
+      (fine_then N false (M js) {C = C} nothing (each_among js C (λ q. settle q y) k.waiting (λ q a. record { after = λ s h c. good C q y here not lists s h c (with_view (settling p y k) ls s q h a) }))
       (fine_then N false (M js) {C = C} nothing (each_message N false (M js) {C = C} k.reactions (record { at = λ ts ms h. h.1.1 }) (λ m. fine_enqueue N false (M js) {C = Also C (IsMessage m)} m (got N false C (IsMessage m))))
       (fine_each N false (M js) {C = C} k.told (λ w. fine_inform N false (M js) (tells js) {C = C} p w))))
 
   known_there : (ls : List Mark) (s : Vat Name) (p : Name) (k : Known Name) → Kept ls s → entry_of N s.known p ≡ Some k → KnownThere s.lists k
   known_there ls s p k h e = subst (λ o. MayBe (KnownThere s.lists) o) e (entry_there N false s.lists s.known p h.0.known)
 
-  settle_known : (ls : List Mark) (settle : Settler) → ((js : List Mark) → Good js settle) → (p : Name) (x : Value Name) (k : Known Name) (s : Vat Name) → Kept ls s → IsThere s.lists x → NoPromise word v x → ByView word v s p x → entry_of N s.known p ≡ Some k → ((z : Value Name) → k.standing ≡ Settled z → ⊥)
+  settle_known : (ls : List Mark) (settle : Settler) → ((js : List Mark) → Good js settle) → (p : Name) (x : Value Name) (k : Known Name) (s : Vat Name) → Kept ls s → IsThere s.lists x → NoPromise word v heed x → ListIf word v heed x → ByView word v heed s p x → entry_of N s.known p ≡ Some k → ((z : Value Name) → k.standing ≡ Settled z → ⊥)
       → At ls nothing s (refs.settle_known N settle p (target_of N s p x) k s)
   unfolding refs.settle_known ◌>>◌ tell alter and_then settling
-  settle_known ls settle good p x k s h there not by e unsettled = let y : Value Name = target_of N s p x in let l : Settling = settling p y k in
-      let fair : Fair word v s (Settle y) p = fair_settle word v s y p h.1 (settle_behind word v s p x k h.1 e unsettled not by) in
+  settle_known ls settle good p x k s h there not lists by e unsettled = let y : Value Name = target_of N s p x in let l : Settling = settling p y k in
+      let fair : Fair word v heed s (Settle y) p = fair_settle word v heed s y p h.1 (settle_behind word v heed s p x k h.1 e unsettled not lists by) in
       let y_there : IsThere s.lists y = target_there N false s p x there in
-      let t : Vat Name = record s { known = with_change N (Settle y) p s.known } in let a : Kept ls t = changed_holds word v ls s (Settle y) p h fair y_there in
+      let t : Vat Name = record s { known = with_change N (Settle y) p s.known } in let a : Kept ls t = changed_holds word v heed ls s (Settle y) p h fair y_there in
       let u : Vat Name = record t { happened = s.happened ++ Settles p y ∷ [] } in let b : Kept ls u = (M ls).quiet t u (refl, refl, refl, inl refl) a a.0 in
-      let c : Kept (With l ∷ ls) u = (b.0, b.1, ((new_settled s p y k e unsettled, λ q i g f. sym (h.1.names.views q g p k (view_back word v s (Settle y) p fair q g f) e i)), b.2)) in
+      let c : Kept (With l ∷ ls) u = (b.0, b.1, ((new_settled s p y k e unsettled, λ q i g f. sym (h.1.names.views q g p k (view_back word v heed s (Settle y) p fair q g f) e i)), b.2)) in
       let all : KnownThere s.lists k = known_there ls s p k h e in
-      widen N false (M ls) nothing s u _ (grows_same s.things s.lists) (drop (With l) ls nothing u _ ((rest_of ls settle p y k (good (With l ∷ ls)) (found_held word v s p k h.1 e) (λ n i j. not n (target_ref word v s p x n i) j)).after u c (y_there, (all.1, all.2))))
+      widen N false (M ls) nothing s u _ (grows_same s.things s.lists) (drop (With l) ls nothing u _ ((rest_of ls settle p y k (good (With l ∷ ls)) (found_held word v heed s p k h.1 e) (λ n i j. not n (target_ref word v heed s p x n i) j) (λ i f. lists i (target_list word v heed s p x i f))).after u c (y_there, (all.1, all.2))))
 
-  settle_standing : (ls : List Mark) (settle : Settler) → ((js : List Mark) → Good js settle) → (p : Name) (x : Value Name) (k : Known Name) (t : Standing Name) (s : Vat Name) → Kept ls s → IsThere s.lists x → NoPromise word v x → ByView word v s p x → entry_of N s.known p ≡ Some k → k.standing ≡ t
+  settle_standing : (ls : List Mark) (settle : Settler) → ((js : List Mark) → Good js settle) → (p : Name) (x : Value Name) (k : Known Name) (t : Standing Name) (s : Vat Name) → Kept ls s → IsThere s.lists x → NoPromise word v heed x → ListIf word v heed x → ByView word v heed s p x → entry_of N s.known p ≡ Some k → k.standing ≡ t
       → At ls nothing s (refs.settle_standing N settle p (target_of N s p x) k t s)
   unfolding refs.settle_standing give
-  settle_standing ls settle good p x k (Settled z) s h there not by e i = (grows_same s.things s.lists, h, tt)
-  settle_standing ls settle good p x k (Viewed g) s h there not by e i = settle_known ls settle good p x k s h there not by e (λ z j. view_not g z (sym i ∙ j))
+  settle_standing ls settle good p x k (Settled z) s h there not lists by e i = (grows_same s.things s.lists, h, tt)
+  settle_standing ls settle good p x k (Viewed g) s h there not lists by e i = settle_known ls settle good p x k s h there not lists by e (λ z j. view_not g z (sym i ∙ j))
     where
       view_not : (g : Name) (z : Value Name) → Viewed g ≡ Settled z → ⊥
       view_not g z f = cc
-  settle_standing ls settle good p x k (WaitsOn q) s h there not by e i = settle_known ls settle good p x k s h there not by e (λ z j. wait_not q z (sym i ∙ j))
+  settle_standing ls settle good p x k (WaitsOn q) s h there not lists by e i = settle_known ls settle good p x k s h there not lists by e (λ z j. wait_not q z (sym i ∙ j))
     where
       wait_not : (q : Name) (z : Value Name) → WaitsOn q ≡ Settled z → ⊥
       wait_not q z f = cc
-  settle_standing ls settle good p x k Unsettled s h there not by e i = settle_known ls settle good p x k s h there not by e (λ z j. open_not z (sym i ∙ j))
+  settle_standing ls settle good p x k Unsettled s h there not lists by e i = settle_known ls settle good p x k s h there not lists by e (λ z j. open_not z (sym i ∙ j))
     where
       open_not : (z : Value Name) → Unsettled ≡ Settled z → ⊥
       open_not z f = cc
 
-  settle_entry : (ls : List Mark) (settle : Settler) → ((js : List Mark) → Good js settle) → (p : Name) (x : Value Name) (o : Option (Known Name)) (s : Vat Name) → Kept ls s → IsThere s.lists x → NoPromise word v x → ByView word v s p x → entry_of N s.known p ≡ o
+  settle_entry : (ls : List Mark) (settle : Settler) → ((js : List Mark) → Good js settle) → (p : Name) (x : Value Name) (o : Option (Known Name)) (s : Vat Name) → Kept ls s → IsThere s.lists x → NoPromise word v heed x → ListIf word v heed x → ByView word v heed s p x → entry_of N s.known p ≡ o
       → At ls nothing s (refs.settle_entry N settle p (target_of N s p x) o s)
   unfolding refs.settle_entry give
-  settle_entry ls settle good p x None s h there not by e = (grows_same s.things s.lists, h, tt)
-  settle_entry ls settle good p x (Some k) s h there not by e = settle_standing ls settle good p x k k.standing s h there not by e refl
+  settle_entry ls settle good p x None s h there not lists by e = (grows_same s.things s.lists, h, tt)
+  settle_entry ls settle good p x (Some k) s h there not lists by e = settle_standing ls settle good p x k k.standing s h there not lists by e refl
 
   settle_one : (ls : List Mark) (settle : Settler) → ((js : List Mark) → Good js settle) → Good ls (refs.settle_one N settle)
   unfolding refs.settle_one ◌>>=◌ look and_then
-  settle_one ls settle good C p x g not s h c by = settle_entry ls settle good p x (entry_of N s.known p) s h (g.at s.things s.lists c) not by refl
+  settle_one ls settle good C p x g not lists s h c by = settle_entry ls settle good p x (entry_of N s.known p) s h (g.at s.things s.lists c) not lists by refl
 
   settle_at : (d : ℕ) (ls : List Mark) → Good ls (refs.settle_at N d)
   unfolding refs.settle_at stop
-  settle_at zero ls C p x g not s h c by = (grows_same s.things s.lists, h)
-  settle_at (suc d) ls C p x g not s h c by = settle_one ls (λ q z. refs.settle_at N d q z) (λ js D q z i n t k e b. settle_at d js D q z i n t k e b) C p x g not s h c by
+  settle_at zero ls C p x g not lists s h c by = (grows_same s.things s.lists, h)
+  settle_at (suc d) ls C p x g not lists s h c by = settle_one ls (λ q z. refs.settle_at N d q z) (λ js D q z i n l t k e b. settle_at d js D q z i n l t k e b) C p x g not lists s h c by
 
   pub good_settle : (ls : List Mark) → Good ls (refs.settle N)
   unfolding refs.settle ◌>>=◌ look and_then
-  good_settle ls C p x g not s h c by = settle_at (suc (suc (length s.known))) ls C p x g not s h c by
+  good_settle ls C p x g not lists s h c by = settle_at (suc (suc (length s.known))) ls C p x g not lists s h c by
 
   pub settle_broken : (ls : List Mark) (C : Fact Name) (p : Name) (t : Words) → Does ls C (refs.settle N p (Broken t)) nothing
   settle_broken ls C p t = breaks ls (refs.settle N) (good_settle ls) C p t
 
   -- ---- resolving
 
-  not_viewed_by : (s : Vat Name) (p : Name) (x : Value Name) → NotViewed word v s p → ByView word v s p x
+  not_viewed_by : (s : Vat Name) (p : Name) (x : Value Name) → NotViewed word v heed s p → ByView word v heed s p x
   not_viewed_by s p x not c g e view = absurd (not g view)
 
-  wait_or : (ls : List Mark) (C : Fact Name) (p q : Name) (b : Bool) (s : Vat Name) → Kept ls s → Knows N false s.things s.lists C → NotViewed word v s p → At ls nothing s ((if b then refs.settle N p (Broken (codes "cycle")) else refs.wait_on N p q) s)
+  wait_or : (ls : List Mark) (C : Fact Name) (p q : Name) (b : Bool) (s : Vat Name) → Kept ls s → Knows N false s.things s.lists C → NotViewed word v heed s p → At ls nothing s ((if b then refs.settle N p (Broken (codes "cycle")) else refs.wait_on N p q) s)
   wait_or ls C p q true s h c not = (settle_broken ls C p (codes "cycle")).after s h c
-  wait_or ls C p q false s h c not = wait_ends word v ls s p q h not
+  wait_or ls C p q false s h c not = wait_ends word v heed ls s p q h not
 
-  wait_unless : (ls : List Mark) (C : Fact Name) (p q : Name) (s : Vat Name) → Kept ls s → Knows N false s.things s.lists C → NotViewed word v s p → At ls nothing s (refs.wait_unless_cycle N p q s)
+  wait_unless : (ls : List Mark) (C : Fact Name) (p q : Name) (s : Vat Name) → Kept ls s → Knows N false s.things s.lists C → NotViewed word v heed s p → At ls nothing s (refs.wait_unless_cycle N p q s)
   unfolding refs.wait_unless_cycle ◌>>=◌ look and_then
   wait_unless ls C p q s h c not = wait_or ls C p q (waits_lead N (length s.known) s.known p q) s h c not
 
@@ -238,27 +238,27 @@ module _ (word : ℕ → ℕ) (v : ℕ) where
   unfolding place
   promise_place s n p i e = promise_spot s n p (N.spot n) (eventual_spot n i) e
 
-  no_promise : (s : Vat Name) (y : Value Name) (p : Place Name) → place N s y ≡ p → ((n : Name) → p ≡ Mine n → ⊥) → ((h : ℕ) (n : Name) → p ≡ Away h n false → ⊥) → NoPromise word v y
+  no_promise : (s : Vat Name) (y : Value Name) (p : Place Name) → place N s y ≡ p → ((n : Name) → p ≡ Mine n → ⊥) → ((h : ℕ) (n : Name) → p ≡ Away h n false → ⊥) → NoPromise word v heed y
   no_promise s y p e f g n i j = pick (promise_place s n p j (ap (place N s) (sym i) ∙ e))
     where
       pick : (p ≡ Mine n) ⊎ (p ≡ Away (host_at N s.number s.known n) n false) → ⊥
       pick (inl k) = f n k
       pick (inr k) = g (host_at N s.number s.known n) n k
 
-  resolve_at : (ls : List Mark) (C : Fact Name) (p : Name) (y : Value Name) (l : Place Name) → Gets N false C (IsValue y) → (s : Vat Name) → Kept ls s → Knows N false s.things s.lists C → NotViewed word v s p → place N s y ≡ l → At ls nothing s (refs.resolve_to N p y l s)
+  resolve_at : heed ≡ true → (ls : List Mark) (C : Fact Name) (p : Name) (y : Value Name) (l : Place Name) → Gets N false C (IsValue y) → (s : Vat Name) → Kept ls s → Knows N false s.things s.lists C → NotViewed word v heed s p → place N s y ≡ l → At ls nothing s (refs.resolve_to N p y l s)
   unfolding refs.resolve_to
-  resolve_at ls C p y (Mine q) g s h c not e = wait_unless ls C p q s h c not
-  resolve_at ls C p y (Away w q false) g s h c not e = wait_unless ls C p q s h c not
-  resolve_at ls C p y (Away w q true) g s h c not e = good_settle ls C p y g (no_promise s y (Away w q true) e (λ n i. cc) (λ u n i. cc)) s h c (not_viewed_by s p y not)
-  resolve_at ls C p y Near g s h c not e = good_settle ls C p y g (no_promise s y Near e (λ n i. cc) (λ u n i. cc)) s h c (not_viewed_by s p y not)
-  resolve_at ls C p y (Gone t) g s h c not e = good_settle ls C p y g (no_promise s y (Gone t) e (λ n i. cc) (λ u n i. cc)) s h c (not_viewed_by s p y not)
+  resolve_at on ls C p y (Mine q) g s h c not e = wait_unless ls C p q s h c not
+  resolve_at on ls C p y (Away w q false) g s h c not e = wait_unless ls C p q s h c not
+  resolve_at on ls C p y (Away w q true) g s h c not e = good_settle ls C p y g (no_promise s y (Away w q true) e (λ n i. cc) (λ u n i. cc)) (λ i f. on) s h c (not_viewed_by s p y not)
+  resolve_at on ls C p y Near g s h c not e = good_settle ls C p y g (no_promise s y Near e (λ n i. cc) (λ u n i. cc)) (λ i f. on) s h c (not_viewed_by s p y not)
+  resolve_at on ls C p y (Gone t) g s h c not e = good_settle ls C p y g (no_promise s y (Gone t) e (λ n i. cc) (λ u n i. cc)) (λ i f. on) s h c (not_viewed_by s p y not)
 
-  pub resolve_ends : (ls : List Mark) (C : Fact Name) (p : Name) (x : Value Name) → Gets N false C (IsValue x) → (s : Vat Name) → Kept ls s → Knows N false s.things s.lists C → NotViewed word v s p → At ls nothing s (refs.resolve N p x s)
+  pub resolve_ends : heed ≡ true → (ls : List Mark) (C : Fact Name) (p : Name) (x : Value Name) → Gets N false C (IsValue x) → (s : Vat Name) → Kept ls s → Knows N false s.things s.lists C → NotViewed word v heed s p → At ls nothing s (refs.resolve N p x s)
   unfolding refs.resolve ◌>>=◌ look and_then
-  resolve_ends ls C p x g s h c not = let y : Value Name = follow N s x in resolve_at ls (Also C (IsValue y)) p y (place N s y) (got N false C (IsValue y)) s h (c, follow_there N false s h.0 x (g.at s.things s.lists c)) not refl
+  resolve_ends on ls C p x g s h c not = let y : Value Name = follow N s x in resolve_at on ls (Also C (IsValue y)) p y (place N s y) (got N false C (IsValue y)) s h (c, follow_there N false s h.0 x (g.at s.things s.lists c)) not refl
 
-  pub resolve_own : (ls : List Mark) (C : Fact Name) (p : Name) → host_of p ≡ v → (x : Value Name) → Gets N false C (IsValue x) → Does ls C (refs.resolve N p x) nothing
-  resolve_own ls C p own x g = record { after = λ s h c. resolve_ends ls C p x g s h c (own_far ls s p h own) }
+  pub resolve_own : heed ≡ true → (ls : List Mark) (C : Fact Name) (p : Name) → host_of p ≡ v → (x : Value Name) → Gets N false C (IsValue x) → Does ls C (refs.resolve N p x) nothing
+  resolve_own on ls C p own x g = record { after = λ s h c. resolve_ends on ls C p x g s h c (own_far ls s p h own) }
 
   -- ---- sending, reacting and promises
 
@@ -270,7 +270,7 @@ module _ (word : ℕ → ℕ) (v : ℕ) where
   unfolding new_promise
   promised ls C = record {
     after = λ s h c. let t : Vat Name = record s { promises = suc s.promises } in let a : Kept ls t = (M ls).quiet s t (refl, refl, refl, inl refl) h h.0 in let n : Name = N.made (IsOwnPromise s.promises) (length s.known) in
-        (grows_same s.things s.lists, begun_holds word v ls t n s.number a (ap (λ i. is_in i s.noticed) h.1.number ∙ h.1.names.here) (own_promise s.promises (length s.known)), tt);
+        (grows_same s.things s.lists, begun_holds word v heed ls t n s.number a (ap (λ i. is_in i (heeds word v heed s)) h.1.number ∙ h.1.names.here) (own_promise s.promises (length s.known)), tt);
   }
 
   -- a message that is made, its answer at that host, and the state then
@@ -291,12 +291,12 @@ module _ (word : ℕ → ℕ) (v : ℕ) where
   unfolding naming mail_of name_of answer_of host_of
   made_host s h = refl
 
-  made_holds : (ls : List Mark) (s : Vat Name) (h : ℕ) → Kept ls s → is_in h s.noticed ≡ false → Kept ls (made s h)
+  made_holds : (ls : List Mark) (s : Vat Name) (h : ℕ) → Kept ls s → is_in h (heeds word v heed s) ≡ false → Kept ls (made s h)
   made_holds ls s h i spared = let t : Vat Name = record s { messages = suc s.messages; mails = s.mails ++ made_id s ∷ [] } in let a : Kept ls t = (M ls).quiet s t (refl, refl, refl, inl refl) i i.0 in
-      begun_holds word v ls t (made_at s h) h a spared (made_answer h (length s.known) (made_id s) (made_mail s))
+      begun_holds word v heed ls t (made_at s h) h a spared (made_answer h (length s.known) (made_id s) (made_mail s))
 
-  pub here_spared : (ls : List Mark) (s : Vat Name) → Kept ls s → is_in s.number s.noticed ≡ false
-  here_spared ls s h = ap (λ i. is_in i s.noticed) h.1.number ∙ h.1.names.here
+  pub here_spared : (ls : List Mark) (s : Vat Name) → Kept ls s → is_in s.number (heeds word v heed s) ≡ false
+  here_spared ls s h = ap (λ i. is_in i (heeds word v heed s)) h.1.number ∙ h.1.names.here
 
   -- a new message, in a state in which it was just made
   sent_here : (ls : List Mark) (C : Fact Name) (act : ℕ) (x y : Value Name) (verb : Words) (args : List (Value Name)) (p : Place Name) (id a : Name) → IsMessageName id → host_of a ≡ v → Gets N false C (IsValue y) → Gets N false C (AreValues args) → ((h : ℕ) (n : Name) (o : Bool) → p ≡ Away h n o → ⊥)
@@ -311,7 +311,7 @@ module _ (word : ℕ → ℕ) (v : ℕ) where
       fine_then N false (M ls) {C = C} nothing (fine_tell N false (M ls) {C = C} _) (fine_then N false (M ls) {C = C} nothing
       (fine_deliver N false (M ls) (tells ls) {C = C} m (record { at = λ ts js k. (g.at ts js k, i.at ts js k) }) h n) (fine_give N false (M ls) {C = C} (Ref a) (got_ref N false C a)))
 
-  send_at : (ls : List Mark) (C : Fact Name) (act : ℕ) (x y : Value Name) (verb : Words) (args : List (Value Name)) (p : Place Name) → Gets N false C (IsValue y) → Gets N false C (AreValues args) → (s : Vat Name) → Kept ls s → Knows N false s.things s.lists C → ((h : ℕ) (n : Name) (o : Bool) → p ≡ Away h n o → is_in h s.noticed ≡ false)
+  send_at : (ls : List Mark) (C : Fact Name) (act : ℕ) (x y : Value Name) (verb : Words) (args : List (Value Name)) (p : Place Name) → Gets N false C (IsValue y) → Gets N false C (AreValues args) → (s : Vat Name) → Kept ls s → Knows N false s.things s.lists C → ((h : ℕ) (n : Name) (o : Bool) → p ≡ Away h n o → is_in h (heeds word v heed s) ≡ false)
       → At ls IsValue s ((new_message N (refs.answer_host N s.number p) >>= (λ new. tell (Sends act (record { id = new.0; target = x; verb = verb; args = args; answer = new.1 })) >> (refs.send_first N (record { id = new.0; target = y; verb = verb; args = args; answer = new.1 }) y p >> give (Ref new.1)))) s)
   unfolding ◌>>=◌ new_message and_then refs.answer_host refs.send_first
   send_at ls C act x y verb args (Away h n o) g i s k c f = widen N false (M ls) IsValue s (made s h) _ (grows_same s.things s.lists) ((sent_away ls C act x y verb args h n (made_id s) (made_at s h) g i).after (made s h) (made_holds ls s h k (f h n o refl)) c)
@@ -328,8 +328,8 @@ module _ (word : ℕ → ℕ) (v : ℕ) where
 
   reacts_at : (ls : List Mark) (C : Fact Name) (m : Message Name) (p : Place Name) → Gets N false C (IsMessage m) → Does ls C (refs.react_at N m p) nothing
   unfolding refs.react_at
-  reacts_at ls C m (Mine n) g = record { after = λ s h c. altered word v ls s (React m) n h (fair_react word v s m n h.1) (g.at s.things s.lists c) }
-  reacts_at ls C m (Away h n false) g = record { after = λ s i c. altered word v ls s (React m) n i (fair_react word v s m n i.1) (g.at s.things s.lists c) }
+  reacts_at ls C m (Mine n) g = record { after = λ s h c. altered word v heed ls s (React m) n h (fair_react word v heed s m n h.1) (g.at s.things s.lists c) }
+  reacts_at ls C m (Away h n false) g = record { after = λ s i c. altered word v heed ls s (React m) n i (fair_react word v heed s m n i.1) (g.at s.things s.lists c) }
   reacts_at ls C m (Away h n true) g = fine_enqueue N false (M ls) {C = C} m g
   reacts_at ls C m Near g = fine_enqueue N false (M ls) {C = C} m g
   reacts_at ls C m (Gone t) g = fine_enqueue N false (M ls) {C = C} m g
@@ -346,11 +346,11 @@ module _ (word : ℕ → ℕ) (v : ℕ) where
   unfolding refs.react ◌>>=◌ look and_then new_message
   reacts ls C act x g o i near j = record { after = λ s h c. widen N false (M ls) IsValue s (made s s.number) _ (grows_same s.things s.lists) ((react_made ls C act x o near (made_id s) (made_at s s.number) g j).after (made s s.number) (made_holds ls s s.number h (here_spared ls s h)) c) }
 
-  pub serving : Serves N false (M [])
-  serving = record {
+  pub serving : heed ≡ true → Serves N false (M [])
+  serving on = record {
     promises = λ C. promised [] C;
     breaks = λ C p t. settle_broken [] C p t;
-    resolves = λ C p y g s h c e. resolve_ends [] C p y g s h c (λ w f. open_view w (sym e ∙ f));
+    resolves = λ C p y g s h c e. resolve_ends on [] C p y g s h c (λ w f. open_view w (sym e ∙ f));
     sends = λ C act x g verb args i. sends [] C act x g verb args i;
     reacts = λ C act x g o i near j. reacts [] C act x g o i near j;
   }
@@ -358,5 +358,5 @@ module _ (word : ℕ → ℕ) (v : ℕ) where
       open_view : (w : Name) → Unsettled ≡ Viewed w → ⊥
       open_view w f = cc
 
-  pub closing_own : (p : Name) → host_of p ≡ v → Closing N false (M []) p
-  closing_own p own = record { closes = λ C y g. resolve_own [] C p own y g }
+  pub closing_own : heed ≡ true → (p : Name) → host_of p ≡ v → Closing N false (M []) p
+  closing_own on p own = record { closes = λ C y g. resolve_own on [] C p own y g }

@@ -1,5 +1,5 @@
 -- Opening turns and turns make no list lead back to itself.
-use Rattle.std.proofs.Common.{◌≡◌, ℕ, Bool, true, false, List, []}
+use Rattle.std.proofs.Common.{◌≡◌, ℕ, Bool, true, false, List, [], refl}
 use Rattle.ev_machine.specs.Values.{Name, Naming, host_of}
 use Rattle.ev_machine.specs.State.{Binding, Message, Vat, Done, Gives, Throws, Ejects, Stops}
 use Rattle.ev_machine_laws.specs.Steps.{Step, Opens, Takes, Receives, Notices, does, After}
@@ -14,16 +14,16 @@ use Rattle.ev_list_laws.proofs.Kept.{K, keeper}
 use Rattle.ev_list_laws.proofs.RefsRing.{serving, closing_own}
 
 module _ (word : ℕ → ℕ) (v : ℕ) where
-  ends_after : {A : Type 0} (G : A → Fact Name) (s : Vat Name) (d : Done Name A) → Ends (K word v) false (keeper word v []) G s d → After (λ r t. Sound (K word v) false t × Ringless (K word v) v t) s d
+  ends_after : {A : Type 0} (G : A → Fact Name) (s : Vat Name) (d : Done Name A) → Ends (K word v) false (keeper word v true []) G s d → After (λ r t. Sound (K word v) false t × Ringless (K word v) v t.noticed t) s d
   ends_after G s (Gives a t) h = (h.1.0, h.1.1)
   ends_after G s (Throws p t) h = (h.1.0, h.1.1)
   ends_after G s (Ejects n x t) h = (h.1.0, h.1.1)
   ends_after G s (Stops c t) h = (h.1.0, h.1.1)
 
-  keeps : (step : Step Name Name) (s : Vat Name) → IsOwnTurn v step → Sound (K word v) false s → StepWell (K word v) false s step → Ringless (K word v) v s → After (λ r t. Sound (K word v) false t × Ringless (K word v) v t) s (does (K word v) step s)
+  keeps : (step : Step Name Name) (s : Vat Name) → IsOwnTurn v step → Sound (K word v) false s → StepWell (K word v) false s step → Ringless (K word v) v s.noticed s → After (λ r t. Sound (K word v) false t × Ringless (K word v) v t.noticed t) s (does (K word v) step s)
   unfolding does
-  keeps (Opens tree depth root given) s own sound well r = ends_after nothing s _ ((fine_opening (K word v) false (keeper word v []) (serving word v) (global_spots word v) tree (λ q. absurd (no_true q)) {C = AreNouns given} depth root (closing_own word v root own) given (got_itself (K word v) false (AreNouns given))).after s (sound, r, tt) well.1)
-  keeps (Takes tree depth m) s own sound well r = ends_after nothing s _ ((fine_taking (K word v) false (keeper word v []) (serving word v) (global_spots word v) tree (λ q. absurd (no_true q)) {C = IsMessage m} depth m (closing_own word v m.answer own) (got_itself (K word v) false (IsMessage m))).after s (sound, r, tt) well.1)
+  keeps (Opens tree depth root given) s own sound well r = ends_after nothing s _ ((fine_opening (K word v) false (keeper word v true []) (serving word v true refl) (global_spots word v) tree (λ q. absurd (no_true q)) {C = AreNouns given} depth root (closing_own word v true refl root own) given (got_itself (K word v) false (AreNouns given))).after s (sound, r, tt) well.1)
+  keeps (Takes tree depth m) s own sound well r = ends_after nothing s _ ((fine_taking (K word v) false (keeper word v true []) (serving word v true refl) (global_spots word v) tree (λ q. absurd (no_true q)) {C = IsMessage m} depth m (closing_own word v true refl m.answer own) (got_itself (K word v) false (IsMessage m))).after s (sound, r, tt) well.1)
   keeps (Receives from n) s own sound well r = absurd own
   keeps (Notices w) s own sound well r = absurd own
 

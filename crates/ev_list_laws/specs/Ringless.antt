@@ -1,5 +1,5 @@
 -- A vat in which no list leads back to itself, with what of its names keeps that so in a turn.
-use Rattle.std.specs.Prelude.{◌≡◌, ℕ, true, false, List, Some, None, length}
+use Rattle.std.specs.Prelude.{◌≡◌, ℕ, Bool, true, false, List, [], Some, None, length}
 use Rattle.ev_kernel.specs.declared.node.Node.{Node}
 use Rattle.ev_machine.specs.Values.{Value, Null, Flag, Number, Letter, Text, Prim, Broken, Items, Ref, Name, Gift, Naming, naming, host_of}
 use Rattle.ev_machine.specs.State.{Binding, Message, Viewed, Known, Passed, Passeds, Plain, AGift, Many, NoMore, More, Note, Deliver, Open, Ask, SettledTo, Elsewhere, Shorten, GiftEntry, Vat, is_in}
@@ -43,9 +43,10 @@ module _ (K : Naming Name Name) (v : ℕ) where
     -- what is known is no object
     pub eventual : AllOf (λ (k : Known Name). IsEventual k.name) ks
 
-  pub record Ringless (s : Vat Name) : Type 0 where
+  -- where these are the vats that were noticed
+  pub record Ringless (hs : List ℕ) (s : Vat Name) : Type 0 where
     pub number : s.number ≡ v
-    pub names : NamesRest s.known s.noticed
+    pub names : NamesRest s.known hs
     pub none : NoListLeadsBack K s
 
 -- an opening turn that resolves a name of the vat's own, and a turn of a message whose answer it hosts
@@ -57,8 +58,8 @@ IsOwnTurn v (Notices w) = ⊥
 
 -- Every opening turn and every turn from such a state ends in such a state.
 abbrev pub TurnsCloseNoRing : Type 0
-TurnsCloseNoRing = (word : ℕ → ℕ) (v : ℕ) (step : Step Name Name) (s : Vat Name) → IsOwnTurn v step → Sound (naming word v) false s → StepWell (naming word v) false s step → Ringless (naming word v) v s
-    → After (λ r t. Sound (naming word v) false t × Ringless (naming word v) v t) s (does (naming word v) step s)
+TurnsCloseNoRing = (word : ℕ → ℕ) (v : ℕ) (step : Step Name Name) (s : Vat Name) → IsOwnTurn v step → Sound (naming word v) false s → StepWell (naming word v) false s step → Ringless (naming word v) v s.noticed s
+    → After (λ r t. Sound (naming word v) false t × Ringless (naming word v) v t.noticed t) s (does (naming word v) step s)
 
 -- ---- what is asked of a note
 
@@ -123,18 +124,35 @@ abbrev pub NextIsNew : Naming Name Name → Vat Name → Type 0
 NextIsNew K s = ((h : ℕ) → entry_of K s.known (Gift h (length s.drawn)) ≡ None) × ((p : ℕ) → gift_at p (length s.drawn) s.gifts ≡ None)
 
 -- What is asked of a note that arrives.
-abbrev pub NoteBehind : Naming Name Name → ℕ → ℕ → Vat Name → Note (Incoming Name Name) → Type 0
-NoteBehind K v from s (Deliver m x verb ys) = IsToldMail m × IsToldWell s.noticed x × ToldPasseds s.noticed ys
+abbrev pub NoteBehind : Naming Name Name → ℕ → ℕ → List ℕ → Vat Name → Note (Incoming Name Name) → Type 0
+NoteBehind K v from hs s (Deliver m x verb ys) = IsToldMail m × IsToldWell hs x × ToldPasseds hs ys
 -- a gift that the vat has is its own
-NoteBehind K v from s (Open i x) = IsToldWell s.noticed x × ((g : GiftEntry Name) → gift_at from i s.gifts ≡ Some g → host_of g.name ≡ v)
-NoteBehind K v from s (Ask p i x) = Unit {0}
+NoteBehind K v from hs s (Open i x) = IsToldWell hs x × ((g : GiftEntry Name) → gift_at from i s.gifts ≡ Some g → host_of g.name ≡ v)
+NoteBehind K v from hs s (Ask p i x) = Unit {0}
 -- the name that settles is not viewed
-NoteBehind K v from s (SettledTo x y) = IsToldWell s.noticed x × ToldPassed s.noticed y × SettlesWell y × ((g : Name) → standing_of K s.known (told_name x) ≡ Viewed g → ⊥)
+NoteBehind K v from hs s (SettledTo x y) = IsToldWell hs x × ToldPassed hs y × SettlesWell y × ((g : Name) → standing_of K s.known (told_name x) ≡ Viewed g → ⊥)
 -- the name is of another vat and waits nowhere, and the gift of the next draw is new
-NoteBehind K v from s (Elsewhere x c) = IsToldWell s.noticed x × (host_of (told_name x) ≡ v → ⊥) × WaitsNowhere K s.known (told_name x) × NextIsNew K s × ((g : ℕ) → told_name x ≡ Gift g (length s.drawn) → ⊥)
-NoteBehind K v from s (Shorten x c i) = IsToldWell s.noticed x
+NoteBehind K v from hs s (Elsewhere x c) = IsToldWell hs x × (host_of (told_name x) ≡ v → ⊥) × WaitsNowhere K s.known (told_name x) × NextIsNew K s × ((g : ℕ) → told_name x ≡ Gift g (length s.drawn) → ⊥)
+NoteBehind K v from hs s (Shorten x c i) = IsToldWell hs x
 
--- So does the arrival of every such note.
+-- Where a note may settle a name to a list, what was noticed is heeded.
+abbrev pub IsHeeded : Bool → Note (Incoming Name Name) → Type 0
+IsHeeded heed (Open i x) = heed ≡ true
+IsHeeded heed (SettledTo x y) = heed ≡ true
+IsHeeded heed (Deliver m x verb ys) = Unit {0}
+IsHeeded heed (Ask p i x) = Unit {0}
+IsHeeded heed (Elsewhere x c) = Unit {0}
+IsHeeded heed (Shorten x c i) = Unit {0}
+
+-- the vats that were noticed, where they are heeded
+abbrev pub heeded : Bool → Vat Name → List ℕ
+heeded heed s = elim heed [ true ↦ s.noticed | false ↦ [] ]
+
+-- So does the arrival of every such note, whether what was noticed is heeded or, where it settles no name to a list, not.
 abbrev pub ArrivalsCloseNoRing : Type 0
-ArrivalsCloseNoRing = (word : ℕ → ℕ) (v from : ℕ) (n : Note (Incoming Name Name)) (s : Vat Name) → NoteBehind (naming word v) v from s n → Sound (naming word v) false s → NotePasses n → Ringless (naming word v) v s
-    → After (λ r t. Sound (naming word v) false t × Ringless (naming word v) v t) s (does (naming word v) (Receives from n) s)
+ArrivalsCloseNoRing = (word : ℕ → ℕ) (v from : ℕ) (n : Note (Incoming Name Name)) (heed : Bool) (s : Vat Name) → IsHeeded heed n → NoteBehind (naming word v) v from (heeded heed s) s n → Sound (naming word v) false s → NotePasses n → Ringless (naming word v) v (heeded heed s) s
+    → After (λ r t. Sound (naming word v) false t × Ringless (naming word v) v (heeded heed t) t) s (does (naming word v) (Receives from n) s)
+
+-- So does the notice of a cut, where what was noticed is not heeded: each name that settles then breaks.
+abbrev pub NoticeStepsCloseNoRing : Type 0
+NoticeStepsCloseNoRing = (word : ℕ → ℕ) (v w : ℕ) (s : Vat Name) → Sound (naming word v) false s → Ringless (naming word v) v [] s → After (λ r t. Sound (naming word v) false t × Ringless (naming word v) v [] t) s (does (naming word v) (Notices w) s)

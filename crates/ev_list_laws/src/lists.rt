@@ -1,6 +1,7 @@
 //! What lists are made of, and where their members lead.
 
-ghost use Rattle.ev_list_laws.specs.Ringless.{ArrivalsCloseNoRing, TurnsCloseNoRing};
+ghost use Rattle.ev_list_laws.specs.Runs.{ListsEndWhereNotesTellWell};
+ghost use Rattle.ev_list_laws.specs.Ringless.{ArrivalsCloseNoRing, NoticeStepsCloseNoRing, TurnsCloseNoRing};
 ghost use Rattle.ev_list_laws.specs.Lists.{ListsAreThere, MembersEndInRuns, ChangesCloseNoRing, NewListsCloseNoRing, NewNamesCloseNoRing, NoticesCloseNoRing, FollowingSuffices, RinglessListsEnd, ConditionsAreNeeded};
 
 /// In each vat of every world of a run each list that stands in a value is there. A list that is a
@@ -74,4 +75,19 @@ pub fn turns_close_no_ring()
 /// of another vat and waits nowhere, where the gift of the next draw is new.
 pub fn arrivals_close_no_ring()
     ensures { ArrivalsCloseNoRing }
+{}
+
+/// So does the notice of a cut. Of what waits nothing is asked, and nothing is said of it after.
+pub fn notice_steps_close_no_ring()
+    ensures { NoticeStepsCloseNoRing }
+{}
+
+/// In each vat of every world of a run whose notes tell well no list leads back to itself, and from
+/// each value one comes by members, each followed, after no more than as many steps as there are
+/// lists to values without members: after any of the opening turns, and after all of them and any
+/// entries of which each turn takes a message that the vat answers, and each carry brings a note as
+/// `arrivals_close_no_ring` asks; where names may settle to lists, what waits must have a host that was
+/// not noticed.
+pub fn lists_end_where_notes_tell_well()
+    ensures { ListsEndWhereNotesTellWell }
 {}

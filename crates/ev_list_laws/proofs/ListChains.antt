@@ -8,7 +8,7 @@ use Rattle.ev_machine.specs.Values.{Value, Null, Flag, Number, Letter, Text, Pri
 use Rattle.ev_machine.specs.State.{Vat}
 use Rattle.ev_machine.specs.Native.{list_at}
 use Rattle.ev_machine.specs.Refs.{any_of, reached, reaches, follow}
-use Rattle.ev_list_laws.proofs.TmpChains.{false_if}
+use Rattle.ev_list_laws.proofs.Chains.{false_if}
 
 both_false : (b : Bool) → b ≡ true → b ≡ false → ⊥
 both_false b e f = let both : true ≡ false = sym e ∙ f in cc

@@ -6,7 +6,7 @@ use Rattle.ev_machine.specs.Refs.{entry_of}
 use Rattle.ev_machine_laws.proofs.StepLaws.{changed_head}
 use Rattle.ev_name_laws.specs.Names.{IsAmong}
 use Rattle.ev_name_laws.proofs.Among.{among_more}
-use Rattle.ev_list_laws.proofs.TmpViews.{IsOpen, index_at}
+use Rattle.ev_list_laws.proofs.Views.{IsOpen, index_at}
 
 -- ---- the entry of a name after a change
 

@@ -7,8 +7,8 @@ use Rattle.std.proofs.lemmas.Map.Steps.{length-le_from_distinct_below}
 use Rattle.ev_machine.specs.Values.{Name, Naming}
 use Rattle.ev_machine.specs.State.{Standing, Unsettled, WaitsOn, Viewed, Settled, Known}
 use Rattle.ev_machine.specs.Refs.{entry_of, standing_of, standing_in, waits_lead, led_by_wait}
-use Rattle.ev_list_laws.proofs.TmpViews.{index_at}
-use Rattle.ev_list_laws.proofs.TmpEntries.{index_less}
+use Rattle.ev_list_laws.proofs.Views.{index_at}
+use Rattle.ev_list_laws.proofs.Entries.{index_less}
 
 unfoldable pub next : {N : Type 0} → Standing N → Option N
 next (WaitsOn q) = Some q

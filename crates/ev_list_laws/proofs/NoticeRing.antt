@@ -1,0 +1,61 @@
+-- The notice of a cut makes no list lead back to itself: each name that settles then breaks.
+use Rattle.std.proofs.Common.{◌≡◌, ℕ, Bool, true, false, List, [], ◌∷◌, ◌++◌, refl}
+use Rattle.ev_machine.specs.Values.{Words, Name, Naming}
+use Rattle.ev_machine.specs.State.{Standing, Unsettled, WaitsOn, Viewed, Settled, Known, GiftEntry, Vat, Done, Gives, Throws, Ejects, Stops, mark}
+use Rattle.ev_machine.specs.Arrive as arrive
+use Rattle.ev_machine_laws.specs.Steps.{Notices, does, After}
+use Rattle.ev_frozen_laws.specs.Frozen.{Sound}
+use Rattle.ev_frozen_laws.proofs.Fine.{Keeper, Fact, Nothing, nothing, Ends, Fine, fine, grows_same}
+use Rattle.ev_frozen_laws.proofs.Looks.{looks}
+use Rattle.ev_list_laws.specs.Ringless.{Ringless, NoticeStepsCloseNoRing}
+use Rattle.ev_list_laws.proofs.FarEnough.{notice_closes_none}
+use Rattle.ev_list_laws.proofs.Kept.{Mark, Noticed, K, is, keeper}
+use Rattle.ev_list_laws.proofs.RefsRing.{settle_broken, drop}
+use Rattle.ev_list_laws.proofs.ArriveRing.{broke_unopened}
+
+module _ (word : ℕ → ℕ) (v : ℕ) where
+  abbrev N : Naming Name Name
+  N = K word v
+
+  abbrev ls : List Mark
+  ls = Noticed [] ∷ []
+
+  abbrev M : Keeper N false
+  M = keeper word v false ls
+
+  marks : {C : Fact Name} (w : ℕ) → Fine N false M C (mark w) nothing
+  unfolding mark
+  marks w = record { after = λ s h c. (grows_same s.things s.lists, (h.0, record { number = h.1.number; names = h.1.names; none = notice_closes_none N (is word v) s w h.1.none }, h.2), tt) }
+
+  broke_hosted : {C : Fact Name} (w : ℕ) (n : Name) (p : Words) (t : Standing Name) → Fine N false M C (arrive.break_hosted N w n p t) nothing
+  unfolding arrive.break_hosted
+  broke_hosted {C = C} w n p Unsettled = settle_broken word v false ls C n p
+  broke_hosted {C = C} w n p (WaitsOn q) = settle_broken word v false ls C n p
+  broke_hosted {C = C} w n p (Viewed q) = search (fine, looks) depth 30
+  broke_hosted {C = C} w n p (Settled y) = search (fine, looks) depth 30
+
+  broke_name : {C : Fact Name} (w : ℕ) (k : Known Name) → Fine N false M C (arrive.notice_name N w k) nothing
+  unfolding arrive.notice_name
+  broke_name {C = C} w k = search (fine, looks, broke_hosted) depth 30
+
+  broke_gift : {C : Fact Name} (w : ℕ) (g : GiftEntry Name) → Fine N false M C (arrive.notice_gift N w g) nothing
+  unfolding arrive.notice_gift
+  broke_gift {C = C} w g = let unopened : (D : Fact Name) (n : Name) (b : Bool) → Fine N false M D (arrive.break_unopened N n b) nothing = λ D n b. broke_unopened word v false [] [] {C = D} n b in search (fine, looks, unopened) depth 30
+
+  noticed_all : {C : Fact Name} (w : ℕ) → Fine N false M C (arrive.notice_all N w) nothing
+  unfolding arrive.notice_all
+  noticed_all {C = C} w = search (fine, looks, marks, broke_name, broke_gift) depth 30
+
+  noticed : (w : ℕ) → Fine N false M Nothing (arrive.notice N w) nothing
+  unfolding arrive.notice
+  noticed w = search (fine, looks, noticed_all) depth 30
+
+  ends_after : (s : Vat Name) (d : Done Name (Unit {0})) → Ends N false M nothing s d → After (λ r t. Sound N false t × Ringless N v [] t) s d
+  ends_after s (Gives a t) h = (h.1.0, h.1.1)
+  ends_after s (Throws p t) h = (h.1.0, h.1.1)
+  ends_after s (Ejects n x t) h = (h.1.0, h.1.1)
+  ends_after s (Stops c t) h = (h.1.0, h.1.1)
+
+pub notice_steps_close_no_ring : NoticeStepsCloseNoRing
+unfolding does
+notice_steps_close_no_ring word v w s sound r = ends_after word v s _ ((noticed word v w).after s (sound, r, (refl, tt)) tt)
