@@ -7,4 +7,5 @@ pub mod Laws
 pub mod Reading
 pub mod NewsLaws
 pub mod Standing
+pub mod Asking
 pub mod Apart

@@ -6,6 +6,7 @@
 //! its view, under a word that it draws.
 
 ghost use Rattle.ev_gift_laws.specs.Apart.{NewWhereApart};
+ghost use Rattle.ev_gift_laws.specs.Asking.{WhoLearnsAGiftAsks};
 ghost use Rattle.ev_gift_laws.specs.News.{GiftsComeNew};
 ghost use Rattle.ev_gift_laws.specs.Passing.{GiftsPassOnce, EachDrawHasOneProvider};
 ghost use Rattle.ev_gift_laws.specs.Standing.{GiftsStay, WhatIsOpenedOrAskedForStands};
@@ -36,6 +37,12 @@ pub fn gifts_stay()
 /// Once a gift was opened by its provider, or asked for, it stands at the vat where that note arrived.
 pub fn what_is_opened_or_asked_for_stands()
     ensures { WhatIsOpenedOrAskedForStands }
+{}
+
+/// Once a note arrived in which a gift passed, the vat has put a note to the host of the gift that asks
+/// for the gift of the sender under that draw, or it has noticed the host.
+pub fn who_learns_a_gift_asks_for_it()
+    ensures { WhoLearnsAGiftAsks }
 {}
 
 /// The first note on a link brings each gift once at most, and none that is claimed at the receiver,
