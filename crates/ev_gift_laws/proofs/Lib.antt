@@ -1,3 +1,4 @@
+pub mod Found
 pub mod Puts
 pub mod RefsPuts
 pub mod ArrivePuts

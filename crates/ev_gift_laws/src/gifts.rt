@@ -9,7 +9,7 @@ ghost use Rattle.ev_gift_laws.specs.Apart.{NewWhereApart};
 ghost use Rattle.ev_gift_laws.specs.Asking.{WhoLearnsAGiftAsks};
 ghost use Rattle.ev_gift_laws.specs.News.{GiftsComeNew};
 ghost use Rattle.ev_gift_laws.specs.Passing.{GiftsPassOnce, EachDrawHasOneProvider};
-ghost use Rattle.ev_gift_laws.specs.Standing.{GiftsStay, WhatIsOpenedOrAskedForStands};
+ghost use Rattle.ev_gift_laws.specs.Standing.{EachDrawStandsOnce, GiftsStay, WhatIsOpenedOrAskedForStands};
 
 /// Of each draw at most one gift was ever put, in all notes on all links together, and none of a draw
 /// that was not made; and so it is with the notes that are under way.
@@ -26,6 +26,11 @@ pub fn gifts_pass_once()
 /// its host is entered with its provider.
 pub fn each_draw_has_one_provider()
     ensures { EachDrawHasOneProvider }
+{}
+
+/// No two gifts that stand at a vat are of one draw.
+pub fn each_draw_stands_once()
+    ensures { EachDrawStandsOnce }
 {}
 
 /// A gift that stands at its host stands there after every step, whatever the names are and however
