@@ -3,7 +3,7 @@ use Rattle.std.proofs.Common.{◌≡◌, ℕ, suc, ◌+◌, ◌≤◌, ◌<◌, 
 use Rattle.std.specs.Prelude.{nat_le}
 use Rattle.std.proofs.lemmas.Bool.{eqb-true, le-leb}
 use Rattle.ev_machine.specs.Values.{Name, Coming, Mailing, Naming}
-use Rattle.ev_machine.specs.State.{Message, Known, Change, Passed, Passeds, Plain, AGift, Many, NoMore, More, Note, Deliver, Open, Ask, SettledTo, Elsewhere, Shorten, Put, GiftEntry, Happened, Vat, tell, enqueue, send_out, new_gift, with_opened, open_gift, is_gift, mark, alter, come, mail, new_message}
+use Rattle.ev_machine.specs.State.{Message, Known, Change, Passed, Passeds, Plain, AGift, Many, NoMore, More, Note, Deliver, Open, Ask, SettledTo, Elsewhere, Shorten, Put, GiftEntry, Happened, Vat, tell, enqueue, send_out, with_opened, open_gift, is_gift, mark, alter, come, mail, new_message}
 use Rattle.ev_machine.specs.Arrive.{gift_at}
 use Rattle.ev_machine_laws.proofs.Keeps.{Keeps}
 use Rattle.ev_fate_laws.specs.Fate.{once}

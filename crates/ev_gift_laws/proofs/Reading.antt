@@ -1,9 +1,9 @@
 -- What a note brings of a gift: no more than once, and not where the vat knows it, where the gifts of the note stand apart.
-use Rattle.std.proofs.Common.{◌≡◌, ℕ, zero, suc, ◌+◌, ◌≤◌, ◌<◌, Bool, true, false, List, [], ◌∷◌, ◌++◌, Option, Some, None, refl, sym, ap, ◌∙◌, ◌⊎◌, inl, inr, subst, arith, ◌==◌}
+use Rattle.std.proofs.Common.{◌≡◌, ℕ, zero, suc, ◌+◌, ◌≤◌, ◌<◌, Bool, true, false, List, [], ◌∷◌, ◌++◌, refl, sym, ◌∙◌, ◌⊎◌, inl, inr, subst, arith, ◌==◌}
 use Rattle.std.proofs.lemmas.Bool.{eq-eqb}
 use Rattle.ev_machine.specs.Values.{Value, Null, Flag, Number, Letter, Text, Prim, Broken, Items, Ref, Name, Gift, Sent, Msg, same_name, host_of}
-use Rattle.ev_machine.specs.State.{Message, Known, Passed, Passeds, Plain, AGift, Many, NoMore, More, GiftEntry, Vat, is_gift}
-use Rattle.ev_machine.specs.Arrive.{Old, New, gift_at}
+use Rattle.ev_machine.specs.State.{Message, Known, Passed, Passeds, Plain, AGift, Many, NoMore, More, Vat}
+use Rattle.ev_machine.specs.Arrive.{Old, New}
 use Rattle.ev_run.specs.World.{has_name, is_old, read_name, known_after, read_value, read_passed, read_all, plain_read, many_read, more_read}
 use Rattle.ev_fate_laws.specs.Fate as fate
 use Rattle.ev_fate_laws.specs.Lasting.{Each, NamesMessage, KnownWell, HeldWell}
@@ -11,9 +11,8 @@ use Rattle.ev_name_laws.specs.Names.{Named, IsAmong, IsMade, PassedOk, PassedsOk
 use Rattle.ev_name_laws.proofs.Among.{among_last}
 use Rattle.ev_name_laws.proofs.SameNames.{same_is, among_has}
 use Rattle.ev_table_laws.specs.Knowing.{once, one, onward, onward_all, claims, new_name, new_in_value, new_in, new_in_all}
-use Rattle.ev_gift_laws.specs.Passing.{gifts_in, gifts_in_all, IsProvided}
+use Rattle.ev_gift_laws.specs.Passing.{gifts_in, gifts_in_all}
 use Rattle.ev_gift_laws.specs.News.{IsPassed, IsPassedIn, IsRefTo, IsNamed, IsNamedIn}
-use Rattle.ev_gift_laws.specs.Standing.{IsEntered}
 
 none_is : (b : Bool) → b ≡ false → once b ≡ 0
 unfolding once
