@@ -1,5 +1,5 @@
 -- What arrives puts gifts of new draws alone, each once, and tells of their provider: of a view the old host of the name, and else the vat itself.
-use Rattle.std.proofs.Common.{◌≡◌, ℕ, ◌≤◌, Bool, true, false, List, [], ◌∷◌, ◌++◌, Option, Some, None, refl, sym, arith, length, if◌then◌else◌, codes, ◌==◌, subst}
+use Rattle.std.proofs.Common.{◌≡◌, ℕ, ◌≤◌, Bool, true, false, List, [], ◌∷◌, ◌++◌, Option, Some, None, refl, sym, arith, length, if◌then◌else◌, codes, ◌==◌, subst, ◌<◌, inl, inr}
 use Rattle.ev_machine.specs.Values.{Words, Value, Null, Flag, Number, Letter, Text, Prim, Broken, Items, Ref, Name, Naming, IsGift, naming, name_of}
 use Rattle.ev_machine.specs.State.{Standing, Unsettled, WaitsOn, Viewed, Settled, Known, Passed, Passeds, Plain, AGift, Many, NoMore, More, Note, Deliver, Open, Ask, SettledTo, Elsewhere, Shorten, Put, GiftEntry, Vat, Gives, Act, ◌>>=◌, ◌>>◌, and_then, give, look, come, new_gift, alter, tell, draw, draws, send_out, is_in, begun}
 use Rattle.ev_machine.specs.Refs.{Place, Near, Mine, Away, Gone, host_at, settle}
@@ -10,8 +10,10 @@ use Rattle.ev_machine_laws.specs.Steps.{After}
 use Rattle.ev_machine_laws.proofs.Keeps.{Keeps}
 use Rattle.ev_fate_laws.proofs.PlacesLast.{each_end}
 use Rattle.ev_fate_laws.proofs.Spares.{widen}
+use Rattle.ev_gift_laws.specs.Standing.{IsEntered}
+use Rattle.ev_fate_laws.specs.Lasting.{Each}
 use Rattle.ev_gift_laws.specs.Passing.{gifts_in_note, IsProvidedBy, PassesFrom, AllPassFrom, Provides, IsProvided}
-use Rattle.ev_gift_laws.proofs.Puts.{PutsOn, Fair, Nothing, PutTells, same, spared, drawn_after, drawn_more, length_more, out_end, fair, fair_gift, fair_ask, fair_open_out}
+use Rattle.ev_gift_laws.proofs.Puts.{PutsOn, Fair, Nothing, PutTells, same, spared, drawn_after, drawn_more, length_more, out_end, fair, gift_after, differ_end, fair_ask, fair_open_out}
 use Rattle.ev_gift_laws.proofs.RefsPuts.{fair_refs, fair_settle, fair_inform, fair_send_on}
 
 module _ (v d0 : ℕ) (F : ℕ → ℕ) (fresh : (i : ℕ) → d0 ≤ i → F i ≡ v) (word : ℕ → ℕ) where
@@ -71,14 +73,14 @@ module _ (v d0 : ℕ) (F : ℕ → ℕ) (fresh : (i : ℕ) → d0 ≤ i → F i 
 
   -- ---- gifts at their host
 
-  fair_gift_or_new : (u p i : ℕ) (o : Option (GiftEntry Name)) → IsProvidedBy F d0 i p → Keeps R (arrive.gift_or_new K u p i o)
-  unfolding arrive.gift_or_new
-  fair_gift_or_new u p i (Some g) o = search (fair, spared) depth 14
-  fair_gift_or_new u p i None o = let make = λ (n : Name). fair_gift v d0 F n p i o in search (fair, spared) depth 14
+  had_after : (u p i : ℕ) (s : Vat Name) (o : Option (GiftEntry Name)) → IsProvidedBy F d0 i p → arrive.gift_at p i s.gifts ≡ o → After R s (arrive.gift_or_new K u p i o s)
+  unfolding arrive.gift_or_new ◌>>=◌ ◌>>◌ and_then come new_gift give
+  had_after u p i s (Some g) h e = record { puts = same v d0 F s }
+  had_after u p i s None h e = let n : Name = K.made (IsGift u i) (length s.known) in record { puts = gift_after v d0 F s (begun n u) n p i h e }
 
   fair_have_gift : (p i : ℕ) → IsProvidedBy F d0 i p → Keeps R (arrive.have_gift K p i)
-  unfolding arrive.have_gift
-  fair_have_gift p i o = let have = λ (u : ℕ) (g : Option (GiftEntry Name)). fair_gift_or_new u p i g o in search (fair, spared) depth 14
+  unfolding arrive.have_gift ◌>>=◌ and_then look
+  fair_have_gift p i h = record { after = λ s. had_after s.number p i s (arrive.gift_at p i s.gifts) h refl }
 
   fair_break_at : (n : Name) (p : Words) (t : Standing Name) → Keeps R (arrive.break_at K n p t)
   unfolding arrive.break_at
@@ -187,6 +189,12 @@ module _ (v d0 : ℕ) (F : ℕ → ℕ) (fresh : (i : ℕ) → d0 ≤ i → F i 
   unfolding arrive.notice
   fair_notice w = search (fair, spared, fair_notice_all) depth 14
 
+-- a gift of a draw that is still to be made stands nowhere
+below_all : (F : ℕ → ℕ) (d : ℕ) (gs : List (GiftEntry Name)) → Each (IsProvided F d) gs → IsEntered d gs → ⊥
+below_all F d [] h a = a
+below_all F d (g ∷ gs) h (inl e) = let told = h.0 in let l : g.number < d = told.0 in absurd (omega arith)
+below_all F d (g ∷ gs) h (inr a) = below_all F d gs h.1 a
+
 -- ---- the view: the provider of its draw is the old host
 
 module _ (v d0 : ℕ) (F : ℕ → ℕ) (p : ℕ) (fresh : (i : ℕ) → d0 ≤ i → F i ≡ p) (word : ℕ → ℕ) where
@@ -206,6 +214,7 @@ module _ (v d0 : ℕ) (F : ℕ → ℕ) (p : ℕ) (fresh : (i : ℕ) → d0 ≤ 
         count = λ i. let f = out_end i s.outbox one in let k = out_end i (s.outbox ++ one ∷ []) two in let j = drawn_more i (length s.drawn) (length (s.drawn ++ x ∷ [])) (omega arith) in omega arith;
         outs = λ e l o. each_end (PutTells v d0 F (length (s.drawn ++ x ∷ []))) (s.outbox ++ one ∷ []) two (each_end (PutTells v d0 F (length (s.drawn ++ x ∷ []))) s.outbox one (d.outs e l o) (omega arith, fresh (length s.drawn) l)) (omega arith, fresh (length s.drawn) l);
         gifts = d.gifts;
+        once = d.once;
         ok = λ e l. tt;
       }
 
@@ -218,6 +227,7 @@ module _ (v d0 : ℕ) (F : ℕ → ℕ) (p : ℕ) (fresh : (i : ℕ) → d0 ≤ 
         count = λ i. let f = out_end i s.outbox one in let j = drawn_more i (length s.drawn) (length (s.drawn ++ x ∷ [])) (omega arith) in omega arith;
         outs = λ e l o. each_end (PutTells v d0 F (length (s.drawn ++ x ∷ []))) s.outbox one (d.outs e l o) (omega arith, fresh (length s.drawn) l);
         gifts = λ l o. each_end (IsProvided F (length (s.drawn ++ x ∷ []))) s.gifts (record { name = g; provider = p; number = length s.drawn; opened = false }) (d.gifts l o) (omega arith, fresh (length s.drawn) l);
+        once = λ l x o. differ_end s.gifts (record { name = g; provider = p; number = length s.drawn; opened = false }) (λ a. below_all F (length s.drawn) s.gifts x a) o;
         ok = λ e l. tt;
       }
 
@@ -230,18 +240,19 @@ module _ (v d0 : ℕ) (F : ℕ → ℕ) (p : ℕ) (fresh : (i : ℕ) → d0 ≤ 
         count = λ i. let f = out_end i s.outbox one in let j = drawn_more i (length s.drawn) (length (s.drawn ++ x ∷ [])) (omega arith) in omega arith;
         outs = λ e l o. each_end (PutTells v d0 F (length (s.drawn ++ x ∷ []))) s.outbox one (d.outs e l o) (omega arith, fresh (length s.drawn) l);
         gifts = d.gifts;
+        once = d.once;
         ok = λ e l. tt;
       }
 
-  had_after : (s : Vat Name) (x c u : ℕ) (n : Name) (o : Option (GiftEntry Name)) → After V s (and_then (arrive.gift_or_new Names u p (length s.drawn) o (record s { drawn = s.drawn ++ x ∷ []; outbox = s.outbox ++ record { to = p; note = Shorten n c (length s.drawn) } ∷ [] })) (λ g. arrive.see Names n g))
+  seen_had : (s : Vat Name) (x c u : ℕ) (n : Name) (o : Option (GiftEntry Name)) → After V s (and_then (arrive.gift_or_new Names u p (length s.drawn) o (record s { drawn = s.drawn ++ x ∷ []; outbox = s.outbox ++ record { to = p; note = Shorten n c (length s.drawn) } ∷ [] })) (λ g. arrive.see Names n g))
   unfolding arrive.gift_or_new arrive.see ◌>>=◌ ◌>>◌ and_then come new_gift give tell alter
-  had_after s x c u n (Some g) = record { puts = seen_there s x c n }
-  had_after s x c u n None = record { puts = seen_here s x c n _ }
+  seen_had s x c u n (Some g) = record { puts = seen_there s x c n }
+  seen_had s x c u n None = record { puts = seen_here s x c n _ }
 
   there_after : (s : Vat Name) (x c u : ℕ) (n : Name) (b : Bool)
       → After V s (and_then ((if b then arrive.have_gift Names p (length s.drawn) else (come Names (IsGift c (length s.drawn)) c >>= (λ g. send_out c (Ask p (length s.drawn) g) >> give g))) (record s { drawn = s.drawn ++ x ∷ []; outbox = s.outbox ++ record { to = p; note = Shorten n c (length s.drawn) } ∷ [] })) (λ g. arrive.see Names n g))
   unfolding arrive.have_gift arrive.see ◌>>=◌ ◌>>◌ and_then come send_out give look tell alter
-  there_after s x c u n true = had_after s x c s.number n (arrive.gift_at p (length s.drawn) s.gifts)
+  there_after s x c u n true = seen_had s x c s.number n (arrive.gift_at p (length s.drawn) s.gifts)
   there_after s x c u n false = record { puts = seen_put s x c c n _ }
 
   drawn_then : (s : Vat Name) (x c u : ℕ) (n : Name) (o : Option ℕ) → After V s (and_then (draws x o s) (λ i. send_out p (Shorten n c i) >> (arrive.gift_there Names u p c i >>= (λ g. arrive.see Names n g))))

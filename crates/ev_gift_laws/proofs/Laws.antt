@@ -11,6 +11,7 @@ use Rattle.ev_run.specs.World as world
 use Rattle.ev_run.specs.World.{Script, Program, Entry, Turn, Carry, CutLink, NoticeLink, Event, Link, World, Run, Goes as Going, Stopped, names, names_of, put_at}
 use Rattle.ev_fate_laws.specs.Lasting.{Each}
 use Rattle.ev_fate_laws.specs.Runs.{Reached, InRuns}
+use Rattle.ev_gift_laws.specs.Standing.{DrawsDiffer, EachDrawStandsOnce}
 use Rattle.ev_gift_laws.specs.Passing.{gifts_put, gifts_under_way, drawn_of, Provides, IsProvided, GiftsPassOnce, EachDrawHasOneProvider}
 use Rattle.ev_gift_laws.proofs.Puts.{Fair, gifts_out, each_up, provides_up}
 use Rattle.ev_gift_laws.proofs.ArrivePuts.{fair_notice}
@@ -22,7 +23,7 @@ pub record Holds (P : ℕ → ℕ) (w : World) : Type 0 where
   pub put : (i : ℕ) → gifts_put i w.links ≤ drawn_of i (length w.drawn)
   pub count : (i : ℕ) → gifts_under_way i w.links ≤ drawn_of i (length w.drawn)
   pub links : Each (LinkTells P (length w.drawn)) w.links
-  pub vats : (v : ℕ) (s : Vat Name) → slice_get w.vats v ≡ Some s → (s.number ≡ v) × Each (IsProvided P (length w.drawn)) s.gifts
+  pub vats : (v : ℕ) (s : Vat Name) → slice_get w.vats v ≡ Some s → (s.number ≡ v) × Each (IsProvided P (length w.drawn)) s.gifts × DrawsDiffer s.gifts
 
 abbrev pub Fits : World → Type 0
 Fits w = (P : ℕ → ℕ) × Holds P w
@@ -45,16 +46,16 @@ put_one A v vats t k h u r (inl e) = let one : A u t = rw (sym e.0) at k in rw e
 put_one A v vats t k h u r (inr e) = h u r e
 
 -- what a step of vat v makes of the world, where all draws of the step have provider q
-put_back_fits : (P : ℕ → ℕ) (q v : ℕ) (w : World) (head : List Event) (n : ℕ) (s : Vat Name) (d : Done Name (Unit {0})) → Holds P w → s.number ≡ v → Each (IsProvided P (length w.drawn)) s.gifts
+put_back_fits : (P : ℕ → ℕ) (q v : ℕ) (w : World) (head : List Event) (n : ℕ) (s : Vat Name) (d : Done Name (Unit {0})) → Holds P w → s.number ≡ v → Each (IsProvided P (length w.drawn)) s.gifts → DrawsDiffer s.gifts
     → After (Fair v (length w.drawn) (later P (length w.drawn) q)) (world.readied w s) d → Reached Fits (world.put_back v w head n d)
 unfolding world.put_back world.readied gifts_out
-put_back_fits P q v w head n s (Gives a t) h e g k = (
+put_back_fits P q v w head n s (Gives a t) h e g f k = (
   later P (length w.drawn) q,
   record {
     put = λ i. let pushed = push_all_gifts (λ (l : Link). l.log) i (pushed_log i) v t.outbox w.links in let puts = k.puts in let c = puts.count i in let b = h.put i in omega arith;
     count = λ i. let pushed = push_all_gifts (λ (l : Link). l.notes) i (pushed_notes i) v t.outbox w.links in let puts = k.puts in let c = puts.count i in let b = h.count i in omega arith;
     links = push_all_tells (later P (length w.drawn) q) (length t.drawn) v t.outbox w.links (let puts = k.puts in puts.outs e (omega arith) tt) (each_up (LinkTells P (length w.drawn)) (LinkTells (later P (length w.drawn) q) (length t.drawn)) (λ l j. (up_all l.from l.to l.log j.0, up_all l.from l.to l.notes j.1)) w.links h.links);
-    vats = λ u r i. put_one Vat_ok v w.vats t (let puts = k.puts in puts.number e, let puts = k.puts in puts.gifts (omega arith) (up_gifts (length w.drawn) (omega arith) s.gifts g)) others u r (put_at_or v t w.vats u r i);
+    vats = λ u r i. put_one Vat_ok v w.vats t (let puts = k.puts in puts.number e, let puts = k.puts in puts.gifts (omega arith) (up_gifts (length w.drawn) (omega arith) s.gifts g), let puts = k.puts in puts.once (omega arith) (up_gifts (length w.drawn) (omega arith) s.gifts g) f) others u r (put_at_or v t w.vats u r i);
   },
 )
   where
@@ -62,7 +63,7 @@ put_back_fits P q v w head n s (Gives a t) h e g k = (
     more = let puts = k.puts in puts.drawn
 
     Vat_ok : ℕ → Vat Name → Type 0
-    Vat_ok u r = (r.number ≡ u) × Each (IsProvided (later P (length w.drawn) q) (length t.drawn)) r.gifts
+    Vat_ok u r = (r.number ≡ u) × Each (IsProvided (later P (length w.drawn) q) (length t.drawn)) r.gifts × DrawsDiffer r.gifts
 
     up_all : (from to : ℕ) (ns : List (Note Name)) → Each (Provides P (length w.drawn) from to) ns → Each (Provides (later P (length w.drawn) q) (length t.drawn) from to) ns
     up_all from to ns j = each_up (Provides P (length w.drawn) from to) (Provides (later P (length w.drawn) q) (length t.drawn) from to) (λ m o. provides_up P (later P (length w.drawn) q) (length w.drawn) (length t.drawn) (later_up P (length w.drawn) q (length t.drawn) more) from to m o) ns j
@@ -71,10 +72,10 @@ put_back_fits P q v w head n s (Gives a t) h e g k = (
     up_gifts e l gs j = each_up (IsProvided P (length w.drawn)) (IsProvided (later P (length w.drawn) q) e) (λ x o. later_up P (length w.drawn) q e l x.number x.provider o) gs j
 
     others : (u : ℕ) (r : Vat Name) → slice_get w.vats u ≡ Some r → Vat_ok u r
-    others u r i = let o = h.vats u r i in (o.0, up_gifts (length t.drawn) more r.gifts o.1)
-put_back_fits P q v w head n s (Throws p t) h e g k = (P, h)
-put_back_fits P q v w head n s (Ejects m y t) h e g k = (P, h)
-put_back_fits P q v w head n s (Stops c t) h e g k = (P, h)
+    others u r i = let o = h.vats u r i in (o.0, up_gifts (length t.drawn) more r.gifts o.1, o.2)
+put_back_fits P q v w head n s (Throws p t) h e g f k = (P, h)
+put_back_fits P q v w head n s (Ejects m y t) h e g f k = (P, h)
+put_back_fits P q v w head n s (Stops c t) h e g f k = (P, h)
 
 module _ (script : Script) where
   idle_fits : (k : ℕ) (w : World) → Fits w → Reached Fits (world.idle script k w)
@@ -88,7 +89,7 @@ module _ (script : Script) where
   turn_queue_fits : (k v : ℕ) (w : World) (s : Vat Name) (ms : List (Message Name)) → slice_get w.vats v ≡ Some s → Fits w → Reached Fits (world.turn_queue script k v w s ms)
   unfolding world.turn_queue world.within names
   turn_queue_fits k v w s [] i h = idle_fits k w h
-  turn_queue_fits k v w s (m ∷ ms) i h = let o = h.1 in let a = o.vats v s i in put_back_fits h.0 v v w _ _ (record s { queue = ms }) _ o a.0 a.1
+  turn_queue_fits k v w s (m ∷ ms) i h = let o = h.1 in let a = o.vats v s i in put_back_fits h.0 v v w _ _ (record s { queue = ms }) _ o a.0 a.1 a.2
       ((fair_taking v (length w.drawn) (From h.0 w v) (later_new h.0 (length w.drawn) v) (draw_word script.key) (world.tree_at script.vats v) script.depth m).after (world.readied w (record s { queue = ms })))
 
   turn_fits : (k v : ℕ) (w : World) (o : Option (Vat Name)) → slice_get w.vats v ≡ o → Fits w → Reached Fits (world.turn script k v w o)
@@ -100,7 +101,7 @@ module _ (script : Script) where
   unfolding world.arrives world.within names
   arrives_fits k v to w n P h t None i = idle_fits k w (P, h)
   arrives_fits k v to w n P h t (Some s) i = let a = h.vats to s i in let ends = arrival_ends P (length w.drawn) v to (draw_word script.key) (names_of s) (world.readied w s) n t in
-      put_back_fits P ends.0 to w _ _ s _ h a.0 a.1 ends.1
+      put_back_fits P ends.0 to w _ _ s _ h a.0 a.1 a.2 ends.1
 
   -- the world once a note was taken from its link
   taken_holds : (P : ℕ → ℕ) (v to : ℕ) (w : World) (l : Link) (n : Note Name) (ns : List (Note Name)) → world.link_at v to w.links ≡ Some l → l.notes ≡ n ∷ ns → Each (Provides P (length w.drawn) v to) (n ∷ ns) → Holds P w → Holds P (record w { links = world.with_link (world.with_notes ns) v to w.links })
@@ -140,7 +141,7 @@ module _ (script : Script) where
   notice_fits : (k v to : ℕ) (w : World) (o : Option (Vat Name)) → slice_get w.vats v ≡ o → Fits w → Reached Fits (world.within v w (world.NoticedAt k v to ∷ []) (world.step_number script k) (notice (names script v) to) o)
   unfolding world.within names
   notice_fits k v to w None i h = h
-  notice_fits k v to w (Some s) i h = let o = h.1 in let a = o.vats v s i in put_back_fits h.0 v v w _ _ s _ o a.0 a.1
+  notice_fits k v to w (Some s) i h = let o = h.1 in let a = o.vats v s i in put_back_fits h.0 v v w _ _ s _ o a.0 a.1 a.2
       ((fair_notice v (length w.drawn) (From h.0 w v) (later_new h.0 (length w.drawn) v) (draw_word script.key) to).after (world.readied w s))
 
   step_fits : (entry : Entry) (k : ℕ) (w : World) → Fits w → Reached Fits (world.step script entry k w)
@@ -163,7 +164,7 @@ module _ (script : Script) where
   open_fits : (v : ℕ) (p : Program) (w : World) (o : Option (Vat Name)) → slice_get w.vats v ≡ o → Fits w → Reached Fits (world.within v w (world.Opens v ∷ []) v (opening (names script v) p.tree script.depth (Root v) (world.given script.vats p.knows)) o)
   unfolding world.within names
   open_fits v p w None i h = h
-  open_fits v p w (Some s) i h = let o = h.1 in let a = o.vats v s i in put_back_fits h.0 v v w _ _ s _ o a.0 a.1
+  open_fits v p w (Some s) i h = let o = h.1 in let a = o.vats v s i in put_back_fits h.0 v v w _ _ s _ o a.0 a.1 a.2
       ((fair_opening v (length w.drawn) (From h.0 w v) (later_new h.0 (length w.drawn) v) (draw_word script.key) p.tree script.depth (Root v) (world.given script.vats p.knows)).after (world.readied w s))
 
   opens_fit : (v : ℕ) (ps : List Program) (w : World) → Fits w → Reached Fits (world.open_from script v ps w)
@@ -185,6 +186,9 @@ module _ (script : Script) where
   no_gifts : (P : ℕ → ℕ) (d : ℕ) (gs : List (GiftEntry Name)) → gs ≡ [] → Each (IsProvided P d) gs
   no_gifts P d gs e = rw e tt
 
+  no_draws : (gs : List (GiftEntry Name)) → gs ≡ [] → DrawsDiffer gs
+  no_draws gs e = rw e tt
+
   begins_fits : Fits (world.begins script)
   unfolding world.begins
   begins_fits = (
@@ -193,7 +197,7 @@ module _ (script : Script) where
       put = λ i. let none = links_from_none (λ (l : Link). l.log) i (λ v w p. refl) script.vats zero script.vats in omega arith;
       count = λ i. let none = links_from_none (λ (l : Link). l.notes) i (λ v w p. refl) script.vats zero script.vats in omega arith;
       links = links_from_tell (λ i. zero) zero script.vats zero script.vats;
-      vats = λ v s e. let r = fresh_fits zero script.vats v s e in let a = r.0 in (omega arith, no_gifts (λ i. zero) zero s.gifts r.1);
+      vats = λ v s e. let r = fresh_fits zero script.vats v s e in let a = r.0 in (omega arith, no_gifts (λ i. zero) zero s.gifts r.1, no_draws s.gifts r.1);
     },
   )
 
@@ -223,3 +227,6 @@ gifts_pass_once = in_runs _ (λ w h i. let o = h.1 in (o.put i, o.count i))
 
 pub one_provider : EachDrawHasOneProvider
 one_provider = in_runs _ (λ w h. let o = h.1 in (h.0, o.links, λ v s e. (o.vats v s e).1))
+
+pub draws_once : EachDrawStandsOnce
+draws_once = in_runs _ (λ w h v s e. let o = h.1 in (o.vats v s e).2)

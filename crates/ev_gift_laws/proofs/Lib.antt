@@ -1,3 +1,4 @@
+pub mod Found
 pub mod Puts
 pub mod RefsPuts
 pub mod ArrivePuts
@@ -7,4 +8,5 @@ pub mod Laws
 pub mod Reading
 pub mod NewsLaws
 pub mod Standing
+pub mod Asking
 pub mod Apart

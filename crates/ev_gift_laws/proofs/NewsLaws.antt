@@ -19,9 +19,11 @@ use Rattle.ev_name_laws.proofs.Laws.{notes_made}
 use Rattle.ev_table_laws.specs.Knowing.{once, one, claims, numbered, new_name, new_in, new_in_all, new_answer, new_gift_here, brings}
 use Rattle.ev_table_laws.specs.Runs.{other, allowed, is_own, answer_here, brings_here}
 use Rattle.ev_gift_laws.specs.Passing.{gifts_in, gifts_in_all, gifts_in_note, gifts_in_notes, gifts_on, drawn_of, IsProvidedBy, Provides, IsProvided}
-use Rattle.ev_gift_laws.specs.News.{Passes, Names, IsEntered, GiftsApart, GiftsComeNew}
+use Rattle.ev_gift_laws.specs.News.{Passes, Names, GiftsApart, GiftsComeNew}
+use Rattle.ev_gift_laws.specs.Standing.{IsEntered}
 use Rattle.ev_gift_laws.proofs.Links.{found_tells}
-use Rattle.ev_gift_laws.proofs.Reading.{seen, most_is, sum_or, either_is, full_is, one_other, name_reads, passed_reads, all_reads, name_unnamed, passed_unnamed, all_unnamed, passing, passing_all, passes_there, all_there, passing_draws, passing_all_draws, name_brought, named_made, passed_made, all_made, claims_seen, unclaimed, onward_sent, entered_found}
+use Rattle.ev_gift_laws.proofs.Reading.{seen, most_is, sum_or, either_is, full_is, one_other, name_reads, passed_reads, all_reads, name_unnamed, passed_unnamed, all_unnamed, passing, passing_all, passes_there, all_there, passing_draws, passing_all_draws, name_brought, named_made, passed_made, all_made, claims_seen, unclaimed, onward_sent}
+use Rattle.ev_gift_laws.proofs.Found.{entered_found}
 use Rattle.ev_gift_laws.proofs.Laws.{Holds, reached_is, fits_opened, fits_stepped}
 
 -- ---- sums

@@ -1,14 +1,17 @@
 -- What a vat draws and puts: the gifts that pass in its notes are of new draws, each once, and its notes and the gifts that it hosts tell of the provider of each draw.
-use Rattle.std.proofs.Common.{◌≡◌, ℕ, suc, ◌+◌, ◌≤◌, ◌<◌, Bool, true, false, List, [], ◌∷◌, ◌++◌, refl, sym, ◌∙◌, arith, length, leb-true, ◌==◌}
+use Rattle.std.proofs.Common.{◌≡◌, ℕ, suc, ◌+◌, ◌≤◌, ◌<◌, Bool, true, false, List, [], ◌∷◌, ◌++◌, refl, sym, ◌∙◌, arith, length, leb-true, ◌==◌, None, ◌⊎◌, inl, inr}
 use Rattle.std.specs.Prelude.{nat_le}
 use Rattle.std.proofs.lemmas.Bool.{eqb-true, le-leb}
 use Rattle.ev_machine.specs.Values.{Name, Coming, Mailing, Naming}
-use Rattle.ev_machine.specs.State.{Message, Change, Passed, Passeds, Plain, AGift, Many, NoMore, More, Note, Deliver, Open, Ask, SettledTo, Elsewhere, Shorten, Put, GiftEntry, Happened, Vat, tell, enqueue, send_out, new_gift, with_opened, open_gift, is_gift, mark, alter, come, mail, new_message}
+use Rattle.ev_machine.specs.State.{Message, Known, Change, Passed, Passeds, Plain, AGift, Many, NoMore, More, Note, Deliver, Open, Ask, SettledTo, Elsewhere, Shorten, Put, GiftEntry, Happened, Vat, tell, enqueue, send_out, with_opened, open_gift, is_gift, mark, alter, come, mail, new_message}
+use Rattle.ev_machine.specs.Arrive.{gift_at}
 use Rattle.ev_machine_laws.proofs.Keeps.{Keeps}
 use Rattle.ev_fate_laws.specs.Fate.{once}
 use Rattle.ev_fate_laws.specs.Lasting.{Each}
 use Rattle.ev_fate_laws.proofs.PlacesLast.{each_end}
 use Rattle.ev_fate_laws.proofs.Spares.{IsSpared, spares}
+use Rattle.ev_gift_laws.specs.Standing.{IsEntered, DrawsDiffer}
+use Rattle.ev_gift_laws.proofs.Found.{entered_found}
 use Rattle.ev_gift_laws.specs.Passing.{gifts_in_note, drawn_of, IsProvidedBy, PassesFrom, AllPassFrom, Provides, IsProvided}
 
 -- ---- draws
@@ -95,6 +98,46 @@ unfolding with_opened
 opened_provided F d p i [] h = tt
 opened_provided F d p i (g ∷ gs) h = opened_or F d (is_gift p i g) g gs (with_opened p i gs) h.0 h.1 (opened_provided F d p i gs h.1)
 
+-- ---- the draws of the gifts at a vat
+
+entered_or : (j : ℕ) (b : Bool) (g : GiftEntry Name) (gs hs : List (GiftEntry Name)) → (IsEntered j hs → IsEntered j gs) → IsEntered j (elim b [ true ↦ record g { opened = true } ∷ gs | false ↦ g ∷ hs ]) → IsEntered j (g ∷ gs)
+entered_or j true g gs hs f (inl e) = inl e
+entered_or j true g gs hs f (inr a) = inr a
+entered_or j false g gs hs f (inl e) = inl e
+entered_or j false g gs hs f (inr a) = inr (f a)
+
+entered_opened : (j p i : ℕ) (gs : List (GiftEntry Name)) → IsEntered j (with_opened p i gs) → IsEntered j gs
+unfolding with_opened
+entered_opened j p i [] h = h
+entered_opened j p i (g ∷ gs) h = entered_or j (is_gift p i g) g gs (with_opened p i gs) (entered_opened j p i gs) h
+
+differ_or : (b : Bool) (g : GiftEntry Name) (gs hs : List (GiftEntry Name)) → DrawsDiffer (g ∷ gs) → ((j : ℕ) → IsEntered j hs → IsEntered j gs) → DrawsDiffer hs → DrawsDiffer (elim b [ true ↦ record g { opened = true } ∷ gs | false ↦ g ∷ hs ])
+differ_or true g gs hs h f k = h
+differ_or false g gs hs h f k = (λ e. h.0 (f g.number e), k)
+
+differ_opened : (p i : ℕ) (gs : List (GiftEntry Name)) → DrawsDiffer gs → DrawsDiffer (with_opened p i gs)
+unfolding with_opened
+differ_opened p i [] h = tt
+differ_opened p i (g ∷ gs) h = differ_or (is_gift p i g) g gs (with_opened p i gs) h (λ j. entered_opened j p i gs) (differ_opened p i gs h.1)
+
+entered_end : (j : ℕ) (gs : List (GiftEntry Name)) (g : GiftEntry Name) → IsEntered j (gs ++ g ∷ []) → IsEntered j gs ⊎ (g.number ≡ j)
+entered_end j [] g (inl e) = inr e
+entered_end j [] g (inr a) = absurd a
+entered_end j (x ∷ gs) g (inl e) = inl (inl e)
+entered_end j (x ∷ gs) g (inr a) = go (entered_end j gs g a)
+  where
+    go : IsEntered j gs ⊎ (g.number ≡ j) → IsEntered j (x ∷ gs) ⊎ (g.number ≡ j)
+    go (inl b) = inl (inr b)
+    go (inr e) = inr e
+
+pub differ_end : (gs : List (GiftEntry Name)) (g : GiftEntry Name) → (IsEntered g.number gs → ⊥) → DrawsDiffer gs → DrawsDiffer (gs ++ g ∷ [])
+differ_end [] g n h = (λ a. a, tt)
+differ_end (x ∷ gs) g n h = (λ a. no (entered_end x.number gs g a), differ_end gs g (λ a. n (inr a)) h.1)
+  where
+    no : IsEntered x.number gs ⊎ (g.number ≡ x.number) → ⊥
+    no (inl a) = h.0 a
+    no (inr e) = n (inl (sym e))
+
 -- as vat v in a step before which d0 draws were made, where F tells the provider of each draw
 module _ (v d0 : ℕ) (F : ℕ → ℕ) where
   abbrev pub PutTells : ℕ → Put Name → Type 0
@@ -107,6 +150,7 @@ module _ (v d0 : ℕ) (F : ℕ → ℕ) where
     pub count : (i : ℕ) → gifts_out i os' + c i + drawn_of i d ≤ gifts_out i os + drawn_of i d'
     pub outs : n ≡ v → d0 ≤ d → Each (PutTells d) os → Each (PutTells d') os'
     pub gifts : d0 ≤ d → Each (IsProvided F d) gs → Each (IsProvided F d') gs'
+    pub once : d0 ≤ d → Each (IsProvided F d) gs → DrawsDiffer gs → DrawsDiffer gs'
     pub ok : n ≡ v → d0 ≤ d → Ok d'
 
   abbrev pub Puts : (ℕ → ℕ) → (ℕ → Type 0) → Vat Name → Vat Name → Type 0
@@ -120,7 +164,7 @@ module _ (v d0 : ℕ) (F : ℕ → ℕ) where
     pub puts : Puts (λ i. 0) Nothing s t
 
   pub same : (s : Vat Name) → Puts (λ i. 0) Nothing s s
-  same s = record { number = λ e. e; drawn = omega arith; count = λ i. omega arith; outs = λ e l o. o; gifts = λ l g. g; ok = λ e l. tt }
+  same s = record { number = λ e. e; drawn = omega arith; count = λ i. omega arith; outs = λ e l o. o; gifts = λ l g. g; once = λ l g o. o; ok = λ e l. tt }
 
   pub then_puts : (c c' : ℕ → ℕ) (Ok Ok' : ℕ → Type 0) (s t u : Vat Name) → ((a b : ℕ) → a ≤ b → Ok a → Ok b) → Puts c Ok s t → Puts c' Ok' t u → Puts (λ i. c i + c' i) (λ d. Ok d × Ok' d) s u
   then_puts c c' Ok Ok' s t u on h k = let x = h.drawn in let y = k.drawn in record {
@@ -129,6 +173,7 @@ module _ (v d0 : ℕ) (F : ℕ → ℕ) where
     count = λ i. let a = h.count i in let b = k.count i in omega arith;
     outs = λ e l o. k.outs (h.number e) (omega arith) (h.outs e l o);
     gifts = λ l g. k.gifts (omega arith) (h.gifts l g);
+    once = λ l g o. k.once (omega arith) (h.gifts l g) (h.once l g o);
     ok = λ e l. (on (length t.drawn) (length u.drawn) y (h.ok e l), k.ok (h.number e) (omega arith));
   }
 
@@ -140,11 +185,12 @@ module _ (v d0 : ℕ) (F : ℕ → ℕ) where
     count = λ i. let a = h.count i in let b = k.count i in omega arith;
     outs = λ e l o. k.outs (h.number e) (omega arith) (h.outs e l o);
     gifts = λ l o. k.gifts (omega arith) (h.gifts l o);
+    once = λ l x o. k.once (omega arith) (h.gifts l x) (h.once l x o);
     ok = λ e l. k.ok (h.number e) (omega arith);
   }
 
   pub less_fair : (c : ℕ → ℕ) (Ok : ℕ → Type 0) (s t : Vat Name) → Puts c Ok s t → Fair s t
-  less_fair c Ok s t h = record { puts = record { number = h.number; drawn = h.drawn; count = λ i. let a = h.count i in omega arith; outs = h.outs; gifts = h.gifts; ok = λ e l. tt } }
+  less_fair c Ok s t h = record { puts = record { number = h.number; drawn = h.drawn; count = λ i. let a = h.count i in omega arith; outs = h.outs; gifts = h.gifts; once = h.once; ok = λ e l. tt } }
 
   pub fair_trans : {s t u : Vat Name} → Fair s t → Fair t u → Fair s u
   fair_trans {s = s} {t = t} {u = u} h k = record { puts = first_fair (λ i. 0) Nothing s t u h k.puts }
@@ -177,22 +223,18 @@ module _ (v d0 : ℕ) (F : ℕ → ℕ) where
 
   pub fair_open : (p i : ℕ) → Keeps {N = Name} Fair (open_gift p i)
   unfolding open_gift
-  fair_open p i = record { after = λ s. record { puts = record { number = λ e. e; drawn = omega arith; count = λ j. omega arith; outs = λ e l o. o; gifts = λ l g. opened_provided F (length s.drawn) p i s.gifts g; ok = λ e l. tt } } }
+  fair_open p i = record { after = λ s. record { puts = record { number = λ e. e; drawn = omega arith; count = λ j. omega arith; outs = λ e l o. o; gifts = λ l g. opened_provided F (length s.drawn) p i s.gifts g; once = λ l g o. differ_opened p i s.gifts o; ok = λ e l. tt } } }
 
-  -- a gift comes to be at its host
-  pub fair_gift : (n : Name) (p i : ℕ) → IsProvidedBy F d0 i p → Keeps Fair (new_gift n p i)
-  unfolding new_gift
-  fair_gift n p i h = record {
-    after = λ s. record {
-      puts = record {
-        number = λ e. e;
-        drawn = omega arith;
-        count = λ j. omega arith;
-        outs = λ e l o. o;
-        gifts = λ l g. each_end (IsProvided F (length s.drawn)) s.gifts (record { name = n; provider = p; number = i; opened = false }) g (drawn_up F d0 (length s.drawn) l i p h);
-        ok = λ e l. tt;
-      };
-    };
+  -- a gift comes to be at its host, where it is absent
+  pub gift_after : (s : Vat Name) (k : Known Name) (n : Name) (p i : ℕ) → IsProvidedBy F d0 i p → gift_at p i s.gifts ≡ None → Puts (λ j. 0) Nothing s (record s { known = s.known ++ k ∷ []; gifts = s.gifts ++ record { name = n; provider = p; number = i; opened = false } ∷ [] })
+  gift_after s k n p i h e = let g : GiftEntry Name = record { name = n; provider = p; number = i; opened = false } in record {
+    number = λ e. e;
+    drawn = omega arith;
+    count = λ j. omega arith;
+    outs = λ e l o. o;
+    gifts = λ l x. each_end (IsProvided F (length s.drawn)) s.gifts g x (drawn_up F d0 (length s.drawn) l i p h);
+    once = λ l x o. differ_end s.gifts g (λ a. entered_found F (length s.drawn) p i s.gifts x a h.1 e) o;
+    ok = λ e l. tt;
   }
 
   -- a note in which no gift passes
@@ -203,6 +245,7 @@ module _ (v d0 : ℕ) (F : ℕ → ℕ) where
     count = λ i. let a = out_end i s.outbox (record { to = w; note = n }) in let b = none i in omega arith;
     outs = λ e l o. each_end (PutTells (length s.drawn)) s.outbox (record { to = w; note = n }) o (h l);
     gifts = λ l g. g;
+    once = λ l g o. o;
     ok = λ e l. tt;
   }
 
@@ -226,6 +269,7 @@ module _ (v d0 : ℕ) (F : ℕ → ℕ) where
     count = λ i. let a = drawn_more i (length s.drawn) (length (s.drawn ++ w ∷ [])) l in omega arith;
     outs = λ e k o. each_up (PutTells (length s.drawn)) (PutTells (length (s.drawn ++ w ∷ []))) (λ p h. provides_up F F (length s.drawn) (length (s.drawn ++ w ∷ [])) (drawn_up F (length s.drawn) (length (s.drawn ++ w ∷ [])) l) v p.to p.note h) s.outbox o;
     gifts = λ k g. each_up (IsProvided F (length s.drawn)) (IsProvided F (length (s.drawn ++ w ∷ []))) (λ x h. drawn_up F (length s.drawn) (length (s.drawn ++ w ∷ [])) l x.number x.provider h) s.gifts g;
+    once = λ l g o. o;
     ok = λ e k. tt;
   }
 

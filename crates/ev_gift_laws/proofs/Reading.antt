@@ -1,9 +1,9 @@
 -- What a note brings of a gift: no more than once, and not where the vat knows it, where the gifts of the note stand apart.
-use Rattle.std.proofs.Common.{◌≡◌, ℕ, zero, suc, ◌+◌, ◌≤◌, ◌<◌, Bool, true, false, List, [], ◌∷◌, ◌++◌, Option, Some, None, refl, sym, ap, ◌∙◌, ◌⊎◌, inl, inr, subst, arith, ◌==◌}
+use Rattle.std.proofs.Common.{◌≡◌, ℕ, zero, suc, ◌+◌, ◌≤◌, ◌<◌, Bool, true, false, List, [], ◌∷◌, ◌++◌, refl, sym, ◌∙◌, ◌⊎◌, inl, inr, subst, arith, ◌==◌}
 use Rattle.std.proofs.lemmas.Bool.{eq-eqb}
 use Rattle.ev_machine.specs.Values.{Value, Null, Flag, Number, Letter, Text, Prim, Broken, Items, Ref, Name, Gift, Sent, Msg, same_name, host_of}
-use Rattle.ev_machine.specs.State.{Message, Known, Passed, Passeds, Plain, AGift, Many, NoMore, More, GiftEntry, Vat, is_gift}
-use Rattle.ev_machine.specs.Arrive.{Old, New, gift_at}
+use Rattle.ev_machine.specs.State.{Message, Known, Passed, Passeds, Plain, AGift, Many, NoMore, More, Vat}
+use Rattle.ev_machine.specs.Arrive.{Old, New}
 use Rattle.ev_run.specs.World.{has_name, is_old, read_name, known_after, read_value, read_passed, read_all, plain_read, many_read, more_read}
 use Rattle.ev_fate_laws.specs.Fate as fate
 use Rattle.ev_fate_laws.specs.Lasting.{Each, NamesMessage, KnownWell, HeldWell}
@@ -11,8 +11,8 @@ use Rattle.ev_name_laws.specs.Names.{Named, IsAmong, IsMade, PassedOk, PassedsOk
 use Rattle.ev_name_laws.proofs.Among.{among_last}
 use Rattle.ev_name_laws.proofs.SameNames.{same_is, among_has}
 use Rattle.ev_table_laws.specs.Knowing.{once, one, onward, onward_all, claims, new_name, new_in_value, new_in, new_in_all}
-use Rattle.ev_gift_laws.specs.Passing.{gifts_in, gifts_in_all, IsProvided}
-use Rattle.ev_gift_laws.specs.News.{IsPassed, IsPassedIn, IsRefTo, IsNamed, IsNamedIn, IsEntered}
+use Rattle.ev_gift_laws.specs.Passing.{gifts_in, gifts_in_all}
+use Rattle.ev_gift_laws.specs.News.{IsPassed, IsPassedIn, IsRefTo, IsNamed, IsNamedIn}
 
 none_is : (b : Bool) → b ≡ false → once b ≡ 0
 unfolding once
@@ -280,27 +280,3 @@ module _ (h i : ℕ) where
 
   pub unclaimed : (v : ℕ) (ks : List (Known Name)) → Each KnownWell ks → (IsAmong X (names_in ks) → ⊥) → claims v X ks ≡ 0
   unclaimed v ks w f = claims_none v ks w f
-
--- ---- a gift that stands at its host is found by its provider and draw
-
-found_or : (b : Bool) (g : GiftEntry Name) (o : Option (GiftEntry Name)) → b ≡ true → ◌≡◌ {A = Option (GiftEntry Name)} (elim b [ true ↦ Some g | false ↦ o ]) None → ⊥
-found_or true g o e f = cc
-found_or false g o e f = cc
-
-later_or : (b : Bool) (g : GiftEntry Name) (o : Option (GiftEntry Name)) → ◌≡◌ {A = Option (GiftEntry Name)} (elim b [ true ↦ Some g | false ↦ o ]) None → o ≡ None
-later_or true g o f = cc
-later_or false g o f = f
-
-there_or : (b c : Bool) → b ≡ true → c ≡ true → elim b [ true ↦ c | false ↦ false ] ≡ true
-there_or true c e f = f
-there_or false c e f = e
-
-is_there : (p j : ℕ) (g : GiftEntry Name) → g.provider ≡ p → g.number ≡ j → is_gift p j g ≡ true
-unfolding is_gift
-is_there p j g e f = there_or (g.provider == p) (g.number == j) (eq-eqb g.provider p e) (eq-eqb g.number j f)
-
-pub entered_found : (P : ℕ → ℕ) (d p j : ℕ) (gs : List (GiftEntry Name)) → Each (IsProvided P d) gs → IsEntered j gs → P j ≡ p → gift_at p j gs ≡ None → ⊥
-unfolding gift_at
-entered_found P d p j [] h e f g = e
-entered_found P d p j (x ∷ gs) h (inl e) f g = let told = h.0 in found_or (is_gift p j x) x (gift_at p j gs) (is_there p j x (sym told.1 ∙ ap P e ∙ f) e) g
-entered_found P d p j (x ∷ gs) h (inr e) f g = entered_found P d p j gs h.1 e f (later_or (is_gift p j x) x (gift_at p j gs) g)

@@ -175,6 +175,7 @@ module _ (v d0 : ℕ) (F : ℕ → ℕ) (fresh : (i : ℕ) → d0 ≤ i → F i 
     count = λ i. let a = out_end i s.outbox (record { to = h; note = Open (length s.drawn) n }) in let b = next_draw i (length s.drawn) in rw more (omega arith);
     outs = λ e l o. each_end (PutTells v d0 F (length (s.drawn ++ x ∷ []))) s.outbox (record { to = h; note = Open (length s.drawn) n }) (d.outs e l o) (omega arith, fresh (length s.drawn) l);
     gifts = d.gifts;
+    once = d.once;
     ok = λ e l. ((omega arith, fresh (length s.drawn) l), apart h (far e), apart_from h w other);
   }
 
@@ -256,6 +257,7 @@ module _ (v d0 : ℕ) (F : ℕ → ℕ) (fresh : (i : ℕ) → d0 ≤ i → F i 
         count = λ i. let a = h.count i in let b = out_end i t.outbox p in let o = count i in omega arith;
         outs = λ x l o. each_end (PutTells v d0 F (length t.drawn)) t.outbox p (h.outs x l o) (tells (length t.drawn) (h.ok x l));
         gifts = h.gifts;
+        once = h.once;
         ok = λ x l. tt;
       }
 

@@ -1,4 +1,5 @@
 pub mod Passing
 pub mod News
 pub mod Standing
+pub mod Asking
 pub mod Apart

@@ -1,10 +1,11 @@
 -- When the gifts that a note brings are new to the vat where it arrives.
-use Rattle.std.specs.Prelude.{◌≡◌, ℕ, ◌+◌, ◌≤◌, List, [], ◌∷◌, ◌⊎◌, Some, length, slice_get}
+use Rattle.std.specs.Prelude.{◌≡◌, ℕ, ◌+◌, ◌≤◌, List, ◌∷◌, ◌⊎◌, Some, length, slice_get}
 use Rattle.ev_machine.specs.Values.{Value, Null, Flag, Number, Letter, Text, Prim, Broken, Items, Ref, Name, Gift}
-use Rattle.ev_machine.specs.State.{Passed, Passeds, Plain, AGift, Many, NoMore, More, Note, Deliver, Open, Ask, SettledTo, Elsewhere, Shorten, GiftEntry, Vat}
+use Rattle.ev_machine.specs.State.{Passed, Passeds, Plain, AGift, Many, NoMore, More, Note, Deliver, Open, Ask, SettledTo, Elsewhere, Shorten, Vat}
 use Rattle.ev_run.specs.World.{Link, link_at, read_note, names_of}
 use Rattle.ev_name_laws.specs.Names.{IsAmong, names_in}
 use Rattle.ev_name_laws.specs.Runs.{InRuns}
+use Rattle.ev_gift_laws.specs.Standing.{IsEntered}
 use Rattle.ev_table_laws.specs.Knowing.{claims}
 use Rattle.ev_table_laws.specs.Runs.{allowed, brings_here}
 
@@ -57,11 +58,6 @@ module _ (x : Name) where
   Names (SettledTo n y) = (n ≡ x) ⊎ IsNamed y
   Names (Elsewhere n c) = n ≡ x
   Names (Shorten n c i) = n ≡ x
-
--- a gift of that draw stands at its host
-abbrev pub IsEntered : ℕ → List (GiftEntry Name) → Type 0
-IsEntered i [] = ⊥
-IsEntered i (g ∷ gs) = (g.number ≡ i) ⊎ IsEntered i gs
 
 -- A gift that passes in the note is neither known to the vat nor named in the note; and a gift of the vat's own that it knows, or that the note names, stands there.
 pub record GiftsApart (to : ℕ) (n : Note Name) (s : Vat Name) : Type 0 where

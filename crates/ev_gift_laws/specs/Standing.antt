@@ -1,9 +1,10 @@
 -- Gifts at their host.
-use Rattle.std.specs.Prelude.{◌≡◌, ℕ, List, [], ◌∷◌, ◌⊎◌}
+use Rattle.std.specs.Prelude.{◌≡◌, ℕ, List, [], ◌∷◌, ◌⊎◌, Some, slice_get}
 use Rattle.ev_machine.specs.Values.{Name, Naming}
 use Rattle.ev_machine.specs.State.{GiftEntry, Vat, Done, Gives, Throws, Ejects, Stops, Open, Ask}
 use Rattle.ev_machine.specs.Arrive.{Incoming, arrive}
 use Rattle.ev_machine_laws.specs.Steps.{KeptBySteps}
+use Rattle.ev_fate_laws.specs.Runs.{InRuns}
 
 -- a gift of that provider and draw is among them
 abbrev pub Stands : ℕ → ℕ → List (GiftEntry Name) → Type 0
@@ -25,3 +26,17 @@ ThenStands p i (Stops c t) = Unit {0}
 abbrev pub WhatIsOpenedOrAskedForStands : Type 0
 WhatIsOpenedOrAskedForStands = (K : Naming Name Name) (from p i : ℕ) (x : Incoming Name Name) (s : Vat Name)
     → ThenStands from i (arrive K from (Open i x) s) × ThenStands p i (arrive K from (Ask p i x) s)
+
+-- a gift of that draw stands at its host
+abbrev pub IsEntered : ℕ → List (GiftEntry Name) → Type 0
+IsEntered i [] = ⊥
+IsEntered i (g ∷ gs) = (g.number ≡ i) ⊎ IsEntered i gs
+
+-- no two of them are of one draw
+abbrev pub DrawsDiffer : List (GiftEntry Name) → Type 0
+DrawsDiffer [] = Unit {0}
+DrawsDiffer (g ∷ gs) = (IsEntered g.number gs → ⊥) × DrawsDiffer gs
+
+-- No two gifts at a vat are of one draw, in every world of every run.
+abbrev pub EachDrawStandsOnce : Type 0
+EachDrawStandsOnce = InRuns (λ w. (v : ℕ) (s : Vat Name) → slice_get w.vats v ≡ Some s → DrawsDiffer s.gifts)

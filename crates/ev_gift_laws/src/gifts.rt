@@ -6,9 +6,10 @@
 //! its view, under a word that it draws.
 
 ghost use Rattle.ev_gift_laws.specs.Apart.{NewWhereApart};
+ghost use Rattle.ev_gift_laws.specs.Asking.{WhoLearnsAGiftAsks};
 ghost use Rattle.ev_gift_laws.specs.News.{GiftsComeNew};
 ghost use Rattle.ev_gift_laws.specs.Passing.{GiftsPassOnce, EachDrawHasOneProvider};
-ghost use Rattle.ev_gift_laws.specs.Standing.{GiftsStay, WhatIsOpenedOrAskedForStands};
+ghost use Rattle.ev_gift_laws.specs.Standing.{EachDrawStandsOnce, GiftsStay, WhatIsOpenedOrAskedForStands};
 
 /// Of each draw at most one gift was ever put, in all notes on all links together, and none of a draw
 /// that was not made; and so it is with the notes that are under way.
@@ -27,6 +28,11 @@ pub fn each_draw_has_one_provider()
     ensures { EachDrawHasOneProvider }
 {}
 
+/// No two gifts that stand at a vat are of one draw.
+pub fn each_draw_stands_once()
+    ensures { EachDrawStandsOnce }
+{}
+
 /// A gift that stands at its host stands there after every step, whatever the names are and however
 /// the step ends.
 pub fn gifts_stay()
@@ -36,6 +42,12 @@ pub fn gifts_stay()
 /// Once a gift was opened by its provider, or asked for, it stands at the vat where that note arrived.
 pub fn what_is_opened_or_asked_for_stands()
     ensures { WhatIsOpenedOrAskedForStands }
+{}
+
+/// Once a note arrived in which a gift passed, the vat has put a note to the host of the gift that asks
+/// for the gift of the sender under that draw, or it has noticed the host.
+pub fn who_learns_a_gift_asks_for_it()
+    ensures { WhoLearnsAGiftAsks }
 {}
 
 /// The first note on a link brings each gift once at most, and none that is claimed at the receiver,
