@@ -5,3 +5,7 @@ pub mod FirstArrive
 pub mod FirstSteps
 pub mod Links
 pub mod Moves
+pub mod Arrived
+pub mod Follow
+pub mod FollowRuns
+pub mod Reads

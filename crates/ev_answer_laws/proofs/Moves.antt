@@ -39,7 +39,7 @@ module _ (script : Script) (w : World) where
     Still : y.vats ≡ w.vats → y.links ≡ w.links → y.drawn ≡ w.drawn → Moved y
     Severs : (a b : ℕ) → y.vats ≡ w.vats → y.links ≡ with_link severed_link b a (with_link severed_link a b w.links) → y.drawn ≡ w.drawn → Moved y
     -- there is no such vat
-    Drops : (a v : ℕ) (ns : List (Note Name)) → slice_get w.vats v ≡ None → y.vats ≡ w.vats → y.links ≡ with_link (with_notes ns) a v w.links → y.drawn ≡ w.drawn → Moved y
+    Drops : (a v : ℕ) (n : Note Name) (ns : List (Note Name)) (l : Link) → link_at a v w.links ≡ Some l → l.notes ≡ n ∷ ns → slice_get w.vats v ≡ None → y.vats ≡ w.vats → y.links ≡ with_link (with_notes ns) a v w.links → y.drawn ≡ w.drawn → Moved y
     Steps : (v : ℕ) (s q t : Vat Name) (what : Step Name Name) → IsAlone what → Does v s q t what → y.vats ≡ put_at v t w.vats → y.links ≡ push_all v t.outbox w.links → y.drawn ≡ t.drawn
         → ((g : ℕ) (m : Msg) → (g ≡ v → ⊥) → FirstOut g m s t) → Moved y
     Arrives : (a v : ℕ) (s t : Vat Name) (n : Note Name) (ns : List (Note Name)) (l : Link) → link_at a v w.links ≡ Some l → l.cut ≡ false → l.notes ≡ n ∷ ns → Does v s s t (Receives a (read_note (names_of s) n))
@@ -99,7 +99,7 @@ module _ (script : Script) where
   arrives_moves : (k a v : ℕ) (w y : World) (n : Note Name) (ns : List (Note Name)) (l : Link) → Stands script w → NoteOk (Told script w) n → link_at a v w.links ≡ Some l → l.cut ≡ false → l.notes ≡ n ∷ ns → (o : Option (Vat Name)) → slice_get w.vats v ≡ o
       → world.arrives script k a v (record w { links = with_link (with_notes ns) a v w.links }) n o ≡ Going y → Moved script w y
   unfolding world.arrives world.within world.idle does readied
-  arrives_moves k a v w y n ns l h ok i c j None q e = moved_to w (record w { links = with_link (with_notes ns) a v w.links; history = w.history ++ Idle k ∷ [] }) y (Drops a v ns q refl refl refl) e
+  arrives_moves k a v w y n ns l h ok i c j None q e = moved_to w (record w { links = with_link (with_notes ns) a v w.links; history = w.history ++ Idle k ∷ [] }) y (Drops a v n ns l i j q refl refl refl) e
   arrives_moves k a v w y n ns l h ok i c j (Some s) q e = carried_moves w y a v (Carried k a v n (with_link (with_notes ns) a v w.links) ∷ []) (world.step_number script k) s n ns l _ i c j
       (λ t f. record { there = q; number = refl; known = refl; promises = refl; messages = refl; gifts = refl; gives = f })
       (λ t f g m abroad spares. after_is (FirstOut g m s) _ t (note_first script g m v abroad w s q h a n ok spares) f) e
