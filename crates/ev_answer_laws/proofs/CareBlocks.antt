@@ -17,7 +17,7 @@ use Rattle.ev_name_laws.proofs.Serves.{Serves}
 use Rattle.ev_name_laws.proofs.CareEval.{fine_turn}
 
 -- How each single change ends, and each note that is put with what passes in it. A message that goes to another host goes out behind its answer there.
-pub record Blocks {N W : Type 0} (K : Naming N W) (S : Care N) (Here : ℕ → Type 0) : Type 0 where
+pub record Blocks {N W : Type 0} (K : Naming N W) (S : Care N) (Here : ℕ → Type 0) : Type 1 where
   pub spots : Spots K S
   pub object : (s : Vat N) (i : ℕ) → S.ok s (Named (K.object i))
   pub tells : (C : Fact N) (e : Happened N) → Fine S C (tell e) nothing

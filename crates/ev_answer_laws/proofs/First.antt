@@ -169,7 +169,7 @@ module _ (g : ℕ) (m : Msg) where
 
     -- ---- single changes
 
-    altered : (c : Change Name) (n : Name) (s : Vat Name) → Held s → Held (record s { known = with_change Names c n s.known })
+    pub altered : (c : Change Name) (n : Name) (s : Vat Name) → Held s → Held (record s { known = with_change Names c n s.known })
     altered c n s o k = o (rw (names_change Names c n s.known) at k)
 
     pub known_held : (s : Vat Name) (a : Name) (h : ℕ) → (X ≡ a → ⊥) → Held s → Held (record s { known = s.known ++ begun a h ∷ [] })
@@ -204,7 +204,7 @@ module _ (g : ℕ) (m : Msg) where
     unfolding come naming name_of
     answered h id s e i o = known_held s (answer_of h id) h (own_answer h id e i) o
 
-    no_gift : (h i : ℕ) → X ≡ Gift h i → ⊥
+    pub no_gift : (h i : ℕ) → X ≡ Gift h i → ⊥
     no_gift h i e = cc
 
     no_promise : (w i : ℕ) → X ≡ Promise w i → ⊥
@@ -216,7 +216,7 @@ module _ (g : ℕ) (m : Msg) where
     -- ---- where the answer is not known, nothing leads to it
 
     avoids : (s : Vat Name) → (IsAmong X (names_in s.known) → ⊥) → (b : Bit Name) → T.ok s b → Avoids X b
-    avoids s f (Named n) h e = f (rw e at h.1)
+    avoids s f (Named n) h = λ e. f (rw e at h.1)
     avoids s f (Mail n) h = tt
     avoids s f (Drew i) h = tt
     avoids s f (At w) h = tt
@@ -267,7 +267,7 @@ module _ (g : ℕ) (m : Msg) where
         → Leaves (and_then d (λ u. refs.wait_on Names p (answer_of h id)))
     unfolding and_then refs.wait_on ◌>>◌ tell alter
     waits_after s s1 h id p (Gives u t) f i names o = let a = answer_of h id in
-        found_held s (record t { happened = _; known = with_change Names (Wait p) a (with_change Names (WaitOn a) p t.known) }) h id f i
+        found_held s (record t { known = with_change Names (Wait p) a (with_change Names (WaitOn a) p t.known) }) h id f i
         (names_change Names (Wait p) a (with_change Names (WaitOn a) p t.known) ∙ names_change Names (WaitOn a) p t.known ∙ o.0 ∙ names) o.1
     waits_after s s1 h id p (Throws z t) f i names o = absurd o
     waits_after s s1 h id p (Ejects j y t) f i names o = absurd o
@@ -350,6 +350,10 @@ module _ (g : ℕ) (m : Msg) where
     message_at : {C : Fact Name} (id : Name) → Gets W C (IsMail id) → (s : Vat Name) → Holds (T.ok s) C → IsMessageName id
     message_at id k s c = let i = k.at s c in made_message _ id i.0
 
+    told_leaves : (e : Happened Name) (s : Vat Name) → Held s → Leaves (tell e s)
+    unfolding tell
+    told_leaves e s o = o
+
     pub blocks : Blocks Names W IsHere
     unfolding enqueue alter come new_gift open_gift mark send_out new_message new_promise naming name_of mail_of answer_of
     blocks = record {
@@ -371,14 +375,10 @@ module _ (g : ℕ) (m : Msg) where
       draws = λ C. held_draw;
       messages = λ C h e k. lift (fine_new_message Names T under makes h (gets_names k)) (λ s o. known_held s (Answer h (record { sender = v; number = s.messages })) h (no_new h s.messages e) o);
       promises = λ C. lift (fine_promise Names T under makes) (λ s o. known_held s (Promise v s.promises) s.number (no_promise v s.promises) o);
-      numbers = numbers;
+      numbers = λ C f H k. numbers C f H k;
       passes_on = λ C n k h o to l. lift_of (fine_pass_on Names T under n (gets_names k) h (gets_names o) to (gets_names l)) (λ s w c d. passed_either s n h to w (k.at s c) (l.at s c) d (among_dec X (names_in s.known)));
       sends_away = λ C act x y k verb args l h o n i. lift_of (fine_away act x y (gets_names k) verb args (gets_names l) h (gets_names o) n (gets_names i)) (λ s w c d. sent_either s act x y verb args h n w (l.at s c) (i.at s c) d (among_dec X (names_in s.known)));
       informs = λ C p k w y l z i. lift_of (fine_inform_of Names T under p (gets_names k) w y (gets_names l) z (gets_names i)) (λ s h c d. informed s p w y z h (k.at s c) (l.at s c) d (among_dec X (names_in s.known)));
       asks = λ C to p i n k l. lift (fine_out Names T under to (Ask p i n) (gets_names (note_ask W C p i n k l)) (gets_names (goes_ask W C to p i n))) (λ s o. put_held s (record { to = to; note = Ask p i n }) o);
       opens = λ C to i n k l. lift (fine_out Names T under to (Open i n) (gets_names (note_open W C i n k l)) (gets_names (goes_open W C to i n))) (λ s o. put_held s (record { to = to; note = Open i n }) o);
     }
-      where
-        told_leaves : (e : Happened Name) (s : Vat Name) → Held s → Leaves (tell e s)
-        unfolding tell
-        told_leaves e s o = o

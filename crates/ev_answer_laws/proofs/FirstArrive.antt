@@ -2,7 +2,7 @@
 use Rattle.std.proofs.Common.{◌≡◌, ℕ, ◌<◌, sym, Bool, true, false, List, [], ◌∷◌, ◌++◌, Option, Some, None, if◌then◌else◌, ◌==◌, length}
 use Rattle.std.specs.Prelude.{slice_get}
 use Rattle.ev_machine.specs.Values.{Value, Null, Flag, Number, Letter, Text, Prim, Broken, Items, Ref, Name, Answer, Gift, Msg, host_of, naming, name_of, IsGift}
-use Rattle.ev_machine.specs.State.{Passed, Passeds, Plain, AGift, Many, NoMore, More, Note, Deliver, Open, Ask, SettledTo, Elsewhere, Shorten, Put, GiftEntry, Wait, See, begun, Vat, Done, Gives, Throws, Ejects, Stops, Act, ◌>>=◌, ◌>>◌, and_then, give, look, tell, come, mail, new_gift, new_list, send_out, alter, draw, draws}
+use Rattle.ev_machine.specs.State.{Passed, Passeds, Plain, AGift, Many, NoMore, More, Note, Deliver, Open, Ask, SettledTo, Elsewhere, Shorten, Put, GiftEntry, Wait, See, with_change, begun, Vat, Done, Gives, Throws, Ejects, Stops, Act, ◌>>=◌, ◌>>◌, and_then, give, look, tell, come, mail, new_gift, new_list, send_out, alter, draw, draws}
 use Rattle.ev_machine.specs.Refs.{host_at}
 use Rattle.ev_machine.specs.Arrive as arrive
 use Rattle.ev_machine.specs.Arrive.{Incoming, Old, New}
@@ -17,7 +17,7 @@ use Rattle.ev_answer_laws.specs.Behind.{Avoids}
 use Rattle.ev_answer_laws.proofs.CareBlocks.{put_learn_gift, put_arrive_ask, put_delivered, put_opened, put_went, put_shortened, put_settle}
 use Rattle.ev_answer_laws.proofs.First.{X as TheAnswer, T as Tracked, W as Carry, Held as Out, Leaves as Leaving, IsHere as Here, held_sound, lift, blocks, altered, known_held, put_held, no_gift}
 
-module _ (far : ℕ) (msg : Msg) (M : Marked) (vats : List (Vat Name)) (v : ℕ) (q : Vat Name) (there : slice_get vats v ≡ Some q) (here : M.mark (At v)) (word : ℕ → ℕ) (E : Type 0) (abroad : g ≡ v → ⊥) where
+module _ (far : ℕ) (msg : Msg) (M : Marked) (vats : List (Vat Name)) (v : ℕ) (q : Vat Name) (there : slice_get vats v ≡ Some q) (here : M.mark (At v)) (word : ℕ → ℕ) (E : Type 0) (abroad : far ≡ v → ⊥) where
   abbrev X : Name
   X = Answer far msg
 
@@ -37,12 +37,12 @@ module _ (far : ℕ) (msg : Msg) (M : Marked) (vats : List (Vat Name)) (v : ℕ)
 
   see_leaves : (s : Vat Name) (n k : Name) → FitOut s → Leaves (arrive.see (naming word v) n k s)
   unfolding arrive.see ◌>>◌ and_then tell alter
-  see_leaves s n k o = altered far msg M vats v q there here word E abroad (Wait n) k (record s { happened = _; known = _ }) (altered far msg M vats v q there here word E abroad (See k) n (record s { happened = _ }) o)
+  see_leaves s n k o = altered far msg M vats v q there here word E abroad (Wait n) k (record s { known = with_change (naming word v) (See k) n s.known }) (altered far msg M vats v q there here word E abroad (See k) n s o)
 
   had_leaves : (s : Vat Name) (u h i : ℕ) (n : Name) (o : Option (GiftEntry Name)) → FitOut s → Leaves (and_then (arrive.gift_or_new (naming word v) u h i o s) (λ k. arrive.see (naming word v) n k))
   unfolding arrive.gift_or_new ◌>>=◌ ◌>>◌ and_then come new_gift give naming name_of
   had_leaves s u h i n (Some k) o = see_leaves s n k.name o
-  had_leaves s u h i n None o = see_leaves (record s { known = s.known ++ begun (Gift u i) u ∷ []; gifts = _ }) n (Gift u i) (known_held far msg M vats v q there here word E abroad s (Gift u i) u (no_gift far msg M vats v q there here word E abroad u i) o)
+  had_leaves s u h i n None o = see_leaves (record s { known = s.known ++ begun (Gift u i) u ∷ []; gifts = s.gifts ++ record { name = Gift u i; provider = h; number = i; opened = false } ∷ [] }) n (Gift u i) (known_held far msg M vats v q there here word E abroad s (Gift u i) u (no_gift far msg M vats v q there here word E abroad u i) o)
 
   there_leaves : (s : Vat Name) (u h c i : ℕ) (n : Name) (b : Bool) → FitOut s
       → Leaves (and_then ((if b then arrive.have_gift (naming word v) h i else (come (naming word v) (IsGift c i) c >>= (λ k. send_out c (Ask h i k) >> give k))) s) (λ k. arrive.see (naming word v) n k))

@@ -1,5 +1,5 @@
 -- What each move of a world keeps of notes and answers: a note names what its sender knows, and an answer follows its message.
-use Rattle.std.proofs.Common.{◌≡◌, ℕ, zero, suc, Bool, true, false, List, [], ◌∷◌, ◌++◌, Option, Some, None, refl, sym, ap, ◌∙◌, ◌⊎◌, inl, inr, length, ◌==◌, arith}
+use Rattle.std.proofs.Common.{◌≡◌, ℕ, zero, suc, Bool, true, false, List, [], ◌∷◌, ◌++◌, Option, Some, None, refl, sym, ap, ◌∙◌, ◌⊎◌, inl, inr, length, ◌==◌, arith, subst}
 use Rattle.std.specs.Prelude.{slice_get}
 use Rattle.std.proofs.lemmas.Bool.{eqb-true, eq-eqb}
 use Rattle.ev_machine.specs.Values.{Value, Null, Flag, Number, Letter, Text, Prim, Broken, Items, Ref, Name, Root, Object, Promise, Answer, Gift, Sent, Msg, host_of, naming}
@@ -19,7 +19,7 @@ use Rattle.ev_rest_laws.proofs.Gentle.{AfterGives}
 use Rattle.ev_rest_laws.proofs.LinksCut.{fits_notes, fits_severed}
 use Rattle.ev_rest_laws.proofs.NotesRuns.{OfNotes}
 use Rattle.ev_rest_laws.proofs.NotesLift as lift
-use Rattle.ev_answer_laws.specs.Behind.{Avoids, NamesNot, Bears, ComesFirst}
+use Rattle.ev_answer_laws.specs.Behind.{Avoids, NamesNot, Bears, ComesFirst, IsKnownTo as KnowsIn}
 use Rattle.ev_answer_laws.proofs.First.{PutsFirst, among_dec}
 use Rattle.ev_answer_laws.proofs.FirstSteps.{FirstOut}
 use Rattle.ev_answer_laws.proofs.Links.{AtLink, found_ends, with_any, push_keeps, push_others, push_of, pushed_all, CutOrFirst, pushed_more, push_first}
@@ -97,14 +97,6 @@ eq_dec a b = either (a == b) refl
     either true e = inl (eqb-true a b e)
     either false e = inr (λ i. true_false (sym (eq-eqb a b i) ∙ e))
 
--- a name is known, or an object
-abbrev pub KnowsIn : Vat Name → Bit Name → Type 0
-KnowsIn s (Named n) = IsKnownIn (names_in s.known) n
-KnowsIn s (Mail n) = Unit {0}
-KnowsIn s (Drew i) = Unit {0}
-KnowsIn s (At h) = Unit {0}
-KnowsIn s (Off h) = Unit {0}
-
 abbrev pub AllKnown : Vat Name → Link → Type 0
 AllKnown s l = AllOf (NoteOk (KnowsIn s)) l.notes
 
@@ -136,7 +128,7 @@ knows_up s t f (Off w) h = tt
 
 -- what is not known is not named
 pub knows_not : (g : ℕ) (m : Msg) (s : Vat Name) → (IsAmong (Answer g m) (names_in s.known) → ⊥) → (b : Bit Name) → KnowsIn s b → Avoids (Answer g m) b
-knows_not g m s f (Named n) h e = let known : IsKnownIn (names_in s.known) (Answer g m) = rw e at h in f known
+knows_not g m s f (Named n) h = λ e. let known : IsKnownIn (names_in s.known) (Answer g m) = rw e at h in f known
 knows_not g m s f (Mail n) h = tt
 knows_not g m s f (Drew i) h = tt
 knows_not g m s f (At w) h = tt
@@ -160,7 +152,7 @@ module _ (vs : List (Vat Name)) (v : ℕ) (s t : Vat Name) (there : slice_get vs
   goes_known a b r e = either (put_cases v t vs a r e)
     where
       either : ((a ≡ v) × (t ≡ r)) ⊎ ((a ≡ v → ⊥) × (slice_get vs a ≡ Some r)) → AtLink a b (AllKnown r) (push_all v t.outbox ls)
-      either (inl h) = let one : AtLink a b (AllKnown t) (push_all v t.outbox ls) = rw (sym h.0) at (mine_known b) in rw h.1 at one
+      either (inl h) = subst (λ z. AtLink a b (AllKnown z) (push_all v t.outbox ls)) h.1 (subst (λ z. AtLink z b (AllKnown t) (push_all v t.outbox ls)) (sym h.0) (mine_known b))
       either (inr h) = push_others a b v (AllKnown r) t.outbox ls h.0 (known a b r h.1)
 
   module _ (g : ℕ) (m : Msg) (q : Vat Name) (at : slice_get (put_at v t vs) g ≡ Some q) where
@@ -184,12 +176,12 @@ module _ (vs : List (Vat Name)) (v : ℕ) (s t : Vat Name) (there : slice_get vs
     by_first (inr a) = λ l e. inl a
 
     mine_followed : IsAmong It (names_in t.known) → (g ≡ v) ⊎ (g ≡ v → ⊥) → AtLink v g (Followed g m q) (push_all v t.outbox ls)
-    mine_followed a (inl e) l i = let same : t ≡ q = some_same t q (sym (get_put vs v s t there) ∙ sym (ap (λ u. slice_get (put_at v t vs) u) e) ∙ at) in inl (rw same at a)
+    mine_followed a (inl e) = λ l i. let same : t ≡ q = some_same t q (sym (get_put vs v s t there) ∙ sym (ap (λ u. slice_get (put_at v t vs) u) e) ∙ at) in inl (rw same at a)
     mine_followed a (inr f) = by_first (first g m q f at a)
 
   pub goes_follow : Follow (put_at v t vs) (push_all v t.outbox ls)
   goes_follow u g m r q e at a = either (put_cases v t vs u r e)
     where
       either : ((u ≡ v) × (t ≡ r)) ⊎ ((u ≡ v → ⊥) × (slice_get vs u ≡ Some r)) → AtLink u g (Followed g m q) (push_all v t.outbox ls)
-      either (inl h) = let a1 : IsAmong (Answer g m) (names_in t.known) = rw (sym h.1) at a in rw (sym h.0) at (mine_followed g m q at a1 (eq_dec g v))
+      either (inl h) = let a1 : IsAmong (Answer g m) (names_in t.known) = rw (sym h.1) at a in subst (λ z. AtLink z g (Followed g m q) (push_all v t.outbox ls)) (sym h.0) (mine_followed g m q at a1 (eq_dec g v))
       either (inr h) = push_others u g v (Followed g m q) t.outbox ls h.0 (follow u g m r q h.1 at a)

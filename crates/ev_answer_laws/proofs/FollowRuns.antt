@@ -2,7 +2,7 @@
 use Rattle.std.proofs.Common.{◌≡◌, ℕ, zero, suc, Bool, true, false, List, [], ◌∷◌, ◌++◌, Option, Some, None, refl, sym, ap, ◌∙◌, ◌⊎◌, inl, inr, length, map, ◌==◌}
 use Rattle.std.specs.Prelude.{slice_get}
 use Rattle.ev_machine.specs.Values.{Name, Root, Answer, Sent, Msg, host_of, naming}
-use Rattle.ev_machine.specs.State.{Note, Deliver, Open, Ask, SettledTo, Elsewhere, Shorten, Put, Vat, begun, Done, Gives, Throws, Ejects, Stops}
+use Rattle.ev_machine.specs.State.{Passeds, Note, Deliver, Open, Ask, SettledTo, Elsewhere, Shorten, Put, Vat, begun, Done, Gives, Throws, Ejects, Stops}
 use Rattle.ev_machine.specs.Arrive as arrive
 use Rattle.ev_machine_laws.specs.Steps.{Step, Receives, does, After}
 use Rattle.ev_run.specs.Draws.{draw_word}
@@ -19,12 +19,12 @@ use Rattle.ev_rest_laws.proofs.LinksCut.{fits_notes, fits_severed}
 use Rattle.ev_rest_laws.proofs.NotesRuns.{Its, OfNotes, Ever, opened_all, stepped_all, links_of}
 use Rattle.ev_rest_laws.proofs.OwnRuns.{Any}
 use Rattle.ev_rest_laws.proofs.NotesLift as lift
-use Rattle.ev_answer_laws.specs.Behind.{Avoids, NamesNot, Bears, ComesFirst, AnswersFollowMessages}
+use Rattle.ev_answer_laws.specs.Behind.{Avoids, NamesNot, Bears, ComesFirst, IsKnownTo as KnowsIn, AnswersFollowMessages, NotesNameWhatIsKnown}
 use Rattle.ev_answer_laws.proofs.First.{PutsFirst, among_dec}
 use Rattle.ev_answer_laws.proofs.Links.{AtLink, with_any, CutOrFirst}
 use Rattle.ev_answer_laws.proofs.Moves.{Moved, Still, Severs, Drops, Steps, Arrives, Does, opened_hold, stepped_hold}
 use Rattle.ev_answer_laws.proofs.Arrived.{Stays, steps_stay, arrived}
-use Rattle.ev_answer_laws.proofs.Follow.{third_not, put_cases, eq_dec, KnowsIn, AllKnown, NotesKnown, Followed, Follow, knows_not, goes_known, goes_follow}
+use Rattle.ev_answer_laws.proofs.Follow.{third_not, put_cases, eq_dec, AllKnown, NotesKnown, Followed, Follow, knows_not, goes_known, goes_follow}
 
 -- the state after is the one that is given
 pub after_gives : (R : Vat Name → Vat Name → Type 0) (s t : Vat Name) (d : Done Name (Unit {0})) → After R s d → d ≡ Gives tt t → R s t
@@ -86,7 +86,7 @@ module _ (script : Script) where
           grown x j (inr i) = inr i
 
           either : ((g ≡ v) × (t ≡ q)) ⊎ ((g ≡ v → ⊥) × (slice_get vs g ≡ Some q)) → AtLink u g (Followed g m q) ls
-          either (inl x) j i = grown x.1 j (h u g m r s e (ap (λ z. slice_get vs z) x.0 ∙ there) k j i)
+          either (inl x) = λ j i. grown x.1 j (h u g m r s e (ap (λ z. slice_get vs z) x.0 ∙ there) k j i)
           either (inr x) = h u g m r q e x.1 k
 
       some_vat : (x y : Vat Name) → ◌≡◌ {A = Option (Vat Name)} (Some x) (Some y) → x ≡ y
@@ -127,13 +127,12 @@ module _ (script : Script) where
   unfolding readied
   step_grows w v s q t what d n h = let r = after_gives Stays (readied w q) t (does (names script v) what (readied w q)) (steps_stay (names script v) what (readied w q)) d.gives in r.1 n (rw (ap names_in d.known) h)
 
+  delivered : (w : World) (a v : ℕ) (s t : Vat Name) (x : Name) (verb : List ℕ) (ys : Passeds Name) (m : Msg) → s.number ≡ v → does (names script v) (Receives a (read_note (names_of s) (Deliver (Sent m) x verb ys))) (readied w s) ≡ Gives tt t → IsAmong (Answer v m) (names_in t.known)
+  unfolding does names readied world.read_note arrive.arrive
+  delivered w a v s t x verb ys m e f = given_is (λ r. IsAmong (Answer v m) (names_in r.known)) t _ (arrived (draw_word script.key) v m a _ _ verb _ (readied w s) e) f
+
   bearer_known : (w : World) (a v : ℕ) (s t : Vat Name) (n : Note Name) (m : Msg) → s.number ≡ v → Does script w v s s t (Receives a (read_note (names_of s) n)) → Bears m (Answer v m) n → IsAmong (Answer v m) (names_in t.known)
-  unfolding readied does names
-  bearer_known w a v s t (Deliver id x verb ys) m e d b = delivered (rw b.0 at d.gives)
-    where
-      delivered : does (names script v) (Receives a (read_note (names_of s) (Deliver (Sent m) x verb ys))) (readied w s) ≡ Gives tt t → IsAmong (Answer v m) (names_in t.known)
-      unfolding does names readied world.read_note arrive.arrive
-      delivered f = given_is (λ r. IsAmong (Answer v m) (names_in r.known)) t _ (arrived (draw_word script.key) v m a _ _ verb _ (readied w s) e) f
+  bearer_known w a v s t (Deliver id x verb ys) m e d b = delivered w a v s t x verb ys m e (rw b.0 at d.gives)
   bearer_known w a v s t (Open i x) m e d b = absurd b
   bearer_known w a v s t (Ask p i x) m e d b = absurd b
   bearer_known w a v s t (SettledTo x y) m e d b = absurd b
@@ -162,10 +161,7 @@ module _ (script : Script) where
       by_known : g ≡ a → IsAmong (Answer g m) (names_in q.known) ⊎ (IsAmong (Answer g m) (names_in q.known) → ⊥) → (IsAmong (Answer g m) (names_in s.known) ⊎ PutsFirst g m t.outbox) ⊎ IsAmong (Answer g m) (names_in q.known)
       by_known i (inl k) = inr k
       by_known i (inr f) = let there : slice_get w.vats a ≡ Some q = sym (ap (λ z. slice_get w.vats z) i) ∙ old (put_cases v t w.vats g q e) in
-          inl (first g m abroad (note_up (KnowsIn q) (NotOf) (knows_not g m q f) n (tail_of (NoteOk (KnowsIn q)) l l n ns (known a v q there l at) refl notes).0) h)
-        where
-          abbrev NotOf : Bit Name → Type 0
-          NotOf = Avoids (Answer g m)
+          inl (first g m abroad (note_up (KnowsIn q) (Avoids (Answer g m)) (knows_not g m q f) n (tail_of (NoteOk (KnowsIn q)) l l n ns (known a v q there l at) refl notes).0) h)
 
       by_host : (g ≡ a) ⊎ (g ≡ a → ⊥) → (IsAmong (Answer g m) (names_in s.known) ⊎ PutsFirst g m t.outbox) ⊎ IsAmong (Answer g m) (names_in q.known)
       by_host (inl i) = by_known i (among_dec (Answer g m) (names_in q.known))
@@ -191,7 +187,7 @@ module _ (script : Script) where
           grown x j (inr i) = inr i
 
           either : ((g ≡ v) × (t ≡ q)) ⊎ ((g ≡ v → ⊥) × (slice_get vs g ≡ Some q)) → AtLink u g (Followed g m q) ls
-          either (inl x) j i = grown x.1 j (h u g m r s e (ap (λ z. slice_get vs z) x.0 ∙ there) k j i)
+          either (inl x) = λ j i. grown x.1 j (h u g m r s e (ap (λ z. slice_get vs z) x.0 ∙ there) k j i)
           either (inr x) = h u g m r q e x.1 k
   holds_on w y p r (Arrives a v s t n ns l at cut notes does e f d first) h = let grows = step_grows w v s s t _ does in let outs = outs_known y v t r.0 (there_next w y v s t does.there e) in
       let stands = p.0.vats v s does.there in let kept = stands.kept in let known = taken_known w.vats w.links a v n ns l at notes h.0 in
@@ -214,9 +210,12 @@ module _ (script : Script) where
   no_answer g m (w ∷ ws) (inr h) = no_answer g m ws h
 
   fresh_none : (g : ℕ) (m : Msg) (v : ℕ) (ps : List Program) (n : ℕ) (s : Vat Name) → slice_get (world.fresh_from script v ps) n ≡ Some s → IsAmong (Answer g m) (names_in s.known) → ⊥
-  unfolding world.fresh_from
-  fresh_none g m v [] n s e = cc
-  fresh_none g m v (p ∷ ps) zero s e = of_one (some_is (world.fresh script v p) s e)
+  unfolding world.fresh_from world.fresh world.known_root begun
+  fresh_none g m v [] n s e a = absurd (nobody e)
+    where
+      nobody : {r : Vat Name} → ◌≡◌ {A = Option (Vat Name)} None (Some r) → ⊥
+      nobody e = cc
+  fresh_none g m v (p ∷ ps) zero s e a = of_one (some_is (world.fresh script v p) s e) a
     where
       some_is : (x y : Vat Name) → ◌≡◌ {A = Option (Vat Name)} (Some x) (Some y) → x ≡ y
       some_is x y e = cc
@@ -225,23 +224,22 @@ module _ (script : Script) where
       own x e = cc
 
       here : IsAmong (Answer g m) (names_in (world.fresh script v p).known) → ⊥
-      unfolding world.fresh world.known_root begun
       here (inl e) = own v e
       here (inr h) = no_answer g m p.knows h
 
       of_one : world.fresh script v p ≡ s → IsAmong (Answer g m) (names_in s.known) → ⊥
       of_one e h = here (rw (sym e) at h)
-  fresh_none g m v (p ∷ ps) (suc n) s e = fresh_none g m (suc v) ps n s e
+  fresh_none g m v (p ∷ ps) (suc n) s e a = fresh_none g m (suc v) ps n s e a
 
   pub begins_holds : Holds (world.begins script)
   unfolding world.begins
   begins_holds = (λ a b s e. no_notes a b s, λ u g m s r e f k. absurd (fresh_none g m zero script.vats u s e k))
 
   module _ (once : KnowsOnce script) where
-    opened_past : (ps rest : List Program) (w : World) → script.vats ≡ ps ++ rest → world.open_from script zero ps (world.begins script) ≡ Going w → Past w
+    pub opened_past : (ps rest : List Program) (w : World) → script.vats ≡ ps ++ rest → world.open_from script zero ps (world.begins script) ≡ Going w → Past w
     opened_past ps rest w i e = let all = opened_all script once ps rest w i e in (all.0, links_of script w all)
 
-    stepped_past : (w x : World) (es : List Entry) (k : ℕ) → world.open_from script zero script.vats (world.begins script) ≡ Going w → world.steps_from script es k w ≡ Going x → Past x
+    pub stepped_past : (w x : World) (es : List Entry) (k : ℕ) → world.open_from script zero script.vats (world.begins script) ≡ Going w → world.steps_from script es k w ≡ Going x → Past x
     stepped_past w x es k e i = let all = stepped_all script once w x es k e i in (all.0, links_of script x all)
 
     pub opened_holds : (ps rest : List Program) (w : World) → script.vats ≡ ps ++ rest → world.open_from script zero ps (world.begins script) ≡ Going w → Holds w
@@ -254,4 +252,10 @@ pub answers_follow_messages : AnswersFollowMessages
 answers_follow_messages script once = (
   λ ps rest w i e u g m s t l a b c k. (opened_holds script once ps rest w i e).1 u g m s t a b k l c,
   λ w x es k o e u g m s t l a b c h. (stepped_holds script once w x es k o e).1 u g m s t a b h l c,
+)
+
+pub notes_name_what_is_known : NotesNameWhatIsKnown
+notes_name_what_is_known script once = (
+  λ ps rest w i e u g s l a c. (opened_holds script once ps rest w i e).0 u g s a l c,
+  λ w x es k o e u g s l a c. (stepped_holds script once w x es k o e).0 u g s a l c,
 )

@@ -8,4 +8,8 @@ pub mod Moves
 pub mod Arrived
 pub mod Follow
 pub mod FollowRuns
-pub mod Reads
+pub mod Telling
+pub mod Neither
+pub mod Places
+pub mod Onward
+pub mod Legs

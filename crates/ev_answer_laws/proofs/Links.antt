@@ -27,18 +27,22 @@ pub link_ends : (a b : ℕ) (l : Link) → is_link a b l ≡ true → (l.from �
 unfolding is_link
 link_ends a b l e = same_ends a b l (l.from == a) (l.to == b) refl refl e
 
+both_true : (p q : Bool) → p ≡ true → q ≡ true → elim p [ true ↦ q | false ↦ false ] ≡ true
+both_true true q e f = f
+both_true false q e f = cc
+
 pub is_between : (a b : ℕ) (l : Link) → l.from ≡ a → l.to ≡ b → is_link a b l ≡ true
 unfolding is_link
-is_between a b l e f = rw (eq-eqb l.from a e, eq-eqb l.to b f) refl
+is_between a b l e f = both_true (l.from == a) (l.to == b) (eq-eqb l.from a e) (eq-eqb l.to b f)
 
 pub found_ends : (a b : ℕ) (ls : List Link) (l : Link) → link_at a b ls ≡ Some l → (l.from ≡ a) × (l.to ≡ b)
 unfolding link_at
 found_ends a b [] l e = cc
-found_ends a b (j ∷ ls) l e = at (is_link a b j) refl e
+found_ends a b (j ∷ ls) l e = at (is_link a b j) refl e (λ i. found_ends a b ls l i)
   where
-    at : (p : Bool) → is_link a b j ≡ p → ◌≡◌ {A = Option Link} (elim p [ true ↦ Some j | false ↦ link_at a b ls ]) (Some l) → (l.from ≡ a) × (l.to ≡ b)
-    at true f i = let one : j ≡ l = cc in rw one at (link_ends a b j f)
-    at false f i = found_ends a b ls l i
+    at : (p : Bool) → is_link a b j ≡ p → ◌≡◌ {A = Option Link} (elim p [ true ↦ Some j | false ↦ link_at a b ls ]) (Some l) → (link_at a b ls ≡ Some l → (l.from ≡ a) × (l.to ≡ b)) → (l.from ≡ a) × (l.to ≡ b)
+    at true f i rest = let one : j ≡ l = cc in rw one at (link_ends a b j f)
+    at false f i rest = rest i
 
 head_is : (l j : Link) → ◌≡◌ {A = Option Link} (Some l) (Some j) → l ≡ j
 head_is l j e = cc
@@ -65,15 +69,15 @@ module _ (a b c d : ℕ) (Q : Link → Type 0) (f : Link → Link) (fits : Fits 
       → ((j : Link) → ◌≡◌ {A = Option Link} (elim r [ true ↦ Some l | false ↦ link_at a b ls ]) (Some j) → ((a ≡ c) × (b ≡ d) → ⊥) → Q j)
       → (Changes ls → Others ls → AtLink a b Q rest) → AtLink a b Q (elim p [ true ↦ f l ∷ ls | false ↦ l ∷ rest ])
   unfolding link_at
-  with_head true true l ls rest i e h k g j x = let one : ◌≡◌ {A = Option Link} (Some (f l)) (Some j) = rw (fits.place a b l ∙ e) at x in let pair = same_pair l e i in rw (head_is (f l) j one) at (h l refl pair.0 pair.1)
-  with_head true false l ls rest i e h k g j x = let one : link_at a b ls ≡ Some j = rw (fits.place a b l ∙ e) at x in k j one (mixed_pair l e i)
-  with_head false true l ls rest i e h k g j x = let one : ◌≡◌ {A = Option Link} (Some l) (Some j) = rw e at x in rw (head_is l j one) at (k l refl (other_pair l e i))
-  with_head false false l ls rest i e h k g j x = let one : link_at a b rest ≡ Some j = rw e at x in g h k j one
+  with_head true true l ls rest i e h k g j x = let one : ◌≡◌ {A = Option Link} (Some (f l)) (Some j) = rw (fits.place a b l ∙ e, link_at) at x in let pair = same_pair l e i in rw (head_is (f l) j one) at (h l refl pair.0 pair.1)
+  with_head true false l ls rest i e h k g j x = let one : link_at a b ls ≡ Some j = rw (fits.place a b l ∙ e, link_at) at x in k j one (mixed_pair l e i)
+  with_head false true l ls rest i e h k g j x = let one : ◌≡◌ {A = Option Link} (Some l) (Some j) = rw (e, link_at) at x in rw (head_is l j one) at (k l refl (other_pair l e i))
+  with_head false false l ls rest i e h k g j x = let one : link_at a b rest ≡ Some j = rw (e, link_at) at x in g h k j one
 
   pub with_any : (ls : List Link) → Changes ls → Others ls → AtLink a b Q (with_link f c d ls)
   unfolding with_link link_at
   with_any [] h k l e = cc
-  with_any (l ∷ ls) h k = with_head (is_link c d l) (is_link a b l) l ls (with_link f c d ls) refl refl h k (with_any ls)
+  with_any (l ∷ ls) h k j e = with_head (is_link c d l) (is_link a b l) l ls (with_link f c d ls) refl refl h k (with_any ls) j e
 
 -- ---- notes that are put
 
@@ -96,6 +100,13 @@ module _ (a b v : ℕ) (Q : Link → Type 0) where
   unfolding push_all
   push_of R put [] ls r h = h
   push_of R put (p ∷ ps) ls r h = push_of R put ps (with_link (pushed p.note) v p.to ls) r.1 (with_any a b v p.to Q (pushed p.note) (fits_pushed a b p.note) ls (λ l e i j. put l p.note r.0 (h l e)) (λ l e k. h l e))
+
+module _ (b v : ℕ) (Q : Link → Type 0) where
+  -- the notes put to its end are such that it holds
+  pub push_where : (R : Note Name → Type 0) → ((l : Link) (n : Note Name) → R n → Q l → Q (pushed n l)) → (ps : List (Put Name)) (ls : List Link) → AllOf (λ (p : Put Name). p.to ≡ b → R p.note) ps → AtLink v b Q ls → AtLink v b Q (push_all v ps ls)
+  unfolding push_all
+  push_where R put [] ls r h = h
+  push_where R put (p ∷ ps) ls r h = push_where R put ps (with_link (pushed p.note) v p.to ls) r.1 (with_any v b v p.to Q (pushed p.note) (fits_pushed v b p.note) ls (λ l e i j. put l p.note (r.0 (sym j)) (h l e)) (λ l e k. h l e))
 
 -- ---- a note that is put
 

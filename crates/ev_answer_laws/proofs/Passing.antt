@@ -167,7 +167,7 @@ module _ (word : ℕ → ℕ) (v : ℕ) (x : Name) where
     pub after : (s : Vat Name) → Clean s → PassesAt Q s (m s)
 
   passing_on : (s t u : Vat Name) → Passing s t → Passing t u → Passing s u
-  passing_on s t u h k = (k.0 ∙ h.0, (h.1 ++ k.1, k.2 ∙ ap (λ ps. ps ++ k.1) h.2 ∙ append_assoc s.outbox h.1 k.1, all_append (λ (p : Put Name). NoteOk P p.note) h.1 k.1 h.3 k.3))
+  passing_on s t u h k = (k.0 ∙ h.0, (h.1.0 ++ k.1.0, k.1.1 ∙ ap (λ ps. ps ++ k.1.0) h.1.1 ∙ append_assoc s.outbox h.1.0 k.1.0, all_append (λ (p : Put Name). NoteOk P p.note) h.1.0 k.1.0 h.1.2 k.1.2))
 
   same : (s : Vat Name) → Passing s s
   same s = (refl, ([], sym (append-nil s.outbox), tt))

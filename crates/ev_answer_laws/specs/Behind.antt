@@ -3,7 +3,7 @@ use Rattle.std.specs.Prelude.{◌≡◌, ℕ, zero, true, List, [], ◌∷◌, �
 use Rattle.ev_machine.specs.Values.{Name, Answer, Sent, Msg}
 use Rattle.ev_machine.specs.State.{Note, Deliver, Open, Ask, SettledTo, Elsewhere, Shorten, Put, Vat}
 use Rattle.ev_run.specs.World.{Script, Program, Entry, Link, World, Goes, begins, open_from, steps_from, link_at}
-use Rattle.ev_name_laws.specs.Names.{Bit, Named, Mail, Drew, At, Off, AllOf, IsAmong, NoteOk, names_in}
+use Rattle.ev_name_laws.specs.Names.{Bit, Named, Mail, Drew, At, Off, AllOf, IsAmong, IsKnownIn, NoteOk, names_in}
 use Rattle.ev_name_laws.specs.Runs.{InRuns}
 
 -- it is another name
@@ -35,6 +35,16 @@ ComesFirst m x (n ∷ ns) = Bears m x n ⊎ (NamesNot x n × ComesFirst m x ns)
 -- What vat u knows as the answer of a message at another vat, that vat knows; or the link to it is cut; or the message is under way there, in front of all that names the answer.
 abbrev pub AnswersFollowMessages : Type 0
 AnswersFollowMessages = InRuns (λ w. (u g : ℕ) (m : Msg) (s t : Vat Name) (l : Link) → slice_get w.vats u ≡ Some s → slice_get w.vats g ≡ Some t → link_at u g w.links ≡ Some l
-    → IsAmong (Answer g m) (names_in s.known) → IsAmong (Answer g m) (names_in t.known) ⊎ (l.cut ≡ true) ⊎ ComesFirst m (Answer g m) l.notes)
+    → IsAmong (Answer g m) (names_in s.known) → IsAmong (Answer g m) (names_in t.known) ⊎ ((l.cut ≡ true) ⊎ ComesFirst m (Answer g m) l.notes))
 
--- And each name in a note under way is known to the vat that put it, or is an object.
+-- a name is known to that vat, or is an object
+abbrev pub IsKnownTo : Vat Name → Bit Name → Type 0
+IsKnownTo s (Named n) = IsKnownIn (names_in s.known) n
+IsKnownTo s (Mail n) = Unit {0}
+IsKnownTo s (Drew i) = Unit {0}
+IsKnownTo s (At h) = Unit {0}
+IsKnownTo s (Off h) = Unit {0}
+
+-- Each name in a note under way is known to the vat that put it, or is an object.
+abbrev pub NotesNameWhatIsKnown : Type 0
+NotesNameWhatIsKnown = InRuns (λ w. (u g : ℕ) (s : Vat Name) (l : Link) → slice_get w.vats u ≡ Some s → link_at u g w.links ≡ Some l → AllOf (NoteOk (IsKnownTo s)) l.notes)

@@ -1,11 +1,11 @@
 -- A note tells a name as new where it is not known, and once: how often a note brings a name that is no gift.
-use Rattle.std.proofs.Common.{◌≡◌, ℕ, zero, suc, ◌+◌, ◌≤◌, Bool, true, false, List, [], ◌∷◌, ◌++◌, Option, Some, None, refl, sym, ap, ◌∙◌, ◌⊎◌, inl, inr, arith, ◌==◌, ◌&&◌}
+use Rattle.std.proofs.Common.{◌≡◌, ℕ, zero, suc, ◌+◌, ◌≤◌, Bool, true, false, List, [], ◌∷◌, ◌++◌, Option, Some, None, refl, sym, ap, ◌∙◌, ◌⊎◌, inl, inr, arith, subst, ◌==◌, ◌&&◌}
 use Rattle.ev_machine.specs.Values.{Value, Null, Flag, Number, Letter, Text, Prim, Broken, Items, Ref, Name, Root, Object, Promise, Answer, Gift, Sent, Msg, same_name, answer_of, host_of}
 use Rattle.ev_machine.specs.State.{Passed, Passeds, Plain, AGift, Many, NoMore, More, Note, Deliver, Open, Ask, SettledTo, Elsewhere, Shorten, GiftEntry}
 use Rattle.ev_machine.specs.Arrive.{Incoming, Old, New, gift_at}
 use Rattle.ev_run.specs.World as world
 use Rattle.ev_run.specs.World.{has_name, is_old, read_name, known_after, read_value, read_passed, read_all, read_note}
-use Rattle.ev_name_laws.specs.Names.{Bit, Named, IsAmong, IsMessageName, ValueOk, PassedOk, PassedsOk, NoteOk}
+use Rattle.ev_name_laws.specs.Names.{Bit, Named, Mail, Drew, At, Off, IsAmong, IsMessageName, ValueOk, PassedOk, PassedsOk, NoteOk}
 use Rattle.ev_name_laws.proofs.SameNames.{same_is, same_self, has_among, among_has, new_unknown}
 use Rattle.ev_name_laws.proofs.Among.{among_more, among_last, among_or}
 use Rattle.ev_table_laws.specs.Knowing.{once, one, onward, new_name, new_in_value, new_in, new_in_all, new_answer, new_gift_here, brings}
@@ -33,48 +33,45 @@ unfolding once
 has_most x ks = either (has_name ks x)
   where
     either : (b : Bool) → once b ≤ 1
-    unfolding once
     either true = omega arith
     either false = omega arith
 
-has_true : (x : Name) (ks : List Name) → IsAmong x ks → has x ks ≡ 1
+pub has_true : (x : Name) (ks : List Name) → IsAmong x ks → has x ks ≡ 1
 unfolding once
 has_true x ks h = rw (among_has ks x h) refl
 
 -- what is among these is among more
-has_grows : (x : Name) (ks js : List Name) → (IsAmong x ks → IsAmong x js) → has x ks ≤ has x js
+pub has_grows : (x : Name) (ks js : List Name) → (IsAmong x ks → IsAmong x js) → has x ks ≤ has x js
 unfolding once
 has_grows x ks js f = either (has_name ks x) refl
   where
     either : (b : Bool) → has_name ks x ≡ b → once b ≤ has x js
-    unfolding once
     either true e = let h = has_true x js (f (has_among ks x e)) in omega arith
     either false e = omega arith
 
 -- ---- names
 
-one_or : (n x : Name) → ((n ≡ x) × (one n x ≡ 1)) ⊎ (one n x ≡ 0)
+pub one_or : (n x : Name) → ((n ≡ x) × (one n x ≡ 1)) ⊎ (one n x ≡ 0)
 unfolding one once
 one_or n x = either (same_name n x) refl
   where
     either : (b : Bool) → same_name n x ≡ b → ((n ≡ x) × (once b ≡ 1)) ⊎ (once b ≡ 0)
-    unfolding once
     either true e = inl (same_is n x e, refl)
     either false e = inr refl
 
 new_one : (x n : Name) (ks : List Name) → is_old ks n ≡ false → one n x + has x ks ≤ has x (ks ++ n ∷ [])
+unfolding once
 new_one x n ks e = either (one_or n x)
   where
     none : IsAmong x ks → (n ≡ x) → ⊥
     none a i = new_unknown ks n e (rw i a)
 
     zero_or : (b : Bool) → has_name ks x ≡ b → n ≡ x → once b ≡ 0
-    unfolding once
     zero_or true f i = absurd (none (has_among ks x f) i)
     zero_or false f i = refl
 
     either : ((n ≡ x) × (one n x ≡ 1)) ⊎ (one n x ≡ 0) → one n x + has x ks ≤ has x (ks ++ n ∷ [])
-    either (inl h) = let f : has x ks ≡ 0 = zero_or (has_name ks x) refl h.0 in let last : has x (ks ++ n ∷ []) ≡ 1 = has_true x (ks ++ n ∷ []) (rw h.0 (among_last ks n)) in let g = h.1 in omega arith
+    either (inl h) = let f : has x ks ≡ 0 = zero_or (has_name ks x) refl h.0 in let last : has x (ks ++ n ∷ []) ≡ 1 = has_true x (ks ++ n ∷ []) (subst (λ z. IsAmong z (ks ++ n ∷ [])) h.0 (among_last ks n)) in let g = h.1 in omega arith
     either (inr h) = let grows = has_grows x ks (ks ++ n ∷ []) (λ a. among_more x ks n a) in omega arith
 
 name_either : (x n : Name) (ks : List Name) (b : Bool) → is_old ks n ≡ b → new_name x (elim b [ true ↦ Old n | false ↦ New n (host_of n) ]) + has x ks ≤ has x (elim b [ true ↦ ks | false ↦ ks ++ n ∷ [] ])
@@ -158,9 +155,24 @@ name_not : (x n : Name) (ks : List Name) → (n ≡ x → ⊥) → new_name x (r
 unfolding read_name
 name_not x n ks f = name_not_either x n (is_old ks n) f
 
-value_not : (x : Name) (y : Value Name) (ks : List Name) → ValueOk (Avoids x) y → new_in_value x (read_value ks y).read ≡ 0
+-- it is never new as x
+abbrev pub NeverNew : Name → Bit Name → Type 0
+NeverNew x (Named n) = (ks : List Name) → new_name x (read_name ks n) ≡ 0
+NeverNew x (Mail n) = Unit {0}
+NeverNew x (Drew i) = Unit {0}
+NeverNew x (At h) = Unit {0}
+NeverNew x (Off h) = Unit {0}
+
+pub avoids_never : (x : Name) (b : Bit Name) → Avoids x b → NeverNew x b
+avoids_never x (Named n) f = λ ks. name_not x n ks f
+avoids_never x (Mail n) f = tt
+avoids_never x (Drew i) f = tt
+avoids_never x (At h) f = tt
+avoids_never x (Off h) f = tt
+
+value_not : (x : Name) (y : Value Name) (ks : List Name) → ValueOk (NeverNew x) y → new_in_value x (read_value ks y).read ≡ 0
 unfolding new_in_value read_value
-value_not x (Ref n) ks f = name_not x n ks f
+value_not x (Ref n) ks f = f ks
 value_not x Null ks f = refl
 value_not x (Flag b) ks f = refl
 value_not x (Number z) ks f = refl
@@ -173,23 +185,23 @@ value_not x (Items k) ks f = refl
 mutual
   unfolding new_in new_in_all read_passed read_all world.plain_read world.many_read world.more_read
 
-  passed_not : (x : Name) (y : Passed Name) (ks : List Name) → IsNoGift x → PassedOk (Avoids x) y → new_in x (read_passed y ks).read ≡ 0
+  passed_not : (x : Name) (y : Passed Name) (ks : List Name) → IsNoGift x → PassedOk (NeverNew x) y → new_in x (read_passed y ks).read ≡ 0
   passed_not x (Plain y) ks g f = value_not x y ks f
   passed_not x (AGift h i) ks g f = no_gift_one x h i g
   passed_not x (Many ys) ks g f = passeds_not x ys ks g f
 
-  passeds_not : (x : Name) (ys : Passeds Name) (ks : List Name) → IsNoGift x → PassedsOk (Avoids x) ys → new_in_all x (read_all ys ks).read ≡ 0
+  passeds_not : (x : Name) (ys : Passeds Name) (ks : List Name) → IsNoGift x → PassedsOk (NeverNew x) ys → new_in_all x (read_all ys ks).read ≡ 0
   passeds_not x NoMore ks g f = refl
   passeds_not x (More y ys) ks g f = let a = passed_not x y ks g f.0 in let b = passeds_not x ys (read_passed y ks).known g f.1 in omega arith
 
-pub note_not : (x : Name) (ks : List Name) (n : Note Name) → IsNoGift x → NoteOk (Avoids x) n → tells x (read_note ks n) ≡ 0
+pub note_not : (x : Name) (ks : List Name) (n : Note Name) → IsNoGift x → NoteOk (NeverNew x) n → tells x (read_note ks n) ≡ 0
 unfolding tells read_note
-note_not x ks (Deliver m n verb ys) g f = let a = passeds_not x ys ks g f.2 in let b = name_not x n (read_all ys ks).known f.1 in omega arith
-note_not x ks (Open i n) g f = name_not x n ks f.1
+note_not x ks (Deliver m n verb ys) g f = let a = passeds_not x ys ks g f.2 in let b = f.1 (read_all ys ks).known in omega arith
+note_not x ks (Open i n) g f = f.1 ks
 note_not x ks (Ask p i n) g f = refl
-note_not x ks (SettledTo n y) g f = let a = name_not x n ks f.0 in let b = passed_not x y (known_after ks n) g f.1 in omega arith
-note_not x ks (Elsewhere n c) g f = name_not x n ks f.0
-note_not x ks (Shorten n c i) g f = name_not x n ks f.0
+note_not x ks (SettledTo n y) g f = let a = f.0 ks in let b = passed_not x y (known_after ks n) g f.1 in omega arith
+note_not x ks (Elsewhere n c) g f = f.0 ks
+note_not x ks (Shorten n c i) g f = f.0 ks
 
 -- ---- what it brings
 
