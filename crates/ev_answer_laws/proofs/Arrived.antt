@@ -1,12 +1,12 @@
 -- What a vat knows it goes on knowing; and where a message arrives, the vat knows its answer there.
-use Rattle.std.proofs.Common.{◌≡◌, ℕ, List, [], ◌∷◌, ◌++◌, refl, sym, ap, ◌∙◌, inl, inr}
-use Rattle.ev_machine.specs.Values.{Words, Value, Ref, Name, Answer, Sent, Msg, Naming, naming, name_of, mail_of, answer_of, IsAnswer, IsCarried}
-use Rattle.ev_machine.specs.State.{Known, ToTell, Passeds, Note, Deliver, Vat, Done, Gives, Throws, Ejects, Stops, Act, ◌>>=◌, ◌>>◌, and_then, look, come, mail, alter, with_change, begun}
+use Rattle.std.proofs.Common.{◌≡◌, ℕ, List, [], ◌∷◌, ◌++◌, refl, sym, ◌∙◌}
+use Rattle.ev_machine.specs.Values.{Words, Value, Ref, Name, Answer, Sent, Msg, Naming, naming, name_of, mail_of, answer_of, IsAnswer}
+use Rattle.ev_machine.specs.State.{Known, ToTell, Passeds, Vat, Done, Gives, Throws, Ejects, Stops, Act, ◌>>=◌, ◌>>◌, and_then, look, come, mail, alter, begun}
 use Rattle.ev_machine.specs.Refs as refs
 use Rattle.ev_machine.specs.Arrive as arrive
 use Rattle.ev_machine.specs.Arrive.{Incoming, Old, New}
 use Rattle.ev_machine_laws.specs.Steps.{Step, does, After}
-use Rattle.ev_machine_laws.proofs.Keeps.{Keeps, IsKept, IsKeptUnder, keeps}
+use Rattle.ev_machine_laws.proofs.Keeps.{Keeps, IsKept, IsKeptUnder}
 use Rattle.ev_machine_laws.proofs.RefsKeeps.{keeps_refs}
 use Rattle.ev_machine_laws.proofs.ArriveKeeps.{keeps_learn_name, keeps_learn_all}
 use Rattle.ev_machine_laws.proofs.StepLaws.{kept_by_steps}

@@ -1,16 +1,16 @@
 -- An answer that comes to be known in a step as that of a message at another vat stands behind the note of that message: a care for names, and for the notes put.
-use Rattle.std.proofs.Common.{◌≡◌, ℕ, suc, Bool, true, false, List, [], ◌∷◌, ◌++◌, Option, Some, None, refl, sym, ap, ◌∙◌, ◌⊎◌, inl, inr, length, if◌then◌else◌}
+use Rattle.std.proofs.Common.{◌≡◌, ℕ, suc, Bool, true, false, List, [], ◌∷◌, ◌++◌, Option, Some, None, refl, sym, ap, ◌∙◌, ◌⊎◌, inl, inr}
 use Rattle.std.specs.Prelude.{slice_get}
-use Rattle.ev_machine.specs.Values.{Words, Value, Ref, Name, Root, Object, Promise, Answer, Gift, Sent, Msg, Naming, naming, name_of, mail_of, answer_of, host_of, IsAnswer}
-use Rattle.ev_machine.specs.State.{Message, Known, Change, Hold, Wait, WaitOn, React, ToTell, Settle, Passed, Passeds, Note, Deliver, Open, Ask, SettledTo, Elsewhere, Put, Happened, Sends, Posted, Vat, Done, Gives, Throws, Ejects, Stops, Act, ◌>>=◌, ◌>>◌, and_then, give, look, tell, enqueue, send_out, new_gift, open_gift, mark, draws, draw, alter, with_change, come, new_message, new_promise, begun}
+use Rattle.ev_machine.specs.Values.{Words, Value, Ref, Name, Root, Object, Promise, Answer, Gift, Sent, Msg, Naming, naming, name_of, mail_of, answer_of, IsAnswer}
+use Rattle.ev_machine.specs.State.{Message, Known, Change, Hold, Wait, WaitOn, React, ToTell, Settle, Passeds, Deliver, Open, Ask, Put, Happened, Sends, Posted, Vat, Done, Gives, Throws, Ejects, Stops, Act, ◌>>=◌, ◌>>◌, and_then, give, look, tell, enqueue, send_out, new_gift, open_gift, mark, draws, draw, alter, with_change, come, new_message, new_promise, begun}
 use Rattle.ev_machine.specs.Refs as refs
 use Rattle.ev_machine.specs.Refs.{Place, Near, Mine, Away, Gone}
 use Rattle.ev_run.specs.World.{has_name}
 use Rattle.ev_machine_laws.specs.Steps.{After}
 use Rattle.ev_machine_laws.proofs.Keeps.{Keeps, IsKept, IsKeptUnder}
-use Rattle.ev_machine_laws.proofs.RefsKeeps.{keeps_refs, keeps_pass_on, keeps_inform_of, keeps_deliver}
-use Rattle.ev_name_laws.specs.Names.{Bit, Named, Mail, Drew, At, Off, AllOf, IsAmong, IsMessageMade, IsMessageName, ValueOk, ValuesOk, MessageOk, StandingOk, NoteOk, PutOk, PassedsOk, names_in}
-use Rattle.ev_name_laws.proofs.Facts.{all_map, all_end, all_append, value_up, values_up, standing_up, note_up, Fact, Also, IsName, IsMail, IsDraw, IsVat, IsOff, IsValue, AreValues, IsMessage, IsPlace, NoteDoes, NoteGoes, nothing, Holds}
+use Rattle.ev_machine_laws.proofs.RefsKeeps.{keeps_refs, keeps_pass_on, keeps_inform_of}
+use Rattle.ev_name_laws.specs.Names.{Bit, Named, Mail, Drew, At, Off, AllOf, IsAmong, IsMessageMade, IsMessageName, ValueOk, ValuesOk, MessageOk, StandingOk, NoteOk, PassedsOk, names_in}
+use Rattle.ev_name_laws.proofs.Facts.{all_map, all_end, all_append, value_up, values_up, standing_up, note_up, Fact, Also, IsName, IsMail, IsDraw, IsVat, IsOff, IsValue, AreValues, Holds}
 use Rattle.ev_name_laws.proofs.Care.{Care, Under, Makes, Sound, Ends, Gets, Fine, bind_names, then_unit, fine_give, fine_tell, fine_enqueue, fine_out, fine_gift, fine_open, fine_mark, fine_draw, fine_hold, fine_wait, fine_waits_on, fine_reacts, fine_to_tell, fine_settles, come_answer, come_gift, fine_new_message, fine_promise}
 use Rattle.ev_name_laws.proofs.CareRefs.{fine_pass_on, fine_inform_of, fine_deliver}
 use Rattle.ev_name_laws.proofs.Looks.{note_open, note_ask, goes_open, goes_ask}

@@ -8,14 +8,14 @@ use Rattle.ev_machine.specs.Arrive as arrive
 use Rattle.ev_machine.specs.Arrive.{Incoming, Old, New}
 use Rattle.ev_run.specs.World as world
 use Rattle.ev_name_laws.specs.Names.{Bit, Named, Drew, At, IsMade, ValueOk, PassedOk, PassedsOk, NoteOk}
-use Rattle.ev_name_laws.proofs.Facts.{all_end, Fact, Nothing, Also, IsName, IsMail, IsDraw, IsVat, IsValue, AreValues, nothing, Holds}
+use Rattle.ev_name_laws.proofs.Facts.{Fact, Nothing, Also, IsName, IsMail, IsDraw, IsVat, IsValue, AreValues, nothing, Holds}
 use Rattle.ev_name_laws.proofs.Care.{Care, Sound, Ends, Gets, Fine}
 use Rattle.ev_name_laws.proofs.Learn.{Knows, Learned, Learns, rise, learn, learn_all, learn_name, message_learned}
 use Rattle.ev_name_laws.proofs.TrackedViews.{tracked_views}
 use Rattle.ev_name_laws.proofs.Tracked.{Marked}
 use Rattle.ev_answer_laws.specs.Behind.{Avoids}
 use Rattle.ev_answer_laws.proofs.CareBlocks.{put_learn_gift, put_arrive_ask, put_delivered, put_opened, put_went, put_shortened, put_settle}
-use Rattle.ev_answer_laws.proofs.First.{X as TheAnswer, T as Tracked, W as Carry, Held as Out, Leaves as Leaving, IsHere as Here, held_sound, lift, blocks, altered, known_held, put_held, no_gift}
+use Rattle.ev_answer_laws.proofs.First.{T as Tracked, W as Carry, Held as Out, Leaves as Leaving, IsHere as Here, held_sound, lift, blocks, altered, known_held, put_held, no_gift}
 
 module _ (far : ℕ) (msg : Msg) (M : Marked) (vats : List (Vat Name)) (v : ℕ) (q : Vat Name) (there : slice_get vats v ≡ Some q) (here : M.mark (At v)) (word : ℕ → ℕ) (E : Type 0) (abroad : far ≡ v → ⊥) where
   abbrev X : Name

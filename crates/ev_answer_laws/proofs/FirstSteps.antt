@@ -1,14 +1,14 @@
 -- In each step of a vat of a run, an answer at another vat that comes to be known stands behind the note of its message.
-use Rattle.std.proofs.Common.{◌≡◌, ℕ, List, [], ◌∷◌, ◌++◌, Some, refl, sym, ap, ◌⊎◌, inl, inr, length}
+use Rattle.std.proofs.Common.{◌≡◌, ℕ, List, ◌∷◌, Some, refl, ap, ◌⊎◌, inl, length}
 use Rattle.std.specs.Prelude.{slice_get}
 use Rattle.ev_machine.specs.Values.{Name, Root, Answer, Msg, naming}
-use Rattle.ev_machine.specs.State.{Message, Note, Put, Vat, Done, Gives, Throws, Ejects, Stops, Act}
+use Rattle.ev_machine.specs.State.{Message, Note, Vat, Done, Gives, Throws, Ejects, Stops, Act}
 use Rattle.ev_machine.specs.Eval.{opening, taking}
 use Rattle.ev_machine.specs.Arrive.{arrive, notice}
 use Rattle.ev_run.specs.Draws.{draw_word}
 use Rattle.ev_run.specs.World as world
 use Rattle.ev_run.specs.World.{Script, Program, World, names, names_of, read_note, readied}
-use Rattle.ev_name_laws.specs.Names.{Named, At, AllOf, IsAmong, IsMade, NounOk, MessageOk, NoteOk, Parts, names_in, IsHad}
+use Rattle.ev_name_laws.specs.Names.{Named, AllOf, IsAmong, IsMade, NounOk, MessageOk, NoteOk, Parts, names_in, IsHad}
 use Rattle.ev_name_laws.proofs.Facts.{message_up, nouns_up, Fact, Nothing, Also, IsName, AreNouns, IsMessage, Holds, nothing}
 use Rattle.ev_name_laws.proofs.Care.{Fine, Sound}
 use Rattle.ev_name_laws.proofs.CareEval.{fine_opening}
@@ -17,7 +17,7 @@ use Rattle.ev_name_laws.proofs.Tracked.{Kept, IsFar}
 use Rattle.ev_rest_laws.proofs.Gentle.{AfterGives}
 use Rattle.ev_answer_laws.specs.Behind.{NamesNot}
 use Rattle.ev_answer_laws.proofs.CareBlocks.{serves_by, put_taking, put_notice}
-use Rattle.ev_answer_laws.proofs.First.{PutsFirst, W, Held, Leaves, IsHere, held_sound, blocks}
+use Rattle.ev_answer_laws.proofs.First.{PutsFirst, W, Leaves, IsHere, held_sound, blocks}
 use Rattle.ev_answer_laws.proofs.FirstArrive.{note_fits, ends_leave}
 
 -- where the answer is known it was known before, or its message was put in front of all that names it

@@ -1,30 +1,17 @@
 -- What each move of a world keeps of notes and answers: a note names what its sender knows, and an answer follows its message.
-use Rattle.std.proofs.Common.{◌≡◌, ℕ, zero, suc, Bool, true, false, List, [], ◌∷◌, ◌++◌, Option, Some, None, refl, sym, ap, ◌∙◌, ◌⊎◌, inl, inr, length, ◌==◌, arith, subst}
+use Rattle.std.proofs.Common.{◌≡◌, ℕ, zero, suc, Bool, true, false, List, [], ◌∷◌, Option, Some, refl, sym, ap, ◌∙◌, ◌⊎◌, inl, inr, ◌==◌, arith, subst}
 use Rattle.std.specs.Prelude.{slice_get}
 use Rattle.std.proofs.lemmas.Bool.{eqb-true, eq-eqb}
-use Rattle.ev_machine.specs.Values.{Value, Null, Flag, Number, Letter, Text, Prim, Broken, Items, Ref, Name, Root, Object, Promise, Answer, Gift, Sent, Msg, host_of, naming}
-use Rattle.ev_machine.specs.State.{Passed, Passeds, Plain, AGift, Many, NoMore, More, Note, Deliver, Open, Ask, SettledTo, Elsewhere, Shorten, Put, Vat, Done, Gives, Throws, Ejects, Stops}
-use Rattle.ev_machine.specs.Arrive as arrive
-use Rattle.ev_machine_laws.specs.Steps.{Step, Receives, does, After}
-use Rattle.ev_run.specs.Draws.{draw_word}
-use Rattle.ev_run.specs.World as world
-use Rattle.ev_run.specs.World.{Script, Program, Link, World, Goes as Going, names, names_of, read_note, readied, put_at, push_all, pushed, with_link, with_notes, severed_link, link_at}
-use Rattle.ev_name_laws.specs.Names.{Bit, Named, Mail, Drew, At, Off, AllOf, IsAmong, IsKnownIn, IsHad, IsEventual, Once, ValueOk, PassedOk, PassedsOk, NoteOk, PutOk, names_in}
+use Rattle.ev_machine.specs.Values.{Value, Null, Flag, Number, Letter, Text, Prim, Broken, Items, Ref, Name, Root, Object, Promise, Answer, Gift, Sent, Msg, host_of}
+use Rattle.ev_machine.specs.State.{Passed, Passeds, Plain, AGift, Many, NoMore, More, Note, Deliver, Open, Ask, SettledTo, Elsewhere, Shorten, Put, Vat}
+use Rattle.ev_run.specs.World.{Link, put_at, push_all, pushed}
+use Rattle.ev_name_laws.specs.Names.{Bit, Named, Mail, Drew, At, Off, AllOf, IsAmong, IsKnownIn, IsEventual, ValueOk, PassedOk, PassedsOk, NoteOk, names_in}
 use Rattle.ev_name_laws.proofs.Facts.{all_map, note_up}
-use Rattle.ev_name_laws.proofs.Run.{Had, Stands}
 use Rattle.ev_name_laws.proofs.Among.{get_put}
-use Rattle.ev_name_laws.proofs.Tracked.{known_among}
 use Rattle.ev_rest_laws.specs.Notes.{IsBetween, IsOfEither, PassesBetween, AllPassBetween, Carries}
-use Rattle.ev_rest_laws.proofs.Gentle.{AfterGives}
-use Rattle.ev_rest_laws.proofs.LinksCut.{fits_notes, fits_severed}
-use Rattle.ev_rest_laws.proofs.NotesRuns.{OfNotes}
-use Rattle.ev_rest_laws.proofs.NotesLift as lift
-use Rattle.ev_answer_laws.specs.Behind.{Avoids, NamesNot, Bears, ComesFirst, IsKnownTo as KnowsIn}
+use Rattle.ev_answer_laws.specs.Behind.{Avoids, NamesNot, IsKnownTo as KnowsIn}
 use Rattle.ev_answer_laws.proofs.First.{PutsFirst, among_dec}
-use Rattle.ev_answer_laws.proofs.FirstSteps.{FirstOut}
-use Rattle.ev_answer_laws.proofs.Links.{AtLink, found_ends, with_any, push_keeps, push_others, push_of, pushed_all, CutOrFirst, pushed_more, push_first}
-use Rattle.ev_answer_laws.proofs.Moves.{Moved, Still, Severs, Drops, Steps, Arrives, Does}
-use Rattle.ev_answer_laws.proofs.Arrived.{Stays, steps_stay, arrived}
+use Rattle.ev_answer_laws.proofs.Links.{AtLink, push_keeps, push_others, push_of, pushed_all, CutOrFirst, pushed_more, push_first}
 
 true_false : true ≡ false → ⊥
 true_false e = cc
@@ -143,7 +130,6 @@ some_same s t e = cc
 module _ (vs : List (Vat Name)) (v : ℕ) (s t : Vat Name) (there : slice_get vs v ≡ Some s) (grows : (n : Name) → IsAmong n (names_in s.known) → IsAmong n (names_in t.known)) (outs : AllOf (λ (p : Put Name). NoteOk (KnowsIn t) p.note) t.outbox) (ls : List Link)
     (known : NotesKnown vs ls) (follow : (u g : ℕ) (m : Msg) (r q : Vat Name) → slice_get vs u ≡ Some r → slice_get (put_at v t vs) g ≡ Some q → IsAmong (Answer g m) (names_in r.known) → AtLink u g (Followed g m q) ls)
     (first : (g : ℕ) (m : Msg) (q : Vat Name) → (g ≡ v → ⊥) → slice_get (put_at v t vs) g ≡ Some q → IsAmong (Answer g m) (names_in t.known) → (IsAmong (Answer g m) (names_in s.known) ⊎ PutsFirst g m t.outbox) ⊎ IsAmong (Answer g m) (names_in q.known)) where
-
   mine_known : (b : ℕ) → AtLink v b (AllKnown t) (push_all v t.outbox ls)
   mine_known b = push_of v b v (AllKnown t) (NoteOk (KnowsIn t)) (λ l n r h. pushed_all (NoteOk (KnowsIn t)) l n r h) t.outbox ls outs
       (λ l e. all_map (λ n k. note_up (KnowsIn s) (KnowsIn t) (knows_up s t grows) n k) l.notes (known v b s there l e))

@@ -1,27 +1,25 @@
 -- In every world of a run each note names what its sender knows, and answers follow their messages.
-use Rattle.std.proofs.Common.{◌≡◌, ℕ, zero, suc, Bool, true, false, List, [], ◌∷◌, ◌++◌, Option, Some, None, refl, sym, ap, ◌∙◌, ◌⊎◌, inl, inr, length, map, ◌==◌}
+use Rattle.std.proofs.Common.{◌≡◌, ℕ, zero, suc, List, [], ◌∷◌, ◌++◌, Option, Some, None, refl, sym, ap, ◌∙◌, ◌⊎◌, inl, inr, map}
 use Rattle.std.specs.Prelude.{slice_get}
-use Rattle.ev_machine.specs.Values.{Name, Root, Answer, Sent, Msg, host_of, naming}
-use Rattle.ev_machine.specs.State.{Passeds, Note, Deliver, Open, Ask, SettledTo, Elsewhere, Shorten, Put, Vat, begun, Done, Gives, Throws, Ejects, Stops}
+use Rattle.ev_machine.specs.Values.{Name, Root, Answer, Sent, Msg}
+use Rattle.ev_machine.specs.State.{Passeds, Note, Deliver, Open, Ask, SettledTo, Elsewhere, Shorten, Put, Vat, begun, Done, Gives}
 use Rattle.ev_machine.specs.Arrive as arrive
 use Rattle.ev_machine_laws.specs.Steps.{Step, Receives, does, After}
 use Rattle.ev_run.specs.Draws.{draw_word}
 use Rattle.ev_run.specs.World as world
 use Rattle.ev_run.specs.World.{Script, Program, Link, World, Entry, Goes as Going, names, names_of, read_note, readied, put_at, push_all, with_link, with_notes, severed_link, link_at}
-use Rattle.ev_name_laws.specs.Names.{Bit, Named, Mail, Drew, At, Off, AllOf, IsAmong, Once, NoteOk, names_in}
+use Rattle.ev_name_laws.specs.Names.{Bit, Named, Mail, Drew, At, Off, AllOf, IsAmong, NoteOk, names_in}
 use Rattle.ev_name_laws.specs.Runs.{KnowsOnce}
 use Rattle.ev_name_laws.proofs.Facts.{MayBe, all_map, note_up}
 use Rattle.ev_name_laws.proofs.Run.{Had, Stands}
 use Rattle.ev_name_laws.proofs.Among.{get_put}
 use Rattle.ev_rest_laws.proofs.Gentle.{AfterGives}
-use Rattle.ev_rest_laws.proofs.RunLift.{link_ok}
 use Rattle.ev_rest_laws.proofs.LinksCut.{fits_notes, fits_severed}
-use Rattle.ev_rest_laws.proofs.NotesRuns.{Its, OfNotes, Ever, opened_all, stepped_all, links_of}
-use Rattle.ev_rest_laws.proofs.OwnRuns.{Any}
+use Rattle.ev_rest_laws.proofs.NotesRuns.{OfNotes, opened_all, stepped_all, links_of}
 use Rattle.ev_rest_laws.proofs.NotesLift as lift
 use Rattle.ev_answer_laws.specs.Behind.{Avoids, NamesNot, Bears, ComesFirst, IsKnownTo as KnowsIn, AnswersFollowMessages, NotesNameWhatIsKnown}
 use Rattle.ev_answer_laws.proofs.First.{PutsFirst, among_dec}
-use Rattle.ev_answer_laws.proofs.Links.{AtLink, with_any, CutOrFirst}
+use Rattle.ev_answer_laws.proofs.Links.{AtLink, with_any}
 use Rattle.ev_answer_laws.proofs.Moves.{Moved, Still, Severs, Drops, Steps, Arrives, Does, opened_hold, stepped_hold}
 use Rattle.ev_answer_laws.proofs.Arrived.{Stays, steps_stay, arrived}
 use Rattle.ev_answer_laws.proofs.Follow.{third_not, put_cases, eq_dec, AllKnown, NotesKnown, Followed, Follow, knows_not, goes_known, goes_follow}

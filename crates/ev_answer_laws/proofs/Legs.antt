@@ -1,22 +1,21 @@
 -- While a message may yet go on from a host, its answers at other hosts are known nowhere; and while it is under way its answer is not known at its end: what a step of one vat keeps of that, by counts.
-use Rattle.std.proofs.Common.{◌≡◌, ℕ, zero, suc, ◌+◌, ◌≤◌, List, [], ◌∷◌, ◌++◌, Option, Some, None, refl, sym, ap, ◌∙◌, ◌⊎◌, inl, inr, arith, subst}
+use Rattle.std.proofs.Common.{◌≡◌, ℕ, zero, suc, ◌+◌, ◌≤◌, List, [], ◌∷◌, Option, Some, None, refl, sym, ◌∙◌, ◌⊎◌, inl, inr, arith, subst}
 use Rattle.std.specs.Prelude.{slice_get}
 use Rattle.ev_machine.specs.Values.{Name, Answer, Sent, Msg}
 use Rattle.ev_machine.specs.State.{Known, Note, Deliver, Open, Ask, SettledTo, Elsewhere, Shorten, Put, Vat}
-use Rattle.ev_run.specs.World.{Link, link_at, put_at, push_all, pushed, with_link}
+use Rattle.ev_run.specs.World.{Link, link_at, put_at, push_all}
 use Rattle.ev_fate_laws.specs.Fate.{total, one as same_one, once as same_once, at_vat, in_note, of_note, on_link}
-use Rattle.ev_carry_laws.specs.Carry.{weight, held_at, put_weight, load, link_weight}
+use Rattle.ev_carry_laws.specs.Carry.{held_at, put_weight, load, link_weight}
 use Rattle.ev_name_laws.specs.Names.{AllOf, IsAmong, names_in}
 use Rattle.ev_name_laws.proofs.Facts.{all_map}
 use Rattle.ev_name_laws.proofs.SameNames.{same_self}
-use Rattle.ev_name_laws.proofs.Among.{get_put}
 use Rattle.ev_table_laws.specs.Knowing.{claims, numbered_at}
 use Rattle.ev_answer_laws.specs.Behind.{NamesNot, Bears}
 use Rattle.ev_answer_laws.proofs.First.{PutsFirst, among_dec}
 use Rattle.ev_answer_laws.proofs.Follow.{put_cases, eq_dec}
 use Rattle.ev_answer_laws.proofs.Links.{AtLink, push_others, push_where, pushed_all}
 use Rattle.ev_answer_laws.proofs.Onward.{Mailed, claims_known, claims_both, claims_held, claims_own}
-use Rattle.ev_answer_laws.proofs.Places.{held_places, link_most, link_least, note_least, put_to, put_most, put_two, From, pushed_from, first_weighs}
+use Rattle.ev_answer_laws.proofs.Places.{held_places, link_most, link_least, note_least, put_to, put_most, put_two, pushed_from, first_weighs}
 
 self_least : (m : Msg) → 1 ≤ same_one (Sent m) (Sent m)
 unfolding same_one same_once

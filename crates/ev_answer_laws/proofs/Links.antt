@@ -1,10 +1,9 @@
 -- What holds of the link between two vats, through the changes of links.
-use Rattle.std.proofs.Common.{◌≡◌, ℕ, Bool, true, false, List, [], ◌∷◌, ◌++◌, Option, Some, None, refl, sym, ap, ◌∙◌, ◌⊎◌, inl, inr, ◌==◌}
+use Rattle.std.proofs.Common.{◌≡◌, ℕ, Bool, true, false, List, [], ◌∷◌, ◌++◌, Option, Some, refl, sym, ◌∙◌, ◌⊎◌, inl, inr, ◌==◌}
 use Rattle.std.proofs.lemmas.Bool.{eqb-true, eq-eqb}
 use Rattle.ev_machine.specs.Values.{Name, Answer, Msg}
 use Rattle.ev_machine.specs.State.{Note, Put}
-use Rattle.ev_run.specs.World as world
-use Rattle.ev_run.specs.World.{Link, link_at, is_link, with_link, with_notes, pushed, push_all, severed_link}
+use Rattle.ev_run.specs.World.{Link, link_at, is_link, with_link, pushed, push_all}
 use Rattle.ev_name_laws.specs.Names.{AllOf}
 use Rattle.ev_name_laws.proofs.Facts.{all_end}
 use Rattle.ev_rest_laws.proofs.LinksCut.{Fits, fits_pushed}

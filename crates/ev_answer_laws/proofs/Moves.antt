@@ -1,8 +1,8 @@
 -- What an entry, or an opening turn, makes of a world of a run: nothing, a cut, or a step of one vat.
-use Rattle.std.proofs.Common.{◌≡◌, ℕ, zero, suc, ◌+◌, arith, Bool, true, false, List, [], ◌∷◌, ◌++◌, Option, Some, None, refl, sym, ap, ◌∙◌, length, append_assoc, append-nil}
+use Rattle.std.proofs.Common.{◌≡◌, ℕ, zero, suc, ◌+◌, arith, Bool, true, false, List, [], ◌∷◌, ◌++◌, Option, Some, None, refl, sym, ◌∙◌, length, append_assoc, append-nil}
 use Rattle.std.specs.Prelude.{slice_get}
 use Rattle.ev_machine.specs.Values.{Name, Root, Answer, Msg}
-use Rattle.ev_machine.specs.State.{Message, Note, Put, Vat, Done, Gives, Throws, Ejects, Stops, Act}
+use Rattle.ev_machine.specs.State.{Message, Note, Vat, Done, Gives, Throws, Ejects, Stops}
 use Rattle.ev_machine.specs.Eval.{opening}
 use Rattle.ev_machine.specs.Arrive.{notice}
 use Rattle.ev_machine_laws.specs.Steps.{Step, Opens as Starts, Takes, Receives, Notices, does}
@@ -177,7 +177,6 @@ module _ (script : Script) (Past : World → Type 0)
     (opened_past : (ps rest : List Program) (w : World) → script.vats ≡ ps ++ rest → world.open_from script zero ps (world.begins script) ≡ Going w → Past w)
     (stepped_past : (w x : World) (es : List Entry) (k : ℕ) → world.open_from script zero script.vats (world.begins script) ≡ Going w → world.steps_from script es k w ≡ Going x → Past x)
     (stands : (w : World) → Past w → Stands script w) (J : World → Type 0) (law : (w y : World) → Past w → Past y → Moved script w y → J w → J y) where
-
   then_holds : (x : World) (r : Run) (f : World → Run) → ((y : World) → r ≡ Going y → f y ≡ Going x → J x) → world.then_goes r f ≡ Going x → J x
   unfolding world.then_goes
   then_holds x (Going y) f b e = b y refl e

@@ -1,26 +1,24 @@
 -- A note brings each name once at most that is neither an answer nor a gift, and none that is known.
-use Rattle.std.proofs.Common.{◌≡◌, ℕ, zero, suc, ◌+◌, ◌≤◌, ◌<◌, Bool, true, false, List, [], ◌∷◌, ◌++◌, Option, Some, None, refl, sym, ap, ◌∙◌, ◌⊎◌, inl, inr, arith, length, leb-true, subst, ◌==◌, ◌&&◌}
+use Rattle.std.proofs.Common.{◌≡◌, ℕ, zero, suc, ◌+◌, ◌≤◌, ◌<◌, Bool, true, false, List, [], ◌∷◌, Some, refl, sym, ◌∙◌, ◌⊎◌, inl, inr, arith, length, leb-true, subst, ◌==◌}
 use Rattle.std.specs.Prelude.{slice_get, nat_le}
-use Rattle.std.proofs.lemmas.Bool.{eqb-true, eq-eqb, le-leb}
+use Rattle.std.proofs.lemmas.Bool.{eqb-true, le-leb}
 use Rattle.ev_machine.specs.Values.{Name, Root, Object, Promise, Answer, Gift, Sent, Msg, same_name, answer_of, host_of}
 use Rattle.ev_machine.specs.State.{Message, Known, Note, Deliver, Open, Ask, SettledTo, Elsewhere, Shorten, Vat}
 use Rattle.ev_machine.specs.Arrive.{Old, New}
 use Rattle.ev_run.specs.World as world
 use Rattle.ev_run.specs.World.{Script, Link, World, link_at, read_note, read_name, is_old, names_of}
-use Rattle.ev_name_laws.specs.Names.{Bit, Named, Mail, Drew, At, Off, AllOf, IsAmong, IsMessageName, IsMessageMade, IsEventual, IsPlain, PlainOnce, WasMade, IsMade, KnownOk, MessageOk, NoteOk, promises_of, names_in}
-use Rattle.ev_name_laws.specs.Runs.{KnowsOnce}
+use Rattle.ev_name_laws.specs.Names.{Bit, Named, Mail, Drew, At, Off, AllOf, IsAmong, IsMessageName, IsEventual, IsPlain, PlainOnce, WasMade, KnownOk, MessageOk, NoteOk, promises_of, names_in}
 use Rattle.ev_name_laws.proofs.Facts.{MayBe, note_up}
 use Rattle.ev_name_laws.proofs.Among.{promises_at}
 use Rattle.ev_name_laws.proofs.SameNames.{has_among}
-use Rattle.ev_name_laws.proofs.Run.{Had, Told, Stands, opened_stands}
+use Rattle.ev_name_laws.proofs.Run.{Had, Told, Stands}
 use Rattle.ev_rest_laws.proofs.RunLift.{link_ok}
-use Rattle.ev_table_laws.specs.Knowing.{once, one, onward, onward_all, claims, numbered, new_name, new_answer, brings}
+use Rattle.ev_table_laws.specs.Knowing.{once, one, onward, onward_all, claims, numbered, new_name, new_answer}
 use Rattle.ev_table_laws.specs.Runs.{allowed, other, brings_here}
-use Rattle.ev_answer_laws.specs.Behind.{Avoids}
 use Rattle.ev_answer_laws.specs.Bring.{IsNeither, NotesBringNewRoots}
 use Rattle.ev_answer_laws.proofs.First.{made_message}
 use Rattle.ev_answer_laws.proofs.FollowRuns.{opened_past, stepped_past}
-use Rattle.ev_answer_laws.proofs.Telling.{IsNoGift, has, has_most, NeverNew, avoids_never, tells, mails, note_tells, note_not, brings_parts, here_most, one_or, has_true, has_grows}
+use Rattle.ev_answer_laws.proofs.Telling.{IsNoGift, has, NeverNew, avoids_never, tells, mails, note_tells, note_not, brings_parts, here_most, one_or, has_true, has_grows}
 
 true_false : true ≡ false → ⊥
 true_false e = cc

@@ -2,11 +2,11 @@
 use Rattle.std.proofs.Common.{◌≡◌, ℕ, zero, suc, Bool, true, false, List, [], ◌∷◌, ◌++◌, Option, Some, None, refl, sym, ap, ◌∙◌, append_assoc, append-nil, if◌then◌else◌, length}
 use Rattle.std.specs.Prelude.{nat_le, ◌==◌}
 use Rattle.ev_machine.specs.Values.{Words, Value, Null, Flag, Number, Letter, Text, Prim, Broken, Items, Ref, Name, Naming, naming, Spot, Own, Foreign, NoObject}
-use Rattle.ev_machine.specs.State.{Message, Standing, Unsettled, WaitsOn, Viewed, Settled, Known, Change, Hold, Wait, WaitOn, See, React, ToTell, Settle, Passed, Passeds, Plain, AGift, Many, NoMore, More, Note, Deliver, Open, SettledTo, Elsewhere, Put, Happened, Posted, Vat, Done, Gives, Throws, Ejects, Stops, Act, ◌>>=◌, ◌>>◌, and_then, give, look, tell, spend, spent, draws, draw, send_out, alter, with_change, changed, changed_to, unless_settled, is_in}
+use Rattle.ev_machine.specs.State.{Standing, Unsettled, WaitsOn, Viewed, Settled, Known, ToTell, Passed, Passeds, Plain, AGift, Many, NoMore, More, Note, Open, SettledTo, Elsewhere, Put, Happened, Vat, Done, Gives, Throws, Ejects, Stops, Act, ◌>>=◌, ◌>>◌, and_then, give, look, tell, spend, spent, draws, draw, send_out, alter, with_change, changed, changed_to, unless_settled, is_in}
 use Rattle.ev_machine.specs.Refs as refs
 use Rattle.ev_machine.specs.Refs.{Place, Near, Mine, Away, Gone, Parcel}
 use Rattle.ev_machine.specs.Native.{list_at}
-use Rattle.ev_name_laws.specs.Names.{Bit, Named, Mail, Drew, At, Off, AllOf, ValueOk, ValuesOk, StandingOk, PassedOk, PassedsOk, NoteOk, names_in}
+use Rattle.ev_name_laws.specs.Names.{Bit, Named, AllOf, ValueOk, ValuesOk, StandingOk, PassedOk, PassedsOk, NoteOk, names_in}
 use Rattle.ev_name_laws.proofs.Facts.{all_append, PlaceOk}
 use Rattle.ev_name_laws.proofs.Looks.{list_at_ok, place_ok}
 use Rattle.ev_name_laws.proofs.Tracked.{names_change}

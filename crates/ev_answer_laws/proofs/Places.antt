@@ -1,14 +1,13 @@
 -- Two places of one message are two: what a world with one place at most cannot have.
-use Rattle.std.proofs.Common.{◌≡◌, ℕ, zero, suc, ◌+◌, ◌≤◌, Bool, true, false, List, [], ◌∷◌, ◌++◌, Option, Some, None, refl, sym, ap, ◌∙◌, ◌⊎◌, inl, inr, arith, ◌==◌}
+use Rattle.std.proofs.Common.{◌≡◌, ℕ, zero, suc, ◌+◌, ◌≤◌, Bool, true, false, List, [], ◌∷◌, ◌++◌, Option, Some, refl, sym, ap, ◌∙◌, ◌⊎◌, inl, inr, arith, ◌==◌}
 use Rattle.std.specs.Prelude.{slice_get}
 use Rattle.std.proofs.lemmas.Bool.{eqb-true, eq-eqb}
 use Rattle.ev_machine.specs.Values.{Name, Root, Object, Promise, Answer, Gift, Sent, Msg}
-use Rattle.ev_machine.specs.State.{Message, Known, Note, Deliver, Open, Ask, SettledTo, Elsewhere, Shorten, Put, Vat}
-use Rattle.ev_run.specs.World as world
-use Rattle.ev_run.specs.World.{Link, World, link_at, is_link, with_link, with_notes, pushed, push_all}
-use Rattle.ev_fate_laws.specs.Fate.{one, total, among, at_names, at_vat, in_note, of_note, on_link, once}
+use Rattle.ev_machine.specs.State.{Known, Note, Deliver, Open, Ask, SettledTo, Elsewhere, Shorten, Put, Vat}
+use Rattle.ev_run.specs.World.{Link, link_at, is_link, with_link, pushed, push_all}
+use Rattle.ev_fate_laws.specs.Fate.{one, total, at_names, at_vat, in_note, of_note, on_link, once}
 use Rattle.ev_carry_laws.specs.Carry.{fare, weight, held_at, put_weight, link_weight}
-use Rattle.ev_rest_laws.proofs.LinksCut.{fits_pushed, fits_notes}
+use Rattle.ev_rest_laws.proofs.LinksCut.{fits_pushed}
 use Rattle.ev_name_laws.proofs.SameNames.{same_self}
 use Rattle.ev_answer_laws.specs.Behind.{Bears}
 use Rattle.ev_answer_laws.proofs.First.{PutsFirst}

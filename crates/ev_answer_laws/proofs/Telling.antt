@@ -1,14 +1,14 @@
 -- A note tells a name as new where it is not known, and once: how often a note brings a name that is no gift.
-use Rattle.std.proofs.Common.{◌≡◌, ℕ, zero, suc, ◌+◌, ◌≤◌, Bool, true, false, List, [], ◌∷◌, ◌++◌, Option, Some, None, refl, sym, ap, ◌∙◌, ◌⊎◌, inl, inr, arith, subst, ◌==◌, ◌&&◌}
-use Rattle.ev_machine.specs.Values.{Value, Null, Flag, Number, Letter, Text, Prim, Broken, Items, Ref, Name, Root, Object, Promise, Answer, Gift, Sent, Msg, same_name, answer_of, host_of}
+use Rattle.std.proofs.Common.{◌≡◌, ℕ, ◌+◌, ◌≤◌, Bool, true, false, List, [], ◌∷◌, ◌++◌, Option, Some, None, refl, ◌⊎◌, inl, inr, arith, subst}
+use Rattle.ev_machine.specs.Values.{Value, Null, Flag, Number, Letter, Text, Prim, Broken, Items, Ref, Name, Root, Object, Promise, Answer, Gift, Sent, same_name, host_of}
 use Rattle.ev_machine.specs.State.{Passed, Passeds, Plain, AGift, Many, NoMore, More, Note, Deliver, Open, Ask, SettledTo, Elsewhere, Shorten, GiftEntry}
 use Rattle.ev_machine.specs.Arrive.{Incoming, Old, New, gift_at}
 use Rattle.ev_run.specs.World as world
 use Rattle.ev_run.specs.World.{has_name, is_old, read_name, known_after, read_value, read_passed, read_all, read_note}
-use Rattle.ev_name_laws.specs.Names.{Bit, Named, Mail, Drew, At, Off, IsAmong, IsMessageName, ValueOk, PassedOk, PassedsOk, NoteOk}
-use Rattle.ev_name_laws.proofs.SameNames.{same_is, same_self, has_among, among_has, new_unknown}
-use Rattle.ev_name_laws.proofs.Among.{among_more, among_last, among_or}
-use Rattle.ev_table_laws.specs.Knowing.{once, one, onward, new_name, new_in_value, new_in, new_in_all, new_answer, new_gift_here, brings}
+use Rattle.ev_name_laws.specs.Names.{Bit, Named, Mail, Drew, At, Off, IsAmong, ValueOk, PassedOk, PassedsOk, NoteOk}
+use Rattle.ev_name_laws.proofs.SameNames.{same_is, has_among, among_has, new_unknown}
+use Rattle.ev_name_laws.proofs.Among.{among_more, among_last}
+use Rattle.ev_table_laws.specs.Knowing.{once, one, new_name, new_in_value, new_in, new_in_all, new_answer, new_gift_here, brings}
 use Rattle.ev_table_laws.specs.Runs.{is_own, answer_here, brings_here}
 use Rattle.ev_answer_laws.specs.Behind.{Avoids}
 

@@ -1,8 +1,8 @@
 -- In every run an answer that a vat knows is known to its host, or its message is on the way there in front of it.
-use Rattle.std.specs.Prelude.{◌≡◌, ℕ, zero, true, List, [], ◌∷◌, ◌++◌, ◌⊎◌, Some, slice_get}
+use Rattle.std.specs.Prelude.{◌≡◌, ℕ, true, List, [], ◌∷◌, ◌⊎◌, Some, slice_get}
 use Rattle.ev_machine.specs.Values.{Name, Answer, Sent, Msg}
-use Rattle.ev_machine.specs.State.{Note, Deliver, Open, Ask, SettledTo, Elsewhere, Shorten, Put, Vat}
-use Rattle.ev_run.specs.World.{Script, Program, Entry, Link, World, Goes, begins, open_from, steps_from, link_at}
+use Rattle.ev_machine.specs.State.{Note, Deliver, Open, Ask, SettledTo, Elsewhere, Shorten, Vat}
+use Rattle.ev_run.specs.World.{Link, link_at}
 use Rattle.ev_name_laws.specs.Names.{Bit, Named, Mail, Drew, At, Off, AllOf, IsAmong, IsKnownIn, NoteOk, names_in}
 use Rattle.ev_name_laws.specs.Runs.{InRuns}
 

@@ -2,7 +2,7 @@
 use Rattle.std.specs.Prelude.{◌≡◌, ℕ, ◌+◌, ◌≤◌, List, ◌∷◌, Some, slice_get, length}
 use Rattle.ev_machine.specs.Values.{Name, Root, Object, Promise, Answer, Gift, Sent}
 use Rattle.ev_machine.specs.State.{Note, Vat}
-use Rattle.ev_run.specs.World.{Link, World, link_at, read_note, names_of}
+use Rattle.ev_run.specs.World.{Link, link_at, read_note, names_of}
 use Rattle.ev_name_laws.specs.Runs.{InRuns}
 use Rattle.ev_table_laws.specs.Knowing.{claims}
 use Rattle.ev_table_laws.specs.Runs.{allowed, brings_here}
