@@ -35,10 +35,10 @@ some_link : (l k : Link) → ◌≡◌ {A = Option Link} (Some l) (Some k) → l
 some_link l k e = cc
 
 -- the same two vats have one link
-same_link : (a b c d : ℕ) (ls : List Link) (l k : Link) → link_at a b ls ≡ Some l → link_at c d ls ≡ Some k → a ≡ c → b ≡ d → l ≡ k
+pub same_link : (a b c d : ℕ) (ls : List Link) (l k : Link) → link_at a b ls ≡ Some l → link_at c d ls ≡ Some k → a ≡ c → b ≡ d → l ≡ k
 same_link a b c d ls l k e f i j = let one : link_at c d ls ≡ Some l = rw (i, j) at e in some_link l k (sym one ∙ f)
 
-tail_of : (P : Note Name → Type 0) (l k : Link) (n : Note Name) (ns : List (Note Name)) → AllOf P l.notes → l ≡ k → k.notes ≡ n ∷ ns → P n × AllOf P ns
+pub tail_of : (P : Note Name → Type 0) (l k : Link) (n : Note Name) (ns : List (Note Name)) → AllOf P l.notes → l ≡ k → k.notes ≡ n ∷ ns → P n × AllOf P ns
 tail_of P l k n ns h e f = let one : AllOf P k.notes = rw e at h in rw f at one
 
 module _ (script : Script) where
@@ -115,10 +115,10 @@ module _ (script : Script) where
   had_knows y v t (At u) h = tt
   had_knows y v t (Off u) h = tt
 
-  outs_known : (y : World) (v : ℕ) (t : Vat Name) → Stands script y → slice_get y.vats v ≡ Some t → AllOf (λ (p : Put Name). NoteOk (KnowsIn t) p.note) t.outbox
+  pub outs_known : (y : World) (v : ℕ) (t : Vat Name) → Stands script y → slice_get y.vats v ≡ Some t → AllOf (λ (p : Put Name). NoteOk (KnowsIn t) p.note) t.outbox
   outs_known y v t h e = let at = h.vats v t e in let parts = at.parts in all_map (λ p k. note_up (Had script y v t) (KnowsIn t) (had_knows y v t) p.note k.0) t.outbox parts.outbox
 
-  there_next : (w y : World) (v : ℕ) (s t : Vat Name) → slice_get w.vats v ≡ Some s → y.vats ≡ put_at v t w.vats → slice_get y.vats v ≡ Some t
+  pub there_next : (w y : World) (v : ℕ) (s t : Vat Name) → slice_get w.vats v ≡ Some s → y.vats ≡ put_at v t w.vats → slice_get y.vats v ≡ Some t
   there_next w y v s t e f = rw f (get_put w.vats v s t e)
 
   pub step_grows : (w : World) (v : ℕ) (s q t : Vat Name) (what : Step Name Name) → Does script w v s q t what → (n : Name) → IsAmong n (names_in s.known) → IsAmong n (names_in t.known)
@@ -171,7 +171,7 @@ module _ (script : Script) where
   holds_on w y p r (Still e f d) h = rw (e, f) h
   holds_on w y p r (Severs a b e f d) h = rw (e, f) (cut_known w.vats (with_link severed_link a b w.links) b a (cut_known w.vats w.links a b h.0), cut_follow w.vats (with_link severed_link a b w.links) b a (cut_follow w.vats w.links a b h.1))
   holds_on w y p r (Drops a v n ns l at notes none e f d) h = rw (e, f) (taken_known w.vats w.links a v n ns l at notes h.0, none_follow w.vats w.links a v n ns l at notes none h.1)
-  holds_on w y p r (Steps v s q t what alone does e f d first) h = let grows = step_grows w v s q t what does in let outs = outs_known y v t r.0 (there_next w y v s t does.there e) in
+  holds_on w y p r (Steps v s q t what alone does e f d first fresh) h = let grows = step_grows w v s q t what does in let outs = outs_known y v t r.0 (there_next w y v s t does.there e) in
       let news : (g : ℕ) (m : Msg) (x : Vat Name) → (g ≡ v → ⊥) → slice_get (put_at v t w.vats) g ≡ Some x → IsAmong (Answer g m) (names_in t.known) → (IsAmong (Answer g m) (names_in s.known) ⊎ PutsFirst g m t.outbox) ⊎ IsAmong (Answer g m) (names_in x.known) = λ g m x k i j. inl (first g m k j) in
       let old = stepped_follow w.vats w.links v s t does.there grows h.1 in
       rw (e, f) (goes_known w.vats v s t does.there grows outs w.links h.0 old news, goes_follow w.vats v s t does.there grows outs w.links h.0 old news)
@@ -187,7 +187,7 @@ module _ (script : Script) where
           either : ((g ≡ v) × (t ≡ q)) ⊎ ((g ≡ v → ⊥) × (slice_get vs g ≡ Some q)) → AtLink u g (Followed g m q) ls
           either (inl x) = λ j i. grown x.1 j (h u g m r s e (ap (λ z. slice_get vs z) x.0 ∙ there) k j i)
           either (inr x) = h u g m r q e x.1 k
-  holds_on w y p r (Arrives a v s t n ns l at cut notes does e f d first) h = let grows = step_grows w v s s t _ does in let outs = outs_known y v t r.0 (there_next w y v s t does.there e) in
+  holds_on w y p r (Arrives a v s t n ns l at cut notes does e f d first fresh) h = let grows = step_grows w v s s t _ does in let outs = outs_known y v t r.0 (there_next w y v s t does.there e) in
       let stands = p.0.vats v s does.there in let kept = stands.kept in let known = taken_known w.vats w.links a v n ns l at notes h.0 in
       let old = taken_follow w.vats w.links a v n ns l at notes s t does.there grows (λ m b. bearer_known w a v s t n m kept.number does b) h.1 in
       let news = arrives_first w a v s t n ns l p h.0 at notes first in
@@ -207,7 +207,7 @@ module _ (script : Script) where
   no_answer g m (w ∷ ws) (inl e) = cc
   no_answer g m (w ∷ ws) (inr h) = no_answer g m ws h
 
-  fresh_none : (g : ℕ) (m : Msg) (v : ℕ) (ps : List Program) (n : ℕ) (s : Vat Name) → slice_get (world.fresh_from script v ps) n ≡ Some s → IsAmong (Answer g m) (names_in s.known) → ⊥
+  pub fresh_none : (g : ℕ) (m : Msg) (v : ℕ) (ps : List Program) (n : ℕ) (s : Vat Name) → slice_get (world.fresh_from script v ps) n ≡ Some s → IsAmong (Answer g m) (names_in s.known) → ⊥
   unfolding world.fresh_from world.fresh world.known_root begun
   fresh_none g m v [] n s e a = absurd (nobody e)
     where

@@ -42,21 +42,37 @@ known_dec x (w ∷ ws) = either (among_dec x (names_in w.known)) (known_dec x ws
         none zero r e k = f (rw (sym (some_same w r e)) at k)
         none (suc z) r e k = g z r e k
 
+-- Where an answer at g is known somewhere, its message is held at no other vat, and on its way to none from where it might go on.
+abbrev pub ApartIn : Msg → List (Vat Name) → List Link → Type 0
+ApartIn m ws ks = (h g z : ℕ) (r : Vat Name) → (g ≡ h → ⊥) → slice_get ws z ≡ Some r → IsAmong (Answer g m) (names_in r.known)
+    → ((q : Vat Name) → slice_get ws h ≡ Some q → held_at (Sent m) q.known ≤ 0) × ((a : ℕ) → AtLink a h (λ l. link_weight (Sent m) l ≤ 1) ks)
+
+-- Where g knows its answer, the message is on no link to it.
+abbrev pub EarlyIn : Msg → List (Vat Name) → List Link → Type 0
+EarlyIn m ws ks = (a g : ℕ) (r : Vat Name) → slice_get ws g ≡ Some r → IsAmong (Answer g m) (names_in r.known) → AtLink a g (λ l. on_link (Sent m) l ≤ 0) ks
+
+-- the note of the message does not name its answer
+abbrev pub SelfNotIn : Msg → ℕ → Note Name → Type 0
+SelfNotIn m g n = 1 ≤ of_note (Sent m) n → NamesNot (Answer g m) n
+
+abbrev pub SelflessIn : Msg → List Link → Type 0
+SelflessIn m ks = (a g : ℕ) → AtLink a g (λ l. AllOf (SelfNotIn m g) l.notes) ks
+
 module _ (vs : List (Vat Name)) (v : ℕ) (s t : Vat Name) (ls : List Link) (there : slice_get vs v ≡ Some s) (m : Msg) where
-  abbrev M : Name
+  abbrev pub M : Name
   M = Sent m
 
-  abbrev X : ℕ → Name
+  abbrev pub X : ℕ → Name
   X g = Answer g m
 
-  abbrev Knows : ℕ → Vat Name → Type 0
+  abbrev pub Knows : ℕ → Vat Name → Type 0
   Knows g r = IsAmong (X g) (names_in r.known)
 
   -- it is known to a vat
-  abbrev Somewhere : ℕ → Type 0
+  abbrev pub Somewhere : ℕ → Type 0
   Somewhere g = (z : ℕ) × (r : Vat Name) × (slice_get vs z ≡ Some r) × Knows g r
 
-  abbrev Nowhere : ℕ → Type 0
+  abbrev pub Nowhere : ℕ → Type 0
   Nowhere g = (z : ℕ) (r : Vat Name) → slice_get vs z ≡ Some r → Knows g r → ⊥
 
   -- the note of the message does not name its answer
@@ -64,7 +80,7 @@ module _ (vs : List (Vat Name)) (v : ℕ) (s t : Vat Name) (ls : List Link) (the
   SelfNot g n = 1 ≤ of_note M n → NamesNot (X g) n
 
   -- A message was made before, and is not sent again; or it is new.
-  abbrev Older : ℕ → Type 0
+  abbrev pub Older : ℕ → Type 0
   Older sends = (sends ≤ 0) × ((g : ℕ) → numbered_at v (X g) t ≤ numbered_at v (X g) s)
 
   pub record Newer (arr lv sends : ℕ) : Type 0 where
@@ -99,10 +115,10 @@ module _ (vs : List (Vat Name)) (v : ℕ) (s t : Vat Name) (ls : List Link) (the
     pub age : Older sends ⊎ Newer arr lv sends
 
   module _ (arr lv sends : ℕ) (f : Facts arr lv sends) where
-    abbrev After : List (Vat Name)
+    abbrev pub After : List (Vat Name)
     After = put_at v t vs
 
-    abbrev Links : List Link
+    abbrev pub Links : List Link
     Links = push_all v t.outbox ls
 
     load_held : held_at M t.known ≤ load M t
@@ -227,11 +243,7 @@ module _ (vs : List (Vat Name)) (v : ℕ) (s t : Vat Name) (ls : List Link) (the
         either (inl i) = inr (subst (λ (z : Vat Name). Knows g z) (sym i.1) k)
         either (inr i) = inl (z, r, i.1, k)
 
-    abbrev pub Apart : List (Vat Name) → List Link → Type 0
-    Apart ws ks = (h g z : ℕ) (r : Vat Name) → (g ≡ h → ⊥) → slice_get ws z ≡ Some r → Knows g r
-        → ((q : Vat Name) → slice_get ws h ≡ Some q → held_at M q.known ≤ 0) × ((a : ℕ) → AtLink a h (λ l. link_weight M l ≤ 1) ks)
-
-    pub apart_next : Apart After Links
+    pub apart_next : ApartIn m After Links
     apart_next h g z r apart e k = either (known_when g z r e k) (known_dec (X g) vs)
       where
         either : Somewhere g ⊎ Knows g t → Somewhere g ⊎ Nowhere g → ((q : Vat Name) → slice_get After h ≡ Some q → held_at M q.known ≤ 0) × ((a : ℕ) → AtLink a h (λ l. link_weight M l ≤ 1) Links)
@@ -288,10 +300,7 @@ module _ (vs : List (Vat Name)) (v : ℕ) (s t : Vat Name) (ls : List Link) (the
         either (inl i) = subst (λ z. AtLink z g (λ l. on_link M l ≤ 0) Links) (sym i) mine
         either (inr i) = push_others a g v (λ l. on_link M l ≤ 0) t.outbox ls i (f.early a g r e k)
 
-    abbrev pub Early : List (Vat Name) → List Link → Type 0
-    Early ws ks = (a g : ℕ) (r : Vat Name) → slice_get ws g ≡ Some r → Knows g r → AtLink a g (λ l. on_link M l ≤ 0) ks
-
-    pub early_next : Early After Links
+    pub early_next : EarlyIn m After Links
     early_next a g r e k = either (put_cases v t vs g r e)
       where
         here_at : g ≡ v → Knows g t → AtLink a g (λ l. on_link M l ≤ 0) Links
@@ -339,10 +348,7 @@ module _ (vs : List (Vat Name)) (v : ℕ) (s t : Vat Name) (ls : List Link) (the
         either (inl k) (inl o) = let w = weighs_none g other o in let p = load_put in none_put g t.outbox (omega arith)
         either (inl k) (inr none) = first_self g t.outbox (f.first g other k none) f.puts_once
 
-    abbrev pub Selfless : List Link → Type 0
-    Selfless ks = (a g : ℕ) → AtLink a g (λ l. AllOf (SelfNot g) l.notes) ks
-
-    pub self_next : Selfless Links
+    pub self_next : SelflessIn m Links
     self_next a g = either (eq_dec a v) (eq_dec g v)
       where
         to_self : AtLink v v (λ l. AllOf (SelfNot v) l.notes) Links

@@ -3,6 +3,9 @@ pub mod CareBlocks
 pub mod First
 pub mod FirstArrive
 pub mod FirstSteps
+pub mod Fresh
+pub mod FreshSteps
+pub mod QuietSteps
 pub mod Links
 pub mod Moves
 pub mod Arrived
@@ -13,3 +16,11 @@ pub mod Neither
 pub mod Places
 pub mod Onward
 pub mod Legs
+pub mod Counts
+pub mod LegFacts
+pub mod LegRuns
+pub mod LegMoves
+pub mod Single
+pub mod SingleRuns
+pub mod OnceLaws
+pub mod Whole

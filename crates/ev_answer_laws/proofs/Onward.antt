@@ -118,7 +118,7 @@ unfolding onward_all
 all_own v m [] h = refl
 all_own v m (n ∷ ms) h = let a = onward_own v m n.id h.0 in let b = all_own v m ms h.1 in omega arith
 
-self_one : (x : Name) → one x x ≡ 1
+pub self_one : (x : Name) → one x x ≡ 1
 unfolding one once
 self_one x = rw (same_self x) refl
 

@@ -196,7 +196,7 @@ module _ (g : ℕ) (m : Msg) where
 
 -- ---- two links, and the links of a world with a note taken
 
-head_link : (c : Bool) (k l : Link) (o : Option Link) → ◌≡◌ {A = Option Link} (elim c [ true ↦ Some k | false ↦ o ]) (Some l) → ((c ≡ true) × (k ≡ l)) ⊎ ((c ≡ false) × (o ≡ Some l))
+pub head_link : (c : Bool) (k l : Link) (o : Option Link) → ◌≡◌ {A = Option Link} (elim c [ true ↦ Some k | false ↦ o ]) (Some l) → ((c ≡ true) × (k ≡ l)) ⊎ ((c ≡ false) × (o ≡ Some l))
 head_link true k l o e = inl (refl, same)
   where
     same : k ≡ l

@@ -20,3 +20,17 @@ IsNeither (Sent m) = Unit {0}
 abbrev pub NotesBringNewRoots : Type 0
 NotesBringNewRoots = InRuns (λ w. (from to : ℕ) (l : Link) (n : Note Name) (ns : List (Note Name)) (s : Vat Name) → link_at from to w.links ≡ Some l → l.notes ≡ n ∷ ns → slice_get w.vats to ≡ Some s
     → (x : Name) → IsNeither x → claims to x s.known + brings_here to x from s.gifts (read_note (names_of s) n) ≤ allowed to x s (length w.drawn))
+
+-- it is no gift
+abbrev pub IsNoGift : Name → Type 0
+IsNoGift (Root w) = Unit {0}
+IsNoGift (Object w i) = Unit {0}
+IsNoGift (Promise w i) = Unit {0}
+IsNoGift (Answer h m) = Unit {0}
+IsNoGift (Gift h i) = ⊥
+IsNoGift (Sent m) = Unit {0}
+
+-- The first note on each link brings each name but gifts once at most, and none that is claimed at the receiver.
+abbrev pub NotesBringNewButGifts : Type 0
+NotesBringNewButGifts = InRuns (λ w. (from to : ℕ) (l : Link) (n : Note Name) (ns : List (Note Name)) (s : Vat Name) → link_at from to w.links ≡ Some l → l.notes ≡ n ∷ ns → slice_get w.vats to ≡ Some s
+    → (x : Name) → IsNoGift x → claims to x s.known + brings_here to x from s.gifts (read_note (names_of s) n) ≤ allowed to x s (length w.drawn))
