@@ -1,20 +1,20 @@
 -- What holds of each message in each world of a run, and of a step of a vat there, as counts.
-use Rattle.std.proofs.Common.{◌≡◌, ℕ, zero, suc, ◌+◌, ◌≤◌, ◌<◌, Bool, true, false, List, [], ◌∷◌, ◌++◌, Some, refl, sym, ap, ◌∙◌, ◌⊎◌, inl, inr, arith, length, ◌==◌}
+use Rattle.std.proofs.Common.{◌≡◌, ℕ, zero, suc, ◌+◌, ◌≤◌, ◌<◌, Bool, true, false, List, [], ◌∷◌, Some, refl, sym, ap, ◌∙◌, ◌⊎◌, inl, inr, arith, ◌==◌}
 use Rattle.std.specs.Prelude.{slice_get, nat_le}
 use Rattle.std.proofs.lemmas.Bool.{eqb-true, eq-eqb}
 use Rattle.ev_machine.specs.Values.{Name, Answer, Sent, Msg}
-use Rattle.ev_machine.specs.State.{Put, Vat, Done, Gives, Throws, Ejects, Stops}
-use Rattle.ev_machine_laws.specs.Steps.{Step, Opens as Starts, Takes, Receives, Notices, does}
+use Rattle.ev_machine.specs.State.{Put, Vat, Done, Gives}
+use Rattle.ev_machine_laws.specs.Steps.{Step}
 use Rattle.ev_run.specs.Draws.{draw_word}
 use Rattle.ev_run.specs.World as world
 use Rattle.ev_run.specs.World.{Script, Program, Entry, World, Run, Goes as Going, Stopped, names, readied}
-use Rattle.ev_fate_laws.specs.Fate.{once as same_once, one as same_one, total, at_vat, of_note, on_link, places, sent_in, put_out, gone, account, where_cut}
+use Rattle.ev_fate_laws.specs.Fate.{once as same_once, total, at_vat, of_note, on_link, places, sent_in, put_out, gone, account, where_cut}
 use Rattle.ev_fate_laws.specs.Laws.{numbered as fate_numbered, brought as fate_brought, Accounted}
 use Rattle.ev_fate_laws.specs.Lasting.{StepComes}
 use Rattle.ev_fate_laws.specs.Runs.{Reached}
 use Rattle.ev_fate_laws.specs.Wellness.{WorldWell}
 use Rattle.ev_fate_laws.proofs.RunAccount.{Fated, steps_fated, opens_fated}
-use Rattle.ev_fate_laws.proofs.RunFates.{begins_fated, goes_fated}
+use Rattle.ev_fate_laws.proofs.RunFates.{begins_fated}
 use Rattle.ev_fate_laws.proofs.RunCounts.{all_numbered, numbered_once}
 use Rattle.ev_fate_laws.proofs.RunWell.{runs_stay_well}
 use Rattle.ev_fate_laws.proofs.TurnAccount.{steps_double_none}

@@ -1,9 +1,9 @@
 -- A message that a vat makes in a turn and that goes to a promise of another vat has no answer at its own vat: a care for names, and for what the message weighs.
-use Rattle.std.proofs.Common.{◌≡◌, ℕ, zero, suc, ◌+◌, ◌-◌, ◌≤◌, ◌<◌, Bool, true, false, List, [], ◌∷◌, ◌++◌, Option, Some, None, refl, sym, ap, ◌∙◌, ◌⊎◌, inl, inr, length, arith, leb-true}
+use Rattle.std.proofs.Common.{◌≡◌, ℕ, zero, suc, ◌-◌, ◌≤◌, ◌<◌, Bool, true, false, List, [], ◌∷◌, ◌++◌, Some, refl, sym, ap, ◌∙◌, ◌⊎◌, inl, inr, arith, leb-true}
 use Rattle.std.specs.Prelude.{slice_get, nat_le, ◌==◌}
 use Rattle.std.proofs.lemmas.Bool.{eqb-true, eq-eqb, le-leb}
-use Rattle.ev_machine.specs.Values.{Words, Value, Broken, Ref, Name, Answer, Promise, Sent, Msg, Naming, naming, name_of, mail_of, answer_of, host_of, same_name}
-use Rattle.ev_machine.specs.State.{Message, Known, React, Took, Sends, Reacts, Happened, Thing, Cell, Vat, change, dead, holding, Done, Gives, Throws, Ejects, Stops, Act, ◌>>=◌, ◌>>◌, and_then, give, look, tell, enqueue, alter, with_change, new_message, new_promise, begun}
+use Rattle.ev_machine.specs.Values.{Words, Value, Broken, Name, Answer, Promise, Sent, Msg, Naming, naming, name_of, mail_of, answer_of, host_of, same_name}
+use Rattle.ev_machine.specs.State.{Message, Took, Sends, Reacts, Happened, Thing, Cell, Vat, change, dead, holding, Done, Gives, Throws, Ejects, Stops, Act, ◌>>=◌, ◌>>◌, and_then, give, look, tell, enqueue, alter, new_message, new_promise, begun}
 use Rattle.ev_machine.specs.Refs as refs
 use Rattle.ev_machine.specs.Eval as eval
 use Rattle.ev_kernel.specs.declared.node.Node.{Node}
@@ -12,14 +12,12 @@ use Rattle.ev_machine_laws.specs.Steps.{After}
 use Rattle.ev_machine_laws.proofs.Keeps.{Keeps}
 use Rattle.ev_fate_laws.specs.Fate.{one as same_one, once as fate_once, sent_in}
 use Rattle.ev_fate_laws.specs.Laws.{numbered as fate_numbered, Accounted}
-use Rattle.ev_fate_laws.specs.Lasting.{Each, NamesMessage}
-use Rattle.ev_fate_laws.proofs.Counts.{sent_end}
 use Rattle.ev_fate_laws.proofs.PlacesLast.{Global}
 use Rattle.ev_fate_laws.proofs.PlacesSteps.{global_names}
 use Rattle.ev_fate_laws.proofs.PlacesRefs.{Fits, fits_at}
 use Rattle.ev_fate_laws.proofs.RefsAccount as account
 use Rattle.ev_carry_laws.specs.Carry.{load, fare}
-use Rattle.ev_carry_laws.specs.Sound.{Parts as WeighedParts, Sound as Weighed}
+use Rattle.ev_carry_laws.specs.Sound.{Sound as Weighed}
 use Rattle.ev_carry_laws.specs.Laws.{Lightened}
 use Rattle.ev_carry_laws.proofs.Light.{LightAt, Light, held_end, come_sound, light_react, light_enqueue}
 use Rattle.ev_carry_laws.proofs.RefsLight.{ride, PlaceSound, place_sound, cost_deliver, light_settle, light_break, light_resolve, light_send, light_reacts, cost_send_to}
@@ -28,8 +26,8 @@ use Rattle.ev_table_laws.proofs.Claims.{claims_end}
 use Rattle.ev_table_laws.proofs.Costs.{free, spared}
 use Rattle.ev_table_laws.proofs.RefsCosts as table
 use Rattle.ev_table_laws.proofs.RefsCosts.{free_pass, away_abroad}
-use Rattle.ev_name_laws.specs.Names.{Bit, Named, Mail, At, ValueOk, ValuesOk, names_in}
-use Rattle.ev_name_laws.proofs.Facts.{PlaceOk, Fact, Also, IsName, IsMail, IsVat, IsValue, AreValues, IsMessage, IsPlace, new_names, nothing, Holds}
+use Rattle.ev_name_laws.specs.Names.{At, ValueOk, ValuesOk}
+use Rattle.ev_name_laws.proofs.Facts.{PlaceOk, Fact, Also, IsVat, IsValue, AreValues, IsMessage, IsPlace, new_names, nothing, Holds}
 use Rattle.ev_name_laws.proofs.Care.{Care, Under, Makes, Sound, Ends, Gets, Fine, rise, fine_bind, fine_give, bind_number, fine_activation, then_unit, fine_tell, fine_new_message, fine_promise}
 use Rattle.ev_name_laws.proofs.CareRefs.{fine_settle, fine_resolve, fine_send, fine_react, fine_send_first}
 use Rattle.ev_name_laws.proofs.Looks.{follow_ok, place_ok}

@@ -1,5 +1,5 @@
 -- In each turn of a run, a message that is made in it and goes to a promise of another vat has no answer at its sender.
-use Rattle.std.proofs.Common.{◌≡◌, ℕ, ◌≤◌, ◌<◌, List, [], ◌∷◌, Some, refl, sym, ◌⊎◌, inl, inr, arith, length, subst}
+use Rattle.std.proofs.Common.{◌≡◌, ℕ, ◌≤◌, ◌<◌, List, ◌∷◌, Some, refl, sym, ◌⊎◌, arith, length, subst}
 use Rattle.std.specs.Prelude.{slice_get}
 use Rattle.ev_machine.specs.Values.{Name, Root, Answer, Sent, Msg, naming}
 use Rattle.ev_machine.specs.State.{Message, Vat, Done, Gives, Throws, Ejects, Stops, Act}

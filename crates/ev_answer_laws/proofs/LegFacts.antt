@@ -1,23 +1,22 @@
 -- What the counts of a world of a run say of a step there: all that the two legs of a message ask.
-use Rattle.std.proofs.Common.{◌≡◌, ℕ, zero, suc, ◌+◌, ◌≤◌, ◌<◌, List, [], ◌∷◌, Some, refl, sym, ap, ◌∙◌, ◌⊎◌, inl, inr, arith}
+use Rattle.std.proofs.Common.{◌≡◌, ℕ, ◌+◌, ◌≤◌, ◌<◌, List, [], ◌∷◌, Some, ap, ◌⊎◌, inl, inr, arith}
 use Rattle.std.specs.Prelude.{slice_get}
 use Rattle.ev_machine.specs.Values.{Name, Answer, Sent, Msg}
 use Rattle.ev_machine.specs.State.{Message, Known, Put, Vat}
 use Rattle.ev_machine_laws.specs.Steps.{Step}
 use Rattle.ev_run.specs.World.{Script, Link, World}
 use Rattle.ev_fate_laws.specs.Fate.{total, at_vat, of_note, on_link, sent_in}
-use Rattle.ev_fate_laws.specs.Laws.{numbered as fate_numbered, brought as fate_brought}
+use Rattle.ev_fate_laws.specs.Laws.{brought as fate_brought}
 use Rattle.ev_fate_laws.specs.Lasting.{StepComes}
-use Rattle.ev_carry_laws.specs.Carry.{held_at, load}
 use Rattle.ev_carry_laws.specs.Sound.{StepArrives}
 use Rattle.ev_carry_laws.specs.Laws.{leaves}
 use Rattle.ev_carry_laws.proofs.WorldLight.{VatSound}
-use Rattle.ev_table_laws.specs.Knowing.{claims, numbered_at, brought}
-use Rattle.ev_name_laws.specs.Names.{AllOf, IsAmong, IsMessageName, MessageOk, KnownOk, NoteOk, names_in, messages_of}
+use Rattle.ev_table_laws.specs.Knowing.{numbered_at, brought}
+use Rattle.ev_name_laws.specs.Names.{AllOf, IsAmong, MessageOk, KnownOk, names_in, messages_of}
 use Rattle.ev_name_laws.proofs.Facts.{all_map, note_up}
 use Rattle.ev_name_laws.proofs.Among.{messages_at}
 use Rattle.ev_name_laws.proofs.Run.{Had, Stands, name_had}
-use Rattle.ev_answer_laws.specs.Behind.{Avoids, NamesNot, IsKnownTo as KnowsIn}
+use Rattle.ev_answer_laws.specs.Behind.{Avoids, IsKnownTo as KnowsIn}
 use Rattle.ev_answer_laws.proofs.First.{PutsFirst, made_message}
 use Rattle.ev_answer_laws.proofs.FreshSteps.{FreshOut}
 use Rattle.ev_answer_laws.proofs.Links.{AtLink}

@@ -1,25 +1,25 @@
 -- The two legs of each message stay apart where a note arrives, and so in every world of a run.
-use Rattle.std.proofs.Common.{◌≡◌, ℕ, zero, suc, ◌+◌, ◌≤◌, true, false, List, [], ◌∷◌, ◌++◌, Option, Some, None, refl, sym, ap, ◌∙◌, ◌⊎◌, inl, inr, arith}
+use Rattle.std.proofs.Common.{◌≡◌, ℕ, zero, ◌+◌, ◌≤◌, true, false, List, [], ◌∷◌, ◌++◌, Option, Some, refl, sym, ap, ◌∙◌, ◌⊎◌, inl, inr, arith}
 use Rattle.std.specs.Prelude.{slice_get}
 use Rattle.ev_machine.specs.Values.{Name, Answer, Sent, Msg}
 use Rattle.ev_machine.specs.State.{Note, Vat}
 use Rattle.ev_machine_laws.specs.Steps.{Step, Receives}
 use Rattle.ev_run.specs.World as world
 use Rattle.ev_run.specs.World.{Script, Program, Entry, Link, World, Goes as Going, names_of, read_note, put_at, push_all, with_link, with_notes, severed_link, link_at}
-use Rattle.ev_fate_laws.specs.Fate.{total, at_vat, of_note, on_link, sent_in}
+use Rattle.ev_fate_laws.specs.Fate.{total, of_note, on_link, sent_in}
 use Rattle.ev_fate_laws.specs.Laws.{brought as fate_brought}
-use Rattle.ev_fate_laws.specs.Lasting.{Each, StepComes, NoteWell}
+use Rattle.ev_fate_laws.specs.Lasting.{Each, NoteWell}
 use Rattle.ev_fate_laws.proofs.RunAccount.{note_brings}
 use Rattle.ev_fate_laws.proofs.RunCounts.{AllApart, with_link_apart, with_link_changes}
 use Rattle.ev_fate_laws.proofs.RunWell.{note_comes, found_link}
 use Rattle.ev_carry_laws.specs.Carry.{weight, link_weight}
-use Rattle.ev_carry_laws.specs.Sound.{NoteSound, StepArrives}
+use Rattle.ev_carry_laws.specs.Sound.{NoteSound}
 use Rattle.ev_carry_laws.specs.Laws.{leaves}
 use Rattle.ev_carry_laws.proofs.WorldLight.{note_arrives, note_pays}
 use Rattle.ev_table_laws.specs.Knowing.{brought}
 use Rattle.ev_name_laws.specs.Names.{AllOf, IsAmong, NoteOk, names_in}
 use Rattle.ev_name_laws.specs.Runs.{KnowsOnce}
-use Rattle.ev_name_laws.proofs.Facts.{MayBe, all_map}
+use Rattle.ev_name_laws.proofs.Facts.{MayBe}
 use Rattle.ev_name_laws.proofs.Run.{Stands}
 use Rattle.ev_rest_laws.proofs.NotesLift as lift
 use Rattle.ev_answer_laws.specs.Behind.{NamesNot}
@@ -28,12 +28,12 @@ use Rattle.ev_answer_laws.proofs.FirstSteps.{FirstOut}
 use Rattle.ev_answer_laws.proofs.FreshSteps.{FreshOut}
 use Rattle.ev_answer_laws.proofs.Links.{AtLink, found_ends}
 use Rattle.ev_answer_laws.proofs.Moves.{Moved, Still, Severs, Drops, Steps, Arrives, Does, waiting, opened_hold, stepped_hold}
-use Rattle.ev_answer_laws.proofs.FollowRuns.{tail_of, there_next, fresh_none, opened_past, stepped_past, opened_holds, stepped_holds}
+use Rattle.ev_answer_laws.proofs.FollowRuns.{there_next, fresh_none, opened_past, stepped_past, opened_holds, stepped_holds}
 use Rattle.ev_answer_laws.proofs.Places.{note_most}
 use Rattle.ev_answer_laws.proofs.Counts.{Counted, world_one, opened_counted, stepped_counted}
 use Rattle.ev_answer_laws.proofs.Legs.{Facts, apart_next, early_next, self_next}
 use Rattle.ev_answer_laws.proofs.LegFacts.{facts}
-use Rattle.ev_answer_laws.proofs.LegRuns.{MailBits, Legs, NoneFrom, dry_next, no_more, cut_legs, taken_legs, self_none, none_next, brings_mail, Before, stands_of, first_mails, nowhere_not, unknown_not, alone_legs}
+use Rattle.ev_answer_laws.proofs.LegRuns.{MailBits, Legs, dry_next, cut_legs, taken_legs, self_none, none_next, brings_mail, Before, stands_of, first_mails, nowhere_not, unknown_not, alone_legs}
 
 -- ---- the note that arrives
 

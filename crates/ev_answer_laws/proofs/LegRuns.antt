@@ -1,43 +1,37 @@
 -- In every world of a run the two legs of each message are apart.
-use Rattle.std.proofs.Common.{◌≡◌, ℕ, zero, suc, ◌+◌, ◌≤◌, Bool, true, false, List, [], ◌∷◌, ◌++◌, Option, Some, None, refl, sym, ap, ◌∙◌, ◌⊎◌, inl, inr, arith, subst}
+use Rattle.std.proofs.Common.{◌≡◌, ℕ, zero, suc, ◌+◌, ◌≤◌, Bool, true, false, List, [], ◌∷◌, ◌++◌, Option, Some, None, refl, sym, ap, ◌∙◌, ◌⊎◌, inl, inr, arith}
 use Rattle.std.specs.Prelude.{slice_get}
 use Rattle.ev_machine.specs.Values.{Name, Answer, Sent, Msg}
 use Rattle.ev_machine.specs.State.{Note, Deliver, Open, Ask, SettledTo, Elsewhere, Shorten, Put, Vat, GiftEntry}
 use Rattle.ev_machine_laws.specs.Steps.{Step, Opens as Starts, Takes, Receives, Notices}
-use Rattle.ev_run.specs.World as world
-use Rattle.ev_run.specs.World.{Script, Program, Entry, Link, World, Goes as Going, names_of, read_note, put_at, pushed, push_all, with_link, with_notes, severed_link, link_at, is_link}
-use Rattle.ev_fate_laws.specs.Fate.{total, at_vat, in_note, of_note, on_link, one as same_one, sent_in}
+use Rattle.ev_run.specs.World.{Script, Link, World, read_note, put_at, pushed, push_all, with_link, with_notes, severed_link, link_at, is_link}
+use Rattle.ev_fate_laws.specs.Fate.{total, in_note, of_note, on_link, sent_in}
 use Rattle.ev_fate_laws.specs.Laws.{brought as fate_brought}
-use Rattle.ev_fate_laws.specs.Lasting.{Each, StepComes, NoteWell}
-use Rattle.ev_fate_laws.proofs.RunAccount.{note_brings}
-use Rattle.ev_fate_laws.proofs.RunCounts.{AllApart, with_link_apart, with_link_changes, ends_of}
-use Rattle.ev_fate_laws.proofs.RunWell.{note_comes, found_link}
+use Rattle.ev_fate_laws.specs.Lasting.{StepComes}
+use Rattle.ev_fate_laws.proofs.RunCounts.{AllApart, ends_of}
 use Rattle.ev_carry_laws.specs.Carry.{weight, link_weight}
-use Rattle.ev_carry_laws.specs.Sound.{NoteSound, StepArrives}
+use Rattle.ev_carry_laws.specs.Sound.{StepArrives}
 use Rattle.ev_carry_laws.specs.Laws.{leaves}
-use Rattle.ev_carry_laws.proofs.WorldLight.{note_arrives, note_pays}
 use Rattle.ev_table_laws.specs.Knowing.{brings, brought, new_answer}
 use Rattle.ev_name_laws.specs.Names.{Bit, Named, Mail, Drew, At, Off, AllOf, IsAmong, IsMessageName, NoteOk, names_in}
-use Rattle.ev_name_laws.specs.Runs.{KnowsOnce}
-use Rattle.ev_name_laws.proofs.Facts.{MayBe, all_map, note_up}
+use Rattle.ev_name_laws.proofs.Facts.{MayBe, note_up}
 use Rattle.ev_name_laws.proofs.Among.{get_put}
 use Rattle.ev_name_laws.proofs.Run.{Stands, Told}
 use Rattle.ev_rest_laws.proofs.LinksCut.{fits_notes, fits_severed}
-use Rattle.ev_rest_laws.proofs.NotesLift as lift
 use Rattle.ev_rest_laws.proofs.RunLift.{link_ok}
 use Rattle.ev_answer_laws.specs.Behind.{Avoids, NamesNot, Bears, ComesFirst, IsKnownTo as KnowsIn}
 use Rattle.ev_answer_laws.proofs.First.{PutsFirst, among_dec, made_message}
 use Rattle.ev_answer_laws.proofs.FirstSteps.{FirstOut}
 use Rattle.ev_answer_laws.proofs.FreshSteps.{FreshOut}
-use Rattle.ev_answer_laws.proofs.Links.{AtLink, with_any, push_others, push_keeps, found_ends}
-use Rattle.ev_answer_laws.proofs.Moves.{Moved, Still, Severs, Drops, Steps, Arrives, Does, IsAlone, waiting, opened_hold, stepped_hold}
+use Rattle.ev_answer_laws.proofs.Links.{AtLink, with_any, push_others, push_keeps}
+use Rattle.ev_answer_laws.proofs.Moves.{Does, IsAlone, waiting}
 use Rattle.ev_answer_laws.proofs.Follow.{knows_not, Followed}
-use Rattle.ev_answer_laws.proofs.FollowRuns.{Past, Holds, same_link, tail_of, there_next, fresh_none, opened_past, stepped_past, opened_holds, stepped_holds}
-use Rattle.ev_answer_laws.proofs.Telling.{mails, tells, note_not, brings_parts, avoids_never, NeverNew}
-use Rattle.ev_answer_laws.proofs.Places.{head_link, note_most}
+use Rattle.ev_answer_laws.proofs.FollowRuns.{Past, Holds, same_link, tail_of}
+use Rattle.ev_answer_laws.proofs.Telling.{mails, note_not, brings_parts, avoids_never, NeverNew}
+use Rattle.ev_answer_laws.proofs.Places.{head_link}
 use Rattle.ev_answer_laws.proofs.Onward.{mail_most}
-use Rattle.ev_answer_laws.proofs.Counts.{Counted, world_one, opened_counted, stepped_counted}
-use Rattle.ev_answer_laws.proofs.Legs.{ApartIn, EarlyIn, SelfNotIn, SelflessIn, Somewhere, Nowhere, Facts, apart_next, early_next, self_next}
+use Rattle.ev_answer_laws.proofs.Counts.{Counted, world_one}
+use Rattle.ev_answer_laws.proofs.Legs.{ApartIn, EarlyIn, SelfNotIn, SelflessIn, Facts, apart_next, early_next, self_next}
 use Rattle.ev_answer_laws.proofs.LegFacts.{facts}
 
 -- ---- links

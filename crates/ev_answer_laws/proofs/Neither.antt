@@ -15,13 +15,21 @@ use Rattle.ev_name_laws.proofs.Run.{Had, Told, Stands}
 use Rattle.ev_rest_laws.proofs.RunLift.{link_ok}
 use Rattle.ev_table_laws.specs.Knowing.{once, one, onward, onward_all, claims, numbered, new_name, new_answer}
 use Rattle.ev_table_laws.specs.Runs.{allowed, other, brings_here}
-use Rattle.ev_answer_laws.specs.Bring.{IsNeither, NotesBringNewRoots}
+use Rattle.ev_answer_laws.specs.Bring.{IsNoGift}
 use Rattle.ev_answer_laws.proofs.First.{made_message}
-use Rattle.ev_answer_laws.proofs.FollowRuns.{opened_past, stepped_past}
-use Rattle.ev_answer_laws.proofs.Telling.{IsNoGift, has, NeverNew, avoids_never, tells, mails, note_tells, note_not, brings_parts, here_most, one_or, has_true, has_grows}
+use Rattle.ev_answer_laws.proofs.Telling.{has, NeverNew, avoids_never, tells, mails, note_tells, note_not, brings_parts, here_most, one_or, has_true, has_grows}
 
 true_false : true ≡ false → ⊥
 true_false e = cc
+
+-- it is neither an answer nor a gift
+abbrev pub IsNeither : Name → Type 0
+IsNeither (Root w) = Unit {0}
+IsNeither (Object w i) = Unit {0}
+IsNeither (Promise w i) = Unit {0}
+IsNeither (Answer h m) = ⊥
+IsNeither (Gift h i) = ⊥
+IsNeither (Sent m) = Unit {0}
 
 no_gift : (x : Name) → IsNeither x → IsNoGift x
 no_gift (Root w) h = tt
@@ -245,10 +253,3 @@ module _ (script : Script) (w : World) (from to : ℕ) (l : Link) (n : Note Name
       sent_never (Drew j) h = tt
       sent_never (At u) h = tt
       sent_never (Off u) h = tt
-
-pub notes_bring_new_roots : NotesBringNewRoots
-unfolding names_of
-notes_bring_new_roots script once = (
-  λ ps rest w i e from to l n ns s a b c x k. brings_neither script w from to l n ns s (opened_past script once ps rest w i e).0 a b c x k,
-  λ w y es k o e from to l n ns s a b c x j. brings_neither script y from to l n ns s (stepped_past script once w y es k o e).0 a b c x j,
-)

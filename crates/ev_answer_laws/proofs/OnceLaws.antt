@@ -1,19 +1,18 @@
 -- What the worlds of a run are, as laws of messages and their answers.
-use Rattle.std.proofs.Common.{◌≡◌, ℕ, zero, suc, ◌+◌, ◌≤◌, List, [], ◌∷◌, Option, Some, None, refl, sym, ap, ◌⊎◌, inl, inr, arith, subst}
+use Rattle.std.proofs.Common.{◌≡◌, ℕ, zero, suc, ◌≤◌, List, [], ◌∷◌, Option, Some, None, refl, ap, ◌⊎◌, inl, inr, arith, subst}
 use Rattle.std.specs.Prelude.{slice_get}
-use Rattle.ev_machine.specs.Values.{Name, Answer, Sent, Msg}
+use Rattle.ev_machine.specs.Values.{Name, Answer, Msg}
 use Rattle.ev_machine.specs.State.{Known, Vat}
 use Rattle.ev_run.specs.World.{Script, World}
-use Rattle.ev_fate_laws.specs.Laws.{numbered as fate_numbered}
 use Rattle.ev_table_laws.specs.Knowing.{one, once, claims, numbered, numbered_at}
-use Rattle.ev_table_laws.specs.Runs.{other, allowed}
+use Rattle.ev_table_laws.specs.Runs.{allowed}
 use Rattle.ev_table_laws.proofs.Bounds.{allowed_once}
 use Rattle.ev_name_laws.specs.Names.{IsAmong, names_in}
 use Rattle.ev_answer_laws.specs.Once.{MessagesComeBeforeAnswers, MessagesGoOnBeforeAnswers, AnswersAreKnownOnce}
 use Rattle.ev_answer_laws.proofs.Follow.{eq_dec}
 use Rattle.ev_answer_laws.proofs.Onward.{self_one, claims_known}
 use Rattle.ev_answer_laws.proofs.Counts.{same_numbers}
-use Rattle.ev_answer_laws.proofs.Single.{Most, Single}
+use Rattle.ev_answer_laws.proofs.Single.{Most}
 use Rattle.ev_answer_laws.proofs.SingleRuns.{Both, opened_both, stepped_both}
 
 among_at : (x : Name) (xs : List Name) (i : ℕ) → slice_get xs i ≡ Some x → IsAmong x xs

@@ -1,31 +1,31 @@
 -- The first note on a link brings each answer once at most, and none that is claimed at the receiver, where none is claimed twice.
-use Rattle.std.proofs.Common.{◌≡◌, ℕ, zero, suc, ◌+◌, ◌≤◌, ◌<◌, Bool, true, false, List, [], ◌∷◌, ◌++◌, Option, Some, None, refl, sym, ap, ◌∙◌, ◌⊎◌, inl, inr, arith, length, ◌==◌, ◌&&◌}
-use Rattle.std.specs.Prelude.{slice_get, nat_le}
+use Rattle.std.proofs.Common.{◌≡◌, ℕ, zero, suc, ◌+◌, ◌≤◌, ◌<◌, Bool, true, false, List, ◌∷◌, Option, Some, refl, sym, ap, ◌∙◌, ◌⊎◌, inl, inr, arith, ◌==◌, ◌&&◌}
+use Rattle.std.specs.Prelude.{slice_get}
 use Rattle.std.proofs.lemmas.Bool.{eqb-true, eq-eqb}
 use Rattle.ev_machine.specs.Values.{Name, Root, Object, Promise, Answer, Gift, Sent, Msg, same_name, same_msg, answer_of, host_of}
-use Rattle.ev_machine.specs.State.{Known, Note, Deliver, Open, Ask, SettledTo, Elsewhere, Shorten, Passeds, GiftEntry, Vat}
-use Rattle.ev_machine.specs.Arrive.{Incoming, Old, New}
-use Rattle.ev_run.specs.World.{Script, Link, World, link_at, read_note, read_name, read_all, is_old, names_of}
+use Rattle.ev_machine.specs.State.{Note, Deliver, Open, Ask, SettledTo, Elsewhere, Shorten, GiftEntry, Vat}
+use Rattle.ev_machine.specs.Arrive.{Incoming}
+use Rattle.ev_run.specs.World.{Script, Link, World, link_at, read_note, read_name, is_old}
 use Rattle.ev_fate_laws.specs.Fate.{total, at_vat, in_note, of_note, on_link, one as same_one, once as same_once}
 use Rattle.ev_fate_laws.specs.Laws.{numbered as fate_numbered}
-use Rattle.ev_carry_laws.specs.Carry.{fare, weight, held_at, link_weight}
+use Rattle.ev_carry_laws.specs.Carry.{fare, weight}
 use Rattle.ev_carry_laws.specs.Sound.{NoteSound}
-use Rattle.ev_table_laws.specs.Knowing.{once, one, claims, new_in_all, new_name, brings}
+use Rattle.ev_table_laws.specs.Knowing.{once, one, claims, brings}
 use Rattle.ev_table_laws.specs.Runs.{other, is_own, is_own_name, answer_here, brings_here}
-use Rattle.ev_name_laws.specs.Names.{Bit, Named, Mail, AllOf, IsAmong, IsMessageMade, IsMessageName, NoteOk, names_in, messages_of}
+use Rattle.ev_name_laws.specs.Names.{AllOf, IsAmong, IsMessageMade, IsMessageName, NoteOk, names_in, messages_of}
 use Rattle.ev_name_laws.proofs.Facts.{MayBe, note_up}
 use Rattle.ev_name_laws.proofs.Among.{messages_at}
-use Rattle.ev_name_laws.proofs.SameNames.{same_is, has_among}
-use Rattle.ev_name_laws.proofs.Run.{Stands, Told}
+use Rattle.ev_name_laws.proofs.SameNames.{same_is}
+use Rattle.ev_name_laws.proofs.Run.{Told}
 use Rattle.ev_rest_laws.proofs.RunLift.{link_ok}
 use Rattle.ev_answer_laws.specs.Behind.{Avoids, NamesNot, IsKnownTo as KnowsIn}
-use Rattle.ev_answer_laws.proofs.First.{among_dec, made_message}
+use Rattle.ev_answer_laws.proofs.First.{among_dec}
 use Rattle.ev_answer_laws.proofs.Follow.{eq_dec, knows_not}
 use Rattle.ev_answer_laws.proofs.FollowRuns.{tail_of}
 use Rattle.ev_answer_laws.proofs.Telling.{has, has_true, tells, mails, note_tells, note_not, brings_parts, here_most, avoids_never, NeverNew}
-use Rattle.ev_answer_laws.proofs.Places.{total_at, link_total, held_places, note_most}
-use Rattle.ev_answer_laws.proofs.Onward.{Mailed, claims_known, claims_held, claims_own}
-use Rattle.ev_answer_laws.proofs.Counts.{Counted, world_one, numbered_most, numbered_full}
+use Rattle.ev_answer_laws.proofs.Places.{total_at, link_total, held_places}
+use Rattle.ev_answer_laws.proofs.Onward.{claims_held, claims_own}
+use Rattle.ev_answer_laws.proofs.Counts.{world_one, numbered_full}
 use Rattle.ev_answer_laws.proofs.Legs.{known_dec}
 use Rattle.ev_answer_laws.proofs.LegFacts.{mailed_at, known_made}
 use Rattle.ev_answer_laws.proofs.LegRuns.{MailBits, Legs, no_more, brings_mail, mails_most, Before, stands_of, first_mails, sender_of, nowhere_not, unknown_not}

@@ -1,22 +1,20 @@
 -- In every world of a run each answer is claimed once at most at each vat, and the notes that arrive bring each name but gifts as new.
-use Rattle.std.proofs.Common.{◌≡◌, ℕ, zero, suc, ◌+◌, ◌≤◌, Bool, true, false, List, [], ◌∷◌, ◌++◌, Option, Some, None, refl, sym, ap, ◌∙◌, ◌⊎◌, inl, inr, arith, length, map, subst, ◌==◌}
-use Rattle.std.specs.Prelude.{slice_get, nat_le}
+use Rattle.std.proofs.Common.{◌≡◌, ℕ, zero, suc, ◌+◌, ◌≤◌, List, [], ◌∷◌, ◌++◌, Option, Some, refl, ◌⊎◌, inl, inr, arith, length, map, subst}
+use Rattle.std.specs.Prelude.{slice_get}
 use Rattle.std.proofs.lemmas.Bool.{eq-eqb}
-use Rattle.ev_machine.specs.Values.{Words, Name, Root, Object, Promise, Answer, Gift, Sent, Msg, host_of, naming, same_name}
-use Rattle.ev_machine.specs.State.{Known, Passeds, Note, Deliver, Open, Ask, SettledTo, Elsewhere, Shorten, Vat, Done, Gives, GiftEntry, begun}
+use Rattle.ev_machine.specs.Values.{Words, Name, Root, Object, Promise, Answer, Gift, Sent, Msg, host_of, same_name}
+use Rattle.ev_machine.specs.State.{Passeds, Note, Deliver, Open, Ask, SettledTo, Elsewhere, Shorten, Vat, Gives, begun}
 use Rattle.ev_machine.specs.Arrive as arrive
 use Rattle.ev_machine.specs.Arrive.{Incoming, Old, New}
-use Rattle.ev_machine_laws.specs.Steps.{Step, Receives, does, After}
+use Rattle.ev_machine_laws.specs.Steps.{Step, Receives, does}
 use Rattle.ev_run.specs.Draws.{draw_word}
 use Rattle.ev_run.specs.World as world
 use Rattle.ev_run.specs.World.{Script, Program, Entry, Link, World, Goes as Going, names, names_of, read_note, read_name, read_all, is_old, readied, put_at, link_at}
-use Rattle.ev_fate_laws.specs.Laws.{numbered as fate_numbered}
-use Rattle.ev_table_laws.specs.Knowing.{one, once, claims, onward_all, numbered, numbered_at, new_in_all, brings, brought, Knowing}
+use Rattle.ev_table_laws.specs.Knowing.{one, once, claims, onward_all, numbered, numbered_at, new_in_all, brought, Knowing}
 use Rattle.ev_table_laws.specs.Runs.{other, allowed, is_own, is_own_name, answer_here, brings_here}
 use Rattle.ev_table_laws.proofs.OwnTargets.{deliver_near}
-use Rattle.ev_name_laws.specs.Names.{IsAmong, IsMessageName, NoteOk, names_in}
+use Rattle.ev_name_laws.specs.Names.{IsMessageName, NoteOk, names_in}
 use Rattle.ev_name_laws.specs.Runs.{KnowsOnce}
-use Rattle.ev_name_laws.proofs.Run.{Stands}
 use Rattle.ev_answer_laws.specs.Bring.{IsNoGift, NotesBringNewButGifts}
 use Rattle.ev_answer_laws.proofs.Moves.{Moved, Still, Severs, Drops, Steps, Arrives, Does, IsAlone, opened_hold, stepped_hold}
 use Rattle.ev_answer_laws.proofs.Follow.{put_cases}

@@ -11,15 +11,7 @@ use Rattle.ev_name_laws.proofs.Among.{among_more, among_last}
 use Rattle.ev_table_laws.specs.Knowing.{once, one, new_name, new_in_value, new_in, new_in_all, new_answer, new_gift_here, brings}
 use Rattle.ev_table_laws.specs.Runs.{is_own, answer_here, brings_here}
 use Rattle.ev_answer_laws.specs.Behind.{Avoids}
-
--- it is no gift
-abbrev pub IsNoGift : Name → Type 0
-IsNoGift (Root w) = Unit {0}
-IsNoGift (Object w i) = Unit {0}
-IsNoGift (Promise w i) = Unit {0}
-IsNoGift (Answer h m) = Unit {0}
-IsNoGift (Gift h i) = ⊥
-IsNoGift (Sent m) = Unit {0}
+use Rattle.ev_answer_laws.specs.Bring.{IsNoGift}
 
 true_false : (b : Bool) → b ≡ true → b ≡ false → ⊥
 true_false b e f = cc

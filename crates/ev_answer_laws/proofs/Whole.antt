@@ -1,5 +1,5 @@
 -- Each entry brings what is new where it does so in every world of the run.
-use Rattle.std.proofs.Common.{◌≡◌, ℕ, zero, suc, ◌+◌, ◌≤◌, List, [], ◌∷◌, ◌++◌, Some, refl, sym, ap, ◌∙◌, arith, length, subst}
+use Rattle.std.proofs.Common.{◌≡◌, ℕ, zero, suc, ◌+◌, List, [], ◌∷◌, ◌++◌, Some, refl, arith, length, subst}
 use Rattle.std.specs.Prelude.{slice_get}
 use Rattle.ev_machine.specs.Values.{Name, Root, Object, Promise, Answer, Gift, Sent}
 use Rattle.ev_machine.specs.State.{Note, Vat}
@@ -8,7 +8,7 @@ use Rattle.ev_run.specs.World.{Script, Entry, Turn, Carry, CutLink, NoticeLink, 
 use Rattle.ev_name_laws.specs.Runs.{KnowsOnce}
 use Rattle.ev_name_laws.proofs.Among.{length_end}
 use Rattle.ev_table_laws.specs.Runs.{BringsNew, EntryBringsNew, NotesBringNew}
-use Rattle.ev_answer_laws.specs.Whole.{BringsNewGifts, GiftsComeNew, NotesBringNewWhereGiftsDo}
+use Rattle.ev_answer_laws.specs.Whole.{GiftsComeNew, NotesBringNewWhereGiftsDo}
 use Rattle.ev_answer_laws.proofs.Moves.{steps_end}
 use Rattle.ev_answer_laws.proofs.SingleRuns.{notes_bring_new_but_gifts}
 
@@ -29,8 +29,11 @@ module _ (script : Script) (once : KnowsOnce script) (gifts : GiftsComeNew scrip
 
   entries_bring : (es ds : List Entry) (x : World) → world.steps_from script ds k w ≡ Going x → NotesBringNew script es (k + length ds) x
   entries_bring [] ds x e = tt
-  entries_bring (entry ∷ es) ds x e = (entry_brings x ds e entry, λ y f. let done = steps_end script ds entry k w x y e f in let n : k + length (ds ++ entry ∷ []) ≡ suc (k + length ds) = (let l = length_end ds entry in omega arith) in
-      subst (λ j. NotesBringNew script es j y) n (entries_bring es (ds ++ entry ∷ []) y done))
+  entries_bring (entry ∷ es) ds x e = (
+    entry_brings x ds e entry,
+    λ y f. let done = steps_end script ds entry k w x y e f in let n : k + length (ds ++ entry ∷ []) ≡ suc (k + length ds) = (let l = length_end ds entry in omega arith) in
+        subst (λ j. NotesBringNew script es j y) n (entries_bring es (ds ++ entry ∷ []) y done),
+  )
 
   pub brings_from : (es : List Entry) → NotesBringNew script es k w
   unfolding world.steps_from

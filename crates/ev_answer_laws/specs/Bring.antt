@@ -1,4 +1,4 @@
--- In every run the notes that arrive bring what is new: of names that are neither answers nor gifts.
+-- In every run the notes that arrive bring what is new, of all names but gifts.
 use Rattle.std.specs.Prelude.{◌≡◌, ℕ, ◌+◌, ◌≤◌, List, ◌∷◌, Some, slice_get, length}
 use Rattle.ev_machine.specs.Values.{Name, Root, Object, Promise, Answer, Gift, Sent}
 use Rattle.ev_machine.specs.State.{Note, Vat}
@@ -6,20 +6,6 @@ use Rattle.ev_run.specs.World.{Link, link_at, read_note, names_of}
 use Rattle.ev_name_laws.specs.Runs.{InRuns}
 use Rattle.ev_table_laws.specs.Knowing.{claims}
 use Rattle.ev_table_laws.specs.Runs.{allowed, brings_here}
-
--- it is neither an answer nor a gift
-abbrev pub IsNeither : Name → Type 0
-IsNeither (Root w) = Unit {0}
-IsNeither (Object w i) = Unit {0}
-IsNeither (Promise w i) = Unit {0}
-IsNeither (Answer h m) = ⊥
-IsNeither (Gift h i) = ⊥
-IsNeither (Sent m) = Unit {0}
-
--- The first note on each link brings each such name once at most, and none that is claimed at the receiver.
-abbrev pub NotesBringNewRoots : Type 0
-NotesBringNewRoots = InRuns (λ w. (from to : ℕ) (l : Link) (n : Note Name) (ns : List (Note Name)) (s : Vat Name) → link_at from to w.links ≡ Some l → l.notes ≡ n ∷ ns → slice_get w.vats to ≡ Some s
-    → (x : Name) → IsNeither x → claims to x s.known + brings_here to x from s.gifts (read_note (names_of s) n) ≤ allowed to x s (length w.drawn))
 
 -- it is no gift
 abbrev pub IsNoGift : Name → Type 0

@@ -2,7 +2,7 @@
 use Rattle.std.specs.Prelude.{◌≡◌, ℕ, ◌≤◌, Some, slice_get}
 use Rattle.ev_machine.specs.Values.{Name, Answer, Sent, Msg}
 use Rattle.ev_machine.specs.State.{Vat}
-use Rattle.ev_run.specs.World.{Link, World, link_at}
+use Rattle.ev_run.specs.World.{Link, link_at}
 use Rattle.ev_fate_laws.specs.Fate.{on_link}
 use Rattle.ev_carry_laws.specs.Carry.{held_at, link_weight}
 use Rattle.ev_name_laws.specs.Names.{IsAmong, names_in}

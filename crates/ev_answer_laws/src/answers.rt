@@ -3,7 +3,7 @@
 //! knows a vat, or that it knows itself, which the reading of scripts refuses.
 
 ghost use Rattle.ev_answer_laws.specs.Behind.{AnswersFollowMessages, NotesNameWhatIsKnown};
-ghost use Rattle.ev_answer_laws.specs.Bring.{NotesBringNewButGifts, NotesBringNewRoots};
+ghost use Rattle.ev_answer_laws.specs.Bring.{NotesBringNewButGifts};
 ghost use Rattle.ev_answer_laws.specs.Once.{MessagesComeBeforeAnswers, MessagesGoOnBeforeAnswers, AnswersAreKnownOnce};
 ghost use Rattle.ev_answer_laws.specs.Whole.{NotesBringNewWhereGiftsDo};
 
@@ -17,12 +17,6 @@ pub fn notes_name_what_is_known()
 /// names the answer.
 pub fn answers_follow_messages()
     ensures { AnswersFollowMessages }
-{}
-
-/// The first note on each link brings to its receiver each name once at most that is neither an answer
-/// nor a gift (a root, or a promise that was made by `Ref.promise()`), and none that is known there.
-pub fn notes_bring_new_roots()
-    ensures { NotesBringNewRoots }
 {}
 
 /// The first note on each link brings to its receiver each name but gifts once at most, and none that
