@@ -74,12 +74,6 @@ module _ (v : ℕ) (m : Msg) (mine : m.sender ≡ v) where
   abbrev pub Sames : Vat Name → Vat Name → Type 0
   Sames s t = (fate_numbered v s.messages Id ≡ fate_numbered v t.messages Id) × (numbered_at v X s ≡ numbered_at v X t)
 
-  here_true : (v == m.sender) ≡ true
-  here_true = eq-eqb v m.sender (sym mine)
-
-  where_made : (c : ℕ) (n k l : ℕ) → nat_le (suc n) k ≡ nat_le (suc n) l → once (nat_le (suc n) k) ≡ once (nat_le (suc n) l)
-  where_made c n k l e = ap once e
-
   pub same_sames : (s t : Vat Name) → nat_le (suc m.number) s.messages ≡ nat_le (suc m.number) t.messages → Sames s t
   unfolding fate_numbered numbered_at numbered
   same_sames s t e = (ap (λ b. elim (v == m.sender) [ true ↦ fate_once b | false ↦ 0 ]) e, ap (λ b. elim (v == m.sender) [ true ↦ once b | false ↦ 0 ]) e)

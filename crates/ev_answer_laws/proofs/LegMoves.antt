@@ -27,7 +27,7 @@ use Rattle.ev_answer_laws.proofs.First.{PutsFirst}
 use Rattle.ev_answer_laws.proofs.FirstSteps.{FirstOut}
 use Rattle.ev_answer_laws.proofs.FreshSteps.{FreshOut}
 use Rattle.ev_answer_laws.proofs.Links.{AtLink, found_ends}
-use Rattle.ev_answer_laws.proofs.Moves.{Moved, Still, Severs, Drops, Steps, Arrives, Does, waiting, opened_hold, stepped_hold}
+use Rattle.ev_answer_laws.proofs.Moves.{Moved, Still, Severs, Drops, Steps, Arrives, Does, waiting}
 use Rattle.ev_answer_laws.proofs.FollowRuns.{there_next, fresh_none, opened_past, stepped_past, opened_holds, stepped_holds}
 use Rattle.ev_answer_laws.proofs.Places.{note_most}
 use Rattle.ev_answer_laws.proofs.Counts.{Counted, world_one, opened_counted, stepped_counted}
@@ -165,9 +165,3 @@ module _ (script : Script) where
 
     pub stepped_before : (w x : World) (es : List Entry) (k : ℕ) → world.open_from script zero script.vats (world.begins script) ≡ Going w → world.steps_from script es k w ≡ Going x → Before script x
     stepped_before w x es k e i = record { past = stepped_past script once w x es k e i; counted = stepped_counted script w x es k e i; holds = stepped_holds script once w x es k e i }
-
-    pub opened_legs : (ps rest : List Program) (w : World) → script.vats ≡ ps ++ rest → world.open_from script zero ps (world.begins script) ≡ Going w → LegsOf w
-    opened_legs = opened_hold script (Before script) opened_before stepped_before (stands_of script) LegsOf legs_on begins_legs
-
-    pub stepped_legs : (w x : World) (es : List Entry) (k : ℕ) → world.open_from script zero script.vats (world.begins script) ≡ Going w → world.steps_from script es k w ≡ Going x → LegsOf x
-    stepped_legs = stepped_hold script (Before script) opened_before stepped_before (stands_of script) LegsOf legs_on begins_legs

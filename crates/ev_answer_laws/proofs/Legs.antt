@@ -129,10 +129,6 @@ module _ (vs : List (Vat Name)) (v : ℕ) (s t : Vat Name) (ls : List Link) (the
     unfolding load
     load_put = omega arith
 
-    load_both : held_at M t.known + put_weight M t.outbox ≤ load M t
-    unfolding load
-    load_both = omega arith
-
     here : held_at M s.known + arr ≤ 1
     here = let a = f.vat_arr v s there in let b = held_places M s in omega arith
 

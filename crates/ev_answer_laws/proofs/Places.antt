@@ -202,23 +202,3 @@ head_link true k l o e = inl (refl, same)
     same : k ≡ l
     same = cc
 head_link false k l o e = inr (refl, e)
-
-ends_at : (a b : ℕ) (l : Link) (p q : Bool) → (l.from == a) ≡ p → (l.to == b) ≡ q → elim p [ true ↦ q | false ↦ false ] ≡ true → (l.from ≡ a) × (l.to ≡ b)
-ends_at a b l true true e f i = (eqb-true l.from a e, eqb-true l.to b f)
-ends_at a b l true false e f i = cc
-ends_at a b l false q e f i = cc
-
-ends_are : (a b : ℕ) (l : Link) → is_link a b l ≡ true → (l.from ≡ a) × (l.to ≡ b)
-unfolding is_link
-ends_are a b l e = ends_at a b l (l.from == a) (l.to == b) refl refl e
-
-pub link_two : (f : Link → ℕ) (a b c d : ℕ) (ls : List Link) (k l : Link) → ((a ≡ c) × (b ≡ d) → ⊥) → link_at a b ls ≡ Some k → link_at c d ls ≡ Some l → f k + f l ≤ total f ls
-unfolding link_at total
-link_two f a b c d [] k l n e g = cc
-link_two f a b c d (j ∷ ls) k l n e g = either (λ x y. link_two f a b c d ls k l n x y) (head_link (is_link a b j) j k (link_at a b ls) e) (head_link (is_link c d j) j l (link_at c d ls) g)
-  where
-    either : (link_at a b ls ≡ Some k → link_at c d ls ≡ Some l → f k + f l ≤ total f ls) → ((is_link a b j ≡ true) × (j ≡ k)) ⊎ ((is_link a b j ≡ false) × (link_at a b ls ≡ Some k)) → ((is_link c d j ≡ true) × (j ≡ l)) ⊎ ((is_link c d j ≡ false) × (link_at c d ls ≡ Some l)) → f k + f l ≤ f j + total f ls
-    either rest (inl x) (inl y) = let p = ends_are a b j x.0 in let q = ends_are c d j y.0 in absurd (n (sym p.0 ∙ q.0, sym p.1 ∙ q.1))
-    either rest (inl x) (inr y) = let r = link_total f c d ls l y.1 in rw (sym x.1) (omega arith)
-    either rest (inr x) (inl y) = let r = link_total f a b ls k x.1 in rw (sym y.1) (omega arith)
-    either rest (inr x) (inr y) = let r = rest x.1 y.1 in omega arith
