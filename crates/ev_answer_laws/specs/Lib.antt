@@ -1,0 +1,4 @@
+pub mod Behind
+pub mod Bring
+pub mod Once
+pub mod Whole
