@@ -9,4 +9,4 @@ pub mod Steps
 pub mod Bounds
 pub mod OwnTargets
 pub mod KnownRuns
-pub mod Tables
+pub mod VatTables
