@@ -1,0 +1,10 @@
+pub mod Asking
+pub mod RefsAsking
+pub mod ArriveAsking
+pub mod Told
+pub mod LinksKnown
+pub mod WireRuns
+pub mod Arrivals
+pub mod Laws
+pub mod Exported
+pub mod LinksGo

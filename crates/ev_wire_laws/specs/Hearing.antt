@@ -30,11 +30,6 @@ unfoldable pub next : {A B : Type 0} → (A → Hearing B) → Option (Heard A) 
 next f (Some x) = f x.read x.imports x.known
 next f None = None
 
--- one thing, and then another
-unfoldable pub ◌then◌ : {A B : Type 0} → Hearing A → (A → Hearing B) → Hearing B
-(m then f) imports known = next f (m imports known)
-
-infixr 5 ◌then◌
 
 -- the next position is that of what is first exported here
 unfoldable pub with_position : ℕ → Local → List Local → List Local

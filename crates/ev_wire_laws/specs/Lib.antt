@@ -1,3 +1,5 @@
 pub mod Tables
 pub mod Hearing
 pub mod Alike
+pub mod Asked
+pub mod Known

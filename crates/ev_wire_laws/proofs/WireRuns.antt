@@ -1,0 +1,335 @@
+-- In every world of a run the two vats of each link know what its notes ask for and tell.
+use Rattle.std.proofs.Common.{◌≡◌, ℕ, zero, suc, Bool, true, false, List, [], ◌∷◌, ◌++◌, Option, Some, None, refl, sym, ap, subst, ◌∙◌, ◌⊎◌, inl, inr, length, append_assoc, append-nil, ◌==◌}
+use Rattle.std.specs.Prelude.{slice_get}
+use Rattle.std.proofs.lemmas.Bool.{eqb-true}
+use Rattle.ev_machine.specs.Values.{Name, Root, Object, Promise, Answer, Gift, Sent as Message_name, naming}
+use Rattle.ev_machine.specs.State.{Message, Note, Deliver, Open, Ask, SettledTo, Elsewhere, Shorten, Put, Vat, Done, Gives, Throws, Ejects, Stops, Act, is_in}
+use Rattle.ev_machine.specs.Eval.{opening, taking}
+use Rattle.ev_machine.specs.Arrive.{arrive, notice}
+use Rattle.ev_run.specs.Draws.{draw_word}
+use Rattle.ev_run.specs.World as world
+use Rattle.ev_run.specs.World.{Script, Program, Opens, Entry, Turn, Carry, CutLink, NoticeLink, Event, Turned, Idle, Carried, CutAt, NoticedAt, Link, World, Run, Goes as Going, Stopped, names, names_of, read_note, put_at, readied}
+use Rattle.ev_fate_laws.proofs.Leads.{Leads, Ends}
+use Rattle.ev_name_laws.specs.Names.{AllOf, IsAmong, IsKnownIn, IsMessageName, IsMessageMade, NoteOk, PutOk, names_in, Once}
+use Rattle.ev_name_laws.specs.Runs.{InRuns}
+use Rattle.ev_name_laws.proofs.Facts.{all_map, all_append}
+use Rattle.ev_name_laws.proofs.Among.{all_among, get_put, length_end}
+use Rattle.ev_name_laws.proofs.Tracked.{known_among}
+use Rattle.ev_name_laws.proofs.Run.{Stands, Told, Had, step_stands, steps_stand, open_stands, begins_stands}
+use Rattle.ev_wire_laws.specs.Asked.{told_in}
+use Rattle.ev_wire_laws.specs.Alike.{names_heard}
+use Rattle.ev_wire_laws.proofs.Asking.{Any, GiftFits, PutFits, Asking, Steady}
+use Rattle.ev_wire_laws.proofs.RefsAsking.{asking_taking, asking_openings}
+use Rattle.ev_wire_laws.proofs.ArriveAsking.{Answered, MailFits, Has, HasHeard, Reached, led_reached, arrive_hears, asking_notice}
+use Rattle.ev_wire_laws.proofs.Told.{known_up, heard_told, note_told}
+use Rattle.ev_wire_laws.proofs.LinksKnown.{Knowing, SentBy, HeardBy, Sent, Heard, LinkKnown, Grows, asks_own, link_up, with_link_all, with_found_all, at_link, push_all_stands, severed_stands, taken_stands}
+
+put_at_or : (v : ℕ) (y : Vat Name) (xs : List (Vat Name)) (u : ℕ) (t : Vat Name) → slice_get (put_at v y xs) u ≡ Some t → ((u ≡ v) × (y ≡ t)) ⊎ (slice_get xs u ≡ Some t)
+unfolding put_at
+put_at_or v y [] u t e = inr e
+put_at_or zero y (x ∷ xs) zero t e = let same : y ≡ t = cc in inl (refl, same)
+put_at_or zero y (x ∷ xs) (suc u) t e = inr e
+put_at_or (suc v) y (x ∷ xs) zero t e = inr e
+put_at_or (suc v) y (x ∷ xs) (suc u) t e = go (put_at_or v y xs u t e)
+  where
+    go : ((u ≡ v) × (y ≡ t)) ⊎ (slice_get xs u ≡ Some t) → ((suc u ≡ suc v) × (y ≡ t)) ⊎ (slice_get (x ∷ xs) (suc u) ≡ Some t)
+    go (inl h) = inl (ap suc h.0, h.1)
+    go (inr h) = inr h
+
+-- the gifts of each vat are known to it, by their names
+abbrev pub AllGifts : List (Vat Name) → Type 0
+AllGifts vats = (v : ℕ) (s : Vat Name) → slice_get vats v ≡ Some s → AllOf (GiftFits v (names_in s.known)) s.gifts
+
+pub record Wire (w : World) : Type 0 where
+  pub gifts : AllGifts w.vats
+  pub links : AllOf (LinkKnown w.vats) w.links
+
+grows_put : (us : List (Vat Name)) (v : ℕ) (s t : Vat Name) → slice_get us v ≡ Some s → Has (names_in s.known) t → Grows us (put_at v t us)
+grows_put us v s t there h u r e = go (put_at_or v t us u r e)
+  where
+    go : ((u ≡ v) × (t ≡ r)) ⊎ (slice_get us u ≡ Some r) → (q : Vat Name) × (slice_get us u ≡ Some q) × Has (names_in q.known) r
+    go (inl i) = (s, rw (sym i.0) at there, rw i.1 at h)
+    go (inr i) = (r, i, λ n a. a)
+
+gifts_put : (us : List (Vat Name)) (v : ℕ) (t : Vat Name) → AllGifts us → AllOf (GiftFits v (names_in t.known)) t.gifts → AllGifts (put_at v t us)
+gifts_put us v t h g u r e = go (put_at_or v t us u r e)
+  where
+    go : ((u ≡ v) × (t ≡ r)) ⊎ (slice_get us u ≡ Some r) → AllOf (GiftFits u (names_in r.known)) r.gifts
+    go (inl i) = let one : AllOf (GiftFits u (names_in t.known)) t.gifts = rw (sym i.0) at g in rw i.1 at one
+    go (inr i) = h u r i
+
+some_vat : (s t : Vat Name) → Some s ≡ Some t → s ≡ t
+some_vat s t e = cc
+
+none_some : (o : Option (Vat Name)) (s : Vat Name) → o ≡ None → o ≡ Some s → ⊥
+none_some o s e f = cc
+
+going_is : (w x : World) → Going w ≡ Going x → w ≡ x
+going_is w x e = cc
+
+-- nothing is told
+abbrev NoneTold : Name → Type 0
+NoneTold n = ⊥
+
+abbrev Whatever : Vat Name → Type 0
+Whatever t = Unit {0}
+
+module _ (script : Script) where
+  moved : (w x : World) → Wire w → Going w ≡ Going x → Wire x
+  moved w x h e = rw (going_is w x e) at h
+
+  -- the notes that were put
+  puts_sent : (x : World) (v : ℕ) (us : List (Vat Name)) (t : Vat Name) → slice_get us v ≡ Some t → (ps : List (Put Name)) → AllOf (PutFits (names_in t.known)) ps → AllOf (PutOk (Had script x v t)) ps → AllOf (λ (p : Put Name). Sent us v p.to p.note) ps
+  puts_sent x v us t there [] h k = tt
+  puts_sent x v us t there (p ∷ ps) h k = ((asks_own (names_in t.known) p.to p.note h.0, λ r e. knows r e), puts_sent x v us t there ps h.1 k.1)
+    where
+      known_here : SentBy p.to p.note (names_in t.known)
+      known_here = (h.0, all_map (λ n i. i.1) (told_in p.note) (note_told (Had script x v t) p.note k.0.0))
+
+      knows : (r : Vat Name) → slice_get us v ≡ Some r → SentBy p.to p.note (names_in r.known)
+      knows r e = rw (some_vat t r (sym there ∙ e)) at known_here
+
+  -- what is put back: q is the vat before the step, with no note put
+  put_back_wire : (w x : World) (v : ℕ) (s q : Vat Name) (P : Name → Type 0) (F : Vat Name → Type 0) (head : List Event) (n : ℕ) (d : Done Name (Unit {0})) → slice_get w.vats v ≡ Some s → names_in q.known ≡ names_in s.known → q.gifts ≡ s.gifts → q.outbox ≡ []
+      → AllGifts w.vats → Reached v P F q d → ((t : Vat Name) → Has (names_in s.known) t → F t → AllOf (LinkKnown (put_at v t w.vats)) w.links) → world.put_back v w head n d ≡ Going x → Stands script x → Wire x
+  unfolding world.put_back
+  put_back_wire w x v s q P F head n (Gives a t) there same gifts out g h f e k =
+      let y : World = record { fuel = t.fuel; drawn = t.drawn; vats = put_at v t w.vats; links = world.push_all v t.outbox w.links; history = w.history ++ head ++ world.events_of w.links v t.happened } in
+      let r : Steady v P q t = h.0 in let known : Has (names_in s.known) t = λ m a. r.names m (rw (sym same) at a) in
+      let before : AllOf (GiftFits v (names_in q.known)) q.gifts = rw (sym same, sym gifts) at (g v s there) in
+      let none : AllOf (PutFits (names_in q.known)) q.outbox = rw out tt in
+      let fit = r.fits (before, none) in let at_y : Stands script y = rw (sym (going_is y x e)) at k in
+      let got : slice_get (put_at v t w.vats) v ≡ Some t = get_put w.vats v s t there in
+      let stands = at_y.vats v t got in let parts = stands.parts in
+      moved y x (record {
+        gifts = gifts_put w.vats v t g fit.0;
+        links = push_all_stands (put_at v t w.vats) v t.outbox w.links (puts_sent y v (put_at v t w.vats) t got t.outbox fit.1 parts.outbox) (f t known h.1);
+      }) e
+  put_back_wire w x v s q P F head n (Throws p t) there same gifts out g h f e k = cc
+  put_back_wire w x v s q P F head n (Ejects m y t) there same gifts out g h f e k = cc
+  put_back_wire w x v s q P F head n (Stops c t) there same gifts out g h f e k = cc
+
+  links_up : (us : List (Vat Name)) (ls : List Link) (v : ℕ) (s t : Vat Name) → slice_get us v ≡ Some s → Has (names_in s.known) t → AllOf (LinkKnown us) ls → AllOf (LinkKnown (put_at v t us)) ls
+  links_up us ls v s t there h k = all_map (link_up us (put_at v t us) (grows_put us v s t there h)) ls k
+
+  number_is : (w : World) (v : ℕ) (s : Vat Name) → Stands script w → slice_get w.vats v ≡ Some s → s.number ≡ v
+  number_is w v s g i = let one = g.vats v s i in let kept = one.kept in kept.number
+
+  -- a step in which nothing is told
+  alone_wire : (w x : World) (v : ℕ) (s q : Vat Name) (head : List Event) (n : ℕ) (m : Act Name (Unit {0})) → slice_get w.vats v ≡ Some s → q.number ≡ s.number → names_in q.known ≡ names_in s.known → q.gifts ≡ s.gifts → Stands script w → Wire w → Leads Any (Asking v NoneTold) m
+      → world.put_back v w head n (m (readied w q)) ≡ Going x → Stands script x → Wire x
+  unfolding readied
+  alone_wire w x v s q head n m there num same gifts g h f e k = put_back_wire w x v s (readied w q) NoneTold Whatever head n (m (readied w q)) there same gifts refl h.gifts
+      (led_reached v NoneTold Whatever (readied w q) (m (readied w q)) (num ∙ number_is w v s g there) (λ t r. tt) (f.after (readied w q))) (λ t k i. links_up w.vats w.links v s t there k h.links) e k
+
+  idle_wire : (k : ℕ) (w x : World) → Wire w → world.idle script k w ≡ Going x → Wire x
+  unfolding world.idle
+  idle_wire k w x h e = moved (record w { history = w.history ++ Idle k ∷ [] }) x (record { gifts = h.gifts; links = h.links }) e
+
+  turn_queue_wire : (k v : ℕ) (w x : World) (s : Vat Name) (qs : List (Message Name)) → slice_get w.vats v ≡ Some s → Stands script w → Wire w → world.turn_queue script k v w s qs ≡ Going x → Stands script x → Wire x
+  unfolding world.turn_queue world.within names
+  turn_queue_wire k v w x s [] i g h e j = idle_wire k w x h e
+  turn_queue_wire k v w x s (m ∷ ms) i g h e j = alone_wire w x v s (record s { queue = ms }) (Turned k v ∷ []) (world.step_number script k) _ i refl refl refl g h (asking_taking v NoneTold (draw_word script.key) (world.tree_at script.vats v) script.depth m) e j
+
+  turn_wire : (k v : ℕ) (w x : World) (o : Option (Vat Name)) → slice_get w.vats v ≡ o → Stands script w → Wire w → world.turn script k v w o ≡ Going x → Stands script x → Wire x
+  unfolding world.turn
+  turn_wire k v w x None i g h e j = idle_wire k w x h e
+  turn_wire k v w x (Some s) i g h e j = turn_queue_wire k v w x s s.queue i g h e j
+
+  -- ---- arrival
+
+  message_made : (vats : List (Vat Name)) (m : Name) → IsMessageMade vats m → IsMessageName m
+  message_made vats (Message_name m) h = tt
+  message_made vats (Root w) h = absurd h
+  message_made vats (Object w i) h = absurd h
+  message_made vats (Promise w i) h = absurd h
+  message_made vats (Answer w m) h = absurd h
+  message_made vats (Gift w i) h = absurd h
+
+  mail_fits : (w : World) (n : Note Name) → NoteOk (Told script w) n → MailFits n
+  mail_fits w (Deliver m n verb ys) h = message_made w.vats m h.0.0
+  mail_fits w (Open i n) h = tt
+  mail_fits w (Ask p i n) h = tt
+  mail_fits w (SettledTo n y) h = tt
+  mail_fits w (Elsewhere n c) h = tt
+  mail_fits w (Shorten n c i) h = tt
+
+  -- the receiver has heard it
+  heard_now : (us : List (Vat Name)) (v : ℕ) (s t : Vat Name) (n : Note Name) → slice_get us v ≡ Some s → HasHeard v NoneTold (draw_word script.key) (names_in s.known) n t → Heard (put_at v t us) v n
+  heard_now us v s t n there h r e = rw (some_vat t r (sym (get_put us v s t there) ∙ e)) at here
+    where
+      here : HeardBy v n (names_in t.known)
+      here = (h.1, all_map (λ m i. known_up (names_heard (names_in s.known) n) (names_in t.known) h.0 m i) (told_in n) (heard_told (names_in s.known) n))
+
+  arrives_wire : (k v to : ℕ) (w x : World) (l : Link) (n : Note Name) (ns : List (Note Name)) → world.link_at v to w.links ≡ Some l → l.notes ≡ n ∷ ns → NoteOk (Told script w) n → (o : Option (Vat Name)) → slice_get w.vats to ≡ o → Stands script w → Wire w
+      → world.arrives script k v to (record w { links = world.with_link (world.with_notes ns) v to w.links }) n o ≡ Going x → Stands script x → Wire x
+  unfolding world.arrives world.within names names_of readied
+  arrives_wire k v to w x l n ns at e ok (Some s) i g h j z = let word : ℕ → ℕ = draw_word script.key in let y : World = record w { links = world.with_link (world.with_notes ns) v to w.links } in
+      let P : Name → Type 0 = λ m. IsAmong m (told_in n) in
+      put_back_wire y x to s (readied y s) P (HasHeard to P word (names_in s.known) n) (Carried k v to n y.links ∷ []) (world.step_number script k) (arrive (naming word to) v (read_note (names_in s.known) n) (readied y s)) i refl refl refl h.gifts
+      (arrive_hears to P word v n (readied y s) (number_is w to s g i) (mail_fits w n ok) (λ m a. a) (h.gifts to s i))
+      (λ t known heard. with_found_all (LinkKnown (put_at to t w.vats)) (world.with_notes ns) v to l
+        (λ j same from at_to q. taken_stands (put_at to t w.vats) n ns j (ap (λ (z : Link). z.notes) same ∙ e) (subst (λ (z : ℕ). Heard (put_at to t w.vats) z n) (sym at_to) (heard_now w.vats to s t n i heard)) q) w.links at (links_up w.vats w.links to s t i known h.links)) j z
+  arrives_wire k v to w x l n ns at e ok None i g h j z = idle_wire k (record w { links = world.with_link (world.with_notes ns) v to w.links }) x (record { gifts = h.gifts; links = nobody }) j
+    where
+      nobody : AllOf (LinkKnown w.vats) (world.with_link (world.with_notes ns) v to w.links)
+      nobody = with_found_all (LinkKnown w.vats) (world.with_notes ns) v to l (λ j same from at_to q. taken_stands w.vats n ns j (ap (λ (z : Link). z.notes) same ∙ e) (λ r f. absurd (none_some (slice_get w.vats to) r i (rw at_to at f))) q) w.links at h.links
+
+  carry_notes_wire : (k v to : ℕ) (w x : World) (l : Link) → world.link_at v to w.links ≡ Some l → (ns : List (Note Name)) → l.notes ≡ ns → AllOf (NoteOk (Told script w)) ns → Stands script w → Wire w → world.carry_notes script k v to w ns ≡ Going x → Stands script x → Wire x
+  unfolding world.carry_notes
+  carry_notes_wire k v to w x l at [] e ok g h j z = idle_wire k w x h j
+  carry_notes_wire k v to w x l at (n ∷ ns) e ok g h j z = arrives_wire k v to w x l n ns at e ok.0 (slice_get w.vats to) refl g h j z
+
+  carry_cut_wire : (k v to : ℕ) (w x : World) (l : Link) → world.link_at v to w.links ≡ Some l → (b : Bool) → Stands script w → Wire w → elim b [ true ↦ world.idle script k w | false ↦ world.carry_notes script k v to w l.notes ] ≡ Going x → Stands script x → Wire x
+  carry_cut_wire k v to w x l at true g h j z = idle_wire k w x h j
+  carry_cut_wire k v to w x l at false g h j z = carry_notes_wire k v to w x l at l.notes refl (at_link (λ l. AllOf (NoteOk (Told script w)) l.notes) v to l w.links g.links at).0 g h j z
+
+  carry_link_wire : (k v to : ℕ) (w x : World) (o : Option Link) → world.link_at v to w.links ≡ o → Stands script w → Wire w → world.carry_link script k v to w o ≡ Going x → Stands script x → Wire x
+  unfolding world.carry_link
+  carry_link_wire k v to w x None at g h j z = idle_wire k w x h j
+  carry_link_wire k v to w x (Some l) at g h j z = carry_cut_wire k v to w x l at l.cut g h j z
+
+  cut_wire : (k v to : ℕ) (w x : World) → Wire w → world.cut script k v to w ≡ Going x → Wire x
+  unfolding world.cut
+  cut_wire k v to w x h e = moved _ x (record {
+    gifts = h.gifts;
+    links = with_link_all (LinkKnown w.vats) world.severed_link to v (λ l a b i. severed_stands w.vats l i) (world.with_link world.severed_link v to w.links) (with_link_all (LinkKnown w.vats) world.severed_link v to (λ l a b i. severed_stands w.vats l i) w.links h.links);
+  }) e
+
+  notice_wire : (k v to : ℕ) (w x : World) (o : Option (Vat Name)) → slice_get w.vats v ≡ o → Stands script w → Wire w → world.within v w (NoticedAt k v to ∷ []) (world.step_number script k) (notice (names script v) to) o ≡ Going x → Stands script x → Wire x
+  unfolding world.within names
+  notice_wire k v to w x None i g h e j = cc
+  notice_wire k v to w x (Some s) i g h e j = alone_wire w x v s s (NoticedAt k v to ∷ []) (world.step_number script k) _ i refl refl refl g h (asking_notice v NoneTold (draw_word script.key) to) e j
+
+  step_wire : (entry : Entry) (k : ℕ) (w x : World) → Stands script w → Wire w → world.step script entry k w ≡ Going x → Stands script x → Wire x
+  unfolding world.step
+  step_wire (Turn v) k w x g h e j = turn_wire k v w x (slice_get w.vats v) refl g h e j
+  step_wire (Carry v to) k w x g h e j = carry_link_wire k v to w x (world.link_at v to w.links) refl g h e j
+  step_wire (CutLink v to) k w x g h e j = cut_wire k v to w x h e
+  step_wire (NoticeLink v to) k w x g h e j = notice_wire k v to w x (slice_get w.vats v) refl g h e j
+
+  open_wire : (v : ℕ) (p : Program) (w x : World) (o : Option (Vat Name)) → slice_get w.vats v ≡ o → Stands script w → Wire w
+      → world.within v w (Opens v ∷ []) v (opening (names script v) p.tree script.depth (Root v) (world.given script.vats p.knows)) o ≡ Going x → Stands script x → Wire x
+  unfolding world.within names
+  open_wire v p w x None i g h e j = cc
+  open_wire v p w x (Some s) i g h e j = alone_wire w x v s s (Opens v ∷ []) v _ i refl refl refl g h (asking_openings v NoneTold (draw_word script.key) p.tree script.depth (Root v) (world.given script.vats p.knows)) e j
+
+  -- both of what is said of a world
+  abbrev pub Both : World → Type 0
+  Both w = Stands script w × Wire w
+
+  moved_both : (w x : World) → Both w → Going w ≡ Going x → Both x
+  moved_both w x h e = rw (going_is w x e) at h
+
+  then_both : (x : World) (r : Run) (f : World → Run) → ((y : World) → r ≡ Going y → Both y) → ((y : World) → Both y → f y ≡ Going x → Both x) → world.then_goes r f ≡ Going x → Both x
+  unfolding world.then_goes
+  then_both x (Going y) f a b e = b y (a y refl) e
+  then_both x (Stopped c n y) f a b e = cc
+
+  pub steps_both : (es : List Entry) (k : ℕ) (w x : World) → Both w → world.steps_from script es k w ≡ Going x → Both x
+  unfolding world.steps_from
+  steps_both [] k w x h e = moved_both w x h e
+  steps_both (entry ∷ es) k w x h e = then_both x (world.step script entry k w) (world.steps_from script es (suc k))
+      (λ y i. let z : Stands script y = step_stands script entry k w y h.0 i in (z, step_wire entry k w y h.0 h.1 i z)) (λ y i j. steps_both es (suc k) y x i j) e
+
+get_mid : (front : List Program) (p : Program) (ps : List Program) → slice_get (front ++ p ∷ ps) (length front) ≡ Some p
+get_mid [] p ps = refl
+get_mid (f ∷ fs) p ps = get_mid fs p ps
+
+module _ (script : Script) where
+  pub opens_both : (front ps rest : List Program) (w x : World) → script.vats ≡ front ++ (ps ++ rest) → Both script w → world.open_from script (length front) ps w ≡ Going x → Both script x
+  unfolding world.open_from world.open_vat
+  opens_both front [] rest w x i h e = moved_both script w x h e
+  opens_both front (p ∷ ps) rest w x i h e = then_both script x (world.open_vat script (length front) p w) (world.open_from script (suc (length front)) ps)
+      (λ y j. let z : Stands script y = open_stands script (length front) p w y (rw (sym i) at (get_mid front p (ps ++ rest))) h.0 (slice_get w.vats (length front)) refl j in (z, open_wire script (length front) p w y (slice_get w.vats (length front)) refl h.0 h.1 j z))
+      (λ y j k. opens_both (front ++ p ∷ []) ps rest y x (i ∙ sym (append_assoc front (p ∷ []) (ps ++ rest))) j (rw (sym (length_end front p)) at k)) e
+
+  -- ---- the start
+
+  fresh_gifts : (u : ℕ) (ps : List Program) (n : ℕ) (s : Vat Name) → slice_get (world.fresh_from script u ps) n ≡ Some s → s.gifts ≡ []
+  unfolding world.fresh_from world.fresh
+  fresh_gifts u [] n s e = cc
+  fresh_gifts u (p ∷ ps) zero s e = cc
+  fresh_gifts u (p ∷ ps) (suc n) s e = fresh_gifts (suc u) ps n s e
+
+  no_gifts : (v : ℕ) (s : Vat Name) → s.gifts ≡ [] → AllOf (GiftFits v (names_in s.known)) s.gifts
+  no_gifts v s e = rw e tt
+
+  fresh_program : (u : ℕ) (ps : List Program) (n : ℕ) (s : Vat Name) → slice_get (world.fresh_from script u ps) n ≡ Some s → (p : Program) × (slice_get ps n ≡ Some p)
+  unfolding world.fresh_from
+  fresh_program u [] n s e = absurd (nothing_is s e)
+    where
+      nothing_is : (s : Vat Name) → None ≡ Some s → ⊥
+      nothing_is s e = cc
+  fresh_program u (p ∷ ps) zero s e = (p, refl)
+  fresh_program u (p ∷ ps) (suc n) s e = fresh_program (suc u) ps n s e
+
+  in_among : (v : ℕ) (ws : List ℕ) → is_in v ws ≡ true → IsAmong v ws
+  unfolding is_in
+  in_among v [] e = cc
+  in_among v (w ∷ ws) e = either (v == w) (eqb-true v w) (in_among v ws) e
+    where
+      either : (b : Bool) → (b ≡ true → v ≡ w) → (is_in v ws ≡ true → IsAmong v ws) → elim b [ true ↦ true | false ↦ is_in v ws ] ≡ true → IsAmong v (w ∷ ws)
+      either true f g i = inl (f refl)
+      either false f g i = inr (g i)
+
+  module _ (once : (v : ℕ) (p : Program) → slice_get script.vats v ≡ Some p → Once (v ∷ p.knows)) where
+    start : Stands script (world.begins script)
+    start = begins_stands script once
+
+    abbrev Fresh : List (Vat Name)
+    Fresh = world.fresh_from script zero script.vats
+
+    at_start : (v : ℕ) (s : Vat Name) → slice_get Fresh v ≡ Some s → (p : Program) × (slice_get script.vats v ≡ Some p) × AllOf (λ (u : ℕ). IsAmong (Root u) (names_in s.known)) (v ∷ p.knows)
+    unfolding world.begins
+    at_start v s e = let p = fresh_program zero script.vats v s e in let g = start in let one = g.vats v s e in (p.0, p.1, one.roots p.0 p.1)
+
+    own_root : (v : ℕ) → Knowing Fresh v (λ ns. IsKnownIn ns (Root v))
+    own_root v s e = let a = at_start v s e in let all = a.2 in all.0
+
+    some_program : (p q : Program) → Some p ≡ Some q → p ≡ q
+    some_program p q e = cc
+
+    other_root : (v to : ℕ) (p : Program) → slice_get script.vats to ≡ Some p → is_in v p.knows ≡ true → Knowing Fresh to (λ ns. IsKnownIn ns (Root v))
+    other_root v to p i k s e = let a = at_start to s e in let same : a.0 ≡ p = some_program a.0 p (sym a.1 ∙ i) in let all = a.2 in
+        all_among (λ (u : ℕ). IsAmong (Root u) (names_in s.known)) a.0.knows v all.1 (rw (ap (λ (q : Program). q.knows) (sym same)) at (in_among v p.knows k))
+
+    root_either : (v to : ℕ) (p : Program) (b : Bool) → slice_get script.vats to ≡ Some p → is_in v p.knows ≡ b → AllOf (λ n. Knowing Fresh v (λ ns. IsKnownIn ns n) × Knowing Fresh to (λ ns. IsKnownIn ns n)) (elim b [ true ↦ Root v ∷ [] | false ↦ [] ])
+    root_either v to p true i e = ((own_root v, other_root v to p i e), tt)
+    root_either v to p false i e = tt
+
+    first_link : (v to : ℕ) (p : Program) → slice_get script.vats to ≡ Some p → LinkKnown Fresh (record { from = v; to = to; cut = false; notes = []; roots = world.roots_for v p; log = [] })
+    unfolding world.roots_for
+    first_link v to p i = record { roots = root_either v to p (is_in v p.knows) i refl; sent = tt; arrived = λ e. ([], refl, tt) }
+
+    either_links : (b : Bool) (l : Link) (ls : List Link) → LinkKnown Fresh l → AllOf (LinkKnown Fresh) ls → AllOf (LinkKnown Fresh) (elim b [ true ↦ ls | false ↦ l ∷ ls ])
+    either_links true l ls h i = i
+    either_links false l ls h i = (h, i)
+
+    links_to_known : (v : ℕ) (front ps : List Program) → script.vats ≡ front ++ ps → AllOf (LinkKnown Fresh) (world.links_to v (length front) ps)
+    unfolding world.links_to
+    links_to_known v front [] i = tt
+    links_to_known v front (p ∷ ps) i = either_links (v == length front) _ (world.links_to v (suc (length front)) ps) (first_link v (length front) p (rw (sym i) at (get_mid front p ps)))
+        (rw (length_end front p) at (links_to_known v (front ++ p ∷ []) ps (i ∙ sym (append_assoc front (p ∷ []) ps))))
+
+    links_from_known : (v : ℕ) (ps : List Program) → AllOf (LinkKnown Fresh) (world.links_from script.vats v ps)
+    unfolding world.links_from
+    links_from_known v [] = tt
+    links_from_known v (p ∷ ps) = all_append (LinkKnown Fresh) (world.links_to v zero script.vats) (world.links_from script.vats (suc v) ps) (links_to_known v [] script.vats refl) (links_from_known (suc v) ps)
+
+    begins_wire : Wire (world.begins script)
+    unfolding world.begins
+    begins_wire = record { gifts = λ v s e. no_gifts v s (fresh_gifts zero script.vats v s e); links = links_from_known zero script.vats }
+
+    pub opened_both : (ps rest : List Program) (w : World) → script.vats ≡ ps ++ rest → world.open_from script zero ps (world.begins script) ≡ Going w → Both script w
+    opened_both ps rest w e i = opens_both [] ps rest (world.begins script) w e (start, begins_wire) i
+
+    pub stepped_both : (w x : World) (es : List Entry) (k : ℕ) → world.open_from script zero script.vats (world.begins script) ≡ Going w → world.steps_from script es k w ≡ Going x → Both script x
+    stepped_both w x es k e i = steps_both script es k w x (opened_both script.vats [] w (sym (append-nil script.vats)) e) i
+
+-- what follows from both in a world holds in every world of a run
+pub in_runs : (P : World → Type 0) → ((script : Script) (w : World) → Stands script w → Wire w → P w) → InRuns P
+in_runs P f script once = (
+  λ ps rest w e opened. let b = opened_both script once ps rest w e opened in f script w b.0 b.1,
+  λ w x es k opened stepped. let b = stepped_both script once w x es k opened stepped in f script x b.0 b.1,
+)

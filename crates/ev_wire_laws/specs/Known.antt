@@ -1,0 +1,37 @@
+-- What the two vats of a link know of what they asked for and told.
+use Rattle.std.specs.Prelude.{◌≡◌, ℕ, false, List, Some}
+use Rattle.ev_machine.specs.Values.{Name}
+use Rattle.ev_machine.specs.State.{Vat}
+use Rattle.ev_name_laws.specs.Names.{AllOf, IsAmong, IsKnownIn, names_in}
+use Rattle.ev_name_laws.specs.Runs.{InEachVat}
+use Rattle.ev_run.specs.World.{Link, World, link_at}
+use Rattle.ev_run.specs.Wire.{questions_in, exports_after, questions, exports}
+use Rattle.ev_wire_laws.specs.Tables.{arrived}
+
+-- the vat knows each of these names
+abbrev pub KnowsEach : Vat Name → List Name → Type 0
+KnowsEach s ns = AllOf (λ n. IsAmong n (names_in s.known)) ns
+
+-- or it is an object
+abbrev pub KnowsEachPromise : Vat Name → List Name → Type 0
+KnowsEachPromise s ns = AllOf (IsKnownIn (names_in s.known)) ns
+
+-- of the link from one vat to another, as long as it is not cut
+abbrev pub OnUncutLink : World → ℕ → ℕ → (Link → Type 0) → Type 0
+OnUncutLink w v u P = (l : Link) → link_at v u w.links ≡ Some l → l.cut ≡ false → P l
+
+-- A vat knows each answer and each gift for which it ever asked another.
+abbrev pub WhatAVatAskedForIsKnown : Type 0
+WhatAVatAskedForIsKnown = InEachVat (λ w u s. (v : ℕ) → KnowsEach s (questions (λ i. i) w.links u v))
+
+-- A vat knows each answer and each gift for which another asked it, as far as the notes of that have arrived.
+abbrev pub WhatAVatWasAskedForIsKnown : Type 0
+WhatAVatWasAskedForIsKnown = InEachVat (λ w u s. (v : ℕ) → OnUncutLink w v u (λ l. KnowsEach s (questions_in u (arrived (Some l)))))
+
+-- Of what a vat ever exported to another, it knows all but objects.
+abbrev pub WhatAVatExportedIsKnown : Type 0
+WhatAVatExportedIsKnown = InEachVat (λ w u s. (v : ℕ) → KnowsEachPromise s (exports (λ i. i) w.links u v))
+
+-- Of what another vat exported to it, as far as it has arrived, a vat knows all but objects.
+abbrev pub WhatArrivedIsKnown : Type 0
+WhatArrivedIsKnown = InEachVat (λ w u s. (v : ℕ) → OnUncutLink w v u (λ l. KnowsEachPromise s (exports_after v (questions (λ i. i) w.links u v) (arrived (Some l)) l.roots)))

@@ -1,0 +1,29 @@
+//! What the two vats of a link know of what they asked for and told, in every world of every run.
+//!
+//! Each law holds of each vat after any of the opening turns of a script, and after all of them and
+//! any entries of a schedule. No vat of the script may be told twice that it knows a vat, or that
+//! it knows itself.
+
+ghost use Rattle.ev_wire_laws.specs.Known.{WhatAVatAskedForIsKnown, WhatAVatWasAskedForIsKnown, WhatAVatExportedIsKnown, WhatArrivedIsKnown};
+
+/// A vat knows each answer and each gift for which it ever asked another.
+pub fn what_a_vat_asked_for_is_known()
+    ensures { WhatAVatAskedForIsKnown }
+{}
+
+/// A vat knows each answer and each gift for which another vat asked it, as far as the notes that
+/// ask for them have arrived, as long as the link from there is not cut.
+pub fn what_a_vat_was_asked_for_is_known()
+    ensures { WhatAVatWasAskedForIsKnown }
+{}
+
+/// What a vat ever exported to another it knows, but for objects, which need not be known.
+pub fn what_a_vat_exported_is_known()
+    ensures { WhatAVatExportedIsKnown }
+{}
+
+/// What another vat exported to it, as far as it has arrived, a vat knows, but for objects, as long
+/// as the link from there is not cut.
+pub fn what_arrived_is_known()
+    ensures { WhatArrivedIsKnown }
+{}
