@@ -315,15 +315,15 @@ module _ (v : ℕ) (P : Name → Type 0) where
         then_reached (Has one) F s (arrive.learn_name K (world.read_name ks n) s) (λ x. arrive.learn K from (world.read_passed y one).read >>= (λ z. refs.settle K x z)) (name_hears ks n (f n (inl refl)) s e k)
         (λ x t i h. then_reached F F t (arrive.learn K from (world.read_passed y one).read t) (λ z. refs.settle K x z) (passed_hears from one y (λ z a. f z (inr a)) t i h) (λ z u j l. led_reached F u (refs.settle K x z u) j (λ w r. has_on (world.read_passed y one).known u w r l) ((asking_settle v P word x z).after u)))
 
-    abbrev Viewed : ℕ → Name → Act Name (Unit {0})
-    Viewed c y = look (λ s. is_in c s.noticed) >>= (λ gone. if gone then refs.settle K y (Broken (codes "partition")) else arrive.view_there K y c)
+    abbrev SeenThere : ℕ → Name → Act Name (Unit {0})
+    SeenThere c y = look (λ s. is_in c s.noticed) >>= (λ gone. if gone then refs.settle K y (Broken (codes "partition")) else arrive.view_there K y c)
 
     elsewhere_hears : (ks : List Name) (n : Name) (c : ℕ) → P n → (s : Vat Name) → s.number ≡ v → Has ks s → Reached (Has (world.known_after ks n)) s (arrive.arrive_elsewhere K (world.read_name ks n) c s)
     unfolding arrive.arrive_elsewhere ◌>>=◌
     elsewhere_hears ks n c p s e k = let F : Vat Name → Type 0 = Has (world.known_after ks n) in
-        then_reached F F s (arrive.learn_name K (world.read_name ks n) s) (λ y. Viewed c y) (name_hears ks n p s e k) (λ y t j h. led_reached F t (Viewed c y t) j (λ u r. has_on (world.known_after ks n) t u r h) ((viewed y).after t))
+        then_reached F F s (arrive.learn_name K (world.read_name ks n) s) (λ y. SeenThere c y) (name_hears ks n p s e k) (λ y t j h. led_reached F t (SeenThere c y t) j (λ u r. has_on (world.known_after ks n) t u r h) ((viewed y).after t))
       where
-        viewed : (y : Name) → Leads Any (Asking v P) (Viewed c y)
+        viewed : (y : Name) → Leads Any (Asking v P) (SeenThere c y)
         viewed y = leads_bind Any (Asking v P) (base v P) (leads_look Any (Asking v P) (base v P) (λ s. is_in c s.noticed)) (λ gone. leads_if Any (Asking v P) (base v P) gone (asking_settle v P word y _) (asking_view_there y c))
 
     abbrev Shortened : ℕ → Name → Act Name (Unit {0})

@@ -22,6 +22,10 @@ among_split x (z ∷ xs) ys (inr h) = go (among_split x xs ys h)
     go (inl a) = inl (inr a)
     go (inr b) = inr b
 
+pub by_cases : {P Q C : Type 0} → P ⊎ Q → (P → C) → (Q → C) → C
+by_cases (inl p) f g = f p
+by_cases (inr q) f g = g q
+
 module _ (v : ℕ) (asked : List Name) (n : Name) (host : host_of n ≡ v) (unasked : has_name asked n ≡ false) where
   there_or : (c : Bool) (m : Name) (ns : List Name) → has_name ns m ≡ c → IsAmong n ns ⊎ (n ≡ m) → IsAmong n (elim c [ true ↦ ns | false ↦ ns ++ m ∷ [] ])
   there_or true m ns e (inl a) = a
@@ -79,11 +83,7 @@ module _ (v : ℕ) (asked : List Name) (n : Name) (host : host_of n ≡ v) (unas
     all_in NoMore ns (inl a) = a
     all_in NoMore ns (inr b) = absurd b
     all_in (More y ys) ns (inl a) = all_in ys (wire.with_passed v asked y ns) (inl (passed_in y ns (inl a)))
-    all_in (More y ys) ns (inr b) = more_in y ys ns (among_split n (told_passed y) (told_all ys) b)
-
-    more_in : (y : Passed Name) (ys : Passeds Name) (ns : List Name) → IsAmong n (told_passed y) ⊎ IsAmong n (told_all ys) → IsAmong n (wire.with_all v asked ys (wire.with_passed v asked y ns))
-    more_in y ys ns (inl a) = all_in ys (wire.with_passed v asked y ns) (inl (passed_in y ns (inr a)))
-    more_in y ys ns (inr b) = all_in ys (wire.with_passed v asked y ns) (inr b)
+    all_in (More y ys) ns (inr b) = by_cases (among_split n (told_passed y) (told_all ys) b) (λ a. all_in ys (wire.with_passed v asked y ns) (inl (passed_in y ns (inr a)))) (λ c. all_in ys (wire.with_passed v asked y ns) (inr c))
 
   note_in : (x : Note Name) (ns : List Name) → IsAmong n ns ⊎ IsAmong n (told_in x) → IsAmong n (wire.with_note v asked x ns)
   unfolding wire.with_note told_in
@@ -111,8 +111,4 @@ module _ (v : ℕ) (asked : List Name) (n : Name) (host : host_of n ≡ v) (unas
   exports_in [] ns (inl a) = a
   exports_in [] ns (inr b) = absurd b.1
   exports_in (x ∷ log) ns (inl a) = exports_in log (wire.with_note v asked x ns) (inl (note_in x ns (inl a)))
-  exports_in (x ∷ log) ns (inr b) = either b.0 b.1 b.2
-    where
-      either : (z : Note Name) → IsAmong z (x ∷ log) → IsAmong n (told_in z) → IsAmong n (wire.exports_after v asked log (wire.with_note v asked x ns))
-      either z (inl e) c = exports_in log (wire.with_note v asked x ns) (inl (note_in x ns (inr (rw (ap told_in e) at c))))
-      either z (inr a) c = exports_in log (wire.with_note v asked x ns) (inr (z, a, c))
+  exports_in (x ∷ log) ns (inr b) = by_cases b.1 (λ e. exports_in log (wire.with_note v asked x ns) (inl (note_in x ns (inr (rw (ap told_in e) at b.2))))) (λ a. exports_in log (wire.with_note v asked x ns) (inr (b.0, a, b.2)))

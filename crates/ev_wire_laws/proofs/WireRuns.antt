@@ -169,7 +169,7 @@ module _ (script : Script) where
       put_back_wire y x to s (readied y s) P (HasHeard to P word (names_in s.known) n) (Carried k v to n y.links ∷ []) (world.step_number script k) (arrive (naming word to) v (read_note (names_in s.known) n) (readied y s)) i refl refl refl h.gifts
       (arrive_hears to P word v n (readied y s) (number_is w to s g i) (mail_fits w n ok) (λ m a. a) (h.gifts to s i))
       (λ t known heard. with_found_all (LinkKnown (put_at to t w.vats)) (world.with_notes ns) v to l
-        (λ j same from at_to q. taken_stands (put_at to t w.vats) n ns j (ap (λ (z : Link). z.notes) same ∙ e) (subst (λ (z : ℕ). Heard (put_at to t w.vats) z n) (sym at_to) (heard_now w.vats to s t n i heard)) q) w.links at (links_up w.vats w.links to s t i known h.links)) j z
+      (λ j same from at_to q. taken_stands (put_at to t w.vats) n ns j (ap (λ (z : Link). z.notes) same ∙ e) (subst (λ (z : ℕ). Heard (put_at to t w.vats) z n) (sym at_to) (heard_now w.vats to s t n i heard)) q) w.links at (links_up w.vats w.links to s t i known h.links)) j z
   arrives_wire k v to w x l n ns at e ok None i g h j z = idle_wire k (record w { links = world.with_link (world.with_notes ns) v to w.links }) x (record { gifts = h.gifts; links = nobody }) j
     where
       nobody : AllOf (LinkKnown w.vats) (world.with_link (world.with_notes ns) v to w.links)

@@ -71,7 +71,7 @@ numbered_gift ks g = record { name = known_number ks g.name; provider = g.provid
 unfoldable pub by_numbers : Script → World → ℕ → ℕ → Vat Name → Note Name → Option (Note (Incoming Found Name))
 by_numbers script w v u s n =
     option_map (λ x. maps.note (incoming (found u (table_heard w u s n)) (wire_name w v u n)) x.read)
-        (note_heard (draw_of w.drawn) u v (tables_of w u s v) (map (numbered_gift (names_in s.known)) s.gifts) (operation (draw_word script.key) w.links v u n) (tables_of w u s v).imports (length s.known))
+    (note_heard (draw_of w.drawn) u v (tables_of w u s v) (map (numbered_gift (names_in s.known)) s.gifts) (operation (draw_word script.key) w.links v u n) (tables_of w u s v).imports (length s.known))
 
 -- and as the one machine reads it
 unfoldable pub by_names : ℕ → Vat Name → Note Name → Option (Note (Incoming Found Name))

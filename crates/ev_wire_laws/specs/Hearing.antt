@@ -30,7 +30,6 @@ unfoldable pub next : {A B : Type 0} → (A → Hearing B) → Option (Heard A) 
 next f (Some x) = f x.read x.imports x.known
 next f None = None
 
-
 -- the next position is that of what is first exported here
 unfoldable pub with_position : ℕ → Local → List Local → List Local
 with_position p l imports = elim (p == length imports) [ true ↦ imports ++ l ∷ [] | false ↦ imports ]
