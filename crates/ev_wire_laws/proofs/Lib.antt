@@ -3,8 +3,11 @@ pub mod RefsAsking
 pub mod ArriveAsking
 pub mod Told
 pub mod LinksKnown
-pub mod WireRuns
 pub mod Arrivals
-pub mod Laws
 pub mod Exported
 pub mod LinksGo
+pub mod LinksThere
+pub mod Sources
+pub mod WireRuns
+pub mod Laws
+pub mod SourceLaws

@@ -75,10 +75,28 @@ module _ (f : Link → Link) (stays : Stays f) (v w : ℕ) where
   head_goes true a b l k ls rest h g i = here_true (world.is_link a b l) (world.is_link a b (f l)) l k (world.link_at a b ls) (stays a b l) h i
   head_goes false a b l k ls rest h g i = here_false (world.is_link a b l) l k (world.link_at a b ls) (world.link_at a b rest) (λ j e. g a b j e) i
 
+  head_other : (a b : ℕ) (l k : Link) (ls rest : List Link) → LinksGo ls rest → world.link_at a b (l ∷ rest) ≡ Some k → FoundFrom (l ∷ ls) a b k
+  unfolding world.link_at
+  head_other a b l k ls rest g i = here_false (world.is_link a b l) l k (world.link_at a b ls) (world.link_at a b rest) (λ j e. g a b j e) i
+
   pub with_link_goes : (ls : List Link) → AllOf (λ l. LinkGoes l (f l)) ls → LinksGo ls (world.with_link f v w ls)
   unfolding world.with_link
   with_link_goes [] h = links_same []
   with_link_goes (l ∷ ls) h = λ a b k e. head_goes (world.is_link v w l) a b l k ls (world.with_link f v w ls) h.0 (with_link_goes ls h.1) e
+
+  found_rest : (c : Bool) (l k : Link) (o : Option Link) → ◌≡◌ {A = Option Link} (elim c [ true ↦ Some l | false ↦ o ]) (Some k) → (c ≡ true → l ≡ k) × (c ≡ false → o ≡ Some k)
+  found_rest true l k o e = (λ i. some_is l k e, λ i. cc)
+  found_rest false l k o e = (λ i. cc, λ i. e)
+
+  found_either : (c : Bool) (l m : Link) (ls rest : List Link) → (c ≡ true → l ≡ m) → LinkGoes m (f m) → (c ≡ false → LinksGo ls rest) → (a b : ℕ) (k : Link) → world.link_at a b (elim c [ true ↦ f l ∷ ls | false ↦ l ∷ rest ]) ≡ Some k → FoundFrom (l ∷ ls) a b k
+  found_either true l m ls rest e h g a b k i = head_goes true a b l k ls ls (rw (sym (e refl)) at h) (links_same ls) i
+  found_either false l m ls rest e h g a b k i = head_other a b l k ls rest (g refl) i
+
+  -- the link that is found there is changed
+  pub with_found_goes : (m : Link) (ls : List Link) → world.link_at v w ls ≡ Some m → LinkGoes m (f m) → LinksGo ls (world.with_link f v w ls)
+  unfolding world.with_link world.link_at
+  with_found_goes m [] e h = absurd (none_is m e)
+  with_found_goes m (l ∷ ls) e h = let r = found_rest (world.is_link v w l) l m (world.link_at v w ls) e in found_either (world.is_link v w l) l m ls (world.with_link f v w ls) r.0 h (λ i. with_found_goes m ls (r.1 i) h)
 
   now_true : (b d : Bool) (l k : Link) (o : Option Link) → d ≡ b → b ≡ true → ◌≡◌ {A = Option Link} (elim d [ true ↦ Some (f l) | false ↦ o ]) (Some k) → (j : Link) × (◌≡◌ {A = Option Link} (elim b [ true ↦ Some l | false ↦ o ]) (Some j)) × (k ≡ f j)
   now_true true true l k o e h i = (l, refl, sym (some_is (f l) k i))
@@ -99,6 +117,44 @@ module _ (f : Link → Link) (stays : Stays f) (v w : ℕ) where
   unfolding world.with_link world.link_at
   with_link_here [] k e = absurd (none_is k e)
   with_link_here (l ∷ ls) k e = now_head (world.is_link v w l) l k ls (world.with_link f v w ls) refl (λ j i. with_link_here ls j i) e
+
+-- ---- which links there are
+
+-- there is a link from a to b
+abbrev pub IsThere : List Link → ℕ → ℕ → Type 0
+IsThere ls a b = (l : Link) × (world.link_at a b ls ≡ Some l)
+
+-- each link stays there
+abbrev pub Lasts : List Link → List Link → Type 0
+Lasts ls ks = (a b : ℕ) → IsThere ls a b → IsThere ks a b
+
+-- with each link there is one back
+abbrev pub Paired : List Link → Type 0
+Paired ls = (a b : ℕ) → IsThere ls a b → IsThere ls b a
+
+pub paired_on : (ls ks : List Link) → LinksGo ls ks → Lasts ls ks → Paired ls → Paired ks
+paired_on ls ks g h p a b t = let was = g a b t.0 t.1 in h b a (p a b (was.0, was.1))
+
+module _ (f : Link → Link) (stays : Stays f) (v w : ℕ) where
+  last_true : (b d : Bool) (l : Link) (o : Option Link) → d ≡ b → (k : Link) × (◌≡◌ {A = Option Link} (elim b [ true ↦ Some l | false ↦ o ]) (Some k)) → (k : Link) × (◌≡◌ {A = Option Link} (elim d [ true ↦ Some (f l) | false ↦ o ]) (Some k))
+  last_true true true l o e t = (f l, refl)
+  last_true false false l o e t = t
+  last_true true false l o e t = absurd (no_true e)
+  last_true false true l o e t = absurd (no_false e)
+
+  last_false : (b : Bool) (l : Link) (o p : Option Link) → ((k : Link) × (o ≡ Some k) → (k : Link) × (p ≡ Some k)) → (k : Link) × (◌≡◌ {A = Option Link} (elim b [ true ↦ Some l | false ↦ o ]) (Some k)) → (k : Link) × (◌≡◌ {A = Option Link} (elim b [ true ↦ Some l | false ↦ p ]) (Some k))
+  last_false true l o p g t = (l, refl)
+  last_false false l o p g t = g t
+
+  last_head : (c : Bool) (a b : ℕ) (l : Link) (ls rest : List Link) → (IsThere ls a b → IsThere rest a b) → IsThere (l ∷ ls) a b → IsThere (elim c [ true ↦ f l ∷ ls | false ↦ l ∷ rest ]) a b
+  unfolding world.link_at
+  last_head true a b l ls rest g t = last_true (world.is_link a b l) (world.is_link a b (f l)) l (world.link_at a b ls) (stays a b l) t
+  last_head false a b l ls rest g t = last_false (world.is_link a b l) l (world.link_at a b ls) (world.link_at a b rest) g t
+
+  pub with_link_lasts : (ls : List Link) → Lasts ls (world.with_link f v w ls)
+  unfolding world.with_link
+  with_link_lasts [] = λ a b t. t
+  with_link_lasts (l ∷ ls) = λ a b t. last_head (world.is_link v w l) a b l ls (world.with_link f v w ls) (with_link_lasts ls a b) t
 
 -- ---- the changes
 

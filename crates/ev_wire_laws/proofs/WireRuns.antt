@@ -1,27 +1,35 @@
 -- In every world of a run the two vats of each link know what its notes ask for and tell.
-use Rattle.std.proofs.Common.{◌≡◌, ℕ, zero, suc, Bool, true, false, List, [], ◌∷◌, ◌++◌, Option, Some, None, refl, sym, ap, subst, ◌∙◌, ◌⊎◌, inl, inr, length, append_assoc, append-nil, ◌==◌}
+use Rattle.std.proofs.Common.{◌≡◌, ℕ, zero, suc, Bool, true, false, List, [], ◌∷◌, ◌++◌, Option, Some, None, refl, sym, ap, subst, ◌∙◌, ◌⊎◌, inl, inr, length, append_assoc, append-nil, ◌==◌, ◌+◌, map, arith}
 use Rattle.std.specs.Prelude.{slice_get}
-use Rattle.std.proofs.lemmas.Bool.{eqb-true}
-use Rattle.ev_machine.specs.Values.{Name, Root, Object, Promise, Answer, Gift, Sent as Message_name, naming}
-use Rattle.ev_machine.specs.State.{Message, Note, Deliver, Open, Ask, SettledTo, Elsewhere, Shorten, Put, Vat, Done, Gives, Throws, Ejects, Stops, Act, is_in}
+use Rattle.std.proofs.lemmas.Bool.{eqb-true, eq-eqb}
+use Rattle.ev_machine.specs.Values.{Name, Root, Object, Promise, Answer, Gift, Sent as Message_name, naming, host_of}
+use Rattle.ev_machine.specs.State.{Message, Note, Deliver, Open, Ask, SettledTo, Elsewhere, Shorten, Put, Vat, Done, Gives, Throws, Ejects, Stops, Act, is_in, begun}
 use Rattle.ev_machine.specs.Eval.{opening, taking}
 use Rattle.ev_machine.specs.Arrive.{arrive, notice}
 use Rattle.ev_run.specs.Draws.{draw_word}
 use Rattle.ev_run.specs.World as world
 use Rattle.ev_run.specs.World.{Script, Program, Opens, Entry, Turn, Carry, CutLink, NoticeLink, Event, Turned, Idle, Carried, CutAt, NoticedAt, Link, World, Run, Goes as Going, Stopped, names, names_of, read_note, put_at, readied}
 use Rattle.ev_fate_laws.proofs.Leads.{Leads, Ends}
-use Rattle.ev_name_laws.specs.Names.{AllOf, IsAmong, IsKnownIn, IsMessageName, IsMessageMade, NoteOk, PutOk, names_in, Once}
+use Rattle.ev_name_laws.specs.Names.{AllOf, IsAmong, IsKnownIn, IsMessageName, IsMessageMade, IsEventual, Bit, Mail, NoteOk, PutOk, names_in, Once}
 use Rattle.ev_name_laws.specs.Runs.{InRuns}
 use Rattle.ev_name_laws.proofs.Facts.{all_map, all_append}
 use Rattle.ev_name_laws.proofs.Among.{all_among, get_put, length_end}
 use Rattle.ev_name_laws.proofs.Tracked.{known_among}
 use Rattle.ev_name_laws.proofs.Run.{Stands, Told, Had, step_stands, steps_stand, open_stands, begins_stands}
-use Rattle.ev_wire_laws.specs.Asked.{told_in}
+use Rattle.ev_rest_laws.specs.Notes.{IsBetween, Carries}
+use Rattle.ev_rest_laws.proofs.OwnRuns.{Any as Anyhow}
+use Rattle.ev_rest_laws.proofs.RunLift.{IsAllowed, all_allowed}
+use Rattle.ev_rest_laws.proofs.NotesLift as lift
+use Rattle.ev_rest_laws.proofs.NotesRuns.{Its, OfNotes, Ever, its_keep, links_of, opened_all}
+use Rattle.ev_wire_laws.specs.Asked.{AsksOf, told_in}
 use Rattle.ev_wire_laws.specs.Alike.{names_heard}
-use Rattle.ev_wire_laws.proofs.Asking.{Any, GiftFits, PutFits, Asking, Steady}
+use Rattle.ev_wire_laws.proofs.Asking.{Any, GiftFits, PutFits, Asking, Steady, Comes}
 use Rattle.ev_wire_laws.proofs.RefsAsking.{asking_taking, asking_openings}
 use Rattle.ev_wire_laws.proofs.ArriveAsking.{Answered, MailFits, Has, HasHeard, Reached, led_reached, arrive_hears, asking_notice}
 use Rattle.ev_wire_laws.proofs.Told.{known_up, heard_told, note_told}
+use Rattle.ev_wire_laws.proofs.LinksGo.{Splits, LinkGoes, LinksGo, Paired, links_on, paired_on, with_link_goes, with_link_lasts, severed_goes}
+use Rattle.ev_wire_laws.proofs.LinksThere.{begins_paired}
+use Rattle.ev_wire_laws.proofs.Sources.{Source, Sourced, source_on, source_asked, source_told, push_all_goes, push_all_lasts, take_goes, take_lasts, take_splits, severed_stay, told_either}
 use Rattle.ev_wire_laws.proofs.LinksKnown.{Knowing, SentBy, HeardBy, Sent, Heard, LinkKnown, Grows, asks_own, link_up, with_link_all, with_found_all, at_link, push_all_stands, severed_stands, taken_stands}
 
 put_at_or : (v : ℕ) (y : Vat Name) (xs : List (Vat Name)) (u : ℕ) (t : Vat Name) → slice_get (put_at v y xs) u ≡ Some t → ((u ≡ v) × (y ≡ t)) ⊎ (slice_get xs u ≡ Some t)
@@ -40,9 +48,29 @@ put_at_or (suc v) y (x ∷ xs) (suc u) t e = go (put_at_or v y xs u t e)
 abbrev pub AllGifts : List (Vat Name) → Type 0
 AllGifts vats = (v : ℕ) (s : Vat Name) → slice_get vats v ≡ Some s → AllOf (GiftFits v (names_in s.known)) s.gifts
 
+-- each name of another vat that a vat knows came to it from somewhere
+abbrev pub AllSourced : List (Vat Name) → List Link → Type 0
+AllSourced vats ls = (v : ℕ) (s : Vat Name) → slice_get vats v ≡ Some s → Sourced ls v s
+
 pub record Wire (w : World) : Type 0 where
   pub gifts : AllGifts w.vats
   pub links : AllOf (LinkKnown w.vats) w.links
+  pub sources : AllSourced w.vats w.links
+  -- with each link there is one back
+  pub paired : Paired w.links
+
+pub splits_of : (vats : List (Vat Name)) (ls : List Link) → AllOf (LinkKnown vats) ls → AllOf Splits ls
+splits_of vats ls h = all_map (λ l k e. let a = k.arrived e in (a.0, a.1)) ls h
+
+sourced_links : (vats : List (Vat Name)) (ls ks : List Link) → LinksGo ls ks → AllSourced vats ls → AllSourced vats ks
+sourced_links vats ls ks g h v s e n a = source_on ls ks g v s s (λ i j. j) n (h v s e n a)
+
+sourced_put : (us : List (Vat Name)) (ls : List Link) (v : ℕ) (t : Vat Name) → AllSourced us ls → Sourced ls v t → AllSourced (put_at v t us) ls
+sourced_put us ls v t h g u r e = go (put_at_or v t us u r e)
+  where
+    go : ((u ≡ v) × (t ≡ r)) ⊎ (slice_get us u ≡ Some r) → Sourced ls u r
+    go (inl i) = let one : Sourced ls u t = rw (sym i.0) at g in rw i.1 at one
+    go (inr i) = h u r i
 
 grows_put : (us : List (Vat Name)) (v : ℕ) (s t : Vat Name) → slice_get us v ≡ Some s → Has (names_in s.known) t → Grows us (put_at v t us)
 grows_put us v s t there h u r e = go (put_at_or v t us u r e)
@@ -89,55 +117,6 @@ module _ (script : Script) where
       knows : (r : Vat Name) → slice_get us v ≡ Some r → SentBy p.to p.note (names_in r.known)
       knows r e = rw (some_vat t r (sym there ∙ e)) at known_here
 
-  -- what is put back: q is the vat before the step, with no note put
-  put_back_wire : (w x : World) (v : ℕ) (s q : Vat Name) (P : Name → Type 0) (F : Vat Name → Type 0) (head : List Event) (n : ℕ) (d : Done Name (Unit {0})) → slice_get w.vats v ≡ Some s → names_in q.known ≡ names_in s.known → q.gifts ≡ s.gifts → q.outbox ≡ []
-      → AllGifts w.vats → Reached v P F q d → ((t : Vat Name) → Has (names_in s.known) t → F t → AllOf (LinkKnown (put_at v t w.vats)) w.links) → world.put_back v w head n d ≡ Going x → Stands script x → Wire x
-  unfolding world.put_back
-  put_back_wire w x v s q P F head n (Gives a t) there same gifts out g h f e k =
-      let y : World = record { fuel = t.fuel; drawn = t.drawn; vats = put_at v t w.vats; links = world.push_all v t.outbox w.links; history = w.history ++ head ++ world.events_of w.links v t.happened } in
-      let r : Steady v P q t = h.0 in let known : Has (names_in s.known) t = λ m a. r.names m (rw (sym same) at a) in
-      let before : AllOf (GiftFits v (names_in q.known)) q.gifts = rw (sym same, sym gifts) at (g v s there) in
-      let none : AllOf (PutFits (names_in q.known)) q.outbox = rw out tt in
-      let fit = r.fits (before, none) in let at_y : Stands script y = rw (sym (going_is y x e)) at k in
-      let got : slice_get (put_at v t w.vats) v ≡ Some t = get_put w.vats v s t there in
-      let stands = at_y.vats v t got in let parts = stands.parts in
-      moved y x (record {
-        gifts = gifts_put w.vats v t g fit.0;
-        links = push_all_stands (put_at v t w.vats) v t.outbox w.links (puts_sent y v (put_at v t w.vats) t got t.outbox fit.1 parts.outbox) (f t known h.1);
-      }) e
-  put_back_wire w x v s q P F head n (Throws p t) there same gifts out g h f e k = cc
-  put_back_wire w x v s q P F head n (Ejects m y t) there same gifts out g h f e k = cc
-  put_back_wire w x v s q P F head n (Stops c t) there same gifts out g h f e k = cc
-
-  links_up : (us : List (Vat Name)) (ls : List Link) (v : ℕ) (s t : Vat Name) → slice_get us v ≡ Some s → Has (names_in s.known) t → AllOf (LinkKnown us) ls → AllOf (LinkKnown (put_at v t us)) ls
-  links_up us ls v s t there h k = all_map (link_up us (put_at v t us) (grows_put us v s t there h)) ls k
-
-  number_is : (w : World) (v : ℕ) (s : Vat Name) → Stands script w → slice_get w.vats v ≡ Some s → s.number ≡ v
-  number_is w v s g i = let one = g.vats v s i in let kept = one.kept in kept.number
-
-  -- a step in which nothing is told
-  alone_wire : (w x : World) (v : ℕ) (s q : Vat Name) (head : List Event) (n : ℕ) (m : Act Name (Unit {0})) → slice_get w.vats v ≡ Some s → q.number ≡ s.number → names_in q.known ≡ names_in s.known → q.gifts ≡ s.gifts → Stands script w → Wire w → Leads Any (Asking v NoneTold) m
-      → world.put_back v w head n (m (readied w q)) ≡ Going x → Stands script x → Wire x
-  unfolding readied
-  alone_wire w x v s q head n m there num same gifts g h f e k = put_back_wire w x v s (readied w q) NoneTold Whatever head n (m (readied w q)) there same gifts refl h.gifts
-      (led_reached v NoneTold Whatever (readied w q) (m (readied w q)) (num ∙ number_is w v s g there) (λ t r. tt) (f.after (readied w q))) (λ t k i. links_up w.vats w.links v s t there k h.links) e k
-
-  idle_wire : (k : ℕ) (w x : World) → Wire w → world.idle script k w ≡ Going x → Wire x
-  unfolding world.idle
-  idle_wire k w x h e = moved (record w { history = w.history ++ Idle k ∷ [] }) x (record { gifts = h.gifts; links = h.links }) e
-
-  turn_queue_wire : (k v : ℕ) (w x : World) (s : Vat Name) (qs : List (Message Name)) → slice_get w.vats v ≡ Some s → Stands script w → Wire w → world.turn_queue script k v w s qs ≡ Going x → Stands script x → Wire x
-  unfolding world.turn_queue world.within names
-  turn_queue_wire k v w x s [] i g h e j = idle_wire k w x h e
-  turn_queue_wire k v w x s (m ∷ ms) i g h e j = alone_wire w x v s (record s { queue = ms }) (Turned k v ∷ []) (world.step_number script k) _ i refl refl refl g h (asking_taking v NoneTold (draw_word script.key) (world.tree_at script.vats v) script.depth m) e j
-
-  turn_wire : (k v : ℕ) (w x : World) (o : Option (Vat Name)) → slice_get w.vats v ≡ o → Stands script w → Wire w → world.turn script k v w o ≡ Going x → Stands script x → Wire x
-  unfolding world.turn
-  turn_wire k v w x None i g h e j = idle_wire k w x h e
-  turn_wire k v w x (Some s) i g h e j = turn_queue_wire k v w x s s.queue i g h e j
-
-  -- ---- arrival
-
   message_made : (vats : List (Vat Name)) (m : Name) → IsMessageMade vats m → IsMessageName m
   message_made vats (Message_name m) h = tt
   message_made vats (Root w) h = absurd h
@@ -146,13 +125,82 @@ module _ (script : Script) where
   message_made vats (Answer w m) h = absurd h
   message_made vats (Gift w i) h = absurd h
 
-  mail_fits : (w : World) (n : Note Name) → NoteOk (Told script w) n → MailFits n
-  mail_fits w (Deliver m n verb ys) h = message_made w.vats m h.0.0
-  mail_fits w (Open i n) h = tt
-  mail_fits w (Ask p i n) h = tt
-  mail_fits w (SettledTo n y) h = tt
-  mail_fits w (Elsewhere n c) h = tt
-  mail_fits w (Shorten n c i) h = tt
+  mail_fits : (vats : List (Vat Name)) (P : Bit Name → Type 0) → ((m : Name) → P (Mail m) → IsMessageMade vats m) → (n : Note Name) → NoteOk P n → MailFits n
+  mail_fits vats P f (Deliver m n verb ys) h = message_made vats m (f m h.0)
+  mail_fits vats P f (Open i n) h = tt
+  mail_fits vats P f (Ask p i n) h = tt
+  mail_fits vats P f (SettledTo n y) h = tt
+  mail_fits vats P f (Elsewhere n c) h = tt
+  mail_fits vats P f (Shorten n c i) h = tt
+
+  -- each name that the vat knows after it
+  sourced_after : (w y : World) (v : ℕ) (s q t : Vat Name) (P : Name → Type 0) → names_in q.known ≡ names_in s.known → q.noticed ≡ s.noticed → Steady v P q t → AllOf Splits w.links → Sourced w.links v s → AllOf (PutFits (names_in t.known)) t.outbox → AllOf (PutOk (Had script y v t)) t.outbox
+      → ((n : Name) → P n → IsAmong n (names_in t.known) → Source (world.push_all v t.outbox w.links) v t n) → Sourced (world.push_all v t.outbox w.links) v t
+  sourced_after w y v s q t P same noticed r splits before fits outs told n a = either (r.news n a)
+    where
+      asked : (p : Put Name) → IsAmong p t.outbox → AsksOf p.to p.note n → Source (world.push_all v t.outbox w.links) v t n
+      asked p b k = let ok = all_among (PutOk (Had script y v t)) t.outbox p outs b in
+          source_asked w.links splits v t n p b (mail_fits y.vats (Had script y v t) (λ m i. i.0) p.note ok.0) (asks_own (names_in t.known) p.to p.note (all_among (PutFits (names_in t.known)) t.outbox p fits b)) k
+
+      either : IsAmong n (names_in q.known) ⊎ Comes v P t n → Source (world.push_all v t.outbox w.links) v t n
+      either (inl b) = source_on w.links (world.push_all v t.outbox w.links) (push_all_goes v t.outbox w.links splits) v s t (λ h i. r.noticed h (rw (ap (is_in h) (sym noticed)) at i)) n (before n (rw same at b))
+      either (inr (inl e)) = inl e
+      either (inr (inr (inl b))) = asked b.0 b.1 b.2
+      either (inr (inr (inr (inl e)))) = inr (inl e)
+      either (inr (inr (inr (inr p)))) = told n p a
+
+  -- what is put back: q is the vat before the step, with no note put
+  put_back_wire : (w x : World) (v : ℕ) (s q : Vat Name) (P : Name → Type 0) (F : Vat Name → Type 0) (head : List Event) (n : ℕ) (d : Done Name (Unit {0})) → slice_get w.vats v ≡ Some s → names_in q.known ≡ names_in s.known → q.gifts ≡ s.gifts → q.outbox ≡ [] → q.noticed ≡ s.noticed
+      → AllGifts w.vats → AllOf Splits w.links → AllSourced w.vats w.links → Paired w.links → Reached v P F q d → ((t : Vat Name) → Has (names_in s.known) t → F t → AllOf (LinkKnown (put_at v t w.vats)) w.links)
+      → ((t : Vat Name) (n : Name) → P n → IsEventual n → Source (world.push_all v t.outbox w.links) v t n) → world.put_back v w head n d ≡ Going x → Stands script x → Wire x
+  unfolding world.put_back
+  put_back_wire w x v s q P F head n (Gives a t) there same gifts out noticed g sp so pairs h f told e k =
+      let y : World = record { fuel = t.fuel; drawn = t.drawn; vats = put_at v t w.vats; links = world.push_all v t.outbox w.links; history = w.history ++ head ++ world.events_of w.links v t.happened } in
+      let r : Steady v P q t = h.0 in let known : Has (names_in s.known) t = λ m a. r.names m (rw (sym same) at a) in
+      let before : AllOf (GiftFits v (names_in q.known)) q.gifts = rw (sym same, sym gifts) at (g v s there) in
+      let none : AllOf (PutFits (names_in q.known)) q.outbox = rw out tt in
+      let fit = r.fits (before, none) in let at_y : Stands script y = rw (sym (going_is y x e)) at k in
+      let got : slice_get (put_at v t w.vats) v ≡ Some t = get_put w.vats v s t there in
+      let stands = at_y.vats v t got in let parts = stands.parts in let kept = stands.kept in
+      let after : List Link = world.push_all v t.outbox w.links in
+      moved y x (record {
+        gifts = gifts_put w.vats v t g fit.0;
+        links = push_all_stands (put_at v t w.vats) v t.outbox w.links (puts_sent y v (put_at v t w.vats) t got t.outbox fit.1 parts.outbox) (f t known h.1);
+        sources = sourced_put w.vats after v t (sourced_links w.vats w.links after (push_all_goes v t.outbox w.links sp) so) (sourced_after w y v s q t P same noticed r sp (so v s there) fit.1 parts.outbox (λ m p a. told t m p (all_among IsEventual (names_in t.known) m kept.apart a)));
+        paired = paired_on w.links after (push_all_goes v t.outbox w.links sp) (push_all_lasts v t.outbox w.links) pairs;
+      }) e
+  put_back_wire w x v s q P F head n (Throws p t) there same gifts out noticed g sp so pairs h f told e k = cc
+  put_back_wire w x v s q P F head n (Ejects m y t) there same gifts out noticed g sp so pairs h f told e k = cc
+  put_back_wire w x v s q P F head n (Stops c t) there same gifts out noticed g sp so pairs h f told e k = cc
+
+  links_up : (us : List (Vat Name)) (ls : List Link) (v : ℕ) (s t : Vat Name) → slice_get us v ≡ Some s → Has (names_in s.known) t → AllOf (LinkKnown us) ls → AllOf (LinkKnown (put_at v t us)) ls
+  links_up us ls v s t there h k = all_map (link_up us (put_at v t us) (grows_put us v s t there h)) ls k
+
+  number_is : (w : World) (v : ℕ) (s : Vat Name) → Stands script w → slice_get w.vats v ≡ Some s → s.number ≡ v
+  number_is w v s g i = let one = g.vats v s i in let kept = one.kept in kept.number
+
+  -- a step in which nothing is told
+  alone_wire : (w x : World) (v : ℕ) (s q : Vat Name) (head : List Event) (n : ℕ) (m : Act Name (Unit {0})) → slice_get w.vats v ≡ Some s → q.number ≡ s.number → names_in q.known ≡ names_in s.known → q.gifts ≡ s.gifts → q.noticed ≡ s.noticed → Stands script w → Wire w → Leads Any (Asking v NoneTold) m
+      → world.put_back v w head n (m (readied w q)) ≡ Going x → Stands script x → Wire x
+  unfolding readied
+  alone_wire w x v s q head n m there num same gifts noticed g h f e k = put_back_wire w x v s (readied w q) NoneTold Whatever head n (m (readied w q)) there same gifts refl noticed h.gifts (splits_of w.vats w.links h.links) h.sources h.paired
+      (led_reached v NoneTold Whatever (readied w q) (m (readied w q)) (num ∙ number_is w v s g there) (λ t r. tt) (f.after (readied w q))) (λ t k i. links_up w.vats w.links v s t there k h.links) (λ t m b o. absurd b) e k
+
+  idle_wire : (k : ℕ) (w x : World) → Wire w → world.idle script k w ≡ Going x → Wire x
+  unfolding world.idle
+  idle_wire k w x h e = moved (record w { history = w.history ++ Idle k ∷ [] }) x (record { gifts = h.gifts; links = h.links; sources = h.sources; paired = h.paired }) e
+
+  turn_queue_wire : (k v : ℕ) (w x : World) (s : Vat Name) (qs : List (Message Name)) → slice_get w.vats v ≡ Some s → Stands script w → Wire w → world.turn_queue script k v w s qs ≡ Going x → Stands script x → Wire x
+  unfolding world.turn_queue world.within names
+  turn_queue_wire k v w x s [] i g h e j = idle_wire k w x h e
+  turn_queue_wire k v w x s (m ∷ ms) i g h e j = alone_wire w x v s (record s { queue = ms }) (Turned k v ∷ []) (world.step_number script k) _ i refl refl refl refl g h (asking_taking v NoneTold (draw_word script.key) (world.tree_at script.vats v) script.depth m) e j
+
+  turn_wire : (k v : ℕ) (w x : World) (o : Option (Vat Name)) → slice_get w.vats v ≡ o → Stands script w → Wire w → world.turn script k v w o ≡ Going x → Stands script x → Wire x
+  unfolding world.turn
+  turn_wire k v w x None i g h e j = idle_wire k w x h e
+  turn_wire k v w x (Some s) i g h e j = turn_queue_wire k v w x s s.queue i g h e j
+
+  -- ---- arrival
 
   -- the receiver has heard it
   heard_now : (us : List (Vat Name)) (v : ℕ) (s t : Vat Name) (n : Note Name) → slice_get us v ≡ Some s → HasHeard v NoneTold (draw_word script.key) (names_in s.known) n t → Heard (put_at v t us) v n
@@ -161,58 +209,72 @@ module _ (script : Script) where
       here : HeardBy v n (names_in t.known)
       here = (h.1, all_map (λ m i. known_up (names_heard (names_in s.known) n) (names_in t.known) h.0 m i) (told_in n) (heard_told (names_in s.known) n))
 
-  arrives_wire : (k v to : ℕ) (w x : World) (l : Link) (n : Note Name) (ns : List (Note Name)) → world.link_at v to w.links ≡ Some l → l.notes ≡ n ∷ ns → NoteOk (Told script w) n → (o : Option (Vat Name)) → slice_get w.vats to ≡ o → Stands script w → Wire w
+  told_here : (w : World) (v to : ℕ) (l : Link) (n : Note Name) (ns : List (Note Name)) → world.link_at v to w.links ≡ Some l → l.notes ≡ n ∷ ns → l.cut ≡ false → AllOf Splits w.links → (t : Vat Name) (m : Name) → IsAmong m (told_in n) → (host_of m ≡ v) ⊎ (host_of m ≡ to)
+      → Source (world.push_all to t.outbox (world.with_link (world.with_notes ns) v to w.links)) to t m
+  told_here w v to l n ns at e uncut splits t m p (inl i) = source_told w.links splits v to l n ns at e uncut t t.outbox (take_splits n ns v to l w.links at e splits) m i p
+  told_here w v to l n ns at e uncut splits t m p (inr i) = inl i
+
+  arrives_wire : (k v to : ℕ) (w x : World) (l : Link) (n : Note Name) (ns : List (Note Name)) → world.link_at v to w.links ≡ Some l → l.notes ≡ n ∷ ns → l.cut ≡ false → NoteOk (Told script w) n → OfNotes script v to n → (o : Option (Vat Name)) → slice_get w.vats to ≡ o → Stands script w → Wire w
       → world.arrives script k v to (record w { links = world.with_link (world.with_notes ns) v to w.links }) n o ≡ Going x → Stands script x → Wire x
   unfolding world.arrives world.within names names_of readied
-  arrives_wire k v to w x l n ns at e ok (Some s) i g h j z = let word : ℕ → ℕ = draw_word script.key in let y : World = record w { links = world.with_link (world.with_notes ns) v to w.links } in
-      let P : Name → Type 0 = λ m. IsAmong m (told_in n) in
-      put_back_wire y x to s (readied y s) P (HasHeard to P word (names_in s.known) n) (Carried k v to n y.links ∷ []) (world.step_number script k) (arrive (naming word to) v (read_note (names_in s.known) n) (readied y s)) i refl refl refl h.gifts
-      (arrive_hears to P word v n (readied y s) (number_is w to s g i) (mail_fits w n ok) (λ m a. a) (h.gifts to s i))
+  arrives_wire k v to w x l n ns at e uncut ok ends (Some s) i g h j z = let word : ℕ → ℕ = draw_word script.key in let y : World = record w { links = world.with_link (world.with_notes ns) v to w.links } in
+      let P : Name → Type 0 = λ m. IsAmong m (told_in n) in let splits : AllOf Splits w.links = splits_of w.vats w.links h.links in
+      put_back_wire y x to s (readied y s) P (HasHeard to P word (names_in s.known) n) (Carried k v to n y.links ∷ []) (world.step_number script k) (arrive (naming word to) v (read_note (names_in s.known) n) (readied y s)) i refl refl refl refl h.gifts (take_splits n ns v to l w.links at e splits) (sourced_links w.vats w.links y.links (take_goes n ns v to l w.links at e splits) h.sources) (paired_on w.links y.links (take_goes n ns v to l w.links at e splits) (take_lasts ns v to w.links) h.paired)
+      (arrive_hears to P word v n (readied y s) (number_is w to s g i) (mail_fits w.vats (Told script w) (λ m i. i.0) n ok) (λ m a. a) (h.gifts to s i))
       (λ t known heard. with_found_all (LinkKnown (put_at to t w.vats)) (world.with_notes ns) v to l
-      (λ j same from at_to q. taken_stands (put_at to t w.vats) n ns j (ap (λ (z : Link). z.notes) same ∙ e) (subst (λ (z : ℕ). Heard (put_at to t w.vats) z n) (sym at_to) (heard_now w.vats to s t n i heard)) q) w.links at (links_up w.vats w.links to s t i known h.links)) j z
-  arrives_wire k v to w x l n ns at e ok None i g h j z = idle_wire k (record w { links = world.with_link (world.with_notes ns) v to w.links }) x (record { gifts = h.gifts; links = nobody }) j
+      (λ j same from at_to q. taken_stands (put_at to t w.vats) n ns j (ap (λ (z : Link). z.notes) same ∙ e) (subst (λ (z : ℕ). Heard (put_at to t w.vats) z n) (sym at_to) (heard_now w.vats to s t n i heard)) q) w.links at (links_up w.vats w.links to s t i known h.links))
+      (λ t m p o. told_here w v to l n ns at e uncut splits t m p (told_either v to m n o ends.0 ends.1 p)) j z
+  arrives_wire k v to w x l n ns at e uncut ok ends None i g h j z = idle_wire k (record w { links = world.with_link (world.with_notes ns) v to w.links }) x (record { gifts = h.gifts; links = nobody; sources = sourced_links w.vats w.links (world.with_link (world.with_notes ns) v to w.links) (take_goes n ns v to l w.links at e (splits_of w.vats w.links h.links)) h.sources; paired = paired_on w.links (world.with_link (world.with_notes ns) v to w.links) (take_goes n ns v to l w.links at e (splits_of w.vats w.links h.links)) (take_lasts ns v to w.links) h.paired }) j
     where
       nobody : AllOf (LinkKnown w.vats) (world.with_link (world.with_notes ns) v to w.links)
       nobody = with_found_all (LinkKnown w.vats) (world.with_notes ns) v to l (λ j same from at_to q. taken_stands w.vats n ns j (ap (λ (z : Link). z.notes) same ∙ e) (λ r f. absurd (none_some (slice_get w.vats to) r i (rw at_to at f))) q) w.links at h.links
 
-  carry_notes_wire : (k v to : ℕ) (w x : World) (l : Link) → world.link_at v to w.links ≡ Some l → (ns : List (Note Name)) → l.notes ≡ ns → AllOf (NoteOk (Told script w)) ns → Stands script w → Wire w → world.carry_notes script k v to w ns ≡ Going x → Stands script x → Wire x
+  carry_notes_wire : (k v to : ℕ) (w x : World) (l : Link) → world.link_at v to w.links ≡ Some l → (ns : List (Note Name)) → l.notes ≡ ns → l.cut ≡ false → AllOf (NoteOk (Told script w)) ns → AllOf (OfNotes script v to) ns → Stands script w → Wire w → world.carry_notes script k v to w ns ≡ Going x → Stands script x → Wire x
   unfolding world.carry_notes
-  carry_notes_wire k v to w x l at [] e ok g h j z = idle_wire k w x h j
-  carry_notes_wire k v to w x l at (n ∷ ns) e ok g h j z = arrives_wire k v to w x l n ns at e ok.0 (slice_get w.vats to) refl g h j z
+  carry_notes_wire k v to w x l at [] e uncut ok ends g h j z = idle_wire k w x h j
+  carry_notes_wire k v to w x l at (n ∷ ns) e uncut ok ends g h j z = arrives_wire k v to w x l n ns at e uncut ok.0 ends.0 (slice_get w.vats to) refl g h j z
 
-  carry_cut_wire : (k v to : ℕ) (w x : World) (l : Link) → world.link_at v to w.links ≡ Some l → (b : Bool) → Stands script w → Wire w → elim b [ true ↦ world.idle script k w | false ↦ world.carry_notes script k v to w l.notes ] ≡ Going x → Stands script x → Wire x
-  carry_cut_wire k v to w x l at true g h j z = idle_wire k w x h j
-  carry_cut_wire k v to w x l at false g h j z = carry_notes_wire k v to w x l at l.notes refl (at_link (λ l. AllOf (NoteOk (Told script w)) l.notes) v to l w.links g.links at).0 g h j z
+  carry_cut_wire : (k v to : ℕ) (w x : World) (l : Link) → world.link_at v to w.links ≡ Some l → (b : Bool) → l.cut ≡ b → AllOf (lift.Fits (OfNotes script)) w.links → Stands script w → Wire w → elim b [ true ↦ world.idle script k w | false ↦ world.carry_notes script k v to w l.notes ] ≡ Going x → Stands script x → Wire x
+  carry_cut_wire k v to w x l at true c ends g h j z = idle_wire k w x h j
+  carry_cut_wire k v to w x l at false c ends g h j z = let fit = at_link (lift.Fits (OfNotes script)) v to l w.links ends at in let both = fit.0 in let one : AllOf (OfNotes script l.from l.to) l.notes = both.1 in
+      carry_notes_wire k v to w x l at l.notes refl c (at_link (λ l. AllOf (NoteOk (Told script w)) l.notes) v to l w.links g.links at).0 (rw (fit.1, fit.2) at one) g h j z
 
-  carry_link_wire : (k v to : ℕ) (w x : World) (o : Option Link) → world.link_at v to w.links ≡ o → Stands script w → Wire w → world.carry_link script k v to w o ≡ Going x → Stands script x → Wire x
+  carry_link_wire : (k v to : ℕ) (w x : World) (o : Option Link) → world.link_at v to w.links ≡ o → AllOf (lift.Fits (OfNotes script)) w.links → Stands script w → Wire w → world.carry_link script k v to w o ≡ Going x → Stands script x → Wire x
   unfolding world.carry_link
-  carry_link_wire k v to w x None at g h j z = idle_wire k w x h j
-  carry_link_wire k v to w x (Some l) at g h j z = carry_cut_wire k v to w x l at l.cut g h j z
+  carry_link_wire k v to w x None at ends g h j z = idle_wire k w x h j
+  carry_link_wire k v to w x (Some l) at ends g h j z = carry_cut_wire k v to w x l at l.cut refl ends g h j z
+
+  all_severed : (ls : List Link) → AllOf (λ l. LinkGoes l (world.severed_link l)) ls
+  all_severed [] = tt
+  all_severed (l ∷ ls) = (severed_goes l, all_severed ls)
 
   cut_wire : (k v to : ℕ) (w x : World) → Wire w → world.cut script k v to w ≡ Going x → Wire x
   unfolding world.cut
-  cut_wire k v to w x h e = moved _ x (record {
-    gifts = h.gifts;
-    links = with_link_all (LinkKnown w.vats) world.severed_link to v (λ l a b i. severed_stands w.vats l i) (world.with_link world.severed_link v to w.links) (with_link_all (LinkKnown w.vats) world.severed_link v to (λ l a b i. severed_stands w.vats l i) w.links h.links);
-  }) e
+  cut_wire k v to w x h e = let one : List Link = world.with_link world.severed_link v to w.links in let two : List Link = world.with_link world.severed_link to v one in
+      let goes : LinksGo w.links two = links_on w.links one two (with_link_goes world.severed_link severed_stay v to w.links (all_severed w.links)) (with_link_goes world.severed_link severed_stay to v one (all_severed one)) in moved _ x (record {
+        gifts = h.gifts;
+        links = with_link_all (LinkKnown w.vats) world.severed_link to v (λ l a b i. severed_stands w.vats l i) (world.with_link world.severed_link v to w.links) (with_link_all (LinkKnown w.vats) world.severed_link v to (λ l a b i. severed_stands w.vats l i) w.links h.links);
+        sources = sourced_links w.vats w.links two goes h.sources;
+        paired = paired_on w.links two goes (λ a b t. with_link_lasts world.severed_link severed_stay to v one a b (with_link_lasts world.severed_link severed_stay v to w.links a b t)) h.paired;
+      }) e
 
   notice_wire : (k v to : ℕ) (w x : World) (o : Option (Vat Name)) → slice_get w.vats v ≡ o → Stands script w → Wire w → world.within v w (NoticedAt k v to ∷ []) (world.step_number script k) (notice (names script v) to) o ≡ Going x → Stands script x → Wire x
   unfolding world.within names
   notice_wire k v to w x None i g h e j = cc
-  notice_wire k v to w x (Some s) i g h e j = alone_wire w x v s s (NoticedAt k v to ∷ []) (world.step_number script k) _ i refl refl refl g h (asking_notice v NoneTold (draw_word script.key) to) e j
+  notice_wire k v to w x (Some s) i g h e j = alone_wire w x v s s (NoticedAt k v to ∷ []) (world.step_number script k) _ i refl refl refl refl g h (asking_notice v NoneTold (draw_word script.key) to) e j
 
-  step_wire : (entry : Entry) (k : ℕ) (w x : World) → Stands script w → Wire w → world.step script entry k w ≡ Going x → Stands script x → Wire x
+  step_wire : (entry : Entry) (k : ℕ) (w x : World) → AllOf (lift.Fits (OfNotes script)) w.links → Stands script w → Wire w → world.step script entry k w ≡ Going x → Stands script x → Wire x
   unfolding world.step
-  step_wire (Turn v) k w x g h e j = turn_wire k v w x (slice_get w.vats v) refl g h e j
-  step_wire (Carry v to) k w x g h e j = carry_link_wire k v to w x (world.link_at v to w.links) refl g h e j
-  step_wire (CutLink v to) k w x g h e j = cut_wire k v to w x h e
-  step_wire (NoticeLink v to) k w x g h e j = notice_wire k v to w x (slice_get w.vats v) refl g h e j
+  step_wire (Turn v) k w x ends g h e j = turn_wire k v w x (slice_get w.vats v) refl g h e j
+  step_wire (Carry v to) k w x ends g h e j = carry_link_wire k v to w x (world.link_at v to w.links) refl ends g h e j
+  step_wire (CutLink v to) k w x ends g h e j = cut_wire k v to w x h e
+  step_wire (NoticeLink v to) k w x ends g h e j = notice_wire k v to w x (slice_get w.vats v) refl g h e j
 
   open_wire : (v : ℕ) (p : Program) (w x : World) (o : Option (Vat Name)) → slice_get w.vats v ≡ o → Stands script w → Wire w
       → world.within v w (Opens v ∷ []) v (opening (names script v) p.tree script.depth (Root v) (world.given script.vats p.knows)) o ≡ Going x → Stands script x → Wire x
   unfolding world.within names
   open_wire v p w x None i g h e j = cc
-  open_wire v p w x (Some s) i g h e j = alone_wire w x v s s (Opens v ∷ []) v _ i refl refl refl g h (asking_openings v NoneTold (draw_word script.key) p.tree script.depth (Root v) (world.given script.vats p.knows)) e j
+  open_wire v p w x (Some s) i g h e j = alone_wire w x v s s (Opens v ∷ []) v _ i refl refl refl refl g h (asking_openings v NoneTold (draw_word script.key) p.tree script.depth (Root v) (world.given script.vats p.knows)) e j
 
   -- both of what is said of a world
   abbrev pub Both : World → Type 0
@@ -226,11 +288,30 @@ module _ (script : Script) where
   then_both x (Going y) f a b e = b y (a y refl) e
   then_both x (Stopped c n y) f a b e = cc
 
-  pub steps_both : (es : List Entry) (k : ℕ) (w x : World) → Both w → world.steps_from script es k w ≡ Going x → Both x
+  -- with what the notes name
+  abbrev pub All : World → Type 0
+  All w = lift.All script (Its script) (OfNotes script) (Ever script) (Anyhow script) w × Wire w
+
+  moved_all : (w x : World) → All w → Going w ≡ Going x → All x
+  moved_all w x h e = rw (going_is w x e) at h
+
+  then_all : (x : World) (r : Run) (f : World → Run) → ((y : World) → r ≡ Going y → All y) → ((y : World) → All y → f y ≡ Going x → All x) → world.then_goes r f ≡ Going x → All x
+  unfolding world.then_goes
+  then_all x (Going y) f a b e = b y (a y refl) e
+  then_all x (Stopped c n y) f a b e = cc
+
+  stands_in : (w : World) → lift.All script (Its script) (OfNotes script) (Ever script) (Anyhow script) w → Stands script w
+  stands_in w h = h.0
+
+  step_both : (entry : Entry) (k : ℕ) (w y : World) → All w → world.step script entry k w ≡ Going y → All y
+  step_both entry k w y h i = let ok : IsAllowed (Anyhow script) entry = (all_allowed (Anyhow script) (λ v to. tt) (entry ∷ [])).0 in
+      let next = lift.step_all script (Its script) (OfNotes script) (Ever script) (Anyhow script) (its_keep script) entry k w y ok h.0 i in
+      (next, step_wire entry k w y (links_of script w h.0) (stands_in w h.0) h.1 i (stands_in y next))
+
+  pub steps_both : (es : List Entry) (k : ℕ) (w x : World) → All w → world.steps_from script es k w ≡ Going x → All x
   unfolding world.steps_from
-  steps_both [] k w x h e = moved_both w x h e
-  steps_both (entry ∷ es) k w x h e = then_both x (world.step script entry k w) (world.steps_from script es (suc k))
-      (λ y i. let z : Stands script y = step_stands script entry k w y h.0 i in (z, step_wire entry k w y h.0 h.1 i z)) (λ y i j. steps_both es (suc k) y x i j) e
+  steps_both [] k w x h e = moved_all w x h e
+  steps_both (entry ∷ es) k w x h e = then_all x (world.step script entry k w) (world.steps_from script es (suc k)) (λ y i. step_both entry k w y h i) (λ y i j. steps_both es (suc k) y x i j) e
 
 get_mid : (front : List Program) (p : Program) (ps : List Program) → slice_get (front ++ p ∷ ps) (length front) ≡ Some p
 get_mid [] p ps = refl
@@ -317,15 +398,87 @@ module _ (script : Script) where
     links_from_known v [] = tt
     links_from_known v (p ∷ ps) = all_append (LinkKnown Fresh) (world.links_to v zero script.vats) (world.links_from script.vats (suc v) ps) (links_to_known v [] script.vats refl) (links_from_known (suc v) ps)
 
+    -- the roots that a vat knows from the start are those of its links
+    root_back : (ws : List ℕ) (n : Name) → IsAmong n (names_in (map world.known_root ws)) → (u : ℕ) × (n ≡ Root u) × IsAmong u ws
+    unfolding world.known_root begun
+    root_back [] n h = absurd h
+    root_back (w ∷ ws) n (inl e) = (w, e, inl refl)
+    root_back (w ∷ ws) n (inr i) = let r = root_back ws n i in (r.0, r.1, inr r.2)
+
+    fresh_root : (u : ℕ) (p : Program) (n : Name) → IsAmong n (names_in (world.fresh script u p).known) → (w : ℕ) × (n ≡ Root w) × IsAmong w (u ∷ p.knows)
+    unfolding world.fresh world.known_root begun
+    fresh_root u p n (inl e) = (u, e, inl refl)
+    fresh_root u p n (inr i) = let r = root_back p.knows n i in (r.0, r.1, inr r.2)
+
+    fresh_root_at : (u : ℕ) (ps : List Program) (v : ℕ) (s : Vat Name) → slice_get (world.fresh_from script u ps) v ≡ Some s → (n : Name) → IsAmong n (names_in s.known) → (p : Program) × (w : ℕ) × (slice_get ps v ≡ Some p) × (n ≡ Root w) × IsAmong w ((u + v) ∷ p.knows)
+    unfolding world.fresh_from
+    fresh_root_at u [] v s e n a = absurd (nothing_is s e)
+      where
+        nothing_is : (s : Vat Name) → None ≡ Some s → ⊥
+        nothing_is s e = cc
+    fresh_root_at u (p ∷ ps) zero s e n a = let same : s ≡ world.fresh script u p = sym (some_vat (world.fresh script u p) s e) in let r = fresh_root u p n (subst (λ (z : Vat Name). IsAmong n (names_in z.known)) same a) in let sum : u ≡ u + 0 = omega arith in (p, r.0, refl, r.1, subst (λ (z : ℕ). IsAmong r.0 (z ∷ p.knows)) sum r.2)
+    fresh_root_at u (p ∷ ps) (suc v) s e n a = let r = fresh_root_at (suc u) ps v s e n a in let sum : suc u + v ≡ u + suc v = omega arith in (r.0, r.1, r.2, r.3, subst (λ (z : ℕ). IsAmong r.1 (z ∷ r.0.knows)) sum r.4)
+
+    -- the sender's root is among the roots of a link to a vat that knows it
+    abbrev RootThere : Link → Type 0
+    RootThere l = (p : Program) → slice_get script.vats l.to ≡ Some p → IsAmong l.from p.knows → IsAmong (Root l.from) l.roots
+
+    among_in : (v : ℕ) (ws : List ℕ) → IsAmong v ws → is_in v ws ≡ true
+    unfolding is_in
+    among_in v [] a = absurd a
+    among_in v (w ∷ ws) (inl e) = either (v == w) (is_in v ws) (eq-eqb v w e)
+      where
+        either : (b c : Bool) → b ≡ true → elim b [ true ↦ true | false ↦ c ] ≡ true
+        either true c i = refl
+        either false c i = cc
+    among_in v (w ∷ ws) (inr a) = either (v == w) (is_in v ws) (among_in v ws a)
+      where
+        either : (b c : Bool) → c ≡ true → elim b [ true ↦ true | false ↦ c ] ≡ true
+        either true c i = refl
+        either false c i = i
+
+    roots_either : (b : Bool) (v : ℕ) → b ≡ true → IsAmong (Root v) (elim b [ true ↦ Root v ∷ [] | false ↦ [] ])
+    roots_either true v e = inl refl
+    roots_either false v e = cc
+
+    roots_first : (v : ℕ) (p : Program) → IsAmong v p.knows → IsAmong (Root v) (world.roots_for v p)
+    unfolding world.roots_for
+    roots_first v p a = roots_either (is_in v p.knows) v (among_in v p.knows a)
+
+    either_roots : (b : Bool) (l : Link) (ls : List Link) → RootThere l → AllOf RootThere ls → AllOf RootThere (elim b [ true ↦ ls | false ↦ l ∷ ls ])
+    either_roots true l ls h i = i
+    either_roots false l ls h i = (h, i)
+
+    links_to_roots : (v : ℕ) (front ps : List Program) → script.vats ≡ front ++ ps → AllOf RootThere (world.links_to v (length front) ps)
+    unfolding world.links_to
+    links_to_roots v front [] i = tt
+    links_to_roots v front (p ∷ ps) i = either_roots (v == length front) (record { from = v; to = length front; cut = false; notes = []; roots = world.roots_for v p; log = [] }) (world.links_to v (suc (length front)) ps)
+        (λ q j a. let same : q ≡ p = some_program q p (sym j ∙ rw (sym i) at (get_mid front p ps)) in roots_first v p (rw (ap (λ (z : Program). z.knows) same) at a))
+        (rw (length_end front p) at (links_to_roots v (front ++ p ∷ []) ps (i ∙ sym (append_assoc front (p ∷ []) ps))))
+
+    links_from_roots : (v : ℕ) (ps : List Program) → AllOf RootThere (world.links_from script.vats v ps)
+    unfolding world.links_from
+    links_from_roots v [] = tt
+    links_from_roots v (p ∷ ps) = all_append RootThere (world.links_to v zero script.vats) (world.links_from script.vats (suc v) ps) (links_to_roots v [] script.vats refl) (links_from_roots (suc v) ps)
+
+    root_source : (v : ℕ) (s : Vat Name) (p : Program) (w : ℕ) → slice_get script.vats v ≡ Some p → IsAmong w (v ∷ p.knows) → Source (world.links_from script.vats zero script.vats) v s (Root w)
+    unfolding host_of
+    root_source v s p w i (inl e) = inl e
+    root_source v s p w i (inr a) = inr (inr (λ l m e f. let there = at_link RootThere w v l (world.links_from script.vats zero script.vats) (links_from_roots zero script.vats) e in
+        inr (inl (subst (λ (z : ℕ). IsAmong (Root z) l.roots) there.1 (there.0 p (ap (slice_get script.vats) there.2 ∙ i) (subst (λ (z : ℕ). IsAmong z p.knows) (sym there.1) a))))))
+
+    first_source : (v : ℕ) (s : Vat Name) → slice_get Fresh v ≡ Some s → (n : Name) → IsAmong n (names_in s.known) → Source (world.links_from script.vats zero script.vats) v s n
+    first_source v s e n a = let r = fresh_root_at zero script.vats v s e n a in let sum : zero + v ≡ v = omega arith in let here : IsAmong r.1 (v ∷ r.0.knows) = subst (λ (z : ℕ). IsAmong r.1 (z ∷ r.0.knows)) sum r.4 in subst (λ m. Source (world.links_from script.vats zero script.vats) v s m) (sym r.3) (root_source v s r.0 r.1 r.2 here)
+
     begins_wire : Wire (world.begins script)
     unfolding world.begins
-    begins_wire = record { gifts = λ v s e. no_gifts v s (fresh_gifts zero script.vats v s e); links = links_from_known zero script.vats }
+    begins_wire = record { gifts = λ v s e. no_gifts v s (fresh_gifts zero script.vats v s e); links = links_from_known zero script.vats; sources = λ v s e n a. first_source v s e n a; paired = begins_paired script }
 
     pub opened_both : (ps rest : List Program) (w : World) → script.vats ≡ ps ++ rest → world.open_from script zero ps (world.begins script) ≡ Going w → Both script w
     opened_both ps rest w e i = opens_both [] ps rest (world.begins script) w e (start, begins_wire) i
 
     pub stepped_both : (w x : World) (es : List Entry) (k : ℕ) → world.open_from script zero script.vats (world.begins script) ≡ Going w → world.steps_from script es k w ≡ Going x → Both script x
-    stepped_both w x es k e i = steps_both script es k w x (opened_both script.vats [] w (sym (append-nil script.vats)) e) i
+    stepped_both w x es k e i = let b = opened_both script.vats [] w (sym (append-nil script.vats)) e in let all = steps_both script es k w x (opened_all script once script.vats [] w (sym (append-nil script.vats)) e, b.1) i in (stands_in script x all.0, all.1)
 
 -- what follows from both in a world holds in every world of a run
 pub in_runs : (P : World → Type 0) → ((script : Script) (w : World) → Stands script w → Wire w → P w) → InRuns P

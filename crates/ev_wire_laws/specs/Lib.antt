@@ -3,3 +3,4 @@ pub mod Hearing
 pub mod Alike
 pub mod Asked
 pub mod Known
+pub mod Sources

@@ -5,6 +5,7 @@
 //! it knows itself.
 
 ghost use Rattle.ev_wire_laws.specs.Known.{WhatAVatAskedForIsKnown, WhatAVatWasAskedForIsKnown, WhatAVatExportedIsKnown, WhatArrivedIsKnown};
+ghost use Rattle.ev_wire_laws.specs.Sources.{NamesComeFromTheirHosts};
 
 /// A vat knows each answer and each gift for which it ever asked another.
 pub fn what_a_vat_asked_for_is_known()
@@ -26,4 +27,12 @@ pub fn what_a_vat_exported_is_known()
 /// as the link from there is not cut.
 pub fn what_arrived_is_known()
     ensures { WhatArrivedIsKnown }
+{}
+
+/// A name of another vat, from which the link is not cut, is known to a vat only where the vat asked
+/// that one for it, or was told it by an export that has arrived.
+///
+/// It is said of runs in which each notice stands behind a cut of the same two vats.
+pub fn names_come_from_their_hosts()
+    ensures { NamesComeFromTheirHosts }
 {}
