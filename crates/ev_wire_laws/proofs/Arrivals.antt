@@ -1,5 +1,5 @@
 -- The notes of a link that have arrived are the first of those that were put.
-use Rattle.std.proofs.Common.{◌≡◌, ℕ, zero, suc, ◌+◌, ◌-◌, List, [], ◌∷◌, ◌++◌, Some, refl, ap, length, arith}
+use Rattle.std.proofs.Common.{◌≡◌, ℕ, zero, suc, ◌-◌, List, [], ◌∷◌, ◌++◌, Some, refl, ap, length, arith}
 use Rattle.std.proofs.lemmas.List.{length-append}
 use Rattle.ev_machine.specs.Values.{Name}
 use Rattle.ev_machine.specs.State.{Note}

@@ -1,20 +1,21 @@
 -- What a vat learns from a note comes to be known, and what else comes to be known as it arrives is the vat's own or asked for; so it is of a notice.
 use Rattle.std.proofs.Common.{◌≡◌, ℕ, Bool, true, false, List, [], ◌∷◌, ◌++◌, Option, Some, None, refl, sym, ap, ◌∙◌, ◌⊎◌, inl, inr, if◌then◌else◌, ◌==◌, codes}
 use Rattle.std.proofs.lemmas.Bool.{eqb-true}
-use Rattle.ev_machine.specs.Values.{Words, Value, Null, Flag, Number, Letter, Text, Prim, Broken, Items, Ref, Name, Root, Object, Promise, Answer, Gift, Sent, Naming, IsAnswer, IsGift, IsLearnt, IsCarried, naming, name_of, mail_of, answer_of, host_of}
-use Rattle.ev_machine.specs.State.{Standing, Unsettled, WaitsOn, Viewed, Settled, Known, ToTell, Passed, Passeds, Plain, AGift, Many, NoMore, More, Note, Deliver, Open, Ask, SettledTo, Elsewhere, Shorten, Put, GiftEntry, Vat, Done, Gives, Throws, Ejects, Stops, Act, ◌>>=◌, ◌>>◌, and_then, give, look, come, mail, alter, send_out, new_gift, open_gift, is_gift, draw, is_in, begun}
+use Rattle.ev_machine.specs.Values.{Words, Value, Null, Flag, Number, Letter, Text, Prim, Broken, Items, Ref, Name, Root, Object, Promise, Answer, Gift, Sent, same_reference, Naming, IsAnswer, naming, name_of, mail_of, answer_of, host_of}
+use Rattle.ev_machine.specs.State.{Standing, Unsettled, WaitsOn, Viewed, Settled, Known, ToTell, Passed, Passeds, Plain, AGift, Many, NoMore, More, Note, Deliver, Open, Ask, SettledTo, Elsewhere, Shorten, Put, GiftEntry, Vat, Done, Gives, Throws, Ejects, Stops, Act, ◌>>=◌, ◌>>◌, and_then, give, look, come, mail, alter, send_out, new_gift, open_gift, is_gift, is_in, begun}
 use Rattle.ev_machine.specs.Refs as refs
 use Rattle.ev_machine.specs.Refs.{Place, Away, host_at}
 use Rattle.ev_machine.specs.Arrive as arrive
 use Rattle.ev_machine.specs.Arrive.{Incoming, Old, New, gift_at}
 use Rattle.ev_run.specs.World as world
-use Rattle.ev_fate_laws.proofs.Leads.{Leads, Ends, leads, widen, leads_bind, leads_then, leads_give, leads_look, leads_if}
-use Rattle.ev_name_laws.specs.Names.{AllOf, IsAmong, IsMessageName, names_in}
+use Rattle.ev_fate_laws.proofs.Leads.{Leads, Ends, leads, leads_bind, leads_then, leads_give, leads_look, leads_if}
+use Rattle.ev_name_laws.specs.Names.{AllOf, IsAmong, IsEventual, IsMessageName, names_in}
+use Rattle.ev_name_laws.proofs.SameNames.{reference_is}
 use Rattle.ev_name_laws.proofs.Among.{among_last, among_or, among_is}
 use Rattle.ev_wire_laws.specs.Asked.{told_value, told_passed, told_all, told_in}
 use Rattle.ev_wire_laws.specs.Alike.{names_heard}
-use Rattle.ev_wire_laws.proofs.Asking.{Any, GiftFits, Fit, Asking, Steady, Comes, Or, Owed, base, here, asking, asking_open, asking_shorten, asking_mail, asking_alter, asking_draw, steady_on, same_as, put_on, grown, gave, accounted, asked_then}
-use Rattle.ev_wire_laws.proofs.RefsAsking.{known_last, known_end, asking_refs, asking_send_on, asking_settle, asking_resolve, asking_inform}
+use Rattle.ev_wire_laws.proofs.Asking.{Any, GiftFits, Asking, Steady, Or, Owed, base, here, asking, asking_open, asking_shorten, asking_alter, asking_draw, steady_on, same_as, put_on, grown, gave, accounted, asked_then}
+use Rattle.ev_wire_laws.proofs.RefsAsking.{known_last, known_end, asking_send_on, asking_settle, asking_resolve, asking_inform}
 
 pub among_front : {A : Type 0} (x : A) (xs ys : List A) → IsAmong x xs → IsAmong x (xs ++ ys)
 among_front x [] ys h = absurd h
@@ -42,6 +43,15 @@ MailFits (Open i n) = Unit {0}
 MailFits (SettledTo n y) = Unit {0}
 MailFits (Elsewhere n c) = Unit {0}
 MailFits (Shorten n c i) = Unit {0}
+
+-- it is the name of no message
+abbrev pub IsNoMessage : Name → Type 0
+IsNoMessage (Sent m) = ⊥
+IsNoMessage (Root w) = Unit {0}
+IsNoMessage (Object w i) = Unit {0}
+IsNoMessage (Promise w i) = Unit {0}
+IsNoMessage (Answer w m) = Unit {0}
+IsNoMessage (Gift w i) = Unit {0}
 
 -- these are known
 abbrev pub Has : List Name → Vat Name → Type 0
@@ -126,7 +136,7 @@ module _ (v : ℕ) (P : Name → Type 0) where
         severed (Ejects n y t) r = λ e. let b = r e in (b, inr (inr (inl (ap (λ (x : ℕ). is_in x t.noticed) host ∙ b.noticed h g))))
         severed (Stops c t) r = tt
     asks_either p h i s false host g a text = λ e. let put : Put Name = record { to = h; note = Ask p i (Gift h i) } in
-        (put_on v (Or P (Gift h i)) s (record s { outbox = s.outbox ++ put ∷ [] }) h (Ask p i (Gift h i)) refl refl refl refl refl (a, refl) e, inr (inl (put, among_last s.outbox put, refl)))
+        (put_on v (Or P (Gift h i)) s (record s { outbox = s.outbox ++ put ∷ [] }) h (Ask p i (Gift h i)) refl refl refl refl refl (a, refl) tt e, inr (inl (put, among_last s.outbox put, refl)))
 
     asks_for : (p h i : ℕ) (s : Vat Name) → IsAmong (Gift h i) (names_in s.known) → Ends Any (Owed v P (Gift h i)) s (arrive.ask_for K p h i (Gift h i) s)
     unfolding arrive.ask_for ◌>>=◌ and_then look host_of
@@ -228,7 +238,7 @@ module _ (v : ℕ) (P : Name → Type 0) where
     asks_there : (h c i : ℕ) (s : Vat Name) → IsAmong (Gift c i) (names_in s.known) → Ends Any (Owed v P (Gift c i)) s (send_out c (Ask h i (Gift c i)) s)
     unfolding send_out
     asks_there h c i s a = λ e. let put : Put Name = record { to = c; note = Ask h i (Gift c i) } in
-        (put_on v (Or P (Gift c i)) s (record s { outbox = s.outbox ++ put ∷ [] }) c (Ask h i (Gift c i)) refl refl refl refl refl (a, refl) e, inr (inl (put, among_last s.outbox put, refl)))
+        (put_on v (Or P (Gift c i)) s (record s { outbox = s.outbox ++ put ∷ [] }) c (Ask h i (Gift c i)) refl refl refl refl refl (a, refl) tt e, inr (inl (put, among_last s.outbox put, refl)))
 
     asking_gift_there : (u h c i : ℕ) → Leads Any (Asking v P) (arrive.gift_there K u h c i)
     unfolding arrive.gift_there ◌>>=◌ ◌>>◌ and_then come naming name_of
@@ -237,9 +247,12 @@ module _ (v : ℕ) (P : Name → Type 0) where
           asked_then v P g s t (grown v (Or P g) s t g refl (known_end s.known g c) refl refl refl (inr (inr refl))) (send_out c (Ask h i g) t) (asks_there h c i t (known_last s.known g c)) (λ _. give g) (λ _. leads_give Any (Asking v (Or P g)) (base v (Or P g)) g);
     })
 
-    asking_view_there : (n : Name) (c : ℕ) → Leads Any (Asking v P) (arrive.view_there K n c)
-    unfolding arrive.view_there
-    asking_view_there n c = search (leads, asking, base v P, asking_gift_there, asking_see) depth 20
+    -- a name that is asked to be shortened at another vat is no object
+    view_at : (n : Name) (c : ℕ) (s : Vat Name) → ((host_at K s.number s.known n ≡ v → ⊥) → IsEventual n) → Ends Any (Asking v P) s (arrive.view_there K n c s)
+    unfolding arrive.view_there ◌>>=◌ ◌>>◌ and_then look
+    view_at n c s f = let u : ℕ = s.number in let h : ℕ = host_at K s.number s.known n in
+        (leads_bind Any (Asking v P) (base v P) (asking_draw v P word) (λ i. leads_then Any (Asking v P) (base v P) (asking_shorten v P h n c i f)
+        (leads_bind Any (Asking v P) (base v P) (asking_gift_there u h c i) (λ g. asking_see n g)))).after s
 
     asking_shorten_to : (i : ℕ) (p : Place Name) → Leads Any (Asking v P) (arrive.shorten_to K i p)
     unfolding arrive.shorten_to
@@ -318,13 +331,69 @@ module _ (v : ℕ) (P : Name → Type 0) where
     abbrev SeenThere : ℕ → Name → Act Name (Unit {0})
     SeenThere c y = look (λ s. is_in c s.noticed) >>= (λ gone. if gone then refs.settle K y (Broken (codes "partition")) else arrive.view_there K y c)
 
-    elsewhere_hears : (ks : List Name) (n : Name) (c : ℕ) → P n → (s : Vat Name) → s.number ≡ v → Has ks s → Reached (Has (world.known_after ks n)) s (arrive.arrive_elsewhere K (world.read_name ks n) c s)
-    unfolding arrive.arrive_elsewhere ◌>>=◌
-    elsewhere_hears ks n c p s e k = let F : Vat Name → Type 0 = Has (world.known_after ks n) in
-        then_reached F F s (arrive.learn_name K (world.read_name ks n) s) (λ y. SeenThere c y) (name_hears ks n p s e k) (λ y t j h. led_reached F t (SeenThere c y t) j (λ u r. has_on (world.known_after ks n) t u r h) ((viewed y).after t))
+    seen_either : (n : Name) (c : ℕ) (text : Words) (s : Vat Name) → ((host_at K s.number s.known n ≡ v → ⊥) → IsEventual n) → (b : Bool) → Ends Any (Asking v P) s ((if b then refs.settle K n (Broken text) else arrive.view_there K n c) s)
+    seen_either n c text s f true = (asking_settle v P word n (Broken text)).after s
+    seen_either n c text s f false = view_at n c s f
+
+    seen_at : (n : Name) (c : ℕ) (s : Vat Name) → ((host_at K s.number s.known n ≡ v → ⊥) → IsEventual n) → Ends Any (Asking v P) s (SeenThere c n s)
+    unfolding ◌>>=◌ and_then look
+    seen_at n c s f = seen_either n c (codes "partition") s f (is_in c s.noticed)
+
+    no_entry : (b : Bool) (k : Known Name) (o : Option (Known Name)) → (b ≡ true → ⊥) → o ≡ None → ◌≡◌ {A = Option (Known Name)} (elim b [ true ↦ Some k | false ↦ o ]) None
+    no_entry true k o f e = absurd (f refl)
+    no_entry false k o f e = e
+
+    is_object : (a : Name) (w i : ℕ) → a ≡ Object w i → IsEventual a → ⊥
+    is_object a w i e h = let o : IsEventual (Object w i) = rw e at h in o
+
+    -- no object is among the names known
+    object_absent : (ks : List (Known Name)) → AllOf IsEventual (names_in ks) → (w i : ℕ) → refs.entry_of K ks (Object w i) ≡ None
+    unfolding refs.entry_of naming
+    object_absent [] h w i = refl
+    object_absent (k ∷ ks) h w i = no_entry (same_reference k.name (Object w i)) k (refs.entry_of K ks (Object w i)) (λ e. is_object k.name w i (reference_is k.name (Object w i) e) h.0) (object_absent ks h.1 w i)
+
+    host_absent : (u : ℕ) (o : Option (Known Name)) → o ≡ None → refs.host_in u o ≡ u
+    unfolding refs.host_in
+    host_absent u None e = refl
+    host_absent u (Some k) e = cc
+
+    object_here : (s : Vat Name) → s.number ≡ v → AllOf IsEventual (names_in s.known) → (w i : ℕ) → host_at K s.number s.known (Object w i) ≡ v
+    unfolding host_at
+    object_here s e h w i = host_absent s.number (refs.entry_of K s.known (Object w i)) (object_absent s.known h w i) ∙ e
+
+    -- of a name that is no message
+    subject_at : (n : Name) → IsNoMessage n → (s : Vat Name) → s.number ≡ v → AllOf IsEventual (names_in s.known) → (host_at K s.number s.known n ≡ v → ⊥) → IsEventual n
+    subject_at (Object w i) o s e h f = absurd (f (object_here s e h w i))
+    subject_at (Root w) o s e h f = tt
+    subject_at (Promise w i) o s e h f = tt
+    subject_at (Answer w m) o s e h f = tt
+    subject_at (Gift w i) o s e h f = tt
+    subject_at (Sent m) o s e h f = absurd o
+
+    new_subject : (ks : List Name) (n : Name) → world.is_old ks n ≡ false → IsNoMessage n → IsEventual n
+    unfolding world.is_old
+    new_subject ks (Object w i) e o = absurd (old_new e)
       where
-        viewed : (y : Name) → Leads Any (Asking v P) (SeenThere c y)
-        viewed y = leads_bind Any (Asking v P) (base v P) (leads_look Any (Asking v P) (base v P) (λ s. is_in c s.noticed)) (λ gone. leads_if Any (Asking v P) (base v P) gone (asking_settle v P word y _) (asking_view_there y c))
+        old_new : true ≡ false → ⊥
+        old_new f = cc
+    new_subject ks (Root w) e o = tt
+    new_subject ks (Promise w i) e o = tt
+    new_subject ks (Answer w m) e o = tt
+    new_subject ks (Gift w i) e o = tt
+    new_subject ks (Sent m) e o = absurd o
+
+    elsewhere_either : (ks : List Name) (n : Name) (c : ℕ) → P n → IsNoMessage n → (s : Vat Name) → s.number ≡ v → AllOf IsEventual (names_in s.known) → Has ks s → (b : Bool) → world.is_old ks n ≡ b
+        → Reached (Has (elim b [ true ↦ ks | false ↦ ks ++ n ∷ [] ])) s (arrive.arrive_elsewhere K (elim b [ true ↦ Old n | false ↦ New n (host_of n) ]) c s)
+    unfolding arrive.arrive_elsewhere arrive.learn_name ◌>>=◌ and_then give come naming name_of
+    elsewhere_either ks n c p o s e h k true i = led_reached (Has ks) s (SeenThere c n s) e (λ u r. has_on ks s u r k) (seen_at n c s (subject_at n o s e h))
+    elsewhere_either ks n c p o s e h k false i = let t : Vat Name = record s { known = s.known ++ begun n (host_of n) ∷ [] } in
+        let r : Steady v P s t = grown v P s t n refl (known_end s.known n (host_of n)) refl refl refl (inr p) e in
+        let F : Vat Name → Type 0 = Has (ks ++ n ∷ []) in
+        wide F s t (SeenThere c n t) r (led_reached F t (SeenThere c n t) e (λ u q. has_on (ks ++ n ∷ []) t u q (has_end ks n s t r k (known_last s.known n (host_of n)))) (seen_at n c t (λ f. new_subject ks n i o)))
+
+    elsewhere_hears : (ks : List Name) (n : Name) (c : ℕ) → P n → IsNoMessage n → (s : Vat Name) → s.number ≡ v → AllOf IsEventual (names_in s.known) → Has ks s → Reached (Has (world.known_after ks n)) s (arrive.arrive_elsewhere K (world.read_name ks n) c s)
+    unfolding world.read_name world.known_after
+    elsewhere_hears ks n c p o s e h k = elsewhere_either ks n c p o s e h k (world.is_old ks n) refl
 
     abbrev Shortened : ℕ → Name → Act Name (Unit {0})
     Shortened i y = look (λ s. refs.place K s (refs.follow K s (Ref y))) >>= (λ q. arrive.shorten_to K i q)
@@ -353,15 +422,15 @@ module _ (v : ℕ) (P : Name → Type 0) where
     abbrev pub HasHeard : List Name → Note Name → Vat Name → Type 0
     HasHeard ks n t = Has (names_heard ks n) t × Answered v (names_in t.known) n
 
-    pub arrive_hears : (from : ℕ) (n : Note Name) (s : Vat Name) → s.number ≡ v → MailFits n → ((x : Name) → IsAmong x (told_in n) → P x) → AllOf (GiftFits v (names_in s.known)) s.gifts
+    pub arrive_hears : (from : ℕ) (n : Note Name) (s : Vat Name) → s.number ≡ v → MailFits n → ((x : Name) → IsAmong x (told_in n) → P x) → ((x : Name) → IsAmong x (told_in n) → IsNoMessage x) → AllOf IsEventual (names_in s.known) → AllOf (GiftFits v (names_in s.known)) s.gifts
         → Reached (HasHeard (names_in s.known) n) s (arrive.arrive K from (world.read_note (names_in s.known) n) s)
     unfolding world.read_note arrive.arrive names_heard told_in
-    arrive_hears from (Deliver m n verb ys) s e o f g = deliver_hears from (names_in s.known) m n verb ys o f s e (λ x a. a)
-    arrive_hears from (Open i n) s e o f g = reached_more (Has (world.known_after (names_in s.known) n)) (HasHeard (names_in s.known) (Open i n)) s (arrive.arrive_open K from i (world.read_name (names_in s.known) n) s) (λ t h. (h, tt)) (open_hears from (names_in s.known) i n (f n (inl refl)) s e (λ x a. a))
-    arrive_hears from (Ask p i n) s e o f g = reached_still (λ t. IsAmong (Gift v i) (names_in t.known)) s (arrive.arrive_ask K from p i s) (ask_hears from p i s e g)
-    arrive_hears from (SettledTo n y) s e o f g = reached_more (Has (world.read_passed y (world.known_after (names_in s.known) n)).known) (HasHeard (names_in s.known) (SettledTo n y)) s (arrive.arrive_settled K from (world.read_name (names_in s.known) n) (world.read_passed y (world.known_after (names_in s.known) n)).read s) (λ t h. (h, tt)) (settled_hears from (names_in s.known) n y f s e (λ x a. a))
-    arrive_hears from (Elsewhere n c) s e o f g = reached_more (Has (world.known_after (names_in s.known) n)) (HasHeard (names_in s.known) (Elsewhere n c)) s (arrive.arrive_elsewhere K (world.read_name (names_in s.known) n) c s) (λ t h. (h, tt)) (elsewhere_hears (names_in s.known) n c (f n (inl refl)) s e (λ x a. a))
-    arrive_hears from (Shorten n c i) s e o f g = reached_more (Has (world.known_after (names_in s.known) n)) (HasHeard (names_in s.known) (Shorten n c i)) s (arrive.arrive_shorten K (world.read_name (names_in s.known) n) i s) (λ t h. (h, tt)) (shorten_hears (names_in s.known) n i (f n (inl refl)) s e (λ x a. a))
+    arrive_hears from (Deliver m n verb ys) s e o f d h g = deliver_hears from (names_in s.known) m n verb ys o f s e (λ x a. a)
+    arrive_hears from (Open i n) s e o f d h g = reached_more (Has (world.known_after (names_in s.known) n)) (HasHeard (names_in s.known) (Open i n)) s (arrive.arrive_open K from i (world.read_name (names_in s.known) n) s) (λ t h. (h, tt)) (open_hears from (names_in s.known) i n (f n (inl refl)) s e (λ x a. a))
+    arrive_hears from (Ask p i n) s e o f d h g = reached_still (λ t. IsAmong (Gift v i) (names_in t.known)) s (arrive.arrive_ask K from p i s) (ask_hears from p i s e g)
+    arrive_hears from (SettledTo n y) s e o f d h g = reached_more (Has (world.read_passed y (world.known_after (names_in s.known) n)).known) (HasHeard (names_in s.known) (SettledTo n y)) s (arrive.arrive_settled K from (world.read_name (names_in s.known) n) (world.read_passed y (world.known_after (names_in s.known) n)).read s) (λ t h. (h, tt)) (settled_hears from (names_in s.known) n y f s e (λ x a. a))
+    arrive_hears from (Elsewhere n c) s e o f d h g = reached_more (Has (world.known_after (names_in s.known) n)) (HasHeard (names_in s.known) (Elsewhere n c)) s (arrive.arrive_elsewhere K (world.read_name (names_in s.known) n) c s) (λ t h. (h, tt)) (elsewhere_hears (names_in s.known) n c (f n (inl refl)) (d n (inl refl)) s e h (λ x a. a))
+    arrive_hears from (Shorten n c i) s e o f d h g = reached_more (Has (world.known_after (names_in s.known) n)) (HasHeard (names_in s.known) (Shorten n c i)) s (arrive.arrive_shorten K (world.read_name (names_in s.known) n) i s) (λ t h. (h, tt)) (shorten_hears (names_in s.known) n i (f n (inl refl)) s e (λ x a. a))
 
     -- ---- notice
 

@@ -1,11 +1,11 @@
 -- How the names that a vat knows and the notes that it puts go on: what comes to be known is the vat's own, or was asked for, or is severed, or was told; and what is asked for is known.
 use Rattle.std.proofs.Common.{◌≡◌, ℕ, suc, ◌-◌, Bool, true, false, List, [], ◌∷◌, ◌++◌, Option, Some, None, refl, sym, ap, ◌∙◌, ◌⊎◌, inl, inr, length, ◌==◌}
 use Rattle.ev_machine.specs.Values.{Name, Gift, Naming, Mailing, naming, host_of}
-use Rattle.ev_machine.specs.State.{Message, Known, Change, Passed, Note, Deliver, Open, Ask, SettledTo, Elsewhere, Shorten, Put, GiftEntry, Happened, Vat, Done, Gives, Throws, Ejects, Stops, Act, and_then, tell, change, dead, holding, with_change, enqueue, send_out, with_opened, is_gift, open_gift, mark, draws, draw, alter, mail, begun, is_in}
+use Rattle.ev_machine.specs.State.{Message, Change, Passed, Note, Deliver, Open, Ask, SettledTo, Elsewhere, Shorten, Put, GiftEntry, Happened, Vat, Done, Gives, Throws, Ejects, Stops, Act, and_then, tell, change, dead, holding, with_change, enqueue, send_out, with_opened, is_gift, open_gift, mark, draws, draw, alter, mail, is_in}
 use Rattle.ev_fate_laws.proofs.Leads.{Leads, Ends, IsLed}
-use Rattle.ev_name_laws.specs.Names.{AllOf, IsAmong, names_in}
+use Rattle.ev_name_laws.specs.Names.{AllOf, IsAmong, IsEventual, names_in}
 use Rattle.ev_name_laws.proofs.Facts.{all_map, all_end}
-use Rattle.ev_name_laws.proofs.Among.{among_more, among_last, among_or, names_end}
+use Rattle.ev_name_laws.proofs.Among.{among_more, among_or}
 use Rattle.ev_name_laws.proofs.Tracked.{names_change}
 use Rattle.ev_wire_laws.specs.Asked.{AsksOf, AskFits}
 
@@ -17,11 +17,20 @@ Any s t = Unit {0}
 abbrev pub GiftFits : ℕ → List Name → GiftEntry Name → Type 0
 GiftFits v ns g = (g.name ≡ Gift v g.number) × IsAmong g.name ns
 
-abbrev pub PutFits : List Name → Put Name → Type 0
-PutFits ns p = AskFits ns p.to p.note
+-- what is to be shortened at another vat is no object
+abbrev pub Shortens : ℕ → ℕ → Note Name → Type 0
+Shortens v to (Shorten n c i) = (to ≡ v → ⊥) → IsEventual n
+Shortens v to (Deliver m n verb ys) = Unit {0}
+Shortens v to (Open i n) = Unit {0}
+Shortens v to (Ask p i n) = Unit {0}
+Shortens v to (SettledTo n y) = Unit {0}
+Shortens v to (Elsewhere n c) = Unit {0}
+
+abbrev pub PutFits : ℕ → List Name → Put Name → Type 0
+PutFits v ns p = AskFits ns p.to p.note × Shortens v p.to p.note
 
 abbrev pub Fit : ℕ → List Name → List (GiftEntry Name) → List (Put Name) → Type 0
-Fit v ns gs ps = AllOf (GiftFits v ns) gs × AllOf (PutFits ns) ps
+Fit v ns gs ps = AllOf (GiftFits v ns) gs × AllOf (PutFits v ns) ps
 
 -- a note was put that asks for the name
 abbrev pub WasAsked : Vat Name → Name → Type 0
@@ -55,7 +64,7 @@ ask_up ns ms f w (Elsewhere n c) h = tt
 ask_up ns ms f w (Shorten n c i) h = tt
 
 pub fit_up : (v : ℕ) (ns ms : List Name) → ((n : Name) → IsAmong n ns → IsAmong n ms) → (gs : List (GiftEntry Name)) (ps : List (Put Name)) → Fit v ns gs ps → Fit v ms gs ps
-fit_up v ns ms f gs ps h = (all_map (λ g k. (k.0, f g.name k.1)) gs h.0, all_map (λ p k. ask_up ns ms f p.to p.note k) ps h.1)
+fit_up v ns ms f gs ps h = (all_map (λ g k. (k.0, f g.name k.1)) gs h.0, all_map (λ p k. (ask_up ns ms f p.to p.note k.0, k.1)) ps h.1)
 
 module _ (v : ℕ) (P : Name → Type 0) where
   abbrev R : Vat Name → Vat Name → Type 0
@@ -160,8 +169,8 @@ module _ (v : ℕ) (P : Name → Type 0) where
   draws_after s w None = same_as s (record s { drawn = s.drawn ++ w ∷ [] }) refl refl refl refl refl
 
   -- a note is put of which it is known that what it asks for is known
-  pub put_on : (s t : Vat Name) (w : ℕ) (n : Note Name) → t.number ≡ s.number → names_in t.known ≡ names_in s.known → t.gifts ≡ s.gifts → t.outbox ≡ s.outbox ++ record { to = w; note = n } ∷ [] → t.noticed ≡ s.noticed → AskFits (names_in s.known) w n → R s t
-  put_on s t w n a b c d e k = λ i. record {
+  pub put_on : (s t : Vat Name) (w : ℕ) (n : Note Name) → t.number ≡ s.number → names_in t.known ≡ names_in s.known → t.gifts ≡ s.gifts → t.outbox ≡ s.outbox ++ record { to = w; note = n } ∷ [] → t.noticed ≡ s.noticed → AskFits (names_in s.known) w n → Shortens v w n → R s t
+  put_on s t w n a b c d e k q = λ i. record {
     number = a ∙ i;
     names = λ m j. rw (sym b) at j;
     puts = λ p j. rw (sym d) at (among_more p s.outbox (record { to = w; note = n }) j);
@@ -171,23 +180,23 @@ module _ (v : ℕ) (P : Name → Type 0) where
   }
     where
       put_fits : Fit v (names_in s.known) s.gifts s.outbox → Fit v (names_in s.known) s.gifts (s.outbox ++ record { to = w; note = n } ∷ [])
-      put_fits f = (f.0, all_end (PutFits (names_in s.known)) s.outbox (record { to = w; note = n }) f.1 k)
+      put_fits f = (f.0, all_end (PutFits v (names_in s.known)) s.outbox (record { to = w; note = n }) f.1 (k, q))
 
   pub asking_settled : (w : ℕ) (n : Name) (y : Passed Name) → Leads Any R (send_out w (SettledTo n y))
   unfolding send_out
-  asking_settled w n y = record { after = λ s. put_on s (record s { outbox = s.outbox ++ record { to = w; note = SettledTo n y } ∷ [] }) w (SettledTo n y) refl refl refl refl refl tt }
+  asking_settled w n y = record { after = λ s. put_on s (record s { outbox = s.outbox ++ record { to = w; note = SettledTo n y } ∷ [] }) w (SettledTo n y) refl refl refl refl refl tt tt }
 
   pub asking_elsewhere : (w : ℕ) (n : Name) (c : ℕ) → Leads Any R (send_out w (Elsewhere n c))
   unfolding send_out
-  asking_elsewhere w n c = record { after = λ s. put_on s (record s { outbox = s.outbox ++ record { to = w; note = Elsewhere n c } ∷ [] }) w (Elsewhere n c) refl refl refl refl refl tt }
+  asking_elsewhere w n c = record { after = λ s. put_on s (record s { outbox = s.outbox ++ record { to = w; note = Elsewhere n c } ∷ [] }) w (Elsewhere n c) refl refl refl refl refl tt tt }
 
   pub asking_opening : (w i : ℕ) (n : Name) → Leads Any R (send_out w (Open i n))
   unfolding send_out
-  asking_opening w i n = record { after = λ s. put_on s (record s { outbox = s.outbox ++ record { to = w; note = Open i n } ∷ [] }) w (Open i n) refl refl refl refl refl tt }
+  asking_opening w i n = record { after = λ s. put_on s (record s { outbox = s.outbox ++ record { to = w; note = Open i n } ∷ [] }) w (Open i n) refl refl refl refl refl tt tt }
 
-  pub asking_shorten : (w : ℕ) (n : Name) (c i : ℕ) → Leads Any R (send_out w (Shorten n c i))
+  pub asking_shorten : (w : ℕ) (n : Name) (c i : ℕ) → ((w ≡ v → ⊥) → IsEventual n) → Leads Any R (send_out w (Shorten n c i))
   unfolding send_out
-  asking_shorten w n c i = record { after = λ s. put_on s (record s { outbox = s.outbox ++ record { to = w; note = Shorten n c i } ∷ [] }) w (Shorten n c i) refl refl refl refl refl tt }
+  asking_shorten w n c i f = record { after = λ s. put_on s (record s { outbox = s.outbox ++ record { to = w; note = Shorten n c i } ∷ [] }) w (Shorten n c i) refl refl refl refl refl tt f }
 
   comes_is : (t : Vat Name) (m n : Name) → m ≡ n → (host_of n ≡ v) ⊎ P n → Comes v P t m
   comes_is t m n e (inl h) = inl (ap host_of e ∙ h)
@@ -238,7 +247,7 @@ module _ (v : ℕ) (P : Name → Type 0) where
     unfolding mail
     asking_mail c = record { after = λ s. same_as s (record s { mails = s.mails ++ K.mailed c (length s.mails) ∷ [] }) refl refl refl refl refl }
 
-pub ruleset asking = (asking_tell, asking_enqueue, asking_mark, asking_open, asking_settled, asking_elsewhere, asking_opening, asking_shorten, asking_draw, asking_alter, asking_mail)
+pub ruleset asking = (asking_tell, asking_enqueue, asking_mark, asking_open, asking_settled, asking_elsewhere, asking_opening, asking_draw, asking_alter, asking_mail)
 
 -- ---- a name that is asked for once it is known
 

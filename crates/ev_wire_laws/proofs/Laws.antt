@@ -3,12 +3,11 @@ use Rattle.std.proofs.Common.{◌≡◌, ℕ, false, List, [], ◌∷◌, ◌++�
 use Rattle.std.specs.Prelude.{slice_get}
 use Rattle.ev_machine.specs.Values.{Name}
 use Rattle.ev_machine.specs.State.{Note, Deliver, Open, Ask, SettledTo, Elsewhere, Shorten, Vat}
-use Rattle.ev_run.specs.World.{Script, Link, World, link_at}
+use Rattle.ev_run.specs.World.{Link, World, link_at}
 use Rattle.ev_run.specs.Wire as wire
 use Rattle.ev_name_laws.specs.Names.{AllOf, IsAmong, IsKnownIn, names_in}
 use Rattle.ev_name_laws.proofs.Facts.{all_map}
-use Rattle.ev_name_laws.proofs.Run.{Stands}
-use Rattle.ev_wire_laws.specs.Asked.{AskFits, told_in}
+use Rattle.ev_wire_laws.specs.Asked.{AskFits}
 use Rattle.ev_wire_laws.specs.Tables.{arrived}
 use Rattle.ev_wire_laws.specs.Known.{KnowsEach, KnowsEachPromise, WhatAVatAskedForIsKnown, WhatAVatWasAskedForIsKnown, WhatAVatExportedIsKnown, WhatArrivedIsKnown}
 use Rattle.ev_wire_laws.proofs.ArriveAsking.{Answered}
@@ -59,7 +58,7 @@ module _ (w : World) (h : Wire w) (u : ℕ) (s : Vat Name) (there : slice_get w.
   asked_at : (v : ℕ) (o : Option Link) → link_at u v w.links ≡ o → KnowsEach s (wire.questions_in v (wire.log_of o))
   unfolding wire.log_of wire.questions_in
   asked_at v None e = tt
-  asked_at v (Some l) e = asked_known (names_in s.known) v l.log (all_map (λ n k. (k.1 s there).0) l.log (sent_from v l e))
+  asked_at v (Some l) e = asked_known (names_in s.known) v l.log (all_map (λ n k. (k.2 s there).0) l.log (sent_from v l e))
 
   roots_from : (to : ℕ) (l : Link) → link_at u to w.links ≡ Some l → KnowsEachPromise s l.roots
   roots_from to l e = let a = at_ends u to l e in let k = a.0 in all_map (λ n i. i.0 s (rw (sym a.1) at there)) l.roots k.roots
@@ -67,7 +66,7 @@ module _ (w : World) (h : Wire w) (u : ℕ) (s : Vat Name) (there : slice_get w.
   exported_at : (v : ℕ) (o : Option Link) → link_at u v w.links ≡ o → KnowsEachPromise s (wire.exports_after u (wire.questions (λ i. i) w.links v u) (wire.log_of o) (wire.roots_of o))
   unfolding wire.log_of wire.roots_of wire.exports_after
   exported_at v None e = tt
-  exported_at v (Some l) e = exports_told u (wire.questions (λ i. i) w.links v u) (IsKnownIn (names_in s.known)) l.log l.roots (roots_from v l e) (all_map (λ n k. (k.1 s there).1) l.log (sent_from v l e))
+  exported_at v (Some l) e = exports_told u (wire.questions (λ i. i) w.links v u) (IsKnownIn (names_in s.known)) l.log l.roots (roots_from v l e) (all_map (λ n k. (k.2 s there).1) l.log (sent_from v l e))
 
   -- the notes that have arrived from v
   module _ (v : ℕ) (l : Link) (e : link_at v u w.links ≡ Some l) (c : l.cut ≡ false) where

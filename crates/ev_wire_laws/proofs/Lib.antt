@@ -1,6 +1,7 @@
 pub mod Asking
 pub mod RefsAsking
 pub mod ArriveAsking
+pub mod Objects
 pub mod Told
 pub mod LinksKnown
 pub mod Arrivals
@@ -8,6 +9,8 @@ pub mod Exported
 pub mod LinksGo
 pub mod LinksThere
 pub mod Sources
+pub mod Given
 pub mod WireRuns
 pub mod Laws
 pub mod SourceLaws
+pub mod GivenLaws

@@ -1,7 +1,7 @@
 -- How the link from one vat to another goes on: nothing that was put is forgotten, and nothing that has arrived.
 use Rattle.std.proofs.Common.{◌≡◌, ℕ, Bool, true, false, List, [], ◌∷◌, ◌++◌, Option, Some, None, refl, sym, ap, subst, ◌∙◌, append_assoc}
 use Rattle.ev_machine.specs.Values.{Name}
-use Rattle.ev_machine.specs.State.{Note, Put}
+use Rattle.ev_machine.specs.State.{Note}
 use Rattle.ev_run.specs.World as world
 use Rattle.ev_run.specs.World.{Link}
 use Rattle.ev_name_laws.specs.Names.{AllOf, IsAmong}

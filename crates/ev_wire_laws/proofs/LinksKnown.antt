@@ -1,5 +1,5 @@
 -- What the two vats of a link know of its notes, and how that goes on.
-use Rattle.std.proofs.Common.{◌≡◌, ℕ, Bool, true, false, List, [], ◌∷◌, ◌++◌, Option, Some, None, refl, sym, ap, ◌∙◌, ◌⊎◌, inl, inr, ◌==◌, append_assoc}
+use Rattle.std.proofs.Common.{◌≡◌, ℕ, Bool, true, false, List, [], ◌∷◌, ◌++◌, Option, Some, refl, sym, ap, ◌∙◌, ◌==◌, append_assoc}
 use Rattle.std.specs.Prelude.{slice_get}
 use Rattle.std.proofs.lemmas.Bool.{eqb-true}
 use Rattle.ev_machine.specs.Values.{Name, Gift}
@@ -9,7 +9,7 @@ use Rattle.ev_run.specs.World.{Link}
 use Rattle.ev_name_laws.specs.Names.{AllOf, IsAmong, IsKnownIn, names_in}
 use Rattle.ev_name_laws.proofs.Facts.{all_map, all_end}
 use Rattle.ev_wire_laws.specs.Asked.{AskFits, told_in}
-use Rattle.ev_wire_laws.proofs.Asking.{ask_up}
+use Rattle.ev_wire_laws.proofs.Asking.{Shortens, ask_up}
 use Rattle.ev_wire_laws.proofs.ArriveAsking.{Answered, Has}
 use Rattle.ev_wire_laws.proofs.Told.{known_up}
 
@@ -44,7 +44,7 @@ HeardBy to n ns = Answered to ns n × AllOf (IsKnownIn ns) (told_in n)
 
 module _ (vats : List (Vat Name)) where
   abbrev pub Sent : ℕ → ℕ → Note Name → Type 0
-  Sent from to n = AsksOwn to n × Knowing vats from (SentBy to n)
+  Sent from to n = AsksOwn to n × Shortens from to n × Knowing vats from (SentBy to n)
 
   abbrev pub Heard : ℕ → Note Name → Type 0
   Heard to n = Knowing vats to (HeardBy to n)
@@ -80,7 +80,7 @@ module _ (us vs : List (Vat Name)) (grows : Grows us vs) where
   knowing_up v P f h t e = let g = grows v t e in f (names_in g.0.known) (names_in t.known) g.2 (h g.0 g.1)
 
   sent_up : (from to : ℕ) (n : Note Name) → Sent us from to n → Sent vs from to n
-  sent_up from to n h = (h.0, knowing_up from (SentBy to n) (λ ns ms f k. (ask_up ns ms f to n k.0, all_map (known_up ns ms f) (told_in n) k.1)) h.1)
+  sent_up from to n h = (h.0, h.1, knowing_up from (SentBy to n) (λ ns ms f k. (ask_up ns ms f to n k.0, all_map (known_up ns ms f) (told_in n) k.1)) h.2)
 
   heard_up : (to : ℕ) (n : Note Name) → Heard us to n → Heard vs to n
   heard_up to n h = knowing_up to (HeardBy to n) (λ ns ms f k. (answered_up ns ms f to n k.0, all_map (known_up ns ms f) (told_in n) k.1)) h

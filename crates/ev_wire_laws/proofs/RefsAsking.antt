@@ -1,15 +1,14 @@
 -- What a vat does with references, and its turns: what comes to be known is its own or asked for.
-use Rattle.std.proofs.Common.{◌≡◌, ℕ, zero, suc, Bool, true, false, List, [], ◌∷◌, ◌++◌, Option, Some, None, refl, sym, ◌⊎◌, inl, inr, length}
-use Rattle.ev_machine.specs.Values.{Words, Value, Broken, Ref, Name, Promise, Answer, Sent, Msg, Naming, IsAnswer, IsOwn, naming, name_of, mail_of, answer_of, host_of}
-use Rattle.ev_machine.specs.State.{Binding, Message, Standing, Unsettled, WaitsOn, Viewed, Settled, Known, Passed, Passeds, Plain, AGift, Many, NoMore, More, Deliver, Put, Posted, Sends, Reacts, Took, Vat, Done, Gives, Throws, Ejects, Stops, Act, ◌>>=◌, ◌>>◌, and_then, give, look, tell, send_out, come, new_message, new_activation, begun}
+use Rattle.std.proofs.Common.{◌≡◌, ℕ, zero, suc, true, false, List, [], ◌∷◌, ◌++◌, Option, Some, None, refl, sym, inl, inr, length}
+use Rattle.ev_machine.specs.Values.{Words, Value, Broken, Ref, Name, Promise, Answer, Sent, Msg, Naming, IsOwn, naming, name_of, mail_of, answer_of, host_of}
+use Rattle.ev_machine.specs.State.{Binding, Message, Standing, Settled, Known, Passed, Passeds, Plain, AGift, Many, NoMore, More, Deliver, Put, Posted, Sends, Reacts, Took, Vat, Done, Gives, Throws, Ejects, Stops, Act, ◌>>=◌, ◌>>◌, and_then, give, look, tell, send_out, come, new_message, begun}
 use Rattle.ev_machine.specs.Refs as refs
 use Rattle.ev_machine.specs.Refs.{Place, Near, Mine, Away, Gone, answer_host}
 use Rattle.ev_machine.specs.Eval as eval
 use Rattle.ev_kernel.specs.declared.node.Node.{Node}
 use Rattle.ev_machine_laws.specs.Steps.{IsQuiet}
-use Rattle.ev_machine_laws.proofs.Quiet.{Quiet}
 use Rattle.ev_machine_laws.proofs.RefsQuiet.{quiet_pass_all}
-use Rattle.ev_fate_laws.proofs.Leads.{Leads, Ends, IsLed, IsLedUnder, leads, widen, leads_bind, leads_then, leads_give, leads_look, leads_activation}
+use Rattle.ev_fate_laws.proofs.Leads.{Leads, Ends, IsLedUnder, leads, widen, leads_bind, leads_then, leads_give, leads_look, leads_activation}
 use Rattle.ev_fate_laws.proofs.TurnLeads.{good_evaluator, leads_turn_value, leads_closes, leads_opening}
 use Rattle.ev_name_laws.specs.Names.{IsAmong, names_in}
 use Rattle.ev_name_laws.proofs.Among.{among_last, names_end}
@@ -81,7 +80,7 @@ module _ (v : ℕ) (P : Name → Type 0) (word : ℕ → ℕ) where
   unfolding and_then ◌>>◌ tell send_out
   deliver_ends m h n s (Gives args t) a q r = λ e. let b = r e in let put : Put Name = record { to = h; note = Deliver m.id n m.verb args } in
       let u : Vat Name = record t { happened = t.happened ++ Posted h m.id ∷ []; outbox = t.outbox ++ put ∷ [] } in
-      (steady_on v (Or P (answer_of h m.id)) s t u b (put_on v (Or P (answer_of h m.id)) t u h (Deliver m.id n m.verb args) refl refl refl refl refl (b.names (answer_of h m.id) a) b.number), inr (inl (put, among_last t.outbox put, refl)))
+      (steady_on v (Or P (answer_of h m.id)) s t u b (put_on v (Or P (answer_of h m.id)) t u h (Deliver m.id n m.verb args) refl refl refl refl refl (b.names (answer_of h m.id) a) tt b.number), inr (inl (put, among_last t.outbox put, refl)))
   deliver_ends m h n s (Throws p t) a q r = absurd q
   deliver_ends m h n s (Ejects i y t) a q r = absurd q
   deliver_ends m h n s (Stops c t) a q r = tt

@@ -1,11 +1,10 @@
 -- A vat knows a name of another only where it asked for it or was told it.
-use Rattle.std.proofs.Common.{◌≡◌, ℕ, Bool, true, false, List, [], ◌∷◌, Option, Some, None, refl, sym, ap, ◌∙◌, ◌⊎◌, inl, inr}
-use Rattle.std.specs.Prelude.{slice_get}
+use Rattle.std.proofs.Common.{◌≡◌, ℕ, Bool, true, false, List, [], ◌∷◌, Option, Some, refl, sym, ap, ◌∙◌, ◌⊎◌, inl, inr}
 use Rattle.ev_machine.specs.Values.{Name, host_of}
-use Rattle.ev_machine.specs.State.{Note, Deliver, Open, Ask, SettledTo, Elsewhere, Shorten, Vat, is_in}
+use Rattle.ev_machine.specs.State.{Note, Deliver, Open, Ask, SettledTo, Elsewhere, Shorten}
 use Rattle.ev_run.specs.World.{Link, World, link_at, has_name}
 use Rattle.ev_run.specs.Wire as wire
-use Rattle.ev_name_laws.specs.Names.{IsAmong, names_in}
+use Rattle.ev_name_laws.specs.Names.{IsAmong}
 use Rattle.ev_name_laws.proofs.SameNames.{has_among}
 use Rattle.ev_rest_laws.proofs.NoticedRuns.{noticed_links_cut}
 use Rattle.ev_wire_laws.specs.Asked.{AsksOf}
@@ -19,7 +18,7 @@ true_false : (b : Bool) → b ≡ true → b ≡ false → ⊥
 true_false b e f = cc
 
 -- what a note asks for is among the questions
-asks_in : (to : ℕ) (n : Name) (log : List (Note Name)) (x : Note Name) → IsAmong x log → AsksOf to x n → IsAmong n (wire.questions_in to log)
+pub asks_in : (to : ℕ) (n : Name) (log : List (Note Name)) (x : Note Name) → IsAmong x log → AsksOf to x n → IsAmong n (wire.questions_in to log)
 unfolding wire.questions_in
 asks_in to n [] x a k = absurd a
 asks_in to n (Deliver m t verb ys ∷ log) x (inl e) k = let same : AsksOf to (Deliver m t verb ys) n = rw e at k in inl (sym same)
@@ -35,7 +34,7 @@ asks_in to n (Elsewhere t c ∷ log) x (inr a) k = asks_in to n log x a k
 asks_in to n (Shorten t c i ∷ log) x (inl e) k = let same : AsksOf to (Shorten t c i) n = rw e at k in absurd same
 asks_in to n (Shorten t c i ∷ log) x (inr a) k = asks_in to n log x a k
 
-log_is : (m : Link) (o : Option Link) → o ≡ Some m → wire.log_of o ≡ m.log
+pub log_is : (m : Link) (o : Option Link) → o ≡ Some m → wire.log_of o ≡ m.log
 unfolding wire.log_of
 log_is m o e = rw (e, wire.log_of) refl
 

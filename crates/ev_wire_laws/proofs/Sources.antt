@@ -1,5 +1,5 @@
 -- Where the names come from that a vat knows of other vats: it asked for them, or they were told, or their host was noticed.
-use Rattle.std.proofs.Common.{◌≡◌, ℕ, Bool, true, false, List, [], ◌∷◌, ◌++◌, Option, Some, None, refl, sym, ap, subst, ◌∙◌, ◌⊎◌, inl, inr, append_assoc}
+use Rattle.std.proofs.Common.{◌≡◌, ℕ, Bool, true, false, List, [], ◌∷◌, ◌++◌, Some, refl, sym, ap, subst, ◌∙◌, ◌⊎◌, inl, inr, append_assoc}
 use Rattle.ev_machine.specs.Values.{Value, Null, Flag, Number, Letter, Text, Prim, Broken, Items, Ref, Name, Root, Object, Promise, Answer, Gift, Sent as Message_name, host_of, answer_of}
 use Rattle.ev_machine.specs.State.{Passed, Passeds, Plain, AGift, Many, NoMore, More, Note, Deliver, Open, Ask, SettledTo, Elsewhere, Shorten, Put, Vat, is_in}
 use Rattle.ev_run.specs.World as world
@@ -185,7 +185,7 @@ source_told ls h from v l x ns at e uncut t ps later n host told = inr (inr (λ 
 -- ---- what a note tells is of one of the two vats
 
 module _ (a v : ℕ) (n : Name) where
-  abbrev OfEither : Type 0
+  abbrev pub OfEither : Type 0
   OfEither = (host_of n ≡ a) ⊎ (host_of n ≡ v)
 
   value_either : (y : Value Name) → IsOfEither a v y → IsAmong n (told_value y) → OfEither
@@ -205,12 +205,12 @@ module _ (a v : ℕ) (n : Name) where
   mutual
     unfolding told_passed told_all
 
-    passed_either : (y : Passed Name) → PassesBetween a v y → IsAmong n (told_passed y) → OfEither
+    pub passed_either : (y : Passed Name) → PassesBetween a v y → IsAmong n (told_passed y) → OfEither
     passed_either (Plain y) h b = value_either y h b
     passed_either (AGift w i) h b = absurd b
     passed_either (Many ys) h b = all_either ys h b
 
-    all_either : (ys : Passeds Name) → AllPassBetween a v ys → IsAmong n (told_all ys) → OfEither
+    pub all_either : (ys : Passeds Name) → AllPassBetween a v ys → IsAmong n (told_all ys) → OfEither
     all_either NoMore h b = absurd b
     all_either (More y ys) h b = by_cases (among_split n (told_passed y) (told_all ys) b) (λ c. passed_either y h.0 c) (λ c. all_either ys h.1 c)
 

@@ -1,5 +1,5 @@
 -- That a note which arrives is read alike in numbers and in names.
-use Rattle.std.specs.Prelude.{◌≡◌, ℕ, zero, suc, Bool, true, false, List, [], ◌∷◌, ◌++◌, Option, Some, None, length, map, slice_get, option_map, unwrap_or, ◌==◌}
+use Rattle.std.specs.Prelude.{◌≡◌, ℕ, zero, suc, true, false, List, [], ◌∷◌, ◌++◌, Option, Some, None, length, map, slice_get, option_map, unwrap_or, ◌==◌}
 use Rattle.ev_machine.specs.Values.{Name, Root, Local}
 use Rattle.ev_machine.specs.State.{Note, Deliver, Open, Ask, SettledTo, Elsewhere, Shorten, GiftEntry, Vat}
 use Rattle.ev_machine.specs.Arrive.{Incoming, Old, New}
@@ -9,11 +9,11 @@ use Rattle.ev_renaming.specs.Maps.{incoming}
 use Rattle.ev_renaming.specs.Renaming.{Wire, Mine, Yours, MyAnswer, YourAnswer, Carried}
 use Rattle.ev_renaming.specs.Stands.{Table, Found, Is, found}
 use Rattle.ev_run.specs.Draws.{draw_word}
-use Rattle.ev_run.specs.World.{Script, Entry, Turn, Carry, CutLink, NoticeLink, Link, World, Run, Goes, Stopped, link_at, known_after, read_value, read_passed, read_all, read_note, names_of, begins, open_from, step}
-use Rattle.ev_run.specs.Wire.{rank, questions, exports, operation}
+use Rattle.ev_run.specs.World.{Script, Entry, Turn, Carry, CutLink, NoticeLink, Link, World, Run, Goes, Stopped, link_at, known_after, read_passed, read_all, read_note, names_of, begins, open_from, step}
+use Rattle.ev_run.specs.Wire.{questions, exports, operation}
 use Rattle.ev_table_laws.specs.Exports.{exported_at}
-use Rattle.ev_wire_laws.specs.Tables.{Tables, known_number, tables_of, opened_tables}
-use Rattle.ev_wire_laws.specs.Hearing.{Heard, note_heard, opened_hearing}
+use Rattle.ev_wire_laws.specs.Tables.{known_number, tables_of, opened_tables}
+use Rattle.ev_wire_laws.specs.Hearing.{note_heard, opened_hearing}
 
 -- the names that are known once a note was read
 unfoldable pub names_heard : List Name → Note Name → List Name

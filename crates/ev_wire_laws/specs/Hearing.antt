@@ -1,5 +1,5 @@
 -- How a vat reads what a note says, by its tables: each name as a number of its own, or as new.
-use Rattle.std.specs.Prelude.{ℕ, zero, suc, Bool, true, false, List, [], ◌∷◌, ◌++◌, Option, Some, None, length, slice_get, ◌==◌}
+use Rattle.std.specs.Prelude.{ℕ, suc, true, false, List, [], ◌∷◌, ◌++◌, Option, Some, None, length, slice_get, ◌==◌}
 use Rattle.ev_op.specs.declared.op.Plain.{Plain as Fact}
 use Rattle.ev_op.specs.declared.op.Plain.TheVariants as plain
 use Rattle.ev_op.specs.Frames as op

@@ -4,3 +4,4 @@ pub mod Alike
 pub mod Asked
 pub mod Known
 pub mod Sources
+pub mod Given

@@ -1,5 +1,5 @@
 -- What a vat has for one peer: the four tables by which it reads the notes from there, in numbers of its own.
-use Rattle.std.specs.Prelude.{ℕ, zero, suc, ◌-◌, Bool, true, false, List, [], ◌∷◌, ◌++◌, Option, Some, None, length, map, ◌==◌}
+use Rattle.std.specs.Prelude.{ℕ, zero, suc, ◌-◌, List, [], ◌∷◌, Option, Some, None, length, map}
 use Rattle.ev_machine.specs.Values.{Name, Root, Object, Promise, Answer, Gift, Sent, Local, Obj, Prom, Far}
 use Rattle.ev_machine.specs.State.{Note, Vat}
 use Rattle.ev_machine.specs.Native.{part_of}

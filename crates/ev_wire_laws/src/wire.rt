@@ -5,6 +5,7 @@
 //! it knows itself.
 
 ghost use Rattle.ev_wire_laws.specs.Known.{WhatAVatAskedForIsKnown, WhatAVatWasAskedForIsKnown, WhatAVatExportedIsKnown, WhatArrivedIsKnown};
+ghost use Rattle.ev_wire_laws.specs.Given.{NotesNameWhatWasGiven};
 ghost use Rattle.ev_wire_laws.specs.Sources.{NamesComeFromTheirHosts};
 
 /// A vat knows each answer and each gift for which it ever asked another.
@@ -35,4 +36,13 @@ pub fn what_arrived_is_known()
 /// It is said of runs in which each notice stands behind a cut of the same two vats.
 pub fn names_come_from_their_hosts()
     ensures { NamesComeFromTheirHosts }
+{}
+
+/// A promise or an object of the receiver that a note tells, on a link that is not cut, was asked of the
+/// receiver by the sender, or exported to the sender by the receiver.
+///
+/// It is said of runs in which each notice stands behind a cut of the same two vats, of each note that
+/// was ever put on the link.
+pub fn notes_name_what_was_given()
+    ensures { NotesNameWhatWasGiven }
 {}
