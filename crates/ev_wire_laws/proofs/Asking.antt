@@ -7,7 +7,7 @@ use Rattle.ev_name_laws.specs.Names.{AllOf, IsAmong, IsEventual, names_in}
 use Rattle.ev_name_laws.proofs.Facts.{all_map, all_end}
 use Rattle.ev_name_laws.proofs.Among.{among_more, among_or}
 use Rattle.ev_name_laws.proofs.Tracked.{names_change}
-use Rattle.ev_wire_laws.specs.Asked.{AsksOf, AskFits}
+use Rattle.ev_wire_laws.specs.Asked.{AsksOf, AskFits, Listless, AllListless}
 
 -- a stop may leave any state
 abbrev pub Any : Vat Name → Vat Name → Type 0
@@ -17,17 +17,17 @@ Any s t = Unit {0}
 abbrev pub GiftFits : ℕ → List Name → GiftEntry Name → Type 0
 GiftFits v ns g = (g.name ≡ Gift v g.number) × IsAmong g.name ns
 
--- what is to be shortened at another vat is no object
-abbrev pub Shortens : ℕ → ℕ → Note Name → Type 0
-Shortens v to (Shorten n c i) = (to ≡ v → ⊥) → IsEventual n
-Shortens v to (Deliver m n verb ys) = Unit {0}
-Shortens v to (Open i n) = Unit {0}
-Shortens v to (Ask p i n) = Unit {0}
-Shortens v to (SettledTo n y) = Unit {0}
-Shortens v to (Elsewhere n c) = Unit {0}
+-- What is to be shortened at another vat is no object, and no list passes by its number.
+abbrev pub Proper : ℕ → ℕ → Note Name → Type 0
+Proper v to (Shorten n c i) = (to ≡ v → ⊥) → IsEventual n
+Proper v to (Deliver m n verb ys) = AllListless ys
+Proper v to (Open i n) = Unit {0}
+Proper v to (Ask p i n) = Unit {0}
+Proper v to (SettledTo n y) = Listless y
+Proper v to (Elsewhere n c) = Unit {0}
 
 abbrev pub PutFits : ℕ → List Name → Put Name → Type 0
-PutFits v ns p = AskFits ns p.to p.note × Shortens v p.to p.note
+PutFits v ns p = AskFits ns p.to p.note × Proper v p.to p.note
 
 abbrev pub Fit : ℕ → List Name → List (GiftEntry Name) → List (Put Name) → Type 0
 Fit v ns gs ps = AllOf (GiftFits v ns) gs × AllOf (PutFits v ns) ps
@@ -169,7 +169,7 @@ module _ (v : ℕ) (P : Name → Type 0) where
   draws_after s w None = same_as s (record s { drawn = s.drawn ++ w ∷ [] }) refl refl refl refl refl
 
   -- a note is put of which it is known that what it asks for is known
-  pub put_on : (s t : Vat Name) (w : ℕ) (n : Note Name) → t.number ≡ s.number → names_in t.known ≡ names_in s.known → t.gifts ≡ s.gifts → t.outbox ≡ s.outbox ++ record { to = w; note = n } ∷ [] → t.noticed ≡ s.noticed → AskFits (names_in s.known) w n → Shortens v w n → R s t
+  pub put_on : (s t : Vat Name) (w : ℕ) (n : Note Name) → t.number ≡ s.number → names_in t.known ≡ names_in s.known → t.gifts ≡ s.gifts → t.outbox ≡ s.outbox ++ record { to = w; note = n } ∷ [] → t.noticed ≡ s.noticed → AskFits (names_in s.known) w n → Proper v w n → R s t
   put_on s t w n a b c d e k q = λ i. record {
     number = a ∙ i;
     names = λ m j. rw (sym b) at j;
@@ -182,9 +182,9 @@ module _ (v : ℕ) (P : Name → Type 0) where
       put_fits : Fit v (names_in s.known) s.gifts s.outbox → Fit v (names_in s.known) s.gifts (s.outbox ++ record { to = w; note = n } ∷ [])
       put_fits f = (f.0, all_end (PutFits v (names_in s.known)) s.outbox (record { to = w; note = n }) f.1 (k, q))
 
-  pub asking_settled : (w : ℕ) (n : Name) (y : Passed Name) → Leads Any R (send_out w (SettledTo n y))
+  pub asking_settled : (w : ℕ) (n : Name) (y : Passed Name) → Listless y → Leads Any R (send_out w (SettledTo n y))
   unfolding send_out
-  asking_settled w n y = record { after = λ s. put_on s (record s { outbox = s.outbox ++ record { to = w; note = SettledTo n y } ∷ [] }) w (SettledTo n y) refl refl refl refl refl tt tt }
+  asking_settled w n y q = record { after = λ s. put_on s (record s { outbox = s.outbox ++ record { to = w; note = SettledTo n y } ∷ [] }) w (SettledTo n y) refl refl refl refl refl tt q }
 
   pub asking_elsewhere : (w : ℕ) (n : Name) (c : ℕ) → Leads Any R (send_out w (Elsewhere n c))
   unfolding send_out
@@ -247,7 +247,7 @@ module _ (v : ℕ) (P : Name → Type 0) where
     unfolding mail
     asking_mail c = record { after = λ s. same_as s (record s { mails = s.mails ++ K.mailed c (length s.mails) ∷ [] }) refl refl refl refl refl }
 
-pub ruleset asking = (asking_tell, asking_enqueue, asking_mark, asking_open, asking_settled, asking_elsewhere, asking_opening, asking_draw, asking_alter, asking_mail)
+pub ruleset asking = (asking_tell, asking_enqueue, asking_mark, asking_open, asking_elsewhere, asking_opening, asking_draw, asking_alter, asking_mail)
 
 -- ---- a name that is asked for once it is known
 

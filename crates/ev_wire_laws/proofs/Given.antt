@@ -13,7 +13,7 @@ use Rattle.ev_name_laws.proofs.Care.{parts_up}
 use Rattle.ev_rest_laws.specs.Notes.{IsBetween, Carries}
 use Rattle.ev_rest_laws.proofs.LinksCut.{fits_notes}
 use Rattle.ev_wire_laws.specs.Asked.{told_in}
-use Rattle.ev_wire_laws.proofs.Asking.{Shortens}
+use Rattle.ev_wire_laws.proofs.Asking.{Proper}
 use Rattle.ev_wire_laws.proofs.Objects.{OwnOrTold, Handed, AllHanded, handed_up}
 use Rattle.ev_wire_laws.proofs.Told.{note_told}
 use Rattle.ev_wire_laws.proofs.LinksKnown.{with_link_all}
@@ -85,7 +85,7 @@ module _ (ks : List Link) where
 -- ---- a note that arrives
 
 -- what it tells is of one of the two vats
-told_ends : (a v : ℕ) (n : Name) (x : Note Name) → (v ≡ a → ⊥) → Shortens a v x → IsBetween a v x → Carries a v x → IsAmong n (told_in x) → OfEither a v n
+told_ends : (a v : ℕ) (n : Name) (x : Note Name) → (v ≡ a → ⊥) → Proper a v x → IsBetween a v x → Carries a v x → IsAmong n (told_in x) → OfEither a v n
 unfolding told_in
 told_ends a v n (Deliver m t verb ys) o q h k (inl e) = inr (ap host_of e ∙ h)
 told_ends a v n (Deliver m t verb ys) o q h k (inr b) = all_either a v n ys k b
@@ -137,7 +137,7 @@ module _ (ls : List Link) (v w : ℕ) (l : Link) (x : Note Name) (ns : List (Not
   of_either (Sent m) e a = tt
 
   -- each object that it tells is the receiver's own, or told to it
-  pub given_here : LinksGo ls Later → NoteHanded ls v x → Shortens v w x → IsBetween v w x → Carries v w x → (n : Name) → IsAmong n (told_in x) → OwnOrTold w (ToldAlong Later w) n
+  pub given_here : LinksGo ls Later → NoteHanded ls v x → Proper v w x → IsBetween v w x → Carries v w x → (n : Name) → IsAmong n (told_in x) → OwnOrTold w (ToldAlong Later w) n
   given_here goes handed q h k n a = on_bool (v == w)
       (λ e. let same : v ≡ w = eqb-true v w e in name_on ls Later goes w n (subst (λ (z : ℕ). OwnOrTold z (ToldAlong ls z) n) same (all_among (OwnOrTold v (ToldAlong ls v)) (told_in x) n handed a)))
       (λ e. of_either n (told_ends v w n x (λ f. true_false (v == w) (eq-eqb v w (sym f)) e) q h k a) a)

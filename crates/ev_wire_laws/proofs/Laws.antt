@@ -7,9 +7,10 @@ use Rattle.ev_run.specs.World.{Link, World, link_at}
 use Rattle.ev_run.specs.Wire as wire
 use Rattle.ev_name_laws.specs.Names.{AllOf, IsAmong, IsKnownIn, names_in}
 use Rattle.ev_name_laws.proofs.Facts.{all_map}
-use Rattle.ev_wire_laws.specs.Asked.{AskFits}
+use Rattle.ev_wire_laws.specs.Asked.{AskFits, HoldsNoList}
 use Rattle.ev_wire_laws.specs.Tables.{arrived}
-use Rattle.ev_wire_laws.specs.Known.{KnowsEach, KnowsEachPromise, WhatAVatAskedForIsKnown, WhatAVatWasAskedForIsKnown, WhatAVatExportedIsKnown, WhatArrivedIsKnown}
+use Rattle.ev_wire_laws.specs.Known.{KnowsEach, KnowsEachPromise, WhatAVatAskedForIsKnown, WhatAVatWasAskedForIsKnown, WhatAVatExportedIsKnown, WhatArrivedIsKnown, NotesHoldNoLists}
+use Rattle.ev_wire_laws.proofs.Asking.{Proper}
 use Rattle.ev_wire_laws.proofs.ArriveAsking.{Answered}
 use Rattle.ev_wire_laws.proofs.Arrivals.{arrived_is}
 use Rattle.ev_wire_laws.proofs.Told.{exports_told}
@@ -109,3 +110,14 @@ exported_known = in_runs _ (λ script w g h u s there v. exported_at w h u s the
 
 pub arrived_known : WhatArrivedIsKnown
 arrived_known = in_runs _ (λ script w g h u s there v l e c. heard_told w h u s there v l e c)
+
+proper_listless : (v to : ℕ) (n : Note Name) → Proper v to n → HoldsNoList n
+proper_listless v to (Deliver m n verb ys) h = h
+proper_listless v to (SettledTo n y) h = h
+proper_listless v to (Open i n) h = tt
+proper_listless v to (Ask p i n) h = tt
+proper_listless v to (Elsewhere n c) h = tt
+proper_listless v to (Shorten n c i) h = tt
+
+pub notes_listless : NotesHoldNoLists
+notes_listless = in_runs _ (λ script w g h. all_map (λ l k. all_map (λ n i. proper_listless l.from l.to n i.1) l.log k.sent) w.links h.links)

@@ -1,3 +1,4 @@
+pub mod Results
 pub mod Asking
 pub mod RefsAsking
 pub mod ArriveAsking

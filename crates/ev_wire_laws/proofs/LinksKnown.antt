@@ -9,7 +9,7 @@ use Rattle.ev_run.specs.World.{Link}
 use Rattle.ev_name_laws.specs.Names.{AllOf, IsAmong, IsKnownIn, names_in}
 use Rattle.ev_name_laws.proofs.Facts.{all_map, all_end}
 use Rattle.ev_wire_laws.specs.Asked.{AskFits, told_in}
-use Rattle.ev_wire_laws.proofs.Asking.{Shortens, ask_up}
+use Rattle.ev_wire_laws.proofs.Asking.{Proper, ask_up}
 use Rattle.ev_wire_laws.proofs.ArriveAsking.{Answered, Has}
 use Rattle.ev_wire_laws.proofs.Told.{known_up}
 
@@ -44,7 +44,7 @@ HeardBy to n ns = Answered to ns n × AllOf (IsKnownIn ns) (told_in n)
 
 module _ (vats : List (Vat Name)) where
   abbrev pub Sent : ℕ → ℕ → Note Name → Type 0
-  Sent from to n = AsksOwn to n × Shortens from to n × Knowing vats from (SentBy to n)
+  Sent from to n = AsksOwn to n × Proper from to n × Knowing vats from (SentBy to n)
 
   abbrev pub Heard : ℕ → Note Name → Type 0
   Heard to n = Knowing vats to (HeardBy to n)

@@ -1,7 +1,7 @@
 -- What a vat does with references, and its turns: what comes to be known is its own or asked for.
 use Rattle.std.proofs.Common.{◌≡◌, ℕ, zero, suc, true, false, List, [], ◌∷◌, ◌++◌, Option, Some, None, refl, sym, inl, inr, length}
 use Rattle.ev_machine.specs.Values.{Words, Value, Broken, Ref, Name, Promise, Answer, Sent, Msg, Naming, IsOwn, naming, name_of, mail_of, answer_of, host_of}
-use Rattle.ev_machine.specs.State.{Binding, Message, Standing, Settled, Known, Passed, Passeds, Plain, AGift, Many, NoMore, More, Deliver, Put, Posted, Sends, Reacts, Took, Vat, Done, Gives, Throws, Ejects, Stops, Act, ◌>>=◌, ◌>>◌, and_then, give, look, tell, send_out, come, new_message, begun}
+use Rattle.ev_machine.specs.State.{Binding, Message, Standing, Settled, Known, Passed, Passeds, Plain, AGift, Many, NoMore, More, Deliver, SettledTo, Put, Posted, Sends, Reacts, Took, Vat, Done, Gives, Throws, Ejects, Stops, Act, ◌>>=◌, ◌>>◌, and_then, give, look, tell, send_out, come, new_message, begun}
 use Rattle.ev_machine.specs.Refs as refs
 use Rattle.ev_machine.specs.Refs.{Place, Near, Mine, Away, Gone, answer_host}
 use Rattle.ev_machine.specs.Eval as eval
@@ -12,7 +12,9 @@ use Rattle.ev_fate_laws.proofs.Leads.{Leads, Ends, IsLedUnder, leads, widen, lea
 use Rattle.ev_fate_laws.proofs.TurnLeads.{good_evaluator, leads_turn_value, leads_closes, leads_opening}
 use Rattle.ev_name_laws.specs.Names.{IsAmong, names_in}
 use Rattle.ev_name_laws.proofs.Among.{among_last, names_end}
-use Rattle.ev_wire_laws.proofs.Asking.{Any, Asking, Steady, Or, Owed, base, here, asking, asking_tell, steady_on, put_on, grown, asked_then}
+use Rattle.ev_wire_laws.specs.Asked.{Listless, AllListless}
+use Rattle.ev_wire_laws.proofs.Results.{Result, pass_listless, pass_all_listless}
+use Rattle.ev_wire_laws.proofs.Asking.{Any, Asking, Steady, Or, Owed, base, here, asking, asking_tell, asking_settled, steady_on, put_on, grown, asked_then}
 
 pub known_last : (ks : List (Known Name)) (n : Name) (h : ℕ) → IsAmong n (names_in (ks ++ begun n h ∷ []))
 unfolding begun
@@ -60,10 +62,21 @@ module _ (v : ℕ) (P : Name → Type 0) (word : ℕ → ℕ) where
   unfolding refs.wait_on
   asking_wait_on p q = search (leads, asking, base) depth 14
 
+  told_after : (p : Name) (w : ℕ) (s : Vat Name) (d : Done Name (Passed Name)) → Ends Any Goes s d → Result Listless d → Ends Any Goes s (and_then d (λ z. send_out w (SettledTo p z)))
+  unfolding and_then
+  told_after p w s (Gives z t) r q = widen Any Goes (base v P) {s = s} {t = t} r (send_out w (SettledTo p z) t) ((asking_settled v P w p z q).after t)
+  told_after p w s (Throws x t) r q = r
+  told_after p w s (Ejects n y t) r q = r
+  told_after p w s (Stops c t) r q = tt
+
+  asking_told : (p : Name) (w : ℕ) (y : Value Name) → Leads Any Goes (refs.pass Names w y >>= (λ z. send_out w (SettledTo p z)))
+  unfolding ◌>>=◌
+  asking_told p w y = record { after = λ s. told_after p w s (refs.pass Names w y s) ((asking_pass w y).after s) ((pass_listless Names w y).after s) }
+
   asking_inform_of : (p : Name) (w : ℕ) (y : Value Name) (q : Place Name) → Leads Any Goes (refs.inform_of Names p w y q)
   unfolding refs.inform_of
-  asking_inform_of p w y (Away h n true) = search (leads, asking, base) depth 14
-  asking_inform_of p w y _ = search (leads, asking, base, asking_pass) depth 14
+  asking_inform_of p w y (Away h n true) = search (leads, asking) depth 14
+  asking_inform_of p w y _ = asking_told p w y
 
   pub asking_inform : (p : Name) (w : ℕ) → Leads Any Goes (refs.inform Names p w)
   unfolding refs.inform
@@ -75,19 +88,19 @@ module _ (v : ℕ) (P : Name → Type 0) (word : ℕ → ℕ) where
   abbrev Ours : Naming Name Name
   Ours = naming word v
 
-  deliver_ends : (m : Message Name) (h : ℕ) (n : Name) (s : Vat Name) (d : Done Name (Passeds Name)) → IsAmong (answer_of h m.id) (names_in s.known) → IsQuiet d → Ends Any (Asking v (Or P (answer_of h m.id))) s d
+  deliver_ends : (m : Message Name) (h : ℕ) (n : Name) (s : Vat Name) (d : Done Name (Passeds Name)) → IsAmong (answer_of h m.id) (names_in s.known) → IsQuiet d → Result AllListless d → Ends Any (Asking v (Or P (answer_of h m.id))) s d
       → Ends Any (Owed v P (answer_of h m.id)) s (and_then d (λ args. tell (Posted h m.id) >> send_out h (Deliver m.id n m.verb args)))
   unfolding and_then ◌>>◌ tell send_out
-  deliver_ends m h n s (Gives args t) a q r = λ e. let b = r e in let put : Put Name = record { to = h; note = Deliver m.id n m.verb args } in
+  deliver_ends m h n s (Gives args t) a q z r = λ e. let b = r e in let put : Put Name = record { to = h; note = Deliver m.id n m.verb args } in
       let u : Vat Name = record t { happened = t.happened ++ Posted h m.id ∷ []; outbox = t.outbox ++ put ∷ [] } in
-      (steady_on v (Or P (answer_of h m.id)) s t u b (put_on v (Or P (answer_of h m.id)) t u h (Deliver m.id n m.verb args) refl refl refl refl refl (b.names (answer_of h m.id) a) tt b.number), inr (inl (put, among_last t.outbox put, refl)))
-  deliver_ends m h n s (Throws p t) a q r = absurd q
-  deliver_ends m h n s (Ejects i y t) a q r = absurd q
-  deliver_ends m h n s (Stops c t) a q r = tt
+      (steady_on v (Or P (answer_of h m.id)) s t u b (put_on v (Or P (answer_of h m.id)) t u h (Deliver m.id n m.verb args) refl refl refl refl refl (b.names (answer_of h m.id) a) z b.number), inr (inl (put, among_last t.outbox put, refl)))
+  deliver_ends m h n s (Throws p t) a q z r = absurd q
+  deliver_ends m h n s (Ejects i y t) a q z r = absurd q
+  deliver_ends m h n s (Stops c t) a q z r = tt
 
   pub delivered : (m : Message Name) (h : ℕ) (n : Name) (s : Vat Name) → IsAmong (answer_of h m.id) (names_in s.known) → Ends Any (Owed v P (answer_of h m.id)) s (refs.deliver Ours m h n s)
   unfolding refs.deliver ◌>>=◌
-  delivered m h n s a = deliver_ends m h n s (refs.pass_all Ours h m.args s) a ((quiet_pass_all Ours h m.args).ends s) ((asking_pass_all v (Or P (answer_of h m.id)) word h m.args).after s)
+  delivered m h n s a = deliver_ends m h n s (refs.pass_all Ours h m.args s) a ((quiet_pass_all Ours h m.args).ends s) ((pass_all_listless Ours h m.args).after s) ((asking_pass_all v (Or P (answer_of h m.id)) word h m.args).after s)
 
   came : (s : Vat Name) (n : Name) (h : ℕ) → Asking v (Or P n) s (record s { known = s.known ++ begun n h ∷ [] })
   came s n h = grown v (Or P n) s (record s { known = s.known ++ begun n h ∷ [] }) n refl (known_end s.known n h) refl refl refl (inr (inr refl))
@@ -113,8 +126,8 @@ module _ (v : ℕ) (P : Name → Type 0) (word : ℕ → ℕ) where
 
   asking_send_to : (settle : Name → Value Name → Act Name (Unit {0})) → AskingSettler v P settle → (m : Message Name) (y : Value Name) (p : Place Name) → Leads Any Leading (refs.send_to Mines settle m y p)
   unfolding refs.send_to
-  asking_send_to settle good m y Near = search (leads, asking, base) depth 14
-  asking_send_to settle good m y (Mine n) = search (leads, asking, base) depth 14
+  asking_send_to settle good m y Near = search (leads, asking) depth 14
+  asking_send_to settle good m y (Mine n) = search (leads, asking) depth 14
   asking_send_to settle good m y (Away h n o) = asking_pass_on v P word m h n
   asking_send_to settle good m y (Gone p) = search (leads, asking, base, good) depth 14
 

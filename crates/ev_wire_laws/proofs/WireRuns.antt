@@ -21,7 +21,7 @@ use Rattle.ev_rest_laws.proofs.NotesLift as lift
 use Rattle.ev_rest_laws.proofs.NotesRuns.{Its, OfNotes, Ever, its_keep, links_of, opened_all}
 use Rattle.ev_wire_laws.specs.Asked.{AsksOf, told_in}
 use Rattle.ev_wire_laws.specs.Alike.{names_heard}
-use Rattle.ev_wire_laws.proofs.Asking.{Any, GiftFits, PutFits, Shortens, Asking, Steady, Comes}
+use Rattle.ev_wire_laws.proofs.Asking.{Any, GiftFits, PutFits, Proper, Asking, Steady, Comes}
 use Rattle.ev_wire_laws.proofs.RefsAsking.{asking_taking, asking_openings}
 use Rattle.ev_wire_laws.proofs.ArriveAsking.{MailFits, IsNoMessage, Has, HasHeard, Reached, led_reached, arrive_hears, asking_notice}
 use Rattle.ev_wire_laws.proofs.Told.{known_up, heard_told, note_told}
@@ -273,7 +273,7 @@ module _ (script : Script) where
       let splits : AllOf Splits w.links = splits_of w.vats w.links h.links in let goes : LinksGo w.links later = take_goes n ns v to l w.links at e splits in
       let split = (at_link Splits v to l w.links splits at).0 in let logged : IsAmong n l.log = waiting_logged n ns l e (split uncut) in
       let link = at_link (LinkKnown w.vats) v to l w.links h.links at in let known = link.0 in let sent = all_among (Sent w.vats l.from l.to) l.log n known.sent logged in
-      let short : Shortens v to n = subst (λ (z : ℕ). Shortens v z n) link.2 (subst (λ (z : ℕ). Shortens z l.to n) link.1 sent.1) in
+      let short : Proper v to n = subst (λ (z : ℕ). Proper v z n) link.2 (subst (λ (z : ℕ). Proper z l.to n) link.1 sent.1) in
       let log = at_link (LogHanded w.links) v to l w.links h.handed at in
       let handed : NoteHanded w.links v n = subst (λ (z : ℕ). NoteHanded w.links z n) log.1 (all_among (NoteHanded w.links l.from) l.log n log.0 logged) in
       ends_handed to T nothing r (arrive (naming (draw_word script.key) to) v (read_note (names_in s.known) n) r) ((arrive_handed to T (draw_word script.key) v (names_in s.known) n (mail_fits w.vats (Told script w) (λ m k. k.0) n ok) (given_here w.links v to l n ns at logged goes handed short ends.0 ends.1)).after r

@@ -52,6 +52,38 @@ told_in (SettledTo n y) = n ∷ told_passed y
 told_in (Elsewhere n c) = n ∷ []
 told_in (Shorten n c i) = n ∷ []
 
+-- it is no list by its number in the heap of a vat
+abbrev pub ListlessValue : Value Name → Type 0
+ListlessValue (Items k) = ⊥
+ListlessValue Null = Unit {0}
+ListlessValue (Flag b) = Unit {0}
+ListlessValue (Number z) = Unit {0}
+ListlessValue (Letter c) = Unit {0}
+ListlessValue (Text t) = Unit {0}
+ListlessValue (Prim i) = Unit {0}
+ListlessValue (Broken t) = Unit {0}
+ListlessValue (Ref n) = Unit {0}
+
+-- so is each part of what passes
+abbrev mutual
+  pub Listless : Passed Name → Type 0
+  Listless (Plain y) = ListlessValue y
+  Listless (AGift h i) = Unit {0}
+  Listless (Many ys) = AllListless ys
+
+  pub AllListless : Passeds Name → Type 0
+  AllListless NoMore = Unit {0}
+  AllListless (More y ys) = Listless y × AllListless ys
+
+-- and each part of what passes in a note
+abbrev pub HoldsNoList : Note Name → Type 0
+HoldsNoList (Deliver m n verb ys) = AllListless ys
+HoldsNoList (SettledTo n y) = Listless y
+HoldsNoList (Open i n) = Unit {0}
+HoldsNoList (Ask p i n) = Unit {0}
+HoldsNoList (Elsewhere n c) = Unit {0}
+HoldsNoList (Shorten n c i) = Unit {0}
+
 -- opens the definitions of this file
 unfoldable pub opened_asked : Unit {0}
 unfolding told_value told_passed told_all told_in

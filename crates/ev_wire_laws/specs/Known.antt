@@ -3,9 +3,10 @@ use Rattle.std.specs.Prelude.{◌≡◌, ℕ, false, List, Some}
 use Rattle.ev_machine.specs.Values.{Name}
 use Rattle.ev_machine.specs.State.{Vat}
 use Rattle.ev_name_laws.specs.Names.{AllOf, IsAmong, IsKnownIn, names_in}
-use Rattle.ev_name_laws.specs.Runs.{InEachVat}
+use Rattle.ev_name_laws.specs.Runs.{InRuns, InEachVat}
 use Rattle.ev_run.specs.World.{Link, World, link_at}
 use Rattle.ev_run.specs.Wire.{questions_in, exports_after, questions, exports}
+use Rattle.ev_wire_laws.specs.Asked.{HoldsNoList}
 use Rattle.ev_wire_laws.specs.Tables.{arrived}
 
 -- the vat knows each of these names
@@ -19,6 +20,10 @@ KnowsEachPromise s ns = AllOf (IsKnownIn (names_in s.known)) ns
 -- of the link from one vat to another, as long as it is not cut
 abbrev pub OnUncutLink : World → ℕ → ℕ → (Link → Type 0) → Type 0
 OnUncutLink w v u P = (l : Link) → link_at v u w.links ≡ Some l → l.cut ≡ false → P l
+
+-- No note that was ever put on a link holds a list by its number.
+abbrev pub NotesHoldNoLists : Type 0
+NotesHoldNoLists = InRuns (λ w. AllOf (λ l. AllOf HoldsNoList l.log) w.links)
 
 -- A vat knows each answer and each gift for which it ever asked another.
 abbrev pub WhatAVatAskedForIsKnown : Type 0

@@ -4,7 +4,7 @@
 //! any entries of a schedule. No vat of the script may be told twice that it knows a vat, or that
 //! it knows itself.
 
-ghost use Rattle.ev_wire_laws.specs.Known.{WhatAVatAskedForIsKnown, WhatAVatWasAskedForIsKnown, WhatAVatExportedIsKnown, WhatArrivedIsKnown};
+ghost use Rattle.ev_wire_laws.specs.Known.{WhatAVatAskedForIsKnown, WhatAVatWasAskedForIsKnown, WhatAVatExportedIsKnown, WhatArrivedIsKnown, NotesHoldNoLists};
 ghost use Rattle.ev_wire_laws.specs.Given.{NotesNameWhatWasGiven};
 ghost use Rattle.ev_wire_laws.specs.Sources.{NamesComeFromTheirHosts};
 
@@ -45,4 +45,9 @@ pub fn names_come_from_their_hosts()
 /// was ever put on the link.
 pub fn notes_name_what_was_given()
     ensures { NotesNameWhatWasGiven }
+{}
+
+/// No note that was ever put on a link holds a list by its number: its members pass in its place.
+pub fn notes_hold_no_lists()
+    ensures { NotesHoldNoLists }
 {}
