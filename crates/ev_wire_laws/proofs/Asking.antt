@@ -1,9 +1,11 @@
 -- How the names that a vat knows and the notes that it puts go on: what comes to be known is the vat's own, or was asked for, or is severed, or was told; and what is asked for is known.
-use Rattle.std.proofs.Common.{◌≡◌, ℕ, suc, ◌-◌, Bool, true, false, List, [], ◌∷◌, ◌++◌, Option, Some, None, refl, sym, ap, ◌∙◌, ◌⊎◌, inl, inr, length, ◌==◌}
+use Rattle.std.proofs.Common.{◌≡◌, ℕ, zero, suc, ◌-◌, Bool, true, false, List, [], ◌∷◌, ◌++◌, Option, Some, None, refl, sym, ap, ◌∙◌, ◌⊎◌, inl, inr, length, ◌==◌}
+use Rattle.std.specs.Prelude.{slice_get}
+use Rattle.std.proofs.lemmas.Bool.{eq-eqb}
 use Rattle.ev_machine.specs.Values.{Name, Gift, Naming, Mailing, naming, host_of}
-use Rattle.ev_machine.specs.State.{Message, Change, Passed, Note, Deliver, Open, Ask, SettledTo, Elsewhere, Shorten, Put, GiftEntry, Happened, Vat, Done, Gives, Throws, Ejects, Stops, Act, and_then, tell, change, dead, holding, with_change, enqueue, send_out, with_opened, is_gift, open_gift, mark, draws, draw, alter, mail, is_in}
+use Rattle.ev_machine.specs.State.{Message, Change, Passed, Note, Deliver, Open, Ask, SettledTo, Elsewhere, Shorten, Put, GiftEntry, Happened, Vat, Done, Gives, Throws, Ejects, Stops, Act, and_then, tell, change, dead, holding, with_change, enqueue, send_out, with_opened, is_gift, open_gift, mark, drawn_at, draws, draw, alter, mail, is_in}
 use Rattle.ev_fate_laws.proofs.Leads.{Leads, Ends, IsLed}
-use Rattle.ev_name_laws.specs.Names.{AllOf, IsAmong, IsEventual, names_in}
+use Rattle.ev_name_laws.specs.Names.{AllOf, IsAmong, IsEventual, Once, names_in}
 use Rattle.ev_name_laws.proofs.Facts.{all_map, all_end}
 use Rattle.ev_name_laws.proofs.Among.{among_more, among_or}
 use Rattle.ev_name_laws.proofs.Tracked.{names_change}
@@ -36,24 +38,34 @@ Fit v ns gs ps = AllOf (GiftFits v ns) gs × AllOf (PutFits v ns) ps
 abbrev pub WasAsked : Vat Name → Name → Type 0
 WasAsked t n = (p : Put Name) × IsAmong p t.outbox × AsksOf p.to p.note n
 
--- How a name came to be known: it is the vat's own, or was asked for, or its host was noticed, or it was told.
-abbrev pub Comes : ℕ → (Name → Type 0) → Vat Name → Name → Type 0
-Comes v P t n = (host_of n ≡ v) ⊎ (WasAsked t n ⊎ ((is_in (host_of n) t.noticed ≡ true) ⊎ P n))
+-- the names that are told in a step, and the word of each draw
+pub record Telling : Type 1 where
+  pub told : Name → Type 0
+  pub word : ℕ → ℕ
 
-pub record Steady (v : ℕ) (P : Name → Type 0) (s t : Vat Name) : Type 0 where
+-- the words that were drawn are the first ones, in order, and differ
+abbrev pub Drawn : (ℕ → ℕ) → List ℕ → Type 0
+Drawn word ds = ((i x : ℕ) → slice_get ds i ≡ Some x → x ≡ word i) × Once ds
+
+-- How a name came to be known: it is the vat's own, or was asked for, or its host was noticed, or it was told.
+abbrev pub Comes : ℕ → Telling → Vat Name → Name → Type 0
+Comes v P t n = (host_of n ≡ v) ⊎ (WasAsked t n ⊎ ((is_in (host_of n) t.noticed ≡ true) ⊎ P.told n))
+
+pub record Steady (v : ℕ) (P : Telling) (s t : Vat Name) : Type 0 where
   pub number : t.number ≡ v
   pub names : (n : Name) → IsAmong n (names_in s.known) → IsAmong n (names_in t.known)
   pub puts : (p : Put Name) → IsAmong p s.outbox → IsAmong p t.outbox
   pub noticed : (h : ℕ) → is_in h s.noticed ≡ true → is_in h t.noticed ≡ true
   pub fits : Fit v (names_in s.known) s.gifts s.outbox → Fit v (names_in t.known) t.gifts t.outbox
   pub news : (n : Name) → IsAmong n (names_in t.known) → IsAmong n (names_in s.known) ⊎ Comes v P t n
+  pub draws : Drawn P.word s.drawn → Drawn P.word t.drawn
 
-abbrev pub Asking : ℕ → (Name → Type 0) → Vat Name → Vat Name → Type 0
+abbrev pub Asking : ℕ → Telling → Vat Name → Vat Name → Type 0
 Asking v P s t = s.number ≡ v → Steady v P s t
 
 -- with one more name, which was not asked for yet
-abbrev pub Or : (Name → Type 0) → Name → Name → Type 0
-Or P n m = P m ⊎ (m ≡ n)
+abbrev pub Or : Telling → Name → Telling
+Or P n = record { told = λ m. P.told m ⊎ (m ≡ n); word = P.word }
 
 pub ask_up : (ns ms : List Name) → ((n : Name) → IsAmong n ns → IsAmong n ms) → (w : ℕ) (n : Note Name) → AskFits ns w n → AskFits ms w n
 ask_up ns ms f w (Deliver m n verb ys) h = f _ h
@@ -66,7 +78,56 @@ ask_up ns ms f w (Shorten n c i) h = tt
 pub fit_up : (v : ℕ) (ns ms : List Name) → ((n : Name) → IsAmong n ns → IsAmong n ms) → (gs : List (GiftEntry Name)) (ps : List (Put Name)) → Fit v ns gs ps → Fit v ms gs ps
 fit_up v ns ms f gs ps h = (all_map (λ g k. (k.0, f g.name k.1)) gs h.0, all_map (λ p k. (ask_up ns ms f p.to p.note k.0, k.1)) ps h.1)
 
-module _ (v : ℕ) (P : Name → Type 0) where
+-- ---- the words that are drawn
+
+drawn_or : (k w x : ℕ) (b : Bool) (o : Option ℕ) → (w == x) ≡ b → ◌≡◌ {A = Option ℕ} (elim b [ true ↦ Some k | false ↦ o ]) None → (w ≡ x → ⊥) × (o ≡ None)
+drawn_or k w x true o e f = absurd (some_none k f)
+  where
+    some_none : (k : ℕ) → Some k ≡ None → ⊥
+    some_none k f = cc
+drawn_or k w x false o e f = (λ g. true_false (w == x) (eq-eqb w x g) e, f)
+  where
+    true_false : (b : Bool) → b ≡ true → b ≡ false → ⊥
+    true_false b i j = cc
+
+not_drawn : (k w : ℕ) (ds : List ℕ) → drawn_at k w ds ≡ None → IsAmong w ds → ⊥
+unfolding drawn_at
+not_drawn k w [] e a = a
+not_drawn k w (x ∷ ds) e a = let r = drawn_or k w x (w == x) (drawn_at (suc k) w ds) refl e in by_either a r.0 (not_drawn (suc k) w ds r.1)
+  where
+    by_either : {Q S : Type 0} → Q ⊎ S → (Q → ⊥) → (S → ⊥) → ⊥
+    by_either (inl q) f g = f q
+    by_either (inr t) f g = g t
+
+once_end : (ds : List ℕ) (w : ℕ) → Once ds → (IsAmong w ds → ⊥) → Once (ds ++ w ∷ [])
+once_end [] w h f = (λ a. a, tt)
+once_end (x ∷ ds) w h f = (λ a. new (among_or x ds w a), once_end ds w h.1 (λ a. f (inr a)))
+  where
+    new : IsAmong x ds ⊎ (x ≡ w) → ⊥
+    new (inl a) = h.0 a
+    new (inr e) = f (inl (sym e))
+
+get_end : (ds : List ℕ) (w i x : ℕ) → slice_get (ds ++ w ∷ []) i ≡ Some x → (slice_get ds i ≡ Some x) ⊎ ((i ≡ length ds) × (w ≡ x))
+get_end [] w zero x e = inr (refl, (let f : w ≡ x = cc in f))
+get_end [] w (suc i) x e = absurd (none_some x e)
+  where
+    none_some : (x : ℕ) → None ≡ Some x → ⊥
+    none_some x f = cc
+get_end (d ∷ ds) w zero x e = inl e
+get_end (d ∷ ds) w (suc i) x e = go (get_end ds w i x e)
+  where
+    go : (slice_get ds i ≡ Some x) ⊎ ((i ≡ length ds) × (w ≡ x)) → (slice_get (d ∷ ds) (suc i) ≡ Some x) ⊎ ((suc i ≡ length (d ∷ ds)) × (w ≡ x))
+    go (inl f) = inl f
+    go (inr f) = inr (ap suc f.0, f.1)
+
+drawn_end : (word : ℕ → ℕ) (ds : List ℕ) (w : ℕ) → w ≡ word (length ds) → drawn_at zero w ds ≡ None → Drawn word ds → Drawn word (ds ++ w ∷ [])
+drawn_end word ds w e f d = (λ i x g. pick i x (get_end ds w i x g), once_end ds w d.1 (not_drawn zero w ds f))
+  where
+    pick : (i x : ℕ) → (slice_get ds i ≡ Some x) ⊎ ((i ≡ length ds) × (w ≡ x)) → x ≡ word i
+    pick i x (inl g) = d.0 i x g
+    pick i x (inr g) = sym g.1 ∙ e ∙ ap word (sym g.0)
+
+module _ (v : ℕ) (P : Telling) where
   abbrev R : Vat Name → Vat Name → Type 0
   R = Asking v P
 
@@ -92,33 +153,35 @@ module _ (v : ℕ) (P : Name → Type 0) where
     noticed = λ g e. k.noticed g (h.noticed g e);
     fits = λ f. k.fits (h.fits f);
     news = λ n a. news_on s t u h k n (k.news n a);
+    draws = λ d. k.draws (h.draws d);
   }
 
   -- nothing of it changes
-  pub same_as : (s t : Vat Name) → t.number ≡ s.number → names_in t.known ≡ names_in s.known → t.gifts ≡ s.gifts → t.outbox ≡ s.outbox → t.noticed ≡ s.noticed → R s t
-  same_as s t a b c d e = λ i. record {
+  pub same_as : (s t : Vat Name) → t.number ≡ s.number → names_in t.known ≡ names_in s.known → t.gifts ≡ s.gifts → t.outbox ≡ s.outbox → t.noticed ≡ s.noticed → t.drawn ≡ s.drawn → R s t
+  same_as s t a b c d e w = λ i. record {
     number = a ∙ i;
     names = λ n j. rw (sym b) at j;
     puts = λ p j. rw (sym d) at j;
     noticed = λ h j. rw (sym e) at j;
     fits = λ f. rw (sym b, sym c, sym d) at f;
     news = λ n j. inl (rw b at j);
+    draws = λ f. rw (sym w) at f;
   }
 
   pub base : IsLed Any R
   base = record {
-    same = λ s. same_as s s refl refl refl refl refl;
+    same = λ s. same_as s s refl refl refl refl refl refl;
     trans = λ {s} {t} {u} h k. λ e. let a = h e in steady_on s t u a (k a.number);
     stops = λ s. tt;
     stopped = λ h k. tt;
-    fuel = λ s n. same_as s (record s { fuel = s.fuel - n }) refl refl refl refl refl;
-    told = λ s e h. same_as s (record s { happened = s.happened ++ e ∷ [] }) refl refl refl refl refl;
-    activations = λ s. same_as s (record s { activations = suc s.activations }) refl refl refl refl refl;
-    thing = λ s t. same_as s (record s { things = s.things ++ t ∷ [] }) refl refl refl refl refl;
-    killed = λ s n. same_as s (record s { things = change dead n s.things }) refl refl refl refl refl;
-    slot = λ s c. same_as s (record s { slots = s.slots ++ c ∷ [] }) refl refl refl refl refl;
-    written = λ s n y. same_as s (record s { slots = change (holding y) n s.slots }) refl refl refl refl refl;
-    list = λ s vs. same_as s (record s { lists = s.lists ++ vs ∷ [] }) refl refl refl refl refl;
+    fuel = λ s n. same_as s (record s { fuel = s.fuel - n }) refl refl refl refl refl refl;
+    told = λ s e h. same_as s (record s { happened = s.happened ++ e ∷ [] }) refl refl refl refl refl refl;
+    activations = λ s. same_as s (record s { activations = suc s.activations }) refl refl refl refl refl refl;
+    thing = λ s t. same_as s (record s { things = s.things ++ t ∷ [] }) refl refl refl refl refl refl;
+    killed = λ s n. same_as s (record s { things = change dead n s.things }) refl refl refl refl refl refl;
+    slot = λ s c. same_as s (record s { slots = s.slots ++ c ∷ [] }) refl refl refl refl refl refl;
+    written = λ s n y. same_as s (record s { slots = change (holding y) n s.slots }) refl refl refl refl refl refl;
+    list = λ s vs. same_as s (record s { lists = s.lists ++ vs ∷ [] }) refl refl refl refl refl refl;
   }
 
   -- in a state of that vat
@@ -130,11 +193,11 @@ module _ (v : ℕ) (P : Name → Type 0) where
 
   pub asking_tell : (e : Happened Name) → Leads Any R (tell e)
   unfolding tell
-  asking_tell e = record { after = λ s. same_as s (record s { happened = s.happened ++ e ∷ [] }) refl refl refl refl refl }
+  asking_tell e = record { after = λ s. same_as s (record s { happened = s.happened ++ e ∷ [] }) refl refl refl refl refl refl }
 
   pub asking_enqueue : (m : Message Name) → Leads Any R (enqueue m)
   unfolding enqueue
-  asking_enqueue m = record { after = λ s. same_as s (record s { queue = s.queue ++ m ∷ [] }) refl refl refl refl refl }
+  asking_enqueue m = record { after = λ s. same_as s (record s { queue = s.queue ++ m ∷ [] }) refl refl refl refl refl refl }
 
   more_in : (h w : ℕ) (ws : List ℕ) → is_in h ws ≡ true → is_in h (ws ++ w ∷ []) ≡ true
   unfolding is_in
@@ -147,7 +210,7 @@ module _ (v : ℕ) (P : Name → Type 0) where
 
   pub asking_mark : (w : ℕ) → Leads Any R (mark w)
   unfolding mark
-  asking_mark w = record { after = λ s i. record { number = i; names = λ n j. j; puts = λ p j. j; noticed = λ h j. more_in h w s.noticed j; fits = λ f. f; news = λ n j. inl j } }
+  asking_mark w = record { after = λ s i. record { number = i; names = λ n j. j; puts = λ p j. j; noticed = λ h j. more_in h w s.noticed j; fits = λ f. f; news = λ n j. inl j; draws = λ d. d } }
 
   -- a gift that was opened keeps its name and its number
   opened_either : (b : Bool) (ns : List Name) (g : GiftEntry Name) (gs hs : List (GiftEntry Name)) → GiftFits v ns g → AllOf (GiftFits v ns) gs → AllOf (GiftFits v ns) hs → AllOf (GiftFits v ns) (elim b [ true ↦ record g { opened = true } ∷ gs | false ↦ g ∷ hs ])
@@ -161,22 +224,24 @@ module _ (v : ℕ) (P : Name → Type 0) where
 
   pub asking_open : (p i : ℕ) → Leads Any R (open_gift {N = Name} p i)
   unfolding open_gift
-  asking_open p i = record { after = λ s e. record { number = e; names = λ n j. j; puts = λ q j. j; noticed = λ h j. j; fits = λ f. (opened_fits (names_in s.known) p i s.gifts f.0, f.1); news = λ n j. inl j } }
+  asking_open p i = record { after = λ s e. record { number = e; names = λ n j. j; puts = λ q j. j; noticed = λ h j. j; fits = λ f. (opened_fits (names_in s.known) p i s.gifts f.0, f.1); news = λ n j. inl j; draws = λ d. d } }
 
-  draws_after : (s : Vat Name) (w : ℕ) (o : Option ℕ) → Ends Any R s (draws w o s)
+  -- the next word is the next of the stream, and none that was drawn
+  draws_after : (s : Vat Name) (w : ℕ) (o : Option ℕ) → w ≡ P.word (length s.drawn) → drawn_at zero w s.drawn ≡ o → Ends Any R s (draws w o s)
   unfolding draws
-  draws_after s w (Some i) = tt
-  draws_after s w None = same_as s (record s { drawn = s.drawn ++ w ∷ [] }) refl refl refl refl refl
+  draws_after s w (Some i) e f = tt
+  draws_after s w None e f = λ i. record { number = i; names = λ n j. j; puts = λ p j. j; noticed = λ h j. j; fits = λ k. k; news = λ n j. inl j; draws = λ d. drawn_end P.word s.drawn w e f d }
 
   -- a note is put of which it is known that what it asks for is known
-  pub put_on : (s t : Vat Name) (w : ℕ) (n : Note Name) → t.number ≡ s.number → names_in t.known ≡ names_in s.known → t.gifts ≡ s.gifts → t.outbox ≡ s.outbox ++ record { to = w; note = n } ∷ [] → t.noticed ≡ s.noticed → AskFits (names_in s.known) w n → Proper v w n → R s t
-  put_on s t w n a b c d e k q = λ i. record {
+  pub put_on : (s t : Vat Name) (w : ℕ) (n : Note Name) → t.number ≡ s.number → names_in t.known ≡ names_in s.known → t.gifts ≡ s.gifts → t.outbox ≡ s.outbox ++ record { to = w; note = n } ∷ [] → t.noticed ≡ s.noticed → t.drawn ≡ s.drawn → AskFits (names_in s.known) w n → Proper v w n → R s t
+  put_on s t w n a b c d e z k q = λ i. record {
     number = a ∙ i;
     names = λ m j. rw (sym b) at j;
     puts = λ p j. rw (sym d) at (among_more p s.outbox (record { to = w; note = n }) j);
     noticed = λ h j. rw (sym e) at j;
     fits = λ f. rw (sym b, sym c, sym d) at (put_fits f);
     news = λ m j. inl (rw b at j);
+    draws = λ f. rw (sym z) at f;
   }
     where
       put_fits : Fit v (names_in s.known) s.gifts s.outbox → Fit v (names_in s.known) s.gifts (s.outbox ++ record { to = w; note = n } ∷ [])
@@ -184,33 +249,34 @@ module _ (v : ℕ) (P : Name → Type 0) where
 
   pub asking_settled : (w : ℕ) (n : Name) (y : Passed Name) → Listless y → Leads Any R (send_out w (SettledTo n y))
   unfolding send_out
-  asking_settled w n y q = record { after = λ s. put_on s (record s { outbox = s.outbox ++ record { to = w; note = SettledTo n y } ∷ [] }) w (SettledTo n y) refl refl refl refl refl tt q }
+  asking_settled w n y q = record { after = λ s. put_on s (record s { outbox = s.outbox ++ record { to = w; note = SettledTo n y } ∷ [] }) w (SettledTo n y) refl refl refl refl refl refl tt q }
 
   pub asking_elsewhere : (w : ℕ) (n : Name) (c : ℕ) → Leads Any R (send_out w (Elsewhere n c))
   unfolding send_out
-  asking_elsewhere w n c = record { after = λ s. put_on s (record s { outbox = s.outbox ++ record { to = w; note = Elsewhere n c } ∷ [] }) w (Elsewhere n c) refl refl refl refl refl tt tt }
+  asking_elsewhere w n c = record { after = λ s. put_on s (record s { outbox = s.outbox ++ record { to = w; note = Elsewhere n c } ∷ [] }) w (Elsewhere n c) refl refl refl refl refl refl tt tt }
 
   pub asking_opening : (w i : ℕ) (n : Name) → Leads Any R (send_out w (Open i n))
   unfolding send_out
-  asking_opening w i n = record { after = λ s. put_on s (record s { outbox = s.outbox ++ record { to = w; note = Open i n } ∷ [] }) w (Open i n) refl refl refl refl refl tt tt }
+  asking_opening w i n = record { after = λ s. put_on s (record s { outbox = s.outbox ++ record { to = w; note = Open i n } ∷ [] }) w (Open i n) refl refl refl refl refl refl tt tt }
 
   pub asking_shorten : (w : ℕ) (n : Name) (c i : ℕ) → ((w ≡ v → ⊥) → IsEventual n) → Leads Any R (send_out w (Shorten n c i))
   unfolding send_out
-  asking_shorten w n c i f = record { after = λ s. put_on s (record s { outbox = s.outbox ++ record { to = w; note = Shorten n c i } ∷ [] }) w (Shorten n c i) refl refl refl refl refl tt f }
+  asking_shorten w n c i f = record { after = λ s. put_on s (record s { outbox = s.outbox ++ record { to = w; note = Shorten n c i } ∷ [] }) w (Shorten n c i) refl refl refl refl refl refl tt f }
 
-  comes_is : (t : Vat Name) (m n : Name) → m ≡ n → (host_of n ≡ v) ⊎ P n → Comes v P t m
+  comes_is : (t : Vat Name) (m n : Name) → m ≡ n → (host_of n ≡ v) ⊎ P.told n → Comes v P t m
   comes_is t m n e (inl h) = inl (ap host_of e ∙ h)
   comes_is t m n e (inr p) = inr (inr (inr (rw (sym e) at p)))
 
   -- a name comes to be known, as the last
-  pub grown : (s t : Vat Name) (n : Name) → t.number ≡ s.number → names_in t.known ≡ names_in s.known ++ n ∷ [] → t.gifts ≡ s.gifts → t.outbox ≡ s.outbox → t.noticed ≡ s.noticed → (host_of n ≡ v) ⊎ P n → R s t
-  grown s t n a b c d e k = λ i. record {
+  pub grown : (s t : Vat Name) (n : Name) → t.number ≡ s.number → names_in t.known ≡ names_in s.known ++ n ∷ [] → t.gifts ≡ s.gifts → t.outbox ≡ s.outbox → t.noticed ≡ s.noticed → t.drawn ≡ s.drawn → (host_of n ≡ v) ⊎ P.told n → R s t
+  grown s t n a b c d e z k = λ i. record {
     number = a ∙ i;
     names = λ m j. rw (sym b) at (among_more m (names_in s.known) n j);
     puts = λ p j. rw (sym d) at j;
     noticed = λ h j. rw (sym e) at j;
     fits = λ f. rw (sym b, sym c, sym d) at (fit_up v (names_in s.known) (names_in s.known ++ n ∷ []) (λ m j. among_more m (names_in s.known) n j) s.gifts s.outbox f);
     news = λ m j. new m (among_or m (names_in s.known) n (rw b at j));
+    draws = λ f. rw (sym z) at f;
   }
     where
       new : (m : Name) → IsAmong m (names_in s.known) ⊎ (m ≡ n) → IsAmong m (names_in s.known) ⊎ Comes v P t m
@@ -218,44 +284,44 @@ module _ (v : ℕ) (P : Name → Type 0) where
       new m (inr j) = inr (comes_is t m n j k)
 
   -- a gift of the vat's own
-  pub gave : (s t : Vat Name) (g : GiftEntry Name) → t.number ≡ s.number → names_in t.known ≡ names_in s.known → t.gifts ≡ s.gifts ++ g ∷ [] → t.outbox ≡ s.outbox → t.noticed ≡ s.noticed → GiftFits v (names_in s.known) g → R s t
-  gave s t g a b c d e k = λ i. record {
+  pub gave : (s t : Vat Name) (g : GiftEntry Name) → t.number ≡ s.number → names_in t.known ≡ names_in s.known → t.gifts ≡ s.gifts ++ g ∷ [] → t.outbox ≡ s.outbox → t.noticed ≡ s.noticed → t.drawn ≡ s.drawn → GiftFits v (names_in s.known) g → R s t
+  gave s t g a b c d e z k = λ i. record {
     number = a ∙ i;
     names = λ n j. rw (sym b) at j;
     puts = λ p j. rw (sym d) at j;
     noticed = λ h j. rw (sym e) at j;
     fits = λ f. rw (sym b, sym c, sym d) at (gift_fits f);
     news = λ n j. inl (rw b at j);
+    draws = λ f. rw (sym z) at f;
   }
     where
       gift_fits : Fit v (names_in s.known) s.gifts s.outbox → Fit v (names_in s.known) (s.gifts ++ g ∷ []) s.outbox
       gift_fits f = (all_end (GiftFits v (names_in s.known)) s.gifts g f.0 k, f.1)
 
-  module _ (word : ℕ → ℕ) where
-    abbrev K : Naming Name Name
-    K = naming word v
+  abbrev K : Naming Name Name
+  K = naming P.word v
 
-    pub asking_draw : Leads Any R (draw K)
-    unfolding draw
-    asking_draw = record { after = λ s. draws_after s _ _ }
+  pub asking_draw : Leads Any R (draw K)
+  unfolding draw naming
+  asking_draw = record { after = λ s. draws_after s (P.word (length s.drawn)) (drawn_at zero (P.word (length s.drawn)) s.drawn) refl refl }
 
-    pub asking_alter : (c : Change Name) (n : Name) → Leads Any R (alter K c n)
-    unfolding alter
-    asking_alter c n = record { after = λ s. same_as s (record s { known = with_change K c n s.known }) refl (names_change K c n s.known) refl refl refl }
+  pub asking_alter : (c : Change Name) (n : Name) → Leads Any R (alter K c n)
+  unfolding alter
+  asking_alter c n = record { after = λ s. same_as s (record s { known = with_change K c n s.known }) refl (names_change K c n s.known) refl refl refl refl }
 
-    pub asking_mail : (c : Mailing Name) → Leads Any R (mail K c)
-    unfolding mail
-    asking_mail c = record { after = λ s. same_as s (record s { mails = s.mails ++ K.mailed c (length s.mails) ∷ [] }) refl refl refl refl refl }
+  pub asking_mail : (c : Mailing Name) → Leads Any R (mail K c)
+  unfolding mail
+  asking_mail c = record { after = λ s. same_as s (record s { mails = s.mails ++ K.mailed c (length s.mails) ∷ [] }) refl refl refl refl refl refl }
 
 pub ruleset asking = (asking_tell, asking_enqueue, asking_mark, asking_open, asking_elsewhere, asking_opening, asking_draw, asking_alter, asking_mail)
 
 -- ---- a name that is asked for once it is known
 
 -- all but the name are accounted for, and now the name is too
-abbrev pub Owed : ℕ → (Name → Type 0) → Name → Vat Name → Vat Name → Type 0
+abbrev pub Owed : ℕ → Telling → Name → Vat Name → Vat Name → Type 0
 Owed v P n s t = s.number ≡ v → Steady v (Or P n) s t × Comes v P t n
 
-module _ (v : ℕ) (P : Name → Type 0) (n : Name) where
+module _ (v : ℕ) (P : Telling) (n : Name) where
   account : (t : Vat Name) (m : Name) → Comes v P t n → Comes v (Or P n) t m → Comes v P t m
   account t m c (inl e) = inl e
   account t m c (inr (inl a)) = inr (inl a)
@@ -264,7 +330,7 @@ module _ (v : ℕ) (P : Name → Type 0) (n : Name) where
   account t m c (inr (inr (inr (inr e)))) = rw (sym e) at c
 
   pub accounted : (s t : Vat Name) → Steady v (Or P n) s t → Comes v P t n → Steady v P s t
-  accounted s t h c = record { number = h.number; names = h.names; puts = h.puts; noticed = h.noticed; fits = h.fits; news = λ m a. go m (h.news m a) }
+  accounted s t h c = record { number = h.number; names = h.names; puts = h.puts; noticed = h.noticed; fits = h.fits; news = λ m a. go m (h.news m a); draws = h.draws }
     where
       go : (m : Name) → IsAmong m (names_in s.known) ⊎ Comes v (Or P n) t m → IsAmong m (names_in s.known) ⊎ Comes v P t m
       go m (inl a) = inl a

@@ -3,7 +3,7 @@ use Rattle.std.proofs.Common.{◌≡◌, ℕ, Bool, true, false, List, [], ◌�
 use Rattle.std.specs.Prelude.{slice_get}
 use Rattle.ev_machine.specs.Values.{Name, Root, Object, Promise, Answer, Gift, Sent as Message_name, host_of}
 use Rattle.ev_machine.specs.State.{Note, Vat, is_in}
-use Rattle.ev_run.specs.World.{Link, World, link_at, has_name}
+use Rattle.ev_run.specs.World.{Script, Link, World, link_at, has_name}
 use Rattle.ev_run.specs.Wire as wire
 use Rattle.ev_name_laws.specs.Names.{AllOf, IsAmong, IsKnownIn, names_in}
 use Rattle.ev_name_laws.proofs.SameNames.{has_among}
@@ -25,7 +25,7 @@ roots_is : (m : Link) (o : Option Link) → o ≡ Some m → wire.roots_of o ≡
 unfolding wire.roots_of
 roots_is m o e = rw (e, wire.roots_of) refl
 
-module _ (w : World) (h : Wire w) (v u : ℕ) (s : Vat Name) (there : slice_get w.vats v ≡ Some s) (other : v ≡ u → ⊥) (unnoticed : is_in u s.noticed ≡ true → ⊥) (l m : Link) (at : link_at v u w.links ≡ Some l) (back : link_at u v w.links ≡ Some m) where
+module _ (script : Script) (w : World) (h : Wire script w) (v u : ℕ) (s : Vat Name) (there : slice_get w.vats v ≡ Some s) (other : v ≡ u → ⊥) (unnoticed : is_in u s.noticed ≡ true → ⊥) (l m : Link) (at : link_at v u w.links ≡ Some l) (back : link_at u v w.links ≡ Some m) where
   abbrev Asked : List Name
   Asked = wire.questions (λ i. i) w.links v u
 
@@ -90,4 +90,4 @@ pub notes_name_given : NotesNameWhatWasGiven
 notes_name_given script once w x es k follow opened stepped v u s there other l at cut =
     let both = stepped_both script once w x es k opened stepped in let wires = both.1 in let back = wires.paired v u (l, at) in
     let unnoticed : is_in u s.noticed ≡ true → ⊥ = (λ e. let severed = noticed_links_cut script once w x es k follow opened stepped v s there u e in true_false l.cut (severed.1 l at) cut) in
-    link_given x wires v u s there other unnoticed l back.0 at back.1
+    link_given script x wires v u s there other unnoticed l back.0 at back.1

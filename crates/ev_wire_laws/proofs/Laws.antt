@@ -3,19 +3,19 @@ use Rattle.std.proofs.Common.{◌≡◌, ℕ, false, List, [], ◌∷◌, ◌++�
 use Rattle.std.specs.Prelude.{slice_get}
 use Rattle.ev_machine.specs.Values.{Name}
 use Rattle.ev_machine.specs.State.{Note, Deliver, Open, Ask, SettledTo, Elsewhere, Shorten, Vat}
-use Rattle.ev_run.specs.World.{Link, World, link_at}
+use Rattle.ev_run.specs.World.{Script, Link, World, link_at}
 use Rattle.ev_run.specs.Wire as wire
 use Rattle.ev_name_laws.specs.Names.{AllOf, IsAmong, IsKnownIn, names_in}
 use Rattle.ev_name_laws.proofs.Facts.{all_map}
 use Rattle.ev_wire_laws.specs.Asked.{AskFits, HoldsNoList}
 use Rattle.ev_wire_laws.specs.Tables.{arrived}
-use Rattle.ev_wire_laws.specs.Known.{KnowsEach, KnowsEachPromise, WhatAVatAskedForIsKnown, WhatAVatWasAskedForIsKnown, WhatAVatExportedIsKnown, WhatArrivedIsKnown, NotesHoldNoLists}
+use Rattle.ev_wire_laws.specs.Known.{KnowsEach, KnowsEachPromise, WhatAVatAskedForIsKnown, WhatAVatWasAskedForIsKnown, WhatAVatExportedIsKnown, WhatArrivedIsKnown, NotesHoldNoLists, DrawsAreInOrder}
 use Rattle.ev_wire_laws.proofs.Asking.{Proper}
 use Rattle.ev_wire_laws.proofs.ArriveAsking.{Answered}
 use Rattle.ev_wire_laws.proofs.Arrivals.{arrived_is}
 use Rattle.ev_wire_laws.proofs.Told.{exports_told}
 use Rattle.ev_wire_laws.proofs.LinksKnown.{AsksOwn, Sent, Heard, LinkKnown, at_link}
-use Rattle.ev_wire_laws.proofs.WireRuns.{Wire, in_runs}
+use Rattle.ev_wire_laws.proofs.WireRuns.{Wire, in_runs, opened_both, stepped_both}
 
 -- ---- what a list of notes asks for
 
@@ -49,7 +49,7 @@ first_all P (x ∷ xs) ys h = (h.0, first_all P xs ys h.1)
 
 -- ---- in a world
 
-module _ (w : World) (h : Wire w) (u : ℕ) (s : Vat Name) (there : slice_get w.vats u ≡ Some s) where
+module _ (script : Script) (w : World) (h : Wire script w) (u : ℕ) (s : Vat Name) (there : slice_get w.vats u ≡ Some s) where
   at_ends : (v to : ℕ) (l : Link) → link_at v to w.links ≡ Some l → LinkKnown w.vats l × (l.from ≡ v) × (l.to ≡ to)
   at_ends v to l e = at_link (LinkKnown w.vats) v to l w.links h.links e
 
@@ -99,17 +99,17 @@ module _ (w : World) (h : Wire w) (u : ℕ) (s : Vat Name) (there : slice_get w.
 
 pub asked_for_known : WhatAVatAskedForIsKnown
 unfolding wire.questions
-asked_for_known = in_runs _ (λ script w g h u s there v. asked_at w h u s there v (link_at u v w.links) refl)
+asked_for_known = in_runs _ (λ script w g h u s there v. asked_at script w h u s there v (link_at u v w.links) refl)
 
 pub was_asked_known : WhatAVatWasAskedForIsKnown
-was_asked_known = in_runs _ (λ script w g h u s there v l e c. heard_asked w h u s there v l e c)
+was_asked_known = in_runs _ (λ script w g h u s there v l e c. heard_asked script w h u s there v l e c)
 
 pub exported_known : WhatAVatExportedIsKnown
 unfolding wire.exports
-exported_known = in_runs _ (λ script w g h u s there v. exported_at w h u s there v (link_at u v w.links) refl)
+exported_known = in_runs _ (λ script w g h u s there v. exported_at script w h u s there v (link_at u v w.links) refl)
 
 pub arrived_known : WhatArrivedIsKnown
-arrived_known = in_runs _ (λ script w g h u s there v l e c. heard_told w h u s there v l e c)
+arrived_known = in_runs _ (λ script w g h u s there v l e c. heard_told script w h u s there v l e c)
 
 proper_listless : (v to : ℕ) (n : Note Name) → Proper v to n → HoldsNoList n
 proper_listless v to (Deliver m n verb ys) h = h
@@ -121,3 +121,9 @@ proper_listless v to (Shorten n c i) h = tt
 
 pub notes_listless : NotesHoldNoLists
 notes_listless = in_runs _ (λ script w g h. all_map (λ l k. all_map (λ n i. proper_listless l.from l.to n i.1) l.log k.sent) w.links h.links)
+
+pub draws_in_order : DrawsAreInOrder
+draws_in_order script once = (
+  λ ps rest w e opened. let b = opened_both script once ps rest w e opened in let h = b.1 in h.draws,
+  λ w x es k opened stepped. let b = stepped_both script once w x es k opened stepped in let h = b.1 in h.draws,
+)

@@ -14,7 +14,7 @@ use Rattle.ev_name_laws.specs.Names.{IsAmong, names_in}
 use Rattle.ev_name_laws.proofs.Among.{among_last, names_end}
 use Rattle.ev_wire_laws.specs.Asked.{Listless, AllListless}
 use Rattle.ev_wire_laws.proofs.Results.{Result, pass_listless, pass_all_listless}
-use Rattle.ev_wire_laws.proofs.Asking.{Any, Asking, Steady, Or, Owed, base, here, asking, asking_tell, asking_settled, steady_on, put_on, grown, asked_then}
+use Rattle.ev_wire_laws.proofs.Asking.{Any, Telling, Asking, Steady, Or, Owed, base, here, asking, asking_tell, asking_settled, steady_on, put_on, grown, asked_then}
 
 pub known_last : (ks : List (Known Name)) (n : Name) (h : ℕ) → IsAmong n (names_in (ks ++ begun n h ∷ []))
 unfolding begun
@@ -24,12 +24,12 @@ pub known_end : (ks : List (Known Name)) (n : Name) (h : ℕ) → names_in (ks +
 unfolding begun
 known_end ks n h = names_end ks (begun n h)
 
-module _ (v : ℕ) (P : Name → Type 0) (word : ℕ → ℕ) where
+module _ (v : ℕ) (P : Telling) where
   abbrev Goes : Vat Name → Vat Name → Type 0
   Goes = Asking v P
 
   abbrev Names : Naming Name Name
-  Names = naming word v
+  Names = naming P.word v
 
   asking_address_plain : (w : ℕ) (y : Value Name) (p : Place Name) → Leads Any Goes (refs.address_plain Names w y p)
   unfolding refs.address_plain
@@ -84,51 +84,51 @@ module _ (v : ℕ) (P : Name → Type 0) (word : ℕ → ℕ) where
 
 -- ---- a message goes out
 
-module _ (v : ℕ) (P : Name → Type 0) (word : ℕ → ℕ) where
+module _ (v : ℕ) (P : Telling) where
   abbrev Ours : Naming Name Name
-  Ours = naming word v
+  Ours = naming P.word v
 
   deliver_ends : (m : Message Name) (h : ℕ) (n : Name) (s : Vat Name) (d : Done Name (Passeds Name)) → IsAmong (answer_of h m.id) (names_in s.known) → IsQuiet d → Result AllListless d → Ends Any (Asking v (Or P (answer_of h m.id))) s d
       → Ends Any (Owed v P (answer_of h m.id)) s (and_then d (λ args. tell (Posted h m.id) >> send_out h (Deliver m.id n m.verb args)))
   unfolding and_then ◌>>◌ tell send_out
   deliver_ends m h n s (Gives args t) a q z r = λ e. let b = r e in let put : Put Name = record { to = h; note = Deliver m.id n m.verb args } in
       let u : Vat Name = record t { happened = t.happened ++ Posted h m.id ∷ []; outbox = t.outbox ++ put ∷ [] } in
-      (steady_on v (Or P (answer_of h m.id)) s t u b (put_on v (Or P (answer_of h m.id)) t u h (Deliver m.id n m.verb args) refl refl refl refl refl (b.names (answer_of h m.id) a) z b.number), inr (inl (put, among_last t.outbox put, refl)))
+      (steady_on v (Or P (answer_of h m.id)) s t u b (put_on v (Or P (answer_of h m.id)) t u h (Deliver m.id n m.verb args) refl refl refl refl refl refl (b.names (answer_of h m.id) a) z b.number), inr (inl (put, among_last t.outbox put, refl)))
   deliver_ends m h n s (Throws p t) a q z r = absurd q
   deliver_ends m h n s (Ejects i y t) a q z r = absurd q
   deliver_ends m h n s (Stops c t) a q z r = tt
 
   pub delivered : (m : Message Name) (h : ℕ) (n : Name) (s : Vat Name) → IsAmong (answer_of h m.id) (names_in s.known) → Ends Any (Owed v P (answer_of h m.id)) s (refs.deliver Ours m h n s)
   unfolding refs.deliver ◌>>=◌
-  delivered m h n s a = deliver_ends m h n s (refs.pass_all Ours h m.args s) a ((quiet_pass_all Ours h m.args).ends s) ((pass_all_listless Ours h m.args).after s) ((asking_pass_all v (Or P (answer_of h m.id)) word h m.args).after s)
+  delivered m h n s a = deliver_ends m h n s (refs.pass_all Ours h m.args s) a ((quiet_pass_all Ours h m.args).ends s) ((pass_all_listless Ours h m.args).after s) ((asking_pass_all v (Or P (answer_of h m.id)) h m.args).after s)
 
   came : (s : Vat Name) (n : Name) (h : ℕ) → Asking v (Or P n) s (record s { known = s.known ++ begun n h ∷ [] })
-  came s n h = grown v (Or P n) s (record s { known = s.known ++ begun n h ∷ [] }) n refl (known_end s.known n h) refl refl refl (inr (inr refl))
+  came s n h = grown v (Or P n) s (record s { known = s.known ++ begun n h ∷ [] }) n refl (known_end s.known n h) refl refl refl refl (inr (inr refl))
 
   pub asking_pass_on : (m : Message Name) (h : ℕ) (n : Name) → Leads Any (Asking v P) (refs.pass_on Ours m h n)
   unfolding refs.pass_on ◌>>=◌ ◌>>◌ and_then come naming name_of
   asking_pass_on m h n = record {
     after = λ s. let a : Name = answer_of h m.id in let t : Vat Name = record s { known = s.known ++ begun a h ∷ [] } in
-        asked_then v P a s t (came s a h) (refs.deliver Ours m h n t) (delivered m h n t (known_last s.known a h)) (λ _. refs.wait_on Ours m.answer a) (λ _. asking_wait_on v (Or P a) word m.answer a);
+        asked_then v P a s t (came s a h) (refs.deliver Ours m h n t) (delivered m h n t (known_last s.known a h)) (λ _. refs.wait_on Ours m.answer a) (λ _. asking_wait_on v (Or P a) m.answer a);
   }
 
 -- ---- settling and resolving
 
-abbrev pub AskingSettler : ℕ → (Name → Type 0) → (Name → Value Name → Act Name (Unit {0})) → Type 0
+abbrev pub AskingSettler : ℕ → Telling → (Name → Value Name → Act Name (Unit {0})) → Type 0
 AskingSettler v P settle = (p : Name) (y : Value Name) → Leads Any (Asking v P) (settle p y)
 
-module _ (v : ℕ) (P : Name → Type 0) (word : ℕ → ℕ) where
+module _ (v : ℕ) (P : Telling) where
   abbrev Leading : Vat Name → Vat Name → Type 0
   Leading = Asking v P
 
   abbrev Mines : Naming Name Name
-  Mines = naming word v
+  Mines = naming P.word v
 
   asking_send_to : (settle : Name → Value Name → Act Name (Unit {0})) → AskingSettler v P settle → (m : Message Name) (y : Value Name) (p : Place Name) → Leads Any Leading (refs.send_to Mines settle m y p)
   unfolding refs.send_to
   asking_send_to settle good m y Near = search (leads, asking) depth 14
   asking_send_to settle good m y (Mine n) = search (leads, asking) depth 14
-  asking_send_to settle good m y (Away h n o) = asking_pass_on v P word m h n
+  asking_send_to settle good m y (Away h n o) = asking_pass_on v P m h n
   asking_send_to settle good m y (Gone p) = search (leads, asking, base, good) depth 14
 
   pub asking_send_on : (settle : Name → Value Name → Act Name (Unit {0})) → AskingSettler v P settle → (m : Message Name) → Leads Any Leading (refs.send_on Mines settle m)
@@ -179,9 +179,9 @@ module _ (v : ℕ) (P : Name → Type 0) (word : ℕ → ℕ) where
   -- ---- new messages
 
   -- an answer of the vat's own
-  own_answer : (s t : Vat Name) (m : Msg) → s.number ≡ v → t.number ≡ s.number → names_in t.known ≡ names_in s.known ++ Answer s.number m ∷ [] → t.gifts ≡ s.gifts → t.outbox ≡ s.outbox → t.noticed ≡ s.noticed → Leading s t
+  own_answer : (s t : Vat Name) (m : Msg) → s.number ≡ v → t.number ≡ s.number → names_in t.known ≡ names_in s.known ++ Answer s.number m ∷ [] → t.gifts ≡ s.gifts → t.outbox ≡ s.outbox → t.noticed ≡ s.noticed → t.drawn ≡ s.drawn → Leading s t
   unfolding host_of
-  own_answer s t m i a b c d e = grown v P s t (Answer s.number m) a b c d e (inl i)
+  own_answer s t m i a b c d e z = grown v P s t (Answer s.number m) a b c d e z (inl i)
 
   abbrev SendNew : ℕ → Value Name → Value Name → Words → List (Value Name) → Place Name → ℕ → Act Name (Value Name)
   SendNew act x y verb args p u = new_message Mines (answer_host Mines u p) >>= (λ new. tell (Sends act (record { id = new.0; target = x; verb = verb; args = args; answer = new.1 }))
@@ -195,13 +195,13 @@ module _ (v : ℕ) (P : Name → Type 0) (word : ℕ → ℕ) where
   sent_own : (act : ℕ) (x y : Value Name) (verb : Words) (args : List (Value Name)) (p : Place Name) (s : Vat Name) → s.number ≡ v → let m : Msg = record { sender = v; number = s.messages } in
       Ends Any Leading s ((refs.send_to Mines (refs.settle Mines) (record { id = Sent m; target = y; verb = verb; args = args; answer = Answer s.number m }) y p >> give (Ref (Answer s.number m))) (Numbered s s.number act x verb args))
   sent_own act x y verb args p s e = let m : Msg = record { sender = v; number = s.messages } in let t : Vat Name = Numbered s s.number act x verb args in
-      widen Any Leading (base v P) {s = s} {t = t} (own_answer s t m e refl (known_end s.known (Answer s.number m) s.number) refl refl refl) ((refs.send_to Mines (refs.settle Mines) (record { id = Sent m; target = y; verb = verb; args = args; answer = Answer s.number m }) y p >> give (Ref (Answer s.number m))) t) ((leads_then Any Leading (base v P) (asking_send_to (refs.settle Mines) asking_settle _ y p) (leads_give Any Leading (base v P) _)).after t)
+      widen Any Leading (base v P) {s = s} {t = t} (own_answer s t m e refl (known_end s.known (Answer s.number m) s.number) refl refl refl refl) ((refs.send_to Mines (refs.settle Mines) (record { id = Sent m; target = y; verb = verb; args = args; answer = Answer s.number m }) y p >> give (Ref (Answer s.number m))) t) ((leads_then Any Leading (base v P) (asking_send_to (refs.settle Mines) asking_settle _ y p) (leads_give Any Leading (base v P) _)).after t)
 
   sent : (act : ℕ) (x y : Value Name) (verb : Words) (args : List (Value Name)) (p : Place Name) (s : Vat Name) → s.number ≡ v → Ends Any Leading s (SendNew act x y verb args p s.number s)
   unfolding ◌>>=◌ ◌>>◌ and_then tell new_message naming name_of mail_of answer_of answer_host refs.send_first
   sent act x y verb args (Away h n o) s e = let a : Name = Answer h (record { sender = v; number = s.messages }) in let t : Vat Name = Numbered s h act x verb args in
       let m : Message Name = record { id = Sent (record { sender = v; number = s.messages }); target = y; verb = verb; args = args; answer = a } in
-      asked_then v P a s t (grown v (Or P a) s t a refl (known_end s.known a h) refl refl refl (inr (inr refl))) (refs.deliver Mines m h n t) (delivered v P word m h n t (known_last s.known a h)) (λ _. give (Ref a)) (λ _. leads_give Any (Asking v (Or P a)) (base v (Or P a)) (Ref a))
+      asked_then v P a s t (grown v (Or P a) s t a refl (known_end s.known a h) refl refl refl refl (inr (inr refl))) (refs.deliver Mines m h n t) (delivered v P m h n t (known_last s.known a h)) (λ _. give (Ref a)) (λ _. leads_give Any (Asking v (Or P a)) (base v (Or P a)) (Ref a))
   sent act x y verb args Near s e = sent_own act x y verb args Near s e
   sent act x y verb args (Mine n) s e = sent_own act x y verb args (Mine n) s e
   sent act x y verb args (Gone p) s e = sent_own act x y verb args (Gone p) s e
@@ -227,7 +227,7 @@ module _ (v : ℕ) (P : Name → Type 0) (word : ℕ → ℕ) where
   unfolding ◌>>=◌ and_then new_message naming name_of mail_of answer_of
   reacted act x o near s e = let m : Msg = record { sender = v; number = s.messages } in let a : Name = Answer s.number m in
       let t : Vat Name = record s { messages = suc s.messages; mails = s.mails ++ Sent m ∷ []; known = s.known ++ begun a s.number ∷ [] } in
-      widen Any Leading (base v P) {s = s} {t = t} (own_answer s t m e refl (known_end s.known a s.number) refl refl refl) (Placed act x o near (Sent m) a t) ((asking_placed act x o near (Sent m) a).after t)
+      widen Any Leading (base v P) {s = s} {t = t} (own_answer s t m e refl (known_end s.known a s.number) refl refl refl refl) (Placed act x o near (Sent m) a t) ((asking_placed act x o near (Sent m) a).after t)
 
   asking_react : (act : ℕ) (x o near : Value Name) → Leads Any Leading (refs.react Mines act x o near)
   unfolding refs.react ◌>>=◌ look and_then
@@ -235,7 +235,7 @@ module _ (v : ℕ) (P : Name → Type 0) (word : ℕ → ℕ) where
 
   promised : (s : Vat Name) → Leading s (record s { promises = suc s.promises; known = s.known ++ begun (Mines.made (IsOwn s.promises) (length s.known)) s.number ∷ [] })
   unfolding naming name_of host_of
-  promised s = grown v P s (record s { promises = suc s.promises; known = s.known ++ begun (Promise v s.promises) s.number ∷ [] }) (Promise v s.promises) refl (known_end s.known (Promise v s.promises) s.number) refl refl refl (inl refl)
+  promised s = grown v P s (record s { promises = suc s.promises; known = s.known ++ begun (Promise v s.promises) s.number ∷ [] }) (Promise v s.promises) refl (known_end s.known (Promise v s.promises) s.number) refl refl refl refl (inl refl)
 
   under : IsLedUnder Mines Any Leading
   under = record { promised = promised; breaks = λ p t. asking_settle p (Broken t); resolves = asking_resolve; sends = asking_send; reacts = asking_react }

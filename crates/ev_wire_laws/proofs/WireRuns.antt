@@ -21,7 +21,7 @@ use Rattle.ev_rest_laws.proofs.NotesLift as lift
 use Rattle.ev_rest_laws.proofs.NotesRuns.{Its, OfNotes, Ever, its_keep, links_of, opened_all}
 use Rattle.ev_wire_laws.specs.Asked.{AsksOf, told_in}
 use Rattle.ev_wire_laws.specs.Alike.{names_heard}
-use Rattle.ev_wire_laws.proofs.Asking.{Any, GiftFits, PutFits, Proper, Asking, Steady, Comes}
+use Rattle.ev_wire_laws.proofs.Asking.{Any, Telling, Drawn, GiftFits, PutFits, Proper, Asking, Steady, Comes}
 use Rattle.ev_wire_laws.proofs.RefsAsking.{asking_taking, asking_openings}
 use Rattle.ev_wire_laws.proofs.ArriveAsking.{MailFits, IsNoMessage, Has, HasHeard, Reached, led_reached, arrive_hears, asking_notice}
 use Rattle.ev_wire_laws.proofs.Told.{known_up, heard_told, note_told}
@@ -53,12 +53,13 @@ AllGifts vats = (v : ℕ) (s : Vat Name) → slice_get vats v ≡ Some s → All
 abbrev pub AllSourced : List (Vat Name) → List Link → Type 0
 AllSourced vats ls = (v : ℕ) (s : Vat Name) → slice_get vats v ≡ Some s → Sourced ls v s
 
-pub record Wire (w : World) : Type 0 where
+pub record Wire (script : Script) (w : World) : Type 0 where
   pub gifts : AllGifts w.vats
   pub links : AllOf (LinkKnown w.vats) w.links
   pub sources : AllSourced w.vats w.links
   -- with each link there is one back
   pub paired : Paired w.links
+  pub draws : Drawn (draw_word script.key) w.drawn
   -- each object of another vat in what a vat has, and in what it puts, was told to it
   pub objects : VatsHanded w.vats w.links
   pub handed : AllOf (LogHanded w.links) w.links
@@ -113,14 +114,14 @@ going_is : (w x : World) → Going w ≡ Going x → w ≡ x
 going_is w x e = cc
 
 -- nothing is told
-abbrev NoneTold : Name → Type 0
-NoneTold n = ⊥
+abbrev NoneTold : Script → Telling
+NoneTold script = record { told = λ n. ⊥; word = draw_word script.key }
 
 abbrev Whatever : Vat Name → Type 0
 Whatever t = Unit {0}
 
 module _ (script : Script) where
-  moved : (w x : World) → Wire w → Going w ≡ Going x → Wire x
+  moved : (w x : World) → Wire script w → Going w ≡ Going x → Wire script x
   moved w x h e = rw (going_is w x e) at h
 
   -- the notes that were put
@@ -151,8 +152,8 @@ module _ (script : Script) where
   mail_fits vats P f (Shorten n c i) h = tt
 
   -- each name that the vat knows after it
-  sourced_after : (w y : World) (v : ℕ) (s q t : Vat Name) (P : Name → Type 0) → names_in q.known ≡ names_in s.known → q.noticed ≡ s.noticed → Steady v P q t → AllOf Splits w.links → Sourced w.links v s → AllOf (PutFits v (names_in t.known)) t.outbox → AllOf (PutOk (Had script y v t)) t.outbox
-      → ((n : Name) → P n → IsAmong n (names_in t.known) → Source (world.push_all v t.outbox w.links) v t n) → Sourced (world.push_all v t.outbox w.links) v t
+  sourced_after : (w y : World) (v : ℕ) (s q t : Vat Name) (P : Telling) → names_in q.known ≡ names_in s.known → q.noticed ≡ s.noticed → Steady v P q t → AllOf Splits w.links → Sourced w.links v s → AllOf (PutFits v (names_in t.known)) t.outbox → AllOf (PutOk (Had script y v t)) t.outbox
+      → ((n : Name) → P.told n → IsAmong n (names_in t.known) → Source (world.push_all v t.outbox w.links) v t n) → Sourced (world.push_all v t.outbox w.links) v t
   sourced_after w y v s q t P same noticed r splits before fits outs told n a = either (r.news n a)
     where
       asked : (p : Put Name) → IsAmong p t.outbox → AsksOf p.to p.note n → Source (world.push_all v t.outbox w.links) v t n
@@ -167,11 +168,11 @@ module _ (script : Script) where
       either (inr (inr (inr (inr p)))) = told n p a
 
   -- what is put back: q is the vat before the step, with no note put
-  put_back_wire : (w x : World) (v : ℕ) (s q : Vat Name) (P : Name → Type 0) (F : Vat Name → Type 0) (head : List Event) (n : ℕ) (d : Done Name (Unit {0})) → slice_get w.vats v ≡ Some s → names_in q.known ≡ names_in s.known → q.gifts ≡ s.gifts → q.outbox ≡ [] → q.noticed ≡ s.noticed
+  put_back_wire : (w x : World) (v : ℕ) (s q : Vat Name) (P : Telling) (F : Vat Name → Type 0) (head : List Event) (n : ℕ) (d : Done Name (Unit {0})) → slice_get w.vats v ≡ Some s → names_in q.known ≡ names_in s.known → q.gifts ≡ s.gifts → q.outbox ≡ [] → q.noticed ≡ s.noticed → q.drawn ≡ w.drawn → P.word ≡ draw_word script.key → Drawn (draw_word script.key) w.drawn
       → AllGifts w.vats → AllOf Splits w.links → AllSourced w.vats w.links → Paired w.links → VatsHanded w.vats w.links → AllOf (LogHanded w.links) w.links → GivesHanded v (ToldAlong w.links v) d → Reached v P F q d → ((t : Vat Name) → Has (names_in s.known) t → F t → AllOf (LinkKnown (put_at v t w.vats)) w.links)
-      → ((t : Vat Name) (n : Name) → P n → IsEventual n → Source (world.push_all v t.outbox w.links) v t n) → world.put_back v w head n d ≡ Going x → Stands script x → Wire x
+      → ((t : Vat Name) (n : Name) → P.told n → IsEventual n → Source (world.push_all v t.outbox w.links) v t n) → world.put_back v w head n d ≡ Going x → Stands script x → Wire script x
   unfolding world.put_back
-  put_back_wire w x v s q P F head n (Gives a t) there same gifts out noticed g sp so pairs ob ha hd h f told e k =
+  put_back_wire w x v s q P F head n (Gives a t) there same gifts out noticed drawn words dr g sp so pairs ob ha hd h f told e k =
       let y : World = record { fuel = t.fuel; drawn = t.drawn; vats = put_at v t w.vats; links = world.push_all v t.outbox w.links; history = w.history ++ head ++ world.events_of w.links v t.happened } in
       let r : Steady v P q t = h.0 in let known : Has (names_in s.known) t = λ m a. r.names m (rw (sym same) at a) in
       let before : AllOf (GiftFits v (names_in q.known)) q.gifts = rw (sym same, sym gifts) at (g v s there) in
@@ -185,12 +186,13 @@ module _ (script : Script) where
         links = push_all_stands (put_at v t w.vats) v t.outbox w.links (puts_sent y v (put_at v t w.vats) t got t.outbox fit.1 parts.outbox) (f t known h.1);
         sources = sourced_put w.vats after v t (sourced_links w.vats w.links after (push_all_goes v t.outbox w.links sp) so) (sourced_after w y v s q t P same noticed r sp (so v s there) fit.1 parts.outbox (λ m p a. told t m p (all_among IsEventual (names_in t.known) m kept.apart a)));
         paired = paired_on w.links after (push_all_goes v t.outbox w.links sp) (push_all_lasts v t.outbox w.links) pairs;
+        draws = subst (λ (f : ℕ → ℕ). Drawn f t.drawn) words (r.draws (subst (λ (f : ℕ → ℕ). Drawn f q.drawn) (sym words) (subst (λ ds. Drawn (draw_word script.key) ds) (sym drawn) dr)));
         objects = objects_put w.vats after v t (vats_on w.vats w.links after (push_all_goes v t.outbox w.links sp) ob) (vat_on w.links after (push_all_goes v t.outbox w.links sp) v t hd);
         handed = push_all_handed after v t.outbox w.links (puts_handed after v t.outbox (out_handed after v t (vat_on w.links after (push_all_goes v t.outbox w.links sp) v t hd))) (logs_on w.links after (push_all_goes v t.outbox w.links sp) w.links ha);
       }) e
-  put_back_wire w x v s q P F head n (Throws p t) there same gifts out noticed g sp so pairs ob ha hd h f told e k = cc
-  put_back_wire w x v s q P F head n (Ejects m y t) there same gifts out noticed g sp so pairs ob ha hd h f told e k = cc
-  put_back_wire w x v s q P F head n (Stops c t) there same gifts out noticed g sp so pairs ob ha hd h f told e k = cc
+  put_back_wire w x v s q P F head n (Throws p t) there same gifts out noticed drawn words dr g sp so pairs ob ha hd h f told e k = cc
+  put_back_wire w x v s q P F head n (Ejects m y t) there same gifts out noticed drawn words dr g sp so pairs ob ha hd h f told e k = cc
+  put_back_wire w x v s q P F head n (Stops c t) there same gifts out noticed drawn words dr g sp so pairs ob ha hd h f told e k = cc
 
   links_up : (us : List (Vat Name)) (ls : List Link) (v : ℕ) (s t : Vat Name) → slice_get us v ≡ Some s → Has (names_in s.known) t → AllOf (LinkKnown us) ls → AllOf (LinkKnown (put_at v t us)) ls
   links_up us ls v s t there h k = all_map (link_up us (put_at v t us) (grows_put us v s t there h)) ls k
@@ -199,15 +201,15 @@ module _ (script : Script) where
   number_is w v s g i = let one = g.vats v s i in let kept = one.kept in kept.number
 
   -- a step in which nothing is told
-  alone_wire : (w x : World) (v : ℕ) (s q : Vat Name) (head : List Event) (n : ℕ) (m : Act Name (Unit {0})) → slice_get w.vats v ≡ Some s → q.number ≡ s.number → names_in q.known ≡ names_in s.known → q.gifts ≡ s.gifts → q.noticed ≡ s.noticed → Stands script w → Wire w → Leads Any (Asking v NoneTold) m → GivesHanded v (ToldAlong w.links v) (m (readied w q))
-      → world.put_back v w head n (m (readied w q)) ≡ Going x → Stands script x → Wire x
+  alone_wire : (w x : World) (v : ℕ) (s q : Vat Name) (head : List Event) (n : ℕ) (m : Act Name (Unit {0})) → slice_get w.vats v ≡ Some s → q.number ≡ s.number → names_in q.known ≡ names_in s.known → q.gifts ≡ s.gifts → q.noticed ≡ s.noticed → Stands script w → Wire script w → Leads Any (Asking v (NoneTold script)) m → GivesHanded v (ToldAlong w.links v) (m (readied w q))
+      → world.put_back v w head n (m (readied w q)) ≡ Going x → Stands script x → Wire script x
   unfolding readied
-  alone_wire w x v s q head n m there num same gifts noticed g h f hd e k = put_back_wire w x v s (readied w q) NoneTold Whatever head n (m (readied w q)) there same gifts refl noticed h.gifts (splits_of w.vats w.links h.links) h.sources h.paired h.objects h.handed hd
-      (led_reached v NoneTold Whatever (readied w q) (m (readied w q)) (num ∙ number_is w v s g there) (λ t r. tt) (f.after (readied w q))) (λ t k i. links_up w.vats w.links v s t there k h.links) (λ t m b o. absurd b) e k
+  alone_wire w x v s q head n m there num same gifts noticed g h f hd e k = put_back_wire w x v s (readied w q) (NoneTold script) Whatever head n (m (readied w q)) there same gifts refl noticed refl refl h.draws h.gifts (splits_of w.vats w.links h.links) h.sources h.paired h.objects h.handed hd
+      (led_reached v (NoneTold script) Whatever (readied w q) (m (readied w q)) (num ∙ number_is w v s g there) (λ t r. tt) (f.after (readied w q))) (λ t k i. links_up w.vats w.links v s t there k h.links) (λ t m b o. absurd b) e k
 
-  idle_wire : (k : ℕ) (w x : World) → Wire w → world.idle script k w ≡ Going x → Wire x
+  idle_wire : (k : ℕ) (w x : World) → Wire script w → world.idle script k w ≡ Going x → Wire script x
   unfolding world.idle
-  idle_wire k w x h e = moved (record w { history = w.history ++ Idle k ∷ [] }) x (record { gifts = h.gifts; links = h.links; sources = h.sources; paired = h.paired; objects = h.objects; handed = h.handed }) e
+  idle_wire k w x h e = moved (record w { history = w.history ++ Idle k ∷ [] }) x (record { gifts = h.gifts; links = h.links; sources = h.sources; paired = h.paired; draws = h.draws; objects = h.objects; handed = h.handed }) e
 
   -- what a step ends with
   ready_handed : (w : World) (v : ℕ) (s : Vat Name) → AllHanded v (ToldAlong w.links v) s → Sound (Hands v (ToldAlong w.links v)) (readied w s)
@@ -229,12 +231,12 @@ module _ (script : Script) where
   open_here w v p s h = let T : Name → Type 0 = ToldAlong w.links v in let r : Vat Name = readied w s in
       ends_handed v T nothing r (opening (naming (draw_word script.key) v) p.tree script.depth (Root v) (world.given script.vats p.knows) r) ((opening_handed v T (draw_word script.key) p.tree script.depth (Root v) (world.given script.vats p.knows)).after r (ready_handed w v s h) (tt, nouns_handed v T script.vats p.knows))
 
-  turn_queue_wire : (k v : ℕ) (w x : World) (s : Vat Name) (qs : List (Message Name)) → s.queue ≡ qs → slice_get w.vats v ≡ Some s → Stands script w → Wire w → world.turn_queue script k v w s qs ≡ Going x → Stands script x → Wire x
+  turn_queue_wire : (k v : ℕ) (w x : World) (s : Vat Name) (qs : List (Message Name)) → s.queue ≡ qs → slice_get w.vats v ≡ Some s → Stands script w → Wire script w → world.turn_queue script k v w s qs ≡ Going x → Stands script x → Wire script x
   unfolding world.turn_queue world.within names
   turn_queue_wire k v w x s [] q i g h e j = idle_wire k w x h e
-  turn_queue_wire k v w x s (m ∷ ms) q i g h e j = alone_wire w x v s (record s { queue = ms }) (Turned k v ∷ []) (world.step_number script k) _ i refl refl refl refl g h (asking_taking v NoneTold (draw_word script.key) (world.tree_at script.vats v) script.depth m) (turn_handed w v s m ms (h.objects v s i) q) e j
+  turn_queue_wire k v w x s (m ∷ ms) q i g h e j = alone_wire w x v s (record s { queue = ms }) (Turned k v ∷ []) (world.step_number script k) _ i refl refl refl refl g h (asking_taking v (NoneTold script) (world.tree_at script.vats v) script.depth m) (turn_handed w v s m ms (h.objects v s i) q) e j
 
-  turn_wire : (k v : ℕ) (w x : World) (o : Option (Vat Name)) → slice_get w.vats v ≡ o → Stands script w → Wire w → world.turn script k v w o ≡ Going x → Stands script x → Wire x
+  turn_wire : (k v : ℕ) (w x : World) (o : Option (Vat Name)) → slice_get w.vats v ≡ o → Stands script w → Wire script w → world.turn script k v w o ≡ Going x → Stands script x → Wire script x
   unfolding world.turn
   turn_wire k v w x None i g h e j = idle_wire k w x h e
   turn_wire k v w x (Some s) i g h e j = turn_queue_wire k v w x s s.queue refl i g h e j
@@ -242,7 +244,7 @@ module _ (script : Script) where
   -- ---- arrival
 
   -- the receiver has heard it
-  heard_now : (us : List (Vat Name)) (v : ℕ) (s t : Vat Name) (n : Note Name) → slice_get us v ≡ Some s → HasHeard v NoneTold (draw_word script.key) (names_in s.known) n t → Heard (put_at v t us) v n
+  heard_now : (us : List (Vat Name)) (v : ℕ) (s t : Vat Name) (n : Note Name) → slice_get us v ≡ Some s → HasHeard v (NoneTold script) (names_in s.known) n t → Heard (put_at v t us) v n
   heard_now us v s t n there h r e = rw (some_vat t r (sym (get_put us v s t there) ∙ e)) at here
     where
       here : HeardBy v n (names_in t.known)
@@ -267,7 +269,7 @@ module _ (script : Script) where
   known_apart : (w : World) (v : ℕ) (s : Vat Name) → Stands script w → slice_get w.vats v ≡ Some s → AllOf IsEventual (names_in s.known)
   known_apart w v s g i = let one = g.vats v s i in let kept = one.kept in kept.apart
 
-  note_here : (w : World) (v to : ℕ) (l : Link) (n : Note Name) (ns : List (Note Name)) → world.link_at v to w.links ≡ Some l → l.notes ≡ n ∷ ns → l.cut ≡ false → NoteOk (Told script w) n → OfNotes script v to n → (s : Vat Name) → slice_get w.vats to ≡ Some s → Stands script w → Wire w
+  note_here : (w : World) (v to : ℕ) (l : Link) (n : Note Name) (ns : List (Note Name)) → world.link_at v to w.links ≡ Some l → l.notes ≡ n ∷ ns → l.cut ≡ false → NoteOk (Told script w) n → OfNotes script v to n → (s : Vat Name) → slice_get w.vats to ≡ Some s → Stands script w → Wire script w
       → GivesHanded to (ToldAlong (world.with_link (world.with_notes ns) v to w.links) to) (arrive (naming (draw_word script.key) to) v (read_note (names_in s.known) n) (readied (record w { links = world.with_link (world.with_notes ns) v to w.links }) s))
   note_here w v to l n ns at e uncut ok ends s i g h = let later : List Link = world.with_link (world.with_notes ns) v to w.links in let y : World = record w { links = later } in let T : Name → Type 0 = ToldAlong later to in let r : Vat Name = readied y s in
       let splits : AllOf Splits w.links = splits_of w.vats w.links h.links in let goes : LinksGo w.links later = take_goes n ns v to l w.links at e splits in
@@ -279,32 +281,32 @@ module _ (script : Script) where
       ends_handed to T nothing r (arrive (naming (draw_word script.key) to) v (read_note (names_in s.known) n) r) ((arrive_handed to T (draw_word script.key) v (names_in s.known) n (mail_fits w.vats (Told script w) (λ m k. k.0) n ok) (given_here w.links v to l n ns at logged goes handed short ends.0 ends.1)).after r
       (ready_handed y to s (vat_on w.links later goes to s (h.objects to s i))) tt)
 
-  arrives_wire : (k v to : ℕ) (w x : World) (l : Link) (n : Note Name) (ns : List (Note Name)) → world.link_at v to w.links ≡ Some l → l.notes ≡ n ∷ ns → l.cut ≡ false → NoteOk (Told script w) n → OfNotes script v to n → (o : Option (Vat Name)) → slice_get w.vats to ≡ o → Stands script w → Wire w
-      → world.arrives script k v to (record w { links = world.with_link (world.with_notes ns) v to w.links }) n o ≡ Going x → Stands script x → Wire x
+  arrives_wire : (k v to : ℕ) (w x : World) (l : Link) (n : Note Name) (ns : List (Note Name)) → world.link_at v to w.links ≡ Some l → l.notes ≡ n ∷ ns → l.cut ≡ false → NoteOk (Told script w) n → OfNotes script v to n → (o : Option (Vat Name)) → slice_get w.vats to ≡ o → Stands script w → Wire script w
+      → world.arrives script k v to (record w { links = world.with_link (world.with_notes ns) v to w.links }) n o ≡ Going x → Stands script x → Wire script x
   unfolding world.arrives world.within names names_of readied
   arrives_wire k v to w x l n ns at e uncut ok ends (Some s) i g h j z = let word : ℕ → ℕ = draw_word script.key in let y : World = record w { links = world.with_link (world.with_notes ns) v to w.links } in
-      let P : Name → Type 0 = λ m. IsAmong m (told_in n) in let splits : AllOf Splits w.links = splits_of w.vats w.links h.links in
-      put_back_wire y x to s (readied y s) P (HasHeard to P word (names_in s.known) n) (Carried k v to n y.links ∷ []) (world.step_number script k) (arrive (naming word to) v (read_note (names_in s.known) n) (readied y s)) i refl refl refl refl h.gifts (take_splits n ns v to l w.links at e splits) (sourced_links w.vats w.links y.links (take_goes n ns v to l w.links at e splits) h.sources) (paired_on w.links y.links (take_goes n ns v to l w.links at e splits) (take_lasts ns v to w.links) h.paired) (vats_on w.vats w.links y.links (take_goes n ns v to l w.links at e splits) h.objects) (take_handed y.links ns v to w.links (logs_on w.links y.links (take_goes n ns v to l w.links at e splits) w.links h.handed)) (note_here w v to l n ns at e uncut ok ends s i g h)
-      (arrive_hears to P word v n (readied y s) (number_is w to s g i) (mail_fits w.vats (Told script w) (λ m i. i.0) n ok) (λ m a. a) (no_messages w n ok) (known_apart w to s g i) (h.gifts to s i))
+      let P : Telling = record { told = λ m. IsAmong m (told_in n); word = draw_word script.key } in let splits : AllOf Splits w.links = splits_of w.vats w.links h.links in
+      put_back_wire y x to s (readied y s) P (HasHeard to P (names_in s.known) n) (Carried k v to n y.links ∷ []) (world.step_number script k) (arrive (naming word to) v (read_note (names_in s.known) n) (readied y s)) i refl refl refl refl refl refl h.draws h.gifts (take_splits n ns v to l w.links at e splits) (sourced_links w.vats w.links y.links (take_goes n ns v to l w.links at e splits) h.sources) (paired_on w.links y.links (take_goes n ns v to l w.links at e splits) (take_lasts ns v to w.links) h.paired) (vats_on w.vats w.links y.links (take_goes n ns v to l w.links at e splits) h.objects) (take_handed y.links ns v to w.links (logs_on w.links y.links (take_goes n ns v to l w.links at e splits) w.links h.handed)) (note_here w v to l n ns at e uncut ok ends s i g h)
+      (arrive_hears to P v n (readied y s) (number_is w to s g i) (mail_fits w.vats (Told script w) (λ m i. i.0) n ok) (λ m a. a) (no_messages w n ok) (known_apart w to s g i) (h.gifts to s i))
       (λ t known heard. with_found_all (LinkKnown (put_at to t w.vats)) (world.with_notes ns) v to l
       (λ j same from at_to q. taken_stands (put_at to t w.vats) n ns j (ap (λ (z : Link). z.notes) same ∙ e) (subst (λ (z : ℕ). Heard (put_at to t w.vats) z n) (sym at_to) (heard_now w.vats to s t n i heard)) q) w.links at (links_up w.vats w.links to s t i known h.links))
       (λ t m p o. told_here w v to l n ns at e uncut splits t m p (told_either v to m n o ends.0 ends.1 p)) j z
-  arrives_wire k v to w x l n ns at e uncut ok ends None i g h j z = idle_wire k (record w { links = world.with_link (world.with_notes ns) v to w.links }) x (record { gifts = h.gifts; links = nobody; sources = sourced_links w.vats w.links (world.with_link (world.with_notes ns) v to w.links) (take_goes n ns v to l w.links at e (splits_of w.vats w.links h.links)) h.sources; paired = paired_on w.links (world.with_link (world.with_notes ns) v to w.links) (take_goes n ns v to l w.links at e (splits_of w.vats w.links h.links)) (take_lasts ns v to w.links) h.paired; objects = vats_on w.vats w.links (world.with_link (world.with_notes ns) v to w.links) (take_goes n ns v to l w.links at e (splits_of w.vats w.links h.links)) h.objects; handed = take_handed (world.with_link (world.with_notes ns) v to w.links) ns v to w.links (logs_on w.links (world.with_link (world.with_notes ns) v to w.links) (take_goes n ns v to l w.links at e (splits_of w.vats w.links h.links)) w.links h.handed) }) j
+  arrives_wire k v to w x l n ns at e uncut ok ends None i g h j z = idle_wire k (record w { links = world.with_link (world.with_notes ns) v to w.links }) x (record { gifts = h.gifts; links = nobody; sources = sourced_links w.vats w.links (world.with_link (world.with_notes ns) v to w.links) (take_goes n ns v to l w.links at e (splits_of w.vats w.links h.links)) h.sources; paired = paired_on w.links (world.with_link (world.with_notes ns) v to w.links) (take_goes n ns v to l w.links at e (splits_of w.vats w.links h.links)) (take_lasts ns v to w.links) h.paired; draws = h.draws; objects = vats_on w.vats w.links (world.with_link (world.with_notes ns) v to w.links) (take_goes n ns v to l w.links at e (splits_of w.vats w.links h.links)) h.objects; handed = take_handed (world.with_link (world.with_notes ns) v to w.links) ns v to w.links (logs_on w.links (world.with_link (world.with_notes ns) v to w.links) (take_goes n ns v to l w.links at e (splits_of w.vats w.links h.links)) w.links h.handed) }) j
     where
       nobody : AllOf (LinkKnown w.vats) (world.with_link (world.with_notes ns) v to w.links)
       nobody = with_found_all (LinkKnown w.vats) (world.with_notes ns) v to l (λ j same from at_to q. taken_stands w.vats n ns j (ap (λ (z : Link). z.notes) same ∙ e) (λ r f. absurd (none_some (slice_get w.vats to) r i (rw at_to at f))) q) w.links at h.links
 
-  carry_notes_wire : (k v to : ℕ) (w x : World) (l : Link) → world.link_at v to w.links ≡ Some l → (ns : List (Note Name)) → l.notes ≡ ns → l.cut ≡ false → AllOf (NoteOk (Told script w)) ns → AllOf (OfNotes script v to) ns → Stands script w → Wire w → world.carry_notes script k v to w ns ≡ Going x → Stands script x → Wire x
+  carry_notes_wire : (k v to : ℕ) (w x : World) (l : Link) → world.link_at v to w.links ≡ Some l → (ns : List (Note Name)) → l.notes ≡ ns → l.cut ≡ false → AllOf (NoteOk (Told script w)) ns → AllOf (OfNotes script v to) ns → Stands script w → Wire script w → world.carry_notes script k v to w ns ≡ Going x → Stands script x → Wire script x
   unfolding world.carry_notes
   carry_notes_wire k v to w x l at [] e uncut ok ends g h j z = idle_wire k w x h j
   carry_notes_wire k v to w x l at (n ∷ ns) e uncut ok ends g h j z = arrives_wire k v to w x l n ns at e uncut ok.0 ends.0 (slice_get w.vats to) refl g h j z
 
-  carry_cut_wire : (k v to : ℕ) (w x : World) (l : Link) → world.link_at v to w.links ≡ Some l → (b : Bool) → l.cut ≡ b → AllOf (lift.Fits (OfNotes script)) w.links → Stands script w → Wire w → elim b [ true ↦ world.idle script k w | false ↦ world.carry_notes script k v to w l.notes ] ≡ Going x → Stands script x → Wire x
+  carry_cut_wire : (k v to : ℕ) (w x : World) (l : Link) → world.link_at v to w.links ≡ Some l → (b : Bool) → l.cut ≡ b → AllOf (lift.Fits (OfNotes script)) w.links → Stands script w → Wire script w → elim b [ true ↦ world.idle script k w | false ↦ world.carry_notes script k v to w l.notes ] ≡ Going x → Stands script x → Wire script x
   carry_cut_wire k v to w x l at true c ends g h j z = idle_wire k w x h j
   carry_cut_wire k v to w x l at false c ends g h j z = let fit = at_link (lift.Fits (OfNotes script)) v to l w.links ends at in let both = fit.0 in let one : AllOf (OfNotes script l.from l.to) l.notes = both.1 in
       carry_notes_wire k v to w x l at l.notes refl c (at_link (λ l. AllOf (NoteOk (Told script w)) l.notes) v to l w.links g.links at).0 (rw (fit.1, fit.2) at one) g h j z
 
-  carry_link_wire : (k v to : ℕ) (w x : World) (o : Option Link) → world.link_at v to w.links ≡ o → AllOf (lift.Fits (OfNotes script)) w.links → Stands script w → Wire w → world.carry_link script k v to w o ≡ Going x → Stands script x → Wire x
+  carry_link_wire : (k v to : ℕ) (w x : World) (o : Option Link) → world.link_at v to w.links ≡ o → AllOf (lift.Fits (OfNotes script)) w.links → Stands script w → Wire script w → world.carry_link script k v to w o ≡ Going x → Stands script x → Wire script x
   unfolding world.carry_link
   carry_link_wire k v to w x None at ends g h j z = idle_wire k w x h j
   carry_link_wire k v to w x (Some l) at ends g h j z = carry_cut_wire k v to w x l at l.cut refl ends g h j z
@@ -313,7 +315,7 @@ module _ (script : Script) where
   all_severed [] = tt
   all_severed (l ∷ ls) = (severed_goes l, all_severed ls)
 
-  cut_wire : (k v to : ℕ) (w x : World) → Wire w → world.cut script k v to w ≡ Going x → Wire x
+  cut_wire : (k v to : ℕ) (w x : World) → Wire script w → world.cut script k v to w ≡ Going x → Wire script x
   unfolding world.cut
   cut_wire k v to w x h e = let one : List Link = world.with_link world.severed_link v to w.links in let two : List Link = world.with_link world.severed_link to v one in
       let goes : LinksGo w.links two = links_on w.links one two (with_link_goes world.severed_link severed_stay v to w.links (all_severed w.links)) (with_link_goes world.severed_link severed_stay to v one (all_severed one)) in moved _ x (record {
@@ -321,31 +323,32 @@ module _ (script : Script) where
         links = with_link_all (LinkKnown w.vats) world.severed_link to v (λ l a b i. severed_stands w.vats l i) (world.with_link world.severed_link v to w.links) (with_link_all (LinkKnown w.vats) world.severed_link v to (λ l a b i. severed_stands w.vats l i) w.links h.links);
         sources = sourced_links w.vats w.links two goes h.sources;
         paired = paired_on w.links two goes (λ a b t. with_link_lasts world.severed_link severed_stay to v one a b (with_link_lasts world.severed_link severed_stay v to w.links a b t)) h.paired;
+        draws = h.draws;
         objects = vats_on w.vats w.links two goes h.objects;
         handed = sever_handed two to v one (sever_handed two v to w.links (logs_on w.links two goes w.links h.handed));
       }) e
 
-  notice_wire : (k v to : ℕ) (w x : World) (o : Option (Vat Name)) → slice_get w.vats v ≡ o → Stands script w → Wire w → world.within v w (NoticedAt k v to ∷ []) (world.step_number script k) (notice (names script v) to) o ≡ Going x → Stands script x → Wire x
+  notice_wire : (k v to : ℕ) (w x : World) (o : Option (Vat Name)) → slice_get w.vats v ≡ o → Stands script w → Wire script w → world.within v w (NoticedAt k v to ∷ []) (world.step_number script k) (notice (names script v) to) o ≡ Going x → Stands script x → Wire script x
   unfolding world.within names
   notice_wire k v to w x None i g h e j = cc
-  notice_wire k v to w x (Some s) i g h e j = alone_wire w x v s s (NoticedAt k v to ∷ []) (world.step_number script k) _ i refl refl refl refl g h (asking_notice v NoneTold (draw_word script.key) to) (notice_here w v to s (h.objects v s i)) e j
+  notice_wire k v to w x (Some s) i g h e j = alone_wire w x v s s (NoticedAt k v to ∷ []) (world.step_number script k) _ i refl refl refl refl g h (asking_notice v (NoneTold script) to) (notice_here w v to s (h.objects v s i)) e j
 
-  step_wire : (entry : Entry) (k : ℕ) (w x : World) → AllOf (lift.Fits (OfNotes script)) w.links → Stands script w → Wire w → world.step script entry k w ≡ Going x → Stands script x → Wire x
+  step_wire : (entry : Entry) (k : ℕ) (w x : World) → AllOf (lift.Fits (OfNotes script)) w.links → Stands script w → Wire script w → world.step script entry k w ≡ Going x → Stands script x → Wire script x
   unfolding world.step
   step_wire (Turn v) k w x ends g h e j = turn_wire k v w x (slice_get w.vats v) refl g h e j
   step_wire (Carry v to) k w x ends g h e j = carry_link_wire k v to w x (world.link_at v to w.links) refl ends g h e j
   step_wire (CutLink v to) k w x ends g h e j = cut_wire k v to w x h e
   step_wire (NoticeLink v to) k w x ends g h e j = notice_wire k v to w x (slice_get w.vats v) refl g h e j
 
-  open_wire : (v : ℕ) (p : Program) (w x : World) (o : Option (Vat Name)) → slice_get w.vats v ≡ o → Stands script w → Wire w
-      → world.within v w (Opens v ∷ []) v (opening (names script v) p.tree script.depth (Root v) (world.given script.vats p.knows)) o ≡ Going x → Stands script x → Wire x
+  open_wire : (v : ℕ) (p : Program) (w x : World) (o : Option (Vat Name)) → slice_get w.vats v ≡ o → Stands script w → Wire script w
+      → world.within v w (Opens v ∷ []) v (opening (names script v) p.tree script.depth (Root v) (world.given script.vats p.knows)) o ≡ Going x → Stands script x → Wire script x
   unfolding world.within names
   open_wire v p w x None i g h e j = cc
-  open_wire v p w x (Some s) i g h e j = alone_wire w x v s s (Opens v ∷ []) v _ i refl refl refl refl g h (asking_openings v NoneTold (draw_word script.key) p.tree script.depth (Root v) (world.given script.vats p.knows)) (open_here w v p s (h.objects v s i)) e j
+  open_wire v p w x (Some s) i g h e j = alone_wire w x v s s (Opens v ∷ []) v _ i refl refl refl refl g h (asking_openings v (NoneTold script) p.tree script.depth (Root v) (world.given script.vats p.knows)) (open_here w v p s (h.objects v s i)) e j
 
   -- both of what is said of a world
   abbrev pub Both : World → Type 0
-  Both w = Stands script w × Wire w
+  Both w = Stands script w × Wire script w
 
   moved_both : (w x : World) → Both w → Going w ≡ Going x → Both x
   moved_both w x h e = rw (going_is w x e) at h
@@ -357,7 +360,7 @@ module _ (script : Script) where
 
   -- with what the notes name
   abbrev pub All : World → Type 0
-  All w = lift.All script (Its script) (OfNotes script) (Ever script) (Anyhow script) w × Wire w
+  All w = lift.All script (Its script) (OfNotes script) (Ever script) (Anyhow script) w × Wire script w
 
   moved_all : (w x : World) → All w → Going w ≡ Going x → All x
   moved_all w x h e = rw (going_is w x e) at h
@@ -570,9 +573,15 @@ module _ (script : Script) where
     links_from_handed v [] = tt
     links_from_handed v (p ∷ ps) = all_append (LogHanded (world.links_from script.vats zero script.vats)) (world.links_to v zero script.vats) (world.links_from script.vats (suc v) ps) (links_to_handed (world.links_from script.vats zero script.vats) v zero script.vats) (links_from_handed (suc v) ps)
 
-    begins_wire : Wire (world.begins script)
+    none_drawn : Drawn (draw_word script.key) []
+    none_drawn = (λ i x e. absurd (none_number x e), tt)
+      where
+        none_number : (x : ℕ) → None ≡ Some x → ⊥
+        none_number x e = cc
+
+    begins_wire : Wire script (world.begins script)
     unfolding world.begins
-    begins_wire = record { gifts = λ v s e. no_gifts v s (fresh_gifts zero script.vats v s e); links = links_from_known zero script.vats; sources = λ v s e n a. first_source v s e n a; paired = begins_paired script; objects = λ v s e. fresh_handed v s e; handed = links_from_handed zero script.vats }
+    begins_wire = record { gifts = λ v s e. no_gifts v s (fresh_gifts zero script.vats v s e); links = links_from_known zero script.vats; sources = λ v s e n a. first_source v s e n a; paired = begins_paired script; draws = none_drawn; objects = λ v s e. fresh_handed v s e; handed = links_from_handed zero script.vats }
 
     pub opened_both : (ps rest : List Program) (w : World) → script.vats ≡ ps ++ rest → world.open_from script zero ps (world.begins script) ≡ Going w → Both script w
     opened_both ps rest w e i = opens_both [] ps rest (world.begins script) w e (start, begins_wire) i
@@ -581,7 +590,7 @@ module _ (script : Script) where
     stepped_both w x es k e i = let b = opened_both script.vats [] w (sym (append-nil script.vats)) e in let all = steps_both script es k w x (opened_all script once script.vats [] w (sym (append-nil script.vats)) e, b.1) i in (stands_in script x all.0, all.1)
 
 -- what follows from both in a world holds in every world of a run
-pub in_runs : (P : World → Type 0) → ((script : Script) (w : World) → Stands script w → Wire w → P w) → InRuns P
+pub in_runs : (P : World → Type 0) → ((script : Script) (w : World) → Stands script w → Wire script w → P w) → InRuns P
 in_runs P f script once = (
   λ ps rest w e opened. let b = opened_both script once ps rest w e opened in f script w b.0 b.1,
   λ w x es k opened stepped. let b = stepped_both script once w x es k opened stepped in f script x b.0 b.1,

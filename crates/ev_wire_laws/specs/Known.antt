@@ -1,10 +1,11 @@
 -- What the two vats of a link know of what they asked for and told.
-use Rattle.std.specs.Prelude.{◌≡◌, ℕ, false, List, Some}
+use Rattle.std.specs.Prelude.{◌≡◌, ℕ, zero, false, List, ◌++◌, Some, slice_get}
 use Rattle.ev_machine.specs.Values.{Name}
 use Rattle.ev_machine.specs.State.{Vat}
-use Rattle.ev_name_laws.specs.Names.{AllOf, IsAmong, IsKnownIn, names_in}
-use Rattle.ev_name_laws.specs.Runs.{InRuns, InEachVat}
-use Rattle.ev_run.specs.World.{Link, World, link_at}
+use Rattle.ev_name_laws.specs.Names.{AllOf, IsAmong, IsKnownIn, Once, names_in}
+use Rattle.ev_name_laws.specs.Runs.{KnowsOnce, InRuns, InEachVat}
+use Rattle.ev_run.specs.Draws.{draw_word}
+use Rattle.ev_run.specs.World.{Script, Program, Entry, Link, World, Goes, link_at, begins, open_from, steps_from}
 use Rattle.ev_run.specs.Wire.{questions_in, exports_after, questions, exports}
 use Rattle.ev_wire_laws.specs.Asked.{HoldsNoList}
 use Rattle.ev_wire_laws.specs.Tables.{arrived}
@@ -20,6 +21,12 @@ KnowsEachPromise s ns = AllOf (IsKnownIn (names_in s.known)) ns
 -- of the link from one vat to another, as long as it is not cut
 abbrev pub OnUncutLink : World → ℕ → ℕ → (Link → Type 0) → Type 0
 OnUncutLink w v u P = (l : Link) → link_at v u w.links ≡ Some l → l.cut ≡ false → P l
+
+-- The words that were drawn in a run are the first of its stream, in order, and differ pairwise.
+abbrev pub DrawsAreInOrder : Type 0
+DrawsAreInOrder = (script : Script) → KnowsOnce script
+    → ((ps rest : List Program) (w : World) → script.vats ≡ ps ++ rest → open_from script zero ps (begins script) ≡ Goes w → ((i x : ℕ) → slice_get w.drawn i ≡ Some x → x ≡ draw_word script.key i) × Once w.drawn)
+    × ((w x : World) (es : List Entry) (k : ℕ) → open_from script zero script.vats (begins script) ≡ Goes w → steps_from script es k w ≡ Goes x → ((i n : ℕ) → slice_get x.drawn i ≡ Some n → n ≡ draw_word script.key i) × Once x.drawn)
 
 -- No note that was ever put on a link holds a list by its number.
 abbrev pub NotesHoldNoLists : Type 0

@@ -4,7 +4,7 @@
 //! any entries of a schedule. No vat of the script may be told twice that it knows a vat, or that
 //! it knows itself.
 
-ghost use Rattle.ev_wire_laws.specs.Known.{WhatAVatAskedForIsKnown, WhatAVatWasAskedForIsKnown, WhatAVatExportedIsKnown, WhatArrivedIsKnown, NotesHoldNoLists};
+ghost use Rattle.ev_wire_laws.specs.Known.{WhatAVatAskedForIsKnown, WhatAVatWasAskedForIsKnown, WhatAVatExportedIsKnown, WhatArrivedIsKnown, NotesHoldNoLists, DrawsAreInOrder};
 ghost use Rattle.ev_wire_laws.specs.Given.{NotesNameWhatWasGiven};
 ghost use Rattle.ev_wire_laws.specs.Sources.{NamesComeFromTheirHosts};
 
@@ -50,4 +50,9 @@ pub fn notes_name_what_was_given()
 /// No note that was ever put on a link holds a list by its number: its members pass in its place.
 pub fn notes_hold_no_lists()
     ensures { NotesHoldNoLists }
+{}
+
+/// The words that were drawn in a run are the first of its stream, in order, and differ pairwise.
+pub fn draws_are_in_order()
+    ensures { DrawsAreInOrder }
 {}
