@@ -1,7 +1,7 @@
 -- What a vat asked for, was asked for, exported and was told is known to it.
-use Rattle.std.proofs.Common.{◌≡◌, ℕ, false, List, [], ◌∷◌, ◌++◌, Option, Some, None, refl, sym, subst}
+use Rattle.std.proofs.Common.{◌≡◌, ℕ, false, List, [], ◌∷◌, ◌++◌, Option, Some, None, refl, sym, ap, subst, ◌∙◌}
 use Rattle.std.specs.Prelude.{slice_get}
-use Rattle.ev_machine.specs.Values.{Name}
+use Rattle.ev_machine.specs.Values.{Name, host_of}
 use Rattle.ev_machine.specs.State.{Note, Deliver, Open, Ask, SettledTo, Elsewhere, Shorten, Vat}
 use Rattle.ev_run.specs.World.{Script, Link, World, link_at}
 use Rattle.ev_run.specs.Wire as wire
@@ -9,12 +9,13 @@ use Rattle.ev_name_laws.specs.Names.{AllOf, IsAmong, IsKnownIn, names_in}
 use Rattle.ev_name_laws.proofs.Facts.{all_map}
 use Rattle.ev_wire_laws.specs.Asked.{AskFits, HoldsNoList}
 use Rattle.ev_wire_laws.specs.Tables.{arrived}
-use Rattle.ev_wire_laws.specs.Known.{KnowsEach, KnowsEachPromise, WhatAVatAskedForIsKnown, WhatAVatWasAskedForIsKnown, WhatAVatExportedIsKnown, WhatArrivedIsKnown, NotesHoldNoLists, DrawsAreInOrder}
+use Rattle.ev_wire_laws.specs.Known.{KnowsEach, KnowsEachPromise, WhatAVatAskedForIsKnown, WhatAVatWasAskedForIsKnown, WhatAVatExportedIsKnown, WhatArrivedIsKnown, NotesHoldNoLists, DrawsAreInOrder, QuestionsAreOfTheirHosts}
 use Rattle.ev_wire_laws.proofs.Asking.{Proper}
 use Rattle.ev_wire_laws.proofs.ArriveAsking.{Answered}
 use Rattle.ev_wire_laws.proofs.Arrivals.{arrived_is}
 use Rattle.ev_wire_laws.proofs.Told.{exports_told}
 use Rattle.ev_wire_laws.proofs.LinksKnown.{AsksOwn, Sent, Heard, LinkKnown, at_link}
+use Rattle.ev_wire_laws.proofs.Sources.{answer_host, gift_host}
 use Rattle.ev_wire_laws.proofs.WireRuns.{Wire, in_runs, opened_both, stepped_both}
 
 -- ---- what a list of notes asks for
@@ -127,3 +128,25 @@ draws_in_order script once = (
   λ ps rest w e opened. let b = opened_both script once ps rest w e opened in let h = b.1 in h.draws,
   λ w x es k opened stepped. let b = stepped_both script once w x es k opened stepped in let h = b.1 in h.draws,
 )
+
+-- ---- whom a vat asks
+
+asked_hosts : (to : ℕ) (log : List (Note Name)) → AllOf (AsksOwn to) log → AllOf (λ n. host_of n ≡ to) (wire.questions_in to log)
+unfolding wire.questions_in
+asked_hosts to [] h = tt
+asked_hosts to (Deliver m n verb ys ∷ log) h = (answer_host to m h.0, asked_hosts to log h.1)
+asked_hosts to (Ask p i n ∷ log) h = (ap host_of h.0 ∙ gift_host to i, asked_hosts to log h.1)
+asked_hosts to (Open i n ∷ log) h = asked_hosts to log h.1
+asked_hosts to (SettledTo n y ∷ log) h = asked_hosts to log h.1
+asked_hosts to (Elsewhere n c ∷ log) h = asked_hosts to log h.1
+asked_hosts to (Shorten n c i ∷ log) h = asked_hosts to log h.1
+
+link_hosts : (script : Script) (w : World) (h : Wire script w) (v u : ℕ) (o : Option Link) → link_at v u w.links ≡ o → AllOf (λ n. host_of n ≡ u) (wire.questions_in u (wire.log_of o))
+unfolding wire.log_of wire.questions_in
+link_hosts script w h v u None e = tt
+link_hosts script w h v u (Some l) e = let a = at_link (LinkKnown w.vats) v u l w.links h.links e in let k = a.0 in
+    asked_hosts u l.log (subst (λ (z : ℕ). AllOf (AsksOwn z) l.log) a.2 (all_map (λ n i. i.0) l.log k.sent))
+
+pub questions_hosted : QuestionsAreOfTheirHosts
+unfolding wire.questions
+questions_hosted = in_runs _ (λ script w g h v u. link_hosts script w h v u (link_at v u w.links) refl)

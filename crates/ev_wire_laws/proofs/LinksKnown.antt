@@ -6,11 +6,11 @@ use Rattle.ev_machine.specs.Values.{Name, Gift}
 use Rattle.ev_machine.specs.State.{Note, Deliver, Open, Ask, SettledTo, Elsewhere, Shorten, Put, Vat}
 use Rattle.ev_run.specs.World as world
 use Rattle.ev_run.specs.World.{Link}
-use Rattle.ev_name_laws.specs.Names.{AllOf, IsAmong, IsKnownIn, names_in}
+use Rattle.ev_name_laws.specs.Names.{AllOf, IsAmong, IsMessageName, IsKnownIn, names_in}
 use Rattle.ev_name_laws.proofs.Facts.{all_map, all_end}
 use Rattle.ev_wire_laws.specs.Asked.{AskFits, told_in}
 use Rattle.ev_wire_laws.proofs.Asking.{Proper, ask_up}
-use Rattle.ev_wire_laws.proofs.ArriveAsking.{Answered, Has}
+use Rattle.ev_wire_laws.proofs.ArriveAsking.{Answered, MailFits, Has}
 use Rattle.ev_wire_laws.proofs.Told.{known_up}
 
 -- the names that vat v knows, if there is such a vat, have P
@@ -21,22 +21,22 @@ Knowing vats v P = (s : Vat Name) → slice_get vats v ≡ Some s → P (names_i
 abbrev pub SentBy : ℕ → Note Name → List Name → Type 0
 SentBy to n ns = AskFits ns to n × AllOf (IsKnownIn ns) (told_in n)
 
--- a gift that is asked for is one of the receiver
+-- a gift that is asked for is one of the receiver, and a message is named as one
 abbrev pub AsksOwn : ℕ → Note Name → Type 0
 AsksOwn to (Ask p i n) = n ≡ Gift to i
-AsksOwn to (Deliver m n verb ys) = Unit {0}
+AsksOwn to (Deliver m n verb ys) = IsMessageName m
 AsksOwn to (Open i n) = Unit {0}
 AsksOwn to (SettledTo n y) = Unit {0}
 AsksOwn to (Elsewhere n c) = Unit {0}
 AsksOwn to (Shorten n c i) = Unit {0}
 
-pub asks_own : (ns : List Name) (to : ℕ) (n : Note Name) → AskFits ns to n → AsksOwn to n
-asks_own ns to (Ask p i n) h = h.1
-asks_own ns to (Deliver m n verb ys) h = tt
-asks_own ns to (Open i n) h = tt
-asks_own ns to (SettledTo n y) h = tt
-asks_own ns to (Elsewhere n c) h = tt
-asks_own ns to (Shorten n c i) h = tt
+pub asks_own : (ns : List Name) (to : ℕ) (n : Note Name) → MailFits n → AskFits ns to n → AsksOwn to n
+asks_own ns to (Ask p i n) o h = h.1
+asks_own ns to (Deliver m n verb ys) o h = o
+asks_own ns to (Open i n) o h = tt
+asks_own ns to (SettledTo n y) o h = tt
+asks_own ns to (Elsewhere n c) o h = tt
+asks_own ns to (Shorten n c i) o h = tt
 
 -- the receiver knows what it was asked for and what it was told
 abbrev pub HeardBy : ℕ → Note Name → List Name → Type 0

@@ -104,7 +104,7 @@ logged v [] ls h p a m e = absurd a
 logged v (q ∷ ps) ls h p (inl i) m e = let to : p.to ≡ q.to = ap (λ (r : Put Name). r.to) i in let note : q.note ≡ p.note = ap (λ (r : Put Name). r.note) (sym i) in rw note at (first_logged v q ps ls h m (rw to at e))
 logged v (q ∷ ps) ls h p (inr a) m e = rest_logged v p q ps ls m (λ k i. logged v ps (world.with_link (world.pushed q.note) v q.to ls) (push_splits q.note v q.to ls h) p a k i) e
 
-answer_host : (to : ℕ) (m : Name) → IsMessageName m → host_of (answer_of to m) ≡ to
+pub answer_host : (to : ℕ) (m : Name) → IsMessageName m → host_of (answer_of to m) ≡ to
 unfolding answer_of host_of
 answer_host to (Message_name m) h = refl
 answer_host to (Root w) h = absurd h
@@ -113,7 +113,7 @@ answer_host to (Promise w i) h = absurd h
 answer_host to (Answer w m) h = absurd h
 answer_host to (Gift w i) h = absurd h
 
-gift_host : (to i : ℕ) → host_of (Gift to i) ≡ to
+pub gift_host : (to i : ℕ) → host_of (Gift to i) ≡ to
 unfolding host_of
 gift_host to i = refl
 

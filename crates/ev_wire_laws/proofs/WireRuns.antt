@@ -124,17 +124,6 @@ module _ (script : Script) where
   moved : (w x : World) → Wire script w → Going w ≡ Going x → Wire script x
   moved w x h e = rw (going_is w x e) at h
 
-  -- the notes that were put
-  puts_sent : (x : World) (v : ℕ) (us : List (Vat Name)) (t : Vat Name) → slice_get us v ≡ Some t → (ps : List (Put Name)) → AllOf (PutFits v (names_in t.known)) ps → AllOf (PutOk (Had script x v t)) ps → AllOf (λ (p : Put Name). Sent us v p.to p.note) ps
-  puts_sent x v us t there [] h k = tt
-  puts_sent x v us t there (p ∷ ps) h k = ((asks_own (names_in t.known) p.to p.note h.0.0, h.0.1, λ r e. knows r e), puts_sent x v us t there ps h.1 k.1)
-    where
-      known_here : SentBy p.to p.note (names_in t.known)
-      known_here = (h.0.0, all_map (λ n i. i.1) (told_in p.note) (note_told (Had script x v t) p.note k.0.0))
-
-      knows : (r : Vat Name) → slice_get us v ≡ Some r → SentBy p.to p.note (names_in r.known)
-      knows r e = rw (some_vat t r (sym there ∙ e)) at known_here
-
   message_made : (vats : List (Vat Name)) (m : Name) → IsMessageMade vats m → IsMessageName m
   message_made vats (Message_name m) h = tt
   message_made vats (Root w) h = absurd h
@@ -151,6 +140,17 @@ module _ (script : Script) where
   mail_fits vats P f (Elsewhere n c) h = tt
   mail_fits vats P f (Shorten n c i) h = tt
 
+  -- the notes that were put
+  puts_sent : (x : World) (v : ℕ) (us : List (Vat Name)) (t : Vat Name) → slice_get us v ≡ Some t → (ps : List (Put Name)) → AllOf (PutFits v (names_in t.known)) ps → AllOf (PutOk (Had script x v t)) ps → AllOf (λ (p : Put Name). Sent us v p.to p.note) ps
+  puts_sent x v us t there [] h k = tt
+  puts_sent x v us t there (p ∷ ps) h k = ((asks_own (names_in t.known) p.to p.note (mail_fits x.vats (Had script x v t) (λ m i. i.0) p.note k.0.0) h.0.0, h.0.1, λ r e. knows r e), puts_sent x v us t there ps h.1 k.1)
+    where
+      known_here : SentBy p.to p.note (names_in t.known)
+      known_here = (h.0.0, all_map (λ n i. i.1) (told_in p.note) (note_told (Had script x v t) p.note k.0.0))
+
+      knows : (r : Vat Name) → slice_get us v ≡ Some r → SentBy p.to p.note (names_in r.known)
+      knows r e = rw (some_vat t r (sym there ∙ e)) at known_here
+
   -- each name that the vat knows after it
   sourced_after : (w y : World) (v : ℕ) (s q t : Vat Name) (P : Telling) → names_in q.known ≡ names_in s.known → q.noticed ≡ s.noticed → Steady v P q t → AllOf Splits w.links → Sourced w.links v s → AllOf (PutFits v (names_in t.known)) t.outbox → AllOf (PutOk (Had script y v t)) t.outbox
       → ((n : Name) → P.told n → IsAmong n (names_in t.known) → Source (world.push_all v t.outbox w.links) v t n) → Sourced (world.push_all v t.outbox w.links) v t
@@ -158,7 +158,7 @@ module _ (script : Script) where
     where
       asked : (p : Put Name) → IsAmong p t.outbox → AsksOf p.to p.note n → Source (world.push_all v t.outbox w.links) v t n
       asked p b k = let ok = all_among (PutOk (Had script y v t)) t.outbox p outs b in
-          source_asked w.links splits v t n p b (mail_fits y.vats (Had script y v t) (λ m i. i.0) p.note ok.0) (asks_own (names_in t.known) p.to p.note (all_among (PutFits v (names_in t.known)) t.outbox p fits b).0) k
+          source_asked w.links splits v t n p b (mail_fits y.vats (Had script y v t) (λ m i. i.0) p.note ok.0) (asks_own (names_in t.known) p.to p.note (mail_fits y.vats (Had script y v t) (λ m i. i.0) p.note ok.0) (all_among (PutFits v (names_in t.known)) t.outbox p fits b).0) k
 
       either : IsAmong n (names_in q.known) ⊎ Comes v P t n → Source (world.push_all v t.outbox w.links) v t n
       either (inl b) = source_on w.links (world.push_all v t.outbox w.links) (push_all_goes v t.outbox w.links splits) v s t (λ h i. r.noticed h (rw (ap (is_in h) (sym noticed)) at i)) n (before n (rw same at b))

@@ -1,6 +1,6 @@
 -- What the two vats of a link know of what they asked for and told.
 use Rattle.std.specs.Prelude.{◌≡◌, ℕ, zero, false, List, ◌++◌, Some, slice_get}
-use Rattle.ev_machine.specs.Values.{Name}
+use Rattle.ev_machine.specs.Values.{Name, host_of}
 use Rattle.ev_machine.specs.State.{Vat}
 use Rattle.ev_name_laws.specs.Names.{AllOf, IsAmong, IsKnownIn, Once, names_in}
 use Rattle.ev_name_laws.specs.Runs.{KnowsOnce, InRuns, InEachVat}
@@ -27,6 +27,10 @@ abbrev pub DrawsAreInOrder : Type 0
 DrawsAreInOrder = (script : Script) → KnowsOnce script
     → ((ps rest : List Program) (w : World) → script.vats ≡ ps ++ rest → open_from script zero ps (begins script) ≡ Goes w → ((i x : ℕ) → slice_get w.drawn i ≡ Some x → x ≡ draw_word script.key i) × Once w.drawn)
     × ((w x : World) (es : List Entry) (k : ℕ) → open_from script zero script.vats (begins script) ≡ Goes w → steps_from script es k w ≡ Goes x → ((i n : ℕ) → slice_get x.drawn i ≡ Some n → n ≡ draw_word script.key i) × Once x.drawn)
+
+-- What a vat ever asked another for is of that one.
+abbrev pub QuestionsAreOfTheirHosts : Type 0
+QuestionsAreOfTheirHosts = InRuns (λ w. (v u : ℕ) → AllOf (λ n. host_of n ≡ u) (questions (λ i. i) w.links v u))
 
 -- No note that was ever put on a link holds a list by its number.
 abbrev pub NotesHoldNoLists : Type 0

@@ -4,7 +4,7 @@
 //! any entries of a schedule. No vat of the script may be told twice that it knows a vat, or that
 //! it knows itself.
 
-ghost use Rattle.ev_wire_laws.specs.Known.{WhatAVatAskedForIsKnown, WhatAVatWasAskedForIsKnown, WhatAVatExportedIsKnown, WhatArrivedIsKnown, NotesHoldNoLists, DrawsAreInOrder};
+ghost use Rattle.ev_wire_laws.specs.Known.{WhatAVatAskedForIsKnown, WhatAVatWasAskedForIsKnown, WhatAVatExportedIsKnown, WhatArrivedIsKnown, NotesHoldNoLists, DrawsAreInOrder, QuestionsAreOfTheirHosts};
 ghost use Rattle.ev_wire_laws.specs.Given.{NotesNameWhatWasGiven};
 ghost use Rattle.ev_wire_laws.specs.Sources.{NamesComeFromTheirHosts};
 
@@ -55,4 +55,9 @@ pub fn notes_hold_no_lists()
 /// The words that were drawn in a run are the first of its stream, in order, and differ pairwise.
 pub fn draws_are_in_order()
     ensures { DrawsAreInOrder }
+{}
+
+/// Each answer and each gift for which a vat ever asked another is of that one.
+pub fn questions_are_of_their_hosts()
+    ensures { QuestionsAreOfTheirHosts }
 {}
