@@ -1,0 +1,17 @@
+pub mod Results
+pub mod Asking
+pub mod RefsAsking
+pub mod ArriveAsking
+pub mod Objects
+pub mod Told
+pub mod LinksKnown
+pub mod Arrivals
+pub mod Exported
+pub mod LinksGo
+pub mod LinksThere
+pub mod Sources
+pub mod Given
+pub mod WireRuns
+pub mod Laws
+pub mod SourceLaws
+pub mod GivenLaws
