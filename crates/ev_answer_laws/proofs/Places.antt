@@ -194,7 +194,7 @@ module _ (g : ℕ) (m : Msg) where
   first_weighs (p ∷ ps) (inl b) = let w = bears_weighs p.note b.1 in let e = eq-eqb p.to g b.0 in rw e (omega arith)
   first_weighs (p ∷ ps) (inr h) = let rest = first_weighs ps h.1 in omega arith
 
--- ---- two links, and the links of a world with a note taken
+-- ---- the first of some links, or another
 
 pub head_link : (c : Bool) (k l : Link) (o : Option Link) → ◌≡◌ {A = Option Link} (elim c [ true ↦ Some k | false ↦ o ]) (Some l) → ((c ≡ true) × (k ≡ l)) ⊎ ((c ≡ false) × (o ≡ Some l))
 head_link true k l o e = inl (refl, same)
