@@ -15,3 +15,5 @@ pub mod WireRuns
 pub mod Laws
 pub mod SourceLaws
 pub mod GivenLaws
+pub mod Ranks
+pub mod News

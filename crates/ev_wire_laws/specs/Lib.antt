@@ -5,3 +5,4 @@ pub mod Asked
 pub mod Known
 pub mod Sources
 pub mod Given
+pub mod News

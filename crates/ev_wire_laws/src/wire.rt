@@ -6,6 +6,7 @@
 
 ghost use Rattle.ev_wire_laws.specs.Known.{WhatAVatAskedForIsKnown, WhatAVatWasAskedForIsKnown, WhatAVatExportedIsKnown, WhatArrivedIsKnown, NotesHoldNoLists, DrawsAreInOrder, QuestionsAreOfTheirHosts};
 ghost use Rattle.ev_wire_laws.specs.Given.{NotesNameWhatWasGiven};
+ghost use Rattle.ev_wire_laws.specs.News.{NewsIsReadAlike};
 ghost use Rattle.ev_wire_laws.specs.Sources.{NamesComeFromTheirHosts};
 
 /// A vat knows each answer and each gift for which it ever asked another.
@@ -60,4 +61,14 @@ pub fn draws_are_in_order()
 /// Each answer and each gift for which a vat ever asked another is of that one.
 pub fn questions_are_of_their_hosts()
     ensures { QuestionsAreOfTheirHosts }
+{}
+
+/// Where the next note to arrive, on a link that is not cut, tells that a name settled at another host, its
+/// receiver reads it by its own numbers as it is read in names.
+///
+/// It is said of runs in which each notice stands behind a cut of the same two vats. The name is an answer
+/// or a gift for which the receiver asked, or stands at its position among the exports that have arrived,
+/// or is the next of them.
+pub fn news_is_read_alike()
+    ensures { NewsIsReadAlike }
 {}
