@@ -4,7 +4,8 @@ use Rattle.ev_machine.specs.Values.{Value, Null, Flag, Number, Letter, Text, Pri
 use Rattle.ev_machine.specs.State.{Standing, Unsettled, WaitsOn, Viewed, Settled, Known, Vat, begun, is_in}
 use Rattle.ev_machine.specs.Native.{list_at}
 use Rattle.ev_machine.specs.Refs.{entry_of, standing_of, standing_in, led, follow_at, follow, severed}
-use Rattle.ev_list_laws.proofs.Chains.{next, Exact, no_longer}
+use Rattle.ev_wait_laws.proofs.Calm.{next}
+use Rattle.ev_wait_laws.proofs.Chains.{Exact, no_longer}
 use Rattle.ev_frozen_laws.specs.Frozen.{IsAmong}
 use Rattle.ev_list_laws.specs.Lists.{Leads, LeadsIn, NoListLeadsBack}
 use Rattle.ev_list_laws.proofs.Following.{name_list, plain_stays, IsPlain, severed_list, list_severed}

@@ -8,7 +8,7 @@ use Rattle.ev_machine_laws.proofs.StepLaws.{changed_head}
 use Rattle.ev_name_laws.specs.Names.{AllOf, IsAmong, IsMessageName, IsEventual}
 use Rattle.ev_name_laws.proofs.Facts.{all_end, all_map}
 use Rattle.ev_name_laws.proofs.SameNames.{reference_is}
-use Rattle.ev_list_laws.proofs.Entries.{SameOr, same_or}
+use Rattle.ev_rest_laws.proofs.Entries.{SameOr, same_or}
 use Rattle.ev_frozen_laws.specs.Frozen.{Sound, AreThere}
 use Rattle.ev_frozen_laws.proofs.Fine.{Keeper, Quiet, ListsGrow}
 use Rattle.ev_list_laws.specs.Lists.{NoListLeadsBack, IsBehind}

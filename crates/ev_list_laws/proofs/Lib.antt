@@ -1,7 +1,3 @@
-pub mod Views
-pub mod Entries
-pub mod Chains
-pub mod ListChains
 pub mod Stacked
 pub mod Following
 pub mod Rings

@@ -16,7 +16,7 @@ use Rattle.ev_list_laws.specs.Ringless.{IsOwn, HoldsOwn}
 use Rattle.ev_list_laws.proofs.Following.{standing_found}
 use Rattle.ev_list_laws.proofs.Kept.{heeds, heeds_spared, Settling, Mark, With, K, IsMarked, Fair, keeper, view_back, open_changed}
 use Rattle.ev_list_laws.proofs.Changes.{Holds, NotViewed, ListIf, NoPromise, ByView, answer_eventual, fair_hold, fair_react, fair_tell, fair_settle, changed_holds, altered, begun_holds, wait_ends, entry_name, known_eventual, found_held, target_ref, target_list, settle_behind}
-use Rattle.ev_list_laws.proofs.Entries.{changed_at}
+use Rattle.ev_rest_laws.proofs.Entries.{changed_at}
 
 not_true : (b : Bool) → (b ≡ true → ⊥) → b ≡ false
 not_true true f = absurd (f refl)

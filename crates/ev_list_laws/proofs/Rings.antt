@@ -6,8 +6,8 @@ use Rattle.ev_machine.specs.Native.{list_at}
 use Rattle.ev_machine.specs.Refs.{entry_of, standing_of, follow_at, follow, severed, any_of, reached, reaches, cut_cycle, target_of}
 use Rattle.ev_machine_laws.specs.Breaks.{still_waits}
 use Rattle.ev_frozen_laws.specs.Frozen.{IsAmong}
-use Rattle.ev_list_laws.proofs.Entries.{SameOr, same_or}
-use Rattle.ev_list_laws.proofs.ListChains.{reaches_within}
+use Rattle.ev_rest_laws.proofs.Entries.{SameOr, same_or}
+use Rattle.ev_wait_laws.proofs.ListChains.{reaches_within}
 use Rattle.ev_list_laws.specs.Lists.{Leads, LeadsIn, NoListLeadsBack, IsEnd, IsTested}
 use Rattle.ev_list_laws.proofs.Following.{no_true, name_list, broken_list, settled_new, stands_or, length_changed, standing_same, standing_found, waits_stays, Moves, LeadsOn, WaitedIf, follows_or, settled_on, viewed_on, waited_on, severed_list, list_severed, list_followed}
 

@@ -15,7 +15,7 @@ use Rattle.ev_frozen_laws.proofs.Fine.{Keeper, Nothing, NoteDoes, nothing, Gets,
 use Rattle.ev_frozen_laws.proofs.Looks.{note_ask, note_shorten}
 use Rattle.ev_list_laws.specs.Lists.{NoListLeadsBack}
 use Rattle.ev_list_laws.specs.Ringless.{HoldsOwn, NamesRest, Ringless, IsToldWell, told_name, WaitsNowhere, NextIsNew}
-use Rattle.ev_list_laws.proofs.Entries.{SameOr, same_or, changed_at}
+use Rattle.ev_rest_laws.proofs.Entries.{SameOr, same_or, changed_at}
 use Rattle.ev_list_laws.proofs.Following.{no_true, standing_same, standing_found}
 use Rattle.ev_list_laws.proofs.FarEnough.{append_standing}
 use Rattle.ev_list_laws.proofs.Laws.{changes_close_no_ring}
