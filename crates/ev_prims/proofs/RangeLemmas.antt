@@ -1,5 +1,5 @@
 -- Ranges of integers.
-use Rattle.std.proofs.Common.{◌≡◌, ℕ, zero, suc, ◌+◌, ◌<◌, ◌≤◌, ℤ, pos, negsuc, Bool, true, false, List, [], ◌∷◌, ◌++◌, refl, ap, sym, ◌∙◌, arith}
+use Rattle.std.proofs.Common.{◌≡◌, ℕ, zero, suc, ◌+◌, ◌<◌, ◌≤◌, ℤ, pos, negsuc, Bool, true, false, List, [], ◌∷◌, ◌++◌, Result, Ok, Err, IfOk, refl, ap, sym, ◌∙◌, arith}
 use Rattle.std.specs.Prelude.{codes, ◌+ℤ◌, ◌-ℤ◌, ◌≤ℤ◌, ◌<ℤ◌, ◌^◌, int_le, nat_le, nat_abs, unsigned_abs, map}
 use Rattle.std.proofs.lemmas.Int.{ints}
 use Rattle.std.proofs.lemmas.Bool.Decides.{nat_tests}
@@ -9,7 +9,9 @@ use Rattle.ev_base.specs.declared.values.Value.TheVariants.{Int}
 use Rattle.ev_heap.specs.Contents.{Contents}
 use Rattle.ev_machine.specs.Values.{Value, Number, Local}
 use Rattle.ev_machine.specs.Native.{Reply, Lists, Fails, counted, gap, range_of}
-use Rattle.ev_prims.specs.Reading.{value_in, values_in}
+use Rattle.ev_base.specs.declared.memory.Memory.{Memory}
+use Rattle.ev_prims.specs.declared.reply.Reply.{Reply as Answer}
+use Rattle.ev_prims.specs.Reading.{reply_in, value_in, values_in}
 use Rattle.ev_prims.proofs.SeqLemmas.{joined_values}
 
 -- ---- so many integers
@@ -101,3 +103,9 @@ up_to_last a b n h e =
 
 pub plus_none : (a : ℤ) → a +ℤ pos 0 ≡ a
 plus_none a = +ℤ_idr a
+
+-- what a range of a number of integers answers, it answers of as many to one of them
+pub ranged_along : (r : Result Answer Memory) (a b c : ℤ) (n : ℕ) → c ≡ a → n ≡ gap a b → IfOk r (λ (t : Answer). (h : Contents) → reply_in h t ≡ range_of c n)
+    → IfOk r (λ (t : Answer). (h : Contents) → reply_in h t ≡ range_of a (gap a b))
+ranged_along (Ok t) a b c n e f i = λ h. i h ∙ ap (λ z. range_of z n) e ∙ ap (range_of a) f
+ranged_along (Err m) a b c n e f i = tt

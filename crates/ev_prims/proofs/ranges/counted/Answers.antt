@@ -1,5 +1,5 @@
-use Rattle.std.proofs.Common.{rules, arith, ap, ◌∙◌}
-use Rattle.std.proofs.lemmas.Int.{ints}
+use Rattle.std.proofs.Common.{arith, ap, ◌∙◌}
+use Rattle.std.proofs.lemmas.Int.{ints, to_z-of_z}
 use Rattle.ev_machine.specs.Native.{counted}
 use Rattle.ev_prims.specs.Reading.{values_in}
 use Rattle.ev_prims.proofs.RangeLemmas.{counted_none, counted_more}
@@ -12,4 +12,6 @@ pub loop-index-preserved : goal.loop-index-preserved
 loop-index-preserved c = counted_more _ _ _ _ _ c.in_ok-push.ensures.ok (omega (arith, ints, c.number_at-number.ensures)) c.loop-index.invariant
 
 pub returns : goal.returns
-returns c = λ h. c.loop-index.invariant h ∙ ap (counted c.args.first) (omega arith)
+returns c = λ h.
+    c.loop-index.invariant h ∙ ap (λ z. counted z c.loop-index.index) (to_z-of_z _ c.args.first c.ranges.first)
+    ∙ ap (counted c.args.first) (omega arith)
