@@ -1,11 +1,9 @@
 -- How many arguments a call has.
-use Rattle.std.proofs.Common.{◌≡◌, ℕ, ◌<◌, ◌≤◌, ◌⊎◌, inl, inr, List, [], ◌∷◌, length, get_or, refl, subst, sym, ap, ◌∙◌, arith}
+use Rattle.std.proofs.Common.{◌≡◌, ◌<◌, ◌≤◌, List, [], ◌∷◌, length, get_or, refl, subst, sym, ap, ◌∙◌, arith}
 use Rattle.std.specs.Prelude.{All}
 use Rattle.ev_base.specs.declared.values.Value.{Value}
 use Rattle.ev_heap.specs.Contents.{Contents, IsWeighable}
-use Rattle.ev_prims.specs.declared.forms.Form.{Form}
 use Rattle.ev_prims.specs.declared.forms.Form.TheVariants as form
-use Rattle.ev_prims.specs.declared.forms.Args.{Args}
 use Rattle.ev_prims.specs.declared.forms.Args.TheVariants as args
 use Rattle.ev_prims.specs.Forms.{form_of, args_of}
 

@@ -1,14 +1,14 @@
 -- The order of the code is that of the machine.
-use Rattle.std.proofs.Common.{◌≡◌, ℕ, ◌<◌, ℤ, pos, negsuc, Bool, true, false, List, [], ◌∷◌, Option, Some, None, refl, ap, sym, ◌∙◌, arith}
-use Rattle.std.specs.Prelude.{codes, option_map, int_lt, int_le, nat_lt, ◌==◌}
+use Rattle.std.proofs.Common.{◌≡◌, ℕ, ℤ, pos, negsuc, Bool, [], ◌∷◌, Option, Some, None, refl, ap, ◌∙◌, arith}
+use Rattle.std.specs.Prelude.{codes}
 use Rattle.std.specs.Ordering.{nat_cmp, int_cmp, ordering_then}
 use Rattle.std.specs.Cmp.Lexicographic.{slice_cmp}
 use Rattle.std.specs.declared.cmp.Ordering.{Ordering}
 use Rattle.std.specs.declared.cmp.Ordering.TheVariants.{Less, Equal, Greater}
 use Rattle.std.proofs.lemmas.Bool.Decides.{nat_tests}
-use Rattle.ev_machine.specs.Values.{Words, Value, Flag, Local}
+use Rattle.ev_machine.specs.Values.{Words, Flag, Local}
 use Rattle.ev_machine.specs.Native as native
-use Rattle.ev_prims.specs.Orders.{order_in, test_in}
+use Rattle.ev_prims.specs.Orders.{order_in}
 
 pub order_of_is : (a b : ℕ) → native.order_of a b ≡ order_in (nat_cmp a b)
 unfolding native.order_of

@@ -1,17 +1,17 @@
 -- Ranges of integers.
 use Rattle.std.proofs.Common.{◌≡◌, ℕ, zero, suc, ◌+◌, ◌<◌, ◌≤◌, ℤ, pos, negsuc, Bool, true, false, List, [], ◌∷◌, ◌++◌, Result, Ok, Err, IfOk, refl, ap, sym, ◌∙◌, arith}
-use Rattle.std.specs.Prelude.{codes, ◌+ℤ◌, ◌-ℤ◌, ◌≤ℤ◌, ◌<ℤ◌, ◌^◌, int_le, nat_le, nat_abs, unsigned_abs, map}
+use Rattle.std.specs.Prelude.{codes, ◌+ℤ◌, ◌-ℤ◌, ◌≤ℤ◌, ◌<ℤ◌, int_le, nat_le, nat_abs, unsigned_abs}
 use Rattle.std.proofs.lemmas.Int.{ints}
 use Rattle.std.proofs.lemmas.Bool.Decides.{nat_tests}
 use Rattle.std.proofs.Math.IntN.{+ℤ_idr, +ℤ_assoc}
 use Rattle.ev_base.specs.declared.values.Value.{Value as Held}
 use Rattle.ev_base.specs.declared.values.Value.TheVariants.{Int}
 use Rattle.ev_heap.specs.Contents.{Contents}
-use Rattle.ev_machine.specs.Values.{Value, Number, Local}
+use Rattle.ev_machine.specs.Values.{Number, Local}
 use Rattle.ev_machine.specs.Native.{Reply, Lists, Fails, counted, gap, range_of}
 use Rattle.ev_base.specs.declared.memory.Memory.{Memory}
 use Rattle.ev_prims.specs.declared.reply.Reply.{Reply as Answer}
-use Rattle.ev_prims.specs.Reading.{reply_in, value_in, values_in}
+use Rattle.ev_prims.specs.Reading.{reply_in, values_in}
 use Rattle.ev_prims.proofs.SeqLemmas.{joined_values}
 
 -- ---- so many integers

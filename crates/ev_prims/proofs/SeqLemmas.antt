@@ -1,5 +1,5 @@
 -- What texts and lists answer, case by case.
-use Rattle.std.proofs.Common.{◌≡◌, ℕ, zero, suc, ◌+◌, ◌-◌, ◌<◌, ◌≤◌, ℤ, pos, negsuc, Bool, true, false, List, [], ◌∷◌, ◌++◌, length, get_or, take, drop, Option, Some, None, Result, Ok, Err, IfOk, refl, ap, sym, ◌∙◌, arith}
+use Rattle.std.proofs.Common.{◌≡◌, ℕ, zero, suc, ◌<◌, ℤ, List, [], ◌∷◌, ◌++◌, length, get_or, take, drop, Option, Some, None, Result, Ok, Err, IfOk, refl, ap, sym, ◌∙◌}
 use Rattle.std.specs.Prelude.{codes, map, option_map, slice_get, chars}
 use Rattle.std.proofs.lemmas.List.{length-map}
 use Rattle.std.proofs.lemmas.Option.{slice_get-map, slice_get-get_or}
@@ -7,7 +7,7 @@ use Rattle.ev_base.specs.declared.values.Value.{Value as Held}
 use Rattle.ev_base.specs.declared.values.Value.TheVariants as held
 use Rattle.ev_heap.specs.Contents.{Contents}
 use Rattle.ev_heap.specs.declared.kept.Listed.{Listed}
-use Rattle.ev_machine.specs.Values.{Words, Value, Null, Flag, Number, Letter, Text, Prim, Broken, Items, Ref, Local}
+use Rattle.ev_machine.specs.Values.{Words, Value, Number, Letter, Prim, Items, Local}
 use Rattle.ev_machine.specs.Native.{Reply, Says, Writes, Lists, Iterates, Fails, no_method, part_of, index_in, range_in, got_at, got, ran_at, ran, encoded, text_with, text_reply, text_and, list_at, list_and, list_with, list_reply, text_verb, list_verb}
 use Rattle.ev_base.specs.declared.memory.Memory.{Memory}
 use Rattle.ev_prims.specs.declared.reply.Reply.{Reply as Answer}

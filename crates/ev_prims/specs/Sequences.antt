@@ -1,5 +1,5 @@
 -- What texts and lists answer alike.
-use Rattle.std.specs.Prelude.{ℕ, pos, List, [], ◌∷◌, codes}
+use Rattle.std.specs.Prelude.{ℕ, pos, [], ◌∷◌, codes}
 use Rattle.ev_machine.specs.Values.{Words, Local, Number}
 use Rattle.ev_machine.specs.Free.{entry}
 use Rattle.ev_machine.specs.Native.{Reply, Says, no_method}

@@ -4,7 +4,8 @@ ghost use Rattle.std.specs.Prelude.{◌≡◌};
 ghost use Rattle.ev_machine.specs.Free.{same_words};
 ghost use Rattle.ev_prims.specs.Verbs.{list_verb_named, text_verb_named};
 
-/// Whether a verb has this name.
+/// Whether a verb has this name. Its clause keeps the name as one text, and a test by `==` becomes one on each byte: for a long
+/// name that is too much for the proofs of what a verb answers.
 #[tactic(auto, using(crate::proofs::VerbLemmas::same_turned))]
 pub(crate) fn is_verb(verb: &str, name: &str) -> bool
     ensures { result ≡ same_words name.now verb.now }

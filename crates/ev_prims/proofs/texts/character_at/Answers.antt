@@ -1,5 +1,5 @@
 use Rattle.std.proofs.Common.{arith}
-use Rattle.ev_prims.proofs.TextLemmas.{seeks_more, seeks_here, seeks_past}
+use Rattle.ev_prims.proofs.TextLemmas.{seeks_more, seeks_past}
 use Rattle.ev_prims.proofs.texts.character_at.Goals as goal
 
 pub loop-c-preserved : goal.loop-c-preserved
