@@ -1,6 +1,6 @@
 -- What holds of names in every world of every run.
 use Rattle.std.specs.Prelude.{◌≡◌, ℕ, zero, ◌<◌, List, ◌∷◌, ◌++◌, Some, true, false, slice_get, length, codes}
-use Rattle.ev_machine.specs.Values.{Value, Broken, Ref, Name, Promise, Answer, Gift, Foreign, spot_of, NoObject, same_name}
+use Rattle.ev_machine.specs.Values.{Value, Broken, Ref, Name, Msg, Promise, Answer, Gift, Sent, Foreign, spot_of, NoObject, same_name}
 use Rattle.ev_machine.specs.State.{Vat, is_in}
 use Rattle.ev_machine.specs.Refs.{follow}
 use Rattle.ev_machine_laws.specs.Breaks.{AtRest, settled_value}

@@ -4,7 +4,7 @@ use Rattle.ev_machine.specs.Values.{Value, Name, Gift, Naming, naming, name_of, 
 use Rattle.ev_machine.specs.State.{Unsettled, Viewed, Settled, Known, Wait, See, Ask, Shorten, GiftEntry, Put, Vat, ◌>>=◌, ◌>>◌, and_then, give, look, tell, alter, come, draw, draws, drawn_at, send_out, new_gift, with_change, changed, changed_to, unless_settled, begun}
 use Rattle.ev_machine.specs.Refs.{entry_of, standing_of, standing_in, host_at}
 use Rattle.ev_machine.specs.Arrive as arrive
-use Rattle.ev_name_laws.specs.Names.{IsEventual}
+use Rattle.ev_name_laws.specs.Names.{IsAmong, IsEventual}
 use Rattle.ev_name_laws.proofs.SameNames.{reference_is, reference_self}
 use Rattle.ev_rest_laws.specs.Views.{IsOpen, index_at, Awaits, ViewsWait}
 use Rattle.ev_rest_laws.proofs.Entries.{SameOr, same_or, changed_at, Knows, index_changed, index_append, index_less, index_last, unless_either, mild_wait}

@@ -4,6 +4,7 @@ use Rattle.ev_machine.specs.Values.{Value, Name, same_reference, Naming, naming}
 use Rattle.ev_machine.specs.State.{Standing, Unsettled, WaitsOn, Viewed, Settled, Known, Change, Hold, Wait, WaitOn, See, React, ToTell, Settle, with_change, changed, changed_to, unless_settled, begun}
 use Rattle.ev_machine.specs.Refs.{entry_of, standing_of, standing_in}
 use Rattle.ev_machine_laws.specs.Breaks.{still_waits}
+use Rattle.ev_name_laws.specs.Names.{IsEventual}
 use Rattle.ev_name_laws.proofs.SameNames.{reference_is, reference_self}
 use Rattle.ev_name_laws.proofs.Tracked.{same_name as name_stays}
 

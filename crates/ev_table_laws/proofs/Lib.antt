@@ -9,3 +9,4 @@ pub mod Steps
 pub mod Bounds
 pub mod OwnTargets
 pub mod KnownRuns
+pub mod VatTables

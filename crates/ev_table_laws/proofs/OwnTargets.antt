@@ -1,7 +1,7 @@
 -- A message on an object of this vat is queued, so it brings no answer of another host.
 use Rattle.std.proofs.Common.{◌≡◌, ℕ, ◌+◌, ◌≤◌, Bool, true, false, List, [], ◌∷◌, ◌++◌, Option, Some, None, refl, sym, subst, arith, length, ◌==◌}
 use Rattle.std.proofs.lemmas.Bool.{eqb-true, eq-eqb}
-use Rattle.ev_machine.specs.Values.{Words, Value, Ref, Name, Root, Object, Promise, Answer, Gift, Sent, Naming, IsAnswer, IsCarried, naming, name_of, mail_of, answer_of, Spot, Own, Foreign, NoObject, spot_of, same_reference}
+use Rattle.ev_machine.specs.Values.{Words, Value, Ref, Name, Root, Object, Promise, Answer, Gift, Sent, Naming, IsAnswer, IsCarried, naming, name_of, mail_of, answer_of, Spot, Own, Foreign, NoObject, spot_of, same_name, same_reference}
 use Rattle.ev_machine.specs.State.{Message, Known, ToTell, Passeds, Note, Deliver, Open, Ask, SettledTo, Elsewhere, Shorten, Vat, Done, Gives, Throws, Ejects, Stops, ◌>>=◌, ◌>>◌, and_then, give, look, come, mail, alter, with_change, begun}
 use Rattle.ev_machine.specs.Refs as refs
 use Rattle.ev_machine.specs.Refs.{Place, Near, settle, send_on}
@@ -13,6 +13,16 @@ use Rattle.ev_table_laws.specs.Runs.{allowed, other, is_own_name, is_own, answer
 use Rattle.ev_table_laws.proofs.Claims.{claims_end, with_change_adds, added}
 use Rattle.ev_table_laws.proofs.Costs.{after_here, after_more, after_trans, free_enqueue, free_to_tell, free_mail, known_after}
 use Rattle.ev_table_laws.proofs.ArriveCosts.{arrive_after, costs_learn_all}
+
+-- references that are the same have the same name
+same_less : (a b : Name) → once (same_reference a b) ≤ once (same_name a b)
+unfolding same_reference once
+same_less (Root w) b = omega arith
+same_less (Object w i) b = omega arith
+same_less (Promise w i) b = omega arith
+same_less (Answer w m) b = omega arith
+same_less (Gift w i) b = omega arith
+same_less (Sent m) b = omega arith
 
 module _ (v : ℕ) (word : ℕ → ℕ) (i : ℕ) where
   abbrev K : Naming Name Name
@@ -31,7 +41,7 @@ module _ (v : ℕ) (word : ℕ → ℕ) (i : ℕ) where
   no_entry : (ks : List (Known Name)) → claims v It ks ≤ 0 → refs.entry_of K ks It ≡ None
   unfolding refs.entry_of claims naming one
   no_entry [] h = refl
-  no_entry (k ∷ ks) h = entry_where (same_reference k.name It) k (refs.entry_of K ks It) (omega arith) (no_entry ks (omega arith))
+  no_entry (k ∷ ks) h = entry_where (same_reference k.name It) k (refs.entry_of K ks It) (let less = same_less k.name It in omega arith) (no_entry ks (omega arith))
 
   spot_mine : spot_of v It ≡ Own i
   unfolding spot_of

@@ -2,3 +2,4 @@ pub mod Returns
 pub mod Exports
 pub mod Knowing
 pub mod Runs
+pub mod Tables

@@ -6,6 +6,7 @@ ghost use Rattle.ev_table_laws.specs.Exports.{ExportsAreDistinct, PositionsAreOf
 ghost use Rattle.ev_table_laws.specs.Knowing.{StepsKnowOnce};
 ghost use Rattle.ev_table_laws.specs.Returns.{AMessageReturns};
 ghost use Rattle.ev_table_laws.specs.Runs.{NamesAreKnownOnce};
+ghost use Rattle.ev_table_laws.specs.Tables.{TablesTellThingsApart};
 
 /// The names that a vat exported to another, in the order of their positions, differ pairwise, and
 /// the exporter is the host of each.
@@ -49,4 +50,14 @@ pub fn steps_know_once()
 /// notes of every run bring what is new is not proved.
 pub fn names_are_known_once()
     ensures { NamesAreKnownOnce }
+{}
+
+/// The table of each vat, by which its numbers are read, tells things apart: the names that it knows are roots, promises,
+/// answers and gifts and differ pairwise, the messages that it has had are messages, what other vats exported to it is
+/// theirs, and no two positions are of one object. So the theorem on numbers can be applied to it.
+///
+/// It is so after any of the opening turns, and after all of them and any entries of a schedule by which each note that
+/// arrives brings what is new. No vat of the script may be told twice that it knows a vat, or that it knows itself.
+pub fn tables_tell_things_apart()
+    ensures { TablesTellThingsApart }
 {}
