@@ -1,0 +1,12 @@
+pub mod AskLemmas
+pub mod Casts
+pub mod DataLemmas
+pub mod FlagLemmas
+pub mod FormLemmas
+pub mod IntegerLemmas
+pub mod OrderLemmas
+pub mod PrimitiveLemmas
+pub mod RangeLemmas
+pub mod SeqLemmas
+pub mod TextLemmas
+pub mod VerbLemmas

@@ -1,0 +1,9 @@
+pub mod Asking
+pub mod Forms
+pub mod Orders
+pub mod Primitives
+pub mod Problems
+pub mod Reading
+pub mod Sequences
+pub mod Taking
+pub mod Verbs

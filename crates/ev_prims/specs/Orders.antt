@@ -1,0 +1,19 @@
+-- Orders and their tests, as those of the machine.
+use Rattle.std.specs.Prelude.{Bool, not}
+use Rattle.std.specs.declared.cmp.Ordering.{Ordering}
+use Rattle.std.specs.declared.cmp.Ordering.TheVariants as code
+use Rattle.ev_machine.specs.Native as native
+use Rattle.ev_prims.specs.declared.order.Test.{Test}
+use Rattle.ev_prims.specs.declared.order.Test.TheVariants.{LessThan, AtMost, AsBigAs, AtLeast, GreaterThan}
+
+abbrev pub order_in : Ordering → native.Order
+order_in code.Less = native.Less
+order_in code.Equal = native.Equal
+order_in code.Greater = native.Greater
+
+abbrev pub test_in : Test → native.Order → Bool
+test_in LessThan = native.is_less
+test_in AtMost = λ o. not (native.is_more o)
+test_in AsBigAs = native.is_equal
+test_in AtLeast = λ o. not (native.is_less o)
+test_in GreaterThan = native.is_more

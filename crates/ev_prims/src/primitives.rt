@@ -1,0 +1,173 @@
+//! The primitives of the safe scope, by their numbers.
+
+ghost use Rattle.std.specs.Prelude.{◌≡◌, ◌<◌, option_map};
+ghost use Rattle.ev_heap.specs.Contents.{Contents};
+ghost use Rattle.ev_machine.specs.Native as native;
+ghost use Rattle.ev_prims.specs.Primitives.{IsBare, guard_in, kind_in, primitive_in};
+ghost use Rattle.ev_prims.specs.Reading.{reply_in, value_in};
+
+use crate::problem::Problem;
+use crate::reply::Reply;
+use ev_base::{PrimId, Value};
+
+/// The first number of a guard that takes null as well.
+const FIRST_WITH_NULL: u8 = 32;
+
+/// What a native guard wants.
+#[derive(Clone, Copy, Debug, PartialEq, Eq)]
+pub enum Kind {
+    Any,
+    Void,
+    Int,
+    Boolean,
+    Char,
+    Text,
+    List,
+    Null,
+    Near,
+    Frozen,
+}
+
+/// A native guard: what it wants, and whether null will do as well.
+#[derive(Clone, Copy, Debug, PartialEq, Eq)]
+pub struct Guard {
+    pub kind: Kind,
+    pub or_null: bool,
+}
+
+/// A primitive of the safe scope.
+#[derive(Clone, Copy, Debug, PartialEq, Eq)]
+pub enum Primitive {
+    MakeList,
+    Equalizer,
+    Comparer,
+    Looper,
+    Sender,
+    References,
+    Thrower,
+    StampReader,
+    Guarding(Guard),
+    /// No primitive has that number.
+    NoPrimitive,
+}
+
+/// A native guard that takes null only where its kind does.
+fn guarding(kind: Kind) -> Primitive
+    ensures guard { primitive_in result ≡ native.Guarding (kind_in kind) }
+    ensures bare { IsBare result }
+{
+    Primitive::Guarding(Guard {
+        kind,
+        or_null: false,
+    })
+}
+
+/// The primitive that stands at a place of the safe scope.
+#[tactic(auto, using(crate::proofs::PrimitiveLemmas::numbered_past), unfolding(ev_machine::specs::Native::numbered, ev_machine::specs::Native::primitives))]
+fn numbered(place: u8) -> Primitive
+    ensures number { primitive_in result ≡ native.numbered place }
+    ensures bare { IsBare result }
+{
+    match place {
+        0 => Primitive::MakeList,
+        1 => Primitive::Equalizer,
+        2 => Primitive::Comparer,
+        3 => Primitive::Looper,
+        4 => Primitive::Sender,
+        5 => Primitive::References,
+        6 => Primitive::Thrower,
+        7 => Primitive::StampReader,
+        8 => guarding(Kind::Any),
+        9 => guarding(Kind::Void),
+        10 => guarding(Kind::Int),
+        11 => guarding(Kind::Boolean),
+        12 => guarding(Kind::Char),
+        13 => guarding(Kind::Text),
+        14 => guarding(Kind::List),
+        15 => guarding(Kind::Null),
+        16 => guarding(Kind::Near),
+        17 => guarding(Kind::Frozen),
+        _ => Primitive::NoPrimitive,
+    }
+}
+
+/// The guard that takes null as well, of a guard that does not.
+#[tactic(auto, unfolding(ev_machine::specs::Native::with_null))]
+fn with_null(primitive: Primitive) -> Primitive
+    requires { IsBare primitive }
+    ensures { primitive_in result ≡ native.with_null (primitive_in primitive) }
+{
+    match primitive {
+        Primitive::Guarding(guard) => match guard.kind {
+            Kind::Null => Primitive::NoPrimitive,
+            kind => Primitive::Guarding(Guard {
+                kind,
+                or_null: true,
+            }),
+        },
+        _ => Primitive::NoPrimitive,
+    }
+}
+
+/// The primitive of that number. From 32 on they are the guards that take null as well, each by the number of its guard.
+#[tactic(auto, using(crate::proofs::PrimitiveLemmas::primitive_low, crate::proofs::PrimitiveLemmas::primitive_high))]
+pub fn primitive_of(number: PrimId) -> Primitive
+    ensures { primitive_in result ≡ native.primitive number }
+{
+    if number.0 < FIRST_WITH_NULL {
+        numbered(number.0)
+    } else {
+        with_null(numbered(number.0 - FIRST_WITH_NULL))
+    }
+}
+
+/// The native guard of that number, and none where the primitive of that number is none.
+#[tactic(auto, unfolding(ev_machine::specs::Native::native_guard))]
+pub fn native_guard(number: PrimId) -> Option<Guard>
+    ensures { option_map guard_in result ≡ native.native_guard (native.primitive number) }
+{
+    match primitive_of(number) {
+        Primitive::Guarding(guard) => Some(guard),
+        _ => None,
+    }
+}
+
+/// The guard that takes null as well as this primitive of a number below 32.
+#[tactic(auto, unfolding(ev_machine::specs::Native::null_or))]
+fn null_or_bare(primitive: Primitive, number: PrimId) -> Reply
+    requires low { number < 32 }
+    requires bare { IsBare primitive }
+    ensures { (h : Contents) → reply_in h result ≡ native.null_or number (primitive_in primitive) }
+{
+    match primitive {
+        Primitive::Guarding(guard) => match guard.kind {
+            Kind::Null => Reply::Fails(Problem::BadArgument),
+            _ => Reply::Says(Value::Prim(PrimId(FIRST_WITH_NULL + number.0))),
+        },
+        _ => Reply::Fails(Problem::BadArgument),
+    }
+}
+
+/// The guard that takes null as well as the primitive of that number.
+#[tactic(auto, using(crate::proofs::PrimitiveLemmas::null_or_low, crate::proofs::PrimitiveLemmas::null_or_high))]
+fn null_or_number(number: PrimId) -> Reply
+    ensures { (h : Contents) → reply_in h result ≡ native.null_or number (native.primitive number) }
+{
+    if number.0 < FIRST_WITH_NULL {
+        null_or_bare(numbered(number.0), number)
+    } else {
+        Reply::Fails(Problem::BadArgument)
+    }
+}
+
+/// The guard that takes null as well as what a followed native guard takes. Anything else, and a guard that takes null itself,
+/// is a bad argument.
+#[tactic(auto, unfolding(ev_machine::specs::Native::null_or_reply))]
+pub fn null_or(x: Value) -> Reply
+    ensures { (h : Contents) → reply_in h result ≡ native.null_or_reply (value_in h x) }
+{
+    match x {
+        Value::Prim(number) => null_or_number(number),
+        _ => Reply::Fails(Problem::BadArgument),
+    }
+}
