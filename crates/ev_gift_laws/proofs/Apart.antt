@@ -1,4 +1,4 @@
--- The notes of a run bring what is new, where the gifts of each note that arrives stand apart, and of all other names it brings what is new.
+-- The notes of a run bring what is new, where the gifts of each note that arrives stand apart.
 use Rattle.std.proofs.Common.{◌≡◌, ℕ, zero, suc, ◌+◌, ◌≤◌, ◌<◌, Bool, true, false, List, [], ◌∷◌, ◌++◌, Some, refl, sym, ap, ◌∙◌, inl, inr, subst, arith, length}
 use Rattle.std.specs.Prelude.{slice_get, nat_le}
 use Rattle.std.proofs.lemmas.Bool.{eqb-true, le-leb}
@@ -17,6 +17,8 @@ use Rattle.ev_name_laws.proofs.Laws.{names_made}
 use Rattle.ev_table_laws.specs.Knowing.{one, onward_all, claims}
 use Rattle.ev_table_laws.specs.Runs.{allowed, brings_here, EntryBringsNew, NotesBringNew, NamesDiffer}
 use Rattle.ev_table_laws.proofs.KnownRuns.{names_are_known_once}
+use Rattle.ev_answer_laws.specs.Bring.{IsNoGift}
+use Rattle.ev_answer_laws.proofs.SingleRuns.{notes_bring_new_but_gifts}
 use Rattle.ev_gift_laws.specs.Apart.{EntryApart, AllApart, NewWhereApart}
 use Rattle.ev_gift_laws.proofs.Laws.{reached_is}
 use Rattle.ev_gift_laws.proofs.Reading.{most_is, full_is, one_other, onward_none, unclaimed}
@@ -136,13 +138,16 @@ module _ (script : Script) where
     entry_news front w b st (NoticeLink v u) a = tt
     entry_news front w b st (Carry from to) a = λ l n ns s i j q. news l n ns s i j q
       where
+        others : (l : world.Link) (n : Note Name) (ns : List (Note Name)) (s : Vat Name) → world.link_at from to w.links ≡ Some l → l.notes ≡ n ∷ ns → slice_get w.vats to ≡ Some s → (x : Name) → IsNoGift x → claims to x s.known + brings_here to x from s.gifts (read_note (names_of s) n) ≤ allowed to x s (length w.drawn)
+        others l n ns s i j q x o = (notes_bring_new_but_gifts script known).1 w0 w front k0 opened st from to l n ns s i j q x o
+
         news : (l : world.Link) (n : Note Name) (ns : List (Note Name)) (s : Vat Name) → world.link_at from to w.links ≡ Some l → l.notes ≡ n ∷ ns → slice_get w.vats to ≡ Some s → (x : Name) → claims to x s.known + brings_here to x from s.gifts (read_note (names_of s) n) ≤ allowed to x s (length w.drawn)
-        news l n ns s i j q (Gift h g) = (gifts_come_new script known).1 w0 w front k0 opened st from to l n ns s i j q (a l n ns s i j q).0 h g (claims_fit front w b st to s q h g)
-        news l n ns s i j q (Root u) = (a l n ns s i j q).1 (Root u) tt
-        news l n ns s i j q (Object u m) = (a l n ns s i j q).1 (Object u m) tt
-        news l n ns s i j q (Promise u m) = (a l n ns s i j q).1 (Promise u m) tt
-        news l n ns s i j q (Answer u m) = (a l n ns s i j q).1 (Answer u m) tt
-        news l n ns s i j q (Sent m) = (a l n ns s i j q).1 (Sent m) tt
+        news l n ns s i j q (Gift h g) = (gifts_come_new script known).1 w0 w front k0 opened st from to l n ns s i j q (a l n ns s i j q) h g (claims_fit front w b st to s q h g)
+        news l n ns s i j q (Root u) = others l n ns s i j q (Root u) tt
+        news l n ns s i j q (Object u m) = others l n ns s i j q (Object u m) tt
+        news l n ns s i j q (Promise u m) = others l n ns s i j q (Promise u m) tt
+        news l n ns s i j q (Answer u m) = others l n ns s i j q (Answer u m) tt
+        news l n ns s i j q (Sent m) = others l n ns s i j q (Sent m) tt
 
     goes_on : (es front : List Entry) (k : ℕ) (w : World) → k ≡ k0 + length front → NotesBringNew script front k0 w0 → world.steps_from script front k0 w0 ≡ Going w → AllApart script es k w → NotesBringNew script es k w
     goes_on [] front k w n b st a = tt

@@ -1,25 +1,15 @@
--- That the notes of a run bring what is new, where the gifts of each note that arrives stand apart, and of all other names it brings what is new.
-use Rattle.std.specs.Prelude.{◌≡◌, ℕ, zero, suc, ◌+◌, ◌≤◌, List, [], ◌∷◌, Some, length, slice_get}
-use Rattle.ev_machine.specs.Values.{Name, Root, Object, Promise, Answer, Gift, Sent}
+-- That the notes of a run bring what is new, where the gifts of each note that arrives stand apart.
+use Rattle.std.specs.Prelude.{◌≡◌, ℕ, zero, suc, List, [], ◌∷◌, Some, slice_get}
+use Rattle.ev_machine.specs.Values.{Name}
 use Rattle.ev_machine.specs.State.{Note, Vat}
-use Rattle.ev_run.specs.World.{Script, Entry, Turn, Carry, CutLink, NoticeLink, Link, World, Goes, link_at, read_note, names_of, begins, open_from, step}
+use Rattle.ev_run.specs.World.{Script, Entry, Turn, Carry, CutLink, NoticeLink, Link, World, Goes, link_at, begins, open_from, step}
 use Rattle.ev_name_laws.specs.Runs.{KnowsOnce}
-use Rattle.ev_table_laws.specs.Knowing.{claims}
-use Rattle.ev_table_laws.specs.Runs.{allowed, brings_here, NotesBringNew}
+use Rattle.ev_table_laws.specs.Runs.{NotesBringNew}
 use Rattle.ev_gift_laws.specs.News.{GiftsApart}
-
-abbrev pub IsNoGift : Name → Type 0
-IsNoGift (Gift h i) = ⊥
-IsNoGift (Root w) = Unit {0}
-IsNoGift (Object w i) = Unit {0}
-IsNoGift (Promise w i) = Unit {0}
-IsNoGift (Answer h m) = Unit {0}
-IsNoGift (Sent m) = Unit {0}
 
 -- of the first note on the link that an entry carries from
 abbrev pub EntryApart : World → Entry → Type 0
-EntryApart w (Carry from to) = (l : Link) (n : Note Name) (ns : List (Note Name)) (s : Vat Name) → link_at from to w.links ≡ Some l → l.notes ≡ n ∷ ns → slice_get w.vats to ≡ Some s
-    → GiftsApart to n s × ((x : Name) → IsNoGift x → claims to x s.known + brings_here to x from s.gifts (read_note (names_of s) n) ≤ allowed to x s (length w.drawn))
+EntryApart w (Carry from to) = (l : Link) (n : Note Name) (ns : List (Note Name)) (s : Vat Name) → link_at from to w.links ≡ Some l → l.notes ≡ n ∷ ns → slice_get w.vats to ≡ Some s → GiftsApart to n s
 EntryApart w (Turn v) = Unit {0}
 EntryApart w (CutLink v u) = Unit {0}
 EntryApart w (NoticeLink v u) = Unit {0}

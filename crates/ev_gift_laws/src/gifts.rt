@@ -62,8 +62,7 @@ pub fn gifts_come_new()
 {}
 
 /// So the notes of a run bring what is new, as `names_are_known_once` asks of them, where the gifts of
-/// each note that arrives stand apart and where, of all names that are no gifts, it brings each once at
-/// most and none that is claimed at the receiver.
+/// each note that arrives stand apart: of all other names `ev_answer_laws` says it of every run.
 pub fn notes_bring_new_where_gifts_stand_apart()
     ensures { NewWhereApart }
 {}
