@@ -62,7 +62,7 @@ module _ (script : Script) where
   -- ---- a note is taken from a link
 
   module _ (vs : List (Vat Name)) (ls : List Link) (a v : ℕ) (n : Note Name) (ns : List (Note Name)) (l : Link) (at : link_at a v ls ≡ Some l) (notes : l.notes ≡ n ∷ ns) where
-    taken_known : NotesKnown vs ls → NotesKnown vs (with_link (with_notes ns) a v ls)
+    pub taken_known : NotesKnown vs ls → NotesKnown vs (with_link (with_notes ns) a v ls)
     unfolding with_notes
     taken_known h c d s e = with_any c d a v (AllKnown s) (with_notes ns) (fits_notes c d ns) ls
         (λ k i x y. (tail_of (NoteOk (KnowsIn s)) k l n ns (h c d s e k i) (same_link c d a v ls k l i at x y) notes).1) (λ k i f. h c d s e k i)

@@ -65,11 +65,11 @@ module _ (script : Script) (w : World) where
         → y.vats ≡ put_at v t w.vats → y.links ≡ push_all v t.outbox (with_link (with_notes ns) a v w.links) → y.drawn ≡ t.drawn
         → ((g : ℕ) (m : Msg) → (g ≡ v → ⊥) → NamesNot (Answer g m) n → FirstOut g m s t) → FreshOut v s t → Moved y
 
-get_mid : (front : List Program) (p : Program) (ps : List Program) → slice_get (front ++ p ∷ ps) (length front) ≡ Some p
+pub get_mid : (front : List Program) (p : Program) (ps : List Program) → slice_get (front ++ p ∷ ps) (length front) ≡ Some p
 get_mid [] p ps = refl
 get_mid (f ∷ fs) p ps = get_mid fs p ps
 
-going_is : (w x : World) → Going w ≡ Going x → w ≡ x
+pub going_is : (w x : World) → Going w ≡ Going x → w ≡ x
 going_is w x e = cc
 
 module _ (script : Script) where
@@ -193,7 +193,7 @@ module _ (script : Script) where
   steps_end (d ∷ ds) entry k w0 w y e f = then_end (world.step script d k w0) (world.steps_from script ds (suc k)) (world.steps_from script (ds ++ entry ∷ []) (suc k)) w y e
       (λ z i j. steps_end ds entry (suc k) z w y j (let n : k + suc (length ds) ≡ suc k + length ds = omega arith in rw n at f))
 
-  opens_end : (ds : List Program) (p : Program) (v : ℕ) (w0 w y : World) → world.open_from script v ds w0 ≡ Going w → world.open_vat script (v + length ds) p w ≡ Going y → world.open_from script v (ds ++ p ∷ []) w0 ≡ Going y
+  pub opens_end : (ds : List Program) (p : Program) (v : ℕ) (w0 w y : World) → world.open_from script v ds w0 ≡ Going w → world.open_vat script (v + length ds) p w ≡ Going y → world.open_from script v (ds ++ p ∷ []) w0 ≡ Going y
   unfolding world.open_from
   opens_end [] p v w0 w y e f = let i : v + 0 ≡ v = omega arith in let same : w0 ≡ w = going_is w0 w e in then_last (world.open_vat script v p w0) y (rw same (rw i at f))
   opens_end (d ∷ ds) p v w0 w y e f = then_end (world.open_vat script v d w0) (world.open_from script (suc v) ds) (world.open_from script (suc v) (ds ++ p ∷ [])) w y e
