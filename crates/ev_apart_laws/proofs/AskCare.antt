@@ -276,11 +276,14 @@ module _ (g i : ℕ) where
       had_ends s p j (Some x) h m = (λ n a. a, h, m.0)
       had_ends s p j None h m = let n : Name = Gift s.number j in let x : GiftEntry Name = record { name = n; provider = p; number = j; opened = false } in
           let t : Vat Name = record s { known = s.known ++ begun n s.number ∷ [] } in let u : Vat Name = record t { gifts = t.gifts ++ x ∷ [] } in let known = last_known s n s.number in
-          let parts = with_known K Asks asks_under s t n s.number (one_more s n s.number) known h in
-          (one_more s n s.number, record {
-            parts = record { things = parts.things; slots = parts.slots; lists = parts.lists; queue = parts.queue; known = parts.known; gifts = all_end (GiftOk (Has (names_in t.known))) s.gifts x parts.gifts (known, tt); outbox = parts.outbox };
-            more = (let k = h.more in k.0, λ a. had_why s j x refl (let k = h.more in k.0) (let k = h.more in k.1) a);
-          }, known)
+          let parts = with_known K Asks asks_under s t n s.number (one_more s n s.number) known h in (
+            one_more s n s.number,
+            record {
+              parts = record { things = parts.things; slots = parts.slots; lists = parts.lists; queue = parts.queue; known = parts.known; gifts = all_end (GiftOk (Has (names_in t.known))) s.gifts x parts.gifts (known, tt); outbox = parts.outbox };
+              more = (let k = h.more in k.0, λ a. had_why s j x refl (let k = h.more in k.0) (let k = h.more in k.1) a);
+            },
+            known,
+          )
 
       had_fine : {C : Fact Name} (p j : ℕ) → Fine Asks C (arrive.have_gift K p j) IsName
       unfolding arrive.have_gift ◌>>=◌ and_then look
@@ -311,8 +314,11 @@ module _ (g i : ℕ) where
           either : IsAmong X (names_in s.known) ⊎ (X ≡ Gift h j) → IsAmong X (names_in s.known) ⊎ (IsAmong X (names_in s.known) → ⊥) → Why (record s { outbox = s.outbox ++ record { to = h; note = Ask p j (Gift h j) } ∷ [] })
           either (inl b) d = why_put s (record { to = h; note = Ask p j (Gift h j) }) (o b)
           either (inr x) (inl b) = why_put s (record { to = h; note = Ask p j (Gift h j) }) (o b)
-          either (inr x) (inr n) = let same = same_gift h j x in inr (inr ((λ y. f (sym same.0 ∙ y)), inl (first_last s.outbox (record { to = h; note = Ask p j (Gift h j) })
-              (all_map (λ r k. note_up (Has (names_in s.known)) (Avoids X) (avoids (names_in s.known) n) r.note k.0) s.outbox sound.parts.outbox) (sym same.0, sym same.1))))
+          either (inr x) (inr n) = let same = same_gift h j x in inr (inr (
+            (λ y. f (sym same.0 ∙ y)),
+            inl (first_last s.outbox (record { to = h; note = Ask p j (Gift h j) })
+                (all_map (λ r k. note_up (Has (names_in s.known)) (Avoids X) (avoids (names_in s.known) n) r.note k.0) s.outbox sound.parts.outbox) (sym same.0, sym same.1)),
+          ))
 
       asked_sound : (s : Vat Name) (p h j : ℕ) → (h ≡ v → ⊥) → Sound Asks s → Sound Asks (record s { known = s.known ++ begun (Gift h j) h ∷ []; outbox = s.outbox ++ record { to = h; note = Ask p j (Gift h j) } ∷ [] })
       asked_sound s p h j f sound = let t : Vat Name = record s { known = s.known ++ begun (Gift h j) h ∷ [] } in let parts = with_known K Asks asks_under s t (Gift h j) h (one_more s (Gift h j) h) (last_known s (Gift h j) h) sound in let k = sound.more in

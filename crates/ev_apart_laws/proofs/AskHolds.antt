@@ -143,7 +143,7 @@ module _ (script : Script) where
     unfolding world.open_from
     opened_holds ps rest w i e = opens_hold [] ps rest (world.begins script) w i refl begins_holds e
 
-    cuts_noticed : (w0 w : World) (ds : List Entry) (k0 : ℕ) → NoticesFollowCuts ds → world.open_from script zero script.vats (world.begins script) ≡ Going w0 → world.steps_from script ds k0 w0 ≡ Going w → NoticedCut w
+    pub cuts_noticed : (w0 w : World) (ds : List Entry) (k0 : ℕ) → NoticesFollowCuts ds → world.open_from script zero script.vats (world.begins script) ≡ Going w0 → world.steps_from script ds k0 w0 ≡ Going w → NoticedCut w
     cuts_noticed w0 w ds k0 f o d v s e u i = (noticed_links_cut script once w0 w ds k0 f o d v s e u i).1
 
     steps_hold : (w0 : World) (k0 : ℕ) → world.open_from script zero script.vats (world.begins script) ≡ Going w0 → (ds es : List Entry) (k : ℕ) (w x : World) → NoticesFollowCuts (ds ++ es) → k ≡ k0 + length ds → world.steps_from script ds k0 w0 ≡ Going w → Holds w → world.steps_from script es k w ≡ Going x → Holds x

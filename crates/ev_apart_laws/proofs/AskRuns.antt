@@ -119,7 +119,7 @@ module _ (script : Script) where
     unfolding names_of readied
     note_held t from n d g i tells = let k = stands.vats v s there in
         let sound = arrives_sound script w v s (Asks g i v (Was g i)) (asks_under g i v (Was g i) (draw_word script.key)) (asks_makes g i v (Was g i) (draw_word script.key)) (Had script w v s) k.parts up (more_is g i) its_roots t from n _
-            (note_asks g i v (Was g i) (draw_word script.key) from (names_in s.known) n tells) (all_known (names_in s.known) (names_in s.known) (λ m a. a)) d in
+        (note_asks g i v (Was g i) (draw_word script.key) from (names_in s.known) n tells) (all_known (names_in s.known) (names_in s.known) (λ m a. a)) d in
         let m = sound.more in m.1
 
   pub stays : (w : World) (v : ℕ) (s q t : Vat Name) (what : Step Name Name) → Does script w v s q t what → (i : ℕ) → IsEntered i s.gifts → IsEntered i t.gifts

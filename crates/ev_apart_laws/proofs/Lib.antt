@@ -8,3 +8,4 @@ pub mod AskRuns
 pub mod AskHolds
 pub mod HideMoves
 pub mod HideRuns
+pub mod Whole

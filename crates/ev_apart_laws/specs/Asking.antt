@@ -29,11 +29,15 @@ InRunsBehindCuts P = (script : Script) → KnowsOnce script
     → ((ps rest : List Program) (w : World) → script.vats ≡ ps ++ rest → open_from script zero ps (begins script) ≡ Goes w → P w)
     × ((w x : World) (es : List Entry) (k : ℕ) → NoticesFollowCuts es → open_from script zero script.vats (begins script) ≡ Goes w → steps_from script es k w ≡ Goes x → P x)
 
+-- of the world after all opening turns and any entries alone
+abbrev pub AfterEntriesBehindCuts : (World → Type 0) → Type 0
+AfterEntriesBehindCuts P = (script : Script) → KnowsOnce script → (w x : World) (es : List Entry) (k : ℕ) → NoticesFollowCuts es → open_from script zero script.vats (begins script) ≡ Goes w → steps_from script es k w ≡ Goes x → P x
+
 -- a gift of its own that a vat knows stands among its gifts
 abbrev pub OwnGiftsStand : Type 0
 OwnGiftsStand = InRunsBehindCuts (λ w. (v i : ℕ) (s : Vat Name) → slice_get w.vats v ≡ Some s → IsAmong (Gift v i) (names_in s.known) → IsEntered i s.gifts)
 
 -- What vat u knows as a gift of vat g stands at g; or the link to g is cut; or the gift is asked for on the way there, in front of all that names it.
 abbrev pub GiftsFollowAsks : Type 0
-GiftsFollowAsks = InRunsBehindCuts (λ w. (u g i : ℕ) (s r : Vat Name) (l : Link) → slice_get w.vats u ≡ Some s → slice_get w.vats g ≡ Some r → link_at u g w.links ≡ Some l
+GiftsFollowAsks = AfterEntriesBehindCuts (λ w. (u g i : ℕ) (s r : Vat Name) (l : Link) → slice_get w.vats u ≡ Some s → slice_get w.vats g ≡ Some r → link_at u g w.links ≡ Some l
     → IsAmong (Gift g i) (names_in s.known) → IsEntered i r.gifts ⊎ ((l.cut ≡ true) ⊎ AskedFirst i (Gift g i) l.notes))
