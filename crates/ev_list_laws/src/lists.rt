@@ -1,6 +1,6 @@
 //! What lists are made of, and where their members lead.
 
-ghost use Rattle.ev_list_laws.specs.Runs.{ListsEndWhereNotesTellWell};
+ghost use Rattle.ev_list_laws.specs.Runs.{ListsEndInRuns};
 ghost use Rattle.ev_list_laws.specs.Ringless.{ArrivalsCloseNoRing, NoticeStepsCloseNoRing, TurnsCloseNoRing};
 ghost use Rattle.ev_list_laws.specs.Lists.{ListsAreThere, MembersEndInRuns, ChangesCloseNoRing, NewListsCloseNoRing, NewNamesCloseNoRing, NoticesCloseNoRing, FollowingSuffices, RinglessListsEnd, ConditionsAreNeeded};
 
@@ -82,12 +82,11 @@ pub fn notice_steps_close_no_ring()
     ensures { NoticeStepsCloseNoRing }
 {}
 
-/// In each vat of every world of a run whose notes tell well no list leads back to itself, and from
-/// each value one comes by members, each followed, after no more than as many steps as there are
-/// lists to values without members: after any of the opening turns, and after all of them and any
-/// entries of which each turn takes a message that the vat answers, and each carry brings a note as
-/// `arrivals_close_no_ring` asks; where names may settle to lists, what waits must have a host that was
-/// not noticed.
-pub fn lists_end_where_notes_tell_well()
-    ensures { ListsEndWhereNotesTellWell }
+/// In each vat of every world of every run no list leads back to itself, and from each value one comes
+/// by members, each followed, after no more than as many steps as there are lists to values without
+/// members: after any of the opening turns, and after all of them and any entries in which each notice
+/// stands behind a cut of the same two vats. No vat of the script may be told twice that it knows a
+/// vat, or that it knows itself.
+pub fn lists_end_in_runs()
+    ensures { ListsEndInRuns }
 {}
