@@ -47,10 +47,6 @@ module _ (word : ℕ → ℕ) (v : ℕ) (heed : Bool) (D : ℕ → Type 0) (Seen
   unfolding naming name_of
   gift_eventual h i k = tt
 
-  gift_host : (h i k : ℕ) → host_of (N.made (IsGift h i) k) ≡ h
-  unfolding naming name_of host_of
-  gift_host h i k = refl
-
   gift_either : (a b : Bool) → elim a [ true ↦ b | false ↦ false ] ≡ true → b ≡ true
   gift_either true b e = e
   gift_either false b e = cc

@@ -34,10 +34,6 @@ settled_waits : (y : Value Name) → still_waits (Settled y) ≡ true → ⊥
 unfolding still_waits
 settled_waits y e = no_true e
 
-view_waits : (g : Name) → still_waits (Viewed g) ≡ true → ⊥
-unfolding still_waits
-view_waits g e = no_true e
-
 open_waits : still_waits {N = Name} Unsettled ≡ true
 unfolding still_waits
 open_waits = refl

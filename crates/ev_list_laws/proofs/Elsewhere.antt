@@ -108,10 +108,6 @@ module _ (word : ℕ → ℕ) (v : ℕ) (heed : Bool) (Seen : Name → Type 0) w
     pub gifts : (p : ℕ) → gift_at p d s.gifts ≡ None
     pub waits : (h : ℕ) (p : Name) (k : Known Name) → entry_of N s.known p ≡ Some k → IsAmong (Gift h d) k.waiting → ⊥
 
-  gift_is : (h i k : ℕ) → N.made (IsGift h i) k ≡ Gift h i
-  unfolding naming name_of
-  gift_is h i k = refl
-
   gift_eventual : (h i k : ℕ) → IsEventual (N.made (IsGift h i) k)
   unfolding naming name_of
   gift_eventual h i k = tt
@@ -163,12 +159,12 @@ module _ (word : ℕ → ℕ) (v : ℕ) (heed : Bool) (Seen : Name → Type 0) w
       drawn_under h c = put_holds word v heed D Seen [] (record s { drawn = s.drawn ++ w ∷ [] }) h (Shorten n c d) tt tt (drawn_holds word v heed D Seen [] s w held)
 
       -- the state in which the gift is known
-      abbrev Known2 : List (Put Name) → List (GiftEntry Name) → ℕ → Vat Name
-      Known2 ps gs c = record s { drawn = s.drawn ++ w ∷ []; known = s.known ++ begun (Gift c d) c ∷ []; outbox = ps; gifts = gs }
+      abbrev WithGift : List (Put Name) → List (GiftEntry Name) → ℕ → Vat Name
+      WithGift ps gs c = record s { drawn = s.drawn ++ w ∷ []; known = s.known ++ begun (Gift c d) c ∷ []; outbox = ps; gifts = gs }
 
-      known_gift : (ps : List (Put Name)) (gs : List (GiftEntry Name)) (c : ℕ) → AllOf (λ (p : Put Name). NoteTells N E (s.known ++ begun (Gift c d) c ∷ []) p.note) ps → Under D (Known2 ps gs c) → AtView D E (arrive.see N n (Gift c d) (Known2 ps gs c))
+      known_gift : (ps : List (Put Name)) (gs : List (GiftEntry Name)) (c : ℕ) → AllOf (λ (p : Put Name). NoteTells N E (s.known ++ begun (Gift c d) c ∷ []) p.note) ps → Under D (WithGift ps gs c) → AtView D E (arrive.see N n (Gift c d) (WithGift ps gs c))
       unfolding arrive.see ◌>>◌ tell alter and_then
-      known_gift ps gs c puts k = let u : Vat Name = Known2 ps gs c in
+      known_gift ps gs c puts k = let u : Vat Name = WithGift ps gs c in
           (see_ends word v heed E Seen u n (Gift c d) (holds_more D E d into back u (fresh_after s w same held.2.0) puts (λ h p q e a. waits_end s (Gift c d) c d h p q new (begun_or word v heed D Seen s.known (Gift c d) p c) e a) (λ h y e. settled_end s (Gift c d) c d h y new e) k)
           (new_waits s (Gift c d) c (new.known c)) other seen drew).1
 

@@ -30,7 +30,7 @@ use Rattle.ev_list_laws.proofs.Kept.{is_in_none}
 use Rattle.ev_list_laws.proofs.Laws.{ringless_lists_end}
 use Rattle.ev_list_laws.proofs.VatStep.{Seen, LinkTrue, RingsBy, Rings}
 use Rattle.ev_list_laws.proofs.Around.{Around, each_all}
-use Rattle.ev_list_laws.proofs.StepRings.{word, N, None0, step_rings, open_rings, weaken_all}
+use Rattle.ev_list_laws.proofs.StepRings.{word, N, NoDraws, step_rings, open_rings, weaken_all}
 
 goes_is : (w x : World) → Goes w ≡ Goes x → w ≡ x
 goes_is w x e = cc
@@ -111,7 +111,7 @@ module _ (script : Script) (once : KnowsOnce script) where
   then_by P Q x (Stopped c n y) f a b e = cc
 
   abbrev Both : World → Type 0
-  Both w = RingsBy (word script) true (None0 script) w × WorldSound script false w
+  Both w = RingsBy (word script) true (NoDraws script) w × WorldSound script false w
 
   opens_rings : (v : ℕ) (ps : List Program) (w x : World) → Both w → world.open_from script v ps w ≡ Goes x → Both x
   unfolding world.open_from world.open_vat
@@ -175,7 +175,7 @@ module _ (script : Script) (once : KnowsOnce script) where
   fresh_none v p zero d h = absurd h.1.1
   fresh_none v p (suc k) d h = absurd h.1.1
 
-  fresh_names : (A : Name → Type 0) (v : ℕ) (p : Program) → NamesRest (N script v) v (None0 script) A (world.fresh script v p).known []
+  fresh_names : (A : Name → Type 0) (v : ℕ) (p : Program) → NamesRest (N script v) v (NoDraws script) A (world.fresh script v p).known []
   unfolding world.fresh world.known_root begun
   fresh_names A v p = let ks : List (Known Name) = (world.fresh script v p).known in let all : AllOf Fresh ks = fresh_all v p in record {
     here = is_in_none v;
@@ -188,23 +188,23 @@ module _ (script : Script) (once : KnowsOnce script) where
     eventual = (tt, roots_eventual p.knows);
   }
 
-  fresh_ring : (A : Name → Type 0) (v : ℕ) (p : Program) → Ringless (N script v) v (None0 script) A (world.fresh script v p).noticed (world.fresh script v p)
+  fresh_ring : (A : Name → Type 0) (v : ℕ) (p : Program) → Ringless (N script v) v (NoDraws script) A (world.fresh script v p).noticed (world.fresh script v p)
   unfolding world.fresh
   fresh_ring A v p = record { number = refl; names = fresh_names A v p; none = fresh_none v p; queue = tt; gifts = tt }
 
   some_is : (s t : Vat Name) → Some s ≡ Some t → s ≡ t
   some_is s t e = cc
 
-  fresh_from : (A : ℕ → Name → Type 0) (u : ℕ) (ps : List Program) (n : ℕ) (s : Vat Name) → slice_get (world.fresh_from script u ps) n ≡ Some s → Ringless (N script (u + n)) (u + n) (None0 script) (A (u + n)) s.noticed s
+  fresh_from : (A : ℕ → Name → Type 0) (u : ℕ) (ps : List Program) (n : ℕ) (s : Vat Name) → slice_get (world.fresh_from script u ps) n ≡ Some s → Ringless (N script (u + n)) (u + n) (NoDraws script) (A (u + n)) s.noticed s
   unfolding world.fresh_from
   fresh_from A u [] n s e = cc
-  fresh_from A u (p ∷ ps) zero s e = let same : u ≡ u + zero = omega arith in subst (λ z. Ringless (N script z) z (None0 script) (A z) s.noticed s) same (subst (λ (t : Vat Name). Ringless (N script u) u (None0 script) (A u) t.noticed t) (some_is (world.fresh script u p) s e) (fresh_ring (A u) u p))
-  fresh_from A u (p ∷ ps) (suc n) s e = let same : suc u + n ≡ u + suc n = omega arith in subst (λ z. Ringless (N script z) z (None0 script) (A z) s.noticed s) same (fresh_from A (suc u) ps n s e)
+  fresh_from A u (p ∷ ps) zero s e = let same : u ≡ u + zero = omega arith in subst (λ z. Ringless (N script z) z (NoDraws script) (A z) s.noticed s) same (subst (λ (t : Vat Name). Ringless (N script u) u (NoDraws script) (A u) t.noticed t) (some_is (world.fresh script u p) s e) (fresh_ring (A u) u p))
+  fresh_from A u (p ∷ ps) (suc n) s e = let same : suc u + n ≡ u + suc n = omega arith in subst (λ z. Ringless (N script z) z (NoDraws script) (A z) s.noticed s) same (fresh_from A (suc u) ps n s e)
 
   -- a link leads from one vat to another, and bears no note
   module _ (vats : List (Vat Name)) where
     abbrev True : Link → Type 0
-    True l = LinkTrue (word script) (None0 script) vats l
+    True l = LinkTrue (word script) (NoDraws script) vats l
 
     either_links : (b : Bool) (l : Link) (ls : List Link) → (b ≡ false → True l) → AllOf True ls → AllOf True (elim b [ true ↦ ls | false ↦ l ∷ ls ])
     either_links true l ls h i = i
@@ -223,11 +223,11 @@ module _ (script : Script) (once : KnowsOnce script) where
     links_from_true all v [] = tt
     links_from_true all v (p ∷ ps) = all_append True (world.links_to v zero all) (world.links_from all (suc v) ps) (links_to_true v zero all) (links_from_true all (suc v) ps)
 
-  begins_by : RingsBy (word script) true (None0 script) (world.begins script)
+  begins_by : RingsBy (word script) true (NoDraws script) (world.begins script)
   unfolding world.begins
   begins_by = let vats : List (Vat Name) = world.fresh_from script zero script.vats in record {
     drawn = λ i l d. d;
-    vats = λ v s e. (let same : zero + v ≡ v = omega arith in subst (λ z. Ringless (N script z) z (None0 script) (Seen (word script) vats z) s.noticed s) same (fresh_from (λ u. Seen (word script) vats u) zero script.vats v s e));
+    vats = λ v s e. (let same : zero + v ≡ v = omega arith in subst (λ z. Ringless (N script z) z (NoDraws script) (Seen (word script) vats z) s.noticed s) same (fresh_from (λ u. Seen (word script) vats u) zero script.vats v s e));
     links = links_from_true vats script.vats zero script.vats;
   }
 
@@ -242,8 +242,8 @@ module _ (script : Script) (once : KnowsOnce script) where
 
   in_all : (w x : World) (es : List Entry) (k : ℕ) → NoticesFollowCuts es → world.open_from script zero script.vats (world.begins script) ≡ Goes w → world.steps_from script es k w ≡ Goes x → ListsEndIn script x
   unfolding world.steps_from
-  in_all w x es k follows opened e = let both : Both w = opened_both script.vats w opened in let all : Rings (word script) false x = steps_rings w k opened es [] k w x (omega arith) follows refl (record { views = None0 script; by = weaken_all script w both.0 }) both.1 e in
+  in_all w x es k follows opened e = let both : Both w = opened_both script.vats w opened in let all : Rings (word script) false x = steps_rings w k opened es [] k w x (omega arith) follows refl (record { views = NoDraws script; by = weaken_all script w both.0 }) both.1 e in
       ends_in false all.views x all.by
 
 pub lists_end_in_runs : ListsEndInRuns
-lists_end_in_runs script once = (λ ps rest w i e. ends_in script once true (None0 script) w (opened_both script once ps w e).0, λ w x es k follows opened e. in_all script once w x es k follows opened e)
+lists_end_in_runs script once = (λ ps rest w i e. ends_in script once true (NoDraws script) w (opened_both script once ps w e).0, λ w x es k follows opened e. in_all script once w x es k follows opened e)

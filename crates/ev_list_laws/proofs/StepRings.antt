@@ -314,21 +314,21 @@ module _ (script : Script) where
 
   -- ---- the opening turns
 
-  abbrev pub None0 : ℕ → Type 0
-  None0 i = ⊥
+  abbrev pub NoDraws : ℕ → Type 0
+  NoDraws i = ⊥
 
-  open_ends : (v : ℕ) (p : Program) (w : World) (s : Vat Name) → RingsBy word true None0 w → WorldSound script false w → slice_get w.vats v ≡ Some s
-      → After (λ r t. Sound (N v) false t × Ringless (N v) v None0 (Seen word w.vats v) t.noticed t × TellsSo (N v) None0 t) (readied w s) (does (N v) (Opens p.tree script.depth (Root v) (world.given script.vats p.knows)) (readied w s))
+  open_ends : (v : ℕ) (p : Program) (w : World) (s : Vat Name) → RingsBy word true NoDraws w → WorldSound script false w → slice_get w.vats v ≡ Some s
+      → After (λ r t. Sound (N v) false t × Ringless (N v) v NoDraws (Seen word w.vats v) t.noticed t × TellsSo (N v) NoDraws t) (readied w s) (does (N v) (Opens p.tree script.depth (Root v) (world.given script.vats p.knows)) (readied w s))
   unfolding readied host_of names
   open_ends v p w s h sound e = let A : Name → Type 0 = Seen word w.vats v in let here : Sound (N v) false s = sound_at v w s sound e in
-      turns_keep None0 A word v (Opens p.tree script.depth (Root v) (world.given script.vats p.knows)) (readied w s) (refl, λ i. i) (ready_sound v w s here) (λ b. absurd (no_true b), given_well script false (λ b. absurd (no_true b)) v (readied w s) p.knows) (ready_tells None0 A v w s h.drawn) (ready_same None0 A v true w s here (h.vats v s e))
+      turns_keep NoDraws A word v (Opens p.tree script.depth (Root v) (world.given script.vats p.knows)) (readied w s) (refl, λ i. i) (ready_sound v w s here) (λ b. absurd (no_true b), given_well script false (λ b. absurd (no_true b)) v (readied w s) p.knows) (ready_tells NoDraws A v w s h.drawn) (ready_same NoDraws A v true w s here (h.vats v s e))
 
-  pub open_rings : (v : ℕ) (p : Program) (w x : World) (o : Option (Vat Name)) → slice_get w.vats v ≡ o → RingsBy word true None0 w → WorldSound script false w → world.within v w (world.Opens v ∷ []) v (opening (names script v) p.tree script.depth (Root v) (world.given script.vats p.knows)) o ≡ Goes x → RingsBy word true None0 x
+  pub open_rings : (v : ℕ) (p : Program) (w x : World) (o : Option (Vat Name)) → slice_get w.vats v ≡ o → RingsBy word true NoDraws w → WorldSound script false w → world.within v w (world.Opens v ∷ []) v (opening (names script v) p.tree script.depth (Root v) (world.given script.vats p.knows)) o ≡ Goes x → RingsBy word true NoDraws x
   unfolding world.within does names readied
   open_rings v p w x None e h sound f = cc
   open_rings v p w x (Some s) e h sound f = let r : Vat Name = readied w s in
-      put_same true w x v s r None0 e refl h _ _ _ (after_given (λ t. Sound (N v) false t × Ringless (N v) v None0 (Seen word w.vats v) t.noticed t × TellsSo (N v) None0 t) (Ended true None0 w v) r _ (λ t k. (k.1, k.2)) (open_ends v p w s h sound e))
+      put_same true w x v s r NoDraws e refl h _ _ _ (after_given (λ t. Sound (N v) false t × Ringless (N v) v NoDraws (Seen word w.vats v) t.noticed t × TellsSo (N v) NoDraws t) (Ended true NoDraws w v) r _ (λ t k. (k.1, k.2)) (open_ends v p w s h sound e))
       (settled_stays (N v) (Opens p.tree script.depth (Root v) (world.given script.vats p.knows)) r) f
 
-  pub weaken_all : (w : World) → RingsBy word true None0 w → RingsBy word false None0 w
-  weaken_all w h = record { drawn = h.drawn; vats = λ v s e. weaken None0 (Seen word w.vats v) v s.noticed s (h.vats v s e); links = h.links }
+  pub weaken_all : (w : World) → RingsBy word true NoDraws w → RingsBy word false NoDraws w
+  weaken_all w h = record { drawn = h.drawn; vats = λ v s e. weaken NoDraws (Seen word w.vats v) v s.noticed s (h.vats v s e); links = h.links }

@@ -26,9 +26,6 @@ view_same a b e = cc
 value_view : (z : Value Name) (g : Name) → Settled z ≡ Viewed g → ⊥
 value_view z g e = cc
 
-open_view : (g : Name) → Unsettled ≡ Viewed g → ⊥
-open_view g e = cc
-
 wait_value : (q : Name) (z : Value Name) → WaitsOn q ≡ Settled z → ⊥
 wait_value q z e = cc
 
