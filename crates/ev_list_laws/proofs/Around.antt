@@ -7,7 +7,7 @@ use Rattle.ev_machine.specs.Refs.{entry_of, standing_of, standing_in, host_at, h
 use Rattle.ev_machine_laws.specs.Breaks.{still_waits}
 use Rattle.ev_run.specs.World as world
 use Rattle.ev_run.specs.World.{Link, World, read_note, names_of, readied}
-use Rattle.ev_name_laws.specs.Names.{AllOf, IsAmong, Everywhere, NoteOk, KnownOk, NameOk, IsMade, IsHad, WasMade, names_in}
+use Rattle.ev_name_laws.specs.Names.{AllOf, IsAmong, Everywhere, NoteOk, KnownOk, IsMade, IsHad, IsKnownIn, WasMade, names_in}
 use Rattle.ev_fate_laws.specs.Lasting.{Each, NoteWell}
 use Rattle.ev_rest_laws.specs.Notes.{IsBetween, LinkFits, NoteSpared}
 use Rattle.ev_rest_laws.specs.Rest.{HostsRest}
@@ -59,7 +59,7 @@ module _ (word : ℕ → ℕ) where
 
   -- a gift that waits is known
   waits_known : (v : ℕ) (s : Vat Name) → Everywhere (IsHad (names_in s.known) s.mails) s → (h d : ℕ) (p : Name) (k : Known Name) → entry_of (K word v) s.known p ≡ Some k → IsAmong (Gift h d) k.waiting → IsAmong (Gift h d) (names_in s.known)
-  waits_known v s had h d p k e a = among_all (NameOk (IsHad (names_in s.known) s.mails)) k.waiting (Gift h d) (found_all word v (KnownOk (IsHad (names_in s.known) s.mails)) s.known p k had.known e).3 a
+  waits_known v s had h d p k e a = among_all (λ (n : Name). IsKnownIn (names_in s.known) n) k.waiting (Gift h d) (found_all word v (KnownOk (IsHad (names_in s.known) s.mails)) s.known p k had.known e).3 a
 
   pub next_new : (w : World) → Around w → (v : ℕ) (s : Vat Name) → slice_get w.vats v ≡ Some s → NextIsNew (K word v) (readied w s)
   unfolding readied
