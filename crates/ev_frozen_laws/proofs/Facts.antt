@@ -1,5 +1,5 @@
 -- Facts on values in a vat's state, which no growth of the state undoes.
-use Rattle.std.proofs.Common.{◌≡◌, ℕ, zero, suc, Bool, true, List, [], ◌∷◌, ◌++◌, Some}
+use Rattle.std.proofs.Common.{◌≡◌, ℕ, zero, suc, Bool, List, [], ◌∷◌, ◌++◌, Some}
 use Rattle.std.specs.Prelude.{slice_get}
 use Rattle.ev_machine.specs.Values.{Value, Null, Flag, Number, Letter, Text, Prim, Broken, Items, Ref, Naming}
 use Rattle.ev_machine.specs.State.{Bound, Fixed, Slot, Binding, Cell, Freedom, IsSafe, IsItself, IsFinal, IsVar, View, Thing, Made, Ejector, Audition, Resolver, Message, Standing, Unsettled, WaitsOn, Viewed, Settled, Known}
@@ -107,4 +107,4 @@ module _ {N : Type 0} (ts : List (Thing N)) (ls : Lists N) (us : List (Thing N))
   thing_up K strict (Made node caught stamps) h = (all_map (noun_up K strict) caught h.0, all_map there_up stamps h.1, λ p a. all_map (λ b. capture_up K b.bound) caught (h.2 p a))
   thing_up K strict (Ejector live) h = tt
   thing_up K strict (Audition live view) h = view_up view h
-  thing_up K strict (Resolver p) h = tt
+  thing_up K strict (Resolver p) h = h

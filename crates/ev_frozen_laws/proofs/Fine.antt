@@ -108,6 +108,10 @@ parcel x = DoesPass x.value
 abbrev pub nothing : {N A : Type 0} → A → Fact N
 nothing a = Nothing
 
+-- a promise of which a resolver may be
+abbrev pub resolvable : {N : Type 0} → N → Fact N
+resolvable p = IsThing (Resolver p)
+
 no_list : {N : Type 0} (vs : List (Value N)) → None ≡ Some vs → ⊥
 no_list vs e = cc
 
@@ -182,9 +186,9 @@ module _ {N W : Type 0} (K : Naming N W) (strict : Bool) where
 abbrev pub ListsGrow : {N : Type 0} → Lists N → Lists N → Type 0
 ListsGrow {N} ls ms = (ms ≡ ls) ⊎ ((vs : List (Value N)) × AreThere ls vs × (ms ≡ ls ++ vs ∷ []))
 
--- a change by which nothing changes of what is known, and of lists no more than that
+-- a change by which nothing changes of what is known, queued, put, drawn or hosted as a gift, and of lists no more than that
 abbrev pub Quiet : {N : Type 0} → Vat N → Vat N → Type 0
-Quiet s t = (t.number ≡ s.number) × (t.known ≡ s.known) × (t.noticed ≡ s.noticed) × ListsGrow s.lists t.lists
+Quiet s t = (t.number ≡ s.number) × (t.known ≡ s.known) × (t.noticed ≡ s.noticed) × ListsGrow s.lists t.lists × (t.queue ≡ s.queue) × (t.outbox ≡ s.outbox) × (t.drawn ≡ s.drawn) × (t.gifts ≡ s.gifts)
 
 -- What is kept of a vat: that it is sound, and what each change that is quiet keeps in a sound state.
 pub record Keeper {N W : Type 0} (K : Naming N W) (strict : Bool) : Type 1 where
@@ -384,9 +388,6 @@ module _ {N W : Type 0} (K : Naming N W) (strict : Bool) where
   pub got_ejector : (C : Fact N) (b : Bool) → Gets K strict C (IsThing (Ejector b))
   got_ejector C b = record { at = λ ts ls h. tt }
 
-  pub got_resolver : (C : Fact N) (p : N) → Gets K strict C (IsThing (Resolver p))
-  got_resolver C p = record { at = λ ts ls h. tt }
-
   pub got_audition : (C : Fact N) (b : Bool) (x : View N) → Gets K strict C (IsView x) → Gets K strict C (IsThing (Audition b x))
   got_audition C b x g = record { at = λ ts ls h. g.at ts ls h }
 
@@ -483,8 +484,8 @@ module _ {N W : Type 0} (K : Naming N W) (strict : Bool) (M : Keeper K strict) w
 
   -- a fact on what is looked at
   -- a change by which nothing known changes, and no list
-  stays : (s t : Vat N) → t.number ≡ s.number → t.known ≡ s.known → t.noticed ≡ s.noticed → t.lists ≡ s.lists → M.holds s → (Sound K strict s → Sound K strict t) → M.holds t
-  stays s t a b c d h f = M.quiet s t (a, b, c, inl d) h (f (M.sound s h))
+  stays : (s t : Vat N) → Quiet s t → M.holds s → (Sound K strict s → Sound K strict t) → M.holds t
+  stays s t q h f = M.quiet s t q h (f (M.sound s h))
 
   pub fine_sees : {A : Type 0} {C : Fact N} (f : Vat N → A) (H : A → Fact N) → ((s : Vat N) → Sound K strict s → Holds K strict s.things s.lists C → Holds K strict s.things s.lists (H (f s))) → Fine K strict M C (look f) H
   unfolding look
@@ -492,11 +493,11 @@ module _ {N W : Type 0} (K : Naming N W) (strict : Bool) (M : Keeper K strict) w
 
   pub fine_tell : {C : Fact N} (e : Happened N) → Fine K strict M C (tell e) nothing
   unfolding tell
-  fine_tell e = record { after = λ s h c. (grows_same s.things s.lists, stays s (record s { happened = s.happened ++ e ∷ [] }) refl refl refl refl h (λ g. g), tt) }
+  fine_tell e = record { after = λ s h c. (grows_same s.things s.lists, stays s (record s { happened = s.happened ++ e ∷ [] }) (refl, refl, refl, inl refl, refl, refl, refl, refl) h (λ g. g), tt) }
 
   spend_ends : (s : Vat N) (n : ℕ) (b : Bool) → M.holds s → Ends K strict M nothing s (spent n b s)
   unfolding spent
-  spend_ends s n true h = (grows_same s.things s.lists, stays s (record s { fuel = s.fuel - n }) refl refl refl refl h (λ g. g), tt)
+  spend_ends s n true h = (grows_same s.things s.lists, stays s (record s { fuel = s.fuel - n }) (refl, refl, refl, inl refl, refl, refl, refl, refl) h (λ g. g), tt)
   spend_ends s n false h = (grows_same s.things s.lists, h)
 
   pub fine_spend : {C : Fact N} (n : ℕ) → Fine K strict M C (spend n) nothing
@@ -505,7 +506,7 @@ module _ {N W : Type 0} (K : Naming N W) (strict : Bool) (M : Keeper K strict) w
 
   pub fine_activation : {C : Fact N} → Fine K strict M C new_activation nothing
   unfolding new_activation
-  fine_activation = record { after = λ s h c. (grows_same s.things s.lists, stays s (record s { activations = suc s.activations }) refl refl refl refl h (λ g. g), tt) }
+  fine_activation = record { after = λ s h c. (grows_same s.things s.lists, stays s (record s { activations = suc s.activations }) (refl, refl, refl, inl refl, refl, refl, refl, refl) h (λ g. g), tt) }
 
   sound_thing : (s : Vat N) (us : List (Thing N)) → Grows s.things s.lists us s.lists → Sound K strict s → AllOf (ThingWell K strict us s.lists) us → SoundParts K strict us s.slots s.lists s.queue s.known s.outbox
   sound_thing s us g h a = record { things = a; slots = h.slots; lists = h.lists; stacked = h.stacked; queue = h.queue; known = h.known; outbox = h.outbox }
@@ -514,7 +515,7 @@ module _ {N W : Type 0} (K : Naming N W) (strict : Bool) (M : Keeper K strict) w
   unfolding new_thing
   fine_thing x i = record {
     after = λ s h c. let grown = grows_things s.things s.lists x in
-        (grown, stays s (record s { things = s.things ++ x ∷ [] }) refl refl refl refl h (λ g. sound_thing s (s.things ++ x ∷ []) grown g (all_end _ s.things x (all_map (thing_up s.things s.lists (s.things ++ x ∷ []) s.lists grown K strict) s.things g.things) (thing_up s.things s.lists (s.things ++ x ∷ []) s.lists grown K strict x (i.at s.things s.lists c)))), tt);
+        (grown, stays s (record s { things = s.things ++ x ∷ [] }) (refl, refl, refl, inl refl, refl, refl, refl, refl) h (λ g. sound_thing s (s.things ++ x ∷ []) grown g (all_end _ s.things x (all_map (thing_up s.things s.lists (s.things ++ x ∷ []) s.lists grown K strict) s.things g.things) (thing_up s.things s.lists (s.things ++ x ∷ []) s.lists grown K strict x (i.at s.things s.lists c)))), tt);
   }
 
   dead_well : (ts : List (Thing N)) (ls : Lists N) (x : Thing N) → ThingWell K strict ts ls x → ThingWell K strict ts ls (dead x)
@@ -522,7 +523,7 @@ module _ {N W : Type 0} (K : Naming N W) (strict : Bool) (M : Keeper K strict) w
   dead_well ts ls (Made node caught stamps) h = h
   dead_well ts ls (Ejector live) h = tt
   dead_well ts ls (Audition live view) h = h
-  dead_well ts ls (Resolver p) h = tt
+  dead_well ts ls (Resolver p) h = h
 
   change_well : {A : Type 0} (P : A → Type 0) (f : A → A) → ((x : A) → P x → P (f x)) → (n : ℕ) (xs : List A) → AllOf P xs → AllOf P (change f n xs)
   unfolding change
@@ -534,16 +535,16 @@ module _ {N W : Type 0} (K : Naming N W) (strict : Bool) (M : Keeper K strict) w
   unfolding kill
   fine_kill n = record {
     after = λ s h c. let grown = grows_dead s.things s.lists n in
-        (grown, stays s (record s { things = change dead n s.things }) refl refl refl refl h (λ g. sound_thing s (change dead n s.things) grown g (change_well _ dead (dead_well (change dead n s.things) s.lists) n s.things (all_map (thing_up s.things s.lists (change dead n s.things) s.lists grown K strict) s.things g.things))), tt);
+        (grown, stays s (record s { things = change dead n s.things }) (refl, refl, refl, inl refl, refl, refl, refl, refl) h (λ g. sound_thing s (change dead n s.things) grown g (change_well _ dead (dead_well (change dead n s.things) s.lists) n s.things (all_map (thing_up s.things s.lists (change dead n s.things) s.lists grown K strict) s.things g.things))), tt);
   }
 
   pub fine_slot : {C : Fact N} (g v : Value N) → Gets K strict C (IsValue g) → Gets K strict C (IsValue v) → Fine K strict M C (new_slot g v) nothing
   unfolding new_slot
-  fine_slot k v i j = record { after = λ s h c. (grows_same s.things s.lists, stays s (record s { slots = s.slots ++ record { guard = k; value = v } ∷ [] }) refl refl refl refl h (λ g. record { things = g.things; slots = all_end _ s.slots (record { guard = k; value = v }) g.slots (i.at s.things s.lists c, j.at s.things s.lists c); lists = g.lists; stacked = g.stacked; queue = g.queue; known = g.known; outbox = g.outbox }), tt) }
+  fine_slot k v i j = record { after = λ s h c. (grows_same s.things s.lists, stays s (record s { slots = s.slots ++ record { guard = k; value = v } ∷ [] }) (refl, refl, refl, inl refl, refl, refl, refl, refl) h (λ g. record { things = g.things; slots = all_end _ s.slots (record { guard = k; value = v }) g.slots (i.at s.things s.lists c, j.at s.things s.lists c); lists = g.lists; stacked = g.stacked; queue = g.queue; known = g.known; outbox = g.outbox }), tt) }
 
   pub fine_write : {C : Fact N} (n : ℕ) (v : Value N) → Gets K strict C (IsValue v) → Fine K strict M C (write_slot n v) nothing
   unfolding write_slot holding
-  fine_write n v i = record { after = λ s h c. (grows_same s.things s.lists, stays s (record s { slots = change (holding v) n s.slots }) refl refl refl refl h (λ g. record { things = g.things; slots = change_well (CellThere s.lists) (holding v) (λ x k. (k.0, i.at s.things s.lists c)) n s.slots g.slots; lists = g.lists; stacked = g.stacked; queue = g.queue; known = g.known; outbox = g.outbox }), tt) }
+  fine_write n v i = record { after = λ s h c. (grows_same s.things s.lists, stays s (record s { slots = change (holding v) n s.slots }) (refl, refl, refl, inl refl, refl, refl, refl, refl) h (λ g. record { things = g.things; slots = change_well (CellThere s.lists) (holding v) (λ x k. (k.0, i.at s.things s.lists c)) n s.slots g.slots; lists = g.lists; stacked = g.stacked; queue = g.queue; known = g.known; outbox = g.outbox }), tt) }
 
   stacked_end : (n : ℕ) (ls : Lists N) (vs : List (Value N)) → AreStacked n ls → ((m : ℕ) → m ≡ n + length ls → AllOf (IsBelow m) vs) → AreStacked n (ls ++ vs ∷ [])
   stacked_end n [] vs h f = (f n (omega arith), tt)
@@ -554,7 +555,7 @@ module _ {N W : Type 0} (K : Naming N W) (strict : Bool) (M : Keeper K strict) w
   fine_list vs g = record {
     after = λ s h c. let ms : Lists N = s.lists ++ vs ∷ [] in let grown = grows_lists s.things s.lists vs in let there = there_up s.things s.lists s.things ms grown in (
       grown,
-      M.quiet s (record s { lists = ms }) (refl, refl, refl, inr (vs, g.at s.things s.lists c, refl)) h (record {
+      M.quiet s (record s { lists = ms }) (refl, refl, refl, inr (vs, g.at s.things s.lists c, refl), refl, refl, refl, refl) h (record {
         things = all_map (thing_up s.things s.lists s.things ms grown K strict) s.things (M.sound s h).things;
         slots = all_map (cell_up s.things s.lists s.things ms grown) s.slots (M.sound s h).slots;
         lists = all_end _ s.lists vs (all_map (λ xs k. all_map there xs k) s.lists (M.sound s h).lists) (all_map there vs (g.at s.things s.lists c));
@@ -567,39 +568,14 @@ module _ {N W : Type 0} (K : Naming N W) (strict : Bool) (M : Keeper K strict) w
     );
   }
 
-  pub fine_enqueue : {C : Fact N} (m : Message N) → Gets K strict C (IsMessage m) → Fine K strict M C (enqueue m) nothing
-  unfolding enqueue
-  fine_enqueue m i = record { after = λ s h c. (grows_same s.things s.lists, stays s (record s { queue = s.queue ++ m ∷ [] }) refl refl refl refl h (λ g. record { things = g.things; slots = g.slots; lists = g.lists; stacked = g.stacked; queue = all_end _ s.queue m g.queue (i.at s.things s.lists c); known = g.known; outbox = g.outbox }), tt) }
-
-  pub fine_out : {C : Fact N} (to : ℕ) (n : Note N) → Gets K strict C (NoteDoes n) → Fine K strict M C (send_out to n) nothing
-  unfolding send_out
-  fine_out to n i = record { after = λ s h c. (grows_same s.things s.lists, stays s (record s { outbox = s.outbox ++ record { to = to; note = n } ∷ [] }) refl refl refl refl h (λ g. record { things = g.things; slots = g.slots; lists = g.lists; stacked = g.stacked; queue = g.queue; known = g.known; outbox = all_end _ s.outbox (record { to = to; note = n }) g.outbox (i.at s.things s.lists c) }), tt) }
-
-  pub fine_gift : {C : Fact N} (n : N) (p i : ℕ) → Fine K strict M C (new_gift n p i) nothing
-  unfolding new_gift
-  fine_gift n p i = record { after = λ s h c. (grows_same s.things s.lists, stays s (record s { gifts = s.gifts ++ record { name = n; provider = p; number = i; opened = false } ∷ [] }) refl refl refl refl h (λ g. g), tt) }
-
-  pub fine_open : {C : Fact N} (p i : ℕ) → Fine K strict M C (open_gift p i) nothing
-  unfolding open_gift
-  fine_open p i = record { after = λ s h c. (grows_same s.things s.lists, stays s (record s { gifts = with_opened p i s.gifts }) refl refl refl refl h (λ g. g), tt) }
-
   pub fine_each : {A : Type 0} {C : Fact N} {f : A → Act N (Unit {0})} (xs : List A) → ((x : A) → Fine K strict M C (f x) nothing) → Fine K strict M C (each f xs) nothing
   unfolding each
   fine_each [] h = fine_give tt (got_nothing K strict _)
   fine_each (x ∷ xs) h = fine_then nothing (h x) (fine_each xs h)
 
-  draws_ends : (s : Vat N) (w : ℕ) (o : Option ℕ) → M.holds s → Ends K strict M nothing s (draws w o s)
-  unfolding draws
-  draws_ends s w (Some i) h = (grows_same s.things s.lists, h)
-  draws_ends s w None h = (grows_same s.things s.lists, stays s (record s { drawn = s.drawn ++ w ∷ [] }) refl refl refl refl h (λ g. g), tt)
-
-  pub fine_draw : {C : Fact N} → Fine K strict M C (draw K) nothing
-  unfolding draw
-  fine_draw = record { after = λ s h c. draws_ends s _ _ h }
-
   pub fine_mail : {C : Fact N} (c : Mailing W) → Fine K strict M C (mail K c) nothing
   unfolding mail
-  fine_mail d = record { after = λ s h c. (grows_same s.things s.lists, stays s (record s { mails = s.mails ++ K.mailed d (length s.mails) ∷ [] }) refl refl refl refl h (λ g. g), tt) }
+  fine_mail d = record { after = λ s h c. (grows_same s.things s.lists, stays s (record s { mails = s.mails ++ K.mailed d (length s.mails) ∷ [] }) (refl, refl, refl, inl refl, refl, refl, refl, refl) h (λ g. g), tt) }
 
   -- ---- by what is given
 
@@ -700,6 +676,12 @@ module _ {N W : Type 0} (K : Naming N W) (strict : Bool) where
   pub sound_known : (s : Vat N) (ks : List (Known N)) → Sound K strict s → AllOf (KnownThere s.lists) ks → SoundParts K strict s.things s.slots s.lists s.queue ks s.outbox
   sound_known s ks h a = record { things = h.things; slots = h.slots; lists = h.lists; stacked = h.stacked; queue = h.queue; known = a; outbox = h.outbox }
 
+  pub sound_queue : (s : Vat N) (m : Message N) → Sound K strict s → MessageThere s.lists m → SoundParts K strict s.things s.slots s.lists (s.queue ++ m ∷ []) s.known s.outbox
+  sound_queue s m g i = record { things = g.things; slots = g.slots; lists = g.lists; stacked = g.stacked; queue = all_end _ s.queue m g.queue i; known = g.known; outbox = g.outbox }
+
+  pub sound_out : (s : Vat N) (to : ℕ) (n : Note N) → Sound K strict s → NotePasses n → SoundParts K strict s.things s.slots s.lists s.queue s.known (s.outbox ++ record { to = to; note = n } ∷ [])
+  sound_out s to n g i = record { things = g.things; slots = g.slots; lists = g.lists; stacked = g.stacked; queue = g.queue; known = g.known; outbox = all_end _ s.outbox (record { to = to; note = n }) g.outbox i }
+
   to_there : (ls : Lists N) (c : Change N) (k : Known N) → ChangeThere ls c → KnownThere ls k → KnownThere ls (changed_to c k)
   unfolding changed_to
   to_there ls (Hold m) k g h = (h.0, all_end _ k.held m h.1 g, h.2)
@@ -735,6 +717,31 @@ module _ {N W : Type 0} (K : Naming N W) (strict : Bool) where
   known_begun s n w h = sound_known s (s.known ++ begun n w ∷ []) h (all_end _ s.known (begun n w) h.known (begun_there s.lists n w))
 
 module _ {N W : Type 0} (K : Naming N W) (strict : Bool) (M : Keeper K strict) (law : Loose K strict M) where
+  pub fine_enqueue : {C : Fact N} (m : Message N) → Gets K strict C (IsMessage m) → Fine K strict M C (enqueue m) nothing
+  unfolding enqueue
+  fine_enqueue m i = record { after = λ s h c. let g = M.sound s h in (grows_same s.things s.lists, law.any s (record s { queue = s.queue ++ m ∷ [] }) h (sound_queue K strict s m g (i.at s.things s.lists c)), tt) }
+
+  pub fine_out : {C : Fact N} (to : ℕ) (n : Note N) → Gets K strict C (NoteDoes n) → Fine K strict M C (send_out to n) nothing
+  unfolding send_out
+  fine_out to n i = record { after = λ s h c. let g = M.sound s h in (grows_same s.things s.lists, law.any s (record s { outbox = s.outbox ++ record { to = to; note = n } ∷ [] }) h (sound_out K strict s to n g (i.at s.things s.lists c)), tt) }
+
+  pub fine_gift : {C : Fact N} (n : N) (p i : ℕ) → Fine K strict M C (new_gift n p i) nothing
+  unfolding new_gift
+  fine_gift n p i = record { after = λ s h c. (grows_same s.things s.lists, law.any s (record s { gifts = s.gifts ++ record { name = n; provider = p; number = i; opened = false } ∷ [] }) h (M.sound s h), tt) }
+
+  pub fine_open : {C : Fact N} (p i : ℕ) → Fine K strict M C (open_gift p i) nothing
+  unfolding open_gift
+  fine_open p i = record { after = λ s h c. (grows_same s.things s.lists, law.any s (record s { gifts = with_opened p i s.gifts }) h (M.sound s h), tt) }
+
+  draws_ends : (s : Vat N) (w : ℕ) (o : Option ℕ) → M.holds s → Ends K strict M nothing s (draws w o s)
+  unfolding draws
+  draws_ends s w (Some i) h = (grows_same s.things s.lists, h)
+  draws_ends s w None h = (grows_same s.things s.lists, law.any s (record s { drawn = s.drawn ++ w ∷ [] }) h (M.sound s h), tt)
+
+  pub fine_draw : {C : Fact N} → Fine K strict M C (draw K) nothing
+  unfolding draw
+  fine_draw = record { after = λ s h c. draws_ends s _ _ h }
+
   pub fine_mark : {C : Fact N} (w : ℕ) → Fine K strict M C (mark w) nothing
   unfolding mark
   fine_mark w = record { after = λ s h c. (grows_same s.things s.lists, law.any s (record s { noticed = s.noticed ++ w ∷ [] }) h (M.sound s h), tt) }
@@ -747,14 +754,14 @@ module _ {N W : Type 0} (K : Naming N W) (strict : Bool) (M : Keeper K strict) (
   unfolding come
   fine_come d w = record { after = λ s h c. (grows_same s.things s.lists, law.any s (record s { known = s.known ++ begun (K.made d (length s.known)) w ∷ [] }) h (known_begun K strict s (K.made d (length s.known)) w (M.sound s h)), tt) }
 
-  pub fine_promise : {C : Fact N} → Fine K strict M C (new_promise K) nothing
+  pub fine_promise : {C : Fact N} → Fine K strict M C (new_promise K) resolvable
   unfolding new_promise
-  fine_promise = record { after = λ s h c. (grows_same s.things s.lists, law.any s (record s { promises = suc s.promises; known = s.known ++ begun (K.made (IsOwn s.promises) (length s.known)) s.number ∷ [] }) h (known_begun K strict s (K.made (IsOwn s.promises) (length s.known)) s.number (M.sound s h)), tt) }
+  fine_promise = record { after = λ s h c. (grows_same s.things s.lists, law.any s (record s { promises = suc s.promises; known = s.known ++ begun (K.made (IsOwn s.promises) (length s.known)) s.number ∷ [] }) h (known_begun K strict s (K.made (IsOwn s.promises) (length s.known)) s.number (M.sound s h)), λ e. (s.promises, length s.known, refl)) }
 
   pub fine_new_message : {C : Fact N} (h : ℕ) → Fine K strict M C (new_message K h) nothing
   unfolding new_message
   fine_new_message w = record { after = λ s h c. let id = K.mailed (IsSent s.messages) (length s.mails) in let a = K.made (IsAnswer w id) (length s.known) in (grows_same s.things s.lists, law.any s (record s { messages = suc s.messages; mails = s.mails ++ id ∷ []; known = s.known ++ begun a w ∷ [] }) h (known_begun K strict s a w (M.sound s h)), tt) }
 
-pub ruleset gets = (got, got_left, got_right, got_itself, got_both, got_nothing, got_null, got_flag, got_number, got_text, got_prim, got_broken, got_ref, got_none, got_more, got_message, got_hold, got_react, got_settle, got_wait, got_wait_on, got_see, got_to_tell, got_ejector, got_resolver, got_audition)
+pub ruleset gets = (got, got_left, got_right, got_itself, got_both, got_nothing, got_null, got_flag, got_number, got_text, got_prim, got_broken, got_ref, got_none, got_more, got_message, got_hold, got_react, got_settle, got_wait, got_wait_on, got_see, got_to_tell, got_ejector, got_audition)
 
 pub ruleset fine = (gets, then_unit, then_number, then_value, then_answer, bind_number, bind_name, bind_names, bind_flag, bind_place, bind_standing, bind_gifts, bind_gift, bind_knowns, bind_value, bind_values, bind_scope, bind_answer, bind_answers, bind_may_value, bind_may_cell, bind_may_thing, bind_may_known, bind_reply, bind_bound, bind_passed, bind_passeds, bind_parcel, end_value, end_scope, end_answer, fine_some, fine_if, fine_give, fine_throw, fine_eject, fine_stop, fine_look, fine_tell, fine_spend, fine_activation, fine_thing, fine_kill, fine_slot, fine_write, fine_list, fine_enqueue, fine_out, fine_gift, fine_open, fine_mark, fine_each, fine_draw, fine_alter, fine_come, fine_mail, fine_promise, fine_new_message)

@@ -15,9 +15,9 @@ use Rattle.ev_machine.specs.Eval as eval
 use Rattle.ev_machine.specs.Scopes.{meets, any_guard, frozen_guard, freezes, Answer, Answers, Evaluator, Caller, Body, Case, AuditionAsk, GetsForm, GetsGuard, Asks, NoAuditionAsk, ResolverAsk, Resolves, Smashes, NoResolverAsk}
 use Rattle.ev_kernel.specs.declared.node.Node.{Node}
 use Rattle.ev_kernel.specs.declared.node.Node.TheVariants.{Lit, Noun, Set, Def, Call, Sequence, If, Escape, Try, Finally, Hide, MatchBind, Object, Final, Var, Any, ListPattern, Via}
-use Rattle.ev_frozen_laws.specs.Frozen.{AllOf, IsAmong, Lists, IsThere, AreThere, IsFrozen, BoundWell, NounWell, FrozenCapture, ThingWell, NamesWell, TreeWell, Sound, deep_frozen}
+use Rattle.ev_frozen_laws.specs.Frozen.{AllOf, IsAmong, Lists, IsThere, AreThere, IsFrozen, BoundWell, NounWell, FrozenCapture, ThingWell, NamesWell, TreeWell, deep_frozen}
 use Rattle.ev_frozen_laws.proofs.Facts.{all_map, all_end, noun_up, thing_up}
-use Rattle.ev_frozen_laws.proofs.Fine.{Keeper, grows_same, MayBe, Fact, Also, IsValue, AreValues, AreLists, IsBound, AreNouns, IsMessage, IsThing, IsView, MayValue, MayBound, MayCell, MayThing, IsReply, IsAsked, IsAuditionAsk, IsResolverAsk, StampsMeet, Approves, scope, answer, answers, nothing, Holds, Ends, Gets, Fine, fine, get_end, grows_things, widen, got, got_left, got_itself, got_ref, got_text, got_nothing, fine_bind, fine_ending, fine_more, fine_left, fine_if, fine_give, fine_throw, fine_eject, fine_stop, fine_tell, fine_spend, fine_slot, then_unit, bind_answer, bind_value, bind_number}
+use Rattle.ev_frozen_laws.proofs.Fine.{Keeper, grows_same, resolvable, fine_bind, MayBe, Fact, Also, IsValue, AreValues, AreLists, IsBound, AreNouns, IsMessage, IsThing, IsView, MayValue, MayBound, MayCell, MayThing, IsReply, IsAsked, IsAuditionAsk, IsResolverAsk, StampsMeet, Approves, scope, answer, answers, nothing, Holds, Ends, Gets, Fine, fine, get_end, grows_things, widen, got, got_left, got_itself, got_ref, got_text, got_nothing, fine_bind, fine_ending, fine_more, fine_left, fine_if, fine_give, fine_throw, fine_eject, fine_stop, fine_tell, fine_spend, fine_slot, then_unit, bind_answer, bind_value, bind_number}
 use Rattle.ev_frozen_laws.proofs.Looks.{looks, get_all, look_follow}
 use Rattle.ev_frozen_laws.proofs.Serves.{Serves, Closing, serve_promise, serve_break, serve_send, serve_react, serve_close}
 use Rattle.ev_frozen_laws.proofs.EvalFacts.{knows, no_true, false_true, same_is, under, look_bound, some_bound, bound_well, got_noun, got_unguarded, got_of_bound, got_item, got_lists, got_literal, got_view, nouns_named}
@@ -163,7 +163,7 @@ module _ {N W : Type 0} (K : Naming N W) (strict : Bool) (M : Keeper K strict) (
 
   pub fine_make_promise : {C : Fact N} → (x1 : ℕ) → Fine K strict M C (perform.make_promise K tree x1) IsValue
   unfolding perform.make_promise
-  fine_make_promise {C = C} act = search (fine, looks, knows, serve_promise, fine_make_list) depth 30
+  fine_make_promise {C = C} act = fine_bind K strict M {C = C} {H = IsValue} resolvable (serve_promise K strict M serves {C = C}) (λ p. search (fine, looks, knows, fine_make_list) depth 30)
 
   pub fine_react_near : {C : Fact N} → (x1 : ℕ) → (x2 : Value N) → Gets K strict C (IsValue x2) → (x3 : Value N) → Gets K strict C (IsValue x3) → (x4 : Value N) → Gets K strict C (IsValue x4) → (x5 : Place N) → Fine K strict M C (perform.react_near K tree x1 x2 x3 x4 x5) IsValue
   unfolding perform.react_near
@@ -302,23 +302,23 @@ module _ {N W : Type 0} (K : Naming N W) (strict : Bool) (M : Keeper K strict) (
   then_null s (Ejects n v t) h = h
   then_null s (Stops r t) h = h
 
-  open_ends : {C : Fact N} (p : N) (x : Value N) → Gets K strict C (IsValue x) → (s : Vat N) → M.holds s → Holds K strict s.things s.lists C → (w : Standing N) → standing_of K s.known p ≡ w → Ends K strict M IsValue s (calls.where_unresolved K tree w (resolve K p x) s)
+  open_ends : {C : Fact N} (p : N) (x : Value N) → Gets K strict C (resolvable p) → Gets K strict C (IsValue x) → (s : Vat N) → M.holds s → Holds K strict s.things s.lists C → (w : Standing N) → standing_of K s.known p ≡ w → Ends K strict M IsValue s (calls.where_unresolved K tree w (resolve K p x) s)
   unfolding calls.where_unresolved ◌>>◌ throw
-  open_ends {C = C} p x g s h c Unsettled e = then_null s (resolve K p x s) (serves.resolves C p x g s h c e)
-  open_ends {C = C} p x g s h c (WaitsOn q) e = (grows_same s.things s.lists, h)
-  open_ends {C = C} p x g s h c (Viewed q) e = (grows_same s.things s.lists, h)
-  open_ends {C = C} p x g s h c (Settled y) e = (grows_same s.things s.lists, h)
+  open_ends {C = C} p x own g s h c Unsettled e = then_null s (resolve K p x s) (serves.resolves C p x own g s h c e)
+  open_ends {C = C} p x own g s h c (WaitsOn q) e = (grows_same s.things s.lists, h)
+  open_ends {C = C} p x own g s h c (Viewed q) e = (grows_same s.things s.lists, h)
+  open_ends {C = C} p x own g s h c (Settled y) e = (grows_same s.things s.lists, h)
 
   -- a resolver resolves none but a name that did neither settle nor wait
-  resolved_open : {C : Fact N} (p : N) (x : Value N) → Gets K strict C (IsValue x) → Fine K strict M C (look (λ s. standing_of K s.known p) >>= (λ w. calls.where_unresolved K tree w (resolve K p x))) IsValue
+  resolved_open : {C : Fact N} (p : N) (x : Value N) → Gets K strict C (resolvable p) → Gets K strict C (IsValue x) → Fine K strict M C (look (λ s. standing_of K s.known p) >>= (λ w. calls.where_unresolved K tree w (resolve K p x))) IsValue
   unfolding ◌>>=◌ look and_then
-  resolved_open {C = C} p x g = record { after = λ s h c. open_ends {C = C} p x g s h c (standing_of K s.known p) refl }
+  resolved_open {C = C} p x own g = record { after = λ s h c. open_ends {C = C} p x own g s h c (standing_of K s.known p) refl }
 
-  pub fine_resolver_answer : {C : Fact N} → (x1 : N) → (x2 : ResolverAsk N) → Gets K strict C (IsResolverAsk x2) → Fine K strict M C (calls.resolver_answer K tree x1 x2) IsValue
+  pub fine_resolver_answer : {C : Fact N} → (x1 : N) → Gets K strict C (resolvable x1) → (x2 : ResolverAsk N) → Gets K strict C (IsResolverAsk x2) → Fine K strict M C (calls.resolver_answer K tree x1 x2) IsValue
   unfolding calls.resolver_answer
-  fine_resolver_answer {C = C} p (Resolves x) g1 = resolved_open {C = C} p x (record { at = λ ts ls h. (g1.at ts ls h) })
-  fine_resolver_answer {C = C} p (Smashes x) g1 = let d_g1 : Gets K strict C (IsValue x) = record { at = λ ts ls h. (g1.at ts ls h) } in search (fine, looks, knows, fine_smash) depth 30
-  fine_resolver_answer {C = C} p NoResolverAsk g1 = search (fine, looks, knows) depth 30
+  fine_resolver_answer {C = C} p own (Resolves x) g1 = resolved_open {C = C} p x own (record { at = λ ts ls h. (g1.at ts ls h) })
+  fine_resolver_answer {C = C} p own (Smashes x) g1 = let d_g1 : Gets K strict C (IsValue x) = record { at = λ ts ls h. (g1.at ts ls h) } in search (fine, looks, knows, fine_smash) depth 30
+  fine_resolver_answer {C = C} p own NoResolverAsk g1 = search (fine, looks, knows) depth 30
 
   pub fine_bind_all : {C : Fact N} → (x1 : Evaluator N) → GoodEvaluator K strict M x1 → (x2 : List ℕ) → (x3 : List (Value N)) → Gets K strict C (AreValues x3) → (x4 : Value N) → Gets K strict C (IsValue x4) → (x5 : Scope N) → Gets K strict C (AreNouns x5.nouns) → Fine K strict M C (calls.bind_all K tree x1 x2 x3 x4 x5) scope
   unfolding calls.bind_all
@@ -477,7 +477,7 @@ module _ {N W : Type 0} (K : Naming N W) (strict : Bool) (M : Keeper K strict) (
       → Ends K strict M answer s ((new_thing (Made node caught stamps) >> rest) s)
   unfolding new_thing ◌>>◌ and_then
   made_ends node caught stamps rest C s h w c r = let us : List (Thing N) = s.things ++ Made node caught stamps ∷ [] in let t : Vat N = record s { things = us } in let grown = grows_things s.things s.lists (Made node caught stamps) in
-      widen K strict M answer s t (rest t) grown (r.after t (M.quiet s t (refl, refl, refl, inl refl) h (let i = M.sound s h in record { things = all_end _ s.things (Made node caught stamps) (all_map (thing_up s.things s.lists us s.lists grown K strict) s.things i.things) w; slots = i.slots; lists = i.lists; stacked = i.stacked; queue = i.queue; known = i.known; outbox = i.outbox })) c)
+      widen K strict M answer s t (rest t) grown (r.after t (M.quiet s t (refl, refl, refl, inl refl, refl, refl, refl, refl) h (let i = M.sound s h in record { things = all_end _ s.things (Made node caught stamps) (all_map (thing_up s.things s.lists us s.lists grown K strict) s.things i.things) w; slots = i.slots; lists = i.lists; stacked = i.stacked; queue = i.queue; known = i.known; outbox = i.outbox })) c)
 
   object_ends : (node : ℕ) (p : Option Node) (xs : List Words) (stamps : List (Value N)) (here : Scope N) (s : Vat N) → (strict ≡ true → MayBe NamesWell p) → M.holds s → AllOf (NounWell K strict s.things s.lists) here.nouns → AreThere s.lists stamps
       → (IsAmong deep_frozen stamps → meets (scopes.free_names (scopes.name_of p) here.nouns xs) ≡ true)

@@ -1,7 +1,7 @@
 -- What a vat does with references, from a sound state, ends in a sound state.
 use Rattle.std.proofs.Common.{ℕ, zero, suc, Bool, true, false, List, [], ◌∷◌, Option, Some, None}
 use Rattle.ev_machine.specs.Values.{Words, Value, Prim, Naming}
-use Rattle.ev_machine.specs.State.{Message, Standing, Settled, Known, Passed, Passeds, Plain, AGift, Many, NoMore, More, ToTell, Act, alter}
+use Rattle.ev_machine.specs.State.{Message, Standing, Settled, Known, Passed, Passeds, Plain, AGift, Many, NoMore, More, Deliver, ToTell, Act, alter, send_out}
 use Rattle.ev_machine.specs.Refs as refs
 use Rattle.ev_machine.specs.Refs.{Place, Near, Mine, Away, Gone}
 use Rattle.ev_frozen_laws.proofs.Fine.{Keeper, Loose, Fact, IsValue, AreValues, IsMessage, AreMessages, IsKnown, MayKnown, DoesPass, DoAllPass, nothing, Gets, Fine, fine, fine_alter, got_to_tell}
@@ -11,17 +11,25 @@ use Rattle.ev_frozen_laws.proofs.Looks.{looks}
 abbrev pub GoodSettler : {N W : Type 0} (K : Naming N W) (strict : Bool) → Keeper K strict → (N → Value N → Act N (Unit {0})) → Type 0
 GoodSettler {N} K strict M settle = (C : Fact N) (p : N) (y : Value N) → Gets K strict C (IsValue y) → Fine K strict M C (settle p y) nothing
 
--- where another vat is to be told of a name
+-- where another vat is to be told of a name, what is away passes, and the note of a message is put
 pub record Tells {N W : Type 0} (K : Naming N W) (strict : Bool) (M : Keeper K strict) : Type 0 where
   pub tells : (C : Fact N) (w : ℕ) (n : N) → Fine K strict M C (alter K (ToTell w) n) nothing
+  pub aways : (C : Fact N) (w : ℕ) (y : Value N) → Gets K strict C (DoesPass (Plain y)) → (h : ℕ) (n : N) (o : Bool) → Fine K strict M C (refs.address_plain K w y (Away h n o)) DoesPass
+  pub delivers : (C : Fact N) (to : ℕ) (m n : N) (verb : Words) (ys : Passeds N) → Gets K strict C (DoAllPass ys) → Fine K strict M C (send_out to (Deliver m n verb ys)) nothing
 
 module _ {N W : Type 0} (K : Naming N W) (strict : Bool) (M : Keeper K strict) (telling : Tells K strict M) where
   told : {C : Fact N} (w : ℕ) (n : N) → Fine K strict M C (alter K (ToTell w) n) nothing
   told {C = C} w n = telling.tells C w n
 
+  away_passes : {C : Fact N} (w : ℕ) (y : Value N) → Gets K strict C (DoesPass (Plain y)) → (h : ℕ) (n : N) (o : Bool) → Fine K strict M C (refs.address_plain K w y (Away h n o)) DoesPass
+  away_passes {C = C} w y g h n o = telling.aways C w y g h n o
+
+  put_message : {C : Fact N} (to : ℕ) (m n : N) (verb : Words) (ys : Passeds N) → Gets K strict C (DoAllPass ys) → Fine K strict M C (send_out to (Deliver m n verb ys)) nothing
+  put_message {C = C} to m n verb ys g = telling.delivers C to m n verb ys g
+
   pub fine_address_plain : {C : Fact N} → (x1 : ℕ) → (x2 : Value N) → Gets K strict C (DoesPass (Plain x2)) → (x3 : Place N) → Fine K strict M C (refs.address_plain K x1 x2 x3) DoesPass
   unfolding refs.address_plain
-  fine_address_plain {C = C} w y g1 (Away h n o) = search (fine, looks) depth 30
+  fine_address_plain {C = C} w y g1 (Away h n o) = away_passes {C = C} w y g1 h n o
   fine_address_plain {C = C} w y g1 (Mine n) = search (fine, looks, told) depth 30
   fine_address_plain {C = C} w y g1 _ = search (fine, looks) depth 30
 
@@ -48,8 +56,9 @@ module _ {N W : Type 0} (K : Naming N W) (strict : Bool) (M : Keeper K strict) (
 
   pub fine_deliver : {C : Fact N} → (x1 : Message N) → Gets K strict C (IsMessage x1) → (x2 : ℕ) → (x3 : N) → Fine K strict M C (refs.deliver K x1 x2 x3) nothing
   unfolding refs.deliver
-  fine_deliver {C = C} m g1 h n = let mt_m : Gets K strict C (IsValue m.target) = record { at = λ ts ls h. (g1.at ts ls h).0 } in let ma_m : Gets K strict C (AreValues m.args) = record { at = λ ts ls h. (g1.at ts ls h).1 } in search (fine, looks, fine_pass_all) depth 30
+  fine_deliver {C = C} m g1 h n = let mt_m : Gets K strict C (IsValue m.target) = record { at = λ ts ls h. (g1.at ts ls h).0 } in let ma_m : Gets K strict C (AreValues m.args) = record { at = λ ts ls h. (g1.at ts ls h).1 } in search (fine, looks, fine_pass_all, put_message) depth 30
 
+module _ {N W : Type 0} (K : Naming N W) (strict : Bool) (M : Keeper K strict) (law : Loose K strict M) (telling : Tells K strict M) where
   pub fine_inform_of : {C : Fact N} → (x1 : N) → (x2 : ℕ) → (x3 : Value N) → Gets K strict C (IsValue x3) → (x4 : Place N) → Fine K strict M C (refs.inform_of K x1 x2 x3 x4) nothing
   unfolding refs.inform_of
   fine_inform_of {C = C} p w y g1 (Away h n true) = search (fine, looks) depth 30
@@ -59,7 +68,6 @@ module _ {N W : Type 0} (K : Naming N W) (strict : Bool) (M : Keeper K strict) (
   unfolding refs.inform
   fine_inform {C = C} p w = search (fine, looks, fine_inform_of) depth 30
 
-module _ {N W : Type 0} (K : Naming N W) (strict : Bool) (M : Keeper K strict) (law : Loose K strict M) (telling : Tells K strict M) where
   pub fine_wait_on : {C : Fact N} → (x1 : N) → (x2 : N) → Fine K strict M C (refs.wait_on K x1 x2) nothing
   unfolding refs.wait_on
   fine_wait_on {C = C} p q = search (fine, looks) depth 30
@@ -139,8 +147,18 @@ module _ {N W : Type 0} (K : Naming N W) (strict : Bool) (M : Keeper K strict) (
   unfolding refs.react refs.reaction
   fine_react {C = C} act x g1 o g2 near g3 = search (fine, looks, fine_react_at) depth 30
 
+module _ {N W : Type 0} (K : Naming N W) (strict : Bool) (M : Keeper K strict) (law : Loose K strict M) where
+  loose_away : {C : Fact N} (w : ℕ) (y : Value N) → Gets K strict C (DoesPass (Plain y)) → (h : ℕ) (n : N) (o : Bool) → Fine K strict M C (refs.address_plain K w y (Away h n o)) DoesPass
+  unfolding refs.address_plain
+  loose_away {C = C} w y g h n o = search (fine, looks) depth 30
+
+  loose_message : {C : Fact N} (to : ℕ) (m n : N) (verb : Words) (ys : Passeds N) → Gets K strict C (DoAllPass ys) → Fine K strict M C (send_out to (Deliver m n verb ys)) nothing
+  loose_message {C = C} to m n verb ys g = search (fine, looks) depth 30
+
 -- where every change is kept, so is that
 pub loose_tells : {N W : Type 0} (K : Naming N W) (strict : Bool) (M : Keeper K strict) → Loose K strict M → Tells K strict M
-loose_tells K strict M law = record { tells = λ C w n. fine_alter K strict M law (ToTell w) n (got_to_tell K strict C w) }
-
-pub ruleset fine_refs = (fine, looks, fine_address_plain, fine_address, fine_address_all, fine_pass, fine_pass_all, fine_deliver, fine_wait_on, fine_pass_on, fine_send_to, fine_send_on, fine_inform_of, fine_inform, fine_settle_known, fine_settle_standing, fine_settle_entry, fine_settle_one, fine_settle_at, fine_settle, fine_wait_unless_cycle, fine_resolve_to, fine_resolve, fine_send_first, fine_send, fine_react_at, fine_react)
+loose_tells K strict M law = record {
+  tells = λ C w n. fine_alter K strict M law (ToTell w) n (got_to_tell K strict C w);
+  aways = λ C w y g h n o. loose_away K strict M law {C = C} w y g h n o;
+  delivers = λ C to m n verb ys g. loose_message K strict M law {C = C} to m n verb ys g;
+}

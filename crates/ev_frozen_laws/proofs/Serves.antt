@@ -3,14 +3,14 @@ use Rattle.std.proofs.Common.{◌≡◌, ℕ, Bool, List}
 use Rattle.ev_machine.specs.Values.{Words, Value, Broken, Naming}
 use Rattle.ev_machine.specs.State.{Unsettled, Vat, new_promise}
 use Rattle.ev_machine.specs.Refs.{standing_of, settle, resolve, send, react}
-use Rattle.ev_frozen_laws.proofs.Fine.{Keeper, Loose, Fact, IsValue, AreValues, nothing, Holds, Gets, Ends, Fine, fine_promise, got_broken}
+use Rattle.ev_frozen_laws.proofs.Fine.{Keeper, Loose, Fact, IsValue, AreValues, nothing, resolvable, Holds, Gets, Ends, Fine, fine_promise, got_broken}
 use Rattle.ev_frozen_laws.proofs.FineRefs.{loose_tells, fine_settle, fine_resolve, fine_send, fine_react}
 
 pub record Serves {N W : Type 0} (K : Naming N W) (strict : Bool) (M : Keeper K strict) : Type 0 where
-  pub promises : (C : Fact N) → Fine K strict M C (new_promise K) nothing
+  pub promises : (C : Fact N) → Fine K strict M C (new_promise K) resolvable
   pub breaks : (C : Fact N) (p : N) (t : Words) → Fine K strict M C (settle K p (Broken t)) nothing
-  -- a name that did neither settle nor wait is resolved
-  pub resolves : (C : Fact N) (p : N) (y : Value N) → Gets K strict C (IsValue y) → (s : Vat N) → M.holds s → Holds K strict s.things s.lists C → standing_of K s.known p ≡ Unsettled → Ends K strict M nothing s (resolve K p y s)
+  -- a promise of a resolver, that did neither settle nor wait, is resolved
+  pub resolves : (C : Fact N) (p : N) (y : Value N) → Gets K strict C (resolvable p) → Gets K strict C (IsValue y) → (s : Vat N) → M.holds s → Holds K strict s.things s.lists C → standing_of K s.known p ≡ Unsettled → Ends K strict M nothing s (resolve K p y s)
   pub sends : (C : Fact N) (act : ℕ) (x : Value N) → Gets K strict C (IsValue x) → (verb : Words) (args : List (Value N)) → Gets K strict C (AreValues args) → Fine K strict M C (send K act x verb args) IsValue
   pub reacts : (C : Fact N) (act : ℕ) (x : Value N) → Gets K strict C (IsValue x) → (o : Value N) → Gets K strict C (IsValue o) → (near : Value N) → Gets K strict C (IsValue near) → Fine K strict M C (react K act x o near) IsValue
 
@@ -19,7 +19,7 @@ pub record Closing {N W : Type 0} (K : Naming N W) (strict : Bool) (M : Keeper K
   pub closes : (C : Fact N) (y : Value N) → Gets K strict C (IsValue y) → Fine K strict M C (resolve K p y) nothing
 
 module _ {N W : Type 0} (K : Naming N W) (strict : Bool) (M : Keeper K strict) (serves : Serves K strict M) where
-  pub serve_promise : {C : Fact N} → Fine K strict M C (new_promise K) nothing
+  pub serve_promise : {C : Fact N} → Fine K strict M C (new_promise K) resolvable
   serve_promise {C = C} = serves.promises C
 
   pub serve_break : {C : Fact N} (p : N) (t : Words) → Fine K strict M C (settle K p (Broken t)) nothing
@@ -41,7 +41,7 @@ pub served_by : {N W : Type 0} (K : Naming N W) (strict : Bool) (M : Keeper K st
 served_by K strict M law = let told = loose_tells K strict M law in record {
   promises = λ C. fine_promise K strict M law;
   breaks = λ C p t. fine_settle K strict M law told p (Broken t) (got_broken K strict C t);
-  resolves = λ C p y g s h c e. (fine_resolve K strict M law told p y g).after s h c;
+  resolves = λ C p y own g s h c e. (fine_resolve K strict M law told p y g).after s h c;
   sends = λ C act x g verb args h. fine_send K strict M law told act x g verb args h;
   reacts = λ C act x g o h near k. fine_react K strict M law told act x g o h near k;
 }

@@ -1,7 +1,7 @@
 -- What a change of how one name stands makes of following.
-use Rattle.std.proofs.Common.{◌≡◌, ℕ, zero, suc, Bool, true, false, List, [], ◌∷◌, ◌++◌, Option, Some, None, refl, sym, ap, ◌∙◌, ◌⊎◌, inl, inr, length, arith}
+use Rattle.std.proofs.Common.{◌≡◌, ℕ, zero, suc, Bool, true, false, List, [], ◌∷◌, Some, refl, sym, ap, ◌∙◌, ◌⊎◌, inl, inr, length}
 use Rattle.ev_machine.specs.Values.{Value, Null, Flag, Number, Letter, Text, Prim, Broken, Items, Ref, Name, Naming, Spot, Own, Foreign, NoObject}
-use Rattle.ev_machine.specs.State.{Standing, Unsettled, WaitsOn, Viewed, Settled, Known, Change, Hold, Wait, WaitOn, See, React, ToTell, Settle, Vat, with_change, changed, changed_to, unless_settled, is_in}
+use Rattle.ev_machine.specs.State.{Standing, Unsettled, WaitsOn, Viewed, Settled, Known, Change, Settle, Vat, with_change, changed, changed_to, unless_settled, is_in}
 use Rattle.ev_machine.specs.Refs.{entry_of, standing_of, standing_in, host_at, led, follow_at, follow, severed, severed_at, severed_by}
 use Rattle.ev_machine_laws.specs.Breaks.{still_waits}
 

@@ -1,6 +1,6 @@
 -- Where no list leads back to itself, each way by members meets each list once, so it is no longer than there are lists.
-use Rattle.std.proofs.Common.{◌≡◌, ℕ, zero, suc, ◌+◌, ◌<◌, ◌≤◌, Bool, true, false, List, [], ◌∷◌, refl, sym, ap, subst, ◌∙◌, ◌⊎◌, inl, inr, length, arith}
-use Rattle.std.specs.Prelude.{◌==◌, ◌||◌, nat_le, slice_get}
+use Rattle.std.proofs.Common.{◌≡◌, ℕ, zero, suc, ◌+◌, ◌<◌, ◌≤◌, Bool, true, false, List, [], ◌∷◌, refl, sym, subst, inl, inr, length, arith}
+use Rattle.std.specs.Prelude.{◌==◌, ◌||◌}
 use Rattle.std.specs.List.{AllByRecursion, IsDistinct, list_any}
 use Rattle.std.proofs.lemmas.Bool.{eqb-true}
 use Rattle.std.proofs.lemmas.Map.Steps.{length-le_from_distinct_below}
@@ -9,7 +9,7 @@ use Rattle.ev_machine.specs.State.{Vat}
 use Rattle.ev_machine.specs.Native.{list_at}
 use Rattle.ev_machine.specs.Refs.{follow}
 use Rattle.ev_frozen_laws.specs.Frozen.{AllOf, IsAmong, Lists}
-use Rattle.ev_list_laws.specs.Lists.{Leads, LeadsIn, NoListLeadsBack, HasNone, LeadingEndsIn}
+use Rattle.ev_list_laws.specs.Lists.{LeadsIn, NoListLeadsBack, LeadingEndsIn}
 use Rattle.ev_list_laws.proofs.Rings.{join}
 
 never : false ≡ true → ⊥

@@ -11,7 +11,13 @@ pub mod Kept
 pub mod Changes
 pub mod RefsRing
 pub mod TurnsRing
+pub mod Gifts
 pub mod ViewRing
+pub mod Elsewhere
 pub mod ArriveRing
 pub mod NoticeRing
+pub mod Told
+pub mod VatStep
+pub mod Around
+pub mod StepRings
 pub mod RunRing

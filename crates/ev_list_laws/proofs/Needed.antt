@@ -1,12 +1,12 @@
 -- Two states in which a name that settles behind the test makes a list lead back to itself: a name whose host was noticed, and a name that is viewed.
-use Rattle.std.proofs.Common.{◌≡◌, ℕ, zero, suc, List, [], ◌∷◌, refl, sym, ap, subst, ◌∙◌, ◌⊎◌, inl, inr}
-use Rattle.ev_machine.specs.Values.{Value, Broken, Items, Ref, Name, Promise, Gift, Naming, naming, opened_values}
+use Rattle.std.proofs.Common.{◌≡◌, ℕ, zero, suc, List, [], ◌∷◌, refl, sym, ap, ◌∙◌, inl, inr}
+use Rattle.ev_machine.specs.Values.{Value, Items, Ref, Name, Promise, Gift, Naming, naming, opened_values}
 use Rattle.ev_machine.specs.State.{Standing, Unsettled, Viewed, Known, Vat}
 use Rattle.ev_machine.specs.Native.{list_at}
 use Rattle.ev_machine.specs.Refs.{follow, opened_refs}
 use Rattle.ev_machine_laws.specs.Breaks.{still_waits}
 use Rattle.ev_frozen_laws.specs.Frozen.{IsAmong}
-use Rattle.ev_list_laws.specs.Lists.{Leads, LeadsIn, NoListLeadsBack, ConditionsAreNeeded}
+use Rattle.ev_list_laws.specs.Lists.{NoListLeadsBack, ConditionsAreNeeded}
 use Rattle.ev_list_laws.proofs.Following.{name_list, broken_list}
 use Rattle.ev_list_laws.proofs.Rings.{list_only}
 

@@ -1,10 +1,10 @@
 -- A new list of what is there closes no ring.
-use Rattle.std.proofs.Common.{◌≡◌, ℕ, zero, suc, ◌<◌, Bool, true, false, List, [], ◌∷◌, ◌++◌, Option, Some, None, refl, sym, ap, subst, ◌∙◌, ◌⊎◌, inl, inr, length, arith}
+use Rattle.std.proofs.Common.{◌≡◌, ℕ, zero, suc, ◌<◌, false, List, [], ◌∷◌, ◌++◌, refl, sym, subst, ◌∙◌, inl, inr, length, arith}
 use Rattle.ev_machine.specs.Values.{Value, Items, Name, Naming}
 use Rattle.ev_machine.specs.State.{Vat}
 use Rattle.ev_machine.specs.Native.{list_at}
 use Rattle.ev_machine.specs.Refs.{host_at, follow, severed, severed_at, severed_by}
-use Rattle.ev_frozen_laws.specs.Frozen.{AllOf, IsAmong, Lists, IsThere, AreThere, Sound}
+use Rattle.ev_frozen_laws.specs.Frozen.{IsAmong, Lists, IsThere, AreThere, Sound}
 use Rattle.ev_frozen_laws.proofs.Facts.{all_end}
 use Rattle.ev_frozen_laws.proofs.Fine.{there_below}
 use Rattle.ev_frozen_laws.proofs.Looks.{list_at_there, follow_there}

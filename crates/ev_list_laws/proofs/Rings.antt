@@ -1,7 +1,7 @@
 -- Where members lead after a change of how one name stands, and that no such change closes a ring of lists.
-use Rattle.std.proofs.Common.{◌≡◌, ℕ, zero, suc, Bool, true, false, List, [], ◌∷◌, ◌++◌, Option, Some, None, refl, sym, ap, subst, ◌∙◌, ◌⊎◌, inl, inr, length, arith}
+use Rattle.std.proofs.Common.{◌≡◌, ℕ, zero, suc, Bool, true, false, List, [], ◌∷◌, Option, Some, None, refl, sym, ap, subst, ◌∙◌, ◌⊎◌, inl, inr, length}
 use Rattle.ev_machine.specs.Values.{Value, Null, Flag, Number, Letter, Text, Prim, Broken, Items, Ref, Name, Naming}
-use Rattle.ev_machine.specs.State.{Message, Standing, Unsettled, WaitsOn, Viewed, Settled, Known, Change, Hold, Wait, WaitOn, See, React, ToTell, Settle, Vat, with_change, changed, changed_to}
+use Rattle.ev_machine.specs.State.{Message, Standing, WaitsOn, Viewed, Settled, Known, Change, Hold, Wait, WaitOn, See, React, ToTell, Settle, Vat, with_change, changed, changed_to}
 use Rattle.ev_machine.specs.Native.{list_at}
 use Rattle.ev_machine.specs.Refs.{entry_of, standing_of, follow_at, follow, severed, any_of, reached, reaches, cut_cycle, target_of}
 use Rattle.ev_machine_laws.specs.Breaks.{still_waits}
@@ -9,7 +9,7 @@ use Rattle.ev_frozen_laws.specs.Frozen.{IsAmong}
 use Rattle.ev_rest_laws.proofs.Entries.{SameOr, same_or}
 use Rattle.ev_wait_laws.proofs.ListChains.{reaches_within}
 use Rattle.ev_list_laws.specs.Lists.{Leads, LeadsIn, NoListLeadsBack, IsEnd, IsTested}
-use Rattle.ev_list_laws.proofs.Following.{no_true, name_list, broken_list, settled_new, stands_or, length_changed, standing_same, standing_found, waits_stays, Moves, LeadsOn, WaitedIf, follows_or, settled_on, viewed_on, waited_on, severed_list, list_severed, list_followed}
+use Rattle.ev_list_laws.proofs.Following.{broken_list, settled_new, stands_or, length_changed, standing_same, standing_found, waits_stays, Moves, LeadsOn, WaitedIf, follows_or, settled_on, viewed_on, waited_on, severed_list, list_severed, list_followed}
 
 first_true : (b c : Bool) → b ≡ true → (elim b [ true ↦ true | false ↦ c ]) ≡ true
 first_true b c e = rw e refl

@@ -1,270 +1,249 @@
--- In each vat of a run whose notes tell well no list leads back to itself.
-use Rattle.std.proofs.Common.{◌≡◌, ℕ, zero, suc, Bool, true, false, List, [], ◌∷◌, ◌++◌, Option, Some, None, refl, sym, ap, subst, ◌∙◌, ◌⊎◌, inl, inr, length, map, ◌+◌, arith}
+-- In each vat of every world of a run no list leads back to itself.
+use Rattle.std.proofs.Common.{◌≡◌, ℕ, zero, suc, Bool, true, false, List, [], ◌∷◌, ◌++◌, Option, Some, None, refl, sym, ap, subst, ◌∙◌, length, map, ◌+◌, ◌==◌, arith, append_assoc}
 use Rattle.std.specs.Prelude.{slice_get}
-use Rattle.ev_machine.specs.Values.{Value, Items, Name, Root, Naming, naming, host_of}
-use Rattle.ev_machine.specs.State.{Message, Note, Standing, Unsettled, Viewed, Known, Vat, Done, Gives, Throws, Ejects, Stops, begun, is_in}
+use Rattle.std.proofs.lemmas.Bool.{eq-eqb}
+use Rattle.ev_machine.specs.Values.{Value, Name}
+use Rattle.ev_machine.specs.State.{Unsettled, Viewed, Settled, Known, Vat, begun, is_in}
 use Rattle.ev_machine.specs.Native.{list_at}
 use Rattle.ev_machine.specs.Refs.{entry_of, standing_of, standing_in}
-use Rattle.ev_machine.specs.Eval.{opening}
-use Rattle.ev_machine.specs.Arrive.{notice}
-use Rattle.ev_machine_laws.specs.Steps.{Step, Opens, Takes, Receives, Notices, does, After}
-use Rattle.ev_run.specs.Draws.{draw_word}
 use Rattle.ev_run.specs.World as world
-use Rattle.ev_run.specs.World.{Script, Program, Entry, Turn, Carry, CutLink, NoticeLink, Event, Idle, Link, World, Run, Goes, Stopped, names, names_of, read_note, readied}
+use Rattle.ev_run.specs.World.{Script, Program, Entry, Turn, Carry, CutLink, NoticeLink, Link, World, Run, Goes, Stopped, names}
 use Rattle.ev_name_laws.specs.Names.{AllOf, IsAmong, IsEventual}
-use Rattle.ev_frozen_laws.specs.Frozen.{AllOf as EachOf, MessageThere, NotePasses, Sound}
-use Rattle.ev_frozen_laws.specs.Laws.{StepWell}
-use Rattle.ev_frozen_laws.proofs.RunSound.{WorldSound, LinkPasses, link_passes, note_read, put_at_or, given_well, step_sound, open_sound, begins_sound}
-use Rattle.ev_frozen_laws.proofs.Fine.{MayBe}
+use Rattle.ev_name_laws.specs.Runs.{KnowsOnce}
+use Rattle.ev_name_laws.proofs.Facts.{all_append}
+use Rattle.ev_name_laws.proofs.Laws.{names_made, names_known, next_new, notes_made}
+use Rattle.ev_fate_laws.specs.Wellness.{WorldWell}
+use Rattle.ev_fate_laws.specs.Lasting.{Each, NoteWell}
+use Rattle.ev_fate_laws.specs.Runs.{Reached}
+use Rattle.ev_fate_laws.proofs.RunWell.{runs_stay_well}
+use Rattle.ev_rest_laws.specs.Cuts.{NoticesFollow, NoticesFollowCuts}
+use Rattle.ev_rest_laws.proofs.HostsRuns.{hosts_rest_in_runs}
+use Rattle.ev_rest_laws.proofs.NoticedRuns.{noticed_links_cut}
+use Rattle.ev_rest_laws.proofs.NotesRuns.{notes_name_ends}
+use Rattle.ev_rest_laws.proofs.NotesSpared.{notes_spared}
+use Rattle.ev_frozen_laws.proofs.RunSound.{WorldSound, step_sound, open_sound, begins_sound}
 use Rattle.ev_list_laws.specs.Lists.{NoListLeadsBack}
-use Rattle.ev_list_laws.specs.Ringless.{HoldsOwn, WaitsSpared, NamesRest, Ringless, IsOwnTurn, IsHeeded, NoteBehind, heeded}
-use Rattle.ev_list_laws.specs.Runs.{IsSpared, EntryTellsWell, NotesTellWell, ListsEndIn, ListsEndWhereNotesTellWell}
+use Rattle.ev_list_laws.specs.Ringless.{HoldsOwn, NamesRest, Ringless}
+use Rattle.ev_list_laws.specs.Runs.{ListsEndIn, ListsEndInRuns}
 use Rattle.ev_list_laws.proofs.Following.{no_true}
-use Rattle.ev_list_laws.proofs.Kept.{is_in_none, ringless_quiet}
-use Rattle.ev_list_laws.proofs.TurnsRing.{turns_close_no_ring}
-use Rattle.ev_list_laws.proofs.ArriveRing.{arrivals_close_no_ring}
-use Rattle.ev_list_laws.proofs.NoticeRing.{notice_steps_close_no_ring}
+use Rattle.ev_list_laws.proofs.Kept.{is_in_none}
 use Rattle.ev_list_laws.proofs.Laws.{ringless_lists_end}
-
-after_map : (R S : Vat Name → Type 0) (s : Vat Name) (d : Done Name (Unit {0})) → ((t : Vat Name) → R t → S t) → After (λ r t. R t) s d → After (λ r t. S t) s d
-after_map R S s (Gives a t) f h = f t h
-after_map R S s (Throws p t) f h = f t h
-after_map R S s (Ejects n x t) f h = f t h
-after_map R S s (Stops c t) f h = f t h
+use Rattle.ev_list_laws.proofs.VatStep.{Seen, LinkTrue, RingsBy, Rings}
+use Rattle.ev_list_laws.proofs.Around.{Around, each_all}
+use Rattle.ev_list_laws.proofs.StepRings.{word, N, NoDraws, step_rings, open_rings, weaken_all}
 
 goes_is : (w x : World) → Goes w ≡ Goes x → w ≡ x
 goes_is w x e = cc
 
-module _ (script : Script) where
-  abbrev word : ℕ → ℕ
-  word = draw_word script.key
+-- ---- one more entry
 
-  abbrev K : ℕ → Naming Name Name
-  K v = naming word v
+then_append : (r : Run) (f g : World → Run) (w y : World) → world.then_goes r f ≡ Goes w → ((z : World) → r ≡ Goes z → f z ≡ Goes w → g z ≡ Goes y) → world.then_goes r g ≡ Goes y
+unfolding world.then_goes
+then_append (Goes z) f g w y e h = h z refl e
+then_append (Stopped c n z) f g w y e h = cc
 
-  -- nothing is asked of what waits
-  abbrev Ring : ℕ → Vat Name → Type 0
-  Ring v s = Ringless (K v) v [] s
+then_one : (r : Run) (f : World → Run) (y : World) → r ≡ Goes y → f y ≡ Goes y → world.then_goes r f ≡ Goes y
+unfolding world.then_goes
+then_one r f y e g = rw e g
 
-  -- and with it
-  abbrev Full : ℕ → Vat Name → Type 0
-  Full v s = Ringless (K v) v s.noticed s
+length_end : (e : Entry) (es : List Entry) → length (es ++ e ∷ []) ≡ suc (length es)
+length_end e [] = refl
+length_end e (f ∷ es) = ap suc (length_end e es)
 
-  abbrev In : (ℕ → Vat Name → Type 0) → World → Type 0
-  In P w = (v : ℕ) (s : Vat Name) → slice_get w.vats v ≡ Some s → P v s
+stopped_goes : (c : _) (n : ℕ) (y x : World) → Stopped c n y ≡ Goes x → ⊥
+stopped_goes c n y x e = cc
 
-  weaken : (v : ℕ) (s : Vat Name) → Full v s → Ring v s
-  weaken v s h = record { number = h.number; names = record { here = is_in_none v; spared = λ n k e w. is_in_none k.host; far = h.names.far; views = h.names.views; held = h.names.held; eventual = h.names.eventual }; none = h.none }
+true_or : (b : Bool) → (b ≡ true → ⊥) → b ≡ false
+true_or true f = absurd (f refl)
+true_or false f = refl
 
-  strengthen : (v : ℕ) (s : Vat Name) → WaitsSpared (K v) v s.known s.noticed → is_in v s.noticed ≡ false → Ring v s → Full v s
-  strengthen v s spared here h = record { number = h.number; names = record { here = here; spared = spared; far = h.names.far; views = h.names.views; held = h.names.held; eventual = h.names.eventual }; none = h.none }
+-- notices that follow their cuts do so among the first entries
+front_follows : (done front rest : List Entry) → NoticesFollow done (front ++ rest) → NoticesFollow done front
+front_follows done [] rest h = tt
+front_follows done (Turn v ∷ front) rest h = front_follows (Turn v ∷ done) front rest h
+front_follows done (Carry v w ∷ front) rest h = front_follows (Carry v w ∷ done) front rest h
+front_follows done (CutLink v w ∷ front) rest h = front_follows (CutLink v w ∷ done) front rest h
+front_follows done (NoticeLink v w ∷ front) rest h = (h.0, h.1, front_follows (NoticeLink v w ∷ done) front rest h.2)
 
-  moved : (P : ℕ → Vat Name → Type 0) (w x : World) → In P w → Goes w ≡ Goes x → In P x
-  moved P w x h e = subst (λ y. In P y) (goes_is w x e) h
-
-  put_one : (P : ℕ → Vat Name → Type 0) (v : ℕ) (y : Vat Name) (w : World) → In P w → P v y → (u : ℕ) (t : Vat Name) → ((u ≡ v) × (y ≡ t)) ⊎ (slice_get w.vats u ≡ Some t) → P u t
-  put_one P v y w h k u t (inl e) = subst (λ z. P u z) e.1 (subst (λ z. P z y) (sym e.0) k)
-  put_one P v y w h k u t (inr e) = h u t e
-
-  put_back : (P : ℕ → Vat Name → Type 0) (v : ℕ) (w x : World) (head : List Event) (n : ℕ) (s : Vat Name) (d : Done Name (Unit {0})) → In P w → After (λ r t. P v t) s d → world.put_back v w head n d ≡ Goes x → In P x
-  unfolding world.put_back
-  put_back P v w x head n s (Gives a t) h k e = moved P _ x (λ u r i. put_one P v t w h k u r (put_at_or v t w.vats u r i)) e
-  put_back P v w x head n s (Throws p t) h k e = cc
-  put_back P v w x head n s (Ejects m y t) h k e = cc
-  put_back P v w x head n s (Stops c t) h k e = cc
-
-  -- the state in which a step begins
-  ready_sound : (v : ℕ) (w : World) (s : Vat Name) (ms : List (Message Name)) → Sound (K v) false s → Sound (K v) false (record s { queue = ms }) → Sound (K v) false (readied w (record s { queue = ms }))
-  unfolding readied
-  ready_sound v w s ms h k = record { things = k.things; slots = k.slots; lists = k.lists; stacked = k.stacked; queue = k.queue; known = k.known; outbox = tt }
-
-  ready_ring : (v : ℕ) (w : World) (s : Vat Name) (ms : List (Message Name)) → Sound (K v) false s → Ring v s → Ring v (readied w (record s { queue = ms }))
-  unfolding readied
-  ready_ring v w s ms sound h = ringless_quiet word v false s (readied w (record s { queue = ms })) sound (refl, refl, refl, inl refl) h
-
-  ready_full : (v : ℕ) (w : World) (s : Vat Name) (ms : List (Message Name)) → Sound (K v) false s → Full v s → Full v (readied w (record s { queue = ms }))
-  unfolding readied
-  ready_full v w s ms sound h = ringless_quiet word v true s (readied w (record s { queue = ms })) sound (refl, refl, refl, inl refl) h
-
-  with_queue : (v : ℕ) (s : Vat Name) (m : Message Name) (ms : List (Message Name)) → Sound (K v) false s → s.queue ≡ m ∷ ms → MessageThere s.lists m × Sound (K v) false (record s { queue = ms })
-  with_queue v s m ms h e = let waiting : EachOf (MessageThere s.lists) (m ∷ ms) = rw e at h.queue in
-      (waiting.0, record { things = h.things; slots = h.slots; lists = h.lists; stacked = h.stacked; queue = waiting.1; known = h.known; outbox = h.outbox })
-
-  ready_same : (v : ℕ) (w : World) (s : Vat Name) → Sound (K v) false s → Sound (K v) false (readied w s)
-  unfolding readied
-  ready_same v w s h = record { things = h.things; slots = h.slots; lists = h.lists; stacked = h.stacked; queue = h.queue; known = h.known; outbox = tt }
-
-  ring_same : (v : ℕ) (w : World) (s : Vat Name) → Sound (K v) false s → Ring v s → Ring v (readied w s)
-  unfolding readied
-  ring_same v w s sound h = ringless_quiet word v false s (readied w s) sound (refl, refl, refl, inl refl) h
-
-  full_same : (v : ℕ) (w : World) (s : Vat Name) → Sound (K v) false s → Full v s → Full v (readied w s)
-  unfolding readied
-  full_same v w s sound h = ringless_quiet word v true s (readied w s) sound (refl, refl, refl, inl refl) h
-
-  sound_at : (v : ℕ) (w : World) (s : Vat Name) → WorldSound script false w → slice_get w.vats v ≡ Some s → Sound (K v) false s
-  unfolding names
-  sound_at v w s h e = h.vats v s e
-
-  -- ---- the entries of a schedule
-
-  idle_ring : (k : ℕ) (w x : World) → In Ring w → world.idle script k w ≡ Goes x → In Ring x
-  unfolding world.idle
-  idle_ring k w x h e = moved Ring (record w { history = w.history ++ Idle k ∷ [] }) x h e
-
-  turn_ring : (k v : ℕ) (w x : World) (s : Vat Name) (ms : List (Message Name)) → In Ring w → WorldSound script false w → slice_get w.vats v ≡ Some s → s.queue ≡ ms → EntryTellsWell script w (Turn v) → world.turn_queue script k v w s ms ≡ Goes x → In Ring x
-  unfolding world.turn_queue world.within does names readied
-  turn_ring k v w x s [] h sound i q well e = idle_ring k w x h e
-  turn_ring k v w x s (m ∷ ms) h sound i q well e = let all = well s m ms i q in let here : Sound (K v) false s = sound_at v w s sound i in let waiting = with_queue v s m ms here q in let r : Vat Name = readied w (record s { queue = ms }) in
-      put_back Ring v w x _ _ r _ h (after_map (λ t. Sound (K v) false t × Full v t) (Ring v) r _ (λ t j. weaken v t j.1) (turns_close_no_ring word v (Takes (world.tree_at script.vats v) script.depth m) r all.0 (ready_sound v w s ms here waiting.1) (λ b. absurd (no_true b), waiting.0)
-      (ready_full v w s ms here (strengthen v s all.1.0 all.1.1 (h v s i))))) e
-
-  turn_at : (k v : ℕ) (w x : World) (o : Option (Vat Name)) → slice_get w.vats v ≡ o → In Ring w → WorldSound script false w → EntryTellsWell script w (Turn v) → world.turn script k v w o ≡ Goes x → In Ring x
-  unfolding world.turn
-  turn_at k v w x None i h sound well e = idle_ring k w x h e
-  turn_at k v w x (Some s) i h sound well e = turn_ring k v w x s s.queue h sound i refl well e
-
-  -- what is asked of a note that arrives at that state
-  abbrev Well : World → ℕ → ℕ → Note Name → Vat Name → Type 0
-  Well w from to n s = (heed : Bool) × IsHeeded heed (read_note (names_of s) n) × NoteBehind (names script to) to from (heeded heed s) (readied w s) (read_note (names_of s) n) × (heed ≡ true → IsSpared script to s)
-
-  note_ring : (w : World) (from to : ℕ) (n : Note Name) (s : Vat Name) (heed : Bool) → Sound (K to) false s → NotePasses n → Ring to s → IsHeeded heed (read_note (names_of s) n) → NoteBehind (names script to) to from (heeded heed s) (readied w s) (read_note (names_of s) n) → (heed ≡ true → IsSpared script to s)
-      → After (λ r t. Ring to t) (readied w s) (does (K to) (Receives from (read_note (names_of s) n)) (readied w s))
-  unfolding readied names
-  note_ring w from to n s true sound passes h heeds behind spared = let both = spared refl in after_map (λ t. Sound (K to) false t × Full to t) (Ring to) (readied w s) _ (λ t j. weaken to t j.1)
-      (arrivals_close_no_ring word to from (read_note (names_of s) n) true (readied w s) heeds behind (ready_same to w s sound) (note_read (names_of s) n passes) (full_same to w s sound (strengthen to s both.0 both.1 h)))
-  note_ring w from to n s false sound passes h heeds behind spared = after_map (λ t. Sound (K to) false t × Ring to t) (Ring to) (readied w s) _ (λ t j. j.1)
-      (arrivals_close_no_ring word to from (read_note (names_of s) n) false (readied w s) heeds behind (ready_same to w s sound) (note_read (names_of s) n passes) (ring_same to w s sound h))
-
-  arrives_ring : (k v to : ℕ) (w x : World) (ls : List Link) (n : Note Name) (o : Option (Vat Name)) → slice_get w.vats to ≡ o → In Ring w → WorldSound script false w → NotePasses n → ((s : Vat Name) → slice_get w.vats to ≡ Some s → Well w v to n s) → world.arrives script k v to (record w { links = ls }) n o ≡ Goes x → In Ring x
-  unfolding world.arrives world.within does names readied
-  arrives_ring k v to w x ls n None i h sound passes well e = idle_ring k (record w { links = ls }) x h e
-  arrives_ring k v to w x ls n (Some s) i h sound passes well e = let all = well s i in put_back Ring to (record w { links = ls }) x _ _ (readied w s) _ h (note_ring w v to n s all.0 (sound_at to w s sound i) passes (h to s i) all.1 all.2 all.3) e
-
-  carry_notes_ring : (k v to : ℕ) (w x : World) (ns : List (Note Name)) → In Ring w → WorldSound script false w → EachOf NotePasses ns → ((n : Note Name) (rest : List (Note Name)) (s : Vat Name) → ns ≡ n ∷ rest → slice_get w.vats to ≡ Some s → Well w v to n s) → world.carry_notes script k v to w ns ≡ Goes x → In Ring x
-  unfolding world.carry_notes
-  carry_notes_ring k v to w x [] h sound passes well e = idle_ring k w x h e
-  carry_notes_ring k v to w x (n ∷ ns) h sound passes well e = arrives_ring k v to w x (world.with_link (world.with_notes ns) v to w.links) n (slice_get w.vats to) refl h sound passes.0 (λ s i. well n ns s refl i) e
-
-  carry_cut_ring : (k v to : ℕ) (w x : World) (l : Link) (c : Bool) → In Ring w → WorldSound script false w → LinkPasses l → ((n : Note Name) (rest : List (Note Name)) (s : Vat Name) → l.notes ≡ n ∷ rest → slice_get w.vats to ≡ Some s → Well w v to n s)
-      → elim c [ true ↦ world.idle script k w | false ↦ world.carry_notes script k v to w l.notes ] ≡ Goes x → In Ring x
-  carry_cut_ring k v to w x l true h sound passes well e = idle_ring k w x h e
-  carry_cut_ring k v to w x l false h sound passes well e = carry_notes_ring k v to w x l.notes h sound passes well e
-
-  carry_link_ring : (k v to : ℕ) (w x : World) (o : Option Link) → world.link_at v to w.links ≡ o → MayBe LinkPasses o → In Ring w → WorldSound script false w → EntryTellsWell script w (Carry v to) → world.carry_link script k v to w o ≡ Goes x → In Ring x
-  unfolding world.carry_link
-  carry_link_ring k v to w x None i p h sound well e = idle_ring k w x h e
-  carry_link_ring k v to w x (Some l) i p h sound well e = carry_cut_ring k v to w x l l.cut h sound p (λ n rest s j q. well l n rest s i j q) e
-
-  notice_ring : (k v to : ℕ) (w x : World) (o : Option (Vat Name)) → slice_get w.vats v ≡ o → In Ring w → WorldSound script false w → world.within v w (world.NoticedAt k v to ∷ []) (world.step_number script k) (notice (names script v) to) o ≡ Goes x → In Ring x
-  unfolding world.within does names
-  notice_ring k v to w x None i h sound e = cc
-  notice_ring k v to w x (Some s) i h sound e = let here : Sound (K v) false s = sound_at v w s sound i in put_back Ring v w x _ _ (readied w s) _ h (after_map (λ t. Sound (K v) false t × Ring v t) (Ring v) (readied w s) _ (λ t j. j.1) (notice_steps_close_no_ring word v to (readied w s) (ready_same v w s here) (ring_same v w s here (h v s i)))) e
-
-  step_ring : (entry : Entry) (k : ℕ) (w x : World) → In Ring w → WorldSound script false w → EntryTellsWell script w entry → world.step script entry k w ≡ Goes x → In Ring x
-  unfolding world.step world.cut
-  step_ring (Turn v) k w x h sound well e = turn_at k v w x (slice_get w.vats v) refl h sound well e
-  step_ring (Carry v to) k w x h sound well e = carry_link_ring k v to w x (world.link_at v to w.links) refl (link_passes v to w.links sound.links) h sound well e
-  step_ring (CutLink v to) k w x h sound well e = moved Ring _ x h e
-  step_ring (NoticeLink v to) k w x h sound well e = notice_ring k v to w x (slice_get w.vats v) refl h sound e
-
-  then_ring : (P Q : World → Type 0) (x : World) (r : Run) (f : World → Run) → ((y : World) → r ≡ Goes y → P y) → ((y : World) → P y → f y ≡ Goes x → Q x) → world.then_goes r f ≡ Goes x → Q x
-  unfolding world.then_goes
-  then_ring P Q x (Goes y) f a b e = b y (a y refl) e
-  then_ring P Q x (Stopped c n y) f a b e = cc
-
-  no_well : {A : Type 0} → false ≡ true → A
-  no_well b = absurd (no_true b)
-
-  steps_ring : (es : List Entry) (k : ℕ) (w x : World) → In Ring w → WorldSound script false w → NotesTellWell script es k w → world.steps_from script es k w ≡ Goes x → In Ring x
+module _ (script : Script) (once : KnowsOnce script) where
+  steps_append : (front : List Entry) (k0 : ℕ) (w0 w y : World) (e : Entry) (k : ℕ) → k ≡ k0 + length front → world.steps_from script front k0 w0 ≡ Goes w → world.step script e k w ≡ Goes y → world.steps_from script (front ++ e ∷ []) k0 w0 ≡ Goes y
   unfolding world.steps_from
-  steps_ring [] k w x h sound well e = moved Ring w x h e
-  steps_ring (entry ∷ es) k w x h sound well e = then_ring (λ y. In Ring y × WorldSound script false y × NotesTellWell script es (suc k) y) (λ y. In Ring y) x (world.step script entry k w) (world.steps_from script es (suc k))
-      (λ y i. (step_ring entry k w y h sound well.0 i, step_sound script false (λ b. no_well b) entry k w y sound i, well.1 y i)) (λ y i j. steps_ring es (suc k) y x i.0 i.1 i.2 j) e
+  steps_append [] k0 w0 w y e k n s i = let same : w0 ≡ w = goes_is w0 w s in let one' : k ≡ k0 = (let m : k ≡ k0 + 0 = n in omega arith) in then_one (world.step script e k0 w0) (λ z. Goes z) y (rw (sym same, one') at i) refl
+  steps_append (f ∷ fs) k0 w0 w y e k n s i = then_append (world.step script f k0 w0) (world.steps_from script fs (suc k0)) (world.steps_from script (fs ++ e ∷ []) (suc k0)) w y s (λ z a b. steps_append fs (suc k0) z w y e k (omega arith) b i)
+
+  reached : (P : World → Type 0) (r : Run) (w : World) → r ≡ Goes w → Reached P r → P w
+  reached P (Goes x) w e h = subst P (goes_is x w e) h
+  reached P (Stopped c k x) w e h = cc
+
+  module _ (w0 : World) (k0 : ℕ) (opened : world.open_from script zero script.vats (world.begins script) ≡ Goes w0) where
+    -- what laws of runs say of the world after these entries
+    around : (front : List Entry) (w : World) → NoticesFollowCuts front → world.steps_from script front k0 w0 ≡ Goes w → Around (word script) w
+    unfolding names
+    around front w follows e = record {
+      made = λ v s i. (names_made script once).1 w0 w front k0 opened e v s i;
+      had = λ v s i. (names_known script once).1 w0 w front k0 opened e v s i;
+      next = λ v s i h. ((next_new script once).1 w0 w front k0 opened e v s i v s i).2 h;
+      notes = (notes_made script once).1 w0 w front k0 opened e;
+      ends = (notes_name_ends script once).1 w0 w front k0 opened e;
+      well = each_all (λ (l : Link). Each NoteWell l.notes) w.links (reached WorldWell (world.steps_from script front k0 w0) w e ((runs_stay_well script).1 w0 front k0 opened)).links;
+      rests = λ v s i. (hosts_rest_in_runs script once).1 w0 w front k0 follows opened e v s i;
+      here = λ v s i. true_or (is_in v s.noticed) (λ b. (noticed_links_cut script once w0 w front k0 follows opened e v s i v b).0 refl);
+      spared = λ u v s l i f c. notes_spared script once w0 w front k0 follows opened e u v s l i f c;
+    }
+
+    then_rings : (x : World) (r : Run) (f : World → Run) → ((y : World) → r ≡ Goes y → f y ≡ Goes x → Rings (word script) false x) → world.then_goes r f ≡ Goes x → Rings (word script) false x
+    unfolding world.then_goes
+    then_rings x (Goes y) f g e = g y refl e
+    then_rings x (Stopped c n y) f g e = absurd (stopped_goes c n y x e)
+
+    steps_rings : (es front : List Entry) (k : ℕ) (w x : World) → k ≡ k0 + length front → NoticesFollowCuts (front ++ es) → world.steps_from script front k0 w0 ≡ Goes w → Rings (word script) false w → WorldSound script false w → world.steps_from script es k w ≡ Goes x → Rings (word script) false x
+    unfolding world.steps_from
+    steps_rings [] front k w x n follows e h sound f = record { views = h.views; by = subst (λ y. RingsBy (word script) false h.views y) (goes_is w x f) h.by }
+    steps_rings (entry ∷ es) front k w x n follows e h sound f = then_rings x (world.step script entry k w) (world.steps_from script es (suc k)) (λ y i j. steps_rings es (front ++ entry ∷ []) (suc k) y x (let more = length_end entry front in omega arith)
+        (subst NoticesFollowCuts (sym (append_assoc front (entry ∷ []) es)) follows) (steps_append front k0 w0 w y entry k n e i)
+        (step_rings script entry k w y h sound (around front w (front_follows [] front (entry ∷ es) follows) e) i) (step_sound script false (λ b. absurd (no_true b)) entry k w y sound i) j) f
 
   -- ---- the opening turns
 
-  open_ring : (v : ℕ) (p : Program) (w x : World) (o : Option (Vat Name)) → slice_get w.vats v ≡ o → In Full w → WorldSound script false w → world.within v w (world.Opens v ∷ []) v (opening (names script v) p.tree script.depth (Root v) (world.given script.vats p.knows)) o ≡ Goes x → In Full x
-  unfolding world.within does names host_of
-  open_ring v p w x None i h sound e = cc
-  open_ring v p w x (Some s) i h sound e = let here : Sound (K v) false s = sound_at v w s sound i in put_back Full v w x _ _ (readied w s) _ h (after_map (λ t. Sound (K v) false t × Full v t) (Full v) (readied w s) _ (λ t j. j.1)
-      (turns_close_no_ring word v (Opens p.tree script.depth (Root v) (world.given script.vats p.knows)) (readied w s) refl (ready_same v w s here) (λ b. no_well b, given_well script false (λ b. no_well b) v (readied w s) p.knows) (full_same v w s here (h v s i)))) e
+  then_by : (P Q : World → Type 0) (x : World) (r : Run) (f : World → Run) → ((y : World) → r ≡ Goes y → P y) → ((y : World) → P y → f y ≡ Goes x → Q x) → world.then_goes r f ≡ Goes x → Q x
+  unfolding world.then_goes
+  then_by P Q x (Goes y) f a b e = b y (a y refl) e
+  then_by P Q x (Stopped c n y) f a b e = cc
 
-  opens_ring : (v : ℕ) (ps : List Program) (w x : World) → In Full w → WorldSound script false w → world.open_from script v ps w ≡ Goes x → In Full x × WorldSound script false x
+  abbrev Both : World → Type 0
+  Both w = RingsBy (word script) true (NoDraws script) w × WorldSound script false w
+
+  opens_rings : (v : ℕ) (ps : List Program) (w x : World) → Both w → world.open_from script v ps w ≡ Goes x → Both x
   unfolding world.open_from world.open_vat
-  opens_ring v [] w x h sound e = (moved Full w x h e, subst (λ y. WorldSound script false y) (goes_is w x e) sound)
-  opens_ring v (p ∷ ps) w x h sound e = then_ring (λ y. In Full y × WorldSound script false y) (λ y. In Full y × WorldSound script false y) x (world.open_vat script v p w) (world.open_from script (suc v) ps)
-      (λ y i. (open_ring v p w y (slice_get w.vats v) refl h sound i, open_sound script false (λ b. no_well b) v p w y (λ b. no_well b) sound (slice_get w.vats v) refl i)) (λ y i j. opens_ring (suc v) ps y x i.0 i.1 j) e
+  opens_rings v [] w x h e = subst Both (goes_is w x e) h
+  opens_rings v (p ∷ ps) w x h e = then_by Both Both x (world.open_vat script v p w) (world.open_from script (suc v) ps)
+      (λ y i. (open_rings script v p w y (slice_get w.vats v) refl h.0 h.1 i, open_sound script false (λ b. absurd (no_true b)) v p w y (λ b. absurd (no_true b)) h.1 (slice_get w.vats v) refl i)) (λ y i j. opens_rings (suc v) ps y x i j) e
 
   -- ---- the start
 
-  stands_either : (b : Bool) (k : Known Name) (o : Option (Known Name)) → k.standing ≡ Unsettled → standing_in o ≡ Unsettled → standing_in (elim b [ true ↦ Some k | false ↦ o ]) ≡ Unsettled
-  unfolding standing_in
-  stands_either true k o e f = e
-  stands_either false k o e f = f
+  abbrev Fresh : Known Name → Type 0
+  Fresh k = (k.standing ≡ Unsettled) × (k.waiting ≡ [])
 
-  unsettled : (v : ℕ) (ks : List (Known Name)) (n : Name) → AllOf (λ (k : Known Name). k.standing ≡ Unsettled) ks → standing_of (K v) ks n ≡ Unsettled
-  unfolding standing_of entry_of standing_in
-  unsettled v [] n h = refl
-  unsettled v (k ∷ ks) n h = stands_either ((K v).same k.name n) k (entry_of (K v) ks n) h.0 (unsettled v ks n h.1)
+  found_head : (b : Bool) (k0 k : Known Name) (o : Option (Known Name)) → Fresh k0 → ◌≡◌ {A = Option (Known Name)} (elim b [ true ↦ Some k0 | false ↦ o ]) (Some k) → (o ≡ Some k → Fresh k) → Fresh k
+  found_head true k0 k o h e f = let same : k0 ≡ k = cc in subst (λ (x : Known Name). Fresh x) same h
+  found_head false k0 k o h e f = f e
+
+  found_fresh : (v : ℕ) (ks : List (Known Name)) (n : Name) (k : Known Name) → AllOf Fresh ks → entry_of (N script v) ks n ≡ Some k → Fresh k
+  unfolding entry_of
+  found_fresh v [] n k h e = cc
+  found_fresh v (k0 ∷ ks) n k h e = found_head ((N script v).same k0.name n) k0 k (entry_of (N script v) ks n) h.0 e (λ i. found_fresh v ks n k h.1 i)
+
+  stands_head : (o : Option (Known Name)) → ((k : Known Name) → o ≡ Some k → Fresh k) → standing_in o ≡ Unsettled
+  unfolding standing_in
+  stands_head None f = refl
+  stands_head (Some k) f = (f k refl).0
+
+  unsettled : (v : ℕ) (ks : List (Known Name)) (n : Name) → AllOf Fresh ks → standing_of (N script v) ks n ≡ Unsettled
+  unfolding standing_of
+  unsettled v ks n h = stands_head (entry_of (N script v) ks n) (λ k e. found_fresh v ks n k h e)
 
   view_open : (g : Name) → Unsettled ≡ Viewed g → ⊥
   view_open g e = cc
 
-  roots_unsettled : (us : List ℕ) → AllOf (λ (k : Known Name). k.standing ≡ Unsettled) (map world.known_root us)
+  open_value : (y : Value Name) → Unsettled ≡ Settled y → ⊥
+  open_value y e = cc
+
+  none_waits : (n : Name) (k : Known Name) → Fresh k → IsAmong n k.waiting → ⊥
+  none_waits n k f a = subst (λ xs. IsAmong n xs) f.1 a
+
+  roots_fresh : (us : List ℕ) → AllOf Fresh (map world.known_root us)
   unfolding world.known_root begun
-  roots_unsettled [] = tt
-  roots_unsettled (u ∷ us) = (refl, roots_unsettled us)
+  roots_fresh [] = tt
+  roots_fresh (u ∷ us) = ((refl, refl), roots_fresh us)
 
   roots_hold : (v : ℕ) (us : List ℕ) → AllOf (HoldsOwn v) (map world.known_root us)
   unfolding world.known_root begun
   roots_hold v [] = tt
-  roots_hold v (u ∷ us) = (tt, roots_hold v us)
+  roots_hold v (u ∷ us) = ((tt, tt), roots_hold v us)
 
   roots_eventual : (us : List ℕ) → AllOf (λ (k : Known Name). IsEventual k.name) (map world.known_root us)
   unfolding world.known_root begun
   roots_eventual [] = tt
   roots_eventual (u ∷ us) = (tt, roots_eventual us)
 
-  fresh_stands : (v : ℕ) (p : Program) (n g : Name) → standing_of (K v) (world.fresh script v p).known n ≡ Viewed g → ⊥
+  fresh_all : (v : ℕ) (p : Program) → AllOf Fresh (world.fresh script v p).known
   unfolding world.fresh world.known_root begun
-  fresh_stands v p n g e = view_open g (sym (unsettled v (world.fresh script v p).known n (refl, roots_unsettled p.knows)) ∙ e)
+  fresh_all v p = ((refl, refl), roots_fresh p.knows)
 
-  fresh_none : (v : ℕ) (p : Program) → NoListLeadsBack (K v) (world.fresh script v p)
+  fresh_none : (v : ℕ) (p : Program) → NoListLeadsBack (N script v) (world.fresh script v p)
   unfolding world.fresh list_at
   fresh_none v p zero d h = absurd h.1.1
   fresh_none v p (suc k) d h = absurd h.1.1
 
-  fresh_full : (v : ℕ) (p : Program) → Full v (world.fresh script v p)
+  fresh_names : (A : Name → Type 0) (v : ℕ) (p : Program) → NamesRest (N script v) v (NoDraws script) A (world.fresh script v p).known []
   unfolding world.fresh world.known_root begun
-  fresh_full v p = record {
-    number = refl;
-    names = record { here = is_in_none v; spared = λ n k e w. is_in_none k.host; far = λ n g e i. fresh_stands v p n g e; views = λ n g q k e f a. absurd (fresh_stands v p n g e); held = (tt, roots_hold v p.knows); eventual = (tt, roots_eventual p.knows) };
-    none = fresh_none v p;
+  fresh_names A v p = let ks : List (Known Name) = (world.fresh script v p).known in let all : AllOf Fresh ks = fresh_all v p in record {
+    here = is_in_none v;
+    spared = λ n k e w. is_in_none k.host;
+    far = λ n g e i. view_open g (sym (unsettled v ks n all) ∙ e);
+    seen = λ n g e. absurd (view_open g (sym (unsettled v ks n all) ∙ e));
+    waits = λ n q k e a not. absurd (none_waits n k (found_fresh v ks q k all e) a);
+    settled = λ n y e. absurd (open_value y (sym (unsettled v ks n all) ∙ e));
+    held = ((tt, tt), roots_hold v p.knows);
+    eventual = (tt, roots_eventual p.knows);
   }
+
+  fresh_ring : (A : Name → Type 0) (v : ℕ) (p : Program) → Ringless (N script v) v (NoDraws script) A (world.fresh script v p).noticed (world.fresh script v p)
+  unfolding world.fresh
+  fresh_ring A v p = record { number = refl; names = fresh_names A v p; none = fresh_none v p; queue = tt; gifts = tt }
 
   some_is : (s t : Vat Name) → Some s ≡ Some t → s ≡ t
   some_is s t e = cc
 
-  fresh_from : (u : ℕ) (ps : List Program) (n : ℕ) (s : Vat Name) → slice_get (world.fresh_from script u ps) n ≡ Some s → Full (u + n) s
+  fresh_from : (A : ℕ → Name → Type 0) (u : ℕ) (ps : List Program) (n : ℕ) (s : Vat Name) → slice_get (world.fresh_from script u ps) n ≡ Some s → Ringless (N script (u + n)) (u + n) (NoDraws script) (A (u + n)) s.noticed s
   unfolding world.fresh_from
-  fresh_from u [] n s e = cc
-  fresh_from u (p ∷ ps) zero s e = let same : u ≡ u + zero = omega arith in subst (λ z. Full z s) same (subst (λ t. Full u t) (some_is (world.fresh script u p) s e) (fresh_full u p))
-  fresh_from u (p ∷ ps) (suc n) s e = let same : suc u + n ≡ u + suc n = omega arith in subst (λ z. Full z s) same (fresh_from (suc u) ps n s e)
+  fresh_from A u [] n s e = cc
+  fresh_from A u (p ∷ ps) zero s e = let same : u ≡ u + zero = omega arith in subst (λ z. Ringless (N script z) z (NoDraws script) (A z) s.noticed s) same (subst (λ (t : Vat Name). Ringless (N script u) u (NoDraws script) (A u) t.noticed t) (some_is (world.fresh script u p) s e) (fresh_ring (A u) u p))
+  fresh_from A u (p ∷ ps) (suc n) s e = let same : suc u + n ≡ u + suc n = omega arith in subst (λ z. Ringless (N script z) z (NoDraws script) (A z) s.noticed s) same (fresh_from A (suc u) ps n s e)
 
-  begins_full : In Full (world.begins script)
+  -- a link leads from one vat to another, and bears no note
+  module _ (vats : List (Vat Name)) where
+    abbrev True : Link → Type 0
+    True l = LinkTrue (word script) (NoDraws script) vats l
+
+    either_links : (b : Bool) (l : Link) (ls : List Link) → (b ≡ false → True l) → AllOf True ls → AllOf True (elim b [ true ↦ ls | false ↦ l ∷ ls ])
+    either_links true l ls h i = i
+    either_links false l ls h i = (h refl, i)
+
+    apart : (v w : ℕ) → (v == w) ≡ false → v ≡ w → ⊥
+    apart v w e f = no_true (sym e ∙ eq-eqb v w f)
+
+    links_to_true : (v w : ℕ) (ps : List Program) → AllOf True (world.links_to v w ps)
+    unfolding world.links_to
+    links_to_true v w [] = tt
+    links_to_true v w (p ∷ ps) = either_links (v == w) _ (world.links_to v (suc w) ps) (λ e. (apart v w e, tt)) (links_to_true v (suc w) ps)
+
+    links_from_true : (all : List Program) (v : ℕ) (ps : List Program) → AllOf True (world.links_from all v ps)
+    unfolding world.links_from
+    links_from_true all v [] = tt
+    links_from_true all v (p ∷ ps) = all_append True (world.links_to v zero all) (world.links_from all (suc v) ps) (links_to_true v zero all) (links_from_true all (suc v) ps)
+
+  begins_by : RingsBy (word script) true (NoDraws script) (world.begins script)
   unfolding world.begins
-  begins_full v s e = let same : zero + v ≡ v = omega arith in subst (λ z. Full z s) same (fresh_from zero script.vats v s e)
+  begins_by = let vats : List (Vat Name) = world.fresh_from script zero script.vats in record {
+    drawn = λ i l d. d;
+    vats = λ v s e. (let same : zero + v ≡ v = omega arith in subst (λ z. Ringless (N script z) z (NoDraws script) (Seen (word script) vats z) s.noticed s) same (fresh_from (λ u. Seen (word script) vats u) zero script.vats v s e));
+    links = links_from_true vats script.vats zero script.vats;
+  }
 
-  ends_in : (w : World) → In Ring w → ListsEndIn script w
+  opened_both : (ps : List Program) (w : World) → world.open_from script zero ps (world.begins script) ≡ Goes w → Both w
+  opened_both ps w e = opens_rings zero ps (world.begins script) w (begins_by, begins_sound script false) e
+
+  -- ---- in all
+
+  ends_in : (heed : Bool) (D : ℕ → Type 0) (w : World) → RingsBy (word script) heed D w → ListsEndIn script w
   unfolding names
-  ends_in w h v s e = let none : NoListLeadsBack (K v) s = (h v s e).none in (none, λ x. ringless_lists_end word v s none x)
+  ends_in heed D w h v s e = let none : NoListLeadsBack (N script v) s = (h.vats v s e).none in (none, λ x. ringless_lists_end (word script) v s none x)
 
-  opened : (ps : List Program) (w : World) → world.open_from script zero ps (world.begins script) ≡ Goes w → In Full w × WorldSound script false w
-  opened ps w e = opens_ring zero ps (world.begins script) w begins_full (begins_sound script false) e
+  in_all : (w x : World) (es : List Entry) (k : ℕ) → NoticesFollowCuts es → world.open_from script zero script.vats (world.begins script) ≡ Goes w → world.steps_from script es k w ≡ Goes x → ListsEndIn script x
+  unfolding world.steps_from
+  in_all w x es k follows opened e = let both : Both w = opened_both script.vats w opened in let all : Rings (word script) false x = steps_rings w k opened es [] k w x (omega arith) follows refl (record { views = NoDraws script; by = weaken_all script w both.0 }) both.1 e in
+      ends_in false all.views x all.by
 
-pub lists_end_where_notes_tell_well : ListsEndWhereNotesTellWell
-lists_end_where_notes_tell_well script = (
-  λ ps rest w i e. ends_in script w (λ v s j. weaken script v s ((opened script ps w e).0 v s j)),
-  λ w x es k e well i. let all = opened script script.vats w e in ends_in script x (steps_ring script es k w x (λ v s j. weaken script v s (all.0 v s j)) all.1 well i),
-)
+pub lists_end_in_runs : ListsEndInRuns
+lists_end_in_runs script once = (λ ps rest w i e. ends_in script once true (NoDraws script) w (opened_both script once ps w e).0, λ w x es k follows opened e. in_all script once w x es k follows opened e)

@@ -1,10 +1,10 @@
 -- A name that settles to what its view settled to is followed to no list to which it was not, so it closes no ring.
-use Rattle.std.proofs.Common.{◌≡◌, ℕ, zero, suc, Bool, true, false, List, [], ◌∷◌, Option, Some, None, refl, sym, ap, ◌∙◌, ◌⊎◌, inl, inr, length}
+use Rattle.std.proofs.Common.{◌≡◌, ℕ, zero, suc, true, List, refl, sym, ap, ◌∙◌, ◌⊎◌, inl, inr, length}
 use Rattle.ev_machine.specs.Values.{Value, Null, Flag, Number, Letter, Text, Prim, Broken, Items, Ref, Name, Naming}
 use Rattle.ev_machine.specs.State.{Standing, Unsettled, WaitsOn, Viewed, Settled, Known, Settle, Vat, with_change, changed_to}
 use Rattle.ev_machine.specs.Refs.{standing_of, led, follow_at, follow, severed}
 use Rattle.ev_list_laws.specs.Lists.{NoListLeadsBack, IsEnd, IsTested, ViewSettled, IsBehind}
-use Rattle.ev_list_laws.proofs.Following.{name_list, stands_or, length_changed, Moves, severed_list, list_severed}
+use Rattle.ev_list_laws.proofs.Following.{name_list, stands_or, Moves, severed_list, list_severed}
 use Rattle.ev_list_laws.proofs.Rings.{moves_by, settle_closes_none, plain_closes_none}
 use Rattle.ev_list_laws.proofs.FarEnough.{follows_within, fewer_close_none}
 
@@ -55,7 +55,7 @@ module _ (K : Naming Name Name) (is : (a b : Name) → K.same a b ≡ true → a
 
   -- ---- a name that settles
 
-  list_or : {A : Type 0} (y : Value Name) → ((c : ℕ) → y ≡ Items c → A) → (((c : ℕ) → y ≡ Items c → ⊥) → A) → A
+  pub list_or : {A : Type 0} (y : Value Name) → ((c : ℕ) → y ≡ Items c → A) → (((c : ℕ) → y ≡ Items c → ⊥) → A) → A
   list_or (Items c) f g = f c refl
   list_or Null f g = g (λ c e. cc)
   list_or (Flag b) f g = g (λ c e. cc)

@@ -1,6 +1,6 @@
 //! What lists are made of, and where their members lead.
 
-ghost use Rattle.ev_list_laws.specs.Runs.{ListsEndWhereNotesTellWell};
+ghost use Rattle.ev_list_laws.specs.Runs.{ListsEndInRuns};
 ghost use Rattle.ev_list_laws.specs.Ringless.{ArrivalsCloseNoRing, NoticeStepsCloseNoRing, TurnsCloseNoRing};
 ghost use Rattle.ev_list_laws.specs.Lists.{ListsAreThere, MembersEndInRuns, ChangesCloseNoRing, NewListsCloseNoRing, NewNamesCloseNoRing, NoticesCloseNoRing, FollowingSuffices, RinglessListsEnd, ConditionsAreNeeded};
 
@@ -60,34 +60,37 @@ pub fn ringless_lists_end()
 {}
 
 /// Every opening turn and every turn, from a state in which no list leads back to itself, ends in such
-/// a state. Of the state it is asked too that each list that stands in a value is there, that what
-/// waits has a host that was not noticed, that a name that is viewed is of another vat and waits on
-/// its view alone, that the vat hosts the answers of the messages that it holds, and that what it
-/// knows is no object; and all that holds of the state after. Of the turn it is asked that the name
-/// which it resolves at its end is the vat's own.
+/// a state. A view is a gift of one of the given draws. Of the state it is asked too that each list that
+/// stands in a value is there, that what waits has a host that was not noticed, that a name that is
+/// viewed is of another vat and one of those given, that what waits on a name that is no view is the
+/// vat's own and no view, that a name settles to no promise and no view to a list, that the vat answers
+/// the messages that it has, that a gift that it hosts is named by its draw, that what it knows is no
+/// object, and that the notes put tell truly of what settled; and all that holds of the state after. Of
+/// the turn it is asked that the name which it resolves at its end is the vat's own and no view.
 pub fn turns_close_no_ring()
     ensures { TurnsCloseNoRing }
 {}
 
-/// So does the arrival of every note. Of the note it is asked that nothing which it brings is of a
-/// host that was noticed, that a gift which it opens is the vat's own, that a name which it settles is
-/// not viewed and settles to no promise, and that a name which it tells to have settled elsewhere is
-/// of another vat and waits nowhere, where the gift of the next draw is new.
+/// So does the arrival of every note. Of the note it is asked that it settles a name to no promise,
+/// and to a list only a name that is neither viewed nor a view, that it opens under the draw of a view
+/// only an object, and that a name which it tells to have settled elsewhere is of another vat and one
+/// of those that may be viewed, where the gift of the next draw is new: that draw is then one of a
+/// view. Where it may settle a name to a list, it must name nothing of a host that was noticed, but as
+/// a gift.
 pub fn arrivals_close_no_ring()
     ensures { ArrivalsCloseNoRing }
 {}
 
-/// So does the notice of a cut. Of what waits nothing is asked, and nothing is said of it after.
+/// So does the notice of a cut. Of the hosts of what waits nothing is asked, and nothing is said after.
 pub fn notice_steps_close_no_ring()
     ensures { NoticeStepsCloseNoRing }
 {}
 
-/// In each vat of every world of a run whose notes tell well no list leads back to itself, and from
-/// each value one comes by members, each followed, after no more than as many steps as there are
-/// lists to values without members: after any of the opening turns, and after all of them and any
-/// entries of which each turn takes a message that the vat answers, and each carry brings a note as
-/// `arrivals_close_no_ring` asks; where names may settle to lists, what waits must have a host that was
-/// not noticed.
-pub fn lists_end_where_notes_tell_well()
-    ensures { ListsEndWhereNotesTellWell }
+/// In each vat of every world of every run no list leads back to itself, and from each value one comes
+/// by members, each followed, after no more than as many steps as there are lists to values without
+/// members: after any of the opening turns, and after all of them and any entries in which each notice
+/// stands behind a cut of the same two vats. No vat of the script may be told twice that it knows a
+/// vat, or that it knows itself.
+pub fn lists_end_in_runs()
+    ensures { ListsEndInRuns }
 {}
