@@ -203,7 +203,7 @@ module _ (script : Script) (once : KnowsOnce script) (w x : World) (es : List En
 
   -- ---- providers
 
-  providers : HasProviders x
+  pub providers : HasProviders x
   providers = subst (λ r. Reached HasProviders r) stepped ((one_provider script).1 w es k opened)
 
   abbrev pub Providers : ℕ → ℕ
