@@ -23,11 +23,11 @@ use Rattle.ev_wire_laws.specs.Hearing.{Heard}
 use Rattle.ev_wire_laws.specs.Alike.{draw_of, names_heard, table_heard, wire_name, message_of, by_numbers, by_names}
 use Rattle.ev_wire_laws.proofs.Ranks.{Starts}
 use Rattle.ev_wire_laws.proofs.Asking.{Proper}
-use Rattle.ev_alike_laws.specs.Gifts.{OwnGiftsStand, GiftsWereAskedFor}
-use Rattle.ev_alike_laws.specs.Kinds.{OfNextNotes, IsReadAlike, DeliveriesAreReadAlike, OpeningsAreReadAlike, AsksAreReadAlike, SettlingsAreReadAlike, ShorteningsAreReadAlike, NotesAreReadAlike}
+use Rattle.ev_alike_laws.specs.Gifts.{AskedGiftStands, GiftsWereAskedFor}
+use Rattle.ev_alike_laws.specs.Kinds.{OfNextNotes, IsReadAlike, DeliveriesAreReadAlike, OpeningsAreReadAlike, AsksAreReadAlike, SettlingsAreReadAlike, ShorteningsAreReadAlike, NotesAreReadAlike, NewNotesAreReadAlike}
 use Rattle.ev_alike_laws.proofs.Grow.{starts_same, starts_on, after_starts, passed_known, all_known, export_other}
 use Rattle.ev_alike_laws.proofs.Reading.{Before, Stage, Asks, NoteAlike, Ends, open_alike, shorten_alike, elsewhere_alike, ask_alike, settled_alike, deliver_alike}
-use Rattle.ev_alike_laws.proofs.Worlds.{proper, between, Providers, provides, words, ahead, known, before, stage, ends, asks}
+use Rattle.ev_alike_laws.proofs.Worlds.{proper, between, Providers, provides, words, ahead, known, before, stage, ends, asks, asked_stands, asked_for}
 
 -- the names known before a note are the first of those known after it
 heard_starts : (ks : List Name) (n : Note Name) → Starts ks (names_heard ks n)
@@ -91,7 +91,7 @@ module _ (script : Script) (once : KnowsOnce script) (w x : World) (es : List En
     ends_between : IsBetween v u N
     ends_between = between script once w x es k follow opened stepped v u s there other l at uncut N ns head
 
-    asked_gift : OwnGiftsStand u s → (p i : ℕ) (n : Name) → N ≡ Ask p i n → IsProvidedBy P (length x.drawn) i p → Asks script x v u s N F other p i n
+    asked_gift : AskedGiftStands u N s → (p i : ℕ) (n : Name) → N ≡ Ask p i n → IsProvidedBy P (length x.drawn) i p → Asks script x v u s N F other p i n
     asked_gift = asks script once w x es k follow opened stepped v u s there other l at uncut N ns head F
 
   open_read : (i : ℕ) (n : Name) (head : l.notes ≡ Open i n ∷ ns) (F : List Name) → Starts (names_heard (names_in s.known) (Open i n)) F → GiftsWereAskedFor x v u (Open i n) → NoteAlike script x v u s (Open i n) F other (Open i n)
@@ -106,7 +106,7 @@ module _ (script : Script) (once : KnowsOnce script) (w x : World) (es : List En
   unfolding told_in wire.with_note names_heard
   elsewhere_read n c head F later g = let N = Elsewhere n c in elsewhere_alike script x v u s N F other (was N head F later) (stood N head F later) (knew N head F later) (drew N head F later) n c (ended N head F later g n (inl refl)) later (went N head F later)
 
-  ask_read : (p i : ℕ) (n : Name) (head : l.notes ≡ Ask p i n ∷ ns) (F : List Name) → Starts (names_heard (names_in s.known) (Ask p i n)) F → OwnGiftsStand u s → NoteAlike script x v u s (Ask p i n) F other (Ask p i n)
+  ask_read : (p i : ℕ) (n : Name) (head : l.notes ≡ Ask p i n ∷ ns) (F : List Name) → Starts (names_heard (names_in s.known) (Ask p i n)) F → AskedGiftStands u (Ask p i n) s → NoteAlike script x v u s (Ask p i n) F other (Ask p i n)
   ask_read p i n head F later g = let N = Ask p i n in let q = gave N head F later in ask_alike script x v u s N F other (was N head F later) (stood N head F later) (knew N head F later) (drew N head F later) p i n q.0 (asked_gift N head F later g p i n refl q)
 
   settled_read : (n : Name) (y : Passed Name) (head : l.notes ≡ SettledTo n y ∷ ns) (F : List Name) → Starts (names_heard (names_in s.known) (SettledTo n y)) F → GiftsWereAskedFor x v u (SettledTo n y) → NoteAlike script x v u s (SettledTo n y) F other (SettledTo n y)
@@ -120,7 +120,7 @@ module _ (script : Script) (once : KnowsOnce script) (w x : World) (es : List En
 
   -- ---- any note
 
-  pub note_read : (N : Note Name) (head : l.notes ≡ N ∷ ns) (F : List Name) → Starts (names_heard (names_in s.known) N) F → OwnGiftsStand u s → GiftsWereAskedFor x v u N → NoteAlike script x v u s N F other N
+  pub note_read : (N : Note Name) (head : l.notes ≡ N ∷ ns) (F : List Name) → Starts (names_heard (names_in s.known) N) F → AskedGiftStands u N s → GiftsWereAskedFor x v u N → NoteAlike script x v u s N F other N
   note_read (Deliver m n verb ys) head F later o g = deliver_read m n verb ys head F later g
   note_read (Open i n) head F later o g = open_read i n head F later g
   note_read (Ask p i n) head F later o g = ask_read p i n head F later o
@@ -143,8 +143,8 @@ module _ (script : Script) (once : KnowsOnce script) (w x : World) (es : List En
   pub openings : (N : Note Name) → l.notes ≡ N ∷ ns → (i : ℕ) (n : Name) → N ≡ Open i n → GiftsWereAskedFor x v u N → Reads N
   openings N head i n e g = let M = Open i n in subst Reads (sym e) (alike_read script x v u s other M (open_read i n (head_is N M head e) (Same M) (starts_same (Same M)) (subst (λ z. GiftsWereAskedFor x v u z) e g)))
 
-  pub askings : (N : Note Name) → l.notes ≡ N ∷ ns → (p i : ℕ) (n : Name) → N ≡ Ask p i n → OwnGiftsStand u s → Reads N
-  askings N head p i n e g = let M = Ask p i n in subst Reads (sym e) (alike_read script x v u s other M (ask_read p i n (head_is N M head e) (Same M) (starts_same (Same M)) g))
+  pub askings : (N : Note Name) → l.notes ≡ N ∷ ns → (p i : ℕ) (n : Name) → N ≡ Ask p i n → AskedGiftStands u N s → Reads N
+  askings N head p i n e g = let M = Ask p i n in subst Reads (sym e) (alike_read script x v u s other M (ask_read p i n (head_is N M head e) (Same M) (starts_same (Same M)) (subst (λ z. AskedGiftStands u z s) e g)))
 
   pub settlings : (N : Note Name) → l.notes ≡ N ∷ ns → (n : Name) (y : Passed Name) → N ≡ SettledTo n y → GiftsWereAskedFor x v u N → Reads N
   settlings N head n y e g = let M = SettledTo n y in subst Reads (sym e) (alike_read script x v u s other M (settled_read n y (head_is N M head e) (Same M) (starts_same (Same M)) (subst (λ z. GiftsWereAskedFor x v u z) e g)))
@@ -152,7 +152,7 @@ module _ (script : Script) (once : KnowsOnce script) (w x : World) (es : List En
   pub shortenings : (N : Note Name) → l.notes ≡ N ∷ ns → (n : Name) (c i : ℕ) → N ≡ Shorten n c i → GiftsWereAskedFor x v u N → Reads N
   shortenings N head n c i e g = let M = Shorten n c i in subst Reads (sym e) (alike_read script x v u s other M (shorten_read n c i (head_is N M head e) (Same M) (starts_same (Same M)) (subst (λ z. GiftsWereAskedFor x v u z) e g)))
 
-  pub every : (N : Note Name) → l.notes ≡ N ∷ ns → OwnGiftsStand u s → GiftsWereAskedFor x v u N → Reads N
+  pub every : (N : Note Name) → l.notes ≡ N ∷ ns → AskedGiftStands u N s → GiftsWereAskedFor x v u N → Reads N
   every N head o g = alike_read script x v u s other N (note_read N head (Same N) (starts_same (Same N)) o g)
 
 pub deliveries_alike : DeliveriesAreReadAlike
@@ -172,3 +172,7 @@ shortenings_alike script once w x es k follow opened stepped v u s there other l
 
 pub notes_alike : NotesAreReadAlike
 notes_alike script once w x es k follow opened stepped v u s there other l at uncut note ns head = every script once w x es k follow opened stepped v u s there other l at uncut ns note head
+
+pub new_notes_alike : NewNotesAreReadAlike
+new_notes_alike script once w x es k follow new opened stepped v u s there other l at uncut note ns head brings =
+    every script once w x es k follow opened stepped v u s there other l at uncut ns note head (asked_stands x v u note s brings) (asked_for script once w x es k follow opened stepped v u s there other l at uncut note ns head new)

@@ -4,5 +4,6 @@ pub mod Reading
 pub mod Asking
 pub mod Order
 pub mod Learning
+pub mod OrderRuns
 pub mod Worlds
 pub mod Laws

@@ -19,6 +19,10 @@ use Rattle.ev_name_laws.proofs.Among.{all_among}
 use Rattle.ev_rest_laws.specs.Cuts.{NoticesFollowCuts}
 use Rattle.ev_rest_laws.specs.Notes.{IsBetween, Carries, LinkFits, LinkCarries}
 use Rattle.ev_rest_laws.proofs.NotesRuns.{notes_name_ends, notes_carry_ends}
+use Rattle.ev_table_laws.specs.Knowing.{claims, new_gift_here, brings}
+use Rattle.ev_table_laws.specs.Runs.{allowed, brings_here, BringsNew, NotesBringNew}
+use Rattle.ev_table_laws.proofs.Bounds.{allowed_once}
+use Rattle.ev_answer_laws.proofs.Onward.{self_one, claims_known}
 use Rattle.ev_answer_laws.specs.Behind.{Avoids, NamesNot}
 use Rattle.ev_answer_laws.proofs.First.{among_dec}
 use Rattle.ev_answer_laws.proofs.LegRuns.{sender_of, unknown_not}
@@ -40,9 +44,10 @@ use Rattle.ev_wire_laws.proofs.Laws.{asked_for_known, was_asked_known, exported_
 use Rattle.ev_wire_laws.proofs.SourceLaws.{names_from_hosts}
 use Rattle.ev_wire_laws.proofs.GivenLaws.{notes_name_given}
 use Rattle.ev_wire_laws.proofs.WireRuns.{Wire, stepped_both}
-use Rattle.ev_alike_laws.specs.Gifts.{OwnGiftsStand, GiftsWereAskedFor}
+use Rattle.ev_alike_laws.specs.Gifts.{AskedGiftStands, GiftsWereAskedFor}
 use Rattle.ev_alike_laws.proofs.Grow.{true_false, on_bool, among_left, among_right, questions_twice}
 use Rattle.ev_alike_laws.proofs.Words.{draw_is}
+use Rattle.ev_alike_laws.proofs.OrderRuns.{gifts_asked_first}
 use Rattle.ev_alike_laws.proofs.Reading.{Before, Stage, Yours, Ends, Asks}
 
 -- ---- lists
@@ -133,6 +138,26 @@ unfolding gift_at
 entered_found P d p i [] e h a n = a
 entered_found P d p i (g ∷ gs) e h (inl f) n = true_false (is_gift p i g) (is_gift_of p i g (sym h.0.1 ∙ ap P f ∙ e) f) (none_or (is_gift p i g) g (gift_at p i gs) n).0
 entered_found P d p i (g ∷ gs) e h (inr a) n = entered_found P d p i gs e h.1 a (none_or (is_gift p i g) g (gift_at p i gs) n).1
+
+-- a gift that is known and is asked for stands, where the note that asks brings what is new
+entered_mid : (i : ℕ) (g : GiftEntry Name) (gs : List (GiftEntry Name)) → IsAmong g gs → g.number ≡ i → IsEntered i gs
+entered_mid i g [] a e = a
+entered_mid i g (h ∷ gs) (inl f) e = inl (ap (λ (z : GiftEntry Name). z.number) (sym f) ∙ e)
+entered_mid i g (h ∷ gs) (inr a) e = inr (entered_mid i g gs a e)
+
+entered_or : (u p i : ℕ) (gs : List (GiftEntry Name)) (o : Option (GiftEntry Name)) → gift_at p i gs ≡ o → new_gift_here u (Gift u i) i o ≤ 0 → IsEntered i gs
+unfolding new_gift_here
+entered_or u p i gs (Some g) e h = let f = found_entry p i gs g e in entered_mid i g gs f.0 (gift_number p i g f.1)
+entered_or u p i gs None e h = let one_here = self_one (Gift u i) in absurd (omega arith)
+
+pub asked_stands : (w : World) (v u : ℕ) (n : Note Name) (s : Vat Name) → BringsNew w v u n s → AskedGiftStands u n s
+unfolding world.read_note world.names_of brings_here brings
+asked_stands w v u (Ask p i n) s h = λ a. let b = h (Gift u i) in let c = claims_known u (Gift u i) s.known a in let d = allowed_once u (Gift u i) s (length w.drawn) in entered_or u p i s.gifts (gift_at p i s.gifts) refl (omega arith)
+asked_stands w v u (Deliver m n verb ys) s h = tt
+asked_stands w v u (Open i n) s h = tt
+asked_stands w v u (SettledTo n y) s h = tt
+asked_stands w v u (Elsewhere n c) s h = tt
+asked_stands w v u (Shorten n c i) s h = tt
 
 -- ---- the vats of a link
 
@@ -315,6 +340,36 @@ module _ (script : Script) (once : KnowsOnce script) (w x : World) (es : List En
       either (inl a) = a
       either (inr a) = let r = asker u n l.notes a in asked_late g n t p r.0 r.1 (own_asks r.0 r.1) r.2
 
+  -- where notes bring what is new, a gift was asked for before it is told
+  not_answer : (m : Name) (i : ℕ) → IsMessageName m → answer_of u m ≡ Gift u i → ⊥
+  unfolding answer_of
+  not_answer (Message_name m) i o e = cc
+  not_answer (Root c) i o e = o
+  not_answer (Object c j) i o e = o
+  not_answer (Promise c j) i o e = o
+  not_answer (Answer c m) i o e = o
+  not_answer (Gift c j) i o e = o
+
+  told_none : (p i : ℕ) (n m : Name) → Ask p i n ≡ N → IsAmong m (told_in N) → ⊥
+  unfolding told_in
+  told_none p i n m e a = subst (λ y. IsAmong m (told_in y)) (sym e) a
+
+  late : NotesBringNew script es k w → (i : ℕ) → IsAmong (Gift u i) (told_in N) → (y : Note Name) → IsAmong y (N ∷ ns) → AsksOwn u y → AsksOf u y (Gift u i) → ⊥
+  late new i t (Deliver m to verb ys) a o e = not_answer m i o e
+  late new i t (Ask p j n) (inl f) o e = told_none p j n (Gift u i) f t
+  late new i t (Ask p j n) (inr a) o e = gifts_asked_first script once w x es k new opened stepped v u l at Front ns N (splits.1 ∙ ap (λ ms. Front ++ ms) head) p j n (subst (λ z. IsAmong z (told_in N)) (sym e) t) a
+  late new i t (Open j n) a o e = e
+  late new i t (SettledTo n y) a o e = e
+  late new i t (Elsewhere n c) a o e = e
+  late new i t (Shorten n c j) a o e = e
+
+  pub asked_for : NotesBringNew script es k w → GiftsWereAskedFor x v u N
+  asked_for new i t p = either (among_split (Gift u i) Answers (wire.questions_in u l.notes) (subst (λ qs. IsAmong (Gift u i) qs) put_is p))
+    where
+      either : IsAmong (Gift u i) Answers ⊎ IsAmong (Gift u i) (wire.questions_in u l.notes) → IsAmong (Gift u i) Answers
+      either (inl a) = a
+      either (inr a) = let r = asker u (Gift u i) l.notes a in absurd (late new i t r.0 (subst (λ ms. IsAmong r.0 ms) head r.1) (own_asks r.0 r.1) r.2)
+
   pub ends : (F : List Name) → GiftsWereAskedFor x v u N → (n : Name) → IsAmong n (told_in N) → Ends script x v u s N F other n
   ends F g n t = either (told_ends v u n N (λ e. other (sym e)) proper between carries t)
     where
@@ -342,15 +397,18 @@ module _ (script : Script) (once : KnowsOnce script) (w x : World) (es : List En
   unfolding wire.questions_in
   asks_itself p i n = inl refl
 
-  pub asks : (F : List Name) → OwnGiftsStand u s → (p i : ℕ) (n : Name) → N ≡ Ask p i n → IsProvidedBy Providers (length x.drawn) i p → Asks script x v u s N F other p i n
+  pub asks : (F : List Name) → AskedGiftStands u N s → (p i : ℕ) (n : Name) → N ≡ Ask p i n → IsProvidedBy Providers (length x.drawn) i p → Asks script x v u s N F other p i n
   asks F g p i n e q = record {
     host = ap host_of same ∙ gift_host i;
     eventual = ap (is_old (names_in s.known)) same ∙ gift_old i ∙ ap (has_name (names_in s.known)) (sym same);
     put = subst (λ qs. IsAmong n qs) (sym put_is) (among_right n Answers (wire.questions_in u l.notes) (subst (λ ms. IsAmong n (wire.questions_in u ms)) (sym (head ∙ ap (λ z. z ∷ ns) e)) (asks_itself p i n)));
     entry = λ h f. entry h (found_entry p i s.gifts h f);
-    absent = λ f a. entered_found Providers (length x.drawn) p i s.gifts q.1 provided (g i (subst (λ z. IsAmong z (names_in s.known)) same a)) f;
+    absent = λ f a. entered_found Providers (length x.drawn) p i s.gifts q.1 provided (stands (subst (λ z. IsAmong z (names_in s.known)) same a)) f;
   }
     where
+      stands : IsAmong (Gift u i) (names_in s.known) → IsEntered i s.gifts
+      stands = subst (λ y. AskedGiftStands u y s) e g
+
       own : AsksOwn u (Ask p i n)
       own = subst (λ y. AsksOwn u y) e sent.0
 

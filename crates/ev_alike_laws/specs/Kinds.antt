@@ -5,9 +5,10 @@ use Rattle.ev_machine.specs.State.{Passed, Passeds, Note, Deliver, Open, Ask, Se
 use Rattle.ev_name_laws.specs.Runs.{KnowsOnce}
 use Rattle.ev_run.specs.World.{Script, Entry, World, Goes, begins, open_from, steps_from}
 use Rattle.ev_rest_laws.specs.Cuts.{NoticesFollowCuts}
+use Rattle.ev_table_laws.specs.Runs.{BringsNew, NotesBringNew}
 use Rattle.ev_wire_laws.specs.Known.{OnUncutLink}
 use Rattle.ev_wire_laws.specs.Alike.{by_numbers, by_names}
-use Rattle.ev_alike_laws.specs.Gifts.{OwnGiftsStand, GiftsWereAskedFor}
+use Rattle.ev_alike_laws.specs.Gifts.{AskedGiftStands, GiftsWereAskedFor}
 
 -- In every world of a run in which each notice stands behind a cut of the same two vats: it holds of the note that stands first on the link from v to u, another vat, where that link is not cut and s is the state of u.
 abbrev pub OfNextNotes : (Script → World → ℕ → ℕ → Vat Name → Note Name → Type 0) → Type 0
@@ -28,7 +29,7 @@ OpeningsAreReadAlike = OfNextNotes (λ script x v u s note. (i : ℕ) (n : Name)
 
 -- that a gift is asked for
 abbrev pub AsksAreReadAlike : Type 0
-AsksAreReadAlike = OfNextNotes (λ script x v u s note. (p i : ℕ) (n : Name) → note ≡ Ask p i n → OwnGiftsStand u s → IsReadAlike script x v u s note)
+AsksAreReadAlike = OfNextNotes (λ script x v u s note. (p i : ℕ) (n : Name) → note ≡ Ask p i n → AskedGiftStands u note s → IsReadAlike script x v u s note)
 
 -- what a name settled to
 abbrev pub SettlingsAreReadAlike : Type 0
@@ -40,4 +41,9 @@ ShorteningsAreReadAlike = OfNextNotes (λ script x v u s note. (n : Name) (c i :
 
 -- any note
 abbrev pub NotesAreReadAlike : Type 0
-NotesAreReadAlike = OfNextNotes (λ script x v u s note. OwnGiftsStand u s → GiftsWereAskedFor x v u note → IsReadAlike script x v u s note)
+NotesAreReadAlike = OfNextNotes (λ script x v u s note. AskedGiftStands u note s → GiftsWereAskedFor x v u note → IsReadAlike script x v u s note)
+
+-- So each note is, in every world of a run whose notes bring what is new, where it brings what is new too.
+abbrev pub NewNotesAreReadAlike : Type 0
+NewNotesAreReadAlike = (script : Script) → KnowsOnce script → (w x : World) (es : List Entry) (k : ℕ) → NoticesFollowCuts es → NotesBringNew script es k w → open_from script zero script.vats (begins script) ≡ Goes w → steps_from script es k w ≡ Goes x
+    → (v u : ℕ) (s : Vat Name) → slice_get x.vats u ≡ Some s → (v ≡ u → ⊥) → OnUncutLink x v u (λ l. (n : Note Name) (ns : List (Note Name)) → l.notes ≡ n ∷ ns → BringsNew x v u n s → IsReadAlike script x v u s n)

@@ -1,2 +1,3 @@
 pub mod Gifts
+pub mod Order
 pub mod Kinds

@@ -5,7 +5,8 @@
 //! each notice stands behind a cut of the same two vats, and no vat of the script may be told twice that
 //! it knows a vat, or that it knows itself. Each law names what it asks of gifts, if anything.
 
-ghost use Rattle.ev_alike_laws.specs.Kinds.{DeliveriesAreReadAlike, OpeningsAreReadAlike, AsksAreReadAlike, SettlingsAreReadAlike, ShorteningsAreReadAlike, NotesAreReadAlike};
+ghost use Rattle.ev_alike_laws.specs.Order.{GiftsAreAskedForFirst};
+ghost use Rattle.ev_alike_laws.specs.Kinds.{DeliveriesAreReadAlike, OpeningsAreReadAlike, AsksAreReadAlike, SettlingsAreReadAlike, ShorteningsAreReadAlike, NotesAreReadAlike, NewNotesAreReadAlike};
 
 /// A message is read alike: its target, its arguments from left to right, and what is new among them.
 pub fn deliveries_are_read_alike()
@@ -17,8 +18,8 @@ pub fn openings_are_read_alike()
     ensures { OpeningsAreReadAlike }
 {}
 
-/// A gift that is asked for is read alike, where each gift of its own that the receiver knows stands
-/// among its gifts.
+/// A gift that is asked for is read alike, where it stands among the gifts of the receiver if the receiver
+/// knows it.
 pub fn asks_are_read_alike()
     ensures { AsksAreReadAlike }
 {}
@@ -33,7 +34,18 @@ pub fn shortenings_are_read_alike()
     ensures { ShorteningsAreReadAlike }
 {}
 
-/// Every note is read alike.
+/// Every note is read alike, under both of what the kinds ask of gifts.
 pub fn notes_are_read_alike()
     ensures { NotesAreReadAlike }
+{}
+
+/// Every note is read alike in each run whose notes bring what is new: nothing else is asked of gifts.
+pub fn new_notes_are_read_alike()
+    ensures { NewNotesAreReadAlike }
+{}
+
+/// No note names a gift for which a later note of the same link asks, in every world of a run whose notes
+/// bring what is new. It is said of all notes that were ever put.
+pub fn gifts_are_asked_for_first()
+    ensures { GiftsAreAskedForFirst }
 {}
