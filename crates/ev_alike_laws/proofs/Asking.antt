@@ -1,7 +1,7 @@
 -- A turn, a notice, and what follows once a note is learnt put no note that asks for a gift.
-use Rattle.std.proofs.Common.{◌≡◌, ℕ, zero, suc, ◌-◌, Bool, true, false, List, [], ◌∷◌, ◌++◌, Option, Some, None, refl, sym, ap, ◌∙◌, append_assoc, append-nil, length, ◌==◌}
-use Rattle.ev_machine.specs.Values.{Words, Value, Broken, Ref, Name, Naming, Coming, Mailing, IsOwn, IsAnswer}
-use Rattle.ev_machine.specs.State.{Binding, Message, Standing, Unsettled, WaitsOn, Viewed, Settled, Known, Change, ToTell, Passed, Passeds, Plain, AGift, Many, NoMore, More, Note, Deliver, Open, Ask, SettledTo, Elsewhere, Shorten, Put, GiftEntry, Happened, Took, Sends, Reacts, Posted, Vat, Done, Gives, Throws, Ejects, Stops, Act, ◌>>=◌, ◌>>◌, and_then, give, look, tell, change, dead, holding, enqueue, send_out, new_gift, with_opened, open_gift, mark, drawn_at, draws, draw, with_change, alter, come, mail, new_message, begun}
+use Rattle.std.proofs.Common.{◌≡◌, ℕ, zero, suc, ◌-◌, Bool, true, false, List, [], ◌∷◌, ◌++◌, Option, Some, None, refl, sym, ap, ◌∙◌, append_assoc, append-nil, length}
+use Rattle.ev_machine.specs.Values.{Words, Value, Broken, Ref, Name, Naming, Coming, Mailing, IsAnswer}
+use Rattle.ev_machine.specs.State.{Binding, Message, Standing, Unsettled, WaitsOn, Viewed, Settled, Known, Change, ToTell, Passed, Passeds, Plain, AGift, Many, NoMore, More, Note, Deliver, Open, Ask, SettledTo, Elsewhere, Shorten, Put, GiftEntry, Happened, Took, Vat, Act, ◌>>=◌, ◌>>◌, look, tell, change, dead, holding, enqueue, send_out, new_gift, with_opened, open_gift, mark, drawn_at, draws, draw, with_change, alter, come, mail, new_message, begun}
 use Rattle.ev_machine.specs.Refs as refs
 use Rattle.ev_machine.specs.Refs.{Place, Near, Mine, Away, Gone}
 use Rattle.ev_machine.specs.Arrive as arrive
@@ -15,7 +15,7 @@ use Rattle.ev_name_laws.proofs.Facts.{all_append}
 use Rattle.ev_name_laws.proofs.Among.{names_end}
 use Rattle.ev_name_laws.proofs.Tracked.{names_change}
 use Rattle.ev_wire_laws.proofs.Ranks.{Starts}
-use Rattle.ev_alike_laws.proofs.Grow.{starts_same, starts_end, starts_on}
+use Rattle.ev_alike_laws.proofs.Grow.{starts_on}
 
 -- a stop may leave any state
 abbrev pub Any : Vat Name → Vat Name → Type 0

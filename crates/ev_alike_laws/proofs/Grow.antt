@@ -1,5 +1,5 @@
 -- What a note brings is added at the end: to the names that its receiver knows, and to what its sender exported.
-use Rattle.std.proofs.Common.{◌≡◌, ℕ, zero, suc, ◌<◌, Bool, true, false, List, [], ◌∷◌, ◌++◌, Option, Some, None, refl, sym, ap, subst, ◌∙◌, ◌⊎◌, inl, inr, length, map, append_assoc, append-nil, ◌==◌, arith}
+use Rattle.std.proofs.Common.{◌≡◌, ℕ, zero, suc, ◌<◌, Bool, true, false, List, [], ◌∷◌, ◌++◌, Some, refl, sym, ap, subst, ◌∙◌, ◌⊎◌, inl, inr, length, append_assoc, append-nil, ◌==◌, arith}
 use Rattle.std.specs.Prelude.{slice_get}
 use Rattle.std.proofs.lemmas.Bool.{eqb-true, eq-eqb}
 use Rattle.ev_machine.specs.Values.{Value, Null, Flag, Number, Letter, Text, Prim, Broken, Items, Ref, Name, Root, Object, Promise, Answer, Gift, Sent, same_name, host_of, answer_of}
@@ -9,7 +9,7 @@ use Rattle.ev_run.specs.World.{has_name, is_old, known_after}
 use Rattle.ev_run.specs.Wire as wire
 use Rattle.ev_name_laws.specs.Names.{IsAmong, IsKnownIn}
 use Rattle.ev_name_laws.proofs.SameNames.{has_among, among_has, same_self}
-use Rattle.ev_name_laws.proofs.Among.{among_more, among_last, among_or}
+use Rattle.ev_name_laws.proofs.Among.{among_last, among_or}
 use Rattle.ev_wire_laws.proofs.Ranks.{Starts}
 
 pub true_false : (b : Bool) → b ≡ true → b ≡ false → ⊥

@@ -1,5 +1,5 @@
 -- The next note to arrive is read alike, kind by kind.
-use Rattle.std.proofs.Common.{◌≡◌, ℕ, zero, ◌<◌, false, List, [], ◌∷◌, ◌++◌, Option, Some, refl, sym, ap, subst, ◌∙◌, inl, length, map}
+use Rattle.std.proofs.Common.{◌≡◌, ℕ, zero, ◌<◌, false, List, ◌∷◌, Some, refl, sym, ap, subst, ◌∙◌, inl, length}
 use Rattle.std.specs.Prelude.{slice_get, option_map}
 use Rattle.ev_machine.specs.Values.{Words, Name, host_of, Local}
 use Rattle.ev_machine.specs.State.{Passed, Passeds, Note, Deliver, Open, Ask, SettledTo, Elsewhere, Shorten, Vat}
@@ -24,7 +24,7 @@ use Rattle.ev_wire_laws.specs.Alike.{draw_of, names_heard, table_heard, wire_nam
 use Rattle.ev_wire_laws.proofs.Ranks.{Starts}
 use Rattle.ev_wire_laws.proofs.Asking.{Proper}
 use Rattle.ev_alike_laws.specs.Gifts.{AskedGiftStands, GiftsWereAskedFor}
-use Rattle.ev_alike_laws.specs.Kinds.{OfNextNotes, IsReadAlike, DeliveriesAreReadAlike, OpeningsAreReadAlike, AsksAreReadAlike, SettlingsAreReadAlike, ShorteningsAreReadAlike, NotesAreReadAlike, NewNotesAreReadAlike}
+use Rattle.ev_alike_laws.specs.Kinds.{IsReadAlike, DeliveriesAreReadAlike, OpeningsAreReadAlike, AsksAreReadAlike, SettlingsAreReadAlike, ShorteningsAreReadAlike, NotesAreReadAlike, NewNotesAreReadAlike}
 use Rattle.ev_alike_laws.proofs.Grow.{starts_same, starts_on, after_starts, passed_known, all_known, export_other}
 use Rattle.ev_alike_laws.proofs.Reading.{Before, Stage, Asks, NoteAlike, Ends, open_alike, shorten_alike, elsewhere_alike, ask_alike, settled_alike, deliver_alike}
 use Rattle.ev_alike_laws.proofs.Worlds.{proper, between, Providers, provides, words, ahead, known, before, stage, ends, asks, asked_stands, asked_for}

@@ -1,7 +1,7 @@
 -- Where names are known once, a note that arrives asks for gifts that are new, in front of all that names them.
-use Rattle.std.proofs.Common.{◌≡◌, ℕ, zero, suc, Bool, true, false, List, [], ◌∷◌, ◌++◌, Option, Some, None, refl, sym, ap, subst, ◌∙◌, ◌⊎◌, inl, inr, append_assoc, append-nil, if◌then◌else◌, codes, length, ◌==◌}
-use Rattle.ev_machine.specs.Values.{Words, Value, Null, Flag, Number, Letter, Text, Prim, Broken, Items, Ref, Name, Root, Object, Promise, Answer, Gift, Sent, same_reference, Naming, IsGift, naming, name_of, mail_of, host_of}
-use Rattle.ev_machine.specs.State.{Known, Settle, Passed, Passeds, Plain, AGift, Many, NoMore, More, Note, Deliver, Open, Ask, SettledTo, Elsewhere, Shorten, Put, Settles, ListCame, Vat, Done, Gives, Throws, Ejects, Stops, Act, ◌>>=◌, ◌>>◌, and_then, give, look, tell, each, come, mail, draw, draws, drawn_at, new_list, send_out, alter, with_change, is_in, begun}
+use Rattle.std.proofs.Common.{◌≡◌, ℕ, suc, Bool, true, false, List, [], ◌∷◌, ◌++◌, Option, Some, None, refl, sym, ap, subst, ◌∙◌, ◌⊎◌, inl, inr, append_assoc, append-nil, if◌then◌else◌, length, ◌==◌}
+use Rattle.ev_machine.specs.Values.{Words, Value, Null, Flag, Number, Letter, Text, Prim, Broken, Items, Ref, Name, Gift, same_reference, Naming, IsGift, naming, name_of, mail_of, host_of}
+use Rattle.ev_machine.specs.State.{Known, Settle, Passed, Passeds, Plain, AGift, Many, NoMore, More, Note, Deliver, Open, Ask, SettledTo, Elsewhere, Shorten, Put, Settles, ListCame, Vat, Done, Gives, Throws, Ejects, Stops, Act, ◌>>=◌, ◌>>◌, and_then, give, look, tell, each, come, mail, draw, draws, new_list, send_out, alter, with_change, is_in, begun}
 use Rattle.ev_machine.specs.Refs as refs
 use Rattle.ev_machine.specs.Refs.{entry_of, host_at}
 use Rattle.ev_machine.specs.Arrive as arrive
@@ -11,7 +11,7 @@ use Rattle.ev_machine_laws.specs.Steps.{After}
 use Rattle.ev_machine_laws.proofs.Keeps.{Keeps, IsKept, IsKeptUnder, keeps_bind, keeps_give}
 use Rattle.ev_machine_laws.proofs.RefsKeeps.{keeps_settle}
 use Rattle.ev_machine_laws.proofs.ArriveKeeps.{keeps_learn_all, keeps_make_list}
-use Rattle.ev_fate_laws.proofs.Leads.{Leads, Ends, leads_bind, leads_then, leads_give}
+use Rattle.ev_fate_laws.proofs.Leads.{Leads, Ends, leads_bind}
 use Rattle.ev_name_laws.specs.Names.{AllOf, IsAmong, IsKnownIn, IsEventual, Once, names_in}
 use Rattle.ev_name_laws.proofs.Facts.{all_append, all_map}
 use Rattle.ev_name_laws.proofs.SameNames.{reference_is, reference_self}
@@ -19,8 +19,8 @@ use Rattle.ev_name_laws.proofs.Among.{among_or, names_end}
 use Rattle.ev_name_laws.proofs.Tracked.{names_change}
 use Rattle.ev_wire_laws.specs.Asked.{told_in}
 use Rattle.ev_wire_laws.proofs.Ranks.{Starts}
-use Rattle.ev_alike_laws.proofs.Grow.{on_bool, true_false, starts_same, starts_end, starts_on, starts_among, after_starts, passed_known, all_known, after_itself}
-use Rattle.ev_alike_laws.proofs.Asking.{Any, IsNoAsk, Quiet, quiet_on, base, quiet_settle, quiet_learn_name, quiet_have_gift, quiet_arrive_ask, quiet_arrive_open, quiet_arrive_shorten, quiet_see, quiet_sent}
+use Rattle.ev_alike_laws.proofs.Grow.{on_bool, starts_same, starts_end, starts_on, starts_among, after_starts, passed_known, all_known, after_itself}
+use Rattle.ev_alike_laws.proofs.Asking.{Any, IsNoAsk, Quiet, quiet_on, base, quiet_settle, quiet_have_gift, quiet_arrive_ask, quiet_arrive_open, quiet_arrive_shorten, quiet_see, quiet_sent}
 use Rattle.ev_alike_laws.proofs.Order.{InOrder, IsNewAsk, Within, notes_of, order_less, quiet_order, asks_order}
 
 -- a name that stands twice is not known once

@@ -1,26 +1,25 @@
 -- In every world of a run whose notes bring what is new, each link has its notes in order: no note names a gift for which a later one asks.
-use Rattle.std.proofs.Common.{◌≡◌, ℕ, zero, suc, ◌+◌, Bool, true, false, List, [], ◌∷◌, ◌++◌, Option, Some, None, refl, sym, ap, subst, ◌∙◌, inl, inr, append_assoc, append-nil, length, ◌==◌, arith}
+use Rattle.std.proofs.Common.{◌≡◌, ℕ, zero, suc, ◌+◌, Bool, true, false, List, [], ◌∷◌, ◌++◌, Option, Some, refl, sym, ap, subst, ◌∙◌, inl, inr, append_assoc, append-nil, length, arith}
 use Rattle.std.specs.Prelude.{slice_get}
 use Rattle.std.proofs.lemmas.Bool.{eqb-true}
-use Rattle.ev_machine.specs.Values.{Name, Naming, naming, same_name}
-use Rattle.ev_machine.specs.State.{Note, Ask, Put, Vat, Done, Gives, Throws, Ejects, Stops}
+use Rattle.ev_machine.specs.Values.{Name, Naming, naming}
+use Rattle.ev_machine.specs.State.{Note, Put, Vat}
 use Rattle.ev_machine_laws.specs.Steps.{Step, Opens as Starting, Takes, Receives, Notices, does}
 use Rattle.ev_run.specs.Draws.{draw_word}
 use Rattle.ev_run.specs.World as world
 use Rattle.ev_run.specs.World.{Script, Program, Entry, Link, World, Run, Goes as Going, Stopped, names, names_of, read_note, readied, put_at, push_all, with_link, with_notes, severed_link}
 use Rattle.ev_fate_laws.proofs.Leads.{Leads, Ends}
-use Rattle.ev_name_laws.specs.Names.{AllOf, IsAmong, IsKnownIn, Once, names_in}
+use Rattle.ev_name_laws.specs.Names.{AllOf, IsAmong, Once, names_in}
 use Rattle.ev_name_laws.specs.Runs.{KnowsOnce}
 use Rattle.ev_name_laws.proofs.Facts.{all_map}
 use Rattle.ev_name_laws.proofs.SameNames.{same_self}
 use Rattle.ev_name_laws.proofs.Among.{get_put, length_end}
-use Rattle.ev_name_laws.proofs.Run.{Stands}
 use Rattle.ev_rest_laws.proofs.NotesLift as lift
-use Rattle.ev_table_laws.specs.Runs.{EntryBringsNew, NotesBringNew, NamesDiffer}
+use Rattle.ev_table_laws.specs.Runs.{NotesBringNew, NamesDiffer}
 use Rattle.ev_table_laws.proofs.KnownRuns.{names_are_known_once}
 use Rattle.ev_answer_laws.proofs.Moves.{Moved, Still, Severs, Drops, Steps, Arrives, IsAlone, entry_moves, opening_moves, steps_end}
 use Rattle.ev_wire_laws.specs.Asked.{told_in}
-use Rattle.ev_wire_laws.proofs.LinksKnown.{SentBy, Sent, LinkKnown, ends_are, with_link_all}
+use Rattle.ev_wire_laws.proofs.LinksKnown.{Sent, LinkKnown, ends_are, with_link_all}
 use Rattle.ev_wire_laws.proofs.WireRuns.{Wire, opened_both, stepped_both}
 use Rattle.ev_alike_laws.specs.Order.{GiftsAreAskedForFirst}
 use Rattle.ev_alike_laws.proofs.Grow.{among_left, among_right}

@@ -1,9 +1,8 @@
 -- A note is read alike in numbers and in names: each name in it at its stage of the reading, then what passes, then the whole.
-use Rattle.std.proofs.Common.{◌≡◌, ℕ, zero, suc, ◌+◌, ◌<◌, Bool, true, false, List, [], ◌∷◌, ◌++◌, Option, Some, None, refl, sym, ap, subst, ◌∙◌, ◌⊎◌, inl, inr, length, map, append_assoc, ◌==◌, arith}
+use Rattle.std.proofs.Common.{◌≡◌, ℕ, zero, suc, ◌+◌, ◌<◌, Bool, true, false, List, [], ◌∷◌, ◌++◌, Option, Some, None, refl, sym, ap, subst, ◌∙◌, ◌⊎◌, inl, inr, length, map, ◌==◌, arith}
 use Rattle.std.specs.Prelude.{slice_get, option_map, unwrap_or}
 use Rattle.std.proofs.lemmas.Bool.{eqb-true, eq-eqb}
 use Rattle.std.proofs.lemmas.Option.{slice_get-map, slice_get_past}
-use Rattle.ev_op.specs.declared.op.Plain.TheVariants as plain
 use Rattle.ev_op.specs.Frames as op
 use Rattle.ev_op.specs.Frames.{Described}
 use Rattle.ev_machine.specs.Values.{Value, Null, Flag, Number, Letter, Text, Prim, Broken, Items, Ref, Name, Root, Object, Promise, Answer, Gift, Sent, host_of, Local, Obj, Prom, Far}
@@ -13,7 +12,7 @@ use Rattle.ev_run.specs.Draws.{draw_word}
 use Rattle.ev_run.specs.World as world
 use Rattle.ev_run.specs.World.{Script, Link, World, link_at, has_name, is_old, read_name, known_after}
 use Rattle.ev_run.specs.Wire as wire
-use Rattle.ev_name_laws.specs.Names.{AllOf, IsAmong, IsKnownIn, names_in}
+use Rattle.ev_name_laws.specs.Names.{IsAmong, IsKnownIn, names_in}
 use Rattle.ev_name_laws.proofs.SameNames.{has_among, among_has}
 use Rattle.ev_name_laws.proofs.Among.{among_or, length_end}
 use Rattle.ev_renaming.specs.Maps as maps
@@ -359,7 +358,7 @@ module _ (script : Script) (w : World) (v u : ℕ) (s : Vat Name) (N : Note Name
       promise_new q f g e = (
         New (Mine false (wire.rank Exports n)) v,
         heard_new v (slice_get (I E) (wire.rank Exports n)) (wire.rank Exports n) (I E) (length ks) (slice_get_past (I E) (wire.rank Exports n) (let long = import_length v F zero E in let r = rank_new q f in omega arith))
-          ∙ hears_same (New (Mine false (wire.rank Exports n)) v) (with_position (wire.rank Exports n) (Prom (length ks)) (I E)) (I (wire.with_export v Asked n E)) (suc (length ks)) (length (known_after ks n)) (imports_new q f g e) (sym (ap length (after_new ks n e) ∙ length_end ks n)),
+            ∙ hears_same (New (Mine false (wire.rank Exports n)) v) (with_position (wire.rank Exports n) (Prom (length ks)) (I E)) (I (wire.with_export v Asked n E)) (suc (length ks)) (length (known_after ks n)) (imports_new q f g e) (sym (ap length (after_new ks n e) ∙ length_end ks n)),
         wired_new q e,
       )
 
@@ -691,10 +690,10 @@ module _ (script : Script) (w : World) (v u : ℕ) (s : Vat Name) (N : Note Name
             let later1 = starts_on k1 k2 F (passed_known y k1) later in let ahead1 = starts_on E1 E2 Exports (passed_starts v Asked y E1) ahead in let ends = f n (inl refl) in
             let one = name_alike b Names Arrived st n ends later1 ahead1 in let st1 = stage_name Names Arrived st n later1 ahead1 (either_end n ends) in
             let two = (passed_alike P words b k1 E1 st1 y q g (λ m a. f m (inr a)) later ahead).0 in (
-          record { read = SettledTo one.0 two.0; imports = I E2; known = length k2 },
-          start (Hear (SettledTo n y)) ∙ next_is (name_heard Draws u v T d (I Arrived) (length Names)) (λ x. outcome_heard Draws u v T x (op.To dy)) one.0 (I E1) (length k1) one.1 ∙ next_is (passed_heard Draws u v T dy (I E1) (length k1)) (λ z. told (SettledTo one.0 z)) two.0 (I E2) (length k2) two.1,
-          both one.2 two.2,
-        )
+              record { read = SettledTo one.0 two.0; imports = I E2; known = length k2 },
+              start (Hear (SettledTo n y)) ∙ next_is (name_heard Draws u v T d (I Arrived) (length Names)) (λ x. outcome_heard Draws u v T x (op.To dy)) one.0 (I E1) (length k1) one.1 ∙ next_is (passed_heard Draws u v T dy (I E1) (length k1)) (λ z. told (SettledTo one.0 z)) two.0 (I E2) (length k2) two.1,
+              both one.2 two.2,
+            )
           where
             both : {x y : Incoming Found Name} {a c : Passed (Incoming Found Name)} → x ≡ y → a ≡ c → SettledTo x a ≡ SettledTo y c
             both e f = rw (e, f) refl
@@ -705,10 +704,10 @@ module _ (script : Script) (w : World) (v u : ℕ) (s : Vat Name) (N : Note Name
             let k1 = (world.read_all ys Names).known in let E1 = wire.with_all v Asked ys Arrived in let k2 = known_after k1 n in let E2 = wire.with_export v Asked n E1 in
             let all = all_alike P words b Names Arrived st ys q g (λ x a. f x (inr a)) (starts_on k1 k2 F (after_starts k1 n) later) ahead in let one = all.0 in
             let two = name_alike b k1 E1 all.1 n (f n (inl refl)) later (subst (λ es. Starts es Exports) (sym (export_other v Asked n E1 (apart n host))) ahead) in (
-          record { read = Deliver (New Carried v) two.0 verb one.0; imports = I E2; known = length k2 },
-          start (Hear (Deliver m n verb ys)) ∙ next_is (all_heard Draws u v T ds (I Arrived) (length Names)) (λ zs is ks. next (λ x. told (Deliver (New Carried v) x verb zs)) (name_heard Draws u v T d is ks)) one.0 (I E1) (length k1) one.1 ∙ next_is (name_heard Draws u v T d (I E1) (length k1)) (λ x. told (Deliver (New Carried v) x verb one.0)) two.0 (I E2) (length k2) two.1,
-          three message two.2 one.2,
-        )
+              record { read = Deliver (New Carried v) two.0 verb one.0; imports = I E2; known = length k2 },
+              start (Hear (Deliver m n verb ys)) ∙ next_is (all_heard Draws u v T ds (I Arrived) (length Names)) (λ zs is ks. next (λ x. told (Deliver (New Carried v) x verb zs)) (name_heard Draws u v T d is ks)) one.0 (I E1) (length k1) one.1 ∙ next_is (name_heard Draws u v T d (I E1) (length k1)) (λ x. told (Deliver (New Carried v) x verb one.0)) two.0 (I E2) (length k2) two.1,
+              three message two.2 one.2,
+            )
           where
             three : {k l : Name} {x y : Incoming Found Name} {a c : Passeds (Incoming Found Name)} → k ≡ l → x ≡ y → a ≡ c → Deliver (New k v) x verb a ≡ Deliver (New l v) y verb c
             three e f g = rw (e, f, g) refl

@@ -1,5 +1,5 @@
 -- What stands in a world of a run before its next note arrives.
-use Rattle.std.proofs.Common.{◌≡◌, ℕ, zero, suc, ◌≤◌, ◌<◌, ◌+◌, Bool, true, false, List, [], ◌∷◌, ◌++◌, Option, Some, None, refl, sym, ap, subst, ◌∙◌, ◌⊎◌, inl, inr, length, ◌==◌, arith}
+use Rattle.std.proofs.Common.{◌≡◌, ℕ, zero, ◌≤◌, ◌<◌, ◌+◌, Bool, true, false, List, [], ◌∷◌, ◌++◌, Option, Some, None, refl, sym, ap, subst, ◌∙◌, ◌⊎◌, inl, inr, length, ◌==◌, arith}
 use Rattle.std.specs.Prelude.{slice_get}
 use Rattle.std.proofs.lemmas.Bool.{eqb-true, eq-eqb}
 use Rattle.ev_machine.specs.Values.{Name, Root, Object, Promise, Answer, Gift, Sent as Message_name, Msg, host_of, answer_of}
@@ -12,15 +12,15 @@ use Rattle.ev_run.specs.Wire as wire
 use Rattle.ev_fate_laws.specs.Fate.{once, one, total, in_note, of_note, on_link}
 use Rattle.ev_fate_laws.specs.Lasting.{Each}
 use Rattle.ev_fate_laws.specs.Runs.{Reached}
-use Rattle.ev_name_laws.specs.Names.{Named, AllOf, IsAmong, IsKnownIn, IsMessageName, names_in, NoteOk}
+use Rattle.ev_name_laws.specs.Names.{Named, AllOf, IsAmong, IsKnownIn, IsMessageName, names_in}
 use Rattle.ev_name_laws.specs.Runs.{KnowsOnce}
-use Rattle.ev_name_laws.proofs.SameNames.{has_among, among_has, same_self}
+use Rattle.ev_name_laws.proofs.SameNames.{has_among, same_self}
 use Rattle.ev_name_laws.proofs.Among.{all_among}
 use Rattle.ev_rest_laws.specs.Cuts.{NoticesFollowCuts}
 use Rattle.ev_rest_laws.specs.Notes.{IsBetween, Carries, LinkFits, LinkCarries}
 use Rattle.ev_rest_laws.proofs.NotesRuns.{notes_name_ends, notes_carry_ends}
-use Rattle.ev_table_laws.specs.Knowing.{claims, new_gift_here, brings}
-use Rattle.ev_table_laws.specs.Runs.{allowed, brings_here, BringsNew, NotesBringNew}
+use Rattle.ev_table_laws.specs.Knowing.{new_gift_here, brings}
+use Rattle.ev_table_laws.specs.Runs.{brings_here, BringsNew, NotesBringNew}
 use Rattle.ev_table_laws.proofs.Bounds.{allowed_once}
 use Rattle.ev_answer_laws.proofs.Onward.{self_one, claims_known}
 use Rattle.ev_answer_laws.specs.Behind.{Avoids, NamesNot}
@@ -45,7 +45,7 @@ use Rattle.ev_wire_laws.proofs.SourceLaws.{names_from_hosts}
 use Rattle.ev_wire_laws.proofs.GivenLaws.{notes_name_given}
 use Rattle.ev_wire_laws.proofs.WireRuns.{Wire, stepped_both}
 use Rattle.ev_alike_laws.specs.Gifts.{AskedGiftStands, GiftsWereAskedFor}
-use Rattle.ev_alike_laws.proofs.Grow.{true_false, on_bool, among_left, among_right, questions_twice}
+use Rattle.ev_alike_laws.proofs.Grow.{true_false, on_bool, among_right, questions_twice}
 use Rattle.ev_alike_laws.proofs.Words.{draw_is}
 use Rattle.ev_alike_laws.proofs.OrderRuns.{gifts_asked_first}
 use Rattle.ev_alike_laws.proofs.Reading.{Before, Stage, Yours, Ends, Asks}

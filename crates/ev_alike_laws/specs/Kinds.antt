@@ -1,7 +1,7 @@
 -- Each kind of note is read alike in numbers and in names.
 use Rattle.std.specs.Prelude.{◌≡◌, ℕ, zero, List, ◌∷◌, Some, slice_get}
 use Rattle.ev_machine.specs.Values.{Words, Name}
-use Rattle.ev_machine.specs.State.{Passed, Passeds, Note, Deliver, Open, Ask, SettledTo, Elsewhere, Shorten, Vat}
+use Rattle.ev_machine.specs.State.{Passed, Passeds, Note, Deliver, Open, Ask, SettledTo, Shorten, Vat}
 use Rattle.ev_name_laws.specs.Runs.{KnowsOnce}
 use Rattle.ev_run.specs.World.{Script, Entry, World, Goes, begins, open_from, steps_from}
 use Rattle.ev_rest_laws.specs.Cuts.{NoticesFollowCuts}
