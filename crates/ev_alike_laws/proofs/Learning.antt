@@ -1,16 +1,16 @@
 -- Where names are known once, a note that arrives asks for gifts that are new, in front of all that names them.
-use Rattle.std.proofs.Common.{◌≡◌, ℕ, suc, Bool, true, false, List, [], ◌∷◌, ◌++◌, Option, Some, None, refl, sym, ap, subst, ◌∙◌, ◌⊎◌, inl, inr, append_assoc, append-nil, if◌then◌else◌, length, ◌==◌}
-use Rattle.ev_machine.specs.Values.{Words, Value, Null, Flag, Number, Letter, Text, Prim, Broken, Items, Ref, Name, Gift, same_reference, Naming, IsGift, naming, name_of, mail_of, host_of}
-use Rattle.ev_machine.specs.State.{Known, Settle, Passed, Passeds, Plain, AGift, Many, NoMore, More, Note, Deliver, Open, Ask, SettledTo, Elsewhere, Shorten, Put, Settles, ListCame, Vat, Done, Gives, Throws, Ejects, Stops, Act, ◌>>=◌, ◌>>◌, and_then, give, look, tell, each, come, mail, draw, draws, new_list, send_out, alter, with_change, is_in, begun}
+use Rattle.std.proofs.Common.{◌≡◌, ℕ, suc, Bool, true, false, List, [], ◌∷◌, ◌++◌, Option, Some, None, refl, sym, ap, subst, ◌∙◌, ◌⊎◌, inl, inr, append_assoc, append-nil, if◌then◌else◌, length, ◌==◌, codes}
+use Rattle.ev_machine.specs.Values.{Words, Value, Null, Flag, Number, Letter, Text, Prim, Broken, Items, Ref, Name, Gift, same_reference, Naming, IsGift, IsAnswer, naming, name_of, mail_of, host_of}
+use Rattle.ev_machine.specs.State.{Known, ToTell, open_gift, Settle, Passed, Passeds, Plain, AGift, Many, NoMore, More, Note, Deliver, Open, Ask, SettledTo, Elsewhere, Shorten, Put, Settles, ListCame, Vat, Done, Gives, Throws, Ejects, Stops, Act, ◌>>=◌, ◌>>◌, and_then, give, look, tell, each, come, mail, draw, draws, new_list, send_out, alter, with_change, is_in, begun}
 use Rattle.ev_machine.specs.Refs as refs
 use Rattle.ev_machine.specs.Refs.{entry_of, host_at}
 use Rattle.ev_machine.specs.Arrive as arrive
 use Rattle.ev_machine.specs.Arrive.{Incoming, Old, New}
 use Rattle.ev_run.specs.World as world
 use Rattle.ev_machine_laws.specs.Steps.{After}
-use Rattle.ev_machine_laws.proofs.Keeps.{Keeps, IsKept, IsKeptUnder, keeps_bind, keeps_give}
-use Rattle.ev_machine_laws.proofs.RefsKeeps.{keeps_settle}
-use Rattle.ev_machine_laws.proofs.ArriveKeeps.{keeps_learn_all, keeps_make_list}
+use Rattle.ev_machine_laws.proofs.Keeps.{Keeps, IsKept, IsKeptUnder, keeps_bind, keeps_then, keeps_if, keeps_give, keeps_look, keeps_come, keeps_alter, keeps_open}
+use Rattle.ev_machine_laws.proofs.RefsKeeps.{keeps_settle, keeps_send_on, keeps_resolve}
+use Rattle.ev_machine_laws.proofs.ArriveKeeps.{keeps_learn_name, keeps_learn, keeps_learn_all, keeps_make_list, keeps_have_gift, keeps_view_there, keeps_shorten_to, keeps_arrive_ask}
 use Rattle.ev_fate_laws.proofs.Leads.{Leads, Ends, leads_bind}
 use Rattle.ev_name_laws.specs.Names.{AllOf, IsAmong, IsKnownIn, IsEventual, Once, names_in}
 use Rattle.ev_name_laws.proofs.Facts.{all_append, all_map}
@@ -18,6 +18,7 @@ use Rattle.ev_name_laws.proofs.SameNames.{reference_is, reference_self}
 use Rattle.ev_name_laws.proofs.Among.{among_or, names_end}
 use Rattle.ev_name_laws.proofs.Tracked.{names_change}
 use Rattle.ev_wire_laws.specs.Asked.{told_in}
+use Rattle.ev_wire_laws.specs.Alike.{names_heard}
 use Rattle.ev_wire_laws.proofs.Ranks.{Starts}
 use Rattle.ev_alike_laws.proofs.Grow.{on_bool, starts_same, starts_end, starts_on, starts_among, after_starts, passed_known, all_known, after_itself}
 use Rattle.ev_alike_laws.proofs.Asking.{Any, IsNoAsk, Quiet, quiet_on, base, quiet_settle, quiet_have_gift, quiet_arrive_ask, quiet_arrive_open, quiet_arrive_shorten, quiet_see, quiet_sent}
@@ -345,3 +346,103 @@ module _ (word : ℕ → ℕ) (v : ℕ) where
   note_ordered from ks (SettledTo n y) s e o = settled_either from ks n y s e o (world.is_old ks n)
   note_ordered from ks (Elsewhere n c) s e o = elsewhere_either ks n c s e o (world.is_old ks n) (after_itself ks n)
   note_ordered from ks (Shorten n c i) s e o = quiet_ordered ks s o _ ((quiet_arrive_shorten K (world.read_name ks n) i).after s)
+
+  -- ---- what was read is known first
+
+  -- where what is known in the end is known once, it begins with these names
+  abbrev pub Begins : List Name → Done Name (Unit {0}) → Type 0
+  Begins ks (Gives a t) = Once (names_in t.known) → Starts ks (names_in t.known)
+  Begins ks (Throws p t) = Unit {0}
+  Begins ks (Ejects n y t) = Unit {0}
+  Begins ks (Stops c t) = Unit {0}
+
+  learnt_begins : (ks k1 : List Name) (s t : Vat Name) → ((F : List Name) → Starts (names_in t.known) F → Once F → (names_in t.known ≡ k1) × AskedNew ks s t) → (d : Done Name (Unit {0})) → After Grows t d → Begins k1 d
+  learnt_begins ks k1 s t l (Gives b u) g = λ o. let one = l (names_in u.known) g o in subst (λ ns. Starts ns (names_in u.known)) one.0 g
+  learnt_begins ks k1 s t l (Throws p u) g = tt
+  learnt_begins ks k1 s t l (Ejects n y u) g = tt
+  learnt_begins ks k1 s t l (Stops c u) g = tt
+
+  begins_with : {A : Type 0} (ks k1 : List Name) (s : Vat Name) (d : Done Name A) (f : A → Act Name (Unit {0})) → Learns ks k1 s d → ((a : A) → Keeps Grows (f a)) → Begins k1 (and_then d f)
+  unfolding and_then
+  begins_with ks k1 s (Gives a t) f l g = learnt_begins ks k1 s t l (f a t) ((g a).after t)
+  begins_with ks k1 s (Throws p t) f l g = tt
+  begins_with ks k1 s (Ejects n y t) f l g = tt
+  begins_with ks k1 s (Stops c t) f l g = tt
+
+  begun_by : (ks k1 k2 : List Name) (s t : Vat Name) → ((F : List Name) → Starts (names_in t.known) F → Once F → (names_in t.known ≡ k1) × AskedNew ks s t) → (d : Done Name (Unit {0})) → After Grows t d → (names_in t.known ≡ k1 → Begins k2 d) → Begins k2 d
+  begun_by ks k1 k2 s t l (Gives b u) g f = λ o. f (l (names_in u.known) g o).0 o
+  begun_by ks k1 k2 s t l (Throws p u) g f = tt
+  begun_by ks k1 k2 s t l (Ejects n y u) g f = tt
+  begun_by ks k1 k2 s t l (Stops c u) g f = tt
+
+  then_begins : {A : Type 0} (ks k1 k2 : List Name) (s : Vat Name) (d : Done Name A) (f : A → Act Name (Unit {0})) → Learns ks k1 s d → ((a : A) → Keeps Grows (f a)) → ((a : A) (t : Vat Name) → names_in t.known ≡ k1 → Begins k2 (f a t)) → Begins k2 (and_then d f)
+  unfolding and_then
+  then_begins ks k1 k2 s (Gives a t) f l g h = begun_by ks k1 k2 s t l (f a t) ((g a).after t) (h a t)
+  then_begins ks k1 k2 s (Throws p t) f l g h = tt
+  then_begins ks k1 k2 s (Ejects n y t) f l g h = tt
+  then_begins ks k1 k2 s (Stops c t) f l g h = tt
+
+  grows_begins : (ks : List Name) (s : Vat Name) → names_in s.known ≡ ks → (d : Done Name (Unit {0})) → After Grows s d → Begins ks d
+  grows_begins ks s e (Gives a t) g = λ o. subst (λ ns. Starts ns (names_in t.known)) e g
+  grows_begins ks s e (Throws p t) g = tt
+  grows_begins ks s e (Ejects n y t) g = tt
+  grows_begins ks s e (Stops c t) g = tt
+
+  abbrev Sent_ : ℕ → Words → Name → List (Value Name) → Name → Act Name (Unit {0})
+  Sent_ from verb id args n = look (λ s. s.number) >>= (λ u. come K (IsAnswer u id) u >>= (λ a. alter K (ToTell from) a >> refs.send_on K (refs.settle K) (record { id = id; target = Ref n; verb = verb; args = args; answer = a })))
+
+  sent_keeps : (from : ℕ) (verb : Words) (id : Name) (args : List (Value Name)) (n : Name) → Keeps Grows (Sent_ from verb id args n)
+  sent_keeps from verb id args n = let law = kept_under K in keeps_bind Grows kept (keeps_look Grows kept (λ s. s.number)) (λ u. keeps_bind Grows kept (keeps_come K Grows law (IsAnswer u id) u) (λ a. keeps_then Grows kept (keeps_alter K Grows law (ToTell from) a) (keeps_send_on K Grows kept law (refs.settle K) (keeps_settle K Grows kept law) (record { id = id; target = Ref n; verb = verb; args = args; answer = a }))))
+
+  deliver_begins : (from : ℕ) (ks : List Name) (m n : Name) (verb : Words) (ys : Passeds Name) (s : Vat Name) → names_in s.known ≡ ks → Begins (world.known_after (world.read_all ys ks).known n) (arrive.arrive_deliver K from (New m (host_of m)) (world.read_name (world.read_all ys ks).known n) verb (world.read_all ys ks).read s)
+  unfolding arrive.arrive_deliver arrive.learn_message mail naming mail_of ◌>>=◌ and_then
+  deliver_begins from ks m n verb ys s e = let k1 = (world.read_all ys ks).known in let k2 = world.known_after k1 n in let s1 : Vat Name = record s { mails = s.mails ++ m ∷ [] } in
+      then_begins ks k1 k2 s1 (arrive.learn_all K from (world.read_all ys ks).read s1) (λ args. arrive.learn_name K (world.read_name k1 n) >>= (λ x. Sent_ from verb m args x)) (all_learns from ks ys s1 e)
+      (λ args. keeps_bind Grows kept (keeps_learn_name K Grows kept (kept_under K) (world.read_name k1 n)) (λ x. sent_keeps from verb m args x))
+      (λ args t f. begins_with k1 k2 t (arrive.learn_name K (world.read_name k1 n) t) (λ x. Sent_ from verb m args x) (name_learns k1 n t f) (λ x. sent_keeps from verb m args x))
+
+  settled_begins : (from : ℕ) (ks : List Name) (n : Name) (y : Passed Name) (s : Vat Name) → names_in s.known ≡ ks → Begins (world.read_passed y (world.known_after ks n)).known (arrive.arrive_settled K from (world.read_name ks n) (world.read_passed y (world.known_after ks n)).read s)
+  unfolding arrive.arrive_settled ◌>>=◌
+  settled_begins from ks n y s e = let k1 = world.known_after ks n in let k2 = (world.read_passed y k1).known in let law = kept_under K in
+      then_begins ks k1 k2 s (arrive.learn_name K (world.read_name ks n) s) (λ x. arrive.learn K from (world.read_passed y k1).read >>= (λ z. refs.settle K x z)) (name_learns ks n s e)
+      (λ x. keeps_bind Grows kept (keeps_learn K Grows kept law from (world.read_passed y k1).read) (λ z. keeps_settle K Grows kept law x z))
+      (λ x t f. begins_with k1 k2 t (arrive.learn K from (world.read_passed y k1).read t) (λ z. refs.settle K x z) (passed_learns from k1 y t f) (λ z. keeps_settle K Grows kept law x z))
+
+  abbrev Opened_ : ℕ → ℕ → Name → Act Name (Unit {0})
+  Opened_ from i y = arrive.have_gift K from i >>= (λ g. open_gift from i >> refs.resolve K g (Ref y))
+
+  opened_keeps : (from i : ℕ) (y : Name) → Keeps Grows (Opened_ from i y)
+  opened_keeps from i y = let law = kept_under K in keeps_bind Grows kept (keeps_have_gift K Grows kept law from i) (λ g. keeps_then Grows kept (keeps_open Grows kept from i) (keeps_resolve K Grows kept law g (Ref y)))
+
+  open_begins : (from : ℕ) (ks : List Name) (i : ℕ) (n : Name) (s : Vat Name) → names_in s.known ≡ ks → Begins (world.known_after ks n) (arrive.arrive_open K from i (world.read_name ks n) s)
+  unfolding arrive.arrive_open ◌>>=◌
+  open_begins from ks i n s e = begins_with ks (world.known_after ks n) s (arrive.learn_name K (world.read_name ks n) s) (λ y. Opened_ from i y) (name_learns ks n s e) (λ y. opened_keeps from i y)
+
+  abbrev Seen_ : ℕ → Name → Act Name (Unit {0})
+  Seen_ c y = look (λ s. is_in c s.noticed) >>= (λ gone. if gone then refs.settle K y (Broken (codes "partition")) else arrive.view_there K y c)
+
+  seen_keeps : (c : ℕ) (y : Name) → Keeps Grows (Seen_ c y)
+  seen_keeps c y = let law = kept_under K in keeps_bind Grows kept (keeps_look Grows kept (λ s. is_in c s.noticed)) (λ b. keeps_if Grows kept b (keeps_settle K Grows kept law y (Broken (codes "partition"))) (keeps_view_there K Grows kept law y c))
+
+  elsewhere_begins : (ks : List Name) (n : Name) (c : ℕ) (s : Vat Name) → names_in s.known ≡ ks → Begins (world.known_after ks n) (arrive.arrive_elsewhere K (world.read_name ks n) c s)
+  unfolding arrive.arrive_elsewhere ◌>>=◌
+  elsewhere_begins ks n c s e = begins_with ks (world.known_after ks n) s (arrive.learn_name K (world.read_name ks n) s) (λ y. Seen_ c y) (name_learns ks n s e) (λ y. seen_keeps c y)
+
+  abbrev Shortened_ : ℕ → Name → Act Name (Unit {0})
+  Shortened_ i y = look (λ s. refs.place K s (refs.follow K s (Ref y))) >>= (λ q. arrive.shorten_to K i q)
+
+  shortened_keeps : (i : ℕ) (y : Name) → Keeps Grows (Shortened_ i y)
+  shortened_keeps i y = keeps_bind Grows kept (keeps_look Grows kept (λ s. refs.place K s (refs.follow K s (Ref y)))) (λ q. keeps_shorten_to K Grows kept (kept_under K) i q)
+
+  shorten_begins : (ks : List Name) (n : Name) (i : ℕ) (s : Vat Name) → names_in s.known ≡ ks → Begins (world.known_after ks n) (arrive.arrive_shorten K (world.read_name ks n) i s)
+  unfolding arrive.arrive_shorten ◌>>=◌
+  shorten_begins ks n i s e = begins_with ks (world.known_after ks n) s (arrive.learn_name K (world.read_name ks n) s) (λ y. Shortened_ i y) (name_learns ks n s e) (λ y. shortened_keeps i y)
+
+  pub note_begins : (from : ℕ) (ks : List Name) (n : Note Name) (s : Vat Name) → names_in s.known ≡ ks → Begins (names_heard ks n) (arrive.arrive K from (world.read_note ks n) s)
+  unfolding arrive.arrive world.read_note names_heard
+  note_begins from ks (Deliver m n verb ys) s e = deliver_begins from ks m n verb ys s e
+  note_begins from ks (Open i n) s e = open_begins from ks i n s e
+  note_begins from ks (Ask p i n) s e = grows_begins ks s e (arrive.arrive_ask K from p i s) ((keeps_arrive_ask K Grows kept (kept_under K) from p i).after s)
+  note_begins from ks (SettledTo n y) s e = settled_begins from ks n y s e
+  note_begins from ks (Elsewhere n c) s e = elsewhere_begins ks n c s e
+  note_begins from ks (Shorten n c i) s e = shorten_begins ks n i s e

@@ -7,3 +7,4 @@ pub mod Learning
 pub mod OrderRuns
 pub mod Worlds
 pub mod Laws
+pub mod Arrivals

@@ -42,7 +42,7 @@ place_once : (ns : List Name) → OnePlace ns → Once ns
 place_once [] h = tt
 place_once (n ∷ ns) h = (λ a. let r = among_get n ns a in let e : zero ≡ suc r.0 = h zero (suc r.0) n refl r.1 in absurd (omega arith), place_once ns (λ i j m e f. let g : suc i ≡ suc j = h (suc i) (suc j) m e f in omega arith))
 
-differ_once : (y : World) → NamesDiffer y → (v : ℕ) (t : Vat Name) → slice_get y.vats v ≡ Some t → Once (names_in t.known)
+pub differ_once : (y : World) → NamesDiffer y → (v : ℕ) (t : Vat Name) → slice_get y.vats v ≡ Some t → Once (names_in t.known)
 differ_once y h v t e = place_once (names_in t.known) (λ i j n f g. eqb-true i j (sym (h v t e i j n n f g) ∙ same_self n))
 
 -- ---- links
@@ -219,7 +219,7 @@ module _ (script : Script) where
     opened_ordered w e = opens_ordered [] script.vats [] (world.begins script) w (sym (append-nil script.vats)) refl begins_ordered e
 
     -- what holds of more entries holds of fewer
-    new_front : (ds es : List Entry) (k : ℕ) (w : World) → NotesBringNew script (ds ++ es) k w → NotesBringNew script ds k w
+    pub new_front : (ds es : List Entry) (k : ℕ) (w : World) → NotesBringNew script (ds ++ es) k w → NotesBringNew script ds k w
     new_front [] es k w h = tt
     new_front (d ∷ ds) es k w h = (h.0, λ y e. new_front ds es (suc k) y (h.1 y e))
 

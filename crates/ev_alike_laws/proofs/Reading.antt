@@ -135,8 +135,8 @@ unchosen false x y e = refl
 
 -- ---- the two vats
 
--- The note N goes from v to u, whose state is s; F are the names that u knows once it was read.
-module _ (script : Script) (w : World) (v u : ℕ) (s : Vat Name) (N : Note Name) (F : List Name) (other : v ≡ u → ⊥) where
+-- The note N goes from v to u, whose state is s; F are the names that u knows once it was read, and Ms the messages that it has had, neither of which matters here beyond that.
+module _ (script : Script) (w : World) (v u : ℕ) (s : Vat Name) (N : Note Name) (F Ms : List Name) (other : v ≡ u → ⊥) where
   abbrev pub Names : List Name
   Names = names_in s.known
 
@@ -161,7 +161,7 @@ module _ (script : Script) (w : World) (v u : ℕ) (s : Vat Name) (N : Note Name
   T = tables_of w u s v
 
   abbrev pub Later : Table
-  Later = record { names = F; mails = s.mails; exports = exported_at w.links u }
+  Later = record { names = F; mails = Ms; exports = exported_at w.links u }
 
   abbrev pub Reads : Local → Found
   Reads = found u Later

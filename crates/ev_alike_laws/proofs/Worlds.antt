@@ -276,8 +276,8 @@ module _ (script : Script) (once : KnowsOnce script) (w x : World) (es : List En
       here : AllOf (IsKnownIn (names_in s.known)) Arrived
       here = subst (λ o. AllOf (IsKnownIn (names_in s.known)) (wire.exports_after v Asked (arrived o) (wire.roots_of o))) (sym at) (subst (λ rs. AllOf (IsKnownIn (names_in s.known)) (wire.exports_after v Asked (arrived (Some l)) rs)) (sym (roots_is l (Some l) refl)) ((arrived_known script once).1 w x es k opened stepped u s there v l at uncut))
 
-  pub before : (F : List Name) → Starts (names_in s.known) F → Before script x v u s N F other
-  before F f = record {
+  pub before : (F Ms : List Name) → Starts (names_in s.known) F → Before script x v u s N F Ms other
+  before F Ms f = record {
     asks = λ n a. all_among (λ m. IsAmong m (names_in s.known)) Asked n ((asked_for_known script once).1 w x es k opened stepped u s there v) a;
     heard = λ n a. all_among (λ m. IsAmong m (names_in s.known)) Answers n (subst (λ o. AllOf (λ m. IsAmong m (names_in s.known)) (wire.questions_in u (arrived o))) (sym at) ((was_asked_known script once).1 w x es k opened stepped u s there v l at uncut)) a;
     gave = λ n a. all_among (IsKnownIn (names_in s.known)) (wire.exports (λ i. i) x.links u v) n ((exported_known script once).1 w x es k opened stepped u s there v) a;
@@ -285,8 +285,8 @@ module _ (script : Script) (once : KnowsOnce script) (w x : World) (es : List En
     asked = (wire.questions_in u l.notes, put_is);
   }
 
-  pub stage : (F : List Name) → Starts (names_in s.known) F → Stage script x v u s N F other (names_in s.known) Arrived
-  stage F f = record {
+  pub stage : (F Ms : List Name) → Starts (names_in s.known) F → Stage script x v u s N F Ms other (names_in s.known) Arrived
+  stage F Ms f = record {
     names = f;
     exports = let more = exports_start v Asked l.notes Arrived in (more.0, exports_are ∙ more.1);
     base = λ n a. a;
@@ -370,14 +370,14 @@ module _ (script : Script) (once : KnowsOnce script) (w x : World) (es : List En
       either (inl a) = a
       either (inr a) = let r = asker u (Gift u i) l.notes a in absurd (late new i t r.0 (subst (λ ms. IsAmong r.0 ms) head r.1) (own_asks r.0 r.1) r.2)
 
-  pub ends : (F : List Name) → GiftsWereAskedFor x v u N → (n : Name) → IsAmong n (told_in N) → Ends script x v u s N F other n
-  ends F g n t = either (told_ends v u n N (λ e. other (sym e)) proper between carries t)
+  pub ends : (F Ms : List Name) → GiftsWereAskedFor x v u N → (n : Name) → IsAmong n (told_in N) → Ends script x v u s N F Ms other n
+  ends F Ms g n t = either (told_ends v u n N (λ e. other (sym e)) proper between carries t)
     where
-      yours : host_of n ≡ u → IsAmong n Put ⊎ IsAmong n (wire.exports (λ i. i) x.links u v) → Yours script x v u s N F other n
+      yours : host_of n ≡ u → IsAmong n Put ⊎ IsAmong n (wire.exports (λ i. i) x.links u v) → Yours script x v u s N F Ms other n
       yours host (inl p) = inl (asked_before g n t p)
       yours host (inr e) = on_bool (has_name Put n) (λ p. inl (asked_before g n t (has_among Put n p))) (λ p. inr (p, e))
 
-      either : OfEither v u n → Ends script x v u s N F other n
+      either : OfEither v u n → Ends script x v u s N F Ms other n
       either (inl host) = inl host
       either (inr host) = let r = sender in
           let all = all_among (λ (note : Note Name). AllOf (λ m. host_of m ≡ u → IsAmong m Put ⊎ IsAmong m (wire.exports (λ i. i) x.links u v)) (told_in note)) l.log N (notes_name_given script once w x es k follow opened stepped v u r.0 r.1 other l at uncut) logged in
@@ -397,8 +397,8 @@ module _ (script : Script) (once : KnowsOnce script) (w x : World) (es : List En
   unfolding wire.questions_in
   asks_itself p i n = inl refl
 
-  pub asks : (F : List Name) → AskedGiftStands u N s → (p i : ℕ) (n : Name) → N ≡ Ask p i n → IsProvidedBy Providers (length x.drawn) i p → Asks script x v u s N F other p i n
-  asks F g p i n e q = record {
+  pub asks : (F Ms : List Name) → AskedGiftStands u N s → (p i : ℕ) (n : Name) → N ≡ Ask p i n → IsProvidedBy Providers (length x.drawn) i p → Asks script x v u s N F Ms other p i n
+  asks F Ms g p i n e q = record {
     host = ap host_of same ∙ gift_host i;
     eventual = ap (is_old (names_in s.known)) same ∙ gift_old i ∙ ap (has_name (names_in s.known)) (sym same);
     put = subst (λ qs. IsAmong n qs) (sym put_is) (among_right n Answers (wire.questions_in u l.notes) (subst (λ ms. IsAmong n (wire.questions_in u ms)) (sym (head ∙ ap (λ z. z ∷ ns) e)) (asks_itself p i n)));

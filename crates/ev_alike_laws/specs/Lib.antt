@@ -1,3 +1,4 @@
 pub mod Gifts
 pub mod Order
 pub mod Kinds
+pub mod Arrivals

@@ -5,6 +5,7 @@
 //! each notice stands behind a cut of the same two vats, and no vat of the script may be told twice that
 //! it knows a vat, or that it knows itself. Each law names what it asks of gifts, if anything.
 
+ghost use Rattle.ev_alike_laws.specs.Arrivals.{ArrivalsByNumbersStand};
 ghost use Rattle.ev_alike_laws.specs.Order.{GiftsAreAskedForFirst};
 ghost use Rattle.ev_alike_laws.specs.Kinds.{DeliveriesAreReadAlike, OpeningsAreReadAlike, AsksAreReadAlike, SettlingsAreReadAlike, ShorteningsAreReadAlike, NotesAreReadAlike, NewNotesAreReadAlike};
 
@@ -48,4 +49,14 @@ pub fn new_notes_are_read_alike()
 /// bring what is new. It is said of all notes that were ever put.
 pub fn gifts_are_asked_for_first()
     ensures { GiftsAreAskedForFirst }
+{}
+
+/// In each run whose notes bring what is new, the receiver of the next note hears it by its own tables, and
+/// its arrival so heard, from each state in numbers that stands for what the note finds, ends in one that
+/// stands for the state of the receiver after the note was carried.
+///
+/// The numbers are read by the names and messages that it has in the end, and by what others had exported
+/// to it before.
+pub fn arrivals_by_numbers_stand()
+    ensures { ArrivalsByNumbersStand }
 {}
