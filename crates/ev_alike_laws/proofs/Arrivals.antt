@@ -1,5 +1,5 @@
 -- The arrival of a note by the receiver's own numbers, by what is read alike and by the theorem on numbers.
-use Rattle.std.proofs.Common.{◌≡◌, ℕ, suc, ◌+◌, Bool, true, false, List, [], ◌∷◌, ◌++◌, Option, Some, refl, sym, ap, subst, ◌∙◌, length}
+use Rattle.std.proofs.Common.{◌≡◌, ℕ, suc, ◌+◌, Bool, true, false, List, [], ◌∷◌, ◌++◌, Option, Some, refl, sym, ap, subst, ◌∙◌, length, zero}
 use Rattle.std.specs.Prelude.{slice_get}
 use Rattle.ev_machine.specs.Values.{Name, Local, Naming, naming, numbering}
 use Rattle.ev_machine.specs.State.{Note, Deliver, Open, Ask, SettledTo, Elsewhere, Shorten, Vat, Done, Gives, Throws, Ejects, Stops, Act}
@@ -20,10 +20,13 @@ use Rattle.ev_table_laws.specs.Tables.{table_of}
 use Rattle.ev_table_laws.proofs.KnownRuns.{names_are_known_once}
 use Rattle.ev_table_laws.proofs.VatTables.{tables_tell_things_apart}
 use Rattle.ev_answer_laws.proofs.Moves.{steps_end}
+use Rattle.ev_wire_laws.specs.Tables.{import_numbers}
 use Rattle.ev_wire_laws.specs.Hearing.{Heard}
 use Rattle.ev_wire_laws.specs.Alike.{names_heard, as_told, from_peer, wire_name}
 use Rattle.ev_wire_laws.proofs.Ranks.{Starts}
 use Rattle.ev_alike_laws.specs.Arrivals.{frame_heard, table_across, ArrivalsByNumbersStand}
+use Rattle.ev_alike_laws.specs.Positions.{exported_with, PositionsAreKeptAlike}
+use Rattle.ev_alike_laws.proofs.Grow.{starts_same}
 use Rattle.ev_alike_laws.proofs.OrderRuns.{differ_once, new_front}
 use Rattle.ev_alike_laws.proofs.Learning.{Begins, note_begins}
 use Rattle.ev_alike_laws.proofs.Reading.{NoteAlike}
@@ -164,3 +167,14 @@ arrivals_by_numbers script once w x y es k v u follow new opened stepped carries
 
     table : IsTable u (table_across x u r)
     table = tables_join x y u s r ((tables_tell_things_apart script once).1 w x es k opened before stepped u s there) ((tables_tell_things_apart script once).1 w y (es ++ Carry v u ∷ []) k opened new done u r after)
+
+-- ---- positions
+
+kept_alike : (script : Script) (x : World) (v u : ℕ) (s : Vat Name) (other : v ≡ u → ⊥) (n : Note Name) → NoteAlike script x v u s n (names_heard (names_in s.known) n) s.mails other n
+    → (h : Heard (Note (Incoming Local Wired))) × (frame_heard script x v u s n ≡ Some h) × (h.imports ≡ import_numbers v (names_heard (names_in s.known) n) zero (exported_with x v u n)) × (h.known ≡ length (names_heard (names_in s.known) n))
+unfolding frame_heard exported_with
+kept_alike script x v u s other n a = (a.0, a.1, a.3, a.4)
+
+pub positions_kept_alike : PositionsAreKeptAlike
+positions_kept_alike script once w x es k follow new opened stepped v u s there other l at uncut n ns head brings = let names = names_heard (names_in s.known) n in
+    kept_alike script x v u s other n (note_read script once w x es k follow opened stepped v u s there other l at uncut ns n head names s.mails (starts_same names) (asked_stands x v u n s brings) (asked_for script once w x es k follow opened stepped v u s there other l at uncut n ns head new))

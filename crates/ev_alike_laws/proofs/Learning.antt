@@ -176,23 +176,23 @@ module _ (word : ℕ → ℕ) (v : ℕ) where
   last_entry (k ∷ ks) n h e f = other_or (same_reference k.name n) k (entry_of K (ks ++ begun n h ∷ []) n) (Some (begun n h)) (on_bool (same_reference k.name n) (λ i. absurd (f (inl (sym (reference_is k.name n i))))) (λ i. i)) (last_entry ks n h e (λ a. f (inr a)))
 
   -- the state once it settled
-  unfoldable Settled_ : Vat Name → Name → Words → Vat Name
-  Settled_ s n t = record s { happened = s.happened ++ Settles n (Broken t) ∷ []; known = with_change K (Settle (Broken t)) n s.known }
+  unfoldable SettledAlone : Vat Name → Name → Words → Vat Name
+  SettledAlone s n t = record s { happened = s.happened ++ Settles n (Broken t) ∷ []; known = with_change K (Settle (Broken t)) n s.known }
 
-  entry_settles : (settle : Name → Value Name → Act Name (Unit {0})) (s : Vat Name) (n : Name) (h : ℕ) (t : Words) (o : Option (Known Name)) → o ≡ Some (begun n h) → refs.settle_entry K settle n (Broken t) o s ≡ Gives tt (Settled_ s n t)
-  unfolding Settled_ refs.settle_entry refs.settle_standing refs.settle_known begun tell alter each give ◌>>◌ and_then
+  entry_settles : (settle : Name → Value Name → Act Name (Unit {0})) (s : Vat Name) (n : Name) (h : ℕ) (t : Words) (o : Option (Known Name)) → o ≡ Some (begun n h) → refs.settle_entry K settle n (Broken t) o s ≡ Gives tt (SettledAlone s n t)
+  unfolding SettledAlone refs.settle_entry refs.settle_standing refs.settle_known begun tell alter each give ◌>>◌ and_then
   entry_settles settle s n h t o e = rw e refl
 
-  settles_alone : (s : Vat Name) (n : Name) (h : ℕ) (t : Words) → entry_of K s.known n ≡ Some (begun n h) → refs.settle K n (Broken t) s ≡ Gives tt (Settled_ s n t)
+  settles_alone : (s : Vat Name) (n : Name) (h : ℕ) (t : Words) → entry_of K s.known n ≡ Some (begun n h) → refs.settle K n (Broken t) s ≡ Gives tt (SettledAlone s n t)
   unfolding refs.settle refs.settle_at refs.settle_one refs.target_of look ◌>>=◌ and_then
   settles_alone s n h t e = entry_settles (λ q z. refs.settle_at K (suc (length s.known)) q z) s n h t (entry_of K s.known n) e
 
-  settled_names : (s : Vat Name) (n : Name) (t : Words) → names_in (Settled_ s n t).known ≡ names_in s.known
-  unfolding Settled_
+  settled_names : (s : Vat Name) (n : Name) (t : Words) → names_in (SettledAlone s n t).known ≡ names_in s.known
+  unfolding SettledAlone
   settled_names s n t = names_change K (Settle (Broken t)) n s.known
 
-  settled_outbox : (s : Vat Name) (n : Name) (t : Words) → (Settled_ s n t).outbox ≡ s.outbox
-  unfolding Settled_
+  settled_outbox : (s : Vat Name) (n : Name) (t : Words) → (SettledAlone s n t).outbox ≡ s.outbox
+  unfolding SettledAlone
   settled_outbox s n t = refl
 
   gives_is : (a b : Unit {0}) (s t : Vat Name) → ◌≡◌ {A = Done Name (Unit {0})} (Gives a s) (Gives b t) → s ≡ t
@@ -237,7 +237,7 @@ module _ (word : ℕ → ℕ) (v : ℕ) where
   unfolding and_then give With
   gift_settles ks h i s t e (Gives a u) f g = λ F st o. let s1 : Vat Name = With s h i in let n = Gift h i in let names = with_names ks s h i e in
       let new : IsAmong n ks → ⊥ = once_new F ks n (subst (λ ns. Starts ns F) names (starts_on (names_in s1.known) (names_in u.known) F g st)) o in
-      let same : u ≡ Settled_ s1 n t = gives_is a tt u (Settled_ s1 n t) (sym f ∙ settles_alone s1 n h t (last_entry s.known n h tt (λ b. new (subst (λ ns. IsAmong n ns) e b)))) in
+      let same : u ≡ SettledAlone s1 n t = gives_is a tt u (SettledAlone s1 n t) (sym f ∙ settles_alone s1 n h t (last_entry s.known n h tt (λ b. new (subst (λ ns. IsAmong n ns) e b)))) in
       (ap (λ (z : Vat Name). names_in z.known) same ∙ settled_names s1 n t ∙ names, nothing_asked ks s u (ap (λ (z : Vat Name). z.outbox) same ∙ settled_outbox s1 n t))
   gift_settles ks h i s t e (Throws p u) f g = tt
   gift_settles ks h i s t e (Ejects n y u) f g = tt
@@ -388,18 +388,18 @@ module _ (word : ℕ → ℕ) (v : ℕ) where
   grows_begins ks s e (Ejects n y t) g = tt
   grows_begins ks s e (Stops c t) g = tt
 
-  abbrev Sent_ : ℕ → Words → Name → List (Value Name) → Name → Act Name (Unit {0})
-  Sent_ from verb id args n = look (λ s. s.number) >>= (λ u. come K (IsAnswer u id) u >>= (λ a. alter K (ToTell from) a >> refs.send_on K (refs.settle K) (record { id = id; target = Ref n; verb = verb; args = args; answer = a })))
+  abbrev SentOn : ℕ → Words → Name → List (Value Name) → Name → Act Name (Unit {0})
+  SentOn from verb id args n = look (λ s. s.number) >>= (λ u. come K (IsAnswer u id) u >>= (λ a. alter K (ToTell from) a >> refs.send_on K (refs.settle K) (record { id = id; target = Ref n; verb = verb; args = args; answer = a })))
 
-  sent_keeps : (from : ℕ) (verb : Words) (id : Name) (args : List (Value Name)) (n : Name) → Keeps Grows (Sent_ from verb id args n)
+  sent_keeps : (from : ℕ) (verb : Words) (id : Name) (args : List (Value Name)) (n : Name) → Keeps Grows (SentOn from verb id args n)
   sent_keeps from verb id args n = let law = kept_under K in keeps_bind Grows kept (keeps_look Grows kept (λ s. s.number)) (λ u. keeps_bind Grows kept (keeps_come K Grows law (IsAnswer u id) u) (λ a. keeps_then Grows kept (keeps_alter K Grows law (ToTell from) a) (keeps_send_on K Grows kept law (refs.settle K) (keeps_settle K Grows kept law) (record { id = id; target = Ref n; verb = verb; args = args; answer = a }))))
 
   deliver_begins : (from : ℕ) (ks : List Name) (m n : Name) (verb : Words) (ys : Passeds Name) (s : Vat Name) → names_in s.known ≡ ks → Begins (world.known_after (world.read_all ys ks).known n) (arrive.arrive_deliver K from (New m (host_of m)) (world.read_name (world.read_all ys ks).known n) verb (world.read_all ys ks).read s)
   unfolding arrive.arrive_deliver arrive.learn_message mail naming mail_of ◌>>=◌ and_then
   deliver_begins from ks m n verb ys s e = let k1 = (world.read_all ys ks).known in let k2 = world.known_after k1 n in let s1 : Vat Name = record s { mails = s.mails ++ m ∷ [] } in
-      then_begins ks k1 k2 s1 (arrive.learn_all K from (world.read_all ys ks).read s1) (λ args. arrive.learn_name K (world.read_name k1 n) >>= (λ x. Sent_ from verb m args x)) (all_learns from ks ys s1 e)
+      then_begins ks k1 k2 s1 (arrive.learn_all K from (world.read_all ys ks).read s1) (λ args. arrive.learn_name K (world.read_name k1 n) >>= (λ x. SentOn from verb m args x)) (all_learns from ks ys s1 e)
       (λ args. keeps_bind Grows kept (keeps_learn_name K Grows kept (kept_under K) (world.read_name k1 n)) (λ x. sent_keeps from verb m args x))
-      (λ args t f. begins_with k1 k2 t (arrive.learn_name K (world.read_name k1 n) t) (λ x. Sent_ from verb m args x) (name_learns k1 n t f) (λ x. sent_keeps from verb m args x))
+      (λ args t f. begins_with k1 k2 t (arrive.learn_name K (world.read_name k1 n) t) (λ x. SentOn from verb m args x) (name_learns k1 n t f) (λ x. sent_keeps from verb m args x))
 
   settled_begins : (from : ℕ) (ks : List Name) (n : Name) (y : Passed Name) (s : Vat Name) → names_in s.known ≡ ks → Begins (world.read_passed y (world.known_after ks n)).known (arrive.arrive_settled K from (world.read_name ks n) (world.read_passed y (world.known_after ks n)).read s)
   unfolding arrive.arrive_settled ◌>>=◌
@@ -408,35 +408,35 @@ module _ (word : ℕ → ℕ) (v : ℕ) where
       (λ x. keeps_bind Grows kept (keeps_learn K Grows kept law from (world.read_passed y k1).read) (λ z. keeps_settle K Grows kept law x z))
       (λ x t f. begins_with k1 k2 t (arrive.learn K from (world.read_passed y k1).read t) (λ z. refs.settle K x z) (passed_learns from k1 y t f) (λ z. keeps_settle K Grows kept law x z))
 
-  abbrev Opened_ : ℕ → ℕ → Name → Act Name (Unit {0})
-  Opened_ from i y = arrive.have_gift K from i >>= (λ g. open_gift from i >> refs.resolve K g (Ref y))
+  abbrev OpenedAs : ℕ → ℕ → Name → Act Name (Unit {0})
+  OpenedAs from i y = arrive.have_gift K from i >>= (λ g. open_gift from i >> refs.resolve K g (Ref y))
 
-  opened_keeps : (from i : ℕ) (y : Name) → Keeps Grows (Opened_ from i y)
+  opened_keeps : (from i : ℕ) (y : Name) → Keeps Grows (OpenedAs from i y)
   opened_keeps from i y = let law = kept_under K in keeps_bind Grows kept (keeps_have_gift K Grows kept law from i) (λ g. keeps_then Grows kept (keeps_open Grows kept from i) (keeps_resolve K Grows kept law g (Ref y)))
 
   open_begins : (from : ℕ) (ks : List Name) (i : ℕ) (n : Name) (s : Vat Name) → names_in s.known ≡ ks → Begins (world.known_after ks n) (arrive.arrive_open K from i (world.read_name ks n) s)
   unfolding arrive.arrive_open ◌>>=◌
-  open_begins from ks i n s e = begins_with ks (world.known_after ks n) s (arrive.learn_name K (world.read_name ks n) s) (λ y. Opened_ from i y) (name_learns ks n s e) (λ y. opened_keeps from i y)
+  open_begins from ks i n s e = begins_with ks (world.known_after ks n) s (arrive.learn_name K (world.read_name ks n) s) (λ y. OpenedAs from i y) (name_learns ks n s e) (λ y. opened_keeps from i y)
 
-  abbrev Seen_ : ℕ → Name → Act Name (Unit {0})
-  Seen_ c y = look (λ s. is_in c s.noticed) >>= (λ gone. if gone then refs.settle K y (Broken (codes "partition")) else arrive.view_there K y c)
+  abbrev SeenThere : ℕ → Name → Act Name (Unit {0})
+  SeenThere c y = look (λ s. is_in c s.noticed) >>= (λ gone. if gone then refs.settle K y (Broken (codes "partition")) else arrive.view_there K y c)
 
-  seen_keeps : (c : ℕ) (y : Name) → Keeps Grows (Seen_ c y)
+  seen_keeps : (c : ℕ) (y : Name) → Keeps Grows (SeenThere c y)
   seen_keeps c y = let law = kept_under K in keeps_bind Grows kept (keeps_look Grows kept (λ s. is_in c s.noticed)) (λ b. keeps_if Grows kept b (keeps_settle K Grows kept law y (Broken (codes "partition"))) (keeps_view_there K Grows kept law y c))
 
   elsewhere_begins : (ks : List Name) (n : Name) (c : ℕ) (s : Vat Name) → names_in s.known ≡ ks → Begins (world.known_after ks n) (arrive.arrive_elsewhere K (world.read_name ks n) c s)
   unfolding arrive.arrive_elsewhere ◌>>=◌
-  elsewhere_begins ks n c s e = begins_with ks (world.known_after ks n) s (arrive.learn_name K (world.read_name ks n) s) (λ y. Seen_ c y) (name_learns ks n s e) (λ y. seen_keeps c y)
+  elsewhere_begins ks n c s e = begins_with ks (world.known_after ks n) s (arrive.learn_name K (world.read_name ks n) s) (λ y. SeenThere c y) (name_learns ks n s e) (λ y. seen_keeps c y)
 
-  abbrev Shortened_ : ℕ → Name → Act Name (Unit {0})
-  Shortened_ i y = look (λ s. refs.place K s (refs.follow K s (Ref y))) >>= (λ q. arrive.shorten_to K i q)
+  abbrev ShortenedTo : ℕ → Name → Act Name (Unit {0})
+  ShortenedTo i y = look (λ s. refs.place K s (refs.follow K s (Ref y))) >>= (λ q. arrive.shorten_to K i q)
 
-  shortened_keeps : (i : ℕ) (y : Name) → Keeps Grows (Shortened_ i y)
+  shortened_keeps : (i : ℕ) (y : Name) → Keeps Grows (ShortenedTo i y)
   shortened_keeps i y = keeps_bind Grows kept (keeps_look Grows kept (λ s. refs.place K s (refs.follow K s (Ref y)))) (λ q. keeps_shorten_to K Grows kept (kept_under K) i q)
 
   shorten_begins : (ks : List Name) (n : Name) (i : ℕ) (s : Vat Name) → names_in s.known ≡ ks → Begins (world.known_after ks n) (arrive.arrive_shorten K (world.read_name ks n) i s)
   unfolding arrive.arrive_shorten ◌>>=◌
-  shorten_begins ks n i s e = begins_with ks (world.known_after ks n) s (arrive.learn_name K (world.read_name ks n) s) (λ y. Shortened_ i y) (name_learns ks n s e) (λ y. shortened_keeps i y)
+  shorten_begins ks n i s e = begins_with ks (world.known_after ks n) s (arrive.learn_name K (world.read_name ks n) s) (λ y. ShortenedTo i y) (name_learns ks n s e) (λ y. shortened_keeps i y)
 
   pub note_begins : (from : ℕ) (ks : List Name) (n : Note Name) (s : Vat Name) → names_in s.known ≡ ks → Begins (names_heard ks n) (arrive.arrive K from (world.read_note ks n) s)
   unfolding arrive.arrive world.read_note names_heard

@@ -22,7 +22,7 @@ use Rattle.ev_renaming.specs.Stands.{Table, Found, Is, found, prom_found, far_fo
 use Rattle.ev_table_laws.specs.Exports.{object_of, exported_at}
 use Rattle.ev_wire_laws.specs.Tables.{Tables, known_number, own_number, import_number, import_numbers, tables_of, arrived}
 use Rattle.ev_wire_laws.specs.Hearing.{Heard, Hearing, told, told_if, next, with_position, promise_heard, name_heard, fact_heard, reference_heard, passed_heard, all_heard, gift_heard, outcome_heard, note_heard}
-use Rattle.ev_wire_laws.specs.Alike.{wire_name, draw_of, numbered_gift, as_told, from_peer, message_of}
+use Rattle.ev_wire_laws.specs.Alike.{wire_name, draw_of, numbered_gift, names_heard, as_told, from_peer, message_of}
 use Rattle.ev_wire_laws.specs.Asked.{told_value, told_passed, told_all, ListlessValue, Listless, AllListless}
 use Rattle.ev_gift_laws.specs.Passing.{PassesFrom, AllPassFrom}
 use Rattle.ev_wire_laws.proofs.Told.{known_up}
@@ -135,7 +135,7 @@ unchosen false x y e = refl
 
 -- ---- the two vats
 
--- The note N goes from v to u, whose state is s; F are the names that u knows once it was read, and Ms the messages that it has had, neither of which matters here beyond that.
+-- The note N goes from v to u, whose state is s; F are the names that u knows once it was read, and maybe more, and Ms any messages.
 module _ (script : Script) (w : World) (v u : ℕ) (s : Vat Name) (N : Note Name) (F Ms : List Name) (other : v ≡ u → ⊥) where
   abbrev pub Names : List Name
   Names = names_in s.known
@@ -606,9 +606,9 @@ module _ (script : Script) (w : World) (v u : ℕ) (s : Vat Name) (N : Note Name
   abbrev Hear : Note Name → List Local → ℕ → Option (Heard (Note (Incoming Local Wired)))
   Hear M = note_heard Draws u v T Gifts (wire.operation (draw_word script.key) w.links v u M)
 
-  -- what is heard for the note is what is read for it
+  -- what is heard for the note is what is read for it, and what is had of exports and names then is that of the note
   abbrev pub NoteAlike : Note Name → Type 0
-  NoteAlike M = (h : Heard (Note (Incoming Local Wired))) × (note_heard Draws u v T (map (numbered_gift Names) s.gifts) (wire.operation (draw_word script.key) w.links v u M) T.imports (length s.known) ≡ Some h) × (maps.note (incoming Reads Wires) h.read ≡ as_told v (maps.note (incoming Is (λ x. x)) (world.read_note (world.names_of s) M)))
+  NoteAlike M = (h : Heard (Note (Incoming Local Wired))) × (note_heard Draws u v T (map (numbered_gift Names) s.gifts) (wire.operation (draw_word script.key) w.links v u M) T.imports (length s.known) ≡ Some h) × (maps.note (incoming Reads Wires) h.read ≡ as_told v (maps.note (incoming Is (λ x. x)) (world.read_note (world.names_of s) M))) × (h.imports ≡ I (wire.with_note v Asked M Arrived)) × (h.known ≡ length (names_heard Names M))
 
   -- what is known of a gift that is asked for
   pub record Asks (p i : ℕ) (n : Name) : Type 0 where
@@ -633,34 +633,36 @@ module _ (script : Script) (w : World) (v u : ℕ) (s : Vat Name) (N : Note Name
     -- a name and nothing else is heard
     about : (M : Note Name) (n : Name) (f : Incoming Local Wired → Hearing (Note (Incoming Local Wired))) (g : Incoming Local Wired → Note (Incoming Local Wired)) → ((is : List Local) (k : ℕ) → Hear M is k ≡ next f (name_heard Draws u v T (wire.described (draw_word script.key) w.links v u n) is k)) → ((x : Incoming Local Wired) (is : List Local) (k : ℕ) → f x is k ≡ Gets (g x) is k)
         → ((x : Incoming Local Wired) → incoming Reads Wires x ≡ incoming Is (λ y. y) (read_name Names n) → maps.note (incoming Reads Wires) (g x) ≡ as_told v (maps.note (incoming Is (λ x. x)) (world.read_note (world.names_of s) M)))
-        → NameAlike Names Arrived n (wire.described (draw_word script.key) w.links v u n) → NoteAlike M
-    about M n f g e h r a = let is = I (wire.with_export v Asked n Arrived) in let k = length (known_after Names n) in (
+        → NameAlike Names Arrived n (wire.described (draw_word script.key) w.links v u n) → wire.with_export v Asked n Arrived ≡ wire.with_note v Asked M Arrived → known_after Names n ≡ names_heard Names M → NoteAlike M
+    about M n f g e h r a p q = let is = I (wire.with_export v Asked n Arrived) in let k = length (known_after Names n) in (
       record { read = g a.0; imports = is; known = k },
       start (Hear M) ∙ e (I Arrived) (length Names) ∙ next_is (name_heard Draws u v T (wire.described (draw_word script.key) w.links v u n) (I Arrived) (length Names)) f a.0 is k a.1 ∙ h a.0 is k,
       r a.0 a.2,
+      ap I p,
+      ap length q,
     )
 
     module _ (words : (i : ℕ) → i < length w.drawn → Draws (draw_word script.key i) ≡ i) where
       pub open_alike : (i : ℕ) (n : Name) → i < length w.drawn → Ends n → Starts (known_after Names n) F → Starts (wire.with_export v Asked n Arrived) Exports → NoteAlike (Open i n)
-      unfolding note_heard wire.operation told as_told world.read_note world.names_of
+      unfolding note_heard wire.operation told as_told world.read_note world.names_of wire.with_note names_heard
       open_alike i n l ends later ahead = about (Open i n) n (λ x. told (Open (Draws (draw_word script.key i)) x)) (λ x. Open (Draws (draw_word script.key i)) x) (λ is k. refl) (λ x is k. refl)
-          (λ x e. two (words i l) e) (name_alike b Names Arrived st n ends later ahead)
+          (λ x e. two (words i l) e) (name_alike b Names Arrived st n ends later ahead) refl refl
         where
           two : {j k : ℕ} {x y : Incoming Found Name} → j ≡ k → x ≡ y → Open j x ≡ Open k y
           two e f = rw (e, f) refl
 
       pub shorten_alike : (n : Name) (c i : ℕ) → i < length w.drawn → Ends n → Starts (known_after Names n) F → Starts (wire.with_export v Asked n Arrived) Exports → NoteAlike (Shorten n c i)
-      unfolding note_heard wire.operation told as_told world.read_note world.names_of
+      unfolding note_heard wire.operation told as_told world.read_note world.names_of wire.with_note names_heard
       shorten_alike n c i l ends later ahead = about (Shorten n c i) n (λ x. told (Shorten x v (Draws (draw_word script.key i)))) (λ x. Shorten x v (Draws (draw_word script.key i))) (λ is k. refl) (λ x is k. refl)
-          (λ x e. two (words i l) e) (name_alike b Names Arrived st n ends later ahead)
+          (λ x e. two (words i l) e) (name_alike b Names Arrived st n ends later ahead) refl refl
         where
           two : {j k : ℕ} {x y : Incoming Found Name} → j ≡ k → x ≡ y → Shorten x v j ≡ Shorten y v k
           two e f = rw (e, f) refl
 
       pub elsewhere_alike : (n : Name) (c : ℕ) → Ends n → Starts (known_after Names n) F → Starts (wire.with_export v Asked n Arrived) Exports → NoteAlike (Elsewhere n c)
-      unfolding note_heard outcome_heard wire.operation told as_told world.read_note world.names_of
+      unfolding note_heard outcome_heard wire.operation told as_told world.read_note world.names_of wire.with_note names_heard
       elsewhere_alike n c ends later ahead = about (Elsewhere n c) n (λ x. outcome_heard Draws u v T x (op.Elsewhere c)) (λ x. Elsewhere x c) (λ is k. refl) (λ x is k. refl)
-          (λ x e. ap (λ z. Elsewhere z c) e) (name_alike b Names Arrived st n ends later ahead)
+          (λ x e. ap (λ z. Elsewhere z c) e) (name_alike b Names Arrived st n ends later ahead) refl refl
 
       -- ---- a gift is asked for
 
@@ -670,11 +672,13 @@ module _ (script : Script) (w : World) (v u : ℕ) (s : Vat Name) (N : Note Name
       ask_some p i n a None e = ap (λ (o : Option Name). New (unwrap_or o (Root v)) u) (get_rank Put n a.put) ∙ ap (λ h. New n h) (sym a.host) ∙ sym (ap (λ z. incoming Is (λ y. y) z) (read_new Names n (a.eventual ∙ on_bool (has_name Names n) (λ f. absurd (a.absent e (has_among Names n f))) (λ f. f))))
 
       pub ask_alike : (p i : ℕ) (n : Name) → i < length w.drawn → Asks p i n → NoteAlike (Ask p i n)
-      unfolding note_heard wire.operation told as_told world.read_note world.names_of wire.questions
+      unfolding note_heard wire.operation told as_told world.read_note world.names_of wire.questions wire.with_note names_heard
       ask_alike p i n l a = (
         record { read = Ask p (Draws (draw_word script.key i)) (gift_heard Draws u v T (wire.rank Put n) (gift_at p (Draws (draw_word script.key i)) Gifts)); imports = T.imports; known = length s.known },
         refl,
         two (words i l) (ap (λ j. incoming Reads Wires (gift_heard Draws u v T (wire.rank Put n) (gift_at p j Gifts))) (words i l) ∙ ap (λ o. incoming Reads Wires (gift_heard Draws u v T (wire.rank Put n) o)) (gift_mapped Names p i s.gifts) ∙ ask_some p i n a (gift_at p i s.gifts) refl),
+        imports_are b.first known,
+        known_length s.known,
       )
         where
           two : {j k : ℕ} {x y : Incoming Found Name} → j ≡ k → x ≡ y → Ask p j x ≡ Ask p k y
@@ -684,7 +688,7 @@ module _ (script : Script) (w : World) (v u : ℕ) (s : Vat Name) (N : Note Name
 
       module _ (P : ℕ → ℕ) where
         pub settled_alike : (n : Name) (y : Passed Name) → Listless y → PassesFrom P (length w.drawn) v u y → ((m : Name) → IsAmong m (n ∷ told_passed y) → Ends m) → Starts (world.read_passed y (known_after Names n)).known F → Starts (wire.with_passed v Asked y (wire.with_export v Asked n Arrived)) Exports → NoteAlike (SettledTo n y)
-        unfolding note_heard outcome_heard wire.operation told as_told world.read_note world.names_of
+        unfolding note_heard outcome_heard wire.operation told as_told world.read_note world.names_of wire.with_note names_heard
         settled_alike n y q g f later ahead = let d = wire.described (draw_word script.key) w.links v u n in let dy = wire.described_passed (draw_word script.key) w.links v u y in
             let k1 = known_after Names n in let E1 = wire.with_export v Asked n Arrived in let k2 = (world.read_passed y k1).known in let E2 = wire.with_passed v Asked y E1 in
             let later1 = starts_on k1 k2 F (passed_known y k1) later in let ahead1 = starts_on E1 E2 Exports (passed_starts v Asked y E1) ahead in let ends = f n (inl refl) in
@@ -693,13 +697,15 @@ module _ (script : Script) (w : World) (v u : ℕ) (s : Vat Name) (N : Note Name
               record { read = SettledTo one.0 two.0; imports = I E2; known = length k2 },
               start (Hear (SettledTo n y)) ∙ next_is (name_heard Draws u v T d (I Arrived) (length Names)) (λ x. outcome_heard Draws u v T x (op.To dy)) one.0 (I E1) (length k1) one.1 ∙ next_is (passed_heard Draws u v T dy (I E1) (length k1)) (λ z. told (SettledTo one.0 z)) two.0 (I E2) (length k2) two.1,
               both one.2 two.2,
+              refl,
+              refl,
             )
           where
             both : {x y : Incoming Found Name} {a c : Passed (Incoming Found Name)} → x ≡ y → a ≡ c → SettledTo x a ≡ SettledTo y c
             both e f = rw (e, f) refl
 
         pub deliver_alike : (m n : Name) (verb : List ℕ) (ys : Passeds Name) → message_of N ≡ m → AllListless ys → AllPassFrom P (length w.drawn) v u ys → host_of n ≡ u → ((x : Name) → IsAmong x (n ∷ told_all ys) → Ends x) → Starts (known_after (world.read_all ys Names).known n) F → Starts (wire.with_all v Asked ys Arrived) Exports → NoteAlike (Deliver m n verb ys)
-        unfolding note_heard wire.operation told as_told from_peer world.read_note world.names_of wire_name
+        unfolding note_heard wire.operation told as_told from_peer world.read_note world.names_of wire_name wire.with_note names_heard
         deliver_alike m n verb ys message q g host f later ahead = let d = wire.described (draw_word script.key) w.links v u n in let ds = wire.described_all (draw_word script.key) w.links v u ys in
             let k1 = (world.read_all ys Names).known in let E1 = wire.with_all v Asked ys Arrived in let k2 = known_after k1 n in let E2 = wire.with_export v Asked n E1 in
             let all = all_alike P words b Names Arrived st ys q g (λ x a. f x (inr a)) (starts_on k1 k2 F (after_starts k1 n) later) ahead in let one = all.0 in
@@ -707,6 +713,8 @@ module _ (script : Script) (w : World) (v u : ℕ) (s : Vat Name) (N : Note Name
               record { read = Deliver (New Carried v) two.0 verb one.0; imports = I E2; known = length k2 },
               start (Hear (Deliver m n verb ys)) ∙ next_is (all_heard Draws u v T ds (I Arrived) (length Names)) (λ zs is ks. next (λ x. told (Deliver (New Carried v) x verb zs)) (name_heard Draws u v T d is ks)) one.0 (I E1) (length k1) one.1 ∙ next_is (name_heard Draws u v T d (I E1) (length k1)) (λ x. told (Deliver (New Carried v) x verb one.0)) two.0 (I E2) (length k2) two.1,
               three message two.2 one.2,
+              ap I (export_other v Asked n E1 (apart n host) ∙ ap (λ es. wire.with_all v Asked ys es) (sym (export_other v Asked n Arrived (apart n host)))),
+              refl,
             )
           where
             three : {k l : Name} {x y : Incoming Found Name} {a c : Passeds (Incoming Found Name)} → k ≡ l → x ≡ y → a ≡ c → Deliver (New k v) x verb a ≡ Deliver (New l v) y verb c

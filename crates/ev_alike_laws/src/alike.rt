@@ -6,6 +6,7 @@
 //! it knows a vat, or that it knows itself. Each law names what it asks of gifts, if anything.
 
 ghost use Rattle.ev_alike_laws.specs.Arrivals.{ArrivalsByNumbersStand};
+ghost use Rattle.ev_alike_laws.specs.Positions.{PositionsAreKeptAlike};
 ghost use Rattle.ev_alike_laws.specs.Order.{GiftsAreAskedForFirst};
 ghost use Rattle.ev_alike_laws.specs.Kinds.{DeliveriesAreReadAlike, OpeningsAreReadAlike, AsksAreReadAlike, SettlingsAreReadAlike, ShorteningsAreReadAlike, NotesAreReadAlike, NewNotesAreReadAlike};
 
@@ -59,4 +60,13 @@ pub fn gifts_are_asked_for_first()
 /// to it before.
 pub fn arrivals_by_numbers_stand()
     ensures { ArrivalsByNumbersStand }
+{}
+
+/// In each run whose notes bring what is new, once the receiver of the next note heard it, it has by
+/// position what the sender exported to it in the notes that have arrived and in this one, and knows as
+/// many names as are known once the note was read in names.
+///
+/// So what the note names as new gets the same number and the same position on both sides.
+pub fn positions_are_kept_alike()
+    ensures { PositionsAreKeptAlike }
 {}
