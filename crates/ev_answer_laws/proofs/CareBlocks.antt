@@ -9,9 +9,9 @@ use Rattle.ev_machine.specs.Arrive as arrive
 use Rattle.ev_machine.specs.Eval as eval
 use Rattle.ev_kernel.specs.declared.node.Node.{Node}
 use Rattle.ev_name_laws.specs.Names.{Named}
-use Rattle.ev_name_laws.proofs.Facts.{Fact, Also, IsName, IsMail, IsDraw, IsVat, IsOff, AreNames, IsValue, AreValues, IsMessage, AreMessages, IsKnown, IsGiftEntry, IsPlace, IsChange, MayKnown, MayGift, new_names, nothing}
-use Rattle.ev_name_laws.proofs.Care.{Care, Spots, Gets, Fine, quiet, fine_activation, fine_give, bind_name, bind_value, bind_place, bind_number, bind_names, then_unit, got, got_left, got_right, got_itself, got_message, got_more, got_none, got_ref}
-use Rattle.ev_name_laws.proofs.Looks.{looks, look_follow, look_place, look_place_of}
+use Rattle.ev_name_laws.proofs.Facts.{Fact, Also, IsName, IsMail, IsDraw, IsVat, IsOff, IsEntry, AreEntries, MayEntry, may_map, IsValue, AreValues, IsMessage, AreMessages, IsKnown, IsGiftEntry, IsPlace, IsChange, MayKnown, MayGift, new_names, nothing}
+use Rattle.ev_name_laws.proofs.Care.{Care, Alike, Spots, Gets, Fine, quiet, fine_activation, fine_bind, fine_give, got_entry, bind_name, bind_value, bind_place, bind_number, bind_names, then_unit, got, got_left, got_right, got_itself, got_message, got_more, got_none, got_ref}
+use Rattle.ev_name_laws.proofs.Looks.{looks, look_follow, look_target, look_entry, look_place, look_place_of}
 use Rattle.ev_name_laws.proofs.CareRefs.{GoodSettler}
 use Rattle.ev_name_laws.proofs.Serves.{Serves}
 use Rattle.ev_name_laws.proofs.CareEval.{fine_turn}
@@ -19,6 +19,7 @@ use Rattle.ev_name_laws.proofs.CareEval.{fine_turn}
 -- How each single change ends, and each note that is put with what passes in it. A message that goes to another host goes out behind its answer there.
 pub record Blocks {N W : Type 0} (K : Naming N W) (S : Care N) (Here : ℕ → Type 0) : Type 1 where
   pub spots : Spots K S
+  pub alike : Alike S
   pub object : (s : Vat N) (i : ℕ) → S.ok s (Named (K.object i))
   pub tells : (C : Fact N) (e : Happened N) → Fine S C (tell e) nothing
   pub queues : (C : Fact N) (m : Message N) → Gets S C (IsMessage m) → Fine S C (enqueue m) nothing
@@ -26,7 +27,7 @@ pub record Blocks {N W : Type 0} (K : Naming N W) (S : Care N) (Here : ℕ → T
   pub waits : (C : Fact N) (q n : N) → Gets S C (IsChange (Wait q)) → Fine S C (alter K (Wait q) n) nothing
   pub waits_on : (C : Fact N) (q n : N) → Gets S C (IsChange (WaitOn q)) → Fine S C (alter K (WaitOn q) n) nothing
   pub reacts : (C : Fact N) (m : Message N) (n : N) → Gets S C (IsChange (React m)) → Fine S C (alter K (React m) n) nothing
-  pub to_tell : (C : Fact N) (w : ℕ) (n : N) → Gets S C (IsChange (ToTell w)) → Fine S C (alter K (ToTell w) n) nothing
+  pub to_tell : (C : Fact N) (w : ℕ) (n : N) → Gets S C (IsName n) → Fine S C (alter K (ToTell w) n) nothing
   pub settles : (C : Fact N) (y : Value N) (n : N) → Gets S C (IsChange (Settle y)) → Fine S C (alter K (Settle y) n) nothing
   pub answers : (C : Fact N) (h : ℕ) (m : N) → Here h → Gets S C (IsMail m) → Gets S C (IsVat h) → Fine S C (come K (IsAnswer h m) h) IsName
   pub gifts : (C : Fact N) (h i : ℕ) → Gets S C (IsDraw i) → Gets S C (IsVat h) → Fine S C (come K (IsGift h i) h) IsName
@@ -64,7 +65,7 @@ module _ {N W : Type 0} (K : Naming N W) (S : Care N) (Here : ℕ → Type 0) (p
   put_reacts : {C : Fact N} (m : Message N) (n : N) → Gets S C (IsChange (React m)) → Fine S C (alter K (React m) n) nothing
   put_reacts {C = C} m n g = puts.reacts C m n g
 
-  put_to_tell : {C : Fact N} (w : ℕ) (n : N) → Gets S C (IsChange (ToTell w)) → Fine S C (alter K (ToTell w) n) nothing
+  put_to_tell : {C : Fact N} (w : ℕ) (n : N) → Gets S C (IsName n) → Fine S C (alter K (ToTell w) n) nothing
   put_to_tell {C = C} w n g = puts.to_tell C w n g
 
   put_settles : {C : Fact N} (y : Value N) (n : N) → Gets S C (IsChange (Settle y)) → Fine S C (alter K (Settle y) n) nothing
@@ -121,30 +122,30 @@ module _ {N W : Type 0} (K : Naming N W) (S : Care N) (Here : ℕ → Type 0) (p
   unfolding refs.inform
   put_inform {C = C} p n0 w = search (putting, looks, place_here, put_inform_of) depth 30
 
-  pub put_settle_known : {C : Fact N} → (x1 : N → Value N → Act N (Unit {0})) → GoodSettler S x1 → (x2 : N) → Gets S C (IsName x2) → (x3 : Value N) → Gets S C (IsValue x3) → (x4 : Known N) → Gets S C (IsKnown x4) → Fine S C (refs.settle_known K x1 x2 x3 x4) nothing
+  pub put_settle_known : {C : Fact N} → (x1 : N → Value N → Act N (Unit {0})) → GoodSettler S x1 → (x2 : N) → Gets S C (IsEntry x2) → (x3 : Value N) → Gets S C (IsValue x3) → (x4 : Known N) → Gets S C (IsKnown x4) → Fine S C (refs.settle_known K x1 x2 x3 x4) nothing
   unfolding refs.settle_known
-  put_settle_known {C = C} settle h1 p n2 y g1 k g2 = let kn_k : Gets S C (IsName k.name) = record { at = λ s h. (g2.at s h).0 } in let kh_k : Gets S C (AreMessages k.held) = record { at = λ s h. (g2.at s h).2 } in let kw_k : Gets S C (AreNames k.waiting) = record { at = λ s h. (g2.at s h).3 } in let kr_k : Gets S C (AreMessages k.reactions) = record { at = λ s h. (g2.at s h).4 } in search (putting, looks, put_send_on, put_inform) depth 30
+  put_settle_known {C = C} settle h1 p n2 y g1 k g2 = let np : Gets S C (IsName p) = record { at = λ s h. puts.alike.named s p (n2.at s h) } in let kh_k : Gets S C (AreMessages k.held) = record { at = λ s h. (g2.at s h).2 } in let kw_k : Gets S C (AreEntries k.waiting) = record { at = λ s h. (g2.at s h).3 } in let kr_k : Gets S C (AreMessages k.reactions) = record { at = λ s h. (g2.at s h).4 } in search (putting, looks, put_send_on, put_inform) depth 30
 
-  pub put_settle_standing : {C : Fact N} → (x1 : N → Value N → Act N (Unit {0})) → GoodSettler S x1 → (x2 : N) → Gets S C (IsName x2) → (x3 : Value N) → Gets S C (IsValue x3) → (x4 : Known N) → Gets S C (IsKnown x4) → (x5 : Standing N) → Fine S C (refs.settle_standing K x1 x2 x3 x4 x5) nothing
+  pub put_settle_standing : {C : Fact N} → (x1 : N → Value N → Act N (Unit {0})) → GoodSettler S x1 → (x2 : N) → Gets S C (IsEntry x2) → (x3 : Value N) → Gets S C (IsValue x3) → (x4 : Known N) → Gets S C (IsKnown x4) → (x5 : Standing N) → Fine S C (refs.settle_standing K x1 x2 x3 x4 x5) nothing
   unfolding refs.settle_standing
-  put_settle_standing {C = C} settle h1 p n2 y g1 k g2 (Settled z) = let kn_k : Gets S C (IsName k.name) = record { at = λ s h. (g2.at s h).0 } in let kh_k : Gets S C (AreMessages k.held) = record { at = λ s h. (g2.at s h).2 } in let kw_k : Gets S C (AreNames k.waiting) = record { at = λ s h. (g2.at s h).3 } in let kr_k : Gets S C (AreMessages k.reactions) = record { at = λ s h. (g2.at s h).4 } in search (putting, looks) depth 30
-  put_settle_standing {C = C} settle h1 p n2 y g1 k g2 _ = let kn_k : Gets S C (IsName k.name) = record { at = λ s h. (g2.at s h).0 } in let kh_k : Gets S C (AreMessages k.held) = record { at = λ s h. (g2.at s h).2 } in let kw_k : Gets S C (AreNames k.waiting) = record { at = λ s h. (g2.at s h).3 } in let kr_k : Gets S C (AreMessages k.reactions) = record { at = λ s h. (g2.at s h).4 } in search (putting, looks, put_settle_known) depth 30
+  put_settle_standing {C = C} settle h1 p n2 y g1 k g2 (Settled z) = let kh_k : Gets S C (AreMessages k.held) = record { at = λ s h. (g2.at s h).2 } in let kw_k : Gets S C (AreEntries k.waiting) = record { at = λ s h. (g2.at s h).3 } in let kr_k : Gets S C (AreMessages k.reactions) = record { at = λ s h. (g2.at s h).4 } in search (putting, looks) depth 30
+  put_settle_standing {C = C} settle h1 p n2 y g1 k g2 _ = let kh_k : Gets S C (AreMessages k.held) = record { at = λ s h. (g2.at s h).2 } in let kw_k : Gets S C (AreEntries k.waiting) = record { at = λ s h. (g2.at s h).3 } in let kr_k : Gets S C (AreMessages k.reactions) = record { at = λ s h. (g2.at s h).4 } in search (putting, looks, put_settle_known) depth 30
 
-  pub put_settle_entry : {C : Fact N} → (x1 : N → Value N → Act N (Unit {0})) → GoodSettler S x1 → (x2 : N) → Gets S C (IsName x2) → (x3 : Value N) → Gets S C (IsValue x3) → (x4 : Option (Known N)) → Gets S C (MayKnown x4) → Fine S C (refs.settle_entry K x1 x2 x3 x4) nothing
+  pub put_settle_entry : {C : Fact N} → (x1 : N → Value N → Act N (Unit {0})) → GoodSettler S x1 → (x2 : N) → Gets S C (IsEntry x2) → (x3 : Value N) → Gets S C (IsValue x3) → (x4 : Option (Known N)) → Gets S C (MayKnown x4) → Fine S C (refs.settle_entry K x1 x2 x3 x4) nothing
   unfolding refs.settle_entry
   put_settle_entry {C = C} settle h1 p n2 y g1 None g2 = search (putting, looks) depth 30
   put_settle_entry {C = C} settle h1 p n2 y g1 (Some k) g2 = let d_g2 : Gets S C (IsKnown k) = record { at = λ s h. (g2.at s h) } in search (putting, looks, put_settle_standing) depth 30
 
-  pub put_settle_one : {C : Fact N} → (x1 : N → Value N → Act N (Unit {0})) → GoodSettler S x1 → (x2 : N) → Gets S C (IsName x2) → (x3 : Value N) → Gets S C (IsValue x3) → Fine S C (refs.settle_one K x1 x2 x3) nothing
+  pub put_settle_one : {C : Fact N} → (x1 : N → Value N → Act N (Unit {0})) → GoodSettler S x1 → (x2 : N) → Gets S C (IsEntry x2) → (x3 : Value N) → Gets S C (IsValue x3) → Fine S C (refs.settle_one K x1 x2 x3) nothing
   unfolding refs.settle_one
-  put_settle_one {C = C} settle h1 p n2 x g1 = search (putting, looks, put_settle_entry) depth 30
+  put_settle_one {C = C} settle h1 p n2 x g1 = bind_value S (look_target K S p x g1) (λ y. fine_bind S (MayEntry p) (look_entry K S puts.spots p) (λ k. put_settle_entry settle h1 p (record { at = λ s c. n2.at s c.0.0 }) y (record { at = λ s c. c.0.1 }) k (record { at = λ s c. may_map (λ j h. h.0) k c.1 })))
 
-  pub put_settle_at : {C : Fact N} → (x1 : ℕ) → (x2 : N) → Gets S C (IsName x2) → (x3 : Value N) → Gets S C (IsValue x3) → Fine S C (refs.settle_at K x1 x2 x3) nothing
+  pub put_settle_at : {C : Fact N} → (x1 : ℕ) → (x2 : N) → Gets S C (IsEntry x2) → (x3 : Value N) → Gets S C (IsValue x3) → Fine S C (refs.settle_at K x1 x2 x3) nothing
   unfolding refs.settle_at
   put_settle_at {C = C} zero p n1 y g1 = search (putting, looks) depth 30
   put_settle_at {C = C} (suc d) p n1 y g1 = put_settle_one (λ q z. refs.settle_at K d q z) (λ D q n z g. put_settle_at {C = D} d q n z g) p n1 y g1
 
-  pub put_settle : {C : Fact N} → (x1 : N) → Gets S C (IsName x1) → (x2 : Value N) → Gets S C (IsValue x2) → Fine S C (refs.settle K x1 x2) nothing
+  pub put_settle : {C : Fact N} → (x1 : N) → Gets S C (IsEntry x1) → (x2 : Value N) → Gets S C (IsValue x2) → Fine S C (refs.settle K x1 x2) nothing
   unfolding refs.settle
   put_settle {C = C} p n0 y g1 = search (putting, looks, put_settle_at) depth 30
 
@@ -222,7 +223,7 @@ module _ {N W : Type 0} (K : Naming N W) (S : Care N) (Here : ℕ → Type 0) (p
 
   pub put_gift_or_new : {C : Fact N} → (v : ℕ) → Gets S C (IsVat v) → (p i : ℕ) → Gets S C (IsDraw i) → (o : Option (GiftEntry N)) → Gets S C (MayGift o) → Fine S C (arrive.gift_or_new K v p i o) IsName
   unfolding arrive.gift_or_new
-  put_gift_or_new {C = C} v g0 p i g1 (Some g) g2 = let gn : Gets S C (IsName g.name) = record { at = λ s h. (g2.at s h).0 } in search (putting, looks) depth 30
+  put_gift_or_new {C = C} v g0 p i g1 (Some g) g2 = let gn : Gets S C (IsName g.name) = record { at = λ s h. puts.alike.named s g.name (S.owned s g.name g.number (g2.at s h).0) } in search (putting, looks) depth 30
   put_gift_or_new {C = C} v g0 p i g1 None g2 = search (putting, looks) depth 30
 
   pub put_have_gift : {C : Fact N} → (p i : ℕ) → Gets S C (IsDraw i) → Fine S C (arrive.have_gift K p i) IsName
@@ -270,11 +271,11 @@ module _ {N W : Type 0} (K : Naming N W) (S : Care N) (Here : ℕ → Type 0) (p
 
   pub put_notice_name : {C : Fact N} → (w : ℕ) → (k : Known N) → Gets S C (IsKnown k) → Fine S C (arrive.notice_name K w k) nothing
   unfolding arrive.notice_name
-  put_notice_name {C = C} w k g1 = let gn : Gets S C (IsName k.name) = record { at = λ s h. (g1.at s h).0 } in search (putting, looks, put_break_hosted) depth 30
+  put_notice_name {C = C} w k g1 = let gn : Gets S C (IsName k.name) = record { at = λ s h. puts.alike.named s k.name (g1.at s h).0 } in search (putting, looks, put_break_hosted) depth 30
 
   pub put_notice_gift : {C : Fact N} → (w : ℕ) → (g : GiftEntry N) → Gets S C (IsGiftEntry g) → Fine S C (arrive.notice_gift K w g) nothing
   unfolding arrive.notice_gift
-  put_notice_gift {C = C} w g g1 = let gn : Gets S C (IsName g.name) = record { at = λ s h. (g1.at s h).0 } in search (putting, looks, put_break_unopened) depth 30
+  put_notice_gift {C = C} w g g1 = let gn : Gets S C (IsName g.name) = record { at = λ s h. puts.alike.named s g.name (S.owned s g.name g.number (g1.at s h).0) } in search (putting, looks, put_break_unopened) depth 30
 
   pub put_notice_all : {C : Fact N} → (w : ℕ) → Fine S C (arrive.notice_all K w) nothing
   unfolding arrive.notice_all
@@ -291,7 +292,7 @@ module _ {N W : Type 0} (K : Naming N W) (S : Care N) (Here : ℕ → Type 0) (p
   put_delivered {C = C} from id g1 n g2 verb args g3 = puts.numbers C _ nothing (λ v here. bind_name S (puts.answers (Also C (IsVat v)) v id here (record { at = λ s c. g1.at s c.0 }) (got S C (IsVat v))) (λ a. answered v a))
     where
       answered : (v : ℕ) (a : N) → Fine S (Also (Also C (IsVat v)) (IsName a)) (alter K (ToTell from) a >> refs.send_on K (refs.settle K) (record { id = id; target = Ref n; verb = verb; args = args; answer = a })) nothing
-      answered v a = then_unit S (put_to_tell from a (record { at = λ s c. tt })) (put_send_on (refs.settle K) (λ E q i z j. put_settle q i z j) (record { id = id; target = Ref n; verb = verb; args = args; answer = a }) (record { at = λ s c. (g1.at s c.0.0, g2.at s c.0.0, g3.at s c.0.0, c.1) }))
+      answered v a = then_unit S (put_to_tell from a (record { at = λ s c. c.1 })) (put_send_on (refs.settle K) (λ E q i z j. put_settle q i z j) (record { id = id; target = Ref n; verb = verb; args = args; answer = a }) (record { at = λ s c. (g1.at s c.0.0, g2.at s c.0.0, g3.at s c.0.0, c.1) }))
 
   pub put_opened : {C : Fact N} → (from i : ℕ) → Gets S C (IsDraw i) → (y : N) → Gets S C (IsName y) → Fine S C (arrive.have_gift K from i >>= (λ n. open_gift from i >> refs.resolve K n (Ref y))) nothing
   put_opened {C = C} from i g1 y g2 = search (putting, looks, put_have_gift, put_resolve) depth 30
@@ -309,7 +310,7 @@ module _ {N W : Type 0} (K : Naming N W) (S : Care N) (Here : ℕ → Type 0) (p
     spots = puts.spots;
     object = λ s i. puts.object s i;
     promises = λ C. puts.promises C;
-    breaks = λ C p g t. put_settle p g (Broken t) (record { at = λ s c. tt });
+    breaks = λ C p g t. put_settle p (got_entry S C p g) (Broken t) (record { at = λ s c. tt });
     resolves = λ C p g y h. put_resolve p g y h;
     sends = λ C act x g verb args h. put_send act x g verb args h;
     reacts = λ C act x g o h near k. put_react act x g o h near k;

@@ -9,14 +9,14 @@ use Rattle.ev_run.specs.World.{has_name}
 use Rattle.ev_machine_laws.specs.Steps.{After}
 use Rattle.ev_machine_laws.proofs.Keeps.{Keeps, IsKept, IsKeptUnder}
 use Rattle.ev_machine_laws.proofs.RefsKeeps.{keeps_refs, keeps_pass_on, keeps_inform_of}
-use Rattle.ev_name_laws.specs.Names.{Bit, Named, Mail, Drew, At, Off, AllOf, IsAmong, IsMessageMade, IsMessageName, ValueOk, ValuesOk, MessageOk, StandingOk, NoteOk, PassedsOk, names_in}
+use Rattle.ev_name_laws.specs.Names.{Bit, Named, Mail, Drew, At, Off, Entered, Owns, Gave, AllOf, IsAmong, IsMessageMade, IsMessageName, ValueOk, ValuesOk, MessageOk, StandingOk, NoteOk, PassedsOk, names_in}
 use Rattle.ev_name_laws.proofs.Facts.{all_map, all_end, all_append, value_up, values_up, standing_up, note_up, Fact, Also, IsName, IsMail, IsDraw, IsVat, IsOff, IsValue, AreValues, Holds}
-use Rattle.ev_name_laws.proofs.Care.{Care, Under, Makes, Sound, Ends, Gets, Fine, bind_names, then_unit, fine_give, fine_tell, fine_enqueue, fine_out, fine_gift, fine_open, fine_mark, fine_draw, fine_hold, fine_wait, fine_waits_on, fine_reacts, fine_to_tell, fine_settles, come_answer, come_gift, fine_new_message, fine_promise}
+use Rattle.ev_name_laws.proofs.Care.{Care, Under, Giving, Makes, Sound, Ends, Gets, Fine, bind_names, then_unit, fine_give, fine_tell, fine_enqueue, fine_out, fine_gift, fine_open, fine_mark, fine_draw, fine_hold, fine_wait, fine_waits_on, fine_reacts, fine_to_tell, fine_settles, come_answer, come_gift, fine_new_message, fine_promise}
 use Rattle.ev_name_laws.proofs.CareRefs.{fine_pass_on, fine_inform_of, fine_deliver}
 use Rattle.ev_name_laws.proofs.Looks.{note_open, note_ask, goes_open, goes_ask}
 use Rattle.ev_name_laws.proofs.Among.{among_or, names_end}
 use Rattle.ev_name_laws.proofs.SameNames.{has_among, among_has}
-use Rattle.ev_name_laws.proofs.Tracked.{Marked, tracked, tracked_under, tracked_makes, names_change}
+use Rattle.ev_name_laws.proofs.Tracked.{Marked, tracked, tracked_under, tracked_gives, tracked_makes, names_change}
 use Rattle.ev_answer_laws.specs.Behind.{Avoids, NamesNot, Bears}
 use Rattle.ev_answer_laws.proofs.Passing.{Clean, Spares, PassesAt, passes_all, passes_informed}
 use Rattle.ev_answer_laws.proofs.CareBlocks.{Blocks}
@@ -109,6 +109,9 @@ module _ (g : ℕ) (m : Msg) where
     under : Under Names T
     under = tracked_under true M vats v q there here word
 
+    gives : Giving Names T
+    gives = tracked_gives true M vats v q there here word
+
     makes : Makes Names T
     makes = tracked_makes M vats v q there here word
 
@@ -126,6 +129,10 @@ module _ (g : ℕ) (m : Msg) where
       up = T.up;
       here = λ s k. T.here s k.0;
       near = T.near;
+      entered = T.entered;
+      owned = T.owned;
+      owner = T.owner;
+      drew = T.drew;
       fuel = λ s n. let r = T.fuel s n in (r.0, λ k. (r.1 k.0, k.1));
       told = λ s e n. let r = T.told s e n in (r.0, λ k. (r.1 k.0, k.1));
       activations = λ s. let r = T.activations s in (r.0, λ k. (r.1 k.0, k.1));
@@ -221,6 +228,9 @@ module _ (g : ℕ) (m : Msg) where
     avoids s f (Drew i) h = tt
     avoids s f (At w) h = tt
     avoids s f (Off w) h = tt
+    avoids s f (Entered y) h = tt
+    avoids s f (Owns y j) h = tt
+    avoids s f (Gave j) h = tt
 
     clean_of : (s : Vat Name) → (IsAmong X (names_in s.known) → ⊥) → Sound T s → Clean word v X s
     clean_of s f h = let p = h.parts in (all_map (λ k i. standing_up (T.ok s) (Avoids X) (avoids s f) k.standing i.1) s.known p.known, all_map (λ ys i. values_up (T.ok s) (Avoids X) (avoids s f) ys i) s.lists p.lists)
@@ -357,7 +367,8 @@ module _ (g : ℕ) (m : Msg) where
     pub blocks : Blocks Names W IsHere
     unfolding enqueue alter come new_gift open_gift mark send_out new_message new_promise naming name_of mail_of answer_of
     blocks = record {
-      spots = record { placed = λ s k n i. let spots = under.spots in spots.placed s k.0 n i };
+      spots = record { alike = λ a b e. let spots = under.spots in spots.alike a b e; placed = λ s k n i. let spots = under.spots in spots.placed s k.0 n i };
+      alike = record { named = λ s n h. h; owns = λ s n i h. h; gave = λ s i h. h };
       object = λ s i. under.object s i;
       tells = λ C e. lift (fine_tell Names T under e) (λ s o. told_leaves e s o);
       queues = λ C n k. lift (fine_enqueue Names T under n (gets_names k)) (λ s o. o);
@@ -368,8 +379,8 @@ module _ (g : ℕ) (m : Msg) where
       to_tell = λ C w n k. lift (fine_to_tell Names T under w n (gets_names k)) (λ s o. altered (ToTell w) n s o);
       settles = λ C y n k. lift (fine_settles Names T under y n (gets_names k)) (λ s o. altered (Settle y) n s o);
       answers = λ C h n e k l. lift_of (come_answer Names T under h n (gets_names k) (gets_names l)) (λ s w c o. answered h n s e (message_at n k s c) o);
-      gifts = λ C h i k l. lift (come_gift Names T under h i (gets_names k) (gets_names l)) (λ s o. known_held s (Gift h i) h (no_gift h i) o);
-      gives = λ C n p i k l. lift (fine_gift Names T under n p i (gets_names k) (gets_names l)) (λ s o. o);
+      gifts = λ C h i k l. lift (come_gift Names T under gives h i (record { at = λ s c. k.at s c }) (gets_names l)) (λ s o. known_held s (Gift h i) h (no_gift h i) o);
+      gives = λ C n p i k l. lift (fine_gift Names T under gives n p i (record { at = λ s c. k.at s c }) (gets_names l)) (λ s o. o);
       opened = λ C p i. lift (fine_open Names T under p i) (λ s o. o);
       marks = λ C w. lift (fine_mark Names T under w) (λ s o. o);
       draws = λ C. held_draw;
@@ -379,6 +390,6 @@ module _ (g : ℕ) (m : Msg) where
       passes_on = λ C n k h o to l. lift_of (fine_pass_on Names T under n (gets_names k) h (gets_names o) to (gets_names l)) (λ s w c d. passed_either s n h to w (k.at s c) (l.at s c) d (among_dec X (names_in s.known)));
       sends_away = λ C act x y k verb args l h o n i. lift_of (fine_away act x y (gets_names k) verb args (gets_names l) h (gets_names o) n (gets_names i)) (λ s w c d. sent_either s act x y verb args h n w (l.at s c) (i.at s c) d (among_dec X (names_in s.known)));
       informs = λ C p k w y l z i. lift_of (fine_inform_of Names T under p (gets_names k) w y (gets_names l) z (gets_names i)) (λ s h c d. informed s p w y z h (k.at s c) (l.at s c) d (among_dec X (names_in s.known)));
-      asks = λ C to p i n k l. lift (fine_out Names T under to (Ask p i n) (gets_names (note_ask W C p i n k l)) (gets_names (goes_ask W C to p i n))) (λ s o. put_held s (record { to = to; note = Ask p i n }) o);
+      asks = λ C to p i n k l. lift (fine_out Names T under to (Ask p i n) (gets_names (note_ask W C p i n (record { at = λ s c. k.at s c }) l)) (gets_names (goes_ask W C to p i n))) (λ s o. put_held s (record { to = to; note = Ask p i n }) o);
       opens = λ C to i n k l. lift (fine_out Names T under to (Open i n) (gets_names (note_open W C i n k l)) (gets_names (goes_open W C to i n))) (λ s o. put_held s (record { to = to; note = Open i n }) o);
     }

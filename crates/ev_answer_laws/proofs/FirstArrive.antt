@@ -7,7 +7,7 @@ use Rattle.ev_machine.specs.Refs.{host_at}
 use Rattle.ev_machine.specs.Arrive as arrive
 use Rattle.ev_machine.specs.Arrive.{Incoming, Old, New}
 use Rattle.ev_run.specs.World as world
-use Rattle.ev_name_laws.specs.Names.{Bit, Named, Drew, At, IsMade, ValueOk, PassedOk, PassedsOk, NoteOk}
+use Rattle.ev_name_laws.specs.Names.{Bit, Named, Drew, At, bare, IsMade, ValueOk, PassedOk, PassedsOk, NoteOk}
 use Rattle.ev_name_laws.proofs.Facts.{Fact, Nothing, Also, IsName, IsMail, IsDraw, IsVat, IsValue, AreValues, nothing, Holds}
 use Rattle.ev_name_laws.proofs.Care.{Care, Sound, Ends, Gets, Fine}
 use Rattle.ev_name_laws.proofs.Learn.{Knows, Learned, Learns, rise, learn, learn_all, learn_name, message_learned}
@@ -69,7 +69,7 @@ module _ (far : ℕ) (msg : Msg) (M : Marked) (vats : List (Vat Name)) (v : ℕ)
   module _ (us : List (Vat Name)) (d0 : ℕ) where
     -- what was made before, and is marked
     abbrev Was : Bit Name → Type 0
-    Was b = IsMade us d0 b × M.mark b
+    Was b = IsMade us d0 b × M.mark (bare b)
 
     abbrev Known : List Name → Vat Name → Type 0
     Known ks s = Knows true M vats v q there here word us d0 ks s

@@ -8,7 +8,7 @@ use Rattle.ev_machine.specs.Arrive.{arrive, notice}
 use Rattle.ev_run.specs.Draws.{draw_word}
 use Rattle.ev_run.specs.World as world
 use Rattle.ev_run.specs.World.{Script, Program, World, names, names_of, read_note, readied}
-use Rattle.ev_name_laws.specs.Names.{Named, AllOf, IsAmong, IsMade, NounOk, MessageOk, NoteOk, Parts, names_in, IsHad}
+use Rattle.ev_name_laws.specs.Names.{Named, bare, AllOf, IsAmong, IsMade, NounOk, MessageOk, NoteOk, Parts, names_in, IsHad}
 use Rattle.ev_name_laws.proofs.Facts.{message_up, nouns_up, Fact, Nothing, Also, IsName, AreNouns, IsMessage, Holds, nothing}
 use Rattle.ev_name_laws.proofs.Care.{Fine, Sound}
 use Rattle.ev_name_laws.proofs.CareEval.{fine_opening}
@@ -38,7 +38,7 @@ module _ (script : Script) (g : ℕ) (m : Msg) (v : ℕ) (abroad : g ≡ v → �
     given_leaves (Ejects n y t) l = tt
     given_leaves (Stops c t) l = tt
 
-    module _ (q : Vat Name) (same_promises : q.promises ≡ s.promises) (same_messages : q.messages ≡ s.messages) (same_known : q.known ≡ s.known) (parts : Parts (λ b. IsMade w.vats (length w.drawn) b × IsHad (names_in q.known) q.mails b × IsFar v b × Inside script b) q.things q.slots q.lists q.queue q.known q.gifts q.outbox) (kept : Kept v q.number q.known q.mails q.promises) where
+    module _ (q : Vat Name) (same_promises : q.promises ≡ s.promises) (same_messages : q.messages ≡ s.messages) (same_known : q.known ≡ s.known) (parts : Parts (λ b. IsMade w.vats (length w.drawn) b × IsHad (names_in q.known) q.mails b × IsFar v b × Inside script (bare b)) q.things q.slots q.lists q.queue q.known q.gifts q.outbox) (kept : Kept v q.number q.known q.mails q.promises) where
       ready_sound : Sound (W g m (inside script) w.vats v s there (low_at script w h v s there) word Was abroad) (readied w q)
       unfolding readied
       ready_sound = held_sound g m (inside script) w.vats v s there (low_at script w h v s there) word Was abroad (readied w q) (sound_ready script v w s q there same_promises same_messages h parts kept) (λ k. inl (rw (ap names_in same_known) at k))

@@ -5,7 +5,7 @@ use Rattle.std.proofs.lemmas.Bool.{eqb-true, eq-eqb}
 use Rattle.ev_machine.specs.Values.{Value, Null, Flag, Number, Letter, Text, Prim, Broken, Items, Ref, Name, Root, Object, Promise, Answer, Gift, Sent, Msg, host_of}
 use Rattle.ev_machine.specs.State.{Passed, Passeds, Plain, AGift, Many, NoMore, More, Note, Deliver, Open, Ask, SettledTo, Elsewhere, Shorten, Put, Vat}
 use Rattle.ev_run.specs.World.{Link, put_at, push_all, pushed}
-use Rattle.ev_name_laws.specs.Names.{Bit, Named, Mail, Drew, At, Off, AllOf, IsAmong, IsKnownIn, IsEventual, ValueOk, PassedOk, PassedsOk, NoteOk, names_in}
+use Rattle.ev_name_laws.specs.Names.{Bit, Named, Mail, Drew, At, Off, Entered, Owns, Gave, AllOf, IsAmong, IsKnownIn, IsEventual, ValueOk, PassedOk, PassedsOk, NoteOk, names_in}
 use Rattle.ev_name_laws.proofs.Facts.{all_map, note_up}
 use Rattle.ev_name_laws.proofs.Among.{get_put}
 use Rattle.ev_rest_laws.specs.Notes.{IsBetween, IsOfEither, PassesBetween, AllPassBetween, Carries}
@@ -112,6 +112,9 @@ knows_up s t f (Mail n) h = tt
 knows_up s t f (Drew i) h = tt
 knows_up s t f (At w) h = tt
 knows_up s t f (Off w) h = tt
+knows_up s t f (Entered y) h = tt
+knows_up s t f (Owns y j) h = tt
+knows_up s t f (Gave j) h = tt
 
 -- what is not known is not named
 pub knows_not : (g : ℕ) (m : Msg) (s : Vat Name) → (IsAmong (Answer g m) (names_in s.known) → ⊥) → (b : Bit Name) → KnowsIn s b → Avoids (Answer g m) b
@@ -120,6 +123,9 @@ knows_not g m s f (Mail n) h = tt
 knows_not g m s f (Drew i) h = tt
 knows_not g m s f (At w) h = tt
 knows_not g m s f (Off w) h = tt
+knows_not g m s f (Entered y) h = tt
+knows_not g m s f (Owns y j) h = tt
+knows_not g m s f (Gave j) h = tt
 
 pub all_not : (g : ℕ) (m : Msg) (s : Vat Name) → (IsAmong (Answer g m) (names_in s.known) → ⊥) → (ns : List (Note Name)) → AllOf (NoteOk (KnowsIn s)) ns → AllOf (NamesNot (Answer g m)) ns
 all_not g m s f ns h = all_map (λ n k. note_up (KnowsIn s) (Avoids (Answer g m)) (knows_not g m s f) n k) ns h

@@ -8,7 +8,7 @@ use Rattle.ev_machine_laws.specs.Steps.{Step, Receives, does, After}
 use Rattle.ev_run.specs.Draws.{draw_word}
 use Rattle.ev_run.specs.World as world
 use Rattle.ev_run.specs.World.{Script, Program, Link, World, Entry, Goes as Going, names, names_of, read_note, readied, put_at, push_all, with_link, with_notes, severed_link, link_at}
-use Rattle.ev_name_laws.specs.Names.{Bit, Named, Mail, Drew, At, Off, AllOf, IsAmong, NoteOk, names_in}
+use Rattle.ev_name_laws.specs.Names.{Bit, Named, Mail, Drew, At, Off, Entered, Owns, Gave, AllOf, IsAmong, NoteOk, names_in}
 use Rattle.ev_name_laws.specs.Runs.{KnowsOnce}
 use Rattle.ev_name_laws.proofs.Facts.{MayBe, all_map, note_up}
 use Rattle.ev_name_laws.proofs.Run.{Had, Stands}
@@ -62,7 +62,7 @@ module _ (script : Script) where
   -- ---- a note is taken from a link
 
   module _ (vs : List (Vat Name)) (ls : List Link) (a v : ℕ) (n : Note Name) (ns : List (Note Name)) (l : Link) (at : link_at a v ls ≡ Some l) (notes : l.notes ≡ n ∷ ns) where
-    taken_known : NotesKnown vs ls → NotesKnown vs (with_link (with_notes ns) a v ls)
+    pub taken_known : NotesKnown vs ls → NotesKnown vs (with_link (with_notes ns) a v ls)
     unfolding with_notes
     taken_known h c d s e = with_any c d a v (AllKnown s) (with_notes ns) (fits_notes c d ns) ls
         (λ k i x y. (tail_of (NoteOk (KnowsIn s)) k l n ns (h c d s e k i) (same_link c d a v ls k l i at x y) notes).1) (λ k i f. h c d s e k i)
@@ -114,6 +114,9 @@ module _ (script : Script) where
   had_knows y v t (Drew i) h = tt
   had_knows y v t (At u) h = tt
   had_knows y v t (Off u) h = tt
+  had_knows y v t (Entered n) h = tt
+  had_knows y v t (Owns n j) h = tt
+  had_knows y v t (Gave j) h = tt
 
   pub outs_known : (y : World) (v : ℕ) (t : Vat Name) → Stands script y → slice_get y.vats v ≡ Some t → AllOf (λ (p : Put Name). NoteOk (KnowsIn t) p.note) t.outbox
   outs_known y v t h e = let at = h.vats v t e in let parts = at.parts in all_map (λ p k. note_up (Had script y v t) (KnowsIn t) (had_knows y v t) p.note k.0) t.outbox parts.outbox

@@ -161,6 +161,10 @@ module _ (v : ℕ) (m : Msg) (mine : m.sender ≡ v) where
       up = T.up;
       here = λ s k. T.here s k.0;
       near = T.near;
+      entered = T.entered;
+      owned = T.owned;
+      owner = T.owner;
+      drew = T.drew;
       fuel = λ s n. let r = T.fuel s n in (r.0, λ k. (r.1 k.0, kept_fuel s n k.1));
       told = λ s e n. let r = T.told s e n in (r.0, λ k. (r.1 k.0, kept_told s e k.1));
       activations = λ s. let r = T.activations s in (r.0, λ k. (r.1 k.0, kept_activations s k.1));
@@ -467,13 +471,13 @@ module _ (v : ℕ) (m : Msg) (mine : m.sender ≡ v) where
 
     pub serves : Serves Names Z
     serves = record {
-      spots = record { placed = λ s k n i. let spots = under.spots in spots.placed s k.0 n i };
+      spots = record { alike = λ a b e. let spots = under.spots in spots.alike a b e; placed = λ s k n i. let spots = under.spots in spots.placed s k.0 n i };
       object = λ s i. under.object s i;
       promises = λ C. lift_of (fine_promise Names T under makes) (λ s h c k. promised s k);
-      breaks = λ C p g t. lift_of (fine_settle Names T under p (gets_names g) (Broken t) (record { at = λ s c. tt }))
-          (λ s h c k. none_made nothing s _ ((fine_settle Names F under_none {C = C} p (gets_none g) (Broken t) (record { at = λ s c. tt })).after s (none_sound s h) c) ((light_break Names v global Id p t).after s k.0) ((table.free_settle v X word p (Broken t)).after s) ((account.free_settle (λ u. false) v Id Names p (Broken t)).after s) k);
-      resolves = λ C p g y i. lift_of (fine_resolve Names T under p (gets_names g) y (gets_names i))
-          (λ s h c k. none_made nothing s _ ((fine_resolve Names F under_none {C = C} p (gets_none g) y (gets_none i)).after s (none_sound s h) c) ((light_resolve Names v global Id p y).after s k.0) ((table.free_resolve v X word p y).after s) ((account.free_resolve (λ u. false) v Id Names p y).after s) k);
+      breaks = λ C p g t. lift_of (fine_settle Names T under p (record { at = λ s c. g.at s c }) (Broken t) (record { at = λ s c. tt }))
+          (λ s h c k. none_made nothing s _ ((fine_settle Names F under_none {C = C} p (record { at = λ s c. g.at s c }) (Broken t) (record { at = λ s c. tt })).after s (none_sound s h) c) ((light_break Names v global Id p t).after s k.0) ((table.free_settle v X word p (Broken t)).after s) ((account.free_settle (λ u. false) v Id Names p (Broken t)).after s) k);
+      resolves = λ C p g y i. lift_of (fine_resolve Names T under p (record { at = λ s c. g.at s c }) y (gets_names i))
+          (λ s h c k. none_made nothing s _ ((fine_resolve Names F under_none {C = C} p (record { at = λ s c. g.at s c }) y (gets_none i)).after s (none_sound s h) c) ((light_resolve Names v global Id p y).after s k.0) ((table.free_resolve v X word p y).after s) ((account.free_resolve (λ u. false) v Id Names p y).after s) k);
       sends = λ C act x g verb args i. lift_of (fine_send Names T under makes act x (gets_names g) verb args (gets_names i)) (λ s h c k. sent_kept act x verb args s h (g.at s c) (i.at s c) k);
       reacts = λ C act x g o i near j. lift_of (fine_react Names T under makes act x (gets_names g) o (gets_names i) near (gets_names j)) (λ s h c k. reacted_either act x o near s k (eq_dec m.number s.messages));
     }

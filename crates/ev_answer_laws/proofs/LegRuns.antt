@@ -13,7 +13,7 @@ use Rattle.ev_carry_laws.specs.Carry.{weight, link_weight}
 use Rattle.ev_carry_laws.specs.Sound.{StepArrives}
 use Rattle.ev_carry_laws.specs.Laws.{leaves}
 use Rattle.ev_table_laws.specs.Knowing.{brings, brought, new_answer}
-use Rattle.ev_name_laws.specs.Names.{Bit, Named, Mail, Drew, At, Off, AllOf, IsAmong, IsMessageName, NoteOk, names_in}
+use Rattle.ev_name_laws.specs.Names.{Bit, Named, Mail, Drew, At, Off, Entered, Owns, Gave, AllOf, IsAmong, IsMessageName, NoteOk, names_in}
 use Rattle.ev_name_laws.proofs.Facts.{MayBe, note_up}
 use Rattle.ev_name_laws.proofs.Among.{get_put}
 use Rattle.ev_name_laws.proofs.Run.{Stands, Told}
@@ -180,6 +180,9 @@ MailBits (Mail n) = IsMessageName n
 MailBits (Drew i) = Unit {0}
 MailBits (At h) = Unit {0}
 MailBits (Off h) = Unit {0}
+MailBits (Entered y) = Unit {0}
+MailBits (Owns y j) = Unit {0}
+MailBits (Gave j) = Unit {0}
 
 -- the answers that the message of a note brings
 pub mails_most : (v g : ℕ) (m : Msg) (ks : List Name) (n : Note Name) → NoteOk MailBits n → mails v (Answer g m) (read_note ks n) ≤ of_note (Sent m) n
@@ -212,6 +215,9 @@ module _ (script : Script) where
   told_mails w (Drew i) h = tt
   told_mails w (At h) k = tt
   told_mails w (Off h) k = tt
+  told_mails w (Entered y) k = tt
+  told_mails w (Owns y j) k = tt
+  told_mails w (Gave j) k = tt
 
   -- the first note of a link
   pub first_mails : (w : World) (a v : ℕ) (n : Note Name) (ns : List (Note Name)) (l : Link) → Before w → link_at a v w.links ≡ Some l → l.notes ≡ n ∷ ns → NoteOk MailBits n

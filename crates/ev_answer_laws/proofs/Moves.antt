@@ -35,6 +35,13 @@ waiting x (Receives from n) = 0
 waiting x (Notices w) = 0
 
 module _ (script : Script) (w : World) where
+  -- From what a step begins: an opening turn of the vat's program, the first message of its queue, or the vat as it is.
+  abbrev pub Begins : ℕ → Vat Name → Vat Name → Step Name Name → Type 0
+  Begins v s q (Starts tree depth root given) = (p : Program) × (slice_get script.vats v ≡ Some p) × (q ≡ s) × (root ≡ Root v) × (given ≡ world.given script.vats p.knows)
+  Begins v s q (Takes tree depth n) = (ms : List (Message Name)) × (s.queue ≡ n ∷ ms) × (q ≡ record s { queue = ms })
+  Begins v s q (Receives from n) = q ≡ s
+  Begins v s q (Notices u) = q ≡ s
+
   -- a step of vat v, from s, which is readied as q, to t
   pub record Does (v : ℕ) (s q t : Vat Name) (what : Step Name Name) : Type 0 where
     pub there : slice_get w.vats v ≡ Some s
@@ -44,6 +51,7 @@ module _ (script : Script) (w : World) where
     pub messages : q.messages ≡ s.messages
     pub gifts : q.gifts ≡ s.gifts
     pub waits : (x : Name) → waiting x what + at_vat x q ≤ at_vat x s
+    pub begins : Begins v s q what
     pub gives : does (names script v) what (readied w q) ≡ Gives tt t
 
   pub data Moved (y : World) : Type 0 where
@@ -57,11 +65,11 @@ module _ (script : Script) (w : World) where
         → y.vats ≡ put_at v t w.vats → y.links ≡ push_all v t.outbox (with_link (with_notes ns) a v w.links) → y.drawn ≡ t.drawn
         → ((g : ℕ) (m : Msg) → (g ≡ v → ⊥) → NamesNot (Answer g m) n → FirstOut g m s t) → FreshOut v s t → Moved y
 
-get_mid : (front : List Program) (p : Program) (ps : List Program) → slice_get (front ++ p ∷ ps) (length front) ≡ Some p
+pub get_mid : (front : List Program) (p : Program) (ps : List Program) → slice_get (front ++ p ∷ ps) (length front) ≡ Some p
 get_mid [] p ps = refl
 get_mid (f ∷ fs) p ps = get_mid fs p ps
 
-going_is : (w x : World) → Going w ≡ Going x → w ≡ x
+pub going_is : (w x : World) → Going w ≡ Going x → w ≡ x
 going_is w x e = cc
 
 module _ (script : Script) where
@@ -93,7 +101,7 @@ module _ (script : Script) where
   unfolding world.turn_queue world.within does waiting
   turn_queue_moves k v w y s i h [] q e = idle_moves k w y e
   turn_queue_moves k v w y s i h (n ∷ ms) q e = let what : Step Name Name = Takes (world.tree_at script.vats v) script.depth n in alone_moves w y v (Turned k v ∷ []) (world.step_number script k) s (record s { queue = ms }) what _ tt
-      (λ t f. record { there = i; number = refl; known = refl; promises = refl; messages = refl; gifts = refl; waits = λ x. take_waits x s n ms q; gives = f })
+      (λ t f. record { there = i; number = refl; known = refl; promises = refl; messages = refl; gifts = refl; waits = λ x. take_waits x s n ms q; begins = (ms, q, refl); gives = f })
       (λ t f g m abroad. after_is (FirstOut g m s) _ t (turn_first script g m v abroad w s i h n ms q) f)
       (λ t f m mine sound new none free. after_is (OneLeg v m) _ t (turn_fresh script m v mine w s i h sound new none free n ms q) f) e
 
@@ -117,7 +125,7 @@ module _ (script : Script) where
   unfolding world.arrives world.within world.idle does readied waiting
   arrives_moves k a v w y n ns l h ok i c j None q e = moved_to w (record w { links = with_link (with_notes ns) a v w.links; history = w.history ++ Idle k ∷ [] }) y (Drops a v n ns l i j q refl refl refl) e
   arrives_moves k a v w y n ns l h ok i c j (Some s) q e = carried_moves w y a v (Carried k a v n (with_link (with_notes ns) a v w.links) ∷ []) (world.step_number script k) s n ns l _ i c j
-      (λ t f. record { there = q; number = refl; known = refl; promises = refl; messages = refl; gifts = refl; waits = λ x. omega arith; gives = f })
+      (λ t f. record { there = q; number = refl; known = refl; promises = refl; messages = refl; gifts = refl; waits = λ x. omega arith; begins = refl; gives = f })
       (λ t f g m abroad spares. after_is (FirstOut g m s) _ t (note_first script g m v abroad w s q h a n ok spares) f)
       (λ t f. quiet_fresh v s t (after_is (λ z. z.messages ≡ s.messages) _ t (note_quiet script v w s q h a n ok) f)) e
 
@@ -143,7 +151,7 @@ module _ (script : Script) where
   unfolding world.within does waiting
   notice_moves k v to w y h None q e = cc
   notice_moves k v to w y h (Some s) q e = alone_moves w y v (NoticedAt k v to ∷ []) (world.step_number script k) s s (Notices to) _ tt
-      (λ t f. record { there = q; number = refl; known = refl; promises = refl; messages = refl; gifts = refl; waits = λ x. omega arith; gives = f })
+      (λ t f. record { there = q; number = refl; known = refl; promises = refl; messages = refl; gifts = refl; waits = λ x. omega arith; begins = refl; gives = f })
       (λ t f g m abroad. after_is (FirstOut g m s) _ t (notice_first script g m v abroad w s q h to) f)
       (λ t f. quiet_fresh v s t (after_is (λ z. z.messages ≡ s.messages) _ t (notice_quiet script v w s q h to) f)) e
 
@@ -159,7 +167,7 @@ module _ (script : Script) where
   unfolding world.within does waiting
   opens_at v p w y h t None q e = cc
   opens_at v p w y h t (Some s) q e = alone_moves w y v (Opens v ∷ []) v s s (Starts p.tree script.depth (Root v) (world.given script.vats p.knows)) _ tt
-      (λ r f. record { there = q; number = refl; known = refl; promises = refl; messages = refl; gifts = refl; waits = λ x. omega arith; gives = f })
+      (λ r f. record { there = q; number = refl; known = refl; promises = refl; messages = refl; gifts = refl; waits = λ x. omega arith; begins = (p, t, refl, refl, refl); gives = f })
       (λ r f g m abroad. after_is (FirstOut g m s) _ r (opening_first script g m v abroad w s q h p t) f)
       (λ r f m mine sound new none free. after_is (OneLeg v m) _ r (opening_fresh script m v mine w s q h sound new none free p t) f) e
 
@@ -185,7 +193,7 @@ module _ (script : Script) where
   steps_end (d ∷ ds) entry k w0 w y e f = then_end (world.step script d k w0) (world.steps_from script ds (suc k)) (world.steps_from script (ds ++ entry ∷ []) (suc k)) w y e
       (λ z i j. steps_end ds entry (suc k) z w y j (let n : k + suc (length ds) ≡ suc k + length ds = omega arith in rw n at f))
 
-  opens_end : (ds : List Program) (p : Program) (v : ℕ) (w0 w y : World) → world.open_from script v ds w0 ≡ Going w → world.open_vat script (v + length ds) p w ≡ Going y → world.open_from script v (ds ++ p ∷ []) w0 ≡ Going y
+  pub opens_end : (ds : List Program) (p : Program) (v : ℕ) (w0 w y : World) → world.open_from script v ds w0 ≡ Going w → world.open_vat script (v + length ds) p w ≡ Going y → world.open_from script v (ds ++ p ∷ []) w0 ≡ Going y
   unfolding world.open_from
   opens_end [] p v w0 w y e f = let i : v + 0 ≡ v = omega arith in let same : w0 ≡ w = going_is w0 w e in then_last (world.open_vat script v p w0) y (rw same (rw i at f))
   opens_end (d ∷ ds) p v w0 w y e f = then_end (world.open_vat script v d w0) (world.open_from script (suc v) ds) (world.open_from script (suc v) (ds ++ p ∷ [])) w y e

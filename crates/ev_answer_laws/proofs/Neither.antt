@@ -7,7 +7,7 @@ use Rattle.ev_machine.specs.State.{Message, Known, Note, Deliver, Open, Ask, Set
 use Rattle.ev_machine.specs.Arrive.{Old, New}
 use Rattle.ev_run.specs.World as world
 use Rattle.ev_run.specs.World.{Script, Link, World, link_at, read_note, read_name, is_old, names_of}
-use Rattle.ev_name_laws.specs.Names.{Bit, Named, Mail, Drew, At, Off, AllOf, IsAmong, IsMessageName, IsEventual, IsPlain, PlainOnce, WasMade, KnownOk, MessageOk, NoteOk, promises_of, names_in}
+use Rattle.ev_name_laws.specs.Names.{Bit, Named, Mail, Drew, At, Off, Entered, Owns, Gave, AllOf, IsAmong, IsMessageName, IsEventual, IsPlain, PlainOnce, WasMade, KnownOk, MessageOk, NoteOk, promises_of, names_in}
 use Rattle.ev_name_laws.proofs.Facts.{MayBe, note_up}
 use Rattle.ev_name_laws.proofs.Among.{promises_at}
 use Rattle.ev_name_laws.proofs.SameNames.{has_among}
@@ -79,6 +79,9 @@ Mails (Mail n) = IsMessageName n
 Mails (Drew i) = Unit {0}
 Mails (At h) = Unit {0}
 Mails (Off h) = Unit {0}
+Mails (Entered y) = Unit {0}
+Mails (Owns y j) = Unit {0}
+Mails (Gave j) = Unit {0}
 
 no_mails : (v : ℕ) (x : Name) (ks : List Name) (n : Note Name) → IsNeither x → NoteOk Mails n → mails v x (read_note ks n) ≡ 0
 unfolding mails read_note new_answer
@@ -137,6 +140,9 @@ module _ (script : Script) (w : World) (from to : ℕ) (l : Link) (n : Note Name
   told_mails (Drew i) h = tt
   told_mails (At h) k = tt
   told_mails (Off h) k = tt
+  told_mails (Entered y) k = tt
+  told_mails (Owns y j) k = tt
+  told_mails (Gave j) k = tt
 
   note_mails : NoteOk Mails n
   note_mails = note_up (Told script w) Mails told_mails n told
@@ -201,6 +207,9 @@ module _ (script : Script) (w : World) (from to : ℕ) (l : Link) (n : Note Name
   object_never v i (Drew j) h = tt
   object_never v i (At u) h = tt
   object_never v i (Off u) h = tt
+  object_never v i (Entered y) h = tt
+  object_never v i (Owns y j) h = tt
+  object_never v i (Gave j) h = tt
 
   -- a promise that was not made is in no note
   unmade_never : (i : ℕ) → s.promises ≤ i → (b : Bit Name) → Told script w b → NeverNew (Promise to i) b
@@ -209,6 +218,9 @@ module _ (script : Script) (w : World) (from to : ℕ) (l : Link) (n : Note Name
   unmade_never i l (Drew j) h = tt
   unmade_never i l (At u) h = tt
   unmade_never i l (Off u) h = tt
+  unmade_never i l (Entered y) h = tt
+  unmade_never i l (Owns y j) h = tt
+  unmade_never i l (Gave j) h = tt
 
   own_promise : (i : ℕ) (b : Bool) → nat_le (suc i) s.promises ≡ b → claims to (Promise to i) s.known + Brings (Promise to i) ≤ once b
   unfolding once
@@ -253,3 +265,6 @@ module _ (script : Script) (w : World) (from to : ℕ) (l : Link) (n : Note Name
       sent_never (Drew j) h = tt
       sent_never (At u) h = tt
       sent_never (Off u) h = tt
+      sent_never (Entered y) h = tt
+      sent_never (Owns y j) h = tt
+      sent_never (Gave j) h = tt

@@ -5,7 +5,7 @@ use Rattle.ev_machine.specs.State.{Passed, Passeds, Plain, AGift, Many, NoMore, 
 use Rattle.ev_machine.specs.Arrive.{Incoming, Old, New, gift_at}
 use Rattle.ev_run.specs.World as world
 use Rattle.ev_run.specs.World.{has_name, is_old, read_name, known_after, read_value, read_passed, read_all, read_note}
-use Rattle.ev_name_laws.specs.Names.{Bit, Named, Mail, Drew, At, Off, IsAmong, ValueOk, PassedOk, PassedsOk, NoteOk}
+use Rattle.ev_name_laws.specs.Names.{Bit, Named, Mail, Drew, At, Off, Entered, Owns, Gave, IsAmong, ValueOk, PassedOk, PassedsOk, NoteOk}
 use Rattle.ev_name_laws.proofs.SameNames.{same_is, has_among, among_has, new_unknown}
 use Rattle.ev_name_laws.proofs.Among.{among_more, among_last}
 use Rattle.ev_table_laws.specs.Knowing.{once, one, new_name, new_in_value, new_in, new_in_all, new_answer, new_gift_here, brings}
@@ -154,6 +154,9 @@ NeverNew x (Mail n) = Unit {0}
 NeverNew x (Drew i) = Unit {0}
 NeverNew x (At h) = Unit {0}
 NeverNew x (Off h) = Unit {0}
+NeverNew x (Entered y) = Unit {0}
+NeverNew x (Owns y j) = Unit {0}
+NeverNew x (Gave j) = Unit {0}
 
 pub avoids_never : (x : Name) (b : Bit Name) → Avoids x b → NeverNew x b
 avoids_never x (Named n) f = λ ks. name_not x n ks f
@@ -161,6 +164,9 @@ avoids_never x (Mail n) f = tt
 avoids_never x (Drew i) f = tt
 avoids_never x (At h) f = tt
 avoids_never x (Off h) f = tt
+avoids_never x (Entered y) f = tt
+avoids_never x (Owns y j) f = tt
+avoids_never x (Gave j) f = tt
 
 value_not : (x : Name) (y : Value Name) (ks : List Name) → ValueOk (NeverNew x) y → new_in_value x (read_value ks y).read ≡ 0
 unfolding new_in_value read_value

@@ -3,7 +3,7 @@ use Rattle.std.specs.Prelude.{◌≡◌, ℕ, true, List, [], ◌∷◌, ◌⊎�
 use Rattle.ev_machine.specs.Values.{Name, Answer, Sent, Msg}
 use Rattle.ev_machine.specs.State.{Note, Deliver, Open, Ask, SettledTo, Elsewhere, Shorten, Vat}
 use Rattle.ev_run.specs.World.{Link, link_at}
-use Rattle.ev_name_laws.specs.Names.{Bit, Named, Mail, Drew, At, Off, AllOf, IsAmong, IsKnownIn, NoteOk, names_in}
+use Rattle.ev_name_laws.specs.Names.{Bit, Named, Mail, Drew, At, Off, Entered, Owns, Gave, AllOf, IsAmong, IsKnownIn, NoteOk, names_in}
 use Rattle.ev_name_laws.specs.Runs.{InRuns}
 
 -- it is another name
@@ -13,6 +13,9 @@ Avoids x (Mail n) = Unit {0}
 Avoids x (Drew i) = Unit {0}
 Avoids x (At h) = Unit {0}
 Avoids x (Off h) = Unit {0}
+Avoids x (Entered y) = Unit {0}
+Avoids x (Owns y j) = Unit {0}
+Avoids x (Gave j) = Unit {0}
 
 -- a note names x nowhere
 abbrev pub NamesNot : Name → Note Name → Type 0
@@ -44,6 +47,9 @@ IsKnownTo s (Mail n) = Unit {0}
 IsKnownTo s (Drew i) = Unit {0}
 IsKnownTo s (At h) = Unit {0}
 IsKnownTo s (Off h) = Unit {0}
+IsKnownTo s (Entered y) = Unit {0}
+IsKnownTo s (Owns y j) = Unit {0}
+IsKnownTo s (Gave j) = Unit {0}
 
 -- Each name in a note under way is known to the vat that put it, or is an object.
 abbrev pub NotesNameWhatIsKnown : Type 0

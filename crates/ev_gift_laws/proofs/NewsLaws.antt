@@ -19,7 +19,7 @@ use Rattle.ev_name_laws.proofs.Laws.{notes_made}
 use Rattle.ev_table_laws.specs.Knowing.{once, one, claims, numbered, new_name, new_in, new_in_all, new_answer, new_gift_here, brings}
 use Rattle.ev_table_laws.specs.Runs.{other, allowed, is_own, answer_here, brings_here}
 use Rattle.ev_gift_laws.specs.Passing.{gifts_in, gifts_in_all, gifts_in_note, gifts_in_notes, gifts_on, drawn_of, IsProvidedBy, Provides, IsProvided}
-use Rattle.ev_gift_laws.specs.News.{Passes, Names, GiftsApart, GiftsComeNew}
+use Rattle.ev_gift_laws.specs.News.{Passes, Names, GiftsApart, GiftsApartComeNew}
 use Rattle.ev_gift_laws.specs.Standing.{IsEntered}
 use Rattle.ev_gift_laws.proofs.Links.{found_tells}
 use Rattle.ev_gift_laws.proofs.Reading.{seen, most_is, sum_or, either_is, full_is, one_other, name_reads, passed_reads, all_reads, name_unnamed, passed_unnamed, all_unnamed, passing, passing_all, passes_there, all_there, passing_draws, passing_all_draws, name_brought, named_made, passed_made, all_made, claims_seen, unclaimed, onward_sent}
@@ -221,7 +221,7 @@ come_new w P o well made from to l n ns s e f there g h i few = let d : ℕ = le
     let fine = note_fine w.vats d P from to s (well.vats to s there) at.1 h i (omega arith) n told.0 these.0 (under_one (gifts_in_note i n) (gifts_in_notes i l.notes) (gifts_on (λ j. j.notes) i w.links) (drawn_of i d) some' all' count (under_drawn i d)) g in
     finish (claims to (Gift h i) s.known) (brings_here to (Gift h i) from s.gifts (read_note (names_of s) n)) (allowed to (Gift h i) s d) few (omega arith) fine.0 (λ x. is ∙ full_is (nat_le (suc i) d) (le-leb (suc i) d (below_is i d (fine.1 x))))
 
-pub gifts_come_new : GiftsComeNew
+pub gifts_come_new : GiftsApartComeNew
 gifts_come_new script once' = (
   λ ps rest w i e. let f = fits_opened script ps w e in come_new w f.0 f.1 (reached_is WorldWell _ w e ((runs_stay_well script).0 ps)) ((notes_made script once').0 ps rest w i e),
   λ w x es k e j. let f = fits_stepped script w x es k e j in come_new x f.0 f.1 (reached_is WorldWell _ x j ((runs_stay_well script).1 w es k e)) ((notes_made script once').1 w x es k e j),

@@ -67,7 +67,7 @@ pub record GiftsApart (to : ℕ) (n : Note Name) (s : Vat Name) : Type 0 where
   pub behind : (i : ℕ) → Names (Gift to i) n → IsEntered i s.gifts
 
 -- Then the first note on a link brings each gift once at most, and none that is claimed at the vat, where each gift is claimed there as often as it may be.
-abbrev pub GiftsComeNew : Type 0
-GiftsComeNew = InRuns (λ w. (from to : ℕ) (l : Link) (n : Note Name) (ns : List (Note Name)) (s : Vat Name) → link_at from to w.links ≡ Some l → l.notes ≡ n ∷ ns → slice_get w.vats to ≡ Some s → GiftsApart to n s
+abbrev pub GiftsApartComeNew : Type 0
+GiftsApartComeNew = InRuns (λ w. (from to : ℕ) (l : Link) (n : Note Name) (ns : List (Note Name)) (s : Vat Name) → link_at from to w.links ≡ Some l → l.notes ≡ n ∷ ns → slice_get w.vats to ≡ Some s → GiftsApart to n s
     → (h i : ℕ) → claims to (Gift h i) s.known ≤ allowed to (Gift h i) s (length w.drawn)
     → claims to (Gift h i) s.known + brings_here to (Gift h i) from s.gifts (read_note (names_of s) n) ≤ allowed to (Gift h i) s (length w.drawn))

@@ -7,7 +7,7 @@
 
 ghost use Rattle.ev_gift_laws.specs.Apart.{NewWhereApart};
 ghost use Rattle.ev_gift_laws.specs.Asking.{WhoLearnsAGiftAsks};
-ghost use Rattle.ev_gift_laws.specs.News.{GiftsComeNew};
+ghost use Rattle.ev_gift_laws.specs.News.{GiftsApartComeNew};
 ghost use Rattle.ev_gift_laws.specs.Passing.{GiftsPassOnce, EachDrawHasOneProvider};
 ghost use Rattle.ev_gift_laws.specs.Standing.{EachDrawStandsOnce, GiftsStay, WhatIsOpenedOrAskedForStands};
 
@@ -58,7 +58,7 @@ pub fn who_learns_a_gift_asks_for_it()
 /// among its gifts. That they do in every run is not proved. No vat of the script may be told twice
 /// that it knows a vat, or that it knows itself.
 pub fn gifts_come_new()
-    ensures { GiftsComeNew }
+    ensures { GiftsApartComeNew }
 {}
 
 /// So the notes of a run bring what is new, as `names_are_known_once` asks of them, where the gifts of

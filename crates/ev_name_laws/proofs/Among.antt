@@ -4,7 +4,7 @@ use Rattle.std.specs.Prelude.{slice_get}
 use Rattle.ev_machine.specs.Values.{Name, Root, Object, Promise, Answer, Gift, Sent}
 use Rattle.ev_machine.specs.State.{Known, Vat}
 use Rattle.ev_run.specs.World.{put_at}
-use Rattle.ev_name_laws.specs.Names.{Bit, Named, Mail, Drew, At, Off, AllOf, IsAmong, promises_of, messages_of, WasMade, IsMessageMade, IsMade, names_in, IsPlain, PlainOnce}
+use Rattle.ev_name_laws.specs.Names.{Bit, Named, Mail, Drew, At, Off, Entered, Owns, Gave, AllOf, IsAmong, promises_of, messages_of, WasMade, IsMessageMade, IsMade, names_in, IsPlain, PlainOnce}
 
 pub among_more : {A : Type 0} (x : A) (xs : List A) (y : A) → IsAmong x xs → IsAmong x (xs ++ y ∷ [])
 among_more x [] y h = absurd h
@@ -108,3 +108,6 @@ module _ (us vs : List (Vat Name)) (d e : ℕ) (promises : (w : ℕ) → promise
   is_made_up (Drew i) h = less i d e h draws
   is_made_up (At w) h = tt
   is_made_up (Off w) h = tt
+  is_made_up (Entered n) h = made_up n h
+  is_made_up (Owns n i) h = made_up n h
+  is_made_up (Gave i) h = less i d e h draws

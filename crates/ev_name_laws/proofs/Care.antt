@@ -1,13 +1,13 @@
 -- What a vat does from a sound state, under facts on what it has in hand, ends in a sound state with facts on what it gives.
-use Rattle.std.proofs.Common.{ℕ, zero, suc, ◌-◌, Bool, true, false, List, [], ◌∷◌, ◌++◌, Option, Some, None, if◌then◌else◌, length}
+use Rattle.std.proofs.Common.{◌≡◌, ℕ, zero, suc, ◌-◌, Bool, true, false, List, [], ◌∷◌, ◌++◌, Option, Some, None, if◌then◌else◌, length, refl, sym, subst}
 use Rattle.std.specs.Prelude.{nat_le}
 use Rattle.ev_machine.specs.Values.{Words, Value, Null, Flag, Number, Text, Prim, Broken, Items, Ref, Naming, IsOwn, IsAnswer, IsGift, IsSent}
-use Rattle.ev_machine.specs.State.{Bound, Scope, Cell, View, Thing, Made, Ejector, Audition, Resolver, Message, Standing, Unsettled, WaitsOn, Viewed, Settled, Known, Change, Hold, Wait, WaitOn, See, React, ToTell, Settle, Passed, Passeds, Note, Put, GiftEntry, Happened, Took, Called, Back, Thrown, Left, Got, SlotMade, SlotRead, SlotWrote, ListMade, EjectorMade, AuditionMade, PromiseMade, ObjectMade, Sends, Reacts, Finished, Threw, Lost, Posted, Vat, Stop, Done, Gives, Throws, Ejects, Stops, Act, ◌>>=◌, ◌>>◌, and_then, for_some, end_by, ending, each, give, throw, stop, eject, look, tell, spend, spent, new_activation, new_thing, kill, change, dead, new_slot, holding, write_slot, new_list, enqueue, send_out, new_gift, with_opened, open_gift, is_gift, mark, draws, with_change, changed, changed_to, unless_settled, alter, come, new_promise, new_message, draw, begun}
+use Rattle.ev_machine.specs.State.{Bound, Scope, Cell, View, Thing, Made, Ejector, Audition, Resolver, Message, Standing, Unsettled, WaitsOn, Viewed, Settled, Known, Change, Hold, Wait, WaitOn, See, React, ToTell, Settle, Passed, Passeds, Note, Put, GiftEntry, Happened, Took, Called, Back, Thrown, Left, Got, SlotMade, SlotRead, SlotWrote, ListMade, EjectorMade, AuditionMade, PromiseMade, ObjectMade, Sends, Reacts, Finished, Threw, Lost, Posted, Vat, Stop, Done, Gives, Throws, Ejects, Stops, Act, ◌>>=◌, ◌>>◌, and_then, for_some, end_by, ending, each, give, throw, stop, eject, look, tell, spend, spent, new_activation, new_thing, kill, change, dead, new_slot, holding, write_slot, new_list, enqueue, send_out, new_gift, with_opened, open_gift, is_gift, mark, draws, with_change, changed, changed_to, unless_settled, with_vat, is_in, alter, come, new_promise, new_message, draw, begun}
 use Rattle.ev_machine.specs.Refs.{Place, Parcel, spotted}
 use Rattle.ev_machine.specs.Native.{Reply}
 use Rattle.ev_machine.specs.Scopes.{Answer, Answers}
-use Rattle.ev_name_laws.specs.Names.{Bit, Named, Mail, Drew, At, Off, AllOf, ValueOk, ValuesOk, NameOk, MessageOk, KnownOk, CellOk, ThingOk, PutOk, GiftOk, Parts}
-use Rattle.ev_name_laws.proofs.Facts.{all_map, all_end, ChangeOk, PlaceOk, put_up, values_up, message_up, known_up, cell_up, thing_up, gift_up, Fact, Nothing, Also, IsName, IsMail, IsDraw, IsVat, IsOff, NoteGoes, IsValue, AreValues, IsBound, AreNouns, IsMessage, AreKnown, IsGiftEntry, AreGifts, IsPlace, IsThing, IsView, IsChange, MayValue, MayCell, MayThing, MayKnown, MayGift, IsReply, DoesPass, DoAllPass, NoteDoes, scope, answer, answers, parcel, new_names, nothing, Holds, holds_up}
+use Rattle.ev_name_laws.specs.Names.{Bit, Named, Mail, Drew, At, Off, Entered, Owns, Gave, AllOf, ValueOk, ValuesOk, EntryOk, MessageOk, KnownOk, CellOk, ThingOk, PutOk, GiftOk, Parts}
+use Rattle.ev_name_laws.proofs.Facts.{all_map, all_end, ChangeOk, OnOk, on_up, PlaceOk, put_up, values_up, message_up, known_up, cell_up, thing_up, gift_up, Fact, Nothing, Also, IsName, IsMail, IsDraw, IsVat, IsOff, IsEntry, IsOwned, IsGiven, NoteGoes, IsValue, AreValues, IsBound, AreNouns, IsMessage, AreKnown, IsGiftEntry, AreGifts, IsPlace, IsThing, IsView, IsChange, MayValue, MayCell, MayThing, MayKnown, MayGift, IsReply, DoesPass, DoAllPass, NoteDoes, scope, answer, answers, parcel, new_names, nothing, Holds, holds_up}
 
 -- a line that tells of no message
 abbrev pub TellsOfNone : {N : Type 0} → Happened N → Type 0
@@ -29,6 +29,11 @@ pub record Care (N : Type 0) : Type 1 where
   -- the vat itself is one, and another one is one
   pub here : (s : Vat N) → more s → ok s (At s.number)
   pub near : (s : Vat N) (h : ℕ) → ok s (Off h) → ok s (At h)
+  -- a name in hand may be entered; so may that of a gift at its host, which is in hand where its draw is that of a gift in hand
+  pub entered : (s : Vat N) (n : N) → ok s (Named n) → ok s (Entered n)
+  pub owned : (s : Vat N) (n : N) (i : ℕ) → ok s (Owns n i) → ok s (Entered n)
+  pub owner : (s : Vat N) (n : N) (i : ℕ) → ok s (Owns n i) → ok s (Gave i) → ok s (Named n)
+  pub drew : (s : Vat N) (i : ℕ) → ok s (Gave i) → ok s (Drew i)
   pub fuel : (s : Vat N) (n : ℕ) → rel s (record s { fuel = s.fuel - n }) × (more s → more (record s { fuel = s.fuel - n }))
   pub told : (s : Vat N) (e : Happened N) → TellsOfNone e → rel s (record s { happened = s.happened ++ e ∷ [] }) × (more s → more (record s { happened = s.happened ++ e ∷ [] }))
   pub activations : (s : Vat N) → rel s (record s { activations = suc s.activations }) × (more s → more (record s { activations = suc s.activations }))
@@ -43,18 +48,24 @@ abbrev pub ViewsNone : {N : Type 0} → Change N → Type 0
 ViewsNone (See q) = ⊥
 ViewsNone _ = Unit {0}
 
--- A name in hand that is of another host is of another vat.
+-- a care to which it is all one whether a name is in hand
+pub record Alike {N : Type 0} (S : Care N) : Type 0 where
+  pub named : (s : Vat N) (n : N) → S.ok s (Entered n) → S.ok s (Named n)
+  pub owns : (s : Vat N) (n : N) (i : ℕ) → S.ok s (Named n) → S.ok s (Owns n i)
+  pub gave : (s : Vat N) (i : ℕ) → S.ok s (Drew i) → S.ok s (Gave i)
+
+-- A name in hand that is of another host is of another vat; and what is the same name is one.
 pub record Spots {N W : Type 0} (K : Naming N W) (S : Care N) : Type 0 where
+  pub alike : (a b : N) → K.same a b ≡ true → a ≡ b
   pub placed : (s : Vat N) → S.more s → (n : N) → S.ok s (Named n) → PlaceOk (S.ok s) (spotted K s n (K.spot n))
 
--- and that each other change is so, but views
+-- and that each other change is so, but views and gifts
 pub record Under {N W : Type 0} (K : Naming N W) (S : Care N) : Type 0 where
   pub spots : Spots K S
   pub object : (s : Vat N) (i : ℕ) → S.ok s (Named (K.object i))
   pub happened : (s : Vat N) (e : Happened N) → S.rel s (record s { happened = s.happened ++ e ∷ [] }) × (S.more s → S.more (record s { happened = s.happened ++ e ∷ [] }))
   pub queue : (s : Vat N) (m : Message N) → S.rel s (record s { queue = s.queue ++ m ∷ [] }) × (S.more s → S.more (record s { queue = s.queue ++ m ∷ [] }))
   pub outbox : (s : Vat N) (p : Put N) → PutOk (S.ok s) p → S.rel s (record s { outbox = s.outbox ++ p ∷ [] }) × (S.more s → S.more (record s { outbox = s.outbox ++ p ∷ [] }))
-  pub gift : (s : Vat N) (g : GiftEntry N) → GiftOk (S.ok s) g → S.rel s (record s { gifts = s.gifts ++ g ∷ [] }) × (S.more s → S.more (record s { gifts = s.gifts ++ g ∷ [] }))
   pub opened : (s : Vat N) (p i : ℕ) → S.rel s (record s { gifts = with_opened p i s.gifts }) × (S.more s → S.more (record s { gifts = with_opened p i s.gifts }))
   pub noticed : (s : Vat N) (w : ℕ) → S.rel s (record s { noticed = s.noticed ++ w ∷ [] }) × (S.more s → S.more (record s { noticed = s.noticed ++ w ∷ [] }))
   pub drawn : (s : Vat N) (w : ℕ) → S.rel s (record s { drawn = s.drawn ++ w ∷ [] }) × (S.more s → S.more (record s { drawn = s.drawn ++ w ∷ [] })) × S.ok (record s { drawn = s.drawn ++ w ∷ [] }) (Drew (length s.drawn))
@@ -62,9 +73,15 @@ pub record Under {N W : Type 0} (K : Naming N W) (S : Care N) : Type 0 where
   pub answered : (s : Vat N) (h : ℕ) (m : N) → S.ok s (Mail m) → S.ok s (At h)
       → S.rel s (record s { known = s.known ++ begun (K.made (IsAnswer h m) (length s.known)) h ∷ [] }) × (S.more s → S.more (record s { known = s.known ++ begun (K.made (IsAnswer h m) (length s.known)) h ∷ [] }))
       × S.ok (record s { known = s.known ++ begun (K.made (IsAnswer h m) (length s.known)) h ∷ [] }) (Named (K.made (IsAnswer h m) (length s.known)))
-  pub given : (s : Vat N) (h i : ℕ) → S.ok s (Drew i) → S.ok s (At h)
+
+-- and of gifts: that come to be entered, that are in hand, and that come to be at their host
+pub record Giving {N W : Type 0} (K : Naming N W) (S : Care N) : Type 0 where
+  pub gift : (s : Vat N) (g : GiftEntry N) → GiftOk (S.ok s) g → S.rel s (record s { gifts = s.gifts ++ g ∷ [] }) × (S.more s → S.more (record s { gifts = s.gifts ++ g ∷ [] }))
+  pub given : (s : Vat N) (h i : ℕ) → S.ok s (Gave i) → S.ok s (At h)
       → S.rel s (record s { known = s.known ++ begun (K.made (IsGift h i) (length s.known)) h ∷ [] }) × (S.more s → S.more (record s { known = s.known ++ begun (K.made (IsGift h i) (length s.known)) h ∷ [] }))
       × S.ok (record s { known = s.known ++ begun (K.made (IsGift h i) (length s.known)) h ∷ [] }) (Named (K.made (IsGift h i) (length s.known)))
+  pub hosted : (s : Vat N) (i : ℕ) → S.more s → S.ok s (Drew i) → let n = K.made (IsGift s.number i) (length s.known) in let t = record s { known = s.known ++ begun n s.number ∷ [] } in
+      S.rel s t × (S.more s → S.more t) × S.ok t (Owns n i)
 
 -- and of a new promise, and of a new message with its answer
 pub record Makes {N W : Type 0} (K : Naming N W) (S : Care N) : Type 0 where
@@ -170,7 +187,13 @@ module _ {N : Type 0} (S : Care N) where
   pub got_settle : (C : Fact N) (y : Value N) → Gets C (IsValue y) → Gets C (IsChange (Settle y))
   got_settle C y g = record { at = λ s h. g.at s h }
 
-  pub got_wait : (C : Fact N) (q : N) → Gets C (IsName q) → Gets C (IsChange (Wait q))
+  pub got_entry : (C : Fact N) (n : N) → Gets C (IsName n) → Gets C (IsEntry n)
+  got_entry C n g = record { at = λ s h. S.entered s n (g.at s h) }
+
+  pub got_drew : (C : Fact N) (i : ℕ) → Gets C (IsGiven i) → Gets C (IsDraw i)
+  got_drew C i g = record { at = λ s h. S.drew s i (g.at s h) }
+
+  pub got_wait : (C : Fact N) (q : N) → Gets C (IsEntry q) → Gets C (IsChange (Wait q))
   got_wait C q g = record { at = λ s h. g.at s h }
 
   pub got_wait_on : (C : Fact N) (q : N) → Gets C (IsName q) → Gets C (IsChange (WaitOn q))
@@ -276,6 +299,16 @@ module _ {N : Type 0} (S : Care N) where
 
   pub fine_more : {A : Type 0} {C : Fact N} {m : Act N A} (P H : A → Fact N) → Fine C m P → ((a : A) → Gets (P a) (H a)) → Fine C m H
   fine_more {m = m} P H h g = record { after = λ s i c. more_ends P H s (m s) g (h.after s i c) }
+
+  with_ends : {A : Type 0} (C F : Fact N) (P : A → Fact N) (s : Vat N) (d : Done N A) → Gets C F → Holds (S.ok s) C → Ends P s d → Ends (λ a. Also (P a) F) s d
+  with_ends C F P s (Gives a t) g c h = (h.0, h.1, (h.2, g.at t (rise s t h.0 C c)))
+  with_ends C F P s (Throws p t) g c h = h
+  with_ends C F P s (Ejects n v t) g c h = h
+  with_ends C F P s (Stops r t) g c h = tt
+
+  -- with a fact that held before
+  pub fine_with : {A : Type 0} {C : Fact N} {m : Act N A} {P : A → Fact N} (F : Fact N) → Gets C F → Fine C m P → Fine C m (λ a. Also (P a) F)
+  fine_with {C = C} {m = m} {P = P} F g h = record { after = λ s i c. with_ends C F P s (m s) g c (h.after s i c) }
 
   pub fine_left : {A : Type 0} {C D : Fact N} {m : Act N A} {H : A → Fact N} → Fine C m H → Fine (Also C D) m H
   fine_left h = record { after = λ s i c. h.after s i c.0 }
@@ -434,6 +467,9 @@ module _ {N : Type 0} (S : Care N) where
   pub bind_name : {B : Type 0} {C : Fact N} {m : Act N N} {f : N → Act N B} {H : B → Fact N} → Fine C m IsName → ((a : N) → Fine (Also C (IsName a)) (f a) H) → Fine C (m >>= f) H
   bind_name h k = fine_bind IsName h k
 
+  pub bind_entry : {B : Type 0} {C : Fact N} {m : Act N N} {f : N → Act N B} {H : B → Fact N} → Fine C m IsEntry → ((a : N) → Fine (Also C (IsEntry a)) (f a) H) → Fine C (m >>= f) H
+  bind_entry h k = fine_bind IsEntry h k
+
   pub bind_names : {B : Type 0} {C : Fact N} {m : Act N (N × N)} {f : N × N → Act N B} {H : B → Fact N} → Fine C m new_names → ((a : N × N) → Fine (Also C (Also (IsMail a.0) (IsName a.1))) (f a) H) → Fine C (m >>= f) H
   bind_names h k = fine_bind new_names h k
 
@@ -531,13 +567,6 @@ module _ {N W : Type 0} (K : Naming N W) (S : Care N) (law : Under K S) where
         (r.0, record { parts = record { things = p.things; slots = p.slots; lists = p.lists; queue = p.queue; known = p.known; gifts = p.gifts; outbox = all_end (PutOk (S.ok t)) s.outbox q p.outbox (rise S s t r.0 (NoteDoes n) (g.at s c), rise S s t r.0 (NoteGoes to n) (k.at s c)) }; more = r.1 h.more }, tt);
   }
 
-  pub fine_gift : {C : Fact N} (n : N) (p i : ℕ) → Gets S C (IsName n) → Gets S C (IsDraw i) → Fine S C (new_gift n p i) nothing
-  unfolding new_gift
-  fine_gift n w i g k = record {
-    after = λ s h c. let x : GiftEntry N = record { name = n; provider = w; number = i; opened = false } in let r = law.gift s x (g.at s c, k.at s c) in let t = record s { gifts = s.gifts ++ x ∷ [] } in let p = still S s t r.0 h in
-        (r.0, record { parts = record { things = p.things; slots = p.slots; lists = p.lists; queue = p.queue; known = p.known; gifts = all_end (GiftOk (S.ok t)) s.gifts x p.gifts (rise S s t r.0 (IsGiftEntry x) (g.at s c, k.at s c)); outbox = p.outbox }; more = r.1 h.more }, tt);
-  }
-
   opened_either : (P : Bit N → Type 0) (b : Bool) (g k : GiftEntry N) (gs ks : List (GiftEntry N)) → GiftOk P g → GiftOk P k → AllOf (GiftOk P) gs → AllOf (GiftOk P) ks → AllOf (GiftOk P) (elim b [ true ↦ g ∷ gs | false ↦ k ∷ ks ])
   opened_either P true g k gs ks a b c d = (a, c)
   opened_either P false g k gs ks a b c d = (b, d)
@@ -567,15 +596,23 @@ module _ {N W : Type 0} (K : Naming N W) (S : Care N) (law : Under K S) where
   unfolding draw
   fine_draw = record { after = λ s h c. draws_ends s _ _ h }
 
-  to_ok : (P : Bit N → Type 0) (c : Change N) (k : Known N) → ChangeOk P c → KnownOk P k → KnownOk P (changed_to c k)
+  told_either : (Q : Type 0) (w : ℕ) (ws : List ℕ) (b : Bool) → Q → AllOf (λ (x : ℕ). Q) ws → AllOf (λ (x : ℕ). Q) (elim b [ true ↦ ws | false ↦ ws ++ w ∷ [] ])
+  told_either Q w ws true g h = h
+  told_either Q w ws false g h = all_end (λ (x : ℕ). Q) ws w h g
+
+  told_with : (Q : Type 0) (w : ℕ) (ws : List ℕ) → Q → AllOf (λ (x : ℕ). Q) ws → AllOf (λ (x : ℕ). Q) (with_vat w ws)
+  unfolding with_vat
+  told_with Q w ws g h = told_either Q w ws (is_in w ws) g h
+
+  to_ok : (P : Bit N → Type 0) (c : Change N) (k : Known N) → ChangeOk P c → OnOk P c k.name → KnownOk P k → KnownOk P (changed_to c k)
   unfolding changed_to
-  to_ok P (Hold m) k g h = (h.0, h.1, all_end (MessageOk P) k.held m h.2 g, h.3, h.4)
-  to_ok P (Wait q) k g h = (h.0, h.1, h.2, all_end (NameOk P) k.waiting q h.3 g, h.4)
-  to_ok P (WaitOn q) k g h = (h.0, g, h.2, h.3, h.4)
-  to_ok P (See q) k g h = (h.0, g, h.2, h.3, h.4)
-  to_ok P (React m) k g h = (h.0, h.1, h.2, h.3, all_end (MessageOk P) k.reactions m h.4 g)
-  to_ok P (ToTell w) k g h = h
-  to_ok P (Settle y) k g h = (h.0, g, tt, tt, tt)
+  to_ok P (Hold m) k g on h = (h.0, h.1, all_end (MessageOk P) k.held m h.2 g, h.3, h.4, h.5)
+  to_ok P (Wait q) k g on h = (h.0, h.1, h.2, all_end (EntryOk P) k.waiting q h.3 g, h.4, h.5)
+  to_ok P (WaitOn q) k g on h = (h.0, g, h.2, h.3, h.4, h.5)
+  to_ok P (See q) k g on h = (h.0, g, h.2, h.3, h.4, h.5)
+  to_ok P (React m) k g on h = (h.0, h.1, h.2, h.3, all_end (MessageOk P) k.reactions m h.4 g, h.5)
+  to_ok P (ToTell w) k g on h = (h.0, h.1, h.2, h.3, h.4, told_with (P (Named k.name)) w k.told on h.5)
+  to_ok P (Settle y) k g on h = (h.0, g, tt, tt, tt, tt)
 
   unless_ok : (P : Bit N → Type 0) (x : Standing N) (k new : Known N) → KnownOk P k → KnownOk P new → KnownOk P (unless_settled x k new)
   unfolding unless_settled
@@ -584,56 +621,71 @@ module _ {N W : Type 0} (K : Naming N W) (S : Care N) (law : Under K S) where
   unless_ok P (WaitsOn q) k new h i = i
   unless_ok P (Viewed q) k new h i = i
 
-  either_ok : (P : Bit N → Type 0) (b : Bool) (k j : Known N) (ks js : List (Known N)) → KnownOk P k → KnownOk P j → AllOf (KnownOk P) ks → AllOf (KnownOk P) js → AllOf (KnownOk P) (elim b [ true ↦ k ∷ ks | false ↦ j ∷ js ])
-  either_ok P true k j ks js a b c d = (a, c)
-  either_ok P false k j ks js a b c d = (b, d)
+  changed_or : (P : Bit N → Type 0) (c : Change N) (n : N) (k : Known N) (ks js : List (Known N)) (b : Bool) → K.same k.name n ≡ b → ChangeOk P c → ((a : N) → K.same a n ≡ true → OnOk P c a) → KnownOk P k → AllOf (KnownOk P) ks → AllOf (KnownOk P) js
+      → AllOf (KnownOk P) (elim b [ true ↦ changed c k ∷ ks | false ↦ k ∷ js ])
+  unfolding changed
+  changed_or P c n k ks js true e g on h i j = (unless_ok P k.standing k (changed_to c k) h (to_ok P c k g (on k.name e) h), i)
+  changed_or P c n k ks js false e g on h i j = (h, j)
 
-  pub changes_ok : (P : Bit N → Type 0) (c : Change N) (n : N) (ks : List (Known N)) → ChangeOk P c → AllOf (KnownOk P) ks → AllOf (KnownOk P) (with_change K c n ks)
-  unfolding with_change changed
-  changes_ok P c n [] g h = tt
-  changes_ok P c n (k ∷ ks) g h = either_ok P (K.same k.name n) (changed c k) k ks (with_change K c n ks) (unless_ok P k.standing k (changed_to c k) h.0 (to_ok P c k g h.0)) h.0 h.1 (changes_ok P c n ks g h.1)
+  pub changes_ok : (P : Bit N → Type 0) (c : Change N) (n : N) (ks : List (Known N)) → ChangeOk P c → ((a : N) → K.same a n ≡ true → OnOk P c a) → AllOf (KnownOk P) ks → AllOf (KnownOk P) (with_change K c n ks)
+  unfolding with_change
+  changes_ok P c n [] g on h = tt
+  changes_ok P c n (k ∷ ks) g on h = changed_or P c n k ks (with_change K c n ks) (K.same k.name n) refl g on h.0 h.1 (changes_ok P c n ks g on h.1)
 
-  fine_alter : {C : Fact N} (c : Change N) (n : N) → ViewsNone c → Gets S C (IsChange c) → Fine S C (alter K c n) nothing
+  fine_alter : {C : Fact N} (c : Change N) (n : N) → ViewsNone c → Gets S C (IsChange c) → ((s : Vat N) → Holds (S.ok s) C → OnOk (S.ok s) c n) → Fine S C (alter K c n) nothing
   unfolding alter
-  fine_alter d n none g = record {
+  fine_alter d n none g on = record {
     after = λ s h c. let r = law.altered s d n none (g.at s c) in let t = record s { known = with_change K d n s.known } in let p = still S s t r.0 h in
         let e : ChangeOk (S.ok t) d = holds_up (S.ok s) (S.ok t) (S.up s t r.0) (IsChange d) (g.at s c) in
-        (r.0, record { parts = record { things = p.things; slots = p.slots; lists = p.lists; queue = p.queue; known = changes_ok (S.ok t) d n s.known e p.known; gifts = p.gifts; outbox = p.outbox }; more = r.1 h.more }, tt);
+        let o : OnOk (S.ok t) d n = on_up (S.ok s) (S.ok t) (S.up s t r.0) d n (on s c) in
+        let all : (a : N) → K.same a n ≡ true → OnOk (S.ok t) d a = λ a i. subst (λ z. OnOk (S.ok t) d z) (sym (law.spots.alike a n i)) o in
+        (r.0, record { parts = record { things = p.things; slots = p.slots; lists = p.lists; queue = p.queue; known = changes_ok (S.ok t) d n s.known e all p.known; gifts = p.gifts; outbox = p.outbox }; more = r.1 h.more }, tt);
   }
 
   pub fine_hold : {C : Fact N} (m : Message N) (n : N) → Gets S C (IsChange (Hold m)) → Fine S C (alter K (Hold m) n) nothing
-  fine_hold m n g = fine_alter (Hold m) n tt g
+  fine_hold m n g = fine_alter (Hold m) n tt g (λ s c. tt)
 
   pub fine_wait : {C : Fact N} (q n : N) → Gets S C (IsChange (Wait q)) → Fine S C (alter K (Wait q) n) nothing
-  fine_wait q n g = fine_alter (Wait q) n tt g
+  fine_wait q n g = fine_alter (Wait q) n tt g (λ s c. tt)
 
   pub fine_waits_on : {C : Fact N} (q n : N) → Gets S C (IsChange (WaitOn q)) → Fine S C (alter K (WaitOn q) n) nothing
-  fine_waits_on q n g = fine_alter (WaitOn q) n tt g
+  fine_waits_on q n g = fine_alter (WaitOn q) n tt g (λ s c. tt)
 
   pub fine_reacts : {C : Fact N} (m : Message N) (n : N) → Gets S C (IsChange (React m)) → Fine S C (alter K (React m) n) nothing
-  fine_reacts m n g = fine_alter (React m) n tt g
+  fine_reacts m n g = fine_alter (React m) n tt g (λ s c. tt)
 
-  pub fine_to_tell : {C : Fact N} (w : ℕ) (n : N) → Gets S C (IsChange (ToTell w)) → Fine S C (alter K (ToTell w) n) nothing
-  fine_to_tell w n g = fine_alter (ToTell w) n tt g
+  pub fine_to_tell : {C : Fact N} (w : ℕ) (n : N) → Gets S C (IsName n) → Fine S C (alter K (ToTell w) n) nothing
+  fine_to_tell w n g = fine_alter (ToTell w) n tt (record { at = λ s c. tt }) (λ s c. g.at s c)
 
   pub fine_settles : {C : Fact N} (y : Value N) (n : N) → Gets S C (IsChange (Settle y)) → Fine S C (alter K (Settle y) n) nothing
-  fine_settles y n g = fine_alter (Settle y) n tt g
+  fine_settles y n g = fine_alter (Settle y) n tt g (λ s c. tt)
 
-  pub begun_ok : (P : Bit N → Type 0) (n : N) (h : ℕ) → P (Named n) → KnownOk P (begun n h)
+  pub begun_ok : (P : Bit N → Type 0) (n : N) (h : ℕ) → P (Entered n) → KnownOk P (begun n h)
   unfolding begun
-  begun_ok P n h g = (g, tt, tt, tt, tt)
+  begun_ok P n h g = (g, tt, tt, tt, tt, tt)
+
+  pub with_entry : (s t : Vat N) (n : N) (h : ℕ) → S.rel s t → S.ok t (Entered n) → Sound S s → Parts (S.ok t) s.things s.slots s.lists s.queue (s.known ++ begun n h ∷ []) s.gifts s.outbox
+  with_entry s t n w r g h = let p = still S s t r h in
+      record { things = p.things; slots = p.slots; lists = p.lists; queue = p.queue; known = all_end (KnownOk (S.ok t)) s.known (begun n w) p.known (begun_ok (S.ok t) n w g); gifts = p.gifts; outbox = p.outbox }
 
   pub with_known : (s t : Vat N) (n : N) (h : ℕ) → S.rel s t → S.ok t (Named n) → Sound S s → Parts (S.ok t) s.things s.slots s.lists s.queue (s.known ++ begun n h ∷ []) s.gifts s.outbox
-  with_known s t n w r g h = let p = still S s t r h in
-      record { things = p.things; slots = p.slots; lists = p.lists; queue = p.queue; known = all_end (KnownOk (S.ok t)) s.known (begun n w) p.known (begun_ok (S.ok t) n w g); gifts = p.gifts; outbox = p.outbox }
+  with_known s t n w r g h = with_entry s t n w r (S.entered t n g) h
 
   pub come_answer : {C : Fact N} (h : ℕ) (m : N) → Gets S C (IsMail m) → Gets S C (IsVat h) → Fine S C (come K (IsAnswer h m) h) IsName
   unfolding come
   come_answer w m g k = record { after = λ s h c. let r = law.answered s w m (g.at s c) (k.at s c) in (r.0, record { parts = with_known s _ _ w r.0 r.2 h; more = r.1 h.more }, r.2) }
 
-  pub come_gift : {C : Fact N} (h i : ℕ) → Gets S C (IsDraw i) → Gets S C (IsVat h) → Fine S C (come K (IsGift h i) h) IsName
+module _ {N W : Type 0} (K : Naming N W) (S : Care N) (law : Under K S) (gives : Giving K S) where
+  pub fine_gift : {C : Fact N} (n : N) (p i : ℕ) → Gets S C (IsOwned n i) → Gets S C (IsDraw i) → Fine S C (new_gift n p i) nothing
+  unfolding new_gift
+  fine_gift n w i g k = record {
+    after = λ s h c. let x : GiftEntry N = record { name = n; provider = w; number = i; opened = false } in let r = gives.gift s x (g.at s c, k.at s c) in let t = record s { gifts = s.gifts ++ x ∷ [] } in let p = still S s t r.0 h in
+        (r.0, record { parts = record { things = p.things; slots = p.slots; lists = p.lists; queue = p.queue; known = p.known; gifts = all_end (GiftOk (S.ok t)) s.gifts x p.gifts (rise S s t r.0 (IsGiftEntry x) (g.at s c, k.at s c)); outbox = p.outbox }; more = r.1 h.more }, tt);
+  }
+
+  pub come_gift : {C : Fact N} (h i : ℕ) → Gets S C (IsGiven i) → Gets S C (IsVat h) → Fine S C (come K (IsGift h i) h) IsName
   unfolding come
-  come_gift w i g k = record { after = λ s h c. let r = law.given s w i (g.at s c) (k.at s c) in (r.0, record { parts = with_known s _ _ w r.0 r.2 h; more = r.1 h.more }, r.2) }
+  come_gift w i g k = record { after = λ s h c. let r = gives.given s w i (g.at s c) (k.at s c) in (r.0, record { parts = with_known K S law s _ _ w r.0 r.2 h; more = r.1 h.more }, r.2) }
 
 module _ {N W : Type 0} (K : Naming N W) (S : Care N) (law : Under K S) (makes : Makes K S) where
   pub fine_promise : {C : Fact N} → Fine S C (new_promise K) IsName
@@ -644,7 +696,7 @@ module _ {N W : Type 0} (K : Naming N W) (S : Care N) (law : Under K S) (makes :
   unfolding new_message
   fine_new_message w g = record { after = λ s h c. let r = makes.messaged s w (g.at s c) in (r.0, record { parts = with_known K S law s _ _ w r.0 r.3 h; more = r.1 h.more }, (r.2, r.3)) }
 
-pub ruleset gets = (got, got_vat, got_left, got_right, got_itself, got_both, got_nothing, got_null, got_flag, got_number, got_text, got_prim, got_broken, got_items, got_ref, got_none, got_more, got_message, got_hold, got_react, got_settle, got_wait, got_wait_on, got_to_tell, got_ejector, got_resolver, got_audition)
+pub ruleset gets = (got, got_vat, got_left, got_right, got_itself, got_both, got_nothing, got_null, got_flag, got_number, got_text, got_prim, got_broken, got_items, got_ref, got_none, got_more, got_message, got_hold, got_react, got_settle, got_entry, got_drew, got_wait, got_wait_on, got_to_tell, got_ejector, got_resolver, got_audition)
 
 -- what touches no message and nothing that is known
 pub ruleset quiet = (gets, then_unit, then_number, then_value, then_answer, bind_vat, bind_number, bind_draw, bind_name, bind_names, bind_flag, bind_place, bind_standing, bind_gifts, bind_gift, bind_knowns, bind_value, bind_values, bind_scope, bind_answer, bind_answers, bind_may_value, bind_may_cell, bind_may_thing, bind_may_known, bind_reply, bind_bound, bind_passed, bind_passeds, bind_parcel, end_value, end_scope, end_answer, fine_some, fine_if, fine_give, fine_throw, fine_eject, fine_stop, fine_look, fine_spend, fine_activation, fine_thing, fine_kill, fine_slot, fine_write, fine_list, fine_each)
@@ -652,4 +704,4 @@ pub ruleset quiet = (gets, then_unit, then_number, then_value, then_answer, bind
 -- and lines that tell of no message
 pub ruleset quiet_told = (quiet, told_called, told_back, told_thrown, told_left, told_got, told_slot_made, told_slot_read, told_slot_wrote, told_list_made, told_ejector_made, told_audition_made, told_promise_made, told_object_made, told_finished, told_threw)
 
-pub ruleset fine = (quiet, got_object, fine_tell, fine_enqueue, fine_out, fine_gift, fine_open, fine_mark, fine_draw, fine_hold, fine_wait, fine_waits_on, fine_reacts, fine_to_tell, fine_settles, come_answer, come_gift)
+pub ruleset fine = (quiet, got_object, fine_tell, fine_enqueue, fine_out, fine_open, fine_mark, fine_draw, fine_hold, fine_wait, fine_waits_on, fine_reacts, fine_to_tell, fine_settles, come_answer)

@@ -1,16 +1,16 @@
 -- What a vat does with references, from a sound state, ends in a sound state.
 use Rattle.std.proofs.Common.{ℕ, zero, suc, true, false, List, [], ◌∷◌, Option, Some, None}
 use Rattle.ev_machine.specs.Values.{Words, Value, Prim, Ref, Naming}
-use Rattle.ev_machine.specs.State.{Sends, Reacts, ◌>>=◌, ◌>>◌, tell, give, look, Message, Standing, Settled, Known, Passed, Passeds, Plain, AGift, Many, NoMore, More, Act}
+use Rattle.ev_machine.specs.State.{Settles, Sends, Reacts, ◌>>=◌, ◌>>◌, tell, give, look, Message, Standing, Settled, Known, Passed, Passeds, Plain, AGift, Many, NoMore, More, Act}
 use Rattle.ev_machine.specs.Refs as refs
 use Rattle.ev_machine.specs.Refs.{Place, Near, Mine, Away, Gone}
-use Rattle.ev_name_laws.proofs.Facts.{Fact, Also, IsName, IsMail, IsVat, IsOff, AreNames, IsValue, AreValues, IsMessage, AreMessages, IsKnown, IsPlace, MayKnown, DoesPass, DoAllPass, nothing}
-use Rattle.ev_name_laws.proofs.Care.{Care, Under, Makes, Gets, Fine, fine, fine_give, fine_new_message, bind_value, bind_place, fine_tell, bind_vat, bind_names, then_unit, got, got_left, got_right, got_itself, got_message, got_more, got_none, got_ref}
-use Rattle.ev_name_laws.proofs.Looks.{looks, look_number, got_answer_host, look_follow, look_place, look_place_of}
+use Rattle.ev_name_laws.proofs.Facts.{Fact, Also, IsName, IsMail, IsVat, IsOff, IsEntry, AreEntries, AreTold, MayEntry, IsValue, AreValues, IsMessage, AreMessages, IsKnown, IsPlace, DoesPass, DoAllPass, nothing}
+use Rattle.ev_name_laws.proofs.Care.{Care, Under, Makes, Gets, Fine, fine, fine_bind, fine_give, fine_new_message, bind_value, bind_place, fine_tell, fine_enqueue, fine_settles, bind_vat, bind_names, then_unit, got, got_left, got_right, got_itself, got_settle, got_message, got_more, got_none, got_ref}
+use Rattle.ev_name_laws.proofs.Looks.{looks, look_number, look_target, look_entry, each_message, each_entry, each_told, got_answer_host, look_follow, look_place, look_place_of}
 
 -- what settles a name so, does so from every sound state
 abbrev pub GoodSettler : {N : Type 0} → Care N → (N → Value N → Act N (Unit {0})) → Type 0
-GoodSettler {N} S settle = (C : Fact N) (p : N) → Gets S C (IsName p) → (y : Value N) → Gets S C (IsValue y) → Fine S C (settle p y) nothing
+GoodSettler {N} S settle = (C : Fact N) (p : N) → Gets S C (IsEntry p) → (y : Value N) → Gets S C (IsValue y) → Fine S C (settle p y) nothing
 
 module _ {N W : Type 0} (K : Naming N W) (S : Care N) (law : Under K S) where
   place_here : {C : Fact N} (y : Value N) → Gets S C (IsValue y) → Fine S C (look (λ s. refs.place K s y)) IsPlace
@@ -50,7 +50,7 @@ module _ {N W : Type 0} (K : Naming N W) (S : Care N) (law : Under K S) where
   unfolding refs.deliver
   fine_deliver {C = C} m g1 h o2 n n3 = let mi_m : Gets S C (IsMail m.id) = record { at = λ s h. (g1.at s h).0 } in let mt_m : Gets S C (IsValue m.target) = record { at = λ s h. (g1.at s h).1 } in let ma_m : Gets S C (AreValues m.args) = record { at = λ s h. (g1.at s h).2 } in let mr_m : Gets S C (IsName m.answer) = record { at = λ s h. (g1.at s h).3 } in search (fine, looks, place_here, place_of_here, fine_pass_all) depth 30
 
-  pub fine_wait_on : {C : Fact N} → (x1 : N) → Gets S C (IsName x1) → (x2 : N) → Gets S C (IsName x2) → Fine S C (refs.wait_on K x1 x2) nothing
+  pub fine_wait_on : {C : Fact N} → (x1 : N) → Gets S C (IsEntry x1) → (x2 : N) → Gets S C (IsName x2) → Fine S C (refs.wait_on K x1 x2) nothing
   unfolding refs.wait_on
   fine_wait_on {C = C} p n0 q n1 = search (fine, looks, place_here, place_of_here) depth 30
 
@@ -78,44 +78,48 @@ module _ {N W : Type 0} (K : Naming N W) (S : Care N) (law : Under K S) where
   unfolding refs.inform
   fine_inform {C = C} p n0 w = search (fine, looks, place_here, place_of_here, fine_inform_of) depth 30
 
-  pub fine_settle_known : {C : Fact N} → (x1 : N → Value N → Act N (Unit {0})) → GoodSettler S x1 → (x2 : N) → Gets S C (IsName x2) → (x3 : Value N) → Gets S C (IsValue x3) → (x4 : Known N) → Gets S C (IsKnown x4) → Fine S C (refs.settle_known K x1 x2 x3 x4) nothing
+  pub fine_settle_known : {C : Fact N} → (x1 : N → Value N → Act N (Unit {0})) → GoodSettler S x1 → (x2 : N) → Gets S C (IsEntry x2) → (x3 : Value N) → Gets S C (IsValue x3) → (x4 : Known N) → Gets S C (IsKnown x4) → Gets S C (AreTold x2 x4.told) → Fine S C (refs.settle_known K x1 x2 x3 x4) nothing
   unfolding refs.settle_known
-  fine_settle_known {C = C} settle h1 p n2 y g1 k g2 = let kn_k : Gets S C (IsName k.name) = record { at = λ s h. (g2.at s h).0 } in let kh_k : Gets S C (AreMessages k.held) = record { at = λ s h. (g2.at s h).2 } in let kw_k : Gets S C (AreNames k.waiting) = record { at = λ s h. (g2.at s h).3 } in let kr_k : Gets S C (AreMessages k.reactions) = record { at = λ s h. (g2.at s h).4 } in search (fine, looks, place_here, place_of_here, fine_send_on, fine_inform) depth 30
+  fine_settle_known {C = C} settle h1 p n2 y g1 k g2 g3 = then_unit S (fine_tell K S law (Settles p y)) (then_unit S (fine_settles K S law y p (got_settle S C y g1))
+      (then_unit S (each_message S k.held (record { at = λ s h. (g2.at s h).2 }) (λ m. fine_send_on settle h1 m (got S C (IsMessage m))))
+      (then_unit S (each_entry S k.waiting (record { at = λ s h. (g2.at s h).3 }) (λ q. h1 (Also C (IsEntry q)) q (got S C (IsEntry q)) y (got_left S C (IsEntry q) (IsValue y) g1)))
+      (then_unit S (each_message S k.reactions (record { at = λ s h. (g2.at s h).4 }) (λ m. fine_enqueue K S law m (got S C (IsMessage m))))
+      (each_told S p k.told g3 (λ w. fine_inform p (got S C (IsName p)) w))))))
 
-  pub fine_settle_standing : {C : Fact N} → (x1 : N → Value N → Act N (Unit {0})) → GoodSettler S x1 → (x2 : N) → Gets S C (IsName x2) → (x3 : Value N) → Gets S C (IsValue x3) → (x4 : Known N) → Gets S C (IsKnown x4) → (x5 : Standing N) → Fine S C (refs.settle_standing K x1 x2 x3 x4 x5) nothing
+  pub fine_settle_standing : {C : Fact N} → (x1 : N → Value N → Act N (Unit {0})) → GoodSettler S x1 → (x2 : N) → Gets S C (IsEntry x2) → (x3 : Value N) → Gets S C (IsValue x3) → (x4 : Known N) → Gets S C (IsKnown x4) → Gets S C (AreTold x2 x4.told) → (x5 : Standing N) → Fine S C (refs.settle_standing K x1 x2 x3 x4 x5) nothing
   unfolding refs.settle_standing
-  fine_settle_standing {C = C} settle h1 p n2 y g1 k g2 (Settled z) = let kn_k : Gets S C (IsName k.name) = record { at = λ s h. (g2.at s h).0 } in let kh_k : Gets S C (AreMessages k.held) = record { at = λ s h. (g2.at s h).2 } in let kw_k : Gets S C (AreNames k.waiting) = record { at = λ s h. (g2.at s h).3 } in let kr_k : Gets S C (AreMessages k.reactions) = record { at = λ s h. (g2.at s h).4 } in search (fine, looks, place_here, place_of_here) depth 30
-  fine_settle_standing {C = C} settle h1 p n2 y g1 k g2 _ = let kn_k : Gets S C (IsName k.name) = record { at = λ s h. (g2.at s h).0 } in let kh_k : Gets S C (AreMessages k.held) = record { at = λ s h. (g2.at s h).2 } in let kw_k : Gets S C (AreNames k.waiting) = record { at = λ s h. (g2.at s h).3 } in let kr_k : Gets S C (AreMessages k.reactions) = record { at = λ s h. (g2.at s h).4 } in search (fine, looks, place_here, place_of_here, fine_settle_known) depth 30
+  fine_settle_standing {C = C} settle h1 p n2 y g1 k g2 g3 (Settled z) = fine_give S tt (record { at = λ s c. tt })
+  fine_settle_standing {C = C} settle h1 p n2 y g1 k g2 g3 _ = fine_settle_known settle h1 p n2 y g1 k g2 g3
 
-  pub fine_settle_entry : {C : Fact N} → (x1 : N → Value N → Act N (Unit {0})) → GoodSettler S x1 → (x2 : N) → Gets S C (IsName x2) → (x3 : Value N) → Gets S C (IsValue x3) → (x4 : Option (Known N)) → Gets S C (MayKnown x4) → Fine S C (refs.settle_entry K x1 x2 x3 x4) nothing
+  pub fine_settle_entry : {C : Fact N} → (x1 : N → Value N → Act N (Unit {0})) → GoodSettler S x1 → (x2 : N) → Gets S C (IsEntry x2) → (x3 : Value N) → Gets S C (IsValue x3) → (x4 : Option (Known N)) → Gets S C (MayEntry x2 x4) → Fine S C (refs.settle_entry K x1 x2 x3 x4) nothing
   unfolding refs.settle_entry
-  fine_settle_entry {C = C} settle h1 p n2 y g1 None g2 = search (fine, looks, place_here, place_of_here) depth 30
-  fine_settle_entry {C = C} settle h1 p n2 y g1 (Some k) g2 = let d_g2 : Gets S C (IsKnown k) = record { at = λ s h. (g2.at s h) } in search (fine, looks, place_here, place_of_here, fine_settle_standing) depth 30
+  fine_settle_entry {C = C} settle h1 p n2 y g1 None g2 = fine_give S tt (record { at = λ s c. tt })
+  fine_settle_entry {C = C} settle h1 p n2 y g1 (Some k) g2 = fine_settle_standing settle h1 p n2 y g1 k (record { at = λ s h. (g2.at s h).0 }) (record { at = λ s h. (g2.at s h).1 }) k.standing
 
-  pub fine_settle_one : {C : Fact N} → (x1 : N → Value N → Act N (Unit {0})) → GoodSettler S x1 → (x2 : N) → Gets S C (IsName x2) → (x3 : Value N) → Gets S C (IsValue x3) → Fine S C (refs.settle_one K x1 x2 x3) nothing
+  pub fine_settle_one : {C : Fact N} → (x1 : N → Value N → Act N (Unit {0})) → GoodSettler S x1 → (x2 : N) → Gets S C (IsEntry x2) → (x3 : Value N) → Gets S C (IsValue x3) → Fine S C (refs.settle_one K x1 x2 x3) nothing
   unfolding refs.settle_one
-  fine_settle_one {C = C} settle h1 p n2 x g1 = search (fine, looks, place_here, place_of_here, fine_settle_entry) depth 30
+  fine_settle_one {C = C} settle h1 p n2 x g1 = bind_value S (look_target K S p x g1) (λ y. fine_bind S (MayEntry p) (look_entry K S law.spots p) (λ k. fine_settle_entry settle h1 p (record { at = λ s c. n2.at s c.0.0 }) y (record { at = λ s c. c.0.1 }) k (record { at = λ s c. c.1 })))
 
-  pub fine_settle_at : {C : Fact N} → (x1 : ℕ) → (x2 : N) → Gets S C (IsName x2) → (x3 : Value N) → Gets S C (IsValue x3) → Fine S C (refs.settle_at K x1 x2 x3) nothing
+  pub fine_settle_at : {C : Fact N} → (x1 : ℕ) → (x2 : N) → Gets S C (IsEntry x2) → (x3 : Value N) → Gets S C (IsValue x3) → Fine S C (refs.settle_at K x1 x2 x3) nothing
   unfolding refs.settle_at
   fine_settle_at {C = C} zero p n1 y g1 = search (fine, looks, place_here, place_of_here) depth 30
   fine_settle_at {C = C} (suc d) p n1 y g1 = fine_settle_one (λ q z. refs.settle_at K d q z) (λ D q n z g. fine_settle_at {C = D} d q n z g) p n1 y g1
 
-  pub fine_settle : {C : Fact N} → (x1 : N) → Gets S C (IsName x1) → (x2 : Value N) → Gets S C (IsValue x2) → Fine S C (refs.settle K x1 x2) nothing
+  pub fine_settle : {C : Fact N} → (x1 : N) → Gets S C (IsEntry x1) → (x2 : Value N) → Gets S C (IsValue x2) → Fine S C (refs.settle K x1 x2) nothing
   unfolding refs.settle
   fine_settle {C = C} p n0 y g1 = search (fine, looks, place_here, place_of_here, fine_settle_at) depth 30
 
-  pub fine_wait_unless_cycle : {C : Fact N} → (x1 : N) → Gets S C (IsName x1) → (x2 : N) → Gets S C (IsName x2) → Fine S C (refs.wait_unless_cycle K x1 x2) nothing
+  pub fine_wait_unless_cycle : {C : Fact N} → (x1 : N) → Gets S C (IsEntry x1) → (x2 : N) → Gets S C (IsName x2) → Fine S C (refs.wait_unless_cycle K x1 x2) nothing
   unfolding refs.wait_unless_cycle
   fine_wait_unless_cycle {C = C} p n0 q n1 = search (fine, looks, place_here, place_of_here, fine_settle, fine_wait_on) depth 30
 
-  pub fine_resolve_to : {C : Fact N} → (x1 : N) → Gets S C (IsName x1) → (x2 : Value N) → Gets S C (IsValue x2) → (x3 : Place N) → Gets S C (IsPlace x3) → Fine S C (refs.resolve_to K x1 x2 x3) nothing
+  pub fine_resolve_to : {C : Fact N} → (x1 : N) → Gets S C (IsEntry x1) → (x2 : Value N) → Gets S C (IsValue x2) → (x3 : Place N) → Gets S C (IsPlace x3) → Fine S C (refs.resolve_to K x1 x2 x3) nothing
   unfolding refs.resolve_to
   fine_resolve_to {C = C} p n0 y g1 (Mine q) p3 = let pn3 : Gets S C (IsName q) = record { at = λ s h. p3.at s h } in search (fine, looks, place_here, place_of_here, fine_wait_unless_cycle) depth 30
   fine_resolve_to {C = C} p n0 y g1 (Away h q false) p3 = let pn3 : Gets S C (IsName q) = record { at = λ s h. (p3.at s h).0 } in let po : Gets S C (IsOff h) = record { at = λ s h. (p3.at s h).1 } in search (fine, looks, place_here, place_of_here, fine_wait_unless_cycle) depth 30
   fine_resolve_to {C = C} p n0 y g1 _ p3 = search (fine, looks, place_here, place_of_here, fine_settle) depth 30
 
-  pub fine_resolve : {C : Fact N} → (x1 : N) → Gets S C (IsName x1) → (x2 : Value N) → Gets S C (IsValue x2) → Fine S C (refs.resolve K x1 x2) nothing
+  pub fine_resolve : {C : Fact N} → (x1 : N) → Gets S C (IsEntry x1) → (x2 : Value N) → Gets S C (IsValue x2) → Fine S C (refs.resolve K x1 x2) nothing
   unfolding refs.resolve
   fine_resolve {C = C} p n0 x g1 = search (fine, looks, place_here, place_of_here, fine_resolve_to) depth 30
 

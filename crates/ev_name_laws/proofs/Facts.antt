@@ -2,7 +2,7 @@
 use Rattle.std.proofs.Common.{ℕ, List, [], ◌∷◌, ◌++◌, Option, Some, None}
 use Rattle.ev_machine.specs.Values.{Value, Null, Flag, Number, Letter, Text, Prim, Broken, Items, Ref, Coming, IsRoot, IsOwn, IsAnswer, IsGift, IsLearnt}
 use Rattle.ev_machine.specs.State.{Bound, Fixed, Slot, Binding, Scope, Cell, Freedom, IsSafe, IsItself, IsFinal, IsVar, View, Thing, Made, Ejector, Audition, Resolver, Message, Standing, Unsettled, WaitsOn, Viewed, Settled, Known, Change, Hold, Wait, WaitOn, See, React, ToTell, Settle, Passed, Passeds, Plain, AGift, Many, NoMore, More, Note, Deliver, Open, Ask, SettledTo, Elsewhere, Shorten, Put, GiftEntry}
-use Rattle.ev_name_laws.specs.Names.{Bit, Named, Mail, Drew, At, Off, AllOf, ValueOk, ValuesOk, NameOk, MessageOk, StandingOk, KnownOk, CellOk, FreedomOk, ViewOk, BoundOk, NounOk, ThingOk, PassedOk, PassedsOk, NoteOk, GoesOk, PutOk, GiftOk}
+use Rattle.ev_name_laws.specs.Names.{Bit, Named, Mail, Drew, At, Off, Entered, Owns, Gave, AllOf, ValueOk, ValuesOk, NameOk, EntryOk, MessageOk, StandingOk, KnownOk, CellOk, FreedomOk, ViewOk, BoundOk, NounOk, ThingOk, PassedOk, PassedsOk, NoteOk, GoesOk, PutOk, GiftOk}
 use Rattle.ev_machine.specs.Refs.{Place, Near, Mine, Away, Gone, Parcel}
 use Rattle.ev_machine.specs.Native.{Reply, Says, Writes, Lists as Listed, Iterates, Fails, Asked, MakesList, Ranges, Same, Compares, Loops, SendsTo, CallsTo, MakesPromise, Breaks, Tells, Whens, ThrowsIt, IsStamped, Coerces, AddsNull, NoMethod}
 use Rattle.ev_machine.specs.Scopes.{Answer, Answers, AuditionAsk, GetsForm, GetsGuard, Asks, NoAuditionAsk, ResolverAsk, Resolves, Smashes, NoResolverAsk}
@@ -23,6 +23,11 @@ pub all_append : {A : Type 0} (P : A → Type 0) (xs ys : List A) → AllOf P xs
 all_append P [] ys h k = k
 all_append P (x ∷ xs) ys h k = (h.0, all_append P xs ys h.1 k)
 
+-- what holds, holds of each
+pub all_so : {A : Type 0} (Q : Type 0) (xs : List A) → Q → AllOf (λ (x : A). Q) xs
+all_so Q [] h = tt
+all_so Q (x ∷ xs) h = (h, all_so Q xs h)
+
 pub may_map : {A : Type 0} {P Q : A → Type 0} → ((x : A) → P x → Q x) → (o : Option A) → MayBe P o → MayBe Q o
 may_map f (Some x) h = f x h
 may_map f None h = tt
@@ -36,12 +41,22 @@ module _ {N : Type 0} (P : Bit N → Type 0) where
 
   abbrev pub ChangeOk : Change N → Type 0
   ChangeOk (Hold m) = MessageOk P m
-  ChangeOk (Wait q) = P (Named q)
+  ChangeOk (Wait q) = P (Entered q)
   ChangeOk (WaitOn q) = P (Named q)
   ChangeOk (See q) = P (Named q)
   ChangeOk (React m) = MessageOk P m
   ChangeOk (ToTell w) = Unit {0}
   ChangeOk (Settle y) = ValueOk P y
+
+  -- what a change asks of the name that it changes
+  abbrev pub OnOk : Change N → N → Type 0
+  OnOk (Hold m) n = Unit {0}
+  OnOk (Wait q) n = Unit {0}
+  OnOk (WaitOn q) n = Unit {0}
+  OnOk (See q) n = Unit {0}
+  OnOk (React m) n = Unit {0}
+  OnOk (ToTell w) n = P (Named n)
+  OnOk (Settle y) n = Unit {0}
 
   -- what comes to be known by the vat's own doing; what is learnt from a note is another thing
   abbrev pub ComingOk : {W : Type 0} → Coming N W → Type 0
@@ -96,6 +111,15 @@ pub data Fact (N : Type 0) : Type 0 where
   IsDraw : ℕ → Fact N
   IsVat : ℕ → Fact N
   IsOff : ℕ → Fact N
+  -- a name of which something is known, the name of a gift at its host, and the draw of a gift in hand
+  IsEntry : N → Fact N
+  IsOwned : N → ℕ → Fact N
+  IsGiven : ℕ → Fact N
+  AreEntries : List N → Fact N
+  -- a name of which these vats are to be told is in hand
+  AreTold : N → List ℕ → Fact N
+  -- what is known of that name
+  MayEntry : N → Option (Known N) → Fact N
   AreNames : List N → Fact N
   IsValue : Value N → Fact N
   AreValues : List (Value N) → Fact N
@@ -156,6 +180,12 @@ module _ {N : Type 0} (P : Bit N → Type 0) where
   Holds (IsDraw i) = P (Drew i)
   Holds (IsVat h) = P (At h)
   Holds (IsOff h) = P (Off h)
+  Holds (IsEntry n) = P (Entered n)
+  Holds (IsOwned n i) = P (Owns n i)
+  Holds (IsGiven i) = P (Gave i)
+  Holds (AreEntries ns) = AllOf (EntryOk P) ns
+  Holds (AreTold p ws) = AllOf (λ (w : ℕ). P (Named p)) ws
+  Holds (MayEntry p o) = MayBe (λ (k : Known N). KnownOk P k × AllOf (λ (w : ℕ). P (Named p)) k.told) o
   Holds (AreNames ns) = AllOf (NameOk P) ns
   Holds (IsValue v) = ValueOk P v
   Holds (AreValues vs) = ValuesOk P vs
@@ -214,7 +244,7 @@ module _ {N : Type 0} (P Q : Bit N → Type 0) (up : (b : Bit N) → P b → Q b
   standing_up (Settled y) h = value_up y h
 
   pub known_up : (k : Known N) → KnownOk P k → KnownOk Q k
-  known_up k h = (up (Named k.name) h.0, standing_up k.standing h.1, all_map message_up k.held h.2, all_map (λ n. up (Named n)) k.waiting h.3, all_map message_up k.reactions h.4)
+  known_up k h = (up (Entered k.name) h.0, standing_up k.standing h.1, all_map message_up k.held h.2, all_map (λ n. up (Entered n)) k.waiting h.3, all_map message_up k.reactions h.4, all_map (λ w. up (Named k.name)) k.told h.5)
 
   pub cell_up : (c : Cell N) → CellOk P c → CellOk Q c
   cell_up c h = (value_up c.guard h.0, value_up c.value h.1)
@@ -254,7 +284,7 @@ module _ {N : Type 0} (P Q : Bit N → Type 0) (up : (b : Bit N) → P b → Q b
   pub note_up : (n : Note N) → NoteOk P n → NoteOk Q n
   note_up (Deliver m n verb ys) h = (up (Mail m) h.0, up (Named n) h.1, passeds_up ys h.2)
   note_up (Open i n) h = (up (Drew i) h.0, up (Named n) h.1)
-  note_up (Ask p i n) h = (up (Drew i) h.0, up (Named n) h.1)
+  note_up (Ask p i n) h = (up (Gave i) h.0, up (Named n) h.1)
   note_up (SettledTo n y) h = (up (Named n) h.0, passed_up y h.1)
   note_up (Elsewhere n c) h = (up (Named n) h.0, up (At c) h.1)
   note_up (Shorten n c i) h = (up (Named n) h.0, up (Drew i) h.1)
@@ -271,7 +301,7 @@ module _ {N : Type 0} (P Q : Bit N → Type 0) (up : (b : Bit N) → P b → Q b
   put_up p h = (note_up p.note h.0, goes_up p.to p.note h.1)
 
   pub gift_up : (g : GiftEntry N) → GiftOk P g → GiftOk Q g
-  gift_up g h = (up (Named g.name) h.0, up (Drew g.number) h.1)
+  gift_up g h = (up (Owns g.name g.number) h.0, up (Drew g.number) h.1)
 
   place_up : (p : Place N) → PlaceOk P p → PlaceOk Q p
   place_up Near h = tt
@@ -281,12 +311,21 @@ module _ {N : Type 0} (P Q : Bit N → Type 0) (up : (b : Bit N) → P b → Q b
 
   change_up : (c : Change N) → ChangeOk P c → ChangeOk Q c
   change_up (Hold m) h = message_up m h
-  change_up (Wait q) h = up (Named q) h
+  change_up (Wait q) h = up (Entered q) h
   change_up (WaitOn q) h = up (Named q) h
   change_up (See q) h = up (Named q) h
   change_up (React m) h = message_up m h
   change_up (ToTell w) h = tt
   change_up (Settle y) h = value_up y h
+
+  pub on_up : (c : Change N) (n : N) → OnOk P c n → OnOk Q c n
+  on_up (Hold m) n h = tt
+  on_up (Wait q) n h = tt
+  on_up (WaitOn q) n h = tt
+  on_up (See q) n h = tt
+  on_up (React m) n h = tt
+  on_up (ToTell w) n h = up (Named n) h
+  on_up (Settle y) n h = tt
 
   reply_up : (r : Reply N) → ReplyOk P r → ReplyOk Q r
   reply_up (Says v) h = value_up v h
@@ -332,6 +371,12 @@ module _ {N : Type 0} (P Q : Bit N → Type 0) (up : (b : Bit N) → P b → Q b
   holds_up (IsDraw i) h = up (Drew i) h
   holds_up (IsVat w) h = up (At w) h
   holds_up (IsOff w) h = up (Off w) h
+  holds_up (IsEntry n) h = up (Entered n) h
+  holds_up (IsOwned n i) h = up (Owns n i) h
+  holds_up (IsGiven i) h = up (Gave i) h
+  holds_up (AreEntries ns) h = all_map (λ n. up (Entered n)) ns h
+  holds_up (AreTold p ws) h = all_map (λ w. up (Named p)) ws h
+  holds_up (MayEntry p o) h = may_map (λ k i. (known_up k i.0, all_map (λ w. up (Named p)) k.told i.1)) o h
   holds_up (AreNames ns) h = all_map (λ n. up (Named n)) ns h
   holds_up (IsValue v) h = value_up v h
   holds_up (AreValues vs) h = values_up vs h

@@ -8,20 +8,20 @@ use Rattle.ev_machine.specs.Arrive as arrive
 use Rattle.ev_machine.specs.Arrive.{Incoming, Old, New}
 use Rattle.ev_run.specs.World as world
 use Rattle.ev_run.specs.World.{put_at, is_old, read_name, known_after}
-use Rattle.ev_name_laws.specs.Names.{IsEventual, IsMessageName, Bit, Named, Mail, Drew, At, IsAmong, promises_of, WasMade, IsMessageMade, IsMade, ValueOk, PassedOk, PassedsOk, NoteOk, names_in, IsKnownIn, IsPlain, KnownOk, Parts}
-use Rattle.ev_name_laws.proofs.Facts.{all_end, Fact, Nothing, Also, IsName, IsMail, IsDraw, IsVat, IsValue, AreValues, nothing, Holds, holds_up}
+use Rattle.ev_name_laws.specs.Names.{IsEventual, IsMessageName, Bit, Named, Mail, Drew, At, Gave, bare, IsAmong, promises_of, WasMade, IsMessageMade, IsMade, ValueOk, PassedOk, PassedsOk, NoteOk, names_in, IsKnownIn, IsPlain, KnownOk, Parts}
+use Rattle.ev_name_laws.proofs.Facts.{all_end, Fact, Nothing, Also, IsName, IsMail, IsDraw, IsGiven, IsVat, IsValue, AreValues, nothing, Holds, holds_up}
 use Rattle.ev_name_laws.proofs.Care.{Sound, Ends, Gets, Fine, got, got_left, got_itself, got_ref, fine_give, parts_up, begun_ok, come_gift}
-use Rattle.ev_name_laws.proofs.CareArrive.{fine_ask_for, fine_make_list, fine_arrive_ask, fine_delivered, fine_opened, fine_went, fine_shortened}
+use Rattle.ev_name_laws.proofs.CareArrive.{Gifts, gifts_by, fine_ask_for, fine_make_list, fine_arrive_ask, fine_delivered, fine_opened, fine_went, fine_shortened}
 use Rattle.ev_name_laws.proofs.CareRefs.{fine_settle}
 use Rattle.ev_name_laws.proofs.Among.{among_more, among_last, among_or, among_is, names_end}
 use Rattle.ev_name_laws.proofs.SameNames.{new_eventual, false_true, old_known, new_unknown}
-use Rattle.ev_name_laws.proofs.Tracked.{IsTold, Marked, count_same, follows_trans, follows_known, kept_known, kept_mail, known_among, Ok, Goes, Onward, quiet, made_on, ok_on, tracked, tracked_under}
+use Rattle.ev_name_laws.proofs.Tracked.{IsTold, Marked, count_same, follows_trans, follows_known, kept_known, kept_mail, known_among, Ok, Goes, Onward, quiet, made_on, ok_on, tracked, tracked_under, tracked_gives}
 use Rattle.ev_name_laws.proofs.TrackedViews.{tracked_views}
 
 module _ (news : Bool) (M : Marked) (vats : List (Vat Name)) (v : ℕ) (q : Vat Name) (there : slice_get vats v ≡ Some q) (here : M.mark (At v)) (word : ℕ → ℕ) (us : List (Vat Name)) (d0 : ℕ) where
   -- what was made before, and is marked
   abbrev pub Was : Bit Name → Type 0
-  Was b = IsMade us d0 b × M.mark b
+  Was b = IsMade us d0 b × M.mark (bare b)
 
   abbrev pub Good : Vat Name → Bit Name → Type 0
   Good s b = Ok news M vats v q there here s b
@@ -271,16 +271,16 @@ module _ (news : Bool) (M : Marked) (vats : List (Vat Name)) (v : ℕ) (q : Vat 
   same_given : (a b : Name) (s t : Vat Name) → Gives a s ≡ Gives b t → b ≡ a
   same_given a b s t e = cc
 
-  come_known : {C : Fact Name} (ks : List Name) (h i : ℕ) → Gets (tracked news M vats v q there here) C (IsDraw i) → Gets (tracked news M vats v q there here) C (IsVat h) → Learns ks C (come (naming word v) (IsGift h i) h) (ks ++ Gift h i ∷ []) IsName
+  come_known : {C : Fact Name} (ks : List Name) (h i : ℕ) → Gets (tracked news M vats v q there here) C (IsGiven i) → Gets (tracked news M vats v q there here) C (IsVat h) → Learns ks C (come (naming word v) (IsGift h i) h) (ks ++ Gift h i ∷ []) IsName
   unfolding come naming name_of
-  come_known ks w i g at = let f = come_gift (naming word v) (tracked news M vats v q there here) (tracked_under news M vats v q there here word) w i g at in record { after = λ s h k c. gift_ends ks s (Gift w i) (come (naming word v) (IsGift w i) w s) (λ a t e. same_given (Gift w i) a (record s { known = s.known ++ begun (Gift w i) w ∷ [] }) t e) k (f.after s h c) }
+  come_known ks w i g at = let f = come_gift (naming word v) (tracked news M vats v q there here) (tracked_under news M vats v q there here word) (tracked_gives news M vats v q there here word) w i g at in record { after = λ s h k c. gift_ends ks s (Gift w i) (come (naming word v) (IsGift w i) w s) (λ a t e. same_given (Gift w i) a (record s { known = s.known ++ begun (Gift w i) w ∷ [] }) t e) k (f.after s h c) }
 
   learn_gift : {C : Fact Name} (ks : List Name) (p h i : ℕ) → M.mark (At h) → i < d0 → Learns ks C (arrive.learn_gift (naming word v) p h i) (ks ++ Gift h i ∷ []) IsValue
   unfolding arrive.learn_gift
-  learn_gift {C = C} ks p h i at l = let S = tracked news M vats v q there here in let D : Fact Name = Also (IsDraw i) (IsVat h) in record {
-    after = λ s g k c. (learns_bind {C = D} {H = IsValue} IsName (come_known {C = D} ks h i (got_left S (IsDraw i) (IsVat h) (IsDraw i) (got_itself S (IsDraw i))) (got S (IsDraw i) (IsVat h))) (λ n. learns_then {C = Also D (IsName n)} nothing
-        (learns_fine (fine_ask_for (naming word v) S (tracked_under news M vats v q there here word) p h i (got_left S D (IsName n) (IsDraw i) (got_left S (IsDraw i) (IsVat h) (IsDraw i) (got_itself S (IsDraw i)))) n (got S D (IsName n))))
-        (learns_fine (fine_give S (Ref n) (got_ref S (Also D (IsName n)) n (got S D (IsName n))))))).after s g k ((k.made (Drew i) l, tt, tt, M.draw i), (tt, tt, tt, at));
+  learn_gift {C = C} ks p h i at l = let S = tracked news M vats v q there here in let D : Fact Name = Also (IsGiven i) (IsVat h) in record {
+    after = λ s g k c. (learns_bind {C = D} {H = IsValue} IsName (come_known {C = D} ks h i (got_left S (IsGiven i) (IsVat h) (IsGiven i) (got_itself S (IsGiven i))) (got S (IsGiven i) (IsVat h))) (λ n. learns_then {C = Also D (IsName n)} nothing
+        (learns_fine (fine_ask_for (naming word v) S (tracked_under news M vats v q there here word) p h i (got_left S D (IsName n) (IsGiven i) (got_left S (IsGiven i) (IsVat h) (IsGiven i) (got_itself S (IsGiven i)))) n (got S D (IsName n))))
+        (learns_fine (fine_give S (Ref n) (got_ref S (Also D (IsName n)) n (got S D (IsName n))))))).after s g k ((k.made (Gave i) l, tt, tt, M.draw i), (tt, tt, tt, at));
   }
 
   mutual
@@ -296,6 +296,9 @@ module _ (news : Bool) (M : Marked) (vats : List (Vat Name)) (v : ℕ) (q : Vat 
     learn_all p (More y ys) ks m = learns_bind IsValue (learn p y ks m.0) (λ x. learns_bind AreValues (learn_all p ys (world.read_passed y ks).known m.1) (λ xs. learns_fine (fine_give (tracked news M vats v q there here) (x ∷ xs) (record { at = λ s c. (c.0.1, c.1) }))))
 
   -- ---- notes
+
+  abbrev tracked_gifts : Gifts (naming word v) (tracked news M vats v q there here)
+  tracked_gifts = gifts_by (naming word v) (tracked news M vats v q there here) (tracked_under news M vats v q there here word) (tracked_gives news M vats v q there here word)
 
   message_name : (m : Name) → IsMessageMade us m → IsMessageName m
   message_name (Sent m) h = tt
@@ -318,6 +321,10 @@ module _ (news : Bool) (M : Marked) (vats : List (Vat Name)) (v : ℕ) (q : Vat 
   with_draw : {A : Type 0} (ks : List Name) (i : ℕ) (m : Act Name A) → i < d0 → Reads ks (IsDraw i) m → Reads ks Nothing m
   with_draw ks i m l h = record { after = λ s g k c. h.after s g k (k.made (Drew i) l, tt, tt, M.draw i) }
 
+  -- and of a gift in hand
+  with_given : {A : Type 0} (ks : List Name) (i : ℕ) (m : Act Name A) → i < d0 → Reads ks (IsGiven i) m → Reads ks Nothing m
+  with_given ks i m l h = record { after = λ s g k c. h.after s g k (k.made (Gave i) l, tt, tt, M.draw i) }
+
   -- with a vat that is marked
   with_vat : {A : Type 0} (ks : List Name) (w : ℕ) (m : Act Name A) → M.mark (At w) → Reads ks (IsVat w) m → Reads ks Nothing m
   with_vat ks w m at h = record { after = λ s g k c. h.after s g k (tt, tt, tt, at) }
@@ -326,8 +333,8 @@ module _ (news : Bool) (M : Marked) (vats : List (Vat Name)) (v : ℕ) (q : Vat 
   unfolding arrive.arrive world.read_note arrive.arrive_deliver arrive.arrive_open arrive.arrive_settled arrive.arrive_elsewhere arrive.arrive_shorten
   reads_note from ks (Deliver m n verb ys) h = reads_bind IsMail (message_learned ks m (host_of m) h.0) (λ id. reads_bind AreValues (learn_all from ys ks h.2) (λ args. reads_bind IsName (learn_name (world.read_all ys ks).known n h.1)
       (λ x. reads_fine (fine_delivered (naming word v) (tracked news M vats v q there here) (tracked_under news M vats v q there here word) from id (record { at = λ s c. c.0.0.1 }) x (record { at = λ s c. c.1 }) verb args (record { at = λ s c. c.0.1 })))))
-  reads_note from ks (Open i n) h = with_draw ks i _ h.0.0 (reads_bind IsName (learn_name ks n h.1) (λ y. reads_fine (fine_opened (naming word v) (tracked news M vats v q there here) (tracked_under news M vats v q there here word) from i (record { at = λ s c. c.0 }) y (record { at = λ s c. c.1 }))))
-  reads_note from ks (Ask p i n) h = with_draw ks i _ h.0.0 (reads_fine (fine_arrive_ask (naming word v) (tracked news M vats v q there here) (tracked_under news M vats v q there here word) from p i (record { at = λ s c. c })))
+  reads_note from ks (Open i n) h = with_draw ks i _ h.0.0 (reads_bind IsName (learn_name ks n h.1) (λ y. reads_fine (fine_opened (naming word v) (tracked news M vats v q there here) (tracked_under news M vats v q there here word) tracked_gifts from i (record { at = λ s c. c.0 }) y (record { at = λ s c. c.1 }))))
+  reads_note from ks (Ask p i n) h = with_given ks i _ h.0.0 (reads_fine (fine_arrive_ask (naming word v) (tracked news M vats v q there here) (tracked_under news M vats v q there here word) tracked_gifts from p i (record { at = λ s c. c })))
   reads_note from ks (SettledTo n y) h = reads_bind IsName (learn_name ks n h.0) (λ x. reads_bind IsValue (learn from y (known_after ks n) h.1) (λ z. reads_fine (fine_settle (naming word v) (tracked news M vats v q there here) (tracked_under news M vats v q there here word) x (record { at = λ s c. c.0.1 }) z (record { at = λ s c. c.1 }))))
   reads_note from ks (Elsewhere n c) h = with_vat ks c _ h.1.1 (reads_bind IsName (learn_name ks n h.0) (λ x. reads_fine (fine_went (naming word v) (tracked news M vats v q there here) (tracked_under news M vats v q there here word) (λ D n g w k. tracked_views news M vats v q there here word n g w k) x (record { at = λ s c. c.1 }) c (record { at = λ s c. c.0 }))))
   reads_note from ks (Shorten n c i) h = with_draw ks i _ h.1.0 (reads_bind IsName (learn_name ks n h.0) (λ x. reads_fine (fine_shortened (naming word v) (tracked news M vats v q there here) (tracked_under news M vats v q there here word) x (record { at = λ s c. c.1 }) i (record { at = λ s c. c.0 }))))

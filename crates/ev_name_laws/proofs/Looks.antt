@@ -1,5 +1,5 @@
 -- What is looked at in a sound state.
-use Rattle.std.proofs.Common.{ℕ, zero, suc, Bool, true, false, List, [], ◌∷◌, Option, Some, None, length}
+use Rattle.std.proofs.Common.{◌≡◌, ℕ, zero, suc, Bool, true, false, List, [], ◌∷◌, Option, Some, None, length, refl, subst}
 use Rattle.std.specs.Prelude.{slice_get}
 use Rattle.ev_machine.specs.Values.{Words, Value, Null, Flag, Number, Letter, Text, Prim, Broken, Items, Ref, Naming, Spot, Own, Foreign, NoObject}
 use Rattle.ev_machine.specs.State.{Message, Standing, Unsettled, WaitsOn, Viewed, Settled, Known, Passed, Passeds, Plain, AGift, Many, NoMore, More, Deliver, Open, Ask, SettledTo, Elsewhere, Shorten, GiftEntry, Vat, Act, each, look, is_in, is_gift}
@@ -8,7 +8,7 @@ use Rattle.ev_machine.specs.Refs.{Place, Near, Mine, Away, Gone, Parcel}
 use Rattle.ev_machine.specs.Arrive as arrive
 use Rattle.ev_machine.specs.Native.{list_at}
 use Rattle.ev_name_laws.specs.Names.{Bit, Named, AllOf, ValueOk, ValuesOk, StandingOk, KnownOk, CellOk, ThingOk, GiftOk, PassedOk, PassedsOk}
-use Rattle.ev_name_laws.proofs.Facts.{MayBe, PlaceOk, Fact, Also, IsName, IsMail, IsDraw, IsVat, IsOff, NoteGoes, AreNames, IsValue, AreValues, IsMessage, AreMessages, IsKnown, AreKnown, IsGiftEntry, AreGifts, IsPlace, MayCell, MayThing, MayKnown, MayGift, DoesPass, DoAllPass, NoteDoes, parcel, nothing}
+use Rattle.ev_name_laws.proofs.Facts.{MayBe, PlaceOk, Fact, Also, IsName, IsMail, IsDraw, IsVat, IsOff, IsEntry, IsGiven, AreEntries, AreTold, MayEntry, NoteGoes, AreNames, IsValue, AreValues, IsMessage, AreMessages, IsKnown, AreKnown, IsGiftEntry, AreGifts, IsPlace, MayCell, MayThing, MayKnown, MayGift, DoesPass, DoAllPass, NoteDoes, parcel, nothing}
 use Rattle.ev_name_laws.proofs.Care.{Care, Spots, Gets, Fine, fine_sees, fine_then, fine_give, got_nothing}
 
 pub get_all : {A : Type 0} (P : A → Type 0) (xs : List A) (n : ℕ) → AllOf P xs → MayBe P (slice_get xs n)
@@ -208,6 +208,23 @@ module _ {N : Type 0} (S : Care N) where
       first : Fine S C (f n) nothing
       first = record { after = λ s i c. (h n).after s i (c, (g.at s c).0) }
 
+  pub each_entry : {C : Fact N} {f : N → Act N (Unit {0})} (ns : List N) → Gets S C (AreEntries ns) → ((n : N) → Fine S (Also C (IsEntry n)) (f n) nothing) → Fine S C (each f ns) nothing
+  unfolding each
+  each_entry {C = C} [] g h = fine_give S tt (got_nothing S C)
+  each_entry {C = C} {f = f} (n ∷ ns) g h = fine_then S nothing first (each_entry ns (record { at = λ s c. (g.at s c).1 }) h)
+    where
+      first : Fine S C (f n) nothing
+      first = record { after = λ s i c. (h n).after s i (c, (g.at s c).0) }
+
+  -- of each vat that is to be told of a name, with that name in hand
+  pub each_told : {C : Fact N} {f : ℕ → Act N (Unit {0})} (p : N) (ws : List ℕ) → Gets S C (AreTold p ws) → ((w : ℕ) → Fine S (Also C (IsName p)) (f w) nothing) → Fine S C (each f ws) nothing
+  unfolding each
+  each_told {C = C} p [] g h = fine_give S tt (got_nothing S C)
+  each_told {C = C} {f = f} p (w ∷ ws) g h = fine_then S nothing first (each_told p ws (record { at = λ s c. (g.at s c).1 }) h)
+    where
+      first : Fine S C (f w) nothing
+      first = record { after = λ s i c. (h w).after s i (c, (g.at s c).0) }
+
   pub each_known : {C : Fact N} {f : Known N → Act N (Unit {0})} (ks : List (Known N)) → Gets S C (AreKnown ks) → ((k : Known N) → Fine S (Also C (IsKnown k)) (f k) nothing) → Fine S C (each f ks) nothing
   unfolding each
   each_known {C = C} [] g h = fine_give S tt (got_nothing S C)
@@ -245,7 +262,7 @@ module _ {N : Type 0} (S : Care N) where
   pub note_open : (C : Fact N) (i : ℕ) (n : N) → Gets S C (IsDraw i) → Gets S C (IsName n) → Gets S C (NoteDoes (Open i n))
   note_open C i n g k = record { at = λ s c. (g.at s c, k.at s c) }
 
-  pub note_ask : (C : Fact N) (p i : ℕ) (n : N) → Gets S C (IsDraw i) → Gets S C (IsName n) → Gets S C (NoteDoes (Ask p i n))
+  pub note_ask : (C : Fact N) (p i : ℕ) (n : N) → Gets S C (IsGiven i) → Gets S C (IsName n) → Gets S C (NoteDoes (Ask p i n))
   note_ask C p i n g k = record { at = λ s c. (g.at s c, k.at s c) }
 
   pub note_settled : (C : Fact N) (n : N) (y : Passed N) → Gets S C (IsName n) → Gets S C (DoesPass y) → Gets S C (NoteDoes (SettledTo n y))
@@ -289,9 +306,6 @@ module _ {N W : Type 0} (K : Naming N W) (S : Care N) where
   pub look_follow : {C : Fact N} (x : Value N) → Gets S C (IsValue x) → Fine S C (look (λ s. refs.follow K s x)) IsValue
   look_follow x g = fine_sees S (λ s. refs.follow K s x) IsValue (λ s h c. follow_ok K (S.ok s) s h.parts.known x (g.at s c))
 
-  pub look_entry : {C : Fact N} (n : N) → Fine S C (look (λ s. refs.entry_of K s.known n)) MayKnown
-  look_entry n = fine_sees S (λ s. refs.entry_of K s.known n) MayKnown (λ s h c. entry_ok K (S.ok s) s.known n h.parts.known)
-
   pub look_target : {C : Fact N} (p : N) (x : Value N) → Gets S C (IsValue x) → Fine S C (look (λ s. refs.target_of K s p x)) IsValue
   look_target p x g = fine_sees S (λ s. refs.target_of K s p x) IsValue (λ s h c. target_ok K (S.ok s) s p x (g.at s c))
 
@@ -299,10 +313,27 @@ module _ {N W : Type 0} (K : Naming N W) (S : Care N) where
   look_parcel x g = fine_sees S (λ s. refs.parcel K s x) parcel (λ s h c. parcel_ok K (S.ok s) s h.parts.known h.parts.lists x (g.at s c))
 
 module _ {N W : Type 0} (K : Naming N W) (S : Care N) (spots : Spots K S) where
+  -- of a name of which others are to be told, it is in hand
+  told_as : (P : Bit N → Type 0) (p : N) (k : Known N) → k.name ≡ p → KnownOk P k → AllOf (λ (w : ℕ). P (Named p)) k.told
+  told_as P p k e h = subst (λ n. AllOf (λ (w : ℕ). P (Named n)) k.told) e h.5
+
+  either_entry : (P : Bit N → Type 0) (p : N) (b : Bool) (k : Known N) (o : Option (Known N)) → K.same k.name p ≡ b → KnownOk P k → MayBe (λ (j : Known N). KnownOk P j × AllOf (λ (w : ℕ). P (Named p)) j.told) o
+      → MayBe (λ (j : Known N). KnownOk P j × AllOf (λ (w : ℕ). P (Named p)) j.told) (elim b [ true ↦ Some k | false ↦ o ])
+  either_entry P p true k o e h i = (h, told_as P p k (spots.alike k.name p e) h)
+  either_entry P p false k o e h i = i
+
+  entered_ok : (P : Bit N → Type 0) (ks : List (Known N)) (p : N) → AllOf (KnownOk P) ks → MayBe (λ (j : Known N). KnownOk P j × AllOf (λ (w : ℕ). P (Named p)) j.told) (refs.entry_of K ks p)
+  unfolding refs.entry_of
+  entered_ok P [] p h = tt
+  entered_ok P (k ∷ ks) p h = either_entry P p (K.same k.name p) k (refs.entry_of K ks p) refl h.0 (entered_ok P ks p h.1)
+
+  pub look_entry : {C : Fact N} (p : N) → Fine S C (look (λ s. refs.entry_of K s.known p)) (MayEntry p)
+  look_entry p = fine_sees S (λ s. refs.entry_of K s.known p) (MayEntry p) (λ s h c. entered_ok (S.ok s) s.known p h.parts.known)
+
   pub look_place : {C : Fact N} (y : Value N) → Gets S C (IsValue y) → Fine S C (look (λ s. refs.place K s y)) IsPlace
   look_place y g = fine_sees S (λ s. refs.place K s y) IsPlace (λ s h c. place_ok K (S.ok s) s (spots.placed s h.more) y (g.at s c))
 
   pub look_place_of : {C : Fact N} (x : Value N) → Gets S C (IsValue x) → Fine S C (look (λ s. refs.place K s (refs.follow K s x))) IsPlace
   look_place_of x g = fine_sees S (λ s. refs.place K s (refs.follow K s x)) IsPlace (λ s h c. place_ok K (S.ok s) s (spots.placed s h.more) (refs.follow K s x) (follow_ok K (S.ok s) s h.parts.known x (g.at s c)))
 
-pub ruleset looks = (look_number, got_answer_host, goes_deliver, goes_open, goes_ask, goes_settled, goes_elsewhere, goes_shorten, look_follow, look_list, look_entry, look_target, look_parcel, look_cell, look_thing, look_gift, look_known, look_gifts, each_message, each_name, each_known, each_gift, got_plain, got_gift, got_many, got_no_more, got_one_more, note_deliver, note_open, note_ask, note_settled, note_elsewhere, note_shorten)
+pub ruleset looks = (look_number, got_answer_host, goes_deliver, goes_open, goes_ask, goes_settled, goes_elsewhere, goes_shorten, look_follow, look_list, look_target, look_parcel, look_cell, look_thing, look_gift, look_known, look_gifts, each_message, each_name, each_entry, each_told, each_known, each_gift, got_plain, got_gift, got_many, got_no_more, got_one_more, note_deliver, note_open, note_ask, note_settled, note_elsewhere, note_shorten)

@@ -9,8 +9,8 @@ use Rattle.ev_machine.specs.Arrive.{arrive, notice}
 use Rattle.ev_run.specs.Draws.{draw_word}
 use Rattle.ev_run.specs.World as world
 use Rattle.ev_run.specs.World.{Script, Program, Opens, Entry, Turn, Carry, CutLink, NoticeLink, Event, Turned, Idle, Carried, CutAt, NoticedAt, Link, World, Run, Goes as Going, Stopped, names, names_of, read_note, put_at}
-use Rattle.ev_name_laws.specs.Names.{Bit, Named, Mail, Drew, At, Off, AllOf, IsAmong, promises_of, messages_of, IsMade, NounOk, MessageOk, NoteOk, KnownOk, Parts, names_in, IsHad, HostIsTrue, IsEventual, PlainOnce, Once}
-use Rattle.ev_name_laws.proofs.Facts.{MayBe, all_map, all_end, all_append, message_up, nouns_up, note_up, Fact, Nothing, Also, IsName, AreNouns, IsMessage, Holds}
+use Rattle.ev_name_laws.specs.Names.{Bit, Named, Mail, Drew, At, Off, Entered, Owns, Gave, bare, AllOf, IsAmong, promises_of, messages_of, IsMade, NounOk, MessageOk, NoteOk, KnownOk, Parts, names_in, IsHad, HostIsTrue, IsEventual, PlainOnce, Once}
+use Rattle.ev_name_laws.proofs.Facts.{MayBe, all_map, all_end, all_append, all_so, message_up, nouns_up, note_up, Fact, Nothing, Also, IsName, AreNouns, IsMessage, Holds}
 use Rattle.ev_name_laws.proofs.Care.{Care, Sound, parts_up}
 use Rattle.ev_name_laws.proofs.Serves.{served_by}
 use Rattle.ev_name_laws.proofs.CareEval.{fine_opening, fine_taking}
@@ -31,6 +31,9 @@ IsInside count (Mail n) = Unit {0}
 IsInside count (Drew i) = Unit {0}
 IsInside count (At h) = h < count
 IsInside count (Off h) = h < count
+IsInside count (Entered n) = host_of n < count
+IsInside count (Owns n i) = host_of n < count
+IsInside count (Gave i) = Unit {0}
 
 -- what follows where each vat of the script knows only vats of it
 abbrev pub Inside : Script → Bit Name → Type 0
@@ -73,11 +76,11 @@ inside script = record {
 
 -- each name was made, is known here, and is of a vat of the script
 abbrev pub Had : Script → World → ℕ → Vat Name → Bit Name → Type 0
-Had script w v s b = IsMade w.vats (length w.drawn) b × IsHad (names_in s.known) s.mails b × IsFar v b × Inside script b
+Had script w v s b = IsMade w.vats (length w.drawn) b × IsHad (names_in s.known) s.mails b × IsFar v b × Inside script (bare b)
 
 -- what may stand in a note
 abbrev pub Told : Script → World → Bit Name → Type 0
-Told script w b = IsMade w.vats (length w.drawn) b × Inside script b
+Told script w b = IsMade w.vats (length w.drawn) b × Inside script (bare b)
 
 -- how vat v of a world stands
 pub record VatStands (script : Script) (w : World) (v : ℕ) (s : Vat Name) : Type 0 where
@@ -164,7 +167,7 @@ module _ (P : Note Name → Type 0) where
   link_holds v w [] h = tt
   link_holds v w (l ∷ ls) h = either_link (world.is_link v w l) l (world.link_at v w ls) h.0 (link_holds v w ls h.1)
 
-pub name_had : (P : Bit Name → Type 0) (ks : List (Known Name)) (n : Name) → AllOf (KnownOk P) ks → IsAmong n (names_in ks) → P (Named n)
+pub name_had : (P : Bit Name → Type 0) (ks : List (Known Name)) (n : Name) → AllOf (KnownOk P) ks → IsAmong n (names_in ks) → P (Entered n)
 name_had P [] n h i = absurd i
 name_had P (k ∷ ks) n h (inl e) = rw (sym e) at h.0.0
 name_had P (k ∷ ks) n h (inr i) = name_had P ks n h.1 i
@@ -231,7 +234,7 @@ module _ (script : Script) where
 
       -- what may stand in a note after it
       abbrev Next_told : Bit Name → Type 0
-      Next_told b = IsMade Next (length t.drawn) b × Inside script b
+      Next_told b = IsMade Next (length t.drawn) b × Inside script (bare b)
 
       links_next : Sound Tracked t → AllOf (λ (l : Link). AllOf (NoteOk Next_told) l.notes) (world.push_all v t.outbox w.links)
       links_next g = push_all_holds (NoteOk Next_told) v t.outbox w.links (all_map (λ p i. note_up (Ok true (inside script) w.vats v s there (low_at w h v s there) t) Next_told (λ b j. (j.0, j.3)) p.note i.0) t.outbox g.parts.outbox)
@@ -244,16 +247,16 @@ module _ (script : Script) where
     put_back_stands x head n (Ejects m y t) e k i = cc
     put_back_stands x head n (Stops c t) e k i = cc
 
-    module _ (parts : Parts (λ b. IsMade w.vats (length w.drawn) b × IsHad (names_in q.known) q.mails b × IsFar v b × Inside script b) q.things q.slots q.lists q.queue q.known q.gifts q.outbox) (kept : Kept v q.number q.known q.mails q.promises) where
-      pub had_ready : (b : Bit Name) → IsMade w.vats (length w.drawn) b × IsHad (names_in q.known) q.mails b × IsFar v b × Inside script b → Ok true (inside script) w.vats v s there (low_at w h v s there) Ready b
+    module _ (parts : Parts (λ b. IsMade w.vats (length w.drawn) b × IsHad (names_in q.known) q.mails b × IsFar v b × Inside script (bare b)) q.things q.slots q.lists q.queue q.known q.gifts q.outbox) (kept : Kept v q.number q.known q.mails q.promises) where
+      pub had_ready : (b : Bit Name) → IsMade w.vats (length w.drawn) b × IsHad (names_in q.known) q.mails b × IsFar v b × Inside script (bare b) → Ok true (inside script) w.vats v s there (low_at w h v s there) Ready b
       unfolding world.readied
       had_ready b i = (made_ready b i.0, i.1, i.2, i.3)
 
       pub sound_ready : Sound Tracked Ready
       unfolding world.readied
-      sound_ready = record { parts = parts_up (λ b. IsMade w.vats (length w.drawn) b × IsHad (names_in q.known) q.mails b × IsFar v b × Inside script b) (Ok true (inside script) w.vats v s there (low_at w h v s there) Ready) had_ready q.things q.slots q.lists q.queue q.known q.gifts [] emptied; more = kept }
+      sound_ready = record { parts = parts_up (λ b. IsMade w.vats (length w.drawn) b × IsHad (names_in q.known) q.mails b × IsFar v b × Inside script (bare b)) (Ok true (inside script) w.vats v s there (low_at w h v s there) Ready) had_ready q.things q.slots q.lists q.queue q.known q.gifts [] emptied; more = kept }
         where
-          emptied : Parts (λ b. IsMade w.vats (length w.drawn) b × IsHad (names_in q.known) q.mails b × IsFar v b × Inside script b) q.things q.slots q.lists q.queue q.known q.gifts []
+          emptied : Parts (λ b. IsMade w.vats (length w.drawn) b × IsHad (names_in q.known) q.mails b × IsFar v b × Inside script (bare b)) q.things q.slots q.lists q.queue q.known q.gifts []
           emptied = record { things = parts.things; slots = parts.slots; lists = parts.lists; queue = parts.queue; known = parts.known; gifts = parts.gifts; outbox = tt }
 
       own_ready : (i : ℕ) → i < promises_of w.vats v → IsAmong (Promise v i) (names_in q.known)
@@ -263,7 +266,7 @@ module _ (script : Script) where
       pub knows_ready : Knows true (inside script) w.vats v s there (low_at w h v s there) (draw_word script.key) w.vats (length w.drawn) (names_in q.known) Ready
       unfolding world.readied
       knows_ready = record {
-        all = λ n a. had_ready (Named n) (name_had (λ b. IsMade w.vats (length w.drawn) b × IsHad (names_in q.known) q.mails b × IsFar v b × Inside script b) q.known n parts.known a);
+        all = λ n a. had_ready (Named n) (name_had (λ b. IsMade w.vats (length w.drawn) b × IsHad (names_in q.known) q.mails b × IsFar v b × Inside script (bare b)) q.known n parts.known a);
         told = λ n i a. a;
         own = own_ready;
         made = made_ready;
@@ -397,10 +400,10 @@ module _ (script : Script) where
   all_roots ns [] f = tt
   all_roots ns (w ∷ ws) f = (f w (inl refl), all_roots ns ws (λ u i. f u (inr i)))
 
-  roots_known : (P : Bit Name → Type 0) (ws : List ℕ) → AllOf (λ (u : ℕ). P (Named (Root u))) ws → AllOf (KnownOk P) (map world.known_root ws)
+  roots_known : (P : Bit Name → Type 0) (ws : List ℕ) → AllOf (λ (u : ℕ). P (Entered (Root u))) ws → AllOf (KnownOk P) (map world.known_root ws)
   unfolding world.known_root begun
   roots_known P [] h = tt
-  roots_known P (w ∷ ws) h = ((h.0, tt, tt, tt, tt), roots_known P ws h.1)
+  roots_known P (w ∷ ws) h = ((h.0, tt, tt, tt, tt, tt), roots_known P ws h.1)
 
   root_back : (ws : List ℕ) (n : Name) → IsAmong n (names_in (map world.known_root ws)) → (u : ℕ) × (n ≡ Root u) × IsAmong u ws
   unfolding world.known_root begun
@@ -462,7 +465,7 @@ module _ (script : Script) where
 
     fresh_parts : Parts (Had script w v Fresh) Fresh.things Fresh.slots Fresh.lists Fresh.queue Fresh.known Fresh.gifts Fresh.outbox
     unfolding world.fresh world.known_root begun
-    fresh_parts = record { things = tt; slots = tt; lists = tt; queue = tt; known = (((tt, inl refl, tt, inside_root script v (λ k. low)), tt, tt, tt, tt), roots_known (Had script w v Fresh) p.knows (each p.knows (λ u i. inr (roots_among p.knows u i)) others)); gifts = tt; outbox = tt }
+    fresh_parts = record { things = tt; slots = tt; lists = tt; queue = tt; known = (((tt, inl refl, tt, inside_root script v (λ k. low)), tt, tt, tt, tt, all_so (Had script w v Fresh (Named (Root v))) (world.knowers v zero script.vats) (tt, inl refl, tt, inside_root script v (λ k. low))), roots_known (Had script w v Fresh) p.knows (each p.knows (λ u i. inr (roots_among p.knows u i)) others)); gifts = tt; outbox = tt }
       where
         each : (us : List ℕ) → ((u : ℕ) → IsAmong u us → IsAmong (Root u) (names_in Fresh.known)) → AllOf (λ (u : ℕ). Inside script (At u)) us → AllOf (λ (u : ℕ). Had script w v Fresh (Named (Root u))) us
         each [] f l = tt

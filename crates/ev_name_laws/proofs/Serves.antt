@@ -5,7 +5,7 @@ use Rattle.ev_machine.specs.State.{Vat, new_promise}
 use Rattle.ev_machine.specs.Refs.{settle, resolve, send, react}
 use Rattle.ev_name_laws.specs.Names.{Named}
 use Rattle.ev_name_laws.proofs.Facts.{Fact, IsName, IsValue, AreValues, nothing}
-use Rattle.ev_name_laws.proofs.Care.{Care, Spots, Under, Makes, Gets, Fine, quiet_told, fine_promise}
+use Rattle.ev_name_laws.proofs.Care.{Care, Spots, Under, Makes, Gets, Fine, quiet_told, got_entry, fine_promise}
 use Rattle.ev_name_laws.proofs.CareRefs.{fine_settle, fine_resolve, fine_send, fine_react}
 
 pub record Serves {N W : Type 0} (K : Naming N W) (S : Care N) : Type 0 where
@@ -44,8 +44,8 @@ served_by K S law makes = record {
   spots = law.spots;
   object = λ s i. law.object s i;
   promises = λ C. fine_promise K S law makes;
-  breaks = λ C p g t. fine_settle K S law p g (Broken t) (record { at = λ s c. tt });
-  resolves = λ C p g y h. fine_resolve K S law p g y h;
+  breaks = λ C p g t. fine_settle K S law p (got_entry S C p g) (Broken t) (record { at = λ s c. tt });
+  resolves = λ C p g y h. fine_resolve K S law p (got_entry S C p g) y h;
   sends = λ C act x g verb args h. fine_send K S law makes act x g verb args h;
   reacts = λ C act x g o h near k. fine_react K S law makes act x g o h near k;
 }

@@ -7,9 +7,9 @@ use Rattle.ev_machine.specs.Refs.{Mine, Away}
 use Rattle.ev_machine.specs.Values.{Name, Root, Object, Promise, Answer, Gift, Sent, Msg, Own, Foreign, NoObject, same_reference, spot_of, host_of, Naming, naming, name_of, answer_of, mail_of}
 use Rattle.ev_machine.specs.State.{Known, Standing, Unsettled, WaitsOn, Viewed, Settled, Change, Hold, Wait, WaitOn, See, React, ToTell, Settle, Vat, with_change, changed, changed_to, unless_settled, begun}
 use Rattle.ev_run.specs.World.{put_at}
-use Rattle.ev_name_laws.specs.Names.{Bit, Named, Mail, Drew, At, Off, AllOf, IsAmong, promises_of, messages_of, IsMade, names_in, IsKnownIn, IsHad, HostIsTrue, IsEventual, IsMessageName, IsPlain, PlainOnce}
+use Rattle.ev_name_laws.specs.Names.{Bit, Named, Mail, Drew, At, Off, Entered, Owns, Gave, bare, AllOf, IsAmong, promises_of, messages_of, IsMade, names_in, IsKnownIn, IsHad, HostIsTrue, IsEventual, IsMessageName, IsPlain, PlainOnce}
 use Rattle.ev_name_laws.proofs.Facts.{all_end, PlaceOk}
-use Rattle.ev_name_laws.proofs.Care.{ViewsNone, Care, Spots, Under, Makes}
+use Rattle.ev_name_laws.proofs.Care.{ViewsNone, Care, Alike, Spots, Under, Giving, Makes}
 use Rattle.ev_name_laws.proofs.SameNames.{false_true, reference_is}
 use Rattle.ev_name_laws.proofs.Views.{AllLookOn, look_on_end, look_on_change}
 use Rattle.ev_name_laws.proofs.Among.{among_more, among_last, among_or, among_is, names_end, length_end, plain_end, get_put, promises_grow, messages_grow, promises_at, messages_at, is_made_up}
@@ -43,6 +43,9 @@ IsFar v (Named n) = Unit {0}
 IsFar v (Mail n) = Unit {0}
 IsFar v (Drew i) = Unit {0}
 IsFar v (At h) = Unit {0}
+IsFar v (Entered n) = Unit {0}
+IsFar v (Owns n i) = Unit {0}
+IsFar v (Gave i) = Unit {0}
 
 -- how the count of messages goes on: where new ones may be made, and where none are
 abbrev pub Counts : Bool → ℕ → ℕ → Type 0
@@ -256,7 +259,7 @@ kept_promise v number ks ms p h = let k : Known Name = begun (Promise v p) numbe
 
 module _ (news : Bool) (M : Marked) (vats : List (Vat Name)) (v : ℕ) (q : Vat Name) (there : slice_get vats v ≡ Some q) (here : M.mark (At v)) where
   abbrev pub Ok : Vat Name → Bit Name → Type 0
-  Ok s b = IsMade (put_at v s vats) (length s.drawn) b × IsHad (names_in s.known) s.mails b × IsFar v b × M.mark b
+  Ok s b = IsMade (put_at v s vats) (length s.drawn) b × IsHad (names_in s.known) s.mails b × IsFar v b × M.mark (bare b)
 
   abbrev pub Goes : Vat Name → Vat Name → Type 0
   Goes s t = Follows news (IsTold v) (names_in s.known) s.mails s.promises s.messages (length s.drawn) (names_in t.known) t.mails t.promises t.messages (length t.drawn)
@@ -279,6 +282,9 @@ module _ (news : Bool) (M : Marked) (vats : List (Vat Name)) (v : ℕ) (q : Vat 
   had_up T s t r (Drew i) h = tt
   had_up T s t r (At w) h = tt
   had_up T s t r (Off w) h = tt
+  had_up T s t r (Entered n) h = known_up (names_in s.known) (names_in t.known) r.names n h
+  had_up T s t r (Owns n i) h = known_up (names_in s.known) (names_in t.known) r.names n h
+  had_up T s t r (Gave i) h = tt
 
   pub ok_on : (T : Name → Type 0) (s t : Vat Name) → Onward T s t → (b : Bit Name) → Ok s b → Ok t b
   ok_on T s t r b h = (made_on T s t r b h.0, had_up T s t r b h.1, h.2, h.3)
@@ -293,6 +299,10 @@ module _ (news : Bool) (M : Marked) (vats : List (Vat Name)) (v : ℕ) (q : Vat 
     up = λ s t r b h. ok_on (IsTold v) s t r b h;
     here = λ s h. (tt, tt, tt, subst (λ w. M.mark (At w)) (sym h.number) here);
     near = λ s w h. (tt, tt, tt, M.near w h.3);
+    entered = λ s n h. h;
+    owned = λ s n i h. h;
+    owner = λ s n i h k. h;
+    drew = λ s i h. h;
     fuel = λ s n. (quiet s, λ h. h);
     told = λ s e n. (quiet s, λ h. h);
     activations = λ s. (quiet s, λ h. h);
@@ -379,7 +389,7 @@ module _ (news : Bool) (M : Marked) (vats : List (Vat Name)) (v : ℕ) (q : Vat 
 
     tracked_spots : Spots (naming word v) tracked
     unfolding naming
-    tracked_spots = record { placed = spots_far }
+    tracked_spots = record { alike = λ a b e. reference_is a b e; placed = spots_far }
 
     pub tracked_under : Under (naming word v) tracked
     unfolding naming name_of answer_of mail_of
@@ -389,14 +399,23 @@ module _ (news : Bool) (M : Marked) (vats : List (Vat Name)) (v : ℕ) (q : Vat 
       happened = λ s e. (quiet s, λ h. h);
       queue = λ s m. (quiet s, λ h. h);
       outbox = λ s p h. (quiet s, λ h. h);
-      gift = λ s g h. (quiet s, λ h. h);
       opened = λ s p i. (quiet s, λ h. h);
       noticed = λ s w. (quiet s, λ h. h);
       drawn = λ s w. (follows_drawn news (IsTold v) (names_in s.known) s.mails s.promises s.messages s.drawn w, λ h. h, (let e : length (s.drawn ++ w ∷ []) ≡ suc (length s.drawn) = length_end s.drawn w in omega arith, tt, tt, M.draw (length s.drawn)));
       altered = λ s c n none h. (follows_change (naming word v) news (IsTold v) c n s.known s.mails s.promises s.messages (length s.drawn), λ k. kept_change (naming word v) v s.number c n s.known s.mails s.promises none k);
       answered = λ s h n l at. answered_ok s h n l at.3;
-      given = λ s h i l at. gift_made s h i l.0 at.3;
     }
+
+    pub tracked_gives : Giving (naming word v) tracked
+    unfolding naming name_of
+    tracked_gives = record {
+      gift = λ s g h. (quiet s, λ h. h);
+      given = λ s h i l at. gift_made s h i l.0 at.3;
+      hosted = λ s i k l. gift_made s s.number i l.0 (subst (λ w. M.mark (At w)) (sym k.number) here);
+    }
+
+    pub tracked_alike : Alike tracked
+    tracked_alike = record { named = λ s n h. h; owns = λ s n i h. h; gave = λ s i h. h }
 
 -- where new messages may be made
 module _ (M : Marked) (vats : List (Vat Name)) (v : ℕ) (q : Vat Name) (there : slice_get vats v ≡ Some q) (here : M.mark (At v)) (word : ℕ → ℕ) where

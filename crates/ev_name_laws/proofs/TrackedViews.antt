@@ -6,14 +6,14 @@ use Rattle.ev_machine.specs.Values.{Name, Gift, IsGift, naming, name_of}
 use Rattle.ev_machine.specs.State.{Known, See, Wait, Shorten, Ask, Views, GiftEntry, Vat, Done, Gives, Throws, Ejects, Stops, ◌>>=◌, ◌>>◌, and_then, give, look, tell, send_out, come, new_gift, alter, draw, draws, with_change, is_gift, begun}
 use Rattle.ev_machine.specs.Refs.{host_at}
 use Rattle.ev_machine.specs.Arrive as arrive
-use Rattle.ev_name_laws.specs.Names.{Named, Drew, At, AllOf, IsAmong, names_in, KnownOk, GiftOk}
-use Rattle.ev_name_laws.proofs.Facts.{Fact, Nothing, Also, IsName, IsDraw, IsVat, nothing}
+use Rattle.ev_name_laws.specs.Names.{Named, Drew, At, Gave, AllOf, IsAmong, names_in, KnownOk, GiftOk}
+use Rattle.ev_name_laws.proofs.Facts.{Fact, Nothing, Also, IsName, IsDraw, IsGiven, IsVat, nothing}
 use Rattle.ev_name_laws.proofs.Care.{Care, Sound, Ends, Gets, Fine, widen, still, changes_ok, fine_tell, fine_out, fine_wait}
 use Rattle.ev_name_laws.proofs.Looks.{note_shorten, goes_shorten}
 use Rattle.ev_name_laws.proofs.CareArrive.{fine_gift_there}
 use Rattle.ev_name_laws.proofs.SameNames.{reference_is}
 use Rattle.ev_name_laws.proofs.Views.{AllLookOn, look_on_see}
-use Rattle.ev_name_laws.proofs.Tracked.{IsTold, Marked, Kept, Ok, Goes, ok_on, follows_change, names_change, same_name, kept_looking, tracked, tracked_under}
+use Rattle.ev_name_laws.proofs.Tracked.{IsTold, Marked, Kept, Ok, Goes, ok_on, follows_change, names_change, same_name, kept_looking, tracked, tracked_under, tracked_gives}
 
 less_not : (i j : ℕ) → i < j → i ≡ j → ⊥
 less_not i j h e = omega arith
@@ -88,7 +88,7 @@ module _ (news : Bool) (M : Marked) (vats : List (Vat Name)) (v : ℕ) (q : Vat 
   seen t ks k n g h b e f new other = let u : Vat Name = record t { known = with_change (naming word v) (See g) n t.known } in
       let r : Goes news M vats v q there here t u = follows_change (naming word v) news (IsTold v) (See g) n t.known t.mails t.promises t.messages (length t.drawn) in let p = still S t u r h in
       let good : S.ok u (Named g) = ok_on news M vats v q there here (IsTold v) t u r (Named g) b in
-      (r, record { parts = record { things = p.things; slots = p.slots; lists = p.lists; queue = p.queue; known = changes_ok (naming word v) S (tracked_under news M vats v q there here word) (S.ok u) (See g) n t.known good p.known; gifts = p.gifts; outbox = p.outbox }; more = see_known t t ks k n g e f new other h.more })
+      (r, record { parts = record { things = p.things; slots = p.slots; lists = p.lists; queue = p.queue; known = changes_ok (naming word v) S (tracked_under news M vats v q there here word) (S.ok u) (See g) n t.known good (λ a e. tt) p.known; gifts = p.gifts; outbox = p.outbox }; more = see_known t t ks k n g e f new other h.more })
 
   see_ends : (s : Vat Name) (ks : List (Known Name)) (k : Known Name) (n g : Name) → Sound S s → S.ok s (Named n) → S.ok s (Named g) → s.known ≡ ks ++ k ∷ [] → k.name ≡ g → (IsAmong g (names_in ks) → ⊥) → (n ≡ g → ⊥) → Ends S nothing s (arrive.see (naming word v) n g s)
   unfolding arrive.see ◌>>◌ and_then tell alter
@@ -97,7 +97,7 @@ module _ (news : Bool) (M : Marked) (vats : List (Vat Name)) (v : ℕ) (q : Vat 
       let u : Vat Name = record t { known = with_change (naming word v) (See g) n t.known } in
       let after = seen t ks k n g told.1 (ok_on news M vats v q there here (IsTold v) s t told.0 (Named g) b) e f new other in
       let known : S.ok u (Named n) = ok_on news M vats v q there here (IsTold v) t u after.0 (Named n) (ok_on news M vats v q there here (IsTold v) s t told.0 (Named n) a) in
-      let last = (fine_wait (naming word v) S (tracked_under news M vats v q there here word) {C = IsName n} n g (record { at = λ r c. c })).after u after.1 known in
+      let last = (fine_wait (naming word v) S (tracked_under news M vats v q there here word) {C = IsName n} n g (record { at = λ r c. S.entered r n c })).after u after.1 known in
       let d : Done Name (Unit {0}) = alter (naming word v) (Wait n) g u in widen S {A = Unit {0}} nothing s t d told.0 (widen S {A = Unit {0}} nothing t u d after.0 last)
 
   -- ---- the gift and the view
@@ -109,9 +109,9 @@ module _ (news : Bool) (M : Marked) (vats : List (Vat Name)) (v : ℕ) (q : Vat 
   gift_then s n i (Ejects m y t) h l a new other = h
   gift_then s n i (Stops c t) h l a new other = tt
 
-  put_then : (s : Vat Name) (u h i c : ℕ) (n : Name) → Sound S s → S.ok s (Named n) → S.ok s (At c) → S.ok s (Drew i) → arrive.gift_at h i s.gifts ≡ None → ((x : ℕ) → IsAmong (Gift x i) (names_in s.known) → ⊥) → ((x : ℕ) → n ≡ Gift x i → ⊥)
+  put_then : (s : Vat Name) (u h i c : ℕ) (n : Name) → Sound S s → S.ok s (Named n) → S.ok s (At c) → S.ok s (Gave i) → arrive.gift_at h i s.gifts ≡ None → ((x : ℕ) → IsAmong (Gift x i) (names_in s.known) → ⊥) → ((x : ℕ) → n ≡ Gift x i → ⊥)
       → Ends S nothing s (and_then (arrive.gift_there (naming word v) u h c i s) (λ g. arrive.see (naming word v) n g))
-  put_then s u w i c n h a at b e new other = gift_then s n i (arrive.gift_there (naming word v) u w c i s) ((fine_gift_there (naming word v) S (tracked_under news M vats v q there here word) {C = Also (IsDraw i) (IsVat c)} u w c i (record { at = λ r d. d.1 }) (record { at = λ r d. d.0 })).after s h (b, at)) (gift_last s u w c i e) a new other
+  put_then s u w i c n h a at b e new other = gift_then s n i (arrive.gift_there (naming word v) u w c i s) ((fine_gift_there (naming word v) S (tracked_under news M vats v q there here word) (tracked_gives news M vats v q there here word) {C = Also (IsGiven i) (IsVat c)} u w c i (record { at = λ r d. d.1 }) (record { at = λ r d. d.0 })).after s h (b, at)) (gift_last s u w c i e) a new other
 
   drawn_then : (s : Vat Name) (u h c : ℕ) (n : Name) (w : ℕ) (o : Option ℕ) → Sound S s → S.ok s (Named n) → S.ok s (At c)
       → Ends S nothing s (and_then (draws w o s) (λ i. send_out h (Shorten n c i) >> (arrive.gift_there (naming word v) u h c i >>= (λ g. arrive.see (naming word v) n g))))

@@ -14,6 +14,23 @@ pub data Bit (N : Type 0) : Type 0 where
   -- a vat, and another vat than that of the state
   At : ℕ → Bit N
   Off : ℕ → Bit N
+  -- a name of which something is known, in hand or not
+  Entered : N → Bit N
+  -- the name of a gift at its host, and its draw
+  Owns : N → ℕ → Bit N
+  -- the draw of a gift that is in hand
+  Gave : ℕ → Bit N
+
+-- what that is of names, messages, draws and vats, be they in hand or not
+abbrev pub bare : {N : Type 0} → Bit N → Bit N
+bare (Named n) = Named n
+bare (Mail n) = Mail n
+bare (Drew i) = Drew i
+bare (At h) = At h
+bare (Off h) = Off h
+bare (Entered n) = Named n
+bare (Owns n i) = Named n
+bare (Gave i) = Drew i
 
 -- it holds of each
 abbrev pub AllOf : {A : Type 0} → (A → Type 0) → List A → Type 0
@@ -53,8 +70,12 @@ module _ {N : Type 0} (P : Bit N → Type 0) where
   StandingOk (Viewed q) = P (Named q)
   StandingOk (Settled y) = ValueOk y
 
+  abbrev pub EntryOk : N → Type 0
+  EntryOk n = P (Entered n)
+
+  -- What is known of a name, and what waits on it, is not in hand for that; but a name of which a vat is to be told is.
   abbrev pub KnownOk : Known N → Type 0
-  KnownOk k = P (Named k.name) × StandingOk k.standing × AllOf MessageOk k.held × AllOf NameOk k.waiting × AllOf MessageOk k.reactions
+  KnownOk k = P (Entered k.name) × StandingOk k.standing × AllOf MessageOk k.held × AllOf EntryOk k.waiting × AllOf MessageOk k.reactions × AllOf (λ (w : ℕ). P (Named k.name)) k.told
 
   abbrev pub CellOk : Cell N → Type 0
   CellOk c = ValueOk c.guard × ValueOk c.value
@@ -94,7 +115,7 @@ module _ {N : Type 0} (P : Bit N → Type 0) where
   abbrev pub NoteOk : Note N → Type 0
   NoteOk (Deliver m n verb ys) = P (Mail m) × P (Named n) × PassedsOk ys
   NoteOk (Open i n) = P (Drew i) × P (Named n)
-  NoteOk (Ask p i n) = P (Drew i) × P (Named n)
+  NoteOk (Ask p i n) = P (Gave i) × P (Named n)
   NoteOk (SettledTo n y) = P (Named n) × PassedOk y
   NoteOk (Elsewhere n c) = P (Named n) × P (At c)
   NoteOk (Shorten n c i) = P (Named n) × P (Drew i)
@@ -112,7 +133,7 @@ module _ {N : Type 0} (P : Bit N → Type 0) where
   PutOk p = NoteOk p.note × GoesOk p.to p.note
 
   abbrev pub GiftOk : GiftEntry N → Type 0
-  GiftOk g = P (Named g.name) × P (Drew g.number)
+  GiftOk g = P (Owns g.name g.number) × P (Drew g.number)
 
   -- of every name in all that a vat has
   pub record Parts (ts : List (Thing N)) (cs : List (Cell N)) (ls : List (List (Value N))) (ms : List (Message N)) (ks : List (Known N)) (gs : List (GiftEntry N)) (ps : List (Put N)) : Type 0 where
@@ -160,6 +181,9 @@ IsMade vats draws (Mail n) = IsMessageMade vats n
 IsMade vats draws (Drew i) = i < draws
 IsMade vats draws (At h) = Unit {0}
 IsMade vats draws (Off h) = Unit {0}
+IsMade vats draws (Entered n) = WasMade vats draws n
+IsMade vats draws (Owns n i) = WasMade vats draws n
+IsMade vats draws (Gave i) = i < draws
 
 -- ---- names that a vat knows
 
@@ -178,6 +202,9 @@ IsHad ns mails (Mail n) = IsAmong n mails
 IsHad ns mails (Drew i) = Unit {0}
 IsHad ns mails (At h) = Unit {0}
 IsHad ns mails (Off h) = Unit {0}
+IsHad ns mails (Entered n) = IsKnownIn ns n
+IsHad ns mails (Owns n i) = IsKnownIn ns n
+IsHad ns mails (Gave i) = Unit {0}
 
 -- the vat that tells of it is its host
 abbrev pub HostIsTrue : Known Name → Type 0

@@ -7,7 +7,7 @@ use Rattle.ev_machine.specs.Refs.{host_at}
 use Rattle.ev_machine.specs.Arrive as arrive
 use Rattle.ev_machine.specs.Arrive.{Incoming, Old, New}
 use Rattle.ev_run.specs.World as world
-use Rattle.ev_name_laws.specs.Names.{Bit, Drew, At, IsMade, PassedOk, PassedsOk, NoteOk}
+use Rattle.ev_name_laws.specs.Names.{Bit, Drew, At, bare, IsMade, PassedOk, PassedsOk, NoteOk}
 use Rattle.ev_name_laws.proofs.Facts.{all_end, Fact, Nothing, Also, IsName, IsMail, IsDraw, IsVat, IsValue, AreValues, nothing, Holds}
 use Rattle.ev_name_laws.proofs.Care.{Care, Sound, Ends, Gets, Fine}
 use Rattle.ev_name_laws.proofs.Learn.{Knows, Learned, Learns, rise, learn, learn_all, learn_name, message_learned}
@@ -64,7 +64,7 @@ module _ (M : Marked) (vats : List (Vat Name)) (v : ℕ) (q : Vat Name) (there :
   module _ (us : List (Vat Name)) (d0 : ℕ) where
     -- what was made before, and is marked
     abbrev Was : Bit Name → Type 0
-    Was b = IsMade us d0 b × M.mark b
+    Was b = IsMade us d0 b × M.mark (bare b)
 
     abbrev Known : List Name → Vat Name → Type 0
     Known ks s = Knows true M vats v q there here word us d0 ks s

@@ -8,10 +8,10 @@ use Rattle.ev_machine.specs.Refs as refs
 use Rattle.ev_machine.specs.Refs.{Place, Near, Mine, Away, Gone, entry_of, host_at, host_in, place, spotted, hosted}
 use Rattle.ev_name_laws.specs.Names.{Named, At, AllOf, IsAmong, IsEventual, ValueOk, HostIsTrue, names_in}
 use Rattle.ev_name_laws.proofs.Facts.{all_end, PlaceOk, Fact, Also, IsName, IsDraw, IsOff, IsValue, AreValues, IsMessage, IsPlace, DoesPass, DoAllPass, NoteDoes, NoteGoes, parcel, nothing, Holds}
-use Rattle.ev_name_laws.proofs.Care.{Care, Under, Makes, Sound, Ends, Gets, Fine, widen, rise, fine_give, fine_spend, fine_tell, fine_enqueue, fine_out, fine_gift, fine_open, fine_mark, fine_draw, fine_hold, fine_wait, fine_waits_on, fine_reacts, fine_to_tell, fine_settles, come_answer, come_gift, fine_new_message, fine_promise}
+use Rattle.ev_name_laws.proofs.Care.{Care, Under, Giving, Makes, Sound, Ends, Gets, Fine, widen, rise, fine_give, fine_spend, fine_tell, fine_enqueue, fine_out, fine_gift, fine_open, fine_mark, fine_draw, fine_hold, fine_wait, fine_waits_on, fine_reacts, fine_to_tell, fine_settles, come_answer, come_gift, fine_new_message, fine_promise}
 use Rattle.ev_name_laws.proofs.Looks.{look_parcel, place_ok, note_deliver, note_open, note_ask, note_settled, note_elsewhere, goes_deliver, goes_open, goes_ask, goes_settled, goes_elsewhere}
 use Rattle.ev_name_laws.proofs.SameNames.{reference_is, reference_self}
-use Rattle.ev_name_laws.proofs.Tracked.{Marked, tracked, tracked_under, tracked_makes}
+use Rattle.ev_name_laws.proofs.Tracked.{Marked, tracked, tracked_under, tracked_gives, tracked_makes}
 use Rattle.ev_rest_laws.specs.Notes.{IsOfEither, PassesBetween, AllPassBetween, Carries}
 use Rattle.ev_rest_laws.proofs.CareNotes.{Puts}
 
@@ -53,6 +53,9 @@ module _ (M : Marked) (vats : List (Vat Name)) (v : ℕ) (q : Vat Name) (there :
   under : Under Names T
   under = tracked_under true M vats v q there here word
 
+  gives : Giving Names T
+  gives = tracked_gives true M vats v q there here word
+
   makes : Makes Names T
   makes = tracked_makes M vats v q there here word
 
@@ -70,6 +73,10 @@ module _ (M : Marked) (vats : List (Vat Name)) (v : ℕ) (q : Vat Name) (there :
     up = T.up;
     here = λ s m. T.here s m.0;
     near = T.near;
+    entered = T.entered;
+    owned = T.owned;
+    owner = T.owner;
+    drew = T.drew;
     fuel = λ s n. let r = T.fuel s n in (r.0, λ m. (r.1 m.0, m.1));
     told = λ s e n. let r = T.told s e n in (r.0, λ m. (r.1 m.0, m.1));
     activations = λ s. let r = T.activations s in (r.0, λ m. (r.1 m.0, m.1));
@@ -238,7 +245,7 @@ module _ (M : Marked) (vats : List (Vat Name)) (v : ℕ) (q : Vat Name) (there :
   fits_plain : {C : Fact Name} (w : ℕ) (y : Value Name) (p : Place Name) → Gets V C (IsValue y) → Gets V C (IsPlace p) → PlaceSays y p → Fits C (refs.address_plain Names w y p) DoesPass (PassesBetween v w)
   unfolding refs.address_plain
   fits_plain w y (Away h n o) g k i = away_fits w h n y (h == w) (eqb-true h w) g (record { at = λ s c. (k.at s c).0 }) (record { at = λ s c. (k.at s c).1 }) i
-  fits_plain w y (Mine n) g k i = fits_then nothing (lift (fine_to_tell Names T under w n (record { at = λ s c. tt })) (told_leaves w n)) (fits_give (Plain y) (record { at = λ s c. g.at s c }) (of_either v w v y i (inl refl)))
+  fits_plain w y (Mine n) g k i = fits_then nothing (lift (fine_to_tell Names T under w n (record { at = λ s c. k.at s c })) (told_leaves w n)) (fits_give (Plain y) (record { at = λ s c. g.at s c }) (of_either v w v y i (inl refl)))
   fits_plain w y Near g k i = fits_give (Plain y) (record { at = λ s c. g.at s c }) (of_either v w v y i (inl refl))
   fits_plain w y (Gone t) g k i = fits_give (Plain y) (record { at = λ s c. g.at s c }) (of_either v w v y i (inl refl))
 
@@ -292,7 +299,8 @@ module _ (M : Marked) (vats : List (Vat Name)) (v : ℕ) (q : Vat Name) (there :
   pub fit_puts : Puts Names V
   unfolding enqueue alter come new_gift open_gift mark new_message new_promise
   fit_puts = record {
-    spots = record { placed = λ s m n g. let spots = under.spots in spots.placed s m.0 n g };
+    spots = record { alike = λ a b e. let spots = under.spots in spots.alike a b e; placed = λ s m n g. let spots = under.spots in spots.placed s m.0 n g };
+    alike = record { named = λ s n h. h; owns = λ s n i h. h; gave = λ s i h. h };
     object = λ s i. under.object s i;
     tells = λ C e. fit_tell e;
     queues = λ C m g. lift (fine_enqueue Names T under m (gets_names g)) (λ s o. o);
@@ -303,8 +311,8 @@ module _ (M : Marked) (vats : List (Vat Name)) (v : ℕ) (q : Vat Name) (there :
     to_tell = λ C w n g. lift (fine_to_tell Names T under w n (gets_names g)) (λ s o. o);
     settles = λ C y n g. lift (fine_settles Names T under y n (gets_names g)) (λ s o. o);
     answers = λ C h m g k. lift (come_answer Names T under h m (gets_names g) (gets_names k)) (λ s o. o);
-    gifts = λ C h i g k. lift (come_gift Names T under h i (gets_names g) (gets_names k)) (λ s o. o);
-    gives = λ C n p i g k. lift (fine_gift Names T under n p i (gets_names g) (gets_names k)) (λ s o. o);
+    gifts = λ C h i g k. lift (come_gift Names T under gives h i (record { at = λ s c. g.at s c }) (gets_names k)) (λ s o. o);
+    gives = λ C n p i g k. lift (fine_gift Names T under gives n p i (record { at = λ s c. g.at s c }) (gets_names k)) (λ s o. o);
     opened = λ C p i. lift (fine_open Names T under p i) (λ s o. o);
     marks = λ C w. lift (fine_mark Names T under w) (λ s o. o);
     draws = λ C. fit_draw;
@@ -312,6 +320,6 @@ module _ (M : Marked) (vats : List (Vat Name)) (v : ℕ) (q : Vat Name) (there :
     promises = λ C. lift (fine_promise Names T under makes) (λ s o. o);
     delivers = λ C m g h o n k. fit_deliver m g h o n k;
     informs = λ C p g w y k z l. fit_inform p g w y k z l;
-    asks = λ C to p i n g k. fit_out to (Ask p i n) tt (note_ask V C p i n g k) (goes_ask V C to p i n);
+    asks = λ C to p i n g k. fit_out to (Ask p i n) tt (note_ask V C p i n (record { at = λ s c. g.at s c }) k) (goes_ask V C to p i n);
     opens = λ C to i n g k. fit_out to (Open i n) tt (note_open V C i n g k) (goes_open V C to i n);
   }

@@ -8,7 +8,7 @@ use Rattle.ev_machine.specs.Arrive.{arrive, notice}
 use Rattle.ev_run.specs.Draws.{draw_word}
 use Rattle.ev_run.specs.World as world
 use Rattle.ev_run.specs.World.{Script, Program, Entry, Link, World, Goes as Going, names, names_of, read_note, readied}
-use Rattle.ev_name_laws.specs.Names.{Named, At, AllOf, IsAmong, IsMade, NounOk, MessageOk, NoteOk, Parts, names_in, IsHad, Once}
+use Rattle.ev_name_laws.specs.Names.{Named, At, bare, AllOf, IsAmong, IsMade, NounOk, MessageOk, NoteOk, Parts, names_in, IsHad, Once}
 use Rattle.ev_name_laws.proofs.Facts.{all_map, message_up, nouns_up, note_up, Fact, Nothing, Also, IsName, AreNouns, IsMessage, Holds, nothing}
 use Rattle.ev_name_laws.proofs.Care.{Sound, Fine}
 use Rattle.ev_name_laws.proofs.CareEval.{fine_opening}
@@ -37,7 +37,7 @@ module _ (script : Script) where
 
   -- ---- a step of one vat
 
-  module _ (v : ℕ) (w : World) (s q : Vat Name) (there : slice_get w.vats v ≡ Some s) (same_promises : q.promises ≡ s.promises) (same_messages : q.messages ≡ s.messages) (g : Stands script w) (parts : Parts (λ b. IsMade w.vats (length w.drawn) b × IsHad (names_in q.known) q.mails b × IsFar v b × Inside script b) q.things q.slots q.lists q.queue q.known q.gifts q.outbox) (kept : Kept v q.number q.known q.mails q.promises) where
+  module _ (v : ℕ) (w : World) (s q : Vat Name) (there : slice_get w.vats v ≡ Some s) (same_promises : q.promises ≡ s.promises) (same_messages : q.messages ≡ s.messages) (g : Stands script w) (parts : Parts (λ b. IsMade w.vats (length w.drawn) b × IsHad (names_in q.known) q.mails b × IsFar v b × Inside script (bare b)) q.things q.slots q.lists q.queue q.known q.gifts q.outbox) (kept : Kept v q.number q.known q.mails q.promises) where
     ready_sound : Sound (V (inside script) w.vats v s there (low_at script w g v s there) (draw_word script.key)) (readied w q)
     unfolding readied
     ready_sound = fit_sound (inside script) w.vats v s there (low_at script w g v s there) (draw_word script.key) (readied w q) (sound_ready script v w s q there same_promises same_messages g parts kept) tt

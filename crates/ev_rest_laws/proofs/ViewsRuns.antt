@@ -9,7 +9,7 @@ use Rattle.ev_machine.specs.Arrive.{gift_at}
 use Rattle.ev_run.specs.Draws.{draw_word}
 use Rattle.ev_run.specs.World as world
 use Rattle.ev_run.specs.World.{Script, Program, Entry, World, Goes, names, readied}
-use Rattle.ev_name_laws.specs.Names.{Bit, Named, Drew, AllOf, IsMade, NoteOk, KnownOk, GiftOk, names_in, Once}
+use Rattle.ev_name_laws.specs.Names.{Bit, Drew, Entered, Named, AllOf, IsMade, NoteOk, KnownOk, GiftOk, names_in, Once}
 use Rattle.ev_name_laws.proofs.Run.{Had, Stands, opened_stands}
 use Rattle.ev_rest_laws.specs.Views.{ViewsWait}
 use Rattle.ev_rest_laws.specs.Rest.{ViewsWaitInRuns}
@@ -33,7 +33,7 @@ made_gift vats d a n m e = let less : d < d = rw e at m in no_self d d less refl
 unknown_gift : (word : ℕ → ℕ) (v : ℕ) (vats : List (Vat Name)) (d : ℕ) (P : Bit Name → Type 0) → ((b : Bit Name) → P b → IsMade vats d b) → (a : ℕ) (ks : List (Known Name)) → AllOf (KnownOk P) ks → entry_of (naming word v) ks (Gift a d) ≡ None
 unfolding entry_of naming
 unknown_gift word v vats d P made a [] h = refl
-unknown_gift word v vats d P made a (k ∷ ks) h = pick_other (same_reference k.name (Gift a d)) k (entry_of (naming word v) ks (Gift a d)) (λ e. made_gift vats d a k.name (made (Named k.name) h.0.0) (reference_is k.name (Gift a d) e)) (unknown_gift word v vats d P made a ks h.1)
+unknown_gift word v vats d P made a (k ∷ ks) h = pick_other (same_reference k.name (Gift a d)) k (entry_of (naming word v) ks (Gift a d)) (λ e. made_gift vats d a k.name (made (Entered k.name) h.0.0) (reference_is k.name (Gift a d) e)) (unknown_gift word v vats d P made a ks h.1)
 
 gift_other : (b : Bool) (g : GiftEntry Name) (o : Option (GiftEntry Name)) → (b ≡ true → ⊥) → o ≡ None → ◌≡◌ {A = Option (GiftEntry Name)} (elim b [ true ↦ Some g | false ↦ o ]) None
 gift_other true g o f e = absurd (f refl)

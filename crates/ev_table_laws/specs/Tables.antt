@@ -13,7 +13,7 @@ use Rattle.ev_table_laws.specs.Runs.{NotesBringNew}
 unfoldable pub table_of : World → ℕ → Vat Name → Table
 table_of w v s = record { names = names_in s.known; mails = s.mails; exports = exported_at w.links v }
 
--- in each vat no two numbers stand for one thing
+-- in each vat no two numbers stand for one name or for one object; two may stand for one message, which nothing asks
 abbrev pub EachHasTable : World → Type 0
 EachHasTable w = (v : ℕ) (s : Vat Name) → slice_get w.vats v ≡ Some s → IsTable v (table_of w v s)
 

@@ -158,6 +158,10 @@ module _ (M : Marked) (vats : List (Vat Name)) (v : ℕ) (q : Vat Name) (there :
       up = λ s t r b h. T.up s t r.0 b h;
       here = λ s m. T.here s m.0;
       near = λ s h g. T.near s h g;
+      entered = λ s n h. h;
+      owned = λ s n i h. h;
+      owner = λ s n i h k. h;
+      drew = λ s i h. h;
       fuel = λ s n. let r = T.fuel s n in ((r.0, fuel_grows s n), λ m. (r.1 m.0, m.1));
       told = λ s e n. let r = T.told s e n in ((r.0, told_grows s e n), λ m. (r.1 m.0, m.1));
       activations = λ s. let r = T.activations s in ((r.0, activation_grows s), λ m. (r.1 m.0, m.1));
@@ -198,11 +202,11 @@ module _ (M : Marked) (vats : List (Vat Name)) (v : ℕ) (q : Vat Name) (there :
     gets_quiet g = record { at = g.at }
 
     whole_breaks : (C : Fact Name) (p : Name) → Gets whole C (IsName p) → (t : Words) → Fine whole C (refs.settle (naming word v) p (Broken t)) nothing
-    whole_breaks C p g t = both (fine_settle (naming word v) T under p (gets_known g) (Broken t) (record { at = λ s c. tt })) (fine_settle (naming word v) F quiet_under p (gets_quiet g) (Broken t) (record { at = λ s c. tt }))
+    whole_breaks C p g t = both (fine_settle (naming word v) T under p (record { at = λ s c. g.at s c }) (Broken t) (record { at = λ s c. tt })) (fine_settle (naming word v) F quiet_under p (record { at = λ s c. g.at s c }) (Broken t) (record { at = λ s c. tt }))
         (pays_break (naming word v) v (global_names word v) cut x p t) (free_settle cut v x (naming word v) p (Broken t))
 
     whole_resolves : (C : Fact Name) (p : Name) → Gets whole C (IsName p) → (y : Value Name) → Gets whole C (IsValue y) → Fine whole C (refs.resolve (naming word v) p y) nothing
-    whole_resolves C p g y h = both (fine_resolve (naming word v) T under p (gets_known g) y (gets_known h)) (fine_resolve (naming word v) F quiet_under p (gets_quiet g) y (gets_quiet h))
+    whole_resolves C p g y h = both (fine_resolve (naming word v) T under p (record { at = λ s c. g.at s c }) y (gets_known h)) (fine_resolve (naming word v) F quiet_under p (record { at = λ s c. g.at s c }) y (gets_quiet h))
         (pays_resolve (naming word v) v (global_names word v) cut x p y) (free_resolve cut v x (naming word v) p y)
 
     promise_pays : (s : Vat Name) → AllWell s → PaysAt cut x 0 s (new_promise (naming word v) s)
@@ -296,7 +300,7 @@ module _ (M : Marked) (vats : List (Vat Name)) (v : ℕ) (q : Vat Name) (there :
     pub whole_serves : Serves (naming word v) whole
     unfolding naming
     whole_serves = record {
-      spots = record { placed = λ s m n g. let spots = under.spots in spots.placed s m.0 n g };
+      spots = record { alike = λ a b e. let spots = under.spots in spots.alike a b e; placed = λ s m n g. let spots = under.spots in spots.placed s m.0 n g };
       object = λ s i. under.object s i;
       promises = whole_promises;
       breaks = whole_breaks;

@@ -49,10 +49,10 @@ module _ (M : Marked) (vats : List (Vat Name)) (v : ℕ) (q : Vat Name) (there :
   up s t r C h = rise false M vats v q there here word us d0 s t r C h
 
   -- once its answer is told of, the message is sent on
-  told_finds : (s : Vat Name) (from : ℕ) (id n a : Name) (verb : Words) (args : List (Value Name)) → Quiet s → AllWell s → NamesMessage id → Holds (Good false M vats v q there here word us d0 s) (IsName n)
+  told_finds : (s : Vat Name) (from : ℕ) (id n a : Name) (verb : Words) (args : List (Value Name)) → Quiet s → AllWell s → NamesMessage id → Holds (Good false M vats v q there here word us d0 s) (IsName n) → Holds (Good false M vats v q there here word us d0 s) (IsName a)
       → PaysAt cut x (one id x) s (and_then (alter (naming word v) (ToTell from) a s) (λ u. send_on (naming word v) (settle (naming word v)) (record { id = id; target = Ref n; verb = verb; args = args; answer = a })))
-  told_finds s from id n a verb args h w named known = let K = naming word v in
-      ends_pays nothing (one id x) s (alter K (ToTell from) a s) (λ u. send_on K (settle K) (record { id = id; target = Ref n; verb = verb; args = args; answer = a })) ((fine_to_tell K (F M vats v q there here word) (quiet_under M vats v q there here word) {C = IsName n} from a (record { at = λ s c. tt })).after s h known) ((pays_to_tell cut x K v (global_names word v) from a).after s w)
+  told_finds s from id n a verb args h w named known told = let K = naming word v in
+      ends_pays nothing (one id x) s (alter K (ToTell from) a s) (λ u. send_on K (settle K) (record { id = id; target = Ref n; verb = verb; args = args; answer = a })) ((fine_to_tell K (F M vats v q there here word) (quiet_under M vats v q there here word) {C = IsName a} from a (record { at = λ s c. c })).after s h told) ((pays_to_tell cut x K v (global_names word v) from a).after s w)
       (λ u t r g z y. send_on_finds K v (global_names word v) cut x t (record { id = id; target = Ref n; verb = verb; args = args; answer = a }) y (good_views M vats v q there here word t (loud t g)) named (good_known M vats v q there here word t (Ref n) (up s t r (IsName n) known)))
 
   -- the answer comes to be known
@@ -61,7 +61,7 @@ module _ (M : Marked) (vats : List (Vat Name)) (v : ℕ) (q : Vat Name) (there :
   unfolding ◌>>◌
   answered_finds s from id n verb args h w named mail known = let K = naming word v in
       ends_pays IsName (one id x) s (come K (IsAnswer s.number id) s.number s) (λ a. alter K (ToTell from) a >> send_on K (settle K) (record { id = id; target = Ref n; verb = verb; args = args; answer = a })) ((come_answer K (F M vats v q there here word) (quiet_under M vats v q there here word) {C = Also (IsMail id) (IsVat s.number)} s.number id (got_left (F M vats v q there here word) (IsMail id) (IsVat s.number) (IsMail id) (got_itself (F M vats v q there here word) (IsMail id))) (got (F M vats v q there here word) (IsMail id) (IsVat s.number))).after s h (mail, (F M vats v q there here word).here s h.more))
-      ((pays_answer cut x K v (global_names word v) s.number s.number id named).after s w) (λ a t r g z y. told_finds t from id n a verb args g y named (up s t r (IsName n) known))
+      ((pays_answer cut x K v (global_names word v) s.number s.number id named).after s w) (λ a t r g z y. told_finds t from id n a verb args g y named (up s t r (IsName n) known) z)
 
   module _ (from : ℕ) (ks : List Name) (m n : Name) (verb : Words) (ys : Passeds Name) (made : Was false M vats v q there here word us d0 (Mail m)) (target : Was false M vats v q there here word us d0 (Named n)) (parts : PassedsOk (Was false M vats v q there here word us d0) ys) (named : NamesMessage m) where
     abbrev Later : List Name

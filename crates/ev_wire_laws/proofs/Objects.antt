@@ -11,13 +11,14 @@ use Rattle.ev_machine.specs.Eval as eval
 use Rattle.ev_kernel.specs.declared.node.Node.{Node}
 use Rattle.ev_run.specs.World as world
 use Rattle.ev_run.specs.World.{Program}
-use Rattle.ev_name_laws.specs.Names.{Bit, Named, Mail, Drew, At, Off, AllOf, IsAmong, IsMessageName, NounOk, KnownOk, Parts}
+use Rattle.ev_name_laws.specs.Names.{Bit, Named, Mail, Drew, At, Off, Entered, Owns, Gave, AllOf, IsAmong, IsMessageName, NounOk, KnownOk, Parts}
 use Rattle.ev_name_laws.proofs.Facts.{all_end, PlaceOk, Fact, Nothing, Also, IsName, IsMail, IsDraw, IsVat, IsValue, AreValues, AreNouns, IsMessage, nothing}
-use Rattle.ev_name_laws.proofs.Care.{Care, Under, Makes, Gets, Fine, Ends, fine_bind, fine_less, fine_then, fine_give, fine_look, fine_tell, fine_out, fine_draw, fine_wait, come_gift, changes_ok, begun_ok}
+use Rattle.ev_name_laws.proofs.Care.{Care, Under, Giving, Makes, Gets, Fine, Ends, fine_bind, fine_less, fine_then, fine_give, fine_look, fine_tell, fine_out, fine_draw, fine_wait, come_gift, changes_ok, begun_ok}
+use Rattle.ev_name_laws.proofs.SameNames.{reference_is}
 use Rattle.ev_name_laws.proofs.CareRefs.{fine_settle}
 use Rattle.ev_name_laws.proofs.Serves.{served_by}
 use Rattle.ev_name_laws.proofs.CareEval.{fine_opening, fine_taking}
-use Rattle.ev_name_laws.proofs.CareArrive.{fine_ask_for, fine_make_list, fine_arrive_ask, fine_gift_there, fine_delivered, fine_opened, fine_went, fine_shortened, fine_notice}
+use Rattle.ev_name_laws.proofs.CareArrive.{Gifts, gifts_by, fine_gift_there, fine_ask_for, fine_make_list, fine_arrive_ask, fine_delivered, fine_opened, fine_went, fine_shortened, fine_notice}
 use Rattle.ev_wire_laws.specs.Asked.{told_value, told_passed, told_all, told_in}
 use Rattle.ev_wire_laws.proofs.ArriveAsking.{MailFits, among_front, among_back}
 
@@ -36,23 +37,32 @@ Handed v T (Mail n) = IsMessageName n
 Handed v T (Drew i) = Unit {0}
 Handed v T (At h) = Unit {0}
 Handed v T (Off h) = Unit {0}
+Handed v T (Entered n) = OwnOrTold v T n
+Handed v T (Owns n i) = OwnOrTold v T n
+Handed v T (Gave i) = Unit {0}
 
 -- so is each object in all that a vat has
 abbrev pub AllHanded : ℕ → (Name → Type 0) → Vat Name → Type 0
 AllHanded v T s = Parts (Handed v T) s.things s.slots s.lists s.queue s.known s.gifts s.outbox
 
+own_up : (v : ℕ) (T U : Name → Type 0) → ((n : Name) → T n → U n) → (n : Name) → OwnOrTold v T n → OwnOrTold v U n
+own_up v T U f (Object w i) (inl e) = inl e
+own_up v T U f (Object w i) (inr h) = inr (f (Object w i) h)
+own_up v T U f (Root w) h = tt
+own_up v T U f (Promise w i) h = tt
+own_up v T U f (Answer w m) h = tt
+own_up v T U f (Gift w i) h = tt
+own_up v T U f (Sent m) h = tt
+
 pub handed_up : (v : ℕ) (T U : Name → Type 0) → ((n : Name) → T n → U n) → (b : Bit Name) → Handed v T b → Handed v U b
-handed_up v T U f (Named (Object w i)) (inl e) = inl e
-handed_up v T U f (Named (Object w i)) (inr h) = inr (f (Object w i) h)
-handed_up v T U f (Named (Root w)) h = tt
-handed_up v T U f (Named (Promise w i)) h = tt
-handed_up v T U f (Named (Answer w m)) h = tt
-handed_up v T U f (Named (Gift w i)) h = tt
-handed_up v T U f (Named (Sent m)) h = tt
+handed_up v T U f (Named n) h = own_up v T U f n h
 handed_up v T U f (Mail n) h = h
 handed_up v T U f (Drew i) h = tt
 handed_up v T U f (At w) h = tt
 handed_up v T U f (Off w) h = tt
+handed_up v T U f (Entered n) h = own_up v T U f n h
+handed_up v T U f (Owns n i) h = own_up v T U f n h
+handed_up v T U f (Gave i) h = tt
 
 module _ (v : ℕ) (T : Name → Type 0) where
   abbrev pub Hands : Care Name
@@ -65,6 +75,10 @@ module _ (v : ℕ) (T : Name → Type 0) where
     up = λ s t r b h. h;
     here = λ s h. tt;
     near = λ s h k. tt;
+    entered = λ s n h. h;
+    owned = λ s n i h. h;
+    owner = λ s n i h k. h;
+    drew = λ s i h. tt;
     fuel = λ s n. (tt, λ h. tt);
     told = λ s e n. (tt, λ h. tt);
     activations = λ s. (tt, λ h. tt);
@@ -101,19 +115,24 @@ module _ (v : ℕ) (T : Name → Type 0) where
     under : Under K Hands
     unfolding naming name_of
     under = record {
-      spots = record { placed = λ s m n g. spot_ok s n (spot_of v n) g };
+      spots = record { alike = λ a b e. reference_is a b e; placed = λ s m n g. spot_ok s n (spot_of v n) g };
       object = λ s i. inl refl;
       happened = λ s e. (tt, λ h. tt);
       queue = λ s m. (tt, λ h. tt);
       outbox = λ s p h. (tt, λ k. tt);
-      gift = λ s g h. (tt, λ k. tt);
       opened = λ s p i. (tt, λ h. tt);
       noticed = λ s w. (tt, λ h. tt);
       drawn = λ s w. (tt, λ h. tt, tt);
       altered = λ s c n none h. (tt, λ k. tt);
       answered = λ s h m o at. (tt, λ k. tt, answer_ok h m o);
-      given = λ s h i o at. (tt, λ k. tt, tt);
     }
+
+    gives : Giving K Hands
+    unfolding naming name_of
+    gives = record { gift = λ s g h. (tt, λ k. tt); given = λ s h i o at. (tt, λ k. tt, tt); hosted = λ s i k o. (tt, λ k. tt, tt) }
+
+    gifts : Gifts K Hands
+    gifts = gifts_by K Hands under gives
 
     makes : Makes K Hands
     unfolding naming name_of mail_of answer_of
@@ -144,7 +163,7 @@ module _ (v : ℕ) (T : Name → Type 0) where
 
     gift_handed : {C : Fact Name} (from h i : ℕ) → Fine Hands C (arrive.learn_gift K from h i) IsValue
     unfolding arrive.learn_gift
-    gift_handed from h i = fine_bind Hands IsName (come_gift K Hands under h i (record { at = λ s c. tt }) (record { at = λ s c. tt })) (λ n. fine_then Hands nothing (fine_ask_for K Hands under from h i (record { at = λ s c. tt }) n (record { at = λ s c. c.1 })) (fine_give Hands (Ref n) (record { at = λ s c. c.1 })))
+    gift_handed from h i = fine_bind Hands IsName (come_gift K Hands under gives h i (record { at = λ s c. tt }) (record { at = λ s c. tt })) (λ n. fine_then Hands nothing (fine_ask_for K Hands under from h i (record { at = λ s c. tt }) n (record { at = λ s c. c.1 })) (fine_give Hands (Ref n) (record { at = λ s c. c.1 })))
 
     mutual
       unfolding world.read_passed world.read_all world.plain_read world.many_read world.more_read told_passed told_all arrive.learn arrive.learn_all
@@ -163,7 +182,7 @@ module _ (v : ℕ) (T : Name → Type 0) where
 
     see_handed : {C : Fact Name} (n g : Name) → Gets Hands C (IsName g) → Fine Hands C (alter K (See g) n) nothing
     unfolding alter
-    see_handed n g k = record { after = λ s h c. let p = h.parts in (tt, record { parts = record { things = p.things; slots = p.slots; lists = p.lists; queue = p.queue; known = changes_ok K Hands under (Handed v T) (See g) n s.known (k.at s c) p.known; gifts = p.gifts; outbox = p.outbox }; more = tt }, tt) }
+    see_handed n g k = record { after = λ s h c. let p = h.parts in (tt, record { parts = record { things = p.things; slots = p.slots; lists = p.lists; queue = p.queue; known = changes_ok K Hands under (Handed v T) (See g) n s.known (k.at s c) (λ a e. tt) p.known; gifts = p.gifts; outbox = p.outbox }; more = tt }, tt) }
 
     seen_handed : {C : Fact Name} (n g : Name) → Gets Hands C (IsName n) → Gets Hands C (IsName g) → Fine Hands C (arrive.see K n g) nothing
     unfolding arrive.see
@@ -172,7 +191,7 @@ module _ (v : ℕ) (T : Name → Type 0) where
     view_handed : {C : Fact Name} (n : Name) → Gets Hands C (IsName n) → (c : ℕ) → Gets Hands C (IsVat c) → Fine Hands C (arrive.view_there K n c) nothing
     unfolding arrive.view_there
     view_handed n g c k = fine_less Hands nothing (fine_look Hands _) (λ u. fine_less Hands nothing (fine_look Hands _) (λ h. fine_less Hands IsDraw (fine_draw K Hands under) (λ i. fine_then Hands nothing (fine_out K Hands under h (Shorten n c i) (record { at = λ s d. (g.at s d, tt) }) (record { at = λ s d. tt }))
-        (fine_bind Hands IsName (fine_gift_there K Hands under u h c i (record { at = λ s d. tt }) (record { at = λ s d. tt })) (λ x. seen_handed n x (record { at = λ s d. g.at s d.0 }) (record { at = λ s d. d.1 }))))))
+        (fine_bind Hands IsName (fine_gift_there K Hands under gives u h c i (record { at = λ s d. tt }) (record { at = λ s d. tt })) (λ x. seen_handed n x (record { at = λ s d. g.at s d.0 }) (record { at = λ s d. d.1 }))))))
 
     -- ---- arrival
 
@@ -184,8 +203,8 @@ module _ (v : ℕ) (T : Name → Type 0) where
     unfolding arrive.arrive world.read_note arrive.arrive_deliver arrive.arrive_open arrive.arrive_settled arrive.arrive_elsewhere arrive.arrive_shorten told_in
     arrive_handed from ks (Deliver m n verb ys) o f = fine_bind Hands IsMail (mail_handed m (host_of m) o) (λ id. fine_bind Hands AreValues (all_handed from ks ys (λ x a. f x (inr a))) (λ args. fine_bind Hands IsName (read_handed (world.read_all ys ks).known n (f n (inl refl)))
         (λ x. fine_delivered K Hands under from id (record { at = λ s c. c.0.0.1 }) x (record { at = λ s c. c.1 }) verb args (record { at = λ s c. c.0.1 }))))
-    arrive_handed from ks (Open i n) o f = fine_bind Hands IsName (read_handed ks n (f n (inl refl))) (λ y. fine_opened K Hands under from i (record { at = λ s c. tt }) y (record { at = λ s c. c.1 }))
-    arrive_handed from ks (Ask p i n) o f = fine_arrive_ask K Hands under from p i (record { at = λ s c. tt })
+    arrive_handed from ks (Open i n) o f = fine_bind Hands IsName (read_handed ks n (f n (inl refl))) (λ y. fine_opened K Hands under gifts from i (record { at = λ s c. tt }) y (record { at = λ s c. c.1 }))
+    arrive_handed from ks (Ask p i n) o f = fine_arrive_ask K Hands under gifts from p i (record { at = λ s c. tt })
     arrive_handed from ks (SettledTo n y) o f = fine_bind Hands IsName (read_handed ks n (f n (inl refl))) (λ x. fine_bind Hands IsValue (passed_handed from (world.known_after ks n) y (λ z a. f z (inr a))) (λ z. fine_settle K Hands under x (record { at = λ s c. c.0.1 }) z (record { at = λ s c. c.1 })))
     arrive_handed from ks (Elsewhere n c) o f = fine_bind Hands IsName (read_handed ks n (f n (inl refl))) (λ x. fine_went K Hands under (λ D m g w k. view_handed m g w k) x (record { at = λ s d. d.1 }) c (record { at = λ s d. tt }))
     arrive_handed from ks (Shorten n c i) o f = fine_bind Hands IsName (read_handed ks n (f n (inl refl))) (λ x. fine_shortened K Hands under x (record { at = λ s d. d.1 }) i (record { at = λ s d. tt }))

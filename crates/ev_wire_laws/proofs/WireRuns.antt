@@ -12,7 +12,7 @@ use Rattle.ev_run.specs.World.{Script, Program, Opens, Entry, Turn, Carry, CutLi
 use Rattle.ev_fate_laws.proofs.Leads.{Leads}
 use Rattle.ev_name_laws.specs.Names.{AllOf, IsAmong, IsKnownIn, IsMessageName, IsMessageMade, IsEventual, WasMade, MessageOk, KnownOk, Bit, Named, Mail, NoteOk, PutOk, names_in, Once}
 use Rattle.ev_name_laws.specs.Runs.{InRuns}
-use Rattle.ev_name_laws.proofs.Facts.{all_map, all_append, nothing}
+use Rattle.ev_name_laws.proofs.Facts.{all_map, all_append, all_so, nothing}
 use Rattle.ev_name_laws.proofs.Among.{all_among, get_put, length_end}
 use Rattle.ev_name_laws.proofs.Run.{Stands, Told, Had, open_stands, begins_stands}
 use Rattle.ev_rest_laws.proofs.OwnRuns.{Any as Anyhow}
@@ -544,11 +544,11 @@ module _ (script : Script) where
     roots_handed : (v : ℕ) (T : Name → Type 0) (ws : List ℕ) → AllOf (KnownOk (Handed v T)) (map world.known_root ws)
     unfolding world.known_root begun
     roots_handed v T [] = tt
-    roots_handed v T (w ∷ ws) = ((tt, tt, tt, tt, tt), roots_handed v T ws)
+    roots_handed v T (w ∷ ws) = ((tt, tt, tt, tt, tt, tt), roots_handed v T ws)
 
     fresh_all : (v : ℕ) (T : Name → Type 0) (u : ℕ) (p : Program) → AllHanded v T (world.fresh script u p)
     unfolding world.fresh world.known_root begun
-    fresh_all v T u p = record { things = tt; slots = tt; lists = tt; queue = tt; known = ((tt, tt, tt, tt, tt), roots_handed v T p.knows); gifts = tt; outbox = tt }
+    fresh_all v T u p = record { things = tt; slots = tt; lists = tt; queue = tt; known = ((tt, tt, tt, tt, tt, all_so (Unit {0}) (world.knowers u zero script.vats) tt), roots_handed v T p.knows); gifts = tt; outbox = tt }
 
     fresh_from_handed : (v : ℕ) (T : Name → Type 0) (u : ℕ) (ps : List Program) (n : ℕ) (s : Vat Name) → slice_get (world.fresh_from script u ps) n ≡ Some s → AllHanded v T s
     unfolding world.fresh_from

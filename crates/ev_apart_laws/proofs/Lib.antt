@@ -1,0 +1,11 @@
+pub mod Arrivals
+pub mod HideCare
+pub mod AskCare
+pub mod Steps
+pub mod AskLinks
+pub mod AskMoves
+pub mod AskRuns
+pub mod AskHolds
+pub mod HideMoves
+pub mod HideRuns
+pub mod Whole
