@@ -1,17 +1,17 @@
 -- A gift of another vat that comes to be known in a step is asked for there in front of all that names it, and one of the vat's own stands: a care for names, and for the notes put.
-use Rattle.std.proofs.Common.{◌≡◌, ℕ, suc, Bool, true, false, List, [], ◌∷◌, ◌++◌, Option, Some, None, if◌then◌else◌, codes, refl, sym, ap, ◌∙◌, ◌⊎◌, inl, inr, length, ◌==◌}
-use Rattle.std.proofs.lemmas.Bool.{eqb-true, eq-eqb}
-use Rattle.ev_machine.specs.Values.{Value, Broken, Ref, Name, Root, Object, Promise, Answer, Gift, Sent, Spot, Own, Foreign, NoObject, Naming, naming, name_of, mail_of, answer_of, spot_of, host_of, IsGift, IsLearnt}
-use Rattle.ev_machine.specs.State.{Known, Change, See, Views, Note, Deliver, Open, Ask, SettledTo, Elsewhere, Shorten, Put, GiftEntry, Vat, Done, Gives, Act, ◌>>=◌, ◌>>◌, and_then, give, look, come, mail, new_gift, alter, send_out, with_change, with_opened, is_gift, is_in, begun}
+use Rattle.std.proofs.Common.{◌≡◌, ℕ, Bool, true, false, List, [], ◌∷◌, ◌++◌, Option, Some, None, if◌then◌else◌, codes, refl, sym, ap, ◌∙◌, ◌⊎◌, inl, inr, ◌==◌}
+use Rattle.std.proofs.lemmas.Bool.{eq-eqb}
+use Rattle.ev_machine.specs.Values.{Broken, Ref, Name, Root, Object, Promise, Answer, Gift, Sent, Spot, Own, Foreign, NoObject, Naming, naming, name_of, mail_of, answer_of, spot_of, host_of, IsGift, IsLearnt}
+use Rattle.ev_machine.specs.State.{Change, See, Views, Note, Ask, Shorten, Put, GiftEntry, Vat, Act, ◌>>=◌, ◌>>◌, and_then, give, look, come, mail, new_gift, alter, send_out, with_change, with_opened, is_gift, is_in, begun}
 use Rattle.ev_machine.specs.Refs as refs
 use Rattle.ev_machine.specs.Refs.{Place, Mine, Away, host_at}
 use Rattle.ev_machine.specs.Arrive as arrive
 use Rattle.ev_machine.specs.Arrive.{New}
 use Rattle.ev_run.specs.World as world
 use Rattle.ev_run.specs.World.{is_old}
-use Rattle.ev_name_laws.specs.Names.{Bit, Named, Mail, Drew, At, Off, Entered, Owns, Gave, AllOf, IsAmong, IsKnownIn, IsMessageName, NameOk, GiftOk, PutOk, NoteOk, Parts, names_in}
-use Rattle.ev_name_laws.proofs.Facts.{MayBe, all_map, all_end, note_up, PlaceOk, Fact, Nothing, Also, IsName, IsMail, IsDraw, IsGiven, IsEntry, IsVat, IsValue, AreNames, nothing, Holds}
-use Rattle.ev_name_laws.proofs.Care.{Care, Under, Makes, Sound, Ends, Gets, Fine, widen, rise, still, fine_bind, fine_less, fine_then, fine_more, fine_give, fine_look, fine_tell, fine_out, fine_draw, fine_wait, changes_ok, with_known}
+use Rattle.ev_name_laws.specs.Names.{Bit, Named, Mail, Drew, At, Off, Entered, Owns, Gave, AllOf, IsAmong, IsKnownIn, IsMessageName, NameOk, GiftOk, PutOk, names_in}
+use Rattle.ev_name_laws.proofs.Facts.{MayBe, all_map, all_end, note_up, PlaceOk, Fact, Also, IsName, IsMail, IsDraw, IsEntry, IsValue, AreNames, nothing}
+use Rattle.ev_name_laws.proofs.Care.{Care, Under, Makes, Sound, Ends, Gets, Fine, widen, still, fine_bind, fine_less, fine_then, fine_more, fine_give, fine_look, fine_tell, fine_out, fine_draw, fine_wait, changes_ok, with_known}
 use Rattle.ev_name_laws.proofs.CareRefs.{fine_settle}
 use Rattle.ev_name_laws.proofs.CareArrive.{Gifts}
 use Rattle.ev_name_laws.proofs.Looks.{gift_at_ok}
@@ -22,7 +22,7 @@ use Rattle.ev_gift_laws.specs.Standing.{IsEntered}
 use Rattle.ev_answer_laws.specs.Behind.{Avoids, NamesNot}
 use Rattle.ev_answer_laws.proofs.First.{among_dec}
 use Rattle.ev_apart_laws.specs.Asking.{AsksFor}
-use Rattle.ev_apart_laws.proofs.Arrivals.{NoteTells, Brings, note_read}
+use Rattle.ev_apart_laws.proofs.Arrivals.{NoteTells, note_read}
 
 -- ---- lists
 

@@ -1,8 +1,8 @@
 -- In every world of a run in which notices stand behind their cuts, gifts of others follow the asking, and a vat's own stand.
-use Rattle.std.proofs.Common.{◌≡◌, ℕ, zero, suc, ◌+◌, Bool, true, false, List, [], ◌∷◌, ◌++◌, Option, Some, None, refl, sym, ap, ◌∙◌, ◌⊎◌, inl, inr, length, map, arith, subst, append_assoc, append-nil}
+use Rattle.std.proofs.Common.{◌≡◌, ℕ, zero, suc, ◌+◌, false, List, [], ◌∷◌, ◌++◌, Option, Some, None, refl, sym, ◌∙◌, inl, inr, length, map, arith, subst, append_assoc, append-nil}
 use Rattle.std.specs.Prelude.{slice_get}
 use Rattle.ev_machine.specs.Values.{Name, Root, Gift}
-use Rattle.ev_machine.specs.State.{Note, Vat, Done, Gives, Throws, Ejects, Stops, is_in, begun}
+use Rattle.ev_machine.specs.State.{Note, Vat, Done, Gives, Throws, Ejects, Stops, begun}
 use Rattle.ev_machine.specs.Eval.{opening}
 use Rattle.ev_machine_laws.specs.Steps.{Step, Opens as Starts, Receives, does}
 use Rattle.ev_run.specs.World as world
@@ -10,18 +10,15 @@ use Rattle.ev_run.specs.World.{Script, Program, Opens, Entry, Turn, Carry, CutLi
 use Rattle.ev_name_laws.specs.Names.{IsAmong, names_in}
 use Rattle.ev_name_laws.specs.Runs.{KnowsOnce}
 use Rattle.ev_name_laws.proofs.Among.{length_end}
-use Rattle.ev_name_laws.proofs.Run.{Stands}
-use Rattle.ev_rest_laws.specs.Cuts.{NoticesFollow, NoticesFollowCuts, IsCutThere}
+use Rattle.ev_rest_laws.specs.Cuts.{NoticesFollow, NoticesFollowCuts}
 use Rattle.ev_rest_laws.proofs.NoticedRuns.{noticed_links_cut}
 use Rattle.ev_answer_laws.proofs.Follow.{NotesKnown}
 use Rattle.ev_answer_laws.proofs.FollowRuns.{taken_known}
 use Rattle.ev_answer_laws.proofs.LegRuns.{Before, stands_of}
 use Rattle.ev_answer_laws.proofs.LegMoves.{LegsOf, legs_on, begins_legs, opened_before, stepped_before}
 use Rattle.ev_answer_laws.proofs.Moves.{Moved, Still, Severs, Drops, Steps, Arrives, IsAlone, Does, waiting, entry_moves, opens_end, steps_end, get_mid, going_is, opened_hold, stepped_hold}
-use Rattle.ev_gift_laws.specs.Standing.{IsEntered}
 use Rattle.ev_gift_laws.proofs.Laws.{fits_opened, fits_stepped}
-use Rattle.ev_apart_laws.specs.Asking.{OwnGiftsStand, GiftsFollowAsks}
-use Rattle.ev_apart_laws.proofs.AskMoves.{Owned, Follow, goes_owned, goes_follow, cut_follow, stepped_follow, none_follow, taken_follow}
+use Rattle.ev_apart_laws.proofs.AskMoves.{goes_owned, goes_follow, cut_follow, stepped_follow, none_follow, taken_follow}
 use Rattle.ev_apart_laws.proofs.AskRuns.{NoticedCut, Past, Holds, alone_held, held_first, stays, noticed_stays, same_noticed, asks_stand, note_first}
 
 module _ (script : Script) where

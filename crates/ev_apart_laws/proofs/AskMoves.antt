@@ -1,8 +1,8 @@
 -- What each move of a world keeps of gifts that vats know: those of others follow the asking, and one's own stand.
-use Rattle.std.proofs.Common.{◌≡◌, ℕ, Bool, true, false, List, [], ◌∷◌, Option, Some, None, refl, sym, ap, ◌∙◌, ◌⊎◌, inl, inr, subst}
+use Rattle.std.proofs.Common.{◌≡◌, ℕ, true, List, ◌∷◌, Option, Some, None, refl, sym, ap, ◌∙◌, ◌⊎◌, inl, inr, subst}
 use Rattle.std.specs.Prelude.{slice_get}
-use Rattle.ev_machine.specs.Values.{Value, Null, Flag, Number, Letter, Text, Prim, Broken, Items, Ref, Name, Root, Object, Promise, Answer, Gift, Sent, host_of}
-use Rattle.ev_machine.specs.State.{Passed, Passeds, Plain, AGift, Many, NoMore, More, Note, Deliver, Open, Ask, SettledTo, Elsewhere, Shorten, Put, Vat, is_in}
+use Rattle.ev_machine.specs.Values.{Value, Null, Flag, Number, Letter, Text, Prim, Broken, Items, Ref, Name, Gift, host_of}
+use Rattle.ev_machine.specs.State.{Passed, Passeds, Plain, AGift, Many, NoMore, More, Note, Deliver, Open, Ask, SettledTo, Elsewhere, Shorten, Vat, is_in}
 use Rattle.ev_run.specs.World.{Link, put_at, push_all, pushed, with_link, with_notes, severed_link, link_at}
 use Rattle.ev_name_laws.specs.Names.{Bit, Named, Mail, Drew, At, Off, Entered, Owns, Gave, AllOf, IsAmong, IsKnownIn, IsEventual, ValueOk, PassedOk, PassedsOk, NoteOk, names_in}
 use Rattle.ev_name_laws.proofs.Facts.{all_map, note_up}
@@ -12,7 +12,7 @@ use Rattle.ev_rest_laws.proofs.LinksCut.{fits_notes, fits_severed}
 use Rattle.ev_answer_laws.specs.Behind.{Avoids, NamesNot, IsKnownTo as KnowsIn}
 use Rattle.ev_answer_laws.proofs.First.{among_dec}
 use Rattle.ev_answer_laws.proofs.Links.{AtLink, push_keeps, push_others, with_any}
-use Rattle.ev_answer_laws.proofs.Follow.{put_cases, eq_dec, NotesKnown}
+use Rattle.ev_answer_laws.proofs.Follow.{put_cases, NotesKnown}
 use Rattle.ev_answer_laws.proofs.FollowRuns.{same_link}
 use Rattle.ev_gift_laws.specs.Standing.{IsEntered}
 use Rattle.ev_apart_laws.specs.Asking.{AsksFor, AskedFirst}

@@ -1,35 +1,30 @@
 -- In every world of a run behind cuts, gifts of others that a vat knows follow the asking, and its own stand.
-use Rattle.std.proofs.Common.{◌≡◌, ℕ, zero, suc, ◌+◌, ◌≤◌, Bool, true, false, List, [], ◌∷◌, ◌++◌, Option, Some, None, refl, sym, ap, ◌∙◌, ◌⊎◌, inl, inr, subst, length, arith, append_assoc, append-nil}
+use Rattle.std.proofs.Common.{◌≡◌, ℕ, true, false, List, [], ◌∷◌, Option, Some, refl, sym, ap, ◌∙◌, ◌⊎◌, inl, inr, subst, length}
 use Rattle.std.specs.Prelude.{slice_get}
-use Rattle.ev_machine.specs.Values.{Value, Null, Flag, Number, Letter, Text, Prim, Broken, Items, Ref, Name, Root, Gift, Sent, Msg, naming}
-use Rattle.ev_machine.specs.State.{Message, Passed, Passeds, Plain, AGift, Many, NoMore, More, Note, Deliver, Open, Ask, SettledTo, Elsewhere, Shorten, Put, GiftEntry, Vat, Done, Gives, Throws, Ejects, Stops, is_in, begun}
-use Rattle.ev_machine.specs.Arrive as arrive
-use Rattle.ev_machine.specs.Eval.{opening}
+use Rattle.ev_machine.specs.Values.{Value, Null, Flag, Number, Letter, Text, Prim, Broken, Items, Ref, Name, Root, Gift}
+use Rattle.ev_machine.specs.State.{Message, Passed, Passeds, Plain, AGift, Many, NoMore, More, Note, Deliver, Open, Ask, SettledTo, Elsewhere, Shorten, GiftEntry, Vat, Done, Gives, is_in}
 use Rattle.ev_machine_laws.specs.Steps.{Step, Opens as Starts, Takes, Receives, Notices, does, After}
 use Rattle.ev_machine_laws.specs.Laws.{NoticedStays}
 use Rattle.ev_machine_laws.proofs.StepLaws.{kept_by_steps, noticed_law, noticed_names}
 use Rattle.ev_run.specs.Draws.{draw_word}
 use Rattle.ev_run.specs.World as world
 use Rattle.ev_run.specs.World.{Script, Program, Opens, Entry, Turn, Carry, CutLink, NoticeLink, Event, Link, World, Run, Goes as Going, Stopped, names, names_of, read_note, readied, put_at, push_all, with_link, with_notes, severed_link, link_at}
-use Rattle.ev_name_laws.specs.Names.{Bit, Named, Mail, Drew, At, Off, Entered, Owns, Gave, AllOf, IsAmong, IsKnownIn, IsMessageName, IsMessageMade, IsMade, ValueOk, PassedOk, PassedsOk, NoteOk, NounOk, NameOk, names_in}
-use Rattle.ev_name_laws.specs.Runs.{KnowsOnce}
-use Rattle.ev_name_laws.proofs.Facts.{MayBe, all_map, nouns_up, note_up, Fact}
-use Rattle.ev_name_laws.proofs.Care.{Care, Sound}
+use Rattle.ev_name_laws.specs.Names.{Bit, Named, Mail, Drew, At, Off, Entered, Owns, Gave, AllOf, IsAmong, IsMade, ValueOk, PassedOk, PassedsOk, NoteOk, NounOk, NameOk, names_in}
+use Rattle.ev_name_laws.proofs.Facts.{MayBe, note_up}
 use Rattle.ev_name_laws.proofs.Among.{get_put}
-use Rattle.ev_name_laws.proofs.Run.{Had, Told, Inside, inside, low_at, inside_root, knows_low, Stands, given_ok, link_holds}
+use Rattle.ev_name_laws.proofs.Run.{Had, Told, low_at, inside_root, knows_low, Stands, given_ok, link_holds}
 use Rattle.ev_name_laws.proofs.Tracked.{known_among}
 use Rattle.ev_fate_laws.specs.Lasting.{Each}
-use Rattle.ev_rest_laws.specs.Cuts.{NoticesFollow, NoticesFollowCuts, IsCutThere}
+use Rattle.ev_rest_laws.specs.Cuts.{IsCutThere}
 use Rattle.ev_rest_laws.proofs.NotesLift as lift
 use Rattle.ev_rest_laws.proofs.NotesRuns.{OfNotes}
 use Rattle.ev_answer_laws.specs.Behind.{Avoids, NamesNot, IsKnownTo as KnowsIn}
 use Rattle.ev_answer_laws.proofs.First.{among_dec, made_message}
-use Rattle.ev_answer_laws.proofs.Links.{AtLink}
 use Rattle.ev_answer_laws.proofs.Follow.{put_cases, eq_dec, NotesKnown}
-use Rattle.ev_answer_laws.proofs.FollowRuns.{tail_of, there_next, step_grows}
-use Rattle.ev_answer_laws.proofs.LegRuns.{Legs, Before, stands_of, sender_of}
+use Rattle.ev_answer_laws.proofs.FollowRuns.{tail_of}
+use Rattle.ev_answer_laws.proofs.LegRuns.{Before, stands_of, sender_of}
 use Rattle.ev_answer_laws.proofs.LegMoves.{LegsOf}
-use Rattle.ev_answer_laws.proofs.Moves.{Moved, Still, Severs, Drops, Steps, Arrives, IsAlone, Does}
+use Rattle.ev_answer_laws.proofs.Moves.{IsAlone, Does}
 use Rattle.ev_gift_laws.specs.Standing.{Stands as StandsAt, ThenStands, IsEntered}
 use Rattle.ev_gift_laws.specs.Passing.{PassesFrom, AllPassFrom, Provides}
 use Rattle.ev_gift_laws.proofs.Standing.{gifts_stay, what_is_opened_stands}
@@ -39,7 +34,7 @@ use Rattle.ev_apart_laws.specs.Asking.{AsksFor, AskedFirst}
 use Rattle.ev_apart_laws.proofs.Arrivals.{ValueTells, PassedTells, PassedsTell}
 use Rattle.ev_apart_laws.proofs.AskCare.{Has, PutsFirst, Asks, Held, Tells, asks_under, asks_makes, note_asks}
 use Rattle.ev_apart_laws.proofs.Steps.{does_sound, arrives_sound}
-use Rattle.ev_apart_laws.proofs.AskMoves.{third_not, knows_not, Owned, Followed, Follow, goes_owned, goes_follow, cut_follow, stepped_follow, none_follow, taken_follow}
+use Rattle.ev_apart_laws.proofs.AskMoves.{third_not, knows_not, Owned, Followed, Follow}
 
 -- ---- gifts at their host
 

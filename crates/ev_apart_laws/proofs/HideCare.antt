@@ -1,24 +1,24 @@
 -- A vat that has no gift of a draw in hand, and knows none but its own, goes on so: a care for names, and what arrives.
-use Rattle.std.proofs.Common.{◌≡◌, ℕ, suc, ◌+◌, ◌≤◌, ◌<◌, Bool, true, false, List, [], ◌∷◌, ◌++◌, Option, Some, None, if◌then◌else◌, codes, refl, sym, ◌∙◌, ap, ◌⊎◌, inl, inr, length, ◌==◌, arith}
-use Rattle.ev_machine.specs.Values.{Value, Null, Flag, Number, Letter, Text, Prim, Broken, Items, Ref, Name, Root, Object, Promise, Answer, Gift, Sent, Spot, Own, Foreign, NoObject, Naming, naming, name_of, mail_of, answer_of, spot_of, host_of, IsGift, IsLearnt}
-use Rattle.ev_machine.specs.State.{Known, See, Views, Passed, Passeds, Plain, AGift, Many, NoMore, More, Note, Deliver, Open, Ask, SettledTo, Elsewhere, Shorten, Put, GiftEntry, Vat, Done, Gives, Throws, Ejects, Stops, Act, ◌>>=◌, ◌>>◌, and_then, give, look, tell, come, mail, draw, draws, alter, send_out, new_gift, is_in, begun}
+use Rattle.std.proofs.Common.{◌≡◌, ℕ, suc, ◌<◌, Bool, true, false, List, [], ◌∷◌, ◌++◌, Option, Some, None, if◌then◌else◌, codes, refl, ◌⊎◌, inl, inr, length, ◌==◌, arith}
+use Rattle.ev_machine.specs.Values.{Prim, Broken, Ref, Name, Root, Object, Promise, Answer, Gift, Sent, Spot, Own, Foreign, NoObject, Naming, naming, name_of, mail_of, answer_of, spot_of, host_of, IsGift, IsLearnt}
+use Rattle.ev_machine.specs.State.{See, Views, Note, Ask, Elsewhere, Shorten, Put, GiftEntry, Vat, Done, Gives, Throws, Ejects, Stops, Act, ◌>>=◌, ◌>>◌, and_then, give, look, tell, come, mail, draw, draws, alter, send_out, new_gift, is_in, begun}
 use Rattle.ev_machine.specs.Refs as refs
 use Rattle.ev_machine.specs.Refs.{Place, Mine, Away, host_at}
 use Rattle.ev_machine.specs.Arrive as arrive
 use Rattle.ev_machine.specs.Arrive.{Old, New}
 use Rattle.ev_run.specs.World as world
-use Rattle.ev_name_laws.specs.Names.{Bit, Named, Mail, Drew, At, Off, Entered, Owns, Gave, IsMessageName, KnownOk, PassedOk, PassedsOk, NoteOk, ValueOk}
-use Rattle.ev_name_laws.proofs.Facts.{all_end, PlaceOk, Fact, Nothing, Also, IsName, IsMail, IsDraw, IsGiven, IsVat, IsValue, nothing}
+use Rattle.ev_name_laws.specs.Names.{IsMessageName}
+use Rattle.ev_name_laws.proofs.Facts.{PlaceOk, Fact, Nothing, Also, IsName, IsMail, IsGiven, IsVat, IsValue, nothing}
 use Rattle.ev_name_laws.proofs.Care.{Care, Under, Giving, Makes, Sound, Ends, Gets, Fine, fine_bind, fine_less, fine_then, fine_more, fine_give, fine_look, fine_tell, fine_out, fine_wait, come_gift, changes_ok, with_known}
 use Rattle.ev_name_laws.proofs.CareRefs.{fine_settle}
 use Rattle.ev_name_laws.proofs.CareArrive.{Gifts, gifts_by, fine_ask_for, fine_gift_there}
 use Rattle.ev_name_laws.proofs.Among.{length_end}
 use Rattle.ev_name_laws.proofs.SameNames.{reference_is}
-use Rattle.ev_gift_laws.specs.Passing.{gifts_in, gifts_in_all, gifts_in_note}
+use Rattle.ev_gift_laws.specs.Passing.{gifts_in_note}
 use Rattle.ev_gift_laws.proofs.Puts.{gifts_out, out_end}
 use Rattle.ev_rest_laws.proofs.Gentle.{AfterGives}
 use Rattle.ev_apart_laws.specs.Hiding.{IsNotOf, IsOfNoOther, Shuns}
-use Rattle.ev_apart_laws.proofs.Arrivals.{ValueTells, PassedTells, PassedsTell, NoteTells, Brings, IsNews, note_read}
+use Rattle.ev_apart_laws.proofs.Arrivals.{NoteTells, Brings, IsNews, note_read}
 
 less_not : (i j : ℕ) → i < j → j ≡ i → ⊥
 less_not i j h e = omega arith

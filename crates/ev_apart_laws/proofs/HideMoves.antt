@@ -1,7 +1,7 @@
 -- What each move of a world keeps of gifts under way: who is no host of one does not know it, and its host has it not in hand.
-use Rattle.std.proofs.Common.{◌≡◌, ℕ, zero, suc, ◌+◌, ◌≤◌, ◌<◌, Bool, true, false, List, [], ◌∷◌, ◌++◌, Option, Some, None, refl, sym, ap, ◌∙◌, ◌⊎◌, inl, inr, length, ◌==◌, arith, leb-true}
+use Rattle.std.proofs.Common.{◌≡◌, ℕ, zero, suc, ◌+◌, ◌≤◌, ◌<◌, Bool, true, false, List, [], ◌∷◌, Option, Some, refl, sym, ◌∙◌, ◌⊎◌, inl, inr, length, ◌==◌, arith, leb-true}
 use Rattle.std.specs.Prelude.{slice_get, nat_le}
-use Rattle.std.proofs.lemmas.Bool.{eqb-true, eq-eqb, le-leb}
+use Rattle.std.proofs.lemmas.Bool.{eq-eqb, le-leb}
 use Rattle.ev_machine.specs.Values.{Value, Null, Flag, Number, Letter, Text, Prim, Broken, Items, Ref, Name, Root, Object, Promise, Answer, Gift, Sent, naming}
 use Rattle.ev_machine.specs.State.{Message, Passed, Passeds, Plain, AGift, Many, NoMore, More, Note, Deliver, Open, Ask, SettledTo, Elsewhere, Shorten, Put, Vat, Done, Gives}
 use Rattle.ev_machine.specs.Scopes.{any_guard}
@@ -12,8 +12,8 @@ use Rattle.ev_run.specs.World as world
 use Rattle.ev_run.specs.World.{Script, Program, Link, World, names, names_of, read_note, readied, put_at, push_all, with_link, with_notes, severed_link, link_at}
 use Rattle.ev_fate_laws.specs.Fate.{once}
 use Rattle.ev_name_laws.specs.Names.{Bit, Named, Mail, Drew, At, Off, Entered, Owns, Gave, AllOf, IsMade, WasMade, NounOk, PassedOk, PassedsOk, NoteOk, ValueOk, Everywhere}
-use Rattle.ev_name_laws.proofs.Facts.{all_map, note_up, Fact, Nothing, nothing}
-use Rattle.ev_name_laws.proofs.Care.{Care, Sound, Fine, parts_up}
+use Rattle.ev_name_laws.proofs.Facts.{all_map, note_up, Nothing, nothing}
+use Rattle.ev_name_laws.proofs.Care.{Fine, parts_up}
 use Rattle.ev_name_laws.proofs.Run.{Had, Told, Stands}
 use Rattle.ev_rest_laws.proofs.Gentle.{AfterGives}
 use Rattle.ev_answer_laws.proofs.First.{made_message}
@@ -24,7 +24,7 @@ use Rattle.ev_gift_laws.specs.Passing.{gifts_in, gifts_in_all, gifts_in_note, gi
 use Rattle.ev_gift_laws.proofs.Puts.{Fair, gifts_out}
 use Rattle.ev_gift_laws.proofs.ArrivePuts.{fair_notice}
 use Rattle.ev_gift_laws.proofs.StepsPuts.{later, fair_taking, fair_opening, arrival_ends}
-use Rattle.ev_apart_laws.specs.Hiding.{IsNotOf, IsOfNoOther, Shuns, Spares}
+use Rattle.ev_apart_laws.specs.Hiding.{IsNotOf, Shuns, Spares}
 use Rattle.ev_apart_laws.proofs.Arrivals.{ValueTells, PassedTells, PassedsTell}
 use Rattle.ev_apart_laws.proofs.HideCare.{Hides, Tells, Goes, not_other, hides_under, hides_makes, note_hides, news_goes}
 use Rattle.ev_apart_laws.proofs.Steps.{ready, does_sound, arrives_sound}

@@ -1,27 +1,26 @@
 -- In every world of a run a gift that is under way is hidden.
-use Rattle.std.proofs.Common.{◌≡◌, ℕ, zero, suc, ◌+◌, ◌≤◌, ◌<◌, Bool, true, false, List, [], ◌∷◌, ◌++◌, Option, Some, None, refl, sym, ap, ◌∙◌, ◌⊎◌, inl, inr, length, arith}
+use Rattle.std.proofs.Common.{◌≡◌, ℕ, zero, suc, ◌+◌, ◌≤◌, ◌<◌, List, ◌∷◌, ◌++◌, Option, Some, refl, ◌⊎◌, inl, inr, length, arith}
 use Rattle.std.specs.Prelude.{slice_get}
 use Rattle.ev_machine.specs.Values.{Name, Gift}
-use Rattle.ev_machine.specs.State.{Known, Note, Vat}
+use Rattle.ev_machine.specs.State.{Note, Vat}
 use Rattle.ev_machine_laws.specs.Steps.{Step, Receives}
 use Rattle.ev_run.specs.World as world
 use Rattle.ev_run.specs.World.{Script, Program, Link, World, Entry, Goes as Going, names_of, read_note, put_at, push_all, with_link, with_notes, severed_link, link_at}
 use Rattle.ev_fate_laws.specs.Lasting.{Each}
-use Rattle.ev_name_laws.specs.Names.{AllOf, IsAmong, NoteOk, KnownOk, Everywhere, names_in}
+use Rattle.ev_name_laws.specs.Names.{AllOf, IsAmong, NoteOk, names_in}
 use Rattle.ev_name_laws.specs.Runs.{KnowsOnce}
 use Rattle.ev_name_laws.proofs.Facts.{MayBe}
-use Rattle.ev_name_laws.proofs.Run.{Stands, link_holds, name_had}
+use Rattle.ev_name_laws.proofs.Run.{link_holds, name_had}
 use Rattle.ev_answer_laws.proofs.FollowRuns.{tail_of}
-use Rattle.ev_answer_laws.proofs.LegRuns.{Before, stands_of}
+use Rattle.ev_answer_laws.proofs.LegRuns.{stands_of}
 use Rattle.ev_answer_laws.proofs.Moves.{Moved, Still, Severs, Drops, Steps, Arrives, IsAlone, Does, opened_hold, stepped_hold}
-use Rattle.ev_gift_laws.specs.Passing.{gifts_in_note, gifts_on, gifts_under_way, drawn_of, Provides}
+use Rattle.ev_gift_laws.specs.Passing.{gifts_in_note, gifts_under_way, drawn_of, Provides}
 use Rattle.ev_gift_laws.proofs.Puts.{gifts_out}
-use Rattle.ev_gift_laws.proofs.Laws.{Fits}
 use Rattle.ev_gift_laws.proofs.Links.{pushed_notes, push_all_gifts, with_link_less, severed_less, found_tells, links_from_none}
 use Rattle.ev_apart_laws.specs.Hiding.{Spares, Shuns, GiftsUnderWayAreHidden, KnownToTheirHostsAlone}
 use Rattle.ev_apart_laws.proofs.AskRuns.{Past}
 use Rattle.ev_apart_laws.proofs.AskHolds.{opened_past, stepped_past}
-use Rattle.ev_apart_laws.proofs.HideMoves.{Notes, HiddenAt, notes_severed, notes_taken, taken_sum, under_drawn, early, late, new_hidden, hidden_next, alone_hides, note_old, note_new, alone_out, note_out}
+use Rattle.ev_apart_laws.proofs.HideMoves.{HiddenAt, notes_severed, notes_taken, taken_sum, under_drawn, early, late, new_hidden, hidden_next, alone_hides, note_old, note_new, alone_out, note_out}
 
 -- where a gift of a draw is under way it is hidden
 abbrev pub Hidden : List (Vat Name) → List Link → Type 0

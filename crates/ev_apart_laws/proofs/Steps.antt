@@ -1,15 +1,14 @@
 -- A step of a vat in a run, from a sound state, ends in a sound state.
-use Rattle.std.proofs.Common.{◌≡◌, ℕ, List, [], ◌∷◌, Some, refl, sym}
+use Rattle.std.proofs.Common.{◌≡◌, ℕ, List, [], ◌∷◌, Some}
 use Rattle.std.specs.Prelude.{slice_get}
 use Rattle.ev_machine.specs.Values.{Name, Root, Naming, naming}
-use Rattle.ev_machine.specs.State.{Binding, Message, Note, Vat, Done, Gives, Act}
+use Rattle.ev_machine.specs.State.{Message, Note, Vat, Done, Gives}
 use Rattle.ev_machine.specs.Eval.{opening, taking}
 use Rattle.ev_machine.specs.Arrive.{arrive, notice}
 use Rattle.ev_machine_laws.specs.Steps.{Step, Opens as Starts, Takes, Receives, Notices, does}
 use Rattle.ev_run.specs.Draws.{draw_word}
 use Rattle.ev_run.specs.World as world
 use Rattle.ev_run.specs.World.{Script, Program, World, names, names_of, read_note, readied}
-use Rattle.ev_kernel.specs.declared.node.Node.{Node}
 use Rattle.ev_name_laws.specs.Names.{Bit, Named, AllOf, NounOk, MessageOk, Parts}
 use Rattle.ev_name_laws.proofs.Facts.{message_up, nouns_up, Fact, Nothing, Also, IsName, AreNouns, IsMessage, Holds, nothing}
 use Rattle.ev_name_laws.proofs.Care.{Care, Under, Makes, Sound, Ends, Fine, parts_up}

@@ -1,33 +1,33 @@
 -- The gifts of each note stand apart, so notes bring what is new, names are known once, tables are tables and waits end.
-use Rattle.std.proofs.Common.{◌≡◌, ℕ, zero, suc, ◌+◌, ◌≤◌, Bool, true, false, List, [], ◌∷◌, ◌++◌, Option, Some, None, refl, sym, ap, ◌∙◌, ◌⊎◌, inl, inr, length, arith, ◌==◌, append_assoc, append-nil}
+use Rattle.std.proofs.Common.{◌≡◌, ℕ, zero, suc, ◌+◌, ◌≤◌, true, false, List, [], ◌∷◌, ◌++◌, Option, Some, refl, sym, ◌∙◌, ◌⊎◌, inl, inr, length, arith, ◌==◌, append_assoc}
 use Rattle.std.specs.Prelude.{slice_get}
 use Rattle.std.proofs.lemmas.Bool.{eq-eqb}
 use Rattle.ev_machine.specs.Values.{Value, Null, Flag, Number, Letter, Text, Prim, Broken, Items, Ref, Name, Gift}
-use Rattle.ev_machine.specs.State.{Passed, Passeds, Plain, AGift, Many, NoMore, More, Note, Deliver, Open, Ask, SettledTo, Elsewhere, Shorten, Vat, is_in}
+use Rattle.ev_machine.specs.State.{Passed, Passeds, Plain, AGift, Many, NoMore, More, Note, Deliver, Open, Ask, SettledTo, Elsewhere, Shorten, Vat}
 use Rattle.ev_run.specs.World as world
 use Rattle.ev_run.specs.World.{Script, Entry, Turn, Carry, CutLink, NoticeLink, Link, World, Goes as Going, link_at, with_link, with_notes}
 use Rattle.ev_fate_laws.specs.Fate.{once}
 use Rattle.ev_fate_laws.specs.Lasting.{Each}
-use Rattle.ev_name_laws.specs.Names.{Bit, Named, AllOf, IsAmong, IsKnownIn, ValueOk, PassedOk, PassedsOk, NoteOk, names_in}
+use Rattle.ev_name_laws.specs.Names.{Bit, Named, AllOf, ValueOk, PassedOk, PassedsOk, NoteOk}
 use Rattle.ev_name_laws.specs.Runs.{KnowsOnce}
 use Rattle.ev_name_laws.proofs.Facts.{MayBe}
 use Rattle.ev_name_laws.proofs.Among.{length_end}
 use Rattle.ev_name_laws.proofs.Run.{link_holds}
-use Rattle.ev_rest_laws.specs.Cuts.{NoticesFollow, NoticesFollowCuts, IsCutThere}
-use Rattle.ev_answer_laws.specs.Behind.{Avoids, NamesNot, IsKnownTo as KnowsIn}
+use Rattle.ev_rest_laws.specs.Cuts.{NoticesFollowCuts}
+use Rattle.ev_answer_laws.specs.Behind.{Avoids, IsKnownTo as KnowsIn}
 use Rattle.ev_answer_laws.proofs.FollowRuns.{tail_of}
 use Rattle.ev_answer_laws.proofs.LegRuns.{sender_of}
-use Rattle.ev_answer_laws.proofs.Moves.{steps_end, going_is}
+use Rattle.ev_answer_laws.proofs.Moves.{steps_end}
 use Rattle.ev_gift_laws.specs.News.{IsPassed, IsPassedIn, Passes, IsRefTo, IsNamed, IsNamedIn, Names, GiftsApart}
 use Rattle.ev_gift_laws.specs.Standing.{IsEntered}
-use Rattle.ev_gift_laws.specs.Passing.{gifts_in, gifts_in_all, gifts_in_note, gifts_on, gifts_under_way, PassesFrom, AllPassFrom, Provides}
+use Rattle.ev_gift_laws.specs.Passing.{gifts_in, gifts_in_all, gifts_in_note, gifts_under_way, PassesFrom, AllPassFrom, Provides}
 use Rattle.ev_gift_laws.specs.Apart.{EntryApart, AllApart}
 use Rattle.ev_gift_laws.proofs.Links.{found_tells}
 use Rattle.ev_gift_laws.proofs.Apart.{new_where_apart}
 use Rattle.ev_table_laws.proofs.KnownRuns.{names_are_known_once}
 use Rattle.ev_table_laws.proofs.VatTables.{tables_tell_things_apart}
 use Rattle.ev_wait_laws.proofs.KnownOnce.{waits_end_where_new}
-use Rattle.ev_apart_laws.specs.Hiding.{IsNotOf, Spares}
+use Rattle.ev_apart_laws.specs.Hiding.{Spares}
 use Rattle.ev_apart_laws.specs.Asking.{AsksFor, AskedFirst, OwnGiftsStand, GiftsFollowAsks}
 use Rattle.ev_apart_laws.specs.Whole.{GiftsStandApart, NotesBringWhatIsNew, EachNameIsKnownOnce, EachVatHasItsTable, WaitsEndInEveryVat}
 use Rattle.ev_apart_laws.proofs.AskMoves.{Followed}

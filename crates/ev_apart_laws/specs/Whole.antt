@@ -2,7 +2,7 @@
 use Rattle.std.specs.Prelude.{◌≡◌, ℕ, zero, List, ◌∷◌, Some, slice_get}
 use Rattle.ev_machine.specs.Values.{Name}
 use Rattle.ev_machine.specs.State.{Note, Vat}
-use Rattle.ev_run.specs.World.{Script, Entry, Link, World, Goes, begins, open_from, steps_from, link_at, names}
+use Rattle.ev_run.specs.World.{Script, Entry, Link, World, Goes, begins, open_from, link_at, names}
 use Rattle.ev_name_laws.specs.Runs.{KnowsOnce}
 use Rattle.ev_rest_laws.specs.Cuts.{NoticesFollowCuts}
 use Rattle.ev_rest_laws.specs.Hosts.{InEachVatBehindCuts}

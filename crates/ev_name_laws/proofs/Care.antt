@@ -7,7 +7,7 @@ use Rattle.ev_machine.specs.Refs.{Place, Parcel, spotted}
 use Rattle.ev_machine.specs.Native.{Reply}
 use Rattle.ev_machine.specs.Scopes.{Answer, Answers}
 use Rattle.ev_name_laws.specs.Names.{Bit, Named, Mail, Drew, At, Off, Entered, Owns, Gave, AllOf, ValueOk, ValuesOk, EntryOk, MessageOk, KnownOk, CellOk, ThingOk, PutOk, GiftOk, Parts}
-use Rattle.ev_name_laws.proofs.Facts.{all_map, all_end, ChangeOk, OnOk, on_up, PlaceOk, put_up, values_up, message_up, known_up, cell_up, thing_up, gift_up, Fact, Nothing, Also, IsName, IsMail, IsDraw, IsVat, IsOff, IsEntry, IsOwned, IsGiven, NoteGoes, IsValue, AreValues, IsBound, AreNouns, IsMessage, AreKnown, IsGiftEntry, AreGifts, IsPlace, IsThing, IsView, IsChange, MayValue, MayCell, MayThing, MayKnown, MayGift, IsReply, DoesPass, DoAllPass, NoteDoes, scope, answer, answers, parcel, new_names, nothing, Holds, holds_up}
+use Rattle.ev_name_laws.proofs.Facts.{all_map, all_end, ChangeOk, OnOk, on_up, PlaceOk, put_up, values_up, message_up, known_up, cell_up, thing_up, gift_up, Fact, Nothing, Also, IsName, IsMail, IsDraw, IsVat, IsOff, IsEntry, IsOwned, IsGiven, NoteGoes, IsValue, AreValues, IsBound, AreNouns, IsMessage, AreKnown, IsGiftEntry, AreGifts, IsPlace, IsThing, IsView, IsChange, MayValue, MayCell, MayThing, MayGift, IsReply, DoesPass, DoAllPass, NoteDoes, scope, answer, answers, parcel, new_names, nothing, Holds, holds_up}
 
 -- a line that tells of no message
 abbrev pub TellsOfNone : {N : Type 0} → Happened N → Type 0
@@ -198,9 +198,6 @@ module _ {N : Type 0} (S : Care N) where
 
   pub got_wait_on : (C : Fact N) (q : N) → Gets C (IsName q) → Gets C (IsChange (WaitOn q))
   got_wait_on C q g = record { at = λ s h. g.at s h }
-
-  pub got_to_tell : (C : Fact N) (w : ℕ) → Gets C (IsChange (ToTell w))
-  got_to_tell C w = record { at = λ s h. tt }
 
   pub got_ejector : (C : Fact N) (b : Bool) → Gets C (IsThing (Ejector b))
   got_ejector C b = record { at = λ s h. tt }
@@ -515,9 +512,6 @@ module _ {N : Type 0} (S : Care N) where
   pub bind_may_thing : {B : Type 0} {C : Fact N} {m : Act N (Option (Thing N))} {f : Option (Thing N) → Act N B} {H : B → Fact N} → Fine C m MayThing → ((a : Option (Thing N)) → Fine (Also C (MayThing a)) (f a) H) → Fine C (m >>= f) H
   bind_may_thing h k = fine_bind MayThing h k
 
-  pub bind_may_known : {B : Type 0} {C : Fact N} {m : Act N (Option (Known N))} {f : Option (Known N) → Act N B} {H : B → Fact N} → Fine C m MayKnown → ((a : Option (Known N)) → Fine (Also C (MayKnown a)) (f a) H) → Fine C (m >>= f) H
-  bind_may_known h k = fine_bind MayKnown h k
-
   pub bind_reply : {B : Type 0} {C : Fact N} {m : Act N (Reply N)} {f : Reply N → Act N B} {H : B → Fact N} → Fine C m IsReply → ((a : Reply N) → Fine (Also C (IsReply a)) (f a) H) → Fine C (m >>= f) H
   bind_reply h k = fine_bind IsReply h k
 
@@ -696,10 +690,10 @@ module _ {N W : Type 0} (K : Naming N W) (S : Care N) (law : Under K S) (makes :
   unfolding new_message
   fine_new_message w g = record { after = λ s h c. let r = makes.messaged s w (g.at s c) in (r.0, record { parts = with_known K S law s _ _ w r.0 r.3 h; more = r.1 h.more }, (r.2, r.3)) }
 
-pub ruleset gets = (got, got_vat, got_left, got_right, got_itself, got_both, got_nothing, got_null, got_flag, got_number, got_text, got_prim, got_broken, got_items, got_ref, got_none, got_more, got_message, got_hold, got_react, got_settle, got_entry, got_drew, got_wait, got_wait_on, got_to_tell, got_ejector, got_resolver, got_audition)
+pub ruleset gets = (got, got_vat, got_left, got_right, got_itself, got_both, got_nothing, got_null, got_flag, got_number, got_text, got_prim, got_broken, got_items, got_ref, got_none, got_more, got_message, got_hold, got_react, got_settle, got_entry, got_drew, got_wait, got_wait_on, got_ejector, got_resolver, got_audition)
 
 -- what touches no message and nothing that is known
-pub ruleset quiet = (gets, then_unit, then_number, then_value, then_answer, bind_vat, bind_number, bind_draw, bind_name, bind_names, bind_flag, bind_place, bind_standing, bind_gifts, bind_gift, bind_knowns, bind_value, bind_values, bind_scope, bind_answer, bind_answers, bind_may_value, bind_may_cell, bind_may_thing, bind_may_known, bind_reply, bind_bound, bind_passed, bind_passeds, bind_parcel, end_value, end_scope, end_answer, fine_some, fine_if, fine_give, fine_throw, fine_eject, fine_stop, fine_look, fine_spend, fine_activation, fine_thing, fine_kill, fine_slot, fine_write, fine_list, fine_each)
+pub ruleset quiet = (gets, then_unit, then_number, then_value, then_answer, bind_vat, bind_number, bind_draw, bind_name, bind_names, bind_flag, bind_place, bind_standing, bind_gifts, bind_gift, bind_knowns, bind_value, bind_values, bind_scope, bind_answer, bind_answers, bind_may_value, bind_may_cell, bind_may_thing, bind_reply, bind_bound, bind_passed, bind_passeds, bind_parcel, end_value, end_scope, end_answer, fine_some, fine_if, fine_give, fine_throw, fine_eject, fine_stop, fine_look, fine_spend, fine_activation, fine_thing, fine_kill, fine_slot, fine_write, fine_list, fine_each)
 
 -- and lines that tell of no message
 pub ruleset quiet_told = (quiet, told_called, told_back, told_thrown, told_left, told_got, told_slot_made, told_slot_read, told_slot_wrote, told_list_made, told_ejector_made, told_audition_made, told_promise_made, told_object_made, told_finished, told_threw)

@@ -8,7 +8,7 @@ use Rattle.ev_machine.specs.Refs.{Place, Near, Mine, Away, Gone, Parcel}
 use Rattle.ev_machine.specs.Arrive as arrive
 use Rattle.ev_machine.specs.Native.{list_at}
 use Rattle.ev_name_laws.specs.Names.{Bit, Named, AllOf, ValueOk, ValuesOk, StandingOk, KnownOk, CellOk, ThingOk, GiftOk, PassedOk, PassedsOk}
-use Rattle.ev_name_laws.proofs.Facts.{MayBe, PlaceOk, Fact, Also, IsName, IsMail, IsDraw, IsVat, IsOff, IsEntry, IsGiven, AreEntries, AreTold, MayEntry, NoteGoes, AreNames, IsValue, AreValues, IsMessage, AreMessages, IsKnown, AreKnown, IsGiftEntry, AreGifts, IsPlace, MayCell, MayThing, MayKnown, MayGift, DoesPass, DoAllPass, NoteDoes, parcel, nothing}
+use Rattle.ev_name_laws.proofs.Facts.{MayBe, PlaceOk, Fact, Also, IsName, IsMail, IsDraw, IsVat, IsOff, IsEntry, IsGiven, AreEntries, AreTold, MayEntry, NoteGoes, IsValue, AreValues, IsMessage, AreMessages, IsKnown, AreKnown, IsGiftEntry, AreGifts, IsPlace, MayCell, MayThing, MayGift, DoesPass, DoAllPass, NoteDoes, parcel, nothing}
 use Rattle.ev_name_laws.proofs.Care.{Care, Spots, Gets, Fine, fine_sees, fine_then, fine_give, got_nothing}
 
 pub get_all : {A : Type 0} (P : A → Type 0) (xs : List A) (n : ℕ) → AllOf P xs → MayBe P (slice_get xs n)
@@ -200,14 +200,6 @@ module _ {N : Type 0} (S : Care N) where
       first : Fine S C (f m) nothing
       first = record { after = λ s i c. (h m).after s i (c, (g.at s c).0) }
 
-  pub each_name : {C : Fact N} {f : N → Act N (Unit {0})} (ns : List N) → Gets S C (AreNames ns) → ((n : N) → Fine S (Also C (IsName n)) (f n) nothing) → Fine S C (each f ns) nothing
-  unfolding each
-  each_name {C = C} [] g h = fine_give S tt (got_nothing S C)
-  each_name {C = C} {f = f} (n ∷ ns) g h = fine_then S nothing first (each_name ns (record { at = λ s c. (g.at s c).1 }) h)
-    where
-      first : Fine S C (f n) nothing
-      first = record { after = λ s i c. (h n).after s i (c, (g.at s c).0) }
-
   pub each_entry : {C : Fact N} {f : N → Act N (Unit {0})} (ns : List N) → Gets S C (AreEntries ns) → ((n : N) → Fine S (Also C (IsEntry n)) (f n) nothing) → Fine S C (each f ns) nothing
   unfolding each
   each_entry {C = C} [] g h = fine_give S tt (got_nothing S C)
@@ -336,4 +328,4 @@ module _ {N W : Type 0} (K : Naming N W) (S : Care N) (spots : Spots K S) where
   pub look_place_of : {C : Fact N} (x : Value N) → Gets S C (IsValue x) → Fine S C (look (λ s. refs.place K s (refs.follow K s x))) IsPlace
   look_place_of x g = fine_sees S (λ s. refs.place K s (refs.follow K s x)) IsPlace (λ s h c. place_ok K (S.ok s) s (spots.placed s h.more) (refs.follow K s x) (follow_ok K (S.ok s) s h.parts.known x (g.at s c)))
 
-pub ruleset looks = (look_number, got_answer_host, goes_deliver, goes_open, goes_ask, goes_settled, goes_elsewhere, goes_shorten, look_follow, look_list, look_target, look_parcel, look_cell, look_thing, look_gift, look_known, look_gifts, each_message, each_name, each_entry, each_told, each_known, each_gift, got_plain, got_gift, got_many, got_no_more, got_one_more, note_deliver, note_open, note_ask, note_settled, note_elsewhere, note_shorten)
+pub ruleset looks = (look_number, got_answer_host, goes_deliver, goes_open, goes_ask, goes_settled, goes_elsewhere, goes_shorten, look_follow, look_list, look_target, look_parcel, look_cell, look_thing, look_gift, look_known, look_gifts, each_message, each_entry, each_told, each_known, each_gift, got_plain, got_gift, got_many, got_no_more, got_one_more, note_deliver, note_open, note_ask, note_settled, note_elsewhere, note_shorten)
