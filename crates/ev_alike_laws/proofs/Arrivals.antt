@@ -57,7 +57,7 @@ told_arrives K v from (Shorten n c i) = refl
 
 -- ---- the entry that carries the note
 
-put_given : (script : Script) (u : ℕ) (w y : World) (head : List Event) (k : ℕ) (d : Done Name (Unit {0})) → world.put_back u w head k d ≡ Going y → (t : Vat Name) × (d ≡ Gives tt t) × (y.vats ≡ put_at u t w.vats)
+pub put_given : (script : Script) (u : ℕ) (w y : World) (head : List Event) (k : ℕ) (d : Done Name (Unit {0})) → world.put_back u w head k d ≡ Going y → (t : Vat Name) × (d ≡ Gives tt t) × (y.vats ≡ put_at u t w.vats)
 unfolding world.put_back
 put_given script u w y head k (Gives a t) e = (t, refl, vats_is (record { fuel = t.fuel; drawn = t.drawn; vats = put_at u t w.vats; links = world.push_all u t.outbox w.links; history = w.history ++ head ++ world.events_of w.links u t.happened }) y e)
   where
@@ -93,7 +93,7 @@ module _ (script : Script) (k v u : ℕ) (x : World) (l : Link) (n : Note Name) 
   unfolding world.carry_link
   link_arrives o e c h f = rw e (uncut_or l.cut (world.idle script k x) (world.carry_notes script k v u x l.notes) c ∙ notes_arrive l.notes h f)
 
-  carried : (y : World) → link_at v u x.links ≡ Some l → l.cut ≡ false → l.notes ≡ n ∷ ns → slice_get x.vats u ≡ Some s → world.step script (Carry v u) k x ≡ Going y → (t : Vat Name) × (Outcome ≡ Gives tt t) × (y.vats ≡ put_at u t x.vats)
+  pub carried : (y : World) → link_at v u x.links ≡ Some l → l.cut ≡ false → l.notes ≡ n ∷ ns → slice_get x.vats u ≡ Some s → world.step script (Carry v u) k x ≡ Going y → (t : Vat Name) × (Outcome ≡ Gives tt t) × (y.vats ≡ put_at u t x.vats)
   unfolding world.step
   carried y at c h f e = put_given script u Taken y (Carried k v u n Taken.links ∷ []) (world.step_number script k) Outcome (sym (link_arrives (link_at v u x.links) at c h f) ∙ e)
 
@@ -104,18 +104,18 @@ unfolding world.then_goes
 then_last x e (Going y) f g i = g y refl i
 then_last x e (Stopped c j y) f g i = cc
 
-new_last : (script : Script) (es : List Entry) (e : Entry) (k : ℕ) (w x : World) → NotesBringNew script (es ++ e ∷ []) k w → world.steps_from script es k w ≡ Going x → EntryBringsNew x e
+pub new_last : (script : Script) (es : List Entry) (e : Entry) (k : ℕ) (w x : World) → NotesBringNew script (es ++ e ∷ []) k w → world.steps_from script es k w ≡ Going x → EntryBringsNew x e
 unfolding world.steps_from
 new_last script [] e k w x h f = subst (λ z. EntryBringsNew z e) (let same : w ≡ x = cc in same) h.0
 new_last script (d ∷ es) e k w x h f = then_last x e (world.step script d k w) (world.steps_from script es (suc k)) (λ y g i. new_last script es e (suc k) y x (h.1 y g) i) f
 
 -- ---- the table
 
-tables_join : (x y : World) (u : ℕ) (s r : Vat Name) → IsTable u (table_of x u s) → IsTable u (table_of y u r) → IsTable u (table_across x u r)
+pub tables_join : (x y : World) (u : ℕ) (s r : Vat Name) → IsTable u (table_of x u s) → IsTable u (table_of y u r) → IsTable u (table_across x u r)
 unfolding table_of table_across
 tables_join x y u s r f g = record { promises = g.promises; distinct = g.distinct; messages = g.messages; abroad = f.abroad; exports_distinct = f.exports_distinct }
 
-some_same : (t r : Vat Name) → Some t ≡ Some r → t ≡ r
+pub some_same : (t r : Vat Name) → Some t ≡ Some r → t ≡ r
 some_same t r e = cc
 
 -- where the note is read alike, and the outcome is known
