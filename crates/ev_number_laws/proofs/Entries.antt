@@ -1,12 +1,12 @@
 -- What each entry makes of a vat in its own numbers.
-use Rattle.std.proofs.Common.{◌≡◌, ℕ, suc, ◌+◌, Bool, true, false, List, [], ◌∷◌, ◌++◌, Option, Some, None, refl, sym, ap, subst, ◌∙◌, length, map}
+use Rattle.std.proofs.Common.{◌≡◌, ℕ, ◌+◌, Bool, true, false, List, [], ◌∷◌, ◌++◌, Option, Some, None, refl, sym, ap, subst, ◌∙◌, length, map}
 use Rattle.std.specs.Prelude.{slice_get}
 use Rattle.ev_machine.specs.Values.{Name, Local, naming, numbering}
-use Rattle.ev_machine.specs.State.{Message, Note, Vat, Done, Gives}
+use Rattle.ev_machine.specs.State.{Message, Note, Vat, Gives}
 use Rattle.ev_machine.specs.Arrive as arrive
 use Rattle.ev_machine.specs.Arrive.{Incoming}
 use Rattle.ev_machine.specs.Eval.{taking}
-use Rattle.ev_machine_laws.specs.Steps.{Step, Takes, Receives, Notices, After, does}
+use Rattle.ev_machine_laws.specs.Steps.{Step, Takes, Receives, Notices, does}
 use Rattle.ev_machine_laws.specs.Laws.{SameNames, SameMails}
 use Rattle.ev_machine_laws.proofs.StepLaws.{names_stays, mails_stays}
 use Rattle.ev_run.specs.Draws.{draw_word}
@@ -27,7 +27,7 @@ use Rattle.ev_apart_laws.proofs.Whole.{have_tables}
 use Rattle.ev_wire_laws.specs.Hearing.{Heard}
 use Rattle.ev_alike_laws.specs.Arrivals.{frame_heard, table_across}
 use Rattle.ev_alike_laws.proofs.Arrivals.{put_given, carried, tables_join}
-use Rattle.ev_number_laws.specs.Steps.{OwnStep, turn_by_numbers, arrival_by_numbers, note_by_numbers, link_by_numbers, entry_by_numbers, EndsFor, EntriesByNumbersStand}
+use Rattle.ev_number_laws.specs.Steps.{turn_by_numbers, arrival_by_numbers, note_by_numbers, link_by_numbers, entry_by_numbers, EndsFor, EntriesByNumbersStand}
 use Rattle.ev_number_laws.proofs.Notes.{arrivals_stand}
 use Rattle.ev_number_laws.proofs.Own.{StayBut, stay_same, stay_put, state_same, state_put, ends_with, ends_for, own_ends, stands_on, after_gives}
 
@@ -119,8 +119,8 @@ module _ (script : Script) (x y : World) (u : ℕ) (s r : Vat Name) (there : sli
       let first : StandsFor u (table_across x u r) q (readied x s) = begun (readied x (record s { queue = ms })) (Takes tree script.depth m) outcome refl refl in
       let same = heads (maps.message F n) (maps.message Is m) (map (maps.message F) ns) (map (maps.message Is) ms) (queue_is F q (readied x s) (n ∷ ns) (m ∷ ms) first j i) in
       ends_for x u s r (taking (numbering {W = Wired} word) tree script.depth n (record q { queue = ns }))
-          (turns_stand word u (table_across x u r) table tree script.depth n m same.0 (record q { queue = ns }) (readied x (record s { queue = ms })) (queue_stands F q (readied x s) ns ms first same.1) (ends_with (table_across x u r) r (taking (naming word u) tree script.depth m (readied x (record s { queue = ms }))) outcome refl refl)
-          ∙ ap (λ d. maps.done Is (λ a. a) d) outcome)
+      (turns_stand word u (table_across x u r) table tree script.depth n m same.0 (record q { queue = ns }) (readied x (record s { queue = ms })) (queue_stands F q (readied x s) ns ms first same.1) (ends_with (table_across x u r) r (taking (naming word u) tree script.depth m (readied x (record s { queue = ms }))) outcome refl refl)
+      ∙ ap (λ d. maps.done Is (λ a. a) d) outcome)
 
   queue_ends : (k : ℕ) (ms : List (Message Name)) (ns : List (Message Local)) → s.queue ≡ ms → q.queue ≡ ns → world.turn_queue script k u x s ms ≡ Going y → EndsFor x u s r (turn_by_numbers script u q ns)
   unfolding world.turn_queue world.within turn_by_numbers world.names readied
@@ -141,8 +141,8 @@ module _ (script : Script) (x y : World) (u : ℕ) (s r : Vat Name) (there : sli
   noticed c p =
       let outcome : arrive.notice (naming word u) c (readied x s) ≡ Gives tt r = p.1 ∙ ap (λ z. Gives tt z) (state_put x y u s r p.0 there after p.2) in
       ends_for x u s r (arrive.notice (numbering {W = Wired} word) c q)
-          (notices_stand word u (table_across x u r) table c q (readied x s) (begun (readied x s) (Notices c) outcome refl refl) (ends_with (table_across x u r) r (arrive.notice (naming word u) c (readied x s)) outcome refl refl)
-          ∙ ap (λ d. maps.done Is (λ a. a) d) outcome)
+      (notices_stand word u (table_across x u r) table c q (readied x s) (begun (readied x s) (Notices c) outcome refl refl) (ends_with (table_across x u r) r (arrive.notice (naming word u) c (readied x s)) outcome refl refl)
+      ∙ ap (λ d. maps.done Is (λ a. a) d) outcome)
 
   notice_ends : (k c : ℕ) (o : Option (Vat Name)) → o ≡ Some s → world.within u x (NoticedAt k u c ∷ []) (world.step_number script k) (arrive.notice (world.names script u) c) o ≡ Going y → EndsFor x u s r (Some (arrive.notice (numbering {W = Wired} word) c q))
   unfolding world.within world.names
@@ -200,13 +200,13 @@ entries_stand script once w x y es (Turn v) k follow opened stepped steps u s r 
 entries_stand script once w x y es (Carry v t) k follow opened stepped steps u s r there after q stands =
     own_ends x t u s r (link_by_numbers script x v u s q (link_at v u x.links))
     (λ i. let here : world.step script (Carry v u) (k + length es) x ≡ Going y = subst (λ z. world.carry_link script (k + length es) v z x (link_at v z x.links) ≡ Going y) i steps in
-        link_ends script x y u s r there after (is_table script once w x y es (Carry v t) k follow opened stepped steps u s r there after) q stands (k + length es) v here (link_at v u x.links) refl
-        (λ l at uncut n ns head. arrivals_stand script once w x y es k v u (followed script once w x y es (Carry v t) k follow opened stepped steps u s r there after) opened stepped here s r there after (other script once w x y es (Carry v t) k follow opened stepped steps u s r there after v l at) l at uncut n ns head) here)
+    link_ends script x y u s r there after (is_table script once w x y es (Carry v t) k follow opened stepped steps u s r there after) q stands (k + length es) v here (link_at v u x.links) refl
+    (λ l at uncut n ns head. arrivals_stand script once w x y es k v u (followed script once w x y es (Carry v t) k follow opened stepped steps u s r there after) opened stepped here s r there after (other script once w x y es (Carry v t) k follow opened stepped steps u s r there after v l at) l at uncut n ns head) here)
     (λ o. state_same x y u s r there after (link_stay script (k + length es) v t x y (link_at v t x.links) steps u o))
 entries_stand script once w x y es (CutLink v t) k follow opened stepped steps u s r there after q stands =
     state_same x y u s r there after (ap (λ us. slice_get us u) (going_is script _ y steps))
 entries_stand script once w x y es (NoticeLink v c) k follow opened stepped steps u s r there after q stands =
     own_ends x v u s r (Some (arrive.notice (numbering {W = Wired} (draw_word script.key)) c q))
     (λ i. notice_ends script x y u s r there after (is_table script once w x y es (NoticeLink v c) k follow opened stepped steps u s r there after) q stands (k + length es) c (slice_get x.vats u) there
-        (subst (λ z. world.within z x (NoticedAt (k + length es) z c ∷ []) (world.step_number script (k + length es)) (arrive.notice (world.names script z) c) (slice_get x.vats z) ≡ Going y) i steps))
+    (subst (λ z. world.within z x (NoticedAt (k + length es) z c ∷ []) (world.step_number script (k + length es)) (arrive.notice (world.names script z) c) (slice_get x.vats z) ≡ Going y) i steps))
     (λ o. state_same x y u s r there after (notice_stay script (k + length es) v c x y (slice_get x.vats v) steps u o))

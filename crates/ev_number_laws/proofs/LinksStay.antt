@@ -1,5 +1,5 @@
 -- From each vat of a script there is a link to each other one, in every world of a run.
-use Rattle.std.proofs.Common.{◌≡◌, ℕ, ◌≤◌, ◌<◌, zero, false, List, ◌++◌, Some, refl, sym, subst, length, ◌==◌, arith}
+use Rattle.std.proofs.Common.{◌≡◌, ℕ, ◌<◌, zero, false, List, ◌++◌, sym, subst, length, ◌==◌, arith}
 use Rattle.ev_run.specs.World as world
 use Rattle.ev_run.specs.World.{Script, Program, Entry, Link, World, Goes as Going}
 use Rattle.ev_name_laws.specs.Runs.{KnowsOnce}

@@ -1,11 +1,11 @@
 -- What the opening turn of a vat makes of it in its own numbers.
 use Rattle.std.proofs.Common.{◌≡◌, ℕ, zero, suc, ◌+◌, ◌≤◌, List, [], ◌∷◌, ◌++◌, Option, Some, None, refl, sym, ap, subst, ◌∙◌, length, map, append_assoc, arith}
 use Rattle.std.specs.Prelude.{slice_get}
-use Rattle.ev_machine.specs.Values.{Name, Root, Prim, Ref, Local, Prom, naming, numbering}
-use Rattle.ev_machine.specs.State.{Fixed, Binding, Known, Vat, Done, Gives, begun}
+use Rattle.ev_machine.specs.Values.{Name, Root, Prim, Local, Prom, naming, numbering}
+use Rattle.ev_machine.specs.State.{Vat, Gives, begun}
 use Rattle.ev_machine.specs.Scopes.{any_guard}
 use Rattle.ev_machine.specs.Eval.{opening}
-use Rattle.ev_machine_laws.specs.Steps.{Step, Opens as Starts, After, does}
+use Rattle.ev_machine_laws.specs.Steps.{Opens as Starts, does}
 use Rattle.ev_machine_laws.specs.Laws.{SameNames, SameMails}
 use Rattle.ev_machine_laws.proofs.StepLaws.{names_stays, mails_stays}
 use Rattle.ev_run.specs.Draws.{draw_word}
@@ -116,9 +116,9 @@ module _ (script : Script) (once : KnowsOnce script) (ps rest : List Program) (p
       let kept : SameMails (readied x s) r = after_gives SameMails (readied x s) r (does (naming word u) what (readied x s)) outcome (mails_stays (naming word u) what (readied x s)) in
       let at : (k : ℕ) (n : Name) → slice_get (names_in (world.fresh script u p).known) k ≡ Some n → F (Prom k) ≡ Is n = λ k n e. prom_is x u r k n (known_on s r same k n (ap (λ (z : Vat Name). slice_get (names_in z.known) k) is_fresh ∙ e)) in
       ends_for x u s r (opening (numbering {W = Wired} word) p.tree script.depth (Prom zero) (given_by_numbers script.vats 1 p.knows) q)
-          (turns_open word u (table_across x u r) is_table p.tree script.depth (Prom zero) (Root u) (given_by_numbers script.vats 1 p.knows) gave (at zero (Root u) (root_first script u p)) (given_same F script.vats 1 p.knows (λ i w e. let n : suc i ≡ 1 + i = omega arith in subst (λ j. F (Prom j) ≡ Is (Root w)) n (at (suc i) (Root w) (root_next script u p i w e))))
-              q (readied x s) (stands_on x u s (readied x s) r q same kept stands) (ends_with (table_across x u r) r (opening (naming word u) p.tree script.depth (Root u) gave (readied x s)) outcome refl refl)
-          ∙ ap (λ d. maps.done Is (λ a. a) d) outcome)
+      (turns_open word u (table_across x u r) is_table p.tree script.depth (Prom zero) (Root u) (given_by_numbers script.vats 1 p.knows) gave (at zero (Root u) (root_first script u p)) (given_same F script.vats 1 p.knows (λ i w e. let n : suc i ≡ 1 + i = omega arith in subst (λ j. F (Prom j) ≡ Is (Root w)) n (at (suc i) (Root w) (root_next script u p i w e))))
+      q (readied x s) (stands_on x u s (readied x s) r q same kept stands) (ends_with (table_across x u r) r (opening (naming word u) p.tree script.depth (Root u) gave (readied x s)) outcome refl refl)
+      ∙ ap (λ d. maps.done Is (λ a. a) d) outcome)
 
   turn_ends : (o : Option (Vat Name)) → o ≡ Some s → world.within u x (Opens u ∷ []) u (opening (world.names script u) p.tree script.depth (Root u) (world.given script.vats p.knows)) o ≡ Going y → EndsFor x u s r (Some (opening (numbering {W = Wired} word) p.tree script.depth (Prom zero) (given_by_numbers script.vats 1 p.knows) q))
   unfolding world.within world.names
@@ -134,5 +134,5 @@ unfolding opening_by_numbers world.open_vat Ends
 openings_stand script once ps rest p x y split opened opens u s r there after q stands =
     own_ends x (length ps) u s r (Some (opening (numbering {W = Wired} (draw_word script.key)) p.tree script.depth (Prom zero) (given_by_numbers script.vats 1 p.knows) q))
     (λ i. subst (λ (z : ℕ). slice_get x.vats z ≡ Some s → slice_get y.vats z ≡ Some r → StandsFor z (table_of x z s) q (readied x s) → Ends script x ps p s r q z) i
-        (λ there after stands. turn_ends script once ps rest p x y split opened opens s r there after q stands (slice_get x.vats (length ps)) there opens) there after stands)
+    (λ there after stands. turn_ends script once ps rest p x y split opened opens s r there after q stands (slice_get x.vats (length ps)) there opens) there after stands)
     (λ o. state_same x y u s r there after (opens_stay script (length ps) p x y (slice_get x.vats (length ps)) opens u o))

@@ -1,13 +1,12 @@
 -- What a step of one vat makes of the states of others, and what the outcome of a step in numbers says.
-use Rattle.std.proofs.Common.{◌≡◌, ℕ, zero, suc, ◌+◌, ◌≤◌, Bool, true, false, List, [], ◌∷◌, ◌++◌, Option, Some, None, refl, sym, ap, subst, ◌∙◌, ◌==◌, length, arith}
+use Rattle.std.proofs.Common.{◌≡◌, ℕ, zero, suc, Bool, true, false, List, [], ◌∷◌, Option, Some, None, refl, sym, ap, subst, ◌∙◌, ◌==◌}
 use Rattle.std.specs.Prelude.{slice_get, option_map}
 use Rattle.std.proofs.lemmas.Bool.{eqb-true, eq-eqb}
 use Rattle.ev_machine.specs.Values.{Name, Local}
 use Rattle.ev_machine.specs.State.{Known, Vat, Done, Gives, Throws, Ejects, Stops}
-use Rattle.ev_machine_laws.specs.Steps.{Step, After, does}
+use Rattle.ev_machine_laws.specs.Steps.{After}
 use Rattle.ev_machine_laws.specs.Laws.{SameNames, SameMails}
-use Rattle.ev_run.specs.World as world
-use Rattle.ev_run.specs.World.{World, Run, Event, Goes as Going, put_at}
+use Rattle.ev_run.specs.World.{World, put_at}
 use Rattle.ev_name_laws.specs.Names.{names_in}
 use Rattle.ev_name_laws.proofs.Among.{get_put}
 use Rattle.ev_renaming.specs.Maps as maps

@@ -1,8 +1,8 @@
 -- Two ways of changing names are one on a state where they are one on each name in it.
 use Rattle.std.proofs.Common.{◌≡◌, ℕ, List, [], ◌∷◌, refl, map}
 use Rattle.ev_machine.specs.Values.{Value, Null, Flag, Number, Letter, Text, Prim, Broken, Items, Ref}
-use Rattle.ev_machine.specs.State.{Bound, Fixed, Slot, Binding, Cell, Freedom, IsSafe, IsItself, IsFinal, IsVar, FreeName, View, Thing, Made, Ejector, Audition, Resolver, Message, Standing, Unsettled, WaitsOn, Viewed, Settled, Known, Put, GiftEntry, Happened, Vat}
-use Rattle.ev_name_laws.specs.Names.{Bit, Named, Mail, Entered, Owns, AllOf, ValueOk, ValuesOk, NameOk, MessageOk, StandingOk, EntryOk, KnownOk, CellOk, FreedomOk, ViewOk, BoundOk, NounOk, ThingOk, GiftOk, Parts}
+use Rattle.ev_machine.specs.State.{Bound, Fixed, Slot, Binding, Cell, Freedom, IsSafe, IsItself, IsFinal, IsVar, FreeName, View, Thing, Made, Ejector, Audition, Resolver, Message, Standing, Unsettled, WaitsOn, Viewed, Settled, Known, Put, GiftEntry, Vat}
+use Rattle.ev_name_laws.specs.Names.{Bit, Named, Mail, Entered, Owns, AllOf, ValueOk, ValuesOk, MessageOk, StandingOk, EntryOk, KnownOk, CellOk, FreedomOk, ViewOk, BoundOk, NounOk, ThingOk, GiftOk, Parts}
 use Rattle.ev_renaming.specs.Maps as maps
 
 pub all_same : {A B : Type 0} (h l : A → B) (Q R : A → Type 0) → ((a : A) → Q a → R a → h a ≡ l a) → (xs : List A) → AllOf Q xs → AllOf R xs → map h xs ≡ map l xs

@@ -1,18 +1,16 @@
 -- Each name in the state of a vat has a number there, so that the state in numbers stands for it.
-use Rattle.std.proofs.Common.{◌≡◌, ℕ, ◌<◌, Bool, true, false, List, [], ◌∷◌, ◌++◌, Option, Some, None, refl, sym, ap, subst, ◌∙◌, ◌⊎◌, inl, inr, ◌==◌, length, map}
+use Rattle.std.proofs.Common.{◌≡◌, ℕ, ◌<◌, Bool, true, false, List, [], ◌∷◌, Option, Some, None, refl, sym, ap, subst, ◌∙◌, inl, inr, ◌==◌, length, map}
 use Rattle.std.specs.Prelude.{slice_get}
 use Rattle.std.proofs.lemmas.Bool.{eqb-true, eq-eqb}
-use Rattle.ev_machine.specs.Values.{Name, Root, Object, Promise, Answer, Gift, Sent, host_of, Local, Obj, Prom, Far, Mess}
-use Rattle.ev_machine.specs.State.{Note, Vat}
-use Rattle.ev_run.specs.World as world
+use Rattle.ev_machine.specs.Values.{Name, Root, Object, Promise, Answer, Gift, Sent, host_of, Obj, Prom, Far, Mess}
+use Rattle.ev_machine.specs.State.{Vat}
 use Rattle.ev_run.specs.World.{Script, Link, World, link_at, has_name, readied}
 use Rattle.ev_run.specs.Wire as wire
 use Rattle.ev_name_laws.specs.Names.{AllOf, IsAmong, IsKnownIn, IsEventual, IsMessageName, IsMessageMade, names_in}
 use Rattle.ev_name_laws.proofs.Facts.{all_map}
 use Rattle.ev_name_laws.proofs.Among.{all_among}
 use Rattle.ev_name_laws.proofs.SameNames.{has_among}
-use Rattle.ev_name_laws.proofs.Run.{Stands, VatStands, Had}
-use Rattle.ev_renaming.specs.Maps as maps
+use Rattle.ev_name_laws.proofs.Run.{VatStands, Had}
 use Rattle.ev_renaming.specs.Stands.{Found, Is, prom_found, mess_found, far_found, found, StandsFor}
 use Rattle.ev_renaming.proofs.MapMaps.{vat_twice}
 use Rattle.ev_table_laws.specs.Exports.{object_of, exported_at}
@@ -25,7 +23,7 @@ use Rattle.ev_wire_laws.proofs.Objects.{OwnOrTold, Handed, AllHanded}
 use Rattle.ev_wire_laws.proofs.Given.{ToldAlong}
 use Rattle.ev_wire_laws.proofs.Ranks.{get_rank}
 use Rattle.ev_wire_laws.proofs.Laws.{asked_for_known}
-use Rattle.ev_wire_laws.proofs.WireRuns.{Wire, opened_both, stepped_both}
+use Rattle.ev_wire_laws.proofs.WireRuns.{opened_both, stepped_both}
 use Rattle.ev_number_laws.specs.States.{number_of, in_numbers, EachStateHasNumbers, EntriesAreTakenInNumbers, OpeningTurnsAreTakenInNumbers}
 use Rattle.ev_number_laws.proofs.Entries.{entries_stand}
 use Rattle.ev_number_laws.proofs.Openings.{openings_stand}
@@ -84,7 +82,7 @@ module _ (script : Script) (w : World) (v : ℕ) (s : Vat Name) (knows : KnowsVa
   unfolding host_of wire.exports
   exported h i e told low = let at = linked h v (flip h e) low stands.low in let t = told at.0 at.1 in let here = exports_in h (wire.questions (λ i. i) w.links v h) (Object h i) refl (not_asked h i) at.0.log at.0.roots (inr t) in
       subst (λ ns. IsAmong (Object h i) (wire.exports_after h (wire.questions (λ i. i) w.links v h) ns (wire.roots_of (link_at h v w.links)))) (sym (log_is at.0 (link_at h v w.links) at.1))
-          (subst (λ ns. IsAmong (Object h i) (wire.exports_after h (wire.questions (λ i. i) w.links v h) at.0.log ns)) (sym (roots_is at.0 (link_at h v w.links) at.1)) here)
+      (subst (λ ns. IsAmong (Object h i) (wire.exports_after h (wire.questions (λ i. i) w.links v h) at.0.log ns)) (sym (roots_is at.0 (link_at h v w.links) at.1)) here)
 
   own_object : (h i : ℕ) → v ≡ h → found v (table_of w v s) (Obj i) ≡ Is (Object h i)
   unfolding found
@@ -129,7 +127,7 @@ module _ (script : Script) (w : World) (v : ℕ) (s : Vat Name) (knows : KnowsVa
   unfolding in_numbers readied
   numbered = vat_twice (number_of w v s) (found v (table_of w v s)) (readied w s)
       ∙ vat_same F Is (Had script w v s) (Handed v (ToldAlong w.links v)) (λ n p o. name_found n p.1 o (p.3 knows)) (λ n p o. mail_found n (made_message n p.0) p.1) (λ n p o. name_found n p.1 o (p.3 knows)) (λ n i p o. name_found n p.1 o (p.3 knows))
-          (readied w s) s.outbox all_mails refl refl stands.parts handed
+      (readied w s) s.outbox all_mails refl refl stands.parts handed
 
 pub states_have_numbers : EachStateHasNumbers
 states_have_numbers script once knows = (
