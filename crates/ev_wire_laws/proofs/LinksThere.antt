@@ -92,7 +92,7 @@ unfolding world.link_at
 there_back a b [] ys t = t
 there_back a b (x ∷ xs) ys t = back_either (world.is_link a b x) x (world.link_at a b (xs ++ ys)) (there_back a b xs ys t)
 
-from_there : (all : List Program) (a b v : ℕ) (ps : List Program) → (a == b) ≡ false → b < length all → v ≤ a → a < v + length ps → IsThere (world.links_from all v ps) a b
+pub from_there : (all : List Program) (a b v : ℕ) (ps : List Program) → (a == b) ≡ false → b < length all → v ≤ a → a < v + length ps → IsThere (world.links_from all v ps) a b
 unfolding world.links_from
 from_there all a b v [] g h k m = absurd (omega arith)
 from_there all a b v (p ∷ ps) g h k m = on_bool (v == a)

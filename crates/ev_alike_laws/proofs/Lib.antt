@@ -1,0 +1,10 @@
+pub mod Grow
+pub mod Words
+pub mod Reading
+pub mod Asking
+pub mod Order
+pub mod Learning
+pub mod OrderRuns
+pub mod Worlds
+pub mod Laws
+pub mod Arrivals

@@ -1,0 +1,5 @@
+pub mod Gifts
+pub mod Order
+pub mod Kinds
+pub mod Arrivals
+pub mod Positions

@@ -1,0 +1,7 @@
+pub mod Notes
+pub mod Own
+pub mod Entries
+pub mod Openings
+pub mod Same
+pub mod LinksStay
+pub mod States

@@ -1,0 +1,37 @@
+-- From each vat of a script there is a link to each other one, in every world of a run.
+use Rattle.std.proofs.Common.{◌≡◌, ℕ, ◌<◌, zero, false, List, ◌++◌, sym, subst, length, ◌==◌, arith}
+use Rattle.ev_run.specs.World as world
+use Rattle.ev_run.specs.World.{Script, Program, Entry, Link, World, Goes as Going}
+use Rattle.ev_name_laws.specs.Runs.{KnowsOnce}
+use Rattle.ev_answer_laws.proofs.LegRuns.{Before, stands_of}
+use Rattle.ev_answer_laws.proofs.LegMoves.{opened_before, stepped_before}
+use Rattle.ev_answer_laws.proofs.Moves.{Moved, Still, Severs, Drops, Steps, Arrives, opened_hold, stepped_hold}
+use Rattle.ev_wire_laws.proofs.LinksGo.{IsThere, Lasts, with_link_lasts}
+use Rattle.ev_wire_laws.proofs.LinksThere.{from_there}
+use Rattle.ev_wire_laws.proofs.Sources.{push_all_lasts, take_lasts, severed_stay}
+
+abbrev pub AllLinked : Script → World → Type 0
+AllLinked script w = (a b : ℕ) → (a == b) ≡ false → a < length script.vats → b < length script.vats → IsThere w.links a b
+
+lasting : (script : Script) (w y : World) (ls : List Link) → y.links ≡ ls → Lasts w.links ls → AllLinked script w → AllLinked script y
+lasting script w y ls e f h = λ a b o i j. subst (λ z. IsThere z a b) (sym e) (f a b (h a b o i j))
+
+links_on : (script : Script) (w y : World) → Before script w → Before script y → Moved script w y → AllLinked script w → AllLinked script y
+links_on script w y past next (Still v l d) h = lasting script w y w.links l (λ a b t. t) h
+links_on script w y past next (Severs c e v l d) h = lasting script w y (world.with_link world.severed_link e c (world.with_link world.severed_link c e w.links)) l
+    (λ a b t. with_link_lasts world.severed_link severed_stay e c (world.with_link world.severed_link c e w.links) a b (with_link_lasts world.severed_link severed_stay c e w.links a b t)) h
+links_on script w y past next (Drops c v n ns l at notes none vats links drawn) h = lasting script w y (world.with_link (world.with_notes ns) c v w.links) links (take_lasts ns c v w.links) h
+links_on script w y past next (Steps v s q t what alone d vats links drawn first fresh) h = lasting script w y (world.push_all v t.outbox w.links) links (push_all_lasts v t.outbox w.links) h
+links_on script w y past next (Arrives c v s t n ns l at cut notes d vats links drawn first fresh) h = lasting script w y (world.push_all v t.outbox (world.with_link (world.with_notes ns) c v w.links)) links
+    (λ a b i. push_all_lasts v t.outbox (world.with_link (world.with_notes ns) c v w.links) a b (take_lasts ns c v w.links a b i)) h
+
+linked_first : (script : Script) → AllLinked script (world.begins script)
+unfolding world.begins
+linked_first script a b o i j = from_there script.vats a b zero script.vats o j (omega arith) (omega arith)
+
+module _ (script : Script) (once : KnowsOnce script) where
+  pub opened_linked : (ps rest : List Program) (w : World) → script.vats ≡ ps ++ rest → world.open_from script zero ps (world.begins script) ≡ Going w → AllLinked script w
+  opened_linked = opened_hold script (Before script) (opened_before script once) (stepped_before script once) (stands_of script) (AllLinked script) (links_on script) (linked_first script)
+
+  pub stepped_linked : (w x : World) (es : List Entry) (k : ℕ) → world.open_from script zero script.vats (world.begins script) ≡ Going w → world.steps_from script es k w ≡ Going x → AllLinked script x
+  stepped_linked = stepped_hold script (Before script) (opened_before script once) (stepped_before script once) (stands_of script) (AllLinked script) (links_on script) (linked_first script)

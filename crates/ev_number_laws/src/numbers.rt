@@ -1,0 +1,59 @@
+//! The theorem on numbers, with no premise on the run: its tables are tables and its notes are read alike
+//! in every run in which each notice stands behind a cut of the same two vats, which are not one. Every
+//! script that is read has that, and tells no vat twice that it knows a vat, nor that it knows itself,
+//! which the laws ask as well.
+
+ghost use Rattle.ev_number_laws.specs.Notes.{EveryNoteIsReadAlike, EveryPositionIsKeptAlike, EveryArrivalStands};
+ghost use Rattle.ev_number_laws.specs.Steps.{EntriesByNumbersStand, OpeningTurnsByNumbersStand};
+ghost use Rattle.ev_number_laws.specs.States.{EachStateHasNumbers, EntriesAreTakenInNumbers, OpeningTurnsAreTakenInNumbers};
+
+/// The note that stands first on a link that is not cut is read alike: its receiver reads the frame by its
+/// own tables and numbers as the one machine reads the note in names.
+pub fn every_note_is_read_alike()
+    ensures { EveryNoteIsReadAlike }
+{}
+
+/// Once the receiver of the next note heard it, it has by position what the sender exported to it in the
+/// notes that have arrived and in this one, and knows as many names as are known once the note was read in
+/// names.
+pub fn every_position_is_kept_alike()
+    ensures { EveryPositionIsKeptAlike }
+{}
+
+/// What a vat that keeps numbers makes of the next note, by what it hears in the frame, stands for what the
+/// one machine makes of it.
+pub fn every_arrival_stands()
+    ensures { EveryArrivalStands }
+{}
+
+/// What an entry makes of each vat in its own numbers stands for what it makes of it in names: a turn, the
+/// arrival of a note as it is heard, the notice of a cut; and a vat whose step it is not stays as it is.
+///
+/// It is said of every state in numbers that stands for what the step finds, and numbers are read by the
+/// names and messages that the vat has in the end and by what others had exported to it before.
+pub fn entries_by_numbers_stand()
+    ensures { EntriesByNumbersStand }
+{}
+
+/// So does the opening turn of each vat, whose root is the first name that it knows, and the roots that it
+/// is given the next ones. This asks nothing of notices.
+pub fn opening_turns_by_numbers_stand()
+    ensures { OpeningTurnsByNumbersStand }
+{}
+
+/// There is such a state in numbers before each step: each name in its place by its number. This asks
+/// nothing of notices, but that each vat of the script knows only vats of the script.
+pub fn each_state_has_numbers()
+    ensures { EachStateHasNumbers }
+{}
+
+/// So each vat takes each entry in its own numbers, from the state in numbers that stands for the state in
+/// which the entry finds it, and ends in one that stands for its state after, or takes no step.
+pub fn entries_are_taken_in_numbers()
+    ensures { EntriesAreTakenInNumbers }
+{}
+
+/// And so it takes its opening turn.
+pub fn opening_turns_are_taken_in_numbers()
+    ensures { OpeningTurnsAreTakenInNumbers }
+{}
