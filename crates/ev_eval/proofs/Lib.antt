@@ -1,5 +1,4 @@
 pub mod Cells
-pub mod Chars
 pub mod Depth
 pub mod Exits
 pub mod Grows
@@ -7,5 +6,6 @@ pub mod Meets
 pub mod Objects
 pub mod Replies
 pub mod Stands
+pub mod There
 pub mod Things
 pub mod Words

@@ -10,10 +10,9 @@ use Rattle.ev_machine.specs.Eval.{evaluator}
 use Rattle.ev_eval.specs.declared.turn.Ended.{Ended}
 use Rattle.ev_eval.specs.declared.turn.Ended.TheVariants as ended
 use Rattle.ev_eval.specs.Reading.{World, text_of, value_of, vat_of}
-use Rattle.ev_eval.specs.Plain.{held_value}
 use Rattle.ev_eval.specs.declared.exit.Exit.{Exit}
 use Rattle.ev_eval.specs.declared.exit.Exit.TheVariants as exit
-use Rattle.ev_eval.specs.declared.plain.Plain.{Plain}
+use Rattle.ev_base.specs.declared.values.Value.{Value as Held}
 
 -- the program is evaluated in an activation of its own, where no noun is bound
 unfoldable pub opened : {N W : Type 0} → Naming N W → List Node → ℕ → Act N (Value N)
@@ -32,8 +31,8 @@ EndsBy exit.Unbuilt r = r ≡ Ok ended.Astray
 EndsBy exit.Memory r = IsErr r
 
 -- how a turn ended, by how its evaluation did
-abbrev pub EndsAs : Result Plain Exit → Result Ended Memory → Type 0
-EndsAs (Ok v) r = r ≡ Ok (ended.Value (held_value v))
+abbrev pub EndsAs : Result Held Exit → Result Ended Memory → Type 0
+EndsAs (Ok v) r = r ≡ Ok (ended.Value v)
 EndsAs (Err e) r = EndsBy e r
 
 -- what the code answered and left is the outcome, unless memory ran out
