@@ -33,7 +33,7 @@ unfolding slot_written
 written_at act k p None s h some e = cc (some.1)
 written_at act k p (Some c) s h some e = rw e refl
 
-stands_at : {A : Type 0} (xs : List A) (k : ℕ) → k < length xs → (x : A) × (slice_get xs k ≡ Some x)
+pub stands_at : {A : Type 0} (xs : List A) (k : ℕ) → k < length xs → (x : A) × (slice_get xs k ≡ Some x)
 stands_at [] k h = absurd (omega arith)
 stands_at (x ∷ xs) zero h = (x, refl)
 stands_at (x ∷ xs) (suc k) h = stands_at xs k (omega arith)

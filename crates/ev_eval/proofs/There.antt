@@ -1,6 +1,7 @@
 -- What stands in a heap may be weighed, and the sizes of texts.
-use Rattle.std.proofs.Common.{◌≡◌, ℕ, zero, suc, ◌<◌, ◌≤◌, nat_lt, nat_le, Bool, true, false, List, [], ◌∷◌, length, All, Err, refl, ap, arith}
+use Rattle.std.proofs.Common.{◌≡◌, ℕ, zero, suc, ◌<◌, ◌≤◌, nat_lt, nat_le, Bool, true, false, List, [], ◌∷◌, length, All, Err, refl, sym, ap, arith}
 use Rattle.std.specs.Prelude.{if◌then◌else◌}
+use Rattle.std.specs.Bool.{OnTrue}
 use Rattle.std.proofs.lemmas.Bool.Decides.{nat_tests}
 use Rattle.ev_base.specs.declared.values.Value.{Value}
 use Rattle.ev_base.specs.declared.values.Value.TheVariants as held
@@ -33,6 +34,10 @@ pub all_weighable : (h : Contents) (vs : List Value) → are_there h vs ≡ true
 all_weighable h [] e k d l = absurd (omega arith)
 all_weighable h (v ∷ vs) e zero d l = weighable h v (both (is_there h v) (are_there h vs) e).0
 all_weighable h (v ∷ vs) e (suc k) d l = all_weighable h vs (both (is_there h v) (are_there h vs) e).1 k d (omega arith)
+
+pub on_all : (h : Contents) (vs : List Value) (b : Bool) → b ≡ are_there h vs → OnTrue b (All (IsWeighable h) vs)
+on_all h vs true e = all_weighable h vs (sym e)
+on_all h vs false e = tt
 
 -- ---- sizes of texts
 

@@ -60,7 +60,8 @@ pub fn closed(act: ActId, outcome: Result<Value, Exit>, room: &mut Room) -> Resu
 {
     match outcome {
         Ok(value) => {
-            tell(room, Happened::Back(act, value))?;
+            let told = value;
+            tell(room, Happened::Back(act, told))?;
             Ok(value)
         }
         Err(exit) => closed_without(act, exit, room),

@@ -55,10 +55,8 @@ fn is_there(heap: &Heap, value: Value) -> bool
 }
 
 /// Whether values stand in a heap.
-#[tactic(auto, using(crate::proofs::There::all_weighable))]
-fn are_there(heap: &Heap, values: &[Value]) -> bool
-    ensures is { result ≡ are_there heap.now values.now }
-    ensures weighable { OnTrue result (All (IsWeighable heap.now) values.now) }
+fn each_there(heap: &Heap, values: &[Value]) -> bool
+    ensures { result ≡ are_there heap.now values.now }
 {
     for value in values {
         if !is_there(heap, *value) {
@@ -66,6 +64,14 @@ fn are_there(heap: &Heap, values: &[Value]) -> bool
         }
     }
     true
+}
+
+/// Whether values stand in a heap, and so may be weighed.
+fn are_there(heap: &Heap, values: &[Value]) -> bool
+    ensures is { result ≡ are_there heap.now values.now }
+    ensures weighable { OnTrue result (All (IsWeighable heap.now) values.now) }
+{
+    each_there(heap, values)
 }
 
 /// Whether the receiver and the arguments of a call stand in a heap.

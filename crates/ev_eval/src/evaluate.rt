@@ -157,7 +157,8 @@ fn define(
         Some(_) => Err(Exit::Unbuilt),
         None => {
             let value = evaluate(program, depth, value, here, room)?;
-            bind(program, depth, pattern, value, here, room)?;
+            let bound = value;
+            bind(program, depth, pattern, bound, here, room)?;
             Ok(value)
         }
     }
@@ -327,7 +328,8 @@ fn call_data(
 ) -> Result<Value, Exit>
     ensures outcome { Gives result room.new (call_data (call_at program.now (evaluator program.now depth) levels) act receiver verb.now args.now room.old) }
 {
-    let line = call_line(room.alloc, act, receiver, verb, args, None)?;
+    let target = receiver;
+    let line = call_line(room.alloc, act, target, verb, args, None)?;
     tell(room, line)?;
     let outcome = answered(program, depth, levels, act, receiver, verb, args, room);
     closed(act, outcome, room)
@@ -348,11 +350,12 @@ fn answered(
 ) -> Result<Value, Exit>
     ensures outcome { Gives result room.new (answered (call_at program.now (evaluator program.now depth) levels) act receiver verb.now args.now room.old) }
 {
-    if !call_there(&room.heap, receiver, args) {
+    let asked = receiver;
+    if !call_there(&room.heap, asked, args) {
         return Err(Exit::Astray);
     }
     let reply = data_reply(room.alloc, &room.heap, receiver, verb, args, args)?;
-    replied(program, depth, levels, act, reply, room)
+    replied(program, depth, levels, act, &reply, room)
 }
 
 /// Does what data answers.
@@ -363,13 +366,13 @@ fn replied(
     depth: u32,
     levels: u128,
     act: ActId,
-    reply: Reply,
+    reply: &Reply,
     room: &mut Room,
 ) -> Result<Value, Exit>
-    ensures outcome { Gives result room.new (replied (call_at program.now (evaluator program.now depth) levels) act reply room.old) }
+    ensures outcome { Gives result room.new (replied (call_at program.now (evaluator program.now depth) levels) act reply.now room.old) }
 {
     match reply {
-        Reply::Says(value) => Ok(value),
+        Reply::Says(value) => Ok(*value),
         Reply::Writes(text) => write_text(text.as_str(), room),
         Reply::Lists(members) => make_list(act, members.as_slice(), room),
         Reply::Iterates(object, members) => iterate(
@@ -381,7 +384,7 @@ fn replied(
             members.as_slice(),
             room,
         ),
-        Reply::Fails(problem) => Err(Exit::Thrown(problem_id(problem))),
+        Reply::Fails(problem) => Err(Exit::Thrown(problem_id(*problem))),
     }
 }
 
@@ -393,15 +396,15 @@ fn iterate(
     depth: u32,
     levels: u128,
     act: ActId,
-    object: Value,
+    object: &Value,
     members: &[Value],
     room: &mut Room,
 ) -> Result<Value, Exit>
-    ensures outcome { Gives result room.new (iterate (call_at program.now (evaluator program.now depth) levels) act object 0 members.now room.old) }
+    ensures outcome { Gives result room.new (iterate (call_at program.now (evaluator program.now depth) levels) act object.now 0 members.now room.old) }
 {
     for (index, member) in members.iter().enumerate() {
         let args = [Value::Int(index as i128), *member];
-        call_at(program, depth, levels, act, object, "run", &args, room)?;
+        call_at(program, depth, levels, act, *object, "run", &args, room)?;
     }
     Ok(Value::Null)
 }

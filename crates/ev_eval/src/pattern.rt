@@ -61,8 +61,9 @@ fn bind_var(
     match guard {
         Some(_) => Err(Exit::Unbuilt),
         None => {
+            let told = value;
             let slot = new_slot(value, room)?;
-            tell(room, Happened::Slot(here.act, slot, value))?;
+            tell(room, Happened::Slot(here.act, slot, told))?;
             let noun = Str::copy_of(room.alloc, noun)?;
             here.nouns.push(Binding {
                 noun,

@@ -24,7 +24,8 @@ pub fn new_slot(value: Value, room: &mut Room) -> Result<SlotId, Exit>
 fn slot_read(act: ActId, slot: SlotId, value: Value, room: &mut Room) -> Result<Value, Exit>
     ensures outcome { Gives result room.new (slot_read act slot value room.old) }
 {
-    tell(room, Happened::Read(act, slot, value))?;
+    let told = value;
+    tell(room, Happened::Read(act, slot, told))?;
     Ok(value)
 }
 
@@ -45,7 +46,8 @@ pub fn read_slot(act: ActId, slot: SlotId, room: &mut Room) -> Result<Value, Exi
 fn write_told(act: ActId, slot: SlotId, value: Value, room: &mut Room) -> Result<Value, Exit>
     ensures outcome { Gives result room.new (write_told act slot value room.old) }
 {
-    tell(room, Happened::Wrote(act, slot, value))?;
+    let told = value;
+    tell(room, Happened::Wrote(act, slot, told))?;
     Ok(value)
 }
 
@@ -66,6 +68,7 @@ pub fn write_slot(act: ActId, slot: SlotId, value: Value, room: &mut Room) -> Re
     if slot.0 >= room.heap.slot_count() {
         return Err(Exit::Astray);
     }
-    write_cell(slot, value, room);
+    let kept = value;
+    write_cell(slot, kept, room);
     write_told(act, slot, value, room)
 }

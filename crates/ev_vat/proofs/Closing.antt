@@ -14,11 +14,10 @@ use Rattle.ev_eval.specs.Reading.{World, names, value_of, vat_of}
 use Rattle.ev_eval.specs.Turn.{opened}
 
 -- what the vat has at the start beside its heap
-unfoldable pub root_world : (ℕ → ℕ) → World
-root_world word = record {
+unfoldable pub root_world : (ℕ → ℕ) → List Words → World
+root_world word texts = record {
   number = zero;
   drawn = [];
-  lists = [];
   messages = zero;
   promises = zero;
   queue = [];
@@ -28,13 +27,13 @@ root_world word = record {
   noticed = [];
   outbox = [];
   happened = [];
-  texts = [];
+  texts = texts;
   word = word;
 }
 
 -- the vat after evaluation
-unfoldable pub after : (ℕ → ℕ) → Contents → Micro → Vat Local
-after word heap micro = vat_of (root_world word) heap micro
+unfoldable pub after : (ℕ → ℕ) → List Words → Contents → Micro → Vat Local
+after word texts heap micro = vat_of (root_world word texts) heap micro
 
 -- the turn ends with this line, and the root settles to that value
 unfoldable pub closed : Happened Local → Value Local → Vat Local → Vat Local
@@ -45,33 +44,33 @@ unfoldable pub waiting : Happened Local → Local → Vat Local → Vat Local
 waiting l q s = record s { known = record (begun (Prom zero) zero) { standing = WaitsOn q } ∷ []; happened = (s.happened ++ l ∷ []) ++ Waits (Prom zero) q ∷ [] }
 
 -- what the root settles to
-unfoldable pub target : (ℕ → ℕ) → Held → Value Local
-target word (held.Prom k) = Broken (codes "cycle")
-target word v = value_of (root_world word) v
+unfoldable pub target : (ℕ → ℕ) → List Words → Held → Value Local
+target word texts (held.Prom k) = Broken (codes "cycle")
+target word texts v = value_of (root_world word texts) v
 
 -- what the vat does at the end of the turn
-unfoldable pub finishes : (ℕ → ℕ) → Value Local → Act Local (Unit {0})
-finishes word v = tell (Finished zero v) >> resolve (names (root_world word)) (Prom zero) v
+unfoldable pub finishes : (ℕ → ℕ) → List Words → Value Local → Act Local (Unit {0})
+finishes word texts v = tell (Finished zero v) >> resolve (names (root_world word texts)) (Prom zero) v
 
-unfoldable pub breaks : (ℕ → ℕ) → Words → Act Local (Unit {0})
-breaks word t = tell (Threw zero t) >> settle (names (root_world word)) (Prom zero) (Broken t)
+unfoldable pub breaks : (ℕ → ℕ) → List Words → Words → Act Local (Unit {0})
+breaks word texts t = tell (Threw zero t) >> settle (names (root_world word texts)) (Prom zero) (Broken t)
 
-pub opening-ends : (word : ℕ → ℕ) (tree : List Node) (depth : ℕ) (s : Vat Local) → s.activations ≡ zero
-    → opening (numbering {W = Local} word) tree depth (Prom zero) [] s ≡ end_by (finishes word) (breaks word) (λ n v. stop Astray) (opened (numbering {W = Local} word) tree depth s)
+pub opening-ends : (word : ℕ → ℕ) (texts : List Words) (tree : List Node) (depth : ℕ) (s : Vat Local) → s.activations ≡ zero
+    → opening (numbering {W = Local} word) tree depth (Prom zero) [] s ≡ end_by (finishes word texts) (breaks word texts) (λ n v. stop Astray) (opened (numbering {W = Local} word) tree depth s)
 unfolding opening closes opened ending new_activation ◌>>=◌ and_then finishes breaks root_world
-opening-ends word tree depth s e = rw e refl
+opening-ends word texts tree depth s e = rw e refl
 
 abbrev pub IsRootOrNone : Held → Type 0
 IsRootOrNone (held.Prom (suc k)) = ⊥
 IsRootOrNone _ = Unit {0}
 
-module _ (word : ℕ → ℕ) (heap : Contents) (micro : Micro) where
-  pub breaks-closes : (t : Words) → breaks word t (after word heap micro) ≡ Gives tt (closed (Threw zero t) (Broken t) (after word heap micro))
+module _ (word : ℕ → ℕ) (texts : List Words) (heap : Contents) (micro : Micro) where
+  pub breaks-closes : (t : Words) → breaks word texts t (after word texts heap micro) ≡ Gives tt (closed (Threw zero t) (Broken t) (after word texts heap micro))
   unfolding breaks after closed root_world vat_of opened_refs
   breaks-closes t = refl
 
   pub finishes-closes : (v : Held) → IsRootOrNone v
-      → finishes word (value_of (root_world word) v) (after word heap micro) ≡ Gives tt (closed (Finished zero (value_of (root_world word) v)) (target word v) (after word heap micro))
+      → finishes word texts (value_of (root_world word texts) v) (after word texts heap micro) ≡ Gives tt (closed (Finished zero (value_of (root_world word texts) v)) (target word texts v) (after word texts heap micro))
   unfolding finishes after closed root_world vat_of target opened_refs
   finishes-closes held.Null h = refl
   finishes-closes (held.Bool b) h = refl
@@ -126,8 +125,8 @@ module _ (word : ℕ → ℕ) (k : ℕ) where
     unfolding resolve ◌>>=◌ ◌>>◌ look and_then resolve_to wait_unless_cycle wait_on tell alter
     resolve-waits = rw (follow_so, place_so, known_so, leads, both_told) refl
 
-  pub finishes-waits : (heap : Contents) (micro : Micro) → finishes word (Ref (Prom (suc k))) (after word heap micro) ≡ Gives tt (waiting (Finished zero (Ref (Prom (suc k)))) (Prom (suc k)) (after word heap micro))
+  pub finishes-waits : (texts : List Words) (heap : Contents) (micro : Micro) → finishes word texts (Ref (Prom (suc k))) (after word texts heap micro) ≡ Gives tt (waiting (Finished zero (Ref (Prom (suc k)))) (Prom (suc k)) (after word texts heap micro))
   unfolding finishes after waiting root_world vat_of ◌>>◌ and_then tell root_waits
-  finishes-waits heap micro =
-      let s = after word heap micro in
+  finishes-waits texts heap micro =
+      let s = after word texts heap micro in
       resolve-waits (record s { happened = s.happened ++ Finished zero (Ref (Prom (suc k))) ∷ [] }) refl refl refl

@@ -4,9 +4,9 @@ use Rattle.ev_vat.proofs.run.run_program.Goals as goal
 pub returns-clause-text : goal.returns-clause-text
 returns-clause-text c =
     told-text c.args.fuel c.args.limits.depth c.args.name.now c.args.program.now c.in_ok-heap.heap c.run_turn.new.heap c.new-micro.result c.run_turn.new.micro c.in_ok-ended.ended
-    c.in_ok-heap.ensures.texts c.new-micro.ensures c.run_turn.ensures.kept.0 c.in_ok-ended.ensures.turn c.tell.result (rw c.as_slice.ensures at c.tell.ensures)
+    c.in_ok-heap.ensures.texts c.new-micro.ensures c.in_ok-ended.ensures.grown c.in_ok-ended.ensures.turn c.tell.result (rw c.as_slice.ensures at c.tell.ensures)
 
 pub returns-clause-end : goal.returns-clause-end
 returns-clause-end c =
     told-end c.args.fuel c.args.limits.depth c.args.name.now c.args.program.now c.in_ok-heap.heap c.run_turn.new.heap c.new-micro.result c.run_turn.new.micro c.in_ok-ended.ended
-    c.in_ok-heap.ensures.texts c.new-micro.ensures c.run_turn.ensures.kept.0 c.in_ok-ended.ensures.turn c.tell.result (rw c.as_slice.ensures at c.tell.ensures)
+    c.in_ok-heap.ensures.texts c.new-micro.ensures c.in_ok-ended.ensures.grown c.in_ok-ended.ensures.turn c.tell.result (rw c.as_slice.ensures at c.tell.ensures)

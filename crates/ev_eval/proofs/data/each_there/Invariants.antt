@@ -1,6 +1,6 @@
 use Rattle.std.proofs.Common.{◌≡◌, drop}
 use Rattle.ev_eval.specs.Sound.{are_there}
-use Rattle.ev_eval.proofs.data.are_there.Given as goal
+use Rattle.ev_eval.proofs.data.each_there.Given as goal
 
 -- the rest decides
 abbrev pub invariant-loop-value : goal.invariant-loop-value
