@@ -23,7 +23,8 @@ use Rattle.ev_eval.specs.declared.room.Room.{Room}
 use Rattle.ev_eval.specs.Reading.{World, names, all_promises, text_of, value_of, values_of, line_of, vat_of}
 use Rattle.ev_eval.specs.Sound.{IsSound, is_there, are_there}
 use Rattle.ev_eval.specs.Steps.{Out, Caller, ◌>>◌, fail, iterate, replied, call_there, answered_there, answered, call_data, closed_by, closed}
-use Rattle.ev_eval.proofs.Replies.{Fits, fits_data, members_there, Alike, AllAlike, data_alike}
+use Rattle.ev_prims.proofs.Holds.{Alike, AllAlike, data_alike}
+use Rattle.ev_eval.proofs.Replies.{Fits, fits_data, of_each}
 use Rattle.ev_eval.proofs.Sounds.{there_on, all_on, all_and}
 use Rattle.ev_eval.proofs.Stands.{Met, vat, a_value, carried, met_by, then_met, give_met, throw_met, tell_met, fails_met, write_met, list_met, follow_all}
 use Rattle.ev_eval.proofs.There.{both}
@@ -97,8 +98,8 @@ module _ (w : World) (tree : List Node) (again : Caller) (their : scopes.Caller 
   unfolding replied perform.reply
   replied_met act (reply.Says v) s sound i = give_met w a_value v s sound i
   replied_met act (reply.Writes u) s sound i = write_met w tree u s sound
-  replied_met act (reply.Lists vs) s sound i = list_met w tree act vs s sound i
-  replied_met act (reply.Iterates f vs) s sound i = iterate_met act f 0 vs s sound i.0 i.1
+  replied_met act (reply.Lists vs) s sound i = list_met w tree act vs s sound (of_each s.heap vs i)
+  replied_met act (reply.Iterates f vs) s sound i = iterate_met act f 0 vs s sound i.0 (of_each s.heap vs i.1)
   replied_met act (reply.Fails p) s sound i = fails_met w a_value p s sound
 
   one_alike : (s : Room) → IsFront w s.heap → (x : Held) → is_there s.heap x ≡ true → Alike (text_of w) (text_in s.heap) x
@@ -130,7 +131,7 @@ module _ (w : World) (tree : List Node) (again : Caller) (their : scopes.Caller 
   unfolding answered_there
   there_met fair act x verb args true s sound i is e =
       met_by _ (data_by fair act x verb args s i is)
-      (replied_met act (data_answer (text_in s.heap) (members_at s.heap) x verb args args) s sound (fits_data s.heap (members_at s.heap) (members_there s.heap sound.lists) (text_in s.heap) x verb args args is))
+      (replied_met act (data_answer (text_in s.heap) (members_at s.heap) x verb args args) s sound (fits_data s.heap sound.lists (text_in s.heap) x verb args args is))
   there_met fair act x verb args false s sound i is e = absurd (cc)
 
   answered_met : all_promises w.known ≡ true → (act : ℕ) (x : Held) (verb : Words) (args : List Held) (s : Room) → IsSound s.heap → is_there s.heap x ≡ true → are_there s.heap args ≡ true

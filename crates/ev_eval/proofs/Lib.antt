@@ -1,10 +1,10 @@
+pub mod Bindings
 pub mod Calls
 pub mod Cells
 pub mod Depth
 pub mod Exits
 pub mod Grows
 pub mod Meets
-pub mod Nouns
 pub mod Objects
 pub mod Replies
 pub mod Sounds

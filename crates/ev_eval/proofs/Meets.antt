@@ -38,7 +38,7 @@ use Rattle.ev_eval.specs.Steps.{Out, Gives, Evaluator, Caller, ◌>>=◌, ◌>>�
 use Rattle.ev_eval.specs.Turn.{Ends, EndsAs, opened}
 use Rattle.ev_eval.proofs.Calls.{CallsMet, call_data_met}
 use Rattle.ev_eval.proofs.Grows.{Grows, same, onward, cut_back, deeper_grows, none_grows}
-use Rattle.ev_eval.proofs.Nouns.{IsMet, found_is, found_there, none_bound, noun_met, onto_more, bound_more, write_met, made_line, new_slot_met}
+use Rattle.ev_eval.proofs.Bindings.{IsMet, found_is, found_there, none_bound, noun_met, onto_more, bound_more, write_met, made_line, new_slot_met}
 use Rattle.ev_eval.proofs.Objects.{get_built, object_met, call_object_met}
 use Rattle.ev_eval.proofs.Sounds.{grown_same, there_on, all_on, scope_on, all_and}
 use Rattle.ev_eval.proofs.Replies.{there_joined}
@@ -410,29 +410,29 @@ turn_is w fair tree d (Err exit.Memory) s t sound (Err m) b f g e = tt
 unfoldable any_world : World
 any_world = record { number = 0; drawn = []; messages = 0; promises = 0; queue = []; known = []; mails = []; gifts = []; noticed = []; outbox = []; happened = []; texts = []; word = λ n. n }
 
-any_met : (tree : List Node) (d : ℕ) (r : Result Held Exit) (s t : Room) → IsSound s.heap → is_built tree ≡ true → opening tree d s ≡ (r, t)
+run_any : (tree : List Node) (d : ℕ) (r : Result Held Exit) (s t : Room) → IsSound s.heap → is_built tree ≡ true → opening tree d s ≡ (r, t)
     → Met any_world a_value s (r, t) (opened (names any_world) tree d (vat any_world s))
 unfolding any_world
-any_met tree d r s t sound b g = run_met any_world refl tree d r s t sound b g
+run_any tree d r s t sound b g = run_met any_world refl tree d r s t sound b g
 
 pub turn_keeps : (tree : List Node) (d : ℕ) (r : Result Held Exit) (s t : Room) → IsSound s.heap → (q : Result Ended Memory)
     → is_built tree ≡ true → Gives r t (opening tree d s) → EndsAs r q → OnOk q (IsSound t.heap)
-turn_keeps tree d (Ok v) s t sound q b g e = rw e ((any_met tree d (Ok v) s t sound b g).keeps.0)
-turn_keeps tree d (Err (exit.Thrown id)) s t sound q b g e = rw e ((any_met tree d (Err (exit.Thrown id)) s t sound b g).keeps.0)
-turn_keeps tree d (Err exit.Fuel) s t sound q b g e = rw e ((any_met tree d (Err exit.Fuel) s t sound b g).keeps)
-turn_keeps tree d (Err exit.Deep) s t sound q b g e = rw e ((any_met tree d (Err exit.Deep) s t sound b g).keeps)
-turn_keeps tree d (Err exit.Astray) s t sound q b g e = rw e ((any_met tree d (Err exit.Astray) s t sound b g).keeps)
-turn_keeps tree d (Err exit.Unbuilt) s t sound q b g e = absurd ((any_met tree d (Err exit.Unbuilt) s t sound b g).keeps)
+turn_keeps tree d (Ok v) s t sound q b g e = rw e ((run_any tree d (Ok v) s t sound b g).keeps.0)
+turn_keeps tree d (Err (exit.Thrown id)) s t sound q b g e = rw e ((run_any tree d (Err (exit.Thrown id)) s t sound b g).keeps.0)
+turn_keeps tree d (Err exit.Fuel) s t sound q b g e = rw e ((run_any tree d (Err exit.Fuel) s t sound b g).keeps)
+turn_keeps tree d (Err exit.Deep) s t sound q b g e = rw e ((run_any tree d (Err exit.Deep) s t sound b g).keeps)
+turn_keeps tree d (Err exit.Astray) s t sound q b g e = rw e ((run_any tree d (Err exit.Astray) s t sound b g).keeps)
+turn_keeps tree d (Err exit.Unbuilt) s t sound q b g e = absurd ((run_any tree d (Err exit.Unbuilt) s t sound b g).keeps)
 turn_keeps tree d (Err exit.Memory) s t sound (Ok x) b g e = absurd (cc)
 turn_keeps tree d (Err exit.Memory) s t sound (Err m) b g e = tt
 
 pub turn_grows : (tree : List Node) (d : ℕ) (r : Result Held Exit) (s t : Room) → IsSound s.heap → (q : Result Ended Memory)
     → is_built tree ≡ true → Gives r t (opening tree d s) → EndsAs r q → OnOk q (Grown s.heap t.heap)
-turn_grows tree d (Ok v) s t sound q b g e = rw e ((any_met tree d (Ok v) s t sound b g).grown)
-turn_grows tree d (Err (exit.Thrown id)) s t sound q b g e = rw e ((any_met tree d (Err (exit.Thrown id)) s t sound b g).grown)
-turn_grows tree d (Err exit.Fuel) s t sound q b g e = rw e ((any_met tree d (Err exit.Fuel) s t sound b g).grown)
-turn_grows tree d (Err exit.Deep) s t sound q b g e = rw e ((any_met tree d (Err exit.Deep) s t sound b g).grown)
-turn_grows tree d (Err exit.Astray) s t sound q b g e = rw e ((any_met tree d (Err exit.Astray) s t sound b g).grown)
-turn_grows tree d (Err exit.Unbuilt) s t sound q b g e = absurd ((any_met tree d (Err exit.Unbuilt) s t sound b g).keeps)
+turn_grows tree d (Ok v) s t sound q b g e = rw e ((run_any tree d (Ok v) s t sound b g).grown)
+turn_grows tree d (Err (exit.Thrown id)) s t sound q b g e = rw e ((run_any tree d (Err (exit.Thrown id)) s t sound b g).grown)
+turn_grows tree d (Err exit.Fuel) s t sound q b g e = rw e ((run_any tree d (Err exit.Fuel) s t sound b g).grown)
+turn_grows tree d (Err exit.Deep) s t sound q b g e = rw e ((run_any tree d (Err exit.Deep) s t sound b g).grown)
+turn_grows tree d (Err exit.Astray) s t sound q b g e = rw e ((run_any tree d (Err exit.Astray) s t sound b g).grown)
+turn_grows tree d (Err exit.Unbuilt) s t sound q b g e = absurd ((run_any tree d (Err exit.Unbuilt) s t sound b g).keeps)
 turn_grows tree d (Err exit.Memory) s t sound (Ok x) b g e = absurd (cc)
 turn_grows tree d (Err exit.Memory) s t sound (Err m) b g e = tt

@@ -34,7 +34,7 @@ use Rattle.ev_eval.specs.Reading.{World, names, all_promises, value_of, values_o
 use Rattle.ev_eval.specs.Sound.{IsSound, IsPlainThing, is_there, are_there, is_bound, are_bound, plain_thing, capture_of, caught_of}
 use Rattle.ev_eval.specs.Steps.{Out, Evaluator, and_then, ◌>>=◌, ◌>>◌, fail, fails, found_from, bound_back, binding_back, with_bound, captures, new_object, named, object_made, object_in, make_object, object_node, bind_all, suits, first_method, run_method, run_found, run_object, closed, call_made, code_of, code_in, look_code, call_object}
 use Rattle.ev_eval.proofs.Calls.{called_line, closed_met}
-use Rattle.ev_eval.proofs.Nouns.{IsMet, FoundThere, found_of, found_is, found_there, none_bound, onto_more, bound_more}
+use Rattle.ev_eval.proofs.Bindings.{IsMet, FoundThere, found_of, found_is, found_there, none_bound, onto_more, bound_more}
 use Rattle.ev_eval.proofs.Sounds.{there_on, all_on, scope_on, all_and, thing_grown, thing_sound}
 use Rattle.ev_eval.proofs.Stands.{Met, vat, a_value, an_answer, a_scope, itself, bound_of, bond_of, bonds_onto, scope_of, then_met, give_met, stop_met, tell_met, fails_met, activation_met}
 use Rattle.ev_eval.proofs.There.{both}
@@ -323,12 +323,12 @@ known_met w tree rec their h again act i verb args o s sound a k built =
 thing_met : (w : World) (tree : List Node) (rec : Evaluator) (their : scopes.Evaluator Local) (h : IsMet w rec their) (again : scopes.Caller Local) (act i : ℕ) (verb : Words) (args : List Held) (o : Option HeldThing) (s : Room) → IsSound s.heap → are_there s.heap args ≡ true → is_built tree ≡ true
     → ((t : HeldThing) → o ≡ Some t → IsPlainThing s.heap t)
     → Met w a_value s (after_code tree rec act i verb args o s) (calls.call_thing (names w) tree their again act (Ref (Obj i)) i (option_map (thing_of w) o) verb (values_of w args) (vat w s))
-unfolding after_code and_then code_in calls.call_thing
+unfolding after_code and_then code_in calls.call_thing fail
 thing_met w tree rec their h again act i verb args None s sound a built f = stop_met w a_value s sound
 thing_met w tree rec their h again act i verb args (Some t) s sound a built f =
     let p = f t refl in
-    subst (λ (u : HeldThing). Met w a_value s (after_code tree rec act i verb args (Some u) s) (calls.call_thing (names w) tree their again act (Ref (Obj i)) i (Some (thing_of w u)) verb (values_of w args) (vat w s))) (sym p.1)
-    (known_met w tree rec their h again act i verb args p.0 s sound a p.2 built)
+    subst (λ (u : HeldThing). Met w a_value s (after_code tree rec act i verb args (Some u) s) (calls.call_thing (names w) tree their again act (Ref (Obj i)) i (Some (thing_of w u)) verb (values_of w args) (vat w s))) (sym p.1.0)
+    (known_met w tree rec their h again act i verb args p.0 s sound a p.1.1 built)
 
 spot_is : (w : World) (tree : List Node) (their : scopes.Evaluator Local) (again : scopes.Caller Local) (act i : ℕ) (x : Value Local) (verb : Words) (vs : List (Value Local)) (v : Vat Local)
     → calls.call_value (names w) tree their again act x (Ref (Obj i)) verb vs v ≡ calls.call_thing (names w) tree their again act x i (slice_get v.things i) verb vs v

@@ -152,7 +152,7 @@ module _ {a b : Contents} (g : Grown a b) where
   cells_on cs h = each_on (IsPlainCell a) (IsPlainCell b) cs (λ c p. (p.0, there_on c.value p.1)) h
 
   pub things_on : (ts : List Thing) → Each (IsPlainThing a) ts → Each (IsPlainThing b) ts
-  things_on ts h = each_on (IsPlainThing a) (IsPlainThing b) ts (λ t p. (p.0, (p.1, scope_on p.0.nouns p.2))) h
+  things_on ts h = each_on (IsPlainThing a) (IsPlainThing b) ts (λ t p. (p.0, (p.1.0, scope_on p.0.nouns p.1.1))) h
 
   pub lists_on : (ls : List Listed) → Each (IsListed a) ls → Each (IsListed b) ls
   lists_on ls h = each_on (IsListed a) (IsListed b) ls (λ l p. (p.0 ∙ listed_on l.members p.1, all_on l.members p.1)) h

@@ -1,7 +1,7 @@
 -- What the state of the code stands for, and how its single steps stand for the machine's.
-use Rattle.std.proofs.Common.{◌≡◌, ℕ, zero, suc, ◌+◌, ◌-◌, nat_lt, pos, Bool, true, false, List, [], ◌∷◌, ◌++◌, Option, Some, None, Ok, Err, length, map, refl, sym, ap, subst, ◌∙◌, arith, append_assoc, append-nil}
+use Rattle.std.proofs.Common.{◌≡◌, ℕ, zero, suc, ◌+◌, ◌-◌, ◌<◌, nat_lt, pos, Bool, true, false, List, [], ◌∷◌, ◌++◌, Option, Some, None, Ok, Err, length, map, refl, sym, ap, subst, ◌∙◌, arith, append_assoc, append-nil}
 use Rattle.std.specs.Prelude.{Result, slice_get, slice_set, codes, if◌then◌else◌, option_map, nat_le, unwrap_or}
-use Rattle.std.proofs.lemmas.List.{map-append, length-map}
+use Rattle.std.proofs.lemmas.List.{length-append, map-append, length-map}
 use Rattle.ev_base.specs.declared.values.Value.{Value as Held}
 use Rattle.ev_base.specs.declared.values.Value.TheVariants as held
 use Rattle.ev_heap.specs.Contents.{Contents, is_light, listed}
@@ -27,10 +27,10 @@ use Rattle.ev_eval.specs.declared.scope.Bound.TheVariants as scope
 use Rattle.ev_eval.specs.declared.scope.Scope.{Scope}
 use Rattle.ev_eval.specs.Reading.{World, names, all_promises, is_promise, text_of, value_of, values_of, members_of, line_of, lines_of, vat_of}
 use Rattle.ev_eval.specs.Sound.{Grown, IsSound, is_there, are_there, are_bound, problems}
-use Rattle.ev_eval.specs.Steps.{Out, Act, and_then, ◌>>=◌, ◌>>◌, give, fail, fails, answer, tell, spent, spend, new_activation, problem_id, new_text, text_value, spell, spelled, write_text, new_list, list_told, store, stored, listed_there, make_list, opened_steps}
+use Rattle.ev_eval.specs.Steps.{Out, Act, and_then, ◌>>=◌, ◌>>◌, give, fail, fails, answer, tell, spent, spend, new_activation, problem_id, new_text, text_value, spell, spelled, write_text, new_list, list_told, keep_list, store, stored, listed_there, make_list, opened_steps}
 use Rattle.ev_eval.proofs.Grows.{Holds, Of, free}
 use Rattle.ev_eval.proofs.Sounds.{grown_same, grown_on, list_on, all_on, got_last, text_grown, text_sound, last_text, list_grown, list_sound, last_list, code_grown, code_sound}
-use Rattle.ev_eval.proofs.There.{both}
+use Rattle.ev_eval.proofs.There.{both, below, is_below}
 use Rattle.ev_eval.proofs.Weights.{IsFront, fits_is}
 
 -- what the state of the code stands for
@@ -241,22 +241,28 @@ problem_text w TooHeavy = refl
 problem_text w Unthrowable = refl
 problem_text w DeadEjector = refl
 
+problem_small : (p : Problem) → nat_lt (problem_id p) 15 ≡ true
+problem_small (Arithmetic Overflow) = refl
+problem_small (Arithmetic ZeroDivisor) = refl
+problem_small (Arithmetic NegativePower) = refl
+problem_small NotInt = refl
+problem_small NoMethod = refl
+problem_small NotChar = refl
+problem_small NotBoolean = refl
+problem_small NotText = refl
+problem_small NotList = refl
+problem_small OutOfRange = refl
+problem_small BadArgument = refl
+problem_small NotComparable = refl
+problem_small TooHeavy = refl
+problem_small Unthrowable = refl
+problem_small DeadEjector = refl
+
 problem_among : (p : Problem) (more : List Words) → nat_lt (problem_id p) (length (problems ++ more)) ≡ true
-problem_among (Arithmetic Overflow) more = refl
-problem_among (Arithmetic ZeroDivisor) more = refl
-problem_among (Arithmetic NegativePower) more = refl
-problem_among NotInt more = refl
-problem_among NoMethod more = refl
-problem_among NotChar more = refl
-problem_among NotBoolean more = refl
-problem_among NotText more = refl
-problem_among NotList more = refl
-problem_among OutOfRange more = refl
-problem_among BadArgument more = refl
-problem_among NotComparable more = refl
-problem_among TooHeavy more = refl
-problem_among Unthrowable more = refl
-problem_among DeadEjector more = refl
+problem_among p more =
+    let l : length (problems ++ more) ≡ 15 + length more = length-append problems more in
+    let b : problem_id p < 15 = below (problem_id p) 15 (problem_small p) in
+    is_below (problem_id p) (length (problems ++ more)) (omega arith)
 
 pub problem_there : (h : Contents) → IsSound h → (p : Problem) → nat_lt (problem_id p) (length h.texts) ≡ true
 problem_there h s p = subst (λ (ts : List Words). nat_lt (problem_id p) (length ts) ≡ true) (sym s.problems_first.1) (problem_among p s.problems_first.0)
@@ -321,7 +327,7 @@ unfolding perform.store machine.◌>>=◌ machine.◌>>◌
 store_is w tree act vs v = rw (length-map vs (value_of w)) refl
 
 store_met : (w : World) (tree : List Node) (act : ℕ) (vs : List Held) (s : Room) → IsSound s.heap → are_there s.heap vs ≡ true → Met w a_value s (store act vs s) (perform.store (names w) tree act (values_of w vs) (vat w s))
-unfolding store ◌>>=◌ ◌>>◌
+unfolding store keep_list ◌>>=◌ ◌>>◌
 store_met w tree act vs s sound i =
     rw (store_is w tree act vs (vat w s))
     (then_met _ _ (spend_met w (length vs) s sound) (λ u t q j g. then_met _ _ (new_list_met w vs t q (all_on g vs i)) (λ k r p l e. list_told_met w act vs k r p l)))

@@ -1,16 +1,16 @@
 -- What stands in a heap may be weighed, and the sizes of texts.
-use Rattle.std.proofs.Common.{◌≡◌, ℕ, zero, suc, ◌<◌, ◌≤◌, nat_lt, nat_le, Bool, true, false, List, [], ◌∷◌, length, All, Err, refl, sym, ap, arith}
+use Rattle.std.proofs.Common.{◌≡◌, ℕ, zero, suc, ◌<◌, ◌≤◌, nat_lt, nat_le, Bool, true, false, List, [], ◌∷◌, length, All, Err, refl, sym, ap, ◌∙◌, arith}
 use Rattle.std.specs.Prelude.{if◌then◌else◌}
 use Rattle.std.specs.Bool.{OnTrue}
 use Rattle.std.proofs.lemmas.Bool.Decides.{nat_tests}
 use Rattle.ev_base.specs.declared.values.Value.{Value}
 use Rattle.ev_base.specs.declared.values.Value.TheVariants as held
-use Rattle.ev_heap.specs.Contents.{Contents, IsWeighable}
+use Rattle.ev_heap.specs.Contents.{Contents, IsWeighable, is_light}
 use Rattle.ev_machine.specs.Values.{Words}
 use Rattle.ev_prims.specs.declared.problem.Problem.TheVariants.{TooHeavy}
 use Rattle.ev_eval.specs.Sound.{is_there, are_there}
-use Rattle.ev_eval.specs.Steps.{fail, fails, problem_id, spell, spelled, write_text}
-use Rattle.ev_eval.specs.declared.exit.Exit.TheVariants.{Thrown}
+use Rattle.ev_eval.specs.Steps.{fail, fails, listed_there, make_list, problem_id, spell, spelled, store, stored, write_text}
+use Rattle.ev_eval.specs.declared.exit.Exit.TheVariants.{Astray, Thrown}
 use Rattle.ev_eval.specs.declared.room.Room.{Room}
 
 -- one part of a test of two
@@ -41,16 +41,34 @@ on_all h vs false e = tt
 
 -- ---- sizes of texts
 
-is_light : (a b : ℕ) → a ≤ b → nat_le a b ≡ true
-is_light a b h = grind (arith, nat_tests)
+within : (a b : ℕ) → a ≤ b → nat_le a b ≡ true
+within a b h = grind (arith, nat_tests)
 
 is_heavy : (a b : ℕ) → b < a → nat_le a b ≡ false
 is_heavy a b h = grind (arith, nat_tests)
 
 pub written : (u : Words) (s : Room) → length u ≤ 65535 → write_text u s ≡ spell u s
 unfolding write_text spelled
-written u s h = ap (λ (b : Bool). spelled u b s) (is_light (length u) 65535 h)
+written u s h = ap (λ (b : Bool). spelled u b s) (within (length u) 65535 h)
 
 pub heavy_text : (u : Words) (s : Room) → 65535 < length u → write_text u s ≡ (Err (Thrown (problem_id TooHeavy)), s)
 unfolding write_text spelled fails fail
 heavy_text u s h = ap (λ (b : Bool). spelled u b s) (is_heavy (length u) 65535 h)
+
+-- ---- lists
+
+pub made_none : (act : ℕ) (vs : List Value) (s : Room) → are_there s.heap vs ≡ false → make_list act vs s ≡ (Err Astray, s)
+unfolding make_list listed_there fail
+made_none act vs s e = ap (λ (b : Bool). listed_there act vs b s) e
+
+listed_so : (act : ℕ) (vs : List Value) (s : Room) (b : Bool) → are_there s.heap vs ≡ true → is_light s.heap vs ≡ b → make_list act vs s ≡ stored act vs b s
+unfolding make_list listed_there
+listed_so act vs s b e f = ap (λ (c : Bool). listed_there act vs c s) e ∙ ap (λ (c : Bool). stored act vs c s) f
+
+pub made_heavy : (act : ℕ) (vs : List Value) (s : Room) → are_there s.heap vs ≡ true → is_light s.heap vs ≡ false → make_list act vs s ≡ (Err (Thrown (problem_id TooHeavy)), s)
+unfolding stored fails fail
+made_heavy act vs s e f = listed_so act vs s false e f
+
+pub made_light : (act : ℕ) (vs : List Value) (s : Room) → are_there s.heap vs ≡ true → is_light s.heap vs ≡ true → make_list act vs s ≡ store act vs s
+unfolding stored
+made_light act vs s e f = listed_so act vs s true e f

@@ -35,20 +35,16 @@ same_text w h f id t =
 unfoldable left_of : ℕ → ℕ → ℕ → ℕ → Option ℕ
 left_of weight height d room = if nat_le weight room then (if nat_le height d then Some (room - weight) else None) else None
 
+le_true : (a b : ℕ) → a ≤ b → nat_le a b ≡ true
+le_true a b h = grind (arith, nat_tests)
+
 same_room : (b : Bool) (n d : ℕ) → elim b as (λ c. Option ℕ) [ true ↦ Some n | false ↦ None ] ≡ (if b then (if nat_le 0 d then Some n else None) else None)
-same_room true n d = refl
+same_room true n d = rw (le_true 0 d (omega arith)) refl
 same_room false n d = refl
 
 flat : (n d room : ℕ) → take_room n room ≡ left_of n 0 d room
 unfolding take_room left_of
 flat n d room = same_room (nat_le n room) (room - n) d
-
-nothing_left : (d room : ℕ) → Some room ≡ left_of 0 0 d room
-unfolding left_of
-nothing_left d room = refl
-
-le_true : (a b : ℕ) → a ≤ b → nat_le a b ≡ true
-le_true a b h = grind (arith, nat_tests)
 
 le_false : (a b : ℕ) → b < a → nat_le a b ≡ false
 le_false a b h = grind (arith, nat_tests)
@@ -84,6 +80,11 @@ either_way false c n e = refl
 is_high : (weight height d room : ℕ) → d < height → left_of weight height d room ≡ None
 unfolding left_of
 is_high weight height d room h = either_way (nat_le weight room) (nat_le height d) (room - weight) (le_false height d h)
+
+nothing_left : (d room : ℕ) → Some room ≡ left_of 0 0 d room
+nothing_left d room =
+    let e : room - 0 ≡ room = omega arith in
+    sym (is_left 0 0 d room (omega arith) (omega arith) ∙ ap (λ (n : ℕ). Some n) e)
 
 -- one part and then others
 swapped : (o : Option ℕ) (f g : ℕ → Option ℕ) → ((left : ℕ) → f left ≡ g left)
@@ -213,13 +214,13 @@ abbrev is_no_list : Value Local → Bool
 is_no_list (Items k) = false
 is_no_list _ = true
 
-unfoldable one_weight : Value Local → Bool
+abbrev one_weight : Value Local → Bool
 one_weight (Text u) = false
 one_weight (Broken u) = false
 one_weight _ = true
 
 one_own : (x : Value Local) → one_weight x ≡ true → own_weight x ≡ 1
-unfolding own_weight one_weight
+unfolding own_weight
 one_own (Text u) e = absurd (cc)
 one_own (Broken u) e = absurd (cc)
 one_own _ e = refl
@@ -273,7 +274,9 @@ module _ (w : World) (h : Contents) (front : IsFront w h) (sound : Each (IsListe
   top vs = fold (λ x v. max x (height_of h v)) 0 vs
 
   sum_more : (v : Held) (vs : List Held) → sum (v ∷ vs) ≡ weight_of h v + sum vs
-  sum_more v vs = sum_from (weight_of h) (0 + weight_of h v) vs
+  sum_more v vs =
+      let e : 0 + weight_of h v ≡ weight_of h v = omega arith in
+      sum_from (weight_of h) (0 + weight_of h v) vs ∙ ap (λ (n : ℕ). n + sum vs) e
 
   top_more : (v : Held) (vs : List Held) → top (v ∷ vs) ≡ max (height_of h v) (top vs)
   top_more v vs = most_from (height_of h) (max 0 (height_of h v)) vs ∙ ap (λ (m : ℕ). max m (top vs)) (none_max (height_of h v))
@@ -319,18 +322,18 @@ module _ (w : World) (h : Contents) (front : IsFront w h) (sound : Each (IsListe
   lowest : (id room : ℕ) → nat_lt id (length h.lists) ≡ true → room_after (λ (y : Value Local). y) lists zero (Items id) room ≡ left_of (weight_of h (held.List id)) (height_of h (held.List id)) zero room
   lowest id room t =
       let l = listed_of id t in
-      let high : height_of h (held.List id) ≡ top l.0.members + 1 = height_is id l.0 l.1 l.2 in
+      let high : height_of h (held.List id) ≡ top l.0.members + 1 = height_is id l.0 l.1.0 l.1.1 in
       list_none id room ∙ sym (is_high (weight_of h (held.List id)) (height_of h (held.List id)) zero room (omega arith))
 
   round : (d id room : ℕ) → IsLeft d → nat_lt id (length h.lists) ≡ true → room_after (λ (y : Value Local). y) lists (suc d) (Items id) room ≡ left_of (weight_of h (held.List id)) (height_of h (held.List id)) (suc d) room
   round d id room each t =
       let l = listed_of id t in
       list_some d id room
-      ∙ ap (λ (vs : List (Value Local)). elim (take_room 1 room) as (λ c. Option ℕ) [ Some left ↦ room_behind (part d) vs left | None ↦ None ]) (members_are id l.0 l.1)
-      ∙ swapped (take_room 1 room) (λ left. room_behind (part d) (values_of w l.0.members) left) (λ left. left_of (sum l.0.members) (top l.0.members) d left) (λ left. all_behind d each l.0.members l.2.1 left)
+      ∙ ap (λ (vs : List (Value Local)). elim (take_room 1 room) as (λ c. Option ℕ) [ Some left ↦ room_behind (part d) vs left | None ↦ None ]) (members_are id l.0 l.1.0)
+      ∙ swapped (take_room 1 room) (λ left. room_behind (part d) (values_of w l.0.members) left) (λ left. left_of (sum l.0.members) (top l.0.members) d left) (λ left. all_behind d each l.0.members l.1.1.1 left)
       ∙ one_round (sum l.0.members) (top l.0.members) d room (nat_le 1 room) refl
-      ∙ ap (λ (n : ℕ). left_of n (top l.0.members + 1) (suc d) room) (sym (weight_is id l.0 l.1 l.2))
-      ∙ ap (λ (n : ℕ). left_of (weight_of h (held.List id)) n (suc d) room) (sym (height_is id l.0 l.1 l.2))
+      ∙ ap (λ (n : ℕ). left_of n (top l.0.members + 1) (suc d) room) (sym (weight_is id l.0 l.1.0 l.1.1))
+      ∙ ap (λ (n : ℕ). left_of (weight_of h (held.List id)) n (suc d) room) (sym (height_is id l.0 l.1.0 l.1.1))
 
   -- what is no list
   alone : (d room : ℕ) (x : Value Local) (n : ℕ) → is_no_list x ≡ true → own_weight x ≡ n → room_after (λ (y : Value Local). y) lists d x room ≡ left_of n 0 d room

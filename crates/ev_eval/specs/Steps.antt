@@ -237,11 +237,15 @@ list_told act vs k = do
   tell (event.List act k vs)
   give (held.List k)
 
+unfoldable pub keep_list : ℕ → List Value → Act Value
+keep_list act vs = do
+  k ← new_list vs
+  list_told act vs k
+
 unfoldable pub store : ℕ → List Value → Act Value
 store act vs = do
   spend (length vs)
-  k ← new_list vs
-  list_told act vs k
+  keep_list act vs
 
 unfoldable pub stored : ℕ → List Value → Bool → Act Value
 stored act vs true = store act vs
@@ -570,5 +574,5 @@ opening tree depth = do
 
 -- opens the steps, and not the recursions
 unfoldable pub opened_steps : Unit {0}
-unfolding and_then ◌>>=◌ ◌>>◌ give fail answer tell spent spend new_activation new_slot write_told slot_read slot_found read_slot slot_written write_slot safe_found read_held read_bound write_held write_bound fails new_text text_value spell spelled write_text new_list list_told store stored listed_there make_list closed_by closed replied call_there answered_there answered call_data call_node with_bound new_object named object_made object_in make_object object_node suits run_method run_found run_object call_made code_of code_in look_code call_object call_value call define literal_value literal_node noun_node set_node within hide_node choose if_node step bind_final bind_var bind_any bind_step step_found bind_found opening
+unfolding and_then ◌>>=◌ ◌>>◌ give fail answer tell spent spend new_activation new_slot write_told slot_read slot_found read_slot slot_written write_slot safe_found read_held read_bound write_held write_bound fails new_text text_value spell spelled write_text new_list list_told keep_list store stored listed_there make_list closed_by closed replied call_there answered_there answered call_data call_node with_bound new_object named object_made object_in make_object object_node suits run_method run_found run_object call_made code_of code_in look_code call_object call_value call define literal_value literal_node noun_node set_node within hide_node choose if_node step bind_final bind_var bind_any bind_step step_found bind_found opening
 opened_steps = tt

@@ -4,7 +4,7 @@ ghost use Rattle.std.specs.Prelude.{◌≡◌, All, true};
 ghost use Rattle.std.specs.Bool.{OnTrue};
 ghost use Rattle.ev_heap.specs.Contents.{IsWeighable, is_light};
 ghost use Rattle.ev_eval.specs.Sound.{are_there, is_there};
-ghost use Rattle.ev_eval.specs.Steps.{Gives, call_there, list_told, make_list, new_list, new_text, problem_id, spell, store, text_value, write_text};
+ghost use Rattle.ev_eval.specs.Steps.{Gives, call_there, keep_list, list_told, make_list, new_list, new_text, problem_id, spell, store, text_value, write_text};
 
 use crate::call::copy_of;
 use crate::exit::Exit;
@@ -147,6 +147,17 @@ fn list_told(act: ActId, members: &[Value], list: ListId, room: &mut Room) -> Re
     Ok(Value::List(list))
 }
 
+/// Keeps a list that is within the limits, and tells it.
+#[tactic(auto, using(crate::proofs::Exits::ends), unfolding(crate::specs::Steps::opened_steps))]
+fn keep_list(act: ActId, members: &[Value], room: &mut Room) -> Result<Value, Exit>
+    requires there { All (IsWeighable room.old.heap) members.now }
+    requires light { is_light room.old.heap members.now ≡ true }
+    ensures outcome { Gives result room.new (keep_list act members.now room.old) }
+{
+    let list = new_list(members, room)?;
+    list_told(act, members, list, room)
+}
+
 /// Keeps a list that is within the limits, which takes a unit of fuel for each member.
 #[tactic(auto, using(crate::proofs::Exits::ends), unfolding(crate::specs::Steps::opened_steps))]
 fn store(act: ActId, members: &[Value], room: &mut Room) -> Result<Value, Exit>
@@ -154,15 +165,12 @@ fn store(act: ActId, members: &[Value], room: &mut Room) -> Result<Value, Exit>
     requires light { is_light room.old.heap members.now ≡ true }
     ensures outcome { Gives result room.new (store act members.now room.old) }
 {
-    if !room.micro.spend(members.len() as u64) {
-        return Err(Exit::Fuel);
-    }
-    let list = new_list(members, room)?;
-    list_told(act, members, list, room)
+    spend(room, members.len() as u64)?;
+    keep_list(act, members, room)
 }
 
 /// A list that an activation makes: its limits are tested, and then it takes a unit of fuel for each member.
-#[tactic(auto, unfolding(crate::specs::Steps::make_list, crate::specs::Steps::listed_there, crate::specs::Steps::stored, crate::specs::Steps::fails, crate::specs::Steps::fail))]
+#[tactic(auto, using(crate::proofs::There::made_none, crate::proofs::There::made_heavy, crate::proofs::There::made_light))]
 pub fn make_list(act: ActId, members: &[Value], room: &mut Room) -> Result<Value, Exit>
     ensures outcome { Gives result room.new (make_list act members.now room.old) }
 {

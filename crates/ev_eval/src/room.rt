@@ -1,5 +1,6 @@
 //! Where evaluation works: the heap of a vat, the fuel that is left, and what happened.
 
+ghost use Rattle.std.specs.Prelude.{◌≡◌};
 ghost use Rattle.ev_eval.specs.Steps.{Gives, new_activation, spend, tell};
 
 use crate::exit::Exit;
@@ -19,6 +20,7 @@ pub struct Room {
 #[tactic(auto, unfolding(crate::specs::Steps::opened_steps))]
 pub fn spend(room: &mut Room, units: u64) -> Result<(), Exit>
     ensures outcome { Gives result room.new (spend units room.old) }
+    ensures heap { room.new.heap ≡ room.old.heap }
 {
     if room.micro.spend(units) {
         Ok(())

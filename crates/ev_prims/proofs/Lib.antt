@@ -2,6 +2,7 @@ pub mod AskLemmas
 pub mod Casts
 pub mod DataLemmas
 pub mod FormLemmas
+pub mod Holds
 pub mod IntegerLemmas
 pub mod Means
 pub mod OrderLemmas
