@@ -35,7 +35,7 @@ use Rattle.ev_eval.specs.Built.{is_built_safe, is_built_node, is_built}
 use Rattle.ev_eval.specs.Reading.{World, names, all_promises, value_of, values_of, members_of, vat_of}
 use Rattle.ev_eval.specs.Sound.{Grown, IsSound, is_there, are_there, is_bound, are_bound, problems}
 use Rattle.ev_eval.specs.Steps.{Out, Gives, Evaluator, Caller, ◌>>=◌, ◌>>◌, give, fail, fails, new_slot, found_from, with_noun, call_value, call_at, call, gathered, last_of, call_node, define, literal_value, literal_node, noun_node, set_node, within, hide_node, choose, if_node, step, bind_final, bind_var, bind_any, bind_step, step_found, bind_found, deeper, evaluator, opening}
-use Rattle.ev_eval.specs.Turn.{Ends, EndsAs, opened}
+use Rattle.ev_eval.specs.Turn.{Ends, EndsAs, GivesThere, opened}
 use Rattle.ev_eval.proofs.Calls.{CallsMet, call_data_met}
 use Rattle.ev_eval.proofs.Grows.{Grows, same, onward, cut_back, deeper_grows, none_grows}
 use Rattle.ev_eval.proofs.Bindings.{IsMet, found_is, found_there, none_bound, noun_met, onto_more, bound_more, write_met, made_line, new_slot_met}
@@ -436,3 +436,14 @@ turn_grows tree d (Err exit.Astray) s t sound q b g e = rw e ((run_any tree d (E
 turn_grows tree d (Err exit.Unbuilt) s t sound q b g e = absurd ((run_any tree d (Err exit.Unbuilt) s t sound b g).keeps)
 turn_grows tree d (Err exit.Memory) s t sound (Ok x) b g e = absurd (cc)
 turn_grows tree d (Err exit.Memory) s t sound (Err m) b g e = tt
+
+pub turn_there : (tree : List Node) (d : ℕ) (r : Result Held Exit) (s t : Room) → IsSound s.heap → (q : Result Ended Memory)
+    → is_built tree ≡ true → Gives r t (opening tree d s) → EndsAs r q → IfOk q (λ e. GivesThere t.heap e)
+turn_there tree d (Ok v) s t sound q b g e = rw e ((run_any tree d (Ok v) s t sound b g).keeps.1)
+turn_there tree d (Err (exit.Thrown id)) s t sound q b g e = rw e tt
+turn_there tree d (Err exit.Fuel) s t sound q b g e = rw e tt
+turn_there tree d (Err exit.Deep) s t sound q b g e = rw e tt
+turn_there tree d (Err exit.Astray) s t sound q b g e = rw e tt
+turn_there tree d (Err exit.Unbuilt) s t sound q b g e = absurd ((run_any tree d (Err exit.Unbuilt) s t sound b g).keeps)
+turn_there tree d (Err exit.Memory) s t sound (Ok x) b g e = absurd (cc)
+turn_there tree d (Err exit.Memory) s t sound (Err m) b g e = tt

@@ -42,7 +42,7 @@ module _ (h : Contents) where
   one_list (Some l) f = (f l refl).1
   one_list None f = refl
 
-  members_there : Each (IsListed h) h.lists → (k : ℕ) → are_there h (members_at h k) ≡ true
+  pub members_there : Each (IsListed h) h.lists → (k : ℕ) → are_there h (members_at h k) ≡ true
   members_there s k = one_list (slice_get h.lists k) (s k)
 
   pub fits_data : Each (IsListed h) h.lists → (t : ℕ → Words) (x : Value) (verb : Words) (hs xs : List Value) → are_there h hs ≡ true → Fits (data_answer t (members_at h) x verb hs xs)

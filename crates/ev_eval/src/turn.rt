@@ -5,7 +5,7 @@ ghost use Rattle.ev_heap.specs.Contents.{nothing};
 ghost use Rattle.ev_eval.specs.Built.{is_built};
 ghost use Rattle.ev_eval.specs.Reading.{World, all_promises, names, vat_of};
 ghost use Rattle.ev_eval.specs.Sound.{Grown, IsSound, problems};
-ghost use Rattle.ev_eval.specs.Turn.{Ends, EndsAs, EndsBy, opened};
+ghost use Rattle.ev_eval.specs.Turn.{Ends, EndsAs, EndsBy, GivesThere, opened};
 
 use crate::evaluate::opening;
 use crate::exit::Exit;
@@ -104,6 +104,7 @@ pub fn run_turn(
     ensures turn { (w : World) → heap.new.texts ≡ problems ++ w.texts → all_promises w.known ≡ true → Ends w result heap.new micro.new (opened (names w) program.now limits.depth (vat_of w heap.old micro.old)) }
     ensures grown { OnOk result (Grown heap.old heap.new) }
     ensures sound { OnOk result (IsSound heap.new) }
+    ensures there { IfOk result (λ ended. GivesThere heap.new ended) }
 {
     let mut room = Room {
         alloc,

@@ -25,8 +25,8 @@ use Rattle.ev_run.specs.Text.{text, stop_line, stop_text, history_of, vat_names,
 use Rattle.ev_eval.specs.declared.turn.Ended.{Ended}
 use Rattle.ev_eval.specs.declared.turn.Ended.TheVariants as ended
 use Rattle.ev_eval.specs.Reading.{World, all_promises, names, text_of, value_of, lines_of, vat_of}
-use Rattle.ev_eval.specs.Sound.{Grown, problems}
-use Rattle.ev_eval.specs.Turn.{Ends, opened}
+use Rattle.ev_eval.specs.Sound.{Each, Grown, IsListed, IsSound, is_there, problems}
+use Rattle.ev_eval.specs.Turn.{Ends, GivesThere, opened}
 use Rattle.ev_opening_laws.specs.Alone.{alone, start, opened_alone, name_of, NamesNothing, run_of_step}
 use Rattle.ev_opening_laws.proofs.Numbered.{root_alone, named_opening, found_names, runs_alone}
 use Rattle.ev_vat.specs.declared.told.RunEnd.{RunEnd}
@@ -35,7 +35,7 @@ use Rattle.ev_vat.specs.declared.told.Told.{Told}
 use Rattle.ev_vat.specs.Ends.{Tells, end_of}
 use Rattle.ev_vat.specs.Lines.{text_at, shown_held, settled, history, done_lines, threw_lines, text_by, end_by}
 use Rattle.ev_vat.specs.Lines as ours
-use Rattle.ev_vat.proofs.Closing.{root_world, after, closed, waiting, target, finishes, breaks, opening-ends, breaks-closes, IsRootOrNone, finishes-closes, finishes-waits}
+use Rattle.ev_vat.proofs.Closing.{root_world, after, closed, target, finishes, breaks, opening-ends, breaks-closes, finishes-closes}
 use Rattle.ev_vat.proofs.Shows.{shown_of, one_line, all_shown, all_shown-append, shown_events-append, events-shown, no_frames, lines-shown}
 
 -- the history of a run that came to its end, where that happened in its one turn
@@ -73,31 +73,6 @@ done-shown word texts (held.Broken id) = refl
 threw-shown : (word : ℕ → ℕ) (texts : List Words) (id : ℕ) → shown_of (Threw zero (text_of (root_world word texts) id)) ++ shown_of (Settles (Prom zero) (Broken (text_of (root_world word texts) id))) ≡ ShownThrew zero (shown.Text (text_at (problems ++ texts) id)) ∷ Settle (global.Root zero) (shown.Broken (text_at (problems ++ texts) id)) ∷ []
 unfolding shown_of shown_happened shown_name shown_value name_of root_world
 threw-shown word texts id = refl
-
--- a name that stands for nothing is no name
-waits_on : (k : ℕ) (x : Standing Name) → maps.standing Is x ≡ WaitsOn (found zero root_alone (Prom (suc k))) → ⊥
-unfolding found prom_found root_alone
-waits_on k Unsettled e = cc
-waits_on k (WaitsOn q) e = cc
-waits_on k (Viewed q) e = cc
-waits_on k (Settled y) e = cc
-
-waits_known : (k : ℕ) (ks : List (Known Name)) → map (maps.known (found zero root_alone)) (record (begun (Prom zero) zero) { standing = WaitsOn (Prom (suc k)) } ∷ []) ≡ map (maps.known Is) ks → ⊥
-waits_known k [] e = cc
-waits_known k (x ∷ ks) e = waits_on k x.standing (sym (ap (λ (k : Known Found). k.standing) (heads e)))
-  where
-    heads : {A : Type 0} {x y : A} {xs ys : List A} → x ∷ xs ≡ y ∷ ys → x ≡ y
-    heads e = cc
-
-waits_on_none : (k : ℕ) (l : Happened Local) (s : Vat Local) (d : Done Name (Unit {0})) → maps.done (found zero root_alone) (λ u. u) (Gives tt (waiting l (Prom (suc k)) s)) ≡ maps.done Is (λ u. u) d → ⊥
-unfolding waiting
-waits_on_none k l s (Gives a u) e = waits_known k u.known (gives e)
-  where
-    gives : {A : Type 0} {a b : A} {s t : Vat Found} → Gives a s ≡ Gives b t → s.known ≡ t.known
-    gives e = cc
-waits_on_none k l s (Throws p u) e = cc
-waits_on_none k l s (Ejects n v u) e = cc
-waits_on_none k l s (Stops c u) e = cc
 
 module _ (key : List ℕ) (texts : List Words) (fuel depth : ℕ) (name : Words) (tree : List Node) (heap : Contents) (micro : Micro) where
   abbrev word : ℕ → ℕ
@@ -189,57 +164,36 @@ module _ (key : List ℕ) (texts : List Words) (fuel depth : ℕ) (name : Words)
   unfolding end_machine
   gave-is v h = opening-is ∙ ap (end_machine (finishes word texts) (breaks word texts) (λ n v. stop Astray)) h
 
-  -- no promise but the root is known
-  no_other : (k : ℕ) → opened_alone word fuel depth tree ≡ Gives tt (waiting (Finished zero (Ref (Prom (suc k)))) (Prom (suc k)) (after word texts heap micro)) → ⊥
-  unfolding waiting after root_world vat_of begun
-  no_other k e =
-      let named : NamesNothing (opened_alone word fuel depth tree) = rw e (refl, refl) in
-      let same = found_names word fuel depth tree named in
-      waits_on_none k (Finished zero (Ref (Prom (suc k)))) (after word texts heap micro) (named_opening word fuel depth tree) (sym (ap (maps.done (found zero root_alone) (λ u. u)) e) ∙ same)
-
-  value-is : (v : Held) → IsRootOrNone v → evaluated ≡ Gives (value_of (root_world word texts) v) (after word texts heap micro)
+  value-is : Each (IsListed heap) heap.lists → (v : Held) → is_there heap v ≡ true → evaluated ≡ Gives (value_of (root_world word texts) v) (after word texts heap micro)
       → IsRun (render (name ∷ []) (history (problems ++ texts) micro.events (done_lines (problems ++ texts) v))) end.Done
-  value-is v p h =
+  value-is lists v p h =
       closed-is (Finished zero (value_of (root_world word texts) v)) (target word texts v) (ShownDone zero (shown_held (problems ++ texts) v) ∷ Settle (global.Root zero) (settled (problems ++ texts) v) ∷ [])
-      (done-shown word texts v) (gave-is v h ∙ finishes-closes word texts heap micro v p)
+      (done-shown word texts v) (gave-is v h ∙ finishes-closes word texts heap micro lists v p)
 
-  pub run-is : (e : Ended) → Ends (root_world word texts) (Ok e) heap micro evaluated → IsRun (text_by name (problems ++ texts) micro.events e) (end_by e)
+  pub run-is : Each (IsListed heap) heap.lists → (e : Ended) → GivesThere heap e → Ends (root_world word texts) (Ok e) heap micro evaluated → IsRun (text_by name (problems ++ texts) micro.events e) (end_by e)
   unfolding after end_of stop_line digits
-  run-is (ended.Value (held.Prom (suc k))) h = absurd (no_other k (gave-is (held.Prom (suc k)) h ∙ finishes-waits word k texts heap micro))
-  run-is (ended.Value (held.Prom zero)) h = value-is (held.Prom zero) tt h
-  run-is (ended.Value held.Null) h = value-is held.Null tt h
-  run-is (ended.Value (held.Bool b)) h = value-is (held.Bool b) tt h
-  run-is (ended.Value (held.Int z)) h = value-is (held.Int z) tt h
-  run-is (ended.Value (held.Char c)) h = value-is (held.Char c) tt h
-  run-is (ended.Value (held.Text id)) h = value-is (held.Text id) tt h
-  run-is (ended.Value (held.List id)) h = value-is (held.List id) tt h
-  run-is (ended.Value (held.Prim n)) h = value-is (held.Prim n) tt h
-  run-is (ended.Value (held.Obj i)) h = value-is (held.Obj i) tt h
-  run-is (ended.Value (held.Far v p)) h = value-is (held.Far v p) tt h
-  run-is (ended.Value (held.Broken id)) h = value-is (held.Broken id) tt h
-  run-is (ended.Thrown id) h =
+  run-is lists (ended.Value v) t h = value-is lists v t h
+  run-is lists (ended.Thrown id) t h =
       closed-is (Threw zero (text_of (root_world word texts) id)) (Broken (text_of (root_world word texts) id)) _ (threw-shown word texts id) (threw-is (text_of (root_world word texts) id) h)
-  run-is ended.Fuel h = stopped-is Fuel end.FuelSpent refl (stop-is Fuel h)
-  run-is ended.Deep h = stopped-is Deep end.TooDeep refl (stop-is Deep h)
-  run-is ended.Astray h = stopped-is Astray end.Astray refl (stop-is Astray h)
+  run-is lists ended.Fuel t h = stopped-is Fuel end.FuelSpent refl (stop-is Fuel h)
+  run-is lists ended.Deep t h = stopped-is Deep end.TooDeep refl (stop-is Deep h)
+  run-is lists ended.Astray t h = stopped-is Astray end.Astray refl (stop-is Astray h)
 
 -- ---- what the code made
 
--- the vat begins with the texts of the problems, and more come behind them
-module _ (fuel depth : ℕ) (name : Words) (tree : List Node) (before after_turn : Contents) (micro left : Micro) (e : Ended)
-    (begins_so : before ≡ record nothing { texts = problems }) (fuel_so : micro ≡ record { fuel = fuel; events = [] }) (grown : Grown before after_turn)
+-- behind the problems come the texts that are made
+pub texts_behind : (before after_turn : Contents) → before ≡ record nothing { texts = problems } → (g : Grown before after_turn) → after_turn.texts ≡ problems ++ g.texts.0
+texts_behind before after_turn e g = g.texts.1 ∙ ap (λ (h : Contents). h.texts ++ g.texts.0) e
+
+module _ (fuel depth : ℕ) (name : Words) (tree : List Node) (before after_turn : Contents) (micro left : Micro) (e : Ended) (more : List Words)
+    (begins_so : before ≡ record nothing { texts = problems }) (fuel_so : micro ≡ record { fuel = fuel; events = [] }) (texts_so : after_turn.texts ≡ problems ++ more)
+    (sound : IsSound after_turn) (there : GivesThere after_turn e)
     (ends : (w : World) → after_turn.texts ≡ problems ++ w.texts → all_promises w.known ≡ true → Ends w (Ok e) after_turn left (opened (names w) tree depth (vat_of w before micro))) where
-  abbrev more : List Words
-  more = grown.texts.0
-
-  texts_so : after_turn.texts ≡ problems ++ more
-  texts_so = grown.texts.1 ∙ ap (λ (h : Contents). h.texts ++ more) begins_so
-
   so : (key : List ℕ) → (text_by name (problems ++ more) left.events e ≡ text (alone key fuel depth name tree) (run (alone key fuel depth name tree))) × (end_of (run (alone key fuel depth name tree)) ≡ Some (end_by e))
   unfolding root_world vat_of lines_of start begun
   so key =
       let x = ends (root_world (draw_word key) more) texts_so refl in
-      run-is key more fuel depth name tree after_turn left e (rw (begins_so, fuel_so) at x)
+      run-is key more fuel depth name tree after_turn left sound.lists e there (rw (begins_so, fuel_so) at x)
 
   pub told-text : (r : Result Told Memory) → IfOk r (λ told. Tells told (end_by e) (text_by name after_turn.texts left.events e))
       → IfOk r (λ told. (key : List ℕ) → string_bytes told.text ≡ text (alone key fuel depth name tree) (run (alone key fuel depth name tree)))
