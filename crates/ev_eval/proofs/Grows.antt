@@ -7,14 +7,14 @@ use Rattle.ev_kernel.specs.declared.node.Node.{Node}
 use Rattle.ev_kernel.specs.declared.node.Node.TheVariants.{Lit, Noun, Set, Def, Call, Sequence, If, Hide, Object as ObjectNode, Method, Final, Var, Any}
 use Rattle.ev_machine.specs.Values.{Words}
 use Rattle.ev_eval.specs.declared.exit.Exit.{Exit}
-use Rattle.ev_eval.specs.declared.plain.Plain.{Plain}
-use Rattle.ev_eval.specs.declared.plain.Plain.TheVariants as plain
+use Rattle.ev_base.specs.declared.values.Value.{Value}
+use Rattle.ev_base.specs.declared.values.Value.TheVariants as held
 use Rattle.ev_eval.specs.declared.room.Room.{Room}
 use Rattle.ev_eval.specs.declared.scope.Binding.{Binding}
 use Rattle.ev_eval.specs.declared.scope.Bound.{Bound}
 use Rattle.ev_eval.specs.declared.scope.Bound.TheVariants.{Fixed, Slot}
 use Rattle.ev_eval.specs.declared.scope.Scope.{Scope}
-use Rattle.ev_eval.specs.Steps.{Out, Act, Evaluator, and_then, ◌>>=◌, ◌>>◌, give, fail, cut, with_noun, gathered, last_of, call_node, define, literal_node, noun_node, set_node, within, hide_node, choose, if_node, named, object_made, object_in, make_object, object_node, step, bind_final, bind_var, bind_any, bind_step, step_found, bind_found, deeper, evaluator}
+use Rattle.ev_eval.specs.Steps.{Out, Act, Evaluator, and_then, ◌>>=◌, ◌>>◌, give, fail, fails, cut, with_noun, gathered, last_of, call_node, define, literal_node, noun_node, set_node, within, hide_node, choose, if_node, named, object_made, object_in, make_object, object_node, step, bind_final, bind_var, bind_any, bind_step, step_found, bind_found, deeper, evaluator}
 
 -- a scope with more bindings
 pub record Grows (before after : Scope) : Type 0 where
@@ -89,7 +89,7 @@ bound s g = record { holds = g }
 -- what evaluates nodes
 pub record IsGrowing (rec : Evaluator) : Type 0 where
   pub expression : (id : ℕ) (here : Scope) (s : Room) → GivesMore here (rec.expression id here s)
-  pub pattern : (id : ℕ) (v : Plain) (here : Scope) (s : Room) → BindsMore here (rec.pattern id v here s)
+  pub pattern : (id : ℕ) (v : Value) (here : Scope) (s : Room) → BindsMore here (rec.pattern id v here s)
 
 -- ---- expressions
 
@@ -110,12 +110,12 @@ unfolding define ◌>>=◌
 define_grows rec r p (Some j) e here s = lost _ s
 define_grows rec r p None e here s = then_of _ (r.expression e here s) (λ x t g. then_of _ (r.pattern p x.0 x.1 t) (λ after q h. given x.0 q (onward g h)))
 
-gathered_grows : (rec : Evaluator) → IsGrowing rec → (so_far : List Plain) (es : List ℕ) (first here : Scope) (s : Room) → Grows first here → GivesMore first (gathered rec so_far es here s)
+gathered_grows : (rec : Evaluator) → IsGrowing rec → (so_far : List Value) (es : List ℕ) (first here : Scope) (s : Room) → Grows first here → GivesMore first (gathered rec so_far es here s)
 unfolding gathered ◌>>=◌
 gathered_grows rec r so_far [] first here s g = given so_far s g
 gathered_grows rec r so_far (e ∷ es) first here s g = then_of _ (r.expression e here s) (λ x t h. gathered_grows rec r (so_far ++ x.0 ∷ []) es first x.1 t (onward g h))
 
-last_grows : (rec : Evaluator) → IsGrowing rec → (x : Plain) (es : List ℕ) (first here : Scope) (s : Room) → Grows first here → GivesMore first (last_of rec x es here s)
+last_grows : (rec : Evaluator) → IsGrowing rec → (x : Value) (es : List ℕ) (first here : Scope) (s : Room) → Grows first here → GivesMore first (last_of rec x es here s)
 unfolding last_of ◌>>=◌
 last_grows rec r x [] first here s g = given x s g
 last_grows rec r x (e ∷ es) first here s g = then_of _ (r.expression e here s) (λ y t h. last_grows rec r y.0 es first y.1 t (onward g h))
@@ -133,11 +133,11 @@ hide_grows : (rec : Evaluator) → IsGrowing rec → (e : ℕ) (here : Scope) (s
 unfolding hide_node
 hide_grows rec r e here s = within_grows rec r e here here s (same here)
 
-choose_grows : (rec : Evaluator) → IsGrowing rec → (a b : ℕ) (x : Plain) (first here : Scope) (s : Room) → Grows first here → GivesMore first (choose rec (length first.nouns) a b x here s)
+choose_grows : (rec : Evaluator) → IsGrowing rec → (a b : ℕ) (x : Value) (first here : Scope) (s : Room) → Grows first here → GivesMore first (choose rec (length first.nouns) a b x here s)
 unfolding choose
-choose_grows rec r a b (plain.Bool true) first here s g = within_grows rec r a first here s g
-choose_grows rec r a b (plain.Bool false) first here s g = within_grows rec r b first (cut (length first.nouns) here) s (back g)
-choose_grows rec r a b _ first here s g = lost _ s
+choose_grows rec r a b (held.Bool true) first here s g = within_grows rec r a first here s g
+choose_grows rec r a b (held.Bool false) first here s g = within_grows rec r b first (cut (length first.nouns) here) s (back g)
+choose_grows rec r a b _ first here s g = unfold fails in lost _ s
 
 if_grows : (rec : Evaluator) → IsGrowing rec → (c a b : ℕ) (here : Scope) (s : Room) → GivesMore here (if_node rec c a b here s)
 unfolding if_node ◌>>=◌
@@ -146,12 +146,12 @@ if_grows rec r c a b here s = then_of _ (r.expression c here s) (λ x t g. choos
 named_grows : (p : Option Node) (me : ℕ) (here : Scope) → Grows here (named p me here)
 unfolding named
 named_grows None me here = same here
-named_grows (Some (Final x g)) me here = with_one x (Fixed (plain.Obj me)) here
+named_grows (Some (Final x g)) me here = with_one x (Fixed (held.Obj me)) here
 named_grows (Some _) me here = same here
 
 made_grows : (node : ℕ) (x : Words) (bs : List Binding) (me : ℕ) (first here : Scope) (s : Room) → Grows first here → GivesMore first (object_made node x bs me here s)
 unfolding object_made ◌>>=◌ ◌>>◌
-made_grows node x bs me first here s g = then_any _ _ (λ i t. then_any _ _ (λ v q. given (plain.Obj me) q g))
+made_grows node x bs me first here s g = then_any _ _ (λ i t. then_any _ _ (λ v q. given (held.Obj me) q g))
 
 object_grows : (tree : List Node) (id p : ℕ) (auditors : List ℕ) (here : Scope) (s : Room) → GivesMore here (object_node tree id p auditors here s)
 unfolding object_node make_object object_in
@@ -165,7 +165,7 @@ step_grows tree rec r id (Noun x) here s = noun_grows x here s
 step_grows tree rec r id (Set x e) here s = set_grows rec r x e here s
 step_grows tree rec r id (Def p j e) here s = define_grows rec r p j e here s
 step_grows tree rec r id (Call f verb args) here s = call_grows tree rec r f verb args here s
-step_grows tree rec r id (Sequence es) here s = last_grows rec r plain.Null es here here s (same here)
+step_grows tree rec r id (Sequence es) here s = last_grows rec r held.Null es here here s (same here)
 step_grows tree rec r id (If c a b) here s = if_grows rec r c a b here s
 step_grows tree rec r id (Hide e) here s = hide_grows rec r e here s
 step_grows tree rec r id (ObjectNode p auditors ms) here s = object_grows tree id p auditors here s
@@ -173,12 +173,12 @@ step_grows tree rec r id _ here s = lost _ s
 
 -- ---- patterns
 
-final_grows : (x : Words) (g : Option ℕ) (v : Plain) (here : Scope) (s : Room) → BindsMore here (bind_final x g v here s)
+final_grows : (x : Words) (g : Option ℕ) (v : Value) (here : Scope) (s : Room) → BindsMore here (bind_final x g v here s)
 unfolding bind_final
 final_grows x None v here s = bound s (with_one x (Fixed v) here)
 final_grows x (Some g) v here s = lost _ s
 
-var_grows : (x : Words) (g : Option ℕ) (v : Plain) (here : Scope) (s : Room) → BindsMore here (bind_var x g v here s)
+var_grows : (x : Words) (g : Option ℕ) (v : Value) (here : Scope) (s : Room) → BindsMore here (bind_var x g v here s)
 unfolding bind_var ◌>>=◌ ◌>>◌
 var_grows x None v here s = then_any _ _ (λ k t. then_any _ _ (λ z q. bound q (with_one x (Slot k) here)))
 var_grows x (Some g) v here s = lost _ s
@@ -188,7 +188,7 @@ unfolding bind_any
 any_grows None here s = bound s (same here)
 any_grows (Some g) here s = lost _ s
 
-bind_grows : (n : Node) (v : Plain) (here : Scope) (s : Room) → BindsMore here (bind_step n v here s)
+bind_grows : (n : Node) (v : Value) (here : Scope) (s : Room) → BindsMore here (bind_step n v here s)
 unfolding bind_step
 bind_grows (Final x g) v here s = final_grows x g v here s
 bind_grows (Var x g) v here s = var_grows x g v here s
@@ -202,7 +202,7 @@ unfolding step_found
 step_found_grows tree rec r id None here s = lost _ s
 step_found_grows tree rec r id (Some n) here s = step_grows tree rec r id n here s
 
-bind_found_grows : (o : Option Node) (v : Plain) (here : Scope) (s : Room) → BindsMore here (bind_found o v here s)
+bind_found_grows : (o : Option Node) (v : Value) (here : Scope) (s : Room) → BindsMore here (bind_found o v here s)
 unfolding bind_found
 bind_found_grows None v here s = lost _ s
 bind_found_grows (Some n) v here s = bind_grows n v here s

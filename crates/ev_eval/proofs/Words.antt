@@ -10,7 +10,7 @@ use Rattle.ev_base.specs.SafeScope.{primitives}
 use Rattle.ev_machine.specs.Values.{Words, Value, Null, Flag, Prim}
 use Rattle.ev_machine.specs.Free.{same_words, entry}
 use Rattle.ev_machine.specs.Native.{safe_value}
-use Rattle.ev_eval.specs.Natives.{picked}
+use Rattle.ev_prims.specs.Verbs.{picked}
 
 split : (t u : Bool) → elim t [ true ↦ u | false ↦ false ] ≡ true → (t ≡ true) × (u ≡ true)
 split true u h = (refl, h)

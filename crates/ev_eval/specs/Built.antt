@@ -4,16 +4,8 @@ use Rattle.std.specs.Prelude.{ℕ, Bool, true, false, if◌then◌else◌, List,
 use Rattle.ev_base.specs.declared.values.Value.{Value}
 use Rattle.ev_base.specs.declared.values.Value.TheVariants as held
 use Rattle.ev_base.specs.SafeScope.{safe_value}
-use Rattle.ev_kernel.specs.declared.node.Literal.{Literal}
-use Rattle.ev_kernel.specs.declared.node.Literal.TheVariants as literal
 use Rattle.ev_kernel.specs.declared.node.Node.{Node}
 use Rattle.ev_kernel.specs.declared.node.Node.TheVariants.{Lit, Noun, Set, Def, Call, Sequence, If, Hide, Object, Method, Final, Var, Any}
-
--- no text
-abbrev pub is_built_literal : Literal → Bool
-is_built_literal (literal.Int z) = true
-is_built_literal (literal.Char c) = true
-is_built_literal (literal.Text t) = false
 
 -- no noun of the safe scope, or null, true or false
 abbrev pub is_built_safe : Option Value → Bool
@@ -26,10 +18,10 @@ abbrev pub is_nil : List ℕ → Bool
 is_nil [] = true
 is_nil _ = false
 
--- Literals of integers and characters, nouns, assignments, definitions without ejector, calls, sequences, ifs, hides, objects without
+-- Literals, nouns, assignments, definitions without ejector, calls, sequences, ifs, hides, objects without
 -- auditors, methods, and patterns without guard that bind at most one name.
 unfoldable pub is_built_node : Node → Bool
-is_built_node (Lit l) = is_built_literal l
+is_built_node (Lit l) = true
 is_built_node (Noun x) = is_built_safe (safe_value x)
 is_built_node (Set x e) = true
 is_built_node (Def p j e) = is_none j

@@ -1,6 +1,5 @@
 pub mod Built
-pub mod Natives
-pub mod Plain
 pub mod Reading
+pub mod Sound
 pub mod Steps
 pub mod Turn

@@ -1,28 +1,31 @@
 -- What a heap and what happened stand for: a vat of the machine, in local numbers.
-use Rattle.std.specs.Prelude.{ℕ, Bool, true, false, if◌then◌else◌, List, [], ◌∷◌, ◌++◌, map, length, slice_get, unwrap_or, codes}
+use Rattle.std.specs.Prelude.{ℕ, Bool, true, false, if◌then◌else◌, List, [], ◌∷◌, ◌++◌, map, length, slice_get, unwrap_or}
 use Rattle.ev_base.specs.declared.values.Value.{Value as Held}
 use Rattle.ev_base.specs.declared.values.Value.TheVariants as held
 use Rattle.ev_heap.specs.Contents.{Contents}
 use Rattle.ev_heap.specs.declared.micro.Micro.{Micro}
 use Rattle.ev_heap.specs.declared.happened.Happened.{Happened as Event}
 use Rattle.ev_heap.specs.declared.happened.Happened.TheVariants as event
-use Rattle.ev_machine.specs.Values.{Words, Value, Null, Flag, Number, Letter, Text, Prim, Broken, Items, Ref, Naming, Local, Obj, Prom, Far, numbering}
+use Rattle.ev_machine.specs.Values.{Words, Value, Prim, Ref, Naming, Local, Obj, Prom, Far, numbering}
 use Rattle.ev_heap.specs.declared.kept.Cell.{Cell as HeldCell}
 use Rattle.ev_heap.specs.declared.kept.Capture.{Capture}
 use Rattle.ev_heap.specs.declared.kept.Capture.TheVariants as capture
 use Rattle.ev_heap.specs.declared.kept.Caught.{Caught}
+use Rattle.ev_heap.specs.declared.kept.Listed.{Listed}
 use Rattle.ev_heap.specs.declared.kept.Shape.{Shape}
 use Rattle.ev_heap.specs.declared.kept.Shape.TheVariants as shape
 use Rattle.ev_heap.specs.declared.kept.Thing.{Thing as HeldThing}
 use Rattle.ev_heap.specs.declared.kept.GuardKind.{GuardKind}
 use Rattle.ev_heap.specs.declared.kept.GuardKind.TheVariants as guard
-use Rattle.ev_machine.specs.State.{Thing, Made, Ejector, Audition, Resolver, Bound, Fixed, Slot, Binding, Cell, Message, Known, GiftEntry, Put, Happened, Called, Back, Thrown, SlotMade, SlotRead, SlotWrote, ObjectMade, Vat}
+use Rattle.ev_prims.specs.Reading.{value_by}
+use Rattle.ev_eval.specs.Sound.{problems}
+use Rattle.ev_machine.specs.State.{Thing, Made, Ejector, Audition, Resolver, Bound, Fixed, Slot, Binding, Cell, Message, Known, GiftEntry, Put, Happened, Called, Back, Thrown, SlotMade, SlotRead, SlotWrote, ListMade, ObjectMade, Vat}
 
--- What evaluation leaves as it is, and neither the heap's objects, slots and activations nor what happened tell.
+-- What evaluation leaves as it is, and neither the heap's objects, slots, lists and activations nor what happened tell; and the texts
+-- that values stand for, those of the end of the turn, so that a value stands for one thing while the heap grows.
 pub record World : Type 0 where
   pub number : ℕ
   pub drawn : List ℕ
-  pub lists : List (List (Value Local))
   pub messages : ℕ
   pub promises : ℕ
   pub queue : List (Message Local)
@@ -33,32 +36,22 @@ pub record World : Type 0 where
   pub outbox : List (Put Local)
   -- what happened before
   pub happened : List (Happened Local)
-  -- the texts of the heap behind the problems
+  -- the texts of the heap at the end of the turn, behind the problems
   pub texts : List Words
   -- the word of each draw
   pub word : ℕ → ℕ
-
--- the problems that evaluation throws, the first texts of a heap
-abbrev pub problems : List Words
-problems =
-    codes "integer overflow" ∷ codes "not int" ∷ codes "no method" ∷ codes "zero divisor" ∷ codes "negative power" ∷ codes "not char"
-    ∷ codes "not boolean" ∷ []
 
 abbrev pub text_of : World → ℕ → Words
 text_of w id = unwrap_or (slice_get (problems ++ w.texts) id) []
 
 abbrev pub value_of : World → Held → Value Local
-value_of w held.Null = Null
-value_of w (held.Bool b) = Flag b
-value_of w (held.Int z) = Number z
-value_of w (held.Char c) = Letter c
-value_of w (held.Text id) = Text (text_of w id)
-value_of w (held.List id) = Items id
-value_of w (held.Prim n) = Prim n
-value_of w (held.Obj i) = Ref (Obj i)
-value_of w (held.Prom k) = Ref (Prom k)
-value_of w (held.Far v p) = Ref (Far v p)
-value_of w (held.Broken id) = Broken (text_of w id)
+value_of w v = value_by (text_of w) v
+
+abbrev pub values_of : World → List Held → List (Value Local)
+values_of w vs = map (value_of w) vs
+
+abbrev pub members_of : World → Listed → List (Value Local)
+members_of w l = values_of w l.members
 
 -- a problem, which is a text
 abbrev pub problem_of : World → Held → Words
@@ -102,6 +95,7 @@ line_of w (event.Thrown act p) = Thrown act (problem_of w p) ∷ []
 line_of w (event.Slot act k v) = SlotMade act k (value_of w v) ∷ []
 line_of w (event.Read act k v) = SlotRead act k (value_of w v) ∷ []
 line_of w (event.Wrote act k v) = SlotWrote act k (value_of w v) ∷ []
+line_of w (event.List act k vs) = ListMade act k (values_of w vs) ∷ []
 line_of w (event.Made act object x caps stamps) = made_line w act object x caps stamps
 line_of w _ = []
 
@@ -116,7 +110,7 @@ vat_of w heap micro = record {
   drawn = w.drawn;
   things = map (thing_of w) heap.things;
   slots = map (cell_of w) heap.slots;
-  lists = w.lists;
+  lists = map (members_of w) heap.lists;
   activations = length heap.codes;
   messages = w.messages;
   promises = w.promises;

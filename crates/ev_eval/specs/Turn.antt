@@ -1,5 +1,5 @@
 -- The opening turn in the machine, and what the code answers of it.
-use Rattle.std.specs.Prelude.{◌≡◌, ℕ, List, [], Result, Ok, Err, IsErr}
+use Rattle.std.specs.Prelude.{◌≡◌, ℕ, true, List, [], Result, Ok, Err, IsErr}
 use Rattle.ev_base.specs.declared.memory.Memory.{Memory}
 use Rattle.ev_heap.specs.Contents.{Contents}
 use Rattle.ev_heap.specs.declared.micro.Micro.{Micro}
@@ -10,10 +10,10 @@ use Rattle.ev_machine.specs.Eval.{evaluator}
 use Rattle.ev_eval.specs.declared.turn.Ended.{Ended}
 use Rattle.ev_eval.specs.declared.turn.Ended.TheVariants as ended
 use Rattle.ev_eval.specs.Reading.{World, text_of, value_of, vat_of}
-use Rattle.ev_eval.specs.Plain.{held_value}
+use Rattle.ev_eval.specs.Sound.{is_there}
 use Rattle.ev_eval.specs.declared.exit.Exit.{Exit}
 use Rattle.ev_eval.specs.declared.exit.Exit.TheVariants as exit
-use Rattle.ev_eval.specs.declared.plain.Plain.{Plain}
+use Rattle.ev_base.specs.declared.values.Value.{Value as Held}
 
 -- the program is evaluated in an activation of its own, where no noun is bound
 unfoldable pub opened : {N W : Type 0} → Naming N W → List Node → ℕ → Act N (Value N)
@@ -32,8 +32,8 @@ EndsBy exit.Unbuilt r = r ≡ Ok ended.Astray
 EndsBy exit.Memory r = IsErr r
 
 -- how a turn ended, by how its evaluation did
-abbrev pub EndsAs : Result Plain Exit → Result Ended Memory → Type 0
-EndsAs (Ok v) r = r ≡ Ok (ended.Value (held_value v))
+abbrev pub EndsAs : Result Held Exit → Result Ended Memory → Type 0
+EndsAs (Ok v) r = r ≡ Ok (ended.Value v)
 EndsAs (Err e) r = EndsBy e r
 
 -- what the code answered and left is the outcome, unless memory ran out
@@ -44,3 +44,11 @@ Ends w (Ok ended.Fuel) heap micro out = out ≡ Stops Fuel (vat_of w heap micro)
 Ends w (Ok ended.Deep) heap micro out = out ≡ Stops Deep (vat_of w heap micro)
 Ends w (Ok ended.Astray) heap micro out = out ≡ Stops Astray (vat_of w heap micro)
 Ends w (Err memory) heap micro out = Unit {0}
+
+-- where it ended with a value, that stands in the heap
+abbrev pub GivesThere : Contents → Ended → Type 0
+GivesThere heap (ended.Value v) = is_there heap v ≡ true
+GivesThere heap (ended.Thrown id) = Unit {0}
+GivesThere heap ended.Fuel = Unit {0}
+GivesThere heap ended.Deep = Unit {0}
+GivesThere heap ended.Astray = Unit {0}

@@ -2,20 +2,10 @@
 
 ghost use Rattle.std.specs.Prelude.{◌≡◌};
 ghost use Rattle.ev_base.specs.SafeScope.{safe_value};
-ghost use Rattle.ev_eval.specs.Built.{is_built, is_built_literal, is_built_node, is_built_safe};
+ghost use Rattle.ev_eval.specs.Built.{is_built, is_built_node, is_built_safe};
 
 use ev_base::{Value, safe_value};
-use ev_kernel::{Kernel, Literal, Node};
-
-/// Whether a literal is no text.
-fn is_built_literal(literal: &Literal) -> bool
-    ensures { result ≡ is_built_literal literal.now }
-{
-    match literal {
-        Literal::Int(_) | Literal::Char(_) => true,
-        Literal::Text(_) => false,
-    }
-}
+use ev_kernel::{Kernel, Node};
 
 /// Whether a noun is not in the safe scope, or is `null`, `true` or `false`.
 fn is_built_noun(noun: &str) -> bool
@@ -32,7 +22,7 @@ fn is_built_node(node: &Node) -> bool
     ensures { result ≡ is_built_node node.now }
 {
     match node {
-        Node::Lit(literal) => is_built_literal(literal),
+        Node::Lit(_) => true,
         Node::Noun(noun) => is_built_noun(noun.as_str()),
         Node::Set(_, _) => true,
         Node::Def { exit, .. } => exit.is_none(),
@@ -49,7 +39,7 @@ fn is_built_node(node: &Node) -> bool
     }
 }
 
-/// Whether each node of a program is of a kind that is evaluated so far: a literal of an integer or a character, a noun that is
+/// Whether each node of a program is of a kind that is evaluated so far: a literal, a noun that is
 /// `null`, `true`, `false` or not in the safe scope, an assignment, a definition without an ejector, a call, a sequence, an if, a
 /// hide, an object without auditors, a method, or a final, var or any pattern without a guard.
 #[tactic(auto, unfolding(crate::specs::Built::is_built))]

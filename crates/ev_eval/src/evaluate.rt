@@ -1,37 +1,46 @@
 //! Evaluation of expressions.
 
 ghost use Rattle.std.specs.Prelude.{◌≡◌, [], Some, length, option_map};
-ghost use Rattle.ev_eval.specs.Plain.{Keeps};
-ghost use Rattle.ev_eval.specs.Steps.{Answers, Gives, GivesIn, call, call_node, call_object, choose, define, evaluator, gathered, hide_node, if_node, last_of, literal_value, noun_node, opening, run_found, run_method, run_object, set_node, step, within};
-ghost use Rattle.ev_eval.specs.declared.plain.Plain.TheVariants.{Null};
+ghost use Rattle.ev_base.specs.declared.values.Value.TheVariants.{Null};
+ghost use Rattle.ev_eval.specs.Steps.{Gives, GivesIn, answered, call, call_at, call_data, call_node, call_object, choose, define, evaluator, gathered, hide_node, if_node, iterate, last_of, literal_node, literal_value, noun_node, opening, replied, run_found, run_method, run_object, set_node, step, within};
 
-use crate::call::{begun_line, call_data, closed, problem_id};
-use crate::exit::{Exit, Problem};
+use crate::call::{call_line, closed};
+use crate::data::{call_there, make_list, problem_id, text_value, write_text};
+use crate::exit::Exit;
 use crate::nouns::{read_bound, write_bound};
 use crate::object::{first_method, look_code, members_of, object_node, turned};
 use crate::pattern::{bind, bind_all, node_at};
-use crate::plain::Plain;
 use crate::room::{Room, new_activation, spend, tell};
 use crate::scope::{Scope, cut, found};
 use ev_base::{ActId, NodeId, ObjId, Seq, Value};
 use ev_kernel::{Kernel, Literal, Node};
+use ev_prims::{Problem, Reply, data_reply};
 
-#[tactic(auto, using(crate::proofs::Exits::ends), unfolding(crate::specs::Steps::opened_steps))]
-fn literal_value(literal: &Literal) -> Result<Plain, Exit>
-    ensures { Answers result (literal_value literal.now) }
+/// The value of a literal.
+#[tactic(auto, unfolding(crate::specs::Steps::literal_value, crate::specs::Steps::give))]
+fn literal_value(literal: &Literal, room: &mut Room) -> Result<Value, Exit>
+    ensures outcome { Gives result room.new (literal_value literal.now room.old) }
 {
     match literal {
-        Literal::Int(number) => Ok(Plain::Int(*number)),
-        Literal::Char(letter) => Ok(Plain::Char(*letter)),
-        Literal::Text(_) => Err(Exit::Unbuilt),
+        Literal::Int(number) => Ok(Value::Int(*number)),
+        Literal::Char(letter) => Ok(Value::Char(*letter)),
+        Literal::Text(text) => text_value(text.as_str(), room),
     }
+}
+
+/// Evaluates a literal.
+#[tactic(auto, using(crate::proofs::Exits::ends), unfolding(crate::specs::Steps::opened_steps))]
+fn literal_node(literal: &Literal, here: &Scope, room: &mut Room) -> Result<Value, Exit>
+    ensures outcome { GivesIn result here.now room.new (literal_node literal.now here.now room.old) }
+{
+    let value = literal_value(literal, room)?;
+    Ok(value)
 }
 
 /// The value of a noun.
 #[tactic(auto, using(crate::proofs::Exits::ends), unfolding(crate::specs::Steps::opened_steps))]
-fn noun_node(noun: &str, here: &mut Scope, room: &mut Room) -> Result<Plain, Exit>
+fn noun_node(noun: &str, here: &mut Scope, room: &mut Room) -> Result<Value, Exit>
     ensures outcome { GivesIn result here.new room.new (noun_node noun.now here.old room.old) }
-    ensures kept { Keeps room.old.heap room.new.heap }
 {
     let bound = found(here.nouns.as_slice(), noun);
     let value = read_bound(here.act, bound, noun, room)?;
@@ -47,14 +56,13 @@ fn evaluate(
     id: NodeId,
     here: &mut Scope,
     room: &mut Room,
-) -> Result<Plain, Exit>
+) -> Result<Value, Exit>
     ensures outcome { GivesIn result here.new room.new ((evaluator program.now depth).expression id here.old room.old) }
-    ensures kept { Keeps room.old.heap room.new.heap }
 {
     if depth == 0 {
         return Err(Exit::Deep);
     }
-    spend(room)?;
+    spend(room, 1)?;
     match node_at(program.nodes(), id) {
         None => Err(Exit::Astray),
         Some(node) => step(program, depth - 1, id, node, here, room),
@@ -71,12 +79,11 @@ fn step(
     node: &Node,
     here: &mut Scope,
     room: &mut Room,
-) -> Result<Plain, Exit>
+) -> Result<Value, Exit>
     ensures outcome { GivesIn result here.new room.new (step program.now (evaluator program.now depth) id node.now here.old room.old) }
-    ensures kept { Keeps room.old.heap room.new.heap }
 {
     match node {
-        Node::Lit(literal) => literal_value(literal),
+        Node::Lit(literal) => literal_node(literal, here, room),
         Node::Noun(noun) => noun_node(noun.as_str(), here, room),
         Node::Set(noun, value) => set_node(program, depth, noun.as_str(), *value, here, room),
         Node::Def {
@@ -122,9 +129,8 @@ fn set_node(
     value: NodeId,
     here: &mut Scope,
     room: &mut Room,
-) -> Result<Plain, Exit>
+) -> Result<Value, Exit>
     ensures outcome { GivesIn result here.new room.new (set_node (evaluator program.now depth) noun.now value here.old room.old) }
-    ensures kept { Keeps room.old.heap room.new.heap }
 {
     let act = here.act;
     let bound = found(here.nouns.as_slice(), noun);
@@ -144,15 +150,15 @@ fn define(
     value: NodeId,
     here: &mut Scope,
     room: &mut Room,
-) -> Result<Plain, Exit>
+) -> Result<Value, Exit>
     ensures outcome { GivesIn result here.new room.new (define (evaluator program.now depth) pattern exit value here.old room.old) }
-    ensures kept { Keeps room.old.heap room.new.heap }
 {
     match exit {
         Some(_) => Err(Exit::Unbuilt),
         None => {
             let value = evaluate(program, depth, value, here, room)?;
-            bind(program, depth, pattern, value, here, room)?;
+            let bound = value;
+            bind(program, depth, pattern, bound, here, room)?;
             Ok(value)
         }
     }
@@ -168,9 +174,8 @@ fn within(
     id: NodeId,
     here: &mut Scope,
     room: &mut Room,
-) -> Result<Plain, Exit>
+) -> Result<Value, Exit>
     ensures outcome { GivesIn result here.new room.new (within (evaluator program.now depth) mark id here.old room.old) }
-    ensures kept { Keeps room.old.heap room.new.heap }
 {
     let value = evaluate(program, depth, id, here, room)?;
     cut(room.alloc, mark, here);
@@ -186,9 +191,8 @@ fn hide_node(
     id: NodeId,
     here: &mut Scope,
     room: &mut Room,
-) -> Result<Plain, Exit>
+) -> Result<Value, Exit>
     ensures outcome { GivesIn result here.new room.new (hide_node (evaluator program.now depth) id here.old room.old) }
-    ensures kept { Keeps room.old.heap room.new.heap }
 {
     let mark = here.nouns.len();
     within(program, depth, mark, id, here, room)
@@ -206,9 +210,8 @@ fn if_node(
     no: NodeId,
     here: &mut Scope,
     room: &mut Room,
-) -> Result<Plain, Exit>
+) -> Result<Value, Exit>
     ensures outcome { GivesIn result here.new room.new (if_node (evaluator program.now depth) test yes no here.old room.old) }
-    ensures kept { Keeps room.old.heap room.new.heap }
 {
     let mark = here.nouns.len();
     let value = evaluate(program, depth, test, here, room)?;
@@ -224,16 +227,15 @@ fn choose(
     mark: usize,
     yes: NodeId,
     no: NodeId,
-    value: Plain,
+    value: Value,
     here: &mut Scope,
     room: &mut Room,
-) -> Result<Plain, Exit>
+) -> Result<Value, Exit>
     ensures outcome { GivesIn result here.new room.new (choose (evaluator program.now depth) mark yes no value here.old room.old) }
-    ensures kept { Keeps room.old.heap room.new.heap }
 {
     match value {
-        Plain::Bool(true) => within(program, depth, mark, yes, here, room),
-        Plain::Bool(false) => {
+        Value::Bool(true) => within(program, depth, mark, yes, here, room),
+        Value::Bool(false) => {
             cut(room.alloc, mark, here);
             within(program, depth, mark, no, here, room)
         }
@@ -252,9 +254,8 @@ fn call_node(
     args: &[NodeId],
     here: &mut Scope,
     room: &mut Room,
-) -> Result<Plain, Exit>
+) -> Result<Value, Exit>
     ensures outcome { GivesIn result here.new room.new (call_node program.now (evaluator program.now depth) receiver verb.now args.now here.old room.old) }
-    ensures kept { Keeps room.old.heap room.new.heap }
 {
     let act = here.act;
     let receiver = evaluate(program, depth, receiver, here, room)?;
@@ -265,25 +266,147 @@ fn call_node(
 
 /// A call on a value.
 #[cycle(evaluate)]
-#[tactic(auto, using(crate::proofs::Exits::ends), unfolding(crate::specs::Steps::opened_steps))]
+#[tactic(auto, unfolding(crate::specs::Steps::call))]
 fn call(
     program: &Kernel,
     depth: u32,
     act: ActId,
-    receiver: Plain,
+    receiver: Value,
     verb: &str,
-    args: &[Plain],
+    args: &[Value],
     room: &mut Room,
-) -> Result<Plain, Exit>
+) -> Result<Value, Exit>
     ensures outcome { Gives result room.new (call program.now (evaluator program.now depth) act receiver verb.now args.now room.old) }
-    ensures kept { Keeps room.old.heap room.new.heap }
 {
-    match receiver {
-        Plain::Obj(number) => { call_object(program, depth, act, ObjId(number), verb, args, room) }
-        Plain::Null | Plain::Bool(_) | Plain::Int(_) | Plain::Char(_) => {
-            call_data(act, receiver, verb, args, room)
-        }
+    let levels = u128::from(room.heap.list_count()) + 4;
+    call_at(program, depth, levels, act, receiver, verb, args, room)
+}
+
+/// A call on a value, in which data calls again at most so many times less one, one inside another.
+#[cycle(evaluate)]
+#[tactic(auto, using(crate::proofs::Depth::call_deep, crate::proofs::Depth::call_goes), unfolding(crate::specs::Steps::call_value, crate::specs::Steps::fail))]
+fn call_at(
+    program: &Kernel,
+    depth: u32,
+    levels: u128,
+    act: ActId,
+    receiver: Value,
+    verb: &str,
+    args: &[Value],
+    room: &mut Room,
+) -> Result<Value, Exit>
+    ensures outcome { Gives result room.new (call_at program.now (evaluator program.now depth) levels act receiver verb.now args.now room.old) }
+{
+    if levels == 0 {
+        return Err(Exit::Astray);
     }
+    match receiver {
+        Value::Obj(object) => call_object(program, depth, act, object, verb, args, room),
+        Value::Broken(id) => Err(Exit::Thrown(id)),
+        Value::Null
+        | Value::Bool(_)
+        | Value::Int(_)
+        | Value::Char(_)
+        | Value::Text(_)
+        | Value::List(_) => call_data(program, depth, levels - 1, act, receiver, verb, args, room),
+        _ => Err(Exit::Unbuilt),
+    }
+}
+
+/// A call on data, in which calls again stand at most so many times one inside another.
+#[cycle(evaluate)]
+#[tactic(auto, using(crate::proofs::Exits::ends, crate::proofs::Exits::closes), unfolding(crate::specs::Steps::opened_steps))]
+fn call_data(
+    program: &Kernel,
+    depth: u32,
+    levels: u128,
+    act: ActId,
+    receiver: Value,
+    verb: &str,
+    args: &[Value],
+    room: &mut Room,
+) -> Result<Value, Exit>
+    ensures outcome { Gives result room.new (call_data (call_at program.now (evaluator program.now depth) levels) act receiver verb.now args.now room.old) }
+{
+    let target = receiver;
+    let line = call_line(room.alloc, act, target, verb, args, None)?;
+    tell(room, line)?;
+    let outcome = answered(program, depth, levels, act, receiver, verb, args, room);
+    closed(act, outcome, room)
+}
+
+/// What data answers to a call.
+#[cycle(evaluate)]
+#[tactic(auto, unfolding(crate::specs::Steps::answered, crate::specs::Steps::answered_there, crate::specs::Steps::fail))]
+fn answered(
+    program: &Kernel,
+    depth: u32,
+    levels: u128,
+    act: ActId,
+    receiver: Value,
+    verb: &str,
+    args: &[Value],
+    room: &mut Room,
+) -> Result<Value, Exit>
+    ensures outcome { Gives result room.new (answered (call_at program.now (evaluator program.now depth) levels) act receiver verb.now args.now room.old) }
+{
+    let asked = receiver;
+    if !call_there(&room.heap, asked, args) {
+        return Err(Exit::Astray);
+    }
+    let reply = data_reply(room.alloc, &room.heap, receiver, verb, args, args)?;
+    replied(program, depth, levels, act, &reply, room)
+}
+
+/// Does what data answers.
+#[cycle(evaluate)]
+#[tactic(auto, unfolding(crate::specs::Steps::replied, crate::specs::Steps::give, crate::specs::Steps::fails, crate::specs::Steps::fail))]
+fn replied(
+    program: &Kernel,
+    depth: u32,
+    levels: u128,
+    act: ActId,
+    reply: &Reply,
+    room: &mut Room,
+) -> Result<Value, Exit>
+    ensures outcome { Gives result room.new (replied (call_at program.now (evaluator program.now depth) levels) act reply.now room.old) }
+{
+    match reply {
+        Reply::Says(value) => Ok(*value),
+        Reply::Writes(text) => write_text(text.as_str(), room),
+        Reply::Lists(members) => make_list(act, members.as_slice(), room),
+        Reply::Iterates(object, members) => iterate(
+            program,
+            depth,
+            levels,
+            act,
+            object,
+            members.as_slice(),
+            room,
+        ),
+        Reply::Fails(problem) => Err(Exit::Thrown(problem_id(*problem))),
+    }
+}
+
+/// Calls `run` of a value with each place and the member there, in order.
+#[cycle(evaluate)]
+#[tactic(auto, using(crate::proofs::Exits::ends), unfolding(crate::specs::Steps::opened_steps, crate::specs::Steps::iterate))]
+fn iterate(
+    program: &Kernel,
+    depth: u32,
+    levels: u128,
+    act: ActId,
+    object: &Value,
+    members: &[Value],
+    room: &mut Room,
+) -> Result<Value, Exit>
+    ensures outcome { Gives result room.new (iterate (call_at program.now (evaluator program.now depth) levels) act object.now 0 members.now room.old) }
+{
+    for (index, member) in members.iter().enumerate() {
+        let args = [Value::Int(index as i128), *member];
+        call_at(program, depth, levels, act, *object, "run", &args, room)?;
+    }
+    Ok(Value::Null)
 }
 
 /// A call on an object, which begins an activation.
@@ -295,15 +418,14 @@ fn call_object(
     act: ActId,
     object: ObjId,
     verb: &str,
-    args: &[Plain],
+    args: &[Value],
     room: &mut Room,
-) -> Result<Plain, Exit>
+) -> Result<Value, Exit>
     ensures outcome { Gives result room.new (call_object program.now (evaluator program.now depth) act object verb.now args.now room.old) }
-    ensures kept { Keeps room.old.heap room.new.heap }
 {
     let code = look_code(object, room)?;
     let begun = new_activation(Value::Obj(object), room)?;
-    let line = begun_line(room.alloc, act, object, verb, args, begun)?;
+    let line = call_line(room.alloc, act, Value::Obj(object), verb, args, Some(begun))?;
     tell(room, line)?;
     let here = Scope {
         act: begun,
@@ -321,12 +443,11 @@ fn run_object(
     depth: u32,
     id: NodeId,
     verb: &str,
-    args: &[Plain],
+    args: &[Value],
     here: Scope,
     room: &mut Room,
-) -> Result<Plain, Exit>
+) -> Result<Value, Exit>
     ensures outcome { Gives result room.new (run_object program.now (evaluator program.now depth) id verb.now args.now here room.old) }
-    ensures kept { Keeps room.old.heap room.new.heap }
 {
     let members = members_of(program.nodes(), id);
     let found = first_method(program.nodes(), members, verb, args.len());
@@ -340,12 +461,11 @@ fn run_found(
     program: &Kernel,
     depth: u32,
     found: Option<&Node>,
-    args: &[Plain],
+    args: &[Value],
     here: Scope,
     room: &mut Room,
-) -> Result<Plain, Exit>
+) -> Result<Value, Exit>
     ensures outcome { Gives result room.new (run_found (evaluator program.now depth) (option_map (λ node. node.now) found.entry) args.now here room.old) }
-    ensures kept { Keeps room.old.heap room.new.heap }
 {
     match found {
         Some(node) => run_node(program, depth, node, args, here, room),
@@ -360,12 +480,11 @@ fn run_node(
     program: &Kernel,
     depth: u32,
     node: &Node,
-    args: &[Plain],
+    args: &[Value],
     here: Scope,
     room: &mut Room,
-) -> Result<Plain, Exit>
+) -> Result<Value, Exit>
     ensures outcome { Gives result room.new (run_found (evaluator program.now depth) (Some node.now) args.now here room.old) }
-    ensures kept { Keeps room.old.heap room.new.heap }
 {
     match node {
         Node::Method { patterns, body, .. } => run_method(
@@ -389,12 +508,11 @@ fn run_method(
     depth: u32,
     patterns: &[NodeId],
     body: NodeId,
-    args: &[Plain],
+    args: &[Value],
     here: Scope,
     room: &mut Room,
-) -> Result<Plain, Exit>
+) -> Result<Value, Exit>
     ensures outcome { Gives result room.new (run_method (evaluator program.now depth) patterns.now body args.now here room.old) }
-    ensures kept { Keeps room.old.heap room.new.heap }
 {
     let mut inner = here;
     bind_all(program, depth, patterns, args, &mut inner, room)?;
@@ -411,9 +529,8 @@ fn gathered(
     parts: &[NodeId],
     here: &mut Scope,
     room: &mut Room,
-) -> Result<Seq<Plain>, Exit>
+) -> Result<Seq<Value>, Exit>
     ensures outcome { GivesIn result here.new room.new (gathered (evaluator program.now depth) [] parts.now here.old room.old) }
-    ensures kept { Keeps room.old.heap room.new.heap }
 {
     let mut values = Seq::new(room.alloc);
     for part in parts {
@@ -432,11 +549,10 @@ fn last_of(
     parts: &[NodeId],
     here: &mut Scope,
     room: &mut Room,
-) -> Result<Plain, Exit>
+) -> Result<Value, Exit>
     ensures outcome { GivesIn result here.new room.new (last_of (evaluator program.now depth) Null parts.now here.old room.old) }
-    ensures kept { Keeps room.old.heap room.new.heap }
 {
-    let mut value = Plain::Null;
+    let mut value = Value::Null;
     for part in parts {
         value = evaluate(program, depth, *part, here, room)?;
     }
@@ -445,9 +561,8 @@ fn last_of(
 
 /// The opening turn: the program is evaluated in an activation of its own.
 #[tactic(auto, using(crate::proofs::Exits::ends), unfolding(crate::specs::Steps::opened_steps))]
-pub fn opening(program: &Kernel, depth: u32, room: &mut Room) -> Result<Plain, Exit>
+pub fn opening(program: &Kernel, depth: u32, room: &mut Room) -> Result<Value, Exit>
     ensures outcome { Gives result room.new (opening program.now depth room.old) }
-    ensures kept { Keeps room.old.heap room.new.heap }
 {
     let act = new_activation(Value::Null, room)?;
     let mut here = Scope {

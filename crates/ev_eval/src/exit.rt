@@ -1,22 +1,6 @@
 //! How evaluation ends without a value.
 
 use ev_base::{Memory, TextId};
-use ev_num::NumFault;
-
-/// A problem that evaluation throws.
-#[derive(Clone, Copy, Debug, PartialEq, Eq)]
-pub enum Problem {
-    /// An operation on integers has no answer.
-    Arithmetic(NumFault),
-    /// An argument of an operation on integers is no integer.
-    NotInt,
-    /// The receiver has no method of that verb and number of arguments.
-    NoMethod,
-    /// An integer is the code of no character.
-    NotChar,
-    /// What is tested, or joined with a boolean, is no boolean.
-    NotBoolean,
-}
 
 /// Why evaluation gave no value.
 #[derive(Clone, Copy, Debug, PartialEq, Eq)]

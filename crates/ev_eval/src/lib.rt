@@ -3,20 +3,19 @@
 
 pub mod built;
 pub mod call;
+pub mod data;
 pub mod evaluate;
 pub mod exit;
-pub mod natives;
 pub mod nouns;
 pub mod object;
 pub mod pattern;
-pub mod plain;
 pub mod room;
 pub mod scope;
 pub mod slots;
 pub mod turn;
 
 pub use built::is_built;
-pub use exit::{Exit, Problem};
+pub use exit::Exit;
 pub use room::Room;
 pub use turn::{Ended, Start, new_heap, run_turn};
 

@@ -2,11 +2,9 @@
 
 ghost use Rattle.std.specs.Prelude.{◌≡◌};
 ghost use Rattle.ev_base.specs.SafeScope.{safe_value};
-ghost use Rattle.ev_eval.specs.Plain.{Keeps};
-ghost use Rattle.ev_eval.specs.Steps.{Answers, Gives, read_bound, read_held, safe_plain, write_bound, write_held};
+ghost use Rattle.ev_eval.specs.Steps.{Answers, Gives, read_bound, read_held, safe_found, write_bound, write_held};
 
 use crate::exit::Exit;
-use crate::plain::Plain;
 use crate::room::Room;
 use crate::scope::Bound;
 use crate::slots::{read_slot, write_slot};
@@ -14,22 +12,19 @@ use ev_base::{ActId, Value, safe_value};
 
 /// The value of a noun of the safe scope.
 #[tactic(auto, unfolding(crate::specs::Steps::opened_steps))]
-fn safe_plain(noun: &str) -> Result<Plain, Exit>
-    ensures { Answers result (safe_plain (safe_value noun.now)) }
+fn safe_found(noun: &str) -> Result<Value, Exit>
+    ensures { Answers result (safe_found (safe_value noun.now)) }
 {
     match safe_value(noun) {
         None => Err(Exit::Astray),
-        Some(Value::Null) => Ok(Plain::Null),
-        Some(Value::Bool(flag)) => Ok(Plain::Bool(flag)),
-        Some(_) => Err(Exit::Unbuilt),
+        Some(value) => Ok(value),
     }
 }
 
 /// The value of a noun that is bound.
 #[tactic(auto, using(crate::proofs::Exits::ends), unfolding(crate::specs::Steps::opened_steps))]
-fn read_held(act: ActId, bound: Bound, room: &mut Room) -> Result<Plain, Exit>
+fn read_held(act: ActId, bound: Bound, room: &mut Room) -> Result<Value, Exit>
     ensures outcome { Gives result room.new (read_held act bound room.old) }
-    ensures kept { Keeps room.old.heap room.new.heap }
 {
     match bound {
         Bound::Fixed(value) => Ok(value),
@@ -44,21 +39,19 @@ pub fn read_bound(
     bound: Option<Bound>,
     noun: &str,
     room: &mut Room,
-) -> Result<Plain, Exit>
+) -> Result<Value, Exit>
     ensures outcome { Gives result room.new (read_bound act bound noun.now room.old) }
-    ensures kept { Keeps room.old.heap room.new.heap }
 {
     match bound {
         Some(bound) => read_held(act, bound, room),
-        None => safe_plain(noun),
+        None => safe_found(noun),
     }
 }
 
 /// Writes what a noun is bound to, which is to be a var slot.
 #[tactic(auto, using(crate::proofs::Exits::ends), unfolding(crate::specs::Steps::opened_steps))]
-fn write_held(act: ActId, bound: Bound, value: Plain, room: &mut Room) -> Result<Plain, Exit>
+fn write_held(act: ActId, bound: Bound, value: Value, room: &mut Room) -> Result<Value, Exit>
     ensures outcome { Gives result room.new (write_held act bound value room.old) }
-    ensures kept { Keeps room.old.heap room.new.heap }
 {
     match bound {
         Bound::Slot(slot) => write_slot(act, slot, value, room),
@@ -71,11 +64,10 @@ fn write_held(act: ActId, bound: Bound, value: Plain, room: &mut Room) -> Result
 pub fn write_bound(
     act: ActId,
     bound: Option<Bound>,
-    value: Plain,
+    value: Value,
     room: &mut Room,
-) -> Result<Plain, Exit>
+) -> Result<Value, Exit>
     ensures outcome { Gives result room.new (write_bound act bound value room.old) }
-    ensures kept { Keeps room.old.heap room.new.heap }
 {
     match bound {
         Some(bound) => write_held(act, bound, value, room),

@@ -5,15 +5,13 @@ ghost use Rattle.ev_base.specs.declared.values.Value.TheVariants.{Obj};
 ghost use Rattle.ev_heap.specs.declared.happened.Happened.TheVariants.{Made};
 ghost use Rattle.ev_form.specs.FreeNames.{free_names};
 ghost use Rattle.ev_machine.specs.Scopes.{members_of, name_of};
-ghost use Rattle.ev_eval.specs.Plain.{Keeps, capture_of, capture_under, caught_of};
-ghost use Rattle.ev_eval.specs.Steps.{Answers, Gives, GivesIn, all_back, bound_back, captures, code_in, code_of, first_method, look_code, make_object, named, new_object, object_back, object_in, object_made, object_node, suits};
+ghost use Rattle.ev_eval.specs.Sound.{capture_of, capture_under, caught_of};
+ghost use Rattle.ev_eval.specs.Steps.{Answers, Gives, GivesIn, binding_back, bound_back, captures, code_in, code_of, first_method, look_code, make_object, named, new_object, object_in, object_made, object_node, suits};
 
 use crate::exit::Exit;
 use crate::pattern::node_at;
-use crate::plain::{Plain, held_value};
 use crate::room::{Room, tell};
 use crate::scope::{Binding, Bound, Scope, found};
-use crate::slots::plain_of;
 use ev_base::{ActId, Memory, NodeId, ObjId, PrimId, Seq, Str, Value};
 use ev_form::free_names;
 use ev_heap::{Capture, Caught, GuardKind, Happened, Shape};
@@ -32,41 +30,32 @@ fn capture_under(bound: Bound, guard: GuardKind) -> Capture
     ensures { result ≡ capture_under bound guard }
 {
     match bound {
-        Bound::Fixed(value) => Capture::Fixed {
-            value: held_value(value),
-            guard,
-        },
+        Bound::Fixed(value) => Capture::Fixed { value, guard },
         Bound::Slot(slot) => Capture::Slot(slot),
     }
 }
 
 /// What a name was bound to that an object holds so.
-fn bound_back(capture: Capture) -> Option<Bound>
+fn bound_back(capture: Capture) -> Bound
     ensures { result ≡ bound_back capture }
 {
     match capture {
-        Capture::Fixed { value, .. } => match plain_of(value) {
-            Some(value) => Some(Bound::Fixed(value)),
-            None => None,
-        },
-        Capture::Slot(slot) => Some(Bound::Slot(slot)),
+        Capture::Fixed { value, .. } => Bound::Fixed(value),
+        Capture::Slot(slot) => Bound::Slot(slot),
     }
 }
 
-/// What the names were bound to that an object holds, or none where one of them is not built.
-#[tactic(auto, unfolding(crate::specs::Steps::all_back, crate::specs::Steps::with_back))]
-fn all_back(alloc: Global, caught: &[Caught]) -> Result<Option<Seq<Binding>>, Memory>
-    ensures { IfOk result (λ all. all ≡ all_back (Some []) caught.now) }
+/// What the names were bound to that an object holds.
+fn all_back(alloc: Global, caught: &[Caught]) -> Result<Seq<Binding>, Memory>
+    ensures { IfOk result (λ all. all ≡ map binding_back caught.now) }
 {
     let mut all = Seq::new(alloc);
     for one in caught {
-        let Some(bound) = bound_back(one.capture) else {
-            return Ok(None);
-        };
+        let bound = bound_back(one.capture);
         let noun = Str::copy_of(alloc, one.noun.as_str())?;
         all.push(Binding { noun, bound })?;
     }
-    Ok(Some(all))
+    Ok(all)
 }
 
 /// The object of a shape.
@@ -75,10 +64,10 @@ fn shape_code(alloc: Global, shape: &Shape) -> Result<Object, Exit>
     ensures { Answers result (code_of shape.now) }
 {
     match shape {
-        Shape::Made { node, captures, .. } => match all_back(alloc, captures.as_slice())? {
-            Some(nouns) => Ok(Object { node: *node, nouns }),
-            None => Err(Exit::Unbuilt),
-        },
+        Shape::Made { node, captures, .. } => {
+            let nouns = all_back(alloc, captures.as_slice())?;
+            Ok(Object { node: *node, nouns })
+        }
         _ => Err(Exit::Unbuilt),
     }
 }
@@ -216,7 +205,6 @@ fn made_line(
 #[tactic(auto, unfolding(crate::specs::Steps::opened_steps))]
 fn new_object(node: NodeId, nouns: &[Binding], room: &mut Room) -> Result<ObjId, Exit>
     ensures outcome { Gives result room.new (new_object node nouns.now room.old) }
-    ensures kept { Keeps room.old.heap room.new.heap }
 {
     let captures = kept(room.alloc, nouns)?;
     let stamps = Seq::new(room.alloc);
@@ -266,7 +254,7 @@ fn bind_name_in(
             let noun = Str::copy_of(alloc, noun.as_str())?;
             here.nouns.push(Binding {
                 noun,
-                bound: Bound::Fixed(Plain::Obj(object.0)),
+                bound: Bound::Fixed(Value::Obj(object)),
             })
         }
         _ => Ok(()),
@@ -298,14 +286,13 @@ fn object_made(
     object: ObjId,
     here: &Scope,
     room: &mut Room,
-) -> Result<Plain, Exit>
+) -> Result<Value, Exit>
     ensures outcome { GivesIn result here.now room.new (object_made node name.now nouns.now object here.now room.old) }
-    ensures kept { Keeps room.old.heap room.new.heap }
 {
     new_object(node, nouns, room)?;
     let line = made_line(room.alloc, here.act, object, name, nouns)?;
     tell(room, line)?;
-    Ok(Plain::Obj(object.0))
+    Ok(Value::Obj(object))
 }
 
 /// Makes an object whose free names are these, in the scope after its own name is bound.
@@ -316,9 +303,8 @@ fn make_object(
     free: &[Str],
     here: &mut Scope,
     room: &mut Room,
-) -> Result<Plain, Exit>
+) -> Result<Value, Exit>
     ensures outcome { GivesIn result here.new room.new (make_object node (option_map (λ node. node.now) pattern.entry) free.now here.old room.old) }
-    ensures kept { Keeps room.old.heap room.new.heap }
 {
     let object = ObjId(room.heap.object_count());
     bind_name(room.alloc, pattern, object, here)?;
@@ -335,9 +321,8 @@ pub fn object_node(
     auditors: &[NodeId],
     here: &mut Scope,
     room: &mut Room,
-) -> Result<Plain, Exit>
+) -> Result<Value, Exit>
     ensures outcome { GivesIn result here.new room.new (object_node program.now id pattern auditors.now here.old room.old) }
-    ensures kept { Keeps room.old.heap room.new.heap }
 {
     if !auditors.is_empty() {
         return Err(Exit::Unbuilt);

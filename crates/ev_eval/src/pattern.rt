@@ -1,17 +1,15 @@
 //! Binding of patterns.
 
 ghost use Rattle.std.specs.Prelude.{◌≡◌, option_map, slice_get};
-ghost use Rattle.ev_eval.specs.Plain.{Keeps};
 ghost use Rattle.ev_eval.specs.declared.room.Room.{Room};
 ghost use Rattle.ev_eval.specs.declared.scope.Scope.{Scope};
 ghost use Rattle.ev_eval.specs.Steps.{Binds, bind_all, bind_any, bind_final, bind_step, bind_var, evaluator};
 
 use crate::exit::Exit;
-use crate::plain::{Plain, held_value};
 use crate::room::{Room, spend, tell};
 use crate::scope::{Binding, Bound, Scope};
 use crate::slots::new_slot;
-use ev_base::{NodeId, Str};
+use ev_base::{NodeId, Str, Value};
 use ev_heap::Happened;
 use ev_kernel::{Kernel, Node};
 
@@ -30,12 +28,11 @@ pub fn node_at(tree: &[Node], id: NodeId) -> Option<&Node>
 fn bind_final(
     noun: &str,
     guard: Option<NodeId>,
-    value: Plain,
+    value: Value,
     here: &mut Scope,
     room: &mut Room,
 ) -> Result<(), Exit>
     ensures outcome { Binds result here.new room.new (bind_final noun.now guard value here.old room.old) }
-    ensures kept { Keeps room.old.heap room.new.heap }
 {
     match guard {
         Some(_) => Err(Exit::Unbuilt),
@@ -55,18 +52,18 @@ fn bind_final(
 fn bind_var(
     noun: &str,
     guard: Option<NodeId>,
-    value: Plain,
+    value: Value,
     here: &mut Scope,
     room: &mut Room,
 ) -> Result<(), Exit>
     ensures outcome { Binds result here.new room.new (bind_var noun.now guard value here.old room.old) }
-    ensures kept { Keeps room.old.heap room.new.heap }
 {
     match guard {
         Some(_) => Err(Exit::Unbuilt),
         None => {
+            let told = value;
             let slot = new_slot(value, room)?;
-            tell(room, Happened::Slot(here.act, slot, held_value(value)))?;
+            tell(room, Happened::Slot(here.act, slot, told))?;
             let noun = Str::copy_of(room.alloc, noun)?;
             here.nouns.push(Binding {
                 noun,
@@ -90,9 +87,8 @@ fn bind_any(guard: Option<NodeId>) -> Result<(), Exit>
 
 /// Binds the names of a pattern to a value.
 #[tactic(auto, using(crate::proofs::Exits::ends), unfolding(crate::specs::Steps::opened_steps))]
-fn bind_step(node: &Node, value: Plain, here: &mut Scope, room: &mut Room) -> Result<(), Exit>
+fn bind_step(node: &Node, value: Value, here: &mut Scope, room: &mut Room) -> Result<(), Exit>
     ensures outcome { Binds result here.new room.new (bind_step node.now value here.old room.old) }
-    ensures kept { Keeps room.old.heap room.new.heap }
 {
     match node {
         Node::Final(noun, guard) => bind_final(noun.as_str(), *guard, value, here, room),
@@ -118,17 +114,16 @@ pub fn bind(
     program: &Kernel,
     depth: u32,
     id: NodeId,
-    value: Plain,
+    value: Value,
     here: &mut Scope,
     room: &mut Room,
 ) -> Result<(), Exit>
     ensures outcome { Binds result here.new room.new ((evaluator program.now depth).pattern id value here.old room.old) }
-    ensures kept { Keeps room.old.heap room.new.heap }
 {
     if depth == 0 {
         return Err(Exit::Deep);
     }
-    spend(room)?;
+    spend(room, 1)?;
     match node_at(program.nodes(), id) {
         None => Err(Exit::Astray),
         Some(node) => bind_step(node, value, here, room),
@@ -141,12 +136,11 @@ pub fn bind_all(
     program: &Kernel,
     depth: u32,
     patterns: &[NodeId],
-    values: &[Plain],
+    values: &[Value],
     here: &mut Scope,
     room: &mut Room,
 ) -> Result<(), Exit>
     ensures outcome { Binds result here.new room.new (bind_all (evaluator program.now depth) patterns.now values.now here.old room.old) }
-    ensures kept { Keeps room.old.heap room.new.heap }
 {
     for (index, pattern) in patterns.iter().enumerate() {
         let Some(value) = values.get(index) else {

@@ -1,6 +1,6 @@
 //! Where evaluation works: the heap of a vat, the fuel that is left, and what happened.
 
-ghost use Rattle.ev_eval.specs.Plain.{Keeps};
+ghost use Rattle.std.specs.Prelude.{◌≡◌};
 ghost use Rattle.ev_eval.specs.Steps.{Gives, new_activation, spend, tell};
 
 use crate::exit::Exit;
@@ -16,13 +16,13 @@ pub struct Room {
     pub micro: Micro,
 }
 
-/// Spends a unit of fuel for a node that begins.
+/// Spends so many units of fuel, or none where they are above what is left.
 #[tactic(auto, unfolding(crate::specs::Steps::opened_steps))]
-pub fn spend(room: &mut Room) -> Result<(), Exit>
-    ensures outcome { Gives result room.new (spend room.old) }
-    ensures kept { Keeps room.old.heap room.new.heap }
+pub fn spend(room: &mut Room, units: u64) -> Result<(), Exit>
+    ensures outcome { Gives result room.new (spend units room.old) }
+    ensures heap { room.new.heap ≡ room.old.heap }
 {
-    if room.micro.spend(1) {
+    if room.micro.spend(units) {
         Ok(())
     } else {
         Err(Exit::Fuel)
@@ -33,7 +33,6 @@ pub fn spend(room: &mut Room) -> Result<(), Exit>
 #[tactic(auto, unfolding(crate::specs::Steps::opened_steps))]
 pub fn tell(room: &mut Room, event: Happened) -> Result<(), Exit>
     ensures outcome { Gives result room.new (tell event room.old) }
-    ensures kept { Keeps room.old.heap room.new.heap }
 {
     match room.micro.push(event) {
         Ok(()) => Ok(()),
@@ -45,7 +44,6 @@ pub fn tell(room: &mut Room, event: Happened) -> Result<(), Exit>
 #[tactic(auto, unfolding(crate::specs::Steps::opened_steps))]
 pub fn new_activation(receiver: Value, room: &mut Room) -> Result<ActId, Exit>
     ensures outcome { Gives result room.new (new_activation receiver room.old) }
-    ensures kept { Keeps room.old.heap room.new.heap }
 {
     match room.heap.start_activation(receiver) {
         Ok(act) => Ok(act),

@@ -3,8 +3,7 @@
 ghost use Rattle.std.specs.Prelude.{◌≡◌, None};
 ghost use Rattle.ev_eval.specs.Steps.{cut, found_from};
 
-use crate::plain::Plain;
-use ev_base::{ActId, Seq, SlotId, Str};
+use ev_base::{ActId, Seq, SlotId, Str, Value};
 use std::alloc::Global;
 use std::mem;
 
@@ -12,7 +11,7 @@ use std::mem;
 #[derive(Clone, Copy, Debug, PartialEq, Eq)]
 pub enum Bound {
     /// A value, for good.
-    Fixed(Plain),
+    Fixed(Value),
     /// A var slot.
     Slot(SlotId),
 }

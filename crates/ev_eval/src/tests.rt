@@ -78,7 +78,25 @@ fn problems(rt: HostRuntime) -> Result<(), Fail> {
         some(Ended::Thrown(TextId(2)), 7, 2)
     );
     assert_eq!(rt; run(alloc, "(noun x)", 9, 9)?, some(Ended::Astray, 8, 0));
-    assert_eq!(rt; run(alloc, "(lit \"a\")", 9, 9)?, None);
+    Ok(())
+}
+
+#[test]
+fn texts(rt: HostRuntime) -> Result<(), Fail> {
+    let alloc = rt.alloc();
+    let written = some(Ended::Value(Value::Text(TextId(17))), 3, 2);
+    let joined = "(call (lit \"ab\") add (lit \"c\"))";
+    assert_eq!(rt; run(alloc, joined, 9, 9)?, written);
+    assert_eq!(rt; run(alloc, joined, 5, 9)?, some(Ended::Fuel, 2, 1));
+    let past = "(call (lit \"ab\") get (lit 2))";
+    assert_eq!(rt;
+        run(alloc, past, 9, 9)?,
+        some(Ended::Thrown(TextId(9)), 6, 2)
+    );
+    let each =
+        "(call (lit \"ab\") iterate (object (any) () (method run ((any) (any)) (noun null))))";
+    let null = some(Ended::Value(Value::Null), 0, 7);
+    assert_eq!(rt; run(alloc, each, 9, 9)?, null);
     Ok(())
 }
 

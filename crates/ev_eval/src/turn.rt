@@ -3,13 +3,12 @@
 ghost use Rattle.std.specs.Prelude.{◌≡◌, ◌++◌, ◌∷◌, [], true, IfOk, OnOk};
 ghost use Rattle.ev_heap.specs.Contents.{nothing};
 ghost use Rattle.ev_eval.specs.Built.{is_built};
-ghost use Rattle.ev_eval.specs.Plain.{IsPlain, Keeps};
-ghost use Rattle.ev_eval.specs.Reading.{World, all_promises, names, problems, vat_of};
-ghost use Rattle.ev_eval.specs.Turn.{Ends, EndsAs, EndsBy, opened};
+ghost use Rattle.ev_eval.specs.Reading.{World, all_promises, names, vat_of};
+ghost use Rattle.ev_eval.specs.Sound.{Grown, IsSound, problems};
+ghost use Rattle.ev_eval.specs.Turn.{Ends, EndsAs, EndsBy, GivesThere, opened};
 
 use crate::evaluate::opening;
 use crate::exit::Exit;
-use crate::plain::{Plain, held_value};
 use crate::room::Room;
 use ev_base::{Limits, Memory, TextId, Value};
 use ev_heap::{Heap, Micro};
@@ -42,7 +41,7 @@ pub enum Ended {
 /// A heap that holds the texts of the problems that evaluation throws, and nothing else.
 pub fn new_heap(alloc: Global) -> Result<Heap, Memory>
     ensures texts { IfOk result (λ heap. heap ≡ record nothing { texts = problems }) }
-    ensures plain { IfOk result IsPlain }
+    ensures sound { IfOk result IsSound }
 {
     let mut heap = Heap::new(alloc);
     heap.make_text("integer overflow")?;
@@ -52,6 +51,14 @@ pub fn new_heap(alloc: Global) -> Result<Heap, Memory>
     heap.make_text("negative power")?;
     heap.make_text("not char")?;
     heap.make_text("not boolean")?;
+    heap.make_text("not String")?;
+    heap.make_text("not List")?;
+    heap.make_text("out of range")?;
+    heap.make_text("bad argument")?;
+    heap.make_text("not comparable")?;
+    heap.make_text("too heavy")?;
+    heap.make_text("not a text")?;
+    heap.make_text("ejector is dead")?;
     Ok(heap)
 }
 
@@ -69,17 +76,17 @@ fn without_value(exit: Exit) -> Result<Ended, Memory>
 }
 
 /// How a turn ended, by how its evaluation did.
-fn ending(outcome: Result<Plain, Exit>) -> Result<Ended, Memory>
+fn ending(outcome: Result<Value, Exit>) -> Result<Ended, Memory>
     ensures { EndsAs outcome result }
 {
     match outcome {
-        Ok(value) => Ok(Ended::Value(held_value(value))),
+        Ok(value) => Ok(Ended::Value(value)),
         Err(exit) => without_value(exit),
     }
 }
 
 /// Runs the opening turn of a vat whose heap began with the texts of the problems (`new_heap`), and in which only turns of
-/// this program have made var slots and objects.
+/// this program have made var slots, objects and lists.
 /// What happens is added to `micro`, and each node that begins spends a unit of its fuel. No node begins below
 /// `limits.depth` levels.
 ///
@@ -93,10 +100,11 @@ pub fn run_turn(
     micro: &mut Micro,
 ) -> Result<Ended, Memory>
     requires built { is_built program.now ≡ true }
-    requires plain { IsPlain heap.old }
-    ensures turn { (w : World) → heap.old.texts ≡ problems ++ w.texts → all_promises w.known ≡ true → Ends w result heap.new micro.new (opened (names w) program.now limits.depth (vat_of w heap.old micro.old)) }
-    ensures kept { Keeps heap.old heap.new }
-    ensures plain { OnOk result (IsPlain heap.new) }
+    requires sound { IsSound heap.old }
+    ensures turn { (w : World) → heap.new.texts ≡ problems ++ w.texts → all_promises w.known ≡ true → Ends w result heap.new micro.new (opened (names w) program.now limits.depth (vat_of w heap.old micro.old)) }
+    ensures grown { OnOk result (Grown heap.old heap.new) }
+    ensures sound { OnOk result (IsSound heap.new) }
+    ensures there { IfOk result (λ ended. GivesThere heap.new ended) }
 {
     let mut room = Room {
         alloc,

@@ -115,6 +115,20 @@ impl Heap {
         self.slots.len() as u64
     }
 
+    /// How many lists are kept.
+    pub fn list_count(&self) -> u64
+        ensures { result ≡ length self.now.lists }
+    {
+        self.lists.len() as u64
+    }
+
+    /// How many texts are kept.
+    pub fn text_count(&self) -> u64
+        ensures { result ≡ length self.now.texts }
+    {
+        self.texts.len() as u64
+    }
+
     /// The value of a var slot.
     pub fn read(&self, slot: SlotId) -> Value
         requires { slot < length self.now.slots }
@@ -219,6 +233,14 @@ impl Heap {
             height = height.max(inner + 1);
         }
         Some(height)
+    }
+
+    /// Whether a list of these members is within the limits.
+    pub fn fits(&self, members: &[Value]) -> bool
+        requires { All (IsWeighable self.now) members.now }
+        ensures { result ≡ is_light self.now members.now }
+    {
+        self.list_weight(members).is_some() && self.list_height(members).is_some()
     }
 
     /// What is to be kept of a list of these members, if it is within the limits.

@@ -1,9 +1,10 @@
 pub mod AskLemmas
 pub mod Casts
 pub mod DataLemmas
-pub mod FlagLemmas
 pub mod FormLemmas
+pub mod Holds
 pub mod IntegerLemmas
+pub mod Means
 pub mod OrderLemmas
 pub mod PrimitiveLemmas
 pub mod RangeLemmas

@@ -1,6 +1,6 @@
 -- What texts and lists answer, case by case.
 use Rattle.std.proofs.Common.{◌≡◌, ℕ, zero, suc, ◌<◌, ℤ, List, [], ◌∷◌, ◌++◌, length, get_or, take, drop, Option, Some, None, Result, Ok, Err, IfOk, refl, ap, sym, ◌∙◌}
-use Rattle.std.specs.Prelude.{codes, map, option_map, slice_get, chars}
+use Rattle.std.specs.Prelude.{codes, map, option_map, slice_get, chars, unwrap_or}
 use Rattle.std.proofs.lemmas.List.{length-map}
 use Rattle.std.proofs.lemmas.Option.{slice_get-map, slice_get-get_or}
 use Rattle.ev_base.specs.declared.values.Value.{Value as Held}
@@ -11,7 +11,8 @@ use Rattle.ev_machine.specs.Values.{Words, Value, Number, Letter, Prim, Items, L
 use Rattle.ev_machine.specs.Native.{Reply, Says, Writes, Lists, Iterates, Fails, no_method, part_of, index_in, range_in, got_at, got, ran_at, ran, encoded, text_with, text_reply, text_and, list_at, list_and, list_with, list_reply, text_verb, list_verb}
 use Rattle.ev_base.specs.declared.memory.Memory.{Memory}
 use Rattle.ev_prims.specs.declared.reply.Reply.{Reply as Answer}
-use Rattle.ev_prims.specs.Reading.{value_in, values_in, members_in, lists_in, reply_in}
+use Rattle.ev_prims.specs.Answers.{members_at}
+use Rattle.ev_prims.specs.Reading.{text_in, value_in, values_in, members_in, lists_in, reply_in}
 use Rattle.ev_prims.specs.Sequences.{size_said, run_said}
 use Rattle.ev_prims.specs.Forms.{form_of}
 use Rattle.ev_prims.specs.Verbs.{text_verb_named, list_verb_named}
@@ -244,3 +245,14 @@ pub answered_anywhere : (h : Contents) (r : Result Answer Memory) (a : Contents 
     → IfOk r (λ (t : Answer). (k : Contents) → reply_in k t ≡ a k) → IfOk r (λ (t : Answer). reply_in h t ≡ b)
 answered_anywhere h (Ok t) a b e i = i h ∙ e
 answered_anywhere h (Err m) a b e i = tt
+
+-- ---- what is there
+
+pub member_at : (vs : List Held) (i : ℕ) (v : Held) → i < length vs → v ≡ get_or vs i v → slice_get vs i ≡ Some v
+member_at vs i v l h = slice_get-get_or vs i v l ∙ ap Some (sym h)
+
+pub members_here : (h : Contents) (k : ℕ) (ms : List Held) → option_map (λ (l : Listed). l.members) (slice_get h.lists k) ≡ Some ms → members_at h k ≡ ms
+members_here h k ms e = ap (λ (o : Option (List Held)). unwrap_or o []) e
+
+pub text_here : (h : Contents) (id : ℕ) (u : Words) → slice_get h.texts id ≡ Some u → text_in h id ≡ u
+text_here h id u e = ap (λ (o : Option Words). unwrap_or o []) e

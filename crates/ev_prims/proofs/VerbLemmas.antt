@@ -44,7 +44,7 @@ entry_is [] d x = refl
 entry_is (e ∷ es) d x = chosen (same_words e.0 x) (bytes_eq x e.0) e.1 (entry es d x) (picked es d x) (same_turned e.0 x) (entry_is es d x)
 
 -- a table with each entry put through a function
-abbrev through : {A B : Type 0} → (A → B) → List (Words × A) → List (Words × B)
+abbrev pub through : {A B : Type 0} → (A → B) → List (Words × A) → List (Words × B)
 through f [] = []
 through f (e ∷ es) = (e.0, f e.1) ∷ through f es
 
@@ -57,26 +57,26 @@ picked_through f [] d x = refl
 picked_through f (e ∷ es) d x = either f (bytes_eq x e.0) e.1 (picked es d x) (picked (through f es) (f d) x) (picked_through f es d x)
 
 -- what a table of the machine has, by a table of the code
-by_table : {A B : Type 0} (f : A → B) (es : List (Words × A)) (d : A) (x : Words) → entry (through f es) (f d) x ≡ f (picked es d x)
+pub by_table : {A B : Type 0} (f : A → B) (es : List (Words × A)) (d : A) (x : Words) → entry (through f es) (f d) x ≡ f (picked es d x)
 by_table f es d x = entry_is (through f es) (f d) x ∙ picked_through f es d x
 
-int_binary_is : (x : Words) → native.int_binary x ≡ int_verb_of (operation_named x)
+pub int_binary_is : (x : Words) → native.int_binary x ≡ int_verb_of (operation_named x)
 unfolding native.int_binary operation_named
 int_binary_is x = by_table int_verb_of operations None x
 
-int_unary_is : (x : Words) → native.int_unary x ≡ alone_of (alone_named x)
+pub int_unary_is : (x : Words) → native.int_unary x ≡ alone_of (alone_named x)
 unfolding native.int_unary alone_named
 int_unary_is x = by_table alone_of alone_verbs None x
 
-flag_binary_is : (x : Words) → native.flag_binary x ≡ flag_verb_of (joining_named x)
+pub flag_binary_is : (x : Words) → native.flag_binary x ≡ flag_verb_of (joining_named x)
 unfolding native.flag_binary joining_named
 flag_binary_is x = by_table flag_verb_of joinings None x
 
-text_verb_is : (x : Words) → native.text_verb x ≡ seq_verb_of (text_verb_named x)
+pub text_verb_is : (x : Words) → native.text_verb x ≡ seq_verb_of (text_verb_named x)
 unfolding native.text_verb text_verb_named
 text_verb_is x = by_table seq_verb_of text_verbs None x
 
-list_verb_is : (x : Words) → native.list_verb x ≡ seq_verb_of (list_verb_named x)
+pub list_verb_is : (x : Words) → native.list_verb x ≡ seq_verb_of (list_verb_named x)
 unfolding native.list_verb list_verb_named
 list_verb_is x = by_table seq_verb_of list_verbs None x
 

@@ -2,7 +2,7 @@
 use Rattle.std.specs.Prelude.{ℕ, List, codes}
 use Rattle.ev_num.specs.Message.{fault_text}
 use Rattle.ev_prims.specs.declared.problem.Problem.{Problem}
-use Rattle.ev_prims.specs.declared.problem.Problem.TheVariants.{NoMethod, Arithmetic, NotInt, NotChar, NotBoolean, NotText, NotList, OutOfRange, BadArgument, NotComparable, TooHeavy}
+use Rattle.ev_prims.specs.declared.problem.Problem.TheVariants.{NoMethod, Arithmetic, NotInt, NotChar, NotBoolean, NotText, NotList, OutOfRange, BadArgument, NotComparable, TooHeavy, Unthrowable, DeadEjector}
 
 abbrev pub problem_words : Problem → List ℕ
 problem_words NoMethod = codes "no method"
@@ -16,3 +16,5 @@ problem_words OutOfRange = codes "out of range"
 problem_words BadArgument = codes "bad argument"
 problem_words NotComparable = codes "not comparable"
 problem_words TooHeavy = codes "too heavy"
+problem_words Unthrowable = codes "not a text"
+problem_words DeadEjector = codes "ejector is dead"

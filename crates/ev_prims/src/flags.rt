@@ -1,10 +1,8 @@
 //! What booleans answer.
 
-ghost use Rattle.std.specs.Prelude.{◌≡◌, []};
-ghost use Rattle.ev_heap.specs.Contents.{Contents};
-ghost use Rattle.ev_machine.specs.Native as native;
-ghost use Rattle.ev_prims.specs.Reading.{reply_in, value_in, values_in};
-ghost use Rattle.ev_prims.specs.Verbs.{flag_verb_of, joining_named};
+ghost use Rattle.std.specs.Prelude.{◌≡◌, [], Some};
+ghost use Rattle.ev_prims.specs.Answers.{flag_answer, flag_joined, joined};
+ghost use Rattle.ev_prims.specs.Verbs.{joining_named};
 
 use crate::problem::Problem;
 use crate::reply::Reply;
@@ -32,9 +30,8 @@ fn joining_of(verb: &str) -> Option<Joining>
 }
 
 /// Two booleans, joined.
-#[tactic(auto, unfolding(ev_machine::specs::Native::flag_joined))]
 fn joined(joining: Joining, a: bool, b: bool) -> bool
-    ensures { result ≡ native.flag_joined (flag_verb_of (Some joining)) a b }
+    ensures { result ≡ joined joining a b }
 {
     match joining {
         Joining::Both => a && b,
@@ -44,9 +41,9 @@ fn joined(joining: Joining, a: bool, b: bool) -> bool
 }
 
 /// A boolean joined with an argument.
-#[tactic(auto, unfolding(ev_machine::specs::Native::flag_with))]
+#[tactic(auto, unfolding(crate::specs::Answers::flag_joined))]
 fn joined_with(joining: Joining, flag: bool, argument: Value) -> Reply
-    ensures { (h : Contents) → reply_in h result ≡ native.flag_with (flag_verb_of (Some joining)) flag (value_in h argument) }
+    ensures { result ≡ flag_joined (Some joining) flag argument }
 {
     match argument {
         Value::Bool(other) => Reply::Says(Value::Bool(joined(joining, flag, other))),
@@ -55,9 +52,9 @@ fn joined_with(joining: Joining, flag: bool, argument: Value) -> Reply
 }
 
 /// What a boolean answers to a verb with one argument.
-#[tactic(auto, using(crate::proofs::FlagLemmas::with_joining, crate::proofs::FlagLemmas::nothing_with))]
+#[tactic(auto, unfolding(crate::specs::Answers::flag_joined))]
 fn with_one(flag: bool, verb: &str, argument: Value) -> Reply
-    ensures { (h : Contents) → reply_in h result ≡ native.flag_with (native.flag_binary verb.now) flag (value_in h argument) }
+    ensures { result ≡ flag_joined (joining_named verb.now) flag argument }
 {
     match joining_of(verb) {
         Some(joining) => joined_with(joining, flag, argument),
@@ -66,9 +63,9 @@ fn with_one(flag: bool, verb: &str, argument: Value) -> Reply
 }
 
 /// What a boolean answers to a verb without arguments.
-#[tactic(auto, using(crate::proofs::VerbLemmas::entry_is), unfolding(ev_machine::specs::Native::flag_reply, ev_machine::specs::Native::no_method))]
+#[tactic(auto, unfolding(crate::specs::Answers::flag_answer))]
 fn alone(flag: bool, verb: &str) -> Reply
-    ensures { (h : Contents) → reply_in h result ≡ native.flag_reply flag verb.now [] }
+    ensures { result ≡ flag_answer flag verb.now [] }
 {
     if verb == "not" {
         Reply::Says(Value::Bool(!flag))
@@ -78,9 +75,9 @@ fn alone(flag: bool, verb: &str) -> Reply
 }
 
 /// What a boolean answers to a verb, at followed arguments.
-#[tactic(auto, unfolding(ev_machine::specs::Native::flag_reply, ev_machine::specs::Native::no_method))]
+#[tactic(auto, unfolding(crate::specs::Answers::flag_answer))]
 pub(crate) fn flag_reply(flag: bool, verb: &str, args: &[Value]) -> Reply
-    ensures { (h : Contents) → reply_in h result ≡ native.flag_reply flag verb.now (values_in h args.now) }
+    ensures { result ≡ flag_answer flag verb.now args.now }
 {
     match args {
         [] => alone(flag, verb),

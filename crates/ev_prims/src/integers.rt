@@ -1,10 +1,7 @@
 //! What integers answer.
 
-ghost use Rattle.std.specs.Prelude.{◌≡◌, Some, None};
-ghost use Rattle.ev_int_laws.specs.Same.{op_of, told};
-ghost use Rattle.ev_heap.specs.Contents.{Contents};
-ghost use Rattle.ev_machine.specs.Native as native;
-ghost use Rattle.ev_prims.specs.Reading.{reply_in, value_in, values_in};
+ghost use Rattle.std.specs.Prelude.{◌≡◌, Some};
+ghost use Rattle.ev_prims.specs.Answers.{char_answer, int_alone, int_answer, int_joined, number_answer};
 ghost use Rattle.ev_prims.specs.Verbs.{alone_named, code_of, operation_named};
 
 use crate::problem::Problem;
@@ -36,9 +33,8 @@ fn operation(verb: &str) -> Option<IntOp>
 }
 
 /// What arithmetic answers.
-#[tactic(auto, unfolding(ev_machine::specs::Native::by_int))]
 fn by_int(outcome: Result<i128, NumFault>) -> Reply
-    ensures { (h : Contents) → reply_in h result ≡ native.by_int (told outcome) }
+    ensures { result ≡ number_answer outcome }
 {
     match outcome {
         Ok(number) => Reply::Says(Value::Int(number)),
@@ -59,9 +55,8 @@ fn char_of(number: i128) -> Option<char>
 }
 
 /// The character whose code an integer is, as an answer.
-#[tactic(auto, using(crate::proofs::IntegerLemmas::as_char_some, crate::proofs::IntegerLemmas::as_char_none, crate::proofs::Casts::casts))]
 fn as_char(number: i128) -> Reply
-    ensures { (h : Contents) → reply_in h result ≡ native.as_char number }
+    ensures { result ≡ char_answer (code_of number) }
 {
     match char_of(number) {
         Some(c) => Reply::Says(Value::Char(c)),
@@ -88,30 +83,22 @@ fn unary(verb: &str) -> Option<AloneVerb>
     }
 }
 
-/// The number with the other sign.
-#[tactic(auto, using(crate::proofs::IntegerLemmas::negated, crate::proofs::Casts::casts))]
-fn negated(number: i128) -> Reply
-    ensures { (h : Contents) → reply_in h result ≡ native.int_alone native.Negates number }
-{
-    by_int(apply(IntOp::Subtract, 0, number))
-}
-
 /// What an integer answers to a verb without arguments.
-#[tactic(auto, using(crate::proofs::IntegerLemmas::alone_negates, crate::proofs::IntegerLemmas::alone_makes_char, crate::proofs::IntegerLemmas::nothing_alone, crate::proofs::Casts::casts))]
+#[tactic(auto, unfolding(crate::specs::Answers::int_alone))]
 fn alone(number: i128, verb: &str) -> Reply
-    ensures { (h : Contents) → reply_in h result ≡ native.int_alone (native.int_unary verb.now) number }
+    ensures { result ≡ int_alone (alone_named verb.now) number }
 {
     match unary(verb) {
-        Some(AloneVerb::Negate) => negated(number),
+        Some(AloneVerb::Negate) => by_int(apply(IntOp::Subtract, 0, number)),
         Some(AloneVerb::ToChar) => as_char(number),
         None => Reply::Fails(Problem::NoMethod),
     }
 }
 
 /// What an operation on an integer and an argument answers.
-#[tactic(auto, using(crate::proofs::IntegerLemmas::joins, crate::proofs::Casts::casts), unfolding(ev_machine::specs::Native::int_with))]
+#[tactic(auto, unfolding(crate::specs::Answers::int_joined))]
 fn joined(operation: IntOp, number: i128, argument: Value) -> Reply
-    ensures { (h : Contents) → reply_in h result ≡ native.int_with (native.Applies (op_of operation)) number (value_in h argument) }
+    ensures { result ≡ int_joined (Some operation) number argument }
 {
     match argument {
         Value::Int(other) => by_int(apply(operation, number, other)),
@@ -120,9 +107,9 @@ fn joined(operation: IntOp, number: i128, argument: Value) -> Reply
 }
 
 /// What an integer answers to a verb with one argument.
-#[tactic(auto, using(crate::proofs::IntegerLemmas::with_operation, crate::proofs::IntegerLemmas::nothing_with, crate::proofs::Casts::casts))]
+#[tactic(auto, unfolding(crate::specs::Answers::int_joined))]
 fn with_one(number: i128, verb: &str, argument: Value) -> Reply
-    ensures { (h : Contents) → reply_in h result ≡ native.int_with (native.int_binary verb.now) number (value_in h argument) }
+    ensures { result ≡ int_joined (operation_named verb.now) number argument }
 {
     match operation(verb) {
         Some(operation) => joined(operation, number, argument),
@@ -131,9 +118,9 @@ fn with_one(number: i128, verb: &str, argument: Value) -> Reply
 }
 
 /// What an integer answers to a verb, at followed arguments.
-#[tactic(auto, using(crate::proofs::Casts::casts), unfolding(ev_machine::specs::Native::int_reply, ev_machine::specs::Native::no_method))]
+#[tactic(auto, unfolding(crate::specs::Answers::int_answer))]
 pub(crate) fn int_reply(number: i128, verb: &str, args: &[Value]) -> Reply
-    ensures { (h : Contents) → reply_in h result ≡ native.int_reply number verb.now (values_in h args.now) }
+    ensures { result ≡ int_answer number verb.now args.now }
 {
     match args {
         [] => alone(number, verb),

@@ -1,11 +1,13 @@
 //! What lists answer.
 
-ghost use Rattle.std.specs.Prelude.{◌≡◌, ◌+◌, ◌≤◌, All, IfOk, length, ◌++◌, ◌∷◌, []};
-ghost use Rattle.ev_heap.specs.Contents.{Contents, IsWeighable};
+ghost use Rattle.std.specs.Prelude.{◌≡◌, ◌+◌, ◌≤◌, All, IfOk, codes, length, ◌++◌, ◌∷◌, []};
+ghost use Rattle.ev_base.specs.declared.values.Value.TheVariants.{Int};
+ghost use Rattle.ev_heap.specs.Contents.{IsWeighable};
 ghost use Rattle.ev_machine.specs.Native as native;
-ghost use Rattle.ev_machine.specs.Values.{Number};
-ghost use Rattle.ev_prims.specs.Reading.{lists_in, reply_in, value_in, values_in};
-ghost use Rattle.ev_prims.specs.Sequences.{run_said};
+ghost use Rattle.ev_prims.specs.Answers.{got, list_and, list_answer, list_ran, list_with, members_at};
+ghost use Rattle.ev_prims.specs.Verbs.{list_verb_named, picked};
+ghost use Rattle.ev_prims.specs.declared.problem.Problem.TheVariants.{NoMethod};
+ghost use Rattle.ev_prims.specs.declared.reply.Reply.TheVariants as reply;
 
 use crate::forms::{Form, form_of};
 use crate::places::{index_in, range_in};
@@ -18,9 +20,9 @@ use ev_heap::Heap;
 use std::alloc::Global;
 
 /// The member at an index.
-#[tactic(auto, using(crate::proofs::SeqLemmas::list_got_here, crate::proofs::SeqLemmas::list_got_nowhere, crate::proofs::Casts::casts))]
+#[tactic(auto, using(crate::proofs::SeqLemmas::member_at), unfolding(crate::specs::Answers::got))]
 fn got_at(members: &[Value], index: i128) -> Reply
-    ensures { (h : Contents) → reply_in h result ≡ native.got (λ v. v) (values_in h members.now) (Number index) }
+    ensures { result ≡ got members.now (Int index) }
 {
     match index_in(members.len(), index) {
         Some(place) => Reply::Says(members[place]),
@@ -29,9 +31,9 @@ fn got_at(members: &[Value], index: i128) -> Reply
 }
 
 /// The member at what is to be an index.
-#[tactic(auto, using(crate::proofs::Casts::casts), unfolding(ev_machine::specs::Native::got))]
+#[tactic(auto, unfolding(crate::specs::Answers::got))]
 fn got(members: &[Value], index: Value) -> Reply
-    ensures { (h : Contents) → reply_in h result ≡ native.got (λ v. v) (values_in h members.now) (value_in h index) }
+    ensures { result ≡ got members.now index }
 {
     match index {
         Value::Int(index) => got_at(members, index),
@@ -56,9 +58,9 @@ fn part(members: &[Value], first: usize, count: usize) -> &[Value]
 }
 
 /// The members from an index to before another, as a list.
-#[tactic(auto, using(crate::proofs::SeqLemmas::list_ran_here, crate::proofs::SeqLemmas::list_ran_nowhere, crate::proofs::Casts::casts))]
+#[tactic(auto, unfolding(crate::specs::Answers::list_ran))]
 fn ran_between(alloc: Global, members: &[Value], start: i128, end: i128) -> Result<Reply, Memory>
-    ensures { IfOk result (λ r. (h : Contents) → reply_in h r ≡ native.ran native.Lists (values_in h members.now) (Number start) (Number end)) }
+    ensures { IfOk result (λ r. r ≡ list_ran members.now (Int start) (Int end)) }
 {
     match range_in(members.len(), start, end) {
         Some((first, count)) => {
@@ -70,9 +72,9 @@ fn ran_between(alloc: Global, members: &[Value], start: i128, end: i128) -> Resu
 }
 
 /// The members between what are to be two indices, as a list.
-#[tactic(auto, using(crate::proofs::Casts::casts), unfolding(ev_machine::specs::Native::ran))]
+#[tactic(auto, unfolding(crate::specs::Answers::list_ran))]
 fn ran(alloc: Global, members: &[Value], start: Value, end: Value) -> Result<Reply, Memory>
-    ensures { IfOk result (λ r. (h : Contents) → reply_in h r ≡ native.ran native.Lists (values_in h members.now) (value_in h start) (value_in h end)) }
+    ensures { IfOk result (λ r. r ≡ list_ran members.now start end) }
 {
     match start {
         Value::Int(start) => match end {
@@ -93,10 +95,10 @@ fn joined(alloc: Global, members: &[Value], more: &[Value]) -> Result<Seq<Value>
 }
 
 /// A list with another behind it.
-#[tactic(auto, using(crate::proofs::SeqLemmas::list_and_list), unfolding(ev_machine::specs::Native::list_and))]
+#[tactic(auto, using(crate::proofs::SeqLemmas::members_here), unfolding(crate::specs::Answers::list_and))]
 fn list_and(alloc: Global, heap: &Heap, members: &[Value], argument: Value) -> Result<Reply, Memory>
     requires { IsWeighable heap.now argument }
-    ensures { IfOk result (λ r. reply_in heap.now r ≡ native.list_and (lists_in heap.now) (values_in heap.now members.now) (value_in heap.now argument)) }
+    ensures { IfOk result (λ r. r ≡ list_and (members_at heap.now) members.now argument) }
 {
     match argument {
         Value::List(id) => Ok(Reply::Lists(joined(alloc, members, heap.members(id))?)),
@@ -105,9 +107,8 @@ fn list_and(alloc: Global, heap: &Heap, members: &[Value], argument: Value) -> R
 }
 
 /// A list with one more member behind the others.
-#[tactic(auto, using(crate::proofs::SeqLemmas::joined_values))]
 fn with_member(alloc: Global, members: &[Value], member: Value) -> Result<Reply, Memory>
-    ensures { IfOk result (λ r. (h : Contents) → reply_in h r ≡ native.Lists (values_in h members.now ++ value_in h member ∷ [])) }
+    ensures { IfOk result (λ r. r ≡ reply.Lists (members.now ++ member ∷ [])) }
 {
     let mut all = copy_of(alloc, members)?;
     all.push(member)?;
@@ -116,13 +117,13 @@ fn with_member(alloc: Global, members: &[Value], member: Value) -> Result<Reply,
 
 /// The members of a list, one by one.
 fn iterated(alloc: Global, members: &[Value], held: Value) -> Result<Reply, Memory>
-    ensures { IfOk result (λ r. (h : Contents) → reply_in h r ≡ native.Iterates (value_in h held) (values_in h members.now)) }
+    ensures { IfOk result (λ r. r ≡ reply.Iterates held members.now) }
 {
     Ok(Reply::Iterates(held, copy_of(alloc, members)?))
 }
 
 /// What a list answers to a verb with one argument.
-#[tactic(auto, using(crate::proofs::SeqLemmas::list_gets, crate::proofs::SeqLemmas::list_adds, crate::proofs::SeqLemmas::list_adds_one, crate::proofs::SeqLemmas::list_steps, crate::proofs::SeqLemmas::list_has_none))]
+#[tactic(auto, unfolding(crate::specs::Answers::list_with))]
 fn with_one(
     alloc: Global,
     heap: &Heap,
@@ -132,7 +133,7 @@ fn with_one(
     argument: Value,
 ) -> Result<Reply, Memory>
     requires { IsWeighable heap.now argument }
-    ensures { IfOk result (λ r. reply_in heap.now r ≡ native.list_with (lists_in heap.now) (native.list_verb verb.now) (values_in heap.now members.now) (value_in heap.now held) (value_in heap.now argument)) }
+    ensures { IfOk result (λ r. r ≡ list_with (members_at heap.now) (list_verb_named verb.now) members.now held argument) }
 {
     match list_verb(verb) {
         Some(SeqVerb::Get) => Ok(got(members, argument)),
@@ -144,7 +145,6 @@ fn with_one(
 }
 
 /// What a list answers to a verb with two arguments.
-#[tactic(auto, using(crate::proofs::VerbLemmas::entry_is), unfolding(ev_machine::specs::Native::no_method))]
 fn with_two(
     alloc: Global,
     members: &[Value],
@@ -152,7 +152,7 @@ fn with_two(
     start: Value,
     end: Value,
 ) -> Result<Reply, Memory>
-    ensures { IfOk result (λ r. (h : Contents) → reply_in h r ≡ run_said (native.ran native.Lists (values_in h members.now) (value_in h start) (value_in h end)) verb.now) }
+    ensures { IfOk result (λ r. r ≡ picked ((codes "run", list_ran members.now start end) ∷ []) (reply.Fails NoMethod) verb.now) }
 {
     if verb == "run" {
         ran(alloc, members, start, end)
@@ -162,7 +162,7 @@ fn with_two(
 }
 
 /// What a list of these members answers to a verb, with its arguments as they are held and as they are followed.
-#[tactic(auto, using(crate::proofs::FormLemmas::good_one))]
+#[tactic(auto, using(crate::proofs::FormLemmas::good_one), unfolding(crate::specs::Answers::list_formed))]
 pub(crate) fn list_reply(
     alloc: Global,
     heap: &Heap,
@@ -172,7 +172,7 @@ pub(crate) fn list_reply(
     args: &[Value],
 ) -> Result<Reply, Memory>
     requires { All (IsWeighable heap.now) args.now }
-    ensures { IfOk result (λ r. reply_in heap.now r ≡ native.list_reply (lists_in heap.now) (values_in heap.now members.now) verb.now (values_in heap.now held.now) (values_in heap.now args.now)) }
+    ensures { IfOk result (λ r. r ≡ list_answer (members_at heap.now) members.now verb.now held.now args.now) }
 {
     match form_of(held, args) {
         Form::Alone => Ok(size_reply(members.len(), verb)),

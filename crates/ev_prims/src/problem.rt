@@ -23,8 +23,12 @@ pub enum Problem {
     OutOfRange,
     BadArgument,
     NotComparable,
-    /// A list would have more members than any list may have.
+    /// A list or a text would be above the limits.
     TooHeavy,
+    /// What is to be thrown is no text.
+    Unthrowable,
+    /// A call on an ejector that was left.
+    DeadEjector,
 }
 
 impl Problem {
@@ -46,6 +50,8 @@ impl Problem {
             Problem::BadArgument => "bad argument",
             Problem::NotComparable => "not comparable",
             Problem::TooHeavy => "too heavy",
+            Problem::Unthrowable => "not a text",
+            Problem::DeadEjector => "ejector is dead",
         }
     }
 }

@@ -1,12 +1,14 @@
 //! What texts answer.
 
-ghost use Rattle.std.specs.Prelude.{◌≡◌, All, IfOk, chars, encode_utf8, length, map, slice_get, string_bytes, ◌++◌};
-ghost use Rattle.ev_base.specs.declared.values.Value.TheVariants.{Char};
-ghost use Rattle.ev_heap.specs.Contents.{Contents, IsWeighable};
+ghost use Rattle.std.specs.Prelude.{◌≡◌, ◌∷◌, [], All, IfOk, chars, codes, encode_utf8, length, map, slice_get, string_bytes, ◌++◌};
+ghost use Rattle.ev_base.specs.declared.values.Value.TheVariants.{Char, Int};
+ghost use Rattle.ev_heap.specs.Contents.{IsWeighable};
 ghost use Rattle.ev_machine.specs.Native as native;
-ghost use Rattle.ev_machine.specs.Values as machine;
-ghost use Rattle.ev_prims.specs.Reading.{reply_in, value_in, values_in};
-ghost use Rattle.ev_prims.specs.Sequences.{run_said};
+ghost use Rattle.ev_prims.specs.Answers.{got_letter, text_and, text_answer, text_ran, text_with};
+ghost use Rattle.ev_prims.specs.Reading.{text_in};
+ghost use Rattle.ev_prims.specs.Verbs.{picked, text_verb_named};
+ghost use Rattle.ev_prims.specs.declared.problem.Problem.TheVariants.{NoMethod};
+ghost use Rattle.ev_prims.specs.declared.reply.Reply.TheVariants as reply;
 
 use crate::forms::{Form, form_of};
 use crate::places::{index_in, range_in};
@@ -74,9 +76,9 @@ fn part(alloc: Global, text: &str, start: usize, count: usize) -> Result<String,
 }
 
 /// The character at an index.
-#[tactic(auto, using(crate::proofs::SeqLemmas::got_here, crate::proofs::SeqLemmas::got_nowhere, crate::proofs::SeqLemmas::got_past, crate::proofs::Casts::casts))]
+#[tactic(auto, unfolding(crate::specs::Answers::got_letter))]
 fn got_at(text: &str, index: i128) -> Reply
-    ensures { (h : Contents) → reply_in h result ≡ native.got machine.Letter (chars text.now) (machine.Number index) }
+    ensures { result ≡ got_letter (chars text.now) (Int index) }
 {
     match index_in(count_of(text), index) {
         Some(place) => match character_at(text, place) {
@@ -88,9 +90,9 @@ fn got_at(text: &str, index: i128) -> Reply
 }
 
 /// The character at what is to be an index.
-#[tactic(auto, using(crate::proofs::Casts::casts), unfolding(ev_machine::specs::Native::got))]
+#[tactic(auto, unfolding(crate::specs::Answers::got_letter))]
 fn got(text: &str, index: Value) -> Reply
-    ensures { (h : Contents) → reply_in h result ≡ native.got machine.Letter (chars text.now) (value_in h index) }
+    ensures { result ≡ got_letter (chars text.now) index }
 {
     match index {
         Value::Int(index) => got_at(text, index),
@@ -99,17 +101,16 @@ fn got(text: &str, index: Value) -> Reply
 }
 
 /// The characters of a text, one by one.
-#[tactic(auto, using(crate::proofs::SeqLemmas::letters_are))]
 fn iterated(alloc: Global, text: &str, held: Value) -> Result<Reply, Memory>
-    ensures { IfOk result (λ r. (h : Contents) → reply_in h r ≡ native.Iterates (value_in h held) (map machine.Letter (chars text.now))) }
+    ensures { IfOk result (λ r. r ≡ reply.Iterates held (map Char (chars text.now))) }
 {
     Ok(Reply::Iterates(held, letters_of(alloc, text)?))
 }
 
 /// The characters from an index to before another, as a text.
-#[tactic(auto, using(crate::proofs::SeqLemmas::ran_here, crate::proofs::SeqLemmas::ran_nowhere), unfolding(ev_machine::specs::Native::ran))]
+#[tactic(auto, unfolding(crate::specs::Answers::text_ran))]
 fn ran(alloc: Global, text: &str, start: Value, end: Value) -> Result<Reply, Memory>
-    ensures { IfOk result (λ r. (h : Contents) → reply_in h r ≡ native.ran (λ cs. native.Writes (native.encoded cs)) (chars text.now) (value_in h start) (value_in h end)) }
+    ensures { IfOk result (λ r. r ≡ text_ran (chars text.now) start end) }
 {
     match start {
         Value::Int(start) => match end {
@@ -127,7 +128,7 @@ fn ran(alloc: Global, text: &str, start: Value, end: Value) -> Result<Reply, Mem
 
 /// A text with another behind it.
 fn joined(alloc: Global, text: &str, more: &str) -> Result<Reply, Memory>
-    ensures { IfOk result (λ r. (h : Contents) → reply_in h r ≡ native.Writes (text.now ++ more.now)) }
+    ensures { IfOk result (λ r. r ≡ reply.Writes (text.now ++ more.now)) }
 {
     let mut all = Str::copy_of(alloc, text)?;
     all.push(more)?;
@@ -136,7 +137,7 @@ fn joined(alloc: Global, text: &str, more: &str) -> Result<Reply, Memory>
 
 /// A text with a character behind it.
 fn with_letter(alloc: Global, text: &str, letter: char) -> Result<Reply, Memory>
-    ensures { IfOk result (λ r. (h : Contents) → reply_in h r ≡ native.Writes (text.now ++ encode_utf8 letter)) }
+    ensures { IfOk result (λ r. r ≡ reply.Writes (text.now ++ encode_utf8 letter)) }
 {
     let mut all = String::from_str(alloc, text)?;
     all.push(letter)?;
@@ -144,10 +145,10 @@ fn with_letter(alloc: Global, text: &str, letter: char) -> Result<Reply, Memory>
 }
 
 /// A text with a value behind it, printed without quotes.
-#[tactic(auto, unfolding(ev_machine::specs::Native::text_and, ev_machine::specs::Native::flag_words))]
+#[tactic(auto, unfolding(crate::specs::Answers::text_and))]
 fn text_and(alloc: Global, heap: &Heap, text: &str, argument: Value) -> Result<Reply, Memory>
     requires { IsWeighable heap.now argument }
-    ensures { IfOk result (λ r. reply_in heap.now r ≡ native.text_and text.now (value_in heap.now argument)) }
+    ensures { IfOk result (λ r. r ≡ text_and (text_in heap.now) text.now argument) }
 {
     match argument {
         Value::Text(id) => joined(alloc, text, heap.text(id)),
@@ -164,7 +165,7 @@ fn text_and(alloc: Global, heap: &Heap, text: &str, argument: Value) -> Result<R
 }
 
 /// What a text answers to a verb with one argument.
-#[tactic(auto, using(crate::proofs::SeqLemmas::text_gets, crate::proofs::SeqLemmas::text_adds, crate::proofs::SeqLemmas::text_steps, crate::proofs::SeqLemmas::text_adds_none, crate::proofs::SeqLemmas::text_has_none))]
+#[tactic(auto, unfolding(crate::specs::Answers::text_with))]
 fn with_one(
     alloc: Global,
     heap: &Heap,
@@ -174,7 +175,7 @@ fn with_one(
     argument: Value,
 ) -> Result<Reply, Memory>
     requires { IsWeighable heap.now argument }
-    ensures { IfOk result (λ r. reply_in heap.now r ≡ native.text_with (native.text_verb verb.now) text.now (value_in heap.now held) (value_in heap.now argument)) }
+    ensures { IfOk result (λ r. r ≡ text_with (text_in heap.now) (text_verb_named verb.now) text.now held argument) }
 {
     match text_verb(verb) {
         Some(SeqVerb::Get) => Ok(got(text, argument)),
@@ -186,7 +187,6 @@ fn with_one(
 }
 
 /// What a text answers to a verb with two arguments.
-#[tactic(auto, using(crate::proofs::VerbLemmas::entry_is), unfolding(ev_machine::specs::Native::no_method))]
 fn with_two(
     alloc: Global,
     text: &str,
@@ -194,7 +194,7 @@ fn with_two(
     start: Value,
     end: Value,
 ) -> Result<Reply, Memory>
-    ensures { IfOk result (λ r. (h : Contents) → reply_in h r ≡ run_said (native.ran (λ cs. native.Writes (native.encoded cs)) (chars text.now) (value_in h start) (value_in h end)) verb.now) }
+    ensures { IfOk result (λ r. r ≡ picked ((codes "run", text_ran (chars text.now) start end) ∷ []) (reply.Fails NoMethod) verb.now) }
 {
     if verb == "run" {
         ran(alloc, text, start, end)
@@ -204,7 +204,7 @@ fn with_two(
 }
 
 /// What a text answers to a verb, with its arguments as they are held and as they are followed.
-#[tactic(auto, using(crate::proofs::FormLemmas::good_one, crate::proofs::SeqLemmas::text_alone, crate::proofs::SeqLemmas::text_one, crate::proofs::SeqLemmas::text_two, crate::proofs::SeqLemmas::text_other))]
+#[tactic(auto, using(crate::proofs::FormLemmas::good_one), unfolding(crate::specs::Answers::text_formed))]
 pub(crate) fn text_reply(
     alloc: Global,
     heap: &Heap,
@@ -214,7 +214,7 @@ pub(crate) fn text_reply(
     args: &[Value],
 ) -> Result<Reply, Memory>
     requires { All (IsWeighable heap.now) args.now }
-    ensures { IfOk result (λ r. reply_in heap.now r ≡ native.text_reply text.now verb.now (values_in heap.now held.now) (values_in heap.now args.now)) }
+    ensures { IfOk result (λ r. r ≡ text_answer (text_in heap.now) text.now verb.now held.now args.now) }
 {
     match form_of(held, args) {
         Form::Alone => Ok(size_reply(count_of(text), verb)),

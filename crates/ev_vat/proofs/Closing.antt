@@ -1,24 +1,28 @@
 -- The end of the opening turn of a vat that knows its root alone.
-use Rattle.std.proofs.Common.{◌≡◌, ℕ, zero, suc, List, [], ◌∷◌, ◌++◌, refl, codes, false, None, ◌==◌}
-use Rattle.ev_renaming.proofs.Stands.{not_true, same_number}
+use Rattle.std.proofs.Common.{◌≡◌, ℕ, zero, suc, Bool, true, false, List, [], ◌∷◌, ◌++◌, length, map, refl, ap, ◌∙◌, codes}
 use Rattle.ev_kernel.specs.declared.node.Node.{Node}
 use Rattle.ev_base.specs.declared.values.Value.{Value as Held}
 use Rattle.ev_base.specs.declared.values.Value.TheVariants as held
 use Rattle.ev_heap.specs.Contents.{Contents}
 use Rattle.ev_heap.specs.declared.micro.Micro.{Micro}
-use Rattle.ev_machine.specs.Values.{Words, Value, Broken, Ref, Naming, Local, Prom, numbering, same_local, local_spot}
-use Rattle.ev_machine.specs.State.{Happened, Finished, Threw, Settles, Waits, Settled, WaitsOn, Known, Vat, Gives, Astray, Act, ◌>>◌, ◌>>=◌, and_then, end_by, ending, tell, stop, look, alter, with_change, changed, changed_to, unless_settled, Wait, WaitOn, is_in, begun, new_activation}
-use Rattle.ev_machine.specs.Refs.{Mine, entry_of, follow, severed, severed_at, severed_by, follow_at, led, standing_of, standing_in, host_at, host_in, place, spotted, hosted, waits_lead, led_by_wait, wait_on, wait_unless_cycle, resolve_to, resolve, settle, opened_refs}
+use Rattle.ev_machine.specs.Values.{Words, Value, Broken, Items, Ref, Naming, Local, Obj, Prom, numbering, same_local, local_spot}
+use Rattle.ev_machine.specs.State.{Happened, Finished, Threw, Settles, Settled, Vat, Gives, Astray, Act, ◌>>◌, ◌>>=◌, and_then, end_by, ending, give, each, tell, stop, look, alter, with_change, changed, changed_to, unless_settled, begun, new_activation}
+use Rattle.ev_machine.specs.Native.{list_at}
+use Rattle.ev_machine.specs.Refs.{entry_of, follow, severed, severed_at, follow_at, led, standing_of, standing_in, place, resolve_to, resolve, any_of, reached, reaches, cut_cycle, target_of, settle, settle_at, settle_one, settle_entry, settle_standing, settle_known, opened_refs}
 use Rattle.ev_machine.specs.Eval.{opening, closes}
-use Rattle.ev_eval.specs.Reading.{World, names, value_of, vat_of}
+use Rattle.ev_prims.specs.Answers.{members_at}
+use Rattle.ev_prims.proofs.Means.{lists_are}
+use Rattle.ev_eval.specs.Reading.{World, names, text_of, value_of, members_of, vat_of}
+use Rattle.ev_eval.specs.Sound.{Each, IsListed, is_there, are_there}
+use Rattle.ev_eval.proofs.Replies.{members_there}
+use Rattle.ev_eval.proofs.There.{both}
 use Rattle.ev_eval.specs.Turn.{opened}
 
 -- what the vat has at the start beside its heap
-unfoldable pub root_world : (ℕ → ℕ) → World
-root_world word = record {
+unfoldable pub root_world : (ℕ → ℕ) → List Words → World
+root_world word texts = record {
   number = zero;
   drawn = [];
-  lists = [];
   messages = zero;
   promises = zero;
   queue = [];
@@ -28,106 +32,125 @@ root_world word = record {
   noticed = [];
   outbox = [];
   happened = [];
-  texts = [];
+  texts = texts;
   word = word;
 }
 
 -- the vat after evaluation
-unfoldable pub after : (ℕ → ℕ) → Contents → Micro → Vat Local
-after word heap micro = vat_of (root_world word) heap micro
+unfoldable pub after : (ℕ → ℕ) → List Words → Contents → Micro → Vat Local
+after word texts heap micro = vat_of (root_world word texts) heap micro
 
 -- the turn ends with this line, and the root settles to that value
 unfoldable pub closed : Happened Local → Value Local → Vat Local → Vat Local
 closed l y s = record s { known = record (begun (Prom zero) zero) { standing = Settled y } ∷ []; happened = (s.happened ++ l ∷ []) ++ Settles (Prom zero) y ∷ [] }
 
--- what the root waits on is no root
-unfoldable pub waiting : Happened Local → Local → Vat Local → Vat Local
-waiting l q s = record s { known = record (begun (Prom zero) zero) { standing = WaitsOn q } ∷ []; happened = (s.happened ++ l ∷ []) ++ Waits (Prom zero) q ∷ [] }
-
 -- what the root settles to
-unfoldable pub target : (ℕ → ℕ) → Held → Value Local
-target word (held.Prom k) = Broken (codes "cycle")
-target word v = value_of (root_world word) v
+unfoldable pub target : (ℕ → ℕ) → List Words → Held → Value Local
+target word texts (held.Prom k) = Broken (codes "cycle")
+target word texts v = value_of (root_world word texts) v
 
 -- what the vat does at the end of the turn
-unfoldable pub finishes : (ℕ → ℕ) → Value Local → Act Local (Unit {0})
-finishes word v = tell (Finished zero v) >> resolve (names (root_world word)) (Prom zero) v
+unfoldable pub finishes : (ℕ → ℕ) → List Words → Value Local → Act Local (Unit {0})
+finishes word texts v = tell (Finished zero v) >> resolve (names (root_world word texts)) (Prom zero) v
 
-unfoldable pub breaks : (ℕ → ℕ) → Words → Act Local (Unit {0})
-breaks word t = tell (Threw zero t) >> settle (names (root_world word)) (Prom zero) (Broken t)
+unfoldable pub breaks : (ℕ → ℕ) → List Words → Words → Act Local (Unit {0})
+breaks word texts t = tell (Threw zero t) >> settle (names (root_world word texts)) (Prom zero) (Broken t)
 
-pub opening-ends : (word : ℕ → ℕ) (tree : List Node) (depth : ℕ) (s : Vat Local) → s.activations ≡ zero
-    → opening (numbering {W = Local} word) tree depth (Prom zero) [] s ≡ end_by (finishes word) (breaks word) (λ n v. stop Astray) (opened (numbering {W = Local} word) tree depth s)
+pub opening-ends : (word : ℕ → ℕ) (texts : List Words) (tree : List Node) (depth : ℕ) (s : Vat Local) → s.activations ≡ zero
+    → opening (numbering {W = Local} word) tree depth (Prom zero) [] s ≡ end_by (finishes word texts) (breaks word texts) (λ n v. stop Astray) (opened (numbering {W = Local} word) tree depth s)
 unfolding opening closes opened ending new_activation ◌>>=◌ and_then finishes breaks root_world
-opening-ends word tree depth s e = rw e refl
+opening-ends word texts tree depth s e = rw e refl
 
-abbrev pub IsRootOrNone : Held → Type 0
-IsRootOrNone (held.Prom (suc k)) = ⊥
-IsRootOrNone _ = Unit {0}
+-- ---- lists lead to no promise
 
-module _ (word : ℕ → ℕ) (heap : Contents) (micro : Micro) where
-  pub breaks-closes : (t : Words) → breaks word t (after word heap micro) ≡ Gives tt (closed (Threw zero t) (Broken t) (after word heap micro))
-  unfolding breaks after closed root_world vat_of opened_refs
-  breaks-closes t = refl
-
-  pub finishes-closes : (v : Held) → IsRootOrNone v
-      → finishes word (value_of (root_world word) v) (after word heap micro) ≡ Gives tt (closed (Finished zero (value_of (root_world word) v)) (target word v) (after word heap micro))
-  unfolding finishes after closed root_world vat_of target opened_refs
-  finishes-closes held.Null h = refl
-  finishes-closes (held.Bool b) h = refl
-  finishes-closes (held.Int z) h = refl
-  finishes-closes (held.Char c) h = refl
-  finishes-closes (held.Text id) h = refl
-  finishes-closes (held.List id) h = refl
-  finishes-closes (held.Prim n) h = refl
-  finishes-closes (held.Obj i) h = refl
-  finishes-closes (held.Prom zero) h = refl
-  finishes-closes (held.Prom (suc k)) h = absurd h
-  finishes-closes (held.Far v p) h = refl
-  finishes-closes (held.Broken id) h = refl
-
--- ---- a promise that is not the root
-
-apart : (k : ℕ) → (zero == suc k) ≡ false
-apart k = not_true (zero == suc k) (λ h. let e : zero ≡ suc k = same_number zero (suc k) h in cc)
-
-apart_too : (k : ℕ) → (suc k == zero) ≡ false
-apart_too k = not_true (suc k == zero) (λ h. let e : suc k ≡ zero = same_number (suc k) zero h in cc)
-
-unfoldable pub root_waits : ℕ → Known Local
-root_waits k = record (begun (Prom zero) zero) { standing = WaitsOn (Prom (suc k)) }
-
-module _ (word : ℕ → ℕ) (k : ℕ) where
+module _ (word : ℕ → ℕ) (texts : List Words) (heap : Contents) (lists : Each (IsListed heap) heap.lists) (s : Vat Local)
+    (known_so : s.known ≡ begun (Prom zero) zero ∷ []) (lists_so : s.lists ≡ map (members_of (root_world word texts)) heap.lists) where
   abbrev K : Naming Local Local
   K = numbering word
 
-  entry : entry_of K (begun (Prom zero) zero ∷ []) (Prom (suc k)) ≡ None
-  unfolding entry_of begun numbering same_local
-  entry = rw (apart k, entry_of) refl
+  abbrev val : Held → Value Local
+  val v = value_of (root_world word texts) v
 
-  leads : waits_lead K 1 (begun (Prom zero) zero ∷ []) (Prom zero) (Prom (suc k)) ≡ false
-  unfolding waits_lead led_by_wait standing_of standing_in numbering same_local
-  leads = rw (apart_too k, waits_lead, entry) refl
+  follow_object : (i : ℕ) → follow K s (Ref (Obj i)) ≡ Ref (Obj i)
+  unfolding follow follow_at led standing_of standing_in severed severed_at entry_of begun numbering local_spot same_local
+  follow_object i = rw known_so refl
 
-  both_told : with_change K (Wait (Prom zero)) (Prom (suc k)) (with_change K (WaitOn (Prom (suc k))) (Prom zero) (begun (Prom zero) zero ∷ [])) ≡ root_waits k ∷ []
-  unfolding root_waits with_change changed changed_to unless_settled begun numbering same_local
-  both_told = rw (apart k, with_change) refl
+  follow_so : (x : Held) → is_there heap x ≡ true → follow K s (val x) ≡ val x
+  unfolding follow follow_at severed
+  follow_so (held.Obj i) e = follow_object i
+  follow_so (held.Prom k) e = absurd (cc)
+  follow_so (held.Far v p) e = absurd (cc)
+  follow_so _ e = refl
 
-  module _ (s : Vat Local) (known_so : s.known ≡ begun (Prom zero) zero ∷ []) (number_so : s.number ≡ zero) (noticed_so : s.noticed ≡ []) where
-    follow_so : follow K s (Ref (Prom (suc k))) ≡ Ref (Prom (suc k))
-    unfolding follow severed severed_at severed_by follow_at led standing_of standing_in host_at host_in is_in numbering local_spot
-    follow_so = rw (known_so, number_so, noticed_so, entry) refl
+  neither : (b rest : Bool) → b ≡ false → rest ≡ false → elim b as (λ c. Bool) [ true ↦ true | false ↦ rest ] ≡ false
+  neither true rest e n = absurd (cc)
+  neither false rest e n = n
 
-    place_so : place K s (Ref (Prom (suc k))) ≡ Mine (Prom (suc k))
-    unfolding place spotted hosted host_at host_in numbering local_spot
-    place_so = rw (known_so, number_so, entry) refl
+  none_more : (f : Value Local → Bool) (x : Value Local) (xs : List (Value Local)) → f x ≡ false → any_of K f xs ≡ false → any_of K f (x ∷ xs) ≡ false
+  unfolding any_of
+  none_more f x xs e n = neither (f x) (any_of K f xs) e n
 
-    pub resolve-waits : resolve K (Prom zero) (Ref (Prom (suc k))) s ≡ Gives tt (record s { known = root_waits k ∷ []; happened = s.happened ++ Waits (Prom zero) (Prom (suc k)) ∷ [] })
-    unfolding resolve ◌>>=◌ ◌>>◌ look and_then resolve_to wait_unless_cycle wait_on tell alter
-    resolve-waits = rw (follow_so, place_so, known_so, leads, both_told) refl
+  none_reach : (d : ℕ) → ((x : Held) → is_there heap x ≡ true → reaches K d s (Prom zero) (val x) ≡ false) → (vs : List Held) → are_there heap vs ≡ true
+      → any_of K (λ v. reaches K d s (Prom zero) v) (map val vs) ≡ false
+  unfolding any_of
+  none_reach d apart [] t = refl
+  none_reach d apart (v ∷ vs) t =
+      let i = both (is_there heap v) (are_there heap vs) t in
+      none_more (λ x. reaches K d s (Prom zero) x) (val v) (map val vs) (apart v i.0) (none_reach d apart vs i.1)
 
-  pub finishes-waits : (heap : Contents) (micro : Micro) → finishes word (Ref (Prom (suc k))) (after word heap micro) ≡ Gives tt (waiting (Finished zero (Ref (Prom (suc k)))) (Prom (suc k)) (after word heap micro))
-  unfolding finishes after waiting root_world vat_of ◌>>◌ and_then tell root_waits
-  finishes-waits heap micro =
-      let s = after word heap micro in
-      resolve-waits (record s { happened = s.happened ++ Finished zero (Ref (Prom (suc k))) ∷ [] }) refl refl refl
+  reach_more : (d : ℕ) (y : Value Local) → reaches K (suc d) s (Prom zero) y ≡ reached K (any_of K (λ v. reaches K d s (Prom zero) v)) s.lists (Prom zero) (follow K s y)
+  unfolding reaches
+  reach_more d y = refl
+
+  members_so : (k : ℕ) → list_at s.lists k ≡ map val (members_at heap k)
+  members_so k = ap (λ (ls : List (List (Value Local))). list_at ls k) lists_so ∙ lists_are (text_of (root_world word texts)) heap.lists k
+
+  reached_not : (d : ℕ) → ((x : Held) → is_there heap x ≡ true → reaches K d s (Prom zero) (val x) ≡ false) → (x : Held) → is_there heap x ≡ true
+      → reached K (any_of K (λ v. reaches K d s (Prom zero) v)) s.lists (Prom zero) (val x) ≡ false
+  unfolding reached numbering same_local
+  reached_not d apart (held.List k) t =
+      ap (any_of K (λ v. reaches K d s (Prom zero) v)) (members_so k) ∙ none_reach d apart (members_at heap k) (members_there heap lists k)
+  reached_not d apart (held.Prom k) t = absurd (cc)
+  reached_not d apart (held.Far v p) t = absurd (cc)
+  reached_not d apart _ t = refl
+
+  no_reach : (d : ℕ) (x : Held) → is_there heap x ≡ true → reaches K d s (Prom zero) (val x) ≡ false
+  no_reach zero x t = unfold reaches in refl
+  no_reach (suc d) x t =
+      reach_more d (val x)
+      ∙ ap (reached K (any_of K (λ v. reaches K d s (Prom zero) v)) s.lists (Prom zero)) (follow_so x t)
+      ∙ reached_not d (no_reach d) x t
+
+  target_so : (k : ℕ) → is_there heap (held.List k) ≡ true → target_of K s (Prom zero) (Items k) ≡ Items k
+  unfolding target_of cut_cycle
+  target_so k t = ap (λ (b : Bool). cut_cycle K b (Items k)) (no_reach (suc (length s.lists)) (held.List k) t)
+
+resolve-list : (word : ℕ → ℕ) (k : ℕ) (s : Vat Local) → s.known ≡ begun (Prom zero) zero ∷ [] → target_of (numbering {W = Local} word) s (Prom zero) (Items k) ≡ Items k
+    → resolve (numbering {W = Local} word) (Prom zero) (Items k) s
+    ≡ Gives tt (record s { known = record (begun (Prom zero) zero) { standing = Settled (Items k) } ∷ []; happened = s.happened ++ Settles (Prom zero) (Items k) ∷ [] })
+unfolding resolve ◌>>=◌ ◌>>◌ look and_then follow severed follow_at place resolve_to settle settle_at settle_one settle_entry settle_standing settle_known tell alter each give with_change changed changed_to unless_settled begun entry_of numbering same_local
+resolve-list word k s known_so target_so = rw (target_so, known_so) refl
+
+-- ---- the end of the turn
+
+module _ (word : ℕ → ℕ) (texts : List Words) (heap : Contents) (micro : Micro) where
+  pub breaks-closes : (t : Words) → breaks word texts t (after word texts heap micro) ≡ Gives tt (closed (Threw zero t) (Broken t) (after word texts heap micro))
+  unfolding breaks after closed root_world vat_of opened_refs
+  breaks-closes t = refl
+
+  -- the vat once the last line of the turn is told
+  abbrev told : Value Local → Vat Local
+  told v = record (after word texts heap micro) { happened = (after word texts heap micro).happened ++ Finished zero v ∷ [] }
+
+  finishes-list : (lists : Each (IsListed heap) heap.lists) (k : ℕ) → is_there heap (held.List k) ≡ true
+      → finishes word texts (Items k) (after word texts heap micro) ≡ Gives tt (closed (Finished zero (Items k)) (Items k) (after word texts heap micro))
+  unfolding finishes after closed root_world vat_of ◌>>◌ and_then tell
+  finishes-list lists k t = resolve-list word k (told (Items k)) refl (target_so word texts heap lists (told (Items k)) refl refl k t)
+
+  pub finishes-closes : Each (IsListed heap) heap.lists → (v : Held) → is_there heap v ≡ true
+      → finishes word texts (value_of (root_world word texts) v) (after word texts heap micro) ≡ Gives tt (closed (Finished zero (value_of (root_world word texts) v)) (target word texts v) (after word texts heap micro))
+  unfolding finishes after closed root_world vat_of target opened_refs
+  finishes-closes lists (held.List id) t = finishes-list lists id t
+  finishes-closes lists (held.Prom k) t = absurd (cc)
+  finishes-closes lists (held.Far v p) t = absurd (cc)
+  finishes-closes lists _ t = refl

@@ -18,7 +18,8 @@ use Rattle.ev_run.specs.Shown.{shown_value, shown_values, shown_capture, shown_s
 use Rattle.ev_run.specs.Draws.{draw_word}
 use Rattle.ev_run.specs.Wire.{frame}
 use Rattle.ev_run.specs.Text.{shown_events}
-use Rattle.ev_eval.specs.Reading.{problems, value_of, problem_of, capture_in, made_line, line_of, lines_of}
+use Rattle.ev_eval.specs.Sound.{problems}
+use Rattle.ev_eval.specs.Reading.{value_of, values_of, problem_of, capture_in, made_line, line_of, lines_of}
 use Rattle.ev_opening_laws.specs.Alone.{name_of}
 use Rattle.ev_vat.specs.Lines.{text_at, shown_held, problem_at}
 use Rattle.ev_vat.specs.Lines as ours
@@ -119,74 +120,75 @@ no_frames (h ∷ hs) = filter-append is_no_frame (shown_of h) (all_shown hs) ∙
 
 -- ---- what the code shows
 
-pub value-shown : (word : ℕ → ℕ) (v : Held) → shown_value zero (maps.value name_of (value_of (root_world word) v)) ≡ shown_held problems v
+pub value-shown : (word : ℕ → ℕ) (texts : List Words) (v : Held) → shown_value zero (maps.value name_of (value_of (root_world word texts) v)) ≡ shown_held (problems ++ texts) v
 unfolding shown_value shown_name name_of root_world
-value-shown word held.Null = refl
-value-shown word (held.Bool b) = refl
-value-shown word (held.Int z) = refl
-value-shown word (held.Char c) = refl
-value-shown word (held.Text id) = refl
-value-shown word (held.List id) = refl
-value-shown word (held.Prim n) = refl
-value-shown word (held.Obj i) = refl
-value-shown word (held.Prom k) = refl
-value-shown word (held.Far v p) = refl
-value-shown word (held.Broken id) = refl
+value-shown word texts held.Null = refl
+value-shown word texts (held.Bool b) = refl
+value-shown word texts (held.Int z) = refl
+value-shown word texts (held.Char c) = refl
+value-shown word texts (held.Text id) = refl
+value-shown word texts (held.List id) = refl
+value-shown word texts (held.Prim n) = refl
+value-shown word texts (held.Obj i) = refl
+value-shown word texts (held.Prom k) = refl
+value-shown word texts (held.Far v p) = refl
+value-shown word texts (held.Broken id) = refl
 
-pub values-shown : (word : ℕ → ℕ) (vs : List Held) → shown_values zero (map (maps.value name_of) (map (value_of (root_world word)) vs)) ≡ map (shown_held problems) vs
+pub values-shown : (word : ℕ → ℕ) (texts : List Words) (vs : List Held) → shown_values zero (map (maps.value name_of) (map (value_of (root_world word texts)) vs)) ≡ map (shown_held (problems ++ texts)) vs
 unfolding shown_values
-values-shown word [] = refl
-values-shown word (v ∷ vs) = cc (value-shown word v, values-shown word vs)
+values-shown word texts [] = refl
+values-shown word texts (v ∷ vs) = cc (value-shown word texts v, values-shown word texts vs)
 
-problem-shown : (word : ℕ → ℕ) (v : Held) → problem_of (root_world word) v ≡ problem_at problems v
+problem-shown : (word : ℕ → ℕ) (texts : List Words) (v : Held) → problem_of (root_world word texts) v ≡ problem_at (problems ++ texts) v
 unfolding root_world
-problem-shown word held.Null = refl
-problem-shown word (held.Bool b) = refl
-problem-shown word (held.Int z) = refl
-problem-shown word (held.Char c) = refl
-problem-shown word (held.Text id) = refl
-problem-shown word (held.List id) = refl
-problem-shown word (held.Prim n) = refl
-problem-shown word (held.Obj i) = refl
-problem-shown word (held.Prom k) = refl
-problem-shown word (held.Far v p) = refl
-problem-shown word (held.Broken id) = refl
+problem-shown word texts held.Null = refl
+problem-shown word texts (held.Bool b) = refl
+problem-shown word texts (held.Int z) = refl
+problem-shown word texts (held.Char c) = refl
+problem-shown word texts (held.Text id) = refl
+problem-shown word texts (held.List id) = refl
+problem-shown word texts (held.Prim n) = refl
+problem-shown word texts (held.Obj i) = refl
+problem-shown word texts (held.Prom k) = refl
+problem-shown word texts (held.Far v p) = refl
+problem-shown word texts (held.Broken id) = refl
 
-capture-shown : (word : ℕ → ℕ) (c : Capture) → shown_capture zero (maps.bound name_of (capture_in (root_world word) c)) ≡ ours.shown_capture problems c
+capture-shown : (word : ℕ → ℕ) (texts : List Words) (c : Capture) → shown_capture zero (maps.bound name_of (capture_in (root_world word texts) c)) ≡ ours.shown_capture (problems ++ texts) c
 unfolding shown_capture
-capture-shown word (capture.Fixed v g) = value-shown word v
-capture-shown word (capture.Slot k) = refl
+capture-shown word texts (capture.Fixed v g) = value-shown word texts v
+capture-shown word texts (capture.Slot k) = refl
 
-captures-shown : (word : ℕ → ℕ) (cs : List Capture) → map (shown_capture zero) (map (maps.bound name_of) (map (capture_in (root_world word)) cs)) ≡ map (ours.shown_capture problems) cs
-captures-shown word [] = refl
-captures-shown word (c ∷ cs) = cc (capture-shown word c, captures-shown word cs)
+captures-shown : (word : ℕ → ℕ) (texts : List Words) (cs : List Capture) → map (shown_capture zero) (map (maps.bound name_of) (map (capture_in (root_world word texts)) cs)) ≡ map (ours.shown_capture (problems ++ texts)) cs
+captures-shown word texts [] = refl
+captures-shown word texts (c ∷ cs) = cc (capture-shown word texts c, captures-shown word texts cs)
 
-made-shown : (word : ℕ → ℕ) (act : ℕ) (v : Held) (x : Words) (cs : List Capture) (vs : List Held) → all_shown (made_line (root_world word) act v x cs vs) ≡ ours.made_lines problems act v x cs vs
+made-shown : (word : ℕ → ℕ) (texts : List Words) (act : ℕ) (v : Held) (x : Words) (cs : List Capture) (vs : List Held) → all_shown (made_line (root_world word texts) act v x cs vs) ≡ ours.made_lines (problems ++ texts) act v x cs vs
 unfolding all_shown shown_of shown_happened shown_name name_of
-made-shown word act (held.Obj i) x cs vs = rw (captures-shown word cs, values-shown word vs) refl
-made-shown word act held.Null x cs vs = refl
-made-shown word act (held.Bool b) x cs vs = refl
-made-shown word act (held.Int z) x cs vs = refl
-made-shown word act (held.Char c) x cs vs = refl
-made-shown word act (held.Text id) x cs vs = refl
-made-shown word act (held.List id) x cs vs = refl
-made-shown word act (held.Prim n) x cs vs = refl
-made-shown word act (held.Prom k) x cs vs = refl
-made-shown word act (held.Far h p) x cs vs = refl
-made-shown word act (held.Broken id) x cs vs = refl
+made-shown word texts act (held.Obj i) x cs vs = rw (captures-shown word texts cs, values-shown word texts vs) refl
+made-shown word texts act held.Null x cs vs = refl
+made-shown word texts act (held.Bool b) x cs vs = refl
+made-shown word texts act (held.Int z) x cs vs = refl
+made-shown word texts act (held.Char c) x cs vs = refl
+made-shown word texts act (held.Text id) x cs vs = refl
+made-shown word texts act (held.List id) x cs vs = refl
+made-shown word texts act (held.Prim n) x cs vs = refl
+made-shown word texts act (held.Prom k) x cs vs = refl
+made-shown word texts act (held.Far h p) x cs vs = refl
+made-shown word texts act (held.Broken id) x cs vs = refl
 
-line-shown : (word : ℕ → ℕ) (e : Heard) → all_shown (line_of (root_world word) e) ≡ ours.lines problems e
+line-shown : (word : ℕ → ℕ) (texts : List Words) (e : Heard) → all_shown (line_of (root_world word texts) e) ≡ ours.lines (problems ++ texts) e
 unfolding line_of all_shown shown_of shown_happened shown_slot
-line-shown word (event.Call act target verb args begun) = rw (value-shown word target, values-shown word args) refl
-line-shown word (event.Back act v) = rw (value-shown word v) refl
-line-shown word (event.Thrown act p) = rw (problem-shown word p) refl
-line-shown word (event.Slot act k v) = rw (value-shown word v) refl
-line-shown word (event.Read act k v) = rw (value-shown word v) refl
-line-shown word (event.Wrote act k v) = rw (value-shown word v) refl
-line-shown word (event.Made act v x cs vs) = made-shown word act v x cs vs
-line-shown word _ = refl
+line-shown word texts (event.Call act target verb args begun) = rw (value-shown word texts target, values-shown word texts args) refl
+line-shown word texts (event.Back act v) = rw (value-shown word texts v) refl
+line-shown word texts (event.Thrown act p) = rw (problem-shown word texts p) refl
+line-shown word texts (event.Slot act k v) = rw (value-shown word texts v) refl
+line-shown word texts (event.Read act k v) = rw (value-shown word texts v) refl
+line-shown word texts (event.Wrote act k v) = rw (value-shown word texts v) refl
+line-shown word texts (event.List act k vs) = rw (values-shown word texts vs) refl
+line-shown word texts (event.Made act v x cs vs) = made-shown word texts act v x cs vs
+line-shown word texts _ = refl
 
-pub lines-shown : (word : ℕ → ℕ) (es : List Heard) → all_shown (lines_of (root_world word) es) ≡ ours.lines_of problems es
+pub lines-shown : (word : ℕ → ℕ) (texts : List Words) (es : List Heard) → all_shown (lines_of (root_world word texts) es) ≡ ours.lines_of (problems ++ texts) es
 unfolding lines_of all_shown
-lines-shown word [] = refl
-lines-shown word (e ∷ es) = all_shown-append (line_of (root_world word) e) (lines_of (root_world word) es) ∙ rw (line-shown word e, lines-shown word es) refl
+lines-shown word texts [] = refl
+lines-shown word texts (e ∷ es) = all_shown-append (line_of (root_world word texts) e) (lines_of (root_world word texts) es) ∙ rw (line-shown word texts e, lines-shown word texts es) refl

@@ -24,8 +24,9 @@ use Rattle.ev_run.specs.World.{Script, Event, Opens, Ends as Closes, Stopped, ru
 use Rattle.ev_run.specs.Text.{text, stop_line, stop_text, history_of, vat_names, shown_events, opened_text}
 use Rattle.ev_eval.specs.declared.turn.Ended.{Ended}
 use Rattle.ev_eval.specs.declared.turn.Ended.TheVariants as ended
-use Rattle.ev_eval.specs.Reading.{World, all_promises, names, problems, text_of, value_of, lines_of, vat_of}
-use Rattle.ev_eval.specs.Turn.{Ends, opened}
+use Rattle.ev_eval.specs.Reading.{World, all_promises, names, text_of, value_of, lines_of, vat_of}
+use Rattle.ev_eval.specs.Sound.{Each, Grown, IsListed, IsSound, is_there, problems}
+use Rattle.ev_eval.specs.Turn.{Ends, GivesThere, opened}
 use Rattle.ev_opening_laws.specs.Alone.{alone, start, opened_alone, name_of, NamesNothing, run_of_step}
 use Rattle.ev_opening_laws.proofs.Numbered.{root_alone, named_opening, found_names, runs_alone}
 use Rattle.ev_vat.specs.declared.told.RunEnd.{RunEnd}
@@ -34,7 +35,7 @@ use Rattle.ev_vat.specs.declared.told.Told.{Told}
 use Rattle.ev_vat.specs.Ends.{Tells, end_of}
 use Rattle.ev_vat.specs.Lines.{text_at, shown_held, settled, history, done_lines, threw_lines, text_by, end_by}
 use Rattle.ev_vat.specs.Lines as ours
-use Rattle.ev_vat.proofs.Closing.{root_world, after, closed, waiting, target, finishes, breaks, opening-ends, breaks-closes, IsRootOrNone, finishes-closes, finishes-waits}
+use Rattle.ev_vat.proofs.Closing.{root_world, after, closed, target, finishes, breaks, opening-ends, breaks-closes, finishes-closes}
 use Rattle.ev_vat.proofs.Shows.{shown_of, one_line, all_shown, all_shown-append, shown_events-append, events-shown, no_frames, lines-shown}
 
 -- the history of a run that came to its end, where that happened in its one turn
@@ -55,50 +56,25 @@ ended-shown script hs =
 ended-rendered : (name : Words) (hs : List (Happened Local)) → render_run (name ∷ []) (Open zero ∷ (all_shown hs ++ End ∷ [])) ≡ render (name ∷ []) (Open zero ∷ (all_shown hs ++ End ∷ []))
 ended-rendered name hs = ap (λ es. render (name ∷ []) (Open zero ∷ es)) (filter-append is_no_frame (all_shown hs) (End ∷ []) ∙ ap (λ es. es ++ End ∷ []) (no_frames hs))
 
-done-shown : (word : ℕ → ℕ) (v : Held) → shown_of (Finished zero (value_of (root_world word) v)) ++ shown_of (Settles (Prom zero) (target word v)) ≡ ShownDone zero (shown_held problems v) ∷ Settle (global.Root zero) (settled problems v) ∷ []
+done-shown : (word : ℕ → ℕ) (texts : List Words) (v : Held) → shown_of (Finished zero (value_of (root_world word texts) v)) ++ shown_of (Settles (Prom zero) (target word texts v)) ≡ ShownDone zero (shown_held (problems ++ texts) v) ∷ Settle (global.Root zero) (settled (problems ++ texts) v) ∷ []
 unfolding shown_of shown_happened shown_name shown_value name_of target root_world
-done-shown word held.Null = refl
-done-shown word (held.Bool b) = refl
-done-shown word (held.Int z) = refl
-done-shown word (held.Char c) = refl
-done-shown word (held.Text id) = refl
-done-shown word (held.List id) = refl
-done-shown word (held.Prim n) = refl
-done-shown word (held.Obj i) = refl
-done-shown word (held.Prom k) = refl
-done-shown word (held.Far v p) = refl
-done-shown word (held.Broken id) = refl
+done-shown word texts held.Null = refl
+done-shown word texts (held.Bool b) = refl
+done-shown word texts (held.Int z) = refl
+done-shown word texts (held.Char c) = refl
+done-shown word texts (held.Text id) = refl
+done-shown word texts (held.List id) = refl
+done-shown word texts (held.Prim n) = refl
+done-shown word texts (held.Obj i) = refl
+done-shown word texts (held.Prom k) = refl
+done-shown word texts (held.Far v p) = refl
+done-shown word texts (held.Broken id) = refl
 
-threw-shown : (word : ℕ → ℕ) (id : ℕ) → shown_of (Threw zero (text_of (root_world word) id)) ++ shown_of (Settles (Prom zero) (Broken (text_of (root_world word) id))) ≡ ShownThrew zero (shown.Text (text_at problems id)) ∷ Settle (global.Root zero) (shown.Broken (text_at problems id)) ∷ []
+threw-shown : (word : ℕ → ℕ) (texts : List Words) (id : ℕ) → shown_of (Threw zero (text_of (root_world word texts) id)) ++ shown_of (Settles (Prom zero) (Broken (text_of (root_world word texts) id))) ≡ ShownThrew zero (shown.Text (text_at (problems ++ texts) id)) ∷ Settle (global.Root zero) (shown.Broken (text_at (problems ++ texts) id)) ∷ []
 unfolding shown_of shown_happened shown_name shown_value name_of root_world
-threw-shown word id = refl
+threw-shown word texts id = refl
 
--- a name that stands for nothing is no name
-waits_on : (k : ℕ) (x : Standing Name) → maps.standing Is x ≡ WaitsOn (found zero root_alone (Prom (suc k))) → ⊥
-unfolding found prom_found root_alone
-waits_on k Unsettled e = cc
-waits_on k (WaitsOn q) e = cc
-waits_on k (Viewed q) e = cc
-waits_on k (Settled y) e = cc
-
-waits_known : (k : ℕ) (ks : List (Known Name)) → map (maps.known (found zero root_alone)) (record (begun (Prom zero) zero) { standing = WaitsOn (Prom (suc k)) } ∷ []) ≡ map (maps.known Is) ks → ⊥
-waits_known k [] e = cc
-waits_known k (x ∷ ks) e = waits_on k x.standing (sym (ap (λ (k : Known Found). k.standing) (heads e)))
-  where
-    heads : {A : Type 0} {x y : A} {xs ys : List A} → x ∷ xs ≡ y ∷ ys → x ≡ y
-    heads e = cc
-
-waits_on_none : (k : ℕ) (l : Happened Local) (s : Vat Local) (d : Done Name (Unit {0})) → maps.done (found zero root_alone) (λ u. u) (Gives tt (waiting l (Prom (suc k)) s)) ≡ maps.done Is (λ u. u) d → ⊥
-unfolding waiting
-waits_on_none k l s (Gives a u) e = waits_known k u.known (gives e)
-  where
-    gives : {A : Type 0} {a b : A} {s t : Vat Found} → Gives a s ≡ Gives b t → s.known ≡ t.known
-    gives e = cc
-waits_on_none k l s (Throws p u) e = cc
-waits_on_none k l s (Ejects n v u) e = cc
-waits_on_none k l s (Stops c u) e = cc
-
-module _ (key : List ℕ) (fuel depth : ℕ) (name : Words) (tree : List Node) (heap : Contents) (micro : Micro) where
+module _ (key : List ℕ) (texts : List Words) (fuel depth : ℕ) (name : Words) (tree : List Node) (heap : Contents) (micro : Micro) where
   abbrev word : ℕ → ℕ
   word = draw_word key
 
@@ -106,36 +82,36 @@ module _ (key : List ℕ) (fuel depth : ℕ) (name : Words) (tree : List Node) (
   script = alone key fuel depth name tree
 
   closed-text : (l : Happened Local) (y : Value Local)
-      → text script (run_of_step script (Gives tt (maps.vat name_of (closed l y (after word heap micro)))))
-      ≡ render_run (name ∷ []) (shown_events script (ended_history ((lines_of (root_world word) micro.events ++ l ∷ []) ++ Settles (Prom zero) y ∷ []))) ++ []
+      → text script (run_of_step script (Gives tt (maps.vat name_of (closed l y (after word texts heap micro)))))
+      ≡ render_run (name ∷ []) (shown_events script (ended_history ((lines_of (root_world word texts) micro.events ++ l ∷ []) ++ Settles (Prom zero) y ∷ []))) ++ []
   unfolding run_of_step closed after root_world vat_of ended_history text stop_text history_of vat_names then_goes put_back begins links_from links_to fresh_from push_all put_at close left_vats left_vat left_held left_wait left_links begun name_of
   closed-text l y = refl
 
   closed-tells : (l : Happened Local) (y : Value Local) (last : List ShownEvent) → shown_of l ++ shown_of (Settles (Prom zero) y) ≡ last
-      → text script (run_of_step script (Gives tt (maps.vat name_of (closed l y (after word heap micro))))) ≡ render (name ∷ []) (history problems micro.events (last ++ End ∷ []))
+      → text script (run_of_step script (Gives tt (maps.vat name_of (closed l y (after word texts heap micro))))) ≡ render (name ∷ []) (history (problems ++ texts) micro.events (last ++ End ∷ []))
   closed-tells l y last e =
-      let hs = (lines_of (root_world word) micro.events ++ l ∷ []) ++ Settles (Prom zero) y ∷ [] in
-      let told : all_shown hs ≡ ours.lines_of problems micro.events ++ last =
-      all_shown-append (lines_of (root_world word) micro.events ++ l ∷ []) (Settles (Prom zero) y ∷ [])
-      ∙ ap (λ es. es ++ all_shown (Settles (Prom zero) y ∷ [])) (all_shown-append (lines_of (root_world word) micro.events) (l ∷ []))
-      ∙ append_assoc (all_shown (lines_of (root_world word) micro.events)) (all_shown (l ∷ [])) (all_shown (Settles (Prom zero) y ∷ []))
-      ∙ (rw (one_line l, one_line (Settles (Prom zero) y), e, lines-shown word micro.events) refl) in
+      let hs = (lines_of (root_world word texts) micro.events ++ l ∷ []) ++ Settles (Prom zero) y ∷ [] in
+      let told : all_shown hs ≡ ours.lines_of (problems ++ texts) micro.events ++ last =
+      all_shown-append (lines_of (root_world word texts) micro.events ++ l ∷ []) (Settles (Prom zero) y ∷ [])
+      ∙ ap (λ es. es ++ all_shown (Settles (Prom zero) y ∷ [])) (all_shown-append (lines_of (root_world word texts) micro.events) (l ∷ []))
+      ∙ append_assoc (all_shown (lines_of (root_world word texts) micro.events)) (all_shown (l ∷ [])) (all_shown (Settles (Prom zero) y ∷ []))
+      ∙ (rw (one_line l, one_line (Settles (Prom zero) y), e, lines-shown word texts micro.events) refl) in
       closed-text l y
       ∙ append-nil _
       ∙ ap (render_run (name ∷ [])) (ended-shown script hs)
       ∙ ended-rendered name hs
-      ∙ ap (λ es. render (name ∷ []) (Open zero ∷ es)) (ap (λ es. es ++ End ∷ []) told ∙ append_assoc (ours.lines_of problems micro.events) last (End ∷ []))
+      ∙ ap (λ es. render (name ∷ []) (Open zero ∷ es)) (ap (λ es. es ++ End ∷ []) told ∙ append_assoc (ours.lines_of (problems ++ texts) micro.events) last (End ∷ []))
 
   -- ---- how the turn ended
 
-  closes-so : (l : Happened Local) (y : Value Local) → opened_alone word fuel depth tree ≡ Gives tt (closed l y (after word heap micro))
-      → run script ≡ run_of_step script (Gives tt (maps.vat name_of (closed l y (after word heap micro))))
+  closes-so : (l : Happened Local) (y : Value Local) → opened_alone word fuel depth tree ≡ Gives tt (closed l y (after word texts heap micro))
+      → run script ≡ run_of_step script (Gives tt (maps.vat name_of (closed l y (after word texts heap micro))))
   unfolding closed after root_world vat_of begun
   closes-so l y e =
       let named : NamesNothing (opened_alone word fuel depth tree) = rw e (refl, refl) in
       runs_alone key fuel depth name tree named ∙ ap (λ d. run_of_step script (maps.done name_of (λ u. u) d)) e
 
-  stops-so : (c : Stop) → opened_alone word fuel depth tree ≡ Stops c (after word heap micro) → run script ≡ Stopped c zero (begins script)
+  stops-so : (c : Stop) → opened_alone word fuel depth tree ≡ Stops c (after word texts heap micro) → run script ≡ Stopped c zero (begins script)
   unfolding after root_world vat_of begun run_of_step then_goes put_back
   stops-so c e =
       let named : NamesNothing (opened_alone word fuel depth tree) = rw e (refl, refl) in
@@ -145,13 +121,13 @@ module _ (key : List ℕ) (fuel depth : ℕ) (name : Words) (tree : List Node) (
   abbrev IsRun : Words → RunEnd → Type 0
   IsRun t e = (t ≡ text script (run script)) × (end_of (run script) ≡ Some e)
 
-  closed-ends : (l : Happened Local) (y : Value Local) → end_of (run_of_step script (Gives tt (maps.vat name_of (closed l y (after word heap micro))))) ≡ Some end.Done
+  closed-ends : (l : Happened Local) (y : Value Local) → end_of (run_of_step script (Gives tt (maps.vat name_of (closed l y (after word texts heap micro))))) ≡ Some end.Done
   unfolding end_of run_of_step then_goes put_back close
   closed-ends l y = refl
 
   closed-is : (l : Happened Local) (y : Value Local) (last : List ShownEvent) → shown_of l ++ shown_of (Settles (Prom zero) y) ≡ last
-      → opened_alone word fuel depth tree ≡ Gives tt (closed l y (after word heap micro))
-      → IsRun (render (name ∷ []) (history problems micro.events (last ++ End ∷ []))) end.Done
+      → opened_alone word fuel depth tree ≡ Gives tt (closed l y (after word texts heap micro))
+      → IsRun (render (name ∷ []) (history (problems ++ texts) micro.events (last ++ End ∷ []))) end.Done
   closed-is l y last e h =
       let same = closes-so l y h in
       (sym (ap (text script) same ∙ closed-tells l y last e), ap end_of same ∙ closed-ends l y)
@@ -160,7 +136,7 @@ module _ (key : List ℕ) (fuel depth : ℕ) (name : Words) (tree : List Node) (
   unfolding text stop_text history_of begins shown_events
   stopped-text c = refl
 
-  stopped-is : (c : Stop) (e : RunEnd) → end_of (Stopped c zero (begins script)) ≡ Some e → opened_alone word fuel depth tree ≡ Stops c (after word heap micro)
+  stopped-is : (c : Stop) (e : RunEnd) → end_of (Stopped c zero (begins script)) ≡ Some e → opened_alone word fuel depth tree ≡ Stops c (after word texts heap micro)
       → IsRun (stop_line c zero ++ 10 ∷ []) e
   stopped-is c e ends h =
       let same = stops-so c h in
@@ -169,77 +145,59 @@ module _ (key : List ℕ) (fuel depth : ℕ) (name : Words) (tree : List Node) (
   -- ---- what evaluation came to
 
   abbrev evaluated : Done Local (Value Local)
-  evaluated = opened (names (root_world word)) tree depth (start fuel)
+  evaluated = opened (names (root_world word texts)) tree depth (start fuel)
 
-  opening-is : opened_alone word fuel depth tree ≡ end_machine (finishes word) (breaks word) (λ n v. stop Astray) evaluated
+  opening-is : opened_alone word fuel depth tree ≡ end_machine (finishes word texts) (breaks word texts) (λ n v. stop Astray) evaluated
   unfolding start root_world
-  opening-is = opening-ends word tree depth (start fuel) refl
+  opening-is = opening-ends word texts tree depth (start fuel) refl
 
-  stop-is : (c : Stop) → evaluated ≡ Stops c (after word heap micro) → opened_alone word fuel depth tree ≡ Stops c (after word heap micro)
+  stop-is : (c : Stop) → evaluated ≡ Stops c (after word texts heap micro) → opened_alone word fuel depth tree ≡ Stops c (after word texts heap micro)
   unfolding end_machine
-  stop-is c h = opening-is ∙ ap (end_machine (finishes word) (breaks word) (λ n v. stop Astray)) h
+  stop-is c h = opening-is ∙ ap (end_machine (finishes word texts) (breaks word texts) (λ n v. stop Astray)) h
 
-  threw-is : (t : Words) → evaluated ≡ Throws t (after word heap micro) → opened_alone word fuel depth tree ≡ Gives tt (closed (Threw zero t) (Broken t) (after word heap micro))
+  threw-is : (t : Words) → evaluated ≡ Throws t (after word texts heap micro) → opened_alone word fuel depth tree ≡ Gives tt (closed (Threw zero t) (Broken t) (after word texts heap micro))
   unfolding end_machine
-  threw-is t h = opening-is ∙ ap (end_machine (finishes word) (breaks word) (λ n v. stop Astray)) h ∙ breaks-closes word heap micro t
+  threw-is t h = opening-is ∙ ap (end_machine (finishes word texts) (breaks word texts) (λ n v. stop Astray)) h ∙ breaks-closes word texts heap micro t
 
-  gave-is : (v : Held) → evaluated ≡ Gives (value_of (root_world word) v) (after word heap micro)
-      → opened_alone word fuel depth tree ≡ finishes word (value_of (root_world word) v) (after word heap micro)
+  gave-is : (v : Held) → evaluated ≡ Gives (value_of (root_world word texts) v) (after word texts heap micro)
+      → opened_alone word fuel depth tree ≡ finishes word texts (value_of (root_world word texts) v) (after word texts heap micro)
   unfolding end_machine
-  gave-is v h = opening-is ∙ ap (end_machine (finishes word) (breaks word) (λ n v. stop Astray)) h
+  gave-is v h = opening-is ∙ ap (end_machine (finishes word texts) (breaks word texts) (λ n v. stop Astray)) h
 
-  -- no promise but the root is known
-  no_other : (k : ℕ) → opened_alone word fuel depth tree ≡ Gives tt (waiting (Finished zero (Ref (Prom (suc k)))) (Prom (suc k)) (after word heap micro)) → ⊥
-  unfolding waiting after root_world vat_of begun
-  no_other k e =
-      let named : NamesNothing (opened_alone word fuel depth tree) = rw e (refl, refl) in
-      let same = found_names word fuel depth tree named in
-      waits_on_none k (Finished zero (Ref (Prom (suc k)))) (after word heap micro) (named_opening word fuel depth tree) (sym (ap (maps.done (found zero root_alone) (λ u. u)) e) ∙ same)
+  value-is : Each (IsListed heap) heap.lists → (v : Held) → is_there heap v ≡ true → evaluated ≡ Gives (value_of (root_world word texts) v) (after word texts heap micro)
+      → IsRun (render (name ∷ []) (history (problems ++ texts) micro.events (done_lines (problems ++ texts) v))) end.Done
+  value-is lists v p h =
+      closed-is (Finished zero (value_of (root_world word texts) v)) (target word texts v) (ShownDone zero (shown_held (problems ++ texts) v) ∷ Settle (global.Root zero) (settled (problems ++ texts) v) ∷ [])
+      (done-shown word texts v) (gave-is v h ∙ finishes-closes word texts heap micro lists v p)
 
-  value-is : (v : Held) → IsRootOrNone v → evaluated ≡ Gives (value_of (root_world word) v) (after word heap micro)
-      → IsRun (render (name ∷ []) (history problems micro.events (done_lines problems v))) end.Done
-  value-is v p h =
-      closed-is (Finished zero (value_of (root_world word) v)) (target word v) (ShownDone zero (shown_held problems v) ∷ Settle (global.Root zero) (settled problems v) ∷ [])
-      (done-shown word v) (gave-is v h ∙ finishes-closes word heap micro v p)
-
-  pub run-is : (e : Ended) → Ends (root_world word) (Ok e) heap micro evaluated → IsRun (text_by name problems micro.events e) (end_by e)
+  pub run-is : Each (IsListed heap) heap.lists → (e : Ended) → GivesThere heap e → Ends (root_world word texts) (Ok e) heap micro evaluated → IsRun (text_by name (problems ++ texts) micro.events e) (end_by e)
   unfolding after end_of stop_line digits
-  run-is (ended.Value (held.Prom (suc k))) h = absurd (no_other k (gave-is (held.Prom (suc k)) h ∙ finishes-waits word k heap micro))
-  run-is (ended.Value (held.Prom zero)) h = value-is (held.Prom zero) tt h
-  run-is (ended.Value held.Null) h = value-is held.Null tt h
-  run-is (ended.Value (held.Bool b)) h = value-is (held.Bool b) tt h
-  run-is (ended.Value (held.Int z)) h = value-is (held.Int z) tt h
-  run-is (ended.Value (held.Char c)) h = value-is (held.Char c) tt h
-  run-is (ended.Value (held.Text id)) h = value-is (held.Text id) tt h
-  run-is (ended.Value (held.List id)) h = value-is (held.List id) tt h
-  run-is (ended.Value (held.Prim n)) h = value-is (held.Prim n) tt h
-  run-is (ended.Value (held.Obj i)) h = value-is (held.Obj i) tt h
-  run-is (ended.Value (held.Far v p)) h = value-is (held.Far v p) tt h
-  run-is (ended.Value (held.Broken id)) h = value-is (held.Broken id) tt h
-  run-is (ended.Thrown id) h =
-      closed-is (Threw zero (text_of (root_world word) id)) (Broken (text_of (root_world word) id)) _ (threw-shown word id) (threw-is (text_of (root_world word) id) h)
-  run-is ended.Fuel h = stopped-is Fuel end.FuelSpent refl (stop-is Fuel h)
-  run-is ended.Deep h = stopped-is Deep end.TooDeep refl (stop-is Deep h)
-  run-is ended.Astray h = stopped-is Astray end.Astray refl (stop-is Astray h)
+  run-is lists (ended.Value v) t h = value-is lists v t h
+  run-is lists (ended.Thrown id) t h =
+      closed-is (Threw zero (text_of (root_world word texts) id)) (Broken (text_of (root_world word texts) id)) _ (threw-shown word texts id) (threw-is (text_of (root_world word texts) id) h)
+  run-is lists ended.Fuel t h = stopped-is Fuel end.FuelSpent refl (stop-is Fuel h)
+  run-is lists ended.Deep t h = stopped-is Deep end.TooDeep refl (stop-is Deep h)
+  run-is lists ended.Astray t h = stopped-is Astray end.Astray refl (stop-is Astray h)
 
 -- ---- what the code made
 
--- the vat begins with the texts of the problems, and its texts stay
-module _ (fuel depth : ℕ) (name : Words) (tree : List Node) (before after_turn : Contents) (micro left : Micro) (e : Ended)
-    (begins_so : before ≡ record nothing { texts = problems }) (fuel_so : micro ≡ record { fuel = fuel; events = [] }) (texts_so : after_turn.texts ≡ before.texts)
-    (ends : (w : World) → before.texts ≡ problems ++ w.texts → all_promises w.known ≡ true → Ends w (Ok e) after_turn left (opened (names w) tree depth (vat_of w before micro))) where
-  so : (key : List ℕ) → (text_by name problems left.events e ≡ text (alone key fuel depth name tree) (run (alone key fuel depth name tree))) × (end_of (run (alone key fuel depth name tree)) ≡ Some (end_by e))
+-- behind the problems come the texts that are made
+pub texts_behind : (before after_turn : Contents) → before ≡ record nothing { texts = problems } → (g : Grown before after_turn) → after_turn.texts ≡ problems ++ g.texts.0
+texts_behind before after_turn e g = g.texts.1 ∙ ap (λ (h : Contents). h.texts ++ g.texts.0) e
+
+module _ (fuel depth : ℕ) (name : Words) (tree : List Node) (before after_turn : Contents) (micro left : Micro) (e : Ended) (more : List Words)
+    (begins_so : before ≡ record nothing { texts = problems }) (fuel_so : micro ≡ record { fuel = fuel; events = [] }) (texts_so : after_turn.texts ≡ problems ++ more)
+    (sound : IsSound after_turn) (there : GivesThere after_turn e)
+    (ends : (w : World) → after_turn.texts ≡ problems ++ w.texts → all_promises w.known ≡ true → Ends w (Ok e) after_turn left (opened (names w) tree depth (vat_of w before micro))) where
+  so : (key : List ℕ) → (text_by name (problems ++ more) left.events e ≡ text (alone key fuel depth name tree) (run (alone key fuel depth name tree))) × (end_of (run (alone key fuel depth name tree)) ≡ Some (end_by e))
   unfolding root_world vat_of lines_of start begun
   so key =
-      let same : before.texts ≡ problems = ap (λ (h : Contents). h.texts) begins_so in
-      let x = ends (root_world (draw_word key)) (same ∙ sym (append-nil problems)) refl in
-      run-is key fuel depth name tree after_turn left e (rw (begins_so, fuel_so) at x)
+      let x = ends (root_world (draw_word key) more) texts_so refl in
+      run-is key more fuel depth name tree after_turn left sound.lists e there (rw (begins_so, fuel_so) at x)
 
   pub told-text : (r : Result Told Memory) → IfOk r (λ told. Tells told (end_by e) (text_by name after_turn.texts left.events e))
       → IfOk r (λ told. (key : List ℕ) → string_bytes told.text ≡ text (alone key fuel depth name tree) (run (alone key fuel depth name tree)))
-  told-text (Ok told) h = λ key.
-      let same : after_turn.texts ≡ problems = texts_so ∙ ap (λ (h : Contents). h.texts) begins_so in
-      h.1 ∙ ap (λ ts. text_by name ts left.events e) same ∙ (so key).0
+  told-text (Ok told) h = λ key. h.1 ∙ ap (λ ts. text_by name ts left.events e) texts_so ∙ (so key).0
   told-text (Err memory) h = tt
 
   pub told-end : (r : Result Told Memory) → IfOk r (λ told. Tells told (end_by e) (text_by name after_turn.texts left.events e))

@@ -6,7 +6,7 @@ use Rattle.ev_base.specs.declared.values.Value.TheVariants as held
 use Rattle.ev_eval.specs.declared.turn.Ended.{Ended}
 use Rattle.ev_eval.specs.declared.turn.Ended.TheVariants as ended
 use Rattle.ev_event.specs.declared.event.Event.{Event}
-use Rattle.ev_event.specs.declared.event.Event.TheVariants.{Open, Call, Back, Thrown, Slot, Read, Wrote, Made, Done, Threw, Settle, End}
+use Rattle.ev_event.specs.declared.event.Event.TheVariants.{Open, Call, Back, Thrown, Slot, Read, Wrote, List as MadeList, Made, Done, Threw, Settle, End}
 use Rattle.ev_event.specs.declared.shown.Shown.{Shown}
 use Rattle.ev_event.specs.declared.shown.Shown as shown
 use Rattle.ev_event.specs.Lines.{render}
@@ -63,6 +63,7 @@ lines texts (event.Thrown act p) = Thrown act (shown.Text (problem_at texts p)) 
 lines texts (event.Slot act k v) = Slot act (0, k) (shown_held texts v) ∷ []
 lines texts (event.Read act k v) = Read act (0, k) (shown_held texts v) ∷ []
 lines texts (event.Wrote act k v) = Wrote act (0, k) (shown_held texts v) ∷ []
+lines texts (event.List act k vs) = MadeList act (0, k) (map (shown_held texts) vs) ∷ []
 lines texts (event.Made act object x caps stamps) = made_lines texts act object x caps stamps
 lines texts _ = []
 

@@ -134,6 +134,11 @@ fn push_line(
             (VAT, id.0),
             shown(alloc, heap, *value)?,
         )),
+        Happened::List(activation, id, members) => history.push(Event::List(
+            activation.0,
+            (VAT, id.0),
+            shown_all(alloc, heap, members.as_slice())?,
+        )),
         Happened::Made {
             activation,
             object,

@@ -11,7 +11,7 @@ use std::alloc::Global;
 use std::process::ExitCode;
 use std::{fs, io};
 
-const PROGRAMS: [&str; 14] = [
+const PROGRAMS: [&str; 15] = [
     "caretaker",
     "counter",
     "door",
@@ -26,9 +26,10 @@ const PROGRAMS: [&str; 14] = [
     "pipeline",
     "purse",
     "sums",
+    "texts",
 ];
 
-const SCRIPTS: [&str; 4] = ["counter", "door", "operators", "sums"];
+const SCRIPTS: [&str; 5] = ["counter", "door", "operators", "sums", "texts"];
 
 /// What a command writes for its input.
 fn answer(alloc: Global, command: &str, input: &[u8]) -> Result<Vec<u8>, Memory> {

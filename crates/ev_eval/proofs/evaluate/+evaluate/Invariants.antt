@@ -1,67 +1,91 @@
-use Rattle.std.proofs.Common.{◌≡◌, ◌*◌, ◌+◌, [], drop}
-use Rattle.ev_eval.specs.declared.plain.Plain.TheVariants.{Null}
-use Rattle.ev_eval.specs.Plain.{Keeps}
-use Rattle.ev_eval.specs.Steps.{evaluator, gathered, last_of}
+use Rattle.std.proofs.Common.{◌≡◌, ℕ, ◌*◌, ◌+◌, [], drop}
+use Rattle.ev_base.specs.declared.values.Value.TheVariants.{Null}
+use Rattle.ev_eval.specs.Steps.{call_at, evaluator, gathered, iterate, last_of}
 use Rattle.ev_eval.proofs.evaluate.+evaluate.Given as goal
 
+-- more than all levels of calls need, and twice that
+abbrev half : ℕ
+half = 0x2000000000000000000000000000000000
+
+abbrev most : ℕ
+most = 0x4000000000000000000000000000000000
+
 abbrev pub decreases-evaluate : goal.decreases-evaluate
-decreases-evaluate l = 10 * l.depth
+decreases-evaluate l = most * l.depth
 
 abbrev pub decreases-step : goal.decreases-step
-decreases-step l = 10 * l.depth + 9
+decreases-step l = most * l.depth + half + 9
 
 abbrev pub decreases-set_node : goal.decreases-set_node
-decreases-set_node l = 10 * l.depth + 8
+decreases-set_node l = most * l.depth + half + 8
 
 abbrev pub decreases-define : goal.decreases-define
-decreases-define l = 10 * l.depth + 8
+decreases-define l = most * l.depth + half + 8
 
 abbrev pub decreases-call_node : goal.decreases-call_node
-decreases-call_node l = 10 * l.depth + 8
+decreases-call_node l = most * l.depth + half + 8
 
 abbrev pub decreases-if_node : goal.decreases-if_node
-decreases-if_node l = 10 * l.depth + 8
+decreases-if_node l = most * l.depth + half + 8
 
 abbrev pub decreases-hide_node : goal.decreases-hide_node
-decreases-hide_node l = 10 * l.depth + 8
+decreases-hide_node l = most * l.depth + half + 8
 
 abbrev pub decreases-choose : goal.decreases-choose
-decreases-choose l = 10 * l.depth + 7
+decreases-choose l = most * l.depth + half + 7
 
 abbrev pub decreases-within : goal.decreases-within
-decreases-within l = 10 * l.depth + 6
+decreases-within l = most * l.depth + half + 6
 
 abbrev pub decreases-gathered : goal.decreases-gathered
-decreases-gathered l = 10 * l.depth + 7
+decreases-gathered l = most * l.depth + half + 7
 
 abbrev pub decreases-last_of : goal.decreases-last_of
-decreases-last_of l = 10 * l.depth + 7
+decreases-last_of l = most * l.depth + half + 7
 
 abbrev pub decreases-call : goal.decreases-call
-decreases-call l = 10 * l.depth + 7
+decreases-call l = most * l.depth + half + 7
+
+abbrev pub decreases-call_at : goal.decreases-call_at
+decreases-call_at l = most * l.depth + 10 * l.levels + 10
+
+abbrev pub decreases-call_data : goal.decreases-call_data
+decreases-call_data l = most * l.depth + 10 * l.levels + 19
+
+abbrev pub decreases-answered : goal.decreases-answered
+decreases-answered l = most * l.depth + 10 * l.levels + 18
+
+abbrev pub decreases-replied : goal.decreases-replied
+decreases-replied l = most * l.depth + 10 * l.levels + 17
+
+abbrev pub decreases-iterate : goal.decreases-iterate
+decreases-iterate l = most * l.depth + 10 * l.levels + 16
 
 abbrev pub decreases-call_object : goal.decreases-call_object
-decreases-call_object l = 10 * l.depth + 6
+decreases-call_object l = most * l.depth + 6
 
 abbrev pub decreases-run_object : goal.decreases-run_object
-decreases-run_object l = 10 * l.depth + 5
+decreases-run_object l = most * l.depth + 5
 
 abbrev pub decreases-run_found : goal.decreases-run_found
-decreases-run_found l = 10 * l.depth + 4
+decreases-run_found l = most * l.depth + 4
 
 abbrev pub decreases-run_node : goal.decreases-run_node
-decreases-run_node l = 10 * l.depth + 3
+decreases-run_node l = most * l.depth + 3
 
 abbrev pub decreases-run_method : goal.decreases-run_method
-decreases-run_method l = 10 * l.depth + 2
+decreases-run_method l = most * l.depth + 2
 
 -- what is gathered so far, and then the rest, is the whole
 abbrev pub invariant-gathered-loop-part : goal.invariant-gathered-loop-part
 invariant-gathered-loop-part l =
-    (gathered (evaluator l.program l.depth) l.values (drop l.part-index l.parts) l.here l.room ≡ gathered (evaluator l.program l.depth) [] l.parts l.fn.here l.fn.room)
-    × (Keeps l.fn.room.heap l.room.heap)
+    gathered (evaluator l.program l.depth) l.values (drop l.part-index l.parts) l.here l.room ≡ gathered (evaluator l.program l.depth) [] l.parts l.fn.here l.fn.room
 
 abbrev pub invariant-last_of-loop-part : goal.invariant-last_of-loop-part
 invariant-last_of-loop-part l =
-    (last_of (evaluator l.program l.depth) l.value (drop l.part-index l.parts) l.here l.room ≡ last_of (evaluator l.program l.depth) Null l.parts l.fn.here l.fn.room)
-    × (Keeps l.fn.room.heap l.room.heap)
+    last_of (evaluator l.program l.depth) l.value (drop l.part-index l.parts) l.here l.room ≡ last_of (evaluator l.program l.depth) Null l.parts l.fn.here l.fn.room
+
+abbrev pub invariant-iterate-loop-index : goal.invariant-iterate-loop-index
+invariant-iterate-loop-index l =
+    iterate (call_at l.program (evaluator l.program l.depth) l.levels) l.act l.object l.index (drop l.index l.members) l.room
+    ≡ iterate (call_at l.program (evaluator l.program l.depth) l.levels) l.act l.object 0 l.members l.fn.room

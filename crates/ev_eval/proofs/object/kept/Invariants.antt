@@ -1,5 +1,5 @@
 use Rattle.std.proofs.Common.{◌≡◌, map, take}
-use Rattle.ev_eval.specs.Plain.{caught_of}
+use Rattle.ev_eval.specs.Sound.{caught_of}
 use Rattle.ev_eval.proofs.object.kept.Given as goal
 
 abbrev pub invariant-loop-binding : goal.invariant-loop-binding

@@ -1,5 +1,5 @@
 use Rattle.std.proofs.Common.{◌≡◌, map, take}
-use Rattle.ev_eval.specs.Plain.{capture_of}
+use Rattle.ev_eval.specs.Sound.{capture_of}
 use Rattle.ev_eval.proofs.object.made_line.Given as goal
 
 abbrev pub invariant-loop-binding : goal.invariant-loop-binding
