@@ -1,0 +1,5 @@
+pub mod Reading
+pub mod References
+pub mod Follow
+pub mod Statements
+pub mod Changes
