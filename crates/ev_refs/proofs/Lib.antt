@@ -1,3 +1,4 @@
 pub mod Follows
 pub mod Machine
 pub mod Changing
+pub mod Settles

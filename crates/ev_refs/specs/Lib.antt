@@ -3,3 +3,5 @@ pub mod References
 pub mod Follow
 pub mod Statements
 pub mod Changes
+pub mod Tasks
+pub mod Settling

@@ -5,6 +5,8 @@ pub mod changes;
 pub mod follow;
 pub mod known;
 pub mod refs;
+pub mod settle;
+pub mod tasks;
 
 pub use follow::Place;
 pub use known::{Known, Message, Standing};
