@@ -87,3 +87,18 @@ module _ (ts : List Words) (n : ℕ) where
   pub settle_is : (v : Held) (k : Known) → changed (Settle (value_by ts v)) (known_by ts n k) ≡ known_by ts n (settled_as v k)
   unfolding changed changed_to
   settle_is v k = guarded k.standing k (record k { standing = Settled v; held = []; waiting = []; reactions = []; told = [] })
+
+module _ (word : ℕ → ℕ) (ts : List Words) where
+  unknown_from : (c : Change Local) (ks : List Known) (m i n : ℕ) → m + i ≡ n → slice_get ks i ≡ None → with_change (names word) c (Prom n) (knowns_by ts m ks) ≡ knowns_by ts m ks
+  unfolding knowns_by same_local with_change
+  unknown_from c [] m i n e h = refl
+  unknown_from c (x ∷ ks) m zero n e h = cc
+  unknown_from c (x ∷ ks) m (suc i) n e h =
+      let less : m < n = omega arith in
+      let more : suc m + i ≡ n = omega arith in
+      there_changed word ts c (known_by ts m x) (knowns_by ts (suc m) ks) (Prom n) (unlike m n less)
+      ∙ ap (λ (ys : List (machine.Known Local)). known_by ts m x ∷ ys) (unknown_from c ks (suc m) i n more h)
+
+  -- the change of a name that is not known changes nothing
+  pub unknown_same : (c : Change Local) (ks : List Known) (n : ℕ) → slice_get ks n ≡ None → with_change (names word) c (Prom n) (knowns_by ts 0 ks) ≡ knowns_by ts 0 ks
+  unknown_same c ks n h = unknown_from c ks 0 n n (omega arith) h

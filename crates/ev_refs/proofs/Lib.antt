@@ -2,3 +2,5 @@ pub mod Follows
 pub mod Machine
 pub mod Changing
 pub mod Settles
+pub mod Performs
+pub mod Working

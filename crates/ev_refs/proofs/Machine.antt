@@ -67,7 +67,7 @@ module _ (word : ℕ → ℕ) (ts : List Words) where
   host_met me n None = refl
   host_met me n (Some k) = refl
 
-  as_many : (ts' : List Words) (m : ℕ) (ks : List Known) → length (knowns_by ts' m ks) ≡ length ks
+  pub as_many : (ts' : List Words) (m : ℕ) (ks : List Known) → length (knowns_by ts' m ks) ≡ length ks
   unfolding knowns_by
   as_many ts' m [] = refl
   as_many ts' m (k ∷ ks) = ap suc (as_many ts' (suc m) ks)

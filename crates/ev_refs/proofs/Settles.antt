@@ -5,9 +5,11 @@ use Rattle.ev_base.specs.declared.values.Value.{Value}
 use Rattle.ev_heap.specs.declared.happened.Happened.{Happened as Event}
 use Rattle.ev_heap.specs.declared.happened.Happened.TheVariants as event
 use Rattle.ev_heap.specs.declared.micro.Micro.{Micro}
-use Rattle.ev_refs.specs.Changes.{settled_as, waiters_at}
+use Rattle.ev_base.specs.declared.values.Value.{Value as Held}
+use Rattle.ev_refs.specs.Changes.{unless_settled, settled_as, waiters_at}
 use Rattle.ev_refs.specs.References.{References}
-use Rattle.ev_refs.specs.Settling.{Desk, told, parts_of, settle_found, settle_waiters}
+use Rattle.ev_refs.specs.Settling.{Desk, told, set_known, parts_of, settle_found, settle_waiters}
+use Rattle.ev_refs.specs.declared.known.Standing.TheVariants.{Settled}
 use Rattle.ev_refs.specs.declared.known.Known.{Known}
 use Rattle.ev_refs.specs.declared.known.Waiters.{Waiters}
 use Rattle.ev_refs.specs.declared.tasks.Task.{Task}
@@ -61,3 +63,15 @@ desk ts r m = record { tasks = ts; refs = r; micro = m }
 -- what was pushed, and what is told, stands on the desk
 pub left : (e : Event) (r : References) (m m' : Micro) (ts ts' : List Task) → ts' ≡ ts → m' ≡ record m { events = m.events ++ e ∷ [] } → told e (desk ts r m) ≡ desk ts' r m'
 left e r m m' ts ts' h g = rw (h, g) refl
+
+set_same : (ks : List Known) (n : ℕ) (known : Known) → slice_get ks n ≡ Some known → slice_set ks n known ≡ ks
+set_same [] n known h = cc
+set_same (x ∷ ks) zero known h = cc
+set_same (x ∷ ks) (suc n) known h = ap (λ (ys : List Known). x ∷ ys) (set_same ks n known h)
+
+pub settled_stays : (v : Held) (known : Known) (z : Held) → known.standing ≡ Settled z → settled_as v known ≡ known
+unfolding unless_settled
+settled_stays v known z e = rw e refl
+
+pub kept : (p : ℕ) (known new : Known) (k : Desk) → new ≡ known → slice_get k.refs.known p ≡ Some known → set_known p new k ≡ k
+kept p known new k e h = ap (λ (ks : List Known). record k { refs = record k.refs { known = ks } }) (ap (λ (x : Known). slice_set k.refs.known p x) e ∙ set_same k.refs.known p known h)

@@ -5,3 +5,5 @@ pub mod Statements
 pub mod Changes
 pub mod Tasks
 pub mod Settling
+pub mod Performing
+pub mod Work
