@@ -13,7 +13,7 @@ use Rattle.ev_refs.specs.References.{References}
 use Rattle.ev_refs.specs.Follow.{step_from, onward, step_of, step_found, led_by, led_on, led, host_found, host_of, severed_by, severed, followed, place_of}
 use Rattle.ev_refs.specs.Follow as code
 use Rattle.ev_refs.specs.Reading.{text_by, value_by, known_by, knowns_by, standing_by, vat_by, place_by}
-use Rattle.ev_refs.specs.Statements.{KnowsPartition, FollowsAsTheMachine, PlacesAsTheMachine}
+use Rattle.ev_refs.specs.Statements.{KnowsTexts, FollowsAsTheMachine, PlacesAsTheMachine}
 use Rattle.ev_refs.specs.declared.follow.Place.{Place}
 use Rattle.ev_refs.specs.declared.follow.Place.TheVariants.{Mine, FarPromise}
 use Rattle.ev_refs.specs.declared.known.Known.{Known}
@@ -85,9 +85,9 @@ module _ (word : ℕ → ℕ) (ts : List Words) where
   broken_or true t t' v x h e = ap (λ (u : Words). broken_ref u) h
   broken_or false t t' v x h e = e
 
-  cut_is : (r : References) (s : Vat Local) (h : ℕ) (v : Held) (n : Local) → Ref n ≡ value_by ts v → KnowsPartition ts r → refs.severed_by (names word) h (vat_by ts r s) n ≡ value_by ts (severed_by r h v)
+  cut_is : (r : References) (s : Vat Local) (h : ℕ) (v : Held) (n : Local) → Ref n ≡ value_by ts v → KnowsTexts ts r → refs.severed_by (names word) h (vat_by ts r s) n ≡ value_by ts (severed_by r h v)
   unfolding refs.severed_by severed_by
-  cut_is r s h v n e k = broken_or (is_in h r.noticed) (codes "partition") r.partition v (Ref n) (sym k) e
+  cut_is r s h v n e k = broken_or (is_in h r.noticed) (codes "partition") r.partition v (Ref n) (sym k.0) e
 
   -- ---- steps
 
@@ -142,14 +142,14 @@ module _ (word : ℕ → ℕ) (ts : List Words) where
   unfolding host_at host_of
   host_is r n = ap (λ (o : Option (machine.Known Local)). host_in r.me o) (entry_is r.known n) ∙ host_met r.me n (slice_get r.known n)
 
-  severed_is : (r : References) (s : Vat Local) (v : Held) → KnowsPartition ts r → refs.severed (names word) (vat_by ts r s) (value_by ts v) ≡ value_by ts (severed r v)
+  severed_is : (r : References) (s : Vat Local) (v : Held) → KnowsTexts ts r → refs.severed (names word) (vat_by ts r s) (value_by ts v) ≡ value_by ts (severed r v)
   unfolding refs.severed severed_at severed numbering local_spot
   severed_is r s (held.Prom n) h =
       ap (λ (a : ℕ). refs.severed_by (names word) a (vat_by ts r s) (Prom n)) (host_is r n) ∙ cut_is r s (host_of r n) (held.Prom n) (Prom n) refl h
   severed_is r s (held.Far a p) h = cut_is r s a (held.Far a p) (Far a p) refl h
   severed_is r s v h = refl
 
-  pub follow_is : (r : References) (s : Vat Local) (v : Held) → KnowsPartition ts r → follow (names word) (vat_by ts r s) (value_by ts v) ≡ value_by ts (followed r v)
+  pub follow_is : (r : References) (s : Vat Local) (v : Held) → KnowsTexts ts r → follow (names word) (vat_by ts r s) (value_by ts v) ≡ value_by ts (followed r v)
   unfolding follow followed
   follow_is r s v h = ap (λ (x : Value Local). refs.severed (names word) (vat_by ts r s) x) (led_is r.known v) ∙ severed_is r s (led r.known v) h
 

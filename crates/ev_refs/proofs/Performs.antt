@@ -16,10 +16,10 @@ use Rattle.ev_refs.specs.Follow.{followed, place_of}
 use Rattle.ev_refs.specs.References.{References}
 use Rattle.ev_refs.specs.Settling as code
 use Rattle.ev_refs.specs.Settling.{Desk, told, enqueued, set_known, held_at, send_placed, parts_of, settle_waiters, settle_found, is_list, perform}
-use Rattle.ev_refs.specs.Performing.{Lines, Tells, lines_of, vat_in, task_act, tasks_act, GoesOn, SettlesAsTheMachine}
+use Rattle.ev_refs.specs.Performing.{Lines, Tells, lines_of, vat_in, task_act, tasks_act, GoesOn, SameTexts, SettlesAsTheMachine}
 use Rattle.ev_heap.specs.declared.micro.Micro.{Micro}
 use Rattle.ev_refs.specs.Reading.{text_by, value_by, message_by, known_by, knowns_by, standing_by, vat_by, place_by}
-use Rattle.ev_refs.specs.Statements.{KnowsPartition}
+use Rattle.ev_refs.specs.Statements.{KnowsTexts}
 use Rattle.ev_refs.specs.Tasks.{sends, settles, enqueues, informs}
 use Rattle.ev_refs.specs.declared.follow.Place.{Place}
 use Rattle.ev_refs.specs.declared.follow.Place.TheVariants.{Near, Mine, FarPromise, FarObject, Gone}
@@ -142,7 +142,7 @@ module _ (word : ℕ → ℕ) (ts : List Words) where
     placed m d y (FarPromise a n) k k' h = cc
     placed m d y (FarObject a n) k k' h = cc
 
-    sent_on : (m : Message) (d : ℕ) (k k' : Desk) → KnowsPartition ts k.refs → code.send_on m d k ≡ Ok k' → Same (refs.send_on (names word) (settle_at (names word) d) (message_by ts m)) k k'
+    sent_on : (m : Message) (d : ℕ) (k k' : Desk) → KnowsTexts ts k.refs → code.send_on m d k ≡ Ok k' → Same (refs.send_on (names word) (settle_at (names word) d) (message_by ts m)) k k'
     unfolding code.send_on refs.send_on machine.◌>>=◌ machine.look and_then
     sent_on m d k k' part h =
         let led : follow (names word) (at k) (value_by ts m.target) ≡ value_by ts (followed k.refs m.target) = follow_is word ts k.refs (record s { fuel = k.micro.fuel; happened = s.happened ++ lines_of line k.micro.events }) m.target part in
@@ -244,7 +244,7 @@ module _ (word : ℕ → ℕ) (ts : List Words) where
             ∙ ap (λ (x : Desk). tasks_act word ts x.tasks (at x)) is
 
     -- one part, and then the rest, is what is left after it
-    pub performed : (t : Task) (k k' : Desk) → KnowsPartition ts k.refs → perform t k ≡ Ok k' → tasks_act word ts (t ∷ k.tasks) (at k) ≡ tasks_act word ts k'.tasks (at k')
+    pub performed : (t : Task) (k k' : Desk) → KnowsTexts ts k.refs → perform t k ≡ Ok k' → tasks_act word ts (t ∷ k.tasks) (at k) ≡ tasks_act word ts k'.tasks (at k')
     unfolding perform tasks_act task_act ◌>>◌ and_then
     performed (SendOn m d) k k' part h = sent_on m d k k' part h
     performed (Settle p v d) k k' part h = settled_at p v d k k' h
@@ -255,34 +255,33 @@ module _ (word : ℕ → ℕ) (ts : List Words) where
 
 -- ---- a whole settling
 
--- the text `partition` keeps its number
 abbrev Keeps : Desk → Desk → Type 0
-Keeps k k' = k'.refs.partition ≡ k.refs.partition
+Keeps k k' = SameTexts k.refs k'.refs
 
 held_keeps : (n : ℕ) (m : Message) (o : Option Known) (k : Desk) → Keeps k (held_at n m o k)
 unfolding held_at
-held_keeps n m None k = refl
-held_keeps n m (Some known) k = refl
+held_keeps n m None k = (refl, refl)
+held_keeps n m (Some known) k = (refl, refl)
 
 waiters_keep : (p : ℕ) (v : Held) (d : ℕ) (known : Known) (o : Option Waiters) (k : Desk) → Keeps k (settle_waiters p v d known o k)
 unfolding settle_waiters
-waiters_keep p v d known None k = refl
-waiters_keep p v d known (Some ws) k = refl
+waiters_keep p v d known None k = (refl, refl)
+waiters_keep p v d known (Some ws) k = (refl, refl)
 
 found_keeps : (p : ℕ) (v : Held) (d : ℕ) (o : Option Known) (k : Desk) → Keeps k (settle_found p v d o k)
 unfolding settle_found
-found_keeps p v d None k = refl
+found_keeps p v d None k = (refl, refl)
 found_keeps p v d (Some known) k = waiters_keep p v d known (waiters_at known.standing known) k
 
 placed_keeps : (m : Message) (d : ℕ) (y : Held) (p : Place) (k k' : Desk) → send_placed m d y p k ≡ Ok k' → Keeps k k'
 unfolding send_placed
-placed_keeps m d y Near k k' h = let is : enqueued (record m { target = y }) k ≡ k' = cc in subst (λ (x : Desk). Keeps k x) is refl
+placed_keeps m d y Near k k' h = let is : enqueued (record m { target = y }) k ≡ k' = cc in subst (λ (x : Desk). Keeps k x) is (refl, refl)
 placed_keeps m d y (Mine n) k k' h =
     let is : held_at n (record m { target = y }) (slice_get k.refs.known n) k ≡ k' = cc in
     subst (λ (x : Desk). Keeps k x) is (held_keeps n (record m { target = y }) (slice_get k.refs.known n) k)
 placed_keeps m d y (Gone t) k k' h =
     let is : told (event.LostBroken m.id) (record k { tasks = Settle m.answer (held.Broken t) d ∷ k.tasks }) ≡ k' = cc in
-    subst (λ (x : Desk). Keeps k x) is refl
+    subst (λ (x : Desk). Keeps k x) is (refl, refl)
 placed_keeps m d y (FarPromise a n) k k' h = cc
 placed_keeps m d y (FarObject a n) k k' h = cc
 
@@ -297,7 +296,7 @@ unfolding perform code.send_on code.settle_at
 performed_keeps (SendOn m d) k k' h = placed_keeps m d (followed k.refs m.target) (place_of k.refs (followed k.refs m.target)) k k' h
 performed_keeps (Settle p v zero) k k' h = cc
 performed_keeps (Settle p v (suc d)) k k' h = settled_keeps p v d (is_list v) k k' h
-performed_keeps (Enqueue m) k k' h = let is : enqueued m k ≡ k' = cc in subst (λ (x : Desk). Keeps k x) is refl
+performed_keeps (Enqueue m) k k' h = let is : enqueued m k ≡ k' = cc in subst (λ (x : Desk). Keeps k x) is (refl, refl)
 performed_keeps (Inform p w) k k' h = cc
 
 unit_last : (d : Done Local (Unit {0})) → and_then d (λ _. give tt) ≡ d
@@ -307,21 +306,27 @@ unit_last (Throws p s) = refl
 unit_last (Ejects n v s) = refl
 unit_last (Stops c s) = refl
 
+pub still_same : (a b c : References) → SameTexts a b → SameTexts b c → SameTexts a c
+still_same a b c h g = (g.0 ∙ h.0, g.1 ∙ h.1)
+
+pub still_known : (ts : List Words) (a b : References) → SameTexts a b → KnowsTexts ts a → KnowsTexts ts b
+still_known ts a b h g = (ap (λ (n : ℕ). text_by ts n) h.0 ∙ g.0, ap (λ (n : ℕ). text_by ts n) h.1 ∙ g.1)
+
 two_more : (n : ℕ) → suc (suc n) ≡ n + 2
 two_more n = omega arith
 
 -- a settling begins as its one part
 pub begins : (r : References) (m : Micro) (p : ℕ) (v : Held) (ts' : List Task) → ts' ≡ Settle p v (length r.known + 2) ∷ [] → GoesOn r m p v (record { tasks = ts'; refs = r; micro = m })
 unfolding tasks_act task_act ◌>>◌ refs.settle machine.◌>>=◌ machine.look and_then
-begins r m p v ts' h = subst (λ (x : List Task). GoesOn r m p v (record { tasks = x; refs = r; micro = m })) (sym h) (refl, λ word ts line s part tells.
+begins r m p v ts' h = subst (λ (x : List Task). GoesOn r m p v (record { tasks = x; refs = r; micro = m })) (sym h) ((refl, refl), λ word ts line s part tells.
     ap (λ (n : ℕ). settle_at (names word) (suc (suc n)) (Prom p) (value_by ts v) (vat_in ts line (record { tasks = []; refs = r; micro = m }) s)) (as_many word ts ts 0 r.known)
     ∙ ap (λ (n : ℕ). settle_at (names word) n (Prom p) (value_by ts v) (vat_in ts line (record { tasks = []; refs = r; micro = m }) s)) (two_more (length r.known))
     ∙ sym (unit_last (settle_at (names word) (length r.known + 2) (Prom p) (value_by ts v) (vat_in ts line (record { tasks = []; refs = r; micro = m }) s))))
 
 -- and goes on, part by part
 pub goes_on : (r : References) (m : Micro) (p : ℕ) (v : Held) (t : Task) (k k' : Desk) → perform t k ≡ Ok k' → GoesOn r m p v (record k { tasks = t ∷ k.tasks }) → GoesOn r m p v k'
-goes_on r m p v t k k' h g = (performed_keeps t k k' h ∙ g.0, λ word ts line s part tells.
-    g.1 word ts line s part tells ∙ performed word ts line tells s t k k' (ap (λ (n : ℕ). text_by ts n) g.0 ∙ part) h)
+goes_on r m p v t k k' h g = (still_same r k.refs k'.refs g.0 (performed_keeps t k k' h), λ word ts line s part tells.
+    g.1 word ts line s part tells ∙ performed word ts line tells s t k k' (still_known ts r k.refs g.0 part) h)
 
 -- until nothing is left
 pub ends : (r : References) (m : Micro) (p : ℕ) (v : Held) (k : Desk) → k.tasks ≡ [] → GoesOn r m p v k → SettlesAsTheMachine r m p v k.refs k.micro

@@ -4,13 +4,13 @@ use Rattle.ev_heap.specs.declared.happened.Happened.{Happened as Event}
 use Rattle.ev_heap.specs.declared.happened.Happened.TheVariants as event
 use Rattle.ev_base.specs.declared.values.Value.{Value as Held}
 use Rattle.ev_machine.specs.Values.{Words, Local, Mess, Prom, numbering}
-use Rattle.ev_machine.specs.State.{Vat, Act, Gives, Happened, Settles, Lost, give, ◌>>◌, enqueue}
+use Rattle.ev_machine.specs.State.{Vat, Act, Gives, Happened, Settles, Waits, Lost, give, ◌>>◌, enqueue}
 use Rattle.ev_machine.specs.Refs.{settle, settle_at, send_on, inform}
 use Rattle.ev_refs.specs.Reading.{value_by, message_by, vat_by}
 use Rattle.ev_heap.specs.declared.micro.Micro.{Micro}
 use Rattle.ev_refs.specs.References.{References}
 use Rattle.ev_refs.specs.Settling.{Desk}
-use Rattle.ev_refs.specs.Statements.{KnowsPartition}
+use Rattle.ev_refs.specs.Statements.{KnowsTexts}
 use Rattle.ev_refs.specs.declared.tasks.Task.{Task}
 use Rattle.ev_refs.specs.declared.tasks.Task.TheVariants.{SendOn, Settle, Enqueue, Inform}
 
@@ -18,9 +18,10 @@ use Rattle.ev_refs.specs.declared.tasks.Task.TheVariants.{SendOn, Settle, Enqueu
 abbrev pub Lines : Type 0
 Lines = Event → List (Happened Local)
 
--- which lines the events of a settling have
+-- which lines the events of references have
 pub record Tells (ts : List Words) (line : Lines) : Type 0 where
   pub settled : (p : ℕ) (v : Held) → line (event.Settle p v) ≡ Settles (Prom p) (value_by ts v) ∷ []
+  pub waits : (p q : ℕ) → line (event.Wait p q) ≡ Waits (Prom p) (Prom q) ∷ []
   pub lost : (m : ℕ) → line (event.LostBroken m) ≡ Lost (Mess m) ∷ []
 
 unfoldable pub lines_of : Lines → List Event → List (Happened Local)
@@ -43,11 +44,15 @@ tasks_act word ts (t ∷ more) = task_act word ts t >> tasks_act word ts more
 
 -- from these references and what happened, a name has settled as the machine settles it, and left those
 abbrev pub SettlesAsTheMachine : References → Micro → ℕ → Held → References → Micro → Type 0
-SettlesAsTheMachine r m p v r' m' = (word : ℕ → ℕ) (ts : List Words) (line : Lines) (s : Vat Local) → KnowsPartition ts r → Tells ts line
+SettlesAsTheMachine r m p v r' m' = (word : ℕ → ℕ) (ts : List Words) (line : Lines) (s : Vat Local) → KnowsTexts ts r → Tells ts line
     → settle (numbering {W = Local} word) (Prom p) (value_by ts v) (vat_in ts line (record { tasks = []; refs = r; micro = m }) s)
     ≡ Gives tt (vat_in ts line (record { tasks = []; refs = r'; micro = m' }) s)
 
+-- the texts keep their numbers
+abbrev pub SameTexts : References → References → Type 0
+SameTexts r r' = (r'.partition ≡ r.partition) × (r'.cycle ≡ r.cycle)
+
 -- a settling that began so is at this desk
 abbrev pub GoesOn : References → Micro → ℕ → Held → Desk → Type 0
-GoesOn r m p v k = (k.refs.partition ≡ r.partition) × ((word : ℕ → ℕ) (ts : List Words) (line : Lines) (s : Vat Local) → KnowsPartition ts r → Tells ts line
+GoesOn r m p v k = SameTexts r k.refs × ((word : ℕ → ℕ) (ts : List Words) (line : Lines) (s : Vat Local) → KnowsTexts ts r → Tells ts line
     → settle (numbering {W = Local} word) (Prom p) (value_by ts v) (vat_in ts line (record { tasks = []; refs = r; micro = m }) s) ≡ tasks_act word ts k.tasks (vat_in ts line k s))

@@ -9,8 +9,9 @@ use Rattle.ev_refs.specs.declared.known.Standing.TheVariants.{Unsettled, WaitsOn
 pub record References : Type 0 where
   -- the vat's own number
   pub me : ℕ
-  -- the text `partition`
+  -- the texts `partition` and `cycle`
   pub partition : ℕ
+  pub cycle : ℕ
   -- what is known of each name, by its number
   pub known : List Known
   -- the messages that wait for their turn
@@ -22,8 +23,8 @@ pub record References : Type 0 where
   -- the vats whose link it has noticed as cut
   pub noticed : List ℕ
 
-abbrev pub no_references : ℕ → ℕ → References
-no_references me partition = record { me = me; partition = partition; known = []; queue = []; mails = 0; messages = 0; promises = 0; noticed = [] }
+abbrev pub no_references : ℕ → ℕ → ℕ → References
+no_references me partition cycle = record { me = me; partition = partition; cycle = cycle; known = []; queue = []; mails = 0; messages = 0; promises = 0; noticed = [] }
 
 -- a name of that host that comes to be known
 abbrev pub unsettled_of : ℕ → Known

@@ -8,12 +8,12 @@ use Rattle.ev_refs.specs.References.{References}
 use Rattle.ev_refs.specs.Follow.{followed, place_of}
 use Rattle.ev_refs.specs.Reading.{text_by, value_by, vat_by, place_by}
 
--- the text of the number that the references have for it
-abbrev pub KnowsPartition : List Words → References → Type 0
-KnowsPartition ts r = text_by ts r.partition ≡ codes "partition"
+-- the texts of the numbers that the references have for them
+abbrev pub KnowsTexts : List Words → References → Type 0
+KnowsTexts ts r = (text_by ts r.partition ≡ codes "partition") × (text_by ts r.cycle ≡ codes "cycle")
 
 abbrev pub FollowsAsTheMachine : Type 0
-FollowsAsTheMachine = (word : ℕ → ℕ) (ts : List Words) (r : References) (s : Vat Local) (v : Held) → KnowsPartition ts r
+FollowsAsTheMachine = (word : ℕ → ℕ) (ts : List Words) (r : References) (s : Vat Local) (v : Held) → KnowsTexts ts r
     → follow (numbering {W = Local} word) (vat_by ts r s) (value_by ts v) ≡ value_by ts (followed r v)
 
 abbrev pub PlacesAsTheMachine : Type 0

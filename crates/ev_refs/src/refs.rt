@@ -15,6 +15,7 @@ pub struct Refs {
     pub(crate) alloc: Global,
     pub(crate) me: VatId,
     pub(crate) partition: TextId,
+    pub(crate) cycle: TextId,
     pub(crate) known: Vec<Known>,
     pub(crate) queue: Seq<Message>,
     pub(crate) mails: u64,
@@ -28,18 +29,19 @@ impl Model for Refs {
 
     ghost Value = { References };
 
-    ghost view = { λ r. record { me = r.me; partition = r.partition; known = r.known.items; queue = r.queue; mails = r.mails; messages = r.messages; promises = r.promises; noticed = r.noticed } };
+    ghost view = { λ r. record { me = r.me; partition = r.partition; cycle = r.cycle; known = r.known.items; queue = r.queue; mails = r.mails; messages = r.messages; promises = r.promises; noticed = r.noticed } };
 }
 
 impl Refs {
-    /// The references of a vat that knows nothing. The text `partition` has this number in its heap.
-    pub fn new(alloc: Global, me: VatId, partition: TextId) -> Refs
-        ensures { result ≡ no_references me partition }
+    /// The references of a vat that knows nothing. The texts `partition` and `cycle` have these numbers in its heap.
+    pub fn new(alloc: Global, me: VatId, partition: TextId, cycle: TextId) -> Refs
+        ensures { result ≡ no_references me partition cycle }
     {
         Refs {
             alloc,
             me,
             partition,
+            cycle,
             known: Vec::new(alloc),
             queue: Seq::new(alloc),
             mails: 0,
