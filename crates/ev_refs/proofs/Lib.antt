@@ -4,3 +4,4 @@ pub mod Changing
 pub mod Settles
 pub mod Performs
 pub mod Working
+pub mod Waits

@@ -7,3 +7,4 @@ pub mod Tasks
 pub mod Settling
 pub mod Performing
 pub mod Work
+pub mod Resolving

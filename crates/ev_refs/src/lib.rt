@@ -5,6 +5,7 @@ pub mod changes;
 pub mod follow;
 pub mod known;
 pub mod refs;
+pub mod resolve;
 pub mod settle;
 pub mod tasks;
 

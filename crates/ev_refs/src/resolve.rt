@@ -1,0 +1,82 @@
+//! What a name resolves to: it settles, or waits on another.
+
+ghost use Rattle.std.specs.Prelude.{◌≡◌, ◌++◌, ◌∷◌, [], Ok, length};
+ghost use Rattle.ev_refs.specs.Resolving.{awaited, wait_noted, wait_on, wait_started, waits_lead};
+ghost use Rattle.ev_refs.specs.Settling.{Leaves};
+
+use crate::follow::Place;
+use crate::known::Standing;
+use crate::refs::Refs;
+use crate::settle::Fault;
+use ev_base::{PromId, Value};
+use ev_heap::{Happened, Micro};
+
+impl Refs {
+    /// The name on which a name waits, by its view too.
+    #[tactic(auto, unfolding(crate::specs::Resolving::awaited, crate::specs::Resolving::awaited_found))]
+    fn awaited(&self, name: u64) -> Option<u64>
+        ensures { result ≡ awaited self.now.known name }
+    {
+        let Some(known) = self.known.get(name as usize) else {
+            return None;
+        };
+        match known.standing {
+            Standing::Unsettled | Standing::Settled(_) => None,
+            Standing::WaitsOn(other) | Standing::Viewed(other) => Some(other.0),
+        }
+    }
+
+    /// Whether the chain of waits inside this vat leads from a name to another.
+    #[tactic(auto, using(crate::proofs::Waits::found, crate::proofs::Waits::stops))]
+    fn waits_lead(&self, from: u64, to: u64) -> bool
+        ensures { result ≡ waits_lead (length self.now.known) self.now.known to from }
+    {
+        let mut at = from;
+        for _ in 0..self.known.len() {
+            if at == to {
+                return true;
+            }
+            match self.awaited(at) {
+                None => return false,
+                Some(next) => at = next,
+            }
+        }
+        at == to
+    }
+
+    /// A name that is known waits on another.
+    #[tactic(auto, unfolding(crate::specs::Resolving::wait_started, crate::specs::Resolving::waiting_found))]
+    fn start_wait(&mut self, micro: &Micro, name: PromId, other: PromId)
+        ensures { wait_started name other (record { tasks = []; refs = self.old; micro = micro.now }) ≡ record { tasks = []; refs = self.new; micro = micro.now } }
+    {
+        if name.0 < self.count() {
+            self.wait_on(name, other);
+        }
+    }
+
+    /// Another name waits on a name that is known.
+    #[tactic(auto, unfolding(crate::specs::Resolving::wait_noted, crate::specs::Resolving::awaited_from))]
+    fn note_wait(&mut self, micro: &Micro, name: PromId, other: PromId) -> Result<(), Fault>
+        ensures { Leaves result (record { tasks = []; refs = self.new; micro = micro.now }) (Ok (wait_noted name other (record { tasks = []; refs = self.old; micro = micro.now }))) }
+    {
+        if other.0 < self.count() {
+            self.wait(other, name)?;
+        }
+        Ok(())
+    }
+
+    /// A name waits on another.
+    #[tactic(auto, unfolding(crate::specs::Resolving::wait_on))]
+    fn begin_wait(
+        &mut self,
+        micro: &mut Micro,
+        name: PromId,
+        other: PromId,
+    ) -> Result<(), Fault>
+        ensures { Leaves result (record { tasks = []; refs = self.new; micro = micro.new }) (Ok (wait_on name other (record { tasks = []; refs = self.old; micro = micro.old }))) }
+    {
+        micro.push(Happened::Wait(name, other))?;
+        self.start_wait(micro, name, other);
+        self.note_wait(micro, name, other)
+    }
+}
