@@ -5,3 +5,4 @@ pub mod Settles
 pub mod Performs
 pub mod Working
 pub mod Waits
+pub mod Resolves

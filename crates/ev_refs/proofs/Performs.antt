@@ -95,7 +95,7 @@ module _ (word : ℕ → ℕ) (ts : List Words) where
     lines_more [] e = append-nil (line e)
     lines_more (x ∷ es) e = rw (lines_more es e) (sym (append_assoc (line x) (lines_of line es) (line e)))
 
-    tell_is : (e : Event) (h : Happened Local) (k : Desk) → line e ≡ h ∷ [] → machine.tell h (at k) ≡ Gives tt (at (told e k))
+    pub tell_is : (e : Event) (h : Happened Local) (k : Desk) → line e ≡ h ∷ [] → machine.tell h (at k) ≡ Gives tt (at (told e k))
     unfolding machine.tell
     tell_is e h k is =
         let more : lines_of line (k.micro.events ++ e ∷ []) ≡ lines_of line k.micro.events ++ h ∷ [] = lines_more k.micro.events e ∙ ap (λ (x : List (Happened Local)). lines_of line k.micro.events ++ x) is in
@@ -198,7 +198,7 @@ module _ (word : ℕ → ℕ) (ts : List Words) where
         (last_part _ (informs p ws.told) rest (each_inform p ws.told)))) t
         ∙ ap (λ (xs : List Task). tasks_act word ts xs t) (four (sends d ws.held) (settles d v ws.waiting) (enqueues ws.reactions) (informs p ws.told) rest)
 
-    two_first : (m n more r : Act Local (Unit {0})) (t u w : Vat Local) → m t ≡ Gives tt u → n u ≡ Gives tt w → and_then ((m >> (n >> more)) t) (λ _. r) ≡ and_then (more w) (λ _. r)
+    pub two_first : (m n more r : Act Local (Unit {0})) (t u w : Vat Local) → m t ≡ Gives tt u → n u ≡ Gives tt w → and_then ((m >> (n >> more)) t) (λ _. r) ≡ and_then (more w) (λ _. r)
     unfolding ◌>>◌ and_then
     two_first m n more r t u w h g =
         ap (λ (x : Done Local (Unit {0})). and_then (and_then x (λ _ y. and_then (n y) (λ _. more))) (λ _. r)) h

@@ -1,9 +1,17 @@
 -- A chain of waits, by its first step; and that the code's test is the machine's.
-use Rattle.std.proofs.Common.{◌≡◌, ℕ, zero, suc, ◌+◌, ◌-◌, ◌<◌, ◌≤◌, Bool, true, false, List, Some, None, refl, sym, ap, ◌∙◌, subst, arith}
-use Rattle.std.specs.Prelude.{◌==◌, if◌then◌else◌}
+use Rattle.std.proofs.Common.{◌≡◌, ℕ, zero, suc, ◌+◌, ◌-◌, ◌<◌, ◌≤◌, Bool, true, false, List, Option, Some, None, refl, sym, ap, ◌∙◌, subst, arith}
+use Rattle.std.specs.Prelude.{◌==◌, if◌then◌else◌, option_map, slice_get}
 use Rattle.std.proofs.lemmas.Bool.{eqb-true}
 use Rattle.std.proofs.lemmas.Cmp.{nat_eq_equiv}
-use Rattle.ev_refs.specs.Resolving.{awaited, on_awaited, waits_lead}
+use Rattle.ev_machine.specs.Values.{Words, Local, Prom, numbering, same_local}
+use Rattle.ev_machine.specs.State as machine
+use Rattle.ev_machine.specs.Refs as refs
+use Rattle.ev_machine.specs.Refs.{standing_in}
+use Rattle.ev_refs.specs.Reading.{known_by, knowns_by, standing_by}
+use Rattle.ev_refs.specs.Resolving.{awaited_by, awaited_found, awaited, on_awaited, waits_lead}
+use Rattle.ev_refs.specs.declared.known.Standing.{Standing}
+use Rattle.ev_refs.specs.declared.known.Standing.TheVariants.{Unsettled, WaitsOn, Viewed, Settled}
+use Rattle.ev_refs.proofs.Machine.{names, entry_is}
 use Rattle.ev_refs.specs.declared.known.Known.{Known}
 
 one_more : (e c : ℕ) → c < e → e - c ≡ suc (e - (c + 1))
@@ -35,3 +43,30 @@ goes e c ks p n m less h g = rw (one_more e c less, differ n p h, g) refl
 pub over : (e c : ℕ) → e ≤ c → (ks : List Known) (p n : ℕ) → waits_lead (e - c) ks p n ≡ (n == p)
 unfolding waits_lead
 over e c h ks p n = let none : e - c ≡ 0 = omega arith in rw none refl
+
+module _ (word : ℕ → ℕ) (ts : List Words) where
+  choose : (b x y : Bool) → x ≡ y → elim b [ true ↦ true | false ↦ x ] ≡ (if b then true else y)
+  choose true x y h = refl
+  choose false x y h = h
+
+  led_is : (ks : List Known) (d p : ℕ) (st : Standing) → ((q : ℕ) → refs.waits_lead (names word) d (knowns_by ts 0 ks) (Prom p) (Prom q) ≡ waits_lead d ks p q)
+      → refs.led_by_wait (names word) (λ q. refs.waits_lead (names word) d (knowns_by ts 0 ks) (Prom p) q) (standing_by ts st) ≡ on_awaited (λ q. waits_lead d ks p q) (awaited_by st)
+  unfolding refs.led_by_wait on_awaited
+  led_is ks d p Unsettled ih = refl
+  led_is ks d p (WaitsOn q) ih = ih q
+  led_is ks d p (Viewed q) ih = ih q
+  led_is ks d p (Settled v) ih = refl
+
+  led_found : (ks : List Known) (d p n : ℕ) (o : Option Known) → ((q : ℕ) → refs.waits_lead (names word) d (knowns_by ts 0 ks) (Prom p) (Prom q) ≡ waits_lead d ks p q)
+      → refs.led_by_wait (names word) (λ q. refs.waits_lead (names word) d (knowns_by ts 0 ks) (Prom p) q) (standing_in (option_map (known_by ts n) o)) ≡ on_awaited (λ q. waits_lead d ks p q) (awaited_found o)
+  unfolding standing_in awaited_found refs.led_by_wait on_awaited
+  led_found ks d p n None ih = refl
+  led_found ks d p n (Some k) ih = led_is ks d p k.standing ih
+
+  pub waits_is : (ks : List Known) (d p n : ℕ) → refs.waits_lead (names word) d (knowns_by ts 0 ks) (Prom p) (Prom n) ≡ waits_lead d ks p n
+  unfolding refs.waits_lead waits_lead awaited refs.standing_of numbering same_local
+  waits_is ks zero p n = refl
+  waits_is ks (suc d) p n =
+      choose (n == p) _ _
+      (ap (λ (o : Option (machine.Known Local)). refs.led_by_wait (names word) (λ q. refs.waits_lead (names word) d (knowns_by ts 0 ks) (Prom p) q) (standing_in o)) (entry_is word ts ks n)
+      ∙ led_found ks d p n (slice_get ks n) (waits_is ks d p))

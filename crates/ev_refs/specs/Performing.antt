@@ -5,7 +5,7 @@ use Rattle.ev_heap.specs.declared.happened.Happened.TheVariants as event
 use Rattle.ev_base.specs.declared.values.Value.{Value as Held}
 use Rattle.ev_machine.specs.Values.{Words, Local, Mess, Prom, numbering}
 use Rattle.ev_machine.specs.State.{Vat, Act, Gives, Happened, Settles, Waits, Lost, give, ◌>>◌, enqueue}
-use Rattle.ev_machine.specs.Refs.{settle, settle_at, send_on, inform}
+use Rattle.ev_machine.specs.Refs.{settle, settle_at, send_on, inform, resolve, wait_unless_cycle}
 use Rattle.ev_refs.specs.Reading.{value_by, message_by, vat_by}
 use Rattle.ev_heap.specs.declared.micro.Micro.{Micro}
 use Rattle.ev_refs.specs.References.{References}
@@ -56,3 +56,14 @@ SameTexts r r' = (r'.partition ≡ r.partition) × (r'.cycle ≡ r.cycle)
 abbrev pub GoesOn : References → Micro → ℕ → Held → Desk → Type 0
 GoesOn r m p v k = SameTexts r k.refs × ((word : ℕ → ℕ) (ts : List Words) (line : Lines) (s : Vat Local) → KnowsTexts ts r → Tells ts line
     → settle (numbering {W = Local} word) (Prom p) (value_by ts v) (vat_in ts line (record { tasks = []; refs = r; micro = m }) s) ≡ tasks_act word ts k.tasks (vat_in ts line k s))
+
+-- the same of what a name resolves to, and of a wait on another name, unless a chain of waits would lead back
+abbrev pub ResolvesAsTheMachine : References → Micro → ℕ → Held → References → Micro → Type 0
+ResolvesAsTheMachine r m p v r' m' = (word : ℕ → ℕ) (ts : List Words) (line : Lines) (s : Vat Local) → KnowsTexts ts r → Tells ts line
+    → resolve (numbering {W = Local} word) (Prom p) (value_by ts v) (vat_in ts line (record { tasks = []; refs = r; micro = m }) s)
+    ≡ Gives tt (vat_in ts line (record { tasks = []; refs = r'; micro = m' }) s)
+
+abbrev pub WaitsAsTheMachine : References → Micro → ℕ → ℕ → References → Micro → Type 0
+WaitsAsTheMachine r m p q r' m' = (word : ℕ → ℕ) (ts : List Words) (line : Lines) (s : Vat Local) → KnowsTexts ts r → Tells ts line
+    → wait_unless_cycle (numbering {W = Local} word) (Prom p) (Prom q) (vat_in ts line (record { tasks = []; refs = r; micro = m }) s)
+    ≡ Gives tt (vat_in ts line (record { tasks = []; refs = r'; micro = m' }) s)

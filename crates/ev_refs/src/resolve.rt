@@ -1,7 +1,8 @@
 //! What a name resolves to: it settles, or waits on another.
 
-ghost use Rattle.std.specs.Prelude.{◌≡◌, ◌++◌, ◌∷◌, [], Ok, length};
+ghost use Rattle.std.specs.Prelude.{◌≡◌, ◌++◌, ◌∷◌, [], Ok, OnOk, length};
 ghost use Rattle.ev_refs.specs.Resolving.{awaited, wait_noted, wait_on, wait_started, waits_lead};
+ghost use Rattle.ev_refs.specs.Performing.{ResolvesAsTheMachine, WaitsAsTheMachine};
 ghost use Rattle.ev_refs.specs.Settling.{Leaves};
 
 use crate::follow::Place;
@@ -44,6 +45,13 @@ impl Refs {
         at == to
     }
 
+    /// Whether a wait of one name on another would lead back to it.
+    fn leads_back(&self, name: PromId, other: PromId) -> bool
+        ensures { result ≡ waits_lead (length self.now.known) self.now.known name other }
+    {
+        self.waits_lead(other.0, name.0)
+    }
+
     /// A name that is known waits on another.
     #[tactic(auto, unfolding(crate::specs::Resolving::wait_started, crate::specs::Resolving::waiting_found))]
     fn start_wait(&mut self, micro: &Micro, name: PromId, other: PromId)
@@ -78,5 +86,41 @@ impl Refs {
         micro.push(Happened::Wait(name, other))?;
         self.start_wait(micro, name, other);
         self.note_wait(micro, name, other)
+    }
+
+    /// A name waits on another, or is broken `cycle` where a chain of waits would lead back to it.
+    fn wait_unless_cycle(
+        &mut self,
+        micro: &mut Micro,
+        name: PromId,
+        other: PromId,
+    ) -> Result<(), Fault>
+        ensures { OnOk result (WaitsAsTheMachine self.old micro.old name other self.new micro.new) }
+    {
+        if self.leads_back(name, other) {
+            let cycle = Value::Broken(self.cycle);
+            return self.settle(micro, name, &cycle);
+        }
+        self.begin_wait(micro, name, other)
+    }
+
+    /// A name resolves to a value that is followed to no list: it waits on an unsettled name, or is broken `cycle` where a chain of
+    /// waits would lead back to it, or settles. After a fault what was done up to there stands.
+    pub fn resolve(
+        &mut self,
+        micro: &mut Micro,
+        name: PromId,
+        value: Value,
+    ) -> Result<(), Fault>
+        ensures { OnOk result (ResolvesAsTheMachine self.old micro.old name value self.new micro.new) }
+    {
+        let end = self.deref(value);
+        match self.place(end) {
+            Place::Near => self.settle(micro, name, &end),
+            Place::Mine(other) => self.wait_unless_cycle(micro, name, other),
+            Place::FarPromise(_, other) => self.wait_unless_cycle(micro, name, other),
+            Place::FarObject(_, _) => self.settle(micro, name, &end),
+            Place::Gone(_) => self.settle(micro, name, &end),
+        }
     }
 }
