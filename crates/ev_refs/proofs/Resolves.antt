@@ -180,3 +180,8 @@ module _ (r : References) (m : Micro) (p : ℕ) (v end : Held) (is : end ≡ fol
 
   pub promise : (a q : ℕ) → FarPromise a q ≡ place_of r end → OnOk result (WaitsAsTheMachine r m p q r' m') → OnOk result (ResolvesAsTheMachine r m p v r' m')
   promise a q h g = on_ok result (resolves_promise r m p v r' m' a q (at_end (FarPromise a q) h)) g
+
+-- broken by a cycle, as the code leaves it
+pub broke : (r : References) (m : Micro) (p q : ℕ) (v : Held) (result : Result (Unit {0}) Fault) (r' : References) (m' : Micro) → waits_lead (length r.known) r.known p q ≡ true → v ≡ held.Broken r.cycle
+    → OnOk result (SettlesAsTheMachine r m p v r' m') → OnOk result (WaitsAsTheMachine r m p q r' m')
+broke r m p q v result r' m' h e g = on_ok result (λ (f : SettlesAsTheMachine r m p v r' m'). breaks r m p q r' m' h (subst (λ (y : Held). SettlesAsTheMachine r m p y r' m') e f)) g

@@ -2,6 +2,7 @@
 
 ghost use Rattle.std.specs.Prelude.{◌≡◌, ◌++◌, ◌∷◌, [], Ok, OnOk, length};
 ghost use Rattle.ev_refs.specs.Resolving.{awaited, wait_noted, wait_on, wait_started, waits_lead};
+ghost use Rattle.ev_base.specs.declared.values.Value.TheVariants.{Broken};
 ghost use Rattle.ev_refs.specs.Performing.{ResolvesAsTheMachine, WaitsAsTheMachine};
 ghost use Rattle.ev_refs.specs.Settling.{Leaves};
 
@@ -88,6 +89,12 @@ impl Refs {
         self.note_wait(micro, name, other)
     }
 
+    fn broken_by_cycle(&self) -> Value
+        ensures { result ≡ Broken self.now.cycle }
+    {
+        Value::Broken(self.cycle)
+    }
+
     /// A name waits on another, or is broken `cycle` where a chain of waits would lead back to it.
     fn wait_unless_cycle(
         &mut self,
@@ -98,8 +105,8 @@ impl Refs {
         ensures { OnOk result (WaitsAsTheMachine self.old micro.old name other self.new micro.new) }
     {
         if self.leads_back(name, other) {
-            let cycle = Value::Broken(self.cycle);
-            return self.settle(micro, name, &cycle);
+            let broken = self.broken_by_cycle();
+            return self.settle(micro, name, &broken);
         }
         self.begin_wait(micro, name, other)
     }
