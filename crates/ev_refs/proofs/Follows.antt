@@ -1,9 +1,8 @@
 -- Where a name leads, by its first step; and that the code's following is the machine's.
-use Rattle.std.proofs.Common.{◌≡◌, ℕ, zero, suc, ◌+◌, ◌-◌, ◌<◌, ◌≤◌, List, refl, sym, ap, ◌∙◌, arith}
+use Rattle.std.proofs.Common.{◌≡◌, ℕ, zero, suc, ◌+◌, ◌-◌, ◌<◌, ◌≤◌, List, refl, arith}
 use Rattle.ev_base.specs.declared.values.Value.{Value}
 use Rattle.ev_base.specs.declared.values.Value.TheVariants as held
 use Rattle.ev_refs.specs.Follow.{led_on, led_by, step_of}
-use Rattle.ev_refs.specs.declared.follow.Step.{Step}
 use Rattle.ev_refs.specs.declared.follow.Step.TheVariants.{Stays, Leads, Ends}
 use Rattle.ev_refs.specs.declared.known.Known.{Known}
 

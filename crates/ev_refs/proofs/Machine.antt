@@ -13,7 +13,7 @@ use Rattle.ev_refs.specs.References.{References}
 use Rattle.ev_refs.specs.Follow.{step_from, onward, step_of, step_found, led_by, led_on, led, host_found, host_of, severed_by, severed, followed, place_of}
 use Rattle.ev_refs.specs.Follow as code
 use Rattle.ev_refs.specs.Reading.{text_by, value_by, known_by, knowns_by, standing_by, vat_by, place_by}
-use Rattle.ev_refs.specs.Statements.{KnowsTexts, FollowsAsTheMachine, PlacesAsTheMachine}
+use Rattle.ev_refs.specs.Statements.{KnowsTexts}
 use Rattle.ev_refs.specs.declared.follow.Place.{Place}
 use Rattle.ev_refs.specs.declared.follow.Place.TheVariants.{Mine, FarPromise}
 use Rattle.ev_refs.specs.declared.known.Known.{Known}

@@ -1,24 +1,24 @@
 -- Each part of a settling is done as the machine does it.
 use Rattle.std.proofs.Common.{◌≡◌, ℕ, zero, suc, ◌+◌, Bool, true, false, List, [], ◌∷◌, ◌++◌, Option, Some, None, Ok, Err, length, map, refl, sym, ap, ◌∙◌, subst, append_assoc, append-nil, arith}
-use Rattle.std.specs.Prelude.{codes, if◌then◌else◌, option_map, slice_get, slice_set}
+use Rattle.std.specs.Prelude.{if◌then◌else◌, option_map, slice_get}
 use Rattle.std.proofs.lemmas.List.{map-append}
 use Rattle.ev_base.specs.declared.values.Value.{Value as Held}
 use Rattle.ev_base.specs.declared.values.Value.TheVariants as held
 use Rattle.ev_heap.specs.declared.happened.Happened.{Happened as Event}
 use Rattle.ev_heap.specs.declared.happened.Happened.TheVariants as event
-use Rattle.ev_machine.specs.Values.{Words, Value, Broken, Local, Mess, Prom}
+use Rattle.ev_machine.specs.Values.{Words, Value, Local, Mess, Prom}
 use Rattle.ev_machine.specs.State as machine
 use Rattle.ev_machine.specs.State.{Vat, Act, Done, Gives, Throws, Ejects, Stops, Happened, Settles, Lost, and_then, ◌>>◌, give, each, enqueue, alter, with_change, Hold, Settle as Settling, changed}
 use Rattle.ev_machine.specs.Refs as refs
 use Rattle.ev_machine.specs.Refs.{follow, place, entry_of, target_of, settle_at, settle_one, settle_entry, settle_standing, send_to, inform}
-use Rattle.ev_refs.specs.Changes.{unless_settled, with_held, settled_as, waiters_at, waiters_of}
+use Rattle.ev_refs.specs.Changes.{with_held, settled_as, waiters_at, waiters_of}
 use Rattle.ev_refs.specs.Follow.{followed, place_of}
 use Rattle.ev_refs.specs.References.{References}
 use Rattle.ev_refs.specs.Settling as code
 use Rattle.ev_refs.specs.Settling.{Desk, told, enqueued, set_known, held_at, send_placed, parts_of, settle_waiters, settle_found, is_list, perform}
 use Rattle.ev_refs.specs.Performing.{Lines, Tells, lines_of, vat_in, task_act, tasks_act, GoesOn, SameTexts, SettlesAsTheMachine}
 use Rattle.ev_heap.specs.declared.micro.Micro.{Micro}
-use Rattle.ev_refs.specs.Reading.{text_by, value_by, message_by, known_by, knowns_by, standing_by, vat_by, place_by}
+use Rattle.ev_refs.specs.Reading.{text_by, value_by, message_by, known_by, knowns_by, standing_by, place_by}
 use Rattle.ev_refs.specs.Statements.{KnowsTexts}
 use Rattle.ev_refs.specs.Tasks.{sends, settles, enqueues, informs}
 use Rattle.ev_refs.specs.declared.follow.Place.{Place}
@@ -28,7 +28,6 @@ use Rattle.ev_refs.specs.declared.known.Message.{Message}
 use Rattle.ev_refs.specs.declared.known.Standing.{Standing}
 use Rattle.ev_refs.specs.declared.known.Standing.TheVariants.{Unsettled, WaitsOn, Viewed, Settled}
 use Rattle.ev_refs.specs.declared.known.Waiters.{Waiters}
-use Rattle.ev_refs.specs.declared.settle.Fault.{Fault}
 use Rattle.ev_refs.specs.declared.settle.Fault.TheVariants.{Unbuilt}
 use Rattle.ev_refs.specs.declared.tasks.Task.{Task}
 use Rattle.ev_refs.specs.declared.tasks.Task.TheVariants.{SendOn, Settle, Enqueue, Inform}
@@ -318,15 +317,21 @@ two_more n = omega arith
 -- a settling begins as its one part
 pub begins : (r : References) (m : Micro) (p : ℕ) (v : Held) (ts' : List Task) → ts' ≡ Settle p v (length r.known + 2) ∷ [] → GoesOn r m p v (record { tasks = ts'; refs = r; micro = m })
 unfolding tasks_act task_act ◌>>◌ refs.settle machine.◌>>=◌ machine.look and_then
-begins r m p v ts' h = subst (λ (x : List Task). GoesOn r m p v (record { tasks = x; refs = r; micro = m })) (sym h) ((refl, refl), λ word ts line s part tells.
-    ap (λ (n : ℕ). settle_at (names word) (suc (suc n)) (Prom p) (value_by ts v) (vat_in ts line (record { tasks = []; refs = r; micro = m }) s)) (as_many word ts ts 0 r.known)
-    ∙ ap (λ (n : ℕ). settle_at (names word) n (Prom p) (value_by ts v) (vat_in ts line (record { tasks = []; refs = r; micro = m }) s)) (two_more (length r.known))
-    ∙ sym (unit_last (settle_at (names word) (length r.known + 2) (Prom p) (value_by ts v) (vat_in ts line (record { tasks = []; refs = r; micro = m }) s))))
+begins r m p v ts' h = subst (λ (x : List Task). GoesOn r m p v (record { tasks = x; refs = r; micro = m })) (sym h) (
+  (refl, refl),
+  λ word ts line s part tells.
+      ap (λ (n : ℕ). settle_at (names word) (suc (suc n)) (Prom p) (value_by ts v) (vat_in ts line (record { tasks = []; refs = r; micro = m }) s)) (as_many word ts ts 0 r.known)
+      ∙ ap (λ (n : ℕ). settle_at (names word) n (Prom p) (value_by ts v) (vat_in ts line (record { tasks = []; refs = r; micro = m }) s)) (two_more (length r.known))
+      ∙ sym (unit_last (settle_at (names word) (length r.known + 2) (Prom p) (value_by ts v) (vat_in ts line (record { tasks = []; refs = r; micro = m }) s))),
+)
 
 -- and goes on, part by part
 pub goes_on : (r : References) (m : Micro) (p : ℕ) (v : Held) (t : Task) (k k' : Desk) → perform t k ≡ Ok k' → GoesOn r m p v (record k { tasks = t ∷ k.tasks }) → GoesOn r m p v k'
-goes_on r m p v t k k' h g = (still_same r k.refs k'.refs g.0 (performed_keeps t k k' h), λ word ts line s part tells.
-    g.1 word ts line s part tells ∙ performed word ts line tells s t k k' (still_known ts r k.refs g.0 part) h)
+goes_on r m p v t k k' h g = (
+  still_same r k.refs k'.refs g.0 (performed_keeps t k k' h),
+  λ word ts line s part tells.
+      g.1 word ts line s part tells ∙ performed word ts line tells s t k k' (still_known ts r k.refs g.0 part) h,
+)
 
 -- until nothing is left
 pub ends : (r : References) (m : Micro) (p : ℕ) (v : Held) (k : Desk) → k.tasks ≡ [] → GoesOn r m p v k → SettlesAsTheMachine r m p v k.refs k.micro

@@ -1,5 +1,5 @@
 -- What a name resolves to is what it resolves to in the machine.
-use Rattle.std.proofs.Common.{◌≡◌, ℕ, zero, suc, Bool, true, false, List, [], ◌∷◌, ◌++◌, Option, Some, None, Ok, length, refl, sym, ap, ◌∙◌, subst}
+use Rattle.std.proofs.Common.{◌≡◌, ℕ, Bool, true, false, List, [], ◌++◌, Option, Some, None, Ok, length, refl, sym, ap, ◌∙◌, subst}
 use Rattle.std.specs.Prelude.{Result, Err, OnOk, codes, if◌then◌else◌, slice_get}
 use Rattle.ev_base.specs.declared.values.Value.{Value as Held}
 use Rattle.ev_base.specs.declared.values.Value.TheVariants as held
@@ -16,7 +16,7 @@ use Rattle.ev_refs.specs.References.{References}
 use Rattle.ev_refs.specs.Settling as code
 use Rattle.ev_refs.specs.Settling.{Desk, told, set_known}
 use Rattle.ev_refs.specs.Performing.{Lines, Tells, lines_of, vat_in, SettlesAsTheMachine, WaitsAsTheMachine, ResolvesAsTheMachine}
-use Rattle.ev_refs.specs.Reading.{text_by, value_by, known_by, knowns_by, place_by, vat_by}
+use Rattle.ev_refs.specs.Reading.{value_by, knowns_by, place_by}
 use Rattle.ev_refs.specs.Resolving.{waits_lead, waiting_found, awaited_from, wait_started, wait_noted, wait_on}
 use Rattle.ev_refs.specs.Statements.{KnowsTexts}
 use Rattle.ev_refs.specs.declared.follow.Place.{Place}

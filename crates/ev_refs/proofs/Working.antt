@@ -18,7 +18,6 @@ use Rattle.ev_refs.specs.declared.known.Known.{Known}
 use Rattle.ev_refs.specs.declared.known.Message.{Message}
 use Rattle.ev_refs.specs.declared.known.Standing.{Standing}
 use Rattle.ev_refs.specs.declared.known.Standing.TheVariants.{Unsettled, WaitsOn, Viewed, Settled}
-use Rattle.ev_refs.specs.declared.known.Waiters.{Waiters}
 use Rattle.ev_refs.specs.declared.tasks.Task.{Task}
 use Rattle.ev_refs.specs.declared.tasks.Task.TheVariants.{SendOn, Settle, Enqueue, Inform}
 

@@ -1,9 +1,8 @@
 -- The single changes of what is known of a name, in the code's terms. Nothing changes what is known of a settled name.
-use Rattle.std.specs.Prelude.{ℕ, List, [], ◌∷◌, ◌++◌, Some, None}
+use Rattle.std.specs.Prelude.{ℕ, [], ◌∷◌, ◌++◌, Some, None}
 use Rattle.std.specs.declared.option.Option.{Option}
 use Rattle.ev_base.specs.declared.values.Value.{Value}
 use Rattle.ev_machine.specs.State.{with_vat}
-use Rattle.ev_refs.specs.References.{References}
 use Rattle.ev_refs.specs.declared.known.Known.{Known}
 use Rattle.ev_refs.specs.declared.known.Message.{Message}
 use Rattle.ev_refs.specs.declared.known.Waiters.{Waiters}

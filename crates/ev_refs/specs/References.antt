@@ -1,10 +1,8 @@
 -- What a vat has of references, and its single changes.
-use Rattle.std.specs.Prelude.{ℕ, List, [], ◌∷◌, ◌++◌, option_map, unwrap_or, slice_get}
-use Rattle.ev_base.specs.declared.values.Value.{Value}
+use Rattle.std.specs.Prelude.{ℕ, List, []}
 use Rattle.ev_refs.specs.declared.known.Known.{Known}
 use Rattle.ev_refs.specs.declared.known.Message.{Message}
-use Rattle.ev_refs.specs.declared.known.Standing.{Standing}
-use Rattle.ev_refs.specs.declared.known.Standing.TheVariants.{Unsettled, WaitsOn, Viewed, Settled}
+use Rattle.ev_refs.specs.declared.known.Standing.TheVariants.{Unsettled}
 
 pub record References : Type 0 where
   -- the vat's own number

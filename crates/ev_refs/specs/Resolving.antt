@@ -1,5 +1,5 @@
 -- Waits, and what a name resolves to, in the code's terms.
-use Rattle.std.specs.Prelude.{◌≡◌, ◌==◌, ℕ, zero, suc, Bool, true, false, if◌then◌else◌, List, ◌∷◌, ◌++◌, Some, None, length, slice_get, slice_set}
+use Rattle.std.specs.Prelude.{◌==◌, ℕ, zero, suc, Bool, true, false, if◌then◌else◌, List, Some, None, slice_get}
 use Rattle.std.specs.declared.option.Option.{Option}
 use Rattle.ev_heap.specs.declared.happened.Happened.TheVariants as event
 use Rattle.ev_refs.specs.Changes.{with_waiting, waiting_on}

@@ -1,5 +1,5 @@
 -- One part of a settling, in the code's terms.
-use Rattle.std.specs.Prelude.{◌≡◌, ℕ, zero, suc, Bool, true, false, if◌then◌else◌, List, [], ◌∷◌, ◌++◌, Some, None, Result, Ok, Err, length, nat_lt, slice_get, slice_set}
+use Rattle.std.specs.Prelude.{◌≡◌, ℕ, zero, suc, Bool, true, false, if◌then◌else◌, List, [], ◌∷◌, ◌++◌, Some, None, Result, Ok, Err, slice_get, slice_set}
 use Rattle.std.specs.declared.option.Option.{Option}
 use Rattle.ev_base.specs.declared.values.Value.{Value}
 use Rattle.ev_base.specs.declared.values.Value.TheVariants as held

@@ -76,12 +76,7 @@ impl Refs {
 
     /// A name waits on another.
     #[tactic(auto, unfolding(crate::specs::Resolving::wait_on))]
-    fn begin_wait(
-        &mut self,
-        micro: &mut Micro,
-        name: PromId,
-        other: PromId,
-    ) -> Result<(), Fault>
+    fn begin_wait(&mut self, micro: &mut Micro, name: PromId, other: PromId) -> Result<(), Fault>
         ensures { Leaves result (record { tasks = []; refs = self.new; micro = micro.new }) (Ok (wait_on name other (record { tasks = []; refs = self.old; micro = micro.old }))) }
     {
         micro.push(Happened::Wait(name, other))?;
@@ -113,12 +108,7 @@ impl Refs {
 
     /// A name resolves to a value that is followed to no list: it waits on an unsettled name, or is broken `cycle` where a chain of
     /// waits would lead back to it, or settles. After a fault what was done up to there stands.
-    pub fn resolve(
-        &mut self,
-        micro: &mut Micro,
-        name: PromId,
-        value: Value,
-    ) -> Result<(), Fault>
+    pub fn resolve(&mut self, micro: &mut Micro, name: PromId, value: Value) -> Result<(), Fault>
         ensures { OnOk result (ResolvesAsTheMachine self.old micro.old name value self.new micro.new) }
     {
         let end = self.deref(value);

@@ -44,7 +44,13 @@ impl Message {
 impl Refs {
     /// A message waits at a name, if that is known.
     #[tactic(auto, unfolding(crate::specs::Settling::held_at))]
-    fn hold_known(&mut self, tasks: &Tasks, micro: &Micro, name: PromId, message: Message) -> Result<(), Fault>
+    fn hold_known(
+        &mut self,
+        tasks: &Tasks,
+        micro: &Micro,
+        name: PromId,
+        message: Message,
+    ) -> Result<(), Fault>
         ensures { Leaves result (record { tasks = tasks.now; refs = self.new; micro = micro.now }) (Ok (held_at name message (slice_get self.old.known name) (record { tasks = tasks.now; refs = self.old; micro = micro.now }))) }
     {
         if name.0 < self.count() {
@@ -185,12 +191,7 @@ impl Refs {
 
     /// A name settles to a value that is no list: what waits at it, and at what settles with it, goes on, in the machine's order.
     /// After a fault what was done up to there stands.
-    pub fn settle(
-        &mut self,
-        micro: &mut Micro,
-        name: PromId,
-        value: &Value,
-    ) -> Result<(), Fault>
+    pub fn settle(&mut self, micro: &mut Micro, name: PromId, value: &Value) -> Result<(), Fault>
         ensures { OnOk result (SettlesAsTheMachine self.old micro.old name value.now self.new micro.new) }
     {
         let mut tasks = Tasks::new(self.alloc);

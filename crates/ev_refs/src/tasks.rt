@@ -105,11 +105,7 @@ pub(crate) fn push_enqueues(tasks: &mut Tasks, messages: Seq<Message>) -> Result
 }
 
 /// These vats are to be told before all else.
-pub(crate) fn push_informs(
-    tasks: &mut Tasks,
-    name: PromId,
-    vats: Seq<VatId>,
-) -> Result<(), Memory>
+pub(crate) fn push_informs(tasks: &mut Tasks, name: PromId, vats: Seq<VatId>) -> Result<(), Memory>
     ensures { OnOk result (tasks.new ≡ informs name vats ++ tasks.old) }
 {
     let mut left = vats.into_vec();

@@ -21,7 +21,10 @@ fn a_held_message_goes_on(rt: HostRuntime) -> Result<(), Fail> {
     if promise.0 < refs.count() {
         refs.hold(promise, message)?;
     }
-    assert!(rt; refs.resolve(&mut micro, answer, Value::Prom(promise)).is_ok());
+    assert!(rt;
+        refs.resolve(&mut micro, answer, Value::Prom(promise))
+            .is_ok()
+    );
     assert!(rt; refs.resolve(&mut micro, promise, Value::Int(7)).is_ok());
     assert_eq!(rt; refs.deref(Value::Prom(answer)), Value::Int(7));
     assert_eq!(rt; refs.place(Value::Int(7)), Place::Near);

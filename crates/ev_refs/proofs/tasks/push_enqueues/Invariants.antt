@@ -4,7 +4,7 @@ use Rattle.ev_refs.specs.Tasks.{enqueues}
 use Rattle.ev_refs.proofs.tasks.push_enqueues.Given as goal
 
 abbrev pub invariant-loop-message : goal.invariant-loop-message
-invariant-loop-message l = enqueues  l.left.items ++ l.tasks ≡ enqueues  l.fn.messages ++ l.initial.tasks
+invariant-loop-message l = enqueues l.left.items ++ l.tasks ≡ enqueues l.fn.messages ++ l.initial.tasks
 
 abbrev pub decreases-loop-message : goal.decreases-loop-message
 decreases-loop-message l = length l.left.items
