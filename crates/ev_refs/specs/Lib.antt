@@ -1,0 +1,10 @@
+pub mod Reading
+pub mod References
+pub mod Follow
+pub mod Statements
+pub mod Changes
+pub mod Tasks
+pub mod Settling
+pub mod Performing
+pub mod Work
+pub mod Resolving

@@ -1,0 +1,85 @@
+-- One part of a settling, in the code's terms.
+use Rattle.std.specs.Prelude.{◌≡◌, ℕ, zero, suc, Bool, true, false, if◌then◌else◌, List, [], ◌∷◌, ◌++◌, Some, None, Result, Ok, Err, slice_get, slice_set}
+use Rattle.std.specs.declared.option.Option.{Option}
+use Rattle.ev_base.specs.declared.values.Value.{Value}
+use Rattle.ev_base.specs.declared.values.Value.TheVariants as held
+use Rattle.ev_heap.specs.declared.happened.Happened.{Happened as Event}
+use Rattle.ev_heap.specs.declared.happened.Happened.TheVariants as event
+use Rattle.ev_heap.specs.declared.micro.Micro.{Micro}
+use Rattle.ev_refs.specs.Changes.{with_held, settled_as, waiters_at}
+use Rattle.ev_refs.specs.Follow.{followed, place_of}
+use Rattle.ev_refs.specs.References.{References}
+use Rattle.ev_refs.specs.Tasks.{sends, settles, enqueues, informs}
+use Rattle.ev_refs.specs.declared.follow.Place.{Place}
+use Rattle.ev_refs.specs.declared.follow.Place.TheVariants.{Near, Mine, FarPromise, FarObject, Gone}
+use Rattle.ev_refs.specs.declared.known.Known.{Known}
+use Rattle.ev_refs.specs.declared.known.Message.{Message}
+use Rattle.ev_refs.specs.declared.known.Waiters.{Waiters}
+use Rattle.ev_refs.specs.declared.settle.Fault.{Fault}
+use Rattle.ev_refs.specs.declared.settle.Fault.TheVariants.{Memory, Astray, Unbuilt}
+use Rattle.ev_refs.specs.declared.tasks.Task.{Task}
+use Rattle.ev_refs.specs.declared.tasks.Task.TheVariants.{SendOn, Settle, Enqueue, Inform}
+
+-- what a settling changes: what is still to be done, the references, and what happened
+pub record Desk : Type 0 where
+  pub tasks : List Task
+  pub refs : References
+  pub micro : Micro
+
+abbrev pub told : Event → Desk → Desk
+told e k = record k { micro = record k.micro { events = k.micro.events ++ e ∷ [] } }
+
+abbrev pub enqueued : Message → Desk → Desk
+enqueued m k = record k { refs = record k.refs { queue = k.refs.queue ++ m ∷ [] } }
+
+abbrev pub set_known : ℕ → Known → Desk → Desk
+set_known n known k = record k { refs = record k.refs { known = slice_set k.refs.known n known } }
+
+unfoldable pub held_at : ℕ → Message → Option Known → Desk → Desk
+held_at n m None k = k
+held_at n m (Some known) k = set_known n (with_held m known) k
+
+-- a message on a followed target at this place
+unfoldable pub send_placed : Message → ℕ → Value → Place → Desk → Result Desk Fault
+send_placed m d y Near k = Ok (enqueued (record m { target = y }) k)
+send_placed m d y (Mine n) k = Ok (held_at n (record m { target = y }) (slice_get k.refs.known n) k)
+send_placed m d y (Gone t) k = Ok (told (event.LostBroken m.id) (record k { tasks = Settle m.answer (held.Broken t) d ∷ k.tasks }))
+send_placed m d y (FarPromise h n) k = Err Unbuilt
+send_placed m d y (FarObject h p) k = Err Unbuilt
+
+unfoldable pub send_on : Message → ℕ → Desk → Result Desk Fault
+send_on m d k = send_placed m d (followed k.refs m.target) (place_of k.refs (followed k.refs m.target)) k
+
+-- the parts of the settling of a name at which these wait
+abbrev pub parts_of : ℕ → Value → ℕ → Waiters → List Task
+parts_of p v d ws = sends d ws.held ++ (settles d v ws.waiting ++ (enqueues ws.reactions ++ informs p ws.told))
+
+unfoldable pub settle_waiters : ℕ → Value → ℕ → Known → Option Waiters → Desk → Desk
+settle_waiters p v d known None k = set_known p (settled_as v known) k
+settle_waiters p v d known (Some ws) k = told (event.Settle p v) (set_known p (settled_as v known) (record k { tasks = parts_of p v d ws ++ k.tasks }))
+
+unfoldable pub settle_found : ℕ → Value → ℕ → Option Known → Desk → Desk
+settle_found p v d None k = k
+settle_found p v d (Some known) k = settle_waiters p v d known (waiters_at known.standing known) k
+
+-- whether a value is a list
+abbrev pub is_list : Value → Bool
+is_list (held.List id) = true
+is_list _ = false
+
+unfoldable pub settle_at : ℕ → Value → ℕ → Desk → Result Desk Fault
+settle_at p v zero k = Err Astray
+settle_at p v (suc d) k = if is_list v then Err Unbuilt else Ok (settle_found p v d (slice_get k.refs.known p) k)
+
+unfoldable pub perform : Task → Desk → Result Desk Fault
+perform (SendOn m d) k = send_on m d k
+perform (Settle p v d) k = settle_at p v d k
+perform (Enqueue m) k = Ok (enqueued m k)
+perform (Inform p w) k = Err Unbuilt
+
+-- what the code answered and left is what is due, unless memory ran out
+abbrev pub Leaves : Result (Unit {0}) Fault → Desk → Result Desk Fault → Type 0
+Leaves (Ok u) k due = due ≡ Ok k
+Leaves (Err Memory) k due = Unit {0}
+Leaves (Err Astray) k due = due ≡ Err Astray
+Leaves (Err Unbuilt) k due = due ≡ Err Unbuilt

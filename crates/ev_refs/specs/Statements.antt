@@ -1,0 +1,21 @@
+-- What is said of references in the machine's terms.
+use Rattle.std.specs.Prelude.{◌≡◌, ℕ, List, codes}
+use Rattle.ev_base.specs.declared.values.Value.{Value as Held}
+use Rattle.ev_machine.specs.Values.{Words, Local, numbering}
+use Rattle.ev_machine.specs.State.{Vat}
+use Rattle.ev_machine.specs.Refs.{follow, place}
+use Rattle.ev_refs.specs.References.{References}
+use Rattle.ev_refs.specs.Follow.{followed, place_of}
+use Rattle.ev_refs.specs.Reading.{text_by, value_by, vat_by, place_by}
+
+-- the texts of the numbers that the references have for them
+abbrev pub KnowsTexts : List Words → References → Type 0
+KnowsTexts ts r = (text_by ts r.partition ≡ codes "partition") × (text_by ts r.cycle ≡ codes "cycle")
+
+abbrev pub FollowsAsTheMachine : Type 0
+FollowsAsTheMachine = (word : ℕ → ℕ) (ts : List Words) (r : References) (s : Vat Local) (v : Held) → KnowsTexts ts r
+    → follow (numbering {W = Local} word) (vat_by ts r s) (value_by ts v) ≡ value_by ts (followed r v)
+
+abbrev pub PlacesAsTheMachine : Type 0
+PlacesAsTheMachine = (word : ℕ → ℕ) (ts : List Words) (r : References) (s : Vat Local) (v : Held)
+    → place (numbering {W = Local} word) (vat_by ts r s) (value_by ts v) ≡ place_by ts (place_of r v)

@@ -1,0 +1,19 @@
+//! References of one vat: what it knows of names, where they lead, what waits at them, and what they settle to.
+#![tactic(auto)]
+
+pub mod changes;
+pub mod follow;
+pub mod known;
+pub mod laws;
+pub mod refs;
+pub mod resolve;
+pub mod settle;
+pub mod tasks;
+
+pub use follow::Place;
+pub use known::{Known, Message, Standing, Waiters};
+pub use refs::Refs;
+pub use settle::Fault;
+
+#[cfg(test)]
+mod tests;

@@ -1,0 +1,204 @@
+//! The settling of a name, part by part.
+
+ghost use Rattle.std.specs.Prelude.{◌≡◌, ◌++◌, ◌<◌, ◌∷◌, Ok, OnOk, length, slice_get};
+ghost use Rattle.ev_refs.specs.Settling.{Leaves, held_at, parts_of, perform, send_on, send_placed, settle_at, settle_found, settle_waiters};
+ghost use Rattle.ev_refs.specs.Performing.{SettlesAsTheMachine};
+
+use crate::follow::Place;
+use crate::known::{Message, Waiters};
+use crate::refs::Refs;
+use crate::tasks::{Task, Tasks, push_enqueues, push_informs, push_sends, push_settles};
+use ev_base::{Memory, PromId, Value};
+use ev_heap::{Happened, Micro};
+
+/// Why a settling did not come to its end.
+#[derive(Clone, Copy, Debug, PartialEq, Eq)]
+pub enum Fault {
+    Memory,
+    /// More settlings stood one inside another than names are known.
+    Astray,
+    /// A list, or another vat, was met.
+    Unbuilt,
+}
+
+impl From<Memory> for Fault {
+    ghost use Rattle.std.specs.Prelude.{◌≡◌};
+    ghost use Rattle.ev_refs.specs.declared.settle.Fault.TheVariants.{Memory as NoMemory};
+
+    ghost from_gives = { λ _ e. e ≡ NoMemory };
+
+    fn from(_error: Memory) -> Fault {
+        Fault::Memory
+    }
+}
+
+impl Message {
+    /// The message on another target.
+    fn on(self, target: Value) -> Message
+        ensures { result ≡ record self { target = target } }
+    {
+        Message { target, ..self }
+    }
+}
+
+impl Refs {
+    /// A message waits at a name, if that is known.
+    #[tactic(auto, unfolding(crate::specs::Settling::held_at))]
+    fn hold_known(
+        &mut self,
+        tasks: &Tasks,
+        micro: &Micro,
+        name: PromId,
+        message: Message,
+    ) -> Result<(), Fault>
+        ensures { Leaves result (record { tasks = tasks.now; refs = self.new; micro = micro.now }) (Ok (held_at name message (slice_get self.old.known name) (record { tasks = tasks.now; refs = self.old; micro = micro.now }))) }
+    {
+        if name.0 < self.count() {
+            self.hold(name, message)?;
+        }
+        Ok(())
+    }
+
+    /// Sends a message on that was held, on a followed target at this place.
+    #[tactic(auto, unfolding(crate::specs::Settling::send_placed))]
+    fn send_placed(
+        &mut self,
+        tasks: &mut Tasks,
+        micro: &mut Micro,
+        message: Message,
+        depth: u64,
+        target: &Value,
+        place: Place,
+    ) -> Result<(), Fault>
+        ensures { Leaves result (record { tasks = tasks.new; refs = self.new; micro = micro.new }) (send_placed message depth target.now place (record { tasks = tasks.old; refs = self.old; micro = micro.old })) }
+    {
+        match place {
+            Place::Near => {
+                self.queue.push(message.on(*target))?;
+                Ok(())
+            }
+            Place::Mine(name) => self.hold_known(tasks, micro, name, message.on(*target)),
+            Place::Gone(problem) => {
+                tasks.push(Task::Settle(message.answer, Value::Broken(problem), depth))?;
+                micro.push(Happened::LostBroken(message.id))?;
+                Ok(())
+            }
+            Place::FarPromise(_, _) | Place::FarObject(_, _) => Err(Fault::Unbuilt),
+        }
+    }
+
+    /// Sends a message on that was held.
+    #[tactic(auto, unfolding(crate::specs::Settling::send_on))]
+    fn send_on(
+        &mut self,
+        tasks: &mut Tasks,
+        micro: &mut Micro,
+        message: Message,
+        depth: u64,
+    ) -> Result<(), Fault>
+        ensures { Leaves result (record { tasks = tasks.new; refs = self.new; micro = micro.new }) (send_on message depth (record { tasks = tasks.old; refs = self.old; micro = micro.old })) }
+    {
+        let target = self.deref(message.target);
+        let place = self.place(target);
+        self.send_placed(tasks, micro, message, depth, &target, place)
+    }
+
+    /// What waited at a name that settles is to be done before all else.
+    #[tactic(auto, unfolding(crate::specs::Settling::settle_waiters))]
+    fn push_waiters(
+        tasks: &mut Tasks,
+        name: PromId,
+        value: &Value,
+        depth: u64,
+        waiters: Waiters,
+    ) -> Result<(), Memory>
+        ensures { OnOk result (tasks.new ≡ parts_of name value.now depth waiters ++ tasks.old) }
+    {
+        let Waiters {
+            held,
+            waiting,
+            reactions,
+            told,
+        } = waiters;
+        push_informs(tasks, name, told)?;
+        push_enqueues(tasks, reactions)?;
+        push_settles(tasks, waiting, value, depth)?;
+        push_sends(tasks, held, depth)
+    }
+
+    /// A name settles that is known.
+    #[tactic(auto, using(crate::proofs::Settles::settled_none, crate::proofs::Settles::settled_some))]
+    fn settle_known(
+        &mut self,
+        tasks: &mut Tasks,
+        micro: &mut Micro,
+        name: PromId,
+        value: &Value,
+        depth: u64,
+    ) -> Result<(), Fault>
+        requires { name < length self.old.known }
+        ensures { Leaves result (record { tasks = tasks.new; refs = self.new; micro = micro.new }) (Ok (settle_found name value.now depth (slice_get self.old.known name) (record { tasks = tasks.old; refs = self.old; micro = micro.old }))) }
+    {
+        match self.settle_name(name, *value) {
+            None => Ok(()),
+            Some(waiters) => {
+                Refs::push_waiters(tasks, name, value, depth, waiters)?;
+                micro.push(Happened::Settle(name, *value))?;
+                Ok(())
+            }
+        }
+    }
+
+    /// A name settles, in at most so many settlings one inside another.
+    #[tactic(auto, unfolding(crate::specs::Settling::settle_at, crate::specs::Settling::settle_found))]
+    fn settle_at(
+        &mut self,
+        tasks: &mut Tasks,
+        micro: &mut Micro,
+        name: PromId,
+        value: &Value,
+        depth: u64,
+    ) -> Result<(), Fault>
+        ensures { Leaves result (record { tasks = tasks.new; refs = self.new; micro = micro.new }) (settle_at name value.now depth (record { tasks = tasks.old; refs = self.old; micro = micro.old })) }
+    {
+        if depth == 0 {
+            return Err(Fault::Astray);
+        }
+        if let Value::List(_) = value {
+            return Err(Fault::Unbuilt);
+        }
+        if name.0 < self.count() {
+            return self.settle_known(tasks, micro, name, value, depth - 1);
+        }
+        Ok(())
+    }
+
+    /// Does one part of a settling.
+    #[tactic(auto, unfolding(crate::specs::Settling::perform))]
+    fn perform(&mut self, tasks: &mut Tasks, micro: &mut Micro, task: Task) -> Result<(), Fault>
+        ensures { Leaves result (record { tasks = tasks.new; refs = self.new; micro = micro.new }) (perform task (record { tasks = tasks.old; refs = self.old; micro = micro.old })) }
+    {
+        match task {
+            Task::SendOn(message, depth) => self.send_on(tasks, micro, message, depth),
+            Task::Settle(name, value, depth) => self.settle_at(tasks, micro, name, &value, depth),
+            Task::Enqueue(message) => {
+                self.queue.push(message)?;
+                Ok(())
+            }
+            Task::Inform(_, _) => Err(Fault::Unbuilt),
+        }
+    }
+
+    /// A name settles to a value that is no list: what waits at it, and at what settles with it, goes on, in the machine's order.
+    /// After a fault what was done up to there stands.
+    pub fn settle(&mut self, micro: &mut Micro, name: PromId, value: &Value) -> Result<(), Fault>
+        ensures { OnOk result (SettlesAsTheMachine self.old micro.old name value.now self.new micro.new) }
+    {
+        let mut tasks = Tasks::new(self.alloc);
+        tasks.push(Task::Settle(name, *value, self.count() + 2))?;
+        while let Some(task) = tasks.pop() {
+            self.perform(&mut tasks, micro, task)?;
+        }
+        Ok(())
+    }
+}

@@ -1,0 +1,33 @@
+use crate::{Message, Place, Refs};
+use ev_base::{MsgId, Seq, Str, TextId, Value, VatId};
+use ev_heap::Micro;
+use std::test::Fail;
+
+/// A message that is held at a promise goes on to the object to which that settles, and a promise that waits on it settles too.
+#[test]
+fn a_held_message_goes_on(rt: HostRuntime) -> Result<(), Fail> {
+    let alloc = rt.alloc();
+    let mut refs = Refs::new(alloc, VatId(0), TextId(0), TextId(1));
+    let mut micro = Micro::new(alloc, 0);
+    let promise = refs.learn(VatId(0))?;
+    let answer = refs.learn(VatId(0))?;
+    let message = Message {
+        id: MsgId(0),
+        target: Value::Prom(promise),
+        verb: Str::copy_of(alloc, "run")?,
+        args: Seq::new(alloc),
+        answer,
+    };
+    if promise.0 < refs.count() {
+        refs.hold(promise, message)?;
+    }
+    assert!(rt;
+        refs.resolve(&mut micro, answer, Value::Prom(promise))
+            .is_ok()
+    );
+    assert!(rt; refs.resolve(&mut micro, promise, Value::Int(7)).is_ok());
+    assert_eq!(rt; refs.deref(Value::Prom(answer)), Value::Int(7));
+    assert_eq!(rt; refs.place(Value::Int(7)), Place::Near);
+    assert_eq!(rt; micro.events.len(), 3);
+    Ok(())
+}
