@@ -5,3 +5,4 @@ pub mod Openings
 pub mod Same
 pub mod LinksStay
 pub mod States
+pub mod Exports
