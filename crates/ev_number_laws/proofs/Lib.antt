@@ -6,3 +6,4 @@ pub mod Same
 pub mod LinksStay
 pub mod States
 pub mod Exports
+pub mod OwnAsks

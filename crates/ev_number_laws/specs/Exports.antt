@@ -5,7 +5,7 @@ use Rattle.ev_machine.specs.State.{Note, Vat}
 use Rattle.ev_name_laws.specs.Names.{IsAmong}
 use Rattle.ev_name_laws.specs.Runs.{KnowsOnce}
 use Rattle.ev_renaming.specs.Stands.{StandsFor}
-use Rattle.ev_run.specs.World.{Script, Program, Entry, Link, World, Goes, link_at, begins, open_vat, open_from, step, steps_from}
+use Rattle.ev_run.specs.World.{Script, Program, Entry, Turn, Carry, CutLink, NoticeLink, Link, World, Goes, link_at, begins, open_vat, open_from, step, steps_from}
 use Rattle.ev_run.specs.Wire.{questions}
 use Rattle.ev_table_laws.specs.Exports.{exported_at}
 use Rattle.ev_table_laws.specs.Tables.{table_of}
@@ -32,3 +32,16 @@ PositionsStay = InEachStep (λ x y. (u : ℕ) → AsksForNothingTold x y u → K
 -- So what stands for a state by the exports before a step does so by those after it.
 abbrev pub StatesGoOn : Type 0
 StatesGoOn = InEachStep (λ x y. (u : ℕ) → AsksForNothingTold x y u → (r : Vat Name) (p : Vat Local) (t : Vat Name) → StandsFor u (table_across x u r) p t → StandsFor u (table_of y u r) p t)
+
+-- an entry that is a step of vat u, if it is one of any
+abbrev pub IsStepOf : Entry → ℕ → Type 0
+IsStepOf (Turn v) u = v ≡ u
+IsStepOf (Carry v t) u = t ≡ u
+IsStepOf (CutLink v t) u = ⊥
+IsStepOf (NoticeLink v t) u = v ≡ u
+
+-- By what is no step of it a vat asks for nothing.
+abbrev pub OnlyOwnStepsAsk : Type 0
+OnlyOwnStepsAsk = (script : Script)
+    → ((v : ℕ) (p : Program) (x y : World) → open_vat script v p x ≡ Goes y → (u : ℕ) → (v ≡ u → ⊥) → AsksForNothingTold x y u)
+    × ((e : Entry) (k : ℕ) (x y : World) → step script e k x ≡ Goes y → (u : ℕ) → (IsStepOf e u → ⊥) → AsksForNothingTold x y u)
