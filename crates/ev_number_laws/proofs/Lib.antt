@@ -5,3 +5,5 @@ pub mod Openings
 pub mod Same
 pub mod LinksStay
 pub mod States
+pub mod Exports
+pub mod OwnAsks

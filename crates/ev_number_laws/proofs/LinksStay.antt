@@ -1,6 +1,7 @@
 -- From each vat of a script there is a link to each other one, in every world of a run.
-use Rattle.std.proofs.Common.{◌≡◌, ℕ, ◌<◌, zero, false, List, ◌++◌, sym, subst, length, ◌==◌, arith}
+use Rattle.std.proofs.Common.{◌≡◌, ℕ, ◌<◌, zero, false, List, ◌++◌, sym, subst, length, ◌==◌, arith, Option, Some, refl}
 use Rattle.ev_run.specs.World as world
+use Rattle.ev_run.specs.Wire as wire
 use Rattle.ev_run.specs.World.{Script, Program, Entry, Link, World, Goes as Going}
 use Rattle.ev_name_laws.specs.Runs.{KnowsOnce}
 use Rattle.ev_answer_laws.proofs.LegRuns.{Before, stands_of}
@@ -13,17 +14,22 @@ use Rattle.ev_wire_laws.proofs.Sources.{push_all_lasts, take_lasts, severed_stay
 abbrev pub AllLinked : Script → World → Type 0
 AllLinked script w = (a b : ℕ) → (a == b) ≡ false → a < length script.vats → b < length script.vats → IsThere w.links a b
 
-lasting : (script : Script) (w y : World) (ls : List Link) → y.links ≡ ls → Lasts w.links ls → AllLinked script w → AllLinked script y
-lasting script w y ls e f h = λ a b o i j. subst (λ z. IsThere z a b) (sym e) (f a b (h a b o i j))
+pub roots_is : (m : Link) (o : Option Link) → o ≡ Some m → wire.roots_of o ≡ m.roots
+unfolding wire.roots_of
+roots_is m o e = rw (e, wire.roots_of) refl
+
+-- no move takes a link away
+pub lasts_of : (script : Script) (w y : World) → Moved script w y → Lasts w.links y.links
+lasts_of script w y (Still v l d) = subst (λ z. Lasts w.links z) (sym l) (λ a b t. t)
+lasts_of script w y (Severs c e v l d) = subst (λ z. Lasts w.links z) (sym l)
+    (λ a b t. with_link_lasts world.severed_link severed_stay e c (world.with_link world.severed_link c e w.links) a b (with_link_lasts world.severed_link severed_stay c e w.links a b t))
+lasts_of script w y (Drops c v n ns l at notes none vats links drawn) = subst (λ z. Lasts w.links z) (sym links) (take_lasts ns c v w.links)
+lasts_of script w y (Steps v s q t what alone d vats links drawn first fresh) = subst (λ z. Lasts w.links z) (sym links) (push_all_lasts v t.outbox w.links)
+lasts_of script w y (Arrives c v s t n ns l at cut notes d vats links drawn first fresh) = subst (λ z. Lasts w.links z) (sym links)
+    (λ a b i. push_all_lasts v t.outbox (world.with_link (world.with_notes ns) c v w.links) a b (take_lasts ns c v w.links a b i))
 
 links_on : (script : Script) (w y : World) → Before script w → Before script y → Moved script w y → AllLinked script w → AllLinked script y
-links_on script w y past next (Still v l d) h = lasting script w y w.links l (λ a b t. t) h
-links_on script w y past next (Severs c e v l d) h = lasting script w y (world.with_link world.severed_link e c (world.with_link world.severed_link c e w.links)) l
-    (λ a b t. with_link_lasts world.severed_link severed_stay e c (world.with_link world.severed_link c e w.links) a b (with_link_lasts world.severed_link severed_stay c e w.links a b t)) h
-links_on script w y past next (Drops c v n ns l at notes none vats links drawn) h = lasting script w y (world.with_link (world.with_notes ns) c v w.links) links (take_lasts ns c v w.links) h
-links_on script w y past next (Steps v s q t what alone d vats links drawn first fresh) h = lasting script w y (world.push_all v t.outbox w.links) links (push_all_lasts v t.outbox w.links) h
-links_on script w y past next (Arrives c v s t n ns l at cut notes d vats links drawn first fresh) h = lasting script w y (world.push_all v t.outbox (world.with_link (world.with_notes ns) c v w.links)) links
-    (λ a b i. push_all_lasts v t.outbox (world.with_link (world.with_notes ns) c v w.links) a b (take_lasts ns c v w.links a b i)) h
+links_on script w y past next m h = λ a b o i j. lasts_of script w y m a b (h a b o i j)
 
 linked_first : (script : Script) → AllLinked script (world.begins script)
 unfolding world.begins

@@ -4,7 +4,7 @@ use Rattle.std.specs.Prelude.{slice_get}
 use Rattle.std.proofs.lemmas.Bool.{eqb-true, eq-eqb}
 use Rattle.ev_machine.specs.Values.{Name, Root, Object, Promise, Answer, Gift, Sent, host_of, Obj, Prom, Far, Mess}
 use Rattle.ev_machine.specs.State.{Vat}
-use Rattle.ev_run.specs.World.{Script, Link, World, link_at, has_name, readied}
+use Rattle.ev_run.specs.World.{Script, World, link_at, has_name, readied}
 use Rattle.ev_run.specs.Wire as wire
 use Rattle.ev_name_laws.specs.Names.{AllOf, IsAmong, IsKnownIn, IsEventual, IsMessageName, IsMessageMade, names_in}
 use Rattle.ev_name_laws.proofs.Facts.{all_map}
@@ -28,7 +28,7 @@ use Rattle.ev_number_laws.specs.States.{number_of, in_numbers, EachStateHasNumbe
 use Rattle.ev_number_laws.proofs.Entries.{entries_stand}
 use Rattle.ev_number_laws.proofs.Openings.{openings_stand}
 use Rattle.ev_number_laws.proofs.Same.{all_same, vat_same}
-use Rattle.ev_number_laws.proofs.LinksStay.{AllLinked, opened_linked, stepped_linked}
+use Rattle.ev_number_laws.proofs.LinksStay.{roots_is, AllLinked, opened_linked, stepped_linked}
 
 true_false : (b : Bool) → b ≡ true → b ≡ false → ⊥
 true_false b e f = cc
@@ -36,10 +36,6 @@ true_false b e f = cc
 on_bool : {C : Type 0} (b : Bool) → (b ≡ true → C) → (b ≡ false → C) → C
 on_bool true f g = f refl
 on_bool false f g = g refl
-
-roots_is : (m : Link) (o : Option Link) → o ≡ Some m → wire.roots_of o ≡ m.roots
-unfolding wire.roots_of
-roots_is m o e = rw (e, wire.roots_of) refl
 
 all_self : {A : Type 0} (xs : List A) → AllOf (λ n. IsAmong n xs) xs
 all_self [] = tt

@@ -5,6 +5,7 @@
 
 ghost use Rattle.ev_number_laws.specs.Notes.{EveryNoteIsReadAlike, EveryPositionIsKeptAlike, EveryArrivalStands};
 ghost use Rattle.ev_number_laws.specs.Steps.{EntriesByNumbersStand, OpeningTurnsByNumbersStand};
+ghost use Rattle.ev_number_laws.specs.Exports.{PositionsStay, StatesGoOn, OnlyOwnStepsAsk};
 ghost use Rattle.ev_number_laws.specs.States.{EachStateHasNumbers, EntriesAreTakenInNumbers, OpeningTurnsAreTakenInNumbers};
 
 /// The note that stands first on a link that is not cut is read alike: its receiver reads the frame by its
@@ -56,4 +57,21 @@ pub fn entries_are_taken_in_numbers()
 /// And so it takes its opening turn.
 pub fn opening_turns_are_taken_in_numbers()
     ensures { OpeningTurnsAreTakenInNumbers }
+{}
+
+/// What others exported to a vat has the same positions after a step, where the vat asks none of them in
+/// that step for what that one told it before. This asks nothing of notices.
+pub fn positions_stay()
+    ensures { PositionsStay }
+{}
+
+/// Then what stands for a state of the vat by the exports before the step does so by those after it.
+pub fn states_go_on()
+    ensures { StatesGoOn }
+{}
+
+/// By what is no step of it a vat asks for nothing, whatever the script: so the steps of others move no
+/// position for it.
+pub fn only_own_steps_ask()
+    ensures { OnlyOwnStepsAsk }
 {}
