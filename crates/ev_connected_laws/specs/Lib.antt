@@ -1,0 +1,4 @@
+pub mod Known
+pub mod Connected
+pub mod Rows
+pub mod Laws

@@ -1,0 +1,30 @@
+//! What an activation knows, and which histories use no more than what is known.
+
+ghost use Rattle.ev_connected_laws.specs.Laws.{HandedIsConnected, KeptIsNotConnected, KnownIsLeast, KnownStays, ProgramIsConnected};
+
+/// What an activation knows is the least that initial conditions, endowment, parenthood and
+/// introduction give it: what holds of all that these give holds of all that it knows.
+pub fn known_is_least()
+    ensures { KnownIsLeast }
+{}
+
+/// What an activation knows it knows after any further lines.
+pub fn known_stays()
+    ensures { KnownStays }
+{}
+
+/// An activation that sends on what it was handed as an argument is connected.
+pub fn handed_is_connected()
+    ensures { HandedIsConnected }
+{}
+
+/// An activation that sends on what its caller has, and did not hand to it, is not.
+pub fn kept_is_not_connected()
+    ensures { KeptIsNotConnected }
+{}
+
+/// The opening turn of a small program is connected, in which an object uses a capture, an argument
+/// and what a call gave back.
+pub fn program_is_connected()
+    ensures { ProgramIsConnected }
+{}
