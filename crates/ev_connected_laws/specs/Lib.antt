@@ -1,4 +1,5 @@
 pub mod Known
 pub mod Connected
+pub mod Nesting
 pub mod Rows
 pub mod Laws

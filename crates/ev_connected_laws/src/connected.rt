@@ -1,5 +1,6 @@
 //! What an activation knows, and which histories use no more than what is known.
 
+ghost use Rattle.ev_connected_laws.specs.Nesting.{CallsNest};
 ghost use Rattle.ev_connected_laws.specs.Laws.{HandedIsConnected, KeptIsNotConnected, KnownIsLeast, KnownStays, ProgramIsConnected};
 
 /// What an activation knows is the least that initial conditions, endowment, parenthood and
@@ -27,4 +28,10 @@ pub fn kept_is_not_connected()
 /// and what a call gave back.
 pub fn program_is_connected()
     ensures { ProgramIsConnected }
+{}
+
+/// In every step the calls nest: a line that tells how a call ended ends the innermost call that is
+/// open, and that activation made it. A step that does not stop leaves none open.
+pub fn calls_nest()
+    ensures { CallsNest }
 {}
