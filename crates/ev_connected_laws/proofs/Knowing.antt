@@ -1,7 +1,7 @@
 -- What is known is the least, and stays known.
 use Rattle.std.proofs.Common.{◌≡◌, ℕ, List, [], ◌∷◌, ◌++◌, refl, inl, inr}
 use Rattle.ev_machine.specs.Values.{Value, Ref, Naming}
-use Rattle.ev_machine.specs.State.{Happened}
+use Rattle.ev_machine.specs.State.{Known, Happened}
 use Rattle.ev_connected_laws.specs.Known.{Item, IsAmong, Holdings, Leads, settled, viewed, settles, views, Reaches, itself, onward, IsThing, Runs, called, took, Knows, plain, initial, endowed, told, member, followed, guard}
 use Rattle.ev_connected_laws.specs.Laws.{IsClosed}
 
@@ -9,6 +9,20 @@ pub among_more : {A : Type 0} (x : A) (xs ys : List A) → IsAmong x xs → IsAm
 among_more x [] ys i = absurd i
 among_more x (z ∷ xs) ys (inl e) = inl e
 among_more x (z ∷ xs) ys (inr i) = inr (among_more x xs ys i)
+
+module _ {N W : Type 0} (K : Naming N W) (before : List (Known N)) where
+  pub leads_more : (so more : List (Happened N)) (x y : Value N) → Leads K before so x y → Leads K before (so ++ more) x y
+  leads_more so more x y (settled e) = settled e
+  leads_more so more x y (viewed e) = viewed e
+  leads_more so more x y (settles p i o) = settles p (among_more _ so more i) o
+  leads_more so more x y (views p i o) = views p (among_more _ so more i) o
+
+  pub reaches_more : (so more : List (Happened N)) (x y : Value N) → Reaches K before so x y → Reaches K before (so ++ more) x y
+  reaches_more so more x y itself = itself
+  reaches_more so more x z (onward y l r) = onward y (leads_more so more x y l) (reaches_more so more y z r)
+
+  pub thing_more : (so more : List (Happened N)) (x : Value N) (i : ℕ) → IsThing K before so x i → IsThing K before (so ++ more) x i
+  thing_more so more x i t = (t.0, reaches_more so more x (Ref t.0) t.1, t.2)
 
 module _ {N W : Type 0} (K : Naming N W) (h : Holdings N) where
   pub least : (so : List (Happened N)) (P : ℕ → Item N → Type 0) → IsClosed K h so P → (a : ℕ) (i : Item N) → Knows K h so a i → P a i
@@ -20,22 +34,9 @@ module _ {N W : Type 0} (K : Naming N W) (h : Holdings N) where
   least so P c a i (followed {y = y} x g l) = c.followed a x y (least so P c a _ g) l
   least so P c a i (guard k cell g e) = c.guard a k cell (least so P c a _ g) e
 
-  pub leads_more : (so more : List (Happened N)) (x y : Value N) → Leads K h so x y → Leads K h (so ++ more) x y
-  leads_more so more x y (settled e) = settled e
-  leads_more so more x y (viewed e) = viewed e
-  leads_more so more x y (settles p i o) = settles p (among_more _ so more i) o
-  leads_more so more x y (views p i o) = views p (among_more _ so more i) o
-
-  pub reaches_more : (so more : List (Happened N)) (x y : Value N) → Reaches K h so x y → Reaches K h (so ++ more) x y
-  reaches_more so more x y itself = itself
-  reaches_more so more x z (onward y l r) = onward y (leads_more so more x y l) (reaches_more so more y z r)
-
-  pub thing_more : (so more : List (Happened N)) (x : Value N) (i : ℕ) → IsThing K h so x i → IsThing K h (so ++ more) x i
-  thing_more so more x i t = (t.0, reaches_more so more x (Ref t.0) t.1, t.2)
-
   pub runs_more : (so more : List (Happened N)) (a k : ℕ) → Runs K h so a k → Runs K h (so ++ more) a k
-  runs_more so more b k (called a x verb args i t) = called a x verb args (among_more _ so more i) (thing_more so more x k t)
-  runs_more so more a k (took m i t) = took m (among_more _ so more i) (thing_more so more m.target k t)
+  runs_more so more b k (called a x verb args i t) = called a x verb args (among_more _ so more i) (thing_more K h.before so more x k t)
+  runs_more so more a k (took m i t) = took m (among_more _ so more i) (thing_more K h.before so more m.target k t)
 
   pub knows_more : (so more : List (Happened N)) (a : ℕ) (i : Item N) → Knows K h so a i → Knows K h (so ++ more) a i
   knows_more so more a i (plain e) = plain e
@@ -43,5 +44,5 @@ module _ {N W : Type 0} (K : Naming N W) (h : Holdings N) where
   knows_more so more a i (endowed k node caught stamps r e m) = endowed k node caught stamps (runs_more so more a k r) e m
   knows_more so more a i (told e m t) = told e (among_more e so more m) t
   knows_more so more a i (member k vs g e m) = member k vs (knows_more so more a _ g) e m
-  knows_more so more a i (followed x g l) = followed x (knows_more so more a _ g) (leads_more so more _ _ l)
+  knows_more so more a i (followed x g l) = followed x (knows_more so more a _ g) (leads_more K h.before so more _ _ l)
   knows_more so more a i (guard k c g e) = guard k c (knows_more so more a _ g) e

@@ -5,3 +5,8 @@ pub mod RefsNests
 pub mod ArriveNests
 pub mod EvalNests
 pub mod StepNests
+pub mod Traces
+pub mod RefsTraces
+pub mod ArriveTraces
+pub mod EvalTraces
+pub mod StepTraces

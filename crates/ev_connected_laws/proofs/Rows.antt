@@ -58,7 +58,7 @@ module _ (word : ℕ → ℕ) where
   poor_told a e i (inr (inl x)) t f = absurd (subst (λ e. IsAmong (a, i) (tells e)) x t)
   poor_told a e i (inr (inr x)) t f = absurd x
 
-  poor_follows : (a : ℕ) (x y : Value Name) → Poor a (AValue x) → Leads (naming word 0) one_object seen x y → Poor a (AValue y)
+  poor_follows : (a : ℕ) (x y : Value Name) → Poor a (AValue x) → Leads (naming word 0) one_object.before seen x y → Poor a (AValue y)
   poor_follows a x y p (settled e) f = absurd (p f)
   poor_follows a x y p (viewed e) f = absurd (p f)
   poor_follows a x y p (settles q i o) f = absurd (p f)

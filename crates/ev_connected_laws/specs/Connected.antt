@@ -69,13 +69,13 @@ module _ {N W : Type 0} (K : Naming N W) (h : Holdings N) where
   pub data Judges (so : List (Happened N)) : ℕ → ℕ → Type 0 where
     evaluates : {a i : ℕ} (n : N) (front rest : List (Happened N)) → so ≡ front ++ AuditionMade a n ∷ rest → K.spot n ≡ Own i → served (open_from [] front) ≡ None → Judges so a i
     asks : {a i : ℕ} (b j : ℕ) (x : Value N) (n : N) (front rest : List (Happened N)) → so ≡ front ++ AuditionMade b n ∷ rest → K.spot n ≡ Own i
-        → served (open_from [] front) ≡ Some x → IsThing K h so x j → Judges so a j → Judges so a i
+        → served (open_from [] front) ≡ Some x → IsThing K h.before so x j → Judges so a j → Judges so a i
 
   -- Of what gives a value back: an activation gives what it knows. Data gives what its caller knows anyhow, such as its members or lists that the caller makes of them.
   -- An audition gives that, or what is known to the activation that evaluates the object which is judged.
   abbrev pub GivenBack : List (Happened N) → ℕ → Value N → Option ℕ → Value N → Type 0
   GivenBack so a x (Some b) v = Knows K h so b (AValue v)
-  GivenBack so a x None v = Knows K h so a (AValue v) ⊎ ((b i : ℕ) × IsThing K h so x i × Judges so b i × Knows K h so b (AValue v))
+  GivenBack so a x None v = Knows K h so a (AValue v) ⊎ ((b i : ℕ) × IsThing K h.before so x i × Judges so b i × Knows K h so b (AValue v))
 
   abbrev pub BackWell : List (Happened N) → ℕ → Value N → List (Open N) → Type 0
   BackWell so a v [] = ⊥
@@ -84,7 +84,7 @@ module _ {N W : Type 0} (K : Naming N W) (h : Holdings N) where
   -- an activation gets what was handed to an ejector that it made
   abbrev pub GotWell : List (Happened N) → ℕ → Value N → Type 0
   GotWell so a v = (b i : ℕ) × (x : Value N) × (verb : Words) × (args : List (Value N)) × (j : N)
-      × IsAmong (Called b x verb args None) so × IsThing K h so x i × IsAmong (EjectorMade a j) so × (K.spot j ≡ Own i) × IsAmong v (Null ∷ args)
+      × IsAmong (Called b x verb args None) so × IsThing K h.before so x i × IsAmong (EjectorMade a j) so × (K.spot j ≡ Own i) × IsAmong v (Null ∷ args)
 
   -- what is said of single kinds of lines besides what they use
   abbrev pub ComesWell : List (Happened N) → Happened N → Type 0

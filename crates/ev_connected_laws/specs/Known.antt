@@ -81,15 +81,16 @@ tells (Sends a m) = by a (AValue (Ref m.answer) ∷ [])
 tells (Reacts a x o m) = by a (AValue (Ref m.answer) ∷ [])
 tells _ = []
 
-module _ {N W : Type 0} (K : Naming N W) (h : Holdings N) where
+-- before is what was known of names before the step
+module _ {N W : Type 0} (K : Naming N W) (before : List (Known N)) where
   -- two names of one entry among the names known
   abbrev pub AreOne : N → N → Type 0
   AreOne p n = (m : N) × (K.same m p ≡ true) × (K.same m n ≡ true)
 
   -- after these lines, a value is followed to that in one step: the name settled to it, or has it as its view
   pub data Leads (so : List (Happened N)) : Value N → Value N → Type 0 where
-    settled : {n : N} {y : Value N} → standing_of K h.before n ≡ Settled y → Leads so (Ref n) y
-    viewed : {n q : N} → standing_of K h.before n ≡ Viewed q → Leads so (Ref n) (Ref q)
+    settled : {n : N} {y : Value N} → standing_of K before n ≡ Settled y → Leads so (Ref n) y
+    viewed : {n q : N} → standing_of K before n ≡ Viewed q → Leads so (Ref n) (Ref q)
     settles : {n : N} {y : Value N} (p : N) → IsAmong (Settles p y) so → AreOne p n → Leads so (Ref n) y
     views : {n q : N} (p : N) → IsAmong (Views p q) so → AreOne p n → Leads so (Ref n) (Ref q)
 
@@ -102,10 +103,11 @@ module _ {N W : Type 0} (K : Naming N W) (h : Holdings N) where
   abbrev pub IsThing : List (Happened N) → Value N → ℕ → Type 0
   IsThing so x i = (n : N) × Reaches so x (Ref n) × (K.spot n ≡ Own i)
 
+module _ {N W : Type 0} (K : Naming N W) (h : Holdings N) where
   -- an activation runs the code of that object: a call on it began the activation, or it took a message
   pub data Runs (so : List (Happened N)) : ℕ → ℕ → Type 0 where
-    called : {b i : ℕ} (a : ℕ) (x : Value N) (verb : Words) (args : List (Value N)) → IsAmong (Called a x verb args (Some b)) so → IsThing so x i → Runs so b i
-    took : {a i : ℕ} (m : Message N) → IsAmong (Took a m) so → IsThing so m.target i → Runs so a i
+    called : {b i : ℕ} (a : ℕ) (x : Value N) (verb : Words) (args : List (Value N)) → IsAmong (Called a x verb args (Some b)) so → IsThing K h.before so x i → Runs so b i
+    took : {a i : ℕ} (m : Message N) → IsAmong (Took a m) so → IsThing K h.before so m.target i → Runs so a i
 
   -- After these lines the activation of that number knows the item.
   pub data Knows (so : List (Happened N)) : ℕ → Item N → Type 0 where
@@ -121,7 +123,7 @@ module _ {N W : Type 0} (K : Naming N W) (h : Holdings N) where
     -- a member of a list that it knows
     member : {a : ℕ} {v : Value N} (k : ℕ) (vs : List (Value N)) → Knows so a (AValue (Items k)) → slice_get h.lists k ≡ Some vs → IsAmong v vs → Knows so a (AValue v)
     -- what its vat followed a known name to
-    followed : {a : ℕ} {y : Value N} (x : Value N) → Knows so a (AValue x) → Leads so x y → Knows so a (AValue y)
+    followed : {a : ℕ} {y : Value N} (x : Value N) → Knows so a (AValue x) → Leads K h.before so x y → Knows so a (AValue y)
     -- the guard of a slot that it knows
     guard : {a : ℕ} (k : ℕ) (c : Cell N) → Knows so a (ASlot k) → slice_get h.slots k ≡ Some c → Knows so a (AValue c.guard)
 

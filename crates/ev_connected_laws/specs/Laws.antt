@@ -15,7 +15,7 @@ pub record IsClosed {N W : Type 0} (K : Naming N W) (h : Holdings N) (so : List 
       → Runs K h so a k → slice_get h.things k ≡ Some (Made node caught stamps) → IsAmong i (parts_of_all (map (λ b. b.bound) caught)) → P a i
   pub told : (a : ℕ) (e : Happened N) (i : Item N) → IsAmong e so → IsAmong (a, i) (tells e) → P a i
   pub member : (a k : ℕ) (v : Value N) (vs : List (Value N)) → P a (AValue (Items k)) → slice_get h.lists k ≡ Some vs → IsAmong v vs → P a (AValue v)
-  pub followed : (a : ℕ) (x y : Value N) → P a (AValue x) → Leads K h so x y → P a (AValue y)
+  pub followed : (a : ℕ) (x y : Value N) → P a (AValue x) → Leads K h.before so x y → P a (AValue y)
   pub guard : (a k : ℕ) (c : Cell N) → P a (ASlot k) → slice_get h.slots k ≡ Some c → P a (AValue c.guard)
 
 -- what an activation knows is the least that these ways give: whatever holds of all that they give holds of all that is known

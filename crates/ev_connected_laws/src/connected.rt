@@ -1,5 +1,6 @@
 //! What an activation knows, and which histories use no more than what is known.
 
+ghost use Rattle.ev_connected_laws.specs.Following.{FollowingIsTold};
 ghost use Rattle.ev_connected_laws.specs.Nesting.{CallsNest};
 ghost use Rattle.ev_connected_laws.specs.Laws.{HandedIsConnected, KeptIsNotConnected, KnownIsLeast, KnownStays, ProgramIsConnected};
 
@@ -34,4 +35,10 @@ pub fn program_is_connected()
 /// open, and that activation made it. A step that does not stop leaves none open.
 pub fn calls_nest()
     ensures { CallsNest }
+{}
+
+/// After every step, what the vat follows a value to is what the step's lines lead it to, beside
+/// what had settled before the step, or is broken.
+pub fn following_is_told()
+    ensures { FollowingIsTold }
 {}
