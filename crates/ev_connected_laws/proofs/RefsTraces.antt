@@ -1,7 +1,7 @@
 -- What a vat does with references keeps each standing told.
 use Rattle.std.proofs.Common.{ℕ, zero, suc, true, false, List, [], ◌∷◌, Option, Some, None}
 use Rattle.ev_machine.specs.Values.{Words, Value, Prim, Naming}
-use Rattle.ev_machine.specs.State.{Message, Standing, Settled, Known, Passed, Passeds, Plain, AGift, Many, NoMore, More, Vat, Act}
+use Rattle.ev_machine.specs.State.{Message, Standing, Settled, Known, Passed, Passeds, Plain, AGift, Many, NoMore, More, Act}
 use Rattle.ev_machine.specs.Refs as refs
 use Rattle.ev_machine.specs.Refs.{Place, Near, Mine, Away, Gone}
 use Rattle.ev_connected_laws.proofs.Traces.{Traces, traces, traces_bind, traces_then, traces_each, traces_look, traces_give}

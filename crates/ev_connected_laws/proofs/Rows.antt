@@ -1,10 +1,10 @@
 -- The rows.
-use Rattle.std.proofs.Common.{◌≡◌, ℕ, zero, suc, List, [], ◌∷◌, ◌++◌, Option, Some, None, refl, sym, subst, ◌∙◌, inl, inr, map, ap, ◌⊎◌}
+use Rattle.std.proofs.Common.{◌≡◌, ℕ, zero, suc, List, [], ◌∷◌, Option, Some, refl, sym, subst, ◌∙◌, inl, inr, map, ap, ◌⊎◌}
 use Rattle.std.specs.Prelude.{slice_get, codes}
-use Rattle.ev_machine.specs.Values.{Value, Items, Ref, Name, Root, Object, Naming, naming}
+use Rattle.ev_machine.specs.Values.{Value, Ref, Name, Root, Object, naming}
 use Rattle.ev_machine.specs.State.{Binding, Cell, Thing, Made, Happened, Took, Called}
 use Rattle.ev_machine.specs.Values.{Null}
-use Rattle.ev_connected_laws.specs.Known.{Item, AValue, ASlot, IsAmong, Holdings, IsPlain, parts_of, parts_of_all, tells, by, values, data_of, Leads, settled, viewed, settles, views, Runs, called, itself, Knows, plain, endowed, told, opened_known}
+use Rattle.ev_connected_laws.specs.Known.{Item, AValue, ASlot, IsAmong, IsPlain, parts_of_all, tells, Leads, settled, viewed, settles, views, called, itself, Knows, plain, endowed, told, opened_known}
 use Rattle.ev_machine.specs.Eval.{opened_eval}
 use Rattle.ev_machine_laws.specs.Steps.{Opens, does}
 use Rattle.ev_connected_laws.specs.Connected.{Connected, StepConnected, given_to, held_from, opened_connected}
@@ -42,8 +42,11 @@ no_capture (suc k) node caught stamps e = ap caught_of e
 abbrev Had : Type 0
 Had = ℕ × Item Name
 
+zero_one : zero ≡ 1 → ⊥
+zero_one e = cc
+
 other : (a : ℕ) (i : Item Name) (x y : Had) → x ≡ y → x.0 ≡ a → y.0 ≡ 0 → a ≡ 1 → PlainItem i
-other a i x y e g h f = let zero_one : 0 ≡ 1 = sym h ∙ sym (ap (λ (z : Had). z.0) e) ∙ g ∙ f in cc
+other a i x y e g h f = absurd (zero_one (sym h ∙ sym (ap (λ (z : Had). z.0) e) ∙ g ∙ f))
 
 module _ (word : ℕ → ℕ) where
   poor_told : (a : ℕ) (e : Happened Name) (i : Item Name) → IsAmong e seen → IsAmong (a, i) (tells e) → Poor a i

@@ -1,5 +1,5 @@
 -- The calls of every step nest.
-use Rattle.std.proofs.Common.{◌≡◌, ℕ, List, [], Some, refl, ap, ◌∙◌}
+use Rattle.std.proofs.Common.{◌≡◌, [], Some, ap, ◌∙◌}
 use Rattle.ev_machine.specs.Values.{Naming}
 use Rattle.ev_machine.specs.State.{Vat, Done, Gives, Throws, Ejects, Stops}
 use Rattle.ev_machine_laws.specs.Steps.{Step, Opens, Takes, Receives, Notices, does}

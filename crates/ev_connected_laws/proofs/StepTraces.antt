@@ -1,11 +1,11 @@
 -- In every step, what a value is followed to is told.
-use Rattle.std.proofs.Common.{◌≡◌, ℕ, zero, suc, Bool, true, false, List, [], ◌∷◌, refl, inl, inr, ◌⊎◌, length}
+use Rattle.std.proofs.Common.{◌≡◌, ℕ, zero, suc, Bool, true, false, List, refl, inl, inr, ◌⊎◌, length}
 use Rattle.std.specs.Prelude.{codes}
 use Rattle.ev_machine.specs.Values.{Value, Null, Flag, Number, Letter, Text, Prim, Broken, Items, Ref, Naming, Spot, Own, Foreign, NoObject}
 use Rattle.ev_machine.specs.State.{Standing, Unsettled, WaitsOn, Viewed, Settled, Known, Happened, Vat, Done, Gives, Throws, Ejects, Stops, is_in}
 use Rattle.ev_machine.specs.Refs.{standing_of, led, follow_at, severed_by, severed_at, severed, follow, host_at}
 use Rattle.ev_machine_laws.specs.Steps.{Step, Opens, Takes, Receives, Notices, does, After}
-use Rattle.ev_connected_laws.specs.Known.{IsPlain, Leads, settled, viewed, Reaches, itself, onward}
+use Rattle.ev_connected_laws.specs.Known.{IsPlain, settled, viewed, Reaches, itself, onward}
 use Rattle.ev_connected_laws.specs.Following.{FollowsTold, StepsFollow}
 use Rattle.ev_connected_laws.proofs.Traces.{IsTold, AllTold, Told, Ends, Traces}
 use Rattle.ev_connected_laws.proofs.EvalTraces.{traces_opening, traces_taking}

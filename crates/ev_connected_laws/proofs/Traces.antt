@@ -1,11 +1,11 @@
 -- Each standing of a known name is told: a name that settled or is viewed did so before the step, or a line tells it. All that a vat does keeps that.
-use Rattle.std.proofs.Common.{◌≡◌, ℕ, suc, ◌-◌, Bool, true, false, List, [], ◌∷◌, ◌++◌, Option, Some, None, if◌then◌else◌, length, refl, sym, ap, ◌∙◌, inl, inr}
+use Rattle.std.proofs.Common.{◌≡◌, ℕ, Bool, true, false, List, [], ◌∷◌, ◌++◌, Option, Some, None, if◌then◌else◌, refl, sym, ap, ◌∙◌, inl, inr}
 use Rattle.std.specs.Prelude.{nat_le}
 use Rattle.ev_machine.specs.Values.{Words, Value, Ref, Naming, Coming, Mailing}
 use Rattle.ev_machine.specs.State.{Thing, Message, Standing, Unsettled, WaitsOn, Viewed, Settled, Known, Happened, Settles, Views, Vat, Stop, Done, Gives, Throws, Ejects, Stops, Act, ◌>>=◌, ◌>>◌, and_then, for_some, end_by, ending, each, give, throw, stop, eject, look, tell, spend, spent, new_activation, new_thing, kill, new_slot, write_slot, new_list, enqueue, Change, Hold, Wait, WaitOn, See, React, ToTell, Settle, Note, send_out, new_gift, open_gift, mark, draws, unless_settled, changed_to, changed, with_change, alter, come, mail, new_promise, new_message, draw, begun}
 use Rattle.ev_machine.specs.Refs.{standing_in, entry_of, standing_of}
-use Rattle.ev_connected_laws.specs.Known.{IsAmong, AreOne, Leads, settles, views}
-use Rattle.ev_connected_laws.proofs.Knowing.{among_more, leads_more}
+use Rattle.ev_connected_laws.specs.Known.{IsAmong, Leads, settles, views}
+use Rattle.ev_connected_laws.proofs.Knowing.{leads_more}
 
 pub among_last : {A : Type 0} (xs : List A) (x : A) → IsAmong x (xs ++ x ∷ [])
 among_last [] x = inl refl
@@ -215,13 +215,17 @@ module _ {N W : Type 0} (K : Naming N W) (before : List (Known N)) where
 
   pub traces_settled : {B : Type 0} (p : N) (y : Value N) (m : Act N B) → Traces m → Traces (tell (Settles p y) >> (alter K (Settle y) p >> m))
   unfolding tell ◌>>◌ and_then changed_to
-  traces_settled p y m h = record { after = λ s g. bind_after (alter K (Settle y) p (with_line s (Settles p y))) (λ _. m)
-      (altered (with_line s (Settles p y)) p (Settle y) (λ n k e f i. settles p (among_last s.happened (Settles p y)) (k.name, e, f)) ((traces_tell (Settles p y)).after s g)) (λ _. h) }
+  traces_settled p y m h = record {
+    after = λ s g. bind_after (alter K (Settle y) p (with_line s (Settles p y))) (λ _. m)
+        (altered (with_line s (Settles p y)) p (Settle y) (λ n k e f i. settles p (among_last s.happened (Settles p y)) (k.name, e, f)) ((traces_tell (Settles p y)).after s g)) (λ _. h);
+  }
 
   pub traces_viewed : {B : Type 0} (p q : N) (m : Act N B) → Traces m → Traces (tell (Views p q) >> (alter K (See q) p >> m))
   unfolding tell ◌>>◌ and_then changed_to
-  traces_viewed p q m h = record { after = λ s g. bind_after (alter K (See q) p (with_line s (Views p q))) (λ _. m)
-      (altered (with_line s (Views p q)) p (See q) (λ n k e f i. views p (among_last s.happened (Views p q)) (k.name, e, f)) ((traces_tell (Views p q)).after s g)) (λ _. h) }
+  traces_viewed p q m h = record {
+    after = λ s g. bind_after (alter K (See q) p (with_line s (Views p q))) (λ _. m)
+        (altered (with_line s (Views p q)) p (See q) (λ n k e f i. views p (among_last s.happened (Views p q)) (k.name, e, f)) ((traces_tell (Views p q)).after s g)) (λ _. h);
+  }
 
   -- ---- the other changes
 

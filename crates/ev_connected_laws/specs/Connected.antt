@@ -1,9 +1,9 @@
 -- When the history of a step is connected: an activation uses only what it knows, and gives back only what it knows.
 use Rattle.std.specs.Prelude.{◌≡◌, ℕ, List, [], ◌∷◌, ◌++◌, Option, Some, None, map, slice_get, ◌⊎◌}
 use Rattle.ev_machine.specs.Values.{Words, Value, Null, Ref, Naming, Own}
-use Rattle.ev_machine.specs.State.{Cell, Binding, Message, Vat, Done, Gives, Throws, Ejects, Stops, Happened, Took, Called, Back, Thrown, Left, Got, SlotMade, SlotRead, SlotWrote, ListMade, EjectorMade, AuditionMade, ObjectMade, Sends, Reacts, Finished}
+use Rattle.ev_machine.specs.State.{Cell, Vat, Happened, Called, Back, Thrown, Left, Got, SlotMade, SlotRead, SlotWrote, ListMade, EjectorMade, AuditionMade, ObjectMade, Sends, Reacts, Finished}
 use Rattle.ev_machine_laws.specs.Steps.{Step, Opens, Takes, Receives, Notices, does, After}
-use Rattle.ev_connected_laws.specs.Known.{Item, AValue, ASlot, IsAmong, AllOf, Holdings, parts_of, parts_of_all, by, values, IsThing, Knows, opened_known}
+use Rattle.ev_connected_laws.specs.Known.{Item, AValue, ASlot, IsAmong, AllOf, Holdings, parts_of_all, by, values, IsThing, Knows, opened_known}
 
 -- ---- what a line uses
 
@@ -91,7 +91,7 @@ module _ {N W : Type 0} (K : Naming N W) (h : Holdings N) where
   ComesWell so (Back a v) = BackWell so a v (open_from [] so)
   ComesWell so (Got a v) = GotWell so a v
   -- the guard of a slot is known to who makes it
-  ComesWell so (SlotMade a k v) = (c : Cell N) → slice_get h.slots k ≡ Some c → Knows K h so a (AValue c.guard)
+  ComesWell so (SlotMade a k v) = (c : Cell N) × (slice_get h.slots k ≡ Some c) × Knows K h so a (AValue c.guard)
   ComesWell so _ = Unit {0}
 
   -- a line, after these

@@ -1,5 +1,5 @@
 -- What a vat follows a value to, its lines tell: by what settled before the step, and by what settled or came to be viewed in the lines so far.
-use Rattle.std.specs.Prelude.{◌≡◌, ℕ, List, [], ◌⊎◌}
+use Rattle.std.specs.Prelude.{ℕ, List, ◌⊎◌}
 use Rattle.ev_machine.specs.Values.{Value, Name, Naming, naming, numbering}
 use Rattle.ev_machine.specs.State.{Known, Vat}
 use Rattle.ev_machine.specs.Refs.{follow}

@@ -1,7 +1,7 @@
 -- What an activation knows at a moment of a step of its vat: the least that initial conditions, endowment, parenthood and introduction give it.
-use Rattle.std.specs.Prelude.{◌≡◌, ℕ, Bool, true, List, [], ◌∷◌, ◌++◌, Option, Some, None, map, slice_get, ◌⊎◌}
+use Rattle.std.specs.Prelude.{◌≡◌, ℕ, true, List, [], ◌∷◌, ◌++◌, Some, map, slice_get, ◌⊎◌}
 use Rattle.ev_machine.specs.Values.{Words, Value, Null, Flag, Number, Letter, Text, Prim, Broken, Items, Ref, Naming, Own}
-use Rattle.ev_machine.specs.State.{Bound, Fixed, Slot, Binding, Cell, Thing, Made, Message, Standing, Viewed, Settled, Known, Vat, Happened, Took, Called, Back, Thrown, Left, Got, SlotMade, SlotRead, SlotWrote, ListMade, ListCame, EjectorMade, AuditionMade, PromiseMade, ObjectMade, Sends, Reacts, Finished, Threw, Settles, Waits, Views, Lost, Posted}
+use Rattle.ev_machine.specs.State.{Bound, Fixed, Slot, Binding, Cell, Thing, Made, Message, Viewed, Settled, Known, Happened, Took, Called, Back, Got, SlotMade, SlotRead, ListMade, EjectorMade, AuditionMade, PromiseMade, ObjectMade, Sends, Reacts, Settles, Views}
 use Rattle.ev_machine.specs.Refs.{standing_of}
 
 -- what may be known: a value, or a var slot

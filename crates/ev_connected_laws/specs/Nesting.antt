@@ -1,5 +1,5 @@
 -- How the calls of a step nest: a line that ends a call ends the innermost one that is open, and tells of the activation that made it.
-use Rattle.std.specs.Prelude.{◌≡◌, ℕ, Bool, true, false, List, [], ◌∷◌, Option, Some, None, ◌==◌}
+use Rattle.std.specs.Prelude.{◌≡◌, ℕ, true, false, List, [], ◌∷◌, Option, Some, None, ◌==◌}
 use Rattle.ev_machine.specs.Values.{Name, Naming, naming, numbering}
 use Rattle.ev_machine.specs.State.{Vat, Done, Gives, Throws, Ejects, Stops, Happened, Called, Back, Thrown, Left}
 use Rattle.ev_machine_laws.specs.Steps.{Step, does}

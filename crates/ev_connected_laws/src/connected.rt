@@ -10,7 +10,8 @@ pub fn known_is_least()
     ensures { KnownIsLeast }
 {}
 
-/// What an activation knows it knows after any further lines.
+/// What an activation knows it knows after any further lines, and in any later state, in which
+/// objects keep their captures, lists their members and slots their guards.
 pub fn known_stays()
     ensures { KnownStays }
 {}
