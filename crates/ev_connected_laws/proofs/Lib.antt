@@ -1,5 +1,6 @@
 pub mod Knowing
 pub mod Rows
+pub mod Natives
 pub mod Nests
 pub mod RefsNests
 pub mod ArriveNests

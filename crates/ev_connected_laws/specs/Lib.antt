@@ -1,5 +1,6 @@
 pub mod Known
 pub mod Connected
+pub mod Natives
 pub mod Nesting
 pub mod Following
 pub mod Rows

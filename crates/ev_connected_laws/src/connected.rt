@@ -1,6 +1,7 @@
 //! What an activation knows, and which histories use no more than what is known.
 
 ghost use Rattle.ev_connected_laws.specs.Following.{FollowingIsTold};
+ghost use Rattle.ev_connected_laws.specs.Natives.{DataAddsNothing};
 ghost use Rattle.ev_connected_laws.specs.Nesting.{CallsNest};
 ghost use Rattle.ev_connected_laws.specs.Laws.{HandedIsConnected, KeptIsNotConnected, KnownIsLeast, KnownStays, ProgramIsConnected};
 
@@ -42,4 +43,10 @@ pub fn calls_nest()
 /// what had settled before the step, or is broken.
 pub fn following_is_told()
     ensures { FollowingIsTold }
+{}
+
+/// What data answers to a call holds nothing that its caller did not know: a value that it gives
+/// back, the members of a list that is made, and what it calls in turn.
+pub fn data_adds_nothing()
+    ensures { DataAddsNothing }
 {}
