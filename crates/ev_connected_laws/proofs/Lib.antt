@@ -11,3 +11,8 @@ pub mod RefsTraces
 pub mod ArriveTraces
 pub mod EvalTraces
 pub mod StepTraces
+pub mod Dies
+pub mod RefsDies
+pub mod ArriveDies
+pub mod EvalDies
+pub mod StepDies

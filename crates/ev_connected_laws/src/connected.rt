@@ -1,6 +1,7 @@
 //! What an activation knows, and which histories use no more than what is known.
 
 ghost use Rattle.ev_connected_laws.specs.Following.{FollowingIsTold};
+ghost use Rattle.ev_connected_laws.specs.Liveness.{WhatIsMadeDies};
 ghost use Rattle.ev_connected_laws.specs.Natives.{DataAddsNothing};
 ghost use Rattle.ev_connected_laws.specs.Nesting.{CallsNest};
 ghost use Rattle.ev_connected_laws.specs.Laws.{HandedIsConnected, KeptIsNotConnected, KnownIsLeast, KnownStays, ProgramIsConnected};
@@ -49,4 +50,9 @@ pub fn following_is_told()
 /// back, the members of a list that is made, and what it calls in turn.
 pub fn data_adds_nothing()
     ensures { DataAddsNothing }
+{}
+
+/// An ejector or audition that a step makes is dead when the step ends, unless the step stops.
+pub fn what_is_made_live_dies()
+    ensures { WhatIsMadeDies }
 {}
