@@ -16,3 +16,4 @@ pub mod RefsDies
 pub mod ArriveDies
 pub mod EvalDies
 pub mod StepDies
+pub mod RunDies

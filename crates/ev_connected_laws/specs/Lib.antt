@@ -4,5 +4,6 @@ pub mod Natives
 pub mod Liveness
 pub mod Nesting
 pub mod Following
+pub mod Runs
 pub mod Rows
 pub mod Laws

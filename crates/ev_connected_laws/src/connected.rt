@@ -2,6 +2,7 @@
 
 ghost use Rattle.ev_connected_laws.specs.Following.{FollowingIsTold};
 ghost use Rattle.ev_connected_laws.specs.Liveness.{WhatIsMadeDies};
+ghost use Rattle.ev_connected_laws.specs.Runs.{NothingLiveInRuns};
 ghost use Rattle.ev_connected_laws.specs.Natives.{DataAddsNothing};
 ghost use Rattle.ev_connected_laws.specs.Nesting.{CallsNest};
 ghost use Rattle.ev_connected_laws.specs.Laws.{HandedIsConnected, KeptIsNotConnected, KnownIsLeast, KnownStays, ProgramIsConnected};
@@ -55,4 +56,10 @@ pub fn data_adds_nothing()
 /// An ejector or audition that a step makes is dead when the step ends, unless the step stops.
 pub fn what_is_made_live_dies()
     ensures { WhatIsMadeDies }
+{}
+
+/// In every vat of every world of a run, after any of its opening turns and after any entries of a
+/// schedule, no ejector and no audition is live.
+pub fn nothing_is_live_in_runs()
+    ensures { NothingLiveInRuns }
 {}
