@@ -1,0 +1,9 @@
+pub mod Known
+pub mod Connected
+pub mod Natives
+pub mod Liveness
+pub mod Nesting
+pub mod Following
+pub mod Runs
+pub mod Rows
+pub mod Laws

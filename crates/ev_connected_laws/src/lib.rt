@@ -1,0 +1,4 @@
+//! Laws of the machine about what activations know and use.
+#![tactic(auto)]
+
+pub mod connected;
