@@ -138,7 +138,7 @@ module _ (w : World) (fair : all_promises w.known ≡ true) (tree : List Node) (
   turns_met : (act n : ℕ) (f : Held) (s : Room) → IsSound s.heap → is_there s.heap f ≡ true
       → Met w a_value s (turns again act f n s) (perform.turns (names w) tree n (their act (value_of w f) (codes "run") []) (vat w s))
   unfolding turns ◌>>=◌
-  turns_met act zero f s sound i = unfold (perform.turns, machine.stop, fail) in record { grown = grown_same s.heap; keeps = sound; is = λ j. refl }
+  turns_met act zero f s sound i = unfold perform.turns machine.stop fail in record { grown = grown_same s.heap; keeps = sound; is = λ j. refl }
   turns_met act (suc n) f s sound i =
       rw (turn_is act n (value_of w f) (vat w s))
       (then_met _ _ (h act f (codes "run") [] s sound i refl)

@@ -1,6 +1,6 @@
 //! Which kernel trees are evaluated so far.
 
-ghost use Rattle.std.specs.Prelude.{◌≡◌};
+ghost use Rattle.std.specs.Prelude.{◌≡◌, Some};
 ghost use Rattle.ev_base.specs.SafeScope.{safe_value};
 ghost use Rattle.ev_eval.specs.Built.{is_built, is_built_node, is_built_safe};
 ghost use Rattle.ev_eval.specs.Sound.{is_built_prim};
@@ -16,14 +16,24 @@ pub(crate) fn is_built_prim(number: PrimId) -> bool
     number == 0 || number == 2 || number == 3 || number == 6
 }
 
+/// Whether a value of the safe scope is `null`, `true`, `false` or a primitive on which calls are built.
+fn is_built_value(value: Value) -> bool
+    ensures { result ≡ is_built_safe (Some value) }
+{
+    match value {
+        Value::Null | Value::Bool(_) => true,
+        Value::Prim(number) => is_built_prim(number),
+        _ => false,
+    }
+}
+
 /// Whether a noun is not in the safe scope, or is `null`, `true`, `false` or a primitive on which calls are built.
 fn is_built_noun(noun: &str) -> bool
     ensures { result ≡ is_built_safe (safe_value noun.now) }
 {
     match safe_value(noun) {
-        None | Some(Value::Null) | Some(Value::Bool(_)) => true,
-        Some(Value::Prim(number)) => is_built_prim(number),
-        Some(_) => false,
+        None => true,
+        Some(value) => is_built_value(value),
     }
 }
 

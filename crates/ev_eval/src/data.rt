@@ -4,7 +4,7 @@ ghost use Rattle.std.specs.Prelude.{◌≡◌, All, true};
 ghost use Rattle.std.specs.Bool.{OnTrue};
 ghost use Rattle.ev_heap.specs.Contents.{IsWeighable, is_light};
 ghost use Rattle.ev_eval.specs.Sound.{are_there, is_there};
-ghost use Rattle.ev_eval.specs.Steps.{Gives, call_there, keep_list, list_told, make_list, new_list, new_text, problem_id, spell, store, text_value, thrown_id, write_text};
+ghost use Rattle.ev_eval.specs.Steps.{Gives, call_there, keep_list, list_told, make_list, new_list, problem_id, spell, store, text_value, thrown_id, write_text};
 
 use crate::built::is_built_prim;
 use crate::call::copy_of;
@@ -96,24 +96,15 @@ pub fn call_there(heap: &Heap, receiver: Value, args: &[Value]) -> bool
     is_there(heap, receiver) && are_there(heap, args)
 }
 
-/// Keeps a text.
+/// Keeps a text, and gives it as a value.
 #[tactic(auto, unfolding(crate::specs::Steps::opened_steps))]
-fn new_text(text: &str, room: &mut Room) -> Result<TextId, Exit>
-    ensures outcome { Gives result room.new (new_text text.now room.old) }
-{
-    match room.heap.make_text(text) {
-        Ok(id) => Ok(id),
-        Err(Memory) => Err(Exit::Memory),
-    }
-}
-
-/// A text, as a value.
-#[tactic(auto, using(crate::proofs::Exits::ends), unfolding(crate::specs::Steps::opened_steps))]
 pub fn text_value(text: &str, room: &mut Room) -> Result<Value, Exit>
     ensures outcome { Gives result room.new (text_value text.now room.old) }
 {
-    let id = new_text(text, room)?;
-    Ok(Value::Text(id))
+    match room.heap.make_text(text) {
+        Ok(id) => Ok(Value::Text(id)),
+        Err(Memory) => Err(Exit::Memory),
+    }
 }
 
 /// A text that is not too long, which takes a unit of fuel for each byte.

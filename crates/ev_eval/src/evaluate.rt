@@ -3,7 +3,7 @@
 ghost use Rattle.std.specs.Prelude.{◌≡◌, [], Some, length, option_map};
 ghost use Rattle.ev_base.specs.declared.values.Value.TheVariants.{Null};
 ghost use Rattle.ev_prims.specs.Asks.{asked_of};
-ghost use Rattle.ev_eval.specs.Steps.{Gives, GivesIn, answered, call, call_at, call_data, call_node, call_object, choose, compared, define, evaluator, gathered, hide_node, if_node, iterate, last_of, literal_node, literal_value, loop, noun_node, opening, performed, replied, run_found, run_method, run_object, set_node, step, within};
+ghost use Rattle.ev_eval.specs.Steps.{Gives, GivesIn, answered, call, call_at, call_data, call_node, call_object, choose, compared, define, evaluator, gathered, if_node, iterate, last_of, literal_node, literal_value, loop, noun_node, opening, performed, replied, run_found, run_method, run_object, set_node, step, within};
 
 use crate::call::{call_line, closed};
 use crate::data::{call_there, is_there, make_list, problem_id, text_value, thrown_id, write_text};
@@ -107,7 +107,10 @@ fn step(
         ),
         Node::Sequence(parts) => last_of(program, depth, parts.as_slice(), here, room),
         Node::If(test, yes, no) => if_node(program, depth, *test, *yes, *no, here, room),
-        Node::Hide(inner) => hide_node(program, depth, *inner, here, room),
+        Node::Hide(inner) => {
+            let mark = here.nouns.len();
+            within(program, depth, mark, *inner, here, room)
+        }
         Node::Object {
             pattern,
             auditors,
@@ -181,22 +184,6 @@ fn within(
     let value = evaluate(program, depth, id, here, room)?;
     cut(room.alloc, mark, here);
     Ok(value)
-}
-
-/// Evaluates an expression whose names are dropped behind it.
-#[cycle(evaluate)]
-#[tactic(auto, using(crate::proofs::Exits::ends), unfolding(crate::specs::Steps::opened_steps))]
-fn hide_node(
-    program: &Kernel,
-    depth: u32,
-    id: NodeId,
-    here: &mut Scope,
-    room: &mut Room,
-) -> Result<Value, Exit>
-    ensures outcome { GivesIn result here.new room.new (hide_node (evaluator program.now depth) id here.old room.old) }
-{
-    let mark = here.nouns.len();
-    within(program, depth, mark, id, here, room)
 }
 
 /// Evaluates an if: its test, and then the branch that the test chooses. The names of the test are known in the first branch,

@@ -28,9 +28,6 @@ decreases-call_node l = most * l.depth + half + 8
 abbrev pub decreases-if_node : goal.decreases-if_node
 decreases-if_node l = most * l.depth + half + 8
 
-abbrev pub decreases-hide_node : goal.decreases-hide_node
-decreases-hide_node l = most * l.depth + half + 8
-
 abbrev pub decreases-choose : goal.decreases-choose
 decreases-choose l = most * l.depth + half + 7
 
