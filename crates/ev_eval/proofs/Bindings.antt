@@ -12,7 +12,7 @@ use Rattle.ev_heap.specs.Contents.{Contents}
 use Rattle.ev_heap.specs.declared.happened.Happened.TheVariants as event
 use Rattle.ev_heap.specs.declared.kept.Cell.{Cell}
 use Rattle.ev_kernel.specs.declared.node.Node.{Node}
-use Rattle.ev_machine.specs.Values.{Words, Value, Null, Flag, Local}
+use Rattle.ev_machine.specs.Values.{Words, Value, Null, Flag, Prim, Local}
 use Rattle.ev_machine.specs.State.{Bound, Fixed, Slot, Cell as TheirCell, Binding as Bond, SlotMade, SlotRead, SlotWrote, Vat, Done, Astray, for_some, opened_state}
 use Rattle.ev_machine.specs.State as machine
 use Rattle.ev_machine.specs.Scopes.{any_guard, bound_in}
@@ -34,7 +34,7 @@ use Rattle.ev_eval.proofs.Grows.{IsGrowing}
 use Rattle.ev_eval.proofs.Sounds.{grown_same, grown_on, there_on, all_and, slots_grown, slot_sound, written_sound}
 use Rattle.ev_eval.proofs.Stands.{Met, Is, Look, vat, a_value, an_answer, a_scope, itself, bound_of, bond_of, bonds_onto, scope_of, carried, then_met, give_met, stop_met, tell_met}
 use Rattle.ev_eval.proofs.There.{both}
-use Rattle.ev_eval.proofs.Words.{same_is, safe_is, chosen, others, no_others}
+use Rattle.ev_eval.proofs.Words.{same_is, safe_is, chosen, others, no_others, some_others}
 
 -- ---- what evaluates nodes
 
@@ -110,20 +110,20 @@ goes_astray w s sound = record { grown = grown_same s.heap; keeps = sound; is = 
 
 safe_cases : (w : World) (a b c : Bool) (o : Option ℕ) (m : Option (Value Local)) (s : Room) → IsSound s.heap
     → is_built_safe (if a then Some held.Null else if b then Some (held.Bool true) else if c then Some (held.Bool false) else option_map held.Prim o) ≡ true
-    → (o ≡ None → m ≡ None)
+    → (o ≡ None → m ≡ None) → ((n : ℕ) → o ≡ Some n → m ≡ Some (Prim n))
     → Met w a_value s (answer (safe_found (if a then Some held.Null else if b then Some (held.Bool true) else if c then Some (held.Bool false) else option_map held.Prim o)) s)
     (for_some (chosen a b c (Some Null) (Some (Flag true)) (Some (Flag false)) m) machine.give (machine.stop Astray) (vat w s))
 unfolding safe_found for_some chosen
-safe_cases w true b c o m s sound e h = gives_there w held.Null s sound refl
-safe_cases w false true c o m s sound e h = gives_there w (held.Bool true) s sound refl
-safe_cases w false false true o m s sound e h = gives_there w (held.Bool false) s sound refl
-safe_cases w false false false (Some n) m s sound e h = absurd (cc)
-safe_cases w false false false None m s sound e h = rw (h refl) (goes_astray w s sound)
+safe_cases w true b c o m s sound e h k = gives_there w held.Null s sound refl
+safe_cases w false true c o m s sound e h k = gives_there w (held.Bool true) s sound refl
+safe_cases w false false true o m s sound e h k = gives_there w (held.Bool false) s sound refl
+safe_cases w false false false (Some n) m s sound e h k = rw (k n refl) (gives_there w (held.Prim n) s sound e)
+safe_cases w false false false None m s sound e h k = rw (h refl) (goes_astray w s sound)
 
 safe_met : (w : World) (x : Words) (s : Room) → IsSound s.heap → is_built_safe (safe_value x) ≡ true
     → Met w a_value s (answer (safe_found (safe_value x)) s) (for_some (native.safe_value x) machine.give (machine.stop Astray) (vat w s))
 safe_met w x s sound e =
-    rw (safe_is x) (safe_cases w (bytes_eq x (codes "null")) (bytes_eq x (codes "true")) (bytes_eq x (codes "false")) (position (bytes_eq x) primitives) (others x) s sound e (no_others x))
+    rw (safe_is x) (safe_cases w (bytes_eq x (codes "null")) (bytes_eq x (codes "true")) (bytes_eq x (codes "false")) (position (bytes_eq x) primitives) (others x) s sound e (no_others x) (some_others x))
 
 -- ---- var slots
 

@@ -93,7 +93,7 @@ module _ (w : World) (tree : List Node) (again : Caller) (their : scopes.Caller 
       then_met _ _ (h act f (codes "run") (held.Int (pos k) ∷ v ∷ []) s sound i (all_and (is_there s.heap v) true b.0 refl))
       (λ u t q j g. iterate_met act f (suc k) vs t q (there_on g f i) (all_on g vs b.1))
 
-  replied_met : (act : ℕ) (r : Reply) (s : Room) → IsSound s.heap → Fits s.heap r
+  pub replied_met : (act : ℕ) (r : Reply) (s : Room) → IsSound s.heap → Fits s.heap r
       → Met w a_value s (replied again act r s) (perform.reply (names w) tree their act (reply_by (text_of w) r) (vat w s))
   unfolding replied perform.reply
   replied_met act (reply.Says v) s sound i = give_met w a_value v s sound i

@@ -1,13 +1,13 @@
 -- The recursion on the depth, as code counts it down.
-use Rattle.std.proofs.Common.{◌≡◌, ℕ, zero, suc, ◌-◌, ◌<◌, List, Err, refl, arith, sub-one}
+use Rattle.std.proofs.Common.{◌≡◌, ℕ, zero, suc, ◌-◌, ◌+◌, ◌<◌, ◌≤◌, codes, [], List, Err, refl, ap, ◌∙◌, arith, sub-one}
 use Rattle.std.specs.Prelude.{slice_get}
 use Rattle.ev_kernel.specs.declared.node.Node.{Node}
-use Rattle.ev_eval.specs.declared.exit.Exit.TheVariants.{Deep, Astray}
+use Rattle.ev_eval.specs.declared.exit.Exit.TheVariants.{Deep, Astray, Fuel}
 use Rattle.ev_base.specs.declared.values.Value.{Value}
 use Rattle.ev_machine.specs.Values.{Words}
 use Rattle.ev_eval.specs.declared.room.Room.{Room}
 use Rattle.ev_eval.specs.declared.scope.Scope.{Scope}
-use Rattle.ev_eval.specs.Steps.{Evaluator, call_at, call_value, evaluator, deeper, step_found, bind_found, spend, ◌>>◌, opened_steps}
+use Rattle.ev_eval.specs.Steps.{Caller, Evaluator, after_turn, turns, ◌>>=◌, call_at, call_value, evaluator, deeper, step_found, bind_found, spend, ◌>>◌, opened_steps}
 
 pub expression_deep : (tree : List Node) (d id : ℕ) (here : Scope) (s : Room) → d ≡ 0 → (evaluator tree d).expression id here s ≡ (Err Deep, s)
 unfolding evaluator opened_steps
@@ -41,3 +41,25 @@ pub call_goes : (tree : List Node) (rec : Evaluator) (n act : ℕ) (x : Value) (
 unfolding call_at
 call_goes tree rec zero act x verb args s h = absurd (omega arith)
 call_goes tree rec (suc n) act x verb args s h = rw sub-one refl
+
+-- ---- turns of a loop
+
+turns_more : (again : Caller) (act : ℕ) (f : Value) (n : ℕ) (s : Room) → 0 < n
+    → turns again act f n s ≡ (again act f (codes "run") [] >>= λ x. after_turn (turns again act f (n - 1)) x) s
+unfolding turns
+turns_more again act f zero s h = absurd (omega arith)
+turns_more again act f (suc n) s h = rw sub-one refl
+
+pub turns_from : (again : Caller) (act : ℕ) (f : Value) (most turn : ℕ) (s : Room) → turn < most
+    → turns again act f (most - turn) s ≡ (again act f (codes "run") [] >>= λ x. after_turn (turns again act f (most - (turn + 1))) x) s
+turns_from again act f most turn s h =
+    let e : most - turn - 1 ≡ most - (turn + 1) = omega arith in
+    turns_more again act f (most - turn) s (omega arith)
+    ∙ ap (λ (n : ℕ). (again act f (codes "run") [] >>= λ x. after_turn (turns again act f n) x) s) e
+
+pub turns_none : (again : Caller) (act : ℕ) (f : Value) (most turn : ℕ) (s : Room) → most ≤ turn → turns again act f (most - turn) s ≡ (Err Fuel, s)
+unfolding turns opened_steps
+turns_none again act f most turn s h = let e : most - turn ≡ 0 = omega arith in rw e refl
+
+pub turns_all : (again : Caller) (act : ℕ) (f : Value) (most : ℕ) (s : Room) → turns again act f (most - 0) s ≡ turns again act f most s
+turns_all again act f most s = let e : most - 0 ≡ most = omega arith in rw e refl

@@ -6,6 +6,7 @@ pub mod Exits
 pub mod Grows
 pub mod Meets
 pub mod Objects
+pub mod Primitives
 pub mod Replies
 pub mod Sounds
 pub mod Stands

@@ -40,6 +40,7 @@ use Rattle.ev_eval.proofs.Calls.{CallsMet, call_data_met}
 use Rattle.ev_eval.proofs.Grows.{Grows, same, onward, cut_back, deeper_grows, none_grows}
 use Rattle.ev_eval.proofs.Bindings.{IsMet, found_is, found_there, none_bound, noun_met, onto_more, bound_more, write_met, made_line, new_slot_met}
 use Rattle.ev_eval.proofs.Objects.{get_built, object_met, call_object_met}
+use Rattle.ev_eval.proofs.Primitives.{primitive_met}
 use Rattle.ev_eval.proofs.Sounds.{grown_same, there_on, all_on, scope_on, all_and}
 use Rattle.ev_eval.proofs.Replies.{there_joined}
 use Rattle.ev_eval.proofs.Stands.{Met, Is, vat, a_value, an_answer, some_answers, a_scope, itself, bound_of, bonds_onto, scope_of, then_met, then_met_of, give_met, stop_met, deep_met, throw_met, tell_met, fails_met, spend_met, text_met, activation_met, follow_there}
@@ -135,7 +136,7 @@ module _ (w : World) (fair : all_promises w.known ≡ true) (tree : List Node) (
   value_met again more m act (held.Char c) verb args s sound j a = call_data_met w tree again more m fair act (held.Char c) verb args s sound j a
   value_met again more m act (held.Text id) verb args s sound j a = call_data_met w tree again more m fair act (held.Text id) verb args s sound j a
   value_met again more m act (held.List k) verb args s sound j a = call_data_met w tree again more m fair act (held.List k) verb args s sound j a
-  value_met again more m act (held.Prim n) verb args s sound j a = absurd (cc)
+  value_met again more m act (held.Prim n) verb args s sound j a = primitive_met w fair tree again more m act n verb args s sound j a
   value_met again more m act (held.Prom k) verb args s sound j a = absurd (cc)
   value_met again more m act (held.Far v p) verb args s sound j a = absurd (cc)
 

@@ -87,7 +87,7 @@ module _ {a b : Contents} (g : Grown a b) where
   there_on (held.Text id) h = text_on id h
   there_on (held.Broken id) h = text_on id h
   there_on (held.List id) h = list_on id h
-  there_on (held.Prim n) h = absurd (cc)
+  there_on (held.Prim n) h = h
   there_on (held.Prom k) h = absurd (cc)
   there_on (held.Far v p) h = absurd (cc)
   there_on _ h = refl
@@ -120,7 +120,7 @@ module _ {a b : Contents} (g : Grown a b) where
   weight_on (held.Text id) h = ap (λ (o : Option Words). size_of o + 1) (got_text id h)
   weight_on (held.Broken id) h = ap (λ (o : Option Words). size_of o + 1) (got_text id h)
   weight_on (held.List id) h = ap weight_in (got_list id h)
-  weight_on (held.Prim n) h = absurd (cc)
+  weight_on (held.Prim n) h = refl
   weight_on (held.Prom k) h = absurd (cc)
   weight_on (held.Far v p) h = absurd (cc)
   weight_on _ h = refl

@@ -1,5 +1,5 @@
 -- The two tests of words are one, and the safe scope of the code is that of the machine.
-use Rattle.std.proofs.Common.{◌≡◌, ℕ, suc, Bool, true, false, nat_eq, List, [], ◌∷◌, Option, Some, None, map, refl, sym, ◌∙◌, arith}
+use Rattle.std.proofs.Common.{◌≡◌, ℕ, zero, suc, ◌+◌, ◌-◌, ◌<◌, Bool, true, false, nat_eq, List, [], ◌∷◌, Option, Some, None, map, refl, sym, ◌∙◌, ap, arith}
 use Rattle.std.specs.Prelude.{codes, if◌then◌else◌}
 use Rattle.std.specs.List.{position}
 use Rattle.std.specs.Str.{bytes_eq}
@@ -108,3 +108,41 @@ safe_chosen x = refl
 pub safe_is : {N : Type 0} (x : Words)
     → safe_value {N = N} x ≡ chosen (bytes_eq x (codes "null")) (bytes_eq x (codes "true")) (bytes_eq x (codes "false")) (Some Null) (Some (Flag true)) (Some (Flag false)) (others x)
 safe_is x = safe_chosen x ∙ rw (same_turned (codes "null") x, same_turned (codes "true") x, same_turned (codes "false") x) refl
+
+-- ---- the primitives of the safe scope
+
+taken : {A : Type 0} (b : Bool) (a c : A) → b ≡ true → elim b [ true ↦ a | false ↦ c ] ≡ a
+taken true a c h = refl
+taken false a c h = absurd (cc)
+
+hits : (p : Words → Bool) (k : Words) (ks : List Words) (i : ℕ) → p k ≡ true → position p (k ∷ ks) ≡ Some i → i ≡ 0
+hits p k ks i e h = grind (arith, nat_tests, common_steps)
+
+misses : (p : Words → Bool) (k : Words) (ks : List Words) (i : ℕ) → p k ≡ false → position p (k ∷ ks) ≡ Some i → (0 < i) × (position p ks ≡ Some (i - 1))
+misses p k ks i e h = grind (arith, nat_tests, common_steps)
+
+first_or_rest : {N : Type 0} (x k : Words) (n : ℕ) (ks : List Words) (i : ℕ) (b : Bool) → bytes_eq x k ≡ b → position (bytes_eq x) (k ∷ ks) ≡ Some i
+    → ((j : ℕ) → position (bytes_eq x) ks ≡ Some j → entry (prims (suc n) ks {N = N}) None x ≡ Some (Prim (suc n + j)))
+    → entry ((k, Some (Prim n)) ∷ prims (suc n) ks {N = N}) None x ≡ Some (Prim (n + i))
+first_or_rest {N = N} x k n ks i true e h more =
+    let z = hits (bytes_eq x) k ks i e h in
+    let g : n ≡ n + i = omega arith in
+    entry_is k (Some (Prim n)) (prims (suc n) ks {N = N}) None x
+    ∙ taken (same_words k x) (Some (Prim n)) (entry (prims (suc n) ks {N = N}) None x) (same_turned k x ∙ e)
+    ∙ ap (λ (m : ℕ). Some (Prim m)) g
+first_or_rest {N = N} x k n ks i false e h more =
+    let s = misses (bytes_eq x) k ks i e h in
+    let p : 0 < i = s.0 in
+    let g : suc n + (i - 1) ≡ n + i = omega arith in
+    entry_is k (Some (Prim n)) (prims (suc n) ks {N = N}) None x
+    ∙ passed_over (same_words k x) (Some (Prim n)) (entry (prims (suc n) ks {N = N}) None x) (same_turned k x ∙ e)
+    ∙ more (i - 1) s.1 ∙ ap (λ (m : ℕ). Some (Prim m)) g
+
+some_entry : {N : Type 0} (x : Words) (n : ℕ) (ks : List Words) (i : ℕ) → position (bytes_eq x) ks ≡ Some i → entry (prims n ks {N = N}) None x ≡ Some (Prim (n + i))
+unfolding prims
+some_entry x n [] i h = absurd (cc)
+some_entry x n (k ∷ ks) i h = first_or_rest x k n ks i (bytes_eq x k) refl h (λ j g. some_entry x (suc n) ks j g)
+
+pub some_others : {N : Type 0} (x : Words) (n : ℕ) → position (bytes_eq x) primitives ≡ Some n → others {N = N} x ≡ Some (Prim n)
+unfolding others
+some_others x n h = let g : 0 + n ≡ n = omega arith in some_entry x 0 primitives n h ∙ ap (λ (m : ℕ). Some (Prim m)) g

@@ -1,5 +1,5 @@
 -- What evaluation makes of values, var slots, objects and lists so far.
-use Rattle.std.specs.Prelude.{◌≡◌, ℕ, nat_lt, Bool, true, false, if◌then◌else◌, List, [], ◌∷◌, ◌++◌, Some, map, length, slice_get, codes}
+use Rattle.std.specs.Prelude.{◌≡◌, ◌==◌, ℕ, nat_lt, Bool, true, false, if◌then◌else◌, List, [], ◌∷◌, ◌++◌, Some, map, length, slice_get, codes}
 use Rattle.ev_base.specs.declared.values.Value.{Value}
 use Rattle.ev_base.specs.declared.values.Value.TheVariants as held
 use Rattle.ev_heap.specs.Contents.{Contents, listed}
@@ -51,12 +51,16 @@ problems =
 
 -- ---- what stands in a heap
 
+-- the primitives on which calls are built: lists and ranges, the comparer, the loop, and throw
+abbrev pub is_built_prim : ℕ → Bool
+is_built_prim n = if n == 0 then true else if n == 2 then true else if n == 3 then true else n == 6
+
 -- A value of this vat: where it is a text, a broken reference or a list, the heap has that text or list.
 abbrev pub is_there : Contents → Value → Bool
 is_there h (held.Text id) = nat_lt id (length h.texts)
 is_there h (held.Broken id) = nat_lt id (length h.texts)
 is_there h (held.List id) = nat_lt id (length h.lists)
-is_there h (held.Prim n) = false
+is_there h (held.Prim n) = is_built_prim n
 is_there h (held.Prom k) = false
 is_there h (held.Far v p) = false
 is_there h _ = true

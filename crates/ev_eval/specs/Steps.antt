@@ -23,7 +23,14 @@ use Rattle.ev_machine.specs.Scopes.{members_of, name_of}
 use Rattle.ev_num.specs.declared.arithmetic.NumFault.TheVariants.{Overflow, ZeroDivisor, NegativePower}
 use Rattle.ev_heap.specs.Contents.{Contents, listed, is_light}
 use Rattle.ev_prims.specs.Answers.{data_answer, members_at}
-use Rattle.ev_prims.specs.Reading.{text_in}
+use Rattle.ev_machine.specs.Native.{value_order}
+use Rattle.ev_prims.specs.Asks.{asked_of}
+use Rattle.ev_prims.specs.Orders.{compared_by}
+use Rattle.ev_prims.specs.Ranges.{range_answer}
+use Rattle.ev_prims.specs.Reading.{text_in, value_by}
+use Rattle.ev_prims.specs.declared.asking.Asked.{Asked}
+use Rattle.ev_prims.specs.declared.asking.Asked.TheVariants as ask
+use Rattle.ev_prims.specs.declared.order.Test.{Test}
 use Rattle.ev_prims.specs.declared.problem.Problem.{Problem}
 use Rattle.ev_prims.specs.declared.problem.Problem.TheVariants.{NoMethod, Arithmetic, NotInt, NotChar, NotBoolean, NotText, NotList, OutOfRange, BadArgument, NotComparable, TooHeavy, Unthrowable, DeadEjector}
 use Rattle.ev_prims.specs.declared.reply.Reply.{Reply}
@@ -293,6 +300,51 @@ replied again act (reply.Lists vs) = make_list act vs
 replied again act (reply.Iterates f vs) = iterate again act f 0 vs
 replied again act (reply.Fails p) = fails p
 
+-- ---- primitives
+
+-- the answer of a turn of a loop tells whether there is another
+unfoldable pub after_turn : Act Value → Value → Act Value
+after_turn more (held.Bool true) = more
+after_turn more (held.Bool false) = give held.Null
+after_turn more _ = fails NotBoolean
+
+-- at most so many turns
+unfoldable pub turns : Caller → ℕ → Value → ℕ → Act Value
+turns again act f zero = fail Fuel
+turns again act f (suc n) = do
+  x ← again act f (codes "run") []
+  after_turn (turns again act f n) x
+
+-- as many turns at most as there is fuel, of which each turn takes some
+unfoldable pub loop : Caller → ℕ → Value → Act Value
+loop again act f = λ s. turns again act f (s.micro.fuel + 1) s
+
+abbrev pub thrown_id : Value → ℕ
+thrown_id (held.Text id) = id
+thrown_id _ = problem_id Unthrowable
+
+unfoldable pub pair_there : Contents → Value → Value → Bool
+pair_there h x y = if is_there h x then is_there h y else false
+
+unfoldable pub compared_there : Caller → ℕ → Test → Value → Value → Bool → Act Value
+compared_there again act t x y true = λ s. replied again act (compared_by t (value_order (value_by (text_in s.heap) x) (value_by (text_in s.heap) y))) s
+compared_there again act t x y false = fail Astray
+
+unfoldable pub compared : Caller → ℕ → Test → Value → Value → Act Value
+compared again act t x y = λ s. compared_there again act t x y (pair_there s.heap x y) s
+
+-- what is asked of a primitive, with these as the arguments
+unfoldable pub performed : Caller → ℕ → Asked → List Value → Act Value
+performed again act ask.MakesList args = make_list act args
+performed again act (ask.Ranges last x y) args = replied again act (range_answer last x y)
+performed again act (ask.Compares t x y) args = compared again act t x y
+performed again act (ask.Loops f) args = loop again act f
+performed again act (ask.ThrowsIt v) args = fail (Thrown (thrown_id v))
+performed again act ask.NoMethod args = fails NoMethod
+performed again act _ args = fail Unbuilt
+
+-- ---- data
+
 -- receiver and arguments stand in the heap
 unfoldable pub call_there : Contents → Value → List Value → Bool
 call_there h x args = if is_there h x then are_there h args else false
@@ -418,6 +470,7 @@ call_value tree rec again act (held.Int z) verb args = call_data again act (held
 call_value tree rec again act (held.Char c) verb args = call_data again act (held.Char c) verb args
 call_value tree rec again act (held.Text id) verb args = call_data again act (held.Text id) verb args
 call_value tree rec again act (held.List k) verb args = call_data again act (held.List k) verb args
+call_value tree rec again act (held.Prim n) verb args = performed again act (asked_of n verb args) args
 call_value tree rec again act _ verb args = fail Unbuilt
 
 -- a call in which calls again stand at most so many times one inside another
@@ -574,5 +627,5 @@ opening tree depth = do
 
 -- opens the steps, and not the recursions
 unfoldable pub opened_steps : Unit {0}
-unfolding and_then ◌>>=◌ ◌>>◌ give fail answer tell spent spend new_activation new_slot write_told slot_read slot_found read_slot slot_written write_slot safe_found read_held read_bound write_held write_bound fails new_text text_value spell spelled write_text new_list list_told keep_list store stored listed_there make_list closed_by closed replied call_there answered_there answered call_data call_node with_bound new_object named object_made object_in make_object object_node suits run_method run_found run_object call_made code_of code_in look_code call_object call_value call define literal_value literal_node noun_node set_node within hide_node choose if_node step bind_final bind_var bind_any bind_step step_found bind_found opening
+unfolding and_then ◌>>=◌ ◌>>◌ give fail answer tell spent spend new_activation new_slot write_told slot_read slot_found read_slot slot_written write_slot safe_found read_held read_bound write_held write_bound fails new_text text_value spell spelled write_text new_list list_told keep_list store stored listed_there make_list closed_by closed after_turn loop pair_there compared_there compared performed replied call_there answered_there answered call_data call_node with_bound new_object named object_made object_in make_object object_node suits run_method run_found run_object call_made code_of code_in look_code call_object call_value call define literal_value literal_node noun_node set_node within hide_node choose if_node step bind_final bind_var bind_any bind_step step_found bind_found opening
 opened_steps = tt

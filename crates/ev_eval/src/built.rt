@@ -1,19 +1,39 @@
 //! Which kernel trees are evaluated so far.
 
-ghost use Rattle.std.specs.Prelude.{◌≡◌};
+ghost use Rattle.std.specs.Prelude.{◌≡◌, Some};
 ghost use Rattle.ev_base.specs.SafeScope.{safe_value};
 ghost use Rattle.ev_eval.specs.Built.{is_built, is_built_node, is_built_safe};
+ghost use Rattle.ev_eval.specs.Sound.{is_built_prim};
 
-use ev_base::{Value, safe_value};
+use ev_base::{PrimId, Value, safe_value};
 use ev_kernel::{Kernel, Node};
 
-/// Whether a noun is not in the safe scope, or is `null`, `true` or `false`.
+/// Whether calls on a primitive are built: on lists and ranges, the comparer, the loop, and throw.
+pub(crate) fn is_built_prim(number: PrimId) -> bool
+    ensures { result ≡ is_built_prim number }
+{
+    let number = number.0;
+    number == 0 || number == 2 || number == 3 || number == 6
+}
+
+/// Whether a value of the safe scope is `null`, `true`, `false` or a primitive on which calls are built.
+fn is_built_value(value: Value) -> bool
+    ensures { result ≡ is_built_safe (Some value) }
+{
+    match value {
+        Value::Null | Value::Bool(_) => true,
+        Value::Prim(number) => is_built_prim(number),
+        _ => false,
+    }
+}
+
+/// Whether a noun is not in the safe scope, or is `null`, `true`, `false` or a primitive on which calls are built.
 fn is_built_noun(noun: &str) -> bool
     ensures { result ≡ is_built_safe (safe_value noun.now) }
 {
     match safe_value(noun) {
-        None | Some(Value::Null) | Some(Value::Bool(_)) => true,
-        Some(_) => false,
+        None => true,
+        Some(value) => is_built_value(value),
     }
 }
 
@@ -40,7 +60,7 @@ fn is_built_node(node: &Node) -> bool
 }
 
 /// Whether each node of a program is of a kind that is evaluated so far: a literal, a noun that is
-/// `null`, `true`, `false` or not in the safe scope, an assignment, a definition without an ejector, a call, a sequence, an if, a
+/// `null`, `true`, `false`, a primitive on which calls are built or not in the safe scope, an assignment, a definition without an ejector, a call, a sequence, an if, a
 /// hide, an object without auditors, a method, or a final, var or any pattern without a guard.
 #[tactic(auto, unfolding(crate::specs::Built::is_built))]
 pub fn is_built(program: &Kernel) -> bool

@@ -4,8 +4,9 @@ ghost use Rattle.std.specs.Prelude.{◌≡◌, All, true};
 ghost use Rattle.std.specs.Bool.{OnTrue};
 ghost use Rattle.ev_heap.specs.Contents.{IsWeighable, is_light};
 ghost use Rattle.ev_eval.specs.Sound.{are_there, is_there};
-ghost use Rattle.ev_eval.specs.Steps.{Gives, call_there, keep_list, list_told, make_list, new_list, new_text, problem_id, spell, store, text_value, write_text};
+ghost use Rattle.ev_eval.specs.Steps.{Gives, call_there, keep_list, list_told, make_list, new_list, problem_id, spell, store, text_value, thrown_id, write_text};
 
+use crate::built::is_built_prim;
 use crate::call::copy_of;
 use crate::exit::Exit;
 use crate::room::{Room, spend, tell};
@@ -40,16 +41,27 @@ pub fn problem_id(problem: Problem) -> TextId
     }
 }
 
+/// The problem that is thrown where a value is to be thrown: the text itself.
+pub fn thrown_id(value: Value) -> TextId
+    ensures { result ≡ thrown_id value }
+{
+    match value {
+        Value::Text(id) => id,
+        _ => problem_id(Problem::Unthrowable),
+    }
+}
+
 /// Whether a value stands in a heap.
 #[tactic(auto, using(crate::proofs::There::weighable))]
-fn is_there(heap: &Heap, value: Value) -> bool
+pub fn is_there(heap: &Heap, value: Value) -> bool
     ensures is { result ≡ is_there heap.now value }
     ensures weighable { OnTrue result (IsWeighable heap.now value) }
 {
     match value {
         Value::Text(id) | Value::Broken(id) => id.0 < heap.text_count(),
         Value::List(id) => id.0 < heap.list_count(),
-        Value::Prim(_) | Value::Prom(_) | Value::Far(_, _) => false,
+        Value::Prim(number) => is_built_prim(number),
+        Value::Prom(_) | Value::Far(_, _) => false,
         _ => true,
     }
 }
@@ -84,24 +96,15 @@ pub fn call_there(heap: &Heap, receiver: Value, args: &[Value]) -> bool
     is_there(heap, receiver) && are_there(heap, args)
 }
 
-/// Keeps a text.
+/// Keeps a text, and gives it as a value.
 #[tactic(auto, unfolding(crate::specs::Steps::opened_steps))]
-fn new_text(text: &str, room: &mut Room) -> Result<TextId, Exit>
-    ensures outcome { Gives result room.new (new_text text.now room.old) }
-{
-    match room.heap.make_text(text) {
-        Ok(id) => Ok(id),
-        Err(Memory) => Err(Exit::Memory),
-    }
-}
-
-/// A text, as a value.
-#[tactic(auto, using(crate::proofs::Exits::ends), unfolding(crate::specs::Steps::opened_steps))]
 pub fn text_value(text: &str, room: &mut Room) -> Result<Value, Exit>
     ensures outcome { Gives result room.new (text_value text.now room.old) }
 {
-    let id = new_text(text, room)?;
-    Ok(Value::Text(id))
+    match room.heap.make_text(text) {
+        Ok(id) => Ok(Value::Text(id)),
+        Err(Memory) => Err(Exit::Memory),
+    }
 }
 
 /// A text that is not too long, which takes a unit of fuel for each byte.

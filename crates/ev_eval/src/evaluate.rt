@@ -2,19 +2,20 @@
 
 ghost use Rattle.std.specs.Prelude.{◌≡◌, [], Some, length, option_map};
 ghost use Rattle.ev_base.specs.declared.values.Value.TheVariants.{Null};
-ghost use Rattle.ev_eval.specs.Steps.{Gives, GivesIn, answered, call, call_at, call_data, call_node, call_object, choose, define, evaluator, gathered, hide_node, if_node, iterate, last_of, literal_node, literal_value, noun_node, opening, replied, run_found, run_method, run_object, set_node, step, within};
+ghost use Rattle.ev_prims.specs.Asks.{asked_of};
+ghost use Rattle.ev_eval.specs.Steps.{Gives, GivesIn, answered, call, call_at, call_data, call_node, call_object, choose, compared, define, evaluator, gathered, if_node, iterate, last_of, literal_node, literal_value, loop, noun_node, opening, performed, replied, run_found, run_method, run_object, set_node, step, within};
 
 use crate::call::{call_line, closed};
-use crate::data::{call_there, make_list, problem_id, text_value, write_text};
+use crate::data::{call_there, is_there, make_list, problem_id, text_value, thrown_id, write_text};
 use crate::exit::Exit;
 use crate::nouns::{read_bound, write_bound};
 use crate::object::{first_method, look_code, members_of, object_node, turned};
 use crate::pattern::{bind, bind_all, node_at};
 use crate::room::{Room, new_activation, spend, tell};
 use crate::scope::{Scope, cut, found};
-use ev_base::{ActId, NodeId, ObjId, Seq, Value};
+use ev_base::{ActId, NodeId, ObjId, PrimId, Seq, Value};
 use ev_kernel::{Kernel, Literal, Node};
-use ev_prims::{Problem, Reply, data_reply};
+use ev_prims::{Asked, Problem, Reply, Test, ask, compare, data_reply, range};
 
 /// The value of a literal.
 #[tactic(auto, unfolding(crate::specs::Steps::literal_value, crate::specs::Steps::give))]
@@ -106,7 +107,10 @@ fn step(
         ),
         Node::Sequence(parts) => last_of(program, depth, parts.as_slice(), here, room),
         Node::If(test, yes, no) => if_node(program, depth, *test, *yes, *no, here, room),
-        Node::Hide(inner) => hide_node(program, depth, *inner, here, room),
+        Node::Hide(inner) => {
+            let mark = here.nouns.len();
+            within(program, depth, mark, *inner, here, room)
+        }
         Node::Object {
             pattern,
             auditors,
@@ -180,22 +184,6 @@ fn within(
     let value = evaluate(program, depth, id, here, room)?;
     cut(room.alloc, mark, here);
     Ok(value)
-}
-
-/// Evaluates an expression whose names are dropped behind it.
-#[cycle(evaluate)]
-#[tactic(auto, using(crate::proofs::Exits::ends), unfolding(crate::specs::Steps::opened_steps))]
-fn hide_node(
-    program: &Kernel,
-    depth: u32,
-    id: NodeId,
-    here: &mut Scope,
-    room: &mut Room,
-) -> Result<Value, Exit>
-    ensures outcome { GivesIn result here.new room.new (hide_node (evaluator program.now depth) id here.old room.old) }
-{
-    let mark = here.nouns.len();
-    within(program, depth, mark, id, here, room)
 }
 
 /// Evaluates an if: its test, and then the branch that the test chooses. The names of the test are known in the first branch,
@@ -303,6 +291,7 @@ fn call_at(
     match receiver {
         Value::Obj(object) => call_object(program, depth, act, object, verb, args, room),
         Value::Broken(id) => Err(Exit::Thrown(id)),
+        Value::Prim(number) => perform(program, depth, levels - 1, act, number, verb, args, room),
         Value::Null
         | Value::Bool(_)
         | Value::Int(_)
@@ -311,6 +300,84 @@ fn call_at(
         | Value::List(_) => call_data(program, depth, levels - 1, act, receiver, verb, args, room),
         _ => Err(Exit::Unbuilt),
     }
+}
+
+/// Does what is asked of a primitive, which tells no line of its own call.
+#[cycle(evaluate)]
+#[tactic(auto, unfolding(crate::specs::Steps::performed, crate::specs::Steps::fails, crate::specs::Steps::fail))]
+fn perform(
+    program: &Kernel,
+    depth: u32,
+    levels: u128,
+    act: ActId,
+    number: PrimId,
+    verb: &str,
+    args: &[Value],
+    room: &mut Room,
+) -> Result<Value, Exit>
+    ensures outcome { Gives result room.new (performed (call_at program.now (evaluator program.now depth) levels) act (asked_of number verb.now args.now) args.now room.old) }
+{
+    match ask(number, verb, args) {
+        Asked::MakesList => make_list(act, args, room),
+        Asked::Ranges(last, first, end) => {
+            let reply = range(room.alloc, last, first, end)?;
+            replied(program, depth, levels, act, &reply, room)
+        }
+        Asked::Compares(test, first, second) => {
+            compared(program, depth, levels, act, test, &first, &second, room)
+        }
+        Asked::Loops(object) => turns(program, depth, levels, act, &object, room),
+        Asked::ThrowsIt(value) => Err(Exit::Thrown(thrown_id(value))),
+        Asked::NoMethod => Err(Exit::Thrown(problem_id(Problem::NoMethod))),
+        _ => Err(Exit::Unbuilt),
+    }
+}
+
+/// Whether the order of two values passes a test.
+#[cycle(evaluate)]
+#[tactic(auto, unfolding(crate::specs::Steps::compared, crate::specs::Steps::compared_there, crate::specs::Steps::pair_there, crate::specs::Steps::fail))]
+fn compared(
+    program: &Kernel,
+    depth: u32,
+    levels: u128,
+    act: ActId,
+    test: Test,
+    first: &Value,
+    second: &Value,
+    room: &mut Room,
+) -> Result<Value, Exit>
+    ensures outcome { Gives result room.new (compared (call_at program.now (evaluator program.now depth) levels) act test first.now second.now room.old) }
+{
+    if !(is_there(&room.heap, *first) && is_there(&room.heap, *second)) {
+        return Err(Exit::Astray);
+    }
+    let reply = compare(&room.heap, test, *first, *second);
+    replied(program, depth, levels, act, &reply, room)
+}
+
+/// Calls `run` of a value until it answers false, as often at most as there is fuel.
+#[cycle(evaluate)]
+#[tactic(auto, using(crate::proofs::Exits::ends, crate::proofs::Depth::turns_from, crate::proofs::Depth::turns_none, crate::proofs::Depth::turns_all), unfolding(crate::specs::Steps::opened_steps))]
+fn turns(
+    program: &Kernel,
+    depth: u32,
+    levels: u128,
+    act: ActId,
+    object: &Value,
+    room: &mut Room,
+) -> Result<Value, Exit>
+    ensures outcome { Gives result room.new (loop (call_at program.now (evaluator program.now depth) levels) act object.now room.old) }
+{
+    let most = u64::from(room.micro.fuel) + 1;
+    for turn in 0..most {
+        let value = call_at(program, depth, levels, act, *object, "run", &[], room)?;
+        match value {
+            Value::Bool(true) => {}
+            Value::Bool(false) => return Ok(Value::Null),
+            _ => return Err(Exit::Thrown(problem_id(Problem::NotBoolean))),
+        }
+    }
+    Err(Exit::Fuel)
 }
 
 /// A call on data, in which calls again stand at most so many times one inside another.

@@ -1,9 +1,7 @@
 //! Binding of patterns.
 
 ghost use Rattle.std.specs.Prelude.{◌≡◌, option_map, slice_get};
-ghost use Rattle.ev_eval.specs.declared.room.Room.{Room};
-ghost use Rattle.ev_eval.specs.declared.scope.Scope.{Scope};
-ghost use Rattle.ev_eval.specs.Steps.{Binds, bind_all, bind_any, bind_final, bind_step, bind_var, evaluator};
+ghost use Rattle.ev_eval.specs.Steps.{Binds, bind_all, bind_final, bind_step, bind_var, evaluator};
 
 use crate::exit::Exit;
 use crate::room::{Room, spend, tell};
@@ -74,17 +72,6 @@ fn bind_var(
     }
 }
 
-/// Takes any value, and binds nothing.
-#[tactic(auto, unfolding(crate::specs::Steps::opened_steps))]
-fn bind_any(guard: Option<NodeId>) -> Result<(), Exit>
-    ensures { (here : Scope) → (room : Room) → Binds result here room (bind_any guard here room) }
-{
-    match guard {
-        Some(_) => Err(Exit::Unbuilt),
-        None => Ok(()),
-    }
-}
-
 /// Binds the names of a pattern to a value.
 #[tactic(auto, using(crate::proofs::Exits::ends), unfolding(crate::specs::Steps::opened_steps))]
 fn bind_step(node: &Node, value: Value, here: &mut Scope, room: &mut Room) -> Result<(), Exit>
@@ -93,7 +80,8 @@ fn bind_step(node: &Node, value: Value, here: &mut Scope, room: &mut Room) -> Re
     match node {
         Node::Final(noun, guard) => bind_final(noun.as_str(), *guard, value, here, room),
         Node::Var(noun, guard) => bind_var(noun.as_str(), *guard, value, here, room),
-        Node::Any(guard) => bind_any(*guard),
+        Node::Any(Some(_)) => Err(Exit::Unbuilt),
+        Node::Any(None) => Ok(()),
         Node::Lit(_)
         | Node::Noun(_)
         | Node::Set(_, _)

@@ -1,4 +1,5 @@
 pub mod AskLemmas
+pub mod AskMeans
 pub mod Casts
 pub mod DataLemmas
 pub mod FormLemmas
@@ -7,6 +8,7 @@ pub mod IntegerLemmas
 pub mod Means
 pub mod OrderLemmas
 pub mod PrimitiveLemmas
+pub mod RangeAnswers
 pub mod RangeLemmas
 pub mod SeqLemmas
 pub mod TextLemmas

@@ -8,7 +8,11 @@ use Rattle.std.specs.declared.cmp.Ordering.TheVariants.{Less, Equal, Greater}
 use Rattle.std.proofs.lemmas.Bool.Decides.{nat_tests}
 use Rattle.ev_machine.specs.Values.{Words, Flag, Local}
 use Rattle.ev_machine.specs.Native as native
-use Rattle.ev_prims.specs.Orders.{order_in}
+use Rattle.ev_base.specs.declared.values.Value.TheVariants as held
+use Rattle.ev_prims.specs.Orders.{order_in, test_in, compared_by}
+use Rattle.ev_prims.specs.declared.order.Test.{Test}
+use Rattle.ev_prims.specs.declared.problem.Problem.TheVariants.{NotComparable}
+use Rattle.ev_prims.specs.declared.reply.Reply.TheVariants as reply
 
 pub order_of_is : (a b : ℕ) → native.order_of a b ≡ order_in (nat_cmp a b)
 unfolding native.order_of
@@ -45,3 +49,11 @@ pub compared_some : (t : native.Order → Bool) (o : Option native.Order) (p : n
 unfolding native.compared
 compared_some t None p e = absurd (cc)
 compared_some t (Some o) p e = let f : Some o ≡ Some p = e in let g : o ≡ p = cc in ap (λ q. native.Says (Flag (t q))) g
+
+pub ordered_none : (t : Test) (o : Option native.Order) → o ≡ None → compared_by t o ≡ reply.Fails NotComparable
+unfolding compared_by
+ordered_none t o e = ap (compared_by t) e
+
+pub ordered_some : (t : Test) (o : Option native.Order) (p : native.Order) → o ≡ Some p → compared_by t o ≡ reply.Says (held.Bool (test_in t p))
+unfolding compared_by
+ordered_some t o p e = ap (compared_by t) e

@@ -1,9 +1,13 @@
 -- Primitives by their numbers.
-use Rattle.std.proofs.Common.{◌≡◌, ℕ, ◌-◌, ◌<◌, ◌≤◌, true, false, Some, None, refl, ap, ◌∙◌}
-use Rattle.std.specs.Prelude.{codes}
+use Rattle.std.proofs.Common.{◌≡◌, ℕ, Bool, ◌-◌, ◌<◌, ◌≤◌, true, false, Some, None, refl, ap, ◌∙◌}
+use Rattle.std.specs.Prelude.{codes, if◌then◌else◌, unwrap_or}
+use Rattle.std.specs.declared.option.Option.{Option}
 use Rattle.std.proofs.lemmas.Option.{slice_get_past}
 use Rattle.std.proofs.lemmas.Bool.{lt-ltb, le-ltb}
 use Rattle.ev_machine.specs.Values.{Local, Prim}
+use Rattle.ev_prims.specs.declared.primitives.Primitive.{Primitive as Ours}
+use Rattle.ev_prims.specs.declared.primitives.Primitive.TheVariants as ours
+use Rattle.ev_prims.specs.Asks as asks
 use Rattle.ev_machine.specs.Native.{Fails, AnyGuard, VoidGuard, IntGuard, BooleanGuard, CharGuard, TextGuard, ListGuard, NullGuard, NearGuard, FrozenGuard, OrNull, Primitive, MakeList, Equalizer, Comparer, Looper, Sender, References, Thrower, StampReader, Guarding, NoPrimitive, primitives, numbered, with_null, primitive, null_or}
 
 -- ---- numbers
@@ -50,3 +54,17 @@ null_or_high n h = ap (null_or n) (primitive_high n h) ∙ with_null_fails n (nu
 
 pub null_or_low : (n : ℕ) → n < 32 → null_or {N = Local} n (primitive n) ≡ null_or n (numbered n)
 null_or_low n h = ap (null_or n) (primitive_low n h)
+
+-- ---- the same in the terms of the code
+
+pub none_past : (n : ℕ) → 18 ≤ n → asks.numbered n ≡ ours.NoPrimitive
+unfolding asks.numbered
+none_past n h = ap (λ (o : Option Ours). unwrap_or o ours.NoPrimitive) (slice_get_past asks.primitives n h)
+
+pub low_is : (n : ℕ) → n < 32 → asks.primitive_at n ≡ asks.numbered n
+unfolding asks.primitive_at
+low_is n h = ap (λ (b : Bool). if b then asks.numbered n else asks.with_null (asks.numbered (n - 32))) (lt-ltb n 32 h)
+
+pub high_is : (n : ℕ) → 32 ≤ n → asks.primitive_at n ≡ asks.with_null (asks.numbered (n - 32))
+unfolding asks.primitive_at
+high_is n h = ap (λ (b : Bool). if b then asks.numbered n else asks.with_null (asks.numbered (n - 32))) (le-ltb n 32 h)

@@ -109,19 +109,19 @@ list_verb_at x v e = list_verb_is x ∙ ap seq_verb_of e
 
 -- ---- what is asked of primitives
 
-abbrev compares : Value Local → Value Local → Option Test → native.Asked Local
+abbrev pub compares : Value Local → Value Local → Option Test → native.Asked Local
 compares a b (Some t) = native.Compares (test_in t) a b
 compares a b None = native.NoMethod
 
-comparer_is : (x : Words) (a b : Value Local) → native.comparer_ask x (a ∷ b ∷ []) ≡ compares a b (test_named x)
+pub comparer_is : (x : Words) (a b : Value Local) → native.comparer_ask x (a ∷ b ∷ []) ≡ compares a b (test_named x)
 unfolding native.comparer_ask test_named
 comparer_is x a b = by_table (compares a b) tests None x
 
-abbrev ranges : Value Local → Value Local → Option Bool → native.Asked Local
+abbrev pub ranges : Value Local → Value Local → Option Bool → native.Asked Local
 ranges a b (Some last) = native.Ranges last a b
 ranges a b None = native.NoMethod
 
-list_ask_is : (x : Words) (a b : Value Local)
+pub list_ask_is : (x : Words) (a b : Value Local)
     → native.list_ask x (a ∷ b ∷ []) ≡ (if bytes_eq x (codes "run") then native.MakesList (a ∷ b ∷ []) else ranges a b (range_named x))
 unfolding native.list_ask range_named entry
 list_ask_is x a b =

@@ -1,9 +1,11 @@
 pub mod Answers
 pub mod Asking
+pub mod Asks
 pub mod Forms
 pub mod Orders
 pub mod Primitives
 pub mod Problems
+pub mod Ranges
 pub mod Reading
 pub mod Sequences
 pub mod Taking

@@ -1,14 +1,16 @@
 //! What is asked of a primitive.
 
-ghost use Rattle.std.specs.Prelude.{◌≡◌, List, [], ◌∷◌};
+ghost use Rattle.std.specs.Prelude.{◌≡◌, List, [], ◌∷◌, codes};
 ghost use Rattle.ev_base.specs.declared.values.Value.{Value as Held};
 ghost use Rattle.ev_heap.specs.Contents.{Contents};
 ghost use Rattle.ev_machine.specs.Native as native;
 ghost use Rattle.ev_prims.specs.Asking.{asked_in, list_asked};
+ghost use Rattle.ev_prims.specs.Asks.{asked_of, asks_more, asks_none, asks_one, asks_three, asks_two, compares, guard_one, list_two, ref_one, ref_two, send_three, where_named};
 ghost use Rattle.ev_prims.specs.Forms.{args_of};
 ghost use Rattle.ev_prims.specs.Primitives.{guard_in, primitive_in};
 ghost use Rattle.ev_prims.specs.Reading.{value_in, values_in};
 ghost use Rattle.ev_prims.specs.Verbs.{range_named, ref_test_named, test_named};
+ghost use Rattle.ev_prims.specs.declared.asking.Asked.TheVariants as ask;
 ghost use Rattle.ev_prims.specs.declared.forms.Args.TheVariants.{More};
 
 use crate::forms::{Args, args_of};
@@ -60,7 +62,8 @@ pub enum Asked {
 /// The list of all arguments, of `__makeList`.
 #[tactic(auto, using(crate::proofs::VerbLemmas::entry_is))]
 fn makes_list(verb: &str) -> Asked
-    ensures { (h : Contents) (args : List Held) → asked_in h args result ≡ list_asked verb.now (values_in h args) }
+    ensures is { result ≡ where_named (codes "run") ask.MakesList verb.now }
+    ensures means { (h : Contents) (args : List Held) → asked_in h args result ≡ list_asked verb.now (values_in h args) }
 {
     if verb == "run" {
         Asked::MakesList
@@ -84,7 +87,8 @@ fn range_of(verb: &str) -> Option<bool>
 /// What `__makeList` is asked of two values.
 #[tactic(auto, using(crate::proofs::VerbLemmas::list_ask_run, crate::proofs::VerbLemmas::list_ask_range, crate::proofs::VerbLemmas::list_ask_none))]
 fn list_two(verb: &str, a: Value, b: Value) -> Asked
-    ensures { (h : Contents) → asked_in h (a ∷ b ∷ []) result ≡ native.list_ask verb.now (value_in h a ∷ value_in h b ∷ []) }
+    ensures is { result ≡ list_two verb.now a b }
+    ensures means { (h : Contents) → asked_in h (a ∷ b ∷ []) result ≡ native.list_ask verb.now (value_in h a ∷ value_in h b ∷ []) }
 {
     if verb == "run" {
         return Asked::MakesList;
@@ -98,7 +102,8 @@ fn list_two(verb: &str, a: Value, b: Value) -> Asked
 /// What `__equalizer` is asked of two values.
 #[tactic(auto, using(crate::proofs::VerbLemmas::entry_is), unfolding(ev_machine::specs::Native::equalizer_ask))]
 fn same(verb: &str, a: Value, b: Value) -> Asked
-    ensures { (h : Contents) (args : List Held) → asked_in h args result ≡ native.equalizer_ask verb.now (value_in h a ∷ value_in h b ∷ []) }
+    ensures is { result ≡ where_named (codes "sameEver") (ask.Same a b) verb.now }
+    ensures means { (h : Contents) (args : List Held) → asked_in h args result ≡ native.equalizer_ask verb.now (value_in h a ∷ value_in h b ∷ []) }
 {
     if verb == "sameEver" {
         Asked::Same(a, b)
@@ -125,7 +130,8 @@ fn test_of(verb: &str) -> Option<Test>
 /// What `__comparer` is asked of two values.
 #[tactic(auto, using(crate::proofs::VerbLemmas::comparer_test, crate::proofs::VerbLemmas::comparer_none))]
 fn compares(verb: &str, a: Value, b: Value) -> Asked
-    ensures { (h : Contents) (args : List Held) → asked_in h args result ≡ native.comparer_ask verb.now (value_in h a ∷ value_in h b ∷ []) }
+    ensures is { result ≡ compares (test_named verb.now) a b }
+    ensures means { (h : Contents) (args : List Held) → asked_in h args result ≡ native.comparer_ask verb.now (value_in h a ∷ value_in h b ∷ []) }
 {
     match test_of(verb) {
         Some(test) => Asked::Compares(test, a, b),
@@ -136,7 +142,8 @@ fn compares(verb: &str, a: Value, b: Value) -> Asked
 /// What `__loop` is asked of one value.
 #[tactic(auto, using(crate::proofs::VerbLemmas::entry_is), unfolding(ev_machine::specs::Native::run_ask))]
 fn loops(verb: &str, a: Value) -> Asked
-    ensures { (h : Contents) (args : List Held) → asked_in h args result ≡ native.run_ask native.Loops verb.now (value_in h a ∷ []) }
+    ensures is { result ≡ where_named (codes "run") (ask.Loops a) verb.now }
+    ensures means { (h : Contents) (args : List Held) → asked_in h args result ≡ native.run_ask native.Loops verb.now (value_in h a ∷ []) }
 {
     if verb == "run" {
         Asked::Loops(a)
@@ -148,7 +155,8 @@ fn loops(verb: &str, a: Value) -> Asked
 /// What `throw` is asked of one value.
 #[tactic(auto, using(crate::proofs::VerbLemmas::entry_is), unfolding(ev_machine::specs::Native::run_ask))]
 fn throws(verb: &str, a: Value) -> Asked
-    ensures { (h : Contents) (args : List Held) → asked_in h args result ≡ native.run_ask native.ThrowsIt verb.now (value_in h a ∷ []) }
+    ensures is { result ≡ where_named (codes "run") (ask.ThrowsIt a) verb.now }
+    ensures means { (h : Contents) (args : List Held) → asked_in h args result ≡ native.run_ask native.ThrowsIt verb.now (value_in h a ∷ []) }
 {
     if verb == "run" {
         Asked::ThrowsIt(a)
@@ -160,7 +168,8 @@ fn throws(verb: &str, a: Value) -> Asked
 /// What `E` is asked of three values.
 #[tactic(auto, using(crate::proofs::VerbLemmas::entry_is), unfolding(ev_machine::specs::Native::send_ask))]
 fn sends(verb: &str, a: Value, b: Value, c: Value) -> Asked
-    ensures { (h : Contents) (args : List Held) → asked_in h args result ≡ native.send_ask verb.now (value_in h a ∷ value_in h b ∷ value_in h c ∷ []) }
+    ensures is { result ≡ send_three verb.now a b c }
+    ensures means { (h : Contents) (args : List Held) → asked_in h args result ≡ native.send_ask verb.now (value_in h a ∷ value_in h b ∷ value_in h c ∷ []) }
 {
     if verb == "send" {
         Asked::SendsTo(a, b, c)
@@ -174,7 +183,8 @@ fn sends(verb: &str, a: Value, b: Value, c: Value) -> Asked
 /// What `auditedBy` is asked of two values.
 #[tactic(auto, using(crate::proofs::VerbLemmas::entry_is), unfolding(ev_machine::specs::Native::stamp_ask))]
 fn stamped(verb: &str, a: Value, b: Value) -> Asked
-    ensures { (h : Contents) (args : List Held) → asked_in h args result ≡ native.stamp_ask verb.now (value_in h a ∷ value_in h b ∷ []) }
+    ensures is { result ≡ where_named (codes "run") (ask.IsStamped a b) verb.now }
+    ensures means { (h : Contents) (args : List Held) → asked_in h args result ≡ native.stamp_ask verb.now (value_in h a ∷ value_in h b ∷ []) }
 {
     if verb == "run" {
         Asked::IsStamped(a, b)
@@ -186,7 +196,8 @@ fn stamped(verb: &str, a: Value, b: Value) -> Asked
 /// What `Ref` is asked without arguments.
 #[tactic(auto, using(crate::proofs::VerbLemmas::entry_is), unfolding(ev_machine::specs::Native::ref_ask))]
 fn promises(verb: &str) -> Asked
-    ensures { (h : Contents) (args : List Held) → asked_in h args result ≡ native.ref_ask verb.now [] }
+    ensures is { result ≡ where_named (codes "promise") ask.MakesPromise verb.now }
+    ensures means { (h : Contents) (args : List Held) → asked_in h args result ≡ native.ref_ask verb.now [] }
 {
     if verb == "promise" {
         Asked::MakesPromise
@@ -214,7 +225,8 @@ fn ref_test_of(verb: &str) -> Option<RefTest>
 /// What `Ref` is asked of one value.
 #[tactic(auto, using(crate::proofs::VerbLemmas::ref_ask_breaks, crate::proofs::VerbLemmas::ref_ask_test, crate::proofs::VerbLemmas::ref_ask_none))]
 fn tells(verb: &str, a: Value) -> Asked
-    ensures { (h : Contents) (args : List Held) → asked_in h args result ≡ native.ref_ask verb.now (value_in h a ∷ []) }
+    ensures is { result ≡ ref_one verb.now a }
+    ensures means { (h : Contents) (args : List Held) → asked_in h args result ≡ native.ref_ask verb.now (value_in h a ∷ []) }
 {
     if verb == "broken" {
         return Asked::Breaks(a);
@@ -228,7 +240,8 @@ fn tells(verb: &str, a: Value) -> Asked
 /// What `Ref` is asked of a value and a reaction.
 #[tactic(auto, unfolding(ev_machine::specs::Free::entry, ev_machine::specs::Native::ref_ask))]
 fn whens(verb: &str, a: Value, b: Value) -> Asked
-    ensures { (h : Contents) (args : List Held) → asked_in h args result ≡ native.ref_ask verb.now (value_in h a ∷ value_in h b ∷ []) }
+    ensures is { result ≡ ref_two verb.now a b }
+    ensures means { (h : Contents) (args : List Held) → asked_in h args result ≡ native.ref_ask verb.now (value_in h a ∷ value_in h b ∷ []) }
 {
     if is_verb(verb, "whenResolved") {
         Asked::Whens(a, b)
@@ -240,7 +253,8 @@ fn whens(verb: &str, a: Value, b: Value) -> Asked
 /// What `nullOk` is asked of one value.
 #[tactic(auto, using(crate::proofs::VerbLemmas::entry_is), unfolding(ev_machine::specs::Native::guard_ask))]
 fn adds_null(verb: &str, a: Value) -> Asked
-    ensures { (h : Contents) (args : List Held) → asked_in h args result ≡ native.guard_ask native.NullGuard verb.now (value_in h a ∷ []) }
+    ensures is { result ≡ where_named (codes "get") (ask.AddsNull a) verb.now }
+    ensures means { (h : Contents) (args : List Held) → asked_in h args result ≡ native.guard_ask native.NullGuard verb.now (value_in h a ∷ []) }
 {
     if verb == "get" {
         Asked::AddsNull(a)
@@ -252,7 +266,8 @@ fn adds_null(verb: &str, a: Value) -> Asked
 /// What a native guard is asked of one value: `nullOk` alone has such a method.
 #[tactic(auto, unfolding(ev_machine::specs::Native::guard_ask))]
 fn guard_one(guard: Guard, verb: &str, a: Value) -> Asked
-    ensures { (h : Contents) (args : List Held) → asked_in h args result ≡ native.guard_ask (guard_in guard) verb.now (value_in h a ∷ []) }
+    ensures is { result ≡ guard_one guard verb.now a }
+    ensures means { (h : Contents) (args : List Held) → asked_in h args result ≡ native.guard_ask (guard_in guard) verb.now (value_in h a ∷ []) }
 {
     if guard.or_null {
         return Asked::NoMethod;
@@ -266,7 +281,8 @@ fn guard_one(guard: Guard, verb: &str, a: Value) -> Asked
 /// What a native guard is asked of a specimen and an ejector.
 #[tactic(auto, using(crate::proofs::VerbLemmas::entry_is), unfolding(ev_machine::specs::Native::guard_ask))]
 fn coerces(guard: Guard, verb: &str, a: Value, b: Value) -> Asked
-    ensures { (h : Contents) (args : List Held) → asked_in h args result ≡ native.guard_ask (guard_in guard) verb.now (value_in h a ∷ value_in h b ∷ []) }
+    ensures is { result ≡ where_named (codes "coerce") (ask.Coerces guard a b) verb.now }
+    ensures means { (h : Contents) (args : List Held) → asked_in h args result ≡ native.guard_ask (guard_in guard) verb.now (value_in h a ∷ value_in h b ∷ []) }
 {
     if verb == "coerce" {
         Asked::Coerces(guard, a, b)
@@ -276,9 +292,10 @@ fn coerces(guard: Guard, verb: &str, a: Value, b: Value) -> Asked
 }
 
 /// What is asked of a primitive without arguments.
-#[tactic(auto, unfolding(ev_machine::specs::Native::asked, ev_machine::specs::Native::list_ask, ev_machine::specs::Native::equalizer_ask, ev_machine::specs::Native::comparer_ask, ev_machine::specs::Native::run_ask, ev_machine::specs::Native::send_ask, ev_machine::specs::Native::ref_ask, ev_machine::specs::Native::stamp_ask, ev_machine::specs::Native::guard_ask))]
+#[tactic(auto, unfolding(crate::specs::Asks::asks_none, ev_machine::specs::Native::asked, ev_machine::specs::Native::list_ask, ev_machine::specs::Native::equalizer_ask, ev_machine::specs::Native::comparer_ask, ev_machine::specs::Native::run_ask, ev_machine::specs::Native::send_ask, ev_machine::specs::Native::ref_ask, ev_machine::specs::Native::stamp_ask, ev_machine::specs::Native::guard_ask))]
 fn ask_none(primitive: Primitive, verb: &str) -> Asked
-    ensures { (h : Contents) → asked_in h [] result ≡ native.asked (primitive_in primitive) verb.now [] }
+    ensures is { result ≡ asks_none primitive verb.now }
+    ensures means { (h : Contents) → asked_in h [] result ≡ native.asked (primitive_in primitive) verb.now [] }
 {
     match primitive {
         Primitive::MakeList => makes_list(verb),
@@ -288,9 +305,10 @@ fn ask_none(primitive: Primitive, verb: &str) -> Asked
 }
 
 /// What is asked of a primitive with one argument.
-#[tactic(auto, unfolding(ev_machine::specs::Native::asked, ev_machine::specs::Native::list_ask, ev_machine::specs::Native::equalizer_ask, ev_machine::specs::Native::comparer_ask, ev_machine::specs::Native::run_ask, ev_machine::specs::Native::send_ask, ev_machine::specs::Native::ref_ask, ev_machine::specs::Native::stamp_ask, ev_machine::specs::Native::guard_ask))]
+#[tactic(auto, unfolding(crate::specs::Asks::asks_one, ev_machine::specs::Native::asked, ev_machine::specs::Native::list_ask, ev_machine::specs::Native::equalizer_ask, ev_machine::specs::Native::comparer_ask, ev_machine::specs::Native::run_ask, ev_machine::specs::Native::send_ask, ev_machine::specs::Native::ref_ask, ev_machine::specs::Native::stamp_ask, ev_machine::specs::Native::guard_ask))]
 fn ask_one(primitive: Primitive, verb: &str, a: Value) -> Asked
-    ensures { (h : Contents) → asked_in h (a ∷ []) result ≡ native.asked (primitive_in primitive) verb.now (value_in h a ∷ []) }
+    ensures is { result ≡ asks_one primitive verb.now a }
+    ensures means { (h : Contents) → asked_in h (a ∷ []) result ≡ native.asked (primitive_in primitive) verb.now (value_in h a ∷ []) }
 {
     match primitive {
         Primitive::MakeList => makes_list(verb),
@@ -303,9 +321,10 @@ fn ask_one(primitive: Primitive, verb: &str, a: Value) -> Asked
 }
 
 /// What is asked of a primitive with two arguments.
-#[tactic(auto, unfolding(ev_machine::specs::Native::asked, ev_machine::specs::Native::run_ask, ev_machine::specs::Native::send_ask))]
+#[tactic(auto, unfolding(crate::specs::Asks::asks_two, ev_machine::specs::Native::asked, ev_machine::specs::Native::run_ask, ev_machine::specs::Native::send_ask))]
 fn ask_two(primitive: Primitive, verb: &str, a: Value, b: Value) -> Asked
-    ensures { (h : Contents) → asked_in h (a ∷ b ∷ []) result ≡ native.asked (primitive_in primitive) verb.now (value_in h a ∷ value_in h b ∷ []) }
+    ensures is { result ≡ asks_two primitive verb.now a b }
+    ensures means { (h : Contents) → asked_in h (a ∷ b ∷ []) result ≡ native.asked (primitive_in primitive) verb.now (value_in h a ∷ value_in h b ∷ []) }
 {
     match primitive {
         Primitive::MakeList => list_two(verb, a, b),
@@ -319,9 +338,10 @@ fn ask_two(primitive: Primitive, verb: &str, a: Value, b: Value) -> Asked
 }
 
 /// What is asked of a primitive with three arguments.
-#[tactic(auto, unfolding(ev_machine::specs::Native::asked, ev_machine::specs::Native::list_ask, ev_machine::specs::Native::equalizer_ask, ev_machine::specs::Native::comparer_ask, ev_machine::specs::Native::run_ask, ev_machine::specs::Native::ref_ask, ev_machine::specs::Native::stamp_ask, ev_machine::specs::Native::guard_ask))]
+#[tactic(auto, unfolding(crate::specs::Asks::asks_three, ev_machine::specs::Native::asked, ev_machine::specs::Native::list_ask, ev_machine::specs::Native::equalizer_ask, ev_machine::specs::Native::comparer_ask, ev_machine::specs::Native::run_ask, ev_machine::specs::Native::ref_ask, ev_machine::specs::Native::stamp_ask, ev_machine::specs::Native::guard_ask))]
 fn ask_three(primitive: Primitive, verb: &str, a: Value, b: Value, c: Value) -> Asked
-    ensures { (h : Contents) → asked_in h (a ∷ b ∷ c ∷ []) result ≡ native.asked (primitive_in primitive) verb.now (value_in h a ∷ value_in h b ∷ value_in h c ∷ []) }
+    ensures is { result ≡ asks_three primitive verb.now a b c }
+    ensures means { (h : Contents) → asked_in h (a ∷ b ∷ c ∷ []) result ≡ native.asked (primitive_in primitive) verb.now (value_in h a ∷ value_in h b ∷ value_in h c ∷ []) }
 {
     match primitive {
         Primitive::MakeList => makes_list(verb),
@@ -331,9 +351,10 @@ fn ask_three(primitive: Primitive, verb: &str, a: Value, b: Value, c: Value) -> 
 }
 
 /// What is asked of a primitive with more arguments.
-#[tactic(auto, using(crate::proofs::AskLemmas::more_of_list, crate::proofs::AskLemmas::more_of_other))]
+#[tactic(auto, using(crate::proofs::AskLemmas::more_of_list, crate::proofs::AskLemmas::more_of_other), unfolding(crate::specs::Asks::asks_more))]
 fn ask_more(primitive: Primitive, verb: &str) -> Asked
-    ensures { (h : Contents) (args : List Held) → args_of args ≡ More → asked_in h args result ≡ native.asked (primitive_in primitive) verb.now (values_in h args) }
+    ensures is { result ≡ asks_more primitive verb.now }
+    ensures means { (h : Contents) (args : List Held) → args_of args ≡ More → asked_in h args result ≡ native.asked (primitive_in primitive) verb.now (values_in h args) }
 {
     match primitive {
         Primitive::MakeList => makes_list(verb),
@@ -343,9 +364,10 @@ fn ask_more(primitive: Primitive, verb: &str) -> Asked
 
 /// What is asked of the primitive of that number by a verb and arguments as they are held. A primitive that has no such method
 /// is asked nothing, and a number of no primitive has none.
-#[tactic(auto, using(crate::proofs::FormLemmas::none_of_args, crate::proofs::FormLemmas::one_of_args, crate::proofs::FormLemmas::two_of_args, crate::proofs::FormLemmas::three_of_args))]
+#[tactic(auto, using(crate::proofs::FormLemmas::none_of_args, crate::proofs::FormLemmas::one_of_args, crate::proofs::FormLemmas::two_of_args, crate::proofs::FormLemmas::three_of_args), unfolding(crate::specs::Asks::asked_by))]
 pub fn ask(number: PrimId, verb: &str, args: &[Value]) -> Asked
-    ensures { (h : Contents) → asked_in h args.now result ≡ native.asked (native.primitive number) verb.now (values_in h args.now) }
+    ensures is { result ≡ asked_of number verb.now args.now }
+    ensures means { (h : Contents) → asked_in h args.now result ≡ native.asked (native.primitive number) verb.now (values_in h args.now) }
 {
     let primitive = primitive_of(number);
     match args_of(args) {

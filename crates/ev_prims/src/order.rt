@@ -3,7 +3,7 @@
 ghost use Rattle.std.specs.Prelude.{◌≡◌, option_map};
 ghost use Rattle.ev_heap.specs.Contents.{IsWeighable};
 ghost use Rattle.ev_machine.specs.Native as native;
-ghost use Rattle.ev_prims.specs.Orders.{order_in, test_in};
+ghost use Rattle.ev_prims.specs.Orders.{compared_by, order_in, test_in};
 ghost use Rattle.ev_prims.specs.Reading.{reply_in, value_in};
 
 use crate::problem::Problem;
@@ -64,11 +64,12 @@ fn value_order(heap: &Heap, x: Value, y: Value) -> Option<Ordering>
 
 /// Whether the order of two followed values passes a test. Two values that are not both integers, both characters or both texts
 /// are not comparable. Their texts are to be in the heap.
-#[tactic(auto, using(crate::proofs::OrderLemmas::compared_none, crate::proofs::OrderLemmas::compared_some))]
+#[tactic(auto, using(crate::proofs::OrderLemmas::compared_none, crate::proofs::OrderLemmas::compared_some, crate::proofs::OrderLemmas::ordered_none, crate::proofs::OrderLemmas::ordered_some))]
 pub fn compare(heap: &Heap, test: Test, x: Value, y: Value) -> Reply
     requires first { IsWeighable heap.now x }
     requires second { IsWeighable heap.now y }
-    ensures { reply_in heap.now result ≡ native.compared (test_in test) (native.value_order (value_in heap.now x) (value_in heap.now y)) }
+    ensures is { result ≡ compared_by test (native.value_order (value_in heap.now x) (value_in heap.now y)) }
+    ensures means { reply_in heap.now result ≡ native.compared (test_in test) (native.value_order (value_in heap.now x) (value_in heap.now y)) }
 {
     match value_order(heap, x, y) {
         Some(order) => Reply::Says(Value::Bool(passes(test, order))),

@@ -3,6 +3,7 @@
 ghost use Rattle.std.specs.Prelude.{◌≡◌, ◌<◌, option_map};
 ghost use Rattle.ev_heap.specs.Contents.{Contents};
 ghost use Rattle.ev_machine.specs.Native as native;
+ghost use Rattle.ev_prims.specs.Asks.{bare, numbered, primitive_at, with_null};
 ghost use Rattle.ev_prims.specs.Primitives.{IsBare, guard_in, kind_in, primitive_in};
 ghost use Rattle.ev_prims.specs.Reading.{reply_in, value_in};
 
@@ -53,6 +54,7 @@ pub enum Primitive {
 
 /// A native guard that takes null only where its kind does.
 fn guarding(kind: Kind) -> Primitive
+    ensures is { result ≡ bare kind }
     ensures guard { primitive_in result ≡ native.Guarding (kind_in kind) }
     ensures bare { IsBare result }
 {
@@ -63,8 +65,9 @@ fn guarding(kind: Kind) -> Primitive
 }
 
 /// The primitive that stands at a place of the safe scope.
-#[tactic(auto, using(crate::proofs::PrimitiveLemmas::numbered_past), unfolding(ev_machine::specs::Native::numbered, ev_machine::specs::Native::primitives))]
+#[tactic(auto, using(crate::proofs::PrimitiveLemmas::numbered_past, crate::proofs::PrimitiveLemmas::none_past), unfolding(crate::specs::Asks::numbered, ev_machine::specs::Native::numbered, ev_machine::specs::Native::primitives))]
 fn numbered(place: u8) -> Primitive
+    ensures is { result ≡ numbered place }
     ensures number { primitive_in result ≡ native.numbered place }
     ensures bare { IsBare result }
 {
@@ -95,7 +98,8 @@ fn numbered(place: u8) -> Primitive
 #[tactic(auto, unfolding(ev_machine::specs::Native::with_null))]
 fn with_null(primitive: Primitive) -> Primitive
     requires { IsBare primitive }
-    ensures { primitive_in result ≡ native.with_null (primitive_in primitive) }
+    ensures is { result ≡ with_null primitive }
+    ensures means { primitive_in result ≡ native.with_null (primitive_in primitive) }
 {
     match primitive {
         Primitive::Guarding(guard) => match guard.kind {
@@ -110,9 +114,10 @@ fn with_null(primitive: Primitive) -> Primitive
 }
 
 /// The primitive of that number. From 32 on they are the guards that take null as well, each by the number of its guard.
-#[tactic(auto, using(crate::proofs::PrimitiveLemmas::primitive_low, crate::proofs::PrimitiveLemmas::primitive_high))]
+#[tactic(auto, using(crate::proofs::PrimitiveLemmas::primitive_low, crate::proofs::PrimitiveLemmas::primitive_high, crate::proofs::PrimitiveLemmas::low_is, crate::proofs::PrimitiveLemmas::high_is))]
 pub fn primitive_of(number: PrimId) -> Primitive
-    ensures { primitive_in result ≡ native.primitive number }
+    ensures is { result ≡ primitive_at number }
+    ensures means { primitive_in result ≡ native.primitive number }
 {
     if number.0 < FIRST_WITH_NULL {
         numbered(number.0)

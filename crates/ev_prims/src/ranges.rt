@@ -3,6 +3,7 @@
 ghost use Rattle.std.specs.Prelude.{◌≡◌, ◌+◌, ◌≤◌, ◌<ℤ◌, ◌≤ℤ◌, ◌+ℤ◌, ◌^◌, IfOk, pos};
 ghost use Rattle.ev_heap.specs.Contents.{Contents};
 ghost use Rattle.ev_machine.specs.Native as native;
+ghost use Rattle.ev_prims.specs.Ranges.{range_answer};
 ghost use Rattle.ev_prims.specs.Reading.{reply_in, value_in, values_in};
 
 use crate::problem::Problem;
@@ -75,10 +76,9 @@ fn through(alloc: Global, first: i128, last: i128) -> Result<Reply, Memory>
     }
 }
 
-/// The integers from one followed value to another, by whether the last is among them: none where the second is below the first.
-/// They are refused where either is no integer, and where they are more than 65,535. The one error is want of memory.
+/// The integers from one followed value to another, by whether the last is among them.
 #[tactic(auto, unfolding(ev_machine::specs::Native::range_reply))]
-pub fn range(alloc: Global, last: bool, x: Value, y: Value) -> Result<Reply, Memory>
+fn ranged(alloc: Global, last: bool, x: Value, y: Value) -> Result<Reply, Memory>
     ensures { IfOk result (λ r. (h : Contents) → reply_in h r ≡ native.range_reply last (value_in h x) (value_in h y)) }
 {
     match x {
@@ -94,4 +94,13 @@ pub fn range(alloc: Global, last: bool, x: Value, y: Value) -> Result<Reply, Mem
         },
         _ => Ok(Reply::Fails(Problem::NotInt)),
     }
+}
+
+/// The integers from one followed value to another, by whether the last is among them: none where the second is below the first.
+/// They are refused where either is no integer, and where they are more than 65,535. The one error is want of memory.
+pub fn range(alloc: Global, last: bool, x: Value, y: Value) -> Result<Reply, Memory>
+    ensures is { IfOk result (λ r. r ≡ range_answer last x y) }
+    ensures means { IfOk result (λ r. (h : Contents) → reply_in h r ≡ native.range_reply last (value_in h x) (value_in h y)) }
+{
+    ranged(alloc, last, x, y)
 }

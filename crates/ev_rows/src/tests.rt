@@ -94,7 +94,8 @@ fn sources(rt: HostRuntime) -> Result<(), Fail> {
         ("return 1", 7, "refused program a expand 1 0\n"),
         ("x", 7, "refused program a scope 1 0\n"),
         ("true", 0, "open a\n!0 done true\nsettle @a true\nend\n"),
-        ("1 < 2", 7, "refused program a unbuilt 0 0\n"),
+        ("1 < 2", 0, "open a\n!0 done true\nsettle @a true\nend\n"),
+        ("1 == 2", 7, "refused program a unbuilt 0 0\n"),
     ];
     for (source, code, text) in rows {
         let script = script_of(alloc, source)?;

@@ -11,7 +11,7 @@ use std::alloc::Global;
 use std::process::ExitCode;
 use std::{fs, io};
 
-const PROGRAMS: [&str; 15] = [
+const PROGRAMS: [&str; 16] = [
     "caretaker",
     "counter",
     "door",
@@ -20,6 +20,7 @@ const PROGRAMS: [&str; 15] = [
     "frozen",
     "functions",
     "guards",
+    "heavy",
     "loops",
     "matching",
     "operators",
@@ -29,7 +30,7 @@ const PROGRAMS: [&str; 15] = [
     "texts",
 ];
 
-const SCRIPTS: [&str; 5] = ["counter", "door", "operators", "sums", "texts"];
+const SCRIPTS: [&str; 6] = ["counter", "door", "heavy", "operators", "sums", "texts"];
 
 /// What a command writes for its input.
 fn answer(alloc: Global, command: &str, input: &[u8]) -> Result<Vec<u8>, Memory> {

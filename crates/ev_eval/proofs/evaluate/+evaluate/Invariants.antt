@@ -1,6 +1,6 @@
-use Rattle.std.proofs.Common.{◌≡◌, ℕ, ◌*◌, ◌+◌, [], drop}
+use Rattle.std.proofs.Common.{◌≡◌, ℕ, ◌*◌, ◌+◌, ◌-◌, [], drop}
 use Rattle.ev_base.specs.declared.values.Value.TheVariants.{Null}
-use Rattle.ev_eval.specs.Steps.{call_at, evaluator, gathered, iterate, last_of}
+use Rattle.ev_eval.specs.Steps.{call_at, evaluator, gathered, iterate, last_of, turns}
 use Rattle.ev_eval.proofs.evaluate.+evaluate.Given as goal
 
 -- more than all levels of calls need, and twice that
@@ -28,9 +28,6 @@ decreases-call_node l = most * l.depth + half + 8
 abbrev pub decreases-if_node : goal.decreases-if_node
 decreases-if_node l = most * l.depth + half + 8
 
-abbrev pub decreases-hide_node : goal.decreases-hide_node
-decreases-hide_node l = most * l.depth + half + 8
-
 abbrev pub decreases-choose : goal.decreases-choose
 decreases-choose l = most * l.depth + half + 7
 
@@ -51,6 +48,15 @@ decreases-call_at l = most * l.depth + 10 * l.levels + 10
 
 abbrev pub decreases-call_data : goal.decreases-call_data
 decreases-call_data l = most * l.depth + 10 * l.levels + 19
+
+abbrev pub decreases-perform : goal.decreases-perform
+decreases-perform l = most * l.depth + 10 * l.levels + 19
+
+abbrev pub decreases-compared : goal.decreases-compared
+decreases-compared l = most * l.depth + 10 * l.levels + 18
+
+abbrev pub decreases-turns : goal.decreases-turns
+decreases-turns l = most * l.depth + 10 * l.levels + 18
 
 abbrev pub decreases-answered : goal.decreases-answered
 decreases-answered l = most * l.depth + 10 * l.levels + 18
@@ -89,3 +95,8 @@ abbrev pub invariant-iterate-loop-index : goal.invariant-iterate-loop-index
 invariant-iterate-loop-index l =
     iterate (call_at l.program (evaluator l.program l.depth) l.levels) l.act l.object l.index (drop l.index l.members) l.room
     ≡ iterate (call_at l.program (evaluator l.program l.depth) l.levels) l.act l.object 0 l.members l.fn.room
+
+abbrev pub invariant-turns-loop-turn : goal.invariant-turns-loop-turn
+invariant-turns-loop-turn l =
+    turns (call_at l.program (evaluator l.program l.depth) l.levels) l.act l.object (l.most - l.turn) l.room
+    ≡ turns (call_at l.program (evaluator l.program l.depth) l.levels) l.act l.object l.most l.fn.room

@@ -1,0 +1,1 @@
+var t := "xxxxxxxxxxxxxxxxxxxxxxxxxxxxxxxxxxxxxxxxxxxxxxxxxxxxxxxxxxxxxxxx"; for i in 1..10 { t += t }; def u := t.run(0, 65535); u.size(); [u, u]
