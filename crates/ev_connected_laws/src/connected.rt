@@ -5,7 +5,7 @@ ghost use Rattle.ev_connected_laws.specs.Liveness.{WhatIsMadeDies};
 ghost use Rattle.ev_connected_laws.specs.Runs.{NothingLiveInRuns};
 ghost use Rattle.ev_connected_laws.specs.Natives.{DataAddsNothing};
 ghost use Rattle.ev_connected_laws.specs.Nesting.{CallsNest};
-ghost use Rattle.ev_connected_laws.specs.Laws.{HandedIsConnected, KeptIsNotConnected, KnownIsLeast, KnownStays, ProgramIsConnected};
+ghost use Rattle.ev_connected_laws.specs.Laws.{AuditIsConnected, EscapeIsConnected, HandedIsConnected, KeptIsNotConnected, KnownIsLeast, KnownStays, ProgramIsConnected};
 
 /// What an activation knows is the least that initial conditions, endowment, parenthood and
 /// introduction give it: what holds of all that these give holds of all that it knows.
@@ -33,6 +33,17 @@ pub fn kept_is_not_connected()
 /// and what a call gave back.
 pub fn program_is_connected()
     ensures { ProgramIsConnected }
+{}
+
+/// So is that of a program in which a value is read from a var slot and leaves by an ejector.
+pub fn escape_is_connected()
+    ensures { EscapeIsConnected }
+{}
+
+/// So is that of a program in which an auditor asks another, which is told the guard of a free name
+/// of the object that is judged.
+pub fn audit_is_connected()
+    ensures { AuditIsConnected }
 {}
 
 /// In every step the calls nest: a line that tells how a call ended ends the innermost call that is
