@@ -1,5 +1,6 @@
 //! What an activation knows, and which histories use no more than what is known.
 
+ghost use Rattle.ev_connected_laws.specs.Activations.{ActivationsAreNew};
 ghost use Rattle.ev_connected_laws.specs.Following.{FollowingIsTold};
 ghost use Rattle.ev_connected_laws.specs.Liveness.{WhatIsMadeDies};
 ghost use Rattle.ev_connected_laws.specs.Runs.{NothingLiveInRuns};
@@ -73,4 +74,10 @@ pub fn what_is_made_live_dies()
 /// schedule, no ejector and no audition is live.
 pub fn nothing_is_live_in_runs()
     ensures { NothingLiveInRuns }
+{}
+
+/// Each activation of a step is begun once: their numbers rise from the vat's count before the step
+/// to its count after it.
+pub fn activations_are_new()
+    ensures { ActivationsAreNew }
 {}
