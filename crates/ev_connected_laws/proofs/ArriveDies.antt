@@ -1,7 +1,7 @@
 -- What arrives and what is noticed makes nothing live.
 use Rattle.std.proofs.Common.{ℕ, Bool, true, false, List, Option, Some, None}
 use Rattle.ev_machine.specs.Values.{Words, Value, Null, Flag, Number, Letter, Text, Prim, Broken, Items, Ref, Naming}
-use Rattle.ev_machine.specs.State.{Standing, Unsettled, WaitsOn, Viewed, Settled, Known, Passed, Passeds, Plain, AGift, Many, NoMore, More, Note, Deliver, Open, Ask, SettledTo, Elsewhere, Shorten, GiftEntry, Vat}
+use Rattle.ev_machine.specs.State.{Standing, Unsettled, WaitsOn, Viewed, Settled, Known, Passed, Passeds, Plain, AGift, Many, NoMore, More, Note, Deliver, Open, Ask, SettledTo, Elsewhere, Shorten, GiftEntry}
 use Rattle.ev_machine.specs.Refs.{Place, Away}
 use Rattle.ev_machine.specs.Arrive as arrive
 use Rattle.ev_machine.specs.Arrive.{Incoming, Old, New}

@@ -1,7 +1,7 @@
 -- In all of evaluation what is made live dies.
 use Rattle.std.proofs.Common.{ℕ, zero, suc, Bool, true, false, List, [], ◌∷◌, Option, Some, None}
 use Rattle.ev_machine.specs.Values.{Words, Value, Flag, Text, Prim, Broken, Items, Ref, Naming, Spot, Own}
-use Rattle.ev_machine.specs.State.{Bound, Fixed, Slot, Scope, Binding, Cell, View, Thing, Made, Ejector, Audition, Resolver, Message, Standing, Unsettled, Vat, Act}
+use Rattle.ev_machine.specs.State.{Bound, Fixed, Slot, Scope, Binding, Cell, View, Thing, Made, Ejector, Audition, Resolver, Message, Standing, Unsettled, Act}
 use Rattle.ev_machine.specs.Refs.{Place, Near}
 use Rattle.ev_machine.specs.Form.{Item, Begin, End, Word, Fact}
 use Rattle.ev_machine.specs.Free.{BoundNoun}

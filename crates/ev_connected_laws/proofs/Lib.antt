@@ -17,3 +17,8 @@ pub mod ArriveDies
 pub mod EvalDies
 pub mod StepDies
 pub mod RunDies
+pub mod Counts
+pub mod RefsCounts
+pub mod ArriveCounts
+pub mod EvalCounts
+pub mod StepCounts

@@ -8,7 +8,7 @@ use Rattle.ev_machine.specs.Free.{entry, same_words}
 use Rattle.ev_machine.specs.Native as native
 use Rattle.ev_machine.specs.Native.{list_at, Reply, Says, Writes, Lists as Listed, Iterates, Fails, IntVerb, Applies, Negates, AsChar, NoIntVerb, FlagVerb, Both, Either, Unlike, NoFlagVerb, SeqVerb, Gets as GetsOne, Adds, AddsOne, Steps, NoSeqVerb}
 use Rattle.ev_connected_laws.specs.Known.{AValue, AllOf, IsAmong, Holdings, Knows, plain, member}
-use Rattle.ev_connected_laws.specs.Natives.{ReplyHas, AnswersKnown}
+use Rattle.ev_connected_laws.specs.Natives.{ReplyHas}
 
 -- a property of names and of lists, by their numbers; all other data has it
 abbrev pub Has : {N : Type 0} → (N → Type 0) → (ℕ → Type 0) → Value N → Type 0

@@ -1,7 +1,7 @@
 -- What a vat does with references makes nothing live.
 use Rattle.std.proofs.Common.{ℕ, zero, suc, true, false, List, [], ◌∷◌, Option, Some, None}
 use Rattle.ev_machine.specs.Values.{Words, Value, Prim, Naming}
-use Rattle.ev_machine.specs.State.{Message, Standing, Settled, Known, Passed, Passeds, Plain, AGift, Many, NoMore, More, Vat, Act}
+use Rattle.ev_machine.specs.State.{Message, Standing, Settled, Known, Passed, Passeds, Plain, AGift, Many, NoMore, More, Act}
 use Rattle.ev_machine.specs.Refs as refs
 use Rattle.ev_machine.specs.Refs.{Place, Near, Mine, Away, Gone}
 use Rattle.ev_connected_laws.proofs.Dies.{Dies, dies, dies_bind, dies_then, dies_each, dies_look, dies_give}

@@ -1,14 +1,13 @@
 -- The rows.
-use Rattle.std.proofs.Common.{◌≡◌, ℕ, zero, suc, List, [], ◌∷◌, Option, Some, refl, sym, subst, ◌∙◌, inl, inr, map, ap, ◌⊎◌}
-use Rattle.std.specs.Prelude.{slice_get, codes}
-use Rattle.ev_machine.specs.Values.{Value, Ref, Name, Root, Object, naming}
-use Rattle.ev_machine.specs.State.{Binding, Cell, Thing, Made, Happened, Took, Called}
-use Rattle.ev_machine.specs.Values.{Null}
+use Rattle.std.proofs.Common.{◌≡◌, ℕ, zero, suc, List, [], ◌∷◌, Option, Some, None, refl, sym, subst, ◌∙◌, inl, inr, map, ap, ◌⊎◌}
+use Rattle.std.specs.Prelude.{slice_get, codes, take, drop}
+use Rattle.ev_machine.specs.Values.{Value, Ref, Name, Root, Object, naming, Prim, Text, Null}
+use Rattle.ev_machine.specs.State.{Binding, Cell, Thing, Made, Happened, Took, Called, Fixed, ObjectMade, AuditionMade, Back}
 use Rattle.ev_connected_laws.specs.Known.{Item, AValue, ASlot, IsAmong, IsPlain, parts_of_all, tells, Leads, settled, viewed, settles, views, called, itself, Knows, plain, endowed, told, opened_known}
 use Rattle.ev_machine.specs.Eval.{opened_eval}
 use Rattle.ev_machine_laws.specs.Steps.{Opens, does}
-use Rattle.ev_connected_laws.specs.Connected.{Connected, StepConnected, given_to, held_from, opened_connected}
-use Rattle.ev_connected_laws.specs.Rows.{one_object, secret, helper, message, handed, program, fresh, opened_rows}
+use Rattle.ev_connected_laws.specs.Connected.{evaluates, asks, Connected, StepConnected, given_to, held_from, opened_connected}
+use Rattle.ev_connected_laws.specs.Rows.{one_object, secret, helper, message, handed, program, escaping, auditing, fresh, opened_rows}
 use Rattle.ev_connected_laws.specs.Laws.{IsClosed}
 use Rattle.ev_connected_laws.proofs.Knowing.{least}
 
@@ -136,6 +135,111 @@ module _ (word : ℕ → ℕ) where
                 (
                   (tt, tt),
                   tt,
+                ),
+              ),
+            ),
+          ),
+        ),
+      ),
+    ),
+  )
+
+  pub escape_is : StepConnected (naming word 0) (Opens escaping 40 (Root 0) []) fresh
+  unfolding opened_eval opened_connected opened_rows does given_to held_from o f
+  escape_is = (
+    (tt, tt),
+    (
+      ((inl (told _ (inl refl) (inl refl)), tt), (record { guard = Prim 8; value = o }, refl, plain tt)),
+      (
+        (tt, tt),
+        (
+          ((inl (told _ (inr (inl refl)) (inl refl)), tt), tt),
+          (
+            ((inl (told _ (inr (inr (inl refl))) (inl refl)), (inl (told _ (inr (inr (inr (inl refl)))) (inl refl)), tt)), tt),
+            (
+              (tt, tt),
+              (
+                (tt, (0, 1, f, codes "run", o ∷ [], Object 0 1, inr (inr (inr (inr (inl refl)))), (Object 0 1, itself, refl), inr (inr (inl refl)), refl, inr (inl refl))),
+                (
+                  ((inl (told _ (inr (inr (inr (inr (inr (inr (inl refl))))))) (inl refl)), tt), tt),
+                  (
+                    (tt, tt),
+                    tt,
+                  ),
+                ),
+              ),
+            ),
+          ),
+        ),
+      ),
+    ),
+  )
+
+  -- the lines up to where the guard is told
+  abbrev audited : List (Happened Name)
+  audited =
+      ObjectMade 0 (Object 0 0) (codes "p") [] []
+      ∷ ObjectMade 0 (Object 0 1) (codes "q") (Fixed (Ref (Object 0 0)) (Prim 8) ∷ []) []
+      ∷ ObjectMade 0 (Object 0 2) (codes "g") [] []
+      ∷ Called 0 (Ref (Object 0 2)) (codes "coerce") (Null ∷ Null ∷ []) (Some 1)
+      ∷ Back 0 Null
+      ∷ AuditionMade 0 (Object 0 3)
+      ∷ Called 0 (Ref (Object 0 1)) (codes "audit") (Ref (Object 0 3) ∷ []) (Some 2)
+      ∷ Called 2 (Ref (Object 0 3)) (codes "ask") (Ref (Object 0 0) ∷ []) None
+      ∷ AuditionMade 2 (Object 0 4)
+      ∷ Called 2 (Ref (Object 0 0)) (codes "audit") (Ref (Object 0 4) ∷ []) (Some 3)
+      ∷ Called 3 (Ref (Object 0 4)) (codes "getGuard") (Text (codes "k") ∷ []) None
+      ∷ []
+
+  pub audit_is : StepConnected (naming word 0) (Opens auditing 40 (Root 0) []) fresh
+  unfolding opened_eval opened_connected opened_rows does given_to held_from o f
+  audit_is = (
+    (tt, tt),
+    (
+      ((inl (told _ (inl refl) (inl refl)), (inl (plain tt), tt)), tt),
+      (
+        (tt, tt),
+        (
+          ((inl (told _ (inr (inr (inl refl))) (inl refl)), (inl (plain tt), (inl (plain tt), tt))), tt),
+          (
+            (tt, (refl, plain tt)),
+            (
+              (tt, tt),
+              (
+                ((inl (told _ (inr (inl refl)) (inl refl)), (inl (told _ (inr (inr (inr (inr (inr (inl refl)))))) (inl refl)), tt)), tt),
+                (
+                  ((inl (told _ (inr (inr (inr (inr (inr (inr (inl refl))))))) (inl refl)), (inl (endowed 1 8 _ [] (called 0 f (codes "audit") (Ref (Object 0 3) ∷ []) (inr (inr (inr (inr (inr (inr (inl refl))))))) (Object 0 1, itself, refl)) refl (inl refl)), tt)), tt),
+                  (
+                    (tt, tt),
+                    (
+                      ((inl (endowed 1 8 _ [] (called 0 f (codes "audit") (Ref (Object 0 3) ∷ []) (inr (inr (inr (inr (inr (inr (inl refl))))))) (Object 0 1, itself, refl)) refl (inl refl)), (inl (told _ (inr (inr (inr (inr (inr (inr (inr (inr (inl refl))))))))) (inl refl)), tt)), tt),
+                      (
+                        ((inl (told _ (inr (inr (inr (inr (inr (inr (inr (inr (inr (inl refl)))))))))) (inl refl)), (inl (plain tt), tt)), tt),
+                        (
+                          (tt, (refl, inr (0, 4, (Object 0 4, itself, refl), asks 2 3 (Ref (Object 0 3)) (Object 0 4) (take 8 audited) (drop 9 (take 11 audited)) refl refl refl (Object 0 3, itself, refl) (evaluates (Object 0 3) (take 5 audited) (drop 6 (take 11 audited)) refl refl refl), told _ (inr (inr (inl refl))) (inl refl)))),
+                          (
+                            (tt, (refl, told _ (inr (inr (inr (inr (inr (inr (inr (inr (inr (inr (inr (inl refl)))))))))))) (inl refl))),
+                            (
+                              (tt, (refl, inl (plain tt))),
+                              (
+                                (tt, (refl, plain tt)),
+                                (
+                                  ((inl (plain tt), (inl (told _ (inr (inr (inl refl))) (inl refl)), tt)), tt),
+                                  (
+                                    ((inl (told _ (inr (inr (inr (inr (inr (inr (inr (inr (inr (inr (inr (inr (inr (inr (inr (inl refl)))))))))))))))) (inl refl)), tt), tt),
+                                    (
+                                      (tt, tt),
+                                      tt,
+                                    ),
+                                  ),
+                                ),
+                              ),
+                            ),
+                          ),
+                        ),
+                      ),
+                    ),
+                  ),
                 ),
               ),
             ),

@@ -1,10 +1,10 @@
 -- Between the steps of a run nothing is live.
-use Rattle.std.proofs.Common.{◌≡◌, ℕ, zero, suc, Bool, true, false, List, [], ◌∷◌, ◌++◌, Option, Some, None, refl, sym, ap, subst, ◌∙◌, ◌⊎◌, inl, inr}
+use Rattle.std.proofs.Common.{◌≡◌, ℕ, zero, suc, Bool, true, false, List, [], ◌∷◌, Some, None, refl, sym, subst}
 use Rattle.std.specs.Prelude.{slice_get}
 use Rattle.ev_machine.specs.Values.{Name}
 use Rattle.ev_machine.specs.State.{Vat, Done, Gives, Throws, Ejects, Stops}
 use Rattle.ev_machine_laws.specs.Steps.{Step, does}
-use Rattle.ev_run.specs.World.{Script, Program, Entry, Event, Link, World, Run, Goes, Stopped, put_at, put_back, readied, within, names, fresh, fresh_from, begins, open_from, steps_from}
+use Rattle.ev_run.specs.World.{Script, Program, Entry, Event, World, Goes, put_at, put_back, readied, within, names, fresh, fresh_from, begins, open_from, steps_from}
 use Rattle.ev_run_laws.proofs.RunKeeps.{Begins, IsKeptByRuns, run_keeps, opens_keep}
 use Rattle.ev_connected_laws.specs.Liveness.{live_at, LeavesDead}
 use Rattle.ev_connected_laws.specs.Runs.{NothingLive}

@@ -1,6 +1,5 @@
 -- What a step makes live is dead when it ends.
 use Rattle.ev_machine.specs.Values.{Naming}
-use Rattle.ev_machine.specs.State.{Vat}
 use Rattle.ev_machine_laws.specs.Steps.{Step, Opens, Takes, Receives, Notices, does}
 use Rattle.ev_connected_laws.specs.Liveness.{StepsLeaveDead}
 use Rattle.ev_connected_laws.proofs.Dies.{Dies}

@@ -5,7 +5,7 @@ use Rattle.ev_machine.specs.State.{Binding, Cell, Made, Happened}
 use Rattle.ev_machine_laws.specs.Steps.{Opens}
 use Rattle.ev_connected_laws.specs.Known.{Item, AValue, ASlot, IsAmong, Holdings, IsPlain, parts_of_all, tells, Leads, Runs, Knows}
 use Rattle.ev_connected_laws.specs.Connected.{Connected, StepConnected}
-use Rattle.ev_connected_laws.specs.Rows.{one_object, secret, handed, program, fresh}
+use Rattle.ev_connected_laws.specs.Rows.{one_object, secret, handed, program, escaping, auditing, fresh}
 
 -- A property of what activations have that each way to come by a reference keeps.
 pub record IsClosed {N W : Type 0} (K : Naming N W) (h : Holdings N) (so : List (Happened N)) (P : ℕ → Item N → Type 0) : Type 0 where
@@ -52,3 +52,11 @@ KeptIsNotConnected = (word : ℕ → ℕ) → Connected (naming word 0) one_obje
 -- the opening turn of a small program, in which an object uses a capture, an argument and what a call gave back
 abbrev pub ProgramIsConnected : Type 0
 ProgramIsConnected = (word : ℕ → ℕ) → StepConnected (naming word 0) (Opens program 40 (Root 0) []) fresh
+
+-- that of one in which a value is read from a var slot and leaves by an ejector
+abbrev pub EscapeIsConnected : Type 0
+EscapeIsConnected = (word : ℕ → ℕ) → StepConnected (naming word 0) (Opens escaping 40 (Root 0) []) fresh
+
+-- that of one in which an auditor asks another, which is told a guard that its caller does not know
+abbrev pub AuditIsConnected : Type 0
+AuditIsConnected = (word : ℕ → ℕ) → StepConnected (naming word 0) (Opens auditing 40 (Root 0) []) fresh

@@ -2,6 +2,7 @@ pub mod Known
 pub mod Connected
 pub mod Natives
 pub mod Liveness
+pub mod Activations
 pub mod Nesting
 pub mod Following
 pub mod Runs

@@ -3,7 +3,7 @@ use Rattle.std.specs.Prelude.{ℕ, List}
 use Rattle.ev_machine.specs.Values.{Words, Value, Name, Naming, naming, numbering}
 use Rattle.ev_machine.specs.State.{Happened}
 use Rattle.ev_machine.specs.Native.{Reply, Says, Writes, Lists, Iterates, Fails, data_reply}
-use Rattle.ev_connected_laws.specs.Known.{Item, AValue, AllOf, Holdings, Knows}
+use Rattle.ev_connected_laws.specs.Known.{AValue, AllOf, Holdings, Knows}
 
 -- what is said of each value in an answer
 abbrev pub ReplyHas : {N : Type 0} → (Value N → Type 0) → Reply N → Type 0

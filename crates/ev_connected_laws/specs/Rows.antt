@@ -2,6 +2,7 @@
 use Rattle.std.specs.Prelude.{ℕ, List, [], ◌∷◌, None, Some, codes}
 use Rattle.ev_machine.specs.Values.{Value, Null, Ref, Name, Root, Object, Promise, Answer, Sent, Msg}
 use Rattle.ev_machine.specs.State.{Made, Message, Vat, Happened, Took, Called, Sends, begun}
+use Rattle.ev_kernel.specs.declared.node.Literal.TheVariants as literal
 use Rattle.ev_kernel.specs.declared.node.Node.{Node}
 use Rattle.ev_kernel.specs.declared.node.Node.TheVariants as node
 use Rattle.ev_connected_laws.specs.Known.{Holdings}
@@ -55,6 +56,59 @@ program =
     ∷ node.Noun (codes "o")
     ∷ []
 
+-- def o {}; var s := o; escape ex { ex.run(s) }
+unfoldable pub escaping : List Node
+escaping =
+    node.Sequence (1 ∷ 3 ∷ 6 ∷ [])
+    ∷ node.Object 2 [] []
+    ∷ node.Final (codes "o") None
+    ∷ node.Def 4 None 5
+    ∷ node.Var (codes "s") None
+    ∷ node.Noun (codes "o")
+    ∷ node.Escape 7 8 None
+    ∷ node.Final (codes "ex") None
+    ∷ node.Call 9 (codes "run") (10 ∷ [])
+    ∷ node.Noun (codes "ex")
+    ∷ node.Noun (codes "s")
+    ∷ []
+
+-- An auditor that asks another, which asks for the guard of a free name:
+-- def p { to audit(m) { m.getGuard("k") } }; def q { to audit(m) { m.ask(p) } }; def g { to coerce(x, j) { x } };
+-- def k :g := null; def x as q { to run() { k } }
+unfoldable pub auditing : List Node
+auditing =
+    node.Sequence (1 ∷ 8 ∷ 15 ∷ 21 ∷ 25 ∷ [])
+    ∷ node.Object 2 [] (3 ∷ [])
+    ∷ node.Final (codes "p") None
+    ∷ node.Method (codes "audit") (4 ∷ []) 5
+    ∷ node.Final (codes "m") None
+    ∷ node.Call 6 (codes "getGuard") (7 ∷ [])
+    ∷ node.Noun (codes "m")
+    ∷ node.Lit (literal.Text (codes "k"))
+    ∷ node.Object 9 [] (10 ∷ [])
+    ∷ node.Final (codes "q") None
+    ∷ node.Method (codes "audit") (11 ∷ []) 12
+    ∷ node.Final (codes "m") None
+    ∷ node.Call 13 (codes "ask") (14 ∷ [])
+    ∷ node.Noun (codes "m")
+    ∷ node.Noun (codes "p")
+    ∷ node.Object 16 [] (17 ∷ [])
+    ∷ node.Final (codes "g") None
+    ∷ node.Method (codes "coerce") (18 ∷ 19 ∷ []) 20
+    ∷ node.Final (codes "x") None
+    ∷ node.Final (codes "j") None
+    ∷ node.Noun (codes "x")
+    ∷ node.Def 22 None 24
+    ∷ node.Final (codes "k") (Some 23)
+    ∷ node.Noun (codes "g")
+    ∷ node.Noun (codes "null")
+    ∷ node.Object 26 (27 ∷ []) (28 ∷ [])
+    ∷ node.Final (codes "x") None
+    ∷ node.Noun (codes "q")
+    ∷ node.Method (codes "run") [] 29
+    ∷ node.Noun (codes "k")
+    ∷ []
+
 -- a vat before its opening turn, which knows its own root
 unfoldable pub fresh : Vat Name
 fresh = record {
@@ -77,5 +131,5 @@ fresh = record {
 }
 
 unfoldable pub opened_rows : Unit {0}
-unfolding helper secret one_object sent message handed program fresh
+unfolding helper secret one_object sent message handed program escaping auditing fresh
 opened_rows = tt

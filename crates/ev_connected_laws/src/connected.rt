@@ -1,11 +1,12 @@
 //! What an activation knows, and which histories use no more than what is known.
 
+ghost use Rattle.ev_connected_laws.specs.Activations.{ActivationsAreNew};
 ghost use Rattle.ev_connected_laws.specs.Following.{FollowingIsTold};
 ghost use Rattle.ev_connected_laws.specs.Liveness.{WhatIsMadeDies};
 ghost use Rattle.ev_connected_laws.specs.Runs.{NothingLiveInRuns};
 ghost use Rattle.ev_connected_laws.specs.Natives.{DataAddsNothing};
 ghost use Rattle.ev_connected_laws.specs.Nesting.{CallsNest};
-ghost use Rattle.ev_connected_laws.specs.Laws.{HandedIsConnected, KeptIsNotConnected, KnownIsLeast, KnownStays, ProgramIsConnected};
+ghost use Rattle.ev_connected_laws.specs.Laws.{AuditIsConnected, EscapeIsConnected, HandedIsConnected, KeptIsNotConnected, KnownIsLeast, KnownStays, ProgramIsConnected};
 
 /// What an activation knows is the least that initial conditions, endowment, parenthood and
 /// introduction give it: what holds of all that these give holds of all that it knows.
@@ -35,6 +36,17 @@ pub fn program_is_connected()
     ensures { ProgramIsConnected }
 {}
 
+/// So is that of a program in which a value is read from a var slot and leaves by an ejector.
+pub fn escape_is_connected()
+    ensures { EscapeIsConnected }
+{}
+
+/// So is that of a program in which an auditor asks another, which is told the guard of a free name
+/// of the object that is judged.
+pub fn audit_is_connected()
+    ensures { AuditIsConnected }
+{}
+
 /// In every step the calls nest: a line that tells how a call ended ends the innermost call that is
 /// open, and that activation made it. A step that does not stop leaves none open.
 pub fn calls_nest()
@@ -62,4 +74,10 @@ pub fn what_is_made_live_dies()
 /// schedule, no ejector and no audition is live.
 pub fn nothing_is_live_in_runs()
     ensures { NothingLiveInRuns }
+{}
+
+/// Each activation of a step is begun once: their numbers rise from the vat's count before the step
+/// to its count after it.
+pub fn activations_are_new()
+    ensures { ActivationsAreNew }
 {}
