@@ -11,7 +11,7 @@ use std::alloc::Global;
 use std::process::ExitCode;
 use std::{fs, io};
 
-const PROGRAMS: [&str; 16] = [
+const PROGRAMS: [&str; 17] = [
     "caretaker",
     "counter",
     "door",
@@ -21,6 +21,7 @@ const PROGRAMS: [&str; 16] = [
     "functions",
     "guards",
     "heavy",
+    "lists",
     "loops",
     "matching",
     "operators",
@@ -30,7 +31,15 @@ const PROGRAMS: [&str; 16] = [
     "texts",
 ];
 
-const SCRIPTS: [&str; 6] = ["counter", "door", "heavy", "operators", "sums", "texts"];
+const SCRIPTS: [&str; 7] = [
+    "counter",
+    "door",
+    "heavy",
+    "lists",
+    "operators",
+    "sums",
+    "texts",
+];
 
 /// What a command writes for its input.
 fn answer(alloc: Global, command: &str, input: &[u8]) -> Result<Vec<u8>, Memory> {
