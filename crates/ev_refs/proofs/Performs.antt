@@ -16,7 +16,7 @@ use Rattle.ev_refs.specs.Follow.{followed, place_of}
 use Rattle.ev_refs.specs.References.{References}
 use Rattle.ev_refs.specs.Settling as code
 use Rattle.ev_refs.specs.Settling.{Desk, told, enqueued, set_known, held_at, send_placed, parts_of, settle_waiters, settle_found, is_list, perform}
-use Rattle.ev_refs.specs.Performing.{Lines, Tells, lines_of, vat_in, task_act, tasks_act, GoesOn, SameTexts, SettlesAsTheMachine}
+use Rattle.ev_refs.specs.Performing.{Lines, Tells, lines_of, vat_in, task_act, tasks_act, GoesOn, SameTexts, SettlesAsTheMachine, went_astray, SettlingGoesAstray, WhereAstray}
 use Rattle.ev_heap.specs.declared.micro.Micro.{Micro}
 use Rattle.ev_refs.specs.Reading.{text_by, value_by, message_by, known_by, knowns_by, standing_by, place_by}
 use Rattle.ev_refs.specs.Statements.{KnowsTexts}
@@ -28,7 +28,8 @@ use Rattle.ev_refs.specs.declared.known.Message.{Message}
 use Rattle.ev_refs.specs.declared.known.Standing.{Standing}
 use Rattle.ev_refs.specs.declared.known.Standing.TheVariants.{Unsettled, WaitsOn, Viewed, Settled}
 use Rattle.ev_refs.specs.declared.known.Waiters.{Waiters}
-use Rattle.ev_refs.specs.declared.settle.Fault.TheVariants.{Unbuilt}
+use Rattle.ev_refs.specs.declared.settle.Fault.{Fault}
+use Rattle.ev_refs.specs.declared.settle.Fault.TheVariants.{Unbuilt, Astray as AstrayFault, Memory as NoMemory}
 use Rattle.ev_refs.specs.declared.tasks.Task.{Task}
 use Rattle.ev_refs.specs.declared.tasks.Task.TheVariants.{SendOn, Settle, Enqueue, Inform}
 use Rattle.ev_refs.proofs.Machine.{names, as_many, entry_is, follow_is, place_is}
@@ -344,3 +345,33 @@ begun r m p v none ts' n e l h = begins r m p v ts' (subst (λ (x : List Task). 
 -- a part is taken from what is to be done, and done
 pub after : (r : References) (m : Micro) (p : ℕ) (v : Held) (t : Task) (old : List Task) (k k' : Desk) → perform t k ≡ Ok k' → old ≡ t ∷ k.tasks → GoesOn r m p v (record k { tasks = old }) → GoesOn r m p v k'
 after r m p v t old k k' h e g = goes_on r m p v t k k' h (subst (λ (x : List Task). GoesOn r m p v (record k { tasks = x })) e g)
+
+-- ---- a settling that goes astray
+
+sent_never : (m : Message) (d : ℕ) (y : Held) (p : Place) (k : Desk) → send_placed m d y p k ≡ Err AstrayFault → ⊥
+unfolding send_placed
+sent_never m d y Near k h = cc
+sent_never m d y (Mine n) k h = cc
+sent_never m d y (Gone t) k h = cc
+sent_never m d y (FarPromise a n) k h = cc
+sent_never m d y (FarObject a n) k h = cc
+
+settled_never : (b : Bool) (k : Desk) → (if b then Err Unbuilt else Ok k) ≡ Err AstrayFault → ⊥
+settled_never true k h = cc
+settled_never false k h = cc
+
+-- a part goes astray only where no settling may be begun any more
+pub goes_astray : (r : References) (m : Micro) (p : ℕ) (v : Held) (t : Task) (old : List Task) (k : Desk) → perform t k ≡ Err AstrayFault → old ≡ t ∷ k.tasks → GoesOn r m p v (record k { tasks = old }) → SettlingGoesAstray r m p v
+unfolding perform code.send_on code.settle_at tasks_act task_act ◌>>◌ and_then settle_at machine.stop went_astray
+goes_astray r m p v (SendOn n d) old k h e g = absurd (sent_never n d (followed k.refs n.target) (place_of k.refs (followed k.refs n.target)) k h)
+goes_astray r m p v (Settle q w zero) old k h e g = λ word ts line s part tells.
+    ap (λ (x : Done Local (Unit {0})). went_astray x) (g.1 word ts line s part tells ∙ ap (λ (x : List Task). tasks_act word ts x (vat_in ts line k s)) e)
+goes_astray r m p v (Settle q w (suc d)) old k h e g = absurd (settled_never (is_list w) (settle_found q w d (slice_get k.refs.known q) k) h)
+goes_astray r m p v (Enqueue n) old k h e g = cc
+goes_astray r m p v (Inform q w) old k h e g = cc
+
+pub failed : (r : References) (m : Micro) (p : ℕ) (v : Held) (t : Task) (old : List Task) (k k' : Desk) (e : Fault) → code.Leaves (Err e) k' (perform t k) → old ≡ t ∷ k.tasks → GoesOn r m p v (record k { tasks = old })
+    → WhereAstray (Err e) (SettlingGoesAstray r m p v)
+failed r m p v t old k k' NoMemory h e g = tt
+failed r m p v t old k k' AstrayFault h e g = goes_astray r m p v t old k h e g
+failed r m p v t old k k' Unbuilt h e g = tt

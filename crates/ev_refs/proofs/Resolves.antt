@@ -15,7 +15,7 @@ use Rattle.ev_refs.specs.Follow.{followed, place_of}
 use Rattle.ev_refs.specs.References.{References}
 use Rattle.ev_refs.specs.Settling as code
 use Rattle.ev_refs.specs.Settling.{Desk, told, set_known}
-use Rattle.ev_refs.specs.Performing.{Lines, Tells, lines_of, vat_in, SettlesAsTheMachine, WaitsAsTheMachine, ResolvesAsTheMachine}
+use Rattle.ev_refs.specs.Performing.{Lines, Tells, lines_of, vat_in, SettlesAsTheMachine, WaitsAsTheMachine, ResolvesAsTheMachine, went_astray, WhereAstray, SettlingGoesAstray, WaitingGoesAstray, ResolvingGoesAstray}
 use Rattle.ev_refs.specs.Reading.{value_by, knowns_by, place_by}
 use Rattle.ev_refs.specs.Resolving.{waits_lead, waiting_found, awaited_from, wait_started, wait_noted, wait_on}
 use Rattle.ev_refs.specs.Statements.{KnowsTexts}
@@ -23,6 +23,7 @@ use Rattle.ev_refs.specs.declared.follow.Place.{Place}
 use Rattle.ev_refs.specs.declared.follow.Place.TheVariants.{Near, Mine, FarPromise, FarObject, Gone}
 use Rattle.ev_refs.specs.declared.known.Known.{Known}
 use Rattle.ev_refs.specs.declared.settle.Fault.{Fault}
+use Rattle.ev_refs.specs.declared.settle.Fault.TheVariants.{Unbuilt, Astray as AstrayFault, Memory as NoMemory}
 use Rattle.ev_refs.proofs.Changing.{change_is, unknown_same, wait_is, wait_on_is}
 use Rattle.ev_refs.proofs.Machine.{names, as_many, follow_is, place_is}
 use Rattle.ev_refs.proofs.Performs.{tell_is}
@@ -104,7 +105,7 @@ follow_in : (word : ℕ → ℕ) (ts : List Words) (line : Lines) (s : Vat Local
 follow_in word ts line s r m v part = follow_is word ts r (record s { fuel = m.fuel; happened = s.happened ++ lines_of line m.events }) v part
 
 -- where the end is no unsettled name
-abbrev IsEnd : Place → Type 0
+abbrev pub IsEnd : Place → Type 0
 IsEnd Near = Unit {0}
 IsEnd (FarObject h p) = Unit {0}
 IsEnd (Gone t) = Unit {0}
@@ -185,3 +186,62 @@ module _ (r : References) (m : Micro) (p : ℕ) (v end : Held) (is : end ≡ fol
 pub broke : (r : References) (m : Micro) (p q : ℕ) (v : Held) (result : Result (Unit {0}) Fault) (r' : References) (m' : Micro) → waits_lead (length r.known) r.known p q ≡ true → v ≡ held.Broken r.cycle
     → OnOk result (SettlesAsTheMachine r m p v r' m') → OnOk result (WaitsAsTheMachine r m p q r' m')
 broke r m p q v result r' m' h e g = on_ok result (λ (f : SettlesAsTheMachine r m p v r' m'). breaks r m p q r' m' h (subst (λ (y : Held). SettlesAsTheMachine r m p y r' m') e f)) g
+
+-- ---- where a settling goes astray
+
+pub astray_on : {A B : Type 0} (r : Result (Unit {0}) Fault) → (A → B) → WhereAstray r A → WhereAstray r B
+astray_on (Ok u) f h = tt
+astray_on (Err AstrayFault) f h = f h
+astray_on (Err NoMemory) f h = tt
+astray_on (Err Unbuilt) f h = tt
+
+-- a wait by itself never goes astray
+pub waited_well : (result : Result (Unit {0}) Fault) (k k' : Desk) (fact : Type 0) → code.Leaves result k' (Ok k) → WhereAstray result fact
+waited_well (Ok u) k k' fact h = tt
+waited_well (Err NoMemory) k k' fact h = tt
+waited_well (Err AstrayFault) k k' fact h = cc
+waited_well (Err Unbuilt) k k' fact h = tt
+
+breaks_astray : (r : References) (m : Micro) (p q : ℕ) → waits_lead (length r.known) r.known p q ≡ true → SettlingGoesAstray r m p (held.Broken r.cycle) → WaitingGoesAstray r m p q
+breaks_astray r m p q h g = λ word ts line s part tells.
+    ap (λ (d : Done Local (Unit {0})). went_astray d)
+    (tested word ts line tells s p q true (desk [] r m) h ∙ ap (λ (t : Words). refs.settle (names word) (Prom p) (broken t) (vat_in ts line (desk [] r m) s)) (sym part.1))
+    ∙ g word ts line s part tells
+
+pub broke_astray : (r : References) (m : Micro) (p q : ℕ) (v : Held) (result : Result (Unit {0}) Fault) → waits_lead (length r.known) r.known p q ≡ true → v ≡ held.Broken r.cycle
+    → WhereAstray result (SettlingGoesAstray r m p v) → WhereAstray result (WaitingGoesAstray r m p q)
+broke_astray r m p q v result h e g = astray_on result (λ (f : SettlingGoesAstray r m p v). breaks_astray r m p q h (subst (λ (y : Held). SettlingGoesAstray r m p y) e f)) g
+
+end_astray : (r : References) (m : Micro) (p : ℕ) (v : Held) (x : Place) → place_of r (followed r v) ≡ x → IsEnd x → SettlingGoesAstray r m p (followed r v) → ResolvingGoesAstray r m p v
+end_astray r m p v x h e g = λ word ts line s part tells.
+    ap (λ (d : Done Local (Unit {0})). went_astray d)
+    (ended word ts line tells s r m p (value_by ts (followed r v)) (place_by ts x) v (follow_in word ts line s r m v part) (place_in word ts line s r m v x h)
+    ∙ settles_to word ts p (value_by ts (followed r v)) x (vat_in ts line (desk [] r m) s) e)
+    ∙ g word ts line s part tells
+
+mine_astray : (r : References) (m : Micro) (p : ℕ) (v : Held) (q : ℕ) → place_of r (followed r v) ≡ Mine q → WaitingGoesAstray r m p q → ResolvingGoesAstray r m p v
+unfolding resolve_to
+mine_astray r m p v q h g = λ word ts line s part tells.
+    ap (λ (d : Done Local (Unit {0})). went_astray d)
+    (ended word ts line tells s r m p (value_by ts (followed r v)) (place_by ts (Mine q)) v (follow_in word ts line s r m v part) (place_in word ts line s r m v (Mine q) h))
+    ∙ g word ts line s part tells
+
+promise_astray : (r : References) (m : Micro) (p : ℕ) (v : Held) (a q : ℕ) → place_of r (followed r v) ≡ FarPromise a q → WaitingGoesAstray r m p q → ResolvingGoesAstray r m p v
+unfolding resolve_to
+promise_astray r m p v a q h g = λ word ts line s part tells.
+    ap (λ (d : Done Local (Unit {0})). went_astray d)
+    (ended word ts line tells s r m p (value_by ts (followed r v)) (place_by ts (FarPromise a q)) v (follow_in word ts line s r m v part) (place_in word ts line s r m v (FarPromise a q) h))
+    ∙ g word ts line s part tells
+
+module _ (r : References) (m : Micro) (p : ℕ) (v end : Held) (is : end ≡ followed r v) (result : Result (Unit {0}) Fault) where
+  end_at : (x : Place) → x ≡ place_of r end → place_of r (followed r v) ≡ x
+  end_at x h = subst (λ (y : Held). place_of r y ≡ x) is (sym h)
+
+  pub astray_end : (x : Place) → IsEnd x → x ≡ place_of r end → WhereAstray result (SettlingGoesAstray r m p end) → WhereAstray result (ResolvingGoesAstray r m p v)
+  astray_end x e h g = astray_on result (λ (f : SettlingGoesAstray r m p end). end_astray r m p v x (end_at x h) e (subst (λ (y : Held). SettlingGoesAstray r m p y) is f)) g
+
+  pub astray_mine : (q : ℕ) → Mine q ≡ place_of r end → WhereAstray result (WaitingGoesAstray r m p q) → WhereAstray result (ResolvingGoesAstray r m p v)
+  astray_mine q h g = astray_on result (mine_astray r m p v q (end_at (Mine q) h)) g
+
+  pub astray_promise : (a q : ℕ) → FarPromise a q ≡ place_of r end → WhereAstray result (WaitingGoesAstray r m p q) → WhereAstray result (ResolvingGoesAstray r m p v)
+  astray_promise a q h g = astray_on result (promise_astray r m p v a q (end_at (FarPromise a q) h)) g

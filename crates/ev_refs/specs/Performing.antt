@@ -1,16 +1,18 @@
 -- What is to be done of a settling, as the machine does it.
-use Rattle.std.specs.Prelude.{◌≡◌, ℕ, List, [], ◌∷◌, ◌++◌}
+use Rattle.std.specs.Prelude.{◌≡◌, ℕ, List, [], ◌∷◌, ◌++◌, Bool, true, false, Result, Ok, Err}
 use Rattle.ev_heap.specs.declared.happened.Happened.{Happened as Event}
 use Rattle.ev_heap.specs.declared.happened.Happened.TheVariants as event
 use Rattle.ev_base.specs.declared.values.Value.{Value as Held}
 use Rattle.ev_machine.specs.Values.{Words, Local, Mess, Prom, numbering}
-use Rattle.ev_machine.specs.State.{Vat, Act, Gives, Happened, Settles, Waits, Lost, give, ◌>>◌, enqueue}
+use Rattle.ev_machine.specs.State.{Vat, Act, Gives, Happened, Settles, Waits, Lost, give, ◌>>◌, enqueue, Done, Stops, Astray}
 use Rattle.ev_machine.specs.Refs.{settle, settle_at, send_on, inform, resolve, wait_unless_cycle}
 use Rattle.ev_refs.specs.Reading.{value_by, message_by, vat_by}
 use Rattle.ev_heap.specs.declared.micro.Micro.{Micro}
 use Rattle.ev_refs.specs.References.{References}
 use Rattle.ev_refs.specs.Settling.{Desk}
 use Rattle.ev_refs.specs.Statements.{KnowsTexts}
+use Rattle.ev_refs.specs.declared.settle.Fault.{Fault}
+use Rattle.ev_refs.specs.declared.settle.Fault.TheVariants as fault
 use Rattle.ev_refs.specs.declared.tasks.Task.{Task}
 use Rattle.ev_refs.specs.declared.tasks.Task.TheVariants.{SendOn, Settle, Enqueue, Inform}
 
@@ -67,3 +69,28 @@ abbrev pub WaitsAsTheMachine : References → Micro → ℕ → ℕ → Referenc
 WaitsAsTheMachine r m p q r' m' = (word : ℕ → ℕ) (ts : List Words) (line : Lines) (s : Vat Local) → KnowsTexts ts r → Tells ts line
     → wait_unless_cycle (numbering {W = Local} word) (Prom p) (Prom q) (vat_in ts line (record { tasks = []; refs = r; micro = m }) s)
     ≡ Gives tt (vat_in ts line (record { tasks = []; refs = r'; micro = m' }) s)
+
+-- whether something stopped since it went astray
+unfoldable pub went_astray : Done Local (Unit {0}) → Bool
+went_astray (Stops Astray s) = true
+went_astray _ = false
+
+-- From these references and what happened the machine goes astray where it settles the name,
+abbrev pub SettlingGoesAstray : References → Micro → ℕ → Held → Type 0
+SettlingGoesAstray r m p v = (word : ℕ → ℕ) (ts : List Words) (line : Lines) (s : Vat Local) → KnowsTexts ts r → Tells ts line
+    → went_astray (settle (numbering {W = Local} word) (Prom p) (value_by ts v) (vat_in ts line (record { tasks = []; refs = r; micro = m }) s)) ≡ true
+
+-- where it lets it wait on another,
+abbrev pub WaitingGoesAstray : References → Micro → ℕ → ℕ → Type 0
+WaitingGoesAstray r m p q = (word : ℕ → ℕ) (ts : List Words) (line : Lines) (s : Vat Local) → KnowsTexts ts r → Tells ts line
+    → went_astray (wait_unless_cycle (numbering {W = Local} word) (Prom p) (Prom q) (vat_in ts line (record { tasks = []; refs = r; micro = m }) s)) ≡ true
+
+-- or where it resolves it.
+abbrev pub ResolvingGoesAstray : References → Micro → ℕ → Held → Type 0
+ResolvingGoesAstray r m p v = (word : ℕ → ℕ) (ts : List Words) (line : Lines) (s : Vat Local) → KnowsTexts ts r → Tells ts line
+    → went_astray (resolve (numbering {W = Local} word) (Prom p) (value_by ts v) (vat_in ts line (record { tasks = []; refs = r; micro = m }) s)) ≡ true
+
+-- a fact, where it went astray
+abbrev pub WhereAstray : Result (Unit {0}) Fault → Type 0 → Type 0
+WhereAstray (Err fault.Astray) fact = fact
+WhereAstray _ fact = Unit {0}

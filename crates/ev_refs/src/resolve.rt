@@ -3,7 +3,7 @@
 ghost use Rattle.std.specs.Prelude.{◌≡◌, ◌++◌, ◌∷◌, [], Ok, OnOk, length};
 ghost use Rattle.ev_refs.specs.Resolving.{awaited, wait_noted, wait_on, wait_started, waits_lead};
 ghost use Rattle.ev_base.specs.declared.values.Value.TheVariants.{Broken};
-ghost use Rattle.ev_refs.specs.Performing.{ResolvesAsTheMachine, WaitsAsTheMachine};
+ghost use Rattle.ev_refs.specs.Performing.{ResolvesAsTheMachine, ResolvingGoesAstray, WaitingGoesAstray, WaitsAsTheMachine, WhereAstray};
 ghost use Rattle.ev_refs.specs.Settling.{Leaves};
 
 use crate::follow::Place;
@@ -97,7 +97,8 @@ impl Refs {
         name: PromId,
         other: PromId,
     ) -> Result<(), Fault>
-        ensures { OnOk result (WaitsAsTheMachine self.old micro.old name other self.new micro.new) }
+        ensures done { OnOk result (WaitsAsTheMachine self.old micro.old name other self.new micro.new) }
+        ensures astray { WhereAstray result (WaitingGoesAstray self.old micro.old name other) }
     {
         if self.leads_back(name, other) {
             let broken = self.broken_by_cycle();
@@ -107,9 +108,11 @@ impl Refs {
     }
 
     /// A name resolves to a value that is followed to no list: it waits on an unsettled name, or is broken `cycle` where a chain of
-    /// waits would lead back to it, or settles. After a fault what was done up to there stands.
+    /// waits would lead back to it, or settles. After a fault what was done up to there stands. It goes astray only where the machine
+    /// does.
     pub fn resolve(&mut self, micro: &mut Micro, name: PromId, value: Value) -> Result<(), Fault>
-        ensures { OnOk result (ResolvesAsTheMachine self.old micro.old name value self.new micro.new) }
+        ensures done { OnOk result (ResolvesAsTheMachine self.old micro.old name value self.new micro.new) }
+        ensures astray { WhereAstray result (ResolvingGoesAstray self.old micro.old name value) }
     {
         let end = self.deref(value);
         match self.place(end) {

@@ -2,7 +2,7 @@
 
 ghost use Rattle.std.specs.Prelude.{◌≡◌, ◌++◌, ◌<◌, ◌∷◌, Ok, OnOk, length, slice_get};
 ghost use Rattle.ev_refs.specs.Settling.{Leaves, held_at, parts_of, perform, send_on, send_placed, settle_at, settle_found, settle_waiters};
-ghost use Rattle.ev_refs.specs.Performing.{SettlesAsTheMachine};
+ghost use Rattle.ev_refs.specs.Performing.{SettlesAsTheMachine, SettlingGoesAstray, WhereAstray};
 
 use crate::follow::Place;
 use crate::known::{Message, Waiters};
@@ -190,14 +190,18 @@ impl Refs {
     }
 
     /// A name settles to a value that is no list: what waits at it, and at what settles with it, goes on, in the machine's order.
-    /// After a fault what was done up to there stands.
+    /// After a fault what was done up to there stands. It goes astray only where the machine does.
     pub fn settle(&mut self, micro: &mut Micro, name: PromId, value: &Value) -> Result<(), Fault>
-        ensures { OnOk result (SettlesAsTheMachine self.old micro.old name value.now self.new micro.new) }
+        ensures done { OnOk result (SettlesAsTheMachine self.old micro.old name value.now self.new micro.new) }
+        ensures astray { WhereAstray result (SettlingGoesAstray self.old micro.old name value.now) }
     {
         let mut tasks = Tasks::new(self.alloc);
         tasks.push(Task::Settle(name, *value, self.count() + 2))?;
         while let Some(task) = tasks.pop() {
-            self.perform(&mut tasks, micro, task)?;
+            match self.perform(&mut tasks, micro, task) {
+                Ok(()) => {}
+                Err(fault) => return Err(fault),
+            }
         }
         Ok(())
     }
