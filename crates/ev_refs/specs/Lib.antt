@@ -8,3 +8,4 @@ pub mod Settling
 pub mod Performing
 pub mod Work
 pub mod Resolving
+pub mod Sending
