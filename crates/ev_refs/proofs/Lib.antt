@@ -6,3 +6,4 @@ pub mod Performs
 pub mod Working
 pub mod Waits
 pub mod Resolves
+pub mod Sends

@@ -101,11 +101,11 @@ module _ (word : ℕ → ℕ) (ts : List Words) where
         let more : lines_of line (k.micro.events ++ e ∷ []) ≡ lines_of line k.micro.events ++ h ∷ [] = lines_more k.micro.events e ∙ ap (λ (x : List (Happened Local)). lines_of line k.micro.events ++ x) is in
         ap (λ (x : List (Happened Local)). Gives tt (record (at k) { happened = x })) (append_assoc s.happened (lines_of line k.micro.events) (h ∷ []) ∙ ap (λ (x : List (Happened Local)). s.happened ++ x) (sym more))
 
-    enqueue_is : (m : Message) (k : Desk) → enqueue (message_by ts m) (at k) ≡ Gives tt (at (enqueued m k))
+    pub enqueue_is : (m : Message) (k : Desk) → enqueue (message_by ts m) (at k) ≡ Gives tt (at (enqueued m k))
     unfolding enqueue
     enqueue_is m k = ap (λ (q : List (machine.Message Local)). Gives tt (record (at k) { queue = q })) (sym (map-append (message_by ts) k.refs.queue (m ∷ [])))
 
-    hold_found : (n : ℕ) (m : Message) (k : Desk) (o : Option Known) → slice_get k.refs.known n ≡ o → alter (names word) (Hold (message_by ts m)) (Prom n) (at k) ≡ Gives tt (at (held_at n m o k))
+    pub hold_found : (n : ℕ) (m : Message) (k : Desk) (o : Option Known) → slice_get k.refs.known n ≡ o → alter (names word) (Hold (message_by ts m)) (Prom n) (at k) ≡ Gives tt (at (held_at n m o k))
     unfolding alter held_at
     hold_found n m k None h = ap (λ (ks : List (machine.Known Local)). Gives tt (record (at k) { known = ks })) (unknown_same word ts (Hold (message_by ts m)) k.refs.known n h)
     hold_found n m k (Some known) h =

@@ -1,10 +1,17 @@
 //! Promises that a vat makes, and messages that it sends.
 
-ghost use Rattle.std.specs.Prelude.{◌≡◌, IfOk, OnErr, OnOk, length};
-ghost use Rattle.ev_refs.specs.Sending.{with_message, with_promise};
+ghost use Rattle.std.specs.Prelude.{◌≡◌, ◌+◌, [], IfOk, Ok, OnErr, OnOk, length, slice_get};
+ghost use Rattle.ev_heap.specs.declared.happened.Happened.TheVariants.{Send};
+ghost use Rattle.ev_refs.specs.Sending.{FindsItsPlace, SendsAsTheMachine, SendsOn, with_message, with_promise};
+ghost use Rattle.ev_refs.specs.Settling.{Leaves, enqueued, held_at};
+ghost use Rattle.ev_refs.specs.declared.follow.Place.TheVariants.{Gone};
 
+use crate::follow::Place;
+use crate::known::Message;
 use crate::refs::Refs;
-use ev_base::{Memory, MsgId, PromId};
+use crate::settle::Fault;
+use ev_base::{ActId, Memory, MsgId, PromId, Seq, Str, TextId, Value};
+use ev_heap::{Happened, Micro};
 
 /// The number of a new message, and the name of its answer.
 #[derive(Clone, Copy, Debug, PartialEq, Eq)]
@@ -47,5 +54,142 @@ impl Refs {
         self.mails = mails;
         self.messages = messages;
         Ok(Fresh { id, answer })
+    }
+
+    /// A message as it is told when it is sent.
+    fn sending(
+        &self,
+        activation: ActId,
+        fresh: Fresh,
+        target: &Value,
+        verb: &str,
+        args: &[Value],
+    ) -> Result<Happened, Memory>
+        ensures { IfOk result (λ e. e ≡ Send activation fresh.id target.now verb.now args.now fresh.answer) }
+    {
+        Ok(Happened::Send {
+            activation,
+            message: fresh.id,
+            target: *target,
+            verb: Str::copy_of(self.alloc, verb)?,
+            args: Seq::of(Vec::from_slice(self.alloc, args)?),
+            answer: fresh.answer,
+        })
+    }
+
+    /// A message on a followed target.
+    fn message_on(
+        &self,
+        fresh: Fresh,
+        target: &Value,
+        verb: &str,
+        args: &[Value],
+    ) -> Result<Message, Memory>
+        ensures { IfOk result (λ m. m ≡ record { id = fresh.id; target = target.now; verb = verb.now; args = args.now; answer = fresh.answer }) }
+    {
+        Ok(Message {
+            id: fresh.id,
+            target: *target,
+            verb: Str::copy_of(self.alloc, verb)?,
+            args: Seq::of(Vec::from_slice(self.alloc, args)?),
+            answer: fresh.answer,
+        })
+    }
+
+    /// A message goes to the end of the queue.
+    fn enqueue(&mut self, micro: &Micro, message: Message) -> Result<(), Fault>
+        ensures { Leaves result (record { tasks = []; refs = self.new; micro = micro.now }) (Ok (enqueued message (record { tasks = []; refs = self.old; micro = micro.now }))) }
+    {
+        self.queue.push(message)?;
+        Ok(())
+    }
+
+    /// A message waits at a name, if that is known.
+    #[tactic(auto, unfolding(crate::specs::Settling::held_at))]
+    fn hold_first(
+        &mut self,
+        micro: &Micro,
+        name: PromId,
+        message: Message,
+    ) -> Result<(), Fault>
+        ensures { Leaves result (record { tasks = []; refs = self.new; micro = micro.now }) (Ok (held_at name message (slice_get self.old.known name) (record { tasks = []; refs = self.old; micro = micro.now }))) }
+    {
+        if name.0 < self.count() {
+            self.hold(name, message)?;
+        }
+        Ok(())
+    }
+
+    /// A message on a broken reference is lost, and its answer is broken with the problem.
+    fn lose(
+        &mut self,
+        micro: &mut Micro,
+        message: Message,
+        problem: TextId,
+    ) -> Result<(), Fault>
+        ensures { OnOk result (FindsItsPlace self.old micro.old message (Gone problem) self.new micro.new) }
+    {
+        micro.push(Happened::LostBroken(message.id))?;
+        let broken = Value::Broken(problem);
+        self.settle(micro, message.answer, &broken)
+    }
+
+    /// A new message finds its place: in the queue, at a promise of this vat, or lost.
+    fn send_first(
+        &mut self,
+        micro: &mut Micro,
+        message: Message,
+        place: Place,
+    ) -> Result<(), Fault>
+        ensures { OnOk result (FindsItsPlace self.old micro.old message place self.new micro.new) }
+    {
+        match place {
+            Place::Near => self.enqueue(micro, message),
+            Place::Mine(name) => self.hold_first(micro, name, message),
+            Place::Gone(problem) => self.lose(micro, message, problem),
+            Place::FarPromise(_, _) => Err(Fault::Unbuilt),
+            Place::FarObject(_, _) => Err(Fault::Unbuilt),
+        }
+    }
+
+    /// A new message is told as it is sent, and then finds its place.
+    fn send_new(
+        &mut self,
+        micro: &mut Micro,
+        activation: ActId,
+        target: &Value,
+        verb: &str,
+        args: &[Value],
+        end: &Value,
+        place: Place,
+    ) -> Result<PromId, Fault>
+        ensures { IfOk result (λ answer. SendsOn self.old micro.old activation target.now verb.now args.now end.now place answer self.new micro.new) }
+    {
+        let fresh = self.new_message()?;
+        micro.push(self.sending(activation, fresh, target, verb, args)?)?;
+        let message = self.message_on(fresh, end, verb, args)?;
+        self.send_first(micro, message, place)?;
+        Ok(fresh.answer)
+    }
+
+    /// An activation sends a message on a value that leads to no other vat: it is queued, or waits at a promise, or is lost. It
+    /// gives the name of the answer. After a fault what was done up to there stands.
+    pub fn send(
+        &mut self,
+        micro: &mut Micro,
+        activation: ActId,
+        target: Value,
+        verb: &str,
+        args: &[Value],
+    ) -> Result<PromId, Fault>
+        ensures { IfOk result (λ answer. SendsAsTheMachine self.old micro.old activation target verb.now args.now answer self.new micro.new) }
+    {
+        let held = target;
+        let end = self.deref(target);
+        match self.place(end) {
+            Place::FarPromise(_, _) => Err(Fault::Unbuilt),
+            Place::FarObject(_, _) => Err(Fault::Unbuilt),
+            place => self.send_new(micro, activation, &held, verb, args, &end, place),
+        }
     }
 }
