@@ -96,11 +96,11 @@ waits r m p q r' m' h g = λ word ts line s part tells.
 
 -- ---- what a name resolves to, by the place of the end
 
-place_in : (word : ℕ → ℕ) (ts : List Words) (line : Lines) (s : Vat Local) (r : References) (m : Micro) (v : Held) (x : Place) → place_of r (followed r v) ≡ x
+pub place_in : (word : ℕ → ℕ) (ts : List Words) (line : Lines) (s : Vat Local) (r : References) (m : Micro) (v : Held) (x : Place) → place_of r (followed r v) ≡ x
     → place (names word) (vat_in ts line (desk [] r m) s) (value_by ts (followed r v)) ≡ place_by ts x
 place_in word ts line s r m v x h = place_is word ts r (record s { fuel = m.fuel; happened = s.happened ++ lines_of line m.events }) (followed r v) ∙ ap (λ (y : Place). place_by ts y) h
 
-follow_in : (word : ℕ → ℕ) (ts : List Words) (line : Lines) (s : Vat Local) (r : References) (m : Micro) (v : Held) → KnowsTexts ts r
+pub follow_in : (word : ℕ → ℕ) (ts : List Words) (line : Lines) (s : Vat Local) (r : References) (m : Micro) (v : Held) → KnowsTexts ts r
     → follow (names word) (vat_in ts line (desk [] r m) s) (value_by ts v) ≡ value_by ts (followed r v)
 follow_in word ts line s r m v part = follow_is word ts r (record s { fuel = m.fuel; happened = s.happened ++ lines_of line m.events }) v part
 

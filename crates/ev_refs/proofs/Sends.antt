@@ -1,8 +1,9 @@
 -- What a vat sends it sends as the machine does.
 use Rattle.std.proofs.Common.{◌≡◌, ℕ, zero, suc, ◌+◌, Bool, true, false, List, [], ◌∷◌, ◌++◌, Option, Some, None, Ok, length, map, refl, sym, ap, ◌∙◌, subst, arith}
-use Rattle.std.specs.Prelude.{Result, Err, OnOk, slice_get}
+use Rattle.std.specs.Prelude.{Result, Err, IfOk, OnOk, slice_get}
 use Rattle.ev_base.specs.declared.values.Value.{Value as Held}
 use Rattle.ev_base.specs.declared.values.Value.TheVariants as held
+use Rattle.ev_heap.specs.declared.happened.Happened.{Happened as Event}
 use Rattle.ev_heap.specs.declared.happened.Happened.TheVariants as event
 use Rattle.ev_heap.specs.declared.micro.Micro.{Micro}
 use Rattle.ev_machine.specs.Values.{Words, Value, Ref, Local, Mess, Prom, IsSent, numbering}
@@ -10,10 +11,11 @@ use Rattle.ev_machine.specs.State as machine
 use Rattle.ev_machine.specs.State.{Vat, Act, Done, Gives, Lost, Sends, and_then, new_message}
 use Rattle.ev_machine.specs.Refs as refs
 use Rattle.ev_refs.specs.Performing.{Lines, Tells, lines_of, vat_in}
-use Rattle.ev_refs.specs.Reading.{value_by, message_by, known_by, knowns_by, mails_by}
+use Rattle.ev_refs.specs.Reading.{value_by, place_by, message_by, known_by, knowns_by, mails_by}
+use Rattle.ev_refs.specs.Follow.{followed, place_of}
 use Rattle.ev_refs.specs.References.{References, unsettled_of}
 use Rattle.ev_refs.specs.Performing.{SettlesAsTheMachine}
-use Rattle.ev_refs.specs.Sending.{with_message, sent, FindsItsPlace, SendsAsTheMachine}
+use Rattle.ev_refs.specs.Sending.{with_message, sent, FindsItsPlace, SendsOn, SendsAsTheMachine}
 use Rattle.ev_refs.specs.Settling.{Desk, Leaves, told, enqueued, held_at}
 use Rattle.ev_refs.specs.declared.follow.Place.{Place}
 use Rattle.ev_refs.specs.declared.follow.Place.TheVariants.{Near, Mine, FarPromise, FarObject, Gone}
@@ -23,8 +25,11 @@ use Rattle.ev_refs.specs.Statements.{KnowsTexts}
 use Rattle.ev_refs.specs.declared.known.Known.{Known}
 use Rattle.ev_refs.proofs.Machine.{names, as_many}
 use Rattle.ev_refs.proofs.Performs.{tell_is, enqueue_is, hold_found}
-use Rattle.ev_refs.proofs.Resolves.{on_ok}
+use Rattle.ev_refs.proofs.Resolves.{on_ok, follow_in, place_in}
 use Rattle.ev_refs.proofs.Settles.{desk}
+
+abbrev message_with : ℕ → Held → Words → List Held → ℕ → Message
+message_with i end verb args a = record { id = i; target = end; verb = verb; args = args; answer = a }
 
 placed_by : (result : Result (Unit {0}) Fault) (due k : Desk) (fact : Type 0) → Leaves result k (Ok due) → (due ≡ k → fact) → OnOk result fact
 placed_by (Ok u) due k fact h f = f cc
@@ -114,3 +119,96 @@ module _ (r : References) (m : Micro) (n : Message) (result : Result (Unit {0}) 
   -- the same, where the place is this
   pub at_place : (x y : Place) → x ≡ y → OnOk result (FindsItsPlace r m n y r' m') → OnOk result (FindsItsPlace r m n x r' m')
   at_place x y h g = subst (λ (z : Place). OnOk result (FindsItsPlace r m n z r' m')) (sym h) g
+
+-- ---- a new message
+
+pub made_anew : (r : References) (m : Micro) (act : ℕ) (x : Held) (verb : Words) (args : List Held) (end : Held) (p : Place) (i a : ℕ) (r1 : References) (m1 : Micro) (e : Event) (n : Message) (r' : References) (m' : Micro)
+    → (i ≡ r.mails) × (a ≡ length r.known) → r1 ≡ with_message r → e ≡ event.Send act i x verb args a → m1 ≡ record m { events = m.events ++ e ∷ [] }
+    → n ≡ record { id = i; target = end; verb = verb; args = args; answer = a } → FindsItsPlace r1 m1 n p r' m' → SendsOn r m act x verb args end p a r' m'
+made_anew r m act x verb args end p i a r1 m1 e n r' m' numbers hr he hm hn g =
+    let event_is : e ≡ event.Send act r.mails x verb args (length r.known) = he ∙ ap (λ (j : ℕ). event.Send act j x verb args a) numbers.0 ∙ ap (λ (b : ℕ). event.Send act r.mails x verb args b) numbers.1 in
+    let message_is : n ≡ record { id = r.mails; target = end; verb = verb; args = args; answer = length r.known } =
+      hn ∙ ap (λ (j : ℕ). message_with j end verb args a) numbers.0 ∙ ap (λ (b : ℕ). message_with r.mails end verb args b) numbers.1 in
+    (numbers.1, (m1, (hm ∙ ap (λ (z : Event). record m { events = m.events ++ z ∷ [] }) event_is,
+    subst (λ (z : Message). FindsItsPlace (with_message r) m1 z p r' m') message_is (subst (λ (z : References). FindsItsPlace z m1 n p r' m') hr g))))
+
+-- the host of the answer of a message on what is not away
+abbrev IsHere : Place → Type 0
+IsHere Near = Unit {0}
+IsHere (Mine n) = Unit {0}
+IsHere (Gone t) = Unit {0}
+IsHere _ = ⊥
+
+answers_here : (word : ℕ → ℕ) (ts : List Words) (v : ℕ) (p : Place) → IsHere p → refs.answer_host (names word) v (place_by ts p) ≡ v
+unfolding refs.answer_host
+answers_here word ts v Near h = refl
+answers_here word ts v (Mine n) h = refl
+answers_here word ts v (Gone t) h = refl
+answers_here word ts v (FarPromise a n) h = absurd h
+answers_here word ts v (FarObject a n) h = absurd h
+
+module _ (word : ℕ → ℕ) (ts : List Words) (line : Lines) (tells : Tells ts line) (s : Vat Local) (act : ℕ) (x : Held) (verb : Words) (args : List Held) where
+  abbrev there : Desk → Vat Local
+  there k = vat_in ts line k s
+
+  abbrev message_at : Value Local → Local × Local → machine.Message Local
+  message_at y new = record { id = new.0; target = y; verb = verb; args = map (value_by ts) args; answer = new.1 }
+
+  -- behind a message that came to be
+  abbrev onward : Value Local → refs.Place Local → Local × Local → Vat Local → Done Local (Value Local)
+  onward y p new t = and_then (machine.tell (Sends act (message_at (value_by ts x) new)) t) (λ _ u. and_then (refs.send_first (names word) (message_at y new) y p u) (λ _ z. machine.give (Ref new.1) z))
+
+  abbrev from_end : Value Local → refs.Place Local → ℕ → Vat Local → Done Local (Value Local)
+  from_end y p h t = and_then (new_message (names word) h t) (λ new u. onward y p new u)
+
+  send_by : (t : Vat Local) → refs.send (names word) act (value_by ts x) verb (map (value_by ts) args) t
+      ≡ from_end (refs.follow (names word) t (value_by ts x)) (refs.place (names word) t (refs.follow (names word) t (value_by ts x))) (refs.answer_host (names word) t.number (refs.place (names word) t (refs.follow (names word) t (value_by ts x)))) t
+  unfolding refs.send machine.◌>>=◌ machine.◌>>◌ machine.look and_then
+  send_by t = refl
+
+  told_as_sent : (k : Desk) (m1 : Micro) (k1 : Desk) → m1 ≡ record k.micro { events = k.micro.events ++ event.Send act k.refs.mails x verb args (length k.refs.known) ∷ [] } → k1 ≡ desk [] (with_message k.refs) m1
+      → machine.tell (Sends act (message_at (value_by ts x) (Mess k.refs.mails, Prom (length k.refs.known)))) (there (record k { refs = with_message k.refs })) ≡ Gives tt (there k1)
+  told_as_sent k m1 k1 h e =
+      tell_is word ts line tells s (event.Send act k.refs.mails x verb args (length k.refs.known)) (Sends act (message_at (value_by ts x) (Mess k.refs.mails, Prom (length k.refs.known)))) (record k { refs = with_message k.refs })
+      (tells.sends act k.refs.mails x verb args (length k.refs.known))
+      ∙ ap (λ (z : Micro). Gives tt (there (desk [] (with_message k.refs) z))) (sym h) ∙ ap (λ (z : Desk). Gives tt (there z)) (sym e)
+
+  -- a message is made, told, and finds its place
+  ends_sent : (r : References) (m m1 : Micro) (end : Held) (p : Place) (r' : References) (m' : Micro)
+      → m1 ≡ record m { events = m.events ++ event.Send act r.mails x verb args (length r.known) ∷ [] }
+      → refs.send_first (names word) (message_at (value_by ts end) (Mess r.mails, Prom (length r.known))) (value_by ts end) (place_by ts p) (there (desk [] (with_message r) m1)) ≡ Gives tt (there (desk [] r' m'))
+      → from_end (value_by ts end) (place_by ts p) r.me (there (desk [] r m)) ≡ Gives (Ref (Prom (length r.known))) (there (desk [] r' m'))
+  unfolding and_then machine.give
+  ends_sent r m m1 end p r' m' h g =
+      ap (λ (d : Done Local (Local × Local)). and_then d (λ new u. onward (value_by ts end) (place_by ts p) new u)) (new_message_is word ts line tells s (desk [] r m))
+      ∙ ap (λ (d : Done Local (Unit {0})). and_then d (λ _ u. and_then (refs.send_first (names word) (message_at (value_by ts end) (Mess r.mails, Prom (length r.known))) (value_by ts end) (place_by ts p) u) (λ _ z. machine.give (Ref (Prom (length r.known))) z)))
+      (told_as_sent (desk [] r m) m1 (desk [] (with_message r) m1) h refl)
+      ∙ ap (λ (d : Done Local (Unit {0})). and_then d (λ _ z. machine.give (Ref (Prom (length r.known))) z)) g
+
+-- what a message on a followed target comes to is what the machine's sending comes to
+pub sends_here : (r : References) (m : Micro) (act : ℕ) (x : Held) (verb : Words) (args : List Held) (end : Held) (p : Place) (answer : ℕ) (r' : References) (m' : Micro)
+    → end ≡ followed r x → place_of r end ≡ p → IsHere p → SendsOn r m act x verb args end p answer r' m' → SendsAsTheMachine r m act x verb args answer r' m'
+sends_here r m act x verb args end p answer r' m' he hp here g = λ word ts line s part tells.
+    let start : Vat Local = vat_in ts line (desk [] r m) s in
+    let led : refs.follow (names word) start (value_by ts x) ≡ value_by ts end = follow_in word ts line s r m x part ∙ ap (λ (v : Held). value_by ts v) (sym he) in
+    let stands : refs.place (names word) start (value_by ts end) ≡ place_by ts p = subst (λ (v : Held). refs.place (names word) start (value_by ts v) ≡ place_by ts p) (sym he) (place_in word ts line s r m x p (subst (λ (v : Held). place_of r v ≡ p) he hp)) in
+    send_by word ts line tells s act x verb args start
+    ∙ ap (λ (y : Value Local). from_end word ts line tells s act x verb args y (refs.place (names word) start y) (refs.answer_host (names word) r.me (refs.place (names word) start y)) start) led
+    ∙ ap (λ (q : refs.Place Local). from_end word ts line tells s act x verb args (value_by ts end) q (refs.answer_host (names word) r.me q) start) stands
+    ∙ ap (λ (h : ℕ). from_end word ts line tells s act x verb args (value_by ts end) (place_by ts p) h start) (answers_here word ts r.me p here)
+    ∙ ends_sent word ts line tells s act x verb args r m g.1.0 end p r' m' g.1.1.0 (g.1.1.1 word ts line s part tells)
+    ∙ ap (λ (n : ℕ). Gives (Ref (Prom n)) (vat_in ts line (desk [] r' m') s)) (sym g.0)
+
+-- where it is nowhere else
+is_here : (p : Place) → ((a n : ℕ) → p ≡ FarPromise a n → ⊥) → ((a n : ℕ) → p ≡ FarObject a n → ⊥) → IsHere p
+is_here Near f g = tt
+is_here (Mine n) f g = tt
+is_here (Gone t) f g = tt
+is_here (FarPromise a n) f g = absurd (f a n refl)
+is_here (FarObject a n) f g = absurd (g a n refl)
+
+pub sends : (r : References) (m : Micro) (act : ℕ) (x : Held) (verb : Words) (args : List Held) (end : Held) (p : Place) (result : Result ℕ Fault) (r' : References) (m' : Micro)
+    → end ≡ followed r x → place_of r end ≡ p → ((a n : ℕ) → p ≡ FarPromise a n → ⊥) → ((a n : ℕ) → p ≡ FarObject a n → ⊥)
+    → IfOk result (λ answer. SendsOn r m act x verb args end p answer r' m') → IfOk result (λ answer. SendsAsTheMachine r m act x verb args answer r' m')
+sends r m act x verb args end p (Ok a) r' m' he hp f g h = sends_here r m act x verb args end p a r' m' he hp (is_here p f g) h
+sends r m act x verb args end p (Err e) r' m' he hp f g h = tt
