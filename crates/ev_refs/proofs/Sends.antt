@@ -1,27 +1,26 @@
 -- What a vat sends it sends as the machine does.
-use Rattle.std.proofs.Common.{◌≡◌, ℕ, zero, suc, ◌+◌, Bool, true, false, List, [], ◌∷◌, ◌++◌, Option, Some, None, Ok, length, map, refl, sym, ap, ◌∙◌, subst, arith}
+use Rattle.std.proofs.Common.{◌≡◌, ℕ, zero, suc, ◌+◌, List, [], ◌∷◌, ◌++◌, Ok, length, map, refl, sym, ap, ◌∙◌, subst, arith}
 use Rattle.std.specs.Prelude.{Result, Err, IfOk, OnOk, slice_get}
 use Rattle.ev_base.specs.declared.values.Value.{Value as Held}
 use Rattle.ev_base.specs.declared.values.Value.TheVariants as held
 use Rattle.ev_heap.specs.declared.happened.Happened.{Happened as Event}
 use Rattle.ev_heap.specs.declared.happened.Happened.TheVariants as event
 use Rattle.ev_heap.specs.declared.micro.Micro.{Micro}
-use Rattle.ev_machine.specs.Values.{Words, Value, Ref, Local, Mess, Prom, IsSent, numbering}
+use Rattle.ev_machine.specs.Values.{Words, Value, Ref, Local, Mess, Prom, numbering}
 use Rattle.ev_machine.specs.State as machine
 use Rattle.ev_machine.specs.State.{Vat, Act, Done, Gives, Lost, Sends, and_then, new_message}
 use Rattle.ev_machine.specs.Refs as refs
-use Rattle.ev_refs.specs.Performing.{Lines, Tells, lines_of, vat_in}
-use Rattle.ev_refs.specs.Reading.{value_by, place_by, message_by, known_by, knowns_by, mails_by}
+use Rattle.ev_refs.specs.Performing.{Lines, Tells, vat_in}
+use Rattle.ev_refs.specs.Reading.{value_by, place_by, known_by, knowns_by, mails_by}
 use Rattle.ev_refs.specs.Follow.{followed, place_of}
 use Rattle.ev_refs.specs.References.{References, unsettled_of}
 use Rattle.ev_refs.specs.Performing.{SettlesAsTheMachine}
-use Rattle.ev_refs.specs.Sending.{with_message, sent, FindsItsPlace, SendsOn, SendsAsTheMachine}
-use Rattle.ev_refs.specs.Settling.{Desk, Leaves, told, enqueued, held_at}
+use Rattle.ev_refs.specs.Sending.{with_message, FindsItsPlace, SendsOn, SendsAsTheMachine}
+use Rattle.ev_refs.specs.Settling.{Desk, Leaves, enqueued, held_at}
 use Rattle.ev_refs.specs.declared.follow.Place.{Place}
 use Rattle.ev_refs.specs.declared.follow.Place.TheVariants.{Near, Mine, FarPromise, FarObject, Gone}
 use Rattle.ev_refs.specs.declared.known.Message.{Message}
 use Rattle.ev_refs.specs.declared.settle.Fault.{Fault}
-use Rattle.ev_refs.specs.Statements.{KnowsTexts}
 use Rattle.ev_refs.specs.declared.known.Known.{Known}
 use Rattle.ev_refs.proofs.Machine.{names, as_many}
 use Rattle.ev_refs.proofs.Performs.{tell_is, enqueue_is, hold_found}
@@ -128,9 +127,16 @@ pub made_anew : (r : References) (m : Micro) (act : ℕ) (x : Held) (verb : Word
 made_anew r m act x verb args end p i a r1 m1 e n r' m' numbers hr he hm hn g =
     let event_is : e ≡ event.Send act r.mails x verb args (length r.known) = he ∙ ap (λ (j : ℕ). event.Send act j x verb args a) numbers.0 ∙ ap (λ (b : ℕ). event.Send act r.mails x verb args b) numbers.1 in
     let message_is : n ≡ record { id = r.mails; target = end; verb = verb; args = args; answer = length r.known } =
-      hn ∙ ap (λ (j : ℕ). message_with j end verb args a) numbers.0 ∙ ap (λ (b : ℕ). message_with r.mails end verb args b) numbers.1 in
-    (numbers.1, (m1, (hm ∙ ap (λ (z : Event). record m { events = m.events ++ z ∷ [] }) event_is,
-    subst (λ (z : Message). FindsItsPlace (with_message r) m1 z p r' m') message_is (subst (λ (z : References). FindsItsPlace z m1 n p r' m') hr g))))
+    hn ∙ ap (λ (j : ℕ). message_with j end verb args a) numbers.0 ∙ ap (λ (b : ℕ). message_with r.mails end verb args b) numbers.1 in (
+      numbers.1,
+      (
+        m1,
+        (
+          hm ∙ ap (λ (z : Event). record m { events = m.events ++ z ∷ [] }) event_is,
+          subst (λ (z : Message). FindsItsPlace (with_message r) m1 z p r' m') message_is (subst (λ (z : References). FindsItsPlace z m1 n p r' m') hr g),
+        ),
+      ),
+    )
 
 -- the host of the answer of a message on what is not away
 abbrev IsHere : Place → Type 0

@@ -1,5 +1,5 @@
 -- What is to be done of a settling, as the machine does it.
-use Rattle.std.specs.Prelude.{map, ◌≡◌, ℕ, List, [], ◌∷◌, ◌++◌, Bool, true, false, Result, Ok, Err}
+use Rattle.std.specs.Prelude.{map, ◌≡◌, ℕ, List, [], ◌∷◌, ◌++◌, Bool, true, false, Result, Err}
 use Rattle.ev_heap.specs.declared.happened.Happened.{Happened as Event}
 use Rattle.ev_heap.specs.declared.happened.Happened.TheVariants as event
 use Rattle.ev_base.specs.declared.values.Value.{Value as Held}

@@ -106,12 +106,7 @@ impl Refs {
 
     /// A message waits at a name, if that is known.
     #[tactic(auto, unfolding(crate::specs::Settling::held_at))]
-    fn hold_first(
-        &mut self,
-        micro: &Micro,
-        name: PromId,
-        message: Message,
-    ) -> Result<(), Fault>
+    fn hold_first(&mut self, micro: &Micro, name: PromId, message: Message) -> Result<(), Fault>
         ensures { Leaves result (record { tasks = []; refs = self.new; micro = micro.now }) (Ok (held_at name message (slice_get self.old.known name) (record { tasks = []; refs = self.old; micro = micro.now }))) }
     {
         if name.0 < self.count() {
@@ -121,12 +116,7 @@ impl Refs {
     }
 
     /// A message on a broken reference is lost, and its answer is broken with the problem.
-    fn lose(
-        &mut self,
-        micro: &mut Micro,
-        message: Message,
-        problem: TextId,
-    ) -> Result<(), Fault>
+    fn lose(&mut self, micro: &mut Micro, message: Message, problem: TextId) -> Result<(), Fault>
         ensures { OnOk result (FindsItsPlace self.old micro.old message (Gone problem) self.new micro.new) }
     {
         micro.push(Happened::LostBroken(message.id))?;
@@ -135,12 +125,7 @@ impl Refs {
     }
 
     /// A new message finds its place: in the queue, at a promise of this vat, or lost.
-    fn send_first(
-        &mut self,
-        micro: &mut Micro,
-        message: Message,
-        place: Place,
-    ) -> Result<(), Fault>
+    fn send_first(&mut self, micro: &mut Micro, message: Message, place: Place) -> Result<(), Fault>
         ensures { OnOk result (FindsItsPlace self.old micro.old message place self.new micro.new) }
     {
         match place {

@@ -1,5 +1,5 @@
 use crate::{Message, Place, Refs};
-use ev_base::{MsgId, Seq, Str, TextId, Value, VatId};
+use ev_base::{ActId, MsgId, Seq, Str, TextId, Value, VatId};
 use ev_heap::Micro;
 use std::test::Fail;
 
@@ -29,5 +29,20 @@ fn a_held_message_goes_on(rt: HostRuntime) -> Result<(), Fail> {
     assert_eq!(rt; refs.deref(Value::Prom(answer)), Value::Int(7));
     assert_eq!(rt; refs.place(Value::Int(7)), Place::Near);
     assert_eq!(rt; micro.events.len(), 3);
+    Ok(())
+}
+
+/// A message on data is queued, and its answer is the next name.
+#[test]
+fn a_message_is_sent(rt: HostRuntime) -> Result<(), Fail> {
+    let alloc = rt.alloc();
+    let mut refs = Refs::new(alloc, VatId(0), TextId(0), TextId(1));
+    let mut micro = Micro::new(alloc, 0);
+    let promise = refs.new_promise()?;
+    match refs.send(&mut micro, ActId(0), Value::Int(1), "run", &[Value::Null]) {
+        Ok(answer) => assert_eq!(rt; answer.0, promise.0 + 1),
+        Err(_) => assert!(rt; false),
+    }
+    assert_eq!(rt; micro.events.len(), 1);
     Ok(())
 }

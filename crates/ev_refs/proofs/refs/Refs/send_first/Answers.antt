@@ -1,5 +1,5 @@
 use Rattle.ev_refs.proofs.Sends.{near, mine, at_place}
-use Rattle.ev_refs.specs.declared.follow.Place.TheVariants.{Near, Mine, Gone}
+use Rattle.ev_refs.specs.declared.follow.Place.TheVariants.{Near, Mine}
 use Rattle.ev_refs.proofs.refs.Refs.send_first.Goals as goal
 
 pub returns-in-Near : goal.returns-in-Near
