@@ -7,3 +7,5 @@ pub mod LinksStay
 pub mod States
 pub mod Exports
 pub mod OwnAsks
+pub mod Before
+pub mod Answered

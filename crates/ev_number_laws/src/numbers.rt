@@ -5,7 +5,7 @@
 
 ghost use Rattle.ev_number_laws.specs.Notes.{EveryNoteIsReadAlike, EveryPositionIsKeptAlike, EveryArrivalStands};
 ghost use Rattle.ev_number_laws.specs.Steps.{EntriesByNumbersStand, OpeningTurnsByNumbersStand};
-ghost use Rattle.ev_number_laws.specs.Exports.{PositionsStay, StatesGoOn, OnlyOwnStepsAsk};
+ghost use Rattle.ev_number_laws.specs.Exports.{PositionsStay, StatesGoOn, OnlyOwnStepsAsk, NoToldAnswerIsAskedFor};
 ghost use Rattle.ev_number_laws.specs.States.{EachStateHasNumbers, EntriesAreTakenInNumbers, OpeningTurnsAreTakenInNumbers};
 
 /// The note that stands first on a link that is not cut is read alike: its receiver reads the frame by its
@@ -74,4 +74,11 @@ pub fn states_go_on()
 /// position for it.
 pub fn only_own_steps_ask()
     ensures { OnlyOwnStepsAsk }
+{}
+
+/// No vat asks another for an answer that this one told it before, in any step, whether a link between them
+/// is cut or not: who sends a message on to a vat has no answer of it from there. This asks nothing of
+/// notices.
+pub fn no_told_answer_is_asked_for()
+    ensures { NoToldAnswerIsAskedFor }
 {}
