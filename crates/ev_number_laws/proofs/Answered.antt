@@ -136,7 +136,7 @@ module _ (script : Script) (x y : World) (b : Before script x) (apart : (m : Msg
   other i = let counted = b.counted in let fated = counted.fated (Sent (record { sender = 0; number = 0 })) in self_none x.links fated.apart u l (ap (λ z. link_at z u x.links) (sym i) ∙ at)
 
   module _ (m : Msg) (among : IsAmong (Answer h m) (told_in n)) where
-    move_puts : (move : Moved script x y) → MovePutsNot x u h (Answer h m) script y move
+    pub move_puts : (move : Moved script x y) → MovePutsNot x u h (Answer h m) script y move
     move_puts (Still v k d) = tt
     move_puts (Severs c e v k d) = tt
     move_puts (Drops c v note ns k f notes none vats links drawn) = tt

@@ -9,3 +9,6 @@ pub mod Exports
 pub mod OwnAsks
 pub mod Before
 pub mod Answered
+pub mod Missed
+pub mod Untold
+pub mod Untouched

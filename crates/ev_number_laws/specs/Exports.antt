@@ -52,3 +52,14 @@ AsksForNoAnswerTold x y u = (h : ℕ) (l : Link) → link_at h u x.links ≡ Som
 
 abbrev pub NoToldAnswerIsAskedFor : Type 0
 NoToldAnswerIsAskedFor = InEachStep (λ x y. (u : ℕ) → AsksForNoAnswerTold x y u)
+
+-- Of nothing at all that another vat told it before does a vat ask that one for the first time.
+abbrev pub NothingToldIsAskedFor : Type 0
+NothingToldIsAskedFor = InEachStep (λ x y. (u : ℕ) → AsksForNothingTold x y u)
+
+-- So each position stays in each step, and what stands for a state by the exports before a step does so by those after it.
+abbrev pub EveryPositionStays : Type 0
+EveryPositionStays = InEachStep (λ x y. (u : ℕ) → KeepsPositions x y u)
+
+abbrev pub EveryStateGoesOn : Type 0
+EveryStateGoesOn = InEachStep (λ x y. (u : ℕ) (r : Vat Name) (p : Vat Local) (t : Vat Name) → StandsFor u (table_across x u r) p t → StandsFor u (table_of y u r) p t)

@@ -5,7 +5,7 @@
 
 ghost use Rattle.ev_number_laws.specs.Notes.{EveryNoteIsReadAlike, EveryPositionIsKeptAlike, EveryArrivalStands};
 ghost use Rattle.ev_number_laws.specs.Steps.{EntriesByNumbersStand, OpeningTurnsByNumbersStand};
-ghost use Rattle.ev_number_laws.specs.Exports.{PositionsStay, StatesGoOn, OnlyOwnStepsAsk, NoToldAnswerIsAskedFor};
+ghost use Rattle.ev_number_laws.specs.Exports.{PositionsStay, StatesGoOn, OnlyOwnStepsAsk, NoToldAnswerIsAskedFor, NothingToldIsAskedFor, EveryPositionStays, EveryStateGoesOn};
 ghost use Rattle.ev_number_laws.specs.States.{EachStateHasNumbers, EntriesAreTakenInNumbers, OpeningTurnsAreTakenInNumbers};
 
 /// The note that stands first on a link that is not cut is read alike: its receiver reads the frame by its
@@ -81,4 +81,21 @@ pub fn only_own_steps_ask()
 /// notices.
 pub fn no_told_answer_is_asked_for()
     ensures { NoToldAnswerIsAskedFor }
+{}
+
+/// Nor for anything else that it was told: a gift is asked for where it arrives, and as long as it is under
+/// way no note that was ever put tells it. So in no step of any run does a vat ask another for the first time
+/// for what that one told it before. This asks nothing of notices.
+pub fn nothing_told_is_asked_for()
+    ensures { NothingToldIsAskedFor }
+{}
+
+/// So what others exported to a vat keeps its positions in each step.
+pub fn every_position_stays()
+    ensures { EveryPositionStays }
+{}
+
+/// And what stands for a state of a vat by the exports before a step does so by those after it.
+pub fn every_state_goes_on()
+    ensures { EveryStateGoesOn }
 {}
