@@ -1,5 +1,5 @@
 -- A vat asks for no answer that its host told it.
-use Rattle.std.proofs.Common.{◌≡◌, ℕ, zero, ◌+◌, ◌≤◌, ◌<◌, true, false, List, [], ◌∷◌, ◌++◌, Option, Some, None, refl, sym, ap, subst, ◌∙◌, ◌⊎◌, inl, inr, length, append_assoc, arith}
+use Rattle.std.proofs.Common.{◌≡◌, ℕ, zero, ◌+◌, ◌≤◌, List, [], ◌∷◌, ◌++◌, Some, refl, sym, ap, subst, ◌∙◌, ◌⊎◌, inl, inr, length, append_assoc, arith}
 use Rattle.std.specs.Prelude.{slice_get}
 use Rattle.ev_machine.specs.Values.{Name, Root, Object, Promise, Answer, Gift, Sent, Msg, answer_of}
 use Rattle.ev_machine.specs.State.{Note, Deliver, Open, Ask, SettledTo, Elsewhere, Shorten, Put, Vat}
@@ -10,12 +10,12 @@ use Rattle.ev_run.specs.Wire as wire
 use Rattle.ev_fate_laws.specs.Fate.{one as same_one, once as same_once, of_note, in_note, sent_in}
 use Rattle.ev_fate_laws.specs.Lasting.{Each, NoteWell, StepComes}
 use Rattle.ev_fate_laws.proofs.RunWell.{note_comes, found_link}
-use Rattle.ev_carry_laws.specs.Carry.{held_at, put_weight, load, weight, link_weight}
+use Rattle.ev_carry_laws.specs.Carry.{held_at, put_weight, load}
 use Rattle.ev_carry_laws.specs.Sound.{StepArrives}
 use Rattle.ev_carry_laws.specs.Laws.{leaves}
 use Rattle.ev_carry_laws.proofs.WorldLight.{VatSound, note_arrives, note_pays}
 use Rattle.ev_table_laws.specs.Knowing.{numbered_at}
-use Rattle.ev_name_laws.specs.Names.{AllOf, IsAmong, names_in}
+use Rattle.ev_name_laws.specs.Names.{IsAmong, names_in}
 use Rattle.ev_name_laws.specs.Runs.{KnowsOnce}
 use Rattle.ev_name_laws.proofs.Run.{Stands}
 use Rattle.ev_answer_laws.proofs.Counts.{Counted, IsNew, step_weighs, step_age}
@@ -31,7 +31,7 @@ use Rattle.ev_wire_laws.specs.Asked.{told_in}
 use Rattle.ev_wire_laws.proofs.WireRuns as wires
 use Rattle.ev_wire_laws.proofs.WireRuns.{Wire}
 use Rattle.ev_number_laws.specs.Exports.{AsksForNoAnswerTold, NoToldAnswerIsAskedFor}
-use Rattle.ev_number_laws.proofs.Before.{pick, AsksNot, PutsNot, MovePutsNot, asked_before, NoneLogged, opened_none, stepped_none, told_known}
+use Rattle.ev_number_laws.proofs.Before.{AsksNot, PutsNot, MovePutsNot, asked_before, NoneLogged, opened_none, stepped_none, told_known}
 
 -- ---- steps that no note begins
 

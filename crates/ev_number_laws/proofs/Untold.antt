@@ -1,23 +1,21 @@
 -- As long as a gift of a draw is under way no note that was ever put tells one of that draw.
-use Rattle.std.proofs.Common.{◌≡◌, ℕ, zero, suc, ◌+◌, ◌≤◌, ◌<◌, Bool, true, false, List, [], ◌∷◌, ◌++◌, Option, Some, refl, sym, ap, subst, ◌∙◌, ◌⊎◌, inl, inr, length, arith}
+use Rattle.std.proofs.Common.{◌≡◌, ℕ, zero, suc, ◌+◌, ◌≤◌, ◌<◌, Bool, true, false, List, [], ◌∷◌, ◌++◌, Some, refl, sym, ap, subst, ◌∙◌, ◌⊎◌, inl, inr, length, arith}
 use Rattle.std.specs.Prelude.{slice_get}
 use Rattle.ev_machine.specs.Values.{Name, Root, Object, Promise, Answer, Gift, Sent}
-use Rattle.ev_machine.specs.State.{Note, Put, Vat}
-use Rattle.ev_machine_laws.specs.Steps.{Step, Receives}
+use Rattle.ev_machine.specs.State.{Note, Vat}
 use Rattle.ev_run.specs.World as world
 use Rattle.ev_run.specs.World.{Script, Program, Link, World, Entry, Goes as Going, names_of, read_note, put_at, push_all, pushed, with_link, with_notes, severed_link, link_at}
 use Rattle.ev_fate_laws.specs.Lasting.{Each}
-use Rattle.ev_name_laws.specs.Names.{Named, AllOf, IsAmong, IsKnownIn, NoteOk, PutOk, names_in}
+use Rattle.ev_name_laws.specs.Names.{AllOf, IsAmong, IsKnownIn, PutOk, names_in}
 use Rattle.ev_name_laws.specs.Runs.{KnowsOnce}
 use Rattle.ev_name_laws.proofs.Facts.{all_map, all_end}
 use Rattle.ev_name_laws.proofs.Among.{get_put}
 use Rattle.ev_name_laws.proofs.Run.{Stands, Had, name_had}
-use Rattle.ev_rest_laws.proofs.NotesLift as lift
 use Rattle.ev_rest_laws.proofs.LinksCut.{fits_notes, fits_severed}
 use Rattle.ev_answer_laws.proofs.Links.{AtLink, with_any, push_of}
 use Rattle.ev_answer_laws.proofs.LegRuns.{stands_of}
-use Rattle.ev_answer_laws.proofs.Moves.{Moved, Still, Severs, Drops, Steps, Arrives, Does, opened_hold, stepped_hold}
-use Rattle.ev_gift_laws.specs.Passing.{gifts_in_note, gifts_under_way, drawn_of, Provides}
+use Rattle.ev_answer_laws.proofs.Moves.{Moved, Still, Severs, Drops, Steps, Arrives, opened_hold, stepped_hold}
+use Rattle.ev_gift_laws.specs.Passing.{gifts_under_way, drawn_of, Provides}
 use Rattle.ev_gift_laws.proofs.Puts.{gifts_out}
 use Rattle.ev_gift_laws.proofs.Links.{pushed_notes, push_all_gifts, with_link_less, severed_less, found_tells, links_from_none}
 use Rattle.ev_apart_laws.specs.Hiding.{IsNotOf, Shuns}

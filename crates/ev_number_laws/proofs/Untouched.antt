@@ -1,13 +1,12 @@
 -- A vat asks for nothing that it was told, so that its exports keep their positions.
 use Rattle.std.proofs.Common.{◌≡◌, ℕ, zero, suc, ◌+◌, ◌≤◌, ◌<◌, List, [], ◌∷◌, ◌++◌, Some, refl, sym, subst, ◌∙◌, ◌⊎◌, inl, inr, length, append_assoc, arith}
-use Rattle.std.specs.Prelude.{slice_get}
 use Rattle.ev_machine.specs.Values.{Name, Root, Object, Promise, Answer, Gift, Sent, Msg, answer_of}
 use Rattle.ev_machine.specs.State.{Note, Deliver, Open, Ask, SettledTo, Elsewhere, Shorten, Put, Vat}
 use Rattle.ev_machine_laws.specs.Steps.{Receives}
 use Rattle.ev_run.specs.World as world
 use Rattle.ev_run.specs.World.{Script, Program, Entry, Link, World, Goes as Going, names_of, read_note, link_at}
 use Rattle.ev_run.specs.Wire as wire
-use Rattle.ev_name_laws.specs.Names.{AllOf, IsAmong, names_in}
+use Rattle.ev_name_laws.specs.Names.{AllOf, IsAmong}
 use Rattle.ev_name_laws.specs.Runs.{KnowsOnce}
 use Rattle.ev_name_laws.proofs.Run.{Had, name_had}
 use Rattle.ev_answer_laws.proofs.Legs.{ApartIn}
