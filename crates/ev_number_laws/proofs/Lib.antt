@@ -12,3 +12,4 @@ pub mod Answered
 pub mod Missed
 pub mod Untold
 pub mod Untouched
+pub mod Chain
