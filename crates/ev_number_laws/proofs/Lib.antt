@@ -7,3 +7,9 @@ pub mod LinksStay
 pub mod States
 pub mod Exports
 pub mod OwnAsks
+pub mod Before
+pub mod Answered
+pub mod Missed
+pub mod Untold
+pub mod Untouched
+pub mod Chain

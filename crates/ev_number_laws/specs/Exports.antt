@@ -1,6 +1,6 @@
 -- When what others exported to a vat keeps its positions in a step.
 use Rattle.std.specs.Prelude.{◌≡◌, ℕ, zero, ◌+◌, List, ◌∷◌, ◌++◌, Some, length}
-use Rattle.ev_machine.specs.Values.{Name, Local}
+use Rattle.ev_machine.specs.Values.{Name, Answer, Msg, Local}
 use Rattle.ev_machine.specs.State.{Note, Vat}
 use Rattle.ev_name_laws.specs.Names.{IsAmong}
 use Rattle.ev_name_laws.specs.Runs.{KnowsOnce}
@@ -45,3 +45,21 @@ abbrev pub OnlyOwnStepsAsk : Type 0
 OnlyOwnStepsAsk = (script : Script)
     → ((v : ℕ) (p : Program) (x y : World) → open_vat script v p x ≡ Goes y → (u : ℕ) → (v ≡ u → ⊥) → AsksForNothingTold x y u)
     × ((e : Entry) (k : ℕ) (x y : World) → step script e k x ≡ Goes y → (u : ℕ) → (IsStepOf e u → ⊥) → AsksForNothingTold x y u)
+
+-- Of the answers that another vat told vat u in any note before world x, u asks that one for none from x to y for which it had not asked.
+abbrev pub AsksForNoAnswerTold : World → World → ℕ → Type 0
+AsksForNoAnswerTold x y u = (h : ℕ) (l : Link) → link_at h u x.links ≡ Some l → (n : Note Name) (m : Msg) → IsAmong n l.log → IsAmong (Answer h m) (told_in n) → IsAmong (Answer h m) (questions (λ i. i) y.links u h) → IsAmong (Answer h m) (questions (λ i. i) x.links u h)
+
+abbrev pub NoToldAnswerIsAskedFor : Type 0
+NoToldAnswerIsAskedFor = InEachStep (λ x y. (u : ℕ) → AsksForNoAnswerTold x y u)
+
+-- Of nothing at all that another vat told it before does a vat ask that one for the first time.
+abbrev pub NothingToldIsAskedFor : Type 0
+NothingToldIsAskedFor = InEachStep (λ x y. (u : ℕ) → AsksForNothingTold x y u)
+
+-- So each position stays in each step, and what stands for a state by the exports before a step does so by those after it.
+abbrev pub EveryPositionStays : Type 0
+EveryPositionStays = InEachStep (λ x y. (u : ℕ) → KeepsPositions x y u)
+
+abbrev pub EveryStateGoesOn : Type 0
+EveryStateGoesOn = InEachStep (λ x y. (u : ℕ) (r : Vat Name) (p : Vat Local) (t : Vat Name) → StandsFor u (table_across x u r) p t → StandsFor u (table_of y u r) p t)

@@ -5,7 +5,8 @@
 
 ghost use Rattle.ev_number_laws.specs.Notes.{EveryNoteIsReadAlike, EveryPositionIsKeptAlike, EveryArrivalStands};
 ghost use Rattle.ev_number_laws.specs.Steps.{EntriesByNumbersStand, OpeningTurnsByNumbersStand};
-ghost use Rattle.ev_number_laws.specs.Exports.{PositionsStay, StatesGoOn, OnlyOwnStepsAsk};
+ghost use Rattle.ev_number_laws.specs.Exports.{PositionsStay, StatesGoOn, OnlyOwnStepsAsk, NoToldAnswerIsAskedFor, NothingToldIsAskedFor, EveryPositionStays, EveryStateGoesOn};
+ghost use Rattle.ev_number_laws.specs.Chain.{EntriesChainOn, OpeningTurnsChainOn};
 ghost use Rattle.ev_number_laws.specs.States.{EachStateHasNumbers, EntriesAreTakenInNumbers, OpeningTurnsAreTakenInNumbers};
 
 /// The note that stands first on a link that is not cut is read alike: its receiver reads the frame by its
@@ -74,4 +75,41 @@ pub fn states_go_on()
 /// position for it.
 pub fn only_own_steps_ask()
     ensures { OnlyOwnStepsAsk }
+{}
+
+/// No vat asks another for an answer that this one told it before, in any step, whether a link between them
+/// is cut or not: who sends a message on to a vat has no answer of it from there. This asks nothing of
+/// notices.
+pub fn no_told_answer_is_asked_for()
+    ensures { NoToldAnswerIsAskedFor }
+{}
+
+/// Nor for anything else that it was told: a gift is asked for where it arrives, and as long as it is under
+/// way no note that was ever put tells it. So in no step of any run does a vat ask another for the first time
+/// for what that one told it before. This asks nothing of notices.
+pub fn nothing_told_is_asked_for()
+    ensures { NothingToldIsAskedFor }
+{}
+
+/// So what others exported to a vat keeps its positions in each step.
+pub fn every_position_stays()
+    ensures { EveryPositionStays }
+{}
+
+/// And what stands for a state of a vat by the exports before a step does so by those after it.
+pub fn every_state_goes_on()
+    ensures { EveryStateGoesOn }
+{}
+
+/// What an entry leaves to a vat in its own numbers is what the next one begins with: the state that the
+/// step gives, or the one before where the vat takes no step, with the fuel and the draws of the world and
+/// nothing put yet, stands for what the next step finds, by the tables of that world. So the laws of the
+/// steps of a vat in numbers follow one another through the whole run, with no gap between two of them.
+pub fn entries_chain_on()
+    ensures { EntriesChainOn }
+{}
+
+/// And so does what an opening turn leaves. This asks nothing of notices.
+pub fn opening_turns_chain_on()
+    ensures { OpeningTurnsChainOn }
 {}

@@ -1,0 +1,33 @@
+-- What a step in numbers leaves is what the next one begins with.
+use Rattle.std.specs.Prelude.{◌≡◌, ℕ, zero, ◌+◌, List, [], ◌∷◌, ◌++◌, Some, None, slice_get, length}
+use Rattle.ev_machine.specs.Values.{Name, Local}
+use Rattle.ev_machine.specs.State.{Vat, Gives}
+use Rattle.ev_name_laws.specs.Runs.{KnowsOnce}
+use Rattle.ev_renaming.specs.Stands.{StandsFor}
+use Rattle.ev_run.specs.World.{Script, Program, Entry, World, Goes, begins, open_vat, open_from, step, steps_from, readied}
+use Rattle.ev_rest_laws.specs.Cuts.{NoticesFollowCuts}
+use Rattle.ev_table_laws.specs.Tables.{table_of}
+use Rattle.ev_number_laws.specs.Steps.{OwnStep, entry_by_numbers, opening_by_numbers}
+
+-- the state in numbers as the next step finds it: with the fuel and the draws of the world, and nothing put yet
+unfoldable pub readied_by_numbers : World → Vat Local → Vat Local
+readied_by_numbers w q = record q { fuel = w.fuel; drawn = w.drawn; outbox = []; happened = [] }
+
+-- Vat u, which was in state q in numbers, has state r in names in the next world, y. What is left, the state q where it takes no step and what the step gives where it does, stands there for what the step after that will find, by the names, messages and exports of world y.
+abbrev pub LeavesFor : World → ℕ → Vat Name → Vat Local → OwnStep → Type 0
+LeavesFor y u r q None = StandsFor u (table_of y u r) (readied_by_numbers y q) (readied y r)
+LeavesFor y u r q (Some d) = (p : Vat Local) × (d ≡ Gives tt p) × StandsFor u (table_of y u r) (readied_by_numbers y p) (readied y r)
+
+-- So it is of each vat, from every state in numbers that stands for what the step finds.
+abbrev pub ChainsOn : World → World → (ℕ → Vat Name → Vat Local → OwnStep) → Type 0
+ChainsOn x y f = (u : ℕ) (s r : Vat Name) → slice_get x.vats u ≡ Some s → slice_get y.vats u ≡ Some r → (q : Vat Local) → StandsFor u (table_of x u s) q (readied x s) → LeavesFor y u r q (f u s q)
+
+-- So it is by each entry of a run in which each notice stands behind a cut of the same two vats.
+abbrev pub EntriesChainOn : Type 0
+EntriesChainOn = (script : Script) → KnowsOnce script → (w x y : World) (es : List Entry) (e : Entry) (k : ℕ) → NoticesFollowCuts (es ++ e ∷ []) → open_from script zero script.vats (begins script) ≡ Goes w → steps_from script es k w ≡ Goes x → step script e (k + length es) x ≡ Goes y
+    → ChainsOn x y (entry_by_numbers script x e)
+
+-- And so it is by each opening turn.
+abbrev pub OpeningTurnsChainOn : Type 0
+OpeningTurnsChainOn = (script : Script) → KnowsOnce script → (ps rest : List Program) (p : Program) (x y : World) → script.vats ≡ ps ++ p ∷ rest → open_from script zero ps (begins script) ≡ Goes x → open_vat script (length ps) p x ≡ Goes y
+    → ChainsOn x y (opening_by_numbers script (length ps) p)
