@@ -1,5 +1,5 @@
 -- A vat goes through the entries of a run in its own numbers.
-use Rattle.std.proofs.Common.{◌≡◌, ℕ, zero, suc, ◌+◌, List, [], ◌∷◌, ◌++◌, Option, Some, None, refl, sym, ap, subst, ◌∙◌, ◌⊎◌, inl, inr, length, append_assoc, arith}
+use Rattle.std.proofs.Common.{◌≡◌, ℕ, zero, suc, ◌+◌, List, [], ◌∷◌, ◌++◌, Option, Some, None, refl, sym, ap, subst, ◌∙◌, ◌⊎◌, inl, inr, length, append_assoc, append-nil, arith}
 use Rattle.std.specs.Prelude.{slice_get}
 use Rattle.ev_machine.specs.Values.{Name, Local}
 use Rattle.ev_machine.specs.State.{Vat, Gives}
@@ -15,8 +15,10 @@ use Rattle.ev_answer_laws.proofs.Moves.{Moved, Still, Severs, Drops, Steps, Arri
 use Rattle.ev_apart_laws.proofs.AskHolds.{notices_front}
 use Rattle.ev_alike_laws.proofs.Arrivals.{some_same}
 use Rattle.ev_number_laws.specs.Steps.{OwnStep, entry_by_numbers}
-use Rattle.ev_number_laws.specs.Chain.{readied_by_numbers, LeavesFor, left_by, where_goes, where_is, run_by_numbers, RunsByNumbersStand}
+use Rattle.ev_number_laws.specs.Chain.{readied_by_numbers, LeavesFor, left_by, where_goes, where_is, run_by_numbers, RunsByNumbersStand, RunsAreTakenInNumbers}
+use Rattle.ev_number_laws.specs.States.{in_numbers}
 use Rattle.ev_number_laws.proofs.Own.{stay_put}
+use Rattle.ev_number_laws.proofs.States.{states_have_numbers}
 use Rattle.ev_number_laws.proofs.Answered.{entry_move}
 use Rattle.ev_number_laws.proofs.Chain.{entries_chain}
 
@@ -79,3 +81,7 @@ module _ (script : Script) (once : KnowsOnce script) (u : ℕ) (w0 : World) (k0 
 pub runs_stand : RunsByNumbersStand
 unfolding world.steps_from
 runs_stand script once w x es k follow opened stepped u s r i j q stands = let n : k ≡ k + 0 = omega arith in goes_on script once u w k opened [] es k w x n refl follow stepped s r i j q stands
+
+pub runs_taken : RunsAreTakenInNumbers
+runs_taken script once knows w x es k follow opened stepped u s r i j =
+    runs_stand script once w x es k follow opened stepped u s r i j (in_numbers w u s) ((states_have_numbers script once knows).0 script.vats [] w (sym (append-nil script.vats)) opened u s i)

@@ -5,9 +5,11 @@ use Rattle.ev_machine.specs.State.{Vat, Gives, Throws, Ejects, Stops}
 use Rattle.ev_name_laws.specs.Runs.{KnowsOnce}
 use Rattle.ev_renaming.specs.Stands.{StandsFor}
 use Rattle.ev_run.specs.World.{Script, Program, Entry, World, Run, Goes, Stopped, begins, open_vat, open_from, step, steps_from, readied}
+use Rattle.ev_whole_fate_laws.specs.Runs.{KnowsVats}
 use Rattle.ev_rest_laws.specs.Cuts.{NoticesFollowCuts}
 use Rattle.ev_table_laws.specs.Tables.{table_of}
 use Rattle.ev_number_laws.specs.Steps.{OwnStep, entry_by_numbers, opening_by_numbers}
+use Rattle.ev_number_laws.specs.States.{in_numbers}
 
 -- the state in numbers as the next step finds it: with the fuel and the draws of the world, and nothing put yet
 unfoldable pub readied_by_numbers : World → Vat Local → Vat Local
@@ -58,3 +60,9 @@ abbrev pub RunsByNumbersStand : Type 0
 RunsByNumbersStand = (script : Script) → KnowsOnce script → (w x : World) (es : List Entry) (k : ℕ) → NoticesFollowCuts es → open_from script zero script.vats (begins script) ≡ Goes w → steps_from script es k w ≡ Goes x
     → (u : ℕ) (s r : Vat Name) → slice_get w.vats u ≡ Some s → slice_get x.vats u ≡ Some r → (q : Vat Local) → StandsFor u (table_of w u s) q (readied w s)
     → (p : Vat Local) × (run_by_numbers script u es k w q ≡ Some p) × StandsFor u (table_of x u r) p (readied x r)
+
+-- And there is such a state, where each vat of the script knows only vats of it.
+abbrev pub RunsAreTakenInNumbers : Type 0
+RunsAreTakenInNumbers = (script : Script) → KnowsOnce script → KnowsVats script → (w x : World) (es : List Entry) (k : ℕ) → NoticesFollowCuts es → open_from script zero script.vats (begins script) ≡ Goes w → steps_from script es k w ≡ Goes x
+    → (u : ℕ) (s r : Vat Name) → slice_get w.vats u ≡ Some s → slice_get x.vats u ≡ Some r
+    → (p : Vat Local) × (run_by_numbers script u es k w (in_numbers w u s) ≡ Some p) × StandsFor u (table_of x u r) p (readied x r)

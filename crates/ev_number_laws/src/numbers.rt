@@ -6,7 +6,7 @@
 ghost use Rattle.ev_number_laws.specs.Notes.{EveryNoteIsReadAlike, EveryPositionIsKeptAlike, EveryArrivalStands};
 ghost use Rattle.ev_number_laws.specs.Steps.{EntriesByNumbersStand, OpeningTurnsByNumbersStand};
 ghost use Rattle.ev_number_laws.specs.Exports.{PositionsStay, StatesGoOn, OnlyOwnStepsAsk, NoToldAnswerIsAskedFor, NothingToldIsAskedFor, EveryPositionStays, EveryStateGoesOn};
-ghost use Rattle.ev_number_laws.specs.Chain.{EntriesChainOn, OpeningTurnsChainOn, RunsByNumbersStand};
+ghost use Rattle.ev_number_laws.specs.Chain.{EntriesChainOn, OpeningTurnsChainOn, RunsByNumbersStand, RunsAreTakenInNumbers};
 ghost use Rattle.ev_number_laws.specs.States.{EachStateHasNumbers, EntriesAreTakenInNumbers, OpeningTurnsAreTakenInNumbers};
 
 /// The note that stands first on a link that is not cut is read alike: its receiver reads the frame by its
@@ -119,4 +119,10 @@ pub fn opening_turns_chain_on()
 /// steps gives, and the state at the end stands for its state in names there.
 pub fn runs_by_numbers_stand()
     ensures { RunsByNumbersStand }
+{}
+
+/// And there is such a state to begin with, where each vat of the script knows only vats of it: each name in
+/// its place by its number.
+pub fn runs_are_taken_in_numbers()
+    ensures { RunsAreTakenInNumbers }
 {}
