@@ -1,12 +1,9 @@
 -- What a step in numbers leaves is what the next one begins with, since what others exported keeps its positions.
-use Rattle.std.proofs.Common.{◌≡◌, ℕ, zero, ◌+◌, List, [], ◌∷◌, ◌++◌, Some, None, refl, ap, sym, subst, length}
-use Rattle.std.specs.Prelude.{slice_get}
+use Rattle.std.proofs.Common.{◌≡◌, ℕ, [], Some, None, refl, ap, sym, subst, length}
 use Rattle.ev_machine.specs.Values.{Name, Local}
 use Rattle.ev_machine.specs.State.{Vat}
-use Rattle.ev_name_laws.specs.Runs.{KnowsOnce}
-use Rattle.ev_renaming.specs.Maps as maps
 use Rattle.ev_renaming.specs.Stands.{Found, Table, StandsFor}
-use Rattle.ev_run.specs.World.{Script, World, readied}
+use Rattle.ev_run.specs.World.{World, readied}
 use Rattle.ev_table_laws.specs.Tables.{table_of}
 use Rattle.ev_alike_laws.specs.Arrivals.{table_across}
 use Rattle.ev_number_laws.specs.Steps.{OwnStep, EndsFor, entry_by_numbers, opening_by_numbers}

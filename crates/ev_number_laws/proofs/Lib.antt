@@ -13,3 +13,4 @@ pub mod Missed
 pub mod Untold
 pub mod Untouched
 pub mod Chain
+pub mod Runs

@@ -1,13 +1,15 @@
 -- What a step in numbers leaves is what the next one begins with.
-use Rattle.std.specs.Prelude.{◌≡◌, ℕ, zero, ◌+◌, List, [], ◌∷◌, ◌++◌, Some, None, slice_get, length}
+use Rattle.std.specs.Prelude.{◌≡◌, ℕ, zero, suc, ◌+◌, List, [], ◌∷◌, ◌++◌, Option, Some, None, slice_get, length}
 use Rattle.ev_machine.specs.Values.{Name, Local}
-use Rattle.ev_machine.specs.State.{Vat, Gives}
+use Rattle.ev_machine.specs.State.{Vat, Gives, Throws, Ejects, Stops}
 use Rattle.ev_name_laws.specs.Runs.{KnowsOnce}
 use Rattle.ev_renaming.specs.Stands.{StandsFor}
-use Rattle.ev_run.specs.World.{Script, Program, Entry, World, Goes, begins, open_vat, open_from, step, steps_from, readied}
+use Rattle.ev_run.specs.World.{Script, Program, Entry, World, Run, Goes, Stopped, begins, open_vat, open_from, step, steps_from, readied}
+use Rattle.ev_whole_fate_laws.specs.Runs.{KnowsVats}
 use Rattle.ev_rest_laws.specs.Cuts.{NoticesFollowCuts}
 use Rattle.ev_table_laws.specs.Tables.{table_of}
 use Rattle.ev_number_laws.specs.Steps.{OwnStep, entry_by_numbers, opening_by_numbers}
+use Rattle.ev_number_laws.specs.States.{in_numbers}
 
 -- the state in numbers as the next step finds it: with the fuel and the draws of the world, and nothing put yet
 unfoldable pub readied_by_numbers : World → Vat Local → Vat Local
@@ -31,3 +33,36 @@ EntriesChainOn = (script : Script) → KnowsOnce script → (w x y : World) (es 
 abbrev pub OpeningTurnsChainOn : Type 0
 OpeningTurnsChainOn = (script : Script) → KnowsOnce script → (ps rest : List Program) (p : Program) (x y : World) → script.vats ≡ ps ++ p ∷ rest → open_from script zero ps (begins script) ≡ Goes x → open_vat script (length ps) p x ≡ Goes y
     → ChainsOn x y (opening_by_numbers script (length ps) p)
+
+-- the state in numbers that a step leaves to the next one in world y, if it gives
+unfoldable pub left_by : World → Vat Local → OwnStep → Option (Vat Local)
+left_by y q None = Some (readied_by_numbers y q)
+left_by y q (Some (Gives a p)) = Some (readied_by_numbers y p)
+left_by y q (Some (Throws z p)) = None
+left_by y q (Some (Ejects n z p)) = None
+left_by y q (Some (Stops c p)) = None
+
+unfoldable pub where_goes : Run → (World → Option (Vat Local)) → Option (Vat Local)
+where_goes (Goes y) f = f y
+where_goes (Stopped c n y) f = None
+
+unfoldable pub where_is : {A : Type 0} → Option A → (A → Option (Vat Local)) → Option (Vat Local)
+where_is (Some a) f = f a
+where_is None f = None
+
+-- the state in which vat u is in its own numbers after these entries, from state q in world w, each entry taken from what the one before it left
+unfoldable pub run_by_numbers : Script → ℕ → List Entry → ℕ → World → Vat Local → Option (Vat Local)
+run_by_numbers script u [] k w q = Some q
+run_by_numbers script u (e ∷ es) k w q = where_goes (step script e k w) (λ y. where_is (slice_get w.vats u) (λ s. where_is (left_by y q (entry_by_numbers script w e u s q)) (run_by_numbers script u es (suc k) y)))
+
+-- So a vat goes through all entries of such a run in its own numbers, from any state in numbers that stands for the one that it has after the opening turns, and what it is in at the end stands for its state in names there.
+abbrev pub RunsByNumbersStand : Type 0
+RunsByNumbersStand = (script : Script) → KnowsOnce script → (w x : World) (es : List Entry) (k : ℕ) → NoticesFollowCuts es → open_from script zero script.vats (begins script) ≡ Goes w → steps_from script es k w ≡ Goes x
+    → (u : ℕ) (s r : Vat Name) → slice_get w.vats u ≡ Some s → slice_get x.vats u ≡ Some r → (q : Vat Local) → StandsFor u (table_of w u s) q (readied w s)
+    → (p : Vat Local) × (run_by_numbers script u es k w q ≡ Some p) × StandsFor u (table_of x u r) p (readied x r)
+
+-- And there is such a state, where each vat of the script knows only vats of it.
+abbrev pub RunsAreTakenInNumbers : Type 0
+RunsAreTakenInNumbers = (script : Script) → KnowsOnce script → KnowsVats script → (w x : World) (es : List Entry) (k : ℕ) → NoticesFollowCuts es → open_from script zero script.vats (begins script) ≡ Goes w → steps_from script es k w ≡ Goes x
+    → (u : ℕ) (s r : Vat Name) → slice_get w.vats u ≡ Some s → slice_get x.vats u ≡ Some r
+    → (p : Vat Local) × (run_by_numbers script u es k w (in_numbers w u s) ≡ Some p) × StandsFor u (table_of x u r) p (readied x r)

@@ -6,7 +6,7 @@
 ghost use Rattle.ev_number_laws.specs.Notes.{EveryNoteIsReadAlike, EveryPositionIsKeptAlike, EveryArrivalStands};
 ghost use Rattle.ev_number_laws.specs.Steps.{EntriesByNumbersStand, OpeningTurnsByNumbersStand};
 ghost use Rattle.ev_number_laws.specs.Exports.{PositionsStay, StatesGoOn, OnlyOwnStepsAsk, NoToldAnswerIsAskedFor, NothingToldIsAskedFor, EveryPositionStays, EveryStateGoesOn};
-ghost use Rattle.ev_number_laws.specs.Chain.{EntriesChainOn, OpeningTurnsChainOn};
+ghost use Rattle.ev_number_laws.specs.Chain.{EntriesChainOn, OpeningTurnsChainOn, RunsByNumbersStand, RunsAreTakenInNumbers};
 ghost use Rattle.ev_number_laws.specs.States.{EachStateHasNumbers, EntriesAreTakenInNumbers, OpeningTurnsAreTakenInNumbers};
 
 /// The note that stands first on a link that is not cut is read alike: its receiver reads the frame by its
@@ -112,4 +112,17 @@ pub fn entries_chain_on()
 /// And so does what an opening turn leaves. This asks nothing of notices.
 pub fn opening_turns_chain_on()
     ensures { OpeningTurnsChainOn }
+{}
+
+/// So a vat goes through all entries of a run in its own numbers, each taken from what the one before it
+/// left, from any state in numbers that stands for the one that it has after the opening turns: each of its
+/// steps gives, and the state at the end stands for its state in names there.
+pub fn runs_by_numbers_stand()
+    ensures { RunsByNumbersStand }
+{}
+
+/// And there is such a state to begin with, where each vat of the script knows only vats of it: each name in
+/// its place by its number.
+pub fn runs_are_taken_in_numbers()
+    ensures { RunsAreTakenInNumbers }
 {}
