@@ -1,11 +1,11 @@
 -- How what a vat has of references stands for the machine's, in local numbers, where the texts of its heap are these.
 use Rattle.std.specs.Prelude.{ℕ, zero, suc, true, false, List, [], ◌∷◌, map, slice_get, unwrap_or}
 use Rattle.ev_base.specs.declared.values.Value.{Value as Held}
-use Rattle.ev_base.specs.declared.values.Value.TheVariants as held
-use Rattle.ev_machine.specs.Values.{Words, Value, Null, Flag, Number, Letter, Text, Prim, Broken, Items, Ref, Local, Obj, Prom, Far, Mess}
+use Rattle.ev_machine.specs.Values.{Words, Value, Prim, Local, Prom, Far, Mess}
 use Rattle.ev_machine.specs.State as machine
 use Rattle.ev_machine.specs.State.{Vat}
 use Rattle.ev_machine.specs.Refs as refs
+use Rattle.ev_prims.specs.Reading as prims
 use Rattle.ev_refs.specs.References.{References}
 use Rattle.ev_refs.specs.declared.follow.Place.{Place}
 use Rattle.ev_refs.specs.declared.follow.Place.TheVariants.{Near, Mine, FarPromise, FarObject, Gone}
@@ -18,18 +18,9 @@ use Rattle.ev_refs.specs.declared.known.Standing.TheVariants.{Unsettled, WaitsOn
 abbrev pub text_by : List Words → ℕ → Words
 text_by ts id = unwrap_or (slice_get ts id) []
 
+-- a value, where the texts are these
 abbrev pub value_by : List Words → Held → Value Local
-value_by ts held.Null = Null
-value_by ts (held.Bool b) = Flag b
-value_by ts (held.Int z) = Number z
-value_by ts (held.Char c) = Letter c
-value_by ts (held.Text id) = Text (text_by ts id)
-value_by ts (held.List id) = Items id
-value_by ts (held.Prim n) = Prim n
-value_by ts (held.Obj i) = Ref (Obj i)
-value_by ts (held.Prom k) = Ref (Prom k)
-value_by ts (held.Far v p) = Ref (Far v p)
-value_by ts (held.Broken id) = Broken (text_by ts id)
+value_by ts v = prims.value_by (text_by ts) v
 
 abbrev pub message_by : List Words → Message → machine.Message Local
 message_by ts m = record { id = Mess m.id; target = value_by ts m.target; verb = m.verb; args = map (value_by ts) m.args; answer = Prom m.answer }
