@@ -15,7 +15,7 @@ use Rattle.ev_run.specs.World as world
 use Rattle.ev_run.specs.World.{Script, Program, Opens, Entry, Turn, Carry, CutLink, NoticeLink, Event, Turned, Idle, Carried, CutAt, NoticedAt, Link, World, Run, Goes, Stopped, names, names_of, read_note}
 use Rattle.ev_frozen_laws.specs.Frozen.{AllOf, PlainPasses, Passes, AllPass, NotePasses, KnownThere, MessageThere, NounWell, Sound}
 use Rattle.ev_frozen_laws.specs.Laws.{StepWell}
-use Rattle.ev_frozen_laws.specs.Runs.{ReachIsFrozenIn, ReachIsFrozenInRuns}
+use Rattle.ev_frozen_laws.specs.Runs.{ReachIsFrozenIn, ReachIsFrozenInRuns, ReachIsFrozenAtTheEnd}
 use Rattle.ev_frozen_laws.proofs.Facts.{all_end, all_append}
 use Rattle.ev_frozen_laws.proofs.Fine.{MayBe}
 use Rattle.ev_frozen_laws.proofs.Looks.{get_all}
@@ -259,6 +259,18 @@ module _ (script : Script) where
   unfolding world.begins
   begins_sound = record { vats = λ v s e. fresh_from_sound zero script.vats v v s e; links = links_from_pass script.vats zero script.vats }
 
+  -- ---- the end
+
+  close_sound : (w x : World) → WorldSound script w → world.close script w ≡ Goes x → WorldSound script x
+  unfolding world.close
+  close_sound w x h e = moved _ x (record { vats = h.vats; links = h.links }) e
+
+  pub run_sound : (x : World) → world.run script ≡ Goes x → WorldSound script x
+  unfolding world.run
+  run_sound x e = then_sound x (world.open_from script zero script.vats (world.begins script)) (λ w. world.then_goes (world.steps_from script script.schedule 1 w) (world.close script))
+      (λ y i. opens_sound zero script.vats (world.begins script) y begins_sound i)
+      (λ y i j. then_sound x (world.steps_from script script.schedule 1 y) (world.close script) (λ z k. steps_sound script.schedule 1 y z i k) (λ z k l. close_sound z x k l) j) e
+
 reach_in : (script : Script) (w : World) → WorldSound script w → ReachIsFrozenIn script w
 unfolding names
 reach_in script w h v s e = frozen_reach (names script v) (global_spots (draw_word script.key) v) s (h.vats v s e)
@@ -268,3 +280,6 @@ reach_in_runs script = (
   λ ps rest w e opened. reach_in script w (opens_sound script zero ps (world.begins script) w (begins_sound script) opened),
   λ w x es k opened stepped. reach_in script x (steps_sound script es k w x (opens_sound script zero script.vats (world.begins script) w (begins_sound script) opened) stepped),
 )
+
+pub reach_at_the_end : ReachIsFrozenAtTheEnd
+reach_at_the_end script w e = reach_in script w (run_sound script w e)

@@ -2,7 +2,7 @@
 use Rattle.std.specs.Prelude.{◌≡◌, ℕ, zero, List, ◌++◌, Some, slice_get}
 use Rattle.ev_machine.specs.Values.{Name}
 use Rattle.ev_machine.specs.State.{Vat}
-use Rattle.ev_run.specs.World.{Script, Program, Entry, World, Goes, begins, open_from, steps_from, names}
+use Rattle.ev_run.specs.World.{Script, Program, Entry, World, Goes, begins, open_from, steps_from, run, names}
 use Rattle.ev_frozen_laws.specs.Frozen.{FrozenReach}
 
 -- in each vat of a world
@@ -14,3 +14,7 @@ abbrev pub ReachIsFrozenInRuns : Type 0
 ReachIsFrozenInRuns = (script : Script)
     → ((ps rest : List Program) (w : World) → script.vats ≡ ps ++ rest → open_from script zero ps (begins script) ≡ Goes w → ReachIsFrozenIn script w)
     × ((w x : World) (es : List Entry) (k : ℕ) → open_from script zero script.vats (begins script) ≡ Goes w → steps_from script es k w ≡ Goes x → ReachIsFrozenIn script x)
+
+-- and in the world in which a whole run ends
+abbrev pub ReachIsFrozenAtTheEnd : Type 0
+ReachIsFrozenAtTheEnd = (script : Script) (w : World) → run script ≡ Goes w → ReachIsFrozenIn script w

@@ -1,7 +1,7 @@
 //! What is reached from objects that bear DeepFrozen's stamp.
 
 ghost use Rattle.ev_frozen_laws.specs.Laws.{ReachIsFrozen, StepsStaySound};
-ghost use Rattle.ev_frozen_laws.specs.Runs.{ReachIsFrozenInRuns};
+ghost use Rattle.ev_frozen_laws.specs.Runs.{ReachIsFrozenAtTheEnd, ReachIsFrozenInRuns};
 
 /// Every step of a vat from a sound state ends in a sound state.
 ///
@@ -25,4 +25,9 @@ pub fn reach_is_frozen()
 /// whatever its sources and names.
 pub fn reach_is_frozen_in_runs()
     ensures { ReachIsFrozenInRuns }
+{}
+
+/// The same of the world in which a whole run ends, behind its closing list.
+pub fn reach_is_frozen_at_the_end()
+    ensures { ReachIsFrozenAtTheEnd }
 {}

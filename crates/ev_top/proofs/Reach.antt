@@ -1,0 +1,9 @@
+-- What bears DeepFrozen's stamp reaches frozen values alone, in the world in which the run ends that a call owes.
+use Rattle.std.proofs.Common.{ℕ, List, Option, Some, None, IfSome}
+use Rattle.ev_frozen_laws.proofs.RunSound.{reach_at_the_end}
+use Rattle.ev_top.specs.Headline.{StampedReachFrozenAlone}
+use Rattle.ev_top.specs.declared.command.Command.{Command}
+
+pub frozen_alone : (left : Option (List ℕ)) (command : Option Command) → IfSome left (λ input. StampedReachFrozenAlone command input)
+frozen_alone None command = tt
+frozen_alone (Some input) command = λ script world (runs, read, vat, has, scoped, reads, is, goes). reach_at_the_end script world goes
