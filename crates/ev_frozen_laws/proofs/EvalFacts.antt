@@ -20,7 +20,7 @@ use Rattle.ev_kernel.specs.declared.node.Node.{Node}
 use Rattle.ev_kernel.specs.declared.node.Node.TheVariants.{Lit, Noun, Set, Def, Call, Sequence, If, Escape, Try, Finally, Hide, MatchBind, Object, Method, Matcher, Final, Var, Any, ListPattern, Via}
 use Rattle.ev_kernel.specs.declared.node.Literal.{Literal}
 use Rattle.ev_kernel.specs.declared.node.Literal.TheVariants as literal
-use Rattle.ev_frozen_laws.specs.Frozen.{AllOf, IsAmong, Lists, IsThere, AreThere, FreedomThere, HasNoName, BearsFrozen, IsFrozen, BoundWell, NounWell, NamesWell, TreeWell, Sound, deep_frozen}
+use Rattle.ev_frozen_laws.specs.Frozen.{AllOf, IsAmong, Lists, IsThere, AreThere, FreedomThere, HasNoName, BearsFrozen, IsFrozen, BoundWell, NounWell, Sound, deep_frozen}
 use Rattle.ev_frozen_laws.proofs.Fine.{Keeper, MayBe, Fact, IsValue, AreValues, AreLists, IsBound, AreNouns, IsView, MayValue, MayBound, IsReply, IsAsked, IsAuditionAsk, IsResolverAsk, ReplyThere, AuditionAskThere, ResolverAskThere, Gets, Fine, fine_sees, fine_give}
 use Rattle.ev_frozen_laws.proofs.Looks.{get_all, follow_there}
 use Rattle.ev_frozen_laws.proofs.Facts.{all_append}
@@ -127,7 +127,7 @@ module _ {N W : Type 0} (K : Naming N W) where
 
   bound_taken : (ts : List (Thing N)) (ls : Lists N) (n : ℕ) (g : Guard) → primitive n ≡ Guarding g → (o : Option (Value N)) → MayBe (Taken ts ls g) o → MayBe (BoundWell K ts ls) (under (Prim n) o)
   unfolding scopes.frozen_guard
-  bound_taken ts ls n g e (Some v) h = (h.0, tt, λ p d. h.1 (sym (ap freezes e) ∙ d))
+  bound_taken ts ls n g e (Some v) h = (h.0, tt, λ d. h.1 (sym (ap freezes e) ∙ d))
   bound_taken ts ls n g e None h = tt
 
   value_taken : (ts : List (Thing N)) (ls : Lists N) (g : Guard) (o : Option (Value N)) → MayBe (Taken ts ls g) o → MayBe (IsThere ls) o
@@ -210,11 +210,11 @@ module _ {N W : Type 0} (K : Naming N W) where
 
   pub got_under_any : (C : Fact N) (v : Value N) → Gets K C (IsValue v) → Gets K C (IsBound (Fixed v any_guard))
   unfolding any_guard scopes.frozen_guard scopes.freezes primitive native.numbered native.primitives
-  got_under_any C v g = record { at = λ ts ls c. (g.at ts ls c, tt, λ p e. absurd (false_true e)) }
+  got_under_any C v g = record { at = λ ts ls c. (g.at ts ls c, tt, λ e. absurd (false_true e)) }
 
   pub got_unguarded : (v : Value N) (n : N) → Gets K (IsValue v) (IsBound (Fixed v (Ref n)))
   unfolding scopes.frozen_guard
-  got_unguarded v n = record { at = λ ts ls c. (c, tt, λ p e. absurd (false_true e)) }
+  got_unguarded v n = record { at = λ ts ls c. (c, tt, λ e. absurd (false_true e)) }
 
   pub got_of_bound : (v g : Value N) → Gets K (IsBound (Fixed v g)) (IsValue v)
   got_of_bound v g = record { at = λ ts ls c. c.0 }

@@ -93,18 +93,18 @@ module _ {N : Type 0} (ts : List (Thing N)) (ls : Lists N) (us : List (Thing N))
   frozen_up K (Ref n) h = (h.0, h.1, bears_up h.0 h.2)
 
   pub bound_up : {W : Type 0} (K : Naming N W) (b : Bound N) → BoundWell K ts ls b → BoundWell K us ms b
-  bound_up K (Fixed v g) h = (there_up v h.0, there_up g h.1, λ p e. frozen_up K v (h.2 p e))
+  bound_up K (Fixed v g) h = (there_up v h.0, there_up g h.1, λ e. frozen_up K v (h.2 e))
   bound_up K (Slot k) h = tt
 
   pub noun_up : {W : Type 0} (K : Naming N W) (b : Binding N) → NounWell K ts ls b → NounWell K us ms b
-  noun_up K b h = (h.0, bound_up K b.bound h.1)
+  noun_up K b h = bound_up K b.bound h
 
   pub capture_up : {W : Type 0} (K : Naming N W) (b : Bound N) → FrozenCapture K ts ls b → FrozenCapture K us ms b
   capture_up K (Fixed v g) h = frozen_up K v h
   capture_up K (Slot k) h = absurd h
 
   pub thing_up : {W : Type 0} (K : Naming N W) (x : Thing N) → ThingWell K ts ls x → ThingWell K us ms x
-  thing_up K (Made node caught stamps) h = (all_map (noun_up K) caught h.0, all_map there_up stamps h.1, λ p a. all_map (λ b. capture_up K b.bound) caught (h.2 p a))
+  thing_up K (Made node caught stamps) h = (all_map (noun_up K) caught h.0, all_map there_up stamps h.1, λ a. all_map (λ b. capture_up K b.bound) caught (h.2 a))
   thing_up K (Ejector live) h = tt
   thing_up K (Audition live view) h = view_up view h
   thing_up K (Resolver p) h = h

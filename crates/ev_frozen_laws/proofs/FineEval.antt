@@ -15,12 +15,12 @@ use Rattle.ev_machine.specs.Eval as eval
 use Rattle.ev_machine.specs.Scopes.{meets, any_guard, frozen_guard, freezes, Answer, Answers, Evaluator, Caller, Body, Case, AuditionAsk, GetsForm, GetsGuard, Asks, NoAuditionAsk, ResolverAsk, Resolves, Smashes, NoResolverAsk}
 use Rattle.ev_kernel.specs.declared.node.Node.{Node}
 use Rattle.ev_kernel.specs.declared.node.Node.TheVariants.{Lit, Noun, Set, Def, Call, Sequence, If, Escape, Try, Finally, Hide, MatchBind, Object, Final, Var, Any, ListPattern, Via}
-use Rattle.ev_frozen_laws.specs.Frozen.{AllOf, IsAmong, Lists, IsThere, AreThere, IsFrozen, BoundWell, NounWell, FrozenCapture, ThingWell, NamesWell, TreeWell, deep_frozen}
+use Rattle.ev_frozen_laws.specs.Frozen.{AllOf, IsAmong, Lists, IsThere, AreThere, IsFrozen, BoundWell, NounWell, FrozenCapture, ThingWell, deep_frozen}
 use Rattle.ev_frozen_laws.proofs.Facts.{all_map, all_end, noun_up, thing_up}
 use Rattle.ev_frozen_laws.proofs.Fine.{Keeper, grows_same, resolvable, fine_bind, MayBe, Fact, Also, IsValue, AreValues, AreLists, IsBound, AreNouns, IsMessage, IsThing, IsView, MayValue, MayBound, MayCell, MayThing, IsReply, IsAsked, IsAuditionAsk, IsResolverAsk, StampsMeet, Approves, scope, answer, answers, nothing, Holds, Ends, Gets, Fine, fine, get_end, grows_things, widen, got, got_left, got_itself, got_ref, got_text, got_nothing, fine_bind, fine_ending, fine_more, fine_left, fine_if, fine_give, fine_throw, fine_eject, fine_stop, fine_tell, fine_spend, fine_slot, then_unit, bind_answer, bind_value, bind_number}
 use Rattle.ev_frozen_laws.proofs.Looks.{looks, get_all, look_follow}
 use Rattle.ev_frozen_laws.proofs.Serves.{Serves, Closing, serve_promise, serve_break, serve_send, serve_react, serve_close}
-use Rattle.ev_frozen_laws.proofs.EvalFacts.{knows, no_true, false_true, same_is, under, look_bound, some_bound, bound_well, got_noun, got_unguarded, got_of_bound, got_item, got_lists, got_literal, got_view, nouns_named}
+use Rattle.ev_frozen_laws.proofs.EvalFacts.{knows, no_true, false_true, same_is, under, look_bound, some_bound, bound_well, got_noun, got_unguarded, got_of_bound, got_item, got_lists, got_literal, got_view}
 
 -- a call, whatever is called
 abbrev pub GoodCaller : {N W : Type 0} (K : Naming N W) → Keeper K → Caller N → Type 0

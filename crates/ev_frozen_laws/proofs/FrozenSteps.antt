@@ -38,8 +38,8 @@ module _ {N W : Type 0} (K : Naming N W) (spots : (i : ℕ) → K.spot (K.object
 
   pub keeps_sound : (step : Step N W) (s : Vat N) → Sound K s → StepWell K s step → After (λ _. Sound K) s (does K step s)
   unfolding does plain
-  keeps_sound (Opens tree depth root given) s h w = ends_sound K nothing s _ ((fine_opening K M serves spots tree w.0 {C = AreNouns given} depth root (closing root) given (got_itself K (AreNouns given))).after s h w.1)
-  keeps_sound (Takes tree depth m) s h w = ends_sound K nothing s _ ((fine_taking K M serves spots tree w.0 {C = IsMessage m} depth m (closing m.answer) (got_itself K (IsMessage m))).after s h w.1)
+  keeps_sound (Opens tree depth root given) s h w = ends_sound K nothing s _ ((fine_opening K M serves spots tree {C = AreNouns given} depth root (closing root) given (got_itself K (AreNouns given))).after s h w)
+  keeps_sound (Takes tree depth m) s h w = ends_sound K nothing s _ ((fine_taking K M serves spots tree {C = IsMessage m} depth m (closing m.answer) (got_itself K (IsMessage m))).after s h w)
   keeps_sound (Receives from n) s h w = ends_sound K nothing s _ ((fine_arrive K M (loose K) (loose_tells K M (loose K)) {C = Nothing} from n w).after s h tt)
   keeps_sound (Notices v) s h w = ends_sound K nothing s _ ((fine_notice K M (loose K) (loose_tells K M (loose K)) {C = Nothing} v).after s h tt)
 

@@ -6,4 +6,4 @@ pub mod Empty
 pub mod Steps
 pub mod CauseLemmas
 pub mod Fates
-mod Reach
+pub mod Reach
