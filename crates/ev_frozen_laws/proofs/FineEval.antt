@@ -1,11 +1,11 @@
 -- All of evaluation, from a sound state, ends in a sound state.
-use Rattle.std.proofs.Common.{◌≡◌, ℕ, zero, suc, Bool, true, false, List, [], ◌∷◌, ◌++◌, Option, Some, None, refl, sym, ap, length, map, codes, ◌⊎◌, inl, inr}
+use Rattle.std.proofs.Common.{◌≡◌, ℕ, zero, suc, Bool, true, false, List, [], ◌∷◌, ◌++◌, Option, Some, None, refl, sym, length, map, codes, ◌⊎◌, inl, inr}
 use Rattle.std.specs.Prelude.{slice_get}
 use Rattle.ev_machine.specs.Values.{Words, Value, Null, Flag, Number, Letter, Text, Prim, Broken, Items, Ref, Naming, Spot, Own}
 use Rattle.ev_machine.specs.State.{Bound, Fixed, Slot, Scope, Binding, Cell, View, FreeName, IsItself, Thing, Made, Ejector, Audition, Resolver, Message, Standing, Unsettled, WaitsOn, Viewed, Settled, Vat, Done, Gives, Throws, Ejects, Stops, Act, ◌>>=◌, ◌>>◌, and_then, give, throw, eject, look, tell, new_thing, ObjectMade}
 use Rattle.ev_machine.specs.Refs.{Place, Near, standing_of, resolve}
 use Rattle.ev_machine.specs.Form.{Item, Begin, End, Word, Fact as Fixing, literal_value}
-use Rattle.ev_machine.specs.Free.{BoundNoun, same_words, bound_nouns}
+use Rattle.ev_machine.specs.Free.{BoundNoun, same_words}
 use Rattle.ev_machine.specs.Native as native
 use Rattle.ev_machine.specs.Native.{Reply, Says, Writes, Lists as Listed, Iterates, Fails, Guard, guard_name, native_guard, primitive, Primitive, MakeList, Equalizer, Comparer, Looper, Sender, References, Thrower, StampReader, Guarding, NoPrimitive, Asked, MakesList, Ranges, Same, Compares, Loops, SendsTo, CallsTo, MakesPromise, Breaks, Tells, Whens, ThrowsIt, IsStamped, Coerces, AddsNull, NoMethod}
 use Rattle.ev_machine.specs.Scopes as scopes
@@ -18,9 +18,9 @@ use Rattle.ev_kernel.specs.declared.node.Node.TheVariants.{Lit, Noun, Set, Def, 
 use Rattle.ev_frozen_laws.specs.Frozen.{AllOf, IsAmong, Lists, IsThere, AreThere, IsFrozen, BoundWell, NounWell, FrozenCapture, ThingWell, deep_frozen}
 use Rattle.ev_frozen_laws.proofs.Facts.{all_map, all_end, noun_up, thing_up}
 use Rattle.ev_frozen_laws.proofs.Fine.{Keeper, grows_same, resolvable, fine_bind, MayBe, Fact, Also, IsValue, AreValues, AreLists, IsBound, AreNouns, IsMessage, IsThing, IsView, MayValue, MayBound, MayCell, MayThing, IsReply, IsAsked, IsAuditionAsk, IsResolverAsk, StampsMeet, Approves, scope, answer, answers, nothing, Holds, Ends, Gets, Fine, fine, get_end, grows_things, widen, got, got_left, got_itself, got_ref, got_text, got_nothing, fine_bind, fine_ending, fine_more, fine_left, fine_if, fine_give, fine_throw, fine_eject, fine_stop, fine_tell, fine_spend, fine_slot, then_unit, bind_answer, bind_value, bind_number}
-use Rattle.ev_frozen_laws.proofs.Looks.{looks, get_all, look_follow}
+use Rattle.ev_frozen_laws.proofs.Looks.{looks, look_follow}
 use Rattle.ev_frozen_laws.proofs.Serves.{Serves, Closing, serve_promise, serve_break, serve_send, serve_react, serve_close}
-use Rattle.ev_frozen_laws.proofs.EvalFacts.{knows, no_true, false_true, same_is, under, look_bound, some_bound, bound_well, got_noun, got_unguarded, got_of_bound, got_item, got_lists, got_literal, got_view}
+use Rattle.ev_frozen_laws.proofs.EvalFacts.{knows, false_true, under, look_bound, some_bound, bound_well, got_noun, got_unguarded, got_of_bound, got_item, got_lists, got_literal, got_view}
 
 -- a call, whatever is called
 abbrev pub GoodCaller : {N W : Type 0} (K : Naming N W) → Keeper K → Caller N → Type 0

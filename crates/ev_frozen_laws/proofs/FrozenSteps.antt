@@ -1,5 +1,5 @@
 -- Every step of a vat from a sound state ends in a sound state.
-use Rattle.std.proofs.Common.{◌≡◌, ℕ, Bool}
+use Rattle.std.proofs.Common.{◌≡◌, ℕ}
 use Rattle.ev_machine.specs.Values.{Naming, Own}
 use Rattle.ev_machine.specs.State.{Vat, Done, Gives, Throws, Ejects, Stops}
 use Rattle.ev_machine_laws.specs.Steps.{Step, Opens, Takes, Receives, Notices, does, After}

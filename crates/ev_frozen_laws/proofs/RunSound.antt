@@ -1,9 +1,8 @@
 -- Every world of a run is sound: each vat in it, and each note under way.
-use Rattle.std.proofs.Common.{◌≡◌, ℕ, zero, suc, Bool, true, false, List, [], ◌∷◌, ◌++◌, Option, Some, None, refl, sym, ap, inl, inr, ◌⊎◌, map, codes, ◌==◌}
+use Rattle.std.proofs.Common.{◌≡◌, ℕ, zero, suc, Bool, true, false, List, [], ◌∷◌, ◌++◌, Option, Some, None, refl, sym, ap, inl, inr, ◌⊎◌, map, ◌==◌}
 use Rattle.std.specs.Prelude.{slice_get}
 use Rattle.ev_machine.specs.Values.{Value, Null, Flag, Number, Letter, Text, Prim, Broken, Items, Ref, Name, Root}
 use Rattle.ev_machine.specs.State.{Message, Passed, Passeds, Plain, AGift, Many, NoMore, More, Note, Deliver, Open, Ask, SettledTo, Elsewhere, Shorten, Put, Vat, Done, Gives, Throws, Ejects, Stops, begun}
-use Rattle.ev_machine.specs.Free.{same_words}
 use Rattle.ev_machine.specs.Native as native
 use Rattle.ev_machine.specs.Scopes as scopes
 use Rattle.ev_machine.specs.Scopes.{any_guard}
@@ -18,7 +17,6 @@ use Rattle.ev_frozen_laws.specs.Laws.{StepWell}
 use Rattle.ev_frozen_laws.specs.Runs.{ReachIsFrozenIn, ReachIsFrozenInRuns, ReachIsFrozenAtTheEnd}
 use Rattle.ev_frozen_laws.proofs.Facts.{all_end, all_append}
 use Rattle.ev_frozen_laws.proofs.Fine.{MayBe}
-use Rattle.ev_frozen_laws.proofs.Looks.{get_all}
 use Rattle.ev_frozen_laws.proofs.FrozenSteps.{stays_sound}
 use Rattle.ev_frozen_laws.proofs.Reach.{global_spots, frozen_reach}
 

@@ -1,5 +1,5 @@
 -- What evaluation does with references and promises, each as one thing: so that evaluation is gone over once for all that is kept.
-use Rattle.std.proofs.Common.{◌≡◌, ℕ, Bool, List}
+use Rattle.std.proofs.Common.{◌≡◌, ℕ, List}
 use Rattle.ev_machine.specs.Values.{Words, Value, Broken, Naming}
 use Rattle.ev_machine.specs.State.{Unsettled, Vat, new_promise}
 use Rattle.ev_machine.specs.Refs.{standing_of, settle, resolve, send, react}
