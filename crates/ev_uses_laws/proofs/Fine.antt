@@ -10,10 +10,10 @@ use Rattle.ev_connected_laws.specs.Known.{Item, AValue, ASlot, IsAmong, AllOf, R
 use Rattle.ev_connected_laws.specs.Natives.{ReplyHas}
 use Rattle.ev_connected_laws.specs.Connected.{served, open_after, Judges, GivenBack, LineWell, uses, itself}
 use Rattle.ev_connected_laws.specs.Laws as laws
-use Rattle.ev_connected_laws.proofs.Traces.{Traces, Ends as TracesEnds, among_last}
+use Rattle.ev_connected_laws.proofs.Traces.{traces_tell, Traces, Ends as TracesEnds, among_last}
 use Rattle.ev_uses_laws.proofs.Idle.{Idle, IdleEnds}
 use Rattle.ev_uses_laws.proofs.Asked.{AskedHas}
-use Rattle.ev_uses_laws.proofs.Ground.{Ground, all_map, opens, with_line, opens_last, idles_opens, held, Has, Knew, ViewKnown, Judged, Grows, Good, has_up, reaches_up, thing_up, among_up, judges_up, view_up, judged_up, given_up, grows_same, grows_line, grows_trans, grows_by, good_line, good_by, idles_grows, idles_good}
+use Rattle.ev_uses_laws.proofs.Ground.{Ground, all_map, opens, with_line, opens_last, idles_opens, held, Has, Knew, ViewKnown, Judged, Grows, Good, has_up, reaches_up, thing_up, among_up, judges_up, view_up, judged_up, given_up, grows_same, grows_line, grows_trans, grows_by, CellTold, makes_none, good_block, good_line, good_by, idles_grows, idles_good}
 
 abbrev pub MayBe : {A : Type 0} → (A → Type 0) → Option A → Type 0
 MayBe P (Some x) = P x
@@ -29,8 +29,6 @@ pub data Fact (N : Type 0) : Type 0 where
   AreValues : List (Value N) → Fact N
   AreLists : List (List (Value N)) → Fact N
   IsSlot : ℕ → Fact N
-  -- the guard of that slot is known
-  IsCell : ℕ → Fact N
   IsBound : Bound N → Fact N
   AreNouns : List (Binding N) → Fact N
   -- its own environment, in which it evaluates
@@ -112,6 +110,30 @@ dead_auditions (t ∷ ts) zero (suc i) view e = e
 dead_auditions (t ∷ ts) (suc k) zero view e = e
 dead_auditions (t ∷ ts) (suc k) (suc i) view e = dead_auditions ts k i view e
 
+were_objects : {N : Type 0} (ts : List (Thing N)) (k i : ℕ) (node : ℕ) (caught : List (Binding N)) (stamps : List (Value N)) → slice_get (change dead k ts) i ≡ Some (Made node caught stamps) → slice_get ts i ≡ Some (Made node caught stamps)
+unfolding change dead
+were_objects [] k i node caught stamps e = e
+were_objects (Made a b c ∷ ts) zero zero node caught stamps e = cc
+were_objects (Ejector b ∷ ts) zero zero node caught stamps e = cc
+were_objects (Audition b v ∷ ts) zero zero node caught stamps e = cc
+were_objects (Resolver p ∷ ts) zero zero node caught stamps e = cc
+were_objects (t ∷ ts) zero (suc i) node caught stamps e = e
+were_objects (t ∷ ts) (suc k) zero node caught stamps e = e
+were_objects (t ∷ ts) (suc k) (suc i) node caught stamps e = were_objects ts k i node caught stamps e
+
+-- a slot after a write has what it had, or what was written to it
+written_cells : {N : Type 0} (cs : List (Cell N)) (n k : ℕ) (v : Value N) (c : Cell N) → slice_get (change (holding v) n cs) k ≡ Some c → (slice_get cs k ≡ Some c) ⊎ ((n ≡ k) × (v ≡ c.value))
+unfolding change holding
+written_cells [] n k v c e = inl e
+written_cells (x ∷ cs) zero zero v c e = inr (refl, ap (λ (y : Cell _). y.value) (some_is (record x { value = v }) c e))
+written_cells (x ∷ cs) zero (suc k) v c e = inl e
+written_cells (x ∷ cs) (suc n) zero v c e = inl e
+written_cells (x ∷ cs) (suc n) (suc k) v c e = next (written_cells cs n k v c e)
+  where
+    next : (slice_get cs k ≡ Some c) ⊎ ((n ≡ k) × (v ≡ c.value)) → (slice_get cs k ≡ Some c) ⊎ ((suc n ≡ suc k) × (v ≡ c.value))
+    next (inl f) = inl f
+    next (inr f) = inr (ap suc f.0, f.1)
+
 -- writing to a slot leaves its guard
 written_guards : {N : Type 0} (cs : List (Cell N)) (n k : ℕ) (v : Value N) (c : Cell N) → slice_get cs k ≡ Some c → (d : Cell N) × (slice_get (change (holding v) n cs) k ≡ Some d) × (c.guard ≡ d.guard)
 unfolding change holding
@@ -163,7 +185,6 @@ module _ {N W : Type 0} (K : Naming N W) (E : Ground N) (a : ℕ) where
   Holds s (AreValues vs) = AllOf (Knew K E s a) vs
   Holds s (AreLists vss) = AllOf (AllOf (Knew K E s a)) vss
   Holds s (IsSlot k) = Has K E s a (ASlot k)
-  Holds s (IsCell k) = (c : Cell N) × (slice_get s.slots k ≡ Some c) × Knew K E s a c.guard
   Holds s (IsBound b) = BoundKnown s b
   Holds s (AreNouns bs) = AllOf (NounKnown s) bs
   Holds s (IsScope here) = (here.act ≡ a) × AllOf (NounKnown s) here.nouns × (served (opens s) ≡ None)
@@ -268,9 +289,6 @@ module _ {N W : Type 0} (K : Naming N W) (E : Ground N) (a : ℕ) where
     there_up i (Ejector b) h = tt
     there_up i (Resolver p) h = tt
 
-    cell_up : (k : ℕ) → Holds s (IsCell k) → Holds t (IsCell k)
-    cell_up k h = let d = g.grown.guards k h.0 h.1 in (d.0, d.1, subst (λ v. Knew K E t a v) d.2 (knew_up h.0.guard h.2))
-
     leads_up : (x y : Value N) → Reaches K E.before s.happened x y ⊎ IsPlain y → Reaches K E.before t.happened x y ⊎ IsPlain y
     leads_up x y (inl h) = inl (reaches_up K E s t g x y h)
     leads_up x y (inr h) = inr h
@@ -283,7 +301,6 @@ module _ {N W : Type 0} (K : Naming N W) (E : Ground N) (a : ℕ) where
     holds_up (AreValues vs) e h = all_map _ _ knew_up vs h
     holds_up (AreLists vss) e h = all_map _ _ (λ vs k. all_map _ _ knew_up vs k) vss h
     holds_up (IsSlot k) e h = has_up K E s t g a (ASlot k) h
-    holds_up (IsCell k) e h = cell_up k h
     holds_up (IsBound b) e h = bound_up b h
     holds_up (AreNouns bs) e h = all_map _ _ (λ b k. bound_up b.bound k) bs h
     holds_up (IsScope here) e h = (h.0, all_map _ _ (λ b k. bound_up b.bound k) here.nouns h.1, ap served e ∙ h.2)
@@ -312,7 +329,6 @@ module _ {N W : Type 0} (K : Naming N W) (E : Ground N) (a : ℕ) where
   all_keep s t e (AreValues vs) = tt
   all_keep s t e (AreLists vss) = tt
   all_keep s t e (IsSlot k) = tt
-  all_keep s t e (IsCell k) = tt
   all_keep s t e (IsBound b) = tt
   all_keep s t e (AreNouns bs) = tt
   all_keep s t e (IsScope here) = e
@@ -472,20 +488,6 @@ module _ {N W : Type 0} (K : Naming N W) (E : Ground N) (a : ℕ) where
   pub then_read : {B : Type 0} {C : Fact N} (act : ℕ) (k : ℕ) (v : Value N) {m : Act N B} {H : B → Fact N} → Gets C (IsAct act) → Gets C (IsSlot k) → Fine (Also C (IsValue v)) m H → Fine C (tell (SlotRead act k v) >> m) H
   then_read act k v {m = m} i g h = act_is act (λ b. tell (SlotRead b k v) >> m) i (read_now k v g h)
 
-  wrote_now : {B : Type 0} {C : Fact N} (k : ℕ) (v : Value N) {m : Act N B} {H : B → Fact N} → Gets C (IsSlot k) → Gets C (IsValue v) → Fine C m H → Fine C (tell (SlotWrote a k v) >> m) H
-  unfolding uses by open_after
-  wrote_now k v g j h = then_line {D = Nothing} (SlotWrote a k v) (λ s. refl) (λ s i c. ((inl (g.at s c), (inl (j.at s c), tt)), tt)) (λ s c. tt) (fine_left h)
-
-  pub then_wrote : {B : Type 0} {C : Fact N} (act : ℕ) (k : ℕ) (v : Value N) {m : Act N B} {H : B → Fact N} → Gets C (IsAct act) → Gets C (IsSlot k) → Gets C (IsValue v) → Fine C m H → Fine C (tell (SlotWrote act k v) >> m) H
-  then_wrote act k v {m = m} i g j h = act_is act (λ b. tell (SlotWrote b k v) >> m) i (wrote_now k v g j h)
-
-  slot_now : {B : Type 0} {C : Fact N} (k : ℕ) (v : Value N) {m : Act N B} {H : B → Fact N} → Gets C (IsCell k) → Gets C (IsValue v) → Fine (Also C (IsSlot k)) m H → Fine C (tell (SlotMade a k v) >> m) H
-  unfolding uses by tells open_after itself
-  slot_now k v g j h = then_line (SlotMade a k v) (λ s. refl) (λ s i c. ((inl (j.at s c), tt), g.at s c)) (λ s c. is_told s (SlotMade a k v) (ASlot k) (inl refl)) h
-
-  pub then_slot : {B : Type 0} {C : Fact N} (act : ℕ) (k : ℕ) (v : Value N) {m : Act N B} {H : B → Fact N} → Gets C (IsAct act) → Gets C (IsCell k) → Gets C (IsValue v) → Fine (Also C (IsSlot k)) m H → Fine C (tell (SlotMade act k v) >> m) H
-  then_slot act k v {m = m} i g j h = act_is act (λ b. tell (SlotMade b k v) >> m) i (slot_now k v g j h)
-
   list_now : {B : Type 0} {C : Fact N} (k : ℕ) (vs : List (Value N)) {m : Act N B} {H : B → Fact N} → Gets C (AreValues vs) → Fine (Also C (IsValue (Items k))) m H → Fine C (tell (ListMade a k vs) >> m) H
   unfolding uses by tells open_after itself
   list_now k vs g h = then_line (ListMade a k vs) (λ s. refl) (λ s i c. (uses_values s [] vs (g.at s c), tt)) (λ s c. is_told s (ListMade a k vs) (AValue (Items k)) (inl refl)) h
@@ -504,19 +506,19 @@ module _ {N W : Type 0} (K : Naming N W) (E : Ground N) (a : ℕ) where
 
   spend_ends : (s : Vat N) (n : ℕ) (b : Bool) → Good K E s → Ends nothing s (spent n b s)
   unfolding spent
-  spend_ends s n true h = ((grows_by K E s (record s { fuel = s.fuel - n }) refl (grows_same K E s).grown, refl), good_by K E s (record s { fuel = s.fuel - n }) refl refl (grows_same K E s).grown (λ i view e. e) h, tt)
+  spend_ends s n true h = ((grows_by K E s (record s { fuel = s.fuel - n }) refl (grows_same K E s).grown, refl), good_by K E s (record s { fuel = s.fuel - n }) refl refl (grows_same K E s).grown (makes_none K E s (record s { fuel = s.fuel - n }) refl refl) h, tt)
   spend_ends s n false h = h
 
   pub fine_spend : {C : Fact N} (n : ℕ) → Fine C (spend n) nothing
   unfolding spend
   fine_spend n = record { after = λ s h c. spend_ends s n (nat_le n s.fuel) h }
 
-  -- what makes no audition live
-  abbrev pub NotLive : Thing N → Type 0
-  NotLive (Made node caught stamps) = Unit {0}
-  NotLive (Ejector b) = Unit {0}
-  NotLive (Resolver p) = Unit {0}
-  NotLive (Audition b view) = ⊥
+  -- what is no object and no audition
+  abbrev pub IsInert : Thing N → Type 0
+  IsInert (Made node caught stamps) = ⊥
+  IsInert (Ejector b) = Unit {0}
+  IsInert (Resolver p) = Unit {0}
+  IsInert (Audition b view) = ⊥
 
   grown_thing : (s : Vat N) (x : Thing N) → laws.Grown (held K E s) (held K E (record s { things = s.things ++ x ∷ [] }))
   grown_thing s x = record { objects = λ i node caught stamps e. get_append s.things (x ∷ []) i (Made node caught stamps) e; lists = λ k vs e. e; guards = λ k c e. (c, e, refl); before = refl; given = refl }
@@ -524,20 +526,30 @@ module _ {N W : Type 0} (K : Naming N W) (E : Ground N) (a : ℕ) where
   pub grows_thing : (s : Vat N) (x : Thing N) → Grows K E s (record s { things = s.things ++ x ∷ [] })
   grows_thing s x = grows_by K E s (record s { things = s.things ++ x ∷ [] }) refl (grown_thing s x)
 
-  no_audition : (x : Thing N) (view : View N) → NotLive x → x ≡ Audition true view → ⊥
-  no_audition (Made node caught stamps) view n e = cc
+  no_audition : (x : Thing N) (view : View N) → IsInert x → x ≡ Audition true view → ⊥
+  no_audition (Made node caught stamps) view n e = elim n [ ]
   no_audition (Ejector b) view n e = cc
   no_audition (Resolver p) view n e = cc
   no_audition (Audition b v) view n e = elim n [ ]
 
-  old_audition : (ts : List (Thing N)) (x : Thing N) (view : View N) (i : ℕ) → NotLive x → (slice_get ts i ≡ Some (Audition true view)) ⊎ ((i ≡ length ts) × (x ≡ Audition true view)) → slice_get ts i ≡ Some (Audition true view)
-  old_audition ts x view i n (inl e) = e
-  old_audition ts x view i n (inr e) = absurd (no_audition x view n e.1)
+  no_object : (x : Thing N) (node : ℕ) (caught : List (Binding N)) (stamps : List (Value N)) → IsInert x → x ≡ Made node caught stamps → ⊥
+  no_object (Made m c ys) node caught stamps n e = elim n [ ]
+  no_object (Ejector b) node caught stamps n e = cc
+  no_object (Resolver p) node caught stamps n e = cc
+  no_object (Audition b v) node caught stamps n e = elim n [ ]
 
-  pub good_thing : (s : Vat N) (x : Thing N) → NotLive x → Good K E s → Good K E (record s { things = s.things ++ x ∷ [] })
-  good_thing s x n h = good_by K E s (record s { things = s.things ++ x ∷ [] }) refl refl (grown_thing s x) (λ i view e. old_audition s.things x view i n (get_or_last s.things x (Audition true view) i e)) h
+  old_thing : (ts : List (Thing N)) (x y : Thing N) (i : ℕ) → (x ≡ y → ⊥) → (slice_get ts i ≡ Some y) ⊎ ((i ≡ length ts) × (x ≡ y)) → slice_get ts i ≡ Some y
+  old_thing ts x y i n (inl e) = e
+  old_thing ts x y i n (inr e) = absurd (n e.1)
 
-  pub fine_thing : {C : Fact N} (x : Thing N) → NotLive x → Fine C (new_thing x) nothing
+  good_thing : (s : Vat N) (x : Thing N) → IsInert x → Good K E s → Good K E (record s { things = s.things ++ x ∷ [] })
+  good_thing s x n h = good_by K E s (record s { things = s.things ++ x ∷ [] }) refl refl (grown_thing s x) (record {
+    auditions = λ i view e. old_thing s.things x (Audition true view) i (no_audition x view n) (get_or_last s.things x (Audition true view) i e);
+    objects = λ i node caught stamps e. old_thing s.things x (Made node caught stamps) i (no_object x node caught stamps n) (get_or_last s.things x (Made node caught stamps) i e);
+    cells = λ k c e. e;
+  }) h
+
+  pub fine_thing : {C : Fact N} (x : Thing N) → IsInert x → Fine C (new_thing x) nothing
   unfolding new_thing
   fine_thing x n = record { after = λ s h c. ((grows_thing s x, refl), good_thing s x n h, tt) }
 
@@ -546,34 +558,65 @@ module _ {N W : Type 0} (K : Naming N W) (E : Ground N) (a : ℕ) where
 
   pub fine_kill : {C : Fact N} (n : ℕ) → Fine C (kill n) nothing
   unfolding kill
-  fine_kill n = record { after = λ s h c. let t : Vat N = record s { things = change dead n s.things } in ((grows_by K E s t refl (grown_dead s n), refl), good_by K E s t refl refl (grown_dead s n) (λ i view e. dead_auditions s.things n i view e) h, tt) }
+  fine_kill n = record { after = λ s h c. let t : Vat N = record s { things = change dead n s.things } in ((grows_by K E s t refl (grown_dead s n), refl), good_by K E s t refl refl (grown_dead s n) (record { auditions = λ i view e. dead_auditions s.things n i view e; objects = λ i node caught stamps e. were_objects s.things n i node caught stamps e; cells = λ k c e. e }) h, tt) }
 
   grown_slot : (s : Vat N) (c : Cell N) → laws.Grown (held K E s) (held K E (record s { slots = s.slots ++ c ∷ [] }))
   grown_slot s x = record { objects = λ i node caught stamps e. e; lists = λ k vs e. e; guards = λ k c e. (c, get_append s.slots (x ∷ []) k c e, refl); before = refl; given = refl }
 
-  fine_slot : {C : Fact N} (g v : Value N) → Gets C (IsValue g) → Fine C (new_slot g v) IsCell
-  unfolding new_slot
-  fine_slot k v i = record {
-    after = λ s h c. let x : Cell N = record { guard = k; value = v } in let t : Vat N = record s { slots = s.slots ++ x ∷ [] } in let g : Grows K E s t = grows_by K E s t refl (grown_slot s x) in
-        ((g, refl), good_by K E s t refl refl (grown_slot s x) (λ n view e. e) h, (x, get_end s.slots x, has_up K E s t g a (AValue k) (i.at s c)));
+  slot_told : (s : Vat N) (v g : Value N) (n : ℕ) (c : Cell N) → (slice_get s.slots n ≡ Some c) ⊎ ((n ≡ length s.slots) × (record { guard = g; value = v } ≡ c))
+      → (slice_get s.slots n ≡ Some c) ⊎ CellTold K E (with_line (record s { slots = s.slots ++ record { guard = g; value = v } ∷ [] }) (SlotMade a (length s.slots) v)) n c
+  slot_told s v g n c (inl e) = inl e
+  slot_told s v g n c (inr e) = inr (inr (
+    a,
+    inl (subst (λ k. IsAmong (SlotMade a k c.value) (s.happened ++ SlotMade a (length s.slots) v ∷ [])) (sym e.0)
+        (subst (λ (d : Cell N). IsAmong (SlotMade a (length s.slots) d.value) (s.happened ++ SlotMade a (length s.slots) v ∷ [])) e.1 (among_last s.happened (SlotMade a (length s.slots) v)))),
+  ))
+
+  slot_now : {B : Type 0} {C : Fact N} (g v : Value N) {m : ℕ → Act N B} {H : B → Fact N} → Gets C (IsValue g) → Gets C (IsValue v) → ((k : ℕ) → Fine (Also C (IsSlot k)) (m k) H) → Fine C (new_slot g v >>= (λ k. tell (SlotMade a k v) >> m k)) H
+  unfolding new_slot ◌>>=◌ tell ◌>>◌ and_then uses by tells open_after
+  slot_now {C = C} g v {m = m} {H = H} i j h = record {
+    after = λ s q c. let k = length s.slots in let x : Cell N = record { guard = g; value = v } in let u : Vat N = record s { slots = s.slots ++ x ∷ [] } in let e : Happened N = SlotMade a k v in let t : Vat N = with_line u e in
+        let w : Grows K E s u = grows_by K E s u refl (grown_slot s x) in
+        let r : Grows K E s t = grows_trans K E s u t w (grows_line K E u e) in
+        let p : Passes s t = (r, opens_last u e) in
+        let good : Good K E t = good_block K E s t e refl ((traces_tell K E.before e).after u q.told) (grown_slot s x) ((inl (has_up K E s u w a (AValue v) (j.at s c)), tt), (x, get_end s.slots x, has_up K E s u w a (AValue g) (i.at s c)))
+        (λ n view f. inl f) (λ n node caught stamps f. inl f) (λ n y f. slot_told s v g n y (get_or_last s.slots x y n f)) q in
+        widen H s t (m k t) p ((h k).after t good (still_holds s t p C c, is_told u e (ASlot k) (inl refl)));
   }
 
-  pub bind_slot : {B : Type 0} {C : Fact N} (g v : Value N) {f : ℕ → Act N B} {H : B → Fact N} → Gets C (IsValue g) → ((k : ℕ) → Fine (Also C (IsCell k)) (f k) H) → Fine C (new_slot g v >>= f) H
-  bind_slot g v i h = fine_bind IsCell (fine_slot g v i) h
+  -- a slot is made, and its line told
+  pub bind_slot : {B : Type 0} {C : Fact N} (act : ℕ) (g v : Value N) {m : ℕ → Act N B} {H : B → Fact N} → Gets C (IsAct act) → Gets C (IsValue g) → Gets C (IsValue v) → ((k : ℕ) → Fine (Also C (IsSlot k)) (m k) H) → Fine C (new_slot g v >>= (λ k. tell (SlotMade act k v) >> m k)) H
+  bind_slot act g v {m = m} k i j h = act_is act (λ b. new_slot g v >>= (λ n. tell (SlotMade b n v) >> m n)) k (slot_now g v i j h)
 
   grown_write : (s : Vat N) (n : ℕ) (v : Value N) → laws.Grown (held K E s) (held K E (record s { slots = change (holding v) n s.slots }))
   grown_write s n v = record { objects = λ i node caught stamps e. e; lists = λ k vs e. e; guards = λ k c e. written_guards s.slots n k v c e; before = refl; given = refl }
 
-  pub fine_write : {C : Fact N} (n : ℕ) (v : Value N) → Fine C (write_slot n v) nothing
-  unfolding write_slot
-  fine_write n v = record { after = λ s h c. let t : Vat N = record s { slots = change (holding v) n s.slots } in ((grows_by K E s t refl (grown_write s n v), refl), good_by K E s t refl refl (grown_write s n v) (λ i view e. e) h, tt) }
+  write_told : (s : Vat N) (n : ℕ) (v : Value N) (k : ℕ) (c : Cell N) → (slice_get s.slots k ≡ Some c) ⊎ ((n ≡ k) × (v ≡ c.value)) → (slice_get s.slots k ≡ Some c) ⊎ CellTold K E (with_line (record s { slots = change (holding v) n s.slots }) (SlotWrote a n v)) k c
+  write_told s n v k c (inl e) = inl e
+  write_told s n v k c (inr e) = inr (inr (a, inr (subst (λ m. IsAmong (SlotWrote a m c.value) (s.happened ++ SlotWrote a n v ∷ [])) e.0 (subst (λ w. IsAmong (SlotWrote a n w) (s.happened ++ SlotWrote a n v ∷ [])) e.1 (among_last s.happened (SlotWrote a n v))))))
+
+  wrote_now : {B : Type 0} {C : Fact N} (n : ℕ) (v : Value N) {m : Act N B} {H : B → Fact N} → Gets C (IsSlot n) → Gets C (IsValue v) → Fine C m H → Fine C (write_slot n v >> (tell (SlotWrote a n v) >> m)) H
+  unfolding write_slot tell ◌>>◌ and_then uses by open_after
+  wrote_now {C = C} n v {m = m} {H = H} i j h = record {
+    after = λ s q c. let u : Vat N = record s { slots = change (holding v) n s.slots } in let e : Happened N = SlotWrote a n v in let t : Vat N = with_line u e in
+        let w : Grows K E s u = grows_by K E s u refl (grown_write s n v) in
+        let r : Grows K E s t = grows_trans K E s u t w (grows_line K E u e) in
+        let p : Passes s t = (r, opens_last u e) in
+        let good : Good K E t = good_block K E s t e refl ((traces_tell K E.before e).after u q.told) (grown_write s n v) ((inl (has_up K E s u w a (ASlot n) (i.at s c)), (inl (has_up K E s u w a (AValue v) (j.at s c)), tt)), tt)
+        (λ l view f. inl f) (λ l node caught stamps f. inl f) (λ l y f. write_told s n v l y (written_cells s.slots n l v y f)) q in
+        widen H s t (m t) p (h.after t good (still_holds s t p C c));
+  }
+
+  -- a slot is written to, and its line told
+  pub then_wrote : {B : Type 0} {C : Fact N} (act n : ℕ) (v : Value N) {m : Act N B} {H : B → Fact N} → Gets C (IsAct act) → Gets C (IsSlot n) → Gets C (IsValue v) → Fine C m H → Fine C (write_slot n v >> (tell (SlotWrote act n v) >> m)) H
+  then_wrote act n v {m = m} k i j h = act_is act (λ b. write_slot n v >> (tell (SlotWrote b n v) >> m)) k (wrote_now n v i j h)
 
   grown_list : (s : Vat N) (xs : List (Value N)) → laws.Grown (held K E s) (held K E (record s { lists = s.lists ++ xs ∷ [] }))
   grown_list s xs = record { objects = λ i node caught stamps e. e; lists = λ k vs e. get_append s.lists (xs ∷ []) k vs e; guards = λ k c e. (c, e, refl); before = refl; given = refl }
 
   pub fine_list : {C : Fact N} (vs : List (Value N)) → Fine C (new_list vs) nothing
   unfolding new_list
-  fine_list vs = record { after = λ s h c. let t : Vat N = record s { lists = s.lists ++ vs ∷ [] } in ((grows_by K E s t refl (grown_list s vs), refl), good_by K E s t refl refl (grown_list s vs) (λ i view e. e) h, tt) }
+  fine_list vs = record { after = λ s h c. let t : Vat N = record s { lists = s.lists ++ vs ∷ [] } in ((grows_by K E s t refl (grown_list s vs), refl), good_by K E s t refl refl (grown_list s vs) (makes_none K E s t refl refl) h, tt) }
 
   idle_ends : {A : Type 0} (s : Vat N) (d : Done N A) → Good K E s → IdleEnds s d → TracesEnds K E.before d → Ends nothing s d
   idle_ends s (Gives x t) h i r = ((idles_grows K E s t i, idles_opens s t i), idles_good K E s t i r h, tt)

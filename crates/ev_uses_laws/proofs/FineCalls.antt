@@ -14,7 +14,7 @@ use Rattle.ev_kernel.specs.declared.node.Node.{Node}
 use Rattle.ev_connected_laws.specs.Known.{AValue, IsAmong, AllOf, tells, by, values, Runs, called, told, endowed}
 use Rattle.ev_connected_laws.specs.Connected.{served, unless_begun, open_after, uses, evaluates, asks}
 use Rattle.ev_connected_laws.proofs.Traces.{among_last, traces_tell}
-use Rattle.ev_uses_laws.proofs.Ground.{Ground, opens, with_line, opens_last, connected_end, connected_later, held, Knew, Judged, Grows, Good, has_up, thing_up, judges_up, view_up, judged_up, grows_line, grows_trans, grows_by, grows_same, good_line, good_by}
+use Rattle.ev_uses_laws.proofs.Ground.{Ground, opens, with_line, opens_last, held, Knew, Judged, Grows, Good, has_up, thing_up, judges_up, view_up, judged_up, grows_line, grows_trans, grows_by, grows_same, makes_none, good_block, good_line, good_by}
 use Rattle.ev_uses_laws.proofs.Fine.{Fact, Also, IsAct, IsValue, AreValues, AreLists, IsSlot, IsScope, MayBound, MayCell, Leads, IsReply, IsAsked, IsAuditionAsk, MadeEjector, WasHanded, MayHand, WasCalled, IsAt, IsJudging, IsJudged, MayGive, MayThing, answer, nothing, NounKnown, Judging, Holds, Gets, Passes, Ends, Fine, get_or_last, grows_thing, holds_up, still_holds, passes_same, widen, fine_bind, fine_less, fine_ending, fine_more, fine_left, fine_give, fine_throw, fine_eject, fine_stop, fine_look, act_is, is_told}
 use Rattle.ev_uses_laws.proofs.Looks.{got, got_left, got_itself, got_flag, got_text, got_no_lists, got_lists, got_literal, got_asked, got_audition_ask, got_hand, got_may_give, got_item, got_judged, look_thing, look_leads, GuardReply, guard_asked_known}
 use Rattle.ev_uses_laws.proofs.Rules.{fine, bind_flag, fine_send, fine_react, if_same, then_got, called_well, CallEnds, ended_ends, fine_with_lines, nouns_from}
@@ -188,6 +188,13 @@ module _ {N W : Type 0} (K : Naming N W) (E : Ground N) (spots : (i : ℕ) → K
   judges_new a s view (inl h) g = (a, evaluates (K.object (length s.things)) s.happened [] refl (spots (length s.things)) h.0, view_up K E s _ g a view h.1)
   judges_new a s view (inr h) g = (h.2, asks a h.1 h.0 (K.object (length s.things)) s.happened [] refl (spots (length s.things)) h.3 (thing_up K E s _ g h.0 h.1 h.4) (judges_up K E s _ g h.2 h.1 h.5), view_up K E s _ g h.2 view h.6)
 
+  no_object : (view : View N) (node : ℕ) (caught : List (Binding N)) (stamps : List (Value N)) → Audition true view ≡ Made node caught stamps → ⊥
+  no_object view node caught stamps e = cc
+
+  old_object : (view : View N) (ts : List (Thing N)) (i node : ℕ) (caught : List (Binding N)) (stamps : List (Value N)) → (slice_get ts i ≡ Some (Made node caught stamps)) ⊎ ((i ≡ length ts) × (Audition true view ≡ Made node caught stamps)) → slice_get ts i ≡ Some (Made node caught stamps)
+  old_object view ts i node caught stamps (inl e) = e
+  old_object view ts i node caught stamps (inr e) = absurd (no_object view node caught stamps e.1)
+
   audition_is : (x y : View N) → Audition true x ≡ Audition true y → x ≡ y
   audition_is x y e = cc
 
@@ -203,11 +210,10 @@ module _ {N W : Type 0} (K : Naming N W) (E : Ground N) (spots : (i : ℕ) → K
     after = λ s g c. let n = length s.things in let e : Happened N = AuditionMade a (K.object n) in let u : Vat N = record s { things = s.things ++ Audition true view ∷ [] } in let t : Vat N = with_line u e in
         let r : Grows K E s t = grows_trans K E s u t (grows_thing K E a s (Audition true view)) (grows_line K E u e) in
         let p : Passes K E a s t = (r, opens_last u e) in
-        let good : Good K E t = record {
-          told = (traces_tell K E.before e).after u g.told;
-          lines = connected_end K (held K E t) [] s.happened e (connected_later K (held K E s) (held K E t) r.grown [] s.happened g.lines) (tt, tt);
-          judged = λ k w q. new_judged a s view g r (judges_new a s view (i.at s c) r) k w (get_or_last s.things (Audition true view) (Audition true w) k q);
-        } in
+        let good : Good K E t = good_block K E s t e refl ((traces_tell K E.before e).after u g.told) r.grown (tt, tt)
+        (λ k w q. inr (new_judged a s view g r (judges_new a s view (i.at s c) r) k w (get_or_last s.things (Audition true view) (Audition true w) k q)))
+        (λ k node caught stamps q. inl (old_object view s.things k node caught stamps (get_or_last s.things (Audition true view) (Made node caught stamps) k q)))
+        (λ k x q. inl q) g in
         widen K E a H s t (f n t) p ((h n).after t good (still_holds K E a s t p C c, is_told K E a u e (AValue (Ref (K.object n))) (inl refl)));
   }
 
@@ -401,7 +407,7 @@ module _ {N W : Type 0} (K : Naming N W) (E : Ground N) (spots : (i : ℕ) → K
         let w : Grows K E s t = grows_trans K E s r t z (grows_line K E r e) in
         let o : opens t ≡ record { caller = a; receiver = x; begun = Some b } ∷ opens s = opens_last r e in
         let here : Scope N = record { act = b; nouns = caught } in
-        let good_r : Good K E r = good_by K E s r refl refl (grows_same K E s).grown (λ n view f. f) q in
+        let good_r : Good K E r = good_by K E s r refl refl (grows_same K E s).grown (makes_none K E s r refl refl) q in
         let good_t : Good K E t = good_line K E r e good_r (called_well K E a r x verb args (Some b) (has_up K E s r z a (AValue x) (v.at s c)) (holds_up K E a s r z (AreValues args) tt (h.at s c))) in
         let runs : Runs K (held K E t) t.happened b i = called a x verb args (among_last r.happened e) (thing_up K E s t w x i (p.at s c)) in
         let nouns : AllOf (NounKnown K E b t) caught = nouns_from K E b t caught (λ k m. endowed i node caught stamps runs (g.at s c) m) in

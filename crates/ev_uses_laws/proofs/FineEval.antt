@@ -2,7 +2,7 @@
 use Rattle.std.proofs.Common.{◌≡◌, ℕ, zero, suc, Bool, true, false, List, [], ◌∷◌, ◌++◌, Option, Some, None, if◌then◌else◌, refl, sym, ap, ◌∙◌, subst, length, map, ◌⊎◌, inl, inr, ◌==◌}
 use Rattle.std.specs.Prelude.{slice_get}
 use Rattle.ev_machine.specs.Values.{Words, Value, Flag, Items, Ref, Naming, Own as IsOwn}
-use Rattle.ev_machine.specs.State.{Bound, Fixed, Slot, Scope, Binding, Cell, Made, Happened, ObjectMade, Vat, Act, ◌>>=◌, ◌>>◌, and_then, give, eject, look, tell, new_thing}
+use Rattle.ev_machine.specs.State.{Bound, Fixed, Slot, Scope, Binding, Cell, Thing, Made, Happened, Audition, View, ObjectMade, Vat, Act, ◌>>=◌, ◌>>◌, and_then, give, eject, look, tell, new_thing}
 use Rattle.ev_machine.specs.Free.{same_words, BoundNoun}
 use Rattle.ev_machine.specs.Scopes as scopes
 use Rattle.ev_machine.specs.Calls as calls
@@ -11,10 +11,11 @@ use Rattle.ev_machine.specs.Scopes.{any_guard, Answer, Answers, Evaluator, Calle
 use Rattle.ev_kernel.specs.declared.node.Node.{Node}
 use Rattle.ev_kernel.specs.declared.node.Node.TheVariants.{Lit, Noun, Set, Def, Call, Sequence, If, Escape, Try, Finally, Hide, MatchBind, Object, Final, Var, Any, ListPattern, Via}
 use Rattle.ev_connected_laws.specs.Known.{Item, AValue, ASlot, IsAmong, AllOf, Knows, plain, tells, by, values, parts_of, parts_of_all}
-use Rattle.ev_connected_laws.specs.Connected.{served, open_after, uses, itself}
+use Rattle.ev_connected_laws.specs.Connected.{LineWell, served, open_after, uses, itself}
+use Rattle.ev_connected_laws.proofs.Traces.{among_last, traces_tell}
 use Rattle.ev_uses_laws.proofs.Idle.{joined}
-use Rattle.ev_uses_laws.proofs.Ground.{Ground, all_map, opens, with_line, opens_last, held, Has, Knew, Grows, Good, has_up, grows_line, good_line}
-use Rattle.ev_uses_laws.proofs.Fine.{MayBe, Fact, Also, IsAct, IsValue, AreValues, IsSlot, IsBound, IsScope, MayBound, MayCell, MadeEjector, WasHanded, answer, answers, BoundKnown, NounKnown, Gets, Passes, Ends, Fine, holds_up, widen, grows_thing, good_thing, uses_values, is_told, fine_bind, fine_give, fine_eject, fine_stop, fine_spend}
+use Rattle.ev_uses_laws.proofs.Ground.{Ground, all_map, opens, with_line, opens_last, held, Has, Knew, Grows, Good, ObjectTold, has_up, grows_line, good_block}
+use Rattle.ev_uses_laws.proofs.Fine.{MayBe, Fact, Also, IsAct, IsValue, AreValues, IsSlot, IsBound, IsScope, MayBound, MayCell, MadeEjector, WasHanded, answer, answers, BoundKnown, NounKnown, Gets, Passes, Ends, Fine, holds_up, widen, grows_thing, get_or_last, uses_values, is_told, fine_bind, fine_give, fine_eject, fine_stop, fine_spend}
 use Rattle.ev_uses_laws.proofs.Looks.{got, got_left, got_act, got_with, got_judging}
 use Rattle.ev_uses_laws.proofs.Rules.{fine, then_unit, if_same, then_got}
 use Rattle.ev_uses_laws.proofs.FineCalls.{GoodCaller, GoodEvaluator, fine_answered, fine_read_bound, fine_failed, fine_handed, fine_coerce, fine_leave, fine_ask_all, fine_bind_all, fine_call}
@@ -94,19 +95,48 @@ module _ {N W : Type 0} (K : Naming N W) (E : Ground N) (spots : (i : ℕ) → K
       slot (inr (inl e)) = subst (λ j. Has K E t a j) (sym e) k
       slot (inr (inr e)) = absurd e
 
-  made_now : (a : ℕ) (me : N) (x : Words) (caught : List (Binding N)) (stamps : List (Value N)) (after : Scope N) (u : Vat N) → after.act ≡ a → Good K E u → AllOf (NounOwn a u me) after.nouns → AllOf (NounOwn a u me) caught → served (opens u) ≡ None → AllOf (Knew K E u a) stamps
+  made_now : (a : ℕ) (me : N) (x : Words) (caught : List (Binding N)) (stamps : List (Value N)) (after : Scope N) (u : Vat N) → after.act ≡ a → (LineWell K (held K E u) u.happened (ObjectMade a me x (map (λ b. b.bound) caught) stamps) → Good K E (with_line u (ObjectMade a me x (map (λ b. b.bound) caught) stamps))) → AllOf (NounOwn a u me) after.nouns → AllOf (NounOwn a u me) caught → served (opens u) ≡ None → AllOf (Knew K E u a) stamps
       → Ends K E a answer u ((tell (ObjectMade a me x (map (λ b. b.bound) caught) stamps) >> scopes.answered after (Ref me)) u)
   unfolding tell ◌>>◌ and_then scopes.answered give uses itself by values tells open_after
   made_now a me x caught stamps after u e g nouns own o h = let l : Happened N = ObjectMade a me x (map (λ b. b.bound) caught) stamps in let t : Vat N = with_line u l in let r : Grows K E u t = grows_line K E u l in
       let k : Knew K E t a (Ref me) = is_told K E a u l (AValue (Ref me)) (inl refl) in (
         (r, opens_last u l),
-        good_line K E u l g (uses_caught a u me caught (values stamps) own (uses_values K E a u (AValue (Ref me) ∷ []) stamps h), tt),
+        g (uses_caught a u me caught (values stamps) own (uses_values K E a u (AValue (Ref me) ∷ []) stamps h), tt),
         (k, (e, all_map (NounOwn a u me) (NounKnown K E a t) (λ b j. now_known a u t me r k b.bound j) after.nouns nouns, ap served (opens_last u l) ∙ o)),
       )
 
-  made_ends : (a : ℕ) (me : N) (x : Words) (caught : List (Binding N)) (stamps : List (Value N)) (after : Scope N) (u : Vat N) (act : ℕ) → after.act ≡ a → act ≡ a → Good K E u → AllOf (NounOwn a u me) after.nouns → AllOf (NounOwn a u me) caught → served (opens u) ≡ None → AllOf (Knew K E u a) stamps
+  made_ends : (a : ℕ) (me : N) (x : Words) (caught : List (Binding N)) (stamps : List (Value N)) (after : Scope N) (u : Vat N) (act : ℕ) → after.act ≡ a → act ≡ a → (LineWell K (held K E u) u.happened (ObjectMade a me x (map (λ b. b.bound) caught) stamps) → Good K E (with_line u (ObjectMade a me x (map (λ b. b.bound) caught) stamps))) → AllOf (NounOwn a u me) after.nouns → AllOf (NounOwn a u me) caught → served (opens u) ≡ None → AllOf (Knew K E u a) stamps
       → Ends K E a answer u ((tell (ObjectMade act me x (map (λ b. b.bound) caught) stamps) >> scopes.answered after (Ref me)) u)
   made_ends a me x caught stamps after u act e f g nouns own o h = subst (λ b. Ends K E a answer u ((tell (ObjectMade b me x (map (λ b. b.bound) caught) stamps) >> scopes.answered after (Ref me)) u)) (sym f) (made_now a me x caught stamps after u e g nouns own o h)
+
+  made_parts : (node m : ℕ) (caught cs : List (Binding N)) (stamps ys : List (Value N)) → Made node caught stamps ≡ Made m cs ys → (caught ≡ cs) × (stamps ≡ ys)
+  made_parts node m caught cs stamps ys e = (cc, cc)
+
+  no_audition : (node : ℕ) (caught : List (Binding N)) (stamps : List (Value N)) (view : View N) → Made node caught stamps ≡ Audition true view → ⊥
+  no_audition node caught stamps view e = cc
+
+  old_audition : (ts : List (Thing N)) (i node : ℕ) (caught : List (Binding N)) (stamps : List (Value N)) (view : View N) → (slice_get ts i ≡ Some (Audition true view)) ⊎ ((i ≡ length ts) × (Made node caught stamps ≡ Audition true view)) → slice_get ts i ≡ Some (Audition true view)
+  old_audition ts i node caught stamps view (inl e) = e
+  old_audition ts i node caught stamps view (inr e) = absurd (no_audition node caught stamps view e.1)
+
+  object_told : (a node : ℕ) (x : Words) (caught : List (Binding N)) (stamps : List (Value N)) (s : Vat N) (i m : ℕ) (cs : List (Binding N)) (ys : List (Value N)) → (slice_get s.things i ≡ Some (Made m cs ys)) ⊎ ((i ≡ length s.things) × (Made node caught stamps ≡ Made m cs ys))
+      → (slice_get s.things i ≡ Some (Made m cs ys)) ⊎ ObjectTold K E (with_line (record s { things = s.things ++ Made node caught stamps ∷ [] }) (ObjectMade a (K.object (length s.things)) x (map (λ b. b.bound) caught) stamps)) i m cs ys
+  object_told a node x caught stamps s i m cs ys (inl e) = inl e
+  object_told a node x caught stamps s i m cs ys (inr e) = let lines : List (Happened N) = s.happened ++ ObjectMade a (K.object (length s.things)) x (map (λ b. b.bound) caught) stamps ∷ [] in let parts = made_parts node m caught cs stamps ys e.1 in
+      inr (inr (
+        a,
+        x,
+        subst (λ j. IsAmong (ObjectMade a (K.object j) x (map (λ b. b.bound) cs) ys) lines) (sym e.0)
+            (subst (λ zs. IsAmong (ObjectMade a (K.object (length s.things)) x (map (λ b. b.bound) cs) zs) lines) parts.1 (subst (λ bs. IsAmong (ObjectMade a (K.object (length s.things)) x (map (λ b. b.bound) bs) stamps) lines) parts.0 (among_last s.happened _))),
+      ))
+
+  object_good : (a node : ℕ) (x : Words) (caught : List (Binding N)) (stamps : List (Value N)) (s : Vat N) → Good K E s → let u : Vat N = record s { things = s.things ++ Made node caught stamps ∷ [] } in let l : Happened N = ObjectMade a (K.object (length s.things)) x (map (λ b. b.bound) caught) stamps in
+      LineWell K (held K E u) u.happened l → Good K E (with_line u l)
+  unfolding tell
+  object_good a node x caught stamps s g w = let u : Vat N = record s { things = s.things ++ Made node caught stamps ∷ [] } in let l : Happened N = ObjectMade a (K.object (length s.things)) x (map (λ b. b.bound) caught) stamps in
+      good_block K E s (with_line u l) l refl ((traces_tell K E.before l).after u g.told) (grows_thing K E a s (Made node caught stamps)).grown w
+      (λ i view q. inl (old_audition s.things i node caught stamps view (get_or_last s.things (Made node caught stamps) (Audition true view) i q)))
+      (λ i m cs ys q. object_told a node x caught stamps s i m cs ys (get_or_last s.things (Made node caught stamps) (Made m cs ys) i q)) (λ i c q. inl q) g
 
   object_ends : (a : ℕ) (node : ℕ) (p : Option Node) (xs : List Words) (stamps : List (Value N)) (here : Scope N) (s : Vat N) → Good K E s → here.act ≡ a → AllOf (NounKnown K E a s) here.nouns → served (opens s) ≡ None → AllOf (Knew K E s a) stamps
       → Ends K E a answer s (calls.object_as K tree node p xs stamps (K.object (length s.things)) here s)
@@ -114,7 +144,7 @@ module _ {N W : Type 0} (K : Naming N W) (E : Ground N) (spots : (i : ℕ) → K
   object_ends a node p xs stamps here s g e nouns o h = let me : N = K.object (length s.things) in let after : Scope N = scopes.named p (Ref me) here in let caught : List (Binding N) = scopes.captures after xs in
       let u : Vat N = record s { things = s.things ++ Made node caught stamps ∷ [] } in let r : Grows K E s u = grows_thing K E a s (Made node caught stamps) in let q : Passes K E a s u = (r, refl) in
       let owned : AllOf (NounOwn a u me) after.nouns = named_own a u me p here (all_map (NounKnown K E a s) (NounOwn a u me) (λ b k. own_known a u me b.bound (holds_up K E a s u r (IsBound b.bound) tt k)) here.nouns nouns) in
-      widen K E a answer s u _ q (made_ends a me (scopes.name_of p) caught stamps after u here.act (named_act p (Ref me) here ∙ e) e (good_thing K E a s (Made node caught stamps) tt g) owned (caught_own a u me after xs owned) o (holds_up K E a s u r (AreValues stamps) tt h))
+      widen K E a answer s u _ q (made_ends a me (scopes.name_of p) caught stamps after u here.act (named_act p (Ref me) here ∙ e) e (object_good a node (scopes.name_of p) caught stamps s g) owned (caught_own a u me after xs owned) o (holds_up K E a s u r (AreValues stamps) tt h))
 
   object_after : {a : ℕ} {C : Fact N} (node : ℕ) (p : Option Node) (xs : List Words) (stamps : List (Value N)) (here : Scope N) → Gets K E a C (IsScope here) → Gets K E a C (AreValues stamps)
       → Fine K E a C (look (λ s. length s.things) >>= (λ n. calls.object_as K tree node p xs stamps (K.object n) here)) answer

@@ -8,7 +8,7 @@ use Rattle.ev_uses_laws.specs.Laws.{NextConnected}
 use Rattle.ev_uses_laws.proofs.FineSteps.{named_spots, steps_connect}
 
 module _ (script : Script) where
-  own_spots : (v i : ℕ) → (names script v).spot ((names script v).object i) ≡ Own i
+  pub own_spots : (v i : ℕ) → (names script v).spot ((names script v).object i) ≡ Own i
   unfolding names
   own_spots v i = named_spots _ v i
 

@@ -18,8 +18,9 @@ use Rattle.ev_connected_laws.specs.Liveness.{live_at, is_live}
 use Rattle.ev_connected_laws.proofs.Traces.{IsTold, among_last}
 use Rattle.ev_connected_laws.proofs.ArriveTraces.{traces_arrive, traces_notice}
 use Rattle.ev_uses_laws.specs.Laws.{StepsConnect}
+use Rattle.ev_uses_laws.specs.Told.{ObjectsTold, SlotsTold, StepsTell}
 use Rattle.ev_uses_laws.proofs.ArriveIdle.{idle_arrive, idle_notice}
-use Rattle.ev_uses_laws.proofs.Ground.{Ground, opens, with_line, opens_last, held, Has, Knew, Good, grows_same, good_line, good_by}
+use Rattle.ev_uses_laws.proofs.Ground.{Ground, opens, with_line, opens_last, held, Has, Knew, Good, grows_same, makes_none, good_line, good_by}
 use Rattle.ev_uses_laws.proofs.Fine.{Fact, Nothing, Also, IsAct, IsValue, AreValues, IsScope, answer, nothing, Gets, Ends, Fine, passes_same, widen, fine_bind, fine_give, then_line, fine_left, fine_idle}
 use Rattle.ev_uses_laws.proofs.Looks.{got_itself, got_asked}
 use Rattle.ev_uses_laws.proofs.Rules.{fine_settle, fine_resolve, nouns_from}
@@ -42,12 +43,12 @@ all_from : {N A : Type 0} (P : A → Type 0) (f : A → Item N) (xs : List A) (Q
 all_from P f [] Q g h = tt
 all_from P f (x ∷ xs) Q g h = (g x (h (f x) (inl refl)), all_from P f xs Q g (λ i m. h i (inr m)))
 
-among_left : {A : Type 0} (x : A) (xs ys : List A) → IsAmong x xs → IsAmong x (xs ++ ys)
+pub among_left : {A : Type 0} (x : A) (xs ys : List A) → IsAmong x xs → IsAmong x (xs ++ ys)
 among_left x [] ys m = absurd m
 among_left x (z ∷ xs) ys (inl e) = inl e
 among_left x (z ∷ xs) ys (inr m) = inr (among_left x xs ys m)
 
-among_right : {A : Type 0} (x : A) (xs ys : List A) → IsAmong x ys → IsAmong x (xs ++ ys)
+pub among_right : {A : Type 0} (x : A) (xs ys : List A) → IsAmong x ys → IsAmong x (xs ++ ys)
 among_right x [] ys m = m
 among_right x (z ∷ xs) ys m = inr (among_right x xs ys m)
 
@@ -121,7 +122,7 @@ module _ {N W : Type 0} (K : Naming N W) (E : Ground N) (spots : (i : ℕ) → K
   counted s = record s { activations = suc s.activations }
 
   good_counted : (s : Vat N) → Good K E s → Good K E (counted s)
-  good_counted s g = good_by K E s (counted s) refl refl (grows_same K E s).grown (λ i view e. e) g
+  good_counted s g = good_by K E s (counted s) refl refl (grows_same K E s).grown (makes_none K E s (counted s) refl refl) g
 
   no_calls : (s : Vat N) → s.happened ≡ [] → served (opens s) ≡ None
   unfolding served open_from
@@ -163,43 +164,54 @@ module _ {N W : Type 0} (K : Naming N W) (spots : (i : ℕ) → K.spot (K.object
   first_told ks so Unsettled n e = tt
 
   -- at the beginning of a step
-  good_first : (given : List (ℕ × Item N)) (s : Vat N) → s.happened ≡ [] → ((i : ℕ) → live_at s.things i ≡ false) → Good K (record { before = s.known; given = given }) s
+  good_first : (given : List (ℕ × Item N)) (s : Vat N) → s.happened ≡ [] → ((i : ℕ) → live_at s.things i ≡ false) → Good K (record { things = s.things; slots = s.slots; before = s.known; given = given }) s
   unfolding is_live
   good_first given s e still = record {
     told = λ n. first_told s.known s.happened (standing_of K s.known n) n refl;
-    lines = subst (λ es. Connected K (held K (record { before = s.known; given = given }) s) es) (sym e) tt;
+    lines = subst (λ es. Connected K (held K (record { things = s.things; slots = s.slots; before = s.known; given = given }) s) es) (sym e) tt;
     judged = λ i view f. absurd (true_false (sym (live_found s.things i (Audition true view) f) ∙ still i));
+    made = λ i node caught stamps f. inl f;
+    cells = λ k c f. inl (c, f, refl);
   }
 
-  ends_connected : (E : Ground N) (a : ℕ) {A : Type 0} (G : A → Fact N) (r s : Vat N) (d : Done N A) → Ends K E a G s d → After (λ s t. Connected K (held K E t) t.happened) r d
-  ends_connected E a G r s (Gives x t) h = h.1.lines
-  ends_connected E a G r s (Throws p t) h = h.1.lines
-  ends_connected E a G r s (Ejects n v t) h = h.1.lines
-  ends_connected E a G r s (Stops c t) h = h.lines
+  abbrev ground : Step N W → Vat N → Ground N
+  ground step s = record { things = s.things; slots = s.slots; before = s.known; given = given_to s step }
 
-  after_from : (step : Step N W) (s : Vat N) (d : Done N (Unit {0})) → After (λ r t. Connected K (held K (record { before = s.known; given = given_to s step }) t) t.happened) s d → After (λ r t. Connected K (held_from step s t) t.happened) s d
+  ends_good : (E : Ground N) (a : ℕ) {A : Type 0} (G : A → Fact N) (r s : Vat N) (d : Done N A) → Ends K E a G s d → After (λ s t. Good K E t) r d
+  ends_good E a G r s (Gives x t) h = h.1
+  ends_good E a G r s (Throws p t) h = h.1
+  ends_good E a G r s (Ejects n v t) h = h.1
+  ends_good E a G r s (Stops c t) h = h
+
+  steps_good : (step : Step N W) (s : Vat N) → s.happened ≡ [] → ((i : ℕ) → live_at s.things i ≡ false) → After (λ r t. Good K (ground step s) t) s (does K step s)
+  unfolding does given_to
+  steps_good (Opens tree depth root given) s e still = let E : Ground N = ground (Opens tree depth root given) s in
+      ends_good E s.activations nothing s (counted K E spots s.activations s) _ (opening_ends K E spots s.activations tree depth root given s refl e (good_first E.given s e still) (λ i m. by_among s.activations i (parts_of_all (map (λ b. b.bound) given)) m))
+  steps_good (Takes tree depth m) s e still = let E : Ground N = ground (Takes tree depth m) s in
+      ends_good E s.activations nothing s _ _ (taking_ends K E spots s.activations tree depth m s refl e still (good_first [] s e still))
+  steps_good (Receives from n) s e still = let E : Ground N = ground (Receives from n) s in
+      ends_good E 0 nothing s s _ ((fine_idle K E 0 {C = Nothing} (idle_arrive K from n) (traces_arrive K s.known from n)).after s (good_first [] s e still) tt)
+  steps_good (Notices w) s e still = let E : Ground N = ground (Notices w) s in
+      ends_good E 0 nothing s s _ ((fine_idle K E 0 {C = Nothing} (idle_notice K w) (traces_notice K s.known w)).after s (good_first [] s e still) tt)
+
+  good_connected : (step : Step N W) (s : Vat N) (d : Done N (Unit {0})) → After (λ r t. Good K (ground step s) t) s d → After (λ s t. Connected K (held_from step s t) t.happened) s d
   unfolding held_from
-  after_from step s (Gives x t) h = h
-  after_from step s (Throws p t) h = h
-  after_from step s (Ejects n v t) h = h
-  after_from step s (Stops c t) h = h
+  good_connected step s (Gives x t) h = h.lines
+  good_connected step s (Throws p t) h = h.lines
+  good_connected step s (Ejects n v t) h = h.lines
+  good_connected step s (Stops c t) h = h.lines
 
-  after_back : (step : Step N W) (s : Vat N) (d : Done N (Unit {0})) → After (λ r t. Connected K (held_from step s t) t.happened) s d → After (λ s t. Connected K (held_from step s t) t.happened) s d
-  after_back step s (Gives x t) h = h
-  after_back step s (Throws p t) h = h
-  after_back step s (Ejects n v t) h = h
-  after_back step s (Stops c t) h = h
+  good_told : (step : Step N W) (s : Vat N) (d : Done N (Unit {0})) → After (λ r t. Good K (ground step s) t) s d → After (λ s t. ObjectsTold K s t × SlotsTold s t) s d
+  good_told step s (Gives x t) h = (h.made, h.cells)
+  good_told step s (Throws p t) h = (h.made, h.cells)
+  good_told step s (Ejects n v t) h = (h.made, h.cells)
+  good_told step s (Stops c t) h = (h.made, h.cells)
 
   pub steps_connect : StepsConnect K
-  unfolding does given_to
-  steps_connect (Opens tree depth root given) s e still = let E : Ground N = record { before = s.known; given = by s.activations (parts_of_all (map (λ b. b.bound) given)) } in let step : Step N W = Opens tree depth root given in
-      after_back step s _ (after_from step s _ (ends_connected E s.activations nothing s (counted K E spots s.activations s) _ (opening_ends K E spots s.activations tree depth root given s refl e (good_first E.given s e still) (λ i m. by_among s.activations i (parts_of_all (map (λ b. b.bound) given)) m))))
-  steps_connect (Takes tree depth m) s e still = let E : Ground N = record { before = s.known; given = [] } in let step : Step N W = Takes tree depth m in
-      after_back step s _ (after_from step s _ (ends_connected E s.activations nothing s _ _ (taking_ends K E spots s.activations tree depth m s refl e still (good_first [] s e still))))
-  steps_connect (Receives from n) s e still = let E : Ground N = record { before = s.known; given = [] } in let step : Step N W = Receives from n in
-      after_back step s _ (after_from step s _ (ends_connected E 0 nothing s s _ ((fine_idle K E 0 {C = Nothing} (idle_arrive K from n) (traces_arrive K s.known from n)).after s (good_first [] s e still) tt)))
-  steps_connect (Notices w) s e still = let E : Ground N = record { before = s.known; given = [] } in let step : Step N W = Notices w in
-      after_back step s _ (after_from step s _ (ends_connected E 0 nothing s s _ ((fine_idle K E 0 {C = Nothing} (idle_notice K w) (traces_notice K s.known w)).after s (good_first [] s e still) tt)))
+  steps_connect step s e still = good_connected step s (does K step s) (steps_good step s e still)
+
+  pub steps_tell : StepsTell K
+  steps_tell step s e still = good_told step s (does K step s) (steps_good step s e still)
 
 pub named_spots : (word : ℕ → ℕ) (v i : ℕ) → (naming word v).spot ((naming word v).object i) ≡ Own i
 unfolding naming spot_of
@@ -214,3 +226,9 @@ named_connect word v step s e still = steps_connect (naming word v) (named_spots
 
 pub numbered_connect : (word : ℕ → ℕ) → StepsConnect (numbering {W = Name} word)
 numbered_connect word step s e still = steps_connect (numbering {W = Name} word) (numbered_spots word) step s e still
+
+pub named_tell : (word : ℕ → ℕ) (v : ℕ) → StepsTell (naming word v)
+named_tell word v step s e still = steps_tell (naming word v) (named_spots word v) step s e still
+
+pub numbered_tell : (word : ℕ → ℕ) → StepsTell (numbering {W = Name} word)
+numbered_tell word step s e still = steps_tell (numbering {W = Name} word) (numbered_spots word) step s e still

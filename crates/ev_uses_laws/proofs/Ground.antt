@@ -1,8 +1,8 @@
 -- A connected history so far: what is known in it stays known, and how it grows by one line.
-use Rattle.std.proofs.Common.{◌≡◌, ℕ, true, List, [], ◌∷◌, ◌++◌, Option, Some, None, refl, sym, ap, ◌∙◌, subst, ◌⊎◌, inl, inr}
+use Rattle.std.proofs.Common.{◌≡◌, ℕ, true, List, [], ◌∷◌, ◌++◌, Option, Some, None, refl, sym, ap, ◌∙◌, subst, map, ◌⊎◌, inl, inr}
 use Rattle.std.specs.Prelude.{slice_get}
-use Rattle.ev_machine.specs.Values.{Value, Ref, Naming}
-use Rattle.ev_machine.specs.State.{Freedom, IsSafe, IsItself, IsFinal, IsVar, View, Audition, Known, Happened, Took, Called, Back, Thrown, Left, Got, SlotMade, SlotRead, SlotWrote, ListMade, ListCame, EjectorMade, AuditionMade, PromiseMade, ObjectMade, Sends, Reacts, Finished, Threw, Settles, Waits, Views, Lost, Posted, Vat, tell}
+use Rattle.ev_machine.specs.Values.{Words, Value, Ref, Naming}
+use Rattle.ev_machine.specs.State.{Thing, Made, Binding, Cell, Freedom, IsSafe, IsItself, IsFinal, IsVar, View, Audition, Known, Happened, Took, Called, Back, Thrown, Left, Got, SlotMade, SlotRead, SlotWrote, ListMade, ListCame, EjectorMade, AuditionMade, PromiseMade, ObjectMade, Sends, Reacts, Finished, Threw, Settles, Waits, Views, Lost, Posted, Vat, tell}
 use Rattle.ev_connected_laws.specs.Known.{Item, AValue, IsAmong, AllOf, Holdings, Reaches, IsThing, Knows}
 use Rattle.ev_connected_laws.specs.Connected.{Open, open_after, open_from, Judges, evaluates, asks, GivenBack, BackWell, ComesWell, LineWell, ConnectedAfter, Connected, uses, itself}
 use Rattle.ev_connected_laws.specs.Laws as laws
@@ -10,8 +10,11 @@ use Rattle.ev_connected_laws.proofs.Knowing.{among_more, reaches_more, thing_mor
 use Rattle.ev_connected_laws.proofs.Traces.{Told, traces_tell}
 use Rattle.ev_uses_laws.proofs.Idle.{joined, no_more, IsIdle, Idles}
 
--- what was known of names before the step, and what the step is given
+-- what the vat had before the step, and what the step is given
 pub record Ground (N : Type 0) : Type 0 where
+  pub things : List (Thing N)
+  pub slots : List (Cell N)
+  -- what was known of names
   pub before : List (Known N)
   pub given : List (ℕ × Item N)
 
@@ -200,11 +203,34 @@ module _ {N W : Type 0} (K : Naming N W) (E : Ground N) where
     pub lines : t.happened ≡ s.happened ++ more
     pub grown : laws.Grown (held s) (held t)
 
+  -- an object was there before the step, or a line tells with what it was made
+  abbrev pub ObjectTold : Vat N → ℕ → ℕ → List (Binding N) → List (Value N) → Type 0
+  ObjectTold s i node caught stamps = (slice_get E.things i ≡ Some (Made node caught stamps)) ⊎ ((b : ℕ) × (x : Words) × IsAmong (ObjectMade b (K.object i) x (map (λ c. c.bound) caught) stamps) s.happened)
+
+  -- what is in a slot was there before the step, or a line tells that it was put there
+  abbrev pub CellTold : Vat N → ℕ → Cell N → Type 0
+  CellTold s k c = ((d : Cell N) × (slice_get E.slots k ≡ Some d) × (d.value ≡ c.value)) ⊎ ((b : ℕ) × (IsAmong (SlotMade b k c.value) s.happened ⊎ IsAmong (SlotWrote b k c.value) s.happened))
+
   -- what holds so far
   pub record Good (s : Vat N) : Type 0 where
     pub told : Told K E.before s
     pub lines : Connected K (held s) s.happened
     pub judged : (i : ℕ) (view : View N) → slice_get s.things i ≡ Some (Audition true view) → Judged s i view
+    pub made : (i node : ℕ) (caught : List (Binding N)) (stamps : List (Value N)) → slice_get s.things i ≡ Some (Made node caught stamps) → ObjectTold s i node caught stamps
+    pub cells : (k : ℕ) (c : Cell N) → slice_get s.slots k ≡ Some c → CellTold s k c
+
+  -- no audition is made live, no object is made, and nothing is put in a slot
+  pub record MakesNone (s t : Vat N) : Type 0 where
+    pub auditions : (i : ℕ) (view : View N) → slice_get t.things i ≡ Some (Audition true view) → slice_get s.things i ≡ Some (Audition true view)
+    pub objects : (i node : ℕ) (caught : List (Binding N)) (stamps : List (Value N)) → slice_get t.things i ≡ Some (Made node caught stamps) → slice_get s.things i ≡ Some (Made node caught stamps)
+    pub cells : (k : ℕ) (c : Cell N) → slice_get t.slots k ≡ Some c → slice_get s.slots k ≡ Some c
+
+  pub makes_none : (s t : Vat N) → t.things ≡ s.things → t.slots ≡ s.slots → MakesNone s t
+  makes_none s t e f = record {
+    auditions = λ i view g. sym (ap (λ ts. slice_get ts i) e) ∙ g;
+    objects = λ i node caught stamps g. sym (ap (λ ts. slice_get ts i) e) ∙ g;
+    cells = λ k c g. sym (ap (λ cs. slice_get cs k) f) ∙ g;
+  }
 
   module _ (s t : Vat N) (g : Grows s t) where
     pub has_up : (a : ℕ) (i : Item N) → Has s a i → Has t a i
@@ -233,6 +259,18 @@ module _ {N W : Type 0} (K : Naming N W) (E : Ground N) where
 
     pub judged_up : (i : ℕ) (view : View N) → Judged s i view → Judged t i view
     judged_up i view k = (k.0, judges_up k.0 i k.1, view_up k.0 view k.2)
+
+    pub object_up : (i node : ℕ) (caught : List (Binding N)) (stamps : List (Value N)) → ObjectTold s i node caught stamps → ObjectTold t i node caught stamps
+    object_up i node caught stamps (inl e) = inl e
+    object_up i node caught stamps (inr k) = inr (k.0, k.1, among_up (ObjectMade k.0 (K.object i) k.1 (map (λ c. c.bound) caught) stamps) k.2)
+
+    pub cell_up : (k : ℕ) (c : Cell N) → CellTold s k c → CellTold t k c
+    cell_up k c (inl h) = inl h
+    cell_up k c (inr h) = inr (h.0, either_up h.0 h.1)
+      where
+        either_up : (b : ℕ) → IsAmong (SlotMade b k c.value) s.happened ⊎ IsAmong (SlotWrote b k c.value) s.happened → IsAmong (SlotMade b k c.value) t.happened ⊎ IsAmong (SlotWrote b k c.value) t.happened
+        either_up b (inl i) = inl (among_up (SlotMade b k c.value) i)
+        either_up b (inr i) = inr (among_up (SlotWrote b k c.value) i)
 
     pub given_up : (a : ℕ) (x : Value N) (o : Option ℕ) (v : Value N) → GivenBack K (held s) s.happened a x o v → GivenBack K (held t) t.happened a x o v
     given_up a x (Some b) v k = has_up b (AValue v) k
@@ -268,21 +306,44 @@ module _ {N W : Type 0} (K : Naming N W) (E : Ground N) where
   pub grows_by : (s t : Vat N) → t.happened ≡ s.happened → laws.Grown (held s) (held t) → Grows s t
   grows_by s t e g = record { more = []; lines = e ∙ no_more s.happened; grown = g }
 
+  -- one more line, and what is made with it
+  pub good_block : (s t : Vat N) (e : Happened N) → t.happened ≡ s.happened ++ e ∷ [] → Told K E.before t → laws.Grown (held s) (held t) → LineWell K (held t) s.happened e
+      → ((i : ℕ) (view : View N) → slice_get t.things i ≡ Some (Audition true view) → (slice_get s.things i ≡ Some (Audition true view)) ⊎ Judged t i view)
+      → ((i node : ℕ) (caught : List (Binding N)) (stamps : List (Value N)) → slice_get t.things i ≡ Some (Made node caught stamps) → (slice_get s.things i ≡ Some (Made node caught stamps)) ⊎ ObjectTold t i node caught stamps)
+      → ((k : ℕ) (c : Cell N) → slice_get t.slots k ≡ Some c → (slice_get s.slots k ≡ Some c) ⊎ CellTold t k c) → Good s → Good t
+  good_block s t e f r g l au ob ce h = let grows : Grows s t = record { more = e ∷ []; lines = f; grown = g } in record {
+    told = r;
+    lines = subst (λ es. Connected K (held t) es) (sym f) (connected_end K (held t) [] s.happened e (connected_later K (held s) (held t) g [] s.happened h.lines) l);
+    judged = λ i view k. by_audition grows i view (au i view k);
+    made = λ i node caught stamps k. by_object grows i node caught stamps (ob i node caught stamps k);
+    cells = λ i c k. by_cell grows i c (ce i c k);
+  }
+    where
+      by_audition : Grows s t → (i : ℕ) (view : View N) → (slice_get s.things i ≡ Some (Audition true view)) ⊎ Judged t i view → Judged t i view
+      by_audition w i view (inl k) = judged_up s t w i view (h.judged i view k)
+      by_audition w i view (inr k) = k
+
+      by_object : Grows s t → (i node : ℕ) (caught : List (Binding N)) (stamps : List (Value N)) → (slice_get s.things i ≡ Some (Made node caught stamps)) ⊎ ObjectTold t i node caught stamps → ObjectTold t i node caught stamps
+      by_object w i node caught stamps (inl k) = object_up s t w i node caught stamps (h.made i node caught stamps k)
+      by_object w i node caught stamps (inr k) = k
+
+      by_cell : Grows s t → (k : ℕ) (c : Cell N) → (slice_get s.slots k ≡ Some c) ⊎ CellTold t k c → CellTold t k c
+      by_cell w k c (inl n) = cell_up s t w k c (h.cells k c n)
+      by_cell w k c (inr n) = n
+
   -- a line that is connected
   pub good_line : (s : Vat N) (e : Happened N) → Good s → LineWell K (held s) s.happened e → Good (with_line s e)
   unfolding tell
-  good_line s e g l = record {
-    told = (traces_tell K E.before e).after s g.told;
-    lines = connected_end K (held s) [] s.happened e g.lines l;
-    judged = λ i view f. judged_up s (with_line s e) (grows_line s e) i view (g.judged i view f);
-  }
+  good_line s e g l = good_block s (with_line s e) e refl ((traces_tell K E.before e).after s g.told) (same_grown (held s)) l (λ i view k. inl k) (λ i node caught stamps k. inl k) (λ i c k. inl k) g
 
-  -- a change that tells nothing, and makes no audition live
-  pub good_by : (s t : Vat N) → t.happened ≡ s.happened → t.known ≡ s.known → laws.Grown (held s) (held t) → ((i : ℕ) (view : View N) → slice_get t.things i ≡ Some (Audition true view) → slice_get s.things i ≡ Some (Audition true view)) → Good s → Good t
-  good_by s t e f g a k = let grows : Grows s t = grows_by s t e g in record {
+  -- a change that tells nothing, and makes none of these
+  pub good_by : (s t : Vat N) → t.happened ≡ s.happened → t.known ≡ s.known → laws.Grown (held s) (held t) → MakesNone s t → Good s → Good t
+  good_by s t e f g m k = let grows : Grows s t = grows_by s t e g in record {
     told = rw (e, f) k.told;
     lines = subst (λ es. Connected K (held t) es) (sym e) (connected_later K (held s) (held t) g [] s.happened k.lines);
-    judged = λ i view j. judged_up s t grows i view (k.judged i view (a i view j));
+    judged = λ i view j. judged_up s t grows i view (k.judged i view (m.auditions i view j));
+    made = λ i node caught stamps j. object_up s t grows i node caught stamps (k.made i node caught stamps (m.objects i node caught stamps j));
+    cells = λ i c j. cell_up s t grows i c (k.cells i c (m.cells i c j));
   }
 
   idles_grown : (s t : Vat N) → Idles s t → laws.Grown (held s) (held t)
@@ -301,5 +362,7 @@ module _ {N W : Type 0} (K : Naming N W) (E : Ground N) where
   idles_good s t i r g = record {
     told = r;
     lines = subst (λ es. Connected K (held t) es) (sym i.lines) (connected_join K (held t) [] s.happened i.more (connected_later K (held s) (held t) (idles_grown s t i) [] s.happened g.lines) (idles_connected K (held t) s.happened i.more i.idle));
-    judged = λ n view e. judged_up s t (idles_grows s t i) n view (g.judged n view (sym (ap (λ ts. slice_get ts n) i.things) ∙ e));
+    judged = λ n view e. judged_up s t (idles_grows s t i) n view (g.judged n view ((makes_none s t i.things i.slots).auditions n view e));
+    made = λ n node caught stamps e. object_up s t (idles_grows s t i) n node caught stamps (g.made n node caught stamps ((makes_none s t i.things i.slots).objects n node caught stamps e));
+    cells = λ n c e. cell_up s t (idles_grows s t i) n c (g.cells n c ((makes_none s t i.things i.slots).cells n c e));
   }

@@ -10,3 +10,4 @@ pub mod FineCalls
 pub mod FineEval
 pub mod FineSteps
 pub mod FineRuns
+pub mod RunsTell

@@ -17,7 +17,7 @@ use Rattle.ev_connected_laws.proofs.RefsTraces.{traces_settle, traces_resolve, t
 use Rattle.ev_uses_laws.proofs.Idle.{idle_promise, idle_message}
 use Rattle.ev_uses_laws.proofs.RefsIdle.{idle_settle, idle_resolve, idle_send_first, idle_react_at}
 use Rattle.ev_uses_laws.proofs.Ground.{Ground, opens, with_line, opens_last, held, Has, Knew, Grows, Good, grows_line, grows_trans, good_line}
-use Rattle.ev_uses_laws.proofs.Fine.{MayBe, Fact, Nothing, Also, IsAct, IsValue, AreValues, IsBound, IsScope, MayValue, MayCell, MadeEjector, WasHanded, WasCalled, MayGive, IsReply, answer, answers, nothing, BoundKnown, NounKnown, Handed, Holds, Gets, Keeps, Passes, Ends, Fine, holds_up, still_holds, handed_up, passes_same, passes_trans, widen, fine_bind, fine_less, fine_then, fine_ending, fine_some, fine_if, fine_give, fine_throw, fine_eject, fine_stop, fine_look, act_is, then_line, uses_values, is_told, fine_left, fine_spend, fine_thing, fine_kill, fine_write, fine_list, bind_slot, then_read, then_wrote, then_slot, then_list, then_promise, fine_idle}
+use Rattle.ev_uses_laws.proofs.Fine.{MayBe, Fact, Nothing, Also, IsAct, IsValue, AreValues, IsBound, IsScope, MayValue, MayCell, MadeEjector, WasHanded, WasCalled, MayGive, IsReply, answer, answers, nothing, BoundKnown, NounKnown, Handed, Holds, Gets, Keeps, Passes, Ends, Fine, holds_up, still_holds, handed_up, passes_same, passes_trans, widen, fine_bind, fine_less, fine_then, fine_ending, fine_some, fine_if, fine_give, fine_throw, fine_eject, fine_stop, fine_look, act_is, then_line, uses_values, is_told, fine_left, fine_spend, fine_thing, fine_kill, fine_list, bind_slot, then_read, then_wrote, then_list, then_promise, fine_idle}
 use Rattle.ev_uses_laws.proofs.Looks.{got, got_left, got_right, got_itself, got_both, got_nothing, got_null, got_flag, got_number, got_text, got_prim, got_none, got_more, got_no_lists, got_lists, got_act, got_with, got_fixed, got_slot, got_any, got_no_match, got_literal, got_safe, got_bound_in, got_asked, got_audition_ask, got_may_give, got_item, got_stamp, look_follow, look_list, look_cell, look_data, look_range, look_compared, look_null_or, look_taken, look_same, look_broken, look_thrown, look_test}
 
 module _ {N W : Type 0} (K : Naming N W) (E : Ground N) (a : ℕ) where
@@ -229,4 +229,4 @@ pub ruleset gets = (got, got_left, got_right, got_itself, got_both, got_nothing,
 
 pub ruleset looks = (look_follow, look_list, look_cell, look_data, look_range, look_compared, look_null_or, look_taken, look_same, look_broken, look_thrown, look_test)
 
-pub ruleset fine = (gets, then_read, then_wrote, then_slot, then_list, then_promise, bind_slot, bind_ejector, then_unit, then_value, then_answer, bind_number, bind_name, bind_flag, bind_place, bind_standing, bind_value, bind_values, bind_scope, bind_answer, bind_answers, bind_may_value, bind_may_cell, bind_reply, bind_bound, end_scope, end_answer, fine_some, fine_if, fine_give, fine_throw, fine_eject, fine_stop, fine_look, fine_spend, fine_resolver, fine_kill, fine_write, fine_list, fine_settle, fine_resolve, fine_promise, looks)
+pub ruleset fine = (gets, then_read, then_wrote, then_list, then_promise, bind_slot, bind_ejector, then_unit, then_value, then_answer, bind_number, bind_name, bind_flag, bind_place, bind_standing, bind_value, bind_values, bind_scope, bind_answer, bind_answers, bind_may_value, bind_may_cell, bind_reply, bind_bound, end_scope, end_answer, fine_some, fine_if, fine_give, fine_throw, fine_eject, fine_stop, fine_look, fine_spend, fine_resolver, fine_kill, fine_list, fine_settle, fine_resolve, fine_promise, looks)
