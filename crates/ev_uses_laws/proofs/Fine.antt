@@ -1,8 +1,8 @@
 -- What an activation does from a connected history, under facts on what it knows, ends in a connected history with facts on what it gives.
-use Rattle.std.proofs.Common.{◌≡◌, ℕ, zero, suc, ◌-◌, ◌⊎◌, inl, inr, Bool, true, false, List, [], ◌∷◌, ◌++◌, Option, Some, None, if◌then◌else◌, refl, sym, ap, ◌∙◌, subst, length}
+use Rattle.std.proofs.Common.{◌≡◌, ℕ, zero, suc, ◌-◌, ◌⊎◌, inl, inr, Bool, true, false, List, [], ◌∷◌, ◌++◌, Option, Some, None, if◌then◌else◌, refl, sym, ap, ◌∙◌, subst, length, map}
 use Rattle.std.specs.Prelude.{slice_get, nat_le}
-use Rattle.ev_machine.specs.Values.{Words, Value, Null, Prim, Items, Ref, Naming}
-use Rattle.ev_machine.specs.State.{Bound, Fixed, Slot, Binding, Scope, Cell, View, Thing, Made, Ejector, Audition, Resolver, Happened, Called, SlotMade, SlotRead, SlotWrote, ListMade, EjectorMade, PromiseMade, Vat, Stop, Done, Gives, Throws, Ejects, Stops, Act, ◌>>=◌, ◌>>◌, and_then, for_some, end_by, ending, give, throw, stop, eject, look, tell, spend, spent, new_thing, kill, change, dead, new_slot, holding, write_slot, new_list}
+use Rattle.ev_machine.specs.Values.{Words, Value, Null, Prim, Items, Naming}
+use Rattle.ev_machine.specs.State.{Bound, Fixed, Slot, Binding, Scope, Cell, View, Thing, Made, Ejector, Audition, Resolver, Happened, Called, SlotMade, SlotRead, SlotWrote, ListMade, EjectorMade, Vat, Stop, Done, Gives, Throws, Ejects, Stops, Act, ◌>>=◌, ◌>>◌, and_then, for_some, end_by, ending, give, throw, stop, eject, look, tell, spend, spent, new_thing, kill, change, dead, new_slot, holding, write_slot, new_list}
 use Rattle.ev_machine.specs.Native.{Reply, Says, Writes, Lists as Listed, Iterates, Fails, Asked, MakesList, Ranges, Same as SameEver, Compares, Loops, SendsTo, CallsTo, MakesPromise, Breaks, Tells, Whens, ThrowsIt, IsStamped, Coerces, AddsNull, NoMethod}
 use Rattle.ev_machine.specs.Scopes.{Answer, Answers, AuditionAsk, GetsForm, GetsGuard, Asks, NoAuditionAsk}
 use Rattle.ev_machine_laws.proofs.StepLaws.{get_append}
@@ -11,6 +11,9 @@ use Rattle.ev_connected_laws.specs.Natives.{ReplyHas}
 use Rattle.ev_connected_laws.specs.Connected.{served, open_after, Judges, GivenBack, LineWell, uses, itself}
 use Rattle.ev_connected_laws.specs.Laws as laws
 use Rattle.ev_connected_laws.proofs.Traces.{traces_tell, Traces, Ends as TracesEnds, among_last}
+use Rattle.ev_connected_laws.specs.Activations.{Rises}
+use Rattle.ev_uses_laws.specs.News.{thing_made, slot_made}
+use Rattle.ev_uses_laws.proofs.News.{rises_line, rises_new, length_end}
 use Rattle.ev_uses_laws.proofs.Idle.{Idle, IdleEnds}
 use Rattle.ev_uses_laws.proofs.Asked.{AskedHas}
 use Rattle.ev_uses_laws.proofs.Ground.{Ground, all_map, opens, with_line, opens_last, idles_opens, held, Has, Knew, ViewKnown, Judged, Grows, Good, has_up, reaches_up, thing_up, among_up, judges_up, view_up, judged_up, given_up, grows_same, grows_line, grows_trans, grows_by, CellTold, makes_none, good_block, good_line, good_by, idles_grows, idles_good}
@@ -120,6 +123,18 @@ were_objects (Resolver p ∷ ts) zero zero node caught stamps e = cc
 were_objects (t ∷ ts) zero (suc i) node caught stamps e = e
 were_objects (t ∷ ts) (suc k) zero node caught stamps e = e
 were_objects (t ∷ ts) (suc k) (suc i) node caught stamps e = were_objects ts k i node caught stamps e
+
+dead_length : {N : Type 0} (ts : List (Thing N)) (k : ℕ) → length (change dead k ts) ≡ length ts
+unfolding change
+dead_length [] k = refl
+dead_length (t ∷ ts) zero = refl
+dead_length (t ∷ ts) (suc k) = ap suc (dead_length ts k)
+
+written_length : {N : Type 0} (cs : List (Cell N)) (k : ℕ) (v : Value N) → length (change (holding v) k cs) ≡ length cs
+unfolding change
+written_length [] k v = refl
+written_length (c ∷ cs) zero v = refl
+written_length (c ∷ cs) (suc k) v = ap suc (written_length cs k v)
 
 -- a slot after a write has what it had, or what was written to it
 written_cells : {N : Type 0} (cs : List (Cell N)) (n k : ℕ) (v : Value N) (c : Cell N) → slice_get (change (holding v) n cs) k ≡ Some c → (slice_get cs k ≡ Some c) ⊎ ((n ≡ k) × (v ≡ c.value))
@@ -464,12 +479,12 @@ module _ {N W : Type 0} (K : Naming N W) (E : Ground N) (a : ℕ) where
   -- ---- lines
 
   -- a line that is connected and ends no call, with what it tells
-  pub then_line : {B : Type 0} {C D : Fact N} (e : Happened N) {m : Act N B} {H : B → Fact N} → ((s : Vat N) → open_after (opens s) e ≡ opens s) → ((s : Vat N) → Good K E s → Holds s C → LineWell K (held K E s) s.happened e)
+  pub then_line : {B : Type 0} {C D : Fact N} (e : Happened N) {m : Act N B} {H : B → Fact N} → thing_made K e ≡ None → slot_made e ≡ None → ((s : Vat N) → open_after (opens s) e ≡ opens s) → ((s : Vat N) → Good K E s → Holds s C → LineWell K (held K E s) s.happened e)
       → ((s : Vat N) → Holds s C → Holds (with_line s e) D) → Fine (Also C D) m H → Fine C (tell e >> m) H
   unfolding tell ◌>>◌ and_then
-  then_line {C = C} {D = D} e {m = m} {H = H} o l d h = record {
+  then_line {C = C} {D = D} e {m = m} {H = H} nil none o l d h = record {
     after = λ s g c. let t : Vat N = with_line s e in let p : Passes s t = (grows_line K E s e, opens_last s e ∙ o s) in
-        widen H s t (m t) p (h.after t (good_line K E s e g (l s g c)) (still_holds s t p C c, d s c));
+        widen H s t (m t) p (h.after t (good_line K E s e nil none g (l s g c)) (still_holds s t p C c, d s c));
   }
 
   pub uses_values : (s : Vat N) (Q : List (Item N)) (vs : List (Value N)) → AllOf (Knew K E s a) vs → AllOf (λ u. Knows K (held K E s) s.happened u.0 u.1 ⊎ IsAmong u.1 Q) (by a (values vs))
@@ -483,24 +498,17 @@ module _ {N W : Type 0} (K : Naming N W) (E : Ground N) (a : ℕ) where
 
   read_now : {B : Type 0} {C : Fact N} (k : ℕ) (v : Value N) {m : Act N B} {H : B → Fact N} → Gets C (IsSlot k) → Fine (Also C (IsValue v)) m H → Fine C (tell (SlotRead a k v) >> m) H
   unfolding uses by tells open_after itself
-  read_now k v g h = then_line (SlotRead a k v) (λ s. refl) (λ s i c. ((inl (g.at s c), tt), tt)) (λ s c. is_told s (SlotRead a k v) (AValue v) (inl refl)) h
+  read_now k v g h = then_line (SlotRead a k v) refl refl (λ s. refl) (λ s i c. ((inl (g.at s c), tt), tt)) (λ s c. is_told s (SlotRead a k v) (AValue v) (inl refl)) h
 
   pub then_read : {B : Type 0} {C : Fact N} (act : ℕ) (k : ℕ) (v : Value N) {m : Act N B} {H : B → Fact N} → Gets C (IsAct act) → Gets C (IsSlot k) → Fine (Also C (IsValue v)) m H → Fine C (tell (SlotRead act k v) >> m) H
   then_read act k v {m = m} i g h = act_is act (λ b. tell (SlotRead b k v) >> m) i (read_now k v g h)
 
   list_now : {B : Type 0} {C : Fact N} (k : ℕ) (vs : List (Value N)) {m : Act N B} {H : B → Fact N} → Gets C (AreValues vs) → Fine (Also C (IsValue (Items k))) m H → Fine C (tell (ListMade a k vs) >> m) H
   unfolding uses by tells open_after itself
-  list_now k vs g h = then_line (ListMade a k vs) (λ s. refl) (λ s i c. (uses_values s [] vs (g.at s c), tt)) (λ s c. is_told s (ListMade a k vs) (AValue (Items k)) (inl refl)) h
+  list_now k vs g h = then_line (ListMade a k vs) refl refl (λ s. refl) (λ s i c. (uses_values s [] vs (g.at s c), tt)) (λ s c. is_told s (ListMade a k vs) (AValue (Items k)) (inl refl)) h
 
   pub then_list : {B : Type 0} {C : Fact N} (act : ℕ) (k : ℕ) (vs : List (Value N)) {m : Act N B} {H : B → Fact N} → Gets C (IsAct act) → Gets C (AreValues vs) → Fine (Also C (IsValue (Items k))) m H → Fine C (tell (ListMade act k vs) >> m) H
   then_list act k vs {m = m} i g h = act_is act (λ b. tell (ListMade b k vs) >> m) i (list_now k vs g h)
-
-  promise_now : {B : Type 0} {C : Fact N} (p r : N) {m : Act N B} {H : B → Fact N} → Fine (Also C (Also (IsValue (Ref p)) (IsValue (Ref r)))) m H → Fine C (tell (PromiseMade a p r) >> m) H
-  unfolding uses by tells open_after itself
-  promise_now p r h = then_line (PromiseMade a p r) (λ s. refl) (λ s i c. (tt, tt)) (λ s c. (is_told s (PromiseMade a p r) (AValue (Ref p)) (inl refl), is_told s (PromiseMade a p r) (AValue (Ref r)) (inr (inl refl)))) h
-
-  pub then_promise : {B : Type 0} {C : Fact N} (act : ℕ) (p r : N) {m : Act N B} {H : B → Fact N} → Gets C (IsAct act) → Fine (Also C (Also (IsValue (Ref p)) (IsValue (Ref r)))) m H → Fine C (tell (PromiseMade act p r) >> m) H
-  then_promise act p r {m = m} i h = act_is act (λ b. tell (PromiseMade b p r) >> m) i (promise_now p r h)
 
   -- ---- the single changes
 
@@ -542,23 +550,30 @@ module _ {N W : Type 0} (K : Naming N W) (E : Ground N) (a : ℕ) where
   old_thing ts x y i n (inl e) = e
   old_thing ts x y i n (inr e) = absurd (n e.1)
 
-  good_thing : (s : Vat N) (x : Thing N) → IsInert x → Good K E s → Good K E (record s { things = s.things ++ x ∷ [] })
-  good_thing s x n h = good_by K E s (record s { things = s.things ++ x ∷ [] }) refl refl (grown_thing s x) (record {
-    auditions = λ i view e. old_thing s.things x (Audition true view) i (no_audition x view n) (get_or_last s.things x (Audition true view) i e);
-    objects = λ i node caught stamps e. old_thing s.things x (Made node caught stamps) i (no_object x node caught stamps n) (get_or_last s.things x (Made node caught stamps) i e);
-    cells = λ k c e. e;
-  }) h
-
-  pub fine_thing : {C : Fact N} (x : Thing N) → IsInert x → Fine C (new_thing x) nothing
-  unfolding new_thing
-  fine_thing x n = record { after = λ s h c. ((grows_thing s x, refl), good_thing s x n h, tt) }
+  -- a thing is made, and its line told
+  pub thing_block : {B : Type 0} {C : Fact N} (x : Thing N) → IsInert x → (e : ℕ → Happened N) → ((n : ℕ) → thing_made K (e n) ≡ Some n) → ((n : ℕ) → slot_made (e n) ≡ None) → (D : ℕ → Fact N) → {f : ℕ → Act N B} {H : B → Fact N}
+      → ((s : Vat N) (n : ℕ) → open_after (opens s) (e n) ≡ opens s) → ((s : Vat N) (n : ℕ) → LineWell K (held K E s) s.happened (e n)) → ((s : Vat N) (n : ℕ) → Holds (with_line s (e n)) (D n))
+      → ((n : ℕ) → Fine (Also C (D n)) (f n) H) → Fine C (new_thing x >>= (λ n. tell (e n) >> f n)) H
+  unfolding new_thing ◌>>=◌ tell ◌>>◌ and_then
+  thing_block {C = C} x inert e some none D {f = f} {H = H} o l d h = record {
+    after = λ s g c. let n = length s.things in let u : Vat N = record s { things = s.things ++ x ∷ [] } in let t : Vat N = with_line u (e n) in
+        let r : Grows K E s t = grows_trans K E s u t (grows_thing s x) (grows_line K E u (e n)) in
+        let p : Passes s t = (r, opens_last u (e n) ∙ o u n) in
+        let good : Good K E t = good_block K E s t (e n) refl ((traces_tell K E.before (e n)).after u g.told) (grown_thing s x) (l u n)
+        (λ i view q. inl (old_thing s.things x (Audition true view) i (no_audition x view inert) (get_or_last s.things x (Audition true view) i q)))
+        (λ i node caught stamps q. inl (old_thing s.things x (Made node caught stamps) i (no_object x node caught stamps inert) (get_or_last s.things x (Made node caught stamps) i q)))
+        (λ i y q. inl q)
+        (λ q. subst (λ m. Rises (length E.things) (map (thing_made K) (s.happened ++ e n ∷ [])) m) (sym (length_end s.things x)) (rises_new (thing_made K) (length E.things) n s.happened (e n) (some n) q))
+        (rises_line slot_made (length E.slots) (length s.slots) s.happened (e n) (none n)) g in
+        widen H s t (f n t) p ((h n).after t good (still_holds s t p C c, d u n));
+  }
 
   grown_dead : (s : Vat N) (n : ℕ) → laws.Grown (held K E s) (held K E (record s { things = change dead n s.things }))
   grown_dead s n = record { objects = λ i node caught stamps e. dead_objects s.things n i node caught stamps e; lists = λ k vs e. e; guards = λ k c e. (c, e, refl); before = refl; given = refl }
 
   pub fine_kill : {C : Fact N} (n : ℕ) → Fine C (kill n) nothing
   unfolding kill
-  fine_kill n = record { after = λ s h c. let t : Vat N = record s { things = change dead n s.things } in ((grows_by K E s t refl (grown_dead s n), refl), good_by K E s t refl refl (grown_dead s n) (record { auditions = λ i view e. dead_auditions s.things n i view e; objects = λ i node caught stamps e. were_objects s.things n i node caught stamps e; cells = λ k c e. e }) h, tt) }
+  fine_kill n = record { after = λ s h c. let t : Vat N = record s { things = change dead n s.things } in ((grows_by K E s t refl (grown_dead s n), refl), good_by K E s t refl refl (grown_dead s n) (record { auditions = λ i view e. dead_auditions s.things n i view e; objects = λ i node caught stamps e. were_objects s.things n i node caught stamps e; cells = λ k c e. e; things = dead_length s.things n; slots = refl }) h, tt) }
 
   grown_slot : (s : Vat N) (c : Cell N) → laws.Grown (held K E s) (held K E (record s { slots = s.slots ++ c ∷ [] }))
   grown_slot s x = record { objects = λ i node caught stamps e. e; lists = λ k vs e. e; guards = λ k c e. (c, get_append s.slots (x ∷ []) k c e, refl); before = refl; given = refl }
@@ -580,7 +595,9 @@ module _ {N W : Type 0} (K : Naming N W) (E : Ground N) (a : ℕ) where
         let r : Grows K E s t = grows_trans K E s u t w (grows_line K E u e) in
         let p : Passes s t = (r, opens_last u e) in
         let good : Good K E t = good_block K E s t e refl ((traces_tell K E.before e).after u q.told) (grown_slot s x) ((inl (has_up K E s u w a (AValue v) (j.at s c)), tt), (x, get_end s.slots x, has_up K E s u w a (AValue g) (i.at s c)))
-        (λ n view f. inl f) (λ n node caught stamps f. inl f) (λ n y f. slot_told s v g n y (get_or_last s.slots x y n f)) q in
+        (λ n view f. inl f) (λ n node caught stamps f. inl f) (λ n y f. slot_told s v g n y (get_or_last s.slots x y n f))
+        (rises_line (thing_made K) (length E.things) (length s.things) s.happened e refl)
+        (λ y. subst (λ m. Rises (length E.slots) (map slot_made (s.happened ++ e ∷ [])) m) (sym (length_end s.slots x)) (rises_new slot_made (length E.slots) k s.happened e refl y)) q in
         widen H s t (m k t) p ((h k).after t good (still_holds s t p C c, is_told u e (ASlot k) (inl refl)));
   }
 
@@ -603,7 +620,9 @@ module _ {N W : Type 0} (K : Naming N W) (E : Ground N) (a : ℕ) where
         let r : Grows K E s t = grows_trans K E s u t w (grows_line K E u e) in
         let p : Passes s t = (r, opens_last u e) in
         let good : Good K E t = good_block K E s t e refl ((traces_tell K E.before e).after u q.told) (grown_write s n v) ((inl (has_up K E s u w a (ASlot n) (i.at s c)), (inl (has_up K E s u w a (AValue v) (j.at s c)), tt)), tt)
-        (λ l view f. inl f) (λ l node caught stamps f. inl f) (λ l y f. write_told s n v l y (written_cells s.slots n l v y f)) q in
+        (λ l view f. inl f) (λ l node caught stamps f. inl f) (λ l y f. write_told s n v l y (written_cells s.slots n l v y f))
+        (rises_line (thing_made K) (length E.things) (length s.things) s.happened e refl)
+        (λ y. subst (λ m. Rises (length E.slots) (map slot_made (s.happened ++ e ∷ [])) m) (sym (written_length s.slots n v)) (rises_line slot_made (length E.slots) (length s.slots) s.happened e refl y)) q in
         widen H s t (m t) p (h.after t good (still_holds s t p C c));
   }
 

@@ -1,5 +1,5 @@
 -- Evaluation, from a connected history, ends in a connected history: calls.
-use Rattle.std.proofs.Common.{◌≡◌, ℕ, zero, suc, Bool, true, false, List, [], ◌∷◌, ◌++◌, Option, Some, None, refl, sym, ap, ◌∙◌, subst, length, ◌⊎◌, inl, inr}
+use Rattle.std.proofs.Common.{◌≡◌, ℕ, zero, suc, Bool, true, false, List, [], ◌∷◌, ◌++◌, Option, Some, None, refl, sym, ap, ◌∙◌, subst, length, map, ◌⊎◌, inl, inr}
 use Rattle.std.specs.Prelude.{slice_get}
 use Rattle.ev_machine.specs.Values.{Words, Value, Null, Flag, Number, Letter, Text, Prim, Broken, Items, Ref, Naming, Spot, Own, Foreign, NoObject}
 use Rattle.ev_machine.specs.State.{Bound, Fixed, Slot, Scope, Binding, Cell, View, Thing, Made, Ejector, Audition, Resolver, Standing, Unsettled, Happened, Called, AuditionMade, Vat, Done, Gives, Throws, Ejects, Stops, Act, ◌>>=◌, ◌>>◌, and_then, ending, give, throw, eject, look, tell, new_thing, new_activation}
@@ -14,10 +14,13 @@ use Rattle.ev_kernel.specs.declared.node.Node.{Node}
 use Rattle.ev_connected_laws.specs.Known.{AValue, IsAmong, AllOf, tells, by, values, Runs, called, told, endowed}
 use Rattle.ev_connected_laws.specs.Connected.{served, unless_begun, open_after, uses, evaluates, asks}
 use Rattle.ev_connected_laws.proofs.Traces.{among_last, traces_tell}
+use Rattle.ev_connected_laws.specs.Activations.{Rises}
+use Rattle.ev_uses_laws.specs.News.{own_number, thing_made, slot_made}
+use Rattle.ev_uses_laws.proofs.News.{rises_line, rises_new, length_end}
 use Rattle.ev_uses_laws.proofs.Ground.{Ground, opens, with_line, opens_last, held, Knew, Judged, Grows, Good, has_up, thing_up, judges_up, view_up, judged_up, grows_line, grows_trans, grows_by, grows_same, makes_none, good_block, good_line, good_by}
 use Rattle.ev_uses_laws.proofs.Fine.{Fact, Also, IsAct, IsValue, AreValues, AreLists, IsSlot, IsScope, MayBound, MayCell, Leads, IsReply, IsAsked, IsAuditionAsk, MadeEjector, WasHanded, MayHand, WasCalled, IsAt, IsJudging, IsJudged, MayGive, MayThing, answer, nothing, NounKnown, Judging, Holds, Gets, Passes, Ends, Fine, get_or_last, grows_thing, holds_up, still_holds, passes_same, widen, fine_bind, fine_less, fine_ending, fine_more, fine_left, fine_give, fine_throw, fine_eject, fine_stop, fine_look, act_is, is_told}
 use Rattle.ev_uses_laws.proofs.Looks.{got, got_left, got_itself, got_flag, got_text, got_no_lists, got_lists, got_literal, got_asked, got_audition_ask, got_hand, got_may_give, got_item, got_judged, look_thing, look_leads, GuardReply, guard_asked_known}
-use Rattle.ev_uses_laws.proofs.Rules.{fine, bind_flag, fine_send, fine_react, if_same, then_got, called_well, CallEnds, ended_ends, fine_with_lines, nouns_from}
+use Rattle.ev_uses_laws.proofs.Rules.{fine, bind_flag, bind_resolver, fine_promise, fine_send, fine_react, if_same, then_got, called_well, CallEnds, ended_ends, fine_with_lines, nouns_from}
 
 -- a call by the activation, whatever is called
 abbrev pub GoodCaller : {N W : Type 0} (K : Naming N W) → Ground N → ℕ → Caller N → Type 0
@@ -130,7 +133,8 @@ module _ {N W : Type 0} (K : Naming N W) (E : Ground N) (spots : (i : ℕ) → K
 
   pub fine_make_promise : {a : ℕ} {C : Fact N} → (act : ℕ) → Gets K E a C (IsAct act) → Fine K E a C (perform.make_promise K tree act) IsValue
   unfolding perform.make_promise
-  fine_make_promise {a = a} {C = C} act g_act = search (fine, fine_make_list) depth 30
+  fine_make_promise {a = a} {C = C} act g_act = fine_less K E a nothing (fine_promise K E a) (λ p. bind_resolver K E a spots act p g_act (λ r. let D : Fact N = Also (IsValue (Ref p)) (IsValue (Ref (K.object r))) in
+      fine_make_list {C = Also C D} act (got_left K E a C D (IsAct act) g_act) (Ref p ∷ Ref (K.object r) ∷ []) (record { at = λ s h. (h.1.0, (h.1.1, tt)) })))
 
   pub fine_react_near : {a : ℕ} {C : Fact N} → (act : ℕ) → Gets K E a C (IsAct act) → (x : Value N) → Gets K E a C (IsValue x) → (o : Value N) → Gets K E a C (IsValue o) → (y : Value N) → (p : Place N) → Fine K E a C (perform.react_near K tree act x o y p) IsValue
   unfolding perform.react_near
@@ -213,7 +217,9 @@ module _ {N W : Type 0} (K : Naming N W) (E : Ground N) (spots : (i : ℕ) → K
         let good : Good K E t = good_block K E s t e refl ((traces_tell K E.before e).after u g.told) r.grown (tt, tt)
         (λ k w q. inr (new_judged a s view g r (judges_new a s view (i.at s c) r) k w (get_or_last s.things (Audition true view) (Audition true w) k q)))
         (λ k node caught stamps q. inl (old_object view s.things k node caught stamps (get_or_last s.things (Audition true view) (Made node caught stamps) k q)))
-        (λ k x q. inl q) g in
+        (λ k x q. inl q)
+        (λ q. subst (λ m. Rises (length E.things) (map (thing_made K) (s.happened ++ e ∷ [])) m) (sym (length_end s.things (Audition true view))) (rises_new (thing_made K) (length E.things) n s.happened e (ap own_number (spots n)) q))
+        (rises_line slot_made (length E.slots) (length s.slots) s.happened e refl) g in
         widen K E a H s t (f n t) p ((h n).after t good (still_holds K E a s t p C c, is_told K E a u e (AValue (Ref (K.object n))) (inl refl)));
   }
 
@@ -408,7 +414,7 @@ module _ {N W : Type 0} (K : Naming N W) (E : Ground N) (spots : (i : ℕ) → K
         let o : opens t ≡ record { caller = a; receiver = x; begun = Some b } ∷ opens s = opens_last r e in
         let here : Scope N = record { act = b; nouns = caught } in
         let good_r : Good K E r = good_by K E s r refl refl (grows_same K E s).grown (makes_none K E s r refl refl) q in
-        let good_t : Good K E t = good_line K E r e good_r (called_well K E a r x verb args (Some b) (has_up K E s r z a (AValue x) (v.at s c)) (holds_up K E a s r z (AreValues args) tt (h.at s c))) in
+        let good_t : Good K E t = good_line K E r e refl refl good_r (called_well K E a r x verb args (Some b) (has_up K E s r z a (AValue x) (v.at s c)) (holds_up K E a s r z (AreValues args) tt (h.at s c))) in
         let runs : Runs K (held K E t) t.happened b i = called a x verb args (among_last r.happened e) (thing_up K E s t w x i (p.at s c)) in
         let nouns : AllOf (NounKnown K E b t) caught = nouns_from K E b t caught (λ k m. endowed i node caught stamps runs (g.at s c) m) in
         let body : Act N (Value N) = calls.run_object K tree rec ms verb args here in

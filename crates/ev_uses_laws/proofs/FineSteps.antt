@@ -1,5 +1,5 @@
 -- The lines of every step are connected.
-use Rattle.std.proofs.Common.{◌≡◌, ℕ, zero, suc, true, false, List, [], ◌∷◌, ◌++◌, Option, Some, None, refl, sym, ap, ◌∙◌, subst, map, inl, inr}
+use Rattle.std.proofs.Common.{◌≡◌, ◌≤◌, arith, length, ℕ, zero, suc, true, false, List, [], ◌∷◌, ◌++◌, Option, Some, None, refl, sym, ap, ◌∙◌, subst, map, inl, inr}
 use Rattle.std.specs.Prelude.{slice_get}
 use Rattle.std.proofs.lemmas.Bool.{eq-eqb}
 use Rattle.ev_machine.specs.Values.{Words, Value, Null, Flag, Number, Letter, Text, Prim, Broken, Items, Ref, Name, Naming, naming, numbering, spot_of, local_spot, Spot, Own, Foreign, NoObject}
@@ -17,6 +17,8 @@ use Rattle.ev_connected_laws.specs.Connected.{served, open_from, open_after, use
 use Rattle.ev_connected_laws.specs.Liveness.{live_at, is_live}
 use Rattle.ev_connected_laws.proofs.Traces.{IsTold, among_last}
 use Rattle.ev_connected_laws.proofs.ArriveTraces.{traces_arrive, traces_notice}
+use Rattle.ev_connected_laws.specs.Activations.{Rises}
+use Rattle.ev_uses_laws.specs.News.{thing_made, slot_made, MadeNew, StepsMakeNew}
 use Rattle.ev_uses_laws.specs.Laws.{StepsConnect}
 use Rattle.ev_uses_laws.specs.Told.{ObjectsTold, SlotsTold, StepsTell}
 use Rattle.ev_uses_laws.proofs.ArriveIdle.{idle_arrive, idle_notice}
@@ -26,6 +28,9 @@ use Rattle.ev_uses_laws.proofs.Looks.{got_itself, got_asked}
 use Rattle.ev_uses_laws.proofs.Rules.{fine_settle, fine_resolve, nouns_from}
 use Rattle.ev_uses_laws.proofs.FineCalls.{GoodEvaluator, fine_data_answer, fine_perform, fine_resolver_answer, fine_run_object, fine_call, audition_dead, ejector_dead}
 use Rattle.ev_uses_laws.proofs.FineEval.{good_evaluator}
+
+no_less : (n : ℕ) → n ≤ n
+no_less n = omega arith
 
 true_false : true ≡ false → ⊥
 true_false e = cc
@@ -63,11 +68,11 @@ module _ {N W : Type 0} (K : Naming N W) (E : Ground N) (spots : (i : ℕ) → K
 
   finished : {C : Fact N} (p : N) (v : Value N) → Gets K E a C (IsValue v) → Fine K E a C (tell (Finished a v) >> resolve K p v) nothing
   unfolding uses by open_after
-  finished p v g = then_line K E a {D = Nothing} (Finished a v) (λ s. refl) (λ s i c. ((inl (g.at s c), tt), tt)) (λ s c. tt) (fine_left K E a (fine_resolve K E a p v))
+  finished p v g = then_line K E a {D = Nothing} (Finished a v) refl refl (λ s. refl) (λ s i c. ((inl (g.at s c), tt), tt)) (λ s c. tt) (fine_left K E a (fine_resolve K E a p v))
 
   threw : {C : Fact N} (p : N) (t : Words) → Fine K E a C (tell (Threw a t) >> settle K p (Broken t)) nothing
   unfolding uses by open_after
-  threw p t = then_line K E a {D = Nothing} (Threw a t) (λ s. refl) (λ s i c. (tt, tt)) (λ s c. tt) (fine_left K E a (fine_settle K E a p (Broken t)))
+  threw p t = then_line K E a {D = Nothing} (Threw a t) refl refl (λ s. refl) (λ s i c. (tt, tt)) (λ s c. tt) (fine_left K E a (fine_settle K E a p (Broken t)))
 
   closes_ends : (p : N) (s : Vat N) (d : Done N (Value N)) → Ends K E a IsValue s d → Ends K E a nothing s (end_by (λ v. tell (Finished a v) >> resolve K p v) (λ t. tell (Threw a t) >> settle K p (Broken t)) (λ n v. stop Astray) d)
   unfolding end_by stop
@@ -138,7 +143,7 @@ module _ {N W : Type 0} (K : Naming N W) (E : Ground N) (spots : (i : ℕ) → K
 
   took_good : (r : Vat N) (m : Message N) → Good K E r → Good K E (with_line r (Took a m))
   unfolding uses
-  took_good r m g = good_line K E r (Took a m) g (tt, tt)
+  took_good r m g = good_line K E r (Took a m) refl refl g (tt, tt)
 
   took_none : (r : Vat N) (m : Message N) → served (opens r) ≡ None → served (opens (with_line r (Took a m))) ≡ None
   unfolding open_after
@@ -172,6 +177,8 @@ module _ {N W : Type 0} (K : Naming N W) (spots : (i : ℕ) → K.spot (K.object
     judged = λ i view f. absurd (true_false (sym (live_found s.things i (Audition true view) f) ∙ still i));
     made = λ i node caught stamps f. inl f;
     cells = λ k c f. inl (c, f, refl);
+    things_rise = subst (λ es. Rises (length s.things) (map (thing_made K) es) (length s.things)) (sym e) (no_less (length s.things));
+    slots_rise = subst (λ es. Rises (length s.slots) (map slot_made es) (length s.slots)) (sym e) (no_less (length s.slots));
   }
 
   abbrev ground : Step N W → Vat N → Ground N
@@ -207,6 +214,15 @@ module _ {N W : Type 0} (K : Naming N W) (spots : (i : ℕ) → K.spot (K.object
   good_told step s (Ejects n v t) h = (h.made, h.cells)
   good_told step s (Stops c t) h = (h.made, h.cells)
 
+  good_new : (step : Step N W) (s : Vat N) (d : Done N (Unit {0})) → After (λ r t. Good K (ground step s) t) s d → After (MadeNew K) s d
+  good_new step s (Gives x t) h = (h.things_rise, h.slots_rise)
+  good_new step s (Throws p t) h = (h.things_rise, h.slots_rise)
+  good_new step s (Ejects n v t) h = (h.things_rise, h.slots_rise)
+  good_new step s (Stops c t) h = (h.things_rise, h.slots_rise)
+
+  pub steps_make_new : StepsMakeNew K
+  steps_make_new step s e still = good_new step s (does K step s) (steps_good step s e still)
+
   pub steps_connect : StepsConnect K
   steps_connect step s e still = good_connected step s (does K step s) (steps_good step s e still)
 
@@ -232,3 +248,9 @@ named_tell word v step s e still = steps_tell (naming word v) (named_spots word 
 
 pub numbered_tell : (word : ℕ → ℕ) → StepsTell (numbering {W = Name} word)
 numbered_tell word step s e still = steps_tell (numbering {W = Name} word) (numbered_spots word) step s e still
+
+pub named_new : (word : ℕ → ℕ) (v : ℕ) → StepsMakeNew (naming word v)
+named_new word v step s e still = steps_make_new (naming word v) (named_spots word v) step s e still
+
+pub numbered_new : (word : ℕ → ℕ) → StepsMakeNew (numbering {W = Name} word)
+numbered_new word step s e still = steps_make_new (numbering {W = Name} word) (numbered_spots word) step s e still

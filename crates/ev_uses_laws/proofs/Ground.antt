@@ -1,5 +1,5 @@
 -- A connected history so far: what is known in it stays known, and how it grows by one line.
-use Rattle.std.proofs.Common.{◌≡◌, ℕ, true, List, [], ◌∷◌, ◌++◌, Option, Some, None, refl, sym, ap, ◌∙◌, subst, map, ◌⊎◌, inl, inr}
+use Rattle.std.proofs.Common.{◌≡◌, ℕ, true, List, [], ◌∷◌, ◌++◌, Option, Some, None, refl, sym, ap, ◌∙◌, subst, length, map, ◌⊎◌, inl, inr}
 use Rattle.std.specs.Prelude.{slice_get}
 use Rattle.ev_machine.specs.Values.{Words, Value, Ref, Naming}
 use Rattle.ev_machine.specs.State.{Thing, Made, Binding, Cell, Freedom, IsSafe, IsItself, IsFinal, IsVar, View, Audition, Known, Happened, Took, Called, Back, Thrown, Left, Got, SlotMade, SlotRead, SlotWrote, ListMade, ListCame, EjectorMade, AuditionMade, PromiseMade, ObjectMade, Sends, Reacts, Finished, Threw, Settles, Waits, Views, Lost, Posted, Vat, tell}
@@ -8,6 +8,9 @@ use Rattle.ev_connected_laws.specs.Connected.{Open, open_after, open_from, Judge
 use Rattle.ev_connected_laws.specs.Laws as laws
 use Rattle.ev_connected_laws.proofs.Knowing.{among_more, reaches_more, thing_more, knows_more, knows_later}
 use Rattle.ev_connected_laws.proofs.Traces.{Told, traces_tell}
+use Rattle.ev_connected_laws.specs.Activations.{Rises}
+use Rattle.ev_uses_laws.specs.News.{thing_made, slot_made}
+use Rattle.ev_uses_laws.proofs.News.{rises_line, rises_idle}
 use Rattle.ev_uses_laws.proofs.Idle.{joined, no_more, IsIdle, Idles}
 
 -- what the vat had before the step, and what the step is given
@@ -218,18 +221,24 @@ module _ {N W : Type 0} (K : Naming N W) (E : Ground N) where
     pub judged : (i : ℕ) (view : View N) → slice_get s.things i ≡ Some (Audition true view) → Judged s i view
     pub made : (i node : ℕ) (caught : List (Binding N)) (stamps : List (Value N)) → slice_get s.things i ≡ Some (Made node caught stamps) → ObjectTold s i node caught stamps
     pub cells : (k : ℕ) (c : Cell N) → slice_get s.slots k ≡ Some c → CellTold s k c
+    pub things_rise : Rises (length E.things) (map (thing_made K) s.happened) (length s.things)
+    pub slots_rise : Rises (length E.slots) (map slot_made s.happened) (length s.slots)
 
   -- no audition is made live, no object is made, and nothing is put in a slot
   pub record MakesNone (s t : Vat N) : Type 0 where
     pub auditions : (i : ℕ) (view : View N) → slice_get t.things i ≡ Some (Audition true view) → slice_get s.things i ≡ Some (Audition true view)
     pub objects : (i node : ℕ) (caught : List (Binding N)) (stamps : List (Value N)) → slice_get t.things i ≡ Some (Made node caught stamps) → slice_get s.things i ≡ Some (Made node caught stamps)
     pub cells : (k : ℕ) (c : Cell N) → slice_get t.slots k ≡ Some c → slice_get s.slots k ≡ Some c
+    pub things : length t.things ≡ length s.things
+    pub slots : length t.slots ≡ length s.slots
 
   pub makes_none : (s t : Vat N) → t.things ≡ s.things → t.slots ≡ s.slots → MakesNone s t
   makes_none s t e f = record {
     auditions = λ i view g. sym (ap (λ ts. slice_get ts i) e) ∙ g;
     objects = λ i node caught stamps g. sym (ap (λ ts. slice_get ts i) e) ∙ g;
     cells = λ k c g. sym (ap (λ cs. slice_get cs k) f) ∙ g;
+    things = ap length e;
+    slots = ap length f;
   }
 
   module _ (s t : Vat N) (g : Grows s t) where
@@ -310,13 +319,17 @@ module _ {N W : Type 0} (K : Naming N W) (E : Ground N) where
   pub good_block : (s t : Vat N) (e : Happened N) → t.happened ≡ s.happened ++ e ∷ [] → Told K E.before t → laws.Grown (held s) (held t) → LineWell K (held t) s.happened e
       → ((i : ℕ) (view : View N) → slice_get t.things i ≡ Some (Audition true view) → (slice_get s.things i ≡ Some (Audition true view)) ⊎ Judged t i view)
       → ((i node : ℕ) (caught : List (Binding N)) (stamps : List (Value N)) → slice_get t.things i ≡ Some (Made node caught stamps) → (slice_get s.things i ≡ Some (Made node caught stamps)) ⊎ ObjectTold t i node caught stamps)
-      → ((k : ℕ) (c : Cell N) → slice_get t.slots k ≡ Some c → (slice_get s.slots k ≡ Some c) ⊎ CellTold t k c) → Good s → Good t
-  good_block s t e f r g l au ob ce h = let grows : Grows s t = record { more = e ∷ []; lines = f; grown = g } in record {
+      → ((k : ℕ) (c : Cell N) → slice_get t.slots k ≡ Some c → (slice_get s.slots k ≡ Some c) ⊎ CellTold t k c)
+      → (Rises (length E.things) (map (thing_made K) s.happened) (length s.things) → Rises (length E.things) (map (thing_made K) (s.happened ++ e ∷ [])) (length t.things))
+      → (Rises (length E.slots) (map slot_made s.happened) (length s.slots) → Rises (length E.slots) (map slot_made (s.happened ++ e ∷ [])) (length t.slots)) → Good s → Good t
+  good_block s t e f r g l au ob ce tr sr h = let grows : Grows s t = record { more = e ∷ []; lines = f; grown = g } in record {
     told = r;
     lines = subst (λ es. Connected K (held t) es) (sym f) (connected_end K (held t) [] s.happened e (connected_later K (held s) (held t) g [] s.happened h.lines) l);
     judged = λ i view k. by_audition grows i view (au i view k);
     made = λ i node caught stamps k. by_object grows i node caught stamps (ob i node caught stamps k);
     cells = λ i c k. by_cell grows i c (ce i c k);
+    things_rise = subst (λ es. Rises (length E.things) (map (thing_made K) es) (length t.things)) (sym f) (tr h.things_rise);
+    slots_rise = subst (λ es. Rises (length E.slots) (map slot_made es) (length t.slots)) (sym f) (sr h.slots_rise);
   }
     where
       by_audition : Grows s t → (i : ℕ) (view : View N) → (slice_get s.things i ≡ Some (Audition true view)) ⊎ Judged t i view → Judged t i view
@@ -332,9 +345,10 @@ module _ {N W : Type 0} (K : Naming N W) (E : Ground N) where
       by_cell w k c (inr n) = n
 
   -- a line that is connected
-  pub good_line : (s : Vat N) (e : Happened N) → Good s → LineWell K (held s) s.happened e → Good (with_line s e)
+  pub good_line : (s : Vat N) (e : Happened N) → thing_made K e ≡ None → slot_made e ≡ None → Good s → LineWell K (held s) s.happened e → Good (with_line s e)
   unfolding tell
-  good_line s e g l = good_block s (with_line s e) e refl ((traces_tell K E.before e).after s g.told) (same_grown (held s)) l (λ i view k. inl k) (λ i node caught stamps k. inl k) (λ i c k. inl k) g
+  good_line s e nil none g l = good_block s (with_line s e) e refl ((traces_tell K E.before e).after s g.told) (same_grown (held s)) l (λ i view k. inl k) (λ i node caught stamps k. inl k) (λ i c k. inl k)
+      (rises_line (thing_made K) (length E.things) (length s.things) s.happened e nil) (rises_line slot_made (length E.slots) (length s.slots) s.happened e none) g
 
   -- a change that tells nothing, and makes none of these
   pub good_by : (s t : Vat N) → t.happened ≡ s.happened → t.known ≡ s.known → laws.Grown (held s) (held t) → MakesNone s t → Good s → Good t
@@ -344,7 +358,61 @@ module _ {N W : Type 0} (K : Naming N W) (E : Ground N) where
     judged = λ i view j. judged_up s t grows i view (k.judged i view (m.auditions i view j));
     made = λ i node caught stamps j. object_up s t grows i node caught stamps (k.made i node caught stamps (m.objects i node caught stamps j));
     cells = λ i c j. cell_up s t grows i c (k.cells i c (m.cells i c j));
+    things_rise = subst (λ es. Rises (length E.things) (map (thing_made K) es) (length t.things)) (sym e) (subst (λ n. Rises (length E.things) (map (thing_made K) s.happened) n) (sym m.things) k.things_rise);
+    slots_rise = subst (λ es. Rises (length E.slots) (map slot_made es) (length t.slots)) (sym e) (subst (λ n. Rises (length E.slots) (map slot_made s.happened) n) (sym m.slots) k.slots_rise);
   }
+
+  idle_thing : (e : Happened N) → IsIdle e → thing_made K e ≡ None
+  idle_thing (Settles p y) k = refl
+  idle_thing (Waits p q) k = refl
+  idle_thing (Views p q) k = refl
+  idle_thing (Lost m) k = refl
+  idle_thing (Posted w m) k = refl
+  idle_thing (ListCame n vs) k = refl
+  idle_thing (Took _ _) k = elim k [ ]
+  idle_thing (Called _ _ _ _ _) k = elim k [ ]
+  idle_thing (Back _ _) k = elim k [ ]
+  idle_thing (Thrown _ _) k = elim k [ ]
+  idle_thing (Left _) k = elim k [ ]
+  idle_thing (Got _ _) k = elim k [ ]
+  idle_thing (SlotMade _ _ _) k = elim k [ ]
+  idle_thing (SlotRead _ _ _) k = elim k [ ]
+  idle_thing (SlotWrote _ _ _) k = elim k [ ]
+  idle_thing (ListMade _ _ _) k = elim k [ ]
+  idle_thing (EjectorMade _ _) k = elim k [ ]
+  idle_thing (AuditionMade _ _) k = elim k [ ]
+  idle_thing (PromiseMade _ _ _) k = elim k [ ]
+  idle_thing (ObjectMade _ _ _ _ _) k = elim k [ ]
+  idle_thing (Sends _ _) k = elim k [ ]
+  idle_thing (Reacts _ _ _ _) k = elim k [ ]
+  idle_thing (Finished _ _) k = elim k [ ]
+  idle_thing (Threw _ _) k = elim k [ ]
+
+  idle_slot : (e : Happened N) → IsIdle e → slot_made e ≡ None
+  idle_slot (Settles p y) k = refl
+  idle_slot (Waits p q) k = refl
+  idle_slot (Views p q) k = refl
+  idle_slot (Lost m) k = refl
+  idle_slot (Posted w m) k = refl
+  idle_slot (ListCame n vs) k = refl
+  idle_slot (Took _ _) k = elim k [ ]
+  idle_slot (Called _ _ _ _ _) k = elim k [ ]
+  idle_slot (Back _ _) k = elim k [ ]
+  idle_slot (Thrown _ _) k = elim k [ ]
+  idle_slot (Left _) k = elim k [ ]
+  idle_slot (Got _ _) k = elim k [ ]
+  idle_slot (SlotMade _ _ _) k = elim k [ ]
+  idle_slot (SlotRead _ _ _) k = elim k [ ]
+  idle_slot (SlotWrote _ _ _) k = elim k [ ]
+  idle_slot (ListMade _ _ _) k = elim k [ ]
+  idle_slot (EjectorMade _ _) k = elim k [ ]
+  idle_slot (AuditionMade _ _) k = elim k [ ]
+  idle_slot (PromiseMade _ _ _) k = elim k [ ]
+  idle_slot (ObjectMade _ _ _ _ _) k = elim k [ ]
+  idle_slot (Sends _ _) k = elim k [ ]
+  idle_slot (Reacts _ _ _ _) k = elim k [ ]
+  idle_slot (Finished _ _) k = elim k [ ]
+  idle_slot (Threw _ _) k = elim k [ ]
 
   idles_grown : (s t : Vat N) → Idles s t → laws.Grown (held s) (held t)
   idles_grown s t i = record {
@@ -365,4 +433,6 @@ module _ {N W : Type 0} (K : Naming N W) (E : Ground N) where
     judged = λ n view e. judged_up s t (idles_grows s t i) n view (g.judged n view ((makes_none s t i.things i.slots).auditions n view e));
     made = λ n node caught stamps e. object_up s t (idles_grows s t i) n node caught stamps (g.made n node caught stamps ((makes_none s t i.things i.slots).objects n node caught stamps e));
     cells = λ n c e. cell_up s t (idles_grows s t i) n c (g.cells n c ((makes_none s t i.things i.slots).cells n c e));
+    things_rise = subst (λ es. Rises (length E.things) (map (thing_made K) es) (length t.things)) (sym i.lines) (rises_idle (thing_made K) idle_thing (length E.things) (length t.things) s.happened i.more i.idle (subst (λ n. Rises (length E.things) (map (thing_made K) s.happened) n) (sym (ap length i.things)) g.things_rise));
+    slots_rise = subst (λ es. Rises (length E.slots) (map slot_made es) (length t.slots)) (sym i.lines) (rises_idle slot_made idle_slot (length E.slots) (length t.slots) s.happened i.more i.idle (subst (λ n. Rises (length E.slots) (map slot_made s.happened) n) (sym (ap length i.slots)) g.slots_rise));
   }

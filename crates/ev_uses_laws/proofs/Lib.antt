@@ -1,6 +1,7 @@
 pub mod Idle
 pub mod RefsIdle
 pub mod ArriveIdle
+pub mod News
 pub mod Ground
 pub mod Asked
 pub mod Fine

@@ -4,6 +4,7 @@ ghost use Rattle.ev_uses_laws.specs.Laws.{StepsAreConnected};
 ghost use Rattle.ev_uses_laws.specs.Laws.{RunsAreConnected};
 ghost use Rattle.ev_uses_laws.specs.Told.{StepsTellWhatTheyMake};
 ghost use Rattle.ev_uses_laws.specs.Told.{RunsTellWhatIsHeld};
+ghost use Rattle.ev_uses_laws.specs.News.{WhatIsMadeIsNew};
 
 /// The lines of every step of a vat are connected, however it ends: an activation uses and gives
 /// back only what it knows by initial conditions, endowment, parenthood and introduction. It asks
@@ -29,4 +30,11 @@ pub fn steps_tell_what_they_make()
 /// made, and that an activation of its vat put in each var slot what is in it.
 pub fn runs_tell_what_is_held()
     ensures { RunsTellWhatIsHeld }
+{}
+
+/// What a line of a step says was made is new: objects, ejectors, auditions and resolvers, and var
+/// slots, have numbers that rise from the vat's count before the step to its count after it. It asks
+/// what `steps_are_connected` asks.
+pub fn what_is_made_is_new()
+    ensures { WhatIsMadeIsNew }
 {}
