@@ -20,7 +20,11 @@ abbrev pub NextConnected : Script → World → Type 0
 NextConnected script w = (v : ℕ) (s : Vat Name) → slice_get w.vats v ≡ Some s → (ms : List (Message Name)) (step : Step Name Name) → StepConnected (names script v) step (readied w (record s { queue = ms }))
 
 -- in the world after any of the opening turns, and after all of them and any entries
-abbrev pub RunsAreConnected : Type 0
-RunsAreConnected = (script : Script)
-    → ((ps rest : List Program) (w : World) → script.vats ≡ ps ++ rest → open_from script zero ps (begins script) ≡ Goes w → NextConnected script w)
+abbrev pub RunConnected : Script → Type 0
+RunConnected script =
+    ((ps rest : List Program) (w : World) → script.vats ≡ ps ++ rest → open_from script zero ps (begins script) ≡ Goes w → NextConnected script w)
     × ((w x : World) (es : List Entry) (k : ℕ) → open_from script zero script.vats (begins script) ≡ Goes w → steps_from script es k w ≡ Goes x → NextConnected script x)
+
+-- of every script
+abbrev pub RunsAreConnected : Type 0
+RunsAreConnected = (script : Script) → RunConnected script
