@@ -12,11 +12,12 @@ use Rattle.ev_connected_laws.specs.Connected.{served, open_after, Judges, GivenB
 use Rattle.ev_connected_laws.specs.Laws as laws
 use Rattle.ev_connected_laws.proofs.Traces.{traces_tell, Traces, Ends as TracesEnds, among_last}
 use Rattle.ev_connected_laws.specs.Activations.{Rises}
+use Rattle.ev_uses_laws.specs.Told.{ReadTold}
 use Rattle.ev_uses_laws.specs.News.{thing_made, slot_made}
 use Rattle.ev_uses_laws.proofs.News.{rises_line, rises_new, length_end}
 use Rattle.ev_uses_laws.proofs.Idle.{Idle, IdleEnds}
 use Rattle.ev_uses_laws.proofs.Asked.{AskedHas}
-use Rattle.ev_uses_laws.proofs.Ground.{Ground, all_map, opens, with_line, opens_last, idles_opens, held, Has, Knew, ViewKnown, Judged, Grows, Good, has_up, reaches_up, thing_up, among_up, judges_up, view_up, judged_up, given_up, grows_same, grows_line, grows_trans, grows_by, CellTold, makes_none, good_block, good_line, good_by, idles_grows, idles_good}
+use Rattle.ev_uses_laws.proofs.Ground.{Ground, all_map, opens, with_line, opens_last, idles_opens, held, Has, Knew, ViewKnown, Judged, Grows, Good, has_up, reaches_up, thing_up, among_up, judges_up, view_up, judged_up, given_up, grows_same, grows_line, grows_trans, grows_by, PutTold, put_up, CellTold, makes_none, good_block, good_line, good_by, idles_grows, idles_good}
 
 abbrev pub MayBe : {A : Type 0} → (A → Type 0) → Option A → Type 0
 MayBe P (Some x) = P x
@@ -38,7 +39,9 @@ pub data Fact (N : Type 0) : Type 0 where
   IsScope : Scope N → Fact N
   MayValue : Option (Value N) → Fact N
   MayBound : Option (Bound N) → Fact N
-  MayCell : Option (Cell N) → Fact N
+  MayCell : ℕ → Option (Cell N) → Fact N
+  -- that was put in that slot
+  WasPut : ℕ → Value N → Fact N
   -- the first is followed to the second
   Leads : Value N → Value N → Fact N
   IsReply : Reply N → Fact N
@@ -205,7 +208,8 @@ module _ {N W : Type 0} (K : Naming N W) (E : Ground N) (a : ℕ) where
   Holds s (IsScope here) = (here.act ≡ a) × AllOf (NounKnown s) here.nouns × (served (opens s) ≡ None)
   Holds s (MayValue o) = MayBe (Knew K E s a) o
   Holds s (MayBound o) = MayBe (BoundKnown s) o
-  Holds s (MayCell o) = MayBe (λ c. Knew K E s a c.guard) o
+  Holds s (MayCell k o) = MayBe (λ c. Knew K E s a c.guard × PutTold K E s k c.value) o
+  Holds s (WasPut k v) = PutTold K E s k v
   Holds s (Leads x y) = Reaches K E.before s.happened x y ⊎ IsPlain y
   Holds s (IsReply r) = ReplyHas (Knew K E s a) r
   Holds s (IsAsked q) = AskedKnown s q
@@ -321,7 +325,8 @@ module _ {N W : Type 0} (K : Naming N W) (E : Ground N) (a : ℕ) where
     holds_up (IsScope here) e h = (h.0, all_map _ _ (λ b k. bound_up b.bound k) here.nouns h.1, ap served e ∙ h.2)
     holds_up (MayValue o) e h = may_up _ _ knew_up o h
     holds_up (MayBound o) e h = may_up _ _ bound_up o h
-    holds_up (MayCell o) e h = may_up _ _ (λ c k. knew_up c.guard k) o h
+    holds_up (MayCell k o) e h = may_up _ _ (λ c m. (knew_up c.guard m.0, put_up K E s t g k c.value m.1)) o h
+    holds_up (WasPut k v) e h = put_up K E s t g k v h
     holds_up (Leads x y) e h = leads_up x y h
     holds_up (IsReply r) e h = reply_up r h
     holds_up (IsAsked q) e h = asked_up q h
@@ -349,7 +354,8 @@ module _ {N W : Type 0} (K : Naming N W) (E : Ground N) (a : ℕ) where
   all_keep s t e (IsScope here) = e
   all_keep s t e (MayValue o) = tt
   all_keep s t e (MayBound o) = tt
-  all_keep s t e (MayCell o) = tt
+  all_keep s t e (MayCell k o) = tt
+  all_keep s t e (WasPut k v) = tt
   all_keep s t e (Leads x y) = tt
   all_keep s t e (IsReply r) = tt
   all_keep s t e (IsAsked q) = tt
@@ -480,11 +486,11 @@ module _ {N W : Type 0} (K : Naming N W) (E : Ground N) (a : ℕ) where
 
   -- a line that is connected and ends no call, with what it tells
   pub then_line : {B : Type 0} {C D : Fact N} (e : Happened N) {m : Act N B} {H : B → Fact N} → thing_made K e ≡ None → slot_made e ≡ None → ((s : Vat N) → open_after (opens s) e ≡ opens s) → ((s : Vat N) → Good K E s → Holds s C → LineWell K (held K E s) s.happened e)
-      → ((s : Vat N) → Holds s C → Holds (with_line s e) D) → Fine (Also C D) m H → Fine C (tell e >> m) H
+      → ((s : Vat N) → Holds s C → ReadTold E.slots s.happened e) → ((s : Vat N) → Holds s C → Holds (with_line s e) D) → Fine (Also C D) m H → Fine C (tell e >> m) H
   unfolding tell ◌>>◌ and_then
-  then_line {C = C} {D = D} e {m = m} {H = H} nil none o l d h = record {
+  then_line {C = C} {D = D} e {m = m} {H = H} nil none o l rd d h = record {
     after = λ s g c. let t : Vat N = with_line s e in let p : Passes s t = (grows_line K E s e, opens_last s e ∙ o s) in
-        widen H s t (m t) p (h.after t (good_line K E s e nil none g (l s g c)) (still_holds s t p C c, d s c));
+        widen H s t (m t) p (h.after t (good_line K E s e nil none g (l s g c) (rd s c)) (still_holds s t p C c, d s c));
   }
 
   pub uses_values : (s : Vat N) (Q : List (Item N)) (vs : List (Value N)) → AllOf (Knew K E s a) vs → AllOf (λ u. Knows K (held K E s) s.happened u.0 u.1 ⊎ IsAmong u.1 Q) (by a (values vs))
@@ -496,16 +502,16 @@ module _ {N W : Type 0} (K : Naming N W) (E : Ground N) (a : ℕ) where
   pub is_told : (s : Vat N) (e : Happened N) (i : Item N) → IsAmong (a, i) (tells e) → Has K E (with_line s e) a i
   is_told s e i m = told_by e (among_last s.happened e) m
 
-  read_now : {B : Type 0} {C : Fact N} (k : ℕ) (v : Value N) {m : Act N B} {H : B → Fact N} → Gets C (IsSlot k) → Fine (Also C (IsValue v)) m H → Fine C (tell (SlotRead a k v) >> m) H
+  read_now : {B : Type 0} {C : Fact N} (k : ℕ) (v : Value N) {m : Act N B} {H : B → Fact N} → Gets C (IsSlot k) → Gets C (WasPut k v) → Fine (Also C (IsValue v)) m H → Fine C (tell (SlotRead a k v) >> m) H
   unfolding uses by tells open_after itself
-  read_now k v g h = then_line (SlotRead a k v) refl refl (λ s. refl) (λ s i c. ((inl (g.at s c), tt), tt)) (λ s c. is_told s (SlotRead a k v) (AValue v) (inl refl)) h
+  read_now k v g p h = then_line (SlotRead a k v) refl refl (λ s. refl) (λ s i c. ((inl (g.at s c), tt), tt)) (λ s c. p.at s c) (λ s c. is_told s (SlotRead a k v) (AValue v) (inl refl)) h
 
-  pub then_read : {B : Type 0} {C : Fact N} (act : ℕ) (k : ℕ) (v : Value N) {m : Act N B} {H : B → Fact N} → Gets C (IsAct act) → Gets C (IsSlot k) → Fine (Also C (IsValue v)) m H → Fine C (tell (SlotRead act k v) >> m) H
-  then_read act k v {m = m} i g h = act_is act (λ b. tell (SlotRead b k v) >> m) i (read_now k v g h)
+  pub then_read : {B : Type 0} {C : Fact N} (act : ℕ) (k : ℕ) (v : Value N) {m : Act N B} {H : B → Fact N} → Gets C (IsAct act) → Gets C (IsSlot k) → Gets C (WasPut k v) → Fine (Also C (IsValue v)) m H → Fine C (tell (SlotRead act k v) >> m) H
+  then_read act k v {m = m} i g p h = act_is act (λ b. tell (SlotRead b k v) >> m) i (read_now k v g p h)
 
   list_now : {B : Type 0} {C : Fact N} (k : ℕ) (vs : List (Value N)) {m : Act N B} {H : B → Fact N} → Gets C (AreValues vs) → Fine (Also C (IsValue (Items k))) m H → Fine C (tell (ListMade a k vs) >> m) H
   unfolding uses by tells open_after itself
-  list_now k vs g h = then_line (ListMade a k vs) refl refl (λ s. refl) (λ s i c. (uses_values s [] vs (g.at s c), tt)) (λ s c. is_told s (ListMade a k vs) (AValue (Items k)) (inl refl)) h
+  list_now k vs g h = then_line (ListMade a k vs) refl refl (λ s. refl) (λ s i c. (uses_values s [] vs (g.at s c), tt)) (λ s c. tt) (λ s c. is_told s (ListMade a k vs) (AValue (Items k)) (inl refl)) h
 
   pub then_list : {B : Type 0} {C : Fact N} (act : ℕ) (k : ℕ) (vs : List (Value N)) {m : Act N B} {H : B → Fact N} → Gets C (IsAct act) → Gets C (AreValues vs) → Fine (Also C (IsValue (Items k))) m H → Fine C (tell (ListMade act k vs) >> m) H
   then_list act k vs {m = m} i g h = act_is act (λ b. tell (ListMade b k vs) >> m) i (list_now k vs g h)
@@ -551,15 +557,15 @@ module _ {N W : Type 0} (K : Naming N W) (E : Ground N) (a : ℕ) where
   old_thing ts x y i n (inr e) = absurd (n e.1)
 
   -- a thing is made, and its line told
-  pub thing_block : {B : Type 0} {C : Fact N} (x : Thing N) → IsInert x → (e : ℕ → Happened N) → ((n : ℕ) → thing_made K (e n) ≡ Some n) → ((n : ℕ) → slot_made (e n) ≡ None) → (D : ℕ → Fact N) → {f : ℕ → Act N B} {H : B → Fact N}
+  pub thing_block : {B : Type 0} {C : Fact N} (x : Thing N) → IsInert x → (e : ℕ → Happened N) → ((n : ℕ) → thing_made K (e n) ≡ Some n) → ((n : ℕ) → slot_made (e n) ≡ None) → ((so : List (Happened N)) (n : ℕ) → ReadTold E.slots so (e n)) → (D : ℕ → Fact N) → {f : ℕ → Act N B} {H : B → Fact N}
       → ((s : Vat N) (n : ℕ) → open_after (opens s) (e n) ≡ opens s) → ((s : Vat N) (n : ℕ) → LineWell K (held K E s) s.happened (e n)) → ((s : Vat N) (n : ℕ) → Holds (with_line s (e n)) (D n))
       → ((n : ℕ) → Fine (Also C (D n)) (f n) H) → Fine C (new_thing x >>= (λ n. tell (e n) >> f n)) H
   unfolding new_thing ◌>>=◌ tell ◌>>◌ and_then
-  thing_block {C = C} x inert e some none D {f = f} {H = H} o l d h = record {
+  thing_block {C = C} x inert e some none rd D {f = f} {H = H} o l d h = record {
     after = λ s g c. let n = length s.things in let u : Vat N = record s { things = s.things ++ x ∷ [] } in let t : Vat N = with_line u (e n) in
         let r : Grows K E s t = grows_trans K E s u t (grows_thing s x) (grows_line K E u (e n)) in
         let p : Passes s t = (r, opens_last u (e n) ∙ o u n) in
-        let good : Good K E t = good_block K E s t (e n) refl ((traces_tell K E.before (e n)).after u g.told) (grown_thing s x) (l u n)
+        let good : Good K E t = good_block K E s t (e n) refl ((traces_tell K E.before (e n)).after u g.told) (grown_thing s x) (l u n) (rd s.happened n)
         (λ i view q. inl (old_thing s.things x (Audition true view) i (no_audition x view inert) (get_or_last s.things x (Audition true view) i q)))
         (λ i node caught stamps q. inl (old_thing s.things x (Made node caught stamps) i (no_object x node caught stamps inert) (get_or_last s.things x (Made node caught stamps) i q)))
         (λ i y q. inl q)
@@ -595,7 +601,7 @@ module _ {N W : Type 0} (K : Naming N W) (E : Ground N) (a : ℕ) where
         let r : Grows K E s t = grows_trans K E s u t w (grows_line K E u e) in
         let p : Passes s t = (r, opens_last u e) in
         let good : Good K E t = good_block K E s t e refl ((traces_tell K E.before e).after u q.told) (grown_slot s x) ((inl (has_up K E s u w a (AValue v) (j.at s c)), tt), (x, get_end s.slots x, has_up K E s u w a (AValue g) (i.at s c)))
-        (λ n view f. inl f) (λ n node caught stamps f. inl f) (λ n y f. slot_told s v g n y (get_or_last s.slots x y n f))
+        tt (λ n view f. inl f) (λ n node caught stamps f. inl f) (λ n y f. slot_told s v g n y (get_or_last s.slots x y n f))
         (rises_line (thing_made K) (length E.things) (length s.things) s.happened e refl)
         (λ y. subst (λ m. Rises (length E.slots) (map slot_made (s.happened ++ e ∷ [])) m) (sym (length_end s.slots x)) (rises_new slot_made (length E.slots) k s.happened e refl y)) q in
         widen H s t (m k t) p ((h k).after t good (still_holds s t p C c, is_told u e (ASlot k) (inl refl)));
@@ -620,7 +626,7 @@ module _ {N W : Type 0} (K : Naming N W) (E : Ground N) (a : ℕ) where
         let r : Grows K E s t = grows_trans K E s u t w (grows_line K E u e) in
         let p : Passes s t = (r, opens_last u e) in
         let good : Good K E t = good_block K E s t e refl ((traces_tell K E.before e).after u q.told) (grown_write s n v) ((inl (has_up K E s u w a (ASlot n) (i.at s c)), (inl (has_up K E s u w a (AValue v) (j.at s c)), tt)), tt)
-        (λ l view f. inl f) (λ l node caught stamps f. inl f) (λ l y f. write_told s n v l y (written_cells s.slots n l v y f))
+        tt (λ l view f. inl f) (λ l node caught stamps f. inl f) (λ l y f. write_told s n v l y (written_cells s.slots n l v y f))
         (rises_line (thing_made K) (length E.things) (length s.things) s.happened e refl)
         (λ y. subst (λ m. Rises (length E.slots) (map slot_made (s.happened ++ e ∷ [])) m) (sym (written_length s.slots n v)) (rises_line slot_made (length E.slots) (length s.slots) s.happened e refl y)) q in
         widen H s t (m t) p (h.after t good (still_holds s t p C c));

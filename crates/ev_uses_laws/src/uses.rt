@@ -20,8 +20,9 @@ pub fn runs_are_connected()
 {}
 
 /// After every step of a vat each object was there before it, or a line of the step tells with which
-/// captures and stamps it was made; and what is in a var slot was in it before, or a line tells that
-/// an activation put it there. It asks what `steps_are_connected` asks.
+/// captures and stamps it was made; what is in a var slot was in it before, or a line tells that an
+/// activation put it there; and what a line says was read from a slot was in it before the step, or
+/// a line before it tells that. It asks what `steps_are_connected` asks.
 pub fn steps_tell_what_they_make()
     ensures { StepsTellWhatTheyMake }
 {}
