@@ -15,8 +15,8 @@ use Rattle.ev_connected_laws.specs.Known.{AValue, IsAmong, AllOf, tells, by, val
 use Rattle.ev_connected_laws.specs.Connected.{served, unless_begun, open_after, uses, evaluates, asks}
 use Rattle.ev_connected_laws.proofs.Traces.{among_last, traces_tell}
 use Rattle.ev_connected_laws.specs.Activations.{Rises}
-use Rattle.ev_uses_laws.specs.News.{own_number, thing_made, slot_made}
-use Rattle.ev_uses_laws.proofs.News.{rises_line, rises_new, length_end}
+use Rattle.ev_uses_laws.specs.News.{own_number, thing_made, slot_made, list_made}
+use Rattle.ev_uses_laws.proofs.Rising.{rises_line, rises_new, length_end}
 use Rattle.ev_uses_laws.proofs.Ground.{Ground, opens, with_line, opens_last, held, Knew, Judged, Grows, Good, has_up, thing_up, judges_up, view_up, judged_up, grows_line, grows_trans, grows_by, grows_same, makes_none, good_block, good_line, good_by}
 use Rattle.ev_uses_laws.proofs.Fine.{Fact, Also, IsAct, IsValue, AreValues, AreLists, IsSlot, IsScope, MayBound, MayCell, WasPut, Leads, IsReply, IsAsked, IsAuditionAsk, MadeEjector, WasHanded, MayHand, WasCalled, IsAt, IsJudging, IsJudged, MayGive, MayThing, answer, nothing, NounKnown, Judging, Holds, Gets, Passes, Ends, Fine, get_or_last, grows_thing, holds_up, still_holds, passes_same, widen, fine_bind, fine_less, fine_ending, fine_more, fine_left, fine_give, fine_throw, fine_eject, fine_stop, fine_look, act_is, is_told}
 use Rattle.ev_uses_laws.proofs.Looks.{look_cell, got, got_left, got_itself, got_flag, got_text, got_no_lists, got_lists, got_literal, got_asked, got_audition_ask, got_hand, got_may_give, got_item, got_judged, look_thing, look_leads, GuardReply, guard_asked_known}
@@ -220,7 +220,7 @@ module _ {N W : Type 0} (K : Naming N W) (E : Ground N) (spots : (i : ℕ) → K
         (λ k node caught stamps q. inl (old_object view s.things k node caught stamps (get_or_last s.things (Audition true view) (Made node caught stamps) k q)))
         (λ k x q. inl q)
         (λ q. subst (λ m. Rises (length E.things) (map (thing_made K) (s.happened ++ e ∷ [])) m) (sym (length_end s.things (Audition true view))) (rises_new (thing_made K) (length E.things) n s.happened e (ap own_number (spots n)) q))
-        (rises_line slot_made (length E.slots) (length s.slots) s.happened e refl) g in
+        (rises_line slot_made (length E.slots) (length s.slots) s.happened e refl) (rises_line list_made E.lists (length s.lists) s.happened e refl) g in
         widen K E a H s t (f n t) p ((h n).after t good (still_holds K E a s t p C c, is_told K E a u e (AValue (Ref (K.object n))) (inl refl)));
   }
 
@@ -414,8 +414,8 @@ module _ {N W : Type 0} (K : Naming N W) (E : Ground N) (spots : (i : ℕ) → K
         let w : Grows K E s t = grows_trans K E s r t z (grows_line K E r e) in
         let o : opens t ≡ record { caller = a; receiver = x; begun = Some b } ∷ opens s = opens_last r e in
         let here : Scope N = record { act = b; nouns = caught } in
-        let good_r : Good K E r = good_by K E s r refl refl (grows_same K E s).grown (makes_none K E s r refl refl) q in
-        let good_t : Good K E t = good_line K E r e refl refl good_r (called_well K E a r x verb args (Some b) (has_up K E s r z a (AValue x) (v.at s c)) (holds_up K E a s r z (AreValues args) tt (h.at s c))) tt in
+        let good_r : Good K E r = good_by K E s r refl refl (grows_same K E s).grown (makes_none K E s r refl refl) refl q in
+        let good_t : Good K E t = good_line K E r e refl refl refl good_r (called_well K E a r x verb args (Some b) (has_up K E s r z a (AValue x) (v.at s c)) (holds_up K E a s r z (AreValues args) tt (h.at s c))) tt in
         let runs : Runs K (held K E t) t.happened b i = called a x verb args (among_last r.happened e) (thing_up K E s t w x i (p.at s c)) in
         let nouns : AllOf (NounKnown K E b t) caught = nouns_from K E b t caught (λ k m. endowed i node caught stamps runs (g.at s c) m) in
         let body : Act N (Value N) = calls.run_object K tree rec ms verb args here in

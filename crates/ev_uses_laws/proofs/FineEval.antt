@@ -14,8 +14,8 @@ use Rattle.ev_connected_laws.specs.Known.{Item, AValue, ASlot, IsAmong, AllOf, K
 use Rattle.ev_connected_laws.specs.Connected.{LineWell, served, open_after, uses, itself}
 use Rattle.ev_connected_laws.proofs.Traces.{among_last, traces_tell}
 use Rattle.ev_connected_laws.specs.Activations.{Rises}
-use Rattle.ev_uses_laws.specs.News.{own_number, thing_made, slot_made}
-use Rattle.ev_uses_laws.proofs.News.{rises_line, rises_new, length_end}
+use Rattle.ev_uses_laws.specs.News.{own_number, thing_made, slot_made, list_made}
+use Rattle.ev_uses_laws.proofs.Rising.{rises_line, rises_new, length_end}
 use Rattle.ev_uses_laws.proofs.Idle.{joined}
 use Rattle.ev_uses_laws.proofs.Ground.{Ground, all_map, opens, with_line, opens_last, held, Has, Knew, Grows, Good, ObjectTold, has_up, grows_line, good_block}
 use Rattle.ev_uses_laws.proofs.Fine.{MayBe, Fact, Also, IsAct, IsValue, AreValues, IsSlot, IsBound, IsScope, MayBound, MayCell, MadeEjector, WasHanded, answer, answers, BoundKnown, NounKnown, Gets, Passes, Ends, Fine, holds_up, widen, grows_thing, get_or_last, uses_values, is_told, fine_bind, fine_give, fine_eject, fine_stop, fine_spend}
@@ -141,7 +141,7 @@ module _ {N W : Type 0} (K : Naming N W) (E : Ground N) (spots : (i : ℕ) → K
       (λ i view q. inl (old_audition s.things i node caught stamps view (get_or_last s.things (Made node caught stamps) (Audition true view) i q)))
       (λ i m cs ys q. object_told a node x caught stamps s i m cs ys (get_or_last s.things (Made node caught stamps) (Made m cs ys) i q)) (λ i c q. inl q)
       (λ q. subst (λ n. Rises (length E.things) (map (thing_made K) (s.happened ++ l ∷ [])) n) (sym (length_end s.things (Made node caught stamps))) (rises_new (thing_made K) (length E.things) (length s.things) s.happened l (ap own_number (spots (length s.things))) q))
-      (rises_line slot_made (length E.slots) (length s.slots) s.happened l refl) g
+      (rises_line slot_made (length E.slots) (length s.slots) s.happened l refl) (rises_line list_made E.lists (length s.lists) s.happened l refl) g
 
   object_ends : (a : ℕ) (node : ℕ) (p : Option Node) (xs : List Words) (stamps : List (Value N)) (here : Scope N) (s : Vat N) → Good K E s → here.act ≡ a → AllOf (NounKnown K E a s) here.nouns → served (opens s) ≡ None → AllOf (Knew K E s a) stamps
       → Ends K E a answer s (calls.object_as K tree node p xs stamps (K.object (length s.things)) here s)

@@ -10,14 +10,17 @@ use Rattle.ev_connected_laws.proofs.Knowing.{among_more, reaches_more, thing_mor
 use Rattle.ev_connected_laws.proofs.Traces.{Told, traces_tell}
 use Rattle.ev_connected_laws.specs.Activations.{Rises}
 use Rattle.ev_uses_laws.specs.Told.{ReadTold, ReadsTold}
-use Rattle.ev_uses_laws.specs.News.{thing_made, slot_made}
-use Rattle.ev_uses_laws.proofs.News.{rises_line, rises_idle}
+use Rattle.ev_uses_laws.specs.News.{thing_made, slot_made, list_made}
+use Rattle.ev_uses_laws.proofs.Rising.{rises_line}
+use Rattle.ev_uses_laws.proofs.News.{rises_idle}
 use Rattle.ev_uses_laws.proofs.Idle.{joined, no_more, IsIdle, Idles}
 
 -- what the vat had before the step, and what the step is given
 pub record Ground (N : Type 0) : Type 0 where
   pub things : List (Thing N)
   pub slots : List (Cell N)
+  -- the count of its lists
+  pub lists : ℕ
   -- what was known of names
   pub before : List (Known N)
   pub given : List (ℕ × Item N)
@@ -267,6 +270,7 @@ module _ {N W : Type 0} (K : Naming N W) (E : Ground N) where
     pub reads : ReadsTold E.slots [] s.happened
     pub things_rise : Rises (length E.things) (map (thing_made K) s.happened) (length s.things)
     pub slots_rise : Rises (length E.slots) (map slot_made s.happened) (length s.slots)
+    pub lists_rise : Rises E.lists (map list_made s.happened) (length s.lists)
 
   -- no audition is made live, no object is made, and nothing is put in a slot
   pub record MakesNone (s t : Vat N) : Type 0 where
@@ -368,8 +372,9 @@ module _ {N W : Type 0} (K : Naming N W) (E : Ground N) where
       → ((i node : ℕ) (caught : List (Binding N)) (stamps : List (Value N)) → slice_get t.things i ≡ Some (Made node caught stamps) → (slice_get s.things i ≡ Some (Made node caught stamps)) ⊎ ObjectTold t i node caught stamps)
       → ((k : ℕ) (c : Cell N) → slice_get t.slots k ≡ Some c → (slice_get s.slots k ≡ Some c) ⊎ CellTold t k c)
       → (Rises (length E.things) (map (thing_made K) s.happened) (length s.things) → Rises (length E.things) (map (thing_made K) (s.happened ++ e ∷ [])) (length t.things))
-      → (Rises (length E.slots) (map slot_made s.happened) (length s.slots) → Rises (length E.slots) (map slot_made (s.happened ++ e ∷ [])) (length t.slots)) → Good s → Good t
-  good_block s t e f r g l rd au ob ce tr sr h = let grows : Grows s t = record { more = e ∷ []; lines = f; grown = g } in record {
+      → (Rises (length E.slots) (map slot_made s.happened) (length s.slots) → Rises (length E.slots) (map slot_made (s.happened ++ e ∷ [])) (length t.slots))
+      → (Rises E.lists (map list_made s.happened) (length s.lists) → Rises E.lists (map list_made (s.happened ++ e ∷ [])) (length t.lists)) → Good s → Good t
+  good_block s t e f r g l rd au ob ce tr sr lr h = let grows : Grows s t = record { more = e ∷ []; lines = f; grown = g } in record {
     told = r;
     lines = subst (λ es. Connected K (held t) es) (sym f) (connected_end K (held t) [] s.happened e (connected_later K (held s) (held t) g [] s.happened h.lines) l);
     judged = λ i view k. by_audition grows i view (au i view k);
@@ -378,6 +383,7 @@ module _ {N W : Type 0} (K : Naming N W) (E : Ground N) where
     reads = subst (λ es. ReadsTold E.slots [] es) (sym f) (reads_end E.slots [] s.happened e h.reads rd);
     things_rise = subst (λ es. Rises (length E.things) (map (thing_made K) es) (length t.things)) (sym f) (tr h.things_rise);
     slots_rise = subst (λ es. Rises (length E.slots) (map slot_made es) (length t.slots)) (sym f) (sr h.slots_rise);
+    lists_rise = subst (λ es. Rises E.lists (map list_made es) (length t.lists)) (sym f) (lr h.lists_rise);
   }
     where
       by_audition : Grows s t → (i : ℕ) (view : View N) → (slice_get s.things i ≡ Some (Audition true view)) ⊎ Judged t i view → Judged t i view
@@ -393,14 +399,14 @@ module _ {N W : Type 0} (K : Naming N W) (E : Ground N) where
       by_cell w k c (inr n) = n
 
   -- a line that is connected
-  pub good_line : (s : Vat N) (e : Happened N) → thing_made K e ≡ None → slot_made e ≡ None → Good s → LineWell K (held s) s.happened e → ReadTold E.slots s.happened e → Good (with_line s e)
+  pub good_line : (s : Vat N) (e : Happened N) → thing_made K e ≡ None → slot_made e ≡ None → list_made e ≡ None → Good s → LineWell K (held s) s.happened e → ReadTold E.slots s.happened e → Good (with_line s e)
   unfolding tell
-  good_line s e nil none g l rd = good_block s (with_line s e) e refl ((traces_tell K E.before e).after s g.told) (same_grown (held s)) l rd (λ i view k. inl k) (λ i node caught stamps k. inl k) (λ i c k. inl k)
-      (rises_line (thing_made K) (length E.things) (length s.things) s.happened e nil) (rises_line slot_made (length E.slots) (length s.slots) s.happened e none) g
+  good_line s e nil none new g l rd = good_block s (with_line s e) e refl ((traces_tell K E.before e).after s g.told) (same_grown (held s)) l rd (λ i view k. inl k) (λ i node caught stamps k. inl k) (λ i c k. inl k)
+      (rises_line (thing_made K) (length E.things) (length s.things) s.happened e nil) (rises_line slot_made (length E.slots) (length s.slots) s.happened e none) (rises_line list_made E.lists (length s.lists) s.happened e new) g
 
   -- a change that tells nothing, and makes none of these
-  pub good_by : (s t : Vat N) → t.happened ≡ s.happened → t.known ≡ s.known → laws.Grown (held s) (held t) → MakesNone s t → Good s → Good t
-  good_by s t e f g m k = let grows : Grows s t = grows_by s t e g in record {
+  pub good_by : (s t : Vat N) → t.happened ≡ s.happened → t.known ≡ s.known → laws.Grown (held s) (held t) → MakesNone s t → length t.lists ≡ length s.lists → Good s → Good t
+  good_by s t e f g m q k = let grows : Grows s t = grows_by s t e g in record {
     told = rw (e, f) k.told;
     lines = subst (λ es. Connected K (held t) es) (sym e) (connected_later K (held s) (held t) g [] s.happened k.lines);
     judged = λ i view j. judged_up s t grows i view (k.judged i view (m.auditions i view j));
@@ -409,6 +415,7 @@ module _ {N W : Type 0} (K : Naming N W) (E : Ground N) where
     reads = subst (λ es. ReadsTold E.slots [] es) (sym e) k.reads;
     things_rise = subst (λ es. Rises (length E.things) (map (thing_made K) es) (length t.things)) (sym e) (subst (λ n. Rises (length E.things) (map (thing_made K) s.happened) n) (sym m.things) k.things_rise);
     slots_rise = subst (λ es. Rises (length E.slots) (map slot_made es) (length t.slots)) (sym e) (subst (λ n. Rises (length E.slots) (map slot_made s.happened) n) (sym m.slots) k.slots_rise);
+    lists_rise = subst (λ es. Rises E.lists (map list_made es) (length t.lists)) (sym e) (subst (λ n. Rises E.lists (map list_made s.happened) n) (sym q) k.lists_rise);
   }
 
   idle_thing : (e : Happened N) → IsIdle e → thing_made K e ≡ None
@@ -485,4 +492,5 @@ module _ {N W : Type 0} (K : Naming N W) (E : Ground N) where
     reads = subst (λ es. ReadsTold E.slots [] es) (sym i.lines) (reads_join E.slots [] s.happened i.more g.reads (idles_read E.slots s.happened i.more i.idle));
     things_rise = subst (λ es. Rises (length E.things) (map (thing_made K) es) (length t.things)) (sym i.lines) (rises_idle (thing_made K) idle_thing (length E.things) (length t.things) s.happened i.more i.idle (subst (λ n. Rises (length E.things) (map (thing_made K) s.happened) n) (sym (ap length i.things)) g.things_rise));
     slots_rise = subst (λ es. Rises (length E.slots) (map slot_made es) (length t.slots)) (sym i.lines) (rises_idle slot_made idle_slot (length E.slots) (length t.slots) s.happened i.more i.idle (subst (λ n. Rises (length E.slots) (map slot_made s.happened) n) (sym (ap length i.slots)) g.slots_rise));
+    lists_rise = i.lists_rise E.lists g.lists_rise;
   }

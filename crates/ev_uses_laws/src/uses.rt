@@ -33,9 +33,9 @@ pub fn runs_tell_what_is_held()
     ensures { RunsTellWhatIsHeld }
 {}
 
-/// What a line of a step says was made is new: objects, ejectors, auditions and resolvers, and var
-/// slots, have numbers that rise from the vat's count before the step to its count after it. It asks
-/// what `steps_are_connected` asks.
+/// What a line of a step says was made is new: objects, ejectors, auditions and resolvers, var slots,
+/// and lists have numbers that rise from the vat's count before the step to its count after it. It
+/// asks what `steps_are_connected` asks.
 pub fn what_is_made_is_new()
     ensures { WhatIsMadeIsNew }
 {}
