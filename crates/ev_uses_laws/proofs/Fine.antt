@@ -34,7 +34,6 @@ pub data Fact (N : Type 0) : Type 0 where
   AreLists : List (List (Value N)) → Fact N
   IsSlot : ℕ → Fact N
   IsBound : Bound N → Fact N
-  AreNouns : List (Binding N) → Fact N
   -- its own environment, in which it evaluates
   IsScope : Scope N → Fact N
   MayValue : Option (Value N) → Fact N
@@ -204,7 +203,6 @@ module _ {N W : Type 0} (K : Naming N W) (E : Ground N) (a : ℕ) where
   Holds s (AreLists vss) = AllOf (AllOf (Knew K E s a)) vss
   Holds s (IsSlot k) = Has K E s a (ASlot k)
   Holds s (IsBound b) = BoundKnown s b
-  Holds s (AreNouns bs) = AllOf (NounKnown s) bs
   Holds s (IsScope here) = (here.act ≡ a) × AllOf (NounKnown s) here.nouns × (served (opens s) ≡ None)
   Holds s (MayValue o) = MayBe (Knew K E s a) o
   Holds s (MayBound o) = MayBe (BoundKnown s) o
@@ -321,7 +319,6 @@ module _ {N W : Type 0} (K : Naming N W) (E : Ground N) (a : ℕ) where
     holds_up (AreLists vss) e h = all_map _ _ (λ vs k. all_map _ _ knew_up vs k) vss h
     holds_up (IsSlot k) e h = has_up K E s t g a (ASlot k) h
     holds_up (IsBound b) e h = bound_up b h
-    holds_up (AreNouns bs) e h = all_map _ _ (λ b k. bound_up b.bound k) bs h
     holds_up (IsScope here) e h = (h.0, all_map _ _ (λ b k. bound_up b.bound k) here.nouns h.1, ap served e ∙ h.2)
     holds_up (MayValue o) e h = may_up _ _ knew_up o h
     holds_up (MayBound o) e h = may_up _ _ bound_up o h
@@ -350,7 +347,6 @@ module _ {N W : Type 0} (K : Naming N W) (E : Ground N) (a : ℕ) where
   all_keep s t e (AreLists vss) = tt
   all_keep s t e (IsSlot k) = tt
   all_keep s t e (IsBound b) = tt
-  all_keep s t e (AreNouns bs) = tt
   all_keep s t e (IsScope here) = e
   all_keep s t e (MayValue o) = tt
   all_keep s t e (MayBound o) = tt
