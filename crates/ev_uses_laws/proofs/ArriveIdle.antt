@@ -5,7 +5,7 @@ use Rattle.ev_machine.specs.State.{Standing, Unsettled, WaitsOn, Viewed, Settled
 use Rattle.ev_machine.specs.Refs.{Place, Away}
 use Rattle.ev_machine.specs.Arrive as arrive
 use Rattle.ev_machine.specs.Arrive.{Incoming, Old, New}
-use Rattle.ev_uses_laws.proofs.Idle.{Idle, idle}
+use Rattle.ev_uses_laws.proofs.Idle.{Idle, idle, idle_came, idle_give}
 use Rattle.ev_uses_laws.proofs.RefsIdle.{GoodSettler, idle_refs, idle_address_plain, idle_address, idle_address_all, idle_pass, idle_pass_all, idle_deliver, idle_wait_on, idle_pass_on, idle_send_to, idle_send_on, idle_inform_of, idle_inform, idle_settle_known, idle_settle_standing, idle_settle_entry, idle_settle_one, idle_settle_at, idle_settle, idle_wait_unless_cycle, idle_resolve_to, idle_resolve, idle_send_first, idle_react_at}
 
 module _ {N W : Type 0} (K : Naming N W) where
@@ -36,7 +36,7 @@ module _ {N W : Type 0} (K : Naming N W) where
 
   pub idle_make_list : (x1 : List (Value N)) → Idle (arrive.make_list K x1)
   unfolding arrive.make_list
-  idle_make_list vs = search (idle) depth 14
+  idle_make_list vs = idle_came vs (λ k. idle_give (Items k))
 
   mutual
     unfolding arrive.learn arrive.learn_all

@@ -12,11 +12,12 @@ use Rattle.ev_connected_laws.specs.Connected.{served, open_after, Judges, GivenB
 use Rattle.ev_connected_laws.specs.Laws as laws
 use Rattle.ev_connected_laws.proofs.Traces.{traces_tell, Traces, Ends as TracesEnds, among_last}
 use Rattle.ev_connected_laws.specs.Activations.{Rises}
-use Rattle.ev_uses_laws.specs.News.{thing_made, slot_made}
-use Rattle.ev_uses_laws.proofs.News.{rises_line, rises_new, length_end}
+use Rattle.ev_uses_laws.specs.Told.{ReadTold}
+use Rattle.ev_uses_laws.specs.News.{thing_made, slot_made, list_made}
+use Rattle.ev_uses_laws.proofs.Rising.{rises_line, rises_new, length_end}
 use Rattle.ev_uses_laws.proofs.Idle.{Idle, IdleEnds}
 use Rattle.ev_uses_laws.proofs.Asked.{AskedHas}
-use Rattle.ev_uses_laws.proofs.Ground.{Ground, all_map, opens, with_line, opens_last, idles_opens, held, Has, Knew, ViewKnown, Judged, Grows, Good, has_up, reaches_up, thing_up, among_up, judges_up, view_up, judged_up, given_up, grows_same, grows_line, grows_trans, grows_by, CellTold, makes_none, good_block, good_line, good_by, idles_grows, idles_good}
+use Rattle.ev_uses_laws.proofs.Ground.{Ground, all_map, opens, with_line, opens_last, idles_opens, held, Has, Knew, ViewKnown, Judged, Grows, Good, has_up, reaches_up, thing_up, among_up, judges_up, view_up, judged_up, given_up, grows_same, grows_line, grows_trans, grows_by, PutTold, put_up, CellTold, makes_none, good_block, good_line, good_by, idles_grows, idles_good}
 
 abbrev pub MayBe : {A : Type 0} → (A → Type 0) → Option A → Type 0
 MayBe P (Some x) = P x
@@ -33,12 +34,13 @@ pub data Fact (N : Type 0) : Type 0 where
   AreLists : List (List (Value N)) → Fact N
   IsSlot : ℕ → Fact N
   IsBound : Bound N → Fact N
-  AreNouns : List (Binding N) → Fact N
   -- its own environment, in which it evaluates
   IsScope : Scope N → Fact N
   MayValue : Option (Value N) → Fact N
   MayBound : Option (Bound N) → Fact N
-  MayCell : Option (Cell N) → Fact N
+  MayCell : ℕ → Option (Cell N) → Fact N
+  -- that was put in that slot
+  WasPut : ℕ → Value N → Fact N
   -- the first is followed to the second
   Leads : Value N → Value N → Fact N
   IsReply : Reply N → Fact N
@@ -201,11 +203,11 @@ module _ {N W : Type 0} (K : Naming N W) (E : Ground N) (a : ℕ) where
   Holds s (AreLists vss) = AllOf (AllOf (Knew K E s a)) vss
   Holds s (IsSlot k) = Has K E s a (ASlot k)
   Holds s (IsBound b) = BoundKnown s b
-  Holds s (AreNouns bs) = AllOf (NounKnown s) bs
   Holds s (IsScope here) = (here.act ≡ a) × AllOf (NounKnown s) here.nouns × (served (opens s) ≡ None)
   Holds s (MayValue o) = MayBe (Knew K E s a) o
   Holds s (MayBound o) = MayBe (BoundKnown s) o
-  Holds s (MayCell o) = MayBe (λ c. Knew K E s a c.guard) o
+  Holds s (MayCell k o) = MayBe (λ c. Knew K E s a c.guard × PutTold K E s k c.value) o
+  Holds s (WasPut k v) = PutTold K E s k v
   Holds s (Leads x y) = Reaches K E.before s.happened x y ⊎ IsPlain y
   Holds s (IsReply r) = ReplyHas (Knew K E s a) r
   Holds s (IsAsked q) = AskedKnown s q
@@ -317,11 +319,11 @@ module _ {N W : Type 0} (K : Naming N W) (E : Ground N) (a : ℕ) where
     holds_up (AreLists vss) e h = all_map _ _ (λ vs k. all_map _ _ knew_up vs k) vss h
     holds_up (IsSlot k) e h = has_up K E s t g a (ASlot k) h
     holds_up (IsBound b) e h = bound_up b h
-    holds_up (AreNouns bs) e h = all_map _ _ (λ b k. bound_up b.bound k) bs h
     holds_up (IsScope here) e h = (h.0, all_map _ _ (λ b k. bound_up b.bound k) here.nouns h.1, ap served e ∙ h.2)
     holds_up (MayValue o) e h = may_up _ _ knew_up o h
     holds_up (MayBound o) e h = may_up _ _ bound_up o h
-    holds_up (MayCell o) e h = may_up _ _ (λ c k. knew_up c.guard k) o h
+    holds_up (MayCell k o) e h = may_up _ _ (λ c m. (knew_up c.guard m.0, put_up K E s t g k c.value m.1)) o h
+    holds_up (WasPut k v) e h = put_up K E s t g k v h
     holds_up (Leads x y) e h = leads_up x y h
     holds_up (IsReply r) e h = reply_up r h
     holds_up (IsAsked q) e h = asked_up q h
@@ -345,11 +347,11 @@ module _ {N W : Type 0} (K : Naming N W) (E : Ground N) (a : ℕ) where
   all_keep s t e (AreLists vss) = tt
   all_keep s t e (IsSlot k) = tt
   all_keep s t e (IsBound b) = tt
-  all_keep s t e (AreNouns bs) = tt
   all_keep s t e (IsScope here) = e
   all_keep s t e (MayValue o) = tt
   all_keep s t e (MayBound o) = tt
-  all_keep s t e (MayCell o) = tt
+  all_keep s t e (MayCell k o) = tt
+  all_keep s t e (WasPut k v) = tt
   all_keep s t e (Leads x y) = tt
   all_keep s t e (IsReply r) = tt
   all_keep s t e (IsAsked q) = tt
@@ -479,12 +481,12 @@ module _ {N W : Type 0} (K : Naming N W) (E : Ground N) (a : ℕ) where
   -- ---- lines
 
   -- a line that is connected and ends no call, with what it tells
-  pub then_line : {B : Type 0} {C D : Fact N} (e : Happened N) {m : Act N B} {H : B → Fact N} → thing_made K e ≡ None → slot_made e ≡ None → ((s : Vat N) → open_after (opens s) e ≡ opens s) → ((s : Vat N) → Good K E s → Holds s C → LineWell K (held K E s) s.happened e)
-      → ((s : Vat N) → Holds s C → Holds (with_line s e) D) → Fine (Also C D) m H → Fine C (tell e >> m) H
+  pub then_line : {B : Type 0} {C D : Fact N} (e : Happened N) {m : Act N B} {H : B → Fact N} → thing_made K e ≡ None → slot_made e ≡ None → list_made e ≡ None → ((s : Vat N) → open_after (opens s) e ≡ opens s) → ((s : Vat N) → Good K E s → Holds s C → LineWell K (held K E s) s.happened e)
+      → ((s : Vat N) → Holds s C → ReadTold E.slots s.happened e) → ((s : Vat N) → Holds s C → Holds (with_line s e) D) → Fine (Also C D) m H → Fine C (tell e >> m) H
   unfolding tell ◌>>◌ and_then
-  then_line {C = C} {D = D} e {m = m} {H = H} nil none o l d h = record {
+  then_line {C = C} {D = D} e {m = m} {H = H} nil none new o l rd d h = record {
     after = λ s g c. let t : Vat N = with_line s e in let p : Passes s t = (grows_line K E s e, opens_last s e ∙ o s) in
-        widen H s t (m t) p (h.after t (good_line K E s e nil none g (l s g c)) (still_holds s t p C c, d s c));
+        widen H s t (m t) p (h.after t (good_line K E s e nil none new g (l s g c) (rd s c)) (still_holds s t p C c, d s c));
   }
 
   pub uses_values : (s : Vat N) (Q : List (Item N)) (vs : List (Value N)) → AllOf (Knew K E s a) vs → AllOf (λ u. Knows K (held K E s) s.happened u.0 u.1 ⊎ IsAmong u.1 Q) (by a (values vs))
@@ -496,25 +498,18 @@ module _ {N W : Type 0} (K : Naming N W) (E : Ground N) (a : ℕ) where
   pub is_told : (s : Vat N) (e : Happened N) (i : Item N) → IsAmong (a, i) (tells e) → Has K E (with_line s e) a i
   is_told s e i m = told_by e (among_last s.happened e) m
 
-  read_now : {B : Type 0} {C : Fact N} (k : ℕ) (v : Value N) {m : Act N B} {H : B → Fact N} → Gets C (IsSlot k) → Fine (Also C (IsValue v)) m H → Fine C (tell (SlotRead a k v) >> m) H
+  read_now : {B : Type 0} {C : Fact N} (k : ℕ) (v : Value N) {m : Act N B} {H : B → Fact N} → Gets C (IsSlot k) → Gets C (WasPut k v) → Fine (Also C (IsValue v)) m H → Fine C (tell (SlotRead a k v) >> m) H
   unfolding uses by tells open_after itself
-  read_now k v g h = then_line (SlotRead a k v) refl refl (λ s. refl) (λ s i c. ((inl (g.at s c), tt), tt)) (λ s c. is_told s (SlotRead a k v) (AValue v) (inl refl)) h
+  read_now k v g p h = then_line (SlotRead a k v) refl refl refl (λ s. refl) (λ s i c. ((inl (g.at s c), tt), tt)) (λ s c. p.at s c) (λ s c. is_told s (SlotRead a k v) (AValue v) (inl refl)) h
 
-  pub then_read : {B : Type 0} {C : Fact N} (act : ℕ) (k : ℕ) (v : Value N) {m : Act N B} {H : B → Fact N} → Gets C (IsAct act) → Gets C (IsSlot k) → Fine (Also C (IsValue v)) m H → Fine C (tell (SlotRead act k v) >> m) H
-  then_read act k v {m = m} i g h = act_is act (λ b. tell (SlotRead b k v) >> m) i (read_now k v g h)
-
-  list_now : {B : Type 0} {C : Fact N} (k : ℕ) (vs : List (Value N)) {m : Act N B} {H : B → Fact N} → Gets C (AreValues vs) → Fine (Also C (IsValue (Items k))) m H → Fine C (tell (ListMade a k vs) >> m) H
-  unfolding uses by tells open_after itself
-  list_now k vs g h = then_line (ListMade a k vs) refl refl (λ s. refl) (λ s i c. (uses_values s [] vs (g.at s c), tt)) (λ s c. is_told s (ListMade a k vs) (AValue (Items k)) (inl refl)) h
-
-  pub then_list : {B : Type 0} {C : Fact N} (act : ℕ) (k : ℕ) (vs : List (Value N)) {m : Act N B} {H : B → Fact N} → Gets C (IsAct act) → Gets C (AreValues vs) → Fine (Also C (IsValue (Items k))) m H → Fine C (tell (ListMade act k vs) >> m) H
-  then_list act k vs {m = m} i g h = act_is act (λ b. tell (ListMade b k vs) >> m) i (list_now k vs g h)
+  pub then_read : {B : Type 0} {C : Fact N} (act : ℕ) (k : ℕ) (v : Value N) {m : Act N B} {H : B → Fact N} → Gets C (IsAct act) → Gets C (IsSlot k) → Gets C (WasPut k v) → Fine (Also C (IsValue v)) m H → Fine C (tell (SlotRead act k v) >> m) H
+  then_read act k v {m = m} i g p h = act_is act (λ b. tell (SlotRead b k v) >> m) i (read_now k v g p h)
 
   -- ---- the single changes
 
   spend_ends : (s : Vat N) (n : ℕ) (b : Bool) → Good K E s → Ends nothing s (spent n b s)
   unfolding spent
-  spend_ends s n true h = ((grows_by K E s (record s { fuel = s.fuel - n }) refl (grows_same K E s).grown, refl), good_by K E s (record s { fuel = s.fuel - n }) refl refl (grows_same K E s).grown (makes_none K E s (record s { fuel = s.fuel - n }) refl refl) h, tt)
+  spend_ends s n true h = ((grows_by K E s (record s { fuel = s.fuel - n }) refl (grows_same K E s).grown, refl), good_by K E s (record s { fuel = s.fuel - n }) refl refl (grows_same K E s).grown (makes_none K E s (record s { fuel = s.fuel - n }) refl refl) refl h, tt)
   spend_ends s n false h = h
 
   pub fine_spend : {C : Fact N} (n : ℕ) → Fine C (spend n) nothing
@@ -551,20 +546,20 @@ module _ {N W : Type 0} (K : Naming N W) (E : Ground N) (a : ℕ) where
   old_thing ts x y i n (inr e) = absurd (n e.1)
 
   -- a thing is made, and its line told
-  pub thing_block : {B : Type 0} {C : Fact N} (x : Thing N) → IsInert x → (e : ℕ → Happened N) → ((n : ℕ) → thing_made K (e n) ≡ Some n) → ((n : ℕ) → slot_made (e n) ≡ None) → (D : ℕ → Fact N) → {f : ℕ → Act N B} {H : B → Fact N}
+  pub thing_block : {B : Type 0} {C : Fact N} (x : Thing N) → IsInert x → (e : ℕ → Happened N) → ((n : ℕ) → thing_made K (e n) ≡ Some n) → ((n : ℕ) → slot_made (e n) ≡ None) → ((n : ℕ) → list_made (e n) ≡ None) → ((so : List (Happened N)) (n : ℕ) → ReadTold E.slots so (e n)) → (D : ℕ → Fact N) → {f : ℕ → Act N B} {H : B → Fact N}
       → ((s : Vat N) (n : ℕ) → open_after (opens s) (e n) ≡ opens s) → ((s : Vat N) (n : ℕ) → LineWell K (held K E s) s.happened (e n)) → ((s : Vat N) (n : ℕ) → Holds (with_line s (e n)) (D n))
       → ((n : ℕ) → Fine (Also C (D n)) (f n) H) → Fine C (new_thing x >>= (λ n. tell (e n) >> f n)) H
   unfolding new_thing ◌>>=◌ tell ◌>>◌ and_then
-  thing_block {C = C} x inert e some none D {f = f} {H = H} o l d h = record {
+  thing_block {C = C} x inert e some none new rd D {f = f} {H = H} o l d h = record {
     after = λ s g c. let n = length s.things in let u : Vat N = record s { things = s.things ++ x ∷ [] } in let t : Vat N = with_line u (e n) in
         let r : Grows K E s t = grows_trans K E s u t (grows_thing s x) (grows_line K E u (e n)) in
         let p : Passes s t = (r, opens_last u (e n) ∙ o u n) in
-        let good : Good K E t = good_block K E s t (e n) refl ((traces_tell K E.before (e n)).after u g.told) (grown_thing s x) (l u n)
+        let good : Good K E t = good_block K E s t (e n) refl ((traces_tell K E.before (e n)).after u g.told) (grown_thing s x) (l u n) (rd s.happened n)
         (λ i view q. inl (old_thing s.things x (Audition true view) i (no_audition x view inert) (get_or_last s.things x (Audition true view) i q)))
         (λ i node caught stamps q. inl (old_thing s.things x (Made node caught stamps) i (no_object x node caught stamps inert) (get_or_last s.things x (Made node caught stamps) i q)))
         (λ i y q. inl q)
         (λ q. subst (λ m. Rises (length E.things) (map (thing_made K) (s.happened ++ e n ∷ [])) m) (sym (length_end s.things x)) (rises_new (thing_made K) (length E.things) n s.happened (e n) (some n) q))
-        (rises_line slot_made (length E.slots) (length s.slots) s.happened (e n) (none n)) g in
+        (rises_line slot_made (length E.slots) (length s.slots) s.happened (e n) (none n)) (rises_line list_made E.lists (length s.lists) s.happened (e n) (new n)) g in
         widen H s t (f n t) p ((h n).after t good (still_holds s t p C c, d u n));
   }
 
@@ -573,7 +568,7 @@ module _ {N W : Type 0} (K : Naming N W) (E : Ground N) (a : ℕ) where
 
   pub fine_kill : {C : Fact N} (n : ℕ) → Fine C (kill n) nothing
   unfolding kill
-  fine_kill n = record { after = λ s h c. let t : Vat N = record s { things = change dead n s.things } in ((grows_by K E s t refl (grown_dead s n), refl), good_by K E s t refl refl (grown_dead s n) (record { auditions = λ i view e. dead_auditions s.things n i view e; objects = λ i node caught stamps e. were_objects s.things n i node caught stamps e; cells = λ k c e. e; things = dead_length s.things n; slots = refl }) h, tt) }
+  fine_kill n = record { after = λ s h c. let t : Vat N = record s { things = change dead n s.things } in ((grows_by K E s t refl (grown_dead s n), refl), good_by K E s t refl refl (grown_dead s n) (record { auditions = λ i view e. dead_auditions s.things n i view e; objects = λ i node caught stamps e. were_objects s.things n i node caught stamps e; cells = λ k c e. e; things = dead_length s.things n; slots = refl }) refl h, tt) }
 
   grown_slot : (s : Vat N) (c : Cell N) → laws.Grown (held K E s) (held K E (record s { slots = s.slots ++ c ∷ [] }))
   grown_slot s x = record { objects = λ i node caught stamps e. e; lists = λ k vs e. e; guards = λ k c e. (c, get_append s.slots (x ∷ []) k c e, refl); before = refl; given = refl }
@@ -595,9 +590,9 @@ module _ {N W : Type 0} (K : Naming N W) (E : Ground N) (a : ℕ) where
         let r : Grows K E s t = grows_trans K E s u t w (grows_line K E u e) in
         let p : Passes s t = (r, opens_last u e) in
         let good : Good K E t = good_block K E s t e refl ((traces_tell K E.before e).after u q.told) (grown_slot s x) ((inl (has_up K E s u w a (AValue v) (j.at s c)), tt), (x, get_end s.slots x, has_up K E s u w a (AValue g) (i.at s c)))
-        (λ n view f. inl f) (λ n node caught stamps f. inl f) (λ n y f. slot_told s v g n y (get_or_last s.slots x y n f))
+        tt (λ n view f. inl f) (λ n node caught stamps f. inl f) (λ n y f. slot_told s v g n y (get_or_last s.slots x y n f))
         (rises_line (thing_made K) (length E.things) (length s.things) s.happened e refl)
-        (λ y. subst (λ m. Rises (length E.slots) (map slot_made (s.happened ++ e ∷ [])) m) (sym (length_end s.slots x)) (rises_new slot_made (length E.slots) k s.happened e refl y)) q in
+        (λ y. subst (λ m. Rises (length E.slots) (map slot_made (s.happened ++ e ∷ [])) m) (sym (length_end s.slots x)) (rises_new slot_made (length E.slots) k s.happened e refl y)) (rises_line list_made E.lists (length s.lists) s.happened e refl) q in
         widen H s t (m k t) p ((h k).after t good (still_holds s t p C c, is_told u e (ASlot k) (inl refl)));
   }
 
@@ -620,9 +615,9 @@ module _ {N W : Type 0} (K : Naming N W) (E : Ground N) (a : ℕ) where
         let r : Grows K E s t = grows_trans K E s u t w (grows_line K E u e) in
         let p : Passes s t = (r, opens_last u e) in
         let good : Good K E t = good_block K E s t e refl ((traces_tell K E.before e).after u q.told) (grown_write s n v) ((inl (has_up K E s u w a (ASlot n) (i.at s c)), (inl (has_up K E s u w a (AValue v) (j.at s c)), tt)), tt)
-        (λ l view f. inl f) (λ l node caught stamps f. inl f) (λ l y f. write_told s n v l y (written_cells s.slots n l v y f))
+        tt (λ l view f. inl f) (λ l node caught stamps f. inl f) (λ l y f. write_told s n v l y (written_cells s.slots n l v y f))
         (rises_line (thing_made K) (length E.things) (length s.things) s.happened e refl)
-        (λ y. subst (λ m. Rises (length E.slots) (map slot_made (s.happened ++ e ∷ [])) m) (sym (written_length s.slots n v)) (rises_line slot_made (length E.slots) (length s.slots) s.happened e refl y)) q in
+        (λ y. subst (λ m. Rises (length E.slots) (map slot_made (s.happened ++ e ∷ [])) m) (sym (written_length s.slots n v)) (rises_line slot_made (length E.slots) (length s.slots) s.happened e refl y)) (rises_line list_made E.lists (length s.lists) s.happened e refl) q in
         widen H s t (m t) p (h.after t good (still_holds s t p C c));
   }
 
@@ -633,9 +628,24 @@ module _ {N W : Type 0} (K : Naming N W) (E : Ground N) (a : ℕ) where
   grown_list : (s : Vat N) (xs : List (Value N)) → laws.Grown (held K E s) (held K E (record s { lists = s.lists ++ xs ∷ [] }))
   grown_list s xs = record { objects = λ i node caught stamps e. e; lists = λ k vs e. get_append s.lists (xs ∷ []) k vs e; guards = λ k c e. (c, e, refl); before = refl; given = refl }
 
-  pub fine_list : {C : Fact N} (vs : List (Value N)) → Fine C (new_list vs) nothing
-  unfolding new_list
-  fine_list vs = record { after = λ s h c. let t : Vat N = record s { lists = s.lists ++ vs ∷ [] } in ((grows_by K E s t refl (grown_list s vs), refl), good_by K E s t refl refl (grown_list s vs) (makes_none K E s t refl refl) h, tt) }
+  list_now : {B : Type 0} {C : Fact N} (vs : List (Value N)) {m : ℕ → Act N B} {H : B → Fact N} → Gets C (AreValues vs) → ((k : ℕ) → Fine (Also C (IsValue (Items k))) (m k) H) → Fine C (new_list vs >>= (λ k. tell (ListMade a k vs) >> m k)) H
+  unfolding new_list ◌>>=◌ tell ◌>>◌ and_then uses by tells open_after itself
+  list_now {C = C} vs {m = m} {H = H} i h = record {
+    after = λ s q c. let k = length s.lists in let u : Vat N = record s { lists = s.lists ++ vs ∷ [] } in let e : Happened N = ListMade a k vs in let t : Vat N = with_line u e in
+        let w : Grows K E s u = grows_by K E s u refl (grown_list s vs) in
+        let r : Grows K E s t = grows_trans K E s u t w (grows_line K E u e) in
+        let p : Passes s t = (r, opens_last u e) in
+        let good : Good K E t = good_block K E s t e refl ((traces_tell K E.before e).after u q.told) (grown_list s vs) (uses_values u [] vs (holds_up s u w (AreValues vs) tt (i.at s c)), tt)
+        tt (λ n view f. inl f) (λ n node caught stamps f. inl f) (λ n y f. inl f)
+        (rises_line (thing_made K) (length E.things) (length s.things) s.happened e refl)
+        (rises_line slot_made (length E.slots) (length s.slots) s.happened e refl)
+        (λ y. subst (λ n. Rises E.lists (map list_made (s.happened ++ e ∷ [])) n) (sym (length_end s.lists vs)) (rises_new list_made E.lists k s.happened e refl y)) q in
+        widen H s t (m k t) p ((h k).after t good (still_holds s t p C c, is_told u e (AValue (Items k)) (inl refl)));
+  }
+
+  -- a list is made, and its line told
+  pub bind_list : {B : Type 0} {C : Fact N} (act : ℕ) (vs : List (Value N)) {m : ℕ → Act N B} {H : B → Fact N} → Gets C (IsAct act) → Gets C (AreValues vs) → ((k : ℕ) → Fine (Also C (IsValue (Items k))) (m k) H) → Fine C (new_list vs >>= (λ k. tell (ListMade act k vs) >> m k)) H
+  bind_list act vs {m = m} k i h = act_is act (λ b. new_list vs >>= (λ n. tell (ListMade b n vs) >> m n)) k (list_now vs i h)
 
   idle_ends : {A : Type 0} (s : Vat N) (d : Done N A) → Good K E s → IdleEnds s d → TracesEnds K E.before d → Ends nothing s d
   idle_ends s (Gives x t) h i r = ((idles_grows K E s t i, idles_opens s t i), idles_good K E s t i r h, tt)

@@ -15,11 +15,11 @@ use Rattle.ev_connected_laws.specs.Known.{AValue, IsAmong, AllOf, tells, by, val
 use Rattle.ev_connected_laws.specs.Connected.{served, unless_begun, open_after, uses, evaluates, asks}
 use Rattle.ev_connected_laws.proofs.Traces.{among_last, traces_tell}
 use Rattle.ev_connected_laws.specs.Activations.{Rises}
-use Rattle.ev_uses_laws.specs.News.{own_number, thing_made, slot_made}
-use Rattle.ev_uses_laws.proofs.News.{rises_line, rises_new, length_end}
+use Rattle.ev_uses_laws.specs.News.{own_number, thing_made, slot_made, list_made}
+use Rattle.ev_uses_laws.proofs.Rising.{rises_line, rises_new, length_end}
 use Rattle.ev_uses_laws.proofs.Ground.{Ground, opens, with_line, opens_last, held, Knew, Judged, Grows, Good, has_up, thing_up, judges_up, view_up, judged_up, grows_line, grows_trans, grows_by, grows_same, makes_none, good_block, good_line, good_by}
-use Rattle.ev_uses_laws.proofs.Fine.{Fact, Also, IsAct, IsValue, AreValues, AreLists, IsSlot, IsScope, MayBound, MayCell, Leads, IsReply, IsAsked, IsAuditionAsk, MadeEjector, WasHanded, MayHand, WasCalled, IsAt, IsJudging, IsJudged, MayGive, MayThing, answer, nothing, NounKnown, Judging, Holds, Gets, Passes, Ends, Fine, get_or_last, grows_thing, holds_up, still_holds, passes_same, widen, fine_bind, fine_less, fine_ending, fine_more, fine_left, fine_give, fine_throw, fine_eject, fine_stop, fine_look, act_is, is_told}
-use Rattle.ev_uses_laws.proofs.Looks.{got, got_left, got_itself, got_flag, got_text, got_no_lists, got_lists, got_literal, got_asked, got_audition_ask, got_hand, got_may_give, got_item, got_judged, look_thing, look_leads, GuardReply, guard_asked_known}
+use Rattle.ev_uses_laws.proofs.Fine.{Fact, Also, IsAct, IsValue, AreValues, AreLists, IsSlot, IsScope, MayBound, MayCell, WasPut, Leads, IsReply, IsAsked, IsAuditionAsk, MadeEjector, WasHanded, MayHand, WasCalled, IsAt, IsJudging, IsJudged, MayGive, MayThing, answer, nothing, NounKnown, Judging, Holds, Gets, Passes, Ends, Fine, get_or_last, grows_thing, holds_up, still_holds, passes_same, widen, fine_bind, fine_less, fine_ending, fine_more, fine_left, fine_give, fine_throw, fine_eject, fine_stop, fine_look, act_is, is_told}
+use Rattle.ev_uses_laws.proofs.Looks.{look_cell, got, got_left, got_itself, got_flag, got_text, got_no_lists, got_lists, got_literal, got_asked, got_audition_ask, got_hand, got_may_give, got_item, got_judged, look_thing, look_leads, GuardReply, guard_asked_known}
 use Rattle.ev_uses_laws.proofs.Rules.{fine, bind_flag, bind_resolver, fine_promise, fine_send, fine_react, if_same, then_got, called_well, CallEnds, ended_ends, fine_with_lines, nouns_from}
 
 -- a call by the activation, whatever is called
@@ -36,16 +36,17 @@ module _ {N W : Type 0} (K : Naming N W) (E : Ground N) (spots : (i : ℕ) → K
   unfolding scopes.answered
   fine_answered {a = a} {C = C} here g_here v g_v = search (fine) depth 30
 
-  pub fine_read_cell : {a : ℕ} {C : Fact N} → (act : ℕ) → Gets K E a C (IsAct act) → (k : ℕ) → Gets K E a C (IsSlot k) → (c : Option (Cell N)) → Gets K E a C (MayCell c) → Fine K E a C (scopes.read_cell act k c) IsValue
+  pub fine_read_cell : {a : ℕ} {C : Fact N} → (act : ℕ) → Gets K E a C (IsAct act) → (k : ℕ) → Gets K E a C (IsSlot k) → (o : Option (Cell N)) → Gets K E a C (MayCell k o) → Fine K E a C (scopes.read_cell act k o) IsValue
   unfolding scopes.read_cell
-  fine_read_cell {a = a} {C = C} act g_act k g_k None g_c = search (fine) depth 30
-  fine_read_cell {a = a} {C = C} act g_act k g_k (Some c) g_c = search (fine) depth 30
+  fine_read_cell {a = a} {C = C} act i k g None h = search (fine) depth 30
+  fine_read_cell {a = a} {C = C} act i k g (Some c) h = let p : Gets K E a C (WasPut k c.value) = record { at = λ s b. (h.at s b).1 } in search (fine) depth 30
 
   pub fine_read_bound : {a : ℕ} {C : Fact N} → (act : ℕ) → Gets K E a C (IsAct act) → (o : Option (Bound N)) → Gets K E a C (MayBound o) → (x : Words) → Fine K E a C (scopes.read_bound act o x) IsValue
   unfolding scopes.read_bound
-  fine_read_bound {a = a} {C = C} act g_act (Some (Fixed v g)) g_o x = let d : Gets K E a C (IsValue v) = record { at = λ s h. (g_o.at s h).0 } in search (fine) depth 30
-  fine_read_bound {a = a} {C = C} act g_act (Some (Slot k)) g_o x = let d : Gets K E a C (IsSlot k) = record { at = λ s h. g_o.at s h } in search (fine, fine_read_cell) depth 30
-  fine_read_bound {a = a} {C = C} act g_act None g_o x = search (fine) depth 30
+  fine_read_bound {a = a} {C = C} act i (Some (Fixed v g)) h x = let d : Gets K E a C (IsValue v) = record { at = λ s b. (h.at s b).0 } in search (fine) depth 30
+  fine_read_bound {a = a} {C = C} act i (Some (Slot k)) h x = let d : Gets K E a C (IsSlot k) = record { at = λ s b. h.at s b } in fine_bind K E a (MayCell k) (look_cell K E a k d)
+      (λ c. fine_read_cell {C = Also C (MayCell k c)} act (got_left K E a C (MayCell k c) (IsAct act) i) k (got_left K E a C (MayCell k c) (IsSlot k) d) c (got K E a C (MayCell k c)))
+  fine_read_bound {a = a} {C = C} act i None h x = search (fine) depth 30
 
   pub fine_fail_by : {a : ℕ} {C : Fact N} {A : Type 0} {H : A → Fact N} → (again : Caller N) → GoodCaller K E a again → (act : ℕ) → Gets K E a C (IsAct act) → (j : Value N) → Gets K E a C (IsValue j) → (p : Words) → (b : Bool) → Fine K E a C (perform.fail_by K tree {A = A} again act j p b) H
   unfolding perform.fail_by
@@ -214,12 +215,12 @@ module _ {N W : Type 0} (K : Naming N W) (E : Ground N) (spots : (i : ℕ) → K
     after = λ s g c. let n = length s.things in let e : Happened N = AuditionMade a (K.object n) in let u : Vat N = record s { things = s.things ++ Audition true view ∷ [] } in let t : Vat N = with_line u e in
         let r : Grows K E s t = grows_trans K E s u t (grows_thing K E a s (Audition true view)) (grows_line K E u e) in
         let p : Passes K E a s t = (r, opens_last u e) in
-        let good : Good K E t = good_block K E s t e refl ((traces_tell K E.before e).after u g.told) r.grown (tt, tt)
+        let good : Good K E t = good_block K E s t e refl ((traces_tell K E.before e).after u g.told) r.grown (tt, tt) tt
         (λ k w q. inr (new_judged a s view g r (judges_new a s view (i.at s c) r) k w (get_or_last s.things (Audition true view) (Audition true w) k q)))
         (λ k node caught stamps q. inl (old_object view s.things k node caught stamps (get_or_last s.things (Audition true view) (Made node caught stamps) k q)))
         (λ k x q. inl q)
         (λ q. subst (λ m. Rises (length E.things) (map (thing_made K) (s.happened ++ e ∷ [])) m) (sym (length_end s.things (Audition true view))) (rises_new (thing_made K) (length E.things) n s.happened e (ap own_number (spots n)) q))
-        (rises_line slot_made (length E.slots) (length s.slots) s.happened e refl) g in
+        (rises_line slot_made (length E.slots) (length s.slots) s.happened e refl) (rises_line list_made E.lists (length s.lists) s.happened e refl) g in
         widen K E a H s t (f n t) p ((h n).after t good (still_holds K E a s t p C c, is_told K E a u e (AValue (Ref (K.object n))) (inl refl)));
   }
 
@@ -413,8 +414,8 @@ module _ {N W : Type 0} (K : Naming N W) (E : Ground N) (spots : (i : ℕ) → K
         let w : Grows K E s t = grows_trans K E s r t z (grows_line K E r e) in
         let o : opens t ≡ record { caller = a; receiver = x; begun = Some b } ∷ opens s = opens_last r e in
         let here : Scope N = record { act = b; nouns = caught } in
-        let good_r : Good K E r = good_by K E s r refl refl (grows_same K E s).grown (makes_none K E s r refl refl) q in
-        let good_t : Good K E t = good_line K E r e refl refl good_r (called_well K E a r x verb args (Some b) (has_up K E s r z a (AValue x) (v.at s c)) (holds_up K E a s r z (AreValues args) tt (h.at s c))) in
+        let good_r : Good K E r = good_by K E s r refl refl (grows_same K E s).grown (makes_none K E s r refl refl) refl q in
+        let good_t : Good K E t = good_line K E r e refl refl refl good_r (called_well K E a r x verb args (Some b) (has_up K E s r z a (AValue x) (v.at s c)) (holds_up K E a s r z (AreValues args) tt (h.at s c))) tt in
         let runs : Runs K (held K E t) t.happened b i = called a x verb args (among_last r.happened e) (thing_up K E s t w x i (p.at s c)) in
         let nouns : AllOf (NounKnown K E b t) caught = nouns_from K E b t caught (λ k m. endowed i node caught stamps runs (g.at s c) m) in
         let body : Act N (Value N) = calls.run_object K tree rec ms verb args here in

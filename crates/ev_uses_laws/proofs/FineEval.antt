@@ -14,12 +14,12 @@ use Rattle.ev_connected_laws.specs.Known.{Item, AValue, ASlot, IsAmong, AllOf, K
 use Rattle.ev_connected_laws.specs.Connected.{LineWell, served, open_after, uses, itself}
 use Rattle.ev_connected_laws.proofs.Traces.{among_last, traces_tell}
 use Rattle.ev_connected_laws.specs.Activations.{Rises}
-use Rattle.ev_uses_laws.specs.News.{own_number, thing_made, slot_made}
-use Rattle.ev_uses_laws.proofs.News.{rises_line, rises_new, length_end}
+use Rattle.ev_uses_laws.specs.News.{own_number, thing_made, slot_made, list_made}
+use Rattle.ev_uses_laws.proofs.Rising.{rises_line, rises_new, length_end}
 use Rattle.ev_uses_laws.proofs.Idle.{joined}
 use Rattle.ev_uses_laws.proofs.Ground.{Ground, all_map, opens, with_line, opens_last, held, Has, Knew, Grows, Good, ObjectTold, has_up, grows_line, good_block}
 use Rattle.ev_uses_laws.proofs.Fine.{MayBe, Fact, Also, IsAct, IsValue, AreValues, IsSlot, IsBound, IsScope, MayBound, MayCell, MadeEjector, WasHanded, answer, answers, BoundKnown, NounKnown, Gets, Passes, Ends, Fine, holds_up, widen, grows_thing, get_or_last, uses_values, is_told, fine_bind, fine_give, fine_eject, fine_stop, fine_spend}
-use Rattle.ev_uses_laws.proofs.Looks.{got, got_left, got_act, got_with, got_judging}
+use Rattle.ev_uses_laws.proofs.Looks.{look_cell, got, got_left, got_act, got_with, got_judging}
 use Rattle.ev_uses_laws.proofs.Rules.{fine, then_unit, if_same, then_got}
 use Rattle.ev_uses_laws.proofs.FineCalls.{GoodCaller, GoodEvaluator, fine_answered, fine_read_bound, fine_failed, fine_handed, fine_coerce, fine_leave, fine_ask_all, fine_bind_all, fine_call}
 
@@ -137,11 +137,11 @@ module _ {N W : Type 0} (K : Naming N W) (E : Ground N) (spots : (i : ℕ) → K
       LineWell K (held K E u) u.happened l → Good K E (with_line u l)
   unfolding tell
   object_good a node x caught stamps s g w = let u : Vat N = record s { things = s.things ++ Made node caught stamps ∷ [] } in let l : Happened N = ObjectMade a (K.object (length s.things)) x (map (λ b. b.bound) caught) stamps in
-      good_block K E s (with_line u l) l refl ((traces_tell K E.before l).after u g.told) (grows_thing K E a s (Made node caught stamps)).grown w
+      good_block K E s (with_line u l) l refl ((traces_tell K E.before l).after u g.told) (grows_thing K E a s (Made node caught stamps)).grown w tt
       (λ i view q. inl (old_audition s.things i node caught stamps view (get_or_last s.things (Made node caught stamps) (Audition true view) i q)))
       (λ i m cs ys q. object_told a node x caught stamps s i m cs ys (get_or_last s.things (Made node caught stamps) (Made m cs ys) i q)) (λ i c q. inl q)
       (λ q. subst (λ n. Rises (length E.things) (map (thing_made K) (s.happened ++ l ∷ [])) n) (sym (length_end s.things (Made node caught stamps))) (rises_new (thing_made K) (length E.things) (length s.things) s.happened l (ap own_number (spots (length s.things))) q))
-      (rises_line slot_made (length E.slots) (length s.slots) s.happened l refl) g
+      (rises_line slot_made (length E.slots) (length s.slots) s.happened l refl) (rises_line list_made E.lists (length s.lists) s.happened l refl) g
 
   object_ends : (a : ℕ) (node : ℕ) (p : Option Node) (xs : List Words) (stamps : List (Value N)) (here : Scope N) (s : Vat N) → Good K E s → here.act ≡ a → AllOf (NounKnown K E a s) here.nouns → served (opens s) ≡ None → AllOf (Knew K E s a) stamps
       → Ends K E a answer s (calls.object_as K tree node p xs stamps (K.object (length s.things)) here s)
@@ -221,15 +221,16 @@ module _ {N W : Type 0} (K : Naming N W) (E : Ground N) (spots : (i : ℕ) → K
   unfolding eval.match_ended
   fine_match_ended {a = a} {C = C} j k p here g m h = let caught : (n : ℕ) (v : Value N) → Fine K E a (Also C (WasHanded n v)) (if n == j then eval.not_matched K tree p here v else eject n v) answer = λ n v. if_same K E a n j (λ e. fine_not_matched {C = Also C (WasHanded n v)} j n e p here (got_left K E a C (WasHanded n v) (IsScope here) g) v (got_left K E a C (WasHanded n v) (MadeEjector j) k) (got K E a C (WasHanded n v))) (fine_eject K E a n v (got K E a C (WasHanded n v))) in search (fine, fine_leave, fine_answered) depth 30
 
-  pub fine_write_cell : {a : ℕ} {C : Fact N} → (rec : Evaluator N) → GoodEvaluator K E rec → (act : ℕ) → Gets K E a C (IsAct act) → (k : ℕ) → Gets K E a C (IsSlot k) → (v : Value N) → Gets K E a C (IsValue v) → (o : Option (Cell N)) → Gets K E a C (MayCell o) → Fine K E a C (eval.write_cell K tree rec act k v o) IsValue
+  pub fine_write_cell : {a : ℕ} {C : Fact N} → (rec : Evaluator N) → GoodEvaluator K E rec → (act : ℕ) → Gets K E a C (IsAct act) → (k : ℕ) → Gets K E a C (IsSlot k) → (v : Value N) → Gets K E a C (IsValue v) → (o : Option (Cell N)) → Gets K E a C (MayCell k o) → Fine K E a C (eval.write_cell K tree rec act k v o) IsValue
   unfolding eval.write_cell
-  fine_write_cell {a = a} {C = C} rec g_rec act g_act k g_k v g_v None g_o = search (fine) depth 30
-  fine_write_cell {a = a} {C = C} rec g_rec act g_act k g_k v g_v (Some c) g_o = let d : Gets K E a C (IsValue c.guard) = record { at = λ s h. g_o.at s h } in search (fine, fine_coerce, fine_call) depth 30
+  fine_write_cell {a = a} {C = C} rec good act i k g v h None m = search (fine) depth 30
+  fine_write_cell {a = a} {C = C} rec good act i k g v h (Some c) m = let d : Gets K E a C (IsValue c.guard) = record { at = λ s b. (m.at s b).0 } in search (fine, fine_coerce, fine_call) depth 30
 
   pub fine_write_bound : {a : ℕ} {C : Fact N} → (rec : Evaluator N) → GoodEvaluator K E rec → (act : ℕ) → Gets K E a C (IsAct act) → (o : Option (Bound N)) → Gets K E a C (MayBound o) → (v : Value N) → Gets K E a C (IsValue v) → Fine K E a C (eval.write_bound K tree rec act o v) IsValue
   unfolding eval.write_bound
-  fine_write_bound {a = a} {C = C} rec g_rec act g_act (Some (Slot k)) g_o v g_v = let d : Gets K E a C (IsSlot k) = record { at = λ s h. g_o.at s h } in search (fine, fine_write_cell) depth 30
-  fine_write_bound {a = a} {C = C} rec g_rec act g_act _ g_o v g_v = search (fine) depth 30
+  fine_write_bound {a = a} {C = C} rec good act i (Some (Slot k)) h v g = let d : Gets K E a C (IsSlot k) = record { at = λ s b. h.at s b } in fine_bind K E a (MayCell k) (look_cell K E a k d)
+      (λ c. fine_write_cell {C = Also C (MayCell k c)} rec good act (got_left K E a C (MayCell k c) (IsAct act) i) k (got_left K E a C (MayCell k c) (IsSlot k) d) v (got_left K E a C (MayCell k c) (IsValue v) g) c (got K E a C (MayCell k c)))
+  fine_write_bound {a = a} {C = C} rec good act i _ h v g = search (fine) depth 30
 
   pub fine_step : {a : ℕ} {C : Fact N} → (rec : Evaluator N) → GoodEvaluator K E rec → (id : ℕ) → (n : Node) → (here : Scope N) → Gets K E a C (IsScope here) → Fine K E a C (eval.step K tree rec id n here) answer
   unfolding eval.step

@@ -18,9 +18,9 @@ use Rattle.ev_connected_laws.specs.Liveness.{live_at, is_live}
 use Rattle.ev_connected_laws.proofs.Traces.{IsTold, among_last}
 use Rattle.ev_connected_laws.proofs.ArriveTraces.{traces_arrive, traces_notice}
 use Rattle.ev_connected_laws.specs.Activations.{Rises}
-use Rattle.ev_uses_laws.specs.News.{thing_made, slot_made, MadeNew, StepsMakeNew}
+use Rattle.ev_uses_laws.specs.News.{thing_made, slot_made, list_made, MadeNew, StepsMakeNew}
 use Rattle.ev_uses_laws.specs.Laws.{StepsConnect}
-use Rattle.ev_uses_laws.specs.Told.{ObjectsTold, SlotsTold, StepsTell}
+use Rattle.ev_uses_laws.specs.Told.{ObjectsTold, SlotsTold, ReadsTold, StepsTell}
 use Rattle.ev_uses_laws.proofs.ArriveIdle.{idle_arrive, idle_notice}
 use Rattle.ev_uses_laws.proofs.Ground.{Ground, opens, with_line, opens_last, held, Has, Knew, Good, grows_same, makes_none, good_line, good_by}
 use Rattle.ev_uses_laws.proofs.Fine.{Fact, Nothing, Also, IsAct, IsValue, AreValues, IsScope, answer, nothing, Gets, Ends, Fine, passes_same, widen, fine_bind, fine_give, then_line, fine_left, fine_idle}
@@ -68,11 +68,11 @@ module _ {N W : Type 0} (K : Naming N W) (E : Ground N) (spots : (i : ℕ) → K
 
   finished : {C : Fact N} (p : N) (v : Value N) → Gets K E a C (IsValue v) → Fine K E a C (tell (Finished a v) >> resolve K p v) nothing
   unfolding uses by open_after
-  finished p v g = then_line K E a {D = Nothing} (Finished a v) refl refl (λ s. refl) (λ s i c. ((inl (g.at s c), tt), tt)) (λ s c. tt) (fine_left K E a (fine_resolve K E a p v))
+  finished p v g = then_line K E a {D = Nothing} (Finished a v) refl refl refl (λ s. refl) (λ s i c. ((inl (g.at s c), tt), tt)) (λ s c. tt) (λ s c. tt) (fine_left K E a (fine_resolve K E a p v))
 
   threw : {C : Fact N} (p : N) (t : Words) → Fine K E a C (tell (Threw a t) >> settle K p (Broken t)) nothing
   unfolding uses by open_after
-  threw p t = then_line K E a {D = Nothing} (Threw a t) refl refl (λ s. refl) (λ s i c. (tt, tt)) (λ s c. tt) (fine_left K E a (fine_settle K E a p (Broken t)))
+  threw p t = then_line K E a {D = Nothing} (Threw a t) refl refl refl (λ s. refl) (λ s i c. (tt, tt)) (λ s c. tt) (λ s c. tt) (fine_left K E a (fine_settle K E a p (Broken t)))
 
   closes_ends : (p : N) (s : Vat N) (d : Done N (Value N)) → Ends K E a IsValue s d → Ends K E a nothing s (end_by (λ v. tell (Finished a v) >> resolve K p v) (λ t. tell (Threw a t) >> settle K p (Broken t)) (λ n v. stop Astray) d)
   unfolding end_by stop
@@ -127,7 +127,7 @@ module _ {N W : Type 0} (K : Naming N W) (E : Ground N) (spots : (i : ℕ) → K
   counted s = record s { activations = suc s.activations }
 
   good_counted : (s : Vat N) → Good K E s → Good K E (counted s)
-  good_counted s g = good_by K E s (counted s) refl refl (grows_same K E s).grown (makes_none K E s (counted s) refl refl) g
+  good_counted s g = good_by K E s (counted s) refl refl (grows_same K E s).grown (makes_none K E s (counted s) refl refl) refl g
 
   no_calls : (s : Vat N) → s.happened ≡ [] → served (opens s) ≡ None
   unfolding served open_from
@@ -143,7 +143,7 @@ module _ {N W : Type 0} (K : Naming N W) (E : Ground N) (spots : (i : ℕ) → K
 
   took_good : (r : Vat N) (m : Message N) → Good K E r → Good K E (with_line r (Took a m))
   unfolding uses
-  took_good r m g = good_line K E r (Took a m) refl refl g (tt, tt)
+  took_good r m g = good_line K E r (Took a m) refl refl refl g (tt, tt) tt
 
   took_none : (r : Vat N) (m : Message N) → served (opens r) ≡ None → served (opens (with_line r (Took a m))) ≡ None
   unfolding open_after
@@ -169,20 +169,22 @@ module _ {N W : Type 0} (K : Naming N W) (spots : (i : ℕ) → K.spot (K.object
   first_told ks so Unsettled n e = tt
 
   -- at the beginning of a step
-  good_first : (given : List (ℕ × Item N)) (s : Vat N) → s.happened ≡ [] → ((i : ℕ) → live_at s.things i ≡ false) → Good K (record { things = s.things; slots = s.slots; before = s.known; given = given }) s
+  good_first : (given : List (ℕ × Item N)) (s : Vat N) → s.happened ≡ [] → ((i : ℕ) → live_at s.things i ≡ false) → Good K (record { things = s.things; slots = s.slots; lists = length s.lists; before = s.known; given = given }) s
   unfolding is_live
   good_first given s e still = record {
     told = λ n. first_told s.known s.happened (standing_of K s.known n) n refl;
-    lines = subst (λ es. Connected K (held K (record { things = s.things; slots = s.slots; before = s.known; given = given }) s) es) (sym e) tt;
+    lines = subst (λ es. Connected K (held K (record { things = s.things; slots = s.slots; lists = length s.lists; before = s.known; given = given }) s) es) (sym e) tt;
     judged = λ i view f. absurd (true_false (sym (live_found s.things i (Audition true view) f) ∙ still i));
     made = λ i node caught stamps f. inl f;
     cells = λ k c f. inl (c, f, refl);
+    reads = subst (λ es. ReadsTold s.slots [] es) (sym e) tt;
     things_rise = subst (λ es. Rises (length s.things) (map (thing_made K) es) (length s.things)) (sym e) (no_less (length s.things));
     slots_rise = subst (λ es. Rises (length s.slots) (map slot_made es) (length s.slots)) (sym e) (no_less (length s.slots));
+    lists_rise = subst (λ es. Rises (length s.lists) (map list_made es) (length s.lists)) (sym e) (no_less (length s.lists));
   }
 
   abbrev ground : Step N W → Vat N → Ground N
-  ground step s = record { things = s.things; slots = s.slots; before = s.known; given = given_to s step }
+  ground step s = record { things = s.things; slots = s.slots; lists = length s.lists; before = s.known; given = given_to s step }
 
   ends_good : (E : Ground N) (a : ℕ) {A : Type 0} (G : A → Fact N) (r s : Vat N) (d : Done N A) → Ends K E a G s d → After (λ s t. Good K E t) r d
   ends_good E a G r s (Gives x t) h = h.1
@@ -208,17 +210,17 @@ module _ {N W : Type 0} (K : Naming N W) (spots : (i : ℕ) → K.spot (K.object
   good_connected step s (Ejects n v t) h = h.lines
   good_connected step s (Stops c t) h = h.lines
 
-  good_told : (step : Step N W) (s : Vat N) (d : Done N (Unit {0})) → After (λ r t. Good K (ground step s) t) s d → After (λ s t. ObjectsTold K s t × SlotsTold s t) s d
-  good_told step s (Gives x t) h = (h.made, h.cells)
-  good_told step s (Throws p t) h = (h.made, h.cells)
-  good_told step s (Ejects n v t) h = (h.made, h.cells)
-  good_told step s (Stops c t) h = (h.made, h.cells)
+  good_told : (step : Step N W) (s : Vat N) (d : Done N (Unit {0})) → After (λ r t. Good K (ground step s) t) s d → After (λ s t. ObjectsTold K s t × SlotsTold s t × ReadsTold s.slots [] t.happened) s d
+  good_told step s (Gives x t) h = (h.made, h.cells, h.reads)
+  good_told step s (Throws p t) h = (h.made, h.cells, h.reads)
+  good_told step s (Ejects n v t) h = (h.made, h.cells, h.reads)
+  good_told step s (Stops c t) h = (h.made, h.cells, h.reads)
 
   good_new : (step : Step N W) (s : Vat N) (d : Done N (Unit {0})) → After (λ r t. Good K (ground step s) t) s d → After (MadeNew K) s d
-  good_new step s (Gives x t) h = (h.things_rise, h.slots_rise)
-  good_new step s (Throws p t) h = (h.things_rise, h.slots_rise)
-  good_new step s (Ejects n v t) h = (h.things_rise, h.slots_rise)
-  good_new step s (Stops c t) h = (h.things_rise, h.slots_rise)
+  good_new step s (Gives x t) h = (h.things_rise, h.slots_rise, h.lists_rise)
+  good_new step s (Throws p t) h = (h.things_rise, h.slots_rise, h.lists_rise)
+  good_new step s (Ejects n v t) h = (h.things_rise, h.slots_rise, h.lists_rise)
+  good_new step s (Stops c t) h = (h.things_rise, h.slots_rise, h.lists_rise)
 
   pub steps_make_new : StepsMakeNew K
   steps_make_new step s e still = good_new step s (does K step s) (steps_good step s e still)

@@ -9,14 +9,18 @@ use Rattle.ev_connected_laws.specs.Laws as laws
 use Rattle.ev_connected_laws.proofs.Knowing.{among_more, reaches_more, thing_more, knows_more, knows_later}
 use Rattle.ev_connected_laws.proofs.Traces.{Told, traces_tell}
 use Rattle.ev_connected_laws.specs.Activations.{Rises}
-use Rattle.ev_uses_laws.specs.News.{thing_made, slot_made}
-use Rattle.ev_uses_laws.proofs.News.{rises_line, rises_idle}
+use Rattle.ev_uses_laws.specs.Told.{ReadTold, ReadsTold}
+use Rattle.ev_uses_laws.specs.News.{thing_made, slot_made, list_made}
+use Rattle.ev_uses_laws.proofs.Rising.{rises_line}
+use Rattle.ev_uses_laws.proofs.News.{rises_idle}
 use Rattle.ev_uses_laws.proofs.Idle.{joined, no_more, IsIdle, Idles}
 
 -- what the vat had before the step, and what the step is given
 pub record Ground (N : Type 0) : Type 0 where
   pub things : List (Thing N)
   pub slots : List (Cell N)
+  -- the count of its lists
+  pub lists : ℕ
   -- what was known of names
   pub before : List (Known N)
   pub given : List (ℕ × Item N)
@@ -24,6 +28,45 @@ pub record Ground (N : Type 0) : Type 0 where
 pub all_map : {A : Type 0} (P Q : A → Type 0) → ((x : A) → P x → Q x) → (xs : List A) → AllOf P xs → AllOf Q xs
 all_map P Q f [] h = tt
 all_map P Q f (x ∷ xs) h = (f x h.0, all_map P Q f xs h.1)
+
+module _ {N : Type 0} (slots : List (Cell N)) where
+  reads_end : (so es : List (Happened N)) (e : Happened N) → ReadsTold slots so es → ReadTold slots (so ++ es) e → ReadsTold slots so (es ++ e ∷ [])
+  reads_end so [] e k l = (subst (λ xs. ReadTold slots xs e) (sym (no_more so)) l, tt)
+  reads_end so (x ∷ es) e k l = (k.0, reads_end (so ++ x ∷ []) es e k.1 (subst (λ xs. ReadTold slots xs e) (sym (joined so (x ∷ []) es)) l))
+
+  reads_join : (so es more : List (Happened N)) → ReadsTold slots so es → ReadsTold slots (so ++ es) more → ReadsTold slots so (es ++ more)
+  reads_join so [] more k l = subst (λ xs. ReadsTold slots xs more) (sym (no_more so)) l
+  reads_join so (x ∷ es) more k l = (k.0, reads_join (so ++ x ∷ []) es more k.1 (subst (λ xs. ReadsTold slots xs more) (sym (joined so (x ∷ []) es)) l))
+
+  idle_read : (so : List (Happened N)) (e : Happened N) → IsIdle e → ReadTold slots so e
+  idle_read so (Settles p y) k = tt
+  idle_read so (Waits p q) k = tt
+  idle_read so (Views p q) k = tt
+  idle_read so (Lost m) k = tt
+  idle_read so (Posted w m) k = tt
+  idle_read so (ListCame n vs) k = tt
+  idle_read so (Took _ _) k = elim k [ ]
+  idle_read so (Called _ _ _ _ _) k = elim k [ ]
+  idle_read so (Back _ _) k = elim k [ ]
+  idle_read so (Thrown _ _) k = elim k [ ]
+  idle_read so (Left _) k = elim k [ ]
+  idle_read so (Got _ _) k = elim k [ ]
+  idle_read so (SlotMade _ _ _) k = elim k [ ]
+  idle_read so (SlotRead _ _ _) k = elim k [ ]
+  idle_read so (SlotWrote _ _ _) k = elim k [ ]
+  idle_read so (ListMade _ _ _) k = elim k [ ]
+  idle_read so (EjectorMade _ _) k = elim k [ ]
+  idle_read so (AuditionMade _ _) k = elim k [ ]
+  idle_read so (PromiseMade _ _ _) k = elim k [ ]
+  idle_read so (ObjectMade _ _ _ _ _) k = elim k [ ]
+  idle_read so (Sends _ _) k = elim k [ ]
+  idle_read so (Reacts _ _ _ _) k = elim k [ ]
+  idle_read so (Finished _ _) k = elim k [ ]
+  idle_read so (Threw _ _) k = elim k [ ]
+
+  idles_read : (so es : List (Happened N)) → AllOf IsIdle es → ReadsTold slots so es
+  idles_read so [] k = tt
+  idles_read so (e ∷ es) k = (idle_read so e k.0, idles_read (so ++ e ∷ []) es k.1)
 
 module _ {N W : Type 0} (K : Naming N W) (h later : Holdings N) (grown : laws.Grown h later) where
   thing_later : (so : List (Happened N)) (x : Value N) (i : ℕ) → IsThing K h.before so x i → IsThing K later.before so x i
@@ -211,8 +254,11 @@ module _ {N W : Type 0} (K : Naming N W) (E : Ground N) where
   ObjectTold s i node caught stamps = (slice_get E.things i ≡ Some (Made node caught stamps)) ⊎ ((b : ℕ) × (x : Words) × IsAmong (ObjectMade b (K.object i) x (map (λ c. c.bound) caught) stamps) s.happened)
 
   -- what is in a slot was there before the step, or a line tells that it was put there
+  abbrev pub PutTold : Vat N → ℕ → Value N → Type 0
+  PutTold s k v = ((d : Cell N) × (slice_get E.slots k ≡ Some d) × (d.value ≡ v)) ⊎ ((b : ℕ) × (IsAmong (SlotMade b k v) s.happened ⊎ IsAmong (SlotWrote b k v) s.happened))
+
   abbrev pub CellTold : Vat N → ℕ → Cell N → Type 0
-  CellTold s k c = ((d : Cell N) × (slice_get E.slots k ≡ Some d) × (d.value ≡ c.value)) ⊎ ((b : ℕ) × (IsAmong (SlotMade b k c.value) s.happened ⊎ IsAmong (SlotWrote b k c.value) s.happened))
+  CellTold s k c = PutTold s k c.value
 
   -- what holds so far
   pub record Good (s : Vat N) : Type 0 where
@@ -221,8 +267,10 @@ module _ {N W : Type 0} (K : Naming N W) (E : Ground N) where
     pub judged : (i : ℕ) (view : View N) → slice_get s.things i ≡ Some (Audition true view) → Judged s i view
     pub made : (i node : ℕ) (caught : List (Binding N)) (stamps : List (Value N)) → slice_get s.things i ≡ Some (Made node caught stamps) → ObjectTold s i node caught stamps
     pub cells : (k : ℕ) (c : Cell N) → slice_get s.slots k ≡ Some c → CellTold s k c
+    pub reads : ReadsTold E.slots [] s.happened
     pub things_rise : Rises (length E.things) (map (thing_made K) s.happened) (length s.things)
     pub slots_rise : Rises (length E.slots) (map slot_made s.happened) (length s.slots)
+    pub lists_rise : Rises E.lists (map list_made s.happened) (length s.lists)
 
   -- no audition is made live, no object is made, and nothing is put in a slot
   pub record MakesNone (s t : Vat N) : Type 0 where
@@ -273,13 +321,16 @@ module _ {N W : Type 0} (K : Naming N W) (E : Ground N) where
     object_up i node caught stamps (inl e) = inl e
     object_up i node caught stamps (inr k) = inr (k.0, k.1, among_up (ObjectMade k.0 (K.object i) k.1 (map (λ c. c.bound) caught) stamps) k.2)
 
+    either_up : (b k : ℕ) (v : Value N) → IsAmong (SlotMade b k v) s.happened ⊎ IsAmong (SlotWrote b k v) s.happened → IsAmong (SlotMade b k v) t.happened ⊎ IsAmong (SlotWrote b k v) t.happened
+    either_up b k v (inl i) = inl (among_up (SlotMade b k v) i)
+    either_up b k v (inr i) = inr (among_up (SlotWrote b k v) i)
+
+    pub put_up : (k : ℕ) (v : Value N) → PutTold s k v → PutTold t k v
+    put_up k v (inl h) = inl h
+    put_up k v (inr h) = inr (h.0, either_up h.0 k v h.1)
+
     pub cell_up : (k : ℕ) (c : Cell N) → CellTold s k c → CellTold t k c
-    cell_up k c (inl h) = inl h
-    cell_up k c (inr h) = inr (h.0, either_up h.0 h.1)
-      where
-        either_up : (b : ℕ) → IsAmong (SlotMade b k c.value) s.happened ⊎ IsAmong (SlotWrote b k c.value) s.happened → IsAmong (SlotMade b k c.value) t.happened ⊎ IsAmong (SlotWrote b k c.value) t.happened
-        either_up b (inl i) = inl (among_up (SlotMade b k c.value) i)
-        either_up b (inr i) = inr (among_up (SlotWrote b k c.value) i)
+    cell_up k c h = put_up k c.value h
 
     pub given_up : (a : ℕ) (x : Value N) (o : Option ℕ) (v : Value N) → GivenBack K (held s) s.happened a x o v → GivenBack K (held t) t.happened a x o v
     given_up a x (Some b) v k = has_up b (AValue v) k
@@ -316,20 +367,23 @@ module _ {N W : Type 0} (K : Naming N W) (E : Ground N) where
   grows_by s t e g = record { more = []; lines = e ∙ no_more s.happened; grown = g }
 
   -- one more line, and what is made with it
-  pub good_block : (s t : Vat N) (e : Happened N) → t.happened ≡ s.happened ++ e ∷ [] → Told K E.before t → laws.Grown (held s) (held t) → LineWell K (held t) s.happened e
+  pub good_block : (s t : Vat N) (e : Happened N) → t.happened ≡ s.happened ++ e ∷ [] → Told K E.before t → laws.Grown (held s) (held t) → LineWell K (held t) s.happened e → ReadTold E.slots s.happened e
       → ((i : ℕ) (view : View N) → slice_get t.things i ≡ Some (Audition true view) → (slice_get s.things i ≡ Some (Audition true view)) ⊎ Judged t i view)
       → ((i node : ℕ) (caught : List (Binding N)) (stamps : List (Value N)) → slice_get t.things i ≡ Some (Made node caught stamps) → (slice_get s.things i ≡ Some (Made node caught stamps)) ⊎ ObjectTold t i node caught stamps)
       → ((k : ℕ) (c : Cell N) → slice_get t.slots k ≡ Some c → (slice_get s.slots k ≡ Some c) ⊎ CellTold t k c)
       → (Rises (length E.things) (map (thing_made K) s.happened) (length s.things) → Rises (length E.things) (map (thing_made K) (s.happened ++ e ∷ [])) (length t.things))
-      → (Rises (length E.slots) (map slot_made s.happened) (length s.slots) → Rises (length E.slots) (map slot_made (s.happened ++ e ∷ [])) (length t.slots)) → Good s → Good t
-  good_block s t e f r g l au ob ce tr sr h = let grows : Grows s t = record { more = e ∷ []; lines = f; grown = g } in record {
+      → (Rises (length E.slots) (map slot_made s.happened) (length s.slots) → Rises (length E.slots) (map slot_made (s.happened ++ e ∷ [])) (length t.slots))
+      → (Rises E.lists (map list_made s.happened) (length s.lists) → Rises E.lists (map list_made (s.happened ++ e ∷ [])) (length t.lists)) → Good s → Good t
+  good_block s t e f r g l rd au ob ce tr sr lr h = let grows : Grows s t = record { more = e ∷ []; lines = f; grown = g } in record {
     told = r;
     lines = subst (λ es. Connected K (held t) es) (sym f) (connected_end K (held t) [] s.happened e (connected_later K (held s) (held t) g [] s.happened h.lines) l);
     judged = λ i view k. by_audition grows i view (au i view k);
     made = λ i node caught stamps k. by_object grows i node caught stamps (ob i node caught stamps k);
     cells = λ i c k. by_cell grows i c (ce i c k);
+    reads = subst (λ es. ReadsTold E.slots [] es) (sym f) (reads_end E.slots [] s.happened e h.reads rd);
     things_rise = subst (λ es. Rises (length E.things) (map (thing_made K) es) (length t.things)) (sym f) (tr h.things_rise);
     slots_rise = subst (λ es. Rises (length E.slots) (map slot_made es) (length t.slots)) (sym f) (sr h.slots_rise);
+    lists_rise = subst (λ es. Rises E.lists (map list_made es) (length t.lists)) (sym f) (lr h.lists_rise);
   }
     where
       by_audition : Grows s t → (i : ℕ) (view : View N) → (slice_get s.things i ≡ Some (Audition true view)) ⊎ Judged t i view → Judged t i view
@@ -345,21 +399,23 @@ module _ {N W : Type 0} (K : Naming N W) (E : Ground N) where
       by_cell w k c (inr n) = n
 
   -- a line that is connected
-  pub good_line : (s : Vat N) (e : Happened N) → thing_made K e ≡ None → slot_made e ≡ None → Good s → LineWell K (held s) s.happened e → Good (with_line s e)
+  pub good_line : (s : Vat N) (e : Happened N) → thing_made K e ≡ None → slot_made e ≡ None → list_made e ≡ None → Good s → LineWell K (held s) s.happened e → ReadTold E.slots s.happened e → Good (with_line s e)
   unfolding tell
-  good_line s e nil none g l = good_block s (with_line s e) e refl ((traces_tell K E.before e).after s g.told) (same_grown (held s)) l (λ i view k. inl k) (λ i node caught stamps k. inl k) (λ i c k. inl k)
-      (rises_line (thing_made K) (length E.things) (length s.things) s.happened e nil) (rises_line slot_made (length E.slots) (length s.slots) s.happened e none) g
+  good_line s e nil none new g l rd = good_block s (with_line s e) e refl ((traces_tell K E.before e).after s g.told) (same_grown (held s)) l rd (λ i view k. inl k) (λ i node caught stamps k. inl k) (λ i c k. inl k)
+      (rises_line (thing_made K) (length E.things) (length s.things) s.happened e nil) (rises_line slot_made (length E.slots) (length s.slots) s.happened e none) (rises_line list_made E.lists (length s.lists) s.happened e new) g
 
   -- a change that tells nothing, and makes none of these
-  pub good_by : (s t : Vat N) → t.happened ≡ s.happened → t.known ≡ s.known → laws.Grown (held s) (held t) → MakesNone s t → Good s → Good t
-  good_by s t e f g m k = let grows : Grows s t = grows_by s t e g in record {
+  pub good_by : (s t : Vat N) → t.happened ≡ s.happened → t.known ≡ s.known → laws.Grown (held s) (held t) → MakesNone s t → length t.lists ≡ length s.lists → Good s → Good t
+  good_by s t e f g m q k = let grows : Grows s t = grows_by s t e g in record {
     told = rw (e, f) k.told;
     lines = subst (λ es. Connected K (held t) es) (sym e) (connected_later K (held s) (held t) g [] s.happened k.lines);
     judged = λ i view j. judged_up s t grows i view (k.judged i view (m.auditions i view j));
     made = λ i node caught stamps j. object_up s t grows i node caught stamps (k.made i node caught stamps (m.objects i node caught stamps j));
     cells = λ i c j. cell_up s t grows i c (k.cells i c (m.cells i c j));
+    reads = subst (λ es. ReadsTold E.slots [] es) (sym e) k.reads;
     things_rise = subst (λ es. Rises (length E.things) (map (thing_made K) es) (length t.things)) (sym e) (subst (λ n. Rises (length E.things) (map (thing_made K) s.happened) n) (sym m.things) k.things_rise);
     slots_rise = subst (λ es. Rises (length E.slots) (map slot_made es) (length t.slots)) (sym e) (subst (λ n. Rises (length E.slots) (map slot_made s.happened) n) (sym m.slots) k.slots_rise);
+    lists_rise = subst (λ es. Rises E.lists (map list_made es) (length t.lists)) (sym e) (subst (λ n. Rises E.lists (map list_made s.happened) n) (sym q) k.lists_rise);
   }
 
   idle_thing : (e : Happened N) → IsIdle e → thing_made K e ≡ None
@@ -433,6 +489,8 @@ module _ {N W : Type 0} (K : Naming N W) (E : Ground N) where
     judged = λ n view e. judged_up s t (idles_grows s t i) n view (g.judged n view ((makes_none s t i.things i.slots).auditions n view e));
     made = λ n node caught stamps e. object_up s t (idles_grows s t i) n node caught stamps (g.made n node caught stamps ((makes_none s t i.things i.slots).objects n node caught stamps e));
     cells = λ n c e. cell_up s t (idles_grows s t i) n c (g.cells n c ((makes_none s t i.things i.slots).cells n c e));
+    reads = subst (λ es. ReadsTold E.slots [] es) (sym i.lines) (reads_join E.slots [] s.happened i.more g.reads (idles_read E.slots s.happened i.more i.idle));
     things_rise = subst (λ es. Rises (length E.things) (map (thing_made K) es) (length t.things)) (sym i.lines) (rises_idle (thing_made K) idle_thing (length E.things) (length t.things) s.happened i.more i.idle (subst (λ n. Rises (length E.things) (map (thing_made K) s.happened) n) (sym (ap length i.things)) g.things_rise));
     slots_rise = subst (λ es. Rises (length E.slots) (map slot_made es) (length t.slots)) (sym i.lines) (rises_idle slot_made idle_slot (length E.slots) (length t.slots) s.happened i.more i.idle (subst (λ n. Rises (length E.slots) (map slot_made s.happened) n) (sym (ap length i.slots)) g.slots_rise));
+    lists_rise = i.lists_rise E.lists g.lists_rise;
   }

@@ -1,10 +1,13 @@
 -- What tells of names, messages and lists that come, and of nothing else; it makes no thing and no slot.
-use Rattle.std.proofs.Common.{◌≡◌, ℕ, ◌-◌, Bool, true, false, List, [], ◌∷◌, ◌++◌, Option, Some, None, if◌then◌else◌, refl, ap, ◌∙◌}
+use Rattle.std.proofs.Common.{◌≡◌, ℕ, ◌-◌, Bool, true, false, List, [], ◌∷◌, ◌++◌, Option, Some, None, if◌then◌else◌, refl, ap, ◌∙◌, length, map, subst, sym}
 use Rattle.std.specs.Prelude.{nat_le, slice_get}
 use Rattle.ev_machine.specs.Values.{Words, Value, Naming, Coming, Mailing}
 use Rattle.ev_machine.specs.State.{Message, Happened, ListCame, Settles, Waits, Views, Lost, Posted, Vat, Stop, Done, Gives, Throws, Ejects, Stops, Act, ◌>>=◌, ◌>>◌, and_then, for_some, each, give, throw, stop, look, tell, spend, spent, new_list, enqueue, Change, Note, send_out, new_gift, open_gift, mark, draws, alter, come, mail, new_promise, new_message, draw}
 use Rattle.ev_machine_laws.proofs.StepLaws.{get_append}
 use Rattle.ev_connected_laws.specs.Known.{AllOf}
+use Rattle.ev_connected_laws.specs.Activations.{Rises}
+use Rattle.ev_uses_laws.specs.News.{list_made}
+use Rattle.ev_uses_laws.proofs.Rising.{rises_line, rises_new, length_end}
 
 -- a line by which no activation does or knows anything
 abbrev pub IsIdle : {N : Type 0} → Happened N → Type 0
@@ -23,6 +26,8 @@ pub record Idles {N : Type 0} (s t : Vat N) : Type 0 where
   pub things : t.things ≡ s.things
   pub slots : t.slots ≡ s.slots
   pub lists : (k : ℕ) (vs : List (Value N)) → slice_get s.lists k ≡ Some vs → slice_get t.lists k ≡ Some vs
+  -- lists that come have the next numbers
+  pub lists_rise : (n : ℕ) → Rises n (map list_made s.happened) (length s.lists) → Rises n (map list_made t.happened) (length t.lists)
 
 -- how it ends; it is left by no ejector
 abbrev pub IdleEnds : {N A : Type 0} → Vat N → Done N A → Type 0
@@ -48,7 +53,7 @@ all_join P (x ∷ xs) ys h k = (h.0, all_join P xs ys h.1 k)
 
 module _ {N : Type 0} where
   pub idles_same : (s t : Vat N) → t.happened ≡ s.happened → t.things ≡ s.things → t.slots ≡ s.slots → t.lists ≡ s.lists → Idles s t
-  idles_same s t e f g h = record { more = []; lines = e ∙ no_more s.happened; idle = tt; things = f; slots = g; lists = λ k vs i. ap (λ ls. slice_get ls k) h ∙ i }
+  idles_same s t e f g h = record { more = []; lines = e ∙ no_more s.happened; idle = tt; things = f; slots = g; lists = λ k vs i. ap (λ ls. slice_get ls k) h ∙ i; lists_rise = λ n r. subst (λ es. Rises n (map list_made es) (length t.lists)) (sym e) (subst (λ k. Rises n (map list_made s.happened) k) (sym (ap length h)) r) }
 
   pub idles_trans : (s t u : Vat N) → Idles s t → Idles t u → Idles s u
   idles_trans s t u h k = record {
@@ -58,10 +63,11 @@ module _ {N : Type 0} where
     things = k.things ∙ h.things;
     slots = k.slots ∙ h.slots;
     lists = λ n vs i. k.lists n vs (h.lists n vs i);
+    lists_rise = λ n r. k.lists_rise n (h.lists_rise n r);
   }
 
-  idles_line : (s : Vat N) (e : Happened N) → IsIdle e → Idles s (record s { happened = s.happened ++ e ∷ [] })
-  idles_line s e i = record { more = e ∷ []; lines = refl; idle = (i, tt); things = refl; slots = refl; lists = λ k vs f. f }
+  idles_line : (s : Vat N) (e : Happened N) → IsIdle e → list_made e ≡ None → Idles s (record s { happened = s.happened ++ e ∷ [] })
+  idles_line s e i q = record { more = e ∷ []; lines = refl; idle = (i, tt); things = refl; slots = refl; lists = λ k vs f. f; lists_rise = λ n r. rises_line list_made n (length s.lists) s.happened e q r }
 
   widen : {A : Type 0} (s t : Vat N) → Idles s t → (d : Done N A) → IdleEnds t d → IdleEnds s d
   widen s t r (Gives a u) h = idles_trans s t u r h
@@ -109,29 +115,25 @@ module _ {N : Type 0} where
   unfolding look
   idle_look f = record { after = λ s. idles_same s s refl refl refl refl }
 
-  pub tells_list_came : (k : ℕ) (vs : List (Value N)) → Idle (tell (ListCame k vs))
-  unfolding tell
-  tells_list_came k vs = record { after = λ s. idles_line s (ListCame k vs) tt }
-
   pub tells_settles : (p : N) (y : Value N) → Idle (tell (Settles p y))
   unfolding tell
-  tells_settles p y = record { after = λ s. idles_line s (Settles p y) tt }
+  tells_settles p y = record { after = λ s. idles_line s (Settles p y) tt refl }
 
   pub tells_waits : (p q : N) → Idle (tell (Waits p q))
   unfolding tell
-  tells_waits p q = record { after = λ s. idles_line s (Waits p q) tt }
+  tells_waits p q = record { after = λ s. idles_line s (Waits p q) tt refl }
 
   pub tells_views : (p q : N) → Idle (tell (Views p q))
   unfolding tell
-  tells_views p q = record { after = λ s. idles_line s (Views p q) tt }
+  tells_views p q = record { after = λ s. idles_line s (Views p q) tt refl }
 
   pub tells_lost : (m : N) → Idle (tell (Lost m))
   unfolding tell
-  tells_lost m = record { after = λ s. idles_line s (Lost m) tt }
+  tells_lost m = record { after = λ s. idles_line s (Lost m) tt refl }
 
   pub tells_posted : (w : ℕ) (m : N) → Idle (tell (Posted w m))
   unfolding tell
-  tells_posted w m = record { after = λ s. idles_line s (Posted w m) tt }
+  tells_posted w m = record { after = λ s. idles_line s (Posted w m) tt refl }
 
   spend_after : (s : Vat N) (n : ℕ) (b : Bool) → IdleEnds s (spent n b s)
   unfolding spent
@@ -142,9 +144,21 @@ module _ {N : Type 0} where
   unfolding spend
   idle_spend n = record { after = λ s. spend_after s n (nat_le n s.fuel) }
 
-  pub idle_list : (vs : List (Value N)) → Idle {N = N} (new_list vs)
-  unfolding new_list
-  idle_list vs = record { after = λ s. record { more = []; lines = no_more s.happened; idle = tt; things = refl; slots = refl; lists = λ k ws e. get_append s.lists (vs ∷ []) k ws e } }
+  came : (s : Vat N) (vs : List (Value N)) → Idles s (record s { lists = s.lists ++ vs ∷ []; happened = s.happened ++ ListCame (length s.lists) vs ∷ [] })
+  came s vs = record {
+    more = ListCame (length s.lists) vs ∷ [];
+    lines = refl;
+    idle = (tt, tt);
+    things = refl;
+    slots = refl;
+    lists = λ k ws e. get_append s.lists (vs ∷ []) k ws e;
+    lists_rise = λ n r. subst (λ m. Rises n (map list_made (s.happened ++ ListCame (length s.lists) vs ∷ [])) m) (sym (length_end s.lists vs)) (rises_new list_made n (length s.lists) s.happened (ListCame (length s.lists) vs) refl r);
+  }
+
+  -- a list comes, and its line is told
+  pub idle_came : {B : Type 0} (vs : List (Value N)) {m : ℕ → Act N B} → ((k : ℕ) → Idle (m k)) → Idle (new_list vs >>= (λ k. tell (ListCame k vs) >> m k))
+  unfolding new_list ◌>>=◌ tell ◌>>◌ and_then
+  idle_came vs {m = m} h = record { after = λ s. let k = length s.lists in let t : Vat N = record s { lists = s.lists ++ vs ∷ []; happened = s.happened ++ ListCame k vs ∷ [] } in widen s t (came s vs) (m k t) ((h k).after t) }
 
   pub idle_enqueue : (m : Message N) → Idle {N = N} (enqueue m)
   unfolding enqueue
@@ -201,4 +215,4 @@ module _ {N W : Type 0} (K : Naming N W) where
   unfolding draw
   idle_draw = record { after = λ s. draws_after s _ _ }
 
-pub ruleset idle = (idle_bind, idle_then, idle_some, idle_if, idle_give, idle_throw, idle_stop, idle_look, tells_list_came, tells_settles, tells_waits, tells_views, tells_lost, tells_posted, idle_spend, idle_list, idle_enqueue, idle_out, idle_gift, idle_open, idle_mark, idle_each, idle_alter, idle_come, idle_mail, idle_promise, idle_message, idle_draw)
+pub ruleset idle = (idle_bind, idle_then, idle_some, idle_if, idle_give, idle_throw, idle_stop, idle_look, tells_settles, tells_waits, tells_views, tells_lost, tells_posted, idle_spend, idle_enqueue, idle_out, idle_gift, idle_open, idle_mark, idle_each, idle_alter, idle_come, idle_mail, idle_promise, idle_message, idle_draw)

@@ -1,3 +1,4 @@
+pub mod Rising
 pub mod Idle
 pub mod RefsIdle
 pub mod ArriveIdle

@@ -21,7 +21,7 @@ use Rattle.ev_connected_laws.specs.Known.{ASlot, IsAmong, AllOf, Reaches, itself
 use Rattle.ev_connected_laws.specs.Natives.{ReplyHas}
 use Rattle.ev_connected_laws.proofs.Natives.{either_has, entry_has, answers_known}
 use Rattle.ev_connected_laws.proofs.StepTraces.{told_follows}
-use Rattle.ev_uses_laws.proofs.Ground.{Ground, held, Has, Knew, FreedomKnown, Good}
+use Rattle.ev_uses_laws.proofs.Ground.{Ground, held, Has, Knew, FreedomKnown, Good, PutTold}
 use Rattle.ev_uses_laws.proofs.Asked.{compared_has, range_has, null_reply_has, asked_has}
 use Rattle.ev_uses_laws.proofs.Fine.{MayBe, Fact, Nothing, Also, IsAct, IsValue, AreValues, AreLists, IsSlot, IsBound, IsScope, MayValue, MayBound, MayCell, Leads, IsReply, IsAsked, IsAuditionAsk, MayHand, WasCalled, IsAt, IsJudging, IsJudged, MayGive, MayThing, BoundKnown, NounKnown, AuditionAskKnown, Handed, ThingThere, Gets, Fine, fine_sees}
 
@@ -189,12 +189,12 @@ module _ {N W : Type 0} (K : Naming N W) (E : Ground N) (a : ℕ) where
   pub look_list : {C : Fact N} (k : ℕ) → Gets K E a C (IsValue (Items k)) → Fine K E a C (look (λ s. list_at s.lists k)) AreValues
   look_list k g = fine_sees K E a (λ s. list_at s.lists k) AreValues (λ s h c. members_known s k (g.at s c))
 
-  guard_known : (s : Vat N) (k : ℕ) (o : Option (Cell N)) → slice_get s.slots k ≡ o → Has K E s a (ASlot k) → MayBe (λ c. Knew K E s a c.guard) o
-  guard_known s k (Some c) e h = guard k c h e
-  guard_known s k None e h = tt
+  cell_known : (s : Vat N) → Good K E s → (k : ℕ) (o : Option (Cell N)) → slice_get s.slots k ≡ o → Has K E s a (ASlot k) → MayBe (λ c. Knew K E s a c.guard × PutTold K E s k c.value) o
+  cell_known s g k (Some c) e h = (guard k c h e, g.cells k c e)
+  cell_known s g k None e h = tt
 
-  pub look_cell : {C : Fact N} (k : ℕ) → Gets K E a C (IsSlot k) → Fine K E a C (look (λ s. slice_get s.slots k)) MayCell
-  look_cell k g = fine_sees K E a (λ s. slice_get s.slots k) MayCell (λ s h c. guard_known s k (slice_get s.slots k) refl (g.at s c))
+  pub look_cell : {C : Fact N} (k : ℕ) → Gets K E a C (IsSlot k) → Fine K E a C (look (λ s. slice_get s.slots k)) (MayCell k)
+  look_cell k g = fine_sees K E a (λ s. slice_get s.slots k) (MayCell k) (λ s h c. cell_known s h k (slice_get s.slots k) refl (g.at s c))
 
   thing_there : (s : Vat N) → Good K E s → (i : ℕ) (o : Option (Thing N)) → slice_get s.things i ≡ o → MayBe (ThingThere K E a s i) o
   thing_there s g i (Some (Made node caught stamps)) e = e

@@ -2,7 +2,7 @@
 use Rattle.std.proofs.Common.{◌≡◌, ℕ, Bool, true, false, List, [], ◌∷◌, ◌++◌, Option, None, if◌then◌else◌, refl, ap, ◌∙◌, subst, map, inl, inr, ◌==◌}
 use Rattle.std.proofs.lemmas.Bool.{eqb-true}
 use Rattle.ev_machine.specs.Values.{Words, Value, Ref, Naming, Own}
-use Rattle.ev_machine.specs.State.{Bound, Fixed, Slot, Binding, Scope, Cell, Ejector, Resolver, Message, Standing, Happened, Called, Back, Thrown, Left, Got, EjectorMade, PromiseMade, Sends, Reacts, Vat, Done, Gives, Throws, Ejects, Stops, Act, ◌>>=◌, ◌>>◌, and_then, end_by, ending, give, throw, eject, tell, new_thing, new_promise}
+use Rattle.ev_machine.specs.State.{Bound, Fixed, Slot, Binding, Scope, Ejector, Resolver, Message, Standing, Happened, Called, Back, Thrown, Left, Got, EjectorMade, PromiseMade, Sends, Reacts, Vat, Done, Gives, Throws, Ejects, Stops, Act, ◌>>=◌, ◌>>◌, and_then, end_by, ending, give, throw, eject, tell, new_thing, new_promise}
 use Rattle.ev_machine.specs.Refs as refs
 use Rattle.ev_machine.specs.Refs.{Place, follow, settle, resolve}
 use Rattle.ev_machine.specs.Native.{Reply}
@@ -18,7 +18,7 @@ use Rattle.ev_uses_laws.specs.News.{own_number}
 use Rattle.ev_uses_laws.proofs.Idle.{idle_promise, idle_message}
 use Rattle.ev_uses_laws.proofs.RefsIdle.{idle_settle, idle_resolve, idle_send_first, idle_react_at}
 use Rattle.ev_uses_laws.proofs.Ground.{Ground, opens, with_line, opens_last, held, Has, Knew, Grows, Good, grows_line, grows_trans, good_line}
-use Rattle.ev_uses_laws.proofs.Fine.{MayBe, Fact, Nothing, Also, IsAct, IsValue, AreValues, IsBound, IsScope, MayValue, MayCell, MadeEjector, WasHanded, WasCalled, MayGive, IsReply, answer, answers, nothing, BoundKnown, NounKnown, Handed, Holds, Gets, Keeps, Passes, Ends, Fine, holds_up, still_holds, handed_up, passes_same, passes_trans, widen, fine_bind, fine_less, fine_then, fine_ending, fine_some, fine_if, fine_give, fine_throw, fine_eject, fine_stop, fine_look, act_is, then_line, thing_block, uses_values, is_told, fine_left, fine_spend, fine_kill, fine_list, bind_slot, then_read, then_wrote, then_list, fine_idle}
+use Rattle.ev_uses_laws.proofs.Fine.{MayBe, Fact, Nothing, Also, IsAct, IsValue, AreValues, IsBound, IsScope, MayValue, MadeEjector, WasHanded, WasCalled, MayGive, IsReply, answer, answers, nothing, BoundKnown, NounKnown, Handed, Holds, Gets, Keeps, Passes, Ends, Fine, holds_up, still_holds, handed_up, passes_same, passes_trans, widen, fine_bind, fine_less, fine_then, fine_ending, fine_some, fine_if, fine_give, fine_throw, fine_eject, fine_stop, fine_look, act_is, then_line, thing_block, uses_values, is_told, fine_left, fine_spend, fine_kill, bind_slot, bind_list, then_read, then_wrote, fine_idle}
 use Rattle.ev_uses_laws.proofs.Looks.{got, got_left, got_right, got_itself, got_both, got_nothing, got_null, got_flag, got_number, got_text, got_prim, got_none, got_more, got_no_lists, got_lists, got_act, got_with, got_fixed, got_slot, got_any, got_no_match, got_literal, got_safe, got_bound_in, got_asked, got_audition_ask, got_may_give, got_item, got_stamp, look_follow, look_list, look_cell, look_data, look_range, look_compared, look_null_or, look_taken, look_same, look_broken, look_thrown, look_test}
 
 module _ {N W : Type 0} (K : Naming N W) (E : Ground N) (a : ℕ) where
@@ -66,9 +66,6 @@ module _ {N W : Type 0} (K : Naming N W) (E : Ground N) (a : ℕ) where
   pub bind_may_value : {B : Type 0} {C : Fact N} {m : Act N (Option (Value N))} {f : Option (Value N) → Act N B} {H : B → Fact N} → Fine K E a C m MayValue → ((x : Option (Value N)) → Fine K E a (Also C (MayValue x)) (f x) H) → Fine K E a C (m >>= f) H
   bind_may_value h k = fine_bind K E a MayValue h k
 
-  pub bind_may_cell : {B : Type 0} {C : Fact N} {m : Act N (Option (Cell N))} {f : Option (Cell N) → Act N B} {H : B → Fact N} → Fine K E a C m MayCell → ((x : Option (Cell N)) → Fine K E a (Also C (MayCell x)) (f x) H) → Fine K E a C (m >>= f) H
-  bind_may_cell h k = fine_bind K E a MayCell h k
-
   pub bind_reply : {B : Type 0} {C : Fact N} {m : Act N (Reply N)} {f : Reply N → Act N B} {H : B → Fact N} → Fine K E a C m IsReply → ((x : Reply N) → Fine K E a (Also C (IsReply x)) (f x) H) → Fine K E a C (m >>= f) H
   bind_reply h k = fine_bind K E a IsReply h k
 
@@ -96,7 +93,7 @@ module _ {N W : Type 0} (K : Naming N W) (E : Ground N) (a : ℕ) where
 
   sends_now : {B : Type 0} {C : Fact N} (m : Message N) {k : Act N B} {H : B → Fact N} → Gets K E a C (IsValue m.target) → Gets K E a C (AreValues m.args) → Fine K E a (Also C (IsValue (Ref m.answer))) k H → Fine K E a C (tell (Sends a m) >> k) H
   unfolding uses by tells open_after itself
-  sends_now m g i h = then_line K E a (Sends a m) refl refl (λ s. refl) (λ s o c. (uses_values K E a s [] (m.target ∷ m.args) (g.at s c, i.at s c), tt)) (λ s c. is_told K E a s (Sends a m) (AValue (Ref m.answer)) (inl refl)) h
+  sends_now m g i h = then_line K E a (Sends a m) refl refl refl (λ s. refl) (λ s o c. (uses_values K E a s [] (m.target ∷ m.args) (g.at s c, i.at s c), tt)) (λ s c. tt) (λ s c. is_told K E a s (Sends a m) (AValue (Ref m.answer)) (inl refl)) h
 
   then_sends : {B : Type 0} {C : Fact N} (act : ℕ) (m : Message N) {k : Act N B} {H : B → Fact N} → Gets K E a C (IsAct act) → Gets K E a C (IsValue m.target) → Gets K E a C (AreValues m.args) → Fine K E a (Also C (IsValue (Ref m.answer))) k H → Fine K E a C (tell (Sends act m) >> k) H
   then_sends act m {k = k} i g j h = act_is K E a act (λ b. tell (Sends b m) >> k) i (sends_now m g j h)
@@ -110,7 +107,7 @@ module _ {N W : Type 0} (K : Naming N W) (E : Ground N) (a : ℕ) where
 
   reacts_now : {B : Type 0} {C : Fact N} (x o : Value N) (m : Message N) {k : Act N B} {H : B → Fact N} → Gets K E a C (IsValue x) → Gets K E a C (IsValue o) → Fine K E a (Also C (IsValue (Ref m.answer))) k H → Fine K E a C (tell (Reacts a x o m) >> k) H
   unfolding uses by tells open_after itself
-  reacts_now x o m g i h = then_line K E a (Reacts a x o m) refl refl (λ s. refl) (λ s q c. (uses_values K E a s [] (x ∷ o ∷ []) (g.at s c, (i.at s c, tt)), tt)) (λ s c. is_told K E a s (Reacts a x o m) (AValue (Ref m.answer)) (inl refl)) h
+  reacts_now x o m g i h = then_line K E a (Reacts a x o m) refl refl refl (λ s. refl) (λ s q c. (uses_values K E a s [] (x ∷ o ∷ []) (g.at s c, (i.at s c, tt)), tt)) (λ s c. tt) (λ s c. is_told K E a s (Reacts a x o m) (AValue (Ref m.answer)) (inl refl)) h
 
   then_reacts : {B : Type 0} {C : Fact N} (act : ℕ) (x o : Value N) (m : Message N) {k : Act N B} {H : B → Fact N} → Gets K E a C (IsAct act) → Gets K E a C (IsValue x) → Gets K E a C (IsValue o) → Fine K E a (Also C (IsValue (Ref m.answer))) k H → Fine K E a C (tell (Reacts act x o m) >> k) H
   then_reacts act x o m {k = k} i g j h = act_is K E a act (λ b. tell (Reacts b x o m) >> k) i (reacts_now x o m g j h)
@@ -133,7 +130,7 @@ module _ {N W : Type 0} (K : Naming N W) (E : Ground N) (a : ℕ) where
   module _ (spots : (i : ℕ) → K.spot (K.object i) ≡ Own i) where
     got_now : {B : Type 0} {C : Fact N} (j : ℕ) (v : Value N) {m : Act N B} {H : B → Fact N} → Gets K E a C (MadeEjector j) → Gets K E a C (WasHanded j v) → Fine K E a (Also C (IsValue v)) m H → Fine K E a C (tell (Got a v) >> m) H
     unfolding uses by tells open_after
-    got_now j v g i h = then_line K E a (Got a v) refl refl (λ s. refl) (λ s q c. let w = i.at s c in (tt, (w.0, j, w.1, w.2, w.3, K.object j, w.4, w.5, g.at s c, spots j, w.6))) (λ s c. is_told K E a s (Got a v) (AValue v) (inl refl)) h
+    got_now j v g i h = then_line K E a (Got a v) refl refl refl (λ s. refl) (λ s q c. let w = i.at s c in (tt, (w.0, j, w.1, w.2, w.3, K.object j, w.4, w.5, g.at s c, spots j, w.6))) (λ s c. tt) (λ s c. is_told K E a s (Got a v) (AValue v) (inl refl)) h
 
     -- what an activation gets was handed to an ejector that it made
     pub then_got : {B : Type 0} {C : Fact N} (act j n : ℕ) (v : Value N) {m : Act N B} {H : B → Fact N} → Gets K E a C (IsAct act) → n ≡ j → Gets K E a C (MadeEjector j) → Gets K E a C (WasHanded n v) → Fine K E a (Also C (IsValue v)) m H → Fine K E a C (tell (Got act v) >> m) H
@@ -143,7 +140,7 @@ module _ {N W : Type 0} (K : Naming N W) (E : Ground N) (a : ℕ) where
     fine_ejector : (tree : List Node) {C : Fact N} (act : ℕ) → Gets K E a C (IsAct act) → Fine K E a C (calls.new_ejector K tree act) (λ j. Also (IsValue (Ref (K.object j))) (MadeEjector j))
     unfolding calls.new_ejector uses by tells open_after itself
     fine_ejector tree {C = C} act i = act_is K E a act (λ b. new_thing (Ejector true) >>= (λ j. tell (EjectorMade b (K.object j)) >> give j)) i
-        (thing_block K E a (Ejector true) tt (λ j. EjectorMade a (K.object j)) (λ n. ap own_number (spots n)) (λ n. refl) (λ j. Also (IsValue (Ref (K.object j))) (MadeEjector j)) (λ s n. refl) (λ s n. (tt, tt))
+        (thing_block K E a (Ejector true) tt (λ j. EjectorMade a (K.object j)) (λ n. ap own_number (spots n)) (λ n. refl) (λ n. refl) (λ so n. tt) (λ j. Also (IsValue (Ref (K.object j))) (MadeEjector j)) (λ s n. refl) (λ s n. (tt, tt))
         (λ s j. (is_told K E a s (EjectorMade a (K.object j)) (AValue (Ref (K.object j))) (inl refl), among_last s.happened (EjectorMade a (K.object j)))) (λ j. fine_give K E a j (got K E a C (Also (IsValue (Ref (K.object j))) (MadeEjector j)))))
 
     pub bind_ejector : {B : Type 0} (tree : List Node) {C : Fact N} (act : ℕ) {f : ℕ → Act N B} {H : B → Fact N} → Gets K E a C (IsAct act) → ((j : ℕ) → Fine K E a (Also C (Also (IsValue (Ref (K.object j))) (MadeEjector j))) (f j) H) → Fine K E a C (calls.new_ejector K tree act >>= f) H
@@ -151,7 +148,7 @@ module _ {N W : Type 0} (K : Naming N W) (E : Ground N) (a : ℕ) where
 
     resolver_now : {B : Type 0} {C : Fact N} (p : N) {f : ℕ → Act N B} {H : B → Fact N} → ((r : ℕ) → Fine K E a (Also C (Also (IsValue (Ref p)) (IsValue (Ref (K.object r))))) (f r) H) → Fine K E a C (new_thing (Resolver p) >>= (λ r. tell (PromiseMade a p (K.object r)) >> f r)) H
     unfolding uses by tells open_after
-    resolver_now p h = thing_block K E a (Resolver p) tt (λ r. PromiseMade a p (K.object r)) (λ n. ap own_number (spots n)) (λ n. refl) (λ r. Also (IsValue (Ref p)) (IsValue (Ref (K.object r)))) (λ s n. refl) (λ s n. (tt, tt))
+    resolver_now p h = thing_block K E a (Resolver p) tt (λ r. PromiseMade a p (K.object r)) (λ n. ap own_number (spots n)) (λ n. refl) (λ n. refl) (λ so n. tt) (λ r. Also (IsValue (Ref p)) (IsValue (Ref (K.object r)))) (λ s n. refl) (λ s n. (tt, tt))
         (λ s r. (is_told K E a s (PromiseMade a p (K.object r)) (AValue (Ref p)) (inl refl), is_told K E a s (PromiseMade a p (K.object r)) (AValue (Ref (K.object r))) (inr (inl refl)))) h
 
     pub bind_resolver : {B : Type 0} {C : Fact N} (act : ℕ) (p : N) {f : ℕ → Act N B} {H : B → Fact N} → Gets K E a C (IsAct act) → ((r : ℕ) → Fine K E a (Also C (Also (IsValue (Ref p)) (IsValue (Ref (K.object r))))) (f r) H) → Fine K E a C (new_thing (Resolver p) >>= (λ r. tell (PromiseMade act p (K.object r)) >> f r)) H
@@ -185,9 +182,9 @@ module _ {N W : Type 0} (K : Naming N W) (E : Ground N) (a : ℕ) where
 
   pub ended_ends : (s : Vat N) (x : Value N) (o : Option ℕ) (d : Done N (Value N)) → CallEnds s x o d → Ends K E a IsValue s (end_by (λ v. tell (Back a v) >> give v) (λ p. tell (Thrown a p) >> throw p) (λ n v. tell (Left a) >> eject n v) d)
   unfolding end_by tell ◌>>◌ and_then give throw eject open_after tells by uses
-  ended_ends s x o (Gives v t) h = (after_call s t x o (Back a v) h.0 refl, good_line K E t (Back a v) refl refl h.1 (back_well t x v o (opens s) h.0.1 h.2), is_told K E a t (Back a v) (AValue v) (inl refl))
-  ended_ends s x o (Throws p t) h = (after_call s t x o (Thrown a p) h.0 refl, good_line K E t (Thrown a p) refl refl h.1 (tt, tt))
-  ended_ends s x o (Ejects n v t) h = (after_call s t x o (Left a) h.0 refl, good_line K E t (Left a) refl refl h.1 (tt, tt), handed_up K E a t (with_line t (Left a)) (grows_line K E t (Left a)) n v h.2)
+  ended_ends s x o (Gives v t) h = (after_call s t x o (Back a v) h.0 refl, good_line K E t (Back a v) refl refl refl h.1 (back_well t x v o (opens s) h.0.1 h.2) tt, is_told K E a t (Back a v) (AValue v) (inl refl))
+  ended_ends s x o (Throws p t) h = (after_call s t x o (Thrown a p) h.0 refl, good_line K E t (Thrown a p) refl refl refl h.1 (tt, tt) tt)
+  ended_ends s x o (Ejects n v t) h = (after_call s t x o (Left a) h.0 refl, good_line K E t (Left a) refl refl refl h.1 (tt, tt) tt, handed_up K E a t (with_line t (Left a)) (grows_line K E t (Left a)) n v h.2)
   ended_ends s x o (Stops c t) h = h
 
   pub begins : (s : Vat N) (x : Value N) (verb : Words) (args : List (Value N)) (o : Option ℕ) → Begun s (with_line s (Called a x verb args o)) x o
@@ -206,7 +203,7 @@ module _ {N W : Type 0} (K : Naming N W) (E : Ground N) (a : ℕ) where
   unfolding scopes.with_lines scopes.ended ending tell ◌>>◌ and_then served unless_begun
   lines_now D x verb args m k d g h f = record {
     after = λ s i c. let t : Vat N = with_line s (Called a x verb args None) in let b : Begun s t x None = begins s x verb args None in
-        ended_ends s x None (m t) (given_ends s t x (m t) b (f.after t (good_line K E s (Called a x verb args None) refl refl i (called_well s x verb args None (g.at s c) (h.at s c)))
+        ended_ends s x None (m t) (given_ends s t x (m t) b (f.after t (good_line K E s (Called a x verb args None) refl refl refl i (called_well s x verb args None (g.at s c) (h.at s c)) tt)
         (holds_up K E a s t b.0 D (k s t) (d.at s c), (a, among_last s.happened (Called a x verb args None), ap served b.1))));
   }
 
@@ -231,4 +228,4 @@ pub ruleset gets = (got, got_left, got_right, got_itself, got_both, got_nothing,
 
 pub ruleset looks = (look_follow, look_list, look_cell, look_data, look_range, look_compared, look_null_or, look_taken, look_same, look_broken, look_thrown, look_test)
 
-pub ruleset fine = (gets, then_read, then_wrote, then_list, bind_slot, bind_ejector, bind_resolver, then_unit, then_value, then_answer, bind_number, bind_name, bind_flag, bind_place, bind_standing, bind_value, bind_values, bind_scope, bind_answer, bind_answers, bind_may_value, bind_may_cell, bind_reply, bind_bound, end_scope, end_answer, fine_some, fine_if, fine_give, fine_throw, fine_eject, fine_stop, fine_look, fine_spend, fine_kill, fine_list, fine_settle, fine_resolve, fine_promise, looks)
+pub ruleset fine = (gets, then_read, then_wrote, bind_list, bind_slot, bind_ejector, bind_resolver, then_unit, then_value, then_answer, bind_number, bind_name, bind_flag, bind_place, bind_standing, bind_value, bind_values, bind_scope, bind_answer, bind_answers, bind_may_value, bind_reply, bind_bound, end_scope, end_answer, fine_some, fine_if, fine_give, fine_throw, fine_eject, fine_stop, fine_look, fine_spend, fine_kill, fine_settle, fine_resolve, fine_promise, looks)

@@ -10,7 +10,7 @@ use Rattle.ev_connected_laws.specs.Known.{IsAmong}
 use Rattle.ev_connected_laws.specs.Liveness.{live_at, LeavesDead}
 use Rattle.ev_connected_laws.specs.Runs.{NothingLive}
 use Rattle.ev_connected_laws.proofs.StepDies.{steps_leave_dead}
-use Rattle.ev_uses_laws.specs.Told.{ObjectsTold, SlotsTold, HeldTold}
+use Rattle.ev_uses_laws.specs.Told.{ObjectsTold, SlotsTold, ReadsTold, HeldTold}
 use Rattle.ev_uses_laws.proofs.FineSteps.{among_left, among_right, steps_tell}
 use Rattle.ev_uses_laws.proofs.FineRuns.{own_spots}
 
@@ -108,7 +108,7 @@ module _ (script : Script) where
       cell k x (inl d) = let n = h.1 k d.0 d.1 in (n.0, old k d.0.value x.value n.0 d.2 n.1)
       cell k x (inr n) = (n.0, new k x.value n.0 n.1)
 
-  back_tells : (v : ℕ) (w x : World) (head : List Event) (n : ℕ) (r : Vat Name) (d : Done Name (Unit {0})) → Still r → VatTold w.history v r → LeavesDead r d → After (λ s t. ObjectsTold (names script v) s t × SlotsTold s t) r d
+  back_tells : (v : ℕ) (w x : World) (head : List Event) (n : ℕ) (r : Vat Name) (d : Done Name (Unit {0})) → Still r → VatTold w.history v r → LeavesDead r d → After (λ s t. ObjectsTold (names script v) s t × SlotsTold s t × ReadsTold s.slots [] t.happened) r d
       → put_back v w head n d ≡ Goes x → Tells w → Tells x
   unfolding put_back
   back_tells v w x head n r (Gives a t) q k h o e all = subst Tells (goes_vats _ x e) (

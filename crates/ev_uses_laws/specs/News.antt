@@ -1,7 +1,7 @@
--- That what a line says was made is new: a step numbers things and var slots upwards from the vat's count.
+-- That what a line says was made is new: a step numbers things, var slots and lists upwards from the vat's count.
 use Rattle.std.specs.Prelude.{◌≡◌, ℕ, false, [], Option, Some, None, length, map}
 use Rattle.ev_machine.specs.Values.{Name, Naming, naming, numbering, Spot, Own, Foreign, NoObject}
-use Rattle.ev_machine.specs.State.{Happened, SlotMade, EjectorMade, AuditionMade, PromiseMade, ObjectMade, Vat}
+use Rattle.ev_machine.specs.State.{Happened, SlotMade, ListMade, ListCame, EjectorMade, AuditionMade, PromiseMade, ObjectMade, Vat}
 use Rattle.ev_machine_laws.specs.Steps.{Step, does, After}
 use Rattle.ev_connected_laws.specs.Activations.{Rises}
 use Rattle.ev_connected_laws.specs.Liveness.{live_at}
@@ -24,9 +24,15 @@ abbrev pub slot_made : {N : Type 0} → Happened N → Option ℕ
 slot_made (SlotMade a k v) = Some k
 slot_made _ = None
 
+-- the number of the list, made or come in a note
+abbrev pub list_made : {N : Type 0} → Happened N → Option ℕ
+list_made (ListMade a k vs) = Some k
+list_made (ListCame k vs) = Some k
+list_made _ = None
+
 -- each higher than those before it, from the vat's count before the step to its count after it
 abbrev pub MadeNew : {N W : Type 0} → Naming N W → Vat N → Vat N → Type 0
-MadeNew K s t = Rises (length s.things) (map (thing_made K) t.happened) (length t.things) × Rises (length s.slots) (map slot_made t.happened) (length t.slots)
+MadeNew K s t = Rises (length s.things) (map (thing_made K) t.happened) (length t.things) × Rises (length s.slots) (map slot_made t.happened) (length t.slots) × Rises (length s.lists) (map list_made t.happened) (length t.lists)
 
 -- after each step, however it ends, from a vat in which nothing has happened in the step and nothing is live
 abbrev pub StepsMakeNew : {N W : Type 0} → Naming N W → Type 0

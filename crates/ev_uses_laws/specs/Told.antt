@@ -1,7 +1,7 @@
 -- What objects and var slots hold between steps, a line of the step in which it was put there tells.
-use Rattle.std.specs.Prelude.{◌≡◌, ℕ, zero, false, List, [], ◌++◌, Some, map, slice_get, ◌⊎◌}
+use Rattle.std.specs.Prelude.{◌≡◌, ℕ, zero, false, List, [], ◌∷◌, ◌++◌, Some, map, slice_get, ◌⊎◌}
 use Rattle.ev_machine.specs.Values.{Words, Value, Name, Object, Naming, naming, numbering}
-use Rattle.ev_machine.specs.State.{Binding, Cell, Made, ObjectMade, SlotMade, SlotWrote, Vat}
+use Rattle.ev_machine.specs.State.{Binding, Cell, Made, Happened, ObjectMade, SlotMade, SlotRead, SlotWrote, Vat}
 use Rattle.ev_machine_laws.specs.Steps.{Step, does, After}
 use Rattle.ev_run.specs.World.{Script, Program, Entry, World, Here, Goes, begins, open_from, steps_from}
 use Rattle.ev_connected_laws.specs.Known.{IsAmong}
@@ -17,9 +17,19 @@ abbrev pub SlotsTold : {N : Type 0} → Vat N → Vat N → Type 0
 SlotsTold {N} s t = (k : ℕ) (c : Cell N) → slice_get t.slots k ≡ Some c
     → ((d : Cell N) × (slice_get s.slots k ≡ Some d) × (d.value ≡ c.value)) ⊎ ((a : ℕ) × (IsAmong (SlotMade a k c.value) t.happened ⊎ IsAmong (SlotWrote a k c.value) t.happened))
 
+-- what a line says was read from a slot was in it before, or a line before it tells that an activation put it there
+abbrev pub ReadTold : {N : Type 0} → List (Cell N) → List (Happened N) → Happened N → Type 0
+ReadTold {N} slots so (SlotRead a k v) = ((d : Cell N) × (slice_get slots k ≡ Some d) × (d.value ≡ v)) ⊎ ((b : ℕ) × (IsAmong (SlotMade b k v) so ⊎ IsAmong (SlotWrote b k v) so))
+ReadTold slots so _ = Unit {0}
+
+-- lines that come after these
+abbrev pub ReadsTold : {N : Type 0} → List (Cell N) → List (Happened N) → List (Happened N) → Type 0
+ReadsTold slots so [] = Unit {0}
+ReadsTold slots so (e ∷ es) = ReadTold slots so e × ReadsTold slots (so ++ e ∷ []) es
+
 -- after each step, however it ends, from a vat in which nothing has happened in the step and nothing is live
 abbrev pub StepsTell : {N W : Type 0} → Naming N W → Type 0
-StepsTell {N} {W} K = (step : Step N W) (s : Vat N) → s.happened ≡ [] → ((i : ℕ) → live_at s.things i ≡ false) → After (λ s t. ObjectsTold K s t × SlotsTold s t) s (does K step s)
+StepsTell {N} {W} K = (step : Step N W) (s : Vat N) → s.happened ≡ [] → ((i : ℕ) → live_at s.things i ≡ false) → After (λ s t. ObjectsTold K s t × SlotsTold s t × ReadsTold s.slots [] t.happened) s (does K step s)
 
 -- under global names and under local numbers
 abbrev pub StepsTellWhatTheyMake : Type 0

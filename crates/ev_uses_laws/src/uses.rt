@@ -20,8 +20,9 @@ pub fn runs_are_connected()
 {}
 
 /// After every step of a vat each object was there before it, or a line of the step tells with which
-/// captures and stamps it was made; and what is in a var slot was in it before, or a line tells that
-/// an activation put it there. It asks what `steps_are_connected` asks.
+/// captures and stamps it was made; what is in a var slot was in it before, or a line tells that an
+/// activation put it there; and what a line says was read from a slot was in it before the step, or
+/// a line before it tells that. It asks what `steps_are_connected` asks.
 pub fn steps_tell_what_they_make()
     ensures { StepsTellWhatTheyMake }
 {}
@@ -32,9 +33,9 @@ pub fn runs_tell_what_is_held()
     ensures { RunsTellWhatIsHeld }
 {}
 
-/// What a line of a step says was made is new: objects, ejectors, auditions and resolvers, and var
-/// slots, have numbers that rise from the vat's count before the step to its count after it. It asks
-/// what `steps_are_connected` asks.
+/// What a line of a step says was made is new: objects, ejectors, auditions and resolvers, var slots,
+/// and lists have numbers that rise from the vat's count before the step to its count after it. It
+/// asks what `steps_are_connected` asks.
 pub fn what_is_made_is_new()
     ensures { WhatIsMadeIsNew }
 {}
