@@ -1,16 +1,7 @@
-pub mod Bindings
 pub mod Calls
-pub mod Cells
 pub mod Depth
-pub mod Exits
 pub mod Grows
+pub mod IsMet
 pub mod Meets
 pub mod Objects
 pub mod Primitives
-pub mod Replies
-pub mod Sounds
-pub mod Stands
-pub mod There
-pub mod Things
-pub mod Weights
-pub mod Words

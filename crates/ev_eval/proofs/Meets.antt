@@ -12,8 +12,8 @@ use Rattle.ev_kernel.specs.declared.node.Literal.{Literal}
 use Rattle.ev_kernel.specs.declared.node.Literal.TheVariants as literal
 use Rattle.ev_kernel.specs.declared.node.Node.{Node}
 use Rattle.ev_kernel.specs.declared.node.Node.TheVariants.{Lit, Noun, Set, Def, Call, Sequence, If, Hide, Object as ObjectNode, Method, Final, Var, Any}
-use Rattle.ev_machine.specs.Values.{Words, Value, Null, Flag, Number, Letter, Text, Items, Ref, Local, Obj}
-use Rattle.ev_machine.specs.State.{Fixed, Slot, Binding as Bond, Scope as Surroundings, SlotMade, Vat, Done, Throws, Ejects, Stops, Fuel, Deep, Astray, opened_state}
+use Rattle.ev_machine.specs.Values.{Words, Value, Null, Local}
+use Rattle.ev_machine.specs.State.{Fixed, Slot, Binding as Bond, Scope as Surroundings, SlotMade, Vat, Done, Throws, Ejects, Stops, opened_state}
 use Rattle.ev_machine.specs.State as machine
 use Rattle.ev_machine.specs.Scopes.{Answer, Answers, any_guard}
 use Rattle.ev_machine.specs.Eval.{opened_eval}
@@ -24,27 +24,31 @@ use Rattle.ev_machine.specs.Perform as perform
 use Rattle.ev_machine.specs.Calls as calls
 use Rattle.ev_machine.specs.Eval as theirs
 use Rattle.ev_prims.specs.declared.problem.Problem.TheVariants.{NotBoolean}
-use Rattle.ev_eval.specs.declared.exit.Exit.{Exit}
-use Rattle.ev_eval.specs.declared.exit.Exit.TheVariants as exit
-use Rattle.ev_eval.specs.declared.room.Room.{Room}
-use Rattle.ev_eval.specs.declared.scope.Bound.{Bound as Kept}
-use Rattle.ev_eval.specs.declared.scope.Bound.TheVariants as scope
-use Rattle.ev_eval.specs.declared.scope.Scope.{Scope}
+use Rattle.ev_room.specs.declared.exit.Exit.{Exit}
+use Rattle.ev_room.specs.declared.exit.Exit.TheVariants as exit
+use Rattle.ev_room.specs.declared.room.Room.{Room}
+use Rattle.ev_room.specs.declared.scope.Bound.{Bound as Kept}
+use Rattle.ev_room.specs.declared.scope.Bound.TheVariants as scope
+use Rattle.ev_room.specs.declared.scope.Scope.{Scope}
 use Rattle.ev_eval.specs.declared.turn.Ended.{Ended}
-use Rattle.ev_eval.specs.Built.{is_built_safe, is_built_node, is_built}
-use Rattle.ev_eval.specs.Reading.{World, names, all_promises, value_of, values_of, members_of, vat_of}
-use Rattle.ev_eval.specs.Sound.{Grown, IsSound, is_there, are_there, is_bound, are_bound, problems}
-use Rattle.ev_eval.specs.Steps.{Out, Gives, Evaluator, Caller, ◌>>=◌, ◌>>◌, give, fail, fails, new_slot, found_from, with_noun, call_value, call_at, call, gathered, last_of, call_node, define, literal_value, literal_node, noun_node, set_node, within, hide_node, choose, if_node, step, bind_final, bind_var, bind_any, bind_step, step_found, bind_found, deeper, evaluator, opening}
+use Rattle.ev_eval.specs.Built.{is_built_node, is_built}
+use Rattle.ev_room.specs.Sound.{is_built_safe}
+use Rattle.ev_room.specs.Reading.{World, names, all_promises, value_of, values_of, members_of, vat_of}
+use Rattle.ev_room.specs.Sound.{Grown, IsSound, is_there, are_there, is_bound, are_bound, problems}
+use Rattle.ev_eval.specs.Steps.{Evaluator, Caller, call_value, call_at, call, gathered, last_of, call_node, define, literal_value, literal_node, noun_node, set_node, within, hide_node, choose, if_node, step, bind_final, bind_var, bind_any, bind_step, step_found, bind_found, deeper, evaluator, opening}
+use Rattle.ev_room.specs.Acts.{Out, Gives, ◌>>=◌, ◌>>◌, give, found_from, with_noun}
 use Rattle.ev_eval.specs.Turn.{Ends, EndsAs, GivesThere, opened}
 use Rattle.ev_eval.proofs.Calls.{CallsMet, call_data_met}
-use Rattle.ev_eval.proofs.Grows.{Grows, same, onward, cut_back, deeper_grows, none_grows}
-use Rattle.ev_eval.proofs.Bindings.{IsMet, found_is, found_there, none_bound, noun_met, onto_more, bound_more, write_met, made_line, new_slot_met}
+use Rattle.ev_eval.proofs.Grows.{deeper_grows, none_grows}
+use Rattle.ev_room.proofs.Behind.{Grows, same, onward, cut_back}
+use Rattle.ev_eval.proofs.IsMet.{IsMet}
+use Rattle.ev_room.proofs.Bindings.{found_is, none_bound, noun_met, onto_more, bound_more, write_met, made_line, new_slot_met}
 use Rattle.ev_eval.proofs.Objects.{get_built, object_met, call_object_met}
 use Rattle.ev_eval.proofs.Primitives.{primitive_met}
-use Rattle.ev_eval.proofs.Sounds.{grown_same, there_on, all_on, scope_on, all_and}
-use Rattle.ev_eval.proofs.Replies.{there_joined}
-use Rattle.ev_eval.proofs.Stands.{Met, Is, vat, a_value, an_answer, some_answers, a_scope, itself, bound_of, bonds_onto, scope_of, then_met, then_met_of, give_met, stop_met, deep_met, throw_met, tell_met, fails_met, spend_met, text_met, activation_met, follow_there}
-use Rattle.ev_eval.proofs.Weights.{IsFront}
+use Rattle.ev_room.proofs.Sounds.{grown_same, there_on, all_on, scope_on, all_and}
+use Rattle.ev_room.proofs.Replies.{there_joined}
+use Rattle.ev_room.proofs.Stands.{Met, vat, a_value, an_answer, some_answers, a_scope, bound_of, bonds_onto, scope_of, then_met, then_met_of, give_met, stop_met, deep_met, throw_met, tell_met, fails_met, spend_met, text_met, activation_met, follow_there}
+use Rattle.ev_room.proofs.Weights.{IsFront}
 
 -- ---- nodes
 

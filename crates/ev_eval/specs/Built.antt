@@ -1,20 +1,9 @@
 -- The kernel trees that are evaluated so far.
-use Rattle.std.specs.declared.option.Option.{Option}
-use Rattle.std.specs.Prelude.{ℕ, Bool, true, false, if◌then◌else◌, List, [], ◌∷◌, Some, None, is_none}
-use Rattle.ev_base.specs.declared.values.Value.{Value}
-use Rattle.ev_base.specs.declared.values.Value.TheVariants as held
+use Rattle.std.specs.Prelude.{ℕ, Bool, true, false, if◌then◌else◌, List, [], ◌∷◌, is_none}
 use Rattle.ev_base.specs.SafeScope.{safe_value}
-use Rattle.ev_eval.specs.Sound.{is_built_prim}
+use Rattle.ev_room.specs.Sound.{is_built_safe}
 use Rattle.ev_kernel.specs.declared.node.Node.{Node}
 use Rattle.ev_kernel.specs.declared.node.Node.TheVariants.{Lit, Noun, Set, Def, Call, Sequence, If, Hide, Object, Method, Final, Var, Any}
-
--- no noun of the safe scope, or null, true, false or a primitive on which calls are built
-abbrev pub is_built_safe : Option Value → Bool
-is_built_safe None = true
-is_built_safe (Some held.Null) = true
-is_built_safe (Some (held.Bool b)) = true
-is_built_safe (Some (held.Prim n)) = is_built_prim n
-is_built_safe _ = false
 
 abbrev pub is_nil : List ℕ → Bool
 is_nil [] = true

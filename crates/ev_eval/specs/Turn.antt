@@ -9,10 +9,10 @@ use Rattle.ev_machine.specs.State.{Done, Gives, Throws, Stops, Fuel, Deep, Astra
 use Rattle.ev_machine.specs.Eval.{evaluator}
 use Rattle.ev_eval.specs.declared.turn.Ended.{Ended}
 use Rattle.ev_eval.specs.declared.turn.Ended.TheVariants as ended
-use Rattle.ev_eval.specs.Reading.{World, text_of, value_of, vat_of}
-use Rattle.ev_eval.specs.Sound.{is_there}
-use Rattle.ev_eval.specs.declared.exit.Exit.{Exit}
-use Rattle.ev_eval.specs.declared.exit.Exit.TheVariants as exit
+use Rattle.ev_room.specs.Reading.{World, text_of, value_of, vat_of}
+use Rattle.ev_room.specs.Sound.{is_there}
+use Rattle.ev_room.specs.declared.exit.Exit.{Exit}
+use Rattle.ev_room.specs.declared.exit.Exit.TheVariants as exit
 use Rattle.ev_base.specs.declared.values.Value.{Value as Held}
 
 -- the program is evaluated in an activation of its own, where no noun is bound

@@ -2,19 +2,12 @@
 
 ghost use Rattle.std.specs.Prelude.{◌≡◌, Some};
 ghost use Rattle.ev_base.specs.SafeScope.{safe_value};
-ghost use Rattle.ev_eval.specs.Built.{is_built, is_built_node, is_built_safe};
-ghost use Rattle.ev_eval.specs.Sound.{is_built_prim};
+ghost use Rattle.ev_eval.specs.Built.{is_built, is_built_node};
+ghost use Rattle.ev_room.specs.Sound.{is_built_safe};
 
-use ev_base::{PrimId, Value, safe_value};
+use ev_base::{Value, safe_value};
 use ev_kernel::{Kernel, Node};
-
-/// Whether calls on a primitive are built: on lists and ranges, the comparer, the loop, and throw.
-pub(crate) fn is_built_prim(number: PrimId) -> bool
-    ensures { result ≡ is_built_prim number }
-{
-    let number = number.0;
-    number == 0 || number == 2 || number == 3 || number == 6
-}
+use ev_room::is_built_prim;
 
 /// Whether a value of the safe scope is `null`, `true`, `false` or a primitive on which calls are built.
 fn is_built_value(value: Value) -> bool

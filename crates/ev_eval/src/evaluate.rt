@@ -3,22 +3,26 @@
 ghost use Rattle.std.specs.Prelude.{◌≡◌, [], Some, length, option_map};
 ghost use Rattle.ev_base.specs.declared.values.Value.TheVariants.{Null};
 ghost use Rattle.ev_prims.specs.Asks.{asked_of};
-ghost use Rattle.ev_eval.specs.Steps.{Gives, GivesIn, answered, call, call_at, call_data, call_node, call_object, choose, compared, define, evaluator, gathered, if_node, iterate, last_of, literal_node, literal_value, loop, noun_node, opening, performed, replied, run_found, run_method, run_object, set_node, step, within};
+ghost use Rattle.ev_eval.specs.Steps.{answered, call, call_at, call_data, call_node, call_object, choose, compared, define, evaluator, gathered, if_node, iterate, last_of, literal_node, literal_value, loop, noun_node, opening, performed, replied, run_found, run_method, run_object, set_node, step, within};
+ghost use Rattle.ev_room.specs.Acts.{Gives, GivesIn};
 
-use crate::call::{call_line, closed};
-use crate::data::{call_there, is_there, make_list, problem_id, text_value, thrown_id, write_text};
-use crate::exit::Exit;
-use crate::nouns::{read_bound, write_bound};
-use crate::object::{first_method, look_code, members_of, object_node, turned};
-use crate::pattern::{bind, bind_all, node_at};
-use crate::room::{Room, new_activation, spend, tell};
-use crate::scope::{Scope, cut, found};
+use crate::pattern::{bind, bind_all};
 use ev_base::{ActId, NodeId, ObjId, PrimId, Seq, Value};
 use ev_kernel::{Kernel, Literal, Node};
 use ev_prims::{Asked, Problem, Reply, Test, ask, compare, data_reply, range};
+use ev_room::call::{call_line, closed};
+use ev_room::data::{
+    call_there, is_there, make_list, problem_id, text_value, thrown_id, write_text,
+};
+use ev_room::exit::Exit;
+use ev_room::nouns::{read_bound, write_bound};
+use ev_room::object::{look_code, object_node, turned};
+use ev_room::room::{Room, new_activation, spend, tell};
+use ev_room::scope::{Scope, cut, found};
+use ev_room::tree::{first_method, members_of, node_at};
 
 /// The value of a literal.
-#[tactic(auto, unfolding(crate::specs::Steps::literal_value, crate::specs::Steps::give))]
+#[tactic(auto, unfolding(crate::specs::Steps::literal_value, ev_room::specs::Acts::give))]
 fn literal_value(literal: &Literal, room: &mut Room) -> Result<Value, Exit>
     ensures outcome { Gives result room.new (literal_value literal.now room.old) }
 {
@@ -30,7 +34,7 @@ fn literal_value(literal: &Literal, room: &mut Room) -> Result<Value, Exit>
 }
 
 /// Evaluates a literal.
-#[tactic(auto, using(crate::proofs::Exits::ends), unfolding(crate::specs::Steps::opened_steps))]
+#[tactic(auto, using(ev_room::proofs::Exits::ends), unfolding(crate::specs::Steps::opened_steps))]
 fn literal_node(literal: &Literal, here: &Scope, room: &mut Room) -> Result<Value, Exit>
     ensures outcome { GivesIn result here.now room.new (literal_node literal.now here.now room.old) }
 {
@@ -39,7 +43,7 @@ fn literal_node(literal: &Literal, here: &Scope, room: &mut Room) -> Result<Valu
 }
 
 /// The value of a noun.
-#[tactic(auto, using(crate::proofs::Exits::ends), unfolding(crate::specs::Steps::opened_steps))]
+#[tactic(auto, using(ev_room::proofs::Exits::ends), unfolding(crate::specs::Steps::opened_steps))]
 fn noun_node(noun: &str, here: &mut Scope, room: &mut Room) -> Result<Value, Exit>
     ensures outcome { GivesIn result here.new room.new (noun_node noun.now here.old room.old) }
 {
@@ -50,7 +54,7 @@ fn noun_node(noun: &str, here: &mut Scope, room: &mut Room) -> Result<Value, Exi
 
 /// Evaluates the expression at a node, at most so many levels deep.
 #[cycle(evaluate)]
-#[tactic(auto, using(crate::proofs::Depth::expression_deep, crate::proofs::Depth::expression_goes, crate::proofs::Exits::ends), unfolding(crate::specs::Steps::opened_steps))]
+#[tactic(auto, using(crate::proofs::Depth::expression_deep, crate::proofs::Depth::expression_goes, ev_room::proofs::Exits::ends), unfolding(crate::specs::Steps::opened_steps))]
 fn evaluate(
     program: &Kernel,
     depth: u32,
@@ -72,7 +76,7 @@ fn evaluate(
 
 /// Evaluates an expression whose parts may be so many levels deep.
 #[cycle(evaluate)]
-#[tactic(auto, using(crate::proofs::Exits::ends), unfolding(crate::specs::Steps::opened_steps))]
+#[tactic(auto, using(ev_room::proofs::Exits::ends), unfolding(crate::specs::Steps::opened_steps))]
 fn step(
     program: &Kernel,
     depth: u32,
@@ -125,7 +129,7 @@ fn step(
 
 /// Evaluates an assignment. What is written is what the noun stood for before its value is evaluated.
 #[cycle(evaluate)]
-#[tactic(auto, using(crate::proofs::Exits::ends), unfolding(crate::specs::Steps::opened_steps))]
+#[tactic(auto, using(ev_room::proofs::Exits::ends), unfolding(crate::specs::Steps::opened_steps))]
 fn set_node(
     program: &Kernel,
     depth: u32,
@@ -145,7 +149,7 @@ fn set_node(
 
 /// Evaluates a definition: its value, and then its pattern in the scope after it.
 #[cycle(evaluate)]
-#[tactic(auto, using(crate::proofs::Exits::ends), unfolding(crate::specs::Steps::opened_steps))]
+#[tactic(auto, using(ev_room::proofs::Exits::ends), unfolding(crate::specs::Steps::opened_steps))]
 fn define(
     program: &Kernel,
     depth: u32,
@@ -170,7 +174,7 @@ fn define(
 
 /// Evaluates an expression whose names are dropped behind it, down to so many.
 #[cycle(evaluate)]
-#[tactic(auto, using(crate::proofs::Exits::ends), unfolding(crate::specs::Steps::opened_steps))]
+#[tactic(auto, using(ev_room::proofs::Exits::ends), unfolding(crate::specs::Steps::opened_steps))]
 fn within(
     program: &Kernel,
     depth: u32,
@@ -189,7 +193,7 @@ fn within(
 /// Evaluates an if: its test, and then the branch that the test chooses. The names of the test are known in the first branch,
 /// and none of either behind it.
 #[cycle(evaluate)]
-#[tactic(auto, using(crate::proofs::Exits::ends), unfolding(crate::specs::Steps::opened_steps))]
+#[tactic(auto, using(ev_room::proofs::Exits::ends), unfolding(crate::specs::Steps::opened_steps))]
 fn if_node(
     program: &Kernel,
     depth: u32,
@@ -208,7 +212,7 @@ fn if_node(
 
 /// Evaluates the branch of an if that a value chooses, in the scope after the test.
 #[cycle(evaluate)]
-#[tactic(auto, using(crate::proofs::Exits::ends), unfolding(crate::specs::Steps::opened_steps))]
+#[tactic(auto, using(ev_room::proofs::Exits::ends), unfolding(crate::specs::Steps::opened_steps))]
 fn choose(
     program: &Kernel,
     depth: u32,
@@ -233,7 +237,7 @@ fn choose(
 
 /// Evaluates a call: the receiver, then the arguments from left to right, then the call itself.
 #[cycle(evaluate)]
-#[tactic(auto, using(crate::proofs::Exits::ends), unfolding(crate::specs::Steps::opened_steps))]
+#[tactic(auto, using(ev_room::proofs::Exits::ends), unfolding(crate::specs::Steps::opened_steps))]
 fn call_node(
     program: &Kernel,
     depth: u32,
@@ -272,7 +276,7 @@ fn call(
 
 /// A call on a value, in which data calls again at most so many times less one, one inside another.
 #[cycle(evaluate)]
-#[tactic(auto, using(crate::proofs::Depth::call_deep, crate::proofs::Depth::call_goes), unfolding(crate::specs::Steps::call_value, crate::specs::Steps::fail))]
+#[tactic(auto, using(crate::proofs::Depth::call_deep, crate::proofs::Depth::call_goes), unfolding(crate::specs::Steps::call_value, ev_room::specs::Acts::fail))]
 fn call_at(
     program: &Kernel,
     depth: u32,
@@ -304,7 +308,7 @@ fn call_at(
 
 /// Does what is asked of a primitive, which tells no line of its own call.
 #[cycle(evaluate)]
-#[tactic(auto, unfolding(crate::specs::Steps::performed, crate::specs::Steps::fails, crate::specs::Steps::fail))]
+#[tactic(auto, unfolding(crate::specs::Steps::performed, ev_room::specs::Acts::fails, ev_room::specs::Acts::fail))]
 fn perform(
     program: &Kernel,
     depth: u32,
@@ -335,7 +339,7 @@ fn perform(
 
 /// Whether the order of two values passes a test.
 #[cycle(evaluate)]
-#[tactic(auto, unfolding(crate::specs::Steps::compared, crate::specs::Steps::compared_there, crate::specs::Steps::pair_there, crate::specs::Steps::fail))]
+#[tactic(auto, unfolding(crate::specs::Steps::compared, crate::specs::Steps::compared_there, crate::specs::Steps::pair_there, ev_room::specs::Acts::fail))]
 fn compared(
     program: &Kernel,
     depth: u32,
@@ -357,7 +361,7 @@ fn compared(
 
 /// Calls `run` of a value until it answers false, as often at most as there is fuel.
 #[cycle(evaluate)]
-#[tactic(auto, using(crate::proofs::Exits::ends, crate::proofs::Depth::turns_from, crate::proofs::Depth::turns_none, crate::proofs::Depth::turns_all), unfolding(crate::specs::Steps::opened_steps))]
+#[tactic(auto, using(ev_room::proofs::Exits::ends, crate::proofs::Depth::turns_from, crate::proofs::Depth::turns_none, crate::proofs::Depth::turns_all), unfolding(crate::specs::Steps::opened_steps))]
 fn turns(
     program: &Kernel,
     depth: u32,
@@ -382,7 +386,7 @@ fn turns(
 
 /// A call on data, in which calls again stand at most so many times one inside another.
 #[cycle(evaluate)]
-#[tactic(auto, using(crate::proofs::Exits::ends, crate::proofs::Exits::closes), unfolding(crate::specs::Steps::opened_steps))]
+#[tactic(auto, using(ev_room::proofs::Exits::ends, ev_room::proofs::Exits::closes), unfolding(crate::specs::Steps::opened_steps))]
 fn call_data(
     program: &Kernel,
     depth: u32,
@@ -404,7 +408,7 @@ fn call_data(
 
 /// What data answers to a call.
 #[cycle(evaluate)]
-#[tactic(auto, unfolding(crate::specs::Steps::answered, crate::specs::Steps::answered_there, crate::specs::Steps::fail))]
+#[tactic(auto, unfolding(crate::specs::Steps::answered, crate::specs::Steps::answered_there, ev_room::specs::Acts::fail))]
 fn answered(
     program: &Kernel,
     depth: u32,
@@ -427,7 +431,7 @@ fn answered(
 
 /// Does what data answers.
 #[cycle(evaluate)]
-#[tactic(auto, unfolding(crate::specs::Steps::replied, crate::specs::Steps::give, crate::specs::Steps::fails, crate::specs::Steps::fail))]
+#[tactic(auto, unfolding(crate::specs::Steps::replied, ev_room::specs::Acts::give, ev_room::specs::Acts::fails, ev_room::specs::Acts::fail))]
 fn replied(
     program: &Kernel,
     depth: u32,
@@ -457,7 +461,7 @@ fn replied(
 
 /// Calls `run` of a value with each place and the member there, in order.
 #[cycle(evaluate)]
-#[tactic(auto, using(crate::proofs::Exits::ends), unfolding(crate::specs::Steps::opened_steps, crate::specs::Steps::iterate))]
+#[tactic(auto, using(ev_room::proofs::Exits::ends), unfolding(crate::specs::Steps::opened_steps, crate::specs::Steps::iterate))]
 fn iterate(
     program: &Kernel,
     depth: u32,
@@ -478,7 +482,7 @@ fn iterate(
 
 /// A call on an object, which begins an activation.
 #[cycle(evaluate)]
-#[tactic(auto, using(crate::proofs::Exits::ends, crate::proofs::Exits::closes), unfolding(crate::specs::Steps::opened_steps))]
+#[tactic(auto, using(ev_room::proofs::Exits::ends, ev_room::proofs::Exits::closes), unfolding(crate::specs::Steps::opened_steps))]
 fn call_object(
     program: &Kernel,
     depth: u32,
@@ -504,7 +508,7 @@ fn call_object(
 
 /// Runs what an object does with a message, in the environment of its captures.
 #[cycle(evaluate)]
-#[tactic(auto, using(crate::proofs::Exits::ends), unfolding(crate::specs::Steps::opened_steps))]
+#[tactic(auto, using(ev_room::proofs::Exits::ends), unfolding(crate::specs::Steps::opened_steps))]
 fn run_object(
     program: &Kernel,
     depth: u32,
@@ -523,7 +527,7 @@ fn run_object(
 
 /// Runs a method, if there is one.
 #[cycle(evaluate)]
-#[tactic(auto, using(crate::proofs::Exits::ends), unfolding(crate::specs::Steps::opened_steps))]
+#[tactic(auto, using(ev_room::proofs::Exits::ends), unfolding(crate::specs::Steps::opened_steps))]
 fn run_found(
     program: &Kernel,
     depth: u32,
@@ -542,7 +546,7 @@ fn run_found(
 
 /// Runs a method.
 #[cycle(evaluate)]
-#[tactic(auto, using(crate::proofs::Exits::ends), unfolding(crate::specs::Steps::opened_steps))]
+#[tactic(auto, using(ev_room::proofs::Exits::ends), unfolding(crate::specs::Steps::opened_steps))]
 fn run_node(
     program: &Kernel,
     depth: u32,
@@ -569,7 +573,7 @@ fn run_node(
 
 /// Binds the patterns of a method to the arguments, and evaluates its body.
 #[cycle(evaluate)]
-#[tactic(auto, using(crate::proofs::Exits::ends), unfolding(crate::specs::Steps::opened_steps))]
+#[tactic(auto, using(ev_room::proofs::Exits::ends), unfolding(crate::specs::Steps::opened_steps))]
 fn run_method(
     program: &Kernel,
     depth: u32,
@@ -589,7 +593,7 @@ fn run_method(
 
 /// Evaluates expressions from left to right, each in the scope after the one before.
 #[cycle(evaluate)]
-#[tactic(auto, using(crate::proofs::Exits::ends), unfolding(crate::specs::Steps::opened_steps, crate::specs::Steps::gathered))]
+#[tactic(auto, using(ev_room::proofs::Exits::ends), unfolding(crate::specs::Steps::opened_steps, crate::specs::Steps::gathered))]
 fn gathered(
     program: &Kernel,
     depth: u32,
@@ -609,7 +613,7 @@ fn gathered(
 
 /// Evaluates expressions from left to right, and gives the value of the last one, or null where there is none.
 #[cycle(evaluate)]
-#[tactic(auto, using(crate::proofs::Exits::ends), unfolding(crate::specs::Steps::opened_steps, crate::specs::Steps::last_of))]
+#[tactic(auto, using(ev_room::proofs::Exits::ends), unfolding(crate::specs::Steps::opened_steps, crate::specs::Steps::last_of))]
 fn last_of(
     program: &Kernel,
     depth: u32,
@@ -627,7 +631,7 @@ fn last_of(
 }
 
 /// The opening turn: the program is evaluated in an activation of its own.
-#[tactic(auto, using(crate::proofs::Exits::ends), unfolding(crate::specs::Steps::opened_steps))]
+#[tactic(auto, using(ev_room::proofs::Exits::ends), unfolding(crate::specs::Steps::opened_steps))]
 pub fn opening(program: &Kernel, depth: u32, room: &mut Room) -> Result<Value, Exit>
     ensures outcome { Gives result room.new (opening program.now depth room.old) }
 {

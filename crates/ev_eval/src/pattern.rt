@@ -1,28 +1,20 @@
 //! Binding of patterns.
 
-ghost use Rattle.std.specs.Prelude.{◌≡◌, option_map, slice_get};
-ghost use Rattle.ev_eval.specs.Steps.{Binds, bind_all, bind_final, bind_step, bind_var, evaluator};
+ghost use Rattle.std.specs.Prelude.{◌≡◌};
+ghost use Rattle.ev_eval.specs.Steps.{bind_all, bind_final, bind_step, bind_var, evaluator};
+ghost use Rattle.ev_room.specs.Acts.{Binds};
 
-use crate::exit::Exit;
-use crate::room::{Room, spend, tell};
-use crate::scope::{Binding, Bound, Scope};
-use crate::slots::new_slot;
 use ev_base::{NodeId, Str, Value};
 use ev_heap::Happened;
 use ev_kernel::{Kernel, Node};
-
-/// The node of a number.
-pub fn node_at(tree: &[Node], id: NodeId) -> Option<&Node>
-    ensures { option_map (λ node. node.now) result ≡ slice_get tree.now id }
-{
-    let Ok(index) = usize::try_from(id.0) else {
-        return None;
-    };
-    tree.get(index)
-}
+use ev_room::exit::Exit;
+use ev_room::room::{Room, spend, tell};
+use ev_room::scope::{Binding, Bound, Scope};
+use ev_room::slots::new_slot;
+use ev_room::tree::node_at;
 
 /// Binds a noun finally to a value.
-#[tactic(auto, using(crate::proofs::Exits::ends), unfolding(crate::specs::Steps::opened_steps))]
+#[tactic(auto, using(ev_room::proofs::Exits::ends), unfolding(crate::specs::Steps::opened_steps))]
 fn bind_final(
     noun: &str,
     guard: Option<NodeId>,
@@ -46,7 +38,7 @@ fn bind_final(
 }
 
 /// Binds a noun to a new var slot with a value.
-#[tactic(auto, using(crate::proofs::Exits::ends), unfolding(crate::specs::Steps::opened_steps))]
+#[tactic(auto, using(ev_room::proofs::Exits::ends), unfolding(crate::specs::Steps::opened_steps))]
 fn bind_var(
     noun: &str,
     guard: Option<NodeId>,
@@ -73,7 +65,7 @@ fn bind_var(
 }
 
 /// Binds the names of a pattern to a value.
-#[tactic(auto, using(crate::proofs::Exits::ends), unfolding(crate::specs::Steps::opened_steps))]
+#[tactic(auto, using(ev_room::proofs::Exits::ends), unfolding(crate::specs::Steps::opened_steps))]
 fn bind_step(node: &Node, value: Value, here: &mut Scope, room: &mut Room) -> Result<(), Exit>
     ensures outcome { Binds result here.new room.new (bind_step node.now value here.old room.old) }
 {
@@ -97,7 +89,7 @@ fn bind_step(node: &Node, value: Value, here: &mut Scope, room: &mut Room) -> Re
 }
 
 /// Binds the names of the pattern at a node to a value, at most so many levels deep.
-#[tactic(auto, using(crate::proofs::Depth::pattern_deep, crate::proofs::Depth::pattern_goes, crate::proofs::Exits::ends), unfolding(crate::specs::Steps::opened_steps))]
+#[tactic(auto, using(crate::proofs::Depth::pattern_deep, crate::proofs::Depth::pattern_goes, ev_room::proofs::Exits::ends), unfolding(crate::specs::Steps::opened_steps))]
 pub fn bind(
     program: &Kernel,
     depth: u32,
@@ -119,7 +111,7 @@ pub fn bind(
 }
 
 /// Binds the names of patterns to values, one after another.
-#[tactic(auto, using(crate::proofs::Exits::ends), unfolding(crate::specs::Steps::opened_steps, crate::specs::Steps::bind_all))]
+#[tactic(auto, using(ev_room::proofs::Exits::ends), unfolding(crate::specs::Steps::opened_steps, crate::specs::Steps::bind_all))]
 pub fn bind_all(
     program: &Kernel,
     depth: u32,

@@ -3,16 +3,16 @@
 ghost use Rattle.std.specs.Prelude.{◌≡◌, ◌++◌, ◌∷◌, [], true, IfOk, OnOk};
 ghost use Rattle.ev_heap.specs.Contents.{nothing};
 ghost use Rattle.ev_eval.specs.Built.{is_built};
-ghost use Rattle.ev_eval.specs.Reading.{World, all_promises, names, vat_of};
-ghost use Rattle.ev_eval.specs.Sound.{Grown, IsSound, problems};
+ghost use Rattle.ev_room.specs.Reading.{World, all_promises, names, vat_of};
+ghost use Rattle.ev_room.specs.Sound.{Grown, IsSound, problems};
 ghost use Rattle.ev_eval.specs.Turn.{Ends, EndsAs, EndsBy, GivesThere, opened};
 
 use crate::evaluate::opening;
-use crate::exit::Exit;
-use crate::room::Room;
 use ev_base::{Limits, Memory, TextId, Value};
 use ev_heap::{Heap, Micro};
 use ev_kernel::Kernel;
+use ev_room::exit::Exit;
+use ev_room::room::Room;
 use std::alloc::Global;
 use std::mem;
 

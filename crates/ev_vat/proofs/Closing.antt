@@ -12,10 +12,10 @@ use Rattle.ev_machine.specs.Refs.{entry_of, follow, severed, severed_at, follow_
 use Rattle.ev_machine.specs.Eval.{opening, closes}
 use Rattle.ev_prims.specs.Answers.{members_at}
 use Rattle.ev_prims.proofs.Means.{lists_are}
-use Rattle.ev_eval.specs.Reading.{World, names, text_of, value_of, members_of, vat_of}
-use Rattle.ev_eval.specs.Sound.{Each, IsListed, is_there, are_there}
-use Rattle.ev_eval.proofs.Replies.{members_there}
-use Rattle.ev_eval.proofs.There.{both}
+use Rattle.ev_room.specs.Reading.{World, names, text_of, value_of, members_of, vat_of}
+use Rattle.ev_room.specs.Sound.{Each, IsListed, is_there, are_there}
+use Rattle.ev_room.proofs.Replies.{members_there}
+use Rattle.ev_room.proofs.There.{both}
 use Rattle.ev_eval.specs.Turn.{opened}
 
 -- what the vat has at the start beside its heap

@@ -18,8 +18,8 @@ use Rattle.ev_run.specs.Shown.{shown_value, shown_values, shown_capture, shown_s
 use Rattle.ev_run.specs.Draws.{draw_word}
 use Rattle.ev_run.specs.Wire.{frame}
 use Rattle.ev_run.specs.Text.{shown_events}
-use Rattle.ev_eval.specs.Sound.{problems}
-use Rattle.ev_eval.specs.Reading.{value_of, values_of, problem_of, capture_in, made_line, line_of, lines_of}
+use Rattle.ev_room.specs.Sound.{problems}
+use Rattle.ev_room.specs.Reading.{value_of, values_of, problem_of, capture_in, made_line, line_of, lines_of}
 use Rattle.ev_opening_laws.specs.Alone.{name_of}
 use Rattle.ev_vat.specs.Lines.{text_at, shown_held, problem_at}
 use Rattle.ev_vat.specs.Lines as ours
