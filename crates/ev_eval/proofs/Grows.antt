@@ -3,14 +3,14 @@ use Rattle.std.proofs.Common.{ℕ, zero, true, false, List, [], ◌∷◌, ◌++
 use Rattle.std.specs.Prelude.{slice_get}
 use Rattle.ev_kernel.specs.declared.node.Literal.{Literal}
 use Rattle.ev_kernel.specs.declared.node.Node.{Node}
-use Rattle.ev_kernel.specs.declared.node.Node.TheVariants.{Lit, Noun, Set, Def, Call, Sequence, If, Hide, Object as ObjectNode, Final, Var, Any}
+use Rattle.ev_kernel.specs.declared.node.Node.TheVariants.{Lit, Noun, Set, Def, Call, Sequence, If, Escape, Try, Finally, Hide, Object as ObjectNode, Final, Var, Any}
 use Rattle.ev_machine.specs.Values.{Words}
 use Rattle.ev_base.specs.declared.values.Value.{Value}
 use Rattle.ev_base.specs.declared.values.Value.TheVariants as held
 use Rattle.ev_room.specs.declared.room.Room.{Room}
 use Rattle.ev_room.specs.declared.scope.Bound.TheVariants.{Fixed, Slot}
 use Rattle.ev_room.specs.declared.scope.Scope.{Scope}
-use Rattle.ev_eval.specs.Steps.{Evaluator, gathered, last_of, call_node, define, literal_node, noun_node, set_node, within, hide_node, choose, if_node, step, bind_final, bind_var, bind_any, bind_step, step_found, bind_found, deeper, evaluator}
+use Rattle.ev_eval.specs.Steps.{Evaluator, guarded_node, gathered, last_of, call_node, define, literal_node, noun_node, set_node, within, choose, if_node, step, bind_final, bind_var, bind_any, bind_step, step_found, bind_found, deeper, evaluator}
 use Rattle.ev_room.specs.Acts.{◌>>=◌, ◌>>◌, fails, cut}
 use Rattle.ev_room.proofs.Behind.{Grows, same, onward, with_one, back, then_of, then_any, lost, GivesMore, BindsMore, given, bound, object_grows}
 
@@ -57,10 +57,6 @@ within_grows : (rec : Evaluator) → IsGrowing rec → (e : ℕ) (first here : S
 unfolding within ◌>>=◌
 within_grows rec r e first here s g = then_of _ (r.expression e here s) (λ x t h. given x.0 t (back (onward g h)))
 
-hide_grows : (rec : Evaluator) → IsGrowing rec → (e : ℕ) (here : Scope) (s : Room) → GivesMore here (hide_node rec e here s)
-unfolding hide_node
-hide_grows rec r e here s = within_grows rec r e here here s (same here)
-
 choose_grows : (rec : Evaluator) → IsGrowing rec → (a b : ℕ) (x : Value) (first here : Scope) (s : Room) → Grows first here → GivesMore first (choose rec (length first.nouns) a b x here s)
 unfolding choose
 choose_grows rec r a b (held.Bool true) first here s g = within_grows rec r a first here s g
@@ -71,6 +67,10 @@ if_grows : (rec : Evaluator) → IsGrowing rec → (c a b : ℕ) (here : Scope) 
 unfolding if_node ◌>>=◌
 if_grows rec r c a b here s = then_of _ (r.expression c here s) (λ x t g. choose_grows rec r a b x.0 here x.1 t g)
 
+guarded_grows : (rec : Evaluator) (n : Node) (here : Scope) (s : Room) → GivesMore here (guarded_node rec n here s)
+unfolding guarded_node ◌>>=◌
+guarded_grows rec n here s = then_any _ _ (λ v t. given v t (same here))
+
 step_grows : (tree : List Node) (rec : Evaluator) → IsGrowing rec → (id : ℕ) (n : Node) (here : Scope) (s : Room) → GivesMore here (step tree rec id n here s)
 unfolding step
 step_grows tree rec r id (Lit l) here s = literal_grows l here s
@@ -80,7 +80,10 @@ step_grows tree rec r id (Def p j e) here s = define_grows rec r p j e here s
 step_grows tree rec r id (Call f verb args) here s = call_grows tree rec r f verb args here s
 step_grows tree rec r id (Sequence es) here s = last_grows rec r held.Null es here here s (same here)
 step_grows tree rec r id (If c a b) here s = if_grows rec r c a b here s
-step_grows tree rec r id (Hide e) here s = hide_grows rec r e here s
+step_grows tree rec r id (Escape p b c) here s = guarded_grows rec (Escape p b c) here s
+step_grows tree rec r id (Try b p h) here s = guarded_grows rec (Try b p h) here s
+step_grows tree rec r id (Finally a b) here s = guarded_grows rec (Finally a b) here s
+step_grows tree rec r id (Hide e) here s = guarded_grows rec (Hide e) here s
 step_grows tree rec r id (ObjectNode p auditors ms) here s = object_grows tree id p auditors here s
 step_grows tree rec r id _ here s = lost _ s
 

@@ -1,7 +1,9 @@
 pub mod Calls
 pub mod Depth
 pub mod Grows
+pub mod Guarded
 pub mod IsMet
+pub mod Leaves
 pub mod Meets
 pub mod Objects
 pub mod Primitives

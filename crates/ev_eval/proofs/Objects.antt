@@ -1,10 +1,13 @@
 -- Objects in the code's evaluation stand for the machine's: calls on them.
-use Rattle.std.proofs.Common.{◌≡◌, ℕ, zero, suc, true, List, [], ◌∷◌, Option, Some, None, length, map, refl, sym, subst}
+use Rattle.std.proofs.Common.{◌≡◌, ℕ, zero, suc, Bool, true, List, [], ◌∷◌, Option, Some, None, length, map, refl, sym, subst}
 use Rattle.std.specs.Prelude.{reverse, slice_get, option_map}
 use Rattle.std.proofs.lemmas.List.{length-map}
 use Rattle.ev_base.specs.declared.values.Value.{Value as Held}
 use Rattle.ev_base.specs.declared.values.Value.TheVariants as held
 use Rattle.ev_heap.specs.declared.happened.Happened.TheVariants as event
+use Rattle.ev_heap.specs.declared.kept.Caught.{Caught}
+use Rattle.ev_heap.specs.declared.kept.Shape.{Shape}
+use Rattle.ev_heap.specs.declared.kept.Shape.TheVariants as shape
 use Rattle.ev_heap.specs.declared.kept.Thing.{Thing as HeldThing}
 use Rattle.ev_kernel.specs.declared.node.Node.{Node}
 use Rattle.ev_kernel.specs.declared.node.Node.TheVariants.{Object as ObjectNode, Method, Matcher}
@@ -17,13 +20,15 @@ use Rattle.ev_machine.specs.Eval as theirs
 use Rattle.ev_prims.specs.declared.problem.Problem.TheVariants.{NoMethod}
 use Rattle.ev_room.specs.declared.object.Object.{Object}
 use Rattle.ev_room.specs.declared.room.Room.{Room}
+use Rattle.ev_room.specs.declared.scope.Binding.{Binding}
 use Rattle.ev_room.specs.declared.scope.Bound.TheVariants as scope
 use Rattle.ev_room.specs.declared.scope.Scope.{Scope}
 use Rattle.ev_eval.specs.Built.{is_nil, is_built_node, is_built}
-use Rattle.ev_room.specs.Reading.{World, names, value_of, values_of, thing_of}
-use Rattle.ev_room.specs.Sound.{IsSound, IsPlainThing, is_there, are_there, are_bound, plain_thing}
-use Rattle.ev_eval.specs.Steps.{Evaluator, bind_all, run_method, run_found, run_object, call_made, call_object}
-use Rattle.ev_room.specs.Acts.{Out, and_then, ◌>>=◌, ◌>>◌, fail, fails, object_node, first_method, closed, code_in, look_code}
+use Rattle.ev_room.specs.Reading.{World, names, value_of, values_of, shape_in, thing_of}
+use Rattle.ev_room.specs.Sound.{IsSound, IsPlainShape, IsPlainThing, caught_of, is_there, are_there, are_bound}
+use Rattle.ev_eval.specs.Steps.{Evaluator, bind_all, run_method, run_found, run_object, call_made, call_code, call_object}
+use Rattle.ev_room.specs.Acts.{Out, and_then, ◌>>=◌, ◌>>◌, fail, fails, object_node, first_method, closed, code_in, code_of, look_code}
+use Rattle.ev_room.proofs.Leaving.{call_ejector_met}
 use Rattle.ev_room.proofs.Closes.{called_line, closed_met}
 use Rattle.ev_eval.proofs.IsMet.{IsMet}
 use Rattle.ev_room.proofs.Sounds.{all_on, scope_on}
@@ -113,23 +118,43 @@ made_call_met w tree rec their h again act i verb args o s sound a k built =
 
 -- the code of what stands there, and then its call
 after_code : List Node → Evaluator → ℕ → ℕ → Words → List Held → Option HeldThing → Room → Out Held
-after_code tree rec act i verb args o s = and_then (code_in o, s) (call_made tree rec act i verb args)
+after_code tree rec act i verb args o s = and_then (code_in o, s) (call_code tree rec act i verb args)
 
-known_met : (w : World) (tree : List Node) (rec : Evaluator) (their : scopes.Evaluator Local) (h : IsMet w rec their) (again : scopes.Caller Local) (act i : ℕ) (verb : Words) (args : List Held) (o : Object) (s : Room) → IsSound s.heap → are_there s.heap args ≡ true → are_bound s.heap o.nouns ≡ true → is_built tree ≡ true
-    → Met w a_value s (after_code tree rec act i verb args (Some (plain_thing o)) s) (calls.call_thing (names w) tree their again act (Ref (Obj i)) i (Some (thing_of w (plain_thing o))) verb (values_of w args) (vat w s))
-unfolding after_code and_then
-known_met w tree rec their h again act i verb args o s sound a k built =
-    rw (code_is o, thing_is w o) (made_call_met w tree rec their h again act i verb args o s sound a k built)
+made_met : (w : World) (tree : List Node) (rec : Evaluator) (their : scopes.Evaluator Local) (h : IsMet w rec their) (again : scopes.Caller Local) (act i : ℕ) (verb : Words) (args : List Held) (node : ℕ) (bs : List Binding) (live : Bool) (s : Room) → IsSound s.heap → are_there s.heap args ≡ true → are_bound s.heap bs ≡ true → is_built tree ≡ true
+    → Met w a_value s (after_code tree rec act i verb args (Some (record { shape = shape.Made node (map caught_of bs) []; alive = live })) s) (calls.call_thing (names w) tree their again act (Ref (Obj i)) i (Some (shape_in w live (shape.Made node (map caught_of bs) []))) verb (values_of w args) (vat w s))
+unfolding after_code and_then code_in call_code
+made_met w tree rec their h again act i verb args node bs live s sound a k built =
+    rw (code_is node bs live, thing_is w node bs live) (made_call_met w tree rec their h again act i verb args (record { node = node; nouns = bs }) s sound a k built)
+
+-- what a call on something of that shape does
+abbrev ShapeMet : World → List Node → Evaluator → scopes.Evaluator Local → scopes.Caller Local → ℕ → ℕ → Words → List Held → Room → Bool → Shape → Type 0
+ShapeMet w tree rec their again act i verb args s live sh = Met w a_value s (after_code tree rec act i verb args (Some (record { shape = sh; alive = live })) s) (calls.call_thing (names w) tree their again act (Ref (Obj i)) i (Some (shape_in w live sh)) verb (values_of w args) (vat w s))
+
+ejector_met : (w : World) (tree : List Node) (rec : Evaluator) (their : scopes.Evaluator Local) (again : scopes.Caller Local) (act i : ℕ) (verb : Words) (args : List Held) (live : Bool) (s : Room) → IsSound s.heap → are_there s.heap args ≡ true
+    → ShapeMet w tree rec their again act i verb args s live shape.Ejector
+unfolding after_code and_then code_in code_of call_code
+ejector_met w tree rec their again act i verb args live s sound a = call_ejector_met w tree their again act i live verb args s sound a
+
+shape_met : (w : World) (tree : List Node) (rec : Evaluator) (their : scopes.Evaluator Local) (h : IsMet w rec their) (again : scopes.Caller Local) (act i : ℕ) (verb : Words) (args : List Held) (sh : Shape) (live : Bool) (s : Room) → IsSound s.heap → are_there s.heap args ≡ true → is_built tree ≡ true
+    → IsPlainShape s.heap sh → ShapeMet w tree rec their again act i verb args s live sh
+shape_met w tree rec their h again act i verb args (shape.Made node caught stamps) live s sound a built p =
+    subst (λ (cs : List Caught). ShapeMet w tree rec their again act i verb args s live (shape.Made node cs stamps)) (sym p.1.0)
+    (subst (λ (ss : List Held). ShapeMet w tree rec their again act i verb args s live (shape.Made node (map caught_of p.0) ss)) (sym p.1.1.0)
+    (made_met w tree rec their h again act i verb args node p.0 live s sound a p.1.1.1 built))
+shape_met w tree rec their h again act i verb args shape.Ejector live s sound a built p = ejector_met w tree rec their again act i verb args live s sound a
+shape_met w tree rec their h again act i verb args (shape.Resolver k) live s sound a built p = absurd p
+shape_met w tree rec their h again act i verb args (shape.Audition node) live s sound a built p = absurd p
+
+none_met : (w : World) (tree : List Node) (rec : Evaluator) (their : scopes.Evaluator Local) (again : scopes.Caller Local) (act i : ℕ) (verb : Words) (args : List Held) (s : Room) → IsSound s.heap
+    → Met w a_value s (after_code tree rec act i verb args None s) (calls.call_thing (names w) tree their again act (Ref (Obj i)) i None verb (values_of w args) (vat w s))
+unfolding after_code and_then code_in calls.call_thing fail
+none_met w tree rec their again act i verb args s sound = stop_met w a_value s sound
 
 thing_met : (w : World) (tree : List Node) (rec : Evaluator) (their : scopes.Evaluator Local) (h : IsMet w rec their) (again : scopes.Caller Local) (act i : ℕ) (verb : Words) (args : List Held) (o : Option HeldThing) (s : Room) → IsSound s.heap → are_there s.heap args ≡ true → is_built tree ≡ true
     → ((t : HeldThing) → o ≡ Some t → IsPlainThing s.heap t)
     → Met w a_value s (after_code tree rec act i verb args o s) (calls.call_thing (names w) tree their again act (Ref (Obj i)) i (option_map (thing_of w) o) verb (values_of w args) (vat w s))
-unfolding after_code and_then code_in calls.call_thing fail
-thing_met w tree rec their h again act i verb args None s sound a built f = stop_met w a_value s sound
-thing_met w tree rec their h again act i verb args (Some t) s sound a built f =
-    let p = f t refl in
-    subst (λ (u : HeldThing). Met w a_value s (after_code tree rec act i verb args (Some u) s) (calls.call_thing (names w) tree their again act (Ref (Obj i)) i (Some (thing_of w u)) verb (values_of w args) (vat w s))) (sym p.1.0)
-    (known_met w tree rec their h again act i verb args p.0 s sound a p.1.1 built)
+thing_met w tree rec their h again act i verb args None s sound a built f = none_met w tree rec their again act i verb args s sound
+thing_met w tree rec their h again act i verb args (Some t) s sound a built f = shape_met w tree rec their h again act i verb args t.shape t.alive s sound a built (f t refl)
 
 spot_is : (w : World) (tree : List Node) (their : scopes.Evaluator Local) (again : scopes.Caller Local) (act i : ℕ) (x : Value Local) (verb : Words) (vs : List (Value Local)) (v : Vat Local)
     → calls.call_value (names w) tree their again act x (Ref (Obj i)) verb vs v ≡ calls.call_thing (names w) tree their again act x i (slice_get v.things i) verb vs v

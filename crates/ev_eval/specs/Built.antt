@@ -3,13 +3,13 @@ use Rattle.std.specs.Prelude.{ℕ, Bool, true, false, if◌then◌else◌, List,
 use Rattle.ev_base.specs.SafeScope.{safe_value}
 use Rattle.ev_room.specs.Sound.{is_built_safe}
 use Rattle.ev_kernel.specs.declared.node.Node.{Node}
-use Rattle.ev_kernel.specs.declared.node.Node.TheVariants.{Lit, Noun, Set, Def, Call, Sequence, If, Hide, Object, Method, Final, Var, Any}
+use Rattle.ev_kernel.specs.declared.node.Node.TheVariants.{Lit, Noun, Set, Def, Call, Sequence, If, Escape, Try, Finally, Hide, Object, Method, Final, Var, Any}
 
 abbrev pub is_nil : List ℕ → Bool
 is_nil [] = true
 is_nil _ = false
 
--- Literals, nouns, assignments, definitions without ejector, calls, sequences, ifs, hides, objects without
+-- Literals, nouns, assignments, definitions without ejector, calls, sequences, ifs, escapes, tries, finallys, hides, objects without
 -- auditors, methods, and patterns without guard that bind at most one name.
 unfoldable pub is_built_node : Node → Bool
 is_built_node (Lit l) = true
@@ -19,6 +19,9 @@ is_built_node (Def p j e) = is_none j
 is_built_node (Call r verb es) = true
 is_built_node (Sequence es) = true
 is_built_node (If t a b) = true
+is_built_node (Escape p b c) = true
+is_built_node (Try b p h) = true
+is_built_node (Finally a b) = true
 is_built_node (Hide e) = true
 is_built_node (Object p auditors members) = is_nil auditors
 is_built_node (Method verb ps b) = true

@@ -1,5 +1,5 @@
 -- Evaluation over the state of the code: the machine's evaluation of the trees that are built.
-use Rattle.std.specs.Prelude.{◌+◌, reverse, ℕ, zero, suc, pos, Bool, true, false, if◌then◌else◌, List, [], ◌∷◌, ◌++◌, Some, None, length, slice_get, codes}
+use Rattle.std.specs.Prelude.{◌+◌, ◌==◌, reverse, ℕ, zero, suc, pos, Bool, true, false, if◌then◌else◌, List, [], ◌∷◌, ◌++◌, Some, None, length, slice_get, codes}
 use Rattle.std.specs.declared.option.Option.{Option}
 use Rattle.ev_base.specs.declared.values.Value.{Value}
 use Rattle.ev_base.specs.declared.values.Value.TheVariants as held
@@ -7,7 +7,7 @@ use Rattle.ev_heap.specs.declared.happened.Happened.TheVariants as event
 use Rattle.ev_kernel.specs.declared.node.Literal.{Literal}
 use Rattle.ev_kernel.specs.declared.node.Literal.TheVariants as literal
 use Rattle.ev_kernel.specs.declared.node.Node.{Node}
-use Rattle.ev_kernel.specs.declared.node.Node.TheVariants.{Lit, Noun, Set, Def, Call, Sequence, If, Hide, Object as ObjectNode, Method, Final, Var, Any}
+use Rattle.ev_kernel.specs.declared.node.Node.TheVariants.{Lit, Noun, Set, Def, Call, Sequence, If, Escape, Try, Finally, Hide, Object as ObjectNode, Method, Final, Var, Any}
 use Rattle.ev_machine.specs.Values.{Words}
 use Rattle.ev_machine.specs.Scopes.{members_of}
 use Rattle.ev_heap.specs.Contents.{Contents}
@@ -25,10 +25,12 @@ use Rattle.ev_prims.specs.declared.reply.Reply.{Reply}
 use Rattle.ev_prims.specs.declared.reply.Reply.TheVariants as reply
 use Rattle.ev_room.specs.Sound.{is_there}
 use Rattle.ev_room.specs.declared.object.Object.{Object}
-use Rattle.ev_room.specs.declared.exit.Exit.TheVariants.{Thrown, Fuel, Deep, Astray, Unbuilt}
+use Rattle.ev_room.specs.declared.object.Code.{Code}
+use Rattle.ev_room.specs.declared.object.Code.TheVariants.{Runs, Leaves}
+use Rattle.ev_room.specs.declared.exit.Exit.TheVariants.{Thrown, Ejected, Fuel, Deep, Astray, Unbuilt}
 use Rattle.ev_room.specs.declared.scope.Bound.TheVariants.{Fixed, Slot}
 use Rattle.ev_room.specs.declared.scope.Scope.{Scope}
-use Rattle.ev_room.specs.Acts.{Act, ◌>>=◌, ◌>>◌, give, fail, tell, spend, new_activation, new_slot, found_from, read_bound, write_bound, cut, with_noun, fails, text_value, write_text, make_list, closed, thrown_id, call_there, object_node, first_method, look_code, opened_acts}
+use Rattle.ev_room.specs.Acts.{Act, ◌>>=◌, ◌>>◌, give, fail, tell, spend, new_activation, new_slot, found_from, read_bound, write_bound, cut, with_noun, fails, text_value, write_text, make_list, closed, thrown_id, call_there, object_node, first_method, look_code, Out, ended_by, leave, new_ejector, call_ejector, opened_acts}
 
 -- a call by an activation: receiver, verb and arguments
 abbrev pub Caller : Type 0
@@ -138,10 +140,15 @@ call_made tree rec act i verb args o = do
   tell (event.Call act (held.Obj i) verb args (Some b))
   closed act (run_object tree rec o.node verb args (record { act = b; nouns = reverse o.nouns }))
 
+-- what is called runs its code, or leaves to its escape
+unfoldable pub call_code : List Node → Evaluator → ℕ → ℕ → Words → List Value → Code → Act Value
+call_code tree rec act i verb args (Runs o) = call_made tree rec act i verb args o
+call_code tree rec act i verb args (Leaves live) = call_ejector act i live verb args
+
 unfoldable pub call_object : List Node → Evaluator → ℕ → ℕ → Words → List Value → Act Value
 call_object tree rec act i verb args = do
-  o ← look_code i
-  call_made tree rec act i verb args o
+  c ← look_code i
+  call_code tree rec act i verb args c
 
 -- a call in which data and primitives call again so
 unfoldable pub call_value : List Node → Evaluator → Caller → Caller
@@ -221,9 +228,6 @@ within rec mark e here = do
   x ← rec.expression e here
   give (x.0, cut mark x.1)
 
-unfoldable pub hide_node : Evaluator → ℕ → Scope → Act (Value × Scope)
-hide_node rec e here = within rec (length here.nouns) e here
-
 -- the branch that a value chooses, in the scope after the test
 unfoldable pub choose : Evaluator → ℕ → ℕ → ℕ → Value → Scope → Act (Value × Scope)
 choose rec mark a b (held.Bool true) inner = within rec mark a inner
@@ -235,6 +239,73 @@ if_node rec t a b here = do
   x ← rec.expression t here
   choose rec (length here.nouns) a b x.0 x.1
 
+-- ---- escapes, problems, and what is evaluated at last
+
+-- an expression whose names are dropped behind it
+unfoldable pub alone : Evaluator → ℕ → Scope → Act Value
+alone rec e here = do
+  x ← rec.expression e here
+  give x.0
+
+-- a pattern is bound to a value, and an expression evaluated in the scope after it; the names of both are dropped
+unfoldable pub handled : Evaluator → ℕ → ℕ → Value → Scope → Act Value
+handled rec p e v here = do
+  inner ← rec.pattern p v here
+  x ← rec.expression e inner
+  give x.0
+
+unfoldable pub caught_as : Evaluator → Option (ℕ × ℕ) → Value → Scope → Act Value
+caught_as rec None v here = give v
+caught_as rec (Some c) v here = handled rec c.0 c.1 v here
+
+-- what left by the ejector is the value, or is bound by the catch
+unfoldable pub caught_by : Evaluator → Option (ℕ × ℕ) → Value → Scope → Act Value
+caught_by rec c v here = do
+  tell (event.Got here.act v)
+  caught_as rec c v here
+
+unfoldable pub caught_if : Evaluator → Option (ℕ × ℕ) → Scope → ℕ → Value → Bool → Act Value
+caught_if rec c here n v true = caught_by rec c v here
+caught_if rec c here n v false = fail (Ejected n v)
+
+-- however it ended, the ejector is dead after it
+unfoldable pub escaped : Evaluator → ℕ → Option (ℕ × ℕ) → Scope → Out Value → Out Value
+escaped rec j c here o = ended_by (λ v. leave j (give v)) (λ id. leave j (fail (Thrown id))) (λ n v. leave j (caught_if rec c here n v (n == j))) o
+
+-- the body of an escape, whose pattern is bound to the ejector
+unfoldable pub escaping : Evaluator → ℕ → ℕ → Option (ℕ × ℕ) → Scope → ℕ → Act Value
+escaping rec p b c here j = λ s. escaped rec j c here (handled rec p b (held.Obj j) here s)
+
+-- the handler is evaluated at a problem
+unfoldable pub tried : Evaluator → ℕ → ℕ → Scope → Out Value → Out Value
+tried rec p h here o = ended_by give (λ id. handled rec p h (held.Text id) here) (λ n v. fail (Ejected n v)) o
+
+unfoldable pub trying : Evaluator → ℕ → ℕ → ℕ → Scope → Act Value
+trying rec b p h here = λ s. tried rec p h here (alone rec b here s)
+
+-- the second part is evaluated after every end but a stop, and its value is dropped
+unfoldable pub at_last : Evaluator → ℕ → Scope → Out Value → Out Value
+at_last rec b here o = ended_by (λ v. alone rec b here >> give v) (λ id. alone rec b here >> fail (Thrown id)) (λ n v. alone rec b here >> fail (Ejected n v)) o
+
+unfoldable pub lasting : Evaluator → ℕ → ℕ → Scope → Act Value
+lasting rec a b here = λ s. at_last rec b here (alone rec a here s)
+
+-- an escape, a try, a finally or a hide
+unfoldable pub guarded : Evaluator → Node → Scope → Act Value
+guarded rec (Escape p b c) here = do
+  j ← new_ejector here.act
+  escaping rec p b c here j
+guarded rec (Try b p h) here = trying rec b p h here
+guarded rec (Finally a b) here = lasting rec a b here
+guarded rec (Hide e) here = alone rec e here
+guarded rec _ here = fail Astray
+
+-- it leaves the scope as it was
+unfoldable pub guarded_node : Evaluator → Node → Scope → Act (Value × Scope)
+guarded_node rec n here = do
+  v ← guarded rec n here
+  give (v, here)
+
 unfoldable pub step : List Node → Evaluator → ℕ → Node → Scope → Act (Value × Scope)
 step tree rec id (Lit l) here = literal_node l here
 step tree rec id (Noun x) here = noun_node x here
@@ -243,7 +314,10 @@ step tree rec id (Def p j e) here = define rec p j e here
 step tree rec id (Call r verb args) here = call_node tree rec r verb args here
 step tree rec id (Sequence es) here = last_of rec held.Null es here
 step tree rec id (If t a b) here = if_node rec t a b here
-step tree rec id (Hide e) here = hide_node rec e here
+step tree rec id (Escape p b c) here = guarded_node rec (Escape p b c) here
+step tree rec id (Try b p h) here = guarded_node rec (Try b p h) here
+step tree rec id (Finally a b) here = guarded_node rec (Finally a b) here
+step tree rec id (Hide e) here = guarded_node rec (Hide e) here
 step tree rec id (ObjectNode p auditors members) here = object_node tree id p auditors here
 step tree rec id (Method v ps b) here = fail Astray
 step tree rec id (Final x g) here = fail Astray
@@ -277,6 +351,9 @@ bind_step (Def p j e) v here = fail Astray
 bind_step (Call r verb args) v here = fail Astray
 bind_step (Sequence es) v here = fail Astray
 bind_step (If t a b) v here = fail Astray
+bind_step (Escape p b c) v here = fail Astray
+bind_step (Try b p h) v here = fail Astray
+bind_step (Finally a b) v here = fail Astray
 bind_step (Hide e) v here = fail Astray
 bind_step (ObjectNode p auditors members) v here = fail Astray
 bind_step (Method u ps b) v here = fail Astray
@@ -310,5 +387,5 @@ opening tree depth = do
 
 -- opens the steps, and not the recursions
 unfoldable pub opened_steps : Unit {0}
-unfolding after_turn loop pair_there compared_there compared performed replied answered_there answered call_data call_node run_method run_found run_object call_made call_object call_value call define literal_value literal_node noun_node set_node within hide_node choose if_node step bind_final bind_var bind_any bind_step step_found bind_found opening opened_acts
+unfolding after_turn loop pair_there compared_there compared performed replied answered_there answered call_data call_node run_method run_found run_object call_made call_code call_object call_value call define literal_value literal_node noun_node set_node within choose if_node alone handled caught_as caught_by step bind_final bind_var bind_any bind_step step_found bind_found opening opened_acts
 opened_steps = tt

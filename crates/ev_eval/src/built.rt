@@ -42,6 +42,9 @@ fn is_built_node(node: &Node) -> bool
         Node::Call { .. } => true,
         Node::Sequence(_) => true,
         Node::If(_, _, _) => true,
+        Node::Escape { .. } => true,
+        Node::Try { .. } => true,
+        Node::Finally(_, _) => true,
         Node::Hide(_) => true,
         Node::Object { auditors, .. } => auditors.is_empty(),
         Node::Method { .. } => true,
@@ -53,8 +56,8 @@ fn is_built_node(node: &Node) -> bool
 }
 
 /// Whether each node of a program is of a kind that is evaluated so far: a literal, a noun that is
-/// `null`, `true`, `false`, a primitive on which calls are built or not in the safe scope, an assignment, a definition without an ejector, a call, a sequence, an if, a
-/// hide, an object without auditors, a method, or a final, var or any pattern without a guard.
+/// `null`, `true`, `false`, a primitive on which calls are built or not in the safe scope, an assignment, a definition without an ejector, a call, a sequence, an if, an
+/// escape, a try, a finally, a hide, an object without auditors, a method, or a final, var or any pattern without a guard.
 #[tactic(auto, unfolding(crate::specs::Built::is_built))]
 pub fn is_built(program: &Kernel) -> bool
     ensures { result ≡ is_built program.now }

@@ -3,6 +3,7 @@
 
 pub mod built;
 pub mod evaluate;
+mod nodes;
 pub mod pattern;
 pub mod turn;
 

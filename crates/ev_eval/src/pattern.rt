@@ -2,7 +2,7 @@
 
 ghost use Rattle.std.specs.Prelude.{◌≡◌};
 ghost use Rattle.ev_eval.specs.Steps.{bind_all, bind_final, bind_step, bind_var, evaluator};
-ghost use Rattle.ev_room.specs.Acts.{Binds};
+ghost use Rattle.ev_room.specs.Acts.{Binds, Extends};
 
 use ev_base::{NodeId, Str, Value};
 use ev_heap::Happened;
@@ -14,7 +14,7 @@ use ev_room::slots::new_slot;
 use ev_room::tree::node_at;
 
 /// Binds a noun finally to a value.
-#[tactic(auto, using(ev_room::proofs::Exits::ends), unfolding(crate::specs::Steps::opened_steps))]
+#[tactic(auto, using(ev_room::proofs::Exits::ends, ev_room::proofs::Fronts::itself_in_front, ev_room::proofs::Fronts::more_in_front, ev_room::proofs::Fronts::kept_in_front), unfolding(crate::specs::Steps::opened_steps))]
 fn bind_final(
     noun: &str,
     guard: Option<NodeId>,
@@ -23,6 +23,7 @@ fn bind_final(
     room: &mut Room,
 ) -> Result<(), Exit>
     ensures outcome { Binds result here.new room.new (bind_final noun.now guard value here.old room.old) }
+    ensures front { Extends here.old here.new }
 {
     match guard {
         Some(_) => Err(Exit::Unbuilt),
@@ -38,7 +39,7 @@ fn bind_final(
 }
 
 /// Binds a noun to a new var slot with a value.
-#[tactic(auto, using(ev_room::proofs::Exits::ends), unfolding(crate::specs::Steps::opened_steps))]
+#[tactic(auto, using(ev_room::proofs::Exits::ends, ev_room::proofs::Fronts::itself_in_front, ev_room::proofs::Fronts::more_in_front, ev_room::proofs::Fronts::kept_in_front), unfolding(crate::specs::Steps::opened_steps))]
 fn bind_var(
     noun: &str,
     guard: Option<NodeId>,
@@ -47,6 +48,7 @@ fn bind_var(
     room: &mut Room,
 ) -> Result<(), Exit>
     ensures outcome { Binds result here.new room.new (bind_var noun.now guard value here.old room.old) }
+    ensures front { Extends here.old here.new }
 {
     match guard {
         Some(_) => Err(Exit::Unbuilt),
@@ -65,9 +67,10 @@ fn bind_var(
 }
 
 /// Binds the names of a pattern to a value.
-#[tactic(auto, using(ev_room::proofs::Exits::ends), unfolding(crate::specs::Steps::opened_steps))]
+#[tactic(auto, using(ev_room::proofs::Exits::ends, ev_room::proofs::Fronts::itself_in_front), unfolding(crate::specs::Steps::opened_steps))]
 fn bind_step(node: &Node, value: Value, here: &mut Scope, room: &mut Room) -> Result<(), Exit>
     ensures outcome { Binds result here.new room.new (bind_step node.now value here.old room.old) }
+    ensures front { Extends here.old here.new }
 {
     match node {
         Node::Final(noun, guard) => bind_final(noun.as_str(), *guard, value, here, room),
@@ -81,6 +84,9 @@ fn bind_step(node: &Node, value: Value, here: &mut Scope, room: &mut Room) -> Re
         | Node::Call { .. }
         | Node::Sequence(_)
         | Node::If(_, _, _)
+        | Node::Escape { .. }
+        | Node::Try { .. }
+        | Node::Finally(_, _)
         | Node::Hide(_)
         | Node::Object { .. }
         | Node::Method { .. } => Err(Exit::Astray),
@@ -89,7 +95,7 @@ fn bind_step(node: &Node, value: Value, here: &mut Scope, room: &mut Room) -> Re
 }
 
 /// Binds the names of the pattern at a node to a value, at most so many levels deep.
-#[tactic(auto, using(crate::proofs::Depth::pattern_deep, crate::proofs::Depth::pattern_goes, ev_room::proofs::Exits::ends), unfolding(crate::specs::Steps::opened_steps))]
+#[tactic(auto, using(crate::proofs::Depth::pattern_deep, crate::proofs::Depth::pattern_goes, ev_room::proofs::Exits::ends, ev_room::proofs::Fronts::itself_in_front), unfolding(crate::specs::Steps::opened_steps))]
 pub fn bind(
     program: &Kernel,
     depth: u32,
@@ -99,6 +105,7 @@ pub fn bind(
     room: &mut Room,
 ) -> Result<(), Exit>
     ensures outcome { Binds result here.new room.new ((evaluator program.now depth).pattern id value here.old room.old) }
+    ensures front { Extends here.old here.new }
 {
     if depth == 0 {
         return Err(Exit::Deep);
@@ -111,7 +118,7 @@ pub fn bind(
 }
 
 /// Binds the names of patterns to values, one after another.
-#[tactic(auto, using(ev_room::proofs::Exits::ends), unfolding(crate::specs::Steps::opened_steps, crate::specs::Steps::bind_all))]
+#[tactic(auto, using(ev_room::proofs::Exits::ends, ev_room::proofs::Fronts::itself_in_front, ev_room::proofs::Fronts::in_front), unfolding(crate::specs::Steps::opened_steps, crate::specs::Steps::bind_all))]
 pub fn bind_all(
     program: &Kernel,
     depth: u32,
@@ -121,6 +128,7 @@ pub fn bind_all(
     room: &mut Room,
 ) -> Result<(), Exit>
     ensures outcome { Binds result here.new room.new (bind_all (evaluator program.now depth) patterns.now values.now here.old room.old) }
+    ensures front { Extends here.old here.new }
 {
     for (index, pattern) in patterns.iter().enumerate() {
         let Some(value) = values.get(index) else {

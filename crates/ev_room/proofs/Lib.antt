@@ -2,7 +2,10 @@ pub mod Behind
 pub mod Bindings
 pub mod Cells
 pub mod Closes
+pub mod Ejectors
 pub mod Exits
+pub mod Fronts
+pub mod Leaving
 pub mod Making
 pub mod Replies
 pub mod Sounds

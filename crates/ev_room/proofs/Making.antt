@@ -20,15 +20,16 @@ use Rattle.ev_machine.specs.Eval.{opened_eval}
 use Rattle.ev_machine.specs.Scopes as scopes
 use Rattle.ev_machine.specs.Calls as calls
 use Rattle.ev_machine.specs.Eval as theirs
-use Rattle.ev_room.specs.declared.object.Object.{Object}
+use Rattle.ev_heap.specs.declared.kept.Shape.TheVariants.{Made as Plain}
+use Rattle.ev_room.specs.declared.object.Code.TheVariants.{Runs}
 use Rattle.ev_room.specs.declared.room.Room.{Room}
 use Rattle.ev_room.specs.declared.scope.Binding.{Binding}
 use Rattle.ev_room.specs.declared.scope.Bound.{Bound as Kept}
 use Rattle.ev_room.specs.declared.scope.Bound.TheVariants as scope
 use Rattle.ev_room.specs.declared.scope.Scope.{Scope}
-use Rattle.ev_room.specs.Reading.{World, names, thing_of, caught_in, capture_in, line_of, vat_of}
+use Rattle.ev_room.specs.Reading.{World, names, thing_of, shape_in, caught_in, capture_in, line_of, vat_of}
 use Rattle.ev_room.specs.Sound.{IsSound, is_bound, are_bound, plain_thing, capture_of, caught_of}
-use Rattle.ev_room.specs.Acts.{◌>>=◌, ◌>>◌, found_from, bound_back, binding_back, with_bound, captures, new_object, named, object_made, object_in, make_object, object_node, suits, first_method, code_of, code_in}
+use Rattle.ev_room.specs.Acts.{◌>>=◌, ◌>>◌, found_from, bound_back, binding_back, with_bound, captures, new_object, named, object_made, object_in, make_object, object_node, suits, first_method, code_of}
 use Rattle.ev_room.proofs.Bindings.{FoundThere, found_of, found_is, found_there, none_bound, onto_more, bound_more}
 use Rattle.ev_room.proofs.Sounds.{scope_on, all_and, thing_grown, thing_sound}
 use Rattle.ev_room.proofs.Stands.{Met, vat, an_answer, itself, bound_of, bond_of, bonds_onto, scope_of, then_met, give_met, tell_met}
@@ -69,9 +70,9 @@ bindings_back (b ∷ bs) =
     ap (λ (x : Kept). record { noun = b.noun; bound = x } ∷ map binding_back (map caught_of bs)) (bound_back_is b.bound)
     ∙ ap (λ (cs : List Binding). b ∷ cs) (bindings_back bs)
 
-pub code_is : (o : Object) → code_in (Some (plain_thing o)) ≡ Ok o
-unfolding code_in code_of
-code_is o = ap (λ (bs : List Binding). Ok (record { node = o.node; nouns = bs })) (bindings_back o.nouns)
+pub code_is : (node : ℕ) (bs : List Binding) (live : Bool) → code_of (Plain node (map caught_of bs) []) live ≡ Ok (Runs (record { node = node; nouns = bs }))
+unfolding code_of
+code_is node bs live = ap (λ (cs : List Binding). Ok (Runs (record { node = node; nouns = cs }))) (bindings_back bs)
 
 -- the same from the last on
 turned_there : (h : Contents) (xs ys : List Binding) → are_bound h xs ≡ true → are_bound h ys ≡ true → are_bound h (reverse_aux xs ys) ≡ true
@@ -140,8 +141,8 @@ pub things_are : (w : World) (s : Room) → (vat w s).things ≡ map (thing_of w
 unfolding vat_of
 things_are w s = refl
 
-pub thing_is : (w : World) (o : Object) → thing_of w (plain_thing o) ≡ Made o.node (map (bond_of w) o.nouns) []
-thing_is w o = ap (λ (bs : List (Bond Local)). Made o.node bs []) (caught_is w o.nouns)
+pub thing_is : (w : World) (node : ℕ) (bs : List Binding) (live : Bool) → shape_in w live (Plain node (map caught_of bs) []) ≡ Made node (map (bond_of w) bs) []
+thing_is w node bs live = ap (λ (cs : List (Bond Local)). Made node cs []) (caught_is w bs)
 
 new_object_met : (w : World) (node : ℕ) (bs : List Binding) (s : Room) → IsSound s.heap → are_bound s.heap bs ≡ true
     → Met w itself s (new_object node bs s) (machine.new_thing (Made node (map (bond_of w) bs) []) (vat w s))

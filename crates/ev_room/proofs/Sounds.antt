@@ -7,9 +7,11 @@ use Rattle.ev_base.specs.declared.values.Value.TheVariants as held
 use Rattle.ev_heap.specs.Contents.{Contents, size_of, weight_in, height_in, weight_of, height_of, weight_of_all, height_of_all, listed}
 use Rattle.ev_heap.specs.declared.kept.Cell.{Cell}
 use Rattle.ev_heap.specs.declared.kept.Listed.{Listed}
+use Rattle.ev_heap.specs.declared.kept.Shape.{Shape}
+use Rattle.ev_heap.specs.declared.kept.Shape.TheVariants.{Made, Ejector, Resolver, Audition}
 use Rattle.ev_heap.specs.declared.kept.Thing.{Thing}
 use Rattle.ev_machine.specs.Values.{Words}
-use Rattle.ev_room.specs.Sound.{Each, Grown, IsSound, IsPlainCell, IsPlainThing, IsListed, is_there, are_there, is_bound, are_bound, plain_cell, plain_thing, problems}
+use Rattle.ev_room.specs.Sound.{Each, Grown, IsSound, IsPlainCell, IsPlainShape, IsPlainThing, IsListed, is_there, are_there, is_bound, are_bound, plain_cell, plain_thing, problems}
 use Rattle.ev_room.specs.declared.object.Object.{Object}
 use Rattle.ev_room.specs.declared.scope.Binding.{Binding}
 use Rattle.ev_room.specs.declared.scope.Bound.{Bound}
@@ -151,8 +153,14 @@ module _ {a b : Contents} (g : Grown a b) where
   pub cells_on : (cs : List Cell) → Each (IsPlainCell a) cs → Each (IsPlainCell b) cs
   cells_on cs h = each_on (IsPlainCell a) (IsPlainCell b) cs (λ c p. (p.0, there_on c.value p.1)) h
 
+  shape_on : (sh : Shape) → IsPlainShape a sh → IsPlainShape b sh
+  shape_on (Made node caught stamps) p = (p.0, (p.1.0, (p.1.1.0, scope_on p.0 p.1.1.1)))
+  shape_on Ejector p = tt
+  shape_on (Resolver k) p = absurd p
+  shape_on (Audition node) p = absurd p
+
   pub things_on : (ts : List Thing) → Each (IsPlainThing a) ts → Each (IsPlainThing b) ts
-  things_on ts h = each_on (IsPlainThing a) (IsPlainThing b) ts (λ t p. (p.0, (p.1.0, scope_on p.0.nouns p.1.1))) h
+  things_on ts h = each_on (IsPlainThing a) (IsPlainThing b) ts (λ t p. shape_on t.shape p) h
 
   pub lists_on : (ls : List Listed) → Each (IsListed a) ls → Each (IsListed b) ls
   lists_on ls h = each_on (IsListed a) (IsListed b) ls (λ l p. (p.0 ∙ listed_on l.members p.1, all_on l.members p.1)) h
@@ -241,10 +249,36 @@ module _ (h : Contents) (s : IsSound h) where
       let g = thing_grown o in
       record {
         slots = cells_on g h.slots s.slots;
-        things = each_more (IsPlainThing (with_thing o)) h.things (plain_thing o) (things_on g h.things s.things) (o, (refl, scope_on g o.nouns t));
+        things = each_more (IsPlainThing (with_thing o)) h.things (plain_thing o) (things_on g h.things s.things) (o.nouns, (refl, (refl, scope_on g o.nouns t)));
         lists = lists_on g h.lists s.lists;
         problems_first = problems_on g s.problems_first;
       }
+
+  abbrev with_things : List Thing → Contents
+  with_things ts = record h { things = ts }
+
+  pub things_grown : (ts : List Thing) → Grown h (with_things ts)
+  things_grown ts = grown_by h (with_things ts) refl refl
+
+  things_sound : (ts : List Thing) → Each (IsPlainThing (with_things ts)) ts → IsSound (with_things ts)
+  things_sound ts c =
+      let g = things_grown ts in
+      record { slots = cells_on g h.slots s.slots; things = c; lists = lists_on g h.lists s.lists; problems_first = problems_on g s.problems_first }
+
+  -- one more ejector
+  pub ejector_sound : IsSound (with_things (h.things ++ record { shape = Ejector; alive = true } ∷ []))
+  ejector_sound =
+      let t : Thing = record { shape = Ejector; alive = true } in
+      let ts = h.things ++ t ∷ [] in
+      things_sound ts (each_more (IsPlainThing (with_things ts)) h.things t (things_on (things_grown ts) h.things s.things) tt)
+
+  -- one that is dead from here on
+  pub killed_sound : (k : ℕ) (t : Thing) → slice_get h.things k ≡ Some t → IsSound (with_things (slice_set h.things k (record t { alive = false })))
+  killed_sound k t e =
+      let d : Thing = record t { alive = false } in
+      let ts = slice_set h.things k d in
+      let g = things_grown ts in
+      things_sound ts (each_set (IsPlainThing (with_things ts)) h.things k d (things_on g h.things s.things) (shape_on g t.shape (s.things k t e)))
 
   pub code_grown : (v : Value) → Grown h (record h { codes = h.codes ++ v ∷ [] })
   code_grown v = grown_by h (record h { codes = h.codes ++ v ∷ [] }) refl refl

@@ -9,7 +9,7 @@ use Rattle.ev_heap.specs.declared.happened.Happened.{Happened as Event}
 use Rattle.ev_heap.specs.declared.happened.Happened.TheVariants as event
 use Rattle.ev_kernel.specs.declared.node.Node.{Node}
 use Rattle.ev_machine.specs.Values.{Words, Value, Text, Items, Ref, Local, Obj, Prom, Far, Mess, same_local, local_spot, numbering}
-use Rattle.ev_machine.specs.State.{Bound, Fixed, Slot, Binding as Bond, Scope as Surroundings, Happened, ListMade, Known, Vat, Done, Throws, Stops, Fuel, Deep, Astray, opened_state}
+use Rattle.ev_machine.specs.State.{Bound, Fixed, Slot, Binding as Bond, Scope as Surroundings, Happened, ListMade, Known, Vat, Done, Throws, Ejects, Stops, Fuel, Deep, Astray, opened_state}
 use Rattle.ev_machine.specs.State as machine
 use Rattle.ev_machine.specs.Refs.{follow, follow_at, led, standing_of, standing_in, severed, severed_at, entry_of, list_fits}
 use Rattle.ev_machine.specs.Scopes.{Answer, Answers, any_guard}
@@ -27,7 +27,7 @@ use Rattle.ev_room.specs.declared.scope.Bound.TheVariants as scope
 use Rattle.ev_room.specs.declared.scope.Scope.{Scope}
 use Rattle.ev_room.specs.Reading.{World, names, all_promises, is_promise, text_of, value_of, values_of, members_of, line_of, lines_of, vat_of}
 use Rattle.ev_room.specs.Sound.{Grown, IsSound, is_there, are_there, are_bound, problems}
-use Rattle.ev_room.specs.Acts.{Out, Act, and_then, ◌>>=◌, ◌>>◌, give, fail, fails, tell, spent, spend, new_activation, problem_id, text_value, spell, spelled, write_text, new_list, list_told, keep_list, store, stored, listed_there, make_list, opened_acts}
+use Rattle.ev_room.specs.Acts.{ended_by, Out, Act, and_then, ◌>>=◌, ◌>>◌, give, fail, fails, tell, spent, spend, new_activation, problem_id, text_value, spell, spelled, write_text, new_list, list_told, keep_list, store, stored, listed_there, make_list, opened_acts}
 use Rattle.ev_room.proofs.Behind.{Holds, Of, free}
 use Rattle.ev_room.proofs.Sounds.{grown_same, grown_on, list_on, all_on, got_last, text_grown, text_sound, last_text, list_grown, list_sound, last_list, code_grown, code_sound}
 use Rattle.ev_room.proofs.There.{both, below, is_below}
@@ -71,6 +71,10 @@ some_answers = record { of = λ w a. record { values = values_of w a.0; scope = 
 abbrev pub a_scope : Look Scope (Surroundings Local)
 a_scope = record { of = scope_of; fits = λ h here. are_bound h here.nouns ≡ true }
 
+-- a value in a scope that stays
+abbrev pub in_scope : Scope → Look Held (Answer Local)
+in_scope here = record { of = λ w v. record { value = value_of w v; scope = scope_of w here }; fits = λ h v. (is_there h v ≡ true) × (are_bound h here.nouns ≡ true) }
+
 -- what is itself, and always stands there
 abbrev pub itself : {A : Type 0} → Look A A
 itself = record { of = λ w a. a; fits = λ h a. Unit {0} }
@@ -84,6 +88,7 @@ a_list = record { of = λ w k. k; fits = λ h k. nat_lt k (length h.lists) ≡ t
 abbrev pub Keeps : {A B : Type 0} → Look A B → Out A → Type 0
 Keeps look (Ok a, s) = IsSound s.heap × look.fits s.heap a
 Keeps look (Err (exit.Thrown id), s) = IsSound s.heap × (nat_lt id (length s.heap.texts) ≡ true)
+Keeps look (Err (exit.Ejected n v), s) = IsSound s.heap × (is_there s.heap v ≡ true)
 Keeps look (Err exit.Fuel, s) = IsSound s.heap
 Keeps look (Err exit.Deep, s) = IsSound s.heap
 Keeps look (Err exit.Astray, s) = IsSound s.heap
@@ -94,6 +99,7 @@ Keeps look (Err exit.Memory, s) = ⊥
 abbrev pub Is : {A B : Type 0} → Look A B → World → Out A → Done Local B → Type 0
 Is look w (Ok a, s) d = d ≡ machine.Gives (look.of w a) (vat w s)
 Is look w (Err (exit.Thrown id), s) d = d ≡ Throws (text_of w id) (vat w s)
+Is look w (Err (exit.Ejected n v), s) d = d ≡ Ejects n (value_of w v) (vat w s)
 Is look w (Err exit.Fuel, s) d = d ≡ Stops Fuel (vat w s)
 Is look w (Err exit.Deep, s) d = d ≡ Stops Deep (vat w s)
 Is look w (Err exit.Astray, s) d = d ≡ Stops Astray (vat w s)
@@ -134,6 +140,10 @@ throws_at : {B D : Type 0} (p : Words) (v : Vat Local) (d : Done Local B) (g : B
 unfolding opened_state
 throws_at p v d g e = rw e refl
 
+ejects_at : {B D : Type 0} (n : ℕ) (x : Value Local) (v : Vat Local) (d : Done Local B) (g : B → machine.Act Local D) → d ≡ Ejects n x v → machine.and_then d g ≡ Ejects n x v
+unfolding opened_state
+ejects_at n x v d g e = rw e refl
+
 pub then_stands : {A B C D : Type 0} (w : World) (look : Look A B) (look' : Look C D) (P : A → Type 0) (s : Room) (o : Out A) (d : Done Local B) (f : A → Act C) (g : B → machine.Act Local D)
     → Met w look s o d → Holds P o
     → ((a : A) (t : Room) → IsSound t.heap → look.fits t.heap a → Grown s.heap t.heap → P a → Met w look' t (f a t) (g (look.of w a) (vat w t)))
@@ -141,6 +151,7 @@ pub then_stands : {A B C D : Type 0} (w : World) (look : Look A B) (look' : Look
 unfolding and_then
 then_stands w look look' P s (Ok a, t) d f g h p k = then_gives w look' s t (f a t) d (look.of w a) g h.grown h.is (k a t h.keeps.0 h.keeps.1 h.grown p)
 then_stands w look look' P s (Err (exit.Thrown id), t) d f g h p k = record { grown = h.grown; keeps = h.keeps; is = λ i. throws_at (text_of w id) (vat w t) d g (h.is i) }
+then_stands w look look' P s (Err (exit.Ejected n v), t) d f g h p k = record { grown = h.grown; keeps = h.keeps; is = λ i. ejects_at n (value_of w v) (vat w t) d g (h.is i) }
 then_stands w look look' P s (Err exit.Fuel, t) d f g h p k = record { grown = h.grown; keeps = h.keeps; is = λ i. stops_at Fuel (vat w t) d g (h.is i) }
 then_stands w look look' P s (Err exit.Deep, t) d f g h p k = record { grown = h.grown; keeps = h.keeps; is = λ i. stops_at Deep (vat w t) d g (h.is i) }
 then_stands w look look' P s (Err exit.Astray, t) d f g h p k = record { grown = h.grown; keeps = h.keeps; is = λ i. stops_at Astray (vat w t) d g (h.is i) }
@@ -158,6 +169,36 @@ pub then_met_of : {A B C D : Type 0} {w : World} {look : Look A B} {look' : Look
     → Met w look' s (and_then o f) (machine.and_then d g)
 then_met_of {w = w} {look = look} {look' = look'} {P = P} {s = s} {o = o} {d = d} f g h p k = then_stands w look look' P s o d f g h p.holds k
 
+-- ---- what follows by how something ended
+
+stops_by : {B D : Type 0} (c : machine.Stop) (v : Vat Local) (d : Done Local B) (f : B → machine.Act Local D) (g : Words → machine.Act Local D) (h : ℕ → Value Local → machine.Act Local D) → d ≡ Stops c v → machine.end_by f g h d ≡ Stops c v
+unfolding machine.end_by
+stops_by c v d f g h e = rw e refl
+
+ended_given : {B C D : Type 0} (w : World) (look : Look C D) (s t : Room) (o : Out C) (d c : Done Local B) (f : B → machine.Act Local D) (g : Words → machine.Act Local D) (h : ℕ → Value Local → machine.Act Local D)
+    → Grown s.heap t.heap → (IsFront w t.heap → d ≡ c) → Met w look t o (machine.end_by f g h c) → Met w look s o (machine.end_by f g h d)
+ended_given {B = B} w look s t o d c f g h grown is m = carried w look s t o d c (λ (x : Done Local B). machine.end_by f g h x) grown is m
+
+pub ended_met : {A B C D : Type 0} (w : World) (look : Look A B) (look' : Look C D) (s : Room) (o : Out A) (d : Done Local B)
+    (f : A → Act C) (g : ℕ → Act C) (h : ℕ → Held → Act C) (f' : B → machine.Act Local D) (g' : Words → machine.Act Local D) (h' : ℕ → Value Local → machine.Act Local D)
+    → Met w look s o d
+    → ((a : A) (t : Room) → IsSound t.heap → look.fits t.heap a → Grown s.heap t.heap → Met w look' t (f a t) (f' (look.of w a) (vat w t)))
+    → ((id : ℕ) (t : Room) → IsSound t.heap → nat_lt id (length t.heap.texts) ≡ true → Grown s.heap t.heap → Met w look' t (g id t) (g' (text_of w id) (vat w t)))
+    → ((n : ℕ) (v : Held) (t : Room) → IsSound t.heap → is_there t.heap v ≡ true → Grown s.heap t.heap → Met w look' t (h n v t) (h' n (value_of w v) (vat w t)))
+    → Met w look' s (ended_by f g h o) (machine.end_by f' g' h' d)
+unfolding ended_by machine.end_by
+ended_met w look look' s (Ok a, t) d f g h f' g' h' m k p q =
+    ended_given w look' s t (f a t) d (machine.Gives (look.of w a) (vat w t)) f' g' h' m.grown m.is (k a t m.keeps.0 m.keeps.1 m.grown)
+ended_met w look look' s (Err (exit.Thrown id), t) d f g h f' g' h' m k p q =
+    ended_given w look' s t (g id t) d (Throws (text_of w id) (vat w t)) f' g' h' m.grown m.is (p id t m.keeps.0 m.keeps.1 m.grown)
+ended_met w look look' s (Err (exit.Ejected n v), t) d f g h f' g' h' m k p q =
+    ended_given w look' s t (h n v t) d (Ejects n (value_of w v) (vat w t)) f' g' h' m.grown m.is (q n v t m.keeps.0 m.keeps.1 m.grown)
+ended_met w look look' s (Err exit.Fuel, t) d f g h f' g' h' m k p q = record { grown = m.grown; keeps = m.keeps; is = λ i. stops_by Fuel (vat w t) d f' g' h' (m.is i) }
+ended_met w look look' s (Err exit.Deep, t) d f g h f' g' h' m k p q = record { grown = m.grown; keeps = m.keeps; is = λ i. stops_by Deep (vat w t) d f' g' h' (m.is i) }
+ended_met w look look' s (Err exit.Astray, t) d f g h f' g' h' m k p q = record { grown = m.grown; keeps = m.keeps; is = λ i. stops_by Astray (vat w t) d f' g' h' (m.is i) }
+ended_met w look look' s (Err exit.Unbuilt, t) d f g h f' g' h' m k p q = absurd m.keeps
+ended_met w look look' s (Err exit.Memory, t) d f g h f' g' h' m k p q = absurd m.keeps
+
 -- what the machine does may be another, where the texts are a front
 pub met_by : {A B : Type 0} {w : World} {look : Look A B} {s : Room} {o : Out A} {c : Done Local B} (d : Done Local B) → (IsFront w s.heap → d ≡ c) → Met w look s o c → Met w look s o d
 met_by {B = B} {w = w} {look = look} {s = s} {o = o} d e m = record {
@@ -165,6 +206,18 @@ met_by {B = B} {w = w} {look = look} {s = s} {o = o} d e m = record {
   keeps = m.keeps;
   is = λ f. subst (λ (x : Done Local B). Is look w o x) (sym (e (front_back w m.grown f))) (m.is f);
 }
+
+-- a value with the scope that stays
+pub answered_met : (w : World) (here : Scope) (s : Room) (o : Out Held) (d : Done Local (Answer Local)) → Met w (in_scope here) s o d → Met w an_answer s (and_then o (λ v. give (v, here))) d
+unfolding and_then give
+answered_met w here s (Ok v, t) d m = record { grown = m.grown; keeps = m.keeps; is = m.is }
+answered_met w here s (Err (exit.Thrown id), t) d m = record { grown = m.grown; keeps = m.keeps; is = m.is }
+answered_met w here s (Err (exit.Ejected n v), t) d m = record { grown = m.grown; keeps = m.keeps; is = m.is }
+answered_met w here s (Err exit.Fuel, t) d m = record { grown = m.grown; keeps = m.keeps; is = m.is }
+answered_met w here s (Err exit.Deep, t) d m = record { grown = m.grown; keeps = m.keeps; is = m.is }
+answered_met w here s (Err exit.Astray, t) d m = record { grown = m.grown; keeps = m.keeps; is = m.is }
+answered_met w here s (Err exit.Unbuilt, t) d m = absurd m.keeps
+answered_met w here s (Err exit.Memory, t) d m = absurd m.keeps
 
 -- ---- the single changes
 
@@ -183,6 +236,10 @@ deep_met w look s sound = record { grown = grown_same s.heap; keeps = sound; is 
 pub throw_met : {A B : Type 0} (w : World) (look : Look A B) (id : ℕ) (s : Room) → IsSound s.heap → nat_lt id (length s.heap.texts) ≡ true → Met w look s (fail (exit.Thrown id) s) (machine.throw (text_of w id) (vat w s))
 unfolding opened_acts opened_state
 throw_met w look id s sound i = record { grown = grown_same s.heap; keeps = (sound, i); is = λ f. refl }
+
+pub eject_met : {A B : Type 0} (w : World) (look : Look A B) (n : ℕ) (v : Held) (s : Room) → IsSound s.heap → is_there s.heap v ≡ true → Met w look s (fail (exit.Ejected n v) s) (machine.eject n (value_of w v) (vat w s))
+unfolding opened_acts opened_state
+eject_met w look n v s sound i = record { grown = grown_same s.heap; keeps = (sound, i); is = λ f. refl }
 
 pub spent_met : (w : World) (n : ℕ) (b : Bool) (s : Room) → IsSound s.heap → Met w itself s (spent n b s) (machine.spent n b (vat w s))
 unfolding opened_acts opened_state vat_of

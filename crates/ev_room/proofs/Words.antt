@@ -72,7 +72,7 @@ prims n (k ∷ ks) = (k, Some (Prim n)) ∷ prims (suc n) ks
 passes : (p : Words → Bool) (k : Words) (ks : List Words) → position p (k ∷ ks) ≡ None → (p k ≡ false) × (position p ks ≡ None)
 passes p k ks h = grind (arith, nat_tests, common_steps)
 
-entry_is : {A : Type 0} (k : Words) (a : A) (es : List (Words × A)) (d : A) (x : Words) → entry ((k, a) ∷ es) d x ≡ elim (same_words k x) [ true ↦ a | false ↦ entry es d x ]
+pub entry_is : {A : Type 0} (k : Words) (a : A) (es : List (Words × A)) (d : A) (x : Words) → entry ((k, a) ∷ es) d x ≡ elim (same_words k x) [ true ↦ a | false ↦ entry es d x ]
 unfolding entry
 entry_is k a es d x = refl
 

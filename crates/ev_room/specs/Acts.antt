@@ -23,9 +23,12 @@ use Rattle.ev_heap.specs.Contents.{Contents, listed, is_light}
 use Rattle.ev_prims.specs.declared.problem.Problem.{Problem}
 use Rattle.ev_prims.specs.declared.problem.Problem.TheVariants.{NoMethod, Arithmetic, NotInt, NotChar, NotBoolean, NotText, NotList, OutOfRange, BadArgument, NotComparable, TooHeavy, Unthrowable, DeadEjector}
 use Rattle.ev_room.specs.Sound.{is_there, are_there, plain_cell, capture_of, plain_thing}
-use Rattle.ev_room.specs.declared.object.Object.{Object}
+use Rattle.ev_room.specs.declared.object.Code.{Code}
+use Rattle.ev_room.specs.declared.object.Code.TheVariants.{Runs, Leaves}
 use Rattle.ev_room.specs.declared.exit.Exit.{Exit}
-use Rattle.ev_room.specs.declared.exit.Exit.TheVariants.{Thrown, Fuel, Deep, Astray, Unbuilt, Memory}
+use Rattle.ev_room.specs.declared.exit.Exit.TheVariants.{Thrown, Ejected, Fuel, Deep, Astray, Unbuilt, Memory}
+use Rattle.ev_room.specs.declared.exit.Came.{Came}
+use Rattle.ev_room.specs.declared.exit.Came.TheVariants.{Gave, Threw, Left}
 use Rattle.ev_heap.specs.declared.kept.Cell.{Cell}
 use Rattle.ev_room.specs.declared.room.Room.{Room}
 use Rattle.ev_room.specs.declared.scope.Binding.{Binding}
@@ -44,6 +47,7 @@ Act A = Room → Out A
 abbrev pub Unless : Exit → Type 0 → Type 0
 Unless Memory fact = Unit {0}
 Unless (Thrown id) fact = fact
+Unless (Ejected n v) fact = fact
 Unless Fuel fact = fact
 Unless Deep fact = fact
 Unless Astray fact = fact
@@ -85,6 +89,28 @@ m >>= f = λ s. and_then (m s) f
 infixl 10 ◌>>◌
 unfoldable pub ◌>>◌ : {A B : Type 0} → Act A → Act B → Act B
 m >> n = λ s. and_then (m s) (λ _. n)
+
+-- what follows by how something ended: with a value, by a problem or by an ejector; all else ends all that would follow
+unfoldable pub ended_by : {A B : Type 0} → (A → Act B) → (ℕ → Act B) → (ℕ → Value → Act B) → Out A → Out B
+ended_by f g h (Ok a, s) = f a s
+ended_by f g h (Err (Thrown id), s) = g id s
+ended_by f g h (Err (Ejected n v), s) = h n v s
+ended_by f g h (Err Fuel, s) = (Err Fuel, s)
+ended_by f g h (Err Deep, s) = (Err Deep, s)
+ended_by f g h (Err Astray, s) = (Err Astray, s)
+ended_by f g h (Err Unbuilt, s) = (Err Unbuilt, s)
+ended_by f g h (Err Memory, s) = (Err Memory, s)
+
+-- how something came to an end, unless it stopped
+unfoldable pub unless_stopped : Result Value Exit → Result Came Exit
+unless_stopped (Ok v) = Ok (Gave v)
+unless_stopped (Err (Thrown id)) = Ok (Threw id)
+unless_stopped (Err (Ejected n v)) = Ok (Left n v)
+unless_stopped (Err Fuel) = Err Fuel
+unless_stopped (Err Deep) = Err Deep
+unless_stopped (Err Astray) = Err Astray
+unless_stopped (Err Unbuilt) = Err Unbuilt
+unless_stopped (Err Memory) = Err Memory
 
 unfoldable pub give : {A : Type 0} → A → Act A
 give a = λ s. (Ok a, s)
@@ -177,6 +203,10 @@ with_bound bs x None = bs
 abbrev pub cut : ℕ → Scope → Scope
 cut mark here = record here { nouns = take mark here.nouns }
 
+-- the bindings of a scope stand in front of those of another, of the same activation
+unfoldable pub Extends : Scope → Scope → Type 0
+Extends before after = cut (length before.nouns) after ≡ before
+
 abbrev pub with_noun : Words → Bound → Scope → Scope
 with_noun x b here = record here { nouns = here.nouns ++ record { noun = x; bound = b } ∷ [] }
 
@@ -257,13 +287,7 @@ make_list act vs = λ s. listed_there act vs (are_there s.heap vs) s
 
 -- with the last line of a call, by how it ended
 unfoldable pub closed_by : ℕ → Out Value → Out Value
-closed_by act (Ok v, s) = (tell (event.Back act v) >> give v) s
-closed_by act (Err (Thrown id), s) = (tell (event.Thrown act (held.Text id)) >> fail (Thrown id)) s
-closed_by act (Err Fuel, s) = (Err Fuel, s)
-closed_by act (Err Deep, s) = (Err Deep, s)
-closed_by act (Err Astray, s) = (Err Astray, s)
-closed_by act (Err Unbuilt, s) = (Err Unbuilt, s)
-closed_by act (Err Memory, s) = (Err Memory, s)
+closed_by act o = ended_by (λ v. tell (event.Back act v) >> give v) (λ id. tell (event.Thrown act (held.Text id)) >> fail (Thrown id)) (λ n v. tell (event.Gone act) >> fail (Ejected n v)) o
 
 unfoldable pub closed : ℕ → Act Value → Act Value
 closed act m = λ s. closed_by act (m s)
@@ -325,19 +349,63 @@ unfoldable pub first_method : List Node → List ℕ → Words → ℕ → Optio
 first_method tree [] verb n = None
 first_method tree (m ∷ ms) verb n = if suits verb n (slice_get tree m) then slice_get tree m else first_method tree ms verb n
 
-unfoldable pub code_of : Shape → Result Object Exit
-code_of (shape.Made node caught stamps) = Ok (record { node = node; nouns = map binding_back caught })
-code_of _ = Err Unbuilt
+-- the code of what is called: of an object with its captures, or of an ejector that is alive or dead
+unfoldable pub code_of : Shape → Bool → Result Code Exit
+code_of (shape.Made node caught stamps) live = Ok (Runs (record { node = node; nouns = map binding_back caught }))
+code_of shape.Ejector live = Ok (Leaves live)
+code_of _ live = Err Unbuilt
 
--- the code of what bears a number, and its captures
-unfoldable pub code_in : Option Thing → Result Object Exit
+unfoldable pub code_in : Option Thing → Result Code Exit
 code_in None = Err Astray
-code_in (Some t) = code_of t.shape
+code_in (Some t) = code_of t.shape t.alive
 
-unfoldable pub look_code : ℕ → Act Object
+-- the code of what bears a number
+unfoldable pub look_code : ℕ → Act Code
 look_code i = λ s. (code_in (slice_get s.heap.things i), s)
+
+-- ---- ejectors
+
+unfoldable pub keep_ejector : Act ℕ
+keep_ejector = λ s. (Ok (length s.heap.things), record s { heap = record s.heap { things = s.heap.things ++ record { shape = shape.Ejector; alive = true } ∷ [] } })
+
+-- an ejector that is alive
+unfoldable pub new_ejector : ℕ → Act ℕ
+new_ejector act = do
+  j ← keep_ejector
+  tell (event.Ejector act (held.Obj j))
+  give j
+
+unfoldable pub killed : ℕ → Option Thing → Act (Unit {0})
+killed j None = give tt
+killed j (Some t) = λ s. (Ok tt, record s { heap = record s.heap { things = slice_set s.heap.things j (record t { alive = false }) } })
+
+-- it is dead from here on
+unfoldable pub kill : ℕ → Act (Unit {0})
+kill j = λ s. killed j (slice_get s.heap.things j) s
+
+-- the ejector is dead, and then
+unfoldable pub leave : {A : Type 0} → ℕ → Act A → Act A
+leave j m = kill j >> m
+
+-- the value with which a call leaves by an ejector
+unfoldable pub ejected : Words → List Value → Option Value
+ejected verb [] = if bytes_eq verb (codes "run") then Some held.Null else None
+ejected verb (v ∷ []) = if bytes_eq verb (codes "run") then Some v else None
+ejected verb _ = None
+
+-- verb and number of arguments are tested first, then whether it is alive
+unfoldable pub ejector_answer : ℕ → Bool → Option Value → Result Value Exit
+ejector_answer i live None = Err (Thrown (problem_id NoMethod))
+ejector_answer i true (Some v) = Err (Ejected i v)
+ejector_answer i false (Some v) = Err (Thrown (problem_id DeadEjector))
+
+-- a call on an ejector
+unfoldable pub call_ejector : ℕ → ℕ → Bool → Words → List Value → Act Value
+call_ejector act i live verb args = do
+  tell (event.Call act (held.Obj i) verb args None)
+  closed act (answer (ejector_answer i live (ejected verb args)))
 
 -- opens the acts, and not the recursions
 unfoldable pub opened_acts : Unit {0}
-unfolding and_then ◌>>=◌ ◌>>◌ give fail answer tell spent spend new_activation new_slot write_told slot_read slot_found read_slot slot_written write_slot safe_found read_held read_bound write_held write_bound fails new_text text_value spell spelled write_text new_list list_told keep_list store stored listed_there make_list closed_by closed call_there with_bound new_object named object_made object_in make_object object_node suits code_of code_in look_code
+unfolding and_then ◌>>=◌ ◌>>◌ give fail answer tell spent spend new_activation new_slot write_told slot_read slot_found read_slot slot_written write_slot safe_found read_held read_bound write_held write_bound fails new_text text_value spell spelled write_text new_list list_told keep_list store stored listed_there make_list ended_by closed_by closed call_there with_bound new_object named object_made object_in make_object object_node suits code_of code_in look_code keep_ejector new_ejector killed kill leave ejected ejector_answer call_ejector
 opened_acts = tt

@@ -19,7 +19,7 @@ use Rattle.ev_heap.specs.declared.kept.GuardKind.{GuardKind}
 use Rattle.ev_heap.specs.declared.kept.GuardKind.TheVariants as guard
 use Rattle.ev_prims.specs.Reading.{value_by}
 use Rattle.ev_room.specs.Sound.{problems}
-use Rattle.ev_machine.specs.State.{Thing, Made, Ejector, Audition, Resolver, Bound, Fixed, Slot, Binding, Cell, Message, Known, GiftEntry, Put, Happened, Called, Back, Thrown, SlotMade, SlotRead, SlotWrote, ListMade, ObjectMade, Vat}
+use Rattle.ev_machine.specs.State.{Thing, Made, Ejector, Audition, Resolver, Bound, Fixed, Slot, Binding, Cell, Message, Known, GiftEntry, Put, Happened, Called, Back, Thrown, Left, Got, SlotMade, SlotRead, SlotWrote, ListMade, EjectorMade, ObjectMade, Vat}
 
 -- What evaluation leaves as it is, and neither the heap's objects, slots, lists and activations nor what happened tell; and the texts
 -- that values stand for, those of the end of the turn, so that a value stands for one thing while the heap grows.
@@ -87,15 +87,23 @@ abbrev pub made_line : World → ℕ → Held → Words → List Capture → Lis
 made_line w act (held.Obj i) x caps stamps = ObjectMade act (Obj i) x (map (capture_in w) caps) (map (value_of w) stamps) ∷ []
 made_line w act _ x caps stamps = []
 
+-- the line of an ejector, which is no other value
+abbrev pub ejector_line : ℕ → Held → List (Happened Local)
+ejector_line act (held.Obj i) = EjectorMade act (Obj i) ∷ []
+ejector_line act _ = []
+
 -- the line of an event, where it is of a kind that evaluation tells
 unfoldable pub line_of : World → Event → List (Happened Local)
 line_of w (event.Call act target verb args begun) = Called act (value_of w target) verb (map (value_of w) args) begun ∷ []
 line_of w (event.Back act v) = Back act (value_of w v) ∷ []
 line_of w (event.Thrown act p) = Thrown act (problem_of w p) ∷ []
+line_of w (event.Gone act) = Left act ∷ []
+line_of w (event.Got act v) = Got act (value_of w v) ∷ []
 line_of w (event.Slot act k v) = SlotMade act k (value_of w v) ∷ []
 line_of w (event.Read act k v) = SlotRead act k (value_of w v) ∷ []
 line_of w (event.Wrote act k v) = SlotWrote act k (value_of w v) ∷ []
 line_of w (event.List act k vs) = ListMade act k (values_of w vs) ∷ []
+line_of w (event.Ejector act v) = ejector_line act v
 line_of w (event.Made act object x caps stamps) = made_line w act object x caps stamps
 line_of w _ = []
 

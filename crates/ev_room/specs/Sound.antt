@@ -11,7 +11,8 @@ use Rattle.ev_heap.specs.declared.kept.Cell.{Cell}
 use Rattle.ev_heap.specs.declared.kept.GuardKind.{GuardKind}
 use Rattle.ev_heap.specs.declared.kept.GuardKind.TheVariants.{Native}
 use Rattle.ev_heap.specs.declared.kept.Listed.{Listed}
-use Rattle.ev_heap.specs.declared.kept.Shape.TheVariants.{Made}
+use Rattle.ev_heap.specs.declared.kept.Shape.{Shape}
+use Rattle.ev_heap.specs.declared.kept.Shape.TheVariants.{Made, Ejector, Resolver, Audition}
 use Rattle.ev_heap.specs.declared.kept.Thing.{Thing}
 use Rattle.ev_room.specs.declared.object.Object.{Object}
 use Rattle.ev_room.specs.declared.scope.Binding.{Binding}
@@ -95,9 +96,16 @@ Each {A = A} P xs = (k : ℕ) (x : A) → slice_get xs k ≡ Some x → P x
 abbrev pub IsPlainCell : Contents → Cell → Type 0
 IsPlainCell h c = (c ≡ plain_cell c.value) × (is_there h c.value ≡ true)
 
--- an object without stamps, whose captures are without guards and stand there
+-- an object without stamps, whose captures are without guards and stand there, or an ejector
+abbrev pub IsPlainShape : Contents → Shape → Type 0
+IsPlainShape h (Made node caught stamps) = (bs : List Binding) × ((caught ≡ map caught_of bs) × ((stamps ≡ []) × (are_bound h bs ≡ true)))
+IsPlainShape h Ejector = Unit {0}
+IsPlainShape h (Resolver p) = ⊥
+IsPlainShape h (Audition node) = ⊥
+
+-- that, alive or dead
 abbrev pub IsPlainThing : Contents → Thing → Type 0
-IsPlainThing h t = (o : Object) × ((t ≡ plain_thing o) × (are_bound h o.nouns ≡ true))
+IsPlainThing h t = IsPlainShape h t.shape
 
 -- a list with its weight and height, whose members stand there
 abbrev pub IsListed : Contents → Listed → Type 0

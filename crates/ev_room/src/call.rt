@@ -49,6 +49,10 @@ fn closed_without(act: ActId, exit: Exit, room: &mut Room) -> Result<Value, Exit
             tell(room, Happened::Thrown(act, Value::Text(id)))?;
             Err(exit)
         }
+        Exit::Ejected(_, _) => {
+            tell(room, Happened::Gone(act))?;
+            Err(exit)
+        }
         _ => Err(exit),
     }
 }

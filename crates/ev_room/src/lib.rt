@@ -3,6 +3,7 @@
 
 pub mod call;
 pub mod data;
+pub mod ejector;
 pub mod exit;
 pub mod nouns;
 pub mod object;
@@ -12,5 +13,5 @@ pub mod slots;
 pub mod tree;
 
 pub use data::is_built_prim;
-pub use exit::Exit;
+pub use exit::{Came, Exit};
 pub use room::Room;

@@ -6,7 +6,7 @@ ghost use Rattle.ev_heap.specs.declared.happened.Happened.TheVariants.{Made};
 ghost use Rattle.ev_form.specs.FreeNames.{free_names};
 ghost use Rattle.ev_machine.specs.Scopes.{name_of};
 ghost use Rattle.ev_room.specs.Sound.{capture_of, capture_under, caught_of};
-ghost use Rattle.ev_room.specs.Acts.{Answers, Gives, GivesIn, binding_back, bound_back, captures, code_of, look_code, make_object, named, new_object, object_made, object_node};
+ghost use Rattle.ev_room.specs.Acts.{Answers, Extends, Gives, GivesIn, binding_back, bound_back, captures, code_of, look_code, make_object, named, new_object, object_made, object_node};
 
 use crate::exit::Exit;
 use crate::room::{Room, tell};
@@ -23,6 +23,15 @@ use std::alloc::Global;
 pub struct Object {
     pub node: NodeId,
     pub nouns: Seq<Binding>,
+}
+
+/// What a call on something that bears a number runs.
+#[derive(Drop)]
+pub enum Code {
+    /// The code of an object of the program.
+    Runs(Object),
+    /// An ejector, and whether it is alive.
+    Leaves(bool),
 }
 
 /// What an object holds of a name that is bound so, under that guard.
@@ -58,29 +67,31 @@ fn all_back(alloc: Global, caught: &[Caught]) -> Result<Seq<Binding>, Memory>
     Ok(all)
 }
 
-/// The object of a shape.
+/// The code of a shape that is alive or dead.
 #[tactic(auto, unfolding(crate::specs::Acts::opened_acts))]
-fn shape_code(alloc: Global, shape: &Shape) -> Result<Object, Exit>
-    ensures { Answers result (code_of shape.now) }
+fn shape_code(alloc: Global, shape: &Shape, alive: bool) -> Result<Code, Exit>
+    ensures { Answers result (code_of shape.now alive) }
 {
     match shape {
         Shape::Made { node, captures, .. } => {
             let nouns = all_back(alloc, captures.as_slice())?;
-            Ok(Object { node: *node, nouns })
+            Ok(Code::Runs(Object { node: *node, nouns }))
         }
+        Shape::Ejector => Ok(Code::Leaves(alive)),
         _ => Err(Exit::Unbuilt),
     }
 }
 
-/// The object of a number.
+/// The code of an object or an ejector.
 #[tactic(auto, using(crate::proofs::Things::code_goes, crate::proofs::Things::code_astray))]
-pub fn look_code(object: ObjId, room: &Room) -> Result<Object, Exit>
+pub fn look_code(object: ObjId, room: &Room) -> Result<Code, Exit>
     ensures { Gives result room.now (look_code object room.now) }
 {
     if object.0 >= room.heap.object_count() {
         return Err(Exit::Astray);
     }
-    shape_code(room.alloc, room.heap.shape(object))
+    let alive = room.heap.is_alive(object);
+    shape_code(room.alloc, room.heap.shape(object), alive)
 }
 
 /// Bindings, the last one first.
@@ -183,14 +194,15 @@ fn name_of(pattern: Option<&Node>) -> &str
     }
 }
 
-#[tactic(auto, unfolding(crate::specs::Acts::named))]
+#[tactic(auto, using(crate::proofs::Fronts::itself_in_front, crate::proofs::Fronts::noun_behind), unfolding(crate::specs::Acts::named))]
 fn bind_name_in(
     alloc: Global,
     pattern: &Node,
     object: ObjId,
     here: &mut Scope,
 ) -> Result<(), Memory>
-    ensures { OnOk result (here.new ≡ named (Some pattern.now) object here.old) }
+    ensures named { OnOk result (here.new ≡ named (Some pattern.now) object here.old) }
+    ensures front { Extends here.old here.new }
 {
     match pattern {
         Node::Final(noun, _) => {
@@ -205,14 +217,15 @@ fn bind_name_in(
 }
 
 /// Binds the name of an object to it.
-#[tactic(auto, unfolding(crate::specs::Acts::named))]
+#[tactic(auto, using(crate::proofs::Fronts::itself_in_front, crate::proofs::Fronts::noun_behind), unfolding(crate::specs::Acts::named))]
 fn bind_name(
     alloc: Global,
     pattern: Option<&Node>,
     object: ObjId,
     here: &mut Scope,
 ) -> Result<(), Memory>
-    ensures { OnOk result (here.new ≡ named (option_map (λ node. node.now) pattern.entry) object here.old) }
+    ensures named { OnOk result (here.new ≡ named (option_map (λ node. node.now) pattern.entry) object here.old) }
+    ensures front { Extends here.old here.new }
 {
     match pattern {
         Some(pattern) => bind_name_in(alloc, pattern, object, here),
@@ -248,6 +261,7 @@ fn make_object(
     room: &mut Room,
 ) -> Result<Value, Exit>
     ensures outcome { GivesIn result here.new room.new (make_object node (option_map (λ node. node.now) pattern.entry) free.now here.old room.old) }
+    ensures front { Extends here.old here.new }
 {
     let object = ObjId(room.heap.object_count());
     bind_name(room.alloc, pattern, object, here)?;
@@ -256,7 +270,7 @@ fn make_object(
 }
 
 /// Evaluates an object expression.
-#[tactic(auto, using(crate::proofs::Exits::ends), unfolding(crate::specs::Acts::opened_acts))]
+#[tactic(auto, using(crate::proofs::Exits::ends, crate::proofs::Fronts::itself_in_front), unfolding(crate::specs::Acts::opened_acts))]
 pub fn object_node(
     program: &Kernel,
     id: NodeId,
@@ -266,6 +280,7 @@ pub fn object_node(
     room: &mut Room,
 ) -> Result<Value, Exit>
     ensures outcome { GivesIn result here.new room.new (object_node program.now id pattern auditors.now here.old room.old) }
+    ensures front { Extends here.old here.new }
 {
     if !auditors.is_empty() {
         return Err(Exit::Unbuilt);
