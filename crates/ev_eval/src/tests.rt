@@ -194,3 +194,50 @@ fn natives(rt: HostRuntime) -> Result<(), Fail> {
     }
     Ok(())
 }
+
+#[test]
+fn escapes(rt: HostRuntime) -> Result<(), Fail> {
+    let alloc = rt.alloc();
+    let seven = "(escape (final j) (seq (call (noun j) run (lit 7)) (lit 1)))";
+    assert_eq!(rt;
+        run(alloc, seven, 6, 4)?,
+        some(Ended::Value(Value::Int(7)), 0, 4)
+    );
+    let whole = "(escape (final j) (lit 1))";
+    assert_eq!(rt;
+        run(alloc, whole, 3, 9)?,
+        some(Ended::Value(Value::Int(1)), 0, 1)
+    );
+    let late = "(seq (def (final k) (escape (final j) (noun j))) (call (noun k) run (lit 1)))";
+    let dead = run(alloc, late, 99, 9)?.ok_or("not built")?;
+    assert_eq!(rt; dead.ended, Ended::Thrown(TextId(14)));
+    let behind =
+        "(seq (escape (final j) (seq (def (final x) (lit 1)) (call (noun j) run))) (noun x))";
+    let astray = run(alloc, behind, 99, 9)?.ok_or("not built")?;
+    assert_eq!(rt; astray.ended, Ended::Astray);
+    Ok(())
+}
+
+#[test]
+fn returns(rt: HostRuntime) -> Result<(), Fail> {
+    let alloc = rt.alloc();
+    let first = "(escape (final r) \
+        (call (call (noun __makeList) run (lit 3) (lit 40)) iterate \
+        (object (any) () (method run ((any) (final m)) (call (noun r) run (noun m))))))";
+    let ran = run(alloc, first, 99, 99)?.ok_or("not built")?;
+    assert_eq!(rt; ran.ended, Ended::Value(Value::Int(3)));
+    Ok(())
+}
+
+#[test]
+fn ends(rt: HostRuntime) -> Result<(), Fail> {
+    let alloc = rt.alloc();
+    let problem = "(try (call (lit 1) none) (final p) (noun p))";
+    let caught = run(alloc, problem, 99, 9)?.ok_or("not built")?;
+    assert_eq!(rt; caught.ended, Ended::Value(Value::Text(TextId(2))));
+    let last = "(seq (def (var n) (lit 0)) \
+        (escape (final j) (finally (call (noun j) run) (set n (lit 5)))) (noun n))";
+    let five = run(alloc, last, 99, 9)?.ok_or("not built")?;
+    assert_eq!(rt; five.ended, Ended::Value(Value::Int(5)));
+    Ok(())
+}

@@ -1,6 +1,7 @@
 use Rattle.std.proofs.Common.{◌≡◌, ℕ, ◌*◌, ◌+◌, ◌-◌, [], drop}
 use Rattle.ev_base.specs.declared.values.Value.TheVariants.{Null}
 use Rattle.ev_eval.specs.Steps.{call_at, evaluator, gathered, iterate, last_of, turns}
+use Rattle.ev_room.specs.Acts.{Extends}
 use Rattle.ev_eval.proofs.evaluate.+evaluate.Given as goal
 
 -- more than all levels of calls need, and twice that
@@ -33,6 +34,36 @@ decreases-choose l = most * l.depth + half + 7
 
 abbrev pub decreases-within : goal.decreases-within
 decreases-within l = most * l.depth + half + 6
+
+abbrev pub decreases-guarded_node : goal.decreases-guarded_node
+decreases-guarded_node l = most * l.depth + half + 8
+
+abbrev pub decreases-guarded : goal.decreases-guarded
+decreases-guarded l = most * l.depth + half + 7
+
+abbrev pub decreases-escaping : goal.decreases-escaping
+decreases-escaping l = most * l.depth + half + 6
+
+abbrev pub decreases-trying : goal.decreases-trying
+decreases-trying l = most * l.depth + half + 6
+
+abbrev pub decreases-lasting : goal.decreases-lasting
+decreases-lasting l = most * l.depth + half + 6
+
+abbrev pub decreases-caught_if : goal.decreases-caught_if
+decreases-caught_if l = most * l.depth + half + 5
+
+abbrev pub decreases-caught : goal.decreases-caught
+decreases-caught l = most * l.depth + half + 4
+
+abbrev pub decreases-handled : goal.decreases-handled
+decreases-handled l = most * l.depth + half + 3
+
+abbrev pub decreases-bind_then : goal.decreases-bind_then
+decreases-bind_then l = most * l.depth + half + 2
+
+abbrev pub decreases-alone : goal.decreases-alone
+decreases-alone l = most * l.depth + half + 2
 
 abbrev pub decreases-gathered : goal.decreases-gathered
 decreases-gathered l = most * l.depth + half + 7
@@ -68,7 +99,10 @@ abbrev pub decreases-iterate : goal.decreases-iterate
 decreases-iterate l = most * l.depth + 10 * l.levels + 16
 
 abbrev pub decreases-call_object : goal.decreases-call_object
-decreases-call_object l = most * l.depth + 6
+decreases-call_object l = most * l.depth + 7
+
+abbrev pub decreases-call_made : goal.decreases-call_made
+decreases-call_made l = most * l.depth + 6
 
 abbrev pub decreases-run_object : goal.decreases-run_object
 decreases-run_object l = most * l.depth + 5
@@ -84,12 +118,16 @@ decreases-run_method l = most * l.depth + 2
 
 -- what is gathered so far, and then the rest, is the whole
 abbrev pub invariant-gathered-loop-part : goal.invariant-gathered-loop-part
-invariant-gathered-loop-part l =
-    gathered (evaluator l.program l.depth) l.values (drop l.part-index l.parts) l.here l.room ≡ gathered (evaluator l.program l.depth) [] l.parts l.fn.here l.fn.room
+invariant-gathered-loop-part l = record {
+  rest : gathered (evaluator l.program l.depth) l.values (drop l.part-index l.parts) l.here l.room ≡ gathered (evaluator l.program l.depth) [] l.parts l.fn.here l.fn.room;
+  front : Extends l.fn.here l.here;
+}
 
 abbrev pub invariant-last_of-loop-part : goal.invariant-last_of-loop-part
-invariant-last_of-loop-part l =
-    last_of (evaluator l.program l.depth) l.value (drop l.part-index l.parts) l.here l.room ≡ last_of (evaluator l.program l.depth) Null l.parts l.fn.here l.fn.room
+invariant-last_of-loop-part l = record {
+  rest : last_of (evaluator l.program l.depth) l.value (drop l.part-index l.parts) l.here l.room ≡ last_of (evaluator l.program l.depth) Null l.parts l.fn.here l.fn.room;
+  front : Extends l.fn.here l.here;
+}
 
 abbrev pub invariant-iterate-loop-index : goal.invariant-iterate-loop-index
 invariant-iterate-loop-index l =
