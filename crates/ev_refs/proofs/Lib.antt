@@ -7,3 +7,4 @@ pub mod Working
 pub mod Waits
 pub mod Resolves
 pub mod Sends
+pub mod Reacts

@@ -15,7 +15,7 @@ use Rattle.ev_refs.specs.Changes.{with_held, settled_as, waiters_at, waiters_of}
 use Rattle.ev_refs.specs.Follow.{followed, place_of}
 use Rattle.ev_refs.specs.References.{References}
 use Rattle.ev_refs.specs.Settling as code
-use Rattle.ev_refs.specs.Settling.{Desk, told, enqueued, set_known, held_at, send_placed, parts_of, settle_waiters, settle_found, is_list, perform}
+use Rattle.ev_refs.specs.Settling.{Desk, told, enqueued, set_known, held_in, held_at, send_placed, parts_of, settle_waiters, settle_found, is_list, perform}
 use Rattle.ev_refs.specs.Performing.{Lines, Tells, lines_of, vat_in, task_act, tasks_act, GoesOn, SameTexts, SettlesAsTheMachine, went_astray, SettlingGoesAstray, WhereAstray}
 use Rattle.ev_heap.specs.declared.micro.Micro.{Micro}
 use Rattle.ev_refs.specs.Reading.{text_by, value_by, message_by, known_by, knowns_by, standing_by, place_by}
@@ -106,13 +106,13 @@ module _ (word : ℕ → ℕ) (ts : List Words) where
     enqueue_is m k = ap (λ (q : List (machine.Message Local)). Gives tt (record (at k) { queue = q })) (sym (map-append (message_by ts) k.refs.queue (m ∷ [])))
 
     pub hold_found : (n : ℕ) (m : Message) (k : Desk) (o : Option Known) → slice_get k.refs.known n ≡ o → alter (names word) (Hold (message_by ts m)) (Prom n) (at k) ≡ Gives tt (at (held_at n m o k))
-    unfolding alter held_at
+    unfolding alter held_in
     hold_found n m k None h = ap (λ (ks : List (machine.Known Local)). Gives tt (record (at k) { known = ks })) (unknown_same word ts (Hold (message_by ts m)) k.refs.known n h)
     hold_found n m k (Some known) h =
         ap (λ (ks : List (machine.Known Local)). Gives tt (record (at k) { known = ks })) (change_is word ts (Hold (message_by ts m)) k.refs.known n known (with_held m known) h (hold_is ts n m known))
 
     held_tasks : (n : ℕ) (m : Message) (o : Option Known) (k : Desk) → k.tasks ≡ (held_at n m o k).tasks
-    unfolding held_at
+    unfolding held_in
     held_tasks n m None k = refl
     held_tasks n m (Some known) k = refl
 
@@ -259,7 +259,7 @@ abbrev Keeps : Desk → Desk → Type 0
 Keeps k k' = SameTexts k.refs k'.refs
 
 held_keeps : (n : ℕ) (m : Message) (o : Option Known) (k : Desk) → Keeps k (held_at n m o k)
-unfolding held_at
+unfolding held_in
 held_keeps n m None k = (refl, refl)
 held_keeps n m (Some known) k = (refl, refl)
 

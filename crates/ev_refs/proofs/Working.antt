@@ -4,7 +4,7 @@ use Rattle.std.specs.Prelude.{if◌then◌else◌, slice_get, slice_set}
 use Rattle.ev_base.specs.declared.values.Value.{Value as Held}
 use Rattle.ev_refs.specs.Changes.{unless_settled, with_held, settled_as, waiters_at, waiters_of}
 use Rattle.ev_refs.specs.Settling as code
-use Rattle.ev_refs.specs.Settling.{Desk, told, enqueued, set_known, held_at, send_placed, parts_of, settle_waiters, settle_found, is_list, perform}
+use Rattle.ev_refs.specs.Settling.{Desk, told, enqueued, set_known, held_in, held_at, send_placed, parts_of, settle_waiters, settle_found, is_list, perform}
 use Rattle.ev_refs.proofs.Settles.{kept, settled_stays}
 use Rattle.ev_refs.specs.Tasks.{sends, settles, enqueues, informs}
 use Rattle.ev_refs.specs.Work.{total, task_weight, known_weight, may_settle, to_do, unsettled, waits, work}
@@ -95,7 +95,7 @@ held_weighs (Viewed q) m k = omega (arith, one_longer k.held m)
 held_weighs (Settled v) m k = omega arith
 
 held_less : (n : ℕ) (m : Message) (o : Option Known) (k : Desk) → slice_get k.refs.known n ≡ o → Less 2 k (held_at n m o k)
-unfolding held_at
+unfolding held_in
 held_less n m None k h = lighter 2 k k refl (omega arith) (omega arith)
 held_less n m (Some known) k h =
     let new : Known = with_held m known in

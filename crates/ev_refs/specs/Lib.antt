@@ -9,3 +9,4 @@ pub mod Performing
 pub mod Work
 pub mod Resolving
 pub mod Sending
+pub mod Reacting

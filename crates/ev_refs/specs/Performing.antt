@@ -1,10 +1,10 @@
 -- What is to be done of a settling, as the machine does it.
-use Rattle.std.specs.Prelude.{map, ◌≡◌, ℕ, List, [], ◌∷◌, ◌++◌, Bool, true, false, Result, Err}
+use Rattle.std.specs.Prelude.{map, ◌≡◌, ℕ, List, [], ◌∷◌, ◌++◌, Bool, true, false, Result, Err, codes}
 use Rattle.ev_heap.specs.declared.happened.Happened.{Happened as Event}
 use Rattle.ev_heap.specs.declared.happened.Happened.TheVariants as event
 use Rattle.ev_base.specs.declared.values.Value.{Value as Held}
 use Rattle.ev_machine.specs.Values.{Words, Local, Mess, Prom, numbering}
-use Rattle.ev_machine.specs.State.{Vat, Act, Gives, Happened, Sends, Settles, Waits, Lost, give, ◌>>◌, enqueue, Done, Stops, Astray}
+use Rattle.ev_machine.specs.State.{Vat, Act, Gives, Happened, Sends, Reacts, Settles, Waits, Lost, give, ◌>>◌, enqueue, Done, Stops, Astray}
 use Rattle.ev_machine.specs.Refs.{settle, settle_at, send_on, inform, resolve, wait_unless_cycle}
 use Rattle.ev_refs.specs.Reading.{value_by, message_by, vat_by}
 use Rattle.ev_heap.specs.declared.micro.Micro.{Micro}
@@ -26,6 +26,8 @@ pub record Tells (ts : List Words) (line : Lines) : Type 0 where
   pub waits : (p q : ℕ) → line (event.Wait p q) ≡ Waits (Prom p) (Prom q) ∷ []
   pub sends : (act m : ℕ) (x : Held) (verb : Words) (args : List Held) (answer : ℕ)
       → line (event.Send act m x verb args answer) ≡ Sends act (record { id = Mess m; target = value_by ts x; verb = verb; args = map (value_by ts) args; answer = Prom answer }) ∷ []
+  pub reacts : (act m : ℕ) (x o near : Held) (answer : ℕ)
+      → line (event.When act m x o near answer) ≡ Reacts act (value_by ts x) (value_by ts o) (record { id = Mess m; target = value_by ts near; verb = codes "run"; args = value_by ts x ∷ []; answer = Prom answer }) ∷ []
   pub lost : (m : ℕ) → line (event.LostBroken m) ≡ Lost (Mess m) ∷ []
 
 unfoldable pub lines_of : Lines → List Event → List (Happened Local)

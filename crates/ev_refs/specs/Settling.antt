@@ -35,9 +35,13 @@ enqueued m k = record k { refs = record k.refs { queue = k.refs.queue ++ m ∷ [
 abbrev pub set_known : ℕ → Known → Desk → Desk
 set_known n known k = record k { refs = record k.refs { known = slice_set k.refs.known n known } }
 
-unfoldable pub held_at : ℕ → Message → Option Known → Desk → Desk
-held_at n m None k = k
-held_at n m (Some known) k = set_known n (with_held m known) k
+-- the references where a message waits at a name, if that is known
+unfoldable pub held_in : ℕ → Message → Option Known → References → References
+held_in n m None r = r
+held_in n m (Some known) r = record r { known = slice_set r.known n (with_held m known) }
+
+abbrev pub held_at : ℕ → Message → Option Known → Desk → Desk
+held_at n m o k = record k { refs = held_in n m o k.refs }
 
 -- a message on a followed target at this place
 unfoldable pub send_placed : Message → ℕ → Value → Place → Desk → Result Desk Fault

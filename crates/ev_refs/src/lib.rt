@@ -10,6 +10,7 @@ pub mod resolve;
 pub mod send;
 pub mod settle;
 pub mod tasks;
+pub mod when;
 
 pub use follow::Place;
 pub use known::{Known, Message, Standing, Waiters};

@@ -37,7 +37,7 @@ impl Refs {
     }
 
     /// A message of the vat's own comes to be, with its answer here.
-    fn new_message(&mut self) -> Result<Fresh, Memory>
+    pub(crate) fn new_message(&mut self) -> Result<Fresh, Memory>
         ensures number { IfOk result (λ f. (f.id ≡ self.old.mails) × (f.answer ≡ length self.old.known)) }
         ensures ok { OnOk result (self.new ≡ with_message self.old) }
         ensures err { OnErr result (self.new ≡ self.old) }
@@ -104,14 +104,11 @@ impl Refs {
         Ok(())
     }
 
-    /// A message waits at a name, if that is known.
-    #[tactic(auto, unfolding(crate::specs::Settling::held_at))]
+    /// A message waits at a name.
     fn hold_first(&mut self, micro: &Micro, name: PromId, message: Message) -> Result<(), Fault>
         ensures { Leaves result (record { tasks = []; refs = self.new; micro = micro.now }) (Ok (held_at name message (slice_get self.old.known name) (record { tasks = []; refs = self.old; micro = micro.now }))) }
     {
-        if name.0 < self.count() {
-            self.hold(name, message)?;
-        }
+        self.hold_known(name, message)?;
         Ok(())
     }
 

@@ -1,7 +1,7 @@
 //! The settling of a name, part by part.
 
-ghost use Rattle.std.specs.Prelude.{◌≡◌, ◌++◌, ◌<◌, ◌∷◌, Ok, OnOk, length, slice_get};
-ghost use Rattle.ev_refs.specs.Settling.{Leaves, held_at, parts_of, perform, send_on, send_placed, settle_at, settle_found, settle_waiters};
+ghost use Rattle.std.specs.Prelude.{◌≡◌, ◌++◌, ◌<◌, ◌∷◌, Ok, OnErr, OnOk, length, slice_get};
+ghost use Rattle.ev_refs.specs.Settling.{Leaves, held_in, parts_of, perform, send_on, send_placed, settle_at, settle_found, settle_waiters};
 ghost use Rattle.ev_refs.specs.Performing.{SettlesAsTheMachine, SettlingGoesAstray, WhereAstray};
 
 use crate::follow::Place;
@@ -42,19 +42,14 @@ impl Message {
 }
 
 impl Refs {
-    /// A message waits at a name, if that is known.
-    #[tactic(auto, unfolding(crate::specs::Settling::held_at))]
-    fn hold_known(
-        &mut self,
-        tasks: &Tasks,
-        micro: &Micro,
-        name: PromId,
-        message: Message,
-    ) -> Result<(), Fault>
-        ensures { Leaves result (record { tasks = tasks.now; refs = self.new; micro = micro.now }) (Ok (held_at name message (slice_get self.old.known name) (record { tasks = tasks.now; refs = self.old; micro = micro.now }))) }
+    /// A message waits at a name, if that is known. A refusal changes nothing.
+    #[tactic(auto, unfolding(crate::specs::Settling::held_in))]
+    pub(crate) fn hold_known(&mut self, name: PromId, message: Message) -> Result<(), Memory>
+        ensures ok { OnOk result (self.new ≡ held_in name message (slice_get self.old.known name) self.old) }
+        ensures err { OnErr result (self.new ≡ self.old) }
     {
         if name.0 < self.count() {
-            self.hold(name, message)?;
+            return self.hold(name, message);
         }
         Ok(())
     }
@@ -77,7 +72,10 @@ impl Refs {
                 self.queue.push(message.on(*target))?;
                 Ok(())
             }
-            Place::Mine(name) => self.hold_known(tasks, micro, name, message.on(*target)),
+            Place::Mine(name) => {
+                self.hold_known(name, message.on(*target))?;
+                Ok(())
+            }
             Place::Gone(problem) => {
                 tasks.push(Task::Settle(message.answer, Value::Broken(problem), depth))?;
                 micro.push(Happened::LostBroken(message.id))?;

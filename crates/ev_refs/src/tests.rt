@@ -1,5 +1,5 @@
 use crate::{Message, Place, Refs};
-use ev_base::{ActId, MsgId, Seq, Str, TextId, Value, VatId};
+use ev_base::{ActId, MsgId, ObjId, PromId, Seq, Str, TextId, Value, VatId};
 use ev_heap::Micro;
 use std::test::Fail;
 
@@ -44,5 +44,33 @@ fn a_message_is_sent(rt: HostRuntime) -> Result<(), Fail> {
         Err(_) => assert!(rt; false),
     }
     assert_eq!(rt; micro.events.len(), 1);
+    Ok(())
+}
+
+/// A reaction waits at an unsettled promise, and comes into the queue once that is settled; on data it is queued at once.
+#[test]
+fn a_reaction_waits(rt: HostRuntime) -> Result<(), Fail> {
+    let alloc = rt.alloc();
+    let mut refs = Refs::new(alloc, VatId(0), TextId(0), TextId(1));
+    let mut micro = Micro::new(alloc, 0);
+    let promise = refs.new_promise()?;
+    let object = Value::Obj(ObjId(0));
+    assert_eq!(rt;
+        refs.when(&mut micro, ActId(0), Value::Prom(promise), object)?,
+        Some(PromId(1))
+    );
+    assert_eq!(rt; refs.queue.len(), 0);
+    assert!(rt; refs.resolve(&mut micro, promise, Value::Int(7)).is_ok());
+    assert_eq!(rt; refs.queue.len(), 1);
+    assert_eq!(rt;
+        refs.when(&mut micro, ActId(0), Value::Int(1), object)?,
+        Some(PromId(2))
+    );
+    assert_eq!(rt; refs.queue.len(), 2);
+    let unsettled = refs.new_promise()?;
+    assert_eq!(rt;
+        refs.when(&mut micro, ActId(0), Value::Int(1), Value::Prom(unsettled))?,
+        None
+    );
     Ok(())
 }
