@@ -8,3 +8,6 @@ pub mod Waits
 pub mod Resolves
 pub mod Sends
 pub mod Reacts
+pub mod Faults
+pub mod Leads
+pub mod Reaches

@@ -1,8 +1,7 @@
 -- What an activation asks to react is asked as in the machine.
-use Rattle.std.proofs.Common.{◌≡◌, ℕ, List, [], ◌∷◌, ◌++◌, Option, Some, None, length, map, refl, sym, ap, ◌∙◌, subst}
+use Rattle.std.proofs.Common.{◌≡◌, ℕ, List, [], ◌∷◌, Option, Some, None, length, refl, sym, ap, ◌∙◌, subst}
 use Rattle.std.specs.Prelude.{codes, slice_get}
 use Rattle.ev_base.specs.declared.values.Value.{Value as Held}
-use Rattle.ev_heap.specs.declared.happened.Happened.{Happened as Event}
 use Rattle.ev_heap.specs.declared.happened.Happened.TheVariants as event
 use Rattle.ev_heap.specs.declared.micro.Micro.{Micro}
 use Rattle.ev_kernel.specs.declared.node.Node.{Node}
@@ -15,7 +14,7 @@ use Rattle.ev_refs.specs.Changes.{with_reaction}
 use Rattle.ev_refs.specs.Follow.{followed, place_of}
 use Rattle.ev_refs.specs.Performing.{Lines, Tells, vat_in}
 use Rattle.ev_refs.specs.Reacting.{reacting_in, reacting_at, reaction_of, reacted, told_when, given, ReactsAsTheMachine}
-use Rattle.ev_refs.specs.Reading.{value_by, message_by, place_by, knowns_by}
+use Rattle.ev_refs.specs.Reading.{value_by, message_by, place_by}
 use Rattle.ev_refs.specs.References.{References}
 use Rattle.ev_refs.specs.Sending.{with_message}
 use Rattle.ev_refs.specs.Settling.{Desk}

@@ -10,3 +10,5 @@ pub mod Work
 pub mod Resolving
 pub mod Sending
 pub mod Reacting
+pub mod Faults
+pub mod Leading

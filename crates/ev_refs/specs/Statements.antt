@@ -1,11 +1,12 @@
 -- What is said of references in the machine's terms.
-use Rattle.std.specs.Prelude.{◌≡◌, ℕ, List, codes}
+use Rattle.std.specs.Prelude.{◌≡◌, ℕ, List, codes, map}
 use Rattle.ev_base.specs.declared.values.Value.{Value as Held}
-use Rattle.ev_machine.specs.Values.{Words, Local, numbering}
+use Rattle.ev_machine.specs.Values.{Words, Local, Prom, numbering}
 use Rattle.ev_machine.specs.State.{Vat}
-use Rattle.ev_machine.specs.Refs.{follow, place}
+use Rattle.ev_machine.specs.Refs.{follow, place, reaches}
 use Rattle.ev_refs.specs.References.{References}
 use Rattle.ev_refs.specs.Follow.{followed, place_of}
+use Rattle.ev_refs.specs.Leading.{leads_back}
 use Rattle.ev_refs.specs.Reading.{text_by, value_by, vat_by, place_by}
 
 -- the texts of the numbers that the references have for them
@@ -19,3 +20,8 @@ FollowsAsTheMachine = (word : ℕ → ℕ) (ts : List Words) (r : References) (s
 abbrev pub PlacesAsTheMachine : Type 0
 PlacesAsTheMachine = (word : ℕ → ℕ) (ts : List Words) (r : References) (s : Vat Local) (v : Held)
     → place (numbering {W = Local} word) (vat_by ts r s) (value_by ts v) ≡ place_by ts (place_of r v)
+
+-- where the lists of the vat are these
+abbrev pub LeadsBackAsTheMachine : Type 0
+LeadsBackAsTheMachine = (word : ℕ → ℕ) (ts : List Words) (r : References) (ls : List (List Held)) (s : Vat Local) (p d : ℕ) (v : Held) → KnowsTexts ts r → s.lists ≡ map (map (value_by ts)) ls
+    → reaches (numbering {W = Local} word) d (vat_by ts r s) (Prom p) (value_by ts v) ≡ leads_back d r ls p v

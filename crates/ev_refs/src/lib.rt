@@ -7,6 +7,7 @@ pub mod known;
 pub mod laws;
 pub mod refs;
 pub mod resolve;
+pub mod search;
 pub mod send;
 pub mod settle;
 pub mod tasks;

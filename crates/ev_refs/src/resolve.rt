@@ -3,6 +3,8 @@
 ghost use Rattle.std.specs.Prelude.{◌≡◌, ◌++◌, ◌∷◌, [], Ok, OnOk, length};
 ghost use Rattle.ev_refs.specs.Resolving.{awaited, wait_noted, wait_on, wait_started, waits_lead};
 ghost use Rattle.ev_base.specs.declared.values.Value.TheVariants.{Broken};
+ghost use Rattle.ev_refs.specs.Faults.{ResolvingMeets, WaitingMeets, WhereFails};
+ghost use Rattle.ev_refs.specs.Follow.{followed, place_of};
 ghost use Rattle.ev_refs.specs.Performing.{ResolvesAsTheMachine, ResolvingGoesAstray, WaitingGoesAstray, WaitsAsTheMachine, WhereAstray};
 ghost use Rattle.ev_refs.specs.Settling.{Leaves};
 
@@ -99,6 +101,7 @@ impl Refs {
     ) -> Result<(), Fault>
         ensures done { OnOk result (WaitsAsTheMachine self.old micro.old name other self.new micro.new) }
         ensures astray { WhereAstray result (WaitingGoesAstray self.old micro.old name other) }
+        ensures fault { WhereFails result (λ f. WaitingMeets f self.old micro.old name other) }
     {
         if self.leads_back(name, other) {
             let broken = self.broken_by_cycle();
@@ -109,10 +112,11 @@ impl Refs {
 
     /// A name resolves to a value that is followed to no list: it waits on an unsettled name, or is broken `cycle` where a chain of
     /// waits would lead back to it, or settles. After a fault what was done up to there stands. It goes astray only where the machine
-    /// does.
+    /// does, and answers a fault other than want of memory only where a part of the settling meets it.
     pub fn resolve(&mut self, micro: &mut Micro, name: PromId, value: Value) -> Result<(), Fault>
         ensures done { OnOk result (ResolvesAsTheMachine self.old micro.old name value self.new micro.new) }
         ensures astray { WhereAstray result (ResolvingGoesAstray self.old micro.old name value) }
+        ensures fault { WhereFails result (λ f. ResolvingMeets f self.old micro.old name (followed self.old value) (place_of self.old (followed self.old value))) }
     {
         let end = self.deref(value);
         match self.place(end) {

@@ -1,10 +1,13 @@
 //! Promises that a vat makes, and messages that it sends.
 
-ghost use Rattle.std.specs.Prelude.{◌≡◌, ◌+◌, [], IfOk, Ok, OnErr, OnOk, length, slice_get};
+ghost use Rattle.std.specs.Prelude.{◌≡◌, ◌+◌, [], true, IfOk, Ok, OnErr, OnOk, length, slice_get};
 ghost use Rattle.ev_heap.specs.declared.happened.Happened.TheVariants.{Send};
+ghost use Rattle.ev_refs.specs.Faults.{PlacingMeets, WhereFails, is_away};
+ghost use Rattle.ev_refs.specs.Follow.{followed, place_of};
 ghost use Rattle.ev_refs.specs.Sending.{FindsItsPlace, SendsAsTheMachine, SendsOn, with_message, with_promise};
 ghost use Rattle.ev_refs.specs.Settling.{Leaves, enqueued, held_at};
 ghost use Rattle.ev_refs.specs.declared.follow.Place.TheVariants.{Gone};
+ghost use Rattle.ev_refs.specs.declared.settle.Fault.TheVariants.{Unbuilt};
 
 use crate::follow::Place;
 use crate::known::Message;
@@ -114,7 +117,8 @@ impl Refs {
 
     /// A message on a broken reference is lost, and its answer is broken with the problem.
     fn lose(&mut self, micro: &mut Micro, message: Message, problem: TextId) -> Result<(), Fault>
-        ensures { OnOk result (FindsItsPlace self.old micro.old message (Gone problem) self.new micro.new) }
+        ensures done { OnOk result (FindsItsPlace self.old micro.old message (Gone problem) self.new micro.new) }
+        ensures fault { WhereFails result (λ f. PlacingMeets f self.old micro.old message (Gone problem)) }
     {
         micro.push(Happened::LostBroken(message.id))?;
         let broken = Value::Broken(problem);
@@ -123,7 +127,8 @@ impl Refs {
 
     /// A new message finds its place: in the queue, at a promise of this vat, or lost.
     fn send_first(&mut self, micro: &mut Micro, message: Message, place: Place) -> Result<(), Fault>
-        ensures { OnOk result (FindsItsPlace self.old micro.old message place self.new micro.new) }
+        ensures done { OnOk result (FindsItsPlace self.old micro.old message place self.new micro.new) }
+        ensures fault { WhereFails result (λ f. PlacingMeets f self.old micro.old message place) }
     {
         match place {
             Place::Near => self.enqueue(micro, message),
@@ -145,17 +150,21 @@ impl Refs {
         end: &Value,
         place: Place,
     ) -> Result<PromId, Fault>
-        ensures { IfOk result (λ answer. SendsOn self.old micro.old activation target.now verb.now args.now end.now place answer self.new micro.new) }
+        ensures fault { WhereFails result (λ f. (f ≡ Unbuilt) × (is_away place ≡ true)) }
+        ensures done { IfOk result (λ answer. SendsOn self.old micro.old activation target.now verb.now args.now end.now place answer self.new micro.new) }
     {
         let fresh = self.new_message()?;
         micro.push(self.sending(activation, fresh, target, verb, args)?)?;
         let message = self.message_on(fresh, end, verb, args)?;
-        self.send_first(micro, message, place)?;
-        Ok(fresh.answer)
+        match self.send_first(micro, message, place) {
+            Ok(()) => Ok(fresh.answer),
+            Err(fault) => Err(fault),
+        }
     }
 
     /// An activation sends a message on a value that leads to no other vat: it is queued, or waits at a promise, or is lost. It
-    /// gives the name of the answer. After a fault what was done up to there stands.
+    /// gives the name of the answer. After a fault what was done up to there stands. But for want of memory it answers none, unless the
+    /// value leads to another vat.
     pub fn send(
         &mut self,
         micro: &mut Micro,
@@ -164,7 +173,8 @@ impl Refs {
         verb: &str,
         args: &[Value],
     ) -> Result<PromId, Fault>
-        ensures { IfOk result (λ answer. SendsAsTheMachine self.old micro.old activation target verb.now args.now answer self.new micro.new) }
+        ensures fault { WhereFails result (λ f. (f ≡ Unbuilt) × (is_away (place_of self.old (followed self.old target)) ≡ true)) }
+        ensures done { IfOk result (λ answer. SendsAsTheMachine self.old micro.old activation target verb.now args.now answer self.new micro.new) }
     {
         let held = target;
         let end = self.deref(target);

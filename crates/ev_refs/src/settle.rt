@@ -2,6 +2,7 @@
 
 ghost use Rattle.std.specs.Prelude.{◌≡◌, ◌++◌, ◌<◌, ◌∷◌, Ok, OnErr, OnOk, length, slice_get};
 ghost use Rattle.ev_refs.specs.Settling.{Leaves, held_in, parts_of, perform, send_on, send_placed, settle_at, settle_found, settle_waiters};
+ghost use Rattle.ev_refs.specs.Faults.{SettlingMeets, WhereFails};
 ghost use Rattle.ev_refs.specs.Performing.{SettlesAsTheMachine, SettlingGoesAstray, WhereAstray};
 
 use crate::follow::Place;
@@ -188,10 +189,12 @@ impl Refs {
     }
 
     /// A name settles to a value that is no list: what waits at it, and at what settles with it, goes on, in the machine's order.
-    /// After a fault what was done up to there stands. It goes astray only where the machine does.
+    /// After a fault what was done up to there stands. It goes astray only where the machine does, and answers a fault other than
+    /// want of memory only where a part of the settling meets it.
     pub fn settle(&mut self, micro: &mut Micro, name: PromId, value: &Value) -> Result<(), Fault>
         ensures done { OnOk result (SettlesAsTheMachine self.old micro.old name value.now self.new micro.new) }
         ensures astray { WhereAstray result (SettlingGoesAstray self.old micro.old name value.now) }
+        ensures fault { WhereFails result (λ f. SettlingMeets f self.old micro.old name value.now) }
     {
         let mut tasks = Tasks::new(self.alloc);
         tasks.push(Task::Settle(name, *value, self.count() + 2))?;

@@ -1,6 +1,6 @@
 use crate::{Message, Place, Refs};
 use ev_base::{ActId, MsgId, ObjId, PromId, Seq, Str, TextId, Value, VatId};
-use ev_heap::Micro;
+use ev_heap::{Heap, Micro};
 use std::test::Fail;
 
 /// A message that is held at a promise goes on to the object to which that settles, and a promise that waits on it settles too.
@@ -72,5 +72,28 @@ fn a_reaction_waits(rt: HostRuntime) -> Result<(), Fail> {
         refs.when(&mut micro, ActId(0), Value::Int(1), Value::Prom(unsettled))?,
         None
     );
+    Ok(())
+}
+
+/// The members of a list lead back to a promise through another promise that settled to a list.
+#[test]
+fn a_list_leads_back(rt: HostRuntime) -> Result<(), Fail> {
+    let alloc = rt.alloc();
+    let mut heap = Heap::new(alloc);
+    let mut refs = Refs::new(alloc, VatId(0), TextId(0), TextId(1));
+    let first = refs.new_promise()?;
+    let second = refs.new_promise()?;
+    let Ok(inner) = heap.make_list(&[Value::Int(1), Value::Prom(first)]) else {
+        return Ok(());
+    };
+    let Ok(outer) = heap.make_list(&[Value::Prom(second)]) else {
+        return Ok(());
+    };
+    assert_eq!(rt; refs.list_leads_back(&heap, first, outer)?, false);
+    if second.0 < refs.count() {
+        refs.settle_name(second, Value::List(inner));
+    }
+    assert_eq!(rt; refs.list_leads_back(&heap, first, outer)?, true);
+    assert_eq!(rt; refs.list_leads_back(&heap, second, outer)?, false);
     Ok(())
 }

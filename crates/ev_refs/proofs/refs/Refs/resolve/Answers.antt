@@ -1,4 +1,5 @@
-use Rattle.ev_refs.specs.declared.follow.Place.TheVariants.{Near, FarObject, Gone}
+use Rattle.ev_refs.specs.declared.follow.Place.TheVariants.{Near, Mine, FarPromise, FarObject, Gone}
+use Rattle.ev_refs.proofs.Faults.{resolving_meets}
 use Rattle.ev_refs.proofs.Resolves.{near, far, gone, mine, promise, astray_end, astray_mine, astray_promise}
 use Rattle.ev_refs.proofs.refs.Refs.resolve.Goals as goal
 
@@ -39,3 +40,18 @@ returns-in-FarObject-clause-astray c = astray_end c.args.self.now c.args.micro.n
 
 pub returns-in-Gone-clause-astray : goal.returns-in-Gone-clause-astray
 returns-in-Gone-clause-astray c = astray_end c.args.self.now c.args.micro.now c.args.name c.args.value c.deref-end.result c.deref-end.ensures c.settle-in-Gone.result (Gone c.in-Gone.field-0) tt c.in-Gone.ensures c.settle-in-Gone.ensures.astray
+
+pub returns-in-Near-clause-fault : goal.returns-in-Near-clause-fault
+returns-in-Near-clause-fault c = resolving_meets c.args.self.now c.args.micro.now c.args.name c.args.value c.deref-end.result c.settle.result Near c.deref-end.ensures c.in-Near.ensures c.settle.ensures.fault
+
+pub returns-in-Mine-clause-fault : goal.returns-in-Mine-clause-fault
+returns-in-Mine-clause-fault c = resolving_meets c.args.self.now c.args.micro.now c.args.name c.args.value c.deref-end.result c.wait_unless_cycle.result (Mine c.in-Mine.other) c.deref-end.ensures c.in-Mine.ensures c.wait_unless_cycle.ensures.fault
+
+pub returns-in-FarPromise-clause-fault : goal.returns-in-FarPromise-clause-fault
+returns-in-FarPromise-clause-fault c = resolving_meets c.args.self.now c.args.micro.now c.args.name c.args.value c.deref-end.result c.wait_unless_cycle-in-FarPromise.result (FarPromise c.in-FarPromise.field-0 c.in-FarPromise.other) c.deref-end.ensures c.in-FarPromise.ensures c.wait_unless_cycle-in-FarPromise.ensures.fault
+
+pub returns-in-FarObject-clause-fault : goal.returns-in-FarObject-clause-fault
+returns-in-FarObject-clause-fault c = resolving_meets c.args.self.now c.args.micro.now c.args.name c.args.value c.deref-end.result c.settle-in-FarObject.result (FarObject c.in-FarObject.field-0 c.in-FarObject.field-1) c.deref-end.ensures c.in-FarObject.ensures c.settle-in-FarObject.ensures.fault
+
+pub returns-in-Gone-clause-fault : goal.returns-in-Gone-clause-fault
+returns-in-Gone-clause-fault c = resolving_meets c.args.self.now c.args.micro.now c.args.name c.args.value c.deref-end.result c.settle-in-Gone.result (Gone c.in-Gone.field-0) c.deref-end.ensures c.in-Gone.ensures c.settle-in-Gone.ensures.fault

@@ -1,4 +1,6 @@
 use Rattle.std.proofs.Common.{[], sym, ◌∙◌}
+use Rattle.ev_refs.proofs.Faults.{broke_meets, never}
+use Rattle.ev_refs.specs.Faults.{WaitingMeets}
 use Rattle.ev_refs.proofs.Resolves.{broke, waited, broke_astray, waited_well}
 use Rattle.ev_refs.proofs.Settles.{desk}
 use Rattle.ev_refs.specs.Performing.{WaitingGoesAstray}
@@ -19,3 +21,11 @@ returns-then-leads_back-clause-astray c =
 pub returns-clause-astray : goal.returns-clause-astray
 returns-clause-astray c =
     waited_well c.begin_wait.result (wait_on c.args.name c.args.other (desk [] c.args.self.now c.args.micro.now)) (desk [] c.begin_wait.new.self c.begin_wait.new.micro) (WaitingGoesAstray c.args.self.now c.args.micro.now c.args.name c.args.other) c.begin_wait.ensures
+
+pub returns-then-leads_back-clause-fault : goal.returns-then-leads_back-clause-fault
+returns-then-leads_back-clause-fault c =
+    broke_meets c.args.self.now c.args.micro.now c.args.name c.args.other c.broken_by_cycle-broken.result c.settle.result (sym c.leads_back.ensures ∙ c.if-leads_back.true) c.broken_by_cycle-broken.ensures c.settle.ensures.fault
+
+pub returns-clause-fault : goal.returns-clause-fault
+returns-clause-fault c =
+    never c.begin_wait.result (wait_on c.args.name c.args.other (desk [] c.args.self.now c.args.micro.now)) (desk [] c.begin_wait.new.self c.begin_wait.new.micro) (λ f. WaitingMeets f c.args.self.now c.args.micro.now c.args.name c.args.other) c.begin_wait.ensures

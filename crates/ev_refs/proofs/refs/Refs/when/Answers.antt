@@ -1,4 +1,3 @@
-use Rattle.std.proofs.Common.{sym, ◌∙◌}
 use Rattle.ev_refs.proofs.Reacts.{near, elsewhere}
 use Rattle.ev_refs.proofs.refs.Refs.when.Goals as goal
 
