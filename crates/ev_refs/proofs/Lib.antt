@@ -11,3 +11,4 @@ pub mod Reacts
 pub mod Faults
 pub mod Leads
 pub mod Reaches
+pub mod Tells

@@ -19,39 +19,39 @@ unfoldable pub met_behind : (Desk → Option Fault) → Result Desk Fault → Op
 met_behind on (Ok k) = on k
 met_behind on (Err f) = Some f
 
-unfoldable pub met_from : (Desk → Option Fault) → List Task → Desk → Option Fault
-met_from on [] k = None
-met_from on (t ∷ ts) k = met_behind on (perform t (record k { tasks = ts }))
+unfoldable pub met_from : List (List Value) → (Desk → Option Fault) → List Task → Desk → Option Fault
+met_from ls on [] k = None
+met_from ls on (t ∷ ts) k = met_behind on (perform ls t (record k { tasks = ts }))
 
 -- the fault that is met among the next so many parts, if any
-unfoldable pub meets : ℕ → Desk → Option Fault
-meets zero k = None
-meets (suc n) k = met_from (λ j. meets n j) k.tasks k
+unfoldable pub meets : List (List Value) → ℕ → Desk → Option Fault
+meets ls zero k = None
+meets ls (suc n) k = met_from ls (λ j. meets ls n j) k.tasks k
 
 -- a desk meets that fault
-abbrev pub Meets : Fault → Desk → Type 0
-Meets f k = (n : ℕ) × (meets n k ≡ Some f)
+abbrev pub Meets : List (List Value) → Fault → Desk → Type 0
+Meets ls f k = (n : ℕ) × (meets ls n k ≡ Some f)
 
 -- the settling of a name meets it
-abbrev pub SettlingMeets : Fault → References → Micro → ℕ → Value → Type 0
-SettlingMeets f r m p v = Meets f (record { tasks = Settle p v (length r.known + 2) ∷ []; refs = r; micro = m })
+abbrev pub SettlingMeets : List (List Value) → Fault → References → Micro → ℕ → Value → Type 0
+SettlingMeets ls f r m p v = Meets ls f (record { tasks = Settle p v (length r.known + 2) ∷ []; refs = r; micro = m })
 
 -- the wait of a name on another meets it, since a chain of waits leads back
-abbrev pub WaitingMeets : Fault → References → Micro → ℕ → ℕ → Type 0
-WaitingMeets f r m p q = (waits_lead (length r.known) r.known p q ≡ true) × SettlingMeets f r m p (held.Broken r.cycle)
+abbrev pub WaitingMeets : List (List Value) → Fault → References → Micro → ℕ → ℕ → Type 0
+WaitingMeets ls f r m p q = (waits_lead (length r.known) r.known p q ≡ true) × SettlingMeets ls f r m p (held.Broken r.cycle)
 
 -- what a name resolves to meets it, where that is followed to this, at this place
-abbrev pub ResolvingMeets : Fault → References → Micro → ℕ → Value → Place → Type 0
-ResolvingMeets f r m p y (Mine q) = WaitingMeets f r m p q
-ResolvingMeets f r m p y (FarPromise h q) = WaitingMeets f r m p q
-ResolvingMeets f r m p y _ = SettlingMeets f r m p y
+abbrev pub ResolvingMeets : List (List Value) → Fault → References → Micro → ℕ → Value → Place → Type 0
+ResolvingMeets ls f r m p y (Mine q) = WaitingMeets ls f r m p q
+ResolvingMeets ls f r m p y (FarPromise h q) = WaitingMeets ls f r m p q
+ResolvingMeets ls f r m p y _ = SettlingMeets ls f r m p y
 
 -- a new message meets it, on a followed target at this place
-abbrev pub PlacingMeets : Fault → References → Micro → Message → Place → Type 0
-PlacingMeets f r m n (Gone t) = SettlingMeets f r (record m { events = m.events ++ event.LostBroken n.id ∷ [] }) n.answer (held.Broken t)
-PlacingMeets f r m n (FarPromise h p) = f ≡ Unbuilt
-PlacingMeets f r m n (FarObject h p) = f ≡ Unbuilt
-PlacingMeets f r m n _ = ⊥
+abbrev pub PlacingMeets : List (List Value) → Fault → References → Micro → Message → Place → Type 0
+PlacingMeets ls f r m n (Gone t) = SettlingMeets ls f r (record m { events = m.events ++ event.LostBroken n.id ∷ [] }) n.answer (held.Broken t)
+PlacingMeets ls f r m n (FarPromise h p) = f ≡ Unbuilt
+PlacingMeets ls f r m n (FarObject h p) = f ≡ Unbuilt
+PlacingMeets ls f r m n _ = ⊥
 
 -- whether a place is at another vat
 abbrev pub is_away : Place → Bool

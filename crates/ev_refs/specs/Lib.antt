@@ -12,3 +12,4 @@ pub mod Sending
 pub mod Reacting
 pub mod Faults
 pub mod Leading
+pub mod Telling

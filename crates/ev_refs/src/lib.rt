@@ -5,6 +5,7 @@ pub mod changes;
 pub mod follow;
 pub mod known;
 pub mod laws;
+pub mod natives;
 pub mod refs;
 pub mod resolve;
 pub mod search;
@@ -15,6 +16,7 @@ pub mod when;
 
 pub use follow::Place;
 pub use known::{Known, Message, Standing, Waiters};
+pub use natives::RefReply;
 pub use refs::Refs;
 pub use settle::Fault;
 

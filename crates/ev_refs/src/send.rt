@@ -4,6 +4,7 @@ ghost use Rattle.std.specs.Prelude.{◌≡◌, ◌+◌, [], true, IfOk, Ok, OnEr
 ghost use Rattle.ev_heap.specs.declared.happened.Happened.TheVariants.{Send};
 ghost use Rattle.ev_refs.specs.Faults.{PlacingMeets, WhereFails, is_away};
 ghost use Rattle.ev_refs.specs.Follow.{followed, place_of};
+ghost use Rattle.ev_refs.specs.Leading.{lists_in};
 ghost use Rattle.ev_refs.specs.Sending.{FindsItsPlace, SendsAsTheMachine, SendsOn, with_message, with_promise};
 ghost use Rattle.ev_refs.specs.Settling.{Leaves, enqueued, held_at};
 ghost use Rattle.ev_refs.specs.declared.follow.Place.TheVariants.{Gone};
@@ -14,7 +15,7 @@ use crate::known::Message;
 use crate::refs::Refs;
 use crate::settle::Fault;
 use ev_base::{ActId, Memory, MsgId, PromId, Seq, Str, TextId, Value};
-use ev_heap::{Happened, Micro};
+use ev_heap::{Happened, Heap, Micro};
 
 /// The number of a new message, and the name of its answer.
 #[derive(Clone, Copy, Debug, PartialEq, Eq)]
@@ -116,24 +117,36 @@ impl Refs {
     }
 
     /// A message on a broken reference is lost, and its answer is broken with the problem.
-    fn lose(&mut self, micro: &mut Micro, message: Message, problem: TextId) -> Result<(), Fault>
-        ensures done { OnOk result (FindsItsPlace self.old micro.old message (Gone problem) self.new micro.new) }
-        ensures fault { WhereFails result (λ f. PlacingMeets f self.old micro.old message (Gone problem)) }
+    fn lose(
+        &mut self,
+        heap: &Heap,
+        micro: &mut Micro,
+        message: Message,
+        problem: TextId,
+    ) -> Result<(), Fault>
+        ensures done { OnOk result (FindsItsPlace (lists_in heap.now) self.old micro.old message (Gone problem) self.new micro.new) }
+        ensures fault { WhereFails result (λ f. PlacingMeets (lists_in heap.now) f self.old micro.old message (Gone problem)) }
     {
         micro.push(Happened::LostBroken(message.id))?;
         let broken = Value::Broken(problem);
-        self.settle(micro, message.answer, &broken)
+        self.settle(heap, micro, message.answer, &broken)
     }
 
     /// A new message finds its place: in the queue, at a promise of this vat, or lost.
-    fn send_first(&mut self, micro: &mut Micro, message: Message, place: Place) -> Result<(), Fault>
-        ensures done { OnOk result (FindsItsPlace self.old micro.old message place self.new micro.new) }
-        ensures fault { WhereFails result (λ f. PlacingMeets f self.old micro.old message place) }
+    fn send_first(
+        &mut self,
+        heap: &Heap,
+        micro: &mut Micro,
+        message: Message,
+        place: Place,
+    ) -> Result<(), Fault>
+        ensures done { OnOk result (FindsItsPlace (lists_in heap.now) self.old micro.old message place self.new micro.new) }
+        ensures fault { WhereFails result (λ f. PlacingMeets (lists_in heap.now) f self.old micro.old message place) }
     {
         match place {
             Place::Near => self.enqueue(micro, message),
             Place::Mine(name) => self.hold_first(micro, name, message),
-            Place::Gone(problem) => self.lose(micro, message, problem),
+            Place::Gone(problem) => self.lose(heap, micro, message, problem),
             Place::FarPromise(_, _) => Err(Fault::Unbuilt),
             Place::FarObject(_, _) => Err(Fault::Unbuilt),
         }
@@ -142,6 +155,7 @@ impl Refs {
     /// A new message is told as it is sent, and then finds its place.
     fn send_new(
         &mut self,
+        heap: &Heap,
         micro: &mut Micro,
         activation: ActId,
         target: &Value,
@@ -151,12 +165,12 @@ impl Refs {
         place: Place,
     ) -> Result<PromId, Fault>
         ensures fault { WhereFails result (λ f. (f ≡ Unbuilt) × (is_away place ≡ true)) }
-        ensures done { IfOk result (λ answer. SendsOn self.old micro.old activation target.now verb.now args.now end.now place answer self.new micro.new) }
+        ensures done { IfOk result (λ answer. SendsOn (lists_in heap.now) self.old micro.old activation target.now verb.now args.now end.now place answer self.new micro.new) }
     {
         let fresh = self.new_message()?;
         micro.push(self.sending(activation, fresh, target, verb, args)?)?;
         let message = self.message_on(fresh, end, verb, args)?;
-        match self.send_first(micro, message, place) {
+        match self.send_first(heap, micro, message, place) {
             Ok(()) => Ok(fresh.answer),
             Err(fault) => Err(fault),
         }
@@ -167,6 +181,7 @@ impl Refs {
     /// value leads to another vat.
     pub fn send(
         &mut self,
+        heap: &Heap,
         micro: &mut Micro,
         activation: ActId,
         target: Value,
@@ -174,14 +189,14 @@ impl Refs {
         args: &[Value],
     ) -> Result<PromId, Fault>
         ensures fault { WhereFails result (λ f. (f ≡ Unbuilt) × (is_away (place_of self.old (followed self.old target)) ≡ true)) }
-        ensures done { IfOk result (λ answer. SendsAsTheMachine self.old micro.old activation target verb.now args.now answer self.new micro.new) }
+        ensures done { IfOk result (λ answer. SendsAsTheMachine (lists_in heap.now) self.old micro.old activation target verb.now args.now answer self.new micro.new) }
     {
         let held = target;
         let end = self.deref(target);
         match self.place(end) {
             Place::FarPromise(_, _) => Err(Fault::Unbuilt),
             Place::FarObject(_, _) => Err(Fault::Unbuilt),
-            place => self.send_new(micro, activation, &held, verb, args, &end, place),
+            place => self.send_new(heap, micro, activation, &held, verb, args, &end, place),
         }
     }
 }

@@ -1,12 +1,14 @@
-use crate::{Message, Place, Refs};
+use crate::{Message, Place, RefReply, Refs};
 use ev_base::{ActId, MsgId, ObjId, PromId, Seq, Str, TextId, Value, VatId};
 use ev_heap::{Heap, Micro};
+use ev_prims::RefTest;
 use std::test::Fail;
 
 /// A message that is held at a promise goes on to the object to which that settles, and a promise that waits on it settles too.
 #[test]
 fn a_held_message_goes_on(rt: HostRuntime) -> Result<(), Fail> {
     let alloc = rt.alloc();
+    let heap = Heap::new(alloc);
     let mut refs = Refs::new(alloc, VatId(0), TextId(0), TextId(1));
     let mut micro = Micro::new(alloc, 0);
     let promise = refs.learn(VatId(0))?;
@@ -22,10 +24,13 @@ fn a_held_message_goes_on(rt: HostRuntime) -> Result<(), Fail> {
         refs.hold(promise, message)?;
     }
     assert!(rt;
-        refs.resolve(&mut micro, answer, Value::Prom(promise))
+        refs.resolve(&heap, &mut micro, answer, Value::Prom(promise))
             .is_ok()
     );
-    assert!(rt; refs.resolve(&mut micro, promise, Value::Int(7)).is_ok());
+    assert!(rt;
+        refs.resolve(&heap, &mut micro, promise, Value::Int(7))
+            .is_ok()
+    );
     assert_eq!(rt; refs.deref(Value::Prom(answer)), Value::Int(7));
     assert_eq!(rt; refs.place(Value::Int(7)), Place::Near);
     assert_eq!(rt; micro.events.len(), 3);
@@ -36,10 +41,18 @@ fn a_held_message_goes_on(rt: HostRuntime) -> Result<(), Fail> {
 #[test]
 fn a_message_is_sent(rt: HostRuntime) -> Result<(), Fail> {
     let alloc = rt.alloc();
+    let heap = Heap::new(alloc);
     let mut refs = Refs::new(alloc, VatId(0), TextId(0), TextId(1));
     let mut micro = Micro::new(alloc, 0);
     let promise = refs.new_promise()?;
-    match refs.send(&mut micro, ActId(0), Value::Int(1), "run", &[Value::Null]) {
+    match refs.send(
+        &heap,
+        &mut micro,
+        ActId(0),
+        Value::Int(1),
+        "run",
+        &[Value::Null],
+    ) {
         Ok(answer) => assert_eq!(rt; answer.0, promise.0 + 1),
         Err(_) => assert!(rt; false),
     }
@@ -51,6 +64,7 @@ fn a_message_is_sent(rt: HostRuntime) -> Result<(), Fail> {
 #[test]
 fn a_reaction_waits(rt: HostRuntime) -> Result<(), Fail> {
     let alloc = rt.alloc();
+    let heap = Heap::new(alloc);
     let mut refs = Refs::new(alloc, VatId(0), TextId(0), TextId(1));
     let mut micro = Micro::new(alloc, 0);
     let promise = refs.new_promise()?;
@@ -60,7 +74,10 @@ fn a_reaction_waits(rt: HostRuntime) -> Result<(), Fail> {
         Some(PromId(1))
     );
     assert_eq!(rt; refs.queue.len(), 0);
-    assert!(rt; refs.resolve(&mut micro, promise, Value::Int(7)).is_ok());
+    assert!(rt;
+        refs.resolve(&heap, &mut micro, promise, Value::Int(7))
+            .is_ok()
+    );
     assert_eq!(rt; refs.queue.len(), 1);
     assert_eq!(rt;
         refs.when(&mut micro, ActId(0), Value::Int(1), object)?,
@@ -95,5 +112,38 @@ fn a_list_leads_back(rt: HostRuntime) -> Result<(), Fail> {
     }
     assert_eq!(rt; refs.list_leads_back(&heap, first, outer)?, true);
     assert_eq!(rt; refs.list_leads_back(&heap, second, outer)?, false);
+    Ok(())
+}
+
+/// A promise that would settle to a list that leads back to it is broken `cycle`; another list is what it settles to.
+#[test]
+fn a_promise_settles_to_a_list(rt: HostRuntime) -> Result<(), Fail> {
+    let alloc = rt.alloc();
+    let mut heap = Heap::new(alloc);
+    let mut refs = Refs::new(alloc, VatId(0), TextId(0), TextId(1));
+    let mut micro = Micro::new(alloc, 0);
+    let first = refs.new_promise()?;
+    let second = refs.new_promise()?;
+    let Ok(list) = heap.make_list(&[Value::Prom(first)]) else {
+        return Ok(());
+    };
+    assert!(rt;
+        refs.resolve(&heap, &mut micro, first, Value::List(list))
+            .is_ok()
+    );
+    assert!(rt;
+        refs.resolve(&heap, &mut micro, second, Value::List(list))
+            .is_ok()
+    );
+    assert_eq!(rt; refs.deref(Value::Prom(first)), Value::Broken(TextId(1)));
+    assert_eq!(rt; refs.deref(Value::Prom(second)), Value::List(list));
+    assert_eq!(rt;
+        refs.ask_ref(RefTest::IsBroken, Value::Prom(first)),
+        RefReply::Says(Value::Bool(true))
+    );
+    assert_eq!(rt;
+        refs.ask_ref(RefTest::Fulfillment, Value::Prom(second)),
+        RefReply::Says(Value::Prom(second))
+    );
     Ok(())
 }
