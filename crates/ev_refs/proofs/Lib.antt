@@ -12,3 +12,4 @@ pub mod Faults
 pub mod Leads
 pub mod Reaches
 pub mod Tells
+pub mod Resolvers

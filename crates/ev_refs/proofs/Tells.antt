@@ -1,6 +1,7 @@
 -- What is told of a value is what the machine tells.
-use Rattle.std.proofs.Common.{◌≡◌, ℕ, List, refl, sym, ap, ◌∙◌, subst}
+use Rattle.std.proofs.Common.{◌≡◌, ℕ, List, Option, refl, sym, ap, ◌∙◌, subst}
 use Rattle.ev_base.specs.declared.values.Value.{Value as Held}
+use Rattle.ev_base.specs.declared.values.Value.TheVariants as held
 use Rattle.ev_kernel.specs.declared.node.Node.{Node}
 use Rattle.ev_machine.specs.Perform as perform
 use Rattle.ev_machine.specs.Perform.{test_reply}
@@ -13,7 +14,7 @@ use Rattle.ev_prims.specs.declared.asking.RefTest.TheVariants.{IsNear, IsFar, Is
 use Rattle.ev_refs.specs.Follow.{followed, place_of}
 use Rattle.ev_refs.specs.Reading.{value_by, place_by, vat_by}
 use Rattle.ev_refs.specs.References.{References}
-use Rattle.ev_refs.specs.Telling.{told_at, reply_by, TellsAsTheMachine}
+use Rattle.ev_refs.specs.Telling.{told_at, reply_by, broken_reply, broken_of, BreaksAsTheMachine, TellsAsTheMachine}
 use Rattle.ev_refs.specs.declared.follow.Place.{Place}
 use Rattle.ev_refs.specs.declared.follow.Place.TheVariants.{Near, Mine, FarPromise, FarObject, Gone}
 use Rattle.ev_refs.specs.declared.natives.RefReply.{RefReply}
@@ -64,3 +65,23 @@ tells r test x end p reply is here told = λ word tree ts s part.
     ∙ ap (λ (q : Place). test_reply (names word) tree (ref_test_in test) (value_by ts x) (place_by ts q)) stands
     ∙ told_is word tree ts x test p
     ∙ ap (λ (a : RefReply). reply_by ts a) (sym told)
+
+broken_is : (word : ℕ → ℕ) (tree : List Node) (ts : List Words) (v : Held) → perform.broken_text (names word) tree (value_by ts v) ≡ broken_reply ts (broken_of v)
+unfolding perform.broken_text
+broken_is word tree ts (held.Text t) = refl
+broken_is word tree ts held.Null = refl
+broken_is word tree ts (held.Bool b) = refl
+broken_is word tree ts (held.Int z) = refl
+broken_is word tree ts (held.Char c) = refl
+broken_is word tree ts (held.List k) = refl
+broken_is word tree ts (held.Prim n) = refl
+broken_is word tree ts (held.Obj i) = refl
+broken_is word tree ts (held.Prom q) = refl
+broken_is word tree ts (held.Far a q) = refl
+broken_is word tree ts (held.Broken t) = refl
+
+pub breaks : (r : References) (x end : Held) (reply : Option Held) → end ≡ followed r x → reply ≡ broken_of end → BreaksAsTheMachine r x reply
+breaks r x end reply is told = λ word tree ts s part.
+    ap (λ (y : Value Local). perform.broken_text (names word) tree y) (follow_is word ts r s x part ∙ ap (λ (v : Held). value_by ts v) (sym is))
+    ∙ broken_is word tree ts end
+    ∙ ap (λ (a : Option Held). broken_reply ts a) (sym told)

@@ -13,3 +13,4 @@ pub mod Reacting
 pub mod Faults
 pub mod Leading
 pub mod Telling
+pub mod Answering

@@ -1,10 +1,11 @@
 -- What Ref tells of a value, and what a resolver does, in the code's terms and as the machine has them.
-use Rattle.std.specs.Prelude.{◌≡◌, ℕ, Bool, true, false, List, codes}
+use Rattle.std.specs.Prelude.{◌≡◌, ℕ, Bool, true, false, List, Some, None, codes}
+use Rattle.std.specs.declared.option.Option.{Option}
 use Rattle.ev_base.specs.declared.values.Value.{Value as Held}
 use Rattle.ev_base.specs.declared.values.Value.TheVariants as held
 use Rattle.ev_kernel.specs.declared.node.Node.{Node}
 use Rattle.ev_machine.specs.Native as native
-use Rattle.ev_machine.specs.Perform.{test_reply}
+use Rattle.ev_machine.specs.Perform.{broken_text, test_reply}
 use Rattle.ev_machine.specs.Refs.{follow, place}
 use Rattle.ev_machine.specs.State.{Vat}
 use Rattle.ev_machine.specs.Values.{Words, Local, numbering}
@@ -67,3 +68,18 @@ reply_by ts NotResolved = native.Fails (codes "not resolved")
 abbrev pub TellsAsTheMachine : References → RefTest → Held → RefReply → Type 0
 TellsAsTheMachine r test x reply = (word : ℕ → ℕ) (tree : List Node) (ts : List Words) (s : Vat Local) → KnowsTexts ts r
     → test_reply (numbering {W = Local} word) tree (ref_test_in test) (value_by ts x) (place (numbering {W = Local} word) (vat_by ts r s) (follow (numbering {W = Local} word) (vat_by ts r s) (value_by ts x))) ≡ reply_by ts reply
+
+-- what is broken with a problem, or a bad argument
+abbrev pub broken_reply : List Words → Option Held → native.Reply Local
+broken_reply ts (Some v) = native.Says (value_by ts v)
+broken_reply ts None = native.Fails (codes "bad argument")
+
+-- a text as it is broken, and nothing of another value
+abbrev pub broken_of : Held → Option Held
+broken_of (held.Text t) = Some (held.Broken t)
+broken_of _ = None
+
+-- the machine breaks the same
+abbrev pub BreaksAsTheMachine : References → Held → Option Held → Type 0
+BreaksAsTheMachine r x reply = (word : ℕ → ℕ) (tree : List Node) (ts : List Words) (s : Vat Local) → KnowsTexts ts r
+    → broken_text (numbering {W = Local} word) tree (follow (numbering {W = Local} word) (vat_by ts r s) (value_by ts x)) ≡ broken_reply ts reply

@@ -8,6 +8,7 @@ pub mod laws;
 pub mod natives;
 pub mod refs;
 pub mod resolve;
+pub mod resolver;
 pub mod search;
 pub mod send;
 pub mod settle;
@@ -18,6 +19,7 @@ pub use follow::Place;
 pub use known::{Known, Message, Standing, Waiters};
 pub use natives::RefReply;
 pub use refs::Refs;
+pub use resolver::Resolution;
 pub use settle::Fault;
 
 #[cfg(test)]

@@ -1,7 +1,7 @@
 //! What `Ref` tells of a value.
 
 ghost use Rattle.std.specs.Prelude.{◌≡◌};
-ghost use Rattle.ev_refs.specs.Telling.{TellsAsTheMachine, far_at, fulfilled_at, gone_at, near_at, problem_at, resolved_at, told_at};
+ghost use Rattle.ev_refs.specs.Telling.{BreaksAsTheMachine, TellsAsTheMachine, broken_of, far_at, fulfilled_at, gone_at, near_at, problem_at, resolved_at, told_at};
 
 use crate::follow::Place;
 use crate::refs::Refs;
@@ -110,5 +110,24 @@ impl Refs {
         let held = value;
         let end = self.deref(value);
         told(test, &held, self.place(end))
+    }
+}
+
+/// A text as it is broken.
+fn broken_of(value: Value) -> Option<Value>
+    ensures { result ≡ broken_of value }
+{
+    match value {
+        Value::Text(problem) => Some(Value::Broken(problem)),
+        _ => None,
+    }
+}
+
+impl Refs {
+    /// What `Ref.broken` gives: a broken value with a problem, which has to be a text; none where it is none.
+    pub fn broken(&self, value: Value) -> Option<Value>
+        ensures { BreaksAsTheMachine self.now value result }
+    {
+        broken_of(self.deref(value))
     }
 }

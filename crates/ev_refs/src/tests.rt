@@ -1,4 +1,4 @@
-use crate::{Message, Place, RefReply, Refs};
+use crate::{Message, Place, RefReply, Refs, Resolution};
 use ev_base::{ActId, MsgId, ObjId, PromId, Seq, Str, TextId, Value, VatId};
 use ev_heap::{Heap, Micro};
 use ev_prims::RefTest;
@@ -144,6 +144,38 @@ fn a_promise_settles_to_a_list(rt: HostRuntime) -> Result<(), Fail> {
     assert_eq!(rt;
         refs.ask_ref(RefTest::Fulfillment, Value::Prom(second)),
         RefReply::Says(Value::Prom(second))
+    );
+    Ok(())
+}
+
+/// A resolver resolves its promise once, and is smashed by a text only.
+#[test]
+fn a_resolver_is_told(rt: HostRuntime) -> Result<(), Fail> {
+    let alloc = rt.alloc();
+    let heap = Heap::new(alloc);
+    let mut refs = Refs::new(alloc, VatId(0), TextId(0), TextId(1));
+    let mut micro = Micro::new(alloc, 0);
+    let first = refs.new_promise()?;
+    let second = refs.new_promise()?;
+    assert!(rt; refs.is_open(first));
+    assert!(rt;
+        refs.tell_resolver(&heap, &mut micro, first, Value::Prom(second))
+            == Ok(Resolution::Resolved)
+    );
+    assert!(rt;
+        refs.tell_resolver(&heap, &mut micro, first, Value::Null) == Ok(Resolution::AlreadyResolved)
+    );
+    assert!(rt;
+        refs.smash_resolver(&heap, &mut micro, second, Value::Null) == Ok(Resolution::BadArgument)
+    );
+    assert!(rt;
+        refs.smash_resolver(&heap, &mut micro, second, Value::Text(TextId(2)))
+            == Ok(Resolution::Resolved)
+    );
+    assert_eq!(rt; refs.deref(Value::Prom(first)), Value::Broken(TextId(2)));
+    assert_eq!(rt;
+        refs.broken(Value::Text(TextId(2))),
+        Some(Value::Broken(TextId(2)))
     );
     Ok(())
 }
