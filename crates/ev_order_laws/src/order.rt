@@ -1,0 +1,46 @@
+//! What is ahead of what on the ways that messages have before them, and that single changes keep it.
+
+ghost use Rattle.ev_order_laws.specs.Changes.{GoingOnKeeps, GrowingKeeps, HeadsAreFree, LosingKeeps, SentIsAhead, TakingKeeps};
+
+/// Nothing is ahead of what stands first in a queue, and it is not doomed. So where each message that
+/// is to be taken before another, and is neither taken nor lost, is ahead of it, the other is taken
+/// after it; and where one was lost, what is doomed for that is not taken.
+///
+/// It is said of all ways in which a queue leads on to nothing.
+pub fn heads_are_free()
+    ensures { HeadsAreFree }
+{}
+
+/// A message is ahead of all that comes to its lane behind it on the same name.
+pub fn sent_is_ahead()
+    ensures { SentIsAhead }
+{}
+
+/// What is ahead stays ahead, and what is doomed stays doomed, where messages come to the ends of lanes
+/// and where a name goes on of which nothing was said: the ways grow.
+pub fn growing_keeps()
+    ensures { GrowingKeeps }
+{}
+
+/// What is ahead stays ahead, and what is doomed stays doomed, where a message leaves a lane and comes to
+/// the end of the lane to which that one leads: by an arrival, or where what a name held is sent on.
+///
+/// It holds of the message itself and of all others, and of each place, in front of which the message
+/// may have stood.
+pub fn going_on_keeps()
+    ensures { GoingOnKeeps }
+{}
+
+/// Where a message leaves a lane that leads nowhere from its name, all that it was ahead of is doomed.
+/// All others stay ahead of what they were ahead of, and what is doomed stays doomed.
+///
+/// It asks that the message stood nowhere else.
+pub fn losing_keeps()
+    ensures { LosingKeeps }
+{}
+
+/// Where a message is taken from a queue, all others stay ahead of what they were ahead of, and what is
+/// doomed stays doomed.
+pub fn taking_keeps()
+    ensures { TakingKeeps }
+{}
