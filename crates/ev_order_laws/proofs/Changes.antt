@@ -44,31 +44,31 @@ module _ (w u : Ways) (x : Name) (Went : Lane → Name → Type 0) where
   remains g = record { closed = ahead_closed u x; in_place = λ s l m n i h. in_end i h; in_front = λ s l b m n i h. in_mid i h; went = g }
 
 -- of doom alone: it asks nothing of what stands in a lane
-abbrev Any : Lane → Name → Type 0
+abbrev pub Any : Lane → Name → Type 0
 Any l n = Unit {0}
 
 -- a name, where any will do
-some_name : Name
+pub some_name : Name
 some_name = Root 0
 
 module _ (w u : Ways) where
-  abbrev Slides : Place → Place → Type 0
+  abbrev pub Slides : Place → Place → Type 0
   Slides = Turns w u some_name ⊥ Any
 
-  slide_self : (c : Place) → Slides c c
+  pub slide_self : (c : Place) → Slides c c
   slide_self Nowhere = to_doom nowhere
   slide_self Free = from_free
   slide_self (End l n) = same_end
   slide_self (Mid l b n) = same_mid (λ m i. inr tt)
 
-  slide : ((l : Lane) (n : Name) → Slides (w.onward l n) (u.onward l n)) → ((a b : ℕ) (n : Name) → u.onward (Way a b) n ≡ w.onward (Way a b) n) → Change w u some_name ⊥ Any (λ c. c)
+  pub slide : ((l : Lane) (n : Name) → Slides (w.onward l n) (u.onward l n)) → ((a b : ℕ) (n : Name) → u.onward (Way a b) n ≡ w.onward (Way a b) n) → Change w u some_name ⊥ Any (λ c. c)
   slide f g = record { standing = λ l m i. inr tt; lanes = f; links = λ a b. inl (λ n. g a b n); places = λ c. turning (slide_self c); ends = λ l. inl (λ n. refl) }
 
   -- what is doomed stays so where each lane leads so
-  slid : ((l : Lane) (n : Name) → Slides (w.onward l n) (u.onward l n)) → ((a b : ℕ) (n : Name) → u.onward (Way a b) n ≡ w.onward (Way a b) n) → (c d : Place) → Slides c d → Doom w c → Doom u d
+  pub slid : ((l : Lane) (n : Name) → Slides (w.onward l n) (u.onward l n)) → ((a b : ℕ) (n : Name) → u.onward (Way a b) n ≡ w.onward (Way a b) n) → (c d : Place) → Slides c d → Doom w c → Doom u d
   slid f g c d t h = doom_kept w u some_name ⊥ Any (λ q. q) (slide f g) c h d t
 
-  slide_equal : (c d : Place) → d ≡ c → Slides c d
+  pub slide_equal : (c d : Place) → d ≡ c → Slides c d
   slide_equal c d e = rw e (slide_self c)
 
   slide_beheaded : (l : Lane) (i : Item) (c d : Place) → Beheads l i c d → Slides c d
@@ -84,10 +84,10 @@ module _ (w u : Ways) where
 
 -- ---- growth
 
-abbrev Never : Lane → Name → Type 0
+abbrev pub Never : Lane → Name → Type 0
 Never l n = ⊥
 
-never : (w u : Ways) (x : Name) → Holds w u x (Unit {0}) Never (Ahead u x)
+pub never : (w u : Ways) (x : Name) → Holds w u x (Unit {0}) Never (Ahead u x)
 never w u x = remains w u x Never (λ l m n g h. absurd g)
 
 grown_lane : (w u : Ways) (x : Name) (l : Lane) (n : Name) → (u.onward l n ≡ w.onward l n) ⊎ (IsOneWay l × (w.onward l n ≡ Free)) → Turns w u x (Unit {0}) Never (w.onward l n) (u.onward l n)

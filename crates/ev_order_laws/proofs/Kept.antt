@@ -2,6 +2,7 @@
 use Rattle.std.proofs.Common.{◌≡◌, ℕ, List, sym, subst, ◌⊎◌, inl, inr}
 use Rattle.ev_machine.specs.Values.{Name}
 use Rattle.ev_order_laws.specs.Ways.{Lane, Queue, Held, Way, Item, Place, Nowhere, Free, End, Mid, Ways, IsIn, IsOneWay, Doom, nowhere, by_end, by_mid, Follows, doomed, one_way, alike, beside, Ahead, doomed_there, in_end, in_mid, past_end, past_mid}
+use Rattle.ev_order_laws.specs.Turns.{IsDefinite}
 
 -- from that place the way leads, now or later, to one for which Q holds
 pub data Leads (w : Ways) (Q : Place → Type 0) : Place → Type 0 where
@@ -36,13 +37,6 @@ doom_mid w l b n (by_mid h) = h
 
 pub doom_free : (w : Ways) → Doom w Free → ⊥
 doom_free w h = elim h [ ]
-
--- nowhere, or the end of a lane
-abbrev pub IsDefinite : Place → Type 0
-IsDefinite Nowhere = Unit {0}
-IsDefinite Free = ⊥
-IsDefinite (End l n) = Unit {0}
-IsDefinite (Mid l b n) = ⊥
 
 pub follows_self : (w : Ways) (c : Place) → IsDefinite c → Follows w c c
 follows_self w Nowhere d = doomed nowhere

@@ -1,6 +1,7 @@
 //! What is ahead of what on the ways that messages have before them, and that single changes keep it.
 
 ghost use Rattle.ev_order_laws.specs.Changes.{GoingOnKeeps, GrowingKeeps, HeadsAreFree, LosingKeeps, SentIsAhead, TakingKeeps};
+ghost use Rattle.ev_order_laws.specs.Turns.{CuttingKeeps, PassingByKeeps, TurningKeeps};
 
 /// Nothing is ahead of what stands first in a queue, and it is not doomed. So where each message that
 /// is to be taken before another, and is neither taken nor lost, is ahead of it, the other is taken
@@ -43,4 +44,23 @@ pub fn losing_keeps()
 /// doomed stays doomed.
 pub fn taking_keeps()
     ensures { TakingKeeps }
+{}
+
+/// What is ahead stays ahead, and what is doomed stays doomed, where held messages come to wait for
+/// something else: for a place of another name that leads on alike, for one in the same lane behind all
+/// that stood there, or for what comes next where nothing stood in front.
+pub fn turning_keeps()
+    ensures { TurningKeeps }
+{}
+
+/// What is ahead stays ahead, and what is doomed stays doomed, where a name that holds no message is
+/// passed by: what would have been held there goes at once to where the name leads.
+pub fn passing_by_keeps()
+    ensures { PassingByKeeps }
+{}
+
+/// Where a link is cut, what is doomed stays doomed, and a message that did not stand on the link stays
+/// ahead. All that a message was ahead of which stood there alone is doomed.
+pub fn cutting_keeps()
+    ensures { CuttingKeeps }
 {}
