@@ -1,3 +1,5 @@
 pub mod Ways
 pub mod Changes
 pub mod Turns
+pub mod Order
+pub mod Example

@@ -1,6 +1,7 @@
 //! What is ahead of what on the ways that messages have before them, and that single changes keep it.
 
 ghost use Rattle.ev_order_laws.specs.Changes.{GoingOnKeeps, GrowingKeeps, HeadsAreFree, LosingKeeps, SentIsAhead, TakingKeeps};
+ghost use Rattle.ev_order_laws.specs.Example.{HeldOrder, PassedOrder};
 ghost use Rattle.ev_order_laws.specs.Turns.{CuttingKeeps, PassingByKeeps, TurningKeeps};
 
 /// Nothing is ahead of what stands first in a queue, and it is not doomed. So where each message that
@@ -63,4 +64,19 @@ pub fn passing_by_keeps()
 /// ahead. All that a message was ahead of which stood there alone is doomed.
 pub fn cutting_keeps()
     ensures { CuttingKeeps }
+{}
+
+/// Which messages are before which in a run, by computing: two that are held for a promise, and one that is
+/// sent on the object that the first brings, to which the promise settled.
+#[tactic(auto, unfolding(crate::specs::Order::opened_order, crate::specs::Example::opened_example))]
+pub fn held_messages_keep_order()
+    ensures { HeldOrder }
+{}
+
+/// Which messages are before which in a run, by computing: a reference passes to another vat, which sends
+/// on it what comes first to the host of the object, and is taken second. The history in which the two are
+/// exchanged is refused.
+#[tactic(auto, unfolding(crate::specs::Order::opened_order, crate::specs::Example::opened_example))]
+pub fn passed_references_keep_order()
+    ensures { PassedOrder }
 {}
