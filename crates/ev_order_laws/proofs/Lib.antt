@@ -1,3 +1,4 @@
 pub mod Kept
 pub mod Changes
 pub mod Turned
+pub mod Sends

@@ -3,3 +3,5 @@ pub mod Changes
 pub mod Turns
 pub mod Order
 pub mod Example
+pub mod Places
+pub mod Worlds
