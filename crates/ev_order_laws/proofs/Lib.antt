@@ -2,3 +2,4 @@ pub mod Kept
 pub mod Changes
 pub mod Turned
 pub mod Sends
+pub mod Queues

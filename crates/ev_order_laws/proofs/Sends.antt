@@ -1,6 +1,6 @@
 -- Where a message is sent to a place, it is ahead of that place from then on.
-use Rattle.std.proofs.Common.{◌≡◌, ℕ, zero, suc, length, Bool, true, false, List, [], ◌∷◌, ◌++◌, Option, Some, None, refl, sym, ap, subst, ◌∙◌, ◌⊎◌, inl, inr, eqb-true}
-use Rattle.std.specs.Prelude.{slice_get, ◌==◌, ◌&&◌}
+use Rattle.std.proofs.Common.{◌≡◌, ℕ, zero, suc, length, Bool, true, false, List, [], ◌∷◌, ◌++◌, Option, Some, None, refl, sym, ap, subst, ◌∙◌, inl, inr, eqb-true}
+use Rattle.std.specs.Prelude.{slice_get, ◌==◌}
 use Rattle.ev_machine.specs.Values.{Words, Value, Null, Flag, Number, Letter, Text, Prim, Broken, Items, Ref, Name, Naming, IsAnswer}
 use Rattle.ev_machine.specs.State.{Message, Standing, Unsettled, WaitsOn, Viewed, Settled, Known, Hold, Passeds, Note, Deliver, Open, Ask, SettledTo, Elsewhere, Shorten, Put, Vat, Done, Gives, Throws, Ejects, Stops, Posted, Waits, Lost, WaitOn, Wait}
 use Rattle.ev_machine.specs.State as state
@@ -9,9 +9,9 @@ use Rattle.ev_machine.specs.Refs as refs
 use Rattle.ev_run.specs.World.{Script, Link, World, names}
 use Rattle.ev_run.specs.World as world
 use Rattle.ev_order_laws.specs.Ways.{Lane, Queue, Held, Way, Item, Nowhere, Free, End, Mid, Ways, IsIn, Doom, nowhere, by_end, by_mid, Follows, alike, Ahead, doomed_there, in_end}
-use Rattle.ev_order_laws.specs.Ways as ways_of
+use Rattle.ev_order_laws.specs.Ways as lanes
 use Rattle.ev_order_laws.specs.Places as places
-use Rattle.ev_order_laws.specs.Places.{item, queued, held_on, held_in, delivered, is_honest, aimed, stands_at, over, onward_at, ways, amid}
+use Rattle.ev_order_laws.specs.Places.{item, queued, held_on, held_in, delivered, is_honest, aimed, stands_at, over, onward_at, ways_of, ways, amid}
 use Rattle.ev_order_laws.specs.Worlds.{IfGives, IsWaiting, SentMessagesAreAhead}
 
 -- ---- lists
@@ -144,6 +144,12 @@ unfolding held_in
 held_there n i o k e h = subst (λ q. IsIn i (held_in n q)) (sym e) h
 
 module _ (script : Script) (honest : ℕ → Bool) (w : World) (v : ℕ) (r t : Vat Name) (at : slice_get w.vats v ≡ Some r) where
+  abbrev Vats : List (Vat Name)
+  Vats = world.put_at v t w.vats
+
+  abbrev Links : List Link
+  Links = world.push_all v t.outbox w.links
+
   abbrev Here : Ways
   Here = ways script honest (amid v t w)
 
@@ -151,18 +157,15 @@ module _ (script : Script) (honest : ℕ → Bool) (w : World) (v : ℕ) (r t : 
   there = get_put w.vats v r t at
 
   near : (q : List (Message Name)) (m : Message Name) (n : Name) → t.queue ≡ q ++ m ∷ [] → m.target ≡ Ref n → Ahead Here m.id (End (Queue v) n)
-  unfolding ways stands_at amid
+  unfolding ways ways_of stands_at amid
   near q m n e f = in_end (in_queue (item m.id n) (slice_get (world.put_at v t w.vats) v) t there (subst (λ p. IsIn (item m.id n) (queued p)) (sym e) (queued_last q m n f))) alike
 
   mine : (q : List (Message Name)) (m : Message Name) (n : Name) (k : Known Name) → refs.entry_of (names script v) t.known n ≡ Some k → k.held ≡ q ++ m ∷ [] → Ahead Here m.id (End (Held v n) n)
-  unfolding ways stands_at amid
+  unfolding ways ways_of stands_at amid
   mine q m n k e f = in_end (in_held (names script v) (item m.id n) n (slice_get (world.put_at v t w.vats) v) t there (held_there n (item m.id n) (refs.entry_of (names script v) t.known n) k e (subst (λ p. IsIn (item m.id n) (held_on n p)) (sym f) (held_last q m n)))) alike
 
   -- a deliver note that was put last, on the link from this vat
   module _ (h : ℕ) (mine_honest : honest v ≡ true) (other_honest : honest h ≡ true) (m n : Name) (verb : Words) (ys : Passeds Name) (ps : List (Put Name)) (put : t.outbox ≡ ps ++ record { to = h; note = Deliver m n verb ys } ∷ []) where
-    abbrev Links : List Link
-    Links = world.push_all v t.outbox w.links
-
     both_honest : (l : Link) → l.from ≡ v → l.to ≡ h → is_honest script honest l ≡ true
     unfolding is_honest
     both_honest l e f = rw e (rw f (rw mine_honest other_honest))
@@ -170,31 +173,31 @@ module _ (script : Script) (honest : ℕ → Bool) (w : World) (v : ℕ) (r t : 
     pushed_last : Links ≡ world.with_link (world.pushed (Deliver m n verb ys)) v h (world.push_all v ps w.links)
     pushed_last = rw put (push_last v ps (record { to = h; note = Deliver m n verb ys }) w.links)
 
-    over_cut : (l : Link) → is_honest script honest l ≡ true → l.cut ≡ true → over script honest (amid v t w) h n l ≡ Nowhere
+    over_cut : (l : Link) → is_honest script honest l ≡ true → l.cut ≡ true → over script honest Vats Links h n l ≡ Nowhere
     unfolding over
     over_cut l e f = subst (λ c. elim c [ true ↦ elim l.cut [ true ↦ Nowhere | false ↦ leads_of ] | false ↦ Free ] ≡ Nowhere) (sym e) (subst (λ c. elim c [ true ↦ Nowhere | false ↦ leads_of ] ≡ Nowhere) (sym f) refl)
       where
-        leads_of : ways_of.Place
-        leads_of = places.leads script honest (amid v t w) h (Ref n)
+        leads_of : lanes.Place
+        leads_of = places.leads script honest Vats Links h (Ref n)
 
-    onward_some : (l : Link) → world.link_at v h Links ≡ Some l → onward_at script honest (amid v t w) (Way v h) n ≡ over script honest (amid v t w) h n l
-    unfolding onward_at amid
-    onward_some l e = subst (λ o. elim o [ Some k ↦ over script honest (amid v t w) h n k | None ↦ Nowhere ] ≡ over script honest (amid v t w) h n l) (sym e) refl
+    onward_some : (l : Link) → world.link_at v h Links ≡ Some l → onward_at script honest Vats Links (Way v h) n ≡ over script honest Vats Links h n l
+    unfolding onward_at
+    onward_some l e = subst (λ o. elim o [ Some k ↦ over script honest Vats Links h n k | None ↦ Nowhere ] ≡ over script honest Vats Links h n l) (sym e) refl
 
-    onward_none : world.link_at v h Links ≡ None → onward_at script honest (amid v t w) (Way v h) n ≡ Nowhere
-    unfolding onward_at amid
-    onward_none e = subst (λ o. elim o [ Some k ↦ over script honest (amid v t w) h n k | None ↦ Nowhere ] ≡ Nowhere) (sym e) refl
+    onward_none : world.link_at v h Links ≡ None → onward_at script honest Vats Links (Way v h) n ≡ Nowhere
+    unfolding onward_at
+    onward_none e = subst (λ o. elim o [ Some k ↦ over script honest Vats Links h n k | None ↦ Nowhere ] ≡ Nowhere) (sym e) refl
 
-    on_link : (l : Link) → world.link_at v h Links ≡ Some l → is_honest script honest l ≡ true → IsIn (item m n) (delivered l.notes) → IsIn (item m n) (stands_at script honest (amid v t w) (Way v h))
-    unfolding stands_at amid
+    on_link : (l : Link) → world.link_at v h Links ≡ Some l → is_honest script honest l ≡ true → IsIn (item m n) (delivered l.notes) → IsIn (item m n) (stands_at script honest Vats Links (Way v h))
+    unfolding stands_at
     on_link l e i j = subst (λ o. IsIn (item m n) (elim o [ Some k ↦ elim (is_honest script honest k) [ true ↦ delivered k.notes | false ↦ [] ] | None ↦ [] ])) (sym e) (subst (λ c. IsIn (item m n) (elim c [ true ↦ delivered l.notes | false ↦ [] ])) (sym i) j)
 
-    nowhere_ahead : onward_at script honest (amid v t w) (Way v h) n ≡ Nowhere → Ahead Here m (End (Way v h) n)
-    unfolding ways
+    nowhere_ahead : onward_at script honest Vats Links (Way v h) n ≡ Nowhere → Ahead Here m (End (Way v h) n)
+    unfolding ways ways_of amid
     nowhere_ahead e = doomed_there (by_end (subst (Doom Here) (sym e) nowhere))
 
-    standing_ahead : IsIn (item m n) (stands_at script honest (amid v t w) (Way v h)) → Ahead Here m (End (Way v h) n)
-    unfolding ways
+    standing_ahead : IsIn (item m n) (stands_at script honest Vats Links (Way v h)) → Ahead Here m (End (Way v h) n)
+    unfolding ways ways_of amid
     standing_ahead i = in_end i alike
 
     by_cut : (l k : Link) (b : Bool) → l ≡ world.pushed (Deliver m n verb ys) k → k.cut ≡ b → is_honest script honest l ≡ true → world.link_at v h Links ≡ Some l → Ahead Here m (End (Way v h) n)
@@ -247,6 +250,7 @@ changed_name c k = go k.standing (state.changed_to c k) (to c)
     to (state.React m) = refl
     to (state.ToTell h) = refl
     to (state.Settle y) = refl
+
     go : (q : Standing Name) (j : Known Name) → j.name ≡ k.name → (state.unless_settled q k j).name ≡ k.name
     go Unsettled j e = e
     go (WaitsOn q) j e = e
@@ -273,7 +277,7 @@ module _ (K : Naming Name Name) (n : Name) where
 
 module _ (script : Script) (honest : ℕ → Bool) (w : World) (v : ℕ) (r s : Vat Name) (settle : Settler {N = Name} {W = Name} (names script v)) (m : Message Name) (at : slice_get w.vats v ≡ Some r) (honest_here : honest v ≡ true) where
   abbrev Then : Value Name → Place Name → Vat Name → Type 0
-  Then y p t = Ahead (ways script honest (amid v t w)) m.id (aimed script honest w v y p)
+  Then y p t = Ahead (ways script honest (amid v t w)) m.id (aimed v y p)
 
   -- what waits in this vat
   abbrev Waiting : Place Name → Type 0

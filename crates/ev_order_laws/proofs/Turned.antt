@@ -1,9 +1,9 @@
 -- The changes by which no message goes on keep what is ahead.
-use Rattle.std.proofs.Common.{◌≡◌, ℕ, List, [], ◌∷◌, refl, sym, ap, subst, ◌∙◌, ◌⊎◌, inl, inr}
+use Rattle.std.proofs.Common.{◌≡◌, ℕ, refl, sym, subst, ◌⊎◌, inl, inr}
 use Rattle.ev_machine.specs.Values.{Name}
-use Rattle.ev_order_laws.specs.Ways.{Lane, Queue, Held, Way, Item, Place, Nowhere, Free, End, Mid, Ways, IsIn, IsOneWay, Doom, nowhere, by_end, by_mid, Follows, Ahead}
+use Rattle.ev_order_laws.specs.Ways.{Lane, Queue, Held, Way, Place, Nowhere, Free, End, Mid, Ways, IsIn, IsOneWay, Doom, nowhere, Ahead}
 use Rattle.ev_order_laws.specs.Changes.{Lacks}
-use Rattle.ev_order_laws.specs.Turns.{IsDefinite, Comes, is_there, on_end, on_mid, Within, Reroutes, stays_so, said_now, ends_now, renamed_so, behind_all, gone_on, IsTurned, IsPassed, IsCut, OnlyOn, TurningKeeps, PassingByKeeps, CuttingKeeps}
+use Rattle.ev_order_laws.specs.Turns.{Comes, is_there, on_end, on_mid, Reroutes, stays_so, said_now, ends_now, renamed_so, behind_all, gone_on, IsTurned, IsPassed, IsCut, OnlyOn, TurningKeeps, PassingByKeeps, CuttingKeeps}
 use Rattle.ev_order_laws.proofs.Kept.{Leads, now, later_end, later_mid, Turns, from_free, to_doom, same_end, same_mid, held_back, passed_end, passed_mid, renamed, Goes, turning, between, Shifts, Change, Holds, kept, doom_kept, doom_closed}
 use Rattle.ev_order_laws.proofs.Changes.{self, equal, Never, never, some_name, Any, slide_self, slide_equal}
 

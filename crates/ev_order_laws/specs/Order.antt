@@ -1,8 +1,8 @@
 -- E-order: which message is before which, as the history of a run tells it.
 use Rattle.std.specs.Prelude.{◌≡◌, ℕ, suc, Bool, true, false, not, List, [], ◌∷◌, ◌++◌, Option, Some, None, length, nat_le, ◌==◌, ◌&&◌, ◌||◌}
 use Rattle.ev_machine.specs.Values.{Value, Items, Ref, Name, Gift, same_name}
-use Rattle.ev_machine.specs.State.{Message, Passed, Passeds, Plain, AGift, Many, NoMore, More, Deliver, Happened, Took, Sends, ListMade, ListCame, Settles}
-use Rattle.ev_run.specs.World.{Event, Here, Carried, Link}
+use Rattle.ev_machine.specs.State.{Passed, Passeds, Plain, AGift, Many, NoMore, More, Deliver, Took, Sends, ListMade, ListCame, Settles}
+use Rattle.ev_run.specs.World.{Event, Here, Carried}
 use Rattle.ev_run.specs.World.{opened_world}
 
 -- Lines are numbered from 0. Of a history that grows at its end, the lines so far are called done.

@@ -1,6 +1,6 @@
 -- The ways of the messages in a world, and the places of things in it.
-use Rattle.std.specs.Prelude.{◌≡◌, ℕ, Bool, true, false, not, List, [], ◌∷◌, ◌++◌, Option, Some, None, slice_get, ◌==◌, ◌&&◌, ◌||◌}
-use Rattle.ev_machine.specs.Values.{Value, Ref, Name, Object, Gift, Naming, same_name, host_of}
+use Rattle.std.specs.Prelude.{ℕ, Bool, true, false, not, List, [], ◌∷◌, ◌++◌, Option, Some, None, slice_get, ◌==◌, ◌&&◌, ◌||◌}
+use Rattle.ev_machine.specs.Values.{Value, Ref, Name, Object, Gift, same_name, host_of}
 use Rattle.ev_machine.specs.State.{Message, Standing, Unsettled, WaitsOn, Viewed, Settled, Known, Note, Deliver, Open, Shorten, GiftEntry, Vat, is_in}
 use Rattle.ev_machine.specs.Refs.{entry_of, standing_of, follow, place, Near, Mine, Away, Gone}
 use Rattle.ev_machine.specs.Refs as refs
@@ -70,6 +70,20 @@ unfoldable pub opened_there : Name → List (GiftEntry Name) → Bool
 opened_there n [] = false
 opened_there n (g ∷ gs) = (same_name g.name n && g.opened) || opened_there n gs
 
+-- ---- where a reference leads
+
+-- where a message would stand that is sent on this followed value now
+unfoldable pub aimed : ℕ → Value Name → refs.Place Name → Place
+aimed v (Ref n) Near = End (Queue v) n
+aimed v y Near = Nowhere
+aimed v y (Mine n) = End (Held v n) n
+aimed v y (Away h n o) = End (Way v h) n
+aimed v y (Gone p) = Nowhere
+
+-- a name that the vat does not know yet, as it will be when it is learnt
+unfoldable pub by_host : ℕ → Vat Name → Name → ℕ → Place
+by_host v s n h = elim (is_in h s.noticed) [ true ↦ Nowhere | false ↦ elim (h == v) [ true ↦ End (Held v n) n | false ↦ End (Way v h) n ] ]
+
 module _ (script : Script) (honest : ℕ → Bool) where
   -- Only of links between honest vats is anything said.
   unfoldable pub is_honest : Link → Bool
@@ -105,23 +119,10 @@ module _ (script : Script) (honest : ℕ → Bool) where
   unfoldable pub gift_place : ℕ → ℕ → List Link → Place
   gift_place h i ls = or_never (was_put h i ls) (first_place (open_place h i ls) (shorten_place h i ls))
 
-  module _ (w : World) where
-    -- ---- where a reference leads
-
-    -- where a message would stand that is sent on this followed value now
-    unfoldable pub aimed : ℕ → Value Name → refs.Place Name → Place
-    aimed v (Ref n) Near = End (Queue v) n
-    aimed v y Near = Nowhere
-    aimed v y (Mine n) = End (Held v n) n
-    aimed v y (Away h n o) = End (Way v h) n
-    aimed v y (Gone p) = Nowhere
-
+  -- of the vats and the links of a world
+  module _ (vats : List (Vat Name)) (links : List Link) where
     unfoldable pub by_follow : ℕ → Vat Name → Value Name → Place
     by_follow v s x = let y = follow (names script v) s x in aimed v y (place (names script v) s y)
-
-    -- a name that the vat does not know yet, as it will be when it is learnt
-    unfoldable pub by_host : ℕ → Vat Name → Name → ℕ → Place
-    by_host v s n h = elim (is_in h s.noticed) [ true ↦ Nowhere | false ↦ elim (h == v) [ true ↦ End (Held v n) n | false ↦ End (Way v h) n ] ]
 
     unfoldable pub of_name : ℕ → Vat Name → Name → Option (Known Name) → Place
     of_name v s (Object h i) o = by_follow v s (Ref (Object h i))
@@ -138,13 +139,13 @@ module _ (script : Script) (honest : ℕ → Bool) where
 
     -- the place of a reference: of a value that vat v holds
     unfoldable pub leads : ℕ → Value Name → Place
-    leads v x = leads_at v (slice_get w.vats v) x
+    leads v x = leads_at v (slice_get vats v) x
 
     -- ---- where the messages that a name holds go
 
     -- an unsettled name that waits on none: a gift that was not opened goes by its note, and of any other nothing is said
     unfoldable pub unsettled : ℕ → Name → List (GiftEntry Name) → Place
-    unsettled v (Gift h i) gs = elim ((h == v) && not (opened_there (Gift h i) gs)) [ true ↦ gift_place h i w.links | false ↦ Free ]
+    unsettled v (Gift h i) gs = elim ((h == v) && not (opened_there (Gift h i) gs)) [ true ↦ gift_place h i links | false ↦ Free ]
     unsettled v n gs = Free
 
     unfoldable pub released : ℕ → Name → List (GiftEntry Name) → Standing Name → Place
@@ -160,9 +161,9 @@ module _ (script : Script) (honest : ℕ → Bool) where
     -- ---- the ways
 
     unfoldable pub stands_at : Lane → List Item
-    stands_at (Queue v) = elim (slice_get w.vats v) [ Some s ↦ queued s.queue | None ↦ [] ]
-    stands_at (Held v n) = elim (slice_get w.vats v) [ Some s ↦ held_in n (entry_of (names script v) s.known n) | None ↦ [] ]
-    stands_at (Way a b) = elim (link_at a b w.links) [ Some l ↦ elim (is_honest l) [ true ↦ delivered l.notes | false ↦ [] ] | None ↦ [] ]
+    stands_at (Queue v) = elim (slice_get vats v) [ Some s ↦ queued s.queue | None ↦ [] ]
+    stands_at (Held v n) = elim (slice_get vats v) [ Some s ↦ held_in n (entry_of (names script v) s.known n) | None ↦ [] ]
+    stands_at (Way a b) = elim (link_at a b links) [ Some l ↦ elim (is_honest l) [ true ↦ delivered l.notes | false ↦ [] ] | None ↦ [] ]
 
     -- a link brings what stands there to where the receiver has its name; what is put on one that is cut is lost
     unfoldable pub over : ℕ → Name → Link → Place
@@ -170,11 +171,14 @@ module _ (script : Script) (honest : ℕ → Bool) where
 
     unfoldable pub onward_at : Lane → Name → Place
     onward_at (Queue v) n = Free
-    onward_at (Held v p) n = released_at v p (slice_get w.vats v)
-    onward_at (Way a b) n = elim (link_at a b w.links) [ Some l ↦ over b n l | None ↦ Nowhere ]
+    onward_at (Held v p) n = released_at v p (slice_get vats v)
+    onward_at (Way a b) n = elim (link_at a b links) [ Some l ↦ over b n l | None ↦ Nowhere ]
 
-    unfoldable pub ways : Ways
-    ways = record { stands = stands_at; onward = onward_at }
+    unfoldable pub ways_of : Ways
+    ways_of = record { stands = stands_at; onward = onward_at }
+
+  unfoldable pub ways : World → Ways
+  ways w = ways_of w.vats w.links
 
 -- the world in the middle of a step of vat v: what the vat put in this step is on its links
 unfoldable pub amid : ℕ → Vat Name → World → World
@@ -182,5 +186,5 @@ amid v s w = record w { vats = put_at v s w.vats; links = push_all v s.outbox w.
 
 -- opens each definition of this file, and of those below
 unfoldable pub opened_places : Unit {0}
-unfolding queued held_on held_in delivered opens shortens subject in_lane note_place any_note first_place opened_there is_honest open_place shorten_place was_put or_never gift_place aimed by_follow by_host of_name leads_in leads_at leads unsettled released released_at stands_at over onward_at ways amid opened_world
+unfolding queued held_on held_in delivered opens shortens subject in_lane note_place any_note first_place opened_there is_honest open_place shorten_place was_put or_never gift_place aimed by_follow by_host of_name leads_in leads_at leads unsettled released released_at stands_at over onward_at ways_of ways amid opened_world
 opened_places = tt

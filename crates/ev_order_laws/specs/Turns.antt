@@ -1,5 +1,5 @@
 -- Changes of the ways by which no message goes on: a name leads elsewhere, a name that holds nothing is passed by, a link is cut.
-use Rattle.std.specs.Prelude.{◌≡◌, ℕ, List, [], ◌∷◌, ◌⊎◌}
+use Rattle.std.specs.Prelude.{◌≡◌, ℕ, List, [], ◌⊎◌}
 use Rattle.ev_machine.specs.Values.{Name}
 use Rattle.ev_order_laws.specs.Ways.{Lane, Held, Way, Item, Place, Nowhere, Free, End, Mid, Ways, IsIn, IsOneWay, Doom, Ahead}
 use Rattle.ev_order_laws.specs.Changes.{Lacks}

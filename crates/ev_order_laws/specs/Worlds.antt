@@ -1,12 +1,11 @@
 -- What is ahead in worlds.
-use Rattle.std.specs.Prelude.{◌≡◌, ℕ, Bool, true, List, [], ◌∷◌, ◌++◌, Option, Some, slice_get}
+use Rattle.std.specs.Prelude.{◌≡◌, ℕ, Bool, true, List, [], ◌∷◌, Some, slice_get}
 use Rattle.ev_machine.specs.Values.{Value, Ref, Name}
 use Rattle.ev_machine.specs.State.{Message, Standing, Unsettled, WaitsOn, Viewed, Settled, Known, Vat, Done, Gives, Throws, Ejects, Stops}
 use Rattle.ev_machine.specs.Refs.{entry_of, place, Mine, Away, Settler, send_to}
-use Rattle.ev_run.specs.World.{Script, Event, World, names, put_at}
-use Rattle.ev_order_laws.specs.Ways.{Lane, Queue, Place, Mid, Item, Doom, Ahead}
-use Rattle.ev_order_laws.specs.Changes.{IsTaken, Beheads}
-use Rattle.ev_order_laws.specs.Places.{item, queued, aimed, ways, amid}
+use Rattle.ev_run.specs.World.{Script, Event, World, names}
+use Rattle.ev_order_laws.specs.Ways.{Queue, Mid, Doom, Ahead}
+use Rattle.ev_order_laws.specs.Places.{aimed, ways, amid}
 
 -- the queue of a vat, as it is in a world, begins with a message on that name
 abbrev pub StandsFirst : World → ℕ → Message Name → Name → Type 0
@@ -39,4 +38,4 @@ abbrev pub SentMessagesAreAhead : Type 0
 SentMessagesAreAhead = (script : Script) (honest : ℕ → Bool) (w : World) (v : ℕ) (r s : Vat Name) (settle : Settler {N = Name} {W = Name} (names script v)) (m : Message Name) (y : Value Name)
     → slice_get w.vats v ≡ Some r → honest v ≡ true → ((h : ℕ) (n : Name) (o : Bool) → place (names script v) s y ≡ Away h n o → honest h ≡ true)
     → ((n : Name) → place (names script v) s y ≡ Mine n → (k : Known Name) × (entry_of (names script v) s.known n ≡ Some k) × IsWaiting k.standing)
-    → IfGives (λ t. Ahead (ways script honest (amid v t w)) m.id (aimed script honest w v y (place (names script v) s y))) (send_to (names script v) settle m y (place (names script v) s y) s)
+    → IfGives (λ t. Ahead (ways script honest (amid v t w)) m.id (aimed v y (place (names script v) s y))) (send_to (names script v) settle m y (place (names script v) s y) s)

@@ -3,6 +3,7 @@
 ghost use Rattle.ev_order_laws.specs.Changes.{GoingOnKeeps, GrowingKeeps, HeadsAreFree, LosingKeeps, SentIsAhead, TakingKeeps};
 ghost use Rattle.ev_order_laws.specs.Example.{HeldOrder, PassedOrder};
 ghost use Rattle.ev_order_laws.specs.Turns.{CuttingKeeps, PassingByKeeps, TurningKeeps};
+ghost use Rattle.ev_order_laws.specs.Worlds.{IdleChangesNoWay, QueuesAreFree, SentMessagesAreAhead};
 
 /// Nothing is ahead of what stands first in a queue, and it is not doomed. So where each message that
 /// is to be taken before another, and is neither taken nor lost, is ahead of it, the other is taken
@@ -79,4 +80,26 @@ pub fn held_messages_keep_order()
 #[tactic(auto, unfolding(crate::specs::Order::opened_order, crate::specs::Example::opened_example))]
 pub fn passed_references_keep_order()
     ensures { PassedOrder }
+{}
+
+/// In every world nothing is ahead of the place in front of a queue, and it is not doomed, whichever vats
+/// are honest.
+pub fn queues_are_free()
+    ensures { QueuesAreFree }
+{}
+
+/// The ways of a world do not hang on its history, its fuel or its draws. So an entry that is idle changes
+/// none.
+pub fn idle_changes_no_way()
+    ensures { IdleChangesNoWay }
+{}
+
+/// Where a vat sends a message on a followed value, the message is ahead of the place of that value from
+/// then on, in the middle of the step: it stands there, or all that is sent there is lost.
+///
+/// It is said of every act that sends a message which has an answer: of one that is held, that arrives, or
+/// that is new and does not go out at once. It asks that the vat and the host of the value are honest, and
+/// that a promise of the vat to which the value is followed is known and waits.
+pub fn sent_messages_are_ahead()
+    ensures { SentMessagesAreAhead }
 {}
