@@ -56,14 +56,14 @@ push_last v [] p ls = refl
 push_last v (q ∷ ps) p ls = push_last v ps p (world.with_link (world.pushed q.note) v q.to ls)
 
 -- where a link is cut only its log grows, and else its notes too
-pushed_shut : (n : Note Name) (l : Link) → l.cut ≡ true → world.pushed n l ≡ record l { log = l.log ++ n ∷ [] }
+pub pushed_shut : (n : Note Name) (l : Link) → l.cut ≡ true → world.pushed n l ≡ record l { log = l.log ++ n ∷ [] }
 unfolding world.pushed
 pushed_shut n l e =
     let a : Link = record l { log = l.log ++ n ∷ [] } in
     let b : Link = record l { notes = l.notes ++ n ∷ []; log = l.log ++ n ∷ [] } in
     subst (λ c. elim c [ true ↦ a | false ↦ b ] ≡ a) (sym e) refl
 
-pushed_open : (n : Note Name) (l : Link) → l.cut ≡ false → world.pushed n l ≡ record l { notes = l.notes ++ n ∷ []; log = l.log ++ n ∷ [] }
+pub pushed_open : (n : Note Name) (l : Link) → l.cut ≡ false → world.pushed n l ≡ record l { notes = l.notes ++ n ∷ []; log = l.log ++ n ∷ [] }
 unfolding world.pushed
 pushed_open n l e =
     let a : Link = record l { log = l.log ++ n ∷ [] } in
@@ -79,10 +79,10 @@ abbrev IsNone : {A : Type 0} → Option A → Type 0
 IsNone None = Unit {0}
 IsNone (Some x) = ⊥
 
-none_some : {A C : Type 0} (x : A) → None ≡ Some x → C
+pub none_some : {A C : Type 0} (x : A) → None ≡ Some x → C
 none_some x e = absurd (subst IsNone e tt)
 
-some_same : {A : Type 0} (x y : A) → Some x ≡ Some y → x ≡ y
+pub some_same : {A : Type 0} (x y : A) → Some x ≡ Some y → x ≡ y
 some_same x y e = ap (λ o. elim o [ Some z ↦ z | None ↦ x ]) e
 
 link_here : (v h : ℕ) (k : Link) (ls : List Link) → world.is_link v h k ≡ true → world.link_at v h (k ∷ ls) ≡ Some k
@@ -127,7 +127,7 @@ found_ends v h (k ∷ ls) l e = go (λ q. found_ends v h ls l q) (world.is_link 
 
 -- ---- in the middle of a step
 
-get_put : (ss : List (Vat Name)) (u : ℕ) (r t : Vat Name) → slice_get ss u ≡ Some r → slice_get (world.put_at u t ss) u ≡ Some t
+pub get_put : (ss : List (Vat Name)) (u : ℕ) (r t : Vat Name) → slice_get ss u ≡ Some r → slice_get (world.put_at u t ss) u ≡ Some t
 unfolding world.put_at
 get_put [] u r t e = none_some r e
 get_put (s ∷ ss) zero r t e = refl

@@ -119,24 +119,24 @@ module _ (script : Script) (honest : ℕ → Bool) where
   unfoldable pub gift_place : ℕ → ℕ → List Link → Place
   gift_place h i ls = or_never (was_put h i ls) (first_place (open_place h i ls) (shorten_place h i ls))
 
+  unfoldable pub by_follow : ℕ → Vat Name → Value Name → Place
+  by_follow v s x = let y = follow (names script v) s x in aimed v y (place (names script v) s y)
+
+  unfoldable pub of_name : ℕ → Vat Name → Name → Option (Known Name) → Place
+  of_name v s (Object h i) o = by_follow v s (Ref (Object h i))
+  of_name v s n (Some k) = by_follow v s (Ref n)
+  of_name v s n None = by_host v s n (host_of n)
+
+  unfoldable pub leads_in : ℕ → Vat Name → Value Name → Place
+  leads_in v s (Ref n) = of_name v s n (entry_of (names script v) s.known n)
+  leads_in v s x = by_follow v s x
+
+  unfoldable pub leads_at : ℕ → Option (Vat Name) → Value Name → Place
+  leads_at v (Some s) x = leads_in v s x
+  leads_at v None x = Nowhere
+
   -- of the vats and the links of a world
   module _ (vats : List (Vat Name)) (links : List Link) where
-    unfoldable pub by_follow : ℕ → Vat Name → Value Name → Place
-    by_follow v s x = let y = follow (names script v) s x in aimed v y (place (names script v) s y)
-
-    unfoldable pub of_name : ℕ → Vat Name → Name → Option (Known Name) → Place
-    of_name v s (Object h i) o = by_follow v s (Ref (Object h i))
-    of_name v s n (Some k) = by_follow v s (Ref n)
-    of_name v s n None = by_host v s n (host_of n)
-
-    unfoldable pub leads_in : ℕ → Vat Name → Value Name → Place
-    leads_in v s (Ref n) = of_name v s n (entry_of (names script v) s.known n)
-    leads_in v s x = by_follow v s x
-
-    unfoldable pub leads_at : ℕ → Option (Vat Name) → Value Name → Place
-    leads_at v (Some s) x = leads_in v s x
-    leads_at v None x = Nowhere
-
     -- the place of a reference: of a value that vat v holds
     unfoldable pub leads : ℕ → Value Name → Place
     leads v x = leads_at v (slice_get vats v) x

@@ -1,15 +1,13 @@
 -- What is ahead in worlds.
-use Rattle.std.specs.Prelude.{◌≡◌, ℕ, Bool, true, List, [], ◌∷◌, Some, slice_get}
-use Rattle.ev_machine.specs.Values.{Value, Ref, Name}
-use Rattle.ev_machine.specs.State.{Message, Standing, Unsettled, WaitsOn, Viewed, Settled, Known, Vat, Done, Gives, Throws, Ejects, Stops}
+use Rattle.std.specs.Prelude.{◌≡◌, ℕ, Bool, true, List, [], ◌∷◌, ◌++◌, Option, Some, None, length, slice_get}
+use Rattle.ev_machine.specs.Values.{Value, Name, Naming}
+use Rattle.ev_machine.specs.State.{Message, Standing, Unsettled, WaitsOn, Viewed, Settled, Known, Note, Deliver, Open, Ask, SettledTo, Elsewhere, Shorten, Put, Vat, Done, Gives, Throws, Ejects, Stops}
 use Rattle.ev_machine.specs.Refs.{entry_of, place, Mine, Away, Settler, send_to}
 use Rattle.ev_run.specs.World.{Script, Event, World, names}
 use Rattle.ev_order_laws.specs.Ways.{Queue, Mid, Doom, Ahead}
-use Rattle.ev_order_laws.specs.Places.{aimed, ways, amid}
-
--- the queue of a vat, as it is in a world, begins with a message on that name
-abbrev pub StandsFirst : World → ℕ → Message Name → Name → Type 0
-StandsFirst w v m n = (s : Vat Name) × (ms : List (Message Name)) × (slice_get w.vats v ≡ Some s) × (s.queue ≡ m ∷ ms) × (m.target ≡ Ref n)
+use Rattle.ev_order_laws.specs.Changes.{Grows}
+use Rattle.ev_order_laws.specs.Turns.{Within}
+use Rattle.ev_order_laws.specs.Places.{queued, held_on, aimed, ways, amid}
 
 -- Nothing is ahead of the place in front of a queue, and it is not doomed, whoever is honest.
 abbrev pub QueuesAreFree : Type 0
@@ -39,3 +37,39 @@ SentMessagesAreAhead = (script : Script) (honest : ℕ → Bool) (w : World) (v 
     → slice_get w.vats v ≡ Some r → honest v ≡ true → ((h : ℕ) (n : Name) (o : Bool) → place (names script v) s y ≡ Away h n o → honest h ≡ true)
     → ((n : Name) → place (names script v) s y ≡ Mine n → (k : Known Name) × (entry_of (names script v) s.known n ≡ Some k) × IsWaiting k.standing)
     → IfGives (λ t. Ahead (ways script honest (amid v t w)) m.id (aimed v y (place (names script v) s y))) (send_to (names script v) settle m y (place (names script v) s y) s)
+
+-- ---- acts that only add
+
+-- it lets no gift go
+abbrev pub LetsNothingGo : Note Name → Type 0
+LetsNothingGo (Deliver m n verb ys) = Unit {0}
+LetsNothingGo (Open i n) = ⊥
+LetsNothingGo (Ask p i n) = Unit {0}
+LetsNothingGo (SettledTo n y) = Unit {0}
+LetsNothingGo (Elsewhere n c) = Unit {0}
+LetsNothingGo (Shorten n c i) = ⊥
+
+abbrev pub NothingGoes : List (Put Name) → Type 0
+NothingGoes [] = Unit {0}
+NothingGoes (p ∷ ps) = LetsNothingGo p.note × NothingGoes ps
+
+-- what is known of a name stands as it stood, and no message that it held is gone
+abbrev pub StandsAlike : Name → Option (Known Name) → Option (Known Name) → Type 0
+StandsAlike n None None = Unit {0}
+StandsAlike n (Some j) (Some k) = (k.standing ≡ j.standing) × (k.host ≡ j.host) × Within (held_on n j.held) (held_on n k.held)
+StandsAlike n None (Some k) = ⊥
+StandsAlike n (Some j) None = ⊥
+
+-- From s to t the vat only added: messages to its queue and to what names hold, and notes that let no gift go. No name came to be known or stands otherwise.
+pub record AddsOnly (K : Naming Name Name) (s t : Vat Name) : Type 0 where
+  pub number : t.number ≡ s.number
+  pub gifts : t.gifts ≡ s.gifts
+  pub noticed : t.noticed ≡ s.noticed
+  pub names_known : length t.known ≡ length s.known
+  pub entries : (n : Name) → StandsAlike n (entry_of K s.known n) (entry_of K t.known n)
+  pub queue : Within (queued s.queue) (queued t.queue)
+  pub notes : (ps : List (Put Name)) × (t.outbox ≡ s.outbox ++ ps) × NothingGoes ps
+
+-- In the middle of a step the ways only grow by what only adds, so what is ahead stays ahead.
+abbrev pub AddingGrows : Type 0
+AddingGrows = (script : Script) (honest : ℕ → Bool) (w : World) (v : ℕ) (s t : Vat Name) → AddsOnly (names script v) s t → Grows (ways script honest (amid v s w)) (ways script honest (amid v t w))

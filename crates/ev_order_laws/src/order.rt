@@ -3,7 +3,7 @@
 ghost use Rattle.ev_order_laws.specs.Changes.{GoingOnKeeps, GrowingKeeps, HeadsAreFree, LosingKeeps, SentIsAhead, TakingKeeps};
 ghost use Rattle.ev_order_laws.specs.Example.{HeldOrder, PassedOrder};
 ghost use Rattle.ev_order_laws.specs.Turns.{CuttingKeeps, PassingByKeeps, TurningKeeps};
-ghost use Rattle.ev_order_laws.specs.Worlds.{IdleChangesNoWay, QueuesAreFree, SentMessagesAreAhead};
+ghost use Rattle.ev_order_laws.specs.Worlds.{AddingGrows, IdleChangesNoWay, QueuesAreFree, SentMessagesAreAhead};
 
 /// Nothing is ahead of what stands first in a queue, and it is not doomed. So where each message that
 /// is to be taken before another, and is neither taken nor lost, is ahead of it, the other is taken
@@ -102,4 +102,14 @@ pub fn idle_changes_no_way()
 /// that a promise of the vat to which the value is followed is known and waits.
 pub fn sent_messages_are_ahead()
     ensures { SentMessagesAreAhead }
+{}
+
+/// In the middle of a step of a vat the ways only grow by what only adds: by messages that come to its queue
+/// or to what names hold, by vats that are to be told, by reactions and names that wait, and by notes that
+/// let no gift go. So by `growing_keeps` what is ahead stays ahead.
+///
+/// It asks that no name comes to be known and none stands otherwise than it stood. Of the link of a note it
+/// asks nothing: it may be cut, or not be there.
+pub fn adding_grows()
+    ensures { AddingGrows }
 {}
