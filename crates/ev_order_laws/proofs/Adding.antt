@@ -9,11 +9,11 @@ use Rattle.ev_run.specs.World.{Script, names}
 use Rattle.ev_order_laws.specs.Ways.{Held, Way, Nowhere, End}
 use Rattle.ev_order_laws.specs.Turns.{Within}
 use Rattle.ev_order_laws.specs.Places.{held_in, aimed, by_host, by_follow, of_name, leads_in}
-use Rattle.ev_order_laws.specs.Worlds.{StandsAlike, AddsOnly}
+use Rattle.ev_order_laws.specs.Worlds.{StandsAlike, RefersAlike}
 
 -- ---- following
 
-module _ (K : Naming Name Name) (s t : Vat Name) (g : AddsOnly K s t) where
+module _ (K : Naming Name Name) (s t : Vat Name) (g : RefersAlike K s t) where
   standing_alike : (n : Name) (o p : Option (Known Name)) → StandsAlike n o p → refs.standing_in p ≡ refs.standing_in o
   unfolding refs.standing_in
   standing_alike n None None h = refl
@@ -102,7 +102,7 @@ module _ (K : Naming Name Name) (s t : Vat Name) (g : AddsOnly K s t) where
 
 -- ---- where a reference leads
 
-module _ (script : Script) (honest : ℕ → Bool) (v : ℕ) (s t : Vat Name) (g : AddsOnly (names script v) s t) where
+module _ (script : Script) (honest : ℕ → Bool) (v : ℕ) (s t : Vat Name) (g : RefersAlike (names script v) s t) where
   K : Naming Name Name
   K = names script v
 

@@ -2,17 +2,18 @@
 use Rattle.std.proofs.Common.{◌≡◌, ℕ, zero, suc, Bool, true, false, List, [], ◌∷◌, Option, Some, None, refl, sym, ap, subst, ◌∙◌, ◌⊎◌, inl, inr}
 use Rattle.std.specs.Prelude.{slice_get, not, ◌==◌, ◌&&◌}
 use Rattle.ev_machine.specs.Values.{Value, Ref, Name, Root, Object, Promise, Answer, Gift, Sent}
-use Rattle.ev_machine.specs.State.{Standing, Unsettled, WaitsOn, Viewed, Settled, Vat, GiftEntry}
+use Rattle.ev_machine.specs.State.{Standing, Unsettled, WaitsOn, Viewed, Settled, Known, Message, Vat, GiftEntry}
 use Rattle.ev_machine.specs.Refs as refs
 use Rattle.ev_run.specs.World.{Script, Link, World, names}
 use Rattle.ev_run.specs.World as world
 use Rattle.ev_order_laws.specs.Ways.{Lane, Queue, Held, Way, Item, Place, Nowhere, Free, IsIn}
-use Rattle.ev_order_laws.specs.Changes.{Grows}
+use Rattle.ev_order_laws.specs.Changes.{Grows, IsTaken}
 use Rattle.ev_order_laws.specs.Turns.{Within}
 use Rattle.ev_order_laws.specs.Places.{queued, held_in, delivered, opened_there, is_honest, leads_in, leads_at, leads, unsettled, released, released_at, stands_at, over, onward_at, ways_of, ways, amid}
-use Rattle.ev_order_laws.specs.Worlds.{AddsOnly, AddingGrows}
+use Rattle.ev_order_laws.specs.Worlds.{StandsAlike, RefersAlike, AddsOnly, SameWays, AddingGrows, BeginningChangesNoWay, FirstIsTaken}
 use Rattle.ev_order_laws.proofs.Adding.{standings, leads_alike, held_within}
-use Rattle.ev_order_laws.proofs.Pushing.{LinkGrows, AllGrow, push_grows, push_append, gift_more}
+use Rattle.ev_order_laws.proofs.Pushing.{LinkGrows, AllGrow, all_same, push_grows, push_append, gift_more}
+use Rattle.ev_order_laws.proofs.Sends.{some_same}
 
 -- ---- links that are found
 
@@ -55,28 +56,22 @@ put_either zero s t (r ∷ ss) (suc u) = inr refl
 put_either (suc v) s t (r ∷ ss) zero = inr refl
 put_either (suc v) s t (r ∷ ss) (suc u) = put_more v s t r ss u (put_either v s t ss u)
 
+abbrev QueueOf : Option (Vat Name) → List Item
+QueueOf o = elim o [ Some r ↦ queued r.queue | None ↦ [] ]
+
 -- ---- the ways
 
-module _ (script : Script) (honest : ℕ → Bool) (w : World) (v : ℕ) (s t : Vat Name) (g : AddsOnly (names script v) s t) where
+module _ (script : Script) (honest : ℕ → Bool) (vs : List (Vat Name)) (Links Links' : List Link) (grow : AllGrow Links Links') (v : ℕ) (s t : Vat Name) (g : RefersAlike (names script v) s t) where
   abbrev Vats : List (Vat Name)
-  Vats = world.put_at v s w.vats
+  Vats = world.put_at v s vs
 
   abbrev Vats' : List (Vat Name)
-  Vats' = world.put_at v t w.vats
+  Vats' = world.put_at v t vs
 
-  abbrev Links : List Link
-  Links = world.push_all v s.outbox w.links
+  at_vat : (u : ℕ) → Put v s t vs u
+  at_vat u = put_either v s t vs u
 
-  abbrev Links' : List Link
-  Links' = world.push_all v t.outbox w.links
-
-  grow : AllGrow Links Links'
-  grow = subst (λ ls. AllGrow Links ls) (sym (ap (λ ps. world.push_all v ps w.links) g.notes.1 ∙ push_append v s.outbox g.notes.0 w.links)) (push_grows v g.notes.0 Links g.notes.2)
-
-  at_vat : (u : ℕ) → Put v s t w.vats u
-  at_vat u = put_either v s t w.vats u
-
-  leads_by : (u : ℕ) (x : Value Name) → Put v s t w.vats u → leads_at script honest u (slice_get Vats' u) x ≡ leads_at script honest u (slice_get Vats u) x
+  leads_by : (u : ℕ) (x : Value Name) → Put v s t vs u → leads_at script honest u (slice_get Vats' u) x ≡ leads_at script honest u (slice_get Vats u) x
   unfolding leads_at
   leads_by u x (inl h) = ap (λ o. leads_at script honest u o x) h.2 ∙ subst (λ z. leads_in script honest z t x ≡ leads_in script honest z s x) (sym h.0) (leads_alike script honest v s t g x) ∙ ap (λ o. leads_at script honest u o x) (sym h.1)
   leads_by u x (inr h) = ap (λ o. leads_at script honest u o x) h
@@ -110,7 +105,7 @@ module _ (script : Script) (honest : ℕ → Bool) (w : World) (v : ℕ) (s t : 
   unfolding released_at
   released_mine p = ap (λ gs. released script honest Vats Links v p gs (refs.standing_of (names script v) t.known p)) g.gifts ∙ ap (λ q. released script honest Vats Links v p s.gifts q) (standings (names script v) s t g p)
 
-  released_by : (u : ℕ) (p : Name) → Put v s t w.vats u → released_at script honest Vats' Links' u p (slice_get Vats' u) ≡ released_at script honest Vats Links u p (slice_get Vats u)
+  released_by : (u : ℕ) (p : Name) → Put v s t vs u → released_at script honest Vats' Links' u p (slice_get Vats' u) ≡ released_at script honest Vats Links u p (slice_get Vats u)
   released_by u p (inl h) =
       released_vat u p (slice_get Vats' u)
       ∙ ap (λ o. released_at script honest Vats Links u p o) h.2
@@ -141,17 +136,10 @@ module _ (script : Script) (honest : ℕ → Bool) (w : World) (v : ℕ) (s t : 
   onward_same (Held u p) n = released_by u p (at_vat u)
   onward_same (Way a b) n = way_same b n (world.link_at a b Links) (world.link_at a b Links') (link_alike a b Links Links' grow)
 
-  abbrev QueueOf : Option (Vat Name) → List Item
-  QueueOf o = elim o [ Some r ↦ queued r.queue | None ↦ [] ]
-
-  queue_grows : (u : ℕ) → Put v s t w.vats u → Within (QueueOf (slice_get Vats u)) (QueueOf (slice_get Vats' u))
-  queue_grows u (inl h) = λ i j. subst (λ o. IsIn i (QueueOf o)) (sym h.2) (g.queue i (subst (λ o. IsIn i (QueueOf o)) h.1 j))
-  queue_grows u (inr h) = λ i j. subst (λ o. IsIn i (QueueOf o)) (sym h) j
-
   abbrev HeldOf : ℕ → Name → Option (Vat Name) → List Item
   HeldOf u n o = elim o [ Some r ↦ held_in n (refs.entry_of (names script u) r.known n) | None ↦ [] ]
 
-  held_grows : (u : ℕ) (n : Name) → Put v s t w.vats u → Within (HeldOf u n (slice_get Vats u)) (HeldOf u n (slice_get Vats' u))
+  held_grows : (u : ℕ) (n : Name) → Put v s t vs u → Within (HeldOf u n (slice_get Vats u)) (HeldOf u n (slice_get Vats' u))
   held_grows u n (inl h) = λ i j. subst (λ o. IsIn i (HeldOf u n o)) (sym h.2) (subst (λ z. IsIn i (HeldOf z n (Some t))) (sym h.0) (held_within script honest v s t g n i (subst (λ z. IsIn i (HeldOf z n (Some s))) h.0 (subst (λ o. IsIn i (HeldOf u n o)) h.1 j))))
   held_grows u n (inr h) = λ i j. subst (λ o. IsIn i (HeldOf u n o)) (sym h) j
 
@@ -172,15 +160,110 @@ module _ (script : Script) (honest : ℕ → Bool) (w : World) (v : ℕ) (s t : 
   notes_grow (Some l) None h = absurd h
   notes_grow (Some l) (Some k) h = λ i j. subst (λ c. IsIn i (elim c [ true ↦ delivered k.notes | false ↦ [] ])) (sym (honest_same l k h)) (notes_by (is_honest script honest l) (delivered l.notes) (delivered k.notes) h.stands i j)
 
-  stands_grow : (l : Lane) (i : Item) → IsIn i (stands_at script honest Vats Links l) → IsIn i (stands_at script honest Vats' Links' l)
-  unfolding stands_at
-  stands_grow (Queue u) i j = queue_grows u (at_vat u) i j
-  stands_grow (Held u n) i j = held_grows u n (at_vat u) i j
-  stands_grow (Way a b) i j = notes_grow (world.link_at a b Links) (world.link_at a b Links') (link_alike a b Links Links' grow) i j
+  module _ (queue : Within (queued s.queue) (queued t.queue)) where
+    queue_grows : (u : ℕ) → Put v s t vs u → Within (QueueOf (slice_get Vats u)) (QueueOf (slice_get Vats' u))
+    queue_grows u (inl h) = λ i j. subst (λ o. IsIn i (QueueOf o)) (sym h.2) (queue i (subst (λ o. IsIn i (QueueOf o)) h.1 j))
+    queue_grows u (inr h) = λ i j. subst (λ o. IsIn i (QueueOf o)) (sym h) j
+
+    stands_grow : (l : Lane) (i : Item) → IsIn i (stands_at script honest Vats Links l) → IsIn i (stands_at script honest Vats' Links' l)
+    unfolding stands_at
+    stands_grow (Queue u) i j = queue_grows u (at_vat u) i j
+    stands_grow (Held u n) i j = held_grows u n (at_vat u) i j
+    stands_grow (Way a b) i j = notes_grow (world.link_at a b Links) (world.link_at a b Links') (link_alike a b Links Links' grow) i j
+
+-- ---- in the middle of a step
+
+module _ (script : Script) (honest : ℕ → Bool) (w : World) (v : ℕ) (s t : Vat Name) (g : AddsOnly (names script v) s t) where
+  grow_there : AllGrow (world.push_all v s.outbox w.links) (world.push_all v t.outbox w.links)
+  grow_there = subst (λ ls. AllGrow (world.push_all v s.outbox w.links) ls) (sym (ap (λ ps. world.push_all v ps w.links) g.notes.1 ∙ push_append v s.outbox g.notes.0 w.links)) (push_grows v g.notes.0 (world.push_all v s.outbox w.links) g.notes.2)
 
   grows : Grows (ways script honest (amid v s w)) (ways script honest (amid v t w))
   unfolding ways ways_of amid
-  grows = record { stands = λ l i j. stands_grow l i j; onward = λ l n. inl (onward_same l n) }
+  grows = record {
+    stands = λ l i j. stands_grow script honest w.vats (world.push_all v s.outbox w.links) (world.push_all v t.outbox w.links) grow_there v s t g.alike g.queue l i j;
+    onward = λ l n. inl (onward_same script honest w.vats (world.push_all v s.outbox w.links) (world.push_all v t.outbox w.links) grow_there v s t g.alike l n);
+  }
 
 pub adding_grows : AddingGrows
 adding_grows = λ script honest w v s t g. grows script honest w v s t g
+
+-- ---- the beginning of a step
+
+entry_self : (n : Name) (o : Option (Known Name)) → StandsAlike n o o
+entry_self n None = tt
+entry_self n (Some k) = (refl, refl, λ i h. h)
+
+put_same : (ss : List (Vat Name)) (v : ℕ) (s : Vat Name) → slice_get ss v ≡ Some s → world.put_at v s ss ≡ ss
+unfolding world.put_at
+put_same [] v s e = refl
+put_same (r ∷ ss) zero s e = ap (λ q. q ∷ ss) (sym (some_same r s e))
+put_same (r ∷ ss) (suc v) s e = ap (λ q. r ∷ q) (put_same ss v s e)
+
+-- from s to a state in which the vat refers to nothing else
+module _ (script : Script) (honest : ℕ → Bool) (v : ℕ) (s t : Vat Name) (vs : List (Vat Name)) (ls : List Link) (there : RefersAlike (names script v) s t) (back : RefersAlike (names script v) t s) (into : Within (queued s.queue) (queued t.queue)) (from : Within (queued t.queue) (queued s.queue)) where
+  same_between : SameWays (ways_of script honest (world.put_at v s vs) ls) (ways_of script honest (world.put_at v t vs) ls)
+  unfolding ways_of
+  same_between = (
+    λ l. (λ i j. stands_grow script honest vs ls ls (all_same ls) v s t there into l i j, λ i j. stands_grow script honest vs ls ls (all_same ls) v t s back from l i j),
+    λ l n. onward_same script honest vs ls ls (all_same ls) v s t there l n,
+  )
+
+ready_there : (script : Script) (w : World) (v : ℕ) (s : Vat Name) → RefersAlike (names script v) s (world.readied w s)
+unfolding world.readied
+ready_there script w v s = record { number = refl; gifts = refl; noticed = refl; names_known = refl; entries = λ n. entry_self n (refs.entry_of (names script v) s.known n) }
+
+ready_back : (script : Script) (w : World) (v : ℕ) (s : Vat Name) → RefersAlike (names script v) (world.readied w s) s
+unfolding world.readied
+ready_back script w v s = record { number = refl; gifts = refl; noticed = refl; names_known = refl; entries = λ n. entry_self n (refs.entry_of (names script v) s.known n) }
+
+begins_in : (script : Script) (honest : ℕ → Bool) (w : World) (v : ℕ) (s : Vat Name) → SameWays (ways_of script honest (world.put_at v s w.vats) w.links) (ways_of script honest (world.put_at v (world.readied w s) w.vats) w.links)
+unfolding world.readied
+begins_in script honest w v s = same_between script honest v s (world.readied w s) w.vats w.links (ready_there script w v s) (ready_back script w v s) (λ i h. h) (λ i h. h)
+
+pub beginning_changes_no_way : BeginningChangesNoWay
+unfolding ways amid world.readied world.push_all
+beginning_changes_no_way = λ script honest w v s e. subst (λ ss. SameWays (ways_of script honest ss w.links) (ways_of script honest (world.put_at v (world.readied w s) w.vats) w.links)) (put_same w.vats v s e) (begins_in script honest w v s)
+
+-- ---- the first of a queue is taken
+
+module _ (script : Script) (honest : ℕ → Bool) (w : World) (v : ℕ) (s : Vat Name) (m : Message Name) (ms : List (Message Name)) (n : Name) (first : s.queue ≡ m ∷ ms) (on : m.target ≡ Ref n) where
+  abbrev Taken : Vat Name
+  Taken = record s { queue = ms }
+
+  taken_there : RefersAlike (names script v) s Taken
+  taken_there = record { number = refl; gifts = refl; noticed = refl; names_known = refl; entries = λ q. entry_self q (refs.entry_of (names script v) s.known q) }
+
+  abbrev Pushed : List Link
+  Pushed = world.push_all v s.outbox w.links
+
+  queue_is : queued s.queue ≡ record { mail = m.id; aim = n } ∷ queued ms
+  unfolding queued
+  queue_is = ap (λ q. queued q) first ∙ ap (λ z. elim z [ Ref k ↦ record { mail = m.id; aim = k } ∷ queued ms | _ ↦ queued ms ]) on
+
+  abbrev Left : Lane → Item → Type 0
+  Left l i = IsIn i (stands_at script honest (world.put_at v Taken w.vats) Pushed l) ⊎ ((l ≡ Queue v) × (i ≡ record { mail = m.id; aim = n }))
+
+  left_queue : (u : ℕ) (i : Item) → Put v s Taken w.vats u → IsIn i (QueueOf (slice_get (world.put_at v s w.vats) u)) → Left (Queue u) i
+  unfolding stands_at
+  left_queue u i (inl h) j = go (subst (λ q. IsIn i q) queue_is (subst (λ o. IsIn i (QueueOf o)) h.1 j))
+    where
+      go : (i ≡ record { mail = m.id; aim = n }) ⊎ IsIn i (queued ms) → Left (Queue u) i
+      go (inl e) = inr (ap (λ z. Queue z) h.0, e)
+      go (inr k) = inl (subst (λ o. IsIn i (QueueOf o)) (sym h.2) k)
+  left_queue u i (inr h) j = inl (subst (λ o. IsIn i (QueueOf o)) (sym h) j)
+
+  left_lane : (l : Lane) (i : Item) → IsIn i (stands_at script honest (world.put_at v s w.vats) Pushed l) → Left l i
+  unfolding stands_at
+  left_lane (Queue u) i j = left_queue u i (put_either v s Taken w.vats u) j
+  left_lane (Held u p) i j = inl (held_grows script honest w.vats Pushed Pushed (all_same Pushed) v s Taken taken_there u p (put_either v s Taken w.vats u) i j)
+  left_lane (Way a b) i j = inl j
+
+  is_taken : IsTaken (ways script honest (amid v s w)) (ways script honest (amid v Taken w)) v (record { mail = m.id; aim = n })
+  unfolding ways ways_of amid
+  is_taken = record {
+    leaves = record { stands = λ l i j. left_lane l i j; links = λ a b k. onward_same script honest w.vats Pushed Pushed (all_same Pushed) v s Taken taken_there (Way a b) k };
+    lanes = λ l k. onward_same script honest w.vats Pushed Pushed (all_same Pushed) v s Taken taken_there l k;
+  }
+
+pub first_is_taken : FirstIsTaken
+first_is_taken = λ script honest w v s m ms n e f. is_taken script honest w v s m ms n e f

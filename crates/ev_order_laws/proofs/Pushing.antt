@@ -93,7 +93,7 @@ AllGrow (l ∷ ls) (k ∷ ks) = LinkGrows l k × AllGrow ls ks
 AllGrow [] (k ∷ ks) = ⊥
 AllGrow (l ∷ ls) [] = ⊥
 
-all_same : (ls : List Link) → AllGrow ls ls
+pub all_same : (ls : List Link) → AllGrow ls ls
 all_same [] = tt
 all_same (l ∷ ls) = (same_link l, all_same ls)
 

@@ -1,11 +1,11 @@
 -- What is ahead in worlds.
 use Rattle.std.specs.Prelude.{◌≡◌, ℕ, Bool, true, List, [], ◌∷◌, ◌++◌, Option, Some, None, length, slice_get}
-use Rattle.ev_machine.specs.Values.{Value, Name, Naming}
+use Rattle.ev_machine.specs.Values.{Value, Ref, Name, Naming}
 use Rattle.ev_machine.specs.State.{Message, Standing, Unsettled, WaitsOn, Viewed, Settled, Known, Note, Deliver, Open, Ask, SettledTo, Elsewhere, Shorten, Put, Vat, Done, Gives, Throws, Ejects, Stops}
 use Rattle.ev_machine.specs.Refs.{entry_of, place, Mine, Away, Settler, send_to}
-use Rattle.ev_run.specs.World.{Script, Event, World, names}
-use Rattle.ev_order_laws.specs.Ways.{Queue, Mid, Doom, Ahead}
-use Rattle.ev_order_laws.specs.Changes.{Grows}
+use Rattle.ev_run.specs.World.{Script, Event, World, names, readied}
+use Rattle.ev_order_laws.specs.Ways.{Lane, Queue, Mid, Ways, Doom, Ahead}
+use Rattle.ev_order_laws.specs.Changes.{Grows, IsTaken}
 use Rattle.ev_order_laws.specs.Turns.{Within}
 use Rattle.ev_order_laws.specs.Places.{queued, held_on, aimed, ways, amid}
 
@@ -60,16 +60,33 @@ StandsAlike n (Some j) (Some k) = (k.standing ≡ j.standing) × (k.host ≡ j.h
 StandsAlike n None (Some k) = ⊥
 StandsAlike n (Some j) None = ⊥
 
--- From s to t the vat only added: messages to its queue and to what names hold, and notes that let no gift go. No name came to be known or stands otherwise.
-pub record AddsOnly (K : Naming Name Name) (s t : Vat Name) : Type 0 where
+-- In s and t no name is known in the one alone, each stands alike, and what names hold in s they hold in t.
+pub record RefersAlike (K : Naming Name Name) (s t : Vat Name) : Type 0 where
   pub number : t.number ≡ s.number
   pub gifts : t.gifts ≡ s.gifts
   pub noticed : t.noticed ≡ s.noticed
   pub names_known : length t.known ≡ length s.known
   pub entries : (n : Name) → StandsAlike n (entry_of K s.known n) (entry_of K t.known n)
+
+-- From s to t the vat only added: messages to its queue and to what names hold, and notes that let no gift go. No name came to be known or stands otherwise.
+pub record AddsOnly (K : Naming Name Name) (s t : Vat Name) : Type 0 where
+  pub alike : RefersAlike K s t
   pub queue : Within (queued s.queue) (queued t.queue)
   pub notes : (ps : List (Put Name)) × (t.outbox ≡ s.outbox ++ ps) × NothingGoes ps
 
 -- In the middle of a step the ways only grow by what only adds, so what is ahead stays ahead.
 abbrev pub AddingGrows : Type 0
 AddingGrows = (script : Script) (honest : ℕ → Bool) (w : World) (v : ℕ) (s t : Vat Name) → AddsOnly (names script v) s t → Grows (ways script honest (amid v s w)) (ways script honest (amid v t w))
+
+-- the same stands in each lane of both, and each leads to the same places
+abbrev pub SameWays : Ways → Ways → Type 0
+SameWays w u = ((l : Lane) → Within (w.stands l) (u.stands l) × Within (u.stands l) (w.stands l)) × ((l : Lane) (n : Name) → u.onward l n ≡ w.onward l n)
+
+-- A step of a vat begins in the ways of its world.
+abbrev pub BeginningChangesNoWay : Type 0
+BeginningChangesNoWay = (script : Script) (honest : ℕ → Bool) (w : World) (v : ℕ) (s : Vat Name) → slice_get w.vats v ≡ Some s → SameWays (ways script honest w) (ways script honest (amid v (readied w s) w))
+
+-- As the first message of the queue of a vat is taken, if it is on an object, it leaves the queue, and nothing else changes: so by the law on takings what is ahead stays ahead.
+abbrev pub FirstIsTaken : Type 0
+FirstIsTaken = (script : Script) (honest : ℕ → Bool) (w : World) (v : ℕ) (s : Vat Name) (m : Message Name) (ms : List (Message Name)) (n : Name) → s.queue ≡ m ∷ ms → m.target ≡ Ref n
+    → IsTaken (ways script honest (amid v s w)) (ways script honest (amid v (record s { queue = ms }) w)) v (record { mail = m.id; aim = n })

@@ -3,7 +3,7 @@
 ghost use Rattle.ev_order_laws.specs.Changes.{GoingOnKeeps, GrowingKeeps, HeadsAreFree, LosingKeeps, SentIsAhead, TakingKeeps};
 ghost use Rattle.ev_order_laws.specs.Example.{HeldOrder, PassedOrder};
 ghost use Rattle.ev_order_laws.specs.Turns.{CuttingKeeps, PassingByKeeps, TurningKeeps};
-ghost use Rattle.ev_order_laws.specs.Worlds.{AddingGrows, IdleChangesNoWay, QueuesAreFree, SentMessagesAreAhead};
+ghost use Rattle.ev_order_laws.specs.Worlds.{AddingGrows, BeginningChangesNoWay, FirstIsTaken, IdleChangesNoWay, QueuesAreFree, SentMessagesAreAhead};
 
 /// Nothing is ahead of what stands first in a queue, and it is not doomed. So where each message that
 /// is to be taken before another, and is neither taken nor lost, is ahead of it, the other is taken
@@ -112,4 +112,16 @@ pub fn sent_messages_are_ahead()
 /// asks nothing: it may be cut, or not be there.
 pub fn adding_grows()
     ensures { AddingGrows }
+{}
+
+/// A step of a vat begins in the ways of its world: the same stands in each lane, and each leads to the
+/// same places.
+pub fn beginning_changes_no_way()
+    ensures { BeginningChangesNoWay }
+{}
+
+/// As the first message of a queue is taken, if it is on an object, it leaves the queue and nothing else
+/// changes. So by `taking_keeps` what is ahead stays ahead, and by `heads_are_free` nothing was ahead of it.
+pub fn first_is_taken()
+    ensures { FirstIsTaken }
 {}
