@@ -75,9 +75,9 @@ module _ (w u : Ways) (x : Name) (Stays : Type 0) (Went : Lane → Name → Type
     -- it has another name from which the lane leads to the same place
     renamed : {l : Lane} {n m : Name} → u.onward l n ≡ u.onward l m → IsDefinite (u.onward l n) → Turns (End l n) (End l m)
 
-  -- the ends of a lane stay, or all of them become one place
+  -- the ends of a lane stay, or all of them become one place, or all are doomed
   abbrev pub Shifts : (Place → Place) → Lane → Type 0
-  Shifts f l = ((n : Name) → f (End l n) ≡ End l n) ⊎ ((c : Place) × IsOneWay l × IsDefinite c × ((n : Name) → f (End l n) ≡ c))
+  Shifts f l = ((n : Name) → f (End l n) ≡ End l n) ⊎ (((c : Place) × IsOneWay l × IsDefinite c × ((n : Name) → f (End l n) ≡ c)) ⊎ ((n : Name) → Doom u (End l n) × Doom u (f (End l n))))
 
   -- of the ends of links: it becomes that; in a lane what stands in front does not count for this
   pub data Goes : Place → Place → Type 0 where
@@ -136,11 +136,13 @@ module _ (w u : Ways) (x : Name) (Stays : Type 0) (Went : Lane → Name → Type
 
     one_way_kept : (l : Lane) (m n : Name) → IsOneWay l → Shifts f l → Follows u (f (End l m)) (f (End l n))
     one_way_kept l m n i (inl e) = rw (e m) (rw (e n) (one_way i))
-    one_way_kept l m n i (inr s) = rw (s.3 m) (rw (s.3 n) (follows_self u s.0 s.2))
+    one_way_kept l m n i (inr (inr d)) = doomed (d n).1
+    one_way_kept l m n i (inr (inl s)) = rw (s.3 m) (rw (s.3 n) (follows_self u s.0 s.2))
 
     alike_kept : (l : Lane) (n : Name) → Shifts f l → Follows u (f (End l n)) (f (End l n))
     alike_kept l n (inl e) = rw (e n) alike
-    alike_kept l n (inr s) = rw (s.3 n) (follows_self u s.0 s.2)
+    alike_kept l n (inr (inr d)) = doomed (d n).1
+    alike_kept l n (inr (inl s)) = rw (s.3 n) (follows_self u s.0 s.2)
 
     link_kept : (a b : ℕ) (m n : Name) → ((o : Name) → u.onward (Way a b) o ≡ f (w.onward (Way a b) o)) ⊎ ((o : Name) → u.onward (Way a b) o ≡ Nowhere) → Follows u (f (w.onward (Way a b) m)) (f (w.onward (Way a b) n)) → Follows u (End (Way a b) m) (End (Way a b) n)
     link_kept a b m n (inl e) h = beside (rw (e m) (rw (e n) h))
@@ -148,7 +150,8 @@ module _ (w u : Ways) (x : Name) (Stays : Type 0) (Went : Lane → Name → Type
 
     ends_kept : (l : Lane) (m n : Name) → Shifts f l → Follows u (End l m) (End l n) → Follows u (f (End l m)) (f (End l n))
     ends_kept l m n (inl e) h = rw (e m) (rw (e n) h)
-    ends_kept l m n (inr s) h = rw (s.3 m) (rw (s.3 n) (follows_self u s.0 s.2))
+    ends_kept l m n (inr (inr d)) h = doomed (d n).1
+    ends_kept l m n (inr (inl s)) h = rw (s.3 m) (rw (s.3 n) (follows_self u s.0 s.2))
 
     beside_kept : (l : Lane) (m n : Name) → Follows u (f (w.onward l m)) (f (w.onward l n)) → Follows u (f (End l m)) (f (End l n))
     beside_kept (Queue v) m n h = one_way_kept (Queue v) m n tt (k.ends (Queue v))
@@ -163,7 +166,8 @@ module _ (w u : Ways) (x : Name) (Stays : Type 0) (Went : Lane → Name → Type
 
     unshifted : (l : Lane) (m n : Name) → Shifts f l → Follows u (f (End l m)) (f (End l n)) → Follows u (End l m) (End l n)
     unshifted l m n (inl e) h = rw (← (e m)) (rw (← (e n)) h)
-    unshifted l m n (inr s) h = one_way s.1
+    unshifted l m n (inr (inr d)) h = doomed (d n).0
+    unshifted l m n (inr (inl s)) h = one_way s.1
 
     follows_there : (l : Lane) (m n : Name) → Follows w (End l m) (End l n) → Follows u (End l m) (End l n)
     follows_there l m n h = unshifted l m n (k.ends l) (follows_kept (End l m) (End l n) h)

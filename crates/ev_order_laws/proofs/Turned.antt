@@ -1,9 +1,9 @@
 -- The changes by which no message goes on keep what is ahead.
 use Rattle.std.proofs.Common.{◌≡◌, ℕ, refl, sym, subst, ◌⊎◌, inl, inr}
 use Rattle.ev_machine.specs.Values.{Name}
-use Rattle.ev_order_laws.specs.Ways.{Lane, Queue, Held, Way, Place, Nowhere, Free, End, Mid, Ways, IsIn, IsOneWay, Doom, nowhere, Ahead}
+use Rattle.ev_order_laws.specs.Ways.{Lane, Queue, Held, Way, Place, Nowhere, Free, End, Mid, Ways, IsIn, IsOneWay, Doom, nowhere, by_end, Ahead}
 use Rattle.ev_order_laws.specs.Changes.{Lacks}
-use Rattle.ev_order_laws.specs.Turns.{Comes, is_there, on_end, on_mid, Reroutes, stays_so, said_now, ends_now, renamed_so, behind_all, gone_on, IsTurned, IsPassed, IsCut, OnlyOn, TurningKeeps, PassingByKeeps, CuttingKeeps}
+use Rattle.ev_order_laws.specs.Turns.{Comes, is_there, on_end, on_mid, Reroutes, stays_so, said_now, ends_now, renamed_so, behind_all, gone_on, IsTurned, IsPassed, IsNoticed, IsCut, OnlyOn, TurningKeeps, PassingByKeeps, NoticingKeeps, CuttingKeeps}
 use Rattle.ev_order_laws.proofs.Kept.{Leads, now, later_end, later_mid, Turns, from_free, to_doom, same_end, same_mid, held_back, passed_end, passed_mid, renamed, Goes, turning, between, Shifts, Change, Holds, kept, doom_kept, doom_closed}
 use Rattle.ev_order_laws.proofs.Changes.{self, equal, Never, never, some_name, Any, slide_self, slide_equal}
 
@@ -70,7 +70,7 @@ module _ (w u : Ways) (v : ℕ) (p : Name) (e : Place) (f : Place → Place) (g 
 
   passed_shift : (l : Lane) → ((m : Name) → f (End l m) ≡ End l m) ⊎ (l ≡ Held v p) → Shifts w u x (Unit {0}) Never f l
   passed_shift l (inl h) = inl h
-  passed_shift l (inr h) = inr (e, subst IsOneWay (sym h) tt, g.definite, λ n. subst (λ q. f (End q n) ≡ e) (sym h) (g.there n))
+  passed_shift l (inr h) = inr (inl (e, subst IsOneWay (sym h) tt, g.definite, λ n. subst (λ q. f (End q n) ≡ e) (sym h) (g.there n)))
 
   passed_change : Change w u x (Unit {0}) Never f
   passed_change = record {
@@ -89,6 +89,55 @@ module _ (w u : Ways) (v : ℕ) (p : Name) (e : Place) (f : Place → Place) (g 
 
 pub passing_by_keeps : PassingByKeeps
 passing_by_keeps = λ w u v p e f g c. (λ h. passed_doom w u v p e f g some_name c h, λ x h. passed_ahead w u v p e f g x c h)
+
+-- ---- what leads over a link that is cut
+
+module _ (w u : Ways) (a b : ℕ) (f : Place → Place) (g : IsNoticed w u a b f) (x : Name) where
+  abbrev Noticed : Place → Place → Type 0
+  Noticed = Turns w u x (Unit {0}) Never
+
+  noticed_there : (n : Name) → (f (End (Way a b) n) ≡ End (Way a b) n) ⊎ (f (End (Way a b) n) ≡ Nowhere) → Noticed (End (Way a b) n) (f (End (Way a b) n))
+  noticed_there n (inl e) = rw e same_end
+  noticed_there n (inr e) = rw e (to_doom nowhere)
+
+  noticed_at : (l : Lane) (n : Name) → ((m : Name) → f (End l m) ≡ End l m) ⊎ (l ≡ Way a b) → Noticed (End l n) (f (End l n))
+  noticed_at l n (inl h) = rw (h n) same_end
+  noticed_at l n (inr h) = subst (λ q. Noticed (End q n) (f (End q n))) (sym h) (noticed_there n (g.there n))
+
+  noticed : (c : Place) → Noticed c (f c)
+  noticed Nowhere = rw g.nowhere_stays (self w u x Never Nowhere)
+  noticed Free = from_free
+  noticed (End l n) = noticed_at l n (g.ends l)
+  noticed (Mid l js n) = rw (g.mids l js n) (self w u x Never (Mid l js n))
+
+  shut_there : (n : Name) → Doom u (End (Way a b) n)
+  shut_there n = by_end (subst (Doom u) (sym (g.shut n)) nowhere)
+
+  shut_then : (n : Name) → (f (End (Way a b) n) ≡ End (Way a b) n) ⊎ (f (End (Way a b) n) ≡ Nowhere) → Doom u (f (End (Way a b) n))
+  shut_then n (inl e) = subst (Doom u) (sym e) (shut_there n)
+  shut_then n (inr e) = subst (Doom u) (sym e) nowhere
+
+  noticed_shift : (l : Lane) → ((m : Name) → f (End l m) ≡ End l m) ⊎ (l ≡ Way a b) → Shifts w u x (Unit {0}) Never f l
+  noticed_shift l (inl h) = inl h
+  noticed_shift l (inr h) = inr (inr (λ n. subst (λ q. Doom u (End q n) × Doom u (f (End q n))) (sym h) (shut_there n, shut_then n (g.there n))))
+
+  noticed_change : Change w u x (Unit {0}) Never f
+  noticed_change = record {
+    standing = λ l m i. inl (tt, g.stands l (record { mail = x; aim = m }) i);
+    lanes = λ l n. rw (g.lanes l n) (noticed (w.onward l n));
+    links = λ c d. inl (λ n. g.lanes (Way c d) n);
+    places = λ c. turning (noticed c);
+    ends = λ l. noticed_shift l (g.ends l);
+  }
+
+  noticed_doom : (c : Place) → Doom w c → Doom u (f c)
+  noticed_doom c h = doom_kept w u x (Unit {0}) Never f noticed_change c h (f c) (noticed c)
+
+  noticed_ahead : (c : Place) → Ahead w x c → Ahead u x (f c)
+  noticed_ahead c h = kept w u x (Unit {0}) Never f noticed_change (Ahead u x) (never w u x) c h (f c) (noticed c)
+
+pub noticing_keeps : NoticingKeeps
+noticing_keeps = λ w u a b f g c. (λ h. noticed_doom w u a b f g some_name c h, λ x h. noticed_ahead w u a b f g x c h)
 
 -- ---- a link that is cut
 

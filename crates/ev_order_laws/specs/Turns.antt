@@ -54,6 +54,17 @@ module _ (w u : Ways) where
     pub free_stays : f Free ≡ Free
     pub mids : (l : Lane) (b : List Item) (n : Name) → f (Mid l b n) ≡ Mid l b n
 
+  -- What leads over the link from a to b, which is cut, may lead nowhere from now on: as the vat that notices the cut has it.
+  pub record IsNoticed (a b : ℕ) (f : Place → Place) : Type 0 where
+    pub stands : (l : Lane) → Within (w.stands l) (u.stands l)
+    pub shut : (n : Name) → u.onward (Way a b) n ≡ Nowhere
+    pub lanes : (l : Lane) (n : Name) → u.onward l n ≡ f (w.onward l n)
+    pub there : (n : Name) → (f (End (Way a b) n) ≡ End (Way a b) n) ⊎ (f (End (Way a b) n) ≡ Nowhere)
+    pub ends : (l : Lane) → ((n : Name) → f (End l n) ≡ End l n) ⊎ (l ≡ Way a b)
+    pub nowhere_stays : f Nowhere ≡ Nowhere
+    pub free_stays : f Free ≡ Free
+    pub mids : (l : Lane) (b : List Item) (n : Name) → f (Mid l b n) ≡ Mid l b n
+
   -- The link from a to b is cut: no message stands there any more, and it leads nowhere. What was put there to let a gift go is gone, and its gift is doomed.
   pub record IsCut (a b : ℕ) : Type 0 where
     pub stands : (l : Lane) (i : Item) → IsIn i (w.stands l) → IsIn i (u.stands l) ⊎ (l ≡ Way a b)
@@ -81,3 +92,6 @@ abbrev pub CuttingKeeps : Type 0
 CuttingKeeps = (w u : Ways) (a b : ℕ) → IsCut w u a b → (c : Place) → (Doom w c → Doom u c)
     × ((x : Name) → Lacks x (w.stands (Way a b)) → Ahead w x c → Ahead u x c)
     × ((x : Name) → ((l : Lane) → Lacks x (u.stands l)) → ((l : Lane) (n : Name) → OnlyOn a b x (w.onward l n)) → OnlyOn a b x c → Ahead w x c → Doom u c)
+
+abbrev pub NoticingKeeps : Type 0
+NoticingKeeps = (w u : Ways) (a b : ℕ) (f : Place → Place) → IsNoticed w u a b f → (c : Place) → (Doom w c → Doom u (f c)) × ((x : Name) → Ahead w x c → Ahead u x (f c))

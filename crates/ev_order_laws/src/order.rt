@@ -2,7 +2,7 @@
 
 ghost use Rattle.ev_order_laws.specs.Changes.{GoingOnKeeps, GrowingKeeps, HeadsAreFree, LosingKeeps, SentIsAhead, TakingKeeps};
 ghost use Rattle.ev_order_laws.specs.Example.{HeldOrder, PassedOrder};
-ghost use Rattle.ev_order_laws.specs.Turns.{CuttingKeeps, PassingByKeeps, TurningKeeps};
+ghost use Rattle.ev_order_laws.specs.Turns.{CuttingKeeps, NoticingKeeps, PassingByKeeps, TurningKeeps};
 ghost use Rattle.ev_order_laws.specs.Worlds.{AddingGrows, BeginningChangesNoWay, FirstIsTaken, IdleChangesNoWay, QueuesAreFree, SentMessagesAreAhead};
 
 /// Nothing is ahead of what stands first in a queue, and it is not doomed. So where each message that
@@ -124,4 +124,10 @@ pub fn beginning_changes_no_way()
 /// changes. So by `taking_keeps` what is ahead stays ahead, and by `heads_are_free` nothing was ahead of it.
 pub fn first_is_taken()
     ensures { FirstIsTaken }
+{}
+
+/// What is ahead stays ahead, and what is doomed stays doomed, where what leads over a link that is cut
+/// leads nowhere from then on, as the vat has it that notices the cut.
+pub fn noticing_keeps()
+    ensures { NoticingKeeps }
 {}
