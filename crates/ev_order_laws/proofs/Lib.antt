@@ -6,3 +6,4 @@ pub mod Queues
 pub mod Pushing
 pub mod Adding
 pub mod Amid
+pub mod Waits

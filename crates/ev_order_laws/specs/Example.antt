@@ -1,12 +1,15 @@
 -- Two runs, and which message is before which in them; and a history in which a message is taken too early.
 use Rattle.std.specs.Prelude.{◌≡◌, ℕ, pos, Bool, true, false, List, [], ◌∷◌, None, codes}
-use Rattle.ev_machine.specs.Values.{Name, Sent, same_name}
+use Rattle.ev_machine.specs.Values.{Ref, Name, Root, Gift, Sent, same_name}
+use Rattle.ev_machine.specs.Values as values
 use Rattle.ev_machine.specs.State.{Message, Took}
-use Rattle.ev_run.specs.World.{Turn, Carry, Script, Event, Here, Run, Goes, Stopped, run}
+use Rattle.ev_run.specs.World.{Turn, Carry, Script, Event, Here, World, Run, Goes, Stopped, then_goes, begins, open_from, steps_from, run}
 use Rattle.ev_kernel.specs.declared.node.Literal.TheVariants as literal
 use Rattle.ev_kernel.specs.declared.node.Node.{Node}
 use Rattle.ev_kernel.specs.declared.node.Node.TheVariants.{Lit, Noun, Def, Call, Sequence, Object, Method, Final, ListPattern}
-use Rattle.ev_order_laws.specs.Order.{is_before, keeps_order, taken_after}
+use Rattle.ev_order_laws.specs.Ways.{Queue, Held, Way, Place, End, Mid, Ways, Ahead}
+use Rattle.ev_order_laws.specs.Places.{item, ways, leads, opened_places}
+use Rattle.ev_order_laws.specs.Order.{is_before, keeps_order, taken_after, opened_order}
 
 -- def [p, r] := Ref.promise(); p <- f(p); p <- g(); r.resolve(c)
 unfoldable pub tree_a : List Node
@@ -160,7 +163,41 @@ PassedOrder = let es = history_of (run passed_script) in
     × (judged es (message 0 1) (message 1 0) ≡ false ∷ true ∷ true ∷ [])
     × (judged (exchanged (message 0 0) (message 1 0) es) (message 0 0) (message 1 0) ≡ true ∷ false ∷ false ∷ [])
 
+-- ---- places
+
+unfoldable pub world_of : Run → World
+world_of (Goes w) = w
+world_of (Stopped c k w) = w
+
+-- the world in which f and the note behind it are still under way, and g has come to c and waits there
+unfoldable pub waiting_world : World
+waiting_world = world_of (then_goes (open_from passed_script 0 passed_script.vats (begins passed_script)) (λ w. steps_from passed_script (Carry 0 1 ∷ Turn 1 ∷ Carry 1 2 ∷ Carry 1 2 ∷ []) 1 w))
+
+-- what a passed to b: the gift of the first draw, at c
+unfoldable pub passed_name : Name
+passed_name = Gift 2 0
+
+unfoldable pub waiting_ways : Ways
+waiting_ways = ways passed_script (λ v. true) waiting_world
+
+-- where b would send on what was passed to it, and c on its root
+unfoldable pub leading : ℕ → Name → Place
+leading v n = leads passed_script (λ u. true) waiting_world.vats waiting_world.links v (Ref n)
+
+-- g waits for the note behind f on the link from a; b sends on to c, and c takes what is sent on its root.
+abbrev pub PlacesAreTold : Type 0
+PlacesAreTold =
+    (waiting_ways.stands (Way 0 2) ≡ item (message 0 0) (Root 2) ∷ [])
+    × (waiting_ways.stands (Held 2 passed_name) ≡ item (message 1 0) passed_name ∷ [])
+    × (waiting_ways.onward (Held 2 passed_name) passed_name ≡ Mid (Way 0 2) (item (message 0 0) (Root 2) ∷ []) (Root 2))
+    × (leading 1 passed_name ≡ End (Way 1 2) passed_name)
+    × (leading 2 (Root 2) ≡ End (Queue 2) (values.Object 2 0))
+
+-- So f is ahead of g there.
+abbrev pub FirstIsAhead : Type 0
+FirstIsAhead = Ahead waiting_ways (message 0 0) (Mid (Held 2 passed_name) [] passed_name)
+
 -- opens the definitions of this file
 unfoldable pub opened_example : Unit {0}
-unfolding tree_a tree_b tree_c tree_d tree_e held_script passed_script history_of message taken_for exchanged judged
+unfolding tree_a tree_b tree_c tree_d tree_e held_script passed_script history_of message taken_for exchanged judged world_of waiting_world passed_name waiting_ways leading opened_order opened_places
 opened_example = tt

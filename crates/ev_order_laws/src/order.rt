@@ -1,7 +1,7 @@
 //! What is ahead of what on the ways that messages have before them, and that single changes keep it.
 
 ghost use Rattle.ev_order_laws.specs.Changes.{GoingOnKeeps, GrowingKeeps, HeadsAreFree, LosingKeeps, SentIsAhead, TakingKeeps};
-ghost use Rattle.ev_order_laws.specs.Example.{HeldOrder, PassedOrder};
+ghost use Rattle.ev_order_laws.specs.Example.{FirstIsAhead, HeldOrder, PassedOrder, PlacesAreTold};
 ghost use Rattle.ev_order_laws.specs.Turns.{CuttingKeeps, NoticingKeeps, PassingByKeeps, TurningKeeps};
 ghost use Rattle.ev_order_laws.specs.Worlds.{AddingGrows, BeginningChangesNoWay, FirstIsTaken, IdleChangesNoWay, QueuesAreFree, SentMessagesAreAhead};
 
@@ -130,4 +130,16 @@ pub fn first_is_taken()
 /// leads nowhere from then on, as the vat has it that notices the cut.
 pub fn noticing_keeps()
     ensures { NoticingKeeps }
+{}
+
+/// The places in a world, by computing: a message waits at the host of a gift for the note that lets the
+/// gift go, which is under way behind another message.
+#[tactic(auto, unfolding(crate::specs::Example::opened_example))]
+pub fn places_are_told()
+    ensures { PlacesAreTold }
+{}
+
+/// So the other message is ahead of it in that world.
+pub fn first_is_ahead()
+    ensures { FirstIsAhead }
 {}
