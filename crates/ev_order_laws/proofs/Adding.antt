@@ -112,7 +112,7 @@ module _ (script : Script) (honest : ℕ → Bool) (v : ℕ) (s t : Vat Name) (g
 
   by_host_alike : (n : Name) (h : ℕ) → by_host v t n h ≡ by_host v s n h
   unfolding by_host
-  by_host_alike n h = ap (λ q. elim (is_in h q) [ true ↦ Nowhere | false ↦ elim (h == v) [ true ↦ End (Held v n) n | false ↦ End (Way v h) n ] ]) g.noticed
+  by_host_alike n h = ap (λ q. elim (is_in h q) [ true ↦ Nowhere | false ↦ elim (v == h) [ true ↦ End (Held v n) n | false ↦ End (Way v h) n ] ]) g.noticed
 
   of_name_alike : (n : Name) (o p : Option (Known Name)) → StandsAlike n o p → of_name script honest v t n p ≡ of_name script honest v s n o
   unfolding of_name
@@ -151,3 +151,15 @@ module _ (script : Script) (honest : ℕ → Bool) (v : ℕ) (s t : Vat Name) (g
 
   pub held_within : (n : Name) → Within (held_in n (refs.entry_of (names script v) s.known n)) (held_in n (refs.entry_of (names script v) t.known n))
   held_within n = held_alike n (refs.entry_of (names script v) s.known n) (refs.entry_of (names script v) t.known n) (g.entries n)
+
+-- ---- what the ways see of a vat
+
+-- In s and t references lead to the same places, and what names hold in s they hold in t.
+pub record RefersSame (script : Script) (honest : ℕ → Bool) (v : ℕ) (s t : Vat Name) : Type 0 where
+  pub leading : (x : Value Name) → leads_in script honest v t x ≡ leads_in script honest v s x
+  pub gifts : t.gifts ≡ s.gifts
+  pub standing : (n : Name) → refs.standing_of (names script v) t.known n ≡ refs.standing_of (names script v) s.known n
+  pub holding : (n : Name) → Within (held_in n (refs.entry_of (names script v) s.known n)) (held_in n (refs.entry_of (names script v) t.known n))
+
+pub refers_same : (script : Script) (honest : ℕ → Bool) (v : ℕ) (s t : Vat Name) → RefersAlike (names script v) s t → RefersSame script honest v s t
+refers_same script honest v s t g = record { leading = λ x. leads_alike script honest v s t g x; gifts = g.gifts; standing = λ n. standings (names script v) s t g n; holding = λ n. held_within script honest v s t g n }

@@ -11,7 +11,7 @@ use Rattle.ev_order_laws.specs.Changes.{Grows, IsTaken}
 use Rattle.ev_order_laws.specs.Turns.{Within}
 use Rattle.ev_order_laws.specs.Places.{queued, held_in, delivered, opened_there, is_honest, leads_in, leads_at, leads, unsettled, released, released_at, stands_at, over, onward_at, ways_of, ways, amid}
 use Rattle.ev_order_laws.specs.Worlds.{StandsAlike, RefersAlike, AddsOnly, SameWays, AddingGrows, BeginningChangesNoWay, FirstIsTaken}
-use Rattle.ev_order_laws.proofs.Adding.{standings, leads_alike, held_within}
+use Rattle.ev_order_laws.proofs.Adding.{RefersSame, refers_same}
 use Rattle.ev_order_laws.proofs.Pushing.{LinkGrows, AllGrow, all_same, push_grows, push_append, gift_more}
 use Rattle.ev_order_laws.proofs.Sends.{some_same}
 
@@ -61,7 +61,7 @@ QueueOf o = elim o [ Some r ↦ queued r.queue | None ↦ [] ]
 
 -- ---- the ways
 
-module _ (script : Script) (honest : ℕ → Bool) (vs : List (Vat Name)) (Links Links' : List Link) (grow : AllGrow Links Links') (v : ℕ) (s t : Vat Name) (g : RefersAlike (names script v) s t) where
+module _ (script : Script) (honest : ℕ → Bool) (vs : List (Vat Name)) (Links Links' : List Link) (grow : AllGrow Links Links') (v : ℕ) (s t : Vat Name) (g : RefersSame script honest v s t) where
   abbrev Vats : List (Vat Name)
   Vats = world.put_at v s vs
 
@@ -73,7 +73,7 @@ module _ (script : Script) (honest : ℕ → Bool) (vs : List (Vat Name)) (Links
 
   leads_by : (u : ℕ) (x : Value Name) → Put v s t vs u → leads_at script honest u (slice_get Vats' u) x ≡ leads_at script honest u (slice_get Vats u) x
   unfolding leads_at
-  leads_by u x (inl h) = ap (λ o. leads_at script honest u o x) h.2 ∙ subst (λ z. leads_in script honest z t x ≡ leads_in script honest z s x) (sym h.0) (leads_alike script honest v s t g x) ∙ ap (λ o. leads_at script honest u o x) (sym h.1)
+  leads_by u x (inl h) = ap (λ o. leads_at script honest u o x) h.2 ∙ subst (λ z. leads_in script honest z t x ≡ leads_in script honest z s x) (sym h.0) (g.leading x) ∙ ap (λ o. leads_at script honest u o x) (sym h.1)
   leads_by u x (inr h) = ap (λ o. leads_at script honest u o x) h
 
   leads_same : (u : ℕ) (x : Value Name) → leads script honest Vats' Links' u x ≡ leads script honest Vats Links u x
@@ -103,7 +103,7 @@ module _ (script : Script) (honest : ℕ → Bool) (vs : List (Vat Name)) (Links
 
   released_mine : (p : Name) → released_at script honest Vats Links v p (Some t) ≡ released_at script honest Vats Links v p (Some s)
   unfolding released_at
-  released_mine p = ap (λ gs. released script honest Vats Links v p gs (refs.standing_of (names script v) t.known p)) g.gifts ∙ ap (λ q. released script honest Vats Links v p s.gifts q) (standings (names script v) s t g p)
+  released_mine p = ap (λ gs. released script honest Vats Links v p gs (refs.standing_of (names script v) t.known p)) g.gifts ∙ ap (λ q. released script honest Vats Links v p s.gifts q) (g.standing p)
 
   released_by : (u : ℕ) (p : Name) → Put v s t vs u → released_at script honest Vats' Links' u p (slice_get Vats' u) ≡ released_at script honest Vats Links u p (slice_get Vats u)
   released_by u p (inl h) =
@@ -130,7 +130,7 @@ module _ (script : Script) (honest : ℕ → Bool) (vs : List (Vat Name)) (Links
   way_same b n (Some l) None h = absurd h
   way_same b n (Some l) (Some k) h = over_same b n l k h
 
-  onward_same : (l : Lane) (n : Name) → onward_at script honest Vats' Links' l n ≡ onward_at script honest Vats Links l n
+  pub onward_same : (l : Lane) (n : Name) → onward_at script honest Vats' Links' l n ≡ onward_at script honest Vats Links l n
   unfolding onward_at
   onward_same (Queue u) n = refl
   onward_same (Held u p) n = released_by u p (at_vat u)
@@ -140,7 +140,7 @@ module _ (script : Script) (honest : ℕ → Bool) (vs : List (Vat Name)) (Links
   HeldOf u n o = elim o [ Some r ↦ held_in n (refs.entry_of (names script u) r.known n) | None ↦ [] ]
 
   held_grows : (u : ℕ) (n : Name) → Put v s t vs u → Within (HeldOf u n (slice_get Vats u)) (HeldOf u n (slice_get Vats' u))
-  held_grows u n (inl h) = λ i j. subst (λ o. IsIn i (HeldOf u n o)) (sym h.2) (subst (λ z. IsIn i (HeldOf z n (Some t))) (sym h.0) (held_within script honest v s t g n i (subst (λ z. IsIn i (HeldOf z n (Some s))) h.0 (subst (λ o. IsIn i (HeldOf u n o)) h.1 j))))
+  held_grows u n (inl h) = λ i j. subst (λ o. IsIn i (HeldOf u n o)) (sym h.2) (subst (λ z. IsIn i (HeldOf z n (Some t))) (sym h.0) (g.holding n i (subst (λ z. IsIn i (HeldOf z n (Some s))) h.0 (subst (λ o. IsIn i (HeldOf u n o)) h.1 j))))
   held_grows u n (inr h) = λ i j. subst (λ o. IsIn i (HeldOf u n o)) (sym h) j
 
   abbrev NotesOf : Option Link → List Item
@@ -165,7 +165,7 @@ module _ (script : Script) (honest : ℕ → Bool) (vs : List (Vat Name)) (Links
     queue_grows u (inl h) = λ i j. subst (λ o. IsIn i (QueueOf o)) (sym h.2) (queue i (subst (λ o. IsIn i (QueueOf o)) h.1 j))
     queue_grows u (inr h) = λ i j. subst (λ o. IsIn i (QueueOf o)) (sym h) j
 
-    stands_grow : (l : Lane) (i : Item) → IsIn i (stands_at script honest Vats Links l) → IsIn i (stands_at script honest Vats' Links' l)
+    pub stands_grow : (l : Lane) (i : Item) → IsIn i (stands_at script honest Vats Links l) → IsIn i (stands_at script honest Vats' Links' l)
     unfolding stands_at
     stands_grow (Queue u) i j = queue_grows u (at_vat u) i j
     stands_grow (Held u n) i j = held_grows u n (at_vat u) i j
@@ -180,8 +180,8 @@ module _ (script : Script) (honest : ℕ → Bool) (w : World) (v : ℕ) (s t : 
   grows : Grows (ways script honest (amid v s w)) (ways script honest (amid v t w))
   unfolding ways ways_of amid
   grows = record {
-    stands = λ l i j. stands_grow script honest w.vats (world.push_all v s.outbox w.links) (world.push_all v t.outbox w.links) grow_there v s t g.alike g.queue l i j;
-    onward = λ l n. inl (onward_same script honest w.vats (world.push_all v s.outbox w.links) (world.push_all v t.outbox w.links) grow_there v s t g.alike l n);
+    stands = λ l i j. stands_grow script honest w.vats (world.push_all v s.outbox w.links) (world.push_all v t.outbox w.links) grow_there v s t (refers_same script honest v s t g.alike) g.queue l i j;
+    onward = λ l n. inl (onward_same script honest w.vats (world.push_all v s.outbox w.links) (world.push_all v t.outbox w.links) grow_there v s t (refers_same script honest v s t g.alike) l n);
   }
 
 pub adding_grows : AddingGrows
@@ -200,8 +200,8 @@ put_same (r ∷ ss) zero s e = ap (λ q. q ∷ ss) (sym (some_same r s e))
 put_same (r ∷ ss) (suc v) s e = ap (λ q. r ∷ q) (put_same ss v s e)
 
 -- from s to a state in which the vat refers to nothing else
-module _ (script : Script) (honest : ℕ → Bool) (v : ℕ) (s t : Vat Name) (vs : List (Vat Name)) (ls : List Link) (there : RefersAlike (names script v) s t) (back : RefersAlike (names script v) t s) (into : Within (queued s.queue) (queued t.queue)) (from : Within (queued t.queue) (queued s.queue)) where
-  same_between : SameWays (ways_of script honest (world.put_at v s vs) ls) (ways_of script honest (world.put_at v t vs) ls)
+module _ (script : Script) (honest : ℕ → Bool) (v : ℕ) (s t : Vat Name) (vs : List (Vat Name)) (ls : List Link) (there : RefersSame script honest v s t) (back : RefersSame script honest v t s) (into : Within (queued s.queue) (queued t.queue)) (from : Within (queued t.queue) (queued s.queue)) where
+  pub same_between : SameWays (ways_of script honest (world.put_at v s vs) ls) (ways_of script honest (world.put_at v t vs) ls)
   unfolding ways_of
   same_between = (
     λ l. (λ i j. stands_grow script honest vs ls ls (all_same ls) v s t there into l i j, λ i j. stands_grow script honest vs ls ls (all_same ls) v t s back from l i j),
@@ -218,7 +218,7 @@ ready_back script w v s = record { number = refl; gifts = refl; noticed = refl; 
 
 begins_in : (script : Script) (honest : ℕ → Bool) (w : World) (v : ℕ) (s : Vat Name) → SameWays (ways_of script honest (world.put_at v s w.vats) w.links) (ways_of script honest (world.put_at v (world.readied w s) w.vats) w.links)
 unfolding world.readied
-begins_in script honest w v s = same_between script honest v s (world.readied w s) w.vats w.links (ready_there script w v s) (ready_back script w v s) (λ i h. h) (λ i h. h)
+begins_in script honest w v s = same_between script honest v s (world.readied w s) w.vats w.links (refers_same script honest v s (world.readied w s) (ready_there script w v s)) (refers_same script honest v (world.readied w s) s (ready_back script w v s)) (λ i h. h) (λ i h. h)
 
 pub beginning_changes_no_way : BeginningChangesNoWay
 unfolding ways amid world.readied world.push_all
@@ -255,14 +255,14 @@ module _ (script : Script) (honest : ℕ → Bool) (w : World) (v : ℕ) (s : Va
   left_lane : (l : Lane) (i : Item) → IsIn i (stands_at script honest (world.put_at v s w.vats) Pushed l) → Left l i
   unfolding stands_at
   left_lane (Queue u) i j = left_queue u i (put_either v s Taken w.vats u) j
-  left_lane (Held u p) i j = inl (held_grows script honest w.vats Pushed Pushed (all_same Pushed) v s Taken taken_there u p (put_either v s Taken w.vats u) i j)
+  left_lane (Held u p) i j = inl (held_grows script honest w.vats Pushed Pushed (all_same Pushed) v s Taken (refers_same script honest v s Taken taken_there) u p (put_either v s Taken w.vats u) i j)
   left_lane (Way a b) i j = inl j
 
   is_taken : IsTaken (ways script honest (amid v s w)) (ways script honest (amid v Taken w)) v (record { mail = m.id; aim = n })
   unfolding ways ways_of amid
   is_taken = record {
-    leaves = record { stands = λ l i j. left_lane l i j; links = λ a b k. onward_same script honest w.vats Pushed Pushed (all_same Pushed) v s Taken taken_there (Way a b) k };
-    lanes = λ l k. onward_same script honest w.vats Pushed Pushed (all_same Pushed) v s Taken taken_there l k;
+    leaves = record { stands = λ l i j. left_lane l i j; links = λ a b k. onward_same script honest w.vats Pushed Pushed (all_same Pushed) v s Taken (refers_same script honest v s Taken taken_there) (Way a b) k };
+    lanes = λ l k. onward_same script honest w.vats Pushed Pushed (all_same Pushed) v s Taken (refers_same script honest v s Taken taken_there) l k;
   }
 
 pub first_is_taken : FirstIsTaken

@@ -82,7 +82,7 @@ aimed v y (Gone p) = Nowhere
 
 -- a name that the vat does not know yet, as it will be when it is learnt
 unfoldable pub by_host : ℕ → Vat Name → Name → ℕ → Place
-by_host v s n h = elim (is_in h s.noticed) [ true ↦ Nowhere | false ↦ elim (h == v) [ true ↦ End (Held v n) n | false ↦ End (Way v h) n ] ]
+by_host v s n h = elim (is_in h s.noticed) [ true ↦ Nowhere | false ↦ elim (v == h) [ true ↦ End (Held v n) n | false ↦ End (Way v h) n ] ]
 
 module _ (script : Script) (honest : ℕ → Bool) where
   -- Only of links between honest vats is anything said.
