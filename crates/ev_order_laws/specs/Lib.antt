@@ -1,0 +1,7 @@
+pub mod Ways
+pub mod Changes
+pub mod Turns
+pub mod Order
+pub mod Example
+pub mod Places
+pub mod Worlds

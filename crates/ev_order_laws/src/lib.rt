@@ -1,0 +1,4 @@
+//! Laws of the machine about the order in which messages are delivered.
+#![tactic(auto)]
+
+pub mod order;
