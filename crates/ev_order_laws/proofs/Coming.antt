@@ -270,3 +270,89 @@ module _ (script : Script) (honest : ℕ → Bool) (v : ℕ) (s : Vat Name) (n :
 
   by_follow_object : (m : Name) → IsObject m → by_follow script honest v T (Ref m) ≡ by_follow script honest v s (Ref m)
   by_follow_object m i = by_follow_fixed m (subst (IsFixed K s) (sym (object_fixed m i)) (inl i))
+
+  by_follow_data : (x : Value Name) → ((m : Name) → x ≡ Ref m → ⊥) → by_follow script honest v T x ≡ by_follow script honest v s x
+  unfolding by_follow refs.follow refs.follow_at refs.severed refs.place aimed
+  by_follow_data (Ref m) h = absurd (h m refl)
+  by_follow_data Null h = refl
+  by_follow_data (Flag b) h = refl
+  by_follow_data (Number z) h = refl
+  by_follow_data (Letter c) h = refl
+  by_follow_data (Text p) h = refl
+  by_follow_data (Prim k) h = refl
+  by_follow_data (Broken p) h = refl
+  by_follow_data (Items k) h = refl
+
+  of_some : (r : Vat Name) (m : Name) (k : Known Name) → of_name script honest v r m (Some k) ≡ by_follow script honest v r (Ref m)
+  unfolding of_name
+  of_some r (Root h) k = refl
+  of_some r (Object h i) k = refl
+  of_some r (Promise h i) k = refl
+  of_some r (Answer h a) k = refl
+  of_some r (Gift h i) k = refl
+  of_some r (Sent a) k = refl
+
+  of_object : (r : Vat Name) (m : Name) (o : Option (Known Name)) → IsObject m → of_name script honest v r m o ≡ by_follow script honest v r (Ref m)
+  unfolding of_name
+  of_object r (Object h i) o e = refl
+  of_object r (Root h) o e = absurd e
+  of_object r (Promise h i) o e = absurd e
+  of_object r (Answer h a) o e = absurd e
+  of_object r (Gift h i) o e = absurd e
+  of_object r (Sent a) o e = absurd e
+
+  of_none : (r : Vat Name) (m : Name) → (IsObject m → ⊥) → of_name script honest v r m None ≡ by_host v r m (host_of m)
+  unfolding of_name
+  of_none r (Object h i) e = absurd (e tt)
+  of_none r (Root h) e = refl
+  of_none r (Promise h i) e = refl
+  of_none r (Answer h a) e = refl
+  of_none r (Gift h i) e = refl
+  of_none r (Sent a) e = refl
+
+  spot_plain : (m : Name) → (IsObject m → ⊥) → K.spot m ≡ NoObject
+  unfolding names naming spot_of
+  spot_plain (Object h i) e = absurd (e tt)
+  spot_plain (Root h) e = refl
+  spot_plain (Promise h i) e = refl
+  spot_plain (Answer h a) e = refl
+  spot_plain (Gift h i) e = refl
+  spot_plain (Sent a) e = refl
+
+  is_object : (m : Name) → IsObject m ⊎ (IsObject m → ⊥)
+  is_object (Object h i) = inl tt
+  is_object (Root h) = inr (λ e. e)
+  is_object (Promise h i) = inr (λ e. e)
+  is_object (Answer h a) = inr (λ e. e)
+  is_object (Gift h i) = inr (λ e. e)
+  is_object (Sent a) = inr (λ e. e)
+
+  module _ (here : s.number ≡ v) where
+    -- a name that is followed to itself, and has that host
+    new_follow : (m : Name) (h : ℕ) → (IsObject m → ⊥) → refs.standing_of K T.known m ≡ Unsettled → refs.host_at K s.number T.known m ≡ h → refs.follow K T (Ref m) ≡ elim (is_in h s.noticed) [ true ↦ Broken (codes "partition") | false ↦ Ref m ]
+    unfolding refs.follow refs.follow_at refs.severed refs.severed_at refs.severed_by
+    new_follow m h e f i =
+        ap (λ y. refs.severed K T y) (waits_here K (λ y. refs.follow_at K (length T.known) T.known y) m (refs.standing_of K T.known m) (subst IsWaiting (sym f) tt))
+        ∙ ap (λ p. refs.severed_at K T m p) (spot_plain m e)
+        ∙ ap (λ g. elim (is_in g s.noticed) [ true ↦ Broken (codes "partition") | false ↦ Ref m ]) i
+
+    new_place : (m : Name) (h : ℕ) → (IsObject m → ⊥) → refs.host_at K s.number T.known m ≡ h → refs.place K T (Ref m) ≡ elim (v == h) [ true ↦ Mine m | false ↦ Away h m false ]
+    unfolding refs.place refs.spotted refs.hosted
+    new_place m h e i =
+        ap (λ p. refs.spotted K T m p) (spot_plain m e)
+        ∙ ap (λ g. elim (s.number == g) [ true ↦ Mine m | false ↦ Away g m false ]) i
+        ∙ ap (λ g. elim (g == h) [ true ↦ Mine m | false ↦ Away h m false ]) here
+
+    aimed_by : (m : Name) (h : ℕ) (c : Bool) → aimed v (Ref m) (elim c [ true ↦ Mine m | false ↦ Away h m false ]) ≡ elim c [ true ↦ End (Held v m) m | false ↦ End (Way v h) m ]
+    unfolding aimed
+    aimed_by m h true = refl
+    aimed_by m h false = refl
+
+    noticed_by : (m : Name) (h : ℕ) (c : Bool) → (IsObject m → ⊥) → refs.host_at K s.number T.known m ≡ h → aimed v (elim c [ true ↦ Broken (codes "partition") | false ↦ Ref m ]) (refs.place K T (elim c [ true ↦ Broken (codes "partition") | false ↦ Ref m ])) ≡ elim c [ true ↦ Nowhere | false ↦ elim (v == h) [ true ↦ End (Held v m) m | false ↦ End (Way v h) m ] ]
+    unfolding aimed refs.place
+    noticed_by m h true e i = refl
+    noticed_by m h false e i = ap (λ p. aimed v (Ref m) p) (new_place m h e i) ∙ aimed_by m h (v == h)
+
+    new_leads : (m : Name) (h : ℕ) → (IsObject m → ⊥) → refs.standing_of K T.known m ≡ Unsettled → refs.host_at K s.number T.known m ≡ h → by_follow script honest v T (Ref m) ≡ by_host v s m h
+    unfolding by_follow by_host
+    new_leads m h e f i = ap (λ y. aimed v y (refs.place K T y)) (new_follow m h e f i) ∙ noticed_by m h (is_in h s.noticed) e i
