@@ -7,11 +7,15 @@ use Rattle.ev_machine.specs.Refs as refs
 use Rattle.ev_machine.specs.Refs.{Near, Mine, Away, Gone}
 use Rattle.ev_run.specs.World.{Script, World, names}
 use Rattle.ev_run.specs.World as world
-use Rattle.ev_order_laws.specs.Ways.{Place, Nowhere, End, Held, Way, IsIn}
+use Rattle.ev_order_laws.specs.Ways.{Nowhere, End, Held, Way, IsIn}
 use Rattle.ev_order_laws.specs.Turns.{Within}
-use Rattle.ev_order_laws.specs.Places.{held_in, aimed, by_host, by_follow, of_name, leads_in}
-use Rattle.ev_order_laws.specs.Worlds.{IsWaiting, IsObject, IsKnown, IsFixed, FollowsEnd}
+use Rattle.ev_order_laws.specs.Places.{held_in, aimed, by_host, by_follow, of_name, leads_in, ways_of, ways, amid}
+use Rattle.ev_order_laws.specs.Worlds.{IsWaiting, IsObject, IsFixed, FollowsEnd, ComingGrows}
+use Rattle.ev_order_laws.specs.Changes.{Grows}
 use Rattle.ev_order_laws.proofs.Sends.{none_some}
+use Rattle.ev_order_laws.proofs.Adding.{RefersSame}
+use Rattle.ev_order_laws.proofs.Pushing.{all_same}
+use Rattle.ev_order_laws.proofs.Amid.{stands_grow, onward_same}
 
 length_more : {A : Type 0} (xs : List A) (x : A) → length (xs ++ x ∷ []) ≡ suc (length xs)
 length_more [] x = refl
@@ -115,6 +119,17 @@ module _ (K : Naming Name Name) where
   further ks (suc d) (Prim k) h = refl
   further ks (suc d) (Broken p) h = refl
   further ks (suc d) (Items k) h = refl
+
+abbrev IsData : Value Name → Type 0
+IsData (Ref n) = ⊥
+IsData Null = Unit {0}
+IsData (Flag b) = Unit {0}
+IsData (Number z) = Unit {0}
+IsData (Letter c) = Unit {0}
+IsData (Text p) = Unit {0}
+IsData (Prim k) = Unit {0}
+IsData (Broken p) = Unit {0}
+IsData (Items k) = Unit {0}
 
 abbrev IsTrue' : Bool → Type 0
 IsTrue' true = Unit {0}
@@ -356,3 +371,68 @@ module _ (script : Script) (honest : ℕ → Bool) (v : ℕ) (s : Vat Name) (n :
     new_leads : (m : Name) (h : ℕ) → (IsObject m → ⊥) → refs.standing_of K T.known m ≡ Unsettled → refs.host_at K s.number T.known m ≡ h → by_follow script honest v T (Ref m) ≡ by_host v s m h
     unfolding by_follow by_host
     new_leads m h e f i = ap (λ y. aimed v y (refs.place K T y)) (new_follow m h e f i) ∙ noticed_by m h (is_in h s.noticed) e i
+
+    abbrev New : Known Name
+    New = begun n (host_of n)
+
+    entry_new : (m : Name) → refs.entry_of K s.known m ≡ None → refs.entry_of K T.known m ≡ Or (K.same n m) New None
+    unfolding refs.entry_of begun
+    entry_new m e = new_entry K s.known New m e
+
+    standing_new : (m : Name) → refs.entry_of K s.known m ≡ None → refs.standing_of K T.known m ≡ Unsettled
+    unfolding refs.standing_of refs.standing_in
+    standing_new m e = standing m ∙ ap (λ o. refs.standing_in o) e
+
+    host_new : (m : Name) → refs.entry_of K s.known m ≡ None → K.same n m ≡ true → refs.host_at K s.number T.known m ≡ host_of m
+    unfolding refs.host_at refs.host_in names naming begun
+    host_new m e q = ap (λ o. refs.host_in s.number o) (entry_new m e ∙ ap (λ c. Or c New None) q) ∙ same_host n m q
+
+    by_host_same : (m : Name) (h : ℕ) → by_host v T m h ≡ by_host v s m h
+    unfolding by_host
+    by_host_same m h = refl
+
+    unknown_by : (m : Name) → (IsObject m → ⊥) → refs.entry_of K s.known m ≡ None → (c : Bool) → K.same n m ≡ c → of_name script honest v T m (Or c New None) ≡ by_host v s m (host_of m)
+    unknown_by m o e true q = of_some T m New ∙ new_leads m (host_of m) o (standing_new m e) (host_new m e q)
+    unknown_by m o e false q = of_none T m o ∙ by_host_same m (host_of m)
+
+    leads_by_entry : (m : Name) (p : Option (Known Name)) → refs.entry_of K s.known m ≡ p → IsObject m ⊎ (IsObject m → ⊥) → of_name script honest v T m (refs.entry_of K T.known m) ≡ of_name script honest v s m p
+    leads_by_entry m p e (inl i) = of_object T m (refs.entry_of K T.known m) i ∙ by_follow_object m i ∙ sym (of_object s m p i)
+    leads_by_entry m (Some k) e (inr i) =
+        ap (λ o. of_name script honest v T m o) (old_entry K s.known New k m e)
+        ∙ of_some T m k
+        ∙ by_follow_fixed m (g.fixed m (k, e))
+        ∙ sym (of_some s m k)
+    leads_by_entry m None e (inr i) =
+        ap (λ o. of_name script honest v T m o) (entry_new m e)
+        ∙ unknown_by m i e (K.same n m) refl
+        ∙ sym (of_none s m i)
+
+    leading : (x : Value Name) → leads_in script honest v T x ≡ leads_in script honest v s x
+    unfolding leads_in
+    leading (Ref m) = leads_by_entry m (refs.entry_of K s.known m) refl (is_object m)
+    leading Null = by_follow_data Null (λ m e. subst IsData e tt)
+    leading (Flag b) = by_follow_data (Flag b) (λ m e. subst IsData e tt)
+    leading (Number z) = by_follow_data (Number z) (λ m e. subst IsData e tt)
+    leading (Letter c) = by_follow_data (Letter c) (λ m e. subst IsData e tt)
+    leading (Text p) = by_follow_data (Text p) (λ m e. subst IsData e tt)
+    leading (Prim k) = by_follow_data (Prim k) (λ m e. subst IsData e tt)
+    leading (Broken p) = by_follow_data (Broken p) (λ m e. subst IsData e tt)
+    leading (Items k) = by_follow_data (Items k) (λ m e. subst IsData e tt)
+
+    holding_by : (m : Name) (p : Option (Known Name)) → refs.entry_of K s.known m ≡ p → Within (held_in m p) (held_in m (refs.entry_of K T.known m))
+    unfolding held_in
+    holding_by m None e = λ i h. absurd h
+    holding_by m (Some k) e = λ i h. subst (λ o. IsIn i (held_in m o)) (sym (old_entry K s.known New k m e)) h
+
+    comes_same : RefersSame script honest v s T
+    comes_same = record { leading = λ x. leading x; gifts = refl; standing = λ m. standing m; holding = λ m. holding_by m (refs.entry_of K s.known m) refl }
+
+    coming : (w : World) → Grows (ways script honest (amid v s w)) (ways script honest (amid v T w))
+    unfolding ways ways_of amid
+    coming w = let ls = world.push_all v s.outbox w.links in record {
+      stands = λ l i j. stands_grow script honest w.vats ls ls (all_same ls) v s T comes_same (λ q h. h) l i j;
+      onward = λ l m. inl (onward_same script honest w.vats ls ls (all_same ls) v s T comes_same l m);
+    }
+
+pub coming_grows : ComingGrows
+coming_grows = λ script honest w v s n g here no e. coming script honest v s n g no here w
