@@ -7,3 +7,4 @@ pub mod Pushing
 pub mod Adding
 pub mod Amid
 pub mod Waits
+pub mod Coming

@@ -1,8 +1,8 @@
 -- What is ahead in worlds.
-use Rattle.std.specs.Prelude.{◌≡◌, ℕ, Bool, true, List, [], ◌∷◌, ◌++◌, Option, Some, None, length, slice_get}
-use Rattle.ev_machine.specs.Values.{Value, Ref, Name, Naming}
-use Rattle.ev_machine.specs.State.{Message, Standing, Unsettled, WaitsOn, Viewed, Settled, Known, Note, Deliver, Open, Ask, SettledTo, Elsewhere, Shorten, Put, Vat, Done, Gives, Throws, Ejects, Stops}
-use Rattle.ev_machine.specs.Refs.{entry_of, place, Mine, Away, Settler, send_to}
+use Rattle.std.specs.Prelude.{◌≡◌, ℕ, Bool, true, List, [], ◌∷◌, ◌++◌, Option, Some, None, suc, length, slice_get, ◌⊎◌}
+use Rattle.ev_machine.specs.Values.{Value, Null, Flag, Number, Letter, Text, Prim, Broken, Items, Ref, Name, Root, Object, Promise, Answer, Gift, Sent, Naming, host_of}
+use Rattle.ev_machine.specs.State.{Message, Standing, Unsettled, WaitsOn, Viewed, Settled, Known, Note, Deliver, Open, Ask, SettledTo, Elsewhere, Shorten, Put, Vat, Done, Gives, Throws, Ejects, Stops, begun}
+use Rattle.ev_machine.specs.Refs.{entry_of, follow_at, place, Mine, Away, Settler, send_to}
 use Rattle.ev_run.specs.World.{Script, Event, World, names, readied}
 use Rattle.ev_order_laws.specs.Ways.{Lane, Queue, Mid, Ways, Doom, Ahead}
 use Rattle.ev_order_laws.specs.Changes.{Grows, IsTaken}
@@ -90,3 +90,39 @@ BeginningChangesNoWay = (script : Script) (honest : ℕ → Bool) (w : World) (v
 abbrev pub FirstIsTaken : Type 0
 FirstIsTaken = (script : Script) (honest : ℕ → Bool) (w : World) (v : ℕ) (s : Vat Name) (m : Message Name) (ms : List (Message Name)) (n : Name) → s.queue ≡ m ∷ ms → m.target ≡ Ref n
     → IsTaken (ways script honest (amid v s w)) (ways script honest (amid v (record s { queue = ms }) w)) v (record { mail = m.id; aim = n })
+
+-- ---- names that come to be known
+
+abbrev pub IsObject : Name → Type 0
+IsObject (Object h i) = Unit {0}
+IsObject (Root h) = ⊥
+IsObject (Promise h i) = ⊥
+IsObject (Answer h m) = ⊥
+IsObject (Gift h i) = ⊥
+IsObject (Sent m) = ⊥
+
+module _ (K : Naming Name Name) (s : Vat Name) where
+  abbrev pub IsKnown : Name → Type 0
+  IsKnown n = (k : Known Name) × (entry_of K s.known n ≡ Some k)
+
+  -- data, an object, or a name that is known and waits
+  abbrev pub IsFixed : Value Name → Type 0
+  IsFixed (Ref n) = IsObject n ⊎ ((k : Known Name) × (entry_of K s.known n ≡ Some k) × IsWaiting k.standing)
+  IsFixed Null = Unit {0}
+  IsFixed (Flag b) = Unit {0}
+  IsFixed (Number z) = Unit {0}
+  IsFixed (Letter c) = Unit {0}
+  IsFixed (Text p) = Unit {0}
+  IsFixed (Prim k) = Unit {0}
+  IsFixed (Broken p) = Unit {0}
+  IsFixed (Items k) = Unit {0}
+
+  -- No object is among the names known, and what is known is followed to data, to an object, or to a name that is known and waits.
+  pub record FollowsEnd : Type 0 where
+    pub objects : (n : Name) → IsObject n → entry_of K s.known n ≡ None
+    pub fixed : (n : Name) → IsKnown n → IsFixed (follow_at K (suc (length s.known)) s.known (Ref n))
+
+-- As a name comes to be known with its host, the ways only grow: it led before to where it leads now.
+abbrev pub ComingGrows : Type 0
+ComingGrows = (script : Script) (honest : ℕ → Bool) (w : World) (v : ℕ) (s : Vat Name) (n : Name) → FollowsEnd (names script v) s → s.number ≡ v → (IsObject n → ⊥) → entry_of (names script v) s.known n ≡ None
+    → Grows (ways script honest (amid v s w)) (ways script honest (amid v (record s { known = s.known ++ begun n (host_of n) ∷ [] }) w))

@@ -3,7 +3,7 @@
 ghost use Rattle.ev_order_laws.specs.Changes.{GoingOnKeeps, GrowingKeeps, HeadsAreFree, LosingKeeps, SentIsAhead, TakingKeeps};
 ghost use Rattle.ev_order_laws.specs.Example.{FirstIsAhead, HeldOrder, PassedOrder, PlacesAreTold};
 ghost use Rattle.ev_order_laws.specs.Turns.{CuttingKeeps, NoticingKeeps, PassingByKeeps, TurningKeeps};
-ghost use Rattle.ev_order_laws.specs.Worlds.{AddingGrows, BeginningChangesNoWay, FirstIsTaken, IdleChangesNoWay, QueuesAreFree, SentMessagesAreAhead};
+ghost use Rattle.ev_order_laws.specs.Worlds.{AddingGrows, BeginningChangesNoWay, ComingGrows, FirstIsTaken, IdleChangesNoWay, QueuesAreFree, SentMessagesAreAhead};
 
 /// Nothing is ahead of what stands first in a queue, and it is not doomed. So where each message that
 /// is to be taken before another, and is neither taken nor lost, is ahead of it, the other is taken
@@ -142,4 +142,14 @@ pub fn places_are_told()
 /// So the other message is ahead of it in that world.
 pub fn first_is_ahead()
     ensures { FirstIsAhead }
+{}
+
+/// In the middle of a step the ways only grow as a name comes to be known with its host: what was sent on it
+/// would have stood there before. So by `growing_keeps` what is ahead stays ahead.
+///
+/// It asks that the vat has its own number, that the name is no object and was not known, that no object is
+/// among the names known, and that what is known is followed to data, to an object, or to a name that is
+/// known and waits.
+pub fn coming_grows()
+    ensures { ComingGrows }
 {}
