@@ -3,6 +3,7 @@
 
 pub mod built;
 pub mod evaluate;
+mod natives;
 mod nodes;
 pub mod pattern;
 pub mod turn;
