@@ -10,6 +10,3 @@ pub mod turn;
 
 pub use built::is_built;
 pub use turn::{Ended, Start, new_heap, run_turn};
-
-#[cfg(test)]
-mod tests;

@@ -21,6 +21,3 @@ pub use natives::RefReply;
 pub use refs::Refs;
 pub use resolver::Resolution;
 pub use settle::Fault;
-
-#[cfg(test)]
-mod tests;

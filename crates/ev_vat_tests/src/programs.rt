@@ -1,7 +1,7 @@
-use crate::{RunEnd, run_program};
 use ev_base::Limits;
 use ev_eval::is_built;
 use ev_kernel::read_form;
+use ev_vat::{RunEnd, run_program};
 use std::alloc::Global;
 use std::test::Fail;
 

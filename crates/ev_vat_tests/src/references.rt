@@ -1,7 +1,7 @@
-use crate::{Message, Place, RefReply, Refs, Resolution};
 use ev_base::{ActId, MsgId, ObjId, PromId, Seq, Str, TextId, Value, VatId};
 use ev_heap::{Heap, Micro};
 use ev_prims::RefTest;
+use ev_refs::{Message, Place, RefReply, Refs, Resolution};
 use std::test::Fail;
 
 /// A message that is held at a promise goes on to the object to which that settles, and a promise that waits on it settles too.

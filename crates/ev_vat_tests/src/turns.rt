@@ -1,5 +1,5 @@
-use crate::{Ended, Start, is_built, new_heap, run_turn};
 use ev_base::{Limits, ObjId, TextId, Value};
+use ev_eval::{Ended, Start, is_built, new_heap, run_turn};
 use ev_heap::Micro;
 use ev_kernel::read_form;
 use std::alloc::Global;
