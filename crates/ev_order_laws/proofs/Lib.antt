@@ -8,3 +8,7 @@ pub mod Adding
 pub mod Amid
 pub mod Waits
 pub mod Coming
+pub mod Named
+pub mod Settled
+pub mod Passing
+pub mod Settling

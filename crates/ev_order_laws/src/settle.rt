@@ -1,0 +1,33 @@
+//! What is ahead stays ahead as names settle.
+
+ghost use Rattle.ev_order_laws.specs.Settle.{SendingOnKeeps, SettledIsPassed, SettlingKeeps};
+
+/// What is ahead stays ahead, and what is doomed stays doomed, where what a name held is sent on: each
+/// message that stood there is ahead of the place to which that lane leads.
+///
+/// Else messages may come to the ends of lanes, and a lane may lead on of which nothing was said.
+pub fn sending_on_keeps()
+    ensures { SendingOnKeeps }
+{}
+
+/// As a name settles that holds no message and leads to the place of what it settles to, it is passed by:
+/// each reference to it leads to that place, and so does each name that waits for it. All other
+/// references lead where they led, in every vat.
+///
+/// It asks that the name is a promise of the vat itself, which did not notice itself, that it settles to
+/// data or to an object, and that what is known afterwards is followed to data, to an object, or to a
+/// name that is known and waits.
+pub fn settled_names_are_passed()
+    ensures { SettledIsPassed }
+{}
+
+/// What is ahead stays ahead, and what is doomed stays doomed, as what a name held is sent on and the name
+/// settles: each place stays, but what would have been held for the name goes to the place of what it
+/// settled to.
+///
+/// It is said of the three states between which that happens, the second as if the name had not settled
+/// yet. It asks what `settled_names_are_passed` asks, and that nothing was said of where the name led,
+/// or that it led there already, or that no object takes what is sent there.
+pub fn settling_keeps()
+    ensures { SettlingKeeps }
+{}
