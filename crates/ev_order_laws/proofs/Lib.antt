@@ -12,3 +12,4 @@ pub mod Named
 pub mod Settled
 pub mod Passing
 pub mod Settling
+pub mod Onward

@@ -473,6 +473,10 @@ module _ (script : Script) (honest : ℕ → Bool) (v : ℕ) (s t : Vat Name) (p
   pub settled_stands : refs.standing_of K t.known p ≡ Settled y
   settled_stands = stands K s t p y g.only g.plain g.ended g.follows
 
+  pub follows_settled : (d : ℕ) → refs.follow_at K (suc d) t.known (Ref p) ≡ y
+  unfolding refs.follow_at refs.led
+  follows_settled d = subst (λ q. refs.led K (λ z. refs.follow_at K d t.known z) p q ≡ y) (sym settled_stands) (ended_there K s t p y g.only g.plain g.ended g.follows d y g.ended)
+
   pub others_standing : (n : Name) → (n ≡ p → ⊥) → refs.standing_of K t.known n ≡ refs.standing_of K s.known n
   others_standing n i = go (g.only.others n)
     where

@@ -1,13 +1,13 @@
 -- What becomes of the ways as a name of a vat settles.
-use Rattle.std.specs.Prelude.{◌≡◌, ℕ, Bool, true, false, List, [], Option, Some, None, length, slice_get, ◌==◌, ◌&&◌, ◌⊎◌}
-use Rattle.ev_machine.specs.Values.{Value, Null, Flag, Number, Letter, Text, Prim, Broken, Items, Ref, Name, Naming, same_name}
-use Rattle.ev_machine.specs.State.{Settled, Known, Vat, is_in}
-use Rattle.ev_machine.specs.Refs.{entry_of, severed, place}
+use Rattle.std.specs.Prelude.{◌≡◌, ℕ, Bool, true, false, List, [], ◌∷◌, Option, Some, None, length, slice_get, ◌==◌, ◌&&◌, ◌⊎◌}
+use Rattle.ev_machine.specs.Values.{Value, Null, Flag, Number, Letter, Text, Prim, Broken, Items, Ref, Name, Naming, Spot, Own, Foreign, NoObject, same_name}
+use Rattle.ev_machine.specs.State.{Message, Settle, Settled, Known, Vat, each, with_change, is_in}
+use Rattle.ev_machine.specs.Refs.{Settler, entry_of, severed, place, send_on}
 use Rattle.ev_run.specs.World.{Script, World, names}
 use Rattle.ev_order_laws.specs.Ways.{Lane, Queue, Held, Way, Item, Place, Nowhere, Free, End, Mid, Ways, IsIn, IsOneWay, Doom, Ahead}
 use Rattle.ev_order_laws.specs.Turns.{Reroutes, IsPassed}
 use Rattle.ev_order_laws.specs.Places.{aimed, ways, amid}
-use Rattle.ev_order_laws.specs.Worlds.{IsWaiting, IsObject, StandsAlike, FollowsEnd}
+use Rattle.ev_order_laws.specs.Worlds.{IfGives, IsWaiting, IsObject, StandsAlike, FollowsEnd}
 
 -- ---- what a name of a vat holds goes elsewhere
 
@@ -113,6 +113,47 @@ SettlingKeeps = (script : Script) (honest : ℕ → Bool) (w : World) (v : ℕ) 
     → let e = aimed_at script v t y in IsReady (ways script honest (amid v s w)) v p e
     → SentOn (led_to (ways script honest (amid v s w)) v p e) (emptied (led_to (ways script honest (amid v m w)) v p e) v p) v p e
     → KeepsBy (ways script honest (amid v s w)) (ways script honest (amid v t w)) (passed_by v p e)
+
+-- ---- by the machine
+
+abbrev pub IsOwnSpot : Spot → Type 0
+IsOwnSpot (Own i) = Unit {0}
+IsOwnSpot (Foreign h) = ⊥
+IsOwnSpot NoObject = ⊥
+
+-- an object of the vat, or data that is not broken
+abbrev pub IsHere : Naming Name Name → Value Name → Type 0
+IsHere K (Ref n) = IsOwnSpot (K.spot n)
+IsHere K Null = Unit {0}
+IsHere K (Flag b) = Unit {0}
+IsHere K (Number z) = Unit {0}
+IsHere K (Letter c) = Unit {0}
+IsHere K (Text t) = Unit {0}
+IsHere K (Prim k) = Unit {0}
+IsHere K (Broken p) = ⊥
+IsHere K (Items k) = Unit {0}
+
+-- the vat with p settled to y
+abbrev pub settled_to : Naming Name Name → Vat Name → Name → Value Name → Vat Name
+settled_to K s p y = record s { known = with_change K (Settle y) p s.known }
+
+abbrev pub AllOn : Name → List (Message Name) → Type 0
+AllOn p [] = Unit {0}
+AllOn p (m ∷ ms) = (m.target ≡ Ref p) × AllOn p ms
+
+-- A name settles to data or to what is broken: all that it held is lost there, or comes to data. All that the name held is doomed with what was behind it, and all else stays as it was.
+abbrev pub SettlingToNothingKeeps : Type 0
+SettlingToNothingKeeps = (script : Script) (honest : ℕ → Bool) (w : World) (v : ℕ) (r s : Vat Name) (p : Name) (y : Value Name)
+    → slice_get w.vats v ≡ Some r → let t = settled_to (names script v) s p y in SettlesHere (names script v) s t p y v
+    → aimed_at script v t y ≡ Nowhere → IsReady (ways script honest (amid v s w)) v p (aimed_at script v t y)
+    → KeepsBy (ways script honest (amid v s w)) (ways script honest (amid v t w)) (passed_by v p (aimed_at script v t y))
+
+-- A name settles to an object of the vat, or to data that is not broken, and the messages that it held are sent on: what is ahead stays ahead, and what is doomed stays doomed.
+abbrev pub SettlingHereKeeps : Type 0
+SettlingHereKeeps = (script : Script) (honest : ℕ → Bool) (w : World) (v : ℕ) (r s : Vat Name) (p : Name) (y : Value Name) (k : Known Name) (settle : Settler {N = Name} {W = Name} (names script v))
+    → slice_get w.vats v ≡ Some r → let t = settled_to (names script v) s p y in SettlesHere (names script v) s t p y v
+    → entry_of (names script v) s.known p ≡ Some k → AllOn p k.held → IsHere (names script v) y → IsReady (ways script honest (amid v s w)) v p (aimed_at script v t y)
+    → IfGives (λ z. KeepsBy (ways script honest (amid v s w)) (ways script honest (amid v z w)) (passed_by v p (aimed_at script v t y))) (each (send_on (names script v) settle) k.held t)
 
 -- opens the definitions of this file
 unfoldable pub opened_settle : Unit {0}

@@ -1,6 +1,6 @@
 //! What is ahead stays ahead as names settle.
 
-ghost use Rattle.ev_order_laws.specs.Settle.{SendingOnKeeps, SettledIsPassed, SettlingKeeps};
+ghost use Rattle.ev_order_laws.specs.Settle.{SendingOnKeeps, SettledIsPassed, SettlingHereKeeps, SettlingKeeps, SettlingToNothingKeeps};
 
 /// What is ahead stays ahead, and what is doomed stays doomed, where what a name held is sent on: each
 /// message that stood there is ahead of the place to which that lane leads.
@@ -30,4 +30,21 @@ pub fn settled_names_are_passed()
 /// or that it led there already, or that no object takes what is sent there.
 pub fn settling_keeps()
     ensures { SettlingKeeps }
+{}
+
+/// What is ahead stays ahead, and what is doomed stays doomed, as a name settles to what is nowhere: to data,
+/// or to what is broken. What it held is lost, or comes to data, and with it all that was behind it is
+/// doomed: so what one of these messages was ahead of is doomed.
+///
+/// It asks what `settling_keeps` asks.
+pub fn settling_to_nothing_keeps()
+    ensures { SettlingToNothingKeeps }
+{}
+
+/// What is ahead stays ahead, and what is doomed stays doomed, as a name settles to an object of its vat, or
+/// to data that is not broken, and the machine sends on the messages that it held.
+///
+/// It asks what `settling_keeps` asks, and that what the name held was sent on that name.
+pub fn settling_here_keeps()
+    ensures { SettlingHereKeeps }
 {}
