@@ -13,3 +13,4 @@ pub mod Settled
 pub mod Passing
 pub mod Settling
 pub mod Onward
+pub mod Whole

@@ -81,7 +81,7 @@ settling_to_nothing_keeps = λ script honest w v r s p y at g e ready. to_nothin
 
 -- ---- to what is here
 
-retargeted : Value Name → List (Message Name) → List (Message Name) → List (Message Name)
+pub retargeted : Value Name → List (Message Name) → List (Message Name) → List (Message Name)
 retargeted y q [] = q
 retargeted y q (m ∷ ms) = retargeted y (q ++ record m { target = y } ∷ []) ms
 
@@ -104,7 +104,7 @@ module _ (K : Naming Name Name) (settle : Settler {N = Name} {W = Name} K) (p : 
   unfolding refs.follow refs.severed refs.severed_at refs.severed_by refs.place refs.spotted
   still_here t q h = h
 
-  all_sent : (ms : List (Message Name)) (t : Vat Name) → AllOn p ms → LeadsHere t → state.each (refs.send_on K settle) ms t ≡ Gives tt (record t { queue = retargeted y t.queue ms })
+  pub all_sent : (ms : List (Message Name)) (t : Vat Name) → AllOn p ms → LeadsHere t → state.each (refs.send_on K settle) ms t ≡ Gives tt (record t { queue = retargeted y t.queue ms })
   unfolding state.each state.◌>>◌ state.and_then state.give retargeted
   all_sent [] t a h = refl
   all_sent (m ∷ ms) t a h = ap (λ d. state.and_then d (λ u. state.each (refs.send_on K settle) ms)) (one_sent m t a.0 h)
@@ -219,7 +219,7 @@ module _ (script : Script) (honest : ℕ → Bool) (w : World) (v : ℕ) (r s : 
   abbrev After : Vat Name
   After = record Then { queue = More }
 
-  leads_here : LeadsHere K (λ q z. state.give tt) p y Then
+  pub leads_here : LeadsHere K (λ q z. state.give tt) p y Then
   unfolding refs.follow
   leads_here = (ap (λ z. refs.severed K Then z) (follows_settled script honest v s Then p y g (length Then.known)) ∙ here_severed K Then y here, here_near K Then y here)
 
@@ -302,7 +302,7 @@ module _ (script : Script) (honest : ℕ → Bool) (w : World) (v : ℕ) (r s : 
   is_sent : (i : Item) → IsIn i (W.stands (Held v p)) → Ahead Gone i.mail Aim
   is_sent i h = subst (Ahead Gone i.mail) (sym aimed_here) (sent_by y refl i (held_before i h))
 
-  here_keeps : IsReady W v p Aim → KeepsBy W (ways script honest (amid v After w)) (passed_by v p Aim)
+  pub here_keeps : IsReady W v p Aim → KeepsBy W (ways script honest (amid v After w)) (passed_by v p Aim)
   here_keeps ready = subst (λ c. IsReady W v p c → SentOn (led_to W v p c) (emptied (led_to U v p c) v p) v p c → KeepsBy W (ways script honest (amid v After w)) (passed_by v p c)) aimed_after
       (λ a b. settling_keeps script honest w v r s Between After p y at settles_after a b)
       ready (lets_go W U v p Aim grown_then onward_then is_sent)

@@ -6,3 +6,4 @@ pub mod Example
 pub mod Places
 pub mod Worlds
 pub mod Settle
+pub mod Settlings

@@ -1,6 +1,7 @@
 //! What is ahead stays ahead as names settle.
 
 ghost use Rattle.ev_order_laws.specs.Settle.{SendingOnKeeps, SettledIsPassed, SettlingHereKeeps, SettlingKeeps, SettlingToNothingKeeps};
+ghost use Rattle.ev_order_laws.specs.Settlings.{SettlingsKeep};
 
 /// What is ahead stays ahead, and what is doomed stays doomed, where what a name held is sent on: each
 /// message that stood there is ahead of the place to which that lane leads.
@@ -47,4 +48,17 @@ pub fn settling_to_nothing_keeps()
 /// It asks what `settling_keeps` asks, and that what the name held was sent on that name.
 pub fn settling_here_keeps()
     ensures { SettlingHereKeeps }
+{}
+
+/// What is ahead stays ahead, and what is doomed stays doomed, through a whole settling as the machine does it,
+/// in the middle of a step: the held messages are sent on, then the names that wait settle, then the
+/// reactions are queued, then the vats that are to be told are told; and where a message is lost its
+/// answer settles. Each reference of the vat leads from then on to where the place of old went.
+///
+/// It is said of settlings to an object of the vat, to data but lists, and to what is broken. It asks of
+/// each name that settles in it, in the state in which it does, what `settling_keeps` asks, and that
+/// what it held was sent on it; and that the name is followed to what it settled to when the vats are
+/// told, as is the target of each message that is lost.
+pub fn settlings_keep()
+    ensures { SettlingsKeep }
 {}
