@@ -14,3 +14,5 @@ pub mod Passing
 pub mod Settling
 pub mod Onward
 pub mod Whole
+pub mod Loose
+pub mod Resolving

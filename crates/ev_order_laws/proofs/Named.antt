@@ -30,7 +30,7 @@ two_is f w u i j e = let h = both (w == u) (i == j) e in ap (λ x. f x i) (eqb-t
 two_same : (w i : ℕ) → ((w == w) && (i == i)) ≡ true
 two_same w i = and_true (w == w) (i == i) (eq-eqb w w refl) (eq-eqb i i refl)
 
-same_is : (a b : Name) → same_name a b ≡ true → a ≡ b
+pub same_is : (a b : Name) → same_name a b ≡ true → a ≡ b
 unfolding same_name
 same_is (Root w) (Root u) e = ap Root (eqb-true w u e)
 same_is (Object w i) (Object u j) e = two_is Object w u i j e

@@ -1,5 +1,5 @@
 -- What a name held is sent on as it settles, by the machine.
-use Rattle.std.proofs.Common.{◌≡◌, ℕ, zero, suc, Bool, true, false, List, [], ◌∷◌, ◌++◌, Option, Some, None, length, refl, sym, ap, subst, ◌∙◌, ◌⊎◌, inl, inr}
+use Rattle.std.proofs.Common.{◌≡◌, ℕ, Bool, true, false, List, [], ◌∷◌, ◌++◌, Option, Some, None, length, refl, sym, ap, subst, ◌∙◌, ◌⊎◌, inl, inr}
 use Rattle.std.specs.Prelude.{slice_get}
 use Rattle.ev_machine.specs.Values.{Value, Null, Flag, Number, Letter, Text, Prim, Broken, Items, Ref, Name, Naming, Spot, Own, Foreign, NoObject}
 use Rattle.ev_machine.specs.State.{Message, Known, Vat, Done, Gives, Settle}
@@ -8,16 +8,16 @@ use Rattle.ev_machine.specs.Refs as refs
 use Rattle.ev_machine.specs.Refs.{Settler, Near}
 use Rattle.ev_run.specs.World.{Script, Link, World, names}
 use Rattle.ev_run.specs.World as world
-use Rattle.ev_order_laws.specs.Ways.{Lane, Queue, Held, Way, Item, Place, Nowhere, Free, End, Mid, Ways, IsIn, Doom, nowhere, alike, Ahead, doomed_there, in_end}
+use Rattle.ev_order_laws.specs.Ways.{Lane, Queue, Held, Way, Item, Place, Nowhere, Ways, IsIn, nowhere, alike, Ahead, doomed_there, in_end}
 use Rattle.ev_order_laws.specs.Turns.{Within}
-use Rattle.ev_order_laws.specs.Places.{item, queued, held_on, held_in, aimed, stands_at, onward_at, ways_of, ways, amid}
-use Rattle.ev_order_laws.specs.Worlds.{IfGives, IsWaiting, RefersAlike, StandsAlike}
-use Rattle.ev_order_laws.specs.Settle.{passed_by, onward_to, led_to, without, emptied, KeepsBy, SentOn, OnlySettles, SettlesHere, aimed_at, IsReady, settled_to, AllOn, IsHere, IsOwnSpot, SettlingToNothingKeeps, SettlingHereKeeps}
+use Rattle.ev_order_laws.specs.Places.{item, queued, held_on, held_in, aimed, stands_at, ways_of, ways, amid}
+use Rattle.ev_order_laws.specs.Worlds.{IfGives, RefersAlike, StandsAlike}
+use Rattle.ev_order_laws.specs.Settle.{passed_by, onward_to, led_to, without, emptied, KeepsBy, SentOn, SettlesHere, aimed_at, IsReady, settled_to, AllOn, IsHere, IsOwnSpot, SettlingToNothingKeeps, SettlingHereKeeps}
 use Rattle.ev_order_laws.proofs.Adding.{RefersSame, refers_same}
 use Rattle.ev_order_laws.proofs.Pushing.{all_same}
 use Rattle.ev_order_laws.proofs.Amid.{stands_grow, onward_same}
 use Rattle.ev_order_laws.proofs.Named.{Test, test_self, test_is}
-use Rattle.ev_order_laws.proofs.Sends.{get_put, some_same}
+use Rattle.ev_order_laws.proofs.Sends.{get_put}
 use Rattle.ev_order_laws.proofs.Settled.{follows_settled}
 use Rattle.ev_order_laws.proofs.Settling.{settling_keeps}
 

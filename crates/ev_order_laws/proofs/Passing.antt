@@ -1,19 +1,19 @@
 -- As a name that holds no message settles, it is passed by.
 use Rattle.std.proofs.Common.{◌≡◌, ℕ, zero, suc, Bool, true, false, List, [], ◌∷◌, ◌++◌, Option, Some, None, refl, sym, ap, subst, ◌∙◌, ◌⊎◌, inl, inr}
 use Rattle.std.specs.Prelude.{slice_get, not, ◌==◌, ◌&&◌}
-use Rattle.ev_machine.specs.Values.{Value, Ref, Name, Root, Object, Promise, Answer, Gift, Sent, same_name}
+use Rattle.ev_machine.specs.Values.{Value, Ref, Name, Root, Object, Promise, Answer, Gift, Sent}
 use Rattle.ev_machine.specs.State.{Standing, Unsettled, WaitsOn, Viewed, Settled, Known, Note, Vat, GiftEntry}
 use Rattle.ev_machine.specs.Refs as refs
 use Rattle.ev_run.specs.World.{Script, Link, World, names}
 use Rattle.ev_run.specs.World as world
-use Rattle.ev_order_laws.specs.Ways.{Lane, Queue, Held, Way, Item, Place, Nowhere, Free, End, Mid, IsIn}
+use Rattle.ev_order_laws.specs.Ways.{Lane, Queue, Held, Way, Item, Place, Nowhere, Free, End, IsIn}
 use Rattle.ev_order_laws.specs.Turns.{Within, IsPassed}
-use Rattle.ev_order_laws.specs.Places.{queued, held_in, held_on, delivered, subject, in_lane, note_place, first_place, or_never, open_place, shorten_place, was_put, gift_place, opens, shortens, opened_there, is_honest, leads_in, leads_at, leads, unsettled, released, released_at, stands_at, over, onward_at, ways_of, ways, amid}
+use Rattle.ev_order_laws.specs.Places.{queued, held_in, delivered, subject, in_lane, note_place, first_place, or_never, open_place, shorten_place, was_put, gift_place, opens, shortens, opened_there, is_honest, leads_in, leads_at, leads, unsettled, released, released_at, stands_at, over, onward_at, ways_of, ways, amid}
 use Rattle.ev_order_laws.specs.Worlds.{StandsAlike}
 use Rattle.ev_order_laws.specs.Settle.{passed_by, onward_to, led_to, without, emptied, SettlesHere, aimed_at, SettledIsPassed}
 use Rattle.ev_order_laws.proofs.Named.{Test, test_self, test_is, passes_here, passes_other, passes_queue, passes_way, passes_mid, passes_nowhere, passes_free}
 use Rattle.ev_order_laws.proofs.Settled.{far_stays, leads_on, settled_leads, settled_stands, settled_definite, settled_stays, others_standing}
-use Rattle.ev_order_laws.proofs.Sends.{none_some, some_same, get_put}
+use Rattle.ev_order_laws.proofs.Sends.{get_put}
 
 -- ---- notes that let gifts go stand where they stood
 
@@ -84,7 +84,7 @@ module _ (v : ℕ) (p : Name) (e : Place) where
       waiting_stays u (Sent m) gs = passes_free v p e
 
 -- it does not hang on the vats
-waiting_same : (script : Script) (honest : ℕ → Bool) (vs rs : List (Vat Name)) (ls : List Link) (u : ℕ) (n : Name) (gs : List (GiftEntry Name)) → unsettled script honest vs ls u n gs ≡ unsettled script honest rs ls u n gs
+pub waiting_same : (script : Script) (honest : ℕ → Bool) (vs rs : List (Vat Name)) (ls : List Link) (u : ℕ) (n : Name) (gs : List (GiftEntry Name)) → unsettled script honest vs ls u n gs ≡ unsettled script honest rs ls u n gs
 unfolding unsettled
 waiting_same script honest vs rs ls u (Gift h i) gs = refl
 waiting_same script honest vs rs ls u (Root h) gs = refl
@@ -96,7 +96,7 @@ waiting_same script honest vs rs ls u (Sent m) gs = refl
 -- ---- vats that are found
 
 -- it is that vat, or another, or there is none
-data Found (v : ℕ) (s t : Vat Name) (vs : List (Vat Name)) (u : ℕ) : Type 0 where
+pub data Found (v : ℕ) (s t : Vat Name) (vs : List (Vat Name)) (u : ℕ) : Type 0 where
   here : u ≡ v → slice_get (world.put_at v s vs) u ≡ Some s → slice_get (world.put_at v t vs) u ≡ Some t → Found v s t vs u
   apart : (u ≡ v → ⊥) → slice_get (world.put_at v t vs) u ≡ slice_get (world.put_at v s vs) u → Found v s t vs u
   none : slice_get (world.put_at v s vs) u ≡ None → slice_get (world.put_at v t vs) u ≡ None → Found v s t vs u
@@ -119,7 +119,7 @@ found_more v s t r vs u (here e i j) = here (ap suc e) i j
 found_more v s t r vs u (apart e i) = apart (λ q. e (ap before q)) i
 found_more v s t r vs u (none i j) = none i j
 
-found : (v : ℕ) (s t : Vat Name) (vs : List (Vat Name)) (u : ℕ) → Found v s t vs u
+pub found : (v : ℕ) (s t : Vat Name) (vs : List (Vat Name)) (u : ℕ) → Found v s t vs u
 unfolding world.put_at
 found v s t [] u = none refl refl
 found zero s t (r ∷ vs) zero = here refl refl refl

@@ -1,5 +1,5 @@
 -- As a name settles, each reference leads where it led, or where what it settled to leads.
-use Rattle.std.proofs.Common.{◌≡◌, ℕ, zero, suc, Bool, true, false, List, [], Option, Some, None, length, refl, sym, ap, subst, ◌∙◌, ◌⊎◌, inl, inr, eq-eqb}
+use Rattle.std.proofs.Common.{◌≡◌, ℕ, zero, suc, Bool, true, false, Option, Some, None, length, refl, sym, ap, subst, ◌∙◌, ◌⊎◌, inl, inr, eq-eqb}
 use Rattle.std.specs.Prelude.{codes, ◌==◌}
 use Rattle.ev_machine.specs.Values.{Value, Null, Flag, Number, Letter, Text, Prim, Broken, Items, Ref, Name, Root, Object, Promise, Answer, Gift, Sent, Naming, Spot, Own, Foreign, NoObject, host_of, spot_of, naming}
 use Rattle.ev_machine.specs.State.{Standing, Unsettled, WaitsOn, Viewed, Settled, Known, Vat, is_in}
@@ -11,7 +11,7 @@ use Rattle.ev_order_laws.specs.Turns.{IsDefinite}
 use Rattle.ev_order_laws.specs.Places.{aimed, by_host, by_follow, of_name, leads_in}
 use Rattle.ev_order_laws.specs.Worlds.{IsWaiting, IsObject, IsFixed, StandsAlike, FollowsEnd}
 use Rattle.ev_order_laws.specs.Settle.{passed_by, IsEnded, OnlySettles, SettlesHere, aimed_at}
-use Rattle.ev_order_laws.proofs.Sends.{none_some, some_same}
+use Rattle.ev_order_laws.proofs.Sends.{some_same}
 use Rattle.ev_order_laws.proofs.Named.{passes_here, passes_other, passes_queue, passes_way, passes_nowhere}
 
 abbrev IsData : Value Name → Type 0

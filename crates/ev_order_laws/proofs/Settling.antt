@@ -1,14 +1,11 @@
 -- What is ahead stays ahead as a name settles and what it held is sent on.
-use Rattle.std.proofs.Common.{◌≡◌, ℕ, Bool, true, false, List, Option, Some, refl, sym, ap, subst, ◌∙◌, ◌⊎◌, inl, inr}
-use Rattle.std.specs.Prelude.{slice_get}
-use Rattle.ev_machine.specs.Values.{Value, Name}
-use Rattle.ev_machine.specs.State.{Vat}
-use Rattle.ev_run.specs.World.{Script, World, names}
-use Rattle.ev_order_laws.specs.Ways.{Lane, Queue, Held, Way, Item, Place, Nowhere, Free, End, Mid, Ways, IsIn, IsOneWay, Doom, nowhere, by_end, by_mid, Follows, doomed, one_way, alike, beside, Ahead, doomed_there, in_end, in_mid, past_end, past_mid}
+use Rattle.std.proofs.Common.{◌≡◌, ℕ, Bool, true, false, refl, sym, subst, ◌⊎◌, inl, inr}
+use Rattle.ev_machine.specs.Values.{Name}
+use Rattle.ev_order_laws.specs.Ways.{Lane, Queue, Held, Way, Place, Nowhere, Free, End, Mid, Ways, IsIn, IsOneWay, Doom, nowhere, by_end, by_mid, Follows, doomed, one_way, alike, beside, Ahead, doomed_there, in_end, in_mid, past_end, past_mid}
 use Rattle.ev_order_laws.specs.Turns.{Reroutes, stays_so, IsTurned}
 use Rattle.ev_order_laws.specs.Places.{ways, amid}
-use Rattle.ev_order_laws.specs.Settle.{passed_by, onward_to, led_to, emptied, KeepsBy, SentOn, SettlesHere, aimed_at, IsReady, SendingOnKeeps, SettlingKeeps}
-use Rattle.ev_order_laws.proofs.Named.{Test, test_self, test_is}
+use Rattle.ev_order_laws.specs.Settle.{passed_by, onward_to, led_to, emptied, KeepsBy, SentOn, aimed_at, IsReady, SendingOnKeeps, SettlingKeeps}
+use Rattle.ev_order_laws.proofs.Named.{Test, test_is}
 use Rattle.ev_order_laws.proofs.Turned.{turning_keeps, passing_by_keeps}
 use Rattle.ev_order_laws.proofs.Passing.{settled_is_passed}
 

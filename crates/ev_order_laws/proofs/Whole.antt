@@ -1,5 +1,5 @@
 -- What is ahead stays ahead through a whole settling.
-use Rattle.std.proofs.Common.{◌≡◌, ℕ, zero, suc, Bool, true, false, List, [], ◌∷◌, ◌++◌, Option, Some, None, length, refl, sym, ap, subst, ◌∙◌, ◌⊎◌, inl, inr}
+use Rattle.std.proofs.Common.{◌≡◌, ℕ, zero, suc, Bool, true, false, List, [], ◌∷◌, ◌++◌, Option, Some, None, refl, sym, ap, subst, ◌∙◌}
 use Rattle.std.specs.Prelude.{slice_get, nat_le, ◌-◌, if◌then◌else◌}
 use Rattle.ev_machine.specs.Values.{Value, Null, Flag, Number, Letter, Text, Prim, Broken, Items, Ref, Name, Naming, Spot, Own, Foreign, NoObject}
 use Rattle.ev_machine.specs.State.{Message, Standing, Unsettled, WaitsOn, Viewed, Settled, Known, Vat, Act, Done, Gives, Throws, Ejects, Stops, Plain, SettledTo, Lost, Settles}
@@ -7,11 +7,11 @@ use Rattle.ev_machine.specs.State as state
 use Rattle.ev_machine.specs.Refs as refs
 use Rattle.ev_machine.specs.Refs.{Settler, Near, Mine, Away, Gone}
 use Rattle.ev_run.specs.World.{Script, World, names}
-use Rattle.ev_order_laws.specs.Ways.{Place, Nowhere}
-use Rattle.ev_order_laws.specs.Places.{queued, aimed, leads_in, ways, amid}
+use Rattle.ev_order_laws.specs.Ways.{Nowhere}
+use Rattle.ev_order_laws.specs.Places.{aimed, ways, amid}
 use Rattle.ev_order_laws.specs.Worlds.{IfGives, AddsOnly, RefersAlike, StandsAlike}
-use Rattle.ev_order_laws.specs.Settle.{passed_by, KeepsBy, SettlesHere, IsReady, IsHere, IsOwnSpot, AllOn, aimed_at, settled_to}
-use Rattle.ev_order_laws.specs.Settlings.{with_line, IsPlain, KeepsOrder, CanSettle, IsFollowed, LosesWell, SendsWell, WaitsWell, KnownWell, StandsWell, EntryWell, SettlesWell, SettlingsKeep}
+use Rattle.ev_order_laws.specs.Settle.{passed_by, IsHere, IsOwnSpot, aimed_at, settled_to}
+use Rattle.ev_order_laws.specs.Settlings.{with_line, IsPlain, KeepsOrder, CanSettle, LosesWell, SendsWell, WaitsWell, KnownWell, StandsWell, EntryWell, SettlesWell, SettlingsKeep}
 use Rattle.ev_order_laws.proofs.Changes.{growing_keeps}
 use Rattle.ev_order_laws.proofs.Adding.{leads_alike}
 use Rattle.ev_order_laws.proofs.Amid.{adding_grows}
@@ -40,7 +40,7 @@ chain P Q (Throws p t) n h f = tt
 chain P Q (Ejects i y t) n h f = tt
 chain P Q (Stops c t) n h f = tt
 
-none_more : (ps : List (state.Put Name)) → ps ++ [] ≡ ps
+pub none_more : (ps : List (state.Put Name)) → ps ++ [] ≡ ps
 none_more [] = refl
 none_more (p ∷ ps) = ap (λ q. p ∷ q) (none_more ps)
 
@@ -49,7 +49,7 @@ entry_self n None = tt
 entry_self n (Some k) = (refl, refl, λ i h. h)
 
 module _ (K : Naming Name Name) (s : Vat Name) where
-  line_adds : (e : state.Happened Name) → AddsOnly K s (with_line s e)
+  pub line_adds : (e : state.Happened Name) → AddsOnly K s (with_line s e)
   line_adds e = record {
     alike = record { number = refl; gifts = refl; noticed = refl; names_known = refl; entries = λ n. entry_self n (refs.entry_of K s.known n) };
     queue = λ i h. h;
@@ -188,13 +188,13 @@ module _ (script : Script) (honest : ℕ → Bool) (w : World) (v : ℕ) where
   abbrev Kept : Vat Name → Vat Name → Type 0
   Kept s t = KeepsOrder script honest w v s t
 
-  kept_adds : (s t : Vat Name) → AddsOnly K s t → Kept s t
+  pub kept_adds : (s t : Vat Name) → AddsOnly K s t → Kept s t
   kept_adds s t g = (λ c. c, growing_keeps (ways script honest (amid v s w)) (ways script honest (amid v t w)) (adding_grows script honest w v s t g), λ x. leads_alike script honest v s t g.alike x)
 
   kept_self : (s : Vat Name) → Kept s s
   kept_self s = kept_adds s s (same_adds K s)
 
-  kept_then : (s t u : Vat Name) → Kept s t → Kept t u → Kept s u
+  pub kept_then : (s t u : Vat Name) → Kept s t → Kept t u → Kept s u
   kept_then s t u g h = (λ c. h.0 (g.0 c), keeps_then (ways script honest (amid v s w)) (ways script honest (amid v t w)) (ways script honest (amid v u w)) g.0 h.0 g.1 h.1, λ x. h.2 x ∙ ap h.0 (g.2 x))
 
   from_there : {A : Type 0} (s t : Vat Name) (d : Done Name A) → Kept s t → IfGives (λ u. Kept t u) d → IfGives (λ u. Kept s u) d

@@ -7,3 +7,4 @@ pub mod Places
 pub mod Worlds
 pub mod Settle
 pub mod Settlings
+pub mod Resolve

@@ -1,5 +1,5 @@
 -- What becomes of the ways as a name of a vat settles.
-use Rattle.std.specs.Prelude.{◌≡◌, ℕ, Bool, true, false, List, [], ◌∷◌, Option, Some, None, length, slice_get, ◌==◌, ◌&&◌, ◌⊎◌}
+use Rattle.std.specs.Prelude.{◌≡◌, ℕ, Bool, true, false, List, [], ◌∷◌, Some, length, slice_get, ◌==◌, ◌&&◌, ◌⊎◌}
 use Rattle.ev_machine.specs.Values.{Value, Null, Flag, Number, Letter, Text, Prim, Broken, Items, Ref, Name, Naming, Spot, Own, Foreign, NoObject, same_name}
 use Rattle.ev_machine.specs.State.{Message, Settle, Settled, Known, Vat, each, with_change, is_in}
 use Rattle.ev_machine.specs.Refs.{Settler, entry_of, severed, place, send_on}

@@ -2,6 +2,7 @@
 
 ghost use Rattle.ev_order_laws.specs.Settle.{SendingOnKeeps, SettledIsPassed, SettlingHereKeeps, SettlingKeeps, SettlingToNothingKeeps};
 ghost use Rattle.ev_order_laws.specs.Settlings.{SettlingsKeep};
+ghost use Rattle.ev_order_laws.specs.Resolve.{ResolvingKeeps, WaitOnKeeps, WaitingKeeps};
 
 /// What is ahead stays ahead, and what is doomed stays doomed, where what a name held is sent on: each
 /// message that stood there is ahead of the place to which that lane leads.
@@ -61,4 +62,27 @@ pub fn settling_here_keeps()
 /// told, as is the target of each message that is lost.
 pub fn settlings_keep()
     ensures { SettlingsKeep }
+{}
+
+/// What is ahead stays ahead, and what is doomed stays doomed, as a name waits for another of which nothing was
+/// said: each reference leads where it led, and what the name holds goes on to where the other leads.
+///
+/// It asks that nothing else changed that tells where messages go.
+pub fn waiting_keeps()
+    ensures { WaitingKeeps }
+{}
+
+/// So it is as the machine has a name wait for another. It asks that the name is known and unsettled, waits for
+/// none, and that nothing was said of where it leads.
+pub fn wait_on_keeps()
+    ensures { WaitOnKeeps }
+{}
+
+/// What is ahead stays ahead, and what is doomed stays doomed, as the machine resolves a name in the middle of a
+/// step: the name waits for another, breaks where the waits lead back to it, or settles.
+///
+/// It asks what `wait_on_keeps` asks where it waits, and what `settlings_keep` asks where it settles: so it is
+/// not said of a name that is resolved to a list or to an object of another vat.
+pub fn resolving_keeps()
+    ensures { ResolvingKeeps }
 {}
