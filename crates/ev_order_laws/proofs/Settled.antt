@@ -165,7 +165,7 @@ module _ (K : Naming Name Name) (s t : Vat Name) (p : Name) (y : Value Name) (o 
 
 -- ---- places that stay
 
--- in module f: what does not stand at p in v stays
+-- what would not be held for name p of vat v
 module _ (K : Naming Name Name) (v : ℕ) (p : Name) (e : Place) (u : ℕ) (r : Vat Name) where
   abbrev Stays : Place → Type 0
   Stays c = passed_by v p e c ≡ c

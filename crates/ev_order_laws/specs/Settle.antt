@@ -141,7 +141,7 @@ abbrev pub AllOn : Name → List (Message Name) → Type 0
 AllOn p [] = Unit {0}
 AllOn p (m ∷ ms) = (m.target ≡ Ref p) × AllOn p ms
 
--- A name settles to data or to what is broken: all that it held is lost there, or comes to data. All that the name held is doomed with what was behind it, and all else stays as it was.
+-- A name settles to what is nowhere: to data, or to what is broken. What is ahead stays ahead, and what is doomed stays doomed; what was held for the name is doomed.
 abbrev pub SettlingToNothingKeeps : Type 0
 SettlingToNothingKeeps = (script : Script) (honest : ℕ → Bool) (w : World) (v : ℕ) (r s : Vat Name) (p : Name) (y : Value Name)
     → slice_get w.vats v ≡ Some r → let t = settled_to (names script v) s p y in SettlesHere (names script v) s t p y v
