@@ -8,3 +8,11 @@ pub mod Adding
 pub mod Amid
 pub mod Waits
 pub mod Coming
+pub mod Named
+pub mod Settled
+pub mod Passing
+pub mod Settling
+pub mod Onward
+pub mod Whole
+pub mod Loose
+pub mod Resolving

@@ -5,3 +5,6 @@ pub mod Order
 pub mod Example
 pub mod Places
 pub mod Worlds
+pub mod Settle
+pub mod Settlings
+pub mod Resolve
