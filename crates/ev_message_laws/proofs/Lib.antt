@@ -1,0 +1,9 @@
+pub mod Passing
+pub mod Moments
+pub mod Singles
+pub mod RefsBring
+pub mod ArriveBring
+pub mod EvalBring
+pub mod Links
+pub mod Events
+pub mod RunStems
