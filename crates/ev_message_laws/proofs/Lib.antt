@@ -7,3 +7,4 @@ pub mod EvalBring
 pub mod Links
 pub mod Events
 pub mod RunStems
+pub mod RunKnows

@@ -131,7 +131,7 @@ Came s (Notices w) m = ⊥
 -- a message that a line of this step sent, as a send or as a reaction
 abbrev pub SentIn : Vat Name → Message Name → Type 0
 SentIn s m = ((a : ℕ) × (x : Value Name) × IsAmong (Sends a (record m { target = x })) s.happened)
-    ⊎ ((a : ℕ) × (x : Value Name) × (o : Value Name) × (t : Value Name) × IsAmong (Reacts a x o (record m { target = t })) s.happened)
+    ⊎ ((a : ℕ) × (x : Value Name) × (o : Value Name) × (t : Value Name) × (m.args ≡ x ∷ []) × IsAmong (Reacts a x o (record m { target = t })) s.happened)
 
 -- the state t has all that s has to show
 abbrev pub Later : Vat Name → Vat Name → Type 0
@@ -158,7 +158,7 @@ came_later s t l (Notices w) m h = h
 
 sent_later : (s t : Vat Name) → Later s t → (m : Message Name) → SentIn s m → SentIn t m
 sent_later s t l m (inl h) = inl (h.0, h.1, l.0 _ h.2)
-sent_later s t l m (inr h) = inr (h.0, h.1, h.2, h.3, l.0 _ h.4)
+sent_later s t l m (inr h) = inr (h.0, h.1, h.2, h.3, h.4, l.0 _ h.5)
 
 module _ (p : Past) where
   abbrev pub Line : Vat Name → Happened Name → Type 0

@@ -20,7 +20,7 @@ GoodSettler past settle = (p : Name) (y : Value Name) → Brings past (settle p 
 -- a target does not matter
 stems_target : (past : Past) (m : Message Name) (y : Value Name) → Stems past.world past.vat m → Stems past.world past.vat (record m { target = y })
 stems_target past m y (sent a x h) = sent a x h
-stems_target past m y (reacted a x o t h) = reacted a x o t h
+stems_target past m y (reacted a x o t e h) = reacted a x o t e h
 stems_target past m y (carried u n ys h i j k l) = carried u n ys h i j k l
 
 came_at : (s : Vat Name) (step : Step Name Name) (m : Message Name) (y : Value Name) → Came s step m → Came s step (record m { target = y })
@@ -411,7 +411,7 @@ module _ (word : ℕ → ℕ) (v : ℕ) (past : Past) where
 
   reaction_fine : (s : Vat Name) (act : ℕ) (x o near : Value Name) (id n : Name) → IsAmong (Reacts act x o (refs.reaction (naming word v) id near x n)) s.happened → Fine past s (refs.reaction (naming word v) id near x n)
   unfolding refs.reaction
-  reaction_fine s act x o near id n i = inl (inr (act, x, o, near, i))
+  reaction_fine s act x o near id n i = inl (inr (act, x, o, near, refl, i))
 
   does_reacts : (m : Message Name) (o : Place Name) (n : Name) → Does past (λ s. Fine past s m) (Any past) (refs.react_at (naming word v) m o >> give (Ref n))
   does_reacts m o n = does_then past (does_react_at m o) (λ b. does_any past (brings_give past (Ref n)))

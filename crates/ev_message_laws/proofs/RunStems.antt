@@ -34,7 +34,7 @@ module _ (w x : World) (g : Grows w x) where
 
   pub stems_grow : (v : ℕ) (m : Message Name) → Stems w v m → Stems x v m
   stems_grow v m (sent a y h) = sent a y (g.0 v _ h)
-  stems_grow v m (reacted a y o t h) = reacted a y o t (g.0 v _ h)
+  stems_grow v m (reacted a y o t e h) = reacted a y o t e (g.0 v _ h)
   stems_grow v m (carried u n ys s i j p c) = carried u n ys (stems_grow u n s) i j (args_grow u n.args ys p) (come_all_map (HasList w v) (HasList x v) (g.1 v) ys m.args c)
 
   note_grow : (u : ℕ) (n : Note Name) → NoteStems w u n → NoteStems x u n
@@ -125,7 +125,7 @@ module _ (list : ℕ → List (Value Name) → Type 0) where
 
 -- ---- what a step of a vat makes of the world
 
-some_vat : (a b : Vat Name) → Some a ≡ Some b → a ≡ b
+pub some_vat : (a b : Vat Name) → Some a ≡ Some b → a ≡ b
 some_vat a b e = cc
 
 put_lists : (v : ℕ) (xs : List (Vat Name)) (s t : Vat Name) → slice_get xs v ≡ Some s → ((k : ℕ) (vs : List (Value Name)) → slice_get s.lists k ≡ Some vs → slice_get t.lists k ≡ Some vs)
@@ -144,7 +144,7 @@ put_same zero (y ∷ xs) s t e = refl
 put_same (suc v) (y ∷ xs) s t e = put_same v xs s t e
 
 -- of the vat that was put back, and of each other
-put_each : (P : ℕ → Vat Name → Type 0) (v : ℕ) (t : Vat Name) (xs : List (Vat Name)) → P v t → ((u : ℕ) (s : Vat Name) → slice_get xs u ≡ Some s → P u s) → (u : ℕ) (s : Vat Name) → slice_get (world.put_at v t xs) u ≡ Some s → P u s
+pub put_each : (P : ℕ → Vat Name → Type 0) (v : ℕ) (t : Vat Name) (xs : List (Vat Name)) → P v t → ((u : ℕ) (s : Vat Name) → slice_get xs u ≡ Some s → P u s) → (u : ℕ) (s : Vat Name) → slice_get (world.put_at v t xs) u ≡ Some s → P u s
 unfolding world.put_at
 put_each P v t [] h all u s e = all u s e
 put_each P zero t (x ∷ xs) h all zero s e = subst (P zero) (some_vat t s e) h
@@ -205,7 +205,7 @@ module _ (v : ℕ) (w : World) (head : List Event) (s r t : Vat Name) (step : St
     next_stems : (m : Message Name) → Fine Before t m → Stems Next v m
     unfolding world.event_of
     next_stems m (inl (inl h)) = sent h.0 h.1 (new_line _ refl h.2)
-    next_stems m (inl (inr h)) = reacted h.0 h.1 h.2 h.3 (new_line _ refl h.4)
+    next_stems m (inl (inr h)) = reacted h.0 h.1 h.2 h.3 h.4 (new_line _ refl h.5)
     next_stems m (inr (inl h)) = brought m h
     next_stems m (inr (inr h)) = stems_grow w Next next_grows v m h
 
@@ -263,7 +263,7 @@ arrives_well v u w ks (SettledTo n y) h x t g f m c = absurd c
 arrives_well v u w ks (Elsewhere n c) h x t g f m d = absurd d
 arrives_well v u w ks (Shorten n c i) h x t g f m d = absurd d
 
-one_line : (e : Event) → ((u : ℕ) (f : Happened Name) → Here u f ≡ e → ⊥) → IsNobodys (e ∷ [])
+pub one_line : (e : Event) → ((u : ℕ) (f : Happened Name) → Here u f ≡ e → ⊥) → IsNobodys (e ∷ [])
 one_line e g u f (inl i) = g u f i
 one_line e g u f (inr i) = i
 

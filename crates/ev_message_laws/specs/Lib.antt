@@ -1,2 +1,3 @@
 pub mod Stems
 pub mod Laws
+pub mod Begotten

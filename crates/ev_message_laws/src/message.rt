@@ -1,6 +1,7 @@
 //! What a message brings was sent.
 
 ghost use Rattle.ev_message_laws.specs.Laws.{MessagesStemFromSends};
+ghost use Rattle.ev_message_laws.specs.Begotten.{HistoriesAreConnected, OnlyConnectivity};
 
 /// In every world of every run, each message in a queue, held at a name or reacting on one, and each
 /// message that was taken, was sent: by a line of that vat with the same name, verb, arguments and
@@ -9,4 +10,21 @@ ghost use Rattle.ev_message_laws.specs.Laws.{MessagesStemFromSends};
 /// under way.
 pub fn messages_stem_from_sends()
     ensures { MessagesStemFromSends }
+{}
+
+/// In every world of every run each line of the history is connected in the step that told it, whose
+/// lines stand together in the history: what it uses was known to the activation that used it.
+pub fn histories_are_connected()
+    ensures { HistoriesAreConnected }
+{}
+
+/// Only connectivity begets connectivity. In every world of every run the arguments of each message
+/// that was taken were known to the activation that sent it; or, where deliver notes brought it from
+/// another vat, they stand for arguments that were.
+///
+/// An argument passes as what it leads to, by what names settled to and by their views: data, an
+/// object or another name, a gift that its sender opened as that, or a list by its members. A
+/// reference that is broken passes as its problem, which brings nothing.
+pub fn only_connectivity_begets_connectivity()
+    ensures { OnlyConnectivity }
 {}
