@@ -21,7 +21,7 @@ use Rattle.ev_fate_laws.proofs.RunCounts.{pick}
 use Rattle.ev_message_laws.specs.Stems as stems
 use Rattle.ev_message_laws.specs.Stems.{HasLine, Stems}
 use Rattle.ev_message_laws.specs.Laws.{AllStem}
-use Rattle.ev_message_laws.specs.Begotten.{IsConnected, Knew, Begotten, sent, reacted, carried, LinesConnected, TakenBegotten}
+use Rattle.ev_message_laws.specs.Begotten.{IsReached, start, opened, entered, IsConnected, Knew, Begotten, sent, reacted, carried, LinesConnected, TakenBegotten}
 use Rattle.ev_message_laws.proofs.Events.{among_either, events_here, IsNobodys, nobodys_join, lost_on_nobodys}
 use Rattle.ev_message_laws.proofs.RunStems.{put_each, one_line, messages_stem}
 
@@ -62,10 +62,16 @@ module _ (script : Script) where
       so = l.so;
       rest = l.rest;
       links = l.links;
-      earlier = l.earlier;
+      from = l.from;
+      vat = l.vat;
+      queue = l.queue;
+      head = l.head;
+      real = l.real;
+      here = l.here;
+      ready = l.ready;
       later = l.later ++ more;
       stepped = l.stepped;
-      together = i ∙ ap (λ z. z ++ more) l.together ∙ joined (l.earlier ++ world.events_of l.links v l.after.happened) l.later more;
+      together = i ∙ ap (λ z. z ++ more) l.together ∙ joined (l.from.history ++ l.head ++ world.events_of l.links v l.after.happened) l.later more;
       told = l.told;
     },
     c.1,
@@ -92,11 +98,15 @@ module _ (script : Script) where
   abbrev Next : ℕ → World → List Event → Vat Name → World
   Next v w head t = record { fuel = t.fuel; drawn = t.drawn; vats = world.put_at v t w.vats; links = world.push_all v t.outbox w.links; history = w.history ++ head ++ world.events_of w.links v t.happened }
 
+  -- a vat that is made ready for a step in a world of the run, in which this has happened
+  abbrev Real : List Event → ℕ → Vat Name → Type 0
+  Real es v r = (y : World) × (s : Vat Name) × (ms : List (Message Name)) × IsReached script y × (slice_get y.vats v ≡ Some s) × (r ≡ world.readied y (record s { queue = ms })) × (y.history ≡ es)
+
   -- a step whose lines are connected
   next_knows : (v : ℕ) (w : World) (head : List Event) (r t : Vat Name) (step : Step Name Name) → does (names script v) step r ≡ Gives tt t → IsNobodys head → ((n : ℕ) → live_at r.things n ≡ false)
-      → ((n : ℕ) → live_at t.things n ≡ true → live_at r.things n ≡ true) → Connected (names script v) (held_from step r t) t.happened → WorldKnows w
+      → ((n : ℕ) → live_at t.things n ≡ true → live_at r.things n ≡ true) → Connected (names script v) (held_from step r t) t.happened → Real w.history v r → WorldKnows w
       → WorldKnows (Next v w head t)
-  next_knows v w head r t step d none still dies c h = record {
+  next_knows v w head r t step d none still dies c real h = record {
     still = λ u s e. put_each (λ n z. (i : ℕ) → live_at z.things i ≡ false) v t w.vats (λ n. not_true (live_at t.things n) (λ e. false_true (live_at r.things n) (still n) (dies n e))) h.still u s e;
     lines = λ u e m. either u e (among_either (Here u e) (w.history ++ head) (world.events_of w.links v t.happened) m);
   }
@@ -114,10 +124,16 @@ module _ (script : Script) where
           so = s.0;
           rest = s.1;
           links = w.links;
-          earlier = w.history ++ head;
+          from = real.0;
+          vat = real.1;
+          queue = real.2;
+          head = head;
+          real = real.3;
+          here = real.4;
+          ready = real.5;
           later = [];
           stepped = d;
-          together = sym (end_none _);
+          together = sym (end_none _) ∙ ap (λ z. z ++ head ++ world.events_of w.links v t.happened ++ []) (sym real.6);
           told = s.2;
         },
         s.3,
@@ -128,52 +144,52 @@ module _ (script : Script) where
       either u e (inr m) = let i = events_here w.links v u e t.happened m in subst (λ z. IsConnected script (Next v w head t) z e) (sym i.0) (here e i.1)
 
   put_back_knows : (v : ℕ) (w : World) (head : List Event) (n : ℕ) (r : Vat Name) (step : Step Name Name) (d : Done Name (Unit {0})) → does (names script v) step r ≡ d → IsNobodys head → ((i : ℕ) → live_at r.things i ≡ false)
-      → LeavesDead r d → After (λ s t. Connected (names script v) (held_from step s t) t.happened) r d → WorldKnows w → Reached WorldKnows (world.put_back v w head n d)
+      → LeavesDead r d → After (λ s t. Connected (names script v) (held_from step s t) t.happened) r d → Real w.history v r → WorldKnows w → Reached WorldKnows (world.put_back v w head n d)
   unfolding world.put_back
-  put_back_knows v w head n r step (Gives u t) e none still dies c h = next_knows v w head r t step e none still dies c h
-  put_back_knows v w head n r step (Throws x t) e none still dies c h = h
-  put_back_knows v w head n r step (Ejects i y t) e none still dies c h = h
-  put_back_knows v w head n r step (Stops x t) e none still dies c h = h
+  put_back_knows v w head n r step (Gives u t) e none still dies c real h = next_knows v w head r t step e none still dies c real h
+  put_back_knows v w head n r step (Throws x t) e none still dies c real h = h
+  put_back_knows v w head n r step (Ejects i y t) e none still dies c real h = h
+  put_back_knows v w head n r step (Stops x t) e none still dies c real h = h
 
-  within_knows : (v : ℕ) (w : World) (head : List Event) (n : ℕ) (step : Step Name Name) (s : Vat Name) (ms : List (Message Name)) → slice_get w.vats v ≡ Some s → IsNobodys head → WorldKnows w
+  within_knows : (v : ℕ) (w : World) (head : List Event) (n : ℕ) (step : Step Name Name) (s : Vat Name) (ms : List (Message Name)) → slice_get w.vats v ≡ Some s → IsNobodys head → Real w.history v (world.readied w (record s { queue = ms })) → WorldKnows w
       → Reached WorldKnows (world.within v w head n (does (names script v) step) (Some (record s { queue = ms })))
   unfolding world.within world.readied
-  within_knows v w head n step s ms at none h = let r : Vat Name = world.readied w (record s { queue = ms }) in
-      put_back_knows v w head n r step (does (names script v) step r) refl none (h.still v s at) (steps_leave_dead (names script v) step r) (steps_connect (names script v) (own_spots script v) step r refl (h.still v s at)) h
+  within_knows v w head n step s ms at none real h = let r : Vat Name = world.readied w (record s { queue = ms }) in
+      put_back_knows v w head n r step (does (names script v) step r) refl none (h.still v s at) (steps_leave_dead (names script v) step r) (steps_connect (names script v) (own_spots script v) step r refl (h.still v s at)) real h
 
   idle_knows : (k : ℕ) (w : World) → WorldKnows w → Reached WorldKnows (world.idle script k w)
   unfolding world.idle
   idle_knows k w h = moved_knows w _ (Idle k ∷ []) refl refl (one_line (Idle k) (λ u f e. cc)) h
 
-  turn_queue_knows : (k v : ℕ) (w : World) (s : Vat Name) (ms : List (Message Name)) → slice_get w.vats v ≡ Some s → WorldKnows w → Reached WorldKnows (world.turn_queue script k v w s ms)
+  turn_queue_knows : (k v : ℕ) (w : World) (s : Vat Name) (ms : List (Message Name)) → slice_get w.vats v ≡ Some s → IsReached script w → WorldKnows w → Reached WorldKnows (world.turn_queue script k v w s ms)
   unfolding world.turn_queue does
-  turn_queue_knows k v w s [] at h = idle_knows k w h
-  turn_queue_knows k v w s (m ∷ ms) at h = within_knows v w (Turned k v ∷ []) (world.step_number script k) (Takes (world.tree_at script.vats v) script.depth m) s ms at (one_line (Turned k v) (λ u f i. cc)) h
+  turn_queue_knows k v w s [] at real h = idle_knows k w h
+  turn_queue_knows k v w s (m ∷ ms) at real h = within_knows v w (Turned k v ∷ []) (world.step_number script k) (Takes (world.tree_at script.vats v) script.depth m) s ms at (one_line (Turned k v) (λ u f i. cc)) (w, s, ms, real, at, refl, refl) h
 
-  turn_knows : (k v : ℕ) (w : World) (o : Option (Vat Name)) → slice_get w.vats v ≡ o → WorldKnows w → Reached WorldKnows (world.turn script k v w o)
+  turn_knows : (k v : ℕ) (w : World) (o : Option (Vat Name)) → slice_get w.vats v ≡ o → IsReached script w → WorldKnows w → Reached WorldKnows (world.turn script k v w o)
   unfolding world.turn
-  turn_knows k v w None e h = idle_knows k w h
-  turn_knows k v w (Some s) e h = turn_queue_knows k v w s s.queue e h
+  turn_knows k v w None e real h = idle_knows k w h
+  turn_knows k v w (Some s) e real h = turn_queue_knows k v w s s.queue e real h
 
-  arrives_knows : (k v to : ℕ) (w : World) (n : Note Name) (o : Option (Vat Name)) → slice_get w.vats to ≡ o → WorldKnows w → Reached WorldKnows (world.arrives script k v to w n o)
+  arrives_knows : (k v to : ℕ) (w : World) (n : Note Name) (o : Option (Vat Name)) → slice_get w.vats to ≡ o → ((s : Vat Name) → slice_get w.vats to ≡ Some s → Real w.history to (world.readied w (record s { queue = s.queue }))) → WorldKnows w → Reached WorldKnows (world.arrives script k v to w n o)
   unfolding world.arrives does
-  arrives_knows k v to w n None e h = idle_knows k w h
-  arrives_knows k v to w n (Some s) e h = within_knows to w (Carried k v to n w.links ∷ []) (world.step_number script k) (Receives v (read_note (names_of s) n)) s s.queue e (one_line (Carried k v to n w.links) (λ u f i. cc)) h
+  arrives_knows k v to w n None e real h = idle_knows k w h
+  arrives_knows k v to w n (Some s) e real h = within_knows to w (Carried k v to n w.links ∷ []) (world.step_number script k) (Receives v (read_note (names_of s) n)) s s.queue e (one_line (Carried k v to n w.links) (λ u f i. cc)) (real s e) h
 
-  carry_notes_knows : (k v to : ℕ) (w : World) (ns : List (Note Name)) → WorldKnows w → Reached WorldKnows (world.carry_notes script k v to w ns)
-  unfolding world.carry_notes
-  carry_notes_knows k v to w [] h = idle_knows k w h
-  carry_notes_knows k v to w (n ∷ ns) h = let x : World = record w { links = world.with_link (world.with_notes ns) v to w.links } in
-      arrives_knows k v to x n (slice_get w.vats to) refl (moved_knows w x [] (sym (end_none w.history)) refl (λ u f i. i) h)
+  carry_notes_knows : (k v to : ℕ) (w : World) (ns : List (Note Name)) → IsReached script w → WorldKnows w → Reached WorldKnows (world.carry_notes script k v to w ns)
+  unfolding world.carry_notes world.readied
+  carry_notes_knows k v to w [] real h = idle_knows k w h
+  carry_notes_knows k v to w (n ∷ ns) real h = let x : World = record w { links = world.with_link (world.with_notes ns) v to w.links } in
+      arrives_knows k v to x n (slice_get w.vats to) refl (λ s f. (w, s, s.queue, real, f, refl, refl)) (moved_knows w x [] (sym (end_none w.history)) refl (λ u f i. i) h)
 
-  carry_cut_knows : (k v to : ℕ) (w : World) (l : Link) (b : Bool) → WorldKnows w → Reached WorldKnows (pick b (world.idle script k w) (world.carry_notes script k v to w l.notes))
-  carry_cut_knows k v to w l true h = idle_knows k w h
-  carry_cut_knows k v to w l false h = carry_notes_knows k v to w l.notes h
+  carry_cut_knows : (k v to : ℕ) (w : World) (l : Link) (b : Bool) → IsReached script w → WorldKnows w → Reached WorldKnows (pick b (world.idle script k w) (world.carry_notes script k v to w l.notes))
+  carry_cut_knows k v to w l true real h = idle_knows k w h
+  carry_cut_knows k v to w l false real h = carry_notes_knows k v to w l.notes real h
 
-  carry_link_knows : (k v to : ℕ) (w : World) (o : Option Link) → WorldKnows w → Reached WorldKnows (world.carry_link script k v to w o)
+  carry_link_knows : (k v to : ℕ) (w : World) (o : Option Link) → IsReached script w → WorldKnows w → Reached WorldKnows (world.carry_link script k v to w o)
   unfolding world.carry_link
-  carry_link_knows k v to w None h = idle_knows k w h
-  carry_link_knows k v to w (Some l) h = carry_cut_knows k v to w l l.cut h
+  carry_link_knows k v to w None real h = idle_knows k w h
+  carry_link_knows k v to w (Some l) real h = carry_cut_knows k v to w l l.cut real h
 
   cut_knows : (k v to : ℕ) (w : World) → WorldKnows w → Reached WorldKnows (world.cut script k v to w)
   unfolding world.cut
@@ -181,37 +197,51 @@ module _ (script : Script) where
       (nobodys_join (CutAt k v to ∷ []) (world.lost_on script (world.link_at v to w.links) ++ world.lost_on script (world.link_at to v w.links)) (one_line (CutAt k v to) (λ u f e. cc))
       (nobodys_join (world.lost_on script (world.link_at v to w.links)) (world.lost_on script (world.link_at to v w.links)) (lost_on_nobodys script (world.link_at v to w.links)) (lost_on_nobodys script (world.link_at to v w.links)))) h
 
-  notice_knows : (k v to : ℕ) (w : World) (o : Option (Vat Name)) → slice_get w.vats v ≡ o → WorldKnows w → Reached WorldKnows (world.within v w (NoticedAt k v to ∷ []) (world.step_number script k) (notice (names script v) to) o)
+  notice_knows : (k v to : ℕ) (w : World) (o : Option (Vat Name)) → slice_get w.vats v ≡ o → IsReached script w → WorldKnows w → Reached WorldKnows (world.within v w (NoticedAt k v to ∷ []) (world.step_number script k) (notice (names script v) to) o)
   unfolding does world.within
-  notice_knows k v to w None e h = h
-  notice_knows k v to w (Some s) e h = within_knows v w (NoticedAt k v to ∷ []) (world.step_number script k) (Notices to) s s.queue e (one_line (NoticedAt k v to) (λ u f i. cc)) h
+  notice_knows k v to w None e real h = h
+  notice_knows k v to w (Some s) e real h = within_knows v w (NoticedAt k v to ∷ []) (world.step_number script k) (Notices to) s s.queue e (one_line (NoticedAt k v to) (λ u f i. cc)) (w, s, s.queue, real, e, refl, refl) h
 
-  open_knows : (v : ℕ) (p : Program) (w : World) (o : Option (Vat Name)) → slice_get w.vats v ≡ o → WorldKnows w → Reached WorldKnows (world.within v w (Opens v ∷ []) v (opening (names script v) p.tree script.depth (Root v) (world.given script.vats p.knows)) o)
+  open_knows : (v : ℕ) (p : Program) (w : World) (o : Option (Vat Name)) → slice_get w.vats v ≡ o → IsReached script w → WorldKnows w → Reached WorldKnows (world.within v w (Opens v ∷ []) v (opening (names script v) p.tree script.depth (Root v) (world.given script.vats p.knows)) o)
   unfolding does world.within
-  open_knows v p w None e h = h
-  open_knows v p w (Some s) e h = within_knows v w (Opens v ∷ []) v (Starts p.tree script.depth (Root v) (world.given script.vats p.knows)) s s.queue e (one_line (Opens v) (λ u f i. cc)) h
+  open_knows v p w None e real h = h
+  open_knows v p w (Some s) e real h = within_knows v w (Opens v ∷ []) v (Starts p.tree script.depth (Root v) (world.given script.vats p.knows)) s s.queue e (one_line (Opens v) (λ u f i. cc)) (w, s, s.queue, real, e, refl, refl) h
 
-  step_knows : (entry : Entry) (k : ℕ) (w : World) → WorldKnows w → Reached WorldKnows (world.step script entry k w)
+  opening_knows : (v : ℕ) (p : Program) (w : World) → IsReached script w → WorldKnows w → Reached WorldKnows (world.open_vat script v p w)
+  unfolding world.open_vat
+  opening_knows v p w real h = open_knows v p w (slice_get w.vats v) refl real h
+
+  step_knows : (entry : Entry) (k : ℕ) (w : World) → IsReached script w → WorldKnows w → Reached WorldKnows (world.step script entry k w)
   unfolding world.step
-  step_knows (Turn v) k w h = turn_knows k v w (slice_get w.vats v) refl h
-  step_knows (Carry v to) k w h = carry_link_knows k v to w (world.link_at v to w.links) h
-  step_knows (CutLink v to) k w h = cut_knows k v to w h
-  step_knows (NoticeLink v to) k w h = notice_knows k v to w (slice_get w.vats v) refl h
+  step_knows (Turn v) k w real h = turn_knows k v w (slice_get w.vats v) refl real h
+  step_knows (Carry v to) k w real h = carry_link_knows k v to w (world.link_at v to w.links) real h
+  step_knows (CutLink v to) k w real h = cut_knows k v to w h
+  step_knows (NoticeLink v to) k w real h = notice_knows k v to w (slice_get w.vats v) refl real h
 
-  then_knows : (r : Run) (f : World → Run) → Reached WorldKnows r → ((w : World) → WorldKnows w → Reached WorldKnows (f w)) → Reached WorldKnows (world.then_goes r f)
+  then_knows : (r : Run) (f : World → Run) → Reached WorldKnows r → ((w : World) → r ≡ Goes w → WorldKnows w → Reached WorldKnows (f w)) → Reached WorldKnows (world.then_goes r f)
   unfolding world.then_goes
-  then_knows (Goes w) f h g = g w h
+  then_knows (Goes w) f h g = g w refl h
   then_knows (Stopped c k w) f h g = h
 
-  steps_know : (es : List Entry) (k : ℕ) (w : World) → WorldKnows w → Reached WorldKnows (world.steps_from script es k w)
+  steps_know : (es : List Entry) (k : ℕ) (w : World) → IsReached script w → WorldKnows w → Reached WorldKnows (world.steps_from script es k w)
   unfolding world.steps_from
-  steps_know [] k w h = h
-  steps_know (e ∷ es) k w h = then_knows (world.step script e k w) (world.steps_from script es (suc k)) (step_knows e k w h) (λ y i. steps_know es (suc k) y i)
+  steps_know [] k w real h = h
+  steps_know (e ∷ es) k w real h = then_knows (world.step script e k w) (world.steps_from script es (suc k)) (step_knows e k w real h) (λ y i j. steps_know es (suc k) y (entered e k real i) j)
 
-  opens_know : (v : ℕ) (ps : List Program) (w : World) → WorldKnows w → Reached WorldKnows (world.open_from script v ps w)
-  unfolding world.open_from world.open_vat
-  opens_know v [] w h = h
-  opens_know v (p ∷ ps) w h = then_knows (world.open_vat script v p w) (world.open_from script (suc v) ps) (open_knows v p w (slice_get w.vats v) refl h) (λ y i. opens_know (suc v) ps y i)
+  opens_know : (v : ℕ) (ps : List Program) (w : World) → IsReached script w → WorldKnows w → Reached WorldKnows (world.open_from script v ps w)
+  unfolding world.open_from
+  opens_know v [] w real h = h
+  opens_know v (p ∷ ps) w real h = then_knows (world.open_vat script v p w) (world.open_from script (suc v) ps) (opening_knows v p w real h) (λ y i j. opens_know (suc v) ps y (opened v p real i) j)
+
+  then_real : (x : World) (r : Run) (f : World → Run) → ((w : World) → r ≡ Goes w → f w ≡ Goes x → IsReached script x) → world.then_goes r f ≡ Goes x → IsReached script x
+  unfolding world.then_goes
+  then_real x (Goes w) f g e = g w refl e
+  then_real x (Stopped c k w) f g e = cc
+
+  opens_real : (v : ℕ) (ps : List Program) (w x : World) → IsReached script w → world.open_from script v ps w ≡ Goes x → IsReached script x
+  unfolding world.open_from
+  opens_real v [] w x real e = let same : w ≡ x = cc in subst (IsReached script) same real
+  opens_real v (p ∷ ps) w x real e = then_real x (world.open_vat script v p w) (world.open_from script (suc v) ps) (λ y i j. opens_real (suc v) ps y x (opened v p real i) j) e
 
   begins_knows : WorldKnows (begins script)
   unfolding world.open_from begins
@@ -228,10 +258,10 @@ module _ (script : Script) where
   goes_at P (Stopped c k y) w e h = cc
 
   opened_knows : (ps : List Program) (w : World) → world.open_from script zero ps (begins script) ≡ Goes w → WorldKnows w
-  opened_knows ps w e = goes_at WorldKnows _ w e (opens_know zero ps (begins script) begins_knows)
+  opened_knows ps w e = goes_at WorldKnows _ w e (opens_know zero ps (begins script) start begins_knows)
 
   run_knows : (w x : World) (es : List Entry) (k : ℕ) → world.open_from script zero script.vats (begins script) ≡ Goes w → world.steps_from script es k w ≡ Goes x → WorldKnows x
-  run_knows w x es k e i = goes_at WorldKnows _ x i (steps_know es k w (opened_knows script.vats w e))
+  run_knows w x es k e i = goes_at WorldKnows _ x i (steps_know es k w (opens_real zero script.vats (begins script) w start e) (opened_knows script.vats w e))
 
   -- ---- what a sender knew
 

@@ -1,25 +1,38 @@
 -- Only connectivity begets connectivity: what a message brings was known to the activation that sent it.
-use Rattle.std.specs.Prelude.{◌≡◌, ℕ, List, ◌∷◌, ◌++◌}
+use Rattle.std.specs.Prelude.{◌≡◌, ℕ, Some, slice_get, List, ◌∷◌, ◌++◌}
 use Rattle.ev_machine.specs.Values.{Value, Name}
 use Rattle.ev_machine.specs.State.{Message, Passeds, Happened, Took, Sends, Reacts, Vat, Gives}
 use Rattle.ev_machine_laws.specs.Steps.{Step, does}
-use Rattle.ev_run.specs.World.{Script, Program, Entry, Event, Link, World, Goes, names, events_of, begins, open_from, steps_from}
+use Rattle.ev_run.specs.World.{Script, Program, Entry, readied, open_vat, step as enter, Event, Link, World, Goes, names, events_of, begins, open_from, steps_from}
 use Rattle.ev_connected_laws.specs.Known.{AValue, AllOf, Knows}
 use Rattle.ev_connected_laws.specs.Connected.{LineWell, held_from}
 use Rattle.ev_message_laws.specs.Stems.{HasLine, HasList, ArgsPass, ComeAll}
 
--- A line of vat v in the history of a world: the step that told it, whose lines stand together there, and the lines of the step before it and after it.
+-- a world that the script's opening turns and entries lead to
+pub data IsReached (script : Script) : World → Type 0 where
+  start : IsReached script (begins script)
+  opened : {w x : World} (v : ℕ) (p : Program) → IsReached script w → open_vat script v p w ≡ Goes x → IsReached script x
+  entered : {w x : World} (entry : Entry) (k : ℕ) → IsReached script w → enter script entry k w ≡ Goes x → IsReached script x
+
+-- A line of vat v in the history of a world: an earlier world of the run, the step that the vat, as it was there, took then and that told the line, and the lines of the step before it and after it.
+-- The vat has any queue left, as a turn takes its message from the queue. The lines of the step stand together behind the history of the earlier world.
 pub record LineOf (script : Script) (w : World) (v : ℕ) (e : Happened Name) : Type 0 where
   pub step : Step Name Name
+  pub from : World
+  pub vat : Vat Name
+  pub queue : List (Message Name)
   pub before : Vat Name
   pub after : Vat Name
   pub so : List (Happened Name)
   pub rest : List (Happened Name)
   pub links : List Link
-  pub earlier : List Event
+  pub head : List Event
   pub later : List Event
+  pub real : IsReached script from
+  pub here : slice_get from.vats v ≡ Some vat
+  pub ready : before ≡ readied from (record vat { queue = queue })
   pub stepped : does (names script v) step before ≡ Gives tt after
-  pub together : w.history ≡ earlier ++ events_of links v after.happened ++ later
+  pub together : w.history ≡ from.history ++ head ++ events_of links v after.happened ++ later
   pub told : after.happened ≡ so ++ e ∷ rest
 
 -- it is connected: what it uses was known to the activation that used it, by the lines of the step before it
