@@ -1,5 +1,5 @@
 -- Each line of the history of a run is connected in its step, and each message that is taken is begotten by what its sender knew.
-use Rattle.std.proofs.Common.{◌≡◌, ℕ, zero, suc, Bool, true, false, List, [], ◌∷◌, ◌++◌, Option, Some, None, refl, sym, ap, ◌∙◌, subst, ◌⊎◌, inl, inr}
+use Rattle.std.proofs.Common.{◌+◌, arith, ◌≡◌, ℕ, zero, suc, Bool, true, false, List, [], ◌∷◌, ◌++◌, Option, Some, None, refl, sym, ap, ◌∙◌, subst, ◌⊎◌, inl, inr}
 use Rattle.std.specs.Prelude.{slice_get}
 use Rattle.ev_machine.specs.Values.{Value, Name, Root}
 use Rattle.ev_machine.specs.State.{Message, Note, Happened, Sends, Reacts, Vat, Done, Gives, Throws, Ejects, Stops}
@@ -228,20 +228,38 @@ module _ (script : Script) where
   steps_know [] k w real h = h
   steps_know (e ∷ es) k w real h = then_knows (world.step script e k w) (world.steps_from script es (suc k)) (step_knows e k w real h) (λ y i j. steps_know es (suc k) y (entered e k real i) j)
 
-  opens_know : (v : ℕ) (ps : List Program) (w : World) → IsReached script w → WorldKnows w → Reached WorldKnows (world.open_from script v ps w)
+  -- these programs are those of the script from vat v on
+  abbrev StandAt : ℕ → List Program → Type 0
+  StandAt v ps = (i : ℕ) (p : Program) → slice_get ps i ≡ Some p → slice_get script.vats (v + i) ≡ Some p
+
+  first_at : (v : ℕ) (p : Program) (ps : List Program) → StandAt v (p ∷ ps) → slice_get script.vats v ≡ Some p
+  first_at v p ps s = let e : v + zero ≡ v = omega arith in subst (λ n. slice_get script.vats n ≡ Some p) e (s zero p refl)
+
+  rest_at : (v : ℕ) (p : Program) (ps : List Program) → StandAt v (p ∷ ps) → StandAt (suc v) ps
+  rest_at v p ps s i q f = let e : v + suc i ≡ suc v + i = omega arith in subst (λ n. slice_get script.vats n ≡ Some q) e (s (suc i) q f)
+
+  slice_front : (ps rest : List Program) (i : ℕ) (p : Program) → slice_get ps i ≡ Some p → slice_get (ps ++ rest) i ≡ Some p
+  slice_front [] rest i p e = cc
+  slice_front (q ∷ ps) rest zero p e = e
+  slice_front (q ∷ ps) rest (suc i) p e = slice_front ps rest i p e
+
+  stand_all : (ps rest : List Program) → script.vats ≡ ps ++ rest → StandAt zero ps
+  stand_all ps rest e i p f = let g : i ≡ zero + i = omega arith in subst (λ n. slice_get script.vats n ≡ Some p) g (subst (λ qs. slice_get qs i ≡ Some p) (sym e) (slice_front ps rest i p f))
+
+  opens_know : (v : ℕ) (ps : List Program) (w : World) → StandAt v ps → IsReached script w → WorldKnows w → Reached WorldKnows (world.open_from script v ps w)
   unfolding world.open_from
-  opens_know v [] w real h = h
-  opens_know v (p ∷ ps) w real h = then_knows (world.open_vat script v p w) (world.open_from script (suc v) ps) (opening_knows v p w real h) (λ y i j. opens_know (suc v) ps y (opened v p real i) j)
+  opens_know v [] w s real h = h
+  opens_know v (p ∷ ps) w s real h = then_knows (world.open_vat script v p w) (world.open_from script (suc v) ps) (opening_knows v p w real h) (λ y i j. opens_know (suc v) ps y (rest_at v p ps s) (opened v p (first_at v p ps s) real i) j)
 
   then_real : (x : World) (r : Run) (f : World → Run) → ((w : World) → r ≡ Goes w → f w ≡ Goes x → IsReached script x) → world.then_goes r f ≡ Goes x → IsReached script x
   unfolding world.then_goes
   then_real x (Goes w) f g e = g w refl e
   then_real x (Stopped c k w) f g e = cc
 
-  opens_real : (v : ℕ) (ps : List Program) (w x : World) → IsReached script w → world.open_from script v ps w ≡ Goes x → IsReached script x
+  opens_real : (v : ℕ) (ps : List Program) (w x : World) → StandAt v ps → IsReached script w → world.open_from script v ps w ≡ Goes x → IsReached script x
   unfolding world.open_from
-  opens_real v [] w x real e = let same : w ≡ x = cc in subst (IsReached script) same real
-  opens_real v (p ∷ ps) w x real e = then_real x (world.open_vat script v p w) (world.open_from script (suc v) ps) (λ y i j. opens_real (suc v) ps y x (opened v p real i) j) e
+  opens_real v [] w x s real e = let same : w ≡ x = cc in subst (IsReached script) same real
+  opens_real v (p ∷ ps) w x s real e = then_real x (world.open_vat script v p w) (world.open_from script (suc v) ps) (λ y i j. opens_real (suc v) ps y x (rest_at v p ps s) (opened v p (first_at v p ps s) real i) j) e
 
   begins_knows : WorldKnows (begins script)
   unfolding world.open_from begins
@@ -257,11 +275,12 @@ module _ (script : Script) where
   goes_at P (Goes y) w e h = let same : y ≡ w = cc in rw same at h
   goes_at P (Stopped c k y) w e h = cc
 
-  opened_knows : (ps : List Program) (w : World) → world.open_from script zero ps (begins script) ≡ Goes w → WorldKnows w
-  opened_knows ps w e = goes_at WorldKnows _ w e (opens_know zero ps (begins script) start begins_knows)
+  opened_knows : (ps rest : List Program) (w : World) → script.vats ≡ ps ++ rest → world.open_from script zero ps (begins script) ≡ Goes w → WorldKnows w
+  opened_knows ps rest w s e = goes_at WorldKnows _ w e (opens_know zero ps (begins script) (stand_all ps rest s) start begins_knows)
 
   run_knows : (w x : World) (es : List Entry) (k : ℕ) → world.open_from script zero script.vats (begins script) ≡ Goes w → world.steps_from script es k w ≡ Goes x → WorldKnows x
-  run_knows w x es k e i = goes_at WorldKnows _ x i (steps_know es k w (opens_real zero script.vats (begins script) w start e) (opened_knows script.vats w e))
+  run_knows w x es k e i = let s = stand_all script.vats [] (sym (end_none script.vats)) in
+      goes_at WorldKnows _ x i (steps_know es k w (opens_real zero script.vats (begins script) w s start e) (opened_knows script.vats [] w (sym (end_none script.vats)) e))
 
   -- ---- what a sender knew
 
@@ -289,14 +308,14 @@ module _ (script : Script) where
   begotten w c v m (stems.reacted a x o t e h) = reacted a x o t h (reactor_knew w v a x o (record m { target = t }) (c v _ h) e)
   begotten w c v m (stems.carried u n ys s i j p q) = carried u n ys (begotten w c u n s) i j p q
 
-  pub opened_connected : (ps : List Program) (w : World) → world.open_from script zero ps (begins script) ≡ Goes w → LinesConnected script w
-  opened_connected ps w e = (opened_knows ps w e).lines
+  pub opened_connected : (ps rest : List Program) (w : World) → script.vats ≡ ps ++ rest → world.open_from script zero ps (begins script) ≡ Goes w → LinesConnected script w
+  opened_connected ps rest w s e = (opened_knows ps rest w s e).lines
 
   pub run_connected : (w x : World) (es : List Entry) (k : ℕ) → world.open_from script zero script.vats (begins script) ≡ Goes w → world.steps_from script es k w ≡ Goes x → LinesConnected script x
   run_connected w x es k e i = (run_knows w x es k e i).lines
 
-  pub opened_begotten : (ps : List Program) (w : World) → world.open_from script zero ps (begins script) ≡ Goes w → TakenBegotten script w
-  opened_begotten ps w e v a m i = begotten w (opened_connected ps w e) v m ((goes_at AllStem _ w e ((messages_stem script).0 ps)).taken v a m i)
+  pub opened_begotten : (ps rest : List Program) (w : World) → script.vats ≡ ps ++ rest → world.open_from script zero ps (begins script) ≡ Goes w → TakenBegotten script w
+  opened_begotten ps rest w s e v a m i = begotten w (opened_connected ps rest w s e) v m ((goes_at AllStem _ w e ((messages_stem script).0 ps)).taken v a m i)
 
   pub run_begotten : (w x : World) (es : List Entry) (k : ℕ) → world.open_from script zero script.vats (begins script) ≡ Goes w → world.steps_from script es k w ≡ Goes x → TakenBegotten script x
   run_begotten w x es k e i v a m j = begotten x (run_connected w x es k e i) v m ((goes_at AllStem _ x i ((messages_stem script).1 w es k e)).taken v a m j)

@@ -8,10 +8,10 @@ use Rattle.ev_connected_laws.specs.Known.{AValue, AllOf, Knows}
 use Rattle.ev_connected_laws.specs.Connected.{LineWell, held_from}
 use Rattle.ev_message_laws.specs.Stems.{HasLine, HasList, ArgsPass, ComeAll}
 
--- a world that the script's opening turns and entries lead to
+-- a world to which opening turns of the vats of the script, each of its own program, and entries lead
 pub data IsReached (script : Script) : World → Type 0 where
   start : IsReached script (begins script)
-  opened : {w x : World} (v : ℕ) (p : Program) → IsReached script w → open_vat script v p w ≡ Goes x → IsReached script x
+  opened : {w x : World} (v : ℕ) (p : Program) → slice_get script.vats v ≡ Some p → IsReached script w → open_vat script v p w ≡ Goes x → IsReached script x
   entered : {w x : World} (entry : Entry) (k : ℕ) → IsReached script w → enter script entry k w ≡ Goes x → IsReached script x
 
 -- A line of vat v in the history of a world: an earlier world of the run, the step that the vat, as it was there, took then and that told the line, and the lines of the step before it and after it.
