@@ -7,6 +7,7 @@ use Rattle.ev_machine.specs.Refs.{Place, Away}
 use Rattle.ev_machine.specs.Arrive as arrive
 use Rattle.ev_machine.specs.Arrive.{Incoming, Old, New}
 use Rattle.ev_machine_laws.specs.Steps.{Step, Receives}
+use Rattle.ev_message_laws.specs.Stems.{itself}
 use Rattle.ev_message_laws.proofs.Moments.{Past, Members, LearntAs, LearntAll, learnt_map, learnt_all_map, Came, name_in, value_in, Brings, Does, Lasting, does_bind, does_then, does_also, does_any, does_from, does_to, does_keep, does_give, brings_does, brings_look}
 use Rattle.ev_message_laws.proofs.Singles.{brings, brings_come, brings_mail, does_list, does_tell, does_alter, alters_wait, alters_tell, tells_list_came}
 use Rattle.ev_message_laws.proofs.RefsBring.{brings_settle, brings_resolve, brings_inform, does_send_on}
@@ -139,8 +140,8 @@ module _ (word : ℕ → ℕ) (home : ℕ) (past : Past) where
 
   -- the message that the note brought
   brought : (s : Vat Name) (from : ℕ) (m x : Incoming Name Name) (verb : Words) (ys : Passeds (Incoming Name Name)) (step : Step Name Name) (n : Message Name)
-      → step ≡ Receives from (Deliver m x verb ys) → name_in m ≡ n.id → verb ≡ n.verb → LearntAll (Members s) ys n.args → Came s step n
-  brought s from m x verb ys step n e i j l = subst (λ z. Came s z n) (sym e) (i, j, l)
+      → step ≡ Receives from (Deliver m x verb ys) → name_in m ≡ n.id → verb ≡ n.verb → n.target ≡ Ref (name_in x) → LearntAll (Members s) ys n.args → Came s step n
+  brought s from m x verb ys step n e i j k l = subst (λ z. Came s z n) (sym e) (i, j, k, l)
 
   pub brings_arrive_deliver : (from : ℕ) (m x : Incoming Name Name) (verb : Words) (ys : Passeds (Incoming Name Name)) → past.step ≡ Receives from (Deliver m x verb ys) → Brings past (arrive.arrive_deliver (naming word home) from m x verb ys)
   unfolding arrive.arrive_deliver
@@ -148,11 +149,13 @@ module _ (word : ℕ → ℕ) (home : ℕ) (past : Past) where
       (λ id. does_bind past (does_from past (λ s i. (i, tt)) (does_also past (λ s. name_in m ≡ id) (λ s t l i. i) (does_learn_all from ys)))
       (λ args. let F : Vat Name → Type 0 = λ s. (name_in m ≡ id) × LearntAll (Members s) ys args in
       let last : Lasting past F = λ s t l i. (i.0, learnt_all_lasts ys args s t l i.1) in
-      does_bind past (does_keep past F last (brings_learn_name x))
-      (λ n. does_bind past (does_keep past F last (brings_look past _))
-      (λ u. does_bind past (does_keep past F last (brings_come word home past _ u))
-      (λ a. does_then past (does_keep past F last (alters_tell word home past from a))
-      (λ b. does_from past (λ s i. inr (inl (brought s from m x verb ys past.step (record { id = id; target = Ref n; verb = verb; args = args; answer = a }) e i.0 refl i.1)))
+      does_bind past (does_from past (λ s i. (i, tt)) (does_also past F last (does_learn_name x)))
+      (λ n. let G : Vat Name → Type 0 = λ s. F s × (name_in x ≡ n) in
+      let lasts : Lasting past G = λ s t l i. (last s t l i.0, i.1) in
+      does_bind past (does_keep past G lasts (brings_look past _))
+      (λ u. does_bind past (does_keep past G lasts (brings_come word home past _ u))
+      (λ a. does_then past (does_keep past G lasts (alters_tell word home past from a))
+      (λ b. does_from past (λ s i. (Ref n, itself, inr (inl (brought s from m x verb ys past.step (record { id = id; target = Ref n; verb = verb; args = args; answer = a }) e i.0.0 refl (ap Ref (sym i.1)) i.0.1))))
       (does_send_on word home past (refs.settle (naming word home)) (brings_settle word home past) (record { id = id; target = Ref n; verb = verb; args = args; answer = a })))))))))
 
   pub brings_arrive_open : (x1 : ℕ) → (x2 : ℕ) → (x3 : Incoming Name Name) → Brings past (arrive.arrive_open (naming word home) x1 x2 x3)

@@ -7,8 +7,8 @@ use Rattle.ev_machine.specs.Arrive.{Incoming, Old, New}
 use Rattle.ev_machine_laws.specs.Steps.{Step, Opens, Takes, Receives, Notices}
 use Rattle.ev_run.specs.World.{World}
 use Rattle.ev_connected_laws.specs.Known.{IsAmong, AllOf}
-use Rattle.ev_message_laws.specs.Stems.{PassesAs, PassAll, HasLine, Stems}
-use Rattle.ev_message_laws.proofs.Passing.{Kept, kept_all, all_map, pass_all_map, passes_map}
+use Rattle.ev_message_laws.specs.Stems.{LeadsTo, PassesAs, PassAll, HasLine, Stems}
+use Rattle.ev_message_laws.proofs.Passing.{Kept, kept_all, leads_map, all_map, pass_all_map, passes_map}
 
 -- a step of a vat from a world
 pub record Past : Type 0 where
@@ -115,7 +115,7 @@ Offers s h i n = IsAmong (record { to = h; note = Open i n }) s.outbox
 
 -- a message that the note of this step brought
 abbrev pub CameBy : Vat Name → Note (Incoming Name Name) → Message Name → Type 0
-CameBy s (Deliver x z verb ys) m = (name_in x ≡ m.id) × (verb ≡ m.verb) × LearntAll (Members s) ys m.args
+CameBy s (Deliver x z verb ys) m = (name_in x ≡ m.id) × (verb ≡ m.verb) × (m.target ≡ Ref (name_in z)) × LearntAll (Members s) ys m.args
 CameBy s (Open i x) m = ⊥
 CameBy s (Ask p i x) m = ⊥
 CameBy s (SettledTo x y) m = ⊥
@@ -130,8 +130,7 @@ Came s (Notices w) m = ⊥
 
 -- a message that a line of this step sent, as a send or as a reaction
 abbrev pub SentIn : Vat Name → Message Name → Type 0
-SentIn s m = ((a : ℕ) × (x : Value Name) × IsAmong (Sends a (record m { target = x })) s.happened)
-    ⊎ ((a : ℕ) × (x : Value Name) × (o : Value Name) × (t : Value Name) × (m.args ≡ x ∷ []) × IsAmong (Reacts a x o (record m { target = t })) s.happened)
+SentIn s m = ((a : ℕ) × IsAmong (Sends a m) s.happened) ⊎ ((a : ℕ) × (x : Value Name) × (o : Value Name) × (m.args ≡ x ∷ []) × IsAmong (Reacts a x o m) s.happened)
 
 -- the state t has all that s has to show
 abbrev pub Later : Vat Name → Vat Name → Type 0
@@ -146,7 +145,7 @@ pub later_on : (s t u : Vat Name) → Later s t → Later t u → Later s u
 later_on s t u h k = (λ e i. k.0 e (h.0 e i), λ n vs i. k.1 n vs (h.1 n vs i), λ q i. k.2 q (h.2 q i))
 
 came_later : (s t : Vat Name) → Later s t → (step : Step Name Name) (m : Message Name) → Came s step m → Came t step m
-came_later s t l (Receives from (Deliver x z verb ys)) m h = (h.0, h.1, learnt_all_map (Members s) (Members t) l.1 ys m.args h.2)
+came_later s t l (Receives from (Deliver x z verb ys)) m h = (h.0, h.1, h.2, learnt_all_map (Members s) (Members t) l.1 ys m.args h.3)
 came_later s t l (Receives from (Open i x)) m h = h
 came_later s t l (Receives from (Ask p i x)) m h = h
 came_later s t l (Receives from (SettledTo x y)) m h = h
@@ -157,16 +156,19 @@ came_later s t l (Takes tree depth n) m h = h
 came_later s t l (Notices w) m h = h
 
 sent_later : (s t : Vat Name) → Later s t → (m : Message Name) → SentIn s m → SentIn t m
-sent_later s t l m (inl h) = inl (h.0, h.1, l.0 _ h.2)
-sent_later s t l m (inr h) = inr (h.0, h.1, h.2, h.3, h.4, l.0 _ h.5)
+sent_later s t l m (inl h) = inl (h.0, l.0 _ h.1)
+sent_later s t l m (inr h) = inr (h.0, h.1, h.2, h.3, l.0 _ h.4)
 
 module _ (p : Past) where
   abbrev pub Line : Vat Name → Happened Name → Type 0
   Line s e = HasLine p.world p.vat e ⊎ IsAmong e s.happened
 
   -- a message that stems from what was sent, before this step or in it
+  abbrev pub Source : Vat Name → Message Name → Type 0
+  Source s m = SentIn s m ⊎ (Came s p.step m ⊎ Stems p.world p.vat m)
+
   abbrev pub Fine : Vat Name → Message Name → Type 0
-  Fine s m = SentIn s m ⊎ (Came s p.step m ⊎ Stems p.world p.vat m)
+  Fine s m = (x : Value Name) × LeadsTo (Line s) x m.target × Source s (record m { target = x })
 
   abbrev pub Passing : Vat Name → Value Name → Passed Name → Type 0
   Passing s x y = PassesAs (Line s) (Members s) (Offers s) x y
@@ -175,7 +177,7 @@ module _ (p : Past) where
   PassingAll s xs ys = PassAll (Line s) (Members s) (Offers s) xs ys
 
   abbrev pub NoteFine : Vat Name → Note Name → Type 0
-  NoteFine s (Deliver i n verb ys) = (m : Message Name) × Fine s m × (m.id ≡ i) × (m.verb ≡ verb) × PassingAll s m.args ys
+  NoteFine s (Deliver i n verb ys) = (m : Message Name) × Fine s m × (m.id ≡ i) × (m.verb ≡ verb) × LeadsTo (Line s) m.target (Ref n) × PassingAll s m.args ys
   NoteFine s (Open i n) = Unit {0}
   NoteFine s (Ask q i n) = Unit {0}
   NoteFine s (SettledTo n y) = Unit {0}
@@ -196,10 +198,16 @@ module _ (p : Past) where
   line_later s t l e (inl h) = inl h
   line_later s t l e (inr h) = inr (l.0 e h)
 
+  source_later : (s t : Vat Name) → Later s t → (m : Message Name) → Source s m → Source t m
+  source_later s t l m (inl h) = inl (sent_later s t l m h)
+  source_later s t l m (inr (inl h)) = inr (inl (came_later s t l p.step m h))
+  source_later s t l m (inr (inr h)) = inr (inr h)
+
+  pub lead_later : (s t : Vat Name) → Later s t → (x y : Value Name) → LeadsTo (Line s) x y → LeadsTo (Line t) x y
+  lead_later s t l x y h = leads_map (Line s) (Line t) (kept_all (Line s) (Line t) (line_later s t l)) x y h
+
   pub fine_later : (s t : Vat Name) → Later s t → (m : Message Name) → Fine s m → Fine t m
-  fine_later s t l m (inl h) = inl (sent_later s t l m h)
-  fine_later s t l m (inr (inl h)) = inr (inl (came_later s t l p.step m h))
-  fine_later s t l m (inr (inr h)) = inr (inr h)
+  fine_later s t l m h = (h.0, lead_later s t l h.0 m.target h.1, source_later s t l (record m { target = h.0 }) h.2)
 
   pub passing_later : (s t : Vat Name) → Later s t → (x : Value Name) (y : Passed Name) → Passing s x y → Passing t x y
   passing_later s t l x y h = passes_map (Line s) (Line t) (kept_all (Line s) (Line t) (line_later s t l)) (Members s) (Members t) l.1 (Offers s) (Offers t) (λ w i n k. l.2 _ k) x y h
@@ -208,7 +216,7 @@ module _ (p : Past) where
   passing_all_later s t l xs ys h = pass_all_map (Line s) (Line t) (kept_all (Line s) (Line t) (line_later s t l)) (Members s) (Members t) l.1 (Offers s) (Offers t) (λ w i n k. l.2 _ k) xs ys h
 
   note_later : (s t : Vat Name) → Later s t → (n : Note Name) → NoteFine s n → NoteFine t n
-  note_later s t l (Deliver i n verb ys) h = (h.0, fine_later s t l h.0 h.1, h.2, h.3, passing_all_later s t l h.0.args ys h.4)
+  note_later s t l (Deliver i n verb ys) h = (h.0, fine_later s t l h.0 h.1, h.2, h.3, lead_later s t l h.0.target (Ref n) h.4, passing_all_later s t l h.0.args ys h.5)
   note_later s t l (Open i n) h = tt
   note_later s t l (Ask q i n) h = tt
   note_later s t l (SettledTo n y) h = tt

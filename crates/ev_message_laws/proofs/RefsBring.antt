@@ -2,42 +2,23 @@
 use Rattle.std.proofs.Common.{◌≡◌, ℕ, zero, suc, Bool, true, false, List, [], ◌∷◌, Option, Some, None, length, refl, subst, ◌⊎◌, inl, inr, if◌then◌else◌, ◌==◌}
 use Rattle.std.specs.Prelude.{slice_get, codes}
 use Rattle.ev_machine.specs.Values.{Words, Value, Null, Flag, Number, Letter, Text, Prim, Broken, Items, Ref, Name, Spot, Own, Foreign, NoObject, naming, same_reference}
-use Rattle.ev_machine.specs.State.{Message, Standing, Unsettled, WaitsOn, Viewed, Settled, Known, Passed, Passeds, Plain, AGift, Many, NoMore, More, Deliver, Open, Ask, SettledTo, Elsewhere, Shorten, Hold, React, Settle, Sends, Reacts, Settles, Vat, Act, is_in, spend, each, give, ◌>>=◌, ◌>>◌}
+use Rattle.ev_machine.specs.State.{look, tell, new_message, Message, Standing, Unsettled, WaitsOn, Viewed, Settled, Known, Passed, Passeds, Plain, AGift, Many, NoMore, More, Deliver, Hold, React, Settle, Sends, Reacts, Settles, Vat, Act, is_in, spend, each, give, ◌>>=◌, ◌>>◌}
 use Rattle.ev_machine.specs.Native.{list_at}
 use Rattle.ev_machine.specs.Refs as refs
 use Rattle.ev_machine.specs.Refs.{Place, Near, Mine, Away, Gone, Parcel}
-use Rattle.ev_machine_laws.specs.Steps.{Step, Opens, Takes, Receives, Notices}
 use Rattle.ev_name_laws.proofs.SameNames.{reference_is}
 use Rattle.ev_connected_laws.specs.Known.{IsAmong, AllOf}
-use Rattle.ev_message_laws.specs.Stems.{LeadsTo, itself, settled, viewed, Stems, sent, reacted, carried}
-use Rattle.ev_message_laws.proofs.Passing.{kept_all, passes_on, leads_map, all_map}
-use Rattle.ev_message_laws.proofs.Moments.{Past, Line, Members, StandTold, Came, Fine, fine_later, Passing, PassingAll, line_later, passing_later, passing_all_later, KnownFine, Good, Ends, Any, Brings, Does, Lasting, does_bind, does_then, does_also, does_any, does_from, does_to, does_keep, does_give, does_look, brings_does, brings_bind, brings_then, brings_look, brings_give, brings_each}
+use Rattle.ev_message_laws.specs.Stems.{LeadsTo, itself, settled, viewed}
+use Rattle.ev_message_laws.proofs.Passing.{kept_all, passes_on, leads_on, leads_map, all_map}
+use Rattle.ev_message_laws.proofs.Moments.{Past, Line, Members, StandTold, Fine, fine_later, Passing, PassingAll, line_later, passing_later, passing_all_later, KnownFine, Good, Ends, Any, Brings, Does, Lasting, does_bind, does_then, does_also, does_any, does_from, does_to, does_keep, does_give, does_look, brings_does, brings_bind, brings_then, brings_look, brings_give, brings_each}
 use Rattle.ev_message_laws.proofs.Singles.{brings, brings_spend, brings_draw, brings_come, brings_message, brings_open, does_tell, does_enqueue, does_out, does_open, does_alter, alters_tell, tells_posted, tells_lost}
 
 abbrev pub GoodSettler : Past → (Name → Value Name → Act Name (Unit {0})) → Type 0
 GoodSettler past settle = (p : Name) (y : Value Name) → Brings past (settle p y)
 
--- a target does not matter
-stems_target : (past : Past) (m : Message Name) (y : Value Name) → Stems past.world past.vat m → Stems past.world past.vat (record m { target = y })
-stems_target past m y (sent a x h) = sent a x h
-stems_target past m y (reacted a x o t e h) = reacted a x o t e h
-stems_target past m y (carried u n ys h i j k l) = carried u n ys h i j k l
-
-came_at : (s : Vat Name) (step : Step Name Name) (m : Message Name) (y : Value Name) → Came s step m → Came s step (record m { target = y })
-came_at s (Receives from (Deliver x z verb ys)) m y h = h
-came_at s (Receives from (Open i x)) m y h = h
-came_at s (Receives from (Ask q i x)) m y h = h
-came_at s (Receives from (SettledTo x z)) m y h = h
-came_at s (Receives from (Elsewhere x c)) m y h = h
-came_at s (Receives from (Shorten x c i)) m y h = h
-came_at s (Opens tree depth root given) m y h = h
-came_at s (Takes tree depth n) m y h = h
-came_at s (Notices w) m y h = h
-
-came_target : (past : Past) (s : Vat Name) (m : Message Name) (y : Value Name) → Fine past s m → Fine past s (record m { target = y })
-came_target past s m y (inl h) = inl h
-came_target past s m y (inr (inl h)) = inr (inl (came_at s past.step m y h))
-came_target past s m y (inr (inr h)) = inr (inr (stems_target past m y h))
+-- a target is followed
+fine_on : (past : Past) (s : Vat Name) (m : Message Name) (y : Value Name) → Fine past s m → LeadsTo (Line past s) m.target y → Fine past s (record m { target = y })
+fine_on past s m y h l = (h.0, leads_on (Line past s) h.0 m.target y h.1 l, h.2)
 
 -- to each of a list, of which something is known that stays so
 does_each : {A : Type 0} (past : Past) (F : A → Vat Name → Type 0) {f : A → Act Name (Unit {0})} → ((x : A) → Lasting past (F x)) → ((x : A) → Does past (F x) (Any past) (f x)) → (xs : List A) → Does past (λ s. AllOf (λ x. F x s) xs) (Any past) (each f xs)
@@ -48,6 +29,15 @@ does_each past F l h (x ∷ xs) = does_then past (does_from past (λ s i. (i.1, 
 
 abbrev IsBroken : Value Name → Type 0
 IsBroken y = (p : Words) × (y ≡ Broken p)
+
+gone_near : (p : Words) → ◌≡◌ {A = Place Name} (Gone p) Near → ⊥
+gone_near p e = cc
+
+gone_mine : (p : Words) (n : Name) → ◌≡◌ {A = Place Name} (Gone p) (Mine n) → ⊥
+gone_mine p n e = cc
+
+gone_away : (p : Words) (h : ℕ) (n : Name) (o : Bool) → ◌≡◌ {A = Place Name} (Gone p) (Away h n o) → ⊥
+gone_away p h n o e = cc
 
 module _ (word : ℕ → ℕ) (v : ℕ) (past : Past) where
   -- ---- following
@@ -279,12 +269,18 @@ module _ (word : ℕ → ℕ) (v : ℕ) (past : Past) where
   fine_lasts : (m : Message Name) → Lasting past (λ s. Fine past s m)
   fine_lasts m s t l h = fine_later past s t l m h
 
-  pub does_deliver : (m : Message Name) (h : ℕ) (n : Name) → Does past (λ s. Fine past s m) (Any past) (refs.deliver (naming word v) m h n)
+  abbrev GoesTo : Message Name → Name → Vat Name → Type 0
+  GoesTo m n s = Fine past s m × LeadsTo (Line past s) m.target (Ref n)
+
+  goes_lasts : (m : Message Name) (n : Name) → Lasting past (GoesTo m n)
+  goes_lasts m n s t l h = (fine_later past s t l m h.0, lead_lasts m.target (Ref n) s t l h.1)
+
+  pub does_deliver : (m : Message Name) (h : ℕ) (n : Name) → Does past (GoesTo m n) (Any past) (refs.deliver (naming word v) m h n)
   unfolding refs.deliver
-  does_deliver m h n = does_bind past (does_from past (λ s i. (i, tt)) (does_also past (λ s. Fine past s m) (fine_lasts m) (does_pass_all h m.args)))
-      (λ ys. does_then past (does_keep past (λ s. Fine past s m × PassingAll past s m.args ys) (λ s t l i. (fine_lasts m s t l i.0, passing_all_later past s t l m.args ys i.1)) (tells_posted past h m.id))
-      (λ a. does_to past (λ b t i. tt) (does_from past (λ s i. (m, i.0, refl, refl, i.1)) (does_out past h (Deliver m.id n m.verb ys)
-      (λ s t l i. (i.0, fine_lasts i.0 s t l i.1, i.2, i.3, passing_all_later past s t l i.0.args ys i.4))))))
+  does_deliver m h n = does_bind past (does_from past (λ s i. (i, tt)) (does_also past (GoesTo m n) (goes_lasts m n) (does_pass_all h m.args)))
+      (λ ys. does_then past (does_keep past (λ s. GoesTo m n s × PassingAll past s m.args ys) (λ s t l i. (goes_lasts m n s t l i.0, passing_all_later past s t l m.args ys i.1)) (tells_posted past h m.id))
+      (λ a. does_to past (λ b t i. tt) (does_from past (λ s i. (m, i.0.0, refl, refl, i.0.1, i.1)) (does_out past h (Deliver m.id n m.verb ys)
+      (λ s t l i. (i.0, fine_lasts i.0 s t l i.1, i.2, i.3, lead_lasts i.0.target (Ref n) s t l i.4, passing_all_later past s t l i.0.args ys i.5))))))
 
   -- ---- sending on
 
@@ -292,20 +288,55 @@ module _ (word : ℕ → ℕ) (v : ℕ) (past : Past) where
   unfolding refs.wait_on
   brings_wait_on p q = search (brings) depth 14
 
-  does_pass_on : (m : Message Name) (h : ℕ) (n : Name) → Does past (λ s. Fine past s m) (Any past) (refs.pass_on (naming word v) m h n)
+  does_pass_on : (m : Message Name) (h : ℕ) (n : Name) → Does past (GoesTo m n) (Any past) (refs.pass_on (naming word v) m h n)
   unfolding refs.pass_on
-  does_pass_on m h n = does_bind past (does_keep past (λ s. Fine past s m) (fine_lasts m) (brings_come word v past _ h)) (λ a. does_then past (does_deliver m h n) (λ b. does_any past (brings_wait_on m.answer a)))
+  does_pass_on m h n = does_bind past (does_keep past (GoesTo m n) (goes_lasts m n) (brings_come word v past _ h)) (λ a. does_then past (does_deliver m h n) (λ b. does_any past (brings_wait_on m.answer a)))
 
-  does_send_to : (settle : Name → Value Name → Act Name (Unit {0})) → GoodSettler past settle → (m : Message Name) (y : Value Name) (o : Place Name) → Does past (λ s. Fine past s m) (Any past) (refs.send_to (naming word v) settle m y o)
+  -- a target is followed to what has that place; nothing is asked where it is broken
+  abbrev ToPlace : Value Name → Value Name → Place Name → Vat Name → Type 0
+  ToPlace x y Near s = LeadsTo (Line past s) x y
+  ToPlace x y (Mine n) s = LeadsTo (Line past s) x y
+  ToPlace x y (Away h n o) s = LeadsTo (Line past s) x y × (y ≡ Ref n)
+  ToPlace x y (Gone t) s = Unit {0}
+
+  place_lasts : (x y : Value Name) (o : Place Name) → Lasting past (ToPlace x y o)
+  place_lasts x y Near s t l h = lead_lasts x y s t l h
+  place_lasts x y (Mine n) s t l h = lead_lasts x y s t l h
+  place_lasts x y (Away w n o) s t l h = (lead_lasts x y s t l h.0, h.1)
+  place_lasts x y (Gone p) s t l h = tt
+
+  broken_place : (s : Vat Name) (x y : Value Name) (o : Place Name) → refs.place (naming word v) s y ≡ o → IsBroken y → ToPlace x y o s
+  unfolding refs.place
+  broken_place s x y (Gone t) e b = tt
+  broken_place s x y Near e b = let f : refs.place (naming word v) s (Broken b.0) ≡ Near = subst (λ z. refs.place (naming word v) s z ≡ Near) b.1 e in absurd (gone_near b.0 f)
+  broken_place s x y (Mine n) e b = let f : refs.place (naming word v) s (Broken b.0) ≡ Mine n = subst (λ z. refs.place (naming word v) s z ≡ Mine n) b.1 e in absurd (gone_mine b.0 n f)
+  broken_place s x y (Away h n o) e b = let f : refs.place (naming word v) s (Broken b.0) ≡ Away h n o = subst (λ z. refs.place (naming word v) s z ≡ Away h n o) b.1 e in absurd (gone_away b.0 h n o f)
+
+  at_place : (s : Vat Name) (x y : Value Name) (o : Place Name) → refs.place (naming word v) s y ≡ o → Follows s x y → ToPlace x y o s
+  at_place s x y o e (inr b) = broken_place s x y o e b
+  at_place s x y Near e (inl l) = l
+  at_place s x y (Mine n) e (inl l) = l
+  at_place s x y (Away h n o) e (inl l) = (l, away_ref s y h n o e)
+  at_place s x y (Gone t) e (inl l) = tt
+
+  follow_lasts : (x y : Value Name) → Lasting past (λ s. Follows s x y)
+  follow_lasts x y s t l (inl h) = inl (lead_lasts x y s t l h)
+  follow_lasts x y s t l (inr h) = inr h
+
+  does_send_to : (settle : Name → Value Name → Act Name (Unit {0})) → GoodSettler past settle → (m : Message Name) (y : Value Name) (o : Place Name) → Does past (λ s. Fine past s m × ToPlace m.target y o s) (Any past) (refs.send_to (naming word v) settle m y o)
   unfolding refs.send_to
-  does_send_to settle h m y Near = does_from past (λ s i. came_target past s m y i) (does_enqueue past (record m { target = y }))
-  does_send_to settle h m y (Mine n) = does_from past (λ s i. came_target past s m y i) (does_alter word v past (Hold (record m { target = y })) n)
-  does_send_to settle h m y (Away w n o) = does_pass_on m w n
+  does_send_to settle h m y Near = does_from past (λ s i. fine_on past s m y i.0 i.1) (does_enqueue past (record m { target = y }))
+  does_send_to settle h m y (Mine n) = does_from past (λ s i. fine_on past s m y i.0 i.1) (does_alter word v past (Hold (record m { target = y })) n)
+  does_send_to settle h m y (Away w n o) = does_from past (λ s i. (i.0, subst (λ z. LeadsTo (Line past s) m.target z) i.1.1 i.1.0)) (does_pass_on m w n)
   does_send_to settle h m y (Gone t) = does_from past (λ s i. tt) (does_any past (brings_then past (tells_lost past m.id) (h m.answer (Broken t))))
+
+  send_placed : (settle : Name → Value Name → Act Name (Unit {0})) → GoodSettler past settle → (m : Message Name) (y : Value Name)
+      → Does past (λ s. Fine past s m × Follows s m.target y) (Any past) (look (λ s. refs.place (naming word v) s y) >>= λ o. refs.send_to (naming word v) settle m y o)
+  send_placed settle h m y = does_look past _ _ (λ s i g. (does_send_to settle h m y _).after s (i.0, at_place s m.target y _ refl i.1) g)
 
   pub does_send_on : (settle : Name → Value Name → Act Name (Unit {0})) → GoodSettler past settle → (m : Message Name) → Does past (λ s. Fine past s m) (Any past) (refs.send_on (naming word v) settle m)
   unfolding refs.send_on
-  does_send_on settle h m = does_look past _ _ (λ s i g. (does_look past _ _ (λ t j k. (does_send_to settle h m _ _).after t j k)).after s i g)
+  does_send_on settle h m = does_look past _ _ (λ s i g. (send_placed settle h m _).after s (i, follows s g m.target) g)
 
   pub brings_inform_of : (p : Name) (w : ℕ) (y : Value Name) (o : Place Name) → Brings past (refs.inform_of (naming word v) p w y o)
   unfolding refs.inform_of
@@ -387,19 +418,32 @@ module _ (word : ℕ → ℕ) (v : ℕ) (past : Past) where
 
   -- ---- sending and reacting
 
-  does_send_first : (m : Message Name) (y : Value Name) (o : Place Name) → Does past (λ s. Fine past s m) (Any past) (refs.send_first (naming word v) m y o)
+  gone_sent : (m : Message Name) (y : Value Name) (t : Words) → Brings past (refs.send_first (naming word v) m y (Gone t))
+  unfolding refs.send_first refs.send_to
+  gone_sent m y t = brings_then past (tells_lost past m.id) (brings_settle m.answer (Broken t))
+
+  does_send_first : (m : Message Name) (x y : Value Name) (o : Place Name) → Does past (λ s. Fine past s (record m { target = x }) × ToPlace x y o s) (Any past) (refs.send_first (naming word v) (record m { target = y }) y o)
   unfolding refs.send_first
-  does_send_first m y (Away h n o) = does_deliver m h n
-  does_send_first m y Near = does_send_to (refs.settle (naming word v)) brings_settle m y Near
-  does_send_first m y (Mine n) = does_send_to (refs.settle (naming word v)) brings_settle m y (Mine n)
-  does_send_first m y (Gone t) = does_send_to (refs.settle (naming word v)) brings_settle m y (Gone t)
+  does_send_first m x y (Away h n o) = does_from past (λ s i. (fine_on past s (record m { target = x }) y i.0 i.1.0, subst (λ z. LeadsTo (Line past s) y z) i.1.1 itself)) (does_deliver (record m { target = y }) h n)
+  does_send_first m x y Near = does_from past (λ s i. (fine_on past s (record m { target = x }) y i.0 i.1, itself)) (does_send_to (refs.settle (naming word v)) brings_settle (record m { target = y }) y Near)
+  does_send_first m x y (Mine n) = does_from past (λ s i. (fine_on past s (record m { target = x }) y i.0 i.1, itself)) (does_send_to (refs.settle (naming word v)) brings_settle (record m { target = y }) y (Mine n))
+  does_send_first m x y (Gone t) = does_from past (λ s i. tt) (does_any past (gone_sent (record m { target = y }) y t))
+
+  does_sends : (act : ℕ) (x y : Value Name) (o : Place Name) (verb : Words) (args : List (Value Name)) (id n : Name) → Does past (ToPlace x y o) (Any past)
+      (tell (Sends act (record { id = id; target = x; verb = verb; args = args; answer = n })) >> (refs.send_first (naming word v) (record { id = id; target = y; verb = verb; args = args; answer = n }) y o >> give (Ref n)))
+  does_sends act x y o verb args id n = does_then past (does_from past (λ s i. (i, tt)) (does_also past (ToPlace x y o) (place_lasts x y o) (does_tell past (Sends act (record { id = id; target = x; verb = verb; args = args; answer = n })) tt)))
+      (λ a. does_then past (does_from past (λ s i. ((x, itself, inl (inl (act, i.1))), i.0)) (does_send_first (record { id = id; target = x; verb = verb; args = args; answer = n }) x y o)) (λ b. does_any past (brings_give past (Ref n))))
+
+  does_numbered : (act : ℕ) (x y : Value Name) (o : Place Name) (verb : Words) (args : List (Value Name)) (u : ℕ) → Does past (ToPlace x y o) (Any past)
+      (new_message (naming word v) u >>= λ new. tell (Sends act (record { id = new.0; target = x; verb = verb; args = args; answer = new.1 })) >> (refs.send_first (naming word v) (record { id = new.0; target = y; verb = verb; args = args; answer = new.1 }) y o >> give (Ref new.1)))
+  does_numbered act x y o verb args u = does_bind past (does_keep past (ToPlace x y o) (place_lasts x y o) (brings_message word v past u)) (λ new. does_sends act x y o verb args new.0 new.1)
 
   pub brings_send : (act : ℕ) (x : Value Name) (verb : Words) (args : List (Value Name)) → Brings past (refs.send (naming word v) act x verb args)
   unfolding refs.send
-  brings_send act x verb args = brings_bind past (brings_look past _) (λ y. brings_bind past (brings_look past _) (λ o. brings_bind past (brings_look past _) (λ u. brings_bind past (brings_message word v past _) (λ new.
-      brings_does past (does_then past (does_tell past (Sends act (record { id = new.0; target = x; verb = verb; args = args; answer = new.1 })) tt)
-      (λ a. does_then past (does_from past (λ s i. inl (inl (act, x, i))) (does_send_first (record { id = new.0; target = y; verb = verb; args = args; answer = new.1 }) y o))
-      (λ b. does_any past (brings_give past (Ref new.1)))))))))
+  brings_send act x verb args = record {
+    after = λ s g. (does_look past {P = λ t. Unit {0}} _ _ (λ s i g. (does_look past {P = λ t. Follows t x (refs.follow (naming word v) s x)} _ _ (λ t j k. (does_look past {P = ToPlace x (refs.follow (naming word v) s x) (refs.place (naming word v) t (refs.follow (naming word v) s x))} _ _
+        (λ u a b. (does_numbered act x _ _ verb args _).after u a b)).after t (at_place t x _ _ refl j) k)).after s (follows s g x) g)).after s tt g;
+  }
 
   does_react_at : (m : Message Name) (o : Place Name) → Does past (λ s. Fine past s m) (Any past) (refs.react_at (naming word v) m o)
   unfolding refs.react_at
@@ -411,7 +455,7 @@ module _ (word : ℕ → ℕ) (v : ℕ) (past : Past) where
 
   reaction_fine : (s : Vat Name) (act : ℕ) (x o near : Value Name) (id n : Name) → IsAmong (Reacts act x o (refs.reaction (naming word v) id near x n)) s.happened → Fine past s (refs.reaction (naming word v) id near x n)
   unfolding refs.reaction
-  reaction_fine s act x o near id n i = inl (inr (act, x, o, near, refl, i))
+  reaction_fine s act x o near id n i = (near, itself, inl (inr (act, x, o, refl, i)))
 
   does_reacts : (m : Message Name) (o : Place Name) (n : Name) → Does past (λ s. Fine past s m) (Any past) (refs.react_at (naming word v) m o >> give (Ref n))
   does_reacts m o n = does_then past (does_react_at m o) (λ b. does_any past (brings_give past (Ref n)))

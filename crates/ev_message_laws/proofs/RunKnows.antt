@@ -294,9 +294,9 @@ module _ (script : Script) where
       either (inl k) = k
       either (inr i) = absurd (subst (λ z. IsAmong (AValue x) z) e i)
 
-  sender_knew : (w : World) (v a : ℕ) (m : Message Name) → IsConnected script w v (Sends a m) → Knew script w v a (Sends a m) m.args
+  sender_knew : (w : World) (v a : ℕ) (m : Message Name) → IsConnected script w v (Sends a m) → Knew script w v a (Sends a m) (m.target ∷ m.args)
   unfolding uses itself
-  sender_knew w v a m c = (c.0, (all_known v (held_from c.0.step c.0.before c.0.after) c.0.so a [] refl (m.target ∷ m.args) c.1.0).1)
+  sender_knew w v a m c = (c.0, (all_known v (held_from c.0.step c.0.before c.0.after) c.0.so a [] refl (m.target ∷ m.args) c.1.0))
 
   reactor_knew : (w : World) (v a : ℕ) (x o : Value Name) (m : Message Name) → IsConnected script w v (Reacts a x o m) → m.args ≡ x ∷ [] → Knew script w v a (Reacts a x o m) m.args
   unfolding uses itself
@@ -304,9 +304,9 @@ module _ (script : Script) where
       (c.0, subst (λ xs. AllOf (λ y. Knows (names script v) (held_from c.0.step c.0.before c.0.after) c.0.so a (AValue y)) xs) (sym e) (k.0, tt))
 
   begotten : (w : World) → LinesConnected script w → (v : ℕ) (m : Message Name) → Stems w v m → Begotten script w v m
-  begotten w c v m (stems.sent a x h) = sent a x h (sender_knew w v a (record m { target = x }) (c v _ h))
-  begotten w c v m (stems.reacted a x o t e h) = reacted a x o t h (reactor_knew w v a x o (record m { target = t }) (c v _ h) e)
-  begotten w c v m (stems.carried u n ys s i j p q) = carried u n ys (begotten w c u n s) i j p q
+  begotten w c v m (stems.sent a x h l) = sent a x h l (sender_knew w v a (record m { target = x }) (c v _ h))
+  begotten w c v m (stems.reacted a x o t e h l) = reacted a x o t h l (reactor_knew w v a x o (record m { target = t }) (c v _ h) e)
+  begotten w c v m (stems.carried u n z ys s i j k l p q) = carried u n z ys (begotten w c u n s) i j k l p q
 
   pub opened_connected : (ps rest : List Program) (w : World) → script.vats ≡ ps ++ rest → world.open_from script zero ps (begins script) ≡ Goes w → LinesConnected script w
   opened_connected ps rest w s e = (opened_knows ps rest w s e).lines

@@ -12,10 +12,10 @@ use Rattle.ev_connected_laws.specs.Known.{IsAmong, AllOf}
 use Rattle.ev_uses_laws.proofs.FineSteps.{among_left, among_right}
 use Rattle.ev_fate_laws.specs.Runs.{Reached}
 use Rattle.ev_fate_laws.proofs.RunCounts.{pick}
-use Rattle.ev_message_laws.specs.Stems.{HasLine, HasList, HasOpened, ArgsPass, ComesAs, ComeAll, Stems, sent, reacted, carried}
+use Rattle.ev_message_laws.specs.Stems.{LeadsTo, itself, HasLine, HasList, HasOpened, ArgsPass, ComesAs, ComeAll, Stems, sent, reacted, carried}
 use Rattle.ev_message_laws.specs.Laws.{NoteStems, AllStem, MessagesStemFromSends}
-use Rattle.ev_message_laws.proofs.Passing.{Kept, kept_all, all_map, all_end, pass_all_map, come_all_map}
-use Rattle.ev_message_laws.proofs.Moments.{Past, Line, Members, Offers, Later, StandTold, stand_map, IsTaken, TookFine, Came, Fine, NoteFine, KnownFine, PassingAll, Good, Ends, Brings, LearntAs, LearntAll, name_in, value_in}
+use Rattle.ev_message_laws.proofs.Passing.{Kept, kept_all, leads_map, leads_on, all_map, all_end, pass_all_map, come_all_map}
+use Rattle.ev_message_laws.proofs.Moments.{Past, Line, Members, Offers, Later, StandTold, stand_map, IsTaken, TookFine, Came, Source, Fine, NoteFine, KnownFine, PassingAll, Good, Ends, Brings, LearntAs, LearntAll, name_in, value_in}
 use Rattle.ev_message_laws.proofs.ArriveBring.{brings_arrive, brings_notice}
 use Rattle.ev_message_laws.proofs.EvalBring.{brings_opening, brings_taking}
 use Rattle.ev_message_laws.proofs.Links.{OpenedIn, opened_with, push_opened, push_puts, with_link_all, found_link, link_from}
@@ -29,21 +29,30 @@ Grows w x = ((v : ℕ) (e : Happened Name) → HasLine w v e → HasLine x v e)
     × ((v h i : ℕ) (n : Name) → HasOpened w v h i n → HasOpened x v h i n)
 
 module _ (w x : World) (g : Grows w x) where
+  leads_grow : (u : ℕ) (y z : Value Name) → LeadsTo (HasLine w u) y z → LeadsTo (HasLine x u) y z
+  leads_grow u y z h = leads_map (HasLine w u) (HasLine x u) (kept_all (HasLine w u) (HasLine x u) (g.0 u)) y z h
+
   args_grow : (u : ℕ) (xs : List (Value Name)) (ys : Passeds Name) → ArgsPass w u xs ys → ArgsPass x u xs ys
   args_grow u xs ys h = pass_all_map (HasLine w u) (HasLine x u) (kept_all (HasLine w u) (HasLine x u) (g.0 u)) (HasList w u) (HasList x u) (g.1 u) (HasOpened w u) (HasOpened x u) (g.2 u) xs ys h
 
   pub stems_grow : (v : ℕ) (m : Message Name) → Stems w v m → Stems x v m
-  stems_grow v m (sent a y h) = sent a y (g.0 v _ h)
-  stems_grow v m (reacted a y o t e h) = reacted a y o t e (g.0 v _ h)
-  stems_grow v m (carried u n ys s i j p c) = carried u n ys (stems_grow u n s) i j (args_grow u n.args ys p) (come_all_map (HasList w v) (HasList x v) (g.1 v) ys m.args c)
+  stems_grow v m (sent a y h l) = sent a y (g.0 v _ h) (leads_grow v y m.target l)
+  stems_grow v m (reacted a y o t e h l) = reacted a y o t e (g.0 v _ h) (leads_grow v t m.target l)
+  stems_grow v m (carried u n z ys s i j k l p c) = carried u n z ys (stems_grow u n s) i j (leads_grow u n.target (Ref z) k) (leads_grow v (Ref z) m.target l) (args_grow u n.args ys p) (come_all_map (HasList w v) (HasList x v) (g.1 v) ys m.args c)
 
   note_grow : (u : ℕ) (n : Note Name) → NoteStems w u n → NoteStems x u n
-  note_grow u (Deliver i n verb ys) h = (h.0, stems_grow u h.0 h.1, h.2, h.3, args_grow u h.0.args ys h.4)
+  note_grow u (Deliver i n verb ys) h = (h.0, stems_grow u h.0 h.1, h.2, h.3, leads_grow u h.0.target (Ref n) h.4, args_grow u h.0.args ys h.5)
   note_grow u (Open i n) h = tt
   note_grow u (Ask p i n) h = tt
   note_grow u (SettledTo n y) h = tt
   note_grow u (Elsewhere n c) h = tt
   note_grow u (Shorten n c i) h = tt
+
+-- a target may be followed
+stems_on : (w : World) (v : ℕ) (m : Message Name) (x : Value Name) → LeadsTo (HasLine w v) x m.target → Stems w v (record m { target = x }) → Stems w v m
+stems_on w v m x l (sent a y h k) = sent a y h (leads_on (HasLine w v) y x m.target k l)
+stems_on w v m x l (reacted a y o t e h k) = reacted a y o t e h (leads_on (HasLine w v) t x m.target k l)
+stems_on w v m x l (carried u n z ys s i j k q p c) = carried u n z ys s i j k (leads_on (HasLine w v) (Ref z) x m.target q l) p c
 
 -- what a vat knows of a name
 abbrev pub KnownStems : World → ℕ → Known Name → Type 0
@@ -202,15 +211,18 @@ module _ (v : ℕ) (w : World) (head : List Event) (s r t : Vat Name) (step : St
 
   -- where what the note brings stems from what was sent, and what is taken does
   module _ (brought : (m : Message Name) → Came t step m → Stems Next v m) (takes : (m : Message Name) → IsTaken step m → Stems w v m) where
-    next_stems : (m : Message Name) → Fine Before t m → Stems Next v m
+    source_stems : (m : Message Name) → Source Before t m → Stems Next v m
     unfolding world.event_of
-    next_stems m (inl (inl h)) = sent h.0 h.1 (new_line _ refl h.2)
-    next_stems m (inl (inr h)) = reacted h.0 h.1 h.2 h.3 h.4 (new_line _ refl h.5)
-    next_stems m (inr (inl h)) = brought m h
-    next_stems m (inr (inr h)) = stems_grow w Next next_grows v m h
+    source_stems m (inl (inl h)) = sent h.0 m.target (new_line _ refl h.1) itself
+    source_stems m (inl (inr h)) = reacted h.0 h.1 h.2 m.target h.3 (new_line _ refl h.4) itself
+    source_stems m (inr (inl h)) = brought m h
+    source_stems m (inr (inr h)) = stems_grow w Next next_grows v m h
+
+    next_stems : (m : Message Name) → Fine Before t m → Stems Next v m
+    next_stems m h = stems_on Next v m h.0 (leads_map (Line Before t) (HasLine Next v) kept_lines h.0 m.target h.1) (source_stems (record m { target = h.0 }) h.2)
 
     next_note : (n : Note Name) → NoteFine Before t n → NoteStems Next v n
-    next_note (Deliver i n verb ys) h = (h.0, next_stems h.0 h.1, h.2, h.3, next_pass h.0.args ys h.4)
+    next_note (Deliver i n verb ys) h = (h.0, next_stems h.0 h.1, h.2, h.3, leads_map (Line Before t) (HasLine Next v) kept_lines h.0.target (Ref n) h.4, next_pass h.0.args ys h.5)
     next_note (Open i n) h = tt
     next_note (Ask p i n) h = tt
     next_note (SettledTo n y) h = tt
@@ -254,9 +266,9 @@ put_back_stems v w head n s r step (Stops c t) at same none brought takes e h = 
 
 -- a note from vat u that stems there
 arrives_well : (v u : ℕ) (w : World) (ks : List Name) (n : Note Name) → NoteStems w u n → BringsWell v w (Receives u (read_note ks n))
-unfolding read_note
-arrives_well v u w ks (Deliver i n verb ys) h x t g f m c = carried u h.0 ys (stems_grow w x g u h.0 h.1) (h.2 ∙ c.0) (h.3 ∙ c.1) (args_grow w x g u h.0.args ys h.4)
-    (come_all_map (Members t) (HasList x v) f ys m.args (all_read (Members t) ys ks m.args c.2))
+unfolding read_note world.read_value
+arrives_well v u w ks (Deliver i n verb ys) h x t g f m c = carried u h.0 n ys (stems_grow w x g u h.0 h.1) (h.2 ∙ c.0) (h.3 ∙ c.1) (leads_grow w x g u h.0.target (Ref n) h.4)
+    (subst (λ z. LeadsTo (HasLine x v) (Ref n) z) (sym (c.2 ∙ value_read (world.read_all ys ks).known (Ref n))) itself) (args_grow w x g u h.0.args ys h.5) (come_all_map (Members t) (HasList x v) f ys m.args (all_read (Members t) ys ks m.args c.3))
 arrives_well v u w ks (Open i n) h x t g f m c = absurd c
 arrives_well v u w ks (Ask p i n) h x t g f m c = absurd c
 arrives_well v u w ks (SettledTo n y) h x t g f m c = absurd c
@@ -280,10 +292,10 @@ module _ (script : Script) where
   unfolding world.within world.readied
   within_stems v w head n step s q at same none ms ks brought takes h = let p : Past = record { world = w; vat = v; step = step } in
       put_back_stems v w head n s (world.readied w q) step _ at same none brought takes ((step_brings v w step).after (world.readied w q) (
-        all_map (Stems w v) (Fine p (world.readied w q)) (λ m i. inr (inr i)) q.queue ms,
+        all_map (Stems w v) (Fine p (world.readied w q)) (λ m i. (m.target, itself, inr (inr i))) q.queue ms,
         all_map (KnownStems w v) (KnownFine p (world.readied w q)) (λ k i. (
-          all_map (Stems w v) (Fine p (world.readied w q)) (λ m j. inr (inr j)) k.held i.0,
-          all_map (Stems w v) (Fine p (world.readied w q)) (λ m j. inr (inr j)) k.reactions i.1,
+          all_map (Stems w v) (Fine p (world.readied w q)) (λ m j. (m.target, itself, inr (inr j))) k.held i.0,
+          all_map (Stems w v) (Fine p (world.readied w q)) (λ m j. (m.target, itself, inr (inr j))) k.reactions i.1,
           stand_map (HasLine w v) (Line p (world.readied w q)) (kept_all (HasLine w v) (Line p (world.readied w q)) (λ e j. inl j)) k.name k.standing i.2,
         )) q.known ks,
         tt,

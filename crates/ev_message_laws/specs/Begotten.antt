@@ -1,12 +1,12 @@
 -- Only connectivity begets connectivity: what a message brings was known to the activation that sent it.
 use Rattle.std.specs.Prelude.{◌≡◌, ℕ, Some, slice_get, List, ◌∷◌, ◌++◌}
-use Rattle.ev_machine.specs.Values.{Value, Name}
+use Rattle.ev_machine.specs.Values.{Value, Ref, Name}
 use Rattle.ev_machine.specs.State.{Message, Passeds, Happened, Took, Sends, Reacts, Vat, Gives}
 use Rattle.ev_machine_laws.specs.Steps.{Step, does}
 use Rattle.ev_run.specs.World.{Script, Program, Entry, readied, open_vat, step as enter, Event, Link, World, Goes, names, events_of, begins, open_from, steps_from}
 use Rattle.ev_connected_laws.specs.Known.{AValue, AllOf, Knows}
 use Rattle.ev_connected_laws.specs.Connected.{LineWell, held_from}
-use Rattle.ev_message_laws.specs.Stems.{HasLine, HasList, ArgsPass, ComeAll}
+use Rattle.ev_message_laws.specs.Stems.{LeadsTo, HasLine, HasList, ArgsPass, ComeAll}
 
 -- a world to which opening turns of the vats of the script, each of its own program, and entries lead
 pub data IsReached (script : Script) : World → Type 0 where
@@ -43,12 +43,13 @@ IsConnected script w v e = (l : LineOf script w v e) × LineWell (names script v
 abbrev pub Knew : Script → World → ℕ → ℕ → Happened Name → List (Value Name) → Type 0
 Knew script w v a e xs = (l : LineOf script w v e) × AllOf (λ x. Knows (names script v) (held_from l.step l.before l.after) l.so a (AValue x)) xs
 
--- A message at vat v: the activation that sent it there, or reacted there, knew each of its arguments; or a note brought it from vat u, where that is so,
+-- A message at vat v: the activation that sent it there, or reacted there, knew each of its arguments, and a target that leads to that of the message; or a note brought it from vat u, where that is so,
 -- and each of its arguments stands for one that it had there.
 pub data Begotten (script : Script) (w : World) : ℕ → Message Name → Type 0 where
-  sent : {v : ℕ} {m : Message Name} (a : ℕ) (x : Value Name) → HasLine w v (Sends a (record m { target = x })) → Knew script w v a (Sends a (record m { target = x })) m.args → Begotten script w v m
-  reacted : {v : ℕ} {m : Message Name} (a : ℕ) (x o t : Value Name) → HasLine w v (Reacts a x o (record m { target = t })) → Knew script w v a (Reacts a x o (record m { target = t })) m.args → Begotten script w v m
-  carried : {v : ℕ} {m : Message Name} (u : ℕ) (n : Message Name) (ys : Passeds Name) → Begotten script w u n → n.id ≡ m.id → n.verb ≡ m.verb
+  sent : {v : ℕ} {m : Message Name} (a : ℕ) (x : Value Name) → HasLine w v (Sends a (record m { target = x })) → LeadsTo (HasLine w v) x m.target → Knew script w v a (Sends a (record m { target = x })) (x ∷ m.args) → Begotten script w v m
+  reacted : {v : ℕ} {m : Message Name} (a : ℕ) (x o t : Value Name) → HasLine w v (Reacts a x o (record m { target = t })) → LeadsTo (HasLine w v) t m.target → Knew script w v a (Reacts a x o (record m { target = t })) m.args → Begotten script w v m
+  carried : {v : ℕ} {m : Message Name} (u : ℕ) (n : Message Name) (z : Name) (ys : Passeds Name) → Begotten script w u n → n.id ≡ m.id → n.verb ≡ m.verb
+      → LeadsTo (HasLine w u) n.target (Ref z) → LeadsTo (HasLine w v) (Ref z) m.target
       → ArgsPass w u n.args ys → ComeAll (HasList w v) ys m.args → Begotten script w v m
 
 -- in a world each line is connected

@@ -1,15 +1,15 @@
 -- In every world of a run each message stems from what was sent.
 use Rattle.std.specs.Prelude.{◌≡◌, ℕ, Some, slice_get}
-use Rattle.ev_machine.specs.Values.{Name}
+use Rattle.ev_machine.specs.Values.{Name, Ref}
 use Rattle.ev_machine.specs.State.{Message, Known, Note, Deliver, Open, Ask, SettledTo, Elsewhere, Shorten, Took, Vat}
 use Rattle.ev_run.specs.World.{Link, Here, World}
 use Rattle.ev_connected_laws.specs.Known.{IsAmong, AllOf}
 use Rattle.ev_fate_laws.specs.Runs.{InRuns}
-use Rattle.ev_message_laws.specs.Stems.{ArgsPass, Stems}
+use Rattle.ev_message_laws.specs.Stems.{LeadsTo, HasLine, ArgsPass, Stems}
 
 -- a deliver note from vat u: its message is one there, and its arguments stand for those
 abbrev pub NoteStems : World → ℕ → Note Name → Type 0
-NoteStems w u (Deliver i n verb ys) = (m : Message Name) × Stems w u m × (m.id ≡ i) × (m.verb ≡ verb) × ArgsPass w u m.args ys
+NoteStems w u (Deliver i n verb ys) = (m : Message Name) × Stems w u m × (m.id ≡ i) × (m.verb ≡ verb) × LeadsTo (HasLine w u) m.target (Ref n) × ArgsPass w u m.args ys
 NoteStems w u (Open i n) = Unit {0}
 NoteStems w u (Ask p i n) = Unit {0}
 NoteStems w u (SettledTo n y) = Unit {0}

@@ -79,7 +79,7 @@ module _ (w : World) where
 
   -- A message at vat v: it was sent there, or reacted there, or a note brought it from vat u, where it stems from.
   pub data Stems : ℕ → Message Name → Type 0 where
-    sent : {v : ℕ} {m : Message Name} (a : ℕ) (x : Value Name) → HasLine v (Sends a (record m { target = x })) → Stems v m
-    reacted : {v : ℕ} {m : Message Name} (a : ℕ) (x o t : Value Name) → m.args ≡ x ∷ [] → HasLine v (Reacts a x o (record m { target = t })) → Stems v m
-    carried : {v : ℕ} {m : Message Name} (u : ℕ) (n : Message Name) (ys : Passeds Name) → Stems u n → n.id ≡ m.id → n.verb ≡ m.verb
+    sent : {v : ℕ} {m : Message Name} (a : ℕ) (x : Value Name) → HasLine v (Sends a (record m { target = x })) → LeadsTo (HasLine v) x m.target → Stems v m
+    reacted : {v : ℕ} {m : Message Name} (a : ℕ) (x o t : Value Name) → m.args ≡ x ∷ [] → HasLine v (Reacts a x o (record m { target = t })) → LeadsTo (HasLine v) t m.target → Stems v m
+    carried : {v : ℕ} {m : Message Name} (u : ℕ) (n : Message Name) (z : Name) (ys : Passeds Name) → Stems u n → n.id ≡ m.id → n.verb ≡ m.verb → LeadsTo (HasLine u) n.target (Ref z) → LeadsTo (HasLine v) (Ref z) m.target
         → ArgsPass u n.args ys → ComeAll (HasList v) ys m.args → Stems v m
