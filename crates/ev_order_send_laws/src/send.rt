@@ -1,0 +1,39 @@
+//! What sends and passings do to what is ahead of what, and what a whole turn does.
+
+ghost use Rattle.ev_order_send_laws.specs.Steps.{DeliveringGrows, PassingGrows, ReactingGrows, SendingGoesSo, TurnsGoSo};
+
+/// As a value passes to a vat the ways only grow, in the middle of a step, and each reference leads where
+/// it led: notes that let gifts go are put, and of those gifts nothing was said before.
+///
+/// So by `ev_order_laws::growing_keeps` what is ahead stays ahead, and what is doomed stays doomed. It
+/// asks that the vat is ready: it has its own number, what it knows is followed to an end, and what it
+/// will make is new. It is ready after it too.
+pub fn passing_grows()
+    ensures { PassingGrows }
+{}
+
+/// So they do as a message is delivered to another vat with all its arguments.
+pub fn delivering_grows()
+    ensures { DeliveringGrows }
+{}
+
+/// So they do as an object reacts on a value: the message of the reaction is new, and its answer comes to
+/// be known.
+pub fn reacting_grows()
+    ensures { ReactingGrows }
+{}
+
+/// A whole send by an activation goes by such changes, with the new message, its answer and its
+/// arguments; where the value is broken, the answer settles at the end.
+pub fn sending_goes_so()
+    ensures { SendingGoesSo }
+{}
+
+/// Whatever trees say, a whole turn, that takes a message or opens a vat, goes by changes that keep the
+/// vat ready, by which the ways only grow and each reference leads where it led, and by settlings and
+/// resolvings, each whole.
+///
+/// It is said of each end of the turn. So where each settling keeps what is ahead, the turn does.
+pub fn turns_go_so()
+    ensures { TurnsGoSo }
+{}
