@@ -327,7 +327,7 @@ module _ (script : Script) (honest : ℕ → Bool) (w : World) (v : ℕ) (r s : 
   unfolding aimed
   sent_gone y p d = if_all (Then y (Gone p)) (λ t. doomed_there nowhere) d
 
-  sent : (y : Value Name) (p : Place Name) → Waiting p → Honest p → IfGives (Then y p) (refs.send_to (names script v) settle m y p s)
+  pub sent : (y : Value Name) (p : Place Name) → Waiting p → Honest p → IfGives (Then y p) (refs.send_to (names script v) settle m y p s)
   unfolding refs.send_to
   sent y Near f g = sent_near y
   sent y (Mine n) f g = sent_mine y n f

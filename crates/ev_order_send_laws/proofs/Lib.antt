@@ -6,3 +6,4 @@ pub mod Opens
 pub mod Adds
 pub mod News
 pub mod Sendings
+pub mod Keeping

@@ -1,6 +1,6 @@
 //! What sends and passings do to what is ahead of what, and what a whole turn does.
 
-ghost use Rattle.ev_order_send_laws.specs.Steps.{DeliveringGrows, PassingGrows, ReactingGrows, SendingGoesSo, TurnsGoSo};
+ghost use Rattle.ev_order_send_laws.specs.Steps.{CoursesKeep, DeliveringGrows, GrownKeeps, PassingGrows, ReactingGrows, SendingGoesSo, TurnsGoSo};
 
 /// As a value passes to a vat the ways only grow, in the middle of a step, and each reference leads where
 /// it led: notes that let gifts go are put, and of those gifts nothing was said before.
@@ -36,4 +36,18 @@ pub fn sending_goes_so()
 /// It is said of each end of the turn. So where each settling keeps what is ahead, the turn does.
 pub fn turns_go_so()
     ensures { TurnsGoSo }
+{}
+
+/// By changes by which the ways only grow and each reference leads where it led, what is ahead of a
+/// reference or a message stays ahead of it, and what is doomed stays doomed.
+pub fn grown_keeps()
+    ensures { GrownKeeps }
+{}
+
+/// So a course keeps what is ahead, and keeps the vat ready, where each settling in it does.
+///
+/// By `turns_go_so` each turn is such a course, so of a turn only its settlings are open. Of messages that
+/// the vat itself holds nothing is said: they come elsewhere as what holds them settles.
+pub fn courses_keep()
+    ensures { CoursesKeep }
 {}
