@@ -7,3 +7,4 @@ pub mod Adds
 pub mod News
 pub mod Sendings
 pub mod Keeping
+pub mod Sent

@@ -1,14 +1,14 @@
 -- What a vat does with references, but for settlings, keeps it ready, and the ways only grow; so a whole turn goes by such changes and by settlings.
 use Rattle.std.proofs.Common.{arith, ◌≡◌, ℕ, zero, suc, ◌-◌, ◌≤◌, Bool, true, false, List, [], ◌∷◌, ◌++◌, Option, Some, None, length, refl, sym, subst}
-use Rattle.ev_machine.specs.Values.{Words, Value, Name, Naming, IsOwn, naming, name_of, mail_of, answer_of}
-use Rattle.ev_machine.specs.State.{Message, Passed, Passeds, Plain, AGift, Many, NoMore, More, Note, Deliver, Open, Change, Hold, React, ToTell, Vat, Done, Gives, Throws, Ejects, Stops, Act, ◌>>=◌, ◌>>◌, and_then, give, draw, draws, send_out, enqueue, alter, new_message, drawn_at}
+use Rattle.ev_machine.specs.Values.{Words, Value, Ref, Name, Naming, IsOwn, naming, name_of, mail_of, answer_of}
+use Rattle.ev_machine.specs.State.{Message, Passed, Passeds, Plain, AGift, Many, NoMore, More, Note, Deliver, Open, Change, Hold, React, ToTell, Vat, Done, Gives, Throws, Ejects, Stops, Act, ◌>>=◌, ◌>>◌, and_then, give, draw, draws, send_out, enqueue, alter, new_message, drawn_at, look, tell, Sends}
 use Rattle.ev_machine.specs.State as state
 use Rattle.ev_machine.specs.Refs as refs
 use Rattle.ev_machine.specs.Refs.{Place, Near, Mine, Away, Gone}
 use Rattle.ev_machine_laws.specs.Steps.{After}
 use Rattle.ev_run.specs.World.{Script, World, names}
 use Rattle.ev_order_laws.specs.Worlds.{AddsOnly}
-use Rattle.ev_order_send_laws.specs.Steps.{StaysReady, Course, over, grew, settled, resolved, PassingGrows, DeliveringGrows, ReactingGrows, SendingGoesSo, TurnsGoSo}
+use Rattle.ev_order_send_laws.specs.Steps.{StaysReady, Course, over, grew, settled, resolved, PassingGrows, DeliveringGrows, ReactingGrows, SendingGrows, SendingGoesSo, TurnsGoSo}
 use Rattle.ev_order_send_laws.proofs.Moves.{Keeps, IsKept, IsKeptUnder, keeps_bind, keeps_then, keeps_look, keeps_give, keeps_tell, keeps_spend, keeps_if}
 use Rattle.ev_order_send_laws.proofs.Evals.{keeps_taking, keeps_opening}
 use Rattle.ev_order_send_laws.proofs.Adds.{IsSimple, stays_adds, adds_nothing, adds_message, adds_note, change_adds}
@@ -131,6 +131,26 @@ module _ (script : Script) (honest : ℕ → Bool) (w : World) (v : ℕ) where
   unfolding refs.react
   stays_react act x o near = search (keeps_bind, keeps_then, keeps_look, keeps_give, keeps_tell, stays_message, stays_react_at, stays) depth 14
 
+  stays_send_first : (m : Message Name) (y : Value Name) (p : Place Name) → ((z : Words) → p ≡ Gone z → ⊥) → Keeps R (refs.send_first K m y p)
+  unfolding refs.send_first refs.send_to
+  stays_send_first m y (Away h n o) f = stays_deliver m h n
+  stays_send_first m y Near f = stays_enqueue (record m { target = y })
+  stays_send_first m y (Mine n) f = stays_hold (record m { target = y }) n
+  stays_send_first m y (Gone p) f = absurd (f p refl)
+
+  -- what follows when the value was followed, and its place is known
+  abbrev Following : ℕ → Value Name → Words → List (Value Name) → Value Name → Place Name → Act Name (Value Name)
+  Following act x verb args y p = look (λ s. s.number) >>= (λ u. new_message K (refs.answer_host K u p) >>= (λ new. tell (Sends act (record { id = new.0; target = x; verb = verb; args = args; answer = new.1 })) >> (refs.send_first K (record { id = new.0; target = y; verb = verb; args = args; answer = new.1 }) y p >> give (Ref new.1))))
+
+  stays_following : (act : ℕ) (x : Value Name) (verb : Words) (args : List (Value Name)) (y : Value Name) (p : Place Name) → ((z : Words) → p ≡ Gone z → ⊥) → Keeps R (Following act x verb args y p)
+  stays_following act x verb args y p f =
+      let first : ((m : Message Name) → Keeps R (refs.send_first K m y p)) = λ m. stays_send_first m y p f in
+      search (keeps_bind, keeps_then, keeps_look, keeps_give, keeps_tell, stays_message, stays) depth 14
+
+  pub stays_send : (act : ℕ) (x : Value Name) (verb : Words) (args : List (Value Name)) (s : Vat Name) → ((z : Words) → refs.place K s (refs.follow K s x) ≡ Gone z → ⊥) → After R s (refs.send K act x verb args s)
+  unfolding refs.send ◌>>=◌ and_then look
+  stays_send act x verb args s f = (stays_following act x verb args (refs.follow K s x) (refs.place K s (refs.follow K s x)) f).after s
+
   -- ---- courses
 
   join : {s t u : Vat Name} → C s t → C t u → C s u
@@ -218,6 +238,9 @@ delivering_grows = λ script honest w v h n m s. (stays_deliver script honest w 
 
 pub reacting_grows : ReactingGrows
 reacting_grows = λ script honest w v act x o near s. (stays_react script honest w v act x o near).after s
+
+pub sending_grows : SendingGrows
+sending_grows = λ script honest w v act x verb args s f. stays_send script honest w v act x verb args s f
 
 pub sending_goes_so : SendingGoesSo
 sending_goes_so = λ script honest w v act x verb args s. (so_send script honest w v act x verb args).after s

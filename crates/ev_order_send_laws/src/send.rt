@@ -1,6 +1,6 @@
 //! What sends and passings do to what is ahead of what, and what a whole turn does.
 
-ghost use Rattle.ev_order_send_laws.specs.Steps.{CoursesKeep, DeliveringGrows, GrownKeeps, PassingGrows, ReactingGrows, SendingGoesSo, TurnsGoSo};
+ghost use Rattle.ev_order_send_laws.specs.Steps.{CoursesKeep, DeliveringGrows, GrownKeeps, PassingGrows, ReactingGrows, SendingGoesSo, SendingGrows, SendsAreAhead, TurnsGoSo};
 
 /// As a value passes to a vat the ways only grow, in the middle of a step, and each reference leads where
 /// it led: notes that let gifts go are put, and of those gifts nothing was said before.
@@ -50,4 +50,22 @@ pub fn grown_keeps()
 /// the vat itself holds nothing is said: they come elsewhere as what holds them settles.
 pub fn courses_keep()
     ensures { CoursesKeep }
+{}
+
+/// A whole send by an activation, with the new message, its answer and all its arguments, makes the ways
+/// only grow, and each reference leads where it led.
+///
+/// It asks that the vat is ready and that the value is followed to no broken reference.
+pub fn sending_grows()
+    ensures { SendingGrows }
+{}
+
+/// After a whole send on a value that a vat has in hand, the new message is ahead of the place to which the
+/// value led: it stands there, or what is sent there is lost.
+///
+/// It asks that the vat is ready, that it and the host of what the value is followed to are honest, and
+/// that the value is data, an object or a name that the vat knows. Of a broken reference it is said of the
+/// place to which that led before its answer settled.
+pub fn sends_are_ahead()
+    ensures { SendsAreAhead }
 {}
