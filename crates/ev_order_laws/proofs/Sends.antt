@@ -116,7 +116,7 @@ ends_of v h l e = go (l.from == v) refl e
     go true i q = (eqb-true l.from v i, eqb-true l.to h q)
     go false i q = absurd (subst IsFalse q tt)
 
-found_ends : (v h : ℕ) (ls : List Link) (l : Link) → world.link_at v h ls ≡ Some l → (l.from ≡ v) × (l.to ≡ h)
+pub found_ends : (v h : ℕ) (ls : List Link) (l : Link) → world.link_at v h ls ≡ Some l → (l.from ≡ v) × (l.to ≡ h)
 unfolding world.link_at
 found_ends v h [] l e = none_some l e
 found_ends v h (k ∷ ls) l e = go (λ q. found_ends v h ls l q) (world.is_link v h k) refl e

@@ -1,6 +1,6 @@
 -- What is ahead of references and messages stays ahead in a course whose settlings keep it.
-use Rattle.std.proofs.Common.{◌≡◌, ℕ, Bool, sym, subst}
-use Rattle.ev_machine.specs.Values.{Name, Value}
+use Rattle.std.proofs.Common.{ℕ, Bool, sym, subst}
+use Rattle.ev_machine.specs.Values.{Name}
 use Rattle.ev_machine.specs.State.{Vat}
 use Rattle.ev_run.specs.World.{Script, World}
 use Rattle.ev_order_laws.specs.Ways.{Mid, Doom, Ahead}

@@ -8,3 +8,4 @@ pub mod News
 pub mod Sendings
 pub mod Keeping
 pub mod Sent
+pub mod Brought

@@ -1,17 +1,16 @@
 -- After a whole send the new message is ahead of the place to which the value led.
-use Rattle.std.proofs.Common.{◌≡◌, ℕ, zero, suc, Bool, true, false, List, [], ◌∷◌, ◌++◌, Option, Some, None, length, refl, sym, ap, subst, ◌∙◌, ◌⊎◌, inl, inr}
+use Rattle.std.proofs.Common.{◌≡◌, ℕ, suc, Bool, true, false, List, [], ◌∷◌, ◌++◌, Option, Some, length, refl, sym, ap, subst, ◌∙◌, ◌⊎◌, inl, inr}
 use Rattle.std.specs.Prelude.{slice_get, codes, ◌==◌}
-use Rattle.ev_machine.specs.Values.{Words, Value, Null, Flag, Number, Letter, Text, Prim, Broken, Items, Ref, Name, Root, Object, Promise, Answer, Gift, Sent, Naming, Spot, Own, Foreign, NoObject, IsSent, naming, name_of, mail_of, answer_of, spot_of}
+use Rattle.ev_machine.specs.Values.{Words, Value, Null, Flag, Number, Letter, Text, Prim, Broken, Items, Ref, Name, Root, Object, Promise, Answer, Gift, Sent, Naming, Spot, Own, Foreign, NoObject, naming, name_of, mail_of, answer_of, spot_of}
 use Rattle.ev_machine.specs.State.{Message, Known, Passeds, Put, Deliver, Posted, Sends, Vat, Done, Gives, Throws, Ejects, Stops, ◌>>=◌, ◌>>◌, and_then, give, look, tell, send_out, new_message, is_in, begun}
 use Rattle.ev_machine.specs.State as state
 use Rattle.ev_machine.specs.Refs as refs
 use Rattle.ev_machine.specs.Refs.{Place, Near, Mine, Away, Gone}
 use Rattle.ev_run.specs.World.{Script, World, names}
-use Rattle.ev_run.specs.World as world
 use Rattle.ev_order_laws.specs.Ways.{Ahead}
 use Rattle.ev_order_laws.specs.Ways as lanes
 use Rattle.ev_order_laws.specs.Places.{aimed, by_follow, of_name, leads_in, leads_at, leads, ways, amid}
-use Rattle.ev_order_laws.specs.Worlds.{IfGives, IsWaiting, IsObject, IsKnown, IsFixed}
+use Rattle.ev_order_laws.specs.Worlds.{IfGives, IsWaiting, IsObject, IsFixed}
 use Rattle.ev_order_laws.proofs.Sends.{get_put, sent, away, if_map}
 use Rattle.ev_order_laws.proofs.Coming.{old_entry, waits_here}
 use Rattle.ev_order_send_laws.specs.Steps.{LeadsAmid, Ready, IsHeld, SendsAreAhead}
@@ -225,7 +224,7 @@ module _ (script : Script) (honest : ℕ → Bool) (w : World) (v act : ℕ) (x 
   unfolding refs.send ◌>>=◌ ◌>>◌ and_then look tell new_message give names naming name_of mail_of answer_of
   send_ahead f = then_gives (Then Place0) (refs.send_first (names script v) (First Host) Y Place0 (After Host)) (Ref (New Host))
       (first_ahead (First Host) refl (After Host) (begun (New Host) Host) refl Place0
-        (λ n e. let k = mine_waits script honest w v s ready x n hand e in (k.0, old_entry (names script v) s.known (begun (New Host) Host) k.0 n k.1, k.2)) f)
+      (λ n e. let k = mine_waits script honest w v s ready x n hand e in (k.0, old_entry (names script v) s.known (begun (New Host) Host) k.0 n k.1, k.2)) f)
 
 pub sends_are_ahead : SendsAreAhead
 sends_are_ahead = λ script honest w v act x verb args r s at here f ready hand. if_map
