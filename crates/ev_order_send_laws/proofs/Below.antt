@@ -68,7 +68,7 @@ below_spares d (SettledTo n y) h = (refl, λ g. refl)
 below_spares d (Elsewhere n c) h = (refl, λ g. refl)
 below_spares d (Shorten n c i) h = (refl, λ g. and_false (c == g) (i == d) (less_not i d h))
 
-no_place : (d : ℕ) (f : Note Name → Bool) (l : Lane) (b : List Item) (ns : List (Note Name)) → ((n : Note Name) → Spares d n → f n ≡ false) → NotesBelow d ns → note_place f l b ns ≡ None
+pub no_place : (d : ℕ) (f : Note Name → Bool) (l : Lane) (b : List Item) (ns : List (Note Name)) → ((n : Note Name) → Spares d n → f n ≡ false) → NotesBelow d ns → note_place f l b ns ≡ None
 unfolding note_place
 no_place d f l b [] t h = refl
 no_place d f l b (n ∷ ns) t h = ap (λ c. elim c [ true ↦ in_lane l b (subject n) | false ↦ note_place f l (b ++ delivered (n ∷ [])) ns ]) (t n (below_spares d n h.0)) ∙ no_place d f l (b ++ delivered (n ∷ [])) ns t h.1

@@ -18,7 +18,7 @@ use Rattle.ev_order_send_laws.specs.Passing.{IsOpenAt, PassedHomeIsBehind, Passe
 
 -- ---- to its host
 
-home_behind : (w : Ways) (a b : ℕ) (bs : List Item) (n m : Name) → Within (w.stands (Way a b)) bs → Ahead w m (End (Way a b) n) → Ahead w m (Mid (Way a b) bs n)
+pub home_behind : (w : Ways) (a b : ℕ) (bs : List Item) (n m : Name) → Within (w.stands (Way a b)) bs → Ahead w m (End (Way a b) n) → Ahead w m (Mid (Way a b) bs n)
 home_behind w a b bs n m f (doomed_there (by_end d)) = doomed_there (by_mid d)
 home_behind w a b bs n m f (in_end {m = k} i g) = in_mid (f (record { mail = m; aim = k }) i) g
 home_behind w a b bs n m f (past_end h) = past_mid h
@@ -39,7 +39,7 @@ module _ (script : Script) (honest : ℕ → Bool) (w : World) where
   abbrev Leads : ℕ → Name → Place
   Leads u n = leads script honest w.vats w.links u (Ref n)
 
-  honest_link : (a b : ℕ) (l : Link) → honest a ≡ true → honest b ≡ true → l.from ≡ a → l.to ≡ b → is_honest script honest l ≡ true
+  pub honest_link : (a b : ℕ) (l : Link) → honest a ≡ true → honest b ≡ true → l.from ≡ a → l.to ≡ b → is_honest script honest l ≡ true
   unfolding is_honest
   honest_link a b l i j e f = ap (λ c. honest c && honest l.to) e ∙ ap (λ c. honest a && honest c) f ∙ ap (λ c. c && honest b) i ∙ j
 

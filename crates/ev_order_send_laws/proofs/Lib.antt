@@ -9,3 +9,4 @@ pub mod Sendings
 pub mod Keeping
 pub mod Sent
 pub mod Brought
+pub mod Given

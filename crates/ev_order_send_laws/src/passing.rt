@@ -1,6 +1,6 @@
 //! What is ahead of a reference is ahead of its passing.
 
-ghost use Rattle.ev_order_send_laws.specs.Passing.{OpenNamesLeadHome, PassedHomeIsBehind, PassedNameIsBehind};
+ghost use Rattle.ev_order_send_laws.specs.Passing.{OpenNamesLeadHome, PassedGiftIsBehind, PassedHomeIsBehind, PassedNameIsBehind};
 
 /// Where a name passes to its host, what is ahead of all that would be sent there on it is ahead of the
 /// passing, which is behind all that stands on the link.
@@ -22,4 +22,14 @@ pub fn passed_name_is_behind()
 /// that no vat knows.
 pub fn open_names_lead_home()
     ensures { OpenNamesLeadHome }
+{}
+
+/// Where a name of a third vat passes as a gift, what is ahead of all that would be sent there on it is
+/// ahead of the passing, wherever that stands on the link: the note that lets the gift go stands behind it.
+///
+/// It is said of the middle of a step. It asks that the vat is ready, that the three vats are others and
+/// honest, that the link on which the gift is let go is there and not cut, and that neither the receiver nor
+/// the host knows the gift of that draw.
+pub fn passed_gift_is_behind()
+    ensures { PassedGiftIsBehind }
 {}
