@@ -82,7 +82,7 @@ abbrev IsNothing : Option Place → Type 0
 IsNothing o = o ≡ None
 
 module _ (script : world.Script) (honest : ℕ → Bool) where
-  no_open : (h d : ℕ) (ls : List Link) → DrawsBelow d ls → open_place script honest h d ls ≡ None
+  pub no_open : (h d : ℕ) (ls : List Link) → DrawsBelow d ls → open_place script honest h d ls ≡ None
   unfolding open_place first_place
   no_open h d [] b = refl
   no_open h d (l ∷ ls) b = go (no_open h d ls b.2) (is_honest script honest l && (l.to == h))
@@ -91,7 +91,7 @@ module _ (script : world.Script) (honest : ℕ → Bool) where
       go rest true = ap (λ o. first_place o (open_place script honest h d ls)) (no_place d (opens d) (Way l.from l.to) [] l.notes (λ n s. s.0) b.0) ∙ rest
       go rest false = rest
 
-  no_shorten : (h d : ℕ) (ls : List Link) → DrawsBelow d ls → shorten_place script honest h d ls ≡ None
+  pub no_shorten : (h d : ℕ) (ls : List Link) → DrawsBelow d ls → shorten_place script honest h d ls ≡ None
   unfolding shorten_place first_place
   no_shorten h d [] b = refl
   no_shorten h d (l ∷ ls) b = go (no_shorten h d ls b.2) (is_honest script honest l)

@@ -1,7 +1,7 @@
 -- Where a name of a third vat passes as a gift, what is ahead of its target is ahead of the passing.
 use Rattle.std.proofs.Common.{◌≡◌, ℕ, zero, suc, Bool, true, false, List, [], ◌∷◌, ◌++◌, Option, Some, None, length, refl, sym, ap, subst, ◌∙◌, ◌⊎◌, inl, inr}
 use Rattle.std.proofs.lemmas.Bool.{ne_eqb, eqb-false}
-use Rattle.std.specs.Prelude.{slice_get, not, ◌==◌, ◌&&◌, if◌then◌else◌}
+use Rattle.std.specs.Prelude.{slice_get, not, ◌==◌, ◌&&◌, ◌||◌, if◌then◌else◌}
 use Rattle.ev_machine.specs.Values.{Value, Ref, Name, Gift, host_of}
 use Rattle.ev_machine.specs.State.{Passed, Plain, AGift, Note, Deliver, Open, Ask, SettledTo, Elsewhere, Shorten, Vat, Done, is_in, drawn_at, draws, draw, give, send_out, ◌>>=◌, ◌>>◌, and_then}
 use Rattle.ev_machine.specs.Refs as refs
@@ -10,13 +10,13 @@ use Rattle.ev_run.specs.World.{Script, Link, World, names}
 use Rattle.ev_run.specs.World as world
 use Rattle.ev_order_laws.specs.Ways.{Lane, Held, Way, Item, Place, Nowhere, Free, End, Mid, Ways, IsIn, Ahead, doomed_there, nowhere, past_end, past_mid}
 use Rattle.ev_order_laws.specs.Turns.{Within}
-use Rattle.ev_order_laws.specs.Places.{delivered, opens, subject, in_lane, note_place, first_place, opened_there, is_honest, open_place, shorten_place, was_put, or_never, gift_place, by_host, of_name, leads_in, leads_at, leads, unsettled, released, released_at, stands_at, onward_at, ways_of, ways, amid}
+use Rattle.ev_order_laws.specs.Places.{delivered, opens, shortens, subject, in_lane, note_place, any_note, first_place, opened_there, is_honest, open_place, shorten_place, was_put, or_never, gift_place, by_host, of_name, leads_in, leads_at, leads, unsettled, released, released_at, stands_at, onward_at, ways_of, ways, amid}
 use Rattle.ev_order_laws.specs.Worlds.{IfGives}
-use Rattle.ev_order_laws.proofs.Sends.{some_same, none_some, pushed_open, push_last, found_ends}
+use Rattle.ev_order_laws.proofs.Sends.{some_same, none_some, pushed_open, pushed_shut, push_last, found_ends}
 use Rattle.ev_order_laws.proofs.Changes.{growing_keeps}
 use Rattle.ev_order_send_laws.specs.Steps.{WaysAmid, NotesBelow, DrawsBelow, Ready}
 use Rattle.ev_order_send_laws.specs.Passing.{PassedGiftIsBehind}
-use Rattle.ev_order_send_laws.proofs.Below.{below_spares, no_place}
+use Rattle.ev_order_send_laws.proofs.Below.{below_spares, no_place, no_open, no_shorten}
 use Rattle.ev_order_send_laws.proofs.News.{opened}
 use Rattle.ev_order_send_laws.proofs.Brought.{home_behind, honest_link, over_link, open_names_lead_home}
 
@@ -147,6 +147,76 @@ module _ (script : Script) (honest : ℕ → Bool) (v g d : ℕ) (n : Name) (min
       ap (λ o. or_never script honest (was_put script honest g d ks) (first_place o (shorten_place script honest g d ks))) (open_last ls l b e f)
       ∙ said (was_put script honest g d ks) (Mid (Way v g) (delivered l.notes) n)
 
+  -- ---- on a link that is cut
+
+  abbrev Note0 : Note Name
+  Note0 = Open d n
+
+  abbrev Lost : Link → Link
+  Lost k = record k { log = k.log ++ Note0 ∷ [] }
+
+  with_cut : (k : Link) (ls : List Link) → world.is_link v g k ≡ true → k.cut ≡ true → world.with_link (world.pushed Note0) v g (k ∷ ls) ≡ Lost k ∷ ls
+  unfolding world.with_link
+  with_cut k ls e f = ap (λ c. elim c [ true ↦ world.pushed Note0 k ∷ ls | false ↦ k ∷ world.with_link (world.pushed Note0) v g ls ]) e ∙ ap (λ q. q ∷ ls) (pushed_shut Note0 k f)
+
+  open_same : (ls : List Link) (l : Link) → world.link_at v g ls ≡ Some l → l.cut ≡ true → open_place script honest g d (world.with_link (world.pushed Note0) v g ls) ≡ open_place script honest g d ls
+  unfolding open_place is_honest world.link_at
+  open_same [] l e f = none_some l e
+  open_same (k ∷ ls) l e f = go (λ q. open_same ls l q f) (world.is_link v g k) refl
+    where
+      go : (world.link_at v g ls ≡ Some l → open_place script honest g d (world.with_link (world.pushed Note0) v g ls) ≡ open_place script honest g d ls) → (c : Bool) → world.is_link v g k ≡ c
+          → open_place script honest g d (world.with_link (world.pushed Note0) v g (k ∷ ls)) ≡ open_place script honest g d (k ∷ ls)
+      go rest true i = let same = some_same k l (sym (link_here v g k ls i) ∙ e) in ap (λ qs. open_place script honest g d qs) (with_cut k ls i (subst (λ j. j.cut ≡ true) (sym same) f))
+      go rest false i = ap (λ qs. open_place script honest g d qs) (with_behind Note0 v g k ls i) ∙ ap (λ r. Opening (is_honest script honest k && (k.to == g)) (note_place (opens d) (Way k.from k.to) [] k.notes) r) (rest (sym (link_behind v g k ls i) ∙ e))
+
+  shorten_same : (ls : List Link) (l : Link) → world.link_at v g ls ≡ Some l → l.cut ≡ true → shorten_place script honest g d (world.with_link (world.pushed Note0) v g ls) ≡ shorten_place script honest g d ls
+  unfolding shorten_place is_honest world.link_at
+  shorten_same [] l e f = none_some l e
+  shorten_same (k ∷ ls) l e f = go (λ q. shorten_same ls l q f) (world.is_link v g k) refl
+    where
+      go : (world.link_at v g ls ≡ Some l → shorten_place script honest g d (world.with_link (world.pushed Note0) v g ls) ≡ shorten_place script honest g d ls) → (c : Bool) → world.is_link v g k ≡ c
+          → shorten_place script honest g d (world.with_link (world.pushed Note0) v g (k ∷ ls)) ≡ shorten_place script honest g d (k ∷ ls)
+      go rest true i = let same = some_same k l (sym (link_here v g k ls i) ∙ e) in ap (λ qs. shorten_place script honest g d qs) (with_cut k ls i (subst (λ j. j.cut ≡ true) (sym same) f))
+      go rest false i = ap (λ qs. shorten_place script honest g d qs) (with_behind Note0 v g k ls i) ∙ ap (λ r. Opening (is_honest script honest k) (note_place (shortens g d) (Way k.from k.to) [] k.notes) r) (rest (sym (link_behind v g k ls i) ∙ e))
+
+  or_true : (a : Bool) → (a || true) ≡ true
+  or_true true = refl
+  or_true false = refl
+
+  any_last : (ns : List (Note Name)) → any_note (opens d) (ns ++ Note0 ∷ []) ≡ true
+  unfolding any_note opens
+  any_last [] = ap (λ c. c || false) (same_number d)
+  any_last (k ∷ ns) = ap (λ c. opens d k || c) (any_last ns) ∙ or_true (opens d k)
+
+  logged : (l : Link) (more rest : Bool) → l.from ≡ v → l.to ≡ g → ((is_honest script honest l && (((l.to == g) && any_note (opens d) (l.log ++ Note0 ∷ [])) || more)) || rest) ≡ true
+  logged l more rest e f =
+      ap (λ c. (c && (((l.to == g) && any_note (opens d) (l.log ++ Note0 ∷ [])) || more)) || rest) (honest_link script honest (record { fuel = 0; drawn = []; vats = []; links = []; history = [] }) v g l mine theirs e f)
+      ∙ ap (λ c. (true && ((c && any_note (opens d) (l.log ++ Note0 ∷ [])) || more)) || rest) (ap (λ q. q == g) f ∙ same_number g)
+      ∙ ap (λ c. (true && ((true && c) || more)) || rest) (any_last l.log)
+
+  was_last : (ls : List Link) (l : Link) → world.link_at v g ls ≡ Some l → l.cut ≡ true → was_put script honest g d (world.with_link (world.pushed Note0) v g ls) ≡ true
+  unfolding was_put is_honest world.link_at
+  was_last [] l e f = none_some l e
+  was_last (k ∷ ls) l e f = go (λ q. was_last ls l q f) (world.is_link v g k) refl
+    where
+      go : (world.link_at v g ls ≡ Some l → was_put script honest g d (world.with_link (world.pushed Note0) v g ls) ≡ true) → (c : Bool) → world.is_link v g k ≡ c → was_put script honest g d (world.with_link (world.pushed Note0) v g (k ∷ ls)) ≡ true
+      go rest true i =
+          let same = some_same k l (sym (link_here v g k ls i) ∙ e) in
+          let ends = found_ends v g (k ∷ ls) l e in
+          ap (λ qs. was_put script honest g d qs) (with_cut k ls i (subst (λ j. j.cut ≡ true) (sym same) f) ∙ ap (λ j. Lost j ∷ ls) same)
+          ∙ logged l (any_note (shortens g d) (l.log ++ Note0 ∷ [])) (was_put script honest g d ls) ends.0 ends.1
+      go rest false i =
+          ap (λ qs. was_put script honest g d qs) (with_behind Note0 v g k ls i)
+          ∙ ap (λ r. (is_honest script honest k && (((k.to == g) && any_note (opens d) k.log) || any_note (shortens g d) k.log)) || r) (rest (sym (link_behind v g k ls i) ∙ e))
+          ∙ or_true (is_honest script honest k && (((k.to == g) && any_note (opens d) k.log) || any_note (shortens g d) k.log))
+
+  pub gift_lost : (ls : List Link) (l : Link) → DrawsBelow d ls → world.link_at v g ls ≡ Some l → l.cut ≡ true → gift_place script honest g d (world.with_link (world.pushed Note0) v g ls) ≡ Nowhere
+  unfolding gift_place first_place or_never
+  gift_lost ls l b e f = let ks = world.with_link (world.pushed Note0) v g ls in
+      ap (λ o. or_never script honest (was_put script honest g d ks) (first_place o (shorten_place script honest g d ks))) (open_same ls l e f ∙ no_open script honest g d ls b)
+      ∙ ap (λ o. or_never script honest (was_put script honest g d ks) (first_place None o)) (shorten_same ls l e f ∙ no_shorten script honest g d ls b)
+      ∙ ap (λ c. or_never script honest c None) (was_last ls l e f)
+
 -- ---- in the middle of a step
 
 other_put : (v h : ℕ) (t : Vat Name) (ss : List (Vat Name)) → (v ≡ h → ⊥) → slice_get (world.put_at v t ss) h ≡ slice_get ss h
@@ -161,7 +231,7 @@ module _ (script : Script) (honest : ℕ → Bool) (w : World) (v h g word : ℕ
     (mine : honest v ≡ true) (receivers : honest h ≡ true) (theirs : honest g ≡ true) (far : v ≡ h → ⊥) (third : v ≡ g → ⊥) (other : h ≡ g → ⊥)
     (at : slice_get w.vats h ≡ Some sh) (number : sh.number ≡ h) (new_there : refs.entry_of (names script h) sh.known (Gift g (length s.drawn)) ≡ None)
     (host : slice_get w.vats g ≡ Some sg) (new_here : refs.entry_of (names script g) sg.known (Gift g (length s.drawn)) ≡ None) (shut : opened_there (Gift g (length s.drawn)) sg.gifts ≡ false)
-    (link : world.link_at v g (world.push_all v s.outbox w.links) ≡ Some l) (whole : l.cut ≡ false) (ready : Ready script honest w v s) (before : Ahead (WaysAmid script honest w v s) m (End (Way v g) n)) where
+    (link : world.link_at v g (world.push_all v s.outbox w.links) ≡ Some l) (ready : Ready script honest w v s) (before : Ahead (WaysAmid script honest w v s) m (End (Way v g) n)) where
   abbrev D : ℕ
   D = length s.drawn
 
@@ -186,8 +256,8 @@ module _ (script : Script) (honest : ℕ → Bool) (w : World) (v h g word : ℕ
   host_there : slice_get Vats g ≡ Some sg
   host_there = other_put v g T w.vats third ∙ host
 
-  link_there : world.link_at v g Links ≡ Some (After (Open D n) l)
-  link_there = ap (λ ls. world.link_at v g ls) links_are ∙ link_pushed (Open D n) v g (world.push_all v s.outbox w.links) l link whole
+  link_there : l.cut ≡ false → world.link_at v g Links ≡ Some (After (Open D n) l)
+  link_there whole = ap (λ ls. world.link_at v g ls) links_are ∙ link_pushed (Open D n) v g (world.push_all v s.outbox w.links) l link whole
 
   notes_within : (c : Bool) → Within (elim c [ true ↦ delivered (l.notes ++ Open D n ∷ []) | false ↦ [] ]) (delivered l.notes)
   notes_within true i j = subst (λ q. IsIn i q) (delivered_open l.notes D n) j
@@ -196,18 +266,22 @@ module _ (script : Script) (honest : ℕ → Bool) (w : World) (v h g word : ℕ
   abbrev NotesOf : Option Link → List Item
   NotesOf o = elim o [ Some k ↦ elim (is_honest script honest k) [ true ↦ delivered k.notes | false ↦ [] ] | None ↦ [] ]
 
-  stands_within : Within (W.stands (Way v g)) (delivered l.notes)
+  stands_within : l.cut ≡ false → Within (W.stands (Way v g)) (delivered l.notes)
   unfolding ways ways_of stands_at amid
-  stands_within i j = notes_within (is_honest script honest (After (Open D n) l)) i (subst (λ o. IsIn i (NotesOf o)) link_there j)
+  stands_within whole i j = notes_within (is_honest script honest (After (Open D n) l)) i (subst (λ o. IsIn i (NotesOf o)) (link_there whole) j)
 
-  gift_is : gift_place script honest g D Links ≡ Mid (Way v g) (delivered l.notes) n
-  gift_is = ap (λ ls. gift_place script honest g D ls) links_are ∙ gift_last script honest v g D n mine theirs (world.push_all v s.outbox w.links) l ready.draws link whole
+  gift_is : l.cut ≡ false → gift_place script honest g D Links ≡ Mid (Way v g) (delivered l.notes) n
+  gift_is whole = ap (λ ls. gift_place script honest g D ls) links_are ∙ gift_last script honest v g D n mine theirs (world.push_all v s.outbox w.links) l ready.draws link whole
 
   still : Ahead W m (End (Way v g) n)
   still = (growing_keeps (WaysAmid script honest w v s) W (opened script honest w v g word n s ready).1.grows (End (Way v g) n)).1 m before
 
+  gift_by : (b : Bool) → l.cut ≡ b → Ahead W m (gift_place script honest g D Links)
+  gift_by true cut = subst (λ c. Ahead W m c) (sym (ap (λ ls. gift_place script honest g D ls) links_are ∙ gift_lost script honest v g D n mine theirs (world.push_all v s.outbox w.links) l ready.draws link cut)) (doomed_there nowhere)
+  gift_by false whole = subst (λ c. Ahead W m c) (sym (gift_is whole)) (home_behind W v g (delivered l.notes) n m (λ i j. stands_within whole i j) still)
+
   gift_ahead : Ahead W m (gift_place script honest g D Links)
-  gift_ahead = subst (λ c. Ahead W m c) (sym gift_is) (home_behind W v g (delivered l.notes) n m stands_within still)
+  gift_ahead = gift_by l.cut refl
 
   abbrev Shown : Bool → Bool → Place
   Shown a b = elim (a && not b) [ true ↦ gift_place script honest g D Links | false ↦ Free ]
@@ -269,6 +343,6 @@ module _ (script : Script) (honest : ℕ → Bool) (w : World) (v h g : ℕ) (y 
       by_same false e = by_draw (drawn_at zero ((names script v).word (length s.drawn)) s.drawn)
 
 pub passed_gift_is_behind : PassedGiftIsBehind
-passed_gift_is_behind = λ script honest w v h g y n m object bs s sh sg l mine receivers theirs far third other at number new_there host new_here shut link whole ready before.
-    let block = λ (word : ℕ). passed script honest w v h g word n m bs s sh sg l mine receivers theirs far third other at number new_there host new_here shut link whole ready before in
+passed_gift_is_behind = λ script honest w v h g y n m object bs s sh sg l mine receivers theirs far third other at number new_there host new_here shut link ready before.
+    let block = λ (word : ℕ). passed script honest w v h g word n m bs s sh sg l mine receivers theirs far third other at number new_there host new_here shut link ready before in
     split script honest w v h g y n m object bs s (λ e. other (sym e)) block

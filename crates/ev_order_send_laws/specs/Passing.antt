@@ -34,12 +34,12 @@ abbrev pub OpenNamesLeadHome : Type 0
 OpenNamesLeadHome = (script : Script) (honest : ℕ → Bool) (w : World) (v h : ℕ) (s : Vat Name) (n : Name) → slice_get w.vats h ≡ Some s → s.number ≡ h → (h ≡ v → ⊥) → host_of n ≡ v → IsOpenAt script h v s n → LeadsHome script honest w h v n
 
 -- Where a name of vat g passes from v to h, as a gift of the next draw: what is ahead of all that v would send to g on it is ahead of the passing, wherever that stands on the link. The note that lets the gift go stands behind it.
--- The three vats are others and honest, the link from v to g is there and not cut, and neither h nor g knows that gift.
+-- The three vats are others and honest, the link from v to g is there, cut or not, and neither h nor g knows that gift.
 abbrev pub PassedGiftIsBehind : Type 0
 PassedGiftIsBehind = (script : Script) (honest : ℕ → Bool) (w : World) (v h g : ℕ) (y : Value Name) (n m : Name) (object : Bool) (bs : List Item) (s sh sg : Vat Name) (l : Link)
     → honest v ≡ true → honest h ≡ true → honest g ≡ true → (v ≡ h → ⊥) → (v ≡ g → ⊥) → (h ≡ g → ⊥)
     → slice_get w.vats h ≡ Some sh → sh.number ≡ h → entry_of (names script h) sh.known (Gift g (length s.drawn)) ≡ None
     → slice_get w.vats g ≡ Some sg → entry_of (names script g) sg.known (Gift g (length s.drawn)) ≡ None → opened_there (Gift g (length s.drawn)) sg.gifts ≡ false
-    → link_at v g (push_all v s.outbox w.links) ≡ Some l → l.cut ≡ false
+    → link_at v g (push_all v s.outbox w.links) ≡ Some l
     → Ready script honest w v s → Ahead (WaysAmid script honest w v s) m (End (Way v g) n)
     → IfGives (λ t. Ahead (WaysAmid script honest w v t) m (Mid (Way v h) bs (Gift g (length s.drawn)))) (address_plain (names script v) h y (Away g n object) s)

@@ -28,7 +28,7 @@ pub fn open_names_lead_home()
 /// ahead of the passing, wherever that stands on the link: the note that lets the gift go stands behind it.
 ///
 /// It is said of the middle of a step. It asks that the vat is ready, that the three vats are others and
-/// honest, that the link on which the gift is let go is there and not cut, and that neither the receiver nor
+/// honest, that the link on which the gift is let go is there, and that neither the receiver nor
 /// the host knows the gift of that draw.
 pub fn passed_gift_is_behind()
     ensures { PassedGiftIsBehind }
