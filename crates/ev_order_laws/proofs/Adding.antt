@@ -43,7 +43,7 @@ module _ (K : Naming Name Name) (s t : Vat Name) (g : RefersAlike K s t) where
   led_alike f h e n (WaitsOn q) = refl
   led_alike f h e n Unsettled = refl
 
-  follows_alike : (d : ℕ) (x : Value Name) → refs.follow_at K d t.known x ≡ refs.follow_at K d s.known x
+  pub follows_alike : (d : ℕ) (x : Value Name) → refs.follow_at K d t.known x ≡ refs.follow_at K d s.known x
   unfolding refs.follow_at
   follows_alike zero x = refl
   follows_alike (suc d) (Ref n) = led_alike (λ y. refs.follow_at K d t.known y) (λ y. refs.follow_at K d s.known y) (λ y. follows_alike d y) n (refs.standing_of K t.known n) ∙ ap (λ q. refs.led K (λ y. refs.follow_at K d s.known y) n q) (standings n)

@@ -76,7 +76,7 @@ module _ (script : Script) (honest : ℕ → Bool) (vs : List (Vat Name)) (Links
   leads_by u x (inl h) = ap (λ o. leads_at script honest u o x) h.2 ∙ subst (λ z. leads_in script honest z t x ≡ leads_in script honest z s x) (sym h.0) (g.leading x) ∙ ap (λ o. leads_at script honest u o x) (sym h.1)
   leads_by u x (inr h) = ap (λ o. leads_at script honest u o x) h
 
-  leads_same : (u : ℕ) (x : Value Name) → leads script honest Vats' Links' u x ≡ leads script honest Vats Links u x
+  pub leads_same : (u : ℕ) (x : Value Name) → leads script honest Vats' Links' u x ≡ leads script honest Vats Links u x
   unfolding leads
   leads_same u x = leads_by u x (at_vat u)
 
@@ -174,7 +174,7 @@ module _ (script : Script) (honest : ℕ → Bool) (vs : List (Vat Name)) (Links
 -- ---- in the middle of a step
 
 module _ (script : Script) (honest : ℕ → Bool) (w : World) (v : ℕ) (s t : Vat Name) (g : AddsOnly (names script v) s t) where
-  grow_there : AllGrow (world.push_all v s.outbox w.links) (world.push_all v t.outbox w.links)
+  pub grow_there : AllGrow (world.push_all v s.outbox w.links) (world.push_all v t.outbox w.links)
   grow_there = subst (λ ls. AllGrow (world.push_all v s.outbox w.links) ls) (sym (ap (λ ps. world.push_all v ps w.links) g.notes.1 ∙ push_append v s.outbox g.notes.0 w.links)) (push_grows v g.notes.0 (world.push_all v s.outbox w.links) g.notes.2)
 
   grows : Grows (ways script honest (amid v s w)) (ways script honest (amid v t w))

@@ -17,7 +17,7 @@ use Rattle.ev_order_laws.proofs.Adding.{RefersSame}
 use Rattle.ev_order_laws.proofs.Pushing.{all_same}
 use Rattle.ev_order_laws.proofs.Amid.{stands_grow, onward_same}
 
-length_more : {A : Type 0} (xs : List A) (x : A) → length (xs ++ x ∷ []) ≡ suc (length xs)
+pub length_more : {A : Type 0} (xs : List A) (x : A) → length (xs ++ x ∷ []) ≡ suc (length xs)
 length_more [] x = refl
 length_more (y ∷ xs) x = ap suc (length_more xs x)
 
@@ -26,7 +26,7 @@ Or c j o = elim c [ true ↦ Some j | false ↦ o ]
 
 module _ (K : Naming Name Name) where
   -- what was known is known
-  old_entry : (ks : List (Known Name)) (b k : Known Name) (m : Name) → refs.entry_of K ks m ≡ Some k → refs.entry_of K (ks ++ b ∷ []) m ≡ Some k
+  pub old_entry : (ks : List (Known Name)) (b k : Known Name) (m : Name) → refs.entry_of K ks m ≡ Some k → refs.entry_of K (ks ++ b ∷ []) m ≡ Some k
   unfolding refs.entry_of
   old_entry [] b k m e = none_some k e
   old_entry (j ∷ ks) b k m e = go (λ q. old_entry ks b k m q) (K.same j.name m) e
@@ -36,7 +36,7 @@ module _ (K : Naming Name Name) where
       go f false q = f q
 
   -- and what was not is the new one or none
-  new_entry : (ks : List (Known Name)) (b : Known Name) (m : Name) → refs.entry_of K ks m ≡ None → refs.entry_of K (ks ++ b ∷ []) m ≡ refs.entry_of K (b ∷ []) m
+  pub new_entry : (ks : List (Known Name)) (b : Known Name) (m : Name) → refs.entry_of K ks m ≡ None → refs.entry_of K (ks ++ b ∷ []) m ≡ refs.entry_of K (b ∷ []) m
   unfolding refs.entry_of
   new_entry [] b m e = refl
   new_entry (j ∷ ks) b m e = go (λ q. new_entry ks b m q) (K.same j.name m) e
@@ -85,7 +85,7 @@ module _ (K : Naming Name Name) where
   abbrev Ended : List (Known Name) → Value Name → Type 0
   Ended ks y = (n : Name) → y ≡ Ref n → IsWaiting (refs.standing_of K ks n)
 
-  waits_here : (f : Value Name → Value Name) (n : Name) (q : Standing Name) → IsWaiting q → refs.led K f n q ≡ Ref n
+  pub waits_here : (f : Value Name → Value Name) (n : Name) (q : Standing Name) → IsWaiting q → refs.led K f n q ≡ Ref n
   unfolding refs.led
   waits_here f n Unsettled h = refl
   waits_here f n (WaitsOn q) h = refl
@@ -171,7 +171,7 @@ module _ (script : Script) (honest : ℕ → Bool) (v : ℕ) (s : Vat Name) (n :
   fixed_waits m (inl i) = object_waits m i
   fixed_waits m (inr h) = known_waits m h.0 h.1 h.2
 
-  followed : (m : Name) → IsFixed K s (refs.follow_at K (suc (length s.known)) s.known (Ref m)) → refs.follow_at K (suc (length T.known)) T.known (Ref m) ≡ refs.follow_at K (suc (length s.known)) s.known (Ref m)
+  pub followed : (m : Name) → IsFixed K s (refs.follow_at K (suc (length s.known)) s.known (Ref m)) → refs.follow_at K (suc (length T.known)) T.known (Ref m) ≡ refs.follow_at K (suc (length s.known)) s.known (Ref m)
   followed m i =
       follows_by K s.known T.known standing (suc (length T.known)) (Ref m)
       ∙ ap (λ d. refs.follow_at K (suc d) s.known (Ref m)) (length_more s.known (begun n (host_of n)))
@@ -334,7 +334,7 @@ module _ (script : Script) (honest : ℕ → Bool) (v : ℕ) (s : Vat Name) (n :
   spot_plain (Gift h i) e = refl
   spot_plain (Sent a) e = refl
 
-  is_object : (m : Name) → IsObject m ⊎ (IsObject m → ⊥)
+  pub is_object : (m : Name) → IsObject m ⊎ (IsObject m → ⊥)
   is_object (Object h i) = inl tt
   is_object (Root h) = inr (λ e. e)
   is_object (Promise h i) = inr (λ e. e)
@@ -424,7 +424,7 @@ module _ (script : Script) (honest : ℕ → Bool) (v : ℕ) (s : Vat Name) (n :
     holding_by m None e = λ i h. absurd h
     holding_by m (Some k) e = λ i h. subst (λ o. IsIn i (held_in m o)) (sym (old_entry K s.known New k m e)) h
 
-    comes_same : RefersSame script honest v s T
+    pub comes_same : RefersSame script honest v s T
     comes_same = record { leading = λ x. leading x; gifts = refl; standing = λ m. standing m; holding = λ m. holding_by m (refs.entry_of K s.known m) refl }
 
     coming : (w : World) → Grows (ways script honest (amid v s w)) (ways script honest (amid v T w))

@@ -50,7 +50,7 @@ delivered_last (Shorten a c i ∷ ns) m n verb ys = delivered_last ns m n verb y
 
 -- ---- links
 
-push_last : (v : ℕ) (ps : List (Put Name)) (p : Put Name) (ls : List Link) → world.push_all v (ps ++ p ∷ []) ls ≡ world.with_link (world.pushed p.note) v p.to (world.push_all v ps ls)
+pub push_last : (v : ℕ) (ps : List (Put Name)) (p : Put Name) (ls : List Link) → world.push_all v (ps ++ p ∷ []) ls ≡ world.with_link (world.pushed p.note) v p.to (world.push_all v ps ls)
 unfolding world.push_all
 push_last v [] p ls = refl
 push_last v (q ∷ ps) p ls = push_last v ps p (world.with_link (world.pushed q.note) v q.to ls)
@@ -116,7 +116,7 @@ ends_of v h l e = go (l.from == v) refl e
     go true i q = (eqb-true l.from v i, eqb-true l.to h q)
     go false i q = absurd (subst IsFalse q tt)
 
-found_ends : (v h : ℕ) (ls : List Link) (l : Link) → world.link_at v h ls ≡ Some l → (l.from ≡ v) × (l.to ≡ h)
+pub found_ends : (v h : ℕ) (ls : List Link) (l : Link) → world.link_at v h ls ≡ Some l → (l.from ≡ v) × (l.to ≡ h)
 unfolding world.link_at
 found_ends v h [] l e = none_some l e
 found_ends v h (k ∷ ls) l e = go (λ q. found_ends v h ls l q) (world.is_link v h k) refl e
@@ -156,11 +156,11 @@ module _ (script : Script) (honest : ℕ → Bool) (w : World) (v : ℕ) (r t : 
   there : slice_get (world.put_at v t w.vats) v ≡ Some t
   there = get_put w.vats v r t at
 
-  near : (q : List (Message Name)) (m : Message Name) (n : Name) → t.queue ≡ q ++ m ∷ [] → m.target ≡ Ref n → Ahead Here m.id (End (Queue v) n)
+  pub near : (q : List (Message Name)) (m : Message Name) (n : Name) → t.queue ≡ q ++ m ∷ [] → m.target ≡ Ref n → Ahead Here m.id (End (Queue v) n)
   unfolding ways ways_of stands_at amid
   near q m n e f = in_end (in_queue (item m.id n) (slice_get (world.put_at v t w.vats) v) t there (subst (λ p. IsIn (item m.id n) (queued p)) (sym e) (queued_last q m n f))) alike
 
-  mine : (q : List (Message Name)) (m : Message Name) (n : Name) (k : Known Name) → refs.entry_of (names script v) t.known n ≡ Some k → k.held ≡ q ++ m ∷ [] → Ahead Here m.id (End (Held v n) n)
+  pub mine : (q : List (Message Name)) (m : Message Name) (n : Name) (k : Known Name) → refs.entry_of (names script v) t.known n ≡ Some k → k.held ≡ q ++ m ∷ [] → Ahead Here m.id (End (Held v n) n)
   unfolding ways ways_of stands_at amid
   mine q m n k e f = in_end (in_held (names script v) (item m.id n) n (slice_get (world.put_at v t w.vats) v) t there (held_there n (item m.id n) (refs.entry_of (names script v) t.known n) k e (subst (λ p. IsIn (item m.id n) (held_on n p)) (sym f) (held_last q m n)))) alike
 
@@ -216,19 +216,19 @@ module _ (script : Script) (honest : ℕ → Bool) (w : World) (v : ℕ) (r t : 
 
 -- ---- the act of sending
 
-if_all : {A : Type 0} (P : Vat Name → Type 0) → ((t : Vat Name) → P t) → (d : Done Name A) → IfGives P d
+pub if_all : {A : Type 0} (P : Vat Name → Type 0) → ((t : Vat Name) → P t) → (d : Done Name A) → IfGives P d
 if_all P f (Gives a t) = f t
 if_all P f (Throws p t) = tt
 if_all P f (Ejects n y t) = tt
 if_all P f (Stops c t) = tt
 
-if_map : {A : Type 0} (P Q : Vat Name → Type 0) → ((t : Vat Name) → P t → Q t) → (d : Done Name A) → IfGives P d → IfGives Q d
+pub if_map : {A : Type 0} (P Q : Vat Name → Type 0) → ((t : Vat Name) → P t → Q t) → (d : Done Name A) → IfGives P d → IfGives Q d
 if_map P Q f (Gives a t) h = f t h
 if_map P Q f (Throws p t) h = tt
 if_map P Q f (Ejects n y t) h = tt
 if_map P Q f (Stops c t) h = tt
 
-held_by : (k : Known Name) (m : Message Name) → IsWaiting k.standing → (state.changed (Hold m) k).held ≡ k.held ++ m ∷ []
+pub held_by : (k : Known Name) (m : Message Name) → IsWaiting k.standing → (state.changed (Hold m) k).held ≡ k.held ++ m ∷ []
 unfolding state.changed state.unless_settled state.changed_to
 held_by k m i = go k.standing i
   where
@@ -238,7 +238,7 @@ held_by k m i = go k.standing i
     go (Viewed q) i = absurd i
     go (Settled y) i = absurd i
 
-changed_name : (c : state.Change Name) (k : Known Name) → (state.changed c k).name ≡ k.name
+pub changed_name : (c : state.Change Name) (k : Known Name) → (state.changed c k).name ≡ k.name
 unfolding state.changed state.unless_settled state.changed_to
 changed_name c k = go k.standing (state.changed_to c k) (to c)
   where
@@ -258,15 +258,15 @@ changed_name c k = go k.standing (state.changed_to c k) (to c)
     go (Settled y) j e = refl
 
 module _ (K : Naming Name Name) (n : Name) where
-  entry_here : (k : Known Name) (ks : List (Known Name)) → K.same k.name n ≡ true → refs.entry_of K (k ∷ ks) n ≡ Some k
+  pub entry_here : (k : Known Name) (ks : List (Known Name)) → K.same k.name n ≡ true → refs.entry_of K (k ∷ ks) n ≡ Some k
   unfolding refs.entry_of
   entry_here k ks e = subst (λ c. elim c [ true ↦ Some k | false ↦ refs.entry_of K ks n ] ≡ Some k) (sym e) refl
 
-  entry_behind : (k : Known Name) (ks : List (Known Name)) → K.same k.name n ≡ false → refs.entry_of K (k ∷ ks) n ≡ refs.entry_of K ks n
+  pub entry_behind : (k : Known Name) (ks : List (Known Name)) → K.same k.name n ≡ false → refs.entry_of K (k ∷ ks) n ≡ refs.entry_of K ks n
   unfolding refs.entry_of
   entry_behind k ks e = subst (λ c. elim c [ true ↦ Some k | false ↦ refs.entry_of K ks n ] ≡ refs.entry_of K ks n) (sym e) refl
 
-  entry_changed : (c : state.Change Name) (ks : List (Known Name)) (k : Known Name) → refs.entry_of K ks n ≡ Some k → refs.entry_of K (state.with_change K c n ks) n ≡ Some (state.changed c k)
+  pub entry_changed : (c : state.Change Name) (ks : List (Known Name)) (k : Known Name) → refs.entry_of K ks n ≡ Some k → refs.entry_of K (state.with_change K c n ks) n ≡ Some (state.changed c k)
   unfolding state.with_change refs.entry_of
   entry_changed c [] k e = none_some k e
   entry_changed c (j ∷ ks) k e = go (λ q. entry_changed c ks k q) (K.same j.name n) refl e
@@ -327,7 +327,7 @@ module _ (script : Script) (honest : ℕ → Bool) (w : World) (v : ℕ) (r s : 
   unfolding aimed
   sent_gone y p d = if_all (Then y (Gone p)) (λ t. doomed_there nowhere) d
 
-  sent : (y : Value Name) (p : Place Name) → Waiting p → Honest p → IfGives (Then y p) (refs.send_to (names script v) settle m y p s)
+  pub sent : (y : Value Name) (p : Place Name) → Waiting p → Honest p → IfGives (Then y p) (refs.send_to (names script v) settle m y p s)
   unfolding refs.send_to
   sent y Near f g = sent_near y
   sent y (Mine n) f g = sent_mine y n f
