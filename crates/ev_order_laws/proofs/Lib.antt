@@ -8,3 +8,5 @@ pub mod Adding
 pub mod Amid
 pub mod Waits
 pub mod Coming
+pub mod Keeping
+pub mod Arrived

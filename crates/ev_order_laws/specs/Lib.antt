@@ -5,3 +5,4 @@ pub mod Order
 pub mod Example
 pub mod Places
 pub mod Worlds
+pub mod Arrivals

@@ -1,4 +1,5 @@
 //! Laws of the machine about the order in which messages are delivered.
 #![tactic(auto)]
 
+pub mod arrive;
 pub mod order;
