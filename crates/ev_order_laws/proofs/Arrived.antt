@@ -18,7 +18,7 @@ use Rattle.ev_order_laws.proofs.Sends.{none_some, some_same, pushed_shut, pushed
 use Rattle.ev_order_laws.proofs.Adding.{RefersSame, refers_same}
 use Rattle.ev_order_laws.proofs.Pushing.{AllGrow, push_grows, push_append}
 use Rattle.ev_order_laws.proofs.Amid.{stands_grow, onward_same}
-use Rattle.ev_order_laws.proofs.Keeping.{all_put_on, message_all, onward_leaves, links_still, stands_leaves}
+use Rattle.ev_order_laws.proofs.Keeping.{Any, FitsLane, all_put_on, message_all, onward_leaves, links_still, stands_leaves}
 
 -- ---- links that are not cut
 
@@ -159,11 +159,21 @@ module _ (script : Script) (honest : ℕ → Bool) (w : World) (a b : ℕ) (r s 
     unfolding ways_of
     leaves = record {
       stands = λ l i j. left l i (stands_leaves script honest (world.put_at b s w.vats) a b Mail Links l i j);
-      links = λ x y o. onward_then (Way x y) o ∙ links_still (Beheads (Way a b) (item m n)) (λ c. stays) script honest (world.put_at b s w.vats) All Links (message_all m n verb ys a b Links) x y o;
+      links = λ x y o. onward_then (Way x y) o ∙ links_still (Beheads (Way a b) (item m n)) Any (λ c. stays) script honest (world.put_at b s w.vats) All Links (message_all m n verb ys a b Links) x y o;
     }
 
+    all_fit : (l : Lane) → FitsLane (Beheads (Way a b) (item m n)) Any (λ c. stays) script honest (world.put_at b s w.vats) All Links (message_all m n verb ys a b Links) l
+    all_fit (Queue u) = tt
+    all_fit (Way x y) = tt
+    all_fit (Held u (Gift h i)) = tt
+    all_fit (Held u (Root h)) = tt
+    all_fit (Held u (Object h i)) = tt
+    all_fit (Held u (Promise h i)) = tt
+    all_fit (Held u (Answer h q)) = tt
+    all_fit (Held u (Sent q)) = tt
+
     lanes : (l : Lane) (o : Name) → Beheads (Way a b) (item m n) (onward_at script honest (world.put_at b s w.vats) All l o) (onward_at script honest (world.put_at b t w.vats) Links' l o)
-    lanes l o = subst (λ c. Beheads (Way a b) (item m n) (onward_at script honest (world.put_at b s w.vats) All l o) c) (sym (onward_then l o)) (onward_leaves (Beheads (Way a b) (item m n)) (λ c. stays) script honest (world.put_at b s w.vats) All Links (message_all m n verb ys a b Links) l o)
+    lanes l o = subst (λ c. Beheads (Way a b) (item m n) (onward_at script honest (world.put_at b s w.vats) All l o) c) (sym (onward_then l o)) (onward_leaves (Beheads (Way a b) (item m n)) Any (λ c. stays) script honest (world.put_at b s w.vats) All Links (message_all m n verb ys a b Links) l (all_fit l) o)
 
     leads_to : onward_at script honest (world.put_at b t w.vats) Links' (Way a b) n ≡ leads_in script honest b s (Ref n)
     leads_to = onward_then (Way a b) n ∙ mid_onward n

@@ -101,7 +101,13 @@ all_put_on a b v n (p ∷ ps) ls = ap (λ js. world.push_all v ps js) (put_on a 
 
 -- ---- what may become of a place as the note leaves
 
-module _ (R : Place → Place → Type 0) where
+second_of_both : (a b : Bool) → (a && b) ≡ true → b ≡ true
+second_of_both true b e = e
+second_of_both false true e = refl
+second_of_both false false e = e
+
+-- of the gifts of which G holds
+module _ (R : Place → Place → Type 0) (G : ℕ → ℕ → Type 0) where
   abbrev pub Each : Option Place → Option Place → Type 0
   Each None None = Unit {0}
   Each (Some c) (Some d) = R c d
@@ -121,8 +127,8 @@ module _ (R : Place → Place → Type 0) where
     pub to : l.to ≡ k.to
     pub cut : l.cut ≡ k.cut
     pub log : l.log ≡ k.log
-    pub opening : (i : ℕ) → Each (note_place (opens i) (Way k.from k.to) [] k.notes) (note_place (opens i) (Way l.from l.to) [] l.notes)
-    pub shortening : (h i : ℕ) → Each (note_place (shortens h i) (Way k.from k.to) [] k.notes) (note_place (shortens h i) (Way l.from l.to) [] l.notes)
+    pub opening : (h i : ℕ) → G h i → (k.to == h) ≡ true → Each (note_place (opens i) (Way k.from k.to) [] k.notes) (note_place (opens i) (Way l.from l.to) [] l.notes)
+    pub shortening : (h i : ℕ) → G h i → Each (note_place (shortens h i) (Way k.from k.to) [] k.notes) (note_place (shortens h i) (Way l.from l.to) [] l.notes)
 
   abbrev pub AllLeave : List Link → List Link → Type 0
   AllLeave [] [] = Unit {0}
@@ -136,44 +142,44 @@ module _ (R : Place → Place → Type 0) where
     each_self (Some c) = self c
 
     pub link_self : (l : Link) → LinkLeaves l l
-    link_self l = record { from = refl; to = refl; cut = refl; log = refl; opening = λ i. each_self (note_place (opens i) (Way l.from l.to) [] l.notes); shortening = λ h i. each_self (note_place (shortens h i) (Way l.from l.to) [] l.notes) }
+    link_self l = record { from = refl; to = refl; cut = refl; log = refl; opening = λ h i g e. each_self (note_place (opens i) (Way l.from l.to) [] l.notes); shortening = λ h i g. each_self (note_place (shortens h i) (Way l.from l.to) [] l.notes) }
 
     pub all_self : (ls : List Link) → AllLeave ls ls
     all_self [] = tt
     all_self (l ∷ ls) = (link_self l, all_self ls)
 
     module _ (script : Script) (honest : ℕ → Bool) where
-      each_if : (c : Bool) (p q e f : Option Place) → Each p q → Each e f → Each (elim c [ true ↦ first_place p e | false ↦ e ]) (elim c [ true ↦ first_place q f | false ↦ f ])
-      each_if true p q e f g h = each_first p q e f g h
+      each_if : (c : Bool) (p q e f : Option Place) → (c ≡ true → Each p q) → Each e f → Each (elim c [ true ↦ first_place p e | false ↦ e ]) (elim c [ true ↦ first_place q f | false ↦ f ])
+      each_if true p q e f g h = each_first p q e f (g refl) h
       each_if false p q e f g h = h
 
-      open_leaves : (h i : ℕ) (ks ls : List Link) → AllLeave ks ls → Each (open_place script honest h i ks) (open_place script honest h i ls)
+      open_leaves : (h i : ℕ) → G h i → (ks ls : List Link) → AllLeave ks ls → Each (open_place script honest h i ks) (open_place script honest h i ls)
       unfolding open_place is_honest
-      open_leaves h i [] [] g = tt
-      open_leaves h i [] (l ∷ ls) g = absurd g
-      open_leaves h i (k ∷ ks) [] g = absurd g
-      open_leaves h i (k ∷ ks) (l ∷ ls) g =
+      open_leaves h i o [] [] g = tt
+      open_leaves h i o [] (l ∷ ls) g = absurd g
+      open_leaves h i o (k ∷ ks) [] g = absurd g
+      open_leaves h i o (k ∷ ks) (l ∷ ls) g =
           let p : Option Place = note_place (opens i) (Way k.from k.to) [] k.notes in
           let q : Option Place = note_place (opens i) (Way l.from l.to) [] l.notes in
           let e : Option Place = open_place script honest h i ks in
           let f : Option Place = open_place script honest h i ls in
           subst (λ x. Each (open_place script honest h i (k ∷ ks)) (elim ((honest x && honest l.to) && (l.to == h)) [ true ↦ first_place q f | false ↦ f ])) (sym g.0.from)
           (subst (λ x. Each (open_place script honest h i (k ∷ ks)) (elim ((honest k.from && honest x) && (x == h)) [ true ↦ first_place q f | false ↦ f ])) (sym g.0.to)
-          (each_if ((honest k.from && honest k.to) && (k.to == h)) p q e f (g.0.opening i) (open_leaves h i ks ls g.1)))
+          (each_if ((honest k.from && honest k.to) && (k.to == h)) p q e f (λ c. g.0.opening h i o (second_of_both (honest k.from && honest k.to) (k.to == h) c)) (open_leaves h i o ks ls g.1)))
 
-      shorten_leaves : (h i : ℕ) (ks ls : List Link) → AllLeave ks ls → Each (shorten_place script honest h i ks) (shorten_place script honest h i ls)
+      shorten_leaves : (h i : ℕ) → G h i → (ks ls : List Link) → AllLeave ks ls → Each (shorten_place script honest h i ks) (shorten_place script honest h i ls)
       unfolding shorten_place is_honest
-      shorten_leaves h i [] [] g = tt
-      shorten_leaves h i [] (l ∷ ls) g = absurd g
-      shorten_leaves h i (k ∷ ks) [] g = absurd g
-      shorten_leaves h i (k ∷ ks) (l ∷ ls) g =
+      shorten_leaves h i o [] [] g = tt
+      shorten_leaves h i o [] (l ∷ ls) g = absurd g
+      shorten_leaves h i o (k ∷ ks) [] g = absurd g
+      shorten_leaves h i o (k ∷ ks) (l ∷ ls) g =
           let p : Option Place = note_place (shortens h i) (Way k.from k.to) [] k.notes in
           let q : Option Place = note_place (shortens h i) (Way l.from l.to) [] l.notes in
           let e : Option Place = shorten_place script honest h i ks in
           let f : Option Place = shorten_place script honest h i ls in
           subst (λ x. Each (shorten_place script honest h i (k ∷ ks)) (elim (honest x && honest l.to) [ true ↦ first_place q f | false ↦ f ])) (sym g.0.from)
           (subst (λ x. Each (shorten_place script honest h i (k ∷ ks)) (elim (honest k.from && honest x) [ true ↦ first_place q f | false ↦ f ])) (sym g.0.to)
-          (each_if (honest k.from && honest k.to) p q e f (g.0.shortening h i) (shorten_leaves h i ks ls g.1)))
+          (each_if (honest k.from && honest k.to) p q e f (λ c. g.0.shortening h i o) (shorten_leaves h i o ks ls g.1)))
 
       put_leaves : (h i : ℕ) (ks ls : List Link) → AllLeave ks ls → was_put script honest h i ls ≡ was_put script honest h i ks
       unfolding was_put is_honest
@@ -195,42 +201,55 @@ module _ (R : Place → Place → Type 0) where
       or_leaves c None (Some d) g = absurd g
       or_leaves c (Some d) None g = absurd g
 
-      pub gift_leaves : (h i : ℕ) (ks ls : List Link) → AllLeave ks ls → R (gift_place script honest h i ks) (gift_place script honest h i ls)
+      pub gift_leaves : (h i : ℕ) → G h i → (ks ls : List Link) → AllLeave ks ls → R (gift_place script honest h i ks) (gift_place script honest h i ls)
       unfolding gift_place
-      gift_leaves h i ks ls g = subst (λ c. R (gift_place script honest h i ks) (or_never script honest c (first_place (open_place script honest h i ls) (shorten_place script honest h i ls)))) (sym (put_leaves h i ks ls g))
-          (or_leaves (was_put script honest h i ks) (first_place (open_place script honest h i ks) (shorten_place script honest h i ks)) (first_place (open_place script honest h i ls) (shorten_place script honest h i ls)) (each_first (open_place script honest h i ks) (open_place script honest h i ls) (shorten_place script honest h i ks) (shorten_place script honest h i ls) (open_leaves h i ks ls g) (shorten_leaves h i ks ls g)))
+      gift_leaves h i o ks ls g = subst (λ c. R (gift_place script honest h i ks) (or_never script honest c (first_place (open_place script honest h i ls) (shorten_place script honest h i ls)))) (sym (put_leaves h i ks ls g))
+          (or_leaves (was_put script honest h i ks) (first_place (open_place script honest h i ks) (shorten_place script honest h i ks)) (first_place (open_place script honest h i ls) (shorten_place script honest h i ls)) (each_first (open_place script honest h i ks) (open_place script honest h i ls) (shorten_place script honest h i ks) (shorten_place script honest h i ls) (open_leaves h i o ks ls g) (shorten_leaves h i o ks ls g)))
 
       -- ---- where lanes lead
 
       module _ (vs : List (Vat Name)) (ks ls : List Link) (g : AllLeave ks ls) where
-        unsettled_if : (c : Bool) (h i : ℕ) → R (elim c [ true ↦ gift_place script honest h i ks | false ↦ Free ]) (elim c [ true ↦ gift_place script honest h i ls | false ↦ Free ])
-        unsettled_if true h i = gift_leaves h i ks ls g
-        unsettled_if false h i = self Free
+        abbrev pub Fits : Name → Type 0
+        Fits (Gift h i) = G h i
+        Fits (Root h) = Unit {0}
+        Fits (Object h i) = Unit {0}
+        Fits (Promise h i) = Unit {0}
+        Fits (Answer h m) = Unit {0}
+        Fits (Sent m) = Unit {0}
 
-        unsettled_leaves : (u : ℕ) (p : Name) (gs : List (GiftEntry Name)) → R (unsettled script honest vs ks u p gs) (unsettled script honest vs ls u p gs)
+        abbrev pub FitsLane : Lane → Type 0
+        FitsLane (Held u p) = Fits p
+        FitsLane (Queue u) = Unit {0}
+        FitsLane (Way x y) = Unit {0}
+
+        unsettled_if : (c : Bool) (h i : ℕ) → G h i → R (elim c [ true ↦ gift_place script honest h i ks | false ↦ Free ]) (elim c [ true ↦ gift_place script honest h i ls | false ↦ Free ])
+        unsettled_if true h i o = gift_leaves h i o ks ls g
+        unsettled_if false h i o = self Free
+
+        unsettled_leaves : (u : ℕ) (p : Name) → Fits p → (gs : List (GiftEntry Name)) → R (unsettled script honest vs ks u p gs) (unsettled script honest vs ls u p gs)
         unfolding unsettled
-        unsettled_leaves u (Gift h i) gs = unsettled_if ((h == u) && not (opened_there (Gift h i) gs)) h i
-        unsettled_leaves u (Root h) gs = self Free
-        unsettled_leaves u (Object h i) gs = self Free
-        unsettled_leaves u (Promise h i) gs = self Free
-        unsettled_leaves u (Answer h m) gs = self Free
-        unsettled_leaves u (Sent m) gs = self Free
+        unsettled_leaves u (Gift h i) o gs = unsettled_if ((h == u) && not (opened_there (Gift h i) gs)) h i o
+        unsettled_leaves u (Root h) o gs = self Free
+        unsettled_leaves u (Object h i) o gs = self Free
+        unsettled_leaves u (Promise h i) o gs = self Free
+        unsettled_leaves u (Answer h m) o gs = self Free
+        unsettled_leaves u (Sent m) o gs = self Free
 
         leads_still : (u : ℕ) (x : Value Name) → leads script honest vs ls u x ≡ leads script honest vs ks u x
         unfolding leads
         leads_still u x = refl
 
-        released_leaves : (u : ℕ) (p : Name) (gs : List (GiftEntry Name)) (q : Standing Name) → R (released script honest vs ks u p gs q) (released script honest vs ls u p gs q)
+        released_leaves : (u : ℕ) (p : Name) → Fits p → (gs : List (GiftEntry Name)) (q : Standing Name) → R (released script honest vs ks u p gs q) (released script honest vs ls u p gs q)
         unfolding released
-        released_leaves u p gs Unsettled = unsettled_leaves u p gs
-        released_leaves u p gs (WaitsOn z) = rw (leads_still u (Ref z)) (self (leads script honest vs ks u (Ref z)))
-        released_leaves u p gs (Viewed z) = rw (leads_still u (Ref z)) (self (leads script honest vs ks u (Ref z)))
-        released_leaves u p gs (Settled y) = rw (leads_still u y) (self (leads script honest vs ks u y))
+        released_leaves u p f gs Unsettled = unsettled_leaves u p f gs
+        released_leaves u p f gs (WaitsOn z) = rw (leads_still u (Ref z)) (self (leads script honest vs ks u (Ref z)))
+        released_leaves u p f gs (Viewed z) = rw (leads_still u (Ref z)) (self (leads script honest vs ks u (Ref z)))
+        released_leaves u p f gs (Settled y) = rw (leads_still u y) (self (leads script honest vs ks u y))
 
-        pub held_leaves : (u : ℕ) (p : Name) (o : Option (Vat Name)) → R (released_at script honest vs ks u p o) (released_at script honest vs ls u p o)
+        pub held_leaves : (u : ℕ) (p : Name) → Fits p → (o : Option (Vat Name)) → R (released_at script honest vs ks u p o) (released_at script honest vs ls u p o)
         unfolding released_at
-        held_leaves u p (Some r) = released_leaves u p r.gifts (refs.standing_of (names script u) r.known p)
-        held_leaves u p None = self Nowhere
+        held_leaves u p f (Some r) = released_leaves u p f r.gifts (refs.standing_of (names script u) r.known p)
+        held_leaves u p f None = self Nowhere
 
         over_still : (b : ℕ) (n : Name) (k l : Link) → LinkLeaves k l → over script honest vs ls b n l ≡ over script honest vs ks b n k
         unfolding over is_honest leads
@@ -273,11 +292,16 @@ module _ (R : Place → Place → Type 0) where
         unfolding onward_at
         links_still x y n = way_still y n (world.link_at x y ks) (world.link_at x y ls) (found_leaves x y ks ls g)
 
-        pub onward_leaves : (l : Lane) (n : Name) → R (onward_at script honest vs ks l n) (onward_at script honest vs ls l n)
+        pub onward_leaves : (l : Lane) → FitsLane l → (n : Name) → R (onward_at script honest vs ks l n) (onward_at script honest vs ls l n)
         unfolding onward_at
-        onward_leaves (Queue u) n = self Free
-        onward_leaves (Held u p) n = held_leaves u p (slice_get vs u)
-        onward_leaves (Way x y) n = subst (λ c. R (onward_at script honest vs ks (Way x y) n) c) (sym (links_still x y n)) (self (onward_at script honest vs ks (Way x y) n))
+        onward_leaves (Queue u) f n = self Free
+        onward_leaves (Held u p) f n = held_leaves u p f (slice_get vs u)
+        onward_leaves (Way x y) f n = subst (λ c. R (onward_at script honest vs ks (Way x y) n) c) (sym (links_still x y n)) (self (onward_at script honest vs ks (Way x y) n))
+
+-- ---- every gift
+
+abbrev pub Any : ℕ → ℕ → Type 0
+Any h i = Unit {0}
 
 -- ---- a note that lets nothing go
 
@@ -289,11 +313,11 @@ place_front f l n ns e = subst (λ c. elim c [ true ↦ in_lane l [] (subject n)
 abbrev Same : Place → Place → Type 0
 Same c d = d ≡ c
 
-each_same : (o p : Option Place) → p ≡ o → Each Same o p
-each_same None None e = tt
-each_same (Some c) (Some d) e = some_same d c e
-each_same None (Some d) e = none_some d (sym e)
-each_same (Some c) None e = none_some c e
+each_same : (G : ℕ → ℕ → Type 0) (o p : Option Place) → p ≡ o → Each Same G o p
+each_same G None None e = tt
+each_same G (Some c) (Some d) e = some_same d c e
+each_same G None (Some d) e = none_some d (sym e)
+each_same G (Some c) None e = none_some c e
 
 -- a note that is silent stands in front of nothing
 nothing_delivered : (n : Note Name) → IsSilent n → delivered (n ∷ []) ≡ []
@@ -316,28 +340,28 @@ lets_nothing (Shorten n c i) h = absurd h
 silent_place : (f : Note Name → Bool) → IsTest f → (l : Lane) (n : Note Name) (ns : List (Note Name)) → IsSilent n → note_place f l [] ns ≡ note_place f l [] (n ∷ ns)
 silent_place f t l n ns h = sym (place_front f l n ns (t n (lets_nothing n h)) ∙ ap (λ b. note_place f l b ns) (nothing_delivered n h))
 
-silent_link : (n : Note Name) (l : Link) → IsSilent n → LinkLeaves Same (in_front n l) l
+silent_link : (n : Note Name) (l : Link) → IsSilent n → LinkLeaves Same Any (in_front n l) l
 unfolding in_front
 silent_link n l h = record {
   from = refl;
   to = refl;
   cut = refl;
   log = refl;
-  opening = λ i. each_same (note_place (opens i) (Way l.from l.to) [] (n ∷ l.notes)) (note_place (opens i) (Way l.from l.to) [] l.notes) (silent_place (opens i) (opens_test i) (Way l.from l.to) n l.notes h);
-  shortening = λ g i. each_same (note_place (shortens g i) (Way l.from l.to) [] (n ∷ l.notes)) (note_place (shortens g i) (Way l.from l.to) [] l.notes) (silent_place (shortens g i) (shortens_test g i) (Way l.from l.to) n l.notes h);
+  opening = λ g i o e. each_same Any (note_place (opens i) (Way l.from l.to) [] (n ∷ l.notes)) (note_place (opens i) (Way l.from l.to) [] l.notes) (silent_place (opens i) (opens_test i) (Way l.from l.to) n l.notes h);
+  shortening = λ g i o. each_same Any (note_place (shortens g i) (Way l.from l.to) [] (n ∷ l.notes)) (note_place (shortens g i) (Way l.from l.to) [] l.notes) (silent_place (shortens g i) (shortens_test g i) (Way l.from l.to) n l.notes h);
 }
 
 -- ---- the note stands on that link alone
 
-module _ (R : Place → Place → Type 0) (self : (c : Place) → R c c) (a b : ℕ) (n : Note Name) (one : (l : Link) → l.from ≡ a → l.to ≡ b → LinkLeaves R (in_front n l) l) where
-  pub all_leave : (ls : List Link) → AllLeave R (world.with_link (in_front n) a b ls) ls
+module _ (R : Place → Place → Type 0) (G : ℕ → ℕ → Type 0) (self : (c : Place) → R c c) (a b : ℕ) (n : Note Name) (one : (l : Link) → l.from ≡ a → l.to ≡ b → LinkLeaves R G (in_front n l) l) where
+  pub all_leave : (ls : List Link) → AllLeave R G (world.with_link (in_front n) a b ls) ls
   unfolding world.with_link
   all_leave [] = tt
   all_leave (l ∷ ls) = go (all_leave ls) (world.is_link a b l) refl
     where
-      go : AllLeave R (world.with_link (in_front n) a b ls) ls → (c : Bool) → world.is_link a b l ≡ c → AllLeave R (elim c [ true ↦ in_front n l ∷ ls | false ↦ l ∷ world.with_link (in_front n) a b ls ]) (l ∷ ls)
-      go f true i = let e = ends_of a b l i in (one l e.0 e.1, all_self R self ls)
-      go f false i = (link_self R self l, f)
+      go : AllLeave R G (world.with_link (in_front n) a b ls) ls → (c : Bool) → world.is_link a b l ≡ c → AllLeave R G (elim c [ true ↦ in_front n l ∷ ls | false ↦ l ∷ world.with_link (in_front n) a b ls ]) (l ∷ ls)
+      go f true i = let e = ends_of a b l i in (one l e.0 e.1, all_self R G self ls)
+      go f false i = (link_self R G self l, f)
 
 -- ---- what stands on links
 
@@ -414,8 +438,18 @@ module _ (script : Script) (honest : ℕ → Bool) (vs : List (Vat Name)) (a b :
 -- ---- a silent note
 
 module _ (script : Script) (honest : ℕ → Bool) (vs : List (Vat Name)) (a b : ℕ) (n : Note Name) (h : IsSilent n) (ls : List Link) where
-  silent_all : AllLeave Same (world.with_link (in_front n) a b ls) ls
-  silent_all = all_leave Same (λ c. refl) a b n (λ l e f. silent_link n l h) ls
+  silent_all : AllLeave Same Any (world.with_link (in_front n) a b ls) ls
+  silent_all = all_leave Same Any (λ c. refl) a b n (λ l e f. silent_link n l h) ls
+
+  any_fits : (l : Lane) → FitsLane Same Any (λ c. refl) script honest vs (world.with_link (in_front n) a b ls) ls silent_all l
+  any_fits (Queue u) = tt
+  any_fits (Way x y) = tt
+  any_fits (Held u (Gift h i)) = tt
+  any_fits (Held u (Root h)) = tt
+  any_fits (Held u (Object h i)) = tt
+  any_fits (Held u (Promise h i)) = tt
+  any_fits (Held u (Answer h m)) = tt
+  any_fits (Held u (Sent m)) = tt
 
   silent_stands : (l : Lane) (i : Item) → IsIn i (stands_at script honest vs ls l) ⊎ ((l ≡ Way a b) × IsIn i (delivered (n ∷ []))) → IsIn i (stands_at script honest vs ls l)
   silent_stands l i (inl j) = j
@@ -425,7 +459,7 @@ module _ (script : Script) (honest : ℕ → Bool) (vs : List (Vat Name)) (a b :
   unfolding ways_of
   silent_same = (
     λ l. (λ i j. silent_stands l i (stands_leaves script honest vs a b n ls l i j), λ i j. stands_back script honest vs a b n ls l i j),
-    λ l m. onward_leaves Same (λ c. refl) script honest vs (world.with_link (in_front n) a b ls) ls silent_all l m,
+    λ l m. onward_leaves Same Any (λ c. refl) script honest vs (world.with_link (in_front n) a b ls) ls silent_all l (any_fits l) m,
   )
 
 pub silent_notes_leave : SilentNotesLeave
@@ -439,31 +473,31 @@ module _ (m o : Name) (verb : Words) (ys : Passeds Name) where
   Note' = Deliver m o verb ys
 
   module _ (l : Lane) where
-    each_nearer : (f : Note Name → Bool) (bs : List Item) (ns : List (Note Name)) → Each (Beheads l (item m o)) (note_place f l (item m o ∷ bs) ns) (note_place f l bs ns)
+    each_nearer : (f : Note Name → Bool) (bs : List Item) (ns : List (Note Name)) → Each (Beheads l (item m o)) Any (note_place f l (item m o ∷ bs) ns) (note_place f l bs ns)
     unfolding note_place in_lane
     each_nearer f bs [] = tt
     each_nearer f bs (n ∷ ns) = go (f n) (subject n) (each_nearer f (bs ++ delivered (n ∷ [])) ns)
       where
-        go : (c : Bool) (q : Option Name) → Each (Beheads l (item m o)) (note_place f l (item m o ∷ (bs ++ delivered (n ∷ []))) ns) (note_place f l (bs ++ delivered (n ∷ [])) ns)
-            → Each (Beheads l (item m o)) (elim c [ true ↦ in_lane l (item m o ∷ bs) q | false ↦ note_place f l (item m o ∷ (bs ++ delivered (n ∷ []))) ns ]) (elim c [ true ↦ in_lane l bs q | false ↦ note_place f l (bs ++ delivered (n ∷ [])) ns ])
+        go : (c : Bool) (q : Option Name) → Each (Beheads l (item m o)) Any (note_place f l (item m o ∷ (bs ++ delivered (n ∷ []))) ns) (note_place f l (bs ++ delivered (n ∷ [])) ns)
+            → Each (Beheads l (item m o)) Any (elim c [ true ↦ in_lane l (item m o ∷ bs) q | false ↦ note_place f l (item m o ∷ (bs ++ delivered (n ∷ []))) ns ]) (elim c [ true ↦ in_lane l bs q | false ↦ note_place f l (bs ++ delivered (n ∷ [])) ns ])
         go true (Some x) g = nearer
         go true None g = tt
         go false q g = g
 
-    each_message : (f : Note Name → Bool) → IsTest f → (ns : List (Note Name)) → Each (Beheads l (item m o)) (note_place f l [] (Note' ∷ ns)) (note_place f l [] ns)
+    each_message : (f : Note Name → Bool) → IsTest f → (ns : List (Note Name)) → Each (Beheads l (item m o)) Any (note_place f l [] (Note' ∷ ns)) (note_place f l [] ns)
     unfolding delivered
-    each_message f t ns = subst (λ p. Each (Beheads l (item m o)) p (note_place f l [] ns)) (sym (place_front f l Note' ns (t Note' tt))) (each_nearer f [] ns)
+    each_message f t ns = subst (λ p. Each (Beheads l (item m o)) Any p (note_place f l [] ns)) (sym (place_front f l Note' ns (t Note' tt))) (each_nearer f [] ns)
 
-  message_link : (a b : ℕ) (l : Link) → l.from ≡ a → l.to ≡ b → LinkLeaves (Beheads (Way a b) (item m o)) (in_front Note' l) l
+  message_link : (a b : ℕ) (l : Link) → l.from ≡ a → l.to ≡ b → LinkLeaves (Beheads (Way a b) (item m o)) Any (in_front Note' l) l
   unfolding in_front
-  message_link a b l e f = subst (λ x. LinkLeaves (Beheads (Way x b) (item m o)) (in_front Note' l) l) e (subst (λ y. LinkLeaves (Beheads (Way l.from y) (item m o)) (in_front Note' l) l) f (record {
+  message_link a b l e f = subst (λ x. LinkLeaves (Beheads (Way x b) (item m o)) Any (in_front Note' l) l) e (subst (λ y. LinkLeaves (Beheads (Way l.from y) (item m o)) Any (in_front Note' l) l) f (record {
     from = refl;
     to = refl;
     cut = refl;
     log = refl;
-    opening = λ i. each_message (Way l.from l.to) (opens i) (opens_test i) l.notes;
-    shortening = λ h i. each_message (Way l.from l.to) (shortens h i) (shortens_test h i) l.notes;
+    opening = λ h i g e. each_message (Way l.from l.to) (opens i) (opens_test i) l.notes;
+    shortening = λ h i g. each_message (Way l.from l.to) (shortens h i) (shortens_test h i) l.notes;
   }))
 
-  pub message_all : (a b : ℕ) (ls : List Link) → AllLeave (Beheads (Way a b) (item m o)) (world.with_link (in_front Note') a b ls) ls
-  message_all a b ls = all_leave (Beheads (Way a b) (item m o)) (λ c. stays) a b Note' (λ l e f. message_link a b l e f) ls
+  pub message_all : (a b : ℕ) (ls : List Link) → AllLeave (Beheads (Way a b) (item m o)) Any (world.with_link (in_front Note') a b ls) ls
+  message_all a b ls = all_leave (Beheads (Way a b) (item m o)) Any (λ c. stays) a b Note' (λ l e f. message_link a b l e f) ls
