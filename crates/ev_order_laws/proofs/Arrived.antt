@@ -116,7 +116,7 @@ module _ (script : Script) (honest : ℕ → Bool) (w : World) (a b : ℕ) (r s 
   unfolding is_honest
   both_honest l e f = rw e (rw f (rw way.sender way.receiver))
 
-  onward_some : (vs : List (Vat Name)) (ls : List Link) (o : Name) (l : Link) → world.link_at a b ls ≡ Some l → l.cut ≡ false → onward_at script honest vs ls (Way a b) o ≡ leads script honest vs ls b (Ref o)
+  pub onward_some : (vs : List (Vat Name)) (ls : List Link) (o : Name) (l : Link) → world.link_at a b ls ≡ Some l → l.cut ≡ false → onward_at script honest vs ls (Way a b) o ≡ leads script honest vs ls b (Ref o)
   unfolding onward_at
   onward_some vs ls o l e f = let h = found_ends a b ls l e in
       subst (λ q. elim q [ Some k ↦ over script honest vs ls b o k | None ↦ Nowhere ] ≡ over script honest vs ls b o l) (sym e) refl

@@ -306,14 +306,14 @@ Any h i = Unit {0}
 -- ---- a note that lets nothing go
 
 -- behind the items of b, where the note delivers those of d
-place_front : (f : Note Name → Bool) (l : Lane) (n : Note Name) (ns : List (Note Name)) → f n ≡ false → note_place f l [] (n ∷ ns) ≡ note_place f l (delivered (n ∷ [])) ns
+pub place_front : (f : Note Name → Bool) (l : Lane) (n : Note Name) (ns : List (Note Name)) → f n ≡ false → note_place f l [] (n ∷ ns) ≡ note_place f l (delivered (n ∷ [])) ns
 unfolding note_place
 place_front f l n ns e = subst (λ c. elim c [ true ↦ in_lane l [] (subject n) | false ↦ note_place f l (delivered (n ∷ [])) ns ] ≡ note_place f l (delivered (n ∷ [])) ns) (sym e) refl
 
-abbrev Same : Place → Place → Type 0
+abbrev pub Same : Place → Place → Type 0
 Same c d = d ≡ c
 
-each_same : (G : ℕ → ℕ → Type 0) (o p : Option Place) → p ≡ o → Each Same G o p
+pub each_same : (G : ℕ → ℕ → Type 0) (o p : Option Place) → p ≡ o → Each Same G o p
 each_same G None None e = tt
 each_same G (Some c) (Some d) e = some_same d c e
 each_same G None (Some d) e = none_some d (sym e)

@@ -10,3 +10,4 @@ pub mod Waits
 pub mod Coming
 pub mod Keeping
 pub mod Arrived
+pub mod Opened

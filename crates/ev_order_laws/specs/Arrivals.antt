@@ -1,13 +1,15 @@
 -- What is ahead as a note arrives.
 use Rattle.std.specs.Prelude.{◌≡◌, ℕ, Bool, true, false, List, [], ◌∷◌, ◌++◌, Some, slice_get, ◌⊎◌}
-use Rattle.ev_machine.specs.Values.{Words, Ref, Name}
-use Rattle.ev_machine.specs.State.{Message, Passeds, Note, Deliver, Open, Ask, SettledTo, Elsewhere, Shorten, Vat, Known}
-use Rattle.ev_machine.specs.Refs.{entry_of, follow, place, Settler, Near, Mine, Away, Gone, send_to}
+use Rattle.ev_machine.specs.Values.{Words, Ref, Name, Gift, Naming}
+use Rattle.ev_machine.specs.State.{Message, Passeds, Note, Deliver, Open, Ask, SettledTo, Elsewhere, Shorten, GiftEntry, Vat, Known, Unsettled, with_opened}
+use Rattle.ev_machine.specs.Arrive.{gift_at}
+use Rattle.ev_machine.specs.Refs.{entry_of, standing_of, follow, place, Settler, Near, Mine, Away, Gone, send_to}
 use Rattle.ev_machine.specs.Refs as refs
 use Rattle.ev_run.specs.World.{Script, Link, World, link_at, with_link, with_notes, names}
-use Rattle.ev_order_laws.specs.Ways.{Lane, Way, Item, Place, Nowhere, Free, End, Mid, Ways, Doom, Ahead}
+use Rattle.ev_order_laws.specs.Ways.{Lane, Held, Way, Item, Place, Nowhere, Free, End, Mid, Ways, Doom, Ahead}
 use Rattle.ev_order_laws.specs.Changes.{Lacks, GoesOn, IsLost}
-use Rattle.ev_order_laws.specs.Places.{item, aimed, leads_at, ways, amid}
+use Rattle.ev_order_laws.specs.Turns.{Within, IsTurned}
+use Rattle.ev_order_laws.specs.Places.{item, opened_there, aimed, gift_place, leads_in, leads_at, ways, amid}
 use Rattle.ev_order_laws.specs.Worlds.{IfGives, IsWaiting, IsObject, IsKnown, SameWays}
 use Rattle.ev_order_laws.specs.Places.{opened_places}
 
@@ -109,6 +111,30 @@ CarriedMessagesArePutOn = (script : Script) (honest : ℕ → Bool) (w : World) 
 abbrev pub LearntNamesAreBehind : Type 0
 LearntNamesAreBehind = (script : Script) (honest : ℕ → Bool) (w : World) (a b : ℕ) (n : Name) → IsOpenWay honest a b w
     → let u = ways script honest w in (Doom u (Mid (Way a b) [] n) → Doom u (leads_at script honest b (slice_get w.vats b) (Ref n))) × ((x : Name) → Ahead u x (Mid (Way a b) [] n) → Ahead u x (leads_at script honest b (slice_get w.vats b) (Ref n)))
+
+-- ---- notes that let gifts go
+
+-- In u all stands and leads as in w, but what name p of vat v holds leads to e.
+pub record IsLedTo (w u : Ways) (v : ℕ) (p : Name) (e : Place) : Type 0 where
+  pub stands : (l : Lane) → Within (w.stands l) (u.stands l)
+  pub there : (n : Name) → u.onward (Held v p) n ≡ e
+  pub others : (l : Lane) (n : Name) → (u.onward l n ≡ w.onward l n) ⊎ (l ≡ Held v p)
+
+-- gift g of that provider and draw stands at the vat, was not opened, and waits for nothing else
+pub record IsShut (K : Naming Name Name) (s : Vat Name) (provider i : ℕ) (g : Name) : Type 0 where
+  pub entry : GiftEntry Name
+  pub found : gift_at provider i s.gifts ≡ Some entry
+  pub name : entry.name ≡ g
+  pub waits : standing_of K s.known g ≡ Unsettled
+  pub unopened : opened_there g s.gifts ≡ false
+
+-- As the note that lets a gift go acts, what the gift held leads to where the note's name leads, and else the ways are as they were: so what is ahead stays ahead, by the law on turns.
+abbrev pub OpenedGiftsTurn : Type 0
+OpenedGiftsTurn = (script : Script) (honest : ℕ → Bool) (w : World) (a b : ℕ) (r s : Vat Name) (i : ℕ) (n : Name)
+    → slice_get w.vats b ≡ Some r → IsOpenWay honest a b w → IsShut (names script b) s a i (Gift b i)
+    → gift_place script honest b i (amid b s (keeping a b (Open i n) w)).links ≡ Mid (Way a b) [] n
+    → (u : Ways) → IsLedTo (ways script honest (amid b (record s { gifts = with_opened a i s.gifts }) w)) u b (Gift b i) (leads_in script honest b s (Ref n))
+    → IsTurned (ways script honest (amid b s (keeping a b (Open i n) w))) u
 
 -- opens each definition of this file, and of those below
 unfoldable pub opened_arrivals : Unit {0}

@@ -4,7 +4,7 @@
 //! A note that delivers nothing and lets no gift go may leave at any time. One that delivers a message
 //! leaves in one change with the coming of the message to where it is sent on.
 
-ghost use Rattle.ev_order_laws.specs.Arrivals.{ArrivingChangesNothing, CarriedMessagesAreLost, CarriedMessagesArePutOn, CarriedMessagesGoOn, LearntNamesAreBehind, SilentNotesLeave};
+ghost use Rattle.ev_order_laws.specs.Arrivals.{ArrivingChangesNothing, CarriedMessagesAreLost, CarriedMessagesArePutOn, CarriedMessagesGoOn, LearntNamesAreBehind, OpenedGiftsTurn, SilentNotesLeave};
 
 /// An arrival takes the first note from its link. With that note kept there the world is as it was.
 pub fn arriving_changes_nothing()
@@ -49,4 +49,16 @@ pub fn carried_messages_are_put_on()
 /// nothing stands in front of the name on its link: so it is from the leaving of the note's message on.
 pub fn learnt_names_are_behind()
     ensures { LearntNamesAreBehind }
+{}
+
+/// As the note acts that lets a gift go, what waited for the gift at its host goes where the note's name leads
+/// there: the note leaves, the gift counts as opened, and what the gift holds leads to that place. So by
+/// `turning_keeps` what is ahead stays ahead.
+///
+/// It is said of all ways in which the gift leads there and that are else the ways of the world after it: so
+/// of a gift that waits for that name, and of one that is about to settle. It asks that the link is not cut,
+/// that both its ends are honest, that the gift was not opened and waits for nothing else, and that this
+/// note is the one that lets it go.
+pub fn opened_gifts_turn()
+    ensures { OpenedGiftsTurn }
 {}
