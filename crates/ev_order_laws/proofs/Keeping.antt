@@ -126,7 +126,8 @@ module _ (R : Place → Place → Type 0) (G : ℕ → ℕ → Type 0) where
     pub from : l.from ≡ k.from
     pub to : l.to ≡ k.to
     pub cut : l.cut ≡ k.cut
-    pub log : l.log ≡ k.log
+    pub opened : (h i : ℕ) → G h i → (k.to == h) ≡ true → any_note (opens i) l.log ≡ any_note (opens i) k.log
+    pub shortened : (h i : ℕ) → G h i → any_note (shortens h i) l.log ≡ any_note (shortens h i) k.log
     pub opening : (h i : ℕ) → G h i → (k.to == h) ≡ true → Each (note_place (opens i) (Way k.from k.to) [] k.notes) (note_place (opens i) (Way l.from l.to) [] l.notes)
     pub shortening : (h i : ℕ) → G h i → Each (note_place (shortens h i) (Way k.from k.to) [] k.notes) (note_place (shortens h i) (Way l.from l.to) [] l.notes)
 
@@ -142,7 +143,7 @@ module _ (R : Place → Place → Type 0) (G : ℕ → ℕ → Type 0) where
     each_self (Some c) = self c
 
     pub link_self : (l : Link) → LinkLeaves l l
-    link_self l = record { from = refl; to = refl; cut = refl; log = refl; opening = λ h i g e. each_self (note_place (opens i) (Way l.from l.to) [] l.notes); shortening = λ h i g. each_self (note_place (shortens h i) (Way l.from l.to) [] l.notes) }
+    link_self l = record { from = refl; to = refl; cut = refl; opened = λ h i g e. refl; shortened = λ h i g. refl; opening = λ h i g e. each_self (note_place (opens i) (Way l.from l.to) [] l.notes); shortening = λ h i g. each_self (note_place (shortens h i) (Way l.from l.to) [] l.notes) }
 
     pub all_self : (ls : List Link) → AllLeave ls ls
     all_self [] = tt
@@ -181,16 +182,21 @@ module _ (R : Place → Place → Type 0) (G : ℕ → ℕ → Type 0) where
           (subst (λ x. Each (shorten_place script honest h i (k ∷ ks)) (elim (honest k.from && honest x) [ true ↦ first_place q f | false ↦ f ])) (sym g.0.to)
           (each_if (honest k.from && honest k.to) p q e f (λ c. g.0.shortening h i o) (shorten_leaves h i o ks ls g.1)))
 
-      put_leaves : (h i : ℕ) (ks ls : List Link) → AllLeave ks ls → was_put script honest h i ls ≡ was_put script honest h i ks
+      logged_if : (c d e : Bool) → (c ≡ true → d ≡ e) → (c && d) ≡ (c && e)
+      logged_if true d e f = f refl
+      logged_if false d e f = refl
+
+      put_leaves : (h i : ℕ) → G h i → (ks ls : List Link) → AllLeave ks ls → was_put script honest h i ls ≡ was_put script honest h i ks
       unfolding was_put is_honest
-      put_leaves h i [] [] g = refl
-      put_leaves h i [] (l ∷ ls) g = absurd g
-      put_leaves h i (k ∷ ks) [] g = absurd g
-      put_leaves h i (k ∷ ks) (l ∷ ls) g =
+      put_leaves h i o [] [] g = refl
+      put_leaves h i o [] (l ∷ ls) g = absurd g
+      put_leaves h i o (k ∷ ks) [] g = absurd g
+      put_leaves h i o (k ∷ ks) (l ∷ ls) g =
           ap (λ x. ((honest x && honest l.to) && (((l.to == h) && any_note (opens i) l.log) || any_note (shortens h i) l.log)) || was_put script honest h i ls) g.0.from
           ∙ ap (λ x. ((honest k.from && honest x) && (((x == h) && any_note (opens i) l.log) || any_note (shortens h i) l.log)) || was_put script honest h i ls) g.0.to
-          ∙ ap (λ x. ((honest k.from && honest k.to) && (((k.to == h) && any_note (opens i) x) || any_note (shortens h i) x)) || was_put script honest h i ls) g.0.log
-          ∙ ap (λ x. ((honest k.from && honest k.to) && (((k.to == h) && any_note (opens i) k.log) || any_note (shortens h i) k.log)) || x) (put_leaves h i ks ls g.1)
+          ∙ ap (λ x. ((honest k.from && honest k.to) && (x || any_note (shortens h i) l.log)) || was_put script honest h i ls) (logged_if (k.to == h) (any_note (opens i) l.log) (any_note (opens i) k.log) (g.0.opened h i o))
+          ∙ ap (λ x. ((honest k.from && honest k.to) && (((k.to == h) && any_note (opens i) k.log) || x)) || was_put script honest h i ls) (g.0.shortened h i o)
+          ∙ ap (λ x. ((honest k.from && honest k.to) && (((k.to == h) && any_note (opens i) k.log) || any_note (shortens h i) k.log)) || x) (put_leaves h i o ks ls g.1)
 
       or_leaves : (c : Bool) (p q : Option Place) → Each p q → R (or_never script honest c p) (or_never script honest c q)
       unfolding or_never
@@ -203,7 +209,7 @@ module _ (R : Place → Place → Type 0) (G : ℕ → ℕ → Type 0) where
 
       pub gift_leaves : (h i : ℕ) → G h i → (ks ls : List Link) → AllLeave ks ls → R (gift_place script honest h i ks) (gift_place script honest h i ls)
       unfolding gift_place
-      gift_leaves h i o ks ls g = subst (λ c. R (gift_place script honest h i ks) (or_never script honest c (first_place (open_place script honest h i ls) (shorten_place script honest h i ls)))) (sym (put_leaves h i ks ls g))
+      gift_leaves h i o ks ls g = subst (λ c. R (gift_place script honest h i ks) (or_never script honest c (first_place (open_place script honest h i ls) (shorten_place script honest h i ls)))) (sym (put_leaves h i o ks ls g))
           (or_leaves (was_put script honest h i ks) (first_place (open_place script honest h i ks) (shorten_place script honest h i ks)) (first_place (open_place script honest h i ls) (shorten_place script honest h i ls)) (each_first (open_place script honest h i ks) (open_place script honest h i ls) (shorten_place script honest h i ks) (shorten_place script honest h i ls) (open_leaves h i o ks ls g) (shorten_leaves h i o ks ls g)))
 
       -- ---- where lanes lead
@@ -346,7 +352,7 @@ silent_link n l h = record {
   from = refl;
   to = refl;
   cut = refl;
-  log = refl;
+  opened = λ h i g e. refl; shortened = λ h i g. refl;
   opening = λ g i o e. each_same Any (note_place (opens i) (Way l.from l.to) [] (n ∷ l.notes)) (note_place (opens i) (Way l.from l.to) [] l.notes) (silent_place (opens i) (opens_test i) (Way l.from l.to) n l.notes h);
   shortening = λ g i o. each_same Any (note_place (shortens g i) (Way l.from l.to) [] (n ∷ l.notes)) (note_place (shortens g i) (Way l.from l.to) [] l.notes) (silent_place (shortens g i) (shortens_test g i) (Way l.from l.to) n l.notes h);
 }
@@ -494,7 +500,7 @@ module _ (m o : Name) (verb : Words) (ys : Passeds Name) where
     from = refl;
     to = refl;
     cut = refl;
-    log = refl;
+    opened = λ h i g e. refl; shortened = λ h i g. refl;
     opening = λ h i g e. each_message (Way l.from l.to) (opens i) (opens_test i) l.notes;
     shortening = λ h i g. each_message (Way l.from l.to) (shortens h i) (shortens_test h i) l.notes;
   }))

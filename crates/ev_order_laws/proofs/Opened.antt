@@ -219,7 +219,7 @@ module _ (script : Script) (honest : ℕ → Bool) (w : World) (a b : ℕ) (r s 
     from = refl;
     to = refl;
     cut = refl;
-    log = refl;
+    opened = λ h j o c. refl; shortened = λ h j o. refl;
     opening = λ h j o c. each_same Other (note_place (opens j) (Way l.from l.to) [] (Note' ∷ l.notes)) (note_place (opens j) (Way l.from l.to) [] l.notes) (sym (place_front (opens j) (Way l.from l.to) Note' l.notes (other_open h j o (subst (λ x. (h == x) ≡ true) f (subst (λ x. (x == l.to) ≡ true) (eqb-true l.to h c) (same_number l.to))))));
     shortening = λ h j o. each_same Other (note_place (shortens h j) (Way l.from l.to) [] (Note' ∷ l.notes)) (note_place (shortens h j) (Way l.from l.to) [] l.notes) (sym (place_front (shortens h j) (Way l.from l.to) Note' l.notes refl));
   }
