@@ -126,7 +126,7 @@ module _ (script : Script) (honest : ℕ → Bool) (w : World) (a b : ℕ) (r s 
   unfolding leads leads_at
   leads_mid o = ap (λ q. leads_at script honest b q (Ref o)) (get_put w.vats b r s at)
 
-  mid_onward : (o : Name) → onward_at script honest (world.put_at b s w.vats) Links (Way a b) o ≡ leads_in script honest b s (Ref o)
+  pub mid_onward : (o : Name) → onward_at script honest (world.put_at b s w.vats) Links (Way a b) o ≡ leads_in script honest b s (Ref o)
   mid_onward o = onward_some (world.put_at b s w.vats) Links o open_links.0 open_links.1 open_links.2 ∙ leads_mid o
 
   only_one : (i : Item) → IsIn i (delivered (Mail ∷ [])) → i ≡ item m n

@@ -21,11 +21,11 @@ kept_here : (l : Link) (n : Note Name) (ns : List (Note Name)) → l.notes ≡ n
 unfolding in_front world.with_notes
 kept_here l n ns e = subst (λ ms. record l { notes = ms } ≡ l) e refl
 
-with_here : (f : Link → Link) (a b : ℕ) (k : Link) (ls : List Link) → world.is_link a b k ≡ true → world.with_link f a b (k ∷ ls) ≡ f k ∷ ls
+pub with_here : (f : Link → Link) (a b : ℕ) (k : Link) (ls : List Link) → world.is_link a b k ≡ true → world.with_link f a b (k ∷ ls) ≡ f k ∷ ls
 unfolding world.with_link
 with_here f a b k ls e = subst (λ c. elim c [ true ↦ f k ∷ ls | false ↦ k ∷ world.with_link f a b ls ] ≡ f k ∷ ls) (sym e) refl
 
-with_behind : (f : Link → Link) (a b : ℕ) (k : Link) (ls : List Link) → world.is_link a b k ≡ false → world.with_link f a b (k ∷ ls) ≡ k ∷ world.with_link f a b ls
+pub with_behind : (f : Link → Link) (a b : ℕ) (k : Link) (ls : List Link) → world.is_link a b k ≡ false → world.with_link f a b (k ∷ ls) ≡ k ∷ world.with_link f a b ls
 unfolding world.with_link
 with_behind f a b k ls e = subst (λ c. elim c [ true ↦ f k ∷ ls | false ↦ k ∷ world.with_link f a b ls ] ≡ k ∷ world.with_link f a b ls) (sym e) refl
 
@@ -64,7 +64,7 @@ unfolding in_front
 front_pushed n p l true e = pushed_shut p (in_front n l) e ∙ sym (ap (λ j. in_front n j) (pushed_shut p l e))
 front_pushed n p l false e = pushed_open p (in_front n l) e ∙ sym (ap (λ j. in_front n j) (pushed_open p l e))
 
-pushed_link : (a b : ℕ) (p : Note Name) (k : Link) → world.is_link a b (world.pushed p k) ≡ world.is_link a b k
+pub pushed_link : (a b : ℕ) (p : Note Name) (k : Link) → world.is_link a b (world.pushed p k) ≡ world.is_link a b k
 pushed_link a b p k = pushed_ends k.cut p k a b refl
 
 -- of one note that is put
@@ -352,7 +352,8 @@ silent_link n l h = record {
   from = refl;
   to = refl;
   cut = refl;
-  opened = λ h i g e. refl; shortened = λ h i g. refl;
+  opened = λ h i g e. refl;
+  shortened = λ h i g. refl;
   opening = λ g i o e. each_same Any (note_place (opens i) (Way l.from l.to) [] (n ∷ l.notes)) (note_place (opens i) (Way l.from l.to) [] l.notes) (silent_place (opens i) (opens_test i) (Way l.from l.to) n l.notes h);
   shortening = λ g i o. each_same Any (note_place (shortens g i) (Way l.from l.to) [] (n ∷ l.notes)) (note_place (shortens g i) (Way l.from l.to) [] l.notes) (silent_place (shortens g i) (shortens_test g i) (Way l.from l.to) n l.notes h);
 }
@@ -382,7 +383,7 @@ module _ (script : Script) (honest : ℕ → Bool) (vs : List (Vat Name)) (a b :
   comes_self : (x y : ℕ) (o : Option Link) → Comes x y o o
   comes_self x y o i = (λ h. inl h, λ h. h)
 
-  more_delivered : (ns : List (Note Name)) (i : Item) → (IsIn i (delivered (n ∷ ns)) → IsIn i (delivered ns) ⊎ IsIn i (delivered (n ∷ []))) × (IsIn i (delivered ns) → IsIn i (delivered (n ∷ ns)))
+  pub more_delivered : (ns : List (Note Name)) (i : Item) → (IsIn i (delivered (n ∷ ns)) → IsIn i (delivered ns) ⊎ IsIn i (delivered (n ∷ []))) × (IsIn i (delivered ns) → IsIn i (delivered (n ∷ ns)))
   unfolding delivered
   more_delivered ns i = go n
     where
@@ -500,7 +501,8 @@ module _ (m o : Name) (verb : Words) (ys : Passeds Name) where
     from = refl;
     to = refl;
     cut = refl;
-    opened = λ h i g e. refl; shortened = λ h i g. refl;
+    opened = λ h i g e. refl;
+    shortened = λ h i g. refl;
     opening = λ h i g e. each_message (Way l.from l.to) (opens i) (opens_test i) l.notes;
     shortening = λ h i g. each_message (Way l.from l.to) (shortens h i) (shortens_test h i) l.notes;
   }))

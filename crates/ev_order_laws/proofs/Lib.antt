@@ -11,3 +11,4 @@ pub mod Coming
 pub mod Keeping
 pub mod Arrived
 pub mod Opened
+pub mod Shortened

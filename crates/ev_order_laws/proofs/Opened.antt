@@ -114,10 +114,10 @@ opened_other a i g m (x ∷ gs) e f h other = go (λ q. opened_other a i g m gs 
     go r true q = let differs : same_name x.name m ≡ false = ap (λ z. same_name z m) (ap (λ y. y.name) (some_same x e q) ∙ h) ∙ other in opened_here x.name m true (opened_there m gs) differs ∙ sym (opened_here x.name m x.opened (opened_there m gs) differs)
     go r false q = ap (λ z. (same_name x.name m && x.opened) || z) (r q)
 
-same_number : (n : ℕ) → (n == n) ≡ true
+pub same_number : (n : ℕ) → (n == n) ≡ true
 same_number n = eq-eqb n n refl
 
-second_false : (c d : Bool) → c ≡ true → (c && d) ≡ false → d ≡ false
+pub second_false : (c d : Bool) → c ≡ true → (c && d) ≡ false → d ≡ false
 second_false c d e f = sym (ap (λ x. x && d) e) ∙ f
 
 -- the note kept in front of a link that is not cut
@@ -219,7 +219,8 @@ module _ (script : Script) (honest : ℕ → Bool) (w : World) (a b : ℕ) (r s 
     from = refl;
     to = refl;
     cut = refl;
-    opened = λ h j o c. refl; shortened = λ h j o. refl;
+    opened = λ h j o c. refl;
+    shortened = λ h j o. refl;
     opening = λ h j o c. each_same Other (note_place (opens j) (Way l.from l.to) [] (Note' ∷ l.notes)) (note_place (opens j) (Way l.from l.to) [] l.notes) (sym (place_front (opens j) (Way l.from l.to) Note' l.notes (other_open h j o (subst (λ x. (h == x) ≡ true) f (subst (λ x. (x == l.to) ≡ true) (eqb-true l.to h c) (same_number l.to))))));
     shortening = λ h j o. each_same Other (note_place (shortens h j) (Way l.from l.to) [] (Note' ∷ l.notes)) (note_place (shortens h j) (Way l.from l.to) [] l.notes) (sym (place_front (shortens h j) (Way l.from l.to) Note' l.notes refl));
   }

@@ -1,5 +1,5 @@
 -- What is ahead as a note arrives.
-use Rattle.std.specs.Prelude.{◌≡◌, ℕ, Bool, true, false, List, [], ◌∷◌, ◌++◌, Some, slice_get, ◌⊎◌}
+use Rattle.std.specs.Prelude.{◌≡◌, ℕ, Bool, true, false, List, [], ◌∷◌, ◌++◌, Some, None, slice_get, ◌⊎◌}
 use Rattle.ev_machine.specs.Values.{Words, Ref, Name, Gift, Naming}
 use Rattle.ev_machine.specs.State.{Message, Passeds, Note, Deliver, Open, Ask, SettledTo, Elsewhere, Shorten, GiftEntry, Vat, Known, Unsettled, with_opened}
 use Rattle.ev_machine.specs.Arrive.{gift_at}
@@ -9,7 +9,7 @@ use Rattle.ev_run.specs.World.{Script, Link, World, link_at, with_link, with_not
 use Rattle.ev_order_laws.specs.Ways.{Lane, Held, Way, Item, Place, Nowhere, Free, End, Mid, Ways, Doom, Ahead}
 use Rattle.ev_order_laws.specs.Changes.{Lacks, GoesOn, IsLost}
 use Rattle.ev_order_laws.specs.Turns.{Within, IsTurned}
-use Rattle.ev_order_laws.specs.Places.{item, opened_there, aimed, gift_place, leads_in, leads_at, ways, amid}
+use Rattle.ev_order_laws.specs.Places.{item, opened_there, aimed, open_place, gift_place, leads_in, leads_at, ways, amid}
 use Rattle.ev_order_laws.specs.Worlds.{IfGives, IsWaiting, IsObject, IsKnown, SameWays}
 use Rattle.ev_order_laws.specs.Places.{opened_places}
 
@@ -135,6 +135,15 @@ OpenedGiftsTurn = (script : Script) (honest : ℕ → Bool) (w : World) (a b : �
     → gift_place script honest b i (amid b s (keeping a b (Open i n) w)).links ≡ Mid (Way a b) [] n
     → (u : Ways) → IsLedTo (ways script honest (amid b (record s { gifts = with_opened a i s.gifts }) w)) u b (Gift b i) (leads_in script honest b s (Ref n))
     → IsTurned (ways script honest (amid b s (keeping a b (Open i n) w))) u
+
+-- As the note that asks for a gift acts, its receiver lets the gift go by a note of its own, which stands behind all that stands on the link to the host: what is ahead stays ahead, by the law on turns.
+abbrev pub ShortenedGiftsTurn : Type 0
+ShortenedGiftsTurn = (script : Script) (honest : ℕ → Bool) (w : World) (a b c : ℕ) (r s : Vat Name) (i : ℕ) (n q : Name)
+    → slice_get w.vats b ≡ Some r → IsOpenWay honest a b w → IsOpenWay honest b c w
+    → leads_in script honest b s (Ref n) ≡ End (Way b c) q
+    → open_place script honest c i (amid b s w).links ≡ None
+    → gift_place script honest c i (amid b s (keeping a b (Shorten n c i) w)).links ≡ Mid (Way a b) [] n
+    → IsTurned (ways script honest (amid b s (keeping a b (Shorten n c i) w))) (ways script honest (amid b (record s { outbox = s.outbox ++ record { to = c; note = Open i q } ∷ [] }) w))
 
 -- opens each definition of this file, and of those below
 unfoldable pub opened_arrivals : Unit {0}

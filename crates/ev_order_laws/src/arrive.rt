@@ -4,7 +4,7 @@
 //! A note that delivers nothing and lets no gift go may leave at any time. One that delivers a message
 //! leaves in one change with the coming of the message to where it is sent on.
 
-ghost use Rattle.ev_order_laws.specs.Arrivals.{ArrivingChangesNothing, CarriedMessagesAreLost, CarriedMessagesArePutOn, CarriedMessagesGoOn, LearntNamesAreBehind, OpenedGiftsTurn, SilentNotesLeave};
+ghost use Rattle.ev_order_laws.specs.Arrivals.{ArrivingChangesNothing, CarriedMessagesAreLost, CarriedMessagesArePutOn, CarriedMessagesGoOn, LearntNamesAreBehind, OpenedGiftsTurn, ShortenedGiftsTurn, SilentNotesLeave};
 
 /// An arrival takes the first note from its link. With that note kept there the world is as it was.
 pub fn arriving_changes_nothing()
@@ -61,4 +61,15 @@ pub fn learnt_names_are_behind()
 /// note is the one that lets it go.
 pub fn opened_gifts_turn()
     ensures { OpenedGiftsTurn }
+{}
+
+/// As the note acts that asks for a gift, its receiver lets the gift go by a note of its own. What waited for
+/// the gift stood behind the first note, and stands behind the second now, which is behind all that stands on
+/// the link to the host. So by `turning_keeps` what is ahead stays ahead.
+///
+/// It asks that neither link is cut, that all three vats are honest, that the name in the note leads over the
+/// link to the host, that no note which lets the gift go is under way, and that this one is the one that asks
+/// for it.
+pub fn shortened_gifts_turn()
+    ensures { ShortenedGiftsTurn }
 {}
