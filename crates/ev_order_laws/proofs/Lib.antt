@@ -12,3 +12,4 @@ pub mod Keeping
 pub mod Arrived
 pub mod Opened
 pub mod Shortened
+pub mod Agreeing

@@ -6,7 +6,7 @@ use Rattle.ev_machine.specs.Arrive.{gift_at}
 use Rattle.ev_machine.specs.Refs.{entry_of, standing_of, follow, place, Settler, Near, Mine, Away, Gone, send_to}
 use Rattle.ev_machine.specs.Refs as refs
 use Rattle.ev_run.specs.World.{Script, Link, World, link_at, with_link, with_notes, names}
-use Rattle.ev_order_laws.specs.Ways.{Lane, Held, Way, Item, Place, Nowhere, Free, End, Mid, Ways, Doom, Ahead}
+use Rattle.ev_order_laws.specs.Ways.{Lane, Held, Way, Item, Place, Nowhere, Free, End, Mid, Ways, IsIn, Doom, Ahead}
 use Rattle.ev_order_laws.specs.Changes.{Lacks, GoesOn, IsLost}
 use Rattle.ev_order_laws.specs.Turns.{Within, IsTurned}
 use Rattle.ev_order_laws.specs.Places.{item, opened_there, aimed, open_place, gift_place, leads_in, leads_at, ways, amid}
@@ -144,6 +144,28 @@ ShortenedGiftsTurn = (script : Script) (honest : ℕ → Bool) (w : World) (a b 
     → open_place script honest c i (amid b s w).links ≡ None
     → gift_place script honest c i (amid b s (keeping a b (Shorten n c i) w)).links ≡ Mid (Way a b) [] n
     → IsTurned (ways script honest (amid b s (keeping a b (Shorten n c i) w))) (ways script honest (amid b (record s { outbox = s.outbox ++ record { to = c; note = Open i q } ∷ [] }) w))
+
+-- ---- ways that agree
+
+-- where Good tells by which names things stand in a lane
+module _ (Good : Lane → Name → Bool) where
+  -- it is in its lane by such a name, and so is all in front of it
+  abbrev pub IsGoodPlace : Place → Type 0
+  IsGoodPlace Nowhere = Unit {0}
+  IsGoodPlace Free = Unit {0}
+  IsGoodPlace (End l n) = Good l n ≡ true
+  IsGoodPlace (Mid l b n) = (Good l n ≡ true) × ((i : Item) → IsIn i b → Good l i.aim ≡ true)
+
+  -- The two ways agree at all such names, by which all stands, and from which lanes lead on to such places.
+  pub record Agree (w u : Ways) : Type 0 where
+    pub stands : (l : Lane) → Within (w.stands l) (u.stands l)
+    pub onward : (l : Lane) (n : Name) → Good l n ≡ true → u.onward l n ≡ w.onward l n
+    pub places : (l : Lane) (n : Name) → Good l n ≡ true → IsGoodPlace (w.onward l n)
+    pub items : (l : Lane) (i : Item) → IsIn i (w.stands l) → Good l i.aim ≡ true
+
+-- What is ahead in the one is ahead in the other, and what is doomed is doomed: names by which nothing comes to a lane do not count.
+abbrev pub AgreeingKeeps : Type 0
+AgreeingKeeps = (Good : Lane → Name → Bool) (w u : Ways) → Agree Good w u → (c : Place) → IsGoodPlace Good c → (Doom w c → Doom u c) × ((x : Name) → Ahead w x c → Ahead u x c)
 
 -- opens each definition of this file, and of those below
 unfoldable pub opened_arrivals : Unit {0}

@@ -4,7 +4,7 @@
 //! A note that delivers nothing and lets no gift go may leave at any time. One that delivers a message
 //! leaves in one change with the coming of the message to where it is sent on.
 
-ghost use Rattle.ev_order_laws.specs.Arrivals.{ArrivingChangesNothing, CarriedMessagesAreLost, CarriedMessagesArePutOn, CarriedMessagesGoOn, LearntNamesAreBehind, OpenedGiftsTurn, ShortenedGiftsTurn, SilentNotesLeave};
+ghost use Rattle.ev_order_laws.specs.Arrivals.{AgreeingKeeps, ArrivingChangesNothing, CarriedMessagesAreLost, CarriedMessagesArePutOn, CarriedMessagesGoOn, LearntNamesAreBehind, OpenedGiftsTurn, ShortenedGiftsTurn, SilentNotesLeave};
 
 /// An arrival takes the first note from its link. With that note kept there the world is as it was.
 pub fn arriving_changes_nothing()
@@ -72,4 +72,13 @@ pub fn opened_gifts_turn()
 /// for it.
 pub fn shortened_gifts_turn()
     ensures { ShortenedGiftsTurn }
+{}
+
+/// Names by which nothing comes to a lane do not count: where two ways agree at all others, what is ahead in
+/// the one is ahead in the other, and what is doomed is doomed.
+///
+/// So the arrival of a note that tells what a name of another vat settled to may change where that name leads
+/// on links on which nothing stands by it.
+pub fn agreeing_keeps()
+    ensures { AgreeingKeeps }
 {}
