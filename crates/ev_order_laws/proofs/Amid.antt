@@ -40,7 +40,7 @@ link_alike a b (l ∷ ls) (k ∷ ks) g = subst (λ c. LinkAlike (elim (world.is_
 
 -- ---- vats that are found
 
-abbrev Put : ℕ → Vat Name → Vat Name → List (Vat Name) → ℕ → Type 0
+abbrev pub Put : ℕ → Vat Name → Vat Name → List (Vat Name) → ℕ → Type 0
 Put v s t ss u = ((u ≡ v) × (slice_get (world.put_at v s ss) u ≡ Some s) × (slice_get (world.put_at v t ss) u ≡ Some t)) ⊎ (slice_get (world.put_at v t ss) u ≡ slice_get (world.put_at v s ss) u)
 
 put_more : (v : ℕ) (s t : Vat Name) (r : Vat Name) (ss : List (Vat Name)) (u : ℕ) → Put v s t ss u → Put (suc v) s t (r ∷ ss) (suc u)
@@ -48,7 +48,7 @@ unfolding world.put_at
 put_more v s t r ss u (inl h) = inl (ap suc h.0, h.1, h.2)
 put_more v s t r ss u (inr h) = inr h
 
-put_either : (v : ℕ) (s t : Vat Name) (ss : List (Vat Name)) (u : ℕ) → Put v s t ss u
+pub put_either : (v : ℕ) (s t : Vat Name) (ss : List (Vat Name)) (u : ℕ) → Put v s t ss u
 unfolding world.put_at
 put_either v s t [] u = inr refl
 put_either zero s t (r ∷ ss) zero = inl (refl, refl, refl)

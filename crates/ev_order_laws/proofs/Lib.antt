@@ -16,3 +16,8 @@ pub mod Onward
 pub mod Whole
 pub mod Loose
 pub mod Resolving
+pub mod Keeping
+pub mod Arrived
+pub mod Opened
+pub mod Shortened
+pub mod Agreeing

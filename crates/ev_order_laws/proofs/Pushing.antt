@@ -33,17 +33,17 @@ shortens_test g i (SettledTo n y) h = refl
 shortens_test g i (Elsewhere n c) h = refl
 shortens_test g i (Shorten n c j) h = absurd h
 
-place_more : (f : Note Name → Bool) (l : Lane) (b : List Item) (ns : List (Note Name)) (n : Note Name) → f n ≡ false → note_place f l b (ns ++ n ∷ []) ≡ note_place f l b ns
+pub place_more : (f : Note Name → Bool) (l : Lane) (b : List Item) (ns : List (Note Name)) (n : Note Name) → f n ≡ false → note_place f l b (ns ++ n ∷ []) ≡ note_place f l b ns
 unfolding note_place
 place_more f l b [] n e = subst (λ c. elim c [ true ↦ in_lane l b (subject n) | false ↦ None ] ≡ None) (sym e) refl
 place_more f l b (m ∷ ns) n e = ap (λ q. elim (f m) [ true ↦ in_lane l b (subject m) | false ↦ q ]) (place_more f l (b ++ delivered (m ∷ [])) ns n e)
 
-any_more : (f : Note Name → Bool) (ns : List (Note Name)) (n : Note Name) → f n ≡ false → any_note f (ns ++ n ∷ []) ≡ any_note f ns
+pub any_more : (f : Note Name → Bool) (ns : List (Note Name)) (n : Note Name) → f n ≡ false → any_note f (ns ++ n ∷ []) ≡ any_note f ns
 unfolding any_note
 any_more f [] n e = subst (λ c. (c || false) ≡ false) (sym e) refl
 any_more f (m ∷ ns) n e = ap (λ q. f m || q) (any_more f ns n e)
 
-delivered_more : (ns : List (Note Name)) (n : Note Name) → Within (delivered ns) (delivered (ns ++ n ∷ []))
+pub delivered_more : (ns : List (Note Name)) (n : Note Name) → Within (delivered ns) (delivered (ns ++ n ∷ []))
 unfolding delivered
 delivered_more [] n i h = absurd h
 delivered_more (Deliver a b c d ∷ ns) n i (inl e) = inl e

@@ -28,17 +28,17 @@ queued_behind (Prim k) i m js h = h
 queued_behind (Broken p) i m js h = h
 queued_behind (Items k) i m js h = h
 
-queued_last : (q : List (Message Name)) (m : Message Name) (n : Name) → m.target ≡ Ref n → IsIn (item m.id n) (queued (q ++ m ∷ []))
+pub queued_last : (q : List (Message Name)) (m : Message Name) (n : Name) → m.target ≡ Ref n → IsIn (item m.id n) (queued (q ++ m ∷ []))
 unfolding queued
 queued_last [] m n e = subst (λ t. IsIn (item m.id n) (elim t [ Ref k ↦ item m.id k ∷ [] | _ ↦ [] ])) (sym e) (inl refl)
 queued_last (p ∷ q) m n e = queued_behind p.target (item m.id n) p.id (queued (q ++ m ∷ [])) (queued_last q m n e)
 
-held_last : (q : List (Message Name)) (m : Message Name) (n : Name) → IsIn (item m.id n) (held_on n (q ++ m ∷ []))
+pub held_last : (q : List (Message Name)) (m : Message Name) (n : Name) → IsIn (item m.id n) (held_on n (q ++ m ∷ []))
 unfolding held_on
 held_last [] m n = inl refl
 held_last (p ∷ q) m n = inr (held_last q m n)
 
-delivered_last : (ns : List (Note Name)) (m n : Name) (verb : Words) (ys : Passeds Name) → IsIn (item m n) (delivered (ns ++ Deliver m n verb ys ∷ []))
+pub delivered_last : (ns : List (Note Name)) (m n : Name) (verb : Words) (ys : Passeds Name) → IsIn (item m n) (delivered (ns ++ Deliver m n verb ys ∷ []))
 unfolding delivered
 delivered_last [] m n verb ys = inl refl
 delivered_last (Deliver a b c d ∷ ns) m n verb ys = inr (delivered_last ns m n verb ys)
@@ -70,7 +70,7 @@ pushed_open n l e =
     let b : Link = record l { notes = l.notes ++ n ∷ []; log = l.log ++ n ∷ [] } in
     subst (λ c. elim c [ true ↦ a | false ↦ b ] ≡ b) (sym e) refl
 
-pushed_ends : (b : Bool) (n : Note Name) (l : Link) (v h : ℕ) → l.cut ≡ b → world.is_link v h (world.pushed n l) ≡ world.is_link v h l
+pub pushed_ends : (b : Bool) (n : Note Name) (l : Link) (v h : ℕ) → l.cut ≡ b → world.is_link v h (world.pushed n l) ≡ world.is_link v h l
 unfolding world.is_link
 pushed_ends true n l v h e = rw (pushed_shut n l e) refl
 pushed_ends false n l v h e = rw (pushed_open n l e) refl
@@ -85,11 +85,11 @@ none_some x e = absurd (subst IsNone e tt)
 pub some_same : {A : Type 0} (x y : A) → Some x ≡ Some y → x ≡ y
 some_same x y e = ap (λ o. elim o [ Some z ↦ z | None ↦ x ]) e
 
-link_here : (v h : ℕ) (k : Link) (ls : List Link) → world.is_link v h k ≡ true → world.link_at v h (k ∷ ls) ≡ Some k
+pub link_here : (v h : ℕ) (k : Link) (ls : List Link) → world.is_link v h k ≡ true → world.link_at v h (k ∷ ls) ≡ Some k
 unfolding world.link_at
 link_here v h k ls e = subst (λ c. elim c [ true ↦ Some k | false ↦ world.link_at v h ls ] ≡ Some k) (sym e) refl
 
-link_behind : (v h : ℕ) (k : Link) (ls : List Link) → world.is_link v h k ≡ false → world.link_at v h (k ∷ ls) ≡ world.link_at v h ls
+pub link_behind : (v h : ℕ) (k : Link) (ls : List Link) → world.is_link v h k ≡ false → world.link_at v h (k ∷ ls) ≡ world.link_at v h ls
 unfolding world.link_at
 link_behind v h k ls e = subst (λ c. elim c [ true ↦ Some k | false ↦ world.link_at v h ls ] ≡ world.link_at v h ls) (sym e) refl
 
@@ -108,7 +108,7 @@ IsFalse true = ⊥
 IsFalse false = Unit {0}
 
 -- its ends
-ends_of : (v h : ℕ) (l : Link) → world.is_link v h l ≡ true → (l.from ≡ v) × (l.to ≡ h)
+pub ends_of : (v h : ℕ) (l : Link) → world.is_link v h l ≡ true → (l.from ≡ v) × (l.to ≡ h)
 unfolding world.is_link
 ends_of v h l e = go (l.from == v) refl e
   where
@@ -133,13 +133,13 @@ get_put [] u r t e = none_some r e
 get_put (s ∷ ss) zero r t e = refl
 get_put (s ∷ ss) (suc u) r t e = get_put ss u r t e
 
-in_queue : (i : Item) (o : Option (Vat Name)) (t : Vat Name) → o ≡ Some t → IsIn i (queued t.queue) → IsIn i (elim o [ Some s ↦ queued s.queue | None ↦ [] ])
+pub in_queue : (i : Item) (o : Option (Vat Name)) (t : Vat Name) → o ≡ Some t → IsIn i (queued t.queue) → IsIn i (elim o [ Some s ↦ queued s.queue | None ↦ [] ])
 in_queue i o t e h = subst (λ q. IsIn i (elim q [ Some s ↦ queued s.queue | None ↦ [] ])) (sym e) h
 
-in_held : (K : Naming Name Name) (i : Item) (n : Name) (o : Option (Vat Name)) (t : Vat Name) → o ≡ Some t → IsIn i (held_in n (refs.entry_of K t.known n)) → IsIn i (elim o [ Some s ↦ held_in n (refs.entry_of K s.known n) | None ↦ [] ])
+pub in_held : (K : Naming Name Name) (i : Item) (n : Name) (o : Option (Vat Name)) (t : Vat Name) → o ≡ Some t → IsIn i (held_in n (refs.entry_of K t.known n)) → IsIn i (elim o [ Some s ↦ held_in n (refs.entry_of K s.known n) | None ↦ [] ])
 in_held K i n o t e h = subst (λ q. IsIn i (elim q [ Some s ↦ held_in n (refs.entry_of K s.known n) | None ↦ [] ])) (sym e) h
 
-held_there : (n : Name) (i : Item) (o : Option (Known Name)) (k : Known Name) → o ≡ Some k → IsIn i (held_on n k.held) → IsIn i (held_in n o)
+pub held_there : (n : Name) (i : Item) (o : Option (Known Name)) (k : Known Name) → o ≡ Some k → IsIn i (held_on n k.held) → IsIn i (held_in n o)
 unfolding held_in
 held_there n i o k e h = subst (λ q. IsIn i (held_in n q)) (sym e) h
 

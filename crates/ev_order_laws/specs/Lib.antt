@@ -8,3 +8,4 @@ pub mod Worlds
 pub mod Settle
 pub mod Settlings
 pub mod Resolve
+pub mod Arrivals
