@@ -2,12 +2,13 @@
 use Rattle.std.proofs.Common.{◌≡◌, ℕ, zero, suc, ◌-◌, ◌+◌, ◌<◌, ◌≤◌, codes, [], List, Err, refl, ap, ◌∙◌, arith, sub-one}
 use Rattle.std.specs.Prelude.{slice_get}
 use Rattle.ev_kernel.specs.declared.node.Node.{Node}
-use Rattle.ev_eval.specs.declared.exit.Exit.TheVariants.{Deep, Astray, Fuel}
+use Rattle.ev_room.specs.declared.exit.Exit.TheVariants.{Deep, Astray, Fuel}
 use Rattle.ev_base.specs.declared.values.Value.{Value}
 use Rattle.ev_machine.specs.Values.{Words}
-use Rattle.ev_eval.specs.declared.room.Room.{Room}
-use Rattle.ev_eval.specs.declared.scope.Scope.{Scope}
-use Rattle.ev_eval.specs.Steps.{Caller, Evaluator, after_turn, turns, ◌>>=◌, call_at, call_value, evaluator, deeper, step_found, bind_found, spend, ◌>>◌, opened_steps}
+use Rattle.ev_room.specs.declared.room.Room.{Room}
+use Rattle.ev_room.specs.declared.scope.Scope.{Scope}
+use Rattle.ev_eval.specs.Steps.{Caller, Evaluator, after_turn, turns, call_at, call_value, evaluator, deeper, step_found, bind_found, opened_steps}
+use Rattle.ev_room.specs.Acts.{◌>>=◌, spend, ◌>>◌}
 
 pub expression_deep : (tree : List Node) (d id : ℕ) (here : Scope) (s : Room) → d ≡ 0 → (evaluator tree d).expression id here s ≡ (Err Deep, s)
 unfolding evaluator opened_steps

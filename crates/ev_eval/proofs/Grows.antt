@@ -1,90 +1,18 @@
 -- Evaluation binds names behind those that were bound, and takes none of them away.
-use Rattle.std.proofs.Common.{◌≡◌, ℕ, zero, suc, Bool, true, false, List, [], ◌∷◌, ◌++◌, Option, Some, None, Ok, Err, length, refl, sym, ap, ◌∙◌, append_assoc, append-nil}
-use Rattle.std.specs.Prelude.{Result, take, slice_get}
-use Rattle.std.proofs.Math.Seq.{take-append_seam}
+use Rattle.std.proofs.Common.{ℕ, zero, true, false, List, [], ◌∷◌, ◌++◌, Option, Some, None, length, refl}
+use Rattle.std.specs.Prelude.{slice_get}
 use Rattle.ev_kernel.specs.declared.node.Literal.{Literal}
 use Rattle.ev_kernel.specs.declared.node.Node.{Node}
-use Rattle.ev_kernel.specs.declared.node.Node.TheVariants.{Lit, Noun, Set, Def, Call, Sequence, If, Hide, Object as ObjectNode, Method, Final, Var, Any}
+use Rattle.ev_kernel.specs.declared.node.Node.TheVariants.{Lit, Noun, Set, Def, Call, Sequence, If, Escape, Try, Finally, Hide, Object as ObjectNode, Final, Var, Any}
 use Rattle.ev_machine.specs.Values.{Words}
-use Rattle.ev_eval.specs.declared.exit.Exit.{Exit}
 use Rattle.ev_base.specs.declared.values.Value.{Value}
 use Rattle.ev_base.specs.declared.values.Value.TheVariants as held
-use Rattle.ev_eval.specs.declared.room.Room.{Room}
-use Rattle.ev_eval.specs.declared.scope.Binding.{Binding}
-use Rattle.ev_eval.specs.declared.scope.Bound.{Bound}
-use Rattle.ev_eval.specs.declared.scope.Bound.TheVariants.{Fixed, Slot}
-use Rattle.ev_eval.specs.declared.scope.Scope.{Scope}
-use Rattle.ev_eval.specs.Steps.{Out, Act, Evaluator, and_then, ◌>>=◌, ◌>>◌, give, fail, fails, cut, with_noun, gathered, last_of, call_node, define, literal_node, noun_node, set_node, within, hide_node, choose, if_node, named, object_made, object_in, make_object, object_node, step, bind_final, bind_var, bind_any, bind_step, step_found, bind_found, deeper, evaluator}
-
--- a scope with more bindings
-pub record Grows (before after : Scope) : Type 0 where
-  pub more : List Binding
-  pub is : after ≡ record before { nouns = before.nouns ++ more }
-
-pub same : (here : Scope) → Grows here here
-same here = record { more = []; is = ap (λ (ns : List Binding). record here { nouns = ns }) (sym (append-nil here.nouns)) }
-
-pub onward : {a b c : Scope} → Grows a b → Grows b c → Grows a c
-onward {a = a} g h = record {
-  more = g.more ++ h.more;
-  is = h.is ∙ ap (λ (x : Scope). record x { nouns = x.nouns ++ h.more }) g.is ∙ ap (λ (ns : List Binding). record a { nouns = ns }) (append_assoc a.nouns g.more h.more);
-}
-
-with_one : (x : Words) (b : Bound) (here : Scope) → Grows here (with_noun x b here)
-with_one x b here = record { more = record { noun = x; bound = b } ∷ []; is = refl }
-
--- what was bound first is got back
-pub cut_back : {here after : Scope} → Grows here after → cut (length here.nouns) after ≡ here
-cut_back {here = here} g =
-    ap (λ (x : Scope). record x { nouns = take (length here.nouns) x.nouns }) g.is
-    ∙ ap (λ (ns : List Binding). record here { nouns = ns }) (take-append_seam here.nouns g.more)
-
-back : {here after : Scope} → Grows here after → Grows here (cut (length here.nouns) after)
-unfolding same
-back {here = here} g = record { more = []; is = cut_back g ∙ (same here).is }
-
--- ---- a fact of what is given
-
-abbrev pub Holds : {A : Type 0} → (A → Type 0) → Out A → Type 0
-Holds P (Ok a, s) = P a
-Holds P (Err e, s) = Unit {0}
-
-pub record Of {A : Type 0} (P : A → Type 0) (o : Out A) : Type 0 where
-  pub holds : Holds P o
-
-pub free : {A : Type 0} (o : Out A) → Holds (λ (a : A). Unit {0}) o
-free (Ok a, s) = tt
-free (Err e, s) = tt
-
-then_holds : {A B : Type 0} (P : A → Type 0) (Q : B → Type 0) (o : Out A) (f : A → Act B) → Holds P o → ((a : A) (t : Room) → P a → Of Q (f a t)) → Of Q (and_then o f)
-unfolding and_then
-then_holds P Q (Ok a, s) f h k = k a s h
-then_holds P Q (Err e, s) f h k = record { holds = tt }
-
-then_of : {A B : Type 0} {P : A → Type 0} {Q : B → Type 0} {o : Out A} (f : A → Act B) → Of P o → ((a : A) (t : Room) → P a → Of Q (f a t)) → Of Q (and_then o f)
-then_of {P = P} {Q = Q} {o = o} f h k = then_holds P Q o f h.holds k
-
--- where nothing is known of what is given
-then_any : {A B : Type 0} {Q : B → Type 0} (o : Out A) (f : A → Act B) → ((a : A) (t : Room) → Of Q (f a t)) → Of Q (and_then o f)
-then_any {A = A} {Q = Q} o f k = then_holds (λ (a : A). Unit {0}) Q o f (free o) (λ a t u. k a t)
-
-lost : {A : Type 0} {P : A → Type 0} (e : Exit) (s : Room) → Of P (fail e s)
-unfolding fail
-lost e s = record { holds = tt }
-
-abbrev pub GivesMore : {A : Type 0} → Scope → Out (A × Scope) → Type 0
-GivesMore {A = A} here o = Of (λ (x : A × Scope). Grows here x.1) o
-
-abbrev pub BindsMore : Scope → Out Scope → Type 0
-BindsMore here o = Of (λ (x : Scope). Grows here x) o
-
-given : {A : Type 0} {here after : Scope} (v : A) (s : Room) → Grows here after → GivesMore here (give (v, after) s)
-unfolding give
-given v s g = record { holds = g }
-
-bound : {here after : Scope} (s : Room) → Grows here after → BindsMore here (give after s)
-unfolding give
-bound s g = record { holds = g }
+use Rattle.ev_room.specs.declared.room.Room.{Room}
+use Rattle.ev_room.specs.declared.scope.Bound.TheVariants.{Fixed, Slot}
+use Rattle.ev_room.specs.declared.scope.Scope.{Scope}
+use Rattle.ev_eval.specs.Steps.{Evaluator, guarded_node, gathered, last_of, call_node, define, literal_node, noun_node, set_node, within, choose, if_node, step, bind_final, bind_var, bind_any, bind_step, step_found, bind_found, deeper, evaluator}
+use Rattle.ev_room.specs.Acts.{◌>>=◌, ◌>>◌, fails, cut}
+use Rattle.ev_room.proofs.Behind.{Grows, same, onward, with_one, back, then_of, then_any, lost, GivesMore, BindsMore, given, bound, object_grows}
 
 -- what evaluates nodes
 pub record IsGrowing (rec : Evaluator) : Type 0 where
@@ -129,10 +57,6 @@ within_grows : (rec : Evaluator) → IsGrowing rec → (e : ℕ) (first here : S
 unfolding within ◌>>=◌
 within_grows rec r e first here s g = then_of _ (r.expression e here s) (λ x t h. given x.0 t (back (onward g h)))
 
-hide_grows : (rec : Evaluator) → IsGrowing rec → (e : ℕ) (here : Scope) (s : Room) → GivesMore here (hide_node rec e here s)
-unfolding hide_node
-hide_grows rec r e here s = within_grows rec r e here here s (same here)
-
 choose_grows : (rec : Evaluator) → IsGrowing rec → (a b : ℕ) (x : Value) (first here : Scope) (s : Room) → Grows first here → GivesMore first (choose rec (length first.nouns) a b x here s)
 unfolding choose
 choose_grows rec r a b (held.Bool true) first here s g = within_grows rec r a first here s g
@@ -143,20 +67,9 @@ if_grows : (rec : Evaluator) → IsGrowing rec → (c a b : ℕ) (here : Scope) 
 unfolding if_node ◌>>=◌
 if_grows rec r c a b here s = then_of _ (r.expression c here s) (λ x t g. choose_grows rec r a b x.0 here x.1 t g)
 
-named_grows : (p : Option Node) (me : ℕ) (here : Scope) → Grows here (named p me here)
-unfolding named
-named_grows None me here = same here
-named_grows (Some (Final x g)) me here = with_one x (Fixed (held.Obj me)) here
-named_grows (Some _) me here = same here
-
-made_grows : (node : ℕ) (x : Words) (bs : List Binding) (me : ℕ) (first here : Scope) (s : Room) → Grows first here → GivesMore first (object_made node x bs me here s)
-unfolding object_made ◌>>=◌ ◌>>◌
-made_grows node x bs me first here s g = then_any _ _ (λ i t. then_any _ _ (λ v q. given (held.Obj me) q g))
-
-object_grows : (tree : List Node) (id p : ℕ) (auditors : List ℕ) (here : Scope) (s : Room) → GivesMore here (object_node tree id p auditors here s)
-unfolding object_node make_object object_in
-object_grows tree id p [] here s = made_grows _ _ _ _ here _ s (named_grows (slice_get tree p) (length s.heap.things) here)
-object_grows tree id p (a ∷ as') here s = lost _ s
+guarded_grows : (rec : Evaluator) (n : Node) (here : Scope) (s : Room) → GivesMore here (guarded_node rec n here s)
+unfolding guarded_node ◌>>=◌
+guarded_grows rec n here s = then_any _ _ (λ v t. given v t (same here))
 
 step_grows : (tree : List Node) (rec : Evaluator) → IsGrowing rec → (id : ℕ) (n : Node) (here : Scope) (s : Room) → GivesMore here (step tree rec id n here s)
 unfolding step
@@ -167,7 +80,10 @@ step_grows tree rec r id (Def p j e) here s = define_grows rec r p j e here s
 step_grows tree rec r id (Call f verb args) here s = call_grows tree rec r f verb args here s
 step_grows tree rec r id (Sequence es) here s = last_grows rec r held.Null es here here s (same here)
 step_grows tree rec r id (If c a b) here s = if_grows rec r c a b here s
-step_grows tree rec r id (Hide e) here s = hide_grows rec r e here s
+step_grows tree rec r id (Escape p b c) here s = guarded_grows rec (Escape p b c) here s
+step_grows tree rec r id (Try b p h) here s = guarded_grows rec (Try b p h) here s
+step_grows tree rec r id (Finally a b) here s = guarded_grows rec (Finally a b) here s
+step_grows tree rec r id (Hide e) here s = guarded_grows rec (Hide e) here s
 step_grows tree rec r id (ObjectNode p auditors ms) here s = object_grows tree id p auditors here s
 step_grows tree rec r id _ here s = lost _ s
 

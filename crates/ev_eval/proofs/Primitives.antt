@@ -1,5 +1,5 @@
 -- Calls on primitives: what the code does is what the machine does.
-use Rattle.std.proofs.Common.{◌≡◌, ◌==◌, ℕ, zero, suc, ◌+◌, nat_lt, nat_le, ℤ, pos, ◌+ℤ◌, Bool, true, false, List, [], ◌∷◌, Option, Some, None, Result, Ok, Err, map, refl, sym, ap, subst, ◌∙◌, arith}
+use Rattle.std.proofs.Common.{◌≡◌, ◌==◌, ℕ, zero, suc, ◌+◌, nat_le, ℤ, pos, ◌+ℤ◌, Bool, true, false, List, [], ◌∷◌, Option, Some, None, refl, ap, subst, ◌∙◌, arith}
 use Rattle.std.specs.Prelude.{codes, if◌then◌else◌}
 use Rattle.std.specs.Str.{bytes_eq}
 use Rattle.std.proofs.lemmas.Bool.Decides.{nat_tests}
@@ -8,14 +8,14 @@ use Rattle.ev_base.specs.declared.values.Value.TheVariants as held
 use Rattle.ev_heap.specs.Contents.{Contents}
 use Rattle.ev_kernel.specs.declared.node.Node.{Node}
 use Rattle.ev_machine.specs.Values.{Words, Value, Text, Broken, Local}
-use Rattle.ev_machine.specs.State.{Vat, Done, Stops, Fuel, opened_state}
+use Rattle.ev_machine.specs.State.{Vat, opened_state}
 use Rattle.ev_machine.specs.State as machine
 use Rattle.ev_machine.specs.Refs.{follow}
 use Rattle.ev_machine.specs.Native as native
 use Rattle.ev_machine.specs.Scopes as scopes
 use Rattle.ev_machine.specs.Perform as perform
 use Rattle.ev_prims.specs.Asking.{asked_with}
-use Rattle.ev_prims.specs.Asks.{where_named, ranges, list_two, compares, numbered, primitive_at, asks_none, asks_one, asks_two, asks_three, asks_more, asked_by, asked_of}
+use Rattle.ev_prims.specs.Asks.{where_named, ranges, compares, numbered, primitive_at, asks_none, asks_one, asks_two, asks_three, asks_more, asked_by, asked_of}
 use Rattle.ev_prims.specs.Forms.{args_of}
 use Rattle.ev_prims.specs.Orders.{test_in, compared_by}
 use Rattle.ev_prims.specs.Ranges.{counted_from, so_many, range_answer}
@@ -25,21 +25,21 @@ use Rattle.ev_prims.specs.declared.asking.Asked.{Asked}
 use Rattle.ev_prims.specs.declared.asking.Asked.TheVariants as ask
 use Rattle.ev_prims.specs.declared.order.Test.{Test}
 use Rattle.ev_prims.specs.declared.problem.Problem.TheVariants.{NotBoolean, NoMethod, Unthrowable}
-use Rattle.ev_prims.specs.declared.reply.Reply.{Reply}
 use Rattle.ev_prims.specs.declared.reply.Reply.TheVariants as reply
 use Rattle.ev_prims.proofs.AskMeans.{asks_list, asks_comparer, asks_looper, asks_thrower}
 use Rattle.ev_prims.proofs.RangeAnswers.{range_means}
-use Rattle.ev_eval.specs.declared.exit.Exit.TheVariants as exit
-use Rattle.ev_eval.specs.declared.room.Room.{Room}
-use Rattle.ev_eval.specs.Reading.{World, names, all_promises, text_of, value_of, values_of, vat_of}
-use Rattle.ev_eval.specs.Sound.{IsSound, is_built_prim, is_there, are_there}
-use Rattle.ev_eval.specs.Steps.{Act, Caller, and_then, ◌>>=◌, give, fail, fails, after_turn, turns, loop, thrown_id, problem_id, pair_there, compared_there, compared, performed}
+use Rattle.ev_room.specs.declared.exit.Exit.TheVariants as exit
+use Rattle.ev_room.specs.declared.room.Room.{Room}
+use Rattle.ev_room.specs.Reading.{World, names, all_promises, text_of, value_of, values_of, vat_of}
+use Rattle.ev_room.specs.Sound.{IsSound, is_built_prim, is_there, are_there}
+use Rattle.ev_eval.specs.Steps.{Caller, after_turn, turns, loop, pair_there, compared_there, compared, performed}
+use Rattle.ev_room.specs.Acts.{Act, ◌>>=◌, fail, fails, thrown_id}
 use Rattle.ev_eval.proofs.Calls.{CallsMet, replied_met}
-use Rattle.ev_eval.proofs.Replies.{Fits, each_of}
-use Rattle.ev_eval.proofs.Sounds.{grown_same, there_on, all_on, all_and}
-use Rattle.ev_eval.proofs.Stands.{Met, vat, a_value, itself, met_by, then_met, give_met, throw_met, fails_met, list_met, follow_there}
-use Rattle.ev_eval.proofs.There.{both}
-use Rattle.ev_eval.proofs.Weights.{IsFront, same_text}
+use Rattle.ev_room.proofs.Replies.{Fits, each_of}
+use Rattle.ev_room.proofs.Sounds.{grown_same, there_on, all_and}
+use Rattle.ev_room.proofs.Stands.{Met, vat, a_value, met_by, then_met, give_met, throw_met, fails_met, list_met, follow_there}
+use Rattle.ev_room.proofs.There.{both}
+use Rattle.ev_room.proofs.Weights.{IsFront, same_text}
 
 -- ---- what is asked is built, and of values that stand there
 

@@ -1,26 +1,15 @@
 -- The kernel trees that are evaluated so far.
-use Rattle.std.specs.declared.option.Option.{Option}
-use Rattle.std.specs.Prelude.{ℕ, Bool, true, false, if◌then◌else◌, List, [], ◌∷◌, Some, None, is_none}
-use Rattle.ev_base.specs.declared.values.Value.{Value}
-use Rattle.ev_base.specs.declared.values.Value.TheVariants as held
+use Rattle.std.specs.Prelude.{ℕ, Bool, true, false, if◌then◌else◌, List, [], ◌∷◌, is_none}
 use Rattle.ev_base.specs.SafeScope.{safe_value}
-use Rattle.ev_eval.specs.Sound.{is_built_prim}
+use Rattle.ev_room.specs.Sound.{is_built_safe}
 use Rattle.ev_kernel.specs.declared.node.Node.{Node}
-use Rattle.ev_kernel.specs.declared.node.Node.TheVariants.{Lit, Noun, Set, Def, Call, Sequence, If, Hide, Object, Method, Final, Var, Any}
-
--- no noun of the safe scope, or null, true, false or a primitive on which calls are built
-abbrev pub is_built_safe : Option Value → Bool
-is_built_safe None = true
-is_built_safe (Some held.Null) = true
-is_built_safe (Some (held.Bool b)) = true
-is_built_safe (Some (held.Prim n)) = is_built_prim n
-is_built_safe _ = false
+use Rattle.ev_kernel.specs.declared.node.Node.TheVariants.{Lit, Noun, Set, Def, Call, Sequence, If, Escape, Try, Finally, Hide, Object, Method, Final, Var, Any}
 
 abbrev pub is_nil : List ℕ → Bool
 is_nil [] = true
 is_nil _ = false
 
--- Literals, nouns, assignments, definitions without ejector, calls, sequences, ifs, hides, objects without
+-- Literals, nouns, assignments, definitions without ejector, calls, sequences, ifs, escapes, tries, finallys, hides, objects without
 -- auditors, methods, and patterns without guard that bind at most one name.
 unfoldable pub is_built_node : Node → Bool
 is_built_node (Lit l) = true
@@ -30,6 +19,9 @@ is_built_node (Def p j e) = is_none j
 is_built_node (Call r verb es) = true
 is_built_node (Sequence es) = true
 is_built_node (If t a b) = true
+is_built_node (Escape p b c) = true
+is_built_node (Try b p h) = true
+is_built_node (Finally a b) = true
 is_built_node (Hide e) = true
 is_built_node (Object p auditors members) = is_nil auditors
 is_built_node (Method verb ps b) = true

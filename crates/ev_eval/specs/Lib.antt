@@ -1,5 +1,3 @@
 pub mod Built
-pub mod Reading
-pub mod Sound
 pub mod Steps
 pub mod Turn

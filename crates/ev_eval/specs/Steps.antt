@@ -1,27 +1,16 @@
 -- Evaluation over the state of the code: the machine's evaluation of the trees that are built.
-use Rattle.std.specs.Prelude.{◌≡◌, ◌==◌, ◌+◌, reverse, ℕ, zero, suc, ◌-◌, pos, Bool, true, false, if◌then◌else◌, nat_le, List, [], ◌∷◌, ◌++◌, Some, None, Result, Ok, Err, map, length, take, slice_get, slice_set, codes}
+use Rattle.std.specs.Prelude.{◌+◌, ◌==◌, reverse, ℕ, zero, suc, pos, Bool, true, false, if◌then◌else◌, List, [], ◌∷◌, ◌++◌, Some, None, length, slice_get, codes}
 use Rattle.std.specs.declared.option.Option.{Option}
-use Rattle.std.specs.Str.{bytes_eq}
 use Rattle.ev_base.specs.declared.values.Value.{Value}
 use Rattle.ev_base.specs.declared.values.Value.TheVariants as held
-use Rattle.ev_base.specs.SafeScope.{safe_value}
-use Rattle.ev_heap.specs.declared.happened.Happened.{Happened as Event}
 use Rattle.ev_heap.specs.declared.happened.Happened.TheVariants as event
 use Rattle.ev_kernel.specs.declared.node.Literal.{Literal}
 use Rattle.ev_kernel.specs.declared.node.Literal.TheVariants as literal
 use Rattle.ev_kernel.specs.declared.node.Node.{Node}
-use Rattle.ev_kernel.specs.declared.node.Node.TheVariants.{Lit, Noun, Set, Def, Call, Sequence, If, Hide, Object as ObjectNode, Method, Final, Var, Any}
+use Rattle.ev_kernel.specs.declared.node.Node.TheVariants.{Lit, Noun, Set, Def, Call, Sequence, If, Escape, Try, Finally, Hide, Object as ObjectNode, Method, Final, Var, Any}
 use Rattle.ev_machine.specs.Values.{Words}
-use Rattle.ev_heap.specs.declared.kept.Capture.{Capture}
-use Rattle.ev_heap.specs.declared.kept.Capture.TheVariants as capture
-use Rattle.ev_heap.specs.declared.kept.Caught.{Caught}
-use Rattle.ev_heap.specs.declared.kept.Shape.{Shape}
-use Rattle.ev_heap.specs.declared.kept.Shape.TheVariants as shape
-use Rattle.ev_heap.specs.declared.kept.Thing.{Thing}
-use Rattle.ev_form.specs.FreeNames.{free_names}
-use Rattle.ev_machine.specs.Scopes.{members_of, name_of}
-use Rattle.ev_num.specs.declared.arithmetic.NumFault.TheVariants.{Overflow, ZeroDivisor, NegativePower}
-use Rattle.ev_heap.specs.Contents.{Contents, listed, is_light}
+use Rattle.ev_machine.specs.Scopes.{members_of}
+use Rattle.ev_heap.specs.Contents.{Contents}
 use Rattle.ev_prims.specs.Answers.{data_answer, members_at}
 use Rattle.ev_machine.specs.Native.{value_order}
 use Rattle.ev_prims.specs.Asks.{asked_of}
@@ -31,255 +20,17 @@ use Rattle.ev_prims.specs.Reading.{text_in, value_by}
 use Rattle.ev_prims.specs.declared.asking.Asked.{Asked}
 use Rattle.ev_prims.specs.declared.asking.Asked.TheVariants as ask
 use Rattle.ev_prims.specs.declared.order.Test.{Test}
-use Rattle.ev_prims.specs.declared.problem.Problem.{Problem}
-use Rattle.ev_prims.specs.declared.problem.Problem.TheVariants.{NoMethod, Arithmetic, NotInt, NotChar, NotBoolean, NotText, NotList, OutOfRange, BadArgument, NotComparable, TooHeavy, Unthrowable, DeadEjector}
+use Rattle.ev_prims.specs.declared.problem.Problem.TheVariants.{NoMethod, NotBoolean}
 use Rattle.ev_prims.specs.declared.reply.Reply.{Reply}
 use Rattle.ev_prims.specs.declared.reply.Reply.TheVariants as reply
-use Rattle.ev_eval.specs.Sound.{is_there, are_there, plain_cell, capture_of, plain_thing}
-use Rattle.ev_eval.specs.declared.object.Object.{Object}
-use Rattle.ev_eval.specs.declared.exit.Exit.{Exit}
-use Rattle.ev_eval.specs.declared.exit.Exit.TheVariants.{Thrown, Fuel, Deep, Astray, Unbuilt, Memory}
-use Rattle.ev_heap.specs.declared.kept.Cell.{Cell}
-use Rattle.ev_eval.specs.declared.room.Room.{Room}
-use Rattle.ev_eval.specs.declared.scope.Binding.{Binding}
-use Rattle.ev_eval.specs.declared.scope.Bound.{Bound}
-use Rattle.ev_eval.specs.declared.scope.Bound.TheVariants.{Fixed, Slot}
-use Rattle.ev_eval.specs.declared.scope.Scope.{Scope}
-
--- what something gives, or how it ends without a value, and the state after
-abbrev pub Out : Type 0 → Type 0
-Out A = Result A Exit × Room
-
-abbrev pub Act : Type 0 → Type 0
-Act A = Room → Out A
-
--- a fact, unless memory ran out
-abbrev pub Unless : Exit → Type 0 → Type 0
-Unless Memory fact = Unit {0}
-Unless (Thrown id) fact = fact
-Unless Fuel fact = fact
-Unless Deep fact = fact
-Unless Astray fact = fact
-Unless Unbuilt fact = fact
-
--- what a function of the code returned and left is what the definition gives, unless memory ran out
-abbrev pub Gives : {A : Type 0} → Result A Exit → Room → Out A → Type 0
-Gives (Ok a) room out = out ≡ (Ok a, room)
-Gives (Err e) room out = Unless e (out ≡ (Err e, room))
-
--- a fact of what came to an end, with a value or without one
-abbrev pub OfRun : {A : Type 0} → Result A Exit → Type 0 → Type 0
-OfRun (Ok a) fact = fact
-OfRun (Err e) fact = Unless e fact
-
--- the same of what has a scope after it
-abbrev pub GivesIn : {A : Type 0} → Result A Exit → Scope → Room → Out (A × Scope) → Type 0
-GivesIn (Ok a) here room out = out ≡ (Ok (a, here), room)
-GivesIn (Err e) here room out = Unless e (out ≡ (Err e, room))
-
--- the same of what gives the scope after it
-abbrev pub Binds : Result (Unit {0}) Exit → Scope → Room → Out Scope → Type 0
-Binds (Ok u) here room out = out ≡ (Ok here, room)
-Binds (Err e) here room out = Unless e (out ≡ (Err e, room))
-
--- the same of what leaves the state as it is
-abbrev pub Answers : {A : Type 0} → Result A Exit → Result A Exit → Type 0
-Answers (Ok a) due = due ≡ Ok a
-Answers (Err e) due = Unless e (due ≡ Err e)
-
-unfoldable pub and_then : {A B : Type 0} → Out A → (A → Act B) → Out B
-and_then (Ok a, s) f = f a s
-and_then (Err e, s) f = (Err e, s)
-
-infixl 10 ◌>>=◌
-unfoldable pub ◌>>=◌ : {A B : Type 0} → Act A → (A → Act B) → Act B
-m >>= f = λ s. and_then (m s) f
-
-infixl 10 ◌>>◌
-unfoldable pub ◌>>◌ : {A B : Type 0} → Act A → Act B → Act B
-m >> n = λ s. and_then (m s) (λ _. n)
-
-unfoldable pub give : {A : Type 0} → A → Act A
-give a = λ s. (Ok a, s)
-
-unfoldable pub fail : {A : Type 0} → Exit → Act A
-fail e = λ s. (Err e, s)
-
-unfoldable pub answer : {A : Type 0} → Result A Exit → Act A
-answer r = λ s. (r, s)
-
-unfoldable pub tell : Event → Act (Unit {0})
-tell e = λ s. (Ok tt, record s { micro = record s.micro { events = s.micro.events ++ e ∷ [] } })
-
-unfoldable pub spent : ℕ → Bool → Act (Unit {0})
-spent n true = λ s. (Ok tt, record s { micro = record s.micro { fuel = s.micro.fuel - n } })
-spent n false = λ s. (Err Fuel, s)
-
--- so many units of fuel, all or none
-unfoldable pub spend : ℕ → Act (Unit {0})
-spend n = λ s. spent n (nat_le n s.micro.fuel) s
-
--- an activation that runs the code of that receiver
-unfoldable pub new_activation : Value → Act ℕ
-new_activation x = λ s. (Ok (length s.heap.codes), record s { heap = record s.heap { codes = s.heap.codes ++ x ∷ [] } })
-
--- ---- var slots
-
-unfoldable pub new_slot : Value → Act ℕ
-new_slot v = λ s. (Ok (length s.heap.slots), record s { heap = record s.heap { slots = s.heap.slots ++ plain_cell v ∷ [] } })
-
-unfoldable pub write_told : ℕ → ℕ → Value → Act Value
-write_told act k v = do
-  tell (event.Wrote act k v)
-  give v
-
-unfoldable pub slot_read : ℕ → ℕ → Value → Act Value
-slot_read act k v = do
-  tell (event.Read act k v)
-  give v
-
-unfoldable pub slot_found : ℕ → ℕ → Option Cell → Act Value
-slot_found act k None = fail Astray
-slot_found act k (Some c) = slot_read act k c.value
-
--- the value of a slot, which is told
-unfoldable pub read_slot : ℕ → ℕ → Act Value
-read_slot act k = λ s. slot_found act k (slice_get s.heap.slots k) s
-
-unfoldable pub slot_written : ℕ → ℕ → Value → Option Cell → Act Value
-slot_written act k v None = fail Astray
-slot_written act k v (Some c) = λ s. write_told act k v (record s { heap = record s.heap { slots = slice_set s.heap.slots k (record c { value = v }) } })
-
--- a slot is written, which is told
-unfoldable pub write_slot : ℕ → ℕ → Value → Act Value
-write_slot act k v = λ s. slot_written act k v (slice_get s.heap.slots k) s
-
--- ---- nouns
-
--- what the last binding of a noun binds it to, or that one
-unfoldable pub found_from : Option Bound → List Binding → Words → Option Bound
-found_from found [] x = found
-found_from found (b ∷ bs) x = found_from (if bytes_eq b.noun x then Some b.bound else found) bs x
-
-unfoldable pub safe_found : Option Value → Result Value Exit
-safe_found None = Err Astray
-safe_found (Some v) = Ok v
-
-unfoldable pub read_held : ℕ → Bound → Act Value
-read_held act (Fixed v) = give v
-read_held act (Slot k) = read_slot act k
-
--- the value of a noun, by what it is bound to
-unfoldable pub read_bound : ℕ → Option Bound → Words → Act Value
-read_bound act (Some b) x = read_held act b
-read_bound act None x = answer (safe_found (safe_value x))
-
-unfoldable pub write_held : ℕ → Bound → Value → Act Value
-write_held act (Slot k) v = write_slot act k v
-write_held act (Fixed u) v = fail Astray
-
-unfoldable pub write_bound : ℕ → Option Bound → Value → Act Value
-write_bound act (Some b) v = write_held act b v
-write_bound act None v = fail Astray
-
-unfoldable pub with_bound : List Binding → Words → Option Bound → List Binding
-with_bound bs x (Some b) = bs ++ record { noun = x; bound = b } ∷ []
-with_bound bs x None = bs
-
--- the first so many bindings
-abbrev pub cut : ℕ → Scope → Scope
-cut mark here = record here { nouns = take mark here.nouns }
-
-abbrev pub with_noun : Words → Bound → Scope → Scope
-with_noun x b here = record here { nouns = here.nouns ++ record { noun = x; bound = b } ∷ [] }
-
--- ---- texts and lists
-
-abbrev pub problem_id : Problem → ℕ
-problem_id (Arithmetic Overflow) = 0
-problem_id NotInt = 1
-problem_id NoMethod = 2
-problem_id (Arithmetic ZeroDivisor) = 3
-problem_id (Arithmetic NegativePower) = 4
-problem_id NotChar = 5
-problem_id NotBoolean = 6
-problem_id NotText = 7
-problem_id NotList = 8
-problem_id OutOfRange = 9
-problem_id BadArgument = 10
-problem_id NotComparable = 11
-problem_id TooHeavy = 12
-problem_id Unthrowable = 13
-problem_id DeadEjector = 14
-
-unfoldable pub fails : {A : Type 0} → Problem → Act A
-fails p = fail (Thrown (problem_id p))
-
-unfoldable pub new_text : Words → Act ℕ
-new_text u = λ s. (Ok (length s.heap.texts), record s { heap = record s.heap { texts = s.heap.texts ++ u ∷ [] } })
-
-unfoldable pub text_value : Words → Act Value
-text_value u = do
-  id ← new_text u
-  give (held.Text id)
-
-unfoldable pub spell : Words → Act Value
-spell u = do
-  spend (length u)
-  text_value u
-
-unfoldable pub spelled : Words → Bool → Act Value
-spelled u true = spell u
-spelled u false = fails TooHeavy
-
--- a text that a text answers: a unit for each byte
-unfoldable pub write_text : Words → Act Value
-write_text u = spelled u (nat_le (length u) 65535)
-
-unfoldable pub new_list : List Value → Act ℕ
-new_list vs = λ s. (Ok (length s.heap.lists), record s { heap = record s.heap { lists = s.heap.lists ++ listed s.heap vs ∷ [] } })
-
-unfoldable pub list_told : ℕ → List Value → ℕ → Act Value
-list_told act vs k = do
-  tell (event.List act k vs)
-  give (held.List k)
-
-unfoldable pub keep_list : ℕ → List Value → Act Value
-keep_list act vs = do
-  k ← new_list vs
-  list_told act vs k
-
-unfoldable pub store : ℕ → List Value → Act Value
-store act vs = do
-  spend (length vs)
-  keep_list act vs
-
-unfoldable pub stored : ℕ → List Value → Bool → Act Value
-stored act vs true = store act vs
-stored act vs false = fails TooHeavy
-
-unfoldable pub listed_there : ℕ → List Value → Bool → Act Value
-listed_there act vs true = λ s. stored act vs (is_light s.heap vs) s
-listed_there act vs false = fail Astray
-
--- a list that an activation makes: its limits are tested, then a unit for each member is spent
-unfoldable pub make_list : ℕ → List Value → Act Value
-make_list act vs = λ s. listed_there act vs (are_there s.heap vs) s
-
--- ---- calls
-
--- with the last line of a call, by how it ended
-unfoldable pub closed_by : ℕ → Out Value → Out Value
-closed_by act (Ok v, s) = (tell (event.Back act v) >> give v) s
-closed_by act (Err (Thrown id), s) = (tell (event.Thrown act (held.Text id)) >> fail (Thrown id)) s
-closed_by act (Err Fuel, s) = (Err Fuel, s)
-closed_by act (Err Deep, s) = (Err Deep, s)
-closed_by act (Err Astray, s) = (Err Astray, s)
-closed_by act (Err Unbuilt, s) = (Err Unbuilt, s)
-closed_by act (Err Memory, s) = (Err Memory, s)
-
-unfoldable pub closed : ℕ → Act Value → Act Value
-closed act m = λ s. closed_by act (m s)
+use Rattle.ev_room.specs.Sound.{is_there}
+use Rattle.ev_room.specs.declared.object.Object.{Object}
+use Rattle.ev_room.specs.declared.object.Code.{Code}
+use Rattle.ev_room.specs.declared.object.Code.TheVariants.{Runs, Leaves}
+use Rattle.ev_room.specs.declared.exit.Exit.TheVariants.{Thrown, Ejected, Fuel, Deep, Astray, Unbuilt}
+use Rattle.ev_room.specs.declared.scope.Bound.TheVariants.{Fixed, Slot}
+use Rattle.ev_room.specs.declared.scope.Scope.{Scope}
+use Rattle.ev_room.specs.Acts.{Act, ◌>>=◌, ◌>>◌, give, fail, tell, spend, new_activation, new_slot, found_from, read_bound, write_bound, cut, with_noun, fails, text_value, write_text, make_list, closed, thrown_id, call_there, object_node, first_method, look_code, Out, ended_by, leave, new_ejector, call_ejector, opened_acts}
 
 -- a call by an activation: receiver, verb and arguments
 abbrev pub Caller : Type 0
@@ -319,10 +70,6 @@ turns again act f (suc n) = do
 unfoldable pub loop : Caller → ℕ → Value → Act Value
 loop again act f = λ s. turns again act f (s.micro.fuel + 1) s
 
-abbrev pub thrown_id : Value → ℕ
-thrown_id (held.Text id) = id
-thrown_id _ = problem_id Unthrowable
-
 unfoldable pub pair_there : Contents → Value → Value → Bool
 pair_there h x y = if is_there h x then is_there h y else false
 
@@ -345,10 +92,6 @@ performed again act _ args = fail Unbuilt
 
 -- ---- data
 
--- receiver and arguments stand in the heap
-unfoldable pub call_there : Contents → Value → List Value → Bool
-call_there h x args = if is_there h x then are_there h args else false
-
 unfoldable pub answered_there : Caller → ℕ → Value → Words → List Value → Bool → Act Value
 answered_there again act x verb args true = λ s. replied again act (data_answer (text_in s.heap) (members_at s.heap) x verb args args) s
 answered_there again act x verb args false = fail Astray
@@ -368,43 +111,6 @@ pub record Evaluator : Type 0 where
 
 -- ---- objects
 
--- what a name was bound to that an object holds
-abbrev pub bound_back : Capture → Bound
-bound_back (capture.Fixed v g) = Fixed v
-bound_back (capture.Slot k) = Slot k
-
-abbrev pub binding_back : Caught → Binding
-binding_back c = record { noun = c.noun; bound = bound_back c.capture }
-
--- the bindings of these names, of those that are bound, behind others
-unfoldable pub captures : List Binding → List Binding → List Words → List Binding
-captures so_far bs [] = so_far
-captures so_far bs (x ∷ xs) = captures (with_bound so_far x (found_from None bs x)) bs xs
-
-unfoldable pub new_object : ℕ → List Binding → Act ℕ
-new_object node bs = λ s. (Ok (length s.heap.things), record s { heap = record s.heap { things = s.heap.things ++ plain_thing (record { node = node; nouns = bs }) ∷ [] } })
-
--- the scope in which an object's name is bound to it
-unfoldable pub named : Option Node → ℕ → Scope → Scope
-named (Some (Final x g)) me here = with_noun x (Fixed (held.Obj me)) here
-named _ me here = here
-
-unfoldable pub object_made : ℕ → Words → List Binding → ℕ → Scope → Act (Value × Scope)
-object_made node x bs me here = do
-  i ← new_object node bs
-  tell (event.Made here.act (held.Obj me) x (map (λ b. capture_of b.bound) bs) [])
-  give (held.Obj me, here)
-
-unfoldable pub object_in : ℕ → Words → List Words → ℕ → Scope → Act (Value × Scope)
-object_in node x free me here = object_made node x (captures [] here.nouns free) me here
-
-unfoldable pub make_object : ℕ → Option Node → List Words → Scope → Act (Value × Scope)
-make_object node p free here = λ s. object_in node (name_of p) free (length s.heap.things) (named p (length s.heap.things) here) s
-
-unfoldable pub object_node : List Node → ℕ → ℕ → List ℕ → Scope → Act (Value × Scope)
-object_node tree id p [] here = make_object id (slice_get tree p) (free_names tree id) here
-object_node tree id p (a ∷ as') here = fail Unbuilt
-
 -- patterns at values, one after another
 unfoldable pub bind_all : Evaluator → List ℕ → List Value → Scope → Act Scope
 bind_all rec [] vs here = give here
@@ -412,15 +118,6 @@ bind_all rec (p ∷ ps) [] here = give here
 bind_all rec (p ∷ ps) (v ∷ vs) here = do
   after ← rec.pattern p v here
   bind_all rec ps vs after
-
-unfoldable pub suits : Words → ℕ → Option Node → Bool
-suits verb n (Some (Method v ps b)) = if bytes_eq v verb then length ps == n else false
-suits verb n _ = false
-
--- the first method of that verb and that many patterns
-unfoldable pub first_method : List Node → List ℕ → Words → ℕ → Option Node
-first_method tree [] verb n = None
-first_method tree (m ∷ ms) verb n = if suits verb n (slice_get tree m) then slice_get tree m else first_method tree ms verb n
 
 unfoldable pub run_method : Evaluator → List ℕ → ℕ → List Value → Scope → Act Value
 run_method rec ps b args here = do
@@ -443,22 +140,15 @@ call_made tree rec act i verb args o = do
   tell (event.Call act (held.Obj i) verb args (Some b))
   closed act (run_object tree rec o.node verb args (record { act = b; nouns = reverse o.nouns }))
 
-unfoldable pub code_of : Shape → Result Object Exit
-code_of (shape.Made node caught stamps) = Ok (record { node = node; nouns = map binding_back caught })
-code_of _ = Err Unbuilt
-
--- the code of what bears a number, and its captures
-unfoldable pub code_in : Option Thing → Result Object Exit
-code_in None = Err Astray
-code_in (Some t) = code_of t.shape
-
-unfoldable pub look_code : ℕ → Act Object
-look_code i = λ s. (code_in (slice_get s.heap.things i), s)
+-- what is called runs its code, or leaves to its escape
+unfoldable pub call_code : List Node → Evaluator → ℕ → ℕ → Words → List Value → Code → Act Value
+call_code tree rec act i verb args (Runs o) = call_made tree rec act i verb args o
+call_code tree rec act i verb args (Leaves live) = call_ejector act i live verb args
 
 unfoldable pub call_object : List Node → Evaluator → ℕ → ℕ → Words → List Value → Act Value
 call_object tree rec act i verb args = do
-  o ← look_code i
-  call_made tree rec act i verb args o
+  c ← look_code i
+  call_code tree rec act i verb args c
 
 -- a call in which data and primitives call again so
 unfoldable pub call_value : List Node → Evaluator → Caller → Caller
@@ -538,9 +228,6 @@ within rec mark e here = do
   x ← rec.expression e here
   give (x.0, cut mark x.1)
 
-unfoldable pub hide_node : Evaluator → ℕ → Scope → Act (Value × Scope)
-hide_node rec e here = within rec (length here.nouns) e here
-
 -- the branch that a value chooses, in the scope after the test
 unfoldable pub choose : Evaluator → ℕ → ℕ → ℕ → Value → Scope → Act (Value × Scope)
 choose rec mark a b (held.Bool true) inner = within rec mark a inner
@@ -552,6 +239,73 @@ if_node rec t a b here = do
   x ← rec.expression t here
   choose rec (length here.nouns) a b x.0 x.1
 
+-- ---- escapes, problems, and what is evaluated at last
+
+-- an expression whose names are dropped behind it
+unfoldable pub alone : Evaluator → ℕ → Scope → Act Value
+alone rec e here = do
+  x ← rec.expression e here
+  give x.0
+
+-- a pattern is bound to a value, and an expression evaluated in the scope after it; the names of both are dropped
+unfoldable pub handled : Evaluator → ℕ → ℕ → Value → Scope → Act Value
+handled rec p e v here = do
+  inner ← rec.pattern p v here
+  x ← rec.expression e inner
+  give x.0
+
+unfoldable pub caught_as : Evaluator → Option (ℕ × ℕ) → Value → Scope → Act Value
+caught_as rec None v here = give v
+caught_as rec (Some c) v here = handled rec c.0 c.1 v here
+
+-- what left by the ejector is the value, or is bound by the catch
+unfoldable pub caught_by : Evaluator → Option (ℕ × ℕ) → Value → Scope → Act Value
+caught_by rec c v here = do
+  tell (event.Got here.act v)
+  caught_as rec c v here
+
+unfoldable pub caught_if : Evaluator → Option (ℕ × ℕ) → Scope → ℕ → Value → Bool → Act Value
+caught_if rec c here n v true = caught_by rec c v here
+caught_if rec c here n v false = fail (Ejected n v)
+
+-- however it ended, the ejector is dead after it
+unfoldable pub escaped : Evaluator → ℕ → Option (ℕ × ℕ) → Scope → Out Value → Out Value
+escaped rec j c here o = ended_by (λ v. leave j (give v)) (λ id. leave j (fail (Thrown id))) (λ n v. leave j (caught_if rec c here n v (n == j))) o
+
+-- the body of an escape, whose pattern is bound to the ejector
+unfoldable pub escaping : Evaluator → ℕ → ℕ → Option (ℕ × ℕ) → Scope → ℕ → Act Value
+escaping rec p b c here j = λ s. escaped rec j c here (handled rec p b (held.Obj j) here s)
+
+-- the handler is evaluated at a problem
+unfoldable pub tried : Evaluator → ℕ → ℕ → Scope → Out Value → Out Value
+tried rec p h here o = ended_by give (λ id. handled rec p h (held.Text id) here) (λ n v. fail (Ejected n v)) o
+
+unfoldable pub trying : Evaluator → ℕ → ℕ → ℕ → Scope → Act Value
+trying rec b p h here = λ s. tried rec p h here (alone rec b here s)
+
+-- the second part is evaluated after every end but a stop, and its value is dropped
+unfoldable pub at_last : Evaluator → ℕ → Scope → Out Value → Out Value
+at_last rec b here o = ended_by (λ v. alone rec b here >> give v) (λ id. alone rec b here >> fail (Thrown id)) (λ n v. alone rec b here >> fail (Ejected n v)) o
+
+unfoldable pub lasting : Evaluator → ℕ → ℕ → Scope → Act Value
+lasting rec a b here = λ s. at_last rec b here (alone rec a here s)
+
+-- an escape, a try, a finally or a hide
+unfoldable pub guarded : Evaluator → Node → Scope → Act Value
+guarded rec (Escape p b c) here = do
+  j ← new_ejector here.act
+  escaping rec p b c here j
+guarded rec (Try b p h) here = trying rec b p h here
+guarded rec (Finally a b) here = lasting rec a b here
+guarded rec (Hide e) here = alone rec e here
+guarded rec _ here = fail Astray
+
+-- it leaves the scope as it was
+unfoldable pub guarded_node : Evaluator → Node → Scope → Act (Value × Scope)
+guarded_node rec n here = do
+  v ← guarded rec n here
+  give (v, here)
+
 unfoldable pub step : List Node → Evaluator → ℕ → Node → Scope → Act (Value × Scope)
 step tree rec id (Lit l) here = literal_node l here
 step tree rec id (Noun x) here = noun_node x here
@@ -560,7 +314,10 @@ step tree rec id (Def p j e) here = define rec p j e here
 step tree rec id (Call r verb args) here = call_node tree rec r verb args here
 step tree rec id (Sequence es) here = last_of rec held.Null es here
 step tree rec id (If t a b) here = if_node rec t a b here
-step tree rec id (Hide e) here = hide_node rec e here
+step tree rec id (Escape p b c) here = guarded_node rec (Escape p b c) here
+step tree rec id (Try b p h) here = guarded_node rec (Try b p h) here
+step tree rec id (Finally a b) here = guarded_node rec (Finally a b) here
+step tree rec id (Hide e) here = guarded_node rec (Hide e) here
 step tree rec id (ObjectNode p auditors members) here = object_node tree id p auditors here
 step tree rec id (Method v ps b) here = fail Astray
 step tree rec id (Final x g) here = fail Astray
@@ -594,6 +351,9 @@ bind_step (Def p j e) v here = fail Astray
 bind_step (Call r verb args) v here = fail Astray
 bind_step (Sequence es) v here = fail Astray
 bind_step (If t a b) v here = fail Astray
+bind_step (Escape p b c) v here = fail Astray
+bind_step (Try b p h) v here = fail Astray
+bind_step (Finally a b) v here = fail Astray
 bind_step (Hide e) v here = fail Astray
 bind_step (ObjectNode p auditors members) v here = fail Astray
 bind_step (Method u ps b) v here = fail Astray
@@ -627,5 +387,5 @@ opening tree depth = do
 
 -- opens the steps, and not the recursions
 unfoldable pub opened_steps : Unit {0}
-unfolding and_then ◌>>=◌ ◌>>◌ give fail answer tell spent spend new_activation new_slot write_told slot_read slot_found read_slot slot_written write_slot safe_found read_held read_bound write_held write_bound fails new_text text_value spell spelled write_text new_list list_told keep_list store stored listed_there make_list closed_by closed after_turn loop pair_there compared_there compared performed replied call_there answered_there answered call_data call_node with_bound new_object named object_made object_in make_object object_node suits run_method run_found run_object call_made code_of code_in look_code call_object call_value call define literal_value literal_node noun_node set_node within hide_node choose if_node step bind_final bind_var bind_any bind_step step_found bind_found opening
+unfolding after_turn loop pair_there compared_there compared performed replied answered_there answered call_data call_node run_method run_found run_object call_made call_code call_object call_value call define literal_value literal_node noun_node set_node within choose if_node alone handled caught_as caught_by step bind_final bind_var bind_any bind_step step_found bind_found opening opened_acts
 opened_steps = tt

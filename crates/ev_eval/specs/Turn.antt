@@ -5,26 +5,31 @@ use Rattle.ev_heap.specs.Contents.{Contents}
 use Rattle.ev_heap.specs.declared.micro.Micro.{Micro}
 use Rattle.ev_kernel.specs.declared.node.Node.{Node}
 use Rattle.ev_machine.specs.Values.{Value, Naming, Local}
-use Rattle.ev_machine.specs.State.{Done, Gives, Throws, Stops, Fuel, Deep, Astray, Act, ◌>>=◌, give, new_activation}
+use Rattle.ev_machine.specs.State.{Done, Gives, Throws, Stops, Fuel, Deep, Astray, Act, ◌>>=◌, give, throw, stop, ending, new_activation}
 use Rattle.ev_machine.specs.Eval.{evaluator}
 use Rattle.ev_eval.specs.declared.turn.Ended.{Ended}
 use Rattle.ev_eval.specs.declared.turn.Ended.TheVariants as ended
-use Rattle.ev_eval.specs.Reading.{World, text_of, value_of, vat_of}
-use Rattle.ev_eval.specs.Sound.{is_there}
-use Rattle.ev_eval.specs.declared.exit.Exit.{Exit}
-use Rattle.ev_eval.specs.declared.exit.Exit.TheVariants as exit
+use Rattle.ev_room.specs.Reading.{World, text_of, value_of, vat_of}
+use Rattle.ev_room.specs.Sound.{is_there}
+use Rattle.ev_room.specs.declared.exit.Exit.{Exit}
+use Rattle.ev_room.specs.declared.exit.Exit.TheVariants as exit
 use Rattle.ev_base.specs.declared.values.Value.{Value as Held}
 
 -- the program is evaluated in an activation of its own, where no noun is bound
-unfoldable pub opened : {N W : Type 0} → Naming N W → List Node → ℕ → Act N (Value N)
-opened K tree depth = do
+unfoldable pub evaluated : {N W : Type 0} → Naming N W → List Node → ℕ → Act N (Value N)
+evaluated K tree depth = do
   a ← new_activation
   x ← (evaluator K tree depth).expression 0 (record { act = a; nouns = [] })
   give x.value
 
+-- that, where what leaves by an ejector goes astray, since no escape awaits it
+unfoldable pub opened : {N W : Type 0} → Naming N W → List Node → ℕ → Act N (Value N)
+opened K tree depth = ending give throw (λ n v. stop Astray) (evaluated K tree depth)
+
 -- how a turn ended whose evaluation gave no value
 abbrev pub EndsBy : Exit → Result Ended Memory → Type 0
 EndsBy (exit.Thrown id) r = r ≡ Ok (ended.Thrown id)
+EndsBy (exit.Ejected n v) r = r ≡ Ok ended.Astray
 EndsBy exit.Fuel r = r ≡ Ok ended.Fuel
 EndsBy exit.Deep r = r ≡ Ok ended.Deep
 EndsBy exit.Astray r = r ≡ Ok ended.Astray

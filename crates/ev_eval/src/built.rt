@@ -2,19 +2,12 @@
 
 ghost use Rattle.std.specs.Prelude.{◌≡◌, Some};
 ghost use Rattle.ev_base.specs.SafeScope.{safe_value};
-ghost use Rattle.ev_eval.specs.Built.{is_built, is_built_node, is_built_safe};
-ghost use Rattle.ev_eval.specs.Sound.{is_built_prim};
+ghost use Rattle.ev_eval.specs.Built.{is_built, is_built_node};
+ghost use Rattle.ev_room.specs.Sound.{is_built_safe};
 
-use ev_base::{PrimId, Value, safe_value};
+use ev_base::{Value, safe_value};
 use ev_kernel::{Kernel, Node};
-
-/// Whether calls on a primitive are built: on lists and ranges, the comparer, the loop, and throw.
-pub(crate) fn is_built_prim(number: PrimId) -> bool
-    ensures { result ≡ is_built_prim number }
-{
-    let number = number.0;
-    number == 0 || number == 2 || number == 3 || number == 6
-}
+use ev_room::is_built_prim;
 
 /// Whether a value of the safe scope is `null`, `true`, `false` or a primitive on which calls are built.
 fn is_built_value(value: Value) -> bool
@@ -49,6 +42,9 @@ fn is_built_node(node: &Node) -> bool
         Node::Call { .. } => true,
         Node::Sequence(_) => true,
         Node::If(_, _, _) => true,
+        Node::Escape { .. } => true,
+        Node::Try { .. } => true,
+        Node::Finally(_, _) => true,
         Node::Hide(_) => true,
         Node::Object { auditors, .. } => auditors.is_empty(),
         Node::Method { .. } => true,
@@ -60,8 +56,8 @@ fn is_built_node(node: &Node) -> bool
 }
 
 /// Whether each node of a program is of a kind that is evaluated so far: a literal, a noun that is
-/// `null`, `true`, `false`, a primitive on which calls are built or not in the safe scope, an assignment, a definition without an ejector, a call, a sequence, an if, a
-/// hide, an object without auditors, a method, or a final, var or any pattern without a guard.
+/// `null`, `true`, `false`, a primitive on which calls are built or not in the safe scope, an assignment, a definition without an ejector, a call, a sequence, an if, an
+/// escape, a try, a finally, a hide, an object without auditors, a method, or a final, var or any pattern without a guard.
 #[tactic(auto, unfolding(crate::specs::Built::is_built))]
 pub fn is_built(program: &Kernel) -> bool
     ensures { result ≡ is_built program.now }

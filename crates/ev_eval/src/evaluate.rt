@@ -2,56 +2,31 @@
 
 ghost use Rattle.std.specs.Prelude.{◌≡◌, [], Some, length, option_map};
 ghost use Rattle.ev_base.specs.declared.values.Value.TheVariants.{Null};
-ghost use Rattle.ev_prims.specs.Asks.{asked_of};
-ghost use Rattle.ev_eval.specs.Steps.{Gives, GivesIn, answered, call, call_at, call_data, call_node, call_object, choose, compared, define, evaluator, gathered, if_node, iterate, last_of, literal_node, literal_value, loop, noun_node, opening, performed, replied, run_found, run_method, run_object, set_node, step, within};
+ghost use Rattle.ev_eval.specs.Steps.{alone, call_made, call_node, call_object, caught_by, caught_if, choose, define, escaping, evaluator, gathered, guarded, guarded_node, handled, if_node, last_of, lasting, run_found, run_method, run_object, set_node, step, trying, within};
+ghost use Rattle.ev_room.specs.Acts.{Extends, Gives, GivesIn};
+ghost use Rattle.ev_room.specs.declared.scope.Scope.{Scope as Surroundings};
 
-use crate::call::{call_line, closed};
-use crate::data::{call_there, is_there, make_list, problem_id, text_value, thrown_id, write_text};
-use crate::exit::Exit;
-use crate::nouns::{read_bound, write_bound};
-use crate::object::{first_method, look_code, members_of, object_node, turned};
-use crate::pattern::{bind, bind_all, node_at};
-use crate::room::{Room, new_activation, spend, tell};
-use crate::scope::{Scope, cut, found};
-use ev_base::{ActId, NodeId, ObjId, PrimId, Seq, Value};
-use ev_kernel::{Kernel, Literal, Node};
-use ev_prims::{Asked, Problem, Reply, Test, ask, compare, data_reply, range};
-
-/// The value of a literal.
-#[tactic(auto, unfolding(crate::specs::Steps::literal_value, crate::specs::Steps::give))]
-fn literal_value(literal: &Literal, room: &mut Room) -> Result<Value, Exit>
-    ensures outcome { Gives result room.new (literal_value literal.now room.old) }
-{
-    match literal {
-        Literal::Int(number) => Ok(Value::Int(*number)),
-        Literal::Char(letter) => Ok(Value::Char(*letter)),
-        Literal::Text(text) => text_value(text.as_str(), room),
-    }
-}
-
-/// Evaluates a literal.
-#[tactic(auto, using(crate::proofs::Exits::ends), unfolding(crate::specs::Steps::opened_steps))]
-fn literal_node(literal: &Literal, here: &Scope, room: &mut Room) -> Result<Value, Exit>
-    ensures outcome { GivesIn result here.now room.new (literal_node literal.now here.now room.old) }
-{
-    let value = literal_value(literal, room)?;
-    Ok(value)
-}
-
-/// The value of a noun.
-#[tactic(auto, using(crate::proofs::Exits::ends), unfolding(crate::specs::Steps::opened_steps))]
-fn noun_node(noun: &str, here: &mut Scope, room: &mut Room) -> Result<Value, Exit>
-    ensures outcome { GivesIn result here.new room.new (noun_node noun.now here.old room.old) }
-{
-    let bound = found(here.nouns.as_slice(), noun);
-    let value = read_bound(here.act, bound, noun, room)?;
-    Ok(value)
-}
+use crate::natives::call;
+use crate::nodes::{literal_node, noun_node};
+use crate::pattern::{bind, bind_all};
+use ev_base::{ActId, NodeId, ObjId, Seq, Value};
+use ev_heap::Happened;
+use ev_kernel::{Kernel, Node};
+use ev_prims::Problem;
+use ev_room::call::{call_line, closed};
+use ev_room::data::problem_id;
+use ev_room::ejector::{call_ejector, is_same, kill, new_ejector};
+use ev_room::exit::{Came, Exit, unless_stopped};
+use ev_room::nouns::write_bound;
+use ev_room::object::{Code, Object, look_code, object_node, turned};
+use ev_room::room::{Room, new_activation, spend, tell};
+use ev_room::scope::{Scope, cut, found};
+use ev_room::tree::{first_method, members_of, node_at};
 
 /// Evaluates the expression at a node, at most so many levels deep.
 #[cycle(evaluate)]
-#[tactic(auto, using(crate::proofs::Depth::expression_deep, crate::proofs::Depth::expression_goes, crate::proofs::Exits::ends), unfolding(crate::specs::Steps::opened_steps))]
-fn evaluate(
+#[tactic(auto, using(crate::proofs::Depth::expression_deep, crate::proofs::Depth::expression_goes, ev_room::proofs::Exits::ends, ev_room::proofs::Fronts::itself_in_front), unfolding(crate::specs::Steps::opened_steps))]
+pub(crate) fn evaluate(
     program: &Kernel,
     depth: u32,
     id: NodeId,
@@ -59,6 +34,7 @@ fn evaluate(
     room: &mut Room,
 ) -> Result<Value, Exit>
     ensures outcome { GivesIn result here.new room.new ((evaluator program.now depth).expression id here.old room.old) }
+    ensures front { Extends here.old here.new }
 {
     if depth == 0 {
         return Err(Exit::Deep);
@@ -72,7 +48,7 @@ fn evaluate(
 
 /// Evaluates an expression whose parts may be so many levels deep.
 #[cycle(evaluate)]
-#[tactic(auto, using(crate::proofs::Exits::ends), unfolding(crate::specs::Steps::opened_steps))]
+#[tactic(auto, using(ev_room::proofs::Exits::ends, ev_room::proofs::Fronts::itself_in_front), unfolding(crate::specs::Steps::opened_steps))]
 fn step(
     program: &Kernel,
     depth: u32,
@@ -82,6 +58,7 @@ fn step(
     room: &mut Room,
 ) -> Result<Value, Exit>
     ensures outcome { GivesIn result here.new room.new (step program.now (evaluator program.now depth) id node.now here.old room.old) }
+    ensures front { Extends here.old here.new }
 {
     match node {
         Node::Lit(literal) => literal_node(literal, here, room),
@@ -107,9 +84,8 @@ fn step(
         ),
         Node::Sequence(parts) => last_of(program, depth, parts.as_slice(), here, room),
         Node::If(test, yes, no) => if_node(program, depth, *test, *yes, *no, here, room),
-        Node::Hide(inner) => {
-            let mark = here.nouns.len();
-            within(program, depth, mark, *inner, here, room)
+        Node::Escape { .. } | Node::Try { .. } | Node::Finally(_, _) | Node::Hide(_) => {
+            guarded_node(program, depth, node, here, room)
         }
         Node::Object {
             pattern,
@@ -125,7 +101,7 @@ fn step(
 
 /// Evaluates an assignment. What is written is what the noun stood for before its value is evaluated.
 #[cycle(evaluate)]
-#[tactic(auto, using(crate::proofs::Exits::ends), unfolding(crate::specs::Steps::opened_steps))]
+#[tactic(auto, using(ev_room::proofs::Exits::ends), unfolding(crate::specs::Steps::opened_steps))]
 fn set_node(
     program: &Kernel,
     depth: u32,
@@ -135,6 +111,7 @@ fn set_node(
     room: &mut Room,
 ) -> Result<Value, Exit>
     ensures outcome { GivesIn result here.new room.new (set_node (evaluator program.now depth) noun.now value here.old room.old) }
+    ensures front { Extends here.old here.new }
 {
     let act = here.act;
     let bound = found(here.nouns.as_slice(), noun);
@@ -145,7 +122,7 @@ fn set_node(
 
 /// Evaluates a definition: its value, and then its pattern in the scope after it.
 #[cycle(evaluate)]
-#[tactic(auto, using(crate::proofs::Exits::ends), unfolding(crate::specs::Steps::opened_steps))]
+#[tactic(auto, using(ev_room::proofs::Exits::ends, ev_room::proofs::Fronts::itself_in_front, ev_room::proofs::Fronts::in_front), unfolding(crate::specs::Steps::opened_steps))]
 fn define(
     program: &Kernel,
     depth: u32,
@@ -156,6 +133,7 @@ fn define(
     room: &mut Room,
 ) -> Result<Value, Exit>
     ensures outcome { GivesIn result here.new room.new (define (evaluator program.now depth) pattern exit value here.old room.old) }
+    ensures front { Extends here.old here.new }
 {
     match exit {
         Some(_) => Err(Exit::Unbuilt),
@@ -170,7 +148,7 @@ fn define(
 
 /// Evaluates an expression whose names are dropped behind it, down to so many.
 #[cycle(evaluate)]
-#[tactic(auto, using(crate::proofs::Exits::ends), unfolding(crate::specs::Steps::opened_steps))]
+#[tactic(auto, using(ev_room::proofs::Exits::ends, ev_room::proofs::Fronts::got_back, ev_room::proofs::Fronts::in_front), unfolding(crate::specs::Steps::opened_steps))]
 fn within(
     program: &Kernel,
     depth: u32,
@@ -180,16 +158,17 @@ fn within(
     room: &mut Room,
 ) -> Result<Value, Exit>
     ensures outcome { GivesIn result here.new room.new (within (evaluator program.now depth) mark id here.old room.old) }
+    ensures front { (a : Surroundings) → length a.nouns ≡ mark → Extends a here.old → here.new ≡ a }
 {
-    let value = evaluate(program, depth, id, here, room)?;
+    let outcome = evaluate(program, depth, id, here, room);
     cut(room.alloc, mark, here);
-    Ok(value)
+    outcome
 }
 
 /// Evaluates an if: its test, and then the branch that the test chooses. The names of the test are known in the first branch,
 /// and none of either behind it.
 #[cycle(evaluate)]
-#[tactic(auto, using(crate::proofs::Exits::ends), unfolding(crate::specs::Steps::opened_steps))]
+#[tactic(auto, using(ev_room::proofs::Exits::ends), unfolding(crate::specs::Steps::opened_steps))]
 fn if_node(
     program: &Kernel,
     depth: u32,
@@ -200,6 +179,7 @@ fn if_node(
     room: &mut Room,
 ) -> Result<Value, Exit>
     ensures outcome { GivesIn result here.new room.new (if_node (evaluator program.now depth) test yes no here.old room.old) }
+    ensures front { Extends here.old here.new }
 {
     let mark = here.nouns.len();
     let value = evaluate(program, depth, test, here, room)?;
@@ -208,7 +188,7 @@ fn if_node(
 
 /// Evaluates the branch of an if that a value chooses, in the scope after the test.
 #[cycle(evaluate)]
-#[tactic(auto, using(crate::proofs::Exits::ends), unfolding(crate::specs::Steps::opened_steps))]
+#[tactic(auto, using(ev_room::proofs::Exits::ends, ev_room::proofs::Fronts::got_back, ev_room::proofs::Fronts::same_in_front, ev_room::proofs::Fronts::itself_in_front), unfolding(crate::specs::Steps::opened_steps))]
 fn choose(
     program: &Kernel,
     depth: u32,
@@ -220,6 +200,7 @@ fn choose(
     room: &mut Room,
 ) -> Result<Value, Exit>
     ensures outcome { GivesIn result here.new room.new (choose (evaluator program.now depth) mark yes no value here.old room.old) }
+    ensures front { (a : Surroundings) → length a.nouns ≡ mark → Extends a here.old → Extends a here.new }
 {
     match value {
         Value::Bool(true) => within(program, depth, mark, yes, here, room),
@@ -231,9 +212,253 @@ fn choose(
     }
 }
 
+/// Evaluates an expression whose names are dropped behind it.
+#[cycle(evaluate)]
+#[tactic(auto, using(ev_room::proofs::Exits::ends, ev_room::proofs::Fronts::got_back), unfolding(crate::specs::Steps::opened_steps))]
+fn alone(
+    program: &Kernel,
+    depth: u32,
+    id: NodeId,
+    here: &mut Scope,
+    room: &mut Room,
+) -> Result<Value, Exit>
+    ensures outcome { Gives result room.new (alone (evaluator program.now depth) id here.old room.old) }
+    ensures same { here.new ≡ here.old }
+{
+    let mark = here.nouns.len();
+    let outcome = evaluate(program, depth, id, here, room);
+    cut(room.alloc, mark, here);
+    outcome
+}
+
+/// Binds a pattern to a value, and evaluates an expression in the scope after it.
+#[cycle(evaluate)]
+#[tactic(auto, using(ev_room::proofs::Exits::ends, ev_room::proofs::Fronts::in_front), unfolding(crate::specs::Steps::opened_steps))]
+fn bind_then(
+    program: &Kernel,
+    depth: u32,
+    pattern: NodeId,
+    id: NodeId,
+    value: Value,
+    here: &mut Scope,
+    room: &mut Room,
+) -> Result<Value, Exit>
+    ensures outcome { Gives result room.new (handled (evaluator program.now depth) pattern id value here.old room.old) }
+    ensures front { Extends here.old here.new }
+{
+    bind(program, depth, pattern, value, here, room)?;
+    let value = evaluate(program, depth, id, here, room)?;
+    Ok(value)
+}
+
+/// The same, and the names of both are dropped.
+#[cycle(evaluate)]
+#[tactic(auto, using(ev_room::proofs::Fronts::got_back))]
+fn handled(
+    program: &Kernel,
+    depth: u32,
+    pattern: NodeId,
+    id: NodeId,
+    value: Value,
+    here: &mut Scope,
+    room: &mut Room,
+) -> Result<Value, Exit>
+    ensures outcome { Gives result room.new (handled (evaluator program.now depth) pattern id value here.old room.old) }
+    ensures same { here.new ≡ here.old }
+{
+    let mark = here.nouns.len();
+    let outcome = bind_then(program, depth, pattern, id, value, here, room);
+    cut(room.alloc, mark, here);
+    outcome
+}
+
+/// What becomes of a value that left by the ejector of an escape.
+#[cycle(evaluate)]
+#[tactic(auto, using(ev_room::proofs::Exits::ends), unfolding(crate::specs::Steps::opened_steps))]
+fn caught(
+    program: &Kernel,
+    depth: u32,
+    catch: Option<(NodeId, NodeId)>,
+    value: Value,
+    here: &mut Scope,
+    room: &mut Room,
+) -> Result<Value, Exit>
+    ensures outcome { Gives result room.new (caught_by (evaluator program.now depth) catch value here.old room.old) }
+    ensures same { here.new ≡ here.old }
+{
+    let told = value;
+    tell(room, Happened::Got(here.act, told))?;
+    match catch {
+        None => Ok(value),
+        Some((pattern, id)) => handled(program, depth, pattern, id, value, here, room),
+    }
+}
+
+/// What becomes of a value that left by an ejector, which is the own one of an escape or another.
+#[cycle(evaluate)]
+#[tactic(auto, unfolding(crate::specs::Steps::caught_if, ev_room::specs::Acts::fail))]
+fn caught_if(
+    program: &Kernel,
+    depth: u32,
+    own: bool,
+    by: ObjId,
+    catch: Option<(NodeId, NodeId)>,
+    value: Value,
+    here: &mut Scope,
+    room: &mut Room,
+) -> Result<Value, Exit>
+    ensures outcome { Gives result room.new (caught_if (evaluator program.now depth) catch here.old by value own room.old) }
+    ensures same { here.new ≡ here.old }
+{
+    if own {
+        caught(program, depth, catch, value, here, room)
+    } else {
+        Err(Exit::Ejected(by, value))
+    }
+}
+
+/// Evaluates the body of an escape whose ejector is made. However the body ends, the ejector is dead after it.
+#[cycle(evaluate)]
+#[tactic(auto, using(crate::proofs::Leaves::escape_gave, crate::proofs::Leaves::escape_threw, crate::proofs::Leaves::escape_left, crate::proofs::Leaves::escape_stopped))]
+fn escaping(
+    program: &Kernel,
+    depth: u32,
+    pattern: NodeId,
+    body: NodeId,
+    catch: Option<(NodeId, NodeId)>,
+    ejector: ObjId,
+    here: &mut Scope,
+    room: &mut Room,
+) -> Result<Value, Exit>
+    ensures outcome { Gives result room.new (escaping (evaluator program.now depth) pattern body catch here.old ejector room.old) }
+    ensures same { here.new ≡ here.old }
+{
+    let outcome = handled(
+        program,
+        depth,
+        pattern,
+        body,
+        Value::Obj(ejector),
+        here,
+        room,
+    );
+    let came = unless_stopped(outcome)?;
+    kill(ejector, room);
+    match came {
+        Came::Gave(value) => Ok(value),
+        Came::Threw(id) => Err(Exit::Thrown(id)),
+        Came::Left(by, value) => {
+            let own = is_same(by, ejector);
+            caught_if(program, depth, own, by, catch, value, here, room)
+        }
+    }
+}
+
+/// Evaluates the body of a try, and where that threw a problem, the handler.
+#[cycle(evaluate)]
+#[tactic(auto, using(crate::proofs::Leaves::try_gave, crate::proofs::Leaves::try_threw, crate::proofs::Leaves::try_left, crate::proofs::Leaves::try_stopped))]
+fn trying(
+    program: &Kernel,
+    depth: u32,
+    body: NodeId,
+    pattern: NodeId,
+    handler: NodeId,
+    here: &mut Scope,
+    room: &mut Room,
+) -> Result<Value, Exit>
+    ensures outcome { Gives result room.new (trying (evaluator program.now depth) body pattern handler here.old room.old) }
+    ensures same { here.new ≡ here.old }
+{
+    let outcome = alone(program, depth, body, here, room);
+    match unless_stopped(outcome)? {
+        Came::Gave(value) => Ok(value),
+        Came::Threw(id) => {
+            let problem = Value::Text(id);
+            handled(program, depth, pattern, handler, problem, here, room)
+        }
+        Came::Left(by, value) => Err(Exit::Ejected(by, value)),
+    }
+}
+
+/// Evaluates the first part of a finally, and then, however that came to an end, the second, whose value is dropped.
+#[cycle(evaluate)]
+#[tactic(auto, using(crate::proofs::Leaves::last_gave, crate::proofs::Leaves::last_threw, crate::proofs::Leaves::last_left, crate::proofs::Leaves::last_ends, crate::proofs::Leaves::last_stopped))]
+fn lasting(
+    program: &Kernel,
+    depth: u32,
+    first: NodeId,
+    last: NodeId,
+    here: &mut Scope,
+    room: &mut Room,
+) -> Result<Value, Exit>
+    ensures outcome { Gives result room.new (lasting (evaluator program.now depth) first last here.old room.old) }
+    ensures same { here.new ≡ here.old }
+{
+    let outcome = alone(program, depth, first, here, room);
+    let came = unless_stopped(outcome)?;
+    alone(program, depth, last, here, room)?;
+    match came {
+        Came::Gave(value) => Ok(value),
+        Came::Threw(id) => Err(Exit::Thrown(id)),
+        Came::Left(by, value) => Err(Exit::Ejected(by, value)),
+    }
+}
+
+/// Evaluates an escape, a try, a finally or a hide.
+#[cycle(evaluate)]
+#[tactic(auto, using(ev_room::proofs::Exits::ends), unfolding(ev_room::specs::Acts::opened_acts, crate::specs::Steps::guarded))]
+fn guarded(
+    program: &Kernel,
+    depth: u32,
+    node: &Node,
+    here: &mut Scope,
+    room: &mut Room,
+) -> Result<Value, Exit>
+    ensures outcome { Gives result room.new (guarded (evaluator program.now depth) node.now here.old room.old) }
+    ensures same { here.new ≡ here.old }
+{
+    match node {
+        Node::Escape {
+            pattern,
+            body,
+            caught,
+        } => {
+            let ejector = new_ejector(here.act, room)?;
+            escaping(
+                program, depth, *pattern, *body, *caught, ejector, here, room,
+            )
+        }
+        Node::Try {
+            body,
+            pattern,
+            handler,
+        } => trying(program, depth, *body, *pattern, *handler, here, room),
+        Node::Finally(first, last) => lasting(program, depth, *first, *last, here, room),
+        Node::Hide(inner) => alone(program, depth, *inner, here, room),
+        _ => Err(Exit::Astray),
+    }
+}
+
+/// Evaluates an escape, a try, a finally or a hide, in a scope that stays.
+#[cycle(evaluate)]
+#[tactic(auto, using(ev_room::proofs::Exits::ends, ev_room::proofs::Fronts::same_in_front), unfolding(ev_room::specs::Acts::opened_acts, crate::specs::Steps::guarded_node))]
+fn guarded_node(
+    program: &Kernel,
+    depth: u32,
+    node: &Node,
+    here: &mut Scope,
+    room: &mut Room,
+) -> Result<Value, Exit>
+    ensures outcome { GivesIn result here.new room.new (guarded_node (evaluator program.now depth) node.now here.old room.old) }
+    ensures front { Extends here.old here.new }
+{
+    let value = guarded(program, depth, node, here, room)?;
+    Ok(value)
+}
+
 /// Evaluates a call: the receiver, then the arguments from left to right, then the call itself.
 #[cycle(evaluate)]
-#[tactic(auto, using(crate::proofs::Exits::ends), unfolding(crate::specs::Steps::opened_steps))]
+#[tactic(auto, using(ev_room::proofs::Exits::ends, ev_room::proofs::Fronts::in_front), unfolding(crate::specs::Steps::opened_steps))]
 fn call_node(
     program: &Kernel,
     depth: u32,
@@ -244,6 +469,7 @@ fn call_node(
     room: &mut Room,
 ) -> Result<Value, Exit>
     ensures outcome { GivesIn result here.new room.new (call_node program.now (evaluator program.now depth) receiver verb.now args.now here.old room.old) }
+    ensures front { Extends here.old here.new }
 {
     let act = here.act;
     let receiver = evaluate(program, depth, receiver, here, room)?;
@@ -252,234 +478,10 @@ fn call_node(
     Ok(value)
 }
 
-/// A call on a value.
+/// A call on what bears a number: an object or an ejector.
 #[cycle(evaluate)]
-#[tactic(auto, unfolding(crate::specs::Steps::call))]
-fn call(
-    program: &Kernel,
-    depth: u32,
-    act: ActId,
-    receiver: Value,
-    verb: &str,
-    args: &[Value],
-    room: &mut Room,
-) -> Result<Value, Exit>
-    ensures outcome { Gives result room.new (call program.now (evaluator program.now depth) act receiver verb.now args.now room.old) }
-{
-    let levels = u128::from(room.heap.list_count()) + 4;
-    call_at(program, depth, levels, act, receiver, verb, args, room)
-}
-
-/// A call on a value, in which data calls again at most so many times less one, one inside another.
-#[cycle(evaluate)]
-#[tactic(auto, using(crate::proofs::Depth::call_deep, crate::proofs::Depth::call_goes), unfolding(crate::specs::Steps::call_value, crate::specs::Steps::fail))]
-fn call_at(
-    program: &Kernel,
-    depth: u32,
-    levels: u128,
-    act: ActId,
-    receiver: Value,
-    verb: &str,
-    args: &[Value],
-    room: &mut Room,
-) -> Result<Value, Exit>
-    ensures outcome { Gives result room.new (call_at program.now (evaluator program.now depth) levels act receiver verb.now args.now room.old) }
-{
-    if levels == 0 {
-        return Err(Exit::Astray);
-    }
-    match receiver {
-        Value::Obj(object) => call_object(program, depth, act, object, verb, args, room),
-        Value::Broken(id) => Err(Exit::Thrown(id)),
-        Value::Prim(number) => perform(program, depth, levels - 1, act, number, verb, args, room),
-        Value::Null
-        | Value::Bool(_)
-        | Value::Int(_)
-        | Value::Char(_)
-        | Value::Text(_)
-        | Value::List(_) => call_data(program, depth, levels - 1, act, receiver, verb, args, room),
-        _ => Err(Exit::Unbuilt),
-    }
-}
-
-/// Does what is asked of a primitive, which tells no line of its own call.
-#[cycle(evaluate)]
-#[tactic(auto, unfolding(crate::specs::Steps::performed, crate::specs::Steps::fails, crate::specs::Steps::fail))]
-fn perform(
-    program: &Kernel,
-    depth: u32,
-    levels: u128,
-    act: ActId,
-    number: PrimId,
-    verb: &str,
-    args: &[Value],
-    room: &mut Room,
-) -> Result<Value, Exit>
-    ensures outcome { Gives result room.new (performed (call_at program.now (evaluator program.now depth) levels) act (asked_of number verb.now args.now) args.now room.old) }
-{
-    match ask(number, verb, args) {
-        Asked::MakesList => make_list(act, args, room),
-        Asked::Ranges(last, first, end) => {
-            let reply = range(room.alloc, last, first, end)?;
-            replied(program, depth, levels, act, &reply, room)
-        }
-        Asked::Compares(test, first, second) => {
-            compared(program, depth, levels, act, test, &first, &second, room)
-        }
-        Asked::Loops(object) => turns(program, depth, levels, act, &object, room),
-        Asked::ThrowsIt(value) => Err(Exit::Thrown(thrown_id(value))),
-        Asked::NoMethod => Err(Exit::Thrown(problem_id(Problem::NoMethod))),
-        _ => Err(Exit::Unbuilt),
-    }
-}
-
-/// Whether the order of two values passes a test.
-#[cycle(evaluate)]
-#[tactic(auto, unfolding(crate::specs::Steps::compared, crate::specs::Steps::compared_there, crate::specs::Steps::pair_there, crate::specs::Steps::fail))]
-fn compared(
-    program: &Kernel,
-    depth: u32,
-    levels: u128,
-    act: ActId,
-    test: Test,
-    first: &Value,
-    second: &Value,
-    room: &mut Room,
-) -> Result<Value, Exit>
-    ensures outcome { Gives result room.new (compared (call_at program.now (evaluator program.now depth) levels) act test first.now second.now room.old) }
-{
-    if !(is_there(&room.heap, *first) && is_there(&room.heap, *second)) {
-        return Err(Exit::Astray);
-    }
-    let reply = compare(&room.heap, test, *first, *second);
-    replied(program, depth, levels, act, &reply, room)
-}
-
-/// Calls `run` of a value until it answers false, as often at most as there is fuel.
-#[cycle(evaluate)]
-#[tactic(auto, using(crate::proofs::Exits::ends, crate::proofs::Depth::turns_from, crate::proofs::Depth::turns_none, crate::proofs::Depth::turns_all), unfolding(crate::specs::Steps::opened_steps))]
-fn turns(
-    program: &Kernel,
-    depth: u32,
-    levels: u128,
-    act: ActId,
-    object: &Value,
-    room: &mut Room,
-) -> Result<Value, Exit>
-    ensures outcome { Gives result room.new (loop (call_at program.now (evaluator program.now depth) levels) act object.now room.old) }
-{
-    let most = u64::from(room.micro.fuel) + 1;
-    for turn in 0..most {
-        let value = call_at(program, depth, levels, act, *object, "run", &[], room)?;
-        match value {
-            Value::Bool(true) => {}
-            Value::Bool(false) => return Ok(Value::Null),
-            _ => return Err(Exit::Thrown(problem_id(Problem::NotBoolean))),
-        }
-    }
-    Err(Exit::Fuel)
-}
-
-/// A call on data, in which calls again stand at most so many times one inside another.
-#[cycle(evaluate)]
-#[tactic(auto, using(crate::proofs::Exits::ends, crate::proofs::Exits::closes), unfolding(crate::specs::Steps::opened_steps))]
-fn call_data(
-    program: &Kernel,
-    depth: u32,
-    levels: u128,
-    act: ActId,
-    receiver: Value,
-    verb: &str,
-    args: &[Value],
-    room: &mut Room,
-) -> Result<Value, Exit>
-    ensures outcome { Gives result room.new (call_data (call_at program.now (evaluator program.now depth) levels) act receiver verb.now args.now room.old) }
-{
-    let target = receiver;
-    let line = call_line(room.alloc, act, target, verb, args, None)?;
-    tell(room, line)?;
-    let outcome = answered(program, depth, levels, act, receiver, verb, args, room);
-    closed(act, outcome, room)
-}
-
-/// What data answers to a call.
-#[cycle(evaluate)]
-#[tactic(auto, unfolding(crate::specs::Steps::answered, crate::specs::Steps::answered_there, crate::specs::Steps::fail))]
-fn answered(
-    program: &Kernel,
-    depth: u32,
-    levels: u128,
-    act: ActId,
-    receiver: Value,
-    verb: &str,
-    args: &[Value],
-    room: &mut Room,
-) -> Result<Value, Exit>
-    ensures outcome { Gives result room.new (answered (call_at program.now (evaluator program.now depth) levels) act receiver verb.now args.now room.old) }
-{
-    let asked = receiver;
-    if !call_there(&room.heap, asked, args) {
-        return Err(Exit::Astray);
-    }
-    let reply = data_reply(room.alloc, &room.heap, receiver, verb, args, args)?;
-    replied(program, depth, levels, act, &reply, room)
-}
-
-/// Does what data answers.
-#[cycle(evaluate)]
-#[tactic(auto, unfolding(crate::specs::Steps::replied, crate::specs::Steps::give, crate::specs::Steps::fails, crate::specs::Steps::fail))]
-fn replied(
-    program: &Kernel,
-    depth: u32,
-    levels: u128,
-    act: ActId,
-    reply: &Reply,
-    room: &mut Room,
-) -> Result<Value, Exit>
-    ensures outcome { Gives result room.new (replied (call_at program.now (evaluator program.now depth) levels) act reply.now room.old) }
-{
-    match reply {
-        Reply::Says(value) => Ok(*value),
-        Reply::Writes(text) => write_text(text.as_str(), room),
-        Reply::Lists(members) => make_list(act, members.as_slice(), room),
-        Reply::Iterates(object, members) => iterate(
-            program,
-            depth,
-            levels,
-            act,
-            object,
-            members.as_slice(),
-            room,
-        ),
-        Reply::Fails(problem) => Err(Exit::Thrown(problem_id(*problem))),
-    }
-}
-
-/// Calls `run` of a value with each place and the member there, in order.
-#[cycle(evaluate)]
-#[tactic(auto, using(crate::proofs::Exits::ends), unfolding(crate::specs::Steps::opened_steps, crate::specs::Steps::iterate))]
-fn iterate(
-    program: &Kernel,
-    depth: u32,
-    levels: u128,
-    act: ActId,
-    object: &Value,
-    members: &[Value],
-    room: &mut Room,
-) -> Result<Value, Exit>
-    ensures outcome { Gives result room.new (iterate (call_at program.now (evaluator program.now depth) levels) act object.now 0 members.now room.old) }
-{
-    for (index, member) in members.iter().enumerate() {
-        let args = [Value::Int(index as i128), *member];
-        call_at(program, depth, levels, act, *object, "run", &args, room)?;
-    }
-    Ok(Value::Null)
-}
-
-/// A call on an object, which begins an activation.
-#[cycle(evaluate)]
-#[tactic(auto, using(crate::proofs::Exits::ends, crate::proofs::Exits::closes), unfolding(crate::specs::Steps::opened_steps))]
-fn call_object(
+#[tactic(auto, using(ev_room::proofs::Exits::ends), unfolding(crate::specs::Steps::opened_steps))]
+pub(crate) fn call_object(
     program: &Kernel,
     depth: u32,
     act: ActId,
@@ -490,7 +492,27 @@ fn call_object(
 ) -> Result<Value, Exit>
     ensures outcome { Gives result room.new (call_object program.now (evaluator program.now depth) act object verb.now args.now room.old) }
 {
-    let code = look_code(object, room)?;
+    match look_code(object, room)? {
+        Code::Runs(code) => call_made(program, depth, act, object, verb, args, code, room),
+        Code::Leaves(alive) => call_ejector(act, object, alive, verb, args, room),
+    }
+}
+
+/// A call on an object, which begins an activation.
+#[cycle(evaluate)]
+#[tactic(auto, using(ev_room::proofs::Exits::ends, ev_room::proofs::Exits::closes), unfolding(crate::specs::Steps::opened_steps))]
+fn call_made(
+    program: &Kernel,
+    depth: u32,
+    act: ActId,
+    object: ObjId,
+    verb: &str,
+    args: &[Value],
+    code: Object,
+    room: &mut Room,
+) -> Result<Value, Exit>
+    ensures outcome { Gives result room.new (call_made program.now (evaluator program.now depth) act object verb.now args.now code room.old) }
+{
     let begun = new_activation(Value::Obj(object), room)?;
     let line = call_line(room.alloc, act, Value::Obj(object), verb, args, Some(begun))?;
     tell(room, line)?;
@@ -504,7 +526,7 @@ fn call_object(
 
 /// Runs what an object does with a message, in the environment of its captures.
 #[cycle(evaluate)]
-#[tactic(auto, using(crate::proofs::Exits::ends), unfolding(crate::specs::Steps::opened_steps))]
+#[tactic(auto, using(ev_room::proofs::Exits::ends), unfolding(crate::specs::Steps::opened_steps))]
 fn run_object(
     program: &Kernel,
     depth: u32,
@@ -523,7 +545,7 @@ fn run_object(
 
 /// Runs a method, if there is one.
 #[cycle(evaluate)]
-#[tactic(auto, using(crate::proofs::Exits::ends), unfolding(crate::specs::Steps::opened_steps))]
+#[tactic(auto, using(ev_room::proofs::Exits::ends), unfolding(crate::specs::Steps::opened_steps))]
 fn run_found(
     program: &Kernel,
     depth: u32,
@@ -542,7 +564,7 @@ fn run_found(
 
 /// Runs a method.
 #[cycle(evaluate)]
-#[tactic(auto, using(crate::proofs::Exits::ends), unfolding(crate::specs::Steps::opened_steps))]
+#[tactic(auto, using(ev_room::proofs::Exits::ends), unfolding(crate::specs::Steps::opened_steps))]
 fn run_node(
     program: &Kernel,
     depth: u32,
@@ -569,7 +591,7 @@ fn run_node(
 
 /// Binds the patterns of a method to the arguments, and evaluates its body.
 #[cycle(evaluate)]
-#[tactic(auto, using(crate::proofs::Exits::ends), unfolding(crate::specs::Steps::opened_steps))]
+#[tactic(auto, using(ev_room::proofs::Exits::ends), unfolding(crate::specs::Steps::opened_steps))]
 fn run_method(
     program: &Kernel,
     depth: u32,
@@ -589,7 +611,7 @@ fn run_method(
 
 /// Evaluates expressions from left to right, each in the scope after the one before.
 #[cycle(evaluate)]
-#[tactic(auto, using(crate::proofs::Exits::ends), unfolding(crate::specs::Steps::opened_steps, crate::specs::Steps::gathered))]
+#[tactic(auto, using(ev_room::proofs::Exits::ends, ev_room::proofs::Fronts::itself_in_front, ev_room::proofs::Fronts::in_front), unfolding(crate::specs::Steps::opened_steps, crate::specs::Steps::gathered))]
 fn gathered(
     program: &Kernel,
     depth: u32,
@@ -598,6 +620,7 @@ fn gathered(
     room: &mut Room,
 ) -> Result<Seq<Value>, Exit>
     ensures outcome { GivesIn result here.new room.new (gathered (evaluator program.now depth) [] parts.now here.old room.old) }
+    ensures front { Extends here.old here.new }
 {
     let mut values = Seq::new(room.alloc);
     for part in parts {
@@ -609,7 +632,7 @@ fn gathered(
 
 /// Evaluates expressions from left to right, and gives the value of the last one, or null where there is none.
 #[cycle(evaluate)]
-#[tactic(auto, using(crate::proofs::Exits::ends), unfolding(crate::specs::Steps::opened_steps, crate::specs::Steps::last_of))]
+#[tactic(auto, using(ev_room::proofs::Exits::ends, ev_room::proofs::Fronts::itself_in_front, ev_room::proofs::Fronts::in_front), unfolding(crate::specs::Steps::opened_steps, crate::specs::Steps::last_of))]
 fn last_of(
     program: &Kernel,
     depth: u32,
@@ -618,24 +641,11 @@ fn last_of(
     room: &mut Room,
 ) -> Result<Value, Exit>
     ensures outcome { GivesIn result here.new room.new (last_of (evaluator program.now depth) Null parts.now here.old room.old) }
+    ensures front { Extends here.old here.new }
 {
     let mut value = Value::Null;
     for part in parts {
         value = evaluate(program, depth, *part, here, room)?;
     }
-    Ok(value)
-}
-
-/// The opening turn: the program is evaluated in an activation of its own.
-#[tactic(auto, using(crate::proofs::Exits::ends), unfolding(crate::specs::Steps::opened_steps))]
-pub fn opening(program: &Kernel, depth: u32, room: &mut Room) -> Result<Value, Exit>
-    ensures outcome { Gives result room.new (opening program.now depth room.old) }
-{
-    let act = new_activation(Value::Null, room)?;
-    let mut here = Scope {
-        act,
-        nouns: Seq::new(room.alloc),
-    };
-    let value = evaluate(program, depth, NodeId(0), &mut here, room)?;
     Ok(value)
 }

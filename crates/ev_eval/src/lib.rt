@@ -2,22 +2,11 @@
 #![tactic(auto)]
 
 pub mod built;
-pub mod call;
-pub mod data;
 pub mod evaluate;
-pub mod exit;
-pub mod nouns;
-pub mod object;
+mod natives;
+mod nodes;
 pub mod pattern;
-pub mod room;
-pub mod scope;
-pub mod slots;
 pub mod turn;
 
 pub use built::is_built;
-pub use exit::Exit;
-pub use room::Room;
 pub use turn::{Ended, Start, new_heap, run_turn};
-
-#[cfg(test)]
-mod tests;

@@ -1,28 +1,20 @@
 //! Binding of patterns.
 
-ghost use Rattle.std.specs.Prelude.{◌≡◌, option_map, slice_get};
-ghost use Rattle.ev_eval.specs.Steps.{Binds, bind_all, bind_final, bind_step, bind_var, evaluator};
+ghost use Rattle.std.specs.Prelude.{◌≡◌};
+ghost use Rattle.ev_eval.specs.Steps.{bind_all, bind_final, bind_step, bind_var, evaluator};
+ghost use Rattle.ev_room.specs.Acts.{Binds, Extends};
 
-use crate::exit::Exit;
-use crate::room::{Room, spend, tell};
-use crate::scope::{Binding, Bound, Scope};
-use crate::slots::new_slot;
 use ev_base::{NodeId, Str, Value};
 use ev_heap::Happened;
 use ev_kernel::{Kernel, Node};
-
-/// The node of a number.
-pub fn node_at(tree: &[Node], id: NodeId) -> Option<&Node>
-    ensures { option_map (λ node. node.now) result ≡ slice_get tree.now id }
-{
-    let Ok(index) = usize::try_from(id.0) else {
-        return None;
-    };
-    tree.get(index)
-}
+use ev_room::exit::Exit;
+use ev_room::room::{Room, spend, tell};
+use ev_room::scope::{Binding, Bound, Scope};
+use ev_room::slots::new_slot;
+use ev_room::tree::node_at;
 
 /// Binds a noun finally to a value.
-#[tactic(auto, using(crate::proofs::Exits::ends), unfolding(crate::specs::Steps::opened_steps))]
+#[tactic(auto, using(ev_room::proofs::Exits::ends, ev_room::proofs::Fronts::itself_in_front, ev_room::proofs::Fronts::more_in_front, ev_room::proofs::Fronts::kept_in_front), unfolding(crate::specs::Steps::opened_steps))]
 fn bind_final(
     noun: &str,
     guard: Option<NodeId>,
@@ -31,6 +23,7 @@ fn bind_final(
     room: &mut Room,
 ) -> Result<(), Exit>
     ensures outcome { Binds result here.new room.new (bind_final noun.now guard value here.old room.old) }
+    ensures front { Extends here.old here.new }
 {
     match guard {
         Some(_) => Err(Exit::Unbuilt),
@@ -46,7 +39,7 @@ fn bind_final(
 }
 
 /// Binds a noun to a new var slot with a value.
-#[tactic(auto, using(crate::proofs::Exits::ends), unfolding(crate::specs::Steps::opened_steps))]
+#[tactic(auto, using(ev_room::proofs::Exits::ends, ev_room::proofs::Fronts::itself_in_front, ev_room::proofs::Fronts::more_in_front, ev_room::proofs::Fronts::kept_in_front), unfolding(crate::specs::Steps::opened_steps))]
 fn bind_var(
     noun: &str,
     guard: Option<NodeId>,
@@ -55,6 +48,7 @@ fn bind_var(
     room: &mut Room,
 ) -> Result<(), Exit>
     ensures outcome { Binds result here.new room.new (bind_var noun.now guard value here.old room.old) }
+    ensures front { Extends here.old here.new }
 {
     match guard {
         Some(_) => Err(Exit::Unbuilt),
@@ -73,9 +67,10 @@ fn bind_var(
 }
 
 /// Binds the names of a pattern to a value.
-#[tactic(auto, using(crate::proofs::Exits::ends), unfolding(crate::specs::Steps::opened_steps))]
+#[tactic(auto, using(ev_room::proofs::Exits::ends, ev_room::proofs::Fronts::itself_in_front), unfolding(crate::specs::Steps::opened_steps))]
 fn bind_step(node: &Node, value: Value, here: &mut Scope, room: &mut Room) -> Result<(), Exit>
     ensures outcome { Binds result here.new room.new (bind_step node.now value here.old room.old) }
+    ensures front { Extends here.old here.new }
 {
     match node {
         Node::Final(noun, guard) => bind_final(noun.as_str(), *guard, value, here, room),
@@ -89,6 +84,9 @@ fn bind_step(node: &Node, value: Value, here: &mut Scope, room: &mut Room) -> Re
         | Node::Call { .. }
         | Node::Sequence(_)
         | Node::If(_, _, _)
+        | Node::Escape { .. }
+        | Node::Try { .. }
+        | Node::Finally(_, _)
         | Node::Hide(_)
         | Node::Object { .. }
         | Node::Method { .. } => Err(Exit::Astray),
@@ -97,7 +95,7 @@ fn bind_step(node: &Node, value: Value, here: &mut Scope, room: &mut Room) -> Re
 }
 
 /// Binds the names of the pattern at a node to a value, at most so many levels deep.
-#[tactic(auto, using(crate::proofs::Depth::pattern_deep, crate::proofs::Depth::pattern_goes, crate::proofs::Exits::ends), unfolding(crate::specs::Steps::opened_steps))]
+#[tactic(auto, using(crate::proofs::Depth::pattern_deep, crate::proofs::Depth::pattern_goes, ev_room::proofs::Exits::ends, ev_room::proofs::Fronts::itself_in_front), unfolding(crate::specs::Steps::opened_steps))]
 pub fn bind(
     program: &Kernel,
     depth: u32,
@@ -107,6 +105,7 @@ pub fn bind(
     room: &mut Room,
 ) -> Result<(), Exit>
     ensures outcome { Binds result here.new room.new ((evaluator program.now depth).pattern id value here.old room.old) }
+    ensures front { Extends here.old here.new }
 {
     if depth == 0 {
         return Err(Exit::Deep);
@@ -119,7 +118,7 @@ pub fn bind(
 }
 
 /// Binds the names of patterns to values, one after another.
-#[tactic(auto, using(crate::proofs::Exits::ends), unfolding(crate::specs::Steps::opened_steps, crate::specs::Steps::bind_all))]
+#[tactic(auto, using(ev_room::proofs::Exits::ends, ev_room::proofs::Fronts::itself_in_front, ev_room::proofs::Fronts::in_front), unfolding(crate::specs::Steps::opened_steps, crate::specs::Steps::bind_all))]
 pub fn bind_all(
     program: &Kernel,
     depth: u32,
@@ -129,6 +128,7 @@ pub fn bind_all(
     room: &mut Room,
 ) -> Result<(), Exit>
     ensures outcome { Binds result here.new room.new (bind_all (evaluator program.now depth) patterns.now values.now here.old room.old) }
+    ensures front { Extends here.old here.new }
 {
     for (index, pattern) in patterns.iter().enumerate() {
         let Some(value) = values.get(index) else {

@@ -3,16 +3,19 @@
 ghost use Rattle.std.specs.Prelude.{◌≡◌, ◌++◌, ◌∷◌, [], true, IfOk, OnOk};
 ghost use Rattle.ev_heap.specs.Contents.{nothing};
 ghost use Rattle.ev_eval.specs.Built.{is_built};
-ghost use Rattle.ev_eval.specs.Reading.{World, all_promises, names, vat_of};
-ghost use Rattle.ev_eval.specs.Sound.{Grown, IsSound, problems};
+ghost use Rattle.ev_room.specs.Reading.{World, all_promises, names, vat_of};
+ghost use Rattle.ev_room.specs.Sound.{Grown, IsSound, problems};
+ghost use Rattle.ev_eval.specs.Steps.{opening};
+ghost use Rattle.ev_room.specs.Acts.{Gives};
 ghost use Rattle.ev_eval.specs.Turn.{Ends, EndsAs, EndsBy, GivesThere, opened};
 
-use crate::evaluate::opening;
-use crate::exit::Exit;
-use crate::room::Room;
-use ev_base::{Limits, Memory, TextId, Value};
+use crate::evaluate::evaluate;
+use ev_base::{Limits, Memory, NodeId, Seq, TextId, Value};
 use ev_heap::{Heap, Micro};
 use ev_kernel::Kernel;
+use ev_room::exit::Exit;
+use ev_room::room::{Room, new_activation};
+use ev_room::scope::Scope;
 use std::alloc::Global;
 use std::mem;
 
@@ -34,7 +37,8 @@ pub enum Ended {
     Fuel,
     /// A node would have begun below the greatest depth.
     Deep,
-    /// The program has a noun that nothing binds, or a number that names no node of its kind.
+    /// The program has a noun that nothing binds, or a number that names no node of its kind, or was left by an ejector
+    /// whose escape it had left.
     Astray,
 }
 
@@ -70,7 +74,7 @@ fn without_value(exit: Exit) -> Result<Ended, Memory>
         Exit::Thrown(id) => Ok(Ended::Thrown(id)),
         Exit::Fuel => Ok(Ended::Fuel),
         Exit::Deep => Ok(Ended::Deep),
-        Exit::Astray | Exit::Unbuilt => Ok(Ended::Astray),
+        Exit::Ejected(_, _) | Exit::Astray | Exit::Unbuilt => Ok(Ended::Astray),
         Exit::Memory => Err(Memory),
     }
 }
@@ -83,6 +87,20 @@ fn ending(outcome: Result<Value, Exit>) -> Result<Ended, Memory>
         Ok(value) => Ok(Ended::Value(value)),
         Err(exit) => without_value(exit),
     }
+}
+
+/// The opening turn: the program is evaluated in an activation of its own.
+#[tactic(auto, using(ev_room::proofs::Exits::ends), unfolding(crate::specs::Steps::opened_steps))]
+fn opening(program: &Kernel, depth: u32, room: &mut Room) -> Result<Value, Exit>
+    ensures outcome { Gives result room.new (opening program.now depth room.old) }
+{
+    let act = new_activation(Value::Null, room)?;
+    let mut here = Scope {
+        act,
+        nouns: Seq::new(room.alloc),
+    };
+    let value = evaluate(program, depth, NodeId(0), &mut here, room)?;
+    Ok(value)
 }
 
 /// Runs the opening turn of a vat whose heap began with the texts of the problems (`new_heap`), and in which only turns of

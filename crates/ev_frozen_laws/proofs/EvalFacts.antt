@@ -1,13 +1,12 @@
 -- What evaluation knows of what it has in hand: guards, scopes, captures, views and replies.
-use Rattle.std.proofs.Common.{◌≡◌, ℕ, zero, suc, Bool, true, false, List, [], ◌∷◌, ◌++◌, Option, Some, None, refl, sym, ap, ◌∙◌, length, map, codes, ◌==◌, inl, inr}
+use Rattle.std.proofs.Common.{◌≡◌, ℕ, zero, suc, Bool, true, false, List, [], ◌∷◌, ◌++◌, Option, Some, None, refl, sym, ap, ◌∙◌, length, map, ◌==◌, inl, inr}
 use Rattle.std.specs.Prelude.{slice_get}
 use Rattle.std.proofs.lemmas.Bool.{eqb-true}
 use Rattle.ev_machine.specs.Values.{Words, Value, Null, Flag, Number, Letter, Text, Prim, Broken, Items, Ref, Naming, Spot, Own, Foreign, NoObject}
 use Rattle.ev_machine.specs.State.{Bound, Fixed, Slot, Binding, Scope, Freedom, IsSafe, IsItself, IsFinal, IsVar, FreeName, View, Thing, Made, Ejector, Audition, Resolver, Vat, Act, look, for_some, give}
 use Rattle.ev_machine.specs.Refs as refs
 use Rattle.ev_machine.specs.Refs.{Place, Near, Mine, Away, Gone}
-use Rattle.ev_machine.specs.Free.{same_words, entry, BoundNoun}
-use Rattle.ev_machine.specs.Free as free
+use Rattle.ev_machine.specs.Free.{same_words}
 use Rattle.ev_machine.specs.Form as form
 use Rattle.ev_machine.specs.Native as native
 use Rattle.ev_machine.specs.Native.{list_at, Reply, Says, Writes, Lists as Listed, Iterates, Fails, Guard, AnyGuard, VoidGuard, IntGuard, BooleanGuard, CharGuard, TextGuard, ListGuard, NullGuard, NearGuard, FrozenGuard, OrNull, Primitive, Guarding, RefTest, IsNear, IsFar, IsResolved, IsBroken, OptProblem, Fulfillment, NoTest, Order, primitive}
@@ -17,10 +16,9 @@ use Rattle.ev_machine.specs.Calls as calls
 use Rattle.ev_machine.specs.Eval as eval
 use Rattle.ev_machine.specs.Scopes.{meets, frozen_guard, freezes, any_guard, AuditionAsk, ResolverAsk}
 use Rattle.ev_kernel.specs.declared.node.Node.{Node}
-use Rattle.ev_kernel.specs.declared.node.Node.TheVariants.{Lit, Noun, Set, Def, Call, Sequence, If, Escape, Try, Finally, Hide, MatchBind, Object, Method, Matcher, Final, Var, Any, ListPattern, Via}
 use Rattle.ev_kernel.specs.declared.node.Literal.{Literal}
 use Rattle.ev_kernel.specs.declared.node.Literal.TheVariants as literal
-use Rattle.ev_frozen_laws.specs.Frozen.{AllOf, IsAmong, Lists, IsThere, AreThere, FreedomThere, HasNoName, BearsFrozen, IsFrozen, BoundWell, NounWell, NamesWell, TreeWell, Sound, deep_frozen}
+use Rattle.ev_frozen_laws.specs.Frozen.{AllOf, IsAmong, Lists, IsThere, AreThere, FreedomThere, HasNoName, BearsFrozen, IsFrozen, BoundWell, NounWell, Sound, deep_frozen}
 use Rattle.ev_frozen_laws.proofs.Fine.{Keeper, MayBe, Fact, IsValue, AreValues, AreLists, IsBound, AreNouns, IsView, MayValue, MayBound, IsReply, IsAsked, IsAuditionAsk, IsResolverAsk, ReplyThere, AuditionAskThere, ResolverAskThere, Gets, Fine, fine_sees, fine_give}
 use Rattle.ev_frozen_laws.proofs.Looks.{get_all, follow_there}
 use Rattle.ev_frozen_laws.proofs.Facts.{all_append}
@@ -49,7 +47,7 @@ same_is [] (b ∷ bs) e = absurd (false_true e)
 same_is (a ∷ as') [] e = absurd (false_true e)
 same_is (a ∷ as') (b ∷ bs) e = same_cons (a == b) a b as' bs (nat_same a b) (same_is as' bs) e
 
-module _ {N W : Type 0} (K : Naming N W) (strict : Bool) where
+module _ {N W : Type 0} (K : Naming N W) where
   plain_list : (ls : Lists N) (d k : ℕ) (vs : List (Value N)) → slice_get ls k ≡ Some vs → list_at ls k ≡ vs
   unfolding list_at
   plain_list ls d k vs e = rw (e, list_at) refl
@@ -125,41 +123,37 @@ module _ {N W : Type 0} (K : Naming N W) (strict : Bool) where
   under g (Some v) = Some (Fixed v g)
   under g None = None
 
-  bound_taken : (ts : List (Thing N)) (ls : Lists N) (n : ℕ) (g : Guard) → primitive n ≡ Guarding g → (o : Option (Value N)) → MayBe (Taken ts ls g) o → MayBe (BoundWell K strict ts ls) (under (Prim n) o)
+  bound_taken : (ts : List (Thing N)) (ls : Lists N) (n : ℕ) (g : Guard) → primitive n ≡ Guarding g → (o : Option (Value N)) → MayBe (Taken ts ls g) o → MayBe (BoundWell K ts ls) (under (Prim n) o)
   unfolding scopes.frozen_guard
-  bound_taken ts ls n g e (Some v) h = (h.0, tt, λ p d. h.1 (sym (ap freezes e) ∙ d))
+  bound_taken ts ls n g e (Some v) h = (h.0, tt, λ d. h.1 (sym (ap freezes e) ∙ d))
   bound_taken ts ls n g e None h = tt
 
   value_taken : (ts : List (Thing N)) (ls : Lists N) (g : Guard) (o : Option (Value N)) → MayBe (Taken ts ls g) o → MayBe (IsThere ls) o
   value_taken ts ls g (Some v) h = h.0
   value_taken ts ls g None h = tt
 
-  pub some_bound : (M : Keeper K strict) → {C : Fact N} (g : Value N) (o : Option (Value N)) {m : Act N (Value N)} → Gets K strict C (MayBound (under g o)) → Fine K strict M C m (λ v. IsBound (Fixed v g)) → Fine K strict M C (for_some o give m) (λ v. IsBound (Fixed v g))
+  pub some_bound : (M : Keeper K) → {C : Fact N} (g : Value N) (o : Option (Value N)) {m : Act N (Value N)} → Gets K C (MayBound (under g o)) → Fine K M C m (λ v. IsBound (Fixed v g)) → Fine K M C (for_some o give m) (λ v. IsBound (Fixed v g))
   unfolding for_some
-  some_bound M g (Some v) i h = fine_give K strict M v (record { at = λ ts ls c. i.at ts ls c })
+  some_bound M g (Some v) i h = fine_give K M v (record { at = λ ts ls c. i.at ts ls c })
   some_bound M g None i h = h
 
-  bound_either : (ts : List (Thing N)) (ls : Lists N) (b : Binding N) (o : Option (Bound N)) (x : Words) (c : Bool) → same_words b.noun x ≡ c → NounWell K strict ts ls b
-      → MayBe (λ b. BoundWell K strict ts ls b × (strict ≡ true → same_words x (codes "_") ≡ false)) o → MayBe (λ b. BoundWell K strict ts ls b × (strict ≡ true → same_words x (codes "_") ≡ false)) (elim c [ true ↦ Some b.bound | false ↦ o ])
-  bound_either ts ls b o x true e h i = (h.1, rw (same_is b.noun x e) at h.0)
+  bound_either : (ts : List (Thing N)) (ls : Lists N) (b : Binding N) (o : Option (Bound N)) (x : Words) (c : Bool) → same_words b.noun x ≡ c → NounWell K ts ls b
+      → MayBe (BoundWell K ts ls) o → MayBe (BoundWell K ts ls) (elim c [ true ↦ Some b.bound | false ↦ o ])
+  bound_either ts ls b o x true e h i = h
   bound_either ts ls b o x false e h i = i
 
-  pub bound_well : (ts : List (Thing N)) (ls : Lists N) (ns : List (Binding N)) (x : Words) → AllOf (NounWell K strict ts ls) ns → MayBe (λ b. BoundWell K strict ts ls b × (strict ≡ true → same_words x (codes "_") ≡ false)) (scopes.bound_in ns x)
+  pub bound_well : (ts : List (Thing N)) (ls : Lists N) (ns : List (Binding N)) (x : Words) → AllOf (NounWell K ts ls) ns → MayBe (BoundWell K ts ls) (scopes.bound_in ns x)
   unfolding scopes.bound_in
   bound_well ts ls [] x h = tt
   bound_well ts ls (b ∷ bs) x h = bound_either ts ls b (scopes.bound_in bs x) x (same_words b.noun x) refl h.0 (bound_well ts ls bs x h.1)
 
-  may_first : (ts : List (Thing N)) (ls : Lists N) (P : Type 0) (o : Option (Bound N)) → MayBe (λ b. BoundWell K strict ts ls b × P) o → MayBe (BoundWell K strict ts ls) o
-  may_first ts ls P (Some b) h = h.0
-  may_first ts ls P None h = tt
+  pub got_bound_in : (C : Fact N) (ns : List (Binding N)) (x : Words) → Gets K C (AreNouns ns) → Gets K C (MayBound (scopes.bound_in ns x))
+  got_bound_in C ns x g = record { at = λ ts ls c. bound_well ts ls ns x (g.at ts ls c) }
 
-  pub got_bound_in : (C : Fact N) (ns : List (Binding N)) (x : Words) → Gets K strict C (AreNouns ns) → Gets K strict C (MayBound (scopes.bound_in ns x))
-  got_bound_in C ns x g = record { at = λ ts ls c. may_first ts ls _ (scopes.bound_in ns x) (bound_well ts ls ns x (g.at ts ls c)) }
+  pub got_noun : (C : Fact N) (x : Words) (b : Bound N) (ns : List (Binding N)) → Gets K C (IsBound b) → Gets K C (AreNouns ns) → Gets K C (AreNouns (record { noun = x; bound = b } ∷ ns))
+  got_noun C x b ns g h = record { at = λ ts ls c. (g.at ts ls c, h.at ts ls c) }
 
-  pub got_noun : (C : Fact N) (x : Words) (b : Bound N) (ns : List (Binding N)) → (strict ≡ true → same_words x (codes "_") ≡ false) → Gets K strict C (IsBound b) → Gets K strict C (AreNouns ns) → Gets K strict C (AreNouns (record { noun = x; bound = b } ∷ ns))
-  got_noun C x b ns e g h = record { at = λ ts ls c. ((e, g.at ts ls c), h.at ts ls c) }
-
-  pub got_slot : (C : Fact N) (k : ℕ) → Gets K strict C (IsBound (Slot k))
+  pub got_slot : (C : Fact N) (k : ℕ) → Gets K C (IsBound (Slot k))
   got_slot C k = record { at = λ ts ls c. tt }
 
   audition_there : (ls : Lists N) (verb : Words) (args : List (Value N)) → AreThere ls args → AuditionAskThere ls (scopes.audition_ask verb args)
@@ -180,16 +174,16 @@ module _ {N W : Type 0} (K : Naming N W) (strict : Bool) where
   ejector_there ls verb (x ∷ []) h = entry_has (MayBe (IsThere ls)) _ _ verb (h.0, tt) tt
   ejector_there ls verb (x ∷ y ∷ ys) h = tt
 
-  pub got_asked : (C : Fact N) (p : Primitive) (verb : Words) (args : List (Value N)) → Gets K strict C (AreValues args) → Gets K strict C (IsAsked (native.asked p verb args))
+  pub got_asked : (C : Fact N) (p : Primitive) (verb : Words) (args : List (Value N)) → Gets K C (AreValues args) → Gets K C (IsAsked (native.asked p verb args))
   got_asked C p verb args g = record { at = λ ts ls c. asked_there ls p verb args (g.at ts ls c) }
 
-  pub got_audition_ask : (C : Fact N) (verb : Words) (args : List (Value N)) → Gets K strict C (AreValues args) → Gets K strict C (IsAuditionAsk (scopes.audition_ask verb args))
+  pub got_audition_ask : (C : Fact N) (verb : Words) (args : List (Value N)) → Gets K C (AreValues args) → Gets K C (IsAuditionAsk (scopes.audition_ask verb args))
   got_audition_ask C verb args g = record { at = λ ts ls c. audition_there ls verb args (g.at ts ls c) }
 
-  pub got_resolver_ask : (C : Fact N) (verb : Words) (args : List (Value N)) → Gets K strict C (AreValues args) → Gets K strict C (IsResolverAsk (scopes.resolver_ask verb args))
+  pub got_resolver_ask : (C : Fact N) (verb : Words) (args : List (Value N)) → Gets K C (AreValues args) → Gets K C (IsResolverAsk (scopes.resolver_ask verb args))
   got_resolver_ask C verb args g = record { at = λ ts ls c. resolver_there ls verb args (g.at ts ls c) }
 
-  pub got_ejector_ask : (C : Fact N) (verb : Words) (args : List (Value N)) → Gets K strict C (AreValues args) → Gets K strict C (MayValue (scopes.ejector_ask verb args))
+  pub got_ejector_ask : (C : Fact N) (verb : Words) (args : List (Value N)) → Gets K C (AreValues args) → Gets K C (MayValue (scopes.ejector_ask verb args))
   got_ejector_ask C verb args g = record { at = λ ts ls c. ejector_there ls verb args (g.at ts ls c) }
 
   literal_there : (ls : Lists N) (l : Literal) → IsThere ls (form.literal_value {N = N} l)
@@ -198,42 +192,42 @@ module _ {N W : Type 0} (K : Naming N W) (strict : Bool) where
   literal_there ls (literal.Char c) = tt
   literal_there ls (literal.Text t) = tt
 
-  pub got_literal : (C : Fact N) (l : Literal) → Gets K strict C (IsValue (form.literal_value l))
+  pub got_literal : (C : Fact N) (l : Literal) → Gets K C (IsValue (form.literal_value l))
   got_literal C l = record { at = λ ts ls c. literal_there ls l }
 
   safe_there : (ls : Lists N) (x : Words) → MayBe (IsThere ls) (native.safe_value {N = N} x)
   unfolding native.safe_value
   safe_there ls x = entry_has (MayBe (IsThere ls)) _ _ x (tt, (tt, (tt, (tt, (tt, (tt, (tt, (tt, (tt, (tt, (tt, (tt, (tt, (tt, (tt, (tt, (tt, (tt, (tt, (tt, (tt, tt))))))))))))))))))))) tt
 
-  pub got_safe : (C : Fact N) (x : Words) → Gets K strict C (MayValue (native.safe_value x))
+  pub got_safe : (C : Fact N) (x : Words) → Gets K C (MayValue (native.safe_value x))
   got_safe C x = record { at = λ ts ls c. safe_there ls x }
 
-  pub got_any : (C : Fact N) → Gets K strict C (IsValue any_guard)
+  pub got_any : (C : Fact N) → Gets K C (IsValue any_guard)
   unfolding any_guard
   got_any C = record { at = λ ts ls c. tt }
 
-  pub got_under_any : (C : Fact N) (v : Value N) → Gets K strict C (IsValue v) → Gets K strict C (IsBound (Fixed v any_guard))
+  pub got_under_any : (C : Fact N) (v : Value N) → Gets K C (IsValue v) → Gets K C (IsBound (Fixed v any_guard))
   unfolding any_guard scopes.frozen_guard scopes.freezes primitive native.numbered native.primitives
-  got_under_any C v g = record { at = λ ts ls c. (g.at ts ls c, tt, λ p e. absurd (false_true e)) }
+  got_under_any C v g = record { at = λ ts ls c. (g.at ts ls c, tt, λ e. absurd (false_true e)) }
 
-  pub got_unguarded : (v : Value N) (n : N) → Gets K strict (IsValue v) (IsBound (Fixed v (Ref n)))
+  pub got_unguarded : (v : Value N) (n : N) → Gets K (IsValue v) (IsBound (Fixed v (Ref n)))
   unfolding scopes.frozen_guard
-  got_unguarded v n = record { at = λ ts ls c. (c, tt, λ p e. absurd (false_true e)) }
+  got_unguarded v n = record { at = λ ts ls c. (c, tt, λ e. absurd (false_true e)) }
 
-  pub got_of_bound : (v g : Value N) → Gets K strict (IsBound (Fixed v g)) (IsValue v)
+  pub got_of_bound : (v g : Value N) → Gets K (IsBound (Fixed v g)) (IsValue v)
   got_of_bound v g = record { at = λ ts ls c. c.0 }
 
-  freedom_bound_there : (ts : List (Thing N)) (ls : Lists N) (o : Option (Bound N)) (x : Words) → MayBe (BoundWell K strict ts ls) o → FreedomThere ls (scopes.freedom_of_bound o x)
+  freedom_bound_there : (ts : List (Thing N)) (ls : Lists N) (o : Option (Bound N)) (x : Words) → MayBe (BoundWell K ts ls) o → FreedomThere ls (scopes.freedom_of_bound o x)
   unfolding scopes.freedom_of_bound
   freedom_bound_there ts ls (Some (Fixed v g)) x h = h.1
   freedom_bound_there ts ls (Some (Slot k)) x h = tt
   freedom_bound_there ts ls None x h = tt
 
-  freedom_there : (ts : List (Thing N)) (ls : Lists N) (own : Words) (ns : List (Binding N)) (x : Words) → AllOf (NounWell K strict ts ls) ns → FreedomThere ls (scopes.freedom_of own ns x)
+  freedom_there : (ts : List (Thing N)) (ls : Lists N) (own : Option Words) (ns : List (Binding N)) (x : Words) → AllOf (NounWell K ts ls) ns → FreedomThere ls (scopes.freedom_of own ns x)
   unfolding scopes.freedom_of
-  freedom_there ts ls own ns x h = either_has (FreedomThere ls) (same_words own x) IsItself (scopes.freedom_of_bound (scopes.bound_in ns x) x) tt (freedom_bound_there ts ls (scopes.bound_in ns x) x (may_first ts ls _ (scopes.bound_in ns x) (bound_well ts ls ns x h)))
+  freedom_there ts ls own ns x h = either_has (FreedomThere ls) (scopes.is_own own x) IsItself (scopes.freedom_of_bound (scopes.bound_in ns x) x) tt (freedom_bound_there ts ls (scopes.bound_in ns x) x (bound_well ts ls ns x h))
 
-  free_there : (ts : List (Thing N)) (ls : Lists N) (own : Words) (ns : List (Binding N)) (xs : List Words) → AllOf (NounWell K strict ts ls) ns → AllOf (λ (f : FreeName N). FreedomThere ls f.freedom) (scopes.free_names own ns xs)
+  free_there : (ts : List (Thing N)) (ls : Lists N) (own : Option Words) (ns : List (Binding N)) (xs : List Words) → AllOf (NounWell K ts ls) ns → AllOf (λ (f : FreeName N). FreedomThere ls f.freedom) (scopes.free_names own ns xs)
   unfolding scopes.free_names
   free_there ts ls own ns [] h = tt
   free_there ts ls own ns (x ∷ xs) h = (freedom_there ts ls own ns x h, free_there ts ls own ns xs h)
@@ -262,73 +256,32 @@ module _ {N W : Type 0} (K : Naming N W) (strict : Bool) where
   guard_asked_there ls fs (Items k) h = tt
   guard_asked_there ls fs (Ref n) h = tt
 
-  pub look_guard : (M : Keeper K strict) → {C : Fact N} (view : View N) (x : Value N) → Gets K strict C (IsView view) → Fine K strict M C (look (λ s. scopes.guard_asked view.free (refs.follow K s x))) IsReply
-  look_guard M view x g = fine_sees K strict M (λ s. scopes.guard_asked view.free (refs.follow K s x)) IsReply (λ s h c. guard_asked_there s.lists view.free (refs.follow K s x) (g.at s.things s.lists c))
+  pub look_guard : (M : Keeper K) → {C : Fact N} (view : View N) (x : Value N) → Gets K C (IsView view) → Fine K M C (look (λ s. scopes.guard_asked view.free (refs.follow K s x))) IsReply
+  look_guard M view x g = fine_sees K M (λ s. scopes.guard_asked view.free (refs.follow K s x)) IsReply (λ s h c. guard_asked_there s.lists view.free (refs.follow K s x) (g.at s.things s.lists c))
 
-  follows_there : (s : Vat N) → Sound K strict s → (xs : List (Value N)) → AreThere s.lists xs → AreThere s.lists (map (refs.follow K s) xs)
+  follows_there : (s : Vat N) → Sound K s → (xs : List (Value N)) → AreThere s.lists xs → AreThere s.lists (map (refs.follow K s) xs)
   follows_there s h [] i = tt
-  follows_there s h (x ∷ xs) i = (follow_there K strict s h x i.0, follows_there s h xs i.1)
+  follows_there s h (x ∷ xs) i = (follow_there K s h x i.0, follows_there s h xs i.1)
 
-  pub look_data : (M : Keeper K strict) → {C : Fact N} (y : Value N) (verb : Words) (args : List (Value N)) → Gets K strict C (AreValues args) → Fine K strict M C (look (λ s. native.data_reply s.lists y verb args (map (refs.follow K s) args))) IsReply
-  look_data M y verb args g = fine_sees K strict M (λ s. native.data_reply s.lists y verb args (map (refs.follow K s) args)) IsReply (λ s h c. data_there s.lists s.lists h.lists y verb args (map (refs.follow K s) args) (g.at s.things s.lists c))
+  pub look_data : (M : Keeper K) → {C : Fact N} (y : Value N) (verb : Words) (args : List (Value N)) → Gets K C (AreValues args) → Fine K M C (look (λ s. native.data_reply s.lists y verb args (map (refs.follow K s) args))) IsReply
+  look_data M y verb args g = fine_sees K M (λ s. native.data_reply s.lists y verb args (map (refs.follow K s) args)) IsReply (λ s h c. data_there s.lists s.lists h.lists y verb args (map (refs.follow K s) args) (g.at s.things s.lists c))
 
-  pub look_range : (M : Keeper K strict) → {C : Fact N} (last : Bool) (a b : Value N) → Fine K strict M C (look (λ s. native.range_reply last (refs.follow K s a) (refs.follow K s b))) IsReply
-  look_range M last a b = fine_sees K strict M (λ s. native.range_reply last (refs.follow K s a) (refs.follow K s b)) IsReply (λ s h c. range_there s.lists last (refs.follow K s a) (refs.follow K s b))
+  pub look_range : (M : Keeper K) → {C : Fact N} (last : Bool) (a b : Value N) → Fine K M C (look (λ s. native.range_reply last (refs.follow K s a) (refs.follow K s b))) IsReply
+  look_range M last a b = fine_sees K M (λ s. native.range_reply last (refs.follow K s a) (refs.follow K s b)) IsReply (λ s h c. range_there s.lists last (refs.follow K s a) (refs.follow K s b))
 
-  pub look_compared : (M : Keeper K strict) → {C : Fact N} (test : Order → Bool) (a b : Value N) → Fine K strict M C (look (λ s. native.compared test (native.value_order (refs.follow K s a) (refs.follow K s b)))) IsReply
-  look_compared M test a b = fine_sees K strict M (λ s. native.compared test (native.value_order (refs.follow K s a) (refs.follow K s b))) IsReply (λ s h c. compared_there s.lists test _)
+  pub look_compared : (M : Keeper K) → {C : Fact N} (test : Order → Bool) (a b : Value N) → Fine K M C (look (λ s. native.compared test (native.value_order (refs.follow K s a) (refs.follow K s b)))) IsReply
+  look_compared M test a b = fine_sees K M (λ s. native.compared test (native.value_order (refs.follow K s a) (refs.follow K s b))) IsReply (λ s h c. compared_there s.lists test _)
 
-  pub look_null_or : (M : Keeper K strict) → {C : Fact N} (x : Value N) → Fine K strict M C (look (λ s. native.null_or_reply (refs.follow K s x))) IsReply
-  look_null_or M x = fine_sees K strict M (λ s. native.null_or_reply (refs.follow K s x)) IsReply (λ s h c. null_reply_there s.lists (refs.follow K s x))
+  pub look_null_or : (M : Keeper K) → {C : Fact N} (x : Value N) → Fine K M C (look (λ s. native.null_or_reply (refs.follow K s x))) IsReply
+  look_null_or M x = fine_sees K M (λ s. native.null_or_reply (refs.follow K s x)) IsReply (λ s h c. null_reply_there s.lists (refs.follow K s x))
 
-  pub got_lists : (C : Fact N) (fs : Lists N) → Gets K strict C (AreLists fs) → Gets K strict C (AreLists ([] ∷ fs))
+  pub got_lists : (C : Fact N) (fs : Lists N) → Gets K C (AreLists fs) → Gets K C (AreLists ([] ∷ fs))
   got_lists C fs h = record { at = λ ts ls c. (tt, h.at ts ls c) }
 
-  pub got_no_lists : (C : Fact N) → Gets K strict C (AreLists [])
+  pub got_no_lists : (C : Fact N) → Gets K C (AreLists [])
   got_no_lists C = record { at = λ ts ls c. tt }
 
-  abbrev Named : BoundNoun → Type 0
-  Named b = same_words b.noun (codes "_") ≡ false
-
-  all_of_named : (rec : free.Binder) → ((e : ℕ) → AllOf Named (rec e)) → (es : List ℕ) → AllOf Named (free.of_all rec es)
-  unfolding free.of_all
-  all_of_named rec h [] = tt
-  all_of_named rec h (e ∷ es) = all_append Named (rec e) (free.of_all rec es) (h e) (all_of_named rec h es)
-
-  option_named : (rec : free.Binder) → ((e : ℕ) → AllOf Named (rec e)) → (o : Option ℕ) → AllOf Named (free.of_option rec o)
-  unfolding free.of_option
-  option_named rec h None = tt
-  option_named rec h (Some e) = h e
-
-  node_named : (rec : free.Binder) → ((e : ℕ) → AllOf Named (rec e)) → (n : Node) → NamesWell n → AllOf Named (free.of_node rec n)
-  unfolding free.of_node
-  node_named rec h (Set x e) w = h e
-  node_named rec h (Def p j e) w = three Named (rec p) (free.of_option rec j) (rec e) (h p) (option_named rec h j) (h e)
-  node_named rec h (Call r v es) w = all_append Named (rec r) (free.of_all rec es) (h r) (all_of_named rec h es)
-  node_named rec h (Sequence es) w = all_of_named rec h es
-  node_named rec h (MatchBind e p) w = all_append Named (rec e) (rec p) (h e) (h p)
-  node_named rec h (Object p auditors members) w = all_append Named (rec p) (free.of_all rec auditors) (h p) (all_of_named rec h auditors)
-  node_named rec h (Final x g) w = (w, option_named rec h g)
-  node_named rec h (Var x g) w = (w, option_named rec h g)
-  node_named rec h (Any g) w = option_named rec h g
-  node_named rec h (ListPattern ps) w = all_of_named rec h ps
-  node_named rec h (Via e p) w = all_append Named (rec e) (rec p) (h e) (h p)
-  node_named rec h (Lit l) w = tt
-  node_named rec h (Noun x) w = tt
-  node_named rec h (If a b c) w = tt
-  node_named rec h (Escape a b c) w = tt
-  node_named rec h (Try a b c) w = tt
-  node_named rec h (Finally a b) w = tt
-  node_named rec h (Hide a) w = tt
-  node_named rec h (Method v ps b) w = tt
-  node_named rec h (Matcher p b) w = tt
-
-  found_named : (rec : free.Binder) → ((e : ℕ) → AllOf Named (rec e)) → (o : Option Node) → MayBe NamesWell o → AllOf Named (free.of_found rec o)
-  unfolding free.of_found
-  found_named rec h None w = tt
-  found_named rec h (Some n) w = node_named rec h n w
-
-module _ {N W : Type 0} (K : Naming N W) (strict : Bool) (tree : List Node) where
+module _ {N W : Type 0} (K : Naming N W) (tree : List Node) where
   stamp_among : (stamps : List (Value N)) → perform.has_stamp K tree deep_frozen stamps ≡ true → IsAmong deep_frozen stamps
   unfolding perform.has_stamp perform.same_stamp
   stamp_among [] e = absurd (false_true e)
@@ -360,7 +313,7 @@ module _ {N W : Type 0} (K : Naming N W) (strict : Bool) (tree : List Node) wher
   spot_frozen s n (Foreign w) e h = absurd (false_true h)
   spot_frozen s n NoObject e h = absurd (false_true h)
 
-  frozen_from : (s : Vat N) → Sound K strict s → (y : Value N) → IsThere s.lists y → perform.is_frozen K tree s y ≡ true → IsFrozen K s.things s.lists y
+  frozen_from : (s : Vat N) → Sound K s → (y : Value N) → IsThere s.lists y → perform.is_frozen K tree s y ≡ true → IsFrozen K s.things s.lists y
   unfolding perform.is_frozen perform.is_stamped refs.highest
   frozen_from s h Null i e = tt
   frozen_from s h (Flag b) i e = tt
@@ -369,43 +322,43 @@ module _ {N W : Type 0} (K : Naming N W) (strict : Bool) (tree : List Node) wher
   frozen_from s h (Text t) i e = tt
   frozen_from s h (Prim n) i e = tt
   frozen_from s h (Broken p) i e = tt
-  frozen_from s h (Items k) i e = plain_from K strict s.lists 100 (Items k) h.lists i e
+  frozen_from s h (Items k) i e = plain_from K s.lists 100 (Items k) h.lists i e
   frozen_from s h (Ref n) i e = spot_frozen s n (K.spot n) refl e
 
-  pub taken_well : (s : Vat N) → Sound K strict s → (g : Guard) (x y : Value N) → IsThere s.lists x → IsThere s.lists y → MayBe (Taken K strict s.things s.lists g) (perform.taken K tree s g x y)
+  pub taken_well : (s : Vat N) → Sound K s → (g : Guard) (x y : Value N) → IsThere s.lists x → IsThere s.lists y → MayBe (Taken K s.things s.lists g) (perform.taken K tree s g x y)
   unfolding perform.taken scopes.freezes scopes.is_int scopes.is_boolean scopes.is_char scopes.is_text scopes.is_list scopes.is_null
   taken_well s h AnyGuard x y i j = (i, λ e. absurd (false_true e))
   taken_well s h VoidGuard x y i j = (tt, λ e. tt)
-  taken_well s h IntGuard x y i j = where_taken K strict _ (scopes.is_int y) y (λ e. (j, λ d. data_frozen K strict s.things s.lists scopes.is_int (λ k. refl) (λ n. refl) y e))
-  taken_well s h BooleanGuard x y i j = where_taken K strict _ (scopes.is_boolean y) y (λ e. (j, λ d. data_frozen K strict s.things s.lists scopes.is_boolean (λ k. refl) (λ n. refl) y e))
-  taken_well s h CharGuard x y i j = where_taken K strict _ (scopes.is_char y) y (λ e. (j, λ d. data_frozen K strict s.things s.lists scopes.is_char (λ k. refl) (λ n. refl) y e))
-  taken_well s h TextGuard x y i j = where_taken K strict _ (scopes.is_text y) y (λ e. (j, λ d. data_frozen K strict s.things s.lists scopes.is_text (λ k. refl) (λ n. refl) y e))
-  taken_well s h ListGuard x y i j = where_taken K strict _ (scopes.is_list y) y (λ e. (j, λ d. absurd (false_true d)))
-  taken_well s h NullGuard x y i j = where_taken K strict _ (scopes.is_null y) y (λ e. (j, λ d. absurd (false_true d)))
-  taken_well s h NearGuard x y i j = where_taken K strict _ (scopes.is_near (refs.place K s y)) y (λ e. (j, λ d. absurd (false_true d)))
-  taken_well s h FrozenGuard x y i j = where_taken K strict _ (perform.is_frozen K tree s y) y (λ e. (j, λ d. frozen_from s h y j e))
-  taken_well s h (OrNull g) x y i j = by_null K strict _ (scopes.is_null y) (perform.taken K tree s g x y) (tt, λ e. absurd (false_true e)) (there_of K strict s.things s.lists g (OrNull g) (perform.taken K tree s g x y) (λ e. false_true e) (taken_well s h g x y i j))
+  taken_well s h IntGuard x y i j = where_taken K _ (scopes.is_int y) y (λ e. (j, λ d. data_frozen K s.things s.lists scopes.is_int (λ k. refl) (λ n. refl) y e))
+  taken_well s h BooleanGuard x y i j = where_taken K _ (scopes.is_boolean y) y (λ e. (j, λ d. data_frozen K s.things s.lists scopes.is_boolean (λ k. refl) (λ n. refl) y e))
+  taken_well s h CharGuard x y i j = where_taken K _ (scopes.is_char y) y (λ e. (j, λ d. data_frozen K s.things s.lists scopes.is_char (λ k. refl) (λ n. refl) y e))
+  taken_well s h TextGuard x y i j = where_taken K _ (scopes.is_text y) y (λ e. (j, λ d. data_frozen K s.things s.lists scopes.is_text (λ k. refl) (λ n. refl) y e))
+  taken_well s h ListGuard x y i j = where_taken K _ (scopes.is_list y) y (λ e. (j, λ d. absurd (false_true d)))
+  taken_well s h NullGuard x y i j = where_taken K _ (scopes.is_null y) y (λ e. (j, λ d. absurd (false_true d)))
+  taken_well s h NearGuard x y i j = where_taken K _ (scopes.is_near (refs.place K s y)) y (λ e. (j, λ d. absurd (false_true d)))
+  taken_well s h FrozenGuard x y i j = where_taken K _ (perform.is_frozen K tree s y) y (λ e. (j, λ d. frozen_from s h y j e))
+  taken_well s h (OrNull g) x y i j = by_null K _ (scopes.is_null y) (perform.taken K tree s g x y) (tt, λ e. absurd (false_true e)) (there_of K s.things s.lists g (OrNull g) (perform.taken K tree s g x y) (λ e. false_true e) (taken_well s h g x y i j))
 
-  pub look_taken : (M : Keeper K strict) → {C : Fact N} (g : Guard) (x : Value N) → Gets K strict C (IsValue x) → Fine K strict M C (look (λ s. perform.taken K tree s g x (refs.follow K s x))) MayValue
-  look_taken M g x k = fine_sees K strict M (λ s. perform.taken K tree s g x (refs.follow K s x)) MayValue (λ s h c. value_taken K strict s.things s.lists g _ (taken_well s h g x (refs.follow K s x) (k.at s.things s.lists c) (follow_there K strict s h x (k.at s.things s.lists c))))
+  pub look_taken : (M : Keeper K) → {C : Fact N} (g : Guard) (x : Value N) → Gets K C (IsValue x) → Fine K M C (look (λ s. perform.taken K tree s g x (refs.follow K s x))) MayValue
+  look_taken M g x k = fine_sees K M (λ s. perform.taken K tree s g x (refs.follow K s x)) MayValue (λ s h c. value_taken K s.things s.lists g _ (taken_well s h g x (refs.follow K s x) (k.at s.things s.lists c) (follow_there K s h x (k.at s.things s.lists c))))
 
-  pub look_bound : (M : Keeper K strict) → {C : Fact N} (n : ℕ) (g : Guard) → primitive n ≡ Guarding g → (x : Value N) → Gets K strict C (IsValue x) → Fine K strict M C (look (λ s. perform.taken K tree s g x (refs.follow K s x))) (λ o. MayBound (under K strict (Prim n) o))
-  look_bound M n g e x k = fine_sees K strict M (λ s. perform.taken K tree s g x (refs.follow K s x)) (λ o. MayBound (under K strict (Prim n) o)) (λ s h c. bound_taken K strict s.things s.lists n g e _ (taken_well s h g x (refs.follow K s x) (k.at s.things s.lists c) (follow_there K strict s h x (k.at s.things s.lists c))))
+  pub look_bound : (M : Keeper K) → {C : Fact N} (n : ℕ) (g : Guard) → primitive n ≡ Guarding g → (x : Value N) → Gets K C (IsValue x) → Fine K M C (look (λ s. perform.taken K tree s g x (refs.follow K s x))) (λ o. MayBound (under K (Prim n) o))
+  look_bound M n g e x k = fine_sees K M (λ s. perform.taken K tree s g x (refs.follow K s x)) (λ o. MayBound (under K (Prim n) o)) (λ s h c. bound_taken K s.things s.lists n g e _ (taken_well s h g x (refs.follow K s x) (k.at s.things s.lists c) (follow_there K s h x (k.at s.things s.lists c))))
 
-  pub got_no_match : (C : Fact N) → Gets K strict C (IsValue (eval.no_match K tree))
+  pub got_no_match : (C : Fact N) → Gets K C (IsValue (eval.no_match K tree))
   unfolding eval.no_match
   got_no_match C = record { at = λ ts ls c. tt }
 
-  pub got_view : (C : Fact N) (node : ℕ) (p : Option Node) (xs : List Words) (here : Scope N) → Gets K strict C (AreNouns here.nouns) → Gets K strict C (IsView (calls.view_of K tree node p xs here))
+  pub got_view : (C : Fact N) (node : ℕ) (p : Option Node) (xs : List Words) (here : Scope N) → Gets K C (AreNouns here.nouns) → Gets K C (IsView (calls.view_of K tree node p xs here))
   unfolding calls.view_of
-  got_view C node p xs here g = record { at = λ ts ls c. free_there K strict ts ls (scopes.name_of p) here.nouns xs (g.at ts ls c) }
+  got_view C node p xs here g = record { at = λ ts ls c. free_there K ts ls (scopes.own_noun p) here.nouns xs (g.at ts ls c) }
 
   same_there : (s : Vat N) (a b : Value N) → ReplyThere s.lists (perform.same_reply K tree s a b)
   unfolding perform.same_reply
   same_there s a b = either_has (ReplyThere s.lists) (refs.any_of K (perform.is_open K tree (length s.lists) s) (a ∷ b ∷ [])) _ _ tt tt
 
-  pub look_same : (M : Keeper K strict) → {C : Fact N} (a b : Value N) → Fine K strict M C (look (λ s. perform.same_reply K tree s a b)) IsReply
-  look_same M a b = fine_sees K strict M (λ s. perform.same_reply K tree s a b) IsReply (λ s h c. same_there s a b)
+  pub look_same : (M : Keeper K) → {C : Fact N} (a b : Value N) → Fine K M C (look (λ s. perform.same_reply K tree s a b)) IsReply
+  look_same M a b = fine_sees K M (λ s. perform.same_reply K tree s a b) IsReply (λ s h c. same_there s a b)
 
   broken_there : (ls : Lists N) (x : Value N) → ReplyThere ls (perform.broken_text K tree x)
   unfolding perform.broken_text
@@ -419,8 +372,8 @@ module _ {N W : Type 0} (K : Naming N W) (strict : Bool) (tree : List Node) wher
   broken_there ls (Items k) = tt
   broken_there ls (Ref n) = tt
 
-  pub look_broken : (M : Keeper K strict) → {C : Fact N} (x : Value N) → Fine K strict M C (look (λ s. perform.broken_text K tree (refs.follow K s x))) IsReply
-  look_broken M x = fine_sees K strict M (λ s. perform.broken_text K tree (refs.follow K s x)) IsReply (λ s h c. broken_there s.lists (refs.follow K s x))
+  pub look_broken : (M : Keeper K) → {C : Fact N} (x : Value N) → Fine K M C (look (λ s. perform.broken_text K tree (refs.follow K s x))) IsReply
+  look_broken M x = fine_sees K M (λ s. perform.broken_text K tree (refs.follow K s x)) IsReply (λ s h c. broken_there s.lists (refs.follow K s x))
 
   thrown_there : (ls : Lists N) (x : Value N) → ReplyThere ls (perform.thrown_text K tree x)
   unfolding perform.thrown_text
@@ -434,8 +387,8 @@ module _ {N W : Type 0} (K : Naming N W) (strict : Bool) (tree : List Node) wher
   thrown_there ls (Items k) = tt
   thrown_there ls (Ref n) = tt
 
-  pub look_thrown : (M : Keeper K strict) → {C : Fact N} (x : Value N) → Fine K strict M C (look (λ s. perform.thrown_text K tree (refs.follow K s x))) IsReply
-  look_thrown M x = fine_sees K strict M (λ s. perform.thrown_text K tree (refs.follow K s x)) IsReply (λ s h c. thrown_there s.lists (refs.follow K s x))
+  pub look_thrown : (M : Keeper K) → {C : Fact N} (x : Value N) → Fine K M C (look (λ s. perform.thrown_text K tree (refs.follow K s x))) IsReply
+  look_thrown M x = fine_sees K M (λ s. perform.thrown_text K tree (refs.follow K s x)) IsReply (λ s h c. thrown_there s.lists (refs.follow K s x))
 
   problem_there : (ls : Lists N) (p : Place N) → IsThere ls (perform.problem_of K tree p)
   unfolding perform.problem_of
@@ -462,8 +415,8 @@ module _ {N W : Type 0} (K : Naming N W) (strict : Bool) (tree : List Node) wher
   test_there ls Fulfillment x p i = fulfilled_there ls x p i
   test_there ls NoTest x p i = tt
 
-  pub look_test : (M : Keeper K strict) → {C : Fact N} (t : RefTest) (x : Value N) → Gets K strict C (IsValue x) → Fine K strict M C (look (λ s. perform.test_reply K tree t x (refs.place K s (refs.follow K s x)))) IsReply
-  look_test M t x g = fine_sees K strict M (λ s. perform.test_reply K tree t x (refs.place K s (refs.follow K s x))) IsReply (λ s h c. test_there s.lists t x (refs.place K s (refs.follow K s x)) (g.at s.things s.lists c))
+  pub look_test : (M : Keeper K) → {C : Fact N} (t : RefTest) (x : Value N) → Gets K C (IsValue x) → Fine K M C (look (λ s. perform.test_reply K tree t x (refs.place K s (refs.follow K s x)))) IsReply
+  look_test M t x g = fine_sees K M (λ s. perform.test_reply K tree t x (refs.place K s (refs.follow K s x))) IsReply (λ s h c. test_there s.lists t x (refs.place K s (refs.follow K s x)) (g.at s.things s.lists c))
 
   item_there : (ls : Lists N) (v : Value N) (fs : Lists N) → IsThere ls v → AllOf (AreThere ls) fs → AllOf (AreThere ls) (calls.with_item K tree v fs)
   unfolding calls.with_item
@@ -474,16 +427,7 @@ module _ {N W : Type 0} (K : Naming N W) (strict : Bool) (tree : List Node) wher
       all_last [] k = (i, tt)
       all_last (x ∷ xs) k = (k.0, all_last xs k.1)
 
-  pub got_item : (C : Fact N) (v : Value N) (fs : Lists N) → Gets K strict C (IsValue v) → Gets K strict C (AreLists fs) → Gets K strict C (AreLists (calls.with_item K tree v fs))
+  pub got_item : (C : Fact N) (v : Value N) (fs : Lists N) → Gets K C (IsValue v) → Gets K C (AreLists fs) → Gets K C (AreLists (calls.with_item K tree v fs))
   got_item C v fs g h = record { at = λ ts ls c. item_there ls v fs (g.at ts ls c) (h.at ts ls c) }
-
-  at_named : TreeWell tree → (d e : ℕ) → AllOf (Named K strict) (free.bound_at tree d e)
-  unfolding free.bound_at
-  at_named w zero e = tt
-  at_named w (suc d) e = found_named K strict (λ e. free.bound_at tree d e) (λ e. at_named w d e) (slice_get tree e) (get_all NamesWell tree e w)
-
-  pub nouns_named : TreeWell tree → (p : ℕ) → AllOf (Named K strict) (free.bound_nouns tree p)
-  unfolding free.bound_nouns
-  nouns_named w p = at_named w (length tree) p
 
 pub ruleset knows = (look_taken, got_bound_in, got_noun, got_slot, got_asked, got_audition_ask, got_resolver_ask, got_ejector_ask, got_literal, got_safe, got_any, got_no_match, got_under_any, got_view, look_guard, look_data, look_range, look_same, look_compared, look_broken, look_thrown, look_test, look_null_or, got_item, got_lists, got_no_lists)

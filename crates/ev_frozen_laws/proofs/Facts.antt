@@ -1,5 +1,5 @@
 -- Facts on values in a vat's state, which no growth of the state undoes.
-use Rattle.std.proofs.Common.{◌≡◌, ℕ, zero, suc, Bool, List, [], ◌∷◌, ◌++◌, Some}
+use Rattle.std.proofs.Common.{◌≡◌, ℕ, zero, suc, List, [], ◌∷◌, ◌++◌, Some}
 use Rattle.std.specs.Prelude.{slice_get}
 use Rattle.ev_machine.specs.Values.{Value, Null, Flag, Number, Letter, Text, Prim, Broken, Items, Ref, Naming}
 use Rattle.ev_machine.specs.State.{Bound, Fixed, Slot, Binding, Cell, Freedom, IsSafe, IsItself, IsFinal, IsVar, View, Thing, Made, Ejector, Audition, Resolver, Message, Standing, Unsettled, WaitsOn, Viewed, Settled, Known}
@@ -92,19 +92,19 @@ module _ {N : Type 0} (ts : List (Thing N)) (ls : Lists N) (us : List (Thing N))
   frozen_up K (Items k) h = no_name_up 100 (Items k) h
   frozen_up K (Ref n) h = (h.0, h.1, bears_up h.0 h.2)
 
-  pub bound_up : {W : Type 0} (K : Naming N W) (strict : Bool) (b : Bound N) → BoundWell K strict ts ls b → BoundWell K strict us ms b
-  bound_up K strict (Fixed v g) h = (there_up v h.0, there_up g h.1, λ p e. frozen_up K v (h.2 p e))
-  bound_up K strict (Slot k) h = tt
+  pub bound_up : {W : Type 0} (K : Naming N W) (b : Bound N) → BoundWell K ts ls b → BoundWell K us ms b
+  bound_up K (Fixed v g) h = (there_up v h.0, there_up g h.1, λ e. frozen_up K v (h.2 e))
+  bound_up K (Slot k) h = tt
 
-  pub noun_up : {W : Type 0} (K : Naming N W) (strict : Bool) (b : Binding N) → NounWell K strict ts ls b → NounWell K strict us ms b
-  noun_up K strict b h = (h.0, bound_up K strict b.bound h.1)
+  pub noun_up : {W : Type 0} (K : Naming N W) (b : Binding N) → NounWell K ts ls b → NounWell K us ms b
+  noun_up K b h = bound_up K b.bound h
 
   pub capture_up : {W : Type 0} (K : Naming N W) (b : Bound N) → FrozenCapture K ts ls b → FrozenCapture K us ms b
   capture_up K (Fixed v g) h = frozen_up K v h
   capture_up K (Slot k) h = absurd h
 
-  pub thing_up : {W : Type 0} (K : Naming N W) (strict : Bool) (x : Thing N) → ThingWell K strict ts ls x → ThingWell K strict us ms x
-  thing_up K strict (Made node caught stamps) h = (all_map (noun_up K strict) caught h.0, all_map there_up stamps h.1, λ p a. all_map (λ b. capture_up K b.bound) caught (h.2 p a))
-  thing_up K strict (Ejector live) h = tt
-  thing_up K strict (Audition live view) h = view_up view h
-  thing_up K strict (Resolver p) h = h
+  pub thing_up : {W : Type 0} (K : Naming N W) (x : Thing N) → ThingWell K ts ls x → ThingWell K us ms x
+  thing_up K (Made node caught stamps) h = (all_map (noun_up K) caught h.0, all_map there_up stamps h.1, λ a. all_map (λ b. capture_up K b.bound) caught (h.2 a))
+  thing_up K (Ejector live) h = tt
+  thing_up K (Audition live view) h = view_up view h
+  thing_up K (Resolver p) h = h

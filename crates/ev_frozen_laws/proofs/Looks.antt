@@ -22,7 +22,7 @@ pub list_at_there : {N : Type 0} (ls ms : Lists N) (k : ℕ) → AllOf (AreThere
 unfolding list_at
 list_at_there ls ms k h = in_option ls (slice_get ms k) (get_all (AreThere ls) ms k h)
 
-module _ {N W : Type 0} (K : Naming N W) (strict : Bool) where
+module _ {N W : Type 0} (K : Naming N W) where
   -- ---- following
 
   either_known : (ls : Lists N) (b : Bool) (k : Known N) (o : Option (Known N)) → KnownThere ls k → MayBe (KnownThere ls) o → MayBe (KnownThere ls) (elim b [ true ↦ Some k | false ↦ o ])
@@ -81,7 +81,7 @@ module _ {N W : Type 0} (K : Naming N W) (strict : Bool) where
   severed_there s (Items k) h = h
   severed_there s (Ref n) h = at_there s n (K.spot n)
 
-  pub follow_there : (s : Vat N) → Sound K strict s → (x : Value N) → IsThere s.lists x → IsThere s.lists (refs.follow K s x)
+  pub follow_there : (s : Vat N) → Sound K s → (x : Value N) → IsThere s.lists x → IsThere s.lists (refs.follow K s x)
   unfolding refs.follow
   follow_there s h x i = severed_there s (refs.follow_at K (suc (length s.known)) s.known x) (follow_at_there s.lists (suc (length s.known)) s.known x h.known i)
 
@@ -151,69 +151,69 @@ module _ {N W : Type 0} (K : Naming N W) (strict : Bool) where
 
   -- ---- looks
 
-  pub look_follow : (M : Keeper K strict) → {C : Fact N} (x : Value N) → Gets K strict C (IsValue x) → Fine K strict M C (look (λ s. refs.follow K s x)) IsValue
-  look_follow M x g = fine_sees K strict M (λ s. refs.follow K s x) IsValue (λ s h c. follow_there s h x (g.at s.things s.lists c))
+  pub look_follow : (M : Keeper K) → {C : Fact N} (x : Value N) → Gets K C (IsValue x) → Fine K M C (look (λ s. refs.follow K s x)) IsValue
+  look_follow M x g = fine_sees K M (λ s. refs.follow K s x) IsValue (λ s h c. follow_there s h x (g.at s.things s.lists c))
 
-  pub look_list : (M : Keeper K strict) → {C : Fact N} (k : ℕ) → Fine K strict M C (look (λ s. list_at s.lists k)) AreValues
-  look_list M k = fine_sees K strict M (λ s. list_at s.lists k) AreValues (λ s h c. list_at_there s.lists s.lists k h.lists)
+  pub look_list : (M : Keeper K) → {C : Fact N} (k : ℕ) → Fine K M C (look (λ s. list_at s.lists k)) AreValues
+  look_list M k = fine_sees K M (λ s. list_at s.lists k) AreValues (λ s h c. list_at_there s.lists s.lists k h.lists)
 
-  pub look_entry : (M : Keeper K strict) → {C : Fact N} (n : N) → Fine K strict M C (look (λ s. refs.entry_of K s.known n)) MayKnown
-  look_entry M n = fine_sees K strict M (λ s. refs.entry_of K s.known n) MayKnown (λ s h c. entry_there s.lists s.known n h.known)
+  pub look_entry : (M : Keeper K) → {C : Fact N} (n : N) → Fine K M C (look (λ s. refs.entry_of K s.known n)) MayKnown
+  look_entry M n = fine_sees K M (λ s. refs.entry_of K s.known n) MayKnown (λ s h c. entry_there s.lists s.known n h.known)
 
-  pub look_target : (M : Keeper K strict) → {C : Fact N} (p : N) (x : Value N) → Gets K strict C (IsValue x) → Fine K strict M C (look (λ s. refs.target_of K s p x)) IsValue
-  look_target M p x g = fine_sees K strict M (λ s. refs.target_of K s p x) IsValue (λ s h c. target_there s p x (g.at s.things s.lists c))
+  pub look_target : (M : Keeper K) → {C : Fact N} (p : N) (x : Value N) → Gets K C (IsValue x) → Fine K M C (look (λ s. refs.target_of K s p x)) IsValue
+  look_target M p x g = fine_sees K M (λ s. refs.target_of K s p x) IsValue (λ s h c. target_there s p x (g.at s.things s.lists c))
 
-  pub look_parcel : (M : Keeper K strict) → {C : Fact N} (x : Value N) → Fine K strict M C (look (λ s. refs.parcel K s x)) parcel
-  look_parcel M x = fine_sees K strict M (λ s. refs.parcel K s x) parcel (λ s h c. parcel_passes s x)
+  pub look_parcel : (M : Keeper K) → {C : Fact N} (x : Value N) → Fine K M C (look (λ s. refs.parcel K s x)) parcel
+  look_parcel M x = fine_sees K M (λ s. refs.parcel K s x) parcel (λ s h c. parcel_passes s x)
 
-  pub look_cell : (M : Keeper K strict) → {C : Fact N} (k : ℕ) → Fine K strict M C (look (λ s. slice_get s.slots k)) MayCell
-  look_cell M k = fine_sees K strict M (λ s. slice_get s.slots k) MayCell (λ s h c. get_all (CellThere s.lists) s.slots k h.slots)
+  pub look_cell : (M : Keeper K) → {C : Fact N} (k : ℕ) → Fine K M C (look (λ s. slice_get s.slots k)) MayCell
+  look_cell M k = fine_sees K M (λ s. slice_get s.slots k) MayCell (λ s h c. get_all (CellThere s.lists) s.slots k h.slots)
 
-  pub look_thing : (M : Keeper K strict) → {C : Fact N} (i : ℕ) → Fine K strict M C (look (λ s. slice_get s.things i)) MayThing
-  look_thing M i = fine_sees K strict M (λ s. slice_get s.things i) MayThing (λ s h c. get_all (ThingWell K strict s.things s.lists) s.things i h.things)
+  pub look_thing : (M : Keeper K) → {C : Fact N} (i : ℕ) → Fine K M C (look (λ s. slice_get s.things i)) MayThing
+  look_thing M i = fine_sees K M (λ s. slice_get s.things i) MayThing (λ s h c. get_all (ThingWell K s.things s.lists) s.things i h.things)
 
-  pub each_message : (M : Keeper K strict) → {C : Fact N} {f : Message N → Act N (Unit {0})} (ms : List (Message N)) → Gets K strict C (AreMessages ms) → ((m : Message N) → Fine K strict M (Also C (IsMessage m)) (f m) nothing) → Fine K strict M C (each f ms) nothing
+  pub each_message : (M : Keeper K) → {C : Fact N} {f : Message N → Act N (Unit {0})} (ms : List (Message N)) → Gets K C (AreMessages ms) → ((m : Message N) → Fine K M (Also C (IsMessage m)) (f m) nothing) → Fine K M C (each f ms) nothing
   unfolding each
-  each_message M {C = C} [] g h = fine_give K strict M tt (got_nothing K strict C)
-  each_message M {C = C} {f = f} (m ∷ ms) g h = fine_then K strict M nothing first (each_message M ms (record { at = λ ts ls c. (g.at ts ls c).1 }) h)
+  each_message M {C = C} [] g h = fine_give K M tt (got_nothing K C)
+  each_message M {C = C} {f = f} (m ∷ ms) g h = fine_then K M nothing first (each_message M ms (record { at = λ ts ls c. (g.at ts ls c).1 }) h)
     where
-      first : Fine K strict M C (f m) nothing
+      first : Fine K M C (f m) nothing
       first = record { after = λ s i c. (h m).after s i (c, (g.at s.things s.lists c).0) }
 
   -- a list that is made is there
-  pub bind_list : (M : Keeper K strict) → {B : Type 0} {C : Fact N} {m : Act N ℕ} {f : ℕ → Act N B} {H : B → Fact N} → Fine K strict M C m (λ k. IsValue (Items k)) → ((k : ℕ) → Fine K strict M (Also C (IsValue (Items k))) (f k) H) → Fine K strict M C (m >>= f) H
-  bind_list M h k = fine_bind K strict M (λ k. IsValue (Items k)) h k
+  pub bind_list : (M : Keeper K) → {B : Type 0} {C : Fact N} {m : Act N ℕ} {f : ℕ → Act N B} {H : B → Fact N} → Fine K M C m (λ k. IsValue (Items k)) → ((k : ℕ) → Fine K M (Also C (IsValue (Items k))) (f k) H) → Fine K M C (m >>= f) H
+  bind_list M h k = fine_bind K M (λ k. IsValue (Items k)) h k
 
   -- ---- what passes
 
-  pub got_gift : (C : Fact N) (h i : ℕ) → Gets K strict C (DoesPass (AGift h i))
+  pub got_gift : (C : Fact N) (h i : ℕ) → Gets K C (DoesPass (AGift h i))
   got_gift C h i = record { at = λ ts ls c. tt }
 
-  pub got_many : (C : Fact N) (ys : Passeds N) → Gets K strict C (DoAllPass ys) → Gets K strict C (DoesPass (Many ys))
+  pub got_many : (C : Fact N) (ys : Passeds N) → Gets K C (DoAllPass ys) → Gets K C (DoesPass (Many ys))
   got_many C ys g = record { at = λ ts ls c. g.at ts ls c }
 
-  pub got_no_more : (C : Fact N) → Gets K strict C (DoAllPass NoMore)
+  pub got_no_more : (C : Fact N) → Gets K C (DoAllPass NoMore)
   got_no_more C = record { at = λ ts ls c. tt }
 
-  pub got_one_more : (C : Fact N) (y : Passed N) (ys : Passeds N) → Gets K strict C (DoesPass y) → Gets K strict C (DoAllPass ys) → Gets K strict C (DoAllPass (More y ys))
+  pub got_one_more : (C : Fact N) (y : Passed N) (ys : Passeds N) → Gets K C (DoesPass y) → Gets K C (DoAllPass ys) → Gets K C (DoAllPass (More y ys))
   got_one_more C y ys g k = record { at = λ ts ls c. (g.at ts ls c, k.at ts ls c) }
 
-  pub note_deliver : (C : Fact N) (m n : N) (verb : Words) (ys : Passeds N) → Gets K strict C (DoAllPass ys) → Gets K strict C (NoteDoes (Deliver m n verb ys))
+  pub note_deliver : (C : Fact N) (m n : N) (verb : Words) (ys : Passeds N) → Gets K C (DoAllPass ys) → Gets K C (NoteDoes (Deliver m n verb ys))
   note_deliver C m n verb ys g = record { at = λ ts ls c. g.at ts ls c }
 
-  pub note_open : (C : Fact N) (i : ℕ) (n : N) → Gets K strict C (NoteDoes (Open i n))
+  pub note_open : (C : Fact N) (i : ℕ) (n : N) → Gets K C (NoteDoes (Open i n))
   note_open C i n = record { at = λ ts ls c. tt }
 
-  pub note_ask : (C : Fact N) (p i : ℕ) (n : N) → Gets K strict C (NoteDoes (Ask p i n))
+  pub note_ask : (C : Fact N) (p i : ℕ) (n : N) → Gets K C (NoteDoes (Ask p i n))
   note_ask C p i n = record { at = λ ts ls c. tt }
 
-  pub note_settled : (C : Fact N) (n : N) (y : Passed N) → Gets K strict C (DoesPass y) → Gets K strict C (NoteDoes (SettledTo n y))
+  pub note_settled : (C : Fact N) (n : N) (y : Passed N) → Gets K C (DoesPass y) → Gets K C (NoteDoes (SettledTo n y))
   note_settled C n y g = record { at = λ ts ls c. g.at ts ls c }
 
-  pub note_elsewhere : (C : Fact N) (n : N) (h : ℕ) → Gets K strict C (NoteDoes (Elsewhere n h))
+  pub note_elsewhere : (C : Fact N) (n : N) (h : ℕ) → Gets K C (NoteDoes (Elsewhere n h))
   note_elsewhere C n h = record { at = λ ts ls c. tt }
 
-  pub note_shorten : (C : Fact N) (n : N) (h i : ℕ) → Gets K strict C (NoteDoes (Shorten n h i))
+  pub note_shorten : (C : Fact N) (n : N) (h i : ℕ) → Gets K C (NoteDoes (Shorten n h i))
   note_shorten C n h i = record { at = λ ts ls c. tt }
 
 pub ruleset looks = (bind_list, look_follow, look_list, look_entry, look_target, look_parcel, look_cell, look_thing, each_message, got_gift, got_many, got_no_more, got_one_more, note_deliver, note_open, note_ask, note_settled, note_elsewhere, note_shorten)

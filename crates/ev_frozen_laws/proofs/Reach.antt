@@ -52,7 +52,7 @@ module _ {N W : Type 0} (K : Naming N W) (spots : (i : ℕ) → K.spot (K.object
   plain_frozen ts ls (Items k) h = no_name_more ls 99 (Items k) h
   plain_frozen ts ls (Ref n) h = absurd h
 
-  thing_at : (ts us : List (Thing N)) (ls : Lists N) (o : Option (Thing N)) (x : Thing N) → o ≡ Some x → MayBe (ThingWell K true ts ls) o → ThingWell K true ts ls x
+  thing_at : (ts us : List (Thing N)) (ls : Lists N) (o : Option (Thing N)) (x : Thing N) → o ≡ Some x → MayBe (ThingWell K ts ls) o → ThingWell K ts ls x
   thing_at ts us ls (Some y) x e h = let same : y ≡ x = cc in rw same at h
   thing_at ts us ls None x e h = absurd (none x e)
     where
@@ -63,17 +63,17 @@ module _ {N W : Type 0} (K : Naming N W) (spots : (i : ℕ) → K.spot (K.object
   stamps_same o a b c d ss rs e f = cc
 
   -- the captures of an object with the stamp
-  captures_frozen : (s : Vat N) → Sound K true s → (n : N) → IsFrozen K s.things s.lists (Ref n) → (i node : ℕ) (caught : List (Binding N)) (stamps : List (Value N)) → K.spot n ≡ Own i → slice_get s.things i ≡ Some (Made node caught stamps)
+  captures_frozen : (s : Vat N) → Sound K s → (n : N) → IsFrozen K s.things s.lists (Ref n) → (i node : ℕ) (caught : List (Binding N)) (stamps : List (Value N)) → K.spot n ≡ Own i → slice_get s.things i ≡ Some (Made node caught stamps)
       → AllOf (λ b. FrozenCapture K s.things s.lists b.bound) caught
   captures_frozen s h n f i node caught stamps e t =
       let same : f.0 ≡ i = own_same (K.spot n) f.0 i f.1 e in
       let there : slice_get s.things i ≡ Some (Made f.2.0 f.2.1 f.2.2) = rw same at f.2.3 in
       let stamped : f.2.2 ≡ stamps = stamps_same (slice_get s.things i) f.2.0 node f.2.1 caught f.2.2 stamps there t in
-      let well : ThingWell K true s.things s.lists (Made node caught stamps) = thing_at s.things s.things s.lists (slice_get s.things i) (Made node caught stamps) t (get_all (ThingWell K true s.things s.lists) s.things i h.things) in
+      let well : ThingWell K s.things s.lists (Made node caught stamps) = thing_at s.things s.things s.lists (slice_get s.things i) (Made node caught stamps) t (get_all (ThingWell K s.things s.lists) s.things i h.things) in
       let among : IsAmong deep_frozen stamps = rw stamped at f.2.4 in
-      well.2 refl among
+      well.2 among
 
-  leads_frozen : (s : Vat N) → Sound K true s → (u w : Value N) → IsFrozen K s.things s.lists u → Leads K s u w → IsFrozen K s.things s.lists w
+  leads_frozen : (s : Vat N) → Sound K s → (u w : Value N) → IsFrozen K s.things s.lists u → Leads K s u w → IsFrozen K s.things s.lists w
   leads_frozen s h Null w f l = absurd l
   leads_frozen s h (Flag b) w f l = absurd l
   leads_frozen s h (Number z) w f l = absurd l
@@ -84,11 +84,11 @@ module _ {N W : Type 0} (K : Naming N W) (spots : (i : ℕ) → K.spot (K.object
   leads_frozen s h (Items k) w f l = let same : l.0 ≡ f.0 = same_list (slice_get s.lists k) l.0 f.0 l.1 f.1 in let among : IsAmong w f.0 = rw same at l.2 in plain_frozen s.things s.lists w (all_at (λ v. HasNoName 99 s.lists v) f.0 w f.2 among)
   leads_frozen s h (Ref n) w f l = all_at (λ b. FrozenCapture K s.things s.lists b.bound) l.2 (record { noun = l.4; bound = Fixed w l.5 }) (captures_frozen s h n f l.0 l.1 l.2 l.3 l.6 l.7) l.8
 
-  reaches_frozen : (n : ℕ) (s : Vat N) → Sound K true s → (v w : Value N) → IsFrozen K s.things s.lists v → Reaches K n s v w → IsFrozen K s.things s.lists w
+  reaches_frozen : (n : ℕ) (s : Vat N) → Sound K s → (v w : Value N) → IsFrozen K s.things s.lists v → Reaches K n s v w → IsFrozen K s.things s.lists w
   reaches_frozen zero s h v w f r = rw r at f
   reaches_frozen (suc n) s h v w f r = leads_frozen s h r.0 w (reaches_frozen n s h v r.0 f r.1) r.2
 
-  no_slots : (s : Vat N) → Sound K true s → (w : Value N) → IsFrozen K s.things s.lists w → HasNoSlot K s w
+  no_slots : (s : Vat N) → Sound K s → (w : Value N) → IsFrozen K s.things s.lists w → HasNoSlot K s w
   no_slots s h Null f = tt
   no_slots s h (Flag b) f = tt
   no_slots s h (Number z) f = tt
@@ -99,7 +99,7 @@ module _ {N W : Type 0} (K : Naming N W) (spots : (i : ℕ) → K.spot (K.object
   no_slots s h (Items k) f = tt
   no_slots s h (Ref n) f = λ i node k caught stamps noun e t a. all_at (λ b. FrozenCapture K s.things s.lists b.bound) caught (record { noun = noun; bound = Slot k }) (captures_frozen s h n f i node caught stamps e t) a
 
-  pub frozen_reach : (s : Vat N) → Sound K true s → FrozenReach K s
+  pub frozen_reach : (s : Vat N) → Sound K s → FrozenReach K s
   frozen_reach s h i n w b r = let frozen : IsFrozen K s.things s.lists w = reaches_frozen n s h (Ref (K.object i)) w (i, spots i, b) r in (frozen, no_slots s h w frozen)
 
 global_own : (v i : ℕ) (b : Bool) → b ≡ true → elim b [ true ↦ Own i | false ↦ Foreign v ] ≡ Own i

@@ -1,9 +1,8 @@
 -- Every world of a run is sound: each vat in it, and each note under way.
-use Rattle.std.proofs.Common.{◌≡◌, ℕ, zero, suc, Bool, true, false, List, [], ◌∷◌, ◌++◌, Option, Some, None, refl, sym, ap, inl, inr, ◌⊎◌, map, codes, ◌==◌}
+use Rattle.std.proofs.Common.{◌≡◌, ℕ, zero, suc, Bool, true, false, List, [], ◌∷◌, ◌++◌, Option, Some, None, refl, sym, ap, inl, inr, ◌⊎◌, map, ◌==◌}
 use Rattle.std.specs.Prelude.{slice_get}
 use Rattle.ev_machine.specs.Values.{Value, Null, Flag, Number, Letter, Text, Prim, Broken, Items, Ref, Name, Root}
 use Rattle.ev_machine.specs.State.{Message, Passed, Passeds, Plain, AGift, Many, NoMore, More, Note, Deliver, Open, Ask, SettledTo, Elsewhere, Shorten, Put, Vat, Done, Gives, Throws, Ejects, Stops, begun}
-use Rattle.ev_machine.specs.Free.{same_words}
 use Rattle.ev_machine.specs.Native as native
 use Rattle.ev_machine.specs.Scopes as scopes
 use Rattle.ev_machine.specs.Scopes.{any_guard}
@@ -13,20 +12,19 @@ use Rattle.ev_machine_laws.specs.Steps.{Step, Opens as Starts, Takes, Receives, 
 use Rattle.ev_run.specs.Draws.{draw_word}
 use Rattle.ev_run.specs.World as world
 use Rattle.ev_run.specs.World.{Script, Program, Opens, Entry, Turn, Carry, CutLink, NoticeLink, Event, Turned, Idle, Carried, CutAt, NoticedAt, Link, World, Run, Goes, Stopped, names, names_of, read_note}
-use Rattle.ev_frozen_laws.specs.Frozen.{AllOf, PlainPasses, Passes, AllPass, NotePasses, KnownThere, MessageThere, NounWell, TreeWell, Sound}
+use Rattle.ev_frozen_laws.specs.Frozen.{AllOf, PlainPasses, Passes, AllPass, NotePasses, KnownThere, MessageThere, NounWell, Sound}
 use Rattle.ev_frozen_laws.specs.Laws.{StepWell}
-use Rattle.ev_frozen_laws.specs.Runs.{ScriptWell, ReachIsFrozenIn, ReachIsFrozenInRuns}
+use Rattle.ev_frozen_laws.specs.Runs.{ReachIsFrozenIn, ReachIsFrozenInRuns, ReachIsFrozenAtTheEnd}
 use Rattle.ev_frozen_laws.proofs.Facts.{all_end, all_append}
 use Rattle.ev_frozen_laws.proofs.Fine.{MayBe}
-use Rattle.ev_frozen_laws.proofs.Looks.{get_all}
 use Rattle.ev_frozen_laws.proofs.FrozenSteps.{stays_sound}
 use Rattle.ev_frozen_laws.proofs.Reach.{global_spots, frozen_reach}
 
 abbrev pub LinkPasses : Link → Type 0
 LinkPasses l = AllOf NotePasses l.notes
 
-pub record WorldSound (script : Script) (strict : Bool) (w : World) : Type 0 where
-  pub vats : (v : ℕ) (s : Vat Name) → slice_get w.vats v ≡ Some s → Sound (names script v) strict s
+pub record WorldSound (script : Script) (w : World) : Type 0 where
+  pub vats : (v : ℕ) (s : Vat Name) → slice_get w.vats v ≡ Some s → Sound (names script v) s
   pub links : AllOf LinkPasses w.links
 
 -- ---- notes as they are read
@@ -114,126 +112,112 @@ put_at_or (suc v) y (x ∷ xs) (suc u) t e = go (put_at_or v y xs u t e)
 goes_is : (w x : World) → Goes w ≡ Goes x → w ≡ x
 goes_is w x e = cc
 
-module _ (script : Script) (strict : Bool) where
-  moved : (w x : World) → WorldSound script strict w → Goes w ≡ Goes x → WorldSound script strict x
+module _ (script : Script) where
+  moved : (w x : World) → WorldSound script w → Goes w ≡ Goes x → WorldSound script x
   moved w x h e = rw (goes_is w x e) at h
 
-  put_one : (v : ℕ) (y : Vat Name) (w : World) → WorldSound script strict w → Sound (names script v) strict y → (u : ℕ) (t : Vat Name) → ((u ≡ v) × (y ≡ t)) ⊎ (slice_get w.vats u ≡ Some t) → Sound (names script u) strict t
-  put_one v y w h k u t (inl e) = let one : Sound (names script u) strict y = rw (sym e.0) at k in rw e.1 at one
+  put_one : (v : ℕ) (y : Vat Name) (w : World) → WorldSound script w → Sound (names script v) y → (u : ℕ) (t : Vat Name) → ((u ≡ v) × (y ≡ t)) ⊎ (slice_get w.vats u ≡ Some t) → Sound (names script u) t
+  put_one v y w h k u t (inl e) = let one : Sound (names script u) y = rw (sym e.0) at k in rw e.1 at one
   put_one v y w h k u t (inr e) = h.vats u t e
 
-  put_back_sound : (v : ℕ) (w x : World) (head : List Event) (n : ℕ) (d : Done Name (Unit {0})) → WorldSound script strict w → (s : Vat Name) → After (λ _. Sound (names script v) strict) s d → world.put_back v w head n d ≡ Goes x → WorldSound script strict x
+  put_back_sound : (v : ℕ) (w x : World) (head : List Event) (n : ℕ) (d : Done Name (Unit {0})) → WorldSound script w → (s : Vat Name) → After (λ _. Sound (names script v)) s d → world.put_back v w head n d ≡ Goes x → WorldSound script x
   unfolding world.put_back
   put_back_sound v w x head n (Gives a t) h s k e = moved _ x (record { vats = λ u r i. put_one v t w h k u r (put_at_or v t w.vats u r i); links = push_all_passes v t.outbox w.links k.outbox h.links }) e
   put_back_sound v w x head n (Throws p t) h s k e = cc
   put_back_sound v w x head n (Ejects m y t) h s k e = cc
   put_back_sound v w x head n (Stops c t) h s k e = cc
 
-  within_sound : (v : ℕ) (w x : World) (head : List Event) (n : ℕ) (what : Step Name Name) (q : Vat Name) → WorldSound script strict w → Sound (names script v) strict q → StepWell (names script v) strict (world.readied w q) what
-      → world.within v w head n (does (names script v) what) (Some q) ≡ Goes x → WorldSound script strict x
+  within_sound : (v : ℕ) (w x : World) (head : List Event) (n : ℕ) (what : Step Name Name) (q : Vat Name) → WorldSound script w → Sound (names script v) q → StepWell (names script v) (world.readied w q) what
+      → world.within v w head n (does (names script v) what) (Some q) ≡ Goes x → WorldSound script x
   unfolding world.within world.readied names
   within_sound v w x head n what q h k i e =
-      let ready : Sound (names script v) strict (world.readied w q) = record { things = k.things; slots = k.slots; lists = k.lists; stacked = k.stacked; queue = k.queue; known = k.known; outbox = tt } in
-      put_back_sound v w x head n (does (names script v) what (world.readied w q)) h (world.readied w q) (stays_sound (names script v) (global_spots (draw_word script.key) v) strict what (world.readied w q) ready i) e
+      let ready : Sound (names script v) (world.readied w q) = record { things = k.things; slots = k.slots; lists = k.lists; stacked = k.stacked; queue = k.queue; known = k.known; outbox = tt } in
+      put_back_sound v w x head n (does (names script v) what (world.readied w q)) h (world.readied w q) (stays_sound (names script v) (global_spots (draw_word script.key) v) what (world.readied w q) ready i) e
 
   -- ---- the entries of a schedule
 
-  idle_sound : (k : ℕ) (w x : World) → WorldSound script strict w → world.idle script k w ≡ Goes x → WorldSound script strict x
+  idle_sound : (k : ℕ) (w x : World) → WorldSound script w → world.idle script k w ≡ Goes x → WorldSound script x
   unfolding world.idle
   idle_sound k w x h e = moved (record w { history = w.history ++ Idle k ∷ [] }) x (record { vats = h.vats; links = h.links }) e
 
-  module _ (well : strict ≡ true → ScriptWell script) where
-    tree_of : (o : Option Program) → MayBe (λ (p : Program). (same_words p.name (codes "_") ≡ false) × TreeWell p.tree) o → TreeWell (elim o [ Some p ↦ p.tree | None ↦ [] ])
-    tree_of (Some p) h = h.1
-    tree_of None h = tt
+  turn_queue_sound : (k v : ℕ) (w x : World) (s : Vat Name) → WorldSound script w → Sound (names script v) s → (qs : List (Message Name)) → s.queue ≡ qs → world.turn_queue script k v w s qs ≡ Goes x → WorldSound script x
+  unfolding world.turn_queue does world.readied
+  turn_queue_sound k v w x s h i [] q e = idle_sound k w x h e
+  turn_queue_sound k v w x s h i (m ∷ ms) q e = let waiting : AllOf (MessageThere s.lists) (m ∷ ms) = rw q at i.queue in
+      within_sound v w x (Turned k v ∷ []) (world.step_number script k) (Takes (world.tree_at script.vats v) script.depth m) (record s { queue = ms }) h
+      (record { things = i.things; slots = i.slots; lists = i.lists; stacked = i.stacked; queue = waiting.1; known = i.known; outbox = i.outbox }) waiting.0 e
 
-    tree_well : (v : ℕ) → strict ≡ true → TreeWell (world.tree_at script.vats v)
-    unfolding world.tree_at
-    tree_well v q = tree_of (slice_get script.vats v) (get_all _ script.vats v (well q))
+  turn_sound : (k v : ℕ) (w x : World) → WorldSound script w → (o : Option (Vat Name)) → slice_get w.vats v ≡ o → world.turn script k v w o ≡ Goes x → WorldSound script x
+  unfolding world.turn
+  turn_sound k v w x h None q e = idle_sound k w x h e
+  turn_sound k v w x h (Some s) q e = turn_queue_sound k v w x s h (h.vats v s q) s.queue refl e
 
-    turn_queue_sound : (k v : ℕ) (w x : World) (s : Vat Name) → WorldSound script strict w → Sound (names script v) strict s → (qs : List (Message Name)) → s.queue ≡ qs → world.turn_queue script k v w s qs ≡ Goes x → WorldSound script strict x
-    unfolding world.turn_queue does world.readied
-    turn_queue_sound k v w x s h i [] q e = idle_sound k w x h e
-    turn_queue_sound k v w x s h i (m ∷ ms) q e = let waiting : AllOf (MessageThere s.lists) (m ∷ ms) = rw q at i.queue in
-        within_sound v w x (Turned k v ∷ []) (world.step_number script k) (Takes (world.tree_at script.vats v) script.depth m) (record s { queue = ms }) h
-        (record { things = i.things; slots = i.slots; lists = i.lists; stacked = i.stacked; queue = waiting.1; known = i.known; outbox = i.outbox }) (tree_well v, waiting.0) e
+  arrives_sound : (k v to : ℕ) (w x : World) (n : Note Name) → WorldSound script w → NotePasses n → (o : Option (Vat Name)) → slice_get w.vats to ≡ o → world.arrives script k v to w n o ≡ Goes x → WorldSound script x
+  unfolding world.arrives does
+  arrives_sound k v to w x n h i None q e = idle_sound k w x h e
+  arrives_sound k v to w x n h i (Some s) q e = within_sound to w x (Carried k v to n w.links ∷ []) (world.step_number script k) (Receives v (read_note (names_of s) n)) s h (h.vats to s q) (note_read (names_of s) n i) e
 
-    turn_sound : (k v : ℕ) (w x : World) → WorldSound script strict w → (o : Option (Vat Name)) → slice_get w.vats v ≡ o → world.turn script k v w o ≡ Goes x → WorldSound script strict x
-    unfolding world.turn
-    turn_sound k v w x h None q e = idle_sound k w x h e
-    turn_sound k v w x h (Some s) q e = turn_queue_sound k v w x s h (h.vats v s q) s.queue refl e
+  carry_notes_sound : (k v to : ℕ) (w x : World) → WorldSound script w → (ns : List (Note Name)) → AllOf NotePasses ns → world.carry_notes script k v to w ns ≡ Goes x → WorldSound script x
+  unfolding world.carry_notes world.with_notes
+  carry_notes_sound k v to w x h [] i e = idle_sound k w x h e
+  carry_notes_sound k v to w x h (n ∷ ns) i e = arrives_sound k v to (record w { links = world.with_link (world.with_notes ns) v to w.links }) x n
+      (record { vats = h.vats; links = with_link_passes (world.with_notes ns) (λ l j. i.1) v to w.links h.links }) i.0 (slice_get w.vats to) refl e
 
-    arrives_sound : (k v to : ℕ) (w x : World) (n : Note Name) → WorldSound script strict w → NotePasses n → (o : Option (Vat Name)) → slice_get w.vats to ≡ o → world.arrives script k v to w n o ≡ Goes x → WorldSound script strict x
-    unfolding world.arrives does
-    arrives_sound k v to w x n h i None q e = idle_sound k w x h e
-    arrives_sound k v to w x n h i (Some s) q e = within_sound to w x (Carried k v to n w.links ∷ []) (world.step_number script k) (Receives v (read_note (names_of s) n)) s h (h.vats to s q) (note_read (names_of s) n i) e
+  carry_cut_sound : (k v to : ℕ) (w x : World) → WorldSound script w → (l : Link) → LinkPasses l → (b : Bool) → elim b [ true ↦ world.idle script k w | false ↦ world.carry_notes script k v to w l.notes ] ≡ Goes x → WorldSound script x
+  carry_cut_sound k v to w x h l i true e = idle_sound k w x h e
+  carry_cut_sound k v to w x h l i false e = carry_notes_sound k v to w x h l.notes i e
 
-    carry_notes_sound : (k v to : ℕ) (w x : World) → WorldSound script strict w → (ns : List (Note Name)) → AllOf NotePasses ns → world.carry_notes script k v to w ns ≡ Goes x → WorldSound script strict x
-    unfolding world.carry_notes world.with_notes
-    carry_notes_sound k v to w x h [] i e = idle_sound k w x h e
-    carry_notes_sound k v to w x h (n ∷ ns) i e = arrives_sound k v to (record w { links = world.with_link (world.with_notes ns) v to w.links }) x n
-        (record { vats = h.vats; links = with_link_passes (world.with_notes ns) (λ l j. i.1) v to w.links h.links }) i.0 (slice_get w.vats to) refl e
+  carry_link_sound : (k v to : ℕ) (w x : World) → WorldSound script w → (o : Option Link) → MayBe LinkPasses o → world.carry_link script k v to w o ≡ Goes x → WorldSound script x
+  unfolding world.carry_link
+  carry_link_sound k v to w x h None i e = idle_sound k w x h e
+  carry_link_sound k v to w x h (Some l) i e = carry_cut_sound k v to w x h l i l.cut e
 
-    carry_cut_sound : (k v to : ℕ) (w x : World) → WorldSound script strict w → (l : Link) → LinkPasses l → (b : Bool) → elim b [ true ↦ world.idle script k w | false ↦ world.carry_notes script k v to w l.notes ] ≡ Goes x → WorldSound script strict x
-    carry_cut_sound k v to w x h l i true e = idle_sound k w x h e
-    carry_cut_sound k v to w x h l i false e = carry_notes_sound k v to w x h l.notes i e
+  cut_sound : (k v to : ℕ) (w x : World) → WorldSound script w → world.cut script k v to w ≡ Goes x → WorldSound script x
+  unfolding world.cut world.severed_link
+  cut_sound k v to w x h e = moved _ x (record { vats = h.vats; links = with_link_passes world.severed_link (λ l i. tt) to v (world.with_link world.severed_link v to w.links) (with_link_passes world.severed_link (λ l i. tt) v to w.links h.links) }) e
 
-    carry_link_sound : (k v to : ℕ) (w x : World) → WorldSound script strict w → (o : Option Link) → MayBe LinkPasses o → world.carry_link script k v to w o ≡ Goes x → WorldSound script strict x
-    unfolding world.carry_link
-    carry_link_sound k v to w x h None i e = idle_sound k w x h e
-    carry_link_sound k v to w x h (Some l) i e = carry_cut_sound k v to w x h l i l.cut e
+  notice_sound : (k v to : ℕ) (w x : World) → WorldSound script w → (o : Option (Vat Name)) → slice_get w.vats v ≡ o → world.within v w (NoticedAt k v to ∷ []) (world.step_number script k) (notice (names script v) to) o ≡ Goes x → WorldSound script x
+  unfolding does world.within
+  notice_sound k v to w x h None q e = cc
+  notice_sound k v to w x h (Some s) q e = within_sound v w x (NoticedAt k v to ∷ []) (world.step_number script k) (Notices to) s h (h.vats v s q) tt e
 
-    cut_sound : (k v to : ℕ) (w x : World) → WorldSound script strict w → world.cut script k v to w ≡ Goes x → WorldSound script strict x
-    unfolding world.cut world.severed_link
-    cut_sound k v to w x h e = moved _ x (record { vats = h.vats; links = with_link_passes world.severed_link (λ l i. tt) to v (world.with_link world.severed_link v to w.links) (with_link_passes world.severed_link (λ l i. tt) v to w.links h.links) }) e
+  pub step_sound : (entry : Entry) (k : ℕ) (w x : World) → WorldSound script w → world.step script entry k w ≡ Goes x → WorldSound script x
+  unfolding world.step
+  step_sound (Turn v) k w x h e = turn_sound k v w x h (slice_get w.vats v) refl e
+  step_sound (Carry v to) k w x h e = carry_link_sound k v to w x h (world.link_at v to w.links) (link_passes v to w.links h.links) e
+  step_sound (CutLink v to) k w x h e = cut_sound k v to w x h e
+  step_sound (NoticeLink v to) k w x h e = notice_sound k v to w x h (slice_get w.vats v) refl e
 
-    notice_sound : (k v to : ℕ) (w x : World) → WorldSound script strict w → (o : Option (Vat Name)) → slice_get w.vats v ≡ o → world.within v w (NoticedAt k v to ∷ []) (world.step_number script k) (notice (names script v) to) o ≡ Goes x → WorldSound script strict x
-    unfolding does world.within
-    notice_sound k v to w x h None q e = cc
-    notice_sound k v to w x h (Some s) q e = within_sound v w x (NoticedAt k v to ∷ []) (world.step_number script k) (Notices to) s h (h.vats v s q) tt e
+  then_sound : (x : World) (r : Run) (f : World → Run) → ((y : World) → r ≡ Goes y → WorldSound script y) → ((y : World) → WorldSound script y → f y ≡ Goes x → WorldSound script x) → world.then_goes r f ≡ Goes x → WorldSound script x
+  unfolding world.then_goes
+  then_sound x (Goes y) f a b e = b y (a y refl) e
+  then_sound x (Stopped c n y) f a b e = cc
 
-    pub step_sound : (entry : Entry) (k : ℕ) (w x : World) → WorldSound script strict w → world.step script entry k w ≡ Goes x → WorldSound script strict x
-    unfolding world.step
-    step_sound (Turn v) k w x h e = turn_sound k v w x h (slice_get w.vats v) refl e
-    step_sound (Carry v to) k w x h e = carry_link_sound k v to w x h (world.link_at v to w.links) (link_passes v to w.links h.links) e
-    step_sound (CutLink v to) k w x h e = cut_sound k v to w x h e
-    step_sound (NoticeLink v to) k w x h e = notice_sound k v to w x h (slice_get w.vats v) refl e
+  pub steps_sound : (es : List Entry) (k : ℕ) (w x : World) → WorldSound script w → world.steps_from script es k w ≡ Goes x → WorldSound script x
+  unfolding world.steps_from
+  steps_sound [] k w x h e = moved w x h e
+  steps_sound (entry ∷ es) k w x h e = then_sound x (world.step script entry k w) (world.steps_from script es (suc k)) (λ y i. step_sound entry k w y h i) (λ y i j. steps_sound es (suc k) y x i j) e
 
-    then_sound : (x : World) (r : Run) (f : World → Run) → ((y : World) → r ≡ Goes y → WorldSound script strict y) → ((y : World) → WorldSound script strict y → f y ≡ Goes x → WorldSound script strict x) → world.then_goes r f ≡ Goes x → WorldSound script strict x
-    unfolding world.then_goes
-    then_sound x (Goes y) f a b e = b y (a y refl) e
-    then_sound x (Stopped c n y) f a b e = cc
+  -- ---- the opening turns
 
-    pub steps_sound : (es : List Entry) (k : ℕ) (w x : World) → WorldSound script strict w → world.steps_from script es k w ≡ Goes x → WorldSound script strict x
-    unfolding world.steps_from
-    steps_sound [] k w x h e = moved w x h e
-    steps_sound (entry ∷ es) k w x h e = then_sound x (world.step script entry k w) (world.steps_from script es (suc k)) (λ y i. step_sound entry k w y h i) (λ y i j. steps_sound es (suc k) y x i j) e
+  false_true : false ≡ true → ⊥
+  false_true e = cc
 
-    -- ---- the opening turns
+  pub given_well : (v : ℕ) (s : Vat Name) (ws : List ℕ) → AllOf (NounWell (names script v) s.things s.lists) (world.given script.vats ws)
+  unfolding world.given world.name_at any_guard scopes.frozen_guard scopes.freezes native.primitive native.numbered native.primitives
+  given_well v s [] = tt
+  given_well v s (u ∷ us) = ((tt, tt, λ e. absurd (false_true e)), given_well v s us)
 
-    name_of : (o : Option Program) → MayBe (λ (p : Program). (same_words p.name (codes "_") ≡ false) × TreeWell p.tree) o → same_words (elim o [ Some p ↦ p.name | None ↦ [] ]) (codes "_") ≡ false
-    unfolding same_words
-    name_of (Some p) h = h.0
-    name_of None h = refl
+  pub open_sound : (v : ℕ) (p : Program) (w x : World) → WorldSound script w → (o : Option (Vat Name)) → slice_get w.vats v ≡ o
+      → world.within v w (Opens v ∷ []) v (opening (names script v) p.tree script.depth (Root v) (world.given script.vats p.knows)) o ≡ Goes x → WorldSound script x
+  unfolding does world.within
+  open_sound v p w x h None q e = cc
+  open_sound v p w x h (Some s) q e = within_sound v w x (Opens v ∷ []) v (Starts p.tree script.depth (Root v) (world.given script.vats p.knows)) s h (h.vats v s q) (given_well v (world.readied w s) p.knows) e
 
-    false_true : false ≡ true → ⊥
-    false_true e = cc
-
-    pub given_well : (v : ℕ) (s : Vat Name) (ws : List ℕ) → AllOf (NounWell (names script v) strict s.things s.lists) (world.given script.vats ws)
-    unfolding world.given world.name_at any_guard scopes.frozen_guard scopes.freezes native.primitive native.numbered native.primitives
-    given_well v s [] = tt
-    given_well v s (u ∷ us) = ((λ q. name_of (slice_get script.vats u) (get_all _ script.vats u (well q)), (tt, tt, λ q e. absurd (false_true e))), given_well v s us)
-
-    pub open_sound : (v : ℕ) (p : Program) (w x : World) → (strict ≡ true → TreeWell p.tree) → WorldSound script strict w → (o : Option (Vat Name)) → slice_get w.vats v ≡ o
-        → world.within v w (Opens v ∷ []) v (opening (names script v) p.tree script.depth (Root v) (world.given script.vats p.knows)) o ≡ Goes x → WorldSound script strict x
-    unfolding does world.within
-    open_sound v p w x t h None q e = cc
-    open_sound v p w x t h (Some s) q e = within_sound v w x (Opens v ∷ []) v (Starts p.tree script.depth (Root v) (world.given script.vats p.knows)) s h (h.vats v s q) (t, given_well v (world.readied w s) p.knows) e
-
-    pub opens_sound : (v : ℕ) (ps : List Program) (w x : World) → (strict ≡ true → AllOf (λ (p : Program). (same_words p.name (codes "_") ≡ false) × TreeWell p.tree) ps) → WorldSound script strict w → world.open_from script v ps w ≡ Goes x → WorldSound script strict x
-    unfolding world.open_from world.open_vat
-    opens_sound v [] w x t h e = moved w x h e
-    opens_sound v (p ∷ ps) w x t h e = then_sound x (world.open_vat script v p w) (world.open_from script (suc v) ps) (λ y i. open_sound v p w y (λ q. (t q).0.1) h (slice_get w.vats v) refl i) (λ y i j. opens_sound (suc v) ps y x (λ q. (t q).1) i j) e
+  pub opens_sound : (v : ℕ) (ps : List Program) (w x : World) → WorldSound script w → world.open_from script v ps w ≡ Goes x → WorldSound script x
+  unfolding world.open_from world.open_vat
+  opens_sound v [] w x h e = moved w x h e
+  opens_sound v (p ∷ ps) w x h e = then_sound x (world.open_vat script v p w) (world.open_from script (suc v) ps) (λ y i. open_sound v p w y h (slice_get w.vats v) refl i) (λ y i j. opens_sound (suc v) ps y x i j) e
 
   -- ---- the start
 
@@ -242,14 +226,14 @@ module _ (script : Script) (strict : Bool) where
   roots_there [] = tt
   roots_there (w ∷ ws) = ((tt, tt, tt), roots_there ws)
 
-  fresh_sound : (u v : ℕ) (p : Program) → Sound (names script u) strict (world.fresh script v p)
+  fresh_sound : (u v : ℕ) (p : Program) → Sound (names script u) (world.fresh script v p)
   unfolding world.fresh world.known_root begun
   fresh_sound u v p = record { things = tt; slots = tt; lists = tt; stacked = tt; queue = tt; known = ((tt, tt, tt), roots_there p.knows); outbox = tt }
 
   some_is : (s t : Vat Name) → Some s ≡ Some t → s ≡ t
   some_is s t e = cc
 
-  fresh_from_sound : (v : ℕ) (ps : List Program) (u n : ℕ) (s : Vat Name) → slice_get (world.fresh_from script v ps) n ≡ Some s → Sound (names script u) strict s
+  fresh_from_sound : (v : ℕ) (ps : List Program) (u n : ℕ) (s : Vat Name) → slice_get (world.fresh_from script v ps) n ≡ Some s → Sound (names script u) s
   unfolding world.fresh_from
   fresh_from_sound v [] u n s e = cc
   fresh_from_sound v (p ∷ ps) u zero s e = rw (some_is (world.fresh script v p) s e) at (fresh_sound u v p)
@@ -269,26 +253,31 @@ module _ (script : Script) (strict : Bool) where
   links_from_pass all v [] = tt
   links_from_pass all v (p ∷ ps) = all_append LinkPasses (world.links_to v zero all) (world.links_from all (suc v) ps) (links_to_pass v zero all) (links_from_pass all (suc v) ps)
 
-  pub begins_sound : WorldSound script strict (world.begins script)
+  pub begins_sound : WorldSound script (world.begins script)
   unfolding world.begins
   begins_sound = record { vats = λ v s e. fresh_from_sound zero script.vats v v s e; links = links_from_pass script.vats zero script.vats }
 
-reach_in : (script : Script) (w : World) → WorldSound script true w → ReachIsFrozenIn script w
+  -- ---- the end
+
+  close_sound : (w x : World) → WorldSound script w → world.close script w ≡ Goes x → WorldSound script x
+  unfolding world.close
+  close_sound w x h e = moved _ x (record { vats = h.vats; links = h.links }) e
+
+  pub run_sound : (x : World) → world.run script ≡ Goes x → WorldSound script x
+  unfolding world.run
+  run_sound x e = then_sound x (world.open_from script zero script.vats (world.begins script)) (λ w. world.then_goes (world.steps_from script script.schedule 1 w) (world.close script))
+      (λ y i. opens_sound zero script.vats (world.begins script) y begins_sound i)
+      (λ y i j. then_sound x (world.steps_from script script.schedule 1 y) (world.close script) (λ z k. steps_sound script.schedule 1 y z i k) (λ z k l. close_sound z x k l) j) e
+
+reach_in : (script : Script) (w : World) → WorldSound script w → ReachIsFrozenIn script w
 unfolding names
 reach_in script w h v s e = frozen_reach (names script v) (global_spots (draw_word script.key) v) s (h.vats v s e)
 
-all_front : {A : Type 0} (P : A → Type 0) (xs ys : List A) → AllOf P (xs ++ ys) → AllOf P xs
-all_front P [] ys h = tt
-all_front P (x ∷ xs) ys h = (h.0, all_front P xs ys h.1)
-
-abbrev ProgramWell : Program → Type 0
-ProgramWell p = (same_words p.name (codes "_") ≡ false) × TreeWell p.tree
-
-front_well : (vats ps rest : List Program) → vats ≡ ps ++ rest → AllOf ProgramWell vats → AllOf ProgramWell ps
-front_well vats ps rest e h = let all : AllOf ProgramWell (ps ++ rest) = rw e at h in all_front ProgramWell ps rest all
-
 pub reach_in_runs : ReachIsFrozenInRuns
-reach_in_runs script well = (
-  λ ps rest w e opened. reach_in script w (opens_sound script true (λ q. well) zero ps (world.begins script) w (λ q. front_well script.vats ps rest e well) (begins_sound script true) opened),
-  λ w x es k opened stepped. reach_in script x (steps_sound script true (λ q. well) es k w x (opens_sound script true (λ q. well) zero script.vats (world.begins script) w (λ q. well) (begins_sound script true) opened) stepped),
+reach_in_runs script = (
+  λ ps rest w e opened. reach_in script w (opens_sound script zero ps (world.begins script) w (begins_sound script) opened),
+  λ w x es k opened stepped. reach_in script x (steps_sound script es k w x (opens_sound script zero script.vats (world.begins script) w (begins_sound script) opened) stepped),
 )
+
+pub reach_at_the_end : ReachIsFrozenAtTheEnd
+reach_at_the_end script w e = reach_in script w (run_sound script w e)

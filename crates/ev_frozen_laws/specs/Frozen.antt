@@ -1,11 +1,8 @@
 -- What is said of a vat's state: that its lists are there, what is bound under a frozen guard, and what objects with DeepFrozen's stamp have.
-use Rattle.std.specs.Prelude.{◌≡◌, ℕ, zero, suc, ◌<◌, Bool, true, false, List, [], ◌∷◌, Some, slice_get, codes, ◌⊎◌}
+use Rattle.std.specs.Prelude.{◌≡◌, ℕ, zero, suc, ◌<◌, true, List, [], ◌∷◌, Some, slice_get, ◌⊎◌}
 use Rattle.ev_machine.specs.Values.{Value, Null, Flag, Number, Letter, Text, Prim, Broken, Items, Ref, Naming, Own, IsOwn}
 use Rattle.ev_machine.specs.State.{Bound, Fixed, Slot, Binding, Cell, Freedom, IsSafe, IsItself, IsFinal, IsVar, View, Thing, Made, Ejector, Audition, Resolver, Message, Standing, Unsettled, WaitsOn, Viewed, Settled, Known, Passed, Passeds, Plain, AGift, Many, NoMore, More, Note, Deliver, Open, Ask, SettledTo, Elsewhere, Shorten, Put, Vat}
-use Rattle.ev_machine.specs.Free.{same_words}
 use Rattle.ev_machine.specs.Scopes.{frozen_guard}
-use Rattle.ev_kernel.specs.declared.node.Node.{Node}
-use Rattle.ev_kernel.specs.declared.node.Node.TheVariants.{Final, Var}
 
 -- it holds of each
 abbrev pub AllOf : {A : Type 0} → (A → Type 0) → List A → Type 0
@@ -109,17 +106,6 @@ NotePasses (SettledTo n y) = Passes y
 NotePasses (Elsewhere n c) = Unit {0}
 NotePasses (Shorten n c i) = Unit {0}
 
--- ---- trees
-
--- a pattern binds no lone _
-abbrev pub NamesWell : Node → Type 0
-NamesWell (Final x g) = same_words x (codes "_") ≡ false
-NamesWell (Var x g) = same_words x (codes "_") ≡ false
-NamesWell _ = Unit {0}
-
-abbrev pub TreeWell : List Node → Type 0
-TreeWell = AllOf NamesWell
-
 -- ---- frozen values
 
 -- the primitive DeepFrozen
@@ -191,28 +177,26 @@ module _ {N W : Type 0} (K : Naming N W) where
   abbrev pub FrozenReach : Vat N → Type 0
   FrozenReach s = (i n : ℕ) (w : Value N) → BearsFrozen s.things i → Reaches n s (Ref (K.object i)) w → IsFrozen s.things s.lists w × HasNoSlot s w
 
--- What is kept of a vat. Strict says whether it is presumed that no noun is the lone _: what is frozen rests on that, and that lists are there does not.
--- Where it is not presumed, it is kept too of which names resolvers are.
-module _ {N W : Type 0} (K : Naming N W) (strict : Bool) where
+-- What is kept of a vat.
+module _ {N W : Type 0} (K : Naming N W) where
   -- the vat made that promise
   abbrev pub IsPromised : N → Type 0
   IsPromised p = (i k : ℕ) × (p ≡ K.made (IsOwn i) k)
 
   -- what is bound under a frozen guard is frozen
   abbrev pub BoundWell : List (Thing N) → Lists N → Bound N → Type 0
-  BoundWell ts ls (Fixed v g) = IsThere ls v × IsThere ls g × (strict ≡ true → frozen_guard g ≡ true → IsFrozen K ts ls v)
+  BoundWell ts ls (Fixed v g) = IsThere ls v × IsThere ls g × (frozen_guard g ≡ true → IsFrozen K ts ls v)
   BoundWell ts ls (Slot k) = Unit {0}
 
-  -- and no noun is the lone _
   abbrev pub NounWell : List (Thing N) → Lists N → Binding N → Type 0
-  NounWell ts ls b = (strict ≡ true → same_words b.noun (codes "_") ≡ false) × BoundWell ts ls b.bound
+  NounWell ts ls b = BoundWell ts ls b.bound
 
-  -- an object with DeepFrozen's stamp has no capture but such
+  -- an object with DeepFrozen's stamp has frozen captures alone, and a resolver is of a promise that the vat made
   abbrev pub ThingWell : List (Thing N) → Lists N → Thing N → Type 0
-  ThingWell ts ls (Made node caught stamps) = AllOf (NounWell ts ls) caught × AreThere ls stamps × (strict ≡ true → IsAmong deep_frozen stamps → AllOf (λ b. FrozenCapture K ts ls b.bound) caught)
+  ThingWell ts ls (Made node caught stamps) = AllOf (NounWell ts ls) caught × AreThere ls stamps × (IsAmong deep_frozen stamps → AllOf (λ b. FrozenCapture K ts ls b.bound) caught)
   ThingWell ts ls (Ejector live) = Unit {0}
   ThingWell ts ls (Audition live view) = ViewThere ls view
-  ThingWell ts ls (Resolver p) = strict ≡ false → IsPromised p
+  ThingWell ts ls (Resolver p) = IsPromised p
 
   -- what is kept of a vat's things, slots, lists, queue, known names and outbox
   pub record SoundParts (ts : List (Thing N)) (cells : List (Cell N)) (ls : Lists N) (ms : List (Message N)) (ks : List (Known N)) (ps : List (Put N)) : Type 0 where

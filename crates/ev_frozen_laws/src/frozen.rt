@@ -1,15 +1,14 @@
 //! What is reached from objects that bear DeepFrozen's stamp.
 
 ghost use Rattle.ev_frozen_laws.specs.Laws.{ReachIsFrozen, StepsStaySound};
-ghost use Rattle.ev_frozen_laws.specs.Runs.{ReachIsFrozenInRuns};
+ghost use Rattle.ev_frozen_laws.specs.Runs.{ReachIsFrozenAtTheEnd, ReachIsFrozenInRuns};
 
 /// Every step of a vat from a sound state ends in a sound state.
 ///
 /// In a sound state each object with DeepFrozen's stamp has captures that are frozen and no var
 /// slot, what is bound under a frozen guard is frozen, and each list that stands in a value is
-/// there, and is made of what was there before it. The step's tree must bind no lone `_`, which the
-/// reading of trees refuses, where what is frozen is to be kept, and its message, note or given
-/// names must hold no list but those that are there.
+/// there, and is made of what was there before it. The step's message, note or given names must
+/// hold no list but those that are there.
 pub fn steps_stay_sound()
     ensures { StepsStaySound }
 {}
@@ -22,10 +21,13 @@ pub fn reach_is_frozen()
 {}
 
 /// In every vat of every world of a run, after any of its opening turns and after any entries of
-/// a schedule, what is reached from an object with DeepFrozen's stamp is frozen.
-///
-/// The script's vats must not be named by the lone `_`, and no pattern of a source may bind it:
-/// it is no identifier, so no script that is read has it as a name.
+/// a schedule, what is reached from an object with DeepFrozen's stamp is frozen: of every script,
+/// whatever its sources and names.
 pub fn reach_is_frozen_in_runs()
     ensures { ReachIsFrozenInRuns }
+{}
+
+/// The same of the world in which a whole run ends, behind its closing list.
+pub fn reach_is_frozen_at_the_end()
+    ensures { ReachIsFrozenAtTheEnd }
 {}

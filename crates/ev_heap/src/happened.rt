@@ -58,12 +58,13 @@ pub enum Happened {
         args: Seq<Value>,
         answer: PromId,
     },
-    /// A reaction was asked for.
+    /// A reaction was asked for: `reaction` is the object as it was held, and `near` what it was followed to, which the message runs.
     When {
         activation: ActId,
         message: MsgId,
         value: Value,
         reaction: Value,
+        near: Value,
         answer: PromId,
     },
     /// The turn ended with a value, or with a problem.

@@ -27,17 +27,17 @@ module _ (word : ℕ → ℕ) (v : ℕ) (heed : Bool) (D : ℕ → Type 0) (Seen
   abbrev N : Naming Name Name
   N = K word v
 
-  abbrev M : List Mark → Keeper N false
+  abbrev M : List Mark → Keeper N
   M ls = keeper word v heed D Seen ls
 
   abbrev Kept : List Mark → Vat Name → Type 0
   Kept ls s = Holds word v heed D Seen ls s
 
   abbrev At : List Mark → {A : Type 0} → (A → Fact Name) → Vat Name → Done Name A → Type 0
-  At ls G s d = Ends N false (M ls) G s d
+  At ls G s d = Ends N (M ls) G s d
 
   abbrev Is : List Mark → Fact Name → {A : Type 0} → Act Name A → (A → Fact Name) → Type 0
-  Is ls C m G = Fine N false (M ls) C m G
+  Is ls C m G = Fine N (M ls) C m G
 
   learnt_is : (x : Name) (k : ℕ) → N.made (IsLearnt x) k ≡ x
   unfolding naming name_of
@@ -105,21 +105,21 @@ module _ (word : ℕ → ℕ) (v : ℕ) (heed : Bool) (D : ℕ → Type 0) (Seen
 
     pub learns_name : (C : Fact Name) (x : Incoming Name Name) → IsToldWell hs x → Is js C (arrive.learn_name N x) nothing
     unfolding arrive.learn_name come
-    learns_name C (Old n) t = fine_give N false (M js) n (got_nothing N false C)
+    learns_name C (Old n) t = fine_give N (M js) n (got_nothing N C)
     learns_name C (New x h) t = record { after = λ s k c. (grows_same s.things s.lists, begun_holds word v heed D Seen js s (N.made (IsLearnt x) (length s.known)) h k (spared s h k t.0) (subst IsEventual (sym (learnt_is x (length s.known))) t.1), tt) }
 
     learns_ref : (C : Fact Name) (x : Incoming Name Name) → IsToldWell hs x → Is js C (arrive.learn_name N x >>= (λ n. give (Ref n))) IsValue
-    learns_ref C x t = bind_name N false (M js) {C = C} {H = IsValue} (learns_name C x t) (λ n. fine_give N false (M js) {C = C} (Ref n) (got_ref N false C n))
+    learns_ref C x t = bind_name N (M js) {C = C} {H = IsValue} (learns_name C x t) (λ n. fine_give N (M js) {C = C} (Ref n) (got_ref N C n))
 
     learns_value : (C : Fact Name) (y : Value (Incoming Name Name)) → PlainPasses y → ToldValue hs y → Is js C (arrive.learn_value N y) IsValue
     unfolding arrive.learn_value
-    learns_value C Null p t = fine_give N false (M js) {C = C} Null (record { at = λ ts ms h. tt })
-    learns_value C (Flag b) p t = fine_give N false (M js) {C = C} (Flag b) (record { at = λ ts ms h. tt })
-    learns_value C (Number z) p t = fine_give N false (M js) {C = C} (Number z) (record { at = λ ts ms h. tt })
-    learns_value C (Letter c) p t = fine_give N false (M js) {C = C} (Letter c) (record { at = λ ts ms h. tt })
-    learns_value C (Text w) p t = fine_give N false (M js) {C = C} (Text w) (record { at = λ ts ms h. tt })
-    learns_value C (Prim n) p t = fine_give N false (M js) {C = C} (Prim n) (record { at = λ ts ms h. tt })
-    learns_value C (Broken w) p t = fine_give N false (M js) {C = C} (Broken w) (record { at = λ ts ms h. tt })
+    learns_value C Null p t = fine_give N (M js) {C = C} Null (record { at = λ ts ms h. tt })
+    learns_value C (Flag b) p t = fine_give N (M js) {C = C} (Flag b) (record { at = λ ts ms h. tt })
+    learns_value C (Number z) p t = fine_give N (M js) {C = C} (Number z) (record { at = λ ts ms h. tt })
+    learns_value C (Letter c) p t = fine_give N (M js) {C = C} (Letter c) (record { at = λ ts ms h. tt })
+    learns_value C (Text w) p t = fine_give N (M js) {C = C} (Text w) (record { at = λ ts ms h. tt })
+    learns_value C (Prim n) p t = fine_give N (M js) {C = C} (Prim n) (record { at = λ ts ms h. tt })
+    learns_value C (Broken w) p t = fine_give N (M js) {C = C} (Broken w) (record { at = λ ts ms h. tt })
     learns_value C (Items k) p t = absurd p
     learns_value C (Ref x) p t = learns_ref C x t
 
@@ -135,15 +135,15 @@ module _ (word : ℕ → ℕ) (v : ℕ) (heed : Bool) (D : ℕ → Type 0) (Seen
     gift_comes h i e = record { after = λ s k c. (grows_same s.things s.lists, begun_holds word v heed D Seen js s (N.made (IsGift h i) (length s.known)) h k (spared s h k e) (gift_eventual h i (length s.known)), tt) }
 
     -- a gift of a host that was not noticed is asked for, and another breaks
-    gift_or : (C : Fact Name) (p h i : ℕ) (b : Bool) (s : Vat Name) → is_in h (heeds word v heed D Seen s) ≡ b → Kept js s → Knows N false s.things s.lists C → At js IsValue s (arrive.learn_gift N p h i s)
+    gift_or : (C : Fact Name) (p h i : ℕ) (b : Bool) (s : Vat Name) → is_in h (heeds word v heed D Seen s) ≡ b → Kept js s → Knows N s.things s.lists C → At js IsValue s (arrive.learn_gift N p h i s)
     unfolding arrive.learn_gift
     gift_or C p h i true s e k c = gift_noticed word v heed D Seen js s p h i e k
-    gift_or C p h i false s e k c = (bind_name N false (M js) {C = C} {H = IsValue} (gift_comes {C = C} h i (ap (λ xs. is_in h xs) (sym k.3.0) ∙ e)) (λ n. fine_then N false (M js) {C = C} {H = IsValue} nothing (asks {C = C} p h i n) (fine_give N false (M js) {C = C} (Ref n) (got_ref N false C n)))).after s k c
+    gift_or C p h i false s e k c = (bind_name N (M js) {C = C} {H = IsValue} (gift_comes {C = C} h i (ap (λ xs. is_in h xs) (sym k.3.0) ∙ e)) (λ n. fine_then N (M js) {C = C} {H = IsValue} nothing (asks {C = C} p h i n) (fine_give N (M js) {C = C} (Ref n) (got_ref N C n)))).after s k c
 
     learns_gift : (C : Fact Name) (p h i : ℕ) → Is js C (arrive.learn_gift N p h i) IsValue
     learns_gift C p h i = record { after = λ s k c. gift_or C p h i (is_in h (heeds word v heed D Seen s)) s refl k c }
 
-    makes_list : {C : Fact Name} (vs : List (Value Name)) → Gets N false C (AreValues vs) → Is js C (arrive.make_list N vs) IsValue
+    makes_list : {C : Fact Name} (vs : List (Value Name)) → Gets N C (AreValues vs) → Is js C (arrive.make_list N vs) IsValue
     unfolding arrive.make_list
     makes_list {C = C} vs g = search (fine, looks) depth 30
 
@@ -153,12 +153,12 @@ module _ (word : ℕ → ℕ) (v : ℕ) (heed : Bool) (D : ℕ → Type 0) (Seen
       pub learns : (C : Fact Name) (p : ℕ) (y : Passed (Incoming Name Name)) → Passes y → ToldPassed hs y → Is js C (arrive.learn N p y) IsValue
       learns C p (Plain y) q t = learns_value C y q t
       learns C p (AGift h i) q t = learns_gift C p h i
-      learns C p (Many ys) q t = bind_values N false (M js) {C = C} {H = IsValue} (learns_all C p ys q t) (λ vs. makes_list {C = Also C (AreValues vs)} vs (got N false C (AreValues vs)))
+      learns C p (Many ys) q t = bind_values N (M js) {C = C} {H = IsValue} (learns_all C p ys q t) (λ vs. makes_list {C = Also C (AreValues vs)} vs (got N C (AreValues vs)))
 
       pub learns_all : (C : Fact Name) (p : ℕ) (ys : Passeds (Incoming Name Name)) → AllPass ys → ToldPasseds hs ys → Is js C (arrive.learn_all N p ys) AreValues
-      learns_all C p NoMore q t = fine_give N false (M js) {C = C} [] (got_none N false C)
-      learns_all C p (More y ys) q t = bind_value N false (M js) {C = C} {H = AreValues} (learns C p y q.0 t.0) (λ x. bind_values N false (M js) {C = Also C (IsValue x)} {H = AreValues} (learns_all (Also C (IsValue x)) p ys q.1 t.1)
-          (λ xs. fine_give N false (M js) {C = Also (Also C (IsValue x)) (AreValues xs)} (x ∷ xs) (record { at = λ ts ms h. (h.0.1, h.1) })))
+      learns_all C p NoMore q t = fine_give N (M js) {C = C} [] (got_none N C)
+      learns_all C p (More y ys) q t = bind_value N (M js) {C = C} {H = AreValues} (learns C p y q.0 t.0) (λ x. bind_values N (M js) {C = Also C (IsValue x)} {H = AreValues} (learns_all (Also C (IsValue x)) p ys q.1 t.1)
+          (λ xs. fine_give N (M js) {C = Also (Also C (IsValue x)) (AreValues xs)} (x ∷ xs) (record { at = λ ts ms h. (h.0.1, h.1) })))
 
     -- ---- a message that is delivered
 
@@ -167,22 +167,22 @@ module _ (word : ℕ → ℕ) (v : ℕ) (heed : Bool) (D : ℕ → Type 0) (Seen
     then_mail C (Old n) f t g = record { after = λ s k c. (g n t).after s k c }
     then_mail C (New x h) f t g = record {
       after = λ s k c. let id : Name = N.mailed (IsCarried x) (length s.mails) in let u : Vat Name = record s { mails = s.mails ++ id ∷ [] } in
-          widen N false (M js) nothing s u _ (grows_same s.things s.lists) ((g id (subst IsMessageName (sym (carried_is x (length s.mails))) t)).after u ((M js).quiet s u (refl, refl, refl, inl refl, refl, refl, refl, refl) k k.0) c);
+          widen N (M js) nothing s u _ (grows_same s.things s.lists) ((g id (subst IsMessageName (sym (carried_is x (length s.mails))) t)).after u ((M js).quiet s u (refl, refl, refl, inl refl, refl, refl, refl, refl) k k.0) c);
     }
 
-    answered : (C : Fact Name) (from : ℕ) (id n : Name) (verb : Words) (args : List (Value Name)) → IsMessageName id → Gets N false C (AreValues args)
+    answered : (C : Fact Name) (from : ℕ) (id n : Name) (verb : Words) (args : List (Value Name)) → IsMessageName id → Gets N C (AreValues args)
         → Is js C (look (λ s. s.number) >>= (λ w. come N (IsAnswer w id) w >>= (λ a. alter N (ToTell from) a >> refs.send_on N (refs.settle N) (record { id = id; target = Ref n; verb = verb; args = args; answer = a })))) nothing
     unfolding ◌>>=◌ look come and_then
     answered C from id n verb args mail g = record {
       after = λ s k c. let a : Name = N.made (IsAnswer s.number id) (length s.known) in let made = made_answer s.number (length s.known) id mail in let t : Vat Name = record s { known = s.known ++ begun a s.number ∷ [] } in
-          widen N false (M js) nothing s t _ (grows_same s.things s.lists) ((fine_then N false (M js) {C = C} {H = nothing} nothing ((tells word v heed D Seen js).tells C from a)
+          widen N (M js) nothing s t _ (grows_same s.things s.lists) ((fine_then N (M js) {C = C} {H = nothing} nothing ((tells word v heed D Seen js).tells C from a)
           (sends_on word v heed D Seen js (refs.settle N) (good_settle word v heed D Seen js) C (record { id = id; target = Ref n; verb = verb; args = args; answer = a }) (mail, made.1 ∙ k.1.number, made.2) (record { at = λ ts ms h. (tt, g.at ts ms h) }))).after t (begun_holds word v heed D Seen js s a s.number k (here_spared word v heed D Seen js s k) made.0) c);
     }
 
     pub delivers : (from : ℕ) (m x : Incoming Name Name) (verb : Words) (ys : Passeds (Incoming Name Name)) → IsToldMail m → IsToldWell hs x → AllPass ys → ToldPasseds hs ys → Is js Nothing (arrive.arrive_deliver N from m x verb ys) nothing
     unfolding arrive.arrive_deliver
-    delivers from m x verb ys mail t q u = then_mail Nothing m _ mail (λ id i. bind_values N false (M js) {C = Nothing} {H = nothing} (learns_all Nothing from ys q u) (λ args. bind_name N false (M js) {C = Also Nothing (AreValues args)} {H = nothing} (learns_name (Also Nothing (AreValues args)) x t)
-        (λ n. answered (Also Nothing (AreValues args)) from id n verb args i (got N false Nothing (AreValues args)))))
+    delivers from m x verb ys mail t q u = then_mail Nothing m _ mail (λ id i. bind_values N (M js) {C = Nothing} {H = nothing} (learns_all Nothing from ys q u) (λ args. bind_name N (M js) {C = Also Nothing (AreValues args)} {H = nothing} (learns_name (Also Nothing (AreValues args)) x t)
+        (λ n. answered (Also Nothing (AreValues args)) from id n verb args i (got N Nothing (AreValues args)))))
 
     -- ---- gifts
 
@@ -255,7 +255,7 @@ module _ (word : ℕ → ℕ) (v : ℕ) (heed : Bool) (D : ℕ → Type 0) (Seen
 
     pub asked : (from p i : ℕ) → Is js Nothing (arrive.arrive_ask N from p i) nothing
     unfolding arrive.arrive_ask
-    asked from p i = bind_name N false (M js) {C = Nothing} {H = nothing} (had_gift {C = Nothing} p i) (λ n. fine_then N false (M js) {C = Nothing} {H = nothing} nothing (broke_orphan {C = Nothing} p i n) (told_asker {C = Nothing} n from))
+    asked from p i = bind_name N (M js) {C = Nothing} {H = nothing} (had_gift {C = Nothing} p i) (λ n. fine_then N (M js) {C = Nothing} {H = nothing} nothing (broke_orphan {C = Nothing} p i n) (told_asker {C = Nothing} n from))
 
     place_spot : (s : Vat Name) (x n : Name) (h : ℕ) (t : Spot) → N.spot x ≡ t → spotted N s x t ≡ Away h n true → IsObjectName n
     unfolding spotted hosted
@@ -290,7 +290,7 @@ module _ (word : ℕ → ℕ) (v : ℕ) (heed : Bool) (D : ℕ → Type 0) (Seen
 
     pub shortened : (x : Incoming Name Name) (i : ℕ) → IsToldWell hs x → Is js Nothing (arrive.arrive_shorten N x i) nothing
     unfolding arrive.arrive_shorten
-    shortened x i t = bind_name N false (M js) {C = Nothing} {H = nothing} (learns_name Nothing x t) (λ n. shortens {C = Nothing} i n)
+    shortened x i t = bind_name N (M js) {C = Nothing} {H = nothing} (learns_name Nothing x t) (λ n. shortens {C = Nothing} i n)
 
     -- a gift is resolved to what it is opened as: no view, or a view to an object
     abbrev OpensSo : Name → Name → Type 0
@@ -298,7 +298,7 @@ module _ (word : ℕ → ℕ) (v : ℕ) (heed : Bool) (D : ℕ → Type 0) (Seen
 
     resolves_so : heed ≡ true → (n y : Name) → host_of n ≡ v → OpensSo n y → Is js Nothing (refs.resolve N n (Ref y)) nothing
     resolves_so on n y e (inl o) = resolve_object word v heed D Seen on js Nothing n y o
-    resolves_so on n y e (inr f) = resolve_own word v heed D Seen on js Nothing n (e, f) (Ref y) (got_ref N false Nothing y)
+    resolves_so on n y e (inr f) = resolve_own word v heed D Seen on js Nothing n (e, f) (Ref y) (got_ref N Nothing y)
 
     so_named : (i : ℕ) (n y : Name) → n ≡ Gift v i → IsObjectName y ⊎ (D i → ⊥) → OpensSo n y
     so_named i n y e (inl o) = inl o
@@ -309,13 +309,13 @@ module _ (word : ℕ → ℕ) (v : ℕ) (heed : Bool) (D : ℕ → Type 0) (Seen
     host_named i n e = ap host_of e
 
     opens_own : heed ≡ true → (p i : ℕ) (y n : Name) → n ≡ Gift v i → IsObjectName y ⊎ (D i → ⊥) → Is js Nothing (open_gift p i >> refs.resolve N n (Ref y)) nothing
-    opens_own on p i y n e so = fine_then N false (M js) {C = Nothing} {H = nothing} nothing (opens_gift Nothing p i) (resolves_so on n y (host_named i n e) (so_named i n y e so))
+    opens_own on p i y n e so = fine_then N (M js) {C = Nothing} {H = nothing} nothing (opens_gift Nothing p i) (resolves_so on n y (host_named i n e) (so_named i n y e so))
 
     opens_or : heed ≡ true → (s : Vat Name) (p i : ℕ) (y : Name) (o : Option (GiftEntry Name)) → gift_at p i s.gifts ≡ o → IsObjectName y ⊎ (D i → ⊥) → Kept js s → At js nothing s ((arrive.gift_or_new N s.number p i o >>= (λ n. open_gift p i >> refs.resolve N n (Ref y))) s)
     unfolding arrive.gift_or_new ◌>>=◌ ◌>>◌ and_then come new_gift give
     opens_or on s p i y (Some g) e so k = (opens_own on p i y g.name (found_named p i s.gifts g k.1.gifts e) so).after s k tt
     opens_or on s p i y None e so k = let n : Name = N.made (IsGift s.number i) (length s.known) in let t : Vat Name = record s { known = s.known ++ begun n s.number ∷ []; gifts = s.gifts ++ record { name = n; provider = p; number = i; opened = false } ∷ [] } in
-        widen N false (M js) nothing s t _ (grows_same s.things s.lists) ((opens_own on p i y n (gift_named s i (length s.known) k.1.number) so).after t (new_gift_holds s p i k) tt)
+        widen N (M js) nothing s t _ (grows_same s.things s.lists) ((opens_own on p i y n (gift_named s i (length s.known) k.1.number) so).after t (new_gift_holds s p i k) tt)
 
     opens_at : heed ≡ true → (s : Vat Name) (p i : ℕ) (y : Name) → IsObjectName y ⊎ (D i → ⊥) → Kept js s → At js nothing s ((arrive.have_gift N p i >>= (λ n. open_gift p i >> refs.resolve N n (Ref y))) s)
     unfolding arrive.have_gift ◌>>=◌ look and_then
@@ -325,7 +325,7 @@ module _ (word : ℕ → ℕ) (v : ℕ) (heed : Bool) (D : ℕ → Type 0) (Seen
     unfolding arrive.arrive_open arrive.learn_name ◌>>=◌ give come and_then naming name_of
     opened on s from i (Old n) t so k = opens_at on s from i n so k
     opened on s from i (New x h) t so k = let u : Vat Name = record s { known = s.known ++ begun x h ∷ [] } in
-        widen N false (M js) nothing s u _ (grows_same s.things s.lists) (opens_at on u from i x so (begun_holds word v heed D Seen js s x h k (spared s h k t.0) t.1))
+        widen N (M js) nothing s u _ (grows_same s.things s.lists) (opens_at on u from i x so (begun_holds word v heed D Seen js s x h k (spared s h k t.0) t.1))
 
   gives_view : (s : Vat Name) (d : Done Name (Unit {0})) → At [] nothing s d → AtView word v heed Seen D D d
   gives_view s d h = ends_view word v heed Seen D D s d (λ t k. k) h
@@ -345,7 +345,7 @@ module _ (word : ℕ → ℕ) (v : ℕ) (heed : Bool) (D : ℕ → Type 0) (Seen
     abbrev ms : List Mark
     ms = Noticed hs ∷ Unviewed n ∷ []
 
-    settles : (C : Fact Name) (z : Value Name) → Gets N false C (IsValue z) → NoPromise z → (s : Vat Name) → Kept ms s → Knows N false s.things s.lists C → At ms nothing s (refs.settle N n z s)
+    settles : (C : Fact Name) (z : Value Name) → Gets N C (IsValue z) → NoPromise z → (s : Vat Name) → Kept ms s → Knows N s.things s.lists C → At ms nothing s (refs.settle N n z s)
     settles C z g not s k c = good_settle word v heed D Seen ms C n z g not (λ i f. on) s k c (λ i e. (k.3.1.0, apart))
 
     list_holds : (s : Vat Name) (vs : List (Value Name)) → Kept ms s → AreThere s.lists vs → At ms IsValue s (arrive.make_list N vs s)
@@ -354,11 +354,11 @@ module _ (word : ℕ → ℕ) (v : ℕ) (heed : Bool) (D : ℕ → Type 0) (Seen
     made_then : (t : Vat Name) (vs : List (Value Name)) → At ms IsValue t (arrive.make_list N vs t) → At ms nothing t (and_then (arrive.make_list N vs t) (λ z. refs.settle N n z))
     unfolding arrive.make_list ◌>>=◌ ◌>>◌ new_list tell give and_then
     made_then t vs h = let z : Value Name = Items (length t.lists) in let u : Vat Name = record t { lists = t.lists ++ vs ∷ []; happened = t.happened ++ ListCame (length t.lists) vs ∷ [] } in
-        widen N false (M ms) nothing t u _ h.0 (settles (IsValue z) z (got_itself N false (IsValue z)) (λ m e i. list_name (length t.lists) m e) u h.1 h.2)
+        widen N (M ms) nothing t u _ h.0 (settles (IsValue z) z (got_itself N (IsValue z)) (λ m e i. list_name (length t.lists) m e) u h.1 h.2)
 
     many_then : (s : Vat Name) (d : Done Name (List (Value Name))) → At ms AreValues s d → At ms nothing s (and_then (and_then d (λ vs. arrive.make_list N vs)) (λ z. refs.settle N n z))
     unfolding and_then
-    many_then s (Gives vs t) h = widen N false (M ms) nothing s t _ h.0 (made_then t vs (list_holds t vs h.1 h.2))
+    many_then s (Gives vs t) h = widen N (M ms) nothing s t _ h.0 (made_then t vs (list_holds t vs h.1 h.2))
     many_then s (Throws p t) h = h
     many_then s (Ejects i x t) h = h
     many_then s (Stops c t) h = h
@@ -368,7 +368,7 @@ module _ (word : ℕ → ℕ) (v : ℕ) (heed : Bool) (D : ℕ → Type 0) (Seen
     unfolding ◌>>=◌ arrive.learn and_then
     settles_many from ys q t s k = many_then s (arrive.learn_all N from ys s) ((learns_all hs (Unviewed n ∷ []) Nothing from ys q t).after s k tt)
 
-  settles_plain : heed ≡ true → (n : Name) (s : Vat Name) (z : Value Name) → Kept [] s → Gets N false Nothing (IsValue z) → NoPromise z → ((c : ℕ) → z ≡ Items c → ⊥) → At [] nothing s (refs.settle N n z s)
+  settles_plain : heed ≡ true → (n : Name) (s : Vat Name) (z : Value Name) → Kept [] s → Gets N Nothing (IsValue z) → NoPromise z → ((c : ℕ) → z ≡ Items c → ⊥) → At [] nothing s (refs.settle N n z s)
   settles_plain on n s z k g not plain = good_settle word v heed D Seen [] Nothing n z g not (λ i f. on) s k tt (λ i e. absurd (plain i e))
 
   settles_to : heed ≡ true → (n : Name) (from : ℕ) (y : Passed (Incoming Name Name)) → (s : Vat Name) → Passes y → ToldPassed (heeds word v heed D Seen s) y → SettlesWell y → IfMany y ((Seen n → ⊥) × (IsView D n → ⊥)) → Kept [] s → At [] nothing s ((arrive.learn N from y >>= (λ z. refs.settle N n z)) s)
@@ -381,7 +381,7 @@ module _ (word : ℕ → ℕ) (v : ℕ) (heed : Bool) (D : ℕ → Type 0) (Seen
   settles_to on n from (Plain (Prim i)) s q t w many k = settles_plain on n s (Prim i) k (record { at = λ ts js h. tt }) (λ m e i. cc) (λ c e. cc)
   settles_to on n from (Plain (Broken x)) s q t w many k = settles_plain on n s (Broken x) k (record { at = λ ts js h. tt }) (λ m e i. cc) (λ c e. cc)
   settles_to on n from (Plain (Items i)) s q t w many k = absurd q
-  settles_to on n from (Plain (Ref (Old m))) s q t w many k = settles_plain on n s (Ref m) k (got_ref N false Nothing m) (λ i e j. w (subst IsEventual (sym (name_same m i e)) j)) (λ c e. cc)
+  settles_to on n from (Plain (Ref (Old m))) s q t w many k = settles_plain on n s (Ref m) k (got_ref N Nothing m) (λ i e j. w (subst IsEventual (sym (name_same m i e)) j)) (λ c e. cc)
   settles_to on n from (Plain (Ref (New x h))) s q t w many k = absurd w
   settles_to on n from (AGift h i) s q t w many k = absurd w
   settles_to on n from (Many ys) s q t w many k = let hs : List ℕ = heeds word v heed D Seen s in
@@ -391,7 +391,7 @@ module _ (word : ℕ → ℕ) (v : ℕ) (heed : Bool) (D : ℕ → Type 0) (Seen
   unfolding arrive.arrive_settled arrive.learn_name ◌>>=◌ give come and_then naming name_of
   settled on s from (Old n) y t q u w many k = settles_to on n from y s q u w many k
   settled on s from (New x h) y t q u w many k = let r : Vat Name = record s { known = s.known ++ begun x h ∷ [] } in
-      widen N false (M []) nothing s r _ (grows_same s.things s.lists) (settles_to on x from y r q u w many (begun_holds word v heed D Seen [] s x h k t.0 t.1))
+      widen N (M []) nothing s r _ (grows_same s.things s.lists) (settles_to on x from y r q u w many (begun_holds word v heed D Seen [] s x h k t.0 t.1))
 
   -- ---- a note
 

@@ -190,30 +190,30 @@ module _ (word : ℕ → ℕ) (v : ℕ) (heed : Bool) (D : ℕ → Type 0) (Seen
   -- ---- the state after them
 
   pub changed_holds : (ls : List Mark) (s : Vat Name) (c : Change Name) (p : Name) → Holds ls s → Fair word v heed D Seen s c p → ChangeThere s.lists c → Holds ls (record s { known = with_change N c p s.known })
-  changed_holds ls s c p h fair there = (sound_known N false s (with_change N c p s.known) h.0 (changes_there N false s.lists c p s.known there h.0.known), ringless_changed word v heed D Seen s c p fair h.1, puts_stay word v heed D Seen s.known (with_change N c p s.known) (λ n y e. settled_stays word v heed D Seen c p n y s.known e) s.outbox s.drawn h.2, settling_changed word v heed D Seen s c p fair ls h.3)
+  changed_holds ls s c p h fair there = (sound_known N s (with_change N c p s.known) h.0 (changes_there N s.lists c p s.known there h.0.known), ringless_changed word v heed D Seen s c p fair h.1, puts_stay word v heed D Seen s.known (with_change N c p s.known) (λ n y e. settled_stays word v heed D Seen c p n y s.known e) s.outbox s.drawn h.2, settling_changed word v heed D Seen s c p fair ls h.3)
 
-  pub altered : (ls : List Mark) (s : Vat Name) (c : Change Name) (p : Name) → Holds ls s → Fair word v heed D Seen s c p → ChangeThere s.lists c → Ends N false (keeper word v heed D Seen ls) nothing s (alter N c p s)
+  pub altered : (ls : List Mark) (s : Vat Name) (c : Change Name) (p : Name) → Holds ls s → Fair word v heed D Seen s c p → ChangeThere s.lists c → Ends N (keeper word v heed D Seen ls) nothing s (alter N c p s)
   unfolding alter
   altered ls s c p h fair there = (grows_same s.things s.lists, changed_holds ls s c p h fair there, tt)
 
   pub begun_holds : (ls : List Mark) (s : Vat Name) (n : Name) (h : ℕ) → Holds ls s → is_in h (heeds word v heed D Seen s) ≡ false → IsEventual n → Holds ls (record s { known = s.known ++ begun n h ∷ [] })
-  begun_holds ls s n h i spared eventual = (known_begun N false s n h i.0, ringless_begun word v heed D Seen s n h spared eventual i.1, puts_stay word v heed D Seen s.known (s.known ++ begun n h ∷ []) (λ m y e. append_standing N (is word v) s.known n h m ∙ e) s.outbox s.drawn i.2, settling_begun word v heed D Seen s n h spared eventual ls i.3)
+  begun_holds ls s n h i spared eventual = (known_begun N s n h i.0, ringless_begun word v heed D Seen s n h spared eventual i.1, puts_stay word v heed D Seen s.known (s.known ++ begun n h ∷ []) (λ m y e. append_standing N (is word v) s.known n h m ∙ e) s.outbox s.drawn i.2, settling_begun word v heed D Seen s n h spared eventual ls i.3)
 
   told_holds : (ls : List Mark) (s : Vat Name) (p q : Name) → Holds ls s → Holds ls (record s { happened = s.happened ++ Waits p q ∷ [] })
   told_holds ls s p q h = (keeper word v heed D Seen ls).quiet s (record s { happened = s.happened ++ Waits p q ∷ [] }) (refl, refl, refl, inl refl, refl, refl, refl, refl) h h.0
 
   -- a message is queued
-  pub queued : (ls : List Mark) (s : Vat Name) (m : Message Name) → IsOwn v m → MessageThere s.lists m → Holds ls s → Ends N false (keeper word v heed D Seen ls) nothing s (enqueue m s)
+  pub queued : (ls : List Mark) (s : Vat Name) (m : Message Name) → IsOwn v m → MessageThere s.lists m → Holds ls s → Ends N (keeper word v heed D Seen ls) nothing s (enqueue m s)
   unfolding enqueue
   queued ls s m own there h = let t : Vat Name = record s { queue = s.queue ++ m ∷ [] } in
-      (grows_same s.things s.lists, (sound_queue N false s m h.0 there, ringless_same word v heed D Seen s t h.0 refl refl refl (inl refl) (all_end (IsOwn v) s.queue m h.1.queue own) h.1.gifts h.1, h.2, h.3), tt)
+      (grows_same s.things s.lists, (sound_queue N s m h.0 there, ringless_same word v heed D Seen s t h.0 refl refl refl (inl refl) (all_end (IsOwn v) s.queue m h.1.queue own) h.1.gifts h.1, h.2, h.3), tt)
 
   -- a note is put, of which the vat tells truly
   pub put_holds : (ls : List Mark) (s : Vat Name) (to : ℕ) (n : Note Name) → NotePasses n → NoteTells N D s.known n → Holds ls s → Holds ls (record s { outbox = s.outbox ++ record { to = to; note = n } ∷ [] })
   put_holds ls s to n passes tells h = let t : Vat Name = record s { outbox = s.outbox ++ record { to = to; note = n } ∷ [] } in
-      (sound_out N false s to n h.0 passes, ringless_same word v heed D Seen s t h.0 refl refl refl (inl refl) h.1.queue h.1.gifts h.1, (h.2.0, all_end (λ (p : Put Name). NoteTells N D s.known p.note) s.outbox (record { to = to; note = n }) h.2.1 tells), h.3)
+      (sound_out N s to n h.0 passes, ringless_same word v heed D Seen s t h.0 refl refl refl (inl refl) h.1.queue h.1.gifts h.1, (h.2.0, all_end (λ (p : Put Name). NoteTells N D s.known p.note) s.outbox (record { to = to; note = n }) h.2.1 tells), h.3)
 
-  pub puts : (ls : List Mark) (s : Vat Name) (to : ℕ) (n : Note Name) → NotePasses n → NoteTells N D s.known n → Holds ls s → Ends N false (keeper word v heed D Seen ls) nothing s (send_out to n s)
+  pub puts : (ls : List Mark) (s : Vat Name) (to : ℕ) (n : Note Name) → NotePasses n → NoteTells N D s.known n → Holds ls s → Ends N (keeper word v heed D Seen ls) nothing s (send_out to n s)
   unfolding send_out
   puts ls s to n passes tells h = (grows_same s.things s.lists, put_holds ls s to n passes tells h, tt)
 
@@ -235,7 +235,7 @@ module _ (word : ℕ → ℕ) (v : ℕ) (heed : Bool) (D : ℕ → Type 0) (Seen
   own_unviewed ls s p h own g e = h.1.names.far p g e own
 
   -- a name of the vat's own that is no view comes to wait, as one
-  pub wait_ends : (ls : List Mark) (s : Vat Name) (p q : Name) → Holds ls s → IsOwnName N v D p → Ends N false (keeper word v heed D Seen ls) nothing s (refs.wait_on N p q s)
+  pub wait_ends : (ls : List Mark) (s : Vat Name) (p q : Name) → Holds ls s → IsOwnName N v D p → Ends N (keeper word v heed D Seen ls) nothing s (refs.wait_on N p q s)
   unfolding refs.wait_on ◌>>◌ tell alter and_then
   wait_ends ls s p q h own = let t : Vat Name = record s { happened = s.happened ++ Waits p q ∷ [] } in let a : Holds ls t = told_holds ls s p q h in let fair : Fair word v heed D Seen t (WaitOn q) p = fair_wait_on t q p a.1 (own_unviewed ls s p h own.0) in
       let u : Vat Name = record t { known = with_change N (WaitOn q) p t.known } in let b : Holds ls u = changed_holds ls t (WaitOn q) p a fair tt in

@@ -40,7 +40,7 @@ module _ (word : ℕ → ℕ) (v : ℕ) (heed : Bool) (Seen : Name → Type 0) w
   Under D s = Holds word v heed D Seen [] s
 
   abbrev At : (ℕ → Type 0) → Vat Name → Done Name (Unit {0}) → Type 0
-  At D s d = Ends N false (keeper word v heed D Seen []) nothing s d
+  At D s d = Ends N (keeper word v heed D Seen []) nothing s d
 
   -- ---- more draws are those of views
 

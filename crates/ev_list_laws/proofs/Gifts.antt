@@ -90,7 +90,7 @@ module _ (word : ℕ → ℕ) (v : ℕ) (heed : Bool) (D : ℕ → Type 0) (Seen
     tells_begun t = puts_stay word v heed D Seen s.known More (λ m y e. append_standing N (is word v) s.known n h m ∙ e) s.outbox s.drawn t
 
     again_holds : (ls : List Mark) (k : Known Name) → entry_of N s.known n ≡ Some k → Holds word v heed D Seen ls s → Holds word v heed D Seen ls Then
-    again_holds ls k e i = (known_begun N false s n h i.0, again_rings k e i.1, tells_begun i.2, marks_begun ls i.3)
+    again_holds ls k e i = (known_begun N s n h i.0, again_rings k e i.1, tells_begun i.2, marks_begun ls i.3)
 
     -- ---- a name that comes to be known as broken
 
@@ -139,7 +139,7 @@ module _ (word : ℕ → ℕ) (v : ℕ) (heed : Bool) (D : ℕ → Type 0) (Seen
       broke_holds : (ls : List Mark) → Holds word v heed D Seen ls s → Holds word v heed D Seen ls Last
       broke_holds ls i = let a : Rings [] Then = ringless_begun word v false D Seen s n h (is_in_none h) eventual (weaken (heeds word v heed D Seen s) s i.1) in
           let b : Rings [] (record Then { known = Broke }) = ringless_changed word v false D Seen Then (Settle (Broken t)) n (fair a) a in
-          let sound : Sound N false Then = known_begun N false s n h i.0 in let sound2 : Sound N false (record Then { known = Broke }) = sound_known N false Then Broke sound (changes_there N false s.lists (Settle (Broken t)) n More tt sound.known) in
+          let sound : Sound N Then = known_begun N s n h i.0 in let sound2 : Sound N (record Then { known = Broke }) = sound_known N Then Broke sound (changes_there N s.lists (Settle (Broken t)) n More tt sound.known) in
           let c : Rings [] Last = ringless_same word v false D Seen (record Then { known = Broke }) Last sound2 refl refl refl (inl refl) b.queue b.gifts b in (
             sound2,
             strengthen (heeds word v heed D Seen s) Last i.1.names.here (λ m k e w. broke_spared m k i.1.names.spared (begun_or word v heed D Seen s.known n m h) (same_or N (Settle (Broken t)) n m More) e w) c,
@@ -147,19 +147,19 @@ module _ (word : ℕ → ℕ) (v : ℕ) (heed : Bool) (D : ℕ → Type 0) (Seen
             marks_broke a ls (marks_begun ls i.3),
           )
 
-      entry_ends : (settle : Name → Value Name → Act Name (Unit {0})) (ls : List Mark) (o : Option (Known Name)) → o ≡ Some (begun n h) → Holds word v heed D Seen ls s → Ends N false (keeper word v heed D Seen ls) nothing Then (refs.settle_entry N settle n (Broken t) o Then)
+      entry_ends : (settle : Name → Value Name → Act Name (Unit {0})) (ls : List Mark) (o : Option (Known Name)) → o ≡ Some (begun n h) → Holds word v heed D Seen ls s → Ends N (keeper word v heed D Seen ls) nothing Then (refs.settle_entry N settle n (Broken t) o Then)
       unfolding refs.settle_entry refs.settle_standing refs.settle_known begun each ◌>>◌ tell alter give and_then
       entry_ends settle ls None e i = cc
       entry_ends settle ls (Some k) e i = let same : begun n h ≡ k = some_known (begun n h) k (sym e) in
-          subst (λ (x : Known Name). Ends N false (keeper word v heed D Seen ls) nothing Then (refs.settle_entry N settle n (Broken t) (Some x) Then)) same (grows_same s.things s.lists, broke_holds ls i, tt)
+          subst (λ (x : Known Name). Ends N (keeper word v heed D Seen ls) nothing Then (refs.settle_entry N settle n (Broken t) (Some x) Then)) same (grows_same s.things s.lists, broke_holds ls i, tt)
 
-      broke_ends : (ls : List Mark) → Holds word v heed D Seen ls s → Ends N false (keeper word v heed D Seen ls) nothing Then (refs.settle N n (Broken t) Then)
+      broke_ends : (ls : List Mark) → Holds word v heed D Seen ls s → Ends N (keeper word v heed D Seen ls) nothing Then (refs.settle N n (Broken t) Then)
       unfolding refs.settle refs.settle_at refs.settle_one ◌>>=◌ look and_then target_of
       broke_ends ls i = entry_ends (λ q z. refs.settle_at N (suc (length Then.known)) q z) ls (entry_of N More n) (found_last s.known new) i
 
     -- ---- a gift that is learnt
 
-    breaks_either : (t : Words) (ls : List Mark) (o : Option (Known Name)) → entry_of N s.known n ≡ o → Holds word v heed D Seen ls s → Ends N false (keeper word v heed D Seen ls) nothing Then (refs.settle N n (Broken t) Then)
+    breaks_either : (t : Words) (ls : List Mark) (o : Option (Known Name)) → entry_of N s.known n ≡ o → Holds word v heed D Seen ls s → Ends N (keeper word v heed D Seen ls) nothing Then (refs.settle N n (Broken t) Then)
     breaks_either t ls None e i = broke_ends t e ls i
     breaks_either t ls (Some k) e i = (settle_broken word v heed D Seen ls Nothing n t).after Then (again_holds ls k e i) tt
 
@@ -167,18 +167,18 @@ module _ (word : ℕ → ℕ) (v : ℕ) (heed : Bool) (D : ℕ → Type 0) (Seen
   unfolding naming name_of
   gift_eventual h i k = tt
 
-  then_ref : (ls : List Mark) (s : Vat Name) (n : Name) (d : Done Name (Unit {0})) → Ends N false (keeper word v heed D Seen ls) nothing s d → Ends N false (keeper word v heed D Seen ls) IsValue s (and_then d (λ u. give (Ref n)))
+  then_ref : (ls : List Mark) (s : Vat Name) (n : Name) (d : Done Name (Unit {0})) → Ends N (keeper word v heed D Seen ls) nothing s d → Ends N (keeper word v heed D Seen ls) IsValue s (and_then d (λ u. give (Ref n)))
   unfolding and_then give
   then_ref ls s n (Gives a t) h = (h.0, h.1, tt)
   then_ref ls s n (Throws p t) h = h
   then_ref ls s n (Ejects j x t) h = h
   then_ref ls s n (Stops c t) h = h
 
-  asked_or : (ls : List Mark) (s : Vat Name) (n : Name) (p h i : ℕ) (b : Bool) → b ≡ true → Ends N false (keeper word v heed D Seen ls) nothing s (refs.settle N n (Broken (codes "partition")) s) → Ends N false (keeper word v heed D Seen ls) nothing s ((if b then refs.settle N n (Broken (codes "partition")) else send_out h (Ask p i n)) s)
+  asked_or : (ls : List Mark) (s : Vat Name) (n : Name) (p h i : ℕ) (b : Bool) → b ≡ true → Ends N (keeper word v heed D Seen ls) nothing s (refs.settle N n (Broken (codes "partition")) s) → Ends N (keeper word v heed D Seen ls) nothing s ((if b then refs.settle N n (Broken (codes "partition")) else send_out h (Ask p i n)) s)
   asked_or ls s n p h i true e k = k
   asked_or ls s n p h i false e k = absurd (no_true e)
 
-  pub gift_noticed : (ls : List Mark) (s : Vat Name) (p h i : ℕ) → is_in h (heeds word v heed D Seen s) ≡ true → Holds word v heed D Seen ls s → Ends N false (keeper word v heed D Seen ls) IsValue s (arrive.learn_gift N p h i s)
+  pub gift_noticed : (ls : List Mark) (s : Vat Name) (p h i : ℕ) → is_in h (heeds word v heed D Seen s) ≡ true → Holds word v heed D Seen ls s → Ends N (keeper word v heed D Seen ls) IsValue s (arrive.learn_gift N p h i s)
   unfolding arrive.learn_gift arrive.ask_for ◌>>=◌ ◌>>◌ look come and_then
   gift_noticed ls s p h i e k = let n : Name = N.made (IsGift h i) (length s.known) in let t : Vat Name = record s { known = s.known ++ begun n h ∷ [] } in
-      widen N false (keeper word v heed D Seen ls) IsValue s t _ (grows_same s.things s.lists) (then_ref ls t n _ (asked_or ls t n p h i (is_in h s.noticed) (heed_all heed h s.noticed e) (breaks_either s n h (gift_eventual h i (length s.known)) (codes "partition") ls (entry_of N s.known n) refl k)))
+      widen N (keeper word v heed D Seen ls) IsValue s t _ (grows_same s.things s.lists) (then_ref ls t n _ (asked_or ls t n p h i (is_in h s.noticed) (heed_all heed h s.noticed e) (breaks_either s n h (gift_eventual h i (length s.known)) (codes "partition") ls (entry_of N s.known n) refl k)))

@@ -342,13 +342,13 @@ module _ (word : ℕ → ℕ) (v : ℕ) (heed : Bool) (D : ℕ → Type 0) (Seen
   unfolding follow
   follow_same s t a b c x = severed_same s t a b c (follow_at N (suc (length t.known)) t.known x) ∙ ap (λ ks. severed N s (follow_at N (suc (length ks)) ks x)) b
 
-  none_quiet : (s t : Vat Name) → Sound N false s → t.number ≡ s.number → t.known ≡ s.known → t.noticed ≡ s.noticed → ListsGrow s.lists t.lists → NoListLeadsBack N s → NoListLeadsBack N t
+  none_quiet : (s t : Vat Name) → Sound N s → t.number ≡ s.number → t.known ≡ s.known → t.noticed ≡ s.noticed → ListsGrow s.lists t.lists → NoListLeadsBack N s → NoListLeadsBack N t
   none_quiet s t sound a b c (inl e) none = fewer_close_none N (is word v) s t e (λ x k i. sym (follow_same s t a b c x) ∙ i) none
   none_quiet s t sound a b c (inr e) none = let u : Vat Name = record s { lists = s.lists ++ e.0 ∷ [] } in
       fewer_close_none N (is word v) u t e.2 (λ x k i. sym (follow_same u t a b c x) ∙ i) (new_list_closes_none N s e.0 sound e.1 none)
 
   -- where nothing that is known changes, nor more of lists than one that is made
-  pub ringless_same : (s t : Vat Name) → Sound N false s → t.number ≡ s.number → t.known ≡ s.known → t.noticed ≡ s.noticed → ListsGrow s.lists t.lists → AllOf (IsOwn v) t.queue → AllOf (IsNamed v) t.gifts → Kept s → Kept t
+  pub ringless_same : (s t : Vat Name) → Sound N s → t.number ≡ s.number → t.known ≡ s.known → t.noticed ≡ s.noticed → ListsGrow s.lists t.lists → AllOf (IsOwn v) t.queue → AllOf (IsNamed v) t.gifts → Kept s → Kept t
   ringless_same s t sound a b c d queue gifts h = record {
     number = a ∙ h.number;
     names = subst (λ ks. Names ks (heeds t)) (sym b) (subst (λ hs. Names s.known hs) (same_heeds s t (sym c)) h.names);
@@ -357,7 +357,7 @@ module _ (word : ℕ → ℕ) (v : ℕ) (heed : Bool) (D : ℕ → Type 0) (Seen
     gifts = gifts;
   }
 
-  pub ringless_quiet : (s t : Vat Name) → Sound N false s → Quiet s t → Kept s → Kept t
+  pub ringless_quiet : (s t : Vat Name) → Sound N s → Quiet s t → Kept s → Kept t
   ringless_quiet s t sound q h = ringless_same s t sound q.0 q.1 q.2 q.3 (subst (λ ms. AllOf (IsOwn v) ms) (sym q.4) h.queue) (subst (λ gs. AllOf (IsNamed v) gs) (sym q.7) h.gifts) h
 
   pub marks_same : (s t : Vat Name) (ls : List Mark) → t.known ≡ s.known → t.noticed ≡ s.noticed → AllOf (IsMarked s.known (heeds s)) ls → AllOf (IsMarked t.known (heeds t)) ls
@@ -365,9 +365,9 @@ module _ (word : ℕ → ℕ) (v : ℕ) (heed : Bool) (D : ℕ → Type 0) (Seen
 
   -- ---- the keeper, while those settle
 
-  abbrev pub keeper : List Mark → Keeper N false
+  abbrev pub keeper : List Mark → Keeper N
   keeper ls = record {
-    holds = λ s. Sound N false s × Kept s × TellsSo N D s × AllOf (IsMarked s.known (heeds s)) ls;
+    holds = λ s. Sound N s × Kept s × TellsSo N D s × AllOf (IsMarked s.known (heeds s)) ls;
     sound = λ s h. h.0;
     quiet = λ s t q h i. (i, ringless_quiet s t h.0 q h.1, puts_same s t q.1 q.5 q.6 h.2, marks_same s t ls q.1 q.2 h.3);
   }

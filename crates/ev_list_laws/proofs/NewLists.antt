@@ -25,7 +25,7 @@ among_there ls v [] h a = absurd a
 among_there ls v (x ∷ xs) h (inl e) = subst (λ w. IsThere ls w) (sym e) h.0
 among_there ls v (x ∷ xs) h (inr a) = among_there ls v xs h.1 a
 
-module _ (K : Naming Name Name) (s : Vat Name) (vs : List (Value Name)) (sound : Sound K false s) (there : AreThere s.lists vs) where
+module _ (K : Naming Name Name) (s : Vat Name) (vs : List (Value Name)) (sound : Sound K s) (there : AreThere s.lists vs) where
   abbrev More : Lists Name
   More = s.lists ++ vs ∷ []
 
@@ -40,7 +40,7 @@ module _ (K : Naming Name Name) (s : Vat Name) (vs : List (Value Name)) (sound :
   members_there a = list_at_there s.lists More a (all_end (AreThere s.lists) s.lists vs sound.lists there)
 
   target_below : (a b : ℕ) → Leads K After (Items a) (Items b) → b < length s.lists
-  target_below a b h = there_below s.lists (length s.lists) (omega arith) (Items b) (subst (λ w. IsThere s.lists w) (sym (same_follow h.0) ∙ h.2) (follow_there K false s sound h.0 (among_there s.lists h.0 (list_at More a) (members_there a) h.1)))
+  target_below a b h = there_below s.lists (length s.lists) (omega arith) (Items b) (subst (λ w. IsThere s.lists w) (sym (same_follow h.0) ∙ h.2) (follow_there K s sound h.0 (among_there s.lists h.0 (list_at More a) (members_there a) h.1)))
 
   last_below : (d a b : ℕ) → LeadsIn K (suc d) After (Items a) (Items b) → b < length s.lists
   last_below zero a b h = target_below a b (subst (λ z. Leads K After (Items a) z) h.2 h.1)

@@ -20,37 +20,37 @@ module _ (word : ℕ → ℕ) (v : ℕ) (D : ℕ → Type 0) (Seen : Name → Ty
   abbrev ls : List Mark
   ls = Noticed [] ∷ []
 
-  abbrev M : Keeper N false
+  abbrev M : Keeper N
   M = keeper word v false D Seen ls
 
-  marks : {C : Fact Name} (w : ℕ) → Fine N false M C (mark w) nothing
+  marks : {C : Fact Name} (w : ℕ) → Fine N M C (mark w) nothing
   unfolding mark
   marks w = record { after = λ s h c. (grows_same s.things s.lists, (h.0, record { number = h.1.number; names = h.1.names; none = notice_closes_none N (is word v) s w h.1.none; queue = h.1.queue; gifts = h.1.gifts }, h.2, h.3), tt) }
 
-  broke_hosted : {C : Fact Name} (w : ℕ) (n : Name) (p : Words) (t : Standing Name) → Fine N false M C (arrive.break_hosted N w n p t) nothing
+  broke_hosted : {C : Fact Name} (w : ℕ) (n : Name) (p : Words) (t : Standing Name) → Fine N M C (arrive.break_hosted N w n p t) nothing
   unfolding arrive.break_hosted
   broke_hosted {C = C} w n p Unsettled = settle_broken word v false D Seen ls C n p
   broke_hosted {C = C} w n p (WaitsOn q) = settle_broken word v false D Seen ls C n p
   broke_hosted {C = C} w n p (Viewed q) = search (fine, looks) depth 30
   broke_hosted {C = C} w n p (Settled y) = search (fine, looks) depth 30
 
-  broke_name : {C : Fact Name} (w : ℕ) (k : Known Name) → Fine N false M C (arrive.notice_name N w k) nothing
+  broke_name : {C : Fact Name} (w : ℕ) (k : Known Name) → Fine N M C (arrive.notice_name N w k) nothing
   unfolding arrive.notice_name
   broke_name {C = C} w k = search (fine, looks, broke_hosted) depth 30
 
-  broke_gift : {C : Fact Name} (w : ℕ) (g : GiftEntry Name) → Fine N false M C (arrive.notice_gift N w g) nothing
+  broke_gift : {C : Fact Name} (w : ℕ) (g : GiftEntry Name) → Fine N M C (arrive.notice_gift N w g) nothing
   unfolding arrive.notice_gift
-  broke_gift {C = C} w g = let unopened : (F : Fact Name) (n : Name) (b : Bool) → Fine N false M F (arrive.break_unopened N n b) nothing = λ F n b. broke_unopened word v false D Seen [] [] {C = F} n b in search (fine, looks, unopened) depth 30
+  broke_gift {C = C} w g = let unopened : (F : Fact Name) (n : Name) (b : Bool) → Fine N M F (arrive.break_unopened N n b) nothing = λ F n b. broke_unopened word v false D Seen [] [] {C = F} n b in search (fine, looks, unopened) depth 30
 
-  noticed_all : {C : Fact Name} (w : ℕ) → Fine N false M C (arrive.notice_all N w) nothing
+  noticed_all : {C : Fact Name} (w : ℕ) → Fine N M C (arrive.notice_all N w) nothing
   unfolding arrive.notice_all
   noticed_all {C = C} w = search (fine, looks, marks, broke_name, broke_gift) depth 30
 
-  noticed : (w : ℕ) → Fine N false M Nothing (arrive.notice N w) nothing
+  noticed : (w : ℕ) → Fine N M Nothing (arrive.notice N w) nothing
   unfolding arrive.notice
   noticed w = search (fine, looks, noticed_all) depth 30
 
-  ends_after : (s : Vat Name) (d : Done Name (Unit {0})) → Ends N false M nothing s d → After (λ r t. Sound N false t × Ringless N v D Seen [] t × TellsSo N D t) s d
+  ends_after : (s : Vat Name) (d : Done Name (Unit {0})) → Ends N M nothing s d → After (λ r t. Sound N t × Ringless N v D Seen [] t × TellsSo N D t) s d
   ends_after s (Gives a t) h = (h.1.0, h.1.1, h.1.2)
   ends_after s (Throws p t) h = (h.1.0, h.1.1, h.1.2)
   ends_after s (Ejects n x t) h = (h.1.0, h.1.1, h.1.2)

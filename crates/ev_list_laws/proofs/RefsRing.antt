@@ -39,15 +39,15 @@ module _ (word : ℕ → ℕ) (v : ℕ) (heed : Bool) (D : ℕ → Type 0) (Seen
   abbrev N : Naming Name Name
   N = K word v
 
-  abbrev M : List Mark → Keeper N false
+  abbrev M : List Mark → Keeper N
   M ls = keeper word v heed D Seen ls
 
   -- what is done so is kept
   abbrev pub Does : List Mark → Fact Name → {A : Type 0} → Act Name A → (A → Fact Name) → Type 0
-  Does ls C m G = Fine N false (M ls) C m G
+  Does ls C m G = Fine N (M ls) C m G
 
   abbrev At : List Mark → {A : Type 0} → (A → Fact Name) → Vat Name → Done Name A → Type 0
-  At ls G s d = Ends N false (M ls) G s d
+  At ls G s d = Ends N (M ls) G s d
 
   abbrev Kept : List Mark → Vat Name → Type 0
   Kept ls s = Holds word v heed D Seen ls s
@@ -64,16 +64,16 @@ module _ (word : ℕ → ℕ) (v : ℕ) (heed : Bool) (D : ℕ → Type 0) (Seen
   gives_gift ls s h n w None k = let t : Vat Name = record s { drawn = s.drawn ++ w ∷ [] } in let i : ℕ = length s.drawn in
       (grows_same s.things s.lists, put_holds word v heed D Seen ls t h (Open i n) tt (inr (next_apart ls s k)) (drawn_holds word v heed D Seen ls s w k), tt)
 
-  away_ends : (ls : List Mark) (C : Fact Name) (w h : ℕ) (y : Value Name) (n : Name) (b : Bool) → Gets N false C (DoesPass (Plain y)) → Does ls C (if b then give (Plain y) else (draw N >>= (λ i. send_out h (Open i n) >> give (AGift h i)))) DoesPass
+  away_ends : (ls : List Mark) (C : Fact Name) (w h : ℕ) (y : Value Name) (n : Name) (b : Bool) → Gets N C (DoesPass (Plain y)) → Does ls C (if b then give (Plain y) else (draw N >>= (λ i. send_out h (Open i n) >> give (AGift h i)))) DoesPass
   unfolding ◌>>=◌ draw
-  away_ends ls C w h y n true g = fine_give N false (M ls) {C = C} (Plain y) g
+  away_ends ls C w h y n true g = fine_give N (M ls) {C = C} (Plain y) g
   away_ends ls C w h y n false g = record { after = λ s k c. gives_gift ls s h n (N.word (length s.drawn)) (drawn_at zero (N.word (length s.drawn)) s.drawn) k }
 
-  aways : (ls : List Mark) (C : Fact Name) (w : ℕ) (y : Value Name) → Gets N false C (DoesPass (Plain y)) → (h : ℕ) (n : Name) (o : Bool) → Does ls C (refs.address_plain N w y (Away h n o)) DoesPass
+  aways : (ls : List Mark) (C : Fact Name) (w : ℕ) (y : Value Name) → Gets N C (DoesPass (Plain y)) → (h : ℕ) (n : Name) (o : Bool) → Does ls C (refs.address_plain N w y (Away h n o)) DoesPass
   unfolding refs.address_plain
   aways ls C w y g h n o = away_ends ls C w h y n (h == w) g
 
-  pub tells : (ls : List Mark) → Tells N false (M ls)
+  pub tells : (ls : List Mark) → Tells N (M ls)
   tells ls = record {
     tells = λ C w n. record { after = λ s h c. altered word v heed D Seen ls s (ToTell w) n h (fair_tell word v heed D Seen s w n h.1) tt };
     aways = λ C w y g h n o. aways ls C w y g h n o;
@@ -101,53 +101,53 @@ module _ (word : ℕ → ℕ) (v : ℕ) (heed : Bool) (D : ℕ → Type 0) (Seen
   unfolding naming name_of
   made_answer h k i g = answer_eventual h i g
 
-  pass_ends : (ls : List Mark) (C : Fact Name) (m : Message Name) (h : ℕ) (n : Name) → IsOwn v m → Gets N false C (IsMessage m) → (s : Vat Name) → Kept ls s → Knows N false s.things s.lists C → is_in h (heeds word v heed D Seen s) ≡ false → At ls nothing s (refs.pass_on N m h n s)
+  pass_ends : (ls : List Mark) (C : Fact Name) (m : Message Name) (h : ℕ) (n : Name) → IsOwn v m → Gets N C (IsMessage m) → (s : Vat Name) → Kept ls s → Knows N s.things s.lists C → is_in h (heeds word v heed D Seen s) ≡ false → At ls nothing s (refs.pass_on N m h n s)
   unfolding refs.pass_on ◌>>=◌ come and_then
   pass_ends ls C m h n own g s i c spared = let a : Name = N.made (IsAnswer h m.id) (length s.known) in let t : Vat Name = record s { known = s.known ++ begun a h ∷ [] } in
-      widen N false (M ls) nothing s t _ (grows_same s.things s.lists) ((fine_then N false (M ls) {C = C} nothing (fine_deliver N false (M ls) (tells ls) {C = C} m g h n) (wait_own ls C m.answer a (own_answer m own))).after t (begun_holds word v heed D Seen ls s a h i spared (made_answer h (length s.known) m.id own.0)) c)
+      widen N (M ls) nothing s t _ (grows_same s.things s.lists) ((fine_then N (M ls) {C = C} nothing (fine_deliver N (M ls) (tells ls) {C = C} m g h n) (wait_own ls C m.answer a (own_answer m own))).after t (begun_holds word v heed D Seen ls s a h i spared (made_answer h (length s.known) m.id own.0)) c)
 
   -- a name settles to that, under what is asked of it
   abbrev pub Settler : Type 0
   Settler = Name → Value Name → Act Name (Unit {0})
 
   abbrev pub Good : List Mark → Settler → Type 0
-  Good ls settle = (C : Fact Name) (p : Name) (x : Value Name) → Gets N false C (IsValue x) → NoPromise x → ListIf word v heed D Seen x → (s : Vat Name) → Kept ls s → Knows N false s.things s.lists C → ByView word v heed D Seen s p x → At ls nothing s (settle p x s)
+  Good ls settle = (C : Fact Name) (p : Name) (x : Value Name) → Gets N C (IsValue x) → NoPromise x → ListIf word v heed D Seen x → (s : Vat Name) → Kept ls s → Knows N s.things s.lists C → ByView word v heed D Seen s p x → At ls nothing s (settle p x s)
 
   breaks : (ls : List Mark) (settle : Settler) → Good ls settle → (C : Fact Name) (p : Name) (t : Words) → Does ls C (settle p (Broken t)) nothing
-  breaks ls settle good C p t = record { after = λ s h c. good C p (Broken t) (got_broken N false C t) (λ n e i. broken_name t n e) (λ k e. absurd (broken_list t k e)) s h c (λ k e. absurd (broken_list t k e)) }
+  breaks ls settle good C p t = record { after = λ s h c. good C p (Broken t) (got_broken N C t) (λ n e i. broken_name t n e) (λ k e. absurd (broken_list t k e)) s h c (λ k e. absurd (broken_list t k e)) }
 
   away_spared : (s : Vat Name) (x : Value Name) (h : ℕ) (n : Name) (o : Bool) → place N s (follow N s x) ≡ Away h n o → is_in h (heeds word v heed D Seen s) ≡ false
   away_spared s x h n o e = heeds_spared word v heed D Seen s h (not_true (is_in h s.noticed) (λ i. nothing_of N s h i x n o e))
 
-  with_target : (C : Fact Name) (m : Message Name) (y : Value Name) → Gets N false C (IsMessage m) → Gets N false C (IsValue y) → Gets N false C (IsMessage (record m { target = y }))
+  with_target : (C : Fact Name) (m : Message Name) (y : Value Name) → Gets N C (IsMessage m) → Gets N C (IsValue y) → Gets N C (IsMessage (record m { target = y }))
   with_target C m y g i = record { at = λ ts ls h. (i.at ts ls h, (g.at ts ls h).1) }
 
-  sent_at : (ls : List Mark) (settle : Settler) → Good ls settle → (C : Fact Name) (m : Message Name) (y : Value Name) (p : Place Name) → IsOwn v m → Gets N false C (IsMessage m) → Gets N false C (IsValue y) → (s : Vat Name) → Kept ls s → Knows N false s.things s.lists C
+  sent_at : (ls : List Mark) (settle : Settler) → Good ls settle → (C : Fact Name) (m : Message Name) (y : Value Name) (p : Place Name) → IsOwn v m → Gets N C (IsMessage m) → Gets N C (IsValue y) → (s : Vat Name) → Kept ls s → Knows N s.things s.lists C
       → ((h : ℕ) (n : Name) (o : Bool) → p ≡ Away h n o → is_in h (heeds word v heed D Seen s) ≡ false) → At ls nothing s (refs.send_to N settle m y p s)
   unfolding refs.send_to
   sent_at ls settle good C m y Near own g i s h c f = queued word v heed D Seen ls s (record m { target = y }) own ((with_target C m y g i).at s.things s.lists c) h
   sent_at ls settle good C m y (Mine n) own g i s h c f = altered word v heed D Seen ls s (Hold (record m { target = y })) n h (fair_hold word v heed D Seen s (record m { target = y }) n h.1 own) ((with_target C m y g i).at s.things s.lists c)
   sent_at ls settle good C m y (Away w n o) own g i s h c f = pass_ends ls C m w n own g s h c (f w n o refl)
-  sent_at ls settle good C m y (Gone t) own g i s h c f = (fine_then N false (M ls) {C = C} nothing (fine_tell N false (M ls) {C = C} (Lost m.id)) (breaks ls settle good C m.answer t)).after s h c
+  sent_at ls settle good C m y (Gone t) own g i s h c f = (fine_then N (M ls) {C = C} nothing (fine_tell N (M ls) {C = C} (Lost m.id)) (breaks ls settle good C m.answer t)).after s h c
 
-  pub sends_on : (ls : List Mark) (settle : Settler) → Good ls settle → (C : Fact Name) (m : Message Name) → IsOwn v m → Gets N false C (IsMessage m) → Does ls C (refs.send_on N settle m) nothing
+  pub sends_on : (ls : List Mark) (settle : Settler) → Good ls settle → (C : Fact Name) (m : Message Name) → IsOwn v m → Gets N C (IsMessage m) → Does ls C (refs.send_on N settle m) nothing
   unfolding refs.send_on ◌>>=◌ look and_then
   sends_on ls settle good C m own g = record {
     after = λ s h c. let y : Value Name = follow N s m.target in
-        sent_at ls settle good (Also C (IsValue y)) m y (place N s y) own (got_left N false C (IsValue y) (IsMessage m) g) (got N false C (IsValue y)) s h (c, follow_there N false s h.0 m.target (g.at s.things s.lists c).0) (λ w n o e. away_spared s m.target w n o e);
+        sent_at ls settle good (Also C (IsValue y)) m y (place N s y) own (got_left N C (IsValue y) (IsMessage m) g) (got N C (IsValue y)) s h (c, follow_there N s h.0 m.target (g.at s.things s.lists c).0) (λ w n o e. away_spared s m.target w n o e);
   }
 
   -- ---- a settling
 
-  own_each : (ls : List Mark) (C : Fact Name) (f : Message Name → Act Name (Unit {0})) (ms : List (Message Name)) → AllOf (IsOwn v) ms → Gets N false C (AreMessages ms) → ((m : Message Name) → IsOwn v m → Gets N false C (IsMessage m) → Does ls C (f m) nothing) → Does ls C (each f ms) nothing
+  own_each : (ls : List Mark) (C : Fact Name) (f : Message Name → Act Name (Unit {0})) (ms : List (Message Name)) → AllOf (IsOwn v) ms → Gets N C (AreMessages ms) → ((m : Message Name) → IsOwn v m → Gets N C (IsMessage m) → Does ls C (f m) nothing) → Does ls C (each f ms) nothing
   unfolding each
-  own_each ls C f [] own g i = fine_give N false (M ls) tt (record { at = λ ts js h. tt })
-  own_each ls C f (m ∷ ms) own g i = fine_then N false (M ls) {C = C} nothing (i m own.0 (record { at = λ ts js h. (g.at ts js h).0 })) (own_each ls C f ms own.1 (record { at = λ ts js h. (g.at ts js h).1 }) i)
+  own_each ls C f [] own g i = fine_give N (M ls) tt (record { at = λ ts js h. tt })
+  own_each ls C f (m ∷ ms) own g i = fine_then N (M ls) {C = C} nothing (i m own.0 (record { at = λ ts js h. (g.at ts js h).0 })) (own_each ls C f ms own.1 (record { at = λ ts js h. (g.at ts js h).1 }) i)
 
   each_among : (ls : List Mark) (C : Fact Name) (f : Name → Act Name (Unit {0})) (ns : List Name) → ((n : Name) → IsAmong n ns → Does ls C (f n) nothing) → Does ls C (each f ns) nothing
   unfolding each
-  each_among ls C f [] i = fine_give N false (M ls) tt (record { at = λ ts js h. tt })
-  each_among ls C f (n ∷ ns) i = fine_then N false (M ls) {C = C} nothing (i n (inl refl)) (each_among ls C f ns (λ m a. i m (inr a)))
+  each_among ls C f [] i = fine_give N (M ls) tt (record { at = λ ts js h. tt })
+  each_among ls C f (n ∷ ns) i = fine_then N (M ls) {C = C} nothing (i n (inl refl)) (each_among ls C f ns (λ m a. i m (inr a)))
 
   pub drop : {A : Type 0} (l : Mark) (ls : List Mark) (G : A → Fact Name) (s : Vat Name) (d : Done Name A) → At (l ∷ ls) G s d → At ls G s d
   drop l ls G s (Gives a t) h = (h.0, (h.1.0, h.1.1, h.1.2, h.1.3.1), h.2)
@@ -224,7 +224,7 @@ module _ (word : ℕ → ℕ) (v : ℕ) (heed : Bool) (D : ℕ → Type 0) (Seen
   abbrev Told : Name → ℕ → Passed Name → Act Name (Unit {0})
   Told p w z = send_out w (SettledTo p z)
 
-  tells_plain : (ls : List Mark) (C : Fact Name) (p : Name) (w : ℕ) (y : Value Name) → Gets N false C (DoesPass (Plain y)) → Does ls C (Told p w (Plain y)) nothing
+  tells_plain : (ls : List Mark) (C : Fact Name) (p : Name) (w : ℕ) (y : Value Name) → Gets N C (DoesPass (Plain y)) → Does ls C (Told p w (Plain y)) nothing
   tells_plain ls C p w y g = record { after = λ s h c. puts word v heed D Seen ls s w (SettledTo p (Plain y)) (g.at s.things s.lists c) tt h }
 
   told_gift : (ls : List Mark) (s : Vat Name) (p : Name) (w h : ℕ) (n : Name) (x : ℕ) (o : Option ℕ) → Kept ls s → At ls nothing s (and_then (and_then (draws x o s) (λ i. send_out h (Open i n) >> give (AGift h i))) (Told p w))
@@ -233,23 +233,23 @@ module _ (word : ℕ → ℕ) (v : ℕ) (heed : Bool) (D : ℕ → Type 0) (Seen
   told_gift ls s p w h n x None k = let t : Vat Name = record s { drawn = s.drawn ++ x ∷ [] } in let i : ℕ = length s.drawn in let u : Vat Name = record t { outbox = t.outbox ++ record { to = h; note = Open i n } ∷ [] } in
       (grows_same s.things s.lists, put_holds word v heed D Seen ls u w (SettledTo p (AGift h i)) tt tt (put_holds word v heed D Seen ls t h (Open i n) tt (inr (next_apart ls s k)) (drawn_holds word v heed D Seen ls s x k)), tt)
 
-  told_away : (ls : List Mark) (C : Fact Name) (p : Name) (w h : ℕ) (y : Value Name) (n : Name) (b : Bool) → Gets N false C (DoesPass (Plain y)) → Does ls C ((if b then give (Plain y) else (draw N >>= (λ i. send_out h (Open i n) >> give (AGift h i)))) >>= Told p w) nothing
+  told_away : (ls : List Mark) (C : Fact Name) (p : Name) (w h : ℕ) (y : Value Name) (n : Name) (b : Bool) → Gets N C (DoesPass (Plain y)) → Does ls C ((if b then give (Plain y) else (draw N >>= (λ i. send_out h (Open i n) >> give (AGift h i)))) >>= Told p w) nothing
   unfolding ◌>>=◌ draw give and_then
   told_away ls C p w h y n true g = record { after = λ s k c. (tells_plain ls C p w y g).after s k c }
   told_away ls C p w h y n false g = record { after = λ s k c. told_gift ls s p w h n (N.word (length s.drawn)) (drawn_at zero (N.word (length s.drawn)) s.drawn) k }
 
-  told_mine : (ls : List Mark) (C : Fact Name) (p : Name) (w : ℕ) (y : Value Name) (n : Name) → Gets N false C (DoesPass (Plain y)) → Does ls C ((alter N (ToTell w) n >> give (Plain y)) >>= Told p w) nothing
+  told_mine : (ls : List Mark) (C : Fact Name) (p : Name) (w : ℕ) (y : Value Name) (n : Name) → Gets N C (DoesPass (Plain y)) → Does ls C ((alter N (ToTell w) n >> give (Plain y)) >>= Told p w) nothing
   unfolding ◌>>=◌ ◌>>◌ alter give and_then
   told_mine ls C p w y n g = record {
     after = λ s h c. let t : Vat Name = record s { known = with_change N (ToTell w) n s.known } in
-        widen N false (M ls) nothing s t _ (grows_same s.things s.lists) ((tells_plain ls C p w y g).after t (changed_holds word v heed D Seen ls s (ToTell w) n h (fair_tell word v heed D Seen s w n h.1) tt) c);
+        widen N (M ls) nothing s t _ (grows_same s.things s.lists) ((tells_plain ls C p w y g).after t (changed_holds word v heed D Seen ls s (ToTell w) n h (fair_tell word v heed D Seen s w n h.1) tt) c);
   }
 
-  told_here : (ls : List Mark) (C : Fact Name) (p : Name) (w : ℕ) (y : Value Name) → Gets N false C (DoesPass (Plain y)) → Does ls C (give (Plain y) >>= Told p w) nothing
+  told_here : (ls : List Mark) (C : Fact Name) (p : Name) (w : ℕ) (y : Value Name) → Gets N C (DoesPass (Plain y)) → Does ls C (give (Plain y) >>= Told p w) nothing
   unfolding ◌>>=◌ give and_then
   told_here ls C p w y g = record { after = λ s h c. (tells_plain ls C p w y g).after s h c }
 
-  told_placed : (ls : List Mark) (C : Fact Name) (p : Name) (w : ℕ) (y : Value Name) (q : Place Name) → Gets N false C (DoesPass (Plain y)) → Does ls C (refs.address_plain N w y q >>= Told p w) nothing
+  told_placed : (ls : List Mark) (C : Fact Name) (p : Name) (w : ℕ) (y : Value Name) (q : Place Name) → Gets N C (DoesPass (Plain y)) → Does ls C (refs.address_plain N w y q >>= Told p w) nothing
   unfolding refs.address_plain
   told_placed ls C p w y (Away h n o) g = told_away ls C p w h y n (h == w) g
   told_placed ls C p w y (Mine n) g = told_mine ls C p w y n g
@@ -282,7 +282,7 @@ module _ (word : ℕ → ℕ) (v : ℕ) (heed : Bool) (D : ℕ → Type 0) (Seen
   spent_told : (ls : List Mark) (p : Name) (w n : ℕ) (b : Bool) (y : Value Name) → PlainPasses y → (s : Vat Name) → Kept ls s → At ls nothing s (and_then (and_then (spent n b s) (λ u. refs.address N w (Plain y))) (Told p w))
   unfolding spent and_then refs.address ◌>>=◌ look
   spent_told ls p w n true y passes s h = let t : Vat Name = record s { fuel = s.fuel - n } in
-      widen N false (M ls) nothing s t _ (grows_same s.things s.lists) ((told_placed ls Nothing p w y (place N t y) (record { at = λ ts js c. passes })).after t ((M ls).quiet s t (refl, refl, refl, inl refl, refl, refl, refl, refl) h h.0) tt)
+      widen N (M ls) nothing s t _ (grows_same s.things s.lists) ((told_placed ls Nothing p w y (place N t y) (record { at = λ ts js c. passes })).after t ((M ls).quiet s t (refl, refl, refl, inl refl, refl, refl, refl, refl) h h.0) tt)
   spent_told ls p w n false y passes s h = (grows_same s.things s.lists, h)
 
   parcel_told : (ls : List Mark) (p : Name) (w : ℕ) (x : refs.Parcel Name) (y : Value Name) → x ≡ record { weight = refs.own_weight y; value = Plain y } → PlainPasses y → (s : Vat Name) → Kept ls s
@@ -299,9 +299,9 @@ module _ (word : ℕ → ℕ) (v : ℕ) (heed : Bool) (D : ℕ → Type 0) (Seen
   list_told t c (Plain y) e = tt
   list_told t c (AGift h i) e = tt
 
-  tells_list : (ls : List Mark) (C : Fact Name) (p : Name) (w c : ℕ) (x : Value Name) → Gets N false C (IsValue x) → Does (With p (Items c) ∷ ls) C (refs.pass N w x >>= Told p w) nothing
+  tells_list : (ls : List Mark) (C : Fact Name) (p : Name) (w c : ℕ) (x : Value Name) → Gets N C (IsValue x) → Does (With p (Items c) ∷ ls) C (refs.pass N w x >>= Told p w) nothing
   tells_list ls C p w c x g = let js : List Mark = With p (Items c) ∷ ls in
-      bind_passed N false (M js) {C = C} {H = nothing} (fine_pass N false (M js) (tells js) {C = C} w x g) (λ z. record { after = λ s h e. puts word v heed D Seen js s w (SettledTo p z) e.1 (list_told (standing_of N s.known p) c z h.3.0) h })
+      bind_passed N (M js) {C = C} {H = nothing} (fine_pass N (M js) (tells js) {C = C} w x g) (λ z. record { after = λ s h e. puts word v heed D Seen js s w (SettledTo p z) e.1 (list_told (standing_of N s.known p) c z h.3.0) h })
 
   with_settled : (ls : List Mark) (p : Name) (y : Value Name) (s : Vat Name) → standing_of N s.known p ≡ Settled y → Kept ls s → Kept (With p y ∷ ls) s
   with_settled ls p y s e h = (h.0, h.1, h.2, (e, h.3))
@@ -328,7 +328,7 @@ module _ (word : ℕ → ℕ) (v : ℕ) (heed : Bool) (D : ℕ → Type 0) (Seen
     no_list f (Gone t) j = tells_no_list ls p w z s (not_here f) h
 
     listed : (c : ℕ) → y ≡ Items c → At ls nothing s ((refs.pass N w z >>= Told p w) s)
-    listed c f = drop (With p (Items c)) ls nothing s _ ((tells_list ls (IsValue z) p w c z (got_itself N false (IsValue z))).after s (with_settled ls p (Items c) s (settled ∙ ap (λ x. Settled x) f) h) (follow_there N false s h.0 (Ref p) tt))
+    listed c f = drop (With p (Items c)) ls nothing s _ ((tells_list ls (IsValue z) p w c z (got_itself N (IsValue z))).after s (with_settled ls p (Items c) s (settled ∙ ap (λ x. Settled x) f) h) (follow_there N s h.0 (Ref p) tt))
 
     as_list : (c : ℕ) → y ≡ Items c → (q : Place Name) → place N s z ≡ q → At ls nothing s (refs.inform_of N p w z q s)
     unfolding refs.inform_of
@@ -364,14 +364,14 @@ module _ (word : ℕ → ℕ) (v : ℕ) (heed : Bool) (D : ℕ → Type 0) (Seen
   -- what follows once it settled
   rest_of : (ls : List Mark) (settle : Settler) (p : Name) (y : Value Name) (k : Known Name) → Good (With p y ∷ ls) settle → HoldsOwn v k → WaitsSo y k.waiting → NoPromise y → ListIf word v heed D Seen y
       → Does (With p y ∷ ls) (Known3 y k) (each (refs.send_on N settle) k.held >> (each (λ q. settle q y) k.waiting >> (each enqueue k.reactions >> each (refs.inform N p) k.told))) nothing
-  rest_of ls settle p y k good own waits not lists = let js : List Mark = With p y ∷ ls in let C : Fact Name = Known3 y k in let here : Gets N false C (IsValue y) = record { at = λ ts ms h. h.0 } in
-      fine_then N false (M js) {C = C} nothing (own_each js C (refs.send_on N settle) k.held own.0 (record { at = λ ts ms h. h.1.0 }) (λ m o g. sends_on js settle good C m o g))
-      (fine_then N false (M js) {C = C} nothing (each_among js C (λ q. settle q y) k.waiting (λ q a. record { after = λ s h c. good C q y here not lists s h c (λ i e. let o = waits i e q a in (own_unviewed word v heed D Seen js s q h o.0, o.1)) }))
-      (fine_then N false (M js) {C = C} nothing (own_each js C enqueue k.reactions own.1 (record { at = λ ts ms h. h.1.1 }) (λ m o g. record { after = λ s h c. queued word v heed D Seen js s m o (g.at s.things s.lists c) h }))
-      (fine_each N false (M js) {C = C} k.told (λ w. record { after = λ s h c. informs js p w y s h.3.0 not h }))))
+  rest_of ls settle p y k good own waits not lists = let js : List Mark = With p y ∷ ls in let C : Fact Name = Known3 y k in let here : Gets N C (IsValue y) = record { at = λ ts ms h. h.0 } in
+      fine_then N (M js) {C = C} nothing (own_each js C (refs.send_on N settle) k.held own.0 (record { at = λ ts ms h. h.1.0 }) (λ m o g. sends_on js settle good C m o g))
+      (fine_then N (M js) {C = C} nothing (each_among js C (λ q. settle q y) k.waiting (λ q a. record { after = λ s h c. good C q y here not lists s h c (λ i e. let o = waits i e q a in (own_unviewed word v heed D Seen js s q h o.0, o.1)) }))
+      (fine_then N (M js) {C = C} nothing (own_each js C enqueue k.reactions own.1 (record { at = λ ts ms h. h.1.1 }) (λ m o g. record { after = λ s h c. queued word v heed D Seen js s m o (g.at s.things s.lists c) h }))
+      (fine_each N (M js) {C = C} k.told (λ w. record { after = λ s h c. informs js p w y s h.3.0 not h }))))
 
   known_there : (ls : List Mark) (s : Vat Name) (p : Name) (k : Known Name) → Kept ls s → entry_of N s.known p ≡ Some k → KnownThere s.lists k
-  known_there ls s p k h e = subst (λ o. MayBe (KnownThere s.lists) o) e (entry_there N false s.lists s.known p h.0.known)
+  known_there ls s p k h e = subst (λ o. MayBe (KnownThere s.lists) o) e (entry_there N s.lists s.known p h.0.known)
 
   settle_known : (ls : List Mark) (settle : Settler) → ((js : List Mark) → Good js settle) → (p : Name) (x : Value Name) (k : Known Name) (s : Vat Name) → Kept ls s → IsThere s.lists x → NoPromise x → ListIf word v heed D Seen x → ByView word v heed D Seen s p x → entry_of N s.known p ≡ Some k → ((z : Value Name) → k.standing ≡ Settled z → ⊥)
       → At ls nothing s (refs.settle_known N settle p (target_of N s p x) k s)
@@ -379,12 +379,12 @@ module _ (word : ℕ → ℕ) (v : ℕ) (heed : Bool) (D : ℕ → Type 0) (Seen
   settle_known ls settle good p x k s h there not lists by e unsettled = let y : Value Name = target_of N s p x in
       let y_not : NoPromise y = (λ n i j. not n (target_ref word v heed D Seen s p x n i) j) in
       let fair : Fair word v heed D Seen s (Settle y) p = fair_settle word v heed D Seen s y p h.1 (settle_behind word v heed D Seen s p x k h.1 e unsettled not lists by) (y_not, λ i f. (by i (target_list word v heed D Seen s p x i f)).1) in
-      let y_there : IsThere s.lists y = target_there N false s p x there in
+      let y_there : IsThere s.lists y = target_there N s p x there in
       let t : Vat Name = record s { known = with_change N (Settle y) p s.known } in let a : Kept ls t = changed_holds word v heed D Seen ls s (Settle y) p h fair y_there in
       let u : Vat Name = record t { happened = s.happened ++ Settles p y ∷ [] } in let b : Kept ls u = (M ls).quiet t u (refl, refl, refl, inl refl, refl, refl, refl, refl) a a.0 in
       let c : Kept (With p y ∷ ls) u = with_settled ls p y u (new_settled s p y k e unsettled) b in
       let all : KnownThere s.lists k = known_there ls s p k h e in
-      widen N false (M ls) nothing s u _ (grows_same s.things s.lists) (drop (With p y) ls nothing u _ ((rest_of ls settle p y k (good (With p y ∷ ls)) (found_held word v heed D Seen s p k h.1 e) (λ i f q g. h.1.names.waits q p k e g (by i (target_list word v heed D Seen s p x i f)).1) y_not (λ i f. lists i (target_list word v heed D Seen s p x i f))).after u c (y_there, (all.1, all.2))))
+      widen N (M ls) nothing s u _ (grows_same s.things s.lists) (drop (With p y) ls nothing u _ ((rest_of ls settle p y k (good (With p y ∷ ls)) (found_held word v heed D Seen s p k h.1 e) (λ i f q g. h.1.names.waits q p k e g (by i (target_list word v heed D Seen s p x i f)).1) y_not (λ i f. lists i (target_list word v heed D Seen s p x i f))).after u c (y_there, (all.1, all.2))))
 
   settle_standing : (ls : List Mark) (settle : Settler) → ((js : List Mark) → Good js settle) → (p : Name) (x : Value Name) (k : Known Name) (t : Standing Name) (s : Vat Name) → Kept ls s → IsThere s.lists x → NoPromise x → ListIf word v heed D Seen x → ByView word v heed D Seen s p x → entry_of N s.known p ≡ Some k → k.standing ≡ t
       → At ls nothing s (refs.settle_standing N settle p (target_of N s p x) k t s)
@@ -430,11 +430,11 @@ module _ (word : ℕ → ℕ) (v : ℕ) (heed : Bool) (D : ℕ → Type 0) (Seen
   own_by : (ls : List Mark) (s : Vat Name) (p : Name) (x : Value Name) → Kept ls s → IsOwnName N v D p → ByView word v heed D Seen s p x
   own_by ls s p x h own c e = (own_unviewed word v heed D Seen ls s p h own.0, own.1)
 
-  wait_or : (ls : List Mark) (C : Fact Name) (p q : Name) (b : Bool) (s : Vat Name) → Kept ls s → Knows N false s.things s.lists C → IsOwnName N v D p → At ls nothing s ((if b then refs.settle N p (Broken (codes "cycle")) else refs.wait_on N p q) s)
+  wait_or : (ls : List Mark) (C : Fact Name) (p q : Name) (b : Bool) (s : Vat Name) → Kept ls s → Knows N s.things s.lists C → IsOwnName N v D p → At ls nothing s ((if b then refs.settle N p (Broken (codes "cycle")) else refs.wait_on N p q) s)
   wait_or ls C p q true s h c own = (settle_broken ls C p (codes "cycle")).after s h c
   wait_or ls C p q false s h c own = wait_ends word v heed D Seen ls s p q h own
 
-  wait_unless : (ls : List Mark) (C : Fact Name) (p q : Name) (s : Vat Name) → Kept ls s → Knows N false s.things s.lists C → IsOwnName N v D p → At ls nothing s (refs.wait_unless_cycle N p q s)
+  wait_unless : (ls : List Mark) (C : Fact Name) (p q : Name) (s : Vat Name) → Kept ls s → Knows N s.things s.lists C → IsOwnName N v D p → At ls nothing s (refs.wait_unless_cycle N p q s)
   unfolding refs.wait_unless_cycle ◌>>=◌ look and_then
   wait_unless ls C p q s h c own = wait_or ls C p q (waits_lead N (length s.known) s.known p q) s h c own
 
@@ -475,7 +475,7 @@ module _ (word : ℕ → ℕ) (v : ℕ) (heed : Bool) (D : ℕ → Type 0) (Seen
       pick (inl k) = f n k
       pick (inr k) = g (host_at N s.number s.known n) n k
 
-  resolve_at : heed ≡ true → (ls : List Mark) (C : Fact Name) (p : Name) (y : Value Name) (l : Place Name) → Gets N false C (IsValue y) → IsOwnName N v D p → (s : Vat Name) → Kept ls s → Knows N false s.things s.lists C → place N s y ≡ l → At ls nothing s (refs.resolve_to N p y l s)
+  resolve_at : heed ≡ true → (ls : List Mark) (C : Fact Name) (p : Name) (y : Value Name) (l : Place Name) → Gets N C (IsValue y) → IsOwnName N v D p → (s : Vat Name) → Kept ls s → Knows N s.things s.lists C → place N s y ≡ l → At ls nothing s (refs.resolve_to N p y l s)
   unfolding refs.resolve_to
   resolve_at on ls C p y (Mine q) g own s h c e = wait_unless ls C p q s h c own
   resolve_at on ls C p y (Away w q false) g own s h c e = wait_unless ls C p q s h c own
@@ -483,12 +483,12 @@ module _ (word : ℕ → ℕ) (v : ℕ) (heed : Bool) (D : ℕ → Type 0) (Seen
   resolve_at on ls C p y Near g own s h c e = good_settle ls C p y g (no_promise s y Near e (λ n i. cc) (λ u n i. cc)) (λ i f. on) s h c (own_by ls s p y h own)
   resolve_at on ls C p y (Gone t) g own s h c e = good_settle ls C p y g (no_promise s y (Gone t) e (λ n i. cc) (λ u n i. cc)) (λ i f. on) s h c (own_by ls s p y h own)
 
-  pub resolve_own : heed ≡ true → (ls : List Mark) (C : Fact Name) (p : Name) → IsOwnName N v D p → (x : Value Name) → Gets N false C (IsValue x) → Does ls C (refs.resolve N p x) nothing
+  pub resolve_own : heed ≡ true → (ls : List Mark) (C : Fact Name) (p : Name) → IsOwnName N v D p → (x : Value Name) → Gets N C (IsValue x) → Does ls C (refs.resolve N p x) nothing
   unfolding refs.resolve ◌>>=◌ look and_then
-  resolve_own on ls C p own x g = record { after = λ s h c. let y : Value Name = follow N s x in resolve_at on ls (Also C (IsValue y)) p y (place N s y) (got N false C (IsValue y)) own s h (c, follow_there N false s h.0 x (g.at s.things s.lists c)) refl }
+  resolve_own on ls C p own x g = record { after = λ s h c. let y : Value Name = follow N s x in resolve_at on ls (Also C (IsValue y)) p y (place N s y) (got N C (IsValue y)) own s h (c, follow_there N s h.0 x (g.at s.things s.lists c)) refl }
 
   -- an object at which a view is resolved
-  object_at : heed ≡ true → (ls : List Mark) (C : Fact Name) (p : Name) (y : Value Name) (l : Place Name) → Gets N false C (IsValue y) → ((n : Name) → l ≡ Mine n → ⊥) → ((h : ℕ) (n : Name) → l ≡ Away h n false → ⊥) → ((c : ℕ) → y ≡ Items c → ⊥) → (s : Vat Name) → Kept ls s → Knows N false s.things s.lists C → place N s y ≡ l → At ls nothing s (refs.resolve_to N p y l s)
+  object_at : heed ≡ true → (ls : List Mark) (C : Fact Name) (p : Name) (y : Value Name) (l : Place Name) → Gets N C (IsValue y) → ((n : Name) → l ≡ Mine n → ⊥) → ((h : ℕ) (n : Name) → l ≡ Away h n false → ⊥) → ((c : ℕ) → y ≡ Items c → ⊥) → (s : Vat Name) → Kept ls s → Knows N s.things s.lists C → place N s y ≡ l → At ls nothing s (refs.resolve_to N p y l s)
   unfolding refs.resolve_to
   object_at on ls C p y (Mine q) g f k not s h c e = absurd (f q refl)
   object_at on ls C p y (Away w q false) g f k not s h c e = absurd (k w q refl)
@@ -552,7 +552,7 @@ module _ (word : ℕ → ℕ) (v : ℕ) (heed : Bool) (D : ℕ → Type 0) (Seen
     after = λ s h c. let y : Value Name = follow N s (Ref x) in
         let came : y ≡ severed N s (Ref x) = end_followed s (Ref x) h.1 (λ n e i. object_end x o (subst IsEventual (sym (ref_same x n e)) i)) in
         let apart = plain_place s y (λ n e. subst IsObjectName (ref_same x n (severed_name s (Ref x) n (sym came ∙ e))) o) in
-        object_at on ls (Also C (IsValue y)) p y (place N s y) (got N false C (IsValue y)) apart.0 apart.1 (λ i e. ref_list x i (severed_list N s (Ref x) i (sym came ∙ e))) s h (c, follow_there N false s h.0 (Ref x) tt) refl;
+        object_at on ls (Also C (IsValue y)) p y (place N s y) (got N C (IsValue y)) apart.0 apart.1 (λ i e. ref_list x i (severed_list N s (Ref x) i (sym came ∙ e))) s h (c, follow_there N s h.0 (Ref x) tt) refl;
   }
 
   -- ---- sending, reacting and promises
@@ -565,7 +565,7 @@ module _ (word : ℕ → ℕ) (v : ℕ) (heed : Bool) (D : ℕ → Type 0) (Seen
   unfolding new_promise
   promised ls C = record {
     after = λ s h c. let t : Vat Name = record s { promises = suc s.promises } in let a : Kept ls t = (M ls).quiet s t (refl, refl, refl, inl refl, refl, refl, refl, refl) h h.0 in let n : Name = N.made (IsOwnPromise s.promises) (length s.known) in
-        (grows_same s.things s.lists, begun_holds word v heed D Seen ls t n s.number a (ap (λ i. is_in i (heeds word v heed D Seen s)) h.1.number ∙ h.1.names.here) (own_promise s.promises (length s.known)), λ e. (s.promises, length s.known, refl));
+        (grows_same s.things s.lists, begun_holds word v heed D Seen ls t n s.number a (ap (λ i. is_in i (heeds word v heed D Seen s)) h.1.number ∙ h.1.names.here) (own_promise s.promises (length s.known)), (s.promises, length s.known, refl));
   }
 
   -- a message that is made, its answer at that host, and the state then
@@ -598,34 +598,34 @@ module _ (word : ℕ → ℕ) (v : ℕ) (heed : Bool) (D : ℕ → Type 0) (Seen
   here_spared ls s h = ap (λ i. is_in i (heeds word v heed D Seen s)) h.1.number ∙ h.1.names.here
 
   -- a new message, in a state in which it was just made
-  sent_here : (ls : List Mark) (C : Fact Name) (act : ℕ) (x y : Value Name) (verb : Words) (args : List (Value Name)) (p : Place Name) (id a : Name) → IsMessageName id → (host_of a ≡ v) × IsAnswerName a → Gets N false C (IsValue y) → Gets N false C (AreValues args) → ((h : ℕ) (n : Name) (o : Bool) → p ≡ Away h n o → ⊥)
+  sent_here : (ls : List Mark) (C : Fact Name) (act : ℕ) (x y : Value Name) (verb : Words) (args : List (Value Name)) (p : Place Name) (id a : Name) → IsMessageName id → (host_of a ≡ v) × IsAnswerName a → Gets N C (IsValue y) → Gets N C (AreValues args) → ((h : ℕ) (n : Name) (o : Bool) → p ≡ Away h n o → ⊥)
       → Does ls C (tell (Sends act (record { id = id; target = x; verb = verb; args = args; answer = a })) >> (refs.send_to N (refs.settle N) (record { id = id; target = y; verb = verb; args = args; answer = a }) y p >> give (Ref a))) IsValue
   sent_here ls C act x y verb args p id a mail own g i not = let m : Message Name = record { id = id; target = y; verb = verb; args = args; answer = a } in
-      fine_then N false (M ls) {C = C} nothing (fine_tell N false (M ls) {C = C} _) (fine_then N false (M ls) {C = C} nothing
-      (record { after = λ s h c. sent_at ls (refs.settle N) (good_settle ls) C m y p (mail, own.0, own.1) (record { at = λ ts js k. (g.at ts js k, i.at ts js k) }) g s h c (λ w n o e. absurd (not w n o e)) }) (fine_give N false (M ls) {C = C} (Ref a) (got_ref N false C a)))
+      fine_then N (M ls) {C = C} nothing (fine_tell N (M ls) {C = C} _) (fine_then N (M ls) {C = C} nothing
+      (record { after = λ s h c. sent_at ls (refs.settle N) (good_settle ls) C m y p (mail, own.0, own.1) (record { at = λ ts js k. (g.at ts js k, i.at ts js k) }) g s h c (λ w n o e. absurd (not w n o e)) }) (fine_give N (M ls) {C = C} (Ref a) (got_ref N C a)))
 
-  sent_away : (ls : List Mark) (C : Fact Name) (act : ℕ) (x y : Value Name) (verb : Words) (args : List (Value Name)) (h : ℕ) (n id a : Name) → Gets N false C (IsValue y) → Gets N false C (AreValues args)
+  sent_away : (ls : List Mark) (C : Fact Name) (act : ℕ) (x y : Value Name) (verb : Words) (args : List (Value Name)) (h : ℕ) (n id a : Name) → Gets N C (IsValue y) → Gets N C (AreValues args)
       → Does ls C (tell (Sends act (record { id = id; target = x; verb = verb; args = args; answer = a })) >> (refs.deliver N (record { id = id; target = y; verb = verb; args = args; answer = a }) h n >> give (Ref a))) IsValue
   sent_away ls C act x y verb args h n id a g i = let m : Message Name = record { id = id; target = y; verb = verb; args = args; answer = a } in
-      fine_then N false (M ls) {C = C} nothing (fine_tell N false (M ls) {C = C} _) (fine_then N false (M ls) {C = C} nothing
-      (fine_deliver N false (M ls) (tells ls) {C = C} m (record { at = λ ts js k. (g.at ts js k, i.at ts js k) }) h n) (fine_give N false (M ls) {C = C} (Ref a) (got_ref N false C a)))
+      fine_then N (M ls) {C = C} nothing (fine_tell N (M ls) {C = C} _) (fine_then N (M ls) {C = C} nothing
+      (fine_deliver N (M ls) (tells ls) {C = C} m (record { at = λ ts js k. (g.at ts js k, i.at ts js k) }) h n) (fine_give N (M ls) {C = C} (Ref a) (got_ref N C a)))
 
-  send_at : (ls : List Mark) (C : Fact Name) (act : ℕ) (x y : Value Name) (verb : Words) (args : List (Value Name)) (p : Place Name) → Gets N false C (IsValue y) → Gets N false C (AreValues args) → (s : Vat Name) → Kept ls s → Knows N false s.things s.lists C → ((h : ℕ) (n : Name) (o : Bool) → p ≡ Away h n o → is_in h (heeds word v heed D Seen s) ≡ false)
+  send_at : (ls : List Mark) (C : Fact Name) (act : ℕ) (x y : Value Name) (verb : Words) (args : List (Value Name)) (p : Place Name) → Gets N C (IsValue y) → Gets N C (AreValues args) → (s : Vat Name) → Kept ls s → Knows N s.things s.lists C → ((h : ℕ) (n : Name) (o : Bool) → p ≡ Away h n o → is_in h (heeds word v heed D Seen s) ≡ false)
       → At ls IsValue s ((new_message N (refs.answer_host N s.number p) >>= (λ new. tell (Sends act (record { id = new.0; target = x; verb = verb; args = args; answer = new.1 })) >> (refs.send_first N (record { id = new.0; target = y; verb = verb; args = args; answer = new.1 }) y p >> give (Ref new.1)))) s)
   unfolding ◌>>=◌ new_message and_then refs.answer_host refs.send_first
-  send_at ls C act x y verb args (Away h n o) g i s k c f = widen N false (M ls) IsValue s (made s h) _ (grows_same s.things s.lists) ((sent_away ls C act x y verb args h n (made_id s) (made_at s h) g i).after (made s h) (made_holds ls s h k (f h n o refl)) c)
-  send_at ls C act x y verb args Near g i s k c f = widen N false (M ls) IsValue s (made s s.number) _ (grows_same s.things s.lists) ((sent_here ls C act x y verb args Near (made_id s) (made_at s s.number) (made_mail s) (made_host s s.number ∙ k.1.number, made_form s s.number) g i (λ h n o e. cc)).after (made s s.number) (made_holds ls s s.number k (here_spared ls s k)) c)
-  send_at ls C act x y verb args (Mine n) g i s k c f = widen N false (M ls) IsValue s (made s s.number) _ (grows_same s.things s.lists) ((sent_here ls C act x y verb args (Mine n) (made_id s) (made_at s s.number) (made_mail s) (made_host s s.number ∙ k.1.number, made_form s s.number) g i (λ h n o e. cc)).after (made s s.number) (made_holds ls s s.number k (here_spared ls s k)) c)
-  send_at ls C act x y verb args (Gone t) g i s k c f = widen N false (M ls) IsValue s (made s s.number) _ (grows_same s.things s.lists) ((sent_here ls C act x y verb args (Gone t) (made_id s) (made_at s s.number) (made_mail s) (made_host s s.number ∙ k.1.number, made_form s s.number) g i (λ h n o e. cc)).after (made s s.number) (made_holds ls s s.number k (here_spared ls s k)) c)
+  send_at ls C act x y verb args (Away h n o) g i s k c f = widen N (M ls) IsValue s (made s h) _ (grows_same s.things s.lists) ((sent_away ls C act x y verb args h n (made_id s) (made_at s h) g i).after (made s h) (made_holds ls s h k (f h n o refl)) c)
+  send_at ls C act x y verb args Near g i s k c f = widen N (M ls) IsValue s (made s s.number) _ (grows_same s.things s.lists) ((sent_here ls C act x y verb args Near (made_id s) (made_at s s.number) (made_mail s) (made_host s s.number ∙ k.1.number, made_form s s.number) g i (λ h n o e. cc)).after (made s s.number) (made_holds ls s s.number k (here_spared ls s k)) c)
+  send_at ls C act x y verb args (Mine n) g i s k c f = widen N (M ls) IsValue s (made s s.number) _ (grows_same s.things s.lists) ((sent_here ls C act x y verb args (Mine n) (made_id s) (made_at s s.number) (made_mail s) (made_host s s.number ∙ k.1.number, made_form s s.number) g i (λ h n o e. cc)).after (made s s.number) (made_holds ls s s.number k (here_spared ls s k)) c)
+  send_at ls C act x y verb args (Gone t) g i s k c f = widen N (M ls) IsValue s (made s s.number) _ (grows_same s.things s.lists) ((sent_here ls C act x y verb args (Gone t) (made_id s) (made_at s s.number) (made_mail s) (made_host s s.number ∙ k.1.number, made_form s s.number) g i (λ h n o e. cc)).after (made s s.number) (made_holds ls s s.number k (here_spared ls s k)) c)
 
-  pub sends : (ls : List Mark) (C : Fact Name) (act : ℕ) (x : Value Name) → Gets N false C (IsValue x) → (verb : Words) (args : List (Value Name)) → Gets N false C (AreValues args) → Does ls C (refs.send N act x verb args) IsValue
+  pub sends : (ls : List Mark) (C : Fact Name) (act : ℕ) (x : Value Name) → Gets N C (IsValue x) → (verb : Words) (args : List (Value Name)) → Gets N C (AreValues args) → Does ls C (refs.send N act x verb args) IsValue
   unfolding refs.send ◌>>=◌ look and_then
   sends ls C act x g verb args i = record {
     after = λ s h c. let y : Value Name = follow N s x in
-        send_at ls (Also C (IsValue y)) act x y verb args (place N s y) (got N false C (IsValue y)) (got_left N false C (IsValue y) (AreValues args) i) s h (c, follow_there N false s h.0 x (g.at s.things s.lists c)) (λ w n o e. away_spared s x w n o e);
+        send_at ls (Also C (IsValue y)) act x y verb args (place N s y) (got N C (IsValue y)) (got_left N C (IsValue y) (AreValues args) i) s h (c, follow_there N s h.0 x (g.at s.things s.lists c)) (λ w n o e. away_spared s x w n o e);
   }
 
-  reacts_at : (ls : List Mark) (C : Fact Name) (m : Message Name) (p : Place Name) → IsOwn v m → Gets N false C (IsMessage m) → Does ls C (refs.react_at N m p) nothing
+  reacts_at : (ls : List Mark) (C : Fact Name) (m : Message Name) (p : Place Name) → IsOwn v m → Gets N C (IsMessage m) → Does ls C (refs.react_at N m p) nothing
   unfolding refs.react_at
   reacts_at ls C m (Mine n) own g = record { after = λ s h c. altered word v heed D Seen ls s (React m) n h (fair_react word v heed D Seen s m n h.1 own) (g.at s.things s.lists c) }
   reacts_at ls C m (Away h n false) own g = record { after = λ s i c. altered word v heed D Seen ls s (React m) n i (fair_react word v heed D Seen s m n i.1 own) (g.at s.things s.lists c) }
@@ -633,27 +633,27 @@ module _ (word : ℕ → ℕ) (v : ℕ) (heed : Bool) (D : ℕ → Type 0) (Seen
   reacts_at ls C m Near own g = record { after = λ s h c. queued word v heed D Seen ls s m own (g.at s.things s.lists c) h }
   reacts_at ls C m (Gone t) own g = record { after = λ s h c. queued word v heed D Seen ls s m own (g.at s.things s.lists c) h }
 
-  place_then : (ls : List Mark) (C : Fact Name) (x : Value Name) (m : Message Name) (a : Name) → IsOwn v m → Gets N false C (IsMessage m) → Does ls C (look (λ s. place N s (follow N s x)) >>= (λ p. refs.react_at N m p >> give (Ref a))) IsValue
+  place_then : (ls : List Mark) (C : Fact Name) (x : Value Name) (m : Message Name) (a : Name) → IsOwn v m → Gets N C (IsMessage m) → Does ls C (look (λ s. place N s (follow N s x)) >>= (λ p. refs.react_at N m p >> give (Ref a))) IsValue
   unfolding ◌>>=◌ look and_then
-  place_then ls C x m a own g = record { after = λ s h c. (fine_then N false (M ls) {C = C} {H = IsValue} nothing (reacts_at ls C m (place N s (follow N s x)) own g) (fine_give N false (M ls) {C = C} (Ref a) (got_ref N false C a))).after s h c }
+  place_then ls C x m a own g = record { after = λ s h c. (fine_then N (M ls) {C = C} {H = IsValue} nothing (reacts_at ls C m (place N s (follow N s x)) own g) (fine_give N (M ls) {C = C} (Ref a) (got_ref N C a))).after s h c }
 
-  react_made : (ls : List Mark) (C : Fact Name) (act : ℕ) (x o near : Value Name) (id a : Name) → IsMessageName id → (host_of a ≡ v) × IsAnswerName a → Gets N false C (IsValue x) → Gets N false C (IsValue near) → Does ls C (tell (Reacts act x o (refs.reaction N id near x a)) >> (look (λ s. place N s (follow N s x)) >>= (λ p. refs.react_at N (refs.reaction N id near x a) p >> give (Ref a)))) IsValue
+  react_made : (ls : List Mark) (C : Fact Name) (act : ℕ) (x o near : Value Name) (id a : Name) → IsMessageName id → (host_of a ≡ v) × IsAnswerName a → Gets N C (IsValue x) → Gets N C (IsValue near) → Does ls C (tell (Reacts act x o (refs.reaction N id near x a)) >> (look (λ s. place N s (follow N s x)) >>= (λ p. refs.react_at N (refs.reaction N id near x a) p >> give (Ref a)))) IsValue
   unfolding refs.reaction
-  react_made ls C act x o near id a mail own g i = fine_then N false (M ls) {C = C} nothing (fine_tell N false (M ls) {C = C} _) (place_then ls C x (refs.reaction N id near x a) a (mail, own.0, own.1) (record { at = λ ts js k. (i.at ts js k, (g.at ts js k, tt)) }))
+  react_made ls C act x o near id a mail own g i = fine_then N (M ls) {C = C} nothing (fine_tell N (M ls) {C = C} _) (place_then ls C x (refs.reaction N id near x a) a (mail, own.0, own.1) (record { at = λ ts js k. (i.at ts js k, (g.at ts js k, tt)) }))
 
-  pub reacts : (ls : List Mark) (C : Fact Name) (act : ℕ) (x : Value Name) → Gets N false C (IsValue x) → (o : Value Name) → Gets N false C (IsValue o) → (near : Value Name) → Gets N false C (IsValue near) → Does ls C (refs.react N act x o near) IsValue
+  pub reacts : (ls : List Mark) (C : Fact Name) (act : ℕ) (x : Value Name) → Gets N C (IsValue x) → (o : Value Name) → Gets N C (IsValue o) → (near : Value Name) → Gets N C (IsValue near) → Does ls C (refs.react N act x o near) IsValue
   unfolding refs.react ◌>>=◌ look and_then new_message
-  reacts ls C act x g o i near j = record { after = λ s h c. widen N false (M ls) IsValue s (made s s.number) _ (grows_same s.things s.lists) ((react_made ls C act x o near (made_id s) (made_at s s.number) (made_mail s) (made_host s s.number ∙ h.1.number, made_form s s.number) g j).after (made s s.number) (made_holds ls s s.number h (here_spared ls s h)) c) }
+  reacts ls C act x g o i near j = record { after = λ s h c. widen N (M ls) IsValue s (made s s.number) _ (grows_same s.things s.lists) ((react_made ls C act x o near (made_id s) (made_at s s.number) (made_mail s) (made_host s s.number ∙ h.1.number, made_form s s.number) g j).after (made s s.number) (made_holds ls s s.number h (here_spared ls s h)) c) }
 
   promise_own : (i k : ℕ) → IsOwnName N v D (N.made (IsOwnPromise i) k)
   unfolding naming name_of host_of
   promise_own i k = (refl, λ w. w)
 
   -- a resolver is of a promise of the vat's own
-  resolver_own : (C : Fact Name) (p : Name) → Gets N false C (resolvable p) → (s : Vat Name) → Knows N false s.things s.lists C → IsOwnName N v D p
-  resolver_own C p g s c = let made = g.at s.things s.lists c refl in subst (λ n. IsOwnName N v D n) (sym made.2) (promise_own made.0 made.1)
+  resolver_own : (C : Fact Name) (p : Name) → Gets N C (resolvable p) → (s : Vat Name) → Knows N s.things s.lists C → IsOwnName N v D p
+  resolver_own C p g s c = let made = g.at s.things s.lists c in subst (λ n. IsOwnName N v D n) (sym made.2) (promise_own made.0 made.1)
 
-  pub serving : heed ≡ true → Serves N false (M [])
+  pub serving : heed ≡ true → Serves N (M [])
   serving on = record {
     promises = λ C. promised [] C;
     breaks = λ C p t. settle_broken [] C p t;
@@ -662,5 +662,5 @@ module _ (word : ℕ → ℕ) (v : ℕ) (heed : Bool) (D : ℕ → Type 0) (Seen
     reacts = λ C act x g o i near j. reacts [] C act x g o i near j;
   }
 
-  pub closing_own : heed ≡ true → (p : Name) → IsOwnName N v D p → Closing N false (M []) p
+  pub closing_own : heed ≡ true → (p : Name) → IsOwnName N v D p → Closing N (M []) p
   closing_own on p own = record { closes = λ C y g. resolve_own on [] C p own y g }

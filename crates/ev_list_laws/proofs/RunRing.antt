@@ -96,12 +96,12 @@ module _ (script : Script) (once : KnowsOnce script) where
     then_rings x (Goes y) f g e = g y refl e
     then_rings x (Stopped c n y) f g e = absurd (stopped_goes c n y x e)
 
-    steps_rings : (es front : List Entry) (k : ℕ) (w x : World) → k ≡ k0 + length front → NoticesFollowCuts (front ++ es) → world.steps_from script front k0 w0 ≡ Goes w → Rings (word script) false w → WorldSound script false w → world.steps_from script es k w ≡ Goes x → Rings (word script) false x
+    steps_rings : (es front : List Entry) (k : ℕ) (w x : World) → k ≡ k0 + length front → NoticesFollowCuts (front ++ es) → world.steps_from script front k0 w0 ≡ Goes w → Rings (word script) false w → WorldSound script w → world.steps_from script es k w ≡ Goes x → Rings (word script) false x
     unfolding world.steps_from
     steps_rings [] front k w x n follows e h sound f = record { views = h.views; by = subst (λ y. RingsBy (word script) false h.views y) (goes_is w x f) h.by }
     steps_rings (entry ∷ es) front k w x n follows e h sound f = then_rings x (world.step script entry k w) (world.steps_from script es (suc k)) (λ y i j. steps_rings es (front ++ entry ∷ []) (suc k) y x (let more = length_end entry front in omega arith)
         (subst NoticesFollowCuts (sym (append_assoc front (entry ∷ []) es)) follows) (steps_append front k0 w0 w y entry k n e i)
-        (step_rings script entry k w y h sound (around front w (front_follows [] front (entry ∷ es) follows) e) i) (step_sound script false (λ b. absurd (no_true b)) entry k w y sound i) j) f
+        (step_rings script entry k w y h sound (around front w (front_follows [] front (entry ∷ es) follows) e) i) (step_sound script entry k w y sound i) j) f
 
   -- ---- the opening turns
 
@@ -111,13 +111,13 @@ module _ (script : Script) (once : KnowsOnce script) where
   then_by P Q x (Stopped c n y) f a b e = cc
 
   abbrev Both : World → Type 0
-  Both w = RingsBy (word script) true (NoDraws script) w × WorldSound script false w
+  Both w = RingsBy (word script) true (NoDraws script) w × WorldSound script w
 
   opens_rings : (v : ℕ) (ps : List Program) (w x : World) → Both w → world.open_from script v ps w ≡ Goes x → Both x
   unfolding world.open_from world.open_vat
   opens_rings v [] w x h e = subst Both (goes_is w x e) h
   opens_rings v (p ∷ ps) w x h e = then_by Both Both x (world.open_vat script v p w) (world.open_from script (suc v) ps)
-      (λ y i. (open_rings script v p w y (slice_get w.vats v) refl h.0 h.1 i, open_sound script false (λ b. absurd (no_true b)) v p w y (λ b. absurd (no_true b)) h.1 (slice_get w.vats v) refl i)) (λ y i j. opens_rings (suc v) ps y x i j) e
+      (λ y i. (open_rings script v p w y (slice_get w.vats v) refl h.0 h.1 i, open_sound script v p w y h.1 (slice_get w.vats v) refl i)) (λ y i j. opens_rings (suc v) ps y x i j) e
 
   -- ---- the start
 
@@ -232,7 +232,7 @@ module _ (script : Script) (once : KnowsOnce script) where
   }
 
   opened_both : (ps : List Program) (w : World) → world.open_from script zero ps (world.begins script) ≡ Goes w → Both w
-  opened_both ps w e = opens_rings zero ps (world.begins script) w (begins_by, begins_sound script false) e
+  opened_both ps w e = opens_rings zero ps (world.begins script) w (begins_by, begins_sound script) e
 
   -- ---- in all
 

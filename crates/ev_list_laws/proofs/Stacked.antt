@@ -8,15 +8,12 @@ use Rattle.ev_frozen_laws.specs.Frozen.{AllOf, Lists, IsBelow, AreStacked}
 use Rattle.ev_frozen_laws.proofs.RunSound.{WorldSound, opens_sound, steps_sound, begins_sound}
 use Rattle.ev_list_laws.specs.Lists.{ListsAreThere, MembersEndIn, MembersEndInRuns}
 
-no_true : false ≡ true → ⊥
-no_true e = cc
-
 module _ (script : Script) where
-  opened : (ps : List Program) (w : World) → world.open_from script zero ps (world.begins script) ≡ Goes w → WorldSound script false w
-  opened ps w e = opens_sound script false (λ q. absurd (no_true q)) zero ps (world.begins script) w (λ q. absurd (no_true q)) (begins_sound script false) e
+  opened : (ps : List Program) (w : World) → world.open_from script zero ps (world.begins script) ≡ Goes w → WorldSound script w
+  opened ps w e = opens_sound script zero ps (world.begins script) w (begins_sound script) e
 
-  stepped : (w x : World) (es : List Entry) (k : ℕ) → world.open_from script zero script.vats (world.begins script) ≡ Goes w → world.steps_from script es k w ≡ Goes x → WorldSound script false x
-  stepped w x es k e i = steps_sound script false (λ q. absurd (no_true q)) es k w x (opened script.vats w e) i
+  stepped : (w x : World) (es : List Entry) (k : ℕ) → world.open_from script zero script.vats (world.begins script) ≡ Goes w → world.steps_from script es k w ≡ Goes x → WorldSound script x
+  stepped w x es k e i = steps_sound script es k w x (opened script.vats w e) i
 
 pub lists_are_there : ListsAreThere
 lists_are_there script = (λ ps rest w i e v s j. (opened script ps w e).vats v s j, λ w x es k e i v s j. (stepped script w x es k e i).vats v s j)

@@ -19,7 +19,6 @@ use Rattle.ev_frozen_laws.specs.Frozen.{AllOf as EachOf, MessageThere, NotePasse
 use Rattle.ev_frozen_laws.proofs.RunSound.{WorldSound, LinkPasses, link_passes, note_read, given_well}
 use Rattle.ev_frozen_laws.proofs.Fine.{MayBe}
 use Rattle.ev_list_laws.specs.Ringless.{IsView, IsOwn, WaitsSpared, Ringless, TellsSo, DrawsAfter, ArrivedSo, heeded}
-use Rattle.ev_list_laws.proofs.Following.{no_true}
 use Rattle.ev_list_laws.proofs.Kept.{is_in_none, ringless_same}
 use Rattle.ev_list_laws.proofs.RefsRing.{answer_view}
 use Rattle.ev_list_laws.proofs.TurnsRing.{turns_keep}
@@ -103,11 +102,11 @@ module _ (script : Script) where
     strengthen : (s : Vat Name) → WaitsSpared (N v) v s.known s.noticed → is_in v s.noticed ≡ false → Ringless (N v) v D A [] s → Ringless (N v) v D A s.noticed s
     strengthen s spared here h = record { number = h.number; names = record { here = here; spared = spared; far = h.names.far; seen = h.names.seen; waits = h.names.waits; settled = h.names.settled; held = h.names.held; eventual = h.names.eventual }; none = h.none; queue = h.queue; gifts = h.gifts }
 
-    ready : (heed : Bool) (w : World) (s : Vat Name) (ms : List (Message Name)) → Sound (N v) false s → AllOf (IsOwn v) ms → Ringless (N v) v D A (heeded heed s) s → Ringless (N v) v D A (heeded heed s) (readied w (record s { queue = ms }))
+    ready : (heed : Bool) (w : World) (s : Vat Name) (ms : List (Message Name)) → Sound (N v) s → AllOf (IsOwn v) ms → Ringless (N v) v D A (heeded heed s) s → Ringless (N v) v D A (heeded heed s) (readied w (record s { queue = ms }))
     unfolding readied
     ready heed w s ms sound own h = ringless_same word v heed D A s (readied w (record s { queue = ms })) sound refl refl refl (inl refl) own h.gifts h
 
-    ready_same : (heed : Bool) (w : World) (s : Vat Name) → Sound (N v) false s → Ringless (N v) v D A (heeded heed s) s → Ringless (N v) v D A (heeded heed s) (readied w s)
+    ready_same : (heed : Bool) (w : World) (s : Vat Name) → Sound (N v) s → Ringless (N v) v D A (heeded heed s) s → Ringless (N v) v D A (heeded heed s) (readied w s)
     unfolding readied
     ready_same heed w s sound h = ringless_same word v heed D A s (readied w s) sound refl refl refl (inl refl) h.queue h.gifts h
 
@@ -115,15 +114,15 @@ module _ (script : Script) where
     unfolding readied
     ready_tells w s f = (f, tt)
 
-  ready_sound : (v : ℕ) (w : World) (s : Vat Name) → Sound (N v) false s → Sound (N v) false (readied w s)
+  ready_sound : (v : ℕ) (w : World) (s : Vat Name) → Sound (N v) s → Sound (N v) (readied w s)
   unfolding readied
   ready_sound v w s k = record { things = k.things; slots = k.slots; lists = k.lists; stacked = k.stacked; queue = k.queue; known = k.known; outbox = tt }
 
-  with_queue : (v : ℕ) (s : Vat Name) (m : Message Name) (ms : List (Message Name)) → Sound (N v) false s → s.queue ≡ m ∷ ms → MessageThere s.lists m × Sound (N v) false (record s { queue = ms })
+  with_queue : (v : ℕ) (s : Vat Name) (m : Message Name) (ms : List (Message Name)) → Sound (N v) s → s.queue ≡ m ∷ ms → MessageThere s.lists m × Sound (N v) (record s { queue = ms })
   with_queue v s m ms h e = let waiting : EachOf (MessageThere s.lists) (m ∷ ms) = rw e at h.queue in
       (waiting.0, record { things = h.things; slots = h.slots; lists = h.lists; stacked = h.stacked; queue = waiting.1; known = h.known; outbox = h.outbox })
 
-  sound_at : (v : ℕ) (w : World) (s : Vat Name) → WorldSound script false w → slice_get w.vats v ≡ Some s → Sound (N v) false s
+  sound_at : (v : ℕ) (w : World) (s : Vat Name) → WorldSound script w → slice_get w.vats v ≡ Some s → Sound (N v) s
   unfolding names
   sound_at v w s h e = h.vats v s e
 
@@ -133,20 +132,20 @@ module _ (script : Script) where
   unfolding world.idle
   idle_rings k D w x h e = moved false D (record w { history = w.history ++ Idle k ∷ [] }) x (record { drawn = h.drawn; vats = h.vats; links = h.links }) e
 
-  module _ (w x : World) (D : ℕ → Type 0) (rings : RingsBy word false D w) (sound : WorldSound script false w) (a : Around word w) where
+  module _ (w x : World) (D : ℕ → Type 0) (rings : RingsBy word false D w) (sound : WorldSound script w) (a : Around word w) where
     turn_ends : (v : ℕ) (s : Vat Name) (m : Message Name) (ms : List (Message Name)) → slice_get w.vats v ≡ Some s → s.queue ≡ m ∷ ms
-        → After (λ r t. Sound (N v) false t × Ringless (N v) v D (Seen word w.vats v) t.noticed t × TellsSo (N v) D t) (readied w (record s { queue = ms })) (does (N v) (Takes (world.tree_at script.vats v) script.depth m) (readied w (record s { queue = ms })))
+        → After (λ r t. Sound (N v) t × Ringless (N v) v D (Seen word w.vats v) t.noticed t × TellsSo (N v) D t) (readied w (record s { queue = ms })) (does (N v) (Takes (world.tree_at script.vats v) script.depth m) (readied w (record s { queue = ms })))
     unfolding readied
-    turn_ends v s m ms e q = let A : Name → Type 0 = Seen word w.vats v in let r : Vat Name = readied w (record s { queue = ms }) in let here : Sound (N v) false s = sound_at v w s sound e in let waiting = with_queue v s m ms here q in
+    turn_ends v s m ms e q = let A : Name → Type 0 = Seen word w.vats v in let r : Vat Name = readied w (record s { queue = ms }) in let here : Sound (N v) s = sound_at v w s sound e in let waiting = with_queue v s m ms here q in
         let ring : Ringless (N v) v D A [] s = rings.vats v s e in let own : AllOf (IsOwn v) (m ∷ ms) = subst (λ xs. AllOf (IsOwn v) xs) q ring.queue in
-        turns_keep D A word v (Takes (world.tree_at script.vats v) script.depth m) r (own.0.1, λ i. answer_view word v true D A m.answer own.0.2 i) (ready_sound v w (record s { queue = ms }) waiting.1) (λ b. absurd (no_true b), waiting.0)
+        turns_keep D A word v (Takes (world.tree_at script.vats v) script.depth m) r (own.0.1, λ i. answer_view word v true D A m.answer own.0.2 i) (ready_sound v w (record s { queue = ms }) waiting.1) (waiting.0)
         (ready_tells D A v w (record s { queue = ms }) rings.drawn) (ready D A v true w s ms here own.1 (strengthen D A v s (waits_spared word w a v s e) (a.here v s e) ring))
 
     turn_queue : (k v : ℕ) (s : Vat Name) (ms : List (Message Name)) → slice_get w.vats v ≡ Some s → s.queue ≡ ms → world.turn_queue script k v w s ms ≡ Goes x → RingsBy word false D x
     unfolding world.turn_queue world.within does names readied
     turn_queue k v s [] e q f = idle_rings k D w x rings f
     turn_queue k v s (m ∷ ms) e q f = let r : Vat Name = readied w (record s { queue = ms }) in
-        put_same false w x v s r D e refl rings _ _ _ (after_given (λ t. Sound (N v) false t × Ringless (N v) v D (Seen word w.vats v) t.noticed t × TellsSo (N v) D t) (Ended false D w v) r _ (λ t h. (weaken D (Seen word w.vats v) v t.noticed t h.1, h.2)) (turn_ends v s m ms e q))
+        put_same false w x v s r D e refl rings _ _ _ (after_given (λ t. Sound (N v) t × Ringless (N v) v D (Seen word w.vats v) t.noticed t × TellsSo (N v) D t) (Ended false D w v) r _ (λ t h. (weaken D (Seen word w.vats v) v t.noticed t h.1, h.2)) (turn_ends v s m ms e q))
         (settled_stays (N v) (Takes (world.tree_at script.vats v) script.depth m) r) f
 
     turn_at : (k v : ℕ) (o : Option (Vat Name)) → slice_get w.vats v ≡ o → world.turn script k v w o ≡ Goes x → RingsBy word false D x
@@ -157,8 +156,8 @@ module _ (script : Script) where
     notice_at : (k v to : ℕ) (o : Option (Vat Name)) → slice_get w.vats v ≡ o → world.within v w (world.NoticedAt k v to ∷ []) (world.step_number script k) (notice (names script v) to) o ≡ Goes x → RingsBy word false D x
     unfolding world.within does names readied
     notice_at k v to None e f = cc
-    notice_at k v to (Some s) e f = let A : Name → Type 0 = Seen word w.vats v in let here : Sound (N v) false s = sound_at v w s sound e in let r : Vat Name = readied w s in
-        put_same false w x v s r D e refl rings _ _ _ (after_given (λ t. Sound (N v) false t × Ringless (N v) v D A [] t × TellsSo (N v) D t) (Ended false D w v) r _ (λ t h. (h.1, h.2)) (notices_keep D A word v to r (ready_sound v w s here) (ready_tells D A v w s rings.drawn) (ready_same D A v false w s here (rings.vats v s e))))
+    notice_at k v to (Some s) e f = let A : Name → Type 0 = Seen word w.vats v in let here : Sound (N v) s = sound_at v w s sound e in let r : Vat Name = readied w s in
+        put_same false w x v s r D e refl rings _ _ _ (after_given (λ t. Sound (N v) t × Ringless (N v) v D A [] t × TellsSo (N v) D t) (Ended false D w v) r _ (λ t h. (h.1, h.2)) (notices_keep D A word v to r (ready_sound v w s here) (ready_tells D A v w s rings.drawn) (ready_same D A v false w s here (rings.vats v s e))))
         (settled_stays (N v) (Notices to) r) f
 
     severed_true : (l : Link) → LinkTrue word D w.vats l → LinkTrue word D w.vats (world.severed_link l)
@@ -305,7 +304,7 @@ module _ (script : Script) where
 
   -- ---- an entry
 
-  pub step_rings : (entry : Entry) (k : ℕ) (w x : World) → Rings word false w → WorldSound script false w → Around word w → world.step script entry k w ≡ Goes x → Rings word false x
+  pub step_rings : (entry : Entry) (k : ℕ) (w x : World) → Rings word false w → WorldSound script w → Around word w → world.step script entry k w ≡ Goes x → Rings word false x
   unfolding world.step
   step_rings (Turn v) k w x h sound a f = record { views = h.views; by = turn_at w x h.views h.by sound a k v (slice_get w.vats v) refl f }
   step_rings (Carry from to) k w x h sound a f = link_rings w x h.views h.by sound a k from to (world.link_at from to w.links) refl (link_passes from to w.links sound.links) f
@@ -317,17 +316,17 @@ module _ (script : Script) where
   abbrev pub NoDraws : ℕ → Type 0
   NoDraws i = ⊥
 
-  open_ends : (v : ℕ) (p : Program) (w : World) (s : Vat Name) → RingsBy word true NoDraws w → WorldSound script false w → slice_get w.vats v ≡ Some s
-      → After (λ r t. Sound (N v) false t × Ringless (N v) v NoDraws (Seen word w.vats v) t.noticed t × TellsSo (N v) NoDraws t) (readied w s) (does (N v) (Opens p.tree script.depth (Root v) (world.given script.vats p.knows)) (readied w s))
+  open_ends : (v : ℕ) (p : Program) (w : World) (s : Vat Name) → RingsBy word true NoDraws w → WorldSound script w → slice_get w.vats v ≡ Some s
+      → After (λ r t. Sound (N v) t × Ringless (N v) v NoDraws (Seen word w.vats v) t.noticed t × TellsSo (N v) NoDraws t) (readied w s) (does (N v) (Opens p.tree script.depth (Root v) (world.given script.vats p.knows)) (readied w s))
   unfolding readied host_of names
-  open_ends v p w s h sound e = let A : Name → Type 0 = Seen word w.vats v in let here : Sound (N v) false s = sound_at v w s sound e in
-      turns_keep NoDraws A word v (Opens p.tree script.depth (Root v) (world.given script.vats p.knows)) (readied w s) (refl, λ i. i) (ready_sound v w s here) (λ b. absurd (no_true b), given_well script false (λ b. absurd (no_true b)) v (readied w s) p.knows) (ready_tells NoDraws A v w s h.drawn) (ready_same NoDraws A v true w s here (h.vats v s e))
+  open_ends v p w s h sound e = let A : Name → Type 0 = Seen word w.vats v in let here : Sound (N v) s = sound_at v w s sound e in
+      turns_keep NoDraws A word v (Opens p.tree script.depth (Root v) (world.given script.vats p.knows)) (readied w s) (refl, λ i. i) (ready_sound v w s here) (given_well script v (readied w s) p.knows) (ready_tells NoDraws A v w s h.drawn) (ready_same NoDraws A v true w s here (h.vats v s e))
 
-  pub open_rings : (v : ℕ) (p : Program) (w x : World) (o : Option (Vat Name)) → slice_get w.vats v ≡ o → RingsBy word true NoDraws w → WorldSound script false w → world.within v w (world.Opens v ∷ []) v (opening (names script v) p.tree script.depth (Root v) (world.given script.vats p.knows)) o ≡ Goes x → RingsBy word true NoDraws x
+  pub open_rings : (v : ℕ) (p : Program) (w x : World) (o : Option (Vat Name)) → slice_get w.vats v ≡ o → RingsBy word true NoDraws w → WorldSound script w → world.within v w (world.Opens v ∷ []) v (opening (names script v) p.tree script.depth (Root v) (world.given script.vats p.knows)) o ≡ Goes x → RingsBy word true NoDraws x
   unfolding world.within does names readied
   open_rings v p w x None e h sound f = cc
   open_rings v p w x (Some s) e h sound f = let r : Vat Name = readied w s in
-      put_same true w x v s r NoDraws e refl h _ _ _ (after_given (λ t. Sound (N v) false t × Ringless (N v) v NoDraws (Seen word w.vats v) t.noticed t × TellsSo (N v) NoDraws t) (Ended true NoDraws w v) r _ (λ t k. (k.1, k.2)) (open_ends v p w s h sound e))
+      put_same true w x v s r NoDraws e refl h _ _ _ (after_given (λ t. Sound (N v) t × Ringless (N v) v NoDraws (Seen word w.vats v) t.noticed t × TellsSo (N v) NoDraws t) (Ended true NoDraws w v) r _ (λ t k. (k.1, k.2)) (open_ends v p w s h sound e))
       (settled_stays (N v) (Opens p.tree script.depth (Root v) (world.given script.vats p.knows)) r) f
 
   pub weaken_all : (w : World) → RingsBy word true NoDraws w → RingsBy word false NoDraws w

@@ -39,11 +39,11 @@ module _ (word : ℕ → ℕ) (v : ℕ) (heed : Bool) (D : ℕ → Type 0) (Seen
   abbrev N : Naming Name Name
   N = K word v
 
-  abbrev M : Keeper N false
+  abbrev M : Keeper N
   M = keeper word v heed D Seen []
 
   abbrev At : Vat Name → Done Name (Unit {0}) → Type 0
-  At s d = Ends N false M nothing s d
+  At s d = Ends N M nothing s d
 
   new_view : (g h : Name) (k : Known Name) → ((z : Value Name) → k.standing ≡ Settled z → ⊥) → (changed (See g) k).standing ≡ Viewed h → h ≡ g
   unfolding changed_to
@@ -170,8 +170,8 @@ module _ (word : ℕ → ℕ) (v : ℕ) (heed : Bool) (D : ℕ → Type 0) (Seen
     }
 
     seen_holds : Holds word v heed D Seen [] s → still_waits (standing_of N s.known g) ≡ true → (host_of n ≡ v → ⊥) → Seen n → IsView D g → Holds word v heed D Seen [] (record s { known = Both })
-    seen_holds h w other seen view = let t : Vat Name = record s { known = Shown } in let a : Sound N false t = sound_known N false s Shown h.0 (changes_there N false s.lists (See g) n s.known tt h.0.known) in (
-      sound_known N false t Both a (changes_there N false s.lists (Wait n) g Shown tt a.known),
+    seen_holds h w other seen view = let t : Vat Name = record s { known = Shown } in let a : Sound N t = sound_known N s Shown h.0 (changes_there N s.lists (See g) n s.known tt h.0.known) in (
+      sound_known N t Both a (changes_there N s.lists (Wait n) g Shown tt a.known),
       record { number = h.1.number; names = names_both (heeds word v heed D Seen s) h.1.names other seen view; none = changes_close_no_ring word v t (Wait n) g tt (changes_close_no_ring word v s (See g) n w h.1.none); queue = h.1.queue; gifts = h.1.gifts },
       puts_stay word v heed D Seen s.known Both (λ m z e. settled_stays word v heed D Seen (Wait n) g m z Shown (settled_stays word v heed D Seen (See g) n m z s.known e)) s.outbox s.drawn h.2,
       tt,

@@ -16,7 +16,7 @@ InEveryVat P = (script : Script)
 
 -- Each list that stands in a value of the vat is there, and a list among the members of another was there before it.
 abbrev pub ListsAreThere : Type 0
-ListsAreThere = InEveryVat (λ script v s. Sound (names script v) false s)
+ListsAreThere = InEveryVat (λ script v s. Sound (names script v) s)
 
 -- by members, in so many steps at most, to no list
 abbrev pub MembersEndIn : ℕ → Lists Name → Value Name → Type 0
@@ -114,7 +114,7 @@ ChangesCloseNoRing = (word : ℕ → ℕ) (v : ℕ) (s : Vat Name) (c : Change N
 
 -- Nor does a new list, of what is there.
 abbrev pub NewListsCloseNoRing : Type 0
-NewListsCloseNoRing = (word : ℕ → ℕ) (v : ℕ) (s : Vat Name) (vs : List (Value Name)) → Sound (naming word v) false s → AreThere s.lists vs → NoListLeadsBack (naming word v) s
+NewListsCloseNoRing = (word : ℕ → ℕ) (v : ℕ) (s : Vat Name) (vs : List (Value Name)) → Sound (naming word v) s → AreThere s.lists vs → NoListLeadsBack (naming word v) s
     → NoListLeadsBack (naming word v) (record s { lists = s.lists ++ vs ∷ [] })
 
 -- Where no list leads back to itself, one comes from each value, by no more members than there are lists, to values without members.

@@ -140,8 +140,8 @@ IsOwnTurn v D (Notices w) = ⊥
 
 -- where D tells of which draws the views are, and Seen which names may be viewed
 abbrev pub TurnsKeep : (ℕ → Type 0) → (Name → Type 0) → Type 0
-TurnsKeep D Seen = (word : ℕ → ℕ) (v : ℕ) (step : Step Name Name) (s : Vat Name) → IsOwnTurn v D step → Sound (naming word v) false s → StepWell (naming word v) false s step → TellsSo (naming word v) D s
-    → Ringless (naming word v) v D Seen s.noticed s → After (λ r t. Sound (naming word v) false t × Ringless (naming word v) v D Seen t.noticed t × TellsSo (naming word v) D t) s (does (naming word v) step s)
+TurnsKeep D Seen = (word : ℕ → ℕ) (v : ℕ) (step : Step Name Name) (s : Vat Name) → IsOwnTurn v D step → Sound (naming word v) s → StepWell (naming word v) s step → TellsSo (naming word v) D s
+    → Ringless (naming word v) v D Seen s.noticed s → After (λ r t. Sound (naming word v) t × Ringless (naming word v) v D Seen t.noticed t × TellsSo (naming word v) D t) s (does (naming word v) step s)
 
 -- Every opening turn and every turn from such a state ends in such a state.
 abbrev pub TurnsCloseNoRing : Type 0
@@ -248,13 +248,13 @@ DrawsAfter D s (Shorten x c j) i = D i
 
 -- In such a state, with those draws of views; where it does not give, the draws are as they were.
 abbrev pub ArrivedSo : (ℕ → ℕ) → ℕ → (ℕ → Type 0) → (ℕ → Type 0) → (Name → Type 0) → Bool → Done Name (Unit {0}) → Type 0
-ArrivedSo word v D E Seen heed (Gives a t) = Sound (naming word v) false t × Ringless (naming word v) v E Seen (heeded heed t) t × TellsSo (naming word v) E t
-ArrivedSo word v D E Seen heed (Throws p t) = Sound (naming word v) false t × Ringless (naming word v) v D Seen (heeded heed t) t × TellsSo (naming word v) D t
-ArrivedSo word v D E Seen heed (Ejects n x t) = Sound (naming word v) false t × Ringless (naming word v) v D Seen (heeded heed t) t × TellsSo (naming word v) D t
-ArrivedSo word v D E Seen heed (Stops c t) = Sound (naming word v) false t × Ringless (naming word v) v D Seen (heeded heed t) t × TellsSo (naming word v) D t
+ArrivedSo word v D E Seen heed (Gives a t) = Sound (naming word v) t × Ringless (naming word v) v E Seen (heeded heed t) t × TellsSo (naming word v) E t
+ArrivedSo word v D E Seen heed (Throws p t) = Sound (naming word v) t × Ringless (naming word v) v D Seen (heeded heed t) t × TellsSo (naming word v) D t
+ArrivedSo word v D E Seen heed (Ejects n x t) = Sound (naming word v) t × Ringless (naming word v) v D Seen (heeded heed t) t × TellsSo (naming word v) D t
+ArrivedSo word v D E Seen heed (Stops c t) = Sound (naming word v) t × Ringless (naming word v) v D Seen (heeded heed t) t × TellsSo (naming word v) D t
 
 abbrev pub ArrivalsKeep : (ℕ → Type 0) → (Name → Type 0) → Type 0
-ArrivalsKeep D Seen = (word : ℕ → ℕ) (v from : ℕ) (n : Note (Incoming Name Name)) (heed : Bool) (s : Vat Name) → IsHeeded heed n → NoteBehind (naming word v) v D Seen from (heeded heed s) s n → Sound (naming word v) false s → NotePasses n
+ArrivalsKeep D Seen = (word : ℕ → ℕ) (v from : ℕ) (n : Note (Incoming Name Name)) (heed : Bool) (s : Vat Name) → IsHeeded heed n → NoteBehind (naming word v) v D Seen from (heeded heed s) s n → Sound (naming word v) s → NotePasses n
     → s.outbox ≡ [] → TellsSo (naming word v) D s → Ringless (naming word v) v D Seen (heeded heed s) s
     → ArrivedSo word v D (λ i. DrawsAfter D s n i) Seen heed (does (naming word v) (Receives from n) s)
 
@@ -263,8 +263,8 @@ abbrev pub ArrivalsCloseNoRing : Type 0
 ArrivalsCloseNoRing = (D : ℕ → Bool) (Seen : Name → Bool) → ArrivalsKeep (λ i. D i ≡ true) (λ n. Seen n ≡ true)
 
 abbrev pub NoticesKeep : (ℕ → Type 0) → (Name → Type 0) → Type 0
-NoticesKeep D Seen = (word : ℕ → ℕ) (v w : ℕ) (s : Vat Name) → Sound (naming word v) false s → TellsSo (naming word v) D s → Ringless (naming word v) v D Seen [] s
-    → After (λ r t. Sound (naming word v) false t × Ringless (naming word v) v D Seen [] t × TellsSo (naming word v) D t) s (does (naming word v) (Notices w) s)
+NoticesKeep D Seen = (word : ℕ → ℕ) (v w : ℕ) (s : Vat Name) → Sound (naming word v) s → TellsSo (naming word v) D s → Ringless (naming word v) v D Seen [] s
+    → After (λ r t. Sound (naming word v) t × Ringless (naming word v) v D Seen [] t × TellsSo (naming word v) D t) s (does (naming word v) (Notices w) s)
 
 -- So does the notice of a cut, where what was noticed is not heeded: each name that settles then breaks.
 abbrev pub NoticeStepsCloseNoRing : Type 0

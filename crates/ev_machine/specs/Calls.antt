@@ -6,7 +6,7 @@ use Rattle.ev_machine.specs.Refs.{Place, Near, follow, place, standing_of, settl
 use Rattle.ev_machine.specs.Form.{Item, Begin, End, Word, Fact, literal_value, items_of}
 use Rattle.ev_machine.specs.Native.{primitive, asked}
 use Rattle.ev_kernel.specs.declared.node.Node.{Node}
-use Rattle.ev_machine.specs.Scopes.{Answer, Evaluator, Caller, answered, Body, method_of, Case, matchers_of, members_of, captures, named, name_of, free_names, meets, guard_asked, is_auditor, AuditionAsk, audition_ask, ResolverAsk, resolver_ask, ejector_ask, is_true, ended, with_lines, GetsForm, GetsGuard, Asks, NoAuditionAsk, Resolves, Smashes, NoResolverAsk}
+use Rattle.ev_machine.specs.Scopes.{Answer, Evaluator, Caller, answered, Body, method_of, Case, matchers_of, members_of, captures, named, own_noun, name_of, free_names, meets, guard_asked, is_auditor, AuditionAsk, audition_ask, ResolverAsk, resolver_ask, ejector_ask, is_true, ended, with_lines, GetsForm, GetsGuard, Asks, NoAuditionAsk, Resolves, Smashes, NoResolverAsk}
 use Rattle.ev_machine.specs.Perform.{make_list, reply, data_answer, perform}
 use Rattle.ev_machine.specs.Perform.{opened_perform}
 
@@ -242,7 +242,7 @@ module _ {N W : Type 0} (K : Naming N W) (tree : List Node) where
   object_as node p free stamps me here = object_in node (name_of p) free here.act me stamps (named p (Ref me) here)
 
   unfoldable pub view_of : ℕ → Option Node → List Words → Scope N → View N
-  view_of node p free here = record { node = node; free = free_names (name_of p) here.nouns free }
+  view_of node p free here = record { node = node; free = free_names (own_noun p) here.nouns free }
 
   -- the auditors' values are known; each is asked, and then the object comes to be
   unfoldable pub make_object : Caller N → ℕ → Option Node → List Words → List (Value N) → Scope N → Act N (Answer N)

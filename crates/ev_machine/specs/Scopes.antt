@@ -103,6 +103,12 @@ unfoldable pub named : {N : Type 0} → Option Node → Value N → Scope N → 
 named (Some (Final x g)) v here = with_noun x (Fixed v any_guard) here
 named _ v here = here
 
+-- the noun by which an object's members call the object itself, where its pattern binds one
+unfoldable pub own_noun : Option Node → Option Words
+own_noun (Some (Final x g)) = Some x
+own_noun _ = None
+
+-- how the history calls an object
 unfoldable pub name_of : Option Node → Words
 name_of (Some (Final x g)) = x
 name_of _ = codes "_"
@@ -114,10 +120,14 @@ freedom_of_bound (Some (Fixed v g)) x = IsFinal g
 freedom_of_bound (Some (Slot k)) x = IsVar
 freedom_of_bound None x = IsSafe
 
-unfoldable pub freedom_of : {N : Type 0} → Words → List (Binding N) → Words → Freedom N
-freedom_of own nouns x = elim (same_words own x) [ true ↦ IsItself | false ↦ freedom_of_bound (bound_in nouns x) x ]
+unfoldable pub is_own : Option Words → Words → Bool
+is_own (Some own) x = same_words own x
+is_own None x = false
 
-unfoldable pub free_names : {N : Type 0} → Words → List (Binding N) → List Words → List (FreeName N)
+unfoldable pub freedom_of : {N : Type 0} → Option Words → List (Binding N) → Words → Freedom N
+freedom_of own nouns x = elim (is_own own x) [ true ↦ IsItself | false ↦ freedom_of_bound (bound_in nouns x) x ]
+
+unfoldable pub free_names : {N : Type 0} → Option Words → List (Binding N) → List Words → List (FreeName N)
 free_names own nouns [] = []
 free_names own nouns (x ∷ xs) = record { noun = x; freedom = freedom_of own nouns x } ∷ free_names own nouns xs
 
@@ -261,5 +271,5 @@ with_lines act x verb args m = do
 
 -- opens each definition of this file, and of those below
 unfoldable pub opened_scopes : Unit {0}
-unfolding bound_in with_noun answered read_cell read_bound any_guard suits method_of matcher_in matchers_of members_of captures named name_of freedom_of_bound freedom_of free_names freezes frozen_guard frozen_freedom meets guard_told guard_at guard_asked is_auditor audition_ask resolver_ask ejector_ask is_null is_int is_boolean is_char is_text is_list is_true is_near where_true all_plain plain_by is_plain stamps_of ended with_lines opened_refs opened_form
+unfolding bound_in with_noun answered read_cell read_bound any_guard suits method_of matcher_in matchers_of members_of captures named own_noun name_of freedom_of_bound is_own freedom_of free_names freezes frozen_guard frozen_freedom meets guard_told guard_at guard_asked is_auditor audition_ask resolver_ask ejector_ask is_null is_int is_boolean is_char is_text is_list is_true is_near where_true all_plain plain_by is_plain stamps_of ended with_lines opened_refs opened_form
 opened_scopes = tt

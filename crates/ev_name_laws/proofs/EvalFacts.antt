@@ -143,11 +143,11 @@ module _ {N : Type 0} (S : Care N) where
   freedom_bound_ok P (Some (Slot k)) x h = tt
   freedom_bound_ok P None x h = tt
 
-  freedom_ok : (P : Bit N → Type 0) (own : Words) (ns : List (Binding N)) (x : Words) → AllOf (NounOk P) ns → FreedomOk P (scopes.freedom_of own ns x)
+  freedom_ok : (P : Bit N → Type 0) (own : Option Words) (ns : List (Binding N)) (x : Words) → AllOf (NounOk P) ns → FreedomOk P (scopes.freedom_of own ns x)
   unfolding scopes.freedom_of
-  freedom_ok P own ns x h = either_has (FreedomOk P) (same_words own x) IsItself (scopes.freedom_of_bound (scopes.bound_in ns x) x) tt (freedom_bound_ok P (scopes.bound_in ns x) x (bound_ok P ns x h))
+  freedom_ok P own ns x h = either_has (FreedomOk P) (scopes.is_own own x) IsItself (scopes.freedom_of_bound (scopes.bound_in ns x) x) tt (freedom_bound_ok P (scopes.bound_in ns x) x (bound_ok P ns x h))
 
-  free_ok : (P : Bit N → Type 0) (own : Words) (ns : List (Binding N)) (xs : List Words) → AllOf (NounOk P) ns → AllOf (λ (f : FreeName N). FreedomOk P f.freedom) (scopes.free_names own ns xs)
+  free_ok : (P : Bit N → Type 0) (own : Option Words) (ns : List (Binding N)) (xs : List Words) → AllOf (NounOk P) ns → AllOf (λ (f : FreeName N). FreedomOk P f.freedom) (scopes.free_names own ns xs)
   unfolding scopes.free_names
   free_ok P own ns [] h = tt
   free_ok P own ns (x ∷ xs) h = (freedom_ok P own ns x h, free_ok P own ns xs h)
@@ -243,7 +243,7 @@ module _ {N W : Type 0} (K : Naming N W) (S : Care N) (tree : List Node) where
 
   pub got_view : (C : Fact N) (node : ℕ) (p : Option Node) (xs : List Words) (here : Scope N) → Gets S C (AreNouns here.nouns) → Gets S C (IsView (calls.view_of K tree node p xs here))
   unfolding calls.view_of
-  got_view C node p xs here g = record { at = λ s c. free_ok S (S.ok s) (scopes.name_of p) here.nouns xs (g.at s c) }
+  got_view C node p xs here g = record { at = λ s c. free_ok S (S.ok s) (scopes.own_noun p) here.nouns xs (g.at s c) }
 
   same_ok : (P : Bit N → Type 0) (s : Vat N) (a b : Value N) → ReplyOk P (perform.same_reply K tree s a b)
   unfolding perform.same_reply

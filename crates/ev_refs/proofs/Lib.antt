@@ -7,3 +7,9 @@ pub mod Working
 pub mod Waits
 pub mod Resolves
 pub mod Sends
+pub mod Reacts
+pub mod Faults
+pub mod Leads
+pub mod Reaches
+pub mod Tells
+pub mod Resolvers

@@ -1,25 +1,25 @@
 -- Each part of a settling is done as the machine does it.
 use Rattle.std.proofs.Common.{◌≡◌, ℕ, zero, suc, ◌+◌, Bool, true, false, List, [], ◌∷◌, ◌++◌, Option, Some, None, Ok, Err, length, map, refl, sym, ap, ◌∙◌, subst, append_assoc, append-nil, arith}
-use Rattle.std.specs.Prelude.{if◌then◌else◌, option_map, slice_get}
-use Rattle.std.proofs.lemmas.List.{map-append}
+use Rattle.std.specs.Prelude.{option_map, slice_get}
+use Rattle.std.proofs.lemmas.List.{map-append, length-map}
 use Rattle.ev_base.specs.declared.values.Value.{Value as Held}
 use Rattle.ev_base.specs.declared.values.Value.TheVariants as held
 use Rattle.ev_heap.specs.declared.happened.Happened.{Happened as Event}
 use Rattle.ev_heap.specs.declared.happened.Happened.TheVariants as event
-use Rattle.ev_machine.specs.Values.{Words, Value, Local, Mess, Prom}
+use Rattle.ev_machine.specs.Values.{Words, Value, Broken, Items, Local, Mess, Prom}
 use Rattle.ev_machine.specs.State as machine
 use Rattle.ev_machine.specs.State.{Vat, Act, Done, Gives, Throws, Ejects, Stops, Happened, Settles, Lost, and_then, ◌>>◌, give, each, enqueue, alter, with_change, Hold, Settle as Settling, changed}
 use Rattle.ev_machine.specs.Refs as refs
-use Rattle.ev_machine.specs.Refs.{follow, place, entry_of, target_of, settle_at, settle_one, settle_entry, settle_standing, send_to, inform}
+use Rattle.ev_machine.specs.Refs.{follow, place, reaches, entry_of, target_of, settle_at, settle_one, settle_entry, settle_standing, send_to, inform}
 use Rattle.ev_refs.specs.Changes.{with_held, settled_as, waiters_at, waiters_of}
 use Rattle.ev_refs.specs.Follow.{followed, place_of}
 use Rattle.ev_refs.specs.References.{References}
 use Rattle.ev_refs.specs.Settling as code
-use Rattle.ev_refs.specs.Settling.{Desk, told, enqueued, set_known, held_at, send_placed, parts_of, settle_waiters, settle_found, is_list, perform}
+use Rattle.ev_refs.specs.Settling.{Desk, told, enqueued, set_known, held_in, held_at, send_placed, parts_of, settle_waiters, settle_found, broken_if, perform}
 use Rattle.ev_refs.specs.Performing.{Lines, Tells, lines_of, vat_in, task_act, tasks_act, GoesOn, SameTexts, SettlesAsTheMachine, went_astray, SettlingGoesAstray, WhereAstray}
 use Rattle.ev_heap.specs.declared.micro.Micro.{Micro}
 use Rattle.ev_refs.specs.Reading.{text_by, value_by, message_by, known_by, knowns_by, standing_by, place_by}
-use Rattle.ev_refs.specs.Statements.{KnowsTexts}
+use Rattle.ev_refs.specs.Statements.{HasLists, KnowsTexts}
 use Rattle.ev_refs.specs.Tasks.{sends, settles, enqueues, informs}
 use Rattle.ev_refs.specs.declared.follow.Place.{Place}
 use Rattle.ev_refs.specs.declared.follow.Place.TheVariants.{Near, Mine, FarPromise, FarObject, Gone}
@@ -33,8 +33,13 @@ use Rattle.ev_refs.specs.declared.settle.Fault.TheVariants.{Unbuilt, Astray as A
 use Rattle.ev_refs.specs.declared.tasks.Task.{Task}
 use Rattle.ev_refs.specs.declared.tasks.Task.TheVariants.{SendOn, Settle, Enqueue, Inform}
 use Rattle.ev_refs.proofs.Machine.{names, as_many, entry_is, follow_is, place_is}
+use Rattle.ev_refs.proofs.Reaches.{reaches_is}
+use Rattle.ev_refs.specs.Leading.{leads_back}
 use Rattle.ev_refs.proofs.Settles.{kept, settled_stays}
 use Rattle.ev_refs.proofs.Changing.{change_is, hold_is, settle_is, unknown_same}
+
+abbrev broken : Words → Value Local
+broken t = Broken t
 
 -- ---- one thing after another
 
@@ -106,13 +111,13 @@ module _ (word : ℕ → ℕ) (ts : List Words) where
     enqueue_is m k = ap (λ (q : List (machine.Message Local)). Gives tt (record (at k) { queue = q })) (sym (map-append (message_by ts) k.refs.queue (m ∷ [])))
 
     pub hold_found : (n : ℕ) (m : Message) (k : Desk) (o : Option Known) → slice_get k.refs.known n ≡ o → alter (names word) (Hold (message_by ts m)) (Prom n) (at k) ≡ Gives tt (at (held_at n m o k))
-    unfolding alter held_at
+    unfolding alter held_in
     hold_found n m k None h = ap (λ (ks : List (machine.Known Local)). Gives tt (record (at k) { known = ks })) (unknown_same word ts (Hold (message_by ts m)) k.refs.known n h)
     hold_found n m k (Some known) h =
         ap (λ (ks : List (machine.Known Local)). Gives tt (record (at k) { known = ks })) (change_is word ts (Hold (message_by ts m)) k.refs.known n known (with_held m known) h (hold_is ts n m known))
 
     held_tasks : (n : ℕ) (m : Message) (o : Option Known) (k : Desk) → k.tasks ≡ (held_at n m o k).tasks
-    unfolding held_at
+    unfolding held_in
     held_tasks n m None k = refl
     held_tasks n m (Some known) k = refl
 
@@ -153,20 +158,6 @@ module _ (word : ℕ → ℕ) (ts : List Words) where
 
     -- ---- a name that settles
 
-    not_broken : (t : Vat Local) (p : Local) (v : Held) → is_list v ≡ false → target_of (names word) t p (value_by ts v) ≡ value_by ts v
-    unfolding target_of
-    not_broken t p (held.List id) h = cc
-    not_broken t p held.Null h = refl
-    not_broken t p (held.Bool b) h = refl
-    not_broken t p (held.Int z) h = refl
-    not_broken t p (held.Char c) h = refl
-    not_broken t p (held.Text id) h = refl
-    not_broken t p (held.Prim n) h = refl
-    not_broken t p (held.Obj i) h = refl
-    not_broken t p (held.Prom q) h = refl
-    not_broken t p (held.Far a q) h = refl
-    not_broken t p (held.Broken id) h = refl
-
     -- one part, and then the others
     first_part : (m n : Act Local (Unit {0})) (xs ys rest : List Task) → ((t : Vat Local) → m t ≡ tasks_act word ts xs t)
         → ((t : Vat Local) → and_then (n t) (λ _. tasks_act word ts rest) ≡ tasks_act word ts ys t)
@@ -198,7 +189,7 @@ module _ (word : ℕ → ℕ) (ts : List Words) where
         (last_part _ (informs p ws.told) rest (each_inform p ws.told)))) t
         ∙ ap (λ (xs : List Task). tasks_act word ts xs t) (four (sends d ws.held) (settles d v ws.waiting) (enqueues ws.reactions) (informs p ws.told) rest)
 
-    pub two_first : (m n more r : Act Local (Unit {0})) (t u w : Vat Local) → m t ≡ Gives tt u → n u ≡ Gives tt w → and_then ((m >> (n >> more)) t) (λ _. r) ≡ and_then (more w) (λ _. r)
+    two_first : (m n more r : Act Local (Unit {0})) (t u w : Vat Local) → m t ≡ Gives tt u → n u ≡ Gives tt w → and_then ((m >> (n >> more)) t) (λ _. r) ≡ and_then (more w) (λ _. r)
     unfolding ◌>>◌ and_then
     two_first m n more r t u w h g =
         ap (λ (x : Done Local (Unit {0})). and_then (and_then x (λ _ y. and_then (n y) (λ _. more))) (λ _. r)) h
@@ -229,29 +220,51 @@ module _ (word : ℕ → ℕ) (ts : List Words) where
     by_entry p v d None k h = refl
     by_entry p v d (Some known) k h = by_standing p v d known known.standing k refl h
 
-    settled_at : (p : ℕ) (v : Held) (d : ℕ) (k k' : Desk) → code.settle_at p v d k ≡ Ok k' → Same (settle_at (names word) d (Prom p) (value_by ts v)) k k'
-    unfolding code.settle_at settle_at settle_one machine.◌>>=◌ machine.look and_then
-    settled_at p v zero k k' h = cc
-    settled_at p v (suc d) k k' h = settled_by (is_list v) refl h
-      where
-        settled_by : (b : Bool) → is_list v ≡ b → (if b then Err Unbuilt else Ok (settle_found p v d (slice_get k.refs.known p) k)) ≡ Ok k' → Same (settle_one (names word) (λ q z. settle_at (names word) d q z) (Prom p) (value_by ts v)) k k'
-        settled_by true e g = cc
-        settled_by false e g =
-            let is : settle_found p v d (slice_get k.refs.known p) k ≡ k' = cc in
-            ap (λ (x : Value Local). and_then (settle_entry (names word) (λ q z. settle_at (names word) d q z) (Prom p) x (entry_of (names word) (knowns_by ts 0 k.refs.known) (Prom p)) (at k)) (λ _. tasks_act word ts k.tasks)) (not_broken (at k) (Prom p) v e)
-            ∙ ap (λ (o : Option (machine.Known Local)). and_then (settle_entry (names word) (λ q z. settle_at (names word) d q z) (Prom p) (value_by ts v) o (at k)) (λ _. tasks_act word ts k.tasks)) (entry_is word ts k.refs.known p)
-            ∙ by_entry p v d (slice_get k.refs.known p) k refl
-            ∙ ap (λ (x : Desk). tasks_act word ts x.tasks (at x)) is
+    module _ (ls : List (List Held)) (has : HasLists ts ls s) where
+      cut_is : (b : Bool) (r : References) (v : Held) → KnowsTexts ts r → refs.cut_cycle (names word) b (value_by ts v) ≡ value_by ts (broken_if b r v)
+      unfolding refs.cut_cycle broken_if
+      cut_is true r v part = ap (λ (t : Words). broken t) (sym part.1)
+      cut_is false r v part = refl
 
-    -- one part, and then the rest, is what is left after it
-    pub performed : (t : Task) (k k' : Desk) → KnowsTexts ts k.refs → perform t k ≡ Ok k' → tasks_act word ts (t ∷ k.tasks) (at k) ≡ tasks_act word ts k'.tasks (at k')
-    unfolding perform tasks_act task_act ◌>>◌ and_then
-    performed (SendOn m d) k k' part h = sent_on m d k k' part h
-    performed (Settle p v d) k k' part h = settled_at p v d k k' h
-    performed (Enqueue m) k k' part h =
-        let is : enqueued m k ≡ k' = cc in
-        ap (λ (x : Done Local (Unit {0})). and_then x (λ _. tasks_act word ts k.tasks)) (enqueue_is m k) ∙ ap (λ (x : Desk). tasks_act word ts x.tasks (at x)) is
-    performed (Inform p w) k k' part h = cc
+      as_many_lists : length s.lists ≡ length ls
+      as_many_lists = ap (λ (xs : List (List (Value Local))). length xs) has ∙ length-map ls (map (value_by ts))
+
+      target_is : (k : Desk) (p : ℕ) (v : Held) → KnowsTexts ts k.refs → target_of (names word) (at k) (Prom p) (value_by ts v) ≡ value_by ts (code.target_of k.refs ls p v)
+      unfolding target_of code.target_of
+      target_is k p (held.List id) part =
+          ap (λ (n : ℕ). refs.cut_cycle (names word) (reaches (names word) (suc n) (at k) (Prom p) (Items id)) (Items id)) as_many_lists
+          ∙ ap (λ (b : Bool). refs.cut_cycle (names word) b (Items id)) (reaches_is word ts k.refs ls p (record s { fuel = k.micro.fuel; happened = s.happened ++ lines_of line k.micro.events }) part has (suc (length ls)) (held.List id))
+          ∙ cut_is (leads_back (suc (length ls)) k.refs ls p (held.List id)) k.refs (held.List id) part
+      target_is k p held.Null part = refl
+      target_is k p (held.Bool b) part = refl
+      target_is k p (held.Int z) part = refl
+      target_is k p (held.Char c) part = refl
+      target_is k p (held.Text id) part = refl
+      target_is k p (held.Prim n) part = refl
+      target_is k p (held.Obj i) part = refl
+      target_is k p (held.Prom q) part = refl
+      target_is k p (held.Far a q) part = refl
+      target_is k p (held.Broken id) part = refl
+
+      settled_at : (p : ℕ) (v : Held) (d : ℕ) (k k' : Desk) → KnowsTexts ts k.refs → code.settle_at ls p v d k ≡ Ok k' → Same (settle_at (names word) d (Prom p) (value_by ts v)) k k'
+      unfolding code.settle_at settle_at settle_one machine.◌>>=◌ machine.look and_then
+      settled_at p v zero k k' part h = cc
+      settled_at p v (suc d) k k' part h =
+          let is : settle_found p (code.target_of k.refs ls p v) d (slice_get k.refs.known p) k ≡ k' = cc in
+          ap (λ (x : Value Local). and_then (settle_entry (names word) (λ q z. settle_at (names word) d q z) (Prom p) x (entry_of (names word) (knowns_by ts 0 k.refs.known) (Prom p)) (at k)) (λ _. tasks_act word ts k.tasks)) (target_is k p v part)
+          ∙ ap (λ (o : Option (machine.Known Local)). and_then (settle_entry (names word) (λ q z. settle_at (names word) d q z) (Prom p) (value_by ts (code.target_of k.refs ls p v)) o (at k)) (λ _. tasks_act word ts k.tasks)) (entry_is word ts k.refs.known p)
+          ∙ by_entry p (code.target_of k.refs ls p v) d (slice_get k.refs.known p) k refl
+          ∙ ap (λ (x : Desk). tasks_act word ts x.tasks (at x)) is
+
+      -- one part, and then the rest, is what is left after it
+      pub performed : (t : Task) (k k' : Desk) → KnowsTexts ts k.refs → perform ls t k ≡ Ok k' → tasks_act word ts (t ∷ k.tasks) (at k) ≡ tasks_act word ts k'.tasks (at k')
+      unfolding perform tasks_act task_act ◌>>◌ and_then
+      performed (SendOn m d) k k' part h = sent_on m d k k' part h
+      performed (Settle p v d) k k' part h = settled_at p v d k k' part h
+      performed (Enqueue m) k k' part h =
+          let is : enqueued m k ≡ k' = cc in
+          ap (λ (x : Done Local (Unit {0})). and_then x (λ _. tasks_act word ts k.tasks)) (enqueue_is m k) ∙ ap (λ (x : Desk). tasks_act word ts x.tasks (at x)) is
+      performed (Inform p w) k k' part h = cc
 
 -- ---- a whole settling
 
@@ -259,7 +272,7 @@ abbrev Keeps : Desk → Desk → Type 0
 Keeps k k' = SameTexts k.refs k'.refs
 
 held_keeps : (n : ℕ) (m : Message) (o : Option Known) (k : Desk) → Keeps k (held_at n m o k)
-unfolding held_at
+unfolding held_in
 held_keeps n m None k = (refl, refl)
 held_keeps n m (Some known) k = (refl, refl)
 
@@ -285,19 +298,15 @@ placed_keeps m d y (Gone t) k k' h =
 placed_keeps m d y (FarPromise a n) k k' h = cc
 placed_keeps m d y (FarObject a n) k k' h = cc
 
-settled_keeps : (p : ℕ) (v : Held) (d : ℕ) (b : Bool) (k k' : Desk) → (if b then Err Unbuilt else Ok (settle_found p v d (slice_get k.refs.known p) k)) ≡ Ok k' → Keeps k k'
-settled_keeps p v d true k k' h = cc
-settled_keeps p v d false k k' h =
-    let is : settle_found p v d (slice_get k.refs.known p) k ≡ k' = cc in
-    subst (λ (x : Desk). Keeps k x) is (found_keeps p v d (slice_get k.refs.known p) k)
-
-pub performed_keeps : (t : Task) (k k' : Desk) → perform t k ≡ Ok k' → Keeps k k'
+pub performed_keeps : (ls : List (List Held)) (t : Task) (k k' : Desk) → perform ls t k ≡ Ok k' → Keeps k k'
 unfolding perform code.send_on code.settle_at
-performed_keeps (SendOn m d) k k' h = placed_keeps m d (followed k.refs m.target) (place_of k.refs (followed k.refs m.target)) k k' h
-performed_keeps (Settle p v zero) k k' h = cc
-performed_keeps (Settle p v (suc d)) k k' h = settled_keeps p v d (is_list v) k k' h
-performed_keeps (Enqueue m) k k' h = let is : enqueued m k ≡ k' = cc in subst (λ (x : Desk). Keeps k x) is (refl, refl)
-performed_keeps (Inform p w) k k' h = cc
+performed_keeps ls (SendOn m d) k k' h = placed_keeps m d (followed k.refs m.target) (place_of k.refs (followed k.refs m.target)) k k' h
+performed_keeps ls (Settle p v zero) k k' h = cc
+performed_keeps ls (Settle p v (suc d)) k k' h =
+    let is : settle_found p (code.target_of k.refs ls p v) d (slice_get k.refs.known p) k ≡ k' = cc in
+    subst (λ (x : Desk). Keeps k x) is (found_keeps p (code.target_of k.refs ls p v) d (slice_get k.refs.known p) k)
+performed_keeps ls (Enqueue m) k k' h = let is : enqueued m k ≡ k' = cc in subst (λ (x : Desk). Keeps k x) is (refl, refl)
+performed_keeps ls (Inform p w) k k' h = cc
 
 unit_last : (d : Done Local (Unit {0})) → and_then d (λ _. give tt) ≡ d
 unfolding and_then give
@@ -316,35 +325,35 @@ two_more : (n : ℕ) → suc (suc n) ≡ n + 2
 two_more n = omega arith
 
 -- a settling begins as its one part
-pub begins : (r : References) (m : Micro) (p : ℕ) (v : Held) (ts' : List Task) → ts' ≡ Settle p v (length r.known + 2) ∷ [] → GoesOn r m p v (record { tasks = ts'; refs = r; micro = m })
+pub begins : (ls : List (List Held)) (r : References) (m : Micro) (p : ℕ) (v : Held) (ts' : List Task) → ts' ≡ Settle p v (length r.known + 2) ∷ [] → GoesOn ls r m p v (record { tasks = ts'; refs = r; micro = m })
 unfolding tasks_act task_act ◌>>◌ refs.settle machine.◌>>=◌ machine.look and_then
-begins r m p v ts' h = subst (λ (x : List Task). GoesOn r m p v (record { tasks = x; refs = r; micro = m })) (sym h) (
+begins ls r m p v ts' h = subst (λ (x : List Task). GoesOn ls r m p v (record { tasks = x; refs = r; micro = m })) (sym h) (
   (refl, refl),
-  λ word ts line s part tells.
+  λ word ts line s part tells has.
       ap (λ (n : ℕ). settle_at (names word) (suc (suc n)) (Prom p) (value_by ts v) (vat_in ts line (record { tasks = []; refs = r; micro = m }) s)) (as_many word ts ts 0 r.known)
       ∙ ap (λ (n : ℕ). settle_at (names word) n (Prom p) (value_by ts v) (vat_in ts line (record { tasks = []; refs = r; micro = m }) s)) (two_more (length r.known))
       ∙ sym (unit_last (settle_at (names word) (length r.known + 2) (Prom p) (value_by ts v) (vat_in ts line (record { tasks = []; refs = r; micro = m }) s))),
 )
 
 -- and goes on, part by part
-pub goes_on : (r : References) (m : Micro) (p : ℕ) (v : Held) (t : Task) (k k' : Desk) → perform t k ≡ Ok k' → GoesOn r m p v (record k { tasks = t ∷ k.tasks }) → GoesOn r m p v k'
-goes_on r m p v t k k' h g = (
-  still_same r k.refs k'.refs g.0 (performed_keeps t k k' h),
-  λ word ts line s part tells.
-      g.1 word ts line s part tells ∙ performed word ts line tells s t k k' (still_known ts r k.refs g.0 part) h,
+pub goes_on : (ls : List (List Held)) (r : References) (m : Micro) (p : ℕ) (v : Held) (t : Task) (k k' : Desk) → perform ls t k ≡ Ok k' → GoesOn ls r m p v (record k { tasks = t ∷ k.tasks }) → GoesOn ls r m p v k'
+goes_on ls r m p v t k k' h g = (
+  still_same r k.refs k'.refs g.0 (performed_keeps ls t k k' h),
+  λ word ts line s part tells has.
+      g.1 word ts line s part tells has ∙ performed word ts line tells s ls has t k k' (still_known ts r k.refs g.0 part) h,
 )
 
 -- until nothing is left
-pub ends : (r : References) (m : Micro) (p : ℕ) (v : Held) (k : Desk) → k.tasks ≡ [] → GoesOn r m p v k → SettlesAsTheMachine r m p v k.refs k.micro
+pub ends : (ls : List (List Held)) (r : References) (m : Micro) (p : ℕ) (v : Held) (k : Desk) → k.tasks ≡ [] → GoesOn ls r m p v k → SettlesAsTheMachine ls r m p v k.refs k.micro
 unfolding tasks_act give
-ends r m p v k h g = λ word ts line s part tells. g.1 word ts line s part tells ∙ ap (λ (x : List Task). tasks_act word ts x (vat_in ts line k s)) h
+ends ls r m p v k h g = λ word ts line s part tells has. g.1 word ts line s part tells has ∙ ap (λ (x : List Task). tasks_act word ts x (vat_in ts line k s)) h
 
-pub begun : (r : References) (m : Micro) (p : ℕ) (v : Held) (none ts' : List Task) (n : ℕ) → none ≡ [] → n ≡ length r.known → ts' ≡ Settle p v (n + 2) ∷ none → GoesOn r m p v (record { tasks = ts'; refs = r; micro = m })
-begun r m p v none ts' n e l h = begins r m p v ts' (subst (λ (x : List Task). ts' ≡ Settle p v (length r.known + 2) ∷ x) e (subst (λ (i : ℕ). ts' ≡ Settle p v (i + 2) ∷ none) l h))
+pub begun : (ls : List (List Held)) (r : References) (m : Micro) (p : ℕ) (v : Held) (none ts' : List Task) (n : ℕ) → none ≡ [] → n ≡ length r.known → ts' ≡ Settle p v (n + 2) ∷ none → GoesOn ls r m p v (record { tasks = ts'; refs = r; micro = m })
+begun ls r m p v none ts' n e l h = begins ls r m p v ts' (subst (λ (x : List Task). ts' ≡ Settle p v (length r.known + 2) ∷ x) e (subst (λ (i : ℕ). ts' ≡ Settle p v (i + 2) ∷ none) l h))
 
 -- a part is taken from what is to be done, and done
-pub after : (r : References) (m : Micro) (p : ℕ) (v : Held) (t : Task) (old : List Task) (k k' : Desk) → perform t k ≡ Ok k' → old ≡ t ∷ k.tasks → GoesOn r m p v (record k { tasks = old }) → GoesOn r m p v k'
-after r m p v t old k k' h e g = goes_on r m p v t k k' h (subst (λ (x : List Task). GoesOn r m p v (record k { tasks = x })) e g)
+pub after : (ls : List (List Held)) (r : References) (m : Micro) (p : ℕ) (v : Held) (t : Task) (old : List Task) (k k' : Desk) → perform ls t k ≡ Ok k' → old ≡ t ∷ k.tasks → GoesOn ls r m p v (record k { tasks = old }) → GoesOn ls r m p v k'
+after ls r m p v t old k k' h e g = goes_on ls r m p v t k k' h (subst (λ (x : List Task). GoesOn ls r m p v (record k { tasks = x })) e g)
 
 -- ---- a settling that goes astray
 
@@ -356,22 +365,18 @@ sent_never m d y (Gone t) k h = cc
 sent_never m d y (FarPromise a n) k h = cc
 sent_never m d y (FarObject a n) k h = cc
 
-settled_never : (b : Bool) (k : Desk) → (if b then Err Unbuilt else Ok k) ≡ Err AstrayFault → ⊥
-settled_never true k h = cc
-settled_never false k h = cc
-
 -- a part goes astray only where no settling may be begun any more
-pub goes_astray : (r : References) (m : Micro) (p : ℕ) (v : Held) (t : Task) (old : List Task) (k : Desk) → perform t k ≡ Err AstrayFault → old ≡ t ∷ k.tasks → GoesOn r m p v (record k { tasks = old }) → SettlingGoesAstray r m p v
+pub goes_astray : (ls : List (List Held)) (r : References) (m : Micro) (p : ℕ) (v : Held) (t : Task) (old : List Task) (k : Desk) → perform ls t k ≡ Err AstrayFault → old ≡ t ∷ k.tasks → GoesOn ls r m p v (record k { tasks = old }) → SettlingGoesAstray ls r m p v
 unfolding perform code.send_on code.settle_at tasks_act task_act ◌>>◌ and_then settle_at machine.stop went_astray
-goes_astray r m p v (SendOn n d) old k h e g = absurd (sent_never n d (followed k.refs n.target) (place_of k.refs (followed k.refs n.target)) k h)
-goes_astray r m p v (Settle q w zero) old k h e g = λ word ts line s part tells.
-    ap (λ (x : Done Local (Unit {0})). went_astray x) (g.1 word ts line s part tells ∙ ap (λ (x : List Task). tasks_act word ts x (vat_in ts line k s)) e)
-goes_astray r m p v (Settle q w (suc d)) old k h e g = absurd (settled_never (is_list w) (settle_found q w d (slice_get k.refs.known q) k) h)
-goes_astray r m p v (Enqueue n) old k h e g = cc
-goes_astray r m p v (Inform q w) old k h e g = cc
+goes_astray ls r m p v (SendOn n d) old k h e g = absurd (sent_never n d (followed k.refs n.target) (place_of k.refs (followed k.refs n.target)) k h)
+goes_astray ls r m p v (Settle q w zero) old k h e g = λ word ts line s part tells has.
+    ap (λ (x : Done Local (Unit {0})). went_astray x) (g.1 word ts line s part tells has ∙ ap (λ (x : List Task). tasks_act word ts x (vat_in ts line k s)) e)
+goes_astray ls r m p v (Settle q w (suc d)) old k h e g = cc
+goes_astray ls r m p v (Enqueue n) old k h e g = cc
+goes_astray ls r m p v (Inform q w) old k h e g = cc
 
-pub failed : (r : References) (m : Micro) (p : ℕ) (v : Held) (t : Task) (old : List Task) (k k' : Desk) (e : Fault) → code.Leaves (Err e) k' (perform t k) → old ≡ t ∷ k.tasks → GoesOn r m p v (record k { tasks = old })
-    → WhereAstray (Err e) (SettlingGoesAstray r m p v)
-failed r m p v t old k k' NoMemory h e g = tt
-failed r m p v t old k k' AstrayFault h e g = goes_astray r m p v t old k h e g
-failed r m p v t old k k' Unbuilt h e g = tt
+pub failed : (ls : List (List Held)) (r : References) (m : Micro) (p : ℕ) (v : Held) (t : Task) (old : List Task) (k k' : Desk) (e : Fault) → code.Leaves (Err e) k' (perform ls t k) → old ≡ t ∷ k.tasks → GoesOn ls r m p v (record k { tasks = old })
+    → WhereAstray (Err e) (SettlingGoesAstray ls r m p v)
+failed ls r m p v t old k k' NoMemory h e g = tt
+failed ls r m p v t old k k' AstrayFault h e g = goes_astray ls r m p v t old k h e g
+failed ls r m p v t old k k' Unbuilt h e g = tt

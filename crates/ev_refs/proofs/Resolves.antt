@@ -80,16 +80,16 @@ module _ (word : ℕ → ℕ) (ts : List Words) (line : Lines) (tells : Tells ts
 
 -- ---- the two outcomes of a wait
 
-pub breaks : (r : References) (m : Micro) (p q : ℕ) (r' : References) (m' : Micro) → waits_lead (length r.known) r.known p q ≡ true
-    → SettlesAsTheMachine r m p (held.Broken r.cycle) r' m' → WaitsAsTheMachine r m p q r' m'
-breaks r m p q r' m' h g = λ word ts line s part tells.
+pub breaks : (ls : List (List Held)) (r : References) (m : Micro) (p q : ℕ) (r' : References) (m' : Micro) → waits_lead (length r.known) r.known p q ≡ true
+    → SettlesAsTheMachine ls r m p (held.Broken r.cycle) r' m' → WaitsAsTheMachine ls r m p q r' m'
+breaks ls r m p q r' m' h g = λ word ts line s part tells has.
     tested word ts line tells s p q true (desk [] r m) h
     ∙ ap (λ (t : Words). refs.settle (names word) (Prom p) (broken t) (vat_in ts line (desk [] r m) s)) (sym part.1)
-    ∙ g word ts line s part tells
+    ∙ g word ts line s part tells has
 
-pub waits : (r : References) (m : Micro) (p q : ℕ) (r' : References) (m' : Micro) → waits_lead (length r.known) r.known p q ≡ false
-    → wait_on p q (desk [] r m) ≡ desk [] r' m' → WaitsAsTheMachine r m p q r' m'
-waits r m p q r' m' h g = λ word ts line s part tells.
+pub waits : (ls : List (List Held)) (r : References) (m : Micro) (p q : ℕ) (r' : References) (m' : Micro) → waits_lead (length r.known) r.known p q ≡ false
+    → wait_on p q (desk [] r m) ≡ desk [] r' m' → WaitsAsTheMachine ls r m p q r' m'
+waits ls r m p q r' m' h g = λ word ts line s part tells has.
     tested word ts line tells s p q false (desk [] r m) h
     ∙ wait_is_on word ts line tells s p q (desk [] r m)
     ∙ ap (λ (k : Desk). Gives tt (vat_in ts line k s)) g
@@ -120,33 +120,33 @@ settles_to word ts p y (Gone u) t e = refl
 settles_to word ts p y (Mine q) t e = absurd e
 settles_to word ts p y (FarPromise h q) t e = absurd e
 
-resolves_end : (r : References) (m : Micro) (p : ℕ) (v : Held) (r' : References) (m' : Micro) (x : Place) → place_of r (followed r v) ≡ x → IsEnd x
-    → SettlesAsTheMachine r m p (followed r v) r' m' → ResolvesAsTheMachine r m p v r' m'
-resolves_end r m p v r' m' x h e g = λ word ts line s part tells.
+resolves_end : (ls : List (List Held)) (r : References) (m : Micro) (p : ℕ) (v : Held) (r' : References) (m' : Micro) (x : Place) → place_of r (followed r v) ≡ x → IsEnd x
+    → SettlesAsTheMachine ls r m p (followed r v) r' m' → ResolvesAsTheMachine ls r m p v r' m'
+resolves_end ls r m p v r' m' x h e g = λ word ts line s part tells has.
     ended word ts line tells s r m p (value_by ts (followed r v)) (place_by ts x) v (follow_in word ts line s r m v part) (place_in word ts line s r m v x h)
     ∙ settles_to word ts p (value_by ts (followed r v)) x (vat_in ts line (desk [] r m) s) e
-    ∙ g word ts line s part tells
+    ∙ g word ts line s part tells has
 
-pub resolves_near : (r : References) (m : Micro) (p : ℕ) (v : Held) (r' : References) (m' : Micro) → place_of r (followed r v) ≡ Near → SettlesAsTheMachine r m p (followed r v) r' m' → ResolvesAsTheMachine r m p v r' m'
-resolves_near r m p v r' m' h g = resolves_end r m p v r' m' Near h tt g
+pub resolves_near : (ls : List (List Held)) (r : References) (m : Micro) (p : ℕ) (v : Held) (r' : References) (m' : Micro) → place_of r (followed r v) ≡ Near → SettlesAsTheMachine ls r m p (followed r v) r' m' → ResolvesAsTheMachine ls r m p v r' m'
+resolves_near ls r m p v r' m' h g = resolves_end ls r m p v r' m' Near h tt g
 
-pub resolves_far : (r : References) (m : Micro) (p : ℕ) (v : Held) (r' : References) (m' : Micro) (a q : ℕ) → place_of r (followed r v) ≡ FarObject a q → SettlesAsTheMachine r m p (followed r v) r' m' → ResolvesAsTheMachine r m p v r' m'
-resolves_far r m p v r' m' a q h g = resolves_end r m p v r' m' (FarObject a q) h tt g
+pub resolves_far : (ls : List (List Held)) (r : References) (m : Micro) (p : ℕ) (v : Held) (r' : References) (m' : Micro) (a q : ℕ) → place_of r (followed r v) ≡ FarObject a q → SettlesAsTheMachine ls r m p (followed r v) r' m' → ResolvesAsTheMachine ls r m p v r' m'
+resolves_far ls r m p v r' m' a q h g = resolves_end ls r m p v r' m' (FarObject a q) h tt g
 
-pub resolves_gone : (r : References) (m : Micro) (p : ℕ) (v : Held) (r' : References) (m' : Micro) (t : ℕ) → place_of r (followed r v) ≡ Gone t → SettlesAsTheMachine r m p (followed r v) r' m' → ResolvesAsTheMachine r m p v r' m'
-resolves_gone r m p v r' m' t h g = resolves_end r m p v r' m' (Gone t) h tt g
+pub resolves_gone : (ls : List (List Held)) (r : References) (m : Micro) (p : ℕ) (v : Held) (r' : References) (m' : Micro) (t : ℕ) → place_of r (followed r v) ≡ Gone t → SettlesAsTheMachine ls r m p (followed r v) r' m' → ResolvesAsTheMachine ls r m p v r' m'
+resolves_gone ls r m p v r' m' t h g = resolves_end ls r m p v r' m' (Gone t) h tt g
 
-pub resolves_mine : (r : References) (m : Micro) (p : ℕ) (v : Held) (r' : References) (m' : Micro) (q : ℕ) → place_of r (followed r v) ≡ Mine q → WaitsAsTheMachine r m p q r' m' → ResolvesAsTheMachine r m p v r' m'
+pub resolves_mine : (ls : List (List Held)) (r : References) (m : Micro) (p : ℕ) (v : Held) (r' : References) (m' : Micro) (q : ℕ) → place_of r (followed r v) ≡ Mine q → WaitsAsTheMachine ls r m p q r' m' → ResolvesAsTheMachine ls r m p v r' m'
 unfolding resolve_to
-resolves_mine r m p v r' m' q h g = λ word ts line s part tells.
+resolves_mine ls r m p v r' m' q h g = λ word ts line s part tells has.
     ended word ts line tells s r m p (value_by ts (followed r v)) (place_by ts (Mine q)) v (follow_in word ts line s r m v part) (place_in word ts line s r m v (Mine q) h)
-    ∙ g word ts line s part tells
+    ∙ g word ts line s part tells has
 
-pub resolves_promise : (r : References) (m : Micro) (p : ℕ) (v : Held) (r' : References) (m' : Micro) (a q : ℕ) → place_of r (followed r v) ≡ FarPromise a q → WaitsAsTheMachine r m p q r' m' → ResolvesAsTheMachine r m p v r' m'
+pub resolves_promise : (ls : List (List Held)) (r : References) (m : Micro) (p : ℕ) (v : Held) (r' : References) (m' : Micro) (a q : ℕ) → place_of r (followed r v) ≡ FarPromise a q → WaitsAsTheMachine ls r m p q r' m' → ResolvesAsTheMachine ls r m p v r' m'
 unfolding resolve_to
-resolves_promise r m p v r' m' a q h g = λ word ts line s part tells.
+resolves_promise ls r m p v r' m' a q h g = λ word ts line s part tells has.
     ended word ts line tells s r m p (value_by ts (followed r v)) (place_by ts (FarPromise a q)) v (follow_in word ts line s r m v part) (place_in word ts line s r m v (FarPromise a q) h)
-    ∙ g word ts line s part tells
+    ∙ g word ts line s part tells has
 
 -- ---- where a call gave what another fact is of
 
@@ -155,37 +155,37 @@ on_ok (Ok u) f h = f h
 on_ok (Err e) f h = tt
 
 -- a wait that a chain does not hinder, as the code leaves it
-pub waited : (r : References) (m : Micro) (p q : ℕ) (result : Result (Unit {0}) Fault) (r' : References) (m' : Micro) → waits_lead (length r.known) r.known p q ≡ false
-    → code.Leaves result (desk [] r' m') (Ok (wait_on p q (desk [] r m))) → OnOk result (WaitsAsTheMachine r m p q r' m')
-waited r m p q (Ok u) r' m' h g = waits r m p q r' m' h cc
-waited r m p q (Err e) r' m' h g = tt
+pub waited : (ls : List (List Held)) (r : References) (m : Micro) (p q : ℕ) (result : Result (Unit {0}) Fault) (r' : References) (m' : Micro) → waits_lead (length r.known) r.known p q ≡ false
+    → code.Leaves result (desk [] r' m') (Ok (wait_on p q (desk [] r m))) → OnOk result (WaitsAsTheMachine ls r m p q r' m')
+waited ls r m p q (Ok u) r' m' h g = waits ls r m p q r' m' h cc
+waited ls r m p q (Err e) r' m' h g = tt
 
-module _ (r : References) (m : Micro) (p : ℕ) (v end : Held) (is : end ≡ followed r v) (result : Result (Unit {0}) Fault) (r' : References) (m' : Micro) where
+module _ (ls : List (List Held)) (r : References) (m : Micro) (p : ℕ) (v end : Held) (is : end ≡ followed r v) (result : Result (Unit {0}) Fault) (r' : References) (m' : Micro) where
   at_end : (x : Place) → x ≡ place_of r end → place_of r (followed r v) ≡ x
   at_end x h = subst (λ (y : Held). place_of r y ≡ x) is (sym h)
 
-  settles_end : SettlesAsTheMachine r m p end r' m' → SettlesAsTheMachine r m p (followed r v) r' m'
-  settles_end g = subst (λ (y : Held). SettlesAsTheMachine r m p y r' m') is g
+  settles_end : SettlesAsTheMachine ls r m p end r' m' → SettlesAsTheMachine ls r m p (followed r v) r' m'
+  settles_end g = subst (λ (y : Held). SettlesAsTheMachine ls r m p y r' m') is g
 
-  pub near : Near ≡ place_of r end → OnOk result (SettlesAsTheMachine r m p end r' m') → OnOk result (ResolvesAsTheMachine r m p v r' m')
-  near h g = on_ok result (λ (f : SettlesAsTheMachine r m p end r' m'). resolves_near r m p v r' m' (at_end Near h) (settles_end f)) g
+  pub near : Near ≡ place_of r end → OnOk result (SettlesAsTheMachine ls r m p end r' m') → OnOk result (ResolvesAsTheMachine ls r m p v r' m')
+  near h g = on_ok result (λ (f : SettlesAsTheMachine ls r m p end r' m'). resolves_near ls r m p v r' m' (at_end Near h) (settles_end f)) g
 
-  pub far : (a q : ℕ) → FarObject a q ≡ place_of r end → OnOk result (SettlesAsTheMachine r m p end r' m') → OnOk result (ResolvesAsTheMachine r m p v r' m')
-  far a q h g = on_ok result (λ (f : SettlesAsTheMachine r m p end r' m'). resolves_far r m p v r' m' a q (at_end (FarObject a q) h) (settles_end f)) g
+  pub far : (a q : ℕ) → FarObject a q ≡ place_of r end → OnOk result (SettlesAsTheMachine ls r m p end r' m') → OnOk result (ResolvesAsTheMachine ls r m p v r' m')
+  far a q h g = on_ok result (λ (f : SettlesAsTheMachine ls r m p end r' m'). resolves_far ls r m p v r' m' a q (at_end (FarObject a q) h) (settles_end f)) g
 
-  pub gone : (t : ℕ) → Gone t ≡ place_of r end → OnOk result (SettlesAsTheMachine r m p end r' m') → OnOk result (ResolvesAsTheMachine r m p v r' m')
-  gone t h g = on_ok result (λ (f : SettlesAsTheMachine r m p end r' m'). resolves_gone r m p v r' m' t (at_end (Gone t) h) (settles_end f)) g
+  pub gone : (t : ℕ) → Gone t ≡ place_of r end → OnOk result (SettlesAsTheMachine ls r m p end r' m') → OnOk result (ResolvesAsTheMachine ls r m p v r' m')
+  gone t h g = on_ok result (λ (f : SettlesAsTheMachine ls r m p end r' m'). resolves_gone ls r m p v r' m' t (at_end (Gone t) h) (settles_end f)) g
 
-  pub mine : (q : ℕ) → Mine q ≡ place_of r end → OnOk result (WaitsAsTheMachine r m p q r' m') → OnOk result (ResolvesAsTheMachine r m p v r' m')
-  mine q h g = on_ok result (resolves_mine r m p v r' m' q (at_end (Mine q) h)) g
+  pub mine : (q : ℕ) → Mine q ≡ place_of r end → OnOk result (WaitsAsTheMachine ls r m p q r' m') → OnOk result (ResolvesAsTheMachine ls r m p v r' m')
+  mine q h g = on_ok result (resolves_mine ls r m p v r' m' q (at_end (Mine q) h)) g
 
-  pub promise : (a q : ℕ) → FarPromise a q ≡ place_of r end → OnOk result (WaitsAsTheMachine r m p q r' m') → OnOk result (ResolvesAsTheMachine r m p v r' m')
-  promise a q h g = on_ok result (resolves_promise r m p v r' m' a q (at_end (FarPromise a q) h)) g
+  pub promise : (a q : ℕ) → FarPromise a q ≡ place_of r end → OnOk result (WaitsAsTheMachine ls r m p q r' m') → OnOk result (ResolvesAsTheMachine ls r m p v r' m')
+  promise a q h g = on_ok result (resolves_promise ls r m p v r' m' a q (at_end (FarPromise a q) h)) g
 
 -- broken by a cycle, as the code leaves it
-pub broke : (r : References) (m : Micro) (p q : ℕ) (v : Held) (result : Result (Unit {0}) Fault) (r' : References) (m' : Micro) → waits_lead (length r.known) r.known p q ≡ true → v ≡ held.Broken r.cycle
-    → OnOk result (SettlesAsTheMachine r m p v r' m') → OnOk result (WaitsAsTheMachine r m p q r' m')
-broke r m p q v result r' m' h e g = on_ok result (λ (f : SettlesAsTheMachine r m p v r' m'). breaks r m p q r' m' h (subst (λ (y : Held). SettlesAsTheMachine r m p y r' m') e f)) g
+pub broke : (ls : List (List Held)) (r : References) (m : Micro) (p q : ℕ) (v : Held) (result : Result (Unit {0}) Fault) (r' : References) (m' : Micro) → waits_lead (length r.known) r.known p q ≡ true → v ≡ held.Broken r.cycle
+    → OnOk result (SettlesAsTheMachine ls r m p v r' m') → OnOk result (WaitsAsTheMachine ls r m p q r' m')
+broke ls r m p q v result r' m' h e g = on_ok result (λ (f : SettlesAsTheMachine ls r m p v r' m'). breaks ls r m p q r' m' h (subst (λ (y : Held). SettlesAsTheMachine ls r m p y r' m') e f)) g
 
 -- ---- where a settling goes astray
 
@@ -202,46 +202,46 @@ waited_well (Err NoMemory) k k' fact h = tt
 waited_well (Err AstrayFault) k k' fact h = cc
 waited_well (Err Unbuilt) k k' fact h = tt
 
-breaks_astray : (r : References) (m : Micro) (p q : ℕ) → waits_lead (length r.known) r.known p q ≡ true → SettlingGoesAstray r m p (held.Broken r.cycle) → WaitingGoesAstray r m p q
-breaks_astray r m p q h g = λ word ts line s part tells.
+breaks_astray : (ls : List (List Held)) (r : References) (m : Micro) (p q : ℕ) → waits_lead (length r.known) r.known p q ≡ true → SettlingGoesAstray ls r m p (held.Broken r.cycle) → WaitingGoesAstray ls r m p q
+breaks_astray ls r m p q h g = λ word ts line s part tells has.
     ap (λ (d : Done Local (Unit {0})). went_astray d)
     (tested word ts line tells s p q true (desk [] r m) h ∙ ap (λ (t : Words). refs.settle (names word) (Prom p) (broken t) (vat_in ts line (desk [] r m) s)) (sym part.1))
-    ∙ g word ts line s part tells
+    ∙ g word ts line s part tells has
 
-pub broke_astray : (r : References) (m : Micro) (p q : ℕ) (v : Held) (result : Result (Unit {0}) Fault) → waits_lead (length r.known) r.known p q ≡ true → v ≡ held.Broken r.cycle
-    → WhereAstray result (SettlingGoesAstray r m p v) → WhereAstray result (WaitingGoesAstray r m p q)
-broke_astray r m p q v result h e g = astray_on result (λ (f : SettlingGoesAstray r m p v). breaks_astray r m p q h (subst (λ (y : Held). SettlingGoesAstray r m p y) e f)) g
+pub broke_astray : (ls : List (List Held)) (r : References) (m : Micro) (p q : ℕ) (v : Held) (result : Result (Unit {0}) Fault) → waits_lead (length r.known) r.known p q ≡ true → v ≡ held.Broken r.cycle
+    → WhereAstray result (SettlingGoesAstray ls r m p v) → WhereAstray result (WaitingGoesAstray ls r m p q)
+broke_astray ls r m p q v result h e g = astray_on result (λ (f : SettlingGoesAstray ls r m p v). breaks_astray ls r m p q h (subst (λ (y : Held). SettlingGoesAstray ls r m p y) e f)) g
 
-end_astray : (r : References) (m : Micro) (p : ℕ) (v : Held) (x : Place) → place_of r (followed r v) ≡ x → IsEnd x → SettlingGoesAstray r m p (followed r v) → ResolvingGoesAstray r m p v
-end_astray r m p v x h e g = λ word ts line s part tells.
+end_astray : (ls : List (List Held)) (r : References) (m : Micro) (p : ℕ) (v : Held) (x : Place) → place_of r (followed r v) ≡ x → IsEnd x → SettlingGoesAstray ls r m p (followed r v) → ResolvingGoesAstray ls r m p v
+end_astray ls r m p v x h e g = λ word ts line s part tells has.
     ap (λ (d : Done Local (Unit {0})). went_astray d)
     (ended word ts line tells s r m p (value_by ts (followed r v)) (place_by ts x) v (follow_in word ts line s r m v part) (place_in word ts line s r m v x h)
     ∙ settles_to word ts p (value_by ts (followed r v)) x (vat_in ts line (desk [] r m) s) e)
-    ∙ g word ts line s part tells
+    ∙ g word ts line s part tells has
 
-mine_astray : (r : References) (m : Micro) (p : ℕ) (v : Held) (q : ℕ) → place_of r (followed r v) ≡ Mine q → WaitingGoesAstray r m p q → ResolvingGoesAstray r m p v
+mine_astray : (ls : List (List Held)) (r : References) (m : Micro) (p : ℕ) (v : Held) (q : ℕ) → place_of r (followed r v) ≡ Mine q → WaitingGoesAstray ls r m p q → ResolvingGoesAstray ls r m p v
 unfolding resolve_to
-mine_astray r m p v q h g = λ word ts line s part tells.
+mine_astray ls r m p v q h g = λ word ts line s part tells has.
     ap (λ (d : Done Local (Unit {0})). went_astray d)
     (ended word ts line tells s r m p (value_by ts (followed r v)) (place_by ts (Mine q)) v (follow_in word ts line s r m v part) (place_in word ts line s r m v (Mine q) h))
-    ∙ g word ts line s part tells
+    ∙ g word ts line s part tells has
 
-promise_astray : (r : References) (m : Micro) (p : ℕ) (v : Held) (a q : ℕ) → place_of r (followed r v) ≡ FarPromise a q → WaitingGoesAstray r m p q → ResolvingGoesAstray r m p v
+promise_astray : (ls : List (List Held)) (r : References) (m : Micro) (p : ℕ) (v : Held) (a q : ℕ) → place_of r (followed r v) ≡ FarPromise a q → WaitingGoesAstray ls r m p q → ResolvingGoesAstray ls r m p v
 unfolding resolve_to
-promise_astray r m p v a q h g = λ word ts line s part tells.
+promise_astray ls r m p v a q h g = λ word ts line s part tells has.
     ap (λ (d : Done Local (Unit {0})). went_astray d)
     (ended word ts line tells s r m p (value_by ts (followed r v)) (place_by ts (FarPromise a q)) v (follow_in word ts line s r m v part) (place_in word ts line s r m v (FarPromise a q) h))
-    ∙ g word ts line s part tells
+    ∙ g word ts line s part tells has
 
-module _ (r : References) (m : Micro) (p : ℕ) (v end : Held) (is : end ≡ followed r v) (result : Result (Unit {0}) Fault) where
+module _ (ls : List (List Held)) (r : References) (m : Micro) (p : ℕ) (v end : Held) (is : end ≡ followed r v) (result : Result (Unit {0}) Fault) where
   end_at : (x : Place) → x ≡ place_of r end → place_of r (followed r v) ≡ x
   end_at x h = subst (λ (y : Held). place_of r y ≡ x) is (sym h)
 
-  pub astray_end : (x : Place) → IsEnd x → x ≡ place_of r end → WhereAstray result (SettlingGoesAstray r m p end) → WhereAstray result (ResolvingGoesAstray r m p v)
-  astray_end x e h g = astray_on result (λ (f : SettlingGoesAstray r m p end). end_astray r m p v x (end_at x h) e (subst (λ (y : Held). SettlingGoesAstray r m p y) is f)) g
+  pub astray_end : (x : Place) → IsEnd x → x ≡ place_of r end → WhereAstray result (SettlingGoesAstray ls r m p end) → WhereAstray result (ResolvingGoesAstray ls r m p v)
+  astray_end x e h g = astray_on result (λ (f : SettlingGoesAstray ls r m p end). end_astray ls r m p v x (end_at x h) e (subst (λ (y : Held). SettlingGoesAstray ls r m p y) is f)) g
 
-  pub astray_mine : (q : ℕ) → Mine q ≡ place_of r end → WhereAstray result (WaitingGoesAstray r m p q) → WhereAstray result (ResolvingGoesAstray r m p v)
-  astray_mine q h g = astray_on result (mine_astray r m p v q (end_at (Mine q) h)) g
+  pub astray_mine : (q : ℕ) → Mine q ≡ place_of r end → WhereAstray result (WaitingGoesAstray ls r m p q) → WhereAstray result (ResolvingGoesAstray ls r m p v)
+  astray_mine q h g = astray_on result (mine_astray ls r m p v q (end_at (Mine q) h)) g
 
-  pub astray_promise : (a q : ℕ) → FarPromise a q ≡ place_of r end → WhereAstray result (WaitingGoesAstray r m p q) → WhereAstray result (ResolvingGoesAstray r m p v)
-  astray_promise a q h g = astray_on result (promise_astray r m p v a q (end_at (FarPromise a q) h)) g
+  pub astray_promise : (a q : ℕ) → FarPromise a q ≡ place_of r end → WhereAstray result (WaitingGoesAstray ls r m p q) → WhereAstray result (ResolvingGoesAstray ls r m p v)
+  astray_promise a q h g = astray_on result (promise_astray ls r m p v a q (end_at (FarPromise a q) h)) g

@@ -90,41 +90,41 @@ module _ (word : ℕ → ℕ) (ts : List Words) (line : Lines) (tells : Tells ts
 
 -- ---- a new message finds its place
 
-pub first_near : (r : References) (m : Micro) (n : Message) (r' : References) (m' : Micro) → enqueued n (desk [] r m) ≡ desk [] r' m' → FindsItsPlace r m n Near r' m'
+pub first_near : (ls : List (List Held)) (r : References) (m : Micro) (n : Message) (r' : References) (m' : Micro) → enqueued n (desk [] r m) ≡ desk [] r' m' → FindsItsPlace ls r m n Near r' m'
 unfolding refs.send_first refs.send_to
-first_near r m n r' m' h = λ word ts line s part tells. enqueue_is word ts line tells s n (desk [] r m) ∙ ap (λ (k : Desk). Gives tt (vat_in ts line k s)) h
+first_near ls r m n r' m' h = λ word ts line s part tells has. enqueue_is word ts line tells s n (desk [] r m) ∙ ap (λ (k : Desk). Gives tt (vat_in ts line k s)) h
 
-pub first_mine : (r : References) (m : Micro) (n : Message) (p : ℕ) (r' : References) (m' : Micro) → held_at p n (slice_get r.known p) (desk [] r m) ≡ desk [] r' m' → FindsItsPlace r m n (Mine p) r' m'
+pub first_mine : (ls : List (List Held)) (r : References) (m : Micro) (n : Message) (p : ℕ) (r' : References) (m' : Micro) → held_at p n (slice_get r.known p) (desk [] r m) ≡ desk [] r' m' → FindsItsPlace ls r m n (Mine p) r' m'
 unfolding refs.send_first refs.send_to
-first_mine r m n p r' m' h = λ word ts line s part tells. hold_found word ts line tells s p n (desk [] r m) (slice_get r.known p) refl ∙ ap (λ (k : Desk). Gives tt (vat_in ts line k s)) h
+first_mine ls r m n p r' m' h = λ word ts line s part tells has. hold_found word ts line tells s p n (desk [] r m) (slice_get r.known p) refl ∙ ap (λ (k : Desk). Gives tt (vat_in ts line k s)) h
 
-pub first_gone : (r : References) (m : Micro) (n : Message) (t : ℕ) (m1 : Micro) (r' : References) (m' : Micro) → m1 ≡ record m { events = m.events ++ event.LostBroken n.id ∷ [] }
-    → SettlesAsTheMachine r m1 n.answer (held.Broken t) r' m' → FindsItsPlace r m n (Gone t) r' m'
+pub first_gone : (ls : List (List Held)) (r : References) (m : Micro) (n : Message) (t : ℕ) (m1 : Micro) (r' : References) (m' : Micro) → m1 ≡ record m { events = m.events ++ event.LostBroken n.id ∷ [] }
+    → SettlesAsTheMachine ls r m1 n.answer (held.Broken t) r' m' → FindsItsPlace ls r m n (Gone t) r' m'
 unfolding refs.send_first refs.send_to machine.◌>>◌ and_then
-first_gone r m n t m1 r' m' h g = λ word ts line s part tells.
+first_gone ls r m n t m1 r' m' h g = λ word ts line s part tells has.
     ap (λ (x : Done Local (Unit {0})). and_then x (λ _. refs.settle (names word) (Prom n.answer) (value_by ts (held.Broken t)))) (tell_is word ts line tells s (event.LostBroken n.id) (Lost (Mess n.id)) (desk [] r m) (tells.lost n.id))
-    ∙ subst (λ (x : Micro). refs.settle (names word) (Prom n.answer) (value_by ts (held.Broken t)) (vat_in ts line (desk [] r x) s) ≡ Gives tt (vat_in ts line (desk [] r' m') s)) h (g word ts line s part tells)
+    ∙ subst (λ (x : Micro). refs.settle (names word) (Prom n.answer) (value_by ts (held.Broken t)) (vat_in ts line (desk [] r x) s) ≡ Gives tt (vat_in ts line (desk [] r' m') s)) h (g word ts line s part tells has)
 
-module _ (r : References) (m : Micro) (n : Message) (result : Result (Unit {0}) Fault) (r' : References) (m' : Micro) where
-  pub near : Leaves result (desk [] r' m') (Ok (enqueued n (desk [] r m))) → OnOk result (FindsItsPlace r m n Near r' m')
-  near h = placed_by result (enqueued n (desk [] r m)) (desk [] r' m') (FindsItsPlace r m n Near r' m') h (first_near r m n r' m')
+module _ (ls : List (List Held)) (r : References) (m : Micro) (n : Message) (result : Result (Unit {0}) Fault) (r' : References) (m' : Micro) where
+  pub near : Leaves result (desk [] r' m') (Ok (enqueued n (desk [] r m))) → OnOk result (FindsItsPlace ls r m n Near r' m')
+  near h = placed_by result (enqueued n (desk [] r m)) (desk [] r' m') (FindsItsPlace ls r m n Near r' m') h (first_near ls r m n r' m')
 
-  pub mine : (p : ℕ) → Leaves result (desk [] r' m') (Ok (held_at p n (slice_get r.known p) (desk [] r m))) → OnOk result (FindsItsPlace r m n (Mine p) r' m')
-  mine p h = placed_by result (held_at p n (slice_get r.known p) (desk [] r m)) (desk [] r' m') (FindsItsPlace r m n (Mine p) r' m') h (first_mine r m n p r' m')
+  pub mine : (p : ℕ) → Leaves result (desk [] r' m') (Ok (held_at p n (slice_get r.known p) (desk [] r m))) → OnOk result (FindsItsPlace ls r m n (Mine p) r' m')
+  mine p h = placed_by result (held_at p n (slice_get r.known p) (desk [] r m)) (desk [] r' m') (FindsItsPlace ls r m n (Mine p) r' m') h (first_mine ls r m n p r' m')
 
-  pub gone : (t : ℕ) (m1 : Micro) (v : Held) → v ≡ held.Broken t → m1 ≡ record m { events = m.events ++ event.LostBroken n.id ∷ [] } → OnOk result (SettlesAsTheMachine r m1 n.answer v r' m') → OnOk result (FindsItsPlace r m n (Gone t) r' m')
-  gone t m1 v is h g = on_ok result (λ (f : SettlesAsTheMachine r m1 n.answer v r' m'). first_gone r m n t m1 r' m' h (subst (λ (x : Held). SettlesAsTheMachine r m1 n.answer x r' m') is f)) g
+  pub gone : (t : ℕ) (m1 : Micro) (v : Held) → v ≡ held.Broken t → m1 ≡ record m { events = m.events ++ event.LostBroken n.id ∷ [] } → OnOk result (SettlesAsTheMachine ls r m1 n.answer v r' m') → OnOk result (FindsItsPlace ls r m n (Gone t) r' m')
+  gone t m1 v is h g = on_ok result (λ (f : SettlesAsTheMachine ls r m1 n.answer v r' m'). first_gone ls r m n t m1 r' m' h (subst (λ (x : Held). SettlesAsTheMachine ls r m1 n.answer x r' m') is f)) g
 
   -- the same, where the place is this
-  pub at_place : (x y : Place) → x ≡ y → OnOk result (FindsItsPlace r m n y r' m') → OnOk result (FindsItsPlace r m n x r' m')
-  at_place x y h g = subst (λ (z : Place). OnOk result (FindsItsPlace r m n z r' m')) (sym h) g
+  pub at_place : (x y : Place) → x ≡ y → OnOk result (FindsItsPlace ls r m n y r' m') → OnOk result (FindsItsPlace ls r m n x r' m')
+  at_place x y h g = subst (λ (z : Place). OnOk result (FindsItsPlace ls r m n z r' m')) (sym h) g
 
 -- ---- a new message
 
-pub made_anew : (r : References) (m : Micro) (act : ℕ) (x : Held) (verb : Words) (args : List Held) (end : Held) (p : Place) (i a : ℕ) (r1 : References) (m1 : Micro) (e : Event) (n : Message) (r' : References) (m' : Micro)
+pub made_anew : (ls : List (List Held)) (r : References) (m : Micro) (act : ℕ) (x : Held) (verb : Words) (args : List Held) (end : Held) (p : Place) (i a : ℕ) (r1 : References) (m1 : Micro) (e : Event) (n : Message) (r' : References) (m' : Micro)
     → (i ≡ r.mails) × (a ≡ length r.known) → r1 ≡ with_message r → e ≡ event.Send act i x verb args a → m1 ≡ record m { events = m.events ++ e ∷ [] }
-    → n ≡ record { id = i; target = end; verb = verb; args = args; answer = a } → FindsItsPlace r1 m1 n p r' m' → SendsOn r m act x verb args end p a r' m'
-made_anew r m act x verb args end p i a r1 m1 e n r' m' numbers hr he hm hn g =
+    → n ≡ record { id = i; target = end; verb = verb; args = args; answer = a } → FindsItsPlace ls r1 m1 n p r' m' → SendsOn ls r m act x verb args end p a r' m'
+made_anew ls r m act x verb args end p i a r1 m1 e n r' m' numbers hr he hm hn g =
     let event_is : e ≡ event.Send act r.mails x verb args (length r.known) = he ∙ ap (λ (j : ℕ). event.Send act j x verb args a) numbers.0 ∙ ap (λ (b : ℕ). event.Send act r.mails x verb args b) numbers.1 in
     let message_is : n ≡ record { id = r.mails; target = end; verb = verb; args = args; answer = length r.known } =
     hn ∙ ap (λ (j : ℕ). message_with j end verb args a) numbers.0 ∙ ap (λ (b : ℕ). message_with r.mails end verb args b) numbers.1 in (
@@ -133,7 +133,7 @@ made_anew r m act x verb args end p i a r1 m1 e n r' m' numbers hr he hm hn g =
         m1,
         (
           hm ∙ ap (λ (z : Event). record m { events = m.events ++ z ∷ [] }) event_is,
-          subst (λ (z : Message). FindsItsPlace (with_message r) m1 z p r' m') message_is (subst (λ (z : References). FindsItsPlace z m1 n p r' m') hr g),
+          subst (λ (z : Message). FindsItsPlace ls (with_message r) m1 z p r' m') message_is (subst (λ (z : References). FindsItsPlace ls z m1 n p r' m') hr g),
         ),
       ),
     )
@@ -192,9 +192,9 @@ module _ (word : ℕ → ℕ) (ts : List Words) (line : Lines) (tells : Tells ts
       ∙ ap (λ (d : Done Local (Unit {0})). and_then d (λ _ z. machine.give (Ref (Prom (length r.known))) z)) g
 
 -- what a message on a followed target comes to is what the machine's sending comes to
-pub sends_here : (r : References) (m : Micro) (act : ℕ) (x : Held) (verb : Words) (args : List Held) (end : Held) (p : Place) (answer : ℕ) (r' : References) (m' : Micro)
-    → end ≡ followed r x → place_of r end ≡ p → IsHere p → SendsOn r m act x verb args end p answer r' m' → SendsAsTheMachine r m act x verb args answer r' m'
-sends_here r m act x verb args end p answer r' m' he hp here g = λ word ts line s part tells.
+pub sends_here : (ls : List (List Held)) (r : References) (m : Micro) (act : ℕ) (x : Held) (verb : Words) (args : List Held) (end : Held) (p : Place) (answer : ℕ) (r' : References) (m' : Micro)
+    → end ≡ followed r x → place_of r end ≡ p → IsHere p → SendsOn ls r m act x verb args end p answer r' m' → SendsAsTheMachine ls r m act x verb args answer r' m'
+sends_here ls r m act x verb args end p answer r' m' he hp here g = λ word ts line s part tells has.
     let start : Vat Local = vat_in ts line (desk [] r m) s in
     let led : refs.follow (names word) start (value_by ts x) ≡ value_by ts end = follow_in word ts line s r m x part ∙ ap (λ (v : Held). value_by ts v) (sym he) in
     let stands : refs.place (names word) start (value_by ts end) ≡ place_by ts p = subst (λ (v : Held). refs.place (names word) start (value_by ts v) ≡ place_by ts p) (sym he) (place_in word ts line s r m x p (subst (λ (v : Held). place_of r v ≡ p) he hp)) in
@@ -202,7 +202,7 @@ sends_here r m act x verb args end p answer r' m' he hp here g = λ word ts line
     ∙ ap (λ (y : Value Local). from_end word ts line tells s act x verb args y (refs.place (names word) start y) (refs.answer_host (names word) r.me (refs.place (names word) start y)) start) led
     ∙ ap (λ (q : refs.Place Local). from_end word ts line tells s act x verb args (value_by ts end) q (refs.answer_host (names word) r.me q) start) stands
     ∙ ap (λ (h : ℕ). from_end word ts line tells s act x verb args (value_by ts end) (place_by ts p) h start) (answers_here word ts r.me p here)
-    ∙ ends_sent word ts line tells s act x verb args r m g.1.0 end p r' m' g.1.1.0 (g.1.1.1 word ts line s part tells)
+    ∙ ends_sent word ts line tells s act x verb args r m g.1.0 end p r' m' g.1.1.0 (g.1.1.1 word ts line s part tells has)
     ∙ ap (λ (n : ℕ). Gives (Ref (Prom n)) (vat_in ts line (desk [] r' m') s)) (sym g.0)
 
 -- where it is nowhere else
@@ -213,8 +213,8 @@ is_here (Gone t) f g = tt
 is_here (FarPromise a n) f g = absurd (f a n refl)
 is_here (FarObject a n) f g = absurd (g a n refl)
 
-pub sends : (r : References) (m : Micro) (act : ℕ) (x : Held) (verb : Words) (args : List Held) (end : Held) (p : Place) (result : Result ℕ Fault) (r' : References) (m' : Micro)
+pub sends : (ls : List (List Held)) (r : References) (m : Micro) (act : ℕ) (x : Held) (verb : Words) (args : List Held) (end : Held) (p : Place) (result : Result ℕ Fault) (r' : References) (m' : Micro)
     → end ≡ followed r x → place_of r end ≡ p → ((a n : ℕ) → p ≡ FarPromise a n → ⊥) → ((a n : ℕ) → p ≡ FarObject a n → ⊥)
-    → IfOk result (λ answer. SendsOn r m act x verb args end p answer r' m') → IfOk result (λ answer. SendsAsTheMachine r m act x verb args answer r' m')
-sends r m act x verb args end p (Ok a) r' m' he hp f g h = sends_here r m act x verb args end p a r' m' he hp (is_here p f g) h
-sends r m act x verb args end p (Err e) r' m' he hp f g h = tt
+    → IfOk result (λ answer. SendsOn ls r m act x verb args end p answer r' m') → IfOk result (λ answer. SendsAsTheMachine ls r m act x verb args answer r' m')
+sends ls r m act x verb args end p (Ok a) r' m' he hp f g h = sends_here ls r m act x verb args end p a r' m' he hp (is_here p f g) h
+sends ls r m act x verb args end p (Err e) r' m' he hp f g h = tt

@@ -1,10 +1,10 @@
 -- Each part of a settling leaves less to do.
-use Rattle.std.proofs.Common.{◌≡◌, ℕ, zero, suc, ◌+◌, ◌*◌, ◌<◌, ◌≤◌, Bool, true, false, List, [], ◌∷◌, ◌++◌, Option, Some, None, Ok, Err, length, map, refl, sym, ap, ◌∙◌, subst, arith, mul-le-mul_left, suc-mul}
-use Rattle.std.specs.Prelude.{if◌then◌else◌, slice_get, slice_set}
+use Rattle.std.proofs.Common.{◌≡◌, ℕ, zero, suc, ◌+◌, ◌*◌, ◌<◌, ◌≤◌, List, [], ◌∷◌, ◌++◌, Option, Some, None, Ok, length, map, refl, sym, ap, ◌∙◌, subst, arith, mul-le-mul_left, suc-mul}
+use Rattle.std.specs.Prelude.{slice_get, slice_set}
 use Rattle.ev_base.specs.declared.values.Value.{Value as Held}
 use Rattle.ev_refs.specs.Changes.{unless_settled, with_held, settled_as, waiters_at, waiters_of}
 use Rattle.ev_refs.specs.Settling as code
-use Rattle.ev_refs.specs.Settling.{Desk, told, enqueued, set_known, held_at, send_placed, parts_of, settle_waiters, settle_found, is_list, perform}
+use Rattle.ev_refs.specs.Settling.{Desk, told, enqueued, set_known, held_in, held_at, send_placed, parts_of, settle_waiters, settle_found, perform}
 use Rattle.ev_refs.proofs.Settles.{kept, settled_stays}
 use Rattle.ev_refs.specs.Tasks.{sends, settles, enqueues, informs}
 use Rattle.ev_refs.specs.Work.{total, task_weight, known_weight, may_settle, to_do, unsettled, waits, work}
@@ -13,7 +13,6 @@ use Rattle.ev_heap.specs.declared.happened.Happened.TheVariants as event
 use Rattle.ev_refs.specs.Follow.{followed, place_of}
 use Rattle.ev_refs.specs.declared.follow.Place.{Place}
 use Rattle.ev_refs.specs.declared.follow.Place.TheVariants.{Near, Mine, FarPromise, FarObject, Gone}
-use Rattle.ev_refs.specs.declared.settle.Fault.TheVariants.{Unbuilt}
 use Rattle.ev_refs.specs.declared.known.Known.{Known}
 use Rattle.ev_refs.specs.declared.known.Message.{Message}
 use Rattle.ev_refs.specs.declared.known.Standing.{Standing}
@@ -95,7 +94,7 @@ held_weighs (Viewed q) m k = omega (arith, one_longer k.held m)
 held_weighs (Settled v) m k = omega arith
 
 held_less : (n : ℕ) (m : Message) (o : Option Known) (k : Desk) → slice_get k.refs.known n ≡ o → Less 2 k (held_at n m o k)
-unfolding held_at
+unfolding held_in
 held_less n m None k h = lighter 2 k k refl (omega arith) (omega arith)
 held_less n m (Some known) k h =
     let new : Known = with_held m known in
@@ -155,22 +154,18 @@ unfolding settle_found
 found_less p v d None k h = lighter 1 k k refl (omega arith) (omega arith)
 found_less p v d (Some known) k h = by_standing p v d known known.standing k refl h
 
-tested_less : (p : ℕ) (v : Held) (d : ℕ) (b : Bool) (k k' : Desk) → (if b then Err Unbuilt else Ok (settle_found p v d (slice_get k.refs.known p) k)) ≡ Ok k' → Less 1 k k'
-tested_less p v d true k k' h = cc
-tested_less p v d false k k' h =
-    let is : settle_found p v d (slice_get k.refs.known p) k ≡ k' = cc in
-    subst (λ (x : Desk). Less 1 k x) is (found_less p v d (slice_get k.refs.known p) k refl)
-
 -- less is left behind a part than before it
-pub shrinks : (t : Task) (k k' : Desk) → perform t k ≡ Ok k' → work k' < work (record k { tasks = t ∷ k.tasks })
+pub shrinks : (ls : List (List Held)) (t : Task) (k k' : Desk) → perform ls t k ≡ Ok k' → work k' < work (record k { tasks = t ∷ k.tasks })
 unfolding perform code.send_on code.settle_at total
-shrinks (SendOn m d) k k' h = placed_less m d (followed k.refs m.target) (place_of k.refs (followed k.refs m.target)) k k' h
-shrinks (Settle p v zero) k k' h = cc
-shrinks (Settle p v (suc d)) k k' h = tested_less p v d (is_list v) k k' h
-shrinks (Enqueue m) k k' h =
+shrinks ls (SendOn m d) k k' h = placed_less m d (followed k.refs m.target) (place_of k.refs (followed k.refs m.target)) k k' h
+shrinks ls (Settle p v zero) k k' h = cc
+shrinks ls (Settle p v (suc d)) k k' h =
+    let is : settle_found p (code.target_of k.refs ls p v) d (slice_get k.refs.known p) k ≡ k' = cc in
+    subst (λ (x : Desk). Less 1 k x) is (found_less p (code.target_of k.refs ls p v) d (slice_get k.refs.known p) k refl)
+shrinks ls (Enqueue m) k k' h =
     let is : enqueued m k ≡ k' = cc in
     subst (λ (x : Desk). Less 1 k x) is (lighter 1 k (enqueued m k) refl (omega arith) (omega arith))
-shrinks (Inform p w) k k' h = cc
+shrinks ls (Inform p w) k k' h = cc
 
-pub smaller : (t : Task) (old : List Task) (k k' : Desk) → perform t k ≡ Ok k' → old ≡ t ∷ k.tasks → work k' < work (record k { tasks = old })
-smaller t old k k' h e = subst (λ (x : List Task). work k' < work (record k { tasks = x })) (sym e) (shrinks t k k' h)
+pub smaller : (ls : List (List Held)) (t : Task) (old : List Task) (k k' : Desk) → perform ls t k ≡ Ok k' → old ≡ t ∷ k.tasks → work k' < work (record k { tasks = old })
+smaller ls t old k k' h e = subst (λ (x : List Task). work k' < work (record k { tasks = x })) (sym e) (shrinks ls t k k' h)

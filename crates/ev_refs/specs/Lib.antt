@@ -9,3 +9,8 @@ pub mod Performing
 pub mod Work
 pub mod Resolving
 pub mod Sending
+pub mod Reacting
+pub mod Faults
+pub mod Leading
+pub mod Telling
+pub mod Answering

@@ -12,7 +12,7 @@ use Rattle.ev_refs.specs.References.{References, unsettled_of}
 use Rattle.ev_refs.specs.Settling.{Desk, told}
 use Rattle.ev_refs.specs.declared.follow.Place.{Place}
 use Rattle.ev_refs.specs.declared.known.Message.{Message}
-use Rattle.ev_refs.specs.Statements.{KnowsTexts}
+use Rattle.ev_refs.specs.Statements.{HasLists, KnowsTexts}
 
 -- a promise that the vat makes
 abbrev pub with_promise : References → References
@@ -27,18 +27,18 @@ abbrev pub sent : ℕ → Value → Words → List Value → Desk → Desk
 sent act x verb args k = told (event.Send act k.refs.mails x verb args (length k.refs.known)) (record k { refs = with_message k.refs })
 
 -- From these references and what happened, an activation has sent a message as the machine sends it; its answer has that number.
-abbrev pub SendsAsTheMachine : References → Micro → ℕ → Value → Words → List Value → ℕ → References → Micro → Type 0
-SendsAsTheMachine r m act x verb args answer r' m' = (word : ℕ → ℕ) (ts : List Words) (line : Lines) (s : Vat Local) → KnowsTexts ts r → Tells ts line
+abbrev pub SendsAsTheMachine : List (List Value) → References → Micro → ℕ → Value → Words → List Value → ℕ → References → Micro → Type 0
+SendsAsTheMachine ls r m act x verb args answer r' m' = (word : ℕ → ℕ) (ts : List Words) (line : Lines) (s : Vat Local) → KnowsTexts ts r → Tells ts line → HasLists ts ls s
     → send (numbering {W = Local} word) act (value_by ts x) verb (map (value_by ts) args) (vat_in ts line (record { tasks = []; refs = r; micro = m }) s)
     ≡ Gives (Ref (Prom answer)) (vat_in ts line (record { tasks = []; refs = r'; micro = m' }) s)
 
 -- a message whose target is followed to that place has found one
-abbrev pub FindsItsPlace : References → Micro → Message → Place → References → Micro → Type 0
-FindsItsPlace r m n p r' m' = (word : ℕ → ℕ) (ts : List Words) (line : Lines) (s : Vat Local) → KnowsTexts ts r → Tells ts line
+abbrev pub FindsItsPlace : List (List Value) → References → Micro → Message → Place → References → Micro → Type 0
+FindsItsPlace ls r m n p r' m' = (word : ℕ → ℕ) (ts : List Words) (line : Lines) (s : Vat Local) → KnowsTexts ts r → Tells ts line → HasLists ts ls s
     → send_first (numbering {W = Local} word) (message_by ts n) (value_by ts n.target) (place_by ts p) (vat_in ts line (record { tasks = []; refs = r; micro = m }) s)
     ≡ Gives tt (vat_in ts line (record { tasks = []; refs = r'; micro = m' }) s)
 
 -- The same of a message on a target that is followed to this end, at this place: the message is made and told, and finds its place.
-abbrev pub SendsOn : References → Micro → ℕ → Value → Words → List Value → Value → Place → ℕ → References → Micro → Type 0
-SendsOn r m act x verb args end p answer r' m' = (answer ≡ length r.known) × ((m1 : Micro) × ((m1 ≡ record m { events = m.events ++ event.Send act r.mails x verb args (length r.known) ∷ [] })
-    × FindsItsPlace (with_message r) m1 (record { id = r.mails; target = end; verb = verb; args = args; answer = length r.known }) p r' m'))
+abbrev pub SendsOn : List (List Value) → References → Micro → ℕ → Value → Words → List Value → Value → Place → ℕ → References → Micro → Type 0
+SendsOn ls r m act x verb args end p answer r' m' = (answer ≡ length r.known) × ((m1 : Micro) × ((m1 ≡ record m { events = m.events ++ event.Send act r.mails x verb args (length r.known) ∷ [] })
+    × FindsItsPlace ls (with_message r) m1 (record { id = r.mails; target = end; verb = verb; args = args; answer = length r.known }) p r' m'))

@@ -1,5 +1,5 @@
 -- One part of a settling, in the code's terms.
-use Rattle.std.specs.Prelude.{◌≡◌, ℕ, zero, suc, Bool, true, false, if◌then◌else◌, List, [], ◌∷◌, ◌++◌, Some, None, Result, Ok, Err, slice_get, slice_set}
+use Rattle.std.specs.Prelude.{◌≡◌, ℕ, zero, suc, Bool, true, false, List, [], ◌∷◌, ◌++◌, Some, None, Result, Ok, Err, length, slice_get, slice_set}
 use Rattle.std.specs.declared.option.Option.{Option}
 use Rattle.ev_base.specs.declared.values.Value.{Value}
 use Rattle.ev_base.specs.declared.values.Value.TheVariants as held
@@ -8,6 +8,7 @@ use Rattle.ev_heap.specs.declared.happened.Happened.TheVariants as event
 use Rattle.ev_heap.specs.declared.micro.Micro.{Micro}
 use Rattle.ev_refs.specs.Changes.{with_held, settled_as, waiters_at}
 use Rattle.ev_refs.specs.Follow.{followed, place_of}
+use Rattle.ev_refs.specs.Leading.{leads_back}
 use Rattle.ev_refs.specs.References.{References}
 use Rattle.ev_refs.specs.Tasks.{sends, settles, enqueues, informs}
 use Rattle.ev_refs.specs.declared.follow.Place.{Place}
@@ -35,9 +36,13 @@ enqueued m k = record k { refs = record k.refs { queue = k.refs.queue ++ m ∷ [
 abbrev pub set_known : ℕ → Known → Desk → Desk
 set_known n known k = record k { refs = record k.refs { known = slice_set k.refs.known n known } }
 
-unfoldable pub held_at : ℕ → Message → Option Known → Desk → Desk
-held_at n m None k = k
-held_at n m (Some known) k = set_known n (with_held m known) k
+-- the references where a message waits at a name, if that is known
+unfoldable pub held_in : ℕ → Message → Option Known → References → References
+held_in n m None r = r
+held_in n m (Some known) r = record r { known = slice_set r.known n (with_held m known) }
+
+abbrev pub held_at : ℕ → Message → Option Known → Desk → Desk
+held_at n m o k = record k { refs = held_in n m o k.refs }
 
 -- a message on a followed target at this place
 unfoldable pub send_placed : Message → ℕ → Value → Place → Desk → Result Desk Fault
@@ -62,20 +67,24 @@ unfoldable pub settle_found : ℕ → Value → ℕ → Option Known → Desk �
 settle_found p v d None k = k
 settle_found p v d (Some known) k = settle_waiters p v d known (waiters_at known.standing known) k
 
--- whether a value is a list
-abbrev pub is_list : Value → Bool
-is_list (held.List id) = true
-is_list _ = false
+unfoldable pub broken_if : Bool → References → Value → Value
+broken_if true r v = held.Broken r.cycle
+broken_if false r v = v
 
-unfoldable pub settle_at : ℕ → Value → ℕ → Desk → Result Desk Fault
-settle_at p v zero k = Err Astray
-settle_at p v (suc d) k = if is_list v then Err Unbuilt else Ok (settle_found p v d (slice_get k.refs.known p) k)
+-- what a name settles to, where the lists of the vat are these: a list whose members lead back to it is broken
+unfoldable pub target_of : References → List (List Value) → ℕ → Value → Value
+target_of r ls p (held.List k) = broken_if (leads_back (suc (length ls)) r ls p (held.List k)) r (held.List k)
+target_of r ls p v = v
 
-unfoldable pub perform : Task → Desk → Result Desk Fault
-perform (SendOn m d) k = send_on m d k
-perform (Settle p v d) k = settle_at p v d k
-perform (Enqueue m) k = Ok (enqueued m k)
-perform (Inform p w) k = Err Unbuilt
+unfoldable pub settle_at : List (List Value) → ℕ → Value → ℕ → Desk → Result Desk Fault
+settle_at ls p v zero k = Err Astray
+settle_at ls p v (suc d) k = Ok (settle_found p (target_of k.refs ls p v) d (slice_get k.refs.known p) k)
+
+unfoldable pub perform : List (List Value) → Task → Desk → Result Desk Fault
+perform ls (SendOn m d) k = send_on m d k
+perform ls (Settle p v d) k = settle_at ls p v d k
+perform ls (Enqueue m) k = Ok (enqueued m k)
+perform ls (Inform p w) k = Err Unbuilt
 
 -- what the code answered and left is what is due, unless memory ran out
 abbrev pub Leaves : Result (Unit {0}) Fault → Desk → Result Desk Fault → Type 0

@@ -3,6 +3,9 @@
 ghost use Rattle.std.specs.Prelude.{◌≡◌, ◌++◌, ◌∷◌, [], Ok, OnOk, length};
 ghost use Rattle.ev_refs.specs.Resolving.{awaited, wait_noted, wait_on, wait_started, waits_lead};
 ghost use Rattle.ev_base.specs.declared.values.Value.TheVariants.{Broken};
+ghost use Rattle.ev_refs.specs.Faults.{ResolvingMeets, WaitingMeets, WhereFails};
+ghost use Rattle.ev_refs.specs.Follow.{followed, place_of};
+ghost use Rattle.ev_refs.specs.Leading.{lists_in};
 ghost use Rattle.ev_refs.specs.Performing.{ResolvesAsTheMachine, ResolvingGoesAstray, WaitingGoesAstray, WaitsAsTheMachine, WhereAstray};
 ghost use Rattle.ev_refs.specs.Settling.{Leaves};
 
@@ -11,7 +14,7 @@ use crate::known::Standing;
 use crate::refs::Refs;
 use crate::settle::Fault;
 use ev_base::{PromId, Value};
-use ev_heap::{Happened, Micro};
+use ev_heap::{Happened, Heap, Micro};
 
 impl Refs {
     /// The name on which a name waits, by its view too.
@@ -93,34 +96,43 @@ impl Refs {
     /// A name waits on another, or is broken `cycle` where a chain of waits would lead back to it.
     fn wait_unless_cycle(
         &mut self,
+        heap: &Heap,
         micro: &mut Micro,
         name: PromId,
         other: PromId,
     ) -> Result<(), Fault>
-        ensures done { OnOk result (WaitsAsTheMachine self.old micro.old name other self.new micro.new) }
-        ensures astray { WhereAstray result (WaitingGoesAstray self.old micro.old name other) }
+        ensures done { OnOk result (WaitsAsTheMachine (lists_in heap.now) self.old micro.old name other self.new micro.new) }
+        ensures astray { WhereAstray result (WaitingGoesAstray (lists_in heap.now) self.old micro.old name other) }
+        ensures fault { WhereFails result (λ f. WaitingMeets (lists_in heap.now) f self.old micro.old name other) }
     {
         if self.leads_back(name, other) {
             let broken = self.broken_by_cycle();
-            return self.settle(micro, name, &broken);
+            return self.settle(heap, micro, name, &broken);
         }
         self.begin_wait(micro, name, other)
     }
 
-    /// A name resolves to a value that is followed to no list: it waits on an unsettled name, or is broken `cycle` where a chain of
+    /// A name resolves to a value: it waits on an unsettled name, or is broken `cycle` where a chain of
     /// waits would lead back to it, or settles. After a fault what was done up to there stands. It goes astray only where the machine
-    /// does.
-    pub fn resolve(&mut self, micro: &mut Micro, name: PromId, value: Value) -> Result<(), Fault>
-        ensures done { OnOk result (ResolvesAsTheMachine self.old micro.old name value self.new micro.new) }
-        ensures astray { WhereAstray result (ResolvingGoesAstray self.old micro.old name value) }
+    /// does, and answers a fault other than want of memory only where a part of the settling meets it.
+    pub fn resolve(
+        &mut self,
+        heap: &Heap,
+        micro: &mut Micro,
+        name: PromId,
+        value: Value,
+    ) -> Result<(), Fault>
+        ensures done { OnOk result (ResolvesAsTheMachine (lists_in heap.now) self.old micro.old name value self.new micro.new) }
+        ensures astray { WhereAstray result (ResolvingGoesAstray (lists_in heap.now) self.old micro.old name value) }
+        ensures fault { WhereFails result (λ f. ResolvingMeets (lists_in heap.now) f self.old micro.old name (followed self.old value) (place_of self.old (followed self.old value))) }
     {
         let end = self.deref(value);
         match self.place(end) {
-            Place::Near => self.settle(micro, name, &end),
-            Place::Mine(other) => self.wait_unless_cycle(micro, name, other),
-            Place::FarPromise(_, other) => self.wait_unless_cycle(micro, name, other),
-            Place::FarObject(_, _) => self.settle(micro, name, &end),
-            Place::Gone(_) => self.settle(micro, name, &end),
+            Place::Near => self.settle(heap, micro, name, &end),
+            Place::Mine(other) => self.wait_unless_cycle(heap, micro, name, other),
+            Place::FarPromise(_, other) => self.wait_unless_cycle(heap, micro, name, other),
+            Place::FarObject(_, _) => self.settle(heap, micro, name, &end),
+            Place::Gone(_) => self.settle(heap, micro, name, &end),
         }
     }
 }

@@ -1,17 +1,21 @@
 //! Promises that a vat makes, and messages that it sends.
 
-ghost use Rattle.std.specs.Prelude.{◌≡◌, ◌+◌, [], IfOk, Ok, OnErr, OnOk, length, slice_get};
+ghost use Rattle.std.specs.Prelude.{◌≡◌, ◌+◌, [], true, IfOk, Ok, OnErr, OnOk, length, slice_get};
 ghost use Rattle.ev_heap.specs.declared.happened.Happened.TheVariants.{Send};
+ghost use Rattle.ev_refs.specs.Faults.{PlacingMeets, WhereFails, is_away};
+ghost use Rattle.ev_refs.specs.Follow.{followed, place_of};
+ghost use Rattle.ev_refs.specs.Leading.{lists_in};
 ghost use Rattle.ev_refs.specs.Sending.{FindsItsPlace, SendsAsTheMachine, SendsOn, with_message, with_promise};
 ghost use Rattle.ev_refs.specs.Settling.{Leaves, enqueued, held_at};
 ghost use Rattle.ev_refs.specs.declared.follow.Place.TheVariants.{Gone};
+ghost use Rattle.ev_refs.specs.declared.settle.Fault.TheVariants.{Unbuilt};
 
 use crate::follow::Place;
 use crate::known::Message;
 use crate::refs::Refs;
 use crate::settle::Fault;
 use ev_base::{ActId, Memory, MsgId, PromId, Seq, Str, TextId, Value};
-use ev_heap::{Happened, Micro};
+use ev_heap::{Happened, Heap, Micro};
 
 /// The number of a new message, and the name of its answer.
 #[derive(Clone, Copy, Debug, PartialEq, Eq)]
@@ -37,7 +41,7 @@ impl Refs {
     }
 
     /// A message of the vat's own comes to be, with its answer here.
-    fn new_message(&mut self) -> Result<Fresh, Memory>
+    pub(crate) fn new_message(&mut self) -> Result<Fresh, Memory>
         ensures number { IfOk result (λ f. (f.id ≡ self.old.mails) × (f.answer ≡ length self.old.known)) }
         ensures ok { OnOk result (self.new ≡ with_message self.old) }
         ensures err { OnErr result (self.new ≡ self.old) }
@@ -104,34 +108,45 @@ impl Refs {
         Ok(())
     }
 
-    /// A message waits at a name, if that is known.
-    #[tactic(auto, unfolding(crate::specs::Settling::held_at))]
+    /// A message waits at a name.
     fn hold_first(&mut self, micro: &Micro, name: PromId, message: Message) -> Result<(), Fault>
         ensures { Leaves result (record { tasks = []; refs = self.new; micro = micro.now }) (Ok (held_at name message (slice_get self.old.known name) (record { tasks = []; refs = self.old; micro = micro.now }))) }
     {
-        if name.0 < self.count() {
-            self.hold(name, message)?;
-        }
+        self.hold_known(name, message)?;
         Ok(())
     }
 
     /// A message on a broken reference is lost, and its answer is broken with the problem.
-    fn lose(&mut self, micro: &mut Micro, message: Message, problem: TextId) -> Result<(), Fault>
-        ensures { OnOk result (FindsItsPlace self.old micro.old message (Gone problem) self.new micro.new) }
+    fn lose(
+        &mut self,
+        heap: &Heap,
+        micro: &mut Micro,
+        message: Message,
+        problem: TextId,
+    ) -> Result<(), Fault>
+        ensures done { OnOk result (FindsItsPlace (lists_in heap.now) self.old micro.old message (Gone problem) self.new micro.new) }
+        ensures fault { WhereFails result (λ f. PlacingMeets (lists_in heap.now) f self.old micro.old message (Gone problem)) }
     {
         micro.push(Happened::LostBroken(message.id))?;
         let broken = Value::Broken(problem);
-        self.settle(micro, message.answer, &broken)
+        self.settle(heap, micro, message.answer, &broken)
     }
 
     /// A new message finds its place: in the queue, at a promise of this vat, or lost.
-    fn send_first(&mut self, micro: &mut Micro, message: Message, place: Place) -> Result<(), Fault>
-        ensures { OnOk result (FindsItsPlace self.old micro.old message place self.new micro.new) }
+    fn send_first(
+        &mut self,
+        heap: &Heap,
+        micro: &mut Micro,
+        message: Message,
+        place: Place,
+    ) -> Result<(), Fault>
+        ensures done { OnOk result (FindsItsPlace (lists_in heap.now) self.old micro.old message place self.new micro.new) }
+        ensures fault { WhereFails result (λ f. PlacingMeets (lists_in heap.now) f self.old micro.old message place) }
     {
         match place {
             Place::Near => self.enqueue(micro, message),
             Place::Mine(name) => self.hold_first(micro, name, message),
-            Place::Gone(problem) => self.lose(micro, message, problem),
+            Place::Gone(problem) => self.lose(heap, micro, message, problem),
             Place::FarPromise(_, _) => Err(Fault::Unbuilt),
             Place::FarObject(_, _) => Err(Fault::Unbuilt),
         }
@@ -140,6 +155,7 @@ impl Refs {
     /// A new message is told as it is sent, and then finds its place.
     fn send_new(
         &mut self,
+        heap: &Heap,
         micro: &mut Micro,
         activation: ActId,
         target: &Value,
@@ -148,33 +164,39 @@ impl Refs {
         end: &Value,
         place: Place,
     ) -> Result<PromId, Fault>
-        ensures { IfOk result (λ answer. SendsOn self.old micro.old activation target.now verb.now args.now end.now place answer self.new micro.new) }
+        ensures fault { WhereFails result (λ f. (f ≡ Unbuilt) × (is_away place ≡ true)) }
+        ensures done { IfOk result (λ answer. SendsOn (lists_in heap.now) self.old micro.old activation target.now verb.now args.now end.now place answer self.new micro.new) }
     {
         let fresh = self.new_message()?;
         micro.push(self.sending(activation, fresh, target, verb, args)?)?;
         let message = self.message_on(fresh, end, verb, args)?;
-        self.send_first(micro, message, place)?;
-        Ok(fresh.answer)
+        match self.send_first(heap, micro, message, place) {
+            Ok(()) => Ok(fresh.answer),
+            Err(fault) => Err(fault),
+        }
     }
 
     /// An activation sends a message on a value that leads to no other vat: it is queued, or waits at a promise, or is lost. It
-    /// gives the name of the answer. After a fault what was done up to there stands.
+    /// gives the name of the answer. After a fault what was done up to there stands. But for want of memory it answers none, unless the
+    /// value leads to another vat.
     pub fn send(
         &mut self,
+        heap: &Heap,
         micro: &mut Micro,
         activation: ActId,
         target: Value,
         verb: &str,
         args: &[Value],
     ) -> Result<PromId, Fault>
-        ensures { IfOk result (λ answer. SendsAsTheMachine self.old micro.old activation target verb.now args.now answer self.new micro.new) }
+        ensures fault { WhereFails result (λ f. (f ≡ Unbuilt) × (is_away (place_of self.old (followed self.old target)) ≡ true)) }
+        ensures done { IfOk result (λ answer. SendsAsTheMachine (lists_in heap.now) self.old micro.old activation target verb.now args.now answer self.new micro.new) }
     {
         let held = target;
         let end = self.deref(target);
         match self.place(end) {
             Place::FarPromise(_, _) => Err(Fault::Unbuilt),
             Place::FarObject(_, _) => Err(Fault::Unbuilt),
-            place => self.send_new(micro, activation, &held, verb, args, &end, place),
+            place => self.send_new(heap, micro, activation, &held, verb, args, &end, place),
         }
     }
 }

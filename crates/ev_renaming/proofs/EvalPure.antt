@@ -69,11 +69,11 @@ module _ {N M : Type 0} (f : N → M) where
   freedom_bound_map (Some (Slot k)) x = refl
   freedom_bound_map None x = refl
 
-  freedom_map : (own : Words) (bs : List (Binding N)) (x : Words) → scopes.freedom_of own (map (maps.binding f) bs) x ≡ maps.freedom f (scopes.freedom_of own bs x)
+  freedom_map : (own : Option Words) (bs : List (Binding N)) (x : Words) → scopes.freedom_of own (map (maps.binding f) bs) x ≡ maps.freedom f (scopes.freedom_of own bs x)
   unfolding scopes.freedom_of
-  freedom_map own bs x = pick_map (maps.freedom f) (same_words own x) IsItself (scopes.freedom_of_bound (scopes.bound_in bs x) x) IsItself (scopes.freedom_of_bound (scopes.bound_in (map (maps.binding f) bs) x) x) refl (rw (bound_map bs x) (freedom_bound_map (scopes.bound_in bs x) x))
+  freedom_map own bs x = pick_map (maps.freedom f) (scopes.is_own own x) IsItself (scopes.freedom_of_bound (scopes.bound_in bs x) x) IsItself (scopes.freedom_of_bound (scopes.bound_in (map (maps.binding f) bs) x) x) refl (rw (bound_map bs x) (freedom_bound_map (scopes.bound_in bs x) x))
 
-  pub free_names_map : (own : Words) (bs : List (Binding N)) (xs : List Words) → scopes.free_names own (map (maps.binding f) bs) xs ≡ map (maps.free_name f) (scopes.free_names own bs xs)
+  pub free_names_map : (own : Option Words) (bs : List (Binding N)) (xs : List Words) → scopes.free_names own (map (maps.binding f) bs) xs ≡ map (maps.free_name f) (scopes.free_names own bs xs)
   unfolding scopes.free_names
   free_names_map own bs [] = refl
   free_names_map own bs (x ∷ xs) = rw (freedom_map own bs x, free_names_map own bs xs) refl

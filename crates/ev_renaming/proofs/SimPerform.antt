@@ -187,7 +187,7 @@ module _ {N M W V : Type 0} (f : N → M) (w : W → V) (K : Naming N W) (L : Na
 
   pub view_same : (node : ℕ) (p : Option Node) (free : List Words) (here : Scope N) → calls.view_of L tree node p free (maps.scope f here) ≡ maps.view f (calls.view_of K tree node p free here)
   unfolding calls.view_of
-  view_same node p free here = ap (λ xs. record { node = node; free = xs }) (free_names_map f (scopes.name_of p) here.nouns free)
+  view_same node p free here = ap (λ xs. record { node = node; free = xs }) (free_names_map f (scopes.own_noun p) here.nouns free)
 
   pub fixed_noun : (x : Words) (v g : Value N) (here : Scope N) → scopes.with_noun x (Fixed (maps.value f v) (maps.value f g)) (maps.scope f here) ≡ maps.scope f (scopes.with_noun x (Fixed v g) here)
   fixed_noun x v g here = with_noun_map f x (Fixed v g) here

@@ -62,7 +62,8 @@ found_name v (IsLearnt n) = Is n
 unfoldable pub finding : (ℕ → ℕ) → ℕ → Naming Found Name
 finding word v = record { object = λ i. Is (Object v i); made = λ c k. found_name v c; mailed = λ c k. Is (mail_of v c); spot = found_spot v; same = found_same; word = word }
 
--- A table by which no two numbers stand for one thing.
+-- A table by which no two numbers stand for one name, and no two positions of another vat's exports for one of its objects. A message may have two numbers:
+-- one where it was sent, and one where it came back to its sender.
 pub record IsTable (v : ℕ) (t : Table) : Type 0 where
   pub promises : (k : ℕ) (n : Name) → slice_get t.names k ≡ Some n → spot_of v n ≡ NoObject
   pub distinct : (i j : ℕ) (a b : Name) → slice_get t.names i ≡ Some a → slice_get t.names j ≡ Some b → same_reference a b ≡ (i == j)

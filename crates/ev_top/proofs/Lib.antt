@@ -6,3 +6,4 @@ pub mod Empty
 pub mod Steps
 pub mod CauseLemmas
 pub mod Fates
+pub mod Reach

@@ -5,6 +5,8 @@ use Rattle.ev_machine.specs.Values.{Name}
 use Rattle.ev_run.specs.World as machine
 use Rattle.ev_run.specs.World.{World, run, Goes}
 use Rattle.ev_fate_laws.specs.Fate.{fates, sent}
+use Rattle.ev_frozen_laws.specs.Runs.{ReachIsFrozenIn}
+use Rattle.ev_uses_laws.specs.Laws.{RunConnected}
 use Rattle.ev_reader.specs.Program.{Answers}
 use Rattle.ev_scope.specs.declared.accepted.Scoped.{Scoped}
 use Rattle.ev_script.specs.declared.script.Script.{Script}
@@ -25,3 +27,11 @@ RunsTo command input script world = (command ≡ Some Run) × (read : Script) ×
 abbrev pub MessagesHaveOneFate : Option Command → List ℕ → Type 0
 MessagesHaveOneFate command input = (script : machine.Script) (world : World) → RunsTo command input script world
     → (x : Name) → (fates x world.history ≡ sent x world.history) × (sent x world.history ≤ 1)
+
+-- In no vat of that world does an object that bears DeepFrozen's stamp reach, by captures and members of lists, a var slot or anything that is not frozen.
+abbrev pub StampedReachFrozenAlone : Option Command → List ℕ → Type 0
+StampedReachFrozenAlone command input = (script : machine.Script) (world : World) → RunsTo command input script world → ReachIsFrozenIn script world
+
+-- In that run an object uses a reference only by initial conditions, endowment, parenthood or introduction: each step that a vat begins in it is connected.
+abbrev pub UsesAreConnected : Option Command → List ℕ → Type 0
+UsesAreConnected command input = (script : machine.Script) (world : World) → RunsTo command input script world → RunConnected script

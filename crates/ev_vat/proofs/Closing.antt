@@ -6,17 +6,17 @@ use Rattle.ev_base.specs.declared.values.Value.TheVariants as held
 use Rattle.ev_heap.specs.Contents.{Contents}
 use Rattle.ev_heap.specs.declared.micro.Micro.{Micro}
 use Rattle.ev_machine.specs.Values.{Words, Value, Broken, Items, Ref, Naming, Local, Obj, Prom, numbering, same_local, local_spot}
-use Rattle.ev_machine.specs.State.{Happened, Finished, Threw, Settles, Settled, Vat, Gives, Astray, Act, ◌>>◌, ◌>>=◌, and_then, end_by, ending, give, each, tell, stop, look, alter, with_change, changed, changed_to, unless_settled, begun, new_activation}
+use Rattle.ev_machine.specs.State.{Happened, Finished, Threw, Settles, Settled, Vat, Done, Gives, Throws, Ejects, Stops, Astray, Act, ◌>>◌, ◌>>=◌, and_then, end_by, ending, give, throw, each, tell, stop, look, alter, with_change, changed, changed_to, unless_settled, begun, new_activation}
 use Rattle.ev_machine.specs.Native.{list_at}
 use Rattle.ev_machine.specs.Refs.{entry_of, follow, severed, severed_at, follow_at, led, standing_of, standing_in, place, resolve_to, resolve, any_of, reached, reaches, cut_cycle, target_of, settle, settle_at, settle_one, settle_entry, settle_standing, settle_known, opened_refs}
 use Rattle.ev_machine.specs.Eval.{opening, closes}
 use Rattle.ev_prims.specs.Answers.{members_at}
 use Rattle.ev_prims.proofs.Means.{lists_are}
-use Rattle.ev_eval.specs.Reading.{World, names, text_of, value_of, members_of, vat_of}
-use Rattle.ev_eval.specs.Sound.{Each, IsListed, is_there, are_there}
-use Rattle.ev_eval.proofs.Replies.{members_there}
-use Rattle.ev_eval.proofs.There.{both}
-use Rattle.ev_eval.specs.Turn.{opened}
+use Rattle.ev_room.specs.Reading.{World, names, text_of, value_of, members_of, vat_of}
+use Rattle.ev_room.specs.Sound.{Each, IsListed, is_there, are_there}
+use Rattle.ev_room.proofs.Replies.{members_there}
+use Rattle.ev_room.proofs.There.{both}
+use Rattle.ev_eval.specs.Turn.{evaluated, opened}
 
 -- what the vat has at the start beside its heap
 unfoldable pub root_world : (ℕ → ℕ) → List Words → World
@@ -56,10 +56,24 @@ finishes word texts v = tell (Finished zero v) >> resolve (names (root_world wor
 unfoldable pub breaks : (ℕ → ℕ) → List Words → Words → Act Local (Unit {0})
 breaks word texts t = tell (Threw zero t) >> settle (names (root_world word texts)) (Prom zero) (Broken t)
 
+-- what leaves by an ejector goes astray once
+astray_once : (word : ℕ → ℕ) (texts : List Words) (d : Done Local (Value Local))
+    → end_by (finishes word texts) (breaks word texts) (λ n v. stop Astray) d ≡ end_by (finishes word texts) (breaks word texts) (λ n v. stop Astray) (end_by give throw (λ n v. stop Astray) d)
+unfolding end_by give throw stop
+astray_once word texts (Gives x t) = refl
+astray_once word texts (Throws p t) = refl
+astray_once word texts (Ejects n v t) = refl
+astray_once word texts (Stops c t) = refl
+
+evaluated-ends : (word : ℕ → ℕ) (texts : List Words) (tree : List Node) (depth : ℕ) (s : Vat Local) → s.activations ≡ zero
+    → opening (numbering {W = Local} word) tree depth (Prom zero) [] s ≡ end_by (finishes word texts) (breaks word texts) (λ n v. stop Astray) (evaluated (numbering {W = Local} word) tree depth s)
+unfolding opening closes evaluated ending new_activation ◌>>=◌ and_then finishes breaks root_world
+evaluated-ends word texts tree depth s e = rw e refl
+
 pub opening-ends : (word : ℕ → ℕ) (texts : List Words) (tree : List Node) (depth : ℕ) (s : Vat Local) → s.activations ≡ zero
     → opening (numbering {W = Local} word) tree depth (Prom zero) [] s ≡ end_by (finishes word texts) (breaks word texts) (λ n v. stop Astray) (opened (numbering {W = Local} word) tree depth s)
-unfolding opening closes opened ending new_activation ◌>>=◌ and_then finishes breaks root_world
-opening-ends word texts tree depth s e = rw e refl
+unfolding opened ending
+opening-ends word texts tree depth s e = evaluated-ends word texts tree depth s e ∙ astray_once word texts (evaluated (numbering {W = Local} word) tree depth s)
 
 -- ---- lists lead to no promise
 

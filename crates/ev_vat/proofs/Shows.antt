@@ -18,8 +18,8 @@ use Rattle.ev_run.specs.Shown.{shown_value, shown_values, shown_capture, shown_s
 use Rattle.ev_run.specs.Draws.{draw_word}
 use Rattle.ev_run.specs.Wire.{frame}
 use Rattle.ev_run.specs.Text.{shown_events}
-use Rattle.ev_eval.specs.Sound.{problems}
-use Rattle.ev_eval.specs.Reading.{value_of, values_of, problem_of, capture_in, made_line, line_of, lines_of}
+use Rattle.ev_room.specs.Sound.{problems}
+use Rattle.ev_room.specs.Reading.{value_of, values_of, problem_of, capture_in, ejector_line, made_line, line_of, lines_of}
 use Rattle.ev_opening_laws.specs.Alone.{name_of}
 use Rattle.ev_vat.specs.Lines.{text_at, shown_held, problem_at}
 use Rattle.ev_vat.specs.Lines as ours
@@ -176,11 +176,28 @@ made-shown word texts act (held.Prom k) x cs vs = refl
 made-shown word texts act (held.Far h p) x cs vs = refl
 made-shown word texts act (held.Broken id) x cs vs = refl
 
+ejector-shown : (act : ℕ) (v : Held) → all_shown (ejector_line act v) ≡ ours.ejector_lines act v
+unfolding all_shown shown_of shown_happened shown_name name_of
+ejector-shown act (held.Obj i) = refl
+ejector-shown act held.Null = refl
+ejector-shown act (held.Bool b) = refl
+ejector-shown act (held.Int z) = refl
+ejector-shown act (held.Char c) = refl
+ejector-shown act (held.Text id) = refl
+ejector-shown act (held.List id) = refl
+ejector-shown act (held.Prim n) = refl
+ejector-shown act (held.Prom k) = refl
+ejector-shown act (held.Far h p) = refl
+ejector-shown act (held.Broken id) = refl
+
 line-shown : (word : ℕ → ℕ) (texts : List Words) (e : Heard) → all_shown (line_of (root_world word texts) e) ≡ ours.lines (problems ++ texts) e
 unfolding line_of all_shown shown_of shown_happened shown_slot
 line-shown word texts (event.Call act target verb args begun) = rw (value-shown word texts target, values-shown word texts args) refl
 line-shown word texts (event.Back act v) = rw (value-shown word texts v) refl
 line-shown word texts (event.Thrown act p) = rw (problem-shown word texts p) refl
+line-shown word texts (event.Gone act) = refl
+line-shown word texts (event.Got act v) = rw (value-shown word texts v) refl
+line-shown word texts (event.Ejector act v) = ejector-shown act v
 line-shown word texts (event.Slot act k v) = rw (value-shown word texts v) refl
 line-shown word texts (event.Read act k v) = rw (value-shown word texts v) refl
 line-shown word texts (event.Wrote act k v) = rw (value-shown word texts v) refl

@@ -24,8 +24,8 @@ use Rattle.ev_run.specs.World.{Script, Event, Opens, Ends as Closes, Stopped, ru
 use Rattle.ev_run.specs.Text.{text, stop_line, stop_text, history_of, vat_names, shown_events, opened_text}
 use Rattle.ev_eval.specs.declared.turn.Ended.{Ended}
 use Rattle.ev_eval.specs.declared.turn.Ended.TheVariants as ended
-use Rattle.ev_eval.specs.Reading.{World, all_promises, names, text_of, value_of, lines_of, vat_of}
-use Rattle.ev_eval.specs.Sound.{Each, Grown, IsListed, IsSound, is_there, problems}
+use Rattle.ev_room.specs.Reading.{World, all_promises, names, text_of, value_of, lines_of, vat_of}
+use Rattle.ev_room.specs.Sound.{Each, Grown, IsListed, IsSound, is_there, problems}
 use Rattle.ev_eval.specs.Turn.{Ends, GivesThere, opened}
 use Rattle.ev_opening_laws.specs.Alone.{alone, start, opened_alone, name_of, NamesNothing, run_of_step}
 use Rattle.ev_opening_laws.proofs.Numbered.{root_alone, named_opening, found_names, runs_alone}

@@ -6,7 +6,7 @@ use Rattle.ev_base.specs.declared.values.Value.TheVariants as held
 use Rattle.ev_eval.specs.declared.turn.Ended.{Ended}
 use Rattle.ev_eval.specs.declared.turn.Ended.TheVariants as ended
 use Rattle.ev_event.specs.declared.event.Event.{Event}
-use Rattle.ev_event.specs.declared.event.Event.TheVariants.{Open, Call, Back, Thrown, Slot, Read, Wrote, List as MadeList, Made, Done, Threw, Settle, End}
+use Rattle.ev_event.specs.declared.event.Event.TheVariants.{Open, Call, Back, Thrown, Gone, Got, Ejector, Slot, Read, Wrote, List as MadeList, Made, Done, Threw, Settle, End}
 use Rattle.ev_event.specs.declared.shown.Shown.{Shown}
 use Rattle.ev_event.specs.declared.shown.Shown as shown
 use Rattle.ev_event.specs.Lines.{render}
@@ -54,12 +54,20 @@ made_lines texts act (held.Obj i) x caps stamps =
     Made (record { activation = act; object = shown.Name (name.Object 0 i); name = x; caps = map (shown_capture texts) caps; stamps = map (shown_held texts) stamps }) ∷ []
 made_lines texts act _ x caps stamps = []
 
+-- the line of an ejector, which is no other value
+abbrev pub ejector_lines : ℕ → Held → List Event
+ejector_lines act (held.Obj i) = Ejector act (shown.Name (name.Object 0 i)) ∷ []
+ejector_lines act _ = []
+
 -- the line of what happened, where it is of a kind that evaluation tells
 abbrev pub lines : List (List ℕ) → Happened → List Event
 lines texts (event.Call act target verb args begun) =
     Call (record { activation = act; target = shown_held texts target; verb = verb; args = map (shown_held texts) args; begun = begun }) ∷ []
 lines texts (event.Back act v) = Back act (shown_held texts v) ∷ []
 lines texts (event.Thrown act p) = Thrown act (shown.Text (problem_at texts p)) ∷ []
+lines texts (event.Gone act) = Gone act ∷ []
+lines texts (event.Got act v) = Got act (shown_held texts v) ∷ []
+lines texts (event.Ejector act v) = ejector_lines act v
 lines texts (event.Slot act k v) = Slot act (0, k) (shown_held texts v) ∷ []
 lines texts (event.Read act k v) = Read act (0, k) (shown_held texts v) ∷ []
 lines texts (event.Wrote act k v) = Wrote act (0, k) (shown_held texts v) ∷ []

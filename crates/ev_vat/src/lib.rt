@@ -8,6 +8,3 @@ pub mod told;
 
 pub use run::run_program;
 pub use told::{RunEnd, Told};
-
-#[cfg(test)]
-mod tests;

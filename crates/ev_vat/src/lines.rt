@@ -4,7 +4,7 @@ ghost use Rattle.std.specs.Prelude.{◌≡◌, ◌++◌, IfOk, OnOk, map};
 ghost use Rattle.ev_event.specs.declared.event.Event.TheVariants.{Call, Made};
 ghost use Rattle.ev_event.specs.declared.shown.Shown as shown_as;
 ghost use Rattle.ev_base.specs.declared.names.Name.TheVariants as name_as;
-ghost use Rattle.ev_vat.specs.Lines.{done_lines, lines, lines_of, made_lines, shown_capture, shown_held, threw_lines};
+ghost use Rattle.ev_vat.specs.Lines.{done_lines, ejector_lines, lines, lines_of, made_lines, shown_capture, shown_held, threw_lines};
 
 use crate::shown::{VAT, caught_all, copied, problem, settled, shown, shown_all};
 use ev_base::{ActId, Memory, Name, ObjId, Str, TextId, Value};
@@ -87,6 +87,19 @@ fn push_made(
     }
 }
 
+/// Adds the line of an ejector, which is no other value.
+fn push_ejector(activation: ActId, ejector: Value, history: &mut History) -> Result<(), Memory>
+    ensures { OnOk result (history.new ≡ history.old ++ ejector_lines activation ejector) }
+{
+    match ejector {
+        Value::Obj(id) => history.push(Event::Ejector(
+            activation.0,
+            Shown::Name(Name::Object(VAT, id.0)),
+        )),
+        _ => Ok(()),
+    }
+}
+
 /// Adds the line of what happened, where it is of a kind that evaluation tells.
 fn push_line(
     alloc: Global,
@@ -119,6 +132,11 @@ fn push_line(
             activation.0,
             Shown::Text(problem(alloc, heap, *value)?),
         )),
+        Happened::Gone(activation) => history.push(Event::Gone(activation.0)),
+        Happened::Got(activation, value) => {
+            history.push(Event::Got(activation.0, shown(alloc, heap, *value)?))
+        }
+        Happened::Ejector(activation, ejector) => push_ejector(*activation, *ejector, history),
         Happened::Slot(activation, id, value) => history.push(Event::Slot(
             activation.0,
             (VAT, id.0),

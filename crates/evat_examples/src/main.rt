@@ -31,9 +31,12 @@ const PROGRAMS: [&str; 17] = [
     "texts",
 ];
 
-const SCRIPTS: [&str; 7] = [
+const SCRIPTS: [&str; 10] = [
     "counter",
     "door",
+    "escape",
+    "failing",
+    "functions",
     "heavy",
     "lists",
     "operators",

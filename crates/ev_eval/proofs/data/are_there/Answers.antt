@@ -1,5 +1,0 @@
-use Rattle.ev_eval.proofs.There.{on_all}
-use Rattle.ev_eval.proofs.data.are_there.Goals as goal
-
-pub returns-clause-weighable : goal.returns-clause-weighable
-returns-clause-weighable c = on_all c.args.heap.now c.args.values.now c.each_there.result c.each_there.ensures

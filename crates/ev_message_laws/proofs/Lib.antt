@@ -1,0 +1,10 @@
+pub mod Passing
+pub mod Moments
+pub mod Singles
+pub mod RefsBring
+pub mod ArriveBring
+pub mod EvalBring
+pub mod Links
+pub mod Events
+pub mod RunStems
+pub mod RunKnows

@@ -1,0 +1,11 @@
+pub mod Ways
+pub mod Changes
+pub mod Turns
+pub mod Order
+pub mod Example
+pub mod Places
+pub mod Worlds
+pub mod Settle
+pub mod Settlings
+pub mod Resolve
+pub mod Arrivals

@@ -1,0 +1,12 @@
+pub mod Moves
+pub mod Evals
+pub mod Noted
+pub mod Below
+pub mod Opens
+pub mod Adds
+pub mod News
+pub mod Sendings
+pub mod Keeping
+pub mod Sent
+pub mod Brought
+pub mod Given

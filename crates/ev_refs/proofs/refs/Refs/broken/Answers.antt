@@ -1,0 +1,5 @@
+use Rattle.ev_refs.proofs.Tells.{breaks}
+use Rattle.ev_refs.proofs.refs.Refs.broken.Goals as goal
+
+pub returns : goal.returns
+returns c = breaks c.args.self.now c.args.value c.deref.result c.broken_of.result c.deref.ensures c.broken_of.ensures

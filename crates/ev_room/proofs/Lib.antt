@@ -1,0 +1,16 @@
+pub mod Behind
+pub mod Bindings
+pub mod Cells
+pub mod Closes
+pub mod Ejectors
+pub mod Exits
+pub mod Fronts
+pub mod Leaving
+pub mod Making
+pub mod Replies
+pub mod Sounds
+pub mod Stands
+pub mod There
+pub mod Things
+pub mod Weights
+pub mod Words

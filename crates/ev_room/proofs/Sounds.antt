@@ -1,0 +1,287 @@
+-- A heap that grows keeps what stood in it, and each change of evaluation leaves it sound.
+use Rattle.std.proofs.Common.{◌≡◌, ℕ, zero, suc, ◌+◌, ◌<◌, nat_lt, Bool, true, false, List, [], ◌∷◌, ◌++◌, Option, Some, length, fold, refl, sym, ap, subst, ◌∙◌, arith, append_assoc, append-nil}
+use Rattle.std.specs.Prelude.{if◌then◌else◌, slice_get, slice_set, max}
+use Rattle.std.proofs.lemmas.List.{length-append}
+use Rattle.ev_base.specs.declared.values.Value.{Value}
+use Rattle.ev_base.specs.declared.values.Value.TheVariants as held
+use Rattle.ev_heap.specs.Contents.{Contents, size_of, weight_in, height_in, weight_of, height_of, weight_of_all, height_of_all, listed}
+use Rattle.ev_heap.specs.declared.kept.Cell.{Cell}
+use Rattle.ev_heap.specs.declared.kept.Listed.{Listed}
+use Rattle.ev_heap.specs.declared.kept.Shape.{Shape}
+use Rattle.ev_heap.specs.declared.kept.Shape.TheVariants.{Made, Ejector, Resolver, Audition}
+use Rattle.ev_heap.specs.declared.kept.Thing.{Thing}
+use Rattle.ev_machine.specs.Values.{Words}
+use Rattle.ev_room.specs.Sound.{Each, Grown, IsSound, IsPlainCell, IsPlainShape, IsPlainThing, IsListed, is_there, are_there, is_bound, are_bound, plain_cell, plain_thing, problems}
+use Rattle.ev_room.specs.declared.object.Object.{Object}
+use Rattle.ev_room.specs.declared.scope.Binding.{Binding}
+use Rattle.ev_room.specs.declared.scope.Bound.{Bound}
+use Rattle.ev_room.specs.declared.scope.Bound.TheVariants.{Fixed, Slot}
+use Rattle.ev_room.proofs.There.{both, below, is_below}
+
+-- ---- lists that grow
+
+-- what stands in front stays at its place
+pub got_front : {A : Type 0} (xs more : List A) (k : ℕ) → k < length xs → slice_get (xs ++ more) k ≡ slice_get xs k
+got_front [] more k h = absurd (omega arith)
+got_front (x ∷ xs) more zero h = refl
+got_front (x ∷ xs) more (suc k) h = got_front xs more k (omega arith)
+
+pub got_last : {A : Type 0} (xs : List A) (x : A) (more : List A) → slice_get ((xs ++ x ∷ []) ++ more) (length xs) ≡ Some x
+got_last [] x more = refl
+got_last (y ∷ xs) x more = got_last xs x more
+
+pub each_none : {A : Type 0} (P : A → Type 0) → Each P []
+each_none P k x e = absurd (cc)
+
+pub each_more : {A : Type 0} (P : A → Type 0) (xs : List A) (x : A) → Each P xs → P x → Each P (xs ++ x ∷ [])
+each_more P [] x h p zero y e = subst P (let f : x ≡ y = cc in f) p
+each_more P [] x h p (suc k) y e = absurd (cc)
+each_more P (z ∷ xs) x h p zero y e = h zero y e
+each_more P (z ∷ xs) x h p (suc k) y e = each_more P xs x (λ j. h (suc j)) p k y e
+
+pub each_set : {A : Type 0} (P : A → Type 0) (xs : List A) (n : ℕ) (x : A) → Each P xs → P x → Each P (slice_set xs n x)
+each_set P [] n x h p k y e = absurd (cc)
+each_set P (z ∷ xs) zero x h p zero y e = subst P (let f : x ≡ y = cc in f) p
+each_set P (z ∷ xs) zero x h p (suc k) y e = h (suc k) y e
+each_set P (z ∷ xs) (suc n) x h p zero y e = h zero y e
+each_set P (z ∷ xs) (suc n) x h p (suc k) y e = each_set P xs n x (λ j. h (suc j)) p k y e
+
+each_on : {A : Type 0} (P Q : A → Type 0) (xs : List A) → ((x : A) → P x → Q x) → Each P xs → Each Q xs
+each_on P Q xs f h k x e = f x (h k x e)
+
+abbrev measured : List Value → ℕ → ℕ → Listed
+measured vs x y = record { members = vs; weight = x; height = y }
+
+-- ---- growing
+
+pub grown_same : (h : Contents) → Grown h h
+grown_same h = record { texts = ([], sym (append-nil h.texts)); lists = ([], sym (append-nil h.lists)) }
+
+pub grown_on : {a b c : Contents} → Grown a b → Grown b c → Grown a c
+grown_on {a = a} g k = record {
+  texts = (g.texts.0 ++ k.texts.0, k.texts.1 ∙ ap (λ (ts : List Words). ts ++ k.texts.0) g.texts.1 ∙ append_assoc a.texts g.texts.0 k.texts.0);
+  lists = (g.lists.0 ++ k.lists.0, k.lists.1 ∙ ap (λ (ls : List Listed). ls ++ k.lists.0) g.lists.1 ∙ append_assoc a.lists g.lists.0 k.lists.0);
+}
+
+-- texts and lists as they were
+pub grown_by : (a b : Contents) → b.texts ≡ a.texts → b.lists ≡ a.lists → Grown a b
+grown_by a b t l = record { texts = ([], t ∙ sym (append-nil a.texts)); lists = ([], l ∙ sym (append-nil a.lists)) }
+
+-- a test of two, of one that holds each
+pub all_and : (p q : Bool) → p ≡ true → q ≡ true → (if p then q else false) ≡ true
+all_and true q h k = k
+all_and false q h k = absurd (cc)
+
+longer : {A : Type 0} (xs ys more : List A) (id : ℕ) → ys ≡ xs ++ more → nat_lt id (length xs) ≡ true → nat_lt id (length ys) ≡ true
+longer {A = A} xs ys more id e h =
+    let l : length ys ≡ length xs + length more = ap (length {A = A}) e ∙ length-append xs more in
+    let b : id < length xs = below id (length xs) h in
+    is_below id (length ys) (omega arith)
+
+module _ {a b : Contents} (g : Grown a b) where
+  pub text_on : (id : ℕ) → nat_lt id (length a.texts) ≡ true → nat_lt id (length b.texts) ≡ true
+  text_on id h = longer a.texts b.texts g.texts.0 id g.texts.1 h
+
+  pub list_on : (id : ℕ) → nat_lt id (length a.lists) ≡ true → nat_lt id (length b.lists) ≡ true
+  list_on id h = longer a.lists b.lists g.lists.0 id g.lists.1 h
+
+  pub there_on : (v : Value) → is_there a v ≡ true → is_there b v ≡ true
+  there_on (held.Text id) h = text_on id h
+  there_on (held.Broken id) h = text_on id h
+  there_on (held.List id) h = list_on id h
+  there_on (held.Prim n) h = h
+  there_on (held.Prom k) h = absurd (cc)
+  there_on (held.Far v p) h = absurd (cc)
+  there_on _ h = refl
+
+  pub all_on : (vs : List Value) → are_there a vs ≡ true → are_there b vs ≡ true
+  all_on [] h = refl
+  all_on (v ∷ vs) h =
+      let s = both (is_there a v) (are_there a vs) h in
+      all_and (is_there b v) (are_there b vs) (there_on v s.0) (all_on vs s.1)
+
+  pub bound_on : (x : Bound) → is_bound a x ≡ true → is_bound b x ≡ true
+  bound_on (Fixed v) h = there_on v h
+  bound_on (Slot k) h = refl
+
+  pub scope_on : (bs : List Binding) → are_bound a bs ≡ true → are_bound b bs ≡ true
+  scope_on [] h = refl
+  scope_on (x ∷ bs) h =
+      let s = both (is_bound a x.bound) (are_bound a bs) h in
+      all_and (is_bound b x.bound) (are_bound b bs) (bound_on x.bound s.0) (scope_on bs s.1)
+
+  -- ---- weights
+
+  got_text : (id : ℕ) → nat_lt id (length a.texts) ≡ true → slice_get b.texts id ≡ slice_get a.texts id
+  got_text id h = ap (λ (ts : List Words). slice_get ts id) g.texts.1 ∙ got_front a.texts g.texts.0 id (below id (length a.texts) h)
+
+  got_list : (id : ℕ) → nat_lt id (length a.lists) ≡ true → slice_get b.lists id ≡ slice_get a.lists id
+  got_list id h = ap (λ (ls : List Listed). slice_get ls id) g.lists.1 ∙ got_front a.lists g.lists.0 id (below id (length a.lists) h)
+
+  weight_on : (v : Value) → is_there a v ≡ true → weight_of b v ≡ weight_of a v
+  weight_on (held.Text id) h = ap (λ (o : Option Words). size_of o + 1) (got_text id h)
+  weight_on (held.Broken id) h = ap (λ (o : Option Words). size_of o + 1) (got_text id h)
+  weight_on (held.List id) h = ap weight_in (got_list id h)
+  weight_on (held.Prim n) h = refl
+  weight_on (held.Prom k) h = absurd (cc)
+  weight_on (held.Far v p) h = absurd (cc)
+  weight_on _ h = refl
+
+  height_on : (v : Value) → is_there a v ≡ true → height_of b v ≡ height_of a v
+  height_on (held.List id) h = ap height_in (got_list id h)
+  height_on _ h = refl
+
+  sum_on : (n : ℕ) (vs : List Value) → are_there a vs ≡ true → fold (λ x v. x + weight_of b v) n vs ≡ fold (λ x v. x + weight_of a v) n vs
+  sum_on n [] h = refl
+  sum_on n (v ∷ vs) h =
+      let s = both (is_there a v) (are_there a vs) h in
+      ap (λ (m : ℕ). fold (λ x v. x + weight_of b v) (n + m) vs) (weight_on v s.0) ∙ sum_on (n + weight_of a v) vs s.1
+
+  most_on : (n : ℕ) (vs : List Value) → are_there a vs ≡ true → fold (λ x v. max x (height_of b v)) n vs ≡ fold (λ x v. max x (height_of a v)) n vs
+  most_on n [] h = refl
+  most_on n (v ∷ vs) h =
+      let s = both (is_there a v) (are_there a vs) h in
+      ap (λ (m : ℕ). fold (λ x v. max x (height_of b v)) (max n m) vs) (height_on v s.0) ∙ most_on (max n (height_of a v)) vs s.1
+
+  listed_on : (vs : List Value) → are_there a vs ≡ true → listed a vs ≡ listed b vs
+  listed_on vs h =
+      ap (λ (n : ℕ). measured vs (n + 1) (height_of_all a vs)) (sym (sum_on 0 vs h))
+      ∙ ap (λ (n : ℕ). measured vs (weight_of_all b vs) (n + 1)) (sym (most_on 0 vs h))
+
+  -- ---- what is kept
+
+  pub cells_on : (cs : List Cell) → Each (IsPlainCell a) cs → Each (IsPlainCell b) cs
+  cells_on cs h = each_on (IsPlainCell a) (IsPlainCell b) cs (λ c p. (p.0, there_on c.value p.1)) h
+
+  shape_on : (sh : Shape) → IsPlainShape a sh → IsPlainShape b sh
+  shape_on (Made node caught stamps) p = (p.0, (p.1.0, (p.1.1.0, scope_on p.0 p.1.1.1)))
+  shape_on Ejector p = tt
+  shape_on (Resolver k) p = absurd p
+  shape_on (Audition node) p = absurd p
+
+  pub things_on : (ts : List Thing) → Each (IsPlainThing a) ts → Each (IsPlainThing b) ts
+  things_on ts h = each_on (IsPlainThing a) (IsPlainThing b) ts (λ t p. shape_on t.shape p) h
+
+  pub lists_on : (ls : List Listed) → Each (IsListed a) ls → Each (IsListed b) ls
+  lists_on ls h = each_on (IsListed a) (IsListed b) ls (λ l p. (p.0 ∙ listed_on l.members p.1, all_on l.members p.1)) h
+
+  pub problems_on : ((more : List Words) × (a.texts ≡ problems ++ more)) → (more : List Words) × (b.texts ≡ problems ++ more)
+  problems_on p = (p.0 ++ g.texts.0, g.texts.1 ∙ ap (λ (ts : List Words). ts ++ g.texts.0) p.1 ∙ append_assoc problems p.0 g.texts.0)
+
+  -- where only texts, or nothing of these, come to be
+  pub sound_on : IsSound a → b.slots ≡ a.slots → b.things ≡ a.things → b.lists ≡ a.lists → IsSound b
+  sound_on s e f l = record {
+    slots = subst (Each (IsPlainCell b)) (sym e) (cells_on a.slots s.slots);
+    things = subst (Each (IsPlainThing b)) (sym f) (things_on a.things s.things);
+    lists = subst (Each (IsListed b)) (sym l) (lists_on a.lists s.lists);
+    problems_first = problems_on s.problems_first;
+  }
+
+-- ---- the changes of evaluation
+
+module _ (h : Contents) (s : IsSound h) where
+  abbrev with_text : Words → Contents
+  with_text u = record h { texts = h.texts ++ u ∷ [] }
+
+  pub text_grown : (u : Words) → Grown h (with_text u)
+  text_grown u = record { texts = (u ∷ [], refl); lists = ([], sym (append-nil h.lists)) }
+
+  pub text_sound : (u : Words) → IsSound (with_text u)
+  text_sound u = sound_on (text_grown u) s refl refl refl
+
+  pub last_text : (u : Words) → nat_lt (length h.texts) (length (with_text u).texts) ≡ true
+  last_text u =
+      let l : length (h.texts ++ u ∷ []) ≡ length h.texts + 1 = length-append h.texts (u ∷ []) in
+      is_below (length h.texts) (length (h.texts ++ u ∷ [])) (omega arith)
+
+  abbrev with_list : List Value → Contents
+  with_list vs = record h { lists = h.lists ++ listed h vs ∷ [] }
+
+  pub list_grown : (vs : List Value) → Grown h (with_list vs)
+  list_grown vs = record { texts = ([], sym (append-nil h.texts)); lists = (listed h vs ∷ [], refl) }
+
+  pub list_sound : (vs : List Value) → are_there h vs ≡ true → IsSound (with_list vs)
+  list_sound vs t =
+      let g = list_grown vs in
+      record {
+        slots = cells_on g h.slots s.slots;
+        things = things_on g h.things s.things;
+        lists = each_more (IsListed (with_list vs)) h.lists (listed h vs) (lists_on g h.lists s.lists) (listed_on g vs t, all_on g vs t);
+        problems_first = problems_on g s.problems_first;
+      }
+
+  pub last_list : (vs : List Value) → nat_lt (length h.lists) (length (with_list vs).lists) ≡ true
+  last_list vs =
+      let l : length (h.lists ++ listed h vs ∷ []) ≡ length h.lists + 1 = length-append h.lists (listed h vs ∷ []) in
+      is_below (length h.lists) (length (h.lists ++ listed h vs ∷ [])) (omega arith)
+
+  abbrev with_slots : List Cell → Contents
+  with_slots cs = record h { slots = cs }
+
+  pub slots_grown : (cs : List Cell) → Grown h (with_slots cs)
+  slots_grown cs = grown_by h (with_slots cs) refl refl
+
+  slots_sound : (cs : List Cell) → Each (IsPlainCell (with_slots cs)) cs → IsSound (with_slots cs)
+  slots_sound cs c =
+      let g = slots_grown cs in
+      record { slots = c; things = things_on g h.things s.things; lists = lists_on g h.lists s.lists; problems_first = problems_on g s.problems_first }
+
+  pub slot_sound : (v : Value) → is_there h v ≡ true → IsSound (with_slots (h.slots ++ plain_cell v ∷ []))
+  slot_sound v t =
+      let cs = h.slots ++ plain_cell v ∷ [] in
+      let g = slots_grown cs in
+      slots_sound cs (each_more (IsPlainCell (with_slots cs)) h.slots (plain_cell v) (cells_on g h.slots s.slots) (refl, there_on g v t))
+
+  pub written_sound : (k : ℕ) (v : Value) → is_there h v ≡ true → IsSound (with_slots (slice_set h.slots k (plain_cell v)))
+  written_sound k v t =
+      let cs = slice_set h.slots k (plain_cell v) in
+      let g = slots_grown cs in
+      slots_sound cs (each_set (IsPlainCell (with_slots cs)) h.slots k (plain_cell v) (cells_on g h.slots s.slots) (refl, there_on g v t))
+
+  abbrev with_thing : Object → Contents
+  with_thing o = record h { things = h.things ++ plain_thing o ∷ [] }
+
+  pub thing_grown : (o : Object) → Grown h (with_thing o)
+  thing_grown o = grown_by h (with_thing o) refl refl
+
+  pub thing_sound : (o : Object) → are_bound h o.nouns ≡ true → IsSound (with_thing o)
+  thing_sound o t =
+      let g = thing_grown o in
+      record {
+        slots = cells_on g h.slots s.slots;
+        things = each_more (IsPlainThing (with_thing o)) h.things (plain_thing o) (things_on g h.things s.things) (o.nouns, (refl, (refl, scope_on g o.nouns t)));
+        lists = lists_on g h.lists s.lists;
+        problems_first = problems_on g s.problems_first;
+      }
+
+  abbrev with_things : List Thing → Contents
+  with_things ts = record h { things = ts }
+
+  pub things_grown : (ts : List Thing) → Grown h (with_things ts)
+  things_grown ts = grown_by h (with_things ts) refl refl
+
+  things_sound : (ts : List Thing) → Each (IsPlainThing (with_things ts)) ts → IsSound (with_things ts)
+  things_sound ts c =
+      let g = things_grown ts in
+      record { slots = cells_on g h.slots s.slots; things = c; lists = lists_on g h.lists s.lists; problems_first = problems_on g s.problems_first }
+
+  -- one more ejector
+  pub ejector_sound : IsSound (with_things (h.things ++ record { shape = Ejector; alive = true } ∷ []))
+  ejector_sound =
+      let t : Thing = record { shape = Ejector; alive = true } in
+      let ts = h.things ++ t ∷ [] in
+      things_sound ts (each_more (IsPlainThing (with_things ts)) h.things t (things_on (things_grown ts) h.things s.things) tt)
+
+  -- one that is dead from here on
+  pub killed_sound : (k : ℕ) (t : Thing) → slice_get h.things k ≡ Some t → IsSound (with_things (slice_set h.things k (record t { alive = false })))
+  killed_sound k t e =
+      let d : Thing = record t { alive = false } in
+      let ts = slice_set h.things k d in
+      let g = things_grown ts in
+      things_sound ts (each_set (IsPlainThing (with_things ts)) h.things k d (things_on g h.things s.things) (shape_on g t.shape (s.things k t e)))
+
+  pub code_grown : (v : Value) → Grown h (record h { codes = h.codes ++ v ∷ [] })
+  code_grown v = grown_by h (record h { codes = h.codes ++ v ∷ [] }) refl refl
+
+  pub code_sound : (v : Value) → IsSound (record h { codes = h.codes ++ v ∷ [] })
+  code_sound v = sound_on (code_grown v) s refl refl refl

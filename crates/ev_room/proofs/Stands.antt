@@ -1,0 +1,476 @@
+-- What the state of the code stands for, and how its single steps stand for the machine's.
+use Rattle.std.proofs.Common.{◌≡◌, ℕ, suc, ◌+◌, ◌-◌, ◌<◌, nat_lt, Bool, true, false, List, [], ◌∷◌, ◌++◌, Option, Some, None, Ok, Err, length, map, refl, sym, ap, subst, ◌∙◌, arith, append_assoc, append-nil}
+use Rattle.std.specs.Prelude.{slice_get, codes, if◌then◌else◌, nat_le, unwrap_or}
+use Rattle.std.proofs.lemmas.List.{length-append, map-append, length-map}
+use Rattle.ev_base.specs.declared.values.Value.{Value as Held}
+use Rattle.ev_base.specs.declared.values.Value.TheVariants as held
+use Rattle.ev_heap.specs.Contents.{Contents, is_light, listed}
+use Rattle.ev_heap.specs.declared.happened.Happened.{Happened as Event}
+use Rattle.ev_heap.specs.declared.happened.Happened.TheVariants as event
+use Rattle.ev_kernel.specs.declared.node.Node.{Node}
+use Rattle.ev_machine.specs.Values.{Words, Value, Text, Items, Ref, Local, Obj, Prom, Far, Mess, same_local, local_spot, numbering}
+use Rattle.ev_machine.specs.State.{Bound, Fixed, Slot, Binding as Bond, Scope as Surroundings, Happened, ListMade, Known, Vat, Done, Throws, Ejects, Stops, Fuel, Deep, Astray, opened_state}
+use Rattle.ev_machine.specs.State as machine
+use Rattle.ev_machine.specs.Refs.{follow, follow_at, led, standing_of, standing_in, severed, severed_at, entry_of, list_fits}
+use Rattle.ev_machine.specs.Scopes.{Answer, Answers, any_guard}
+use Rattle.ev_machine.specs.Scopes as scopes
+use Rattle.ev_machine.specs.Perform as perform
+use Rattle.ev_num.specs.declared.arithmetic.NumFault.TheVariants.{Overflow, ZeroDivisor, NegativePower}
+use Rattle.ev_prims.specs.Problems.{problem_words}
+use Rattle.ev_prims.specs.declared.problem.Problem.{Problem}
+use Rattle.ev_prims.specs.declared.problem.Problem.TheVariants.{NoMethod, Arithmetic, NotInt, NotChar, NotBoolean, NotText, NotList, OutOfRange, BadArgument, NotComparable, TooHeavy, Unthrowable, DeadEjector}
+use Rattle.ev_room.specs.declared.exit.Exit.TheVariants as exit
+use Rattle.ev_room.specs.declared.room.Room.{Room}
+use Rattle.ev_room.specs.declared.scope.Binding.{Binding}
+use Rattle.ev_room.specs.declared.scope.Bound.{Bound as Kept}
+use Rattle.ev_room.specs.declared.scope.Bound.TheVariants as scope
+use Rattle.ev_room.specs.declared.scope.Scope.{Scope}
+use Rattle.ev_room.specs.Reading.{World, names, all_promises, is_promise, text_of, value_of, values_of, members_of, line_of, lines_of, vat_of}
+use Rattle.ev_room.specs.Sound.{Grown, IsSound, is_there, are_there, are_bound, problems}
+use Rattle.ev_room.specs.Acts.{ended_by, Out, Act, and_then, ◌>>=◌, ◌>>◌, give, fail, fails, tell, spent, spend, new_activation, problem_id, text_value, spell, spelled, write_text, new_list, list_told, keep_list, store, stored, listed_there, make_list, opened_acts}
+use Rattle.ev_room.proofs.Behind.{Holds, Of, free}
+use Rattle.ev_room.proofs.Sounds.{grown_same, grown_on, list_on, all_on, got_last, text_grown, text_sound, last_text, list_grown, list_sound, last_list, code_grown, code_sound}
+use Rattle.ev_room.proofs.There.{both, below, is_below}
+use Rattle.ev_room.proofs.Weights.{IsFront, fits_is}
+
+-- what the state of the code stands for
+abbrev pub vat : World → Room → Vat Local
+vat w s = vat_of w s.heap s.micro
+
+abbrev pub bound_of : World → Kept → Bound Local
+bound_of w (scope.Fixed v) = Fixed (value_of w v) any_guard
+bound_of w (scope.Slot k) = Slot k
+
+abbrev pub bond_of : World → Binding → Bond Local
+bond_of w b = record { noun = b.noun; bound = bound_of w b.bound }
+
+-- bindings, the last one first, onto others
+unfoldable pub bonds_onto : World → List (Bond Local) → List Binding → List (Bond Local)
+bonds_onto w acc [] = acc
+bonds_onto w acc (b ∷ bs) = bonds_onto w (bond_of w b ∷ acc) bs
+
+abbrev pub scope_of : World → Scope → Surroundings Local
+scope_of w here = record { act = here.act; nouns = bonds_onto w [] here.nouns }
+
+-- ---- what is given
+
+-- what something that is given stands for, and when it stands in a heap
+pub record Look (A B : Type 0) : Type 1 where
+  pub of : World → A → B
+  pub fits : Contents → A → Type 0
+
+abbrev pub a_value : Look Held (Value Local)
+a_value = record { of = value_of; fits = λ h v. is_there h v ≡ true }
+
+abbrev pub an_answer : Look (Held × Scope) (Answer Local)
+an_answer = record { of = λ w a. record { value = value_of w a.0; scope = scope_of w a.1 }; fits = λ h a. (is_there h a.0 ≡ true) × (are_bound h a.1.nouns ≡ true) }
+
+abbrev pub some_answers : Look (List Held × Scope) (Answers Local)
+some_answers = record { of = λ w a. record { values = values_of w a.0; scope = scope_of w a.1 }; fits = λ h a. (are_there h a.0 ≡ true) × (are_bound h a.1.nouns ≡ true) }
+
+abbrev pub a_scope : Look Scope (Surroundings Local)
+a_scope = record { of = scope_of; fits = λ h here. are_bound h here.nouns ≡ true }
+
+-- a value in a scope that stays
+abbrev pub in_scope : Scope → Look Held (Answer Local)
+in_scope here = record { of = λ w v. record { value = value_of w v; scope = scope_of w here }; fits = λ h v. (is_there h v ≡ true) × (are_bound h here.nouns ≡ true) }
+
+-- what is itself, and always stands there
+abbrev pub itself : {A : Type 0} → Look A A
+itself = record { of = λ w a. a; fits = λ h a. Unit {0} }
+
+abbrev pub a_list : Look ℕ ℕ
+a_list = record { of = λ w k. k; fits = λ h k. nat_lt k (length h.lists) ≡ true }
+
+-- ---- outcomes
+
+-- what is left is sound, and what is given or thrown stands there
+abbrev pub Keeps : {A B : Type 0} → Look A B → Out A → Type 0
+Keeps look (Ok a, s) = IsSound s.heap × look.fits s.heap a
+Keeps look (Err (exit.Thrown id), s) = IsSound s.heap × (nat_lt id (length s.heap.texts) ≡ true)
+Keeps look (Err (exit.Ejected n v), s) = IsSound s.heap × (is_there s.heap v ≡ true)
+Keeps look (Err exit.Fuel, s) = IsSound s.heap
+Keeps look (Err exit.Deep, s) = IsSound s.heap
+Keeps look (Err exit.Astray, s) = IsSound s.heap
+Keeps look (Err exit.Unbuilt, s) = ⊥
+Keeps look (Err exit.Memory, s) = ⊥
+
+-- an outcome of the machine is what an outcome over the state of the code stands for
+abbrev pub Is : {A B : Type 0} → Look A B → World → Out A → Done Local B → Type 0
+Is look w (Ok a, s) d = d ≡ machine.Gives (look.of w a) (vat w s)
+Is look w (Err (exit.Thrown id), s) d = d ≡ Throws (text_of w id) (vat w s)
+Is look w (Err (exit.Ejected n v), s) d = d ≡ Ejects n (value_of w v) (vat w s)
+Is look w (Err exit.Fuel, s) d = d ≡ Stops Fuel (vat w s)
+Is look w (Err exit.Deep, s) d = d ≡ Stops Deep (vat w s)
+Is look w (Err exit.Astray, s) d = d ≡ Stops Astray (vat w s)
+Is look w (Err exit.Unbuilt, s) d = ⊥
+Is look w (Err exit.Memory, s) d = ⊥
+
+-- The heap grows and stays sound, and where its texts are a front of those of the end, the outcome stands for the machine's.
+pub record Met {A B : Type 0} (w : World) (look : Look A B) (s : Room) (o : Out A) (d : Done Local B) : Type 0 where
+  pub grown : Grown s.heap (o.1).heap
+  pub keeps : Keeps look o
+  pub is : IsFront w (o.1).heap → Is look w o d
+
+-- what is a front later is one earlier
+pub front_back : (w : World) {a b : Contents} → Grown a b → IsFront w b → IsFront w a
+front_back w {a = a} g f = (g.texts.0 ++ f.0, f.1 ∙ ap (λ (ts : List Words). ts ++ f.0) g.texts.1 ∙ append_assoc a.texts g.texts.0 f.0)
+
+-- ---- one thing after another
+
+-- what follows an outcome, where that is known
+pub carried : {B C D : Type 0} (w : World) (look : Look C D) (s t : Room) (o : Out C) (d c : Done Local B) (F : Done Local B → Done Local D)
+    → Grown s.heap t.heap → (IsFront w t.heap → d ≡ c) → Met w look t o (F c) → Met w look s o (F d)
+carried {B = B} w look s t o d c F grown is m = record {
+  grown = grown_on grown m.grown;
+  keeps = m.keeps;
+  is = λ f. subst (λ (x : Done Local B). Is look w o (F x)) (sym (is (front_back w m.grown f))) (m.is f);
+}
+
+then_gives : {C D : Type 0} {B : Type 0} (w : World) (look' : Look C D) (s t : Room) (o : Out C) (d : Done Local B) (b : B) (g : B → machine.Act Local D)
+    → Grown s.heap t.heap → (IsFront w t.heap → d ≡ machine.Gives b (vat w t)) → Met w look' t o (g b (vat w t)) → Met w look' s o (machine.and_then d g)
+unfolding opened_state
+then_gives {B = B} w look' s t o d b g grown is m = carried w look' s t o d (machine.Gives b (vat w t)) (λ (x : Done Local B). machine.and_then x g) grown is m
+
+stops_at : {B D : Type 0} (c : machine.Stop) (v : Vat Local) (d : Done Local B) (g : B → machine.Act Local D) → d ≡ Stops c v → machine.and_then d g ≡ Stops c v
+unfolding opened_state
+stops_at c v d g e = rw e refl
+
+throws_at : {B D : Type 0} (p : Words) (v : Vat Local) (d : Done Local B) (g : B → machine.Act Local D) → d ≡ Throws p v → machine.and_then d g ≡ Throws p v
+unfolding opened_state
+throws_at p v d g e = rw e refl
+
+ejects_at : {B D : Type 0} (n : ℕ) (x : Value Local) (v : Vat Local) (d : Done Local B) (g : B → machine.Act Local D) → d ≡ Ejects n x v → machine.and_then d g ≡ Ejects n x v
+unfolding opened_state
+ejects_at n x v d g e = rw e refl
+
+pub then_stands : {A B C D : Type 0} (w : World) (look : Look A B) (look' : Look C D) (P : A → Type 0) (s : Room) (o : Out A) (d : Done Local B) (f : A → Act C) (g : B → machine.Act Local D)
+    → Met w look s o d → Holds P o
+    → ((a : A) (t : Room) → IsSound t.heap → look.fits t.heap a → Grown s.heap t.heap → P a → Met w look' t (f a t) (g (look.of w a) (vat w t)))
+    → Met w look' s (and_then o f) (machine.and_then d g)
+unfolding and_then
+then_stands w look look' P s (Ok a, t) d f g h p k = then_gives w look' s t (f a t) d (look.of w a) g h.grown h.is (k a t h.keeps.0 h.keeps.1 h.grown p)
+then_stands w look look' P s (Err (exit.Thrown id), t) d f g h p k = record { grown = h.grown; keeps = h.keeps; is = λ i. throws_at (text_of w id) (vat w t) d g (h.is i) }
+then_stands w look look' P s (Err (exit.Ejected n v), t) d f g h p k = record { grown = h.grown; keeps = h.keeps; is = λ i. ejects_at n (value_of w v) (vat w t) d g (h.is i) }
+then_stands w look look' P s (Err exit.Fuel, t) d f g h p k = record { grown = h.grown; keeps = h.keeps; is = λ i. stops_at Fuel (vat w t) d g (h.is i) }
+then_stands w look look' P s (Err exit.Deep, t) d f g h p k = record { grown = h.grown; keeps = h.keeps; is = λ i. stops_at Deep (vat w t) d g (h.is i) }
+then_stands w look look' P s (Err exit.Astray, t) d f g h p k = record { grown = h.grown; keeps = h.keeps; is = λ i. stops_at Astray (vat w t) d g (h.is i) }
+then_stands w look look' P s (Err exit.Unbuilt, t) d f g h p k = absurd h.keeps
+then_stands w look look' P s (Err exit.Memory, t) d f g h p k = absurd h.keeps
+
+pub then_met : {A B C D : Type 0} {w : World} {look : Look A B} {look' : Look C D} {s : Room} {o : Out A} {d : Done Local B} (f : A → Act C) (g : B → machine.Act Local D)
+    → Met w look s o d → ((a : A) (t : Room) → IsSound t.heap → look.fits t.heap a → Grown s.heap t.heap → Met w look' t (f a t) (g (look.of w a) (vat w t)))
+    → Met w look' s (and_then o f) (machine.and_then d g)
+then_met {A = A} {w = w} {look = look} {look' = look'} {s = s} {o = o} {d = d} f g h k = then_stands w look look' (λ (a : A). Unit {0}) s o d f g h (free o) (λ a t q i r u. k a t q i r)
+
+-- the same, where something is known of what is given
+pub then_met_of : {A B C D : Type 0} {w : World} {look : Look A B} {look' : Look C D} {P : A → Type 0} {s : Room} {o : Out A} {d : Done Local B} (f : A → Act C) (g : B → machine.Act Local D)
+    → Met w look s o d → Of P o → ((a : A) (t : Room) → IsSound t.heap → look.fits t.heap a → Grown s.heap t.heap → P a → Met w look' t (f a t) (g (look.of w a) (vat w t)))
+    → Met w look' s (and_then o f) (machine.and_then d g)
+then_met_of {w = w} {look = look} {look' = look'} {P = P} {s = s} {o = o} {d = d} f g h p k = then_stands w look look' P s o d f g h p.holds k
+
+-- ---- what follows by how something ended
+
+stops_by : {B D : Type 0} (c : machine.Stop) (v : Vat Local) (d : Done Local B) (f : B → machine.Act Local D) (g : Words → machine.Act Local D) (h : ℕ → Value Local → machine.Act Local D) → d ≡ Stops c v → machine.end_by f g h d ≡ Stops c v
+unfolding machine.end_by
+stops_by c v d f g h e = rw e refl
+
+ended_given : {B C D : Type 0} (w : World) (look : Look C D) (s t : Room) (o : Out C) (d c : Done Local B) (f : B → machine.Act Local D) (g : Words → machine.Act Local D) (h : ℕ → Value Local → machine.Act Local D)
+    → Grown s.heap t.heap → (IsFront w t.heap → d ≡ c) → Met w look t o (machine.end_by f g h c) → Met w look s o (machine.end_by f g h d)
+ended_given {B = B} w look s t o d c f g h grown is m = carried w look s t o d c (λ (x : Done Local B). machine.end_by f g h x) grown is m
+
+pub ended_met : {A B C D : Type 0} (w : World) (look : Look A B) (look' : Look C D) (s : Room) (o : Out A) (d : Done Local B)
+    (f : A → Act C) (g : ℕ → Act C) (h : ℕ → Held → Act C) (f' : B → machine.Act Local D) (g' : Words → machine.Act Local D) (h' : ℕ → Value Local → machine.Act Local D)
+    → Met w look s o d
+    → ((a : A) (t : Room) → IsSound t.heap → look.fits t.heap a → Grown s.heap t.heap → Met w look' t (f a t) (f' (look.of w a) (vat w t)))
+    → ((id : ℕ) (t : Room) → IsSound t.heap → nat_lt id (length t.heap.texts) ≡ true → Grown s.heap t.heap → Met w look' t (g id t) (g' (text_of w id) (vat w t)))
+    → ((n : ℕ) (v : Held) (t : Room) → IsSound t.heap → is_there t.heap v ≡ true → Grown s.heap t.heap → Met w look' t (h n v t) (h' n (value_of w v) (vat w t)))
+    → Met w look' s (ended_by f g h o) (machine.end_by f' g' h' d)
+unfolding ended_by machine.end_by
+ended_met w look look' s (Ok a, t) d f g h f' g' h' m k p q =
+    ended_given w look' s t (f a t) d (machine.Gives (look.of w a) (vat w t)) f' g' h' m.grown m.is (k a t m.keeps.0 m.keeps.1 m.grown)
+ended_met w look look' s (Err (exit.Thrown id), t) d f g h f' g' h' m k p q =
+    ended_given w look' s t (g id t) d (Throws (text_of w id) (vat w t)) f' g' h' m.grown m.is (p id t m.keeps.0 m.keeps.1 m.grown)
+ended_met w look look' s (Err (exit.Ejected n v), t) d f g h f' g' h' m k p q =
+    ended_given w look' s t (h n v t) d (Ejects n (value_of w v) (vat w t)) f' g' h' m.grown m.is (q n v t m.keeps.0 m.keeps.1 m.grown)
+ended_met w look look' s (Err exit.Fuel, t) d f g h f' g' h' m k p q = record { grown = m.grown; keeps = m.keeps; is = λ i. stops_by Fuel (vat w t) d f' g' h' (m.is i) }
+ended_met w look look' s (Err exit.Deep, t) d f g h f' g' h' m k p q = record { grown = m.grown; keeps = m.keeps; is = λ i. stops_by Deep (vat w t) d f' g' h' (m.is i) }
+ended_met w look look' s (Err exit.Astray, t) d f g h f' g' h' m k p q = record { grown = m.grown; keeps = m.keeps; is = λ i. stops_by Astray (vat w t) d f' g' h' (m.is i) }
+ended_met w look look' s (Err exit.Unbuilt, t) d f g h f' g' h' m k p q = absurd m.keeps
+ended_met w look look' s (Err exit.Memory, t) d f g h f' g' h' m k p q = absurd m.keeps
+
+-- what the machine does may be another, where the texts are a front
+pub met_by : {A B : Type 0} {w : World} {look : Look A B} {s : Room} {o : Out A} {c : Done Local B} (d : Done Local B) → (IsFront w s.heap → d ≡ c) → Met w look s o c → Met w look s o d
+met_by {B = B} {w = w} {look = look} {s = s} {o = o} d e m = record {
+  grown = m.grown;
+  keeps = m.keeps;
+  is = λ f. subst (λ (x : Done Local B). Is look w o x) (sym (e (front_back w m.grown f))) (m.is f);
+}
+
+-- a value with the scope that stays
+pub answered_met : (w : World) (here : Scope) (s : Room) (o : Out Held) (d : Done Local (Answer Local)) → Met w (in_scope here) s o d → Met w an_answer s (and_then o (λ v. give (v, here))) d
+unfolding and_then give
+answered_met w here s (Ok v, t) d m = record { grown = m.grown; keeps = m.keeps; is = m.is }
+answered_met w here s (Err (exit.Thrown id), t) d m = record { grown = m.grown; keeps = m.keeps; is = m.is }
+answered_met w here s (Err (exit.Ejected n v), t) d m = record { grown = m.grown; keeps = m.keeps; is = m.is }
+answered_met w here s (Err exit.Fuel, t) d m = record { grown = m.grown; keeps = m.keeps; is = m.is }
+answered_met w here s (Err exit.Deep, t) d m = record { grown = m.grown; keeps = m.keeps; is = m.is }
+answered_met w here s (Err exit.Astray, t) d m = record { grown = m.grown; keeps = m.keeps; is = m.is }
+answered_met w here s (Err exit.Unbuilt, t) d m = absurd m.keeps
+answered_met w here s (Err exit.Memory, t) d m = absurd m.keeps
+
+-- ---- the single changes
+
+pub give_met : {A B : Type 0} (w : World) (look : Look A B) (a : A) (s : Room) → IsSound s.heap → look.fits s.heap a → Met w look s (give a s) (machine.give (look.of w a) (vat w s))
+unfolding opened_acts opened_state
+give_met w look a s sound i = record { grown = grown_same s.heap; keeps = (sound, i); is = λ f. refl }
+
+pub stop_met : {A B : Type 0} (w : World) (look : Look A B) (s : Room) → IsSound s.heap → Met w look s (fail exit.Astray s) (machine.stop Astray (vat w s))
+unfolding opened_acts opened_state
+stop_met w look s sound = record { grown = grown_same s.heap; keeps = sound; is = λ f. refl }
+
+pub deep_met : {A B : Type 0} (w : World) (look : Look A B) (s : Room) → IsSound s.heap → Met w look s (fail exit.Deep s) (machine.stop Deep (vat w s))
+unfolding opened_acts opened_state
+deep_met w look s sound = record { grown = grown_same s.heap; keeps = sound; is = λ f. refl }
+
+pub throw_met : {A B : Type 0} (w : World) (look : Look A B) (id : ℕ) (s : Room) → IsSound s.heap → nat_lt id (length s.heap.texts) ≡ true → Met w look s (fail (exit.Thrown id) s) (machine.throw (text_of w id) (vat w s))
+unfolding opened_acts opened_state
+throw_met w look id s sound i = record { grown = grown_same s.heap; keeps = (sound, i); is = λ f. refl }
+
+pub eject_met : {A B : Type 0} (w : World) (look : Look A B) (n : ℕ) (v : Held) (s : Room) → IsSound s.heap → is_there s.heap v ≡ true → Met w look s (fail (exit.Ejected n v) s) (machine.eject n (value_of w v) (vat w s))
+unfolding opened_acts opened_state
+eject_met w look n v s sound i = record { grown = grown_same s.heap; keeps = (sound, i); is = λ f. refl }
+
+pub spent_met : (w : World) (n : ℕ) (b : Bool) (s : Room) → IsSound s.heap → Met w itself s (spent n b s) (machine.spent n b (vat w s))
+unfolding opened_acts opened_state vat_of
+spent_met w n true s sound = record { grown = grown_same s.heap; keeps = (sound, tt); is = λ f. refl }
+spent_met w n false s sound = record { grown = grown_same s.heap; keeps = sound; is = λ f. refl }
+
+pub spend_met : (w : World) (n : ℕ) (s : Room) → IsSound s.heap → Met w itself s (spend n s) (machine.spend n (vat w s))
+unfolding spend opened_state vat_of
+spend_met w n s sound = spent_met w n (nat_le n s.micro.fuel) s sound
+
+lines_more : (w : World) (es : List Event) (e : Event) → lines_of w (es ++ e ∷ []) ≡ lines_of w es ++ line_of w e
+unfolding lines_of
+lines_more w [] e = append-nil (line_of w e)
+lines_more w (x ∷ es) e = rw (lines_more w es e) (sym (append_assoc (line_of w x) (lines_of w es) (line_of w e)))
+
+told : (w : World) (es : List Event) (e : Event) (h : Happened Local) → line_of w e ≡ h ∷ []
+    → (w.happened ++ lines_of w es) ++ h ∷ [] ≡ w.happened ++ lines_of w (es ++ e ∷ [])
+told w es e h is = rw (lines_more w es e, is) (append_assoc w.happened (lines_of w es) (h ∷ []))
+
+pub tell_met : (w : World) (e : Event) (h : Happened Local) (s : Room) → IsSound s.heap → line_of w e ≡ h ∷ [] → Met w itself s (tell e s) (machine.tell h (vat w s))
+unfolding opened_acts opened_state vat_of
+tell_met w e h s sound is = record {
+  grown = grown_same s.heap;
+  keeps = (sound, tt);
+  is = λ f. ap (λ (hs : List (Happened Local)). machine.Gives tt (record (vat w s) { happened = hs })) (told w s.micro.events e h is);
+}
+
+one_longer : {A : Type 0} (xs : List A) (x : A) → suc (length xs) ≡ length (xs ++ x ∷ [])
+one_longer [] x = refl
+one_longer (y ∷ ys) x = ap suc (one_longer ys x)
+
+pub activation_met : (w : World) (x : Held) (s : Room) → IsSound s.heap → Met w itself s (new_activation x s) (machine.new_activation (vat w s))
+unfolding opened_acts opened_state vat_of
+activation_met w x s sound = record {
+  grown = code_grown s.heap sound x;
+  keeps = (code_sound s.heap sound x, tt);
+  is = λ f. ap (λ (n : ℕ). machine.Gives (length s.heap.codes) (record (vat w s) { activations = n })) (one_longer s.heap.codes x);
+}
+
+-- ---- problems
+
+problem_text : (w : World) (p : Problem) → text_of w (problem_id p) ≡ problem_words p
+problem_text w (Arithmetic Overflow) = refl
+problem_text w (Arithmetic ZeroDivisor) = refl
+problem_text w (Arithmetic NegativePower) = refl
+problem_text w NotInt = refl
+problem_text w NoMethod = refl
+problem_text w NotChar = refl
+problem_text w NotBoolean = refl
+problem_text w NotText = refl
+problem_text w NotList = refl
+problem_text w OutOfRange = refl
+problem_text w BadArgument = refl
+problem_text w NotComparable = refl
+problem_text w TooHeavy = refl
+problem_text w Unthrowable = refl
+problem_text w DeadEjector = refl
+
+problem_small : (p : Problem) → nat_lt (problem_id p) 15 ≡ true
+problem_small (Arithmetic Overflow) = refl
+problem_small (Arithmetic ZeroDivisor) = refl
+problem_small (Arithmetic NegativePower) = refl
+problem_small NotInt = refl
+problem_small NoMethod = refl
+problem_small NotChar = refl
+problem_small NotBoolean = refl
+problem_small NotText = refl
+problem_small NotList = refl
+problem_small OutOfRange = refl
+problem_small BadArgument = refl
+problem_small NotComparable = refl
+problem_small TooHeavy = refl
+problem_small Unthrowable = refl
+problem_small DeadEjector = refl
+
+problem_among : (p : Problem) (more : List Words) → nat_lt (problem_id p) (length (problems ++ more)) ≡ true
+problem_among p more =
+    let l : length (problems ++ more) ≡ 15 + length more = length-append problems more in
+    let b : problem_id p < 15 = below (problem_id p) 15 (problem_small p) in
+    is_below (problem_id p) (length (problems ++ more)) (omega arith)
+
+pub problem_there : (h : Contents) → IsSound h → (p : Problem) → nat_lt (problem_id p) (length h.texts) ≡ true
+problem_there h s p = subst (λ (ts : List Words). nat_lt (problem_id p) (length ts) ≡ true) (sym s.problems_first.1) (problem_among p s.problems_first.0)
+
+pub fails_met : {A B : Type 0} (w : World) (look : Look A B) (p : Problem) (s : Room) → IsSound s.heap → Met w look s (fails p s) (machine.throw (problem_words p) (vat w s))
+unfolding fails
+fails_met {B = B} w look p s sound =
+    subst (λ (t : Words). Met w look s (fail (exit.Thrown (problem_id p)) s) (machine.throw t (vat w s))) (problem_text w p) (throw_met w look (problem_id p) s sound (problem_there s.heap sound p))
+
+-- ---- texts
+
+last_is : (w : World) (h : Contents) (u : Words) → IsFront w (record h { texts = h.texts ++ u ∷ [] }) → u ≡ text_of w (length h.texts)
+last_is w h u f =
+    sym (ap (λ (ts : List Words). unwrap_or (slice_get ts (length h.texts)) []) f.1 ∙ ap (λ (o : Option Words). unwrap_or o []) (got_last h.texts u f.0))
+
+pub text_met : (w : World) (u : Words) (s : Room) → IsSound s.heap → Met w a_value s (text_value u s) (machine.give (Text u) (vat w s))
+unfolding opened_acts opened_state vat_of
+text_met w u s sound = record {
+  grown = text_grown s.heap sound u;
+  keeps = (text_sound s.heap sound u, last_text s.heap sound u);
+  is = λ f. ap (λ (t : Words). machine.Gives (Text t) (vat w s)) (last_is w s.heap u f);
+}
+
+spell_met : (w : World) (tree : List Node) (u : Words) (s : Room) → IsSound s.heap → Met w a_value s (spell u s) (perform.spell (names w) tree u (vat w s))
+unfolding spell perform.spell ◌>>◌ machine.◌>>◌
+spell_met w tree u s sound = then_met _ _ (spend_met w (length u) s sound) (λ x t q i g. text_met w u t q)
+
+spelled_met : (w : World) (tree : List Node) (u : Words) (b : Bool) (s : Room) → IsSound s.heap
+    → Met w a_value s (spelled u b s) ((if b then perform.spell (names w) tree u else machine.throw (codes "too heavy")) (vat w s))
+unfolding spelled
+spelled_met w tree u true s sound = spell_met w tree u s sound
+spelled_met w tree u false s sound = fails_met w a_value TooHeavy s sound
+
+pub write_met : (w : World) (tree : List Node) (u : Words) (s : Room) → IsSound s.heap → Met w a_value s (write_text u s) (perform.write_text (names w) tree u (vat w s))
+unfolding write_text perform.write_text
+write_met w tree u s sound = spelled_met w tree u (nat_le (length u) 65535) s sound
+
+-- ---- lists
+
+list_line : (w : World) (act k : ℕ) (vs : List Held) → line_of w (event.List act k vs) ≡ ListMade act k (values_of w vs) ∷ []
+unfolding line_of
+list_line w act k vs = refl
+
+list_told_met : (w : World) (act : ℕ) (vs : List Held) (k : ℕ) (s : Room) → IsSound s.heap → nat_lt k (length s.heap.lists) ≡ true
+    → Met w a_value s (list_told act vs k s) (machine.and_then (machine.tell (ListMade act k (values_of w vs)) (vat w s)) (λ u. machine.give (Items k)))
+unfolding list_told ◌>>◌
+list_told_met w act vs k s sound i =
+    then_met _ _ (tell_met w (event.List act k vs) (ListMade act k (values_of w vs)) s sound (list_line w act k vs)) (λ u t q j g. give_met w a_value (held.List k) t q (list_on g k i))
+
+new_list_met : (w : World) (vs : List Held) (s : Room) → IsSound s.heap → are_there s.heap vs ≡ true → Met w a_list s (new_list vs s) (machine.new_list (values_of w vs) (vat w s))
+unfolding opened_acts opened_state vat_of
+new_list_met w vs s sound i = record {
+  grown = list_grown s.heap sound vs;
+  keeps = (list_sound s.heap sound vs i, last_list s.heap sound vs);
+  is = λ f. rw (length-map s.heap.lists (members_of w), map-append (members_of w) s.heap.lists (listed s.heap vs ∷ [])) refl;
+}
+
+store_is : (w : World) (tree : List Node) (act : ℕ) (vs : List Held) (v : Vat Local)
+    → perform.store (names w) tree act (values_of w vs) v
+    ≡ machine.and_then (machine.spend (length vs) v) (λ u t. machine.and_then (machine.new_list (values_of w vs) t) (λ k r. machine.and_then (machine.tell (ListMade act k (values_of w vs)) r) (λ u. machine.give (Items k))))
+unfolding perform.store machine.◌>>=◌ machine.◌>>◌
+store_is w tree act vs v = rw (length-map vs (value_of w)) refl
+
+store_met : (w : World) (tree : List Node) (act : ℕ) (vs : List Held) (s : Room) → IsSound s.heap → are_there s.heap vs ≡ true → Met w a_value s (store act vs s) (perform.store (names w) tree act (values_of w vs) (vat w s))
+unfolding store keep_list ◌>>=◌ ◌>>◌
+store_met w tree act vs s sound i =
+    rw (store_is w tree act vs (vat w s))
+    (then_met _ _ (spend_met w (length vs) s sound) (λ u t q j g. then_met _ _ (new_list_met w vs t q (all_on g vs i)) (λ k r p l e. list_told_met w act vs k r p l)))
+
+stored_met : (w : World) (tree : List Node) (act : ℕ) (vs : List Held) (b : Bool) (s : Room) → IsSound s.heap → are_there s.heap vs ≡ true
+    → Met w a_value s (stored act vs b s) ((if b then perform.store (names w) tree act (values_of w vs) else machine.throw (codes "too heavy")) (vat w s))
+unfolding stored
+stored_met w tree act vs true s sound i = store_met w tree act vs s sound i
+stored_met w tree act vs false s sound i = fails_met w a_value TooHeavy s sound
+
+made_is : (w : World) (tree : List Node) (act : ℕ) (vs : List (Value Local)) (v : Vat Local)
+    → perform.make_list (names w) tree act vs v ≡ (if list_fits v.lists vs then perform.store (names w) tree act vs else machine.throw (codes "too heavy")) v
+unfolding perform.make_list opened_state
+made_is w tree act vs v = refl
+
+lists_of : (w : World) (s : Room) → (vat w s).lists ≡ map (members_of w) s.heap.lists
+unfolding vat_of
+lists_of w s = refl
+
+made_by : (w : World) (tree : List Node) (act : ℕ) (vs : List Held) (s : Room) → IsSound s.heap → are_there s.heap vs ≡ true → IsFront w s.heap
+    → perform.make_list (names w) tree act (values_of w vs) (vat w s)
+    ≡ (if is_light s.heap vs then perform.store (names w) tree act (values_of w vs) else machine.throw (codes "too heavy")) (vat w s)
+made_by w tree act vs s sound i f =
+    made_is w tree act (values_of w vs) (vat w s)
+    ∙ ap (λ (b : Bool). (if b then perform.store (names w) tree act (values_of w vs) else machine.throw (codes "too heavy")) (vat w s))
+    (ap (λ (ls : List (List (Value Local))). list_fits ls (values_of w vs)) (lists_of w s) ∙ fits_is w s.heap f sound.lists vs i)
+
+listed_met : (w : World) (tree : List Node) (act : ℕ) (vs : List Held) (b : Bool) (s : Room) → IsSound s.heap → are_there s.heap vs ≡ true → b ≡ true
+    → Met w a_value s (listed_there act vs b s) (perform.make_list (names w) tree act (values_of w vs) (vat w s))
+unfolding listed_there
+listed_met w tree act vs true s sound i e = met_by _ (made_by w tree act vs s sound i) (stored_met w tree act vs (is_light s.heap vs) s sound i)
+listed_met w tree act vs false s sound i e = absurd (cc)
+
+pub list_met : (w : World) (tree : List Node) (act : ℕ) (vs : List Held) (s : Room) → IsSound s.heap → are_there s.heap vs ≡ true
+    → Met w a_value s (make_list act vs s) (perform.make_list (names w) tree act (values_of w vs) (vat w s))
+unfolding make_list
+list_met w tree act vs s sound i = listed_met w tree act vs (are_there s.heap vs) s sound i i
+
+-- ---- following
+
+passed : {A : Type 0} (b : Bool) (a c : A) → b ≡ false → elim b [ true ↦ a | false ↦ c ] ≡ c
+passed true a c h = absurd (cc)
+passed false a c h = refl
+
+other_local : (n : Local) (i : ℕ) → is_promise n ≡ true → same_local n (Obj i) ≡ false
+unfolding same_local
+other_local (Obj j) i h = absurd (cc)
+other_local (Prom k) i h = refl
+other_local (Far v p) i h = absurd (cc)
+other_local (Mess k) i h = absurd (cc)
+
+entry_more : (w : World) (k : Known Local) (ks : List (Known Local)) (i : ℕ)
+    → entry_of (names w) (k ∷ ks) (Obj i) ≡ elim (same_local k.name (Obj i)) [ true ↦ Some k | false ↦ entry_of (names w) ks (Obj i) ]
+unfolding entry_of numbering
+entry_more w k ks i = refl
+
+no_entry : (w : World) (ks : List (Known Local)) (i : ℕ) → all_promises ks ≡ true → entry_of (names w) ks (Obj i) ≡ None
+unfolding entry_of
+no_entry w [] i h = refl
+no_entry w (k ∷ ks) i h =
+    let s = both (is_promise k.name) (all_promises ks) h in
+    entry_more w k ks i
+    ∙ passed (same_local k.name (Obj i)) (Some k) (entry_of (names w) ks (Obj i)) (other_local k.name i s.0)
+    ∙ no_entry w ks i s.1
+
+follow_none : (w : World) (v : Vat Local) (i : ℕ) → entry_of (names w) v.known (Obj i) ≡ None → follow (names w) v (Ref (Obj i)) ≡ Ref (Obj i)
+unfolding follow follow_at led standing_of standing_in severed severed_at numbering local_spot
+follow_none w v i e = ap (λ (o : Option (Known Local)). severed (names w) v (led (names w) (λ y. follow_at (names w) (length v.known) v.known y) (Obj i) (standing_in o))) e
+
+known_is : (w : World) (s : Room) → (vat w s).known ≡ w.known
+unfolding vat_of
+known_is w s = refl
+
+follow_object : (w : World) → all_promises w.known ≡ true → (s : Room) (i : ℕ) → follow (names w) (vat w s) (Ref (Obj i)) ≡ Ref (Obj i)
+follow_object w fair s i = follow_none w (vat w s) i (rw (known_is w s) (no_entry w w.known i fair))
+
+-- what stands in the heap is followed to itself
+pub follow_there : (w : World) → all_promises w.known ≡ true → (s : Room) (h : Contents) (x : Held) → is_there h x ≡ true → follow (names w) (vat w s) (value_of w x) ≡ value_of w x
+unfolding follow follow_at severed
+follow_there w fair s h (held.Obj i) e = follow_object w fair s i
+follow_there w fair s h (held.Prom k) e = absurd (cc)
+follow_there w fair s h (held.Far v p) e = absurd (cc)
+follow_there w fair s h _ e = refl
+
+pub follow_all : (w : World) → all_promises w.known ≡ true → (s : Room) (h : Contents) (xs : List Held) → are_there h xs ≡ true → map (follow (names w) (vat w s)) (values_of w xs) ≡ values_of w xs
+follow_all w fair s h [] e = refl
+follow_all w fair s h (x ∷ xs) e =
+    let i = both (is_there h x) (are_there h xs) e in
+    rw (follow_there w fair s h x i.0, follow_all w fair s h xs i.1) refl

@@ -1,0 +1,144 @@
+-- What a heap and what happened stand for: a vat of the machine, in local numbers.
+use Rattle.std.specs.Prelude.{ℕ, Bool, true, false, if◌then◌else◌, List, [], ◌∷◌, ◌++◌, map, length, slice_get, unwrap_or}
+use Rattle.ev_base.specs.declared.values.Value.{Value as Held}
+use Rattle.ev_base.specs.declared.values.Value.TheVariants as held
+use Rattle.ev_heap.specs.Contents.{Contents}
+use Rattle.ev_heap.specs.declared.micro.Micro.{Micro}
+use Rattle.ev_heap.specs.declared.happened.Happened.{Happened as Event}
+use Rattle.ev_heap.specs.declared.happened.Happened.TheVariants as event
+use Rattle.ev_machine.specs.Values.{Words, Value, Prim, Ref, Naming, Local, Obj, Prom, numbering}
+use Rattle.ev_heap.specs.declared.kept.Cell.{Cell as HeldCell}
+use Rattle.ev_heap.specs.declared.kept.Capture.{Capture}
+use Rattle.ev_heap.specs.declared.kept.Capture.TheVariants as capture
+use Rattle.ev_heap.specs.declared.kept.Caught.{Caught}
+use Rattle.ev_heap.specs.declared.kept.Listed.{Listed}
+use Rattle.ev_heap.specs.declared.kept.Shape.{Shape}
+use Rattle.ev_heap.specs.declared.kept.Shape.TheVariants as shape
+use Rattle.ev_heap.specs.declared.kept.Thing.{Thing as HeldThing}
+use Rattle.ev_heap.specs.declared.kept.GuardKind.{GuardKind}
+use Rattle.ev_heap.specs.declared.kept.GuardKind.TheVariants as guard
+use Rattle.ev_prims.specs.Reading.{value_by}
+use Rattle.ev_room.specs.Sound.{problems}
+use Rattle.ev_machine.specs.State.{Thing, Made, Ejector, Audition, Resolver, Bound, Fixed, Slot, Binding, Cell, Message, Known, GiftEntry, Put, Happened, Called, Back, Thrown, Left, Got, SlotMade, SlotRead, SlotWrote, ListMade, EjectorMade, ObjectMade, Vat}
+
+-- What evaluation leaves as it is, and neither the heap's objects, slots, lists and activations nor what happened tell; and the texts
+-- that values stand for, those of the end of the turn, so that a value stands for one thing while the heap grows.
+pub record World : Type 0 where
+  pub number : ℕ
+  pub drawn : List ℕ
+  pub messages : ℕ
+  pub promises : ℕ
+  pub queue : List (Message Local)
+  pub known : List (Known Local)
+  pub mails : List Local
+  pub gifts : List (GiftEntry Local)
+  pub noticed : List ℕ
+  pub outbox : List (Put Local)
+  -- what happened before
+  pub happened : List (Happened Local)
+  -- the texts of the heap at the end of the turn, behind the problems
+  pub texts : List Words
+  -- the word of each draw
+  pub word : ℕ → ℕ
+
+abbrev pub text_of : World → ℕ → Words
+text_of w id = unwrap_or (slice_get (problems ++ w.texts) id) []
+
+abbrev pub value_of : World → Held → Value Local
+value_of w v = value_by (text_of w) v
+
+abbrev pub values_of : World → List Held → List (Value Local)
+values_of w vs = map (value_of w) vs
+
+abbrev pub members_of : World → Listed → List (Value Local)
+members_of w l = values_of w l.members
+
+-- a problem, which is a text
+abbrev pub problem_of : World → Held → Words
+problem_of w (held.Text id) = text_of w id
+problem_of w _ = []
+
+abbrev pub guard_of : GuardKind → Value Local
+guard_of (guard.Native n) = Prim n
+guard_of (guard.User i) = Ref (Obj i)
+
+abbrev pub cell_of : World → HeldCell → Cell Local
+cell_of w c = record { guard = guard_of c.guard; value = value_of w c.value }
+
+abbrev pub capture_in : World → Capture → Bound Local
+capture_in w (capture.Fixed v g) = Fixed (value_of w v) (guard_of g)
+capture_in w (capture.Slot k) = Slot k
+
+abbrev pub caught_in : World → Caught → Binding Local
+caught_in w c = record { noun = c.noun; bound = capture_in w c.capture }
+
+-- of an audition the heap keeps the node alone
+abbrev pub shape_in : World → Bool → Shape → Thing Local
+shape_in w alive (shape.Made node caught stamps) = Made node (map (caught_in w) caught) (map (value_of w) stamps)
+shape_in w alive shape.Ejector = Ejector alive
+shape_in w alive (shape.Resolver p) = Resolver (Prom p)
+shape_in w alive (shape.Audition node) = Audition alive (record { node = node; free = [] })
+
+abbrev pub thing_of : World → HeldThing → Thing Local
+thing_of w t = shape_in w t.alive t.shape
+
+-- the line of an object, which is no other value
+abbrev pub made_line : World → ℕ → Held → Words → List Capture → List Held → List (Happened Local)
+made_line w act (held.Obj i) x caps stamps = ObjectMade act (Obj i) x (map (capture_in w) caps) (map (value_of w) stamps) ∷ []
+made_line w act _ x caps stamps = []
+
+-- the line of an ejector, which is no other value
+abbrev pub ejector_line : ℕ → Held → List (Happened Local)
+ejector_line act (held.Obj i) = EjectorMade act (Obj i) ∷ []
+ejector_line act _ = []
+
+-- the line of an event, where it is of a kind that evaluation tells
+unfoldable pub line_of : World → Event → List (Happened Local)
+line_of w (event.Call act target verb args begun) = Called act (value_of w target) verb (map (value_of w) args) begun ∷ []
+line_of w (event.Back act v) = Back act (value_of w v) ∷ []
+line_of w (event.Thrown act p) = Thrown act (problem_of w p) ∷ []
+line_of w (event.Gone act) = Left act ∷ []
+line_of w (event.Got act v) = Got act (value_of w v) ∷ []
+line_of w (event.Slot act k v) = SlotMade act k (value_of w v) ∷ []
+line_of w (event.Read act k v) = SlotRead act k (value_of w v) ∷ []
+line_of w (event.Wrote act k v) = SlotWrote act k (value_of w v) ∷ []
+line_of w (event.List act k vs) = ListMade act k (values_of w vs) ∷ []
+line_of w (event.Ejector act v) = ejector_line act v
+line_of w (event.Made act object x caps stamps) = made_line w act object x caps stamps
+line_of w _ = []
+
+unfoldable pub lines_of : World → List Event → List (Happened Local)
+lines_of w [] = []
+lines_of w (e ∷ es) = line_of w e ++ lines_of w es
+
+unfoldable pub vat_of : World → Contents → Micro → Vat Local
+vat_of w heap micro = record {
+  number = w.number;
+  fuel = micro.fuel;
+  drawn = w.drawn;
+  things = map (thing_of w) heap.things;
+  slots = map (cell_of w) heap.slots;
+  lists = map (members_of w) heap.lists;
+  activations = length heap.codes;
+  messages = w.messages;
+  promises = w.promises;
+  queue = w.queue;
+  known = w.known;
+  mails = w.mails;
+  gifts = w.gifts;
+  noticed = w.noticed;
+  outbox = w.outbox;
+  happened = w.happened ++ lines_of w micro.events;
+}
+
+abbrev pub is_promise : Local → Bool
+is_promise (Prom k) = true
+is_promise _ = false
+
+-- no object and no message is known as what settles
+abbrev pub all_promises : List (Known Local) → Bool
+all_promises [] = true
+all_promises (k ∷ ks) = if is_promise k.name then all_promises ks else false
+
+abbrev pub names : World → Naming Local Local
+names w = numbering w.word

@@ -1,0 +1,124 @@
+-- What evaluation makes of values, var slots, objects and lists so far.
+use Rattle.std.specs.declared.option.Option.{Option}
+use Rattle.std.specs.Prelude.{◌≡◌, ◌==◌, ℕ, nat_lt, Bool, true, false, if◌then◌else◌, List, [], ◌∷◌, ◌++◌, Some, None, map, length, slice_get, codes}
+use Rattle.ev_base.specs.declared.values.Value.{Value}
+use Rattle.ev_base.specs.declared.values.Value.TheVariants as held
+use Rattle.ev_heap.specs.Contents.{Contents, listed}
+use Rattle.ev_heap.specs.declared.kept.Capture.{Capture}
+use Rattle.ev_heap.specs.declared.kept.Capture.TheVariants as capture
+use Rattle.ev_heap.specs.declared.kept.Caught.{Caught}
+use Rattle.ev_heap.specs.declared.kept.Cell.{Cell}
+use Rattle.ev_heap.specs.declared.kept.GuardKind.{GuardKind}
+use Rattle.ev_heap.specs.declared.kept.GuardKind.TheVariants.{Native}
+use Rattle.ev_heap.specs.declared.kept.Listed.{Listed}
+use Rattle.ev_heap.specs.declared.kept.Shape.{Shape}
+use Rattle.ev_heap.specs.declared.kept.Shape.TheVariants.{Made, Ejector, Resolver, Audition}
+use Rattle.ev_heap.specs.declared.kept.Thing.{Thing}
+use Rattle.ev_room.specs.declared.object.Object.{Object}
+use Rattle.ev_room.specs.declared.scope.Binding.{Binding}
+use Rattle.ev_room.specs.declared.scope.Bound.{Bound}
+use Rattle.ev_room.specs.declared.scope.Bound.TheVariants.{Fixed, Slot}
+
+-- ---- what is kept
+
+-- the guard of a name that has none
+abbrev pub any_guard : ℕ
+any_guard = 8
+
+-- a var slot without a guard
+abbrev pub plain_cell : Value → Cell
+plain_cell v = record { guard = Native any_guard; value = v }
+
+-- what an object holds of a name that is bound so, under that guard
+abbrev pub capture_under : Bound → GuardKind → Capture
+capture_under (Fixed v) g = capture.Fixed v g
+capture_under (Slot k) g = capture.Slot k
+
+abbrev pub capture_of : Bound → Capture
+capture_of b = capture_under b (Native any_guard)
+
+abbrev pub caught_of : Binding → Caught
+caught_of b = record { noun = b.noun; capture = capture_of b.bound }
+
+-- an object without stamps
+abbrev pub plain_thing : Object → Thing
+plain_thing o = record { shape = Made o.node (map caught_of o.nouns) []; alive = true }
+
+-- the problems that evaluation throws, the first texts of a heap
+abbrev pub problems : List (List ℕ)
+problems =
+    codes "integer overflow" ∷ codes "not int" ∷ codes "no method" ∷ codes "zero divisor" ∷ codes "negative power" ∷ codes "not char"
+    ∷ codes "not boolean" ∷ codes "not String" ∷ codes "not List" ∷ codes "out of range" ∷ codes "bad argument" ∷ codes "not comparable"
+    ∷ codes "too heavy" ∷ codes "not a text" ∷ codes "ejector is dead" ∷ []
+
+-- ---- what stands in a heap
+
+-- the primitives on which calls are built: lists and ranges, the comparer, the loop, and throw
+abbrev pub is_built_prim : ℕ → Bool
+is_built_prim n = if n == 0 then true else if n == 2 then true else if n == 3 then true else n == 6
+
+-- no noun of the safe scope, or null, true, false or a primitive on which calls are built
+abbrev pub is_built_safe : Option Value → Bool
+is_built_safe None = true
+is_built_safe (Some held.Null) = true
+is_built_safe (Some (held.Bool b)) = true
+is_built_safe (Some (held.Prim n)) = is_built_prim n
+is_built_safe _ = false
+
+-- A value of this vat: where it is a text, a broken reference or a list, the heap has that text or list.
+abbrev pub is_there : Contents → Value → Bool
+is_there h (held.Text id) = nat_lt id (length h.texts)
+is_there h (held.Broken id) = nat_lt id (length h.texts)
+is_there h (held.List id) = nat_lt id (length h.lists)
+is_there h (held.Prim n) = is_built_prim n
+is_there h (held.Prom k) = false
+is_there h (held.Far v p) = false
+is_there h _ = true
+
+abbrev pub are_there : Contents → List Value → Bool
+are_there h [] = true
+are_there h (v ∷ vs) = if is_there h v then are_there h vs else false
+
+abbrev pub is_bound : Contents → Bound → Bool
+is_bound h (Fixed v) = is_there h v
+is_bound h (Slot k) = true
+
+-- the values of names stand there
+abbrev pub are_bound : Contents → List Binding → Bool
+are_bound h [] = true
+are_bound h (b ∷ bs) = if is_bound h b.bound then are_bound h bs else false
+
+-- each member of a list is so
+abbrev pub Each : {A : Type 0} → (A → Type 0) → List A → Type 0
+Each {A = A} P xs = (k : ℕ) (x : A) → slice_get xs k ≡ Some x → P x
+
+-- a var slot without a guard, whose value stands there
+abbrev pub IsPlainCell : Contents → Cell → Type 0
+IsPlainCell h c = (c ≡ plain_cell c.value) × (is_there h c.value ≡ true)
+
+-- an object without stamps, whose captures are without guards and stand there, or an ejector
+abbrev pub IsPlainShape : Contents → Shape → Type 0
+IsPlainShape h (Made node caught stamps) = (bs : List Binding) × ((caught ≡ map caught_of bs) × ((stamps ≡ []) × (are_bound h bs ≡ true)))
+IsPlainShape h Ejector = Unit {0}
+IsPlainShape h (Resolver p) = ⊥
+IsPlainShape h (Audition node) = ⊥
+
+-- that, alive or dead
+abbrev pub IsPlainThing : Contents → Thing → Type 0
+IsPlainThing h t = IsPlainShape h t.shape
+
+-- a list with its weight and height, whose members stand there
+abbrev pub IsListed : Contents → Listed → Type 0
+IsListed h l = (l ≡ listed h l.members) × (are_there h l.members ≡ true)
+
+-- What turns of built programs leave behind: the problems stand first among the texts, and each var slot, object and list holds values that stand there.
+pub record IsSound (h : Contents) : Type 0 where
+  pub slots : Each (IsPlainCell h) h.slots
+  pub things : Each (IsPlainThing h) h.things
+  pub lists : Each (IsListed h) h.lists
+  pub problems_first : (more : List (List ℕ)) × (h.texts ≡ problems ++ more)
+
+-- texts and lists come behind those that were there
+pub record Grown (before after : Contents) : Type 0 where
+  pub texts : (more : List (List ℕ)) × (after.texts ≡ before.texts ++ more)
+  pub lists : (more : List Listed) × (after.lists ≡ before.lists ++ more)

@@ -1,0 +1,17 @@
+//! Where evaluation works: the state of a vat, what a scope binds, and the single acts that change them.
+#![tactic(auto)]
+
+pub mod call;
+pub mod data;
+pub mod ejector;
+pub mod exit;
+pub mod nouns;
+pub mod object;
+pub mod room;
+pub mod scope;
+pub mod slots;
+pub mod tree;
+
+pub use data::is_built_prim;
+pub use exit::{Came, Exit};
+pub use room::Room;

@@ -1,0 +1,291 @@
+//! Objects: what they hold, and which method answers.
+
+ghost use Rattle.std.specs.Prelude.{◌≡◌, [], IfOk, OnOk, Some, map, option_map, reverse};
+ghost use Rattle.ev_base.specs.declared.values.Value.TheVariants.{Obj};
+ghost use Rattle.ev_heap.specs.declared.happened.Happened.TheVariants.{Made};
+ghost use Rattle.ev_form.specs.FreeNames.{free_names};
+ghost use Rattle.ev_machine.specs.Scopes.{name_of};
+ghost use Rattle.ev_room.specs.Sound.{capture_of, capture_under, caught_of};
+ghost use Rattle.ev_room.specs.Acts.{Answers, Extends, Gives, GivesIn, binding_back, bound_back, captures, code_of, look_code, make_object, named, new_object, object_made, object_node};
+
+use crate::exit::Exit;
+use crate::room::{Room, tell};
+use crate::scope::{Binding, Bound, Scope, found};
+use crate::tree::node_at;
+use ev_base::{ActId, Memory, NodeId, ObjId, PrimId, Seq, Str, Value};
+use ev_form::free_names;
+use ev_heap::{Capture, Caught, GuardKind, Happened, Shape};
+use ev_kernel::{Kernel, Node};
+use std::alloc::Global;
+
+/// An object: the node of its object expression, and what its free names are bound to, in order of first use.
+#[derive(Drop)]
+pub struct Object {
+    pub node: NodeId,
+    pub nouns: Seq<Binding>,
+}
+
+/// What a call on something that bears a number runs.
+#[derive(Drop)]
+pub enum Code {
+    /// The code of an object of the program.
+    Runs(Object),
+    /// An ejector, and whether it is alive.
+    Leaves(bool),
+}
+
+/// What an object holds of a name that is bound so, under that guard.
+fn capture_under(bound: Bound, guard: GuardKind) -> Capture
+    ensures { result ≡ capture_under bound guard }
+{
+    match bound {
+        Bound::Fixed(value) => Capture::Fixed { value, guard },
+        Bound::Slot(slot) => Capture::Slot(slot),
+    }
+}
+
+/// What a name was bound to that an object holds so.
+fn bound_back(capture: Capture) -> Bound
+    ensures { result ≡ bound_back capture }
+{
+    match capture {
+        Capture::Fixed { value, .. } => Bound::Fixed(value),
+        Capture::Slot(slot) => Bound::Slot(slot),
+    }
+}
+
+/// What the names were bound to that an object holds.
+fn all_back(alloc: Global, caught: &[Caught]) -> Result<Seq<Binding>, Memory>
+    ensures { IfOk result (λ all. all ≡ map binding_back caught.now) }
+{
+    let mut all = Seq::new(alloc);
+    for one in caught {
+        let bound = bound_back(one.capture);
+        let noun = Str::copy_of(alloc, one.noun.as_str())?;
+        all.push(Binding { noun, bound })?;
+    }
+    Ok(all)
+}
+
+/// The code of a shape that is alive or dead.
+#[tactic(auto, unfolding(crate::specs::Acts::opened_acts))]
+fn shape_code(alloc: Global, shape: &Shape, alive: bool) -> Result<Code, Exit>
+    ensures { Answers result (code_of shape.now alive) }
+{
+    match shape {
+        Shape::Made { node, captures, .. } => {
+            let nouns = all_back(alloc, captures.as_slice())?;
+            Ok(Code::Runs(Object { node: *node, nouns }))
+        }
+        Shape::Ejector => Ok(Code::Leaves(alive)),
+        _ => Err(Exit::Unbuilt),
+    }
+}
+
+/// The code of an object or an ejector.
+#[tactic(auto, using(crate::proofs::Things::code_goes, crate::proofs::Things::code_astray))]
+pub fn look_code(object: ObjId, room: &Room) -> Result<Code, Exit>
+    ensures { Gives result room.now (look_code object room.now) }
+{
+    if object.0 >= room.heap.object_count() {
+        return Err(Exit::Astray);
+    }
+    let alive = room.heap.is_alive(object);
+    shape_code(room.alloc, room.heap.shape(object), alive)
+}
+
+/// Bindings, the last one first.
+pub fn turned(nouns: Seq<Binding>) -> Seq<Binding>
+    ensures { result ≡ reverse nouns }
+{
+    let mut nouns = nouns.into_vec();
+    nouns.reverse();
+    Seq::of(nouns)
+}
+
+/// What is bound of these names.
+#[tactic(auto, unfolding(crate::specs::Acts::captures, crate::specs::Acts::with_bound))]
+fn captures(alloc: Global, nouns: &[Binding], free: &[Str]) -> Result<Seq<Binding>, Memory>
+    ensures { IfOk result (λ all. all ≡ captures [] nouns.now free.now) }
+{
+    let mut all = Seq::new(alloc);
+    for noun in free {
+        if let Some(bound) = found(nouns, noun.as_str()) {
+            let noun = Str::copy_of(alloc, noun.as_str())?;
+            all.push(Binding { noun, bound })?;
+        }
+    }
+    Ok(all)
+}
+
+/// What an object keeps of its captures.
+fn kept(alloc: Global, nouns: &[Binding]) -> Result<Seq<Caught>, Memory>
+    ensures { IfOk result (λ all. all ≡ map caught_of nouns.now) }
+{
+    let mut all = Seq::new(alloc);
+    for binding in nouns {
+        let noun = Str::copy_of(alloc, binding.noun.as_str())?;
+        let capture = capture_under(binding.bound, GuardKind::Native(PrimId(8)));
+        all.push(Caught { noun, capture })?;
+    }
+    Ok(all)
+}
+
+/// The line of an object.
+fn made_line(
+    alloc: Global,
+    act: ActId,
+    object: ObjId,
+    name: &str,
+    nouns: &[Binding],
+) -> Result<Happened, Memory>
+    ensures { IfOk result (λ line. line ≡ Made act (Obj object) name.now (map (λ b. capture_of b.bound) nouns.now) []) }
+{
+    let mut caps = Seq::new(alloc);
+    for binding in nouns {
+        caps.push(capture_under(binding.bound, GuardKind::Native(PrimId(8))))?;
+    }
+    let name = Str::copy_of(alloc, name)?;
+    Ok(Happened::Made {
+        activation: act,
+        object: Value::Obj(object),
+        name,
+        caps,
+        stamps: Seq::new(alloc),
+    })
+}
+
+/// Keeps an object.
+#[tactic(auto, unfolding(crate::specs::Acts::opened_acts))]
+fn new_object(node: NodeId, nouns: &[Binding], room: &mut Room) -> Result<ObjId, Exit>
+    ensures outcome { Gives result room.new (new_object node nouns.now room.old) }
+{
+    let captures = kept(room.alloc, nouns)?;
+    let stamps = Seq::new(room.alloc);
+    let shape = Shape::Made {
+        node,
+        captures,
+        stamps,
+    };
+    match room.heap.make_object(shape) {
+        Ok(object) => Ok(object),
+        Err(Memory) => Err(Exit::Memory),
+    }
+}
+
+#[tactic(auto, unfolding(ev_machine::specs::Scopes::name_of))]
+fn name_in(pattern: &Node) -> &str
+    ensures { result.now ≡ name_of (Some pattern.now) }
+{
+    match pattern {
+        Node::Final(noun, _) => noun.as_str(),
+        _ => "_",
+    }
+}
+
+/// The name of an object, by its pattern.
+#[tactic(auto, unfolding(ev_machine::specs::Scopes::name_of))]
+fn name_of(pattern: Option<&Node>) -> &str
+    ensures { result.now ≡ name_of (option_map (λ node. node.now) pattern.entry) }
+{
+    match pattern {
+        Some(pattern) => name_in(pattern),
+        None => "_",
+    }
+}
+
+#[tactic(auto, using(crate::proofs::Fronts::itself_in_front, crate::proofs::Fronts::noun_behind), unfolding(crate::specs::Acts::named))]
+fn bind_name_in(
+    alloc: Global,
+    pattern: &Node,
+    object: ObjId,
+    here: &mut Scope,
+) -> Result<(), Memory>
+    ensures named { OnOk result (here.new ≡ named (Some pattern.now) object here.old) }
+    ensures front { Extends here.old here.new }
+{
+    match pattern {
+        Node::Final(noun, _) => {
+            let noun = Str::copy_of(alloc, noun.as_str())?;
+            here.nouns.push(Binding {
+                noun,
+                bound: Bound::Fixed(Value::Obj(object)),
+            })
+        }
+        _ => Ok(()),
+    }
+}
+
+/// Binds the name of an object to it.
+#[tactic(auto, using(crate::proofs::Fronts::itself_in_front, crate::proofs::Fronts::noun_behind), unfolding(crate::specs::Acts::named))]
+fn bind_name(
+    alloc: Global,
+    pattern: Option<&Node>,
+    object: ObjId,
+    here: &mut Scope,
+) -> Result<(), Memory>
+    ensures named { OnOk result (here.new ≡ named (option_map (λ node. node.now) pattern.entry) object here.old) }
+    ensures front { Extends here.old here.new }
+{
+    match pattern {
+        Some(pattern) => bind_name_in(alloc, pattern, object, here),
+        None => Ok(()),
+    }
+}
+
+/// Keeps an object with these captures, and tells it.
+#[tactic(auto, using(crate::proofs::Exits::ends), unfolding(crate::specs::Acts::opened_acts))]
+fn object_made(
+    node: NodeId,
+    name: &str,
+    nouns: &[Binding],
+    object: ObjId,
+    here: &Scope,
+    room: &mut Room,
+) -> Result<Value, Exit>
+    ensures outcome { GivesIn result here.now room.new (object_made node name.now nouns.now object here.now room.old) }
+{
+    new_object(node, nouns, room)?;
+    let line = made_line(room.alloc, here.act, object, name, nouns)?;
+    tell(room, line)?;
+    Ok(Value::Obj(object))
+}
+
+/// Makes an object whose free names are these, in the scope after its own name is bound.
+#[tactic(auto, using(crate::proofs::Exits::ends), unfolding(crate::specs::Acts::opened_acts))]
+fn make_object(
+    node: NodeId,
+    pattern: Option<&Node>,
+    free: &[Str],
+    here: &mut Scope,
+    room: &mut Room,
+) -> Result<Value, Exit>
+    ensures outcome { GivesIn result here.new room.new (make_object node (option_map (λ node. node.now) pattern.entry) free.now here.old room.old) }
+    ensures front { Extends here.old here.new }
+{
+    let object = ObjId(room.heap.object_count());
+    bind_name(room.alloc, pattern, object, here)?;
+    let nouns = captures(room.alloc, here.nouns.as_slice(), free)?;
+    object_made(node, name_of(pattern), nouns.as_slice(), object, here, room)
+}
+
+/// Evaluates an object expression.
+#[tactic(auto, using(crate::proofs::Exits::ends, crate::proofs::Fronts::itself_in_front), unfolding(crate::specs::Acts::opened_acts))]
+pub fn object_node(
+    program: &Kernel,
+    id: NodeId,
+    pattern: NodeId,
+    auditors: &[NodeId],
+    here: &mut Scope,
+    room: &mut Room,
+) -> Result<Value, Exit>
+    ensures outcome { GivesIn result here.new room.new (object_node program.now id pattern auditors.now here.old room.old) }
+    ensures front { Extends here.old here.new }
+{
+    if !auditors.is_empty() {
+        return Err(Exit::Unbuilt);
+    }
+    let free = free_names(room.alloc, program, id)?;
+    let pattern = node_at(program.nodes(), pattern);
+    make_object(id, pattern, free.as_slice(), here, room)
+}

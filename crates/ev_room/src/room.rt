@@ -1,0 +1,52 @@
+//! Where evaluation works: the heap of a vat, the fuel that is left, and what happened.
+
+ghost use Rattle.std.specs.Prelude.{◌≡◌};
+ghost use Rattle.ev_room.specs.Acts.{Gives, new_activation, spend, tell};
+
+use crate::exit::Exit;
+use ev_base::{ActId, Memory, Value};
+use ev_heap::{Happened, Heap, Micro};
+use std::alloc::Global;
+
+/// The heap of a vat, the fuel that is left, and what happened.
+#[derive(Drop)]
+pub struct Room {
+    pub alloc: Global,
+    pub heap: Heap,
+    pub micro: Micro,
+}
+
+/// Spends so many units of fuel, or none where they are above what is left.
+#[tactic(auto, unfolding(crate::specs::Acts::opened_acts))]
+pub fn spend(room: &mut Room, units: u64) -> Result<(), Exit>
+    ensures outcome { Gives result room.new (spend units room.old) }
+    ensures heap { room.new.heap ≡ room.old.heap }
+{
+    if room.micro.spend(units) {
+        Ok(())
+    } else {
+        Err(Exit::Fuel)
+    }
+}
+
+/// Tells what happened.
+#[tactic(auto, unfolding(crate::specs::Acts::opened_acts))]
+pub fn tell(room: &mut Room, event: Happened) -> Result<(), Exit>
+    ensures outcome { Gives result room.new (tell event room.old) }
+{
+    match room.micro.push(event) {
+        Ok(()) => Ok(()),
+        Err(Memory) => Err(Exit::Memory),
+    }
+}
+
+/// Begins an activation, which runs the code of that receiver.
+#[tactic(auto, unfolding(crate::specs::Acts::opened_acts))]
+pub fn new_activation(receiver: Value, room: &mut Room) -> Result<ActId, Exit>
+    ensures outcome { Gives result room.new (new_activation receiver room.old) }
+{
+    match room.heap.start_activation(receiver) {
+        Ok(act) => Ok(act),
+        Err(Memory) => Err(Exit::Memory),
+    }
+}

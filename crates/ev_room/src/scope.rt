@@ -1,0 +1,55 @@
+//! What nouns stand for.
+
+ghost use Rattle.std.specs.Prelude.{◌≡◌, None};
+ghost use Rattle.ev_room.specs.Acts.{cut, found_from};
+
+use ev_base::{ActId, Seq, SlotId, Str, Value};
+use std::alloc::Global;
+use std::mem;
+
+/// What a noun stands for.
+#[derive(Clone, Copy, Debug, PartialEq, Eq)]
+pub enum Bound {
+    /// A value, for good.
+    Fixed(Value),
+    /// A var slot.
+    Slot(SlotId),
+}
+
+/// A noun, and what it is bound to.
+#[derive(Drop)]
+pub struct Binding {
+    pub noun: Str,
+    pub bound: Bound,
+}
+
+/// The activation that evaluates, and what its nouns stand for, the innermost last.
+#[derive(Drop)]
+pub struct Scope {
+    pub act: ActId,
+    pub nouns: Seq<Binding>,
+}
+
+/// What the innermost binding of a noun binds it to.
+#[tactic(auto, unfolding(crate::specs::Acts::found_from))]
+pub fn found(nouns: &[Binding], noun: &str) -> Option<Bound>
+    ensures { result ≡ found_from None nouns.now noun.now }
+{
+    let mut found = None;
+    for binding in nouns {
+        if binding.noun.as_str() == noun {
+            found = Some(binding.bound);
+        }
+    }
+    found
+}
+
+/// Takes away the bindings behind so many. What was bound before a node of a tree stands in front of what it binds, so this
+/// brings back the scope before it.
+pub fn cut(alloc: Global, mark: usize, here: &mut Scope)
+    ensures { here.new ≡ cut mark here.old }
+{
+    let mut nouns = mem::replace(&mut here.nouns, Seq::new(alloc)).into_vec();
+    nouns.truncate(mark);
+    here.nouns = Seq::of(nouns);
+}

@@ -1,0 +1,15 @@
+pub mod Rising
+pub mod Idle
+pub mod RefsIdle
+pub mod ArriveIdle
+pub mod News
+pub mod Ground
+pub mod Asked
+pub mod Fine
+pub mod Looks
+pub mod Rules
+pub mod FineCalls
+pub mod FineEval
+pub mod FineSteps
+pub mod FineRuns
+pub mod RunsTell
