@@ -123,11 +123,7 @@ fn objects(rt: HostRuntime) -> Result<(), Fail> {
             0,
             "open a\n!0 call 1 zip\n!0 thrown \"no method\"\n!0 threw \"no method\"\nsettle @a broken:\"no method\"\nend\n",
         ),
-        (
-            "def f() { return f() }; f()",
-            7,
-            "refused program a unbuilt 0 0\n",
-        ),
+        ("def f() { return f() }; f()", 9, "stop depth 0\n"),
     ];
     for (source, code, text) in rows {
         let script = script_of(alloc, source)?;
