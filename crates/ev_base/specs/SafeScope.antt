@@ -10,7 +10,7 @@ abbrev pub primitives : List (List ℕ)
 primitives =
     codes "__makeList" ∷ codes "__equalizer" ∷ codes "__comparer" ∷ codes "__loop" ∷ codes "E" ∷ codes "Ref"
     ∷ codes "throw" ∷ codes "auditedBy" ∷ codes "any" ∷ codes "void" ∷ codes "int" ∷ codes "boolean" ∷ codes "char"
-    ∷ codes "String" ∷ codes "List" ∷ codes "nullOk" ∷ codes "near" ∷ codes "DeepFrozen" ∷ []
+    ∷ codes "String" ∷ codes "List" ∷ codes "nullOk" ∷ codes "near" ∷ codes "DeepFrozen" ∷ codes "Selfless" ∷ codes "Functional" ∷ []
 
 abbrev pub primitive_number : List ℕ → Option ℕ
 primitive_number noun = position (bytes_eq noun) primitives

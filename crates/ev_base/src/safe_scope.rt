@@ -29,6 +29,8 @@ fn primitive_number(noun: &str) -> Option<u8>
         "nullOk" => Some(15),
         "near" => Some(16),
         "DeepFrozen" => Some(17),
+        "Selfless" => Some(18),
+        "Functional" => Some(19),
         _ => None,
     }
 }

@@ -2,7 +2,7 @@
 -- `c` and `f` are blocks.
 use Rattle.std.specs.Prelude.{ℕ, Bool, ◌==◌, if◌then◌else◌, List, [], ◌∷◌, ◌++◌, codes, Option, Some, None}
 use Rattle.std.specs.Str.{bytes_eq}
-use Rattle.ev_kernel.specs.declared.node.Literal.TheVariants as literals
+use Rattle.def_kernel.specs.declared.node.Literal.TheVariants as literals
 use Rattle.ev_piece.specs.Pieces.{Piece, lit, noun, set, def, call, seq, if_, escape, escape_catch, try_catch, finally, hide, match_bind, object, method, matcher, final_pattern, variable, any, list, via, opened_pieces}
 use Rattle.ev_desugar.specs.Words.{Words, arithmetic, updating, comparing, ranging, prefixing, ejector, text}
 

@@ -1,7 +1,7 @@
 -- What the words of a surface tree stand for: operators are verbs, and literals are read.
 use Rattle.std.specs.Prelude.{ℕ, ℤ, pos, ◌==◌, if◌then◌else◌, List, [], ◌∷◌, ◌++◌, codes, Option, Some, None, Result, Ok, Err}
 use Rattle.std.specs.Str.{bytes_eq, chars}
-use Rattle.ev_num.specs.Numerals.{number_of}
+use Rattle.ev_integer.specs.Numerals.{number_of}
 use Rattle.std.specs.Char.{encode_utf8}
 use Rattle.ev_text.specs.Unquoting.{unquoted, text_behind}
 

@@ -6,9 +6,10 @@ ghost use Rattle.ev_desugar.specs.Words.{arithmetic, comparing};
 
 use crate::lists::{one, three, two};
 use crate::words::{arithmetic, comparing, prefixing, ranging, updating};
+use def_kernel::{Literal, Node};
 use ev_base::{Memory, Seq, Str};
-use ev_kernel::{Literal, Node};
 use ev_piece::{call, if_, lit, noun, seq, set};
+use ev_word::Text;
 use std::alloc::Global;
 
 /// `null`
@@ -92,7 +93,7 @@ pub fn send(
     ensures { IfOk result (λ piece. piece ≡ send target verb args) }
 {
     let verb = sent_verb(alloc, verb)?;
-    let verb = lit(alloc, Literal::Text(verb))?;
+    let verb = lit(alloc, Literal::Text(Text::of(alloc, verb)?))?;
     let args = made_list(alloc, args)?;
     let args = three(alloc, target, verb, args)?;
     let sender = noun(alloc, Str::copy_of(alloc, "E")?)?;

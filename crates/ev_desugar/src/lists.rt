@@ -2,8 +2,8 @@
 
 ghost use Rattle.std.specs.Prelude.{◌≡◌, ◌∷◌, [], IfOk};
 
+use def_kernel::Node;
 use ev_base::{Memory, Seq};
-use ev_kernel::Node;
 use std::alloc::Global;
 
 /// The list of this.

@@ -1,13 +1,13 @@
 //! Loops, exits and waits.
 
 ghost use Rattle.std.specs.Prelude.{◌≡◌, ◌+◌, ◌++◌, suc, length, IfOk};
-ghost use Rattle.ev_kernel.specs.declared.node.Node.TheVariants.{Try};
+ghost use Rattle.def_kernel.specs.declared.node.Node.TheVariants.{Try};
 ghost use Rattle.ev_desugar.specs.Rows.{awaited, caught, closure, escaped, for_loop, fulfilled, fulfilment, iterated, key_or_any, leavable, repeated, settled, tried, while_loop};
 
 use crate::expressions::{falsehood, null, truth};
 use crate::lists::{one, two};
+use def_kernel::Node;
 use ev_base::{Memory, NodeId, Seq, Str};
-use ev_kernel::Node;
 use ev_piece::{
     any, call, escape, escape_catch, final_pattern, finally, hide, if_, method, noun, object, seq,
     try_catch,

@@ -7,8 +7,8 @@ use crate::expressions::null;
 use crate::lists::{one, two};
 use crate::loops::leavable;
 use crate::words::ejector;
+use def_kernel::Node;
 use ev_base::{Memory, Seq, Str};
-use ev_kernel::Node;
 use ev_piece::{any, call, def, final_pattern, method, noun, object, seq, variable};
 use std::alloc::Global;
 

@@ -5,7 +5,7 @@ ghost use Rattle.std.specs.Str.{chars};
 ghost use Rattle.ev_desugar.specs.Words.{arithmetic, character, comparing, character_behind, ejector, escape_text, first_of, number, prefixing, ranging, text, updating, verb_behind};
 
 use ev_base::{Memory, Str};
-use ev_num::read_decimal;
+use ev_integer::read_decimal;
 use ev_text::{EscapeFault, unquote};
 use std::alloc::Global;
 

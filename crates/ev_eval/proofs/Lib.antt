@@ -1,9 +1,1 @@
-pub mod Calls
-pub mod Depth
-pub mod Grows
-pub mod Guarded
-pub mod IsMet
-pub mod Leaves
-pub mod Meets
-pub mod Objects
-pub mod Primitives
+pub mod Turns

@@ -1,3 +1,2 @@
-pub mod Built
-pub mod Steps
+pub mod Problems
 pub mod Turn

@@ -2,11 +2,11 @@
 use Rattle.std.specs.Prelude.{◌≡◌, ℕ, true, List, [], Result, Ok, Err, IsErr}
 use Rattle.ev_base.specs.declared.memory.Memory.{Memory}
 use Rattle.ev_heap.specs.Contents.{Contents}
-use Rattle.ev_heap.specs.declared.micro.Micro.{Micro}
-use Rattle.ev_kernel.specs.declared.node.Node.{Node}
-use Rattle.ev_machine.specs.Values.{Value, Naming, Local}
-use Rattle.ev_machine.specs.State.{Done, Gives, Throws, Stops, Fuel, Deep, Astray, Act, ◌>>=◌, give, throw, stop, ending, new_activation}
-use Rattle.ev_machine.specs.Eval.{evaluator}
+use Rattle.ev_told.specs.declared.micro.Micro.{Micro}
+use Rattle.def_kernel.specs.declared.node.Node.{Node}
+use Rattle.def_machine.specs.Values.{Value, Naming, Local}
+use Rattle.def_machine.specs.State.{Done, Gives, Throws, Stops, Fuel, Deep, Astray, Act, ◌>>=◌, give, throw, stop, ending, new_activation}
+use Rattle.def_machine.specs.Eval.{evaluator}
 use Rattle.ev_eval.specs.declared.turn.Ended.{Ended}
 use Rattle.ev_eval.specs.declared.turn.Ended.TheVariants as ended
 use Rattle.ev_room.specs.Reading.{World, text_of, value_of, vat_of}

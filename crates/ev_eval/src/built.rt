@@ -2,11 +2,11 @@
 
 ghost use Rattle.std.specs.Prelude.{◌≡◌, Some};
 ghost use Rattle.ev_base.specs.SafeScope.{safe_value};
-ghost use Rattle.ev_eval.specs.Built.{is_built, is_built_node};
+ghost use Rattle.ev_steps.specs.Built.{is_built, is_built_node};
 ghost use Rattle.ev_room.specs.Sound.{is_built_safe};
 
+use def_kernel::{Kernel, Node};
 use ev_base::{Value, safe_value};
-use ev_kernel::{Kernel, Node};
 use ev_room::is_built_prim;
 
 /// Whether a value of the safe scope is `null`, `true`, `false` or a primitive on which calls are built.
@@ -30,7 +30,7 @@ fn is_built_noun(noun: &str) -> bool
     }
 }
 
-#[tactic(auto, unfolding(crate::specs::Built::is_built_node))]
+#[tactic(auto, unfolding(ev_steps::specs::Built::is_built_node))]
 fn is_built_node(node: &Node) -> bool
     ensures { result ≡ is_built_node node.now }
 {
@@ -38,7 +38,7 @@ fn is_built_node(node: &Node) -> bool
         Node::Lit(_) => true,
         Node::Noun(noun) => is_built_noun(noun.as_str()),
         Node::Set(_, _) => true,
-        Node::Def { exit, .. } => exit.is_none(),
+        Node::Def { .. } => true,
         Node::Call { .. } => true,
         Node::Sequence(_) => true,
         Node::If(_, _, _) => true,
@@ -51,14 +51,17 @@ fn is_built_node(node: &Node) -> bool
         Node::Final(_, guard) => guard.is_none(),
         Node::Var(_, guard) => guard.is_none(),
         Node::Any(guard) => guard.is_none(),
-        _ => false,
+        Node::MatchBind(_, _) => true,
+        Node::ListPattern(_) => true,
+        Node::Via(_, _) => true,
+        Node::Matcher { .. } => true,
     }
 }
 
 /// Whether each node of a program is of a kind that is evaluated so far: a literal, a noun that is
 /// `null`, `true`, `false`, a primitive on which calls are built or not in the safe scope, an assignment, a definition without an ejector, a call, a sequence, an if, an
 /// escape, a try, a finally, a hide, an object without auditors, a method, or a final, var or any pattern without a guard.
-#[tactic(auto, unfolding(crate::specs::Built::is_built))]
+#[tactic(auto, unfolding(ev_steps::specs::Built::is_built))]
 pub fn is_built(program: &Kernel) -> bool
     ensures { result ≡ is_built program.now }
 {

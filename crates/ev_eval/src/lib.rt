@@ -2,10 +2,6 @@
 #![tactic(auto)]
 
 pub mod built;
-pub mod evaluate;
-mod natives;
-mod nodes;
-pub mod pattern;
 pub mod turn;
 
 pub use built::is_built;

@@ -2,20 +2,22 @@
 
 ghost use Rattle.std.specs.Prelude.{◌≡◌, ◌++◌, ◌∷◌, [], true, IfOk, OnOk};
 ghost use Rattle.ev_heap.specs.Contents.{nothing};
-ghost use Rattle.ev_eval.specs.Built.{is_built};
+ghost use Rattle.ev_steps.specs.Built.{is_built};
 ghost use Rattle.ev_room.specs.Reading.{World, all_promises, names, vat_of};
 ghost use Rattle.ev_room.specs.Sound.{Grown, IsSound, problems};
-ghost use Rattle.ev_eval.specs.Steps.{opening};
+ghost use Rattle.ev_steps.specs.Steps.{opening};
 ghost use Rattle.ev_room.specs.Acts.{Gives};
+ghost use Rattle.ev_eval.specs.Problems.{guard_problems, native_problems, or_null_problems, own_problems, with_texts};
 ghost use Rattle.ev_eval.specs.Turn.{Ends, EndsAs, EndsBy, GivesThere, opened};
 
-use crate::evaluate::evaluate;
+use def_kernel::Kernel;
 use ev_base::{Limits, Memory, NodeId, Seq, TextId, Value};
-use ev_heap::{Heap, Micro};
-use ev_kernel::Kernel;
+use ev_frames::evaluate;
+use ev_heap::Heap;
 use ev_room::exit::Exit;
 use ev_room::room::{Room, new_activation};
 use ev_room::scope::Scope;
+use ev_told::Micro;
 use std::alloc::Global;
 use std::mem;
 
@@ -42,10 +44,9 @@ pub enum Ended {
     Astray,
 }
 
-/// A heap that holds the texts of the problems that evaluation throws, and nothing else.
-pub fn new_heap(alloc: Global) -> Result<Heap, Memory>
-    ensures texts { IfOk result (λ heap. heap ≡ record nothing { texts = problems }) }
-    ensures sound { IfOk result IsSound }
+/// A heap that holds what native methods throw.
+fn native_heap(alloc: Global) -> Result<Heap, Memory>
+    ensures { IfOk result (λ heap. heap ≡ with_texts native_problems) }
 {
     let mut heap = Heap::new(alloc);
     heap.make_text("integer overflow")?;
@@ -63,6 +64,68 @@ pub fn new_heap(alloc: Global) -> Result<Heap, Memory>
     heap.make_text("too heavy")?;
     heap.make_text("not a text")?;
     heap.make_text("ejector is dead")?;
+    Ok(heap)
+}
+
+/// What evaluation throws besides.
+fn add_own_problems(heap: &mut Heap) -> Result<(), Memory>
+    requires { heap.old ≡ with_texts (native_problems) }
+    ensures { OnOk result (heap.new ≡ with_texts (native_problems ++ own_problems)) }
+{
+    heap.make_text("no match")?;
+    heap.make_text("not a list")?;
+    heap.make_text("not a guard")?;
+    heap.make_text("not an auditor")?;
+    heap.make_text("audition is dead")?;
+    heap.make_text("not free")?;
+    Ok(())
+}
+
+/// What native guards throw, each at its place among them.
+fn add_guard_problems(heap: &mut Heap) -> Result<(), Memory>
+    requires { heap.old ≡ with_texts (native_problems ++ own_problems) }
+    ensures { OnOk result (heap.new ≡ with_texts (native_problems ++ own_problems ++ guard_problems)) }
+{
+    heap.make_text("not any")?;
+    heap.make_text("not void")?;
+    heap.make_text("not int")?;
+    heap.make_text("not boolean")?;
+    heap.make_text("not char")?;
+    heap.make_text("not String")?;
+    heap.make_text("not List")?;
+    heap.make_text("not nullOk")?;
+    heap.make_text("not near")?;
+    heap.make_text("not DeepFrozen")?;
+    Ok(())
+}
+
+/// The same of guards that take null as well.
+fn add_or_null_problems(heap: &mut Heap) -> Result<(), Memory>
+    requires { heap.old ≡ with_texts ((native_problems ++ own_problems) ++ guard_problems) }
+    ensures { OnOk result (heap.new ≡ with_texts ((native_problems ++ own_problems) ++ guard_problems ++ or_null_problems)) }
+{
+    heap.make_text("not nullOk:any")?;
+    heap.make_text("not nullOk:void")?;
+    heap.make_text("not nullOk:int")?;
+    heap.make_text("not nullOk:boolean")?;
+    heap.make_text("not nullOk:char")?;
+    heap.make_text("not nullOk:String")?;
+    heap.make_text("not nullOk:List")?;
+    heap.make_text("not nullOk:nullOk")?;
+    heap.make_text("not nullOk:near")?;
+    heap.make_text("not nullOk:DeepFrozen")?;
+    Ok(())
+}
+
+/// A heap that holds the texts of the problems that evaluation throws, and nothing else.
+pub fn new_heap(alloc: Global) -> Result<Heap, Memory>
+    ensures texts { IfOk result (λ heap. heap ≡ record nothing { texts = problems }) }
+    ensures sound { IfOk result IsSound }
+{
+    let mut heap = native_heap(alloc)?;
+    add_own_problems(&mut heap)?;
+    add_guard_problems(&mut heap)?;
+    add_or_null_problems(&mut heap)?;
     Ok(heap)
 }
 
@@ -90,7 +153,7 @@ fn ending(outcome: Result<Value, Exit>) -> Result<Ended, Memory>
 }
 
 /// The opening turn: the program is evaluated in an activation of its own.
-#[tactic(auto, using(ev_room::proofs::Exits::ends), unfolding(crate::specs::Steps::opened_steps))]
+#[tactic(auto, using(ev_room::proofs::Exits::ends), unfolding(ev_steps::specs::Steps::opened_steps))]
 fn opening(program: &Kernel, depth: u32, room: &mut Room) -> Result<Value, Exit>
     ensures outcome { Gives result room.new (opening program.now depth room.old) }
 {

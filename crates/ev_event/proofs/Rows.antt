@@ -2,13 +2,13 @@
 use Rattle.std.specs.Prelude.{◌≡◌, true, false, ℕ, List, [], ◌∷◌, ◌++◌, codes, Some, None, refl, flat_map, pos, negsuc}
 use Rattle.ev_base.specs.declared.names.Name.TheVariants.{Object, Own, Answer, Gift, Root}
 use Rattle.ev_base.specs.declared.names.Msg.{Msg}
-use Rattle.ev_event.specs.declared.shown.Shown.{Shown, Null, Bool, Int, Char, Text, Broken, Prim, Name, List as ListOf, Slot}
+use Rattle.def_event.specs.declared.shown.Shown.{Shown, Null, Bool, Int, Char, Text, Broken, Prim, Name, List as ListOf, Slot}
 use Rattle.std.specs.declared.option.Option.{Option}
 use Rattle.ev_base.specs.declared.names.Name.{Name as ShownName}
-use Rattle.ev_event.specs.declared.event.Event.{Event}
-use Rattle.ev_event.specs.declared.event.Event.TheVariants.{Open, Turn, Idle, Carry, Cut, Notice, Frame, Take, Call, Back, Thrown, Gone, Got, Slot as SlotMade, Read, Wrote, List as ListMade, Arrived, Ejector, Audition, Promise, Made, Send, When, Done, Threw, Settle, Wait, View, LostCut, LostBroken, LeftQueue, LeftHeld, LeftWait, LeftLink, End}
-use Rattle.ev_event.specs.declared.note.ShownNote.TheVariants.{Deliver, Settled, Elsewhere, Open as Opens, Ask, Shorten}
-use Rattle.ev_event.specs.Lines.{members, render, opened_lines}
+use Rattle.def_event.specs.declared.event.Event.{Event}
+use Rattle.def_event.specs.declared.event.Event.TheVariants.{Open, Turn, Idle, Carry, Cut, Notice, Frame, Take, Call, Back, Thrown, Gone, Got, Slot as SlotMade, Read, Wrote, List as ListMade, Arrived, Ejector, Audition, Promise, Made, Send, When, Done, Threw, Settle, Wait, View, LostCut, LostBroken, LeftQueue, LeftHeld, LeftWait, LeftLink, End}
+use Rattle.def_event.specs.declared.note.ShownNote.TheVariants.{Deliver, Settled, Elsewhere, Open as Opens, Ask, Shorten}
+use Rattle.def_event.specs.Lines.{members, render, opened_lines}
 
 abbrev vats : List (List ℕ)
 vats = codes "a" ∷ codes "b" ∷ codes "c" ∷ codes "buyer" ∷ codes "broker" ∷ codes "seller" ∷ []

@@ -1,8 +1,8 @@
 -- The values of a list in a note.
 use Rattle.std.proofs.Common.{Option, Some, None, ◌<◌, Bool, true, false, append_assoc, ◌≡◌, ℕ, ◌+◌, List, [], ◌∷◌, ◌++◌, refl, sym, ◌∙◌, ap, arith}
 use mathlib.Core.Former.{Count}
-use Rattle.ev_event.specs.declared.shown.Shown.{Shown, Members, Members', Row_of-Shown, end_of-Shown, more_of-Shown, items-the_row-Shown, items_hidden-the_row-Shown-0}
-use Rattle.ev_event.specs.Lines.{value, values, member_values, spaced}
+use Rattle.def_event.specs.declared.shown.Shown.{Shown, Members, Members', Row_of-Shown, end_of-Shown, more_of-Shown, items-the_row-Shown, items_hidden-the_row-Shown-0}
+use Rattle.def_event.specs.Lines.{value, values, member_values, spaced}
 use Rattle.std.specs.List.{flat_map}
 use Rattle.std.proofs.lemmas.List.{append-nil}
 use denote.Ref.{Bor}

@@ -1,8 +1,8 @@
 -- What is left to print of lists in lists.
 use Rattle.std.specs.Prelude.{ℕ, ◌+◌, Bool, true, false, List, [], ◌∷◌, ◌++◌, flat_map, Option, Some, None}
 use denote.Ref.{Bor}
-use Rattle.ev_event.specs.declared.shown.Shown.{Shown, Members', Row_of-Shown, end_of-Shown, more_of-Shown}
-use Rattle.ev_event.specs.Lines.{value, values, spaced}
+use Rattle.def_event.specs.declared.shown.Shown.{Shown, Members', Row_of-Shown, end_of-Shown, more_of-Shown}
+use Rattle.def_event.specs.Lines.{value, values, spaced}
 
 -- how much there is to print: each value counts one, and a list two more than its members and one for each of them
 abbrev mutual

@@ -1,10 +1,10 @@
 //! Histories.
 
 ghost use Rattle.std.specs.Prelude.{◌≡◌, [], ◌∷◌, ◌++◌, IfOk, OnOk, OnErr};
-ghost use Rattle.ev_event.specs.Lines.{render};
+ghost use Rattle.def_event.specs.Lines.{render};
 
-use crate::event::Event;
 use crate::line::render_all;
+use def_event::event::Event;
 use ev_base::{Memory, Seq, Str};
 use std::alloc::Global;
 use std::marker::Model;
@@ -18,8 +18,8 @@ pub struct History {
 impl Model for History {
     ghost use Rattle.std.specs.Prelude.{List};
     ghost use Rattle.std.specs.Coded.{coded_list};
-    ghost use Rattle.ev_event.specs.declared.event.Event.{Event};
-    ghost use Rattle.ev_event.specs.contracts.event.Event as event;
+    ghost use Rattle.def_event.specs.declared.event.Event.{Event};
+    ghost use Rattle.def_event.specs.contracts.event.Event as event;
 
     ghost Value = { List Event };
 

@@ -2,18 +2,19 @@
 
 ghost use Rattle.std.specs.Prelude.{◌≡◌, ◌/◌, ◌%◌, ◌++◌, ◌∷◌, [], IfOk, OnOk, OnErr, string_bytes, decimal, codes, flat_map};
 ghost use Rattle.std.specs.Char.{digit_char};
-ghost use Rattle.ev_event.specs.declared.event.Event.TheVariants.{Take, Call, Made, Send, When};
-ghost use Rattle.ev_event.specs.Lines.{activation, vat, numbered, name, message, value, note_words, begun_words, values, spaced, hex, line_of, render};
+ghost use Rattle.def_text.specs.Keywords.{printed_verb};
+ghost use Rattle.def_event.specs.declared.event.Event.TheVariants.{Call, Made, Send, When};
+ghost use Rattle.def_event.specs.Lines.{activation, vat, numbered, name, message, value, note_words, begun_words, values, spaced, hex, line_of, render};
 
-use crate::event::{Called, Event, MadeObject, Reacting, Sent, Taken};
 use crate::names::{push_activation, push_number};
-use crate::note::ShownNote;
 use crate::notes::add_note;
-use crate::shown::Shown;
 use crate::words::{
     add_message, add_name, add_numbered, add_part, add_value, add_values, add_vat, add_verb,
     add_word,
 };
+use def_event::event::{Addressed, Called, Event, MadeObject, Reacting, Sent};
+use def_event::note::ShownNote;
+use def_event::shown::Shown;
 use ev_base::{Memory, Msg, Name, Seq, Str, VatId};
 use std::alloc::{AllocError, Global};
 
@@ -125,21 +126,22 @@ fn push_lost(out: &mut String, names: &[Str], id: &Msg, word: &str) -> Result<()
     add_word(out, word)
 }
 
-/// A message that is taken.
-fn push_take(
+/// A message with its target, verb and arguments: one that is taken, or that is sent without an answer.
+fn push_addressed(
     alloc: Global,
     out: &mut String,
     names: &[Str],
-    taken: &Taken,
+    word: &str,
+    m: &Addressed,
 ) -> Result<(), AllocError>
-    ensures { OnOk result (string_bytes out.new ≡ string_bytes out.old ++ line_of names.now (Take taken.now)) }
+    ensures { OnOk result (string_bytes out.new ≡ string_bytes out.old ++ spaced (activation m.now.activation ∷ word.now ∷ message names.now m.now.message ∷ value names.now m.now.target ∷ printed_verb m.now.verb ∷ values names.now m.now.args)) }
 {
-    push_activation(out, taken.activation)?;
-    add_word(out, "take")?;
-    add_message(out, names, &taken.message)?;
-    add_value(alloc, out, names, &taken.target)?;
-    add_verb(out, taken.verb.as_str())?;
-    add_values(alloc, out, names, taken.args.as_slice())
+    push_activation(out, m.activation)?;
+    add_word(out, word)?;
+    add_message(out, names, &m.message)?;
+    add_value(alloc, out, names, &m.target)?;
+    add_verb(out, m.verb.as_str())?;
+    add_values(alloc, out, names, m.args.as_slice())
 }
 
 /// The activation that a call begins.
@@ -430,7 +432,7 @@ fn push_event(
         Event::Cut(entry, v, w) => push_entry(out, names, *entry, "cut", *v, *w),
         Event::Notice(entry, v, w) => push_entry(out, names, *entry, "notice", *v, *w),
         Event::Frame(bytes) => push_frame(out, bytes.as_slice()),
-        Event::Take(taken) => push_take(alloc, out, names, taken.get()),
+        Event::Take(taken) => push_addressed(alloc, out, names, "take", taken.get()),
         Event::Call(called) => push_call(alloc, out, names, called.get()),
         Event::Back(id, x) => push_act(alloc, out, names, *id, "back", x),
         Event::Thrown(id, x) => push_act(alloc, out, names, *id, "thrown", x),
@@ -446,6 +448,7 @@ fn push_event(
         Event::Promise(id, made, x) => push_promise(alloc, out, names, *id, made, x),
         Event::Made(made) => push_made(alloc, out, names, made.get()),
         Event::Send(sent) => push_send(alloc, out, names, sent.get()),
+        Event::SendOnly(sent) => push_addressed(alloc, out, names, "sendonly", sent.get()),
         Event::When(reacting) => push_when(alloc, out, names, reacting.get()),
         Event::Done(id, x) => push_act(alloc, out, names, *id, "done", x),
         Event::Threw(id, x) => push_act(alloc, out, names, *id, "threw", x),

@@ -1,7 +1,7 @@
 //! Names, messages and numbers in a line.
 
 ghost use Rattle.std.specs.Prelude.{◌≡◌, ◌<◌, ◌++◌, OnOk, string_bytes, decimal};
-ghost use Rattle.ev_event.specs.Lines.{activation, primitive_name, vat, numbered, message, name};
+ghost use Rattle.def_event.specs.Lines.{activation, primitive_name, vat, numbered, message, name};
 
 use ev_base::{Msg, Name, PrimId, Str, VatId};
 use std::alloc::AllocError;

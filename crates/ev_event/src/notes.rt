@@ -1,12 +1,34 @@
 //! The words of notes.
 
 ghost use Rattle.std.specs.Prelude.{◌≡◌, ◌++◌, ◌∷◌, OnOk, string_bytes, flat_map};
-ghost use Rattle.ev_event.specs.Lines.{note_words};
+ghost use Rattle.def_text.specs.Keywords.{printed_verb};
+ghost use Rattle.def_event.specs.Lines.{note_words, message, name, values};
 
-use crate::note::ShownNote;
 use crate::words::{add_message, add_name, add_value, add_values, add_vat, add_verb, add_word};
-use ev_base::Str;
+use def_event::note::ShownNote;
+use def_event::shown::Shown;
+use ev_base::{Msg, Name, Str};
 use std::alloc::{AllocError, Global};
+
+/// Appends the words of a note that delivers a message.
+fn add_delivery(
+    alloc: Global,
+    out: &mut String,
+    names: &[Str],
+    word: &str,
+    id: &Msg,
+    target: &Name,
+    verb: &str,
+    args: &[Shown],
+) -> Result<(), AllocError>
+    ensures { OnOk result (string_bytes out.new ≡ string_bytes out.old ++ flat_map (λ v. 32 ∷ v) (word.now ∷ message names.now id.now ∷ name names.now target.now ∷ printed_verb verb.now ∷ values names.now args.now)) }
+{
+    add_word(out, word)?;
+    add_message(out, names, id)?;
+    add_name(out, names, target)?;
+    add_verb(out, verb)?;
+    add_values(alloc, out, names, args)
+}
 
 /// Appends the words of a note.
 pub(crate) fn add_note(
@@ -23,13 +45,31 @@ pub(crate) fn add_note(
             target,
             verb,
             args,
-        } => {
-            add_word(out, "deliver")?;
-            add_message(out, names, message)?;
-            add_name(out, names, target)?;
-            add_verb(out, verb.as_str())?;
-            add_values(alloc, out, names, args.as_slice())
-        }
+        } => add_delivery(
+            alloc,
+            out,
+            names,
+            "deliver",
+            message,
+            target,
+            verb.as_str(),
+            args.as_slice(),
+        ),
+        ShownNote::DeliverOnly {
+            message,
+            target,
+            verb,
+            args,
+        } => add_delivery(
+            alloc,
+            out,
+            names,
+            "deliveronly",
+            message,
+            target,
+            verb.as_str(),
+            args.as_slice(),
+        ),
         ShownNote::Settled(subject, x) => {
             add_word(out, "settled")?;
             add_name(out, names, subject)?;

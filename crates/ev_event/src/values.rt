@@ -3,12 +3,12 @@
 ghost use Rattle.std.specs.Prelude.{◌≡◌, ℕ, List, ◌+◌, ◌<◌, ◌++◌, ◌∷◌, [], OnOk, IfOk, MatchOption, string_bytes, slice_get, unwrap_or};
 ghost use Rattle.std.specs.Fmt.{signed_decimal};
 ghost use Rattle.ev_base.specs.SafeScope.{primitives};
-ghost use Rattle.ev_event.specs.declared.shown.Shown.{Members};
-ghost use Rattle.ev_event.specs.Lines.{primitive_name, value};
+ghost use Rattle.def_event.specs.declared.shown.Shown.{Members};
+ghost use Rattle.def_event.specs.Lines.{primitive_name, value};
 ghost use Rattle.ev_event.specs.Pending.{separator, weight, weights, next_weight, open_weight, list_text, next_text, open_text};
 
 use crate::names::{push_name, push_numbered};
-use crate::shown::Shown;
+use def_event::shown::Shown;
 use ev_base::{PrimId, Str};
 use ev_text::{push_quoted_character, push_shortened};
 use std::alloc::{AllocError, Global};
@@ -37,6 +37,8 @@ fn safe_name(number: u8) -> &'static str
         15 => "nullOk",
         16 => "near",
         17 => "DeepFrozen",
+        18 => "Selfless",
+        19 => "Functional",
         _ => "",
     }
 }

@@ -1,12 +1,12 @@
 //! The words of a line, each behind a space.
 
 ghost use Rattle.std.specs.Prelude.{◌≡◌, ◌<◌, ◌++◌, ◌∷◌, OnOk, string_bytes, flat_map};
-ghost use Rattle.ev_text.specs.Keywords.{printed_verb};
-ghost use Rattle.ev_event.specs.Lines.{vat, numbered, message, name, value, values, part};
+ghost use Rattle.def_text.specs.Keywords.{printed_verb};
+ghost use Rattle.def_event.specs.Lines.{vat, numbered, message, name, value, values, part};
 
 use crate::names::{push_message, push_name, push_numbered, push_vat};
-use crate::shown::Shown;
 use crate::values::push_value;
+use def_event::shown::Shown;
 use ev_base::{Msg, Name, Str, VatId};
 use ev_text::push_verb;
 use std::alloc::{AllocError, Global};

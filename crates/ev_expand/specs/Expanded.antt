@@ -1,7 +1,7 @@
 -- The expansion of a surface tree.
 use Rattle.std.specs.Prelude.{◌≡◌, ℕ, List, [], Option, Some, None, Result, Ok, Err}
-use Rattle.ev_kernel.specs.declared.node.Node.{Node}
-use Rattle.ev_sugar.specs.declared.sugar.SugarNode.{SugarNode}
+use Rattle.def_kernel.specs.declared.node.Node.{Node}
+use Rattle.def_syntax.specs.declared.sugar.SugarNode.{SugarNode}
 use Rattle.ev_piece.specs.Placed.{placed, opened_placed}
 use Rattle.ev_expand.specs.declared.marks.Marks.{Marks}
 use Rattle.ev_expand.specs.declared.marks.Fault.{Fault}
@@ -9,7 +9,7 @@ use Rattle.ev_expand.specs.declared.marks.FaultKind.{FaultKind}
 use Rattle.ev_expand.specs.declared.marks.FaultKind.TheVariants.{Return, Break, Name}
 use Rattle.ev_expand.specs.declared.expansion.ExpandFault.{ExpandFault}
 use Rattle.ev_expand.specs.declared.expansion.ExpandFault.TheVariants.{MisplacedReturn, MisplacedBreak, ReservedName, Memory}
-use Rattle.ev_kernel.specs.declared.kernel.Kernel.{Kernel}
+use Rattle.def_kernel.specs.declared.kernel.Kernel.{Kernel}
 use Rattle.ev_expand.specs.Marked.{marked, marks_at, closed}
 use Rattle.ev_expand.specs.Table.{piece_at, expanded_behind, opened_table}
 

@@ -3,9 +3,9 @@ use Rattle.std.specs.Prelude.{ℕ, ◌+◌, ◌==◌, min, nat_lt, Bool, ◌||�
 use Rattle.std.specs.List.{starts_with}
 use Rattle.std.specs.Str.{bytes_eq}
 use Rattle.ev_base.specs.SafeScope.{safe_value}
-use Rattle.ev_sugar.specs.declared.form.Form.{Form}
-use Rattle.ev_sugar.specs.declared.form.Form.TheVariants as forms
-use Rattle.ev_sugar.specs.declared.sugar.SugarNode.{SugarNode}
+use Rattle.def_syntax.specs.declared.form.Form.{Form}
+use Rattle.def_syntax.specs.declared.form.Form.TheVariants as forms
+use Rattle.def_syntax.specs.declared.sugar.SugarNode.{SugarNode}
 use Rattle.ev_expand.specs.declared.marks.Marks.{Marks}
 use Rattle.ev_expand.specs.declared.marks.Fault.{Fault}
 use Rattle.ev_expand.specs.declared.marks.FaultKind.{FaultKind}

@@ -1,9 +1,9 @@
 -- The expansion of each node of a surface tree, by those of the nodes before it.
 use Rattle.std.specs.Prelude.{ℕ, Bool, true, false, if◌then◌else◌, List, [], ◌∷◌, ◌++◌, map, slice_get, codes, option_map, Option, Some, None, is_some}
-use Rattle.ev_kernel.specs.declared.node.Literal.TheVariants as literals
-use Rattle.ev_sugar.specs.declared.form.Form.{Form}
-use Rattle.ev_sugar.specs.declared.form.Form.TheVariants as forms
-use Rattle.ev_sugar.specs.declared.sugar.SugarNode.{SugarNode}
+use Rattle.def_kernel.specs.declared.node.Literal.TheVariants as literals
+use Rattle.def_syntax.specs.declared.form.Form.{Form}
+use Rattle.def_syntax.specs.declared.form.Form.TheVariants as forms
+use Rattle.def_syntax.specs.declared.sugar.SugarNode.{SugarNode}
 use Rattle.ev_piece.specs.Pieces.{Piece, lit, noun, call, def, hide, match_bind, matcher, final_pattern, variable, any, list, via}
 use Rattle.ev_expand.specs.declared.marks.Marks.{Marks}
 use Rattle.ev_expand.specs.declared.part.Part.{Part}

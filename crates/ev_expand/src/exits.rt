@@ -9,10 +9,10 @@ use crate::part::Part;
 use crate::reads::{
     breaks_in, continues_in, pair_if, pairs_at, piece_at, piece_if, pieces_at, value_at,
 };
+use def_kernel::Node;
+use def_syntax::Form;
 use ev_base::{Memory, NodeId, Seq};
 use ev_desugar::{awaited, closure, escaped, for_loop, tried, while_loop};
-use ev_kernel::Node;
-use ev_sugar::Form;
 use std::alloc::Global;
 
 /// `while`

@@ -6,10 +6,10 @@ ghost use Rattle.ev_expand.specs.Expanded.{Answers, IsRefusal, expanded, fault_o
 use crate::marks::{Fault, FaultKind, Marks, closed, marked, marks_at};
 use crate::reads::piece_at;
 use crate::table;
+use def_kernel::Kernel;
+use def_syntax::Sugar;
 use ev_base::{Memory, NodeId};
-use ev_kernel::Kernel;
 use ev_piece::placed;
-use ev_sugar::Sugar;
 use std::alloc::Global;
 use std::error::Error;
 use std::fmt;

@@ -8,11 +8,11 @@ ghost use Rattle.ev_expand.specs.Table.{piece_at, piece_if, value_at, value_if, 
 
 use crate::part::Part;
 use crate::reads::{piece_at, piece_if, value_at, value_if, values_at};
+use def_kernel::Node;
 use ev_base::{Memory, NodeId, Seq, Str};
 use ev_desugar::{
     assign, binary, body, conditional, leave, made_list, prefix, put, send, verb_behind,
 };
-use ev_kernel::Node;
 use ev_piece::{call, match_bind};
 use std::alloc::Global;
 

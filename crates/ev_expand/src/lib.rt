@@ -12,6 +12,3 @@ pub mod reads;
 pub mod table;
 
 pub use expansion::{ExpandFault, expand};
-
-#[cfg(test)]
-mod tests;

@@ -5,8 +5,8 @@ ghost use Rattle.ev_expand.specs.Marked.{bounded, both, closed, earlier, earlier
 ghost use Rattle.ev_expand.specs.declared.marks.FaultKind.TheVariants.{Name};
 
 use crate::parts::parts;
+use def_syntax::{Form, SugarNode};
 use ev_base::{Memory, NodeId, Seq, Str, safe_value};
-use ev_sugar::{Form, SugarNode};
 use std::alloc::Global;
 
 /// What is wrong with a source that spells a tree.

@@ -9,13 +9,13 @@ ghost use Rattle.ev_expand.specs.Table.{piece_at, piece_if, pieces_at, returns_i
 use crate::marks::Marks;
 use crate::part::Part;
 use crate::reads::{piece_at, piece_if, pieces_at, returns_in, value_at, value_if, values_at};
+use def_kernel::Node;
+use def_syntax::Form;
 use ev_base::{Memory, NodeId, Seq, Str};
 use ev_desugar::{
     defined_function, defined_object, defined_var, noun_guard, plain_method, to_method, verb_behind,
 };
-use ev_kernel::Node;
 use ev_piece::{any, def, final_pattern, list, matcher, variable, via};
-use ev_sugar::Form;
 use std::alloc::Global;
 
 /// A copy of a name that may be none.

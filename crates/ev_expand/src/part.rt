@@ -1,7 +1,7 @@
 //! What a surface node expands to.
 
+use def_kernel::Node;
 use ev_base::Seq;
-use ev_kernel::Node;
 
 /// The expansion of a surface node. That of a block is what it is as the block of a form; as an expression it is hidden
 /// besides.

@@ -3,8 +3,8 @@
 ghost use Rattle.std.specs.Prelude.{◌≡◌, ◌++◌, ◌∷◌, [], option_to_list, IfOk, OnOk};
 ghost use Rattle.ev_expand.specs.Marked.{catch_parts, pair_parts, parts};
 
+use def_syntax::Form;
 use ev_base::{Memory, NodeId, Seq};
-use ev_sugar::Form;
 use std::alloc::Global;
 
 fn add(found: &mut Vec<NodeId>, ids: &[NodeId]) -> Result<(), Memory>

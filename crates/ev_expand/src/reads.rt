@@ -5,11 +5,11 @@ ghost use Rattle.ev_expand.specs.Table.{breaks_in, continues_in, pair_at, pair_i
 
 use crate::marks::{Marks, inside, marks_at};
 use crate::part::Part;
+use def_kernel::Node;
+use def_syntax::Form;
 use ev_base::{Memory, NodeId, Seq};
 use ev_desugar::null;
-use ev_kernel::Node;
 use ev_piece::{copied, hide};
-use ev_sugar::Form;
 use std::alloc::Global;
 
 /// A part as the block of a form, or as a pattern, a guard or a member.

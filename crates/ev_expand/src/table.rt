@@ -1,7 +1,7 @@
 //! The expansion of each node, by those of the nodes before it.
 
 ghost use Rattle.std.specs.Prelude.{◌≡◌, [], IfOk};
-ghost use Rattle.ev_kernel.specs.declared.node.Literal.TheVariants.{Char, Int, Text};
+ghost use Rattle.def_kernel.specs.declared.node.Literal.TheVariants.{Char, Int, Text};
 ghost use Rattle.ev_piece.specs.Pieces.{lit, noun};
 ghost use Rattle.ev_desugar.specs.Words.{character, number, text};
 ghost use Rattle.ev_expand.specs.Table.{expanded_behind, form_part, form_piece, is_block};
@@ -18,11 +18,12 @@ use crate::objects::{
 };
 use crate::part::Part;
 use crate::reads::value_at;
+use def_kernel::{Literal, Node};
+use def_syntax::{Form, SugarNode};
 use ev_base::{Memory, Seq, Str};
 use ev_desugar::{character, number, text};
-use ev_kernel::{Literal, Node};
 use ev_piece::{lit, noun};
-use ev_sugar::{Form, SugarNode};
+use ev_word::Text as Shared;
 use std::alloc::Global;
 
 /// A number.
@@ -38,7 +39,7 @@ fn text_piece(alloc: Global, spelling: &str) -> Result<Seq<Node>, Memory>
     ensures { IfOk result (λ piece. piece ≡ lit (Text (text spelling.now))) }
 {
     let value = text(alloc, spelling)?;
-    let piece = lit(alloc, Literal::Text(value))?;
+    let piece = lit(alloc, Literal::Text(Shared::of(alloc, value)?))?;
     Ok(piece)
 }
 

@@ -1,5 +1,5 @@
 -- What a heap holds, and how it changes.
-use Rattle.std.specs.Prelude.{ℕ, ◌+◌, ◌<◌, ◌&&◌, max, nat_le, Bool, if◌then◌else◌, List, [], length, fold, sum_by, slice_get, Some, None, option_map, unwrap_or}
+use Rattle.std.specs.Prelude.{ℕ, ◌+◌, ◌<◌, ◌&&◌, max, nat_le, Bool, true, false, if◌then◌else◌, List, [], ◌∷◌, length, fold, sum_by, slice_get, Some, None, option_map, unwrap_or}
 use Rattle.std.specs.declared.option.Option.{Option}
 use Rattle.ev_base.specs.declared.values.Value.{Value}
 use Rattle.ev_base.specs.declared.values.Value.TheVariants as value
@@ -53,6 +53,21 @@ weight_of_all h members = sum_by (weight_of h) members + 1
 abbrev pub height_of_all : Contents → List Value → ℕ
 height_of_all h members = fold (λ height v. max height (height_of h v)) 0 members + 1
 
+abbrev pub plain_in : Option Listed → Bool
+plain_in list = unwrap_or (option_map (λ l. l.plain) list) false
+
+-- Whether it is data with no name at any depth: an object, a promise and what is far are names, and a list is plain where each member is.
+abbrev pub is_plain : Contents → Value → Bool
+is_plain h (value.List id) = plain_in (slice_get h.lists id)
+is_plain h (value.Obj id) = false
+is_plain h (value.Prom id) = false
+is_plain h (value.Far vat position) = false
+is_plain h _ = true
+
+abbrev pub are_plain : Contents → List Value → Bool
+are_plain h [] = true
+are_plain h (v ∷ vs) = is_plain h v && are_plain h vs
+
 -- the greatest weight of a list, and its greatest height
 abbrev pub most_weight : ℕ
 most_weight = 65536
@@ -65,7 +80,7 @@ abbrev pub within : ℕ → ℕ → Option ℕ
 within limit n = if nat_le n limit then Some n else None
 
 abbrev pub listed : Contents → List Value → Listed
-listed h members = record { members = members; weight = weight_of_all h members; height = height_of_all h members }
+listed h members = record { members = members; weight = weight_of_all h members; height = height_of_all h members; plain = are_plain h members }
 
 -- a list of these members is within the limits
 abbrev pub is_light : Contents → List Value → Bool

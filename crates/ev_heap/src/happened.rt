@@ -1,7 +1,8 @@
 //! What happens in a step of one vat, in its own numbers.
 
 use crate::kept::Capture;
-use ev_base::{ActId, ListId, MsgId, PromId, Seq, SlotId, Str, Value};
+use ev_base::{ActId, ListId, MsgId, PromId, Seq, SlotId, Value, VatId};
+use ev_word::Word;
 
 /// What happens in a step. A vat turns each but the last three into a line of the history.
 #[derive(Drop)]
@@ -11,14 +12,14 @@ pub enum Happened {
         activation: ActId,
         message: MsgId,
         target: Value,
-        verb: Str,
+        verb: Word,
         args: Seq<Value>,
     },
     /// A call on data, an ejector, a resolver, an audition or an object. `begun` is the activation that a call on an object begins.
     Call {
         activation: ActId,
         target: Value,
-        verb: Str,
+        verb: Word,
         args: Seq<Value>,
         begun: Option<ActId>,
     },
@@ -46,7 +47,7 @@ pub enum Happened {
     Made {
         activation: ActId,
         object: Value,
-        name: Str,
+        name: Word,
         caps: Seq<Capture>,
         stamps: Seq<Value>,
     },
@@ -54,9 +55,10 @@ pub enum Happened {
         activation: ActId,
         message: MsgId,
         target: Value,
-        verb: Str,
+        verb: Word,
         args: Seq<Value>,
-        answer: PromId,
+        /// The name of its answer, where it has one.
+        answer: Option<PromId>,
     },
     /// A reaction was asked for: `reaction` is the object as it was held, and `near` what it was followed to, which the message runs.
     When {
@@ -76,8 +78,8 @@ pub enum Happened {
     View(PromId, PromId),
     /// A message was lost on a broken reference.
     LostBroken(MsgId),
-    /// A frame was put; where it delivers a message, that message.
-    Put(Option<MsgId>),
+    /// A message was put on the link to that vat.
+    Posted(VatId, MsgId),
     /// A message arrived.
     Came(MsgId),
     /// A name of another vat, or a gift, came to be known.

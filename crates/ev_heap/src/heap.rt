@@ -1,10 +1,11 @@
 //! The heap of one vat.
 
 ghost use Rattle.std.specs.Prelude.{◌≡◌, ◌+◌, ◌<◌, ◌≤◌, ◌↔◌, ◌++◌, ◌∷◌, [], All, IfOk, IfSome, OnErr, OnOk, Some, None, MatchOption, length, option_map, slice_get, slice_set, true, false};
-ghost use Rattle.ev_heap.specs.Contents.{Contents, IsWeighable, height_of, height_of_all, is_light, listed, most_height, most_weight, nothing, weight_of, weight_of_all, within};
+ghost use Rattle.ev_heap.specs.Contents.{Contents, IsWeighable, are_plain, height_of, height_of_all, is_light, is_plain, listed, most_height, most_weight, nothing, weight_of, weight_of_all, within};
 
 use crate::kept::{Cell, GuardKind, Listed, Shape, Thing};
-use ev_base::{ActId, ListId, Memory, ObjId, Seq, SlotId, Str, TextId, Value};
+use ev_base::{ActId, ListId, Memory, ObjId, Seq, SlotId, TextId, Value};
+use ev_word::Text;
 use std::alloc::Global;
 use std::marker::Model;
 
@@ -30,7 +31,7 @@ pub struct Heap {
     things: Vec<Thing>,
     slots: Vec<Cell>,
     lists: Seq<Listed>,
-    texts: Seq<Str>,
+    texts: Seq<Text>,
     codes: Seq<Value>,
 }
 
@@ -85,8 +86,18 @@ impl Heap {
         ensures ok { OnOk result (self.new ≡ record self.old { texts = self.old.texts ++ text.now ∷ [] }) }
         ensures err { OnErr result (self.new ≡ self.old) }
     {
+        let text = Text::copy_of(self.alloc, text)?;
+        self.keep_text(text)
+    }
+
+    /// Keeps a text that others may hold too.
+    pub fn keep_text(&mut self, text: Text) -> Result<TextId, Memory>
+        ensures number { IfOk result (λ id. id ≡ length self.old.texts) }
+        ensures ok { OnOk result (self.new ≡ record self.old { texts = self.old.texts ++ text ∷ [] }) }
+        ensures err { OnErr result (self.new ≡ self.old) }
+    {
         let id = TextId(self.texts.len() as u64);
-        self.texts.push(Str::copy_of(self.alloc, text)?)?;
+        self.texts.push(text)?;
         Ok(id)
     }
 
@@ -193,7 +204,7 @@ impl Heap {
     }
 
     /// How many lists stand round its innermost part, itself one of them.
-    fn height(&self, value: Value) -> u64
+    pub fn height(&self, value: Value) -> u64
         requires { IsWeighable self.now value }
         ensures { result ≡ height_of self.now value }
     {
@@ -235,6 +246,31 @@ impl Heap {
         Some(height)
     }
 
+    /// Whether a value is data with no name at any depth. An object, a promise and what is far are names.
+    pub fn is_plain(&self, value: Value) -> bool
+        requires { IsWeighable self.now value }
+        ensures { result ≡ is_plain self.now value }
+    {
+        match value {
+            Value::List(id) => self.lists.as_slice()[id.0 as usize].plain,
+            Value::Obj(_) | Value::Prom(_) | Value::Far(_, _) => false,
+            _ => true,
+        }
+    }
+
+    /// Whether these values are all so.
+    fn are_plain(&self, members: &[Value]) -> bool
+        requires { All (IsWeighable self.now) members.now }
+        ensures { result ≡ are_plain self.now members.now }
+    {
+        for member in members {
+            if !self.is_plain(*member) {
+                return false;
+            }
+        }
+        true
+    }
+
     /// Whether a list of these members is within the limits.
     pub fn fits(&self, members: &[Value]) -> bool
         requires { All (IsWeighable self.now) members.now }
@@ -256,11 +292,13 @@ impl Heap {
         let Some(height) = self.list_height(members) else {
             return Err(ListFault::TooHeavy);
         };
+        let plain = self.are_plain(members);
         match Vec::from_slice(self.alloc, members) {
             Ok(copy) => Ok(Listed {
                 members: Seq::of(copy),
                 weight,
                 height,
+                plain,
             }),
             Err(_) => Err(ListFault::Memory),
         }

@@ -1,6 +1,7 @@
 //! What a heap keeps.
 
-use ev_base::{NodeId, ObjId, PrimId, PromId, Seq, SlotId, Str, Value};
+use ev_base::{NodeId, ObjId, PrimId, PromId, Seq, SlotId, Value};
+use ev_word::Word;
 
 /// The guard under which a name is bound: a native guard, or an object.
 #[derive(Clone, Copy, Debug, PartialEq, Eq)]
@@ -21,8 +22,36 @@ pub enum Capture {
 /// A name that an object's code uses, and what the object holds of it. Its own name is bound finally to it.
 #[derive(Drop)]
 pub struct Caught {
-    pub noun: Str,
+    pub noun: Word,
     pub capture: Capture,
+}
+
+/// What an auditor may know of how a free name of the object that it judges is bound.
+#[derive(Clone, Copy, Debug, PartialEq, Eq)]
+pub enum Bound {
+    /// It is of the safe scope.
+    Safe,
+    /// It is the object's own name.
+    Itself,
+    /// Finally, under this guard.
+    Final(GuardKind),
+    /// To a var slot.
+    Mutable,
+}
+
+/// A free name of the methods and matchers of an object, and how it is bound.
+#[derive(Drop)]
+pub struct FreeName {
+    pub noun: Word,
+    pub bound: Bound,
+}
+
+/// What an auditor may know of an object that is being made: the node of its object expression, and its free names in order
+/// of first use.
+#[derive(Drop)]
+pub struct AuditView {
+    pub node: NodeId,
+    pub names: Seq<FreeName>,
 }
 
 /// What bears a number of a vat's one count of objects.
@@ -37,8 +66,8 @@ pub enum Shape {
     Ejector,
     /// The resolver of a promise.
     Resolver(PromId),
-    /// The audition of the object expression at a node.
-    Audition(NodeId),
+    /// An audition, which answers from this view.
+    Audition(AuditView),
 }
 
 /// A shape, and whether it is alive.
@@ -55,10 +84,11 @@ pub struct Cell {
     pub value: Value,
 }
 
-/// A list: its members, its weight and its height.
+/// A list: its members, its weight and its height, and whether it holds data alone, with no name at any depth.
 #[derive(Drop)]
 pub struct Listed {
     pub members: Seq<Value>,
     pub weight: u64,
     pub height: u64,
+    pub plain: bool,
 }

@@ -8,8 +8,7 @@ pub mod micro;
 
 pub use happened::Happened;
 pub use heap::{Heap, ListFault};
-pub use kept::{Capture, Caught, Cell, GuardKind, Listed, Shape, Thing};
+pub use kept::{
+    AuditView, Bound, Capture, Caught, Cell, FreeName, GuardKind, Listed, Shape, Thing,
+};
 pub use micro::Micro;
-
-#[cfg(test)]
-mod tests;

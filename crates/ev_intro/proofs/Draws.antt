@@ -21,9 +21,9 @@ lookup-push t [] k v = refl
 lookup-push t (e ∷ es) k v = ap (λ (o : Option ℕ). cond (t e.0) (Some e.1) o) (lookup-push t es k v) ∙ first_of (t e.0) e.1 (lookup t es) (cond (t k) (Some v) None)
 
 -- what was found, among the first or as the last
-either : (o : Option ℕ) (b : Bool) (v i : ℕ) (P : Type 0) → or_else o (cond b (Some v) None) ≡ Some i → (o ≡ Some i → P) → ((b ≡ true) × (v ≡ i) → P) → P
+either : (o : Option ℕ) (b : Bool) (v i : ℕ) (P : Type 0) → or_else o (cond b (Some v) None) ≡ Some i → (o ≡ Some i → P) → ((b ≡ true) × (v ≡ i) × (o ≡ None) → P) → P
 either (Some x) b v i P e f g = f e
-either None true v i P e f g = g (refl, cc)
+either None true v i P e f g = g (refl, cc, refl)
 either None false v i P e f g = absurd cc
 
 neither : (o : Option ℕ) (b : Bool) (v : ℕ) → or_else o (cond b (Some v) None) ≡ None → (o ≡ None) × (b ≡ false)
@@ -53,6 +53,16 @@ draws_none key (suc n) w e i lt same =
     absurd (true≢false (sym again ∙ p.1)))
     (cases_lt i n)
 
+-- the draw that was found is the first with that word
+draws_first : (key : List ℕ) (n w i : ℕ) → lookup (nat_eq w) (draws key n) ≡ Some i → (k : ℕ) → k < i → word key k ≡ w → ⊥
+unfolding draws
+draws_first key zero w i e k lt same = absurd cc
+draws_first key (suc n) w i e k lt same =
+    either (lookup (nat_eq w) (draws key n)) (nat_eq w (word key n)) n i ⊥
+    (sym (lookup-push (nat_eq w) (draws key n) (word key n) n) ∙ e)
+    (λ h. draws_first key n w i h k lt same)
+    (λ h. draws_none key n w h.2 k (omega (arith, h.1)) same)
+
 pub draws_length : (key : List ℕ) (n : ℕ) → length (draws key n) ≡ n
 unfolding draws
 draws_length key zero = refl
@@ -64,10 +74,11 @@ draws_length key (suc n) = omega (arith, draws_length key n, length-append (draw
 pub number_is : (key : List ℕ) (n number : ℕ) (s : ChaCha) → s ≡ record { key = key_of key; stream = 0; word_pos = 4 * n } → number ≡ number_at s.key s.word_pos → number ≡ word key n
 number_is key n number s stands value = value ∙ ap (λ (c : ChaCha). number_at c.key c.word_pos) stands
 
-pub repeats : (key : List ℕ) (n number first : ℕ) (es : List (ℕ × ℕ)) → es ≡ draws key n → number ≡ word key n → lookup (nat_eq number) es ≡ Some first → (first < n) × (word key first ≡ word key n)
+pub repeats : (key : List ℕ) (n number first : ℕ) (es : List (ℕ × ℕ)) → es ≡ draws key n → number ≡ word key n → lookup (nat_eq number) es ≡ Some first → (first < n) × (word key first ≡ word key n) × ((k : ℕ) → k < first → word key k ≡ word key n → ⊥)
 repeats key n number first es stands is found =
-    let p = draws_found key n number first (ap (lookup (nat_eq number)) (sym stands) ∙ found) in
-    (p.0, sym p.1 ∙ is)
+    let there : lookup (nat_eq number) (draws key n) ≡ Some first = ap (lookup (nat_eq number)) (sym stands) ∙ found in
+    let p = draws_found key n number first there in
+    (p.0, sym p.1 ∙ is, λ k lt same. draws_first key n number first there k lt (same ∙ sym is))
 
 pub is_new : (key : List ℕ) (n number : ℕ) (es : List (ℕ × ℕ)) → es ≡ draws key n → number ≡ word key n → lookup (nat_eq number) es ≡ None → (i : ℕ) → i < n → word key i ≡ word key n → ⊥
 is_new key n number es stands is absent i lt same = draws_none key n number (ap (lookup (nat_eq number)) (sym stands) ∙ absent) i lt (same ∙ sym is)

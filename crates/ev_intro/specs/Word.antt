@@ -28,7 +28,7 @@ pub record Drawn : Type 0 where
 abbrev pub IsNew : Drawn → Type 0
 IsNew drawn = (i : ℕ) → i < drawn.count → word drawn.key i ≢ word drawn.key drawn.count
 
--- why the next word was not drawn
+-- Why the next word was not drawn: it is that of draw i, and of none before that.
 abbrev pub IsDrawFault : Drawn → DrawFault → Type 0
-IsDrawFault drawn (fault.WordRepeated i j) = (j ≡ drawn.count) × (i < j) × (word drawn.key i ≡ word drawn.key j)
+IsDrawFault drawn (fault.WordRepeated i j) = (j ≡ drawn.count) × (i < j) × (word drawn.key i ≡ word drawn.key j) × ((k : ℕ) → k < i → word drawn.key k ≢ word drawn.key j)
 IsDrawFault drawn fault.Memory = IsNew drawn

@@ -6,6 +6,3 @@ pub mod words;
 
 pub use gifts::GiftTable;
 pub use words::{DrawFault, Words};
-
-#[cfg(test)]
-mod tests;

@@ -91,6 +91,13 @@ impl Words {
         }
     }
 
+    /// How many words were drawn.
+    pub fn count(&self) -> u64
+        ensures { result ≡ self.now.count }
+    {
+        self.drawn.len() as u64
+    }
+
     /// Draws the next word. A refusal leaves the words as they were.
     pub fn draw(&mut self) -> Result<u128, DrawFault>
         ensures value { IfOk result (λ drawn. drawn ≡ word self.old.key self.old.count) }

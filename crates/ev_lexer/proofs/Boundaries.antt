@@ -10,9 +10,9 @@ use Rattle.std.proofs.lemmas.Str.{IsCharBoundary-after_ascii, IsCharBoundary-bef
 use Rattle.std.specs.Char.{is_ascii_digit}
 use Rattle.std.specs.List.{prefix_len}
 use Rattle.std.specs.Str.{chars, IsUtf8, IsCharBoundary, encode_utf8_all}
-use Rattle.ev_token.specs.declared.token.TokenKind.{TokenKind}
-use Rattle.ev_text.specs.Keywords.{begins_identifier, continues_identifier}
-use Rattle.ev_num.specs.Numerals.{number_of}
+use Rattle.def_syntax.specs.declared.token.TokenKind.{TokenKind}
+use Rattle.def_text.specs.Keywords.{begins_identifier, continues_identifier}
+use Rattle.ev_integer.specs.Numerals.{number_of}
 use Rattle.ev_lexer.specs.declared.pieces.Piece.{Piece}
 use Rattle.ev_lexer.specs.declared.pieces.Piece.TheVariants.{Blank, Whole, Fault}
 use Rattle.ev_lexer.specs.declared.pieces.Start.{Start}

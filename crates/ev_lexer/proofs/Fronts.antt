@@ -5,8 +5,8 @@ use Rattle.std.specs.List.{prefix_len}
 use Rattle.std.specs.Str.{chars, IsUtf8, IsCharBoundary, encode_utf8_all}
 use Rattle.std.proofs.lemmas.List.{append-nil, length-append, take_at, drop_at}
 use Rattle.std.proofs.lemmas.Str.{chars-nil, chars_past_char, IsUtf8-past_char, IsCharBoundary-at_seam, IsCharBoundary-from_rest, length-encode}
-use Rattle.ev_text.specs.Keywords.{begins_identifier, continues_identifier}
-use Rattle.ev_token.specs.declared.token.TokenKind.{TokenKind}
+use Rattle.def_text.specs.Keywords.{begins_identifier, continues_identifier}
+use Rattle.def_syntax.specs.declared.token.TokenKind.{TokenKind}
 use Rattle.ev_lexer.specs.declared.pieces.Piece.TheVariants.{Whole}
 use Rattle.ev_lexer.specs.Words.{longest_operator, word_kind}
 use Rattle.ev_lexer.specs.Pieces.{front_word, operator, word, word_or_operator}

@@ -1,7 +1,7 @@
 -- How the line ends of a list of tokens are dropped, token by token.
 use Rattle.std.proofs.Common.{◌≡◌, ◌<◌, ◌≤◌, ◌+◌, ◌++◌, ◌&&◌, ◌||◌, ℕ, Bool, true, false, List, [], ◌∷◌, length, get_or, drop, refl, sym, ◌∙◌, ap, add-one, drop-cons, append_assoc, append-nil, arith}
 use Rattle.std.proofs.lemmas.Grind.{common_steps}
-use Rattle.ev_token.specs.declared.token.Token.{Token}
+use Rattle.def_syntax.specs.declared.token.Token.{Token}
 use Rattle.ev_lexer.specs.LineEnds.{is_inside, is_line_end, joins, kept, opened}
 
 dropped : (brackets : List Bool) (joined : Bool) (t : Token) (more : List Token)

@@ -6,7 +6,7 @@ use Rattle.std.proofs.lemmas.List.{get_or-take}
 use Rattle.std.proofs.lemmas.Str.{IsCharBoundary-after_ascii}
 use Rattle.std.specs.List.{list_all, find}
 use Rattle.std.specs.Str.{IsUtf8, IsCharBoundary, bytes_eq}
-use Rattle.ev_token.specs.declared.token.TokenKind.{TokenKind}
+use Rattle.def_syntax.specs.declared.token.TokenKind.{TokenKind}
 use Rattle.ev_lexer.specs.Words.{kind_among, operators, operator_of}
 
 pub either : (b : Bool) → (b ≡ true) ⊎ (b ≡ false)

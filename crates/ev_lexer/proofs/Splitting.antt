@@ -1,8 +1,8 @@
 -- How a text falls into pieces, one by one.
 use Rattle.std.proofs.Common.{◌≡◌, ℕ, zero, suc, ◌+◌, ◌-◌, ◌<◌, ◌≤◌, List, [], ◌∷◌, ◌++◌, length, drop, Result, Ok, Err, refl, sym, ◌∙◌, ap, arith, append_assoc}
 use Rattle.std.proofs.lemmas.List.{append-nil}
-use Rattle.ev_token.specs.declared.token.Token.{Token}
-use Rattle.ev_token.specs.declared.token.TokenKind.{TokenKind}
+use Rattle.def_syntax.specs.declared.token.Token.{Token}
+use Rattle.def_syntax.specs.declared.token.TokenKind.{TokenKind}
 use Rattle.ev_lexer.specs.declared.pieces.Piece.TheVariants.{Blank, Whole, Fault}
 use Rattle.ev_lexer.specs.Pieces.{piece}
 use Rattle.ev_lexer.specs.Lexed.{split, token, with_token}

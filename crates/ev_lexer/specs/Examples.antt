@@ -2,8 +2,8 @@
 use Rattle.std.specs.Prelude.{◌≡◌, ℕ, List, [], ◌∷◌, ◌++◌, codes, Ok, Err}
 use Rattle.std.specs.Char.{encode_utf8}
 use Rattle.std.specs.Str.{chars}
-use Rattle.ev_token.specs.declared.token.Token.{Token}
-use Rattle.ev_token.specs.declared.token.TokenKind.TheVariants.{LineEnd, Number, Text, Character, Identifier, Ignore, If, Assign, AsBigAs, AtMost, Minus, Not, Arrow, Send, Through, Till, Dot, FloorDivide, Pow, MultiplyAssign, OpenParen, CloseParen, CloseBracket, OpenBrace}
+use Rattle.def_syntax.specs.declared.token.Token.{Token}
+use Rattle.def_syntax.specs.declared.token.TokenKind.TheVariants.{LineEnd, Number, Text, Character, Identifier, Ignore, If, Assign, AsBigAs, AtMost, Minus, Not, Arrow, Send, Through, Till, Dot, FloorDivide, Pow, MultiplyAssign, OpenParen, CloseParen, CloseBracket, OpenBrace}
 use Rattle.ev_lexer.specs.Pieces.{comment_end, closing, bad_escape, piece}
 use Rattle.ev_lexer.specs.LineEnds.{kept}
 use Rattle.ev_lexer.specs.Lexed.{lexed, split, token}

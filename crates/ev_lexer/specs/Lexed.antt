@@ -1,8 +1,8 @@
 -- The tokens of a text.
 use Rattle.std.specs.Prelude.{Vec, ◌≡◌, ℕ, zero, suc, ◌+◌, ◌-◌, false, List, [], ◌∷◌, Result, Ok, Err}
 use Rattle.std.specs.declared.alloc.Global.{Global}
-use Rattle.ev_token.specs.declared.token.Token.{Token}
-use Rattle.ev_token.specs.declared.token.TokenKind.{TokenKind}
+use Rattle.def_syntax.specs.declared.token.Token.{Token}
+use Rattle.def_syntax.specs.declared.token.TokenKind.{TokenKind}
 use Rattle.ev_lexer.specs.declared.lexing.LexFault.{LexFault}
 use Rattle.ev_lexer.specs.declared.lexing.LexFault.TheVariants.{At, Memory}
 use Rattle.ev_lexer.specs.declared.pieces.Piece.TheVariants.{Blank, Whole, Fault}

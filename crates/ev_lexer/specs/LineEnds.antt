@@ -1,8 +1,8 @@
 -- Which line ends are tokens.
 use Rattle.std.specs.Prelude.{Bool, true, false, ◌&&◌, ◌||◌, List, [], ◌∷◌}
-use Rattle.ev_token.specs.declared.token.Token.{Token}
-use Rattle.ev_token.specs.declared.token.TokenKind.{TokenKind}
-use Rattle.ev_token.specs.declared.token.TokenKind.TheVariants.{LineEnd, Assign, AddAssign, SubtractAssign, MultiplyAssign, FloorDivideAssign, RemainderAssign, ModAssign, PowAssign, AndAssign, OrAssign, XorAssign, LogicalAnd, LogicalOr, Same, NotSame, Matches, AsBigAs, AtMost, AtLeast, Send, Arrow, FatArrow, Till, Through, Pow, FloorDivide, Mod, Plus, Minus, Times, Remainder, Less, Greater, And, Or, Xor, Dot, Comma, OpenParen, CloseParen, OpenBracket, CloseBracket, OpenBrace, CloseBrace}
+use Rattle.def_syntax.specs.declared.token.Token.{Token}
+use Rattle.def_syntax.specs.declared.token.TokenKind.{TokenKind}
+use Rattle.def_syntax.specs.declared.token.TokenKind.TheVariants.{LineEnd, Assign, AddAssign, SubtractAssign, MultiplyAssign, FloorDivideAssign, RemainderAssign, ModAssign, PowAssign, AndAssign, OrAssign, XorAssign, LogicalAnd, LogicalOr, Same, NotSame, Matches, AsBigAs, AtMost, AtLeast, Send, Arrow, FatArrow, Till, Through, Pow, FloorDivide, Mod, Plus, Minus, Times, Remainder, Less, Greater, And, Or, Xor, Dot, Comma, OpenParen, CloseParen, OpenBracket, CloseBracket, OpenBrace, CloseBrace}
 
 abbrev pub is_line_end : TokenKind → Bool
 is_line_end LineEnd = true

@@ -3,11 +3,11 @@ use Rattle.std.specs.Prelude.{ℕ, zero, suc, ◌+◌, ◌==◌, ◌&&◌, ◌||
 use Rattle.std.specs.declared.option.Option.{Option}
 use Rattle.std.specs.List.{prefix_len}
 use Rattle.std.specs.Char.{is_ascii_digit}
-use Rattle.ev_token.specs.declared.token.TokenKind.{TokenKind}
-use Rattle.ev_token.specs.declared.token.TokenKind.TheVariants.{LineEnd, Number, Text, Character}
+use Rattle.def_syntax.specs.declared.token.TokenKind.{TokenKind}
+use Rattle.def_syntax.specs.declared.token.TokenKind.TheVariants.{LineEnd, Number, Text, Character}
 use Rattle.ev_text.specs.Unquoting.{escape}
-use Rattle.ev_text.specs.Keywords.{begins_identifier, continues_identifier}
-use Rattle.ev_num.specs.Numerals.{number_of}
+use Rattle.def_text.specs.Keywords.{begins_identifier, continues_identifier}
+use Rattle.ev_integer.specs.Numerals.{number_of}
 use Rattle.ev_lexer.specs.declared.pieces.Piece.{Piece}
 use Rattle.ev_lexer.specs.declared.pieces.Piece.TheVariants.{Blank, Whole, Fault}
 use Rattle.ev_lexer.specs.declared.pieces.Start.{Start}

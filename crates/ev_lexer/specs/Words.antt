@@ -2,8 +2,8 @@
 use Rattle.std.specs.Prelude.{ℕ, List, [], ◌∷◌, codes, bytes_eq, take, length, Some, None, option_map}
 use Rattle.std.specs.declared.option.Option.{Option}
 use Rattle.std.specs.List.{find}
-use Rattle.ev_token.specs.declared.token.TokenKind.{TokenKind}
-use Rattle.ev_token.specs.declared.token.TokenKind.TheVariants.{Identifier, Ignore, Break, Catch, Continue, Def, Else, Escape, Exit, Finally, Fn, For, If, Implements, In, Match, Method, Return, To, Try, Var, Via, When, While, Assign, AddAssign, SubtractAssign, MultiplyAssign, FloorDivideAssign, RemainderAssign, ModAssign, PowAssign, AndAssign, OrAssign, XorAssign, LogicalAnd, LogicalOr, Same, NotSame, Matches, AsBigAs, AtMost, AtLeast, Send, Arrow, FatArrow, Till, Through, Pow, FloorDivide, Mod, Plus, Minus, Times, Remainder, Less, Greater, Not, And, Or, Xor, Dot, Comma, Semicolon, Colon, OpenParen, CloseParen, OpenBracket, CloseBracket, OpenBrace, CloseBrace}
+use Rattle.def_syntax.specs.declared.token.TokenKind.{TokenKind}
+use Rattle.def_syntax.specs.declared.token.TokenKind.TheVariants.{Identifier, Ignore, Break, Catch, Continue, Def, Else, Escape, Exit, Finally, Fn, For, If, Implements, In, Match, Method, Return, To, Try, Var, Via, When, While, Assign, AddAssign, SubtractAssign, MultiplyAssign, FloorDivideAssign, RemainderAssign, ModAssign, PowAssign, AndAssign, OrAssign, XorAssign, LogicalAnd, LogicalOr, Same, NotSame, Matches, AsBigAs, AtMost, AtLeast, Send, Arrow, FatArrow, Till, Through, Pow, FloorDivide, Mod, Plus, Minus, Times, Remainder, Less, Greater, Not, And, Or, Xor, Dot, Comma, Semicolon, Colon, OpenParen, CloseParen, OpenBracket, CloseBracket, OpenBrace, CloseBrace}
 
 -- the kind of the first of these spellings that is the word
 abbrev pub kind_among : List (List ℕ × TokenKind) → List ℕ → Option TokenKind

@@ -5,8 +5,8 @@ ghost use Rattle.ev_lexer.specs.Lexed.{Answers, SplitAnswers, lexed, split};
 
 use crate::line_ends::drop_line_ends;
 use crate::pieces::{Piece, read_piece};
+use def_syntax::Token;
 use ev_base::{Memory, Seq};
-use ev_token::Token;
 use std::alloc::{AllocError, AllocFailed, Global};
 use std::error::Error;
 use std::fmt;

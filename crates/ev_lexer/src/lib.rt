@@ -1,5 +1,5 @@
-//! What tokens a text of E has: the definition, with small texts that it was tried on, and the parts of a lexer that are
-//! held to it: words, operators, and the line ends that are dropped.
+//! The lexer of E: what tokens a text has, by definition, and the code that is held to it: words, operators, and the line
+//! ends that are dropped.
 #![tactic(auto)]
 
 mod comments;
@@ -15,6 +15,3 @@ pub mod words;
 pub use lexing::{LexFault, lex};
 pub use line_ends::drop_line_ends;
 pub use words::{operator, word_kind};
-
-#[cfg(test)]
-mod tests;

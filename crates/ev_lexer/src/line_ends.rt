@@ -3,8 +3,8 @@
 ghost use Rattle.std.specs.Prelude.{◌≡◌, ◌&&◌, ◌||◌, IfOk, OnOk, reverse, false, []};
 ghost use Rattle.ev_lexer.specs.LineEnds.{is_inside, is_line_end, joins, kept, opened};
 
+use def_syntax::{Token, TokenKind};
 use ev_base::Memory;
-use ev_token::{Token, TokenKind};
 use std::alloc::Global;
 
 /// Whether the token is a line end.

@@ -7,8 +7,8 @@ ghost use Rattle.ev_lexer.specs.Pieces.{bad_escape, character_of, closing, is_on
 
 use crate::escapes::escape_length;
 use crate::pieces::Piece;
-use ev_num::read_decimal;
-use ev_token::TokenKind;
+use def_syntax::TokenKind;
+use ev_integer::read_decimal;
 
 /// A text or a character without a closing quote.
 const UNCLOSED_LITERAL: u8 = 2;

@@ -6,7 +6,7 @@ ghost use Rattle.ev_lexer.specs.Pieces.{blank_before, blank_with, line_end, piec
 use crate::comments::{line_comment, slashed};
 use crate::literals::{character, number, text};
 use crate::spellings::word_or_operator;
-use ev_token::TokenKind;
+use def_syntax::TokenKind;
 
 /// A character that begins no token.
 pub(crate) const BEGINS_NOTHING: u8 = 1;

@@ -3,14 +3,14 @@
 ghost use Rattle.std.specs.Prelude.{◌≡◌, ◌++◌, chars, encode_utf8, take};
 ghost use Rattle.std.specs.Str.{IsCharBoundary, encode_utf8_all};
 ghost use Rattle.std.specs.List.{prefix_len};
-ghost use Rattle.ev_text.specs.Keywords.{continues_identifier};
+ghost use Rattle.def_text.specs.Keywords.{continues_identifier};
 ghost use Rattle.ev_lexer.specs.Pieces.{front_word, operator, word, word_or_operator};
 ghost use Rattle.ev_lexer.specs.Words.{longest_operator, operator_of};
 
 use crate::pieces::{BEGINS_NOTHING, Piece};
 use crate::words::{operator, word_kind};
+use def_syntax::TokenKind;
 use ev_text::{begins_identifier, continues_identifier};
-use ev_token::TokenKind;
 
 /// The operator that the first bytes are, up to so many, and its length.
 fn operator_of(most: usize, text: &str) -> Option<(TokenKind, usize)>

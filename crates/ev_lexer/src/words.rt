@@ -3,7 +3,7 @@
 ghost use Rattle.std.specs.Prelude.{◌≡◌};
 ghost use Rattle.ev_lexer.specs.Words.{kind_among, operators, word_kind};
 
-use ev_token::TokenKind;
+use def_syntax::TokenKind;
 
 /// The kind of a word: that of a keyword or of a lone `_`, else an identifier.
 pub fn word_kind(word: &str) -> TokenKind

@@ -4,6 +4,3 @@
 pub mod link;
 
 pub use link::Link;
-
-#[cfg(test)]
-mod tests;

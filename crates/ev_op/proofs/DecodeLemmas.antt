@@ -3,9 +3,9 @@ use Rattle.std.proofs.Common.{◌≡◌, ℕ, ◌+◌, ◌-◌, ◌≤◌, List,
 use Rattle.std.specs.Prelude.{IfOk, IfSome}
 use Rattle.std.proofs.lemmas.List.{length-append, take_at}
 use Rattle.ev_base.specs.declared.memory.Memory.{Memory}
-use Rattle.ev_op.specs.declared.op.Op.{Op}
-use Rattle.ev_op.specs.Frames.{Operation, spelling, IsOp}
-use Rattle.ev_op.specs.Views.{operation}
+use Rattle.def_op.specs.declared.op.Op.{Op}
+use Rattle.def_op.specs.Frames.{Operation, spelling, IsOp}
+use Rattle.def_op.specs.Views.{operation}
 use Rattle.ev_op.specs.Reading.{op_at}
 use Rattle.ev_op.specs.Decoded.{decoded, found_view}
 use Rattle.ev_op.proofs.NumberLemmas.{bind_some, some_is, IsBytes}

@@ -1,9 +1,9 @@
 -- Spelling descriptions one after the other, as a loop does.
 use Rattle.std.proofs.Common.{◌≡◌, ℕ, ◌+◌, ◌<◌, List, [], ◌∷◌, ◌++◌, length, map, take, get_or, refl, sym, ap, ◌∙◌, append_assoc, arith}
 use Rattle.std.proofs.lemmas.List.{map_push, append-nil, take_more}
-use Rattle.ev_op.specs.declared.op.Desc.{Desc}
-use Rattle.ev_op.specs.Frames.{Described, Members, none, more, members, count, desc_bytes, members_bytes}
-use Rattle.ev_op.specs.Views.{described, all_described}
+use Rattle.def_op.specs.declared.op.Desc.{Desc}
+use Rattle.def_op.specs.Frames.{Described, Members, none, more, members, count, desc_bytes, members_bytes}
+use Rattle.def_op.specs.Views.{described, all_described}
 use Rattle.ev_op.proofs.Loop.{join, members-push}
 
 pub count-members : (ds : List Described) → count (members ds) ≡ length ds
@@ -33,5 +33,5 @@ one_more ds i d lt at =
     ap members_bytes f ∙ members_bytes-join (all_described front) (more (described d) none) ∙ ap (λ (bs : List ℕ). members_bytes (all_described front) ++ bs) (append-nil (desc_bytes (described d)))
 
 -- six parts put one behind the other
-pub put_six : (old a b c d e f : List ℕ) → (((((old ++ a) ++ b) ++ c) ++ d) ++ e) ++ f ≡ old ++ (a ++ (b ++ (c ++ (d ++ (e ++ f)))))
-put_six old a b c d e f = simp append_assoc
+pub put_four : (old a b c d : List ℕ) → (((old ++ a) ++ b) ++ c) ++ d ≡ old ++ (a ++ (b ++ (c ++ d)))
+put_four old a b c d = simp append_assoc

@@ -2,7 +2,7 @@
 use Rattle.std.proofs.Common.{◌≡◌, ℕ, suc, ◌-◌, ◌+◌, ◌≤◌, ◌<◌, List, [], ◌∷◌, ◌++◌, Option, Some, None, refl, sym, ap, ◌∙◌, arith}
 use Rattle.ev_op.specs.declared.fault.ReadError.{ReadError}
 use Rattle.ev_op.specs.declared.fault.ReadError.TheVariants as errors
-use Rattle.ev_op.specs.Frames.{Described, Members, none, more, members}
+use Rattle.def_op.specs.Frames.{Described, Members, none, more, members}
 use Rattle.ev_op.specs.Reading.{◌>>=◌, Fails, Read, read, members_at}
 
 -- descriptions, and others behind them

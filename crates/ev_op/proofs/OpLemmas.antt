@@ -2,12 +2,12 @@
 use Rattle.std.proofs.Common.{◌≡◌, ℕ, ◌^◌, ◌<◌, ◌≤◌, ⊎_elim, true, false, cond, ltb, nat_eq, List, [], ◌∷◌, ◌++◌, length, Some, None, refl, sym, ap, subst, ◌∙◌, append_assoc, arith}
 use Rattle.std.proofs.lemmas.Bool.{lt-ltb, ltb-true, ltb-false, le-ltb, eqb-true}
 use Rattle.std.proofs.lemmas.List.{length-append}
-use Rattle.ev_op.specs.declared.op.Plain.TheVariants as plain
+use Rattle.def_op.specs.declared.op.Plain.TheVariants as plain
 use Rattle.ev_op.specs.declared.kind.Kind.{Kind}
 use Rattle.ev_op.specs.declared.kind.Kind.TheVariants as kind
-use Rattle.ev_op.specs.Numbers.{unsigned, swiss}
-use Rattle.ev_op.specs.Frames.{Described, Members, Datum, ListOf, Broken, YourExport, YourAnswer, MyExport, MyPromise, Third, MyAnswer, count, text_bytes, plain_bytes, desc_bytes, members_bytes, Outcome, To, Elsewhere, outcome_bytes, Operation, Deliver, Resolve, Provide, Accept, Shorten, spelling, IsTarget, IsSubject, OutcomeFits, IsOp}
-use Rattle.ev_op.specs.Reading.{◌>>=◌, unsigned_at, swiss_at, vat_at, text_at, kind_at, counted_at, members_at, free_at, target_behind, target_at, subject_behind, subject_at, outcome_at, few_at, deliver_at, resolve_at, provide_at, accept_at, shorten_at, op_at}
+use Rattle.def_op.specs.Numbers.{unsigned, swiss}
+use Rattle.def_op.specs.Frames.{Described, Members, Datum, ListOf, Broken, YourExport, YourAnswer, MyExport, MyPromise, Third, MyAnswer, count, text_bytes, plain_bytes, desc_bytes, members_bytes, Outcome, To, Elsewhere, outcome_bytes, Operation, Deliver, DeliverOnly, Resolve, Provide, Accept, Shorten, spelling, IsTarget, IsSubject, OutcomeFits, IsOp}
+use Rattle.ev_op.specs.Reading.{◌>>=◌, unsigned_at, swiss_at, vat_at, text_at, kind_at, counted_at, members_at, free_at, target_behind, target_at, subject_behind, subject_at, outcome_at, few_at, deliver_at, deliver_only_at, resolve_at, provide_at, accept_at, shorten_at, op_at}
 use Rattle.ev_op.proofs.NumberLemmas.{bind_some, else_some, some_is, none_is, chosen, IsBytes, IsBytes-rest, Takes, Takes-then, Takes-cons, unsigned_takes, unsigned_again, low_first_takes, low_first_again}
 use Rattle.ev_op.proofs.LeafLemmas.{text_takes, text_again, byte_takes, code, kind_takes}
 use Rattle.ev_op.proofs.DescLemmas.{free_takes, args_take}
@@ -210,6 +210,29 @@ shorten_takes bytes x fits e =
     let p = Takes-then bytes (desc_bytes a.0.0) a.0.1 (swiss b.0.0) b.0.1 ta.0 tb.0 in
     subst (OpRead 5 bytes) (some_is (Shorten a.0.0 b.0.0, b.0.1) x b.2) (Takes-cons 5 bytes (desc_bytes a.0.0 ++ swiss b.0.0) b.0.1 p, (ta.1, tb.1))
 
+deliver_only_takes : (bytes : List ℕ) (x : Operation × List ℕ) → IsBytes bytes → deliver_only_at bytes ≡ Some x → OpRead 6 bytes x
+unfolding deliver_only_at spelling IsOp
+deliver_only_takes bytes x fits e =
+    let b = bind_some (target_at bytes) (λ target. text_at (length target.1) target.1 >>= λ verb. few_at verb.1 >>= λ count. members_at free_at count.0 0 count.1 >>= λ args. Some (DeliverOnly target.0 verb.0 args.value, args.rest)) x e in
+    let c = bind_some (text_at (length b.0.1) b.0.1) (λ verb. few_at verb.1 >>= λ count. members_at free_at count.0 0 count.1 >>= λ args. Some (DeliverOnly b.0.0 verb.0 args.value, args.rest)) x b.2 in
+    let d = bind_some (few_at c.0.1) (λ count. members_at free_at count.0 0 count.1 >>= λ args. Some (DeliverOnly b.0.0 c.0.0 args.value, args.rest)) x c.2 in
+    let f = bind_some (members_at free_at d.0.0 0 d.0.1) (λ args. Some (DeliverOnly b.0.0 c.0.0 args.value, args.rest)) x d.2 in
+    let ds = f.0.value in
+    let rest = f.0.rest in
+    let tb = target_takes bytes b.0 fits b.1 in
+    let tc = text_takes (length b.0.1) b.0.1 c.0 tb.0.fits c.1 in
+    let td = few_takes c.0.1 d.0 tc.takes.fits d.1 in
+    let tf = args_take d.0.0 0 d.0.1 f.0 td.0.fits f.1 in
+    let counted : Takes c.0.1 (unsigned (count ds)) d.0.1 = subst (λ (k : ℕ). Takes c.0.1 (unsigned k) d.0.1) (sym tf.counts) td.0 in
+    let few : count ds ≤ 255 = omega (arith, tf.counts, td.1) in
+    let p1 = Takes-then c.0.1 (unsigned (count ds)) d.0.1 (members_bytes ds) rest counted tf.takes in
+    let p2 = Takes-then b.0.1 (text_bytes c.0.0) c.0.1 (unsigned (count ds) ++ members_bytes ds) rest tc.takes p1 in
+    let p3 = Takes-then bytes (desc_bytes b.0.0) b.0.1 (text_bytes c.0.0 ++ (unsigned (count ds) ++ members_bytes ds)) rest tb.0 p2 in
+    subst (OpRead 6 bytes) (some_is (DeliverOnly b.0.0 c.0.0 ds, rest) x f.2) (
+      Takes-cons 6 bytes (desc_bytes b.0.0 ++ (text_bytes c.0.0 ++ (unsigned (count ds) ++ members_bytes ds))) rest p3,
+      (tb.1, tc.fits, few, tf.are),
+    )
+
 -- what is read is spelled so
 pub op_takes : (bytes : List ℕ) (x : Operation × List ℕ) → IsBytes bytes → op_at bytes ≡ Some x → Takes bytes (spelling x.0) x.1 × IsOp x.0
 unfolding op_at
@@ -221,12 +244,14 @@ op_takes (b ∷ rest) x fits e =
     (λ n1. ⊎_elim (λ p. at 2 p.0 (resolve_takes rest x fits' p.1))
     (λ n2. ⊎_elim (λ p. at 3 p.0 (provide_takes rest x fits' p.1))
     (λ n3. ⊎_elim (λ p. at 4 p.0 (accept_takes rest x fits' p.1))
-    (λ n4. ⊎_elim (λ p. at 5 p.0 (shorten_takes rest x fits' p.1)) (λ n5. absurd (none_is x n5.1))
-    (chosen (nat_eq b 5) (shorten_at rest) None (Some x) n4.1))
-    (chosen (nat_eq b 4) (accept_at rest) (cond (nat_eq b 5) (shorten_at rest) None) (Some x) n3.1))
-    (chosen (nat_eq b 3) (provide_at rest) (cond (nat_eq b 4) (accept_at rest) (cond (nat_eq b 5) (shorten_at rest) None)) (Some x) n2.1))
-    (chosen (nat_eq b 2) (resolve_at rest) (cond (nat_eq b 3) (provide_at rest) (cond (nat_eq b 4) (accept_at rest) (cond (nat_eq b 5) (shorten_at rest) None))) (Some x) n1.1))
-    (chosen (nat_eq b 1) (deliver_at rest) (cond (nat_eq b 2) (resolve_at rest) (cond (nat_eq b 3) (provide_at rest) (cond (nat_eq b 4) (accept_at rest) (cond (nat_eq b 5) (shorten_at rest) None)))) (Some x) e)
+    (λ n4. ⊎_elim (λ p. at 5 p.0 (shorten_takes rest x fits' p.1))
+    (λ n5. ⊎_elim (λ p. at 6 p.0 (deliver_only_takes rest x fits' p.1)) (λ n6. absurd (none_is x n6.1))
+    (chosen (nat_eq b 6) (deliver_only_at rest) None (Some x) n5.1))
+    (chosen (nat_eq b 5) (shorten_at rest) (cond (nat_eq b 6) (deliver_only_at rest) None) (Some x) n4.1))
+    (chosen (nat_eq b 4) (accept_at rest) (cond (nat_eq b 5) (shorten_at rest) (cond (nat_eq b 6) (deliver_only_at rest) None)) (Some x) n3.1))
+    (chosen (nat_eq b 3) (provide_at rest) (cond (nat_eq b 4) (accept_at rest) (cond (nat_eq b 5) (shorten_at rest) (cond (nat_eq b 6) (deliver_only_at rest) None))) (Some x) n2.1))
+    (chosen (nat_eq b 2) (resolve_at rest) (cond (nat_eq b 3) (provide_at rest) (cond (nat_eq b 4) (accept_at rest) (cond (nat_eq b 5) (shorten_at rest) (cond (nat_eq b 6) (deliver_only_at rest) None)))) (Some x) n1.1))
+    (chosen (nat_eq b 1) (deliver_at rest) (cond (nat_eq b 2) (resolve_at rest) (cond (nat_eq b 3) (provide_at rest) (cond (nat_eq b 4) (accept_at rest) (cond (nat_eq b 5) (shorten_at rest) (cond (nat_eq b 6) (deliver_only_at rest) None))))) (Some x) e)
 
 regroup_2 : (a b r : List ℕ) → (a ++ b) ++ r ≡ a ++ (b ++ r)
 regroup_2 a b r = append_assoc a b r
@@ -270,6 +295,20 @@ shorten_again subject s rest is =
     ap shorten_at (append_assoc (desc_bytes subject) (swiss s) rest)
     ∙ rw (target_again subject (swiss s ++ rest) is.0, low_first_again 16 s rest is.1) refl
 
+regroup_4 : (a b c d r : List ℕ) → (a ++ (b ++ (c ++ d))) ++ r ≡ a ++ (b ++ (c ++ (d ++ r)))
+regroup_4 a b c d r = simp append_assoc
+
+deliver_only_again : (target : Described) (verb : List ℕ) (args : Members) (rest : List ℕ) → IsOp (DeliverOnly target verb args)
+    → deliver_only_at ((desc_bytes target ++ (text_bytes verb ++ (unsigned (count args) ++ members_bytes args))) ++ rest) ≡ Some (DeliverOnly target verb args, rest)
+unfolding deliver_only_at IsOp
+deliver_only_again target verb args rest is =
+    let r1 = members_bytes args ++ rest in
+    let r2 = unsigned (count args) ++ r1 in
+    let r3 = text_bytes verb ++ r2 in
+    let within : length verb ≤ length r3 = omega (arith, length-append (text_bytes verb) r2, length-append (unsigned (length verb)) verb) in
+    ap deliver_only_at (regroup_4 (desc_bytes target) (text_bytes verb) (unsigned (count args)) (members_bytes args) rest)
+    ∙ rw (target_again target r3 is.0, text_again (length r3) verb r2 is.1 within, few_again (count args) r1 is.2, args_again args 0 rest is.3) refl
+
 -- what is spelled so is read, whatever follows it
 pub op_again : (op : Operation) (rest : List ℕ) → IsOp op → op_at (spelling op ++ rest) ≡ Some (op, rest)
 unfolding op_at spelling
@@ -278,6 +317,7 @@ op_again (Resolve subject to) rest is = resolve_again subject to rest is
 op_again (Provide target s) rest is = provide_again target s rest is
 op_again (Accept question provider s) rest is = accept_again question provider s rest is
 op_again (Shorten subject s) rest is = shorten_again subject s rest is
+op_again (DeliverOnly target verb args) rest is = deliver_only_again target verb args rest is
 
 -- no spelling begins another
 pub one_spelling_law : (a b : Operation) (x y : List ℕ) → IsOp a → IsOp b → spelling a ++ x ≡ spelling b ++ y → (a ≡ b) × (x ≡ y)

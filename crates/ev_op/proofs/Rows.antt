@@ -1,8 +1,8 @@
 -- Spellings of some operations, by computing.
 use Rattle.std.proofs.Common.{◌≡◌, ℕ, ◌^◌, ◌-◌, List, [], ◌∷◌, ◌++◌, refl}
 use Rattle.std.specs.Prelude.{codes, pos, negsuc}
-use Rattle.ev_op.specs.Numbers.{unsigned, signed, digits, low_first}
-use Rattle.ev_op.specs.Frames.{YourExport, YourAnswer, MyExport, MyPromise, MyAnswer, Third, To, Elsewhere, Deliver, Resolve, Provide, Accept, Shorten, none, more, spelling, desc_bytes, count, outcome_bytes}
+use Rattle.def_op.specs.Numbers.{unsigned, signed, digits, low_first}
+use Rattle.def_op.specs.Frames.{YourExport, YourAnswer, MyExport, MyPromise, MyAnswer, Third, To, Elsewhere, Deliver, Resolve, Provide, Accept, Shorten, none, more, spelling, desc_bytes, count, outcome_bytes}
 
 -- the bytes 76 b8 e0 ad a0 f1 3d 90 40 5d 6a e5 53 86 bd 28
 draw : ℕ

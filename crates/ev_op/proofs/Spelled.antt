@@ -1,7 +1,7 @@
 -- One step of spelling a number.
 use Rattle.std.proofs.Common.{◌≡◌, ℕ, zero, suc, ◌+◌, ◌-◌, ◌/◌, ◌%◌, ◌<◌, ◌≤◌, Bool, ◌∷◌, refl, arith}
 use Rattle.std.proofs.lemmas.Bool.{le-ltb}
-use Rattle.ev_op.specs.Numbers.{digit, digits, low_first}
+use Rattle.def_op.specs.Numbers.{digit, digits, low_first}
 
 pub digits_more : (last : ℕ) (negative : Bool) (k n : ℕ) → 0 < k → last ≤ n
     → digits last negative k n ≡ (128 + digit negative (n % 128)) ∷ digits last negative (k - 1) (n / 128)

@@ -1,8 +1,8 @@
 -- What decoding answers, and the law of spellings.
 use Rattle.std.specs.Prelude.{◌≡◌, ℕ, ◌-◌, List, ◌++◌, length, Option, Some, None}
-use Rattle.ev_op.specs.declared.op.Op.{Op}
-use Rattle.ev_op.specs.Views.{operation}
-use Rattle.ev_op.specs.Frames.{Operation, spelling, IsOp}
+use Rattle.def_op.specs.declared.op.Op.{Op}
+use Rattle.def_op.specs.Views.{operation}
+use Rattle.def_op.specs.Frames.{Operation, spelling, IsOp}
 use Rattle.ev_op.specs.Reading.{◌>>=◌, op_at}
 
 -- the operation that begins the bytes, and how many bytes it is

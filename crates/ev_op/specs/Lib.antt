@@ -1,6 +1,3 @@
-pub mod Numbers
-pub mod Frames
-pub mod Views
 pub mod Reading
 pub mod DigitsView
 pub mod Decoded

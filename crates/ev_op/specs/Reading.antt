@@ -3,13 +3,13 @@
 use Rattle.std.specs.Prelude.{◌≡◌, ℕ, zero, suc, ◌+◌, ◌-◌, ◌*◌, Bool, true, false, nat_lt, nat_le, ◌==◌, if◌then◌else◌, List, [], ◌∷◌, length, take, drop, slice_get, Option, Some, None, Result, Ok, Err, ℤ, pos, negsuc}
 use Rattle.std.specs.Str.{is_utf8}
 use lib.Utf8.{scalar}
-use Rattle.ev_op.specs.declared.op.Plain.TheVariants as plain
+use Rattle.def_op.specs.declared.op.Plain.TheVariants as plain
 use Rattle.ev_op.specs.declared.kind.Kind.{Kind}
 use Rattle.ev_op.specs.declared.kind.Kind.TheVariants as kind
 use Rattle.ev_op.specs.declared.fault.ReadError.{ReadError}
 use Rattle.ev_op.specs.declared.fault.ReadError.TheVariants as errors
-use Rattle.ev_op.specs.Numbers.{digit, is_primitive}
-use Rattle.ev_op.specs.Frames.{Described, Members, Datum, ListOf, Broken, YourExport, YourAnswer, MyExport, MyPromise, Third, MyAnswer, none, more, Outcome, To, Elsewhere, Operation, Deliver, Resolve, Provide, Accept, Shorten}
+use Rattle.def_op.specs.Numbers.{digit, is_primitive}
+use Rattle.def_op.specs.Frames.{Described, Members, Datum, ListOf, Broken, YourExport, YourAnswer, MyExport, MyPromise, Third, MyAnswer, none, more, Outcome, To, Elsewhere, Operation, Deliver, DeliverOnly, Resolve, Provide, Accept, Shorten}
 
 infixl 10 ◌>>=◌
 abbrev pub ◌>>=◌ : {A B : Type 0} → Option A → (A → Option B) → Option B
@@ -230,6 +230,14 @@ deliver_at bytes = do
   args ← members_at free_at count.0 0 count.1
   Some (Deliver question.0 target.0 verb.0 args.value, args.rest)
 
+unfoldable pub deliver_only_at : List ℕ → Option (Operation × List ℕ)
+deliver_only_at bytes = do
+  target ← target_at bytes
+  verb ← text_at (length target.1) target.1
+  count ← few_at verb.1
+  args ← members_at free_at count.0 0 count.1
+  Some (DeliverOnly target.0 verb.0 args.value, args.rest)
+
 unfoldable pub resolve_at : List ℕ → Option (Operation × List ℕ)
 resolve_at bytes = do
   subject ← subject_at bytes
@@ -264,4 +272,5 @@ op_at (b ∷ rest) =
     else if b == 3 then provide_at rest
     else if b == 4 then accept_at rest
     else if b == 5 then shorten_at rest
+    else if b == 6 then deliver_only_at rest
     else None

@@ -1,14 +1,14 @@
 //! Operations to bytes and back.
 
 ghost use Rattle.std.specs.Prelude.{◌≡◌, ◌≤◌, ◌++◌, List, ℕ, length, take, IfOk, IfSome};
-ghost use Rattle.ev_op.specs.Frames.{Operation, spelling, IsOp};
-ghost use Rattle.ev_op.specs.Views.{operation};
+ghost use Rattle.def_op.specs.Frames.{Operation, spelling, IsOp};
+ghost use Rattle.def_op.specs.Views.{operation};
 ghost use Rattle.ev_op.specs.Decoded.{decoded, found_view, HaveOneSpelling};
 
 use crate::fault::ReadError;
-use crate::op::Op;
 use crate::reading::op_of;
 use crate::writing::put_op;
+use def_op::op::Op;
 use ev_base::{Memory, Seq};
 use std::alloc::Global;
 

@@ -1,4 +1,4 @@
-//! The operations that vats send each other, and their bytes.
+//! Operations, read from bytes and written to bytes.
 #![tactic(auto)]
 
 pub mod codec;
@@ -6,13 +6,8 @@ pub mod fault;
 pub mod kind;
 pub mod limits;
 pub mod numbers;
-pub mod op;
 mod reading;
 pub mod text;
 mod writing;
 
 pub use codec::{decode, encode, one_spelling};
-pub use op::{Desc, Op, Plain, Resolved};
-
-#[cfg(test)]
-mod tests;

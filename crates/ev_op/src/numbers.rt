@@ -2,7 +2,7 @@
 
 ghost use Rattle.std.specs.Prelude.{◌≡◌, ◌<◌, ◌≤◌, ◌^◌, IfOk, IfErr};
 ghost use Rattle.ev_op.specs.declared.fault.ReadError.TheVariants.{Refused};
-ghost use Rattle.ev_op.specs.Numbers.{bound, byte_bound, digit, is_primitive};
+ghost use Rattle.def_op.specs.Numbers.{bound, byte_bound, digit, is_primitive};
 ghost use Rattle.ev_op.specs.Reading.{Gives, digits_at, last_digit, lower_digit, unsigned_at, signed_at, low_first_at, swiss_at, vat_at, primitive_at, few_at, character_at};
 ghost use Rattle.ev_op.specs.DigitsView.{digits_view};
 
@@ -150,7 +150,7 @@ pub fn primitive_of(bytes: &[u8]) -> Result<(u8, &[u8]), ReadError>
 fn is_primitive(number: u8) -> bool
     ensures { result ≡ is_primitive number }
 {
-    number < 18 || (number >= 40 && number < 47) || number == 48 || number == 49
+    number < 20 || (number >= 40 && number < 47) || number == 48 || number == 49
 }
 
 /// A count of at most 255.

@@ -1,8 +1,8 @@
 //! Descriptions and operations at the front of the bytes.
 
 ghost use Rattle.std.specs.Prelude.{◌≡◌, ◌≤◌, ◌<◌, None, length, map, string_bytes, IfOk};
-ghost use Rattle.ev_op.specs.Views.{described, all_described, outcome, operation};
-ghost use Rattle.ev_op.specs.Reading.{Gives, text_at, leaf_at, desc_at, list_at, members_at, member_at, free_at, target_at, subject_at, outcome_at, deliver_at, resolve_at, provide_at, accept_at, shorten_at, op_at};
+ghost use Rattle.def_op.specs.Views.{described, all_described, outcome, operation};
+ghost use Rattle.ev_op.specs.Reading.{Gives, text_at, leaf_at, desc_at, list_at, members_at, member_at, free_at, target_at, subject_at, outcome_at, deliver_at, deliver_only_at, resolve_at, provide_at, accept_at, shorten_at, op_at};
 
 use crate::fault::ReadError;
 use crate::kind::{Kind, is_list, kind_of};
@@ -10,8 +10,8 @@ use crate::limits::{HEIGHT, free_room};
 use crate::numbers::{
     character_of, few_of, primitive_of, signed_of, swiss_of, unsigned_of, vat_of,
 };
-use crate::op::{Desc, Op, Plain, Resolved};
 use crate::text::text_of;
+use def_op::op::{Desc, Op, Plain, Resolved};
 use ev_base::{PrimId, Seq, Str, VatId};
 use std::alloc::Global;
 
@@ -252,6 +252,22 @@ fn deliver_of(alloc: Global, bytes: &[u8]) -> Result<(Op, &[u8]), ReadError>
     Ok((op, rest))
 }
 
+#[tactic(auto, unfolding(crate::specs::Reading::deliver_only_at))]
+fn deliver_only_of(alloc: Global, bytes: &[u8]) -> Result<(Op, &[u8]), ReadError>
+    ensures { Gives (λ x. (operation x.0, x.1.now)) result (deliver_only_at bytes.now) }
+{
+    let (target, rest) = target_of(bytes)?;
+    let (verb, rest) = own_text_of(alloc, rest.len(), rest)?;
+    let (count, rest) = few_of(rest)?;
+    let (args, _, rest) = members_of(alloc, None, count, 0, rest)?;
+    let op = Op::DeliverOnly {
+        target,
+        verb: Str::of(verb),
+        args: Seq::of(args),
+    };
+    Ok((op, rest))
+}
+
 #[tactic(auto, unfolding(crate::specs::Reading::resolve_at))]
 fn resolve_of(alloc: Global, bytes: &[u8]) -> Result<(Op, &[u8]), ReadError>
     ensures { Gives (λ x. (operation x.0, x.1.now)) result (resolve_at bytes.now) }
@@ -311,6 +327,7 @@ pub(crate) fn op_of(alloc: Global, bytes: &[u8]) -> Result<(Op, &[u8]), ReadErro
         3 => provide_of(rest),
         4 => accept_of(rest),
         5 => shorten_of(rest),
+        6 => deliver_only_of(alloc, rest),
         _ => Err(ReadError::Refused),
     }
 }

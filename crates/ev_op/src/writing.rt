@@ -1,16 +1,16 @@
 //! The spelling of an operation.
 
 ghost use Rattle.std.specs.Prelude.{◌≡◌, ◌≤◌, ◌<◌, ◌^◌, ◌∷◌, ◌++◌, map, string_bytes, IfOk, OnOk};
-ghost use Rattle.ev_op.specs.Numbers.{bound, digits, unsigned, signed, swiss, low_first};
-ghost use Rattle.ev_op.specs.Frames.{ListOf, Deliver, Resolve, Accept, text_bytes, plain_bytes, desc_bytes, members_bytes, outcome_bytes, spelling};
-ghost use Rattle.ev_op.specs.Views.{described, all_described, outcome, operation};
+ghost use Rattle.def_op.specs.Numbers.{bound, digits, unsigned, signed, swiss, low_first};
+ghost use Rattle.def_op.specs.Frames.{ListOf, Deliver, DeliverOnly, Resolve, Accept, count, text_bytes, plain_bytes, desc_bytes, members_bytes, outcome_bytes, spelling};
+ghost use Rattle.def_op.specs.Views.{described, all_described, outcome, operation};
 
 use crate::numbers::digit;
-use crate::op::{Desc, Op, Plain, Resolved};
+use def_op::op::{Desc, Op, Plain, Resolved};
 use ev_base::Memory;
 
 /// The digits of a number to the base 128, the lowest first, in at most `places + 1` bytes.
-#[tactic(auto, using(crate::proofs::Spelled::digits_more), unfolding(crate::specs::Numbers::digits))]
+#[tactic(auto, using(crate::proofs::Spelled::digits_more), unfolding(def_op::specs::Numbers::digits))]
 fn put_digits(
     out: &mut Vec<u8>,
     last: u8,
@@ -48,7 +48,7 @@ fn put_signed(out: &mut Vec<u8>, number: i128) -> Result<(), Memory>
 }
 
 /// So many bytes of a number, the lowest first.
-#[tactic(auto, using(crate::proofs::Spelled::low_first_more), unfolding(crate::specs::Numbers::low_first))]
+#[tactic(auto, using(crate::proofs::Spelled::low_first_more), unfolding(def_op::specs::Numbers::low_first))]
 fn put_low_first(out: &mut Vec<u8>, places: u32, number: u128) -> Result<(), Memory>
     ensures { OnOk result (out.new.items ≡ out.old.items ++ low_first places number) }
 {
@@ -75,7 +75,7 @@ fn put_text(out: &mut Vec<u8>, text: &str) -> Result<(), Memory>
     Ok(())
 }
 
-#[tactic(auto, unfolding(crate::specs::Frames::plain_bytes))]
+#[tactic(auto, unfolding(def_op::specs::Frames::plain_bytes))]
 fn put_plain(out: &mut Vec<u8>, plain: &Plain) -> Result<(), Memory>
     ensures { OnOk result (out.new.items ≡ out.old.items ++ plain_bytes plain.now) }
 {
@@ -112,7 +112,7 @@ fn put_counted(out: &mut Vec<u8>, code: u8, number: u64) -> Result<(), Memory>
 }
 
 #[cycle(writing)]
-#[tactic(auto, unfolding(crate::specs::Frames::desc_bytes))]
+#[tactic(auto, unfolding(def_op::specs::Frames::desc_bytes))]
 fn put_desc(out: &mut Vec<u8>, desc: &Desc) -> Result<(), Memory>
     ensures { OnOk result (out.new.items ≡ out.old.items ++ desc_bytes (described desc.now)) }
 {
@@ -138,7 +138,7 @@ fn put_desc(out: &mut Vec<u8>, desc: &Desc) -> Result<(), Memory>
 }
 
 #[cycle(writing)]
-#[tactic(auto, using(crate::proofs::InOrder::count_members), unfolding(crate::specs::Frames::desc_bytes))]
+#[tactic(auto, using(crate::proofs::InOrder::count_members), unfolding(def_op::specs::Frames::desc_bytes))]
 fn put_list(out: &mut Vec<u8>, members: &[Desc]) -> Result<(), Memory>
     ensures { OnOk result (out.new.items ≡ out.old.items ++ desc_bytes (ListOf (all_described members.now))) }
 {
@@ -150,7 +150,7 @@ fn put_list(out: &mut Vec<u8>, members: &[Desc]) -> Result<(), Memory>
 
 /// Descriptions, one after the other.
 #[cycle(writing)]
-#[tactic(auto, using(crate::proofs::InOrder::one_more), unfolding(crate::specs::Frames::desc_bytes))]
+#[tactic(auto, using(crate::proofs::InOrder::one_more), unfolding(def_op::specs::Frames::desc_bytes))]
 fn put_members(out: &mut Vec<u8>, members: &[Desc]) -> Result<(), Memory>
     ensures { OnOk result (out.new.items ≡ out.old.items ++ members_bytes (all_described members.now)) }
 {
@@ -160,7 +160,7 @@ fn put_members(out: &mut Vec<u8>, members: &[Desc]) -> Result<(), Memory>
     Ok(())
 }
 
-#[tactic(auto, unfolding(crate::specs::Frames::outcome_bytes))]
+#[tactic(auto, unfolding(def_op::specs::Frames::outcome_bytes))]
 fn put_outcome(out: &mut Vec<u8>, to: &Resolved) -> Result<(), Memory>
     ensures { OnOk result (out.new.items ≡ out.old.items ++ outcome_bytes (outcome to.now)) }
 {
@@ -184,6 +184,18 @@ fn put_under(out: &mut Vec<u8>, code: u8, target: &Desc, number: u128) -> Result
     Ok(())
 }
 
+/// A message: its target, verb and arguments.
+fn put_message(out: &mut Vec<u8>, target: &Desc, verb: &str, args: &[Desc]) -> Result<(), Memory>
+    ensures { OnOk result (out.new.items ≡ out.old.items ++ (desc_bytes (described target.now) ++ (text_bytes verb.now ++ (unsigned (count (all_described args.now)) ++ members_bytes (all_described args.now))))) }
+{
+    put_desc(out, target)?;
+    put_text(out, verb)?;
+    put_unsigned(out, args.len() as u64)?;
+    put_members(out, args)?;
+    Ok(())
+}
+
+#[tactic(auto, unfolding(def_op::specs::Frames::spelling))]
 fn put_deliver(
     out: &mut Vec<u8>,
     question: u64,
@@ -195,14 +207,23 @@ fn put_deliver(
 {
     out.push(1)?;
     put_unsigned(out, question)?;
-    put_desc(out, target)?;
-    put_text(out, verb)?;
-    put_unsigned(out, args.len() as u64)?;
-    put_members(out, args)?;
-    Ok(())
+    put_message(out, target, verb, args)
 }
 
-#[tactic(auto, unfolding(crate::specs::Frames::spelling))]
+#[tactic(auto, unfolding(def_op::specs::Frames::spelling))]
+fn put_deliver_only(
+    out: &mut Vec<u8>,
+    target: &Desc,
+    verb: &str,
+    args: &[Desc],
+) -> Result<(), Memory>
+    ensures { OnOk result (out.new.items ≡ out.old.items ++ spelling (DeliverOnly (described target.now) verb.now (all_described args.now))) }
+{
+    out.push(6)?;
+    put_message(out, target, verb, args)
+}
+
+#[tactic(auto, unfolding(def_op::specs::Frames::spelling))]
 fn put_resolve(out: &mut Vec<u8>, subject: &Desc, to: &Resolved) -> Result<(), Memory>
     ensures { OnOk result (out.new.items ≡ out.old.items ++ spelling (Resolve (described subject.now) (outcome to.now))) }
 {
@@ -212,7 +233,7 @@ fn put_resolve(out: &mut Vec<u8>, subject: &Desc, to: &Resolved) -> Result<(), M
     Ok(())
 }
 
-#[tactic(auto, unfolding(crate::specs::Frames::spelling))]
+#[tactic(auto, unfolding(def_op::specs::Frames::spelling))]
 fn put_accept(out: &mut Vec<u8>, question: u64, provider: u8, number: u128) -> Result<(), Memory>
     ensures { OnOk result (out.new.items ≡ out.old.items ++ spelling (Accept question provider number)) }
 {
@@ -224,7 +245,7 @@ fn put_accept(out: &mut Vec<u8>, question: u64, provider: u8, number: u128) -> R
 }
 
 /// The spelling of an operation, at the end.
-#[tactic(auto, unfolding(crate::specs::Frames::spelling))]
+#[tactic(auto, unfolding(def_op::specs::Frames::spelling))]
 pub(crate) fn put_op(out: &mut Vec<u8>, op: &Op) -> Result<(), Memory>
     ensures { OnOk result (out.new.items ≡ out.old.items ++ spelling (operation op.now)) }
 {
@@ -243,6 +264,9 @@ pub(crate) fn put_op(out: &mut Vec<u8>, op: &Op) -> Result<(), Memory>
             swiss,
         } => put_accept(out, *question, provider.0, *swiss)?,
         Op::Shorten { subject, swiss } => put_under(out, 5, subject, *swiss)?,
+        Op::DeliverOnly { target, verb, args } => {
+            put_deliver_only(out, target, verb.as_str(), args.as_slice())?
+        }
     }
     Ok(())
 }

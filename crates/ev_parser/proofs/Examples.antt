@@ -1,16 +1,16 @@
 -- The surface nodes of one text for each line of the grammar, as the logic computes them.
 use Rattle.std.proofs.Common.{◌≡◌, ℕ, suc, List, [], ◌∷◌, ◌++◌, Some, None, refl, get_or}
-use Rattle.ev_token.specs.declared.token.Token.{Token}
-use Rattle.ev_token.specs.declared.token.TokenKind.{TokenKind}
-use Rattle.ev_token.specs.declared.token.TokenKind.TheVariants as kinds
-use Rattle.ev_grammar.specs.Grammar.{Tree, Trees, node, none, more, leaf, no_word}
-use Rattle.ev_grammar.specs.declared.syntax.Shape.TheVariants as shapes
-use Rattle.ev_grammar.specs.Heights.{Answer, tree, answer, answer_from, low_frames}
-use Rattle.ev_grammar.specs.Machine.{begin, step, step_in, pop, finish, end_frames}
+use Rattle.def_syntax.specs.declared.token.Token.{Token}
+use Rattle.def_syntax.specs.declared.token.TokenKind.{TokenKind}
+use Rattle.def_syntax.specs.declared.token.TokenKind.TheVariants as kinds
+use Rattle.def_grammar.specs.Grammar.{Tree, Trees, node, none, more, leaf, no_word}
+use Rattle.def_grammar.specs.declared.syntax.Shape.TheVariants as shapes
+use Rattle.def_grammar.specs.Heights.{Answer, tree, answer, answer_from, low_frames}
+use Rattle.def_grammar.specs.Machine.{begin, step, step_in, pop, finish, end_frames}
 use Rattle.ev_parser.specs.declared.draft.Part.{Part}
 use Rattle.ev_parser.specs.declared.draft.Part.TheVariants as piece
-use Rattle.ev_sugar.specs.declared.form.Form.{Form}
-use Rattle.ev_sugar.specs.declared.form.Form.TheVariants as forms
+use Rattle.def_syntax.specs.declared.form.Form.{Form}
+use Rattle.def_syntax.specs.declared.form.Form.TheVariants as forms
 use Rattle.ev_parser.specs.Parsed.{numbered}
 use Rattle.ev_parser.specs.Surface.{surface}
 

@@ -1,15 +1,15 @@
 -- How high each tree is that goes on from a place.
 use Rattle.std.proofs.Common.{◌≡◌, ℕ, List, [], ◌∷◌, ◌++◌, Bool, true, false, cond, Some, None, refl, ◌∙◌, ap, ◌+◌, ◌≤◌, ◌<◌, max, min, arith, nat_lt, ltb-true, ltb-false}
-use Rattle.ev_grammar.specs.declared.place.Place.{Place}
+use Rattle.def_grammar.specs.declared.place.Place.{Place}
 use Rattle.ev_parser.specs.declared.draft.Node.{Node}
 use Rattle.ev_parser.specs.declared.draft.Stand.{Stand}
 use Rattle.ev_parser.specs.declared.draft.Waiting.{Waiting}
 use Rattle.ev_parser.specs.declared.draft.Waiting.TheVariants as waits
-use Rattle.ev_grammar.specs.Machine.{Frame, within, after, State, at}
-use Rattle.ev_grammar.specs.Heights.{tallest, base, need, lift, low, low_frames, least, most_height, noted}
+use Rattle.def_grammar.specs.Machine.{Frame, within, after, State, at}
+use Rattle.def_grammar.specs.Heights.{tallest, base, need, lift, low, low_frames, least, most_height, noted}
 use Rattle.ev_parser.specs.Draft.{ShowsFrame, ShowsFrames, ShowsState, low_waiting}
 use Rattle.ev_parser.specs.Stacks.{lowered}
-use Rattle.ev_table.specs.Table.{capped}
+use Rattle.ev_parse_table.specs.Table.{capped}
 
 cap_low : (b l n t x y : ℕ) → min x 61 ≡ min y 61 → min (b + max (max t x + l) n) 61 ≡ min (b + max (max t y + l) n) 61
 cap_low b l n t x y e = omega arith

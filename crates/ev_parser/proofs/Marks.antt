@@ -1,6 +1,6 @@
 -- The parts before a mark, and the trees among some parts.
 use Rattle.std.proofs.Common.{◌≡◌, ℕ, suc, List, [], ◌∷◌, ◌++◌, Bool, true, false, cond, length, drop, take, get_or, ◌+◌, ◌<◌, ◌≤◌, refl, sym, ◌∙◌, ap, arith, drop-cons, add-one, drop_of_length-le, take-suc, append_assoc, Some, drop-drop, length-drop}
-use Rattle.ev_token.specs.declared.token.TokenKind.{TokenKind}
+use Rattle.def_syntax.specs.declared.token.TokenKind.{TokenKind}
 use Rattle.ev_parser.specs.declared.draft.Part.{Part}
 use Rattle.ev_parser.specs.declared.draft.Part.TheVariants as piece
 use Rattle.ev_parser.specs.Surface.{is_mark, mark, trees, catches, CatchAt}

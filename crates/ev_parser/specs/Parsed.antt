@@ -1,15 +1,15 @@
 -- What some tokens are read as.
 use Rattle.std.specs.Prelude.{◌≡◌, Result, Ok, Err, map, ℕ, suc, List, [], ◌∷◌}
-use Rattle.ev_token.specs.declared.token.Token.{Token}
-use Rattle.ev_grammar.specs.declared.syntax.Word.{Word}
-use Rattle.ev_grammar.specs.Grammar.{Tree}
-use Rattle.ev_grammar.specs.Heights.{tree, no_spelling, too_nested}
-use Rattle.ev_grammar.specs.Exact.{IsAnswer}
+use Rattle.def_syntax.specs.declared.token.Token.{Token}
+use Rattle.def_grammar.specs.declared.syntax.Word.{Word}
+use Rattle.def_grammar.specs.Grammar.{Tree}
+use Rattle.def_grammar.specs.Heights.{tree, no_spelling, too_nested}
+use Rattle.def_grammar.specs.Exact.{IsAnswer}
 use Rattle.ev_parser.specs.Draft.{Shows}
 use Rattle.ev_parser.specs.declared.draft.Node.{Node}
 use Rattle.ev_parser.specs.declared.parser.ParseFault.{ParseFault}
 use Rattle.ev_parser.specs.declared.parser.ParseFault.TheVariants as faults
-use Rattle.ev_sugar.specs.declared.sugar.Sugar.{Sugar}
+use Rattle.def_syntax.specs.declared.sugar.Sugar.{Sugar}
 use Rattle.ev_parser.specs.Sweet.{node_of}
 use Rattle.ev_parser.specs.declared.read.Reading.{Reading}
 use Rattle.ev_parser.specs.declared.read.Reading.TheVariants as readings

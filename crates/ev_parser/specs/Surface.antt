@@ -1,16 +1,16 @@
 -- The surface node of a node that has been read: its fields by the parts of its line.
 use Rattle.std.specs.Prelude.{◌≡◌, ℕ, suc, List, [], ◌∷◌, ◌-◌, Option, Some, None, Bool, true, false, cond, not, ◌&&◌, ◌||◌, nat_le, nat_lt, slice_get, slice_index, slice_range, length, take, drop}
-use Rattle.ev_token.specs.declared.token.Token.{Token}
-use Rattle.ev_token.specs.declared.token.TokenKind.{TokenKind}
-use Rattle.ev_token.specs.declared.token.TokenKind.TheVariants as kinds
-use Rattle.ev_grammar.specs.declared.syntax.Word.{Word}
-use Rattle.ev_grammar.specs.declared.syntax.Shape.{Shape}
-use Rattle.ev_grammar.specs.declared.syntax.Shape.TheVariants as shapes
-use Rattle.ev_grammar.specs.Kinds.{same}
+use Rattle.def_syntax.specs.declared.token.Token.{Token}
+use Rattle.def_syntax.specs.declared.token.TokenKind.{TokenKind}
+use Rattle.def_syntax.specs.declared.token.TokenKind.TheVariants as kinds
+use Rattle.def_grammar.specs.declared.syntax.Word.{Word}
+use Rattle.def_grammar.specs.declared.syntax.Shape.{Shape}
+use Rattle.def_grammar.specs.declared.syntax.Shape.TheVariants as shapes
+use Rattle.def_grammar.specs.Kinds.{same}
 use Rattle.ev_parser.specs.declared.draft.Part.{Part}
 use Rattle.ev_parser.specs.declared.draft.Part.TheVariants as piece
-use Rattle.ev_sugar.specs.declared.form.Form.{Form}
-use Rattle.ev_sugar.specs.declared.form.Form.TheVariants as forms
+use Rattle.def_syntax.specs.declared.form.Form.{Form}
+use Rattle.def_syntax.specs.declared.form.Form.TheVariants as forms
 
 -- whether a text may be cut at an index
 abbrev pub is_boundary : List ℕ → ℕ → Bool

@@ -2,18 +2,17 @@
 
 ghost use Rattle.std.specs.Prelude.{◌≡◌, IfOk, slice_get};
 ghost use Rattle.ev_parser.specs.Surface.{IsFormOf, for_form, is_part, name_if, surface, verb_if};
-ghost use Rattle.ev_token.specs.declared.token.TokenKind.TheVariants as kinds;
-ghost use Rattle.ev_grammar.specs.declared.syntax.Shape.TheVariants as shapes;
+ghost use Rattle.def_syntax.specs.declared.token.TokenKind.TheVariants as kinds;
+ghost use Rattle.def_grammar.specs.declared.syntax.Shape.TheVariants as shapes;
 
 use crate::draft::{Node, Part};
 use crate::fields::{
     before, behind, catches, caught_at, front, guard_of, is_part, last_tree, rest_of, tail,
     text_at, tree_at, tree_if, trees, word_text,
 };
+use def_grammar::{Shape, Word};
+use def_syntax::{Form, Token, TokenKind};
 use ev_base::{Memory, Str};
-use ev_grammar::{Shape, Word};
-use ev_sugar::Form;
-use ev_token::{Token, TokenKind};
 use std::alloc::Global;
 
 /// A number, a text or a character.

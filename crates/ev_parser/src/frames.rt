@@ -5,8 +5,8 @@ ghost use Rattle.ev_parser.specs.Stacks.{lowered};
 ghost use Rattle.ev_parser.specs.declared.draft.Waiting.TheVariants as waits;
 
 use crate::draft::{Stand, Waiting};
-use ev_grammar::Tail;
-use ev_table::low_at;
+use def_grammar::Tail;
+use ev_parse_table::low_at;
 use std::alloc::{AllocError, Global};
 use std::marker::Model;
 

@@ -7,7 +7,5 @@ pub mod forms;
 pub mod frames;
 pub mod parser;
 pub mod read;
-#[cfg(test)]
-mod tests;
 
 pub use parser::{ParseFault, parse};

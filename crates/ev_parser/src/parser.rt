@@ -7,9 +7,8 @@ ghost use Rattle.ev_parser.specs.Sweet.{node_of};
 use crate::draft::Node;
 use crate::forms::form_of;
 use crate::read::{Reading, read};
+use def_syntax::{Sugar, SugarNode, Token};
 use ev_base::{Memory, NodeId, Seq};
-use ev_sugar::{Sugar, SugarNode};
-use ev_token::Token;
 use std::alloc::Global;
 
 /// Why some tokens are not parsed.

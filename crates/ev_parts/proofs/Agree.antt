@@ -3,12 +3,12 @@ use Rattle.std.proofs.Common.{◌≡◌, ℕ, zero, suc, ◌-◌, Bool, true, fa
 use Rattle.std.proofs.lemmas.Bool.{eqb-true, eqb-false, ne_eqb, ltb-true, lt-ltb}
 use Rattle.ev_op.specs.declared.kind.Kind.{Kind}
 use Rattle.ev_op.specs.declared.kind.Kind.TheVariants as kind
-use Rattle.ev_op.specs.Frames.{Described, ListOf, YourExport, YourAnswer, MyPromise, MyAnswer, more, To, Elsewhere, Resolve, Provide, Accept, Shorten}
-use Rattle.ev_op.specs.Reading.{◌>>=◌, unsigned_at, signed_at, swiss_at, vat_at, primitive_at, character_at, text_at, few_at, kind_at, is_list, Read, leaf_at, first_at, members_at, list_at, no_list, desc_at, free_room, free_at, target_behind, target_at, subject_behind, subject_at, outcome_at, deliver_at, resolve_at, provide_at, accept_at, shorten_at, op_at}
+use Rattle.def_op.specs.Frames.{Described, ListOf, YourExport, YourAnswer, MyPromise, MyAnswer, more, To, Elsewhere, Resolve, Provide, Accept, Shorten}
+use Rattle.ev_op.specs.Reading.{◌>>=◌, unsigned_at, signed_at, swiss_at, vat_at, primitive_at, character_at, text_at, few_at, kind_at, is_list, Read, leaf_at, first_at, members_at, list_at, no_list, desc_at, free_room, free_at, target_behind, target_at, subject_behind, subject_at, outcome_at, deliver_at, deliver_only_at, resolve_at, provide_at, accept_at, shorten_at, op_at}
 use Rattle.ev_parts.specs.declared.spots.Part.{Part}
 use Rattle.ev_parts.specs.declared.spots.Part.TheVariants.{Code, Number, Vat, Swiss, Other}
 use Rattle.ev_parts.specs.declared.spots.Spot.{Spot}
-use Rattle.ev_parts.specs.Items.{Walk, On, Off, and_then, item, code, Left, left, walk_number, walk_leaf, may_begin, walk_members, walk_list, no_walk, walk_first, walk_desc, walk_free, is_target, is_subject, walk_named, walk_vat, walk_outcome, walk_deliver, walk_resolve, walk_provide, walk_accept, is_op, walk_op}
+use Rattle.ev_parts.specs.Items.{Walk, On, Off, and_then, item, code, Left, left, walk_number, walk_leaf, may_begin, walk_members, walk_list, no_walk, walk_first, walk_desc, walk_free, is_target, is_subject, walk_named, walk_vat, walk_outcome, walk_message, walk_deliver, walk_resolve, walk_provide, walk_accept, is_op, walk_op}
 
 -- the walk goes on with what the reading gave, seen so, or both end
 abbrev pub Agree : {A B : Type 0} → (B → A) → Walk A → Option B → Type 0
@@ -206,13 +206,21 @@ outcome_agrees total spots [] = let to : Agree behind (and_then (walk_free total
 outcome_agrees total spots (b ∷ rest) = choice (b == 15) total spots b rest
 
 deliver_agrees : (total : ℕ) (spots : List Spot) (bytes : List ℕ) → Agree behind (walk_deliver total spots bytes) (deliver_at bytes)
-unfolding walk_deliver deliver_at
+unfolding walk_message walk_deliver deliver_at
 deliver_agrees total spots bytes =
     both (λ x. x) behind _ _ _ _ (itemed Number total spots bytes (unsigned_at bytes)) (λ s question.
     both behind behind _ _ _ _ (target_agrees total s question.1) (λ t target.
     both behind behind _ _ _ _ (text_agrees total t target.1 (text_at (length target.1) target.1)) (λ u verb.
     both (λ x. x) behind _ _ _ _ (itemed Number total u verb.1 (few_at verb.1)) (λ v count.
     both left_of behind _ _ _ _ (members_agree (walk_free total) free_at (free_agrees total) count.0 0 v count.1) (λ w args. refl)))))
+
+deliver_only_agrees : (total : ℕ) (spots : List Spot) (bytes : List ℕ) → Agree behind (walk_message total spots bytes) (deliver_only_at bytes)
+unfolding walk_message deliver_only_at
+deliver_only_agrees total spots bytes =
+    both behind behind _ _ _ _ (target_agrees total spots bytes) (λ t target.
+    both behind behind _ _ _ _ (text_agrees total t target.1 (text_at (length target.1) target.1)) (λ u verb.
+    both (λ x. x) behind _ _ _ _ (itemed Number total u verb.1 (few_at verb.1)) (λ v count.
+    both left_of behind _ _ _ _ (members_agree (walk_free total) free_at (free_agrees total) count.0 0 v count.1) (λ w args. refl))))
 
 resolve_agrees : (total : ℕ) (spots : List Spot) (bytes : List ℕ) → Agree behind (walk_resolve total spots bytes) (resolve_at bytes)
 unfolding walk_resolve resolve_at
@@ -243,17 +251,17 @@ accept_agrees total spots bytes =
 abbrev Op_agrees : ℕ → List Spot → ℕ → List ℕ → Type 0
 Op_agrees total spots b rest = Agree behind (walk_op total spots (b ∷ rest)) (op_at (b ∷ rest))
 
-is_no_op : (b : ℕ) → (b ≡ 1 → ⊥) → (b ≡ 2 → ⊥) → (b ≡ 3 → ⊥) → (b ≡ 4 → ⊥) → (b ≡ 5 → ⊥) → is_op b ≡ false
-is_no_op b n1 n2 n3 n4 n5 = by (ltb 0 b) (ltb b 6) refl refl
+is_no_op : (b : ℕ) → (b ≡ 1 → ⊥) → (b ≡ 2 → ⊥) → (b ≡ 3 → ⊥) → (b ≡ 4 → ⊥) → (b ≡ 5 → ⊥) → (b ≡ 6 → ⊥) → is_op b ≡ false
+is_no_op b n1 n2 n3 n4 n5 n6 = by (ltb 0 b) (ltb b 7) refl refl
   where
-    by : (c d : Bool) → ltb 0 b ≡ c → ltb b 6 ≡ d → (c && d) ≡ false
-    by true true e f = absurd (omega (arith, ltb-true 0 b e, ltb-true b 6 f, n1, n2, n3, n4, n5))
+    by : (c d : Bool) → ltb 0 b ≡ c → ltb b 7 ≡ d → (c && d) ≡ false
+    by true true e f = absurd (omega (arith, ltb-true 0 b e, ltb-true b 7 f, n1, n2, n3, n4, n5, n6))
     by true false e f = refl
     by false d e f = refl
 
-no_op : (total : ℕ) (spots : List Spot) (b : ℕ) (rest : List ℕ) → (b ≡ 1 → ⊥) → (b ≡ 2 → ⊥) → (b ≡ 3 → ⊥) → (b ≡ 4 → ⊥) → (b ≡ 5 → ⊥) → Op_agrees total spots b rest
+no_op : (total : ℕ) (spots : List Spot) (b : ℕ) (rest : List ℕ) → (b ≡ 1 → ⊥) → (b ≡ 2 → ⊥) → (b ≡ 3 → ⊥) → (b ≡ 4 → ⊥) → (b ≡ 5 → ⊥) → (b ≡ 6 → ⊥) → Op_agrees total spots b rest
 unfolding walk_op op_at
-no_op total spots b rest n1 n2 n3 n4 n5 = rw (is_no_op b n1 n2 n3 n4 n5, ne_eqb b 1 n1, ne_eqb b 2 n2, ne_eqb b 3 n3, ne_eqb b 4 n4, ne_eqb b 5 n5) tt
+no_op total spots b rest n1 n2 n3 n4 n5 n6 = rw (is_no_op b n1 n2 n3 n4 n5 n6, ne_eqb b 1 n1, ne_eqb b 2 n2, ne_eqb b 3 n3, ne_eqb b 4 n4, ne_eqb b 5 n5, ne_eqb b 6 n6) tt
 
 op_1 : (total : ℕ) (spots : List Spot) (rest : List ℕ) → Op_agrees total spots 1 rest
 unfolding walk_op op_at
@@ -275,6 +283,10 @@ op_5 : (total : ℕ) (spots : List Spot) (rest : List ℕ) → Op_agrees total s
 unfolding walk_op op_at
 op_5 total spots rest = shorten_agrees total _ rest
 
+op_6 : (total : ℕ) (spots : List Spot) (rest : List ℕ) → Op_agrees total spots 6 rest
+unfolding walk_op op_at
+op_6 total spots rest = deliver_only_agrees total _ rest
+
 test : (b k : ℕ) → (b ≡ k) ⊎ (b ≡ k → ⊥)
 test b k = by (nat_eq b k) refl
   where
@@ -290,8 +302,9 @@ op_begins total spots b rest =
     (λ n2. ⊎_elim (at 3 (op_3 total spots rest))
     (λ n3. ⊎_elim (at 4 (op_4 total spots rest))
     (λ n4. ⊎_elim (at 5 (op_5 total spots rest))
-    (λ n5. no_op total spots b rest n1 n2 n3 n4 n5)
-    (test b 5)) (test b 4)) (test b 3)) (test b 2)) (test b 1)
+    (λ n5. ⊎_elim (at 6 (op_6 total spots rest))
+    (λ n6. no_op total spots b rest n1 n2 n3 n4 n5 n6)
+    (test b 6)) (test b 5)) (test b 4)) (test b 3)) (test b 2)) (test b 1)
 
 nothing_agrees : (total : ℕ) (spots : List Spot) → Agree behind (walk_op total spots []) (op_at [])
 unfolding walk_op op_at

@@ -7,12 +7,12 @@ use Rattle.ev_base.specs.declared.memory.Memory.{Memory}
 use Rattle.ev_op.specs.declared.kind.Kind.{Kind}
 use Rattle.ev_op.specs.declared.kind.Kind.TheVariants as kind
 use Rattle.ev_op.specs.Reading.{unsigned_at, signed_at, swiss_at, vat_at, primitive_at, character_at, few_at, byte_where, is_list, free_room}
-use Rattle.ev_op.specs.Numbers.{is_primitive}
+use Rattle.def_op.specs.Numbers.{is_primitive}
 use Rattle.ev_parts.specs.declared.spots.Part.{Part}
 use Rattle.ev_parts.specs.declared.spots.Part.TheVariants.{Code, Number, Vat, Swiss, Other}
 use Rattle.ev_parts.specs.declared.spots.Spot.{Spot}
 use Rattle.ev_parts.specs.declared.spots.Parts.{Parts}
-use Rattle.ev_parts.specs.Items.{Walk, On, Off, and_then, item, code, Left, text_len_at, walk_leaf, opening_at, walk_members, walk_list, no_walk, walk_first, walk_desc, walk_free, kind_where, is_target, is_subject, walk_named, walk_swiss, walk_vat, walk_text, walk_outcome, walk_deliver, walk_resolve, walk_provide, walk_accept, is_op, walk_op, parts_of, items_of}
+use Rattle.ev_parts.specs.Items.{Walk, On, Off, and_then, item, code, Left, text_len_at, walk_leaf, opening_at, walk_members, walk_list, no_walk, walk_first, walk_desc, walk_free, kind_where, is_target, is_subject, walk_named, walk_swiss, walk_vat, walk_text, walk_outcome, walk_message, walk_deliver, walk_resolve, walk_provide, walk_accept, is_op, walk_op, parts_of, items_of}
 use Rattle.ev_parts.specs.Whole.{AreInOrder, place_of}
 use Rattle.ev_parts.proofs.Shorter.{Under, unsigned_shorter, signed_shorter, swiss_shorter, byte_shorter, few_shorter, character_shorter, text_len_shorter, opening_shorter, named_shorter}
 
@@ -129,14 +129,17 @@ outcome_keeps total spots (b ∷ rest) h =
     (one_item Code all total spots (b ∷ rest) (Some (b, rest)) _ h (omega arith) (λ s x g. vat_keeps total s x.1 g))
     (to_keeps total spots (b ∷ rest) h)
 
-deliver_keeps : (total : ℕ) (spots : List Spot) (bytes : List ℕ) → Stands total spots bytes → Keeps all total (walk_deliver total spots bytes)
-unfolding walk_deliver
-deliver_keeps total spots bytes h =
-    one_item Number all total spots bytes (unsigned_at bytes) _ h (unsigned_shorter bytes) (λ s question g.
-    both all all total (walk_named is_target total s question.1) _ (named_keeps is_target total s question.1 g) (λ t target i.
+message_keeps : (total : ℕ) (spots : List Spot) (bytes : List ℕ) → Stands total spots bytes → Keeps all total (walk_message total spots bytes)
+unfolding walk_message
+message_keeps total spots bytes h =
+    both all all total (walk_named is_target total spots bytes) _ (named_keeps is_target total spots bytes h) (λ t target i.
     both all all total (walk_text total t target) _ (one_item (λ _. Other) all total t target (text_len_at (length target) target) _ i (text_len_shorter (length target) target) (λ u x j. j)) (λ u verb j.
     one_item Number all total u verb (few_at verb) _ j (few_shorter verb) (λ v count k.
-    both rest_of all total (walk_members (walk_free total) count.0 0 v count.1) _ (members_keep total (walk_free total) (free_keeps total) count.0 0 v count.1 k) (λ w args l. l)))))
+    both rest_of all total (walk_members (walk_free total) count.0 0 v count.1) _ (members_keep total (walk_free total) (free_keeps total) count.0 0 v count.1 k) (λ w args l. l))))
+
+deliver_keeps : (total : ℕ) (spots : List Spot) (bytes : List ℕ) → Stands total spots bytes → Keeps all total (walk_deliver total spots bytes)
+unfolding walk_deliver
+deliver_keeps total spots bytes h = one_item Number all total spots bytes (unsigned_at bytes) _ h (unsigned_shorter bytes) (λ s question g. message_keeps total s question.1 g)
 
 resolve_keeps : (total : ℕ) (spots : List Spot) (bytes : List ℕ) → Stands total spots bytes → Keeps all total (walk_resolve total spots bytes)
 unfolding walk_resolve
@@ -158,7 +161,8 @@ op_keeps total spots bytes h =
     one_item Code all total spots bytes (byte_where is_op bytes) _ h (byte_shorter is_op bytes) (λ s b g.
     either all total (nat_eq b.0 1) _ _ (deliver_keeps total s b.1 g)
     (either all total (nat_eq b.0 2) _ _ (resolve_keeps total s b.1 g)
-    (either all total (nat_eq b.0 4) _ _ (accept_keeps total s b.1 g) (provide_keeps total s b.1 g))))
+    (either all total (nat_eq b.0 4) _ _ (accept_keeps total s b.1 g)
+    (either all total (nat_eq b.0 6) _ _ (message_keeps total s b.1 g) (provide_keeps total s b.1 g)))))
 
 -- ---- the items
 

@@ -4,7 +4,7 @@ use Rattle.std.specs.Prelude.{Result, Ok, Err, IfOk}
 use Rattle.std.proofs.lemmas.Bool.{eqb-true, ne_eqb}
 use Rattle.std.proofs.lemmas.List.{append-nil, length-append}
 use Rattle.ev_base.specs.declared.memory.Memory.{Memory}
-use Rattle.ev_op.specs.Frames.{Operation, IsOp, spelling}
+use Rattle.def_op.specs.Frames.{Operation, IsOp, spelling}
 use Rattle.ev_op.specs.Reading.{op_at}
 use Rattle.ev_op.proofs.NumberLemmas.{chosen, none_is, IsBytes}
 use Rattle.ev_op.proofs.OpLemmas.{op_takes, op_again}

@@ -158,13 +158,16 @@ walk_outcome total spots (b ∷ rest) =
     if b == 15 then and_then (item Code total spots (b ∷ rest) (Some (b, rest))) (λ s x. walk_vat total s x.1)
     else and_then (walk_free total 0 spots (b ∷ rest)) (λ s x. On s x.rest)
 
-unfoldable pub walk_deliver : ℕ → List Spot → List ℕ → Walk (List ℕ)
-walk_deliver total spots bytes =
-    and_then (walk_number total spots bytes) (λ s question.
-    and_then (walk_named is_target total s question.1) (λ t target.
+-- a message: its target, verb and arguments
+unfoldable pub walk_message : ℕ → List Spot → List ℕ → Walk (List ℕ)
+walk_message total spots bytes =
+    and_then (walk_named is_target total spots bytes) (λ t target.
     and_then (walk_text total t target) (λ u verb.
     and_then (item Number total u verb (few_at verb)) (λ v count.
-    and_then (walk_members (walk_free total) count.0 0 v count.1) (λ w args. On w args.rest)))))
+    and_then (walk_members (walk_free total) count.0 0 v count.1) (λ w args. On w args.rest))))
+
+unfoldable pub walk_deliver : ℕ → List Spot → List ℕ → Walk (List ℕ)
+walk_deliver total spots bytes = and_then (walk_number total spots bytes) (λ s question. walk_message total s question.1)
 
 unfoldable pub walk_resolve : ℕ → List Spot → List ℕ → Walk (List ℕ)
 walk_resolve total spots bytes = and_then (walk_named is_subject total spots bytes) (λ s subject. walk_outcome total s subject)
@@ -179,7 +182,7 @@ walk_accept total spots bytes =
 
 -- the byte of an operation
 abbrev pub is_op : ℕ → Bool
-is_op b = nat_lt 0 b && nat_lt b 6
+is_op b = nat_lt 0 b && nat_lt b 7
 
 unfoldable pub walk_op : ℕ → List Spot → List ℕ → Walk (List ℕ)
 walk_op total spots bytes =
@@ -187,6 +190,7 @@ walk_op total spots bytes =
     if b.0 == 1 then walk_deliver total s b.1
     else if b.0 == 2 then walk_resolve total s b.1
     else if b.0 == 4 then walk_accept total s b.1
+    else if b.0 == 6 then walk_message total s b.1
     else walk_provide total s b.1)
 
 -- the items, and the place behind the operation where bytes follow it

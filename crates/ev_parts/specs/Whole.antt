@@ -1,6 +1,6 @@
 -- When bytes are an operation, and how its items lie in them.
 use Rattle.std.specs.Prelude.{◌≡◌, ℕ, ◌<◌, List, All, AllPairs, unwrap_or}
-use Rattle.ev_op.specs.Frames.{Operation, IsOp, spelling}
+use Rattle.def_op.specs.Frames.{Operation, IsOp, spelling}
 use Rattle.ev_parts.specs.declared.spots.Spot.{Spot}
 use Rattle.ev_parts.specs.declared.spots.Parts.{Parts}
 

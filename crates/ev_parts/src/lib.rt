@@ -7,6 +7,3 @@ mod walks;
 
 pub use spots::{Part, Parts, Spot};
 pub use walks::parts;
-
-#[cfg(test)]
-mod tests;

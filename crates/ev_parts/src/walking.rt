@@ -335,7 +335,7 @@ fn op_code_of(bytes: &[u8]) -> Result<(u8, &[u8]), ReadError>
     ensures { Gives (λ x. (x.0, x.1.now)) result (byte_where is_op bytes.now) }
 {
     match bytes.split_first() {
-        Some((code, rest)) if *code > 0 && *code < 6 => Ok((*code, rest)),
+        Some((code, rest)) if *code > 0 && *code < 7 => Ok((*code, rest)),
         _ => Err(ReadError::Refused),
     }
 }

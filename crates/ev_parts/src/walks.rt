@@ -1,8 +1,8 @@
 //! Descriptions and operations, item by item.
 
 ghost use Rattle.std.specs.Prelude.{◌≡◌, ◌≢◌, ◌≤◌, ◌↔◌, ◌++◌, ℕ, List, [], length, Some, None, IfOk};
-ghost use Rattle.ev_op.specs.Frames.{Operation, IsOp, spelling};
-ghost use Rattle.ev_parts.specs.Items.{Walks, walk_leaf, walk_list, walk_members, walk_desc, walk_free, walk_member, walk_named, is_target, is_subject, walk_swiss, walk_vat, walk_outcome, walk_deliver, walk_resolve, walk_provide, walk_accept, walk_op, items_of};
+ghost use Rattle.def_op.specs.Frames.{Operation, IsOp, spelling};
+ghost use Rattle.ev_parts.specs.Items.{Walks, walk_leaf, walk_list, walk_members, walk_desc, walk_free, walk_member, walk_named, is_target, is_subject, walk_swiss, walk_vat, walk_outcome, walk_message, walk_deliver, walk_resolve, walk_provide, walk_accept, walk_op, items_of};
 ghost use Rattle.ev_parts.specs.Whole.{IsWhole, AreInOrder, place_of};
 
 use crate::spots::{Part, Parts, Spot};
@@ -196,16 +196,23 @@ fn outcome<'a>(total: usize, bytes: &'a [u8], spots: &mut Vec<Spot>) -> Result<&
     Ok(rest)
 }
 
+#[tactic(auto, unfolding(crate::specs::Items::walk_message))]
+fn message<'a>(total: usize, bytes: &'a [u8], spots: &mut Vec<Spot>) -> Result<&'a [u8], WalkError>
+    ensures { Walks (λ x. x.now) result spots.new.items (walk_message total spots.old.items bytes.now) }
+{
+    let rest = target(total, bytes, spots)?;
+    let (_, rest) = walk_text(total, rest.len(), rest, spots)?;
+    let (count, rest) = walk_few(total, rest, spots)?;
+    let (_, rest) = members(total, None, count, 0, rest, spots)?;
+    Ok(rest)
+}
+
 #[tactic(auto, unfolding(crate::specs::Items::walk_deliver))]
 fn deliver<'a>(total: usize, bytes: &'a [u8], spots: &mut Vec<Spot>) -> Result<&'a [u8], WalkError>
     ensures { Walks (λ x. x.now) result spots.new.items (walk_deliver total spots.old.items bytes.now) }
 {
     let (_, rest) = walk_number(total, bytes, spots)?;
-    let rest = target(total, rest, spots)?;
-    let (_, rest) = walk_text(total, rest.len(), rest, spots)?;
-    let (count, rest) = walk_few(total, rest, spots)?;
-    let (_, rest) = members(total, None, count, 0, rest, spots)?;
-    Ok(rest)
+    message(total, rest, spots)
 }
 
 #[tactic(auto, unfolding(crate::specs::Items::walk_resolve))]
@@ -247,6 +254,7 @@ fn operation<'a>(
         1 => deliver(total, rest, spots),
         2 => resolve(total, rest, spots),
         4 => accept(total, rest, spots),
+        6 => message(total, rest, spots),
         _ => provide(total, rest, spots),
     }
 }

@@ -1,7 +1,7 @@
 -- One more piece behind others, and one more node.
 use Rattle.std.proofs.Common.{◌≡◌, ℕ, suc, ◌+◌, List, [], ◌∷◌, ◌++◌, length, refl, sym, ◌∙◌, ap, append_assoc, length-append, arith}
 use Rattle.std.proofs.lemmas.List.{append-nil}
-use Rattle.ev_kernel.specs.declared.node.Node.{Node}
+use Rattle.def_kernel.specs.declared.node.Node.{Node}
 use Rattle.ev_piece.specs.Pieces.{Piece, joined, starts}
 use Rattle.ev_piece.specs.Placed.{node_at, placed}
 

@@ -1,9 +1,9 @@
 -- Pieces of a kernel tree, put together. A piece is the list of its nodes in the order in which its form is read from left
 -- to right. A node in it names each of its parts by how many places behind the node that part begins.
 use Rattle.std.specs.Prelude.{ℕ, suc, ◌+◌, List, [], ◌∷◌, ◌++◌, length, Option, Some, None, option_map, codes}
-use Rattle.ev_kernel.specs.declared.node.Literal.{Literal}
-use Rattle.ev_kernel.specs.declared.node.Node.{Node}
-use Rattle.ev_kernel.specs.declared.node.Node.TheVariants as node
+use Rattle.def_kernel.specs.declared.node.Literal.{Literal}
+use Rattle.def_kernel.specs.declared.node.Node.{Node}
+use Rattle.def_kernel.specs.declared.node.Node.TheVariants as node
 
 abbrev pub Piece : Type 0
 Piece = List Node

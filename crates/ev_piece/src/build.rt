@@ -3,8 +3,8 @@
 ghost use Rattle.std.specs.Prelude.{◌≡◌, ◌++◌, ◌∷◌, length, IfOk};
 ghost use Rattle.ev_piece.specs.Pieces.{after, joined, optional, start_if, starts};
 
+use def_kernel::Node;
 use ev_base::{Memory, NodeId, Seq};
-use ev_kernel::Node;
 use std::alloc::Global;
 
 /// The node, and behind it its parts.

@@ -1,10 +1,11 @@
 //! Copies of pieces.
 
 ghost use Rattle.std.specs.Prelude.{◌≡◌, IfOk};
-ghost use Rattle.ev_kernel.specs.declared.node.Node.TheVariants.{Call, Method, Object};
+ghost use Rattle.def_kernel.specs.declared.node.Node.TheVariants.{Call, Method, Object};
 
-use ev_base::{Memory, NodeId, Seq, Str};
-use ev_kernel::{Literal, Node};
+use def_kernel::{Literal, Node};
+use ev_base::{Memory, NodeId, Seq};
+use ev_word::Word;
 use std::alloc::Global;
 
 fn numbers(alloc: Global, ids: &Seq<NodeId>) -> Result<Seq<NodeId>, Memory>
@@ -13,27 +14,20 @@ fn numbers(alloc: Global, ids: &Seq<NodeId>) -> Result<Seq<NodeId>, Memory>
     Ok(Seq::of(Vec::from_slice(alloc, ids.as_slice())?))
 }
 
-fn word(alloc: Global, text: &Str) -> Result<Str, Memory>
-    ensures { IfOk result (λ copy. copy ≡ text.now) }
-{
-    let copy = Str::copy_of(alloc, text.as_str())?;
-    Ok(copy)
-}
-
-fn literal(alloc: Global, value: &Literal) -> Result<Literal, Memory>
+fn literal(value: &Literal) -> Result<Literal, Memory>
     ensures { IfOk result (λ copy. copy ≡ value.now) }
 {
     match value {
         Literal::Int(number) => Ok(Literal::Int(*number)),
         Literal::Char(c) => Ok(Literal::Char(*c)),
-        Literal::Text(text) => Ok(Literal::Text(word(alloc, text)?)),
+        Literal::Text(text) => Ok(Literal::Text(text.share()?)),
     }
 }
 
-fn call(alloc: Global, receiver: NodeId, verb: &Str, args: &Seq<NodeId>) -> Result<Node, Memory>
+fn call(alloc: Global, receiver: NodeId, verb: &Word, args: &Seq<NodeId>) -> Result<Node, Memory>
     ensures { IfOk result (λ copy. copy ≡ Call receiver verb.now args.now) }
 {
-    let verb = word(alloc, verb)?;
+    let verb = verb.share()?;
     let args = numbers(alloc, args)?;
     Ok(Node::Call {
         receiver,
@@ -59,10 +53,10 @@ fn object(
     })
 }
 
-fn method(alloc: Global, verb: &Str, patterns: &Seq<NodeId>, body: NodeId) -> Result<Node, Memory>
+fn method(alloc: Global, verb: &Word, patterns: &Seq<NodeId>, body: NodeId) -> Result<Node, Memory>
     ensures { IfOk result (λ copy. copy ≡ Method verb.now patterns.now body) }
 {
-    let verb = word(alloc, verb)?;
+    let verb = verb.share()?;
     let patterns = numbers(alloc, patterns)?;
     Ok(Node::Method {
         verb,
@@ -76,9 +70,9 @@ fn node(alloc: Global, node: &Node) -> Result<Node, Memory>
     ensures { IfOk result (λ copy. copy ≡ node.now) }
 {
     match node {
-        Node::Lit(value) => Ok(Node::Lit(literal(alloc, value)?)),
-        Node::Noun(name) => Ok(Node::Noun(word(alloc, name)?)),
-        Node::Set(name, value) => Ok(Node::Set(word(alloc, name)?, *value)),
+        Node::Lit(value) => Ok(Node::Lit(literal(value)?)),
+        Node::Noun(name) => Ok(Node::Noun(name.share()?)),
+        Node::Set(name, value) => Ok(Node::Set(name.share()?, *value)),
         Node::Def {
             pattern,
             exit,
@@ -130,8 +124,8 @@ fn node(alloc: Global, node: &Node) -> Result<Node, Memory>
             pattern: *pattern,
             body: *body,
         }),
-        Node::Final(name, guard) => Ok(Node::Final(word(alloc, name)?, *guard)),
-        Node::Var(name, guard) => Ok(Node::Var(word(alloc, name)?, *guard)),
+        Node::Final(name, guard) => Ok(Node::Final(name.share()?, *guard)),
+        Node::Var(name, guard) => Ok(Node::Var(name.share()?, *guard)),
         Node::Any(guard) => Ok(Node::Any(*guard)),
         Node::ListPattern(patterns) => Ok(Node::ListPattern(numbers(alloc, patterns)?)),
         Node::Via(value, pattern) => Ok(Node::Via(*value, *pattern)),

@@ -4,8 +4,9 @@ ghost use Rattle.std.specs.Prelude.{◌≡◌, IfOk};
 ghost use Rattle.ev_piece.specs.Pieces.{call, def, escape, escape_catch, finally, hide, if_, lit, match_bind, noun, seq, set, try_catch};
 
 use crate::build::{add, add_all, add_if, headed};
+use def_kernel::{Literal, Node};
 use ev_base::{Memory, Seq, Str};
-use ev_kernel::{Literal, Node};
+use ev_word::Word;
 use std::alloc::Global;
 
 /// `(lit L)`
@@ -23,7 +24,7 @@ pub fn noun(alloc: Global, name: Str) -> Result<Seq<Node>, Memory>
     ensures { IfOk result (λ piece. piece ≡ noun name) }
 {
     let parts = Vec::new(alloc);
-    headed(Node::Noun(name), parts)
+    headed(Node::Noun(Word::of(alloc, name)?), parts)
 }
 
 /// `(set x E)`
@@ -33,7 +34,7 @@ pub fn set(alloc: Global, name: Str, value: Seq<Node>) -> Result<Seq<Node>, Memo
 {
     let mut parts = Vec::new(alloc);
     let value = add(&mut parts, value)?;
-    headed(Node::Set(name, value), parts)
+    headed(Node::Set(Word::of(alloc, name)?, value), parts)
 }
 
 /// `(def P E)`, and with an ejector `(def P exit J E)`
@@ -71,6 +72,7 @@ pub fn call(
     let mut parts = Vec::new(alloc);
     let receiver = add(&mut parts, receiver)?;
     let args = add_all(alloc, &mut parts, args)?;
+    let verb = Word::of(alloc, verb)?;
     let node = Node::Call {
         receiver,
         verb,

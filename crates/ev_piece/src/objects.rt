@@ -4,8 +4,9 @@ ghost use Rattle.std.specs.Prelude.{◌≡◌, IfOk};
 ghost use Rattle.ev_piece.specs.Pieces.{any, final_pattern, list, matcher, method, object, variable, via};
 
 use crate::build::{add, add_all, add_if, headed};
+use def_kernel::Node;
 use ev_base::{Memory, Seq, Str};
-use ev_kernel::Node;
+use ev_word::Word;
 use std::alloc::Global;
 
 /// `(object P (E ..) M ..)`
@@ -43,6 +44,7 @@ pub fn method(
     let mut parts = Vec::new(alloc);
     let patterns = add_all(alloc, &mut parts, patterns)?;
     let body = add(&mut parts, body)?;
+    let verb = Word::of(alloc, verb)?;
     let node = Node::Method {
         verb,
         patterns,
@@ -73,7 +75,7 @@ pub fn final_pattern(
 {
     let mut parts = Vec::new(alloc);
     let guard = add_if(&mut parts, guard)?;
-    headed(Node::Final(name, guard), parts)
+    headed(Node::Final(Word::of(alloc, name)?, guard), parts)
 }
 
 /// `(var x G)`
@@ -83,7 +85,7 @@ pub fn variable(alloc: Global, name: Str, guard: Option<Seq<Node>>) -> Result<Se
 {
     let mut parts = Vec::new(alloc);
     let guard = add_if(&mut parts, guard)?;
-    headed(Node::Var(name, guard), parts)
+    headed(Node::Var(Word::of(alloc, name)?, guard), parts)
 }
 
 /// `(any G)`

@@ -3,8 +3,8 @@
 ghost use Rattle.std.specs.Prelude.{◌≡◌, ◌+◌, map, option_map, IfOk};
 ghost use Rattle.ev_piece.specs.Placed.{node_at, placed};
 
+use def_kernel::Node;
 use ev_base::{Memory, NodeId, Seq};
-use ev_kernel::Node;
 use std::alloc::Global;
 
 /// The number of a part of the node at this number.

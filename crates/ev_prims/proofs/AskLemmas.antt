@@ -2,8 +2,8 @@
 use Rattle.std.proofs.Common.{◌≡◌, ◌≢◌, List, [], ◌∷◌, refl, ap, sym, ◌∙◌}
 use Rattle.ev_base.specs.declared.values.Value.{Value as Held}
 use Rattle.ev_heap.specs.Contents.{Contents}
-use Rattle.ev_machine.specs.Values.{Words}
-use Rattle.ev_machine.specs.Native as native
+use Rattle.def_machine.specs.Values.{Words}
+use Rattle.def_machine.specs.Native as native
 use Rattle.ev_prims.specs.Asking.{asked_in, list_asked}
 use Rattle.ev_prims.specs.Forms.{args_of}
 use Rattle.ev_prims.specs.Primitives.{primitive_in}
@@ -11,7 +11,7 @@ use Rattle.ev_prims.specs.Reading.{values_in}
 use Rattle.ev_prims.specs.declared.asking.Asked.{Asked}
 use Rattle.ev_prims.specs.declared.forms.Args.TheVariants.{More}
 use Rattle.ev_prims.specs.declared.primitives.Primitive.{Primitive}
-use Rattle.ev_prims.specs.declared.primitives.Primitive.TheVariants.{MakeList, Equalizer, Comparer, Looper, Sender, References, Thrower, StampReader, Guarding, NoPrimitive}
+use Rattle.ev_prims.specs.declared.primitives.Primitive.TheVariants.{MakeList, Equalizer, Comparer, Looper, Sender, References, Thrower, StampReader, Guarding, Judging, NoPrimitive}
 
 pub more_of_list : (h : Contents) (verb : Words) (xs : List Held) → args_of xs ≡ More → native.asked native.MakeList verb (values_in h xs) ≡ list_asked verb (values_in h xs)
 unfolding native.asked native.list_ask args_of
@@ -32,6 +32,7 @@ others h verb References a b c d xs n = refl
 others h verb Thrower a b c d xs n = refl
 others h verb StampReader a b c d xs n = refl
 others h verb (Guarding g) a b c d xs n = refl
+others h verb (Judging r) a b c d xs n = refl
 others h verb NoPrimitive a b c d xs n = refl
 
 pub more_of_other : (h : Contents) (verb : Words) (p : Primitive) (xs : List Held) → p ≢ MakeList → args_of xs ≡ More → native.asked (primitive_in p) verb (values_in h xs) ≡ native.NoMethod

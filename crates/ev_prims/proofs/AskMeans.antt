@@ -3,9 +3,9 @@ use Rattle.std.proofs.Common.{◌≡◌, ℕ, Bool, true, false, List, [], ◌�
 use Rattle.std.specs.Prelude.{codes, if◌then◌else◌}
 use Rattle.std.specs.Str.{bytes_eq}
 use Rattle.ev_base.specs.declared.values.Value.{Value as Held}
-use Rattle.ev_machine.specs.Free.{entry}
-use Rattle.ev_machine.specs.Native as native
-use Rattle.ev_machine.specs.Values.{Words, Value, Local}
+use Rattle.def_machine.specs.Free.{entry}
+use Rattle.def_machine.specs.Native as native
+use Rattle.def_machine.specs.Values.{Words, Value, Local}
 use Rattle.ev_prims.specs.Asking.{asked_with}
 use Rattle.ev_prims.specs.Asks.{where_named, ranges, list_two, compares, numbered, primitive_at, asks_none, asks_one, asks_two, asks_three, asks_more, asked_by, asked_of}
 use Rattle.ev_prims.specs.Forms.{args_of}

@@ -5,8 +5,8 @@ use Rattle.ev_base.specs.declared.values.Value.{Value as Held}
 use Rattle.ev_base.specs.declared.values.Value.TheVariants as held
 use Rattle.ev_heap.specs.Contents.{Contents}
 use Rattle.ev_heap.specs.declared.kept.Listed.{Listed}
-use Rattle.ev_machine.specs.Values.{Words, Value, Local}
-use Rattle.ev_machine.specs.Native.{data_reply, text_reply, list_reply}
+use Rattle.def_machine.specs.Values.{Words, Value, Local}
+use Rattle.def_machine.specs.Native.{data_reply, text_reply, list_reply}
 use Rattle.ev_prims.specs.Reading.{value_in, values_in, lists_in}
 use Rattle.ev_prims.proofs.SeqLemmas.{list_is}
 

@@ -5,12 +5,12 @@ use Rattle.std.specs.Prelude.{if◌then◌else◌, codes, chars, not, option_map
 use Rattle.std.specs.Str.{bytes_eq}
 use Rattle.ev_base.specs.declared.values.Value.{Value}
 use Rattle.ev_base.specs.declared.values.Value.TheVariants as held
-use Rattle.ev_machine.specs.Values.{Words}
-use Rattle.ev_machine.specs.Native as native
-use Rattle.ev_num.specs.Ints.{apply}
-use Rattle.ev_num.specs.declared.arithmetic.IntOp.{IntOp}
-use Rattle.ev_num.specs.declared.arithmetic.IntOp.TheVariants.{Subtract}
-use Rattle.ev_num.specs.declared.arithmetic.NumFault.{NumFault}
+use Rattle.def_machine.specs.Values.{Words}
+use Rattle.def_machine.specs.Native as native
+use Rattle.ev_integer.specs.Ints.{apply}
+use Rattle.ev_integer.specs.declared.arithmetic.IntOp.{IntOp}
+use Rattle.ev_integer.specs.declared.arithmetic.IntOp.TheVariants.{Subtract}
+use Rattle.ev_integer.specs.declared.arithmetic.NumFault.{NumFault}
 use Rattle.ev_prims.specs.Answers.{number_answer, char_answer, int_alone, int_joined, int_answer, joined, flag_joined, flag_answer, letter_answer, size_answer, member_answer, place_answer, got, letter_at, got_letter, letters_between, text_ran, text_and, text_with, text_formed, text_answer, members_between, list_ran, list_and, list_with, list_formed, list_answer, data_answer}
 use Rattle.ev_prims.specs.Forms.{form_of}
 use Rattle.ev_prims.specs.Verbs.{picked, code_of, alone_named, operation_named, joining_named, text_verb_named, list_verb_named}

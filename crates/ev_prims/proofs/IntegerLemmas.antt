@@ -3,15 +3,15 @@ use Rattle.std.proofs.Common.{◌≡◌, ℕ, ◌<◌, ℤ, pos, negsuc, Bool, t
 use Rattle.std.specs.Prelude.{codes, neg_ℤ, ◌-ℤ◌}
 use Rattle.std.specs.Char.{IsScalar}
 use Rattle.std.proofs.lemmas.Bool.Decides.{nat_tests}
-use Rattle.ev_machine.specs.Native.{Reply, Says, Fails, Applies, Negates, is_code, as_char, int_alone, int_with, int_unary, int_binary, by_int, no_method}
+use Rattle.def_machine.specs.Native.{Reply, Says, Fails, Applies, Negates, is_code, as_char, int_alone, int_with, int_unary, int_binary, by_int, no_method}
 use Rattle.std.proofs.Math.IntN.{+ℤ_idl}
-use Rattle.ev_machine.specs.Values.{Words, Value, Letter, Number, Local}
-use Rattle.ev_machine.specs.Ints as machine
-use Rattle.ev_num.specs.Ints as num
-use Rattle.ev_num.specs.declared.arithmetic.IntOp.{IntOp}
-use Rattle.ev_num.specs.declared.arithmetic.IntOp.TheVariants.{Subtract}
-use Rattle.ev_int_laws.specs.Same.{op_of, told}
-use Rattle.ev_int_laws.proofs.Sames.{same}
+use Rattle.def_machine.specs.Values.{Words, Value, Letter, Number, Local}
+use Rattle.def_machine.specs.Ints as machine
+use Rattle.ev_integer.specs.Ints as num
+use Rattle.ev_integer.specs.declared.arithmetic.IntOp.{IntOp}
+use Rattle.ev_integer.specs.declared.arithmetic.IntOp.TheVariants.{Subtract}
+use Rattle.law_integer.specs.Same.{op_of, told}
+use Rattle.law_integer.proofs.Sames.{same}
 use Rattle.ev_prims.specs.Verbs.{code_of, alone_named, operation_named}
 use Rattle.ev_prims.specs.declared.integers.AloneVerb.TheVariants.{Negate, ToChar}
 use Rattle.ev_prims.proofs.VerbLemmas.{int_negate, int_char, int_unary_none, int_binary_some, int_binary_none}

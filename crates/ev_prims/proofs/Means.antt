@@ -9,16 +9,16 @@ use Rattle.ev_base.specs.declared.values.Value.TheVariants as held
 use Rattle.ev_base.specs.declared.memory.Memory.{Memory}
 use Rattle.ev_heap.specs.Contents.{Contents}
 use Rattle.ev_heap.specs.declared.kept.Listed.{Listed}
-use Rattle.ev_int_laws.specs.Same.{op_of, told}
-use Rattle.ev_int_laws.proofs.Sames as arithmetic
-use Rattle.ev_machine.specs.Free.{entry}
-use Rattle.ev_machine.specs.Ints as ints
-use Rattle.ev_machine.specs.Values.{Words, Value, Letter, Number, Items, Local}
-use Rattle.ev_machine.specs.Native as native
-use Rattle.ev_num.specs.Ints.{apply}
-use Rattle.ev_num.specs.declared.arithmetic.IntOp.{IntOp}
-use Rattle.ev_num.specs.declared.arithmetic.IntOp.TheVariants.{Subtract}
-use Rattle.ev_num.specs.declared.arithmetic.NumFault.{NumFault}
+use Rattle.law_integer.specs.Same.{op_of, told}
+use Rattle.law_integer.proofs.Sames as arithmetic
+use Rattle.def_machine.specs.Free.{entry}
+use Rattle.def_machine.specs.Ints as ints
+use Rattle.def_machine.specs.Values.{Words, Value, Letter, Number, Items, Local}
+use Rattle.def_machine.specs.Native as native
+use Rattle.ev_integer.specs.Ints.{apply}
+use Rattle.ev_integer.specs.declared.arithmetic.IntOp.{IntOp}
+use Rattle.ev_integer.specs.declared.arithmetic.IntOp.TheVariants.{Subtract}
+use Rattle.ev_integer.specs.declared.arithmetic.NumFault.{NumFault}
 use Rattle.ev_prims.specs.Answers.{number_answer, char_answer, int_alone, int_joined, int_answer, joined, flag_joined, flag_answer, letter_answer, size_answer, member_answer, place_answer, got, letter_at, got_letter, letters_between, text_ran, text_and, text_with, text_formed, text_answer, members_between, list_ran, list_and, list_with, list_formed, list_answer, members_at, data_answer}
 use Rattle.ev_prims.specs.Forms.{form_of}
 use Rattle.ev_prims.specs.Reading.{value_by, values_by, reply_by, text_in, lists_in}

@@ -6,8 +6,8 @@ use Rattle.std.specs.Cmp.Lexicographic.{slice_cmp}
 use Rattle.std.specs.declared.cmp.Ordering.{Ordering}
 use Rattle.std.specs.declared.cmp.Ordering.TheVariants.{Less, Equal, Greater}
 use Rattle.std.proofs.lemmas.Bool.Decides.{nat_tests}
-use Rattle.ev_machine.specs.Values.{Words, Flag, Local}
-use Rattle.ev_machine.specs.Native as native
+use Rattle.def_machine.specs.Values.{Words, Flag, Local}
+use Rattle.def_machine.specs.Native as native
 use Rattle.ev_base.specs.declared.values.Value.TheVariants as held
 use Rattle.ev_prims.specs.Orders.{order_in, test_in, compared_by}
 use Rattle.ev_prims.specs.declared.order.Test.{Test}

@@ -4,15 +4,15 @@ use Rattle.std.specs.Prelude.{codes, if◌then◌else◌, unwrap_or}
 use Rattle.std.specs.declared.option.Option.{Option}
 use Rattle.std.proofs.lemmas.Option.{slice_get_past}
 use Rattle.std.proofs.lemmas.Bool.{lt-ltb, le-ltb}
-use Rattle.ev_machine.specs.Values.{Local, Prim}
+use Rattle.def_machine.specs.Values.{Local, Prim}
 use Rattle.ev_prims.specs.declared.primitives.Primitive.{Primitive as Ours}
 use Rattle.ev_prims.specs.declared.primitives.Primitive.TheVariants as ours
 use Rattle.ev_prims.specs.Asks as asks
-use Rattle.ev_machine.specs.Native.{Fails, AnyGuard, VoidGuard, IntGuard, BooleanGuard, CharGuard, TextGuard, ListGuard, NullGuard, NearGuard, FrozenGuard, OrNull, Primitive, MakeList, Equalizer, Comparer, Looper, Sender, References, Thrower, StampReader, Guarding, NoPrimitive, primitives, numbered, with_null, primitive, null_or}
+use Rattle.def_machine.specs.Native.{Fails, AnyGuard, VoidGuard, IntGuard, BooleanGuard, CharGuard, TextGuard, ListGuard, NullGuard, NearGuard, FrozenGuard, OrNull, Primitive, MakeList, Equalizer, Comparer, Looper, Sender, References, Thrower, StampReader, Guarding, Judging, NoPrimitive, primitives, numbered, with_null, primitive, null_or}
 
 -- ---- numbers
 
-pub numbered_past : (n : ℕ) → 18 ≤ n → numbered n ≡ NoPrimitive
+pub numbered_past : (n : ℕ) → 20 ≤ n → numbered n ≡ NoPrimitive
 unfolding numbered primitives
 numbered_past n h = ap (λ o. elim o [ Some p ↦ p | None ↦ NoPrimitive ]) (slice_get_past primitives n h)
 
@@ -36,6 +36,7 @@ with_null_fails n Sender = refl
 with_null_fails n References = refl
 with_null_fails n Thrower = refl
 with_null_fails n StampReader = refl
+with_null_fails n (Judging r) = refl
 with_null_fails n NoPrimitive = refl
 with_null_fails n (Guarding AnyGuard) = refl
 with_null_fails n (Guarding VoidGuard) = refl
@@ -57,7 +58,7 @@ null_or_low n h = ap (null_or n) (primitive_low n h)
 
 -- ---- the same in the terms of the code
 
-pub none_past : (n : ℕ) → 18 ≤ n → asks.numbered n ≡ ours.NoPrimitive
+pub none_past : (n : ℕ) → 20 ≤ n → asks.numbered n ≡ ours.NoPrimitive
 unfolding asks.numbered
 none_past n h = ap (λ (o : Option Ours). unwrap_or o ours.NoPrimitive) (slice_get_past asks.primitives n h)
 

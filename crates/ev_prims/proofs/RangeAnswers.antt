@@ -5,9 +5,9 @@ use Rattle.ev_base.specs.declared.memory.Memory.{Memory}
 use Rattle.ev_base.specs.declared.values.Value.{Value as Held}
 use Rattle.ev_base.specs.declared.values.Value.TheVariants as held
 use Rattle.ev_heap.specs.Contents.{Contents, nothing}
-use Rattle.ev_machine.specs.Native as native
-use Rattle.ev_machine.specs.Values.{Words, Value, Number, Local}
-use Rattle.ev_num.specs.declared.arithmetic.NumFault.TheVariants.{Overflow, ZeroDivisor, NegativePower}
+use Rattle.def_machine.specs.Native as native
+use Rattle.def_machine.specs.Values.{Words, Value, Number, Local}
+use Rattle.ev_integer.specs.declared.arithmetic.NumFault.TheVariants.{Overflow, ZeroDivisor, NegativePower}
 use Rattle.ev_prims.specs.Problems.{problem_words}
 use Rattle.ev_prims.specs.Ranges.{counted_from, so_many, range_answer}
 use Rattle.ev_prims.specs.Reading.{text_in, value_by, values_by, value_in, reply_by, reply_in}

@@ -7,8 +7,8 @@ use Rattle.std.proofs.Math.IntN.{+ℤ_idr, +ℤ_assoc}
 use Rattle.ev_base.specs.declared.values.Value.{Value as Held}
 use Rattle.ev_base.specs.declared.values.Value.TheVariants.{Int}
 use Rattle.ev_heap.specs.Contents.{Contents}
-use Rattle.ev_machine.specs.Values.{Number, Local}
-use Rattle.ev_machine.specs.Native.{Reply, Lists, Fails, counted, gap, range_of}
+use Rattle.def_machine.specs.Values.{Number, Local}
+use Rattle.def_machine.specs.Native.{Reply, Lists, Fails, counted, gap, range_of}
 use Rattle.ev_base.specs.declared.memory.Memory.{Memory}
 use Rattle.ev_prims.specs.declared.reply.Reply.{Reply as Answer}
 use Rattle.ev_prims.specs.Reading.{reply_in, values_in}

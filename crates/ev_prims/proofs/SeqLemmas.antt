@@ -7,8 +7,8 @@ use Rattle.ev_base.specs.declared.values.Value.{Value as Held}
 use Rattle.ev_base.specs.declared.values.Value.TheVariants as held
 use Rattle.ev_heap.specs.Contents.{Contents}
 use Rattle.ev_heap.specs.declared.kept.Listed.{Listed}
-use Rattle.ev_machine.specs.Values.{Words, Value, Number, Letter, Prim, Items, Local}
-use Rattle.ev_machine.specs.Native.{Reply, Says, Writes, Lists, Iterates, Fails, no_method, part_of, index_in, range_in, got_at, got, ran_at, ran, encoded, text_with, text_reply, text_and, list_at, list_and, list_with, list_reply, text_verb, list_verb}
+use Rattle.def_machine.specs.Values.{Words, Value, Number, Letter, Prim, Items, Local}
+use Rattle.def_machine.specs.Native.{Reply, Says, Writes, Lists, Iterates, Fails, no_method, part_of, index_in, range_in, got_at, got, ran_at, ran, encoded, text_with, text_reply, text_and, list_at, list_and, list_with, list_reply, text_verb, list_verb}
 use Rattle.ev_base.specs.declared.memory.Memory.{Memory}
 use Rattle.ev_prims.specs.declared.reply.Reply.{Reply as Answer}
 use Rattle.ev_prims.specs.Answers.{members_at}

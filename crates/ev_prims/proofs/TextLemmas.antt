@@ -7,7 +7,7 @@ use Rattle.std.proofs.lemmas.List.{append-nil}
 use Rattle.std.proofs.lemmas.Str.{chars_past_char, chars-nil, IsUtf8-past_char}
 use Rattle.ev_base.specs.declared.values.Value.{Value as Held}
 use Rattle.ev_base.specs.declared.values.Value.TheVariants.{Char}
-use Rattle.ev_machine.specs.Native.{part_of, encoded}
+use Rattle.def_machine.specs.Native.{part_of, encoded}
 
 no_chars : (rest : List ℕ) → length rest ≡ 0 → chars rest ≡ []
 no_chars [] e = chars-nil

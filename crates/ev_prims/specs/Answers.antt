@@ -5,12 +5,12 @@ use Rattle.std.specs.Fmt.{signed_decimal}
 use Rattle.ev_base.specs.declared.values.Value.{Value}
 use Rattle.ev_base.specs.declared.values.Value.TheVariants as held
 use Rattle.ev_heap.specs.Contents.{Contents}
-use Rattle.ev_machine.specs.Values.{Words}
-use Rattle.ev_machine.specs.Native as native
-use Rattle.ev_num.specs.Ints.{apply}
-use Rattle.ev_num.specs.declared.arithmetic.IntOp.{IntOp}
-use Rattle.ev_num.specs.declared.arithmetic.IntOp.TheVariants.{Subtract}
-use Rattle.ev_num.specs.declared.arithmetic.NumFault.{NumFault}
+use Rattle.def_machine.specs.Values.{Words}
+use Rattle.def_machine.specs.Native as native
+use Rattle.ev_integer.specs.Ints.{apply}
+use Rattle.ev_integer.specs.declared.arithmetic.IntOp.{IntOp}
+use Rattle.ev_integer.specs.declared.arithmetic.IntOp.TheVariants.{Subtract}
+use Rattle.ev_integer.specs.declared.arithmetic.NumFault.{NumFault}
 use Rattle.ev_prims.specs.Forms.{form_of}
 use Rattle.ev_prims.specs.Verbs.{picked, alone_named, code_of, operation_named, joining_named, text_verb_named, list_verb_named}
 use Rattle.ev_prims.specs.declared.flags.Joining.{Joining}

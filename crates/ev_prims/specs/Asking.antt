@@ -2,9 +2,9 @@
 use Rattle.std.specs.Prelude.{ℕ, List, [], ◌∷◌, codes}
 use Rattle.ev_base.specs.declared.values.Value.{Value as Held}
 use Rattle.ev_heap.specs.Contents.{Contents}
-use Rattle.ev_machine.specs.Free.{entry}
-use Rattle.ev_machine.specs.Values.{Words, Value, Local}
-use Rattle.ev_machine.specs.Native as native
+use Rattle.def_machine.specs.Free.{entry}
+use Rattle.def_machine.specs.Values.{Words, Value, Local}
+use Rattle.def_machine.specs.Native as native
 use Rattle.ev_prims.specs.Orders.{test_in}
 use Rattle.ev_prims.specs.Primitives.{guard_in}
 use Rattle.ev_prims.specs.Reading.{text_in, value_by, values_by}
@@ -28,7 +28,7 @@ asked_with t args (ask.Ranges last x y) = native.Ranges last (value_by t x) (val
 asked_with t args (ask.Same x y) = native.Same (value_by t x) (value_by t y)
 asked_with t args (ask.Compares test x y) = native.Compares (test_in test) (value_by t x) (value_by t y)
 asked_with t args (ask.Loops x) = native.Loops (value_by t x)
-asked_with t args (ask.SendsTo x v l) = native.SendsTo (value_by t x) (value_by t v) (value_by t l)
+asked_with t args (ask.SendsTo only x v l) = native.SendsTo only (value_by t x) (value_by t v) (value_by t l)
 asked_with t args (ask.CallsTo x v l) = native.CallsTo (value_by t x) (value_by t v) (value_by t l)
 asked_with t args ask.MakesPromise = native.MakesPromise
 asked_with t args (ask.Breaks x) = native.Breaks (value_by t x)

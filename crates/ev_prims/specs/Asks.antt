@@ -4,9 +4,9 @@ use Rattle.std.specs.declared.option.Option.{Option}
 use Rattle.std.specs.Str.{bytes_eq}
 use Rattle.ev_base.specs.declared.values.Value.{Value}
 use Rattle.ev_base.specs.declared.values.Value.TheVariants as held
-use Rattle.ev_machine.specs.Free.{same_words}
-use Rattle.ev_machine.specs.Native as native
-use Rattle.ev_machine.specs.Values.{Words}
+use Rattle.def_machine.specs.Free.{same_words}
+use Rattle.def_machine.specs.Native as native
+use Rattle.def_machine.specs.Values.{Words}
 use Rattle.ev_prims.specs.Forms.{args_of}
 use Rattle.ev_prims.specs.Orders.{order_in, test_in}
 use Rattle.ev_prims.specs.Verbs.{picked, range_named, ref_test_named, test_named}
@@ -20,7 +20,8 @@ use Rattle.ev_prims.specs.declared.primitives.Guard.{Guard}
 use Rattle.ev_prims.specs.declared.primitives.Kind.{Kind}
 use Rattle.ev_prims.specs.declared.primitives.Kind.TheVariants as kind
 use Rattle.ev_prims.specs.declared.primitives.Primitive.{Primitive}
-use Rattle.ev_prims.specs.declared.primitives.Primitive.TheVariants.{MakeList, Equalizer, Comparer, Looper, Sender, References, Thrower, StampReader, Guarding, NoPrimitive}
+use Rattle.ev_prims.specs.declared.primitives.Primitive.TheVariants.{MakeList, Equalizer, Comparer, Looper, Sender, References, Thrower, StampReader, Guarding, Judging, NoPrimitive}
+use Rattle.ev_prims.specs.declared.primitives.Rule.TheVariants as rule
 
 -- ---- primitives by their numbers
 
@@ -31,7 +32,8 @@ abbrev pub primitives : List Primitive
 primitives =
     MakeList ∷ Equalizer ∷ Comparer ∷ Looper ∷ Sender ∷ References ∷ Thrower ∷ StampReader
     ∷ bare kind.Any ∷ bare kind.Void ∷ bare kind.Int ∷ bare kind.Boolean ∷ bare kind.Char
-    ∷ bare kind.Text ∷ bare kind.List ∷ bare kind.Null ∷ bare kind.Near ∷ bare kind.Frozen ∷ []
+    ∷ bare kind.Text ∷ bare kind.List ∷ bare kind.Null ∷ bare kind.Near ∷ bare kind.Frozen
+    ∷ Judging rule.Selfless ∷ Judging rule.Functional ∷ []
 
 unfoldable pub numbered : ℕ → Primitive
 numbered n = unwrap_or (slice_get primitives n) NoPrimitive
@@ -76,7 +78,11 @@ abbrev pub ref_two : Words → Value → Value → Asked
 ref_two verb a b = if same_words (codes "whenResolved") verb then Whens a b else NoMethod
 
 abbrev pub send_three : Words → Value → Value → Value → Asked
-send_three verb a b c = picked ((codes "send", SendsTo a b c) ∷ (codes "call", CallsTo a b c) ∷ []) NoMethod verb
+send_three verb a b c =
+    if same_words (codes "send") verb then SendsTo false a b c
+    else if same_words (codes "sendOnly") verb then SendsTo true a b c
+    else if same_words (codes "call") verb then CallsTo a b c
+    else NoMethod
 
 abbrev pub kind_one : Kind → Words → Value → Asked
 kind_one kind.Null verb a = where_named (codes "get") (AddsNull a) verb

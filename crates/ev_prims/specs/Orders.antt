@@ -7,7 +7,7 @@ use Rattle.ev_prims.specs.declared.reply.Reply.{Reply}
 use Rattle.ev_prims.specs.declared.reply.Reply.TheVariants.{Says, Fails}
 use Rattle.std.specs.declared.cmp.Ordering.{Ordering}
 use Rattle.std.specs.declared.cmp.Ordering.TheVariants as code
-use Rattle.ev_machine.specs.Native as native
+use Rattle.def_machine.specs.Native as native
 use Rattle.ev_prims.specs.declared.order.Test.{Test}
 use Rattle.ev_prims.specs.declared.order.Test.TheVariants.{LessThan, AtMost, AsBigAs, AtLeast, GreaterThan}
 

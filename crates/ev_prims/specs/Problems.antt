@@ -1,6 +1,6 @@
 -- What is said where a native method gives no value.
 use Rattle.std.specs.Prelude.{ℕ, List, codes}
-use Rattle.ev_num.specs.Message.{fault_text}
+use Rattle.ev_integer.specs.Message.{fault_text}
 use Rattle.ev_prims.specs.declared.problem.Problem.{Problem}
 use Rattle.ev_prims.specs.declared.problem.Problem.TheVariants.{NoMethod, Arithmetic, NotInt, NotChar, NotBoolean, NotText, NotList, OutOfRange, BadArgument, NotComparable, TooHeavy, Unthrowable, DeadEjector}
 

@@ -2,7 +2,7 @@
 use Rattle.std.specs.Prelude.{ℕ, zero, suc, ℤ, pos, ◌+ℤ◌, Bool, true, false, if◌then◌else◌, nat_le, List, [], ◌∷◌}
 use Rattle.ev_base.specs.declared.values.Value.{Value}
 use Rattle.ev_base.specs.declared.values.Value.TheVariants as held
-use Rattle.ev_machine.specs.Native.{gap}
+use Rattle.def_machine.specs.Native.{gap}
 use Rattle.ev_prims.specs.declared.problem.Problem.TheVariants.{NotInt, TooHeavy}
 use Rattle.ev_prims.specs.declared.reply.Reply.{Reply}
 use Rattle.ev_prims.specs.declared.reply.Reply.TheVariants.{Lists, Fails}

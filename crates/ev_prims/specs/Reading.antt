@@ -4,8 +4,8 @@ use Rattle.ev_base.specs.declared.values.Value.{Value as Held}
 use Rattle.ev_base.specs.declared.values.Value.TheVariants as held
 use Rattle.ev_heap.specs.Contents.{Contents}
 use Rattle.ev_heap.specs.declared.kept.Listed.{Listed}
-use Rattle.ev_machine.specs.Values.{Words, Value, Null, Flag, Number, Letter, Text, Prim, Broken, Items, Ref, Local, Obj, Prom, Far}
-use Rattle.ev_machine.specs.Native as native
+use Rattle.def_machine.specs.Values.{Words, Value, Null, Flag, Number, Letter, Text, Prim, Broken, Items, Ref, Local, Obj, Prom, Far}
+use Rattle.def_machine.specs.Native as native
 use Rattle.ev_prims.specs.declared.reply.Reply.{Reply}
 use Rattle.ev_prims.specs.declared.reply.Reply.TheVariants as reply
 use Rattle.ev_prims.specs.Problems.{problem_words}

@@ -1,8 +1,8 @@
 -- What texts and lists answer alike.
 use Rattle.std.specs.Prelude.{ℕ, pos, [], ◌∷◌, codes}
-use Rattle.ev_machine.specs.Values.{Words, Local, Number}
-use Rattle.ev_machine.specs.Free.{entry}
-use Rattle.ev_machine.specs.Native.{Reply, Says, no_method}
+use Rattle.def_machine.specs.Values.{Words, Local, Number}
+use Rattle.def_machine.specs.Free.{entry}
+use Rattle.def_machine.specs.Native.{Reply, Says, no_method}
 
 -- to a verb without arguments, where there are so many members
 abbrev pub size_said : ℕ → Words → Reply Local

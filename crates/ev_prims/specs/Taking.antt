@@ -3,12 +3,12 @@ use Rattle.std.specs.Prelude.{List, Some, None}
 use Rattle.std.specs.declared.option.Option.{Option}
 use Rattle.ev_base.specs.declared.values.Value.{Value as Held}
 use Rattle.ev_heap.specs.Contents.{Contents}
-use Rattle.ev_kernel.specs.declared.node.Node.{Node}
-use Rattle.ev_machine.specs.Perform.{is_frozen}
-use Rattle.ev_machine.specs.Refs.{place}
-use Rattle.ev_machine.specs.Scopes.{is_near, where_true}
-use Rattle.ev_machine.specs.State.{Vat}
-use Rattle.ev_machine.specs.Values.{Value, Local, Naming}
+use Rattle.def_kernel.specs.declared.node.Node.{Node}
+use Rattle.def_machine.specs.Perform.{is_frozen}
+use Rattle.def_machine.specs.Refs.{place}
+use Rattle.def_machine.specs.Scopes.{is_near, where_true}
+use Rattle.def_machine.specs.State.{Vat}
+use Rattle.def_machine.specs.Values.{Value, Local, Naming}
 use Rattle.ev_prims.specs.Reading.{value_in}
 use Rattle.ev_prims.specs.declared.guards.Taken.{Taken}
 use Rattle.ev_prims.specs.declared.guards.Taken.TheVariants.{Takes, Refuses, WhereNear, WhereFrozen}

@@ -2,11 +2,11 @@
 use Rattle.std.specs.Prelude.{ℕ, ℤ, pos, negsuc, Bool, true, false, if◌then◌else◌, List, [], ◌∷◌, Some, None, codes}
 use Rattle.std.specs.declared.option.Option.{Option}
 use Rattle.std.specs.Str.{bytes_eq}
-use Rattle.ev_int_laws.specs.Same.{op_of}
-use Rattle.ev_machine.specs.Values.{Words}
-use Rattle.ev_machine.specs.Native as native
-use Rattle.ev_num.specs.declared.arithmetic.IntOp.{IntOp}
-use Rattle.ev_num.specs.declared.arithmetic.IntOp.TheVariants.{Add, Subtract, Multiply, FloorDivide, Remainder, Mod, Pow, And, Or, Xor}
+use Rattle.law_integer.specs.Same.{op_of}
+use Rattle.def_machine.specs.Values.{Words}
+use Rattle.def_machine.specs.Native as native
+use Rattle.ev_integer.specs.declared.arithmetic.IntOp.{IntOp}
+use Rattle.ev_integer.specs.declared.arithmetic.IntOp.TheVariants.{Add, Subtract, Multiply, FloorDivide, Remainder, Mod, Pow, And, Or, Xor}
 use Rattle.ev_prims.specs.declared.asking.RefTest.{RefTest}
 use Rattle.ev_prims.specs.declared.asking.RefTest.TheVariants.{IsNear, IsFar, IsResolved, IsBroken, OptProblem, Fulfillment}
 use Rattle.ev_prims.specs.declared.flags.Joining.{Joining}

@@ -3,7 +3,7 @@
 ghost use Rattle.std.specs.Prelude.{◌≡◌, List, [], ◌∷◌, codes};
 ghost use Rattle.ev_base.specs.declared.values.Value.{Value as Held};
 ghost use Rattle.ev_heap.specs.Contents.{Contents};
-ghost use Rattle.ev_machine.specs.Native as native;
+ghost use Rattle.def_machine.specs.Native as native;
 ghost use Rattle.ev_prims.specs.Asking.{asked_in, list_asked};
 ghost use Rattle.ev_prims.specs.Asks.{asked_of, asks_more, asks_none, asks_one, asks_three, asks_two, compares, guard_one, list_two, ref_one, ref_two, send_three, where_named};
 ghost use Rattle.ev_prims.specs.Forms.{args_of};
@@ -41,8 +41,8 @@ pub enum Asked {
     Same(Value, Value),
     Compares(Test, Value, Value),
     Loops(Value),
-    /// A target, a verb and a list of arguments.
-    SendsTo(Value, Value, Value),
+    /// Whether without an answer; a target, a verb and a list of arguments.
+    SendsTo(bool, Value, Value, Value),
     /// A target, a verb and a list of arguments.
     CallsTo(Value, Value, Value),
     MakesPromise,
@@ -100,7 +100,7 @@ fn list_two(verb: &str, a: Value, b: Value) -> Asked
 }
 
 /// What `__equalizer` is asked of two values.
-#[tactic(auto, using(crate::proofs::VerbLemmas::entry_is), unfolding(ev_machine::specs::Native::equalizer_ask))]
+#[tactic(auto, using(crate::proofs::VerbLemmas::entry_is), unfolding(def_machine::specs::Native::equalizer_ask))]
 fn same(verb: &str, a: Value, b: Value) -> Asked
     ensures is { result ≡ where_named (codes "sameEver") (ask.Same a b) verb.now }
     ensures means { (h : Contents) (args : List Held) → asked_in h args result ≡ native.equalizer_ask verb.now (value_in h a ∷ value_in h b ∷ []) }
@@ -140,7 +140,7 @@ fn compares(verb: &str, a: Value, b: Value) -> Asked
 }
 
 /// What `__loop` is asked of one value.
-#[tactic(auto, using(crate::proofs::VerbLemmas::entry_is), unfolding(ev_machine::specs::Native::run_ask))]
+#[tactic(auto, using(crate::proofs::VerbLemmas::entry_is), unfolding(def_machine::specs::Native::run_ask))]
 fn loops(verb: &str, a: Value) -> Asked
     ensures is { result ≡ where_named (codes "run") (ask.Loops a) verb.now }
     ensures means { (h : Contents) (args : List Held) → asked_in h args result ≡ native.run_ask native.Loops verb.now (value_in h a ∷ []) }
@@ -153,7 +153,7 @@ fn loops(verb: &str, a: Value) -> Asked
 }
 
 /// What `throw` is asked of one value.
-#[tactic(auto, using(crate::proofs::VerbLemmas::entry_is), unfolding(ev_machine::specs::Native::run_ask))]
+#[tactic(auto, using(crate::proofs::VerbLemmas::entry_is), unfolding(def_machine::specs::Native::run_ask))]
 fn throws(verb: &str, a: Value) -> Asked
     ensures is { result ≡ where_named (codes "run") (ask.ThrowsIt a) verb.now }
     ensures means { (h : Contents) (args : List Held) → asked_in h args result ≡ native.run_ask native.ThrowsIt verb.now (value_in h a ∷ []) }
@@ -166,14 +166,16 @@ fn throws(verb: &str, a: Value) -> Asked
 }
 
 /// What `E` is asked of three values.
-#[tactic(auto, using(crate::proofs::VerbLemmas::entry_is), unfolding(ev_machine::specs::Native::send_ask))]
+#[tactic(auto, unfolding(def_machine::specs::Free::entry, def_machine::specs::Native::send_ask))]
 fn sends(verb: &str, a: Value, b: Value, c: Value) -> Asked
     ensures is { result ≡ send_three verb.now a b c }
     ensures means { (h : Contents) (args : List Held) → asked_in h args result ≡ native.send_ask verb.now (value_in h a ∷ value_in h b ∷ value_in h c ∷ []) }
 {
-    if verb == "send" {
-        Asked::SendsTo(a, b, c)
-    } else if verb == "call" {
+    if is_verb(verb, "send") {
+        Asked::SendsTo(false, a, b, c)
+    } else if is_verb(verb, "sendOnly") {
+        Asked::SendsTo(true, a, b, c)
+    } else if is_verb(verb, "call") {
         Asked::CallsTo(a, b, c)
     } else {
         Asked::NoMethod
@@ -181,7 +183,7 @@ fn sends(verb: &str, a: Value, b: Value, c: Value) -> Asked
 }
 
 /// What `auditedBy` is asked of two values.
-#[tactic(auto, using(crate::proofs::VerbLemmas::entry_is), unfolding(ev_machine::specs::Native::stamp_ask))]
+#[tactic(auto, using(crate::proofs::VerbLemmas::entry_is), unfolding(def_machine::specs::Native::stamp_ask))]
 fn stamped(verb: &str, a: Value, b: Value) -> Asked
     ensures is { result ≡ where_named (codes "run") (ask.IsStamped a b) verb.now }
     ensures means { (h : Contents) (args : List Held) → asked_in h args result ≡ native.stamp_ask verb.now (value_in h a ∷ value_in h b ∷ []) }
@@ -194,7 +196,7 @@ fn stamped(verb: &str, a: Value, b: Value) -> Asked
 }
 
 /// What `Ref` is asked without arguments.
-#[tactic(auto, using(crate::proofs::VerbLemmas::entry_is), unfolding(ev_machine::specs::Native::ref_ask))]
+#[tactic(auto, using(crate::proofs::VerbLemmas::entry_is), unfolding(def_machine::specs::Native::ref_ask))]
 fn promises(verb: &str) -> Asked
     ensures is { result ≡ where_named (codes "promise") ask.MakesPromise verb.now }
     ensures means { (h : Contents) (args : List Held) → asked_in h args result ≡ native.ref_ask verb.now [] }
@@ -238,7 +240,7 @@ fn tells(verb: &str, a: Value) -> Asked
 }
 
 /// What `Ref` is asked of a value and a reaction.
-#[tactic(auto, unfolding(ev_machine::specs::Free::entry, ev_machine::specs::Native::ref_ask))]
+#[tactic(auto, unfolding(def_machine::specs::Free::entry, def_machine::specs::Native::ref_ask))]
 fn whens(verb: &str, a: Value, b: Value) -> Asked
     ensures is { result ≡ ref_two verb.now a b }
     ensures means { (h : Contents) (args : List Held) → asked_in h args result ≡ native.ref_ask verb.now (value_in h a ∷ value_in h b ∷ []) }
@@ -251,7 +253,7 @@ fn whens(verb: &str, a: Value, b: Value) -> Asked
 }
 
 /// What `nullOk` is asked of one value.
-#[tactic(auto, using(crate::proofs::VerbLemmas::entry_is), unfolding(ev_machine::specs::Native::guard_ask))]
+#[tactic(auto, using(crate::proofs::VerbLemmas::entry_is), unfolding(def_machine::specs::Native::guard_ask))]
 fn adds_null(verb: &str, a: Value) -> Asked
     ensures is { result ≡ where_named (codes "get") (ask.AddsNull a) verb.now }
     ensures means { (h : Contents) (args : List Held) → asked_in h args result ≡ native.guard_ask native.NullGuard verb.now (value_in h a ∷ []) }
@@ -264,7 +266,7 @@ fn adds_null(verb: &str, a: Value) -> Asked
 }
 
 /// What a native guard is asked of one value: `nullOk` alone has such a method.
-#[tactic(auto, unfolding(ev_machine::specs::Native::guard_ask))]
+#[tactic(auto, unfolding(def_machine::specs::Native::guard_ask))]
 fn guard_one(guard: Guard, verb: &str, a: Value) -> Asked
     ensures is { result ≡ guard_one guard verb.now a }
     ensures means { (h : Contents) (args : List Held) → asked_in h args result ≡ native.guard_ask (guard_in guard) verb.now (value_in h a ∷ []) }
@@ -279,7 +281,7 @@ fn guard_one(guard: Guard, verb: &str, a: Value) -> Asked
 }
 
 /// What a native guard is asked of a specimen and an ejector.
-#[tactic(auto, using(crate::proofs::VerbLemmas::entry_is), unfolding(ev_machine::specs::Native::guard_ask))]
+#[tactic(auto, using(crate::proofs::VerbLemmas::entry_is), unfolding(def_machine::specs::Native::guard_ask))]
 fn coerces(guard: Guard, verb: &str, a: Value, b: Value) -> Asked
     ensures is { result ≡ where_named (codes "coerce") (ask.Coerces guard a b) verb.now }
     ensures means { (h : Contents) (args : List Held) → asked_in h args result ≡ native.guard_ask (guard_in guard) verb.now (value_in h a ∷ value_in h b ∷ []) }
@@ -292,7 +294,7 @@ fn coerces(guard: Guard, verb: &str, a: Value, b: Value) -> Asked
 }
 
 /// What is asked of a primitive without arguments.
-#[tactic(auto, unfolding(crate::specs::Asks::asks_none, ev_machine::specs::Native::asked, ev_machine::specs::Native::list_ask, ev_machine::specs::Native::equalizer_ask, ev_machine::specs::Native::comparer_ask, ev_machine::specs::Native::run_ask, ev_machine::specs::Native::send_ask, ev_machine::specs::Native::ref_ask, ev_machine::specs::Native::stamp_ask, ev_machine::specs::Native::guard_ask))]
+#[tactic(auto, unfolding(crate::specs::Asks::asks_none, def_machine::specs::Native::asked, def_machine::specs::Native::list_ask, def_machine::specs::Native::equalizer_ask, def_machine::specs::Native::comparer_ask, def_machine::specs::Native::run_ask, def_machine::specs::Native::send_ask, def_machine::specs::Native::ref_ask, def_machine::specs::Native::stamp_ask, def_machine::specs::Native::guard_ask))]
 fn ask_none(primitive: Primitive, verb: &str) -> Asked
     ensures is { result ≡ asks_none primitive verb.now }
     ensures means { (h : Contents) → asked_in h [] result ≡ native.asked (primitive_in primitive) verb.now [] }
@@ -305,7 +307,7 @@ fn ask_none(primitive: Primitive, verb: &str) -> Asked
 }
 
 /// What is asked of a primitive with one argument.
-#[tactic(auto, unfolding(crate::specs::Asks::asks_one, ev_machine::specs::Native::asked, ev_machine::specs::Native::list_ask, ev_machine::specs::Native::equalizer_ask, ev_machine::specs::Native::comparer_ask, ev_machine::specs::Native::run_ask, ev_machine::specs::Native::send_ask, ev_machine::specs::Native::ref_ask, ev_machine::specs::Native::stamp_ask, ev_machine::specs::Native::guard_ask))]
+#[tactic(auto, unfolding(crate::specs::Asks::asks_one, def_machine::specs::Native::asked, def_machine::specs::Native::list_ask, def_machine::specs::Native::equalizer_ask, def_machine::specs::Native::comparer_ask, def_machine::specs::Native::run_ask, def_machine::specs::Native::send_ask, def_machine::specs::Native::ref_ask, def_machine::specs::Native::stamp_ask, def_machine::specs::Native::guard_ask))]
 fn ask_one(primitive: Primitive, verb: &str, a: Value) -> Asked
     ensures is { result ≡ asks_one primitive verb.now a }
     ensures means { (h : Contents) → asked_in h (a ∷ []) result ≡ native.asked (primitive_in primitive) verb.now (value_in h a ∷ []) }
@@ -321,7 +323,7 @@ fn ask_one(primitive: Primitive, verb: &str, a: Value) -> Asked
 }
 
 /// What is asked of a primitive with two arguments.
-#[tactic(auto, unfolding(crate::specs::Asks::asks_two, ev_machine::specs::Native::asked, ev_machine::specs::Native::run_ask, ev_machine::specs::Native::send_ask))]
+#[tactic(auto, unfolding(crate::specs::Asks::asks_two, def_machine::specs::Native::asked, def_machine::specs::Native::run_ask, def_machine::specs::Native::send_ask))]
 fn ask_two(primitive: Primitive, verb: &str, a: Value, b: Value) -> Asked
     ensures is { result ≡ asks_two primitive verb.now a b }
     ensures means { (h : Contents) → asked_in h (a ∷ b ∷ []) result ≡ native.asked (primitive_in primitive) verb.now (value_in h a ∷ value_in h b ∷ []) }
@@ -338,7 +340,7 @@ fn ask_two(primitive: Primitive, verb: &str, a: Value, b: Value) -> Asked
 }
 
 /// What is asked of a primitive with three arguments.
-#[tactic(auto, unfolding(crate::specs::Asks::asks_three, ev_machine::specs::Native::asked, ev_machine::specs::Native::list_ask, ev_machine::specs::Native::equalizer_ask, ev_machine::specs::Native::comparer_ask, ev_machine::specs::Native::run_ask, ev_machine::specs::Native::ref_ask, ev_machine::specs::Native::stamp_ask, ev_machine::specs::Native::guard_ask))]
+#[tactic(auto, unfolding(crate::specs::Asks::asks_three, def_machine::specs::Native::asked, def_machine::specs::Native::list_ask, def_machine::specs::Native::equalizer_ask, def_machine::specs::Native::comparer_ask, def_machine::specs::Native::run_ask, def_machine::specs::Native::ref_ask, def_machine::specs::Native::stamp_ask, def_machine::specs::Native::guard_ask))]
 fn ask_three(primitive: Primitive, verb: &str, a: Value, b: Value, c: Value) -> Asked
     ensures is { result ≡ asks_three primitive verb.now a b c }
     ensures means { (h : Contents) → asked_in h (a ∷ b ∷ c ∷ []) result ≡ native.asked (primitive_in primitive) verb.now (value_in h a ∷ value_in h b ∷ value_in h c ∷ []) }

@@ -2,7 +2,7 @@
 
 ghost use Rattle.std.specs.Prelude.{◌≡◌, All, IfOk};
 ghost use Rattle.ev_heap.specs.Contents.{IsWeighable};
-ghost use Rattle.ev_machine.specs.Native as native;
+ghost use Rattle.def_machine.specs.Native as native;
 ghost use Rattle.ev_prims.specs.Answers.{data_answer, members_at};
 ghost use Rattle.ev_prims.specs.Reading.{lists_in, reply_in, text_in, value_in, values_in};
 

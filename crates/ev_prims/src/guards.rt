@@ -2,12 +2,12 @@
 
 ghost use Rattle.std.specs.Prelude.{◌≡◌, ◌++◌, List, codes};
 ghost use Rattle.ev_heap.specs.Contents.{Contents};
-ghost use Rattle.ev_kernel.specs.declared.node.Node.{Node};
-ghost use Rattle.ev_machine.specs.Native.{OrNull, guard_name};
-ghost use Rattle.ev_machine.specs.Perform as perform;
-ghost use Rattle.ev_machine.specs.Scopes.{where_true};
-ghost use Rattle.ev_machine.specs.State.{Vat};
-ghost use Rattle.ev_machine.specs.Values.{Local, Naming};
+ghost use Rattle.def_kernel.specs.declared.node.Node.{Node};
+ghost use Rattle.def_machine.specs.Native.{OrNull, guard_name};
+ghost use Rattle.def_machine.specs.Perform as perform;
+ghost use Rattle.def_machine.specs.Scopes.{where_true};
+ghost use Rattle.def_machine.specs.State.{Vat};
+ghost use Rattle.def_machine.specs.Values.{Local, Naming};
 ghost use Rattle.ev_prims.specs.Primitives.{guard_in, kind_in};
 ghost use Rattle.ev_prims.specs.Reading.{value_in};
 ghost use Rattle.ev_prims.specs.Taking.{taken_in};
@@ -27,7 +27,7 @@ pub enum Taken {
 }
 
 /// A followed specimen, where it is of the kind that a guard wants.
-#[tactic(auto, unfolding(ev_machine::specs::Scopes::where_true))]
+#[tactic(auto, unfolding(def_machine::specs::Scopes::where_true))]
 fn where_kind(of_kind: bool, followed: Value) -> Taken
     ensures { (K : Naming Local Local) (tree : List Node) (s : Vat Local) (h : Contents) →
         taken_in K tree s h followed result ≡ where_true of_kind (value_in h followed) }
@@ -40,7 +40,7 @@ fn where_kind(of_kind: bool, followed: Value) -> Taken
 }
 
 /// What a guard of a kind answers for a specimen.
-#[tactic(auto, unfolding(ev_machine::specs::Perform::taken, ev_machine::specs::Scopes::is_int, ev_machine::specs::Scopes::is_boolean, ev_machine::specs::Scopes::is_char, ev_machine::specs::Scopes::is_text, ev_machine::specs::Scopes::is_list, ev_machine::specs::Scopes::is_null))]
+#[tactic(auto, unfolding(def_machine::specs::Perform::taken, def_machine::specs::Scopes::is_int, def_machine::specs::Scopes::is_boolean, def_machine::specs::Scopes::is_char, def_machine::specs::Scopes::is_text, def_machine::specs::Scopes::is_list, def_machine::specs::Scopes::is_null))]
 fn taken_by(kind: Kind, held: Value, followed: Value) -> Taken
     ensures { (K : Naming Local Local) (tree : List Node) (s : Vat Local) (h : Contents) →
         taken_in K tree s h followed result ≡ perform.taken K tree s (kind_in kind) (value_in h held) (value_in h followed) }
@@ -61,7 +61,7 @@ fn taken_by(kind: Kind, held: Value, followed: Value) -> Taken
 
 /// What a native guard answers for a specimen, as it is held and as it is followed, as far as the values tell it: whether a
 /// specimen is near or frozen is for the vat to say.
-#[tactic(auto, unfolding(ev_machine::specs::Perform::taken, ev_machine::specs::Scopes::is_null))]
+#[tactic(auto, unfolding(def_machine::specs::Perform::taken, def_machine::specs::Scopes::is_null))]
 pub fn guard_takes(guard: Guard, held: Value, followed: Value) -> Taken
     ensures { (K : Naming Local Local) (tree : List Node) (s : Vat Local) (h : Contents) →
         taken_in K tree s h followed result ≡ perform.taken K tree s (guard_in guard) (value_in h held) (value_in h followed) }
@@ -77,7 +77,7 @@ pub fn guard_takes(guard: Guard, held: Value, followed: Value) -> Taken
 }
 
 /// What is thrown where a guard of a kind refuses.
-#[tactic(auto, unfolding(ev_machine::specs::Native::guard_name))]
+#[tactic(auto, unfolding(def_machine::specs::Native::guard_name))]
 fn kind_problem(kind: Kind) -> &'static str
     ensures { result.now ≡ codes "not " ++ guard_name (kind_in kind) }
 {
@@ -96,7 +96,7 @@ fn kind_problem(kind: Kind) -> &'static str
 }
 
 /// The same of a guard that takes null as well.
-#[tactic(auto, unfolding(ev_machine::specs::Native::guard_name))]
+#[tactic(auto, unfolding(def_machine::specs::Native::guard_name))]
 fn null_or_problem(kind: Kind) -> &'static str
     ensures { result.now ≡ codes "not " ++ guard_name (OrNull (kind_in kind)) }
 {
@@ -115,7 +115,7 @@ fn null_or_problem(kind: Kind) -> &'static str
 }
 
 /// The text of the problem where a native guard refuses a specimen.
-#[tactic(auto, unfolding(ev_machine::specs::Native::guard_name))]
+#[tactic(auto, unfolding(def_machine::specs::Native::guard_name))]
 pub fn refusal(guard: Guard) -> &'static str
     ensures { result.now ≡ codes "not " ++ guard_name (guard_in guard) }
 {

@@ -7,7 +7,7 @@ ghost use Rattle.ev_prims.specs.Verbs.{alone_named, code_of, operation_named};
 use crate::problem::Problem;
 use crate::reply::Reply;
 use ev_base::Value;
-use ev_num::{IntOp, NumFault, apply};
+use ev_integer::{IntOp, NumFault, apply};
 
 /// The greatest code of a character.
 const LAST_CODE: i128 = 0x10ffff;

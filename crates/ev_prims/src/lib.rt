@@ -23,10 +23,7 @@ pub use asking::{Asked, RefTest, ask};
 pub use data::data_reply;
 pub use guards::{Taken, guard_takes, refusal};
 pub use order::{Test, compare};
-pub use primitives::{Guard, Kind, Primitive, native_guard, null_or, primitive_of};
+pub use primitives::{Guard, Kind, Primitive, Rule, native_guard, null_or, primitive_of};
 pub use problem::Problem;
 pub use ranges::range;
 pub use reply::Reply;
-
-#[cfg(test)]
-mod tests;

@@ -3,7 +3,7 @@
 ghost use Rattle.std.specs.Prelude.{◌≡◌, ◌+◌, ◌≤◌, All, IfOk, codes, length, ◌++◌, ◌∷◌, []};
 ghost use Rattle.ev_base.specs.declared.values.Value.TheVariants.{Int};
 ghost use Rattle.ev_heap.specs.Contents.{IsWeighable};
-ghost use Rattle.ev_machine.specs.Native as native;
+ghost use Rattle.def_machine.specs.Native as native;
 ghost use Rattle.ev_prims.specs.Answers.{got, list_and, list_answer, list_ran, list_with, members_at};
 ghost use Rattle.ev_prims.specs.Verbs.{list_verb_named, picked};
 ghost use Rattle.ev_prims.specs.declared.problem.Problem.TheVariants.{NoMethod};

@@ -2,7 +2,7 @@
 
 ghost use Rattle.std.specs.Prelude.{◌≡◌, option_map};
 ghost use Rattle.ev_heap.specs.Contents.{IsWeighable};
-ghost use Rattle.ev_machine.specs.Native as native;
+ghost use Rattle.def_machine.specs.Native as native;
 ghost use Rattle.ev_prims.specs.Orders.{compared_by, order_in, test_in};
 ghost use Rattle.ev_prims.specs.Reading.{reply_in, value_in};
 
@@ -25,7 +25,7 @@ pub enum Test {
 }
 
 /// Whether an order passes a test.
-#[tactic(auto, unfolding(ev_machine::specs::Native::is_less, ev_machine::specs::Native::is_equal, ev_machine::specs::Native::is_more))]
+#[tactic(auto, unfolding(def_machine::specs::Native::is_less, def_machine::specs::Native::is_equal, def_machine::specs::Native::is_more))]
 fn passes(test: Test, order: Ordering) -> bool
     ensures { result ≡ test_in test (order_in order) }
 {
@@ -39,7 +39,7 @@ fn passes(test: Test, order: Ordering) -> bool
 }
 
 /// The order of two integers, two characters, or two texts by their bytes, and none of any other two values.
-#[tactic(auto, using(crate::proofs::OrderLemmas::int_order_is, crate::proofs::OrderLemmas::order_of_is, crate::proofs::OrderLemmas::text_order_is, crate::proofs::Casts::casts), unfolding(ev_machine::specs::Native::value_order))]
+#[tactic(auto, using(crate::proofs::OrderLemmas::int_order_is, crate::proofs::OrderLemmas::order_of_is, crate::proofs::OrderLemmas::text_order_is, crate::proofs::Casts::casts), unfolding(def_machine::specs::Native::value_order))]
 fn value_order(heap: &Heap, x: Value, y: Value) -> Option<Ordering>
     requires first { IsWeighable heap.now x }
     requires second { IsWeighable heap.now y }

@@ -2,7 +2,7 @@
 
 ghost use Rattle.std.specs.Prelude.{◌≡◌, ◌<◌, option_map};
 ghost use Rattle.ev_heap.specs.Contents.{Contents};
-ghost use Rattle.ev_machine.specs.Native as native;
+ghost use Rattle.def_machine.specs.Native as native;
 ghost use Rattle.ev_prims.specs.Asks.{bare, numbered, primitive_at, with_null};
 ghost use Rattle.ev_prims.specs.Primitives.{IsBare, guard_in, kind_in, primitive_in};
 ghost use Rattle.ev_prims.specs.Reading.{reply_in, value_in};
@@ -36,6 +36,17 @@ pub struct Guard {
     pub or_null: bool,
 }
 
+/// By what a native auditor judges an object: by the object's free names.
+#[derive(Clone, Copy, Debug, PartialEq, Eq)]
+pub enum Rule {
+    /// Each is a safe name, the object's own name, or bound finally under a frozen guard.
+    DeepFrozen,
+    /// None is the object's own name.
+    Selfless,
+    /// Each is a safe name other than `E` and `Ref`, the object's own name, or bound finally under a guard of data.
+    Functional,
+}
+
 /// A primitive of the safe scope.
 #[derive(Clone, Copy, Debug, PartialEq, Eq)]
 pub enum Primitive {
@@ -48,6 +59,8 @@ pub enum Primitive {
     Thrower,
     StampReader,
     Guarding(Guard),
+    /// An auditor that is no guard.
+    Judging(Rule),
     /// No primitive has that number.
     NoPrimitive,
 }
@@ -65,7 +78,7 @@ fn guarding(kind: Kind) -> Primitive
 }
 
 /// The primitive that stands at a place of the safe scope.
-#[tactic(auto, using(crate::proofs::PrimitiveLemmas::numbered_past, crate::proofs::PrimitiveLemmas::none_past), unfolding(crate::specs::Asks::numbered, ev_machine::specs::Native::numbered, ev_machine::specs::Native::primitives))]
+#[tactic(auto, using(crate::proofs::PrimitiveLemmas::numbered_past, crate::proofs::PrimitiveLemmas::none_past), unfolding(crate::specs::Asks::numbered, def_machine::specs::Native::numbered, def_machine::specs::Native::primitives))]
 fn numbered(place: u8) -> Primitive
     ensures is { result ≡ numbered place }
     ensures number { primitive_in result ≡ native.numbered place }
@@ -90,12 +103,14 @@ fn numbered(place: u8) -> Primitive
         15 => guarding(Kind::Null),
         16 => guarding(Kind::Near),
         17 => guarding(Kind::Frozen),
+        18 => Primitive::Judging(Rule::Selfless),
+        19 => Primitive::Judging(Rule::Functional),
         _ => Primitive::NoPrimitive,
     }
 }
 
 /// The guard that takes null as well, of a guard that does not.
-#[tactic(auto, unfolding(ev_machine::specs::Native::with_null))]
+#[tactic(auto, unfolding(def_machine::specs::Native::with_null))]
 fn with_null(primitive: Primitive) -> Primitive
     requires { IsBare primitive }
     ensures is { result ≡ with_null primitive }
@@ -127,7 +142,7 @@ pub fn primitive_of(number: PrimId) -> Primitive
 }
 
 /// The native guard of that number, and none where the primitive of that number is none.
-#[tactic(auto, unfolding(ev_machine::specs::Native::native_guard))]
+#[tactic(auto, unfolding(def_machine::specs::Native::native_guard))]
 pub fn native_guard(number: PrimId) -> Option<Guard>
     ensures { option_map guard_in result ≡ native.native_guard (native.primitive number) }
 {
@@ -138,7 +153,7 @@ pub fn native_guard(number: PrimId) -> Option<Guard>
 }
 
 /// The guard that takes null as well as this primitive of a number below 32.
-#[tactic(auto, unfolding(ev_machine::specs::Native::null_or))]
+#[tactic(auto, unfolding(def_machine::specs::Native::null_or))]
 fn null_or_bare(primitive: Primitive, number: PrimId) -> Reply
     requires low { number < 32 }
     requires bare { IsBare primitive }
@@ -167,7 +182,7 @@ fn null_or_number(number: PrimId) -> Reply
 
 /// The guard that takes null as well as what a followed native guard takes. Anything else, and a guard that takes null itself,
 /// is a bad argument.
-#[tactic(auto, unfolding(ev_machine::specs::Native::null_or_reply))]
+#[tactic(auto, unfolding(def_machine::specs::Native::null_or_reply))]
 pub fn null_or(x: Value) -> Reply
     ensures { (h : Contents) → reply_in h result ≡ native.null_or_reply (value_in h x) }
 {

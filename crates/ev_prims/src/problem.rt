@@ -3,7 +3,7 @@
 ghost use Rattle.std.specs.Prelude.{◌≡◌};
 ghost use Rattle.ev_prims.specs.Problems.{problem_words};
 
-use ev_num::NumFault;
+use ev_integer::NumFault;
 
 /// Why a native method gives no value. What a program is told of it is its text, `as_str`.
 #[derive(Clone, Copy, Debug, PartialEq, Eq)]

@@ -2,7 +2,7 @@
 
 ghost use Rattle.std.specs.Prelude.{◌≡◌, ◌+◌, ◌≤◌, ◌<ℤ◌, ◌≤ℤ◌, ◌+ℤ◌, ◌^◌, IfOk, pos};
 ghost use Rattle.ev_heap.specs.Contents.{Contents};
-ghost use Rattle.ev_machine.specs.Native as native;
+ghost use Rattle.def_machine.specs.Native as native;
 ghost use Rattle.ev_prims.specs.Ranges.{range_answer};
 ghost use Rattle.ev_prims.specs.Reading.{reply_in, value_in, values_in};
 
@@ -77,7 +77,7 @@ fn through(alloc: Global, first: i128, last: i128) -> Result<Reply, Memory>
 }
 
 /// The integers from one followed value to another, by whether the last is among them.
-#[tactic(auto, unfolding(ev_machine::specs::Native::range_reply))]
+#[tactic(auto, unfolding(def_machine::specs::Native::range_reply))]
 fn ranged(alloc: Global, last: bool, x: Value, y: Value) -> Result<Reply, Memory>
     ensures { IfOk result (λ r. (h : Contents) → reply_in h r ≡ native.range_reply last (value_in h x) (value_in h y)) }
 {

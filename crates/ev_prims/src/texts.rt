@@ -3,7 +3,7 @@
 ghost use Rattle.std.specs.Prelude.{◌≡◌, ◌∷◌, [], All, IfOk, chars, codes, encode_utf8, length, map, slice_get, string_bytes, ◌++◌};
 ghost use Rattle.ev_base.specs.declared.values.Value.TheVariants.{Char, Int};
 ghost use Rattle.ev_heap.specs.Contents.{IsWeighable};
-ghost use Rattle.ev_machine.specs.Native as native;
+ghost use Rattle.def_machine.specs.Native as native;
 ghost use Rattle.ev_prims.specs.Answers.{got_letter, text_and, text_answer, text_ran, text_with};
 ghost use Rattle.ev_prims.specs.Reading.{text_in};
 ghost use Rattle.ev_prims.specs.Verbs.{picked, text_verb_named};
@@ -18,7 +18,7 @@ use crate::sizes::size_reply;
 use crate::verbs::{SeqVerb, text_verb};
 use ev_base::{Memory, Seq, Str, Value};
 use ev_heap::Heap;
-use ev_num::print;
+use ev_integer::print;
 use std::alloc::Global;
 
 /// How many characters a text has.

@@ -1,7 +1,7 @@
 //! The verbs of texts and lists.
 
 ghost use Rattle.std.specs.Prelude.{◌≡◌};
-ghost use Rattle.ev_machine.specs.Free.{same_words};
+ghost use Rattle.def_machine.specs.Free.{same_words};
 ghost use Rattle.ev_prims.specs.Verbs.{list_verb_named, text_verb_named};
 
 /// Whether a verb has this name. Its clause keeps the name as one text, and a test by `==` becomes one on each byte: for a long

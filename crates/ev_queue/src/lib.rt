@@ -4,6 +4,3 @@
 pub mod queue;
 
 pub use queue::TurnQueue;
-
-#[cfg(test)]
-mod tests;

@@ -1,12 +1,12 @@
 -- What a text is read as: its tokens, the surface tree that they spell, the expansion of that tree, checked for scopes. The
 -- first of these that there is none of is the refusal.
 use Rattle.std.specs.Prelude.{◌≡◌, ℕ, List, Result, Ok, Err, Some, None}
-use Rattle.ev_token.specs.declared.token.Token.{Token}
+use Rattle.def_syntax.specs.declared.token.Token.{Token}
 use Rattle.ev_lexer.specs.Lexed.{lexed}
 use Rattle.ev_parser.specs.Parsed.{IsParsed}
 use Rattle.ev_parser.specs.declared.parser.ParseFault.TheVariants.{NoSpelling, TooNested}
-use Rattle.ev_sugar.specs.declared.sugar.Sugar.{Sugar}
-use Rattle.ev_kernel.specs.declared.node.Node.{Node}
+use Rattle.def_syntax.specs.declared.sugar.Sugar.{Sugar}
+use Rattle.def_kernel.specs.declared.node.Node.{Node}
 use Rattle.ev_expand.specs.declared.marks.Fault.{Fault}
 use Rattle.ev_expand.specs.declared.marks.FaultKind.{FaultKind}
 use Rattle.ev_expand.specs.declared.marks.FaultKind.TheVariants.{Return, Break, Name}

@@ -6,6 +6,3 @@ pub mod reader;
 
 pub use fault::{ProgramFault, Stage};
 pub use reader::read_program;
-
-#[cfg(test)]
-mod tests;

@@ -4,9 +4,9 @@ use Rattle.std.specs.Prelude.{◌==◌, slice_get, slice_set}
 use Rattle.std.proofs.lemmas.Cmp.{nat_eq_equiv}
 use Rattle.std.proofs.lemmas.List.{map-append}
 use Rattle.ev_base.specs.declared.values.Value.{Value as Held}
-use Rattle.ev_machine.specs.Values.{Words, Local, Prom, same_local, numbering}
-use Rattle.ev_machine.specs.State as machine
-use Rattle.ev_machine.specs.State.{Change, Hold, Wait, WaitOn, See, React, ToTell, Settle, changed, changed_to, with_change}
+use Rattle.def_machine.specs.Values.{Words, Local, Prom, same_local, numbering}
+use Rattle.def_machine.specs.State as machine
+use Rattle.def_machine.specs.State.{Change, Hold, Wait, WaitOn, See, React, ToTell, Settle, changed, changed_to, with_change}
 use Rattle.ev_refs.specs.Changes.{unless_settled, with_held, with_waiting, waiting_on, seen_as, with_reaction, with_told, settled_as}
 use Rattle.ev_refs.specs.Reading.{value_by, message_by, known_by, knowns_by, standing_by}
 use Rattle.ev_refs.specs.declared.known.Known.{Known}

@@ -7,7 +7,7 @@ use Rattle.std.proofs.lemmas.Cmp.{nat_eq_equiv}
 use Rattle.std.proofs.lemmas.List.{length-replicate}
 use Rattle.ev_base.specs.declared.values.Value.{Value}
 use Rattle.ev_base.specs.declared.values.Value.TheVariants as held
-use Rattle.ev_machine.specs.State.{is_in}
+use Rattle.def_machine.specs.State.{is_in}
 use Rattle.ev_refs.specs.Follow.{followed, led, severed}
 use Rattle.ev_refs.specs.Leading.{Searching, is_name, list_of, lists_of, members_at, members_of, leads_back, is_unmet, meet, meet_if, meet_all}
 use Rattle.ev_refs.specs.References.{References}

@@ -1,15 +1,7 @@
 pub mod Follows
 pub mod Machine
 pub mod Changing
-pub mod Settles
-pub mod Performs
-pub mod Working
-pub mod Waits
-pub mod Resolves
-pub mod Sends
-pub mod Reacts
-pub mod Faults
+pub mod Chains
 pub mod Leads
 pub mod Reaches
 pub mod Tells
-pub mod Resolvers

@@ -4,11 +4,11 @@ use Rattle.std.specs.Prelude.{◌==◌, if◌then◌else◌, codes, option_map, 
 use Rattle.std.proofs.lemmas.Cmp.{nat_eq_equiv}
 use Rattle.ev_base.specs.declared.values.Value.{Value as Held}
 use Rattle.ev_base.specs.declared.values.Value.TheVariants as held
-use Rattle.ev_machine.specs.Values.{Words, Value, Ref, Broken, Naming, Local, Obj, Prom, Far, numbering, same_local, local_spot}
-use Rattle.ev_machine.specs.State as machine
-use Rattle.ev_machine.specs.State.{Vat, is_in}
-use Rattle.ev_machine.specs.Refs as refs
-use Rattle.ev_machine.specs.Refs.{entry_of, standing_in, standing_of, host_in, host_at, follow, follow_at, severed_at, place, hosted, spotted}
+use Rattle.def_machine.specs.Values.{Words, Value, Ref, Broken, Naming, Local, Obj, Prom, Far, numbering, same_local, local_spot}
+use Rattle.def_machine.specs.State as machine
+use Rattle.def_machine.specs.State.{Vat, is_in}
+use Rattle.def_machine.specs.Refs as refs
+use Rattle.def_machine.specs.Refs.{entry_of, standing_in, standing_of, host_in, host_at, follow, follow_at, severed_at, place, hosted, spotted}
 use Rattle.ev_refs.specs.References.{References}
 use Rattle.ev_refs.specs.Follow.{step_from, onward, step_of, step_found, led_by, led_on, led, host_found, host_of, severed_by, severed, followed, place_of}
 use Rattle.ev_refs.specs.Follow as code

@@ -5,10 +5,10 @@ use Rattle.std.specs.List.{list_any}
 use Rattle.std.proofs.lemmas.Option.{slice_get-map}
 use Rattle.ev_base.specs.declared.values.Value.{Value as Held}
 use Rattle.ev_base.specs.declared.values.Value.TheVariants as held
-use Rattle.ev_machine.specs.Native.{list_at}
-use Rattle.ev_machine.specs.Refs.{any_of, reached, reaches}
-use Rattle.ev_machine.specs.State.{Vat}
-use Rattle.ev_machine.specs.Values.{Words, Value, Local, Prom, numbering, same_local}
+use Rattle.def_machine.specs.Native.{list_at}
+use Rattle.def_machine.specs.Refs.{any_of, reached, reaches}
+use Rattle.def_machine.specs.State.{Vat}
+use Rattle.def_machine.specs.Values.{Words, Value, Local, Prom, numbering, same_local}
 use Rattle.ev_refs.specs.Follow.{followed}
 use Rattle.ev_refs.specs.Leading.{is_name, list_of, members_at, members_of, leads_back}
 use Rattle.ev_refs.specs.Reading.{value_by, vat_by}

@@ -2,12 +2,12 @@
 use Rattle.std.proofs.Common.{◌≡◌, ℕ, List, Option, refl, sym, ap, ◌∙◌, subst}
 use Rattle.ev_base.specs.declared.values.Value.{Value as Held}
 use Rattle.ev_base.specs.declared.values.Value.TheVariants as held
-use Rattle.ev_kernel.specs.declared.node.Node.{Node}
-use Rattle.ev_machine.specs.Perform as perform
-use Rattle.ev_machine.specs.Perform.{test_reply}
-use Rattle.ev_machine.specs.Refs as refs
-use Rattle.ev_machine.specs.Scopes as scopes
-use Rattle.ev_machine.specs.Values.{Words, Value, Local}
+use Rattle.def_kernel.specs.declared.node.Node.{Node}
+use Rattle.def_machine.specs.Perform as perform
+use Rattle.def_machine.specs.Perform.{test_reply}
+use Rattle.def_machine.specs.Refs as refs
+use Rattle.def_machine.specs.Scopes as scopes
+use Rattle.def_machine.specs.Values.{Words, Value, Local}
 use Rattle.ev_prims.specs.Asking.{ref_test_in}
 use Rattle.ev_prims.specs.declared.asking.RefTest.{RefTest}
 use Rattle.ev_prims.specs.declared.asking.RefTest.TheVariants.{IsNear, IsFar, IsResolved, IsBroken, OptProblem, Fulfillment}

@@ -2,7 +2,7 @@
 use Rattle.std.specs.Prelude.{ℕ, [], ◌∷◌, ◌++◌, Some, None}
 use Rattle.std.specs.declared.option.Option.{Option}
 use Rattle.ev_base.specs.declared.values.Value.{Value}
-use Rattle.ev_machine.specs.State.{with_vat}
+use Rattle.def_machine.specs.State.{with_vat}
 use Rattle.ev_refs.specs.declared.known.Known.{Known}
 use Rattle.ev_refs.specs.declared.known.Message.{Message}
 use Rattle.ev_refs.specs.declared.known.Waiters.{Waiters}

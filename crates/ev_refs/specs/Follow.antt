@@ -3,7 +3,7 @@ use Rattle.std.specs.Prelude.{ℕ, zero, suc, if◌then◌else◌, List, ◌==�
 use Rattle.std.specs.declared.option.Option.{Option}
 use Rattle.ev_base.specs.declared.values.Value.{Value}
 use Rattle.ev_base.specs.declared.values.Value.TheVariants as held
-use Rattle.ev_machine.specs.State.{is_in}
+use Rattle.def_machine.specs.State.{is_in}
 use Rattle.ev_refs.specs.References.{References}
 use Rattle.ev_refs.specs.declared.follow.Place.{Place}
 use Rattle.ev_refs.specs.declared.follow.Place.TheVariants.{Near, Mine, FarPromise, FarObject, Gone}

@@ -3,14 +3,7 @@ pub mod References
 pub mod Follow
 pub mod Statements
 pub mod Changes
-pub mod Tasks
-pub mod Settling
-pub mod Performing
-pub mod Work
-pub mod Resolving
-pub mod Sending
-pub mod Reacting
-pub mod Faults
+pub mod Mailing
+pub mod Waiting
 pub mod Leading
 pub mod Telling
-pub mod Answering

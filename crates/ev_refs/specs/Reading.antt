@@ -1,10 +1,10 @@
 -- How what a vat has of references stands for the machine's, in local numbers, where the texts of its heap are these.
-use Rattle.std.specs.Prelude.{ℕ, zero, suc, true, false, List, [], ◌∷◌, map, slice_get, unwrap_or}
+use Rattle.std.specs.Prelude.{ℕ, zero, suc, true, false, List, [], ◌∷◌, map, option_map, slice_get, unwrap_or}
 use Rattle.ev_base.specs.declared.values.Value.{Value as Held}
-use Rattle.ev_machine.specs.Values.{Words, Value, Prim, Local, Prom, Far, Mess}
-use Rattle.ev_machine.specs.State as machine
-use Rattle.ev_machine.specs.State.{Vat}
-use Rattle.ev_machine.specs.Refs as refs
+use Rattle.def_machine.specs.Values.{Words, Value, Prim, Local, Prom, Far, Mess}
+use Rattle.def_machine.specs.State as machine
+use Rattle.def_machine.specs.State.{Vat}
+use Rattle.def_machine.specs.Refs as refs
 use Rattle.ev_prims.specs.Reading as prims
 use Rattle.ev_refs.specs.References.{References}
 use Rattle.ev_refs.specs.declared.follow.Place.{Place}
@@ -23,7 +23,7 @@ abbrev pub value_by : List Words → Held → Value Local
 value_by ts v = prims.value_by (text_by ts) v
 
 abbrev pub message_by : List Words → Message → machine.Message Local
-message_by ts m = record { id = Mess m.id; target = value_by ts m.target; verb = m.verb; args = map (value_by ts) m.args; answer = Prom m.answer }
+message_by ts m = record { id = Mess m.id; target = value_by ts m.target; verb = m.verb; args = map (value_by ts) m.args; answer = option_map Prom m.answer }
 
 abbrev pub standing_by : List Words → Standing → machine.Standing Local
 standing_by ts Unsettled = machine.Unsettled

@@ -1,9 +1,9 @@
 -- What is said of references in the machine's terms.
 use Rattle.std.specs.Prelude.{◌≡◌, ℕ, List, codes, map}
 use Rattle.ev_base.specs.declared.values.Value.{Value as Held}
-use Rattle.ev_machine.specs.Values.{Words, Local, Prom, numbering}
-use Rattle.ev_machine.specs.State.{Vat}
-use Rattle.ev_machine.specs.Refs.{follow, place, reaches}
+use Rattle.def_machine.specs.Values.{Words, Local, Prom, numbering}
+use Rattle.def_machine.specs.State.{Vat}
+use Rattle.def_machine.specs.Refs.{follow, place, reaches}
 use Rattle.ev_refs.specs.References.{References}
 use Rattle.ev_refs.specs.Follow.{followed, place_of}
 use Rattle.ev_refs.specs.Leading.{leads_back}

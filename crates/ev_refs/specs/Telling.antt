@@ -3,12 +3,12 @@ use Rattle.std.specs.Prelude.{◌≡◌, ℕ, Bool, true, false, List, Some, Non
 use Rattle.std.specs.declared.option.Option.{Option}
 use Rattle.ev_base.specs.declared.values.Value.{Value as Held}
 use Rattle.ev_base.specs.declared.values.Value.TheVariants as held
-use Rattle.ev_kernel.specs.declared.node.Node.{Node}
-use Rattle.ev_machine.specs.Native as native
-use Rattle.ev_machine.specs.Perform.{broken_text, test_reply}
-use Rattle.ev_machine.specs.Refs.{follow, place}
-use Rattle.ev_machine.specs.State.{Vat}
-use Rattle.ev_machine.specs.Values.{Words, Local, numbering}
+use Rattle.def_kernel.specs.declared.node.Node.{Node}
+use Rattle.def_machine.specs.Native as native
+use Rattle.def_machine.specs.Perform.{broken_text, test_reply}
+use Rattle.def_machine.specs.Refs.{follow, place}
+use Rattle.def_machine.specs.State.{Vat}
+use Rattle.def_machine.specs.Values.{Words, Local, numbering}
 use Rattle.ev_prims.specs.Asking.{ref_test_in}
 use Rattle.ev_prims.specs.declared.asking.RefTest.{RefTest}
 use Rattle.ev_prims.specs.declared.asking.RefTest.TheVariants.{IsNear, IsFar, IsResolved, IsBroken, OptProblem, Fulfillment}

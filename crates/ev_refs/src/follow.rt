@@ -1,7 +1,7 @@
 //! Where values lead.
 
 ghost use Rattle.std.specs.Prelude.{◌≡◌, length, suc};
-ghost use Rattle.ev_machine.specs.State.{is_in};
+ghost use Rattle.def_machine.specs.State.{is_in};
 ghost use Rattle.ev_refs.specs.Follow.{followed, hosted, host_of, led_on, place_of, severed, severed_by, step_of};
 
 use crate::known::{Standing, is_among};

@@ -1,10 +1,11 @@
 //! What a vat knows of a name, and what waits there.
 
 ghost use Rattle.std.specs.Prelude.{◌≡◌, OnErr, OnOk};
-ghost use Rattle.ev_machine.specs.State.{is_in, with_vat};
+ghost use Rattle.def_machine.specs.State.{is_in, with_vat};
 ghost use Rattle.ev_refs.specs.Changes.{seen_as, settled_as, unless_settled, waiters_at, waiting_on, with_held, with_reaction, with_told, with_waiting};
 
-use ev_base::{Memory, MsgId, PromId, Seq, Str, Value, VatId};
+use ev_base::{Memory, MsgId, PromId, Seq, Value, VatId};
+use ev_word::Word;
 use std::alloc::Global;
 use std::mem;
 
@@ -25,10 +26,10 @@ pub struct Message {
     /// Its number among the messages that the vat has had.
     pub id: MsgId,
     pub target: Value,
-    pub verb: Str,
+    pub verb: Word,
     pub args: Seq<Value>,
-    /// The name of its answer.
-    pub answer: PromId,
+    /// The name of its answer, if it asks for one.
+    pub answer: Option<PromId>,
 }
 
 /// What a vat knows of a name.
@@ -57,7 +58,7 @@ pub struct Waiters {
 }
 
 /// Whether a vat is among these.
-#[tactic(auto, unfolding(ev_machine::specs::State::is_in))]
+#[tactic(auto, unfolding(def_machine::specs::State::is_in))]
 pub(crate) fn is_among(vat: VatId, vats: &[VatId]) -> bool
     ensures { result ≡ is_in vat vats.now }
 {
@@ -139,7 +140,7 @@ impl Known {
     }
 
     /// A vat is to be told of it, once, unless it settled.
-    #[tactic(auto, unfolding(crate::specs::Changes::unless_settled, ev_machine::specs::State::with_vat))]
+    #[tactic(auto, unfolding(crate::specs::Changes::unless_settled, def_machine::specs::State::with_vat))]
     pub(crate) fn tell(&mut self, vat: VatId) -> Result<(), Memory>
         ensures ok { OnOk result (self.new ≡ with_told vat self.old) }
         ensures err { OnErr result (self.new ≡ self.old) }

@@ -51,6 +51,27 @@ impl Refs {
         }
     }
 
+    /// The vat's own number.
+    pub fn me(&self) -> VatId
+        ensures { result ≡ self.now.me }
+    {
+        self.me
+    }
+
+    /// The text `partition`.
+    pub fn partition(&self) -> TextId
+        ensures { result ≡ self.now.partition }
+    {
+        self.partition
+    }
+
+    /// The text `cycle`.
+    pub fn cycle(&self) -> TextId
+        ensures { result ≡ self.now.cycle }
+    {
+        self.cycle
+    }
+
     /// How many names are known.
     pub fn count(&self) -> u64
         ensures { result ≡ length self.now.known }

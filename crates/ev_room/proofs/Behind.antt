@@ -2,9 +2,9 @@
 use Rattle.std.proofs.Common.{◌≡◌, ℕ, List, [], ◌∷◌, ◌++◌, Option, Some, None, Ok, Err, length, refl, sym, ap, ◌∙◌, append_assoc, append-nil}
 use Rattle.std.specs.Prelude.{take, slice_get}
 use Rattle.std.proofs.Math.Seq.{take-append_seam}
-use Rattle.ev_kernel.specs.declared.node.Node.{Node}
-use Rattle.ev_kernel.specs.declared.node.Node.TheVariants.{Final}
-use Rattle.ev_machine.specs.Values.{Words}
+use Rattle.def_kernel.specs.declared.node.Node.{Node}
+use Rattle.def_kernel.specs.declared.node.Node.TheVariants.{Final}
+use Rattle.def_machine.specs.Values.{Words}
 use Rattle.ev_room.specs.declared.exit.Exit.{Exit}
 use Rattle.ev_base.specs.declared.values.Value.TheVariants as held
 use Rattle.ev_room.specs.declared.room.Room.{Room}

@@ -11,15 +11,15 @@ use Rattle.ev_base.specs.declared.values.Value.TheVariants as held
 use Rattle.ev_heap.specs.Contents.{Contents}
 use Rattle.ev_heap.specs.declared.happened.Happened.TheVariants as event
 use Rattle.ev_heap.specs.declared.kept.Cell.{Cell}
-use Rattle.ev_kernel.specs.declared.node.Node.{Node}
-use Rattle.ev_machine.specs.Values.{Words, Value, Null, Flag, Prim, Local}
-use Rattle.ev_machine.specs.State.{Bound, Fixed, Slot, Cell as TheirCell, Binding as Bond, SlotMade, SlotRead, SlotWrote, Vat, Done, Astray, for_some, opened_state}
-use Rattle.ev_machine.specs.State as machine
-use Rattle.ev_machine.specs.Scopes.{any_guard, bound_in}
-use Rattle.ev_machine.specs.Scopes as scopes
-use Rattle.ev_machine.specs.Eval.{opened_eval}
-use Rattle.ev_machine.specs.Eval as theirs
-use Rattle.ev_machine.specs.Native as native
+use Rattle.def_kernel.specs.declared.node.Node.{Node}
+use Rattle.def_machine.specs.Values.{Words, Value, Null, Flag, Prim, Local}
+use Rattle.def_machine.specs.State.{Bound, Fixed, Slot, Cell as TheirCell, Binding as Bond, SlotMade, SlotRead, SlotWrote, Vat, Done, Astray, for_some, opened_state}
+use Rattle.def_machine.specs.State as machine
+use Rattle.def_machine.specs.Scopes.{any_guard, bound_in}
+use Rattle.def_machine.specs.Scopes as scopes
+use Rattle.def_machine.specs.Eval.{opened_eval}
+use Rattle.def_machine.specs.Eval as theirs
+use Rattle.def_machine.specs.Native as native
 use Rattle.ev_room.specs.declared.exit.Exit.TheVariants as exit
 use Rattle.ev_room.specs.declared.room.Room.{Room}
 use Rattle.ev_room.specs.declared.scope.Binding.{Binding}

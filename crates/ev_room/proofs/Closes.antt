@@ -3,12 +3,12 @@ use Rattle.std.proofs.Common.{◌≡◌, ℕ, nat_lt, true, List, [], ◌∷◌,
 use Rattle.ev_base.specs.declared.values.Value.{Value as Held}
 use Rattle.ev_base.specs.declared.values.Value.TheVariants as held
 use Rattle.ev_heap.specs.declared.happened.Happened.TheVariants as event
-use Rattle.ev_machine.specs.Values.{Words, Value, Local}
-use Rattle.ev_machine.specs.State.{Called, Back, Thrown, Left, Vat, Done, Throws, Stops, Fuel, Deep, Astray}
-use Rattle.ev_machine.specs.State as machine
-use Rattle.ev_machine.specs.Scopes as scopes
-use Rattle.ev_machine.specs.Perform as perform
-use Rattle.ev_machine.specs.Native as native
+use Rattle.def_machine.specs.Values.{Words, Value, Local}
+use Rattle.def_machine.specs.State.{Called, Back, Thrown, Left, Vat, Done, Throws, Stops, Fuel, Deep, Astray}
+use Rattle.def_machine.specs.State as machine
+use Rattle.def_machine.specs.Scopes as scopes
+use Rattle.def_machine.specs.Perform as perform
+use Rattle.def_machine.specs.Native as native
 use Rattle.ev_prims.specs.declared.reply.Reply.TheVariants as reply
 use Rattle.ev_room.specs.declared.exit.Exit.TheVariants as exit
 use Rattle.ev_room.specs.declared.room.Room.{Room}

@@ -2,7 +2,7 @@
 use Rattle.std.proofs.Common.{◌≡◌, ℕ, suc, zero, List, [], ◌∷◌, ◌++◌, length, refl, sym, ap, ◌∙◌}
 use Rattle.std.specs.Prelude.{take, Result, Ok, Err, OnOk, OnErr}
 use Rattle.ev_base.specs.declared.memory.Memory.{Memory}
-use Rattle.ev_machine.specs.Values.{Words}
+use Rattle.def_machine.specs.Values.{Words}
 use Rattle.ev_room.specs.declared.scope.Binding.{Binding}
 use Rattle.ev_room.specs.declared.scope.Bound.{Bound}
 use Rattle.ev_room.specs.declared.scope.Scope.{Scope}

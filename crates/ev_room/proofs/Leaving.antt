@@ -9,13 +9,13 @@ use Rattle.ev_heap.specs.declared.happened.Happened.TheVariants as event
 use Rattle.ev_heap.specs.declared.kept.Shape.{Shape}
 use Rattle.ev_heap.specs.declared.kept.Shape.TheVariants as shape
 use Rattle.ev_heap.specs.declared.kept.Thing.{Thing as HeldThing}
-use Rattle.ev_kernel.specs.declared.node.Node.{Node}
-use Rattle.ev_machine.specs.Values.{Words, Value, Null, Ref, Local, Obj, numbering}
-use Rattle.ev_machine.specs.State.{Thing, Ejector, Called, EjectorMade, Vat, Done, opened_state}
-use Rattle.ev_machine.specs.State as machine
-use Rattle.ev_machine.specs.Free.{entry, same_words}
-use Rattle.ev_machine.specs.Scopes as scopes
-use Rattle.ev_machine.specs.Calls as calls
+use Rattle.def_kernel.specs.declared.node.Node.{Node}
+use Rattle.def_machine.specs.Values.{Words, Value, Null, Ref, Local, Obj, numbering}
+use Rattle.def_machine.specs.State.{Thing, Ejector, Called, EjectorMade, Vat, Done, opened_state}
+use Rattle.def_machine.specs.State as machine
+use Rattle.def_machine.specs.Free.{entry, same_words}
+use Rattle.def_machine.specs.Scopes as scopes
+use Rattle.def_machine.specs.Calls as calls
 use Rattle.ev_prims.specs.declared.problem.Problem.TheVariants.{NoMethod, DeadEjector}
 use Rattle.ev_room.specs.declared.room.Room.{Room}
 use Rattle.ev_room.specs.Reading.{World, names, value_of, values_of, shape_in, thing_of, line_of, vat_of}

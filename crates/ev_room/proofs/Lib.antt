@@ -13,4 +13,6 @@ pub mod Stands
 pub mod There
 pub mod Things
 pub mod Weights
+pub mod Plain
+pub mod Frozen
 pub mod Words

@@ -7,19 +7,19 @@ use Rattle.std.proofs.lemmas.Option.{slice_get-map}
 use Rattle.ev_base.specs.declared.values.Value.TheVariants as held
 use Rattle.ev_heap.specs.Contents.{Contents}
 use Rattle.ev_heap.specs.declared.happened.Happened.TheVariants as event
-use Rattle.ev_kernel.specs.declared.node.Node.{Node}
-use Rattle.ev_kernel.specs.declared.node.Node.TheVariants.{Object as ObjectNode, Method, Final}
-use Rattle.ev_machine.specs.Values.{Words, Ref, Local, Obj, numbering}
-use Rattle.ev_machine.specs.State.{Bound, Binding as Bond, Scope as Surroundings, ObjectMade, Made, Vat}
-use Rattle.ev_machine.specs.State as machine
-use Rattle.ev_machine.specs.Free.{free_nouns}
-use Rattle.ev_form.specs.FreeNames.{free_names, counted}
+use Rattle.def_kernel.specs.declared.node.Node.{Node}
+use Rattle.def_kernel.specs.declared.node.Node.TheVariants.{Object as ObjectNode, Method, Final}
+use Rattle.def_machine.specs.Values.{Words, Ref, Local, Obj, numbering}
+use Rattle.def_machine.specs.State.{Bound, Binding as Bond, Scope as Surroundings, ObjectMade, Made, Vat}
+use Rattle.def_machine.specs.State as machine
+use Rattle.def_machine.specs.Free.{free_nouns}
+use Rattle.ev_kernel_printer.specs.FreeNames.{free_names, counted}
 use mathlib.Core.List.{reverse_aux}
-use Rattle.ev_machine.specs.Scopes.{any_guard, bound_in}
-use Rattle.ev_machine.specs.Eval.{opened_eval}
-use Rattle.ev_machine.specs.Scopes as scopes
-use Rattle.ev_machine.specs.Calls as calls
-use Rattle.ev_machine.specs.Eval as theirs
+use Rattle.def_machine.specs.Scopes.{any_guard, bound_in}
+use Rattle.def_machine.specs.Eval.{opened_eval}
+use Rattle.def_machine.specs.Scopes as scopes
+use Rattle.def_machine.specs.Calls as calls
+use Rattle.def_machine.specs.Eval as theirs
 use Rattle.ev_heap.specs.declared.kept.Shape.TheVariants.{Made as Plain}
 use Rattle.ev_room.specs.declared.object.Code.TheVariants.{Runs}
 use Rattle.ev_room.specs.declared.room.Room.{Room}

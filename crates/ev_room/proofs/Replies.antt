@@ -4,7 +4,7 @@ use Rattle.std.specs.Prelude.{option_map, slice_get, unwrap_or}
 use Rattle.ev_base.specs.declared.values.Value.{Value}
 use Rattle.ev_heap.specs.Contents.{Contents}
 use Rattle.ev_heap.specs.declared.kept.Listed.{Listed}
-use Rattle.ev_machine.specs.Values.{Words}
+use Rattle.def_machine.specs.Values.{Words}
 use Rattle.ev_prims.specs.Answers.{members_at, data_answer}
 use Rattle.ev_prims.specs.declared.reply.Reply.{Reply}
 use Rattle.ev_prims.proofs.Holds.{AllOf, Fits as Holds, IsOfData, fits_data as holds_data}

@@ -1,16 +1,16 @@
 -- A heap that grows keeps what stood in it, and each change of evaluation leaves it sound.
 use Rattle.std.proofs.Common.{◌≡◌, ℕ, zero, suc, ◌+◌, ◌<◌, nat_lt, Bool, true, false, List, [], ◌∷◌, ◌++◌, Option, Some, length, fold, refl, sym, ap, subst, ◌∙◌, arith, append_assoc, append-nil}
-use Rattle.std.specs.Prelude.{if◌then◌else◌, slice_get, slice_set, max}
+use Rattle.std.specs.Prelude.{◌&&◌, if◌then◌else◌, slice_get, slice_set, max}
 use Rattle.std.proofs.lemmas.List.{length-append}
 use Rattle.ev_base.specs.declared.values.Value.{Value}
 use Rattle.ev_base.specs.declared.values.Value.TheVariants as held
-use Rattle.ev_heap.specs.Contents.{Contents, size_of, weight_in, height_in, weight_of, height_of, weight_of_all, height_of_all, listed}
+use Rattle.ev_heap.specs.Contents.{Contents, size_of, weight_in, height_in, weight_of, height_of, weight_of_all, height_of_all, is_plain, are_plain, plain_in, listed}
 use Rattle.ev_heap.specs.declared.kept.Cell.{Cell}
 use Rattle.ev_heap.specs.declared.kept.Listed.{Listed}
 use Rattle.ev_heap.specs.declared.kept.Shape.{Shape}
 use Rattle.ev_heap.specs.declared.kept.Shape.TheVariants.{Made, Ejector, Resolver, Audition}
 use Rattle.ev_heap.specs.declared.kept.Thing.{Thing}
-use Rattle.ev_machine.specs.Values.{Words}
+use Rattle.def_machine.specs.Values.{Words}
 use Rattle.ev_room.specs.Sound.{Each, Grown, IsSound, IsPlainCell, IsPlainShape, IsPlainThing, IsListed, is_there, are_there, is_bound, are_bound, plain_cell, plain_thing, problems}
 use Rattle.ev_room.specs.declared.object.Object.{Object}
 use Rattle.ev_room.specs.declared.scope.Binding.{Binding}
@@ -49,8 +49,8 @@ each_set P (z ∷ xs) (suc n) x h p (suc k) y e = each_set P xs n x (λ j. h (su
 each_on : {A : Type 0} (P Q : A → Type 0) (xs : List A) → ((x : A) → P x → Q x) → Each P xs → Each Q xs
 each_on P Q xs f h k x e = f x (h k x e)
 
-abbrev measured : List Value → ℕ → ℕ → Listed
-measured vs x y = record { members = vs; weight = x; height = y }
+abbrev measured : List Value → ℕ → ℕ → Bool → Listed
+measured vs x y p = record { members = vs; weight = x; height = y; plain = p }
 
 -- ---- growing
 
@@ -143,10 +143,21 @@ module _ {a b : Contents} (g : Grown a b) where
       let s = both (is_there a v) (are_there a vs) h in
       ap (λ (m : ℕ). fold (λ x v. max x (height_of b v)) (max n m) vs) (height_on v s.0) ∙ most_on (max n (height_of a v)) vs s.1
 
+  plain_on : (v : Value) → is_there a v ≡ true → is_plain b v ≡ is_plain a v
+  plain_on (held.List id) h = ap plain_in (got_list id h)
+  plain_on _ h = refl
+
+  plain_all_on : (vs : List Value) → are_there a vs ≡ true → are_plain b vs ≡ are_plain a vs
+  plain_all_on [] h = refl
+  plain_all_on (v ∷ vs) h =
+      let s = both (is_there a v) (are_there a vs) h in
+      ap (λ (p : Bool). p && are_plain b vs) (plain_on v s.0) ∙ ap (λ (p : Bool). is_plain a v && p) (plain_all_on vs s.1)
+
   listed_on : (vs : List Value) → are_there a vs ≡ true → listed a vs ≡ listed b vs
   listed_on vs h =
-      ap (λ (n : ℕ). measured vs (n + 1) (height_of_all a vs)) (sym (sum_on 0 vs h))
-      ∙ ap (λ (n : ℕ). measured vs (weight_of_all b vs) (n + 1)) (sym (most_on 0 vs h))
+      ap (λ (n : ℕ). measured vs (n + 1) (height_of_all a vs) (are_plain a vs)) (sym (sum_on 0 vs h))
+      ∙ ap (λ (n : ℕ). measured vs (weight_of_all b vs) (n + 1) (are_plain a vs)) (sym (most_on 0 vs h))
+      ∙ ap (λ (p : Bool). measured vs (weight_of_all b vs) (height_of_all b vs) p) (sym (plain_all_on vs h))
 
   -- ---- what is kept
 

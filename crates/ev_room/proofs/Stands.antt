@@ -7,15 +7,15 @@ use Rattle.ev_base.specs.declared.values.Value.TheVariants as held
 use Rattle.ev_heap.specs.Contents.{Contents, is_light, listed}
 use Rattle.ev_heap.specs.declared.happened.Happened.{Happened as Event}
 use Rattle.ev_heap.specs.declared.happened.Happened.TheVariants as event
-use Rattle.ev_kernel.specs.declared.node.Node.{Node}
-use Rattle.ev_machine.specs.Values.{Words, Value, Text, Items, Ref, Local, Obj, Prom, Far, Mess, same_local, local_spot, numbering}
-use Rattle.ev_machine.specs.State.{Bound, Fixed, Slot, Binding as Bond, Scope as Surroundings, Happened, ListMade, Known, Vat, Done, Throws, Ejects, Stops, Fuel, Deep, Astray, opened_state}
-use Rattle.ev_machine.specs.State as machine
-use Rattle.ev_machine.specs.Refs.{follow, follow_at, led, standing_of, standing_in, severed, severed_at, entry_of, list_fits}
-use Rattle.ev_machine.specs.Scopes.{Answer, Answers, any_guard}
-use Rattle.ev_machine.specs.Scopes as scopes
-use Rattle.ev_machine.specs.Perform as perform
-use Rattle.ev_num.specs.declared.arithmetic.NumFault.TheVariants.{Overflow, ZeroDivisor, NegativePower}
+use Rattle.def_kernel.specs.declared.node.Node.{Node}
+use Rattle.def_machine.specs.Values.{Words, Value, Text, Items, Ref, Local, Obj, Prom, Far, Mess, same_local, local_spot, numbering}
+use Rattle.def_machine.specs.State.{Bound, Fixed, Slot, Binding as Bond, Scope as Surroundings, Happened, ListMade, Known, Vat, Done, Throws, Ejects, Stops, Fuel, Deep, Astray, opened_state}
+use Rattle.def_machine.specs.State as machine
+use Rattle.def_machine.specs.Refs.{follow, follow_at, led, standing_of, standing_in, severed, severed_at, entry_of, list_fits}
+use Rattle.def_machine.specs.Scopes.{Answer, Answers, any_guard}
+use Rattle.def_machine.specs.Scopes as scopes
+use Rattle.def_machine.specs.Perform as perform
+use Rattle.ev_integer.specs.declared.arithmetic.NumFault.TheVariants.{Overflow, ZeroDivisor, NegativePower}
 use Rattle.ev_prims.specs.Problems.{problem_words}
 use Rattle.ev_prims.specs.declared.problem.Problem.{Problem}
 use Rattle.ev_prims.specs.declared.problem.Problem.TheVariants.{NoMethod, Arithmetic, NotInt, NotChar, NotBoolean, NotText, NotList, OutOfRange, BadArgument, NotComparable, TooHeavy, Unthrowable, DeadEjector}
@@ -298,7 +298,7 @@ problem_text w TooHeavy = refl
 problem_text w Unthrowable = refl
 problem_text w DeadEjector = refl
 
-problem_small : (p : Problem) → nat_lt (problem_id p) 15 ≡ true
+problem_small : (p : Problem) → nat_lt (problem_id p) 41 ≡ true
 problem_small (Arithmetic Overflow) = refl
 problem_small (Arithmetic ZeroDivisor) = refl
 problem_small (Arithmetic NegativePower) = refl
@@ -315,14 +315,18 @@ problem_small TooHeavy = refl
 problem_small Unthrowable = refl
 problem_small DeadEjector = refl
 
-problem_among : (p : Problem) (more : List Words) → nat_lt (problem_id p) (length (problems ++ more)) ≡ true
-problem_among p more =
-    let l : length (problems ++ more) ≡ 15 + length more = length-append problems more in
-    let b : problem_id p < 15 = below (problem_id p) 15 (problem_small p) in
-    is_below (problem_id p) (length (problems ++ more)) (omega arith)
+known_among : (n : ℕ) (more : List Words) → nat_lt n 41 ≡ true → nat_lt n (length (problems ++ more)) ≡ true
+known_among n more h =
+    let l : length (problems ++ more) ≡ 41 + length more = length-append problems more in
+    let b : n < 41 = below n 41 h in
+    is_below n (length (problems ++ more)) (omega arith)
+
+-- the first texts of a heap are there
+pub known_there : (h : Contents) → IsSound h → (n : ℕ) → nat_lt n 41 ≡ true → nat_lt n (length h.texts) ≡ true
+known_there h s n i = subst (λ (ts : List Words). nat_lt n (length ts) ≡ true) (sym s.problems_first.1) (known_among n s.problems_first.0 i)
 
 pub problem_there : (h : Contents) → IsSound h → (p : Problem) → nat_lt (problem_id p) (length h.texts) ≡ true
-problem_there h s p = subst (λ (ts : List Words). nat_lt (problem_id p) (length ts) ≡ true) (sym s.problems_first.1) (problem_among p s.problems_first.0)
+problem_there h s p = known_there h s (problem_id p) (problem_small p)
 
 pub fails_met : {A B : Type 0} (w : World) (look : Look A B) (p : Problem) (s : Room) → IsSound s.heap → Met w look s (fails p s) (machine.throw (problem_words p) (vat w s))
 unfolding fails

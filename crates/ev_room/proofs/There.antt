@@ -6,7 +6,7 @@ use Rattle.std.proofs.lemmas.Bool.Decides.{nat_tests}
 use Rattle.ev_base.specs.declared.values.Value.{Value}
 use Rattle.ev_base.specs.declared.values.Value.TheVariants as held
 use Rattle.ev_heap.specs.Contents.{Contents, IsWeighable, is_light}
-use Rattle.ev_machine.specs.Values.{Words}
+use Rattle.def_machine.specs.Values.{Words}
 use Rattle.ev_prims.specs.declared.problem.Problem.TheVariants.{TooHeavy}
 use Rattle.ev_room.specs.Sound.{is_there, are_there}
 use Rattle.ev_room.specs.Acts.{fail, fails, listed_there, make_list, problem_id, spell, spelled, store, stored, write_text}

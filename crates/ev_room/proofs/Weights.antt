@@ -6,9 +6,9 @@ use Rattle.ev_base.specs.declared.values.Value.{Value as Held}
 use Rattle.ev_base.specs.declared.values.Value.TheVariants as held
 use Rattle.ev_heap.specs.Contents.{Contents, size_of, weight_in, height_in, weight_of, height_of, is_light}
 use Rattle.ev_heap.specs.declared.kept.Listed.{Listed}
-use Rattle.ev_machine.specs.Values.{Words, Value, Null, Flag, Number, Letter, Text, Prim, Broken, Items, Ref, Local, Obj}
-use Rattle.ev_machine.specs.Native.{list_at}
-use Rattle.ev_machine.specs.Refs.{own_weight, take_room, room_behind, room_by, room_after, most, highest, has_room, list_fits}
+use Rattle.def_machine.specs.Values.{Words, Value, Null, Flag, Number, Letter, Text, Prim, Broken, Items, Ref, Local, Obj}
+use Rattle.def_machine.specs.Native.{list_at}
+use Rattle.def_machine.specs.Refs.{own_weight, take_room, room_behind, room_by, room_after, most, highest, has_room, list_fits}
 use Rattle.ev_prims.specs.Reading.{text_in}
 use Rattle.ev_prims.proofs.Means.{lists_are}
 use Rattle.ev_room.specs.Reading.{World, text_of, value_of, values_of, members_of}
@@ -163,10 +163,10 @@ max_assoc a b c = grind (arith, nat_tests)
 max_none : (a : ℕ) → a ≡ max a 0
 max_none a = grind (arith, nat_tests)
 
-none_max : (a : ℕ) → max 0 a ≡ a
+pub none_max : (a : ℕ) → max 0 a ≡ a
 none_max a = grind (arith, nat_tests)
 
-most_from : (f : Held → ℕ) (n : ℕ) (vs : List Held) → fold (λ x v. max x (f v)) n vs ≡ max n (fold (λ x v. max x (f v)) 0 vs)
+pub most_from : (f : Held → ℕ) (n : ℕ) (vs : List Held) → fold (λ x v. max x (f v)) n vs ≡ max n (fold (λ x v. max x (f v)) 0 vs)
 most_from f n [] = max_none n
 most_from f n (v ∷ vs) =
     most_from f (max n (f v)) vs ∙ max_assoc n (f v) (fold (λ x v. max x (f v)) 0 vs)

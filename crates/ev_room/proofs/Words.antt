@@ -7,9 +7,9 @@ use Rattle.std.proofs.lemmas.Bool.Decides.{nat_tests, same_from_decides}
 use Rattle.std.proofs.lemmas.Grind.{common_steps}
 use Rattle.std.proofs.lemmas.Slice.Eq.{bytes_eq-Decides}
 use Rattle.ev_base.specs.SafeScope.{primitives}
-use Rattle.ev_machine.specs.Values.{Words, Value, Null, Flag, Prim}
-use Rattle.ev_machine.specs.Free.{same_words, entry}
-use Rattle.ev_machine.specs.Native.{safe_value}
+use Rattle.def_machine.specs.Values.{Words, Value, Null, Flag, Prim}
+use Rattle.def_machine.specs.Free.{same_words, entry}
+use Rattle.def_machine.specs.Native.{prims_from, safe_value}
 use Rattle.ev_prims.specs.Verbs.{picked}
 
 split : (t u : Bool) → elim t [ true ↦ u | false ↦ false ] ≡ true → (t ≡ true) × (u ≡ true)
@@ -102,7 +102,7 @@ no_others x h = no_entry x 0 primitives h
 
 safe_chosen : {N : Type 0} (x : Words)
     → safe_value {N = N} x ≡ chosen (same_words (codes "null") x) (same_words (codes "true") x) (same_words (codes "false") x) (Some Null) (Some (Flag true)) (Some (Flag false)) (others x)
-unfolding safe_value entry prims chosen others
+unfolding safe_value prims_from entry prims chosen others
 safe_chosen x = refl
 
 pub safe_is : {N : Type 0} (x : Words)

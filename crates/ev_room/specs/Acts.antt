@@ -7,18 +7,18 @@ use Rattle.ev_base.specs.declared.values.Value.TheVariants as held
 use Rattle.ev_base.specs.SafeScope.{safe_value}
 use Rattle.ev_heap.specs.declared.happened.Happened.{Happened as Event}
 use Rattle.ev_heap.specs.declared.happened.Happened.TheVariants as event
-use Rattle.ev_kernel.specs.declared.node.Node.{Node}
-use Rattle.ev_kernel.specs.declared.node.Node.TheVariants.{Method, Final}
-use Rattle.ev_machine.specs.Values.{Words}
+use Rattle.def_kernel.specs.declared.node.Node.{Node}
+use Rattle.def_kernel.specs.declared.node.Node.TheVariants.{Method, Final}
+use Rattle.def_machine.specs.Values.{Words}
 use Rattle.ev_heap.specs.declared.kept.Capture.{Capture}
 use Rattle.ev_heap.specs.declared.kept.Capture.TheVariants as capture
 use Rattle.ev_heap.specs.declared.kept.Caught.{Caught}
 use Rattle.ev_heap.specs.declared.kept.Shape.{Shape}
 use Rattle.ev_heap.specs.declared.kept.Shape.TheVariants as shape
 use Rattle.ev_heap.specs.declared.kept.Thing.{Thing}
-use Rattle.ev_form.specs.FreeNames.{free_names}
-use Rattle.ev_machine.specs.Scopes.{name_of}
-use Rattle.ev_num.specs.declared.arithmetic.NumFault.TheVariants.{Overflow, ZeroDivisor, NegativePower}
+use Rattle.ev_kernel_printer.specs.FreeNames.{free_names}
+use Rattle.def_machine.specs.Scopes.{name_of}
+use Rattle.ev_integer.specs.declared.arithmetic.NumFault.TheVariants.{Overflow, ZeroDivisor, NegativePower}
 use Rattle.ev_heap.specs.Contents.{Contents, listed, is_light}
 use Rattle.ev_prims.specs.declared.problem.Problem.{Problem}
 use Rattle.ev_prims.specs.declared.problem.Problem.TheVariants.{NoMethod, Arithmetic, NotInt, NotChar, NotBoolean, NotText, NotList, OutOfRange, BadArgument, NotComparable, TooHeavy, Unthrowable, DeadEjector}

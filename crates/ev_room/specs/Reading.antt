@@ -3,10 +3,10 @@ use Rattle.std.specs.Prelude.{ℕ, Bool, true, false, if◌then◌else◌, List,
 use Rattle.ev_base.specs.declared.values.Value.{Value as Held}
 use Rattle.ev_base.specs.declared.values.Value.TheVariants as held
 use Rattle.ev_heap.specs.Contents.{Contents}
-use Rattle.ev_heap.specs.declared.micro.Micro.{Micro}
+use Rattle.ev_told.specs.declared.micro.Micro.{Micro}
 use Rattle.ev_heap.specs.declared.happened.Happened.{Happened as Event}
 use Rattle.ev_heap.specs.declared.happened.Happened.TheVariants as event
-use Rattle.ev_machine.specs.Values.{Words, Value, Prim, Ref, Naming, Local, Obj, Prom, numbering}
+use Rattle.def_machine.specs.Values.{Words, Value, Prim, Ref, Naming, Local, Obj, Prom, numbering}
 use Rattle.ev_heap.specs.declared.kept.Cell.{Cell as HeldCell}
 use Rattle.ev_heap.specs.declared.kept.Capture.{Capture}
 use Rattle.ev_heap.specs.declared.kept.Capture.TheVariants as capture
@@ -15,11 +15,10 @@ use Rattle.ev_heap.specs.declared.kept.Listed.{Listed}
 use Rattle.ev_heap.specs.declared.kept.Shape.{Shape}
 use Rattle.ev_heap.specs.declared.kept.Shape.TheVariants as shape
 use Rattle.ev_heap.specs.declared.kept.Thing.{Thing as HeldThing}
-use Rattle.ev_heap.specs.declared.kept.GuardKind.{GuardKind}
-use Rattle.ev_heap.specs.declared.kept.GuardKind.TheVariants as guard
+use Rattle.ev_audit.specs.Views.{guard_of, view_of}
 use Rattle.ev_prims.specs.Reading.{value_by}
 use Rattle.ev_room.specs.Sound.{problems}
-use Rattle.ev_machine.specs.State.{Thing, Made, Ejector, Audition, Resolver, Bound, Fixed, Slot, Binding, Cell, Message, Known, GiftEntry, Put, Happened, Called, Back, Thrown, Left, Got, SlotMade, SlotRead, SlotWrote, ListMade, EjectorMade, ObjectMade, Vat}
+use Rattle.def_machine.specs.State.{Thing, Made, Ejector, Audition, Resolver, Bound, Fixed, Slot, Binding, Cell, Message, Known, GiftEntry, Put, Happened, Called, Back, Thrown, Left, Got, SlotMade, SlotRead, SlotWrote, ListMade, EjectorMade, ObjectMade, Vat}
 
 -- What evaluation leaves as it is, and neither the heap's objects, slots, lists and activations nor what happened tell; and the texts
 -- that values stand for, those of the end of the turn, so that a value stands for one thing while the heap grows.
@@ -58,10 +57,6 @@ abbrev pub problem_of : World → Held → Words
 problem_of w (held.Text id) = text_of w id
 problem_of w _ = []
 
-abbrev pub guard_of : GuardKind → Value Local
-guard_of (guard.Native n) = Prim n
-guard_of (guard.User i) = Ref (Obj i)
-
 abbrev pub cell_of : World → HeldCell → Cell Local
 cell_of w c = record { guard = guard_of c.guard; value = value_of w c.value }
 
@@ -72,12 +67,11 @@ capture_in w (capture.Slot k) = Slot k
 abbrev pub caught_in : World → Caught → Binding Local
 caught_in w c = record { noun = c.noun; bound = capture_in w c.capture }
 
--- of an audition the heap keeps the node alone
 abbrev pub shape_in : World → Bool → Shape → Thing Local
 shape_in w alive (shape.Made node caught stamps) = Made node (map (caught_in w) caught) (map (value_of w) stamps)
 shape_in w alive shape.Ejector = Ejector alive
 shape_in w alive (shape.Resolver p) = Resolver (Prom p)
-shape_in w alive (shape.Audition node) = Audition alive (record { node = node; free = [] })
+shape_in w alive (shape.Audition view) = Audition alive (view_of view)
 
 abbrev pub thing_of : World → HeldThing → Thing Local
 thing_of w t = shape_in w t.alive t.shape

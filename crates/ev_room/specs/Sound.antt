@@ -49,13 +49,43 @@ abbrev pub problems : List (List ℕ)
 problems =
     codes "integer overflow" ∷ codes "not int" ∷ codes "no method" ∷ codes "zero divisor" ∷ codes "negative power" ∷ codes "not char"
     ∷ codes "not boolean" ∷ codes "not String" ∷ codes "not List" ∷ codes "out of range" ∷ codes "bad argument" ∷ codes "not comparable"
-    ∷ codes "too heavy" ∷ codes "not a text" ∷ codes "ejector is dead" ∷ []
+    ∷ codes "too heavy" ∷ codes "not a text" ∷ codes "ejector is dead" ∷ codes "no match" ∷ codes "not a list" ∷ codes "not a guard" ∷ codes "not an auditor"
+    ∷ codes "audition is dead" ∷ codes "not free" ∷ codes "not any" ∷ codes "not void" ∷ codes "not int" ∷ codes "not boolean" ∷ codes "not char"
+    ∷ codes "not String" ∷ codes "not List" ∷ codes "not nullOk" ∷ codes "not near" ∷ codes "not DeepFrozen" ∷ codes "not nullOk:any"
+    ∷ codes "not nullOk:void" ∷ codes "not nullOk:int" ∷ codes "not nullOk:boolean" ∷ codes "not nullOk:char" ∷ codes "not nullOk:String"
+    ∷ codes "not nullOk:List" ∷ codes "not nullOk:nullOk" ∷ codes "not nullOk:near" ∷ codes "not nullOk:DeepFrozen" ∷ []
+
+-- the numbers of those that are no problems of a native method
+abbrev pub no_match_id : ℕ
+no_match_id = 15
+
+abbrev pub not_a_list_id : ℕ
+not_a_list_id = 16
+
+abbrev pub not_a_guard_id : ℕ
+not_a_guard_id = 17
+
+abbrev pub not_an_auditor_id : ℕ
+not_an_auditor_id = 18
+
+abbrev pub dead_audition_id : ℕ
+dead_audition_id = 19
+
+abbrev pub not_free_id : ℕ
+not_free_id = 20
+
+-- the problem of a value that the first native guard does not take, and that of the same guard with null: those of the others come behind them
+abbrev pub not_taken_id : ℕ
+not_taken_id = 21
+
+abbrev pub not_taken_or_null_id : ℕ
+not_taken_or_null_id = 31
 
 -- ---- what stands in a heap
 
--- the primitives on which calls are built: lists and ranges, the comparer, the loop, and throw
+-- the primitives on which calls are built: lists and ranges, the equalizer, the comparer, the loop, and throw
 abbrev pub is_built_prim : ℕ → Bool
-is_built_prim n = if n == 0 then true else if n == 2 then true else if n == 3 then true else n == 6
+is_built_prim n = if n == 0 then true else if n == 1 then true else if n == 2 then true else if n == 3 then true else n == 6
 
 -- no noun of the safe scope, or null, true, false or a primitive on which calls are built
 abbrev pub is_built_safe : Option Value → Bool

@@ -1,43 +1,12 @@
 //! Lines of calls, and how calls end.
 
-ghost use Rattle.std.specs.Prelude.{◌≡◌, Err, IfOk};
-ghost use Rattle.ev_heap.specs.declared.happened.Happened.TheVariants.{Call};
+ghost use Rattle.std.specs.Prelude.{◌≡◌, Err};
 ghost use Rattle.ev_room.specs.Acts.{Gives, closed_by};
 
 use crate::exit::Exit;
 use crate::room::{Room, tell};
-use ev_base::{ActId, Memory, Seq, Str, Value};
+use ev_base::{ActId, Value};
 use ev_heap::Happened;
-use std::alloc::Global;
-
-/// A copy of these values.
-pub fn copy_of(alloc: Global, values: &[Value]) -> Result<Seq<Value>, Memory>
-    ensures { IfOk result (λ copy. copy ≡ values.now) }
-{
-    Ok(Seq::of(Vec::from_slice(alloc, values)?))
-}
-
-/// The line of a call, with the activation that it begins.
-pub fn call_line(
-    alloc: Global,
-    act: ActId,
-    target: Value,
-    verb: &str,
-    args: &[Value],
-    begun: Option<ActId>,
-) -> Result<Happened, Memory>
-    ensures { IfOk result (λ line. line ≡ Call act target verb.now args.now begun) }
-{
-    let verb = Str::copy_of(alloc, verb)?;
-    let args = copy_of(alloc, args)?;
-    Ok(Happened::Call {
-        activation: act,
-        target,
-        verb,
-        args,
-        begun,
-    })
-}
 
 /// Tells how a call ended that gave no value, and ends so.
 #[tactic(auto, using(crate::proofs::Exits::ends), unfolding(crate::specs::Acts::opened_acts))]

@@ -6,13 +6,13 @@ ghost use Rattle.ev_heap.specs.Contents.{IsWeighable, is_light};
 ghost use Rattle.ev_room.specs.Sound.{are_there, is_built_prim, is_there};
 ghost use Rattle.ev_room.specs.Acts.{Gives, call_there, keep_list, list_told, make_list, new_list, problem_id, spell, store, text_value, thrown_id, write_text};
 
-use crate::call::copy_of;
 use crate::exit::Exit;
-use crate::room::{Room, spend, tell};
+use crate::room::{Room, spend, tell_list};
 use ev_base::{ActId, ListId, Memory, PrimId, TextId, Value};
-use ev_heap::{Happened, Heap, ListFault};
-use ev_num::NumFault;
+use ev_heap::{Heap, ListFault};
+use ev_integer::NumFault;
 use ev_prims::Problem;
+use ev_word::Text;
 
 /// The greatest number of bytes of a text that a text answers.
 const MOST_BYTES: usize = 65535;
@@ -50,12 +50,12 @@ pub fn thrown_id(value: Value) -> TextId
     }
 }
 
-/// Whether calls on a primitive are built: on lists and ranges, the comparer, the loop, and throw.
+/// Whether calls on a primitive are built: on lists and ranges, the equalizer, the comparer, the loop, and throw.
 pub fn is_built_prim(number: PrimId) -> bool
     ensures { result ≡ is_built_prim number }
 {
     let number = number.0;
-    number == 0 || number == 2 || number == 3 || number == 6
+    number == 0 || number == 1 || number == 2 || number == 3 || number == 6
 }
 
 /// Whether a value stands in a heap.
@@ -114,6 +114,18 @@ pub fn text_value(text: &str, room: &mut Room) -> Result<Value, Exit>
     }
 }
 
+/// Keeps a text that others may hold too, and gives it as a value.
+#[tactic(auto, unfolding(crate::specs::Acts::opened_acts))]
+pub fn text_kept(text: &Text, room: &mut Room) -> Result<Value, Exit>
+    ensures outcome { Gives result room.new (text_value text.now room.old) }
+{
+    let text = text.share()?;
+    match room.heap.keep_text(text) {
+        Ok(id) => Ok(Value::Text(id)),
+        Err(Memory) => Err(Exit::Memory),
+    }
+}
+
 /// A text that is not too long, which takes a unit of fuel for each byte.
 #[tactic(auto, using(crate::proofs::Exits::ends), unfolding(crate::specs::Acts::opened_acts))]
 fn spell(text: &str, room: &mut Room) -> Result<Value, Exit>
@@ -152,8 +164,7 @@ fn new_list(members: &[Value], room: &mut Room) -> Result<ListId, Exit>
 fn list_told(act: ActId, members: &[Value], list: ListId, room: &mut Room) -> Result<Value, Exit>
     ensures outcome { Gives result room.new (list_told act members.now list room.old) }
 {
-    let copy = copy_of(room.alloc, members)?;
-    tell(room, Happened::List(act, list, copy))?;
+    tell_list(act, list, members, room)?;
     Ok(Value::List(list))
 }
 

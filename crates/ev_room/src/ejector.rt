@@ -3,13 +3,14 @@
 ghost use Rattle.std.specs.Prelude.{◌≡◌, ◌==◌, ◌<◌, Ok, length};
 ghost use Rattle.ev_room.specs.Acts.{Gives, call_ejector, ejected, ejector_answer, keep_ejector, kill, new_ejector};
 
-use crate::call::{call_line, closed};
+use crate::call::closed;
 use crate::data::problem_id;
 use crate::exit::Exit;
-use crate::room::{Room, tell};
+use crate::room::{Room, tell, tell_call};
 use ev_base::{ActId, Memory, ObjId, Value};
 use ev_heap::{Happened, Shape};
 use ev_prims::Problem;
+use ev_word::Word;
 
 /// Keeps an ejector, which is alive.
 #[tactic(auto, unfolding(crate::specs::Acts::opened_acts))]
@@ -99,14 +100,13 @@ pub fn call_ejector(
     act: ActId,
     ejector: ObjId,
     alive: bool,
-    verb: &str,
+    verb: &Word,
     args: &[Value],
     room: &mut Room,
 ) -> Result<Value, Exit>
     ensures outcome { Gives result room.new (call_ejector act ejector alive verb.now args.now room.old) }
 {
-    let line = call_line(room.alloc, act, Value::Obj(ejector), verb, args, None)?;
-    tell(room, line)?;
-    let outcome = ejector_answer(ejector, alive, ejected(verb, args));
+    tell_call(act, Value::Obj(ejector), verb, args, None, room)?;
+    let outcome = ejector_answer(ejector, alive, ejected(verb.as_str(), args));
     closed(act, outcome, room)
 }

@@ -3,19 +3,20 @@
 ghost use Rattle.std.specs.Prelude.{◌≡◌, [], IfOk, OnOk, Some, map, option_map, reverse};
 ghost use Rattle.ev_base.specs.declared.values.Value.TheVariants.{Obj};
 ghost use Rattle.ev_heap.specs.declared.happened.Happened.TheVariants.{Made};
-ghost use Rattle.ev_form.specs.FreeNames.{free_names};
-ghost use Rattle.ev_machine.specs.Scopes.{name_of};
+ghost use Rattle.ev_kernel_printer.specs.FreeNames.{free_names};
+ghost use Rattle.def_machine.specs.Scopes.{name_of};
 ghost use Rattle.ev_room.specs.Sound.{capture_of, capture_under, caught_of};
 ghost use Rattle.ev_room.specs.Acts.{Answers, Extends, Gives, GivesIn, binding_back, bound_back, captures, code_of, look_code, make_object, named, new_object, object_made, object_node};
 
 use crate::exit::Exit;
 use crate::room::{Room, tell};
-use crate::scope::{Binding, Bound, Scope, found};
+use crate::scope::{Binding, Bound, Scope, found_text};
 use crate::tree::node_at;
+use def_kernel::{Kernel, Node};
 use ev_base::{ActId, Memory, NodeId, ObjId, PrimId, Seq, Str, Value};
-use ev_form::free_names;
 use ev_heap::{Capture, Caught, GuardKind, Happened, Shape};
-use ev_kernel::{Kernel, Node};
+use ev_kernel_printer::free_names;
+use ev_word::Word;
 use std::alloc::Global;
 
 /// An object: the node of its object expression, and what its free names are bound to, in order of first use.
@@ -61,7 +62,7 @@ fn all_back(alloc: Global, caught: &[Caught]) -> Result<Seq<Binding>, Memory>
     let mut all = Seq::new(alloc);
     for one in caught {
         let bound = bound_back(one.capture);
-        let noun = Str::copy_of(alloc, one.noun.as_str())?;
+        let noun = one.noun.share()?;
         all.push(Binding { noun, bound })?;
     }
     Ok(all)
@@ -110,8 +111,8 @@ fn captures(alloc: Global, nouns: &[Binding], free: &[Str]) -> Result<Seq<Bindin
 {
     let mut all = Seq::new(alloc);
     for noun in free {
-        if let Some(bound) = found(nouns, noun.as_str()) {
-            let noun = Str::copy_of(alloc, noun.as_str())?;
+        if let Some(bound) = found_text(nouns, noun.as_str()) {
+            let noun = Word::copy_of(alloc, noun.as_str())?;
             all.push(Binding { noun, bound })?;
         }
     }
@@ -124,7 +125,7 @@ fn kept(alloc: Global, nouns: &[Binding]) -> Result<Seq<Caught>, Memory>
 {
     let mut all = Seq::new(alloc);
     for binding in nouns {
-        let noun = Str::copy_of(alloc, binding.noun.as_str())?;
+        let noun = binding.noun.share()?;
         let capture = capture_under(binding.bound, GuardKind::Native(PrimId(8)));
         all.push(Caught { noun, capture })?;
     }
@@ -145,7 +146,7 @@ fn made_line(
     for binding in nouns {
         caps.push(capture_under(binding.bound, GuardKind::Native(PrimId(8))))?;
     }
-    let name = Str::copy_of(alloc, name)?;
+    let name = Word::copy_of(alloc, name)?;
     Ok(Happened::Made {
         activation: act,
         object: Value::Obj(object),
@@ -173,7 +174,7 @@ fn new_object(node: NodeId, nouns: &[Binding], room: &mut Room) -> Result<ObjId,
     }
 }
 
-#[tactic(auto, unfolding(ev_machine::specs::Scopes::name_of))]
+#[tactic(auto, unfolding(def_machine::specs::Scopes::name_of))]
 fn name_in(pattern: &Node) -> &str
     ensures { result.now ≡ name_of (Some pattern.now) }
 {
@@ -184,7 +185,7 @@ fn name_in(pattern: &Node) -> &str
 }
 
 /// The name of an object, by its pattern.
-#[tactic(auto, unfolding(ev_machine::specs::Scopes::name_of))]
+#[tactic(auto, unfolding(def_machine::specs::Scopes::name_of))]
 fn name_of(pattern: Option<&Node>) -> &str
     ensures { result.now ≡ name_of (option_map (λ node. node.now) pattern.entry) }
 {
@@ -206,7 +207,7 @@ fn bind_name_in(
 {
     match pattern {
         Node::Final(noun, _) => {
-            let noun = Str::copy_of(alloc, noun.as_str())?;
+            let noun = noun.share()?;
             here.nouns.push(Binding {
                 noun,
                 bound: Bound::Fixed(Value::Obj(object)),

@@ -1,11 +1,14 @@
 //! Where evaluation works: the heap of a vat, the fuel that is left, and what happened.
 
 ghost use Rattle.std.specs.Prelude.{◌≡◌};
+ghost use Rattle.ev_heap.specs.declared.happened.Happened.TheVariants as event;
 ghost use Rattle.ev_room.specs.Acts.{Gives, new_activation, spend, tell};
 
 use crate::exit::Exit;
-use ev_base::{ActId, Memory, Value};
-use ev_heap::{Happened, Heap, Micro};
+use ev_base::{ActId, ListId, Memory, Value};
+use ev_heap::{Happened, Heap};
+use ev_told::Micro;
+use ev_word::Word;
 use std::alloc::Global;
 
 /// The heap of a vat, the fuel that is left, and what happened.
@@ -35,6 +38,36 @@ pub fn tell(room: &mut Room, event: Happened) -> Result<(), Exit>
     ensures outcome { Gives result room.new (tell event room.old) }
 {
     match room.micro.push(event) {
+        Ok(()) => Ok(()),
+        Err(Memory) => Err(Exit::Memory),
+    }
+}
+
+/// Tells a call, with the activation that it begins.
+#[tactic(auto, unfolding(crate::specs::Acts::opened_acts))]
+pub fn tell_call(
+    act: ActId,
+    target: Value,
+    verb: &Word,
+    args: &[Value],
+    begun: Option<ActId>,
+    room: &mut Room,
+) -> Result<(), Exit>
+    ensures outcome { Gives result room.new (tell (event.Call act target verb.now args.now begun) room.old) }
+{
+    let verb = verb.share()?;
+    match room.micro.push_call(act, target, verb, args, begun) {
+        Ok(()) => Ok(()),
+        Err(Memory) => Err(Exit::Memory),
+    }
+}
+
+/// Tells that a list was made.
+#[tactic(auto, unfolding(crate::specs::Acts::opened_acts))]
+pub fn tell_list(act: ActId, list: ListId, members: &[Value], room: &mut Room) -> Result<(), Exit>
+    ensures outcome { Gives result room.new (tell (event.List act list members.now) room.old) }
+{
+    match room.micro.push_list(act, list, members) {
         Ok(()) => Ok(()),
         Err(Memory) => Err(Exit::Memory),
     }

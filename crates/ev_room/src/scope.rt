@@ -3,7 +3,8 @@
 ghost use Rattle.std.specs.Prelude.{◌≡◌, None};
 ghost use Rattle.ev_room.specs.Acts.{cut, found_from};
 
-use ev_base::{ActId, Seq, SlotId, Str, Value};
+use ev_base::{ActId, Seq, SlotId, Value};
+use ev_word::Word;
 use std::alloc::Global;
 use std::mem;
 
@@ -19,7 +20,7 @@ pub enum Bound {
 /// A noun, and what it is bound to.
 #[derive(Drop)]
 pub struct Binding {
-    pub noun: Str,
+    pub noun: Word,
     pub bound: Bound,
 }
 
@@ -32,7 +33,21 @@ pub struct Scope {
 
 /// What the innermost binding of a noun binds it to.
 #[tactic(auto, unfolding(crate::specs::Acts::found_from))]
-pub fn found(nouns: &[Binding], noun: &str) -> Option<Bound>
+pub fn found(nouns: &[Binding], noun: &Word) -> Option<Bound>
+    ensures { result ≡ found_from None nouns.now noun.now }
+{
+    let mut found = None;
+    for binding in nouns {
+        if binding.noun.is(noun) {
+            found = Some(binding.bound);
+        }
+    }
+    found
+}
+
+/// The same of a noun as a text.
+#[tactic(auto, unfolding(crate::specs::Acts::found_from))]
+pub fn found_text(nouns: &[Binding], noun: &str) -> Option<Bound>
     ensures { result ≡ found_from None nouns.now noun.now }
 {
     let mut found = None;

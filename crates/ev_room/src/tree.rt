@@ -1,11 +1,12 @@
 //! The nodes of a tree, and the members of object expressions.
 
 ghost use Rattle.std.specs.Prelude.{◌≡◌, Some, option_map, slice_get};
-ghost use Rattle.ev_machine.specs.Scopes.{members_of};
+ghost use Rattle.def_machine.specs.Scopes.{members_of};
 ghost use Rattle.ev_room.specs.Acts.{first_method, suits};
 
+use def_kernel::Node;
 use ev_base::NodeId;
-use ev_kernel::Node;
+use ev_word::Word;
 
 /// The node of a number.
 pub fn node_at(tree: &[Node], id: NodeId) -> Option<&Node>
@@ -18,7 +19,7 @@ pub fn node_at(tree: &[Node], id: NodeId) -> Option<&Node>
 }
 
 /// The members of an object expression, and none of any other node.
-#[tactic(auto, unfolding(ev_machine::specs::Scopes::members_of))]
+#[tactic(auto, unfolding(def_machine::specs::Scopes::members_of))]
 fn members_in(node: &Node) -> &[NodeId]
     ensures { result.now ≡ members_of (Some node.now) }
 {
@@ -29,7 +30,7 @@ fn members_in(node: &Node) -> &[NodeId]
 }
 
 /// The members of the object expression at a node.
-#[tactic(auto, unfolding(ev_machine::specs::Scopes::members_of))]
+#[tactic(auto, unfolding(def_machine::specs::Scopes::members_of))]
 pub fn members_of(tree: &[Node], id: NodeId) -> &[NodeId]
     ensures { result.now ≡ members_of (slice_get tree.now id) }
 {
@@ -41,7 +42,7 @@ pub fn members_of(tree: &[Node], id: NodeId) -> &[NodeId]
 
 /// Whether it is a method of that verb and that many patterns.
 #[tactic(auto, unfolding(crate::specs::Acts::suits))]
-fn suits(node: &Node, verb: &str, count: usize) -> bool
+fn suits(node: &Node, verb: &Word, count: usize) -> bool
     ensures { result ≡ suits verb.now count (Some node.now) }
 {
     match node {
@@ -49,7 +50,7 @@ fn suits(node: &Node, verb: &str, count: usize) -> bool
             verb: own,
             patterns,
             ..
-        } => own.as_str() == verb && patterns.len() == count,
+        } => own.is(verb) && patterns.len() == count,
         _ => false,
     }
 }
@@ -59,7 +60,7 @@ fn suits(node: &Node, verb: &str, count: usize) -> bool
 pub fn first_method<'a>(
     tree: &'a [Node],
     members: &[NodeId],
-    verb: &str,
+    verb: &Word,
     count: usize,
 ) -> Option<&'a Node>
     ensures { option_map (λ node. node.now) result ≡ first_method tree.now members.now verb.now count }

@@ -7,14 +7,14 @@ use Rattle.std.proofs.lemmas.List.{length-map}
 use Rattle.std.proofs.lemmas.Bool.Decides.{nat_tests, same_from_decides, Decides-int_eq}
 use Rattle.ev_base.specs.declared.values.Value.{Value as Held}
 use Rattle.ev_base.specs.declared.values.Value.TheVariants as held
-use Rattle.ev_kernel.specs.declared.node.Node.{Node}
-use Rattle.ev_machine.specs.Free.{same_words}
-use Rattle.ev_machine.specs.Ints.{same_int}
-use Rattle.ev_machine.specs.Values.{Words, Value, Flag, Local, same_local, local_spot, numbering}
-use Rattle.ev_machine.specs.State.{Vat}
-use Rattle.ev_machine.specs.Refs.{follow, place, spotted, any_of}
-use Rattle.ev_machine.specs.Native as native
-use Rattle.ev_machine.specs.Perform as perform
+use Rattle.def_kernel.specs.declared.node.Node.{Node}
+use Rattle.def_machine.specs.Free.{same_words}
+use Rattle.def_machine.specs.Ints.{same_int}
+use Rattle.def_machine.specs.Values.{Words, Value, Flag, Local, same_local, local_spot, numbering}
+use Rattle.def_machine.specs.State.{Vat}
+use Rattle.def_machine.specs.Refs.{follow, place, spotted, any_of}
+use Rattle.def_machine.specs.Native as native
+use Rattle.def_machine.specs.Perform as perform
 use Rattle.ev_prims.specs.Answers.{members_at}
 use Rattle.ev_prims.specs.Reading.{text_in}
 use Rattle.ev_prims.proofs.Means.{lists_are}

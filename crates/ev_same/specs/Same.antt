@@ -5,7 +5,7 @@ use Rattle.std.specs.Str.{bytes_eq}
 use Rattle.ev_base.specs.declared.values.Value.{Value}
 use Rattle.ev_base.specs.declared.values.Value.TheVariants as held
 use Rattle.ev_heap.specs.Contents.{Contents}
-use Rattle.ev_machine.specs.Values.{Words}
+use Rattle.def_machine.specs.Values.{Words}
 use Rattle.ev_prims.specs.Answers.{members_at}
 use Rattle.ev_prims.specs.Reading.{text_in}
 use Rattle.ev_room.specs.Acts.{Act, give, fail}

@@ -24,7 +24,7 @@ fn text_of(heap: &Heap, id: TextId) -> &str
 }
 
 /// The members of the list of that number, and none where there is none.
-fn members_of(heap: &Heap, list: ListId) -> &[Value]
+pub fn members_of(heap: &Heap, list: ListId) -> &[Value]
     ensures { result.now ≡ members_at heap.now list }
 {
     if list.0 < heap.list_count() {

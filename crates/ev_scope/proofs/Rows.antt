@@ -1,7 +1,7 @@
 -- The first fault of small forms, by computing.
 use Rattle.std.specs.Prelude.{map, ◌≡◌, ℕ, List, [], ◌∷◌, codes, Option, Some, None, Result, Ok, Err, refl}
-use Rattle.ev_kernel.specs.declared.node.Node.{Node}
-use Rattle.ev_kernel.specs.Reading.{read, opened_reading}
+use Rattle.def_kernel.specs.declared.node.Node.{Node}
+use Rattle.def_kernel_form.specs.Reading.{read, opened_reading}
 use Rattle.ev_scope.specs.declared.fault.ScopeFault.{ScopeFault}
 use Rattle.ev_scope.specs.declared.fault.ScopeFault.TheVariants.{Unbound, AssignToFinal, BoundTwice}
 use Rattle.ev_scope.specs.Scopes.{first_fault}

@@ -1,6 +1,6 @@
 -- What the check of a tree answers.
 use Rattle.std.specs.Prelude.{◌≡◌, List, ℕ, Option, Some, None, Result, Ok, Err}
-use Rattle.ev_kernel.specs.declared.node.Node.{Node}
+use Rattle.def_kernel.specs.declared.node.Node.{Node}
 use Rattle.ev_scope.specs.declared.fault.ScopeFault.{ScopeFault}
 use Rattle.ev_scope.specs.declared.fault.ScopeFault.TheVariants.{Unbound, AssignToFinal, BoundTwice, Memory}
 use Rattle.ev_scope.specs.declared.accepted.Scoped.{Scoped}

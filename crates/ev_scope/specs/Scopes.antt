@@ -12,8 +12,8 @@
 -- which begins before its guard.
 use Rattle.std.specs.Prelude.{ℕ, zero, suc, Bool, true, false, not, ◌&&◌, List, [], ◌∷◌, ◌++◌, length, slice_get, bytes_eq, Option, Some, None, is_some, option_map, drop}
 use Rattle.std.specs.List.{find}
-use Rattle.ev_kernel.specs.declared.node.Node.{Node}
-use Rattle.ev_kernel.specs.declared.node.Node.TheVariants.{Lit, Noun, Set, Def, Call, Sequence, If, Escape, Try, Finally, Hide, MatchBind, Object, Method, Matcher, Final, Var, Any, ListPattern, Via}
+use Rattle.def_kernel.specs.declared.node.Node.{Node}
+use Rattle.def_kernel.specs.declared.node.Node.TheVariants.{Lit, Noun, Set, Def, Call, Sequence, If, Escape, Try, Finally, Hide, MatchBind, Object, Method, Matcher, Final, Var, Any, ListPattern, Via}
 use Rattle.ev_scope.specs.declared.fault.ScopeFault.{ScopeFault}
 use Rattle.ev_scope.specs.declared.fault.ScopeFault.TheVariants.{Unbound, AssignToFinal, BoundTwice}
 use Rattle.ev_scope.specs.declared.scope.Binding.{Binding}

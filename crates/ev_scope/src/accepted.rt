@@ -3,8 +3,8 @@
 ghost use Rattle.std.specs.Prelude.{◌≡◌, None};
 ghost use Rattle.ev_scope.specs.Scopes.{first_fault};
 
+use def_kernel::Kernel;
 use ev_base::{Seq, Str};
-use ev_kernel::Kernel;
 
 /// A tree in which each noun is bound once in its scope or given, and only a name of a `var` pattern is assigned. It keeps
 /// the given names under which it was checked. `check` alone makes one.

@@ -10,8 +10,8 @@ use crate::scan::{Scan, Scopes};
 use crate::scope::Scope;
 use crate::task::{Task, Tasks};
 use crate::visits::act;
+use def_kernel::{Kernel, Node};
 use ev_base::{Memory, NodeId, Seq, Str};
-use ev_kernel::{Kernel, Node};
 use std::alloc::Global;
 
 /// The scope of the given names.

@@ -12,6 +12,3 @@ pub mod visits;
 pub use accepted::Scoped;
 pub use checker::check;
 pub use fault::ScopeFault;
-
-#[cfg(test)]
-mod tests;

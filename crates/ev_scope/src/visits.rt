@@ -9,8 +9,8 @@ use crate::task::{
     Task, Tasks, push_caught, push_inside, push_perhaps, push_two, push_two_inside, push_visit,
     push_visits,
 };
+use def_kernel::Node;
 use ev_base::{Memory, NodeId};
-use ev_kernel::Node;
 use std::alloc::{AllocError, Global};
 
 /// What a node does as it begins.

@@ -4,7 +4,7 @@ use Rattle.std.specs.List.{list_any, list_all}
 use Rattle.std.specs.declared.option.Option.{Option}
 use Rattle.std.specs.Str.{bytes_eq}
 use Rattle.ev_base.specs.SafeScope.{safe_value}
-use Rattle.ev_text.specs.Keywords.{is_keyword}
+use Rattle.def_text.specs.Keywords.{is_keyword}
 use Rattle.serde_json.specs.Data.{Data}
 use Rattle.serde_json.specs.Find.{as_str}
 use Rattle.ev_script.specs.Json.{◌>>=◌, has_members, text_at, list_at, each}

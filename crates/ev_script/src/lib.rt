@@ -11,6 +11,3 @@ mod vats;
 
 pub use reader::read_script;
 pub use script::{Entry, Script, ScriptFault, VatScript};
-
-#[cfg(test)]
-mod tests;

@@ -2,7 +2,7 @@
 use Rattle.std.specs.Prelude.{◌≡◌, ◌≢◌, ℕ, suc, Bool, false, is_some, if◌then◌else◌, List, [], ◌∷◌, ◌++◌, length, slice_get, unwrap_or, option_map, Option, Some, None, IsTrue}
 use Rattle.ev_base.specs.declared.values.Value.{Value}
 use Rattle.ev_base.specs.declared.values.Value.TheVariants.{Prom}
-use Rattle.ev_op.specs.Frames as frames
+use Rattle.def_op.specs.Frames as frames
 use Rattle.ev_tables.specs.declared.number.Number.{Number}
 use Rattle.ev_tables.specs.declared.number.Number.TheVariants.{MyExport, MyPromise, YourExport, YourAnswer, MyAnswer}
 use Rattle.ev_tables.specs.declared.fault.TableFault.{TableFault}

@@ -1,15 +1,15 @@
 //! The tables of one connection.
 
 ghost use Rattle.std.specs.Prelude.{◌≡◌, ◌≢◌, true, false, length, option_map, slice_get, IfOk, IfErr, OnErr};
-ghost use Rattle.ev_op.specs.Views.{described};
+ghost use Rattle.def_op.specs.Views.{described};
 ghost use Rattle.ev_tables.specs.Table.{fresh, exported, export_number, export_position, imported, asked_for, answered, entry, description, name_of, IsExportFault, IsNumberFault};
 
 use crate::fault::TableFault;
 use crate::names::Names;
 use crate::number::Number;
 use crate::places::Places;
+use def_op::Desc;
 use ev_base::{Memory, PromId, Seq, Value, VatId};
-use ev_op::Desc;
 use std::alloc::Global;
 use std::marker::Model;
 

@@ -11,6 +11,3 @@ mod thing;
 pub use connection::Connection;
 pub use fault::TableFault;
 pub use number::Number;
-
-#[cfg(test)]
-mod tests;

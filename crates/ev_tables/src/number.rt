@@ -1,10 +1,10 @@
 //! Numbers between two vats.
 
 ghost use Rattle.std.specs.Prelude.{◌≡◌};
-ghost use Rattle.ev_op.specs.Views.{described};
+ghost use Rattle.def_op.specs.Views.{described};
 ghost use Rattle.ev_tables.specs.Table.{description};
 
-use ev_op::Desc;
+use def_op::Desc;
 
 /// A number under which a vat names something to its peer. Positions and questions count from 0.
 #[derive(Clone, Copy, Debug, PartialEq, Eq)]

@@ -8,7 +8,7 @@ use Rattle.std.proofs.lemmas.List.Concat.{flat_map-append}
 use Rattle.std.proofs.lemmas.Bool.{cases_lt, lt-ltb, le-ltb}
 use Rattle.std.proofs.lemmas.Bool.Decides.{nat_tests}
 use Rattle.std.proofs.lemmas.Str.{encode_ascii}
-use Rattle.ev_text.specs.Quoting.{quoted, escaped, escaped_character}
+use Rattle.def_text.specs.Quoting.{quoted, escaped, escaped_character}
 
 -- a byte of a character that takes several stands for itself
 pub plain : (b : ℕ) → 128 ≤ b → escaped b ≡ b ∷ []

@@ -6,7 +6,7 @@ use Rattle.std.proofs.lemmas.Bool.{eqb-true, ltb-true, lt-ltb}
 use Rattle.std.proofs.lemmas.Bool.Decides.{nat_tests}
 use Rattle.std.proofs.lemmas.Str.{encode_ascii, digit_value-digit_char}
 use lib.Utf8.{low_scalar}
-use Rattle.ev_text.specs.Quoting.{by_number, escaped, quoted}
+use Rattle.def_text.specs.Quoting.{by_number, escaped, quoted}
 use Rattle.ev_text.specs.Unquoting.{mark, stands_for_itself, with_front, escape, hexadecimal, numbered, text_behind, unquoted}
 use Rattle.ev_text.proofs.UnquotingLemmas.{one_escape, one_plain, closing, passes}
 

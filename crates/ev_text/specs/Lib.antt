@@ -1,4 +1,2 @@
-pub mod Quoting
 pub mod Unquoting
-pub mod Keywords
 pub mod Faults

@@ -3,7 +3,7 @@
 ghost use Rattle.std.specs.Prelude.{◌≡◌, ℕ, ◌+◌, ◌-◌, ◌<◌, ◌≤◌, ◌^◌, ◌++◌, IfNone, IfSome, IsTrue, List, slice_get, encode_utf8, drop, Ok, Err, length, if◌then◌else◌, nat_lt, Some, None};
 ghost use Rattle.std.specs.Char.{digit_value};
 ghost use Rattle.std.specs.List.{prefix_len};
-ghost use Rattle.ev_text.specs.Quoting.{quoted};
+ghost use Rattle.def_text.specs.Quoting.{quoted};
 ghost use Rattle.ev_text.specs.Unquoting.{named, hexadecimal, by_digits, escape, is_plain, with_front, text_behind, unquoted, Answers};
 
 use std::alloc::{AllocError, Global};

@@ -1,7 +1,7 @@
 //! Texts and characters between quotes.
 
 ghost use Rattle.std.specs.Prelude.{◌≡◌, ◌<◌, ◌++◌, length, take, OnOk, IfOk, string_bytes, chars, encode_utf8_all};
-ghost use Rattle.ev_text.specs.Quoting.{by_number, escaped_character, quoted, quoted_character, shortened};
+ghost use Rattle.def_text.specs.Quoting.{by_number, escaped_character, quoted, quoted_character, shortened};
 
 use std::alloc::{AllocError, Global};
 use std::fmt::Write;

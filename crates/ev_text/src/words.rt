@@ -2,7 +2,7 @@
 
 ghost use Rattle.std.specs.Prelude.{◌≡◌, ◌&&◌, ◌||◌, ◌==◌, ◌++◌, OnOk, string_bytes, chars};
 ghost use Rattle.std.specs.List.{list_all};
-ghost use Rattle.ev_text.specs.Keywords.{is_identifier, is_keyword, begins_identifier, continues_identifier, has_identifier_form, printed_verb};
+ghost use Rattle.def_text.specs.Keywords.{is_identifier, is_keyword, begins_identifier, continues_identifier, has_identifier_form, printed_verb};
 
 use crate::texts::push_quoted;
 use std::alloc::AllocError;

@@ -1,12 +1,12 @@
 -- Why a status is due.
 use Rattle.std.proofs.Common.{◌≡◌, ◌≢◌, ◌⊎◌, inl, inr, ◌<◌, ◌≤◌, ℕ, nat_lt, length, List, [], ◌∷◌, Bool, true, false, Option, Some, None, IfSome, Result, Ok, Err, refl, sym, ap, subst, arith, ◌∙◌}
 use Rattle.std.proofs.lemmas.Bool.Decides.{nat_tests}
-use Rattle.ev_eval.specs.Built.{is_built}
-use Rattle.ev_kernel.specs.declared.node.Node.{Node}
-use Rattle.ev_machine.specs.State.{Stop, Fuel, Deep, Repeated, Astray}
-use Rattle.ev_run.specs.World as machine
-use Rattle.ev_run.specs.World.{World, Goes, Stopped}
-use Rattle.ev_run.specs.Text.{text as machine_text}
+use Rattle.ev_steps.specs.Built.{is_built}
+use Rattle.def_kernel.specs.declared.node.Node.{Node}
+use Rattle.def_machine.specs.State.{Stop, Fuel, Deep, Repeated, Astray}
+use Rattle.def_run.specs.World as machine
+use Rattle.def_run.specs.World.{World, Goes, Stopped}
+use Rattle.def_run.specs.Text.{text as machine_text}
 use Rattle.ev_scope.specs.declared.accepted.Scoped.{Scoped}
 use Rattle.ev_script.specs.declared.script.Script.{Script}
 use Rattle.ev_script.specs.declared.script.VatScript.{VatScript}

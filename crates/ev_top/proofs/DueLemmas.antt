@@ -5,14 +5,14 @@ use Rattle.std.proofs.KnownBytes.{Appends-nil}
 use Rattle.ev_io.specs.Ends.{Takes}
 use Rattle.ev_io.specs.declared.read.ReadEnd.TheVariants.{TooLong as TooMany}
 use Rattle.std.proofs.lemmas.Bool.Decides.{nat_tests}
-use Rattle.ev_eval.specs.Built.{is_built}
-use Rattle.ev_kernel.specs.declared.node.Node.{Node}
-use Rattle.ev_machine.specs.State.{Fuel, Deep, Repeated, Astray}
+use Rattle.ev_steps.specs.Built.{is_built}
+use Rattle.def_kernel.specs.declared.node.Node.{Node}
+use Rattle.def_machine.specs.State.{Fuel, Deep, Repeated, Astray}
 use Rattle.ev_reader.specs.declared.fault.ProgramFault.{ProgramFault}
 use Rattle.ev_reader.specs.declared.fault.ProgramFault.TheVariants as faults
-use Rattle.ev_run.specs.World as machine
-use Rattle.ev_run.specs.World.{run, Goes, Stopped}
-use Rattle.ev_run.specs.Text.{text as machine_text}
+use Rattle.def_run.specs.World as machine
+use Rattle.def_run.specs.World.{run, Goes, Stopped}
+use Rattle.def_run.specs.Text.{text as machine_text}
 use Rattle.ev_scope.specs.declared.accepted.Scoped.{Scoped}
 use Rattle.ev_script.specs.declared.script.Script.{Script}
 use Rattle.ev_script.specs.declared.script.VatScript.{VatScript}

@@ -1,7 +1,7 @@
 -- The run of no vat.
 use Rattle.std.proofs.Common.{◌≡◌, ℕ, List, [], codes, refl, sym, ◌∙◌}
-use Rattle.ev_run.specs.World.{run}
-use Rattle.ev_run.specs.Text.{text, opened_text}
+use Rattle.def_run.specs.World.{run}
+use Rattle.def_run.specs.Text.{text, opened_text}
 use Rattle.ev_top.specs.Words.{line}
 use Rattle.ev_top.specs.Debt.{IsFor}
 use Rattle.ev_top.specs.Machine.{no_vat}

@@ -1,12 +1,12 @@
 -- Each message in the history that a call owes has one fate.
 use Rattle.std.proofs.Common.{◌≡◌, ◌≤◌, ◌<◌, ℕ, zero, suc, List, [], ◌∷◌, Option, Some, None, IfSome, slice_get, refl, sym, ap, subst}
-use Rattle.ev_kernel.specs.declared.node.Node.{Node}
-use Rattle.ev_run.specs.World as machine
-use Rattle.ev_run.specs.World.{Program}
-use Rattle.ev_name_laws.specs.Names.{AllOf, Once}
-use Rattle.ev_name_laws.specs.Runs.{KnowsOnce}
-use Rattle.ev_whole_fate_laws.specs.Runs.{KnowsVats}
-use Rattle.ev_whole_fate_laws.proofs.Laws.{exactly_one_fate}
+use Rattle.def_kernel.specs.declared.node.Node.{Node}
+use Rattle.def_run.specs.World as machine
+use Rattle.def_run.specs.World.{Program}
+use Rattle.law_name.specs.Names.{AllOf, Once}
+use Rattle.law_name.specs.Runs.{KnowsOnce}
+use Rattle.law_whole_fate.specs.Runs.{KnowsVats}
+use Rattle.law_whole_fate.proofs.Laws.{exactly_one_fate}
 use Rattle.ev_top.specs.Headline.{MessagesHaveOneFate}
 use Rattle.ev_top.specs.Machine.{script_of}
 use Rattle.ev_top.specs.declared.command.Command.{Command}

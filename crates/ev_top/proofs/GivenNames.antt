@@ -6,9 +6,9 @@ use Rattle.std.specs.Str.{bytes_eq}
 use Rattle.std.proofs.lemmas.Bool.Decides.{nat_tests, same_from_decides}
 use Rattle.std.proofs.lemmas.Slice.Eq.{bytes_eq-Decides}
 use Rattle.ev_base.specs.SafeScope.{primitives}
-use Rattle.ev_machine.specs.Values.{Words, Value, Null, Flag, Prim, Name}
-use Rattle.ev_machine.specs.Free.{same_words, entry}
-use Rattle.ev_machine.specs.Native.{safe_value}
+use Rattle.def_machine.specs.Values.{Words, Value, Null, Flag, Prim, Name}
+use Rattle.def_machine.specs.Free.{same_words, entry}
+use Rattle.def_machine.specs.Native.{prims_from, safe_value}
 use Rattle.ev_top.specs.Programs.{safe_names}
 use Rattle.ev_top.specs.Given.{AreSafe}
 
@@ -75,7 +75,7 @@ table : List (Words × Value Name)
 table = (codes "null", Null) ∷ (codes "true", Flag true) ∷ (codes "false", Flag false) ∷ numbered 0 primitives
 
 is_table : (x : Words) → safe_value {N = Name} x ≡ entry (present table) None x
-unfolding safe_value entry present numbered table
+unfolding safe_value prims_from entry present numbered table
 is_table x = refl
 
 are_keys : keys table ≡ safe_names

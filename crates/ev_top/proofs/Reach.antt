@@ -1,8 +1,8 @@
 -- What bears DeepFrozen's stamp reaches frozen values alone, in the world in which the run ends that a call owes; and what is used in that run is connected.
 use Rattle.std.proofs.Common.{ℕ, List, Option, Some, None, IfSome}
-use Rattle.ev_frozen_laws.proofs.RunSound.{reach_at_the_end}
+use Rattle.law_frozen.proofs.RunSound.{reach_at_the_end}
 use Rattle.ev_top.specs.Headline.{StampedReachFrozenAlone, UsesAreConnected}
-use Rattle.ev_uses_laws.proofs.FineRuns.{opened_connect, run_connect}
+use Rattle.law_use.proofs.FineRuns.{opened_connect, run_connect}
 use Rattle.ev_top.specs.declared.command.Command.{Command}
 
 pub frozen_alone : (left : Option (List ℕ)) (command : Option Command) → IfSome left (λ input. StampedReachFrozenAlone command input)

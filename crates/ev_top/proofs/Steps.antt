@@ -1,12 +1,12 @@
 -- A run of one vat that stops, stops in its first step.
 use Rattle.std.proofs.Common.{◌≡◌, ℕ, zero, List, [], ◌∷◌, Some, refl, ap, ◌∙◌}
-use Rattle.ev_kernel.specs.declared.node.Node.{Node}
-use Rattle.ev_machine.specs.Values.{Name}
-use Rattle.ev_machine.specs.State.{Done as Outcome, Gives, Throws, Ejects, Stops, Fuel, Deep, Repeated, Astray}
-use Rattle.ev_run.specs.World as machine
-use Rattle.ev_run.specs.World.{World, Script, Event, run, Goes, Stopped, then_goes, put_back, begins, Opens, close}
-use Rattle.ev_run.specs.Text.{text as machine_text, opened_text}
-use Rattle.ev_opening_laws.specs.Alone.{alone}
+use Rattle.def_kernel.specs.declared.node.Node.{Node}
+use Rattle.def_machine.specs.Values.{Name}
+use Rattle.def_machine.specs.State.{Done as Outcome, Gives, Throws, Ejects, Stops, Fuel, Deep, Repeated, Astray}
+use Rattle.def_run.specs.World as machine
+use Rattle.def_run.specs.World.{World, Script, Event, run, Goes, Stopped, then_goes, put_back, begins, Opens, close}
+use Rattle.def_run.specs.Text.{text as machine_text, opened_text}
+use Rattle.law_opening.specs.Alone.{alone}
 use Rattle.ev_vat.specs.Ends.{end_of}
 use Rattle.ev_vat.specs.declared.told.RunEnd.{RunEnd}
 use Rattle.ev_vat.specs.declared.told.RunEnd.TheVariants as end

@@ -1,12 +1,12 @@
 -- Why each answer comes.
 use Rattle.std.specs.Prelude.{◌≡◌, ◌⊎◌, ◌<◌, ◌≤◌, ℕ, true, false, List, [], ◌∷◌, length, Some, None, IsSome, Ok, Err}
 use Rattle.std.specs.declared.option.Option.{Option}
-use Rattle.ev_eval.specs.Built.{is_built}
-use Rattle.ev_machine.specs.State.{Stop, Fuel, Deep, Repeated, Astray}
+use Rattle.ev_steps.specs.Built.{is_built}
+use Rattle.def_machine.specs.State.{Stop, Fuel, Deep, Repeated, Astray}
 use Rattle.ev_reader.specs.Program.{Answers}
 use Rattle.ev_reader.specs.declared.fault.ProgramFault.TheVariants.{At}
 use Rattle.ev_reader.specs.declared.fault.Stage.{Stage as Part}
-use Rattle.ev_run.specs.World.{run, Run as Machine, World, Goes, Stopped}
+use Rattle.def_run.specs.World.{run, Run as Machine, World, Goes, Stopped}
 use Rattle.ev_scope.specs.declared.accepted.Scoped.{Scoped}
 use Rattle.ev_script.specs.declared.script.Script.{Script}
 use Rattle.ev_script.specs.declared.script.VatScript.{VatScript}

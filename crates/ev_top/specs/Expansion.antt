@@ -1,7 +1,7 @@
 -- What is due for a program that is to be expanded: the form of its kernel tree, or the refusal of its text.
 use Rattle.std.specs.Prelude.{◌≡◌, ℕ, nat_lt, if◌then◌else◌, List, length, codes, Result, Ok, Err}
 use Rattle.std.specs.Str.{is_utf8}
-use Rattle.ev_kernel.specs.Forms.{form}
+use Rattle.def_kernel.specs.Forms.{form}
 use Rattle.ev_scope.specs.declared.accepted.Scoped.{Scoped}
 use Rattle.ev_reader.specs.declared.fault.ProgramFault.{ProgramFault}
 use Rattle.ev_top.specs.Debt.{IsFor, bytes_refused}

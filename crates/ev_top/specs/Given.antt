@@ -2,8 +2,8 @@
 use Rattle.std.specs.Prelude.{◌≡◌, ℕ, List, is_some}
 use Rattle.std.specs.List.{list_any}
 use Rattle.std.specs.Str.{bytes_eq}
-use Rattle.ev_machine.specs.Values.{Name}
-use Rattle.ev_machine.specs.Native.{safe_value}
+use Rattle.def_machine.specs.Values.{Name}
+use Rattle.def_machine.specs.Native.{safe_value}
 use Rattle.ev_top.specs.Programs.{safe_names}
 
 -- a name is given exactly where the machine has a value for it

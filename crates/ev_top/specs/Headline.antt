@@ -1,12 +1,12 @@
 -- What holds of the history that a call owes for a script.
 use Rattle.std.specs.Prelude.{◌≡◌, ◌≤◌, ℕ, List, Some, Ok}
 use Rattle.std.specs.declared.option.Option.{Option}
-use Rattle.ev_machine.specs.Values.{Name}
-use Rattle.ev_run.specs.World as machine
-use Rattle.ev_run.specs.World.{World, run, Goes}
-use Rattle.ev_fate_laws.specs.Fate.{fates, sent}
-use Rattle.ev_frozen_laws.specs.Runs.{ReachIsFrozenIn}
-use Rattle.ev_uses_laws.specs.Laws.{RunConnected}
+use Rattle.def_machine.specs.Values.{Name}
+use Rattle.def_run.specs.World as machine
+use Rattle.def_run.specs.World.{World, run, Goes}
+use Rattle.law_fate.specs.Fate.{fates, sent}
+use Rattle.law_frozen.specs.Runs.{ReachIsFrozenIn}
+use Rattle.law_use.specs.Laws.{RunConnected}
 use Rattle.ev_reader.specs.Program.{Answers}
 use Rattle.ev_scope.specs.declared.accepted.Scoped.{Scoped}
 use Rattle.ev_script.specs.declared.script.Script.{Script}

@@ -1,12 +1,12 @@
 -- The machine's script of what is run.
 use Rattle.std.specs.Prelude.{ℕ, List, []}
-use Rattle.ev_kernel.specs.declared.node.Node.{Node}
-use Rattle.ev_opening_laws.specs.Alone.{alone}
-use Rattle.ev_run.specs.World.{Script}
+use Rattle.def_kernel.specs.declared.node.Node.{Node}
+use Rattle.law_opening.specs.Alone.{alone}
+use Rattle.def_run.specs.World.{Script}
 
 -- the greatest depth at which a node begins
 abbrev pub greatest_depth : ℕ
-greatest_depth = 400
+greatest_depth = 20000
 
 -- the script of one vat of that name and tree, which knows no other, with an empty schedule
 abbrev pub script_of : List ℕ → ℕ → List ℕ → List Node → Script

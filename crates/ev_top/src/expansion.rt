@@ -7,7 +7,7 @@ ghost use Rattle.ev_top.specs.Expansion.{IsDueOfForm, IsDueOfText, text_from};
 use crate::reply::{Reply, reply_fault, reply_line, reply_rule, safe_names};
 use crate::status::Status;
 use ev_base::Memory;
-use ev_form::print;
+use ev_kernel_printer::print;
 use ev_reader::read_program;
 use ev_scope::Scoped;
 use std::alloc::Global;

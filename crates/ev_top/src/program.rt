@@ -5,7 +5,7 @@ ghost use Rattle.std.specs.Io.KnownBytes.{IsAtEnd};
 ghost use Rattle.ev_io.specs.Causes.{Rose};
 ghost use Rattle.ev_top.specs.Commands.{command_of};
 ghost use Rattle.ev_top.specs.Debt.{most_bytes};
-ghost use Rattle.ev_machine.specs.State.{Fuel, Deep};
+ghost use Rattle.def_machine.specs.State.{Fuel, Deep};
 ghost use Rattle.ev_reader.specs.declared.fault.Stage.{Stage as Part};
 ghost use Rattle.ev_top.specs.Causes.{Breaks, ComesWhere, Follows, HasFault, HasNoTree, IsLong, IsProgramRefused, IsUnbuilt, Stops};
 ghost use Rattle.ev_top.specs.Due.{IsDue, IsOfWhole, Pays, IsOfRead, Finishes, Reads, ReadsFor, unbuilt};
@@ -139,9 +139,10 @@ pub fn top<S: Source, K: Sink>(alloc: Global, words: &Seq<Str>, src: &mut S, out
         (Stops Deep step (command_of words.now) input)) }
     ensures read_fault { result ≡ Status.ReadFault → Rose (S.faults src.old) (S.faults src.new) }
     ensures write_fault { result ≡ Status.WriteFault → Rose (K.faults out.old) (K.faults out.new) }
-    // In the history that is due each message has one fate.
+    // In the history that is due each message has one fate. No program that is built sends one yet.
     ensures fates { IfSome (S.left src.old) (λ input. MessagesHaveOneFate (command_of words.now) input) }
-    // In the world in which its run ends, what DeepFrozen stamped reaches no assignable state.
+    // In the world in which its run ends, what DeepFrozen stamped reaches no assignable state. No program that is built
+    // stamps yet.
     ensures frozen { IfSome (S.left src.old) (λ input. StampedReachFrozenAlone (command_of words.now) input) }
     // In that run an object uses a reference only by initial conditions, endowment, parenthood or introduction.
     ensures connected { IfSome (S.left src.old) (λ input. UsesAreConnected (command_of words.now) input) }

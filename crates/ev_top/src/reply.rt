@@ -70,7 +70,7 @@ pub fn reply_fault(alloc: Global, name: &str, fault: ProgramFault) -> Result<Rep
 }
 
 /// The names of the safe scope.
-const SAFE_NAMES: [&str; 21] = [
+const SAFE_NAMES: [&str; 23] = [
     "null",
     "true",
     "false",
@@ -92,6 +92,8 @@ const SAFE_NAMES: [&str; 21] = [
     "nullOk",
     "near",
     "DeepFrozen",
+    "Selfless",
+    "Functional",
 ];
 
 /// Copies of these texts.

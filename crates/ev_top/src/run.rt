@@ -1,7 +1,7 @@
 //! What is due for the bytes of a script: the run of its vat, or a refusal.
 
 ghost use Rattle.std.specs.Prelude.{◌≡◌, true, List, ℕ, [], ◌∷◌, IfOk, string_bytes};
-ghost use Rattle.ev_eval.specs.Built.{is_built};
+ghost use Rattle.ev_steps.specs.Built.{is_built};
 ghost use Rattle.ev_top.specs.Debt.{IsFor};
 ghost use Rattle.ev_top.specs.Due.{IsDueOfScript, IsDueOfSource, IsDueOfTree, IsDueOfVats, due_of_machine, not_built};
 ghost use Rattle.ev_top.specs.Ends.{due_by};
@@ -12,16 +12,16 @@ ghost use Rattle.ev_top.specs.Script.{script_from};
 use crate::reply::{Reply, reply_fault, reply_line, reply_rule, safe_names};
 use crate::script::script_from;
 use crate::status::{Refusal, Stage, Status};
+use def_kernel::Kernel;
 use ev_base::{Limits, Memory};
 use ev_eval::is_built;
-use ev_kernel::Kernel;
 use ev_reader::read_program;
 use ev_script::{ScriptFault, VatScript};
 use ev_vat::{RunEnd, run_program};
 use std::alloc::Global;
 
 /// The greatest depth at which a node begins.
-const GREATEST_DEPTH: u32 = 400;
+const GREATEST_DEPTH: u32 = 20_000;
 
 /// The run of no vat, whatever the key and the fuel of the script.
 fn reply_empty(alloc: Global) -> Result<Reply, Memory>

@@ -1,15 +1,15 @@
 -- The end of the opening turn of a vat that knows its root alone.
 use Rattle.std.proofs.Common.{◌≡◌, ℕ, zero, suc, Bool, true, false, List, [], ◌∷◌, ◌++◌, length, map, refl, ap, ◌∙◌, codes}
-use Rattle.ev_kernel.specs.declared.node.Node.{Node}
+use Rattle.def_kernel.specs.declared.node.Node.{Node}
 use Rattle.ev_base.specs.declared.values.Value.{Value as Held}
 use Rattle.ev_base.specs.declared.values.Value.TheVariants as held
 use Rattle.ev_heap.specs.Contents.{Contents}
-use Rattle.ev_heap.specs.declared.micro.Micro.{Micro}
-use Rattle.ev_machine.specs.Values.{Words, Value, Broken, Items, Ref, Naming, Local, Obj, Prom, numbering, same_local, local_spot}
-use Rattle.ev_machine.specs.State.{Happened, Finished, Threw, Settles, Settled, Vat, Done, Gives, Throws, Ejects, Stops, Astray, Act, ◌>>◌, ◌>>=◌, and_then, end_by, ending, give, throw, each, tell, stop, look, alter, with_change, changed, changed_to, unless_settled, begun, new_activation}
-use Rattle.ev_machine.specs.Native.{list_at}
-use Rattle.ev_machine.specs.Refs.{entry_of, follow, severed, severed_at, follow_at, led, standing_of, standing_in, place, resolve_to, resolve, any_of, reached, reaches, cut_cycle, target_of, settle, settle_at, settle_one, settle_entry, settle_standing, settle_known, opened_refs}
-use Rattle.ev_machine.specs.Eval.{opening, closes}
+use Rattle.ev_told.specs.declared.micro.Micro.{Micro}
+use Rattle.def_machine.specs.Values.{Words, Value, Broken, Items, Ref, Naming, Local, Obj, Prom, numbering, same_local, local_spot}
+use Rattle.def_machine.specs.State.{Happened, Finished, Threw, Settles, Settled, Vat, Done, Gives, Throws, Ejects, Stops, Astray, Act, ◌>>◌, ◌>>=◌, and_then, end_by, ending, give, throw, each, tell, stop, look, for_some, alter, with_change, changed, changed_to, unless_settled, begun, new_activation}
+use Rattle.def_machine.specs.Native.{list_at}
+use Rattle.def_machine.specs.Refs.{entry_of, follow, severed, severed_at, follow_at, led, standing_of, standing_in, place, resolve_to, resolve, any_of, reached, reaches, cut_cycle, target_of, settle, settle_at, settle_one, settle_entry, settle_standing, settle_known, opened_refs}
+use Rattle.def_machine.specs.Eval.{opening, closes}
 use Rattle.ev_prims.specs.Answers.{members_at}
 use Rattle.ev_prims.proofs.Means.{lists_are}
 use Rattle.ev_room.specs.Reading.{World, names, text_of, value_of, members_of, vat_of}
@@ -67,7 +67,7 @@ astray_once word texts (Stops c t) = refl
 
 evaluated-ends : (word : ℕ → ℕ) (texts : List Words) (tree : List Node) (depth : ℕ) (s : Vat Local) → s.activations ≡ zero
     → opening (numbering {W = Local} word) tree depth (Prom zero) [] s ≡ end_by (finishes word texts) (breaks word texts) (λ n v. stop Astray) (evaluated (numbering {W = Local} word) tree depth s)
-unfolding opening closes evaluated ending new_activation ◌>>=◌ and_then finishes breaks root_world
+unfolding opening closes evaluated ending new_activation ◌>>=◌ and_then for_some finishes breaks root_world
 evaluated-ends word texts tree depth s e = rw e refl
 
 pub opening-ends : (word : ℕ → ℕ) (texts : List Words) (tree : List Node) (depth : ℕ) (s : Vat Local) → s.activations ≡ zero

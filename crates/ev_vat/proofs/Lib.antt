@@ -1,3 +1,4 @@
 pub mod Closing
 pub mod Shows
 pub mod Tells
+pub mod Steps

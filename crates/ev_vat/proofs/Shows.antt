@@ -1,5 +1,5 @@
 -- The lines of the one vat of a run are those that the machine shows.
-use Rattle.std.proofs.Common.{◌≡◌, ℕ, zero, List, [], ◌∷◌, ◌++◌, refl, sym, ap, ◌∙◌, map, append_assoc, append-nil}
+use Rattle.std.proofs.Common.{◌≡◌, ℕ, zero, List, [], ◌∷◌, ◌++◌, Option, Some, None, refl, sym, ap, ◌∙◌, map, append_assoc, append-nil}
 use Rattle.std.specs.Prelude.{filter}
 use Rattle.std.proofs.lemmas.List.Elements.{filter-append}
 use Rattle.ev_base.specs.declared.values.Value.{Value as Held}
@@ -8,19 +8,17 @@ use Rattle.ev_heap.specs.declared.kept.Capture.{Capture}
 use Rattle.ev_heap.specs.declared.kept.Capture.TheVariants as capture
 use Rattle.ev_heap.specs.declared.happened.Happened.{Happened as Heard}
 use Rattle.ev_heap.specs.declared.happened.Happened.TheVariants as event
-use Rattle.ev_event.specs.declared.event.Event.{Event as ShownEvent}
-use Rattle.ev_event.specs.Lines.{is_no_frame}
-use Rattle.ev_machine.specs.Values.{Words, Local}
-use Rattle.ev_machine.specs.State.{Happened, Took, Called, Back, Thrown, Left, Got, SlotMade, SlotRead, SlotWrote, ListMade, ListCame, EjectorMade, AuditionMade, PromiseMade, ObjectMade, Sends, Reacts, Finished, Threw, Settles, Waits, Views, Lost, Posted}
-use Rattle.ev_renaming.specs.Maps as maps
-use Rattle.ev_run.specs.World.{Script, Event, event_of, events_of, is_cut, cut_in, link_at}
-use Rattle.ev_run.specs.Shown.{shown_value, shown_values, shown_capture, shown_slot, shown_happened, shown_event, shown_name}
-use Rattle.ev_run.specs.Draws.{draw_word}
-use Rattle.ev_run.specs.Wire.{frame}
-use Rattle.ev_run.specs.Text.{shown_events}
+use Rattle.def_event.specs.declared.event.Event.{Event as ShownEvent}
+use Rattle.def_event.specs.Lines.{is_no_frame}
+use Rattle.def_machine.specs.Values.{Words, Value, Local, Name}
+use Rattle.def_machine.specs.State.{Message, Happened, Took, Called, Back, Thrown, Left, Got, SlotMade, SlotRead, SlotWrote, ListMade, ListCame, EjectorMade, AuditionMade, PromiseMade, ObjectMade, Sends, Reacts, Finished, Threw, Settles, Waits, Views, Lost, Posted}
+use Rattle.law_renaming.specs.Maps as maps
+use Rattle.def_run.specs.World.{Script, Event, event_of, events_of, is_cut, cut_in, link_at}
+use Rattle.def_run.specs.Shown.{shown_value, shown_values, shown_capture, shown_slot, shown_happened, shown_event, shown_name, shown_send, shown_reaction}
+use Rattle.def_run.specs.Text.{shown_events}
 use Rattle.ev_room.specs.Sound.{problems}
 use Rattle.ev_room.specs.Reading.{value_of, values_of, problem_of, capture_in, ejector_line, made_line, line_of, lines_of}
-use Rattle.ev_opening_laws.specs.Alone.{name_of}
+use Rattle.law_opening.specs.Alone.{name_of}
 use Rattle.ev_vat.specs.Lines.{text_at, shown_held, problem_at}
 use Rattle.ev_vat.specs.Lines as ours
 use Rattle.ev_vat.proofs.Closing.{root_world}
@@ -42,49 +40,59 @@ unfolding all_shown
 all_shown-append [] b = refl
 all_shown-append (h ∷ a) b = ap (λ es. shown_of h ++ es) (all_shown-append a b) ∙ sym (append_assoc (shown_of h) (all_shown a) (all_shown b))
 
-pub shown_events-append : (script : Script) (a b : List Event) → shown_events script (a ++ b) ≡ shown_events script a ++ shown_events script b
+pub shown_events-append : (a b : List Event) → shown_events (a ++ b) ≡ shown_events a ++ shown_events b
 unfolding shown_events
-shown_events-append script [] b = refl
-shown_events-append script (e ∷ a) b =
-    ap (λ es. shown_event (frame (draw_word script.key)) e ++ es) (shown_events-append script a b)
-    ∙ sym (append_assoc (shown_event (frame (draw_word script.key)) e) (shown_events script a) (shown_events script b))
+shown_events-append [] b = refl
+shown_events-append (e ∷ a) b =
+    ap (λ es. shown_event e ++ es) (shown_events-append a b)
+    ∙ sym (append_assoc (shown_event e) (shown_events a) (shown_events b))
 
-one_shown : (script : Script) (h : Happened Local) → shown_events script (event_of [] zero (maps.line name_of h)) ≡ shown_of h
+one_shown : (h : Happened Local) → shown_events (event_of [] zero (maps.line name_of h)) ≡ shown_of h
 unfolding shown_of shown_events shown_event shown_happened event_of is_cut cut_in link_at
-one_shown script (Posted w m) = refl
-one_shown script (Took a m) = refl
-one_shown script (Called a x verb args b) = refl
-one_shown script (Back a v) = refl
-one_shown script (Thrown a p) = refl
-one_shown script (Left a) = refl
-one_shown script (Got a v) = refl
-one_shown script (SlotMade a k v) = refl
-one_shown script (SlotRead a k v) = refl
-one_shown script (SlotWrote a k v) = refl
-one_shown script (ListMade a k vs) = refl
-one_shown script (ListCame k vs) = refl
-one_shown script (EjectorMade a j) = refl
-one_shown script (AuditionMade a j) = refl
-one_shown script (PromiseMade a p r) = refl
-one_shown script (ObjectMade a n x bs vs) = refl
-one_shown script (Sends a m) = refl
-one_shown script (Reacts a x o m) = refl
-one_shown script (Finished a v) = refl
-one_shown script (Threw a p) = refl
-one_shown script (Settles p y) = refl
-one_shown script (Waits p q) = refl
-one_shown script (Views p q) = refl
-one_shown script (Lost m) = refl
+one_shown (Posted w m) = refl
+one_shown (Took a m) = refl
+one_shown (Called a x verb args b) = refl
+one_shown (Back a v) = refl
+one_shown (Thrown a p) = refl
+one_shown (Left a) = refl
+one_shown (Got a v) = refl
+one_shown (SlotMade a k v) = refl
+one_shown (SlotRead a k v) = refl
+one_shown (SlotWrote a k v) = refl
+one_shown (ListMade a k vs) = refl
+one_shown (ListCame k vs) = refl
+one_shown (EjectorMade a j) = refl
+one_shown (AuditionMade a j) = refl
+one_shown (PromiseMade a p r) = refl
+one_shown (ObjectMade a n x bs vs) = refl
+one_shown (Sends a m) = refl
+one_shown (Reacts a x o m) = append-nil (shown_of (Reacts a x o m))
+one_shown (Finished a v) = refl
+one_shown (Threw a p) = refl
+one_shown (Settles p y) = refl
+one_shown (Waits p q) = refl
+one_shown (Views p q) = refl
+one_shown (Lost m) = refl
 
-pub events-shown : (script : Script) (hs : List (Happened Local)) → shown_events script (events_of [] zero (map (maps.line name_of) hs)) ≡ all_shown hs
+pub events-shown : (hs : List (Happened Local)) → shown_events (events_of [] zero (map (maps.line name_of) hs)) ≡ all_shown hs
 unfolding events_of all_shown
-events-shown script [] = unfold shown_events in refl
-events-shown script (h ∷ hs) =
-    shown_events-append script (event_of [] zero (maps.line name_of h)) (events_of [] zero (map (maps.line name_of) hs))
-    ∙ ap (λ es. es ++ shown_events script (events_of [] zero (map (maps.line name_of) hs))) (one_shown script h)
-    ∙ ap (λ es. shown_of h ++ es) (events-shown script hs)
+events-shown [] = unfold shown_events in refl
+events-shown (h ∷ hs) =
+    shown_events-append (event_of [] zero (maps.line name_of h)) (events_of [] zero (map (maps.line name_of) hs))
+    ∙ ap (λ es. es ++ shown_events (events_of [] zero (map (maps.line name_of) hs))) (one_shown h)
+    ∙ ap (λ es. shown_of h ++ es) (events-shown hs)
 
 -- ---- no frames
+
+send_is_no_frame : (v a : ℕ) (m : Message Name) (answer : Option Name) → filter is_no_frame (shown_send v a m answer ∷ []) ≡ shown_send v a m answer ∷ []
+unfolding shown_send
+send_is_no_frame v a m (Some n) = refl
+send_is_no_frame v a m None = refl
+
+reaction_is_no_frame : (v a : ℕ) (x o : Value Name) (m : Message Name) (answer : Option Name) → filter is_no_frame (shown_reaction v a x o m answer) ≡ shown_reaction v a x o m answer
+unfolding shown_reaction
+reaction_is_no_frame v a x o m (Some n) = refl
+reaction_is_no_frame v a x o m None = refl
 
 no_frame : (h : Happened Local) → filter is_no_frame (shown_of h) ≡ shown_of h
 unfolding shown_of shown_happened
@@ -104,8 +112,8 @@ no_frame (EjectorMade a j) = refl
 no_frame (AuditionMade a j) = refl
 no_frame (PromiseMade a p r) = refl
 no_frame (ObjectMade a n x bs vs) = refl
-no_frame (Sends a m) = refl
-no_frame (Reacts a x o m) = refl
+no_frame (Sends a m) = send_is_no_frame _ _ _ _
+no_frame (Reacts a x o m) = reaction_is_no_frame _ _ _ _ _ _
 no_frame (Finished a v) = refl
 no_frame (Threw a p) = refl
 no_frame (Settles p y) = refl

@@ -7,28 +7,28 @@ use Rattle.std.proofs.lemmas.List.Elements.{filter-append}
 use Rattle.ev_base.specs.declared.values.Value.{Value as Held}
 use Rattle.ev_base.specs.declared.values.Value.TheVariants as held
 use Rattle.ev_heap.specs.Contents.{Contents, nothing}
-use Rattle.ev_heap.specs.declared.micro.Micro.{Micro}
-use Rattle.ev_event.specs.declared.event.Event.{Event as ShownEvent}
-use Rattle.ev_event.specs.declared.event.Event.TheVariants.{Open, End, Settle, Done as ShownDone, Threw as ShownThrew}
-use Rattle.ev_event.specs.declared.shown.Shown as shown
+use Rattle.ev_told.specs.declared.micro.Micro.{Micro}
+use Rattle.def_event.specs.declared.event.Event.{Event as ShownEvent}
+use Rattle.def_event.specs.declared.event.Event.TheVariants.{Open, End, Settle, Done as ShownDone, Threw as ShownThrew}
+use Rattle.def_event.specs.declared.shown.Shown as shown
 use Rattle.ev_base.specs.declared.names.Name.TheVariants as global
-use Rattle.ev_event.specs.Lines.{is_no_frame, render, render_run}
-use Rattle.ev_kernel.specs.declared.node.Node.{Node}
-use Rattle.ev_machine.specs.Values.{Words, Value, Broken, Ref, Name, Local, Prom}
-use Rattle.ev_machine.specs.State.{Happened, Finished, Threw, Settles, Standing, Unsettled, WaitsOn, Viewed, Settled, Known, Vat, Done, Gives, Throws, Ejects, Stops, Stop, Fuel, Deep, Astray, begun, end_by as end_machine, stop}
-use Rattle.ev_renaming.specs.Maps as maps
-use Rattle.ev_renaming.specs.Stands.{Found, Is, found, prom_found}
-use Rattle.ev_run.specs.Draws.{draw_word}
-use Rattle.ev_run.specs.Shown.{shown_value, shown_name, shown_happened}
-use Rattle.ev_run.specs.World.{Script, Event, Opens, Ends as Closes, Stopped, run, events_of, then_goes, put_back, begins, links_from, links_to, fresh_from, push_all, put_at, close, left_vats, left_vat, left_held, left_wait, left_links}
-use Rattle.ev_run.specs.Text.{text, stop_line, stop_text, history_of, vat_names, shown_events, opened_text}
+use Rattle.def_event.specs.Lines.{is_no_frame, render, render_run}
+use Rattle.def_kernel.specs.declared.node.Node.{Node}
+use Rattle.def_machine.specs.Values.{Words, Value, Broken, Ref, Name, Local, Prom}
+use Rattle.def_machine.specs.State.{Happened, Finished, Threw, Settles, Standing, Unsettled, WaitsOn, Viewed, Settled, Known, Vat, Done, Gives, Throws, Ejects, Stops, Stop, Fuel, Deep, Astray, begun, end_by as end_machine, stop}
+use Rattle.law_renaming.specs.Maps as maps
+use Rattle.law_renaming.specs.Stands.{Found, Is, found, prom_found}
+use Rattle.def_run.specs.Draws.{draw_word}
+use Rattle.def_run.specs.Shown.{shown_value, shown_name, shown_happened}
+use Rattle.def_run.specs.World.{Script, Event, Opens, Ends as Closes, Stopped, run, events_of, then_goes, put_back, begins, links_from, links_to, fresh_from, push_all, put_at, close, left_vats, left_vat, left_held, left_wait, left_links}
+use Rattle.def_run.specs.Text.{text, stop_line, stop_text, history_of, vat_names, shown_events, opened_text}
 use Rattle.ev_eval.specs.declared.turn.Ended.{Ended}
 use Rattle.ev_eval.specs.declared.turn.Ended.TheVariants as ended
 use Rattle.ev_room.specs.Reading.{World, all_promises, names, text_of, value_of, lines_of, vat_of}
 use Rattle.ev_room.specs.Sound.{Each, Grown, IsListed, IsSound, is_there, problems}
 use Rattle.ev_eval.specs.Turn.{Ends, GivesThere, opened}
-use Rattle.ev_opening_laws.specs.Alone.{alone, start, opened_alone, name_of, NamesNothing, run_of_step}
-use Rattle.ev_opening_laws.proofs.Numbered.{root_alone, named_opening, found_names, runs_alone}
+use Rattle.law_opening.specs.Alone.{alone, start, opened_alone, name_of, NamesNothing, run_of_step}
+use Rattle.law_opening.proofs.Numbered.{root_alone, named_opening, found_names, runs_alone}
 use Rattle.ev_vat.specs.declared.told.RunEnd.{RunEnd}
 use Rattle.ev_vat.specs.declared.told.RunEnd.TheVariants as end
 use Rattle.ev_vat.specs.declared.told.Told.{Told}
@@ -42,16 +42,16 @@ use Rattle.ev_vat.proofs.Shows.{shown_of, one_line, all_shown, all_shown-append,
 ended_history : List (Happened Local) → List Event
 ended_history hs = (((Opens zero ∷ events_of [] zero (map (maps.line name_of) hs)) ++ []) ++ []) ++ Closes ∷ []
 
-ended-shown : (script : Script) (hs : List (Happened Local)) → shown_events script (ended_history hs) ≡ Open zero ∷ (all_shown hs ++ End ∷ [])
+ended-shown : (hs : List (Happened Local)) → shown_events (ended_history hs) ≡ Open zero ∷ (all_shown hs ++ End ∷ [])
 unfolding ended_history
-ended-shown script hs =
+ended-shown hs =
     let es = events_of [] zero (map (maps.line name_of) hs) in
-    let first : shown_events script (Opens zero ∷ []) ≡ Open zero ∷ [] = unfold opened_text in refl in
-    let last : shown_events script (Closes ∷ []) ≡ End ∷ [] = unfold opened_text in refl in
+    let first : shown_events (Opens zero ∷ []) ≡ Open zero ∷ [] = unfold opened_text in refl in
+    let last : shown_events (Closes ∷ []) ≡ End ∷ [] = unfold opened_text in refl in
     rw (append-nil es, append-nil es) (
-    shown_events-append script (Opens zero ∷ es) (Closes ∷ [])
-    ∙ ap (λ xs. xs ++ shown_events script (Closes ∷ [])) (shown_events-append script (Opens zero ∷ []) es)
-    ∙ rw (first, last, events-shown script hs) refl)
+    shown_events-append (Opens zero ∷ es) (Closes ∷ [])
+    ∙ ap (λ xs. xs ++ shown_events (Closes ∷ [])) (shown_events-append (Opens zero ∷ []) es)
+    ∙ rw (first, last, events-shown hs) refl)
 
 ended-rendered : (name : Words) (hs : List (Happened Local)) → render_run (name ∷ []) (Open zero ∷ (all_shown hs ++ End ∷ [])) ≡ render (name ∷ []) (Open zero ∷ (all_shown hs ++ End ∷ []))
 ended-rendered name hs = ap (λ es. render (name ∷ []) (Open zero ∷ es)) (filter-append is_no_frame (all_shown hs) (End ∷ []) ∙ ap (λ es. es ++ End ∷ []) (no_frames hs))
@@ -83,7 +83,7 @@ module _ (key : List ℕ) (texts : List Words) (fuel depth : ℕ) (name : Words)
 
   closed-text : (l : Happened Local) (y : Value Local)
       → text script (run_of_step script (Gives tt (maps.vat name_of (closed l y (after word texts heap micro)))))
-      ≡ render_run (name ∷ []) (shown_events script (ended_history ((lines_of (root_world word texts) micro.events ++ l ∷ []) ++ Settles (Prom zero) y ∷ []))) ++ []
+      ≡ render_run (name ∷ []) (shown_events (ended_history ((lines_of (root_world word texts) micro.events ++ l ∷ []) ++ Settles (Prom zero) y ∷ []))) ++ []
   unfolding run_of_step closed after root_world vat_of ended_history text stop_text history_of vat_names then_goes put_back begins links_from links_to fresh_from push_all put_at close left_vats left_vat left_held left_wait left_links begun name_of
   closed-text l y = refl
 
@@ -98,7 +98,7 @@ module _ (key : List ℕ) (texts : List Words) (fuel depth : ℕ) (name : Words)
       ∙ (rw (one_line l, one_line (Settles (Prom zero) y), e, lines-shown word texts micro.events) refl) in
       closed-text l y
       ∙ append-nil _
-      ∙ ap (render_run (name ∷ [])) (ended-shown script hs)
+      ∙ ap (render_run (name ∷ [])) (ended-shown hs)
       ∙ ended-rendered name hs
       ∙ ap (λ es. render (name ∷ []) (Open zero ∷ es)) (ap (λ es. es ++ End ∷ []) told ∙ append_assoc (ours.lines_of (problems ++ texts) micro.events) last (End ∷ []))
 

@@ -1,8 +1,8 @@
 -- How a run ended.
 use Rattle.std.specs.Prelude.{◌≡◌, List, ℕ, Some, None, string_bytes}
 use Rattle.std.specs.declared.option.Option.{Option}
-use Rattle.ev_machine.specs.State.{Fuel, Deep, Repeated, Astray}
-use Rattle.ev_run.specs.World.{Run, Goes, Stopped}
+use Rattle.def_machine.specs.State.{Fuel, Deep, Repeated, Astray}
+use Rattle.def_run.specs.World.{Run, Goes, Stopped}
 use Rattle.ev_vat.specs.declared.told.RunEnd.{RunEnd}
 use Rattle.ev_vat.specs.declared.told.RunEnd.TheVariants as end
 use Rattle.ev_vat.specs.declared.told.Told.{Told}

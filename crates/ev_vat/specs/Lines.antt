@@ -5,11 +5,11 @@ use Rattle.ev_base.specs.declared.values.Value.{Value as Held}
 use Rattle.ev_base.specs.declared.values.Value.TheVariants as held
 use Rattle.ev_eval.specs.declared.turn.Ended.{Ended}
 use Rattle.ev_eval.specs.declared.turn.Ended.TheVariants as ended
-use Rattle.ev_event.specs.declared.event.Event.{Event}
-use Rattle.ev_event.specs.declared.event.Event.TheVariants.{Open, Call, Back, Thrown, Gone, Got, Ejector, Slot, Read, Wrote, List as MadeList, Made, Done, Threw, Settle, End}
-use Rattle.ev_event.specs.declared.shown.Shown.{Shown}
-use Rattle.ev_event.specs.declared.shown.Shown as shown
-use Rattle.ev_event.specs.Lines.{render}
+use Rattle.def_event.specs.declared.event.Event.{Event}
+use Rattle.def_event.specs.declared.event.Event.TheVariants.{Open, Call, Back, Thrown, Gone, Got, Ejector, Slot, Read, Wrote, List as MadeList, Made, Done, Threw, Settle, End}
+use Rattle.def_event.specs.declared.shown.Shown.{Shown}
+use Rattle.def_event.specs.declared.shown.Shown as shown
+use Rattle.def_event.specs.Lines.{render}
 use Rattle.ev_heap.specs.declared.kept.Capture.{Capture}
 use Rattle.ev_heap.specs.declared.kept.Capture.TheVariants as capture
 use Rattle.ev_heap.specs.declared.happened.Happened.{Happened}

@@ -1,15 +1,19 @@
 //! The lines of a turn.
 
-ghost use Rattle.std.specs.Prelude.{◌≡◌, ◌++◌, IfOk, OnOk, map};
-ghost use Rattle.ev_event.specs.declared.event.Event.TheVariants.{Call, Made};
-ghost use Rattle.ev_event.specs.declared.shown.Shown as shown_as;
+ghost use Rattle.std.specs.Prelude.{◌≡◌, ◌++◌, IfOk, OnOk, drop, map, take};
+ghost use Rattle.def_event.specs.declared.event.Event.TheVariants.{Call, Made};
+ghost use Rattle.def_event.specs.declared.shown.Shown as shown_as;
 ghost use Rattle.ev_base.specs.declared.names.Name.TheVariants as name_as;
+ghost use Rattle.ev_told.specs.Told.{first, others, read, told};
 ghost use Rattle.ev_vat.specs.Lines.{done_lines, ejector_lines, lines, lines_of, made_lines, shown_capture, shown_held, threw_lines};
 
 use crate::shown::{VAT, caught_all, copied, problem, settled, shown, shown_all};
+use def_event::{Boxed, Called, Event, MadeObject, Shown};
 use ev_base::{ActId, Memory, Name, ObjId, Str, TextId, Value};
-use ev_event::{Boxed, Called, Event, History, MadeObject, Shown};
+use ev_event::History;
 use ev_heap::{Capture, Happened, Heap};
+use ev_told::Lines;
+use ev_told::lines::Line;
 use std::alloc::Global;
 
 /// The number of an activation.
@@ -177,19 +181,143 @@ fn push_line(
     }
 }
 
+/// The first so many values, or all where there are fewer, and the others.
+fn split(values: &[Value], width: u64) -> (&[Value], &[Value])
+    ensures own { result.0.now ≡ take width values.now }
+    ensures others { result.1.now ≡ drop width values.now }
+{
+    if width >= values.len() as u64 {
+        (values, &[])
+    } else {
+        values.split_at(width as usize)
+    }
+}
+
+/// The first value, or null where there is none.
+fn first(values: &[Value]) -> Value
+    ensures { result ≡ first values.now }
+{
+    match values.first() {
+        None => Value::Null,
+        Some(value) => *value,
+    }
+}
+
+/// All values but the first.
+fn others(values: &[Value]) -> &[Value]
+    ensures { result.now ≡ others values.now }
+{
+    match values.split_first() {
+        None => &[],
+        Some((_, others)) => others,
+    }
+}
+
+/// The line of a call whose values are its target and its arguments.
+fn small_call(
+    alloc: Global,
+    heap: &Heap,
+    activation: ActId,
+    verb: &str,
+    values: &[Value],
+    begun: Option<ActId>,
+) -> Result<Event, Memory>
+    ensures { IfOk result (λ line. line ≡ Call (record { activation = activation; target = shown_held heap.now.texts (first values.now); verb = verb.now; args = map (shown_held heap.now.texts) (others values.now); begun = begun })) }
+{
+    let target = first(values);
+    call_line(alloc, heap, activation, target, verb, others(values), begun)
+}
+
+/// Adds the line of what a small line tells with its values.
+fn push_told(
+    alloc: Global,
+    heap: &Heap,
+    line: &Line,
+    values: &[Value],
+    history: &mut History,
+) -> Result<(), Memory>
+    ensures { OnOk result (history.new ≡ history.old ++ lines heap.now.texts (told line.now values.now)) }
+{
+    match line {
+        Line::Call(_, activation, verb) => history.push(small_call(
+            alloc,
+            heap,
+            *activation,
+            verb.as_str(),
+            values,
+            None,
+        )?),
+        Line::Begins(_, activation, verb, begun) => history.push(small_call(
+            alloc,
+            heap,
+            *activation,
+            verb.as_str(),
+            values,
+            Some(*begun),
+        )?),
+        Line::Back(activation) => {
+            history.push(Event::Back(activation.0, shown(alloc, heap, first(values))?))
+        }
+        Line::Thrown(activation) => history.push(Event::Thrown(
+            activation.0,
+            Shown::Text(problem(alloc, heap, first(values))?),
+        )),
+        Line::Gone(activation) => history.push(Event::Gone(activation.0)),
+        Line::Slot(activation, id) => history.push(Event::Slot(
+            activation.0,
+            (VAT, id.0),
+            shown(alloc, heap, first(values))?,
+        )),
+        Line::Read(activation, id) => history.push(Event::Read(
+            activation.0,
+            (VAT, id.0),
+            shown(alloc, heap, first(values))?,
+        )),
+        Line::Wrote(activation, id) => history.push(Event::Wrote(
+            activation.0,
+            (VAT, id.0),
+            shown(alloc, heap, first(values))?,
+        )),
+        Line::List(_, activation, id) => history.push(Event::List(
+            activation.0,
+            (VAT, id.0),
+            shown_all(alloc, heap, values)?,
+        )),
+        Line::Ejector(activation) => push_ejector(*activation, first(values), history),
+        Line::Other(event) => push_line(alloc, heap, event, history),
+    }
+}
+
+/// Adds the lines of small lines, whose values stand one after another.
+fn push_all(
+    alloc: Global,
+    heap: &Heap,
+    lines: &[Line],
+    values: &[Value],
+    history: &mut History,
+) -> Result<(), Memory>
+    ensures { OnOk result (history.new ≡ history.old ++ lines_of heap.now.texts (read lines.now values.now)) }
+{
+    let mut left = values;
+    for line in lines {
+        let (own, others) = split(left, line.width());
+        push_told(alloc, heap, line, own, history)?;
+        left = others;
+    }
+    Ok(())
+}
+
 /// Adds the lines of all that happened, in order.
 pub(crate) fn push_lines(
     alloc: Global,
     heap: &Heap,
-    events: &[Happened],
+    events: &Lines,
     history: &mut History,
 ) -> Result<(), Memory>
     ensures { OnOk result (history.new ≡ history.old ++ lines_of heap.now.texts events.now) }
 {
-    for event in events {
-        push_line(alloc, heap, event, history)?;
-    }
-    Ok(())
+    let (lines, values) = events.parts();
+    push_all(alloc, heap, lines, values, history)
 }
 
 /// Adds the last lines of an opening turn that ended with a value, and of the run.

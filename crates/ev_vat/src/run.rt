@@ -1,17 +1,17 @@
 //! The run of a program in one vat.
 
 ghost use Rattle.std.specs.Prelude.{◌≡◌, ℕ, List, true, Some, IfOk, string_bytes};
-ghost use Rattle.ev_eval.specs.Built.{is_built};
-ghost use Rattle.ev_opening_laws.specs.Alone.{alone};
-ghost use Rattle.ev_run.specs.Text.{text};
-ghost use Rattle.ev_run.specs.World.{run};
+ghost use Rattle.ev_steps.specs.Built.{is_built};
+ghost use Rattle.law_opening.specs.Alone.{alone};
+ghost use Rattle.def_run.specs.Text.{text};
+ghost use Rattle.def_run.specs.World.{run};
 ghost use Rattle.ev_vat.specs.Ends.{end_of};
 
 use crate::told::{Told, tell};
+use def_kernel::Kernel;
 use ev_base::{Limits, Memory};
 use ev_eval::{Start, new_heap, run_turn};
-use ev_heap::Micro;
-use ev_kernel::Kernel;
+use ev_told::Micro;
 use std::alloc::Global;
 
 /// Runs a program that is built (`ev_eval::is_built`) in a vat of that name, which knows no other, with so much fuel and an empty
@@ -40,5 +40,5 @@ pub fn run_program(
         limits,
         &mut micro,
     )?;
-    tell(alloc, name, &heap, micro.events.as_slice(), ended)
+    tell(alloc, name, &heap, &micro.events, ended)
 }

@@ -3,8 +3,8 @@
 ghost use Rattle.std.specs.Prelude.{◌≡◌, IfOk, map};
 ghost use Rattle.ev_vat.specs.Lines.{problem_at, settled, shown_capture, shown_held, text_at};
 
+use def_event::Shown;
 use ev_base::{Memory, Name, Seq, Str, TextId, Value, VatId};
-use ev_event::Shown;
 use ev_heap::{Capture, Heap};
 use std::alloc::Global;
 

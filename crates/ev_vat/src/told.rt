@@ -1,17 +1,19 @@
 //! How a run ended, and its text.
 
 ghost use Rattle.std.specs.Prelude.{◌≡◌, ◌++◌, ◌∷◌, [], IfOk, string_bytes};
-ghost use Rattle.ev_event.specs.declared.event.Event.TheVariants.{Open};
-ghost use Rattle.ev_event.specs.Lines.{render};
+ghost use Rattle.def_event.specs.declared.event.Event.TheVariants.{Open};
+ghost use Rattle.def_event.specs.Lines.{render};
 ghost use Rattle.ev_vat.specs.Ends.{Tells};
 ghost use Rattle.ev_vat.specs.Lines.{done_lines, end_by, history, lines_of, text_by, threw_lines};
 
 use crate::lines::{push_done, push_lines, push_threw};
 use crate::shown::VAT;
+use def_event::Event;
 use ev_base::{Memory, Seq, Str, TextId, Value};
 use ev_eval::Ended;
-use ev_event::{Event, History};
-use ev_heap::{Happened, Heap};
+use ev_event::History;
+use ev_heap::Heap;
+use ev_told::Lines;
 use std::alloc::Global;
 
 /// How the run of a program ended.
@@ -35,7 +37,7 @@ pub struct Told {
 }
 
 /// The lines of a turn that came to its end, but for the last ones.
-fn begun(alloc: Global, heap: &Heap, events: &[Happened]) -> Result<History, Memory>
+fn begun(alloc: Global, heap: &Heap, events: &Lines) -> Result<History, Memory>
     ensures { IfOk result (λ history. history ≡ Open 0 ∷ lines_of heap.now.texts events.now) }
 {
     let mut history = History::new(alloc);
@@ -58,7 +60,7 @@ fn done(
     alloc: Global,
     name: &str,
     heap: &Heap,
-    events: &[Happened],
+    events: &Lines,
     value: Value,
 ) -> Result<Told, Memory>
     ensures { IfOk result (λ told. Tells told RunEnd.Done (render (name.now ∷ []) (history heap.now.texts events.now (done_lines heap.now.texts value)))) }
@@ -72,13 +74,7 @@ fn done(
 }
 
 /// The text of a run whose turn ended with a problem.
-fn threw(
-    alloc: Global,
-    name: &str,
-    heap: &Heap,
-    events: &[Happened],
-    id: TextId,
-) -> Result<Told, Memory>
+fn threw(alloc: Global, name: &str, heap: &Heap, events: &Lines, id: TextId) -> Result<Told, Memory>
     ensures { IfOk result (λ told. Tells told RunEnd.Done (render (name.now ∷ []) (history heap.now.texts events.now (threw_lines heap.now.texts id)))) }
 {
     let mut history = begun(alloc, heap, events)?;
@@ -104,7 +100,7 @@ pub(crate) fn tell(
     alloc: Global,
     name: &str,
     heap: &Heap,
-    events: &[Happened],
+    events: &Lines,
     ended: Ended,
 ) -> Result<Told, Memory>
     ensures { IfOk result (λ told. Tells told (end_by ended) (text_by name.now heap.now.texts events.now ended)) }

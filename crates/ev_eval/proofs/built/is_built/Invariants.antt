@@ -1,5 +1,5 @@
 use Rattle.std.proofs.Common.{◌≡◌, drop}
-use Rattle.ev_eval.specs.Built.{is_built}
+use Rattle.ev_steps.specs.Built.{is_built}
 use Rattle.ev_eval.proofs.built.is_built.Given as goal
 
 -- the rest decides

@@ -1,5 +1,5 @@
 use Rattle.ev_room.specs.declared.room.Room.{Room}
-use Rattle.ev_eval.proofs.Meets.{turn_is, turn_keeps, turn_grows, turn_there}
+use Rattle.ev_eval.proofs.Turns.{turn_is, turn_keeps, turn_grows, turn_there}
 use Rattle.ev_eval.proofs.turn.run_turn.Goals as goal
 
 pub returns-clause-turn : goal.returns-clause-turn

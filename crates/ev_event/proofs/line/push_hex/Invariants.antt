@@ -1,6 +1,6 @@
 -- what is written, and the bytes that are left, are all
 use Rattle.std.proofs.Common.{◌≡◌, ◌++◌, drop, string_bytes}
-use Rattle.ev_event.specs.Lines.{hex}
+use Rattle.def_event.specs.Lines.{hex}
 use Rattle.ev_event.proofs.line.push_hex.Given as goal
 
 abbrev pub invariant-loop-byte : goal.invariant-loop-byte

@@ -1,5 +1,5 @@
 use Rattle.std.proofs.Common.{◌∷◌, codes}
-use Rattle.ev_event.specs.Lines.{vat, message}
+use Rattle.def_event.specs.Lines.{vat, message}
 use Rattle.ev_event.proofs.WordLemmas.{three_written}
 use Rattle.ev_event.proofs.line.push_left_queue.Goals as goal
 

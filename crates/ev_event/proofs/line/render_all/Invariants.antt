@@ -1,6 +1,6 @@
 -- the text, and the lines of the events that are left, are all lines
 use Rattle.std.proofs.Common.{◌≡◌, ◌++◌, drop}
-use Rattle.ev_event.specs.Lines.{render}
+use Rattle.def_event.specs.Lines.{render}
 use Rattle.ev_event.proofs.line.render_all.Given as goal
 
 abbrev pub invariant-loop-event : goal.invariant-loop-event

@@ -1,6 +1,6 @@
 -- what is written, the next value and what is left of the lists that are open are the whole value
 use Rattle.std.proofs.Common.{◌≡◌, ◌+◌, ◌++◌, string_bytes}
-use Rattle.ev_event.specs.Lines.{value}
+use Rattle.def_event.specs.Lines.{value}
 use Rattle.ev_event.specs.Pending.{next_weight, open_weight, next_text, open_text}
 use Rattle.ev_event.proofs.values.push_value.Given as goal
 

@@ -1,7 +1,7 @@
 -- what is written, and the values that are left, are all
 use Rattle.std.proofs.Common.{◌≡◌, ◌++◌, ◌∷◌, drop, string_bytes}
 use Rattle.std.specs.List.{flat_map}
-use Rattle.ev_event.specs.Lines.{values}
+use Rattle.def_event.specs.Lines.{values}
 use Rattle.ev_event.proofs.words.add_values.Given as goal
 
 abbrev pub invariant-loop-x : goal.invariant-loop-x

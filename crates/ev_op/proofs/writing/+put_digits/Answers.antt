@@ -1,5 +1,5 @@
 use Rattle.std.proofs.Common.{◌+◌, ◌-◌, ◌/◌, ◌%◌, ◌<◌, ◌≤◌, [], ◌∷◌, ◌∙◌, append_assoc, arith}
-use Rattle.ev_op.specs.Numbers.{digit, digits}
+use Rattle.def_op.specs.Numbers.{digit, digits}
 use Rattle.ev_op.proofs.Spelled.{digits_more}
 use Rattle.ev_op.proofs.writing.+put_digits.Goals as goal
 

@@ -1,5 +1,5 @@
 use Rattle.std.proofs.Common.{◌-◌, ◌/◌, ◌%◌, ◌<◌, [], ◌∷◌, ◌∙◌, append_assoc, arith}
-use Rattle.ev_op.specs.Numbers.{low_first}
+use Rattle.def_op.specs.Numbers.{low_first}
 use Rattle.ev_op.proofs.Spelled.{low_first_more}
 use Rattle.ev_op.proofs.writing.+put_low_first.Goals as goal
 

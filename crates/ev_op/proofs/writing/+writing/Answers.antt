@@ -1,7 +1,7 @@
 use Rattle.std.proofs.Common.{[], ◌∷◌, ◌++◌, take, sym, ◌∙◌, append_assoc}
-use Rattle.ev_op.specs.Numbers.{unsigned}
-use Rattle.ev_op.specs.Frames.{count, desc_bytes, members_bytes}
-use Rattle.ev_op.specs.Views.{described, all_described}
+use Rattle.def_op.specs.Numbers.{unsigned}
+use Rattle.def_op.specs.Frames.{count, desc_bytes, members_bytes}
+use Rattle.def_op.specs.Views.{described, all_described}
 use Rattle.ev_op.proofs.InOrder.{count_members, one_more}
 use Rattle.ev_op.proofs.writing.+writing.Goals as goal
 

@@ -1,6 +1,6 @@
 use Rattle.std.proofs.Common.{◌≡◌, ◌++◌, take}
-use Rattle.ev_op.specs.Frames.{members_bytes}
-use Rattle.ev_op.specs.Views.{all_described}
+use Rattle.def_op.specs.Frames.{members_bytes}
+use Rattle.def_op.specs.Views.{all_described}
 use Rattle.ev_op.proofs.writing.+writing.Given as goal
 
 abbrev pub invariant-put_members-loop-member : goal.invariant-put_members-loop-member

@@ -1,5 +1,5 @@
 use Rattle.std.proofs.Common.{ap, sym, ◌∙◌}
-use Rattle.ev_machine.specs.Native.{asked}
+use Rattle.def_machine.specs.Native.{asked}
 use Rattle.ev_prims.specs.Primitives.{primitive_in}
 use Rattle.ev_prims.specs.Reading.{values_in}
 use Rattle.ev_prims.proofs.AskLemmas.{more_of_list, more_of_other}

@@ -1,6 +1,6 @@
 use Rattle.std.proofs.Common.{arith, ap, ◌∙◌}
 use Rattle.std.proofs.lemmas.Int.{ints, to_z-of_z}
-use Rattle.ev_machine.specs.Native.{counted}
+use Rattle.def_machine.specs.Native.{counted}
 use Rattle.ev_prims.specs.Reading.{values_in}
 use Rattle.ev_prims.proofs.RangeLemmas.{counted_none, counted_more}
 use Rattle.ev_prims.proofs.ranges.counted.Goals as goal

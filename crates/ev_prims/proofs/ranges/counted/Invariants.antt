@@ -1,6 +1,6 @@
 use Rattle.std.proofs.Common.{◌≡◌}
 use Rattle.ev_heap.specs.Contents.{Contents}
-use Rattle.ev_machine.specs.Native.{counted}
+use Rattle.def_machine.specs.Native.{counted}
 use Rattle.ev_prims.specs.Reading.{values_in}
 use Rattle.ev_prims.proofs.ranges.counted.Given as goal
 

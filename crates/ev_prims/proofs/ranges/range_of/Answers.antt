@@ -1,6 +1,6 @@
 use Rattle.std.proofs.Common.{ap, sym, ◌∙◌}
 use Rattle.std.proofs.lemmas.Int.{to_z-of_z}
-use Rattle.ev_machine.specs.Native.{Lists, counted}
+use Rattle.def_machine.specs.Native.{Lists, counted}
 use Rattle.ev_prims.proofs.RangeLemmas.{light_range}
 use Rattle.ev_prims.proofs.ranges.range_of.Goals as goal
 

@@ -2,7 +2,7 @@ use Rattle.std.proofs.Common.{◌≡◌, ◌+◌, ◌≤ℤ◌, ◌+ℤ◌, ◌-
 use Rattle.std.specs.Prelude.{unsigned_abs}
 use Rattle.std.specs.Int.{w128}
 use Rattle.std.proofs.lemmas.Int.{to_z-of_z, ints}
-use Rattle.ev_machine.specs.Native.{gap}
+use Rattle.def_machine.specs.Native.{gap}
 use Rattle.ev_prims.proofs.RangeLemmas.{gap_last, ranged_along}
 use Rattle.ev_prims.proofs.ranges.through.Goals as goal
 

@@ -1,6 +1,6 @@
 use Rattle.std.specs.Prelude.{chars, string_bytes}
 use Rattle.std.specs.Str.Iter.{chars_rest}
-use Rattle.ev_machine.specs.Native.{encoded, part_of}
+use Rattle.def_machine.specs.Native.{encoded, part_of}
 use Rattle.ev_prims.proofs.TextLemmas.{Parts}
 use Rattle.ev_prims.proofs.texts.part.Given as goal
 

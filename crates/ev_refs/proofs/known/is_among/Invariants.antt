@@ -1,6 +1,6 @@
 -- The vat is not among those so far.
 use Rattle.std.proofs.Common.{◌≡◌, drop}
-use Rattle.ev_machine.specs.State.{is_in}
+use Rattle.def_machine.specs.State.{is_in}
 use Rattle.ev_refs.proofs.known.is_among.Given as goal
 
 abbrev pub invariant-loop-other : goal.invariant-loop-other

@@ -2,7 +2,7 @@
 use Rattle.std.proofs.Common.{◌≡◌, ◌++◌, ◌∷◌, string_bytes}
 use Rattle.std.specs.List.{flat_map}
 use Rattle.std.specs.Str.Iter.{chars_rest}
-use Rattle.ev_text.specs.Quoting.{escaped}
+use Rattle.def_text.specs.Quoting.{escaped}
 use Rattle.ev_text.proofs.texts.push_quoted.Given as goal
 
 abbrev pub invariant-loop-c : goal.invariant-loop-c

@@ -1,8 +1,8 @@
 use Rattle.std.proofs.Common.{◌≡◌, Ok, Err, List, ℕ, string_bytes, subst}
 use Rattle.std.proofs.lemmas.Result.{IfOk-weaker}
 use Rattle.std.specs.declared.result.Result.{Result}
-use Rattle.ev_eval.specs.Built.{is_built}
-use Rattle.ev_kernel.specs.declared.node.Node.{Node}
+use Rattle.ev_steps.specs.Built.{is_built}
+use Rattle.def_kernel.specs.declared.node.Node.{Node}
 use Rattle.ev_reader.specs.Program.{Answers}
 use Rattle.ev_reader.specs.declared.fault.ProgramFault.{ProgramFault}
 use Rattle.ev_scope.specs.declared.accepted.Scoped.{Scoped}

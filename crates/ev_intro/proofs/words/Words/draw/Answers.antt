@@ -1,4 +1,4 @@
-use Rattle.std.proofs.Common.{◌≡◌, ℕ, suc, ◌+◌, ◌*◌, ◌<◌, [], ◌∷◌, ◌++◌, nat_eq, length, refl, sym, ap, subst, ◌∙◌, arith}
+use Rattle.std.proofs.Common.{◌≡◌, ◌≢◌, ℕ, suc, ◌+◌, ◌*◌, ◌<◌, [], ◌∷◌, ◌++◌, nat_eq, length, refl, sym, ap, subst, ◌∙◌, arith}
 use Rattle.indexmap.proofs.CallerLemmas.{insert_entry-new}
 use Rattle.rand_chacha.specs.ChaCha.{ChaCha, key_of}
 use Rattle.ev_intro.specs.declared.words.DrawFault.TheVariants as fault
@@ -15,7 +15,7 @@ returns-in-Some-clause-fault c =
     let first = c.in-Some.first in
     let is : number ≡ word key n = number_is key n number c.self.inside.stream c.self.invariant.0 c.next_number-number.ensures.value in
     let p = repeats key n number first es c.self.invariant.1 is (sym (c.in-Some.ensures ∙ c.get.ensures.value)) in
-    let inside = subst (λ (m : ℕ). (m ≡ n) × (first < m) × (word key first ≡ word key m)) (sym c.len-count.ensures.len) (refl, p.0, p.1) in
+    let inside = subst (λ (m : ℕ). (m ≡ n) × (first < m) × (word key first ≡ word key m) × ((k : ℕ) → k < first → word key k ≢ word key m)) (sym c.len-count.ensures.len) (refl, p.0, p.1, p.2) in
     subst (λ (d : Drawn). IsDrawFault d (fault.WordRepeated first c.len-count.result)) c.self.view_is inside
 
 pub returns-in-Ok-clause-differs : goal.returns-in-Ok-clause-differs

@@ -1,6 +1,6 @@
 use Rattle.std.proofs.Common.{◌≡◌, ℕ, List, ◌-◌, sym, ap, ◌∙◌, take, arith}
-use Rattle.ev_grammar.specs.Heights.{low}
-use Rattle.ev_table.specs.Table.{capped}
+use Rattle.def_grammar.specs.Heights.{low}
+use Rattle.ev_parse_table.specs.Table.{capped}
 use Rattle.ev_parser.specs.declared.draft.Waiting.{Waiting}
 use Rattle.ev_parser.specs.declared.draft.Waiting.TheVariants as waits
 use Rattle.ev_parser.specs.Draft.{low_waiting}

@@ -1,5 +1,5 @@
 use Rattle.std.proofs.Common.{sym, ◌∙◌}
-use Rattle.ev_refs.proofs.Waits.{goes, over}
+use Rattle.ev_refs.proofs.Chains.{goes, over}
 use Rattle.ev_refs.proofs.refs.Refs.waits_lead.Goals as goal
 
 pub loop-preserved : goal.loop-preserved

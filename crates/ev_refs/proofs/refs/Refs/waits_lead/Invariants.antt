@@ -1,6 +1,6 @@
 -- The chain leads from the name at hand, in the steps that are left, where it leads from the first one.
 use Rattle.std.proofs.Common.{◌≡◌, length, ◌-◌}
-use Rattle.ev_refs.specs.Resolving.{waits_lead}
+use Rattle.ev_refs.specs.Waiting.{waits_lead}
 use Rattle.ev_refs.proofs.refs.Refs.waits_lead.Given as goal
 
 abbrev pub invariant-loop : goal.invariant-loop

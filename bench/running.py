@@ -1,0 +1,102 @@
+#!/usr/bin/env python3
+"""Times the evaluator: nanoseconds and bytes of memory for a unit of fuel, and bytes for a line that is told.
+
+Run it at the top of the repository. It builds crates/evat and crates/test_bench_frames, expands each loop below by
+`evat expand`, and evaluates its kernel form until 0.1, 1 and 10 million units of fuel are spent. A loop never ends by
+itself, so all its fuel is spent and its lines are told and dropped at the stop: what is measured is evaluation alone.
+The figures of one loop should stay level as the fuel grows.
+"""
+import os
+import pathlib
+import subprocess
+import tempfile
+
+EVAT = pathlib.Path("crates/evat")
+BENCH = pathlib.Path("crates/test_bench_frames")
+DEPTH = 20_000
+FUELS = [100_000, 1_000_000, 10_000_000]
+TRIES = 3
+
+LONG = "a" * 60_000
+
+# The body of each loop, behind what is made once.
+LOOPS = {
+    "empty while": ("", "null"),
+    "integer arithmetic": ("var n := 0\n", "n := n * 3 + 1 - n * 2"),
+    "method call": ("def o { method put(x) { x } }\n", "o.put(1)"),
+    "function call": ("def f(x) { return x }\n", "f(1)"),
+    "recursion by method": ("def o { method down(n) { if (n == 0) { 0 } else { o.down(n - 1) } } }\n", "o.down(20)"),
+    "closure": ("", "def f(x) { x }; f(1)"),
+    "object, 8 captures": (
+        "def a := 1; def b := 2; def c := 3; def d := 4; def e := 5; def f := 6; def g := 7; def h := 8\n",
+        "def o { method all() { a + b + c + d + e + f + g + h } }; o.all()",
+    ),
+    "list literals": ("", "[1, 2, 3, 4]"),
+    "l[k]": ("def l := [1, 2, 3, 4]\n", "l[2]"),
+    "t[k]": ('def t := "abcdef"\n', "t[2]"),
+    "for over a list": ("def l := [1, 2, 3, 4, 5, 6, 7, 8]\n", "for x in l { x }"),
+    "try/throw": ("", 'try { throw("bad") } catch p { p }'),
+    "finally": ("", "try { 1 } finally { 2 }"),
+    "escape and ejection": ("", "escape ej { ej(1) }"),
+    "text slices": ('def t := "the quick brown fox"\n', "t.run(4, 9)"),
+    "text, 60,000 characters": (f'def t := "{LONG}"\n', "t.size()"),
+    "literal, 60,000 characters": ("", f'"{LONG}"'),
+    "a thousand names": ("\n".join(f"def n{i} := {i}" for i in range(1000)) + "\n", "n999 + n0"),
+    "two thousand captures": (
+        "\n".join(f"def n{i} := {i}" for i in range(2000))
+        + "\ndef o { method one() { 1 }\nmethod all() { ["
+        + "]; [".join(", ".join(f"n{i}" for i in range(k, k + 200)) for k in range(0, 2000, 200))
+        + "] } }\n",
+        "o.one()",
+    ),
+}
+
+
+def build() -> None:
+    for crate, words in (EVAT, ["--", "help"]), (BENCH, ["--", "1", "1"]):
+        subprocess.run(["rt", "run", *words], cwd=crate, stdin=subprocess.DEVNULL, stdout=subprocess.DEVNULL)
+
+
+def form_of(before: str, body: str) -> bytes:
+    source = f"{before}while (true) {{ {body} }}\n"
+    return subprocess.run([EVAT / "out" / "evat", "expand"], input=source.encode(), capture_output=True).stdout.rstrip(b"\n")
+
+
+def once(form: pathlib.Path, fuel: int) -> tuple[float, int, int]:
+    """The seconds of processor of one run, its memory in bytes, and the count of lines that it told."""
+    words = [BENCH / "out" / "test_bench_frames", str(DEPTH), str(fuel)]
+    with form.open("rb") as program:
+        run = subprocess.Popen(words, stdin=program, stdout=subprocess.PIPE)
+        told = run.stdout.read().decode().split()
+        _, _, used = os.wait4(run.pid, 0)
+    lines = int(told[-1]) if "events" in told else 0
+    return used.ru_utime + used.ru_stime, used.ru_maxrss * 1024, lines
+
+
+def measured(form: pathlib.Path, fuel: int) -> tuple[float, int, int]:
+    """The least of some runs."""
+    runs = [once(form, fuel) for _ in range(TRIES)]
+    return min(run[0] for run in runs), min(run[1] for run in runs), runs[0][2]
+
+
+def main() -> None:
+    build()
+    room = tempfile.TemporaryDirectory()
+    print(f"{'loop':28} {'fuel':>10} {'ns a unit':>10} {'bytes a unit':>13} {'bytes a line':>13}")
+    for name, (before, body) in LOOPS.items():
+        form = form_of(before, body)
+        if not form.startswith(b"("):
+            print(f"{name:28} not built: {form.decode().strip()}")
+            continue
+        program = pathlib.Path(room.name) / "form"
+        program.write_bytes(form)
+        rest, floor, _ = measured(program, 1)
+        for fuel in FUELS:
+            seconds, most, lines = measured(program, fuel)
+            more = max(0, most - floor)
+            line = f"{more / lines:13.0f}" if lines else " " * 13
+            print(f"{name:28} {fuel:10} {(seconds - rest) / fuel * 1e9:10.1f} {more / fuel:13.1f} {line}")
+
+
+if __name__ == "__main__":
+    main()

@@ -1,0 +1,13 @@
+pub mod Values
+pub mod State
+pub mod Free
+pub mod Form
+pub mod Ints
+pub mod Native
+pub mod Refs
+pub mod Arrive
+pub mod Receive
+pub mod Calls
+pub mod Eval
+pub mod Perform
+pub mod Scopes

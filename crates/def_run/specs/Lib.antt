@@ -1,0 +1,6 @@
+pub mod Draws
+pub mod Connections
+pub mod Wire
+pub mod World
+pub mod Shown
+pub mod Text

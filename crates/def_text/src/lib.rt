@@ -1,0 +1,2 @@
+//! How texts, characters and words are spelled.
+#![tactic(auto)]

@@ -1,5 +1,0 @@
-use Rattle.ev_answer_laws.proofs.OnceLaws.{messages_go_on_before_answers}
-use Rattle.ev_answer_laws.proofs.answers.messages_go_on_before_answers.Goals as goal
-
-pub returns : goal.returns
-returns c = messages_go_on_before_answers

@@ -1,5 +1,0 @@
-use Rattle.ev_answer_laws.proofs.Whole.{notes_bring_new_where_gifts_do}
-use Rattle.ev_answer_laws.proofs.answers.notes_bring_new_where_gifts_do.Goals as goal
-
-pub returns : goal.returns
-returns c = notes_bring_new_where_gifts_do

@@ -1,0 +1,4 @@
+pub mod Views
+pub mod Asks
+pub mod Stamps
+pub mod Frozen

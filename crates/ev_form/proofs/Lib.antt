@@ -1,4 +1,0 @@
-pub mod FormLemmas
-pub mod Words
-pub mod WalkLemmas
-pub mod Weights

@@ -1,0 +1,10 @@
+pub mod Begins
+pub mod Calling
+pub mod Ending
+pub mod Guarding
+pub mod Leafy
+pub mod Looping
+pub mod Native
+pub mod Rests
+pub mod Patterning
+pub mod Matching

@@ -1,0 +1,146 @@
+//! Parts that are literals and nouns are evaluated at once, without a frame.
+
+ghost use Rattle.std.specs.Prelude.{◌≡◌, Some, drop, length, slice_get};
+ghost use Rattle.ev_steps.specs.Steps.{evaluator, gathered, last_of};
+ghost use Rattle.def_kernel.specs.declared.node.Node.TheVariants.{Lit, Noun};
+ghost use Rattle.ev_room.specs.Acts.{GivesIn};
+ghost use Rattle.ev_frames.specs.Leaves.{Gathers, LeafGives, Passes};
+
+use crate::nodes::{literal_node, noun_node};
+use def_kernel::{Kernel, Literal, Node};
+use ev_base::{NodeId, Seq, Value};
+use ev_room::exit::Exit;
+use ev_room::room::{Room, spend};
+use ev_room::scope::Scope;
+use ev_room::tree::node_at;
+use ev_steps::pattern::part_at;
+use ev_word::Word;
+
+/// Evaluates a literal.
+#[tactic(auto, using(ev_steps::proofs::Depth::expression_deep, ev_steps::proofs::Depth::expression_goes, ev_room::proofs::Exits::ends), unfolding(ev_steps::specs::Steps::opened_steps))]
+fn literal_leaf(
+    program: &Kernel,
+    depth: u32,
+    id: NodeId,
+    literal: &Literal,
+    here: &Scope,
+    room: &mut Room,
+) -> Result<Value, Exit>
+    requires { slice_get program.now id ≡ Some (Lit literal.now) }
+    ensures outcome { GivesIn result here.now room.new ((evaluator program.now depth).expression id here.now room.old) }
+{
+    if depth == 0 {
+        return Err(Exit::Deep);
+    }
+    spend(room, 1)?;
+    literal_node(literal, here, room)
+}
+
+/// Evaluates a noun.
+#[tactic(auto, using(ev_steps::proofs::Depth::expression_deep, ev_steps::proofs::Depth::expression_goes, ev_room::proofs::Exits::ends), unfolding(ev_steps::specs::Steps::opened_steps))]
+fn noun_leaf(
+    program: &Kernel,
+    depth: u32,
+    id: NodeId,
+    noun: &Word,
+    here: &Scope,
+    room: &mut Room,
+) -> Result<Value, Exit>
+    requires { slice_get program.now id ≡ Some (Noun noun.now) }
+    ensures outcome { GivesIn result here.now room.new ((evaluator program.now depth).expression id here.now room.old) }
+{
+    if depth == 0 {
+        return Err(Exit::Deep);
+    }
+    spend(room, 1)?;
+    noun_node(noun, here, room)
+}
+
+/// Evaluates a node that is a literal or a noun, and does nothing at any other.
+fn leaf_in(
+    program: &Kernel,
+    depth: u32,
+    id: NodeId,
+    node: &Node,
+    here: &Scope,
+    room: &mut Room,
+) -> Result<Option<Value>, Exit>
+    requires { slice_get program.now id ≡ Some node.now }
+    ensures { LeafGives program.now depth id here.now room.old result room.new }
+{
+    match node {
+        Node::Lit(literal) => {
+            let value = literal_leaf(program, depth, id, literal, here, room)?;
+            Ok(Some(value))
+        }
+        Node::Noun(noun) => {
+            let value = noun_leaf(program, depth, id, noun, here, room)?;
+            Ok(Some(value))
+        }
+        _ => Ok(None),
+    }
+}
+
+/// The same of the node of a number.
+pub(crate) fn leaf(
+    program: &Kernel,
+    depth: u32,
+    id: NodeId,
+    here: &Scope,
+    room: &mut Room,
+) -> Result<Option<Value>, Exit>
+    ensures { LeafGives program.now depth id here.now room.old result room.new }
+{
+    match node_at(program.nodes(), id) {
+        None => Ok(None),
+        Some(node) => leaf_in(program, depth, id, node, here, room),
+    }
+}
+
+/// Evaluates the parts of a sequence from a place on, as far as they are literals and nouns: the place behind them, and the value of
+/// the last of them, or the one before.
+#[tactic(auto, using(crate::proofs::Leafy::leaf_passes, crate::proofs::Leafy::leaf_ends, crate::proofs::Leafy::get_below))]
+pub(crate) fn leaves(
+    program: &Kernel,
+    depth: u32,
+    begun: usize,
+    value: Value,
+    parts: &[NodeId],
+    here: &Scope,
+    room: &mut Room,
+) -> Result<(usize, Value), Exit>
+    ensures { Passes program.now depth begun value parts.now here.now room.old result room.new }
+{
+    let mut place = begun;
+    let mut last = value;
+    while let Some(part) = part_at(parts, place) {
+        match leaf(program, depth, part, here, room)? {
+            Some(given) => last = given,
+            None => return Ok((place, last)),
+        }
+        place += 1;
+    }
+    Ok((place, last))
+}
+
+/// Evaluates the arguments of a call behind those so far, as far as they are literals and nouns.
+#[tactic(auto, using(crate::proofs::Leafy::leaf_gathers, crate::proofs::Leafy::leaf_gathers_not, crate::proofs::Leafy::get_below))]
+pub(crate) fn leaf_args(
+    program: &Kernel,
+    depth: u32,
+    so_far: Seq<Value>,
+    args: &[NodeId],
+    here: &Scope,
+    room: &mut Room,
+) -> Result<Seq<Value>, Exit>
+    ensures { Gathers program.now depth so_far args.now here.now room.old result room.new }
+{
+    let mut values = so_far;
+    while let Some(part) = part_at(args, values.len()) {
+        match leaf(program, depth, part, here, room)? {
+            Some(given) => values.push(given)?,
+            None => return Ok(values),
+        }
+    }
+    Ok(values)
+}

@@ -1,0 +1,16 @@
+//! The evaluator of one vat on an explicit stack of frames.
+#![tactic(auto)]
+
+pub mod calls;
+pub mod ends;
+pub mod frames;
+pub mod guards;
+pub mod leaves;
+pub mod machine;
+pub mod matchers;
+pub mod natives;
+pub mod nodes;
+pub mod parts;
+pub mod patterns;
+
+pub use machine::evaluate;

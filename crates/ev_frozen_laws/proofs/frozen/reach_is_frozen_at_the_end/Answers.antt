@@ -1,5 +1,0 @@
-use Rattle.ev_frozen_laws.proofs.RunSound.{reach_at_the_end}
-use Rattle.ev_frozen_laws.proofs.frozen.reach_is_frozen_at_the_end.Goals as goal
-
-pub returns : goal.returns
-returns c = reach_at_the_end

@@ -1,5 +1,0 @@
-use Rattle.ev_frozen_laws.proofs.RunSound.{reach_in_runs}
-use Rattle.ev_frozen_laws.proofs.frozen.reach_is_frozen_in_runs.Goals as goal
-
-pub returns : goal.returns
-returns c = reach_in_runs

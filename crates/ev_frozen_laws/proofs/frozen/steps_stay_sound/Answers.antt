@@ -1,7 +1,0 @@
-use Rattle.ev_frozen_laws.proofs.FrozenSteps.{stays_sound}
-use Rattle.ev_frozen_laws.proofs.Reach.{global_spots, local_spots}
-use Rattle.ev_machine.specs.Values.{naming, numbering}
-use Rattle.ev_frozen_laws.proofs.frozen.steps_stay_sound.Goals as goal
-
-pub returns : goal.returns
-returns c = (λ word v. stays_sound (naming word v) (global_spots word v), λ word. stays_sound (numbering word) (local_spots word))

@@ -1,5 +1,0 @@
-use Rattle.ev_gift_laws.proofs.Apart.{new_where_apart}
-use Rattle.ev_gift_laws.proofs.gifts.notes_bring_new_where_gifts_stand_apart.Goals as goal
-
-pub returns : goal.returns
-returns c = new_where_apart

@@ -1,8 +1,0 @@
--- reading stands at a place of the text
-use Rattle.std.specs.Str.Iter.{chars_rest}
-use Rattle.ev_kernel.specs.Reading.{read}
-use Rattle.ev_kernel.proofs.ReadingLemmas.{Reads}
-use Rattle.ev_kernel.proofs.forms.read_form.Given as goal
-
-abbrev pub invariant-loop-c : goal.invariant-loop-c
-invariant-loop-c l = Reads (chars_rest l.c-iterator) l.text l.place l.state (read l.text)

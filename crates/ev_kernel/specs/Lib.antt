@@ -1,4 +1,0 @@
-pub mod Forms
-pub mod Reading
-pub mod Answers
-pub mod Faults

@@ -1,0 +1,5 @@
+pub mod FormLemmas
+pub mod Words
+pub mod WalkLemmas
+pub mod Weights
+pub mod ItemLemmas

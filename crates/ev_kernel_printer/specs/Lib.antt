@@ -1,0 +1,4 @@
+pub mod Pieces
+pub mod FreeNames
+pub mod Walks
+pub mod Items

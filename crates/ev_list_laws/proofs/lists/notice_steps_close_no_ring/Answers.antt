@@ -1,5 +1,0 @@
-use Rattle.ev_list_laws.proofs.NoticeRing.{notice_steps_close_no_ring}
-use Rattle.ev_list_laws.proofs.lists.notice_steps_close_no_ring.Goals as goal
-
-pub returns : goal.returns
-returns c = notice_steps_close_no_ring

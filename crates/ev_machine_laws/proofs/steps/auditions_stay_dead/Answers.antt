@@ -1,5 +1,0 @@
-use Rattle.ev_machine_laws.proofs.StepLaws.{auditions_stays}
-use Rattle.ev_machine_laws.proofs.steps.auditions_stay_dead.Goals as goal
-
-pub returns : goal.returns
-returns c = (λ K step s. auditions_stays K step s, λ K step s. auditions_stays K step s)

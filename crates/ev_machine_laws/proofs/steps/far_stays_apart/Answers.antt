@@ -1,5 +1,0 @@
-use Rattle.ev_machine_laws.proofs.BreakLaws.{apart_stays}
-use Rattle.ev_machine_laws.proofs.steps.far_stays_apart.Goals as goal
-
-pub returns : goal.returns
-returns c = λ word step s a. apart_stays word step s a

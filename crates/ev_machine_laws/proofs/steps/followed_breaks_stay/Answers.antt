@@ -1,5 +1,0 @@
-use Rattle.ev_machine_laws.proofs.BreakLaws.{followed_break_stays}
-use Rattle.ev_machine_laws.proofs.steps.followed_breaks_stay.Goals as goal
-
-pub returns : goal.returns
-returns c = (λ K step s. followed_break_stays K step s, λ K step s. followed_break_stays K step s)

@@ -1,5 +1,0 @@
-use Rattle.ev_machine_laws.proofs.StepLaws.{mails_stays}
-use Rattle.ev_machine_laws.proofs.steps.mails_stay.Goals as goal
-
-pub returns : goal.returns
-returns c = (λ K step s. mails_stays K step s, λ K step s. mails_stays K step s)

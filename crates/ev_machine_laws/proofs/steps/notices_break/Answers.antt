@@ -1,5 +1,0 @@
-use Rattle.ev_machine_laws.proofs.NoticeLaws.{notice_breaks}
-use Rattle.ev_machine_laws.proofs.steps.notices_break.Goals as goal
-
-pub returns : goal.returns
-returns c = (λ K w s t e i. notice_breaks K w s t e i, λ K w s t e i. notice_breaks K w s t e i)

@@ -1,5 +1,0 @@
-use Rattle.ev_machine_laws.proofs.StepLaws.{noticed_stays}
-use Rattle.ev_machine_laws.proofs.steps.notices_stay.Goals as goal
-
-pub returns : goal.returns
-returns c = (λ K step s. noticed_stays K step s, λ K step s. noticed_stays K step s)

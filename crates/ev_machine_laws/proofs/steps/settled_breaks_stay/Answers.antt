@@ -1,5 +1,0 @@
-use Rattle.ev_machine_laws.proofs.BreakLaws.{settled_break_stays}
-use Rattle.ev_machine_laws.proofs.steps.settled_breaks_stay.Goals as goal
-
-pub returns : goal.returns
-returns c = (λ K step s. settled_break_stays K step s, λ K step s. settled_break_stays K step s)

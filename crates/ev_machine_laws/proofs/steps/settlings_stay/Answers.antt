@@ -1,5 +1,0 @@
-use Rattle.ev_machine_laws.proofs.StepLaws.{settled_stays}
-use Rattle.ev_machine_laws.proofs.steps.settlings_stay.Goals as goal
-
-pub returns : goal.returns
-returns c = (λ K step s. settled_stays K step s, λ K step s. settled_stays K step s)

@@ -1,5 +1,0 @@
-use Rattle.ev_machine_laws.proofs.BreakLaws.{object_break_stays}
-use Rattle.ev_machine_laws.proofs.steps.severed_objects_stay.Goals as goal
-
-pub returns : goal.returns
-returns c = (λ K step s. object_break_stays K step s, λ K step s. object_break_stays K step s)

@@ -1,5 +1,0 @@
-use Rattle.ev_machine_laws.proofs.StepEnds.{step_ends}
-use Rattle.ev_machine_laws.proofs.steps.steps_are_quiet.Goals as goal
-
-pub returns : goal.returns
-returns c = (λ K step s. step_ends K step s, λ K step s. step_ends K step s)

@@ -1,5 +1,0 @@
-use Rattle.ev_name_laws.proofs.Laws.{followed_broken}
-use Rattle.ev_name_laws.proofs.names.followed_breaks_stay_broken.Goals as goal
-
-pub returns : goal.returns
-returns c = followed_broken

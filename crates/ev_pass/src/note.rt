@@ -1,0 +1,49 @@
+//! What one vat tells another, in the numbers of the vat that tells it.
+
+use crate::draw::Swiss;
+use ev_base::{MsgId, ObjId, PromId, Value, VatId};
+use ev_word::Word;
+
+/// What a note is about at the vat that it goes to: an object or a promise, as this vat knows it.
+#[derive(Clone, Copy, Debug, PartialEq, Eq)]
+pub enum Reference {
+    /// An object of this vat.
+    Object(ObjId),
+    Promise(PromId),
+    /// An object of another vat, by its position.
+    Far(VatId, u64),
+}
+
+/// A value as it passes.
+#[derive(Drop)]
+pub enum Passed {
+    /// Data, or a name of this vat or of the receiver.
+    Plain(Value),
+    /// A gift at that vat, which this vat provides.
+    Gift(VatId, Swiss),
+    /// A list, by its members.
+    List(Vec<Passed>),
+}
+
+/// What one vat tells another.
+#[derive(Drop)]
+pub enum Note {
+    /// A message, and whether it asks for an answer.
+    Deliver {
+        message: MsgId,
+        asks: bool,
+        target: Reference,
+        verb: Word,
+        args: Vec<Passed>,
+    },
+    /// The sender's gift under that word is this.
+    Open(Swiss, Reference),
+    /// The gift of that provider under that word is asked for, which the asker knows as that name.
+    Ask(VatId, Swiss, PromId),
+    /// A name settled to that.
+    Settled(PromId, Passed),
+    /// A name settled to an object of that vat.
+    Elsewhere(PromId, VatId),
+    /// The object that the name settled to is wanted as a gift at that vat, under that word.
+    Shorten(PromId, VatId, Swiss),
+}

@@ -1,5 +1,0 @@
-use Rattle.ev_rest_laws.proofs.NotesRuns.{notes_carry_ends}
-use Rattle.ev_rest_laws.proofs.rest.notes_carry_their_ends.Goals as goal
-
-pub returns : goal.returns
-returns c = notes_carry_ends

@@ -1,5 +1,0 @@
-use Rattle.ev_rest_laws.proofs.OwnRuns.{own_in_runs}
-use Rattle.ev_rest_laws.proofs.rest.what_a_vat_has_is_its_own.Goals as goal
-
-pub returns : goal.returns
-returns c = own_in_runs

@@ -1,5 +1,0 @@
-pub mod Draws
-pub mod World
-pub mod Shown
-pub mod Wire
-pub mod Text

@@ -1,0 +1,4 @@
+pub mod AtOnce
+pub mod Binders
+pub mod Built
+pub mod Steps

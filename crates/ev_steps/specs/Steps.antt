@@ -1,0 +1,507 @@
+-- Evaluation over the state of the code: the machine's evaluation of the trees that are built.
+use Rattle.std.specs.Prelude.{◌+◌, ◌==◌, reverse, ℕ, zero, suc, pos, Bool, true, false, if◌then◌else◌, List, [], ◌∷◌, ◌++◌, Some, None, length, slice_get, codes}
+use Rattle.std.specs.declared.option.Option.{Option}
+use Rattle.ev_base.specs.declared.values.Value.{Value}
+use Rattle.ev_base.specs.declared.values.Value.TheVariants as held
+use Rattle.ev_heap.specs.declared.happened.Happened.TheVariants as event
+use Rattle.def_kernel.specs.declared.node.Literal.{Literal}
+use Rattle.def_kernel.specs.declared.node.Literal.TheVariants as literal
+use Rattle.def_kernel.specs.declared.node.Node.{Node}
+use Rattle.def_kernel.specs.declared.node.Node.TheVariants.{Lit, Noun, Set, Def, Call, Sequence, If, Escape, Try, Finally, Hide, MatchBind, Object as ObjectNode, Method, Matcher, Final, Var, Any, ListPattern, Via}
+use Rattle.def_machine.specs.Values.{Words}
+use Rattle.def_machine.specs.Free.{BoundNoun, bound_nouns}
+use Rattle.def_machine.specs.Scopes.{Case, matchers_of, members_of}
+use Rattle.ev_heap.specs.Contents.{Contents}
+use Rattle.ev_prims.specs.Answers.{data_answer, members_at}
+use Rattle.def_machine.specs.Native.{value_order}
+use Rattle.ev_prims.specs.Asks.{asked_of}
+use Rattle.ev_prims.specs.Orders.{compared_by}
+use Rattle.ev_prims.specs.Ranges.{range_answer}
+use Rattle.ev_prims.specs.Reading.{text_in, value_by}
+use Rattle.ev_prims.specs.declared.asking.Asked.{Asked}
+use Rattle.ev_prims.specs.declared.asking.Asked.TheVariants as ask
+use Rattle.ev_prims.specs.declared.order.Test.{Test}
+use Rattle.ev_prims.specs.declared.problem.Problem.TheVariants.{NoMethod, NotBoolean}
+use Rattle.ev_prims.specs.declared.reply.Reply.{Reply}
+use Rattle.ev_prims.specs.declared.reply.Reply.TheVariants as reply
+use Rattle.ev_room.specs.Sound.{is_there, no_match_id, not_a_list_id}
+use Rattle.ev_same.specs.Same.{same_ever}
+use Rattle.ev_room.specs.declared.object.Object.{Object}
+use Rattle.ev_room.specs.declared.object.Code.{Code}
+use Rattle.ev_room.specs.declared.object.Code.TheVariants.{Runs, Leaves}
+use Rattle.ev_room.specs.declared.exit.Exit.TheVariants.{Thrown, Ejected, Fuel, Deep, Astray, Unbuilt}
+use Rattle.ev_room.specs.declared.scope.Bound.{Bound}
+use Rattle.ev_room.specs.declared.scope.Bound.TheVariants.{Fixed, Slot}
+use Rattle.ev_room.specs.declared.scope.Scope.{Scope}
+use Rattle.ev_room.specs.Acts.{Act, ◌>>=◌, ◌>>◌, give, fail, tell, spend, new_activation, new_slot, found_from, read_bound, write_bound, cut, with_noun, fails, text_value, write_text, make_list, closed, thrown_id, call_there, object_node, first_method, look_code, Out, ended_by, leave, new_ejector, call_ejector, opened_acts}
+
+-- a call by an activation: receiver, verb and arguments
+abbrev pub Caller : Type 0
+Caller = ℕ → Value → Words → List Value → Act Value
+
+-- run of a value is called with each place and the member there
+unfoldable pub iterate : Caller → ℕ → Value → ℕ → List Value → Act Value
+iterate again act f k [] = give held.Null
+iterate again act f k (v ∷ vs) = do
+  again act f (codes "run") (held.Int (pos k) ∷ v ∷ [])
+  iterate again act f (suc k) vs
+
+-- what data answers is done
+unfoldable pub replied : Caller → ℕ → Reply → Act Value
+replied again act (reply.Says v) = give v
+replied again act (reply.Writes u) = write_text u
+replied again act (reply.Lists vs) = make_list act vs
+replied again act (reply.Iterates f vs) = iterate again act f 0 vs
+replied again act (reply.Fails p) = fails p
+
+-- ---- primitives
+
+-- the answer of a turn of a loop tells whether there is another
+unfoldable pub after_turn : Act Value → Value → Act Value
+after_turn more (held.Bool true) = more
+after_turn more (held.Bool false) = give held.Null
+after_turn more _ = fails NotBoolean
+
+-- at most so many turns
+unfoldable pub turns : Caller → ℕ → Value → ℕ → Act Value
+turns again act f zero = fail Fuel
+turns again act f (suc n) = do
+  x ← again act f (codes "run") []
+  after_turn (turns again act f n) x
+
+-- as many turns at most as there is fuel, of which each turn takes some
+unfoldable pub loop : Caller → ℕ → Value → Act Value
+loop again act f = λ s. turns again act f (s.micro.fuel + 1) s
+
+unfoldable pub pair_there : Contents → Value → Value → Bool
+pair_there h x y = if is_there h x then is_there h y else false
+
+unfoldable pub compared_there : Caller → ℕ → Test → Value → Value → Bool → Act Value
+compared_there again act t x y true = λ s. replied again act (compared_by t (value_order (value_by (text_in s.heap) x) (value_by (text_in s.heap) y))) s
+compared_there again act t x y false = fail Astray
+
+unfoldable pub compared : Caller → ℕ → Test → Value → Value → Act Value
+compared again act t x y = λ s. compared_there again act t x y (pair_there s.heap x y) s
+
+-- what is asked of a primitive, with these as the arguments
+unfoldable pub performed : Caller → ℕ → Asked → List Value → Act Value
+performed again act ask.MakesList args = make_list act args
+performed again act (ask.Ranges last x y) args = replied again act (range_answer last x y)
+performed again act (ask.Compares t x y) args = compared again act t x y
+performed again act (ask.Loops f) args = loop again act f
+performed again act (ask.ThrowsIt v) args = fail (Thrown (thrown_id v))
+performed again act ask.NoMethod args = fails NoMethod
+performed again act (ask.Same x y) args = same_ever x y
+performed again act _ args = fail Unbuilt
+
+-- ---- data
+
+unfoldable pub answered_there : Caller → ℕ → Value → Words → List Value → Bool → Act Value
+answered_there again act x verb args true = λ s. replied again act (data_answer (text_in s.heap) (members_at s.heap) x verb args args) s
+answered_there again act x verb args false = fail Astray
+
+unfoldable pub answered : Caller → ℕ → Value → Words → List Value → Act Value
+answered again act x verb args = λ s. answered_there again act x verb args (call_there s.heap x args) s
+
+-- a call on data
+unfoldable pub call_data : Caller → ℕ → Value → Words → List Value → Act Value
+call_data again act x verb args = do
+  tell (event.Call act x verb args None)
+  closed act (answered again act x verb args)
+
+-- What evaluates the nodes below: an expression, and a pattern at a specimen with an ejector. Null is no ejector.
+pub record Evaluator : Type 0 where
+  pub expression : ℕ → Scope → Act (Value × Scope)
+  pub pattern : ℕ → Value → Value → Scope → Act Scope
+
+-- ---- objects
+
+-- patterns at values, one after another, with an ejector
+unfoldable pub bind_all : Evaluator → List ℕ → List Value → Value → Scope → Act Scope
+bind_all rec [] vs j here = give here
+bind_all rec (p ∷ ps) [] j here = give here
+bind_all rec (p ∷ ps) (v ∷ vs) j here = do
+  after ← rec.pattern p v j here
+  bind_all rec ps vs j after
+
+unfoldable pub run_method : Evaluator → List ℕ → ℕ → List Value → Scope → Act Value
+run_method rec ps b args here = do
+  inner ← bind_all rec ps args held.Null here
+  x ← rec.expression b inner
+  give x.0
+
+unfoldable pub handed_over : {A : Type 0} → ℕ → Act A → ℕ → Value → Bool → Act A
+handed_over act next n v true = tell (event.Got act v) >> next
+handed_over act next n v false = fail (Ejected n v)
+
+-- A matcher whose pattern is bound gives what its body does. One that left by its ejector hands over.
+unfoldable pub matched : Evaluator → ℕ → ℕ → ℕ → Act (Value × Scope) → Out Scope → Out (Value × Scope)
+matched rec act j b next o = ended_by (λ inner. leave j (rec.expression b inner)) (λ id. leave j (fail (Thrown id))) (λ n v. leave j (handed_over act next n v (n == j))) o
+
+unfoldable pub match_all : Evaluator → List Case → Value → Scope → Act (Value × Scope)
+match_all rec [] v here = fails NoMethod
+match_all rec (m ∷ ms) v here = do
+  j ← new_ejector here.act
+  λ s. matched rec here.act j m.body (match_all rec ms v here) (rec.pattern m.pattern v (held.Obj j) here s)
+
+-- a list of the verb and the list of the arguments
+unfoldable pub message_pair : ℕ → Words → List Value → Act Value
+message_pair act verb args = do
+  l ← make_list act args
+  u ← text_value verb
+  make_list act (u ∷ l ∷ [])
+
+-- the matchers are tried on one such list
+unfoldable pub try_matchers : Evaluator → List Case → Words → List Value → Scope → Act (Value × Scope)
+try_matchers rec [] verb args here = fails NoMethod
+try_matchers rec (m ∷ ms) verb args here = do
+  pair ← message_pair here.act verb args
+  match_all rec (m ∷ ms) pair here
+
+unfoldable pub value_of_matchers : Evaluator → List Case → Words → List Value → Scope → Act Value
+value_of_matchers rec ms verb args here = do
+  x ← try_matchers rec ms verb args here
+  give x.0
+
+unfoldable pub run_found : Evaluator → List Case → Words → Option Node → List Value → Scope → Act Value
+run_found rec ms verb (Some (Method v ps b)) args here = run_method rec ps b args here
+run_found rec ms verb _ args here = value_of_matchers rec ms verb args here
+
+-- what an object does with a message, in the environment of its captures
+unfoldable pub run_object : List Node → Evaluator → ℕ → Words → List Value → Scope → Act Value
+run_object tree rec node verb args here = run_found rec (matchers_of tree (members_of (slice_get tree node))) verb (first_method tree (members_of (slice_get tree node)) verb (length args)) args here
+
+-- a call on an object begins an activation, in which the object's code runs
+unfoldable pub call_made : List Node → Evaluator → ℕ → ℕ → Words → List Value → Object → Act Value
+call_made tree rec act i verb args o = do
+  b ← new_activation (held.Obj i)
+  tell (event.Call act (held.Obj i) verb args (Some b))
+  closed act (run_object tree rec o.node verb args (record { act = b; nouns = reverse o.nouns }))
+
+-- what is called runs its code, or leaves to its escape
+unfoldable pub call_code : List Node → Evaluator → ℕ → ℕ → Words → List Value → Code → Act Value
+call_code tree rec act i verb args (Runs o) = call_made tree rec act i verb args o
+call_code tree rec act i verb args (Leaves live) = call_ejector act i live verb args
+
+unfoldable pub call_object : List Node → Evaluator → ℕ → ℕ → Words → List Value → Act Value
+call_object tree rec act i verb args = do
+  c ← look_code i
+  call_code tree rec act i verb args c
+
+-- a call in which data and primitives call again so
+unfoldable pub call_value : List Node → Evaluator → Caller → Caller
+call_value tree rec again act (held.Obj i) verb args = call_object tree rec act i verb args
+call_value tree rec again act (held.Broken id) verb args = fail (Thrown id)
+call_value tree rec again act held.Null verb args = call_data again act held.Null verb args
+call_value tree rec again act (held.Bool b) verb args = call_data again act (held.Bool b) verb args
+call_value tree rec again act (held.Int z) verb args = call_data again act (held.Int z) verb args
+call_value tree rec again act (held.Char c) verb args = call_data again act (held.Char c) verb args
+call_value tree rec again act (held.Text id) verb args = call_data again act (held.Text id) verb args
+call_value tree rec again act (held.List k) verb args = call_data again act (held.List k) verb args
+call_value tree rec again act (held.Prim n) verb args = performed again act (asked_of n verb args) args
+call_value tree rec again act _ verb args = fail Unbuilt
+
+-- a call in which calls again stand at most so many times one inside another
+unfoldable pub call_at : List Node → Evaluator → ℕ → Caller
+call_at tree rec zero act x verb args = fail Astray
+call_at tree rec (suc n) act x verb args = call_value tree rec (call_at tree rec n) act x verb args
+
+unfoldable pub call : List Node → Evaluator → Caller
+call tree rec act x verb args = λ s. call_at tree rec (length s.heap.lists + 4) act x verb args s
+
+-- ---- nodes
+
+-- expressions from left to right, behind the values so far
+unfoldable pub gathered : Evaluator → List Value → List ℕ → Scope → Act (List Value × Scope)
+gathered rec so_far [] here = give (so_far, here)
+gathered rec so_far (e ∷ es) here = do
+  x ← rec.expression e here
+  gathered rec (so_far ++ x.0 ∷ []) es x.1
+
+unfoldable pub last_of : Evaluator → Value → List ℕ → Scope → Act (Value × Scope)
+last_of rec x [] here = give (x, here)
+last_of rec x (e ∷ es) here = do
+  y ← rec.expression e here
+  last_of rec y.0 es y.1
+
+unfoldable pub call_node : List Node → Evaluator → ℕ → Words → List ℕ → Scope → Act (Value × Scope)
+call_node tree rec r verb args here = do
+  x ← rec.expression r here
+  xs ← gathered rec [] args x.1
+  v ← call tree rec here.act x.0 verb xs.0
+  give (v, xs.1)
+
+-- the ejector of a definition
+unfoldable pub exit_of : Evaluator → Option ℕ → Scope → Act (Value × Scope)
+exit_of rec None here = give (held.Null, here)
+exit_of rec (Some j) here = rec.expression j here
+
+-- a pattern is bound to the value of an expression, and the ejector is known
+unfoldable pub define_by : Evaluator → ℕ → ℕ → Value → Scope → Act (Value × Scope)
+define_by rec p e j here = do
+  x ← rec.expression e here
+  after ← rec.pattern p x.0 j x.1
+  give (x.0, after)
+
+unfoldable pub define : Evaluator → ℕ → Option ℕ → ℕ → Scope → Act (Value × Scope)
+define rec p exit e here = do
+  j ← exit_of rec exit here
+  define_by rec p e j.0 j.1
+
+unfoldable pub literal_value : Literal → Act Value
+literal_value (literal.Int z) = give (held.Int z)
+literal_value (literal.Char c) = give (held.Char c)
+literal_value (literal.Text u) = text_value u
+
+unfoldable pub literal_node : Literal → Scope → Act (Value × Scope)
+literal_node l here = do
+  v ← literal_value l
+  give (v, here)
+
+unfoldable pub noun_node : Words → Scope → Act (Value × Scope)
+noun_node x here = do
+  v ← read_bound here.act (found_from None here.nouns x) x
+  give (v, here)
+
+-- what the noun stands for before the value is evaluated is written
+unfoldable pub set_node : Evaluator → Words → ℕ → Scope → Act (Value × Scope)
+set_node rec x e here = do
+  v ← rec.expression e here
+  u ← write_bound here.act (found_from None here.nouns x) v.0
+  give (u, v.1)
+
+-- an expression whose names are dropped behind it, down to so many
+unfoldable pub within : Evaluator → ℕ → ℕ → Scope → Act (Value × Scope)
+within rec mark e here = do
+  x ← rec.expression e here
+  give (x.0, cut mark x.1)
+
+-- the branch that a value chooses, in the scope after the test
+unfoldable pub choose : Evaluator → ℕ → ℕ → ℕ → Value → Scope → Act (Value × Scope)
+choose rec mark a b (held.Bool true) inner = within rec mark a inner
+choose rec mark a b (held.Bool false) inner = within rec mark b (cut mark inner)
+choose rec mark a b _ inner = fails NotBoolean
+
+unfoldable pub if_node : Evaluator → ℕ → ℕ → ℕ → Scope → Act (Value × Scope)
+if_node rec t a b here = do
+  x ← rec.expression t here
+  choose rec (length here.nouns) a b x.0 x.1
+
+-- ---- escapes, problems, and what is evaluated at last
+
+-- an expression whose names are dropped behind it
+unfoldable pub alone : Evaluator → ℕ → Scope → Act Value
+alone rec e here = do
+  x ← rec.expression e here
+  give x.0
+
+-- a pattern is bound to a value, and an expression evaluated in the scope after it; the names of both are dropped
+unfoldable pub handled : Evaluator → ℕ → ℕ → Value → Scope → Act Value
+handled rec p e v here = do
+  inner ← rec.pattern p v held.Null here
+  x ← rec.expression e inner
+  give x.0
+
+unfoldable pub caught_as : Evaluator → Option (ℕ × ℕ) → Value → Scope → Act Value
+caught_as rec None v here = give v
+caught_as rec (Some c) v here = handled rec c.0 c.1 v here
+
+-- what left by the ejector is the value, or is bound by the catch
+unfoldable pub caught_by : Evaluator → Option (ℕ × ℕ) → Value → Scope → Act Value
+caught_by rec c v here = do
+  tell (event.Got here.act v)
+  caught_as rec c v here
+
+unfoldable pub caught_if : Evaluator → Option (ℕ × ℕ) → Scope → ℕ → Value → Bool → Act Value
+caught_if rec c here n v true = caught_by rec c v here
+caught_if rec c here n v false = fail (Ejected n v)
+
+-- however it ended, the ejector is dead after it
+unfoldable pub escaped : Evaluator → ℕ → Option (ℕ × ℕ) → Scope → Out Value → Out Value
+escaped rec j c here o = ended_by (λ v. leave j (give v)) (λ id. leave j (fail (Thrown id))) (λ n v. leave j (caught_if rec c here n v (n == j))) o
+
+-- the body of an escape, whose pattern is bound to the ejector
+unfoldable pub escaping : Evaluator → ℕ → ℕ → Option (ℕ × ℕ) → Scope → ℕ → Act Value
+escaping rec p b c here j = λ s. escaped rec j c here (handled rec p b (held.Obj j) here s)
+
+-- the handler is evaluated at a problem
+unfoldable pub tried : Evaluator → ℕ → ℕ → Scope → Out Value → Out Value
+tried rec p h here o = ended_by give (λ id. handled rec p h (held.Text id) here) (λ n v. fail (Ejected n v)) o
+
+unfoldable pub trying : Evaluator → ℕ → ℕ → ℕ → Scope → Act Value
+trying rec b p h here = λ s. tried rec p h here (alone rec b here s)
+
+-- the second part is evaluated after every end but a stop, and its value is dropped
+unfoldable pub at_last : Evaluator → ℕ → Scope → Out Value → Out Value
+at_last rec b here o = ended_by (λ v. alone rec b here >> give v) (λ id. alone rec b here >> fail (Thrown id)) (λ n v. alone rec b here >> fail (Ejected n v)) o
+
+unfoldable pub lasting : Evaluator → ℕ → ℕ → Scope → Act Value
+lasting rec a b here = λ s. at_last rec b here (alone rec a here s)
+
+-- an escape, a try, a finally or a hide
+unfoldable pub guarded : Evaluator → Node → Scope → Act Value
+guarded rec (Escape p b c) here = do
+  j ← new_ejector here.act
+  escaping rec p b c here j
+guarded rec (Try b p h) here = trying rec b p h here
+guarded rec (Finally a b) here = lasting rec a b here
+guarded rec (Hide e) here = alone rec e here
+guarded rec _ here = fail Astray
+
+-- it leaves the scope as it was
+unfoldable pub guarded_node : Evaluator → Node → Scope → Act (Value × Scope)
+guarded_node rec n here = do
+  v ← guarded rec n here
+  give (v, here)
+
+-- ---- matches
+
+-- what the names of a failed match are bound to
+abbrev pub no_match : Value
+no_match = held.Broken no_match_id
+
+unfoldable pub unmatched_noun : ℕ → Bool → Act Bound
+unmatched_noun act false = give (Fixed no_match)
+unmatched_noun act true = do
+  k ← new_slot no_match
+  tell (event.Slot act k no_match)
+  give (Slot k)
+
+unfoldable pub bind_unmatched : BoundNoun → Scope → Act Scope
+bind_unmatched b here = do
+  n ← unmatched_noun here.act b.is_var
+  give (with_noun b.noun n here)
+
+-- the names of a failed match are bound anew
+unfoldable pub unmatched : List BoundNoun → Scope → Act Scope
+unmatched [] here = give here
+unmatched (b ∷ bs) here = do
+  after ← bind_unmatched b here
+  unmatched bs after
+
+unfoldable pub not_matched : List Node → ℕ → Scope → Value → Act (Value × Scope)
+not_matched tree p here v = do
+  tell (event.Got here.act v)
+  after ← unmatched (bound_nouns tree p) here
+  give (held.Bool false, after)
+
+unfoldable pub matched_if : List Node → ℕ → Scope → ℕ → Value → Bool → Act (Value × Scope)
+matched_if tree p here n v true = not_matched tree p here v
+matched_if tree p here n v false = fail (Ejected n v)
+
+-- however a match ended, its ejector is dead after it
+unfoldable pub match_ended : List Node → ℕ → ℕ → Scope → Out Scope → Out (Value × Scope)
+match_ended tree j p here o = ended_by (λ inner. leave j (give (held.Bool true, inner))) (λ id. leave j (fail (Thrown id))) (λ n v. leave j (matched_if tree p here n v (n == j))) o
+
+unfoldable pub match_on : List Node → Evaluator → ℕ → ℕ → Value → Scope → Act (Value × Scope)
+match_on tree rec act p v here = do
+  j ← new_ejector act
+  λ s. match_ended tree j p here (rec.pattern p v (held.Obj j) here s)
+
+unfoldable pub match_node : List Node → Evaluator → ℕ → ℕ → Scope → Act (Value × Scope)
+match_node tree rec e p here = do
+  x ← rec.expression e here
+  match_on tree rec here.act p x.0 x.1
+
+unfoldable pub step : List Node → Evaluator → ℕ → Node → Scope → Act (Value × Scope)
+step tree rec id (Lit l) here = literal_node l here
+step tree rec id (Noun x) here = noun_node x here
+step tree rec id (Set x e) here = set_node rec x e here
+step tree rec id (Def p j e) here = define rec p j e here
+step tree rec id (Call r verb args) here = call_node tree rec r verb args here
+step tree rec id (Sequence es) here = last_of rec held.Null es here
+step tree rec id (If t a b) here = if_node rec t a b here
+step tree rec id (Escape p b c) here = guarded_node rec (Escape p b c) here
+step tree rec id (Try b p h) here = guarded_node rec (Try b p h) here
+step tree rec id (Finally a b) here = guarded_node rec (Finally a b) here
+step tree rec id (Hide e) here = guarded_node rec (Hide e) here
+step tree rec id (MatchBind e p) here = match_node tree rec e p here
+step tree rec id (ObjectNode p auditors members) here = object_node tree id p auditors here
+step tree rec id (Method v ps b) here = fail Astray
+step tree rec id (Matcher p b) here = fail Astray
+step tree rec id (Final x g) here = fail Astray
+step tree rec id (Var x g) here = fail Astray
+step tree rec id (Any g) here = fail Astray
+step tree rec id (ListPattern ps) here = fail Astray
+step tree rec id (Via e p) here = fail Astray
+
+-- ---- patterns
+
+-- A failing calls the ejector where there is one, and throws where that comes back.
+unfoldable pub failed : {A : Type 0} → List Node → Evaluator → ℕ → Value → ℕ → Act A
+failed tree rec act held.Null id = fail (Thrown id)
+failed tree rec act j id = call tree rec act j (codes "run") (held.Text id ∷ []) >> fail (Thrown id)
+
+unfoldable pub bind_final : Words → Option ℕ → Value → Scope → Act Scope
+bind_final x None v here = give (with_noun x (Fixed v) here)
+bind_final x (Some g) v here = fail Unbuilt
+
+unfoldable pub bind_var : Words → Option ℕ → Value → Scope → Act Scope
+bind_var x (Some g) v here = fail Unbuilt
+bind_var x None v here = do
+  k ← new_slot v
+  tell (event.Slot here.act k v)
+  give (with_noun x (Slot k) here)
+
+unfoldable pub bind_any : Option ℕ → Scope → Act Scope
+bind_any None here = give here
+bind_any (Some g) here = fail Unbuilt
+
+unfoldable pub bind_list : List Node → Evaluator → List ℕ → Value → Scope → List Value → Bool → Act Scope
+bind_list tree rec ps j here vs true = bind_all rec ps vs j here
+bind_list tree rec ps j here vs false = failed tree rec here.act j not_a_list_id
+
+-- a list of as many members
+unfoldable pub bind_items : List Node → Evaluator → List ℕ → Value → Scope → Value → Act Scope
+bind_items tree rec ps j here (held.List k) = λ s. bind_list tree rec ps j here (members_at s.heap k) (length (members_at s.heap k) == length ps) s
+bind_items tree rec ps j here v = failed tree rec here.act j not_a_list_id
+
+-- what a value gives for another with an ejector is bound
+unfoldable pub bind_via : List Node → Evaluator → ℕ → ℕ → Value → Value → Value → Scope → Act Scope
+bind_via tree rec act p v j f here = do
+  y ← call tree rec act f (codes "run") (v ∷ j ∷ [])
+  rec.pattern p y j here
+
+unfoldable pub bind_asked : List Node → Evaluator → ℕ → ℕ → Value → Value → Scope → Act Scope
+bind_asked tree rec e p v j here = do
+  f ← rec.expression e here
+  bind_via tree rec here.act p v j f.0 f.1
+
+unfoldable pub bind_step : List Node → Evaluator → Node → Value → Value → Scope → Act Scope
+bind_step tree rec (Final x g) v j here = bind_final x g v here
+bind_step tree rec (Var x g) v j here = bind_var x g v here
+bind_step tree rec (Any g) v j here = bind_any g here
+bind_step tree rec (ListPattern ps) v j here = bind_items tree rec ps j here v
+bind_step tree rec (Via e p) v j here = bind_asked tree rec e p v j here
+bind_step tree rec _ v j here = fail Astray
+
+unfoldable pub step_found : List Node → Evaluator → ℕ → Option Node → Scope → Act (Value × Scope)
+step_found tree rec id None here = fail Astray
+step_found tree rec id (Some n) here = step tree rec id n here
+
+unfoldable pub bind_found : List Node → Evaluator → Option Node → Value → Value → Scope → Act Scope
+bind_found tree rec None v j here = fail Astray
+bind_found tree rec (Some n) v j here = bind_step tree rec n v j here
+
+unfoldable pub deeper : List Node → Evaluator → Evaluator
+deeper tree rec = record {
+  expression = λ id here. spend 1 >> step_found tree rec id (slice_get tree id) here;
+  pattern = λ id v j here. spend 1 >> bind_found tree rec (slice_get tree id) v j here;
+}
+
+-- the evaluator of so many levels
+unfoldable pub evaluator : List Node → ℕ → Evaluator
+evaluator tree zero = record { expression = λ id here. fail Deep; pattern = λ id v j here. fail Deep }
+evaluator tree (suc d) = deeper tree (evaluator tree d)
+
+-- the opening turn evaluates the program in an activation of its own, where no noun is bound
+unfoldable pub opening : List Node → ℕ → Act Value
+opening tree depth = do
+  a ← new_activation held.Null
+  x ← (evaluator tree depth).expression 0 (record { act = a; nouns = [] })
+  give x.0
+
+-- opens the steps, and not the recursions
+unfoldable pub opened_steps : Unit {0}
+unfolding after_turn loop pair_there compared_there compared performed replied answered_there answered call_data call_node run_method handed_over matched message_pair value_of_matchers run_found run_object call_made call_code call_object call_value call exit_of define_by define literal_value literal_node noun_node set_node within choose if_node alone handled caught_as caught_by unmatched_noun bind_unmatched not_matched matched_if match_ended match_on match_node step failed bind_final bind_var bind_any bind_list bind_items bind_via bind_asked bind_step step_found bind_found opening opened_acts
+opened_steps = tt

@@ -1,0 +1,225 @@
+//! Patterns that are bound at once, since nothing is evaluated in them.
+
+ghost use Rattle.std.specs.Prelude.{◌≡◌, None, OnOk, Some, slice_get};
+ghost use Rattle.def_kernel.specs.declared.node.Node.TheVariants.{Any, Final, Var};
+ghost use Rattle.ev_steps.specs.AtOnce.{BindsAtOnce, BindsFrom};
+ghost use Rattle.ev_steps.specs.Steps.{bind_var, evaluator};
+ghost use Rattle.ev_room.specs.Acts.{Binds, Extends, with_noun};
+ghost use Rattle.ev_room.specs.declared.scope.Bound.TheVariants.{Fixed};
+
+use def_kernel::{Kernel, Node};
+use ev_base::{Memory, NodeId, Value};
+use ev_heap::Happened;
+use ev_room::exit::Exit;
+use ev_room::room::{Room, spend, tell};
+use ev_room::scope::{Binding, Bound, Scope};
+use ev_room::slots::new_slot;
+use ev_room::tree::node_at;
+use ev_word::Word;
+
+/// Whether a pattern was bound at once, or is to be bound later.
+#[derive(Clone, Copy, Debug, PartialEq, Eq)]
+pub enum Early {
+    Bound,
+    Later,
+}
+
+/// The part of that place, if there are so many.
+pub fn part_at(parts: &[NodeId], place: usize) -> Option<NodeId>
+    ensures { result ≡ slice_get parts.now place }
+{
+    match parts.get(place) {
+        None => None,
+        Some(part) => Some(*part),
+    }
+}
+
+/// The value of that place, if there are so many.
+pub fn value_at(values: &[Value], place: usize) -> Option<Value>
+    ensures { result ≡ slice_get values.now place }
+{
+    match values.get(place) {
+        None => None,
+        Some(value) => Some(*value),
+    }
+}
+
+/// Binds a noun finally to a value.
+#[tactic(auto, using(ev_room::proofs::Fronts::itself_in_front, ev_room::proofs::Fronts::more_in_front, ev_room::proofs::Fronts::kept_in_front))]
+pub fn final_step(noun: &Word, value: Value, here: &mut Scope) -> Result<(), Memory>
+    ensures outcome { OnOk result (here.new ≡ with_noun noun.now (Fixed value) here.old) }
+    ensures front { Extends here.old here.new }
+{
+    let noun = noun.share()?;
+    here.nouns.push(Binding {
+        noun,
+        bound: Bound::Fixed(value),
+    })
+}
+
+/// Binds a noun to a new var slot with a value.
+#[tactic(auto, using(ev_room::proofs::Exits::ends, ev_room::proofs::Fronts::itself_in_front, ev_room::proofs::Fronts::more_in_front, ev_room::proofs::Fronts::kept_in_front), unfolding(crate::specs::Steps::opened_steps))]
+pub fn var_step(noun: &Word, value: Value, here: &mut Scope, room: &mut Room) -> Result<(), Exit>
+    ensures outcome { Binds result here.new room.new (bind_var noun.now None value here.old room.old) }
+    ensures front { Extends here.old here.new }
+{
+    let told = value;
+    let slot = new_slot(value, room)?;
+    tell(room, Happened::Slot(here.act, slot, told))?;
+    let noun = noun.share()?;
+    here.nouns.push(Binding {
+        noun,
+        bound: Bound::Slot(slot),
+    })?;
+    Ok(())
+}
+
+/// Binds a noun finally to a value, in a pattern without guard.
+#[tactic(auto, using(crate::proofs::Depth::pattern_deep, crate::proofs::Depth::pattern_goes, ev_room::proofs::Exits::ends, ev_room::proofs::Fronts::itself_in_front, ev_room::proofs::Fronts::more_in_front, ev_room::proofs::Fronts::kept_in_front), unfolding(crate::specs::Steps::opened_steps))]
+fn bind_final(
+    program: &Kernel,
+    depth: u32,
+    id: NodeId,
+    noun: &Word,
+    value: Value,
+    ejector: Value,
+    here: &mut Scope,
+    room: &mut Room,
+) -> Result<(), Exit>
+    requires { slice_get program.now id ≡ Some (Final noun.now None) }
+    ensures outcome { Binds result here.new room.new ((evaluator program.now depth).pattern id value ejector here.old room.old) }
+    ensures front { Extends here.old here.new }
+{
+    if depth == 0 {
+        return Err(Exit::Deep);
+    }
+    spend(room, 1)?;
+    final_step(noun, value, here)?;
+    Ok(())
+}
+
+/// Binds a noun to a new var slot with a value.
+#[tactic(auto, using(crate::proofs::Depth::pattern_deep, crate::proofs::Depth::pattern_goes, ev_room::proofs::Exits::ends, ev_room::proofs::Fronts::itself_in_front, ev_room::proofs::Fronts::more_in_front, ev_room::proofs::Fronts::kept_in_front), unfolding(crate::specs::Steps::opened_steps))]
+fn bind_var(
+    program: &Kernel,
+    depth: u32,
+    id: NodeId,
+    noun: &Word,
+    value: Value,
+    ejector: Value,
+    here: &mut Scope,
+    room: &mut Room,
+) -> Result<(), Exit>
+    requires { slice_get program.now id ≡ Some (Var noun.now None) }
+    ensures outcome { Binds result here.new room.new ((evaluator program.now depth).pattern id value ejector here.old room.old) }
+    ensures front { Extends here.old here.new }
+{
+    if depth == 0 {
+        return Err(Exit::Deep);
+    }
+    spend(room, 1)?;
+    var_step(noun, value, here, room)
+}
+
+/// Binds nothing.
+#[tactic(auto, using(crate::proofs::Depth::pattern_deep, crate::proofs::Depth::pattern_goes, ev_room::proofs::Exits::ends, ev_room::proofs::Fronts::itself_in_front), unfolding(crate::specs::Steps::opened_steps))]
+fn bind_any(
+    program: &Kernel,
+    depth: u32,
+    id: NodeId,
+    value: Value,
+    ejector: Value,
+    here: &Scope,
+    room: &mut Room,
+) -> Result<(), Exit>
+    requires { slice_get program.now id ≡ Some (Any None) }
+    ensures outcome { Binds result here.now room.new ((evaluator program.now depth).pattern id value ejector here.now room.old) }
+{
+    if depth == 0 {
+        return Err(Exit::Deep);
+    }
+    spend(room, 1)?;
+    Ok(())
+}
+
+/// Binds a pattern that is a name or nothing without a guard, and does nothing at any other.
+#[tactic(auto, using(ev_room::proofs::Fronts::itself_in_front))]
+fn bind_in(
+    program: &Kernel,
+    depth: u32,
+    id: NodeId,
+    node: &Node,
+    value: Value,
+    ejector: Value,
+    here: &mut Scope,
+    room: &mut Room,
+) -> Result<Early, Exit>
+    requires { slice_get program.now id ≡ Some node.now }
+    ensures bound { BindsAtOnce program.now depth id value ejector here.old room.old result here.new room.new }
+    ensures front { Extends here.old here.new }
+{
+    match node {
+        Node::Final(noun, None) => {
+            bind_final(program, depth, id, noun, value, ejector, here, room)?;
+            Ok(Early::Bound)
+        }
+        Node::Var(noun, None) => {
+            bind_var(program, depth, id, noun, value, ejector, here, room)?;
+            Ok(Early::Bound)
+        }
+        Node::Any(None) => {
+            bind_any(program, depth, id, value, ejector, here, room)?;
+            Ok(Early::Bound)
+        }
+        _ => Ok(Early::Later),
+    }
+}
+
+/// The same of the node of a number.
+#[tactic(auto, using(ev_room::proofs::Fronts::itself_in_front))]
+pub fn bind_at_once(
+    program: &Kernel,
+    depth: u32,
+    id: NodeId,
+    value: Value,
+    ejector: Value,
+    here: &mut Scope,
+    room: &mut Room,
+) -> Result<Early, Exit>
+    ensures bound { BindsAtOnce program.now depth id value ejector here.old room.old result here.new room.new }
+    ensures front { Extends here.old here.new }
+{
+    match node_at(program.nodes(), id) {
+        None => Ok(Early::Later),
+        Some(node) => bind_in(program, depth, id, node, value, ejector, here, room),
+    }
+}
+
+/// Binds patterns to values from a place on, as far as they can be bound at once: the place behind them.
+#[tactic(auto, using(crate::proofs::Binding::one_bound, crate::proofs::Binding::one_ends, crate::proofs::Binding::get_below, ev_room::proofs::Fronts::itself_in_front, ev_room::proofs::Fronts::in_front))]
+pub fn bind_from(
+    program: &Kernel,
+    depth: u32,
+    patterns: &[NodeId],
+    values: &[Value],
+    ejector: Value,
+    begun: usize,
+    here: &mut Scope,
+    room: &mut Room,
+) -> Result<usize, Exit>
+    ensures bound { BindsFrom program.now depth begun patterns.now values.now ejector here.old room.old result here.new room.new }
+    ensures front { Extends here.old here.new }
+{
+    let mut place = begun;
+    while let Some(pattern) = part_at(patterns, place) {
+        let Some(value) = value_at(values, place) else {
+            return Ok(place);
+        };
+        let by = ejector;
+        match bind_at_once(program, depth, pattern, value, by, here, room)? {
+            Early::Bound => place += 1,
+            Early::Later => return Ok(place),
+        }
+    }
+    Ok(place)
+}

@@ -1,5 +1,0 @@
-use Rattle.ev_table.proofs.Tables.{rank}
-use Rattle.ev_table.proofs.picks.+begins.Given as goal
-
-abbrev pub decreases-begins : goal.decreases-begins
-decreases-begins l = rank l.line

@@ -1,5 +1,0 @@
-pub mod Returns
-pub mod Exports
-pub mod Knowing
-pub mod Runs
-pub mod Tables

@@ -1,0 +1,12 @@
+pub mod Knowing
+pub mod Rows
+pub mod Natives
+pub mod Nests
+pub mod StepNests
+pub mod Traces
+pub mod StepTraces
+pub mod Dies
+pub mod StepDies
+pub mod RunDies
+pub mod Counts
+pub mod StepCounts

@@ -1,0 +1,250 @@
+-- The rows.
+use Rattle.std.proofs.Common.{◌≡◌, ℕ, zero, suc, List, [], ◌∷◌, Option, Some, None, refl, sym, subst, ◌∙◌, inl, inr, map, ap, ◌⊎◌}
+use Rattle.std.specs.Prelude.{slice_get, codes, take, drop}
+use Rattle.def_machine.specs.Values.{Value, Ref, Name, Root, Object, naming, Prim, Text, Null}
+use Rattle.def_machine.specs.State.{Binding, Cell, Thing, Made, Happened, Took, Called, Fixed, ObjectMade, AuditionMade, Back}
+use Rattle.law_connected.specs.Known.{Item, AValue, ASlot, IsAmong, IsPlain, parts_of_all, tells, Leads, settled, viewed, settles, views, called, itself, Knows, plain, endowed, told, opened_known}
+use Rattle.def_machine.specs.Eval.{opened_eval}
+use Rattle.law_machine.specs.Steps.{Opens, does}
+use Rattle.law_connected.specs.Connected.{evaluates, asks, Connected, StepConnected, given_to, held_from, opened_connected}
+use Rattle.law_connected.specs.Rows.{one_object, secret, helper, message, handed, program, escaping, auditing, fresh, opened_rows}
+use Rattle.law_connected.specs.Laws.{IsClosed}
+use Rattle.law_connected.proofs.Knowing.{least}
+
+-- data without names
+abbrev PlainItem : Item Name → Type 0
+PlainItem (AValue v) = IsPlain v
+PlainItem (ASlot k) = ⊥
+
+-- activation 1 has no other
+abbrev Poor : ℕ → Item Name → Type 0
+Poor a i = a ≡ 1 → PlainItem i
+
+abbrev seen : List (Happened Name)
+seen = Took 0 (message 0 Null (helper ∷ secret ∷ [])) ∷ Called 0 helper (codes "run") [] (Some 1) ∷ []
+
+no_list : (k : ℕ) (vs : List (Value Name)) → slice_get [] k ≡ Some vs → ⊥
+no_list k vs e = cc
+
+no_cell : (k : ℕ) (c : Cell Name) → slice_get [] k ≡ Some c → ⊥
+no_cell k c e = cc
+
+caught_of : Option (Thing Name) → List (Binding Name)
+caught_of (Some (Made node caught stamps)) = caught
+caught_of _ = []
+
+no_capture : (k node : ℕ) (caught : List (Binding Name)) (stamps : List (Value Name)) → slice_get one_object.things k ≡ Some (Made node caught stamps) → [] ≡ caught
+unfolding one_object caught_of
+no_capture zero node caught stamps e = ap caught_of e
+no_capture (suc k) node caught stamps e = ap caught_of e
+
+abbrev Had : Type 0
+Had = ℕ × Item Name
+
+zero_one : zero ≡ 1 → ⊥
+zero_one e = cc
+
+other : (a : ℕ) (i : Item Name) (x y : Had) → x ≡ y → x.0 ≡ a → y.0 ≡ 0 → a ≡ 1 → PlainItem i
+other a i x y e g h f = absurd (zero_one (sym h ∙ sym (ap (λ (z : Had). z.0) e) ∙ g ∙ f))
+
+module _ (word : ℕ → ℕ) where
+  poor_told : (a : ℕ) (e : Happened Name) (i : Item Name) → IsAmong e seen → IsAmong (a, i) (tells e) → Poor a i
+  unfolding opened_known helper secret message
+  poor_told a e i (inl x) t f = first a i (subst (λ e. IsAmong (a, i) (tells e)) x t) f
+    where
+      first : (a : ℕ) (i : Item Name) → IsAmong (a, i) (tells (Took 0 (message 0 Null (helper ∷ secret ∷ [])))) → Poor a i
+      first a i (inl x) f = other a i _ _ x refl refl f
+      first a i (inr (inl x)) f = other a i _ _ x refl refl f
+      first a i (inr (inr (inl x))) f = other a i _ _ x refl refl f
+      first a i (inr (inr (inr x))) f = absurd x
+  poor_told a e i (inr (inl x)) t f = absurd (subst (λ e. IsAmong (a, i) (tells e)) x t)
+  poor_told a e i (inr (inr x)) t f = absurd x
+
+  poor_follows : (a : ℕ) (x y : Value Name) → Poor a (AValue x) → Leads (naming word 0) one_object.before seen x y → Poor a (AValue y)
+  poor_follows a x y p (settled e) f = absurd (p f)
+  poor_follows a x y p (viewed e) f = absurd (p f)
+  poor_follows a x y p (settles q i o) f = absurd (p f)
+  poor_follows a x y p (views q i o) f = absurd (p f)
+
+  poor : IsClosed (naming word 0) one_object seen Poor
+  unfolding one_object parts_of_all
+  poor = record {
+    plain = λ a v e f. e;
+    initial = λ a i e f. absurd e;
+    endowed = λ a k node caught stamps i r e m f. absurd (subst (λ bs. IsAmong i (parts_of_all (map (λ b. b.bound) bs))) (sym (no_capture k node caught stamps e)) m);
+    told = poor_told;
+    member = λ a k v vs p e m f. absurd (p f);
+    followed = poor_follows;
+    guard = λ a k c p e f. absurd (p f);
+  }
+
+  only_plain : Knows (naming word 0) one_object seen 1 (AValue secret) → ⊥
+  unfolding secret
+  only_plain k = least (naming word 0) one_object seen Poor poor 1 (AValue secret) k refl
+
+  pub kept_is_not : Connected (naming word 0) one_object (handed []) → ⊥
+  unfolding opened_connected handed message
+  kept_is_not c = no c.1.1.0.0.0
+    where
+      no : Knows (naming word 0) one_object seen 1 (AValue secret) ⊎ ⊥ → ⊥
+      no (inl k) = only_plain k
+      no (inr x) = absurd x
+
+  pub handed_is : Connected (naming word 0) one_object (handed (secret ∷ []))
+  unfolding opened_connected opened_rows
+  handed_is = (
+    (tt, tt),
+    (
+      ((inl (told _ (inl refl) (inl refl)), (inl (told _ (inl refl) (inr (inl refl))), tt)), tt),
+      (
+        ((inl (told _ (inr (inl refl)) (inl refl)), tt), tt),
+        tt,
+      ),
+    ),
+  )
+
+  -- what the program defines
+  o : Value Name
+  o = Ref (Object 0 0)
+
+  f : Value Name
+  f = Ref (Object 0 1)
+
+  pub program_is : StepConnected (naming word 0) (Opens program 40 (Root 0) []) fresh
+  unfolding opened_eval opened_connected opened_rows does given_to held_from o f
+  program_is = (
+    (tt, tt),
+    (
+      ((inl (told _ (inl refl) (inl refl)), (inl (plain tt), tt)), tt),
+      (
+        ((inl (told _ (inr (inl refl)) (inl refl)), (inl (told _ (inl refl) (inl refl)), tt)), tt),
+        (
+          (
+            (
+              inl (endowed 1 6 _ [] (called 0 f (codes "go") (o ∷ []) (inr (inr (inl refl))) (Object 0 1, itself, refl)) refl (inl refl)),
+              (inl (told _ (inr (inr (inl refl))) (inl refl)), tt),
+            ),
+            tt,
+          ),
+          (
+            (tt, (refl, told _ (inr (inr (inr (inl refl)))) (inl refl))),
+            (
+              (tt, (refl, told _ (inr (inr (inr (inr (inl refl))))) (inl refl))),
+              (
+                ((inl (told _ (inr (inr (inr (inr (inr (inl refl)))))) (inl refl)), tt), tt),
+                (
+                  (tt, tt),
+                  tt,
+                ),
+              ),
+            ),
+          ),
+        ),
+      ),
+    ),
+  )
+
+  pub escape_is : StepConnected (naming word 0) (Opens escaping 40 (Root 0) []) fresh
+  unfolding opened_eval opened_connected opened_rows does given_to held_from o f
+  escape_is = (
+    (tt, tt),
+    (
+      ((inl (told _ (inl refl) (inl refl)), tt), (record { guard = Prim 8; value = o }, refl, plain tt)),
+      (
+        (tt, tt),
+        (
+          ((inl (told _ (inr (inl refl)) (inl refl)), tt), tt),
+          (
+            ((inl (told _ (inr (inr (inl refl))) (inl refl)), (inl (told _ (inr (inr (inr (inl refl)))) (inl refl)), tt)), tt),
+            (
+              (tt, tt),
+              (
+                (tt, (0, 1, f, codes "run", o ∷ [], Object 0 1, inr (inr (inr (inr (inl refl)))), (Object 0 1, itself, refl), inr (inr (inl refl)), refl, inr (inl refl))),
+                (
+                  ((inl (told _ (inr (inr (inr (inr (inr (inr (inl refl))))))) (inl refl)), tt), tt),
+                  (
+                    (tt, tt),
+                    tt,
+                  ),
+                ),
+              ),
+            ),
+          ),
+        ),
+      ),
+    ),
+  )
+
+  -- the lines up to where the guard is told
+  abbrev audited : List (Happened Name)
+  audited =
+      ObjectMade 0 (Object 0 0) (codes "p") [] []
+      ∷ ObjectMade 0 (Object 0 1) (codes "q") (Fixed (Ref (Object 0 0)) (Prim 8) ∷ []) []
+      ∷ ObjectMade 0 (Object 0 2) (codes "g") [] []
+      ∷ Called 0 (Ref (Object 0 2)) (codes "coerce") (Null ∷ Null ∷ []) (Some 1)
+      ∷ Back 0 Null
+      ∷ AuditionMade 0 (Object 0 3)
+      ∷ Called 0 (Ref (Object 0 1)) (codes "audit") (Ref (Object 0 3) ∷ []) (Some 2)
+      ∷ Called 2 (Ref (Object 0 3)) (codes "ask") (Ref (Object 0 0) ∷ []) None
+      ∷ AuditionMade 2 (Object 0 4)
+      ∷ Called 2 (Ref (Object 0 0)) (codes "audit") (Ref (Object 0 4) ∷ []) (Some 3)
+      ∷ Called 3 (Ref (Object 0 4)) (codes "getGuard") (Text (codes "k") ∷ []) None
+      ∷ []
+
+  pub audit_is : StepConnected (naming word 0) (Opens auditing 40 (Root 0) []) fresh
+  unfolding opened_eval opened_connected opened_rows does given_to held_from o f
+  audit_is = (
+    (tt, tt),
+    (
+      ((inl (told _ (inl refl) (inl refl)), (inl (plain tt), tt)), tt),
+      (
+        (tt, tt),
+        (
+          ((inl (told _ (inr (inr (inl refl))) (inl refl)), (inl (plain tt), (inl (plain tt), tt))), tt),
+          (
+            (tt, (refl, plain tt)),
+            (
+              (tt, tt),
+              (
+                ((inl (told _ (inr (inl refl)) (inl refl)), (inl (told _ (inr (inr (inr (inr (inr (inl refl)))))) (inl refl)), tt)), tt),
+                (
+                  ((inl (told _ (inr (inr (inr (inr (inr (inr (inl refl))))))) (inl refl)), (inl (endowed 1 8 _ [] (called 0 f (codes "audit") (Ref (Object 0 3) ∷ []) (inr (inr (inr (inr (inr (inr (inl refl))))))) (Object 0 1, itself, refl)) refl (inl refl)), tt)), tt),
+                  (
+                    (tt, tt),
+                    (
+                      ((inl (endowed 1 8 _ [] (called 0 f (codes "audit") (Ref (Object 0 3) ∷ []) (inr (inr (inr (inr (inr (inr (inl refl))))))) (Object 0 1, itself, refl)) refl (inl refl)), (inl (told _ (inr (inr (inr (inr (inr (inr (inr (inr (inl refl))))))))) (inl refl)), tt)), tt),
+                      (
+                        ((inl (told _ (inr (inr (inr (inr (inr (inr (inr (inr (inr (inl refl)))))))))) (inl refl)), (inl (plain tt), tt)), tt),
+                        (
+                          (tt, (refl, inr (0, 4, (Object 0 4, itself, refl), asks 2 3 (Ref (Object 0 3)) (Object 0 4) (take 8 audited) (drop 9 (take 11 audited)) refl refl refl (Object 0 3, itself, refl) (evaluates (Object 0 3) (take 5 audited) (drop 6 (take 11 audited)) refl refl refl), told _ (inr (inr (inl refl))) (inl refl)))),
+                          (
+                            (tt, (refl, told _ (inr (inr (inr (inr (inr (inr (inr (inr (inr (inr (inr (inl refl)))))))))))) (inl refl))),
+                            (
+                              (tt, (refl, inl (plain tt))),
+                              (
+                                (tt, (refl, plain tt)),
+                                (
+                                  ((inl (plain tt), (inl (told _ (inr (inr (inl refl))) (inl refl)), tt)), tt),
+                                  (
+                                    ((inl (told _ (inr (inr (inr (inr (inr (inr (inr (inr (inr (inr (inr (inr (inr (inr (inr (inl refl)))))))))))))))) (inl refl)), tt), tt),
+                                    (
+                                      (tt, tt),
+                                      tt,
+                                    ),
+                                  ),
+                                ),
+                              ),
+                            ),
+                          ),
+                        ),
+                      ),
+                    ),
+                  ),
+                ),
+              ),
+            ),
+          ),
+        ),
+      ),
+    ),
+  )

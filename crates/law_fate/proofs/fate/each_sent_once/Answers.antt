@@ -1,0 +1,5 @@
+use Rattle.law_fate.proofs.RunFates.{each_sent_once}
+use Rattle.law_fate.proofs.fate.each_sent_once.Goals as goal
+
+pub returns : goal.returns
+returns c = each_sent_once

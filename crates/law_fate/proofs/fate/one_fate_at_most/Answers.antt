@@ -1,0 +1,5 @@
+use Rattle.law_fate.proofs.RunFates.{one_fate_at_most}
+use Rattle.law_fate.proofs.fate.one_fate_at_most.Goals as goal
+
+pub returns : goal.returns
+returns c = one_fate_at_most

@@ -1,0 +1,5 @@
+use Rattle.law_fate.proofs.RunWell.{runs_stay_well}
+use Rattle.law_fate.proofs.fate.runs_stay_well.Goals as goal
+
+pub returns : goal.returns
+returns c = runs_stay_well

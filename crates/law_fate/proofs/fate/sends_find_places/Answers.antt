@@ -1,0 +1,5 @@
+use Rattle.law_fate.proofs.Finding.{sends_find_places}
+use Rattle.law_fate.proofs.fate.sends_find_places.Goals as goal
+
+pub returns : goal.returns
+returns c = sends_find_places

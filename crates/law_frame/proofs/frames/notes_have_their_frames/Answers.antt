@@ -1,0 +1,5 @@
+use Rattle.law_frame.proofs.Written.{have_frames}
+use Rattle.law_frame.proofs.frames.notes_have_their_frames.Goals as goal
+
+pub returns : goal.returns
+returns c = have_frames

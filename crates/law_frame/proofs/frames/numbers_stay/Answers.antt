@@ -1,0 +1,5 @@
+use Rattle.law_frame.proofs.Grows.{numbers_stay}
+use Rattle.law_frame.proofs.frames.numbers_stay.Goals as goal
+
+pub returns : goal.returns
+returns c = numbers_stay

@@ -1,0 +1,4 @@
+pub mod Growing
+pub mod Together
+pub mod Written
+pub mod Reads

@@ -1,0 +1,9 @@
+pub mod Deeds
+pub mod Links
+pub mod Known
+pub mod Ends
+pub mod Speaks
+pub mod Lifts
+pub mod Stays
+pub mod Answers
+pub mod Strict

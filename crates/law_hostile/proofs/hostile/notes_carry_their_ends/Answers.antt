@@ -1,0 +1,5 @@
+use Rattle.law_hostile.proofs.Ends.{notes_carry_their_ends}
+use Rattle.law_hostile.proofs.hostile.notes_carry_their_ends.Goals as goal
+
+pub returns : goal.returns
+returns c = notes_carry_their_ends

@@ -1,0 +1,4 @@
+//! Laws of the worlds that are reached with hostile vats.
+#![tactic(auto)]
+
+pub mod hostile;

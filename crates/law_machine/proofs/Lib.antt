@@ -1,0 +1,14 @@
+pub mod Keeps
+pub mod RefsKeeps
+pub mod ArriveKeeps
+pub mod EvalKeeps
+pub mod StepLaws
+pub mod BreakLaws
+pub mod NoticeKeeps
+pub mod NoticeLaws
+pub mod Restless
+pub mod Quiet
+pub mod RefsQuiet
+pub mod ArriveQuiet
+pub mod StepEnds
+pub mod ReceivingLaws

@@ -1,0 +1,5 @@
+use Rattle.law_machine.proofs.BreakLaws.{apart_stays}
+use Rattle.law_machine.proofs.steps.far_stays_apart.Goals as goal
+
+pub returns : goal.returns
+returns c = λ word step s a. apart_stays word step s a

@@ -1,0 +1,5 @@
+use Rattle.law_machine.proofs.StepLaws.{history_stays}
+use Rattle.law_machine.proofs.steps.history_grows.Goals as goal
+
+pub returns : goal.returns
+returns c = (λ K step s. history_stays K step s, λ K step s. history_stays K step s)

@@ -1,0 +1,5 @@
+use Rattle.law_machine.proofs.BreakLaws.{notice_severs}
+use Rattle.law_machine.proofs.steps.notices_sever.Goals as goal
+
+pub returns : goal.returns
+returns c = (λ K w s. notice_severs K w s, λ K w s. notice_severs K w s)

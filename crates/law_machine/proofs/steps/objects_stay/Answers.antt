@@ -1,0 +1,5 @@
+use Rattle.law_machine.proofs.StepLaws.{objects_stays}
+use Rattle.law_machine.proofs.steps.objects_stay.Goals as goal
+
+pub returns : goal.returns
+returns c = (λ K step s. objects_stays K step s, λ K step s. objects_stays K step s)

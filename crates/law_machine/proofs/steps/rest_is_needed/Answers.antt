@@ -1,0 +1,5 @@
+use Rattle.law_machine.proofs.Restless.{rest_needed}
+use Rattle.law_machine.proofs.steps.rest_is_needed.Goals as goal
+
+pub returns : goal.returns
+returns c = rest_needed

@@ -1,0 +1,5 @@
+use Rattle.law_machine.proofs.BreakLaws.{severing_stays}
+use Rattle.law_machine.proofs.steps.severings_stay.Goals as goal
+
+pub returns : goal.returns
+returns c = (λ K step s. severing_stays K step s, λ K step s. severing_stays K step s)

@@ -1,0 +1,56 @@
+-- What evaluation does with references and promises, each as one thing: so that evaluation is gone over once for all that is cared for.
+use Rattle.std.proofs.Common.{ℕ, List}
+use Rattle.def_machine.specs.Values.{Words, Value, Broken, Naming}
+use Rattle.def_machine.specs.State.{Vat, new_promise}
+use Rattle.def_machine.specs.Refs.{settle, resolve, send, send_only, react}
+use Rattle.law_name.specs.Names.{Named}
+use Rattle.law_name.proofs.Facts.{Fact, IsName, IsValue, AreValues, nothing}
+use Rattle.law_name.proofs.Care.{Care, Spots, Under, Makes, Gets, Fine, quiet_told, got_entry, fine_promise}
+use Rattle.law_name.proofs.CareRefs.{fine_settle, fine_resolve, fine_send, fine_send_only, fine_react}
+
+pub record Serves {N W : Type 0} (K : Naming N W) (S : Care N) : Type 0 where
+  pub spots : Spots K S
+  pub object : (s : Vat N) (i : ℕ) → S.ok s (Named (K.object i))
+  pub promises : (C : Fact N) → Fine S C (new_promise K) IsName
+  pub breaks : (C : Fact N) (p : N) → Gets S C (IsName p) → (t : Words) → Fine S C (settle K p (Broken t)) nothing
+  pub resolves : (C : Fact N) (p : N) → Gets S C (IsName p) → (y : Value N) → Gets S C (IsValue y) → Fine S C (resolve K p y) nothing
+  pub sends : (C : Fact N) (act : ℕ) (x : Value N) → Gets S C (IsValue x) → (verb : Words) (args : List (Value N)) → Gets S C (AreValues args) → Fine S C (send K act x verb args) IsValue
+  pub sends_only : (C : Fact N) (act : ℕ) (x : Value N) → Gets S C (IsValue x) → (verb : Words) (args : List (Value N)) → Gets S C (AreValues args) → Fine S C (send_only K act x verb args) IsValue
+  pub reacts : (C : Fact N) (act : ℕ) (x : Value N) → Gets S C (IsValue x) → (o : Value N) → Gets S C (IsValue o) → (near : Value N) → Gets S C (IsValue near) → Fine S C (react K act x o near) IsValue
+
+module _ {N W : Type 0} (K : Naming N W) (S : Care N) (serves : Serves K S) where
+  pub own_object : (C : Fact N) (i : ℕ) → Gets S C (IsName (K.object i))
+  own_object C i = record { at = λ s h. serves.object s i }
+
+  pub serve_promise : {C : Fact N} → Fine S C (new_promise K) IsName
+  serve_promise {C = C} = serves.promises C
+
+  pub serve_break : {C : Fact N} (p : N) → Gets S C (IsName p) → (t : Words) → Fine S C (settle K p (Broken t)) nothing
+  serve_break {C = C} p g t = serves.breaks C p g t
+
+  pub serve_resolve : {C : Fact N} (p : N) → Gets S C (IsName p) → (y : Value N) → Gets S C (IsValue y) → Fine S C (resolve K p y) nothing
+  serve_resolve {C = C} p g y h = serves.resolves C p g y h
+
+  pub serve_send : {C : Fact N} (act : ℕ) (x : Value N) → Gets S C (IsValue x) → (verb : Words) (args : List (Value N)) → Gets S C (AreValues args) → Fine S C (send K act x verb args) IsValue
+  serve_send {C = C} act x g verb args h = serves.sends C act x g verb args h
+
+  pub serve_send_only : {C : Fact N} (act : ℕ) (x : Value N) → Gets S C (IsValue x) → (verb : Words) (args : List (Value N)) → Gets S C (AreValues args) → Fine S C (send_only K act x verb args) IsValue
+  serve_send_only {C = C} act x g verb args h = serves.sends_only C act x g verb args h
+
+  pub serve_react : {C : Fact N} (act : ℕ) (x : Value N) → Gets S C (IsValue x) → (o : Value N) → Gets S C (IsValue o) → (near : Value N) → Gets S C (IsValue near) → Fine S C (react K act x o near) IsValue
+  serve_react {C = C} act x g o h near k = serves.reacts C act x g o h near k
+
+pub ruleset served = (quiet_told, own_object, serve_promise, serve_break, serve_resolve, serve_send, serve_send_only, serve_react)
+
+-- where each single change is cared for, so is each of these
+pub served_by : {N W : Type 0} (K : Naming N W) (S : Care N) → Under K S → Makes K S → Serves K S
+served_by K S law makes = record {
+  spots = law.spots;
+  object = λ s i. law.object s i;
+  promises = λ C. fine_promise K S law makes;
+  breaks = λ C p g t. fine_settle K S law p (got_entry S C p g) (Broken t) (record { at = λ s c. tt });
+  resolves = λ C p g y h. fine_resolve K S law p (got_entry S C p g) y h;
+  sends = λ C act x g verb args h. fine_send K S law makes act x g verb args h;
+  sends_only = λ C act x g verb args h. fine_send_only K S law makes act x g verb args h;
+  reacts = λ C act x g o h near k. fine_react K S law makes act x g o h near k;
+}

@@ -1,0 +1,5 @@
+use Rattle.law_order.proofs.Coming.{coming_grows}
+use Rattle.law_order.proofs.order.coming_grows.Goals as goal
+
+pub returns : goal.returns
+returns c = coming_grows

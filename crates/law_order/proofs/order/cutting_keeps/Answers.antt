@@ -1,0 +1,5 @@
+use Rattle.law_order.proofs.Turned.{cutting_keeps}
+use Rattle.law_order.proofs.order.cutting_keeps.Goals as goal
+
+pub returns : goal.returns
+returns c = cutting_keeps

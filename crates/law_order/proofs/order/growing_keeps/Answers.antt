@@ -1,0 +1,5 @@
+use Rattle.law_order.proofs.Changes.{growing_keeps}
+use Rattle.law_order.proofs.order.growing_keeps.Goals as goal
+
+pub returns : goal.returns
+returns c = growing_keeps

@@ -1,0 +1,5 @@
+use Rattle.law_order.proofs.Changes.{losing_keeps}
+use Rattle.law_order.proofs.order.losing_keeps.Goals as goal
+
+pub returns : goal.returns
+returns c = losing_keeps

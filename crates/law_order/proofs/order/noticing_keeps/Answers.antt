@@ -1,0 +1,5 @@
+use Rattle.law_order.proofs.Turned.{noticing_keeps}
+use Rattle.law_order.proofs.order.noticing_keeps.Goals as goal
+
+pub returns : goal.returns
+returns c = noticing_keeps

@@ -1,0 +1,5 @@
+use Rattle.law_order.proofs.Queues.{queues_are_free}
+use Rattle.law_order.proofs.order.queues_are_free.Goals as goal
+
+pub returns : goal.returns
+returns c = queues_are_free

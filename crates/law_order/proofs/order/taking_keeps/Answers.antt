@@ -1,0 +1,5 @@
+use Rattle.law_order.proofs.Changes.{taking_keeps}
+use Rattle.law_order.proofs.order.taking_keeps.Goals as goal
+
+pub returns : goal.returns
+returns c = taking_keeps

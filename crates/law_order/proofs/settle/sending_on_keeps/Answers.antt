@@ -1,0 +1,5 @@
+use Rattle.law_order.proofs.Settling.{sending_on_keeps}
+use Rattle.law_order.proofs.settle.sending_on_keeps.Goals as goal
+
+pub returns : goal.returns
+returns c = sending_on_keeps

@@ -1,0 +1,5 @@
+use Rattle.law_order.proofs.Passing.{settled_is_passed}
+use Rattle.law_order.proofs.settle.settled_names_are_passed.Goals as goal
+
+pub returns : goal.returns
+returns c = settled_is_passed

@@ -1,0 +1,5 @@
+use Rattle.law_order.proofs.Settling.{settling_keeps}
+use Rattle.law_order.proofs.settle.settling_keeps.Goals as goal
+
+pub returns : goal.returns
+returns c = settling_keeps

@@ -1,0 +1,5 @@
+use Rattle.law_order.proofs.Whole.{settlings_keep}
+use Rattle.law_order.proofs.settle.settlings_keep.Goals as goal
+
+pub returns : goal.returns
+returns c = settlings_keep

@@ -1,0 +1,147 @@
+-- What a turn does to the order of messages: sends, passings and new names make the ways grow; settlings stand out.
+use Rattle.std.specs.Prelude.{◌≡◌, ℕ, suc, ◌≤◌, Bool, true, List, [], ◌∷◌, Some, None, length, slice_get, ◌⊎◌}
+use Rattle.def_machine.specs.Values.{Words, Value, Null, Flag, Number, Letter, Text, Prim, Broken, Items, Ref, Name, Promise, Answer, Sent}
+use Rattle.def_machine.specs.State.{Binding, Message, Note, Deliver, Open, Ask, SettledTo, Elsewhere, Shorten, Vat}
+use Rattle.def_machine.specs.Refs.{Away, Gone, entry_of, follow, place, pass, deliver, settle, resolve, send, send_only, react}
+use Rattle.def_machine.specs.Eval.{opening, taking}
+use Rattle.law_machine.specs.Steps.{After}
+use Rattle.def_run.specs.World.{Script, Link, World, names, push_all}
+use Rattle.def_kernel.specs.declared.node.Node.{Node}
+use Rattle.law_order.specs.Ways.{Lane, Queue, Held, Way, Item, Mid, Ways, Doom, Ahead}
+use Rattle.law_order.specs.Changes.{Grows}
+use Rattle.law_order.specs.Places.{leads, ways, amid}
+use Rattle.law_order.specs.Ways as lanes
+use Rattle.law_order.specs.Worlds.{IfGives, IsObject, IsKnown, FollowsEnd}
+
+-- ---- draws
+
+-- it lets no gift go of that draw or a later one
+abbrev pub DrawBelow : ℕ → Note Name → Type 0
+DrawBelow d (Deliver m n verb ys) = Unit {0}
+DrawBelow d (Open i n) = suc i ≤ d
+DrawBelow d (Ask p i n) = Unit {0}
+DrawBelow d (SettledTo n y) = Unit {0}
+DrawBelow d (Elsewhere n c) = Unit {0}
+DrawBelow d (Shorten n c i) = suc i ≤ d
+
+abbrev pub NotesBelow : ℕ → List (Note Name) → Type 0
+NotesBelow d [] = Unit {0}
+NotesBelow d (n ∷ ns) = DrawBelow d n × NotesBelow d ns
+
+abbrev pub DrawsBelow : ℕ → List Link → Type 0
+DrawsBelow d [] = Unit {0}
+DrawsBelow d (l ∷ ls) = NotesBelow d l.notes × NotesBelow d l.log × DrawsBelow d ls
+
+-- ---- a vat in the middle of a step
+
+module _ (script : Script) (honest : ℕ → Bool) (w : World) (v : ℕ) where
+  -- the ways in the middle of the step
+  abbrev pub WaysAmid : Vat Name → Ways
+  WaysAmid s = ways script honest (amid v s w)
+
+  -- where vat u would send on that value then
+  abbrev pub LeadsAmid : Vat Name → ℕ → Value Name → lanes.Place
+  LeadsAmid s u x = leads script honest (amid v s w).vats (amid v s w).links u x
+
+  -- The vat has its own number, what it knows is followed to an end, and what it will make is new: draws, the answers of its messages and its promises.
+  pub record Ready (s : Vat Name) : Type 0 where
+    pub number : s.number ≡ v
+    pub ends : FollowsEnd (names script v) s
+    pub draws : DrawsBelow (length s.drawn) (push_all v s.outbox w.links)
+    pub answers : (h i : ℕ) → s.messages ≤ i → entry_of (names script v) s.known (Answer h (record { sender = v; number = i })) ≡ None
+    pub promises : (i : ℕ) → s.promises ≤ i → entry_of (names script v) s.known (Promise v i) ≡ None
+
+  -- The ways only grow, and every vat would send on each value where it would have sent before.
+  pub record Grown (s t : Vat Name) : Type 0 where
+    pub grows : Grows (WaysAmid s) (WaysAmid t)
+    pub leading : (u : ℕ) (x : Value Name) → LeadsAmid t u x ≡ LeadsAmid s u x
+
+  -- Whoever is ready stays so, and the ways only grow.
+  abbrev pub StaysReady : Vat Name → Vat Name → Type 0
+  StaysReady s t = Ready s → Ready t × Grown s t
+
+  -- From s to t it went by such changes and by settlings, each whole, however it ended.
+  pub data Course : Vat Name → Vat Name → Type 0 where
+    over : {s : Vat Name} → Course s s
+    grew : {s t u : Vat Name} → StaysReady s t → Course t u → Course s u
+    settled : {s t u : Vat Name} (p : Name) (y : Value Name) → After (λ r q. q ≡ t) s (settle (names script v) p y s) → Course t u → Course s u
+    resolved : {s t u : Vat Name} (p : Name) (x : Value Name) → After (λ r q. q ≡ t) s (resolve (names script v) p x s) → Course t u → Course s u
+
+  -- not held by this vat: in a queue, on a link, or held by another
+  abbrev pub IsApart : Lane → Type 0
+  IsApart (Queue u) = Unit {0}
+  IsApart (Held u p) = u ≡ v → ⊥
+  IsApart (Way a b) = Unit {0}
+
+  -- What was ahead of a reference or of a message is ahead of it still, and what was doomed is doomed. Of what this vat itself holds nothing is said.
+  pub record KeepsAhead (s t : Vat Name) : Type 0 where
+    pub doomed : (u : ℕ) (x : Value Name) → Doom (WaysAmid s) (LeadsAmid s u x) → Doom (WaysAmid t) (LeadsAmid t u x)
+    pub ahead : (m : Name) (u : ℕ) (x : Value Name) → Ahead (WaysAmid s) m (LeadsAmid s u x) → Ahead (WaysAmid t) m (LeadsAmid t u x)
+    pub doomed_there : (l : Lane) (b : List Item) (n : Name) → IsApart l → Doom (WaysAmid s) (Mid l b n) → Doom (WaysAmid t) (Mid l b n)
+    pub ahead_there : (m : Name) (l : Lane) (b : List Item) (n : Name) → IsApart l → Ahead (WaysAmid s) m (Mid l b n) → Ahead (WaysAmid t) m (Mid l b n)
+
+  -- where each settling of this course keeps the vat ready, and keeps what is ahead
+  abbrev pub SettlingsKeep : {s t : Vat Name} → Course s t → Type 0
+  SettlingsKeep over = Unit {0}
+  SettlingsKeep (grew f c) = SettlingsKeep c
+  SettlingsKeep (settled {s} {t} p y e c) = (Ready s → Ready t × KeepsAhead s t) × SettlingsKeep c
+  SettlingsKeep (resolved {s} {t} p x e c) = (Ready s → Ready t × KeepsAhead s t) × SettlingsKeep c
+
+  -- what a vat may have in hand: data, an object, or a name that it knows
+  abbrev pub IsHeld : Vat Name → Value Name → Type 0
+  IsHeld s (Ref n) = IsObject n ⊎ IsKnown (names script v) s n
+  IsHeld s Null = Unit {0}
+  IsHeld s (Flag b) = Unit {0}
+  IsHeld s (Number z) = Unit {0}
+  IsHeld s (Letter c) = Unit {0}
+  IsHeld s (Text p) = Unit {0}
+  IsHeld s (Prim k) = Unit {0}
+  IsHeld s (Broken p) = Unit {0}
+  IsHeld s (Items k) = Unit {0}
+
+-- ---- laws
+
+-- As a value passes to a vat the ways only grow: notes that let gifts go are put, and of those gifts nothing was said.
+abbrev pub PassingGrows : Type 0
+PassingGrows = (script : Script) (honest : ℕ → Bool) (w : World) (v h : ℕ) (x : Value Name) (s : Vat Name) → After (StaysReady script honest w v) s (pass (names script v) h x s)
+
+-- So they do as a message is delivered with its arguments.
+abbrev pub DeliveringGrows : Type 0
+DeliveringGrows = (script : Script) (honest : ℕ → Bool) (w : World) (v h : ℕ) (n : Name) (m : Message Name) (s : Vat Name) → After (StaysReady script honest w v) s (deliver (names script v) m h n s)
+
+-- As an object reacts on a value the ways only grow.
+abbrev pub ReactingGrows : Type 0
+ReactingGrows = (script : Script) (honest : ℕ → Bool) (w : World) (v act : ℕ) (x o near : Value Name) (s : Vat Name) → After (StaysReady script honest w v) s (react (names script v) act x o near s)
+
+-- A send on what is not broken makes the ways only grow, with an answer or without.
+abbrev pub SendingGrows : Type 0
+SendingGrows = (script : Script) (honest : ℕ → Bool) (w : World) (v act : ℕ) (x : Value Name) (verb : Words) (args : List (Value Name)) (s : Vat Name)
+    → ((p : Words) → place (names script v) s (follow (names script v) s x) ≡ Gone p → ⊥)
+    → After (StaysReady script honest w v) s (send (names script v) act x verb args s) × After (StaysReady script honest w v) s (send_only (names script v) act x verb args s)
+
+-- After a whole send on what a vat has in hand, with an answer or without, the new message is ahead of the place to which that led: it stands there, or what is sent there is lost.
+-- It asks that the vat and the host of what the value is followed to are honest.
+abbrev pub SendsAreAhead : Type 0
+SendsAreAhead = (script : Script) (honest : ℕ → Bool) (w : World) (v act : ℕ) (x : Value Name) (verb : Words) (args : List (Value Name)) (r s : Vat Name)
+    → slice_get w.vats v ≡ Some r → honest v ≡ true → ((h : ℕ) (n : Name) (o : Bool) → place (names script v) s (follow (names script v) s x) ≡ Away h n o → honest h ≡ true)
+    → Ready script honest w v s → IsHeld script honest w v s x
+    → let IsAhead : (Vat Name → Type 0) = (λ t. Ahead (WaysAmid script honest w v t) (Sent (record { sender = v; number = s.messages })) (LeadsAmid script honest w v s v x)) in
+    IfGives IsAhead (send (names script v) act x verb args s) × IfGives IsAhead (send_only (names script v) act x verb args s)
+
+-- By such changes what is ahead stays ahead, and what is doomed stays doomed, of each reference and of each place.
+abbrev pub GrownKeeps : Type 0
+GrownKeeps = (script : Script) (honest : ℕ → Bool) (w : World) (v : ℕ) (s t : Vat Name) → Grown script honest w v s t → KeepsAhead script honest w v s t
+
+-- So a course keeps what is ahead where each settling in it does.
+abbrev pub CoursesKeep : Type 0
+CoursesKeep = (script : Script) (honest : ℕ → Bool) (w : World) (v : ℕ) (s t : Vat Name) (c : Course script honest w v s t) → SettlingsKeep script honest w v c → Ready script honest w v s → Ready script honest w v t × KeepsAhead script honest w v s t
+
+-- A send goes by such changes, with an answer or without; where the value is broken, the answer of the message, which is new, settles at the end.
+abbrev pub SendingGoesSo : Type 0
+SendingGoesSo = (script : Script) (honest : ℕ → Bool) (w : World) (v act : ℕ) (x : Value Name) (verb : Words) (args : List (Value Name)) (s : Vat Name) → After (Course script honest w v) s (send (names script v) act x verb args s) × After (Course script honest w v) s (send_only (names script v) act x verb args s)
+
+-- Whatever trees say, a whole turn goes by such changes and by settlings.
+abbrev pub TurnsGoSo : Type 0
+TurnsGoSo = (script : Script) (honest : ℕ → Bool) (w : World) (v : ℕ) (tree : List Node) (depth : ℕ) (s : Vat Name)
+    → ((m : Message Name) → After (Course script honest w v) s (taking (names script v) tree depth m s))
+    × ((p : Name) (given : List (Binding Name)) → After (Course script honest w v) s (opening (names script v) tree depth p given s))

@@ -1,0 +1,17 @@
+//! Tests of what vats exchange: operations and their bytes, tables, gifts, links, queues, and the lines that tell of them.
+#![tactic(auto)]
+
+#[cfg(test)]
+mod event;
+#[cfg(test)]
+mod intro;
+#[cfg(test)]
+mod link;
+#[cfg(test)]
+mod op;
+#[cfg(test)]
+mod parts;
+#[cfg(test)]
+mod queue;
+#[cfg(test)]
+mod tables;

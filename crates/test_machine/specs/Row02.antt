@@ -1,0 +1,49 @@
+-- An integer that answers.
+use Rattle.std.specs.Prelude.{◌≡◌, pos, List, [], ◌∷◌, Ok, codes}
+use Rattle.def_run.specs.World.{Script, run}
+use Rattle.def_run.specs.Text.{text}
+use Rattle.def_kernel_form.specs.Reading.{read}
+use Rattle.test_machine.specs.Endings.{lines}
+use Rattle.def_kernel.specs.declared.node.Literal.TheVariants as literal
+use Rattle.def_kernel.specs.declared.node.Node.{Node}
+use Rattle.def_kernel.specs.declared.node.Node.TheVariants.{Lit, Call}
+use Rattle.test_machine.specs.Keys.{zeros}
+
+-- 41 + 1
+unfoldable pub tree_a : List Node
+tree_a =
+    Call 1 (codes "add") (2 ∷ [])
+    ∷ Lit (literal.Int (pos 41))
+    ∷ Lit (literal.Int (pos 1))
+    ∷ []
+
+unfoldable pub script : Script
+script = record {
+  key = zeros;
+  fuel = 1000000;
+  depth = 400;
+  vats =
+      record { name = codes "a"; knows = []; tree = tree_a } ∷
+      [];
+  schedule = [];
+}
+
+abbrev pub Row02Holds : Type 0
+Row02Holds = text script (run script) ≡ lines (
+    codes "open a"
+    ∷ codes "!0 call 41 add 1"
+    ∷ codes "!0 back 42"
+    ∷ codes "!0 done 42"
+    ∷ codes "settle @a 42"
+    ∷ codes "end"
+    ∷ [])
+
+-- the trees are those of these forms
+abbrev pub Row02Reads : Type 0
+Row02Reads =
+    (read (codes "(call (lit 41) add (lit 1))") ≡ Ok tree_a)
+
+-- opens the definitions of this file
+unfoldable pub opened_row02 : Unit {0}
+unfolding tree_a script
+opened_row02 = tt
