@@ -5,8 +5,8 @@ use Rattle.def_run.specs.World as machine
 use Rattle.def_run.specs.World.{Program}
 use Rattle.law_name.specs.Names.{AllOf, Once}
 use Rattle.law_name.specs.Runs.{KnowsOnce}
-use Rattle.law_whole_fate.specs.Runs.{KnowsVats}
-use Rattle.law_whole_fate.proofs.Laws.{exactly_one_fate}
+use Rattle.law_fate.specs.WholeFateRuns.{KnowsVats}
+use Rattle.law_fate.proofs.WholeFateLaws.{exactly_one_fate}
 use Rattle.ev_top.specs.Headline.{MessagesHaveOneFate}
 use Rattle.ev_top.specs.Machine.{script_of}
 use Rattle.ev_top.specs.declared.command.Command.{Command}

@@ -2,7 +2,7 @@
 use Rattle.std.proofs.Common.{ℕ, List, Option, Some, None, IfSome}
 use Rattle.law_frozen.proofs.RunSound.{reach_at_the_end}
 use Rattle.ev_top.specs.Headline.{StampedReachFrozenAlone, UsesAreConnected}
-use Rattle.law_use.proofs.FineRuns.{opened_connect, run_connect}
+use Rattle.law_connected.proofs.FineRuns.{opened_connect, run_connect}
 use Rattle.ev_top.specs.declared.command.Command.{Command}
 
 pub frozen_alone : (left : Option (List ℕ)) (command : Option Command) → IfSome left (λ input. StampedReachFrozenAlone command input)

@@ -6,7 +6,7 @@ use Rattle.def_machine.specs.State.{Done as Outcome, Gives, Throws, Ejects, Stop
 use Rattle.def_run.specs.World as machine
 use Rattle.def_run.specs.World.{World, Script, Event, run, Goes, Stopped, then_goes, put_back, begins, Opens, close}
 use Rattle.def_run.specs.Text.{text as machine_text, opened_text}
-use Rattle.law_opening.specs.Alone.{alone}
+use Rattle.law_renaming.specs.Alone.{alone}
 use Rattle.ev_vat.specs.Ends.{end_of}
 use Rattle.ev_vat.specs.declared.told.RunEnd.{RunEnd}
 use Rattle.ev_vat.specs.declared.told.RunEnd.TheVariants as end

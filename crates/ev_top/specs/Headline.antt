@@ -6,7 +6,7 @@ use Rattle.def_run.specs.World as machine
 use Rattle.def_run.specs.World.{World, run, Goes}
 use Rattle.law_fate.specs.Fate.{fates, sent}
 use Rattle.law_frozen.specs.Runs.{ReachIsFrozenIn}
-use Rattle.law_use.specs.Laws.{RunConnected}
+use Rattle.law_connected.specs.UseLaws.{RunConnected}
 use Rattle.ev_reader.specs.Program.{Answers}
 use Rattle.ev_scope.specs.declared.accepted.Scoped.{Scoped}
 use Rattle.ev_script.specs.declared.script.Script.{Script}

@@ -1,7 +1,7 @@
 -- The machine's script of what is run.
 use Rattle.std.specs.Prelude.{ℕ, List, []}
 use Rattle.def_kernel.specs.declared.node.Node.{Node}
-use Rattle.law_opening.specs.Alone.{alone}
+use Rattle.law_renaming.specs.Alone.{alone}
 use Rattle.def_run.specs.World.{Script}
 
 -- the greatest depth at which a node begins

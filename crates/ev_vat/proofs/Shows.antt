@@ -18,7 +18,7 @@ use Rattle.def_run.specs.Shown.{shown_value, shown_values, shown_capture, shown_
 use Rattle.def_run.specs.Text.{shown_events}
 use Rattle.ev_room.specs.Sound.{problems}
 use Rattle.ev_room.specs.Reading.{value_of, values_of, problem_of, capture_in, ejector_line, made_line, line_of, lines_of}
-use Rattle.law_opening.specs.Alone.{name_of}
+use Rattle.law_renaming.specs.Alone.{name_of}
 use Rattle.ev_vat.specs.Lines.{text_at, shown_held, problem_at}
 use Rattle.ev_vat.specs.Lines as ours
 use Rattle.ev_vat.proofs.Closing.{root_world}

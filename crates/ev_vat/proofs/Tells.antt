@@ -27,8 +27,8 @@ use Rattle.ev_eval.specs.declared.turn.Ended.TheVariants as ended
 use Rattle.ev_room.specs.Reading.{World, all_promises, names, text_of, value_of, lines_of, vat_of}
 use Rattle.ev_room.specs.Sound.{Each, Grown, IsListed, IsSound, is_there, problems}
 use Rattle.ev_eval.specs.Turn.{Ends, GivesThere, opened}
-use Rattle.law_opening.specs.Alone.{alone, start, opened_alone, name_of, NamesNothing, run_of_step}
-use Rattle.law_opening.proofs.Numbered.{root_alone, named_opening, found_names, runs_alone}
+use Rattle.law_renaming.specs.Alone.{alone, start, opened_alone, name_of, NamesNothing, run_of_step}
+use Rattle.law_renaming.proofs.Numbered.{root_alone, named_opening, found_names, runs_alone}
 use Rattle.ev_vat.specs.declared.told.RunEnd.{RunEnd}
 use Rattle.ev_vat.specs.declared.told.RunEnd.TheVariants as end
 use Rattle.ev_vat.specs.declared.told.Told.{Told}

@@ -2,7 +2,7 @@
 
 ghost use Rattle.std.specs.Prelude.{◌≡◌, ℕ, List, true, Some, IfOk, string_bytes};
 ghost use Rattle.ev_steps.specs.Built.{is_built};
-ghost use Rattle.law_opening.specs.Alone.{alone};
+ghost use Rattle.law_renaming.specs.Alone.{alone};
 ghost use Rattle.def_run.specs.Text.{text};
 ghost use Rattle.def_run.specs.World.{run};
 ghost use Rattle.ev_vat.specs.Ends.{end_of};

@@ -3,9 +3,9 @@ use Rattle.std.proofs.Common.{◌≡◌, ℕ, suc, ◌≤◌, Bool, true, false,
 use Rattle.std.specs.Prelude.{nat_le}
 use Rattle.def_machine.specs.Values.{Words, Value, Naming, Coming, Mailing}
 use Rattle.def_machine.specs.State.{Audition, Ejector, See, Settle, Thing, Message, Happened, Took, Called, Back, Thrown, Left, EjectorMade, AuditionMade, Settles, Views, Vat, Stop, Done, Gives, Throws, Ejects, Stops, Act, ◌>>=◌, ◌>>◌, and_then, end_by, ending, give, throw, stop, eject, look, tell, spend, spent, new_activation, new_thing, kill, new_slot, write_slot, new_list, enqueue, Change, Note, send_out, new_gift, open_gift, mark, draws, alter, come, mail, new_promise, new_message, draw, new_lone_message}
-use Rattle.law_walk.proofs.Walks.{Property, Holds, IsClosed, IsEnding, walk_then}
-use Rattle.law_walk.proofs.Blocks.{ends_by_lines, audits_by_kills, escapes_by_kills}
-use Rattle.law_walk.proofs.Whole.{Whole, IsAlone}
+use Rattle.law_machine.proofs.Walks.{Property, Holds, IsClosed, IsEnding, walk_then}
+use Rattle.law_machine.proofs.Blocks.{ends_by_lines, audits_by_kills, escapes_by_kills}
+use Rattle.law_machine.proofs.Whole.{Whole, IsAlone}
 use Rattle.def_machine.specs.Scopes.{ended}
 use Rattle.law_connected.specs.Activations.{begun_by, Rises}
 

@@ -5,9 +5,9 @@ use Rattle.def_machine.specs.Values.{Words, Value, Naming, Coming, Mailing}
 use Rattle.def_machine.specs.State.{Took, Called, Back, Thrown, Left, Settles, Views, AuditionMade, See, Settle, Thing, Made, Ejector, Audition, Resolver, Binding, View, Message, Happened, EjectorMade, Vat, Stop, Done, Gives, Throws, Ejects, Stops, Act, ◌>>=◌, ◌>>◌, and_then, end_by, ending, give, throw, stop, eject, look, tell, spend, spent, new_activation, new_thing, kill, change, dead, new_slot, write_slot, new_list, enqueue, Change, Note, send_out, new_gift, open_gift, mark, draws, alter, come, mail, new_promise, new_message, draw, new_lone_message}
 use Rattle.def_kernel.specs.declared.node.Node.{Node}
 use Rattle.def_machine.specs.Calls.{leave, leaving, new_ejector}
-use Rattle.law_walk.proofs.Walks.{Property, Holds, IsClosed, IsEnding, IsDull}
-use Rattle.law_walk.proofs.Blocks.{ends_by_lines}
-use Rattle.law_walk.proofs.Whole.{Whole}
+use Rattle.law_machine.proofs.Walks.{Property, Holds, IsClosed, IsEnding, IsDull}
+use Rattle.law_machine.proofs.Blocks.{ends_by_lines}
+use Rattle.law_machine.proofs.Whole.{Whole}
 use Rattle.def_machine.specs.Scopes.{ended}
 use Rattle.law_connected.specs.Liveness.{is_live, live_at, WasLive, LeavesDead}
 

@@ -3,7 +3,7 @@ use Rattle.std.proofs.Common.{ℕ, List, [], ◌∷◌, ◌++◌, sym, subst, in
 use Rattle.def_machine.specs.Values.{Value, Ref, Naming}
 use Rattle.def_machine.specs.State.{Known, Happened}
 use Rattle.law_connected.specs.Known.{Item, AValue, IsAmong, Holdings, Leads, settled, viewed, settles, views, Reaches, itself, onward, IsThing, Runs, called, took, Knows, plain, initial, endowed, told, member, followed, guard}
-use Rattle.law_connected.specs.Laws.{IsClosed, Grown}
+use Rattle.law_connected.specs.ConnectedLaws.{IsClosed, Grown}
 
 pub among_more : {A : Type 0} (x : A) (xs ys : List A) → IsAmong x xs → IsAmong x (xs ++ ys)
 among_more x [] ys i = absurd i

@@ -6,10 +6,10 @@ use Rattle.def_machine.specs.Values.{Words, Value, Broken, Naming}
 use Rattle.def_machine.specs.State.{ListCame, Ask, Shorten, Sends, Reacts, Thing, Audition, Ejector, See, Settle, Message, Happened, Took, Called, Back, Thrown, Left, EjectorMade, AuditionMade, Settles, Views, Vat, Stop, Done, Gives, Throws, Ejects, Stops, Act, ◌>>=◌, ◌>>◌, and_then, end_by, ending, give, throw, stop, eject, look, tell, spend, spent, new_activation, new_thing, kill, new_slot, write_slot, new_list, enqueue, Change, send_out, new_gift, open_gift, mark, draws, alter, come, mail, new_promise, new_message, draw, new_lone_message}
 use Rattle.def_machine.specs.Scopes.{ended}
 use Rattle.def_kernel.specs.declared.node.Node.{Node}
-use Rattle.law_walk.proofs.Walks.{Property, Holds, IsClosed, IsEnding, IsOfRefs, IsOfEval, InRefs, InRefsUnder, InSettling, InSending, InArrive, InArriveUnder, InEval, InEvalUnder, walk_then}
-use Rattle.law_walk.proofs.RefsWalk.{settles_by_lines, walk_settle, walk_resolve, walk_send, walk_send_only, walk_react}
-use Rattle.law_walk.proofs.ArriveWalk.{lists_by_line}
-use Rattle.law_walk.proofs.Blocks.{audits_by_kills, escapes_by_kills, resolves_always}
+use Rattle.law_machine.proofs.Walks.{Property, Holds, IsClosed, IsEnding, IsOfRefs, IsOfEval, InRefs, InRefsUnder, InSettling, InSending, InArrive, InArriveUnder, InEval, InEvalUnder, walk_then}
+use Rattle.law_machine.proofs.RefsWalk.{settles_by_lines, walk_settle, walk_resolve, walk_send, walk_send_only, walk_react}
+use Rattle.law_machine.proofs.ArriveWalk.{lists_by_line}
+use Rattle.law_machine.proofs.Blocks.{audits_by_kills, escapes_by_kills, resolves_always}
 use Rattle.law_connected.specs.Connected.{Open}
 use Rattle.law_connected.specs.Nesting.{closed_by, nested_after, nested_on, nested_from, left_open}
 

@@ -8,7 +8,7 @@ use Rattle.def_machine.specs.Eval.{opened_eval}
 use Rattle.law_machine.specs.Steps.{Opens, does}
 use Rattle.law_connected.specs.Connected.{evaluates, asks, Connected, StepConnected, given_to, held_from, opened_connected}
 use Rattle.law_connected.specs.Rows.{one_object, secret, helper, message, handed, program, escaping, auditing, fresh, opened_rows}
-use Rattle.law_connected.specs.Laws.{IsClosed}
+use Rattle.law_connected.specs.ConnectedLaws.{IsClosed}
 use Rattle.law_connected.proofs.Knowing.{least}
 
 -- data without names

@@ -5,7 +5,7 @@ use Rattle.def_machine.specs.State.{Vat, Happened, Done, Gives, Throws, Ejects, 
 use Rattle.law_machine.specs.Steps.{Step, Opens, Takes, Receives, Notices, does, After}
 use Rattle.law_connected.specs.Activations.{begun_by, Rises, StepsCount}
 use Rattle.law_connected.proofs.Counts.{CountsBy, counts_whole, Counts, Ends}
-use Rattle.law_walk.proofs.Whole.{whole_opening, whole_taking, whole_arrive, whole_notice}
+use Rattle.law_machine.proofs.Whole.{whole_opening, whole_taking, whole_arrive, whole_notice}
 
 no_more : (n : ℕ) → n ≤ n
 no_more n = omega arith

@@ -3,7 +3,7 @@ use Rattle.def_machine.specs.Values.{Naming}
 use Rattle.law_machine.specs.Steps.{Step, Opens, Takes, Receives, Notices, does}
 use Rattle.law_connected.specs.Liveness.{StepsLeaveDead}
 use Rattle.law_connected.proofs.Dies.{DiesBy, dies_whole, Dies}
-use Rattle.law_walk.proofs.Whole.{whole_opening, whole_taking, whole_arrive, whole_notice}
+use Rattle.law_machine.proofs.Whole.{whole_opening, whole_taking, whole_arrive, whole_notice}
 
 module _ {N W : Type 0} (K : Naming N W) where
   step_dies : (step : Step N W) → Dies (does K step)

@@ -4,10 +4,10 @@ use Rattle.def_machine.specs.Values.{Naming}
 use Rattle.def_machine.specs.State.{Vat, Done, Gives, Throws, Ejects, Stops}
 use Rattle.law_machine.specs.Steps.{Step, Opens, Takes, Receives, Notices, does}
 use Rattle.law_connected.specs.Nesting.{Nested, StepsNest, nested_from, left_open}
-use Rattle.law_walk.proofs.Walks.{where_some}
-use Rattle.law_walk.proofs.RefsWalk.{walk_resolve}
-use Rattle.law_walk.proofs.ArriveWalk.{walk_arrive, walk_notice}
-use Rattle.law_walk.proofs.EvalWalk.{walk_opening, walk_taking}
+use Rattle.law_machine.proofs.Walks.{where_some}
+use Rattle.law_machine.proofs.RefsWalk.{walk_resolve}
+use Rattle.law_machine.proofs.ArriveWalk.{walk_arrive, walk_notice}
+use Rattle.law_machine.proofs.EvalWalk.{walk_opening, walk_taking}
 use Rattle.law_connected.proofs.Nests.{Nests, NestsBy, Ends, nests_closed, nests_ends, nests_in_refs, nests_in_refs_under, nests_settling, nests_in_arrive, nests_in_arrive_under, nests_in_eval, nests_in_eval_under, nests_took}
 
 module _ {N W : Type 0} (K : Naming N W) where

@@ -8,7 +8,7 @@ use Rattle.law_machine.specs.Steps.{Step, Opens, Takes, Receives, Notices, does,
 use Rattle.law_connected.specs.Known.{IsPlain, settled, viewed, Reaches, itself, onward}
 use Rattle.law_connected.specs.Following.{FollowsTold, StepsFollow}
 use Rattle.law_connected.proofs.Traces.{TracesBy, traces_whole, IsTold, AllTold, Told, Ends, Traces}
-use Rattle.law_walk.proofs.Whole.{whole_opening, whole_taking, whole_arrive, whole_notice}
+use Rattle.law_machine.proofs.Whole.{whole_opening, whole_taking, whole_arrive, whole_notice}
 
 module _ {N W : Type 0} (K : Naming N W) (before : List (Known N)) where
   step_traces : (step : Step N W) → Traces K before (does K step)

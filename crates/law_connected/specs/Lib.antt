@@ -7,4 +7,10 @@ pub mod Nesting
 pub mod Following
 pub mod Runs
 pub mod Rows
-pub mod Laws
+pub mod ConnectedLaws
+pub mod UseLaws
+pub mod Told
+pub mod News
+pub mod Stems
+pub mod MessageLaws
+pub mod Begotten

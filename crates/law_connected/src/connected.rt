@@ -6,7 +6,7 @@ ghost use Rattle.law_connected.specs.Liveness.{WhatIsMadeDies};
 ghost use Rattle.law_connected.specs.Runs.{NothingLiveInRuns};
 ghost use Rattle.law_connected.specs.Natives.{DataAddsNothing};
 ghost use Rattle.law_connected.specs.Nesting.{CallsNest};
-ghost use Rattle.law_connected.specs.Laws.{AuditIsConnected, EscapeIsConnected, HandedIsConnected, KeptIsNotConnected, KnownIsLeast, KnownStays, ProgramIsConnected};
+ghost use Rattle.law_connected.specs.ConnectedLaws.{AuditIsConnected, EscapeIsConnected, HandedIsConnected, KeptIsNotConnected, KnownIsLeast, KnownStays, ProgramIsConnected};
 
 /// What an activation knows is the least that initial conditions, endowment, parenthood and
 /// introduction give it: what holds of all that these give holds of all that it knows.

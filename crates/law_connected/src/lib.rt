@@ -1,4 +1,6 @@
-//! Laws of the machine about what activations know and use.
+//! Connectivity: who knows what, how references are used, and from which sends messages stem.
 #![tactic(auto)]
 
 pub mod connected;
+pub mod message;
+pub mod uses;

@@ -7,7 +7,7 @@ use Rattle.def_machine.specs.Arrive as arrive
 use Rattle.def_machine.specs.Arrive.{Incoming, Old, New}
 use Rattle.law_machine.proofs.Keeps.{Keeps}
 use Rattle.law_fate.specs.Fate.{one, in_note}
-use Rattle.law_fate.specs.Laws.{Accounted, coming}
+use Rattle.law_fate.specs.FateLaws.{Accounted, coming}
 use Rattle.law_fate.proofs.Spares.{keeps_look}
 use Rattle.law_fate.proofs.RefsCounts.{costs_if, spared, free_bind, free_then, after_trans, after_more, free_mail, free_come, free_to_tell}
 use Rattle.law_fate.proofs.RefsAccount.{free_refs, free_settle, free_resolve, free_inform, costs_send_on}

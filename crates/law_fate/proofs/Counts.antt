@@ -6,7 +6,7 @@ use Rattle.def_machine.specs.Values.{Value, Name, Root, Object, Promise, Answer,
 use Rattle.def_machine.specs.State.{Message, Standing, Unsettled, WaitsOn, Viewed, Settled, Known, Change, Hold, Wait, WaitOn, See, React, ToTell, Settle, Put, Happened, begun, changed, changed_to, unless_settled, with_change}
 use Rattle.def_machine.specs.Refs.{entry_of}
 use Rattle.law_fate.specs.Fate.{once, one, among, at_names, sent_here, sent_in, gone_here, gone, where_cut, of_note, put_out}
-use Rattle.law_fate.specs.Laws.{numbered}
+use Rattle.law_fate.specs.FateLaws.{numbered}
 
 pub among_end : (x : Name) (ms : List (Message Name)) (m : Message Name) → among x (ms ++ m ∷ []) ≡ among x ms + one m.id x
 unfolding among

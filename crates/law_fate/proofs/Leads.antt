@@ -1,8 +1,8 @@
 -- How what a vat does leads from state to state by one relation where it goes on, and by another where it stops: proved once for any two.
 use Rattle.std.proofs.Common.{ℕ, suc, ◌-◌, Bool, true, false, List, [], ◌∷◌, ◌++◌, if◌then◌else◌, length}
-use Rattle.law_walk.proofs.Walks.{Property, Holds, IsClosed, IsEnding, InEval, InEvalUnder}
-use Rattle.law_walk.proofs.EvalWalk.{eval_walk}
-use Rattle.law_walk.proofs.Blocks.{TurnSingles, turn_eval, turn_eval_under, resolves_always}
+use Rattle.law_machine.proofs.Walks.{Property, Holds, IsClosed, IsEnding, InEval, InEvalUnder}
+use Rattle.law_machine.proofs.EvalWalk.{eval_walk}
+use Rattle.law_machine.proofs.Blocks.{TurnSingles, turn_eval, turn_eval_under, resolves_always}
 use Rattle.def_kernel.specs.declared.node.Node.{Node}
 use Rattle.std.specs.Prelude.{nat_le}
 use Rattle.law_machine.specs.Steps.{After}

@@ -15,3 +15,16 @@ pub mod PlacesArrive
 pub mod PlacesSteps
 pub mod Finding
 pub mod RunWell
+pub mod Light
+pub mod RefsLight
+pub mod ArriveLight
+pub mod StepsLight
+pub mod WorldLight
+pub mod RunLight
+pub mod ViewsEnd
+pub mod Places
+pub mod WholeArrive
+pub mod WholeSteps
+pub mod Links
+pub mod RunWhole
+pub mod WholeFateLaws

@@ -7,7 +7,7 @@ use Rattle.def_machine.specs.Refs.{Place, Near, Mine, Away, Gone, entry_of}
 use Rattle.law_machine.specs.Steps.{After}
 use Rattle.law_machine.proofs.Keeps.{Keeps}
 use Rattle.law_fate.specs.Fate.{one, among, at_vat, sent_here, gone_here, account}
-use Rattle.law_fate.specs.Laws.{numbered, Accounted}
+use Rattle.law_fate.specs.FateLaws.{numbered, Accounted}
 use Rattle.law_fate.proofs.Spares.{IsSparedUnder, keeps_give, keeps_each, keeps_look}
 use Rattle.law_fate.proofs.Counts.{sent_end, gone_end, names_end, Waits, settling_frees, numbered_next}
 use Rattle.law_fate.proofs.RefsCounts.{costs_some, Owes, free, spared, after_pays, costs_more, costs_then, free_bind, free_then, then_free, costs_enqueue, costs_put, costs_lost, costs_hold, costs_react, free_come, free_promise}

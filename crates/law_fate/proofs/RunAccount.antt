@@ -10,8 +10,8 @@ use Rattle.def_run.specs.Draws.{draw_word}
 use Rattle.def_run.specs.World as world
 use Rattle.def_run.specs.World.{Script, Program, Opens, Entry, Turn, Carry, CutLink, NoticeLink, Event, Turned, Idle, Carried, CutAt, NoticedAt, LostCut, LeftQueue, LeftHeld, LeftWait, LeftLink, Ends, Link, World, Run, Goes, Stopped, names, names_of, read_note}
 use Rattle.law_fate.specs.Fate.{one, total, among, at_vat, of_note, in_note, on_link, places, sent_by, sent, took_by, takes, lost_by, losses, left_by, leavings, gone, sent_in, put_out, account}
-use Rattle.law_fate.specs.Laws.{numbered, Accounted, coming, brought}
-use Rattle.law_fate.specs.Runs.{Reached}
+use Rattle.law_fate.specs.FateLaws.{numbered, Accounted, coming, brought}
+use Rattle.law_fate.specs.FateRuns.{Reached}
 use Rattle.law_fate.proofs.RunCounts.{pick, total_append, total_put, all_numbered, numbered_put, push_all_adds, AllApart, with_link_apart, push_all_apart, with_link_changes, with_link_absent, severed_back, ends_told, sends_told, none_left}
 use Rattle.law_fate.proofs.TurnAccount.{steps_double_none}
 

@@ -6,7 +6,7 @@ use Rattle.def_machine.specs.State.{Note, Put, Happened, Took, Sends, Reacts, Lo
 use Rattle.def_run.specs.World as world
 use Rattle.def_run.specs.World.{Link, Event, Here, LostCut, LeftQueue, LeftHeld, LeftWait, LeftLink, World}
 use Rattle.law_fate.specs.Fate.{once, one, total, of_note, on_link, sent_here, sent_by, took_here, took_by, lost_here, lost_by, left_by, gone_here, gone, where_cut, sent_in, put_out}
-use Rattle.law_fate.specs.Laws.{numbered}
+use Rattle.law_fate.specs.FateLaws.{numbered}
 
 pub total_append : {A : Type 0} (f : A → ℕ) (xs ys : List A) → total f (xs ++ ys) ≡ total f xs + total f ys
 unfolding total

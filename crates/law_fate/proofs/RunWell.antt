@@ -10,7 +10,7 @@ use Rattle.def_run.specs.Draws.{draw_word}
 use Rattle.def_run.specs.World as world
 use Rattle.def_run.specs.World.{Script, Program, Opens, Entry, Turn, Carry, CutLink, NoticeLink, Event, Turned, Idle, Carried, CutAt, NoticedAt, Link, World, Run, Goes, Stopped, names, names_of, read_note, begins}
 use Rattle.law_fate.specs.Lasting.{Each, NoPromise, KnownWell, PassedLast, NoteWell, ComesAsNoObject, ValueComes, PassedComes, AllCome, ValueSettles, PassedSettles, NoteComes, StepComes, PlacesLast}
-use Rattle.law_fate.specs.Runs.{Reached}
+use Rattle.law_fate.specs.FateRuns.{Reached}
 use Rattle.law_fate.specs.Wellness.{WorldWell, RunsStayWell}
 use Rattle.law_fate.proofs.RunCounts.{pick}
 use Rattle.law_fate.proofs.PlacesLast.{each_end}

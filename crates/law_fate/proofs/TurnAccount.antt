@@ -8,7 +8,7 @@ use Rattle.std.specs.Prelude.{List}
 use Rattle.law_machine.specs.Steps.{Step, Opens, Takes, Receives, Notices, does}
 use Rattle.law_machine.proofs.Keeps.{Keeps}
 use Rattle.law_fate.specs.Fate.{one}
-use Rattle.law_fate.specs.Laws.{Accounted, brought, StepsDoubleNone}
+use Rattle.law_fate.specs.FateLaws.{Accounted, brought, StepsDoubleNone}
 use Rattle.law_fate.proofs.Spares.{keeps_activation}
 use Rattle.law_fate.proofs.RefsCounts.{spared, free_bind, then_free, costs_took}
 use Rattle.law_fate.proofs.RefsAccount.{spared_under}

@@ -6,8 +6,8 @@ use Rattle.def_machine.specs.Scopes.{Evaluator}
 use Rattle.def_machine.specs.Calls as calls
 use Rattle.def_machine.specs.Eval as eval
 use Rattle.def_kernel.specs.declared.node.Node.{Node}
-use Rattle.law_walk.proofs.EvalWalk as walk
-use Rattle.law_walk.proofs.Walks.{where_some}
+use Rattle.law_machine.proofs.EvalWalk as walk
+use Rattle.law_machine.proofs.Walks.{where_some}
 use Rattle.law_fate.proofs.Leads.{Leads, LeadsBy, IsLed, IsLedUnder, leads_closed, leads_ends, leads_in_eval, leads_in_eval_under}
 
 module _ {N W : Type 0} (K : Naming N W) (Q R : Vat N → Vat N → Type 0) (base : IsLed Q R) (law : IsLedUnder K Q R) (tree : List Node) where

@@ -4,7 +4,7 @@ use Rattle.def_machine.specs.Values.{Name}
 use Rattle.def_machine.specs.State.{Vat}
 use Rattle.def_run.specs.World.{Link, World}
 use Rattle.law_fate.specs.Lasting.{Each, KnownWell, NoteWell}
-use Rattle.law_fate.specs.Runs.{InRuns}
+use Rattle.law_fate.specs.FateRuns.{InRuns}
 
 pub record WorldWell (w : World) : Type 0 where
   -- what is known of each name, in each vat

@@ -1,11 +1,11 @@
 //! Each message has one place at most, until it is taken or lost.
 
-ghost use Rattle.law_fate.specs.Laws.{StepsDoubleNone};
-ghost use Rattle.law_fate.specs.Example.{FatesAreMet};
+ghost use Rattle.law_fate.specs.FateLaws.{StepsDoubleNone};
+ghost use Rattle.law_fate.specs.FateExample.{FatesAreMet};
 ghost use Rattle.law_fate.specs.Finding.{SendsFindPlaces};
 ghost use Rattle.law_fate.specs.Lasting.{StepsKeepPlaces};
 ghost use Rattle.law_fate.specs.Wellness.{RunsStayWell};
-ghost use Rattle.law_fate.specs.Runs.{EachSentOnce, EachTakenOnce, OneFateAtMost, PlacesAndFates};
+ghost use Rattle.law_fate.specs.FateRuns.{EachSentOnce, EachTakenOnce, OneFateAtMost, PlacesAndFates};
 
 /// No step of a vat doubles a message, and what it sends is a message that the vat numbers then.
 ///
@@ -43,7 +43,7 @@ pub fn runs_stay_well()
 /// It asks what `steps_keep_places` asks of the state, and that views end: from each name the vat
 /// comes, by no more views than it knows names, to one that is not viewed. A value is known that is
 /// data, an object, or a name among those that the vat knows. `steps_find_places` of
-/// `law_whole_fate` says it of every step of a run.
+/// `law_fate` says it of every step of a run.
 pub fn sends_find_places()
     ensures { SendsFindPlaces }
 {}
@@ -78,7 +78,7 @@ pub fn one_fate_at_most()
 
 /// The counts of a run, by computing: of three messages the first is taken, the second stands in
 /// the closing list and the third is lost, each once.
-#[tactic(auto, unfolding(def_run::specs::World::opened_world, crate::specs::Fate::opened_fate, crate::specs::Example::opened_example))]
+#[tactic(auto, unfolding(def_run::specs::World::opened_world, crate::specs::Fate::opened_fate, crate::specs::FateExample::opened_example))]
 pub fn fates_are_met()
     ensures { FatesAreMet }
 {}

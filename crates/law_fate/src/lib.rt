@@ -1,4 +1,6 @@
-//! Laws of the machine about where a message is, and its fate.
+//! The fates of messages, and how often each is carried.
 #![tactic(auto)]
 
+pub mod carry;
 pub mod fate;
+pub mod whole;

@@ -16,9 +16,9 @@ use Rattle.def_run.specs.Wire as wire
 use Rattle.def_run.specs.Wire.{Connected, connected_at, with_connected, sight, word_of}
 use Rattle.def_run.specs.World as world
 use Rattle.def_run.specs.World.{Script, Program, Entry, Event, CutLink, Carried, Link, World, Goes, link_at, with_link, with_notes, pushed, severed_link, put_at, readied}
-use Rattle.law_move.specs.Moves.{Deed, NewObject, NewPromise, NewMessage, NewLone, NewDraw, Learns, Move, Moved, Still, Severs, Drops, Steps, Arrives, Hears, Tells, Reached, Performs, AnyNotice, perform, hear, hear_message, went, without}
-use Rattle.law_move.proofs.Told.{moves_told}
-use Rattle.law_move.proofs.Honest.{lifted, honest_reached}
+use Rattle.law_run.specs.Moves.{Deed, NewObject, NewPromise, NewMessage, NewLone, NewDraw, Learns, Move, Moved, Still, Severs, Drops, Steps, Arrives, Hears, Tells, Reached, Performs, AnyNotice, perform, hear, hear_message, went, without}
+use Rattle.law_run.proofs.Told.{moves_told}
+use Rattle.law_run.proofs.Honest.{lifted, honest_reached}
 use Rattle.law_frame.specs.Growing.{IsFront, TablesGrow, ConnectedGrows}
 use Rattle.law_frame.specs.Written.{AreWritten, HaveTheirFrames, LinkHasFrames, NotesHaveTheirFrames, NextFramesAreWritten}
 use Rattle.law_frame.proofs.Lists.{front_same, front_more, front_trans}

@@ -7,7 +7,7 @@ use Rattle.law_machine.specs.Laws.{Stays}
 use Rattle.def_run.specs.Connections.{Connection, asked_in, exported_note, frame_now}
 use Rattle.def_run.specs.Wire.{Connected, connected_at, sight, word_of}
 use Rattle.def_run.specs.World.{Script, Program, Entry, Link, World, Goes, link_at, next_frame, begins, open_from, steps_from}
-use Rattle.law_move.specs.Moves.{Reached, AnyNotice}
+use Rattle.law_run.specs.Moves.{Reached, AnyNotice}
 use Rattle.law_frame.specs.Growing.{TablesGrow}
 
 module _ (v u : ℕ) (drawn : List ℕ) (c : Connected) where

@@ -10,15 +10,15 @@ use Rattle.def_run.specs.World.{next_frame, Script, Program, Event, Carried, Wor
 use Rattle.law_name.specs.Names.{AllOf, IsAmong, IsMessageMade, NoteOk, names_in, Once}
 use Rattle.law_name.proofs.Among.{among_more, among_last, among_or, names_end}
 use Rattle.law_name.proofs.Run.{Stands, Told}
-use Rattle.law_rest.proofs.OwnRuns.{InScript}
-use Rattle.law_rest.proofs.NotesRuns.{links_of}
-use Rattle.law_answer.specs.Behind.{Bears, IsKnownTo}
-use Rattle.law_answer.proofs.First.{PutsFirst}
-use Rattle.law_answer.proofs.Follow.{put_cases, goes_known, goes_follow}
-use Rattle.law_answer.proofs.FollowRuns.{Past, Holds, taken_known, taken_follow, stepped_follow, outs_known, there_next, holds_on, begins_holds}
-use Rattle.law_answer.proofs.Moves.{entry_moves, opening_moves, get_mid}
-use Rattle.law_move.specs.Moves.{Deed, Move, Opened, Stepped, Swallowed, Says, AnyNotice, Follows, Performs, went, without, hear, hear_message}
-use Rattle.law_move.proofs.Honest.{lifted}
+use Rattle.law_reference.proofs.OwnRuns.{InScript}
+use Rattle.law_reference.proofs.NotesRuns.{links_of}
+use Rattle.law_reference.specs.Behind.{Bears, IsKnownTo}
+use Rattle.law_reference.proofs.First.{PutsFirst}
+use Rattle.law_reference.proofs.Follow.{put_cases, goes_known, goes_follow}
+use Rattle.law_reference.proofs.FollowRuns.{Past, Holds, taken_known, taken_follow, stepped_follow, outs_known, there_next, holds_on, begins_holds}
+use Rattle.law_reference.proofs.Moves.{entry_moves, opening_moves, get_mid}
+use Rattle.law_run.specs.Moves.{Deed, Move, Opened, Stepped, Swallowed, Says, AnyNotice, Follows, Performs, went, without, hear, hear_message}
+use Rattle.law_run.proofs.Honest.{lifted}
 use Rattle.law_hostile.specs.Hostile as hostile
 use Rattle.law_hostile.specs.Hostile.{May, Lawful, AnswersFirst, IsHostile, IsReached, IsReachedInOrder}
 use Rattle.law_hostile.proofs.Known.{left_stands}

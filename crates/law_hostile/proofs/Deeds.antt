@@ -15,7 +15,7 @@ use Rattle.law_name.proofs.Among.{promises_at, get_put}
 use Rattle.law_name.proofs.Run.{IsInside, Inside, inside, name_had}
 use Rattle.law_name.proofs.Tracked.{IsFar, Ok, follows_trans, tracked, tracked_under, tracked_makes}
 use Rattle.law_name.proofs.Learn.{Grew, Knows, Learned, Ended, grew, learn_name, message_learned, reads_bind, reads_fine}
-use Rattle.law_move.specs.Moves.{Deed, NewObject, NewPromise, NewMessage, NewLone, NewDraw, Learns, Performs, perform, hear, hear_message}
+use Rattle.law_run.specs.Moves.{Deed, NewObject, NewPromise, NewMessage, NewLone, NewDraw, Learns, Performs, perform, hear, hear_message}
 use Rattle.law_hostile.specs.Hostile.{May, Lawful, IsBelow, IsOther}
 
 module _ (script : Script) (w : World) (v : ℕ) (s : Vat Name) (there : slice_get w.vats v ≡ Some s) (here : Inside script (At v)) where

@@ -11,15 +11,15 @@ use Rattle.def_run.specs.World.{Script, Program, Entry, Event, Link, World, Run,
 use Rattle.law_name.specs.Names.{AllOf, Once, IsMessageMade, NoteOk}
 use Rattle.law_name.proofs.Facts.{all_end, all_map}
 use Rattle.law_name.proofs.Run.{Stands, Told}
-use Rattle.law_rest.specs.Own.{IsOwnKnown}
-use Rattle.law_rest.specs.Notes.{IsBetween, Carries}
-use Rattle.law_rest.proofs.OwnKeeps.{Whole, came_own}
-use Rattle.law_rest.proofs.OwnRuns.{Any, InScript, Each}
-use Rattle.law_rest.proofs.RunLift.{put_at_or, all_allowed}
-use Rattle.law_rest.proofs.NotesLift as lift
-use Rattle.law_rest.proofs.NotesRuns.{Its, OfNotes, Ever, its_keep, begins_all}
-use Rattle.law_move.specs.Moves.{Deed, NewObject, NewPromise, NewMessage, NewLone, NewDraw, Learns, Performs, perform, Move, Opened, Stepped, Swallowed, Says, AnyNotice, Nobody, went, without, hear, hear_message, Follows, IsHonest}
-use Rattle.law_move.proofs.Honest.{lifted}
+use Rattle.law_reference.specs.Own.{IsOwnKnown}
+use Rattle.law_reference.specs.Notes.{IsBetween, Carries}
+use Rattle.law_reference.proofs.OwnKeeps.{Whole, came_own}
+use Rattle.law_reference.proofs.OwnRuns.{Any, InScript, Each}
+use Rattle.law_reference.proofs.RunLift.{put_at_or, all_allowed}
+use Rattle.law_reference.proofs.NotesLift as lift
+use Rattle.law_reference.proofs.NotesRuns.{Its, OfNotes, Ever, its_keep, begins_all}
+use Rattle.law_run.specs.Moves.{Deed, NewObject, NewPromise, NewMessage, NewLone, NewDraw, Learns, Performs, perform, Move, Opened, Stepped, Swallowed, Says, AnyNotice, Nobody, went, without, hear, hear_message, Follows, IsHonest}
+use Rattle.law_run.proofs.Honest.{lifted}
 use Rattle.law_hostile.specs.Hostile as hostile
 use Rattle.law_hostile.specs.Hostile.{May, Lawful, IsHostile, IsReached}
 use Rattle.law_hostile.proofs.Links.{with_link_holds, found_holds, push_all_holds}

@@ -10,10 +10,10 @@ use Rattle.law_name.proofs.Facts.{all_map, all_end, note_up}
 use Rattle.law_name.proofs.Care.{parts_up}
 use Rattle.law_name.proofs.Among.{is_made_up}
 use Rattle.law_name.proofs.Run.{Stands, VatStands, LinkStands, Told, Had, Inside, low_at, sound_ready, knows_ready, step_stands, open_stands}
-use Rattle.law_rest.proofs.RunLift.{put_at_or, links_made}
-use Rattle.law_rest.proofs.OwnRuns.{begins_stand}
-use Rattle.law_move.specs.Moves.{Move, Opened, Stepped, Swallowed, Says, AnyNotice, went, without, hear}
-use Rattle.law_move.proofs.Honest.{lifted}
+use Rattle.law_reference.proofs.RunLift.{put_at_or, links_made}
+use Rattle.law_reference.proofs.OwnRuns.{begins_stand}
+use Rattle.law_run.specs.Moves.{Move, Opened, Stepped, Swallowed, Says, AnyNotice, went, without, hear}
+use Rattle.law_run.proofs.Honest.{lifted}
 use Rattle.law_hostile.specs.Hostile as hostile
 use Rattle.law_hostile.specs.Hostile.{May, Lawful, IsHostile, IsReached}
 use Rattle.law_hostile.proofs.Deeds.{GrewTo, OkAt, says_goes, hear_goes}

@@ -12,10 +12,10 @@ use Rattle.law_run.specs.Runs.{EachVat}
 use Rattle.law_run.proofs.RunKeeps.{IsKeptInRuns, each_kept, run_keeps, opens_keep}
 use Rattle.law_name.specs.Names.{Once, NoteOk}
 use Rattle.law_name.proofs.Run.{Stands, Told}
-use Rattle.law_rest.proofs.RunLift.{StepsKeep, InVats, put_at_or, step_keeps, opened_keeps, all_allowed}
-use Rattle.law_rest.proofs.Gentle.{IsGentle}
-use Rattle.law_move.specs.Moves.{Deed, NewObject, NewPromise, NewMessage, NewLone, NewDraw, Learns, Performs, perform, Opened, Stepped, Swallowed, Says, AnyNotice, went, without, hear, hear_message}
-use Rattle.law_move.proofs.Honest.{lifted}
+use Rattle.law_reference.proofs.RunLift.{StepsKeep, InVats, put_at_or, step_keeps, opened_keeps, all_allowed}
+use Rattle.law_reference.proofs.Gentle.{IsGentle}
+use Rattle.law_run.specs.Moves.{Deed, NewObject, NewPromise, NewMessage, NewLone, NewDraw, Learns, Performs, perform, Opened, Stepped, Swallowed, Says, AnyNotice, went, without, hear, hear_message}
+use Rattle.law_run.proofs.Honest.{lifted}
 use Rattle.law_hostile.specs.Hostile.{May, Lawful, IsHostile, IsReached, Leads}
 use Rattle.law_hostile.proofs.Known.{Moves, left_stands, reached_stands}
 

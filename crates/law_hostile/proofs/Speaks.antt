@@ -5,7 +5,7 @@ use Rattle.def_machine.specs.State.{Unsettled, Vat}
 use Rattle.def_run.specs.World as world
 use Rattle.def_run.specs.World.{Script, Program, Link, World, readied, opened_world}
 use Rattle.law_name.specs.Names.{opened_names}
-use Rattle.law_move.specs.Moves.{NewMessage, Says, went, opened_moves}
+use Rattle.law_run.specs.Moves.{NewMessage, Says, went, opened_moves}
 use Rattle.law_hostile.specs.Hostile.{a_note, IsReached, HostileVatsSpeak}
 
 other : suc zero ≡ zero → ⊥

@@ -9,15 +9,15 @@ use Rattle.def_run.specs.World as world
 use Rattle.def_run.specs.World.{Script, readied, names}
 use Rattle.law_run.proofs.RunKeeps.{IsKeptInRuns}
 use Rattle.law_name.specs.Names.{names_in}
-use Rattle.law_rest.specs.Views.{ViewsWait}
-use Rattle.law_rest.proofs.ViewsGo.{views_gentle, go_same, ViewsGo}
-use Rattle.law_rest.proofs.ViewsRuns.{new_gifts, tells_none, views_wait_in_runs}
-use Rattle.law_rest.proofs.ViewsSteps.{views_taking, views_opening, views_notice, views_arrive}
-use Rattle.law_rest.proofs.OwnRuns.{Any, own_keep, begins_own, InScript}
-use Rattle.law_rest.proofs.RunLift.{StepsKeep}
+use Rattle.law_reference.specs.Views.{ViewsWait}
+use Rattle.law_reference.proofs.ViewsGo.{views_gentle, go_same, ViewsGo}
+use Rattle.law_reference.proofs.ViewsRuns.{new_gifts, tells_none, views_wait_in_runs}
+use Rattle.law_reference.proofs.ViewsSteps.{views_taking, views_opening, views_notice, views_arrive}
+use Rattle.law_reference.proofs.OwnRuns.{Any, own_keep, begins_own, InScript}
+use Rattle.law_reference.proofs.RunLift.{StepsKeep}
 use Rattle.law_hostile.specs.Hostile as hostile
 use Rattle.law_hostile.proofs.Lifts.{IsKeptByDeeds, single_deeds, gentle_deeds, leads_each, says_keeps, hear_keeps, reached_all}
-use Rattle.law_move.proofs.Honest.{honest_reached}
+use Rattle.law_run.proofs.Honest.{honest_reached}
 use Rattle.law_hostile.proofs.Known.{names_are_known}
 use Rattle.law_hostile.proofs.Ends.{heard_own, runs_are_reached, notes_name_their_ends, deeds_own, ready_clean, said_its}
 

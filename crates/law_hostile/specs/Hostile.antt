@@ -6,14 +6,14 @@ use Rattle.def_run.specs.World.{Script, Link, World, put_at, link_at, names, rea
 use Rattle.law_name.specs.Names.{Bit, Named, Mail, Drew, At, Off, Entered, Owns, Gave, AllOf, IsAmong, IsMade, IsHad, NoteOk, GoesOk, Everywhere, names_in}
 use Rattle.law_name.specs.Runs.{KnowsOnce}
 use Rattle.law_name.specs.Runs as old_names
-use Rattle.law_rest.specs.Notes as old_notes
-use Rattle.law_rest.specs.Notes.{IsBetween, LinkFits, Carries, LinkCarries}
-use Rattle.law_rest.specs.Views.{ViewsWait}
-use Rattle.law_rest.specs.Own.{Own}
-use Rattle.law_answer.specs.Behind.{Bears, ComesFirst}
+use Rattle.law_reference.specs.Notes as old_notes
+use Rattle.law_reference.specs.Notes.{IsBetween, LinkFits, Carries, LinkCarries}
+use Rattle.law_reference.specs.Views.{ViewsWait}
+use Rattle.law_reference.specs.Own.{Own}
+use Rattle.law_reference.specs.Behind.{Bears, ComesFirst}
 use Rattle.law_machine.specs.Laws.{SettledStays, NoticedStays}
 use Rattle.law_run.specs.Runs.{EachVat}
-use Rattle.law_move.specs.Moves.{Deed, NewObject, NewPromise, NewMessage, NewLone, NewDraw, Learns, Move, Reached, AnyNotice, perform}
+use Rattle.law_run.specs.Moves.{Deed, NewObject, NewPromise, NewMessage, NewLone, NewDraw, Learns, Move, Reached, AnyNotice, perform}
 
 -- its host, or the vat, is one of so many
 abbrev pub IsBelow : ℕ → Bit Name → Type 0

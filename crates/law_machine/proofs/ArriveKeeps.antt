@@ -6,9 +6,9 @@ use Rattle.def_machine.specs.Refs.{Place}
 use Rattle.def_machine.specs.Arrive as arrive
 use Rattle.def_machine.specs.Arrive.{Incoming, Old, New}
 use Rattle.def_machine.specs.Receive.{Sight, receive}
-use Rattle.law_walk.proofs.Walks.{InArrive, InArriveUnder}
-use Rattle.law_walk.proofs.Blocks.{arrive_of, arrive_under_of}
-use Rattle.law_walk.proofs.ArriveWalk.{arrive_walks, walk_learn_name, walk_learn, walk_learn_all, walk_make_list, walk_have_gift, walk_break_orphan, walk_tell_asker, walk_arrive_ask, walk_view_there, walk_shorten_to, walk_notice_name, walk_notice_gift, walk_arrive, walk_receive, walk_notice}
+use Rattle.law_machine.proofs.Walks.{InArrive, InArriveUnder}
+use Rattle.law_machine.proofs.Blocks.{arrive_of, arrive_under_of}
+use Rattle.law_machine.proofs.ArriveWalk.{arrive_walks, walk_learn_name, walk_learn, walk_learn_all, walk_make_list, walk_have_gift, walk_break_orphan, walk_tell_asker, walk_arrive_ask, walk_view_there, walk_shorten_to, walk_notice_name, walk_notice_gift, walk_arrive, walk_receive, walk_notice}
 use Rattle.law_machine.proofs.Keeps.{Keeps, KeepsBy, IsKept, IsKeptUnder, keeps_closed, keeps_singles, keeps_singles_under}
 use Rattle.law_machine.proofs.RefsKeeps.{keeps_refs, keeps_in_refs, keeps_in_refs_under, keeps_settling}
 

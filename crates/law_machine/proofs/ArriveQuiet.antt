@@ -4,7 +4,7 @@ use Rattle.def_machine.specs.Values.{Naming}
 use Rattle.def_machine.specs.State.{Note}
 use Rattle.def_machine.specs.Arrive as arrive
 use Rattle.def_machine.specs.Arrive.{Incoming}
-use Rattle.law_walk.proofs.ArriveWalk.{walk_arrive, walk_notice}
+use Rattle.law_machine.proofs.ArriveWalk.{walk_arrive, walk_notice}
 use Rattle.law_machine.proofs.Quiet.{Quiet, QuietBy, quiet_closed, quiet_in_refs, quiet_in_refs_under, quiet_settling, quiet_in_arrive, quiet_in_arrive_under}
 
 module _ {N W : Type 0} (K : Naming N W) where

@@ -10,11 +10,11 @@ use Rattle.def_machine.specs.Calls as calls
 use Rattle.def_machine.specs.Eval as eval
 use Rattle.def_machine.specs.Scopes.{Answer, Answers, Evaluator, Caller, Body, Case, AuditionAsk, GetsForm, GetsGuard, Asks, NoAuditionAsk, ResolverAsk, Resolves, Smashes, NoResolverAsk}
 use Rattle.def_kernel.specs.declared.node.Node.{Node}
-use Rattle.law_walk.proofs.Walks.{where_some}
-use Rattle.law_walk.proofs.Walks.{InEval, InEvalUnder}
-use Rattle.law_walk.proofs.Blocks.{eval_of, eval_under_of, leaves}
-use Rattle.law_walk.proofs.EvalWalk as walk
-use Rattle.law_walk.proofs.EvalWalk.{eval_walks}
+use Rattle.law_machine.proofs.Walks.{where_some}
+use Rattle.law_machine.proofs.Walks.{InEval, InEvalUnder}
+use Rattle.law_machine.proofs.Blocks.{eval_of, eval_under_of, leaves}
+use Rattle.law_machine.proofs.EvalWalk as walk
+use Rattle.law_machine.proofs.EvalWalk.{eval_walks}
 use Rattle.law_machine.proofs.Keeps.{Keeps, KeepsBy, IsKept, IsKeptUnder, keeps_closed, keeps_ends, keeps_singles, keeps_singles_under, keeps_kill, keeps, keeps_bind, keeps_then, keeps_activation, keeps_tell}
 use Rattle.law_machine.proofs.RefsKeeps.{keeps_refs, keeps_resolve}
 

@@ -1,8 +1,8 @@
 -- What each single change of a vat keeps, all that a vat does keeps: proved once, for any relation between states.
 use Rattle.std.proofs.Common.{ℕ, suc, ◌-◌, Bool, true, false, List, [], ◌∷◌, ◌++◌, Option, Some, None, if◌then◌else◌, length}
 use Rattle.std.specs.Prelude.{nat_le}
-use Rattle.law_walk.proofs.Walks.{Property, Holds, IsClosed, IsEnding}
-use Rattle.law_walk.proofs.Blocks.{Singles, SinglesUnder}
+use Rattle.law_machine.proofs.Walks.{Property, Holds, IsClosed, IsEnding}
+use Rattle.law_machine.proofs.Blocks.{Singles, SinglesUnder}
 use Rattle.law_machine.specs.Steps.{After}
 use Rattle.def_machine.specs.Values.{Words, Value, Naming, Coming, Mailing, IsOwn, IsAnswer}
 use Rattle.def_machine.specs.State.{Thing, Cell, Message, Happened, Vat, Stop, Done, Gives, Throws, Ejects, Stops, Act, ◌>>=◌, ◌>>◌, and_then, for_some, end_by, ending, each, give, throw, stop, eject, look, tell, spend, spent, new_activation, new_thing, kill, change, dead, new_slot, holding, write_slot, new_list, enqueue, Change, Note, Put, GiftEntry, send_out, new_gift, with_opened, open_gift, mark, draws, with_change, alter, come, mail, new_promise, new_message, draw, begun, new_lone_message}

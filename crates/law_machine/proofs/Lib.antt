@@ -1,3 +1,9 @@
+pub mod Walks
+pub mod RefsWalk
+pub mod ArriveWalk
+pub mod EvalWalk
+pub mod Blocks
+pub mod Whole
 pub mod Keeps
 pub mod RefsKeeps
 pub mod ArriveKeeps

@@ -1,9 +1,9 @@
 -- What gives or stops: it throws nothing and leaves by no ejector.
 use Rattle.std.proofs.Common.{ℕ, Bool, true, false, List, Option, Some, None}
 use Rattle.std.specs.Prelude.{nat_le}
-use Rattle.law_walk.proofs.Walks.{Property, Holds, IsClosed, InRefs, InRefsUnder, InSettling, InSending, InArrive, InArriveUnder, walk, walk_then}
-use Rattle.law_walk.proofs.RefsWalk.{settles_by_lines}
-use Rattle.law_walk.proofs.ArriveWalk.{lists_by_line}
+use Rattle.law_machine.proofs.Walks.{Property, Holds, IsClosed, InRefs, InRefsUnder, InSettling, InSending, InArrive, InArriveUnder, walk, walk_then}
+use Rattle.law_machine.proofs.RefsWalk.{settles_by_lines}
+use Rattle.law_machine.proofs.ArriveWalk.{lists_by_line}
 use Rattle.law_machine.specs.Steps.{IsQuiet}
 use Rattle.def_machine.specs.Values.{Words, Value, Naming, Coming, Mailing}
 use Rattle.def_machine.specs.State.{Sends, Reacts, ListCame, Ask, Shorten, Settles, Views, Settle, See, Message, Happened, Vat, Stop, Done, Gives, Throws, Ejects, Stops, Act, ◌>>=◌, and_then, end_by, ending, give, stop, look, tell, spend, spent, new_activation, new_list, enqueue, Change, Note, send_out, new_gift, open_gift, mark, draws, alter, come, mail, new_message, draw, new_lone_message}

@@ -4,9 +4,9 @@ use Rattle.def_machine.specs.Values.{Words, Value, Naming}
 use Rattle.def_machine.specs.State.{Message, Standing, Known, Passeds, Vat, Act, Settle, Settles}
 use Rattle.def_machine.specs.Refs as refs
 use Rattle.def_machine.specs.Refs.{Place, Near, Mine, Away, Gone}
-use Rattle.law_walk.proofs.Walks.{InRefs, InRefsUnder, InSettling, InSending}
-use Rattle.law_walk.proofs.Blocks.{refs_of, refs_under_of, settling_of, sending_of}
-use Rattle.law_walk.proofs.RefsWalk.{refs_walks, walk_pass_all, walk_address_all, walk_pass_on, walk_inform_of, walk_send_on, walk_inform, walk_settle_at, walk_settle, walk_resolve, walk_send, walk_send_only, walk_react, walk_settle_known, walk_settle_standing, walk_settle_entry, walk_settle_one}
+use Rattle.law_machine.proofs.Walks.{InRefs, InRefsUnder, InSettling, InSending}
+use Rattle.law_machine.proofs.Blocks.{refs_of, refs_under_of, settling_of, sending_of}
+use Rattle.law_machine.proofs.RefsWalk.{refs_walks, walk_pass_all, walk_address_all, walk_pass_on, walk_inform_of, walk_send_on, walk_inform, walk_settle_at, walk_settle, walk_resolve, walk_send, walk_send_only, walk_react, walk_settle_known, walk_settle_standing, walk_settle_entry, walk_settle_one}
 use Rattle.law_machine.proofs.Keeps.{Keeps, KeepsBy, IsKept, IsKeptUnder, keeps, keeps_closed, keeps_singles, keeps_singles_under, keeps_then, keeps_tell, keeps_alter}
 
 abbrev pub GoodSettler : {N : Type 0} → (Vat N → Vat N → Type 0) → (N → Value N → Act N (Unit {0})) → Type 0

@@ -18,7 +18,7 @@ use Rattle.law_order.proofs.Sends.{none_some, some_same, pushed_shut, pushed_ope
 use Rattle.law_order.proofs.Adding.{RefersSame, refers_same}
 use Rattle.law_order.proofs.Pushing.{AllGrow, push_grows, push_append}
 use Rattle.law_order.proofs.Amid.{stands_grow, onward_same}
-use Rattle.law_order.proofs.Keeping.{Any, FitsLane, all_put_on, message_all, onward_leaves, links_still, stands_leaves}
+use Rattle.law_order.proofs.OrderKeeping.{Any, FitsLane, all_put_on, message_all, onward_leaves, links_still, stands_leaves}
 
 -- ---- links that are not cut
 

@@ -14,7 +14,7 @@ use Rattle.law_order.specs.Places.{queued, held_in, aimed, by_host, by_follow, o
 use Rattle.law_order.specs.Worlds.{IsWaiting}
 use Rattle.law_order.specs.Resolve.{StandsNear, OnlyWaits, IsLoose, WaitingKeeps}
 use Rattle.law_order.proofs.Changes.{growing_keeps}
-use Rattle.law_order.proofs.Passing.{Found, here, apart, none, found, waiting_same}
+use Rattle.law_order.proofs.OrderPassing.{Found, here, apart, none, found, waiting_same}
 
 -- ---- following
 

@@ -13,7 +13,7 @@ use Rattle.law_order.specs.Places.{queued, held_in, delivered, opens, shortens, 
 use Rattle.law_order.specs.Arrivals.{in_front, keeping, IsOpenWay, IsLedTo, IsShut, OpenedGiftsTurn}
 use Rattle.law_order.proofs.Sends.{none_some, some_same, get_put, link_here, link_behind}
 use Rattle.law_order.proofs.Amid.{Put, put_either}
-use Rattle.law_order.proofs.Keeping.{LinkLeaves, AllLeave, Same, each_same, place_front, all_leave, all_put_on, links_still, gift_leaves, stands_leaves, front_link}
+use Rattle.law_order.proofs.OrderKeeping.{LinkLeaves, AllLeave, Same, each_same, place_front, all_leave, all_put_on, links_still, gift_leaves, stands_leaves, front_link}
 use Rattle.law_order.proofs.Arrived.{IsOpen, all_open, onward_some}
 
 -- ---- references do not hang on the gifts of a vat

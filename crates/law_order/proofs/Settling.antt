@@ -7,7 +7,7 @@ use Rattle.law_order.specs.Places.{ways, amid}
 use Rattle.law_order.specs.Settle.{passed_by, onward_to, led_to, emptied, KeepsBy, SentOn, aimed_at, IsReady, SendingOnKeeps, SettlingKeeps}
 use Rattle.law_order.proofs.Named.{Test, test_is}
 use Rattle.law_order.proofs.Turned.{turning_keeps, passing_by_keeps}
-use Rattle.law_order.proofs.Passing.{settled_is_passed}
+use Rattle.law_order.proofs.OrderPassing.{settled_is_passed}
 
 abbrev IsNotFree : Place → Type 0
 IsNotFree Nowhere = Unit {0}

@@ -14,7 +14,7 @@ use Rattle.law_order.proofs.Sends.{none_some, some_same, pushed_shut, pushed_ope
 use Rattle.law_order.proofs.Adding.{RefersSame, refers_same}
 use Rattle.law_order.proofs.Pushing.{all_same, place_more, any_more, delivered_more}
 use Rattle.law_order.proofs.Amid.{stands_grow, onward_same}
-use Rattle.law_order.proofs.Keeping.{LinkLeaves, AllLeave, Same, each_same, link_self, all_self, place_front, all_leave, all_put_on, links_still, gift_leaves, stands_leaves, with_here, with_behind, pushed_link}
+use Rattle.law_order.proofs.OrderKeeping.{LinkLeaves, AllLeave, Same, each_same, link_self, all_self, place_front, all_leave, all_put_on, links_still, gift_leaves, stands_leaves, with_here, with_behind, pushed_link}
 use Rattle.law_order.proofs.Arrived.{IsOpen, all_open, mid_onward, outbox_refers}
 use Rattle.law_order.proofs.Opened.{same_number, second_false}
 

@@ -9,3 +9,5 @@ pub mod Settle
 pub mod Settlings
 pub mod Resolve
 pub mod Arrivals
+pub mod Steps
+pub mod OrderSendPassing

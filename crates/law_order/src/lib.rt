@@ -1,6 +1,8 @@
-//! Laws of the machine about the order in which messages are delivered.
+//! The order of messages (E-order), and what is sent.
 #![tactic(auto)]
 
 pub mod arrive;
 pub mod order;
+pub mod passing;
+pub mod send;
 pub mod settle;

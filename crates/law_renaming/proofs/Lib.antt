@@ -9,3 +9,5 @@ pub mod SimPerform
 pub mod SimEval
 pub mod Steps
 pub mod Example
+pub mod Same
+pub mod Numbered

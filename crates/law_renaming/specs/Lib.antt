@@ -3,3 +3,4 @@ pub mod EvalMaps
 pub mod Stands
 pub mod Renaming
 pub mod Example
+pub mod Alone

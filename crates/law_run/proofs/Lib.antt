@@ -1,3 +1,5 @@
 pub mod RunKeeps
 pub mod RunLaws
 pub mod BreakRuns
+pub mod Honest
+pub mod Told

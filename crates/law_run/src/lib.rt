@@ -1,4 +1,5 @@
-//! Laws of every run of the machine.
+//! Laws of runs, and runs as moves, in which vats that are not honest may say any note.
 #![tactic(auto)]
 
+pub mod moves;
 pub mod runs;

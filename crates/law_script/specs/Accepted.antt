@@ -8,8 +8,8 @@ use Rattle.ev_script.specs.declared.script.Entry.TheVariants.{Turn, Carry, Cut, 
 use Rattle.ev_script.specs.declared.script.Script.{Script}
 use Rattle.ev_script.specs.declared.script.VatScript.{VatScript}
 use Rattle.law_name.specs.Runs.{KnowsOnce}
-use Rattle.law_rest.specs.Cuts.{NoticesFollowCuts}
-use Rattle.law_whole_fate.specs.Runs.{KnowsVats}
+use Rattle.law_reference.specs.Cuts.{NoticesFollowCuts}
+use Rattle.law_fate.specs.WholeFateRuns.{KnowsVats}
 
 abbrev pub machine_entry : Entry → world.Entry
 machine_entry (Turn v) = world.Turn v

@@ -1,5 +1,0 @@
-use Rattle.law_alike.proofs.OrderRuns.{gifts_asked_first}
-use Rattle.law_alike.proofs.alike.gifts_are_asked_for_first.Goals as goal
-
-pub returns : goal.returns
-returns c = gifts_asked_first

@@ -1,5 +1,0 @@
-use Rattle.law_alike.proofs.Laws.{new_notes_alike}
-use Rattle.law_alike.proofs.alike.new_notes_are_read_alike.Goals as goal
-
-pub returns : goal.returns
-returns c = new_notes_alike

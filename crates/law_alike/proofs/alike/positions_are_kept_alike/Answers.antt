@@ -1,5 +1,0 @@
-use Rattle.law_alike.proofs.Arrivals.{positions_kept_alike}
-use Rattle.law_alike.proofs.alike.positions_are_kept_alike.Goals as goal
-
-pub returns : goal.returns
-returns c = positions_kept_alike

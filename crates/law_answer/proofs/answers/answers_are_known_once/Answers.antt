@@ -1,5 +1,0 @@
-use Rattle.law_answer.proofs.OnceLaws.{answers_are_known_once}
-use Rattle.law_answer.proofs.answers.answers_are_known_once.Goals as goal
-
-pub returns : goal.returns
-returns c = answers_are_known_once

@@ -1,5 +1,0 @@
-use Rattle.law_answer.proofs.FollowRuns.{answers_follow_messages}
-use Rattle.law_answer.proofs.answers.answers_follow_messages.Goals as goal
-
-pub returns : goal.returns
-returns c = answers_follow_messages

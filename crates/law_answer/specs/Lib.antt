@@ -1,4 +1,0 @@
-pub mod Behind
-pub mod Bring
-pub mod Once
-pub mod Whole

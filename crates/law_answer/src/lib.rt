@@ -1,4 +1,0 @@
-//! Laws of names that are no gifts, in the notes of every run.
-#![tactic(auto)]
-
-pub mod answers;

@@ -1,5 +1,0 @@
-use Rattle.law_apart.proofs.HideRuns.{gifts_hidden}
-use Rattle.law_apart.proofs.apart.gifts_under_way_are_hidden.Goals as goal
-
-pub returns : goal.returns
-returns c = gifts_hidden

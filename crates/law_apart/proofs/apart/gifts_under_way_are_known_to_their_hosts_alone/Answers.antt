@@ -1,5 +1,0 @@
-use Rattle.law_apart.proofs.HideRuns.{known_alone}
-use Rattle.law_apart.proofs.apart.gifts_under_way_are_known_to_their_hosts_alone.Goals as goal
-
-pub returns : goal.returns
-returns c = known_alone

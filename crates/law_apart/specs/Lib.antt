@@ -1,3 +1,0 @@
-pub mod Hiding
-pub mod Asking
-pub mod Whole

@@ -1,5 +1,0 @@
-use Rattle.law_carry.proofs.RunLight.{carries_and_weight}
-use Rattle.law_carry.proofs.carry.carries_and_weight.Goals as goal
-
-pub returns : goal.returns
-returns c = carries_and_weight

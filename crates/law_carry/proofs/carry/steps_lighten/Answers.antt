@@ -1,5 +1,0 @@
-use Rattle.law_carry.proofs.StepsLight.{steps_lighten}
-use Rattle.law_carry.proofs.carry.steps_lighten.Goals as goal
-
-pub returns : goal.returns
-returns c = steps_lighten

@@ -1,5 +1,0 @@
-use Rattle.law_carry.proofs.RunLight.{two_carries_at_most}
-use Rattle.law_carry.proofs.carry.two_carries_at_most.Goals as goal
-
-pub returns : goal.returns
-returns c = two_carries_at_most

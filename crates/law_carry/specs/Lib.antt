@@ -1,5 +1,0 @@
-pub mod Carry
-pub mod Sound
-pub mod Laws
-pub mod Runs
-pub mod Example

@@ -1,4 +1,0 @@
-//! Laws of the machine about how often a message is carried.
-#![tactic(auto)]
-
-pub mod carry;

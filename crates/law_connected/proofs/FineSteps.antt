@@ -1,0 +1,258 @@
+-- The lines of every step are connected.
+use Rattle.std.proofs.Common.{◌≡◌, ◌≤◌, arith, length, ℕ, zero, suc, true, false, List, [], ◌∷◌, ◌++◌, Option, Some, None, refl, sym, ap, ◌∙◌, subst, map, inl, inr}
+use Rattle.std.specs.Prelude.{slice_get}
+use Rattle.std.proofs.lemmas.Bool.{eq-eqb}
+use Rattle.def_machine.specs.Values.{Words, Value, Null, Flag, Number, Letter, Text, Prim, Broken, Items, Ref, Name, Naming, naming, numbering, spot_of, local_spot, Spot, Own, Foreign, NoObject}
+use Rattle.def_machine.specs.State.{Binding, Scope, Thing, Made, Ejector, Audition, Resolver, Message, Standing, Unsettled, WaitsOn, Viewed, Settled, Known, Happened, Took, Finished, Threw, Vat, Done, Gives, Throws, Ejects, Stops, Astray, ◌>>=◌, ◌>>◌, and_then, end_by, ending, give, throw, stop, look, tell, new_activation, for_some}
+use Rattle.def_machine.specs.Refs.{standing_of, settle, resolve}
+use Rattle.def_machine.specs.Native.{asked, primitive}
+use Rattle.def_machine.specs.Scopes.{Evaluator, members_of}
+use Rattle.def_machine.specs.Perform as perform
+use Rattle.def_machine.specs.Calls as calls
+use Rattle.def_machine.specs.Eval as eval
+use Rattle.def_kernel.specs.declared.node.Node.{Node}
+use Rattle.law_machine.specs.Steps.{Step, Opens, Takes, Receives, Notices, does, After}
+use Rattle.law_connected.specs.Known.{Item, AValue, IsAmong, AllOf, itself as at_itself, Reaches, Runs, took, initial, endowed, told, settled, viewed, tells, by, values, data_of, parts_of_all}
+use Rattle.law_connected.specs.Connected.{served, open_from, open_after, uses, Connected, given_to, held_from}
+use Rattle.law_connected.specs.Liveness.{live_at, is_live}
+use Rattle.law_connected.proofs.Traces.{IsTold, among_last, TracesBy, traces_whole}
+use Rattle.law_machine.proofs.Whole.{whole_arrive, whole_notice}
+use Rattle.law_connected.specs.Activations.{Rises}
+use Rattle.law_connected.specs.News.{thing_made, slot_made, list_made, MadeNew, StepsMakeNew}
+use Rattle.law_connected.specs.UseLaws.{StepsConnect}
+use Rattle.law_connected.specs.Told.{ObjectsTold, SlotsTold, ReadsTold, StepsTell}
+use Rattle.law_connected.proofs.ArriveIdle.{idle_arrive, idle_notice}
+use Rattle.law_connected.proofs.Ground.{Ground, opens, with_line, opens_last, held, Has, Knew, Good, grows_same, makes_none, good_line, good_by}
+use Rattle.law_connected.proofs.Fine.{Fact, Nothing, Also, IsAct, IsValue, AreValues, IsScope, answer, nothing, Gets, Ends, Fine, passes_same, widen, fine_bind, fine_give, then_line, fine_left, fine_idle, fine_some_name}
+use Rattle.law_connected.proofs.Looks.{got_itself, got_asked}
+use Rattle.law_connected.proofs.Rules.{fine_settle, fine_resolve, nouns_from}
+use Rattle.law_connected.proofs.FineCalls.{GoodEvaluator, fine_data_answer, fine_perform, fine_resolver_answer, fine_run_object, fine_call, audition_dead, ejector_dead}
+use Rattle.law_connected.proofs.FineEval.{good_evaluator}
+
+no_less : (n : ℕ) → n ≤ n
+no_less n = omega arith
+
+true_false : true ≡ false → ⊥
+true_false e = cc
+
+some_is : {A : Type 0} (x y : A) → Some x ≡ Some y → x ≡ y
+some_is x y e = cc
+
+live_found : {N : Type 0} (ts : List (Thing N)) (i : ℕ) (t : Thing N) → slice_get ts i ≡ Some t → live_at ts i ≡ is_live t
+unfolding live_at
+live_found [] i t e = cc
+live_found (x ∷ ts) zero t e = ap is_live (some_is x t e)
+live_found (x ∷ ts) (suc i) t e = live_found ts i t e
+
+all_from : {N A : Type 0} (P : A → Type 0) (f : A → Item N) (xs : List A) (Q : Item N → Type 0) → ((x : A) → Q (f x) → P x) → ((i : Item N) → IsAmong i (map f xs) → Q i) → AllOf P xs
+all_from P f [] Q g h = tt
+all_from P f (x ∷ xs) Q g h = (g x (h (f x) (inl refl)), all_from P f xs Q g (λ i m. h i (inr m)))
+
+pub among_left : {A : Type 0} (x : A) (xs ys : List A) → IsAmong x xs → IsAmong x (xs ++ ys)
+among_left x [] ys m = absurd m
+among_left x (z ∷ xs) ys (inl e) = inl e
+among_left x (z ∷ xs) ys (inr m) = inr (among_left x xs ys m)
+
+pub among_right : {A : Type 0} (x : A) (xs ys : List A) → IsAmong x ys → IsAmong x (xs ++ ys)
+among_right x [] ys m = m
+among_right x (z ∷ xs) ys m = inr (among_right x xs ys m)
+
+by_among : {N : Type 0} (a : ℕ) (i : Item N) (is : List (Item N)) → IsAmong i is → IsAmong (a, i) (by a is)
+unfolding by
+by_among a i [] m = absurd m
+by_among a i (j ∷ is) (inl e) = inl (ap (λ (k : Item _). (a, k)) e)
+by_among a i (j ∷ is) (inr m) = inr (by_among a i is m)
+
+module _ {N W : Type 0} (K : Naming N W) (E : Ground N) (spots : (i : ℕ) → K.spot (K.object i) ≡ Own i) (a : ℕ) where
+  -- ---- the end of a turn
+
+  finished : {C : Fact N} (o : Option N) (v : Value N) → Gets K E a C (IsValue v) → Fine K E a C (tell (Finished a v) >> for_some o (λ p. resolve K p v) (give tt)) nothing
+  unfolding uses by open_after
+  finished o v g = then_line K E a {D = Nothing} (Finished a v) refl refl refl (λ s. refl) (λ s i c. ((inl (g.at s c), tt), tt)) (λ s c. tt) (λ s c. tt) (fine_left K E a (fine_some_name K E a o (λ p. fine_resolve K E a p v) (fine_give K E a tt (record { at = λ s c. tt }))))
+
+  threw : {C : Fact N} (o : Option N) (t : Words) → Fine K E a C (tell (Threw a t) >> for_some o (λ p. settle K p (Broken t)) (give tt)) nothing
+  unfolding uses by open_after
+  threw o t = then_line K E a {D = Nothing} (Threw a t) refl refl refl (λ s. refl) (λ s i c. (tt, tt)) (λ s c. tt) (λ s c. tt) (fine_left K E a (fine_some_name K E a o (λ p. fine_settle K E a p (Broken t)) (fine_give K E a tt (record { at = λ s c. tt }))))
+
+  closes_ends : (o : Option N) (s : Vat N) (d : Done N (Value N)) → Ends K E a IsValue s d → Ends K E a nothing s (end_by (λ v. tell (Finished a v) >> for_some o (λ p. resolve K p v) (give tt)) (λ t. tell (Threw a t) >> for_some o (λ p. settle K p (Broken t)) (give tt)) (λ n v. stop Astray) d)
+  unfolding end_by stop
+  closes_ends o s (Gives v t) h = widen K E a nothing s t ((tell (Finished a v) >> for_some o (λ p. resolve K p v) (give tt)) t) h.0 ((finished o v (got_itself K E a (IsValue v))).after t h.1 h.2)
+  closes_ends o s (Throws q t) h = widen K E a nothing s t ((tell (Threw a q) >> for_some o (λ p. settle K p (Broken q)) (give tt)) t) h.0 ((threw {C = Nothing} o q).after t h.1 tt)
+  closes_ends o s (Ejects n v t) h = h.1
+  closes_ends o s (Stops c t) h = h
+
+  act_itself : {C : Fact N} → Gets K E a C (IsAct a)
+  act_itself = record { at = λ s h. refl }
+
+  -- ---- a turn
+
+  module _ (tree : List Node) (rec : Evaluator N) (good : GoodEvaluator K E rec) (verb : Words) (args : List (Value N)) (s : Vat N) (g : Good K E s) (has : AllOf (Knew K E s a) args) (still : (i : ℕ) → live_at s.things i ≡ false) (none : served (opens s) ≡ None) where
+    not_live : (i : ℕ) (t : Thing N) → slice_get s.things i ≡ Some t → is_live t ≡ true → ⊥
+    not_live i t e l = true_false (sym l ∙ sym (live_found s.things i t e) ∙ still i)
+
+    turn_thing_ends : (i : ℕ) (o : Option (Thing N)) → slice_get s.things i ≡ o → Runs K (held K E s) s.happened a i → Ends K E a IsValue s (calls.turn_thing K tree rec a i o verb args s)
+    unfolding calls.turn_thing calls.thing_answer stop is_live
+    turn_thing_ends i None e r = g
+    turn_thing_ends i (Some (Made node caught stamps)) e r = let here : Scope N = record { act = a; nouns = caught } in
+        (fine_run_object K E spots tree {C = Also (IsScope here) (AreValues args)} rec good (members_of (slice_get tree node)) verb args (record { at = λ s h. h.1 }) here (record { at = λ s h. h.0 })).after s g
+        ((refl, nouns_from K E a s caught (λ k m. endowed i node caught stamps r e m), none), has)
+    turn_thing_ends i (Some (Ejector true)) e r = absurd (not_live i (Ejector true) e refl)
+    turn_thing_ends i (Some (Ejector false)) e r = (ejector_dead K E spots tree {a = a} {C = Nothing} {H = IsValue} i _).after s g tt
+    turn_thing_ends i (Some (Audition true view)) e r = absurd (not_live i (Audition true view) e refl)
+    turn_thing_ends i (Some (Audition false view)) e r = (audition_dead K E spots tree {a = a} {C = Nothing} {H = IsValue} (calls.call K tree rec) a view _).after s g tt
+    turn_thing_ends i (Some (Resolver p)) e r = (fine_resolver_answer K E spots tree {C = Nothing} p _).after s g tt
+
+    turn_spot_ends : (p : Spot) → ((i : ℕ) → p ≡ Own i → Runs K (held K E s) s.happened a i) → Ends K E a IsValue s (calls.turn_spot K tree rec a p verb args s)
+    unfolding calls.turn_spot look ◌>>=◌ and_then stop
+    turn_spot_ends (Own i) r = turn_thing_ends i (slice_get s.things i) refl (r i refl)
+    turn_spot_ends (Foreign w) r = g
+    turn_spot_ends NoObject r = g
+
+    turn_data : (y : Value N) → Knew K E s a y → Ends K E a IsValue s (perform.data_answer K tree (calls.call K tree rec) a y verb args s)
+    turn_data y k = (fine_data_answer K E spots tree {C = Also (IsValue y) (AreValues args)} (calls.call K tree rec) (λ D act i x h v xs j. fine_call K E spots tree {C = D} rec good act i x h v xs j) a act_itself y (record { at = λ s h. h.0 }) verb args (record { at = λ s h. h.1 })).after s g (k, has)
+
+    turn_ends : (y : Value N) → ((i : Item N) → IsAmong i (data_of y) → Has K E s a i) → ((n : N) (i : ℕ) → y ≡ Ref n → K.spot n ≡ Own i → Runs K (held K E s) s.happened a i) → Ends K E a IsValue s (calls.turn_value K tree rec a y verb args s)
+    unfolding calls.turn_value throw data_of
+    turn_ends (Ref n) d r = turn_spot_ends (K.spot n) (λ i e. r n i refl e)
+    turn_ends (Broken p) d r = (passes_same K E a s, g)
+    turn_ends (Prim n) d r = (fine_perform K E spots tree {C = AreValues args} (calls.call K tree rec) (λ D act i x h v xs j. fine_call K E spots tree {C = D} rec good act i x h v xs j) a act_itself (asked (primitive n) verb args) (got_asked K E a (AreValues args) (primitive n) verb args (got_itself K E a (AreValues args)))).after s g has
+    turn_ends Null d r = turn_data Null (d (AValue Null) (inl refl))
+    turn_ends (Flag b) d r = turn_data (Flag b) (d (AValue (Flag b)) (inl refl))
+    turn_ends (Number z) d r = turn_data (Number z) (d (AValue (Number z)) (inl refl))
+    turn_ends (Letter c) d r = turn_data (Letter c) (d (AValue (Letter c)) (inl refl))
+    turn_ends (Text t) d r = turn_data (Text t) (d (AValue (Text t)) (inl refl))
+    turn_ends (Items k) d r = turn_data (Items k) (d (AValue (Items k)) (inl refl))
+
+  abbrev counted : Vat N → Vat N
+  counted s = record s { activations = suc s.activations }
+
+  good_counted : (s : Vat N) → Good K E s → Good K E (counted s)
+  good_counted s g = good_by K E s (counted s) refl refl (grows_same K E s).grown (makes_none K E s (counted s) refl refl) refl g
+
+  no_calls : (s : Vat N) → s.happened ≡ [] → served (opens s) ≡ None
+  unfolding served open_from
+  no_calls s e = ap (λ es. served (open_from [] es)) e
+
+  opening_ends : (tree : List Node) (depth : ℕ) (p : N) (given : List (Binding N)) (s : Vat N) → s.activations ≡ a → s.happened ≡ [] → Good K E s → ((i : Item N) → IsAmong i (parts_of_all (map (λ b. b.bound) given)) → IsAmong (a, i) E.given)
+      → Ends K E a nothing (counted s) (eval.opening K tree depth p given s)
+  unfolding eval.opening eval.closes new_activation ending ◌>>=◌ and_then
+  opening_ends tree depth p given s e n g h = let here : Scope N = record { act = a; nouns = given } in
+      subst (λ b. Ends K E a nothing (counted s) (eval.closes K tree b (Some p) ((eval.evaluator K tree depth).expression 0 (record { act = b; nouns = given }) >>= (λ x. give x.value)) (counted s))) (sym e)
+      (closes_ends (Some p) (counted s) _ ((fine_bind K E a {H = IsValue} answer ((good_evaluator K E spots tree depth).expression a (IsScope here) 0 here (got_itself K E a (IsScope here))) (λ x. fine_give K E a x.value (record { at = λ s h. h.1.0 }))).after (counted s) (good_counted s g)
+      (refl, nouns_from K E a (counted s) given (λ i m. initial (h i m)), no_calls s n)))
+
+  took_good : (r : Vat N) (m : Message N) → Good K E r → Good K E (with_line r (Took a m))
+  unfolding uses
+  took_good r m g = good_line K E r (Took a m) refl refl refl g (tt, tt) tt
+
+  took_none : (r : Vat N) (m : Message N) → served (opens r) ≡ None → served (opens (with_line r (Took a m))) ≡ None
+  unfolding open_after
+  took_none r m e = ap served (opens_last r (Took a m)) ∙ e
+
+  took_told : (r : Vat N) (m : Message N) (i : Item N) → IsAmong i (map AValue m.args ++ data_of m.target) → Has K E (with_line r (Took a m)) a i
+  unfolding tells values
+  took_told r m i j = told (Took a m) (among_last r.happened (Took a m)) (by_among a i (map AValue m.args ++ data_of m.target) j)
+
+  taking_ends : (tree : List Node) (depth : ℕ) (m : Message N) (s : Vat N) → s.activations ≡ a → s.happened ≡ [] → ((i : ℕ) → live_at s.things i ≡ false) → Good K E s → Ends K E a nothing (with_line (counted s) (Took a m)) (eval.taking K tree depth m s)
+  unfolding eval.taking eval.closes new_activation ending tell ◌>>=◌ ◌>>◌ and_then
+  taking_ends tree depth m s e n still g = let r : Vat N = counted s in let l : Happened N = Took a m in let t : Vat N = with_line r l in
+      subst (λ b. Ends K E a nothing (with_line (counted s) (Took a m)) (eval.closes K tree b m.answer (calls.turn_value K tree (eval.evaluator K tree depth) b m.target m.verb m.args) (with_line (counted s) (Took b m)))) (sym e)
+      (closes_ends m.answer t _ (turn_ends tree (eval.evaluator K tree depth) (good_evaluator K E spots tree depth) m.verb m.args t (took_good r m (good_counted s g))
+      (all_from (Knew K E t a) AValue m.args (Has K E t a) (λ v k. k) (λ i j. took_told r m i (among_left i (map AValue m.args) (data_of m.target) j))) still (took_none r m (no_calls r n)) m.target (λ i j. took_told r m i (among_right i (map AValue m.args) (data_of m.target) j))
+      (λ k i f h. took m (among_last r.happened l) (k, subst (λ z. Reaches K E.before t.happened z (Ref k)) (sym f) at_itself, h))))
+
+module _ {N W : Type 0} (K : Naming N W) (spots : (i : ℕ) → K.spot (K.object i) ≡ Own i) where
+  first_told : (ks : List (Known N)) (so : List (Happened N)) (x : Standing N) (n : N) → standing_of K ks n ≡ x → IsTold K ks so n x
+  first_told ks so (Settled y) n e = settled e
+  first_told ks so (Viewed q) n e = viewed e
+  first_told ks so (WaitsOn q) n e = tt
+  first_told ks so Unsettled n e = tt
+
+  -- at the beginning of a step
+  good_first : (given : List (ℕ × Item N)) (s : Vat N) → s.happened ≡ [] → ((i : ℕ) → live_at s.things i ≡ false) → Good K (record { things = s.things; slots = s.slots; lists = length s.lists; before = s.known; given = given }) s
+  unfolding is_live
+  good_first given s e still = record {
+    told = λ n. first_told s.known s.happened (standing_of K s.known n) n refl;
+    lines = subst (λ es. Connected K (held K (record { things = s.things; slots = s.slots; lists = length s.lists; before = s.known; given = given }) s) es) (sym e) tt;
+    judged = λ i view f. absurd (true_false (sym (live_found s.things i (Audition true view) f) ∙ still i));
+    made = λ i node caught stamps f. inl f;
+    cells = λ k c f. inl (c, f, refl);
+    reads = subst (λ es. ReadsTold s.slots [] es) (sym e) tt;
+    things_rise = subst (λ es. Rises (length s.things) (map (thing_made K) es) (length s.things)) (sym e) (no_less (length s.things));
+    slots_rise = subst (λ es. Rises (length s.slots) (map slot_made es) (length s.slots)) (sym e) (no_less (length s.slots));
+    lists_rise = subst (λ es. Rises (length s.lists) (map list_made es) (length s.lists)) (sym e) (no_less (length s.lists));
+  }
+
+  abbrev ground : Step N W → Vat N → Ground N
+  ground step s = record { things = s.things; slots = s.slots; lists = length s.lists; before = s.known; given = given_to s step }
+
+  ends_good : (E : Ground N) (a : ℕ) {A : Type 0} (G : A → Fact N) (r s : Vat N) (d : Done N A) → Ends K E a G s d → After (λ s t. Good K E t) r d
+  ends_good E a G r s (Gives x t) h = h.1
+  ends_good E a G r s (Throws p t) h = h.1
+  ends_good E a G r s (Ejects n v t) h = h.1
+  ends_good E a G r s (Stops c t) h = h
+
+  steps_good : (step : Step N W) (s : Vat N) → s.happened ≡ [] → ((i : ℕ) → live_at s.things i ≡ false) → After (λ r t. Good K (ground step s) t) s (does K step s)
+  unfolding does given_to
+  steps_good (Opens tree depth root given) s e still = let E : Ground N = ground (Opens tree depth root given) s in
+      ends_good E s.activations nothing s (counted K E spots s.activations s) _ (opening_ends K E spots s.activations tree depth root given s refl e (good_first E.given s e still) (λ i m. by_among s.activations i (parts_of_all (map (λ b. b.bound) given)) m))
+  steps_good (Takes tree depth m) s e still = let E : Ground N = ground (Takes tree depth m) s in
+      ends_good E s.activations nothing s _ _ (taking_ends K E spots s.activations tree depth m s refl e still (good_first [] s e still))
+  steps_good (Receives from n) s e still = let E : Ground N = ground (Receives from n) s in
+      ends_good E 0 nothing s s _ ((fine_idle K E 0 {C = Nothing} (idle_arrive K from n) (whole_arrive (TracesBy K s.known) K (traces_whole K s.known) from n)).after s (good_first [] s e still) tt)
+  steps_good (Notices w) s e still = let E : Ground N = ground (Notices w) s in
+      ends_good E 0 nothing s s _ ((fine_idle K E 0 {C = Nothing} (idle_notice K w) (whole_notice (TracesBy K s.known) K (traces_whole K s.known) w)).after s (good_first [] s e still) tt)
+
+  good_connected : (step : Step N W) (s : Vat N) (d : Done N (Unit {0})) → After (λ r t. Good K (ground step s) t) s d → After (λ s t. Connected K (held_from step s t) t.happened) s d
+  unfolding held_from
+  good_connected step s (Gives x t) h = h.lines
+  good_connected step s (Throws p t) h = h.lines
+  good_connected step s (Ejects n v t) h = h.lines
+  good_connected step s (Stops c t) h = h.lines
+
+  good_told : (step : Step N W) (s : Vat N) (d : Done N (Unit {0})) → After (λ r t. Good K (ground step s) t) s d → After (λ s t. ObjectsTold K s t × SlotsTold s t × ReadsTold s.slots [] t.happened) s d
+  good_told step s (Gives x t) h = (h.made, h.cells, h.reads)
+  good_told step s (Throws p t) h = (h.made, h.cells, h.reads)
+  good_told step s (Ejects n v t) h = (h.made, h.cells, h.reads)
+  good_told step s (Stops c t) h = (h.made, h.cells, h.reads)
+
+  good_new : (step : Step N W) (s : Vat N) (d : Done N (Unit {0})) → After (λ r t. Good K (ground step s) t) s d → After (MadeNew K) s d
+  good_new step s (Gives x t) h = (h.things_rise, h.slots_rise, h.lists_rise)
+  good_new step s (Throws p t) h = (h.things_rise, h.slots_rise, h.lists_rise)
+  good_new step s (Ejects n v t) h = (h.things_rise, h.slots_rise, h.lists_rise)
+  good_new step s (Stops c t) h = (h.things_rise, h.slots_rise, h.lists_rise)
+
+  pub steps_make_new : StepsMakeNew K
+  steps_make_new step s e still = good_new step s (does K step s) (steps_good step s e still)
+
+  pub steps_connect : StepsConnect K
+  steps_connect step s e still = good_connected step s (does K step s) (steps_good step s e still)
+
+  pub steps_tell : StepsTell K
+  steps_tell step s e still = good_told step s (does K step s) (steps_good step s e still)
+
+pub named_spots : (word : ℕ → ℕ) (v i : ℕ) → (naming word v).spot ((naming word v).object i) ≡ Own i
+unfolding naming spot_of
+named_spots word v i = ap (λ b. elim b [ true ↦ Own i | false ↦ Foreign v ]) (eq-eqb v v refl)
+
+numbered_spots : (word : ℕ → ℕ) (i : ℕ) → (numbering {W = Name} word).spot ((numbering {W = Name} word).object i) ≡ Own i
+unfolding numbering local_spot
+numbered_spots word i = refl
+
+pub named_connect : (word : ℕ → ℕ) (v : ℕ) → StepsConnect (naming word v)
+named_connect word v step s e still = steps_connect (naming word v) (named_spots word v) step s e still
+
+pub numbered_connect : (word : ℕ → ℕ) → StepsConnect (numbering {W = Name} word)
+numbered_connect word step s e still = steps_connect (numbering {W = Name} word) (numbered_spots word) step s e still
+
+pub named_tell : (word : ℕ → ℕ) (v : ℕ) → StepsTell (naming word v)
+named_tell word v step s e still = steps_tell (naming word v) (named_spots word v) step s e still
+
+pub numbered_tell : (word : ℕ → ℕ) → StepsTell (numbering {W = Name} word)
+numbered_tell word step s e still = steps_tell (numbering {W = Name} word) (numbered_spots word) step s e still
+
+pub named_new : (word : ℕ → ℕ) (v : ℕ) → StepsMakeNew (naming word v)
+named_new word v step s e still = steps_make_new (naming word v) (named_spots word v) step s e still
+
+pub numbered_new : (word : ℕ → ℕ) → StepsMakeNew (numbering {W = Name} word)
+numbered_new word step s e still = steps_make_new (numbering {W = Name} word) (numbered_spots word) step s e still

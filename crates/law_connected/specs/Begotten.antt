@@ -1,0 +1,73 @@
+-- Only connectivity begets connectivity: what a message brings was known to the activation that sent it.
+use Rattle.std.specs.Prelude.{◌≡◌, ℕ, Some, slice_get, List, ◌∷◌, ◌++◌}
+use Rattle.def_machine.specs.Values.{Value, Ref, Name}
+use Rattle.def_machine.specs.State.{Message, Passeds, Happened, Took, Sends, Reacts, Vat, Gives}
+use Rattle.law_machine.specs.Steps.{Step, does}
+use Rattle.def_run.specs.World.{Script, Program, Entry, readied, open_vat, step as enter, Event, Link, World, Goes, names, events_of, begins, open_from, steps_from}
+use Rattle.law_connected.specs.Known.{AValue, AllOf, Knows}
+use Rattle.law_connected.specs.Connected.{LineWell, held_from}
+use Rattle.law_connected.specs.Stems.{LeadsTo, HasLine, HasList, ArgsPass, ComeAll}
+
+-- a world to which opening turns of the vats of the script, each of its own program, and entries lead
+pub data IsReached (script : Script) : World → Type 0 where
+  start : IsReached script (begins script)
+  opened : {w x : World} (v : ℕ) (p : Program) → slice_get script.vats v ≡ Some p → IsReached script w → open_vat script v p w ≡ Goes x → IsReached script x
+  entered : {w x : World} (entry : Entry) (k : ℕ) → IsReached script w → enter script entry k w ≡ Goes x → IsReached script x
+
+-- A line of vat v in the history of a world: an earlier world of the run, the step that the vat, as it was there, took then and that told the line, and the lines of the step before it and after it.
+-- The vat has any queue left, as a turn takes its message from the queue. The lines of the step stand together behind the history of the earlier world.
+pub record LineOf (script : Script) (w : World) (v : ℕ) (e : Happened Name) : Type 0 where
+  pub step : Step Name Name
+  pub from : World
+  pub vat : Vat Name
+  pub queue : List (Message Name)
+  pub before : Vat Name
+  pub after : Vat Name
+  pub so : List (Happened Name)
+  pub rest : List (Happened Name)
+  pub links : List Link
+  pub head : List Event
+  pub later : List Event
+  pub real : IsReached script from
+  pub here : slice_get from.vats v ≡ Some vat
+  pub ready : before ≡ readied from (record vat { queue = queue })
+  pub stepped : does (names script v) step before ≡ Gives tt after
+  pub together : w.history ≡ from.history ++ head ++ events_of links v after.happened ++ later
+  pub told : after.happened ≡ so ++ e ∷ rest
+
+-- it is connected: what it uses was known to the activation that used it, by the lines of the step before it
+abbrev pub IsConnected : Script → World → ℕ → Happened Name → Type 0
+IsConnected script w v e = (l : LineOf script w v e) × LineWell (names script v) (held_from l.step l.before l.after) l.so e
+
+-- each of these was known to the activation when it told the line
+abbrev pub Knew : Script → World → ℕ → ℕ → Happened Name → List (Value Name) → Type 0
+Knew script w v a e xs = (l : LineOf script w v e) × AllOf (λ x. Knows (names script v) (held_from l.step l.before l.after) l.so a (AValue x)) xs
+
+-- A message at vat v: the activation that sent it there, or reacted there, knew each of its arguments, and a target that leads to that of the message; or a note brought it from vat u, where that is so,
+-- and each of its arguments stands for one that it had there.
+pub data Begotten (script : Script) (w : World) : ℕ → Message Name → Type 0 where
+  sent : {v : ℕ} {m : Message Name} (a : ℕ) (x : Value Name) → HasLine w v (Sends a (record m { target = x })) → LeadsTo (HasLine w v) x m.target → Knew script w v a (Sends a (record m { target = x })) (x ∷ m.args) → Begotten script w v m
+  reacted : {v : ℕ} {m : Message Name} (a : ℕ) (x o t : Value Name) → HasLine w v (Reacts a x o (record m { target = t })) → LeadsTo (HasLine w v) t m.target → Knew script w v a (Reacts a x o (record m { target = t })) m.args → Begotten script w v m
+  carried : {v : ℕ} {m : Message Name} (u : ℕ) (n : Message Name) (z : Name) (ys : Passeds Name) → Begotten script w u n → n.id ≡ m.id → n.verb ≡ m.verb
+      → LeadsTo (HasLine w u) n.target (Ref z) → LeadsTo (HasLine w v) (Ref z) m.target
+      → ArgsPass w u n.args ys → ComeAll (HasList w v) ys m.args → Begotten script w v m
+
+-- in a world each line is connected
+abbrev pub LinesConnected : Script → World → Type 0
+LinesConnected script w = (v : ℕ) (e : Happened Name) → HasLine w v e → IsConnected script w v e
+
+-- and each message that was taken is begotten by what its sender knew
+abbrev pub TakenBegotten : Script → World → Type 0
+TakenBegotten script w = (v a : ℕ) (m : Message Name) → HasLine w v (Took a m) → Begotten script w v m
+
+-- in the world after any of the opening turns, and after all of them and any entries
+abbrev pub InEachRun : (Script → World → Type 0) → Type 0
+InEachRun P = (script : Script)
+    → ((ps rest : List Program) (w : World) → script.vats ≡ ps ++ rest → open_from script 0 ps (begins script) ≡ Goes w → P script w)
+    × ((w x : World) (es : List Entry) (k : ℕ) → open_from script 0 script.vats (begins script) ≡ Goes w → steps_from script es k w ≡ Goes x → P script x)
+
+abbrev pub HistoriesAreConnected : Type 0
+HistoriesAreConnected = InEachRun LinesConnected
+
+abbrev pub OnlyConnectivity : Type 0
+OnlyConnectivity = InEachRun TakenBegotten

@@ -1,0 +1,28 @@
+-- In every world of a run each message stems from what was sent.
+use Rattle.std.specs.Prelude.{◌≡◌, ℕ, Some, slice_get}
+use Rattle.def_machine.specs.Values.{Name, Ref}
+use Rattle.def_machine.specs.State.{Message, Known, Note, Deliver, Open, Ask, SettledTo, Elsewhere, Shorten, Took, Vat}
+use Rattle.def_run.specs.World.{Link, Here, World}
+use Rattle.law_connected.specs.Known.{IsAmong, AllOf}
+use Rattle.law_fate.specs.FateRuns.{InRuns}
+use Rattle.law_connected.specs.Stems.{LeadsTo, HasLine, ArgsPass, Stems}
+
+-- a deliver note from vat u: its message is one there, and its arguments stand for those
+abbrev pub NoteStems : World → ℕ → Note Name → Type 0
+NoteStems w u (Deliver i n verb ys) = (m : Message Name) × Stems w u m × (m.id ≡ i.message) × (m.verb ≡ verb) × LeadsTo (HasLine w u) m.target (Ref n) × ArgsPass w u m.args ys
+NoteStems w u (Open i n) = Unit {0}
+NoteStems w u (Ask p i n) = Unit {0}
+NoteStems w u (SettledTo n y) = Unit {0}
+NoteStems w u (Elsewhere n c) = Unit {0}
+NoteStems w u (Shorten n c i) = Unit {0}
+
+-- In a world each message stems from what was sent: in each vat those of its queue, and those that wait or react at a name; those under way; and those that were taken.
+pub record AllStem (w : World) : Type 0 where
+  pub queues : (v : ℕ) (s : Vat Name) → slice_get w.vats v ≡ Some s → AllOf (Stems w v) s.queue
+  pub names : (v : ℕ) (s : Vat Name) → slice_get w.vats v ≡ Some s → AllOf (λ (k : Known Name). AllOf (Stems w v) k.held × AllOf (Stems w v) k.reactions) s.known
+  pub links : AllOf (λ (l : Link). AllOf (NoteStems w l.from) l.notes) w.links
+  pub taken : (v a : ℕ) (m : Message Name) → IsAmong (Here v (Took a m)) w.history → Stems w v m
+
+-- in every world of a run, also in one at which it stopped
+abbrev pub MessagesStemFromSends : Type 0
+MessagesStemFromSends = InRuns AllStem

@@ -1,0 +1,30 @@
+//! What a message brings was sent.
+
+ghost use Rattle.law_connected.specs.MessageLaws.{MessagesStemFromSends};
+ghost use Rattle.law_connected.specs.Begotten.{HistoriesAreConnected, OnlyConnectivity};
+
+/// In every world of every run, each message in a queue, held at a name or reacting on one, and each
+/// message that was taken, was sent: by a line of that vat with the same name, verb, arguments and
+/// answer, on a target that leads to that of the message by what names settled to and their views, or by one of another vat from where deliver notes brought it, each time with the same name
+/// and verb, and with arguments that stand for those that it had. The same is so of each deliver note
+/// under way.
+pub fn messages_stem_from_sends()
+    ensures { MessagesStemFromSends }
+{}
+
+/// In every world of every run each line of the history is connected in the step that told it, whose
+/// lines stand together in the history: what it uses was known to the activation that used it.
+pub fn histories_are_connected()
+    ensures { HistoriesAreConnected }
+{}
+
+/// Only connectivity begets connectivity. In every world of every run the target and arguments of each message
+/// that was taken were known to the activation that sent it; or, where deliver notes brought it from
+/// another vat, they stand for what was. A reaction has for its target the object that reacts.
+///
+/// An argument passes as what it leads to, by what names settled to and by their views: data, an
+/// object or another name, a gift that its sender opened as that, or a list by its members. A
+/// reference that is broken passes as its problem, which brings nothing.
+pub fn only_connectivity_begets_connectivity()
+    ensures { OnlyConnectivity }
+{}

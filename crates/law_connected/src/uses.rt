@@ -1,0 +1,41 @@
+//! What activations use, they know.
+
+ghost use Rattle.law_connected.specs.UseLaws.{StepsAreConnected};
+ghost use Rattle.law_connected.specs.UseLaws.{RunsAreConnected};
+ghost use Rattle.law_connected.specs.Told.{StepsTellWhatTheyMake};
+ghost use Rattle.law_connected.specs.Told.{RunsTellWhatIsHeld};
+ghost use Rattle.law_connected.specs.News.{WhatIsMadeIsNew};
+
+/// The lines of every step of a vat are connected, however it ends: an activation uses and gives
+/// back only what it knows by initial conditions, endowment, parenthood and introduction. It asks
+/// that nothing has happened in the step before, and that no ejector and no audition is live.
+pub fn steps_are_connected()
+    ensures { StepsAreConnected }
+{}
+
+/// In every run, of any script, every step that a vat begins in a world of the run is connected:
+/// after any of its opening turns, and after any entries of a schedule.
+pub fn runs_are_connected()
+    ensures { RunsAreConnected }
+{}
+
+/// After every step of a vat each object was there before it, or a line of the step tells with which
+/// captures and stamps it was made; what is in a var slot was in it before, or a line tells that an
+/// activation put it there; and what a line says was read from a slot was in it before the step, or
+/// a line before it tells that. It asks what `steps_are_connected` asks.
+pub fn steps_tell_what_they_make()
+    ensures { StepsTellWhatTheyMake }
+{}
+
+/// In every world of every run the history tells with which captures and stamps each object was
+/// made, and that an activation of its vat put in each var slot what is in it.
+pub fn runs_tell_what_is_held()
+    ensures { RunsTellWhatIsHeld }
+{}
+
+/// What a line of a step says was made is new: objects, ejectors, auditions and resolvers, var slots,
+/// and lists have numbers that rise from the vat's count before the step to its count after it. It
+/// asks what `steps_are_connected` asks.
+pub fn what_is_made_is_new()
+    ensures { WhatIsMadeIsNew }
+{}

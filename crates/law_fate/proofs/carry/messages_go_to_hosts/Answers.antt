@@ -1,0 +1,5 @@
+use Rattle.law_fate.proofs.RunLight.{messages_go_to_hosts}
+use Rattle.law_fate.proofs.carry.messages_go_to_hosts.Goals as goal
+
+pub returns : goal.returns
+returns c = messages_go_to_hosts

@@ -1,0 +1,5 @@
+use Rattle.law_fate.proofs.StepsLight.{steps_lighten}
+use Rattle.law_fate.proofs.carry.steps_lighten.Goals as goal
+
+pub returns : goal.returns
+returns c = steps_lighten

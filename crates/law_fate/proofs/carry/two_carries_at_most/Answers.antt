@@ -1,0 +1,5 @@
+use Rattle.law_fate.proofs.RunLight.{two_carries_at_most}
+use Rattle.law_fate.proofs.carry.two_carries_at_most.Goals as goal
+
+pub returns : goal.returns
+returns c = two_carries_at_most

@@ -1,0 +1,5 @@
+use Rattle.law_frame.proofs.AlikeArrivals.{positions_kept_alike}
+use Rattle.law_frame.proofs.alike.positions_are_kept_alike.Goals as goal
+
+pub returns : goal.returns
+returns c = positions_kept_alike

@@ -1,0 +1,5 @@
+use Rattle.law_frame.proofs.Notes.{kept_alike}
+use Rattle.law_frame.proofs.numbers.every_position_is_kept_alike.Goals as goal
+
+pub returns : goal.returns
+returns c = kept_alike

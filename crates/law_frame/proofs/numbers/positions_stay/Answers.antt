@@ -1,0 +1,5 @@
+use Rattle.law_frame.proofs.Exports.{positions_stay}
+use Rattle.law_frame.proofs.numbers.positions_stay.Goals as goal
+
+pub returns : goal.returns
+returns c = positions_stay

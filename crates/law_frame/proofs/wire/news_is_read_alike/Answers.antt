@@ -1,0 +1,5 @@
+use Rattle.law_frame.proofs.News.{news_read}
+use Rattle.law_frame.proofs.wire.news_is_read_alike.Goals as goal
+
+pub returns : goal.returns
+returns c = news_read

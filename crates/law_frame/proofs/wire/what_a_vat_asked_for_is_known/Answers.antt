@@ -1,0 +1,5 @@
+use Rattle.law_frame.proofs.WireLaws.{asked_for_known}
+use Rattle.law_frame.proofs.wire.what_a_vat_asked_for_is_known.Goals as goal
+
+pub returns : goal.returns
+returns c = asked_for_known

@@ -1,5 +1,0 @@
-use Rattle.law_gift.proofs.Laws.{one_provider}
-use Rattle.law_gift.proofs.gifts.each_draw_has_one_provider.Goals as goal
-
-pub returns : goal.returns
-returns c = one_provider

@@ -1,5 +1,0 @@
-use Rattle.law_gift.proofs.Standing.{gifts_stay}
-use Rattle.law_gift.proofs.gifts.gifts_stay.Goals as goal
-
-pub returns : goal.returns
-returns c = gifts_stay

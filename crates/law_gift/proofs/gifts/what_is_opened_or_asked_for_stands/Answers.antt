@@ -1,5 +1,0 @@
-use Rattle.law_gift.proofs.Standing.{what_is_opened_stands}
-use Rattle.law_gift.proofs.gifts.what_is_opened_or_asked_for_stands.Goals as goal
-
-pub returns : goal.returns
-returns c = what_is_opened_stands

@@ -1,5 +1,0 @@
-use Rattle.law_gift.proofs.Asking.{who_learns_asks}
-use Rattle.law_gift.proofs.gifts.who_learns_a_gift_asks_for_it.Goals as goal
-
-pub returns : goal.returns
-returns c = who_learns_asks

@@ -1,5 +1,0 @@
-use Rattle.law_list.proofs.Needed.{conditions_needed}
-use Rattle.law_list.proofs.lists.conditions_are_needed.Goals as goal
-
-pub returns : goal.returns
-returns c = conditions_needed

@@ -1,5 +1,0 @@
-use Rattle.law_list.proofs.Stacked.{lists_are_there}
-use Rattle.law_list.proofs.lists.lists_are_there.Goals as goal
-
-pub returns : goal.returns
-returns c = lists_are_there

@@ -1,5 +1,0 @@
-use Rattle.law_list.proofs.RunRing.{lists_end_in_runs}
-use Rattle.law_list.proofs.lists.lists_end_in_runs.Goals as goal
-
-pub returns : goal.returns
-returns c = lists_end_in_runs

@@ -1,5 +1,0 @@
-use Rattle.law_list.proofs.Stacked.{members_end}
-use Rattle.law_list.proofs.lists.members_end.Goals as goal
-
-pub returns : goal.returns
-returns c = members_end

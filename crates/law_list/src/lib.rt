@@ -1,4 +1,0 @@
-//! Laws of the lists of a vat.
-#![tactic(auto)]
-
-pub mod lists;

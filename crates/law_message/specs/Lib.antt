@@ -1,3 +1,0 @@
-pub mod Stems
-pub mod Laws
-pub mod Begotten

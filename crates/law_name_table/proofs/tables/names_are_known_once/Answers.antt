@@ -1,5 +1,0 @@
-use Rattle.law_name_table.proofs.KnownRuns.{names_are_known_once}
-use Rattle.law_name_table.proofs.tables.names_are_known_once.Goals as goal
-
-pub returns : goal.returns
-returns c = names_are_known_once

@@ -1,5 +1,0 @@
-use Rattle.law_name_table.proofs.VatTables.{tables_tell_things_apart}
-use Rattle.law_name_table.proofs.tables.tables_tell_things_apart.Goals as goal
-
-pub returns : goal.returns
-returns c = tables_tell_things_apart

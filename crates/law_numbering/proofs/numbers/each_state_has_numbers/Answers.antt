@@ -1,5 +1,0 @@
-use Rattle.law_numbering.proofs.States.{states_have_numbers}
-use Rattle.law_numbering.proofs.numbers.each_state_has_numbers.Goals as goal
-
-pub returns : goal.returns
-returns c = states_have_numbers

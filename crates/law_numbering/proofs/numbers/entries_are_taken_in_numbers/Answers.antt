@@ -1,5 +1,0 @@
-use Rattle.law_numbering.proofs.States.{entries_taken}
-use Rattle.law_numbering.proofs.numbers.entries_are_taken_in_numbers.Goals as goal
-
-pub returns : goal.returns
-returns c = entries_taken

@@ -1,5 +1,0 @@
-use Rattle.law_numbering.proofs.Notes.{arrivals_stand}
-use Rattle.law_numbering.proofs.numbers.every_arrival_stands.Goals as goal
-
-pub returns : goal.returns
-returns c = arrivals_stand

@@ -1,5 +1,0 @@
-use Rattle.law_numbering.proofs.Notes.{read_alike}
-use Rattle.law_numbering.proofs.numbers.every_note_is_read_alike.Goals as goal
-
-pub returns : goal.returns
-returns c = read_alike

@@ -1,5 +1,0 @@
-use Rattle.law_numbering.proofs.Notes.{kept_alike}
-use Rattle.law_numbering.proofs.numbers.every_position_is_kept_alike.Goals as goal
-
-pub returns : goal.returns
-returns c = kept_alike

@@ -1,5 +1,0 @@
-use Rattle.law_numbering.proofs.Untouched.{every_state}
-use Rattle.law_numbering.proofs.numbers.every_state_goes_on.Goals as goal
-
-pub returns : goal.returns
-returns c = every_state

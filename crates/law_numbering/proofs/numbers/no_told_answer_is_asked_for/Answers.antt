@@ -1,5 +1,0 @@
-use Rattle.law_numbering.proofs.Answered.{no_told_answer}
-use Rattle.law_numbering.proofs.numbers.no_told_answer_is_asked_for.Goals as goal
-
-pub returns : goal.returns
-returns c = no_told_answer

@@ -1,5 +1,0 @@
-use Rattle.law_numbering.proofs.Untouched.{nothing_told}
-use Rattle.law_numbering.proofs.numbers.nothing_told_is_asked_for.Goals as goal
-
-pub returns : goal.returns
-returns c = nothing_told

@@ -1,5 +1,0 @@
-use Rattle.law_numbering.proofs.States.{openings_taken}
-use Rattle.law_numbering.proofs.numbers.opening_turns_are_taken_in_numbers.Goals as goal
-
-pub returns : goal.returns
-returns c = openings_taken

@@ -1,5 +1,0 @@
-use Rattle.law_numbering.proofs.Openings.{openings_stand}
-use Rattle.law_numbering.proofs.numbers.opening_turns_by_numbers_stand.Goals as goal
-
-pub returns : goal.returns
-returns c = openings_stand

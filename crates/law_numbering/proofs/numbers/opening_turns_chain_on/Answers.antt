@@ -1,5 +1,0 @@
-use Rattle.law_numbering.proofs.Chain.{openings_chain}
-use Rattle.law_numbering.proofs.numbers.opening_turns_chain_on.Goals as goal
-
-pub returns : goal.returns
-returns c = openings_chain

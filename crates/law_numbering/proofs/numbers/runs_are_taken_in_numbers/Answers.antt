@@ -1,5 +1,0 @@
-use Rattle.law_numbering.proofs.Runs.{runs_taken}
-use Rattle.law_numbering.proofs.numbers.runs_are_taken_in_numbers.Goals as goal
-
-pub returns : goal.returns
-returns c = runs_taken

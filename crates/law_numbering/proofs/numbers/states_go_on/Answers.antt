@@ -1,5 +1,0 @@
-use Rattle.law_numbering.proofs.Exports.{states_go_on}
-use Rattle.law_numbering.proofs.numbers.states_go_on.Goals as goal
-
-pub returns : goal.returns
-returns c = states_go_on

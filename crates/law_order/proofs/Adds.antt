@@ -1,0 +1,213 @@
+-- A vat that is ready stays so, and the ways only grow, as it only adds.
+use Rattle.std.proofs.Common.{arith, ◌≡◌, ℕ, suc, ◌≤◌, Bool, true, false, List, [], ◌∷◌, ◌++◌, Option, Some, None, length, refl, sym, ap, subst, ◌∙◌, inl, inr}
+use Rattle.def_machine.specs.Values.{Value, Null, Flag, Number, Letter, Text, Prim, Broken, Items, Ref, Name, Naming, Promise, Answer}
+use Rattle.def_machine.specs.State.{Message, Standing, Unsettled, WaitsOn, Viewed, Settled, Known, Note, Deliver, Open, Ask, SettledTo, Elsewhere, Shorten, Put, Vat, Change, Hold, Wait, WaitOn, See, React, ToTell, Settle}
+use Rattle.def_machine.specs.State as state
+use Rattle.def_machine.specs.Refs as refs
+use Rattle.def_run.specs.World.{Script, Link, World, names}
+use Rattle.def_run.specs.World as world
+use Rattle.law_order.specs.Ways.{Item, IsIn}
+use Rattle.law_order.specs.Turns.{Within}
+use Rattle.law_order.specs.Places.{item, queued, held_on, amid}
+use Rattle.law_order.specs.Worlds.{IsWaiting, IsFixed, FollowsEnd, LetsNothingGo, NothingGoes, StandsAlike, RefersAlike, AddsOnly}
+use Rattle.law_order.proofs.Sends.{none_some, some_same, changed_name}
+use Rattle.law_order.proofs.Pushing.{push_append}
+use Rattle.law_order.proofs.Adding.{follows_alike, refers_same}
+use Rattle.law_order.proofs.Amid.{leads_same, grow_there, adding_grows}
+use Rattle.law_order.specs.Steps.{DrawBelow, DrawsBelow, Ready, Grown, StaysReady}
+use Rattle.law_order.proofs.Below.{more_draws, with_below}
+
+-- ---- what is known
+
+some_back : (n : Name) (o p : Option (Known Name)) (k : Known Name) → StandsAlike n o p → p ≡ Some k → (j : Known Name) × (o ≡ Some j)
+some_back n None None k a e = none_some k e
+some_back n None (Some q) k a e = absurd a
+some_back n (Some j) p k a e = (j, refl)
+
+some_on : (n : Name) (o p : Option (Known Name)) (j : Known Name) → StandsAlike n o p → o ≡ Some j → (k : Known Name) × (p ≡ Some k) × (k.standing ≡ j.standing)
+some_on n None p j a e = none_some j e
+some_on n (Some q) None j a e = absurd a
+some_on n (Some q) (Some k) j a e = (k, refl, a.0 ∙ ap (λ z. z.standing) (some_same q j e))
+
+none_on : (n : Name) (o p : Option (Known Name)) → StandsAlike n o p → o ≡ None → p ≡ None
+none_on n None None a e = refl
+none_on n None (Some k) a e = absurd a
+none_on n (Some j) p a e = none_some j (sym e)
+
+module _ (K : Naming Name Name) (s t : Vat Name) (g : RefersAlike K s t) where
+  fixed_ref : (m : Name) → IsFixed K s (Ref m) → IsFixed K t (Ref m)
+  fixed_ref m (inl i) = inl i
+  fixed_ref m (inr h) = let k = some_on m (refs.entry_of K s.known m) (refs.entry_of K t.known m) h.0 (g.entries m) h.1 in inr (k.0, k.1, subst IsWaiting (sym k.2) h.2)
+
+  fixed_alike : (y : Value Name) → IsFixed K s y → IsFixed K t y
+  fixed_alike (Ref m) i = fixed_ref m i
+  fixed_alike Null i = tt
+  fixed_alike (Flag b) i = tt
+  fixed_alike (Number z) i = tt
+  fixed_alike (Letter c) i = tt
+  fixed_alike (Text p) i = tt
+  fixed_alike (Prim k) i = tt
+  fixed_alike (Broken p) i = tt
+  fixed_alike (Items k) i = tt
+
+  followed_alike : (x : Value Name) → refs.follow_at K (suc (length t.known)) t.known x ≡ refs.follow_at K (suc (length s.known)) s.known x
+  followed_alike x = follows_alike K s t g (suc (length t.known)) x ∙ ap (λ d. refs.follow_at K (suc d) s.known x) g.names_known
+
+  pub ends_alike : FollowsEnd K s → FollowsEnd K t
+  ends_alike f = record {
+    objects = λ n i. none_on n (refs.entry_of K s.known n) (refs.entry_of K t.known n) (g.entries n) (f.objects n i);
+    fixed = λ n h. let j = some_back n (refs.entry_of K s.known n) (refs.entry_of K t.known n) h.0 (g.entries n) h.1 in
+        subst (IsFixed K t) (sym (followed_alike (Ref n))) (fixed_alike (refs.follow_at K (suc (length s.known)) s.known (Ref n)) (f.fixed n j));
+  }
+
+  pub none_alike : (n : Name) → refs.entry_of K s.known n ≡ None → refs.entry_of K t.known n ≡ None
+  none_alike n e = none_on n (refs.entry_of K s.known n) (refs.entry_of K t.known n) (g.entries n) e
+
+-- ---- what changes no name's standing
+
+abbrev pub IsSimple : Change Name → Type 0
+IsSimple (Hold m) = Unit {0}
+IsSimple (Wait q) = Unit {0}
+IsSimple (WaitOn q) = ⊥
+IsSimple (See q) = ⊥
+IsSimple (React m) = Unit {0}
+IsSimple (ToTell h) = Unit {0}
+IsSimple (Settle y) = ⊥
+
+pub entry_self : (n : Name) (o : Option (Known Name)) → StandsAlike n o o
+entry_self n None = tt
+entry_self n (Some k) = (refl, refl, λ i h. h)
+
+held_more : (n : Name) (ms : List (Message Name)) (m : Message Name) → Within (held_on n ms) (held_on n (ms ++ m ∷ []))
+unfolding held_on
+held_more n [] m i h = absurd h
+held_more n (a ∷ ms) m i (inl e) = inl e
+held_more n (a ∷ ms) m i (inr h) = inr (held_more n ms m i h)
+
+changed_alike : (n : Name) (c : Change Name) (k : Known Name) → IsSimple c → StandsAlike n (Some k) (Some (state.changed c k))
+unfolding state.changed state.unless_settled state.changed_to
+changed_alike n c k i = go k.standing (state.changed_to c k) (to c i)
+  where
+    to : (c : Change Name) → IsSimple c → StandsAlike n (Some k) (Some (state.changed_to c k))
+    to (Hold m) i = (refl, refl, held_more n k.held m)
+    to (Wait q) i = (refl, refl, λ j h. h)
+    to (WaitOn q) i = absurd i
+    to (See q) i = absurd i
+    to (React m) i = (refl, refl, λ j h. h)
+    to (ToTell h) i = (refl, refl, λ j h. h)
+    to (Settle y) i = absurd i
+
+    go : (q : Standing Name) (j : Known Name) → StandsAlike n (Some k) (Some j) → StandsAlike n (Some k) (Some (state.unless_settled q k j))
+    go Unsettled j a = a
+    go (WaitsOn q) j a = a
+    go (Viewed q) j a = a
+    go (Settled y) j a = (refl, refl, λ i h. h)
+
+no_more : {A : Type 0} (ps : List A) → ps ≡ ps ++ []
+no_more [] = refl
+no_more (p ∷ ps) = ap (λ qs. p ∷ qs) (no_more ps)
+
+module _ (K : Naming Name Name) (c : Change Name) (n : Name) (simple : IsSimple c) where
+  head_alike : (m : Name) (b : Bool) (k : Known Name) (o p : Option (Known Name)) → StandsAlike m o p → StandsAlike m (elim b [ true ↦ Some k | false ↦ o ]) (elim b [ true ↦ Some (state.changed c k) | false ↦ p ])
+  head_alike m true k o p a = changed_alike m c k simple
+  head_alike m false k o p a = a
+
+  tail_alike : (m : Name) (b : Bool) (k : Known Name) (o p : Option (Known Name)) → StandsAlike m o p → StandsAlike m (elim b [ true ↦ Some k | false ↦ o ]) (elim b [ true ↦ Some k | false ↦ p ])
+  tail_alike m true k o p a = entry_self m (Some k)
+  tail_alike m false k o p a = a
+
+  entries_alike : (ks : List (Known Name)) (m : Name) → StandsAlike m (refs.entry_of K ks m) (refs.entry_of K (state.with_change K c n ks) m)
+  unfolding refs.entry_of state.with_change
+  entries_alike [] m = tt
+  entries_alike (k ∷ ks) m = go (entries_alike ks m) (K.same k.name n)
+    where
+      go : StandsAlike m (refs.entry_of K ks m) (refs.entry_of K (state.with_change K c n ks) m) → (b : Bool)
+          → StandsAlike m (elim (K.same k.name m) [ true ↦ Some k | false ↦ refs.entry_of K ks m ]) (refs.entry_of K (elim b [ true ↦ state.changed c k ∷ ks | false ↦ k ∷ state.with_change K c n ks ]) m)
+      go a true = subst (λ q. StandsAlike m (elim (K.same k.name m) [ true ↦ Some k | false ↦ refs.entry_of K ks m ]) (elim (K.same q m) [ true ↦ Some (state.changed c k) | false ↦ refs.entry_of K ks m ])) (sym (changed_name c k)) (head_alike m (K.same k.name m) k (refs.entry_of K ks m) (refs.entry_of K ks m) (entry_self m (refs.entry_of K ks m)))
+      go a false = tail_alike m (K.same k.name m) k (refs.entry_of K ks m) (refs.entry_of K (state.with_change K c n ks) m) a
+
+  length_alike : (ks : List (Known Name)) → length (state.with_change K c n ks) ≡ length ks
+  unfolding state.with_change
+  length_alike [] = refl
+  length_alike (k ∷ ks) = go (length_alike ks) (K.same k.name n)
+    where
+      go : length (state.with_change K c n ks) ≡ length ks → (b : Bool) → length {A = Known Name} (elim b [ true ↦ state.changed c k ∷ ks | false ↦ k ∷ state.with_change K c n ks ]) ≡ suc (length ks)
+      go e true = refl
+      go e false = ap suc e
+
+  pub change_adds : (s : Vat Name) → AddsOnly K s (record s { known = state.with_change K c n s.known })
+  change_adds s = record {
+    alike = record { number = refl; gifts = refl; noticed = refl; names_known = length_alike s.known; entries = λ m. entries_alike s.known m };
+    queue = λ i h. h;
+    notes = ([], no_more s.outbox, tt);
+  }
+
+-- ---- other additions
+
+queued_by : (t : Value Name) (i : Item) (m : Name) (xs ys : List Item) → (IsIn i xs → IsIn i ys) → IsIn i (elim t [ Ref n ↦ item m n ∷ xs | _ ↦ xs ]) → IsIn i (elim t [ Ref n ↦ item m n ∷ ys | _ ↦ ys ])
+queued_by (Ref n) i m xs ys f (inl e) = inl e
+queued_by (Ref n) i m xs ys f (inr h) = inr (f h)
+queued_by Null i m xs ys f h = f h
+queued_by (Flag b) i m xs ys f h = f h
+queued_by (Number z) i m xs ys f h = f h
+queued_by (Letter c) i m xs ys f h = f h
+queued_by (Text p) i m xs ys f h = f h
+queued_by (Prim k) i m xs ys f h = f h
+queued_by (Broken p) i m xs ys f h = f h
+queued_by (Items k) i m xs ys f h = f h
+
+queue_more : (ms : List (Message Name)) (m : Message Name) → Within (queued ms) (queued (ms ++ m ∷ []))
+unfolding queued
+queue_more [] m i h = absurd h
+queue_more (a ∷ ms) m i h = queued_by a.target i a.id (queued ms) (queued (ms ++ m ∷ [])) (queue_more ms m i) h
+
+module _ (K : Naming Name Name) (s t : Vat Name) (known : t.known ≡ s.known) (number : t.number ≡ s.number) (gifts : t.gifts ≡ s.gifts) (noticed : t.noticed ≡ s.noticed) where
+  pub alike_same : RefersAlike K s t
+  alike_same = record { number = number; gifts = gifts; noticed = noticed; names_known = ap (λ ks. length ks) known; entries = λ n. subst (λ ks. StandsAlike n (refs.entry_of K s.known n) (refs.entry_of K ks n)) (sym known) (entry_self n (refs.entry_of K s.known n)) }
+
+pub adds_nothing : (K : Naming Name Name) (s t : Vat Name) → t.known ≡ s.known → t.number ≡ s.number → t.gifts ≡ s.gifts → t.noticed ≡ s.noticed → t.queue ≡ s.queue → t.outbox ≡ s.outbox → AddsOnly K s t
+adds_nothing K s t a b c d e f = record { alike = alike_same K s t a b c d; queue = subst (λ q. Within (queued s.queue) (queued q)) (sym e) (λ i h. h); notes = ([], f ∙ no_more s.outbox, tt) }
+
+pub adds_message : (K : Naming Name Name) (s : Vat Name) (m : Message Name) → AddsOnly K s (record s { queue = s.queue ++ m ∷ [] })
+adds_message K s m = record { alike = alike_same K s (record s { queue = s.queue ++ m ∷ [] }) refl refl refl refl; queue = queue_more s.queue m; notes = ([], no_more s.outbox, tt) }
+
+pub adds_note : (K : Naming Name Name) (s : Vat Name) (p : Put Name) → LetsNothingGo p.note → AddsOnly K s (record s { outbox = s.outbox ++ p ∷ [] })
+adds_note K s p i = record { alike = alike_same K s (record s { outbox = s.outbox ++ p ∷ [] }) refl refl refl refl; queue = λ j h. h; notes = (p ∷ [], refl, (i, tt)) }
+
+-- ---- readiness
+
+nothing_below : (d : ℕ) (n : Note Name) → LetsNothingGo n → DrawBelow d n
+nothing_below d (Deliver m n verb ys) h = tt
+nothing_below d (Open i n) h = absurd h
+nothing_below d (Ask p i n) h = tt
+nothing_below d (SettledTo n y) h = tt
+nothing_below d (Elsewhere n c) h = tt
+nothing_below d (Shorten n c i) h = absurd h
+
+pushed_below : (d v : ℕ) (ps : List (Put Name)) (ls : List Link) → NothingGoes ps → DrawsBelow d ls → DrawsBelow d (world.push_all v ps ls)
+unfolding world.push_all
+pushed_below d v [] ls i h = h
+pushed_below d v (p ∷ ps) ls i h = pushed_below d v ps (world.with_link (world.pushed p.note) v p.to ls) i.1 (with_below d p.note v p.to ls (nothing_below d p.note i.0) h)
+
+module _ (script : Script) (honest : ℕ → Bool) (w : World) (v : ℕ) (s t : Vat Name) where
+  pub grown_adds : AddsOnly (names script v) s t → Grown script honest w v s t
+  unfolding amid
+  grown_adds g = record {
+    grows = adding_grows script honest w v s t g;
+    leading = λ u x. leads_same script honest w.vats (world.push_all v s.outbox w.links) (world.push_all v t.outbox w.links) (grow_there script honest w v s t g) v s t (refers_same script honest v s t g.alike) u x;
+  }
+
+  pub ready_adds : AddsOnly (names script v) s t → s.messages ≤ t.messages → s.promises ≤ t.promises → length s.drawn ≤ length t.drawn → Ready script honest w v s → Ready script honest w v t
+  ready_adds g m p d r = record {
+    number = g.alike.number ∙ r.number;
+    ends = ends_alike (names script v) s t g.alike r.ends;
+    draws = subst (λ ls. DrawsBelow (length t.drawn) ls) (sym (ap (λ ps. world.push_all v ps w.links) g.notes.1 ∙ push_append v s.outbox g.notes.0 w.links)) (pushed_below (length t.drawn) v g.notes.0 (world.push_all v s.outbox w.links) g.notes.2 (more_draws (length s.drawn) (length t.drawn) (world.push_all v s.outbox w.links) d r.draws));
+    answers = λ h i j. none_alike (names script v) s t g.alike (Answer h (record { sender = v; number = i })) (r.answers h i (less s.messages t.messages i m j));
+    promises = λ i j. none_alike (names script v) s t g.alike (Promise v i) (r.promises i (less s.promises t.promises i p j));
+  }
+    where
+      less : (a b c : ℕ) → a ≤ b → b ≤ c → a ≤ c
+      less a b c i j = omega arith
+
+  pub stays_adds : AddsOnly (names script v) s t → s.messages ≤ t.messages → s.promises ≤ t.promises → length s.drawn ≤ length t.drawn → StaysReady script honest w v s t
+  stays_adds g m p d r = (ready_adds g m p d r, grown_adds g)

@@ -1,0 +1,265 @@
+-- A vat that is ready stays so, and the ways only grow, as a name comes to be known and as a gift is let go.
+use Rattle.std.proofs.Common.{arith, ◌≡◌, ℕ, suc, ◌≤◌, Bool, true, false, List, [], ◌∷◌, ◌++◌, Option, Some, None, length, refl, sym, ap, subst, ◌∙◌, ◌⊎◌, inl, inr}
+use Rattle.std.proofs.lemmas.Bool.{ne_eqb}
+use Rattle.std.specs.Prelude.{◌==◌, ◌&&◌}
+use Rattle.def_machine.specs.Values.{Value, Null, Flag, Number, Letter, Text, Prim, Broken, Items, Ref, Name, Root, Object, Promise, Answer, Gift, Sent, Naming, host_of, naming, same_name, same_reference}
+use Rattle.def_machine.specs.State.{Known, Open, Vat, begun}
+use Rattle.def_machine.specs.Refs as refs
+use Rattle.def_run.specs.World.{Script, Link, World, names}
+use Rattle.def_run.specs.World as world
+use Rattle.law_order.specs.Ways.{Lane, Free, IsOneWay, Ways}
+use Rattle.law_order.specs.Changes.{Grows}
+use Rattle.law_order.specs.Places.{leads, ways, ways_of, amid}
+use Rattle.law_order.specs.Worlds.{IsWaiting, IsFixed, IsObject, FollowsEnd, RefersAlike, SameWays}
+use Rattle.law_order.proofs.Sends.{none_some, some_same, push_last}
+use Rattle.law_order.proofs.Pushing.{all_same}
+use Rattle.law_order.proofs.Adding.{refers_same}
+use Rattle.law_order.proofs.Coming.{length_more, old_entry, new_entry, waits_here, followed, comes_same, coming_grows}
+use Rattle.law_order.proofs.Amid.{leads_same, same_between}
+use Rattle.law_order.specs.Steps.{DrawsBelow, Ready, Grown, StaysReady}
+use Rattle.law_order.proofs.Below.{more_draws, with_below}
+use Rattle.law_order.proofs.Opens.{opening_grows}
+use Rattle.law_order.proofs.Adds.{grown_adds, stays_adds, adds_nothing, alike_same}
+
+-- ---- the ways grow twice
+
+pub grows_then : (a b c : Ways) → Grows a b → Grows b c → Grows a c
+grows_then a b c g h = record {
+  stands = λ l i j. h.stands l i (g.stands l i j);
+  onward = λ l n. go l n (g.onward l n) (h.onward l n);
+}
+  where
+    go : (l : Lane) (n : Name) → (b.onward l n ≡ a.onward l n) ⊎ (IsOneWay l × (a.onward l n ≡ Free)) → (c.onward l n ≡ b.onward l n) ⊎ (IsOneWay l × (b.onward l n ≡ Free)) → (c.onward l n ≡ a.onward l n) ⊎ (IsOneWay l × (a.onward l n ≡ Free))
+    go l n (inl e) (inl f) = inl (f ∙ e)
+    go l n (inl e) (inr f) = inr (f.0, sym e ∙ f.1)
+    go l n (inr e) k = inr e
+
+pub grows_self : (a : Ways) → Grows a a
+grows_self a = record { stands = λ l i j. j; onward = λ l n. inl refl }
+
+grows_same : (a b : Ways) → SameWays a b → Grows a b
+grows_same a b e = record { stands = λ l i j. (e.0 l).0 i j; onward = λ l n. inl (e.1 l n) }
+
+module _ (script : Script) (honest : ℕ → Bool) (w : World) (v : ℕ) where
+  pub grown_then : (s t u : Vat Name) → Grown script honest w v s t → Grown script honest w v t u → Grown script honest w v s u
+  grown_then s t u g h = record {
+    grows = grows_then (ways script honest (amid v s w)) (ways script honest (amid v t w)) (ways script honest (amid v u w)) g.grows h.grows;
+    leading = λ a x. h.leading a x ∙ g.leading a x;
+  }
+
+  pub stays_self : (s : Vat Name) → StaysReady script honest w v s s
+  stays_self s r = (r, record { grows = grows_self (ways script honest (amid v s w)); leading = λ a x. refl })
+
+  pub stays_then : {s t u : Vat Name} → StaysReady script honest w v s t → StaysReady script honest w v t u → StaysReady script honest w v s u
+  stays_then {s} {t} {u} f g r = let a = f r in let b = g a.0 in (b.0, grown_then s t u a.1 b.1)
+
+-- ---- a name that comes
+
+module _ (K : Naming Name Name) (s : Vat Name) (n : Name) (h : ℕ) (plain : IsObject n → ⊥) (f : FollowsEnd K s) where
+  abbrev New : Known Name
+  New = begun n h
+
+  abbrev Ks : List (Known Name)
+  Ks = s.known ++ New ∷ []
+
+  lone : (m : Name) (b : Bool) → K.same n m ≡ b → refs.entry_of K (New ∷ []) m ≡ elim b [ true ↦ Some New | false ↦ None ]
+  unfolding refs.entry_of begun
+  lone m b e = ap (λ c. elim c [ true ↦ Some New | false ↦ None ]) e
+
+  pub came_none : (m : Name) → refs.entry_of K s.known m ≡ None → K.same n m ≡ false → refs.entry_of K Ks m ≡ None
+  came_none m e i = new_entry K s.known New m e ∙ lone m false i
+
+  fixed_ref : (m : Name) → IsFixed K s (Ref m) → IsFixed K (record s { known = Ks }) (Ref m)
+  fixed_ref m (inl i) = inl i
+  fixed_ref m (inr e) = inr (e.0, old_entry K s.known New e.0 m e.1, e.2)
+
+  fixed_on : (y : Value Name) → IsFixed K s y → IsFixed K (record s { known = Ks }) y
+  fixed_on (Ref m) i = fixed_ref m i
+  fixed_on Null i = tt
+  fixed_on (Flag b) i = tt
+  fixed_on (Number z) i = tt
+  fixed_on (Letter c) i = tt
+  fixed_on (Text p) i = tt
+  fixed_on (Prim k) i = tt
+  fixed_on (Broken p) i = tt
+  fixed_on (Items k) i = tt
+
+  new_waits : (m : Name) (k : Known Name) → refs.entry_of K s.known m ≡ None → refs.entry_of K Ks m ≡ Some k → IsWaiting k.standing
+  unfolding begun
+  new_waits m k e i = go (K.same n m) refl
+    where
+      go : (b : Bool) → K.same n m ≡ b → IsWaiting k.standing
+      go true j = subst (λ q. IsWaiting q.standing) (some_same New k (sym (new_entry K s.known New m e ∙ lone m true j) ∙ i)) tt
+      go false j = none_some k (sym (came_none m e j) ∙ i)
+
+  known_waits : (m : Name) (k : Known Name) → refs.entry_of K Ks m ≡ Some k → IsWaiting k.standing → IsFixed K (record s { known = Ks }) (refs.follow_at K (suc (length Ks)) Ks (Ref m))
+  unfolding refs.follow_at refs.standing_of refs.standing_in
+  known_waits m k e i = subst (IsFixed K (record s { known = Ks })) (sym (waits_here K (λ y. refs.follow_at K (length Ks) Ks y) m (refs.standing_of K Ks m) (subst (λ o. IsWaiting (refs.standing_in o)) (sym e) i))) (inr (k, e, i))
+
+-- an object is none of these
+pub objects_apart : (n m : Name) → (IsObject n → ⊥) → IsObject m → same_reference n m ≡ false
+unfolding same_reference same_name
+objects_apart (Root a) (Object h i) f o = refl
+objects_apart (Object a j) m f o = absurd (f tt)
+objects_apart (Promise a j) (Object h i) f o = refl
+objects_apart (Answer a j) (Object h i) f o = refl
+objects_apart (Gift a j) (Object h i) f o = refl
+objects_apart (Sent a) m f o = refl
+objects_apart n (Root h) f o = absurd o
+objects_apart n (Promise h i) f o = absurd o
+objects_apart n (Answer h i) f o = absurd o
+objects_apart n (Gift h i) f o = absurd o
+objects_apart n (Sent i) f o = absurd o
+
+module _ (script : Script) (honest : ℕ → Bool) (w : World) (v : ℕ) (s : Vat Name) (n : Name) (plain : IsObject n → ⊥) (r : Ready script honest w v s) where
+  abbrev K : Naming Name Name
+  K = names script v
+
+  abbrev Came : Vat Name
+  Came = record s { known = s.known ++ begun n (host_of n) ∷ [] }
+
+  fixed_new : (m : Name) (k : Known Name) → refs.entry_of K Came.known m ≡ Some k → (o : Option (Known Name)) → refs.entry_of K s.known m ≡ o → IsFixed K Came (refs.follow_at K (suc (length Came.known)) Came.known (Ref m))
+  fixed_new m k e (Some j) i = let h = r.ends.fixed m (j, i) in subst (IsFixed K Came) (sym (followed script honest v s n r.ends plain m h)) (fixed_on K s n (host_of n) plain r.ends (refs.follow_at K (suc (length s.known)) s.known (Ref m)) h)
+  fixed_new m k e None i = known_waits K s n (host_of n) plain r.ends m k e (new_waits K s n (host_of n) plain r.ends m k i e)
+
+  came_ends : FollowsEnd K Came
+  unfolding names naming
+  came_ends = record {
+    objects = λ m i. came_none K s n (host_of n) plain r.ends m (r.ends.objects m i) (objects_apart n m plain i);
+    fixed = λ m h. fixed_new m h.0 h.1 (refs.entry_of K s.known m) refl;
+  }
+
+  came_grown : refs.entry_of K s.known n ≡ None → Grown script honest w v s Came
+  unfolding amid
+  came_grown e = let ls = world.push_all v s.outbox w.links in record {
+    grows = coming_grows script honest w v s n r.ends r.number plain e;
+    leading = λ u x. leads_same script honest w.vats ls ls (all_same ls) v s Came (comes_same script honest v s n r.ends plain r.number) u x;
+  }
+
+-- a message, its answer at that host
+module _ (script : Script) (honest : ℕ → Bool) (w : World) (v : ℕ) (s : Vat Name) (h : ℕ) where
+  abbrev Mine : Name
+  Mine = Sent (record { sender = v; number = s.messages })
+
+  abbrev Ours : Name
+  Ours = Answer h (record { sender = v; number = s.messages })
+
+  abbrev Messaged : Vat Name
+  Messaged = record s { messages = suc s.messages; mails = s.mails ++ Mine ∷ []; known = s.known ++ begun Ours h ∷ [] }
+
+  and_false : (a b : Bool) → b ≡ false → (a && b) ≡ false
+  and_false true b e = e
+  and_false false b e = refl
+
+  other_answer : (g i : ℕ) → suc s.messages ≤ i → same_reference Ours (Answer g (record { sender = v; number = i })) ≡ false
+  unfolding same_reference same_name
+  other_answer g i j = and_false (h == g) ((v == v) && (s.messages == i)) (and_false (v == v) (s.messages == i) (ne_eqb s.messages i (λ e. omega arith)))
+
+  no_promise : (i : ℕ) → same_reference Ours (Promise v i) ≡ false
+  unfolding same_reference same_name
+  no_promise i = refl
+
+  pub messaged : StaysReady script honest w v s Messaged
+  unfolding names naming host_of
+  messaged r =
+      let plain : (IsObject Ours → ⊥) = λ o. o in
+      let none = r.answers h s.messages (omega arith) in
+      let old = came_ends script honest w v s Ours plain r in (
+        record {
+          number = r.number;
+          ends = record { objects = old.objects; fixed = old.fixed };
+          draws = r.draws;
+          answers = λ g i j. came_none (names script v) s Ours h plain r.ends (Answer g (record { sender = v; number = i })) (r.answers g i (omega arith)) (other_answer g i j);
+          promises = λ i j. came_none (names script v) s Ours h plain r.ends (Promise v i) (r.promises i j) (no_promise i);
+        },
+        grown_then script honest w v s (record s { known = s.known ++ begun Ours h ∷ [] }) Messaged
+            (came_grown script honest w v s Ours plain r none)
+            (grown_adds script honest w v (record s { known = s.known ++ begun Ours h ∷ [] }) Messaged (adds_nothing (names script v) (record s { known = s.known ++ begun Ours h ∷ [] }) Messaged refl refl refl refl refl refl)),
+      )
+
+-- a message without an answer
+pub lone_messaged : (script : Script) (honest : ℕ → Bool) (w : World) (v : ℕ) (s : Vat Name) → StaysReady script honest w v s (record s { messages = suc s.messages; mails = s.mails ++ Sent (record { sender = v; number = s.messages }) ∷ [] })
+lone_messaged script honest w v s =
+    let t : Vat Name = record s { messages = suc s.messages; mails = s.mails ++ Sent (record { sender = v; number = s.messages }) ∷ [] } in
+    stays_adds script honest w v s t (adds_nothing (names script v) s t refl refl refl refl refl refl) (omega arith) (omega arith) (omega arith)
+
+-- a promise
+module _ (script : Script) (honest : ℕ → Bool) (w : World) (v : ℕ) (s : Vat Name) where
+  abbrev Own : Name
+  Own = Promise v s.promises
+
+  abbrev Promised : ℕ → Vat Name
+  Promised q = record s { promises = suc s.promises; known = s.known ++ begun Own q ∷ [] }
+
+  other_promise : (i : ℕ) → suc s.promises ≤ i → same_reference Own (Promise v i) ≡ false
+  unfolding same_reference same_name
+  other_promise i j = and_false script honest w v s v (v == v) (s.promises == i) (ne_eqb s.promises i (λ e. omega arith))
+
+  no_answer : (g i : ℕ) → same_reference Own (Answer g (record { sender = v; number = i })) ≡ false
+  unfolding same_reference same_name
+  no_answer g i = refl
+
+  promised_here : Ready script honest w v s → Ready script honest w v (Promised v) × Grown script honest w v s (Promised v)
+  unfolding names naming host_of
+  promised_here r =
+      let plain : (IsObject Own → ⊥) = λ o. o in
+      let none = r.promises s.promises (omega arith) in
+      let old = came_ends script honest w v s Own plain r in (
+        record {
+          number = r.number;
+          ends = record { objects = old.objects; fixed = old.fixed };
+          draws = r.draws;
+          answers = λ g i j. came_none (names script v) s Own v plain r.ends (Answer g (record { sender = v; number = i })) (r.answers g i j) (no_answer g i);
+          promises = λ i j. came_none (names script v) s Own v plain r.ends (Promise v i) (r.promises i (omega arith)) (other_promise i j);
+        },
+        grown_then script honest w v s (record s { known = s.known ++ begun Own v ∷ [] }) (Promised v)
+            (came_grown script honest w v s Own plain r none)
+            (grown_adds script honest w v (record s { known = s.known ++ begun Own v ∷ [] }) (Promised v) (adds_nothing (names script v) (record s { known = s.known ++ begun Own v ∷ [] }) (Promised v) refl refl refl refl refl refl)),
+      )
+
+  pub promised : StaysReady script honest w v s (Promised s.number)
+  promised r = subst (λ q. Ready script honest w v (Promised q) × Grown script honest w v s (Promised q)) (sym r.number) (promised_here r)
+
+-- a gift is let go
+module _ (script : Script) (honest : ℕ → Bool) (w : World) (v h word : ℕ) (n : Name) (s : Vat Name) where
+  abbrev Opened : Vat Name
+  Opened = record s { drawn = s.drawn ++ word ∷ []; outbox = s.outbox ++ record { to = h; note = Open (length s.drawn) n } ∷ [] }
+
+  abbrev Before : List Link
+  Before = world.push_all v s.outbox w.links
+
+  abbrev After : List Link
+  After = world.with_link (world.pushed (Open (length s.drawn) n)) v h Before
+
+  after_is : world.push_all v Opened.outbox w.links ≡ After
+  after_is = push_last v s.outbox (record { to = h; note = Open (length s.drawn) n }) w.links
+
+  there : RefersAlike (names script v) s Opened
+  there = alike_same (names script v) s Opened refl refl refl refl
+
+  back : RefersAlike (names script v) Opened s
+  back = alike_same (names script v) Opened s refl refl refl refl
+
+  opened_ready : Ready script honest w v s → Ready script honest w v Opened
+  opened_ready r = record {
+    number = r.number;
+    ends = record { objects = r.ends.objects; fixed = r.ends.fixed };
+    draws = subst (λ ls. DrawsBelow (length Opened.drawn) ls) (sym after_is) (subst (λ d. DrawsBelow d After) (sym (length_more s.drawn word)) (with_below (suc (length s.drawn)) (Open (length s.drawn) n) v h Before (omega arith) (more_draws (length s.drawn) (suc (length s.drawn)) Before (omega arith) r.draws)));
+    answers = r.answers;
+    promises = r.promises;
+  }
+
+  opened_grows : Ready script honest w v s → Grows (ways script honest (amid v s w)) (ways script honest (amid v Opened w))
+  unfolding ways amid
+  opened_grows r = subst (λ ls. Grows (ways_of script honest (world.put_at v s w.vats) Before) (ways_of script honest (world.put_at v Opened w.vats) ls)) (sym after_is)
+      (grows_then (ways_of script honest (world.put_at v s w.vats) Before) (ways_of script honest (world.put_at v s w.vats) After) (ways_of script honest (world.put_at v Opened w.vats) After)
+      (opening_grows script honest (world.put_at v s w.vats) Before v h (length s.drawn) n r.draws)
+      (grows_same (ways_of script honest (world.put_at v s w.vats) After) (ways_of script honest (world.put_at v Opened w.vats) After)
+      (same_between script honest v s Opened w.vats After (refers_same script honest v s Opened there) (refers_same script honest v Opened s back) (λ i j. j) (λ i j. j))))
+
+  opened_leads : (u : ℕ) (x : Value Name) → leads script honest (amid v Opened w).vats (amid v Opened w).links u x ≡ leads script honest (amid v s w).vats (amid v s w).links u x
+  unfolding amid leads
+  opened_leads u x = leads_same script honest w.vats After After (all_same After) v s Opened (refers_same script honest v s Opened there) u x
+
+  pub opened : StaysReady script honest w v s Opened
+  opened r = (opened_ready r, record { grows = opened_grows r; leading = opened_leads })

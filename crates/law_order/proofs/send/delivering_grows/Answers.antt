@@ -1,0 +1,5 @@
+use Rattle.law_order.proofs.Sendings.{delivering_grows}
+use Rattle.law_order.proofs.send.delivering_grows.Goals as goal
+
+pub returns : goal.returns
+returns c = delivering_grows

@@ -1,0 +1,5 @@
+use Rattle.law_order.proofs.Sendings.{passing_grows}
+use Rattle.law_order.proofs.send.passing_grows.Goals as goal
+
+pub returns : goal.returns
+returns c = passing_grows

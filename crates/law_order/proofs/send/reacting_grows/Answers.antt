@@ -1,0 +1,5 @@
+use Rattle.law_order.proofs.Sendings.{reacting_grows}
+use Rattle.law_order.proofs.send.reacting_grows.Goals as goal
+
+pub returns : goal.returns
+returns c = reacting_grows

@@ -1,0 +1,5 @@
+use Rattle.law_order.proofs.Sendings.{sending_grows}
+use Rattle.law_order.proofs.send.sending_grows.Goals as goal
+
+pub returns : goal.returns
+returns c = sending_grows

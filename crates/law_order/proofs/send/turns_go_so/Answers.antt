@@ -1,0 +1,5 @@
+use Rattle.law_order.proofs.Sendings.{turns_go_so}
+use Rattle.law_order.proofs.send.turns_go_so.Goals as goal
+
+pub returns : goal.returns
+returns c = turns_go_so

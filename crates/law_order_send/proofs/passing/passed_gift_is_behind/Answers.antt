@@ -1,5 +1,0 @@
-use Rattle.law_order_send.proofs.Given.{passed_gift_is_behind}
-use Rattle.law_order_send.proofs.passing.passed_gift_is_behind.Goals as goal
-
-pub returns : goal.returns
-returns c = passed_gift_is_behind

@@ -1,5 +1,0 @@
-use Rattle.law_order_send.proofs.Sendings.{delivering_grows}
-use Rattle.law_order_send.proofs.send.delivering_grows.Goals as goal
-
-pub returns : goal.returns
-returns c = delivering_grows

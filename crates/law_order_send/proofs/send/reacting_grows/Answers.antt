@@ -1,5 +1,0 @@
-use Rattle.law_order_send.proofs.Sendings.{reacting_grows}
-use Rattle.law_order_send.proofs.send.reacting_grows.Goals as goal
-
-pub returns : goal.returns
-returns c = reacting_grows

@@ -1,5 +1,0 @@
-use Rattle.law_order_send.proofs.Sendings.{sending_goes_so}
-use Rattle.law_order_send.proofs.send.sending_goes_so.Goals as goal
-
-pub returns : goal.returns
-returns c = sending_goes_so

@@ -1,5 +1,0 @@
-use Rattle.law_order_send.proofs.Sent.{sends_are_ahead}
-use Rattle.law_order_send.proofs.send.sends_are_ahead.Goals as goal
-
-pub returns : goal.returns
-returns c = sends_are_ahead

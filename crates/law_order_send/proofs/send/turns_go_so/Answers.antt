@@ -1,5 +1,0 @@
-use Rattle.law_order_send.proofs.Sendings.{turns_go_so}
-use Rattle.law_order_send.proofs.send.turns_go_so.Goals as goal
-
-pub returns : goal.returns
-returns c = turns_go_so

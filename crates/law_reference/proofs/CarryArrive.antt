@@ -1,0 +1,173 @@
+-- What arrives leaves what passes in the notes put of the two vats.
+use Rattle.std.proofs.Common.{◌≡◌, ℕ, ◌<◌, Bool, true, false, List, [], ◌∷◌, ◌++◌, Option, Some, None, if◌then◌else◌, ◌==◌}
+use Rattle.std.specs.Prelude.{slice_get}
+use Rattle.def_machine.specs.Values.{Value, Null, Flag, Number, Letter, Text, Prim, Broken, Items, Ref, Name, host_of, naming, IsGift}
+use Rattle.def_machine.specs.State.{Passed, Passeds, Plain, AGift, Many, NoMore, More, Note, Deliver, Open, Ask, SettledTo, Elsewhere, Shorten, Put, GiftEntry, Vat, Done, Gives, Throws, Ejects, Stops, Act, ◌>>=◌, ◌>>◌, and_then, give, look, tell, come, mail, new_gift, new_list, send_out, alter, draw, draws}
+use Rattle.def_machine.specs.Refs.{host_at}
+use Rattle.def_machine.specs.Arrive as arrive
+use Rattle.def_machine.specs.Arrive.{Incoming, Old, New}
+use Rattle.def_run.specs.World as world
+use Rattle.law_name.specs.Names.{Bit, Drew, At, bare, IsMade, PassedOk, PassedsOk, NoteOk}
+use Rattle.law_name.proofs.Facts.{all_end, Fact, Nothing, Also, IsName, IsMail, IsDraw, IsVat, IsValue, AreValues, nothing, Holds}
+use Rattle.law_name.proofs.Care.{Care, Sound, Ends, Gets, Fine}
+use Rattle.law_name.proofs.Learn.{Knows, Learned, Learns, rise, learn, learn_all, learn_name, message_learned}
+use Rattle.law_name.proofs.TrackedViews.{tracked_views}
+use Rattle.law_name.proofs.Tracked.{Marked}
+use Rattle.law_reference.specs.Notes.{Carries}
+use Rattle.law_reference.proofs.CareNotes.{put_learn_gift, put_arrive_ask, put_delivered, put_opened, put_went, put_shortened, put_settle}
+use Rattle.law_reference.proofs.CarryCare.{T as Tracked, V as Carry, FitOut as Out, Leaves as Leaving, fit_sound, lift, fit_puts}
+
+module _ (M : Marked) (vats : List (Vat Name)) (v : ℕ) (q : Vat Name) (there : slice_get vats v ≡ Some q) (here : M.mark (At v)) (word : ℕ → ℕ) where
+  abbrev T : Care Name
+  T = Tracked M vats v q there here word
+
+  abbrev V : Care Name
+  V = Carry M vats v q there here word
+
+  abbrev FitOut : Vat Name → Type 0
+  FitOut s = Out M vats v q there here word s
+
+  abbrev Leaves : {A : Type 0} → Done Name A → Type 0
+  Leaves d = Leaving M vats v q there here word d
+
+  -- ---- the view of an object of another vat
+
+  one_more : (s : Vat Name) (p : Put Name) → FitOut s → Carries v p.to p.note → FitOut (record s { outbox = s.outbox ++ p ∷ [] })
+  one_more s p o i = all_end (λ (r : Put Name). Carries v r.to r.note) s.outbox p o i
+
+  had_leaves : (s : Vat Name) (u h i : ℕ) (n : Name) (o : Option (GiftEntry Name)) → FitOut s → Leaves (and_then (arrive.gift_or_new (naming word v) u h i o s) (λ g. arrive.see (naming word v) n g))
+  unfolding arrive.gift_or_new arrive.see ◌>>=◌ ◌>>◌ and_then come new_gift give tell alter
+  had_leaves s u h i n (Some g) o = o
+  had_leaves s u h i n None o = o
+
+  there_leaves : (s : Vat Name) (u h c i : ℕ) (n : Name) (b : Bool) → FitOut s
+      → Leaves (and_then ((if b then arrive.have_gift (naming word v) h i else (come (naming word v) (IsGift c i) c >>= (λ g. send_out c (Ask h i g) >> give g))) s) (λ g. arrive.see (naming word v) n g))
+  unfolding arrive.have_gift arrive.see ◌>>=◌ ◌>>◌ and_then come send_out give look tell alter
+  there_leaves s u h c i n true o = had_leaves s s.number h i n (arrive.gift_at h i s.gifts) o
+  there_leaves s u h c i n false o = one_more s (record { to = c; note = Ask h i ((naming word v).made (IsGift c i) _) }) o tt
+
+  drawn_leaves : (s : Vat Name) (u h c : ℕ) (n : Name) (w : ℕ) (o : Option ℕ) → FitOut s
+      → Leaves (and_then (draws w o s) (λ i. send_out h (Shorten n c i) >> (arrive.gift_there (naming word v) u h c i >>= (λ g. arrive.see (naming word v) n g))))
+  unfolding draws and_then send_out ◌>>◌ ◌>>=◌ arrive.gift_there
+  drawn_leaves s u h c n w (Some j) o = tt
+  drawn_leaves s u h c n w None o = there_leaves (record s { outbox = s.outbox ++ record { to = h; note = Shorten n c _ } ∷ []; drawn = s.drawn ++ w ∷ [] }) u h c _ n (c == u) (one_more s (record { to = h; note = Shorten n c _ }) o tt)
+
+  view_leaves : (n : Name) (c : ℕ) (s : Vat Name) → FitOut s → Leaves (arrive.view_there (naming word v) n c s)
+  unfolding arrive.view_there ◌>>=◌ and_then look draw
+  view_leaves n c s o = drawn_leaves s s.number (host_at (naming word v) s.number s.known n) c n _ _ o
+
+  carry_views : (D : Fact Name) (n : Name) → Gets V D (IsName n) → (c : ℕ) → Gets V D (IsVat c) → Fine V D (arrive.view_there (naming word v) n c) nothing
+  carry_views D n g c k = lift M vats v q there here word (tracked_views true M vats v q there here word n (record { at = g.at }) c (record { at = k.at })) (λ s o. view_leaves n c s o)
+
+  -- ---- learning
+
+  module _ (us : List (Vat Name)) (d0 : ℕ) where
+    -- what was made before, and is marked
+    abbrev Was : Bit Name → Type 0
+    Was b = IsMade us d0 b × M.mark (bare b)
+
+    abbrev Known : List Name → Vat Name → Type 0
+    Known ks s = Knows true M vats v q there here word us d0 ks s
+
+    abbrev Learning : {A : Type 0} → List Name → Fact Name → Act Name A → List Name → (A → Fact Name) → Type 0
+    Learning ks C m ks' G = Learns true M vats v q there here word us d0 ks C m ks' G
+
+    pub record Fits {A : Type 0} (ks : List Name) (C : Fact Name) (m : Act Name A) : Type 0 where
+      pub after : (s : Vat Name) → Sound T s → Known ks s → Holds (T.ok s) C → FitOut s → Leaves (m s)
+
+    bind_leaves : {A B : Type 0} (ks ks' : List Name) (C : Fact Name) (P : A → Fact Name) (s : Vat Name) (d : Done Name A) (f : A → Act Name B) → Holds (T.ok s) C → Learned true M vats v q there here word us d0 ks' P s d → Leaves d
+        → ((a : A) → Fits ks' (Also C (P a)) (f a)) → Leaves (and_then d f)
+    unfolding and_then
+    bind_leaves ks ks' C P s (Gives a t) f c h l k = (k a).after t h.1 h.2 (rise true M vats v q there here word us d0 s t h.0 C c, h.3) l
+    bind_leaves ks ks' C P s (Throws p t) f c h l k = l
+    bind_leaves ks ks' C P s (Ejects n x t) f c h l k = l
+    bind_leaves ks ks' C P s (Stops r t) f c h l k = tt
+
+    fits_bind : {A B : Type 0} {ks ks' : List Name} {C : Fact Name} {m : Act Name A} {f : A → Act Name B} (P : A → Fact Name) → Learning ks C m ks' P → Fits ks C m → ((a : A) → Fits ks' (Also C (P a)) (f a)) → Fits ks C (m >>= f)
+    unfolding ◌>>=◌
+    fits_bind {ks = ks} {ks' = ks'} {C = C} {m = m} {f = f} P l h k = record { after = λ s g w c o. bind_leaves ks ks' C P s (m s) f c (l.after s g w c) (h.after s g w c o) k }
+
+    pub ends_leave : {A : Type 0} (G : A → Fact Name) (s : Vat Name) (d : Done Name A) → Ends V G s d → Leaves d
+    ends_leave G s (Gives a t) h = let m = h.1.more in m.1
+    ends_leave G s (Throws p t) h = let m = h.1.more in m.1
+    ends_leave G s (Ejects n y t) h = let m = h.1.more in m.1
+    ends_leave G s (Stops c t) h = tt
+
+    fits_fine : {A : Type 0} {ks : List Name} {C : Fact Name} {m : Act Name A} {G : A → Fact Name} → Fine V C m G → Fits ks C m
+    fits_fine {m = m} {G = G} f = record { after = λ s g w c o. ends_leave G s (m s) (f.after s (fit_sound M vats v q there here word s g o) c) }
+
+    fits_give : {A : Type 0} {ks : List Name} {C : Fact Name} (a : A) → Fits ks C (give a)
+    unfolding give
+    fits_give a = record { after = λ s g w c o. o }
+
+    name_either : {ks : List Name} {C : Fact Name} (n : Name) (b : Bool) → Fits ks C (arrive.learn_name (naming word v) (elim b [ true ↦ Old n | false ↦ New n (host_of n) ]))
+    unfolding arrive.learn_name give come
+    name_either n true = record { after = λ s g w c o. o }
+    name_either n false = record { after = λ s g w c o. o }
+
+    name_fits : {ks : List Name} {C : Fact Name} (ns : List Name) (n : Name) → Fits ks C (arrive.learn_name (naming word v) (world.read_name ns n))
+    unfolding world.read_name
+    name_fits ns n = name_either n (world.is_old ns n)
+
+    message_fits : {ks : List Name} {C : Fact Name} (m : Name) (h : ℕ) → Fits ks C (arrive.learn_message (naming word v) (New m h))
+    unfolding arrive.learn_message mail
+    message_fits m h = record { after = λ s g w c o. o }
+
+    ref_leaves : (n : Name) (b : Bool) (s : Vat Name) → FitOut s → Leaves (and_then (arrive.learn_name (naming word v) (elim b [ true ↦ Old n | false ↦ New n (host_of n) ]) s) (λ x. give (Ref x)))
+    unfolding arrive.learn_name give come and_then
+    ref_leaves n true s o = o
+    ref_leaves n false s o = o
+
+    value_fits : {ks : List Name} {C : Fact Name} (ns : List Name) (y : Value Name) → Fits ks C (arrive.learn_value (naming word v) (world.read_value ns y).read)
+    unfolding arrive.learn_value world.read_value world.read_name ◌>>=◌
+    value_fits ns Null = fits_give Null
+    value_fits ns (Flag b) = fits_give (Flag b)
+    value_fits ns (Number z) = fits_give (Number z)
+    value_fits ns (Letter c) = fits_give (Letter c)
+    value_fits ns (Text t) = fits_give (Text t)
+    value_fits ns (Prim n) = fits_give (Prim n)
+    value_fits ns (Broken p) = fits_give (Broken p)
+    value_fits ns (Items k) = fits_give (Items k)
+    value_fits ns (Ref n) = record { after = λ s g w c o. ref_leaves n (world.is_old ns n) s o }
+
+    gift_fits : {ks : List Name} {C : Fact Name} (p h i : ℕ) → M.mark (At h) → i < d0 → Fits ks C (arrive.learn_gift (naming word v) p h i)
+    gift_fits {C = C} p h i at l = record { after = λ s g w c o. ends_leave IsValue s (arrive.learn_gift (naming word v) p h i s) ((gift_fine p h i).after s (fit_sound M vats v q there here word s g o) ((w.made (Drew i) l, tt, tt, M.draw i), (tt, tt, tt, at))) }
+      where
+        gift_fine : (p h i : ℕ) → Fine V (Also (IsDraw i) (IsVat h)) (arrive.learn_gift (naming word v) p h i) IsValue
+        gift_fine p h i = put_learn_gift (naming word v) V (fit_puts M vats v q there here word) p h i (record { at = λ r d. d.0 }) (record { at = λ r d. d.1 })
+
+    list_fits : {ks : List Name} {C : Fact Name} (vs : List (Value Name)) → Fits ks C (arrive.make_list (naming word v) vs)
+    unfolding arrive.make_list new_list tell give ◌>>=◌ ◌>>◌ and_then
+    list_fits vs = record { after = λ s g w c o. o }
+
+    mutual
+      unfolding arrive.learn arrive.learn_all world.read_passed world.read_all world.plain_read world.many_read world.more_read
+
+      learn_fits : {C : Fact Name} (p : ℕ) (y : Passed Name) (ks : List Name) → PassedOk Was y → Fits ks C (arrive.learn (naming word v) p (world.read_passed y ks).read)
+      learn_fits p (Plain y) ks m = value_fits ks y
+      learn_fits p (AGift h i) ks m = gift_fits p h i m.0.1 m.1.0
+      learn_fits p (Many ys) ks m = fits_bind AreValues (learn_all true M vats v q there here word us d0 p ys ks m) (all_fit p ys ks m) (λ vs. list_fits vs)
+
+      all_fit : {C : Fact Name} (p : ℕ) (ys : Passeds Name) (ks : List Name) → PassedsOk Was ys → Fits ks C (arrive.learn_all (naming word v) p (world.read_all ys ks).read)
+      all_fit p NoMore ks m = fits_give []
+      all_fit p (More y ys) ks m = fits_bind IsValue (learn true M vats v q there here word us d0 p y ks m.0) (learn_fits p y ks m.0) (λ x. fits_bind AreValues (learn_all true M vats v q there here word us d0 p ys (world.read_passed y ks).known m.1) (all_fit p ys (world.read_passed y ks).known m.1) (λ xs. fits_give (x ∷ xs)))
+
+    -- with a draw that was made
+    with_draw : {A : Type 0} (ks : List Name) (i : ℕ) (m : Act Name A) → i < d0 → Fits ks (IsDraw i) m → Fits ks Nothing m
+    with_draw ks i m l h = record { after = λ s g k c o. h.after s g k (k.made (Drew i) l, tt, tt, M.draw i) o }
+
+    -- with a vat that is marked
+    with_vat : {A : Type 0} (ks : List Name) (u : ℕ) (m : Act Name A) → M.mark (At u) → Fits ks (IsVat u) m → Fits ks Nothing m
+    with_vat ks u m at h = record { after = λ s g k c o. h.after s g k (tt, tt, tt, at) o }
+
+    pub note_fits : (from : ℕ) (ks : List Name) (n : Note Name) → NoteOk Was n → Fits ks Nothing (arrive.arrive (naming word v) from (world.read_note ks n))
+    unfolding arrive.arrive world.read_note arrive.arrive_deliver arrive.arrive_open arrive.arrive_settled arrive.arrive_elsewhere arrive.arrive_shorten
+    note_fits from ks (Deliver d n verb ys) h = fits_bind IsMail (message_learned true M vats v q there here word us d0 ks d.message (host_of d.message) h.0) (message_fits d.message (host_of d.message)) (λ id. fits_bind AreValues (learn_all true M vats v q there here word us d0 from ys ks h.2) (all_fit from ys ks h.2)
+        (λ args. fits_bind IsName (learn_name true M vats v q there here word us d0 (world.read_all ys ks).known n h.1) (name_fits (world.read_all ys ks).known n)
+        (λ x. fits_fine (put_delivered (naming word v) V (fit_puts M vats v q there here word) from id (record { at = λ s c. c.0.0.1 }) x (record { at = λ s c. c.1 }) verb args (record { at = λ s c. c.0.1 }) d.asks))))
+    note_fits from ks (Open i n) h = with_draw ks i _ h.0.0 (fits_bind IsName (learn_name true M vats v q there here word us d0 ks n h.1) (name_fits ks n) (λ y. fits_fine (put_opened (naming word v) V (fit_puts M vats v q there here word) from i (record { at = λ s c. c.0 }) y (record { at = λ s c. c.1 }))))
+    note_fits from ks (Ask p i n) h = with_draw ks i _ h.0.0 (fits_fine (put_arrive_ask (naming word v) V (fit_puts M vats v q there here word) from p i (record { at = λ s c. c })))
+    note_fits from ks (SettledTo n y) h = fits_bind IsName (learn_name true M vats v q there here word us d0 ks n h.0) (name_fits ks n) (λ x. fits_bind IsValue (learn true M vats v q there here word us d0 from y (world.known_after ks n) h.1) (learn_fits from y (world.known_after ks n) h.1)
+        (λ z. fits_fine (put_settle (naming word v) V (fit_puts M vats v q there here word) x (record { at = λ s c. c.0.1 }) z (record { at = λ s c. c.1 }))))
+    note_fits from ks (Elsewhere n c) h = with_vat ks c _ h.1.1 (fits_bind IsName (learn_name true M vats v q there here word us d0 ks n h.0) (name_fits ks n) (λ x. fits_fine (put_went (naming word v) V (fit_puts M vats v q there here word) (λ D n g c k. carry_views D n g c k) x (record { at = λ s c. c.1 }) c (record { at = λ s c. c.0 }))))
+    note_fits from ks (Shorten n c i) h = with_draw ks i _ h.1.0 (fits_bind IsName (learn_name true M vats v q there here word us d0 ks n h.0) (name_fits ks n) (λ x. fits_fine (put_shortened (naming word v) V (fit_puts M vats v q there here word) x (record { at = λ s c. c.1 }) i (record { at = λ s c. c.0 }))))

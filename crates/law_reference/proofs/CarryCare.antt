@@ -1,0 +1,326 @@
+-- What passes in the notes that a vat puts names nothing of a third vat: a care for names, and for the notes put.
+use Rattle.std.proofs.Common.{◌≡◌, ℕ, Bool, true, false, List, [], ◌∷◌, Option, Some, None, refl, sym, ap, ◌∙◌, ◌⊎◌, inl, inr, if◌then◌else◌, ◌==◌}
+use Rattle.std.specs.Prelude.{slice_get}
+use Rattle.std.proofs.lemmas.Bool.{eqb-true}
+use Rattle.def_machine.specs.Values.{Value, Null, Flag, Number, Letter, Text, Prim, Broken, Items, Ref, Name, Root, Object, Promise, Answer, Gift, Sent, host_of, same_reference, Naming, naming, spot_of, Own as OwnThing, Foreign}
+use Rattle.def_machine.specs.State.{Message, Known, ToTell, Passed, Passeds, Plain, AGift, Many, NoMore, More, Note, Deliver, Open, Ask, SettledTo, Elsewhere, Put, Vat, Done, Gives, Throws, Ejects, Stops, Act, ◌>>=◌, ◌>>◌, and_then, give, look, tell, enqueue, send_out, new_gift, open_gift, mark, draws, draw, alter, come, new_message, new_promise, Posted, new_lone_message}
+use Rattle.def_machine.specs.Refs as refs
+use Rattle.def_machine.specs.Refs.{Place, Near, Mine, Away, Gone, entry_of, host_at, host_in, place, spotted, hosted}
+use Rattle.law_name.specs.Names.{Named, At, AllOf, IsAmong, IsEventual, ValueOk, HostIsTrue, names_in}
+use Rattle.law_name.proofs.Facts.{all_end, PlaceOk, Fact, Also, IsName, IsDraw, IsOff, IsValue, AreValues, IsMessage, IsPlace, DoesPass, DoAllPass, NoteDoes, NoteGoes, parcel, nothing, Holds}
+use Rattle.law_name.proofs.Care.{Care, Under, Giving, Makes, Sound, Ends, Gets, Fine, widen, rise, fine_give, fine_spend, fine_tell, fine_enqueue, fine_out, fine_gift, fine_open, fine_mark, fine_draw, fine_hold, fine_wait, fine_waits_on, fine_reacts, fine_to_tell, fine_settles, come_answer, come_gift, fine_new_message, fine_promise, fine_lone_message}
+use Rattle.law_name.proofs.Looks.{look_parcel, place_ok, note_deliver, note_open, note_ask, note_settled, note_elsewhere, goes_deliver, goes_open, goes_ask, goes_settled, goes_elsewhere}
+use Rattle.law_name.proofs.SameNames.{reference_is, reference_self}
+use Rattle.law_name.proofs.Tracked.{Marked, tracked, tracked_under, tracked_gives, tracked_makes}
+use Rattle.law_reference.specs.Notes.{IsOfEither, PassesBetween, AllPassBetween, Carries}
+use Rattle.law_reference.proofs.CareNotes.{Puts}
+
+-- of that host, or data
+abbrev pub IsOf : ℕ → Value Name → Type 0
+IsOf h (Ref n) = host_of n ≡ h
+IsOf h Null = Unit {0}
+IsOf h (Flag b) = Unit {0}
+IsOf h (Number z) = Unit {0}
+IsOf h (Letter c) = Unit {0}
+IsOf h (Text t) = Unit {0}
+IsOf h (Prim i) = Unit {0}
+IsOf h (Broken t) = Unit {0}
+IsOf h (Items k) = Unit {0}
+
+-- what is of one of two is of either
+of_either : (v w h : ℕ) (y : Value Name) → IsOf h y → (h ≡ v) ⊎ (h ≡ w) → IsOfEither v w y
+of_either v w h (Ref n) e (inl i) = inl (e ∙ i)
+of_either v w h (Ref n) e (inr i) = inr (e ∙ i)
+of_either v w h Null e i = tt
+of_either v w h (Flag b) e i = tt
+of_either v w h (Number z) e i = tt
+of_either v w h (Letter c) e i = tt
+of_either v w h (Text t) e i = tt
+of_either v w h (Prim j) e i = tt
+of_either v w h (Broken t) e i = tt
+of_either v w h (Items k) e i = tt
+
+no_same : (b : Bool) → b ≡ true → b ≡ false → ⊥
+no_same b e f = cc
+
+module _ (M : Marked) (vats : List (Vat Name)) (v : ℕ) (q : Vat Name) (there : slice_get vats v ≡ Some q) (here : M.mark (At v)) (word : ℕ → ℕ) where
+  abbrev pub T : Care Name
+  T = tracked true M vats v q there here
+
+  abbrev pub Names : Naming Name Name
+  Names = naming word v
+
+  under : Under Names T
+  under = tracked_under true M vats v q there here word
+
+  gives : Giving Names T
+  gives = tracked_gives true M vats v q there here word
+
+  makes : Makes Names T
+  makes = tracked_makes M vats v q there here word
+
+  -- what passes in each note put is of the two vats
+  abbrev pub FitOut : Vat Name → Type 0
+  FitOut s = AllOf (λ (p : Put Name). Carries v p.to p.note) s.outbox
+
+  abbrev pub V : Care Name
+  V = record {
+    ok = T.ok;
+    more = λ s. T.more s × FitOut s;
+    rel = T.rel;
+    same = T.same;
+    trans = T.trans;
+    up = T.up;
+    here = λ s m. T.here s m.0;
+    near = T.near;
+    entered = T.entered;
+    owned = T.owned;
+    owner = T.owner;
+    drew = T.drew;
+    fuel = λ s n. let r = T.fuel s n in (r.0, λ m. (r.1 m.0, m.1));
+    told = λ s e n. let r = T.told s e n in (r.0, λ m. (r.1 m.0, m.1));
+    activations = λ s. let r = T.activations s in (r.0, λ m. (r.1 m.0, m.1));
+    thing = λ s z. let r = T.thing s z in (r.0, λ m. (r.1 m.0, m.1));
+    killed = λ s n. let r = T.killed s n in (r.0, λ m. (r.1 m.0, m.1));
+    slot = λ s c. let r = T.slot s c in (r.0, λ m. (r.1 m.0, m.1));
+    written = λ s n y. let r = T.written s n y in (r.0, λ m. (r.1 m.0, m.1));
+    list = λ s ys. let r = T.list s ys in (r.0, λ m. (r.1 m.0, m.1));
+  }
+
+  pub fit_sound : (s : Vat Name) → Sound T s → FitOut s → Sound V s
+  fit_sound s h o = record { parts = h.parts; more = (h.more, o) }
+
+  pub name_sound : (s : Vat Name) → Sound V s → Sound T s
+  name_sound s h = let m = h.more in record { parts = h.parts; more = m.0 }
+
+  pub sound_fit : (s : Vat Name) → Sound V s → FitOut s
+  sound_fit s h = let m = h.more in m.1
+
+  abbrev pub Leaves : {A : Type 0} → Done Name A → Type 0
+  Leaves (Gives a t) = FitOut t
+  Leaves (Throws p t) = FitOut t
+  Leaves (Ejects n y t) = FitOut t
+  Leaves (Stops c t) = Unit {0}
+
+  pub joined : {A : Type 0} (G : A → Fact Name) (s : Vat Name) (d : Done Name A) → Ends T G s d → Leaves d → Ends V G s d
+  joined G s (Gives a t) h l = (h.0, fit_sound t h.1 l, h.2)
+  joined G s (Throws p t) h l = (h.0, fit_sound t h.1 l)
+  joined G s (Ejects n y t) h l = (h.0, fit_sound t h.1 l, h.2)
+  joined G s (Stops c t) h l = tt
+
+  pub lift : {A : Type 0} {C : Fact Name} {m : Act Name A} {G : A → Fact Name} → Fine T C m G → ((s : Vat Name) → FitOut s → Leaves (m s)) → Fine V C m G
+  lift {m = m} {G = G} f l = record { after = λ s h c. joined G s (m s) (f.after s (name_sound s h) c) (l s (sound_fit s h)) }
+
+  gets_names : {C G : Fact Name} → Gets V C G → Gets T C G
+  gets_names g = record { at = g.at }
+
+  fit_out : {C : Fact Name} (to : ℕ) (n : Note Name) → Carries v to n → Gets V C (NoteDoes n) → Gets V C (NoteGoes to n) → Fine V C (send_out to n) nothing
+  unfolding send_out
+  fit_out to n i g k = lift (fine_out Names T under to n (gets_names g) (gets_names k)) (λ s o. all_end (λ (p : Put Name). Carries v p.to p.note) s.outbox (record { to = to; note = n }) o i)
+
+  draws_leave : (s : Vat Name) (w : ℕ) (o : Option ℕ) → FitOut s → Leaves (draws w o s)
+  unfolding draws
+  draws_leave s w (Some i) h = tt
+  draws_leave s w None h = h
+
+  fit_draw : {C : Fact Name} → Fine V C (draw Names) IsDraw
+  unfolding draw
+  fit_draw = lift (fine_draw Names T under) (λ s o. draws_leave s _ _ o)
+
+  -- ---- and what is given, which says something of itself
+
+  abbrev Yields : {A : Type 0} → (A → Type 0) → Done Name A → Type 0
+  Yields Q (Gives a t) = Q a
+  Yields Q (Throws p t) = Unit {0}
+  Yields Q (Ejects n y t) = Unit {0}
+  Yields Q (Stops c t) = Unit {0}
+
+  record Fits {A : Type 0} (C : Fact Name) (m : Act Name A) (G : A → Fact Name) (Q : A → Type 0) : Type 0 where
+    pub after : (s : Vat Name) → Sound V s → Holds (T.ok s) C → Ends V G s (m s) × Yields Q (m s)
+
+  abbrev Whatever : {A : Type 0} → A → Type 0
+  Whatever a = Unit {0}
+
+  yields : {A : Type 0} (d : Done Name A) → Yields Whatever d
+  yields (Gives a t) = tt
+  yields (Throws p t) = tt
+  yields (Ejects n y t) = tt
+  yields (Stops c t) = tt
+
+  fits_fine : {A : Type 0} {C : Fact Name} {m : Act Name A} {G : A → Fact Name} → Fine V C m G → Fits C m G Whatever
+  fits_fine {m = m} f = record { after = λ s h c. (f.after s h c, yields (m s)) }
+
+  fine_fits : {A : Type 0} {C : Fact Name} {m : Act Name A} {G : A → Fact Name} {Q : A → Type 0} → Fits C m G Q → Fine V C m G
+  fine_fits f = record { after = λ s h c. (f.after s h c).0 }
+
+  bind_fits : {A B : Type 0} (C : Fact Name) (P : A → Fact Name) (H : B → Fact Name) (Q : A → Type 0) (R : B → Type 0) (s : Vat Name) (d : Done Name A) (f : A → Act Name B) → Holds (T.ok s) C → Ends V P s d → Yields Q d
+      → ((a : A) → Q a → Fits (Also C (P a)) (f a) H R) → Ends V H s (and_then d f) × Yields R (and_then d f)
+  unfolding and_then
+  bind_fits C P H Q R s (Gives a t) f c e y k = let r = (k a y).after t e.1 (rise V s t e.0 C c, e.2) in (widen V H s t (f a t) e.0 r.0, r.1)
+  bind_fits C P H Q R s (Throws p t) f c e y k = (e, tt)
+  bind_fits C P H Q R s (Ejects n z t) f c e y k = (e, tt)
+  bind_fits C P H Q R s (Stops z t) f c e y k = (tt, tt)
+
+  fits_bind : {A B : Type 0} {C : Fact Name} {m : Act Name A} {f : A → Act Name B} {H : B → Fact Name} {R : B → Type 0} (P : A → Fact Name) (Q : A → Type 0) → Fits C m P Q → ((a : A) → Q a → Fits (Also C (P a)) (f a) H R) → Fits C (m >>= f) H R
+  unfolding ◌>>=◌
+  fits_bind {C = C} {m = m} {f = f} {H = H} {R = R} P Q h k = record { after = λ s g c. let e = h.after s g c in bind_fits C P H Q R s (m s) f c e.0 e.1 k }
+
+  fits_left : {A : Type 0} {C D : Fact Name} {m : Act Name A} {H : A → Fact Name} {R : A → Type 0} → Fits C m H R → Fits (Also C D) m H R
+  fits_left h = record { after = λ s g c. h.after s g c.0 }
+
+  fits_then : {A B : Type 0} {C : Fact Name} {m : Act Name A} {n : Act Name B} {H : B → Fact Name} {R : B → Type 0} (P : A → Fact Name) → Fine V C m P → Fits C n H R → Fits C (m >> n) H R
+  unfolding ◌>>◌
+  fits_then {C = C} {m = m} {n = n} {H = H} {R = R} P h k = record { after = λ s g c. bind_fits C P H Whatever R s (m s) (λ _. n) c (h.after s g c) (yields (m s)) (λ a y. fits_left k) }
+
+  fits_give : {A : Type 0} {C : Fact Name} (a : A) {H : A → Fact Name} {R : A → Type 0} → Gets V C (H a) → R a → Fits C (give a) H R
+  unfolding give
+  fits_give {C = C} a {H = H} g r = record { after = λ s h c. ((fine_give V {C = C} a {H = H} g).after s h c, r) }
+
+  -- ---- a name that is known has its own host
+
+  same_host : (b : Bool) (u : ℕ) (k0 : Known Name) (n : Name) (o : Option (Known Name)) → (b ≡ true → host_of n ≡ k0.host) → (b ≡ false → host_in u o ≡ host_of n) → host_in u (elim b [ true ↦ Some k0 | false ↦ o ]) ≡ host_of n
+  unfolding host_in
+  same_host true u k0 n o f g = sym (f refl)
+  same_host false u k0 n o f g = g refl
+
+  true_host : (u : ℕ) (ks : List (Known Name)) (n : Name) → IsEventual n → AllOf HostIsTrue ks → IsAmong n (names_in ks) → host_at Names u ks n ≡ host_of n
+  unfolding host_at entry_of naming
+  true_host u [] n eventual h a = absurd a
+  true_host u (k0 ∷ ks) n eventual h a = same_host (same_reference k0.name n) u k0 n (entry_of Names ks n) (λ e. ap host_of (sym (reference_is k0.name n e)) ∙ sym h.0) (λ e. rest a e (λ i. true_host u ks n eventual h.1 i))
+    where
+      rest : (n ≡ k0.name) ⊎ IsAmong n (names_in ks) → same_reference k0.name n ≡ false → (IsAmong n (names_in ks) → host_in u (entry_of Names ks n) ≡ host_of n) → host_in u (entry_of Names ks n) ≡ host_of n
+      rest (inl i) e f = absurd (no_same (same_reference k0.name n) (ap (λ x. same_reference x n) (sym i) ∙ reference_self n eventual) e)
+      rest (inr i) e f = f i
+
+  -- of which host a value is, by its place
+  abbrev PlaceSays : Value Name → Place Name → Type 0
+  PlaceSays y (Away h n o) = IsOf h y
+  PlaceSays y Near = IsOf v y
+  PlaceSays y (Mine n) = IsOf v y
+  PlaceSays y (Gone t) = IsOf v y
+
+  object_says : (s : Vat Name) (b : Bool) (w i : ℕ) → (b ≡ true → v ≡ w) → PlaceSays (Ref (Object w i)) (spotted Names s (Object w i) (elim b [ true ↦ OwnThing i | false ↦ Foreign w ]))
+  unfolding spotted host_of
+  object_says s true w i f = sym (f refl)
+  object_says s false w i f = refl
+
+  hosted_says : (u h : ℕ) (n : Name) (b : Bool) → (b ≡ true → u ≡ h) → u ≡ v → h ≡ host_of n → PlaceSays (Ref n) (elim b [ true ↦ Mine n | false ↦ Away h n false ])
+  hosted_says u h n true f e g = sym g ∙ sym (f refl) ∙ e
+  hosted_says u h n false f e g = sym g
+
+  eventual_says : (s : Vat Name) (n : Name) → IsEventual n → Sound T s → IsAmong n (names_in s.known) → PlaceSays (Ref n) (hosted Names s.number n (host_at Names s.number s.known n))
+  unfolding hosted
+  eventual_says s n eventual h a = let m = h.more in hosted_says s.number (host_at Names s.number s.known n) n (s.number == host_at Names s.number s.known n) (eqb-true s.number (host_at Names s.number s.known n)) m.number (true_host s.number s.known n eventual m.hosts a)
+
+  place_says : (s : Vat Name) (y : Value Name) → Sound T s → ValueOk (T.ok s) y → PlaceSays y (place Names s y)
+  unfolding place naming spot_of spotted
+  place_says s (Ref (Object w i)) h g = object_says s (v == w) w i (eqb-true v w)
+  place_says s (Ref (Root w)) h g = eventual_says s (Root w) tt h g.1
+  place_says s (Ref (Promise w i)) h g = eventual_says s (Promise w i) tt h g.1
+  place_says s (Ref (Answer w m)) h g = eventual_says s (Answer w m) tt h g.1
+  place_says s (Ref (Gift w i)) h g = eventual_says s (Gift w i) tt h g.1
+  place_says s (Ref (Sent m)) h g = absurd g.0
+  place_says s Null h g = tt
+  place_says s (Flag b) h g = tt
+  place_says s (Number z) h g = tt
+  place_says s (Letter c) h g = tt
+  place_says s (Text t) h g = tt
+  place_says s (Prim i) h g = tt
+  place_says s (Broken p) h g = tt
+  place_says s (Items k) h g = tt
+
+  -- ---- passing
+
+  placed : (s : Vat Name) → Sound T s → (n : Name) → T.ok s (Named n) → PlaceOk (T.ok s) (spotted Names s n (Names.spot n))
+  placed s h n g = let spots = under.spots in spots.placed s h.more n g
+
+  away_fits : {C : Fact Name} (w h : ℕ) (n : Name) (y : Value Name) (b : Bool) → (b ≡ true → h ≡ w) → Gets V C (IsValue y) → Gets V C (IsName n) → Gets V C (IsOff h) → IsOf h y → Fits C (if b then give (Plain y) else (draw Names >>= (λ i. send_out h (Open i n) >> give (AGift h i)))) DoesPass (PassesBetween v w)
+  away_fits w h n y true f g k z o = fits_give (Plain y) (record { at = λ s c. g.at s c }) (of_either v w h y o (inr (f refl)))
+  away_fits {C = C} w h n y false f g k z o = fits_bind IsDraw Whatever (fits_fine fit_draw) (λ i u. fits_then nothing (fit_out h (Open i n) tt (note_open V (Also C (IsDraw i)) i n (record { at = λ s c. c.1 }) (record { at = λ s c. k.at s c.0 })) (goes_open V (Also C (IsDraw i)) h i n)) (fits_give (AGift h i) (record { at = λ s c. (V.near s h (z.at s c.0), c.1) }) tt))
+
+  told_leaves : (w : ℕ) (n : Name) (s : Vat Name) → FitOut s → Leaves (alter Names (ToTell w) n s)
+  unfolding alter
+  told_leaves w n s o = o
+
+  fits_plain : {C : Fact Name} (w : ℕ) (y : Value Name) (p : Place Name) → Gets V C (IsValue y) → Gets V C (IsPlace p) → PlaceSays y p → Fits C (refs.address_plain Names w y p) DoesPass (PassesBetween v w)
+  unfolding refs.address_plain
+  fits_plain w y (Away h n o) g k i = away_fits w h n y (h == w) (eqb-true h w) g (record { at = λ s c. (k.at s c).0 }) (record { at = λ s c. (k.at s c).1 }) i
+  fits_plain w y (Mine n) g k i = fits_then nothing (lift (fine_to_tell Names T under w n (record { at = λ s c. k.at s c })) (told_leaves w n)) (fits_give (Plain y) (record { at = λ s c. g.at s c }) (of_either v w v y i (inl refl)))
+  fits_plain w y Near g k i = fits_give (Plain y) (record { at = λ s c. g.at s c }) (of_either v w v y i (inl refl))
+  fits_plain w y (Gone t) g k i = fits_give (Plain y) (record { at = λ s c. g.at s c }) (of_either v w v y i (inl refl))
+
+  fits_value : {C : Fact Name} (w : ℕ) (y : Value Name) → Gets V C (IsValue y) → Fits C (refs.address Names w (Plain y)) DoesPass (PassesBetween v w)
+  unfolding refs.address ◌>>=◌ look and_then
+  fits_value {C = C} w y g = record { after = λ s h c. (fits_plain {C = Also C (IsPlace (place Names s y))} w y (place Names s y) (record { at = λ r d. g.at r d.0 }) (record { at = λ r d. d.1 }) (place_says s y (name_sound s h) (g.at s c))).after s h (c, place_ok Names (T.ok s) s (placed s (name_sound s h)) y (g.at s c)) }
+
+  mutual
+    unfolding refs.address refs.address_all
+
+    fits_address : {C : Fact Name} (w : ℕ) (y : Passed Name) → Gets V C (DoesPass y) → Fits C (refs.address Names w y) DoesPass (PassesBetween v w)
+    fits_address w (Plain y) g = fits_value w y (record { at = g.at })
+    fits_address w (AGift h i) g = fits_give (AGift h i) g tt
+    fits_address w (Many ys) g = fits_bind DoAllPass (AllPassBetween v w) (fits_address_all w ys (record { at = g.at })) (λ zs b. fits_give (Many zs) (record { at = λ s c. c.1 }) b)
+
+    fits_address_all : {C : Fact Name} (w : ℕ) (ys : Passeds Name) → Gets V C (DoAllPass ys) → Fits C (refs.address_all Names w ys) DoAllPass (AllPassBetween v w)
+    fits_address_all w NoMore g = fits_give NoMore (record { at = λ s c. tt }) tt
+    fits_address_all w (More y ys) g = fits_bind DoesPass (PassesBetween v w) (fits_address w y (record { at = λ s c. (g.at s c).0 })) (λ z b. fits_bind DoAllPass (AllPassBetween v w) (fits_address_all w ys (record { at = λ s c. (g.at s c.0).1 })) (λ zs d. fits_give (More z zs) (record { at = λ s c. (c.0.1, c.1) }) (b, d)))
+
+  fits_pass : {C : Fact Name} (w : ℕ) (x : Value Name) → Gets V C (IsValue x) → Fits C (refs.pass Names w x) DoesPass (PassesBetween v w)
+  unfolding refs.pass
+  fits_pass w x g = fits_bind parcel Whatever (fits_fine (look_parcel Names V x g)) (λ y u. fits_then nothing (fine_spend V y.weight) (fits_address w y.value (record { at = λ s c. c.1 })))
+
+  fits_pass_all : {C : Fact Name} (w : ℕ) (xs : List (Value Name)) → Gets V C (AreValues xs) → Fits C (refs.pass_all Names w xs) DoAllPass (AllPassBetween v w)
+  unfolding refs.pass_all
+  fits_pass_all w [] g = fits_give NoMore (record { at = λ s c. tt }) tt
+  fits_pass_all w (x ∷ xs) g = fits_bind DoesPass (PassesBetween v w) (fits_pass w x (record { at = λ s c. (g.at s c).0 })) (λ y b. fits_bind DoAllPass (AllPassBetween v w) (fits_pass_all w xs (record { at = λ s c. (g.at s c.0).1 })) (λ ys d. fits_give (More y ys) (record { at = λ s c. (c.0.1, c.1) }) (b, d)))
+
+  -- ---- the notes with what passes in them
+
+  fit_tell : {C : Fact Name} (e : _) → Fine V C (tell e) nothing
+  unfolding tell
+  fit_tell e = lift (fine_tell Names T under e) (λ s o. o)
+
+  fit_deliver : {C : Fact Name} (m : Message Name) → Gets V C (IsMessage m) → (h : ℕ) → Gets V C (IsOff h) → (n : Name) → Gets V C (IsName n) → Fine V C (refs.deliver Names m h n) nothing
+  unfolding refs.deliver
+  fit_deliver {C = C} m g h o n k = fine_fits (fits_bind {R = Whatever} DoAllPass (AllPassBetween v h) (fits_pass_all h m.args (record { at = λ s c. (g.at s c).2 })) (λ ys b. fits_then nothing (fit_tell (Posted h m.id))
+      (fits_fine (fit_out h (Deliver (refs.delivery_of Names m) n m.verb ys) b (note_deliver V (Also C (DoAllPass ys)) (refs.delivery_of Names m) n m.verb ys (record { at = λ s c. (g.at s c.0).0 }) (record { at = λ s c. k.at s c.0 }) (record { at = λ s c. c.1 })) (goes_deliver V (Also C (DoAllPass ys)) h (refs.delivery_of Names m) n m.verb ys (record { at = λ s c. o.at s c.0 }))))))
+
+  fit_settled : {C : Fact Name} (p : Name) → Gets V C (IsName p) → (w : ℕ) (y : Value Name) → Gets V C (IsValue y) → Fine V C (refs.pass Names w y >>= (λ z. send_out w (SettledTo p z))) nothing
+  fit_settled {C = C} p g w y k = fine_fits (fits_bind DoesPass (PassesBetween v w) (fits_pass w y k) (λ z b. fits_fine (fit_out w (SettledTo p z) b (note_settled V (Also C (DoesPass z)) p z (record { at = λ s c. g.at s c.0 }) (record { at = λ s c. c.1 })) (goes_settled V (Also C (DoesPass z)) w p z))))
+
+  fit_inform : {C : Fact Name} (p : Name) → Gets V C (IsName p) → (w : ℕ) (y : Value Name) → Gets V C (IsValue y) → (q : Place Name) → Gets V C (IsPlace q) → Fine V C (refs.inform_of Names p w y q) nothing
+  unfolding refs.inform_of
+  fit_inform {C = C} p g w y k (Away h n true) l = fit_out w (Elsewhere p h) tt (note_elsewhere V C p h g (record { at = λ s c. V.near s h (l.at s c).1 })) (goes_elsewhere V C w p h)
+  fit_inform p g w y k (Away h n false) l = fit_settled p g w y k
+  fit_inform p g w y k Near l = fit_settled p g w y k
+  fit_inform p g w y k (Mine n) l = fit_settled p g w y k
+  fit_inform p g w y k (Gone t) l = fit_settled p g w y k
+
+  pub fit_puts : Puts Names V
+  unfolding enqueue alter come new_gift open_gift mark new_message new_lone_message new_promise
+  fit_puts = record {
+    spots = record { alike = λ a b e. let spots = under.spots in spots.alike a b e; placed = λ s m n g. let spots = under.spots in spots.placed s m.0 n g };
+    alike = record { named = λ s n h. h; owns = λ s n i h. h; gave = λ s i h. h };
+    object = λ s i. under.object s i;
+    tells = λ C e. fit_tell e;
+    queues = λ C m g. lift (fine_enqueue Names T under m (gets_names g)) (λ s o. o);
+    holds = λ C m n g. lift (fine_hold Names T under m n (gets_names g)) (λ s o. o);
+    waits = λ C p n g. lift (fine_wait Names T under p n (gets_names g)) (λ s o. o);
+    waits_on = λ C p n g. lift (fine_waits_on Names T under p n (gets_names g)) (λ s o. o);
+    reacts = λ C m n g. lift (fine_reacts Names T under m n (gets_names g)) (λ s o. o);
+    to_tell = λ C w n g. lift (fine_to_tell Names T under w n (gets_names g)) (λ s o. o);
+    settles = λ C y n g. lift (fine_settles Names T under y n (gets_names g)) (λ s o. o);
+    answers = λ C h m g k. lift (come_answer Names T under h m (gets_names g) (gets_names k)) (λ s o. o);
+    gifts = λ C h i g k. lift (come_gift Names T under gives h i (record { at = λ s c. g.at s c }) (gets_names k)) (λ s o. o);
+    gives = λ C n p i g k. lift (fine_gift Names T under gives n p i (record { at = λ s c. g.at s c }) (gets_names k)) (λ s o. o);
+    opened = λ C p i. lift (fine_open Names T under p i) (λ s o. o);
+    marks = λ C w. lift (fine_mark Names T under w) (λ s o. o);
+    draws = λ C. fit_draw;
+    messages = λ C h g. lift (fine_new_message Names T under makes h (gets_names g)) (λ s o. o);
+    lones = λ C. lift (fine_lone_message Names T under makes) (λ s o. o);
+    promises = λ C. lift (fine_promise Names T under makes) (λ s o. o);
+    delivers = λ C m g h o n k. fit_deliver m g h o n k;
+    informs = λ C p g w y k z l. fit_inform p g w y k z l;
+    asks = λ C to p i n g k. fit_out to (Ask p i n) tt (note_ask V C p i n (record { at = λ s c. g.at s c }) k) (goes_ask V C to p i n);
+    opens = λ C to i n g k. fit_out to (Open i n) tt (note_open V C i n g k) (goes_open V C to i n);
+  }

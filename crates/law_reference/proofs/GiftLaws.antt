@@ -1,0 +1,232 @@
+-- In every world of a run each draw passes as a gift once at most, and has one provider.
+use Rattle.std.proofs.Common.{◌≡◌, ℕ, zero, suc, ◌+◌, ◌≤◌, Bool, true, false, List, [], ◌∷◌, Option, Some, None, refl, sym, ap, ◌⊎◌, inl, inr, length, arith}
+use Rattle.std.specs.Prelude.{slice_get}
+use Rattle.def_machine.specs.Values.{Name, Root}
+use Rattle.def_machine.specs.State.{Message, Note, GiftEntry, Vat, Done, Gives, Throws, Ejects, Stops}
+use Rattle.def_machine.specs.Eval.{opening}
+use Rattle.def_machine.specs.Arrive.{notice}
+use Rattle.law_machine.specs.Steps.{After}
+use Rattle.def_run.specs.Draws.{draw_word}
+use Rattle.def_run.specs.World as world
+use Rattle.def_run.specs.World.{Script, Program, Entry, Turn, Carry, CutLink, NoticeLink, Event, Link, World, Run, Goes as Going, Stopped, names, names_of, put_at}
+use Rattle.law_fate.specs.Lasting.{Each}
+use Rattle.law_fate.specs.FateRuns.{Reached, InRuns}
+use Rattle.law_reference.specs.Standing.{DrawsDiffer, EachDrawStandsOnce}
+use Rattle.law_reference.specs.GiftPassing.{gifts_put, gifts_under_way, drawn_of, Provides, IsProvided, GiftsPassOnce, EachDrawHasOneProvider}
+use Rattle.law_reference.proofs.Puts.{Fair, gifts_out, each_up, provides_up}
+use Rattle.law_reference.proofs.ArrivePuts.{fair_notice}
+use Rattle.law_reference.proofs.StepsPuts.{later, later_new, later_up, fair_taking, fair_opening, arrival_ends}
+use Rattle.law_reference.proofs.GiftLinks.{LinkTells, pushed_notes, pushed_log, push_all_gifts, with_link_less, severed_less, severed_log, taken_less, taken_log, with_link_tells, push_all_tells, severed_tells, taken_tells, found_tells, links_from_tell, links_from_none}
+
+-- with P as the provider of each draw
+pub record Holds (P : ℕ → ℕ) (w : World) : Type 0 where
+  pub put : (i : ℕ) → gifts_put i w.links ≤ drawn_of i (length w.drawn)
+  pub count : (i : ℕ) → gifts_under_way i w.links ≤ drawn_of i (length w.drawn)
+  pub links : Each (LinkTells P (length w.drawn)) w.links
+  pub vats : (v : ℕ) (s : Vat Name) → slice_get w.vats v ≡ Some s → (s.number ≡ v) × Each (IsProvided P (length w.drawn)) s.gifts × DrawsDiffer s.gifts
+
+abbrev pub Fits : World → Type 0
+Fits w = (P : ℕ → ℕ) × Holds P w
+
+put_at_or : (v : ℕ) (y : Vat Name) (xs : List (Vat Name)) (u : ℕ) (t : Vat Name) → slice_get (put_at v y xs) u ≡ Some t → ((u ≡ v) × (y ≡ t)) ⊎ (slice_get xs u ≡ Some t)
+unfolding put_at
+put_at_or v y [] u t e = inr e
+put_at_or zero y (x ∷ xs) zero t e = let same : y ≡ t = cc in inl (refl, same)
+put_at_or zero y (x ∷ xs) (suc u) t e = inr e
+put_at_or (suc v) y (x ∷ xs) zero t e = inr e
+put_at_or (suc v) y (x ∷ xs) (suc u) t e = go (put_at_or v y xs u t e)
+  where
+    go : ((u ≡ v) × (y ≡ t)) ⊎ (slice_get xs u ≡ Some t) → ((suc u ≡ suc v) × (y ≡ t)) ⊎ (slice_get (x ∷ xs) (suc u) ≡ Some t)
+    go (inl h) = inl (ap suc h.0, h.1)
+    go (inr h) = inr h
+
+-- one vat as Q tells, and the others as P tells
+put_one : (A : ℕ → Vat Name → Type 0) (v : ℕ) (vats : List (Vat Name)) (t : Vat Name) → A v t → ((u : ℕ) (r : Vat Name) → slice_get vats u ≡ Some r → A u r) → (u : ℕ) (r : Vat Name) → ((u ≡ v) × (t ≡ r)) ⊎ (slice_get vats u ≡ Some r) → A u r
+put_one A v vats t k h u r (inl e) = let one : A u t = rw (sym e.0) at k in rw e.1 at one
+put_one A v vats t k h u r (inr e) = h u r e
+
+-- what a step of vat v makes of the world, where all draws of the step have provider q
+put_back_fits : (P : ℕ → ℕ) (q v : ℕ) (w : World) (head : List Event) (n : ℕ) (s : Vat Name) (d : Done Name (Unit {0})) → Holds P w → s.number ≡ v → Each (IsProvided P (length w.drawn)) s.gifts → DrawsDiffer s.gifts
+    → After (Fair v (length w.drawn) (later P (length w.drawn) q)) (world.readied w s) d → Reached Fits (world.put_back v w head n d)
+unfolding world.put_back world.readied gifts_out
+put_back_fits P q v w head n s (Gives a t) h e g f k = (
+  later P (length w.drawn) q,
+  record {
+    put = λ i. let pushed = push_all_gifts (λ (l : Link). l.log) i (pushed_log i) v t.outbox w.links in let puts = k.puts in let c = puts.count i in let b = h.put i in omega arith;
+    count = λ i. let pushed = push_all_gifts (λ (l : Link). l.notes) i (pushed_notes i) v t.outbox w.links in let puts = k.puts in let c = puts.count i in let b = h.count i in omega arith;
+    links = push_all_tells (later P (length w.drawn) q) (length t.drawn) v t.outbox w.links (let puts = k.puts in puts.outs e (omega arith) tt) (each_up (LinkTells P (length w.drawn)) (LinkTells (later P (length w.drawn) q) (length t.drawn)) (λ l j. (up_all l.from l.to l.log j.0, up_all l.from l.to l.notes j.1)) w.links h.links);
+    vats = λ u r i. put_one Vat_ok v w.vats t (let puts = k.puts in puts.number e, let puts = k.puts in puts.gifts (omega arith) (up_gifts (length w.drawn) (omega arith) s.gifts g), let puts = k.puts in puts.once (omega arith) (up_gifts (length w.drawn) (omega arith) s.gifts g) f) others u r (put_at_or v t w.vats u r i);
+  },
+)
+  where
+    more : length w.drawn ≤ length t.drawn
+    more = let puts = k.puts in puts.drawn
+
+    Vat_ok : ℕ → Vat Name → Type 0
+    Vat_ok u r = (r.number ≡ u) × Each (IsProvided (later P (length w.drawn) q) (length t.drawn)) r.gifts × DrawsDiffer r.gifts
+
+    up_all : (from to : ℕ) (ns : List (Note Name)) → Each (Provides P (length w.drawn) from to) ns → Each (Provides (later P (length w.drawn) q) (length t.drawn) from to) ns
+    up_all from to ns j = each_up (Provides P (length w.drawn) from to) (Provides (later P (length w.drawn) q) (length t.drawn) from to) (λ m o. provides_up P (later P (length w.drawn) q) (length w.drawn) (length t.drawn) (later_up P (length w.drawn) q (length t.drawn) more) from to m o) ns j
+
+    up_gifts : (e : ℕ) → length w.drawn ≤ e → (gs : List (GiftEntry Name)) → Each (IsProvided P (length w.drawn)) gs → Each (IsProvided (later P (length w.drawn) q) e) gs
+    up_gifts e l gs j = each_up (IsProvided P (length w.drawn)) (IsProvided (later P (length w.drawn) q) e) (λ x o. later_up P (length w.drawn) q e l x.number x.provider o) gs j
+
+    others : (u : ℕ) (r : Vat Name) → slice_get w.vats u ≡ Some r → Vat_ok u r
+    others u r i = let o = h.vats u r i in (o.0, up_gifts (length t.drawn) more r.gifts o.1, o.2)
+put_back_fits P q v w head n s (Throws p t) h e g f k = (P, h)
+put_back_fits P q v w head n s (Ejects m y t) h e g f k = (P, h)
+put_back_fits P q v w head n s (Stops c t) h e g f k = (P, h)
+
+module _ (script : Script) where
+  idle_fits : (k : ℕ) (w : World) → Fits w → Reached Fits (world.idle script k w)
+  unfolding world.idle
+  idle_fits k w h = let o = h.1 in (h.0, record { put = o.put; count = o.count; links = o.links; vats = o.vats })
+
+  -- what P tells of the draws that were made, and v of all later ones
+  abbrev From : (ℕ → ℕ) → World → ℕ → ℕ → ℕ
+  From P w v = later P (length w.drawn) v
+
+  turn_queue_fits : (k v : ℕ) (w : World) (s : Vat Name) (ms : List (Message Name)) → slice_get w.vats v ≡ Some s → Fits w → Reached Fits (world.turn_queue script k v w s ms)
+  unfolding world.turn_queue world.within names
+  turn_queue_fits k v w s [] i h = idle_fits k w h
+  turn_queue_fits k v w s (m ∷ ms) i h = let o = h.1 in let a = o.vats v s i in put_back_fits h.0 v v w _ _ (record s { queue = ms }) _ o a.0 a.1 a.2
+      ((fair_taking v (length w.drawn) (From h.0 w v) (later_new h.0 (length w.drawn) v) (draw_word script.key) (world.tree_at script.vats v) script.depth m).after (world.readied w (record s { queue = ms })))
+
+  turn_fits : (k v : ℕ) (w : World) (o : Option (Vat Name)) → slice_get w.vats v ≡ o → Fits w → Reached Fits (world.turn script k v w o)
+  unfolding world.turn
+  turn_fits k v w None i h = idle_fits k w h
+  turn_fits k v w (Some s) i h = turn_queue_fits k v w s s.queue i h
+
+  arrives_fits : (k v to : ℕ) (w : World) (n : Note Name) (P : ℕ → ℕ) → Holds P w → Provides P (length w.drawn) v to n → (o : Option (Vat Name)) → slice_get w.vats to ≡ o → Reached Fits (world.arrives script k v to w n o)
+  unfolding world.arrives world.within names
+  arrives_fits k v to w n P h t None i = idle_fits k w (P, h)
+  arrives_fits k v to w n P h t (Some s) i = let a = h.vats to s i in let ends = arrival_ends P (length w.drawn) v to (draw_word script.key) (names_of s) (world.readied w s) n t in
+      put_back_fits P ends.0 to w _ _ s _ h a.0 a.1 a.2 ends.1
+
+  -- the world once a note was taken from its link
+  taken_holds : (P : ℕ → ℕ) (v to : ℕ) (w : World) (l : Link) (n : Note Name) (ns : List (Note Name)) → world.link_at v to w.links ≡ Some l → l.notes ≡ n ∷ ns → Each (Provides P (length w.drawn) v to) (n ∷ ns) → Holds P w → Holds P (record w { links = world.with_link (world.with_notes ns) v to w.links })
+  taken_holds P v to w l n ns e f t h = record {
+    put = λ i. let a = with_link_less (λ (j : Link). j.log) i (world.with_notes ns) (taken_log i ns) v to w.links in let b = h.put i in omega arith;
+    count = λ i. let a = taken_less i v to n ns l f w.links e in let b = h.count i in omega arith;
+    links = with_link_tells P (length w.drawn) (world.with_notes ns) v to (taken_tells P (length w.drawn) v to ns t.1) w.links h.links;
+    vats = h.vats;
+  }
+
+  carry_notes_fits : (k v to : ℕ) (w : World) (l : Link) (ns : List (Note Name)) (P : ℕ → ℕ) → world.link_at v to w.links ≡ Some l → l.notes ≡ ns → Each (Provides P (length w.drawn) v to) ns → Holds P w → Reached Fits (world.carry_notes script k v to w ns)
+  unfolding world.carry_notes
+  carry_notes_fits k v to w l [] P e f t h = idle_fits k w (P, h)
+  carry_notes_fits k v to w l (n ∷ ns) P e f t h = arrives_fits k v to (record w { links = world.with_link (world.with_notes ns) v to w.links }) n P (taken_holds P v to w l n ns e f t h) t.0 (slice_get w.vats to) refl
+
+  carry_cut_fits : (k v to : ℕ) (w : World) (l : Link) (b : Bool) → world.link_at v to w.links ≡ Some l → Fits w → Reached Fits (elim b [ true ↦ world.idle script k w | false ↦ world.carry_notes script k v to w l.notes ])
+  carry_cut_fits k v to w l true e h = idle_fits k w h
+  carry_cut_fits k v to w l false e h = let o = h.1 in carry_notes_fits k v to w l l.notes h.0 e refl (found_tells h.0 (length w.drawn) v to l w.links o.links e) o
+
+  carry_link_fits : (k v to : ℕ) (w : World) (o : Option Link) → world.link_at v to w.links ≡ o → Fits w → Reached Fits (world.carry_link script k v to w o)
+  unfolding world.carry_link
+  carry_link_fits k v to w None e h = idle_fits k w h
+  carry_link_fits k v to w (Some l) e h = carry_cut_fits k v to w l l.cut e h
+
+  cut_fits : (k v to : ℕ) (w : World) → Fits w → Reached Fits (world.cut script k v to w)
+  unfolding world.cut
+  cut_fits k v to w h = let o = h.1 in let d = length w.drawn in (
+    h.0,
+    record {
+      put = λ i. let a = with_link_less (λ (l : Link). l.log) i world.severed_link (severed_log i) v to w.links in let b = with_link_less (λ (l : Link). l.log) i world.severed_link (severed_log i) to v (world.with_link world.severed_link v to w.links) in let c = o.put i in omega arith;
+      count = λ i. let a = with_link_less (λ (l : Link). l.notes) i world.severed_link (severed_less i) v to w.links in let b = with_link_less (λ (l : Link). l.notes) i world.severed_link (severed_less i) to v (world.with_link world.severed_link v to w.links) in let c = o.count i in omega arith;
+      links = with_link_tells h.0 d world.severed_link to v (λ l a b j. severed_tells h.0 d l j) (world.with_link world.severed_link v to w.links) (with_link_tells h.0 d world.severed_link v to (λ l a b j. severed_tells h.0 d l j) w.links o.links);
+      vats = o.vats;
+    },
+  )
+
+  notice_fits : (k v to : ℕ) (w : World) (o : Option (Vat Name)) → slice_get w.vats v ≡ o → Fits w → Reached Fits (world.within v w (world.NoticedAt k v to ∷ []) (world.step_number script k) (notice (names script v) to) o)
+  unfolding world.within names
+  notice_fits k v to w None i h = h
+  notice_fits k v to w (Some s) i h = let o = h.1 in let a = o.vats v s i in put_back_fits h.0 v v w _ _ s _ o a.0 a.1 a.2
+      ((fair_notice v (length w.drawn) (From h.0 w v) (later_new h.0 (length w.drawn) v) (draw_word script.key) to).after (world.readied w s))
+
+  step_fits : (entry : Entry) (k : ℕ) (w : World) → Fits w → Reached Fits (world.step script entry k w)
+  unfolding world.step
+  step_fits (Turn v) k w h = turn_fits k v w (slice_get w.vats v) refl h
+  step_fits (Carry v to) k w h = carry_link_fits k v to w (world.link_at v to w.links) refl h
+  step_fits (CutLink v to) k w h = cut_fits k v to w h
+  step_fits (NoticeLink v to) k w h = notice_fits k v to w (slice_get w.vats v) refl h
+
+  then_fits : (r : Run) (f : World → Run) → Reached Fits r → ((y : World) → Fits y → Reached Fits (f y)) → Reached Fits (world.then_goes r f)
+  unfolding world.then_goes
+  then_fits (Going y) f h g = g y h
+  then_fits (Stopped c n y) f h g = h
+
+  steps_fit : (es : List Entry) (k : ℕ) (w : World) → Fits w → Reached Fits (world.steps_from script es k w)
+  unfolding world.steps_from
+  steps_fit [] k w h = h
+  steps_fit (entry ∷ es) k w h = then_fits (world.step script entry k w) (world.steps_from script es (suc k)) (step_fits entry k w h) (λ y i. steps_fit es (suc k) y i)
+
+  open_fits : (v : ℕ) (p : Program) (w : World) (o : Option (Vat Name)) → slice_get w.vats v ≡ o → Fits w → Reached Fits (world.within v w (world.Opens v ∷ []) v (opening (names script v) p.tree script.depth (Root v) (world.given script.vats p.knows)) o)
+  unfolding world.within names
+  open_fits v p w None i h = h
+  open_fits v p w (Some s) i h = let o = h.1 in let a = o.vats v s i in put_back_fits h.0 v v w _ _ s _ o a.0 a.1 a.2
+      ((fair_opening v (length w.drawn) (From h.0 w v) (later_new h.0 (length w.drawn) v) (draw_word script.key) p.tree script.depth (Root v) (world.given script.vats p.knows)).after (world.readied w s))
+
+  opens_fit : (v : ℕ) (ps : List Program) (w : World) → Fits w → Reached Fits (world.open_from script v ps w)
+  unfolding world.open_from world.open_vat
+  opens_fit v [] w h = h
+  opens_fit v (p ∷ ps) w h = then_fits (world.open_vat script v p w) (world.open_from script (suc v) ps) (open_fits v p w (slice_get w.vats v) refl h) (λ y i. opens_fit (suc v) ps y i)
+
+  -- ---- the start
+
+  fresh_fits : (u : ℕ) (ps : List Program) (n : ℕ) (s : Vat Name) → slice_get (world.fresh_from script u ps) n ≡ Some s → (s.number ≡ u + n) × (s.gifts ≡ [])
+  unfolding world.fresh_from world.fresh
+  fresh_fits u [] n s e = cc
+  fresh_fits u (p ∷ ps) zero s e = let same : world.fresh script u p ≡ s = cc in fresh_is u p s same
+    where
+      fresh_is : (u : ℕ) (p : Program) (s : Vat Name) → world.fresh script u p ≡ s → (s.number ≡ u + zero) × (s.gifts ≡ [])
+      fresh_is u p s e = rw (sym e) (omega arith, refl)
+  fresh_fits u (p ∷ ps) (suc n) s e = let r = fresh_fits (suc u) ps n s e in let a = r.0 in (omega arith, r.1)
+
+  no_gifts : (P : ℕ → ℕ) (d : ℕ) (gs : List (GiftEntry Name)) → gs ≡ [] → Each (IsProvided P d) gs
+  no_gifts P d gs e = rw e tt
+
+  no_draws : (gs : List (GiftEntry Name)) → gs ≡ [] → DrawsDiffer gs
+  no_draws gs e = rw e tt
+
+  begins_fits : Fits (world.begins script)
+  unfolding world.begins
+  begins_fits = (
+    λ i. zero,
+    record {
+      put = λ i. let none = links_from_none (λ (l : Link). l.log) i (λ v w p. refl) script.vats zero script.vats in omega arith;
+      count = λ i. let none = links_from_none (λ (l : Link). l.notes) i (λ v w p. refl) script.vats zero script.vats in omega arith;
+      links = links_from_tell (λ i. zero) zero script.vats zero script.vats;
+      vats = λ v s e. let r = fresh_fits zero script.vats v s e in let a = r.0 in (omega arith, no_gifts (λ i. zero) zero s.gifts r.1, no_draws s.gifts r.1);
+    },
+  )
+
+-- ---- the laws
+
+reached_map : (P Q : World → Type 0) → ((w : World) → P w → Q w) → (r : Run) → Reached P r → Reached Q r
+reached_map P Q f (Going w) h = f w h
+reached_map P Q f (Stopped c k w) h = f w h
+
+pub reached_is : (P : World → Type 0) (r : Run) (w : World) → r ≡ Going w → Reached P r → P w
+reached_is P r w e h = rw e at h
+
+pub fits_opened : (script : Script) (ps : List Program) (w : World) → world.open_from script zero ps (world.begins script) ≡ Going w → Fits w
+fits_opened script ps w e = reached_is Fits _ w e (opens_fit script zero ps (world.begins script) (begins_fits script))
+
+pub fits_stepped : (script : Script) (w x : World) (es : List Entry) (k : ℕ) → world.open_from script zero script.vats (world.begins script) ≡ Going w → world.steps_from script es k w ≡ Going x → Fits x
+fits_stepped script w x es k e i = reached_is Fits _ x i (steps_fit script es k w (fits_opened script script.vats w e))
+
+pub in_runs : (P : World → Type 0) → ((w : World) → Fits w → P w) → InRuns P
+in_runs P f script = (
+  λ ps. reached_map Fits P f _ (opens_fit script zero ps (world.begins script) (begins_fits script)),
+  λ w es k opened. reached_map Fits P f _ (steps_fit script es k w (fits_opened script script.vats w opened)),
+)
+
+pub gifts_pass_once : GiftsPassOnce
+gifts_pass_once = in_runs _ (λ w h i. let o = h.1 in (o.put i, o.count i))
+
+pub one_provider : EachDrawHasOneProvider
+one_provider = in_runs _ (λ w h. let o = h.1 in (h.0, o.links, λ v s e. (o.vats v s e).1))
+
+pub draws_once : EachDrawStandsOnce
+draws_once = in_runs _ (λ w h v s e. let o = h.1 in (o.vats v s e).2)

@@ -1,0 +1,238 @@
+-- A vat that has no gift of a draw in hand, and knows none but its own, goes on so: a care for names, and what arrives.
+use Rattle.std.proofs.Common.{◌≡◌, ℕ, suc, ◌<◌, Bool, true, false, List, [], ◌∷◌, ◌++◌, Option, Some, None, if◌then◌else◌, codes, refl, ◌⊎◌, inl, inr, length, ◌==◌, arith}
+use Rattle.def_machine.specs.Values.{Prim, Broken, Ref, Name, Root, Object, Promise, Answer, Gift, Sent, Spot, Own, Foreign, NoObject, Naming, naming, name_of, mail_of, answer_of, spot_of, host_of, IsGift, IsLearnt}
+use Rattle.def_machine.specs.State.{See, Views, Note, Ask, Elsewhere, Shorten, Put, GiftEntry, Vat, Done, Gives, Throws, Ejects, Stops, Act, ◌>>=◌, ◌>>◌, and_then, give, look, tell, come, mail, draw, draws, alter, send_out, new_gift, is_in, begun}
+use Rattle.def_machine.specs.Refs as refs
+use Rattle.def_machine.specs.Refs.{Place, Mine, Away, host_at}
+use Rattle.def_machine.specs.Arrive as arrive
+use Rattle.def_machine.specs.Arrive.{Old, New}
+use Rattle.def_run.specs.World as world
+use Rattle.law_name.specs.Names.{IsMessageName}
+use Rattle.law_name.proofs.Facts.{PlaceOk, Fact, Nothing, Also, IsName, IsMail, IsGiven, IsVat, IsValue, nothing}
+use Rattle.law_name.proofs.Care.{Care, Under, Giving, Makes, Sound, Ends, Gets, Fine, fine_bind, fine_less, fine_then, fine_more, fine_give, fine_look, fine_tell, fine_out, fine_wait, come_gift, changes_ok, with_known}
+use Rattle.law_name.proofs.CareRefs.{fine_settle}
+use Rattle.law_name.proofs.CareArrive.{Gifts, gifts_by, fine_ask_for, fine_gift_there}
+use Rattle.law_name.proofs.Among.{length_end}
+use Rattle.law_name.proofs.SameNames.{reference_is}
+use Rattle.law_reference.specs.GiftPassing.{gifts_in_note}
+use Rattle.law_reference.proofs.Puts.{gifts_out, out_end}
+use Rattle.law_reference.proofs.Gentle.{AfterGives}
+use Rattle.law_reference.specs.Hiding.{IsNotOf, IsOfNoOther, Shuns}
+use Rattle.law_reference.proofs.Arrivals.{NoteTells, Brings, IsNews, note_read}
+
+less_not : (i j : ℕ) → i < j → j ≡ i → ⊥
+less_not i j h e = omega arith
+
+still_less : (i d e : ℕ) → i < d → e ≡ suc d → i < e
+still_less i d e h k = omega arith
+
+module _ (i : ℕ) where
+  pub not_other : (v : ℕ) (n : Name) → IsNotOf i n → IsOfNoOther i v n
+  not_other v (Gift h j) f = λ e. absurd (f e)
+  not_other v (Root w) f = tt
+  not_other v (Object w j) f = tt
+  not_other v (Promise w j) f = tt
+  not_other v (Answer h m) f = tt
+  not_other v (Sent m) f = tt
+
+  answer_not : (h : ℕ) (m : Name) → IsMessageName m → IsNotOf i (answer_of h m)
+  unfolding answer_of
+  answer_not h (Sent m) o = tt
+  answer_not h (Root w) o = absurd o
+  answer_not h (Object w j) o = absurd o
+  answer_not h (Promise w j) o = absurd o
+  answer_not h (Answer w m) o = absurd o
+  answer_not h (Gift w j) o = absurd o
+
+  -- Where O holds the draw was made, so that no view is of it.
+  module _ (v : ℕ) (O : Type 0) where
+    abbrev pub Hides : Care Name
+    Hides = record {
+      ok = λ s b. Shuns i v b;
+      more = λ s. (s.number ≡ v) × (O → i < length s.drawn);
+      rel = λ s t. Unit {0};
+      same = λ s. tt;
+      trans = λ s t u h k. tt;
+      up = λ s t r b h. h;
+      here = λ s m. tt;
+      near = λ s h k. tt;
+      entered = λ s n h. not_other v n h;
+      owned = λ s n j h. h.0;
+      owner = λ s n j h k. h.1 k;
+      drew = λ s j h. tt;
+      fuel = λ s n. (tt, λ h. h);
+      told = λ s e n. (tt, λ h. h);
+      activations = λ s. (tt, λ h. h);
+      thing = λ s t. (tt, λ h. h);
+      killed = λ s n. (tt, λ h. h);
+      slot = λ s c. (tt, λ h. h);
+      written = λ s n x. (tt, λ h. h);
+      list = λ s vs. (tt, λ h. h);
+    }
+
+    module _ (word : ℕ → ℕ) where
+      abbrev K : Naming Name Name
+      K = naming word v
+
+      hosted_ok : (s : Vat Name) (n : Name) (h : ℕ) (b : Bool) → IsNotOf i n → PlaceOk (Shuns i v) (elim b [ true ↦ Mine n | false ↦ Away h n false ])
+      hosted_ok s n h true g = g
+      hosted_ok s n h false g = (g, tt)
+
+      spot_ok : (s : Vat Name) (n : Name) (p : Spot) → IsNotOf i n → PlaceOk (Shuns i v) (refs.spotted K s n p)
+      unfolding refs.spotted refs.hosted
+      spot_ok s n (Own j) g = tt
+      spot_ok s n (Foreign w) g = (g, tt)
+      spot_ok s n NoObject g = hosted_ok s n (host_at K s.number s.known n) (s.number == host_at K s.number s.known n) g
+
+      pub hides_under : Under K Hides
+      unfolding naming name_of
+      hides_under = record {
+        spots = record { alike = λ a b e. reference_is a b e; placed = λ s m n g. spot_ok s n (spot_of v n) g };
+        object = λ s j. tt;
+        happened = λ s e. (tt, λ h. h);
+        queue = λ s m. (tt, λ h. h);
+        outbox = λ s p h. (tt, λ k. k);
+        opened = λ s p j. (tt, λ h. h);
+        noticed = λ s w. (tt, λ h. h);
+        drawn = λ s w. (tt, λ h. (h.0, λ o. still_less i (length s.drawn) (length (s.drawn ++ w ∷ [])) (h.1 o) (length_end s.drawn w)), tt);
+        altered = λ s c n none h. (tt, λ k. k);
+        answered = λ s h m o at. (tt, λ k. k, answer_not h m o);
+      }
+
+      pub hides_gives : Giving K Hides
+      unfolding naming name_of
+      hides_gives = record {
+        gift = λ s g h. (tt, λ k. k);
+        given = λ s h j g at. (tt, λ k. k, g);
+        hosted = λ s j m d. (tt, λ k. k, (λ e. m.0, λ f. f));
+      }
+
+      pub hides_makes : Makes K Hides
+      unfolding naming name_of mail_of answer_of
+      hides_makes = record { promised = λ s. (tt, λ h. h, tt); lone = λ s. (tt, λ k. k, tt); messaged = λ s h at. (tt, λ k. k, tt, tt) }
+
+      pub hides_gifts : Gifts K Hides
+      hides_gifts = gifts_by K Hides hides_under hides_gives
+
+      -- ---- views, of a draw that is made later
+
+      draws_other : (s : Vat Name) (w : ℕ) (o : Option ℕ) → O → Sound Hides s → Ends Hides IsGiven s (draws w o s)
+      unfolding draws
+      draws_other s w (Some k) o h = tt
+      draws_other s w None o h = let p = h.parts in let m = h.more in (tt, record { parts = record { things = p.things; slots = p.slots; lists = p.lists; queue = p.queue; known = p.known; gifts = p.gifts; outbox = p.outbox }; more = (m.0, λ o. still_less i (length s.drawn) (length (s.drawn ++ w ∷ [])) (m.1 o) (length_end s.drawn w)) }, less_not i (length s.drawn) (m.1 o))
+
+      draw_other : {C : Fact Name} → O → Fine Hides C (draw K) IsGiven
+      unfolding draw
+      draw_other o = record { after = λ s h c. draws_other s _ _ o h }
+
+      see_hides : {C : Fact Name} (n g : Name) → Gets Hides C (IsName g) → Fine Hides C (alter K (See g) n) nothing
+      unfolding alter
+      see_hides n g k = record { after = λ s h c. let p = h.parts in (tt, record { parts = record { things = p.things; slots = p.slots; lists = p.lists; queue = p.queue; known = changes_ok K Hides hides_under (Shuns i v) (See g) n s.known (k.at s c) (λ a e. tt) p.known; gifts = p.gifts; outbox = p.outbox }; more = h.more }, tt) }
+
+      seen_hides : {C : Fact Name} (n g : Name) → Gets Hides C (IsName n) → Gets Hides C (IsName g) → Fine Hides C (arrive.see K n g) nothing
+      unfolding arrive.see
+      seen_hides n g j k = fine_then Hides nothing (fine_tell K Hides hides_under (Views n g)) (fine_then Hides nothing (see_hides n g k) (fine_wait K Hides hides_under n g (record { at = λ s c. not_other v n (j.at s c) })))
+
+      view_hides : {C : Fact Name} → O → (n : Name) → Gets Hides C (IsName n) → (c : ℕ) → Gets Hides C (IsVat c) → Fine Hides C (arrive.view_there K n c) nothing
+      unfolding arrive.view_there
+      view_hides o n g c k = fine_less Hides nothing (fine_look Hides _) (λ u. fine_less Hides nothing (fine_look Hides _) (λ h. fine_bind Hides IsGiven (draw_other o) (λ j. fine_then Hides nothing (fine_out K Hides hides_under h (Shorten n c j) (record { at = λ s d. (g.at s d.0, tt) }) (record { at = λ s d. tt }))
+          (fine_bind Hides IsName (fine_gift_there K Hides hides_under hides_gives u h c j (record { at = λ s d. tt }) (record { at = λ s d. d.1 })) (λ x. seen_hides n x (record { at = λ s d. g.at s d.0.0 }) (record { at = λ s d. d.1 }))))))
+
+      -- ---- what arrives
+
+      new_hides : {C : Fact Name} (n : Name) (h : ℕ) → IsNotOf i n → Fine Hides C (come K (IsLearnt n) h) IsName
+      unfolding come naming name_of
+      new_hides n h f = record { after = λ s k c. (tt, record { parts = with_known K Hides hides_under s (record s { known = s.known ++ begun n h ∷ [] }) n h tt f k; more = k.more }, f) }
+
+      gift_hides : {C : Fact Name} (from h j : ℕ) → (j ≡ i → ⊥) → Fine Hides C (arrive.learn_gift K from h j) IsValue
+      unfolding arrive.learn_gift
+      gift_hides from h j f = fine_bind Hides IsName (come_gift K Hides hides_under hides_gives h j (record { at = λ s c. f }) (record { at = λ s c. tt })) (λ n. fine_then Hides nothing (fine_ask_for K Hides hides_under from h j (record { at = λ s c. f }) n (record { at = λ s c. c.1 })) (fine_give Hides (Ref n) (record { at = λ s c. c.1 })))
+
+      mail_hides : {C : Fact Name} (m : Name) (h : ℕ) → IsMessageName m → Fine Hides C (arrive.learn_message K (New m h)) IsMail
+      unfolding arrive.learn_message mail naming mail_of
+      mail_hides m h o = record { after = λ s k c. let p = k.parts in (tt, record { parts = record { things = p.things; slots = p.slots; lists = p.lists; queue = p.queue; known = p.known; gifts = p.gifts; outbox = p.outbox }; more = k.more }, o) }
+
+      with_none : {A : Type 0} {C : Fact Name} {m : Act Name A} {P : A → Fact Name} → Fine Hides C m P → Fine Hides C m (λ a. Also (P a) Nothing)
+      with_none {P = P} f = fine_more Hides P (λ a. Also (P a) Nothing) f (λ a. record { at = λ s h. (h, tt) })
+
+      abbrev pub Tells : Note Name → Type 0
+      Tells n = NoteTells (IsNotOf i) (λ h j. j ≡ i → ⊥) (λ j. j ≡ i → ⊥) n
+
+      brings : Brings (IsNotOf i) (λ h j. j ≡ i → ⊥) (λ j. j ≡ i → ⊥) word v Hides (λ ks. Nothing)
+      brings = record {
+        old = λ ks n f e s c. f;
+        new = λ ks n f e. with_none (new_hides n (host_of n) f);
+        gift = λ ks p h j f. with_none (gift_hides p h j f);
+        mail = λ m h o. mail_hides m h o;
+        drew = λ s j. tt;
+        gave = λ s j f. f;
+        vat = λ s h. tt;
+      }
+
+      -- where the draw was made, or the note tells of no name that settled elsewhere
+      pub note_hides : (from : ℕ) (ks : List Name) (n : Note Name) → Tells n → (IsNews (IsNotOf i) (λ h j. j ≡ i → ⊥) (λ j. j ≡ i → ⊥) word v Hides n → O) → Fine Hides Nothing (arrive.arrive K from (world.read_note ks n)) nothing
+      note_hides from ks n t o = note_read (IsNotOf i) (λ h j. j ≡ i → ⊥) (λ j. j ≡ i → ⊥) word v Hides hides_under hides_gifts (λ ks. Nothing) brings from ks n t (λ e D m g c k. view_hides (o e) m g c k)
+
+      -- ---- news, where the draw is still to be made
+
+      -- either it goes on so, or no gift of the draw passes in what was put
+      abbrev pub Goes : Vat Name → Type 0
+      Goes t = Sound Hides t ⊎ (gifts_out i t.outbox ≡ 0)
+
+      see_none : (s : Vat Name) (n x : Name) → gifts_out i s.outbox ≡ 0 → AfterGives (λ t. gifts_out i t.outbox ≡ 0) (arrive.see K n x s)
+      unfolding arrive.see ◌>>◌ and_then tell alter
+      see_none s n x e = e
+
+      put_none : (s : Vat Name) (p : Put Name) → gifts_in_note i p.note ≡ 0 → gifts_out i s.outbox ≡ 0 → gifts_out i (s.outbox ++ p ∷ []) ≡ 0
+      put_none s p f e = let o = out_end i s.outbox p in omega arith
+
+      had_none : (s : Vat Name) (u h j : ℕ) (n : Name) (o : Option (GiftEntry Name)) → gifts_out i s.outbox ≡ 0 → AfterGives (λ t. gifts_out i t.outbox ≡ 0) (and_then (arrive.gift_or_new K u h j o s) (λ x. arrive.see K n x))
+      unfolding arrive.gift_or_new ◌>>=◌ ◌>>◌ and_then come new_gift give naming name_of
+      had_none s u h j n (Some x) e = see_none s n x.name e
+      had_none s u h j n None e = see_none (record s { known = s.known ++ begun (Gift u j) u ∷ []; gifts = s.gifts ++ record { name = Gift u j; provider = h; number = j; opened = false } ∷ [] }) n (Gift u j) e
+
+      there_none : (s : Vat Name) (h c j : ℕ) (n : Name) (b : Bool) → gifts_out i s.outbox ≡ 0
+          → AfterGives (λ t. gifts_out i t.outbox ≡ 0) (and_then ((if b then arrive.have_gift K h j else (come K (IsGift c j) c >>= (λ x. send_out c (Ask h j x) >> give x))) s) (λ x. arrive.see K n x))
+      unfolding arrive.have_gift ◌>>=◌ ◌>>◌ and_then come send_out give look naming name_of gifts_in_note
+      there_none s h c j n true e = had_none s s.number h j n (arrive.gift_at h j s.gifts) e
+      there_none s h c j n false e = let s1 : Vat Name = record s { known = s.known ++ begun (Gift c j) c ∷ [] } in let p : Put Name = record { to = c; note = Ask h j (Gift c j) } in
+          see_none (record s1 { outbox = s1.outbox ++ p ∷ [] }) n (Gift c j) (put_none s p refl e)
+
+      drawn_none : (s : Vat Name) (u h c : ℕ) (n : Name) (w : ℕ) (o : Option ℕ) → gifts_out i s.outbox ≡ 0
+          → AfterGives (λ t. gifts_out i t.outbox ≡ 0) (and_then (draws w o s) (λ j. send_out h (Shorten n c j) >> (arrive.gift_there K u h c j >>= (λ x. arrive.see K n x))))
+      unfolding draws and_then send_out ◌>>◌ ◌>>=◌ arrive.gift_there gifts_in_note
+      drawn_none s u h c n w (Some j) e = tt
+      drawn_none s u h c n w None e = let p : Put Name = record { to = h; note = Shorten n c (length s.drawn) } in there_none (record s { outbox = s.outbox ++ p ∷ []; drawn = s.drawn ++ w ∷ [] }) h c _ n (c == u) (put_none s p refl e)
+
+      view_none : (s : Vat Name) (n : Name) (c : ℕ) → gifts_out i s.outbox ≡ 0 → AfterGives (λ t. gifts_out i t.outbox ≡ 0) (arrive.view_there K n c s)
+      unfolding arrive.view_there ◌>>=◌ and_then look draw
+      view_none s n c e = drawn_none s s.number (host_at K s.number s.known n) c n _ _ e
+
+      ends_goes : (s : Vat Name) (d : Done Name (Unit {0})) → Ends Hides nothing s d → AfterGives Goes d
+      ends_goes s (Gives u t) h = inl h.1
+      ends_goes s (Throws p t) h = tt
+      ends_goes s (Ejects n y t) h = tt
+      ends_goes s (Stops c t) h = tt
+
+      none_goes : (d : Done Name (Unit {0})) → AfterGives (λ t. gifts_out i t.outbox ≡ 0) d → AfterGives Goes d
+      none_goes (Gives u t) h = inr h
+      none_goes (Throws p t) h = tt
+      none_goes (Ejects n y t) h = tt
+      none_goes (Stops c t) h = tt
+
+      settle_goes : (s : Vat Name) (n : Name) (t : List ℕ) → IsNotOf i n → Sound Hides s → AfterGives Goes (refs.settle K n (Broken t) s)
+      settle_goes s n t f h = ends_goes s _ ((fine_settle K Hides hides_under {C = Nothing} n (record { at = λ r c. not_other v n f }) (Broken t) (record { at = λ r c. tt })).after s h tt)
+
+      gone_or : (s : Vat Name) (n : Name) (c : ℕ) (b : Bool) → IsNotOf i n → Sound Hides s → gifts_out i s.outbox ≡ 0 → AfterGives Goes ((if b then refs.settle K n (Broken (codes "partition")) else arrive.view_there K n c) s)
+      gone_or s n c true f h e = settle_goes s n (codes "partition") f h
+      gone_or s n c false f h e = none_goes (arrive.view_there K n c s) (view_none s n c e)
+
+      news_or : (s : Vat Name) (n : Name) (c : ℕ) (b : Bool) → IsNotOf i n → Sound Hides s → gifts_out i s.outbox ≡ 0
+          → AfterGives Goes (and_then (arrive.learn_name K (elim b [ true ↦ Old n | false ↦ New n (host_of n) ]) s) (λ m. look (λ s. is_in c s.noticed) >>= (λ gone. if gone then refs.settle K m (Broken (codes "partition")) else arrive.view_there K m c)))
+      unfolding arrive.learn_name give come ◌>>=◌ and_then look naming name_of
+      news_or s n c true f h e = gone_or s n c (is_in c s.noticed) f h e
+      news_or s n c false f h e = let t : Vat Name = record s { known = s.known ++ begun n (host_of n) ∷ [] } in gone_or t n c (is_in c t.noticed) f (record { parts = with_known K Hides hides_under s t n (host_of n) tt f h; more = h.more }) e
+
+      pub news_goes : (s : Vat Name) (from : ℕ) (ks : List Name) (n : Name) (c : ℕ) → IsNotOf i n → Sound Hides s → gifts_out i s.outbox ≡ 0 → AfterGives Goes (arrive.arrive K from (world.read_note ks (Elsewhere n c)) s)
+      unfolding arrive.arrive world.read_note arrive.arrive_elsewhere world.read_name ◌>>=◌
+      news_goes s from ks n c f h e = news_or s n c (world.is_old ks n) f h e

@@ -1,0 +1,5 @@
+use Rattle.law_reference.proofs.ApartWhole.{follow_asks}
+use Rattle.law_reference.proofs.apart.gifts_follow_asks.Goals as goal
+
+pub returns : goal.returns
+returns c = follow_asks

@@ -1,0 +1,5 @@
+use Rattle.law_reference.proofs.ApartWhole.{bring_new}
+use Rattle.law_reference.proofs.apart.notes_bring_new.Goals as goal
+
+pub returns : goal.returns
+returns c = bring_new

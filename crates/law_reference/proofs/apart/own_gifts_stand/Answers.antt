@@ -1,0 +1,5 @@
+use Rattle.law_reference.proofs.ApartWhole.{own_stand}
+use Rattle.law_reference.proofs.apart.own_gifts_stand.Goals as goal
+
+pub returns : goal.returns
+returns c = own_stand

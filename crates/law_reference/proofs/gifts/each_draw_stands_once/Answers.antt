@@ -1,0 +1,5 @@
+use Rattle.law_reference.proofs.GiftLaws.{draws_once}
+use Rattle.law_reference.proofs.gifts.each_draw_stands_once.Goals as goal
+
+pub returns : goal.returns
+returns c = draws_once

@@ -1,0 +1,5 @@
+use Rattle.law_reference.proofs.GiftLaws.{gifts_pass_once}
+use Rattle.law_reference.proofs.gifts.gifts_pass_once.Goals as goal
+
+pub returns : goal.returns
+returns c = gifts_pass_once

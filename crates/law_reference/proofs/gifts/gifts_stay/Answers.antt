@@ -1,0 +1,5 @@
+use Rattle.law_reference.proofs.Standing.{gifts_stay}
+use Rattle.law_reference.proofs.gifts.gifts_stay.Goals as goal
+
+pub returns : goal.returns
+returns c = gifts_stay

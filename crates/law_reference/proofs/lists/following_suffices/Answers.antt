@@ -1,0 +1,5 @@
+use Rattle.law_reference.proofs.ListLaws.{following_suffices}
+use Rattle.law_reference.proofs.lists.following_suffices.Goals as goal
+
+pub returns : goal.returns
+returns c = following_suffices

@@ -1,0 +1,5 @@
+use Rattle.law_reference.proofs.Stacked.{lists_are_there}
+use Rattle.law_reference.proofs.lists.lists_are_there.Goals as goal
+
+pub returns : goal.returns
+returns c = lists_are_there

@@ -1,0 +1,5 @@
+use Rattle.law_reference.proofs.Stacked.{members_end}
+use Rattle.law_reference.proofs.lists.members_end.Goals as goal
+
+pub returns : goal.returns
+returns c = members_end

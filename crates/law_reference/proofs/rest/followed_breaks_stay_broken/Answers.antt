@@ -1,0 +1,5 @@
+use Rattle.law_reference.proofs.RestLaws.{followed_broken}
+use Rattle.law_reference.proofs.rest.followed_breaks_stay_broken.Goals as goal
+
+pub returns : goal.returns
+returns c = followed_broken

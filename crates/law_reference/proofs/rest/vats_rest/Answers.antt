@@ -1,0 +1,5 @@
+use Rattle.law_reference.proofs.RestLaws.{vats_rest}
+use Rattle.law_reference.proofs.rest.vats_rest.Goals as goal
+
+pub returns : goal.returns
+returns c = vats_rest

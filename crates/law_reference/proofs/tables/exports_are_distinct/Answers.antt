@@ -1,0 +1,5 @@
+use Rattle.law_reference.proofs.NameTableLaws.{exports_are_distinct}
+use Rattle.law_reference.proofs.tables.exports_are_distinct.Goals as goal
+
+pub returns : goal.returns
+returns c = exports_are_distinct

@@ -1,0 +1,5 @@
+use Rattle.law_reference.proofs.RinglessRuns.{waits_end_in_runs}
+use Rattle.law_reference.proofs.waits.waits_end.Goals as goal
+
+pub returns : goal.returns
+returns c = waits_end_in_runs

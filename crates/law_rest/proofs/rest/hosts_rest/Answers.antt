@@ -1,5 +1,0 @@
-use Rattle.law_rest.proofs.HostsRuns.{hosts_rest_in_runs}
-use Rattle.law_rest.proofs.rest.hosts_rest.Goals as goal
-
-pub returns : goal.returns
-returns c = hosts_rest_in_runs

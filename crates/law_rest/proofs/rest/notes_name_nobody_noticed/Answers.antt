@@ -1,5 +1,0 @@
-use Rattle.law_rest.proofs.NotesSpared.{notes_spared}
-use Rattle.law_rest.proofs.rest.notes_name_nobody_noticed.Goals as goal
-
-pub returns : goal.returns
-returns c = notes_spared

@@ -1,5 +1,0 @@
-use Rattle.law_rest.proofs.NotesRuns.{notes_name_ends}
-use Rattle.law_rest.proofs.rest.notes_name_their_ends.Goals as goal
-
-pub returns : goal.returns
-returns c = notes_name_ends

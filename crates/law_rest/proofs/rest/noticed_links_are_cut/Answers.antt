@@ -1,5 +1,0 @@
-use Rattle.law_rest.proofs.NoticedRuns.{noticed_links_cut}
-use Rattle.law_rest.proofs.rest.noticed_links_are_cut.Goals as goal
-
-pub returns : goal.returns
-returns c = noticed_links_cut

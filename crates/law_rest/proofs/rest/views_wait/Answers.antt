@@ -1,5 +1,0 @@
-use Rattle.law_rest.proofs.ViewsRuns.{views_wait_in_runs}
-use Rattle.law_rest.proofs.rest.views_wait.Goals as goal
-
-pub returns : goal.returns
-returns c = views_wait_in_runs

@@ -1,4 +1,0 @@
-//! Laws of the machine: what activations use, they know.
-#![tactic(auto)]
-
-pub mod uses;

@@ -1,5 +1,0 @@
-use Rattle.law_wait.proofs.RinglessRuns.{waits_end_in_runs}
-use Rattle.law_wait.proofs.waits.waits_end.Goals as goal
-
-pub returns : goal.returns
-returns c = waits_end_in_runs

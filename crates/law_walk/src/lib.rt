@@ -1,2 +1,0 @@
-//! One walk over all that a vat does, for every predicate of acts.
-#![tactic(auto)]

@@ -1,5 +1,0 @@
-use Rattle.law_whole_fate.proofs.Laws.{exactly_one_fate}
-use Rattle.law_whole_fate.proofs.whole.exactly_one_fate.Goals as goal
-
-pub returns : goal.returns
-returns c = exactly_one_fate

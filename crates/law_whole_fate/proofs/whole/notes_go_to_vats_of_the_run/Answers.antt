@@ -1,5 +1,0 @@
-use Rattle.law_whole_fate.proofs.Laws.{notes_go_to_vats_of_the_run}
-use Rattle.law_whole_fate.proofs.whole.notes_go_to_vats_of_the_run.Goals as goal
-
-pub returns : goal.returns
-returns c = notes_go_to_vats_of_the_run

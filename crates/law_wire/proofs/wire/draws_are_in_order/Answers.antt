@@ -1,5 +1,0 @@
-use Rattle.law_wire.proofs.Laws.{draws_in_order}
-use Rattle.law_wire.proofs.wire.draws_are_in_order.Goals as goal
-
-pub returns : goal.returns
-returns c = draws_in_order

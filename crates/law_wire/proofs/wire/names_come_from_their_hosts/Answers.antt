@@ -1,5 +1,0 @@
-use Rattle.law_wire.proofs.SourceLaws.{names_from_hosts}
-use Rattle.law_wire.proofs.wire.names_come_from_their_hosts.Goals as goal
-
-pub returns : goal.returns
-returns c = names_from_hosts

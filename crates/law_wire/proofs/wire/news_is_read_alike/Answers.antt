@@ -1,5 +1,0 @@
-use Rattle.law_wire.proofs.News.{news_read}
-use Rattle.law_wire.proofs.wire.news_is_read_alike.Goals as goal
-
-pub returns : goal.returns
-returns c = news_read

@@ -1,5 +1,0 @@
-use Rattle.law_wire.proofs.Laws.{questions_hosted}
-use Rattle.law_wire.proofs.wire.questions_are_of_their_hosts.Goals as goal
-
-pub returns : goal.returns
-returns c = questions_hosted
