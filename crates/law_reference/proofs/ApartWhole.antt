@@ -23,7 +23,7 @@ use Rattle.law_reference.specs.Standing.{IsEntered}
 use Rattle.law_reference.specs.GiftPassing.{gifts_in, gifts_in_all, gifts_in_note, gifts_under_way, PassesFrom, AllPassFrom, Provides}
 use Rattle.law_reference.specs.Apart.{EntryApart, AllApart}
 use Rattle.law_reference.proofs.GiftLinks.{found_tells}
-use Rattle.law_reference.proofs.Apart.{new_where_apart}
+use Rattle.law_reference.proofs.GiftApart.{new_where_apart}
 use Rattle.law_reference.proofs.KnownRuns.{names_are_known_once}
 use Rattle.law_reference.proofs.VatTables.{tables_tell_things_apart}
 use Rattle.law_reference.proofs.KnownOnce.{waits_end_where_new}

@@ -17,7 +17,7 @@ use Rattle.law_reference.specs.ListRingless.{IsAnswerName, IsObjectName, IsView,
 use Rattle.law_reference.proofs.Kept.{heeds, Mark, Noticed, Unviewed, K, keeper}
 use Rattle.law_reference.proofs.Changes.{Holds, answer_eventual, begun_holds, puts, gifts_hold}
 use Rattle.law_reference.proofs.Elsewhere.{AtView, ends_view, elsewhere}
-use Rattle.law_reference.proofs.Gifts.{gift_noticed}
+use Rattle.law_reference.proofs.ListGifts.{gift_noticed}
 use Rattle.law_reference.proofs.RefsRing.{tells, here_spared, good_settle, settle_broken, informs, sends_on, resolve_own, resolve_object, drop}
 
 name_same : (m n : Name) → Ref m ≡ Ref n → m ≡ n

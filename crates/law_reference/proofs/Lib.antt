@@ -91,7 +91,7 @@ pub mod Reading
 pub mod NewsLaws
 pub mod Standing
 pub mod GiftAsking
-pub mod Apart
+pub mod GiftApart
 pub mod Arrivals
 pub mod HideCare
 pub mod AskCare
@@ -116,7 +116,7 @@ pub mod Kept
 pub mod Changes
 pub mod RefsRing
 pub mod TurnsRing
-pub mod Gifts
+pub mod ListGifts
 pub mod ViewRing
 pub mod Elsewhere
 pub mod ArriveRing
