@@ -1,7 +1,7 @@
 //! Mints, their purses, and the money in them.
 
-ghost use Rattle.std.specs.Prelude.{◌≡◌, ◌≢◌, ◌∷◌, ◌++◌, [], ◌+◌, ◌<◌, ◌≤◌, length, IfErr, IfOk, OnErr, OnOk};
-ghost use Rattle.ev_seal.specs.Money.{IsDepositFault, IsIssueFault, MayDeposit, balance_of, deposited, issued, minted, mint_of, most, no_money, purse_at, put_in, sprouted, taken_out, total_of, with_balance, with_total};
+ghost use Rattle.std.specs.Prelude.{ℕ, ◌≡◌, ◌≢◌, ◌∷◌, ◌++◌, [], ◌+◌, ◌<◌, ◌≤◌, length, IfErr, IfOk, OnErr, OnOk};
+ghost use Rattle.ev_seal.specs.Money.{IsDepositFault, IsIssueFault, MayDeposit, balance_of, balances, deposited, issued, minted, mint_of, most, no_money, purse_at, put_in, sprouted, taken_out, total_of, with_balance, with_total};
 
 use ev_base::Memory;
 use std::alloc::Global;
@@ -144,6 +144,13 @@ impl Mints {
         ensures { result ≡ length self.now.purses }
     {
         self.purses.len() as u64
+    }
+
+    /// The balances of each mint's purses add up to what it issued, whatever was done.
+    pub fn balances_add_up(&self)
+        ensures { (mint : ℕ) → balances mint self.now.purses ≡ total_of mint self.now.totals }
+    {
+        let _mints = self.totals.len();
     }
 
     /// The money in a purse. It takes no memory.
