@@ -1,0 +1,4 @@
+pub mod Objects
+pub mod Past
+pub mod Broken
+pub mod Shows
