@@ -38,3 +38,10 @@ pub data Receiving {N W : Type 0} (K : Naming N W) (sight : Sight N) (from : ℕ
   Ignored : tells_nothing K sight from n s ≡ true → receive K sight from n s ≡ Gives tt s → Receiving K sight from n s
   BrokenBack : tells_nothing K sight from n s ≡ false → leads_back K sight n s ≡ true → receive K sight from n s ≡ break_back K n s → Receiving K sight from n s
   Arrived : tells_nothing K sight from n s ≡ false → leads_back K sight n s ≡ false → receive K sight from n s ≡ arrive K from n s → Receiving K sight from n s
+
+abbrev IsOneOfThree : (N W : Type 0) → Type 0
+IsOneOfThree N W = (K : Naming N W) (sight : Sight N) (from : ℕ) (n : Note (Incoming N W)) (s : Vat N) → Receiving K sight from n s
+
+-- Each receiving is one of these.
+abbrev pub EachReceivingIsTold : Type 0
+EachReceivingIsTold = IsOneOfThree Name Name × IsOneOfThree Local Name
