@@ -3,10 +3,10 @@ use Rattle.std.proofs.Common.{◌≡◌, ℕ, Bool, true, false, refl, ap, ◌�
 use Rattle.def_machine.specs.Values.{Naming}
 use Rattle.def_machine.specs.State.{Note, Vat, Done, Gives, Throws, Ejects, Stops, ◌>>=◌, and_then, look, give}
 use Rattle.def_machine.specs.Arrive.{Incoming, arrive}
-use Rattle.def_machine.specs.Receive.{Sight, tells_nothing, leads_back, receive_by, receive}
+use Rattle.def_machine.specs.Receive.{Sight, tells_nothing, leads_back, break_back, receive_by, receive}
 use Rattle.law_machine.specs.Steps.{After}
 use Rattle.law_machine.specs.Laws.{NoMoreFuel, SameObjects, SameResolvers, DeadEjectors, DeadAuditions, SameLists, SameGuards, SameNames, SameMails, SameDraws, SettledStays, BrokenStays, NoticedStays, AddsAtEnd}
-use Rattle.law_machine.specs.Receiving.{UndoesNothing}
+use Rattle.law_machine.specs.Receiving.{UndoesNothing, Receiving, Ignored, BrokenBack, Arrived}
 use Rattle.law_machine.proofs.Keeps.{IsKept, IsKeptUnder}
 use Rattle.law_machine.proofs.ArriveKeeps.{keeps_receive}
 use Rattle.law_machine.proofs.StepLaws.{fuel_law, fuel_names, objects_law, objects_names, resolvers_law, resolvers_names, ejectors_law, ejectors_names, auditions_law, auditions_names, lists_law, lists_names, mails_law, mails_names, draws_law, draws_names, guards_law, guards_names, names_law, names_names, settled_law, settled_names, broken_from, noticed_law, noticed_names, history_law, history_names, after_map}
@@ -55,3 +55,16 @@ module _ {N W : Type 0} (K : Naming N W) (sight : Sight N) (from : ℕ) (n : Not
   pub it_arrives : tells_nothing K sight from n s ≡ false → leads_back K sight n s ≡ false → D ≡ arrive K from n s
   unfolding receive_by
   it_arrives e f = is_by ∙ ap (λ a. by a (leads_back K sight n s)) e ∙ ap (λ b. by false b) f
+
+  it_breaks : tells_nothing K sight from n s ≡ false → leads_back K sight n s ≡ true → D ≡ break_back K n s
+  unfolding receive_by
+  it_breaks e f = is_by ∙ ap (λ a. by a (leads_back K sight n s)) e ∙ ap (λ b. by false b) f
+
+  by_cases : (a b : Bool) → tells_nothing K sight from n s ≡ a → leads_back K sight n s ≡ b → Receiving K sight from n s
+  by_cases true b e f = Ignored e (does_nothing e)
+  by_cases false true e f = BrokenBack e f (it_breaks e f)
+  by_cases false false e f = Arrived e f (it_arrives e f)
+
+  -- a receiving is one of three
+  pub each_receiving : Receiving K sight from n s
+  each_receiving = by_cases (tells_nothing K sight from n s) (leads_back K sight n s) refl refl

@@ -3,7 +3,7 @@ use Rattle.std.specs.Prelude.{◌≡◌, ℕ, true, false}
 use Rattle.def_machine.specs.Values.{Name, Local, Naming}
 use Rattle.def_machine.specs.State.{Note, Vat, Gives}
 use Rattle.def_machine.specs.Arrive.{Incoming, arrive}
-use Rattle.def_machine.specs.Receive.{Sight, tells_nothing, leads_back, receive}
+use Rattle.def_machine.specs.Receive.{Sight, tells_nothing, leads_back, break_back, receive}
 use Rattle.law_machine.specs.Steps.{After}
 use Rattle.law_machine.specs.Laws.{NoMoreFuel, SameObjects, SameResolvers, DeadEjectors, DeadAuditions, SameLists, SameGuards, SameNames, SameMails, SameDraws, SettledStays, BrokenStays, NoticedStays, AddsAtEnd}
 
@@ -32,3 +32,16 @@ Arrives N W = (K : Naming N W) (sight : Sight N) (from : ℕ) (n : Note (Incomin
 -- One that tells something new, and leads to no gift that the vat has, arrives as each note of an honest vat does.
 abbrev pub NewNotesArrive : Type 0
 NewNotesArrive = Arrives Name Name × Arrives Local Name
+
+-- What receiving a note is at a vat: it does nothing, or breaks a name that leads back, or arrives.
+pub data Receiving {N W : Type 0} (K : Naming N W) (sight : Sight N) (from : ℕ) (n : Note (Incoming N W)) (s : Vat N) : Type 0 where
+  Ignored : tells_nothing K sight from n s ≡ true → receive K sight from n s ≡ Gives tt s → Receiving K sight from n s
+  BrokenBack : tells_nothing K sight from n s ≡ false → leads_back K sight n s ≡ true → receive K sight from n s ≡ break_back K n s → Receiving K sight from n s
+  Arrived : tells_nothing K sight from n s ≡ false → leads_back K sight n s ≡ false → receive K sight from n s ≡ arrive K from n s → Receiving K sight from n s
+
+abbrev IsOneOfThree : (N W : Type 0) → Type 0
+IsOneOfThree N W = (K : Naming N W) (sight : Sight N) (from : ℕ) (n : Note (Incoming N W)) (s : Vat N) → Receiving K sight from n s
+
+-- Each receiving is one of these.
+abbrev pub EachReceivingIsTold : Type 0
+EachReceivingIsTold = IsOneOfThree Name Name × IsOneOfThree Local Name

@@ -23,7 +23,7 @@ ghost use Rattle.law_machine.specs.Breaks.{NoticesSever};
 ghost use Rattle.law_machine.specs.Breaks.{NoticesBreak};
 ghost use Rattle.law_machine.specs.Breaks.{FarStaysApart};
 ghost use Rattle.law_machine.specs.Breaks.{RestIsNeeded};
-ghost use Rattle.law_machine.specs.Receiving.{NewNotesArrive, NothingNewDoesNothing, ReceivingUndoesNothing};
+ghost use Rattle.law_machine.specs.Receiving.{EachReceivingIsTold, NewNotesArrive, NothingNewDoesNothing, ReceivingUndoesNothing};
 
 /// The fuel that is left never rises.
 pub fn fuel_never_rises()
@@ -153,4 +153,9 @@ pub fn nothing_new_does_nothing()
 /// Every other note arrives, unless it leads the vat to a gift that it hosts or knows.
 pub fn new_notes_arrive()
     ensures { NewNotesArrive }
+{}
+
+/// A note that is received does nothing, or breaks a name that leads back, or arrives.
+pub fn each_receiving_is_told()
+    ensures { EachReceivingIsTold }
 {}

@@ -1,0 +1,5 @@
+use Rattle.law_machine.proofs.ReceivingLaws.{each_receiving}
+use Rattle.law_machine.proofs.steps.each_receiving_is_told.Goals as goal
+
+pub returns : goal.returns
+returns c = (λ K sight from n s. each_receiving K sight from n s, λ K sight from n s. each_receiving K sight from n s)
