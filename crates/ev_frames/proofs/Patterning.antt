@@ -13,7 +13,7 @@ use Rattle.ev_room.specs.declared.room.Room.{Room}
 use Rattle.ev_room.specs.declared.scope.Bound.TheVariants.{Fixed}
 use Rattle.ev_room.specs.declared.scope.Scope.{Scope}
 use Rattle.ev_room.specs.Acts.{Act, Out, Unless, Extends, and_then, ◌>>=◌, ◌>>◌, give, fail, cut, with_noun, spend, ended_by, new_ejector, kill, leave}
-use Rattle.ev_room.specs.Sound.{not_a_list_id}
+use Rattle.ev_room.specs.Sound.{no_guard, not_a_list_id}
 use Rattle.ev_room.proofs.Exits.{ends}
 use Rattle.ev_steps.specs.Steps.{Evaluator, evaluator, define_by, bind_all, bind_any, bind_asked, bind_final, bind_var, bind_list, bind_step, bind_found, bind_via, call, failed, match_ended, match_on, matched_if, not_matched}
 use Rattle.ev_steps.proofs.Depth.{pattern_deep, pattern_goes}
@@ -53,9 +53,9 @@ module _ (tree : List Node) (fs : List Frame) (here there : Scope) (t : Room) (x
   unfolding and_then
   step_ends o e i = unless_as e (λ (y : o ≡ (Err e, t)). rw y (same_behind tree fs here there (Err e, t) x h)) i
 
-  pub final_bound : (n : Words) (v : Value) → there ≡ with_noun n (Fixed v) here → rest tree fs here (bound_as (bind_final n None v here t)) ≡ rest tree fs there (Ok (held.Null, there), t)
+  pub final_bound : (n : Words) (v : Value) → there ≡ with_noun n (Fixed v no_guard) here → rest tree fs here (bound_as (bind_final n None v here t)) ≡ rest tree fs there (Ok (held.Null, there), t)
   unfolding bind_final give
-  final_bound n v e = step_bound (Ok (with_noun n (Fixed v) here), t) (rw e refl)
+  final_bound n v e = step_bound (Ok (with_noun n (Fixed v no_guard) here), t) (rw e refl)
 
   module _ (d p : ℕ) (v j : Value) (s : Room) where
     pub binding_begins : (evaluator tree d).pattern p v j here s ≡ (Ok there, t)

@@ -12,6 +12,7 @@ use Rattle.ev_room.specs.declared.scope.Binding.{Binding}
 use Rattle.ev_room.specs.declared.scope.Bound.{Bound}
 use Rattle.ev_room.specs.declared.scope.Bound.TheVariants.{Fixed}
 use Rattle.ev_room.specs.declared.scope.Scope.{Scope}
+use Rattle.ev_room.specs.Sound.{no_guard}
 use Rattle.ev_room.specs.Acts.{Out, Act, and_then, ◌>>=◌, ◌>>◌, give, fail, cut, with_noun, named, object_made, object_in, make_object, object_node}
 
 -- a scope with more bindings
@@ -87,7 +88,7 @@ bound s g = record { holds = g }
 named_grows : (p : Option Node) (me : ℕ) (here : Scope) → Grows here (named p me here)
 unfolding named
 named_grows None me here = same here
-named_grows (Some (Final x g)) me here = with_one x (Fixed (held.Obj me)) here
+named_grows (Some (Final x g)) me here = with_one x (Fixed (held.Obj me) no_guard) here
 named_grows (Some _) me here = same here
 
 made_grows : (node : ℕ) (x : Words) (bs : List Binding) (me : ℕ) (first here : Scope) (s : Room) → Grows first here → GivesMore first (object_made node x bs me here s)

@@ -11,6 +11,8 @@ use Rattle.ev_base.specs.declared.values.Value.TheVariants as held
 use Rattle.ev_heap.specs.Contents.{Contents}
 use Rattle.ev_heap.specs.declared.happened.Happened.TheVariants as event
 use Rattle.ev_heap.specs.declared.kept.Cell.{Cell}
+use Rattle.ev_heap.specs.declared.kept.GuardKind.{GuardKind}
+use Rattle.ev_audit.specs.Views.{guard_of}
 use Rattle.def_kernel.specs.declared.node.Node.{Node}
 use Rattle.def_machine.specs.Values.{Words, Value, Null, Flag, Prim, Local}
 use Rattle.def_machine.specs.State.{Bound, Fixed, Slot, Cell as TheirCell, Binding as Bond, SlotMade, SlotRead, SlotWrote, Vat, Done, Astray, for_some, opened_state}
@@ -157,10 +159,10 @@ slot_met w act k x s sound = rw (slot_is w act k x (vat w s), cells_at w s k) (c
 
 -- ---- reading and writing what nouns stand for
 
-fixed_met : (w : World) (act : ℕ) (v : Held) (x : Words) (s : Room) → IsSound s.heap → is_there s.heap v ≡ true
-    → Met w a_value s (give v s) (scopes.read_bound act (Some (Fixed (value_of w v) any_guard)) x (vat w s))
+fixed_met : (w : World) (act : ℕ) (v : Held) (g : GuardKind) (x : Words) (s : Room) → IsSound s.heap → is_there s.heap v ≡ true
+    → Met w a_value s (give v s) (scopes.read_bound act (Some (Fixed (value_of w v) (guard_of g))) x (vat w s))
 unfolding scopes.read_bound
-fixed_met w act v x s sound i = give_met w a_value v s sound i
+fixed_met w act v g x s sound i = give_met w a_value v s sound i
 
 unbound_met : (w : World) (act : ℕ) (x : Words) (s : Room) → IsSound s.heap → is_built_safe (safe_value x) ≡ true
     → Met w a_value s (answer (safe_found (safe_value x)) s) (scopes.read_bound act None x (vat w s))
@@ -170,7 +172,7 @@ unbound_met w act x s sound e = safe_met w x s sound e
 read_met : (w : World) (act : ℕ) (f : Option Kept) (x : Words) (s : Room) → IsSound s.heap → FoundThere s.heap f → is_built_safe (safe_value x) ≡ true
     → Met w a_value s (read_bound act f x s) (scopes.read_bound act (found_of w f) x (vat w s))
 unfolding read_bound read_held
-read_met w act (Some (scope.Fixed v)) x s sound i e = fixed_met w act v x s sound i
+read_met w act (Some (scope.Fixed v g)) x s sound i e = fixed_met w act v g x s sound i
 read_met w act (Some (scope.Slot k)) x s sound i e = slot_met w act k x s sound
 read_met w act None x s sound i e = unbound_met w act x s sound e
 
@@ -267,7 +269,7 @@ pub write_met : (w : World) (tree : List Node) (rec : scopes.Evaluator Local) (a
     → Met w a_value s (write_bound act f v s) (theirs.write_bound (names w) tree rec act (found_of w f) (value_of w v) (vat w s))
 unfolding write_bound write_held
 write_met w tree rec act (Some (scope.Slot k)) v s sound i = write_slot_met w tree rec act k v s sound i
-write_met w tree rec act (Some (scope.Fixed u)) v s sound i = not_written_met w tree rec act (Some (Fixed (value_of w u) any_guard)) (value_of w v) s sound refl
+write_met w tree rec act (Some (scope.Fixed u g)) v s sound i = not_written_met w tree rec act (Some (Fixed (value_of w u) (guard_of g))) (value_of w v) s sound refl
 write_met w tree rec act None v s sound i = not_written_met w tree rec act None (value_of w v) s sound refl
 
 -- a slot that is made

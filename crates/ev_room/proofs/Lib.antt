@@ -5,6 +5,7 @@ pub mod Closes
 pub mod Ejectors
 pub mod Exits
 pub mod Fronts
+pub mod Takings
 pub mod Leaving
 pub mod Making
 pub mod Replies

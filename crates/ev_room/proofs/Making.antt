@@ -28,7 +28,7 @@ use Rattle.ev_room.specs.declared.scope.Bound.{Bound as Kept}
 use Rattle.ev_room.specs.declared.scope.Bound.TheVariants as scope
 use Rattle.ev_room.specs.declared.scope.Scope.{Scope}
 use Rattle.ev_room.specs.Reading.{World, names, thing_of, shape_in, caught_in, capture_in, line_of, vat_of}
-use Rattle.ev_room.specs.Sound.{IsSound, is_bound, are_bound, plain_thing, capture_of, caught_of}
+use Rattle.ev_room.specs.Sound.{IsSound, is_bound, are_bound, no_guard, plain_thing, capture_of, caught_of}
 use Rattle.ev_room.specs.Acts.{◌>>=◌, ◌>>◌, found_from, bound_back, binding_back, with_bound, captures, new_object, named, object_made, object_in, make_object, object_node, suits, first_method, code_of}
 use Rattle.ev_room.proofs.Bindings.{FoundThere, found_of, found_is, found_there, none_bound, onto_more, bound_more}
 use Rattle.ev_room.proofs.Sounds.{scope_on, all_and, thing_grown, thing_sound}
@@ -39,8 +39,7 @@ use Rattle.ev_room.proofs.Words.{same_is}
 -- ---- what an object holds
 
 capture_is : (w : World) (b : Kept) → capture_in w (capture_of b) ≡ bound_of w b
-unfolding any_guard
-capture_is w (scope.Fixed v) = refl
+capture_is w (scope.Fixed v g) = refl
 capture_is w (scope.Slot k) = refl
 
 caught_is : (w : World) (bs : List Binding) → map (caught_in w) (map caught_of bs) ≡ map (bond_of w) bs
@@ -61,7 +60,7 @@ unfolding bonds_onto
 turned_is w bs = bonds_turned w [] bs [] ∙ append-nil (map (bond_of w) bs)
 
 bound_back_is : (b : Kept) → bound_back (capture_of b) ≡ b
-bound_back_is (scope.Fixed v) = refl
+bound_back_is (scope.Fixed v g) = refl
 bound_back_is (scope.Slot k) = refl
 
 bindings_back : (bs : List Binding) → map binding_back (map caught_of bs) ≡ bs
@@ -128,13 +127,13 @@ captures_are w here so_far (x ∷ xs) =
 named_met : (w : World) (p : Option Node) (me : ℕ) (here : Scope) → ((named p me here).act ≡ here.act) × (scope_of w (named p me here) ≡ scopes.named p (Ref (Obj me)) (scope_of w here))
 unfolding named scopes.named scopes.with_noun any_guard
 named_met w None me here = (refl, refl)
-named_met w (Some (Final x g)) me here = (refl, ap (λ (ns : List (Bond Local)). record { act = here.act; nouns = ns }) (onto_more w [] here.nouns (record { noun = x; bound = scope.Fixed (held.Obj me) })))
+named_met w (Some (Final x g)) me here = (refl, ap (λ (ns : List (Bond Local)). record { act = here.act; nouns = ns }) (onto_more w [] here.nouns (record { noun = x; bound = scope.Fixed (held.Obj me) no_guard })))
 named_met w (Some _) me here = (refl, refl)
 
 named_there : (h : Contents) (p : Option Node) (me : ℕ) (here : Scope) → are_bound h here.nouns ≡ true → are_bound h (named p me here).nouns ≡ true
 unfolding named
 named_there h None me here i = i
-named_there h (Some (Final x g)) me here i = bound_more h here.nouns (record { noun = x; bound = scope.Fixed (held.Obj me) }) i refl
+named_there h (Some (Final x g)) me here i = bound_more h here.nouns (record { noun = x; bound = scope.Fixed (held.Obj me) no_guard }) i refl
 named_there h (Some _) me here i = i
 
 pub things_are : (w : World) (s : Room) → (vat w s).things ≡ map (thing_of w) s.heap.things

@@ -101,7 +101,7 @@ module _ {a b : Contents} (g : Grown a b) where
       all_and (is_there b v) (are_there b vs) (there_on v s.0) (all_on vs s.1)
 
   pub bound_on : (x : Bound) → is_bound a x ≡ true → is_bound b x ≡ true
-  bound_on (Fixed v) h = there_on v h
+  bound_on (Fixed v g) h = there_on v h
   bound_on (Slot k) h = refl
 
   pub scope_on : (bs : List Binding) → are_bound a bs ≡ true → are_bound b bs ≡ true

@@ -12,7 +12,7 @@ use Rattle.def_machine.specs.Values.{Words, Value, Text, Items, Ref, Local, Obj,
 use Rattle.def_machine.specs.State.{Bound, Fixed, Slot, Binding as Bond, Scope as Surroundings, Happened, ListMade, Known, Vat, Done, Throws, Ejects, Stops, Fuel, Deep, Astray, opened_state}
 use Rattle.def_machine.specs.State as machine
 use Rattle.def_machine.specs.Refs.{follow, follow_at, led, standing_of, standing_in, severed, severed_at, entry_of, list_fits}
-use Rattle.def_machine.specs.Scopes.{Answer, Answers, any_guard}
+use Rattle.def_machine.specs.Scopes.{Answer, Answers}
 use Rattle.def_machine.specs.Scopes as scopes
 use Rattle.def_machine.specs.Perform as perform
 use Rattle.ev_integer.specs.declared.arithmetic.NumFault.TheVariants.{Overflow, ZeroDivisor, NegativePower}
@@ -26,6 +26,7 @@ use Rattle.ev_room.specs.declared.scope.Bound.{Bound as Kept}
 use Rattle.ev_room.specs.declared.scope.Bound.TheVariants as scope
 use Rattle.ev_room.specs.declared.scope.Scope.{Scope}
 use Rattle.ev_room.specs.Reading.{World, names, all_promises, is_promise, text_of, value_of, values_of, members_of, line_of, lines_of, vat_of}
+use Rattle.ev_audit.specs.Views.{guard_of}
 use Rattle.ev_room.specs.Sound.{Grown, IsSound, is_there, are_there, are_bound, problems}
 use Rattle.ev_room.specs.Acts.{ended_by, Out, Act, and_then, ◌>>=◌, ◌>>◌, give, fail, fails, tell, spent, spend, new_activation, problem_id, text_value, spell, spelled, write_text, new_list, list_told, keep_list, store, stored, listed_there, make_list, opened_acts}
 use Rattle.ev_room.proofs.Behind.{Holds, Of, free}
@@ -38,7 +39,7 @@ abbrev pub vat : World → Room → Vat Local
 vat w s = vat_of w s.heap s.micro
 
 abbrev pub bound_of : World → Kept → Bound Local
-bound_of w (scope.Fixed v) = Fixed (value_of w v) any_guard
+bound_of w (scope.Fixed v g) = Fixed (value_of w v) (guard_of g)
 bound_of w (scope.Slot k) = Slot k
 
 abbrev pub bond_of : World → Binding → Bond Local

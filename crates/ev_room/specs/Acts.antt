@@ -22,7 +22,7 @@ use Rattle.ev_integer.specs.declared.arithmetic.NumFault.TheVariants.{Overflow, 
 use Rattle.ev_heap.specs.Contents.{Contents, listed, is_light}
 use Rattle.ev_prims.specs.declared.problem.Problem.{Problem}
 use Rattle.ev_prims.specs.declared.problem.Problem.TheVariants.{NoMethod, Arithmetic, NotInt, NotChar, NotBoolean, NotText, NotList, OutOfRange, BadArgument, NotComparable, TooHeavy, Unthrowable, DeadEjector}
-use Rattle.ev_room.specs.Sound.{is_there, are_there, plain_cell, capture_of, plain_thing}
+use Rattle.ev_room.specs.Sound.{is_there, are_there, no_guard, plain_cell, capture_of, plain_thing}
 use Rattle.ev_room.specs.declared.object.Code.{Code}
 use Rattle.ev_room.specs.declared.object.Code.TheVariants.{Runs, Leaves}
 use Rattle.ev_room.specs.declared.exit.Exit.{Exit}
@@ -179,7 +179,7 @@ safe_found None = Err Astray
 safe_found (Some v) = Ok v
 
 unfoldable pub read_held : ℕ → Bound → Act Value
-read_held act (Fixed v) = give v
+read_held act (Fixed v g) = give v
 read_held act (Slot k) = read_slot act k
 
 -- the value of a noun, by what it is bound to
@@ -189,7 +189,7 @@ read_bound act None x = answer (safe_found (safe_value x))
 
 unfoldable pub write_held : ℕ → Bound → Value → Act Value
 write_held act (Slot k) v = write_slot act k v
-write_held act (Fixed u) v = fail Astray
+write_held act (Fixed u g) v = fail Astray
 
 unfoldable pub write_bound : ℕ → Option Bound → Value → Act Value
 write_bound act (Some b) v = write_held act b v
@@ -305,7 +305,7 @@ call_there h x args = if is_there h x then are_there h args else false
 
 -- what a name was bound to that an object holds
 abbrev pub bound_back : Capture → Bound
-bound_back (capture.Fixed v g) = Fixed v
+bound_back (capture.Fixed v g) = Fixed v g
 bound_back (capture.Slot k) = Slot k
 
 abbrev pub binding_back : Caught → Binding
@@ -321,7 +321,7 @@ new_object node bs = λ s. (Ok (length s.heap.things), record s { heap = record 
 
 -- the scope in which an object's name is bound to it
 unfoldable pub named : Option Node → ℕ → Scope → Scope
-named (Some (Final x g)) me here = with_noun x (Fixed (held.Obj me)) here
+named (Some (Final x g)) me here = with_noun x (Fixed (held.Obj me) no_guard) here
 named _ me here = here
 
 unfoldable pub object_made : ℕ → Words → List Binding → ℕ → Scope → Act (Value × Scope)

@@ -1,3 +1,4 @@
 pub mod Acts
+pub mod Takings
 pub mod Reading
 pub mod Sound

@@ -25,17 +25,17 @@ use Rattle.ev_room.specs.declared.scope.Bound.TheVariants.{Fixed, Slot}
 abbrev pub any_guard : ℕ
 any_guard = 8
 
+abbrev pub no_guard : GuardKind
+no_guard = Native any_guard
+
 -- a var slot without a guard
 abbrev pub plain_cell : Value → Cell
-plain_cell v = record { guard = Native any_guard; value = v }
+plain_cell v = record { guard = no_guard; value = v }
 
--- what an object holds of a name that is bound so, under that guard
-abbrev pub capture_under : Bound → GuardKind → Capture
-capture_under (Fixed v) g = capture.Fixed v g
-capture_under (Slot k) g = capture.Slot k
-
+-- what an object holds of a name that is bound so
 abbrev pub capture_of : Bound → Capture
-capture_of b = capture_under b (Native any_guard)
+capture_of (Fixed v g) = capture.Fixed v g
+capture_of (Slot k) = capture.Slot k
 
 abbrev pub caught_of : Binding → Caught
 caught_of b = record { noun = b.noun; capture = capture_of b.bound }
@@ -110,7 +110,7 @@ are_there h [] = true
 are_there h (v ∷ vs) = if is_there h v then are_there h vs else false
 
 abbrev pub is_bound : Contents → Bound → Bool
-is_bound h (Fixed v) = is_there h v
+is_bound h (Fixed v g) = is_there h v
 is_bound h (Slot k) = true
 
 -- the values of names stand there
@@ -126,7 +126,7 @@ Each {A = A} P xs = (k : ℕ) (x : A) → slice_get xs k ≡ Some x → P x
 abbrev pub IsPlainCell : Contents → Cell → Type 0
 IsPlainCell h c = (c ≡ plain_cell c.value) × (is_there h c.value ≡ true)
 
--- an object without stamps, whose captures are without guards and stand there, or an ejector
+-- an object without stamps, whose captures stand there, or an ejector
 abbrev pub IsPlainShape : Contents → Shape → Type 0
 IsPlainShape h (Made node caught stamps) = (bs : List Binding) × ((caught ≡ map caught_of bs) × ((stamps ≡ []) × (are_bound h bs ≡ true)))
 IsPlainShape h Ejector = Unit {0}

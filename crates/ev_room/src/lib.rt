@@ -5,6 +5,7 @@ pub mod call;
 pub mod data;
 pub mod ejector;
 pub mod exit;
+pub mod guards;
 pub mod nouns;
 pub mod object;
 pub mod room;

@@ -27,7 +27,7 @@ fn read_held(act: ActId, bound: Bound, room: &mut Room) -> Result<Value, Exit>
     ensures outcome { Gives result room.new (read_held act bound room.old) }
 {
     match bound {
-        Bound::Fixed(value) => Ok(value),
+        Bound::Fixed { value, .. } => Ok(value),
         Bound::Slot(slot) => read_slot(act, slot, room),
     }
 }
@@ -55,7 +55,7 @@ fn write_held(act: ActId, bound: Bound, value: Value, room: &mut Room) -> Result
 {
     match bound {
         Bound::Slot(slot) => write_slot(act, slot, value, room),
-        Bound::Fixed(_) => Err(Exit::Astray),
+        Bound::Fixed { .. } => Err(Exit::Astray),
     }
 }
 

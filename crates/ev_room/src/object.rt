@@ -5,16 +5,16 @@ ghost use Rattle.ev_base.specs.declared.values.Value.TheVariants.{Obj};
 ghost use Rattle.ev_heap.specs.declared.happened.Happened.TheVariants.{Made};
 ghost use Rattle.ev_kernel_printer.specs.FreeNames.{free_names};
 ghost use Rattle.def_machine.specs.Scopes.{name_of};
-ghost use Rattle.ev_room.specs.Sound.{capture_of, capture_under, caught_of};
+ghost use Rattle.ev_room.specs.Sound.{capture_of, caught_of};
 ghost use Rattle.ev_room.specs.Acts.{Answers, Extends, Gives, GivesIn, binding_back, bound_back, captures, code_of, look_code, make_object, named, new_object, object_made, object_node};
 
 use crate::exit::Exit;
 use crate::room::{Room, tell};
-use crate::scope::{Binding, Bound, Scope, found_text};
+use crate::scope::{Binding, Bound, NO_GUARD, Scope, found_text};
 use crate::tree::node_at;
 use def_kernel::{Kernel, Node};
-use ev_base::{ActId, Memory, NodeId, ObjId, PrimId, Seq, Str, Value};
-use ev_heap::{Capture, Caught, GuardKind, Happened, Shape};
+use ev_base::{ActId, Memory, NodeId, ObjId, Seq, Str, Value};
+use ev_heap::{Capture, Caught, Happened, Shape};
 use ev_kernel_printer::free_names;
 use ev_word::Word;
 use std::alloc::Global;
@@ -35,12 +35,12 @@ pub enum Code {
     Leaves(bool),
 }
 
-/// What an object holds of a name that is bound so, under that guard.
-fn capture_under(bound: Bound, guard: GuardKind) -> Capture
-    ensures { result ≡ capture_under bound guard }
+/// What an object holds of a name that is bound so.
+fn capture_of(bound: Bound) -> Capture
+    ensures { result ≡ capture_of bound }
 {
     match bound {
-        Bound::Fixed(value) => Capture::Fixed { value, guard },
+        Bound::Fixed { value, guard } => Capture::Fixed { value, guard },
         Bound::Slot(slot) => Capture::Slot(slot),
     }
 }
@@ -50,7 +50,7 @@ fn bound_back(capture: Capture) -> Bound
     ensures { result ≡ bound_back capture }
 {
     match capture {
-        Capture::Fixed { value, .. } => Bound::Fixed(value),
+        Capture::Fixed { value, guard } => Bound::Fixed { value, guard },
         Capture::Slot(slot) => Bound::Slot(slot),
     }
 }
@@ -126,7 +126,7 @@ fn kept(alloc: Global, nouns: &[Binding]) -> Result<Seq<Caught>, Memory>
     let mut all = Seq::new(alloc);
     for binding in nouns {
         let noun = binding.noun.share()?;
-        let capture = capture_under(binding.bound, GuardKind::Native(PrimId(8)));
+        let capture = capture_of(binding.bound);
         all.push(Caught { noun, capture })?;
     }
     Ok(all)
@@ -144,7 +144,7 @@ fn made_line(
 {
     let mut caps = Seq::new(alloc);
     for binding in nouns {
-        caps.push(capture_under(binding.bound, GuardKind::Native(PrimId(8))))?;
+        caps.push(capture_of(binding.bound))?;
     }
     let name = Word::copy_of(alloc, name)?;
     Ok(Happened::Made {
@@ -210,7 +210,10 @@ fn bind_name_in(
             let noun = noun.share()?;
             here.nouns.push(Binding {
                 noun,
-                bound: Bound::Fixed(Value::Obj(object)),
+                bound: Bound::Fixed {
+                    value: Value::Obj(object),
+                    guard: NO_GUARD,
+                },
             })
         }
         _ => Ok(()),

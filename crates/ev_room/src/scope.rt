@@ -3,16 +3,20 @@
 ghost use Rattle.std.specs.Prelude.{◌≡◌, None};
 ghost use Rattle.ev_room.specs.Acts.{cut, found_from};
 
-use ev_base::{ActId, Seq, SlotId, Value};
+use ev_base::{ActId, PrimId, Seq, SlotId, Value};
+use ev_heap::GuardKind;
 use ev_word::Word;
 use std::alloc::Global;
 use std::mem;
 
+/// The guard of a name that has none, which takes any value.
+pub const NO_GUARD: GuardKind = GuardKind::Native(PrimId(8));
+
 /// What a noun stands for.
 #[derive(Clone, Copy, Debug, PartialEq, Eq)]
 pub enum Bound {
-    /// A value, for good.
-    Fixed(Value),
+    /// A value, for good, and the guard under which it was bound.
+    Fixed { value: Value, guard: GuardKind },
     /// A var slot.
     Slot(SlotId),
 }

@@ -5,15 +5,16 @@ ghost use Rattle.ev_room.specs.Acts.{Gives, new_slot, read_slot, slot_read, writ
 
 use crate::exit::Exit;
 use crate::room::{Room, tell};
-use ev_base::{ActId, Memory, PrimId, SlotId, Value};
-use ev_heap::{GuardKind, Happened};
+use crate::scope::NO_GUARD;
+use ev_base::{ActId, Memory, SlotId, Value};
+use ev_heap::Happened;
 
 /// Makes a var slot without a guard.
 #[tactic(auto, unfolding(crate::specs::Acts::opened_acts))]
 pub fn new_slot(value: Value, room: &mut Room) -> Result<SlotId, Exit>
     ensures outcome { Gives result room.new (new_slot value room.old) }
 {
-    match room.heap.make_slot(GuardKind::Native(PrimId(8)), value) {
+    match room.heap.make_slot(NO_GUARD, value) {
         Ok(slot) => Ok(slot),
         Err(Memory) => Err(Exit::Memory),
     }

@@ -14,7 +14,7 @@ use Rattle.ev_room.specs.declared.scope.Bound.TheVariants.{Fixed, Slot}
 use Rattle.ev_room.specs.declared.scope.Scope.{Scope}
 use Rattle.ev_steps.specs.Steps.{Evaluator, guarded_node, gathered, last_of, call_node, exit_of, define_by, define, literal_node, noun_node, set_node, within, choose, if_node, bind_unmatched, unmatched, not_matched, matched_if, match_ended, match_on, match_node, step, failed, bind_all, bind_final, bind_var, bind_any, bind_list, bind_items, bind_via, bind_asked, bind_step, step_found, bind_found, deeper, evaluator}
 use Rattle.ev_room.specs.Acts.{Out, Act, ◌>>=◌, ◌>>◌, ended_by, fails, cut, leave, with_noun}
-use Rattle.ev_room.specs.Sound.{not_a_list_id}
+use Rattle.ev_room.specs.Sound.{no_guard, not_a_list_id}
 use Rattle.ev_room.specs.declared.exit.Exit.TheVariants as exit
 use Rattle.ev_room.proofs.Behind.{Grows, same, onward, with_one, back, then_of, then_any, lost, Holds, Of, GivesMore, BindsMore, given, bound, object_grows}
 
@@ -155,7 +155,7 @@ step_grows tree rec r id _ here s = lost _ s
 
 final_grows : (x : Words) (g : Option ℕ) (v : Value) (here : Scope) (s : Room) → BindsMore here (bind_final x g v here s)
 unfolding bind_final
-final_grows x None v here s = bound s (with_one x (Fixed v) here)
+final_grows x None v here s = bound s (with_one x (Fixed v no_guard) here)
 final_grows x (Some g) v here s = lost _ s
 
 var_grows : (x : Words) (g : Option ℕ) (v : Value) (here : Scope) (s : Room) → BindsMore here (bind_var x g v here s)

@@ -13,7 +13,7 @@ use Rattle.def_kernel.specs.declared.node.Literal.TheVariants as literal
 use Rattle.def_kernel.specs.declared.node.Node.{Node}
 use Rattle.def_kernel.specs.declared.node.Node.TheVariants.{Lit, Noun, Set, Def, Call, Sequence, If, Escape, Try, Finally, Hide, MatchBind, Object as ObjectNode, Method, Matcher, Final, Var, Any, ListPattern, Via}
 use Rattle.def_machine.specs.Free.{BoundNoun, bound_nouns}
-use Rattle.def_machine.specs.Values.{Words, Value, Null, Flag, Items, Ref, Local, Obj, numbering}
+use Rattle.def_machine.specs.Values.{Words, Value, Null, Flag, Prim, Items, Ref, Local, Obj, numbering}
 use Rattle.def_machine.specs.State.{Bound, Fixed, Slot, Binding as Bond, Scope as Surroundings, Got, SlotMade, Vat, Done, Throws, Ejects, Stops, opened_state, Fuel, Deep, Astray}
 use Rattle.def_machine.specs.State as machine
 use Rattle.def_machine.specs.Scopes.{Answer, Answers, any_guard}
@@ -35,7 +35,7 @@ use Rattle.ev_room.specs.declared.scope.Scope.{Scope}
 use Rattle.ev_steps.specs.Built.{is_built_node, is_built}
 use Rattle.ev_room.specs.Sound.{is_built_safe}
 use Rattle.ev_room.specs.Reading.{World, names, all_promises, text_of, value_of, values_of, members_of, line_of, vat_of}
-use Rattle.ev_room.specs.Sound.{Grown, IsSound, is_there, are_there, is_bound, are_bound, problems, no_match_id, not_a_list_id}
+use Rattle.ev_room.specs.Sound.{Grown, IsSound, any_guard as any, no_guard, is_there, are_there, is_bound, are_bound, problems, no_match_id, not_a_list_id}
 use Rattle.ev_steps.specs.Steps.{Evaluator, Caller, call_value, call_at, call, gathered, last_of, call_node, exit_of, define_by, define, no_match, unmatched_noun, bind_unmatched, unmatched, not_matched, matched_if, match_ended, match_on, match_node, failed, bind_list, bind_items, bind_via, bind_asked, literal_value, literal_node, noun_node, set_node, within, choose, if_node, step, bind_final, bind_var, bind_any, bind_step, step_found, bind_found, deeper, evaluator, opening}
 use Rattle.ev_room.specs.Acts.{Out, Act, Gives, and_then, ◌>>=◌, ◌>>◌, give, fail, found_from, with_noun}
 use Rattle.ev_steps.proofs.Calls.{CallsMet, call_data_met}
@@ -298,7 +298,7 @@ no_match_is w tree = refl
 unmatched_noun_met : (w : World) (tree : List Node) (act : ℕ) (b : Bool) (s : Room) → IsSound s.heap
     → Met w a_bound s (unmatched_noun act b s) (theirs.unmatched_noun (names w) tree act b (vat w s))
 unfolding unmatched_noun ◌>>=◌ ◌>>◌
-unmatched_noun_met w tree act false s sound = unfold theirs.unmatched_noun theirs.no_match in give_met w a_bound (scope.Fixed no_match) s sound (no_match_there s.heap sound)
+unmatched_noun_met w tree act false s sound = unfold theirs.unmatched_noun theirs.no_match any_guard in give_met w a_bound (scope.Fixed no_match no_guard) s sound (no_match_there s.heap sound)
 unmatched_noun_met w tree act true s sound =
     rw (fresh_is w tree act (vat w s), no_match_is w tree)
     (then_met _ _ (new_slot_met w no_match s sound (no_match_there s.heap sound))
@@ -388,7 +388,7 @@ step_met w fair tree rec their h id (Via v p) here s sound k built found e = sto
 -- ---- patterns
 
 final_is : (w : World) (tree : List Node) (their : scopes.Evaluator Local) (x : Words) (y j : Value Local) (sc : Surroundings Local) (v : Vat Local)
-    → theirs.bind_step (names w) tree their (Final x None) y j sc v ≡ machine.Gives (scopes.with_noun x (Fixed y any_guard) sc) v
+    → theirs.bind_step (names w) tree their (Final x None) y j sc v ≡ machine.Gives (scopes.with_noun x (Fixed y (Prim any)) sc) v
 unfolding opened_eval
 final_is w tree their x y j sc v = refl
 
@@ -405,7 +405,7 @@ final_met : (w : World) (tree : List Node) (their : scopes.Evaluator Local) (x :
     → Met w a_scope s (bind_final x g v here s) (theirs.bind_step (names w) tree their (Final x g) (value_of w v) j (scope_of w here) (vat w s))
 unfolding bind_final
 final_met w tree their x (Some g) v j here s sound i k e = absurd (cc)
-final_met w tree their x None v j here s sound i k e = rw (final_is w tree their x (value_of w v) j (scope_of w here) (vat w s)) (unfold machine.give in bound_met w x (scope.Fixed v) here s sound k i)
+final_met w tree their x None v j here s sound i k e = rw (final_is w tree their x (value_of w v) j (scope_of w here) (vat w s)) (unfold machine.give in bound_met w x (scope.Fixed v no_guard) here s sound k i)
 
 var_is : (w : World) (tree : List Node) (their : scopes.Evaluator Local) (x : Words) (y j : Value Local) (sc : Surroundings Local) (v : Vat Local)
     → theirs.bind_step (names w) tree their (Var x None) y j sc v

@@ -24,7 +24,7 @@ use Rattle.ev_prims.specs.declared.order.Test.{Test}
 use Rattle.ev_prims.specs.declared.problem.Problem.TheVariants.{NoMethod, NotBoolean}
 use Rattle.ev_prims.specs.declared.reply.Reply.{Reply}
 use Rattle.ev_prims.specs.declared.reply.Reply.TheVariants as reply
-use Rattle.ev_room.specs.Sound.{is_there, no_match_id, not_a_list_id}
+use Rattle.ev_room.specs.Sound.{is_there, no_guard, no_match_id, not_a_list_id}
 use Rattle.ev_same.specs.Same.{same_ever}
 use Rattle.ev_room.specs.declared.object.Object.{Object}
 use Rattle.ev_room.specs.declared.object.Code.{Code}
@@ -361,7 +361,7 @@ abbrev pub no_match : Value
 no_match = held.Broken no_match_id
 
 unfoldable pub unmatched_noun : ℕ → Bool → Act Bound
-unmatched_noun act false = give (Fixed no_match)
+unmatched_noun act false = give (Fixed no_match no_guard)
 unmatched_noun act true = do
   k ← new_slot no_match
   tell (event.Slot act k no_match)
@@ -433,7 +433,7 @@ failed tree rec act held.Null id = fail (Thrown id)
 failed tree rec act j id = call tree rec act j (codes "run") (held.Text id ∷ []) >> fail (Thrown id)
 
 unfoldable pub bind_final : Words → Option ℕ → Value → Scope → Act Scope
-bind_final x None v here = give (with_noun x (Fixed v) here)
+bind_final x None v here = give (with_noun x (Fixed v no_guard) here)
 bind_final x (Some g) v here = fail Unbuilt
 
 unfoldable pub bind_var : Words → Option ℕ → Value → Scope → Act Scope

@@ -11,7 +11,7 @@ use ev_base::{ActId, NodeId, TextId, Value};
 use ev_heap::Happened;
 use ev_room::exit::Exit;
 use ev_room::room::{Room, tell};
-use ev_room::scope::{Binding, Bound, Scope};
+use ev_room::scope::{Binding, Bound, NO_GUARD, Scope};
 use ev_room::slots::new_slot;
 
 /// What the names of a failed match are bound to.
@@ -28,7 +28,10 @@ fn unmatched_noun(act: ActId, is_var: bool, missing: Value, room: &mut Room) -> 
     ensures outcome { Gives result room.new (unmatched_noun act is_var room.old) }
 {
     if !is_var {
-        return Ok(Bound::Fixed(missing));
+        return Ok(Bound::Fixed {
+            value: missing,
+            guard: NO_GUARD,
+        });
     }
     let told = missing;
     let slot = new_slot(missing, room)?;

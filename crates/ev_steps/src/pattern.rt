@@ -5,6 +5,7 @@ ghost use Rattle.def_kernel.specs.declared.node.Node.TheVariants.{Any, Final, Va
 ghost use Rattle.ev_steps.specs.AtOnce.{BindsAtOnce, BindsFrom};
 ghost use Rattle.ev_steps.specs.Steps.{bind_var, evaluator};
 ghost use Rattle.ev_room.specs.Acts.{Binds, Extends, with_noun};
+ghost use Rattle.ev_room.specs.Sound.{no_guard};
 ghost use Rattle.ev_room.specs.declared.scope.Bound.TheVariants.{Fixed};
 
 use def_kernel::{Kernel, Node};
@@ -12,7 +13,7 @@ use ev_base::{Memory, NodeId, Value};
 use ev_heap::Happened;
 use ev_room::exit::Exit;
 use ev_room::room::{Room, spend, tell};
-use ev_room::scope::{Binding, Bound, Scope};
+use ev_room::scope::{Binding, Bound, NO_GUARD, Scope};
 use ev_room::slots::new_slot;
 use ev_room::tree::node_at;
 use ev_word::Word;
@@ -47,13 +48,16 @@ pub fn value_at(values: &[Value], place: usize) -> Option<Value>
 /// Binds a noun finally to a value.
 #[tactic(auto, using(ev_room::proofs::Fronts::itself_in_front, ev_room::proofs::Fronts::more_in_front, ev_room::proofs::Fronts::kept_in_front))]
 pub fn final_step(noun: &Word, value: Value, here: &mut Scope) -> Result<(), Memory>
-    ensures outcome { OnOk result (here.new ≡ with_noun noun.now (Fixed value) here.old) }
+    ensures outcome { OnOk result (here.new ≡ with_noun noun.now (Fixed value no_guard) here.old) }
     ensures front { Extends here.old here.new }
 {
     let noun = noun.share()?;
     here.nouns.push(Binding {
         noun,
-        bound: Bound::Fixed(value),
+        bound: Bound::Fixed {
+            value,
+            guard: NO_GUARD,
+        },
     })
 }
 
