@@ -1,0 +1,5 @@
+pub mod Acts
+pub mod Hosting
+pub mod Breaking
+pub mod Arriving
+pub mod Noticing
