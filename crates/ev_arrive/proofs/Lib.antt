@@ -5,3 +5,6 @@ pub mod Absent
 pub mod Hostings
 pub mod Breakings
 pub mod Noticed
+pub mod Gifting
+pub mod Stands
+pub mod Opens

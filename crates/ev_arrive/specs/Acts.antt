@@ -54,11 +54,11 @@ value_at (reference.Promise n) = held.Prom n
 value_at (reference.Far h p) = held.Far h p
 
 -- a name that was heard of is known, or comes to be known, of that host
-unfoldable pub learn_name : Incoming → Act Value
-learn_name (Known r) = give (value_at r)
+unfoldable pub learn_name : Incoming → Act Reference
+learn_name (Known r) = give r
 learn_name (New v) = do
   n ← within (come v)
-  give (held.Prom n)
+  give (reference.Promise n)
 
 -- opens the acts
 unfoldable pub opened_acts : Unit {0}

@@ -6,7 +6,7 @@ use Rattle.ev_pass.specs.Delivering.{inform}
 use Rattle.ev_refs.specs.declared.known.Standing.{Standing}
 use Rattle.ev_refs.specs.declared.known.Standing.TheVariants.{Unsettled, WaitsOn, Viewed, Settled}
 use Rattle.ev_settle.specs.Resolving.{resolve}
-use Rattle.ev_arrive.specs.Acts.{Act, ◌>>=◌, ◌>>◌, give, learn_name, within}
+use Rattle.ev_arrive.specs.Acts.{Act, ◌>>=◌, ◌>>◌, give, learn_name, value_at, within}
 use Rattle.ev_arrive.specs.Breaking.{break_at, standing_now}
 use Rattle.ev_arrive.specs.Hosting.{have_gift, is_opened, open_gift}
 use Rattle.ev_arrive.specs.declared.host.Incoming.{Incoming}
@@ -17,7 +17,7 @@ arrive_open from i x = do
   y ← learn_name x
   n ← have_gift from i
   open_gift from i
-  within (resolve n y)
+  within (resolve n (value_at y))
 
 unfoldable pub break_unless_opened : ℕ → Bool → Act (Unit {0})
 break_unless_opened n true = give tt

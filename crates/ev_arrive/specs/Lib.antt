@@ -3,3 +3,5 @@ pub mod Hosting
 pub mod Breaking
 pub mod Arriving
 pub mod Noticing
+pub mod Reading
+pub mod Statements

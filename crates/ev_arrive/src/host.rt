@@ -60,16 +60,16 @@ pub(crate) fn resolve_name(host: &mut Host, name: PromId, value: Value) -> Resul
     resolve(&mut host.inside, name, value)
 }
 
-/// A name that was heard of is known, or comes to be known. It gives what is known, as a value.
+/// A name that was heard of is known, or comes to be known.
 #[tactic(auto, using(crate::proofs::Ends::ends), unfolding(crate::specs::Acts::learn_name, crate::specs::Acts::opened_acts))]
-pub fn learn_name(host: &mut Host, incoming: Incoming) -> Result<Value, Stop>
+pub fn learn_name(host: &mut Host, incoming: Incoming) -> Result<Reference, Stop>
     ensures { Gives result host.new (learn_name incoming host.old) }
 {
     match incoming {
-        Incoming::Known(reference) => Ok(value_at(reference)),
+        Incoming::Known(reference) => Ok(reference),
         Incoming::New(vat) => {
             let name = come(host, vat)?;
-            Ok(Value::Prom(name))
+            Ok(Reference::Promise(name))
         }
     }
 }

@@ -5,6 +5,7 @@ pub mod asking;
 pub mod breaking;
 pub mod gifts;
 pub mod host;
+pub mod laws;
 pub mod notice;
 pub mod opening;
 

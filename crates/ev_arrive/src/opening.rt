@@ -5,7 +5,7 @@ ghost use Rattle.ev_arrive.specs.Acts.{Gives};
 ghost use Rattle.ev_arrive.specs.Arriving.{arrive_open};
 
 use crate::gifts::{have_gift, open_gift};
-use crate::host::{Host, Incoming, learn_name, resolve_name};
+use crate::host::{Host, Incoming, learn_name, resolve_name, value_at};
 use ev_base::VatId;
 use ev_pass::{Stop, Swiss};
 
@@ -20,8 +20,8 @@ pub fn arrive_open(
 ) -> Result<(), Stop>
     ensures { Gives result host.new (arrive_open from swiss incoming host.old) }
 {
-    let value = learn_name(host, incoming)?;
+    let end = learn_name(host, incoming)?;
     let name = have_gift(host, from, swiss)?;
     open_gift(host, from, swiss)?;
-    resolve_name(host, name, value)
+    resolve_name(host, name, value_at(end))
 }
