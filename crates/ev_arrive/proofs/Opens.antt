@@ -135,7 +135,7 @@ module _ (ts : List Words) (key : List ℕ) (line : Lines) (s : Vat Local) (tell
       (told_by n w (standing_now h.inside.refs n) h good)
 
   pub asks_is : (w p i : ℕ) (h : Host) → Reads ts key h.inside → Stands ts key line s (λ u. u) (arrive_ask w p i h) (arrive.arrive_ask (names_under key) w p i (at h))
-  unfolding arrive_ask arrive.arrive_ask ◌>>=◌ ◌>>◌ machine.◌>>=◌ machine.◌>>◌ machine.look
+  unfolding arrive_ask arrive.arrive_ask ◌>>=◌ ◌>>◌ machine.◌>>=◌ machine.◌>>◌ machine.look arrive.tell_asker machine.and_then
   asks_is w p i h good =
       both_then ts key line s Prom (λ u. u) (have_gift p i h) _ _ _ (have_is ts key line s p i h good)
       (λ n j e first. both_then ts key line s (λ u. u) (λ u. u) (break_orphan p i n j) _ _ _ (orphan_is p i n j first)
