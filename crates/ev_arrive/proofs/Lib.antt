@@ -1,0 +1,10 @@
+pub mod Within
+pub mod Ends
+pub mod Standings
+pub mod Absent
+pub mod Hostings
+pub mod Breakings
+pub mod Noticed
+pub mod Gifting
+pub mod Stands
+pub mod Opens

@@ -1,0 +1,7 @@
+pub mod Acts
+pub mod Hosting
+pub mod Breaking
+pub mod Arriving
+pub mod Noticing
+pub mod Reading
+pub mod Statements

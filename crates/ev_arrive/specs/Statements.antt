@@ -1,0 +1,19 @@
+-- What is said of what arrives in the machine's terms.
+use Rattle.std.specs.Prelude.{ℕ, List}
+use Rattle.def_machine.specs.Arrive as machine
+use Rattle.def_machine.specs.State.{Vat}
+use Rattle.def_machine.specs.Values.{Words, Local}
+use Rattle.ev_pass.specs.Reading.{Lines, Reads, names_under}
+use Rattle.ev_settle.specs.Performing.{Tells}
+use Rattle.ev_arrive.specs.Arriving.{arrive_open, arrive_ask}
+use Rattle.ev_arrive.specs.Reading.{Stands, host_at, incoming_by}
+use Rattle.ev_arrive.specs.declared.host.Host.{Host}
+use Rattle.ev_arrive.specs.declared.host.Incoming.{Incoming}
+
+abbrev pub OpensAsTheMachine : Type 0
+OpensAsTheMachine = (ts : List Words) (key : List ℕ) (line : Lines) (s : Vat Local) (h : Host) (from i : ℕ) (n : Local) (x : Incoming) → Tells ts line → Reads ts key h.inside
+    → Stands ts key line s (λ u. u) (arrive_open from i x h) (machine.arrive_open (names_under key) from i (incoming_by n x) (host_at ts line h s))
+
+abbrev pub IsAskedAsTheMachine : Type 0
+IsAskedAsTheMachine = (ts : List Words) (key : List ℕ) (line : Lines) (s : Vat Local) (h : Host) (w p i : ℕ) → Tells ts line → Reads ts key h.inside
+    → Stands ts key line s (λ u. u) (arrive_ask w p i h) (machine.arrive_ask (names_under key) w p i (host_at ts line h s))

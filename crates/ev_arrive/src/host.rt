@@ -1,0 +1,75 @@
+//! The inside of a vat with the gifts that it hosts, and names in what it hears.
+
+ghost use Rattle.std.specs.Prelude.{◌≡◌};
+ghost use Rattle.ev_arrive.specs.Acts.{Gives, learn_name, value_at, within};
+ghost use Rattle.ev_settle.specs.Changes as changes;
+ghost use Rattle.ev_settle.specs.Resolving as resolving;
+ghost use Rattle.ev_settle.specs.Settling as settling;
+
+use ev_base::{PromId, Value, VatId};
+use ev_intro::GiftTable;
+use ev_pass::{Interior, Reference, Stop};
+use ev_settle::{changes, resolve, settle};
+
+/// A vat as it hears others: its inside, and the gifts that it hosts, by provider and number.
+#[derive(Drop)]
+pub struct Host {
+    pub inside: Interior,
+    pub gifts: GiftTable,
+}
+
+/// A name in what a vat hears: one that it knows, or one that it comes to know, of that vat.
+#[derive(Clone, Copy, Debug, PartialEq, Eq)]
+pub enum Incoming {
+    Known(Reference),
+    New(VatId),
+}
+
+/// What is known, as a value.
+pub fn value_at(reference: Reference) -> Value
+    ensures { result ≡ value_at reference }
+{
+    match reference {
+        Reference::Object(object) => Value::Obj(object),
+        Reference::Promise(name) => Value::Prom(name),
+        Reference::Far(vat, position) => Value::Far(vat, position),
+    }
+}
+
+/// A name of that vat comes to be known, as the last.
+#[tactic(auto, using(crate::proofs::Within::inside_gives), unfolding(crate::specs::Acts::within))]
+pub(crate) fn come(host: &mut Host, vat: VatId) -> Result<PromId, Stop>
+    ensures { Gives result host.new (within (changes.come vat) host.old) }
+{
+    changes::come(&mut host.inside, vat)
+}
+
+/// A name settles to a value, and what waits at it goes on.
+#[tactic(auto, using(crate::proofs::Within::inside_gives), unfolding(crate::specs::Acts::within))]
+pub(crate) fn settle_name(host: &mut Host, name: PromId, value: &Value) -> Result<(), Stop>
+    ensures { Gives result host.new (within (settling.settle name value.now) host.old) }
+{
+    settle(&mut host.inside, name, value)
+}
+
+/// A name resolves to a value.
+#[tactic(auto, using(crate::proofs::Within::inside_gives), unfolding(crate::specs::Acts::within))]
+pub(crate) fn resolve_name(host: &mut Host, name: PromId, value: Value) -> Result<(), Stop>
+    ensures { Gives result host.new (within (resolving.resolve name value) host.old) }
+{
+    resolve(&mut host.inside, name, value)
+}
+
+/// A name that was heard of is known, or comes to be known.
+#[tactic(auto, using(crate::proofs::Ends::ends), unfolding(crate::specs::Acts::learn_name, crate::specs::Acts::opened_acts))]
+pub fn learn_name(host: &mut Host, incoming: Incoming) -> Result<Reference, Stop>
+    ensures { Gives result host.new (learn_name incoming host.old) }
+{
+    match incoming {
+        Incoming::Known(reference) => Ok(reference),
+        Incoming::New(vat) => {
+            let name = come(host, vat)?;
+            Ok(Reference::Promise(name))
+        }
+    }
+}

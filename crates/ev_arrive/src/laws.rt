@@ -1,0 +1,13 @@
+//! What arrives means in the machine, in local numbers.
+
+ghost use Rattle.ev_arrive.specs.Statements.{IsAskedAsTheMachine, OpensAsTheMachine};
+
+/// A gift is opened (`arrive_open`) as in the machine.
+pub fn opens_as_the_machine()
+    ensures { OpensAsTheMachine }
+{}
+
+/// A gift is asked for (`arrive_ask`) as in the machine.
+pub fn is_asked_as_the_machine()
+    ensures { IsAskedAsTheMachine }
+{}

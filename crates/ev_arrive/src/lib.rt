@@ -1,0 +1,12 @@
+//! What a vat does with what it hears of gifts, and where it notices that a link is cut.
+#![tactic(auto)]
+
+pub mod asking;
+pub mod breaking;
+pub mod gifts;
+pub mod host;
+pub mod laws;
+pub mod notice;
+pub mod opening;
+
+pub use host::{Host, Incoming};
