@@ -8,3 +8,4 @@ pub mod Noticed
 pub mod Gifting
 pub mod Stands
 pub mod Opens
+pub mod Notices

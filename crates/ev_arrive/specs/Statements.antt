@@ -6,6 +6,7 @@ use Rattle.def_machine.specs.Values.{Words, Local}
 use Rattle.ev_pass.specs.Reading.{Lines, Reads, names_under}
 use Rattle.ev_settle.specs.Performing.{Tells}
 use Rattle.ev_arrive.specs.Arriving.{arrive_open, arrive_ask}
+use Rattle.ev_arrive.specs.Noticing.{notice}
 use Rattle.ev_arrive.specs.Reading.{Stands, host_at, incoming_by}
 use Rattle.ev_arrive.specs.declared.host.Host.{Host}
 use Rattle.ev_arrive.specs.declared.host.Incoming.{Incoming}
@@ -17,3 +18,7 @@ OpensAsTheMachine = (ts : List Words) (key : List ℕ) (line : Lines) (s : Vat L
 abbrev pub IsAskedAsTheMachine : Type 0
 IsAskedAsTheMachine = (ts : List Words) (key : List ℕ) (line : Lines) (s : Vat Local) (h : Host) (w p i : ℕ) → Tells ts line → Reads ts key h.inside
     → Stands ts key line s (λ u. u) (arrive_ask w p i h) (machine.arrive_ask (names_under key) w p i (host_at ts line h s))
+
+abbrev pub NoticesAsTheMachine : Type 0
+NoticesAsTheMachine = (ts : List Words) (key : List ℕ) (line : Lines) (s : Vat Local) (h : Host) (w : ℕ) → Tells ts line → Reads ts key h.inside
+    → Stands ts key line s (λ u. u) (notice w h) (machine.notice (names_under key) w (host_at ts line h s))
