@@ -9,3 +9,4 @@ pub mod Gifting
 pub mod Stands
 pub mod Opens
 pub mod Notices
+pub mod Views

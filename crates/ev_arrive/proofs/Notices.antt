@@ -86,7 +86,7 @@ module _ (ts : List Words) (key : List ℕ) (line : Lines) (s : Vat Local) (tell
   gifts_is w [] h good = gives ts key line s (λ u. u) tt h good
   gifts_is w (g ∷ gs) h good =
       subst (λ (b : Bool). Stands ts key line s (λ u. u) (break_each break_at (unopened w (g ∷ gs)) h)
-        (machine.and_then ((if b then arrive.break_unopened (names_under key) (Prom g.promise) g.is_opened else machine.give tt) (at h)) (λ u. gifts_on w gs))) (same_eq w g.provider)
+      (machine.and_then ((if b then arrive.break_unopened (names_under key) (Prom g.promise) g.is_opened else machine.give tt) (at h)) (λ u. gifts_on w gs))) (same_eq w g.provider)
       (gift_by_flags w g.promise gs (w == g.provider) g.is_opened h good (λ j next. gifts_is w gs j next))
 
   -- ---- the notice
