@@ -10,3 +10,4 @@ pub mod Stands
 pub mod Opens
 pub mod Notices
 pub mod Views
+pub mod Viewings

@@ -38,7 +38,7 @@ use Rattle.ev_arrive.specs.declared.host.Incoming.{Incoming}
 use Rattle.ev_arrive.proofs.Gifting.{Alike, alike}
 use Rattle.ev_arrive.proofs.Stands.{Meets, both_then, gives, inside_is, name_is, have_is, open_is}
 
-value_is : (ts : List Words) (r : Reference) → value_by ts (value_at r) ≡ Ref (reference_by r)
+pub value_is : (ts : List Words) (r : Reference) → value_by ts (value_at r) ≡ Ref (reference_by r)
 value_is ts (reference.Object i) = refl
 value_is ts (reference.Promise n) = refl
 value_is ts (reference.Far h p) = refl

@@ -9,15 +9,15 @@ use Rattle.ev_arrive.specs.Hosting.{have_gift}
 use Rattle.ev_arrive.specs.Viewing.{ask_there, gift_there, settled_at, view_there}
 use Rattle.ev_arrive.specs.declared.host.Host.{Host}
 
-module _ (h c i : ℕ) (k u : Host) (r : Result ℕ Stop) where
-  by_test : (b : Bool) → (c == k.inside.refs.me) ≡ b → gift_there h c i k ≡ (if b then have_gift h i else ask_there h c i) k
+module _ (v h c i : ℕ) (k u : Host) (r : Result ℕ Stop) where
+  by_test : (b : Bool) → (c == v) ≡ b → gift_there v h c i k ≡ (if b then have_gift h i else ask_there h c i) k
   unfolding gift_there
   by_test b e = ap (λ (x : Bool). (if x then have_gift h i else ask_there h c i) k) e
 
-  pub here : (c == k.inside.refs.me) ≡ true → Gives r u (have_gift h i k) → Gives r u (gift_there h c i k)
+  pub here : (c == v) ≡ true → Gives r u (have_gift h i k) → Gives r u (gift_there v h c i k)
   here e g = subst (λ (o : Out ℕ). Gives r u o) (sym (by_test true e)) g
 
-  pub there : (c == k.inside.refs.me) ≡ false → Gives r u (ask_there h c i k) → Gives r u (gift_there h c i k)
+  pub there : (c == v) ≡ false → Gives r u (ask_there h c i k) → Gives r u (gift_there v h c i k)
   there e g = subst (λ (o : Out ℕ). Gives r u o) (sym (by_test false e)) g
 
 module _ (n c : ℕ) (k u : Host) (r : Result (Unit {0}) Stop) (b : Bool) (is : b ≡ is_in c k.inside.refs.noticed) where

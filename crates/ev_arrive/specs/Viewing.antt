@@ -22,20 +22,20 @@ ask_there h c i = do
   within (send_out c (Ask h i g))
   give g
 
--- the gift at host c, of provider h, which is here or is asked for
-unfoldable pub gift_there : ℕ → ℕ → ℕ → Act ℕ
-gift_there h c i = λ k. (if c == k.inside.refs.me then have_gift h i else ask_there h c i) k
+-- the gift at host c, of provider h, which is here, at vat v, or is asked for
+unfoldable pub gift_there : ℕ → ℕ → ℕ → ℕ → Act ℕ
+gift_there v h c i = λ k. (if c == v then have_gift h i else ask_there h c i) k
 
 -- the object to which a name of host h settled is asked of that host as a gift, which is the view of the name
-unfoldable pub view_from : ℕ → ℕ → ℕ → Act (Unit {0})
-view_from n h c = do
+unfoldable pub view_from : ℕ → ℕ → ℕ → ℕ → Act (Unit {0})
+view_from v n h c = do
   i ← within draw
   within (send_out h (Shorten n c i))
-  g ← gift_there h c i
+  g ← gift_there v h c i
   within (see n g)
 
 unfoldable pub view_there : ℕ → ℕ → Act (Unit {0})
-view_there n c = λ k. view_from n (host_of k.inside.refs n) c k
+view_there n c = λ k. view_from k.inside.refs.me n (host_of k.inside.refs n) c k
 
 unfoldable pub settled_at : ℕ → ℕ → Act (Unit {0})
 settled_at n c = λ k. (if is_in c k.inside.refs.noticed then break_name n else view_there n c) k

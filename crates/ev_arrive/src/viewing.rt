@@ -52,12 +52,18 @@ fn ask_there(host: &mut Host, provider: VatId, at: VatId, swiss: Swiss) -> Resul
     Ok(gift)
 }
 
-/// A gift at that vat, which is here or is asked for.
+/// A gift at that vat, which is this one or is asked for it.
 #[tactic(auto, using(crate::proofs::Views::here, crate::proofs::Views::there))]
-fn gift_there(host: &mut Host, provider: VatId, at: VatId, swiss: Swiss) -> Result<PromId, Stop>
-    ensures { Gives result host.new (gift_there provider at swiss host.old) }
+fn gift_there(
+    host: &mut Host,
+    me: VatId,
+    provider: VatId,
+    at: VatId,
+    swiss: Swiss,
+) -> Result<PromId, Stop>
+    ensures { Gives result host.new (gift_there me provider at swiss host.old) }
 {
-    if at.0 == host.inside.refs.me().0 {
+    if at.0 == me.0 {
         return have_gift(host, provider, swiss);
     }
     ask_there(host, provider, at, swiss)
@@ -65,12 +71,12 @@ fn gift_there(host: &mut Host, provider: VatId, at: VatId, swiss: Swiss) -> Resu
 
 /// The object to which a name of that host settled is asked of the host as a gift, which is the view of the name.
 #[tactic(auto, using(crate::proofs::Ends::ends), unfolding(crate::specs::Viewing::view_from, crate::specs::Acts::opened_acts))]
-fn view_from(host: &mut Host, name: PromId, from: VatId, at: VatId) -> Result<(), Stop>
-    ensures { Gives result host.new (view_from name from at host.old) }
+fn view_from(host: &mut Host, me: VatId, name: PromId, from: VatId, at: VatId) -> Result<(), Stop>
+    ensures { Gives result host.new (view_from me name from at host.old) }
 {
     let swiss = draw(host)?;
     send_out(host, from, Note::Shorten(name, at, swiss))?;
-    let gift = gift_there(host, from, at, swiss)?;
+    let gift = gift_there(host, me, from, at, swiss)?;
     see(host, name, gift)
 }
 
@@ -80,7 +86,8 @@ fn view_there(host: &mut Host, name: PromId, at: VatId) -> Result<(), Stop>
     ensures { Gives result host.new (view_there name at host.old) }
 {
     let from = host_of(host, name);
-    view_from(host, name, from, at)
+    let me = host.inside.refs.me();
+    view_from(host, me, name, from, at)
 }
 
 /// A name that is known settled to an object of that vat.
