@@ -8,3 +8,6 @@ pub mod Noticed
 pub mod Gifting
 pub mod Stands
 pub mod Opens
+pub mod Notices
+pub mod Views
+pub mod Viewings

@@ -38,7 +38,7 @@ use Rattle.ev_arrive.specs.declared.host.Incoming.{Incoming}
 use Rattle.ev_arrive.proofs.Gifting.{Alike, alike}
 use Rattle.ev_arrive.proofs.Stands.{Meets, both_then, gives, inside_is, name_is, have_is, open_is}
 
-value_is : (ts : List Words) (r : Reference) → value_by ts (value_at r) ≡ Ref (reference_by r)
+pub value_is : (ts : List Words) (r : Reference) → value_by ts (value_at r) ≡ Ref (reference_by r)
 value_is ts (reference.Object i) = refl
 value_is ts (reference.Promise n) = refl
 value_is ts (reference.Far h p) = refl
@@ -66,11 +66,11 @@ module _ (ts : List Words) (key : List ℕ) (line : Lines) (s : Vat Local) (tell
   entry_stands (Some k) n = refl
   entry_stands None n = refl
 
-  standing_is : (n : ℕ) (h : Host) → standing_by ts (standing_now h.inside.refs n) ≡ refs.standing_of (names_under key) (knowns_by ts 0 h.inside.refs.known) (Prom n)
+  pub standing_is : (n : ℕ) (h : Host) → standing_by ts (standing_now h.inside.refs n) ≡ refs.standing_of (names_under key) (knowns_by ts 0 h.inside.refs.known) (Prom n)
   unfolding standing_now refs.standing_of
   standing_is n h = entry_stands (slice_get h.inside.refs.known n) n ∙ ap refs.standing_in (sym (entry_is (word key) ts h.inside.refs.known n))
 
-  broken_is : (n : ℕ) (h : Host) → Reads ts key h.inside → Stands ts key line s (λ u. u) (break_name n h) (refs.settle (names_under key) (Prom n) (Broken (codes "partition")) (at h))
+  pub broken_is : (n : ℕ) (h : Host) → Reads ts key h.inside → Stands ts key line s (λ u. u) (break_name n h) (refs.settle (names_under key) (Prom n) (Broken (codes "partition")) (at h))
   unfolding break_name
   broken_is n h good =
       inside_is ts key line s (λ u. u) (settle n (held.Broken h.inside.refs.partition)) h _
@@ -92,7 +92,7 @@ module _ (ts : List Words) (key : List ℕ) (line : Lines) (s : Vat Local) (tell
       subst (λ (t : machine.Standing Local). Stands ts key line s (λ u. u) (break_by n (standing_now h.inside.refs n) h) (arrive.break_at (names_under key) (Prom n) (codes "partition") t (at h))) (standing_is n h)
       (breaks_by n (standing_now h.inside.refs n) h good)
 
-  unless_opened : (n : ℕ) (b : Bool) (h : Host) → Reads ts key h.inside → Stands ts key line s (λ u. u) (break_unless_opened n b h) (arrive.break_unopened (names_under key) (Prom n) b (at h))
+  pub unless_opened : (n : ℕ) (b : Bool) (h : Host) → Reads ts key h.inside → Stands ts key line s (λ u. u) (break_unless_opened n b h) (arrive.break_unopened (names_under key) (Prom n) b (at h))
   unfolding break_unless_opened arrive.break_unopened machine.look machine.◌>>=◌ machine.and_then
   unless_opened n true h good = gives ts key line s (λ u. u) tt h good
   unless_opened n false h good = breaks_is n h good

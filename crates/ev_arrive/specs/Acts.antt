@@ -12,6 +12,8 @@ use Rattle.ev_settle.specs.Changes.{come}
 use Rattle.ev_arrive.specs.declared.host.Host.{Host}
 use Rattle.ev_arrive.specs.declared.host.Incoming.{Incoming}
 use Rattle.ev_arrive.specs.declared.host.Incoming.TheVariants.{Known, New}
+use Rattle.ev_arrive.specs.declared.host.Subject.{Subject}
+use Rattle.ev_arrive.specs.declared.host.Subject.TheVariants as subject
 
 -- what something gives, or why it comes to no end, and the vat after it
 abbrev pub Out : Type 0 → Type 0
@@ -59,6 +61,11 @@ learn_name (Known r) = give r
 learn_name (New v) = do
   n ← within (come v)
   give (reference.Promise n)
+
+-- the same of what settled
+unfoldable pub learn_subject : Subject → Act ℕ
+learn_subject (subject.Known n) = give n
+learn_subject (subject.New v) = within (come v)
 
 -- opens the acts
 unfoldable pub opened_acts : Unit {0}

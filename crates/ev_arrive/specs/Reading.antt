@@ -9,6 +9,8 @@ use Rattle.ev_arrive.specs.Acts.{Out}
 use Rattle.ev_arrive.specs.declared.host.Host.{Host}
 use Rattle.ev_arrive.specs.declared.host.Incoming.{Incoming}
 use Rattle.ev_arrive.specs.declared.host.Incoming.TheVariants.{Known, New}
+use Rattle.ev_arrive.specs.declared.host.Subject.{Subject}
+use Rattle.ev_arrive.specs.declared.host.Subject.TheVariants as subject
 
 abbrev pub gift_by : Gift → GiftEntry Local
 gift_by g = record { name = Prom g.promise; provider = g.provider; number = g.swiss; opened = g.is_opened }
@@ -24,6 +26,10 @@ host_at ts line h s = vat_at ts line h.inside (with_gifts h.gifts s)
 abbrev pub incoming_by : Local → Incoming → machine.Incoming Local Local
 incoming_by n (Known r) = machine.Old (reference_by r)
 incoming_by n (New h) = machine.New n h
+
+abbrev pub subject_by : Local → Subject → machine.Incoming Local Local
+subject_by n (subject.Known m) = machine.Old (Prom m)
+subject_by n (subject.New h) = machine.New n h
 
 -- what something gives in the code's terms stands for what it gives in the machine, and a stop for a stop
 abbrev pub Stands : {A B : Type 0} → List Words → List ℕ → Lines → Vat Local → (A → B) → Out A → Done Local B → Type 0

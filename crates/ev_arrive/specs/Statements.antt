@@ -6,7 +6,10 @@ use Rattle.def_machine.specs.Values.{Words, Local}
 use Rattle.ev_pass.specs.Reading.{Lines, Reads, names_under}
 use Rattle.ev_settle.specs.Performing.{Tells}
 use Rattle.ev_arrive.specs.Arriving.{arrive_open, arrive_ask}
-use Rattle.ev_arrive.specs.Reading.{Stands, host_at, incoming_by}
+use Rattle.ev_arrive.specs.Noticing.{notice}
+use Rattle.ev_arrive.specs.Viewing.{arrive_elsewhere, arrive_shorten}
+use Rattle.ev_arrive.specs.Reading.{Stands, host_at, incoming_by, subject_by}
+use Rattle.ev_arrive.specs.declared.host.Subject.{Subject}
 use Rattle.ev_arrive.specs.declared.host.Host.{Host}
 use Rattle.ev_arrive.specs.declared.host.Incoming.{Incoming}
 
@@ -17,3 +20,15 @@ OpensAsTheMachine = (ts : List Words) (key : List ℕ) (line : Lines) (s : Vat L
 abbrev pub IsAskedAsTheMachine : Type 0
 IsAskedAsTheMachine = (ts : List Words) (key : List ℕ) (line : Lines) (s : Vat Local) (h : Host) (w p i : ℕ) → Tells ts line → Reads ts key h.inside
     → Stands ts key line s (λ u. u) (arrive_ask w p i h) (machine.arrive_ask (names_under key) w p i (host_at ts line h s))
+
+abbrev pub NoticesAsTheMachine : Type 0
+NoticesAsTheMachine = (ts : List Words) (key : List ℕ) (line : Lines) (s : Vat Local) (h : Host) (w : ℕ) → Tells ts line → Reads ts key h.inside
+    → Stands ts key line s (λ u. u) (notice w h) (machine.notice (names_under key) w (host_at ts line h s))
+
+abbrev pub SettlesElsewhereAsTheMachine : Type 0
+SettlesElsewhereAsTheMachine = (ts : List Words) (key : List ℕ) (line : Lines) (s : Vat Local) (h : Host) (n : Local) (x : Subject) (c : ℕ) → Tells ts line → Reads ts key h.inside
+    → Stands ts key line s (λ u. u) (arrive_elsewhere x c h) (machine.arrive_elsewhere (names_under key) (subject_by n x) c (host_at ts line h s))
+
+abbrev pub ShortensAsTheMachine : Type 0
+ShortensAsTheMachine = (ts : List Words) (key : List ℕ) (line : Lines) (s : Vat Local) (h : Host) (n : Local) (x : Incoming) (i : ℕ) → Reads ts key h.inside
+    → Stands ts key line s (λ u. u) (arrive_shorten x i h) (machine.arrive_shorten (names_under key) (incoming_by n x) i (host_at ts line h s))

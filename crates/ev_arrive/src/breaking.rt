@@ -22,7 +22,7 @@ pub(crate) fn standing_now(host: &Host, name: PromId) -> Standing
 
 /// A name is broken `partition`.
 #[tactic(auto, unfolding(crate::specs::Breaking::break_name))]
-fn break_name(host: &mut Host, name: PromId) -> Result<(), Stop>
+pub(crate) fn break_name(host: &mut Host, name: PromId) -> Result<(), Stop>
     ensures { Gives result host.new (break_name name host.old) }
 {
     let broken = Value::Broken(host.inside.refs.partition());

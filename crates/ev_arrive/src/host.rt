@@ -1,14 +1,16 @@
 //! The inside of a vat with the gifts that it hosts, and names in what it hears.
 
 ghost use Rattle.std.specs.Prelude.{◌≡◌};
-ghost use Rattle.ev_arrive.specs.Acts.{Gives, learn_name, value_at, within};
+ghost use Rattle.ev_arrive.specs.Acts.{Gives, learn_name, learn_subject, value_at, within};
+ghost use Rattle.ev_pass.specs.Acts as pass;
+ghost use Rattle.ev_pass.specs.Notes.{noted};
 ghost use Rattle.ev_settle.specs.Changes as changes;
 ghost use Rattle.ev_settle.specs.Resolving as resolving;
 ghost use Rattle.ev_settle.specs.Settling as settling;
 
 use ev_base::{PromId, Value, VatId};
 use ev_intro::GiftTable;
-use ev_pass::{Interior, Reference, Stop};
+use ev_pass::{Interior, Note, Reference, Stop};
 use ev_settle::{changes, resolve, settle};
 
 /// A vat as it hears others: its inside, and the gifts that it hosts, by provider and number.
@@ -22,6 +24,13 @@ pub struct Host {
 #[derive(Clone, Copy, Debug, PartialEq, Eq)]
 pub enum Incoming {
     Known(Reference),
+    New(VatId),
+}
+
+/// What a vat hears that settled: a name that it knows, or one that it comes to know, of that vat.
+#[derive(Clone, Copy, Debug, PartialEq, Eq)]
+pub enum Subject {
+    Known(PromId),
     New(VatId),
 }
 
@@ -42,6 +51,25 @@ pub(crate) fn come(host: &mut Host, vat: VatId) -> Result<PromId, Stop>
     ensures { Gives result host.new (within (changes.come vat) host.old) }
 {
     changes::come(&mut host.inside, vat)
+}
+
+/// A name that settled elsewhere is known, or comes to be known.
+#[tactic(auto, unfolding(crate::specs::Acts::learn_subject, crate::specs::Acts::give))]
+pub(crate) fn learn_subject(host: &mut Host, subject: Subject) -> Result<PromId, Stop>
+    ensures { Gives result host.new (learn_subject subject host.old) }
+{
+    match subject {
+        Subject::Known(name) => Ok(name),
+        Subject::New(vat) => come(host, vat),
+    }
+}
+
+/// A note is put for that vat.
+#[tactic(auto, using(crate::proofs::Within::inside_gives), unfolding(crate::specs::Acts::within))]
+pub(crate) fn send_out(host: &mut Host, to: VatId, note: Note) -> Result<(), Stop>
+    ensures { Gives result host.new (within (pass.send_out to (noted note)) host.old) }
+{
+    host.inside.send_out(to, note)
 }
 
 /// A name settles to a value, and what waits at it goes on.

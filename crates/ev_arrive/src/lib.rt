@@ -1,4 +1,4 @@
-//! What a vat does with what it hears of gifts, and where it notices that a link is cut.
+//! What a vat does with what it hears of gifts and of names that settled elsewhere, and where it notices that a link is cut.
 #![tactic(auto)]
 
 pub mod asking;
@@ -8,5 +8,6 @@ pub mod host;
 pub mod laws;
 pub mod notice;
 pub mod opening;
+pub mod viewing;
 
-pub use host::{Host, Incoming};
+pub use host::{Host, Incoming, Subject};

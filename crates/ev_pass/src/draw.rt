@@ -24,7 +24,7 @@ impl Model for Swiss {
 impl Interior {
     /// Draws the next word. One that was drawn before stops the run.
     #[tactic(auto, using(crate::proofs::Draws::new_word, crate::proofs::Draws::old_word), unfolding(crate::specs::Acts::draw, crate::specs::Acts::draws))]
-    pub(crate) fn draw(&mut self) -> Result<Swiss, Stop>
+    pub fn draw(&mut self) -> Result<Swiss, Stop>
         ensures { Gives result self.new (draw self.old) }
     {
         let swiss = Swiss(self.words.count());

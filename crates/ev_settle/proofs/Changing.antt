@@ -6,7 +6,8 @@ use Rattle.ev_heap.specs.declared.happened.Happened.TheVariants as event
 use Rattle.ev_intro.specs.Word.{word}
 use Rattle.def_machine.specs.Refs as refs
 use Rattle.def_machine.specs.State as machine
-use Rattle.def_machine.specs.State.{Vat, Hold, Wait, WaitOn, Waits, alter}
+use Rattle.def_machine.specs.Arrive as arrive
+use Rattle.def_machine.specs.State.{Vat, Hold, See, Views, Wait, WaitOn, Waits, alter}
 use Rattle.def_machine.specs.Values.{Words, Local, Mess, Prom, IsAnswer, numbering}
 use Rattle.ev_pass.specs.Acts as code
 use Rattle.ev_pass.specs.Delivering.{deliver}
@@ -15,7 +16,7 @@ use Rattle.ev_pass.specs.declared.interior.Interior.{Interior}
 use Rattle.ev_pass.specs.declared.note.Reference.{Reference}
 use Rattle.ev_pass.proofs.Delivers.{delivers}
 use Rattle.ev_pass.proofs.Stands.{both_then, told_is}
-use Rattle.ev_refs.specs.Changes.{with_held, with_waiting, waiting_on}
+use Rattle.ev_refs.specs.Changes.{with_held, with_waiting, waiting_on, seen_as}
 use Rattle.ev_refs.specs.Reading.{text_by, value_by, message_by, known_by, knowns_by}
 use Rattle.ev_refs.specs.References.{References, unsettled_of}
 use Rattle.ev_refs.specs.declared.known.Known.{Known}
@@ -23,7 +24,7 @@ use Rattle.ev_refs.specs.declared.known.Message.{Message}
 use Rattle.ev_refs.proofs.Changing as single
 use Rattle.ev_refs.proofs.Changing.{change_is, unknown_same}
 use Rattle.ev_refs.proofs.Machine.{as_many}
-use Rattle.ev_settle.specs.Changes.{enqueue, hold, held_in, come, begin_wait, waiting_in, note_wait, awaited_in, wait_on}
+use Rattle.ev_settle.specs.Changes.{enqueue, hold, held_in, come, begin_wait, waiting_in, note_wait, awaited_in, wait_on, begin_view, viewing_in, see}
 use Rattle.ev_settle.specs.Performing.{Tells}
 use Rattle.ev_settle.specs.Settling.{pass_asking, pass_by_answer, pass_on}
 
@@ -91,6 +92,15 @@ module _ (ts : List Words) (key : List ℕ) (line : Lines) (s : Vat Local) where
     reads_still i (record i.refs { known = slice_set i.refs.known q (with_waiting p k) }) refl refl good,
   )
 
+  viewed_found : (n g : ℕ) (i : Interior) (o : Option Known) → slice_get i.refs.known n ≡ o → Reads ts key i
+      → StandsFor ts key line s (λ u. u) (Ok tt, with_refs i (viewing_in n g o i.refs)) (alter (names_under key) (See (Prom g)) (Prom n) (at i))
+  unfolding alter viewing_in
+  viewed_found n g i None h good = (ap (known_so i) (unknown_same (word key) ts (See (Prom g)) i.refs.known n h), reads_still i i.refs refl refl good)
+  viewed_found n g i (Some k) h good = (
+    ap (known_so i) (change_is (word key) ts (See (Prom g)) i.refs.known n k (seen_as g k) h (single.see_is ts n g k)),
+    reads_still i (record i.refs { known = slice_set i.refs.known n (seen_as g k) }) refl refl good,
+  )
+
   pub come_is : (h : ℕ) (m : Local) (i : Interior) → Reads ts key i → StandsFor ts key line s Prom (come h i) (machine.come (names_under key) (IsAnswer h m) h (at i))
   unfolding come machine.come machine.begun numbering
   come_is h m i good =
@@ -109,6 +119,13 @@ module _ (ts : List Words) (key : List ℕ) (line : Lines) (s : Vat Local) where
         both_then ts key line s (λ u. u) (λ u. u) (code.tell (event.Wait p q) i) _ _ _ (told_is ts key line s (event.Wait p q) (Waits (Prom p) (Prom q)) i (tells.waits p q) good)
         (λ u j e next. both_then ts key line s (λ u. u) (λ u. u) (begin_wait p q j) _ _ _ (begun_found p q j (slice_get j.refs.known p) refl next)
         (λ v k f done. noted_found p q k (slice_get k.refs.known q) refl done))
+
+    pub see_is : (n g : ℕ) (i : Interior) → Reads ts key i → StandsFor ts key line s (λ u. u) (see n g i) (arrive.see (names_under key) (Prom n) (Prom g) (at i))
+    unfolding see arrive.see begin_view note_wait code.◌>>◌ machine.◌>>◌
+    see_is n g i good =
+        both_then ts key line s (λ u. u) (λ u. u) (code.tell (event.View n g) i) _ _ _ (told_is ts key line s (event.View n g) (Views (Prom n) (Prom g)) i (tells.views n g) good)
+        (λ u j e next. both_then ts key line s (λ u. u) (λ u. u) (begin_view n g j) _ _ _ (viewed_found n g j (slice_get j.refs.known n) refl next)
+        (λ v k f done. noted_found n g k (slice_get k.refs.known g) refl done))
 
     asking_is : (m : Message) (h : ℕ) (x : Reference) (p : ℕ) (i : Interior) → m.answer ≡ Some p → Reads ts key i
         → StandsFor ts key line s (λ u. u) (pass_asking m h x p i) (machine.and_then (machine.come (names_under key) (IsAnswer h (Mess m.id)) h (at i)) (λ a t. machine.and_then (refs.deliver (names_under key) (message_by ts m) h (reference_by x) t) (λ _. refs.wait_on (names_under key) (Prom p) a)))

@@ -3,7 +3,7 @@ use Rattle.std.specs.Prelude.{ℕ, [], ◌∷◌, ◌++◌, Some, None, Ok, leng
 use Rattle.std.specs.declared.option.Option.{Option}
 use Rattle.ev_heap.specs.declared.happened.Happened.TheVariants as event
 use Rattle.ev_pass.specs.Acts.{Act, ◌>>◌, tell}
-use Rattle.ev_refs.specs.Changes.{with_held, with_waiting, waiting_on}
+use Rattle.ev_refs.specs.Changes.{with_held, with_waiting, waiting_on, seen_as}
 use Rattle.ev_refs.specs.References.{References, unsettled_of}
 use Rattle.ev_refs.specs.declared.known.Known.{Known}
 use Rattle.ev_refs.specs.declared.known.Message.{Message}
@@ -43,3 +43,17 @@ wait_on p q = do
   tell (event.Wait p q)
   begin_wait p q
   note_wait p q
+
+unfoldable pub viewing_in : ℕ → ℕ → Option Known → References → References
+viewing_in n g None r = r
+viewing_in n g (Some k) r = record r { known = slice_set r.known n (seen_as g k) }
+
+unfoldable pub begin_view : ℕ → ℕ → Act (Unit {0})
+begin_view n g = λ s. (Ok tt, record s { refs = viewing_in n g (slice_get s.refs.known n) s.refs })
+
+-- the view of n is the gift g, on which it waits
+unfoldable pub see : ℕ → ℕ → Act (Unit {0})
+see n g = do
+  tell (event.View n g)
+  begin_view n g
+  note_wait n g

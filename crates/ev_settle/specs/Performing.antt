@@ -5,7 +5,7 @@ use Rattle.ev_base.specs.declared.values.Value.{Value as Held}
 use Rattle.ev_heap.specs.declared.happened.Happened.TheVariants as event
 use Rattle.def_machine.specs.Refs as refs
 use Rattle.def_machine.specs.State as machine
-use Rattle.def_machine.specs.State.{Vat, Act, Done, Sends, Reacts, Settles, Waits, Lost, Posted, ◌>>◌}
+use Rattle.def_machine.specs.State.{Vat, Act, Done, Sends, Reacts, Settles, Waits, Views, Lost, Posted, ◌>>◌}
 use Rattle.def_machine.specs.Values.{Words, Local, Mess, Prom}
 use Rattle.ev_pass.specs.Acts.{Out}
 use Rattle.ev_pass.specs.Reading.{Lines, Reads, StandsFor, names_under, vat_at}
@@ -20,6 +20,7 @@ use Rattle.ev_settle.specs.declared.tasks.Task.TheVariants.{SendOn, Settle, Enqu
 pub record Tells (ts : List Words) (line : Lines) : Type 0 where
   pub settled : (p : ℕ) (v : Held) → line (event.Settle p v) ≡ Settles (Prom p) (value_by ts v) ∷ []
   pub waits : (p q : ℕ) → line (event.Wait p q) ≡ Waits (Prom p) (Prom q) ∷ []
+  pub views : (p q : ℕ) → line (event.View p q) ≡ Views (Prom p) (Prom q) ∷ []
   pub sends : (act m : ℕ) (x : Held) (verb : Words) (args : List Held) (answer : Option ℕ)
       → line (event.Send act m x verb args answer) ≡ Sends act (record { id = Mess m; target = value_by ts x; verb = verb; args = map (value_by ts) args; answer = option_map Prom answer }) ∷ []
   pub reacts : (act m : ℕ) (x o near : Held) (answer : ℕ)

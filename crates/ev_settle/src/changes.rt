@@ -2,7 +2,7 @@
 
 ghost use Rattle.std.specs.Prelude.{◌≡◌};
 ghost use Rattle.ev_pass.specs.Acts.{Gives};
-ghost use Rattle.ev_settle.specs.Changes.{begin_wait, come, enqueue, hold, note_wait, wait_on};
+ghost use Rattle.ev_settle.specs.Changes.{begin_view, see, begin_wait, come, enqueue, hold, note_wait, wait_on};
 
 use ev_base::{Memory, PromId, VatId};
 use ev_heap::Happened;
@@ -56,9 +56,9 @@ fn begin_wait(inside: &mut Interior, name: PromId, other: PromId) -> Result<(), 
     Ok(())
 }
 
-/// Another name waits on a name, if that is known and did not settle.
+/// Another name waits on a name, if that is known and did not settle. Nothing is told.
 #[tactic(auto, unfolding(crate::specs::Changes::note_wait, crate::specs::Changes::awaited_in))]
-fn note_wait(inside: &mut Interior, name: PromId, other: PromId) -> Result<(), Stop>
+pub fn note_wait(inside: &mut Interior, name: PromId, other: PromId) -> Result<(), Stop>
     ensures { Gives result inside.new (note_wait name other inside.old) }
 {
     if other.0 < inside.refs.count() {
@@ -68,6 +68,27 @@ fn note_wait(inside: &mut Interior, name: PromId, other: PromId) -> Result<(), S
         };
     }
     Ok(())
+}
+
+/// A name has a gift as its view, if it is known and did not settle.
+#[tactic(auto, unfolding(crate::specs::Changes::begin_view, crate::specs::Changes::viewing_in))]
+fn begin_view(inside: &mut Interior, name: PromId, gift: PromId) -> Result<(), Stop>
+    ensures { Gives result inside.new (begin_view name gift inside.old) }
+{
+    if name.0 < inside.refs.count() {
+        inside.refs.see(name, gift);
+    }
+    Ok(())
+}
+
+/// A name has a gift as its view, on which it waits. It is told.
+#[tactic(auto, using(ev_pass::proofs::Ends::ends), unfolding(crate::specs::Changes::see, ev_pass::specs::Acts::opened_acts))]
+pub fn see(inside: &mut Interior, name: PromId, gift: PromId) -> Result<(), Stop>
+    ensures { Gives result inside.new (see name gift inside.old) }
+{
+    inside.tell(Happened::View(name, gift))?;
+    begin_view(inside, name, gift)?;
+    note_wait(inside, name, gift)
 }
 
 /// A name waits on another, which is told.

@@ -2,6 +2,8 @@
 #![tactic(auto)]
 
 #[cfg(test)]
+mod arriving;
+#[cfg(test)]
 mod inside;
 #[cfg(test)]
 mod passing;
