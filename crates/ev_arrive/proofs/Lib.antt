@@ -11,3 +11,4 @@ pub mod Opens
 pub mod Notices
 pub mod Views
 pub mod Viewings
+pub mod Delivers

@@ -4,5 +4,6 @@ pub mod Breaking
 pub mod Arriving
 pub mod Noticing
 pub mod Viewing
+pub mod Delivering
 pub mod Reading
 pub mod Statements

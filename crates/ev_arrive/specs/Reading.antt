@@ -2,13 +2,15 @@
 use Rattle.std.specs.Prelude.{ℕ, List, map}
 use Rattle.def_machine.specs.Arrive as machine
 use Rattle.def_machine.specs.State.{Vat, Done, GiftEntry}
-use Rattle.def_machine.specs.Values.{Words, Local, Prom}
+use Rattle.def_machine.specs.Values.{Words, Local, Mess, Prom}
 use Rattle.ev_intro.specs.Gift.{Gift, Gifts}
 use Rattle.ev_pass.specs.Reading.{Lines, StandsFor, reference_by, vat_at}
 use Rattle.ev_arrive.specs.Acts.{Out}
 use Rattle.ev_arrive.specs.declared.host.Host.{Host}
 use Rattle.ev_arrive.specs.declared.host.Incoming.{Incoming}
 use Rattle.ev_arrive.specs.declared.host.Incoming.TheVariants.{Known, New}
+use Rattle.ev_arrive.specs.declared.host.Carried.{Carried}
+use Rattle.ev_arrive.specs.declared.host.Carried.TheVariants as carried
 use Rattle.ev_arrive.specs.declared.host.Subject.{Subject}
 use Rattle.ev_arrive.specs.declared.host.Subject.TheVariants as subject
 
@@ -30,6 +32,10 @@ incoming_by n (New h) = machine.New n h
 abbrev pub subject_by : Local → Subject → machine.Incoming Local Local
 subject_by n (subject.Known m) = machine.Old (Prom m)
 subject_by n (subject.New h) = machine.New n h
+
+abbrev pub carried_by : Local → Carried → machine.Incoming Local Local
+carried_by n (carried.Back m) = machine.Old (Mess m)
+carried_by n carried.New = machine.New n 0
 
 -- what something gives in the code's terms stands for what it gives in the machine, and a stop for a stop
 abbrev pub Stands : {A B : Type 0} → List Words → List ℕ → Lines → Vat Local → (A → B) → Out A → Done Local B → Type 0

@@ -3,12 +3,11 @@
 ghost use Rattle.std.specs.Prelude.{◌≡◌};
 ghost use Rattle.ev_arrive.specs.Acts.{Gives, within};
 ghost use Rattle.ev_arrive.specs.Arriving.{arrive_ask, break_orphan, break_unless_opened, tell_asker};
-ghost use Rattle.ev_pass.specs.Acts as pass;
 ghost use Rattle.ev_pass.specs.Delivering as delivering;
 
 use crate::breaking::{break_at, standing_now};
 use crate::gifts::{have_gift, is_opened};
-use crate::host::Host;
+use crate::host::{Host, to_tell};
 use ev_base::{PromId, VatId};
 use ev_pass::{Stop, Swiss};
 use ev_refs::Standing;
@@ -19,14 +18,6 @@ fn inform(host: &mut Host, name: PromId, vat: VatId) -> Result<(), Stop>
     ensures { Gives result host.new (within (delivering.inform name vat) host.old) }
 {
     host.inside.inform(name, vat)
-}
-
-/// A vat is to be told of a name.
-#[tactic(auto, using(crate::proofs::Within::inside_gives), unfolding(crate::specs::Acts::within))]
-fn to_tell(host: &mut Host, vat: VatId, name: PromId) -> Result<(), Stop>
-    ensures { Gives result host.new (within (pass.to_tell vat name) host.old) }
-{
-    host.inside.to_tell(vat, name)
 }
 
 /// A name breaks, unless its gift was opened.

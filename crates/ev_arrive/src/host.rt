@@ -8,7 +8,7 @@ ghost use Rattle.ev_settle.specs.Changes as changes;
 ghost use Rattle.ev_settle.specs.Resolving as resolving;
 ghost use Rattle.ev_settle.specs.Settling as settling;
 
-use ev_base::{PromId, Value, VatId};
+use ev_base::{MsgId, PromId, Value, VatId};
 use ev_intro::GiftTable;
 use ev_pass::{Interior, Note, Reference, Stop};
 use ev_settle::{changes, resolve, settle};
@@ -32,6 +32,13 @@ pub enum Incoming {
 pub enum Subject {
     Known(PromId),
     New(VatId),
+}
+
+/// A message that a note carries: one that the vat has had, by its number, or one that comes to be here.
+#[derive(Clone, Copy, Debug, PartialEq, Eq)]
+pub enum Carried {
+    Back(MsgId),
+    New,
 }
 
 /// What is known, as a value.
@@ -62,6 +69,14 @@ pub(crate) fn learn_subject(host: &mut Host, subject: Subject) -> Result<PromId,
         Subject::Known(name) => Ok(name),
         Subject::New(vat) => come(host, vat),
     }
+}
+
+/// A vat is to be told of a name.
+#[tactic(auto, using(crate::proofs::Within::inside_gives), unfolding(crate::specs::Acts::within))]
+pub(crate) fn to_tell(host: &mut Host, vat: VatId, name: PromId) -> Result<(), Stop>
+    ensures { Gives result host.new (within (pass.to_tell vat name) host.old) }
+{
+    host.inside.to_tell(vat, name)
 }
 
 /// A note is put for that vat.

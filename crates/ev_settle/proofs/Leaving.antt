@@ -10,10 +10,11 @@ use Rattle.ev_pass.proofs.Ends.{ends}
 use Rattle.ev_refs.specs.Changes.{settled_as, waiters_at}
 use Rattle.ev_refs.specs.References.{References}
 use Rattle.ev_refs.specs.declared.known.Known.{Known}
+use Rattle.ev_refs.specs.declared.known.Message.{Message}
 use Rattle.ev_refs.specs.declared.known.Waiters.{Waiters}
-use Rattle.ev_settle.specs.Settling.{Leaves, set_known, parts_of, settle_waiters, settle_found, perform, next, run, patience, settle}
+use Rattle.ev_settle.specs.Settling.{Leaves, set_known, parts_of, settle_waiters, settle_found, perform, next, run, patience, settle, forward}
 use Rattle.ev_settle.specs.declared.tasks.Task.{Task}
-use Rattle.ev_settle.specs.declared.tasks.Task.TheVariants.{Settle}
+use Rattle.ev_settle.specs.declared.tasks.Task.TheVariants.{SendOn, Settle}
 
 -- what changes the inside alone leaves the rest to be done
 pub rests : (r : Result (Unit {0}) Stop) (rest : List Task) (s : Interior) (o : Out (Unit {0})) → Gives r s o → Leaves r rest s (and_then o (λ _. give rest))
@@ -73,12 +74,21 @@ patience_is : patience ≡ 18446744073709551615
 unfolding patience
 patience_is = refl
 
-pub begins : (p : ℕ) (v : Value) (ts : List Task) (s : Interior) → ts ≡ Settle p v (length s.refs.known + 2) ∷ [] → run (patience - 0) ts s ≡ settle p v s
+two_more : (n : ℕ) → n + 2 ≡ suc (suc n)
+two_more n = omega arith
+
+pub settles : (p d : ℕ) (v : Value) (ts : List Task) (s u : Interior) (r : Result (Unit {0}) Stop) → d ≡ length s.refs.known + 2 → ts ≡ Settle p v d ∷ [] → Gives r u (run patience ts s) → Gives r u (settle p v s)
 unfolding settle
-begins p v ts s h =
-    let two : length s.refs.known + 2 ≡ suc (suc (length s.refs.known)) = omega arith in
-    let all : patience - 0 ≡ patience = omega arith in
-    ap (λ (k : ℕ). run k ts s) all ∙ ap (λ (us : List Task). run patience us s) (h ∙ ap (λ (d : ℕ). Settle p v d ∷ []) two)
+settles p d v ts s u r e h g =
+    subst (λ (us : List Task). Gives r u (run patience us s)) (h ∙ ap (λ (k : ℕ). Settle p v k ∷ []) (e ∙ two_more (length s.refs.known))) g
+
+pub forwards : (m : Message) (d : ℕ) (ts : List Task) (s u : Interior) (r : Result (Unit {0}) Stop) → d ≡ length s.refs.known + 2 → ts ≡ SendOn m d ∷ [] → Gives r u (run patience ts s) → Gives r u (forward m s)
+unfolding forward
+forwards m d ts s u r e h g =
+    subst (λ (us : List Task). Gives r u (run patience us s)) (h ∙ ap (λ (k : ℕ). SendOn m k ∷ []) (e ∙ two_more (length s.refs.known))) g
+
+pub begins : (ts : List Task) (s : Interior) → run (patience - 0) ts s ≡ run patience ts s
+begins ts s = let all : patience - 0 ≡ patience = omega arith in ap (λ (k : ℕ). run k ts s) all
 
 -- the next is done, and then the others
 step : (i : ℕ) (t : Task) (ts us : List Task) (s u : Interior) → i < patience → perform t ts s ≡ (Ok us, u) → run (patience - i) (t ∷ ts) s ≡ run (patience - (i + 1)) us u

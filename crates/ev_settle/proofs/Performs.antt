@@ -40,7 +40,7 @@ use Rattle.ev_refs.proofs.Reaches.{reaches_is}
 use Rattle.ev_settle.specs.Changes.{enqueue, hold}
 use Rattle.ev_settle.specs.Performing.{Tells, task_act, tasks_act, GoesOn}
 use Rattle.ev_settle.specs.Settling as part
-use Rattle.ev_settle.specs.Settling.{lost_answer, send_placed, set_known, parts_of, settle_waiters, settle_found, broken_if, perform, next, run, patience, settle}
+use Rattle.ev_settle.specs.Settling.{lost_answer, send_placed, set_known, parts_of, settle_waiters, settle_found, broken_if, perform, next, run, patience, settle, forward}
 use Rattle.ev_settle.specs.Tasks.{sends, settles, enqueues, informs as informing}
 use Rattle.ev_settle.specs.declared.tasks.Task.{Task}
 use Rattle.ev_settle.specs.declared.tasks.Task.TheVariants.{SendOn, Settle, Enqueue, Inform}
@@ -313,3 +313,37 @@ module _ (ts : List Words) (key : List ℕ) where
         subst (λ (d : Done Local (Unit {0})). StandsFor ts key line s (λ u. u) (settle p v i) d)
         (one ∙ ap (λ (n : ℕ). settle_at (names_under key) (suc (suc n)) (Prom p) (value_by ts v) (at i)) (sym depth))
         (ran patience (Settle p v (suc (suc (length i.refs.known))) ∷ []) i good)
+
+    one_sent : (m : Message) (d : ℕ) (t : Vat Local) → tasks_act key ts (SendOn m d ∷ []) t ≡ refs.send_on (names_under key) (settle_at (names_under key) d) (message_by ts m) t
+    unfolding tasks_act task_act ◌>>◌
+    one_sent m d t = unit_last (refs.send_on (names_under key) (settle_at (names_under key) d) (message_by ts m) t)
+
+    -- what is lost breaks its answer, and no name came to be known since the message was here
+    answer_by : (a : Option Local) (w : Words) (t : Vat Local) (ks : List (machine.Known Local)) → t.known ≡ ks
+        → machine.for_some a (λ n. settle_at (names_under key) (suc (suc (length ks))) n (Broken w)) (give tt) t ≡ machine.for_some a (λ n. refs.settle (names_under key) n (Broken w)) (give tt) t
+    unfolding machine.for_some refs.settle machine.◌>>=◌ machine.look and_then
+    answer_by (Some n) w t ks h = ap (λ (z : List (machine.Known Local)). settle_at (names_under key) (suc (suc (length z))) n (Broken w) t) (sym h)
+    answer_by None w t ks h = refl
+
+    placed_so : (m : machine.Message Local) (y : Value Local) (p : refs.Place Local) (t : Vat Local)
+        → refs.send_to (names_under key) (settle_at (names_under key) (suc (suc (length t.known)))) m y p t ≡ refs.send_to (names_under key) (refs.settle (names_under key)) m y p t
+    unfolding refs.send_to machine.tell ◌>>◌ and_then
+    placed_so m y refs.Near t = refl
+    placed_so m y (refs.Mine n) t = refl
+    placed_so m y (refs.Away h n o) t = refl
+    placed_so m y (refs.Gone w) t = answer_by m.answer w (record t { happened = t.happened ++ Lost m.id ∷ [] }) t.known refl
+
+    sent_so : (m : machine.Message Local) (t : Vat Local) → refs.send_on (names_under key) (settle_at (names_under key) (suc (suc (length t.known)))) m t ≡ refs.send_on (names_under key) (refs.settle (names_under key)) m t
+    unfolding refs.send_on machine.◌>>=◌ machine.look and_then
+    sent_so m t = placed_so m (refs.follow (names_under key) t m.target) (refs.place (names_under key) t (refs.follow (names_under key) t m.target)) t
+
+    -- a message that is here is sent on
+    pub forwards_is : (m : Message) (i : Interior) → Reads ts key i → StandsFor ts key line s (λ u. u) (forward m i) (refs.send_on (names_under key) (refs.settle (names_under key)) (message_by ts m) (at i))
+    unfolding forward
+    forwards_is m i good =
+        let depth : length (knowns_by ts 0 i.refs.known) ≡ length i.refs.known = as_many (word key) ts ts 0 i.refs.known in
+        subst (λ (d : Done Local (Unit {0})). StandsFor ts key line s (λ u. u) (forward m i) d)
+        (one_sent m (suc (suc (length i.refs.known))) (at i)
+        ∙ ap (λ (n : ℕ). refs.send_on (names_under key) (settle_at (names_under key) (suc (suc n))) (message_by ts m) (at i)) (sym depth)
+        ∙ sent_so (message_by ts m) (at i))
+        (ran patience (SendOn m (suc (suc (length i.refs.known))) ∷ []) i good)

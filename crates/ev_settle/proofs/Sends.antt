@@ -8,7 +8,7 @@ use Rattle.ev_intro.specs.Word.{word}
 use Rattle.def_machine.specs.Refs as refs
 use Rattle.def_machine.specs.State as machine
 use Rattle.def_machine.specs.State.{Vat, Sends, Lost}
-use Rattle.def_machine.specs.Values.{Words, Value, Null, Broken, Ref, Local, Mess, Prom, numbering}
+use Rattle.def_machine.specs.Values.{Words, Value, Null, Broken, Ref, Local, Mess, Prom, IsCarried, numbering}
 use Rattle.ev_pass.specs.Acts as code
 use Rattle.ev_pass.specs.Acts.{Out}
 use Rattle.ev_pass.specs.Delivering.{deliver}
@@ -20,7 +20,7 @@ use Rattle.ev_pass.proofs.Delivers.{delivers}
 use Rattle.ev_pass.proofs.Machine.{followed_at, placed_at}
 use Rattle.ev_pass.proofs.Stands.{both_then, gives, told_is}
 use Rattle.ev_refs.specs.Follow.{followed, place_of}
-use Rattle.ev_refs.specs.Mailing.{with_message, with_lone_message}
+use Rattle.ev_refs.specs.Mailing.{with_mail, with_message, with_lone_message}
 use Rattle.ev_refs.specs.Reading.{text_by, value_by, message_by, known_by, knowns_by, mails_by, place_by}
 use Rattle.ev_refs.specs.References.{References, unsettled_of}
 use Rattle.ev_refs.specs.Waiting.{waits_lead}
@@ -30,7 +30,7 @@ use Rattle.ev_refs.specs.declared.known.Message.{Message}
 use Rattle.ev_refs.specs.declared.mails.Fresh.{Fresh}
 use Rattle.ev_refs.proofs.Chains.{waits_is}
 use Rattle.ev_refs.proofs.Machine.{as_many}
-use Rattle.ev_settle.specs.Changes.{enqueue, hold, wait_on}
+use Rattle.ev_settle.specs.Changes.{enqueue, hold, mail, wait_on}
 use Rattle.ev_settle.specs.Performing.{Tells}
 use Rattle.ev_settle.specs.Resolving.{resolve, resolve_placed, wait_unless_cycle}
 use Rattle.ev_settle.specs.Sending.{new_message, new_lone_message, answer_host, break_answer, send_first, send_new, send, send_lone, send_only}
@@ -135,6 +135,15 @@ module _ (ts : List Words) (key : List ℕ) (line : Lines) (s : Vat Local) (tell
             ∙ ap (λ (c : ℕ). machine.Gives (Mess r.mails) (record (at i) { messages = c; mails = mails_by 0 r.mails ++ Mess r.mails ∷ [] })) count
             ∙ ap (λ (ms : List Local). machine.Gives (Mess r.mails) (record (at i) { messages = r.messages + 1; mails = ms })) (mails_are r.mails),
         reads_still ts key line s i (with_lone_message r) refl refl good,
+      )
+
+  pub mail_is : (m : Local) (i : Interior) → Reads ts key i → StandsFor ts key line s Mess (mail i) (machine.mail (names_under key) (IsCarried m) (at i))
+  unfolding mail machine.mail numbering
+  mail_is m i good =
+      let r = i.refs in (
+        ap (λ (n : ℕ). machine.Gives (Mess n) (record (at i) { mails = mails_by 0 r.mails ++ Mess n ∷ [] })) (so_many 0 r.mails)
+            ∙ ap (λ (ms : List Local). machine.Gives (Mess r.mails) (record (at i) { mails = ms })) (mails_are r.mails),
+        reads_still ts key line s i (with_mail r) refl refl good,
       )
 
   -- ---- it finds its place

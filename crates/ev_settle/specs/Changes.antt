@@ -4,6 +4,7 @@ use Rattle.std.specs.declared.option.Option.{Option}
 use Rattle.ev_heap.specs.declared.happened.Happened.TheVariants as event
 use Rattle.ev_pass.specs.Acts.{Act, ◌>>◌, tell}
 use Rattle.ev_refs.specs.Changes.{with_held, with_waiting, waiting_on, seen_as}
+use Rattle.ev_refs.specs.Mailing.{with_mail}
 use Rattle.ev_refs.specs.References.{References, unsettled_of}
 use Rattle.ev_refs.specs.declared.known.Known.{Known}
 use Rattle.ev_refs.specs.declared.known.Message.{Message}
@@ -57,3 +58,7 @@ see n g = do
   tell (event.View n g)
   begin_view n g
   note_wait n g
+
+-- a message of another vat comes to be here, as the last
+unfoldable pub mail : Act ℕ
+mail = λ s. (Ok s.refs.mails, record s { refs = with_mail s.refs })

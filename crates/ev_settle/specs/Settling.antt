@@ -113,6 +113,10 @@ patience = 18446744073709551615
 unfoldable pub settle : ℕ → Value → Act (Unit {0})
 settle p v = λ s. run patience (Settle p v (suc (suc (length s.refs.known))) ∷ []) s
 
+-- a message that is here is sent on
+unfoldable pub forward : Message → Act (Unit {0})
+forward m = λ s. run patience (SendOn m (suc (suc (length s.refs.known))) ∷ []) s
+
 -- opens the parts of a settling
 unfoldable pub opened_settling : Unit {0}
 unfolding pass_asking pass_by_answer pass_on send_placed send_on set_known settle_waiters settle_found broken_if target_of settle_at perform

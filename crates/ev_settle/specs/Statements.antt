@@ -20,7 +20,10 @@ use Rattle.ev_settle.specs.declared.resolver.Resolution.{Resolution}
 use Rattle.ev_settle.specs.declared.resolver.Resolution.TheVariants.{Resolved, AlreadyResolved, BadArgument}
 use Rattle.ev_settle.specs.Reacting.{when_resolved, tell_resolver, smash_resolver}
 use Rattle.ev_settle.specs.Resolving.{resolve}
+use Rattle.ev_refs.specs.Reading.{message_by}
+use Rattle.ev_refs.specs.declared.known.Message.{Message}
 use Rattle.ev_settle.specs.Sending.{send, send_only}
+use Rattle.ev_settle.specs.Settling.{forward}
 
 abbrev pub ResolvesAsTheMachine : Type 0
 ResolvesAsTheMachine = (ts : List Words) (key : List ℕ) (line : Lines) (s : Vat Local) (i : Interior) (p : ℕ) (x : Held) → Tells ts line → Reads ts key i
@@ -36,6 +39,10 @@ null = Null
 abbrev pub SendsOnlyAsTheMachine : Type 0
 SendsOnlyAsTheMachine = (ts : List Words) (key : List ℕ) (line : Lines) (s : Vat Local) (i : Interior) (act : ℕ) (x : Held) (verb : Words) (args : List Held) → Tells ts line → Reads ts key i
     → StandsFor ts key line s (λ u. null) (send_only act x verb args i) (refs.send_only (names_under key) act (value_by ts x) verb (map (value_by ts) args) (vat_at ts line i s))
+
+abbrev pub ForwardsAsTheMachine : Type 0
+ForwardsAsTheMachine = (ts : List Words) (key : List ℕ) (line : Lines) (s : Vat Local) (i : Interior) (m : Message) → Tells ts line → Reads ts key i
+    → StandsFor ts key line s (λ u. u) (forward m i) (refs.send_on (names_under key) (refs.settle (names_under key)) (message_by ts m) (vat_at ts line i s))
 
 -- what something gives stands for how the machine ends, with a value or a problem
 abbrev pub EndsFor : {A B : Type 0} → List Words → List ℕ → Lines → Vat Local → (A → Vat Local → Done Local B) → Out A → Done Local B → Type 0

@@ -2,9 +2,9 @@
 
 ghost use Rattle.std.specs.Prelude.{◌≡◌};
 ghost use Rattle.ev_pass.specs.Acts.{Gives};
-ghost use Rattle.ev_settle.specs.Changes.{begin_view, see, begin_wait, come, enqueue, hold, note_wait, wait_on};
+ghost use Rattle.ev_settle.specs.Changes.{begin_view, mail, see, begin_wait, come, enqueue, hold, note_wait, wait_on};
 
-use ev_base::{Memory, PromId, VatId};
+use ev_base::{Memory, MsgId, PromId, VatId};
 use ev_heap::Happened;
 use ev_pass::{Interior, Stop};
 use ev_refs::Message;
@@ -41,6 +41,17 @@ pub fn come(inside: &mut Interior, host: VatId) -> Result<PromId, Stop>
 {
     match inside.refs.learn(host) {
         Ok(name) => Ok(name),
+        Err(Memory) => Err(Stop::Memory),
+    }
+}
+
+/// A message of another vat comes to be here, as the last.
+#[tactic(auto, unfolding(crate::specs::Changes::mail))]
+pub fn mail(inside: &mut Interior) -> Result<MsgId, Stop>
+    ensures { Gives result inside.new (mail inside.old) }
+{
+    match inside.refs.mail() {
+        Ok(message) => Ok(message),
         Err(Memory) => Err(Stop::Memory),
     }
 }

@@ -1,7 +1,7 @@
 //! What settling means in the machine, in local numbers.
 
 ghost use Rattle.ev_settle.specs.Performing.{SettlesAsTheMachine};
-ghost use Rattle.ev_settle.specs.Statements.{IsSmashedAsTheMachine, IsToldAsTheMachine, ResolvesAsTheMachine, SendsAsTheMachine, SendsOnlyAsTheMachine, WhensAsTheMachine};
+ghost use Rattle.ev_settle.specs.Statements.{ForwardsAsTheMachine, IsSmashedAsTheMachine, IsToldAsTheMachine, ResolvesAsTheMachine, SendsAsTheMachine, SendsOnlyAsTheMachine, WhensAsTheMachine};
 
 /// A name settles (`settle`) as in the machine: what waits goes on in its order, and other vats are sent messages and told.
 pub fn settles_as_the_machine()
@@ -21,6 +21,11 @@ pub fn sends_as_the_machine()
 /// A message that asks for no answer is sent (`send_only`) as in the machine.
 pub fn sends_only_as_the_machine()
     ensures { SendsOnlyAsTheMachine }
+{}
+
+/// A message that is here is sent on (`forward`) as in the machine.
+pub fn forwards_as_the_machine()
+    ensures { ForwardsAsTheMachine }
 {}
 
 /// An object is asked to react (`when`) as in the machine, and a problem is thrown where it is not near.

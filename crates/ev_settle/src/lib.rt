@@ -14,4 +14,4 @@ pub use reacting::when;
 pub use resolver::{Resolution, smash_resolver, tell_resolver};
 pub use resolving::resolve;
 pub use sending::{send, send_only};
-pub use settling::settle;
+pub use settling::{forward, settle};

@@ -1,10 +1,9 @@
 //! The settling of a name, part by part.
 
 ghost use Rattle.std.specs.Prelude.{◌≡◌, ◌+◌, ◌++◌, ◌<◌, ◌∷◌, [], IfOk, OnOk, length, slice_get};
-ghost use Rattle.ev_settle.specs.declared.tasks.Task.TheVariants.{Settle};
 ghost use Rattle.ev_pass.specs.Acts.{Gives};
 ghost use Rattle.ev_refs.specs.Leading.{lists_in};
-ghost use Rattle.ev_settle.specs.Settling.{Leaves, lost_answer, parts_of, pass_asking, pass_on, perform, send_on, send_placed, settle, settle_at, settle_found, target_of};
+ghost use Rattle.ev_settle.specs.Settling.{Leaves, forward, lost_answer, parts_of, pass_asking, pass_on, patience, perform, run, send_on, send_placed, settle, settle_at, settle_found, target_of};
 
 use crate::changes::{come, enqueue, hold, wait_on};
 use crate::tasks::{Task, Tasks, push_enqueues, push_informs, push_sends, push_settles};
@@ -12,6 +11,7 @@ use ev_base::{Memory, PromId, TextId, Value, VatId};
 use ev_heap::Happened;
 use ev_pass::{Interior, Reference, Stop};
 use ev_refs::{Message, Place, Waiters};
+use std::alloc::Global;
 
 /// The message on another target.
 fn on(message: Message, target: Value) -> Message
@@ -206,25 +206,30 @@ fn perform(inside: &mut Interior, tasks: &mut Tasks, task: Task) -> Result<(), S
     }
 }
 
-/// A settling, which is still to be done.
-fn begun(inside: &Interior, name: PromId, value: &Value) -> Result<Tasks, Memory>
-    ensures { IfOk result (λ ts. ts ≡ Settle name value.now (length inside.now.refs.known + 2) ∷ []) }
+/// How many settlings may still be begun one inside another: two more than names are known.
+fn depth(inside: &Interior) -> Result<u64, Memory>
+    ensures { IfOk result (λ d. d ≡ length inside.now.refs.known + 2) }
 {
-    let Some(depth) = inside.refs.count().checked_add(2) else {
-        return Err(Memory);
-    };
-    let mut tasks = Tasks::new(inside.alloc);
-    tasks.push(Task::Settle(name, *value, depth))?;
+    match inside.refs.count().checked_add(2) {
+        Some(depth) => Ok(depth),
+        None => Err(Memory),
+    }
+}
+
+/// One part, which is still to be done.
+fn begun(alloc: Global, task: Task) -> Result<Tasks, Memory>
+    ensures { IfOk result (λ ts. ts ≡ task ∷ []) }
+{
+    let mut tasks = Tasks::new(alloc);
+    tasks.push(task)?;
     Ok(tasks)
 }
 
-/// A name settles to a value, or is broken `cycle` where that is a list whose members lead back to it: what waits at it, and at what
-/// settles with it, goes on, in the machine's order; messages for other vats go out, and vats that are to be told are told. After a
-/// stop what was done up to there stands.
-pub fn settle(inside: &mut Interior, name: PromId, value: &Value) -> Result<(), Stop>
-    ensures { Gives result inside.new (settle name value.now inside.old) }
+/// All of these parts are done, and what they leave to be done.
+fn finish(inside: &mut Interior, tasks: Tasks) -> Result<(), Stop>
+    ensures { Gives result inside.new (run patience tasks inside.old) }
 {
-    let mut tasks = begun(inside, name, value)?;
+    let mut tasks = tasks;
     for _ in 0..u64::MAX {
         let Some(task) = tasks.pop() else {
             return Ok(());
@@ -235,4 +240,27 @@ pub fn settle(inside: &mut Interior, name: PromId, value: &Value) -> Result<(), 
         }
     }
     Err(Stop::Memory)
+}
+
+/// A name settles to a value, or is broken `cycle` where that is a list whose members lead back to it: what waits at it, and at what
+/// settles with it, goes on, in the machine's order; messages for other vats go out, and vats that are to be told are told. After a
+/// stop what was done up to there stands.
+#[tactic(auto, using(crate::proofs::Leaving::settles))]
+pub fn settle(inside: &mut Interior, name: PromId, value: &Value) -> Result<(), Stop>
+    ensures { Gives result inside.new (settle name value.now inside.old) }
+{
+    let depth = depth(inside)?;
+    let tasks = begun(inside.alloc, Task::Settle(name, *value, depth))?;
+    finish(inside, tasks)
+}
+
+/// A message that is here is sent on, with its answer, if it asks for one: it is queued, waits at a promise of this vat, goes out to
+/// another vat, or is lost. After a stop what was done up to there stands.
+#[tactic(auto, using(crate::proofs::Leaving::forwards))]
+pub fn forward(inside: &mut Interior, message: Message) -> Result<(), Stop>
+    ensures { Gives result inside.new (forward message inside.old) }
+{
+    let depth = depth(inside)?;
+    let tasks = begun(inside.alloc, Task::SendOn(message, depth))?;
+    finish(inside, tasks)
 }

@@ -1,10 +1,11 @@
 use crate::inside::*;
 use ev_arrive::asking::arrive_ask;
+use ev_arrive::delivering::{deliver, learn_gift, learn_message};
 use ev_arrive::notice::notice;
 use ev_arrive::opening::arrive_open;
 use ev_arrive::viewing::{arrive_elsewhere, arrive_shorten};
-use ev_arrive::{Host, Incoming, Subject};
-use ev_base::{Memory, PromId, Value, VatId};
+use ev_arrive::{Carried, Host, Incoming, Subject};
+use ev_base::{Memory, MsgId, PromId, Seq, Value, VatId};
 use ev_intro::GiftTable;
 use ev_pass::{Reference, Stop, Swiss};
 use ev_refs::Standing;
@@ -119,5 +120,44 @@ fn wanted_as_a_gift(rt: HostRuntime) -> Result<(), Fail> {
     assert_eq!(rt; posted(&host.inside)?.as_str(), "2O");
     arrive_shorten(&mut host, Incoming::New(ASKER), Swiss(7))?;
     assert_eq!(rt; posted(&host.inside)?.as_str(), "2O");
+    Ok(())
+}
+
+#[test]
+fn delivered(rt: HostRuntime) -> Result<(), Fail> {
+    let mut host = host(rt.alloc())?;
+    let name = theirs(&mut host)?;
+    let id = learn_message(&mut host, Carried::New)?;
+    assert_eq!(rt; id, MsgId(0));
+    let verb = verb(rt.alloc(), "put")?;
+    // On a promise of the sender it goes back, and its answer here waits on the one there.
+    deliver(
+        &mut host,
+        PROVIDER,
+        id,
+        true,
+        Value::Prom(name),
+        verb,
+        Seq::new(rt.alloc()),
+    )?;
+    assert_eq!(rt; posted(&host.inside)?.as_str(), "1D");
+    assert_eq!(rt;
+        standing(&host.inside, 1),
+        Some(Standing::WaitsOn(PromId(2)))
+    );
+    Ok(())
+}
+
+#[test]
+fn gifts_are_asked_for(rt: HostRuntime) -> Result<(), Fail> {
+    let mut host = host(rt.alloc())?;
+    let name = learn_gift(&mut host, PROVIDER, ASKER, Swiss(2))?;
+    assert_eq!(rt; posted(&host.inside)?.as_str(), "2A");
+    assert_eq!(rt; standing(&host.inside, name.0), Some(Standing::Unsettled));
+    notice(&mut host, ASKER)?;
+    let late = learn_gift(&mut host, PROVIDER, ASKER, Swiss(3))?;
+    let broken = Some(Standing::Settled(Value::Broken(PARTITION)));
+    assert_eq!(rt; standing(&host.inside, late.0), broken);
+    assert_eq!(rt; posted(&host.inside)?.as_str(), "2A");
     Ok(())
 }
