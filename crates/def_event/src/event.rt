@@ -56,7 +56,7 @@ pub struct Reacting {
     pub answer: Name,
 }
 
-/// An event. What is large lies in memory of its own, since a history has many events. Numbers of entries and of activations are counted from 0; an activation is numbered in its vat.
+/// An event. What is large lies in memory of its own, since a history has many events. An entry is numbered by its place in the schedule, from 1. An activation is numbered by its place among those of its vat, from 0.
 #[derive(Drop)]
 pub enum Event {
     /// `open V`: the opening turn of a vat begins.

@@ -203,7 +203,7 @@ pub record Vat (N : Type 0) : Type 0 where
 pub data Stop : Type 0 where
   Fuel : Stop
   Deep : Stop
-  -- this later draw has the word of that earlier one
+  -- the word of that earlier draw came again with this later one
   Repeated : ℕ → ℕ → Stop
   -- What no run of scoped trees meets: a noun that nothing binds, a node that is not there, a leaving that no escape awaits.
   Astray : Stop

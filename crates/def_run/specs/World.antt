@@ -74,7 +74,7 @@ pub record World : Type 0 where
   pub connections : List Connected
   pub history : List Event
 
--- A run, or what is left of it where a step stopped: why, which step, and the world before it.
+-- A run, or what is left of it where a step stopped: why, the number of that step (opening turns first, then entries, from 0), and the world that the step worked on, where a note that was carried is off its link already.
 pub data Run : Type 0 where
   Goes : World → Run
   Stopped : Stop → ℕ → World → Run
