@@ -9,7 +9,7 @@ use Rattle.def_kernel.specs.declared.node.Node.TheVariants.{Lit, Noun, Set, Def,
 use Rattle.def_machine.specs.Values.{Words}
 use Rattle.def_machine.specs.Scopes.{Case, matchers_of, members_of}
 use Rattle.ev_room.specs.declared.exit.Exit.{Exit}
-use Rattle.ev_room.specs.declared.room.Room.{Room}
+use Rattle.ev_pass.specs.declared.interior.Interior.{Interior as Room}
 use Rattle.ev_room.specs.declared.object.Object.{Object}
 use Rattle.ev_room.specs.declared.object.Code.TheVariants.{Runs, Leaves}
 use Rattle.ev_room.specs.declared.scope.Scope.{Scope}

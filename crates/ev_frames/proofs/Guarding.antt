@@ -10,7 +10,7 @@ use Rattle.ev_room.specs.declared.exit.Exit.{Exit}
 use Rattle.ev_room.specs.declared.exit.Exit.TheVariants.{Thrown, Ejected}
 use Rattle.ev_room.specs.declared.exit.Came.{Came}
 use Rattle.ev_room.specs.declared.exit.Came.TheVariants.{Gave, Threw, Left}
-use Rattle.ev_room.specs.declared.room.Room.{Room}
+use Rattle.ev_pass.specs.declared.interior.Interior.{Interior as Room}
 use Rattle.ev_room.specs.declared.scope.Scope.{Scope}
 use Rattle.ev_room.specs.Acts.{Out, Unless, Extends, and_then, ◌>>=◌, ◌>>◌, give, fail, ended_by, new_ejector, kill, leave, tell}
 use Rattle.ev_steps.specs.Steps.{Evaluator, evaluator, guarded, guarded_node, handled, escaping, escaped, trying, tried, lasting, at_last, alone, caught_if, caught_by, caught_as}

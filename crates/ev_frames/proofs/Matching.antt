@@ -11,7 +11,7 @@ use Rattle.ev_prims.specs.declared.problem.Problem.TheVariants.{NoMethod}
 use Rattle.ev_room.specs.declared.exit.Exit.{Exit}
 use Rattle.ev_room.specs.declared.exit.Exit.TheVariants.{Thrown, Ejected}
 use Rattle.ev_room.specs.declared.exit.Came.TheVariants.{Gave, Threw, Left}
-use Rattle.ev_room.specs.declared.room.Room.{Room}
+use Rattle.ev_pass.specs.declared.interior.Interior.{Interior as Room}
 use Rattle.ev_room.specs.declared.scope.Scope.{Scope}
 use Rattle.ev_room.specs.Acts.{Out, Unless, and_then, ◌>>=◌, ◌>>◌, give, fail, fails, problem_id, cut, tell, ended_by, new_ejector, kill, leave}
 use Rattle.ev_steps.specs.Steps.{evaluator, handed_over, match_all, matched, message_pair, try_matchers}
