@@ -20,6 +20,7 @@ use Rattle.ev_pass.specs.Acts.{Out, Act, ◌>>=◌, ◌>>◌, give, tell}
 use Rattle.ev_pass.specs.declared.interior.Interior.{Interior}
 use Rattle.ev_pass.specs.declared.note.Reference.TheVariants as reference
 use Rattle.ev_settle.specs.Changes.{wait_on}
+use Rattle.ev_settle.specs.Closing.{resolve_answer, finish, throw}
 use Rattle.ev_settle.specs.Reacting.{reacting_in, react_known, react_placed, react_on, react_new, some_answer, when_placed, when_resolved, resolved_by, tell_resolver, smash_with, smash_resolver}
 use Rattle.ev_settle.specs.Resolving.{wait_unless_cycle, resolve_placed, resolve}
 use Rattle.ev_settle.specs.Sending.{new_message, new_lone_message, answer_host, break_answer, send_first, send_new, send, send_lone, send_only}
@@ -173,6 +174,21 @@ module _ (kind : Value → Bool) (h : Contents) (ground : HeapOf kind h) where
   smash_of p (held.Far w x) i good a = give_of kind h Anything BadArgument i tt good
   smash_of p (held.Broken t) i good a = give_of kind h Anything BadArgument i tt good
 
+  -- ---- the end of a turn
+
+  answered_of : (o : Option ℕ) (v : Value) (i : Interior) → InsideOf kind h i → IsOf kind v → EndsOf kind h Anything (resolve_answer o v i)
+  unfolding resolve_answer
+  answered_of None v i good a = give_of kind h Anything tt i tt good
+  answered_of (Some p) v i good a = resolve_of p v i good a
+
+  pub finish_of : (act : ℕ) (o : Option ℕ) (v : Value) (i : Interior) → InsideOf kind h i → IsOf kind v → EndsOf kind h Anything (finish act o v i)
+  unfolding finish ◌>>◌
+  finish_of act o v i good a = then_of kind h Anything Anything (tell (event.Done act v) i) _ (tell_of kind h (event.Done act v) i good) (λ u b j next. answered_of o v j next a)
+
+  pub throw_of : (act : ℕ) (o : Option ℕ) (t : ℕ) (i : Interior) → InsideOf kind h i → IsOf kind (held.Text t) → EndsOf kind h Anything (throw act o t i)
+  unfolding throw ◌>>◌
+  throw_of act o t i good a = then_of kind h Anything Anything (tell (event.Threw act (held.Text t)) i) _ (tell_of kind h (event.Threw act (held.Text t)) i good) (λ u b j next. break_of o t j next (ground.broken t a))
+
 pub resolves : (kind : Value → Bool) (h : Contents) (i : Interior) → HeapOf kind h → InsideOf kind h i → (p : ℕ) (v : Value) → IsOf kind v → EndsOf kind h Anything (resolve p v i)
 resolves kind h i ground good p v a = resolve_of kind h ground p v i good a
 
@@ -193,3 +209,9 @@ tells kind h i ground good p x a = open_of kind h ground (is_open i.refs p) (res
 pub smashes : (kind : Value → Bool) (h : Contents) (i : Interior) → HeapOf kind h → InsideOf kind h i → (p : ℕ) (x : Value) → IsOf kind x → EndsOf kind h Anything (smash_resolver p x i)
 unfolding smash_resolver
 smashes kind h i ground good p x a = smash_of kind h ground p (followed i.refs x) i good (followed_of kind h ground i.refs x good.refs a)
+
+pub finishes : (kind : Value → Bool) (h : Contents) (i : Interior) → HeapOf kind h → InsideOf kind h i → (act : ℕ) (o : Option ℕ) (v : Value) → IsOf kind v → EndsOf kind h Anything (finish act o v i)
+finishes kind h i ground good act o v a = finish_of kind h ground act o v i good a
+
+pub throws : (kind : Value → Bool) (h : Contents) (i : Interior) → HeapOf kind h → InsideOf kind h i → (act : ℕ) (o : Option ℕ) (t : ℕ) → IsOf kind (held.Text t) → EndsOf kind h Anything (throw act o t i)
+throws kind h i ground good act o t a = throw_of kind h ground act o t i good a

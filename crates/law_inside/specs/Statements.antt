@@ -1,12 +1,15 @@
 -- What the acts on references leave of the values that these hold.
 use Rattle.std.specs.Prelude.{◌≡◌, ℕ, Bool, List}
+use Rattle.std.specs.declared.option.Option.{Option}
 use Rattle.ev_base.specs.declared.values.Value.{Value}
+use Rattle.ev_base.specs.declared.values.Value.TheVariants.{Text}
 use Rattle.ev_heap.specs.Contents.{Contents}
 use Rattle.def_machine.specs.Values.{Words}
 use Rattle.ev_refs.specs.Follow.{followed}
 use Rattle.ev_refs.specs.declared.known.Message.{Message}
 use Rattle.ev_pass.specs.Passing.{pass}
 use Rattle.ev_pass.specs.declared.interior.Interior.{Interior}
+use Rattle.ev_settle.specs.Closing.{finish, throw}
 use Rattle.ev_settle.specs.Reacting.{when_resolved, tell_resolver, smash_resolver}
 use Rattle.ev_settle.specs.Resolving.{resolve}
 use Rattle.ev_settle.specs.Sending.{send, send_only}
@@ -46,3 +49,9 @@ TellsInside = EachInside (λ kind h i. (p : ℕ) (x : Value) → IsOf kind x →
 
 abbrev pub SmashesInside : Type 0
 SmashesInside = EachInside (λ kind h i. (p : ℕ) (x : Value) → IsOf kind x → EndsOf kind h Anything (smash_resolver p x i))
+
+abbrev pub FinishesInside : Type 0
+FinishesInside = EachInside (λ kind h i. (act : ℕ) (o : Option ℕ) (v : Value) → IsOf kind v → EndsOf kind h Anything (finish act o v i))
+
+abbrev pub ThrowsInside : Type 0
+ThrowsInside = EachInside (λ kind h i. (act : ℕ) (o : Option ℕ) (t : ℕ) → IsOf kind (Text t) → EndsOf kind h Anything (throw act o t i))

@@ -1,7 +1,7 @@
 //! References hold what they were given: each act leaves a vat whose references hold values of one kind as such a vat, and where the
 //! heap has the texts of these, none is missing.
 
-ghost use Rattle.law_inside.specs.Statements.{FollowsInside, ForwardsInside, PassesInside, ResolvesInside, SendsInside, SendsOnlyInside, SettlesInside, SmashesInside, TellsInside, WhensInside};
+ghost use Rattle.law_inside.specs.Statements.{FinishesInside, FollowsInside, ForwardsInside, PassesInside, ResolvesInside, SendsInside, SendsOnlyInside, SettlesInside, SmashesInside, TellsInside, ThrowsInside, WhensInside};
 
 /// What a value is followed to is of the kind.
 #[tactic(auto, using(crate::proofs::Follows::follows))]
@@ -61,4 +61,16 @@ pub fn tells_inside()
 #[tactic(auto, using(crate::proofs::Sends::smashes))]
 pub fn smashes_inside()
     ensures { SmashesInside }
+{}
+
+/// A turn ends with a value (`finish`).
+#[tactic(auto, using(crate::proofs::Sends::finishes))]
+pub fn finishes_inside()
+    ensures { FinishesInside }
+{}
+
+/// A turn ends with a problem (`throw`).
+#[tactic(auto, using(crate::proofs::Sends::throws))]
+pub fn throws_inside()
+    ensures { ThrowsInside }
 {}
