@@ -1,29 +1,27 @@
 //! Messages that wait for their turn, first in first out.
 
-ghost use Rattle.std.specs.Prelude.{◌≡◌, ◌↔◌, ◌++◌, ◌∷◌, [], IfSome, IsNone, IsTrue, OnErr, OnOk, drop, length, slice_get};
+ghost use Rattle.std.specs.Prelude.{◌≡◌, ◌↔◌, ◌++◌, ◌∷◌, [], IsNone, IsTrue, List, OnErr, OnOk, drop, length, slice_get};
 
-use ev_base::{Memory, MsgId};
+use ev_base::Memory;
 use std::alloc::Global;
 use std::collections::VecDeque;
 use std::marker::Model;
 
-/// The turn queue of a vat: the numbers of messages, the next one in front.
+/// The turn queue of a vat: messages, the next one in front. Each is added and taken in a time that does not grow with their number.
 #[derive(Drop)]
-pub struct TurnQueue {
-    messages: VecDeque<MsgId>,
+pub struct TurnQueue<M> {
+    messages: VecDeque<M>,
 }
 
-impl Model for TurnQueue {
-    ghost use Rattle.std.specs.Prelude.{List, ℕ};
-
-    ghost Value = { List ℕ };
+impl<M> Model for TurnQueue<M> {
+    ghost Value = { List M };
 
     ghost view = { λ q. q.messages.items };
 }
 
-impl TurnQueue {
+impl<M> TurnQueue<M> {
     /// The queue in which nothing waits. It takes no memory.
-    pub fn new(alloc: Global) -> TurnQueue
+    pub fn new(alloc: Global) -> TurnQueue<M>
         ensures { result ≡ [] }
     {
         TurnQueue {
@@ -32,7 +30,9 @@ impl TurnQueue {
     }
 
     /// Adds a message at the end, or refuses and leaves the queue as it was.
-    pub fn push(&mut self, message: MsgId) -> Result<(), Memory>
+    pub fn push(&mut self, message: M) -> Result<(), Memory>
+    where
+        M: Drop,
         ensures ok { OnOk result (self.new ≡ self.old ++ message ∷ []) }
         ensures err { OnErr result (self.new ≡ self.old) }
     {
@@ -41,22 +41,12 @@ impl TurnQueue {
     }
 
     /// Takes the message in front, and takes no memory. None exactly where nothing waits.
-    pub fn pop(&mut self) -> Option<MsgId>
+    pub fn pop(&mut self) -> Option<M>
         ensures first { result ≡ slice_get self.old 0 }
         ensures rest { self.new ≡ drop 1 self.old }
         ensures none { IsNone result ↔ (self.old ≡ []) }
     {
         self.messages.pop_front()
-    }
-
-    /// The message at a place, counted from 0 from the front. None exactly where there is none.
-    pub fn at(&self, place: u64) -> Option<MsgId>
-        ensures { result ≡ slice_get self.now place }
-    {
-        let Ok(index) = usize::try_from(place) else {
-            return None;
-        };
-        self.messages.get(index).copied()
     }
 
     /// How many messages wait.

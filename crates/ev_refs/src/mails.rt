@@ -1,6 +1,6 @@
 //! What a vat counts of its own: promises that it makes, and messages that it has had.
 
-ghost use Rattle.std.specs.Prelude.{◌≡◌, ◌++◌, ◌∷◌, [], IfOk, OnErr, OnOk, length};
+ghost use Rattle.std.specs.Prelude.{◌≡◌, ◌++◌, ◌∷◌, [], IfOk, OnErr, OnOk, drop, length, slice_get};
 ghost use Rattle.ev_refs.specs.Mailing.{with_lone_message, with_mail, with_message, with_promise};
 
 use crate::known::Message;
@@ -87,6 +87,14 @@ impl Refs {
         ensures err { OnErr result (self.new ≡ self.old) }
     {
         self.queue.push(message)
+    }
+
+    /// The message in front leaves the queue. None exactly where no message waits for its turn.
+    pub fn dequeue(&mut self) -> Option<Message>
+        ensures first { result ≡ slice_get self.old.queue 0 }
+        ensures rest { self.new ≡ record self.old { queue = drop 1 self.old.queue } }
+    {
+        self.queue.pop()
     }
 
     /// The link with that vat is noticed as cut. A refusal changes nothing.

@@ -5,6 +5,7 @@ ghost use Rattle.ev_refs.specs.References.{References, no_references, unsettled_
 
 use crate::known::{Known, Message, Standing};
 use ev_base::{Memory, PromId, Seq, TextId, VatId};
+use ev_queue::TurnQueue;
 use std::alloc::Global;
 use std::marker::Model;
 
@@ -17,7 +18,7 @@ pub struct Refs {
     pub(crate) partition: TextId,
     pub(crate) cycle: TextId,
     pub(crate) known: Vec<Known>,
-    pub(crate) queue: Seq<Message>,
+    pub(crate) queue: TurnQueue<Message>,
     pub(crate) mails: u64,
     pub(crate) messages: u64,
     pub(crate) promises: u64,
@@ -43,7 +44,7 @@ impl Refs {
             partition,
             cycle,
             known: Vec::new(alloc),
-            queue: Seq::new(alloc),
+            queue: TurnQueue::new(alloc),
             mails: 0,
             messages: 0,
             promises: 0,

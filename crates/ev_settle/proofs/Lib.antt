@@ -4,3 +4,4 @@ pub mod Performs
 pub mod Ways
 pub mod Sends
 pub mod Reacts
+pub mod Closes

@@ -148,7 +148,7 @@ module _ (ts : List Words) (key : List ℕ) (line : Lines) (s : Vat Local) (tell
 
   -- ---- it finds its place
 
-  break_is : (o : Option ℕ) (t : ℕ) (i : Interior) → Reads ts key i
+  pub break_is : (o : Option ℕ) (t : ℕ) (i : Interior) → Reads ts key i
       → StandsFor ts key line s (λ u. u) (break_answer o t i) (machine.for_some (option_map Prom o) (λ a. refs.settle (names_under key) a (Broken (text_by ts t))) (machine.give tt) (at i))
   unfolding break_answer machine.for_some
   break_is None t i good = gives ts key line s (λ u. u) tt i good

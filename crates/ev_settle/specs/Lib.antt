@@ -5,4 +5,5 @@ pub mod Performing
 pub mod Resolving
 pub mod Sending
 pub mod Reacting
+pub mod Closing
 pub mod Statements

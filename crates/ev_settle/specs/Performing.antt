@@ -2,16 +2,17 @@
 use Rattle.std.specs.Prelude.{◌≡◌, ℕ, List, [], ◌∷◌, Ok, Err, Some, codes, map, option_map}
 use Rattle.std.specs.declared.option.Option.{Option}
 use Rattle.ev_base.specs.declared.values.Value.{Value as Held}
+use Rattle.ev_base.specs.declared.values.Value.TheVariants as held
 use Rattle.ev_heap.specs.declared.happened.Happened.TheVariants as event
 use Rattle.def_machine.specs.Refs as refs
 use Rattle.def_machine.specs.State as machine
-use Rattle.def_machine.specs.State.{Vat, Act, Done, Sends, Reacts, Settles, Waits, Views, Lost, Posted, ◌>>◌}
+use Rattle.def_machine.specs.State.{Vat, Act, Done, Sends, Reacts, Settles, Waits, Views, Lost, Posted, Finished, Threw, ◌>>◌}
 use Rattle.def_machine.specs.Values.{Words, Local, Mess, Prom}
 use Rattle.ev_pass.specs.Acts.{Out}
 use Rattle.ev_pass.specs.Reading.{Lines, Reads, StandsFor, names_under, vat_at}
 use Rattle.ev_pass.specs.declared.interior.Interior.{Interior}
 use Rattle.ev_pass.specs.declared.interior.Stop.TheVariants.{Fuel, Repeated, Astray, Missing, Memory}
-use Rattle.ev_refs.specs.Reading.{value_by, message_by}
+use Rattle.ev_refs.specs.Reading.{text_by, value_by, message_by}
 use Rattle.ev_settle.specs.Settling.{settle}
 use Rattle.ev_settle.specs.declared.tasks.Task.{Task}
 use Rattle.ev_settle.specs.declared.tasks.Task.TheVariants.{SendOn, Settle, Enqueue, Inform}
@@ -27,6 +28,8 @@ pub record Tells (ts : List Words) (line : Lines) : Type 0 where
       → line (event.When act m x o near answer) ≡ Reacts act (value_by ts x) (value_by ts o) (record { id = Mess m; target = value_by ts near; verb = codes "run"; args = value_by ts x ∷ []; answer = Some (Prom answer) }) ∷ []
   pub lost : (m : ℕ) → line (event.LostBroken m) ≡ Lost (Mess m) ∷ []
   pub posted : (h m : ℕ) → line (event.Posted h m) ≡ Posted h (Mess m) ∷ []
+  pub finished : (act : ℕ) (v : Held) → line (event.Done act v) ≡ Finished act (value_by ts v) ∷ []
+  pub threw : (act t : ℕ) → line (event.Threw act (held.Text t)) ≡ Threw act (text_by ts t) ∷ []
 
 unfoldable pub task_act : List ℕ → List Words → Task → Act Local (Unit {0})
 task_act key ts (SendOn m d) = refs.send_on (names_under key) (refs.settle_at (names_under key) d) (message_by ts m)

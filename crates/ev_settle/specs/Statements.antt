@@ -1,9 +1,10 @@
 -- What is said of resolving and sending in the machine's terms.
-use Rattle.std.specs.Prelude.{◌≡◌, ℕ, List, Some, None, Ok, Err, codes, map}
+use Rattle.std.specs.Prelude.{◌≡◌, ℕ, List, Some, None, Ok, Err, codes, map, option_map}
 use Rattle.std.specs.declared.option.Option.{Option}
 use Rattle.ev_base.specs.declared.values.Value.{Value as Held}
 use Rattle.def_kernel.specs.declared.node.Node.{Node}
 use Rattle.def_machine.specs.Calls.{resolver_answer}
+use Rattle.def_machine.specs.Eval.{closes}
 use Rattle.def_machine.specs.Perform as perform
 use Rattle.def_machine.specs.Refs as refs
 use Rattle.def_machine.specs.Scopes.{Resolves, Smashes}
@@ -12,9 +13,10 @@ use Rattle.def_machine.specs.State.{Vat, Done}
 use Rattle.def_machine.specs.Values.{Words, Value, Null, Ref, Local, Prom}
 use Rattle.ev_pass.specs.Reading.{Lines, Reads, StandsFor, names_under, vat_at}
 use Rattle.ev_pass.specs.declared.interior.Interior.{Interior}
-use Rattle.ev_refs.specs.Reading.{value_by}
+use Rattle.ev_refs.specs.Reading.{text_by, value_by}
 use Rattle.ev_pass.specs.Acts.{Out}
 use Rattle.ev_pass.specs.declared.interior.Stop.TheVariants.{Fuel, Repeated, Astray, Missing, Memory}
+use Rattle.ev_settle.specs.Closing.{finish, throw}
 use Rattle.ev_settle.specs.Performing.{Tells}
 use Rattle.ev_settle.specs.declared.resolver.Resolution.{Resolution}
 use Rattle.ev_settle.specs.declared.resolver.Resolution.TheVariants.{Resolved, AlreadyResolved, BadArgument}
@@ -75,3 +77,12 @@ IsToldAsTheMachine = (ts : List Words) (key : List ℕ) (line : Lines) (s : Vat 
 abbrev pub IsSmashedAsTheMachine : Type 0
 IsSmashedAsTheMachine = (ts : List Words) (key : List ℕ) (line : Lines) (s : Vat Local) (i : Interior) (tree : List Node) (p : ℕ) (x : Held) → Tells ts line → Reads ts key i
     → EndsFor ts key line s resolution_by (smash_resolver p x i) (resolver_answer (names_under key) tree (Prom p) (Smashes (value_by ts x)) (vat_at ts line i s))
+
+-- a turn that gave a value, or threw a problem, is closed
+abbrev pub FinishesAsTheMachine : Type 0
+FinishesAsTheMachine = (ts : List Words) (key : List ℕ) (line : Lines) (s : Vat Local) (i : Interior) (tree : List Node) (act : ℕ) (o : Option ℕ) (v : Held) → Tells ts line → Reads ts key i
+    → StandsFor ts key line s (λ u. u) (finish act o v i) (closes (names_under key) tree act (option_map Prom o) (machine.give (value_by ts v)) (vat_at ts line i s))
+
+abbrev pub ThrowsAsTheMachine : Type 0
+ThrowsAsTheMachine = (ts : List Words) (key : List ℕ) (line : Lines) (s : Vat Local) (i : Interior) (tree : List Node) (act : ℕ) (o : Option ℕ) (t : ℕ) → Tells ts line → Reads ts key i
+    → StandsFor ts key line s (λ u. u) (throw act o t i) (closes (names_under key) tree act (option_map Prom o) (machine.throw (text_by ts t)) (vat_at ts line i s))

@@ -1,7 +1,7 @@
 //! What settling means in the machine, in local numbers.
 
 ghost use Rattle.ev_settle.specs.Performing.{SettlesAsTheMachine};
-ghost use Rattle.ev_settle.specs.Statements.{ForwardsAsTheMachine, IsSmashedAsTheMachine, IsToldAsTheMachine, ResolvesAsTheMachine, SendsAsTheMachine, SendsOnlyAsTheMachine, WhensAsTheMachine};
+ghost use Rattle.ev_settle.specs.Statements.{FinishesAsTheMachine, ForwardsAsTheMachine, IsSmashedAsTheMachine, IsToldAsTheMachine, ResolvesAsTheMachine, SendsAsTheMachine, SendsOnlyAsTheMachine, ThrowsAsTheMachine, WhensAsTheMachine};
 
 /// A name settles (`settle`) as in the machine: what waits goes on in its order, and other vats are sent messages and told.
 pub fn settles_as_the_machine()
@@ -41,4 +41,14 @@ pub fn resolvers_are_told_as_the_machine()
 /// A resolver is told a problem (`smash_resolver`) as in the machine.
 pub fn resolvers_are_smashed_as_the_machine()
     ensures { IsSmashedAsTheMachine }
+{}
+
+/// A turn ends with a value (`finish`) as in the machine: its answer resolves to it.
+pub fn finishes_as_the_machine()
+    ensures { FinishesAsTheMachine }
+{}
+
+/// A turn ends with a problem (`throw`) as in the machine: its answer is broken with it.
+pub fn throws_as_the_machine()
+    ensures { ThrowsAsTheMachine }
 {}

@@ -2,6 +2,7 @@
 #![tactic(auto)]
 
 pub mod changes;
+pub mod closing;
 pub mod laws;
 pub mod reacting;
 pub mod resolver;
@@ -10,6 +11,7 @@ pub mod sending;
 pub mod settling;
 pub mod tasks;
 
+pub use closing::{finish, throw};
 pub use reacting::when;
 pub use resolver::{Resolution, smash_resolver, tell_resolver};
 pub use resolving::resolve;

@@ -48,7 +48,11 @@ fn answer_host(me: VatId, place: &Place) -> VatId
 
 /// The answer of a message that is lost is broken.
 #[tactic(auto, unfolding(crate::specs::Sending::break_answer, ev_pass::specs::Acts::give))]
-fn break_answer(inside: &mut Interior, answer: Option<PromId>, problem: TextId) -> Result<(), Stop>
+pub(crate) fn break_answer(
+    inside: &mut Interior,
+    answer: Option<PromId>,
+    problem: TextId,
+) -> Result<(), Stop>
     ensures { Gives result inside.new (break_answer answer problem inside.old) }
 {
     match answer {

@@ -8,7 +8,6 @@ fn first_in_first_out(rt: HostRuntime) -> Result<(), Fail> {
     queue.push(MsgId(5))?;
     queue.push(MsgId(6))?;
     assert_eq!(rt; queue.len(), 2);
-    assert_eq!(rt; queue.at(1), Some(MsgId(6)));
     assert_eq!(rt; queue.pop(), Some(MsgId(5)));
     assert_eq!(rt; queue.pop(), Some(MsgId(6)));
     assert_eq!(rt; queue.pop(), None);

@@ -1,0 +1,188 @@
+//! The lines of what evaluation does.
+
+ghost use Rattle.std.specs.Prelude.{◌≡◌, ◌++◌, IfOk, OnOk, map};
+ghost use Rattle.def_event.specs.declared.event.Event.TheVariants.{Call, Made};
+ghost use Rattle.def_event.specs.declared.shown.Shown as shown_as;
+ghost use Rattle.ev_base.specs.declared.names.Name.TheVariants as name_as;
+ghost use Rattle.ev_lines.specs.Lines.{all_held, audition_lines, ejector_lines, lines, made_lines, shown_capture, shown_held};
+
+use crate::referred::push_referred;
+use crate::shown::{caught_all, problem, shown, shown_all};
+use crate::teller::Teller;
+use def_event::{Boxed, Called, Event, MadeObject, Shown};
+use ev_base::{ActId, Memory, Name, ObjId, Str, Value};
+use ev_event::History;
+use ev_heap::{Capture, Happened};
+
+/// The number of an activation.
+fn number(activation: Option<ActId>) -> Option<u64>
+    ensures { result ≡ activation }
+{
+    match activation {
+        None => None,
+        Some(id) => Some(id.0),
+    }
+}
+
+/// The line of a call.
+pub(crate) fn call_line(
+    teller: &Teller<'_>,
+    activation: ActId,
+    target: Value,
+    verb: &str,
+    args: &[Value],
+    begun: Option<ActId>,
+) -> Result<Event, Memory>
+    ensures { IfOk result (λ line. line ≡ Call (record { activation = activation; target = shown_held teller.now target; verb = verb.now; args = all_held teller.now args.now; begun = begun })) }
+{
+    let called = Called {
+        activation: activation.0,
+        target: shown(teller, target)?,
+        verb: Str::copy_of(teller.alloc, verb)?,
+        args: shown_all(teller, args)?,
+        begun: number(begun),
+    };
+    Ok(Event::Call(Boxed::new(teller.alloc, called)?))
+}
+
+/// The line of an object that was made.
+fn object_line(
+    teller: &Teller<'_>,
+    activation: ActId,
+    object: ObjId,
+    name: &str,
+    caps: &[Capture],
+    stamps: &[Value],
+) -> Result<Event, Memory>
+    ensures { IfOk result (λ line. line ≡ Made (record { activation = activation; object = shown_as.Name (name_as.Object teller.now.naming.vat object); name = name.now; caps = map (shown_capture teller.now) caps.now; stamps = all_held teller.now stamps.now })) }
+{
+    let made = MadeObject {
+        activation: activation.0,
+        object: Shown::Name(Name::Object(teller.vat(), object.0)),
+        name: Str::copy_of(teller.alloc, name)?,
+        caps: caught_all(teller, caps)?,
+        stamps: shown_all(teller, stamps)?,
+    };
+    Ok(Event::Made(Boxed::new(teller.alloc, made)?))
+}
+
+/// Adds the line of an object, which is no other value.
+fn push_made(
+    teller: &Teller<'_>,
+    activation: ActId,
+    object: Value,
+    name: &str,
+    caps: &[Capture],
+    stamps: &[Value],
+    history: &mut History,
+) -> Result<(), Memory>
+    ensures { OnOk result (history.new ≡ history.old ++ made_lines teller.now activation object name.now caps.now stamps.now) }
+{
+    match object {
+        Value::Obj(id) => history.push(object_line(teller, activation, id, name, caps, stamps)?),
+        _ => Ok(()),
+    }
+}
+
+/// Adds the line of an ejector, which is no other value.
+pub(crate) fn push_ejector(
+    teller: &Teller<'_>,
+    activation: ActId,
+    ejector: Value,
+    history: &mut History,
+) -> Result<(), Memory>
+    ensures { OnOk result (history.new ≡ history.old ++ ejector_lines teller.now activation ejector) }
+{
+    match ejector {
+        Value::Obj(id) => history.push(Event::Ejector(
+            activation.0,
+            Shown::Name(Name::Object(teller.vat(), id.0)),
+        )),
+        _ => Ok(()),
+    }
+}
+
+/// Adds the line of an audition, which is no other value.
+fn push_audition(
+    teller: &Teller<'_>,
+    activation: ActId,
+    audition: Value,
+    history: &mut History,
+) -> Result<(), Memory>
+    ensures { OnOk result (history.new ≡ history.old ++ audition_lines teller.now activation audition) }
+{
+    match audition {
+        Value::Obj(id) => history.push(Event::Audition(
+            activation.0,
+            Shown::Name(Name::Object(teller.vat(), id.0)),
+        )),
+        _ => Ok(()),
+    }
+}
+
+/// Adds the line of what happened, where it has one.
+pub(crate) fn push_line(
+    teller: &Teller<'_>,
+    event: &Happened,
+    history: &mut History,
+) -> Result<(), Memory>
+    ensures { OnOk result (history.new ≡ history.old ++ lines teller.now event.now) }
+{
+    match event {
+        Happened::Call {
+            activation,
+            target,
+            verb,
+            args,
+            begun,
+        } => history.push(call_line(
+            teller,
+            *activation,
+            *target,
+            verb.as_str(),
+            args.as_slice(),
+            *begun,
+        )?),
+        Happened::Back(act, value) => history.push(Event::Back(act.0, shown(teller, *value)?)),
+        Happened::Thrown(act, value) => {
+            let problem = Shown::Text(problem(teller, *value)?);
+            history.push(Event::Thrown(act.0, problem))
+        }
+        Happened::Gone(act) => history.push(Event::Gone(act.0)),
+        Happened::Got(act, value) => history.push(Event::Got(act.0, shown(teller, *value)?)),
+        Happened::Ejector(act, ejector) => push_ejector(teller, *act, *ejector, history),
+        Happened::Audition(act, audition) => push_audition(teller, *act, *audition, history),
+        Happened::Slot(act, id, value) => {
+            let slot = (teller.vat(), id.0);
+            history.push(Event::Slot(act.0, slot, shown(teller, *value)?))
+        }
+        Happened::Read(act, id, value) => {
+            let slot = (teller.vat(), id.0);
+            history.push(Event::Read(act.0, slot, shown(teller, *value)?))
+        }
+        Happened::Wrote(act, id, value) => {
+            let slot = (teller.vat(), id.0);
+            history.push(Event::Wrote(act.0, slot, shown(teller, *value)?))
+        }
+        Happened::List(act, id, values) => {
+            let list = (teller.vat(), id.0);
+            history.push(Event::List(act.0, list, shown_all(teller, values.as_slice())?))
+        }
+        Happened::Made {
+            activation,
+            object,
+            name,
+            caps,
+            stamps,
+        } => push_made(
+            teller,
+            *activation,
+            *object,
+            name.as_str(),
+            caps.as_slice(),
+            stamps.as_slice(),
+            history,
+        ),
+        other => push_referred(teller, other, history),
+    }
+}

@@ -1,0 +1,13 @@
+//! The lines of a step of a vat.
+#![tactic(auto)]
+
+pub mod evaluated;
+pub mod lines;
+pub mod referred;
+pub mod shown;
+pub mod table;
+pub mod teller;
+
+pub use lines::push_lines;
+pub use table::Table;
+pub use teller::Teller;

@@ -1,0 +1,177 @@
+//! The lines of what references do.
+
+ghost use Rattle.std.specs.Prelude.{◌≡◌, ◌++◌, IfOk, OnOk};
+ghost use Rattle.def_event.specs.declared.event.Event.TheVariants.{When};
+ghost use Rattle.ev_base.specs.declared.names.Msg.{Msg};
+ghost use Rattle.ev_lines.specs.Lines.{all_held, mail_at, name_at, promise_lines, referred, sent_line, shown_held};
+
+use crate::shown::{problem, shown, shown_all};
+use crate::teller::Teller;
+use def_event::{Addressed, Boxed, Event, Reacting, Sent, Shown};
+use ev_base::{ActId, Memory, MsgId, Name, PromId, Str, Value};
+use ev_event::History;
+use ev_heap::Happened;
+
+/// A message with its target, verb and arguments, in an activation.
+fn addressed(
+    teller: &Teller<'_>,
+    activation: ActId,
+    message: MsgId,
+    target: Value,
+    verb: &str,
+    args: &[Value],
+) -> Result<Boxed<Addressed>, Memory>
+    ensures { IfOk result (λ a. a ≡ record { activation = activation; message = mail_at teller.now.naming message; target = shown_held teller.now target; verb = verb.now; args = all_held teller.now args.now }) }
+{
+    Boxed::new(
+        teller.alloc,
+        Addressed {
+            activation: activation.0,
+            message: teller.table.message(message),
+            target: shown(teller, target)?,
+            verb: Str::copy_of(teller.alloc, verb)?,
+            args: shown_all(teller, args)?,
+        },
+    )
+}
+
+/// The line of a send, by the answer that it asks for.
+fn sent(
+    teller: &Teller<'_>,
+    activation: ActId,
+    message: MsgId,
+    target: Value,
+    verb: &str,
+    args: &[Value],
+    answer: Option<PromId>,
+) -> Result<Event, Memory>
+    ensures { IfOk result (λ line. line ≡ sent_line teller.now activation message target verb.now args.now answer) }
+{
+    let Some(answer) = answer else {
+        return Ok(Event::SendOnly(addressed(teller, activation, message, target, verb, args)?));
+    };
+    let sent = Sent {
+        activation: activation.0,
+        message: teller.table.message(message),
+        target: shown(teller, target)?,
+        verb: Str::copy_of(teller.alloc, verb)?,
+        args: shown_all(teller, args)?,
+        answer: teller.table.name(answer),
+    };
+    Ok(Event::Send(Boxed::new(teller.alloc, sent)?))
+}
+
+/// The line of a reaction that was asked for.
+fn reacting(
+    teller: &Teller<'_>,
+    activation: ActId,
+    message: MsgId,
+    value: Value,
+    reaction: Value,
+    answer: PromId,
+) -> Result<Event, Memory>
+    ensures { IfOk result (λ line. line ≡ When (record { activation = activation; message = mail_at teller.now.naming message; value = shown_held teller.now value; reaction = shown_held teller.now reaction; answer = name_at teller.now.naming answer })) }
+{
+    let reacting = Reacting {
+        activation: activation.0,
+        message: teller.table.message(message),
+        value: shown(teller, value)?,
+        reaction: shown(teller, reaction)?,
+        answer: teller.table.name(answer),
+    };
+    Ok(Event::When(Boxed::new(teller.alloc, reacting)?))
+}
+
+/// Adds the line of a promise, whose resolver is an object.
+fn push_promise(
+    teller: &Teller<'_>,
+    activation: ActId,
+    promise: PromId,
+    resolver: Value,
+    history: &mut History,
+) -> Result<(), Memory>
+    ensures { OnOk result (history.new ≡ history.old ++ promise_lines teller.now activation promise resolver) }
+{
+    match resolver {
+        Value::Obj(id) => history.push(Event::Promise(
+            activation.0,
+            teller.table.name(promise),
+            Shown::Name(Name::Object(teller.vat(), id.0)),
+        )),
+        _ => Ok(()),
+    }
+}
+
+/// Adds the line of what references do, and none of anything else.
+pub(crate) fn push_referred(
+    teller: &Teller<'_>,
+    event: &Happened,
+    history: &mut History,
+) -> Result<(), Memory>
+    ensures { OnOk result (history.new ≡ history.old ++ referred teller.now event.now) }
+{
+    let table = teller.table;
+    match event {
+        Happened::Take {
+            activation,
+            message,
+            target,
+            verb,
+            args,
+        } => history.push(Event::Take(addressed(
+            teller,
+            *activation,
+            *message,
+            *target,
+            verb.as_str(),
+            args.as_slice(),
+        )?)),
+        Happened::Arrived(id, values) => {
+            let list = (teller.vat(), id.0);
+            history.push(Event::Arrived(list, shown_all(teller, values.as_slice())?))
+        }
+        Happened::Promise(act, promise, resolver) => {
+            push_promise(teller, *act, *promise, *resolver, history)
+        }
+        Happened::Send {
+            activation,
+            message,
+            target,
+            verb,
+            args,
+            answer,
+        } => history.push(sent(
+            teller,
+            *activation,
+            *message,
+            *target,
+            verb.as_str(),
+            args.as_slice(),
+            *answer,
+        )?),
+        Happened::When {
+            activation,
+            message,
+            value,
+            reaction,
+            near: _,
+            answer,
+        } => history.push(reacting(teller, *activation, *message, *value, *reaction, *answer)?),
+        Happened::Done(act, value) => history.push(Event::Done(act.0, shown(teller, *value)?)),
+        Happened::Threw(act, value) => {
+            let problem = Shown::Text(problem(teller, *value)?);
+            history.push(Event::Threw(act.0, problem))
+        }
+        Happened::Settle(name, value) => {
+            history.push(Event::Settle(table.name(*name), shown(teller, *value)?))
+        }
+        Happened::Wait(name, other) => {
+            history.push(Event::Wait(table.name(*name), table.name(*other)))
+        }
+        Happened::View(name, other) => {
+            history.push(Event::View(table.name(*name), table.name(*other)))
+        }
+        Happened::LostBroken(message) => history.push(Event::LostBroken(table.message(*message))),
+        _ => Ok(()),
+    }
+}

@@ -1,0 +1,5 @@
+use Rattle.ev_settle.proofs.Closes.{finishes_is}
+use Rattle.ev_settle.proofs.laws.finishes_as_the_machine.Goals as goal
+
+pub returns : goal.returns
+returns c = λ ts key line s i tree act o v tells good. finishes_is ts key line s tells tree act o v i good

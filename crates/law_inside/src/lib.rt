@@ -1,0 +1,4 @@
+//! What the references of a vat hold.
+#![tactic(auto)]
+
+pub mod values;
