@@ -14,6 +14,8 @@ pub enum Happened {
         target: Value,
         verb: Word,
         args: Seq<Value>,
+        /// The name of its answer, where it has one. Its line does not tell it.
+        answer: Option<PromId>,
     },
     /// A call on data, an ejector, a resolver, an audition or an object. `begun` is the activation that a call on an object begins.
     Call {

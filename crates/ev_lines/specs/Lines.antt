@@ -90,7 +90,7 @@ sent_line t act m x verb args None =
 
 -- the line of what references do; what is put for another vat, and what comes to be known, has none
 abbrev pub referred : Telling → Happened → List Event
-referred t (event.Take act m x verb args) =
+referred t (event.Take act m x verb args answer) =
     line.Take (record { activation = act; message = mail_at t.naming m; target = shown_held t x; verb = verb; args = all_held t args }) ∷ []
 referred t (event.Arrived k vs) = line.Arrived (t.naming.vat, k) (all_held t vs) ∷ []
 referred t (event.Promise act p v) = promise_lines t act p v

@@ -118,6 +118,7 @@ pub(crate) fn push_referred(
             target,
             verb,
             args,
+            answer: _,
         } => history.push(Event::Take(addressed(
             teller,
             *activation,

@@ -9,7 +9,7 @@ use ev_base::{Memory, Name, Seq, Str, TextId, Value};
 use ev_heap::Capture;
 
 /// A copy of a text of the heap, and the empty text where the heap has none of that number.
-pub(crate) fn copied(teller: &Teller<'_>, id: TextId) -> Result<Str, Memory>
+pub fn copied(teller: &Teller<'_>, id: TextId) -> Result<Str, Memory>
     ensures { IfOk result (λ text. text ≡ text_at teller.now id) }
 {
     match teller.heap.find_text(id) {

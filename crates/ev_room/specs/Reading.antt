@@ -1,10 +1,11 @@
 -- What the inside of a vat stands for: a vat of the machine, in local numbers.
-use Rattle.std.specs.Prelude.{ℕ, Bool, List, [], ◌∷◌, ◌++◌, map, length}
+use Rattle.std.specs.Prelude.{ℕ, Bool, List, [], ◌∷◌, ◌++◌, Some, codes, map, length, option_map}
+use Rattle.std.specs.declared.option.Option.{Option}
 use Rattle.ev_base.specs.declared.values.Value.{Value as Held}
 use Rattle.ev_base.specs.declared.values.Value.TheVariants as held
 use Rattle.ev_heap.specs.declared.happened.Happened.{Happened as Event}
 use Rattle.ev_heap.specs.declared.happened.Happened.TheVariants as event
-use Rattle.def_machine.specs.Values.{Words, Value, Prim, Naming, Local, Obj, Prom, numbering}
+use Rattle.def_machine.specs.Values.{Words, Value, Prim, Naming, Local, Obj, Prom, Mess, numbering}
 use Rattle.ev_heap.specs.declared.kept.Cell.{Cell as HeldCell}
 use Rattle.ev_heap.specs.declared.kept.Capture.{Capture}
 use Rattle.ev_heap.specs.declared.kept.Capture.TheVariants as capture
@@ -19,7 +20,7 @@ use Rattle.ev_pass.specs.Reading as inside
 use Rattle.ev_pass.specs.Reading.{vat_at}
 use Rattle.ev_pass.specs.declared.interior.Interior.{Interior}
 use Rattle.ev_room.specs.Sound.{problems}
-use Rattle.def_machine.specs.State.{Thing, Made, Ejector, Audition, Resolver, Bound, Fixed, Slot, Binding, Cell, Happened, Called, Back, Thrown, Left, Got, SlotMade, SlotRead, SlotWrote, ListMade, EjectorMade, ObjectMade, Vat}
+use Rattle.def_machine.specs.State.{Thing, Made, Ejector, Audition, Resolver, Bound, Fixed, Slot, Binding, Cell, Happened, Called, Back, Thrown, Left, Got, SlotMade, SlotRead, SlotWrote, ListMade, EjectorMade, AuditionMade, PromiseMade, ObjectMade, ListCame, Took, Message, Sends, Reacts, Finished, Threw, Settles, Waits, Views, Lost, Posted, Vat}
 
 -- What a turn leaves as it is and the inside does not tell: the gifts, and what was put and happened before; and the texts that values
 -- stand for, those of the end of the turn, so that a value stands for one thing while the heap grows.
@@ -80,7 +81,35 @@ abbrev pub ejector_line : ℕ → Held → List (Happened Local)
 ejector_line act (held.Obj i) = EjectorMade act (Obj i) ∷ []
 ejector_line act _ = []
 
--- the line of an event, where it is of a kind that evaluation tells
+-- the line of an audition, and of a promise with its resolver, which are no other value
+abbrev pub audition_line : ℕ → Held → List (Happened Local)
+audition_line act (held.Obj i) = AuditionMade act (Obj i) ∷ []
+audition_line act _ = []
+
+abbrev pub promise_line : ℕ → ℕ → Held → List (Happened Local)
+promise_line act p (held.Obj i) = PromiseMade act (Prom p) (Obj i) ∷ []
+promise_line act p _ = []
+
+abbrev pub message_of : World → ℕ → Held → Words → List Held → Option ℕ → Message Local
+message_of w m x verb args answer = record { id = Mess m; target = value_of w x; verb = verb; args = values_of w args; answer = option_map Prom answer }
+
+-- the line of what references do
+unfoldable pub referred_line : World → Event → List (Happened Local)
+referred_line w (event.Take act m x verb args answer) = Took act (message_of w m x verb args answer) ∷ []
+referred_line w (event.Arrived k vs) = ListCame k (values_of w vs) ∷ []
+referred_line w (event.Promise act p v) = promise_line act p v
+referred_line w (event.Send act m x verb args answer) = Sends act (message_of w m x verb args answer) ∷ []
+referred_line w (event.When act m x o near answer) = Reacts act (value_of w x) (value_of w o) (message_of w m near (codes "run") (x ∷ []) (Some answer)) ∷ []
+referred_line w (event.Done act v) = Finished act (value_of w v) ∷ []
+referred_line w (event.Threw act p) = Threw act (problem_of w p) ∷ []
+referred_line w (event.Settle p v) = Settles (Prom p) (value_of w v) ∷ []
+referred_line w (event.Wait p q) = Waits (Prom p) (Prom q) ∷ []
+referred_line w (event.View p q) = Views (Prom p) (Prom q) ∷ []
+referred_line w (event.LostBroken m) = Lost (Mess m) ∷ []
+referred_line w (event.Posted h m) = Posted h (Mess m) ∷ []
+referred_line w _ = []
+
+-- the line of an event; what comes to be known has none
 unfoldable pub line_of : World → Event → List (Happened Local)
 line_of w (event.Call act target verb args begun) = Called act (value_of w target) verb (map (value_of w) args) begun ∷ []
 line_of w (event.Back act v) = Back act (value_of w v) ∷ []
@@ -92,8 +121,9 @@ line_of w (event.Read act k v) = SlotRead act k (value_of w v) ∷ []
 line_of w (event.Wrote act k v) = SlotWrote act k (value_of w v) ∷ []
 line_of w (event.List act k vs) = ListMade act k (values_of w vs) ∷ []
 line_of w (event.Ejector act v) = ejector_line act v
+line_of w (event.Audition act v) = audition_line act v
 line_of w (event.Made act object x caps stamps) = made_line w act object x caps stamps
-line_of w _ = []
+line_of w e = referred_line w e
 
 -- the lines of what happened
 abbrev pub lines_of : World → List Event → List (Happened Local)

@@ -1,4 +1,3 @@
 pub mod Closing
 pub mod Shows
 pub mod Tells
-pub mod Steps

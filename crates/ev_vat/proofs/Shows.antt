@@ -14,13 +14,14 @@ use Rattle.def_machine.specs.Values.{Words, Value, Local, Name}
 use Rattle.def_machine.specs.State.{Message, Happened, Took, Called, Back, Thrown, Left, Got, SlotMade, SlotRead, SlotWrote, ListMade, ListCame, EjectorMade, AuditionMade, PromiseMade, ObjectMade, Sends, Reacts, Finished, Threw, Settles, Waits, Views, Lost, Posted}
 use Rattle.law_renaming.specs.Maps as maps
 use Rattle.def_run.specs.World.{Script, Event, event_of, events_of, is_cut, cut_in, link_at}
-use Rattle.def_run.specs.Shown.{shown_value, shown_values, shown_capture, shown_slot, shown_happened, shown_event, shown_name, shown_send, shown_reaction}
+use Rattle.def_run.specs.Shown.{shown_value, shown_values, shown_capture, shown_slot, shown_happened, shown_event, shown_name, shown_msg, msg_of, shown_send, shown_reaction}
 use Rattle.def_run.specs.Text.{shown_events}
 use Rattle.ev_room.specs.Sound.{problems}
 use Rattle.ev_pass.specs.Reading as inside
-use Rattle.ev_room.specs.Reading.{value_of, values_of, problem_of, capture_in, ejector_line, made_line, line_of, lines_of}
+use Rattle.ev_room.specs.Reading.{value_of, values_of, problem_of, capture_in, ejector_line, audition_line, promise_line, message_of, referred_line, made_line, line_of, lines_of}
 use Rattle.law_renaming.specs.Alone.{name_of}
-use Rattle.ev_vat.specs.Lines.{text_at, shown_held, problem_at}
+use Rattle.ev_lines.specs.Lines as told
+use Rattle.ev_vat.specs.Lines.{telling, text_at, shown_held}
 use Rattle.ev_vat.specs.Lines as ours
 use Rattle.ev_vat.proofs.Closing.{root_world}
 
@@ -148,7 +149,7 @@ unfolding shown_values
 values-shown word texts [] = refl
 values-shown word texts (v ∷ vs) = cc (value-shown word texts v, values-shown word texts vs)
 
-problem-shown : (word : ℕ → ℕ) (texts : List Words) (v : Held) → problem_of (root_world word texts) v ≡ problem_at (problems ++ texts) v
+problem-shown : (word : ℕ → ℕ) (texts : List Words) (v : Held) → problem_of (root_world word texts) v ≡ told.problem_at (telling (problems ++ texts)) v
 unfolding root_world
 problem-shown word texts held.Null = refl
 problem-shown word texts (held.Bool b) = refl
@@ -162,16 +163,16 @@ problem-shown word texts (held.Prom k) = refl
 problem-shown word texts (held.Far v p) = refl
 problem-shown word texts (held.Broken id) = refl
 
-capture-shown : (word : ℕ → ℕ) (texts : List Words) (c : Capture) → shown_capture zero (maps.bound name_of (capture_in (root_world word texts) c)) ≡ ours.shown_capture (problems ++ texts) c
+capture-shown : (word : ℕ → ℕ) (texts : List Words) (c : Capture) → shown_capture zero (maps.bound name_of (capture_in (root_world word texts) c)) ≡ told.shown_capture (telling (problems ++ texts)) c
 unfolding shown_capture
 capture-shown word texts (capture.Fixed v g) = value-shown word texts v
 capture-shown word texts (capture.Slot k) = refl
 
-captures-shown : (word : ℕ → ℕ) (texts : List Words) (cs : List Capture) → map (shown_capture zero) (map (maps.bound name_of) (map (capture_in (root_world word texts)) cs)) ≡ map (ours.shown_capture (problems ++ texts)) cs
+captures-shown : (word : ℕ → ℕ) (texts : List Words) (cs : List Capture) → map (shown_capture zero) (map (maps.bound name_of) (map (capture_in (root_world word texts)) cs)) ≡ map (told.shown_capture (telling (problems ++ texts))) cs
 captures-shown word texts [] = refl
 captures-shown word texts (c ∷ cs) = cc (capture-shown word texts c, captures-shown word texts cs)
 
-made-shown : (word : ℕ → ℕ) (texts : List Words) (act : ℕ) (v : Held) (x : Words) (cs : List Capture) (vs : List Held) → all_shown (made_line (root_world word texts) act v x cs vs) ≡ ours.made_lines (problems ++ texts) act v x cs vs
+made-shown : (word : ℕ → ℕ) (texts : List Words) (act : ℕ) (v : Held) (x : Words) (cs : List Capture) (vs : List Held) → all_shown (made_line (root_world word texts) act v x cs vs) ≡ told.made_lines (telling (problems ++ texts)) act v x cs vs
 unfolding all_shown shown_of shown_happened shown_name name_of
 made-shown word texts act (held.Obj i) x cs vs = rw (captures-shown word texts cs, values-shown word texts vs) refl
 made-shown word texts act held.Null x cs vs = refl
@@ -185,34 +186,84 @@ made-shown word texts act (held.Prom k) x cs vs = refl
 made-shown word texts act (held.Far h p) x cs vs = refl
 made-shown word texts act (held.Broken id) x cs vs = refl
 
-ejector-shown : (act : ℕ) (v : Held) → all_shown (ejector_line act v) ≡ ours.ejector_lines act v
+ejector-shown : (texts : List Words) (act : ℕ) (v : Held) → all_shown (ejector_line act v) ≡ told.ejector_lines (telling (problems ++ texts)) act v
 unfolding all_shown shown_of shown_happened shown_name name_of
-ejector-shown act (held.Obj i) = refl
-ejector-shown act held.Null = refl
-ejector-shown act (held.Bool b) = refl
-ejector-shown act (held.Int z) = refl
-ejector-shown act (held.Char c) = refl
-ejector-shown act (held.Text id) = refl
-ejector-shown act (held.List id) = refl
-ejector-shown act (held.Prim n) = refl
-ejector-shown act (held.Prom k) = refl
-ejector-shown act (held.Far h p) = refl
-ejector-shown act (held.Broken id) = refl
+ejector-shown texts act (held.Obj i) = refl
+ejector-shown texts act held.Null = refl
+ejector-shown texts act (held.Bool b) = refl
+ejector-shown texts act (held.Int z) = refl
+ejector-shown texts act (held.Char c) = refl
+ejector-shown texts act (held.Text id) = refl
+ejector-shown texts act (held.List id) = refl
+ejector-shown texts act (held.Prim n) = refl
+ejector-shown texts act (held.Prom k) = refl
+ejector-shown texts act (held.Far h p) = refl
+ejector-shown texts act (held.Broken id) = refl
 
-line-shown : (word : ℕ → ℕ) (texts : List Words) (e : Heard) → all_shown (line_of (root_world word texts) e) ≡ ours.lines (problems ++ texts) e
+audition-shown : (texts : List Words) (act : ℕ) (v : Held) → all_shown (audition_line act v) ≡ told.audition_lines (telling (problems ++ texts)) act v
+unfolding all_shown shown_of shown_happened shown_name name_of
+audition-shown texts act (held.Obj i) = refl
+audition-shown texts act held.Null = refl
+audition-shown texts act (held.Bool b) = refl
+audition-shown texts act (held.Int z) = refl
+audition-shown texts act (held.Char c) = refl
+audition-shown texts act (held.Text id) = refl
+audition-shown texts act (held.List id) = refl
+audition-shown texts act (held.Prim n) = refl
+audition-shown texts act (held.Prom k) = refl
+audition-shown texts act (held.Far h p) = refl
+audition-shown texts act (held.Broken id) = refl
+
+promise-shown : (texts : List Words) (act p : ℕ) (v : Held) → all_shown (promise_line act p v) ≡ told.promise_lines (telling (problems ++ texts)) act p v
+unfolding all_shown shown_of shown_happened shown_name name_of
+promise-shown texts act p (held.Obj i) = refl
+promise-shown texts act p held.Null = refl
+promise-shown texts act p (held.Bool b) = refl
+promise-shown texts act p (held.Int z) = refl
+promise-shown texts act p (held.Char c) = refl
+promise-shown texts act p (held.Text id) = refl
+promise-shown texts act p (held.List id) = refl
+promise-shown texts act p (held.Prim n) = refl
+promise-shown texts act p (held.Prom k) = refl
+promise-shown texts act p (held.Far h q) = refl
+promise-shown texts act p (held.Broken id) = refl
+
+sent-shown : (word : ℕ → ℕ) (texts : List Words) (act m : ℕ) (x : Held) (verb : Words) (args : List Held) (answer : Option ℕ)
+    → all_shown (Sends act (message_of (root_world word texts) m x verb args answer) ∷ []) ≡ told.sent_line (telling (problems ++ texts)) act m x verb args answer ∷ []
+unfolding all_shown shown_of shown_happened shown_send shown_name shown_msg msg_of name_of
+sent-shown word texts act m x verb args None = rw (value-shown word texts x, values-shown word texts args) refl
+sent-shown word texts act m x verb args (Some a) = rw (value-shown word texts x, values-shown word texts args) refl
+
+referred-shown : (word : ℕ → ℕ) (texts : List Words) (e : Heard) → all_shown (referred_line (root_world word texts) e) ≡ told.referred (telling (problems ++ texts)) e
+unfolding referred_line all_shown shown_of shown_happened shown_slot shown_name shown_msg shown_reaction msg_of name_of
+referred-shown word texts (event.Take act m x verb args answer) = rw (value-shown word texts x, values-shown word texts args) refl
+referred-shown word texts (event.Arrived k vs) = rw (values-shown word texts vs) refl
+referred-shown word texts (event.Promise act p v) = promise-shown texts act p v
+referred-shown word texts (event.Send act m x verb args answer) = sent-shown word texts act m x verb args answer
+referred-shown word texts (event.When act m x o near answer) = rw (value-shown word texts x, value-shown word texts o) refl
+referred-shown word texts (event.Done act v) = rw (value-shown word texts v) refl
+referred-shown word texts (event.Threw act p) = rw (problem-shown word texts p) refl
+referred-shown word texts (event.Settle p v) = rw (value-shown word texts v) refl
+referred-shown word texts (event.Wait p q) = refl
+referred-shown word texts (event.View p q) = refl
+referred-shown word texts (event.LostBroken m) = refl
+referred-shown word texts _ = refl
+
+line-shown : (word : ℕ → ℕ) (texts : List Words) (e : Heard) → all_shown (line_of (root_world word texts) e) ≡ told.lines (telling (problems ++ texts)) e
 unfolding line_of all_shown shown_of shown_happened shown_slot
 line-shown word texts (event.Call act target verb args begun) = rw (value-shown word texts target, values-shown word texts args) refl
 line-shown word texts (event.Back act v) = rw (value-shown word texts v) refl
 line-shown word texts (event.Thrown act p) = rw (problem-shown word texts p) refl
 line-shown word texts (event.Gone act) = refl
 line-shown word texts (event.Got act v) = rw (value-shown word texts v) refl
-line-shown word texts (event.Ejector act v) = ejector-shown act v
+line-shown word texts (event.Ejector act v) = ejector-shown texts act v
+line-shown word texts (event.Audition act v) = audition-shown texts act v
 line-shown word texts (event.Slot act k v) = rw (value-shown word texts v) refl
 line-shown word texts (event.Read act k v) = rw (value-shown word texts v) refl
 line-shown word texts (event.Wrote act k v) = rw (value-shown word texts v) refl
 line-shown word texts (event.List act k vs) = rw (values-shown word texts vs) refl
 line-shown word texts (event.Made act v x cs vs) = made-shown word texts act v x cs vs
-line-shown word texts _ = refl
+line-shown word texts e = referred-shown word texts e
 
 pub lines-shown : (word : ℕ → ℕ) (texts : List Words) (es : List Heard) → all_shown (lines_of (root_world word texts) es) ≡ ours.lines_of (problems ++ texts) es
 unfolding inside.lines_of all_shown

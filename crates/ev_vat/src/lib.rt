@@ -3,7 +3,6 @@
 
 pub mod lines;
 pub mod run;
-pub mod shown;
 pub mod told;
 
 pub use run::run_program;

@@ -4,17 +4,20 @@ ghost use Rattle.std.specs.Prelude.{◌≡◌, ◌++◌, ◌∷◌, [], IfOk, st
 ghost use Rattle.def_event.specs.declared.event.Event.TheVariants.{Open};
 ghost use Rattle.def_event.specs.Lines.{render};
 ghost use Rattle.ev_vat.specs.Ends.{Tells};
-ghost use Rattle.ev_vat.specs.Lines.{done_lines, end_by, history, lines_of, text_by, threw_lines};
+ghost use Rattle.ev_vat.specs.Lines.{done_lines, end_by, history, lines_of, telling, text_by, threw_lines};
 
-use crate::lines::{push_done, push_lines, push_threw};
-use crate::shown::VAT;
+use crate::lines::{push_done, push_threw};
 use def_event::Event;
-use ev_base::{Memory, Seq, Str, TextId, Value};
+use ev_base::{Memory, Seq, Str, TextId, Value, VatId};
 use ev_eval::Ended;
 use ev_event::History;
 use ev_heap::Heap;
+use ev_lines::{Table, Teller, push_lines};
 use ev_told::Lines;
 use std::alloc::Global;
+
+/// The one vat of the run.
+pub(crate) const VAT: VatId = VatId(0);
 
 /// How the run of a program ended.
 #[derive(Clone, Copy, Debug, PartialEq, Eq)]
@@ -37,12 +40,13 @@ pub struct Told {
 }
 
 /// The lines of a turn that came to its end, but for the last ones.
-fn begun(alloc: Global, heap: &Heap, events: &Lines) -> Result<History, Memory>
-    ensures { IfOk result (λ history. history ≡ Open 0 ∷ lines_of heap.now.texts events.now) }
+fn begun(teller: &Teller<'_>, events: &Lines) -> Result<History, Memory>
+    requires alone { teller.now ≡ telling teller.now.texts }
+    ensures { IfOk result (λ history. history ≡ Open 0 ∷ lines_of teller.now.texts events.now) }
 {
-    let mut history = History::new(alloc);
+    let mut history = History::new(teller.alloc);
     history.push(Event::Open(VAT))?;
-    push_lines(alloc, heap, events, &mut history)?;
+    push_lines(teller, events, &mut history)?;
     Ok(history)
 }
 
@@ -65,8 +69,14 @@ fn done(
 ) -> Result<Told, Memory>
     ensures { IfOk result (λ told. Tells told RunEnd.Done (render (name.now ∷ []) (history heap.now.texts events.now (done_lines heap.now.texts value)))) }
 {
-    let mut history = begun(alloc, heap, events)?;
-    push_done(alloc, heap, value, &mut history)?;
+    let table = Table::new(alloc, VAT);
+    let teller = Teller {
+        alloc,
+        heap,
+        table: &table,
+    };
+    let mut history = begun(&teller, events)?;
+    push_done(&teller, value, &mut history)?;
     Ok(Told {
         end: RunEnd::Done,
         text: rendered(alloc, name, &history)?,
@@ -77,8 +87,14 @@ fn done(
 fn threw(alloc: Global, name: &str, heap: &Heap, events: &Lines, id: TextId) -> Result<Told, Memory>
     ensures { IfOk result (λ told. Tells told RunEnd.Done (render (name.now ∷ []) (history heap.now.texts events.now (threw_lines heap.now.texts id)))) }
 {
-    let mut history = begun(alloc, heap, events)?;
-    push_threw(alloc, heap, id, &mut history)?;
+    let table = Table::new(alloc, VAT);
+    let teller = Teller {
+        alloc,
+        heap,
+        table: &table,
+    };
+    let mut history = begun(&teller, events)?;
+    push_threw(&teller, id, &mut history)?;
     Ok(Told {
         end: RunEnd::Done,
         text: rendered(alloc, name, &history)?,

@@ -1,8 +1,0 @@
-use Rattle.std.proofs.Common.{◌≡◌, ◌++◌, drop}
-use Rattle.ev_told.specs.Told.{read}
-use Rattle.ev_vat.specs.Lines.{lines_of}
-use Rattle.ev_vat.proofs.lines.push_all.Given as goal
-
--- the lines so far, and then those of the rest, are the lines of all
-abbrev pub invariant-loop-line : goal.invariant-loop-line
-invariant-loop-line l = l.history ++ lines_of l.heap.texts (read (drop l.line-index l.lines) l.left) ≡ l.fn.history ++ lines_of l.heap.texts (read l.lines l.values)

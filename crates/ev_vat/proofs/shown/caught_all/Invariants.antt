@@ -1,6 +1,0 @@
-use Rattle.std.proofs.Common.{◌≡◌, map, take}
-use Rattle.ev_vat.specs.Lines.{shown_capture}
-use Rattle.ev_vat.proofs.shown.caught_all.Given as goal
-
-abbrev pub invariant-loop-capture : goal.invariant-loop-capture
-invariant-loop-capture l = l.all ≡ map (shown_capture l.heap.texts) (take l.capture-index l.captures)
