@@ -1,54 +1,25 @@
 -- The opening turn of the code is the machine's.
-use Rattle.std.proofs.Common.{◌≡◌, ℕ, zero, suc, ◌+◌, true, false, List, [], ◌∷◌, ◌++◌, Option, Some, None, Ok, Err, length, map, refl, sym, ap, subst, ◌∙◌, append_assoc, append-nil, arith}
-use Rattle.std.specs.Prelude.{IfOk, OnOk, Result, slice_get, is_none}
-use Rattle.std.proofs.lemmas.List.{map-append, length-map}
-use Rattle.ev_base.specs.SafeScope.{safe_value}
+use Rattle.std.proofs.Common.{◌≡◌, ℕ, true, List, [], ◌++◌, Ok, Err, refl, sym, subst, ◌∙◌, append-nil}
+use Rattle.std.specs.Prelude.{IfOk, OnOk, Result}
 use Rattle.ev_base.specs.declared.memory.Memory.{Memory}
 use Rattle.ev_base.specs.declared.values.Value.{Value as Held}
 use Rattle.ev_base.specs.declared.values.Value.TheVariants as held
 use Rattle.ev_heap.specs.Contents.{Contents}
-use Rattle.ev_heap.specs.declared.happened.Happened.TheVariants as event
-use Rattle.def_kernel.specs.declared.node.Literal.{Literal}
-use Rattle.def_kernel.specs.declared.node.Literal.TheVariants as literal
 use Rattle.def_kernel.specs.declared.node.Node.{Node}
-use Rattle.def_kernel.specs.declared.node.Node.TheVariants.{Lit, Noun, Set, Def, Call, Sequence, If, Escape, Try, Finally, Hide, Object as ObjectNode, Method, Final, Var, Any}
-use Rattle.def_machine.specs.Values.{Words, Value, Null, Local}
+use Rattle.def_machine.specs.Values.{Words, Value, Local}
 use Rattle.def_machine.specs.State.{Fixed, Slot, Binding as Bond, Scope as Surroundings, SlotMade, Vat, Done, Throws, Ejects, Stops, opened_state, Fuel, Deep, Astray}
 use Rattle.def_machine.specs.State as machine
-use Rattle.def_machine.specs.Scopes.{Answer, Answers, any_guard}
-use Rattle.def_machine.specs.Eval.{opened_eval}
-use Rattle.def_machine.specs.Form as form
-use Rattle.def_machine.specs.Refs.{follow}
-use Rattle.def_machine.specs.Scopes as scopes
-use Rattle.def_machine.specs.Perform as perform
-use Rattle.def_machine.specs.Calls as calls
-use Rattle.def_machine.specs.Eval as theirs
-use Rattle.ev_prims.specs.declared.problem.Problem.TheVariants.{NotBoolean}
 use Rattle.ev_room.specs.declared.exit.Exit.{Exit}
 use Rattle.ev_room.specs.declared.exit.Exit.TheVariants as exit
 use Rattle.ev_pass.specs.declared.interior.Interior.{Interior as Room}
-use Rattle.ev_room.specs.declared.scope.Bound.{Bound as Kept}
-use Rattle.ev_room.specs.declared.scope.Bound.TheVariants as scope
-use Rattle.ev_room.specs.declared.scope.Scope.{Scope}
 use Rattle.ev_eval.specs.declared.turn.Ended.{Ended}
-use Rattle.ev_steps.specs.Built.{is_built_node, is_built}
-use Rattle.ev_room.specs.Sound.{is_built_safe}
-use Rattle.ev_room.specs.Reading.{World, names, text_of, value_of, values_of, members_of, vat_of}
-use Rattle.ev_room.specs.Sound.{Grown, Stays, IsSound, is_there, are_there, is_bound, are_bound, problems}
-use Rattle.ev_steps.specs.Steps.{Evaluator, Caller, call_value, call_at, call, gathered, last_of, call_node, define, literal_value, literal_node, noun_node, set_node, within, choose, if_node, step, bind_final, bind_var, bind_any, bind_step, step_found, bind_found, deeper, evaluator, opening}
-use Rattle.ev_room.specs.Acts.{Out, Gives, ◌>>=◌, ◌>>◌, give, found_from, with_noun}
+use Rattle.ev_steps.specs.Built.{is_built}
+use Rattle.ev_room.specs.Reading.{World, names, text_of, value_of}
+use Rattle.ev_room.specs.Sound.{Grown, Stays, IsSound, problems}
+use Rattle.ev_steps.specs.Steps.{opening}
+use Rattle.ev_room.specs.Acts.{Out, Gives, ◌>>=◌}
 use Rattle.ev_eval.specs.Turn.{Ends, EndsAs, GivesThere, evaluated, opened}
-use Rattle.ev_steps.proofs.Calls.{CallsMet, call_data_met}
-use Rattle.ev_steps.proofs.Grows.{deeper_grows, none_grows}
-use Rattle.ev_room.proofs.Behind.{Grows, same, onward, cut_back}
-use Rattle.ev_steps.proofs.Guarded.{escape_met, try_met, finally_met, hide_met}
-use Rattle.ev_steps.proofs.IsMet.{IsMet}
-use Rattle.ev_room.proofs.Bindings.{found_is, none_bound, noun_met, onto_more, bound_more, write_met, made_line, new_slot_met}
-use Rattle.ev_steps.proofs.Objects.{get_built, object_met, call_object_met}
-use Rattle.ev_steps.proofs.Primitives.{primitive_met}
-use Rattle.ev_room.proofs.Sounds.{grown_same, there_on, all_on, scope_on, all_and}
-use Rattle.ev_room.proofs.Replies.{there_joined}
-use Rattle.ev_room.proofs.Stands.{Met, vat, a_value, an_answer, some_answers, a_scope, bound_of, bonds_onto, scope_of, then_met, then_met_of, give_met, stop_met, deep_met, throw_met, tell_met, fails_met, spend_met, text_met, activation_met, follow_there}
+use Rattle.ev_room.proofs.Stands.{Met, vat, a_value, bonds_onto, then_met, give_met, activation_met}
 use Rattle.ev_room.proofs.Weights.{IsFront}
 use Rattle.ev_steps.proofs.Meets.{evaluator_met}
 

@@ -1,5 +1,5 @@
 -- The first texts of a heap: the problems that evaluation throws, in four parts, and those of references.
-use Rattle.std.specs.Prelude.{ℕ, List, [], ◌∷◌, ◌++◌, codes}
+use Rattle.std.specs.Prelude.{ℕ, List, [], ◌∷◌, codes}
 use Rattle.ev_heap.specs.Contents.{Contents, nothing}
 
 abbrev pub native_problems : List (List ℕ)

@@ -45,6 +45,7 @@ with_lists word texts i r = rw (r.refs, r.drawn, r.post) refl
 
 -- what its inside stands for
 pub rooted_is : (word : ℕ → ℕ) (texts : List Words) (i : Interior) → IsRooted i → vat_of (root_world word texts) i ≡ after word texts i.heap i.micro
+unfolding after
 rooted_is word texts i r =
     with_lists word texts i r ∙ ap (λ (ls : List (List (Value Local))). record (after word texts i.heap i.micro) { lists = ls }) (lists_of (root_world word texts) i)
 

@@ -1,5 +1,5 @@
 -- The text that the code makes is that of the machine's run.
-use Rattle.std.proofs.Common.{◌≡◌, ℕ, zero, suc, true, List, [], ◌∷◌, ◌++◌, Some, Ok, Err, IfOk, refl, sym, ap, ◌∙◌, map, append_assoc, append-nil, string_bytes}
+use Rattle.std.proofs.Common.{◌≡◌, ℕ, zero, true, List, [], ◌∷◌, ◌++◌, Some, Ok, Err, IfOk, refl, sym, ap, subst, ◌∙◌, map, append_assoc, append-nil, string_bytes}
 use Rattle.std.specs.Prelude.{Result}
 use Rattle.std.specs.Fmt.{digits}
 use Rattle.ev_base.specs.declared.memory.Memory.{Memory}
@@ -14,10 +14,9 @@ use Rattle.def_event.specs.declared.shown.Shown as shown
 use Rattle.ev_base.specs.declared.names.Name.TheVariants as global
 use Rattle.def_event.specs.Lines.{is_no_frame, render, render_run}
 use Rattle.def_kernel.specs.declared.node.Node.{Node}
-use Rattle.def_machine.specs.Values.{Words, Value, Broken, Ref, Name, Local, Prom}
-use Rattle.def_machine.specs.State.{Happened, Finished, Threw, Settles, Standing, Unsettled, WaitsOn, Viewed, Settled, Known, Vat, Done, Gives, Throws, Ejects, Stops, Stop, Fuel, Deep, Astray, begun, end_by as end_machine, stop}
+use Rattle.def_machine.specs.Values.{Words, Value, Broken, Local, Prom}
+use Rattle.def_machine.specs.State.{Happened, Finished, Threw, Settles, Vat, Done, Gives, Throws, Stops, Stop, Fuel, Deep, Astray, begun, end_by as end_machine, stop}
 use Rattle.law_renaming.specs.Maps as maps
-use Rattle.law_renaming.specs.Stands.{Found, Is, found, prom_found}
 use Rattle.def_run.specs.Draws.{draw_word}
 use Rattle.def_run.specs.Shown.{shown_value, shown_name, shown_happened}
 use Rattle.def_run.specs.World.{Script, Event, Opens, Ends as Closes, Stopped, run, events_of, then_goes, put_back, begins, links_from, links_to, fresh_from, push_all, put_at, close, left_vats, left_vat, left_held, left_wait, left_links}
@@ -30,7 +29,7 @@ use Rattle.ev_room.specs.Reading.{World, names, text_of, value_of, lines_of, vat
 use Rattle.ev_room.specs.Sound.{Each, Grown, IsListed, IsSound, Stays, is_there, problems}
 use Rattle.ev_eval.specs.Turn.{Ends, EndsAt, GivesThere, opened}
 use Rattle.law_renaming.specs.Alone.{alone, start, opened_alone, name_of, NamesNothing, run_of_step}
-use Rattle.law_renaming.proofs.Numbered.{root_alone, named_opening, found_names, runs_alone}
+use Rattle.law_renaming.proofs.Numbered.{runs_alone}
 use Rattle.ev_vat.specs.declared.told.RunEnd.{RunEnd}
 use Rattle.ev_vat.specs.declared.told.RunEnd.TheVariants as end
 use Rattle.ev_vat.specs.declared.told.Told.{Told}
@@ -205,6 +204,7 @@ module _ (fuel depth : ℕ) (name : Words) (tree : List Node) (before after_turn
       ∙ begins_at word more fuel
 
   so : (key : List ℕ) → (text_by name (problems ++ more) after_turn.micro.events e ≡ text (alone key fuel depth name tree) (run (alone key fuel depth name tree))) × (end_of (run (alone key fuel depth name tree)) ≡ Some (end_by e))
+  unfolding root_world
   so key =
       let w = root_world (draw_word key) more in
       let x = ends w texts_so in
