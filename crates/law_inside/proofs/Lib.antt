@@ -4,3 +4,4 @@ pub mod Acts
 pub mod Passes
 pub mod Settles
 pub mod Sends
+pub mod Lines

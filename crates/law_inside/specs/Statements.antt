@@ -10,6 +10,8 @@ use Rattle.ev_refs.specs.declared.known.Message.{Message}
 use Rattle.ev_pass.specs.Passing.{pass}
 use Rattle.ev_pass.specs.declared.interior.Interior.{Interior}
 use Rattle.ev_settle.specs.Closing.{finish, throw}
+use Rattle.ev_room.specs.Reading.{World, texts_of, line_of}
+use Rattle.ev_settle.specs.Performing.{Tells}
 use Rattle.ev_settle.specs.Reacting.{when_resolved, tell_resolver, smash_resolver}
 use Rattle.ev_settle.specs.Resolving.{resolve}
 use Rattle.ev_settle.specs.Sending.{send, send_only}
@@ -55,3 +57,7 @@ FinishesInside = EachInside (λ kind h i. (act : ℕ) (o : Option ℕ) (v : Valu
 
 abbrev pub ThrowsInside : Type 0
 ThrowsInside = EachInside (λ kind h i. (act : ℕ) (o : Option ℕ) (t : ℕ) → IsOf kind (Text t) → EndsOf kind h Anything (throw act o t i))
+
+-- whatever a turn leaves as it is, what happened stands for the lines that the laws of references ask for
+abbrev pub LinesTell : Type 0
+LinesTell = (w : World) → Tells (texts_of w) (line_of w)
