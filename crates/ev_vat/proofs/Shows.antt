@@ -20,7 +20,7 @@ use Rattle.ev_room.specs.Sound.{problems}
 use Rattle.ev_pass.specs.Reading as inside
 use Rattle.ev_room.specs.Reading.{value_of, problem_of, capture_in, ejector_line, audition_line, promise_line, message_of, referred_line, made_line, line_of, lines_of}
 use Rattle.law_renaming.specs.Alone.{name_of}
-use Rattle.ev_lines.specs.Lines as told
+use Rattle.ev_step_lines.specs.Lines as told
 use Rattle.ev_vat.specs.Lines.{telling, text_at, shown_held}
 use Rattle.ev_vat.specs.Lines as ours
 use Rattle.ev_vat.proofs.Closing.{root_world}

@@ -11,8 +11,8 @@ use Rattle.def_event.specs.declared.shown.Shown.{Shown}
 use Rattle.def_event.specs.declared.shown.Shown as shown
 use Rattle.def_event.specs.Lines.{render}
 use Rattle.ev_heap.specs.declared.happened.Happened.{Happened}
-use Rattle.ev_lines.specs.Lines as all
-use Rattle.ev_lines.specs.Lines.{Telling, no_names}
+use Rattle.ev_step_lines.specs.Lines as all
+use Rattle.ev_step_lines.specs.Lines.{Telling, no_names}
 use Rattle.ev_vat.specs.declared.told.RunEnd.{RunEnd}
 use Rattle.ev_vat.specs.declared.told.RunEnd.TheVariants as end
 

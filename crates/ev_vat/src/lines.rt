@@ -7,8 +7,8 @@ use crate::told::VAT;
 use def_event::{Event, Shown};
 use ev_base::{Memory, Name, Str, TextId, Value};
 use ev_event::History;
-use ev_lines::Teller;
-use ev_lines::shown::{copied, shown};
+use ev_step_lines::Teller;
+use ev_step_lines::shown::{copied, shown};
 
 /// What the root settles to where the opening turn ends with a value. The root itself would wait on itself.
 fn settled(teller: &Teller<'_>, value: Value) -> Result<Shown, Memory>

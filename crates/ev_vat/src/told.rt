@@ -12,7 +12,7 @@ use ev_base::{Memory, Seq, Str, TextId, Value, VatId};
 use ev_eval::Ended;
 use ev_event::History;
 use ev_heap::Heap;
-use ev_lines::{Table, Teller, push_lines};
+use ev_step_lines::{Table, Teller, push_lines};
 use ev_told::Lines;
 use std::alloc::Global;
 

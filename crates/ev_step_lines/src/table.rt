@@ -1,7 +1,7 @@
 //! The names that the numbers of a vat stand for.
 
 ghost use Rattle.std.specs.Prelude.{◌≡◌, ◌++◌, ◌∷◌, [], OnErr, OnOk};
-ghost use Rattle.ev_lines.specs.Lines.{mail_at, name_at, no_names};
+ghost use Rattle.ev_step_lines.specs.Lines.{mail_at, name_at, no_names};
 
 use ev_base::{Memory, Msg, MsgId, Name, PromId, Seq, VatId};
 use std::alloc::Global;
@@ -17,7 +17,7 @@ pub struct Table {
 }
 
 impl Model for Table {
-    ghost use Rattle.ev_lines.specs.Lines.{Naming};
+    ghost use Rattle.ev_step_lines.specs.Lines.{Naming};
 
     ghost Value = { Naming };
 

@@ -4,7 +4,7 @@ ghost use Rattle.std.specs.Prelude.{◌≡◌, ◌++◌, IfOk, OnOk, map};
 ghost use Rattle.def_event.specs.declared.event.Event.TheVariants.{Call, Made};
 ghost use Rattle.def_event.specs.declared.shown.Shown as shown_as;
 ghost use Rattle.ev_base.specs.declared.names.Name.TheVariants as name_as;
-ghost use Rattle.ev_lines.specs.Lines.{all_held, audition_lines, ejector_lines, lines, made_lines, shown_capture, shown_held};
+ghost use Rattle.ev_step_lines.specs.Lines.{all_held, audition_lines, ejector_lines, lines, made_lines, shown_capture, shown_held};
 
 use crate::referred::push_referred;
 use crate::shown::{caught_all, problem, shown, shown_all};

@@ -5,7 +5,7 @@ use Rattle.def_event.specs.declared.event.Event.{Event}
 use Rattle.ev_base.specs.declared.values.Value.{Value}
 use Rattle.ev_told.specs.declared.lines.Line.{Line}
 use Rattle.ev_told.specs.Told.{read, told, width}
-use Rattle.ev_lines.specs.Lines.{Telling, lines, lines_of}
+use Rattle.ev_step_lines.specs.Lines.{Telling, lines, lines_of}
 
 read_on : (t : Telling) (l : Line) (ls : List Line) (vs : List Value)
     → lines_of t (read (l ∷ ls) vs) ≡ lines t (told l (take (width l) vs)) ++ lines_of t (read ls (drop (width l) vs))

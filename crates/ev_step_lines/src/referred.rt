@@ -3,7 +3,7 @@
 ghost use Rattle.std.specs.Prelude.{◌≡◌, ◌++◌, IfOk, OnOk};
 ghost use Rattle.def_event.specs.declared.event.Event.TheVariants.{When};
 ghost use Rattle.ev_base.specs.declared.names.Msg.{Msg};
-ghost use Rattle.ev_lines.specs.Lines.{all_held, mail_at, name_at, promise_lines, referred, sent_line, shown_held};
+ghost use Rattle.ev_step_lines.specs.Lines.{all_held, mail_at, name_at, promise_lines, referred, sent_line, shown_held};
 
 use crate::shown::{problem, shown, shown_all};
 use crate::teller::Teller;

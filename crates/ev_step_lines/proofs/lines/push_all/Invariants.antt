@@ -1,7 +1,7 @@
 use Rattle.std.proofs.Common.{◌≡◌, ◌++◌, drop}
 use Rattle.ev_told.specs.Told.{read}
-use Rattle.ev_lines.specs.Lines.{lines_of}
-use Rattle.ev_lines.proofs.lines.push_all.Given as goal
+use Rattle.ev_step_lines.specs.Lines.{lines_of}
+use Rattle.ev_step_lines.proofs.lines.push_all.Given as goal
 
 -- the lines so far, and then those of the rest, are the lines of all
 abbrev pub invariant-loop-line : goal.invariant-loop-line

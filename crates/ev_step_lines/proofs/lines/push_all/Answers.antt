@@ -1,5 +1,5 @@
-use Rattle.ev_lines.proofs.Steps.{goes, ends}
-use Rattle.ev_lines.proofs.lines.push_all.Goals as goal
+use Rattle.ev_step_lines.proofs.Steps.{goes, ends}
+use Rattle.ev_step_lines.proofs.lines.push_all.Goals as goal
 
 pub loop-line-preserved : goal.loop-line-preserved
 loop-line-preserved c =

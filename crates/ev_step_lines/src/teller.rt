@@ -17,7 +17,7 @@ pub struct Teller<'a> {
 }
 
 impl<'a> Model for Teller<'a> {
-    ghost use Rattle.ev_lines.specs.Lines.{Telling};
+    ghost use Rattle.ev_step_lines.specs.Lines.{Telling};
 
     ghost Value = { Telling };
 

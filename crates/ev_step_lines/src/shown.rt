@@ -1,7 +1,7 @@
 //! What a vat holds, by its global names.
 
 ghost use Rattle.std.specs.Prelude.{◌≡◌, IfOk, map};
-ghost use Rattle.ev_lines.specs.Lines.{all_held, problem_at, shown_capture, shown_held, text_at};
+ghost use Rattle.ev_step_lines.specs.Lines.{all_held, problem_at, shown_capture, shown_held, text_at};
 
 use crate::teller::Teller;
 use def_event::Shown;

@@ -3,7 +3,7 @@
 ghost use Rattle.std.specs.Prelude.{◌≡◌, ◌++◌, IfOk, OnOk, drop, take};
 ghost use Rattle.def_event.specs.declared.event.Event.TheVariants.{Call};
 ghost use Rattle.ev_told.specs.Told.{first, others, read, told};
-ghost use Rattle.ev_lines.specs.Lines.{all_held, lines, lines_of, shown_held};
+ghost use Rattle.ev_step_lines.specs.Lines.{all_held, lines, lines_of, shown_held};
 
 use crate::evaluated::{call_line, push_ejector, push_line};
 use crate::shown::{problem, shown, shown_all};
