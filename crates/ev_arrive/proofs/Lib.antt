@@ -12,3 +12,5 @@ pub mod Notices
 pub mod Views
 pub mod Viewings
 pub mod Delivers
+pub mod Kept
+pub mod Learns

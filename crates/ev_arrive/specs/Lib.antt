@@ -5,5 +5,8 @@ pub mod Arriving
 pub mod Noticing
 pub mod Viewing
 pub mod Delivering
+pub mod Bringing
+pub mod Learning
+pub mod Noting
 pub mod Reading
 pub mod Statements
