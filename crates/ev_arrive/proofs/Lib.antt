@@ -14,3 +14,5 @@ pub mod Viewings
 pub mod Delivers
 pub mod Kept
 pub mod Learns
+pub mod Hears
+pub mod Arrives

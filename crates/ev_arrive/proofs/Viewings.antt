@@ -76,7 +76,7 @@ module _ (ts : List Words) (key : List ℕ) (line : Lines) (s : Vat Local) where
 
   -- ---- a name that settled elsewhere
 
-  subject_is : (n : Local) (x : Subject) (h : Host) → Reads ts key h.inside → Stands ts key line s Prom (learn_subject x h) (arrive.learn_name (names_under key) (subject_by n x) (at h))
+  pub subject_is : (n : Local) (x : Subject) (h : Host) → Reads ts key h.inside → Stands ts key line s Prom (learn_subject x h) (arrive.learn_name (names_under key) (subject_by n x) (at h))
   unfolding learn_subject arrive.learn_name
   subject_is n (subject.Known m) h good = gives ts key line s Prom m h good
   subject_is n (subject.New v) h good = learnt_is ts key line s n v h good

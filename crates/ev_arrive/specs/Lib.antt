@@ -9,4 +9,5 @@ pub mod Bringing
 pub mod Learning
 pub mod Noting
 pub mod Reading
+pub mod Hearing
 pub mod Statements
