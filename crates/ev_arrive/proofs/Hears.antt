@@ -116,6 +116,7 @@ module _ (ts : List Words) (key : List ℕ) (line : Lines) (s : Vat Local) (tell
 
   mutual
     unfolding learn learn_part learn_list part_by parts_by learn_each arrive.learn arrive.learn_all ◌>>=◌ machine.◌>>=◌ within code.fail
+
     pub part_is : (d from : ℕ) (b : Part) (h : Host) → Reads ts key h.inside → Stands ts key line s (value_by ts) (learn d from b h) (arrive.learn (names_under key) from (part_by ts n b) (at h))
     part_is d from (Plain v) h good = known_here v h good
     part_is d from (New c) h good = new_here c h good

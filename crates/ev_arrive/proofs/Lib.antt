@@ -16,3 +16,4 @@ pub mod Kept
 pub mod Learns
 pub mod Hears
 pub mod Arrives
+pub mod Received

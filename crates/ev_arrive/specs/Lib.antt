@@ -8,6 +8,7 @@ pub mod Delivering
 pub mod Bringing
 pub mod Learning
 pub mod Noting
+pub mod Receiving
 pub mod Reading
 pub mod Hearing
 pub mod Statements

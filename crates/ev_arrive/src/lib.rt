@@ -12,7 +12,9 @@ pub mod laws;
 pub mod learning;
 pub mod notice;
 pub mod opening;
+pub mod receiving;
 pub mod viewing;
 
 pub use brought::{Brought, Heard};
 pub use host::{Carried, Host, Incoming, Subject};
+pub use receiving::Sight;
