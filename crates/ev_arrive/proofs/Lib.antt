@@ -12,8 +12,3 @@ pub mod Notices
 pub mod Views
 pub mod Viewings
 pub mod Delivers
-pub mod Kept
-pub mod Learns
-pub mod Hears
-pub mod Arrives
-pub mod Received

@@ -86,7 +86,7 @@ module _ (ts : List Words) (key : List ℕ) (line : Lines) (s : Vat Local) where
   entry_host me n (Some k) = refl
   entry_host me n None = refl
 
-  host_is : (n : ℕ) (h : Host) → host_of h.inside.refs n ≡ refs.host_at (names_under key) h.inside.refs.me (knowns_by ts 0 h.inside.refs.known) (Prom n)
+  pub host_is : (n : ℕ) (h : Host) → host_of h.inside.refs n ≡ refs.host_at (names_under key) h.inside.refs.me (knowns_by ts 0 h.inside.refs.known) (Prom n)
   unfolding host_of refs.host_at
   host_is n h = entry_host h.inside.refs.me n (slice_get h.inside.refs.known n) ∙ ap (refs.host_in h.inside.refs.me) (sym (entry_is (word key) ts h.inside.refs.known n))
 

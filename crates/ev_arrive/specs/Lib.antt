@@ -5,10 +5,5 @@ pub mod Arriving
 pub mod Noticing
 pub mod Viewing
 pub mod Delivering
-pub mod Bringing
-pub mod Learning
-pub mod Noting
-pub mod Receiving
 pub mod Reading
-pub mod Hearing
 pub mod Statements

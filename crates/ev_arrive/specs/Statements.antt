@@ -13,14 +13,8 @@ use Rattle.ev_arrive.specs.Arriving.{arrive_open, arrive_ask}
 use Rattle.ev_arrive.specs.Noticing.{notice}
 use Rattle.ev_arrive.specs.Viewing.{arrive_elsewhere, arrive_shorten}
 use Rattle.ev_arrive.specs.Acts.{value_at}
-use Rattle.ev_arrive.specs.Bringing.{Part, Parts, part}
 use Rattle.ev_arrive.specs.Delivering.{deliver, learn_gift, learn_message}
-use Rattle.ev_arrive.specs.Hearing.{Name, TellsLists, heard_by, part_by, parts_by}
-use Rattle.ev_arrive.specs.Learning.{arrive_deliver, arrive_settled, learn}
-use Rattle.ev_arrive.specs.Noting.{arrive}
 use Rattle.ev_arrive.specs.Reading.{Stands, carried_by, host_at, incoming_by, subject_by}
-use Rattle.ev_arrive.specs.declared.brought.Brought.{Brought}
-use Rattle.ev_arrive.specs.declared.brought.Heard.{Heard}
 use Rattle.ev_arrive.specs.declared.host.Carried.{Carried}
 use Rattle.ev_arrive.specs.declared.host.Subject.{Subject}
 use Rattle.ev_arrive.specs.declared.host.Host.{Host}
@@ -63,19 +57,3 @@ ref_of n = Ref (Prom n)
 abbrev pub LearnsGiftsAsTheMachine : Type 0
 LearnsGiftsAsTheMachine = (ts : List Words) (key : List ℕ) (line : Lines) (s : Vat Local) (h : Host) (p c i : ℕ) → Tells ts line → Reads ts key h.inside
     → Stands ts key line s ref_of (learn_gift p c i h) (machine.learn_gift (names_under key) p c i (host_at ts line h s))
-
-abbrev pub LearnsAsTheMachine : Type 0
-LearnsAsTheMachine = (ts : List Words) (key : List ℕ) (line : Lines) (s : Vat Local) (h : Host) (n : Local) (from : ℕ) (b : Brought) → Tells ts line → TellsLists ts line → Reads ts key h.inside
-    → Stands ts key line s (value_by ts) (learn 100 from (part b) h) (machine.learn (names_under key) from (part_by ts n (part b)) (host_at ts line h s))
-
-abbrev pub DeliversNotesAsTheMachine : Type 0
-DeliversNotesAsTheMachine = (ts : List Words) (key : List ℕ) (line : Lines) (s : Vat Local) (h : Host) (n : Local) (from : ℕ) (m : Carried) (asks : Bool) (x : Incoming) (verb : Words) (ps : Parts) → Tells ts line → TellsLists ts line → Reads ts key h.inside
-    → Stands ts key line s (λ u. u) (arrive_deliver from m asks x verb ps h) (machine.arrive_deliver (names_under key) from (record { message = carried_by n m; asks = asks }) (incoming_by n x) verb (parts_by ts n ps) (host_at ts line h s))
-
-abbrev pub SettlesAsTheMachine : Type 0
-SettlesAsTheMachine = (ts : List Words) (key : List ℕ) (line : Lines) (s : Vat Local) (h : Host) (n : Local) (from : ℕ) (x : Subject) (b : Part) → Tells ts line → TellsLists ts line → Reads ts key h.inside
-    → Stands ts key line s (λ u. u) (arrive_settled from x b h) (machine.arrive_settled (names_under key) from (subject_by n x) (part_by ts n b) (host_at ts line h s))
-
-abbrev pub ArrivesAsTheMachine : Type 0
-ArrivesAsTheMachine = (ts : List Words) (key : List ℕ) (line : Lines) (s : Vat Local) (h : Host) (n : Local) (x : Name) (c : ℕ) (from : ℕ) (note : Heard) → Tells ts line → TellsLists ts line → Reads ts key h.inside
-    → Stands ts key line s (λ u. u) (arrive from note h) (machine.arrive (names_under key) from (heard_by ts n x c note) (host_at ts line h s))

@@ -1,6 +1,6 @@
 //! What arrives means in the machine, in local numbers.
 
-ghost use Rattle.ev_arrive.specs.Statements.{ArrivesAsTheMachine, DeliversAsTheMachine, DeliversNotesAsTheMachine, IsAskedAsTheMachine, LearnsAsTheMachine, LearnsGiftsAsTheMachine, LearnsMessagesAsTheMachine, NoticesAsTheMachine, OpensAsTheMachine, SettlesAsTheMachine, SettlesElsewhereAsTheMachine, ShortensAsTheMachine};
+ghost use Rattle.ev_arrive.specs.Statements.{DeliversAsTheMachine, IsAskedAsTheMachine, LearnsGiftsAsTheMachine, LearnsMessagesAsTheMachine, NoticesAsTheMachine, OpensAsTheMachine, SettlesElsewhereAsTheMachine, ShortensAsTheMachine};
 
 /// The message of a note comes to be here, or is here again (`learn_message`), as in the machine.
 pub fn learns_messages_as_the_machine()
@@ -40,24 +40,4 @@ pub fn shortens_as_the_machine()
 /// A link is noticed as cut (`notice`) as in the machine.
 pub fn notices_as_the_machine()
     ensures { NoticesAsTheMachine }
-{}
-
-/// A value of a note comes to be here (`learn`) as in the machine.
-pub fn learns_as_the_machine()
-    ensures { LearnsAsTheMachine }
-{}
-
-/// A message arrives whole (`arrive_deliver`) as in the machine.
-pub fn delivers_notes_as_the_machine()
-    ensures { DeliversNotesAsTheMachine }
-{}
-
-/// A name settled to what a note says (`arrive_settled`) as in the machine.
-pub fn settles_as_the_machine()
-    ensures { SettlesAsTheMachine }
-{}
-
-/// Each note arrives (`arrive`) as in the machine.
-pub fn arrives_as_the_machine()
-    ensures { ArrivesAsTheMachine }
 {}
