@@ -97,7 +97,7 @@ module _ (ts : List Words) (key : List ℕ) (line : Lines) (s : Vat Local) (tell
   unless_opened n true h good = gives ts key line s (λ u. u) tt h good
   unless_opened n false h good = breaks_is n h good
 
-  opened_like : (o : Option (ℕ × Bool)) (q : Option (GiftEntry Local)) → Alike o q → opened_in o ≡ arrive.opened_in q
+  pub opened_like : (o : Option (ℕ × Bool)) (q : Option (GiftEntry Local)) → Alike o q → opened_in o ≡ arrive.opened_in q
   unfolding arrive.opened_in
   opened_like (Some x) (Some g) like = sym like.1
   opened_like None None like = refl

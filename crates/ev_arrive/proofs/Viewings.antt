@@ -76,7 +76,7 @@ module _ (ts : List Words) (key : List ℕ) (line : Lines) (s : Vat Local) where
 
   -- ---- a name that settled elsewhere
 
-  subject_is : (n : Local) (x : Subject) (h : Host) → Reads ts key h.inside → Stands ts key line s Prom (learn_subject x h) (arrive.learn_name (names_under key) (subject_by n x) (at h))
+  pub subject_is : (n : Local) (x : Subject) (h : Host) → Reads ts key h.inside → Stands ts key line s Prom (learn_subject x h) (arrive.learn_name (names_under key) (subject_by n x) (at h))
   unfolding learn_subject arrive.learn_name
   subject_is n (subject.Known m) h good = gives ts key line s Prom m h good
   subject_is n (subject.New v) h good = learnt_is ts key line s n v h good
@@ -86,7 +86,7 @@ module _ (ts : List Words) (key : List ℕ) (line : Lines) (s : Vat Local) where
   entry_host me n (Some k) = refl
   entry_host me n None = refl
 
-  host_is : (n : ℕ) (h : Host) → host_of h.inside.refs n ≡ refs.host_at (names_under key) h.inside.refs.me (knowns_by ts 0 h.inside.refs.known) (Prom n)
+  pub host_is : (n : ℕ) (h : Host) → host_of h.inside.refs n ≡ refs.host_at (names_under key) h.inside.refs.me (knowns_by ts 0 h.inside.refs.known) (Prom n)
   unfolding host_of refs.host_at
   host_is n h = entry_host h.inside.refs.me n (slice_get h.inside.refs.known n) ∙ ap (refs.host_in h.inside.refs.me) (sym (entry_is (word key) ts h.inside.refs.known n))
 

@@ -11,7 +11,7 @@ use ev_refs::Standing;
 
 /// How a name stands. One that is not known did not settle.
 #[tactic(auto, using(crate::proofs::Standings::stands, crate::proofs::Standings::unknown))]
-pub(crate) fn standing_now(host: &Host, name: PromId) -> Standing
+pub fn standing_now(host: &Host, name: PromId) -> Standing
     ensures { result ≡ standing_now host.now.inside.refs name }
 {
     if name.0 < host.inside.refs.count() {

@@ -57,7 +57,7 @@ pub fn open_gift(host: &mut Host, provider: VatId, swiss: Swiss) -> Result<(), S
 
 /// Whether a gift was opened.
 #[tactic(auto, unfolding(crate::specs::Hosting::is_opened))]
-pub(crate) fn is_opened(host: &Host, provider: VatId, swiss: Swiss) -> bool
+pub fn is_opened(host: &Host, provider: VatId, swiss: Swiss) -> bool
     ensures { result ≡ is_opened provider swiss host.now.gifts }
 {
     match host.gifts.find(provider, swiss.0 as u128) {

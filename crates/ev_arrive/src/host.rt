@@ -54,7 +54,7 @@ pub fn value_at(reference: Reference) -> Value
 
 /// A name of that vat comes to be known, as the last.
 #[tactic(auto, using(crate::proofs::Within::inside_gives), unfolding(crate::specs::Acts::within))]
-pub(crate) fn come(host: &mut Host, vat: VatId) -> Result<PromId, Stop>
+pub fn come(host: &mut Host, vat: VatId) -> Result<PromId, Stop>
     ensures { Gives result host.new (within (changes.come vat) host.old) }
 {
     changes::come(&mut host.inside, vat)
@@ -62,7 +62,7 @@ pub(crate) fn come(host: &mut Host, vat: VatId) -> Result<PromId, Stop>
 
 /// A name that settled elsewhere is known, or comes to be known.
 #[tactic(auto, unfolding(crate::specs::Acts::learn_subject, crate::specs::Acts::give))]
-pub(crate) fn learn_subject(host: &mut Host, subject: Subject) -> Result<PromId, Stop>
+pub fn learn_subject(host: &mut Host, subject: Subject) -> Result<PromId, Stop>
     ensures { Gives result host.new (learn_subject subject host.old) }
 {
     match subject {
@@ -89,7 +89,7 @@ pub(crate) fn send_out(host: &mut Host, to: VatId, note: Note) -> Result<(), Sto
 
 /// A name settles to a value, and what waits at it goes on.
 #[tactic(auto, using(crate::proofs::Within::inside_gives), unfolding(crate::specs::Acts::within))]
-pub(crate) fn settle_name(host: &mut Host, name: PromId, value: &Value) -> Result<(), Stop>
+pub fn settle_name(host: &mut Host, name: PromId, value: &Value) -> Result<(), Stop>
     ensures { Gives result host.new (within (settling.settle name value.now) host.old) }
 {
     settle(&mut host.inside, name, value)

@@ -17,7 +17,7 @@ use ev_settle::changes;
 
 /// The next word is drawn.
 #[tactic(auto, using(crate::proofs::Within::inside_gives), unfolding(crate::specs::Acts::within))]
-fn draw(host: &mut Host) -> Result<Swiss, Stop>
+pub fn draw(host: &mut Host) -> Result<Swiss, Stop>
     ensures { Gives result host.new (within pass.draw host.old) }
 {
     host.inside.draw()
@@ -33,7 +33,7 @@ fn see(host: &mut Host, name: PromId, gift: PromId) -> Result<(), Stop>
 
 /// The vat that tells of a name: this one, where it is not known.
 #[tactic(auto, using(crate::proofs::Standings::host_stands, crate::proofs::Standings::host_unknown))]
-fn host_of(host: &Host, name: PromId) -> VatId
+pub fn host_of(host: &Host, name: PromId) -> VatId
     ensures { result ≡ host_of host.now.inside.refs name }
 {
     if name.0 < host.inside.refs.count() {

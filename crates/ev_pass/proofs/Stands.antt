@@ -19,7 +19,7 @@ use Rattle.ev_pass.specs.declared.interior.Interior.{Interior}
 use Rattle.ev_pass.specs.declared.interior.Stop.TheVariants.{Fuel, Repeated, Astray, Missing, Memory}
 use Rattle.ev_pass.proofs.Ways.{same_partition, same_cycle}
 
-so_many_words : (key : List ℕ) (n : ℕ) → length (words_by key n) ≡ n
+pub so_many_words : (key : List ℕ) (n : ℕ) → length (words_by key n) ≡ n
 unfolding words_by
 so_many_words key zero = refl
 so_many_words key (suc n) = omega (arith, so_many_words key n, length-append (words_by key n) (word key n ∷ []))

@@ -22,7 +22,7 @@ pub enum Stop {
     Repeated(u64, u64),
     /// More settlings would stand one in another than names are known.
     Astray,
-    /// A text that the heap does not have was to be weighed.
+    /// A text or a list that the heap does not have was to be weighed, or a list that came in is above the limits.
     Missing,
     Memory,
 }

@@ -1,0 +1,6 @@
+pub mod Kept
+pub mod Learns
+pub mod Hears
+pub mod Arrives
+pub mod Received
+pub mod Receives

@@ -1,0 +1,6 @@
+pub mod Bringing
+pub mod Learning
+pub mod Noting
+pub mod Receiving
+pub mod Hearing
+pub mod Statements

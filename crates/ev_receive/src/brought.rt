@@ -1,0 +1,42 @@
+//! What notes bring.
+
+use ev_arrive::host::{Carried, Incoming, Subject};
+use ev_base::{Value, VatId};
+use ev_pass::Swiss;
+use ev_word::Word;
+
+/// A value as it arrives.
+#[derive(Drop)]
+pub enum Brought {
+    /// Data, or a name that the vat knows.
+    Plain(Value),
+    /// A name that the vat comes to know, of that vat.
+    New(VatId),
+    /// A gift at that vat, which the sender provides.
+    Gift(VatId, Swiss),
+    /// A list, by its members.
+    List(Vec<Brought>),
+}
+
+/// What another vat tells this one, in this vat's numbers.
+#[derive(Drop)]
+pub enum Heard {
+    /// A message, and whether it asks for an answer.
+    Deliver {
+        message: Carried,
+        asks: bool,
+        target: Incoming,
+        verb: Word,
+        args: Vec<Brought>,
+    },
+    /// The sender's gift under that word is this.
+    Open(Swiss, Incoming),
+    /// The gift of that provider under that word is asked for.
+    Ask(VatId, Swiss),
+    /// A name settled to that.
+    Settled(Subject, Brought),
+    /// A name settled to an object of that vat.
+    Elsewhere(Subject, VatId),
+    /// The object that the name settled to is wanted as a gift under that word.
+    Shorten(Incoming, Swiss),
+}

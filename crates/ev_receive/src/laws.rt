@@ -1,0 +1,28 @@
+//! What notes that come in mean in the machine, in local numbers.
+
+ghost use Rattle.ev_receive.specs.Statements.{ArrivesAsTheMachine, DeliversNotesAsTheMachine, LearnsAsTheMachine, ReceivesAsTheMachine, SettlesAsTheMachine};
+
+/// A value of a note comes to be here (`learn`) as in the machine.
+pub fn learns_as_the_machine()
+    ensures { LearnsAsTheMachine }
+{}
+
+/// A message arrives whole (`arrive_deliver`) as in the machine.
+pub fn delivers_notes_as_the_machine()
+    ensures { DeliversNotesAsTheMachine }
+{}
+
+/// A name settled to what a note says (`arrive_settled`) as in the machine.
+pub fn settles_as_the_machine()
+    ensures { SettlesAsTheMachine }
+{}
+
+/// Each note arrives (`arrive`) as in the machine.
+pub fn arrives_as_the_machine()
+    ensures { ArrivesAsTheMachine }
+{}
+
+/// Each note is received (`receive`) as in the machine, where the code is told what the names of the vat tell.
+pub fn receives_as_the_machine()
+    ensures { ReceivesAsTheMachine }
+{}
