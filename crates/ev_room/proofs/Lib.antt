@@ -17,3 +17,4 @@ pub mod Weights
 pub mod Plain
 pub mod Frozen
 pub mod Words
+pub mod Inside

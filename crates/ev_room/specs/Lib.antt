@@ -2,3 +2,4 @@ pub mod Acts
 pub mod Takings
 pub mod Reading
 pub mod Sound
+pub mod Inside

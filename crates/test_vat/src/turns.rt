@@ -75,7 +75,7 @@ fn problems(rt: HostRuntime) -> Result<(), Fail> {
 #[test]
 fn texts(rt: HostRuntime) -> Result<(), Fail> {
     let alloc = rt.alloc();
-    let written = some(Ended::Value(Value::Text(TextId(43))), 3, 2);
+    let written = some(Ended::Value(Value::Text(TextId(45))), 3, 2);
     let joined = "(call (lit \"ab\") add (lit \"c\"))";
     assert_eq!(rt; run(alloc, joined, 9, 9)?, written);
     assert_eq!(rt; run(alloc, joined, 5, 9)?, some(Ended::Fuel, 2, 1));
