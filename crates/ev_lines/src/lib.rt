@@ -5,4 +5,4 @@ mod digits;
 mod text;
 
 pub use digits::{bytes_32, number, spelled_number};
-pub use text::{lines, split};
+pub use text::{lines, split, text_of};

@@ -2,10 +2,22 @@
 
 ghost use Rattle.std.specs.Prelude.{◌≡◌, IfOk, map, option_map};
 ghost use Rattle.std.specs.List.{slice_split};
-ghost use Rattle.ev_lines.specs.Lines.{is_line_feed, lines, split};
+ghost use Rattle.ev_lines.specs.Lines.{is_line_feed, lines, split, text_of};
 
 use ev_base::Memory;
 use std::alloc::Global;
+use std::str;
+
+/// The text that bytes are, where they are UTF-8.
+#[tactic(auto, using(crate::proofs::Texts::not_utf8, crate::proofs::Texts::is_text))]
+pub fn text_of(bytes: &[u8]) -> Option<&str>
+    ensures { option_map (λ text. text.now) result ≡ text_of bytes.now }
+{
+    match str::from_utf8(bytes) {
+        Ok(text) => Some(text),
+        Err(_) => None,
+    }
+}
 
 /// The parts between line feeds.
 fn parts<'t>(alloc: Global, text: &'t str) -> Result<Vec<&'t str>, Memory>
