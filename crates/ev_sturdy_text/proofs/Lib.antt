@@ -1,1 +1,3 @@
 mod Earlier
+mod Turns
+pub mod Reached

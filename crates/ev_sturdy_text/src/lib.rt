@@ -2,7 +2,10 @@
 #![tactic(auto)]
 
 pub mod answers;
+pub mod laws;
 pub mod sheet;
+pub mod telling;
 
 pub use answers::{Answer, Reply};
 pub use sheet::{Line, Sheet, read_sheet};
+pub use telling::{Told, tell};
