@@ -1,5 +1,5 @@
 -- How lines, words and numbers are spelled.
-use Rattle.std.specs.Prelude.{ℕ, ◌-◌, ◌==◌, nat_le, nat_lt, Bool, false, not, ◌&&◌, ◌||◌, if◌then◌else◌, List, [], ◌∷◌, length, take, slice_index_or, Some, None, option_map}
+use Rattle.std.specs.Prelude.{ℕ, ℤ, pos, neg_ℤ, ◌^◌, ◌-◌, ◌==◌, nat_le, nat_lt, Bool, false, not, ◌&&◌, ◌||◌, if◌then◌else◌, List, [], ◌∷◌, length, take, slice_index_or, Some, None, option_map}
 use Rattle.std.specs.declared.option.Option.{Option}
 use Rattle.std.specs.Int.{w128, from_le_bytes}
 use Rattle.std.specs.List.{list_all, position_or_len, before_first, after_first, slice_split}
@@ -51,6 +51,14 @@ bounded most digits = if nat_lt 0 (length digits) && nat_le (digits_value 10 dig
 -- the number that a text spells, where it is not above the greatest
 abbrev pub number : ℕ → List ℕ → Option ℕ
 number most text = if is_numeral text then bounded most text else None
+
+-- an integer of 128 bits, with `-` before a number that is not 0
+abbrev pub positive : List ℕ → Option ℕ
+positive digits = if begins_with_zero digits then None else number (2 ^ 127) digits
+
+abbrev pub integer : List ℕ → Option ℤ
+integer [] = None
+integer (c ∷ cs) = if c == 45 then option_map (λ n. neg_ℤ (pos n)) (positive cs) else option_map pos (number (2 ^ 127 - 1) (c ∷ cs))
 
 -- ---- bytes, each as two digits out of 0 to 9 and a to f, the higher first
 

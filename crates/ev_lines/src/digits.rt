@@ -1,11 +1,12 @@
 //! Numbers in decimal, and bytes by their digits.
 
-ghost use Rattle.std.specs.Prelude.{◌≡◌, ◌≤◌, IfSome, IsTrue};
+ghost use Rattle.std.specs.Prelude.{◌≡◌, ◌≤◌, ◌-◌, ◌^◌, ◌∷◌, IfSome, IsTrue, neg_ℤ, option_map, pos};
 ghost use Rattle.std.specs.Char.{is_ascii_digit};
 ghost use Rattle.std.specs.List.{list_all};
 ghost use Rattle.std.specs.Str.{all_ascii_digits};
-ghost use Rattle.ev_lines.specs.Lines.{begins_with_zero, bounded, bytes, is_lower_digit, is_numeral, number, spelled_number};
+ghost use Rattle.ev_lines.specs.Lines.{begins_with_zero, bounded, bytes, integer, is_lower_digit, is_numeral, number, positive, spelled_number};
 
+use ev_integer::read_decimal;
 use hex::FromHex;
 
 /// Whether each byte is a decimal digit.
@@ -25,12 +26,12 @@ fn begins_with_zero(bytes: &[u8]) -> bool
     }
 }
 
-/// Whether the text has digits alone, and no leading zero but in `0` itself.
+/// Whether the bytes are digits alone, with no leading zero but in `0` itself.
 #[tactic(auto, using(ev_integer::proofs::DigitLemmas::all_are_digits))]
-fn is_numeral(text: &str) -> bool
-    ensures { result ≡ is_numeral text.now }
+fn is_numeral(bytes: &[u8]) -> bool
+    ensures { result ≡ is_numeral bytes.now }
 {
-    are_digits(text.as_bytes()) && (text.len() == 1 || !begins_with_zero(text.as_bytes()))
+    are_digits(bytes) && (bytes.len() == 1 || !begins_with_zero(bytes))
 }
 
 /// The number of the digits, where it is not above the greatest.
@@ -50,10 +51,44 @@ pub fn number(text: &str, most: u64) -> Option<u64>
     ensures value { result ≡ number most text.now }
     ensures small { IfSome result (λ value. value ≤ most) }
 {
-    if !is_numeral(text) {
+    if !is_numeral(text.as_bytes()) {
         return None;
     }
     bounded(text, most)
+}
+
+/// The integer of a text without a sign.
+#[tactic(auto, using(crate::proofs::Parsed::unsigned_none, crate::proofs::Parsed::unsigned_is))]
+fn unsigned_integer(text: &[u8]) -> Option<i128>
+    ensures { result ≡ option_map pos (number (2 ^ 127 - 1) text.now) }
+{
+    if !is_numeral(text) {
+        return None;
+    }
+    read_decimal(text)
+}
+
+/// The integer of a text that is `-` and these digits.
+#[tactic(auto, using(crate::proofs::Parsed::negative_none))]
+fn negative_integer(text: &str, digits: &[u8]) -> Option<i128>
+    requires { text.now ≡ 45 ∷ digits.now }
+    ensures { result ≡ option_map (λ n. neg_ℤ (pos n)) (positive digits.now) }
+{
+    if begins_with_zero(digits) || !is_numeral(digits) {
+        return None;
+    }
+    text.parse::<i128>().ok()
+}
+
+/// The integer that a text spells in decimal without a leading zero, with `-` before one below 0.
+pub fn integer(text: &str) -> Option<i128>
+    ensures { result ≡ integer text.now }
+{
+    match text.as_bytes() {
+        [] => None,
+        [b'-', digits @ ..] => negative_integer(text, digits),
+        _ => unsigned_integer(text.as_bytes()),
+    }
 }
 
 fn is_lower_digit(byte: u8) -> bool

@@ -4,5 +4,5 @@
 mod digits;
 mod text;
 
-pub use digits::{bytes_32, number, spelled_number};
+pub use digits::{bytes_32, integer, number, spelled_number};
 pub use text::{lines, split, text_of};
