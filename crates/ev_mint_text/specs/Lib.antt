@@ -1,2 +1,4 @@
-pub mod Orders
 pub mod Answers
+pub mod Laws
+pub mod Orders
+pub mod Telling

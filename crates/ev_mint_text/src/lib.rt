@@ -2,7 +2,10 @@
 #![tactic(auto)]
 
 pub mod answers;
+pub mod laws;
 pub mod orders;
+pub mod telling;
 
 pub use answers::Answer;
 pub use orders::{Order, read_orders};
+pub use telling::tell;
