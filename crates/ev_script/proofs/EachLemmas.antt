@@ -3,6 +3,7 @@ use Rattle.std.proofs.Common.{◌≡◌, ◌<◌, ◌≤◌, ◌+◌, ◌++◌, 
 use Rattle.std.specs.Prelude.{option_map, option_and_then}
 use Rattle.std.specs.List.{list_all}
 use Rattle.std.proofs.lemmas.Grind.{common_steps}
+use Rattle.std.proofs.lemmas.List.{get_or_default}
 use Rattle.ev_script.specs.Json.{each}
 
 pub nothing_behind : {A : Type 0} (xs : List A) (i : ℕ) → length xs ≤ i → drop i xs ≡ []
@@ -91,3 +92,13 @@ all_pass p whole xs i h so_far = ap (list_all p) (sym (nothing_behind xs i h)) �
 pub list_all_map : {A B : Type 0} (p : B → Bool) (g : A → B) (xs : List A) → list_all p (map g xs) ≡ list_all (λ x. p (g x)) xs
 list_all_map p g [] = refl
 list_all_map p g (x ∷ xs) = ap (λ b. p (g x) && b) (list_all_map p g xs)
+
+-- ---- the same of a loop over items that are read by their place
+
+pub goes_at : {A B : Type 0} (f : A → Option B) (d : A) (y : B) (done more : List B) (whole : Option (List B)) (xs : List A) (i : ℕ) → i < length xs
+    → done_and done (each f (drop i xs)) ≡ whole → f (get_or xs i d) ≡ Some y → more ≡ done ++ y ∷ [] → done_and more (each f (drop (i + 1) xs)) ≡ whole
+goes_at f d y done more whole xs i lt = goes f (get_or xs i d) y done more whole xs i lt (get_or_default xs i d (get_or xs i d) lt)
+
+pub stops_at : {A B : Type 0} (f : A → Option B) (d : A) (done : List B) (whole : Option (List B)) (xs : List A) (i : ℕ) → i < length xs
+    → done_and done (each f (drop i xs)) ≡ whole → f (get_or xs i d) ≡ None → None ≡ whole
+stops_at f d done whole xs i lt = stops f (get_or xs i d) done whole xs i lt (get_or_default xs i d (get_or xs i d) lt)

@@ -1,11 +1,12 @@
 -- The entries of a schedule: how each is spelled, which vats it names, and how many there are once drains are written out.
-use Rattle.std.specs.Prelude.{ℕ, ◌==◌, nat_le, nat_lt, Bool, true, false, not, ◌&&◌, ◌||◌, if◌then◌else◌, List, [], ◌∷◌, ◌++◌, length, codes, map, Some, None, is_some, option_map, option_and_then}
-use Rattle.std.specs.List.{list_any, list_all, flat_map, repeat, range_with_len, position_or_len, before_first, after_first}
+use Rattle.std.specs.Prelude.{ℕ, ◌==◌, nat_le, Bool, true, false, not, ◌&&◌, ◌||◌, if◌then◌else◌, List, [], ◌∷◌, ◌++◌, length, codes, map, Some, None, is_some, option_map, option_and_then}
+use Rattle.std.specs.List.{list_any, list_all, flat_map, repeat, range_with_len}
 use Rattle.std.specs.declared.option.Option.{Option}
 use Rattle.std.specs.Str.{bytes_eq, all_ascii_digits}
 use Rattle.std.specs.Str.Parse.{digits_value}
 use Rattle.serde_json.specs.Data.{Data}
 use Rattle.serde_json.specs.Find.{as_str}
+use Rattle.ev_lines.specs.Lines.{is_space, split}
 use Rattle.ev_script.specs.Json.{◌>>=◌, list_at}
 use Rattle.ev_script.specs.Vats.{place_of}
 use Rattle.ev_script.specs.declared.script.Entry.{Entry}
@@ -18,13 +19,6 @@ use Rattle.ev_script.specs.declared.entries.Step.{Step}
 use Rattle.ev_script.specs.declared.entries.Step.TheVariants as step
 
 -- ---- the spelling: words with one space between them
-
-abbrev pub is_space : ℕ → Bool
-is_space c = c == 32
-
--- the text before the first space, and the text behind it
-abbrev pub split : List ℕ → Option (List ℕ × List ℕ)
-split text = if nat_lt (position_or_len is_space text) (length text) then Some (before_first is_space text, after_first is_space text) else None
 
 -- a word has at least one character and no space
 abbrev pub is_word : List ℕ → Bool

@@ -176,15 +176,15 @@ impl Mints {
     /// Issues money into a new purse, and gives its number. A refusal changes nothing.
     #[tactic(auto, using(crate::proofs::Sound::sound_after))]
     pub fn issue(&mut self, mint: u64, amount: u64) -> Result<u64, MintFault>
-        requires mint { mint < length self.now.totals }
-        requires amount { amount ≤ most }
+        requires { mint < length self.now.totals }
         ensures number { IfOk result (λ number. (total_of mint self.old.totals + amount ≤ most) × (number ≡ length self.old.purses)) }
         ensures ok { OnOk result (self.new ≡ issued mint amount self.old) }
         ensures fault { IfErr result (λ e. IsIssueFault (total_of mint self.old.totals) amount e) }
         ensures err { OnErr result (self.new ≡ self.old) }
     {
         let total = total_in(&self.totals, mint as usize);
-        if total + amount > MOST {
+        let room = MOST - total;
+        if amount > room {
             return Err(MintFault::TooMuch(total));
         }
         let number = self.purses.len() as u64;

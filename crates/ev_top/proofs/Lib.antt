@@ -1,4 +1,3 @@
-pub mod Texts
 pub mod GivenNames
 pub mod DueLemmas
 pub mod OneReading

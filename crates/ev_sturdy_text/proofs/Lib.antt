@@ -1,0 +1,3 @@
+mod Earlier
+mod Turns
+pub mod Reached
