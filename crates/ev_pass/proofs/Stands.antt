@@ -58,7 +58,7 @@ module _ (ts : List Words) (key : List ℕ) (line : Lines) (s : Vat Local) where
   unfolding code.spend machine.spend
   spend_is n i good = spent_is n (nat_le n i.micro.fuel) i good
 
-  lines_more : (es : List Event) (e : Event) → lines_of line (es ++ e ∷ []) ≡ lines_of line es ++ line e
+  pub lines_more : (es : List Event) (e : Event) → lines_of line (es ++ e ∷ []) ≡ lines_of line es ++ line e
   unfolding lines_of
   lines_more [] e = append-nil (line e)
   lines_more (x ∷ es) e = rw (lines_more es e) (sym (append_assoc (line x) (lines_of line es) (line e)))

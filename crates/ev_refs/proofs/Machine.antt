@@ -52,7 +52,7 @@ module _ (word : ℕ → ℕ) (ts : List Words) where
   pub entry_is : (ks : List Known) (n : ℕ) → entry_of (names word) (knowns_by ts 0 ks) (Prom n) ≡ option_map (known_by ts n) (slice_get ks n)
   entry_is ks n = entry_from ks 0 n n (omega arith)
 
-  object_unknown : (ks : List Known) (m i : ℕ) → entry_of (names word) (knowns_by ts m ks) (Obj i) ≡ None
+  pub object_unknown : (ks : List Known) (m i : ℕ) → entry_of (names word) (knowns_by ts m ks) (Obj i) ≡ None
   unfolding entry_of knowns_by numbering same_local
   object_unknown [] m i = refl
   object_unknown (k ∷ ks) m i = object_unknown ks (suc m) i

@@ -1,5 +1,5 @@
 -- What the state of the code stands for, and how its single steps stand for the machine's.
-use Rattle.std.proofs.Common.{◌≡◌, ℕ, suc, ◌+◌, ◌<◌, nat_lt, Bool, true, false, List, [], ◌∷◌, ◌++◌, Option, None, Ok, Err, length, map, refl, sym, ap, subst, ◌∙◌, arith, append_assoc, append-nil}
+use Rattle.std.proofs.Common.{◌≡◌, ℕ, suc, ◌+◌, ◌<◌, nat_lt, Bool, true, false, List, [], ◌∷◌, ◌++◌, Option, None, Ok, Err, length, map, refl, sym, ap, subst, ◌∙◌, arith, append_assoc}
 use Rattle.std.specs.Prelude.{slice_get, codes, if◌then◌else◌, nat_le, unwrap_or}
 use Rattle.std.proofs.lemmas.List.{length-append, length-map}
 use Rattle.ev_base.specs.declared.values.Value.{Value as Held}
@@ -9,7 +9,7 @@ use Rattle.ev_heap.specs.declared.kept.Listed.{Listed}
 use Rattle.ev_heap.specs.declared.happened.Happened.{Happened as Event}
 use Rattle.ev_heap.specs.declared.happened.Happened.TheVariants as event
 use Rattle.def_kernel.specs.declared.node.Node.{Node}
-use Rattle.def_machine.specs.Values.{Words, Value, Text, Items, Ref, Local, Obj, same_local, local_spot, numbering}
+use Rattle.def_machine.specs.Values.{Words, Value, Text, Items, Ref, Local, Obj, local_spot, numbering}
 use Rattle.def_machine.specs.State.{Bound, Fixed, Slot, Binding as Bond, Scope as Surroundings, Happened, ListMade, Known, Vat, Done, Throws, Ejects, Stops, Fuel, Deep, Astray, opened_state}
 use Rattle.def_machine.specs.State as machine
 use Rattle.def_machine.specs.Refs.{follow, follow_at, led, standing_of, standing_in, severed, severed_at, entry_of, list_fits}
@@ -29,8 +29,8 @@ use Rattle.ev_room.specs.declared.scope.Bound.{Bound as Kept}
 use Rattle.ev_room.specs.declared.scope.Bound.TheVariants as scope
 use Rattle.ev_room.specs.declared.scope.Scope.{Scope}
 use Rattle.ev_refs.specs.Reading.{knowns_by}
-use Rattle.ev_refs.specs.declared.known.Known.{Known as HeldKnown}
-use Rattle.ev_pass.specs.Reading as inside
+use Rattle.ev_refs.proofs.Machine.{object_unknown}
+use Rattle.ev_pass.proofs.Stands.{lines_more}
 use Rattle.ev_room.specs.Reading.{World, names, texts_of, text_of, value_of, values_of, members_of, line_of, lines_of, vat_of}
 use Rattle.ev_audit.specs.Views.{guard_of}
 use Rattle.ev_room.specs.Sound.{Grown, Stays, IsSound, is_there, are_there, are_bound, problems}
@@ -265,14 +265,9 @@ pub spend_met : (w : World) (n : ℕ) (s : Room) → IsSound s.heap → Met w it
 unfolding spend opened_state vat_of
 spend_met w n s sound = spent_met w n (nat_le n s.micro.fuel) s sound
 
-lines_more : (w : World) (es : List Event) (e : Event) → lines_of w (es ++ e ∷ []) ≡ lines_of w es ++ line_of w e
-unfolding inside.lines_of
-lines_more w [] e = append-nil (line_of w e)
-lines_more w (x ∷ es) e = rw (lines_more w es e) (sym (append_assoc (line_of w x) (lines_of w es) (line_of w e)))
-
 told : (w : World) (es : List Event) (e : Event) (h : Happened Local) → line_of w e ≡ h ∷ []
     → (w.before.happened ++ lines_of w es) ++ h ∷ [] ≡ w.before.happened ++ lines_of w (es ++ e ∷ [])
-told w es e h is = rw (lines_more w es e, is) (append_assoc w.before.happened (lines_of w es) (h ∷ []))
+told w es e h is = rw (lines_more (texts_of w) [] (line_of w) w.before es e, is) (append_assoc w.before.happened (lines_of w es) (h ∷ []))
 
 pub tell_met : (w : World) (e : Event) (h : Happened Local) (s : Room) → IsSound s.heap → line_of w e ≡ h ∷ [] → Met w itself s (tell e s) (machine.tell h (vat w s))
 unfolding opened_acts opened_state vat_of
@@ -464,11 +459,6 @@ list_met w tree act vs s sound i = listed_met w tree act vs (are_there s.heap vs
 
 -- ---- following
 
-no_entry : (w : World) (ts : List Words) (n : ℕ) (ks : List HeldKnown) (i : ℕ) → entry_of (names w) (knowns_by ts n ks) (Obj i) ≡ None
-unfolding entry_of knowns_by numbering same_local
-no_entry w ts n [] i = refl
-no_entry w ts n (k ∷ ks) i = no_entry w ts (suc n) ks i
-
 follow_none : (w : World) (v : Vat Local) (i : ℕ) → entry_of (names w) v.known (Obj i) ≡ None → follow (names w) v (Ref (Obj i)) ≡ Ref (Obj i)
 unfolding follow follow_at led standing_of standing_in severed severed_at numbering local_spot
 follow_none w v i e = ap (λ (o : Option (Known Local)). severed (names w) v (led (names w) (λ y. follow_at (names w) (length v.known) v.known y) (Obj i) (standing_in o))) e
@@ -478,7 +468,7 @@ unfolding vat_of
 known_is w s = refl
 
 follow_object : (w : World) (s : Room) (i : ℕ) → follow (names w) (vat w s) (Ref (Obj i)) ≡ Ref (Obj i)
-follow_object w s i = follow_none w (vat w s) i (rw (known_is w s) (no_entry w (texts_of w) 0 s.refs.known i))
+follow_object w s i = follow_none w (vat w s) i (rw (known_is w s) (object_unknown w.word (texts_of w) s.refs.known 0 i))
 
 -- what stands in the heap is followed to itself
 pub follow_there : (w : World) (s : Room) (h : Contents) (x : Held) → is_there h x ≡ true → follow (names w) (vat w s) (value_of w x) ≡ value_of w x
