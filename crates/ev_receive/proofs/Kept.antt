@@ -16,7 +16,7 @@ both : (a b : Bool) → (if a then b else false) ≡ true → (a ≡ true) × (b
 both true b h = (refl, h)
 both false b h = cc
 
-below : (a b : ℕ) → nat_lt a b ≡ true → a < b
+pub below : (a b : ℕ) → nat_lt a b ≡ true → a < b
 below a b e = grind (arith, nat_tests)
 
 weighable : (h : Contents) (v : Value) → is_kept h v ≡ true → IsWeighable h v

@@ -4,3 +4,4 @@ pub mod Hears
 pub mod Arrives
 pub mod Received
 pub mod Receives
+pub mod Fits

@@ -3,4 +3,5 @@ pub mod Learning
 pub mod Noting
 pub mod Receiving
 pub mod Hearing
+pub mod Fitting
 pub mod Statements

@@ -1,5 +1,6 @@
 //! What notes that come in mean in the machine, in local numbers.
 
+ghost use Rattle.ev_receive.specs.Fitting.{FittingValuesAreLearnt};
 ghost use Rattle.ev_receive.specs.Statements.{ArrivesAsTheMachine, DeliversNotesAsTheMachine, LearnsAsTheMachine, ReceivesAsTheMachine, SettlesAsTheMachine};
 
 /// A value of a note comes to be here (`learn`) as in the machine.
@@ -25,4 +26,10 @@ pub fn arrives_as_the_machine()
 /// Each note is received (`receive`) as in the machine, where the code is told what the names of the vat tell.
 pub fn receives_as_the_machine()
     ensures { ReceivesAsTheMachine }
+{}
+
+/// A value of a note is learnt (`learn`) where it fits the heap: the heap has its texts and lists, and the lists in it weigh at most
+/// 65,536 and are at most 100 high. So of no such value does the vat stop, whoever sent it.
+pub fn fitting_values_are_learnt()
+    ensures { FittingValuesAreLearnt }
 {}
