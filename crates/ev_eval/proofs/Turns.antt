@@ -35,7 +35,7 @@ use Rattle.ev_steps.specs.Built.{is_built_node, is_built}
 use Rattle.ev_room.specs.Sound.{is_built_safe}
 use Rattle.ev_room.specs.Reading.{World, names, all_promises, text_of, value_of, values_of, members_of, vat_of}
 use Rattle.ev_room.specs.Sound.{Grown, IsSound, is_there, are_there, is_bound, are_bound, problems}
-use Rattle.ev_steps.specs.Steps.{Evaluator, Caller, call_value, call_at, call, gathered, last_of, call_node, define, literal_value, literal_node, noun_node, set_node, within, choose, if_node, step, bind_final, bind_var, bind_any, bind_step, step_found, bind_found, deeper, evaluator, opening}
+use Rattle.ev_steps.specs.Steps.{Evaluator, Caller, call_value, call_at, call, gathered, last_of, call_node, define, literal_value, literal_node, noun_node, set_node, within, choose, if_node, step, bind_step, step_found, bind_found, deeper, evaluator, opening}
 use Rattle.ev_room.specs.Acts.{Out, Gives, ◌>>=◌, ◌>>◌, give, found_from, with_noun}
 use Rattle.ev_eval.specs.Turn.{Ends, EndsAs, GivesThere, evaluated, opened}
 use Rattle.ev_steps.proofs.Calls.{CallsMet, call_data_met}
@@ -43,7 +43,7 @@ use Rattle.ev_steps.proofs.Grows.{deeper_grows, none_grows}
 use Rattle.ev_room.proofs.Behind.{Grows, same, onward, cut_back}
 use Rattle.ev_steps.proofs.Guarded.{escape_met, try_met, finally_met, hide_met}
 use Rattle.ev_steps.proofs.IsMet.{IsMet}
-use Rattle.ev_room.proofs.Bindings.{found_is, none_bound, noun_met, onto_more, bound_more, write_met, made_line, new_slot_met}
+use Rattle.ev_room.proofs.Bindings.{found_is, none_bound, noun_met, onto_more, bound_more, made_line, new_slot_met}
 use Rattle.ev_steps.proofs.Objects.{get_built, object_met, call_object_met}
 use Rattle.ev_steps.proofs.Primitives.{primitive_met}
 use Rattle.ev_room.proofs.Sounds.{grown_same, there_on, all_on, scope_on, all_and}
