@@ -12,7 +12,7 @@ use Rattle.ev_room.specs.declared.exit.Exit.{Exit}
 use Rattle.ev_room.specs.declared.exit.Exit.TheVariants.{Thrown, Astray}
 use Rattle.ev_room.specs.declared.coercion.Coerced.{Coerced as Outcome}
 use Rattle.ev_room.specs.declared.coercion.Coerced.TheVariants as outcome
-use Rattle.ev_room.specs.declared.room.Room.{Room}
+use Rattle.ev_pass.specs.declared.interior.Interior.{Interior as Room}
 use Rattle.ev_room.specs.declared.scope.Bound.TheVariants.{Fixed, Slot}
 use Rattle.ev_room.specs.declared.scope.Scope.{Scope}
 use Rattle.ev_room.specs.Acts.{Act, Out, Gives, Unless, and_then, ◌>>=◌, ◌>>◌, give, fail, write_slot}

@@ -25,11 +25,11 @@ use Rattle.ev_prims.specs.declared.primitives.Primitive.{Primitive}
 use Rattle.ev_prims.specs.declared.primitives.Primitive.TheVariants.{Guarding}
 use Rattle.ev_room.specs.Acts.{Act, and_then, ◌>>◌, give, fail}
 use Rattle.ev_room.specs.Coercion.{coerced_by, guard_coerced, native_coerced, taken_as, there_as}
-use Rattle.ev_room.specs.Reading.{World, names, all_promises, text_of, value_of, vat_of}
+use Rattle.ev_room.specs.Reading.{World, names, text_of, value_of}
 use Rattle.ev_room.specs.Sound.{IsSound, is_there, are_there, not_a_guard_id}
 use Rattle.ev_room.specs.Takings.{is_kind, is_null, kind_takes, takes, refusal_id}
 use Rattle.ev_room.specs.declared.exit.Exit.TheVariants as exit
-use Rattle.ev_room.specs.declared.room.Room.{Room}
+use Rattle.ev_pass.specs.declared.interior.Interior.{Interior as Room}
 use Rattle.ev_room.proofs.Coercing.{primitive_is}
 use Rattle.ev_room.proofs.Sounds.{there_on, all_and}
 use Rattle.ev_room.proofs.Stands.{Look, Met, vat, a_value, known_there, follow_there, then_met, give_met, throw_met}
@@ -68,7 +68,7 @@ taken_there h g v u e i = taken_by_there h g.kind g.or_null v u e i
 
 -- ---- the problem of a refusal is among the first texts
 
-small_by : (k : Kind) (b : Bool) → nat_lt (refusal_id (record { kind = k; or_null = b })) 41 ≡ true
+small_by : (k : Kind) (b : Bool) → nat_lt (refusal_id (record { kind = k; or_null = b })) 43 ≡ true
 small_by kind.Any true = refl
 small_by kind.Void true = refl
 small_by kind.Int true = refl
@@ -90,10 +90,10 @@ small_by kind.Null false = refl
 small_by kind.Near false = refl
 small_by kind.Frozen false = refl
 
-refusal_small : (g : Guard) → nat_lt (refusal_id g) 41 ≡ true
+refusal_small : (g : Guard) → nat_lt (refusal_id g) 43 ≡ true
 refusal_small g = small_by g.kind g.or_null
 
-module _ (w : World) (fair : all_promises w.known ≡ true) (tree : List Node) (again : Caller) (their : scopes.Caller Local) (h : CallsMet w again their) where
+module _ (w : World) (tree : List Node) (again : Caller) (their : scopes.Caller Local) (h : CallsMet w again their) where
   -- ---- failings
 
   tests_null : {B : Type 0} (act : ℕ) (j : Value Local) (p : Words) (v : Vat Local)
@@ -133,7 +133,7 @@ module _ (w : World) (fair : all_promises w.known ≡ true) (tree : List Node) (
 
   pub failed_met : {A B : Type 0} (look : Look A B) (act : ℕ) (j : Held) (id : ℕ) (s : Room) → IsSound s.heap → is_there s.heap j ≡ true → nat_lt id (length s.heap.texts) ≡ true
       → Met w look s (failed {A = A} again act j id s) (perform.failed (names w) tree {A = B} their act (value_of w j) (text_of w id) (vat w s))
-  failed_met {B = B} look act j id s sound i k = rw (tests_null {B = B} act (value_of w j) (text_of w id) (vat w s), follow_there w fair s s.heap j i) (failed_by look act j id s sound i k)
+  failed_met {B = B} look act j id s sound i k = rw (tests_null {B = B} act (value_of w j) (text_of w id) (vat w s), follow_there w s s.heap j i) (failed_by look act j id s sound i k)
 
   -- ---- the ejector as it is handed on
 
@@ -156,7 +156,7 @@ module _ (w : World) (fair : all_promises w.known ≡ true) (tree : List Node) (
   null_or_it (held.Far n p) v = refl
 
   pub handed_met : (j : Held) (s : Room) → IsSound s.heap → is_there s.heap j ≡ true → Met w a_value s (give j s) (perform.handed (names w) tree (value_of w j) (vat w s))
-  handed_met j s sound i = rw (handed_is (value_of w j) (vat w s), follow_there w fair s s.heap j i, null_or_it j (vat w s)) (give_met w a_value j s sound i)
+  handed_met j s sound i = rw (handed_is (value_of w j) (vat w s), follow_there w s s.heap j i, null_or_it j (vat w s)) (give_met w a_value j s sound i)
 
   -- ---- native guards
 
@@ -182,7 +182,7 @@ module _ (w : World) (fair : all_promises w.known ≡ true) (tree : List Node) (
   there_met : (act : ℕ) (g : Guard) (v j : Held) (b : Bool) (s : Room) → IsSound s.heap → is_there s.heap v ≡ true → is_there s.heap j ≡ true → b ≡ true
       → Met w a_value s (coerced_as again act j (there_as s.heap g v b) s) (perform.native_coerce (names w) tree their act (guard_in g) (value_of w j) (value_of w v) (vat w s))
   there_met act g v j true s sound i l e =
-      rw (native_coerce_is act (guard_in g) (value_of w j) (value_of w v) (vat w s), follow_there w fair s s.heap v i, ← taken_is w tree s sound.lists v i g) (taken_met act g v j (takes s.heap g v) s sound i l refl)
+      rw (native_coerce_is act (guard_in g) (value_of w j) (value_of w v) (vat w s), follow_there w s s.heap v i, ← taken_is w tree s sound.lists v i g) (taken_met act g v j (takes s.heap g v) s sound i l refl)
   there_met act g v j false s sound i l e = absurd (cc)
 
   pub guard_coerced_met : (act : ℕ) (g : Guard) (v j : Held) (s : Room) → IsSound s.heap → is_there s.heap v ≡ true → is_there s.heap j ≡ true
