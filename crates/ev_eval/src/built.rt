@@ -48,9 +48,9 @@ fn is_built_node(node: &Node) -> bool
         Node::Hide(_) => true,
         Node::Object { auditors, .. } => auditors.is_empty(),
         Node::Method { .. } => true,
-        Node::Final(_, guard) => guard.is_none(),
-        Node::Var(_, guard) => guard.is_none(),
-        Node::Any(guard) => guard.is_none(),
+        Node::Final(_, _) => true,
+        Node::Var(_, _) => true,
+        Node::Any(_) => true,
         Node::MatchBind(_, _) => true,
         Node::ListPattern(_) => true,
         Node::Via(_, _) => true,
@@ -58,9 +58,8 @@ fn is_built_node(node: &Node) -> bool
     }
 }
 
-/// Whether each node of a program is of a kind that is evaluated so far: a literal, a noun that is
-/// `null`, `true`, `false`, a primitive on which calls are built or not in the safe scope, an assignment, a definition without an ejector, a call, a sequence, an if, an
-/// escape, a try, a finally, a hide, an object without auditors, a method, or a final, var or any pattern without a guard.
+/// Whether each node of a program is of a kind that is evaluated so far: any but a noun of the safe scope that is none of
+/// `null`, `true`, `false` and the primitives on which calls are built, and an object with auditors.
 #[tactic(auto, unfolding(ev_steps::specs::Built::is_built))]
 pub fn is_built(program: &Kernel) -> bool
     ensures { result ≡ is_built program.now }

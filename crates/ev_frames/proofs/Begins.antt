@@ -24,7 +24,7 @@ use Rattle.ev_frames.proofs.Rests.{part_pushed, unless_as, same_behind}
 
 module _ (tree : List Node) (d : ℕ) (fs gs : List Frame) (here : Scope) (s : Room) where
   pub assign_begins : (x : Words) (b : Option Bound) (e : ℕ) → b ≡ found_from None here.nouns x → gs ≡ PartOf d (length here.nouns) (Assign b) ∷ fs
-      → rest tree fs here (set_node (evaluator tree d) x e here s) ≡ rest tree gs here ((evaluator tree d).expression e here s)
+      → rest tree fs here (set_node tree (evaluator tree d) x e here s) ≡ rest tree gs here ((evaluator tree d).expression e here s)
   unfolding set_node going ◌>>=◌
   assign_begins x b e is pushed = rw (pushed, is) (sym (part_pushed tree d (Assign (found_from None here.nouns x)) fs here ((evaluator tree d).expression e here s)))
 

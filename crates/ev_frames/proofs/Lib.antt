@@ -1,5 +1,6 @@
 pub mod Begins
 pub mod Calling
+pub mod Coercing
 pub mod Ending
 pub mod Guarding
 pub mod Leafy

@@ -10,18 +10,17 @@ use Rattle.ev_room.specs.declared.exit.Exit.{Exit}
 use Rattle.ev_room.specs.declared.exit.Exit.TheVariants.{Thrown, Ejected, Deep, Astray, Unbuilt}
 use Rattle.ev_room.specs.declared.exit.Came.TheVariants.{Gave, Threw, Left}
 use Rattle.ev_pass.specs.declared.interior.Interior.{Interior as Room}
-use Rattle.ev_room.specs.declared.scope.Bound.TheVariants.{Fixed}
 use Rattle.ev_room.specs.declared.scope.Scope.{Scope}
-use Rattle.ev_room.specs.Acts.{Act, Out, Unless, Extends, and_then, ◌>>=◌, ◌>>◌, give, fail, cut, with_noun, spend, ended_by, new_ejector, kill, leave}
-use Rattle.ev_room.specs.Sound.{no_guard, not_a_list_id}
+use Rattle.ev_room.specs.Acts.{Act, Out, Unless, Extends, and_then, ◌>>=◌, ◌>>◌, give, fail, cut, spend, ended_by, new_ejector, kill, leave}
+use Rattle.ev_room.specs.Sound.{not_a_list_id}
 use Rattle.ev_room.proofs.Exits.{ends}
-use Rattle.ev_steps.specs.Steps.{Evaluator, evaluator, define_by, bind_all, bind_any, bind_asked, bind_final, bind_var, bind_list, bind_step, bind_found, bind_via, call, failed, match_ended, match_on, matched_if, not_matched}
+use Rattle.ev_steps.specs.Steps.{Evaluator, evaluator, define_by, bind_all, bind_asked, bind_list, bind_step, bind_found, bind_via, call, failed, match_ended, match_on, matched_if, not_matched}
 use Rattle.ev_steps.proofs.Depth.{pattern_deep, pattern_goes}
 use Rattle.ev_frames.specs.declared.frames.Frame.{Frame}
 use Rattle.ev_frames.specs.declared.frames.Frame.TheVariants.{Part as PartOf, Match}
-use Rattle.ev_frames.specs.declared.frames.Part.TheVariants.{Define, Yields, Then, Binds, Asks, Binding, Fails}
+use Rattle.ev_frames.specs.declared.frames.Part.TheVariants.{Define, Yields, Then, Binds, Asks, Binding}
 use Rattle.ev_frames.specs.declared.nodes.Now.{Now}
-use Rattle.ev_frames.specs.Rest.{Goes, Nested, is_null, rest, going, handled_on, bound_then, bound_as, scoped, settled, came_to, yielding}
+use Rattle.ev_frames.specs.Rest.{Goes, Nested, rest, going, handled_on, bound_then, bound_as, scoped, settled, came_to, yielding}
 use Rattle.ev_frames.proofs.Rests.{part_pushed, match_pushed, unless_as, same_behind, nested_behind, unless_so, goes_as, cut_in_front}
 use Rattle.ev_frames.proofs.Ending.{part_again, drop_some, drop_none}
 
@@ -52,10 +51,6 @@ module _ (tree : List Node) (fs : List Frame) (here there : Scope) (t : Room) (x
   pub step_ends : (o : Out Scope) (e : Exit) → Unless e (o ≡ (Err e, t)) → Unless e (rest tree fs here (bound_as o) ≡ rest tree fs there (Err e, t))
   unfolding and_then
   step_ends o e i = unless_as e (λ (y : o ≡ (Err e, t)). rw y (same_behind tree fs here there (Err e, t) x h)) i
-
-  pub final_bound : (n : Words) (v : Value) → there ≡ with_noun n (Fixed v no_guard) here → rest tree fs here (bound_as (bind_final n None v here t)) ≡ rest tree fs there (Ok (held.Null, there), t)
-  unfolding bind_final give
-  final_bound n v e = step_bound (Ok (with_noun n (Fixed v no_guard) here), t) (rw e refl)
 
   module _ (d p : ℕ) (v j : Value) (s : Room) where
     pub binding_begins : (evaluator tree d).pattern p v j here s ≡ (Ok there, t)
@@ -111,57 +106,6 @@ pub define_on : (tree : List Node) (d m p e : ℕ) (v : Value) (fs gs : List Fra
     → rest tree fs here (define_by (evaluator tree d) p e v here s) ≡ rest tree gs here ((evaluator tree d).expression e here s)
 unfolding define_by yielding going ◌>>=◌
 define_on tree d m p e v fs gs here s h n pushed = rw pushed (sym (part_again tree d m (Define p v) fs here ((evaluator tree d).expression e here s) h n))
-
--- ---- failings
-
-null_fails : (tree : List Node) (rec : Evaluator) (act : ℕ) (j : Value) (id : ℕ) (s : Room) → is_null j ≡ true → failed {A = Scope} tree rec act j id s ≡ (Err (Thrown id), s)
-unfolding failed is_null fail
-null_fails tree rec act held.Null id s e = refl
-null_fails tree rec act (held.Bool b) id s e = absurd (cc)
-null_fails tree rec act (held.Int z) id s e = absurd (cc)
-null_fails tree rec act (held.Char c) id s e = absurd (cc)
-null_fails tree rec act (held.Text n) id s e = absurd (cc)
-null_fails tree rec act (held.Broken n) id s e = absurd (cc)
-null_fails tree rec act (held.List n) id s e = absurd (cc)
-null_fails tree rec act (held.Prim n) id s e = absurd (cc)
-null_fails tree rec act (held.Obj n) id s e = absurd (cc)
-null_fails tree rec act (held.Prom n) id s e = absurd (cc)
-null_fails tree rec act (held.Far n p) id s e = absurd (cc)
-
-other_fails : (tree : List Node) (rec : Evaluator) (act : ℕ) (j : Value) (id : ℕ) (s : Room) → is_null j ≡ false
-    → failed {A = Scope} tree rec act j id s ≡ and_then (call tree rec act j (codes "run") (held.Text id ∷ []) s) (λ _. fail (Thrown id))
-unfolding failed is_null ◌>>◌
-other_fails tree rec act held.Null id s e = absurd (cc)
-other_fails tree rec act (held.Bool b) id s e = refl
-other_fails tree rec act (held.Int z) id s e = refl
-other_fails tree rec act (held.Char c) id s e = refl
-other_fails tree rec act (held.Text n) id s e = refl
-other_fails tree rec act (held.Broken n) id s e = refl
-other_fails tree rec act (held.List n) id s e = refl
-other_fails tree rec act (held.Prim n) id s e = refl
-other_fails tree rec act (held.Obj n) id s e = refl
-other_fails tree rec act (held.Prom n) id s e = refl
-other_fails tree rec act (held.Far n p) id s e = refl
-
-thrown_after : (o : Out Value) (here : Scope) (id : ℕ) → bound_as (and_then o (λ _. fail {A = Scope} (Thrown id))) ≡ and_then (settled here o) (λ x. fail (Thrown id))
-unfolding and_then give fail
-thrown_after (Ok v, t) here id = refl
-thrown_after (Err e, t) here id = refl
-
-module _ (tree : List Node) (d : ℕ) (fs gs : List Frame) (here : Scope) (s : Room) (j : Value) (id : ℕ) where
-  pub fails_at_once : is_null j ≡ true → rest tree fs here (bound_as (failed tree (evaluator tree d) here.act j id s)) ≡ rest tree fs here (Err (Thrown id), s)
-  unfolding and_then
-  fails_at_once e = rw (null_fails tree (evaluator tree d) here.act j id s e) refl
-
-  pub fails_by : (hs : List Frame) (r : Result Now Exit) (a : Scope) (u : Room) → is_null j ≡ false → gs ≡ PartOf d (length here.nouns) (Fails id) ∷ fs
-      → Goes tree r hs a u (rest tree gs here (settled here (call tree (evaluator tree d) here.act j (codes "run") (held.Text id ∷ []) s)))
-      → Goes tree r hs a u (rest tree fs here (bound_as (failed tree (evaluator tree d) here.act j id s)))
-  unfolding going
-  fails_by hs r a u e pushed g =
-      goes_as tree r hs a u (rest tree gs here (settled here (call tree (evaluator tree d) here.act j (codes "run") (held.Text id ∷ []) s))) _
-      (rw (pushed, other_fails tree (evaluator tree d) here.act j id s e)
-      (ap (λ (o : Out (Value × Scope)). rest tree fs here o) (thrown_after (call tree (evaluator tree d) here.act j (codes "run") (held.Text id ∷ []) s) here id)
-      ∙ sym (part_pushed tree d (Fails id) fs here (settled here (call tree (evaluator tree d) here.act j (codes "run") (held.Text id ∷ []) s))))) g
 
 -- ---- patterns one after another
 
@@ -240,7 +184,7 @@ module _ (tree : List Node) (d : ℕ) (fs hs : List Frame) (here a : Scope) (s u
   list_binds e g = let b : (length vs == length ps) ≡ true = grind (arith, nat_tests) in rw b g
 
   pub list_fails : (length vs ≡ length ps → ⊥)
-      → Goes tree r hs a u (rest tree fs here (bound_as (failed tree (evaluator tree d) here.act j not_a_list_id s)))
+      → Goes tree r hs a u (rest tree fs here (bound_as (failed (call tree (evaluator tree d)) here.act j not_a_list_id s)))
       → Goes tree r hs a u (rest tree fs here (bound_as (bind_list tree (evaluator tree d) ps j here vs (length vs == length ps) s)))
   unfolding bind_list
   list_fails e g = let b : (length vs == length ps) ≡ false = grind (arith, nat_tests) in rw b g
@@ -266,7 +210,7 @@ asks_on tree d m fs gs hs here a s u r p v j f verb h n pushed e g =
     asked_in (Ok v, t) = unfold and_then give going in refl
     asked_in (Err e, t) = unfold and_then give going in refl
 
-expression_after : (o : Out (Value × Scope)) (f : Value → Scope → Act Scope) → and_then o (λ x t. bound_as (f x.0 x.1 t)) ≡ bound_as (and_then o (λ x. f x.0 x.1))
+pub expression_after : (o : Out (Value × Scope)) (f : Value → Scope → Act Scope) → and_then o (λ x t. bound_as (f x.0 x.1 t)) ≡ bound_as (and_then o (λ x. f x.0 x.1))
 unfolding and_then
 expression_after (Ok x, t) f = refl
 expression_after (Err e, t) f = refl
@@ -283,18 +227,6 @@ via_begins tree d fs gs here s e p v j pushed =
 pub ends_so : (tree : List Node) (fs : List Frame) (here : Scope) (s : Room) (e : Exit) → rest tree fs here (bound_as (fail e s)) ≡ rest tree fs here (Err e, s)
 unfolding and_then fail
 ends_so tree fs here s e = refl
-
-pub var_unbuilt : (tree : List Node) (fs : List Frame) (here : Scope) (s : Room) (x : Words) (g : ℕ) (v : Value) → rest tree fs here (bound_as (bind_var x (Some g) v here s)) ≡ rest tree fs here (Err Unbuilt, s)
-unfolding bind_var and_then fail
-var_unbuilt tree fs here s x g v = refl
-
-pub any_unbuilt : (tree : List Node) (fs : List Frame) (here : Scope) (s : Room) (g : ℕ) → rest tree fs here (bound_as (bind_any (Some g) here s)) ≡ rest tree fs here (Err Unbuilt, s)
-unfolding bind_any and_then fail
-any_unbuilt tree fs here s g = refl
-
-pub any_done : (tree : List Node) (fs : List Frame) (here : Scope) (s : Room) → rest tree fs here (bound_as (bind_any None here s)) ≡ rest tree fs here (Ok (held.Null, here), s)
-unfolding bind_any and_then give
-any_done tree fs here s = refl
 
 module _ (tree : List Node) (d id : ℕ) (v j : Value) (fs : List Frame) (here : Scope) (s : Room) where
   pub begins_deep : d ≡ 0 → rest tree fs here (bound_as ((evaluator tree d).pattern id v j here s)) ≡ rest tree fs here (Err Deep, s)

@@ -13,16 +13,16 @@ use Rattle.ev_room.specs.declared.exit.Came.{Came}
 use Rattle.ev_room.specs.declared.exit.Came.TheVariants.{Gave, Threw, Left}
 use Rattle.ev_pass.specs.declared.interior.Interior.{Interior as Room}
 use Rattle.ev_room.specs.declared.scope.Scope.{Scope}
-use Rattle.ev_room.specs.Acts.{Act, Out, Unless, and_then, ◌>>=◌, ◌>>◌, give, fail, cut, write_bound, closed_by, new_activation, tell}
-use Rattle.ev_steps.specs.Steps.{Evaluator, evaluator, define_by, bind_via, match_on, match_ended, matched, match_all, try_matchers, gathered, call, last_of, choose, escaped, tried, at_last, bind_all, call_at, iterate, turns, after_turn}
+use Rattle.ev_room.specs.Acts.{Act, Out, Unless, and_then, ◌>>=◌, ◌>>◌, give, fail, cut, write_slot, closed_by, new_activation, tell}
+use Rattle.ev_steps.specs.Steps.{Evaluator, evaluator, define_by, write_bound, bind_coerced, bind_under, bind_via, match_on, match_ended, matched, match_all, try_matchers, gathered, call, last_of, choose, escaped, tried, at_last, bind_all, call_at, iterate, turns, after_turn}
 use Rattle.ev_frames.specs.declared.frames.Frame.{Frame}
 use Rattle.ev_frames.specs.declared.frames.Frame.TheVariants.{Part as PartOf, Guard as GuardOf, Match, Case as CaseOf, Body}
 use Rattle.ev_frames.specs.declared.frames.Part.{Part}
-use Rattle.ev_frames.specs.declared.frames.Part.TheVariants.{Assign, DefineBy, Define, Yields, Then, Binds, Asks, Binding, Fails, Matching, Receiver, Args, Sequence as Parts, Test, Branch}
+use Rattle.ev_frames.specs.declared.frames.Part.TheVariants.{Assign, Writes, Guarded, Coerced, DefineBy, Define, Yields, Then, Binds, Asks, Binding, Fails, Matching, Receiver, Args, Sequence as Parts, Test, Branch}
 use Rattle.ev_frames.specs.declared.frames.Guard.{Guard}
 use Rattle.ev_frames.specs.declared.frames.Guard.TheVariants.{Alone, Escape, Try, First, Last, Close, Members, Turns}
 use Rattle.ev_frames.specs.declared.nodes.Now.{Now}
-use Rattle.ev_frames.specs.declared.nodes.Now.TheVariants.{Begin, Bind, Member, Turn, Ended}
+use Rattle.ev_frames.specs.declared.nodes.Now.TheVariants.{Begin, Bind, Member, Turn, Refuse, Ended}
 
 -- a value, without the scope after it
 abbrev pub valued : Out (Value × Scope) → Out Value
@@ -73,7 +73,8 @@ args_of (Some (Call r verb args)) = args
 args_of _ = []
 
 unfoldable pub going : List Node → Evaluator → ℕ → ℕ → Part → Value → Scope → Act (Value × Scope)
-going tree rec act mark (Assign b) v here = λ s. and_then (write_bound act b v s) (λ u. give (u, here))
+going tree rec act mark (Assign b) v here = λ s. and_then (write_bound (call tree rec) act b v s) (λ u. give (u, here))
+going tree rec act mark (Writes k) v here = λ s. and_then (write_slot act k v s) (λ u. give (u, here))
 going tree rec act mark (DefineBy p e) v here = define_by rec p e v here
 going tree rec act mark (Define p j) v here = λ s. yielding v (rec.pattern p v j here s)
 going tree rec act mark (Yields u) v here = give (u, here)
@@ -81,6 +82,8 @@ going tree rec act mark (Then b) v here = rec.expression b here
 going tree rec act mark (Binds ps vs j k) v here = bound_by (bind_all rec (drop k ps) (drop k vs) j here)
 going tree rec act mark (Asks p u j) v here = bound_by (bind_via tree rec act p u j v here)
 going tree rec act mark (Binding p j) v here = bound_by (rec.pattern p v j here)
+going tree rec act mark (Guarded t u j) v here = bound_by (bind_under tree rec act t u j v here)
+going tree rec act mark (Coerced t g) v here = bound_by (bind_coerced act t g v here)
 going tree rec act mark (Fails id) v here = fail (Thrown id)
 going tree rec act mark (Matching p) v here = match_on tree rec act p v here
 going tree rec act mark (Receiver n) v here = call_on tree rec act v (verb_of (slice_get tree n)) [] (args_of (slice_get tree n)) here
@@ -143,6 +146,7 @@ abbrev pub due_of : List Node → Now → List Frame → Scope → Room → Out 
 due_of tree (Begin d id) fs here s = rest tree fs here ((evaluator tree d).expression id here s)
 due_of tree (Member d n f k v) fs here s = rest tree fs here (settled here (call_at tree (evaluator tree d) n here.act f (codes "run") (held.Int (pos k) ∷ v ∷ []) s))
 due_of tree (Turn d n f) fs here s = rest tree fs here (settled here (call_at tree (evaluator tree d) n here.act f (codes "run") [] s))
+due_of tree (Refuse d n j id) fs here s = rest tree fs here (settled here (call_at tree (evaluator tree d) n here.act j (codes "run") (held.Text id ∷ []) s))
 due_of tree (Bind d p v j) fs here s = rest tree fs here (bound_as ((evaluator tree d).pattern p v j here s))
 due_of tree (Ended c) fs here s = rest tree fs here (came_to c here s)
 

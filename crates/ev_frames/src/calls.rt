@@ -13,6 +13,7 @@ ghost use Rattle.ev_base.specs.declared.values.Value.TheVariants.{Obj};
 ghost use Rattle.ev_frames.specs.Rest.{Goes, Nested, Stays, activated, bound_then, opened_method, rest, settled, valued};
 ghost use Rattle.ev_frames.specs.declared.frames.Frame.TheVariants.{Body};
 
+use crate::failings::coerces;
 use crate::frames::{Frame, Frames, Guard};
 use crate::guards::guard;
 use crate::matchers::matchers_begin;
@@ -24,6 +25,7 @@ use ev_base::{ActId, Memory, NodeId, ObjId, PrimId, Value};
 use ev_heap::Heap;
 use ev_prims::{Asked, Problem, Reply, Test, ask, compare, data_reply, range};
 use ev_room::call::closed;
+use ev_room::coercion::null_or;
 use ev_room::data::{call_there, is_there, make_list, problem_id, thrown_id, write_text};
 use ev_room::ejector::call_ejector;
 use ev_room::exit::{Came, Exit};
@@ -255,6 +257,13 @@ fn perform(
         Asked::Loops(object) => {
             let most = u64::from(room.micro.fuel) + 1;
             turns_from(program, depth, levels, object, most, frames, here, room)
+        }
+        Asked::Coerces(guard, specimen, ejector) => coerces(
+            program, depth, levels, guard, specimen, ejector, frames, here, room,
+        ),
+        Asked::AddsNull(value) => {
+            let reply = null_or(value);
+            replied(program, depth, levels, reply, frames, here, room)
         }
         Asked::ThrowsIt(value) => Err(Exit::Thrown(thrown_id(value))),
         Asked::NoMethod => Err(Exit::Thrown(problem_id(Problem::NoMethod))),

@@ -2,10 +2,12 @@
 
 ghost use Rattle.std.specs.Prelude.{◌≡◌, [], ◌∷◌, MatchOption, OnOk};
 
-use ev_base::{Memory, NodeId, ObjId, Seq, TextId, Value};
+use ev_base::{Memory, NodeId, ObjId, Seq, SlotId, TextId, Value};
+use ev_heap::GuardKind;
 use ev_room::exit::Came;
 use ev_room::scope::{Bound, Scope};
 use ev_steps::matchers::Matcher;
+use ev_steps::target::Target;
 use std::alloc::Global;
 use std::marker::Model;
 
@@ -14,6 +16,12 @@ use std::marker::Model;
 pub enum Part {
     /// An assignment, with what its noun stood for before.
     Assign(Option<Bound>),
+    /// An assignment to a slot whose guard, an object, coerces the value.
+    Writes(SlotId),
+    /// A pattern whose guard is evaluated, with what it binds, its specimen and its ejector.
+    Guarded(Target, Value, Value),
+    /// A pattern whose guard, an object, coerces the specimen, with what it binds.
+    Coerced(Target, GuardKind),
     /// A definition whose ejector is evaluated, with its pattern and the expression of its value.
     DefineBy(NodeId, NodeId),
     /// A definition, with its pattern and its ejector.

@@ -2,7 +2,9 @@
 #![tactic(auto)]
 
 pub mod calls;
+pub mod coercions;
 pub mod ends;
+pub mod failings;
 pub mod frames;
 pub mod guards;
 pub mod leaves;

@@ -2,7 +2,7 @@
 
 ghost use Rattle.std.specs.Prelude.{◌≡◌, ◌∷◌, [], Err, codes, pos};
 ghost use Rattle.ev_steps.specs.Steps.{call_at, evaluator};
-ghost use Rattle.ev_base.specs.declared.values.Value.TheVariants.{Int};
+ghost use Rattle.ev_base.specs.declared.values.Value.TheVariants.{Int, Text};
 ghost use Rattle.ev_room.specs.Acts.{GivesIn};
 ghost use Rattle.ev_room.specs.declared.scope.Scope.{Scope as Surroundings};
 ghost use Rattle.ev_frames.specs.Rest.{Goes, Nested, NestedOn, Stays, StepsTo, bound_as, came_to, due_of, rest, settled, stepped};
@@ -16,7 +16,7 @@ use crate::nodes::{Now, begin};
 use crate::parts::part_gave;
 use crate::patterns::{bind, match_resumes};
 use def_kernel::Kernel;
-use ev_base::{NodeId, Value};
+use ev_base::{NodeId, TextId, Value};
 use ev_room::call::closed;
 use ev_room::exit::{Came, Exit};
 use ev_room::room::Room;
@@ -253,6 +253,37 @@ fn turn(
     stepped(next)
 }
 
+/// `run` of a value is called with a problem.
+#[tactic(auto, using(crate::proofs::Looping::steps, crate::proofs::Looping::nests))]
+fn refused(
+    program: &Kernel,
+    depth: u32,
+    levels: u128,
+    object: Value,
+    problem: TextId,
+    frames: &mut Frames,
+    here: &mut Scope,
+    room: &mut Room,
+) -> Result<Now, Result<Value, Exit>>
+    requires nested { Nested frames.old here.old }
+    ensures rest { StepsTo program.now result frames.new here.new room.new (rest program.now frames.old here.old (settled here.old (call_at program.now (evaluator program.now depth) levels here.old.act object (codes "run") (Text problem ∷ []) room.old))) }
+    ensures nested { NestedOn result frames.new here.new }
+{
+    let run = Word::run();
+    let next = call_at(
+        program,
+        depth,
+        levels,
+        object,
+        &run,
+        &[Value::Text(problem)],
+        frames,
+        here,
+        room,
+    );
+    stepped(next)
+}
+
 /// A part has come to an end.
 #[tactic(auto, using(crate::proofs::Looping::steps, crate::proofs::Looping::nests))]
 fn resumed(
@@ -313,6 +344,9 @@ fn step(
         Now::Turn(depth, levels, object) => {
             turn(program, depth, levels, object, frames, here, room)
         }
+        Now::Refuse(depth, levels, object, problem) => refused(
+            program, depth, levels, object, problem, frames, here, room,
+        ),
         Now::Ended(came) => ended(program, came, frames, here, room),
     }
 }

@@ -15,7 +15,7 @@ use crate::guards::{escape_node, finally_node, hide_node, try_node};
 use crate::leaves::leaf;
 use crate::parts::args_on;
 use def_kernel::{Kernel, Literal, Node};
-use ev_base::{Memory, NodeId, Seq, Value};
+use ev_base::{Memory, NodeId, Seq, TextId, Value};
 use ev_room::data::text_kept;
 use ev_room::exit::{Came, Exit};
 use ev_room::nouns::read_bound;
@@ -37,6 +37,8 @@ pub enum Now {
     Member(u32, u128, Value, usize, Value),
     /// `run` of a value is called.
     Turn(u32, u128, Value),
+    /// `run` of a value is called with a problem.
+    Refuse(u32, u128, Value, TextId),
     /// The innermost part that was evaluated has come to an end.
     Ended(Came),
 }
@@ -94,7 +96,7 @@ fn set_node(
     room: &mut Room,
 ) -> Result<Now, Exit>
     requires { Nested frames.old here.now }
-    ensures rest { Goes program.now result frames.new here.now room.new (rest program.now frames.old here.now (set_node (evaluator program.now depth) noun.now value here.now room.old)) }
+    ensures rest { Goes program.now result frames.new here.now room.new (rest program.now frames.old here.now (set_node program.now (evaluator program.now depth) noun.now value here.now room.old)) }
     ensures nested { Stays result frames.new here.now }
 {
     let bound = found(here.nouns.as_slice(), noun);

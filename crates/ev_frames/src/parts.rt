@@ -3,24 +3,25 @@
 ghost use Rattle.std.specs.Prelude.{◌≡◌, ◌≤◌, ◌∷◌, ◌++◌, [], IfOk, OnOk, Some, drop, length, slice_get};
 ghost use Rattle.ev_steps.specs.Steps.{call, choose, define_by, evaluator, last_of};
 ghost use Rattle.def_kernel.specs.declared.node.Node.TheVariants.{Call, Sequence as Parts, If};
-ghost use Rattle.ev_room.specs.Acts.{Extends, GivesIn, and_then, cut, give, write_bound};
+ghost use Rattle.ev_room.specs.Acts.{Extends, GivesIn, and_then, cut, give, write_slot};
 ghost use Rattle.ev_room.specs.declared.scope.Scope.{Scope as Surroundings};
 ghost use Rattle.ev_frames.specs.Rest.{Goes, Nested, Stays, args_of, call_on, going, parts_of, rest, settled, verb_of, yielding};
 ghost use Rattle.ev_frames.specs.declared.frames.Frame.TheVariants.{Part as PartOf};
 
 use crate::calls::calling;
+use crate::coercions::{assigned, coerced, under};
 use crate::frames::{Frame, Frames, Part};
 use crate::leaves::{leaf_args, leaves};
 use crate::nodes::{Now, enter};
 use crate::patterns::{asks, binding, binds_from, matching};
 use def_kernel::{Kernel, Node};
-use ev_base::{Memory, NodeId, Seq, Value};
+use ev_base::{Memory, NodeId, Seq, SlotId, Value};
 use ev_prims::Problem;
 use ev_room::data::problem_id;
 use ev_room::exit::{Came, Exit};
-use ev_room::nouns::write_bound;
 use ev_room::room::Room;
-use ev_room::scope::{Bound, Scope, cut};
+use ev_room::scope::{Scope, cut};
+use ev_room::slots::write_slot;
 use ev_room::tree::node_at;
 use ev_steps::pattern::{Early, bind_at_once, part_at};
 use ev_word::Word;
@@ -107,17 +108,12 @@ pub(crate) fn again(
     Ok(())
 }
 
-/// The value of an assignment is known.
+/// The value is known with which a slot is written.
 #[tactic(auto, using(ev_room::proofs::Exits::ends), unfolding(ev_room::specs::Acts::opened_acts))]
-fn assigned(
-    bound: Option<Bound>,
-    value: Value,
-    here: &Scope,
-    room: &mut Room,
-) -> Result<Value, Exit>
-    ensures outcome { GivesIn result here.now room.new (and_then (write_bound here.now.act bound value room.old) (λ u. give (u, here.now))) }
+fn written(slot: SlotId, value: Value, here: &Scope, room: &mut Room) -> Result<Value, Exit>
+    ensures outcome { GivesIn result here.now room.new (and_then (write_slot here.now.act slot value room.old) (λ u. give (u, here.now))) }
 {
-    let written = write_bound(here.act, bound, value, room)?;
+    let written = write_slot(here.act, slot, value, room)?;
     Ok(written)
 }
 
@@ -344,9 +340,16 @@ pub(crate) fn part_gave(
     ensures nested { Stays result frames.new here.new }
 {
     match part {
-        Part::Assign(bound) => {
-            let value = assigned(bound, value, here, room)?;
+        Part::Assign(bound) => assigned(program, depth, bound, value, frames, here, room),
+        Part::Writes(slot) => {
+            let value = written(slot, value, here, room)?;
             Ok(Now::Ended(Came::Gave(value)))
+        }
+        Part::Guarded(target, specimen, ejector) => under(
+            program, depth, target, specimen, ejector, value, frames, here, room,
+        ),
+        Part::Coerced(target, guard) => {
+            coerced(program, &target, guard, value, frames, here, room)
         }
         Part::DefineBy(pattern, expression) => defined_by(
             program, depth, mark, pattern, expression, value, frames, here, room,

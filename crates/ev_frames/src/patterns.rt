@@ -1,15 +1,16 @@
 //! Patterns.
 
 ghost use Rattle.std.specs.Prelude.{◌≡◌, ◌≤◌, ◌==◌, ◌∷◌, [], IfOk, List, OnOk, drop, length, slice_get};
-ghost use Rattle.ev_steps.specs.Steps.{bind_all, bind_any, bind_asked, bind_final, bind_var, not_matched, bind_items, bind_list, bind_step, bind_via, evaluator, failed, match_on};
+ghost use Rattle.ev_steps.specs.Steps.{bind_all, bind_asked, not_matched, bind_items, bind_list, bind_step, bind_via, call, evaluator, failed, match_on};
 ghost use Rattle.ev_prims.specs.Answers.{members_at};
 ghost use Rattle.ev_room.specs.Acts.{Extends, and_then, cut, give};
 ghost use Rattle.ev_room.specs.declared.scope.Scope.{Scope as Surroundings};
 ghost use Rattle.ev_base.specs.declared.values.Value.{Value as Held};
-ghost use Rattle.ev_frames.specs.Rest.{Goes, Nested, Stays, bound_as, bound_then, came_to, is_null, rest};
+ghost use Rattle.ev_frames.specs.Rest.{Goes, Nested, Stays, bound_as, bound_then, came_to, rest};
 ghost use Rattle.ev_frames.specs.declared.frames.Frame.TheVariants.{Match as MatchOf, Part as PartOf};
 
 use crate::calls::calling;
+use crate::coercions::{failing, guarded};
 use crate::frames::{Frame, Frames, Part};
 use crate::nodes::{Now, enter};
 use crate::parts::again;
@@ -22,7 +23,8 @@ use ev_room::scope::{Scope, cut};
 use ev_room::tree::node_at;
 use ev_same::same::members_of;
 use ev_steps::matches::not_matched;
-use ev_steps::pattern::{Early, bind_at_once, bind_from, final_step, part_at, value_at, var_step};
+use ev_steps::pattern::{Early, bind_at_once, bind_from, part_at, value_at};
+use ev_steps::target::Target;
 use ev_word::Word;
 use std::alloc::Global;
 
@@ -65,50 +67,6 @@ pub(crate) fn binding(
         Early::Bound => Ok(Now::Ended(Came::Gave(Value::Null))),
         Early::Later => Ok(Now::Bind(depth, pattern, value, ejector)),
     }
-}
-
-/// Whether a value is null.
-#[tactic(auto, unfolding(crate::specs::Rest::is_null))]
-fn is_null(value: Value) -> bool
-    ensures { result ≡ is_null value }
-{
-    match value {
-        Value::Null => true,
-        _ => false,
-    }
-}
-
-/// A failing calls the ejector where there is one, and throws where that comes back.
-#[tactic(auto, using(crate::proofs::Patterning::fails_at_once, crate::proofs::Patterning::fails_by))]
-fn failing(
-    program: &Kernel,
-    depth: u32,
-    ejector: Value,
-    problem: TextId,
-    frames: &mut Frames,
-    here: &mut Scope,
-    room: &mut Room,
-) -> Result<Now, Exit>
-    requires nested { Nested frames.old here.old }
-    ensures rest { Goes program.now result frames.new here.new room.new (rest program.now frames.old here.old (bound_as (failed program.now (evaluator program.now depth) here.old.act ejector problem room.old))) }
-    ensures nested { Stays result frames.new here.new }
-{
-    let tested = ejector;
-    if is_null(tested) {
-        return Err(Exit::Thrown(problem));
-    }
-    enter(depth, Part::Fails(problem), frames, here)?;
-    let run = Word::run();
-    calling(
-        program,
-        depth,
-        ejector,
-        &run,
-        &[Value::Text(problem)],
-        frames,
-        here,
-        room,
-    )
 }
 
 /// Patterns and values from a place on, of which the first is not bound at once.
@@ -351,73 +309,6 @@ fn via_step(
     Ok(Now::Begin(depth, expression))
 }
 
-/// A name is bound finally.
-#[tactic(auto, using(crate::proofs::Patterning::final_bound, crate::proofs::Patterning::ends_so, crate::proofs::Rests::nested_behind, crate::proofs::Rests::gone), unfolding(ev_steps::specs::Steps::bind_final))]
-fn final_begins(
-    program: &Kernel,
-    noun: &Word,
-    guard: Option<NodeId>,
-    value: Value,
-    frames: &Frames,
-    here: &mut Scope,
-    room: &mut Room,
-) -> Result<Now, Exit>
-    requires nested { Nested frames.now here.old }
-    ensures rest { Goes program.now result frames.now here.new room.new (rest program.now frames.now here.old (bound_as (bind_final noun.now guard value here.old room.old))) }
-    ensures nested { Stays result frames.now here.new }
-{
-    match guard {
-        Some(_) => Err(Exit::Unbuilt),
-        None => {
-            final_step(noun, value, here)?;
-            Ok(Now::Ended(Came::Gave(Value::Null)))
-        }
-    }
-}
-
-/// A name is bound to a new var slot.
-#[tactic(auto, using(crate::proofs::Patterning::var_unbuilt, crate::proofs::Patterning::step_bound, crate::proofs::Patterning::step_ends, crate::proofs::Rests::nested_behind, crate::proofs::Rests::gone))]
-fn var_begins(
-    program: &Kernel,
-    noun: &Word,
-    guard: Option<NodeId>,
-    value: Value,
-    frames: &Frames,
-    here: &mut Scope,
-    room: &mut Room,
-) -> Result<Now, Exit>
-    requires nested { Nested frames.now here.old }
-    ensures rest { Goes program.now result frames.now here.new room.new (rest program.now frames.now here.old (bound_as (bind_var noun.now guard value here.old room.old))) }
-    ensures nested { Stays result frames.now here.new }
-{
-    match guard {
-        Some(_) => Err(Exit::Unbuilt),
-        None => {
-            var_step(noun, value, here, room)?;
-            Ok(Now::Ended(Came::Gave(Value::Null)))
-        }
-    }
-}
-
-/// Nothing is bound.
-#[tactic(auto, using(crate::proofs::Patterning::any_done, crate::proofs::Patterning::any_unbuilt))]
-fn any_begins(
-    program: &Kernel,
-    guard: Option<NodeId>,
-    frames: &Frames,
-    here: &Scope,
-    room: &Room,
-) -> Result<Now, Exit>
-    requires nested { Nested frames.now here.now }
-    ensures rest { Goes program.now result frames.now here.now room.now (rest program.now frames.now here.now (bound_as (bind_any guard here.now room.now))) }
-    ensures nested { Stays result frames.now here.now }
-{
-    match guard {
-        Some(_) => Err(Exit::Unbuilt),
-        None => Ok(Now::Ended(Came::Gave(Value::Null))),
-    }
-}
-
 /// A pattern begins whose parts may be so many levels deep.
 #[tactic(auto, using(crate::proofs::Rests::gone, crate::proofs::Patterning::ends_so), unfolding(ev_steps::specs::Steps::bind_step))]
 fn bind_step(
@@ -435,9 +326,29 @@ fn bind_step(
     ensures nested { Stays result frames.new here.new }
 {
     match node {
-        Node::Final(noun, guard) => final_begins(program, noun, *guard, value, frames, here, room),
-        Node::Var(noun, guard) => var_begins(program, noun, *guard, value, frames, here, room),
-        Node::Any(guard) => any_begins(program, *guard, frames, here, room),
+        Node::Final(noun, guard) => {
+            let target = Target::Final(noun.share()?);
+            guarded(
+                program, depth, target, *guard, value, ejector, frames, here, room,
+            )
+        }
+        Node::Var(noun, guard) => {
+            let target = Target::Var(noun.share()?);
+            guarded(
+                program, depth, target, *guard, value, ejector, frames, here, room,
+            )
+        }
+        Node::Any(guard) => guarded(
+            program,
+            depth,
+            Target::Nothing,
+            *guard,
+            value,
+            ejector,
+            frames,
+            here,
+            room,
+        ),
         Node::ListPattern(patterns) => bind_items(
             program,
             depth,

@@ -30,8 +30,8 @@ use Rattle.ev_room.specs.declared.scope.Bound.TheVariants as scope
 use Rattle.ev_room.specs.declared.scope.Scope.{Scope}
 use Rattle.ev_room.specs.Sound.{is_built_safe}
 use Rattle.ev_room.specs.Reading.{World, names, value_of, cell_of, line_of, vat_of}
-use Rattle.ev_room.specs.Sound.{Grown, Stays, IsSound, IsPlainCell, is_there, is_bound, are_bound, plain_cell}
-use Rattle.ev_room.specs.Acts.{Out, ◌>>◌, give, fail, answer, new_slot, write_told, slot_read, slot_found, read_slot, slot_written, write_slot, found_from, safe_found, read_held, read_bound, write_held, write_bound, opened_acts}
+use Rattle.ev_room.specs.Sound.{Grown, Stays, IsSound, IsPlainCell, is_there, is_bound, are_bound}
+use Rattle.ev_room.specs.Acts.{Out, ◌>>◌, give, fail, answer, new_slot, write_told, slot_read, slot_found, read_slot, slot_written, write_slot, found_from, safe_found, read_held, read_bound, opened_acts}
 use Rattle.ev_room.proofs.Sounds.{grown_same, grown_on, there_on, all_and, slots_grown, slot_sound, written_sound}
 use Rattle.ev_room.proofs.Stands.{Met, Look, vat, a_value, itself, bound_of, bond_of, bonds_onto, scope_of, stays_on, then_met, give_met, stop_met, tell_met}
 use Rattle.ev_room.proofs.There.{both}
@@ -140,13 +140,13 @@ cell_found_met : (w : World) (act k : ℕ) (o : Option Cell) (s : Room) → IsSo
     → Met w a_value s (slot_found act k o s) (scopes.read_cell act k (option_map (cell_of w) o) (vat w s))
 unfolding slot_found scopes.read_cell
 cell_found_met w act k None s sound h = stop_met w a_value s sound
-cell_found_met w act k (Some c) s sound h = cell_met w act k c s sound (h c refl).1
+cell_found_met w act k (Some c) s sound h = cell_met w act k c s sound (h c refl)
 
 slots_are : (w : World) (s : Room) → (vat w s).slots ≡ map (cell_of w) s.heap.slots
 unfolding vat_of
 slots_are w s = refl
 
-cells_at : (w : World) (s : Room) (k : ℕ) → slice_get (vat w s).slots k ≡ option_map (cell_of w) (slice_get s.heap.slots k)
+pub cells_at : (w : World) (s : Room) (k : ℕ) → slice_get (vat w s).slots k ≡ option_map (cell_of w) (slice_get s.heap.slots k)
 cells_at w s k = rw (slots_are w s) (slice_get-map (cell_of w) s.heap.slots k)
 
 slot_is : (w : World) (act k : ℕ) (x : Words) (v : Vat Local) → scopes.read_bound act (Some (Slot k)) x v ≡ scopes.read_cell act k (slice_get v.slots k) v
@@ -191,25 +191,29 @@ changed_is w (d ∷ cs) zero c v e =
     rw is refl
 changed_is w (d ∷ cs) (suc k) c v e = ap (λ (xs : List (TheirCell Local)). cell_of w d ∷ xs) (changed_is w cs k c v e)
 
--- the room with a slot written
-abbrev written : Room → ℕ → Held → Room
-written s k v = record s { heap = record s.heap { slots = slice_set s.heap.slots k (plain_cell v) } }
+changed_none : (w : World) (cs : List Cell) (k : ℕ) (v : Held) → slice_get cs k ≡ None → machine.change (machine.holding (value_of w v)) k (map (cell_of w) cs) ≡ map (cell_of w) cs
+unfolding opened_state
+changed_none w [] k v e = refl
+changed_none w (d ∷ cs) zero v e = absurd (cc)
+changed_none w (d ∷ cs) (suc k) v e = ap (λ (xs : List (TheirCell Local)). cell_of w d ∷ xs) (changed_none w cs k v e)
 
-written_met : (w : World) (s : Room) (k : ℕ) (u v : Held) → slice_get s.heap.slots k ≡ Some (plain_cell u)
-    → machine.write_slot k (value_of w v) (vat w s) ≡ machine.Gives tt (vat w (written s k v))
+-- the room with a slot written
+abbrev written : Room → ℕ → Cell → Held → Room
+written s k c v = record s { heap = record s.heap { slots = slice_set s.heap.slots k (record c { value = v }) } }
+
+written_met : (w : World) (s : Room) (k : ℕ) (c : Cell) (v : Held) → slice_get s.heap.slots k ≡ Some c
+    → machine.write_slot k (value_of w v) (vat w s) ≡ machine.Gives tt (vat w (written s k c v))
 unfolding machine.write_slot vat_of
-written_met w s k u v e = ap (λ (cs : List (TheirCell Local)). machine.Gives tt (record (vat w s) { slots = cs })) (changed_is w s.heap.slots k (plain_cell u) v e)
+written_met w s k c v e = ap (λ (cs : List (TheirCell Local)). machine.Gives tt (record (vat w s) { slots = cs })) (changed_is w s.heap.slots k c v e)
+
+not_written : (w : World) (s : Room) (k : ℕ) (v : Held) → slice_get s.heap.slots k ≡ None → machine.write_slot k (value_of w v) (vat w s) ≡ machine.Gives tt (vat w s)
+unfolding machine.write_slot vat_of
+not_written w s k v e = ap (λ (cs : List (TheirCell Local)). machine.Gives tt (record (vat w s) { slots = cs })) (changed_none w s.heap.slots k v e)
 
 wrote_met : (w : World) (act k : ℕ) (v : Held) (s : Room) → IsSound s.heap → is_there s.heap v ≡ true
     → Met w a_value s (write_told act k v s) (machine.and_then (machine.tell (SlotWrote act k (value_of w v)) (vat w s)) (λ u. machine.give (value_of w v)))
 unfolding write_told ◌>>◌
 wrote_met w act k v s sound i = then_met _ _ (tell_met w (event.Wrote act k v) (SlotWrote act k (value_of w v)) s sound (wrote_line w act k v)) (λ u t q j g. give_met w a_value v t q (there_on g v i))
-
-writing_is : (w : World) (tree : List Node) (rec : scopes.Evaluator Local) (act k : ℕ) (u : Held) (v : Value Local) (y : Vat Local)
-    → theirs.write_cell (names w) tree rec act k v (Some (cell_of w (plain_cell u))) y
-    ≡ machine.and_then (machine.write_slot k v y) (λ t. λ z. machine.and_then (machine.tell (SlotWrote act k v) z) (λ u. machine.give v))
-unfolding opened_eval
-writing_is w tree rec act k u v y = refl
 
 gives_on : {A B : Type 0} (a : A) (v : Vat Local) (f : A → machine.Act Local B) → machine.and_then (machine.Gives a v) f ≡ f a v
 unfolding opened_state
@@ -219,65 +223,38 @@ gives_on a v f = refl
 later : {A B : Type 0} (w : World) (look : Look A B) (s t : Room) (o : Out A) (d : Done Local B) → Grown s.heap t.heap → Stays s t → Met w look t o d → Met w look s o d
 later w look s t o d g e m = record { grown = grown_on g m.grown; stays = stays_on s t o.1 e m.stays; keeps = m.keeps; is = m.is }
 
-write_plain_met : (w : World) (tree : List Node) (rec : scopes.Evaluator Local) (act k : ℕ) (u v : Held) (s : Room) → IsSound s.heap → is_there s.heap v ≡ true
-    → slice_get s.heap.slots k ≡ Some (plain_cell u)
-    → Met w a_value s (slot_written act k v (Some (plain_cell u)) s) (theirs.write_cell (names w) tree rec act k (value_of w v) (Some (cell_of w (plain_cell u))) (vat w s))
+-- what the machine does that writes a slot, and tells it
+abbrev pub writing : ℕ → ℕ → Value Local → machine.Act Local (Value Local)
+writing act k v = λ y. machine.and_then (machine.write_slot k v y) (λ u t. machine.and_then (machine.tell (SlotWrote act k v) t) (λ u. machine.give v))
+
+write_found_met : (w : World) (act k : ℕ) (v : Held) (o : Option Cell) (s : Room) → IsSound s.heap → is_there s.heap v ≡ true → slice_get s.heap.slots k ≡ o
+    → Met w a_value s (slot_written act k v o s) (writing act k (value_of w v) (vat w s))
 unfolding slot_written
-write_plain_met w tree rec act k u v s sound i e =
+write_found_met w act k v None s sound i e =
     rw (
-      writing_is w tree rec act k u (value_of w v) (vat w s),
-      written_met w s k u v e,
-      gives_on (tt {0}) (vat w (written s k v)) (λ t z. machine.and_then (machine.tell (SlotWrote act k (value_of w v)) z) (λ u. machine.give (value_of w v))),
-    ) (later w a_value s (written s k v) (write_told act k v (written s k v)) _ (slots_grown s.heap sound (slice_set s.heap.slots k (plain_cell v))) refl
-    (wrote_met w act k v (written s k v) (written_sound s.heap sound k v i) (there_on (slots_grown s.heap sound (slice_set s.heap.slots k (plain_cell v))) v i)))
+      not_written w s k v e,
+      gives_on (tt {0}) (vat w s) (λ u t. machine.and_then (machine.tell (SlotWrote act k (value_of w v)) t) (λ u. machine.give (value_of w v))),
+    ) (wrote_met w act k v s sound i)
+write_found_met w act k v (Some c) s sound i e =
+    rw (
+      written_met w s k c v e,
+      gives_on (tt {0}) (vat w (written s k c v)) (λ u t. machine.and_then (machine.tell (SlotWrote act k (value_of w v)) t) (λ u. machine.give (value_of w v))),
+    ) (later w a_value s (written s k c v) (write_told act k v (written s k c v)) _ (slots_grown s.heap sound (slice_set s.heap.slots k (record c { value = v }))) refl
+    (wrote_met w act k v (written s k c v) (written_sound s.heap sound k (record c { value = v }) i) (there_on (slots_grown s.heap sound (slice_set s.heap.slots k (record c { value = v }))) v i)))
 
-write_found_met : (w : World) (tree : List Node) (rec : scopes.Evaluator Local) (act k : ℕ) (v : Held) (o : Option Cell) (s : Room) → IsSound s.heap → is_there s.heap v ≡ true
-    → slice_get s.heap.slots k ≡ o
-    → Met w a_value s (slot_written act k v o s) (theirs.write_cell (names w) tree rec act k (value_of w v) (option_map (cell_of w) o) (vat w s))
-unfolding slot_written theirs.write_cell
-write_found_met w tree rec act k v None s sound i e = stop_met w a_value s sound
-write_found_met w tree rec act k v (Some c) s sound i e =
-    let p = (sound.slots k c e).0 in
-    let is : slice_get s.heap.slots k ≡ Some (plain_cell c.value) = e ∙ ap (λ (d : Cell). Some d) p in
-    subst (λ (d : Cell). Met w a_value s (slot_written act k v (Some d) s) (theirs.write_cell (names w) tree rec act k (value_of w v) (Some (cell_of w d)) (vat w s))) (sym p)
-    (write_plain_met w tree rec act k c.value v s sound i is)
-
-write_slot_is : (w : World) (tree : List Node) (rec : scopes.Evaluator Local) (act k : ℕ) (v : Value Local) (y : Vat Local)
-    → theirs.write_bound (names w) tree rec act (Some (Slot k)) v y ≡ theirs.write_cell (names w) tree rec act k v (slice_get y.slots k) y
-unfolding theirs.write_bound opened_state
-write_slot_is w tree rec act k v y = refl
-
-write_slot_met : (w : World) (tree : List Node) (rec : scopes.Evaluator Local) (act k : ℕ) (v : Held) (s : Room) → IsSound s.heap → is_there s.heap v ≡ true
-    → Met w a_value s (write_slot act k v s) (theirs.write_bound (names w) tree rec act (Some (Slot k)) (value_of w v) (vat w s))
+pub write_slot_met : (w : World) (act k : ℕ) (v : Held) (s : Room) → IsSound s.heap → is_there s.heap v ≡ true
+    → Met w a_value s (write_slot act k v s) (writing act k (value_of w v) (vat w s))
 unfolding write_slot
-write_slot_met w tree rec act k v s sound i =
-    rw (write_slot_is w tree rec act k (value_of w v) (vat w s), cells_at w s k) (write_found_met w tree rec act k v (slice_get s.heap.slots k) s sound i refl)
-
--- it is no var slot
-abbrev is_fixed : Option (Bound Local) → Bool
-is_fixed (Some (Slot k)) = false
-is_fixed _ = true
-
-not_written_met : (w : World) (tree : List Node) (rec : scopes.Evaluator Local) (act : ℕ) (b : Option (Bound Local)) (v : Value Local) (s : Room) → IsSound s.heap → is_fixed b ≡ true
-    → Met w a_value s (fail exit.Astray s) (theirs.write_bound (names w) tree rec act b v (vat w s))
-unfolding theirs.write_bound
-not_written_met w tree rec act (Some (Slot k)) v s sound e = absurd (cc)
-not_written_met w tree rec act (Some (Fixed u g)) v s sound e = stop_met w a_value s sound
-not_written_met w tree rec act None v s sound e = stop_met w a_value s sound
-
-pub write_met : (w : World) (tree : List Node) (rec : scopes.Evaluator Local) (act : ℕ) (f : Option Kept) (v : Held) (s : Room) → IsSound s.heap → is_there s.heap v ≡ true
-    → Met w a_value s (write_bound act f v s) (theirs.write_bound (names w) tree rec act (found_of w f) (value_of w v) (vat w s))
-unfolding write_bound write_held
-write_met w tree rec act (Some (scope.Slot k)) v s sound i = write_slot_met w tree rec act k v s sound i
-write_met w tree rec act (Some (scope.Fixed u g)) v s sound i = not_written_met w tree rec act (Some (Fixed (value_of w u) (guard_of g))) (value_of w v) s sound refl
-write_met w tree rec act None v s sound i = not_written_met w tree rec act None (value_of w v) s sound refl
+write_slot_met w act k v s sound i = write_found_met w act k v (slice_get s.heap.slots k) s sound i refl
 
 -- a slot that is made
-pub new_slot_met : (w : World) (v : Held) (s : Room) → IsSound s.heap → is_there s.heap v ≡ true → Met w itself s (new_slot v s) (machine.new_slot any_guard (value_of w v) (vat w s))
-unfolding opened_acts opened_state vat_of any_guard
-new_slot_met w v s sound i = record {
-  grown = slots_grown s.heap sound (s.heap.slots ++ plain_cell v ∷ []);
-  stays = refl;
-  keeps = (slot_sound s.heap sound v i, tt);
-  is = λ f. rw (length-map s.heap.slots (cell_of w), map-append (cell_of w) s.heap.slots (plain_cell v ∷ [])) refl;
-}
+pub new_slot_met : (w : World) (k : GuardKind) (v : Held) (s : Room) → IsSound s.heap → is_there s.heap v ≡ true → Met w itself s (new_slot k v s) (machine.new_slot (guard_of k) (value_of w v) (vat w s))
+unfolding opened_acts opened_state vat_of
+new_slot_met w k v s sound i =
+    let c : Cell = record { guard = k; value = v } in
+    record {
+      grown = slots_grown s.heap sound (s.heap.slots ++ c ∷ []);
+      stays = refl;
+      keeps = (slot_sound s.heap sound c i, tt);
+      is = λ f. rw (length-map s.heap.slots (cell_of w), map-append (cell_of w) s.heap.slots (c ∷ [])) refl;
+    }

@@ -1,10 +1,11 @@
 -- Reading and writing a var slot that stands in a heap.
-use Rattle.std.proofs.Common.{◌≡◌, ℕ, zero, suc, ◌<◌, ◌≤◌, List, [], ◌∷◌, length, Option, Some, None, refl, arith}
+use Rattle.std.proofs.Common.{◌≡◌, ℕ, zero, suc, ◌<◌, ◌≤◌, List, [], ◌∷◌, length, Option, Some, None, refl, sym, arith}
 use Rattle.std.specs.Prelude.{slice_get, slice_set, option_map, IfSome, Err}
 use Rattle.std.proofs.lemmas.Option.{slice_get_past}
 use Rattle.ev_base.specs.declared.values.Value.{Value}
 use Rattle.ev_heap.specs.Contents.{Contents}
 use Rattle.ev_heap.specs.declared.kept.Cell.{Cell}
+use Rattle.ev_heap.specs.declared.kept.GuardKind.{GuardKind}
 use Rattle.ev_room.specs.declared.exit.Exit.TheVariants.{Astray}
 use Rattle.ev_pass.specs.declared.interior.Interior.{Interior as Room}
 use Rattle.ev_room.specs.Acts.{slot_read, slot_found, slot_written, read_slot, write_slot, write_told, fail}
@@ -44,6 +45,12 @@ pub write_goes : (act k : ℕ) (p : Value) (s : Room) (h : Contents) → k < len
 unfolding write_slot
 write_goes act k p s h lt e = written_at act k p (slice_get s.heap.slots k) s h (stands_at s.heap.slots k lt) e
 
-pub write_astray : (act k : ℕ) (p : Value) (s : Room) → length s.heap.slots ≤ k → write_slot act k p s ≡ (Err Astray, s)
-unfolding write_slot slot_written fail
-write_astray act k p s h = rw (slice_get_past s.heap.slots k h) refl
+pub write_past : (act k : ℕ) (p : Value) (s : Room) → length s.heap.slots ≤ k → write_slot act k p s ≡ write_told act k p s
+unfolding write_slot slot_written
+write_past act k p s h = rw (slice_get_past s.heap.slots k h) refl
+
+pub guard_stands : (cs : List Cell) (k : ℕ) (g : GuardKind) → option_map (λ (c : Cell). c.guard) (slice_get cs k) ≡ Some g → Some g ≡ option_map (λ (c : Cell). c.guard) (slice_get cs k)
+guard_stands cs k g e = sym e
+
+pub no_guard_past : (cs : List Cell) (k : ℕ) → length cs ≤ k → None ≡ option_map (λ (c : Cell). c.guard) (slice_get cs k)
+no_guard_past cs k h = rw (slice_get_past cs k h) refl

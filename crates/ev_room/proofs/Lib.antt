@@ -2,6 +2,7 @@ pub mod Behind
 pub mod Bindings
 pub mod Cells
 pub mod Closes
+pub mod Coercing
 pub mod Ejectors
 pub mod Exits
 pub mod Fronts

@@ -11,7 +11,7 @@ use Rattle.ev_heap.specs.declared.kept.Shape.{Shape}
 use Rattle.ev_heap.specs.declared.kept.Shape.TheVariants.{Made, Ejector, Resolver, Audition}
 use Rattle.ev_heap.specs.declared.kept.Thing.{Thing}
 use Rattle.def_machine.specs.Values.{Words}
-use Rattle.ev_room.specs.Sound.{Each, Grown, IsSound, IsPlainCell, IsPlainShape, IsPlainThing, IsListed, is_there, are_there, is_bound, are_bound, plain_cell, plain_thing, problems}
+use Rattle.ev_room.specs.Sound.{Each, Grown, IsSound, IsPlainCell, IsPlainShape, IsPlainThing, IsListed, is_there, are_there, is_bound, are_bound, plain_thing, problems}
 use Rattle.ev_room.specs.declared.object.Object.{Object}
 use Rattle.ev_room.specs.declared.scope.Binding.{Binding}
 use Rattle.ev_room.specs.declared.scope.Bound.{Bound}
@@ -162,7 +162,7 @@ module _ {a b : Contents} (g : Grown a b) where
   -- ---- what is kept
 
   pub cells_on : (cs : List Cell) → Each (IsPlainCell a) cs → Each (IsPlainCell b) cs
-  cells_on cs h = each_on (IsPlainCell a) (IsPlainCell b) cs (λ c p. (p.0, there_on c.value p.1)) h
+  cells_on cs h = each_on (IsPlainCell a) (IsPlainCell b) cs (λ c p. there_on c.value p) h
 
   shape_on : (sh : Shape) → IsPlainShape a sh → IsPlainShape b sh
   shape_on (Made node caught stamps) p = (p.0, (p.1.0, (p.1.1.0, scope_on p.0 p.1.1.1)))
@@ -237,17 +237,17 @@ module _ (h : Contents) (s : IsSound h) where
       let g = slots_grown cs in
       record { slots = c; things = things_on g h.things s.things; lists = lists_on g h.lists s.lists; problems_first = problems_on g s.problems_first }
 
-  pub slot_sound : (v : Value) → is_there h v ≡ true → IsSound (with_slots (h.slots ++ plain_cell v ∷ []))
-  slot_sound v t =
-      let cs = h.slots ++ plain_cell v ∷ [] in
+  pub slot_sound : (c : Cell) → is_there h c.value ≡ true → IsSound (with_slots (h.slots ++ c ∷ []))
+  slot_sound c t =
+      let cs = h.slots ++ c ∷ [] in
       let g = slots_grown cs in
-      slots_sound cs (each_more (IsPlainCell (with_slots cs)) h.slots (plain_cell v) (cells_on g h.slots s.slots) (refl, there_on g v t))
+      slots_sound cs (each_more (IsPlainCell (with_slots cs)) h.slots c (cells_on g h.slots s.slots) (there_on g c.value t))
 
-  pub written_sound : (k : ℕ) (v : Value) → is_there h v ≡ true → IsSound (with_slots (slice_set h.slots k (plain_cell v)))
-  written_sound k v t =
-      let cs = slice_set h.slots k (plain_cell v) in
+  pub written_sound : (k : ℕ) (c : Cell) → is_there h c.value ≡ true → IsSound (with_slots (slice_set h.slots k c))
+  written_sound k c t =
+      let cs = slice_set h.slots k c in
       let g = slots_grown cs in
-      slots_sound cs (each_set (IsPlainCell (with_slots cs)) h.slots k (plain_cell v) (cells_on g h.slots s.slots) (refl, there_on g v t))
+      slots_sound cs (each_set (IsPlainCell (with_slots cs)) h.slots k c (cells_on g h.slots s.slots) (there_on g c.value t))
 
   abbrev with_thing : Object → Contents
   with_thing o = record h { things = h.things ++ plain_thing o ∷ [] }

@@ -22,7 +22,7 @@ use Rattle.ev_integer.specs.declared.arithmetic.NumFault.TheVariants.{Overflow, 
 use Rattle.ev_heap.specs.Contents.{Contents, listed, is_light}
 use Rattle.ev_prims.specs.declared.problem.Problem.{Problem}
 use Rattle.ev_prims.specs.declared.problem.Problem.TheVariants.{NoMethod, Arithmetic, NotInt, NotChar, NotBoolean, NotText, NotList, OutOfRange, BadArgument, NotComparable, TooHeavy, Unthrowable, DeadEjector}
-use Rattle.ev_room.specs.Sound.{is_there, are_there, no_guard, plain_cell, capture_of, plain_thing}
+use Rattle.ev_room.specs.Sound.{is_there, are_there, no_guard, capture_of, plain_thing}
 use Rattle.ev_room.specs.declared.object.Code.{Code}
 use Rattle.ev_room.specs.declared.object.Code.TheVariants.{Runs, Leaves}
 use Rattle.ev_room.specs.declared.exit.Exit.{Exit}
@@ -30,6 +30,7 @@ use Rattle.ev_room.specs.declared.exit.Exit.TheVariants.{Thrown, Ejected, Fuel, 
 use Rattle.ev_room.specs.declared.exit.Came.{Came}
 use Rattle.ev_room.specs.declared.exit.Came.TheVariants.{Gave, Threw, Left}
 use Rattle.ev_heap.specs.declared.kept.Cell.{Cell}
+use Rattle.ev_heap.specs.declared.kept.GuardKind.{GuardKind}
 use Rattle.ev_pass.specs.declared.interior.Interior.{Interior as Room}
 use Rattle.ev_room.specs.declared.scope.Binding.{Binding}
 use Rattle.ev_room.specs.declared.scope.Bound.{Bound}
@@ -138,8 +139,8 @@ new_activation x = λ s. (Ok (length s.heap.codes), record s { heap = record s.h
 
 -- ---- var slots
 
-unfoldable pub new_slot : Value → Act ℕ
-new_slot v = λ s. (Ok (length s.heap.slots), record s { heap = record s.heap { slots = s.heap.slots ++ plain_cell v ∷ [] } })
+unfoldable pub new_slot : GuardKind → Value → Act ℕ
+new_slot g v = λ s. (Ok (length s.heap.slots), record s { heap = record s.heap { slots = s.heap.slots ++ record { guard = g; value = v } ∷ [] } })
 
 unfoldable pub write_told : ℕ → ℕ → Value → Act Value
 write_told act k v = do
@@ -160,10 +161,10 @@ unfoldable pub read_slot : ℕ → ℕ → Act Value
 read_slot act k = λ s. slot_found act k (slice_get s.heap.slots k) s
 
 unfoldable pub slot_written : ℕ → ℕ → Value → Option Cell → Act Value
-slot_written act k v None = fail Astray
+slot_written act k v None = write_told act k v
 slot_written act k v (Some c) = λ s. write_told act k v (record s { heap = record s.heap { slots = slice_set s.heap.slots k (record c { value = v }) } })
 
--- a slot is written, which is told
+-- A slot is written, whatever its guard, which is told. Where there is none, it is told alone.
 unfoldable pub write_slot : ℕ → ℕ → Value → Act Value
 write_slot act k v = λ s. slot_written act k v (slice_get s.heap.slots k) s
 
@@ -186,14 +187,6 @@ read_held act (Slot k) = read_slot act k
 unfoldable pub read_bound : ℕ → Option Bound → Words → Act Value
 read_bound act (Some b) x = read_held act b
 read_bound act None x = answer (safe_found (safe_value x))
-
-unfoldable pub write_held : ℕ → Bound → Value → Act Value
-write_held act (Slot k) v = write_slot act k v
-write_held act (Fixed u g) v = fail Astray
-
-unfoldable pub write_bound : ℕ → Option Bound → Value → Act Value
-write_bound act (Some b) v = write_held act b v
-write_bound act None v = fail Astray
 
 unfoldable pub with_bound : List Binding → Words → Option Bound → List Binding
 with_bound bs x (Some b) = bs ++ record { noun = x; bound = b } ∷ []
@@ -407,5 +400,5 @@ call_ejector act i live verb args = do
 
 -- opens the acts, and not the recursions
 unfoldable pub opened_acts : Unit {0}
-unfolding and_then ◌>>=◌ ◌>>◌ give fail answer tell spent spend new_activation new_slot write_told slot_read slot_found read_slot slot_written write_slot safe_found read_held read_bound write_held write_bound fails new_text text_value spell spelled write_text new_list list_told keep_list store stored listed_there make_list ended_by closed_by closed call_there with_bound new_object named object_made object_in make_object object_node suits code_of code_in look_code keep_ejector new_ejector killed kill leave ejected ejector_answer call_ejector
+unfolding and_then ◌>>=◌ ◌>>◌ give fail answer tell spent spend new_activation new_slot write_told slot_read slot_found read_slot slot_written write_slot safe_found read_held read_bound fails new_text text_value spell spelled write_text new_list list_told keep_list store stored listed_there make_list ended_by closed_by closed call_there with_bound new_object named object_made object_in make_object object_node suits code_of code_in look_code keep_ejector new_ejector killed kill leave ejected ejector_answer call_ejector
 opened_acts = tt

@@ -1,4 +1,5 @@
 pub mod Acts
+pub mod Coercion
 pub mod Takings
 pub mod Reading
 pub mod Sound

@@ -1,6 +1,6 @@
 -- What evaluation makes of values, var slots, objects and lists so far.
 use Rattle.std.specs.declared.option.Option.{Option}
-use Rattle.std.specs.Prelude.{◌≡◌, ◌==◌, ℕ, nat_lt, Bool, true, false, if◌then◌else◌, List, [], ◌∷◌, ◌++◌, Some, None, map, length, slice_get, codes}
+use Rattle.std.specs.Prelude.{◌≡◌, ℕ, nat_lt, Bool, true, false, if◌then◌else◌, List, [], ◌∷◌, ◌++◌, Some, None, map, length, slice_get, codes}
 use Rattle.ev_base.specs.declared.values.Value.{Value}
 use Rattle.ev_base.specs.declared.values.Value.TheVariants as held
 use Rattle.ev_heap.specs.Contents.{Contents, listed}
@@ -14,6 +14,9 @@ use Rattle.ev_heap.specs.declared.kept.Listed.{Listed}
 use Rattle.ev_heap.specs.declared.kept.Shape.{Shape}
 use Rattle.ev_heap.specs.declared.kept.Shape.TheVariants.{Made, Ejector, Resolver, Audition}
 use Rattle.ev_heap.specs.declared.kept.Thing.{Thing}
+use Rattle.ev_prims.specs.Asks.{primitive_at}
+use Rattle.ev_prims.specs.declared.primitives.Primitive.{Primitive}
+use Rattle.ev_prims.specs.declared.primitives.Primitive.TheVariants as primitive
 use Rattle.ev_pass.specs.declared.interior.Interior.{Interior}
 use Rattle.ev_room.specs.declared.object.Object.{Object}
 use Rattle.ev_room.specs.declared.scope.Binding.{Binding}
@@ -28,10 +31,6 @@ any_guard = 8
 
 abbrev pub no_guard : GuardKind
 no_guard = Native any_guard
-
--- a var slot without a guard
-abbrev pub plain_cell : Value → Cell
-plain_cell v = record { guard = no_guard; value = v }
 
 -- what an object holds of a name that is bound so
 abbrev pub capture_of : Bound → Capture
@@ -94,9 +93,18 @@ cycle_id = 42
 
 -- ---- what stands in a heap
 
--- the primitives on which calls are built: lists and ranges, the equalizer, the comparer, the loop, and throw
+-- the primitives on which calls are built: lists and ranges, the equalizer, the comparer, the loop, throw, and guards
+abbrev pub is_built_kind : Primitive → Bool
+is_built_kind primitive.MakeList = true
+is_built_kind primitive.Equalizer = true
+is_built_kind primitive.Comparer = true
+is_built_kind primitive.Looper = true
+is_built_kind primitive.Thrower = true
+is_built_kind (primitive.Guarding g) = true
+is_built_kind _ = false
+
 abbrev pub is_built_prim : ℕ → Bool
-is_built_prim n = if n == 0 then true else if n == 1 then true else if n == 2 then true else if n == 3 then true else n == 6
+is_built_prim n = is_built_kind (primitive_at n)
 
 -- no noun of the safe scope, or null, true, false or a primitive on which calls are built
 abbrev pub is_built_safe : Option Value → Bool
@@ -133,9 +141,9 @@ are_bound h (b ∷ bs) = if is_bound h b.bound then are_bound h bs else false
 abbrev pub Each : {A : Type 0} → (A → Type 0) → List A → Type 0
 Each {A = A} P xs = (k : ℕ) (x : A) → slice_get xs k ≡ Some x → P x
 
--- a var slot without a guard, whose value stands there
+-- a var slot whose value stands there
 abbrev pub IsPlainCell : Contents → Cell → Type 0
-IsPlainCell h c = (c ≡ plain_cell c.value) × (is_there h c.value ≡ true)
+IsPlainCell h c = is_there h c.value ≡ true
 
 -- an object without stamps, whose captures stand there, or an ejector
 abbrev pub IsPlainShape : Contents → Shape → Type 0

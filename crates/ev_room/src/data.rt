@@ -11,7 +11,7 @@ use crate::room::{Room, spend, tell_list};
 use ev_base::{ActId, ListId, Memory, PrimId, TextId, Value};
 use ev_heap::{Heap, ListFault};
 use ev_integer::NumFault;
-use ev_prims::Problem;
+use ev_prims::{Primitive, Problem, primitive_of};
 use ev_word::Text;
 
 /// The greatest number of bytes of a text that a text answers.
@@ -50,12 +50,23 @@ pub fn thrown_id(value: Value) -> TextId
     }
 }
 
-/// Whether calls on a primitive are built: on lists and ranges, the equalizer, the comparer, the loop, and throw.
+/// Whether calls on a primitive are built: on lists and ranges, the equalizer, the comparer, the loop, throw, and guards.
 pub fn is_built_prim(number: PrimId) -> bool
     ensures { result ≡ is_built_prim number }
 {
-    let number = number.0;
-    number == 0 || number == 1 || number == 2 || number == 3 || number == 6
+    match primitive_of(number) {
+        Primitive::MakeList => true,
+        Primitive::Equalizer => true,
+        Primitive::Comparer => true,
+        Primitive::Looper => true,
+        Primitive::Thrower => true,
+        Primitive::Guarding(_) => true,
+        Primitive::Sender => false,
+        Primitive::References => false,
+        Primitive::StampReader => false,
+        Primitive::Judging(_) => false,
+        Primitive::NoPrimitive => false,
+    }
 }
 
 /// Whether a value stands in a heap.

@@ -2,6 +2,7 @@
 #![tactic(auto)]
 
 pub mod call;
+pub mod coercion;
 pub mod data;
 pub mod ejector;
 pub mod exit;
@@ -14,6 +15,7 @@ pub mod scope;
 pub mod slots;
 pub mod tree;
 
+pub use coercion::{Coerced, guard_coerced, native_coerced, null_or};
 pub use data::is_built_prim;
 pub use exit::{Came, Exit};
 pub use room::Room;

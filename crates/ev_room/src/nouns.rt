@@ -1,13 +1,13 @@
-//! Reading and writing what nouns stand for.
+//! Reading what nouns stand for.
 
 ghost use Rattle.std.specs.Prelude.{◌≡◌};
 ghost use Rattle.ev_base.specs.SafeScope.{safe_value};
-ghost use Rattle.ev_room.specs.Acts.{Answers, Gives, read_bound, read_held, safe_found, write_bound, write_held};
+ghost use Rattle.ev_room.specs.Acts.{Answers, Gives, read_bound, read_held, safe_found};
 
 use crate::exit::Exit;
 use crate::room::Room;
 use crate::scope::Bound;
-use crate::slots::{read_slot, write_slot};
+use crate::slots::read_slot;
 use ev_base::{ActId, Value, safe_value};
 
 /// The value of a noun of the safe scope.
@@ -45,32 +45,5 @@ pub fn read_bound(
     match bound {
         Some(bound) => read_held(act, bound, room),
         None => safe_found(noun),
-    }
-}
-
-/// Writes what a noun is bound to, which is to be a var slot.
-#[tactic(auto, using(crate::proofs::Exits::ends), unfolding(crate::specs::Acts::opened_acts))]
-fn write_held(act: ActId, bound: Bound, value: Value, room: &mut Room) -> Result<Value, Exit>
-    ensures outcome { Gives result room.new (write_held act bound value room.old) }
-{
-    match bound {
-        Bound::Slot(slot) => write_slot(act, slot, value, room),
-        Bound::Fixed { .. } => Err(Exit::Astray),
-    }
-}
-
-/// Writes the var slot to which a noun is bound.
-#[tactic(auto, using(crate::proofs::Exits::ends), unfolding(crate::specs::Acts::opened_acts))]
-pub fn write_bound(
-    act: ActId,
-    bound: Option<Bound>,
-    value: Value,
-    room: &mut Room,
-) -> Result<Value, Exit>
-    ensures outcome { Gives result room.new (write_bound act bound value room.old) }
-{
-    match bound {
-        Some(bound) => write_held(act, bound, value, room),
-        None => Err(Exit::Astray),
     }
 }

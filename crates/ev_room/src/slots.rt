@@ -1,20 +1,19 @@
 //! Var slots.
 
-ghost use Rattle.std.specs.Prelude.{◌≡◌, ℕ, ◌<◌, length};
+ghost use Rattle.std.specs.Prelude.{◌≡◌, ℕ, ◌<◌, length, option_map, slice_get};
 ghost use Rattle.ev_room.specs.Acts.{Gives, new_slot, read_slot, slot_read, write_slot, write_told};
 
 use crate::exit::Exit;
 use crate::room::{Room, tell};
-use crate::scope::NO_GUARD;
 use ev_base::{ActId, Memory, SlotId, Value};
-use ev_heap::Happened;
+use ev_heap::{GuardKind, Happened, Heap};
 
-/// Makes a var slot without a guard.
+/// Makes a var slot of this guard.
 #[tactic(auto, unfolding(crate::specs::Acts::opened_acts))]
-pub fn new_slot(value: Value, room: &mut Room) -> Result<SlotId, Exit>
-    ensures outcome { Gives result room.new (new_slot value room.old) }
+pub fn new_slot(guard: GuardKind, value: Value, room: &mut Room) -> Result<SlotId, Exit>
+    ensures outcome { Gives result room.new (new_slot guard value room.old) }
 {
-    match room.heap.make_slot(NO_GUARD, value) {
+    match room.heap.make_slot(guard, value) {
         Ok(slot) => Ok(slot),
         Err(Memory) => Err(Exit::Memory),
     }
@@ -61,15 +60,26 @@ fn write_cell(slot: SlotId, value: Value, room: &mut Room)
     room.heap.write(slot, value);
 }
 
-/// Writes a slot.
-#[tactic(auto, using(crate::proofs::Cells::write_astray))]
+/// Writes a slot, whatever its guard. Where the heap holds no such slot, it is told alone.
+#[tactic(auto, using(crate::proofs::Cells::write_past))]
 pub fn write_slot(act: ActId, slot: SlotId, value: Value, room: &mut Room) -> Result<Value, Exit>
     ensures outcome { Gives result room.new (write_slot act slot value room.old) }
 {
     if slot.0 >= room.heap.slot_count() {
-        return Err(Exit::Astray);
+        return write_told(act, slot, value, room);
     }
     let kept = value;
     write_cell(slot, kept, room);
     write_told(act, slot, value, room)
+}
+
+/// The guard of a slot, if the heap holds it.
+#[tactic(auto, using(crate::proofs::Cells::guard_stands, crate::proofs::Cells::no_guard_past))]
+pub fn guard_of(heap: &Heap, slot: SlotId) -> Option<GuardKind>
+    ensures { result ≡ option_map (λ cell. cell.guard) (slice_get heap.now.slots slot) }
+{
+    if slot.0 >= heap.slot_count() {
+        return None;
+    }
+    Some(heap.guard(slot))
 }

@@ -12,7 +12,11 @@ use Rattle.ev_base.specs.declared.values.Value.TheVariants as held
 use Rattle.ev_pass.specs.declared.interior.Interior.{Interior as Room}
 use Rattle.ev_room.specs.declared.scope.Bound.TheVariants.{Fixed, Slot}
 use Rattle.ev_room.specs.declared.scope.Scope.{Scope}
-use Rattle.ev_steps.specs.Steps.{Evaluator, guarded_node, gathered, last_of, call_node, exit_of, define_by, define, literal_node, noun_node, set_node, within, choose, if_node, bind_unmatched, unmatched, not_matched, matched_if, match_ended, match_on, match_node, step, failed, bind_all, bind_final, bind_var, bind_any, bind_list, bind_items, bind_via, bind_asked, bind_step, step_found, bind_found, deeper, evaluator}
+use Rattle.ev_heap.specs.declared.kept.GuardKind.{GuardKind}
+use Rattle.ev_heap.specs.declared.kept.GuardKind.TheVariants.{Native, User}
+use Rattle.ev_steps.specs.declared.target.Target.{Target}
+use Rattle.ev_steps.specs.declared.target.Target.TheVariants as target
+use Rattle.ev_steps.specs.Steps.{Caller, Evaluator, guarded_node, gathered, last_of, call_node, exit_of, define_by, define, literal_node, noun_node, set_node, within, choose, if_node, bind_unmatched, unmatched, not_matched, matched_if, match_ended, match_on, match_node, step, call, failed, bind_all, bind_coerced, bind_by, bind_under, bind_guarded, bind_list, bind_items, bind_via, bind_asked, bind_step, step_found, bind_found, deeper, evaluator}
 use Rattle.ev_room.specs.Acts.{Out, Act, ◌>>=◌, ◌>>◌, ended_by, fails, cut, leave}
 use Rattle.ev_room.specs.Sound.{no_guard, not_a_list_id}
 use Rattle.ev_room.specs.declared.exit.Exit.TheVariants as exit
@@ -33,9 +37,9 @@ noun_grows : (x : Words) (here : Scope) (s : Room) → GivesMore here (noun_node
 unfolding noun_node ◌>>=◌
 noun_grows x here s = then_any _ _ (λ v t. given v t (same here))
 
-set_grows : (rec : Evaluator) → IsGrowing rec → (x : Words) (e : ℕ) (here : Scope) (s : Room) → GivesMore here (set_node rec x e here s)
+set_grows : (tree : List Node) (rec : Evaluator) → IsGrowing rec → (x : Words) (e : ℕ) (here : Scope) (s : Room) → GivesMore here (set_node tree rec x e here s)
 unfolding set_node ◌>>=◌
-set_grows rec r x e here s = then_of _ (r.expression e here s) (λ v t g. then_any _ _ (λ u q. given u q g))
+set_grows tree rec r x e here s = then_of _ (r.expression e here s) (λ v t g. then_any _ _ (λ u q. given u q g))
 
 exit_grows : (rec : Evaluator) → IsGrowing rec → (j : Option ℕ) (here : Scope) (s : Room) → GivesMore here (exit_of rec j here s)
 unfolding exit_of
@@ -138,7 +142,7 @@ step_grows : (tree : List Node) (rec : Evaluator) → IsGrowing rec → (id : �
 unfolding step
 step_grows tree rec r id (Lit l) here s = literal_grows l here s
 step_grows tree rec r id (Noun x) here s = noun_grows x here s
-step_grows tree rec r id (Set x e) here s = set_grows rec r x e here s
+step_grows tree rec r id (Set x e) here s = set_grows tree rec r x e here s
 step_grows tree rec r id (Def p j e) here s = define_grows rec r p j e here s
 step_grows tree rec r id (Call f verb args) here s = call_grows tree rec r f verb args here s
 step_grows tree rec r id (Sequence es) here s = last_grows rec r held.Null es here here s (same here)
@@ -153,20 +157,22 @@ step_grows tree rec r id _ here s = lost _ s
 
 -- ---- patterns
 
-final_grows : (x : Words) (g : Option ℕ) (v : Value) (here : Scope) (s : Room) → BindsMore here (bind_final x g v here s)
-unfolding bind_final
-final_grows x None v here s = bound s (with_one x (Fixed v no_guard) here)
-final_grows x (Some g) v here s = lost _ s
+coerced_grows : (act : ℕ) (t : Target) (k : GuardKind) (v : Value) (first here : Scope) (s : Room) → Grows first here → BindsMore first (bind_coerced act t k v here s)
+unfolding bind_coerced ◌>>=◌ ◌>>◌
+coerced_grows act (target.Final x) k v first here s g = bound s (onward g (with_one x (Fixed v k) here))
+coerced_grows act (target.Var x) k v first here s g = then_any _ _ (λ n t. then_any _ _ (λ z q. bound q (onward g (with_one x (Slot n) here))))
+coerced_grows act target.Nothing k v first here s g = bound s g
 
-var_grows : (x : Words) (g : Option ℕ) (v : Value) (here : Scope) (s : Room) → BindsMore here (bind_var x g v here s)
-unfolding bind_var ◌>>=◌ ◌>>◌
-var_grows x None v here s = then_any _ _ (λ k t. then_any _ _ (λ z q. bound q (with_one x (Slot k) here)))
-var_grows x (Some g) v here s = lost _ s
+under_grows : (tree : List Node) (rec : Evaluator) (act : ℕ) (t : Target) (v j x : Value) (first here : Scope) (s : Room) → Grows first here → BindsMore first (bind_under tree rec act t v j x here s)
+unfolding bind_under bind_by ◌>>=◌
+under_grows tree rec act t v j (held.Prim n) first here s g = then_any _ _ (λ u q. coerced_grows act t (Native n) u first here q g)
+under_grows tree rec act t v j (held.Obj i) first here s g = then_any _ _ (λ u q. coerced_grows act t (User i) u first here q g)
+under_grows tree rec act t v j _ first here s g = lost _ s
 
-any_grows : (g : Option ℕ) (here : Scope) (s : Room) → BindsMore here (bind_any g here s)
-unfolding bind_any
-any_grows None here s = bound s (same here)
-any_grows (Some g) here s = lost _ s
+guarded_pattern_grows : (tree : List Node) (rec : Evaluator) → IsGrowing rec → (t : Target) (k : Option ℕ) (v j : Value) (here : Scope) (s : Room) → BindsMore here (bind_guarded tree rec t k v j here s)
+unfolding bind_guarded ◌>>=◌
+guarded_pattern_grows tree rec r t None v j here s = coerced_grows here.act t no_guard v here here s (same here)
+guarded_pattern_grows tree rec r t (Some e) v j here s = then_of _ (r.expression e here s) (λ x q g. under_grows tree rec here.act t v j x.0 here x.1 q g)
 
 bind_all_grows : (rec : Evaluator) → IsGrowing rec → (ps : List ℕ) (vs : List Value) (j : Value) (first here : Scope) (s : Room) → Grows first here → BindsMore first (bind_all rec ps vs j here s)
 unfolding bind_all ◌>>=◌
@@ -174,20 +180,20 @@ bind_all_grows rec r [] vs j first here s g = bound s g
 bind_all_grows rec r (p ∷ ps) [] j first here s g = bound s g
 bind_all_grows rec r (p ∷ ps) (v ∷ vs) j first here s g = then_of _ (r.pattern p v j here s) (λ after t h. bind_all_grows rec r ps vs j first after t (onward g h))
 
-failed_grows : (tree : List Node) (rec : Evaluator) (act : ℕ) (j : Value) (id : ℕ) (here : Scope) (s : Room) → BindsMore here (failed tree rec act j id s)
+failed_grows : (again : Caller) (act : ℕ) (j : Value) (id : ℕ) (here : Scope) (s : Room) → BindsMore here (failed again act j id s)
 unfolding failed ◌>>◌
-failed_grows tree rec act held.Null id here s = lost _ s
-failed_grows tree rec act _ id here s = then_any _ _ (λ y t. lost _ t)
+failed_grows again act held.Null id here s = lost _ s
+failed_grows again act _ id here s = then_any _ _ (λ y t. lost _ t)
 
 list_grows : (tree : List Node) (rec : Evaluator) → IsGrowing rec → (ps : List ℕ) (j : Value) (here : Scope) (vs : List Value) (b : Bool) (s : Room) → BindsMore here (bind_list tree rec ps j here vs b s)
 unfolding bind_list
 list_grows tree rec r ps j here vs true s = bind_all_grows rec r ps vs j here here s (same here)
-list_grows tree rec r ps j here vs false s = failed_grows tree rec here.act j not_a_list_id here s
+list_grows tree rec r ps j here vs false s = failed_grows (call tree rec) here.act j not_a_list_id here s
 
 items_grows : (tree : List Node) (rec : Evaluator) → IsGrowing rec → (ps : List ℕ) (j : Value) (here : Scope) (v : Value) (s : Room) → BindsMore here (bind_items tree rec ps j here v s)
 unfolding bind_items
 items_grows tree rec r ps j here (held.List k) s = list_grows tree rec r ps j here (members_at s.heap k) (length (members_at s.heap k) == length ps) s
-items_grows tree rec r ps j here _ s = failed_grows tree rec here.act j not_a_list_id here s
+items_grows tree rec r ps j here _ s = failed_grows (call tree rec) here.act j not_a_list_id here s
 
 via_grows : (tree : List Node) (rec : Evaluator) → IsGrowing rec → (act p : ℕ) (v j f : Value) (first here : Scope) (s : Room) → Grows first here → BindsMore first (bind_via tree rec act p v j f here s)
 unfolding bind_via ◌>>=◌
@@ -199,9 +205,9 @@ via_grows tree rec r act p v j f first here s g = then_any _ _ (λ y t. record {
 
 bind_grows : (tree : List Node) (rec : Evaluator) → IsGrowing rec → (n : Node) (v j : Value) (here : Scope) (s : Room) → BindsMore here (bind_step tree rec n v j here s)
 unfolding bind_step bind_asked ◌>>=◌
-bind_grows tree rec r (Final x g) v j here s = final_grows x g v here s
-bind_grows tree rec r (Var x g) v j here s = var_grows x g v here s
-bind_grows tree rec r (Any g) v j here s = any_grows g here s
+bind_grows tree rec r (Final x g) v j here s = guarded_pattern_grows tree rec r (target.Final x) g v j here s
+bind_grows tree rec r (Var x g) v j here s = guarded_pattern_grows tree rec r (target.Var x) g v j here s
+bind_grows tree rec r (Any g) v j here s = guarded_pattern_grows tree rec r target.Nothing g v j here s
 bind_grows tree rec r (ListPattern ps) v j here s = items_grows tree rec r ps j here v s
 bind_grows tree rec r (Via e p) v j here s = then_of _ (r.expression e here s) (λ f t g. via_grows tree rec r here.act p v j f.0 here f.1 t g)
 bind_grows tree rec r _ v j here s = lost _ s

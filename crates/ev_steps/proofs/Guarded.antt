@@ -39,7 +39,7 @@ value_first (Throws p t) f g h = refl
 value_first (Ejects n v t) f g h = refl
 value_first (Stops c t) f g h = refl
 
-in_turn : {A B C : Type 0} (d : Done Local A) (f : A → machine.Act Local B) (g : B → machine.Act Local C) → machine.and_then (machine.and_then d f) g ≡ machine.and_then d (λ a t. machine.and_then (f a t) g)
+pub in_turn : {A B C : Type 0} (d : Done Local A) (f : A → machine.Act Local B) (g : B → machine.Act Local C) → machine.and_then (machine.and_then d f) g ≡ machine.and_then d (λ a t. machine.and_then (f a t) g)
 unfolding opened_state
 in_turn (machine.Gives x t) f g = refl
 in_turn (Throws p t) f g = refl

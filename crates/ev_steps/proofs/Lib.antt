@@ -2,6 +2,7 @@ pub mod Asks
 pub mod Binding
 pub mod Bound
 pub mod Calls
+pub mod Coercing
 pub mod Depth
 pub mod Grows
 pub mod Guarded

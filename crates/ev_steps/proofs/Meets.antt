@@ -1,12 +1,16 @@
 -- Evaluation over the state of the code is the machine's, on the trees that are built.
 use Rattle.std.proofs.Common.{◌≡◌, ◌==◌, ℕ, zero, suc, ◌+◌, Bool, nat_lt, true, false, List, [], ◌∷◌, ◌++◌, Option, Some, None, Ok, Err, length, refl, sym, ap, subst, ◌∙◌, append_assoc, append-nil, arith}
-use Rattle.std.specs.Prelude.{slice_get, is_none, codes, if◌then◌else◌}
+use Rattle.std.specs.Prelude.{option_map, slice_get, codes, if◌then◌else◌}
 use Rattle.std.proofs.lemmas.List.{map-append, length-map}
 use Rattle.ev_base.specs.SafeScope.{safe_value}
 use Rattle.ev_base.specs.declared.values.Value.{Value as Held}
 use Rattle.ev_base.specs.declared.values.Value.TheVariants as held
 use Rattle.ev_heap.specs.Contents.{Contents, nothing}
 use Rattle.ev_heap.specs.declared.happened.Happened.TheVariants as event
+use Rattle.ev_heap.specs.declared.kept.Cell.{Cell}
+use Rattle.ev_heap.specs.declared.kept.GuardKind.{GuardKind}
+use Rattle.ev_heap.specs.declared.kept.GuardKind.TheVariants.{Native, User}
+use Rattle.ev_audit.specs.Views.{guard_of}
 use Rattle.def_kernel.specs.declared.node.Literal.{Literal}
 use Rattle.def_kernel.specs.declared.node.Literal.TheVariants as literal
 use Rattle.def_kernel.specs.declared.node.Node.{Node}
@@ -32,16 +36,19 @@ use Rattle.ev_room.specs.declared.scope.Bound.TheVariants as scope
 use Rattle.ev_room.specs.declared.scope.Scope.{Scope}
 use Rattle.ev_steps.specs.Built.{is_built_node, is_built}
 use Rattle.ev_room.specs.Sound.{is_built_safe}
-use Rattle.ev_room.specs.Reading.{World, names, text_of, value_of, values_of, members_of, line_of}
-use Rattle.ev_room.specs.Sound.{IsSound, any_guard as any, no_guard, is_there, are_there, is_bound, are_bound, no_match_id, not_a_list_id}
-use Rattle.ev_steps.specs.Steps.{Evaluator, Caller, call_value, call_at, call, gathered, last_of, call_node, exit_of, define_by, define, no_match, unmatched_noun, bind_unmatched, unmatched, not_matched, matched_if, match_ended, match_on, match_node, failed, bind_list, bind_items, bind_via, bind_asked, literal_value, literal_node, noun_node, set_node, within, choose, if_node, step, bind_final, bind_var, bind_any, bind_step, step_found, bind_found, deeper, evaluator}
+use Rattle.ev_room.specs.Reading.{World, names, text_of, value_of, values_of, members_of, cell_of, line_of}
+use Rattle.ev_room.specs.Sound.{IsSound, any_guard as any, no_guard, is_there, are_there, is_bound, are_bound, no_match_id, not_a_list_id, not_a_guard_id}
+use Rattle.ev_steps.specs.declared.target.Target.{Target}
+use Rattle.ev_steps.specs.declared.target.Target.TheVariants as target
+use Rattle.ev_steps.specs.Steps.{Evaluator, Caller, call_value, call_at, call, gathered, last_of, call_node, exit_of, define_by, define, no_match, unmatched_noun, bind_unmatched, unmatched, not_matched, matched_if, match_ended, match_on, match_node, failed, coerce, write_under, write_cell, write_bound, bind_list, bind_items, bind_via, bind_asked, literal_value, literal_node, noun_node, set_node, within, choose, if_node, step, bind_coerced, bind_by, bind_under, bind_guarded, bind_step, step_found, bind_found, deeper, evaluator, opening}
 use Rattle.ev_room.specs.Acts.{Out, Act, and_then, ◌>>=◌, ◌>>◌, give, fail, found_from, with_noun}
 use Rattle.ev_steps.proofs.Calls.{CallsMet, call_data_met}
 use Rattle.ev_steps.proofs.Grows.{deeper_grows, none_grows}
 use Rattle.ev_room.proofs.Behind.{Grows, same, onward, cut_back}
-use Rattle.ev_steps.proofs.Guarded.{escape_met, try_met, finally_met, hide_met}
+use Rattle.ev_steps.proofs.Coercing.{coerce_met, failed_met, handed_met}
+use Rattle.ev_steps.proofs.Guarded.{in_turn, escape_met, try_met, finally_met, hide_met}
 use Rattle.ev_steps.proofs.IsMet.{IsMet}
-use Rattle.ev_room.proofs.Bindings.{found_is, none_bound, noun_met, onto_more, bound_more, write_met, made_line, new_slot_met}
+use Rattle.ev_room.proofs.Bindings.{found_is, none_bound, noun_met, onto_more, bound_more, made_line, new_slot_met, found_of, cells_at, write_slot_met}
 use Rattle.ev_steps.proofs.Objects.{bind_all_met, get_built, object_met, call_object_met}
 use Rattle.ev_steps.proofs.Primitives.{primitive_met}
 use Rattle.ev_room.proofs.Sounds.{grown_same, there_on, all_on, scope_on, all_and}
@@ -205,13 +212,36 @@ noun_node_met : (w : World) (tree : List Node) (their : scopes.Evaluator Local) 
 unfolding noun_node theirs.step scopes.answered ◌>>=◌ machine.◌>>=◌
 noun_node_met w tree their id x here s sound k e = then_met _ _ (noun_met w x here s sound k e) (λ v t q j g. give_met w an_answer (v, here) t q (j, scope_on g here.nouns k))
 
-set_met : (w : World) (tree : List Node) (rec : Evaluator) (their : scopes.Evaluator Local) (h : IsMet w rec their) (id : ℕ) (x : Words) (e : ℕ) (here : Scope) (s : Room) → IsSound s.heap → are_bound s.heap here.nouns ≡ true
-    → Met w an_answer s (set_node rec x e here s) (theirs.step (names w) tree their id (Set x e) (scope_of w here) (vat w s))
-unfolding set_node theirs.step scopes.answered ◌>>=◌ machine.◌>>=◌
-set_met w tree rec their h id x e here s sound k =
-    rw (found_is w here.nouns [] None x (none_bound w x))
-    (then_met _ _ (h.expression e here s sound k)
-    (λ v t q j g. then_met _ _ (write_met w tree their here.act (found_from None here.nouns x) v.0 t q j.0) (λ u r p l d. give_met w an_answer (u, v.1) r p (l, scope_on d v.1.nouns j.1))))
+-- what a noun stands for is written with what its guard makes of the value
+module _ (w : World) (tree : List Node) (rec : Evaluator) (their : scopes.Evaluator Local) (h : IsMet w rec their) (built : is_built tree ≡ true) where
+  coerces_met : (act : ℕ) (k : GuardKind) (v j : Held) (s : Room) → IsSound s.heap → is_there s.heap v ≡ true → is_there s.heap j ≡ true
+      → Met w a_value s (coerce (call tree rec) act k j v s) (perform.coerce (names w) tree (calls.call (names w) tree their) act (guard_of k) (value_of w j) (value_of w v) (vat w s))
+  coerces_met act k v j s sound i l = coerce_met w tree (call tree rec) (calls.call (names w) tree their) (call_met w tree rec their h built) act k v j s sound i l
+
+  write_cell_met : (act k : ℕ) (v : Held) (o : Option Cell) (s : Room) → IsSound s.heap → is_there s.heap v ≡ true
+      → Met w a_value s (write_cell (call tree rec) act k v o s) (theirs.write_cell (names w) tree their act k (value_of w v) (option_map (cell_of w) o) (vat w s))
+  unfolding write_cell write_under theirs.write_cell ◌>>=◌ machine.◌>>=◌ machine.◌>>◌
+  write_cell_met act k v None s sound i = stop_met w a_value s sound
+  write_cell_met act k v (Some c) s sound i = then_met _ _ (coerces_met act c.guard v held.Null s sound i refl) (λ u t q j g. write_slot_met w act k u t q j)
+
+  write_slot_is : (act k : ℕ) (v : Value Local) (y : Vat Local) → theirs.write_bound (names w) tree their act (Some (Slot k)) v y ≡ theirs.write_cell (names w) tree their act k v (slice_get y.slots k) y
+  unfolding theirs.write_bound opened_state
+  write_slot_is act k v y = refl
+
+  write_met : (act : ℕ) (f : Option Kept) (v : Held) (s : Room) → IsSound s.heap → is_there s.heap v ≡ true
+      → Met w a_value s (write_bound (call tree rec) act f v s) (theirs.write_bound (names w) tree their act (found_of w f) (value_of w v) (vat w s))
+  unfolding write_bound
+  write_met act (Some (scope.Slot k)) v s sound i = rw (write_slot_is act k (value_of w v) (vat w s), cells_at w s k) (write_cell_met act k v (slice_get s.heap.slots k) s sound i)
+  write_met act (Some (scope.Fixed u g)) v s sound i = unfold theirs.write_bound in stop_met w a_value s sound
+  write_met act None v s sound i = unfold theirs.write_bound in stop_met w a_value s sound
+
+  set_met : (id : ℕ) (x : Words) (e : ℕ) (here : Scope) (s : Room) → IsSound s.heap → are_bound s.heap here.nouns ≡ true
+      → Met w an_answer s (set_node tree rec x e here s) (theirs.step (names w) tree their id (Set x e) (scope_of w here) (vat w s))
+  unfolding set_node theirs.step scopes.answered ◌>>=◌ machine.◌>>=◌
+  set_met id x e here s sound k =
+      rw (found_is w here.nouns [] None x (none_bound w x))
+      (then_met _ _ (h.expression e here s sound k)
+      (λ v t q j g. then_met _ _ (write_met here.act (found_from None here.nouns x) v.0 t q j.0) (λ u r p l d. give_met w an_answer (u, v.1) r p (l, scope_on d v.1.nouns j.1))))
 
 literal_value_met : (w : World) (l : Literal) (s : Room) → IsSound s.heap → Met w a_value s (literal_value l s) (machine.give (form.literal_value l) (vat w s))
 unfolding literal_value form.literal_value
@@ -293,11 +323,11 @@ no_match_is w tree = refl
 
 unmatched_noun_met : (w : World) (tree : List Node) (act : ℕ) (b : Bool) (s : Room) → IsSound s.heap
     → Met w a_bound s (unmatched_noun act b s) (theirs.unmatched_noun (names w) tree act b (vat w s))
-unfolding unmatched_noun ◌>>=◌ ◌>>◌
-unmatched_noun_met w tree act false s sound = unfold theirs.unmatched_noun theirs.no_match any_guard in give_met w a_bound (scope.Fixed no_match no_guard) s sound (no_match_there s.heap sound)
+unfolding unmatched_noun any_guard ◌>>=◌ ◌>>◌
+unmatched_noun_met w tree act false s sound = unfold theirs.unmatched_noun theirs.no_match in give_met w a_bound (scope.Fixed no_match no_guard) s sound (no_match_there s.heap sound)
 unmatched_noun_met w tree act true s sound =
     rw (fresh_is w tree act (vat w s), no_match_is w tree)
-    (then_met _ _ (new_slot_met w no_match s sound (no_match_there s.heap sound))
+    (then_met _ _ (new_slot_met w no_guard no_match s sound (no_match_there s.heap sound))
     (λ k t q j g. then_met _ _ (tell_met w (event.Slot act k no_match) (SlotMade act k (value_of w no_match)) t q (made_line w act k no_match))
     (λ u r p l d. give_met w a_bound (scope.Slot k) r p refl)))
 
@@ -362,7 +392,7 @@ step_met : (w : World) → (tree : List Node) (rec : Evaluator) (their : scopes.
 unfolding step is_built_node theirs.step
 step_met w tree rec their h id (Lit l) here s sound k built found e = literal_met w tree their id l here s sound k
 step_met w tree rec their h id (Noun x) here s sound k built found e = noun_node_met w tree their id x here s sound k e
-step_met w tree rec their h id (Set x v) here s sound k built found e = set_met w tree rec their h id x v here s sound k
+step_met w tree rec their h id (Set x v) here s sound k built found e = set_met w tree rec their h built id x v here s sound k
 step_met w tree rec their h id (Def p j v) here s sound k built found e = define_met w tree rec their h id p j v here s sound k
 step_met w tree rec their h id (Call r verb args) here s sound k built found e = call_node_met w tree rec their h built id r verb args here s sound k
 step_met w tree rec their h id (Sequence es) here s sound k built found e = sequence_met w tree rec their h id es here s sound k
@@ -383,11 +413,6 @@ step_met w tree rec their h id (Via v p) here s sound k built found e = stop_met
 
 -- ---- patterns
 
-final_is : (w : World) (tree : List Node) (their : scopes.Evaluator Local) (x : Words) (y j : Value Local) (sc : Surroundings Local) (v : Vat Local)
-    → theirs.bind_step (names w) tree their (Final x None) y j sc v ≡ machine.Gives (scopes.with_noun x (Fixed y (Prim any)) sc) v
-unfolding opened_eval
-final_is w tree their x y j sc v = refl
-
 bound_met : (w : World) (x : Words) (b : Kept) (here : Scope) (s : Room) → IsSound s.heap → are_bound s.heap here.nouns ≡ true → is_bound s.heap b ≡ true
     → Met w a_scope s (give (with_noun x b here) s) (machine.give (scopes.with_noun x (bound_of w b) (scope_of w here)) (vat w s))
 unfolding give machine.give scopes.with_noun
@@ -398,86 +423,34 @@ bound_met w x b here s sound k i = record {
   is = λ f. ap (λ (ns : List (Bond Local)). machine.Gives (record { act = here.act; nouns = ns }) (vat w s)) (sym (onto_more w [] here.nouns (record { noun = x; bound = b })));
 }
 
-final_met : (w : World) (tree : List Node) (their : scopes.Evaluator Local) (x : Words) (g : Option ℕ) (v : Held) (j : Value Local) (here : Scope) (s : Room) → IsSound s.heap → is_there s.heap v ≡ true → are_bound s.heap here.nouns ≡ true → is_none g ≡ true
-    → Met w a_scope s (bind_final x g v here s) (theirs.bind_step (names w) tree their (Final x g) (value_of w v) j (scope_of w here) (vat w s))
-unfolding bind_final
-final_met w tree their x (Some g) v j here s sound i k e = absurd (cc)
-final_met w tree their x None v j here s sound i k e = rw (final_is w tree their x (value_of w v) j (scope_of w here) (vat w s)) (unfold machine.give in bound_met w x (scope.Fixed v no_guard) here s sound k i)
+-- what the machine binds by a pattern of one name
+unfoldable their_bound : ℕ → Target → Value Local → Value Local → Surroundings Local → machine.Act Local (Surroundings Local)
+their_bound act (target.Final x) g y sc = machine.give (scopes.with_noun x (Fixed y g) sc)
+their_bound act (target.Var x) g y sc = λ v. machine.and_then (machine.new_slot g y v) (λ k t. machine.and_then (machine.tell (SlotMade act k y) t) (λ u. machine.give (scopes.with_noun x (Slot k) sc)))
+their_bound act target.Nothing g y sc = machine.give sc
 
-var_is : (w : World) (tree : List Node) (their : scopes.Evaluator Local) (x : Words) (y j : Value Local) (sc : Surroundings Local) (v : Vat Local)
-    → theirs.bind_step (names w) tree their (Var x None) y j sc v
-    ≡ machine.and_then (machine.new_slot any_guard y v) (λ k t. machine.and_then (machine.tell (SlotMade sc.act k y) t) (λ u. machine.give (scopes.with_noun x (Slot k) sc)))
-unfolding opened_eval
-var_is w tree their x y j sc v = refl
+-- the pattern that binds so, with its guard
+abbrev node_of : Target → Option ℕ → Node
+node_of (target.Final x) g = Final x g
+node_of (target.Var x) g = Var x g
+node_of target.Nothing g = Any g
 
-var_met : (w : World) (tree : List Node) (their : scopes.Evaluator Local) (x : Words) (g : Option ℕ) (v : Held) (j : Value Local) (here : Scope) (s : Room) → IsSound s.heap → is_there s.heap v ≡ true → are_bound s.heap here.nouns ≡ true → is_none g ≡ true
-    → Met w a_scope s (bind_var x g v here s) (theirs.bind_step (names w) tree their (Var x g) (value_of w v) j (scope_of w here) (vat w s))
-unfolding bind_var ◌>>=◌ ◌>>◌
-var_met w tree their x (Some g) v j here s sound i k e = absurd (cc)
-var_met w tree their x None v j here s sound i k e =
-    rw (var_is w tree their x (value_of w v) j (scope_of w here) (vat w s))
-    (then_met _ _ (new_slot_met w v s sound i)
-    (λ n t q m g. then_met _ _ (tell_met w (event.Slot here.act n v) (SlotMade here.act n (value_of w v)) t q (made_line w here.act n v))
-    (λ u r p l d. bound_met w x (scope.Slot n) here r p (scope_on d here.nouns (scope_on g here.nouns k)) refl)))
+bind_coerced_met : (w : World) (act : ℕ) (t : Target) (k : GuardKind) (v : Held) (here : Scope) (s : Room) → IsSound s.heap → is_there s.heap v ≡ true → are_bound s.heap here.nouns ≡ true
+    → Met w a_scope s (bind_coerced act t k v here s) (their_bound act t (guard_of k) (value_of w v) (scope_of w here) (vat w s))
+unfolding bind_coerced their_bound ◌>>=◌ ◌>>◌
+bind_coerced_met w act (target.Final x) k v here s sound i l = bound_met w x (scope.Fixed v k) here s sound l i
+bind_coerced_met w act (target.Var x) k v here s sound i l =
+    then_met _ _ (new_slot_met w k v s sound i)
+    (λ n t q m g. then_met _ _ (tell_met w (event.Slot act n v) (SlotMade act n (value_of w v)) t q (made_line w act n v))
+    (λ u r p o d. bound_met w x (scope.Slot n) here r p (scope_on d here.nouns (scope_on g here.nouns l)) refl))
+bind_coerced_met w act target.Nothing k v here s sound i l = give_met w a_scope here s sound l
 
-any_is : (w : World) (tree : List Node) (their : scopes.Evaluator Local) (y j : Value Local) (sc : Surroundings Local) (v : Vat Local)
-    → theirs.bind_step (names w) tree their (Any None) y j sc v ≡ machine.Gives sc v
-unfolding opened_eval
-any_is w tree their y j sc v = refl
-
-any_met : (w : World) (tree : List Node) (their : scopes.Evaluator Local) (g : Option ℕ) (v : Held) (j : Value Local) (here : Scope) (s : Room) → IsSound s.heap → are_bound s.heap here.nouns ≡ true → is_none g ≡ true
-    → Met w a_scope s (bind_any g here s) (theirs.bind_step (names w) tree their (Any g) (value_of w v) j (scope_of w here) (vat w s))
-unfolding bind_any
-any_met w tree their (Some g) v j here s sound k e = absurd (cc)
-any_met w tree their None v j here s sound k e = rw (any_is w tree their (value_of w v) j (scope_of w here) (vat w s)) (unfold machine.give in give_met w a_scope here s sound k)
-
--- ---- failings
+-- ---- lists
 
 module _ (w : World) (tree : List Node) (rec : Evaluator) (their : scopes.Evaluator Local) (h : IsMet w rec their) (built : is_built tree ≡ true) where
-  tests_null : (act : ℕ) (j : Value Local) (p : Words) (v : Vat Local)
-      → perform.failed (names w) tree {A = Surroundings Local} (calls.call (names w) tree their) act j p v ≡ perform.fail_by (names w) tree {A = Surroundings Local} (calls.call (names w) tree their) act j p (scopes.is_null (follow (names w) v j)) v
-  unfolding perform.failed opened_state
-  tests_null act j p v = refl
-
-  null_fails : (act id : ℕ) (b : Bool) (s : Room) → IsSound s.heap → nat_lt id (length s.heap.texts) ≡ true → b ≡ true
-      → Met w a_scope s (fail (exit.Thrown id) s) (perform.fail_by (names w) tree {A = Surroundings Local} (calls.call (names w) tree their) act Null (text_of w id) b (vat w s))
-  unfolding perform.fail_by
-  null_fails act id true s sound i e = throw_met w a_scope id s sound i
-  null_fails act id false s sound i e = absurd (cc)
-
-  called_fails : (act : ℕ) (j : Held) (id : ℕ) (b : Bool) (s : Room) → IsSound s.heap → is_there s.heap j ≡ true → nat_lt id (length s.heap.texts) ≡ true → b ≡ false
-      → Met w a_scope s ((call tree rec act j (codes "run") (held.Text id ∷ []) >> fail (exit.Thrown id)) s) (perform.fail_by (names w) tree {A = Surroundings Local} (calls.call (names w) tree their) act (value_of w j) (text_of w id) b (vat w s))
-  unfolding perform.fail_by ◌>>◌ machine.◌>>◌
-  called_fails act j id true s sound i k e = absurd (cc)
-  called_fails act j id false s sound i k e =
-      then_met _ _ (call_met w tree rec their h built act j (codes "run") (held.Text id ∷ []) s sound i (all_and (is_there s.heap (held.Text id)) true k refl))
-      (λ u t q m g. throw_met w a_scope id t q (there_on g (held.Text id) k))
-
-  -- none of these is null
-  failed_by : (act : ℕ) (j : Held) (id : ℕ) (s : Room) → IsSound s.heap → is_there s.heap j ≡ true → nat_lt id (length s.heap.texts) ≡ true
-      → Met w a_scope s (failed tree rec act j id s) (perform.fail_by (names w) tree {A = Surroundings Local} (calls.call (names w) tree their) act (value_of w j) (text_of w id) (scopes.is_null (value_of w j)) (vat w s))
-  unfolding failed scopes.is_null
-  failed_by act held.Null id s sound i k = null_fails act id true s sound k refl
-  failed_by act (held.Bool b) id s sound i k = called_fails act (held.Bool b) id false s sound i k refl
-  failed_by act (held.Int z) id s sound i k = called_fails act (held.Int z) id false s sound i k refl
-  failed_by act (held.Char c) id s sound i k = called_fails act (held.Char c) id false s sound i k refl
-  failed_by act (held.Text n) id s sound i k = called_fails act (held.Text n) id false s sound i k refl
-  failed_by act (held.Broken n) id s sound i k = called_fails act (held.Broken n) id false s sound i k refl
-  failed_by act (held.List n) id s sound i k = called_fails act (held.List n) id false s sound i k refl
-  failed_by act (held.Prim n) id s sound i k = called_fails act (held.Prim n) id false s sound i k refl
-  failed_by act (held.Obj n) id s sound i k = called_fails act (held.Obj n) id false s sound i k refl
-  failed_by act (held.Prom n) id s sound i k = absurd (cc)
-  failed_by act (held.Far n p) id s sound i k = absurd (cc)
-
-  failed_met : (act : ℕ) (j : Held) (id : ℕ) (s : Room) → IsSound s.heap → is_there s.heap j ≡ true → nat_lt id (length s.heap.texts) ≡ true
-      → Met w a_scope s (failed tree rec act j id s) (perform.failed (names w) tree {A = Surroundings Local} (calls.call (names w) tree their) act (value_of w j) (text_of w id) (vat w s))
-  failed_met act j id s sound i k = rw (tests_null act (value_of w j) (text_of w id) (vat w s), follow_there w s s.heap j i) (failed_by act j id s sound i k)
-
   not_list_met : (act : ℕ) (j : Held) (s : Room) → IsSound s.heap → is_there s.heap j ≡ true
-      → Met w a_scope s (failed tree rec act j not_a_list_id s) (perform.failed (names w) tree {A = Surroundings Local} (calls.call (names w) tree their) act (value_of w j) (codes "not a list") (vat w s))
-  not_list_met act j s sound i = failed_met act j not_a_list_id s sound i (known_there s.heap sound not_a_list_id refl)
-
-  -- ---- lists
+      → Met w a_scope s (failed (call tree rec) act j not_a_list_id s) (perform.failed (names w) tree {A = Surroundings Local} (calls.call (names w) tree their) act (value_of w j) (codes "not a list") (vat w s))
+  not_list_met act j s sound i = failed_met w tree (call tree rec) (calls.call (names w) tree their) (call_met w tree rec their h built) a_scope act j not_a_list_id s sound i (known_there s.heap sound not_a_list_id refl)
 
   list_bound_met : (ps : List ℕ) (j : Held) (here : Scope) (vs : List Held) (b : Bool) (s : Room) → IsSound s.heap → are_there s.heap vs ≡ true → is_there s.heap j ≡ true → are_bound s.heap here.nouns ≡ true
       → Met w a_scope s (bind_list tree rec ps j here vs b s)
@@ -521,27 +494,6 @@ module _ (w : World) (tree : List Node) (rec : Evaluator) (their : scopes.Evalua
 
   -- ---- via
 
-  handed_is : (j : Value Local) (v : Vat Local) → perform.handed (names w) tree j v ≡ (if scopes.is_null (follow (names w) v j) then machine.give Null else machine.give j) v
-  unfolding perform.handed opened_state
-  handed_is j v = refl
-
-  null_or_it : (j : Held) (v : Vat Local) → is_there nothing j ≡ is_there nothing j → (if scopes.is_null (value_of w j) then machine.give Null else machine.give (value_of w j)) v ≡ machine.give (value_of w j) v
-  unfolding scopes.is_null
-  null_or_it held.Null v e = refl
-  null_or_it (held.Bool b) v e = refl
-  null_or_it (held.Int z) v e = refl
-  null_or_it (held.Char c) v e = refl
-  null_or_it (held.Text n) v e = refl
-  null_or_it (held.Broken n) v e = refl
-  null_or_it (held.List n) v e = refl
-  null_or_it (held.Prim n) v e = refl
-  null_or_it (held.Obj n) v e = refl
-  null_or_it (held.Prom n) v e = refl
-  null_or_it (held.Far n p) v e = refl
-
-  handed_met : (j : Held) (s : Room) → IsSound s.heap → is_there s.heap j ≡ true → Met w a_value s (give j s) (perform.handed (names w) tree (value_of w j) (vat w s))
-  handed_met j s sound i = rw (handed_is (value_of w j) (vat w s), follow_there w s s.heap j i, null_or_it j (vat w s) refl) (give_met w a_value j s sound i)
-
   via_is : (e p : ℕ) (y j : Value Local) (sc : Surroundings Local) (v : Vat Local)
       → theirs.bind_step (names w) tree their (Via e p) y j sc v
       ≡ machine.and_then (their.expression e sc v) (λ f t. machine.and_then (perform.handed (names w) tree j t) (λ k u. machine.and_then (calls.call (names w) tree their sc.act f.value (codes "run") (y ∷ k ∷ []) u) (λ x. their.pattern p x j f.scope)))
@@ -559,7 +511,7 @@ module _ (w : World) (tree : List Node) (rec : Evaluator) (their : scopes.Evalua
   viewed_met act p v j f here s sound i l m k =
       subst (λ (o : Out Scope). Met w a_scope s o (machine.and_then (perform.handed (names w) tree (value_of w j) (vat w s)) (λ k u. machine.and_then (calls.call (names w) tree their act (value_of w f) (codes "run") (value_of w v ∷ k ∷ []) u) (λ x. their.pattern p x (value_of w j) (scope_of w here)))))
       (given_first j (λ k t. and_then (call tree rec act f (codes "run") (v ∷ k ∷ []) t) (λ y. rec.pattern p y j here)) s)
-      (then_met _ _ (handed_met j s sound l)
+      (then_met _ _ (handed_met w tree (call tree rec) (calls.call (names w) tree their) (call_met w tree rec their h built) j s sound l)
       (λ k2 t q n g. then_met _ _ (call_met w tree rec their h built act f (codes "run") (v ∷ k2 ∷ []) t q (there_on g f m) (all_and (is_there t.heap v) (are_there t.heap (k2 ∷ [])) (there_on g v i) (all_and (is_there t.heap k2) true n refl)))
       (λ y u r o d. h.pattern p y j here u r o (there_on d j (there_on g j l)) (scope_on d here.nouns (scope_on g here.nouns k)))))
 
@@ -570,12 +522,86 @@ module _ (w : World) (tree : List Node) (rec : Evaluator) (their : scopes.Evalua
       rw (via_is e p (value_of w v) (value_of w j) (scope_of w here) (vat w s))
       (then_met _ _ (h.expression e here s sound k) (λ f t q m g. viewed_met here.act p v j f.0 f.1 t q (there_on g v i) (there_on g j l) m.0 m.1))
 
+  -- ---- guards
+
+  none_is : (t : Target) (y j : Value Local) (sc : Surroundings Local) (v : Vat Local)
+      → theirs.bind_step (names w) tree their (node_of t None) y j sc v ≡ their_bound sc.act t (Prim any) y sc v
+  unfolding opened_eval their_bound
+  none_is (target.Final x) y j sc v = refl
+  none_is (target.Var x) y j sc v = refl
+  none_is target.Nothing y j sc v = refl
+
+  -- what the machine binds under a guard
+  abbrev their_under : ℕ → Target → Value Local → Value Local → Value Local → Surroundings Local → machine.Act Local (Surroundings Local)
+  their_under act t y j g sc = λ v. machine.and_then (perform.coerce (names w) tree (calls.call (names w) tree their) act g j y v) (λ z. their_bound act t g z sc)
+
+  binds_is : (t : Target) (g : Option ℕ) (y j : Value Local) (sc : Surroundings Local) (v : Vat Local)
+      → theirs.bind_step (names w) tree their (node_of t g) y j sc v ≡ machine.and_then (theirs.guard_of (names w) tree their g sc v) (λ k. their_under sc.act t y j k.value k.scope)
+  unfolding theirs.bind_step their_bound machine.◌>>=◌ machine.◌>>◌
+  binds_is (target.Final x) g y j sc v = refl
+  binds_is (target.Var x) g y j sc v = refl
+  binds_is target.Nothing g y j sc v = refl
+
+  guard_is : (e : ℕ) (sc : Surroundings Local) (v : Vat Local)
+      → theirs.guard_of (names w) tree their (Some e) sc v ≡ machine.and_then (their.expression e sc v) (λ x u. scopes.answered x.scope (follow (names w) u x.value) u)
+  unfolding theirs.guard_of machine.◌>>=◌ machine.look machine.and_then
+  guard_is e sc v = refl
+
+  answered_first : (x : Value Local) (sc : Surroundings Local) (v : Vat Local) (f : Answer Local → machine.Act Local (Surroundings Local)) → machine.and_then (scopes.answered sc x v) f ≡ f (record { value = x; scope = sc }) v
+  unfolding scopes.answered opened_state
+  answered_first x sc v f = refl
+
+  some_is : (t : Target) (e : ℕ) (y j : Value Local) (sc : Surroundings Local) (v : Vat Local)
+      → theirs.bind_step (names w) tree their (node_of t (Some e)) y j sc v
+      ≡ machine.and_then (their.expression e sc v) (λ x u. machine.and_then (scopes.answered x.scope (follow (names w) u x.value) u) (λ k. their_under sc.act t y j k.value k.scope))
+  some_is t e y j sc v =
+      binds_is t (Some e) y j sc v
+      ∙ ap (λ (d : Done Local (Answer Local)). machine.and_then d (λ k. their_under sc.act t y j k.value k.scope)) (guard_is e sc v)
+      ∙ in_turn (their.expression e sc v) (λ x u. scopes.answered x.scope (follow (names w) u x.value) u) (λ k. their_under sc.act t y j k.value k.scope)
+
+  by_met : (act : ℕ) (t : Target) (v j : Held) (k : GuardKind) (here : Scope) (s : Room) → IsSound s.heap → is_there s.heap v ≡ true → is_there s.heap j ≡ true → are_bound s.heap here.nouns ≡ true
+      → Met w a_scope s (bind_by tree rec act t v j k here s) (their_under act t (value_of w v) (value_of w j) (guard_of k) (scope_of w here) (vat w s))
+  unfolding bind_by ◌>>=◌
+  by_met act t v j k here s sound i l m = then_met _ _ (coerces_met w tree rec their h built act k v j s sound i l) (λ u q r n g. bind_coerced_met w act t k u here q r n (scope_on g here.nouns m))
+
+  no_guard_met : (act : ℕ) (t : Target) (y j g : Value Local) (sc : Surroundings Local) (s : Room) → IsSound s.heap → perform.coerce (names w) tree (calls.call (names w) tree their) act g j y (vat w s) ≡ machine.throw (codes "not a guard") (vat w s)
+      → Met w a_scope s (fail (exit.Thrown not_a_guard_id) s) (their_under act t y j g sc (vat w s))
+  unfolding opened_state
+  no_guard_met act t y j g sc s sound e = rw e (throw_met w a_scope not_a_guard_id s sound (known_there s.heap sound not_a_guard_id refl))
+
+  under_met : (act : ℕ) (t : Target) (v j x : Held) (here : Scope) (s : Room) → IsSound s.heap → is_there s.heap v ≡ true → is_there s.heap j ≡ true → is_there s.heap x ≡ true → are_bound s.heap here.nouns ≡ true
+      → Met w a_scope s (bind_under tree rec act t v j x here s) (their_under act t (value_of w v) (value_of w j) (value_of w x) (scope_of w here) (vat w s))
+  unfolding bind_under
+  under_met act t v j (held.Prim n) here s sound i l k m = by_met act t v j (Native n) here s sound i l m
+  under_met act t v j (held.Obj n) here s sound i l k m = by_met act t v j (User n) here s sound i l m
+  under_met act t v j held.Null here s sound i l k m = no_guard_met act t (value_of w v) (value_of w j) (value_of w held.Null) (scope_of w here) s sound (unfold perform.coerce in refl)
+  under_met act t v j (held.Bool b) here s sound i l k m = no_guard_met act t (value_of w v) (value_of w j) (value_of w (held.Bool b)) (scope_of w here) s sound (unfold perform.coerce in refl)
+  under_met act t v j (held.Int z) here s sound i l k m = no_guard_met act t (value_of w v) (value_of w j) (value_of w (held.Int z)) (scope_of w here) s sound (unfold perform.coerce in refl)
+  under_met act t v j (held.Char c) here s sound i l k m = no_guard_met act t (value_of w v) (value_of w j) (value_of w (held.Char c)) (scope_of w here) s sound (unfold perform.coerce in refl)
+  under_met act t v j (held.Text n) here s sound i l k m = no_guard_met act t (value_of w v) (value_of w j) (value_of w (held.Text n)) (scope_of w here) s sound (unfold perform.coerce in refl)
+  under_met act t v j (held.Broken n) here s sound i l k m = no_guard_met act t (value_of w v) (value_of w j) (value_of w (held.Broken n)) (scope_of w here) s sound (unfold perform.coerce in refl)
+  under_met act t v j (held.List n) here s sound i l k m = no_guard_met act t (value_of w v) (value_of w j) (value_of w (held.List n)) (scope_of w here) s sound (unfold perform.coerce in refl)
+  under_met act t v j (held.Prom n) here s sound i l k m = absurd (cc)
+  under_met act t v j (held.Far n p) here s sound i l k m = absurd (cc)
+
+  guarded_met : (t : Target) (g : Option ℕ) (v j : Held) (here : Scope) (s : Room) → IsSound s.heap → is_there s.heap v ≡ true → is_there s.heap j ≡ true → are_bound s.heap here.nouns ≡ true
+      → Met w a_scope s (bind_guarded tree rec t g v j here s) (theirs.bind_step (names w) tree their (node_of t g) (value_of w v) (value_of w j) (scope_of w here) (vat w s))
+  unfolding bind_guarded ◌>>=◌
+  guarded_met t None v j here s sound i l k = rw (none_is t (value_of w v) (value_of w j) (scope_of w here) (vat w s)) (bind_coerced_met w here.act t no_guard v here s sound i k)
+  guarded_met t (Some e) v j here s sound i l k =
+      rw (some_is t e (value_of w v) (value_of w j) (scope_of w here) (vat w s))
+      (then_met _ _ (h.expression e here s sound k)
+      (λ x q r m g. rw (
+        follow_there w q q.heap x.0 m.0,
+        answered_first (value_of w x.0) (scope_of w x.1) (vat w q) (λ y. their_under here.act t (value_of w v) (value_of w j) y.value y.scope),
+      ) (under_met here.act t v j x.0 x.1 q r (there_on g v i) (there_on g j l) m.0 m.1)))
+
   bind_step_met : (n : Node) (v j : Held) (here : Scope) (s : Room) → IsSound s.heap → is_there s.heap v ≡ true → is_there s.heap j ≡ true → are_bound s.heap here.nouns ≡ true → is_built_node n ≡ true
       → Met w a_scope s (bind_step tree rec n v j here s) (theirs.bind_step (names w) tree their n (value_of w v) (value_of w j) (scope_of w here) (vat w s))
   unfolding bind_step is_built_node ◌>>=◌
-  bind_step_met (Final x g) v j here s sound i l k e = final_met w tree their x g v (value_of w j) here s sound i k e
-  bind_step_met (Var x g) v j here s sound i l k e = var_met w tree their x g v (value_of w j) here s sound i k e
-  bind_step_met (Any g) v j here s sound i l k e = any_met w tree their g v (value_of w j) here s sound k e
+  bind_step_met (Final x g) v j here s sound i l k e = guarded_met (target.Final x) g v j here s sound i l k
+  bind_step_met (Var x g) v j here s sound i l k e = guarded_met (target.Var x) g v j here s sound i l k
+  bind_step_met (Any g) v j here s sound i l k e = guarded_met target.Nothing g v j here s sound i l k
   bind_step_met (ListPattern ps) v j here s sound i l k e = list_pattern_met ps v j here s sound i l k
   bind_step_met (Via f p) v j here s sound i l k e = via_met f p v j here s sound i l k
   bind_step_met _ v j here s sound i l k e = unfold theirs.bind_step in stop_met w a_scope s sound

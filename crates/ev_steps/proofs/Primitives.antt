@@ -1,8 +1,7 @@
 -- Calls on primitives: what the code does is what the machine does.
-use Rattle.std.proofs.Common.{◌≡◌, ◌==◌, ℕ, zero, suc, ◌+◌, nat_le, ℤ, pos, ◌+ℤ◌, Bool, true, false, List, [], ◌∷◌, Option, Some, None, length, refl, ap, subst, ◌∙◌, arith}
+use Rattle.std.proofs.Common.{◌≡◌, ℕ, zero, suc, ◌+◌, nat_le, ℤ, pos, ◌+ℤ◌, Bool, true, false, List, [], ◌∷◌, Option, Some, None, length, refl, ap, ◌∙◌, arith}
 use Rattle.std.specs.Prelude.{codes, if◌then◌else◌}
 use Rattle.std.specs.Str.{bytes_eq}
-use Rattle.std.proofs.lemmas.Bool.Decides.{nat_tests}
 use Rattle.ev_base.specs.declared.values.Value.{Value as Held}
 use Rattle.ev_base.specs.declared.values.Value.TheVariants as held
 use Rattle.ev_heap.specs.Contents.{Contents}
@@ -15,7 +14,7 @@ use Rattle.def_machine.specs.Native as native
 use Rattle.def_machine.specs.Scopes as scopes
 use Rattle.def_machine.specs.Perform as perform
 use Rattle.ev_prims.specs.Asking.{asked_with}
-use Rattle.ev_prims.specs.Asks.{where_named, ranges, compares, numbered, primitive_at, asks_none, asks_one, asks_two, asks_three, asks_more, asked_by, asked_of}
+use Rattle.ev_prims.specs.Asks.{where_named, ranges, compares, guard_one, primitive_at, asks_none, asks_one, asks_two, asks_three, asks_more, asked_by, asked_of}
 use Rattle.ev_prims.specs.Forms.{args_of}
 use Rattle.ev_prims.specs.Orders.{test_in, compared_by}
 use Rattle.ev_prims.specs.Ranges.{counted_from, so_many, range_answer}
@@ -23,20 +22,29 @@ use Rattle.ev_prims.specs.Reading.{text_in, value_by, reply_by}
 use Rattle.ev_prims.specs.Verbs.{range_named, test_named}
 use Rattle.ev_prims.specs.declared.asking.Asked.{Asked}
 use Rattle.ev_prims.specs.declared.asking.Asked.TheVariants as ask
+use Rattle.ev_prims.specs.Primitives.{primitive_in}
 use Rattle.ev_prims.specs.declared.order.Test.{Test}
+use Rattle.ev_prims.specs.declared.primitives.Guard.{Guard}
+use Rattle.ev_prims.specs.declared.primitives.Kind.{Kind}
+use Rattle.ev_prims.specs.declared.primitives.Kind.TheVariants as kind
+use Rattle.ev_prims.specs.declared.primitives.Primitive.{Primitive}
+use Rattle.ev_prims.specs.declared.primitives.Primitive.TheVariants.{MakeList, Equalizer, Comparer, Looper, Thrower, Guarding}
 use Rattle.ev_prims.specs.declared.problem.Problem.TheVariants.{NotBoolean, NoMethod, Unthrowable}
-use Rattle.ev_prims.proofs.AskMeans.{asks_list, asks_comparer, asks_looper, asks_thrower}
+use Rattle.ev_prims.specs.declared.reply.Reply.TheVariants as reply
 use Rattle.ev_prims.proofs.RangeAnswers.{range_means}
 use Rattle.ev_same.proofs.Alike.{same_reply_is}
 use Rattle.ev_same.specs.Same.{same_ever, same_in, same_there}
-use Rattle.ev_steps.proofs.Asks.{asks_equalizer}
+use Rattle.ev_steps.proofs.Asks.{asked_is}
+use Rattle.ev_steps.proofs.Coercing.{guard_coerced_met}
 use Rattle.ev_room.specs.declared.exit.Exit.TheVariants as exit
 use Rattle.ev_pass.specs.declared.interior.Interior.{Interior as Room}
 use Rattle.ev_room.specs.Reading.{World, names, text_of, value_of, values_of, vat_of}
-use Rattle.ev_room.specs.Sound.{IsSound, is_built_prim, is_there, are_there}
-use Rattle.ev_steps.specs.Steps.{Caller, after_turn, turns, loop, pair_there, compared_there, compared, performed}
+use Rattle.ev_room.specs.Coercion.{null_or}
+use Rattle.ev_room.specs.Sound.{IsSound, is_built_kind, is_built_prim, is_there, are_there}
+use Rattle.ev_steps.specs.Steps.{Caller, replied, after_turn, turns, loop, pair_there, compared_there, compared, performed}
 use Rattle.ev_room.specs.Acts.{Act, ◌>>=◌, fail, fails, thrown_id}
 use Rattle.ev_steps.proofs.Calls.{CallsMet, replied_met}
+use Rattle.ev_room.proofs.Coercing.{fits_null_or, null_or_means, primitive_is}
 use Rattle.ev_room.proofs.Replies.{Fits, each_of}
 use Rattle.ev_room.proofs.Sounds.{grown_same, there_on, all_and}
 use Rattle.ev_room.proofs.Stands.{Met, vat, a_value, met_by, then_met, give_met, throw_met, fails_met, list_met, follow_there}
@@ -52,6 +60,8 @@ Good h (ask.Same x y) = (is_there h x ≡ true) × (is_there h y ≡ true)
 Good h (ask.Compares t x y) = (is_there h x ≡ true) × (is_there h y ≡ true)
 Good h (ask.Loops f) = is_there h f ≡ true
 Good h (ask.ThrowsIt v) = is_there h v ≡ true
+Good h (ask.Coerces g x j) = (is_there h x ≡ true) × (is_there h j ≡ true)
+Good h (ask.AddsNull x) = is_there h x ≡ true
 Good h ask.NoMethod = Unit {0}
 Good h _ = ⊥
 
@@ -71,8 +81,8 @@ module _ (h : Contents) where
   good_compares (Some t) a b i j = (i, j)
   good_compares None a b i j = tt
 
-  good_list : (verb : Words) (xs : List Held) → are_there h xs ≡ true → Good h (asked_of 0 verb xs)
-  unfolding args_of primitive_at numbered asks_none asks_one asks_two asks_three asks_more asked_by
+  good_list : (verb : Words) (xs : List Held) → are_there h xs ≡ true → Good h (asked_by MakeList verb (args_of xs))
+  unfolding args_of asks_none asks_one asks_two asks_three asks_more asked_by
   good_list verb [] i = good_where (codes "run") ask.MakesList verb tt
   good_list verb (a ∷ []) i = good_where (codes "run") ask.MakesList verb tt
   good_list verb (a ∷ b ∷ []) i =
@@ -82,8 +92,8 @@ module _ (h : Contents) where
   good_list verb (a ∷ b ∷ c ∷ []) i = good_where (codes "run") ask.MakesList verb tt
   good_list verb (a ∷ b ∷ c ∷ d ∷ xs) i = good_where (codes "run") ask.MakesList verb tt
 
-  good_equalizer : (verb : Words) (xs : List Held) → are_there h xs ≡ true → Good h (asked_of 1 verb xs)
-  unfolding args_of primitive_at numbered asks_none asks_one asks_two asks_three asks_more asked_by
+  good_equalizer : (verb : Words) (xs : List Held) → are_there h xs ≡ true → Good h (asked_by Equalizer verb (args_of xs))
+  unfolding args_of asks_none asks_one asks_two asks_three asks_more asked_by
   good_equalizer verb [] i = tt
   good_equalizer verb (a ∷ []) i = tt
   good_equalizer verb (a ∷ b ∷ []) i =
@@ -93,8 +103,8 @@ module _ (h : Contents) where
   good_equalizer verb (a ∷ b ∷ c ∷ []) i = tt
   good_equalizer verb (a ∷ b ∷ c ∷ d ∷ xs) i = tt
 
-  good_comparer : (verb : Words) (xs : List Held) → are_there h xs ≡ true → Good h (asked_of 2 verb xs)
-  unfolding args_of primitive_at numbered asks_none asks_one asks_two asks_three asks_more asked_by
+  good_comparer : (verb : Words) (xs : List Held) → are_there h xs ≡ true → Good h (asked_by Comparer verb (args_of xs))
+  unfolding args_of asks_none asks_one asks_two asks_three asks_more asked_by
   good_comparer verb [] i = tt
   good_comparer verb (a ∷ []) i = tt
   good_comparer verb (a ∷ b ∷ []) i =
@@ -104,21 +114,46 @@ module _ (h : Contents) where
   good_comparer verb (a ∷ b ∷ c ∷ []) i = tt
   good_comparer verb (a ∷ b ∷ c ∷ d ∷ xs) i = tt
 
-  good_looper : (verb : Words) (xs : List Held) → are_there h xs ≡ true → Good h (asked_of 3 verb xs)
-  unfolding args_of primitive_at numbered asks_none asks_one asks_two asks_three asks_more asked_by
+  good_looper : (verb : Words) (xs : List Held) → are_there h xs ≡ true → Good h (asked_by Looper verb (args_of xs))
+  unfolding args_of asks_none asks_one asks_two asks_three asks_more asked_by
   good_looper verb [] i = tt
   good_looper verb (a ∷ []) i = good_where (codes "run") (ask.Loops a) verb (both (is_there h a) true i).0
   good_looper verb (a ∷ b ∷ []) i = tt
   good_looper verb (a ∷ b ∷ c ∷ []) i = tt
   good_looper verb (a ∷ b ∷ c ∷ d ∷ xs) i = tt
 
-  good_thrower : (verb : Words) (xs : List Held) → are_there h xs ≡ true → Good h (asked_of 6 verb xs)
-  unfolding args_of primitive_at numbered asks_none asks_one asks_two asks_three asks_more asked_by
+  good_thrower : (verb : Words) (xs : List Held) → are_there h xs ≡ true → Good h (asked_by Thrower verb (args_of xs))
+  unfolding args_of asks_none asks_one asks_two asks_three asks_more asked_by
   good_thrower verb [] i = tt
   good_thrower verb (a ∷ []) i = good_where (codes "run") (ask.ThrowsIt a) verb (both (is_there h a) true i).0
   good_thrower verb (a ∷ b ∷ []) i = tt
   good_thrower verb (a ∷ b ∷ c ∷ []) i = tt
   good_thrower verb (a ∷ b ∷ c ∷ d ∷ xs) i = tt
+
+  good_kind : (k : Kind) (b : Bool) (verb : Words) (a : Held) → is_there h a ≡ true → Good h (guard_one (record { kind = k; or_null = b }) verb a)
+  good_kind k true verb a i = tt
+  good_kind kind.Null false verb a i = good_where (codes "get") (ask.AddsNull a) verb i
+  good_kind _ false verb a i = tt
+
+  good_guard : (g : Guard) (verb : Words) (xs : List Held) → are_there h xs ≡ true → Good h (asked_by (Guarding g) verb (args_of xs))
+  unfolding args_of asks_none asks_one asks_two asks_three asks_more asked_by
+  good_guard g verb [] i = tt
+  good_guard g verb (a ∷ []) i = good_kind g.kind g.or_null verb a (both (is_there h a) true i).0
+  good_guard g verb (a ∷ b ∷ []) i =
+      let s = both (is_there h a) (are_there h (b ∷ [])) i in
+      let t = both (is_there h b) true s.1 in
+      good_where (codes "coerce") (ask.Coerces g a b) verb (s.0, t.0)
+  good_guard g verb (a ∷ b ∷ c ∷ []) i = tt
+  good_guard g verb (a ∷ b ∷ c ∷ d ∷ xs) i = tt
+
+  good : (p : Primitive) (verb : Words) (xs : List Held) → is_built_kind p ≡ true → are_there h xs ≡ true → Good h (asked_by p verb (args_of xs))
+  good MakeList verb xs e i = good_list verb xs i
+  good Equalizer verb xs e i = good_equalizer verb xs i
+  good Comparer verb xs e i = good_comparer verb xs i
+  good Looper verb xs e i = good_looper verb xs i
+  good Thrower verb xs e i = good_thrower verb xs i
+  good (Guarding g) verb xs e i = good_guard g verb xs i
+  good _ verb xs e i = absurd (cc)
 
 -- ---- values, by the texts of the moment and of the end
 
@@ -275,6 +310,18 @@ module _ (w : World) (tree : List Node) (again : Caller) (their : scopes.Caller 
   thrown_met act (held.Text id) s sound i = throw_met w a_value id s sound i
   thrown_met act _ s sound i = unfold fails in fails_met w a_value Unthrowable s sound
 
+  -- ---- the guard that takes null as well
+
+  adds_is : (act : ℕ) (x : Value Local) (v : Vat Local)
+      → perform.perform (names w) tree their act (native.AddsNull x) v ≡ perform.reply (names w) tree their act (native.null_or_reply (follow (names w) v x)) v
+  unfolding perform.perform opened_state
+  adds_is act x v = refl
+
+  adds_met : (act : ℕ) (x : Held) (s : Room) → IsSound s.heap → is_there s.heap x ≡ true
+      → Met w a_value s (replied again act (null_or x) s) (perform.perform (names w) tree their act (native.AddsNull (value_of w x)) (vat w s))
+  adds_met act x s sound i =
+      rw (adds_is act (value_of w x) (vat w s), follow_there w s s.heap x i, ← null_or_means (text_of w) x) (replied_met w tree again their h act (null_or x) s sound (fits_null_or s.heap x))
+
   -- ---- what is asked
 
   asked_met : (act : ℕ) (r : Asked) (args : List Held) (s : Room) → IsSound s.heap → are_there s.heap args ≡ true → Good s.heap r
@@ -286,32 +333,17 @@ module _ (w : World) (tree : List Node) (again : Caller) (their : scopes.Caller 
   asked_met act (ask.Compares t x y) args s sound a g = compared_met act t x y s sound g.0 g.1
   asked_met act (ask.Loops f) args s sound a g = unfold perform.perform in loop_met act f s sound g
   asked_met act (ask.ThrowsIt v) args s sound a g = rw (throws_is act (value_of w v) (vat w s), follow_there w s s.heap v g) (thrown_met act v s sound g)
+  asked_met act (ask.Coerces k x j) args s sound a g = unfold perform.perform in guard_coerced_met w tree again their h act k x j s sound g.0 g.1
+  asked_met act (ask.AddsNull x) args s sound a g = adds_met act x s sound g
   asked_met act ask.NoMethod args s sound a g = unfold perform.perform in fails_met w a_value NoMethod s sound
   asked_met act _ args s sound a g = absurd g
 
   -- ---- the primitives that are built
 
-  by_number : (n : ℕ) (b a c d e : Bool) → n == 0 ≡ b → n == 1 ≡ a → n == 2 ≡ c → n == 3 ≡ d → n == 6 ≡ e → (if b then true else if a then true else if c then true else if d then true else e) ≡ true
-      → (P : ℕ → Type 0) → P 0 → P 1 → P 2 → P 3 → P 6 → P n
-  by_number n true a c d e f o g h' i j P p v q r s = let k : 0 ≡ n = grind (arith, nat_tests) in subst P k p
-  by_number n false true c d e f o g h' i j P p v q r s = let k : 1 ≡ n = grind (arith, nat_tests) in subst P k v
-  by_number n false false true d e f o g h' i j P p v q r s = let k : 2 ≡ n = grind (arith, nat_tests) in subst P k q
-  by_number n false false false true e f o g h' i j P p v q r s = let k : 3 ≡ n = grind (arith, nat_tests) in subst P k r
-  by_number n false false false false true f o g h' i j P p v q r s = let k : 6 ≡ n = grind (arith, nat_tests) in subst P k s
-  by_number n false false false false false f o g h' i j P p v q r s = absurd (cc)
-
-  one_met : (act n : ℕ) (verb : Words) (args : List Held) (s : Room) → IsSound s.heap → are_there s.heap args ≡ true → Good s.heap (asked_of n verb args)
-      → native.asked (native.primitive n) verb (values_of w args) ≡ asked_with (text_of w) args (asked_of n verb args)
-      → Met w a_value s (performed again act (asked_of n verb args) args s) (perform.perform (names w) tree their act (native.asked (native.primitive n) verb (values_of w args)) (vat w s))
-  one_met act n verb args s sound a g e = rw e (asked_met act (asked_of n verb args) args s sound a g)
+  one_met : (act : ℕ) (p : Primitive) (verb : Words) (args : List Held) (s : Room) → IsSound s.heap → is_built_kind p ≡ true → are_there s.heap args ≡ true
+      → Met w a_value s (performed again act (asked_by p verb (args_of args)) args s) (perform.perform (names w) tree their act (native.asked (primitive_in p) verb (values_of w args)) (vat w s))
+  one_met act p verb args s sound b a = rw (asked_is (text_of w) verb p args b) (asked_met act (asked_by p verb (args_of args)) args s sound a (good s.heap p verb args b a))
 
   pub primitive_met : (act n : ℕ) (verb : Words) (args : List Held) (s : Room) → IsSound s.heap → is_built_prim n ≡ true → are_there s.heap args ≡ true
       → Met w a_value s (performed again act (asked_of n verb args) args s) (perform.perform (names w) tree their act (native.asked (native.primitive n) verb (values_of w args)) (vat w s))
-  primitive_met act n verb args s sound b a =
-      by_number n (n == 0) (n == 1) (n == 2) (n == 3) (n == 6) refl refl refl refl refl b
-      (λ m. Met w a_value s (performed again act (asked_of m verb args) args s) (perform.perform (names w) tree their act (native.asked (native.primitive m) verb (values_of w args)) (vat w s)))
-      (one_met act 0 verb args s sound a (good_list s.heap verb args a) (asks_list (text_of w) verb args))
-      (one_met act 1 verb args s sound a (good_equalizer s.heap verb args a) (asks_equalizer (text_of w) verb args))
-      (one_met act 2 verb args s sound a (good_comparer s.heap verb args a) (asks_comparer (text_of w) verb args))
-      (one_met act 3 verb args s sound a (good_looper s.heap verb args a) (asks_looper (text_of w) verb args))
-      (one_met act 6 verb args s sound a (good_thrower s.heap verb args a) (asks_thrower (text_of w) verb args))
+  primitive_met act n verb args s sound b a = rw (primitive_is n) (one_met act (primitive_at n) verb args s sound b a)

@@ -1,5 +1,5 @@
 -- The kernel trees that are evaluated so far.
-use Rattle.std.specs.Prelude.{ℕ, Bool, true, false, if◌then◌else◌, List, [], ◌∷◌, is_none}
+use Rattle.std.specs.Prelude.{ℕ, Bool, true, false, if◌then◌else◌, List, [], ◌∷◌}
 use Rattle.ev_base.specs.SafeScope.{safe_value}
 use Rattle.ev_room.specs.Sound.{is_built_safe}
 use Rattle.def_kernel.specs.declared.node.Node.{Node}
@@ -9,7 +9,7 @@ abbrev pub is_nil : List ℕ → Bool
 is_nil [] = true
 is_nil _ = false
 
--- All but objects with auditors, and patterns with a guard.
+-- All but objects with auditors.
 unfoldable pub is_built_node : Node → Bool
 is_built_node (Lit l) = true
 is_built_node (Noun x) = is_built_safe (safe_value x)
@@ -24,9 +24,9 @@ is_built_node (Finally a b) = true
 is_built_node (Hide e) = true
 is_built_node (Object p auditors members) = is_nil auditors
 is_built_node (Method verb ps b) = true
-is_built_node (Final x g) = is_none g
-is_built_node (Var x g) = is_none g
-is_built_node (Any g) = is_none g
+is_built_node (Final x g) = true
+is_built_node (Var x g) = true
+is_built_node (Any g) = true
 is_built_node (MatchBind e p) = true
 is_built_node (ListPattern ps) = true
 is_built_node (Via e p) = true

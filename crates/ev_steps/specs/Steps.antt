@@ -24,7 +24,13 @@ use Rattle.ev_prims.specs.declared.order.Test.{Test}
 use Rattle.ev_prims.specs.declared.problem.Problem.TheVariants.{NoMethod, NotBoolean}
 use Rattle.ev_prims.specs.declared.reply.Reply.{Reply}
 use Rattle.ev_prims.specs.declared.reply.Reply.TheVariants as reply
-use Rattle.ev_room.specs.Sound.{is_there, no_guard, no_match_id, not_a_list_id}
+use Rattle.ev_heap.specs.declared.kept.Cell.{Cell}
+use Rattle.ev_heap.specs.declared.kept.GuardKind.{GuardKind}
+use Rattle.ev_heap.specs.declared.kept.GuardKind.TheVariants.{Native, User}
+use Rattle.ev_room.specs.Coercion.{guard_coerced, native_coerced, null_or}
+use Rattle.ev_room.specs.declared.coercion.Coerced.{Coerced}
+use Rattle.ev_room.specs.declared.coercion.Coerced.TheVariants as coerced
+use Rattle.ev_room.specs.Sound.{is_there, no_guard, no_match_id, not_a_list_id, not_a_guard_id}
 use Rattle.ev_same.specs.Same.{same_ever}
 use Rattle.ev_room.specs.declared.object.Object.{Object}
 use Rattle.ev_room.specs.declared.object.Code.{Code}
@@ -33,7 +39,9 @@ use Rattle.ev_room.specs.declared.exit.Exit.TheVariants.{Thrown, Ejected, Fuel, 
 use Rattle.ev_room.specs.declared.scope.Bound.{Bound}
 use Rattle.ev_room.specs.declared.scope.Bound.TheVariants.{Fixed, Slot}
 use Rattle.ev_room.specs.declared.scope.Scope.{Scope}
-use Rattle.ev_room.specs.Acts.{Act, ◌>>=◌, ◌>>◌, give, fail, tell, spend, new_activation, new_slot, found_from, read_bound, write_bound, cut, with_noun, fails, text_value, write_text, make_list, closed, thrown_id, call_there, object_node, first_method, look_code, Out, ended_by, leave, new_ejector, call_ejector, opened_acts}
+use Rattle.ev_steps.specs.declared.target.Target.{Target}
+use Rattle.ev_steps.specs.declared.target.Target.TheVariants as target
+use Rattle.ev_room.specs.Acts.{Act, ◌>>=◌, ◌>>◌, give, fail, tell, spend, new_activation, new_slot, found_from, read_bound, write_slot, cut, with_noun, fails, text_value, write_text, make_list, closed, thrown_id, call_there, object_node, first_method, look_code, Out, ended_by, leave, new_ejector, call_ejector, opened_acts}
 
 -- a call by an activation: receiver, verb and arguments
 abbrev pub Caller : Type 0
@@ -53,6 +61,40 @@ replied again act (reply.Writes u) = write_text u
 replied again act (reply.Lists vs) = make_list act vs
 replied again act (reply.Iterates f vs) = iterate again act f 0 vs
 replied again act (reply.Fails p) = fails p
+
+-- ---- guards
+
+-- A failing calls the ejector where there is one, and throws where that comes back.
+unfoldable pub failed : {A : Type 0} → Caller → ℕ → Value → ℕ → Act A
+failed again act held.Null id = fail (Thrown id)
+failed again act j id = again act j (codes "run") (held.Text id ∷ []) >> fail (Thrown id)
+
+-- what follows a coercion with an ejector, by what came of it
+unfoldable pub coerced_as : Caller → ℕ → Value → Coerced → Act Value
+coerced_as again act j (coerced.Takes v) = give v
+coerced_as again act j (coerced.Refuses id) = failed again act j id
+coerced_as again act j coerced.NoGuard = fail (Thrown not_a_guard_id)
+coerced_as again act j coerced.Astray = fail Astray
+
+-- a guard coerces a value, with an ejector: an object is called
+unfoldable pub coerce : Caller → ℕ → GuardKind → Value → Value → Act Value
+coerce again act (Native n) j v = λ s. coerced_as again act j (native_coerced s.heap n v) s
+coerce again act (User i) j v = again act (held.Obj i) (codes "coerce") (v ∷ j ∷ [])
+
+-- a slot is written with what a guard makes of a value
+unfoldable pub write_under : Caller → ℕ → ℕ → GuardKind → Value → Act Value
+write_under again act k g v = do
+  u ← coerce again act g held.Null v
+  write_slot act k u
+
+unfoldable pub write_cell : Caller → ℕ → ℕ → Value → Option Cell → Act Value
+write_cell again act k v None = fail Astray
+write_cell again act k v (Some c) = write_under again act k c.guard v
+
+unfoldable pub write_bound : Caller → ℕ → Option Bound → Value → Act Value
+write_bound again act (Some (Slot k)) v = λ s. write_cell again act k v (slice_get s.heap.slots k) s
+write_bound again act (Some (Fixed u g)) v = fail Astray
+write_bound again act None v = fail Astray
 
 -- ---- primitives
 
@@ -92,6 +134,8 @@ performed again act (ask.Loops f) args = loop again act f
 performed again act (ask.ThrowsIt v) args = fail (Thrown (thrown_id v))
 performed again act ask.NoMethod args = fails NoMethod
 performed again act (ask.Same x y) args = same_ever x y
+performed again act (ask.Coerces g x j) args = λ s. coerced_as again act j (guard_coerced s.heap g x) s
+performed again act (ask.AddsNull x) args = replied again act (null_or x)
 performed again act _ args = fail Unbuilt
 
 -- ---- data
@@ -264,10 +308,10 @@ noun_node x here = do
   give (v, here)
 
 -- what the noun stands for before the value is evaluated is written
-unfoldable pub set_node : Evaluator → Words → ℕ → Scope → Act (Value × Scope)
-set_node rec x e here = do
+unfoldable pub set_node : List Node → Evaluator → Words → ℕ → Scope → Act (Value × Scope)
+set_node tree rec x e here = do
   v ← rec.expression e here
-  u ← write_bound here.act (found_from None here.nouns x) v.0
+  u ← write_bound (call tree rec) here.act (found_from None here.nouns x) v.0
   give (u, v.1)
 
 -- an expression whose names are dropped behind it, down to so many
@@ -363,7 +407,7 @@ no_match = held.Broken no_match_id
 unfoldable pub unmatched_noun : ℕ → Bool → Act Bound
 unmatched_noun act false = give (Fixed no_match no_guard)
 unmatched_noun act true = do
-  k ← new_slot no_match
+  k ← new_slot no_guard no_match
   tell (event.Slot act k no_match)
   give (Slot k)
 
@@ -406,7 +450,7 @@ match_node tree rec e p here = do
 unfoldable pub step : List Node → Evaluator → ℕ → Node → Scope → Act (Value × Scope)
 step tree rec id (Lit l) here = literal_node l here
 step tree rec id (Noun x) here = noun_node x here
-step tree rec id (Set x e) here = set_node rec x e here
+step tree rec id (Set x e) here = set_node tree rec x e here
 step tree rec id (Def p j e) here = define rec p j e here
 step tree rec id (Call r verb args) here = call_node tree rec r verb args here
 step tree rec id (Sequence es) here = last_of rec held.Null es here
@@ -427,34 +471,41 @@ step tree rec id (Via e p) here = fail Astray
 
 -- ---- patterns
 
--- A failing calls the ejector where there is one, and throws where that comes back.
-unfoldable pub failed : {A : Type 0} → List Node → Evaluator → ℕ → Value → ℕ → Act A
-failed tree rec act held.Null id = fail (Thrown id)
-failed tree rec act j id = call tree rec act j (codes "run") (held.Text id ∷ []) >> fail (Thrown id)
-
-unfoldable pub bind_final : Words → Option ℕ → Value → Scope → Act Scope
-bind_final x None v here = give (with_noun x (Fixed v no_guard) here)
-bind_final x (Some g) v here = fail Unbuilt
-
-unfoldable pub bind_var : Words → Option ℕ → Value → Scope → Act Scope
-bind_var x (Some g) v here = fail Unbuilt
-bind_var x None v here = do
-  k ← new_slot v
-  tell (event.Slot here.act k v)
+-- what a pattern binds to a value that its guard has coerced, which an activation does
+unfoldable pub bind_coerced : ℕ → Target → GuardKind → Value → Scope → Act Scope
+bind_coerced act (target.Final x) g v here = give (with_noun x (Fixed v g) here)
+bind_coerced act (target.Var x) g v here = do
+  k ← new_slot g v
+  tell (event.Slot act k v)
   give (with_noun x (Slot k) here)
+bind_coerced act target.Nothing g v here = give here
 
-unfoldable pub bind_any : Option ℕ → Scope → Act Scope
-bind_any None here = give here
-bind_any (Some g) here = fail Unbuilt
+unfoldable pub bind_by : List Node → Evaluator → ℕ → Target → Value → Value → GuardKind → Scope → Act Scope
+bind_by tree rec act t v j g here = do
+  u ← coerce (call tree rec) act g j v
+  bind_coerced act t g u here
+
+-- a pattern at a value with an ejector, under a value as its guard
+unfoldable pub bind_under : List Node → Evaluator → ℕ → Target → Value → Value → Value → Scope → Act Scope
+bind_under tree rec act t v j (held.Prim n) here = bind_by tree rec act t v j (Native n) here
+bind_under tree rec act t v j (held.Obj i) here = bind_by tree rec act t v j (User i) here
+bind_under tree rec act t v j _ here = fail (Thrown not_a_guard_id)
+
+-- its guard is evaluated first
+unfoldable pub bind_guarded : List Node → Evaluator → Target → Option ℕ → Value → Value → Scope → Act Scope
+bind_guarded tree rec t None v j here = bind_coerced here.act t no_guard v here
+bind_guarded tree rec t (Some e) v j here = do
+  g ← rec.expression e here
+  bind_under tree rec here.act t v j g.0 g.1
 
 unfoldable pub bind_list : List Node → Evaluator → List ℕ → Value → Scope → List Value → Bool → Act Scope
 bind_list tree rec ps j here vs true = bind_all rec ps vs j here
-bind_list tree rec ps j here vs false = failed tree rec here.act j not_a_list_id
+bind_list tree rec ps j here vs false = failed (call tree rec) here.act j not_a_list_id
 
 -- a list of as many members
 unfoldable pub bind_items : List Node → Evaluator → List ℕ → Value → Scope → Value → Act Scope
 bind_items tree rec ps j here (held.List k) = λ s. bind_list tree rec ps j here (members_at s.heap k) (length (members_at s.heap k) == length ps) s
-bind_items tree rec ps j here v = failed tree rec here.act j not_a_list_id
+bind_items tree rec ps j here v = failed (call tree rec) here.act j not_a_list_id
 
 -- what a value gives for another with an ejector is bound
 unfoldable pub bind_via : List Node → Evaluator → ℕ → ℕ → Value → Value → Value → Scope → Act Scope
@@ -468,9 +519,9 @@ bind_asked tree rec e p v j here = do
   bind_via tree rec here.act p v j f.0 f.1
 
 unfoldable pub bind_step : List Node → Evaluator → Node → Value → Value → Scope → Act Scope
-bind_step tree rec (Final x g) v j here = bind_final x g v here
-bind_step tree rec (Var x g) v j here = bind_var x g v here
-bind_step tree rec (Any g) v j here = bind_any g here
+bind_step tree rec (Final x g) v j here = bind_guarded tree rec (target.Final x) g v j here
+bind_step tree rec (Var x g) v j here = bind_guarded tree rec (target.Var x) g v j here
+bind_step tree rec (Any g) v j here = bind_guarded tree rec target.Nothing g v j here
 bind_step tree rec (ListPattern ps) v j here = bind_items tree rec ps j here v
 bind_step tree rec (Via e p) v j here = bind_asked tree rec e p v j here
 bind_step tree rec _ v j here = fail Astray
@@ -503,5 +554,5 @@ opening tree depth = do
 
 -- opens the steps, and not the recursions
 unfoldable pub opened_steps : Unit {0}
-unfolding after_turn loop pair_there compared_there compared performed replied answered_there answered call_data call_node run_method handed_over matched message_pair value_of_matchers run_found run_object call_made call_code call_object call_value call exit_of define_by define literal_value literal_node noun_node set_node within choose if_node alone handled caught_as caught_by unmatched_noun bind_unmatched not_matched matched_if match_ended match_on match_node step failed bind_final bind_var bind_any bind_list bind_items bind_via bind_asked bind_step step_found bind_found opening opened_acts
+unfolding after_turn loop pair_there compared_there compared performed replied answered_there answered call_data call_node run_method handed_over matched message_pair value_of_matchers run_found run_object call_made call_code call_object call_value call exit_of define_by define literal_value literal_node noun_node set_node within choose if_node alone handled caught_as caught_by unmatched_noun bind_unmatched not_matched matched_if match_ended match_on match_node step failed coerced_as coerce write_under write_cell write_bound bind_coerced bind_by bind_under bind_guarded bind_list bind_items bind_via bind_asked bind_step step_found bind_found opening opened_acts
 opened_steps = tt

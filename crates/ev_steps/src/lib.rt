@@ -5,3 +5,4 @@ pub mod binders;
 pub mod matchers;
 pub mod matches;
 pub mod pattern;
+pub mod target;

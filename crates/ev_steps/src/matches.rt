@@ -34,7 +34,7 @@ fn unmatched_noun(act: ActId, is_var: bool, missing: Value, room: &mut Room) -> 
         });
     }
     let told = missing;
-    let slot = new_slot(missing, room)?;
+    let slot = new_slot(NO_GUARD, missing, room)?;
     tell(room, Happened::Slot(act, slot, told))?;
     Ok(Bound::Slot(slot))
 }

@@ -3,14 +3,15 @@
 ghost use Rattle.std.specs.Prelude.{◌≡◌, None, OnOk, Some, slice_get};
 ghost use Rattle.def_kernel.specs.declared.node.Node.TheVariants.{Any, Final, Var};
 ghost use Rattle.ev_steps.specs.AtOnce.{BindsAtOnce, BindsFrom};
-ghost use Rattle.ev_steps.specs.Steps.{bind_var, evaluator};
+ghost use Rattle.ev_steps.specs.Steps.{bind_coerced, evaluator};
+ghost use Rattle.ev_steps.specs.declared.target.Target.TheVariants as target;
 ghost use Rattle.ev_room.specs.Acts.{Binds, Extends, with_noun};
-ghost use Rattle.ev_room.specs.Sound.{no_guard};
 ghost use Rattle.ev_room.specs.declared.scope.Bound.TheVariants.{Fixed};
 
+use crate::target::Target;
 use def_kernel::{Kernel, Node};
 use ev_base::{Memory, NodeId, Value};
-use ev_heap::Happened;
+use ev_heap::{GuardKind, Happened};
 use ev_room::exit::Exit;
 use ev_room::room::{Room, spend, tell};
 use ev_room::scope::{Binding, Bound, NO_GUARD, Scope};
@@ -45,30 +46,38 @@ pub fn value_at(values: &[Value], place: usize) -> Option<Value>
     }
 }
 
-/// Binds a noun finally to a value.
+/// Binds a noun finally to a value that this guard has coerced.
 #[tactic(auto, using(ev_room::proofs::Fronts::itself_in_front, ev_room::proofs::Fronts::more_in_front, ev_room::proofs::Fronts::kept_in_front))]
-pub fn final_step(noun: &Word, value: Value, here: &mut Scope) -> Result<(), Memory>
-    ensures outcome { OnOk result (here.new ≡ with_noun noun.now (Fixed value no_guard) here.old) }
+pub fn final_step(
+    noun: &Word,
+    guard: GuardKind,
+    value: Value,
+    here: &mut Scope,
+) -> Result<(), Memory>
+    ensures outcome { OnOk result (here.new ≡ with_noun noun.now (Fixed value guard) here.old) }
     ensures front { Extends here.old here.new }
 {
     let noun = noun.share()?;
     here.nouns.push(Binding {
         noun,
-        bound: Bound::Fixed {
-            value,
-            guard: NO_GUARD,
-        },
+        bound: Bound::Fixed { value, guard },
     })
 }
 
-/// Binds a noun to a new var slot with a value.
+/// Binds a noun to a new var slot with a value that this guard has coerced.
 #[tactic(auto, using(ev_room::proofs::Exits::ends, ev_room::proofs::Fronts::itself_in_front, ev_room::proofs::Fronts::more_in_front, ev_room::proofs::Fronts::kept_in_front), unfolding(crate::specs::Steps::opened_steps))]
-pub fn var_step(noun: &Word, value: Value, here: &mut Scope, room: &mut Room) -> Result<(), Exit>
-    ensures outcome { Binds result here.new room.new (bind_var noun.now None value here.old room.old) }
+pub fn var_step(
+    noun: &Word,
+    guard: GuardKind,
+    value: Value,
+    here: &mut Scope,
+    room: &mut Room,
+) -> Result<(), Exit>
+    ensures outcome { Binds result here.new room.new (bind_coerced here.old.act (target.Var noun.now) guard value here.old room.old) }
     ensures front { Extends here.old here.new }
 {
     let told = value;
-    let slot = new_slot(value, room)?;
+    let slot = new_slot(guard, value, room)?;
     tell(room, Happened::Slot(here.act, slot, told))?;
     let noun = noun.share()?;
     here.nouns.push(Binding {
@@ -76,6 +85,28 @@ pub fn var_step(noun: &Word, value: Value, here: &mut Scope, room: &mut Room) ->
         bound: Bound::Slot(slot),
     })?;
     Ok(())
+}
+
+/// Binds what a pattern binds to a value that this guard has coerced.
+#[tactic(auto, using(ev_room::proofs::Exits::ends, ev_room::proofs::Fronts::itself_in_front), unfolding(crate::specs::Steps::opened_steps))]
+pub fn bind_coerced(
+    target: &Target,
+    guard: GuardKind,
+    value: Value,
+    here: &mut Scope,
+    room: &mut Room,
+) -> Result<(), Exit>
+    ensures outcome { Binds result here.new room.new (bind_coerced here.old.act target.now guard value here.old room.old) }
+    ensures front { Extends here.old here.new }
+{
+    match target {
+        Target::Final(noun) => {
+            final_step(noun, guard, value, here)?;
+            Ok(())
+        }
+        Target::Var(noun) => var_step(noun, guard, value, here, room),
+        Target::Nothing => Ok(()),
+    }
 }
 
 /// Binds a noun finally to a value, in a pattern without guard.
@@ -98,7 +129,7 @@ fn bind_final(
         return Err(Exit::Deep);
     }
     spend(room, 1)?;
-    final_step(noun, value, here)?;
+    final_step(noun, NO_GUARD, value, here)?;
     Ok(())
 }
 
@@ -122,7 +153,7 @@ fn bind_var(
         return Err(Exit::Deep);
     }
     spend(room, 1)?;
-    var_step(noun, value, here, room)
+    var_step(noun, NO_GUARD, value, here, room)
 }
 
 /// Binds nothing.

@@ -11,8 +11,9 @@ use std::alloc::Global;
 use std::process::ExitCode;
 use std::{fs, io};
 
-const PROGRAMS: [&str; 17] = [
+const PROGRAMS: [&str; 18] = [
     "caretaker",
+    "coercions",
     "counter",
     "door",
     "escape",
@@ -31,15 +32,18 @@ const PROGRAMS: [&str; 17] = [
     "texts",
 ];
 
-const SCRIPTS: [&str; 10] = [
+const SCRIPTS: [&str; 13] = [
+    "coercions",
     "counter",
     "door",
     "escape",
     "failing",
     "functions",
+    "guards",
     "heavy",
     "lists",
     "operators",
+    "purse",
     "sums",
     "texts",
 ];

@@ -96,7 +96,17 @@ fn sources(rt: HostRuntime) -> Result<(), Fail> {
         ("true", 0, "open a\n!0 done true\nsettle @a true\nend\n"),
         ("1 < 2", 0, "open a\n!0 done true\nsettle @a true\nend\n"),
         ("1 == 2", 0, "open a\n!0 done false\nsettle @a false\nend\n"),
-        ("def x :int := 1", 7, "refused program a unbuilt 0 0\n"),
+        ("def x :int := 1", 0, "open a\n!0 done 1\nsettle @a 1\nend\n"),
+        (
+            "def x :int := true",
+            0,
+            "open a\n!0 threw \"not int\"\nsettle @a broken:\"not int\"\nend\n",
+        ),
+        (
+            "def x implements DeepFrozen {}",
+            7,
+            "refused program a unbuilt 0 0\n",
+        ),
     ];
     for (source, code, text) in rows {
         let script = script_of(alloc, source)?;

@@ -1,0 +1,14 @@
+//! What patterns of one name bind.
+
+use ev_word::Word;
+
+/// What a pattern binds to a value that its guard has coerced.
+#[derive(Drop)]
+pub enum Target {
+    /// A noun, for good.
+    Final(Word),
+    /// A noun, to a new var slot.
+    Var(Word),
+    /// Nothing.
+    Nothing,
+}
