@@ -3,11 +3,11 @@
 ghost use Rattle.std.specs.Prelude.{◌≡◌, IfOk, drop, map, option_map};
 ghost use Rattle.ev_script.specs.Json.{each};
 ghost use Rattle.ev_script.specs.Script.{Reads};
-ghost use Rattle.ev_lines.specs.Lines.{number, spelled_number};
+ghost use Rattle.ev_command_lines.specs.Lines.{number, spelled_number};
 ghost use Rattle.ev_sturdy_text.specs.Sheet.{alone, commands, first_line, key_of, line_of, most_object, read, sheet_of, side_of, told, use_of};
 
 use ev_base::{Memory, Seq};
-use ev_lines::{bytes_32, lines, number, spelled_number, split, text_of};
+use ev_command_lines::{bytes_32, lines, number, spelled_number, split, text_of};
 use ev_script::ScriptFault;
 use ev_sturdy::Side;
 use std::alloc::Global;

@@ -20,7 +20,7 @@ const MOST_PROGRAM_BYTES: usize = 65536;
 const NAMELESS: &str = "-";
 
 /// The text that bytes are, or the number of the rule that they break.
-#[tactic(auto, using(ev_lines::proofs::Texts::not_utf8, ev_lines::proofs::Texts::is_text))]
+#[tactic(auto, using(ev_command_lines::proofs::Texts::not_utf8, ev_command_lines::proofs::Texts::is_text))]
 fn text_from(bytes: &[u8]) -> Result<&str, u8>
     ensures { result_map_both (λ text. text.now) (λ rule. rule) result ≡ text_from bytes.now }
 {

@@ -8,7 +8,7 @@ use Rattle.std.specs.Str.Parse.{digits_value, ParsesSigned, ParsesUnsigned}
 use Rattle.std.proofs.lemmas.Bool.Decides.{nat_tests}
 use Rattle.std.proofs.lemmas.Str.Parse.{IsNumeralModel, numerals_by_value, tells_all_ascii_digits, parse_digits, parse_signed_minus}
 use Rattle.ev_integer.specs.Numerals.{greatest, number_of}
-use Rattle.ev_lines.specs.Lines.{begins_with_zero, bounded, is_numeral, number, positive}
+use Rattle.ev_command_lines.specs.Lines.{begins_with_zero, bounded, is_numeral, number, positive}
 
 own : IsNumeralModel (λ ds. all_ascii_digits ds ≡ true) (digits_value 10)
 own = numerals_by_value _ tells_all_ascii_digits

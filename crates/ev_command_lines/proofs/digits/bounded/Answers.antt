@@ -1,6 +1,6 @@
 use Rattle.std.proofs.Common.{◌<◌, ◌^◌, arith}
-use Rattle.ev_lines.proofs.Parsed.{no_number}
-use Rattle.ev_lines.proofs.digits.bounded.Goals as goal
+use Rattle.ev_command_lines.proofs.Parsed.{no_number}
+use Rattle.ev_command_lines.proofs.digits.bounded.Goals as goal
 
 pub returns-in-Err : goal.returns-in-Err
 returns-in-Err c =

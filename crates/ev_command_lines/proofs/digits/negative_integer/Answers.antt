@@ -1,7 +1,7 @@
 use Rattle.std.proofs.Common.{◌≡◌, ◌∙◌, sym, true, false}
-use Rattle.ev_lines.specs.Lines.{begins_with_zero, is_numeral}
-use Rattle.ev_lines.proofs.Parsed.{negative_is}
-use Rattle.ev_lines.proofs.digits.negative_integer.Goals as goal
+use Rattle.ev_command_lines.specs.Lines.{begins_with_zero, is_numeral}
+use Rattle.ev_command_lines.proofs.Parsed.{negative_is}
+use Rattle.ev_command_lines.proofs.digits.negative_integer.Goals as goal
 
 pub returns : goal.returns
 returns c =

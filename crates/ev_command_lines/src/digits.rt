@@ -4,7 +4,7 @@ ghost use Rattle.std.specs.Prelude.{◌≡◌, ◌≤◌, ◌-◌, ◌^◌, ◌�
 ghost use Rattle.std.specs.Char.{is_ascii_digit};
 ghost use Rattle.std.specs.List.{list_all};
 ghost use Rattle.std.specs.Str.{all_ascii_digits};
-ghost use Rattle.ev_lines.specs.Lines.{begins_with_zero, bounded, bytes, integer, is_lower_digit, is_numeral, number, positive, spelled_number};
+ghost use Rattle.ev_command_lines.specs.Lines.{begins_with_zero, bounded, bytes, integer, is_lower_digit, is_numeral, number, positive, spelled_number};
 
 use ev_integer::read_decimal;
 use hex::FromHex;

@@ -2,7 +2,7 @@
 
 ghost use Rattle.std.specs.Prelude.{◌≡◌, IfOk, map, option_map};
 ghost use Rattle.std.specs.List.{slice_split};
-ghost use Rattle.ev_lines.specs.Lines.{is_line_feed, lines, split, text_of};
+ghost use Rattle.ev_command_lines.specs.Lines.{is_line_feed, lines, split, text_of};
 
 use ev_base::Memory;
 use std::alloc::Global;

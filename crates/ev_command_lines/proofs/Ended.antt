@@ -2,7 +2,7 @@
 use Rattle.std.proofs.Common.{◌≡◌, ◌-◌, ◌++◌, ◌==◌, ℕ, Bool, true, false, cond, List, [], ◌∷◌, length, get_or, take, map, Some, None, refl, sym, ap, ◌∙◌, arith}
 use Rattle.std.proofs.lemmas.List.{length-append, map-append}
 use Rattle.std.proofs.Math.Seq.{get_or-append_seam}
-use Rattle.ev_lines.specs.Lines.{ended}
+use Rattle.ev_command_lines.specs.Lines.{ended}
 
 front_of : (front : List (List ℕ)) (last : List ℕ) → take (length front) (front ++ last ∷ []) ≡ front
 front_of [] last = refl
