@@ -1,5 +1,5 @@
--- The first texts of a heap: the problems that evaluation throws, in four parts.
-use Rattle.std.specs.Prelude.{ℕ, List, [], ◌∷◌, ◌++◌, codes}
+-- The first texts of a heap: the problems that evaluation throws, in four parts, and those of references.
+use Rattle.std.specs.Prelude.{ℕ, List, [], ◌∷◌, codes}
 use Rattle.ev_heap.specs.Contents.{Contents, nothing}
 
 abbrev pub native_problems : List (List ℕ)
@@ -13,6 +13,9 @@ guard_problems = codes "not any" ∷ codes "not void" ∷ codes "not int" ∷ co
 
 abbrev pub or_null_problems : List (List ℕ)
 or_null_problems = codes "not nullOk:any" ∷ codes "not nullOk:void" ∷ codes "not nullOk:int" ∷ codes "not nullOk:boolean" ∷ codes "not nullOk:char" ∷ codes "not nullOk:String" ∷ codes "not nullOk:List" ∷ codes "not nullOk:nullOk" ∷ codes "not nullOk:near" ∷ codes "not nullOk:DeepFrozen" ∷ []
+
+abbrev pub reference_problems : List (List ℕ)
+reference_problems = codes "partition" ∷ codes "cycle" ∷ []
 
 -- a heap with these texts alone
 abbrev pub with_texts : List (List ℕ) → Contents

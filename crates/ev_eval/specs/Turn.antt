@@ -2,13 +2,13 @@
 use Rattle.std.specs.Prelude.{◌≡◌, ℕ, true, List, [], Result, Ok, Err, IsErr}
 use Rattle.ev_base.specs.declared.memory.Memory.{Memory}
 use Rattle.ev_heap.specs.Contents.{Contents}
-use Rattle.ev_told.specs.declared.micro.Micro.{Micro}
 use Rattle.def_kernel.specs.declared.node.Node.{Node}
 use Rattle.def_machine.specs.Values.{Value, Naming, Local}
-use Rattle.def_machine.specs.State.{Done, Gives, Throws, Stops, Fuel, Deep, Astray, Act, ◌>>=◌, give, throw, stop, ending, new_activation}
+use Rattle.def_machine.specs.State.{Vat, Done, Gives, Throws, Stops, Fuel, Deep, Astray, Act, ◌>>=◌, give, throw, stop, ending, new_activation}
 use Rattle.def_machine.specs.Eval.{evaluator}
 use Rattle.ev_eval.specs.declared.turn.Ended.{Ended}
 use Rattle.ev_eval.specs.declared.turn.Ended.TheVariants as ended
+use Rattle.ev_pass.specs.declared.interior.Interior.{Interior}
 use Rattle.ev_room.specs.Reading.{World, text_of, value_of, vat_of}
 use Rattle.ev_room.specs.Sound.{is_there}
 use Rattle.ev_room.specs.declared.exit.Exit.{Exit}
@@ -41,14 +41,18 @@ abbrev pub EndsAs : Result Held Exit → Result Ended Memory → Type 0
 EndsAs (Ok v) r = r ≡ Ok (ended.Value v)
 EndsAs (Err e) r = EndsBy e r
 
--- what the code answered and left is the outcome, unless memory ran out
-abbrev pub Ends : World → Result Ended Memory → Contents → Micro → Done Local (Value Local) → Type 0
-Ends w (Ok (ended.Value v)) heap micro out = out ≡ Gives (value_of w v) (vat_of w heap micro)
-Ends w (Ok (ended.Thrown id)) heap micro out = out ≡ Throws (text_of w id) (vat_of w heap micro)
-Ends w (Ok ended.Fuel) heap micro out = out ≡ Stops Fuel (vat_of w heap micro)
-Ends w (Ok ended.Deep) heap micro out = out ≡ Stops Deep (vat_of w heap micro)
-Ends w (Ok ended.Astray) heap micro out = out ≡ Stops Astray (vat_of w heap micro)
-Ends w (Err memory) heap micro out = Unit {0}
+-- what the code answered is the outcome, which leaves that vat, unless memory ran out
+abbrev pub EndsAt : World → Result Ended Memory → Vat Local → Done Local (Value Local) → Type 0
+EndsAt w (Ok (ended.Value v)) s out = out ≡ Gives (value_of w v) s
+EndsAt w (Ok (ended.Thrown id)) s out = out ≡ Throws (text_of w id) s
+EndsAt w (Ok ended.Fuel) s out = out ≡ Stops Fuel s
+EndsAt w (Ok ended.Deep) s out = out ≡ Stops Deep s
+EndsAt w (Ok ended.Astray) s out = out ≡ Stops Astray s
+EndsAt w (Err memory) s out = Unit {0}
+
+-- the same, where it leaves what the code left
+abbrev pub Ends : World → Result Ended Memory → Interior → Done Local (Value Local) → Type 0
+Ends w r i out = EndsAt w r (vat_of w i) out
 
 -- where it ended with a value, that stands in the heap
 abbrev pub GivesThere : Contents → Ended → Type 0

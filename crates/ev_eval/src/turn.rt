@@ -2,24 +2,27 @@
 
 ghost use Rattle.std.specs.Prelude.{◌≡◌, ◌++◌, ◌∷◌, [], true, IfOk, OnOk};
 ghost use Rattle.ev_heap.specs.Contents.{nothing};
+ghost use Rattle.ev_refs.specs.References.{no_references};
 ghost use Rattle.ev_steps.specs.Built.{is_built};
-ghost use Rattle.ev_room.specs.Reading.{World, all_promises, names, vat_of};
-ghost use Rattle.ev_room.specs.Sound.{Grown, IsSound, problems};
+ghost use Rattle.ev_room.specs.Reading.{World, names, vat_of};
+ghost use Rattle.ev_room.specs.Sound.{Grown, IsSound, Stays, cycle_id, partition_id, problems, too_heavy_id};
 ghost use Rattle.ev_steps.specs.Steps.{opening};
 ghost use Rattle.ev_room.specs.Acts.{Gives};
-ghost use Rattle.ev_eval.specs.Problems.{guard_problems, native_problems, or_null_problems, own_problems, with_texts};
+ghost use Rattle.ev_eval.specs.Problems.{guard_problems, native_problems, or_null_problems, own_problems, reference_problems, with_texts};
 ghost use Rattle.ev_eval.specs.Turn.{Ends, EndsAs, EndsBy, GivesThere, opened};
 
 use def_kernel::Kernel;
-use ev_base::{Limits, Memory, NodeId, Seq, TextId, Value};
+use ev_base::{Limits, Memory, NodeId, Seq, TextId, Value, VatId};
 use ev_frames::evaluate;
 use ev_heap::Heap;
+use ev_intro::Words;
+use ev_pass::{Interior, Post};
+use ev_refs::Refs;
 use ev_room::exit::Exit;
-use ev_room::room::{Room, new_activation};
+use ev_room::room::new_activation;
 use ev_room::scope::Scope;
 use ev_told::Micro;
 use std::alloc::Global;
-use std::mem;
 
 /// What a turn begins with.
 #[derive(Clone, Copy, Debug, PartialEq, Eq)]
@@ -117,7 +120,17 @@ fn add_or_null_problems(heap: &mut Heap) -> Result<(), Memory>
     Ok(())
 }
 
-/// A heap that holds the texts of the problems that evaluation throws, and nothing else.
+/// What references make of a cut link, and of names that lead back to themselves.
+fn add_reference_problems(heap: &mut Heap) -> Result<(), Memory>
+    requires { heap.old ≡ with_texts (((native_problems ++ own_problems) ++ guard_problems) ++ or_null_problems) }
+    ensures { OnOk result (heap.new ≡ with_texts ((((native_problems ++ own_problems) ++ guard_problems) ++ or_null_problems) ++ reference_problems)) }
+{
+    heap.make_text("partition")?;
+    heap.make_text("cycle")?;
+    Ok(())
+}
+
+/// A heap that holds the texts of the problems that evaluation throws and those of references, and nothing else.
 pub fn new_heap(alloc: Global) -> Result<Heap, Memory>
     ensures texts { IfOk result (λ heap. heap ≡ record nothing { texts = problems }) }
     ensures sound { IfOk result IsSound }
@@ -126,7 +139,34 @@ pub fn new_heap(alloc: Global) -> Result<Heap, Memory>
     add_own_problems(&mut heap)?;
     add_guard_problems(&mut heap)?;
     add_or_null_problems(&mut heap)?;
+    add_reference_problems(&mut heap)?;
     Ok(heap)
+}
+
+/// The inside of a vat of that number which has done nothing and knows nothing, with so much fuel and the words under that key.
+pub fn new_interior(
+    alloc: Global,
+    number: VatId,
+    key: &[u8; 32],
+    fuel: u32,
+) -> Result<Interior, Memory>
+    ensures heap { IfOk result (λ inside. inside.heap ≡ record nothing { texts = problems }) }
+    ensures sound { IfOk result (λ inside. IsSound inside.heap) }
+    ensures refs { IfOk result (λ inside. inside.refs ≡ no_references number partition_id cycle_id) }
+    ensures micro { IfOk result (λ inside. inside.micro ≡ record { fuel = fuel; events = [] }) }
+    ensures words { IfOk result (λ inside. inside.words ≡ record { key = key.now; count = 0 }) }
+    ensures post { IfOk result (λ inside. inside.post ≡ []) }
+    ensures heavy { IfOk result (λ inside. inside.too_heavy ≡ too_heavy_id) }
+{
+    Ok(Interior {
+        alloc,
+        heap: new_heap(alloc)?,
+        refs: Refs::new(alloc, number, TextId(41), TextId(42)),
+        micro: Micro::new(alloc, fuel),
+        words: Words::new(alloc, key),
+        post: Post::new(alloc),
+        too_heavy: TextId(12),
+    })
 }
 
 /// How a turn ended whose evaluation gave no value. The evaluation of a built program meets no node that is not built.
@@ -154,53 +194,40 @@ fn ending(outcome: Result<Value, Exit>) -> Result<Ended, Memory>
 
 /// The opening turn: the program is evaluated in an activation of its own.
 #[tactic(auto, using(ev_room::proofs::Exits::ends), unfolding(ev_steps::specs::Steps::opened_steps))]
-fn opening(program: &Kernel, depth: u32, room: &mut Room) -> Result<Value, Exit>
-    ensures outcome { Gives result room.new (opening program.now depth room.old) }
+fn opening(program: &Kernel, depth: u32, inside: &mut Interior) -> Result<Value, Exit>
+    ensures outcome { Gives result inside.new (opening program.now depth inside.old) }
 {
-    let act = new_activation(Value::Null, room)?;
+    let act = new_activation(Value::Null, inside)?;
     let mut here = Scope {
         act,
-        nouns: Seq::new(room.alloc),
+        nouns: Seq::new(inside.alloc),
     };
-    let value = evaluate(program, depth, NodeId(0), &mut here, room)?;
+    let value = evaluate(program, depth, NodeId(0), &mut here, inside)?;
     Ok(value)
 }
 
 /// Runs the opening turn of a vat whose heap began with the texts of the problems (`new_heap`), and in which only turns of
 /// this program have made var slots, objects and lists.
-/// What happens is added to `micro`, and each node that begins spends a unit of its fuel. No node begins below
-/// `limits.depth` levels.
+/// What happens is added to what happened in the step at hand, and each node that begins spends a unit of fuel. No node begins
+/// below `limits.depth` levels.
 ///
-/// After want of memory, heap and micro hold what was done up to there.
+/// After want of memory, the inside holds what was done up to there.
 pub fn run_turn(
-    alloc: Global,
     program: &Kernel,
-    heap: &mut Heap,
     start: Start,
     limits: Limits,
-    micro: &mut Micro,
+    inside: &mut Interior,
 ) -> Result<Ended, Memory>
     requires built { is_built program.now ≡ true }
-    requires sound { IsSound heap.old }
-    ensures turn { (w : World) → heap.new.texts ≡ problems ++ w.texts → all_promises w.known ≡ true → Ends w result heap.new micro.new (opened (names w) program.now limits.depth (vat_of w heap.old micro.old)) }
-    ensures grown { OnOk result (Grown heap.old heap.new) }
-    ensures sound { OnOk result (IsSound heap.new) }
-    ensures there { IfOk result (λ ended. GivesThere heap.new ended) }
+    requires sound { IsSound inside.old.heap }
+    ensures turn { (w : World) → inside.new.heap.texts ≡ problems ++ w.texts → Ends w result inside.new (opened (names w) program.now limits.depth (vat_of w inside.old)) }
+    ensures grown { OnOk result (Grown inside.old.heap inside.new.heap) }
+    ensures stays { OnOk result (Stays inside.old inside.new) }
+    ensures sound { OnOk result (IsSound inside.new.heap) }
+    ensures there { IfOk result (λ ended. GivesThere inside.new.heap ended) }
 {
-    let mut room = Room {
-        alloc,
-        heap: mem::replace(heap, Heap::new(alloc)),
-        micro: mem::replace(micro, Micro::new(alloc, 0)),
-    };
     let outcome = match start {
-        Start::Program => opening(program, limits.depth, &mut room),
+        Start::Program => opening(program, limits.depth, inside),
     };
-    let Room {
-        alloc: _,
-        heap: heap_after,
-        micro: micro_after,
-    } = room;
-    *heap = heap_after;
-    *micro = micro_after;
     ending(outcome)
 }

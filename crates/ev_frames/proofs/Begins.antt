@@ -8,7 +8,7 @@ use Rattle.def_kernel.specs.declared.node.Node.TheVariants.{Call, Sequence}
 use Rattle.def_machine.specs.Values.{Words}
 use Rattle.ev_room.specs.declared.exit.Exit.{Exit}
 use Rattle.ev_room.specs.declared.exit.Exit.TheVariants.{Deep, Astray}
-use Rattle.ev_room.specs.declared.room.Room.{Room}
+use Rattle.ev_pass.specs.declared.interior.Interior.{Interior as Room}
 use Rattle.ev_room.specs.declared.scope.Bound.{Bound}
 use Rattle.ev_room.specs.declared.scope.Scope.{Scope}
 use Rattle.ev_room.specs.Acts.{Out, Unless, Extends, and_then, ◌>>=◌, ◌>>◌, give, fail, found_from, spend}

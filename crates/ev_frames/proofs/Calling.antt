@@ -9,18 +9,18 @@ use Rattle.def_kernel.specs.declared.node.Node.TheVariants.{Lit, Noun, Set, Def,
 use Rattle.def_machine.specs.Values.{Words}
 use Rattle.def_machine.specs.Scopes.{Case, matchers_of, members_of}
 use Rattle.ev_room.specs.declared.exit.Exit.{Exit}
-use Rattle.ev_room.specs.declared.room.Room.{Room}
+use Rattle.ev_pass.specs.declared.interior.Interior.{Interior as Room}
 use Rattle.ev_room.specs.declared.object.Object.{Object}
 use Rattle.ev_room.specs.declared.object.Code.TheVariants.{Runs, Leaves}
 use Rattle.ev_room.specs.declared.scope.Scope.{Scope}
-use Rattle.ev_room.specs.Acts.{Out, Unless, Extends, and_then, ◌>>=◌, ◌>>◌, give, fail, fails, closed, closed_by, tell, new_activation, first_method, look_code, call_ejector}
+use Rattle.ev_room.specs.Acts.{Out, Unless, and_then, ◌>>=◌, ◌>>◌, give, closed, closed_by, tell, new_activation, first_method, look_code, call_ejector}
 use Rattle.ev_steps.specs.Steps.{Caller, Evaluator, answered, call_data, evaluator, bind_all, call, call_at, call_value, call_object, call_code, call_made, run_object, run_found, run_method, value_of_matchers}
 use Rattle.ev_steps.proofs.Depth as depth
 use Rattle.ev_frames.specs.declared.frames.Frame.{Frame}
 use Rattle.ev_frames.specs.declared.frames.Frame.TheVariants.{Body}
 use Rattle.ev_frames.specs.declared.nodes.Now.{Now}
 use Rattle.ev_frames.specs.Rest.{Goes, Nested, rest, settled, valued, opened_method, bound_then, activated, verb_of, args_of}
-use Rattle.ev_frames.proofs.Rests.{then_then, unless_as, same_behind, goes_as}
+use Rattle.ev_frames.proofs.Rests.{then_then, unless_as, goes_as}
 
 pub body_nested : (fs gs : List Frame) (here there : Scope) → Nested fs here → gs ≡ Body here ∷ fs → Nested gs there
 unfolding Nested

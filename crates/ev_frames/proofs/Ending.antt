@@ -7,7 +7,7 @@ use Rattle.ev_base.specs.declared.values.Value.TheVariants as held
 use Rattle.def_kernel.specs.declared.node.Node.{Node}
 use Rattle.def_machine.specs.Values.{Words}
 use Rattle.ev_room.specs.declared.exit.Exit.{Exit}
-use Rattle.ev_room.specs.declared.room.Room.{Room}
+use Rattle.ev_pass.specs.declared.interior.Interior.{Interior as Room}
 use Rattle.ev_room.specs.declared.scope.Scope.{Scope}
 use Rattle.ev_room.specs.Acts.{Out, and_then, ◌>>=◌, give, cut}
 use Rattle.ev_steps.specs.Steps.{Evaluator, evaluator, last_of, choose, within, gathered, call}

@@ -10,16 +10,16 @@ use Rattle.ev_room.specs.declared.exit.Exit.{Exit}
 use Rattle.ev_room.specs.declared.exit.Exit.TheVariants.{Thrown, Ejected}
 use Rattle.ev_room.specs.declared.exit.Came.{Came}
 use Rattle.ev_room.specs.declared.exit.Came.TheVariants.{Gave, Threw, Left}
-use Rattle.ev_room.specs.declared.room.Room.{Room}
+use Rattle.ev_pass.specs.declared.interior.Interior.{Interior as Room}
 use Rattle.ev_room.specs.declared.scope.Scope.{Scope}
-use Rattle.ev_room.specs.Acts.{Out, Unless, Extends, and_then, ◌>>=◌, ◌>>◌, give, fail, ended_by, new_ejector, kill, leave, tell}
+use Rattle.ev_room.specs.Acts.{Out, Unless, and_then, ◌>>=◌, ◌>>◌, give, fail, ended_by, new_ejector, kill, leave, tell}
 use Rattle.ev_steps.specs.Steps.{Evaluator, evaluator, guarded, guarded_node, handled, escaping, escaped, trying, tried, lasting, at_last, alone, caught_if, caught_by, caught_as}
 use Rattle.ev_frames.specs.declared.frames.Frame.{Frame}
 use Rattle.ev_frames.specs.declared.frames.Frame.TheVariants.{Guard as GuardOf}
 use Rattle.ev_frames.specs.declared.frames.Guard.TheVariants.{Alone, Escape, Try, First, Last}
 use Rattle.ev_frames.specs.declared.nodes.Now.{Now}
-use Rattle.ev_frames.specs.Rest.{Goes, Nested, rest, guarding, handled_on, settled, valued, came_back, came_to}
-use Rattle.ev_frames.proofs.Rests.{then_then, guard_pushed, unless_as, same_behind, goes_as}
+use Rattle.ev_frames.specs.Rest.{Goes, rest, guarding, handled_on, settled, valued, came_back, came_to}
+use Rattle.ev_frames.proofs.Rests.{then_then, guard_pushed, unless_as, goes_as}
 
 pub handled_is : (rec : Evaluator) (p e : ℕ) (v : Value) (here : Scope) (s : Room) → valued (handled_on rec p e v here s) ≡ handled rec p e v here s
 unfolding handled handled_on ◌>>=◌

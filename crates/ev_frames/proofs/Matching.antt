@@ -1,5 +1,5 @@
 -- Matchers as they begin, and as their patterns come to an end.
-use Rattle.std.proofs.Common.{◌≡◌, ◌==◌, ℕ, zero, suc, ◌+◌, ◌≤◌, true, false, List, [], ◌∷◌, Some, None, Ok, Err, length, drop, refl, sym, ap, subst, ◌∙◌, arith, add-one}
+use Rattle.std.proofs.Common.{◌≡◌, ◌==◌, ℕ, ◌+◌, true, false, List, [], ◌∷◌, Some, None, Ok, Err, length, drop, refl, sym, ap, subst, ◌∙◌, arith, add-one}
 use Rattle.std.specs.Prelude.{Result, slice_get}
 use Rattle.ev_base.specs.declared.values.Value.{Value}
 use Rattle.ev_base.specs.declared.values.Value.TheVariants as held
@@ -11,14 +11,14 @@ use Rattle.ev_prims.specs.declared.problem.Problem.TheVariants.{NoMethod}
 use Rattle.ev_room.specs.declared.exit.Exit.{Exit}
 use Rattle.ev_room.specs.declared.exit.Exit.TheVariants.{Thrown, Ejected}
 use Rattle.ev_room.specs.declared.exit.Came.TheVariants.{Gave, Threw, Left}
-use Rattle.ev_room.specs.declared.room.Room.{Room}
+use Rattle.ev_pass.specs.declared.interior.Interior.{Interior as Room}
 use Rattle.ev_room.specs.declared.scope.Scope.{Scope}
 use Rattle.ev_room.specs.Acts.{Out, Unless, and_then, ◌>>=◌, ◌>>◌, give, fail, fails, problem_id, cut, tell, ended_by, new_ejector, kill, leave}
 use Rattle.ev_steps.specs.Steps.{evaluator, handed_over, match_all, matched, message_pair, try_matchers}
 use Rattle.ev_frames.specs.declared.frames.Frame.{Frame}
 use Rattle.ev_frames.specs.declared.frames.Frame.TheVariants.{Case as CaseOf}
 use Rattle.ev_frames.specs.declared.nodes.Now.{Now}
-use Rattle.ev_frames.specs.Rest.{Goes, Nested, rest, bound_as, scoped, came_to}
+use Rattle.ev_frames.specs.Rest.{Goes, Nested, rest, bound_as, came_to}
 use Rattle.ev_frames.proofs.Rests.{case_pushed, unless_as, same_behind, nested_behind, goes_as, cut_in_front}
 use Rattle.ev_frames.proofs.Ending.{drop_some, drop_none}
 use Rattle.ev_frames.proofs.Patterning.{scope_back}

@@ -14,7 +14,7 @@ use Rattle.ev_prims.specs.Reading.{text_in, value_by}
 use Rattle.def_machine.specs.Native.{value_order}
 use Rattle.ev_room.specs.declared.exit.Exit.{Exit}
 use Rattle.ev_room.specs.declared.exit.Exit.TheVariants.{Astray, Fuel}
-use Rattle.ev_room.specs.declared.room.Room.{Room}
+use Rattle.ev_pass.specs.declared.interior.Interior.{Interior as Room}
 use Rattle.ev_room.specs.declared.scope.Scope.{Scope}
 use Rattle.ev_room.specs.Acts.{Out, and_then, ◌>>=◌, ◌>>◌, give, fail, closed_by, ended_by, call_there}
 use Rattle.ev_steps.specs.Steps.{Caller, evaluator, call_at, call_value, iterate, turns, loop, replied, compared, compared_there, pair_there, answered, answered_there}

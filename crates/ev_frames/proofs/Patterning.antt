@@ -1,5 +1,5 @@
 -- Patterns as they begin, and as what is evaluated in them comes to an end.
-use Rattle.std.proofs.Common.{◌≡◌, ◌==◌, ℕ, suc, ◌+◌, ◌-◌, ◌<◌, ◌≤◌, zero, true, false, List, [], ◌∷◌, Option, Some, None, Ok, Err, length, drop, refl, sym, ap, subst, ◌∙◌, arith, add-one}
+use Rattle.std.proofs.Common.{◌≡◌, ◌==◌, ℕ, suc, ◌+◌, ◌-◌, ◌<◌, ◌≤◌, zero, true, false, List, [], ◌∷◌, Some, None, Ok, Err, length, drop, refl, sym, ap, subst, ◌∙◌, arith, add-one}
 use Rattle.std.specs.Prelude.{Result, slice_get, codes}
 use Rattle.std.proofs.lemmas.Bool.Decides.{nat_tests}
 use Rattle.ev_base.specs.declared.values.Value.{Value}
@@ -9,7 +9,7 @@ use Rattle.def_machine.specs.Values.{Words}
 use Rattle.ev_room.specs.declared.exit.Exit.{Exit}
 use Rattle.ev_room.specs.declared.exit.Exit.TheVariants.{Thrown, Ejected, Deep, Astray, Unbuilt}
 use Rattle.ev_room.specs.declared.exit.Came.TheVariants.{Gave, Threw, Left}
-use Rattle.ev_room.specs.declared.room.Room.{Room}
+use Rattle.ev_pass.specs.declared.interior.Interior.{Interior as Room}
 use Rattle.ev_room.specs.declared.scope.Bound.TheVariants.{Fixed}
 use Rattle.ev_room.specs.declared.scope.Scope.{Scope}
 use Rattle.ev_room.specs.Acts.{Act, Out, Unless, Extends, and_then, ◌>>=◌, ◌>>◌, give, fail, cut, with_noun, spend, ended_by, new_ejector, kill, leave}

@@ -11,10 +11,9 @@ use Rattle.ev_room.specs.declared.exit.Exit.{Exit}
 use Rattle.ev_room.specs.declared.exit.Exit.TheVariants.{Thrown, Ejected, Fuel, Deep, Astray, Unbuilt, Memory}
 use Rattle.ev_room.specs.declared.exit.Came.{Came}
 use Rattle.ev_room.specs.declared.exit.Came.TheVariants.{Gave, Threw, Left}
-use Rattle.ev_room.specs.declared.room.Room.{Room}
+use Rattle.ev_pass.specs.declared.interior.Interior.{Interior as Room}
 use Rattle.ev_room.specs.declared.scope.Scope.{Scope}
-use Rattle.ev_room.specs.Acts.{Act, Out, Unless, and_then, ◌>>=◌, ◌>>◌, give, fail, fails, cut, write_bound, closed_by, new_activation, tell}
-use Rattle.ev_prims.specs.declared.problem.Problem.TheVariants.{NoMethod}
+use Rattle.ev_room.specs.Acts.{Act, Out, Unless, and_then, ◌>>=◌, ◌>>◌, give, fail, cut, write_bound, closed_by, new_activation, tell}
 use Rattle.ev_steps.specs.Steps.{Evaluator, evaluator, define_by, bind_via, match_on, match_ended, matched, match_all, try_matchers, gathered, call, last_of, choose, escaped, tried, at_last, bind_all, call_at, iterate, turns, after_turn}
 use Rattle.ev_frames.specs.declared.frames.Frame.{Frame}
 use Rattle.ev_frames.specs.declared.frames.Frame.TheVariants.{Part as PartOf, Guard as GuardOf, Match, Case as CaseOf, Body}

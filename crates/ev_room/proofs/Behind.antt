@@ -7,7 +7,7 @@ use Rattle.def_kernel.specs.declared.node.Node.TheVariants.{Final}
 use Rattle.def_machine.specs.Values.{Words}
 use Rattle.ev_room.specs.declared.exit.Exit.{Exit}
 use Rattle.ev_base.specs.declared.values.Value.TheVariants as held
-use Rattle.ev_room.specs.declared.room.Room.{Room}
+use Rattle.ev_pass.specs.declared.interior.Interior.{Interior as Room}
 use Rattle.ev_room.specs.declared.scope.Binding.{Binding}
 use Rattle.ev_room.specs.declared.scope.Bound.{Bound}
 use Rattle.ev_room.specs.declared.scope.Bound.TheVariants.{Fixed}

@@ -1,5 +1,5 @@
 -- What nouns stand for, and var slots: what the code does is what the machine does.
-use Rattle.std.proofs.Common.{◌≡◌, ℕ, zero, suc, Bool, true, false, List, [], ◌∷◌, ◌++◌, Option, Some, None, Ok, Err, length, map, refl, sym, ap, subst, ◌∙◌}
+use Rattle.std.proofs.Common.{◌≡◌, ℕ, zero, suc, Bool, true, false, List, [], ◌∷◌, ◌++◌, Option, Some, None, Ok, Err, map, refl, sym, ap, subst, ◌∙◌}
 use Rattle.std.specs.Prelude.{slice_get, slice_set, codes, if◌then◌else◌, option_map}
 use Rattle.std.specs.List.{position}
 use Rattle.std.specs.Str.{bytes_eq}
@@ -23,17 +23,17 @@ use Rattle.def_machine.specs.Eval.{opened_eval}
 use Rattle.def_machine.specs.Eval as theirs
 use Rattle.def_machine.specs.Native as native
 use Rattle.ev_room.specs.declared.exit.Exit.TheVariants as exit
-use Rattle.ev_room.specs.declared.room.Room.{Room}
+use Rattle.ev_pass.specs.declared.interior.Interior.{Interior as Room}
 use Rattle.ev_room.specs.declared.scope.Binding.{Binding}
 use Rattle.ev_room.specs.declared.scope.Bound.{Bound as Kept}
 use Rattle.ev_room.specs.declared.scope.Bound.TheVariants as scope
 use Rattle.ev_room.specs.declared.scope.Scope.{Scope}
 use Rattle.ev_room.specs.Sound.{is_built_safe}
 use Rattle.ev_room.specs.Reading.{World, names, value_of, cell_of, line_of, vat_of}
-use Rattle.ev_room.specs.Sound.{Grown, IsSound, IsPlainCell, is_there, is_bound, are_bound, plain_cell}
+use Rattle.ev_room.specs.Sound.{Grown, Stays, IsSound, IsPlainCell, is_there, is_bound, are_bound, plain_cell}
 use Rattle.ev_room.specs.Acts.{Out, ◌>>◌, give, fail, answer, new_slot, write_told, slot_read, slot_found, read_slot, slot_written, write_slot, found_from, safe_found, read_held, read_bound, write_held, write_bound, opened_acts}
 use Rattle.ev_room.proofs.Sounds.{grown_same, grown_on, there_on, all_and, slots_grown, slot_sound, written_sound}
-use Rattle.ev_room.proofs.Stands.{Met, Look, vat, a_value, itself, bound_of, bond_of, bonds_onto, scope_of, then_met, give_met, stop_met, tell_met}
+use Rattle.ev_room.proofs.Stands.{Met, Look, vat, a_value, itself, bound_of, bond_of, bonds_onto, scope_of, stays_on, then_met, give_met, stop_met, tell_met}
 use Rattle.ev_room.proofs.There.{both}
 use Rattle.ev_room.proofs.Words.{same_is, safe_is, chosen, others, no_others, some_others}
 
@@ -94,11 +94,11 @@ bound_more h (c ∷ bs) b i k =
 
 gives_there : (w : World) (v : Held) (s : Room) → IsSound s.heap → is_there s.heap v ≡ true → Met w a_value s (answer (Ok v) s) (machine.give (value_of w v) (vat w s))
 unfolding opened_acts opened_state
-gives_there w v s sound i = record { grown = grown_same s.heap; keeps = (sound, i); is = λ f. refl }
+gives_there w v s sound i = record { grown = grown_same s.heap; stays = refl; keeps = (sound, i); is = λ f. refl }
 
 goes_astray : (w : World) (s : Room) → IsSound s.heap → Met w a_value s (answer (Err exit.Astray) s) (machine.stop Astray (vat w s))
 unfolding opened_acts opened_state
-goes_astray w s sound = record { grown = grown_same s.heap; keeps = sound; is = λ f. refl }
+goes_astray w s sound = record { grown = grown_same s.heap; stays = refl; keeps = sound; is = λ f. refl }
 
 safe_cases : (w : World) (a b c : Bool) (o : Option ℕ) (m : Option (Value Local)) (s : Room) → IsSound s.heap
     → is_built_safe (if a then Some held.Null else if b then Some (held.Bool true) else if c then Some (held.Bool false) else option_map held.Prim o) ≡ true
@@ -216,8 +216,8 @@ unfolding opened_state
 gives_on a v f = refl
 
 -- from a room on that has grown
-later : {A B : Type 0} (w : World) (look : Look A B) (s t : Room) (o : Out A) (d : Done Local B) → Grown s.heap t.heap → Met w look t o d → Met w look s o d
-later w look s t o d g m = record { grown = grown_on g m.grown; keeps = m.keeps; is = m.is }
+later : {A B : Type 0} (w : World) (look : Look A B) (s t : Room) (o : Out A) (d : Done Local B) → Grown s.heap t.heap → Stays s t → Met w look t o d → Met w look s o d
+later w look s t o d g e m = record { grown = grown_on g m.grown; stays = stays_on s t o.1 e m.stays; keeps = m.keeps; is = m.is }
 
 write_plain_met : (w : World) (tree : List Node) (rec : scopes.Evaluator Local) (act k : ℕ) (u v : Held) (s : Room) → IsSound s.heap → is_there s.heap v ≡ true
     → slice_get s.heap.slots k ≡ Some (plain_cell u)
@@ -228,7 +228,7 @@ write_plain_met w tree rec act k u v s sound i e =
       writing_is w tree rec act k u (value_of w v) (vat w s),
       written_met w s k u v e,
       gives_on (tt {0}) (vat w (written s k v)) (λ t z. machine.and_then (machine.tell (SlotWrote act k (value_of w v)) z) (λ u. machine.give (value_of w v))),
-    ) (later w a_value s (written s k v) (write_told act k v (written s k v)) _ (slots_grown s.heap sound (slice_set s.heap.slots k (plain_cell v)))
+    ) (later w a_value s (written s k v) (write_told act k v (written s k v)) _ (slots_grown s.heap sound (slice_set s.heap.slots k (plain_cell v))) refl
     (wrote_met w act k v (written s k v) (written_sound s.heap sound k v i) (there_on (slots_grown s.heap sound (slice_set s.heap.slots k (plain_cell v))) v i)))
 
 write_found_met : (w : World) (tree : List Node) (rec : scopes.Evaluator Local) (act k : ℕ) (v : Held) (o : Option Cell) (s : Room) → IsSound s.heap → is_there s.heap v ≡ true
@@ -277,6 +277,7 @@ pub new_slot_met : (w : World) (v : Held) (s : Room) → IsSound s.heap → is_t
 unfolding opened_acts opened_state vat_of any_guard
 new_slot_met w v s sound i = record {
   grown = slots_grown s.heap sound (s.heap.slots ++ plain_cell v ∷ []);
+  stays = refl;
   keeps = (slot_sound s.heap sound v i, tt);
   is = λ f. rw (length-map s.heap.slots (cell_of w), map-append (cell_of w) s.heap.slots (plain_cell v ∷ [])) refl;
 }

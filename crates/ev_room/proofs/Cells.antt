@@ -6,7 +6,7 @@ use Rattle.ev_base.specs.declared.values.Value.{Value}
 use Rattle.ev_heap.specs.Contents.{Contents}
 use Rattle.ev_heap.specs.declared.kept.Cell.{Cell}
 use Rattle.ev_room.specs.declared.exit.Exit.TheVariants.{Astray}
-use Rattle.ev_room.specs.declared.room.Room.{Room}
+use Rattle.ev_pass.specs.declared.interior.Interior.{Interior as Room}
 use Rattle.ev_room.specs.Acts.{slot_read, slot_found, slot_written, read_slot, write_slot, write_told, fail}
 
 found_at : (act k : ℕ) (o : Option Cell) (v : Value) (s : Room) → option_map (λ c. c.value) o ≡ Some v → slot_found act k o s ≡ slot_read act k v s

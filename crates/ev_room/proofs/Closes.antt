@@ -1,5 +1,5 @@
 -- How calls end: what the code does is what the machine does.
-use Rattle.std.proofs.Common.{◌≡◌, ℕ, nat_lt, true, List, [], ◌∷◌, Option, Ok, Err, length, refl, ap, ◌∙◌}
+use Rattle.std.proofs.Common.{◌≡◌, ℕ, List, [], ◌∷◌, Option, refl}
 use Rattle.ev_base.specs.declared.values.Value.{Value as Held}
 use Rattle.ev_base.specs.declared.values.Value.TheVariants as held
 use Rattle.ev_heap.specs.declared.happened.Happened.TheVariants as event
@@ -7,16 +7,11 @@ use Rattle.def_machine.specs.Values.{Words, Value, Local}
 use Rattle.def_machine.specs.State.{Called, Back, Thrown, Left, Vat, Done, Throws, Stops, Fuel, Deep, Astray}
 use Rattle.def_machine.specs.State as machine
 use Rattle.def_machine.specs.Scopes as scopes
-use Rattle.def_machine.specs.Perform as perform
-use Rattle.def_machine.specs.Native as native
-use Rattle.ev_prims.specs.declared.reply.Reply.TheVariants as reply
-use Rattle.ev_room.specs.declared.exit.Exit.TheVariants as exit
-use Rattle.ev_room.specs.declared.room.Room.{Room}
+use Rattle.ev_pass.specs.declared.interior.Interior.{Interior as Room}
 use Rattle.ev_room.specs.Reading.{World, text_of, value_of, values_of, line_of}
-use Rattle.ev_room.specs.Sound.{IsSound, is_there}
 use Rattle.ev_room.specs.Acts.{Out, ◌>>◌, closed_by}
 use Rattle.ev_room.proofs.Sounds.{there_on}
-use Rattle.ev_room.proofs.Stands.{Met, ended_met, eject_met, vat, a_value, carried, then_met, give_met, throw_met, tell_met}
+use Rattle.ev_room.proofs.Stands.{Met, ended_met, eject_met, a_value, then_met, give_met, throw_met, tell_met}
 
 -- ---- how calls end
 

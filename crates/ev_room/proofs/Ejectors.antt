@@ -4,7 +4,7 @@ use Rattle.std.specs.Prelude.{slice_get, slice_set, IfSome}
 use Rattle.std.proofs.lemmas.Option.{slice_get_past}
 use Rattle.ev_heap.specs.Contents.{Contents}
 use Rattle.ev_heap.specs.declared.kept.Thing.{Thing}
-use Rattle.ev_room.specs.declared.room.Room.{Room}
+use Rattle.ev_pass.specs.declared.interior.Interior.{Interior as Room}
 use Rattle.ev_room.specs.Acts.{give, killed, kill}
 use Rattle.ev_room.proofs.Cells.{stands_at}
 

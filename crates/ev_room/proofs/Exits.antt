@@ -5,7 +5,7 @@ use Rattle.ev_room.specs.declared.exit.Exit.{Exit}
 use Rattle.ev_room.specs.declared.exit.Exit.TheVariants.{Thrown, Ejected, Fuel, Deep, Astray, Unbuilt, Memory}
 use Rattle.ev_room.specs.declared.exit.Came.{Came}
 use Rattle.ev_room.specs.declared.exit.Came.TheVariants.{Gave, Threw, Left}
-use Rattle.ev_room.specs.declared.room.Room.{Room}
+use Rattle.ev_pass.specs.declared.interior.Interior.{Interior as Room}
 use Rattle.ev_base.specs.declared.values.Value.{Value}
 use Rattle.ev_room.specs.Acts.{ended_by, unless_stopped, Out, Act, Unless, Gives, and_then, ◌>>◌, spend, keep_list, store, closed_by}
 

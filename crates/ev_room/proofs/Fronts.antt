@@ -1,5 +1,5 @@
 -- Scopes that have the bindings of another in front.
-use Rattle.std.proofs.Common.{◌≡◌, ℕ, suc, zero, List, [], ◌∷◌, ◌++◌, length, refl, sym, ap, ◌∙◌}
+use Rattle.std.proofs.Common.{◌≡◌, ℕ, List, [], ◌∷◌, ◌++◌, length, refl, ap, ◌∙◌}
 use Rattle.std.specs.Prelude.{take, Result, Ok, Err, OnOk, OnErr}
 use Rattle.ev_base.specs.declared.memory.Memory.{Memory}
 use Rattle.def_machine.specs.Values.{Words}

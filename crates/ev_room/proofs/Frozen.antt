@@ -1,5 +1,5 @@
 -- What is frozen in a heap is frozen in the machine.
-use Rattle.std.proofs.Common.{◌≡◌, ℕ, Bool, true, List, [], Option, Some, None, map, refl, sym, ap, ◌∙◌, ◌&&◌, nat_le}
+use Rattle.std.proofs.Common.{◌≡◌, ℕ, Bool, true, List, [], Option, Some, None, refl, ap, ◌∙◌, ◌&&◌, nat_le}
 use Rattle.std.specs.Prelude.{slice_get, option_map, unwrap_or}
 use Rattle.ev_base.specs.declared.values.Value.{Value as Held}
 use Rattle.ev_base.specs.declared.values.Value.TheVariants as held
@@ -11,17 +11,16 @@ use Rattle.def_kernel.specs.declared.node.Node.{Node}
 use Rattle.def_machine.specs.Perform as perform
 use Rattle.def_machine.specs.Refs.{highest}
 use Rattle.def_machine.specs.Scopes as scopes
-use Rattle.def_machine.specs.State.{Thing}
 use Rattle.def_machine.specs.Values.{Value, Local, Prim, Ref, Obj, numbering, local_spot}
 use Rattle.ev_audit.specs.Frozen.{is_frozen, stamps_at}
-use Rattle.ev_audit.specs.Stamps.{bears, stamps_in}
+use Rattle.ev_audit.specs.Stamps.{stamps_in}
 use Rattle.ev_audit.proofs.Stamping.{bears_is}
-use Rattle.ev_room.specs.Reading.{World, names, text_of, value_of, values_of, members_of, thing_of, vat_of}
+use Rattle.ev_room.specs.Reading.{World, names, text_of, value_of, values_of, thing_of}
 use Rattle.ev_room.specs.Sound.{Each, IsListed, is_there}
-use Rattle.ev_room.specs.declared.room.Room.{Room}
+use Rattle.ev_pass.specs.declared.interior.Interior.{Interior as Room}
 use Rattle.ev_room.proofs.Making.{things_at}
 use Rattle.ev_room.proofs.Plain.{plain_within}
-use Rattle.ev_room.proofs.Stands.{vat}
+use Rattle.ev_room.proofs.Stands.{vat, lists_of}
 
 module _ (w : World) (tree : List Node) (s : Room) (sound : Each (IsListed s.heap) s.heap.lists) where
   shape_stamps : (live : Bool) (sh : Shape) → scopes.stamps_of (Some (thing_of w (record { shape = sh; alive = live }))) ≡ values_of w (stamps_in sh)
@@ -42,13 +41,9 @@ module _ (w : World) (tree : List Node) (s : Room) (sound : Each (IsListed s.hea
       ap (λ (ss : List (Value Local)). perform.has_stamp (names w) tree (Prim 17) ss) (ap scopes.stamps_of (things_at w s i) ∙ stamps_are (slice_get s.heap.things i))
       ∙ bears_is w.word tree (text_of w) (held.Prim 17) (stamps_at s.heap i)
 
-  lists_are : (vat w s).lists ≡ map (members_of w) s.heap.lists
-  unfolding vat_of
-  lists_are = refl
-
   data_frozen : (v : Held) → is_there s.heap v ≡ true → scopes.is_plain highest (vat w s).lists (value_of w v) ≡ (is_plain s.heap v && nat_le (height_of s.heap v) 100)
   unfolding highest
-  data_frozen v t = ap (λ (ls : List (List (Value Local))). scopes.is_plain 100 ls (value_of w v)) lists_are ∙ plain_within w s.heap sound 100 v t
+  data_frozen v t = ap (λ (ls : List (List (Value Local))). scopes.is_plain 100 ls (value_of w v)) (lists_of w s) ∙ plain_within w s.heap sound 100 v t
 
   -- data, a primitive, or an object with DeepFrozen's stamp
   pub frozen_is : (v : Held) → is_there s.heap v ≡ true → perform.is_frozen (names w) tree (vat w s) (value_of w v) ≡ is_frozen s.heap v

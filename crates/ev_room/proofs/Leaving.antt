@@ -1,5 +1,5 @@
 -- Ejectors over the state of the code stand for the machine's.
-use Rattle.std.proofs.Common.{◌≡◌, ℕ, zero, suc, nat_lt, Bool, true, false, List, [], ◌∷◌, ◌++◌, Option, Some, None, Ok, Err, length, map, refl, sym, ap, subst, ◌∙◌}
+use Rattle.std.proofs.Common.{◌≡◌, ℕ, zero, suc, Bool, true, false, List, [], ◌∷◌, ◌++◌, Option, Some, None, map, refl, ap, ◌∙◌}
 use Rattle.std.specs.Prelude.{slice_get, slice_set, codes, if◌then◌else◌, option_map}
 use Rattle.std.specs.Str.{bytes_eq}
 use Rattle.std.proofs.lemmas.List.{map-append, length-map}
@@ -10,14 +10,14 @@ use Rattle.ev_heap.specs.declared.kept.Shape.{Shape}
 use Rattle.ev_heap.specs.declared.kept.Shape.TheVariants as shape
 use Rattle.ev_heap.specs.declared.kept.Thing.{Thing as HeldThing}
 use Rattle.def_kernel.specs.declared.node.Node.{Node}
-use Rattle.def_machine.specs.Values.{Words, Value, Null, Ref, Local, Obj, numbering}
+use Rattle.def_machine.specs.Values.{Words, Value, Ref, Local, Obj, numbering}
 use Rattle.def_machine.specs.State.{Thing, Ejector, Called, EjectorMade, Vat, Done, opened_state}
 use Rattle.def_machine.specs.State as machine
 use Rattle.def_machine.specs.Free.{entry, same_words}
 use Rattle.def_machine.specs.Scopes as scopes
 use Rattle.def_machine.specs.Calls as calls
 use Rattle.ev_prims.specs.declared.problem.Problem.TheVariants.{NoMethod, DeadEjector}
-use Rattle.ev_room.specs.declared.room.Room.{Room}
+use Rattle.ev_pass.specs.declared.interior.Interior.{Interior as Room}
 use Rattle.ev_room.specs.Reading.{World, names, value_of, values_of, shape_in, thing_of, line_of, vat_of}
 use Rattle.ev_room.specs.Sound.{Grown, IsSound, is_there, are_there}
 use Rattle.ev_room.specs.Acts.{Act, ◌>>=◌, ◌>>◌, give, fail, fails, answer, closed, keep_ejector, new_ejector, killed, kill, leave, ejected, ejector_answer, call_ejector}
@@ -33,6 +33,7 @@ keep_ejector_met : (w : World) (s : Room) → IsSound s.heap → Met w itself s 
 unfolding keep_ejector machine.new_thing vat_of
 keep_ejector_met w s sound = record {
   grown = things_grown s.heap sound (s.heap.things ++ record { shape = shape.Ejector; alive = true } ∷ []);
+  stays = refl;
   keeps = (ejector_sound s.heap sound, tt);
   is = λ f. rw (length-map s.heap.things (thing_of w), map-append (thing_of w) s.heap.things (record { shape = shape.Ejector; alive = true } ∷ [])) refl;
 }
@@ -81,11 +82,13 @@ killed_met : (w : World) (j : ℕ) (o : Option HeldThing) (s : Room) → IsSound
 unfolding killed give machine.kill vat_of
 killed_met w j None s sound e = record {
   grown = grown_same s.heap;
+  stays = refl;
   keeps = (sound, tt);
   is = λ f. ap (λ (ts : List (Thing Local)). machine.Gives tt (record (vat w s) { things = ts })) (unchanged_at w s.heap.things j e);
 }
 killed_met w j (Some t) s sound e = record {
   grown = things_grown s.heap sound (slice_set s.heap.things j (record t { alive = false }));
+  stays = refl;
   keeps = (killed_sound s.heap sound j t e, tt);
   is = λ f. ap (λ (ts : List (Thing Local)). machine.Gives tt (record (vat w s) { things = ts })) (changed_at w s.heap.things j t e);
 }

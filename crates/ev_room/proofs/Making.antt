@@ -22,7 +22,7 @@ use Rattle.def_machine.specs.Calls as calls
 use Rattle.def_machine.specs.Eval as theirs
 use Rattle.ev_heap.specs.declared.kept.Shape.TheVariants.{Made as Plain}
 use Rattle.ev_room.specs.declared.object.Code.TheVariants.{Runs}
-use Rattle.ev_room.specs.declared.room.Room.{Room}
+use Rattle.ev_pass.specs.declared.interior.Interior.{Interior as Room}
 use Rattle.ev_room.specs.declared.scope.Binding.{Binding}
 use Rattle.ev_room.specs.declared.scope.Bound.{Bound as Kept}
 use Rattle.ev_room.specs.declared.scope.Bound.TheVariants as scope
@@ -148,6 +148,7 @@ new_object_met : (w : World) (node : ℕ) (bs : List Binding) (s : Room) → IsS
 unfolding new_object machine.new_thing vat_of
 new_object_met w node bs s sound i = record {
   grown = thing_grown s.heap sound (record { node = node; nouns = bs });
+  stays = refl;
   keeps = (thing_sound s.heap sound (record { node = node; nouns = bs }) i, tt);
   is = λ f. rw (length-map s.heap.things (thing_of w), map-append (thing_of w) s.heap.things (plain_thing (record { node = node; nouns = bs }) ∷ []), caught_is w bs) refl;
 }

@@ -1,5 +1,5 @@
 -- Which data holds no name is told of a list as it is made, and so the machine finds it, part by part.
-use Rattle.std.proofs.Common.{◌≡◌, ℕ, zero, suc, ◌+◌, ◌≤◌, nat_le, ◌&&◌, Bool, true, false, List, [], ◌∷◌, Option, Some, None, length, map, fold, refl, sym, ap, ◌∙◌, arith}
+use Rattle.std.proofs.Common.{◌≡◌, ℕ, zero, suc, ◌+◌, nat_le, ◌&&◌, Bool, true, false, List, [], ◌∷◌, Option, Some, length, map, fold, refl, sym, ap, ◌∙◌, arith}
 use Rattle.std.specs.Prelude.{slice_get, option_map, unwrap_or, max, nat_lt}
 use Rattle.std.proofs.lemmas.Bool.Decides.{nat_tests}
 use Rattle.ev_base.specs.declared.values.Value.{Value as Held}

@@ -1,33 +1,39 @@
 -- What the state of the code stands for, and how its single steps stand for the machine's.
-use Rattle.std.proofs.Common.{◌≡◌, ℕ, suc, ◌+◌, ◌-◌, ◌<◌, nat_lt, Bool, true, false, List, [], ◌∷◌, ◌++◌, Option, Some, None, Ok, Err, length, map, refl, sym, ap, subst, ◌∙◌, arith, append_assoc, append-nil}
+use Rattle.std.proofs.Common.{◌≡◌, ℕ, suc, ◌+◌, ◌<◌, nat_lt, Bool, true, false, List, [], ◌∷◌, ◌++◌, Option, None, Ok, Err, length, map, refl, sym, ap, subst, ◌∙◌, arith, append_assoc, append-nil}
 use Rattle.std.specs.Prelude.{slice_get, codes, if◌then◌else◌, nat_le, unwrap_or}
-use Rattle.std.proofs.lemmas.List.{length-append, map-append, length-map}
+use Rattle.std.proofs.lemmas.List.{length-append, length-map}
 use Rattle.ev_base.specs.declared.values.Value.{Value as Held}
 use Rattle.ev_base.specs.declared.values.Value.TheVariants as held
 use Rattle.ev_heap.specs.Contents.{Contents, is_light, listed}
+use Rattle.ev_heap.specs.declared.kept.Listed.{Listed}
 use Rattle.ev_heap.specs.declared.happened.Happened.{Happened as Event}
 use Rattle.ev_heap.specs.declared.happened.Happened.TheVariants as event
 use Rattle.def_kernel.specs.declared.node.Node.{Node}
-use Rattle.def_machine.specs.Values.{Words, Value, Text, Items, Ref, Local, Obj, Prom, Far, Mess, same_local, local_spot, numbering}
+use Rattle.def_machine.specs.Values.{Words, Value, Text, Items, Ref, Local, Obj, same_local, local_spot, numbering}
 use Rattle.def_machine.specs.State.{Bound, Fixed, Slot, Binding as Bond, Scope as Surroundings, Happened, ListMade, Known, Vat, Done, Throws, Ejects, Stops, Fuel, Deep, Astray, opened_state}
 use Rattle.def_machine.specs.State as machine
 use Rattle.def_machine.specs.Refs.{follow, follow_at, led, standing_of, standing_in, severed, severed_at, entry_of, list_fits}
 use Rattle.def_machine.specs.Scopes.{Answer, Answers}
-use Rattle.def_machine.specs.Scopes as scopes
+use Rattle.def_machine.specs.Native as native
 use Rattle.def_machine.specs.Perform as perform
 use Rattle.ev_integer.specs.declared.arithmetic.NumFault.TheVariants.{Overflow, ZeroDivisor, NegativePower}
+use Rattle.ev_prims.specs.Answers.{members_at}
+use Rattle.ev_prims.proofs.Means.{lists_are}
 use Rattle.ev_prims.specs.Problems.{problem_words}
 use Rattle.ev_prims.specs.declared.problem.Problem.{Problem}
 use Rattle.ev_prims.specs.declared.problem.Problem.TheVariants.{NoMethod, Arithmetic, NotInt, NotChar, NotBoolean, NotText, NotList, OutOfRange, BadArgument, NotComparable, TooHeavy, Unthrowable, DeadEjector}
 use Rattle.ev_room.specs.declared.exit.Exit.TheVariants as exit
-use Rattle.ev_room.specs.declared.room.Room.{Room}
+use Rattle.ev_pass.specs.declared.interior.Interior.{Interior as Room}
 use Rattle.ev_room.specs.declared.scope.Binding.{Binding}
 use Rattle.ev_room.specs.declared.scope.Bound.{Bound as Kept}
 use Rattle.ev_room.specs.declared.scope.Bound.TheVariants as scope
 use Rattle.ev_room.specs.declared.scope.Scope.{Scope}
-use Rattle.ev_room.specs.Reading.{World, names, all_promises, is_promise, text_of, value_of, values_of, members_of, line_of, lines_of, vat_of}
+use Rattle.ev_refs.specs.Reading.{knowns_by}
+use Rattle.ev_refs.specs.declared.known.Known.{Known as HeldKnown}
+use Rattle.ev_pass.specs.Reading as inside
+use Rattle.ev_room.specs.Reading.{World, names, texts_of, text_of, value_of, values_of, members_of, line_of, lines_of, vat_of}
 use Rattle.ev_audit.specs.Views.{guard_of}
-use Rattle.ev_room.specs.Sound.{Grown, IsSound, is_there, are_there, are_bound, problems}
+use Rattle.ev_room.specs.Sound.{Grown, Stays, IsSound, is_there, are_there, are_bound, problems}
 use Rattle.ev_room.specs.Acts.{ended_by, Out, Act, and_then, ◌>>=◌, ◌>>◌, give, fail, fails, tell, spent, spend, new_activation, problem_id, text_value, spell, spelled, write_text, new_list, list_told, keep_list, store, stored, listed_there, make_list, opened_acts}
 use Rattle.ev_room.proofs.Behind.{Holds, Of, free}
 use Rattle.ev_room.proofs.Sounds.{grown_same, grown_on, list_on, all_on, got_last, text_grown, text_sound, last_text, list_grown, list_sound, last_list, code_grown, code_sound}
@@ -36,7 +42,7 @@ use Rattle.ev_room.proofs.Weights.{IsFront, fits_is}
 
 -- what the state of the code stands for
 abbrev pub vat : World → Room → Vat Local
-vat w s = vat_of w s.heap s.micro
+vat w s = vat_of w s
 
 abbrev pub bound_of : World → Kept → Bound Local
 bound_of w (scope.Fixed v g) = Fixed (value_of w v) (guard_of g)
@@ -107,9 +113,11 @@ Is look w (Err exit.Astray, s) d = d ≡ Stops Astray (vat w s)
 Is look w (Err exit.Unbuilt, s) d = ⊥
 Is look w (Err exit.Memory, s) d = ⊥
 
--- The heap grows and stays sound, and where its texts are a front of those of the end, the outcome stands for the machine's.
+-- The heap grows and stays sound, nothing else changes but fuel and what happened, and where the heap's texts are a front of those of
+-- the end, the outcome stands for the machine's.
 pub record Met {A B : Type 0} (w : World) (look : Look A B) (s : Room) (o : Out A) (d : Done Local B) : Type 0 where
   pub grown : Grown s.heap (o.1).heap
+  pub stays : Stays s o.1
   pub keeps : Keeps look o
   pub is : IsFront w (o.1).heap → Is look w o d
 
@@ -119,19 +127,24 @@ front_back w {a = a} g f = (g.texts.0 ++ f.0, f.1 ∙ ap (λ (ts : List Words). 
 
 -- ---- one thing after another
 
+-- what stays, stays on
+pub stays_on : (s t u : Room) → Stays s t → Stays t u → Stays s u
+stays_on s t u a b = b ∙ ap (λ (x : Room). record x { heap = u.heap; micro = u.micro }) a
+
 -- what follows an outcome, where that is known
 pub carried : {B C D : Type 0} (w : World) (look : Look C D) (s t : Room) (o : Out C) (d c : Done Local B) (F : Done Local B → Done Local D)
-    → Grown s.heap t.heap → (IsFront w t.heap → d ≡ c) → Met w look t o (F c) → Met w look s o (F d)
-carried {B = B} w look s t o d c F grown is m = record {
+    → Grown s.heap t.heap → Stays s t → (IsFront w t.heap → d ≡ c) → Met w look t o (F c) → Met w look s o (F d)
+carried {B = B} w look s t o d c F grown stays is m = record {
   grown = grown_on grown m.grown;
+  stays = stays_on s t o.1 stays m.stays;
   keeps = m.keeps;
   is = λ f. subst (λ (x : Done Local B). Is look w o (F x)) (sym (is (front_back w m.grown f))) (m.is f);
 }
 
 then_gives : {C D : Type 0} {B : Type 0} (w : World) (look' : Look C D) (s t : Room) (o : Out C) (d : Done Local B) (b : B) (g : B → machine.Act Local D)
-    → Grown s.heap t.heap → (IsFront w t.heap → d ≡ machine.Gives b (vat w t)) → Met w look' t o (g b (vat w t)) → Met w look' s o (machine.and_then d g)
+    → Grown s.heap t.heap → Stays s t → (IsFront w t.heap → d ≡ machine.Gives b (vat w t)) → Met w look' t o (g b (vat w t)) → Met w look' s o (machine.and_then d g)
 unfolding opened_state
-then_gives {B = B} w look' s t o d b g grown is m = carried w look' s t o d (machine.Gives b (vat w t)) (λ (x : Done Local B). machine.and_then x g) grown is m
+then_gives {B = B} w look' s t o d b g grown stays is m = carried w look' s t o d (machine.Gives b (vat w t)) (λ (x : Done Local B). machine.and_then x g) grown stays is m
 
 stops_at : {B D : Type 0} (c : machine.Stop) (v : Vat Local) (d : Done Local B) (g : B → machine.Act Local D) → d ≡ Stops c v → machine.and_then d g ≡ Stops c v
 unfolding opened_state
@@ -150,12 +163,12 @@ pub then_stands : {A B C D : Type 0} (w : World) (look : Look A B) (look' : Look
     → ((a : A) (t : Room) → IsSound t.heap → look.fits t.heap a → Grown s.heap t.heap → P a → Met w look' t (f a t) (g (look.of w a) (vat w t)))
     → Met w look' s (and_then o f) (machine.and_then d g)
 unfolding and_then
-then_stands w look look' P s (Ok a, t) d f g h p k = then_gives w look' s t (f a t) d (look.of w a) g h.grown h.is (k a t h.keeps.0 h.keeps.1 h.grown p)
-then_stands w look look' P s (Err (exit.Thrown id), t) d f g h p k = record { grown = h.grown; keeps = h.keeps; is = λ i. throws_at (text_of w id) (vat w t) d g (h.is i) }
-then_stands w look look' P s (Err (exit.Ejected n v), t) d f g h p k = record { grown = h.grown; keeps = h.keeps; is = λ i. ejects_at n (value_of w v) (vat w t) d g (h.is i) }
-then_stands w look look' P s (Err exit.Fuel, t) d f g h p k = record { grown = h.grown; keeps = h.keeps; is = λ i. stops_at Fuel (vat w t) d g (h.is i) }
-then_stands w look look' P s (Err exit.Deep, t) d f g h p k = record { grown = h.grown; keeps = h.keeps; is = λ i. stops_at Deep (vat w t) d g (h.is i) }
-then_stands w look look' P s (Err exit.Astray, t) d f g h p k = record { grown = h.grown; keeps = h.keeps; is = λ i. stops_at Astray (vat w t) d g (h.is i) }
+then_stands w look look' P s (Ok a, t) d f g h p k = then_gives w look' s t (f a t) d (look.of w a) g h.grown h.stays h.is (k a t h.keeps.0 h.keeps.1 h.grown p)
+then_stands w look look' P s (Err (exit.Thrown id), t) d f g h p k = record { grown = h.grown; stays = h.stays; keeps = h.keeps; is = λ i. throws_at (text_of w id) (vat w t) d g (h.is i) }
+then_stands w look look' P s (Err (exit.Ejected n v), t) d f g h p k = record { grown = h.grown; stays = h.stays; keeps = h.keeps; is = λ i. ejects_at n (value_of w v) (vat w t) d g (h.is i) }
+then_stands w look look' P s (Err exit.Fuel, t) d f g h p k = record { grown = h.grown; stays = h.stays; keeps = h.keeps; is = λ i. stops_at Fuel (vat w t) d g (h.is i) }
+then_stands w look look' P s (Err exit.Deep, t) d f g h p k = record { grown = h.grown; stays = h.stays; keeps = h.keeps; is = λ i. stops_at Deep (vat w t) d g (h.is i) }
+then_stands w look look' P s (Err exit.Astray, t) d f g h p k = record { grown = h.grown; stays = h.stays; keeps = h.keeps; is = λ i. stops_at Astray (vat w t) d g (h.is i) }
 then_stands w look look' P s (Err exit.Unbuilt, t) d f g h p k = absurd h.keeps
 then_stands w look look' P s (Err exit.Memory, t) d f g h p k = absurd h.keeps
 
@@ -177,8 +190,8 @@ unfolding machine.end_by
 stops_by c v d f g h e = rw e refl
 
 ended_given : {B C D : Type 0} (w : World) (look : Look C D) (s t : Room) (o : Out C) (d c : Done Local B) (f : B → machine.Act Local D) (g : Words → machine.Act Local D) (h : ℕ → Value Local → machine.Act Local D)
-    → Grown s.heap t.heap → (IsFront w t.heap → d ≡ c) → Met w look t o (machine.end_by f g h c) → Met w look s o (machine.end_by f g h d)
-ended_given {B = B} w look s t o d c f g h grown is m = carried w look s t o d c (λ (x : Done Local B). machine.end_by f g h x) grown is m
+    → Grown s.heap t.heap → Stays s t → (IsFront w t.heap → d ≡ c) → Met w look t o (machine.end_by f g h c) → Met w look s o (machine.end_by f g h d)
+ended_given {B = B} w look s t o d c f g h grown stays is m = carried w look s t o d c (λ (x : Done Local B). machine.end_by f g h x) grown stays is m
 
 pub ended_met : {A B C D : Type 0} (w : World) (look : Look A B) (look' : Look C D) (s : Room) (o : Out A) (d : Done Local B)
     (f : A → Act C) (g : ℕ → Act C) (h : ℕ → Held → Act C) (f' : B → machine.Act Local D) (g' : Words → machine.Act Local D) (h' : ℕ → Value Local → machine.Act Local D)
@@ -189,14 +202,14 @@ pub ended_met : {A B C D : Type 0} (w : World) (look : Look A B) (look' : Look C
     → Met w look' s (ended_by f g h o) (machine.end_by f' g' h' d)
 unfolding ended_by machine.end_by
 ended_met w look look' s (Ok a, t) d f g h f' g' h' m k p q =
-    ended_given w look' s t (f a t) d (machine.Gives (look.of w a) (vat w t)) f' g' h' m.grown m.is (k a t m.keeps.0 m.keeps.1 m.grown)
+    ended_given w look' s t (f a t) d (machine.Gives (look.of w a) (vat w t)) f' g' h' m.grown m.stays m.is (k a t m.keeps.0 m.keeps.1 m.grown)
 ended_met w look look' s (Err (exit.Thrown id), t) d f g h f' g' h' m k p q =
-    ended_given w look' s t (g id t) d (Throws (text_of w id) (vat w t)) f' g' h' m.grown m.is (p id t m.keeps.0 m.keeps.1 m.grown)
+    ended_given w look' s t (g id t) d (Throws (text_of w id) (vat w t)) f' g' h' m.grown m.stays m.is (p id t m.keeps.0 m.keeps.1 m.grown)
 ended_met w look look' s (Err (exit.Ejected n v), t) d f g h f' g' h' m k p q =
-    ended_given w look' s t (h n v t) d (Ejects n (value_of w v) (vat w t)) f' g' h' m.grown m.is (q n v t m.keeps.0 m.keeps.1 m.grown)
-ended_met w look look' s (Err exit.Fuel, t) d f g h f' g' h' m k p q = record { grown = m.grown; keeps = m.keeps; is = λ i. stops_by Fuel (vat w t) d f' g' h' (m.is i) }
-ended_met w look look' s (Err exit.Deep, t) d f g h f' g' h' m k p q = record { grown = m.grown; keeps = m.keeps; is = λ i. stops_by Deep (vat w t) d f' g' h' (m.is i) }
-ended_met w look look' s (Err exit.Astray, t) d f g h f' g' h' m k p q = record { grown = m.grown; keeps = m.keeps; is = λ i. stops_by Astray (vat w t) d f' g' h' (m.is i) }
+    ended_given w look' s t (h n v t) d (Ejects n (value_of w v) (vat w t)) f' g' h' m.grown m.stays m.is (q n v t m.keeps.0 m.keeps.1 m.grown)
+ended_met w look look' s (Err exit.Fuel, t) d f g h f' g' h' m k p q = record { grown = m.grown; stays = m.stays; keeps = m.keeps; is = λ i. stops_by Fuel (vat w t) d f' g' h' (m.is i) }
+ended_met w look look' s (Err exit.Deep, t) d f g h f' g' h' m k p q = record { grown = m.grown; stays = m.stays; keeps = m.keeps; is = λ i. stops_by Deep (vat w t) d f' g' h' (m.is i) }
+ended_met w look look' s (Err exit.Astray, t) d f g h f' g' h' m k p q = record { grown = m.grown; stays = m.stays; keeps = m.keeps; is = λ i. stops_by Astray (vat w t) d f' g' h' (m.is i) }
 ended_met w look look' s (Err exit.Unbuilt, t) d f g h f' g' h' m k p q = absurd m.keeps
 ended_met w look look' s (Err exit.Memory, t) d f g h f' g' h' m k p q = absurd m.keeps
 
@@ -204,6 +217,7 @@ ended_met w look look' s (Err exit.Memory, t) d f g h f' g' h' m k p q = absurd 
 pub met_by : {A B : Type 0} {w : World} {look : Look A B} {s : Room} {o : Out A} {c : Done Local B} (d : Done Local B) → (IsFront w s.heap → d ≡ c) → Met w look s o c → Met w look s o d
 met_by {B = B} {w = w} {look = look} {s = s} {o = o} d e m = record {
   grown = m.grown;
+  stays = m.stays;
   keeps = m.keeps;
   is = λ f. subst (λ (x : Done Local B). Is look w o x) (sym (e (front_back w m.grown f))) (m.is f);
 }
@@ -211,12 +225,12 @@ met_by {B = B} {w = w} {look = look} {s = s} {o = o} d e m = record {
 -- a value with the scope that stays
 pub answered_met : (w : World) (here : Scope) (s : Room) (o : Out Held) (d : Done Local (Answer Local)) → Met w (in_scope here) s o d → Met w an_answer s (and_then o (λ v. give (v, here))) d
 unfolding and_then give
-answered_met w here s (Ok v, t) d m = record { grown = m.grown; keeps = m.keeps; is = m.is }
-answered_met w here s (Err (exit.Thrown id), t) d m = record { grown = m.grown; keeps = m.keeps; is = m.is }
-answered_met w here s (Err (exit.Ejected n v), t) d m = record { grown = m.grown; keeps = m.keeps; is = m.is }
-answered_met w here s (Err exit.Fuel, t) d m = record { grown = m.grown; keeps = m.keeps; is = m.is }
-answered_met w here s (Err exit.Deep, t) d m = record { grown = m.grown; keeps = m.keeps; is = m.is }
-answered_met w here s (Err exit.Astray, t) d m = record { grown = m.grown; keeps = m.keeps; is = m.is }
+answered_met w here s (Ok v, t) d m = record { grown = m.grown; stays = m.stays; keeps = m.keeps; is = m.is }
+answered_met w here s (Err (exit.Thrown id), t) d m = record { grown = m.grown; stays = m.stays; keeps = m.keeps; is = m.is }
+answered_met w here s (Err (exit.Ejected n v), t) d m = record { grown = m.grown; stays = m.stays; keeps = m.keeps; is = m.is }
+answered_met w here s (Err exit.Fuel, t) d m = record { grown = m.grown; stays = m.stays; keeps = m.keeps; is = m.is }
+answered_met w here s (Err exit.Deep, t) d m = record { grown = m.grown; stays = m.stays; keeps = m.keeps; is = m.is }
+answered_met w here s (Err exit.Astray, t) d m = record { grown = m.grown; stays = m.stays; keeps = m.keeps; is = m.is }
 answered_met w here s (Err exit.Unbuilt, t) d m = absurd m.keeps
 answered_met w here s (Err exit.Memory, t) d m = absurd m.keeps
 
@@ -224,46 +238,47 @@ answered_met w here s (Err exit.Memory, t) d m = absurd m.keeps
 
 pub give_met : {A B : Type 0} (w : World) (look : Look A B) (a : A) (s : Room) → IsSound s.heap → look.fits s.heap a → Met w look s (give a s) (machine.give (look.of w a) (vat w s))
 unfolding opened_acts opened_state
-give_met w look a s sound i = record { grown = grown_same s.heap; keeps = (sound, i); is = λ f. refl }
+give_met w look a s sound i = record { grown = grown_same s.heap; stays = refl; keeps = (sound, i); is = λ f. refl }
 
 pub stop_met : {A B : Type 0} (w : World) (look : Look A B) (s : Room) → IsSound s.heap → Met w look s (fail exit.Astray s) (machine.stop Astray (vat w s))
 unfolding opened_acts opened_state
-stop_met w look s sound = record { grown = grown_same s.heap; keeps = sound; is = λ f. refl }
+stop_met w look s sound = record { grown = grown_same s.heap; stays = refl; keeps = sound; is = λ f. refl }
 
 pub deep_met : {A B : Type 0} (w : World) (look : Look A B) (s : Room) → IsSound s.heap → Met w look s (fail exit.Deep s) (machine.stop Deep (vat w s))
 unfolding opened_acts opened_state
-deep_met w look s sound = record { grown = grown_same s.heap; keeps = sound; is = λ f. refl }
+deep_met w look s sound = record { grown = grown_same s.heap; stays = refl; keeps = sound; is = λ f. refl }
 
 pub throw_met : {A B : Type 0} (w : World) (look : Look A B) (id : ℕ) (s : Room) → IsSound s.heap → nat_lt id (length s.heap.texts) ≡ true → Met w look s (fail (exit.Thrown id) s) (machine.throw (text_of w id) (vat w s))
 unfolding opened_acts opened_state
-throw_met w look id s sound i = record { grown = grown_same s.heap; keeps = (sound, i); is = λ f. refl }
+throw_met w look id s sound i = record { grown = grown_same s.heap; stays = refl; keeps = (sound, i); is = λ f. refl }
 
 pub eject_met : {A B : Type 0} (w : World) (look : Look A B) (n : ℕ) (v : Held) (s : Room) → IsSound s.heap → is_there s.heap v ≡ true → Met w look s (fail (exit.Ejected n v) s) (machine.eject n (value_of w v) (vat w s))
 unfolding opened_acts opened_state
-eject_met w look n v s sound i = record { grown = grown_same s.heap; keeps = (sound, i); is = λ f. refl }
+eject_met w look n v s sound i = record { grown = grown_same s.heap; stays = refl; keeps = (sound, i); is = λ f. refl }
 
 pub spent_met : (w : World) (n : ℕ) (b : Bool) (s : Room) → IsSound s.heap → Met w itself s (spent n b s) (machine.spent n b (vat w s))
 unfolding opened_acts opened_state vat_of
-spent_met w n true s sound = record { grown = grown_same s.heap; keeps = (sound, tt); is = λ f. refl }
-spent_met w n false s sound = record { grown = grown_same s.heap; keeps = sound; is = λ f. refl }
+spent_met w n true s sound = record { grown = grown_same s.heap; stays = refl; keeps = (sound, tt); is = λ f. refl }
+spent_met w n false s sound = record { grown = grown_same s.heap; stays = refl; keeps = sound; is = λ f. refl }
 
 pub spend_met : (w : World) (n : ℕ) (s : Room) → IsSound s.heap → Met w itself s (spend n s) (machine.spend n (vat w s))
 unfolding spend opened_state vat_of
 spend_met w n s sound = spent_met w n (nat_le n s.micro.fuel) s sound
 
 lines_more : (w : World) (es : List Event) (e : Event) → lines_of w (es ++ e ∷ []) ≡ lines_of w es ++ line_of w e
-unfolding lines_of
+unfolding inside.lines_of
 lines_more w [] e = append-nil (line_of w e)
 lines_more w (x ∷ es) e = rw (lines_more w es e) (sym (append_assoc (line_of w x) (lines_of w es) (line_of w e)))
 
 told : (w : World) (es : List Event) (e : Event) (h : Happened Local) → line_of w e ≡ h ∷ []
-    → (w.happened ++ lines_of w es) ++ h ∷ [] ≡ w.happened ++ lines_of w (es ++ e ∷ [])
-told w es e h is = rw (lines_more w es e, is) (append_assoc w.happened (lines_of w es) (h ∷ []))
+    → (w.before.happened ++ lines_of w es) ++ h ∷ [] ≡ w.before.happened ++ lines_of w (es ++ e ∷ [])
+told w es e h is = rw (lines_more w es e, is) (append_assoc w.before.happened (lines_of w es) (h ∷ []))
 
 pub tell_met : (w : World) (e : Event) (h : Happened Local) (s : Room) → IsSound s.heap → line_of w e ≡ h ∷ [] → Met w itself s (tell e s) (machine.tell h (vat w s))
 unfolding opened_acts opened_state vat_of
 tell_met w e h s sound is = record {
   grown = grown_same s.heap;
+  stays = refl;
   keeps = (sound, tt);
   is = λ f. ap (λ (hs : List (Happened Local)). machine.Gives tt (record (vat w s) { happened = hs })) (told w s.micro.events e h is);
 }
@@ -276,6 +291,7 @@ pub activation_met : (w : World) (x : Held) (s : Room) → IsSound s.heap → Me
 unfolding opened_acts opened_state vat_of
 activation_met w x s sound = record {
   grown = code_grown s.heap sound x;
+  stays = refl;
   keeps = (code_sound s.heap sound x, tt);
   is = λ f. ap (λ (n : ℕ). machine.Gives (length s.heap.codes) (record (vat w s) { activations = n })) (one_longer s.heap.codes x);
 }
@@ -299,7 +315,7 @@ problem_text w TooHeavy = refl
 problem_text w Unthrowable = refl
 problem_text w DeadEjector = refl
 
-problem_small : (p : Problem) → nat_lt (problem_id p) 41 ≡ true
+problem_small : (p : Problem) → nat_lt (problem_id p) 43 ≡ true
 problem_small (Arithmetic Overflow) = refl
 problem_small (Arithmetic ZeroDivisor) = refl
 problem_small (Arithmetic NegativePower) = refl
@@ -316,14 +332,14 @@ problem_small TooHeavy = refl
 problem_small Unthrowable = refl
 problem_small DeadEjector = refl
 
-known_among : (n : ℕ) (more : List Words) → nat_lt n 41 ≡ true → nat_lt n (length (problems ++ more)) ≡ true
+known_among : (n : ℕ) (more : List Words) → nat_lt n 43 ≡ true → nat_lt n (length (problems ++ more)) ≡ true
 known_among n more h =
-    let l : length (problems ++ more) ≡ 41 + length more = length-append problems more in
-    let b : n < 41 = below n 41 h in
+    let l : length (problems ++ more) ≡ 43 + length more = length-append problems more in
+    let b : n < 43 = below n 43 h in
     is_below n (length (problems ++ more)) (omega arith)
 
 -- the first texts of a heap are there
-pub known_there : (h : Contents) → IsSound h → (n : ℕ) → nat_lt n 41 ≡ true → nat_lt n (length h.texts) ≡ true
+pub known_there : (h : Contents) → IsSound h → (n : ℕ) → nat_lt n 43 ≡ true → nat_lt n (length h.texts) ≡ true
 known_there h s n i = subst (λ (ts : List Words). nat_lt n (length ts) ≡ true) (sym s.problems_first.1) (known_among n s.problems_first.0 i)
 
 pub problem_there : (h : Contents) → IsSound h → (p : Problem) → nat_lt (problem_id p) (length h.texts) ≡ true
@@ -344,6 +360,7 @@ pub text_met : (w : World) (u : Words) (s : Room) → IsSound s.heap → Met w a
 unfolding opened_acts opened_state vat_of
 text_met w u s sound = record {
   grown = text_grown s.heap sound u;
+  stays = refl;
   keeps = (text_sound s.heap sound u, last_text s.heap sound u);
   is = λ f. ap (λ (t : Words). machine.Gives (Text t) (vat w s)) (last_is w s.heap u f);
 }
@@ -374,12 +391,33 @@ unfolding list_told ◌>>◌
 list_told_met w act vs k s sound i =
     then_met _ _ (tell_met w (event.List act k vs) (ListMade act k (values_of w vs)) s sound (list_line w act k vs)) (λ u t q j g. give_met w a_value (held.List k) t q (list_on g k i))
 
+all_members : (w : World) (ls : List Listed) → map (values_of w) (map (λ l. l.members) ls) ≡ map (members_of w) ls
+all_members w [] = refl
+all_members w (l ∷ ls) = ap (λ (vs : List (List (Value Local))). members_of w l ∷ vs) (all_members w ls)
+
+lists_more : (w : World) (ls : List Listed) (l : Listed) → map (values_of w) (map (λ k. k.members) ls) ++ members_of w l ∷ [] ≡ map (values_of w) (map (λ k. k.members) (ls ++ l ∷ []))
+lists_more w [] l = refl
+lists_more w (k ∷ ls) l = ap (λ (vs : List (List (Value Local))). members_of w k ∷ vs) (lists_more w ls l)
+
+as_many : (w : World) (ls : List Listed) → length (map (values_of w) (map (λ k. k.members) ls)) ≡ length ls
+as_many w ls = length-map (map (λ k. k.members) ls) (values_of w) ∙ length-map ls (λ k. k.members)
+
+pub lists_of : (w : World) (s : Room) → (vat w s).lists ≡ map (members_of w) s.heap.lists
+unfolding vat_of
+lists_of w s = all_members w s.heap.lists
+
+pub members_are : (w : World) (s : Room) (k : ℕ) → native.list_at (vat w s).lists k ≡ values_of w (members_at s.heap k)
+members_are w s k = ap (λ (ls : List (List (Value Local))). native.list_at ls k) (lists_of w s) ∙ lists_are (text_of w) s.heap.lists k
+
 new_list_met : (w : World) (vs : List Held) (s : Room) → IsSound s.heap → are_there s.heap vs ≡ true → Met w a_list s (new_list vs s) (machine.new_list (values_of w vs) (vat w s))
 unfolding opened_acts opened_state vat_of
 new_list_met w vs s sound i = record {
   grown = list_grown s.heap sound vs;
+  stays = refl;
   keeps = (list_sound s.heap sound vs i, last_list s.heap sound vs);
-  is = λ f. rw (length-map s.heap.lists (members_of w), map-append (members_of w) s.heap.lists (listed s.heap vs ∷ [])) refl;
+  is = λ f.
+      ap (λ (n : ℕ). machine.Gives n (record (vat w s) { lists = (vat w s).lists ++ values_of w vs ∷ [] })) (as_many w s.heap.lists)
+      ∙ ap (λ (ls : List (List (Value Local))). machine.Gives (length s.heap.lists) (record (vat w s) { lists = ls })) (lists_more w s.heap.lists (listed s.heap vs));
 }
 
 store_is : (w : World) (tree : List Node) (act : ℕ) (vs : List Held) (v : Vat Local)
@@ -405,10 +443,6 @@ made_is : (w : World) (tree : List Node) (act : ℕ) (vs : List (Value Local)) (
 unfolding perform.make_list opened_state
 made_is w tree act vs v = refl
 
-lists_of : (w : World) (s : Room) → (vat w s).lists ≡ map (members_of w) s.heap.lists
-unfolding vat_of
-lists_of w s = refl
-
 made_by : (w : World) (tree : List Node) (act : ℕ) (vs : List Held) (s : Room) → IsSound s.heap → are_there s.heap vs ≡ true → IsFront w s.heap
     → perform.make_list (names w) tree act (values_of w vs) (vat w s)
     ≡ (if is_light s.heap vs then perform.store (names w) tree act (values_of w vs) else machine.throw (codes "too heavy")) (vat w s)
@@ -430,52 +464,32 @@ list_met w tree act vs s sound i = listed_met w tree act vs (are_there s.heap vs
 
 -- ---- following
 
-passed : {A : Type 0} (b : Bool) (a c : A) → b ≡ false → elim b [ true ↦ a | false ↦ c ] ≡ c
-passed true a c h = absurd (cc)
-passed false a c h = refl
-
-other_local : (n : Local) (i : ℕ) → is_promise n ≡ true → same_local n (Obj i) ≡ false
-unfolding same_local
-other_local (Obj j) i h = absurd (cc)
-other_local (Prom k) i h = refl
-other_local (Far v p) i h = absurd (cc)
-other_local (Mess k) i h = absurd (cc)
-
-entry_more : (w : World) (k : Known Local) (ks : List (Known Local)) (i : ℕ)
-    → entry_of (names w) (k ∷ ks) (Obj i) ≡ elim (same_local k.name (Obj i)) [ true ↦ Some k | false ↦ entry_of (names w) ks (Obj i) ]
-unfolding entry_of numbering
-entry_more w k ks i = refl
-
-no_entry : (w : World) (ks : List (Known Local)) (i : ℕ) → all_promises ks ≡ true → entry_of (names w) ks (Obj i) ≡ None
-unfolding entry_of
-no_entry w [] i h = refl
-no_entry w (k ∷ ks) i h =
-    let s = both (is_promise k.name) (all_promises ks) h in
-    entry_more w k ks i
-    ∙ passed (same_local k.name (Obj i)) (Some k) (entry_of (names w) ks (Obj i)) (other_local k.name i s.0)
-    ∙ no_entry w ks i s.1
+no_entry : (w : World) (ts : List Words) (n : ℕ) (ks : List HeldKnown) (i : ℕ) → entry_of (names w) (knowns_by ts n ks) (Obj i) ≡ None
+unfolding entry_of knowns_by numbering same_local
+no_entry w ts n [] i = refl
+no_entry w ts n (k ∷ ks) i = no_entry w ts (suc n) ks i
 
 follow_none : (w : World) (v : Vat Local) (i : ℕ) → entry_of (names w) v.known (Obj i) ≡ None → follow (names w) v (Ref (Obj i)) ≡ Ref (Obj i)
 unfolding follow follow_at led standing_of standing_in severed severed_at numbering local_spot
 follow_none w v i e = ap (λ (o : Option (Known Local)). severed (names w) v (led (names w) (λ y. follow_at (names w) (length v.known) v.known y) (Obj i) (standing_in o))) e
 
-known_is : (w : World) (s : Room) → (vat w s).known ≡ w.known
+known_is : (w : World) (s : Room) → (vat w s).known ≡ knowns_by (texts_of w) 0 s.refs.known
 unfolding vat_of
 known_is w s = refl
 
-follow_object : (w : World) → all_promises w.known ≡ true → (s : Room) (i : ℕ) → follow (names w) (vat w s) (Ref (Obj i)) ≡ Ref (Obj i)
-follow_object w fair s i = follow_none w (vat w s) i (rw (known_is w s) (no_entry w w.known i fair))
+follow_object : (w : World) (s : Room) (i : ℕ) → follow (names w) (vat w s) (Ref (Obj i)) ≡ Ref (Obj i)
+follow_object w s i = follow_none w (vat w s) i (rw (known_is w s) (no_entry w (texts_of w) 0 s.refs.known i))
 
 -- what stands in the heap is followed to itself
-pub follow_there : (w : World) → all_promises w.known ≡ true → (s : Room) (h : Contents) (x : Held) → is_there h x ≡ true → follow (names w) (vat w s) (value_of w x) ≡ value_of w x
+pub follow_there : (w : World) (s : Room) (h : Contents) (x : Held) → is_there h x ≡ true → follow (names w) (vat w s) (value_of w x) ≡ value_of w x
 unfolding follow follow_at severed
-follow_there w fair s h (held.Obj i) e = follow_object w fair s i
-follow_there w fair s h (held.Prom k) e = absurd (cc)
-follow_there w fair s h (held.Far v p) e = absurd (cc)
-follow_there w fair s h _ e = refl
+follow_there w s h (held.Obj i) e = follow_object w s i
+follow_there w s h (held.Prom k) e = absurd (cc)
+follow_there w s h (held.Far v p) e = absurd (cc)
+follow_there w s h _ e = refl
 
-pub follow_all : (w : World) → all_promises w.known ≡ true → (s : Room) (h : Contents) (xs : List Held) → are_there h xs ≡ true → map (follow (names w) (vat w s)) (values_of w xs) ≡ values_of w xs
-follow_all w fair s h [] e = refl
-follow_all w fair s h (x ∷ xs) e =
+pub follow_all : (w : World) (s : Room) (h : Contents) (xs : List Held) → are_there h xs ≡ true → map (follow (names w) (vat w s)) (values_of w xs) ≡ values_of w xs
+follow_all w s h [] e = refl
+follow_all w s h (x ∷ xs) e =
     let i = both (is_there h x) (are_there h xs) e in
-    rw (follow_there w fair s h x i.0, follow_all w fair s h xs i.1) refl
+    rw (follow_there w s h x i.0, follow_all w s h xs i.1) refl

@@ -16,11 +16,11 @@ use Rattle.def_machine.specs.Native.{OrNull, guard_name}
 use Rattle.def_machine.specs.Perform as perform
 use Rattle.def_machine.specs.Refs as refs
 use Rattle.def_machine.specs.Scopes as scopes
-use Rattle.def_machine.specs.Values.{Local, Value, numbering, local_spot}
+use Rattle.def_machine.specs.Values.{numbering, local_spot}
 use Rattle.ev_room.specs.Takings.{is_null, is_kind, kind_takes, takes, refusal_id}
-use Rattle.ev_room.specs.Reading.{World, names, text_of, value_of, vat_of}
+use Rattle.ev_room.specs.Reading.{World, names, text_of, value_of}
 use Rattle.ev_room.specs.Sound.{Each, IsListed, is_there}
-use Rattle.ev_room.specs.declared.room.Room.{Room}
+use Rattle.ev_pass.specs.declared.interior.Interior.{Interior as Room}
 use Rattle.ev_room.proofs.Frozen.{frozen_is}
 use Rattle.ev_room.proofs.Stands.{vat}
 

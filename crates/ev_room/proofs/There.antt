@@ -11,7 +11,7 @@ use Rattle.ev_prims.specs.declared.problem.Problem.TheVariants.{TooHeavy}
 use Rattle.ev_room.specs.Sound.{is_there, are_there}
 use Rattle.ev_room.specs.Acts.{fail, fails, listed_there, make_list, problem_id, spell, spelled, store, stored, write_text}
 use Rattle.ev_room.specs.declared.exit.Exit.TheVariants.{Astray, Thrown}
-use Rattle.ev_room.specs.declared.room.Room.{Room}
+use Rattle.ev_pass.specs.declared.interior.Interior.{Interior as Room}
 
 -- one part of a test of two
 pub both : (a b : Bool) → (if a then b else false) ≡ true → (a ≡ true) × (b ≡ true)

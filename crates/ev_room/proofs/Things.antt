@@ -7,7 +7,7 @@ use Rattle.ev_heap.specs.declared.kept.Thing.{Thing}
 use Rattle.ev_room.specs.declared.exit.Exit.TheVariants.{Thrown, Ejected, Fuel, Deep, Astray, Unbuilt, Memory}
 use Rattle.ev_room.specs.declared.exit.Exit.{Exit}
 use Rattle.ev_room.specs.declared.object.Code.{Code}
-use Rattle.ev_room.specs.declared.room.Room.{Room}
+use Rattle.ev_pass.specs.declared.interior.Interior.{Interior as Room}
 use Rattle.ev_room.specs.Acts.{Answers, Gives, code_of, code_in, look_code}
 
 code_at : (o : Option Thing) (sh : Shape) (live : Bool) → option_map (λ t. t.shape) o ≡ Some sh → option_map (λ t. t.alive) o ≡ Some live → code_in o ≡ code_of sh live

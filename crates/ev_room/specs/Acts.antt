@@ -1,5 +1,5 @@
 -- What single acts of evaluation do to the state of the code: fuel, lines, var slots, nouns, texts, lists and objects.
-use Rattle.std.specs.Prelude.{◌≡◌, ◌==◌, ◌+◌, ℕ, ◌-◌, Bool, true, false, if◌then◌else◌, nat_le, List, [], ◌∷◌, ◌++◌, Some, None, Result, Ok, Err, map, length, take, slice_get, slice_set, codes}
+use Rattle.std.specs.Prelude.{◌≡◌, ◌==◌, ℕ, ◌-◌, Bool, true, false, if◌then◌else◌, nat_le, List, [], ◌∷◌, ◌++◌, Some, None, Result, Ok, Err, map, length, take, slice_get, slice_set, codes}
 use Rattle.std.specs.declared.option.Option.{Option}
 use Rattle.std.specs.Str.{bytes_eq}
 use Rattle.ev_base.specs.declared.values.Value.{Value}
@@ -30,7 +30,7 @@ use Rattle.ev_room.specs.declared.exit.Exit.TheVariants.{Thrown, Ejected, Fuel, 
 use Rattle.ev_room.specs.declared.exit.Came.{Came}
 use Rattle.ev_room.specs.declared.exit.Came.TheVariants.{Gave, Threw, Left}
 use Rattle.ev_heap.specs.declared.kept.Cell.{Cell}
-use Rattle.ev_room.specs.declared.room.Room.{Room}
+use Rattle.ev_pass.specs.declared.interior.Interior.{Interior as Room}
 use Rattle.ev_room.specs.declared.scope.Binding.{Binding}
 use Rattle.ev_room.specs.declared.scope.Bound.{Bound}
 use Rattle.ev_room.specs.declared.scope.Bound.TheVariants.{Fixed, Slot}

@@ -1,12 +1,10 @@
--- What a heap and what happened stand for: a vat of the machine, in local numbers.
-use Rattle.std.specs.Prelude.{ℕ, Bool, true, false, if◌then◌else◌, List, [], ◌∷◌, ◌++◌, map, length, slice_get, unwrap_or}
+-- What the inside of a vat stands for: a vat of the machine, in local numbers.
+use Rattle.std.specs.Prelude.{ℕ, Bool, List, [], ◌∷◌, ◌++◌, map, length}
 use Rattle.ev_base.specs.declared.values.Value.{Value as Held}
 use Rattle.ev_base.specs.declared.values.Value.TheVariants as held
-use Rattle.ev_heap.specs.Contents.{Contents}
-use Rattle.ev_told.specs.declared.micro.Micro.{Micro}
 use Rattle.ev_heap.specs.declared.happened.Happened.{Happened as Event}
 use Rattle.ev_heap.specs.declared.happened.Happened.TheVariants as event
-use Rattle.def_machine.specs.Values.{Words, Value, Prim, Ref, Naming, Local, Obj, Prom, numbering}
+use Rattle.def_machine.specs.Values.{Words, Value, Prim, Naming, Local, Obj, Prom, numbering}
 use Rattle.ev_heap.specs.declared.kept.Cell.{Cell as HeldCell}
 use Rattle.ev_heap.specs.declared.kept.Capture.{Capture}
 use Rattle.ev_heap.specs.declared.kept.Capture.TheVariants as capture
@@ -16,35 +14,31 @@ use Rattle.ev_heap.specs.declared.kept.Shape.{Shape}
 use Rattle.ev_heap.specs.declared.kept.Shape.TheVariants as shape
 use Rattle.ev_heap.specs.declared.kept.Thing.{Thing as HeldThing}
 use Rattle.ev_audit.specs.Views.{guard_of, view_of}
-use Rattle.ev_prims.specs.Reading.{value_by}
+use Rattle.ev_refs.specs.Reading as refs
+use Rattle.ev_pass.specs.Reading as inside
+use Rattle.ev_pass.specs.Reading.{vat_at}
+use Rattle.ev_pass.specs.declared.interior.Interior.{Interior}
 use Rattle.ev_room.specs.Sound.{problems}
-use Rattle.def_machine.specs.State.{Thing, Made, Ejector, Audition, Resolver, Bound, Fixed, Slot, Binding, Cell, Message, Known, GiftEntry, Put, Happened, Called, Back, Thrown, Left, Got, SlotMade, SlotRead, SlotWrote, ListMade, EjectorMade, ObjectMade, Vat}
+use Rattle.def_machine.specs.State.{Thing, Made, Ejector, Audition, Resolver, Bound, Fixed, Slot, Binding, Cell, Happened, Called, Back, Thrown, Left, Got, SlotMade, SlotRead, SlotWrote, ListMade, EjectorMade, ObjectMade, Vat}
 
--- What evaluation leaves as it is, and neither the heap's objects, slots, lists and activations nor what happened tell; and the texts
--- that values stand for, those of the end of the turn, so that a value stands for one thing while the heap grows.
+-- What a turn leaves as it is and the inside does not tell: the gifts, and what was put and happened before; and the texts that values
+-- stand for, those of the end of the turn, so that a value stands for one thing while the heap grows.
 pub record World : Type 0 where
-  pub number : ℕ
-  pub drawn : List ℕ
-  pub messages : ℕ
-  pub promises : ℕ
-  pub queue : List (Message Local)
-  pub known : List (Known Local)
-  pub mails : List Local
-  pub gifts : List (GiftEntry Local)
-  pub noticed : List ℕ
-  pub outbox : List (Put Local)
-  -- what happened before
-  pub happened : List (Happened Local)
+  -- a vat with these gifts, and with what was put and happened before
+  pub before : Vat Local
   -- the texts of the heap at the end of the turn, behind the problems
   pub texts : List Words
   -- the word of each draw
   pub word : ℕ → ℕ
 
+abbrev pub texts_of : World → List Words
+texts_of w = problems ++ w.texts
+
 abbrev pub text_of : World → ℕ → Words
-text_of w id = unwrap_or (slice_get (problems ++ w.texts) id) []
+text_of w id = refs.text_by (texts_of w) id
 
 abbrev pub value_of : World → Held → Value Local
-value_of w v = value_by (text_of w) v
+value_of w v = refs.value_by (texts_of w) v
 
 abbrev pub values_of : World → List Held → List (Value Local)
 values_of w vs = map (value_of w) vs
@@ -101,38 +95,20 @@ line_of w (event.Ejector act v) = ejector_line act v
 line_of w (event.Made act object x caps stamps) = made_line w act object x caps stamps
 line_of w _ = []
 
-unfoldable pub lines_of : World → List Event → List (Happened Local)
-lines_of w [] = []
-lines_of w (e ∷ es) = line_of w e ++ lines_of w es
+-- the lines of what happened
+abbrev pub lines_of : World → List Event → List (Happened Local)
+lines_of w es = inside.lines_of (line_of w) es
 
-unfoldable pub vat_of : World → Contents → Micro → Vat Local
-vat_of w heap micro = record {
-  number = w.number;
-  fuel = micro.fuel;
-  drawn = w.drawn;
-  things = map (thing_of w) heap.things;
-  slots = map (cell_of w) heap.slots;
-  lists = map (members_of w) heap.lists;
-  activations = length heap.codes;
-  messages = w.messages;
-  promises = w.promises;
-  queue = w.queue;
-  known = w.known;
-  mails = w.mails;
-  gifts = w.gifts;
-  noticed = w.noticed;
-  outbox = w.outbox;
-  happened = w.happened ++ lines_of w micro.events;
+-- the objects, slots and activations of the inside, and what the world has
+abbrev pub beside : World → Interior → Vat Local
+beside w i = record w.before {
+  things = map (thing_of w) i.heap.things;
+  slots = map (cell_of w) i.heap.slots;
+  activations = length i.heap.codes;
 }
 
-abbrev pub is_promise : Local → Bool
-is_promise (Prom k) = true
-is_promise _ = false
-
--- no object and no message is known as what settles
-abbrev pub all_promises : List (Known Local) → Bool
-all_promises [] = true
-all_promises (k ∷ ks) = if is_promise k.name then all_promises ks else false
+unfoldable pub vat_of : World → Interior → Vat Local
+vat_of w i = vat_at (texts_of w) (line_of w) i (beside w i)
 
 abbrev pub names : World → Naming Local Local
 names w = numbering w.word

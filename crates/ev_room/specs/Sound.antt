@@ -14,6 +14,7 @@ use Rattle.ev_heap.specs.declared.kept.Listed.{Listed}
 use Rattle.ev_heap.specs.declared.kept.Shape.{Shape}
 use Rattle.ev_heap.specs.declared.kept.Shape.TheVariants.{Made, Ejector, Resolver, Audition}
 use Rattle.ev_heap.specs.declared.kept.Thing.{Thing}
+use Rattle.ev_pass.specs.declared.interior.Interior.{Interior}
 use Rattle.ev_room.specs.declared.object.Object.{Object}
 use Rattle.ev_room.specs.declared.scope.Binding.{Binding}
 use Rattle.ev_room.specs.declared.scope.Bound.{Bound}
@@ -44,7 +45,7 @@ caught_of b = record { noun = b.noun; capture = capture_of b.bound }
 abbrev pub plain_thing : Object → Thing
 plain_thing o = record { shape = Made o.node (map caught_of o.nouns) []; alive = true }
 
--- the problems that evaluation throws, the first texts of a heap
+-- the problems that evaluation throws, and those of references, the first texts of a heap
 abbrev pub problems : List (List ℕ)
 problems =
     codes "integer overflow" ∷ codes "not int" ∷ codes "no method" ∷ codes "zero divisor" ∷ codes "negative power" ∷ codes "not char"
@@ -53,7 +54,7 @@ problems =
     ∷ codes "audition is dead" ∷ codes "not free" ∷ codes "not any" ∷ codes "not void" ∷ codes "not int" ∷ codes "not boolean" ∷ codes "not char"
     ∷ codes "not String" ∷ codes "not List" ∷ codes "not nullOk" ∷ codes "not near" ∷ codes "not DeepFrozen" ∷ codes "not nullOk:any"
     ∷ codes "not nullOk:void" ∷ codes "not nullOk:int" ∷ codes "not nullOk:boolean" ∷ codes "not nullOk:char" ∷ codes "not nullOk:String"
-    ∷ codes "not nullOk:List" ∷ codes "not nullOk:nullOk" ∷ codes "not nullOk:near" ∷ codes "not nullOk:DeepFrozen" ∷ []
+    ∷ codes "not nullOk:List" ∷ codes "not nullOk:nullOk" ∷ codes "not nullOk:near" ∷ codes "not nullOk:DeepFrozen" ∷ codes "partition" ∷ codes "cycle" ∷ []
 
 -- the numbers of those that are no problems of a native method
 abbrev pub no_match_id : ℕ
@@ -80,6 +81,16 @@ not_taken_id = 21
 
 abbrev pub not_taken_or_null_id : ℕ
 not_taken_or_null_id = 31
+
+-- what is too heavy, and the problems of references
+abbrev pub too_heavy_id : ℕ
+too_heavy_id = 12
+
+abbrev pub partition_id : ℕ
+partition_id = 41
+
+abbrev pub cycle_id : ℕ
+cycle_id = 42
 
 -- ---- what stands in a heap
 
@@ -152,3 +163,7 @@ pub record IsSound (h : Contents) : Type 0 where
 pub record Grown (before after : Contents) : Type 0 where
   pub texts : (more : List (List ℕ)) × (after.texts ≡ before.texts ++ more)
   pub lists : (more : List Listed) × (after.lists ≡ before.lists ++ more)
+
+-- nothing changes but the heap, the fuel and what happened
+abbrev pub Stays : Interior → Interior → Type 0
+Stays before after = after ≡ record before { heap = after.heap; micro = after.micro }

@@ -1,4 +1,4 @@
-//! Where evaluation works: the heap of a vat, the fuel that is left, and what happened.
+//! What evaluation does with fuel, lines and activations in the inside of a vat.
 
 ghost use Rattle.std.specs.Prelude.{◌≡◌};
 ghost use Rattle.ev_heap.specs.declared.happened.Happened.TheVariants as event;
@@ -6,18 +6,11 @@ ghost use Rattle.ev_room.specs.Acts.{Gives, new_activation, spend, tell};
 
 use crate::exit::Exit;
 use ev_base::{ActId, ListId, Memory, Value};
-use ev_heap::{Happened, Heap};
-use ev_told::Micro;
+use ev_heap::Happened;
 use ev_word::Word;
-use std::alloc::Global;
 
-/// The heap of a vat, the fuel that is left, and what happened.
-#[derive(Drop)]
-pub struct Room {
-    pub alloc: Global,
-    pub heap: Heap,
-    pub micro: Micro,
-}
+/// Where evaluation works: the inside of a vat, of which it changes the heap, the fuel and what happened.
+pub use ev_pass::Interior as Room;
 
 /// Spends so many units of fuel, or none where they are above what is left.
 #[tactic(auto, unfolding(crate::specs::Acts::opened_acts))]

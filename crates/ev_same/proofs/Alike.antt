@@ -1,5 +1,5 @@
 -- Whether two values of a heap are the same is what the machine tells of them, and none of them is unsettled.
-use Rattle.std.proofs.Common.{◌≡◌, ◌==◌, ℕ, zero, suc, nat_eq, ℤ, pos, negsuc, Bool, true, false, List, [], ◌∷◌, length, map, refl, sym, ap, ◌∙◌, arith}
+use Rattle.std.proofs.Common.{◌≡◌, ◌==◌, ℕ, zero, suc, ℤ, pos, negsuc, Bool, true, false, List, [], ◌∷◌, length, refl, ap, ◌∙◌, arith}
 use Rattle.std.specs.Prelude.{codes, not, if◌then◌else◌}
 use Rattle.std.specs.Ordering.{int_eq}
 use Rattle.std.specs.Str.{bytes_eq}
@@ -11,20 +11,18 @@ use Rattle.def_kernel.specs.declared.node.Node.{Node}
 use Rattle.def_machine.specs.Free.{same_words}
 use Rattle.def_machine.specs.Ints.{same_int}
 use Rattle.def_machine.specs.Values.{Words, Value, Flag, Local, same_local, local_spot, numbering}
-use Rattle.def_machine.specs.State.{Vat}
 use Rattle.def_machine.specs.Refs.{follow, place, spotted, any_of}
 use Rattle.def_machine.specs.Native as native
 use Rattle.def_machine.specs.Perform as perform
 use Rattle.ev_prims.specs.Answers.{members_at}
 use Rattle.ev_prims.specs.Reading.{text_in}
-use Rattle.ev_prims.proofs.Means.{lists_are}
-use Rattle.ev_room.specs.declared.room.Room.{Room}
-use Rattle.ev_room.specs.Reading.{World, names, all_promises, text_of, value_of, values_of, members_of, vat_of}
+use Rattle.ev_pass.specs.declared.interior.Interior.{Interior as Room}
+use Rattle.ev_room.specs.Reading.{World, names, text_of, value_of, values_of, members_of}
 use Rattle.ev_same.specs.Same.{same_plain, all_same, same_by, same_members, same_in}
 use Rattle.ev_room.specs.Sound.{Each, IsListed, is_there, are_there}
 use Rattle.ev_room.proofs.Replies.{members_there}
 use Rattle.ev_room.proofs.Sounds.{all_and}
-use Rattle.ev_room.proofs.Stands.{vat, follow_there}
+use Rattle.ev_room.proofs.Stands.{vat, lists_of, members_are, follow_there}
 use Rattle.ev_room.proofs.There.{both}
 use Rattle.ev_room.proofs.Weights.{IsFront, same_text}
 use Rattle.ev_room.proofs.Words.{same_is}
@@ -70,14 +68,9 @@ picked false false p q e f = refl
 picked true false p q e f = absurd (cc)
 picked false true p q e f = absurd (cc)
 
-module _ (w : World) (fair : all_promises w.known ≡ true) (tree : List Node) (s : Room) (front : IsFront w s.heap) (sound : Each (IsListed s.heap) s.heap.lists) where
-  members_are : (k : ℕ) → native.list_at (vat w s).lists k ≡ values_of w (members_at s.heap k)
-  unfolding vat_of
-  members_are k = lists_are (text_of w) s.heap.lists k
-
+module _ (w : World) (tree : List Node) (s : Room) (front : IsFront w s.heap) (sound : Each (IsListed s.heap) s.heap.lists) where
   count_is : length (vat w s).lists ≡ length s.heap.lists
-  unfolding vat_of
-  count_is = length-map s.heap.lists (members_of w)
+  count_is = ap length (lists_of w s) ∙ length-map s.heap.lists (members_of w)
 
   texts_are : (a b : ℕ) → is_there s.heap (held.Text a) ≡ true → is_there s.heap (held.Text b) ≡ true
       → same_words (text_of w a) (text_of w b) ≡ bytes_eq (text_in s.heap a) (text_in s.heap b)
@@ -99,7 +92,7 @@ module _ (w : World) (fair : all_promises w.known ≡ true) (tree : List Node) (
   closed_by : (members : List (Value Local) → Bool) (x : Held) → is_there s.heap x ≡ true → ((k : ℕ) → members (values_of w (members_at s.heap k)) ≡ false)
       → perform.open_by (names w) tree members (vat w s) (value_of w x) ≡ false
   unfolding perform.open_by perform.is_unsettled place spotted local_spot numbering
-  closed_by members (held.List k) i h = ap members (members_are k) ∙ h k
+  closed_by members (held.List k) i h = ap members (members_are w s k) ∙ h k
   closed_by members (held.Prom k) i h = absurd (cc)
   closed_by members (held.Far v p) i h = absurd (cc)
   closed_by members _ i h = refl
@@ -107,10 +100,10 @@ module _ (w : World) (fair : all_promises w.known ≡ true) (tree : List Node) (
   closed : (d : ℕ) (x : Held) → is_there s.heap x ≡ true → perform.is_open (names w) tree d (vat w s) (value_of w x) ≡ false
   unfolding perform.is_open
   closed zero x i =
-      ap (λ (y : Value Local). perform.open_by (names w) tree (λ vs. false) (vat w s) y) (follow_there w fair s s.heap x i)
+      ap (λ (y : Value Local). perform.open_by (names w) tree (λ vs. false) (vat w s) y) (follow_there w s s.heap x i)
       ∙ closed_by (λ vs. false) x i (λ k. refl)
   closed (suc d) x i =
-      ap (λ (y : Value Local). perform.open_by (names w) tree (any_of (names w) (λ z. perform.is_open (names w) tree d (vat w s) z)) (vat w s) y) (follow_there w fair s s.heap x i)
+      ap (λ (y : Value Local). perform.open_by (names w) tree (any_of (names w) (λ z. perform.is_open (names w) tree d (vat w s) z)) (vat w s) y) (follow_there w s s.heap x i)
       ∙ closed_by (any_of (names w) (λ z. perform.is_open (names w) tree d (vat w s) z)) x i
       (λ k. none_open (λ z. perform.is_open (names w) tree d (vat w s) z) (members_at s.heap k) (closed d) (members_there s.heap sound k))
 
@@ -125,8 +118,8 @@ module _ (w : World) (fair : all_promises w.known ≡ true) (tree : List Node) (
   alike_by theirs ours (held.Text a) (held.Text b) i j h = texts_are a b i j
   alike_by theirs ours (held.Broken a) (held.Broken b) i j h = texts_are a b i j
   alike_by theirs ours (held.List a) (held.List b) i j h =
-      ap (λ (vs : List (Value Local)). theirs vs (native.list_at (vat w s).lists b)) (members_are a)
-      ∙ ap (λ (vs : List (Value Local)). theirs (values_of w (members_at s.heap a)) vs) (members_are b)
+      ap (λ (vs : List (Value Local)). theirs vs (native.list_at (vat w s).lists b)) (members_are w s a)
+      ∙ ap (λ (vs : List (Value Local)). theirs (values_of w (members_at s.heap a)) vs) (members_are w s b)
       ∙ h a b
   alike_by theirs ours (held.Prom k) y i j h = absurd (cc)
   alike_by theirs ours (held.Far v p) y i j h = absurd (cc)
@@ -152,7 +145,7 @@ module _ (w : World) (fair : all_promises w.known ≡ true) (tree : List Node) (
   followed_by : (theirs : List (Value Local) → List (Value Local) → Bool) (ours : List Held → List Held → Bool) (x y : Held) → is_there s.heap x ≡ true → is_there s.heap y ≡ true
       → ((j k : ℕ) → theirs (values_of w (members_at s.heap j)) (values_of w (members_at s.heap k)) ≡ ours (members_at s.heap j) (members_at s.heap k))
       → perform.same_by (names w) tree theirs (vat w s) (follow (names w) (vat w s) (value_of w x)) (follow (names w) (vat w s) (value_of w y)) ≡ same_by s.heap ours x y
-  followed_by theirs ours x y i j h = rw (follow_there w fair s s.heap x i, follow_there w fair s s.heap y j) (alike_by theirs ours x y i j h)
+  followed_by theirs ours x y i j h = rw (follow_there w s s.heap x i, follow_there w s s.heap y j) (alike_by theirs ours x y i j h)
 
   same_at : (d : ℕ) (x y : Held) → is_there s.heap x ≡ true → is_there s.heap y ≡ true
       → perform.is_same (names w) tree d (vat w s) (value_of w x) (value_of w y) ≡ same_by s.heap (same_members s.heap d) x y

@@ -16,17 +16,16 @@ use Rattle.ev_prims.specs.Answers.{data_answer, members_at}
 use Rattle.ev_prims.specs.Reading.{text_in, reply_by}
 use Rattle.ev_prims.specs.declared.reply.Reply.{Reply}
 use Rattle.ev_prims.specs.declared.reply.Reply.TheVariants as reply
-use Rattle.ev_prims.proofs.Means.{data_is, lists_are}
-use Rattle.ev_room.specs.declared.exit.Exit.TheVariants as exit
-use Rattle.ev_room.specs.declared.room.Room.{Room}
-use Rattle.ev_room.specs.Reading.{World, names, all_promises, text_of, value_of, values_of, vat_of}
+use Rattle.ev_prims.proofs.Means.{data_is}
+use Rattle.ev_pass.specs.declared.interior.Interior.{Interior as Room}
+use Rattle.ev_room.specs.Reading.{World, names, text_of, value_of, values_of}
 use Rattle.ev_room.specs.Sound.{IsSound, is_there, are_there}
 use Rattle.ev_steps.specs.Steps.{Caller, iterate, replied, answered_there, answered, call_data}
 use Rattle.ev_room.specs.Acts.{◌>>◌, call_there, closed}
 use Rattle.ev_prims.proofs.Holds.{Alike, AllAlike, data_alike}
 use Rattle.ev_room.proofs.Replies.{Fits, fits_data, of_each}
 use Rattle.ev_room.proofs.Sounds.{there_on, all_on, all_and}
-use Rattle.ev_room.proofs.Stands.{Met, vat, a_value, met_by, then_met, give_met, tell_met, fails_met, write_met, list_met, follow_all}
+use Rattle.ev_room.proofs.Stands.{Met, vat, a_value, met_by, then_met, give_met, tell_met, fails_met, write_met, list_met, members_are, follow_all}
 use Rattle.ev_room.proofs.There.{both}
 use Rattle.ev_room.proofs.Weights.{IsFront, same_text}
 use Rattle.ev_room.proofs.Closes.{called_line, closed_met}
@@ -70,35 +69,34 @@ module _ (w : World) (tree : List Node) (again : Caller) (their : scopes.Caller 
   unfolding perform.data_answer opened_state
   data_replied act y verb vs v = refl
 
-  data_by : all_promises w.known ≡ true → (act : ℕ) (x : Held) (verb : Words) (args : List Held) (s : Room) → is_there s.heap x ≡ true → are_there s.heap args ≡ true → IsFront w s.heap
+  data_by : (act : ℕ) (x : Held) (verb : Words) (args : List Held) (s : Room) → is_there s.heap x ≡ true → are_there s.heap args ≡ true → IsFront w s.heap
       → perform.data_answer (names w) tree their act (value_of w x) verb (values_of w args) (vat w s)
       ≡ perform.reply (names w) tree their act (reply_by (text_of w) (data_answer (text_in s.heap) (members_at s.heap) x verb args args)) (vat w s)
-  unfolding vat_of
-  data_by fair act x verb args s i is f =
+  data_by act x verb args s i is f =
       data_replied act (value_of w x) verb (values_of w args) (vat w s)
-      ∙ ap (λ (vs : List (Value Local)). perform.reply (names w) tree their act (native.data_reply (vat w s).lists (value_of w x) verb (values_of w args) vs) (vat w s)) (follow_all w fair s s.heap args is)
+      ∙ ap (λ (vs : List (Value Local)). perform.reply (names w) tree their act (native.data_reply (vat w s).lists (value_of w x) verb (values_of w args) vs) (vat w s)) (follow_all w s s.heap args is)
       ∙ ap (λ (r : native.Reply Local). perform.reply (names w) tree their act r (vat w s))
-      (data_is (text_of w) (vat w s).lists (members_at s.heap) (lists_are (text_of w) s.heap.lists) x verb args args
+      (data_is (text_of w) (vat w s).lists (members_at s.heap) (members_are w s) x verb args args
       ∙ ap (reply_by (text_of w)) (data_alike (text_of w) (text_in s.heap) (members_at s.heap) x verb args args (one_alike s f x i) (all_alike s f args is)))
 
-  there_met : all_promises w.known ≡ true → (act : ℕ) (x : Held) (verb : Words) (args : List Held) (b : Bool) (s : Room) → IsSound s.heap → is_there s.heap x ≡ true → are_there s.heap args ≡ true → b ≡ true
+  there_met : (act : ℕ) (x : Held) (verb : Words) (args : List Held) (b : Bool) (s : Room) → IsSound s.heap → is_there s.heap x ≡ true → are_there s.heap args ≡ true → b ≡ true
       → Met w a_value s (answered_there again act x verb args b s) (perform.data_answer (names w) tree their act (value_of w x) verb (values_of w args) (vat w s))
   unfolding answered_there
-  there_met fair act x verb args true s sound i is e =
-      met_by _ (data_by fair act x verb args s i is)
+  there_met act x verb args true s sound i is e =
+      met_by _ (data_by act x verb args s i is)
       (replied_met act (data_answer (text_in s.heap) (members_at s.heap) x verb args args) s sound (fits_data s.heap sound.lists (text_in s.heap) x verb args args is))
-  there_met fair act x verb args false s sound i is e = absurd (cc)
+  there_met act x verb args false s sound i is e = absurd (cc)
 
-  answered_met : all_promises w.known ≡ true → (act : ℕ) (x : Held) (verb : Words) (args : List Held) (s : Room) → IsSound s.heap → is_there s.heap x ≡ true → are_there s.heap args ≡ true
+  answered_met : (act : ℕ) (x : Held) (verb : Words) (args : List Held) (s : Room) → IsSound s.heap → is_there s.heap x ≡ true → are_there s.heap args ≡ true
       → Met w a_value s (answered again act x verb args s) (perform.data_answer (names w) tree their act (value_of w x) verb (values_of w args) (vat w s))
   unfolding answered call_there
-  answered_met fair act x verb args s sound i is = there_met fair act x verb args (call_there s.heap x args) s sound i is (all_and (is_there s.heap x) (are_there s.heap args) i is)
+  answered_met act x verb args s sound i is = there_met act x verb args (call_there s.heap x args) s sound i is (all_and (is_there s.heap x) (are_there s.heap args) i is)
 
-  pub call_data_met : all_promises w.known ≡ true → (act : ℕ) (x : Held) (verb : Words) (args : List Held) (s : Room) → IsSound s.heap → is_there s.heap x ≡ true → are_there s.heap args ≡ true
+  pub call_data_met : (act : ℕ) (x : Held) (verb : Words) (args : List Held) (s : Room) → IsSound s.heap → is_there s.heap x ≡ true → are_there s.heap args ≡ true
       → Met w a_value s (call_data again act x verb args s)
       (scopes.with_lines act (value_of w x) verb (values_of w args) (perform.data_answer (names w) tree their act (value_of w x) verb (values_of w args)) (vat w s))
   unfolding call_data closed scopes.with_lines scopes.ended machine.ending ◌>>◌ machine.◌>>◌
-  call_data_met fair act x verb args s sound i is =
+  call_data_met act x verb args s sound i is =
       then_met _ _ (tell_met w (event.Call act x verb args None) (Called act (value_of w x) verb (values_of w args) None) s sound (called_line w act x verb args None))
       (λ u t q j g. closed_met w act t (answered again act x verb args t) (perform.data_answer (names w) tree their act (value_of w x) verb (values_of w args) (vat w t)) (vat w t)
-      (answered_met fair act x verb args t q (there_on g x i) (all_on g args is)))
+      (answered_met act x verb args t q (there_on g x i) (all_on g args is)))

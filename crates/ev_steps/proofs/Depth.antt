@@ -5,7 +5,7 @@ use Rattle.def_kernel.specs.declared.node.Node.{Node}
 use Rattle.ev_room.specs.declared.exit.Exit.TheVariants.{Deep, Astray, Fuel}
 use Rattle.ev_base.specs.declared.values.Value.{Value}
 use Rattle.def_machine.specs.Values.{Words}
-use Rattle.ev_room.specs.declared.room.Room.{Room}
+use Rattle.ev_pass.specs.declared.interior.Interior.{Interior as Room}
 use Rattle.ev_room.specs.declared.scope.Scope.{Scope}
 use Rattle.ev_steps.specs.Steps.{Caller, Evaluator, after_turn, turns, call_at, call_value, evaluator, deeper, step_found, bind_found, opened_steps}
 use Rattle.ev_room.specs.Acts.{◌>>=◌, spend, ◌>>◌}

@@ -1,5 +1,5 @@
 -- Evaluation binds names behind those that were bound, and takes none of them away.
-use Rattle.std.proofs.Common.{ℕ, zero, Bool, true, false, List, [], ◌∷◌, ◌++◌, Option, Some, None, Ok, Err, length, refl}
+use Rattle.std.proofs.Common.{ℕ, zero, Bool, true, false, List, [], ◌∷◌, ◌++◌, Option, Some, None, Ok, Err, length}
 use Rattle.std.specs.Prelude.{slice_get, ◌==◌}
 use Rattle.def_kernel.specs.declared.node.Literal.{Literal}
 use Rattle.def_kernel.specs.declared.node.Node.{Node}
@@ -9,11 +9,11 @@ use Rattle.def_machine.specs.Values.{Words}
 use Rattle.ev_prims.specs.Answers.{members_at}
 use Rattle.ev_base.specs.declared.values.Value.{Value}
 use Rattle.ev_base.specs.declared.values.Value.TheVariants as held
-use Rattle.ev_room.specs.declared.room.Room.{Room}
+use Rattle.ev_pass.specs.declared.interior.Interior.{Interior as Room}
 use Rattle.ev_room.specs.declared.scope.Bound.TheVariants.{Fixed, Slot}
 use Rattle.ev_room.specs.declared.scope.Scope.{Scope}
 use Rattle.ev_steps.specs.Steps.{Evaluator, guarded_node, gathered, last_of, call_node, exit_of, define_by, define, literal_node, noun_node, set_node, within, choose, if_node, bind_unmatched, unmatched, not_matched, matched_if, match_ended, match_on, match_node, step, failed, bind_all, bind_final, bind_var, bind_any, bind_list, bind_items, bind_via, bind_asked, bind_step, step_found, bind_found, deeper, evaluator}
-use Rattle.ev_room.specs.Acts.{Out, Act, ◌>>=◌, ◌>>◌, ended_by, fails, cut, leave, with_noun}
+use Rattle.ev_room.specs.Acts.{Out, Act, ◌>>=◌, ◌>>◌, ended_by, fails, cut, leave}
 use Rattle.ev_room.specs.Sound.{no_guard, not_a_list_id}
 use Rattle.ev_room.specs.declared.exit.Exit.TheVariants as exit
 use Rattle.ev_room.proofs.Behind.{Grows, same, onward, with_one, back, then_of, then_any, lost, Holds, Of, GivesMore, BindsMore, given, bound, object_grows}

@@ -1,12 +1,12 @@
 -- Escapes, tries and finallys over the state of the code are the machine's.
-use Rattle.std.proofs.Common.{◌≡◌, ℕ, nat_lt, Bool, true, false, [], ◌∷◌, List, Option, Some, None, Ok, Err, length, refl, sym, ap, subst, ◌∙◌}
+use Rattle.std.proofs.Common.{◌≡◌, ℕ, nat_lt, Bool, true, false, [], ◌∷◌, List, Option, Some, None, Ok, Err, length, refl, ap, ◌∙◌}
 use Rattle.std.specs.Prelude.{◌==◌, if◌then◌else◌}
 use Rattle.ev_base.specs.declared.values.Value.{Value as Held}
 use Rattle.ev_base.specs.declared.values.Value.TheVariants as held
 use Rattle.ev_heap.specs.declared.happened.Happened.TheVariants as event
 use Rattle.def_kernel.specs.declared.node.Node.{Node}
 use Rattle.def_kernel.specs.declared.node.Node.TheVariants.{Escape, Try, Finally, Hide}
-use Rattle.def_machine.specs.Values.{Words, Value, Null, Text, Ref, Local, Obj, numbering}
+use Rattle.def_machine.specs.Values.{Words, Value, Null, Ref, Local, Obj, numbering}
 use Rattle.def_machine.specs.State.{Scope as Surroundings, Got, Vat, Done, Throws, Ejects, Stops, opened_state}
 use Rattle.def_machine.specs.State as machine
 use Rattle.def_machine.specs.Scopes.{Answer}
@@ -14,16 +14,16 @@ use Rattle.def_machine.specs.Scopes as scopes
 use Rattle.def_machine.specs.Calls as calls
 use Rattle.def_machine.specs.Eval as theirs
 use Rattle.ev_room.specs.declared.exit.Exit.TheVariants as exit
-use Rattle.ev_room.specs.declared.room.Room.{Room}
+use Rattle.ev_pass.specs.declared.interior.Interior.{Interior as Room}
 use Rattle.ev_room.specs.declared.scope.Scope.{Scope}
-use Rattle.ev_room.specs.Reading.{World, names, text_of, value_of, line_of, vat_of}
+use Rattle.ev_room.specs.Reading.{World, names, text_of, value_of, line_of}
 use Rattle.ev_room.specs.Sound.{Grown, IsSound, is_there, are_bound}
-use Rattle.ev_room.specs.Acts.{Out, Act, and_then, ended_by, ◌>>=◌, ◌>>◌, give, fail, leave, new_ejector}
+use Rattle.ev_room.specs.Acts.{Out, Act, and_then, ◌>>=◌, ◌>>◌, give, fail}
 use Rattle.ev_steps.specs.Steps.{Evaluator, alone, handled, caught_as, caught_by, caught_if, escaped, escaping, tried, trying, at_last, lasting, guarded, guarded_node}
 use Rattle.ev_steps.proofs.IsMet.{IsMet}
 use Rattle.ev_room.proofs.Leaving.{new_ejector_met, leave_met}
 use Rattle.ev_room.proofs.Sounds.{there_on, scope_on}
-use Rattle.ev_room.proofs.Stands.{Met, Look, vat, a_value, an_answer, in_scope, scope_of, then_met, ended_met, answered_met, give_met, throw_met, eject_met, tell_met, stop_met}
+use Rattle.ev_room.proofs.Stands.{Met, Look, vat, a_value, an_answer, in_scope, scope_of, then_met, ended_met, answered_met, give_met, throw_met, eject_met, tell_met}
 
 -- one act of the machine, and then another
 abbrev machine_then : {A B : Type 0} → machine.Act Local A → machine.Act Local B → machine.Act Local B

@@ -3,7 +3,7 @@ use Rattle.std.proofs.Common.{◌≡◌, ℕ, true}
 use Rattle.ev_base.specs.declared.values.Value.{Value as Held}
 use Rattle.def_machine.specs.Values.{Local}
 use Rattle.def_machine.specs.Scopes as scopes
-use Rattle.ev_room.specs.declared.room.Room.{Room}
+use Rattle.ev_pass.specs.declared.interior.Interior.{Interior as Room}
 use Rattle.ev_room.specs.declared.scope.Scope.{Scope}
 use Rattle.ev_room.specs.Reading.{World, value_of}
 use Rattle.ev_room.specs.Sound.{IsSound, is_there, are_bound}

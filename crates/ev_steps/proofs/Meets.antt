@@ -1,9 +1,8 @@
 -- Evaluation over the state of the code is the machine's, on the trees that are built.
-use Rattle.std.proofs.Common.{◌≡◌, ◌==◌, ℕ, zero, suc, ◌+◌, Bool, nat_lt, true, false, List, [], ◌∷◌, ◌++◌, Option, Some, None, Ok, Err, length, map, refl, sym, ap, subst, ◌∙◌, append_assoc, append-nil, arith}
-use Rattle.std.specs.Prelude.{IfOk, OnOk, Result, slice_get, is_none, codes, if◌then◌else◌}
+use Rattle.std.proofs.Common.{◌≡◌, ◌==◌, ℕ, zero, suc, ◌+◌, Bool, nat_lt, true, false, List, [], ◌∷◌, ◌++◌, Option, Some, None, Ok, Err, length, refl, sym, ap, subst, ◌∙◌, append_assoc, append-nil, arith}
+use Rattle.std.specs.Prelude.{slice_get, is_none, codes, if◌then◌else◌}
 use Rattle.std.proofs.lemmas.List.{map-append, length-map}
 use Rattle.ev_base.specs.SafeScope.{safe_value}
-use Rattle.ev_base.specs.declared.memory.Memory.{Memory}
 use Rattle.ev_base.specs.declared.values.Value.{Value as Held}
 use Rattle.ev_base.specs.declared.values.Value.TheVariants as held
 use Rattle.ev_heap.specs.Contents.{Contents, nothing}
@@ -26,18 +25,17 @@ use Rattle.def_machine.specs.Perform as perform
 use Rattle.def_machine.specs.Calls as calls
 use Rattle.def_machine.specs.Eval as theirs
 use Rattle.ev_prims.specs.declared.problem.Problem.TheVariants.{NotBoolean}
-use Rattle.ev_room.specs.declared.exit.Exit.{Exit}
 use Rattle.ev_room.specs.declared.exit.Exit.TheVariants as exit
-use Rattle.ev_room.specs.declared.room.Room.{Room}
+use Rattle.ev_pass.specs.declared.interior.Interior.{Interior as Room}
 use Rattle.ev_room.specs.declared.scope.Bound.{Bound as Kept}
 use Rattle.ev_room.specs.declared.scope.Bound.TheVariants as scope
 use Rattle.ev_room.specs.declared.scope.Scope.{Scope}
 use Rattle.ev_steps.specs.Built.{is_built_node, is_built}
 use Rattle.ev_room.specs.Sound.{is_built_safe}
-use Rattle.ev_room.specs.Reading.{World, names, all_promises, text_of, value_of, values_of, members_of, line_of, vat_of}
-use Rattle.ev_room.specs.Sound.{Grown, IsSound, any_guard as any, no_guard, is_there, are_there, is_bound, are_bound, problems, no_match_id, not_a_list_id}
-use Rattle.ev_steps.specs.Steps.{Evaluator, Caller, call_value, call_at, call, gathered, last_of, call_node, exit_of, define_by, define, no_match, unmatched_noun, bind_unmatched, unmatched, not_matched, matched_if, match_ended, match_on, match_node, failed, bind_list, bind_items, bind_via, bind_asked, literal_value, literal_node, noun_node, set_node, within, choose, if_node, step, bind_final, bind_var, bind_any, bind_step, step_found, bind_found, deeper, evaluator, opening}
-use Rattle.ev_room.specs.Acts.{Out, Act, Gives, and_then, ◌>>=◌, ◌>>◌, give, fail, found_from, with_noun}
+use Rattle.ev_room.specs.Reading.{World, names, text_of, value_of, values_of, members_of, line_of}
+use Rattle.ev_room.specs.Sound.{IsSound, any_guard as any, no_guard, is_there, are_there, is_bound, are_bound, no_match_id, not_a_list_id}
+use Rattle.ev_steps.specs.Steps.{Evaluator, Caller, call_value, call_at, call, gathered, last_of, call_node, exit_of, define_by, define, no_match, unmatched_noun, bind_unmatched, unmatched, not_matched, matched_if, match_ended, match_on, match_node, failed, bind_list, bind_items, bind_via, bind_asked, literal_value, literal_node, noun_node, set_node, within, choose, if_node, step, bind_final, bind_var, bind_any, bind_step, step_found, bind_found, deeper, evaluator}
+use Rattle.ev_room.specs.Acts.{Out, Act, and_then, ◌>>=◌, ◌>>◌, give, fail, found_from, with_noun}
 use Rattle.ev_steps.proofs.Calls.{CallsMet, call_data_met}
 use Rattle.ev_steps.proofs.Grows.{deeper_grows, none_grows}
 use Rattle.ev_room.proofs.Behind.{Grows, same, onward, cut_back}
@@ -48,11 +46,9 @@ use Rattle.ev_steps.proofs.Objects.{bind_all_met, get_built, object_met, call_ob
 use Rattle.ev_steps.proofs.Primitives.{primitive_met}
 use Rattle.ev_room.proofs.Sounds.{grown_same, there_on, all_on, scope_on, all_and}
 use Rattle.ev_prims.specs.Answers.{members_at}
-use Rattle.ev_prims.proofs.Means.{lists_are}
 use Rattle.ev_room.proofs.Replies.{there_joined, members_there}
 use Rattle.ev_room.proofs.Leaving.{new_ejector_met, leave_met}
-use Rattle.ev_room.proofs.Stands.{Look, Met, vat, a_value, an_answer, some_answers, a_scope, ended_met, eject_met, known_there, bound_of, bonds_onto, scope_of, then_met, then_met_of, give_met, stop_met, deep_met, throw_met, tell_met, fails_met, spend_met, text_met, activation_met, follow_there}
-use Rattle.ev_room.proofs.Weights.{IsFront}
+use Rattle.ev_room.proofs.Stands.{Look, Met, vat, a_value, an_answer, some_answers, a_scope, ended_met, eject_met, known_there, bound_of, scope_of, then_met, then_met_of, give_met, stop_met, deep_met, throw_met, tell_met, fails_met, spend_met, text_met, lists_of, members_are, follow_there}
 
 -- ---- nodes
 
@@ -132,19 +128,19 @@ last_met w tree rec their h x (e ∷ es) here s sound i k = then_met _ _ (h.expr
 abbrev again_at : World → List Node → scopes.Evaluator Local → ℕ → scopes.Caller Local
 again_at w tree their n = λ a y u xs. calls.call_at (names w) tree n their a y u xs
 
-module _ (w : World) (fair : all_promises w.known ≡ true) (tree : List Node) (rec : Evaluator) (their : scopes.Evaluator Local) (h : IsMet w rec their) (built : is_built tree ≡ true) where
+module _ (w : World) (tree : List Node) (rec : Evaluator) (their : scopes.Evaluator Local) (h : IsMet w rec their) (built : is_built tree ≡ true) where
   value_met : (again : Caller) (more : scopes.Caller Local) → CallsMet w again more → (act : ℕ) (x : Held) (verb : Words) (args : List Held) (s : Room) → IsSound s.heap → is_there s.heap x ≡ true → are_there s.heap args ≡ true
       → Met w a_value s (call_value tree rec again act x verb args s) (calls.call_value (names w) tree their more act (value_of w x) (value_of w x) verb (values_of w args) (vat w s))
   unfolding call_value calls.call_value
   value_met again more m act (held.Obj i) verb args s sound j a = call_object_met w tree rec their h more act i verb args s sound a built
   value_met again more m act (held.Broken id) verb args s sound j a = throw_met w a_value id s sound j
-  value_met again more m act held.Null verb args s sound j a = call_data_met w tree again more m fair act held.Null verb args s sound j a
-  value_met again more m act (held.Bool b) verb args s sound j a = call_data_met w tree again more m fair act (held.Bool b) verb args s sound j a
-  value_met again more m act (held.Int z) verb args s sound j a = call_data_met w tree again more m fair act (held.Int z) verb args s sound j a
-  value_met again more m act (held.Char c) verb args s sound j a = call_data_met w tree again more m fair act (held.Char c) verb args s sound j a
-  value_met again more m act (held.Text id) verb args s sound j a = call_data_met w tree again more m fair act (held.Text id) verb args s sound j a
-  value_met again more m act (held.List k) verb args s sound j a = call_data_met w tree again more m fair act (held.List k) verb args s sound j a
-  value_met again more m act (held.Prim n) verb args s sound j a = primitive_met w fair tree again more m act n verb args s sound j a
+  value_met again more m act held.Null verb args s sound j a = call_data_met w tree again more m act held.Null verb args s sound j a
+  value_met again more m act (held.Bool b) verb args s sound j a = call_data_met w tree again more m act (held.Bool b) verb args s sound j a
+  value_met again more m act (held.Int z) verb args s sound j a = call_data_met w tree again more m act (held.Int z) verb args s sound j a
+  value_met again more m act (held.Char c) verb args s sound j a = call_data_met w tree again more m act (held.Char c) verb args s sound j a
+  value_met again more m act (held.Text id) verb args s sound j a = call_data_met w tree again more m act (held.Text id) verb args s sound j a
+  value_met again more m act (held.List k) verb args s sound j a = call_data_met w tree again more m act (held.List k) verb args s sound j a
+  value_met again more m act (held.Prim n) verb args s sound j a = primitive_met w tree again more m act n verb args s sound j a
   value_met again more m act (held.Prom k) verb args s sound j a = absurd (cc)
   value_met again more m act (held.Far v p) verb args s sound j a = absurd (cc)
 
@@ -157,14 +153,14 @@ module _ (w : World) (fair : all_promises w.known ≡ true) (tree : List Node) (
   unfolding call_at
   call_at_met zero act x verb args s sound i a = unfold calls.call_at in stop_met w a_value s sound
   call_at_met (suc n) act x verb args s sound i a =
-      rw (one_is n act (value_of w x) verb (values_of w args) (vat w s), follow_there w fair s s.heap x i)
+      rw (one_is n act (value_of w x) verb (values_of w args) (vat w s), follow_there w s s.heap x i)
       (value_met (call_at tree rec n) (again_at w tree their n) (call_at_met n) act x verb args s sound i a)
 
   call_is : (act : ℕ) (x : Value Local) (verb : Words) (vs : List (Value Local)) (s : Room)
       → calls.call (names w) tree their act x verb vs (vat w s) ≡ again_at w tree their (length s.heap.lists + 4) act x verb vs (vat w s)
-  unfolding calls.call opened_state vat_of
+  unfolding calls.call opened_state
   call_is act x verb vs s =
-      let e : 4 + length (map (members_of w) s.heap.lists) ≡ length s.heap.lists + 4 = ap (λ (n : ℕ). 4 + n) (length-map s.heap.lists (members_of w)) ∙ (let f : 4 + length s.heap.lists ≡ length s.heap.lists + 4 = omega arith in f) in
+      let e : 4 + length (vat w s).lists ≡ length s.heap.lists + 4 = ap (λ (n : ℕ). 4 + n) (ap length (lists_of w s) ∙ length-map s.heap.lists (members_of w)) ∙ (let f : 4 + length s.heap.lists ≡ length s.heap.lists + 4 = omega arith in f) in
       ap (λ (n : ℕ). calls.call_at (names w) tree n their act x verb vs (vat w s)) e
 
   call_met : (act : ℕ) (x : Held) (verb : Words) (args : List Held) (s : Room) → IsSound s.heap → is_there s.heap x ≡ true → are_there s.heap args ≡ true
@@ -264,13 +260,13 @@ if_is : (w : World) (tree : List Node) (their : scopes.Evaluator Local) (id c a 
 unfolding theirs.step machine.◌>>=◌ machine.look machine.and_then
 if_is w tree their id c a b sc v = refl
 
-if_met : (w : World) → all_promises w.known ≡ true → (tree : List Node) (rec : Evaluator) (their : scopes.Evaluator Local) (h : IsMet w rec their) (id c a b : ℕ) (here : Scope) (s : Room) → IsSound s.heap → are_bound s.heap here.nouns ≡ true
+if_met : (w : World) → (tree : List Node) (rec : Evaluator) (their : scopes.Evaluator Local) (h : IsMet w rec their) (id c a b : ℕ) (here : Scope) (s : Room) → IsSound s.heap → are_bound s.heap here.nouns ≡ true
     → Met w an_answer s (if_node rec c a b here s) (theirs.step (names w) tree their id (If c a b) (scope_of w here) (vat w s))
 unfolding if_node ◌>>=◌
-if_met w fair tree rec their h id c a b here s sound k =
+if_met w tree rec their h id c a b here s sound k =
     rw (if_is w tree their id c a b (scope_of w here) (vat w s))
     (then_met_of _ _ (h.expression c here s sound k) (h.grows.expression c here s)
-    (λ x t q j g more. rw (follow_there w fair t t.heap x.0 j.0) (choose_met w tree rec their h a b x.0 here x.1 more t q (scope_on g here.nouns k) j.1)))
+    (λ x t q j g more. rw (follow_there w t t.heap x.0 j.0) (choose_met w tree rec their h a b x.0 here x.1 more t q (scope_on g here.nouns k) j.1)))
 
 -- ---- matches
 
@@ -360,30 +356,30 @@ match_met w tree rec their h id e p here s sound k =
     (λ j u r l d. match_ended_met w tree their j p x.1 u (rec.pattern p x.0 (held.Obj j) x.1 u) (λ z. their.pattern p (value_of w x.0) (Ref (Obj j)) (scope_of w x.1) z) r (scope_on d x.1.nouns i.1)
     (h.pattern p x.0 (held.Obj j) x.1 u r (there_on d x.0 i.0) refl (scope_on d x.1.nouns i.1)))))
 
-step_met : (w : World) → all_promises w.known ≡ true → (tree : List Node) (rec : Evaluator) (their : scopes.Evaluator Local) (h : IsMet w rec their) (id : ℕ) (n : Node) (here : Scope) (s : Room) → IsSound s.heap → are_bound s.heap here.nouns ≡ true → is_built tree ≡ true
+step_met : (w : World) → (tree : List Node) (rec : Evaluator) (their : scopes.Evaluator Local) (h : IsMet w rec their) (id : ℕ) (n : Node) (here : Scope) (s : Room) → IsSound s.heap → are_bound s.heap here.nouns ≡ true → is_built tree ≡ true
     → slice_get tree id ≡ Some n → is_built_node n ≡ true
     → Met w an_answer s (step tree rec id n here s) (theirs.step (names w) tree their id n (scope_of w here) (vat w s))
 unfolding step is_built_node theirs.step
-step_met w fair tree rec their h id (Lit l) here s sound k built found e = literal_met w tree their id l here s sound k
-step_met w fair tree rec their h id (Noun x) here s sound k built found e = noun_node_met w tree their id x here s sound k e
-step_met w fair tree rec their h id (Set x v) here s sound k built found e = set_met w tree rec their h id x v here s sound k
-step_met w fair tree rec their h id (Def p j v) here s sound k built found e = define_met w tree rec their h id p j v here s sound k
-step_met w fair tree rec their h id (Call r verb args) here s sound k built found e = call_node_met w fair tree rec their h built id r verb args here s sound k
-step_met w fair tree rec their h id (Sequence es) here s sound k built found e = sequence_met w tree rec their h id es here s sound k
-step_met w fair tree rec their h id (If c a b) here s sound k built found e = if_met w fair tree rec their h id c a b here s sound k
-step_met w fair tree rec their h id (Escape p b c) here s sound k built found e = escape_met w tree rec their h id p b c here s sound k
-step_met w fair tree rec their h id (Try b p g) here s sound k built found e = try_met w tree rec their h id b p g here s sound k
-step_met w fair tree rec their h id (Finally a b) here s sound k built found e = finally_met w tree rec their h id a b here s sound k
-step_met w fair tree rec their h id (Hide v) here s sound k built found e = hide_met w tree rec their h id v here s sound k
-step_met w fair tree rec their h id (MatchBind v p) here s sound k built found e = match_met w tree rec their h id v p here s sound k
-step_met w fair tree rec their h id (ObjectNode p auditors ms) here s sound k built found e = object_met w tree their id p auditors ms here s sound k found e
-step_met w fair tree rec their h id (Method v ps b) here s sound k built found e = stop_met w an_answer s sound
-step_met w fair tree rec their h id (Matcher p b) here s sound k built found e = stop_met w an_answer s sound
-step_met w fair tree rec their h id (Final x g) here s sound k built found e = stop_met w an_answer s sound
-step_met w fair tree rec their h id (Var x g) here s sound k built found e = stop_met w an_answer s sound
-step_met w fair tree rec their h id (Any g) here s sound k built found e = stop_met w an_answer s sound
-step_met w fair tree rec their h id (ListPattern ps) here s sound k built found e = stop_met w an_answer s sound
-step_met w fair tree rec their h id (Via v p) here s sound k built found e = stop_met w an_answer s sound
+step_met w tree rec their h id (Lit l) here s sound k built found e = literal_met w tree their id l here s sound k
+step_met w tree rec their h id (Noun x) here s sound k built found e = noun_node_met w tree their id x here s sound k e
+step_met w tree rec their h id (Set x v) here s sound k built found e = set_met w tree rec their h id x v here s sound k
+step_met w tree rec their h id (Def p j v) here s sound k built found e = define_met w tree rec their h id p j v here s sound k
+step_met w tree rec their h id (Call r verb args) here s sound k built found e = call_node_met w tree rec their h built id r verb args here s sound k
+step_met w tree rec their h id (Sequence es) here s sound k built found e = sequence_met w tree rec their h id es here s sound k
+step_met w tree rec their h id (If c a b) here s sound k built found e = if_met w tree rec their h id c a b here s sound k
+step_met w tree rec their h id (Escape p b c) here s sound k built found e = escape_met w tree rec their h id p b c here s sound k
+step_met w tree rec their h id (Try b p g) here s sound k built found e = try_met w tree rec their h id b p g here s sound k
+step_met w tree rec their h id (Finally a b) here s sound k built found e = finally_met w tree rec their h id a b here s sound k
+step_met w tree rec their h id (Hide v) here s sound k built found e = hide_met w tree rec their h id v here s sound k
+step_met w tree rec their h id (MatchBind v p) here s sound k built found e = match_met w tree rec their h id v p here s sound k
+step_met w tree rec their h id (ObjectNode p auditors ms) here s sound k built found e = object_met w tree their id p auditors ms here s sound k found e
+step_met w tree rec their h id (Method v ps b) here s sound k built found e = stop_met w an_answer s sound
+step_met w tree rec their h id (Matcher p b) here s sound k built found e = stop_met w an_answer s sound
+step_met w tree rec their h id (Final x g) here s sound k built found e = stop_met w an_answer s sound
+step_met w tree rec their h id (Var x g) here s sound k built found e = stop_met w an_answer s sound
+step_met w tree rec their h id (Any g) here s sound k built found e = stop_met w an_answer s sound
+step_met w tree rec their h id (ListPattern ps) here s sound k built found e = stop_met w an_answer s sound
+step_met w tree rec their h id (Via v p) here s sound k built found e = stop_met w an_answer s sound
 
 -- ---- patterns
 
@@ -397,6 +393,7 @@ bound_met : (w : World) (x : Words) (b : Kept) (here : Scope) (s : Room) → IsS
 unfolding give machine.give scopes.with_noun
 bound_met w x b here s sound k i = record {
   grown = grown_same s.heap;
+  stays = refl;
   keeps = (sound, bound_more s.heap here.nouns (record { noun = x; bound = b }) k i);
   is = λ f. ap (λ (ns : List (Bond Local)). machine.Gives (record { act = here.act; nouns = ns }) (vat w s)) (sym (onto_more w [] here.nouns (record { noun = x; bound = b })));
 }
@@ -436,7 +433,7 @@ any_met w tree their None v j here s sound k e = rw (any_is w tree their (value_
 
 -- ---- failings
 
-module _ (w : World) (fair : all_promises w.known ≡ true) (tree : List Node) (rec : Evaluator) (their : scopes.Evaluator Local) (h : IsMet w rec their) (built : is_built tree ≡ true) where
+module _ (w : World) (tree : List Node) (rec : Evaluator) (their : scopes.Evaluator Local) (h : IsMet w rec their) (built : is_built tree ≡ true) where
   tests_null : (act : ℕ) (j : Value Local) (p : Words) (v : Vat Local)
       → perform.failed (names w) tree {A = Surroundings Local} (calls.call (names w) tree their) act j p v ≡ perform.fail_by (names w) tree {A = Surroundings Local} (calls.call (names w) tree their) act j p (scopes.is_null (follow (names w) v j)) v
   unfolding perform.failed opened_state
@@ -453,7 +450,7 @@ module _ (w : World) (fair : all_promises w.known ≡ true) (tree : List Node) (
   unfolding perform.fail_by ◌>>◌ machine.◌>>◌
   called_fails act j id true s sound i k e = absurd (cc)
   called_fails act j id false s sound i k e =
-      then_met _ _ (call_met w fair tree rec their h built act j (codes "run") (held.Text id ∷ []) s sound i (all_and (is_there s.heap (held.Text id)) true k refl))
+      then_met _ _ (call_met w tree rec their h built act j (codes "run") (held.Text id ∷ []) s sound i (all_and (is_there s.heap (held.Text id)) true k refl))
       (λ u t q m g. throw_met w a_scope id t q (there_on g (held.Text id) k))
 
   -- none of these is null
@@ -474,7 +471,7 @@ module _ (w : World) (fair : all_promises w.known ≡ true) (tree : List Node) (
 
   failed_met : (act : ℕ) (j : Held) (id : ℕ) (s : Room) → IsSound s.heap → is_there s.heap j ≡ true → nat_lt id (length s.heap.texts) ≡ true
       → Met w a_scope s (failed tree rec act j id s) (perform.failed (names w) tree {A = Surroundings Local} (calls.call (names w) tree their) act (value_of w j) (text_of w id) (vat w s))
-  failed_met act j id s sound i k = rw (tests_null act (value_of w j) (text_of w id) (vat w s), follow_there w fair s s.heap j i) (failed_by act j id s sound i k)
+  failed_met act j id s sound i k = rw (tests_null act (value_of w j) (text_of w id) (vat w s), follow_there w s s.heap j i) (failed_by act j id s sound i k)
 
   not_list_met : (act : ℕ) (j : Held) (s : Room) → IsSound s.heap → is_there s.heap j ≡ true
       → Met w a_scope s (failed tree rec act j not_a_list_id s) (perform.failed (names w) tree {A = Surroundings Local} (calls.call (names w) tree their) act (value_of w j) (codes "not a list") (vat w s))
@@ -489,10 +486,6 @@ module _ (w : World) (fair : all_promises w.known ≡ true) (tree : List Node) (
   list_bound_met ps j here vs true s sound i l k = bind_all_met w tree rec their h ps vs j here s sound i l k
   list_bound_met ps j here vs false s sound i l k = not_list_met here.act j s sound l
 
-  members_are : (s : Room) (k : ℕ) → native.list_at (vat w s).lists k ≡ values_of w (members_at s.heap k)
-  unfolding vat_of
-  members_are s k = lists_are (text_of w) s.heap.lists k
-
   looks_at : (ps : List ℕ) (j : Value Local) (sc : Surroundings Local) (k : ℕ) (v : Vat Local)
       → theirs.bind_items (names w) tree their ps j sc (Items k) v
       ≡ (if length (native.list_at v.lists k) == length ps then calls.bind_all (names w) tree their ps (native.list_at v.lists k) j sc else perform.failed (names w) tree (calls.call (names w) tree their) sc.act j (codes "not a list")) v
@@ -503,7 +496,7 @@ module _ (w : World) (fair : all_promises w.known ≡ true) (tree : List Node) (
       → Met w a_scope s (bind_items tree rec ps j here v s) (theirs.bind_items (names w) tree their ps (value_of w j) (scope_of w here) (value_of w v) (vat w s))
   unfolding bind_items
   items_met ps j here (held.List n) s sound i l k =
-      rw (looks_at ps (value_of w j) (scope_of w here) n (vat w s), members_are s n, length-map (members_at s.heap n) (value_of w))
+      rw (looks_at ps (value_of w j) (scope_of w here) n (vat w s), members_are w s n, length-map (members_at s.heap n) (value_of w))
       (list_bound_met ps j here (members_at s.heap n) (length (members_at s.heap n) == length ps) s sound (members_there s.heap sound.lists n) l k)
   items_met ps j here held.Null s sound i l k = unfold theirs.bind_items in not_list_met here.act j s sound l
   items_met ps j here (held.Bool b) s sound i l k = unfold theirs.bind_items in not_list_met here.act j s sound l
@@ -524,7 +517,7 @@ module _ (w : World) (fair : all_promises w.known ≡ true) (tree : List Node) (
   list_pattern_met : (ps : List ℕ) (v j : Held) (here : Scope) (s : Room) → IsSound s.heap → is_there s.heap v ≡ true → is_there s.heap j ≡ true → are_bound s.heap here.nouns ≡ true
       → Met w a_scope s (bind_items tree rec ps j here v s) (theirs.bind_step (names w) tree their (ListPattern ps) (value_of w v) (value_of w j) (scope_of w here) (vat w s))
   list_pattern_met ps v j here s sound i l k =
-      rw (list_is ps (value_of w v) (value_of w j) (scope_of w here) (vat w s), follow_there w fair s s.heap v i) (items_met ps j here v s sound i l k)
+      rw (list_is ps (value_of w v) (value_of w j) (scope_of w here) (vat w s), follow_there w s s.heap v i) (items_met ps j here v s sound i l k)
 
   -- ---- via
 
@@ -547,7 +540,7 @@ module _ (w : World) (fair : all_promises w.known ≡ true) (tree : List Node) (
   null_or_it (held.Far n p) v e = refl
 
   handed_met : (j : Held) (s : Room) → IsSound s.heap → is_there s.heap j ≡ true → Met w a_value s (give j s) (perform.handed (names w) tree (value_of w j) (vat w s))
-  handed_met j s sound i = rw (handed_is (value_of w j) (vat w s), follow_there w fair s s.heap j i, null_or_it j (vat w s) refl) (give_met w a_value j s sound i)
+  handed_met j s sound i = rw (handed_is (value_of w j) (vat w s), follow_there w s s.heap j i, null_or_it j (vat w s) refl) (give_met w a_value j s sound i)
 
   via_is : (e p : ℕ) (y j : Value Local) (sc : Surroundings Local) (v : Vat Local)
       → theirs.bind_step (names w) tree their (Via e p) y j sc v
@@ -567,7 +560,7 @@ module _ (w : World) (fair : all_promises w.known ≡ true) (tree : List Node) (
       subst (λ (o : Out Scope). Met w a_scope s o (machine.and_then (perform.handed (names w) tree (value_of w j) (vat w s)) (λ k u. machine.and_then (calls.call (names w) tree their act (value_of w f) (codes "run") (value_of w v ∷ k ∷ []) u) (λ x. their.pattern p x (value_of w j) (scope_of w here)))))
       (given_first j (λ k t. and_then (call tree rec act f (codes "run") (v ∷ k ∷ []) t) (λ y. rec.pattern p y j here)) s)
       (then_met _ _ (handed_met j s sound l)
-      (λ k2 t q n g. then_met _ _ (call_met w fair tree rec their h built act f (codes "run") (v ∷ k2 ∷ []) t q (there_on g f m) (all_and (is_there t.heap v) (are_there t.heap (k2 ∷ [])) (there_on g v i) (all_and (is_there t.heap k2) true n refl)))
+      (λ k2 t q n g. then_met _ _ (call_met w tree rec their h built act f (codes "run") (v ∷ k2 ∷ []) t q (there_on g f m) (all_and (is_there t.heap v) (are_there t.heap (k2 ∷ [])) (there_on g v i) (all_and (is_there t.heap k2) true n refl)))
       (λ y u r o d. h.pattern p y j here u r o (there_on d j (there_on g j l)) (scope_on d here.nouns (scope_on g here.nouns k)))))
 
   via_met : (e p : ℕ) (v j : Held) (here : Scope) (s : Room) → IsSound s.heap → is_there s.heap v ≡ true → is_there s.heap j ≡ true → are_bound s.heap here.nouns ≡ true
@@ -589,30 +582,30 @@ module _ (w : World) (fair : all_promises w.known ≡ true) (tree : List Node) (
 
 -- ---- the tree and the depth
 
-found_met : (w : World) → all_promises w.known ≡ true → (tree : List Node) (rec : Evaluator) (their : scopes.Evaluator Local) (h : IsMet w rec their) (id : ℕ) (o : Option Node) (here : Scope) (s : Room) → IsSound s.heap → are_bound s.heap here.nouns ≡ true → is_built tree ≡ true
+found_met : (w : World) → (tree : List Node) (rec : Evaluator) (their : scopes.Evaluator Local) (h : IsMet w rec their) (id : ℕ) (o : Option Node) (here : Scope) (s : Room) → IsSound s.heap → are_bound s.heap here.nouns ≡ true → is_built tree ≡ true
     → slice_get tree id ≡ o
     → Met w an_answer s (step_found tree rec id o here s) (theirs.step_found (names w) tree their id o (scope_of w here) (vat w s))
 unfolding step_found theirs.step_found
-found_met w fair tree rec their h id None here s sound k built e = stop_met w an_answer s sound
-found_met w fair tree rec their h id (Some n) here s sound k built e = step_met w fair tree rec their h id n here s sound k built e (get_built tree id n built e)
+found_met w tree rec their h id None here s sound k built e = stop_met w an_answer s sound
+found_met w tree rec their h id (Some n) here s sound k built e = step_met w tree rec their h id n here s sound k built e (get_built tree id n built e)
 
-bind_met : (w : World) → (fair : all_promises w.known ≡ true) → (tree : List Node) (rec : Evaluator) (their : scopes.Evaluator Local) (h : IsMet w rec their) (built : is_built tree ≡ true) (o : Option Node) (v j : Held) (here : Scope) (s : Room) → IsSound s.heap → is_there s.heap v ≡ true → is_there s.heap j ≡ true → are_bound s.heap here.nouns ≡ true
+bind_met : (w : World) → (tree : List Node) (rec : Evaluator) (their : scopes.Evaluator Local) (h : IsMet w rec their) (built : is_built tree ≡ true) (o : Option Node) (v j : Held) (here : Scope) (s : Room) → IsSound s.heap → is_there s.heap v ≡ true → is_there s.heap j ≡ true → are_bound s.heap here.nouns ≡ true
     → ((n : Node) → o ≡ Some n → is_built_node n ≡ true)
     → Met w a_scope s (bind_found tree rec o v j here s) (theirs.bind_found (names w) tree their o (value_of w v) (value_of w j) (scope_of w here) (vat w s))
 unfolding bind_found theirs.bind_found
-bind_met w fair tree rec their h all None v j here s sound i l k built = stop_met w a_scope s sound
-bind_met w fair tree rec their h all (Some n) v j here s sound i l k built = bind_step_met w fair tree rec their h all n v j here s sound i l k (built n refl)
+bind_met w tree rec their h all None v j here s sound i l k built = stop_met w a_scope s sound
+bind_met w tree rec their h all (Some n) v j here s sound i l k built = bind_step_met w tree rec their h all n v j here s sound i l k (built n refl)
 
-deeper_met : (w : World) → all_promises w.known ≡ true → (tree : List Node) (rec : Evaluator) (their : scopes.Evaluator Local) → IsMet w rec their → is_built tree ≡ true
+deeper_met : (w : World) → (tree : List Node) (rec : Evaluator) (their : scopes.Evaluator Local) → IsMet w rec their → is_built tree ≡ true
     → IsMet w (deeper tree rec) (theirs.deeper (names w) tree their)
 unfolding deeper theirs.deeper ◌>>◌ machine.◌>>◌
-deeper_met w fair tree rec their h built = record {
-  expression = λ id here s sound k. then_met _ _ (spend_met w 1 s sound) (λ u t q j g. found_met w fair tree rec their h id (slice_get tree id) here t q (scope_on g here.nouns k) built refl);
-  pattern = λ id v j here s sound i l k. then_met _ _ (spend_met w 1 s sound) (λ u t q m g. bind_met w fair tree rec their h built (slice_get tree id) v j here t q (there_on g v i) (there_on g j l) (scope_on g here.nouns k) (λ n e. get_built tree id n built e));
+deeper_met w tree rec their h built = record {
+  expression = λ id here s sound k. then_met _ _ (spend_met w 1 s sound) (λ u t q j g. found_met w tree rec their h id (slice_get tree id) here t q (scope_on g here.nouns k) built refl);
+  pattern = λ id v j here s sound i l k. then_met _ _ (spend_met w 1 s sound) (λ u t q m g. bind_met w tree rec their h built (slice_get tree id) v j here t q (there_on g v i) (there_on g j l) (scope_on g here.nouns k) (λ n e. get_built tree id n built e));
   grows = deeper_grows tree rec h.grows;
 }
 
-pub evaluator_met : (w : World) → all_promises w.known ≡ true → (tree : List Node) (d : ℕ) → is_built tree ≡ true → IsMet w (evaluator tree d) (theirs.evaluator (names w) tree d)
+pub evaluator_met : (w : World) → (tree : List Node) (d : ℕ) → is_built tree ≡ true → IsMet w (evaluator tree d) (theirs.evaluator (names w) tree d)
 unfolding evaluator theirs.evaluator
-evaluator_met w fair tree zero built = record { expression = λ id here s sound k. deep_met w an_answer s sound; pattern = λ id v j here s sound i l k. deep_met w a_scope s sound; grows = none_grows tree }
-evaluator_met w fair tree (suc d) built = deeper_met w fair tree (evaluator tree d) (theirs.evaluator (names w) tree d) (evaluator_met w fair tree d built) built
+evaluator_met w tree zero built = record { expression = λ id here s sound k. deep_met w an_answer s sound; pattern = λ id v j here s sound i l k. deep_met w a_scope s sound; grows = none_grows tree }
+evaluator_met w tree (suc d) built = deeper_met w tree (evaluator tree d) (theirs.evaluator (names w) tree d) (evaluator_met w tree d built) built

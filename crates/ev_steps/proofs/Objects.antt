@@ -11,7 +11,7 @@ use Rattle.ev_heap.specs.declared.kept.Shape.TheVariants as shape
 use Rattle.ev_heap.specs.declared.kept.Thing.{Thing as HeldThing}
 use Rattle.def_kernel.specs.declared.node.Node.{Node}
 use Rattle.def_kernel.specs.declared.node.Node.TheVariants.{Object as ObjectNode, Method}
-use Rattle.def_machine.specs.Values.{Words, Value, Null, Text, Ref, Local, Obj, local_spot, numbering}
+use Rattle.def_machine.specs.Values.{Words, Value, Text, Ref, Local, Obj, local_spot, numbering}
 use Rattle.def_machine.specs.State.{Binding as Bond, Scope as Surroundings, Got, Called, Made, Vat, Done, Throws, Ejects, Stops, opened_state}
 use Rattle.def_machine.specs.State as machine
 use Rattle.def_machine.specs.Scopes as scopes
@@ -21,15 +21,14 @@ use Rattle.def_machine.specs.Perform as perform
 use Rattle.ev_prims.specs.declared.problem.Problem.TheVariants.{NoMethod}
 use Rattle.ev_room.specs.declared.object.Object.{Object}
 use Rattle.ev_room.specs.declared.exit.Exit.TheVariants as exit
-use Rattle.ev_room.specs.declared.room.Room.{Room}
+use Rattle.ev_pass.specs.declared.interior.Interior.{Interior as Room}
 use Rattle.ev_room.specs.declared.scope.Binding.{Binding}
-use Rattle.ev_room.specs.declared.scope.Bound.TheVariants as scope
 use Rattle.ev_room.specs.declared.scope.Scope.{Scope}
 use Rattle.ev_steps.specs.Built.{is_nil, is_built_node, is_built}
 use Rattle.ev_room.specs.Reading.{World, names, text_of, value_of, values_of, line_of, shape_in, thing_of}
 use Rattle.ev_room.specs.Sound.{Grown, IsSound, IsPlainShape, IsPlainThing, caught_of, is_there, are_there, are_bound}
 use Rattle.ev_steps.specs.Steps.{Evaluator, bind_all, run_method, handed_over, matched, match_all, message_pair, try_matchers, value_of_matchers, run_found, run_object, call_made, call_code, call_object}
-use Rattle.ev_room.specs.Acts.{Out, Act, and_then, ◌>>=◌, ◌>>◌, give, fail, fails, text_value, make_list, object_node, first_method, closed, code_in, code_of, look_code}
+use Rattle.ev_room.specs.Acts.{Out, Act, and_then, ◌>>=◌, ◌>>◌, give, fail, text_value, make_list, object_node, first_method, closed, code_in, code_of, look_code}
 use Rattle.ev_room.proofs.Leaving.{call_ejector_met, new_ejector_met, leave_met}
 use Rattle.ev_room.proofs.Closes.{called_line, closed_met}
 use Rattle.ev_steps.proofs.IsMet.{IsMet}

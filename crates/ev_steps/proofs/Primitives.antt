@@ -25,15 +25,14 @@ use Rattle.ev_prims.specs.declared.asking.Asked.{Asked}
 use Rattle.ev_prims.specs.declared.asking.Asked.TheVariants as ask
 use Rattle.ev_prims.specs.declared.order.Test.{Test}
 use Rattle.ev_prims.specs.declared.problem.Problem.TheVariants.{NotBoolean, NoMethod, Unthrowable}
-use Rattle.ev_prims.specs.declared.reply.Reply.TheVariants as reply
 use Rattle.ev_prims.proofs.AskMeans.{asks_list, asks_comparer, asks_looper, asks_thrower}
 use Rattle.ev_prims.proofs.RangeAnswers.{range_means}
 use Rattle.ev_same.proofs.Alike.{same_reply_is}
 use Rattle.ev_same.specs.Same.{same_ever, same_in, same_there}
 use Rattle.ev_steps.proofs.Asks.{asks_equalizer}
 use Rattle.ev_room.specs.declared.exit.Exit.TheVariants as exit
-use Rattle.ev_room.specs.declared.room.Room.{Room}
-use Rattle.ev_room.specs.Reading.{World, names, all_promises, text_of, value_of, values_of, vat_of}
+use Rattle.ev_pass.specs.declared.interior.Interior.{Interior as Room}
+use Rattle.ev_room.specs.Reading.{World, names, text_of, value_of, values_of, vat_of}
 use Rattle.ev_room.specs.Sound.{IsSound, is_built_prim, is_there, are_there}
 use Rattle.ev_steps.specs.Steps.{Caller, after_turn, turns, loop, pair_there, compared_there, compared, performed}
 use Rattle.ev_room.specs.Acts.{Act, ◌>>=◌, fail, fails, thrown_id}
@@ -133,7 +132,7 @@ unfolding native.compared compared_by
 compared_is t test (Some o) = refl
 compared_is t test None = refl
 
-module _ (w : World) (fair : all_promises w.known ≡ true) (tree : List Node) (again : Caller) (their : scopes.Caller Local) (h : CallsMet w again their) where
+module _ (w : World) (tree : List Node) (again : Caller) (their : scopes.Caller Local) (h : CallsMet w again their) where
   -- ---- the loop
 
   ends_met : (act : ℕ) (x : Held) (more : Act Held) (theirs : machine.Act Local (Value Local)) (s : Room) → IsSound s.heap → is_there s.heap x ≡ true
@@ -153,11 +152,11 @@ module _ (w : World) (fair : all_promises w.known ≡ true) (tree : List Node) (
   turns_met : (act n : ℕ) (f : Held) (s : Room) → IsSound s.heap → is_there s.heap f ≡ true
       → Met w a_value s (turns again act f n s) (perform.turns (names w) tree n (their act (value_of w f) (codes "run") []) (vat w s))
   unfolding turns ◌>>=◌
-  turns_met act zero f s sound i = unfold perform.turns machine.stop fail in record { grown = grown_same s.heap; keeps = sound; is = λ j. refl }
+  turns_met act zero f s sound i = unfold perform.turns machine.stop fail in record { grown = grown_same s.heap; stays = refl; keeps = sound; is = λ j. refl }
   turns_met act (suc n) f s sound i =
       rw (turn_is act n (value_of w f) (vat w s))
       (then_met _ _ (h act f (codes "run") [] s sound i refl)
-      (λ x t q j g. rw (follow_there w fair t t.heap x j) (ends_met act x (turns again act f n) (λ y. perform.turns (names w) tree n (their act (value_of w f) (codes "run") []) y) t q j
+      (λ x t q j g. rw (follow_there w t t.heap x j) (ends_met act x (turns again act f n) (λ y. perform.turns (names w) tree n (their act (value_of w f) (codes "run") []) y) t q j
       (turns_met act n f t q (there_on g f i)))))
 
   loop_is : (act : ℕ) (f : Held) (s : Room) → perform.loop (names w) tree (their act (value_of w f) (codes "run") []) (vat w s) ≡ perform.turns (names w) tree (s.micro.fuel + 1) (their act (value_of w f) (codes "run") []) (vat w s)
@@ -186,8 +185,8 @@ module _ (w : World) (fair : all_promises w.known ≡ true) (tree : List Node) (
       ≡ perform.reply (names w) tree their act (reply_by (text_of w) (compared_by test (native.value_order (value_by (text_in s.heap) x) (value_by (text_in s.heap) y)))) (vat w s)
   order_by act test x y s i j f =
       compares_is act test (value_of w x) (value_of w y) (vat w s)
-      ∙ ap (λ (z : Value Local). perform.reply (names w) tree their act (native.compared (test_in test) (native.value_order z (follow (names w) (vat w s) (value_of w y)))) (vat w s)) (follow_there w fair s s.heap x i ∙ same_value w s.heap f x i)
-      ∙ ap (λ (z : Value Local). perform.reply (names w) tree their act (native.compared (test_in test) (native.value_order (value_by (text_in s.heap) x) z)) (vat w s)) (follow_there w fair s s.heap y j ∙ same_value w s.heap f y j)
+      ∙ ap (λ (z : Value Local). perform.reply (names w) tree their act (native.compared (test_in test) (native.value_order z (follow (names w) (vat w s) (value_of w y)))) (vat w s)) (follow_there w s s.heap x i ∙ same_value w s.heap f x i)
+      ∙ ap (λ (z : Value Local). perform.reply (names w) tree their act (native.compared (test_in test) (native.value_order (value_by (text_in s.heap) x) z)) (vat w s)) (follow_there w s s.heap y j ∙ same_value w s.heap f y j)
       ∙ ap (λ (r : native.Reply Local). perform.reply (names w) tree their act r (vat w s)) (compared_is (text_of w) test (native.value_order (value_by (text_in s.heap) x) (value_by (text_in s.heap) y)))
 
   compared_at : (act : ℕ) (test : Test) (x y : Held) (b : Bool) (s : Room) → IsSound s.heap → is_there s.heap x ≡ true → is_there s.heap y ≡ true → b ≡ true
@@ -220,7 +219,7 @@ module _ (w : World) (fair : all_promises w.known ≡ true) (tree : List Node) (
   same_at act x y true s sound i j e =
       met_by _
       (λ f. same_is act (value_of w x) (value_of w y) (vat w s)
-      ∙ ap (λ (r : native.Reply Local). perform.reply (names w) tree their act r (vat w s)) (same_reply_is w fair tree s f sound.lists x y i j)
+      ∙ ap (λ (r : native.Reply Local). perform.reply (names w) tree their act r (vat w s)) (same_reply_is w tree s f sound.lists x y i j)
       ∙ says_is act (Flag (same_in s.heap (length s.heap.lists) x y)) (vat w s))
       (give_met w a_value (held.Bool (same_in s.heap (length s.heap.lists) x y)) s sound refl)
   same_at act x y false s sound i j e = absurd (cc)
@@ -260,8 +259,8 @@ module _ (w : World) (fair : all_promises w.known ≡ true) (tree : List Node) (
       → perform.perform (names w) tree their act (native.Ranges last (value_of w x) (value_of w y)) (vat w s) ≡ perform.reply (names w) tree their act (reply_by (text_of w) (range_answer last x y)) (vat w s)
   range_by act last x y s i j =
       ranges_is act last (value_of w x) (value_of w y) (vat w s)
-      ∙ ap (λ (z : Value Local). perform.reply (names w) tree their act (native.range_reply last z (follow (names w) (vat w s) (value_of w y))) (vat w s)) (follow_there w fair s s.heap x i)
-      ∙ ap (λ (z : Value Local). perform.reply (names w) tree their act (native.range_reply last (value_of w x) z) (vat w s)) (follow_there w fair s s.heap y j)
+      ∙ ap (λ (z : Value Local). perform.reply (names w) tree their act (native.range_reply last z (follow (names w) (vat w s) (value_of w y))) (vat w s)) (follow_there w s s.heap x i)
+      ∙ ap (λ (z : Value Local). perform.reply (names w) tree their act (native.range_reply last (value_of w x) z) (vat w s)) (follow_there w s s.heap y j)
       ∙ ap (λ (r : native.Reply Local). perform.reply (names w) tree their act r (vat w s)) (range_means (text_of w) last x y)
 
   -- ---- throw
@@ -286,7 +285,7 @@ module _ (w : World) (fair : all_promises w.known ≡ true) (tree : List Node) (
   asked_met act (ask.Same x y) args s sound a g = same_met act x y s sound g.0 g.1
   asked_met act (ask.Compares t x y) args s sound a g = compared_met act t x y s sound g.0 g.1
   asked_met act (ask.Loops f) args s sound a g = unfold perform.perform in loop_met act f s sound g
-  asked_met act (ask.ThrowsIt v) args s sound a g = rw (throws_is act (value_of w v) (vat w s), follow_there w fair s s.heap v g) (thrown_met act v s sound g)
+  asked_met act (ask.ThrowsIt v) args s sound a g = rw (throws_is act (value_of w v) (vat w s), follow_there w s s.heap v g) (thrown_met act v s sound g)
   asked_met act ask.NoMethod args s sound a g = unfold perform.perform in fails_met w a_value NoMethod s sound
   asked_met act _ args s sound a g = absurd g
 

@@ -3,7 +3,7 @@ use Rattle.std.specs.Prelude.{◌≡◌, ℕ, List, Result, Ok, Err, drop}
 use Rattle.ev_base.specs.declared.values.Value.{Value}
 use Rattle.def_kernel.specs.declared.node.Node.{Node}
 use Rattle.ev_room.specs.declared.exit.Exit.{Exit}
-use Rattle.ev_room.specs.declared.room.Room.{Room}
+use Rattle.ev_pass.specs.declared.interior.Interior.{Interior as Room}
 use Rattle.ev_room.specs.declared.scope.Scope.{Scope}
 use Rattle.ev_room.specs.Acts.{Unless}
 use Rattle.ev_steps.specs.declared.pattern.Early.{Early}

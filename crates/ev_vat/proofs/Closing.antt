@@ -12,33 +12,50 @@ use Rattle.def_machine.specs.Refs.{entry_of, follow, severed, severed_at, follow
 use Rattle.def_machine.specs.Eval.{opening, closes}
 use Rattle.ev_prims.specs.Answers.{members_at}
 use Rattle.ev_prims.proofs.Means.{lists_are}
-use Rattle.ev_room.specs.Reading.{World, names, text_of, value_of, members_of, vat_of}
-use Rattle.ev_room.specs.Sound.{Each, IsListed, is_there, are_there}
+use Rattle.ev_pass.specs.Acts.{words_by}
+use Rattle.ev_pass.specs.declared.interior.Interior.{Interior}
+use Rattle.ev_refs.specs.Reading.{knowns_by, mails_by}
+use Rattle.law_renaming.specs.Alone.{start}
+use Rattle.ev_room.specs.Reading.{World, names, text_of, value_of, thing_of, cell_of, members_of, lines_of, vat_of}
+use Rattle.ev_room.specs.Sound.{Each, IsListed, Stays, is_there, are_there}
+use Rattle.ev_room.proofs.Stands.{lists_of}
+use Rattle.ev_vat.specs.Rooted.{IsRooted}
 use Rattle.ev_room.proofs.Replies.{members_there}
 use Rattle.ev_room.proofs.There.{both}
 use Rattle.ev_eval.specs.Turn.{evaluated, opened}
 
--- what the vat has at the start beside its heap
+-- there are no gifts, and nothing was put or happened before
 unfoldable pub root_world : (ℕ → ℕ) → List Words → World
-root_world word texts = record {
-  number = zero;
-  drawn = [];
-  messages = zero;
-  promises = zero;
-  queue = [];
-  known = begun (Prom zero) zero ∷ [];
-  mails = [];
-  gifts = [];
-  noticed = [];
-  outbox = [];
-  happened = [];
-  texts = texts;
-  word = word;
-}
+root_world word texts = record { before = start zero; texts = texts; word = word }
 
 -- the vat after evaluation
 unfoldable pub after : (ℕ → ℕ) → List Words → Contents → Micro → Vat Local
-after word texts heap micro = vat_of (root_world word texts) heap micro
+after word texts heap micro = record (start micro.fuel) {
+  things = map (thing_of (root_world word texts)) heap.things;
+  slots = map (cell_of (root_world word texts)) heap.slots;
+  lists = map (members_of (root_world word texts)) heap.lists;
+  activations = length heap.codes;
+  happened = lines_of (root_world word texts) micro.events;
+}
+
+with_lists : (word : ℕ → ℕ) (texts : List Words) (i : Interior) → IsRooted i
+    → vat_of (root_world word texts) i ≡ record (after word texts i.heap i.micro) { lists = (vat_of (root_world word texts) i).lists }
+unfolding vat_of after root_world start begun knowns_by mails_by words_by
+with_lists word texts i r = rw (r.refs, r.drawn, r.post) refl
+
+-- what its inside stands for
+pub rooted_is : (word : ℕ → ℕ) (texts : List Words) (i : Interior) → IsRooted i → vat_of (root_world word texts) i ≡ after word texts i.heap i.micro
+unfolding after
+rooted_is word texts i r =
+    with_lists word texts i r ∙ ap (λ (ls : List (List (Value Local))). record (after word texts i.heap i.micro) { lists = ls }) (lists_of (root_world word texts) i)
+
+-- what stays keeps the vat rooted
+pub rooted_on : (i j : Interior) → Stays i j → IsRooted i → IsRooted j
+rooted_on i j e r = record {
+  refs = ap (λ (x : Interior). x.refs) e ∙ r.refs;
+  drawn = ap (λ (x : Interior). x.words.count) e ∙ r.drawn;
+  post = ap (λ (x : Interior). x.post) e ∙ r.post;
+}
 
 -- the turn ends with this line, and the root settles to that value
 unfoldable pub closed : Happened Local → Value Local → Vat Local → Vat Local
@@ -149,7 +166,7 @@ resolve-list word k s known_so target_so = rw (target_so, known_so) refl
 
 module _ (word : ℕ → ℕ) (texts : List Words) (heap : Contents) (micro : Micro) where
   pub breaks-closes : (t : Words) → breaks word texts t (after word texts heap micro) ≡ Gives tt (closed (Threw zero t) (Broken t) (after word texts heap micro))
-  unfolding breaks after closed root_world vat_of opened_refs
+  unfolding breaks after closed root_world start opened_refs
   breaks-closes t = refl
 
   -- the vat once the last line of the turn is told
@@ -158,12 +175,12 @@ module _ (word : ℕ → ℕ) (texts : List Words) (heap : Contents) (micro : Mi
 
   finishes-list : (lists : Each (IsListed heap) heap.lists) (k : ℕ) → is_there heap (held.List k) ≡ true
       → finishes word texts (Items k) (after word texts heap micro) ≡ Gives tt (closed (Finished zero (Items k)) (Items k) (after word texts heap micro))
-  unfolding finishes after closed root_world vat_of ◌>>◌ and_then tell
+  unfolding finishes after closed root_world start ◌>>◌ and_then tell
   finishes-list lists k t = resolve-list word k (told (Items k)) refl (target_so word texts heap lists (told (Items k)) refl refl k t)
 
   pub finishes-closes : Each (IsListed heap) heap.lists → (v : Held) → is_there heap v ≡ true
       → finishes word texts (value_of (root_world word texts) v) (after word texts heap micro) ≡ Gives tt (closed (Finished zero (value_of (root_world word texts) v)) (target word texts v) (after word texts heap micro))
-  unfolding finishes after closed root_world vat_of target opened_refs
+  unfolding finishes after closed root_world start target opened_refs
   finishes-closes lists (held.List id) t = finishes-list lists id t
   finishes-closes lists (held.Prom k) t = absurd (cc)
   finishes-closes lists (held.Far v p) t = absurd (cc)

@@ -13,11 +13,12 @@ use Rattle.def_event.specs.Lines.{is_no_frame}
 use Rattle.def_machine.specs.Values.{Words, Value, Local, Name}
 use Rattle.def_machine.specs.State.{Message, Happened, Took, Called, Back, Thrown, Left, Got, SlotMade, SlotRead, SlotWrote, ListMade, ListCame, EjectorMade, AuditionMade, PromiseMade, ObjectMade, Sends, Reacts, Finished, Threw, Settles, Waits, Views, Lost, Posted}
 use Rattle.law_renaming.specs.Maps as maps
-use Rattle.def_run.specs.World.{Script, Event, event_of, events_of, is_cut, cut_in, link_at}
+use Rattle.def_run.specs.World.{Event, event_of, events_of, is_cut, cut_in, link_at}
 use Rattle.def_run.specs.Shown.{shown_value, shown_values, shown_capture, shown_slot, shown_happened, shown_event, shown_name, shown_send, shown_reaction}
 use Rattle.def_run.specs.Text.{shown_events}
 use Rattle.ev_room.specs.Sound.{problems}
-use Rattle.ev_room.specs.Reading.{value_of, values_of, problem_of, capture_in, ejector_line, made_line, line_of, lines_of}
+use Rattle.ev_pass.specs.Reading as inside
+use Rattle.ev_room.specs.Reading.{value_of, problem_of, capture_in, ejector_line, made_line, line_of, lines_of}
 use Rattle.law_renaming.specs.Alone.{name_of}
 use Rattle.ev_vat.specs.Lines.{text_at, shown_held, problem_at}
 use Rattle.ev_vat.specs.Lines as ours
@@ -214,6 +215,6 @@ line-shown word texts (event.Made act v x cs vs) = made-shown word texts act v x
 line-shown word texts _ = refl
 
 pub lines-shown : (word : ℕ → ℕ) (texts : List Words) (es : List Heard) → all_shown (lines_of (root_world word texts) es) ≡ ours.lines_of (problems ++ texts) es
-unfolding lines_of all_shown
+unfolding inside.lines_of all_shown
 lines-shown word texts [] = refl
 lines-shown word texts (e ∷ es) = all_shown-append (line_of (root_world word texts) e) (lines_of (root_world word texts) es) ∙ rw (line-shown word texts e, lines-shown word texts es) refl

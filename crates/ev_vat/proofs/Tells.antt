@@ -1,5 +1,5 @@
 -- The text that the code makes is that of the machine's run.
-use Rattle.std.proofs.Common.{◌≡◌, ℕ, zero, suc, true, List, [], ◌∷◌, ◌++◌, Some, Ok, Err, IfOk, refl, sym, ap, ◌∙◌, map, append_assoc, append-nil, string_bytes}
+use Rattle.std.proofs.Common.{◌≡◌, ℕ, zero, true, List, [], ◌∷◌, ◌++◌, Some, Ok, Err, IfOk, refl, sym, ap, subst, ◌∙◌, map, append_assoc, append-nil, string_bytes}
 use Rattle.std.specs.Prelude.{Result}
 use Rattle.std.specs.Fmt.{digits}
 use Rattle.ev_base.specs.declared.memory.Memory.{Memory}
@@ -14,28 +14,30 @@ use Rattle.def_event.specs.declared.shown.Shown as shown
 use Rattle.ev_base.specs.declared.names.Name.TheVariants as global
 use Rattle.def_event.specs.Lines.{is_no_frame, render, render_run}
 use Rattle.def_kernel.specs.declared.node.Node.{Node}
-use Rattle.def_machine.specs.Values.{Words, Value, Broken, Ref, Name, Local, Prom}
-use Rattle.def_machine.specs.State.{Happened, Finished, Threw, Settles, Standing, Unsettled, WaitsOn, Viewed, Settled, Known, Vat, Done, Gives, Throws, Ejects, Stops, Stop, Fuel, Deep, Astray, begun, end_by as end_machine, stop}
+use Rattle.def_machine.specs.Values.{Words, Value, Broken, Local, Prom}
+use Rattle.def_machine.specs.State.{Happened, Finished, Threw, Settles, Vat, Done, Gives, Throws, Stops, Stop, Fuel, Deep, Astray, begun, end_by as end_machine, stop}
 use Rattle.law_renaming.specs.Maps as maps
-use Rattle.law_renaming.specs.Stands.{Found, Is, found, prom_found}
 use Rattle.def_run.specs.Draws.{draw_word}
 use Rattle.def_run.specs.Shown.{shown_value, shown_name, shown_happened}
 use Rattle.def_run.specs.World.{Script, Event, Opens, Ends as Closes, Stopped, run, events_of, then_goes, put_back, begins, links_from, links_to, fresh_from, push_all, put_at, close, left_vats, left_vat, left_held, left_wait, left_links}
 use Rattle.def_run.specs.Text.{text, stop_line, stop_text, history_of, vat_names, shown_events, opened_text}
 use Rattle.ev_eval.specs.declared.turn.Ended.{Ended}
 use Rattle.ev_eval.specs.declared.turn.Ended.TheVariants as ended
-use Rattle.ev_room.specs.Reading.{World, all_promises, names, text_of, value_of, lines_of, vat_of}
-use Rattle.ev_room.specs.Sound.{Each, Grown, IsListed, IsSound, is_there, problems}
-use Rattle.ev_eval.specs.Turn.{Ends, GivesThere, opened}
+use Rattle.ev_pass.specs.declared.interior.Interior.{Interior}
+use Rattle.ev_pass.specs.Reading as inside
+use Rattle.ev_room.specs.Reading.{World, names, text_of, value_of, lines_of, vat_of}
+use Rattle.ev_room.specs.Sound.{Each, Grown, IsListed, IsSound, Stays, is_there, problems}
+use Rattle.ev_eval.specs.Turn.{Ends, EndsAt, GivesThere, opened}
 use Rattle.law_renaming.specs.Alone.{alone, start, opened_alone, name_of, NamesNothing, run_of_step}
-use Rattle.law_renaming.proofs.Numbered.{root_alone, named_opening, found_names, runs_alone}
+use Rattle.law_renaming.proofs.Numbered.{runs_alone}
 use Rattle.ev_vat.specs.declared.told.RunEnd.{RunEnd}
 use Rattle.ev_vat.specs.declared.told.RunEnd.TheVariants as end
 use Rattle.ev_vat.specs.declared.told.Told.{Told}
 use Rattle.ev_vat.specs.Ends.{Tells, end_of}
+use Rattle.ev_vat.specs.Rooted.{IsRooted}
 use Rattle.ev_vat.specs.Lines.{text_at, shown_held, settled, history, done_lines, threw_lines, text_by, end_by}
 use Rattle.ev_vat.specs.Lines as ours
-use Rattle.ev_vat.proofs.Closing.{root_world, after, closed, target, finishes, breaks, opening-ends, breaks-closes, finishes-closes}
+use Rattle.ev_vat.proofs.Closing.{root_world, rooted_is, rooted_on, after, closed, target, finishes, breaks, opening-ends, breaks-closes, finishes-closes}
 use Rattle.ev_vat.proofs.Shows.{shown_of, one_line, all_shown, all_shown-append, shown_events-append, events-shown, no_frames, lines-shown}
 
 -- the history of a run that came to its end, where that happened in its one turn
@@ -84,7 +86,7 @@ module _ (key : List ℕ) (texts : List Words) (fuel depth : ℕ) (name : Words)
   closed-text : (l : Happened Local) (y : Value Local)
       → text script (run_of_step script (Gives tt (maps.vat name_of (closed l y (after word texts heap micro)))))
       ≡ render_run (name ∷ []) (shown_events (ended_history ((lines_of (root_world word texts) micro.events ++ l ∷ []) ++ Settles (Prom zero) y ∷ []))) ++ []
-  unfolding run_of_step closed after root_world vat_of ended_history text stop_text history_of vat_names then_goes put_back begins links_from links_to fresh_from push_all put_at close left_vats left_vat left_held left_wait left_links begun name_of
+  unfolding run_of_step closed after root_world start ended_history text stop_text history_of vat_names then_goes put_back begins links_from links_to fresh_from push_all put_at close left_vats left_vat left_held left_wait left_links begun name_of
   closed-text l y = refl
 
   closed-tells : (l : Happened Local) (y : Value Local) (last : List ShownEvent) → shown_of l ++ shown_of (Settles (Prom zero) y) ≡ last
@@ -106,13 +108,13 @@ module _ (key : List ℕ) (texts : List Words) (fuel depth : ℕ) (name : Words)
 
   closes-so : (l : Happened Local) (y : Value Local) → opened_alone word fuel depth tree ≡ Gives tt (closed l y (after word texts heap micro))
       → run script ≡ run_of_step script (Gives tt (maps.vat name_of (closed l y (after word texts heap micro))))
-  unfolding closed after root_world vat_of begun
+  unfolding closed after root_world start begun
   closes-so l y e =
       let named : NamesNothing (opened_alone word fuel depth tree) = rw e (refl, refl) in
       runs_alone key fuel depth name tree named ∙ ap (λ d. run_of_step script (maps.done name_of (λ u. u) d)) e
 
   stops-so : (c : Stop) → opened_alone word fuel depth tree ≡ Stops c (after word texts heap micro) → run script ≡ Stopped c zero (begins script)
-  unfolding after root_world vat_of begun run_of_step then_goes put_back
+  unfolding after root_world start begun run_of_step then_goes put_back
   stops-so c e =
       let named : NamesNothing (opened_alone word fuel depth tree) = rw e (refl, refl) in
       runs_alone key fuel depth name tree named ∙ ap (λ d. run_of_step script (maps.done name_of (λ u. u) d)) e
@@ -170,7 +172,7 @@ module _ (key : List ℕ) (texts : List Words) (fuel depth : ℕ) (name : Words)
       closed-is (Finished zero (value_of (root_world word texts) v)) (target word texts v) (ShownDone zero (shown_held (problems ++ texts) v) ∷ Settle (global.Root zero) (settled (problems ++ texts) v) ∷ [])
       (done-shown word texts v) (gave-is v h ∙ finishes-closes word texts heap micro lists v p)
 
-  pub run-is : Each (IsListed heap) heap.lists → (e : Ended) → GivesThere heap e → Ends (root_world word texts) (Ok e) heap micro evaluated → IsRun (text_by name (problems ++ texts) micro.events e) (end_by e)
+  pub run-is : Each (IsListed heap) heap.lists → (e : Ended) → GivesThere heap e → EndsAt (root_world word texts) (Ok e) (after word texts heap micro) evaluated → IsRun (text_by name (problems ++ texts) micro.events e) (end_by e)
   unfolding after end_of stop_line digits
   run-is lists (ended.Value v) t h = value-is lists v t h
   run-is lists (ended.Thrown id) t h =
@@ -185,22 +187,37 @@ module _ (key : List ℕ) (texts : List Words) (fuel depth : ℕ) (name : Words)
 pub texts_behind : (before after_turn : Contents) → before ≡ record nothing { texts = problems } → (g : Grown before after_turn) → after_turn.texts ≡ problems ++ g.texts.0
 texts_behind before after_turn e g = g.texts.1 ∙ ap (λ (h : Contents). h.texts ++ g.texts.0) e
 
-module _ (fuel depth : ℕ) (name : Words) (tree : List Node) (before after_turn : Contents) (micro left : Micro) (e : Ended) (more : List Words)
-    (begins_so : before ≡ record nothing { texts = problems }) (fuel_so : micro ≡ record { fuel = fuel; events = [] }) (texts_so : after_turn.texts ≡ problems ++ more)
-    (sound : IsSound after_turn) (there : GivesThere after_turn e)
-    (ends : (w : World) → after_turn.texts ≡ problems ++ w.texts → all_promises w.known ≡ true → Ends w (Ok e) after_turn left (opened (names w) tree depth (vat_of w before micro))) where
-  so : (key : List ℕ) → (text_by name (problems ++ more) left.events e ≡ text (alone key fuel depth name tree) (run (alone key fuel depth name tree))) × (end_of (run (alone key fuel depth name tree)) ≡ Some (end_by e))
-  unfolding root_world vat_of lines_of start begun
-  so key =
-      let x = ends (root_world (draw_word key) more) texts_so refl in
-      run-is key more fuel depth name tree after_turn left sound.lists e there (rw (begins_so, fuel_so) at x)
+begins_at : (word : ℕ → ℕ) (texts : List Words) (fuel : ℕ) → after word texts (record nothing { texts = problems }) (record { fuel = fuel; events = [] }) ≡ start fuel
+unfolding after start root_world inside.lines_of
+begins_at word texts fuel = refl
 
-  pub told-text : (r : Result Told Memory) → IfOk r (λ told. Tells told (end_by e) (text_by name after_turn.texts left.events e))
+module _ (fuel depth : ℕ) (name : Words) (tree : List Node) (before after_turn : Interior) (e : Ended) (more : List Words)
+    (rooted : IsRooted before) (heap_so : before.heap ≡ record nothing { texts = problems }) (micro_so : before.micro ≡ record { fuel = fuel; events = [] })
+    (stays : Stays before after_turn) (texts_so : after_turn.heap.texts ≡ problems ++ more)
+    (sound : IsSound after_turn.heap) (there : GivesThere after_turn.heap e)
+    (ends : (w : World) → after_turn.heap.texts ≡ problems ++ w.texts → Ends w (Ok e) after_turn (opened (names w) tree depth (vat_of w before))) where
+  begins_so : (word : ℕ → ℕ) → vat_of (root_world word more) before ≡ start fuel
+  begins_so word =
+      rooted_is word more before rooted
+      ∙ ap (λ (h : Contents). after word more h before.micro) heap_so
+      ∙ ap (λ (m : Micro). after word more (record nothing { texts = problems }) m) micro_so
+      ∙ begins_at word more fuel
+
+  so : (key : List ℕ) → (text_by name (problems ++ more) after_turn.micro.events e ≡ text (alone key fuel depth name tree) (run (alone key fuel depth name tree))) × (end_of (run (alone key fuel depth name tree)) ≡ Some (end_by e))
+  unfolding root_world
+  so key =
+      let w = root_world (draw_word key) more in
+      let x = ends w texts_so in
+      let y = subst (λ (v : Vat Local). EndsAt w (Ok e) (vat_of w after_turn) (opened (names w) tree depth v)) (begins_so (draw_word key)) x in
+      let z = subst (λ (v : Vat Local). EndsAt w (Ok e) v (opened (names w) tree depth (start fuel))) (rooted_is (draw_word key) more after_turn (rooted_on before after_turn stays rooted)) y in
+      run-is key more fuel depth name tree after_turn.heap after_turn.micro sound.lists e there z
+
+  pub told-text : (r : Result Told Memory) → IfOk r (λ told. Tells told (end_by e) (text_by name after_turn.heap.texts after_turn.micro.events e))
       → IfOk r (λ told. (key : List ℕ) → string_bytes told.text ≡ text (alone key fuel depth name tree) (run (alone key fuel depth name tree)))
-  told-text (Ok told) h = λ key. h.1 ∙ ap (λ ts. text_by name ts left.events e) texts_so ∙ (so key).0
+  told-text (Ok told) h = λ key. h.1 ∙ ap (λ ts. text_by name ts after_turn.micro.events e) texts_so ∙ (so key).0
   told-text (Err memory) h = tt
 
-  pub told-end : (r : Result Told Memory) → IfOk r (λ told. Tells told (end_by e) (text_by name after_turn.texts left.events e))
+  pub told-end : (r : Result Told Memory) → IfOk r (λ told. Tells told (end_by e) (text_by name after_turn.heap.texts after_turn.micro.events e))
       → IfOk r (λ told. (key : List ℕ) → end_of (run (alone key fuel depth name tree)) ≡ Some told.end)
   told-end (Ok told) h = λ key. (so key).1 ∙ ap Some (sym h.0)
   told-end (Err memory) h = tt

@@ -2,11 +2,10 @@
 #![tactic(auto)]
 
 use def_kernel::Kernel;
-use ev_base::{Limits, Memory};
-use ev_eval::{Ended, Start, is_built, new_heap, run_turn};
+use ev_base::{Limits, Memory, VatId};
+use ev_eval::{Ended, Start, is_built, new_interior, run_turn};
 use ev_io::{StdSource, read_all};
 use ev_kernel_reader::read_form;
-use ev_told::Micro;
 use std::alloc::Global;
 use std::io::BufReader;
 use std::process::ExitCode;
@@ -36,20 +35,12 @@ fn turn(alloc: Global, program: &Kernel, depth: u32, fuel: u32) -> Result<Ran, M
             events: 0,
         });
     }
-    let mut heap = new_heap(alloc)?;
-    let mut micro = Micro::new(alloc, fuel);
-    let ended = run_turn(
-        alloc,
-        program,
-        &mut heap,
-        Start::Program,
-        Limits { depth },
-        &mut micro,
-    )?;
+    let mut inside = new_interior(alloc, VatId(0), &[0; 32], fuel)?;
+    let ended = run_turn(program, Start::Program, Limits { depth }, &mut inside)?;
     Ok(Ran {
         how: ended_word(ended),
-        fuel: micro.fuel,
-        events: micro.events.len(),
+        fuel: inside.micro.fuel,
+        events: inside.micro.events.len(),
     })
 }
 

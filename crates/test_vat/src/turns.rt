@@ -1,7 +1,6 @@
-use ev_base::{Limits, ObjId, TextId, Value};
-use ev_eval::{Ended, Start, is_built, new_heap, run_turn};
+use ev_base::{Limits, ObjId, TextId, Value, VatId};
+use ev_eval::{Ended, Start, is_built, new_interior, run_turn};
 use ev_kernel_reader::read_form;
-use ev_told::Micro;
 use std::alloc::Global;
 use std::test::Fail;
 
@@ -19,20 +18,12 @@ fn run(alloc: Global, text: &str, fuel: u32, depth: u32) -> Result<Option<Ran>, 
     if !is_built(&program) {
         return Ok(None);
     }
-    let mut heap = new_heap(alloc)?;
-    let mut micro = Micro::new(alloc, fuel);
-    let ended = run_turn(
-        alloc,
-        &program,
-        &mut heap,
-        Start::Program,
-        Limits { depth },
-        &mut micro,
-    )?;
+    let mut inside = new_interior(alloc, VatId(0), &[0; 32], fuel)?;
+    let ended = run_turn(&program, Start::Program, Limits { depth }, &mut inside)?;
     Ok(Some(Ran {
         ended,
-        fuel: micro.fuel,
-        events: micro.events.len(),
+        fuel: inside.micro.fuel,
+        events: inside.micro.events.len(),
     }))
 }
 

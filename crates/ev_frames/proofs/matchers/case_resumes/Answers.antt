@@ -1,7 +1,5 @@
 use Rattle.std.proofs.Common.{◌≡◌, true}
 use Rattle.std.specs.Prelude.{◌==◌}
-use Rattle.ev_room.specs.declared.exit.Exit.TheVariants.{Ejected}
-use Rattle.ev_room.specs.declared.exit.Came.TheVariants.{Left}
 use Rattle.ev_frames.proofs.Matching.{case_own}
 use Rattle.ev_frames.proofs.matchers.case_resumes.Goals as goal
 

@@ -1,4 +1,4 @@
-use Rattle.std.proofs.Common.{◌≡◌, length, sym, refl, ◌∙◌}
+use Rattle.std.proofs.Common.{length, sym, refl, ◌∙◌}
 use Rattle.std.proofs.lemmas.Option.{slice_get_read}
 use Rattle.ev_same.specs.Same.{same_in}
 use Rattle.ev_same.proofs.Sames.{ends_here, goes_on}

@@ -1,5 +1,5 @@
 -- the nodes from this one on stand before what was there
-use Rattle.std.proofs.Common.{◌≡◌, ◌≤◌, ◌++◌, length, map, drop}
+use Rattle.std.proofs.Common.{◌≡◌, ◌≤◌, ◌++◌, length, drop}
 use Rattle.ev_steps.specs.Binders.{at_level}
 use Rattle.ev_steps.proofs.binders.push_all.Given as goal
 
