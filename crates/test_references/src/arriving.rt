@@ -2,7 +2,6 @@ use crate::inside::*;
 use ev_arrive::Host;
 use ev_base::{ListId, Value};
 use ev_pass::Stop;
-use std::test::Fail;
 
 /// Names of the provider: 0 did not settle, 1 has gift 2 at the asker as its view, 3 settled to 7.
 fn prepared(host: &mut Host) -> Result<(), Stop> {
@@ -12,7 +11,7 @@ fn prepared(host: &mut Host) -> Result<(), Stop> {
     settled(host, 3, Value::Int(7))
 }
 
-fn settled_by_standing_so(host: &mut Host) -> Result<bool, Stop> {
+pub fn settled_by_standing(host: &mut Host) -> Result<bool, Stop> {
     prepared(host)?;
     settled(host, 0, Value::Int(5))?;
     settled(host, 1, Value::Int(5))?;
@@ -24,7 +23,7 @@ fn settled_by_standing_so(host: &mut Host) -> Result<bool, Stop> {
     )
 }
 
-fn elsewhere_by_standing_so(host: &mut Host) -> Result<bool, Stop> {
+pub fn elsewhere_by_standing(host: &mut Host) -> Result<bool, Stop> {
     prepared(host)?;
     elsewhere(host, 1)?;
     elsewhere(host, 3)?;
@@ -34,7 +33,7 @@ fn elsewhere_by_standing_so(host: &mut Host) -> Result<bool, Stop> {
 }
 
 /// A message on a promise of the sender goes back, and its answer here waits on the one there; one on what has a view goes to that.
-fn delivered_by_standing_so(host: &mut Host) -> Result<bool, Stop> {
+pub fn delivered_by_standing(host: &mut Host) -> Result<bool, Stop> {
     prepared(host)?;
     delivered(host, 0, true)?;
     let back = posted(host, "1N2A1D")?;
@@ -43,7 +42,7 @@ fn delivered_by_standing_so(host: &mut Host) -> Result<bool, Stop> {
     Ok(back && waits(host, 4, 5) && posted(host, "1N2A1D2D")?)
 }
 
-fn gifts_so(host: &mut Host) -> Result<bool, Stop> {
+pub fn gifts(host: &mut Host) -> Result<bool, Stop> {
     opened(host, 0)?;
     asked(host, 0)?;
     let told = is_settled(host, 0, Value::Far(PROVIDER, 3)) && posted(host, "2E")?;
@@ -56,13 +55,13 @@ fn gifts_so(host: &mut Host) -> Result<bool, Stop> {
     Ok(told && once && posted(host, "2E2E")?)
 }
 
-fn led_back_so(host: &mut Host) -> Result<bool, Stop> {
+pub fn led_back(host: &mut Host) -> Result<bool, Stop> {
     names(host, PROVIDER, 1)?;
     elsewhere_back(host, 0)?;
     Ok(is_settled(host, 0, Value::Broken(CYCLE)) && drawn(host) == 1 && posted(host, "")?)
 }
 
-fn notices_so(host: &mut Host) -> Result<bool, Stop> {
+pub fn notices(host: &mut Host) -> Result<bool, Stop> {
     names(host, PROVIDER, 1)?;
     asked(host, 0)?;
     noticed(host, PROVIDER)?;
@@ -74,58 +73,9 @@ fn notices_so(host: &mut Host) -> Result<bool, Stop> {
     Ok(both && is_settled(host, 2, broken) && posted(host, "2S2S")?)
 }
 
-fn lists_so(host: &mut Host) -> Result<bool, Stop> {
+pub fn lists(host: &mut Host) -> Result<bool, Stop> {
     given(host, 100)?;
     let asked = is_unsettled(host, 1) && posted(host, "2A")?;
     let higher = given(host, 101).err();
     Ok(asked && is_settled(host, 0, Value::List(ListId(99))) && higher == Some(Stop::Missing))
-}
-
-#[test]
-fn settled_by_standing(rt: HostRuntime) -> Result<(), Fail> {
-    let mut host = host(rt.alloc(), 100)?;
-    assert!(rt; settled_by_standing_so(&mut host)?);
-    Ok(())
-}
-
-#[test]
-fn elsewhere_by_standing(rt: HostRuntime) -> Result<(), Fail> {
-    let mut host = host(rt.alloc(), 100)?;
-    assert!(rt; elsewhere_by_standing_so(&mut host)?);
-    Ok(())
-}
-
-#[test]
-fn delivered_by_standing(rt: HostRuntime) -> Result<(), Fail> {
-    let mut host = host(rt.alloc(), 100)?;
-    assert!(rt; delivered_by_standing_so(&mut host)?);
-    Ok(())
-}
-
-#[test]
-fn gifts(rt: HostRuntime) -> Result<(), Fail> {
-    let mut host = host(rt.alloc(), 100)?;
-    assert!(rt; gifts_so(&mut host)?);
-    Ok(())
-}
-
-#[test]
-fn led_back(rt: HostRuntime) -> Result<(), Fail> {
-    let mut host = host(rt.alloc(), 100)?;
-    assert!(rt; led_back_so(&mut host)?);
-    Ok(())
-}
-
-#[test]
-fn notices(rt: HostRuntime) -> Result<(), Fail> {
-    let mut host = host(rt.alloc(), 100)?;
-    assert!(rt; notices_so(&mut host)?);
-    Ok(())
-}
-
-#[test]
-fn lists(rt: HostRuntime) -> Result<(), Fail> {
-    let mut host = host(rt.alloc(), 100)?;
-    assert!(rt; lists_so(&mut host)?);
-    Ok(())
 }

@@ -4,6 +4,8 @@
 #[cfg(test)]
 mod arriving;
 #[cfg(test)]
+mod cases;
+#[cfg(test)]
 mod inside;
 #[cfg(test)]
 mod passing;

@@ -2,9 +2,8 @@ use crate::inside::*;
 use ev_arrive::Host;
 use ev_base::Value;
 use ev_pass::Stop;
-use std::test::Fail;
 
-fn ring_so(host: &mut Host) -> Result<bool, Stop> {
+pub fn ring(host: &mut Host) -> Result<bool, Stop> {
     chain(host, 3)?;
     let waiting = waits(host, 1, 2);
     resolved(host, 2, prom(0))?;
@@ -12,39 +11,18 @@ fn ring_so(host: &mut Host) -> Result<bool, Stop> {
     Ok(waiting && is_settled(host, 0, broken) && is_settled(host, 2, broken))
 }
 
-fn ten_thousand_wait_so(host: &mut Host) -> Result<bool, Stop> {
+pub fn ten_thousand_wait(host: &mut Host) -> Result<bool, Stop> {
     chain(host, 10_000)?;
     resolved(host, 9_999, mine())?;
     Ok(is_settled(host, 0, mine()) && is_settled(host, 5_000, mine()) && lines(host) == 19_999)
 }
 
 /// What was held goes out when the promise settles to an object of another vat.
-fn held_so(host: &mut Host) -> Result<bool, Stop> {
+pub fn held(host: &mut Host) -> Result<bool, Stop> {
     names(host, ME, 1)?;
     sent_only(host, prom(0))?;
     let answer = sent(host, prom(0))?;
     let none = posted(host, "")?;
     resolved(host, 0, Value::Far(PROVIDER, 4))?;
     Ok(none && answer == 1 && posted(host, "1D1D")?)
-}
-
-#[test]
-fn ring(rt: HostRuntime) -> Result<(), Fail> {
-    let mut host = host(rt.alloc(), 100)?;
-    assert!(rt; ring_so(&mut host)?);
-    Ok(())
-}
-
-#[test]
-fn ten_thousand_wait(rt: HostRuntime) -> Result<(), Fail> {
-    let mut host = host(rt.alloc(), 100)?;
-    assert!(rt; ten_thousand_wait_so(&mut host)?);
-    Ok(())
-}
-
-#[test]
-fn held(rt: HostRuntime) -> Result<(), Fail> {
-    let mut host = host(rt.alloc(), 100)?;
-    assert!(rt; held_so(&mut host)?);
-    Ok(())
 }
