@@ -1,5 +1,5 @@
 -- Why a status is due.
-use Rattle.std.proofs.Common.{◌≡◌, ◌≢◌, ◌⊎◌, inl, inr, ◌<◌, ◌≤◌, ℕ, nat_lt, length, List, [], ◌∷◌, Bool, true, false, Option, Some, None, IfSome, Result, Ok, Err, refl, sym, ap, subst, arith, ◌∙◌}
+use Rattle.std.proofs.Common.{◌≡◌, ◌≢◌, ◌⊎◌, inl, inr, ◌<◌, ◌≤◌, ◌&&◌, ℕ, nat_lt, length, List, [], ◌∷◌, Bool, true, false, Option, Some, None, IfSome, Result, Ok, Err, refl, sym, ap, subst, arith, ◌∙◌}
 use Rattle.std.proofs.lemmas.Bool.Decides.{nat_tests}
 use Rattle.ev_steps.specs.Built.{is_built}
 use Rattle.def_kernel.specs.declared.node.Node.{Node}
@@ -15,20 +15,24 @@ use Rattle.ev_reader.specs.declared.fault.ProgramFault.{ProgramFault}
 use Rattle.ev_reader.specs.declared.fault.ProgramFault.TheVariants as faults
 use Rattle.ev_reader.specs.declared.fault.Stage.{Stage as Part}
 use Rattle.ev_reader.specs.declared.fault.Stage.TheVariants as parts
+use Rattle.ev_sturdy_text.specs.Telling as sturdy
+use Rattle.ev_mint_text.specs.Telling as mint
+use Rattle.ev_top.specs.Commands.{reads}
 use Rattle.ev_top.specs.Debt.{Debt, most_bytes}
+use Rattle.ev_top.specs.Lines.{IsDueOfMint, IsDueOfSturdy, status_of}
 use Rattle.ev_top.specs.Script.{script_from}
 use Rattle.ev_top.specs.Programs.{ReadAs, safe_names, refusal, stage_of, IsDueOfFault}
 use Rattle.ev_top.specs.Expansion.{text_from, nameless, IsDueOfText, IsDueOfForm}
 use Rattle.ev_top.specs.Machine.{script_of}
 use Rattle.ev_top.specs.Due.{IsDue, IsDueOfInput, IsDueOfBytes, IsDueOfScript, IsDueOfSource, IsDueOfTree, IsDueOfVats, Pays, PaysWith, due_of_run, unbuilt}
-use Rattle.ev_top.specs.Causes.{IsInterrupted, Follows, ComesWhere, IsLong, Breaks, IsVatOf, HasVat, HasProgram, HasFault, HasNoTree, IsProgramRefused, IsUnbuilt, Stops, run_of, IsAstray}
+use Rattle.ev_top.specs.Causes.{IsInterrupted, Follows, ComesWhere, IsLong, Breaks, IsVatOf, HasVat, HasProgram, HasFault, HasNoTree, IsProgramRefused, IsUnbuilt, RepeatsWord, Stops, run_of, IsAstray}
 use Rattle.ev_top.specs.declared.command.Command.{Command}
-use Rattle.ev_top.specs.declared.command.Command.TheVariants.{Run, Expand}
+use Rattle.ev_top.specs.declared.command.Command.TheVariants.{Run, Expand, Generate, Sturdy, Mint}
 use Rattle.ev_top.specs.declared.status.Status.{Status}
-use Rattle.ev_top.specs.declared.status.Status.TheVariants.{Done, Usage, ReadFault, WriteFault, TooLong, ScriptRefused, ProgramRefused, FuelSpent, TooDeep, Memory}
+use Rattle.ev_top.specs.declared.status.Status.TheVariants.{Done, Usage, ReadFault, WriteFault, TooLong, ScriptRefused, ProgramRefused, FuelSpent, TooDeep, WordRepeated, Memory}
 use Rattle.ev_top.specs.declared.status.Stage.{Stage}
 use Rattle.ev_top.specs.declared.status.Stage.TheVariants.{Unbuilt}
-use Rattle.ev_top.proofs.DueLemmas.{is_few, is_long}
+use Rattle.ev_top.proofs.DueLemmas.{is_few, too_many}
 use Rattle.ev_top.proofs.OneReading.{IsTree, fault_once, tree_once}
 
 -- ---- why a status is due
@@ -49,6 +53,7 @@ data Why (command : Option Command) (input : List ℕ) (status : Status) : Type 
   NotBuilt : IsUnbuilt command input → status ≡ ProgramRefused unbuilt → Why command input status
   Ran : (script : Script) (vat : VatScript) (scoped : Scoped) → command ≡ Some Run → HasVat input script vat → Answers (Ok scoped) vat.source safe_names
       → is_built scoped.tree ≡ true → status ≡ (ran script vat scoped).status → Why command input status
+  Drew : (first second : ℕ) → RepeatsWord first second command input → status ≡ WordRepeated first second → Why command input status
   Finished : status ≡ Done → Why command input status
 
 faulty : (name program : List ℕ) (command : Option Command) (input : List ℕ) (fault : ProgramFault) (status : Status) (text : List ℕ)
@@ -95,19 +100,41 @@ at_long most n test = grind (arith, nat_tests)
 at_few : (most n : ℕ) → nat_lt most n ≡ false → n ≤ most
 at_few most n test = grind (arith, nat_tests)
 
+of_repeated : (input : List ℕ) (status : Status) (ending : sturdy.Ending) (repeated : Option (ℕ × ℕ)) → length input ≤ most_bytes
+    → sturdy.due input ≡ Ok ending → ending.repeated ≡ repeated → status ≡ status_of repeated → Why (Some Sturdy) input status
+of_repeated input status ending None few e r is = Finished is
+of_repeated input status ending (Some draws) few e r is = Drew draws.0 draws.1 (refl, few, ending, e, r) is
+
+of_sturdy : (input : List ℕ) (found : Result sturdy.Ending ℕ) (status : Status) (text : List ℕ) → length input ≤ most_bytes → sturdy.due input ≡ found
+    → IsDueOfSturdy found status text → Why (Some Sturdy) input status
+of_sturdy input (Ok ending) status text few e due = of_repeated input status ending ending.repeated few e refl due.0
+of_sturdy input (Err rule) status text few e due = Broken rule (few, e) due.0
+
+of_mint : (input : List ℕ) (found : Result (List ℕ) ℕ) (status : Status) (text : List ℕ) → length input ≤ most_bytes → mint.due input ≡ found
+    → IsDueOfMint found status text → Why (Some Mint) input status
+of_mint input (Ok told) status text few e due = Finished due.0
+of_mint input (Err rule) status text few e due = Broken rule (few, e) due.0
+
 of_bytes : (command : Command) (input : List ℕ) (status : Status) (text : List ℕ) → length input ≤ most_bytes → IsDueOfBytes command input status text
     → Why (Some command) input status
 of_bytes Run input status text few due = of_script input (script_from input) status text few refl due
 of_bytes Expand input status text few due = of_text input (text_from input) status text few refl due
+of_bytes (Generate n) input status text few due = Finished due.0
+of_bytes Sturdy input status text few due = of_sturdy input (sturdy.due input) status text few refl due
+of_bytes Mint input status text few due = of_mint input (mint.due input) status text few refl due
 
-of_input : (long : Bool) (command : Command) (input : List ℕ) (status : Status) (text : List ℕ) → nat_lt most_bytes (length input) ≡ long
+of_input : (long : Bool) (command : Command) (input : List ℕ) (status : Status) (text : List ℕ) → reads command ≡ true → nat_lt most_bytes (length input) ≡ long
     → IsDueOfInput long command input status text → Why (Some command) input status
-of_input true command input status text e due = Long (refl, at_long most_bytes (length input) e) due.0
-of_input false command input status text e due = of_bytes command input status text (at_few most_bytes (length input) e) due
+of_input true command input status text r e due = Long (r, at_long most_bytes (length input) e) due.0
+of_input false command input status text r e due = of_bytes command input status text (at_few most_bytes (length input) e) due
 
 why : (command : Option Command) (input : List ℕ) (status : Status) (text : List ℕ) → IsDue command input status text → Why command input status
 why None input status text due = Misused due.0
-why (Some command) input status text due = of_input (nat_lt most_bytes (length input)) command input status text refl due
+why (Some Run) input status text due = of_input (nat_lt most_bytes (length input)) Run input status text refl refl due
+why (Some Expand) input status text due = of_input (nat_lt most_bytes (length input)) Expand input status text refl refl due
+why (Some (Generate n)) input status text due = Finished due.0
+why (Some Sturdy) input status text due = of_input (nat_lt most_bytes (length input)) Sturdy input status text refl refl due
+why (Some Mint) input status text due = of_input (nat_lt most_bytes (length input)) Mint input status text refl refl due
 
 -- ---- from what a call owes to why it answers
 
@@ -123,6 +150,7 @@ due_or_not (ScriptRefused r) written command input pays = inl pays
 due_or_not (ProgramRefused r) written command input pays = inl pays
 due_or_not (FuelSpent step) written command input pays = inl pays
 due_or_not (TooDeep step) written command input pays = inl pays
+due_or_not (WordRepeated first second) written command input pays = inl pays
 due_or_not Memory written command input pays = inr tt
 
 only : (Is : Status → Type 0) (fact : Type 0) (status : Status) (command : Option Command) (input written : List ℕ)
@@ -161,11 +189,13 @@ long_only command input status (Faulty part kind place fault e) is = cc
 long_only command input status (NotBuilt u e) is = cc
 long_only command input status (Ran script vat scoped run has answers built e) is =
     absurd (never (λ s. s ≡ TooLong) (λ h. cc) (λ k h. cc) (λ k h. cc) (λ h. cc) vat.name _ (run_of script vat scoped) (sym e ∙ is))
+long_only command input status (Drew first second repeats e) is = cc
 long_only command input status (Finished e) is = cc
 
 long_there : (command : Option Command) (input : List ℕ) (status : Status) (text : List ℕ) → IsDue command input status text → IsLong command input → status ≡ TooLong
-long_there None input status text due (some, long) = cc
-long_there (Some command) input status text due (some, long) = (rw (is_long most_bytes (length input) long) at due).0
+long_there None input status text due long = absurd long
+long_there (Some command) input status text due (read, long) =
+    (subst (λ (b : Bool). IsDueOfInput b command input status text) (too_many command input read long) due).0
 
 -- ---- a rule
 
@@ -178,13 +208,26 @@ rule_only rule command input status (Faulty part kind place fault e) is = cc
 rule_only rule command input status (NotBuilt u e) is = cc
 rule_only rule command input status (Ran script vat scoped run has answers built e) is =
     absurd (never (λ s. s ≡ ScriptRefused rule) (λ h. cc) (λ k h. cc) (λ k h. cc) (λ h. cc) vat.name _ (run_of script vat scoped) (sym e ∙ is))
+rule_only rule command input status (Drew first second repeats e) is = cc
 rule_only rule command input status (Finished e) is = cc
+
+-- what is due for few enough bytes
+few_due : (command : Command) (input : List ℕ) (status : Status) (text : List ℕ) → reads command ≡ true → length input ≤ most_bytes
+    → IsDue (Some command) input status text → IsDueOfBytes command input status text
+few_due command input status text read few due =
+    subst (λ (b : Bool). IsDueOfInput b command input status text)
+    (ap (λ (b : Bool). b && nat_lt most_bytes (length input)) read ∙ is_few most_bytes (length input) few) due
 
 rule_there : (rule : ℕ) (command : Option Command) (input : List ℕ) (status : Status) (text : List ℕ) → IsDue command input status text
     → Breaks rule command input → status ≡ ScriptRefused rule
 rule_there rule None input status text due breaks = absurd breaks
 rule_there rule (Some Run) input status text due (few, refused) = (rw (is_few most_bytes (length input) few, refused) at due).0
 rule_there rule (Some Expand) input status text due (few, refused) = (rw (is_few most_bytes (length input) few, refused) at due).0
+rule_there rule (Some (Generate n)) input status text due breaks = absurd breaks
+rule_there rule (Some Sturdy) input status text due (few, refused) =
+    (subst (λ (found : Result sturdy.Ending ℕ). IsDueOfSturdy found status text) refused (few_due Sturdy input status text refl few due)).0
+rule_there rule (Some Mint) input status text due (few, refused) =
+    (subst (λ (found : Result (List ℕ) ℕ). IsDueOfMint found status text) refused (few_due Mint input status text refl few due)).0
 
 -- ---- a program that is refused where it is read
 
@@ -261,6 +304,7 @@ fault_only part kind place command input status (Faulty p k q fault e) is =
 fault_only part kind place command input status (NotBuilt u e) is = absurd (unbuilt_apart part kind place (sym e ∙ is))
 fault_only part kind place command input status (Ran script vat scoped run has answers built e) is =
     absurd (never (IsRefused part kind place) (λ h. cc) (λ k h. cc) (λ k h. cc) (unbuilt_apart part kind place) vat.name _ (run_of script vat scoped) (sym e ∙ is))
+fault_only part kind place command input status (Drew first second repeats e) is = cc
 fault_only part kind place command input status (Finished e) is = cc
 
 abbrev failed : ProgramFault → Result Scoped ProgramFault
@@ -306,6 +350,9 @@ fault_there part kind place (Some Run) input status text due (program, (script, 
 fault_there part kind place (Some Expand) input status text due (program, (few, found), fault) =
     let d = rw (is_few most_bytes (length input) few, found) at due in
     form_fault part kind place d.0 status text d.2 (fault_once part kind place program safe_names d.0 fault d.1)
+fault_there part kind place (Some (Generate n)) input status text due (program, has, fault) = absurd has
+fault_there part kind place (Some Sturdy) input status text due (program, has, fault) = absurd has
+fault_there part kind place (Some Mint) input status text due (program, has, fault) = absurd has
 
 -- ---- no tree
 
@@ -338,6 +385,9 @@ tree_there (Some Run) input status text due (program, (script, vat, (few, found,
     no_vats script.key script.fuel script.vats vat program status text is source none d
 tree_there (Some Expand) input status text due (program, (few, found), none) =
     let d = rw (is_few most_bytes (length input) few, found) at due in no_form program d.0 status text d.1 d.2 none
+tree_there (Some (Generate n)) input status text due (program, has, none) = absurd has
+tree_there (Some Sturdy) input status text due (program, has, none) = absurd has
+tree_there (Some Mint) input status text due (program, has, none) = absurd has
 
 -- ---- a tree that is not built
 
@@ -356,6 +406,7 @@ unbuilt_only command input status (Faulty part kind place fault e) is = absurd (
 unbuilt_only command input status (NotBuilt u e) is = u
 unbuilt_only command input status (Ran script vat scoped run has answers built e) is =
     (run, script, vat, has, scoped, answers, inr (astray_stop vat.name _ (run_of script vat scoped) (sym e ∙ is)))
+unbuilt_only command input status (Drew first second repeats e) is = cc
 unbuilt_only command input status (Finished e) is = cc
 
 -- ---- a run that stops
@@ -382,6 +433,7 @@ fuel_only step command input status (Faulty part kind place fault e) is = cc
 fuel_only step command input status (NotBuilt u e) is = cc
 fuel_only step command input status (Ran script vat scoped run has answers built e) is =
     let stop = fuel_stop step vat.name _ (run_of script vat scoped) (sym e ∙ is) in (run, script, vat, has, scoped, answers, built, stop.0, stop.1)
+fuel_only step command input status (Drew first second repeats e) is = cc
 fuel_only step command input status (Finished e) is = cc
 
 deep_only : (step : ℕ) (command : Option Command) (input : List ℕ) (status : Status) → Why command input status → status ≡ TooDeep step → Stops Deep step command input
@@ -392,7 +444,35 @@ deep_only step command input status (Faulty part kind place fault e) is = cc
 deep_only step command input status (NotBuilt u e) is = cc
 deep_only step command input status (Ran script vat scoped run has answers built e) is =
     let stop = deep_stop step vat.name _ (run_of script vat scoped) (sym e ∙ is) in (run, script, vat, has, scoped, answers, built, stop.0, stop.1)
+deep_only step command input status (Drew first second repeats e) is = cc
 deep_only step command input status (Finished e) is = cc
+
+-- ---- a draw that repeats another
+
+drew_once : (a b c d : ℕ) (command : Option Command) (input : List ℕ) → WordRepeated a b ≡ WordRepeated c d → RepeatsWord a b command input → RepeatsWord c d command input
+drew_once a b c d command input e repeats =
+    let firsts : a ≡ c = cc in
+    let seconds : b ≡ d = cc in
+    subst (λ (n : ℕ). RepeatsWord c n command input) seconds (subst (λ (n : ℕ). RepeatsWord n b command input) firsts repeats)
+
+drew_only : (first second : ℕ) (command : Option Command) (input : List ℕ) (status : Status) → Why command input status → status ≡ WordRepeated first second
+    → RepeatsWord first second command input
+drew_only first second command input status (Misused e) is = cc
+drew_only first second command input status (Long long e) is = cc
+drew_only first second command input status (Broken rule breaks e) is = cc
+drew_only first second command input status (Faulty part kind place fault e) is = cc
+drew_only first second command input status (NotBuilt u e) is = cc
+drew_only first second command input status (Ran script vat scoped run has answers built e) is =
+    absurd (never (λ s. s ≡ WordRepeated first second) (λ h. cc) (λ k h. cc) (λ k h. cc) (λ h. cc) vat.name _ (run_of script vat scoped) (sym e ∙ is))
+drew_only first second command input status (Drew one other repeats e) is = drew_once one other first second command input (sym e ∙ is) repeats
+drew_only first second command input status (Finished e) is = cc
+
+drew_there : (first second : ℕ) (command : Option Command) (input : List ℕ) (status : Status) (text : List ℕ) → IsDue command input status text
+    → RepeatsWord first second command input → status ≡ WordRepeated first second
+drew_there first second command input status text due (is, few, ending, e, repeated) =
+    let d : IsDue (Some Sturdy) input status text = subst (λ (c : Option Command). IsDue c input status text) is due in
+    (subst (λ (found : Result sturdy.Ending ℕ). IsDueOfSturdy found status text) e (few_due Sturdy input status text refl few d)).0
+    ∙ ap status_of repeated
 
 -- ---- what is due for a tree, where the vat's program is read to it
 
@@ -531,6 +611,16 @@ deep_comes (Some input) held held' result command (written, appends, pays) = λ 
       (λ due stops. stop_there Deep step command input result written due stops) pays,
 )
 
+pub drew_comes : (left held held' : Option (List ℕ)) (result : Status) (command : Option Command) → OfLeft left held held' result command
+    → IfSome left (λ input. (first second : ℕ) → ComesWhere (λ s. s ≡ WordRepeated first second) result (RepeatsWord first second command input))
+drew_comes None held held' result command pays = tt
+drew_comes (Some input) held held' result command (written, appends, pays) = λ first second. (
+  only (λ s. s ≡ WordRepeated first second) (RepeatsWord first second command input) result command input written
+      (λ stopped is. subst IsInterrupted is stopped) (drew_only first second command input result) pays,
+  there (λ s. s ≡ WordRepeated first second) (RepeatsWord first second command input) result command input written
+      (drew_there first second command input result written) pays,
+)
+
 -- without a fault
 abbrev IsWholeAnswer : Option Command → List ℕ → Status → Type 0
 IsWholeAnswer command input result = result ≡ Memory ⊎ ((text : List ℕ) × IsDue command input result text)
@@ -546,6 +636,7 @@ complete_with (ScriptRefused k) written command input r w pays = inr (written, p
 complete_with (ProgramRefused f) written command input r w pays = inr (written, pays)
 complete_with (FuelSpent step) written command input r w pays = inr (written, pays)
 complete_with (TooDeep step) written command input r w pays = inr (written, pays)
+complete_with (WordRepeated first second) written command input r w pays = inr (written, pays)
 complete_with Memory written command input r w pays = inl refl
 
 pub complete_comes : (left held held' : Option (List ℕ)) (result : Status) (command : Option Command) (R W : Type 0)

@@ -1,5 +1,5 @@
 -- What is due for a command, by how many bytes there are, and what pays for it.
-use Rattle.std.proofs.Common.{◌≡◌, inl, inr, ◌<◌, ◌≤◌, ℕ, ◌+◌, nat_lt, length, length-append, List, [], ◌∷◌, ◌++◌, append-nil, ap, ◌∙◌, codes, Bool, true, false, Option, Some, None, IfSome, IsSome, Result, Ok, Err, refl, sym, subst, arith}
+use Rattle.std.proofs.Common.{◌≡◌, inl, inr, ◌<◌, ◌≤◌, ℕ, ◌+◌, nat_lt, length, length-append, List, [], ◌∷◌, ◌&&◌, ◌++◌, append-nil, ap, ◌∙◌, codes, Bool, true, false, Option, Some, None, IfSome, IsSome, Result, Ok, Err, refl, sym, subst, arith}
 use Rattle.std.specs.Io.KnownBytes.{IsAtEnd}
 use Rattle.std.proofs.KnownBytes.{Appends-nil}
 use Rattle.ev_io.specs.Ends.{Takes}
@@ -16,17 +16,21 @@ use Rattle.def_run.specs.Text.{text as machine_text}
 use Rattle.ev_scope.specs.declared.accepted.Scoped.{Scoped}
 use Rattle.ev_script.specs.declared.script.Script.{Script}
 use Rattle.ev_script.specs.declared.script.VatScript.{VatScript}
+use Rattle.ev_sturdy_text.specs.Telling as sturdy
+use Rattle.ev_mint_text.specs.Telling as mint
+use Rattle.ev_top.specs.Commands.{reads}
+use Rattle.ev_top.specs.Lines.{IsDueOfMint, IsDueOfSturdy, status_of}
 use Rattle.ev_top.specs.Words.{line}
 use Rattle.ev_top.specs.Debt.{IsFor, most_bytes, too_long}
 use Rattle.ev_top.specs.Script.{script_from}
 use Rattle.ev_top.specs.Programs.{IsDueOfFault}
 use Rattle.ev_top.specs.Expansion.{text_from, nameless, IsDueOfText, IsDueOfForm}
-use Rattle.ev_top.specs.Due.{IsDue, IsDueOfBytes, IsDueOfScript, IsDueOfSource, IsDueOfTree, IsDueOfVats, IsOfWhole, IsOfRead, Finishes, Pays, PaysWith, due_of_run}
+use Rattle.ev_top.specs.Due.{IsDue, IsDueOfBytes, IsDueOfInput, IsDueOfScript, IsDueOfSource, IsDueOfTree, IsDueOfVats, IsOfWhole, IsOfRead, Finishes, Pays, PaysWith, due_of_run}
 use Rattle.ev_top.specs.Machine.{script_of}
 use Rattle.ev_top.specs.declared.command.Command.{Command}
-use Rattle.ev_top.specs.declared.command.Command.TheVariants.{Run, Expand}
+use Rattle.ev_top.specs.declared.command.Command.TheVariants.{Run, Expand, Generate, Sturdy, Mint}
 use Rattle.ev_top.specs.declared.status.Status.{Status}
-use Rattle.ev_top.specs.declared.status.Status.TheVariants.{Done, Usage, ReadFault, WriteFault, TooLong, ScriptRefused, ProgramRefused, FuelSpent, TooDeep, Memory}
+use Rattle.ev_top.specs.declared.status.Status.TheVariants.{Done, Usage, ReadFault, WriteFault, TooLong, ScriptRefused, ProgramRefused, FuelSpent, TooDeep, WordRepeated, Memory}
 
 -- ---- what is due for bytes that are few enough needs all of them
 
@@ -68,9 +72,24 @@ of_script : (found : Result Script ℕ) (status : Status) (text : List ℕ) → 
 of_script (Ok script) status text due = of_vats script.key script.fuel script.vats status text due
 of_script (Err rule) status text due = subst IsOfWhole (sym due.0) tt
 
+of_repeated : (repeated : Option (ℕ × ℕ)) → IsOfWhole (status_of repeated)
+of_repeated None = tt
+of_repeated (Some draws) = tt
+
+of_sturdy : (found : Result sturdy.Ending ℕ) (status : Status) (text : List ℕ) → IsDueOfSturdy found status text → IsOfWhole status
+of_sturdy (Ok ending) status text due = subst IsOfWhole (sym due.0) (of_repeated ending.repeated)
+of_sturdy (Err rule) status text due = subst IsOfWhole (sym due.0) tt
+
+of_mint : (found : Result (List ℕ) ℕ) (status : Status) (text : List ℕ) → IsDueOfMint found status text → IsOfWhole status
+of_mint (Ok told) status text due = subst IsOfWhole (sym due.0) tt
+of_mint (Err rule) status text due = subst IsOfWhole (sym due.0) tt
+
 pub whole : (command : Command) (input : List ℕ) (status : Status) (text : List ℕ) → IsDueOfBytes command input status text → IsOfWhole status
 whole Run input status text due = of_script (script_from input) status text due
 whole Expand input status text due = of_text (text_from input) status text due
+whole (Generate n) input status text due = subst IsOfWhole (sym due.0) tt
+whole Sturdy input status text due = of_sturdy (sturdy.due input) status text due
+whole Mint input status text due = of_mint (mint.due input) status text due
 
 -- ---- what is due, by how many bytes there are
 
@@ -80,13 +99,28 @@ is_few most n few = grind (arith, nat_tests)
 pub is_long : (most n : ℕ) → most < n → nat_lt most n ≡ true
 is_long most n long = grind (arith, nat_tests)
 
+-- few enough bytes, or none are read
+few_by : (b : Bool) → (b && false) ≡ false
+few_by true = refl
+few_by false = refl
+
+pub not_long : (command : Command) (input : List ℕ) → length input ≤ most_bytes → (reads command && nat_lt most_bytes (length input)) ≡ false
+not_long command input few =
+    ap (λ (b : Bool). reads command && b) (is_few most_bytes (length input) few) ∙ few_by (reads command)
+
+pub too_many : (command : Command) (input : List ℕ) → reads command ≡ true → most_bytes < length input → (reads command && nat_lt most_bytes (length input)) ≡ true
+too_many command input read long =
+    ap (λ (b : Bool). b && nat_lt most_bytes (length input)) read ∙ is_long most_bytes (length input) long
+
 pub due_few : (command : Command) (input : List ℕ) (status : Status) (text : List ℕ) → length input ≤ most_bytes
     → IsDueOfBytes command input status text → IsDue (Some command) input status text
-due_few command input status text few due = rw (is_few most_bytes (length input) few) due
+due_few command input status text few due =
+    subst (λ (b : Bool). IsDueOfInput b command input status text) (sym (not_long command input few)) due
 
-pub due_long : (command : Command) (input : List ℕ) (status : Status) (text : List ℕ) → most_bytes < length input
+pub due_long : (command : Command) (input : List ℕ) (status : Status) (text : List ℕ) → reads command ≡ true → most_bytes < length input
     → IsFor status text too_long → IsDue (Some command) input status text
-due_long command input status text long due = rw (is_long most_bytes (length input) long) due
+due_long command input status text read long due =
+    subst (λ (b : Bool). IsDueOfInput b command input status text) (sym (too_many command input read long)) due
 
 -- what is due for the bytes that were read to their end is due for all that the source had
 pub due_read : (command : Command) (left left' : Option (List ℕ)) (bytes : List ℕ) (status : Status) (text : List ℕ) → Takes most_bytes left left' (Ok bytes)
@@ -131,6 +165,7 @@ plain (ScriptRefused r) kind = tt
 plain (ProgramRefused r) kind = tt
 plain (FuelSpent step) kind = tt
 plain (TooDeep step) kind = tt
+plain (WordRepeated first second) kind = tt
 plain Memory kind = absurd kind
 
 pays_with : (command : Option Command) (input : List ℕ) (status : Status) (text : List ℕ) → IsPlain status → IsDue command input status text
@@ -144,6 +179,7 @@ pays_with command input (ScriptRefused r) text kind due = due
 pays_with command input (ProgramRefused r) text kind due = due
 pays_with command input (FuelSpent step) text kind due = due
 pays_with command input (TooDeep step) text kind due = due
+pays_with command input (WordRepeated first second) text kind due = due
 pays_with command input Memory text kind due = absurd kind
 
 pub pays : (command : Option Command) (input : List ℕ) (status : Status) (text : List ℕ) (held held' : Option (List ℕ)) (result : Status)

@@ -6,3 +6,5 @@ pub mod Steps
 pub mod CauseLemmas
 pub mod Fates
 pub mod Reach
+pub mod Unread
+pub mod Told

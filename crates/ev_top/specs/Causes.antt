@@ -1,5 +1,5 @@
 -- Why each answer comes.
-use Rattle.std.specs.Prelude.{◌≡◌, ◌⊎◌, ◌<◌, ◌≤◌, ℕ, true, false, List, [], ◌∷◌, length, Some, None, IsSome, Ok, Err}
+use Rattle.std.specs.Prelude.{◌≡◌, ◌⊎◌, ◌<◌, ◌≤◌, ℕ, true, false, List, [], ◌∷◌, length, Some, None, Ok, Err}
 use Rattle.std.specs.declared.option.Option.{Option}
 use Rattle.ev_steps.specs.Built.{is_built}
 use Rattle.def_machine.specs.State.{Stop, Fuel, Deep, Repeated, Astray}
@@ -10,13 +10,16 @@ use Rattle.def_run.specs.World.{run, Run as Machine, World, Goes, Stopped}
 use Rattle.ev_scope.specs.declared.accepted.Scoped.{Scoped}
 use Rattle.ev_script.specs.declared.script.Script.{Script}
 use Rattle.ev_script.specs.declared.script.VatScript.{VatScript}
+use Rattle.ev_sturdy_text.specs.Telling as sturdy
+use Rattle.ev_mint_text.specs.Telling as mint
+use Rattle.ev_top.specs.Commands.{reads}
 use Rattle.ev_top.specs.Debt.{most_bytes}
 use Rattle.ev_top.specs.Expansion.{text_from}
 use Rattle.ev_top.specs.Machine.{script_of}
 use Rattle.ev_top.specs.Programs.{safe_names}
 use Rattle.ev_top.specs.Script.{script_from}
 use Rattle.ev_top.specs.declared.command.Command.{Command}
-use Rattle.ev_top.specs.declared.command.Command.TheVariants.{Run, Expand}
+use Rattle.ev_top.specs.declared.command.Command.TheVariants.{Run, Expand, Generate, Sturdy, Mint}
 use Rattle.ev_top.specs.declared.status.Status.{Status}
 use Rattle.ev_top.specs.declared.status.Status.TheVariants.{ReadFault, WriteFault, ProgramRefused, Memory}
 
@@ -35,15 +38,24 @@ Follows Is status fact = fact → Is status ⊎ IsInterrupted status
 abbrev pub ComesWhere : (Status → Type 0) → Status → Type 0 → Type 0
 ComesWhere Is status fact = (Is status → fact) × Follows Is status fact
 
--- the words are a command, and the source has more bytes than are read
+-- the words are a command that reads, and the source has more bytes than are read
 abbrev pub IsLong : Option Command → List ℕ → Type 0
-IsLong command input = IsSome command × (most_bytes < length input)
+IsLong None input = ⊥
+IsLong (Some command) input = (reads command ≡ true) × (most_bytes < length input)
 
 -- the whole input breaks the rule of this number
 abbrev pub Breaks : ℕ → Option Command → List ℕ → Type 0
 Breaks rule None input = ⊥
 Breaks rule (Some Run) input = (length input ≤ most_bytes) × (script_from input ≡ Err rule)
 Breaks rule (Some Expand) input = (length input ≤ most_bytes) × (text_from input ≡ Err rule)
+Breaks rule (Some (Generate n)) input = ⊥
+Breaks rule (Some Sturdy) input = (length input ≤ most_bytes) × (sturdy.due input ≡ Err rule)
+Breaks rule (Some Mint) input = (length input ≤ most_bytes) × (mint.due input ≡ Err rule)
+
+-- in the answers to the whole input, the second of these draws gives what the first gave
+abbrev pub RepeatsWord : ℕ → ℕ → Option Command → List ℕ → Type 0
+RepeatsWord first second command input = (command ≡ Some Sturdy) × (length input ≤ most_bytes)
+    × (ending : sturdy.Ending) × (sturdy.due input ≡ Ok ending) × (ending.repeated ≡ Some (first, second))
 
 -- ---- programs
 
@@ -61,6 +73,7 @@ abbrev pub HasProgram : Option Command → List ℕ → List ℕ → Type 0
 HasProgram None input program = ⊥
 HasProgram (Some Run) input program = (script : Script) × (vat : VatScript) × HasVat input script vat × (vat.source ≡ program)
 HasProgram (Some Expand) input program = (length input ≤ most_bytes) × (text_from input ≡ Ok program)
+HasProgram (Some _) input program = ⊥
 
 -- its reading ends with this fault
 abbrev pub HasFault : Part → ℕ → ℕ → Option Command → List ℕ → Type 0

@@ -1,12 +1,42 @@
 -- The command that words name.
-use Rattle.std.specs.Prelude.{ℕ, if◌then◌else◌, List, [], ◌∷◌, codes, Some, None}
+use Rattle.std.specs.Prelude.{ℕ, Bool, true, false, if◌then◌else◌, List, [], ◌∷◌, codes, Some, None, option_map}
 use Rattle.std.specs.declared.option.Option.{Option}
 use Rattle.std.specs.Str.{bytes_eq}
+use Rattle.ev_command_lines.specs.Lines.{number}
 use Rattle.ev_top.specs.declared.command.Command.{Command}
-use Rattle.ev_top.specs.declared.command.Command.TheVariants.{Run, Expand}
+use Rattle.ev_top.specs.declared.command.Command.TheVariants.{Run, Expand, Generate, Sturdy, Mint}
 
--- one word alone
+-- the greatest number of a script that is generated
+abbrev pub most_generated : ℕ
+most_generated = 3000
+
+abbrev pub command_alone : List ℕ → Option Command
+command_alone word =
+    if bytes_eq word (codes "run") then Some Run
+    else if bytes_eq word (codes "expand") then Some Expand
+    else if bytes_eq word (codes "sturdy") then Some Sturdy
+    else if bytes_eq word (codes "mint") then Some Mint
+    else None
+
+-- one word alone, or `gen` and a number
 abbrev pub command_of : List (List ℕ) → Option Command
 command_of [] = None
-command_of (word ∷ []) = if bytes_eq word (codes "run") then Some Run else if bytes_eq word (codes "expand") then Some Expand else None
-command_of (word ∷ next ∷ rest) = None
+command_of (word ∷ []) = command_alone word
+command_of (word ∷ next ∷ []) = if bytes_eq word (codes "gen") then option_map Generate (number most_generated next) else None
+command_of (word ∷ next ∷ other ∷ rest) = None
+
+-- the number of the script that a command generates
+abbrev pub generated_number : Command → Option ℕ
+generated_number (Generate n) = Some n
+generated_number Run = None
+generated_number Expand = None
+generated_number Sturdy = None
+generated_number Mint = None
+
+-- each other command reads what the source has
+abbrev pub reads : Command → Bool
+reads (Generate n) = false
+reads Run = true
+reads Expand = true
+reads Sturdy = true
+reads Mint = true

@@ -1,5 +1,5 @@
 -- What a call owes: its status and its text, by its command and the bytes that were read.
-use Rattle.std.specs.Prelude.{◌≡◌, ◌⊎◌, ◌≤◌, ◌+◌, ℕ, Bool, true, false, nat_lt, List, [], ◌∷◌, length, codes, Some, None, IsSome, Result, Ok, Err}
+use Rattle.std.specs.Prelude.{◌≡◌, ◌⊎◌, ◌≤◌, ◌+◌, ℕ, Bool, true, false, nat_lt, ◌&&◌, List, [], ◌∷◌, length, codes, Some, None, IsSome, Result, Ok, Err}
 use Rattle.std.specs.declared.option.Option.{Option}
 use Rattle.std.specs.Io.KnownBytes.{Appends, Consumes}
 use Rattle.ev_steps.specs.Built.{is_built}
@@ -15,18 +15,22 @@ use Rattle.ev_script.specs.declared.script.VatScript.{VatScript}
 use Rattle.ev_top.specs.Words.{IsPrefix}
 use Rattle.ev_top.specs.Debt.{Debt, IsFor, most_bytes, usage, too_long, bytes_refused, program_refused}
 use Rattle.ev_top.specs.Expansion.{IsDueOfText, text_from}
+use Rattle.ev_sturdy_text.specs.Telling as sturdy
+use Rattle.ev_mint_text.specs.Telling as mint
+use Rattle.ev_top.specs.Commands.{reads}
+use Rattle.ev_top.specs.Lines.{IsDueOfGenerated, IsDueOfMint, IsDueOfSturdy}
 use Rattle.ev_top.specs.Machine.{script_of, no_vat}
 use Rattle.ev_top.specs.Programs.{ReadAs, IsDueOfFault}
 use Rattle.ev_top.specs.Script.{script_from}
 use Rattle.ev_top.specs.declared.command.Command.{Command}
-use Rattle.ev_top.specs.declared.command.Command.TheVariants.{Run, Expand}
+use Rattle.ev_top.specs.declared.command.Command.TheVariants.{Run, Expand, Generate, Sturdy, Mint}
 use Rattle.ev_top.specs.declared.reply.Reply.{Reply}
 use Rattle.ev_top.specs.declared.program.Early.{Early}
 use Rattle.ev_top.specs.declared.program.Early.TheVariants as early
 use Rattle.ev_top.specs.declared.status.Refusal.{Refusal}
 use Rattle.ev_top.specs.declared.status.Stage.TheVariants.{Unbuilt}
 use Rattle.ev_top.specs.declared.status.Status.{Status}
-use Rattle.ev_top.specs.declared.status.Status.TheVariants.{Done, Usage, ReadFault, WriteFault, TooLong, ScriptRefused, ProgramRefused, FuelSpent, TooDeep, Memory}
+use Rattle.ev_top.specs.declared.status.Status.TheVariants.{Done, Usage, ReadFault, WriteFault, TooLong, ScriptRefused, ProgramRefused, FuelSpent, TooDeep, WordRepeated, Memory}
 
 -- ---- a run
 
@@ -74,10 +78,13 @@ IsDueOfScript (Err rule) status text = IsFor status text (bytes_refused rule)
 
 -- ---- a call
 
--- what is due for bytes that were all read
+-- what is due for bytes that were all read; a script is generated whatever they are
 abbrev pub IsDueOfBytes : Command → List ℕ → Status → List ℕ → Type 0
 IsDueOfBytes Run input status text = IsDueOfScript (script_from input) status text
 IsDueOfBytes Expand input status text = IsDueOfText (text_from input) status text
+IsDueOfBytes (Generate n) input status text = IsDueOfGenerated n status text
+IsDueOfBytes Sturdy input status text = IsDueOfSturdy (sturdy.due input) status text
+IsDueOfBytes Mint input status text = IsDueOfMint (mint.due input) status text
 
 -- what is due for the bytes of a source, by whether they are more than are read
 abbrev pub IsDueOfInput : Bool → Command → List ℕ → Status → List ℕ → Type 0
@@ -87,7 +94,7 @@ IsDueOfInput false command input status text = IsDueOfBytes command input status
 -- what is due for a command, or for words that are none
 abbrev pub IsDue : Option Command → List ℕ → Status → List ℕ → Type 0
 IsDue None input status text = IsFor status text usage
-IsDue (Some command) input status text = IsDueOfInput (nat_lt most_bytes (length input)) command input status text
+IsDue (Some command) input status text = IsDueOfInput (reads command && nat_lt most_bytes (length input)) command input status text
 
 -- a front of a text that is due
 abbrev pub IsFrontOfDue : Option Command → List ℕ → List ℕ → Type 0
@@ -111,12 +118,18 @@ IsOfWhole (ScriptRefused r) = Unit {0}
 IsOfWhole (ProgramRefused r) = Unit {0}
 IsOfWhole (FuelSpent step) = Unit {0}
 IsOfWhole (TooDeep step) = Unit {0}
+IsOfWhole (WordRepeated first second) = Unit {0}
 IsOfWhole _ = ⊥
 
 -- the status of a call that began to read
 abbrev pub IsOfRead : Status → Type 0
 IsOfRead TooLong = Unit {0}
 IsOfRead status = IsOfWhole status
+
+-- the words are a command that reads what the source has
+abbrev pub IsReading : Option Command → Type 0
+IsReading None = ⊥
+IsReading (Some command) = reads command ≡ true
 
 -- A status with its whole text written, or a write fault with a front of it.
 abbrev pub Finishes : Option (List ℕ) → Option (List ℕ) → Status → List ℕ → Status → Type 0

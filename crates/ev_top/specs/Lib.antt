@@ -11,3 +11,4 @@ pub mod Due
 pub mod Ends
 pub mod Causes
 pub mod Headline
+pub mod Lines

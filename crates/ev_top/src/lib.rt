@@ -4,6 +4,7 @@
 mod command;
 mod expansion;
 pub mod laws;
+mod lines;
 mod program;
 mod reply;
 mod run;

@@ -3,17 +3,18 @@
 ghost use Rattle.std.specs.Prelude.{◌≡◌, ◌<◌, ◌≤◌, ◌⊎◌, true, false, length, List, ℕ, IfOk, IfSome, IsSome, string_bytes};
 ghost use Rattle.std.specs.Io.KnownBytes.{IsAtEnd};
 ghost use Rattle.ev_io.specs.Causes.{Rose};
-ghost use Rattle.ev_top.specs.Commands.{command_of};
+ghost use Rattle.ev_top.specs.Commands.{command_of, reads};
 ghost use Rattle.ev_top.specs.Debt.{most_bytes};
 ghost use Rattle.def_machine.specs.State.{Fuel, Deep};
 ghost use Rattle.ev_reader.specs.declared.fault.Stage.{Stage as Part};
-ghost use Rattle.ev_top.specs.Causes.{Breaks, ComesWhere, Follows, HasFault, HasNoTree, IsLong, IsProgramRefused, IsUnbuilt, Stops};
-ghost use Rattle.ev_top.specs.Due.{IsDue, IsOfWhole, Pays, IsOfRead, Finishes, Reads, ReadsFor, unbuilt};
+ghost use Rattle.ev_top.specs.Causes.{Breaks, ComesWhere, Follows, HasFault, HasNoTree, IsLong, IsProgramRefused, IsUnbuilt, RepeatsWord, Stops};
+ghost use Rattle.ev_top.specs.Due.{IsDue, IsOfWhole, IsReading, Pays, IsOfRead, Finishes, Reads, ReadsFor, unbuilt};
 ghost use Rattle.ev_top.specs.Headline.{MessagesHaveOneFate, StampedReachFrozenAlone, UsesAreConnected};
 ghost use Rattle.ev_top.specs.Programs.{refusal};
 
-use crate::command::{Command, command_of};
+use crate::command::{Command, command_of, generated_number};
 use crate::expansion::expand_bytes;
+use crate::lines::{mint_bytes, reply_generated, sturdy_bytes};
 use crate::reply::{Reply, reply_line};
 use crate::run::run_bytes;
 use crate::status::Status;
@@ -52,12 +53,16 @@ fn reply_bytes(alloc: Global, command: Command, bytes: &[u8]) -> Result<Reply, M
     match command {
         Command::Run => run_bytes(alloc, bytes),
         Command::Expand => expand_bytes(alloc, bytes),
+        Command::Generate(number) => reply_generated(alloc, number),
+        Command::Sturdy => sturdy_bytes(alloc, bytes),
+        Command::Mint => mint_bytes(alloc, bytes),
     }
 }
 
 /// What a command asks for, of bytes that are too many.
 #[tactic(auto, using(crate::proofs::DueLemmas::due_long))]
 fn reply_long(alloc: Global, command: Command) -> Result<Reply, Memory>
+    requires { reads command ≡ true }
     ensures due { (input : List ℕ) → most_bytes < length input → IfOk result (λ reply. IsDue (Some command) input reply.status (string_bytes reply.text)) }
     ensures long { IfOk result (λ reply. reply.status ≡ Status.TooLong) }
 {
@@ -67,6 +72,7 @@ fn reply_long(alloc: Global, command: Command) -> Result<Reply, Memory>
 /// What a command asks for, of what the source has.
 #[tactic(auto, using(crate::proofs::DueLemmas::due_read, crate::proofs::DueLemmas::due_unread))]
 fn reply_to<S: Source>(alloc: Global, command: Command, src: &mut S) -> Result<Reply, Early>
+    requires { reads command ≡ true }
     ensures due { IfSome (S.left src.old)
         (λ input. IfOk result (λ reply. IsDue (Some command) input reply.status (string_bytes reply.text))) }
     ensures kind { IfOk result (λ reply. IsOfRead reply.status) }
@@ -80,6 +86,32 @@ fn reply_to<S: Source>(alloc: Global, command: Command, src: &mut S) -> Result<R
         Err(ReadEnd::TooLong) => Ok(reply_long(alloc, command)?),
         Err(ReadEnd::Failed) => Err(Early::ReadFault),
         Err(ReadEnd::Memory) => Err(Early::Memory),
+    }
+}
+
+/// The script that a command generates. Nothing is read.
+fn reply_unread(alloc: Global, number: u32) -> Result<Reply, Memory>
+    ensures due { (input : List ℕ) → IfOk result (λ reply. IsDue (Some (Command.Generate number)) input reply.status (string_bytes reply.text)) }
+    ensures kind { IfOk result (λ reply. reply.status ≡ Status.Done) }
+{
+    reply_generated(alloc, number)
+}
+
+/// What a command asks for.
+#[tactic(auto, using(crate::proofs::Unread::for_all, crate::proofs::Unread::nothing_read, crate::proofs::Unread::is_read))]
+fn reply_for<S: Source>(alloc: Global, command: Command, src: &mut S) -> Result<Reply, Early>
+    ensures due { IfSome (S.left src.old)
+        (λ input. IfOk result (λ reply. IsDue (Some command) input reply.status (string_bytes reply.text))) }
+    ensures kind { IfOk result (λ reply. IsOfRead reply.status) }
+    ensures reads { ReadsFor (S.left src.old) (S.left src.new) result }
+    ensures end { IfOk result (λ reply. reads command ≡ true → IsOfWhole reply.status → IsAtEnd (S.left src.new)) }
+    ensures nothing { reads command ≡ false → src.new ≡ src.old }
+    ensures fault { result ≡ Err Early.ReadFault → Rose (S.faults src.old) (S.faults src.new) }
+    ensures later { S.faults src.old ≤ S.faults src.new }
+{
+    match generated_number(command) {
+        Some(number) => Ok(reply_unread(alloc, number)?),
+        None => reply_to(alloc, command, src),
     }
 }
 
@@ -99,7 +131,8 @@ fn finish<K: Sink>(out: &mut K, status: Status, text: &[u8]) -> Status
 #[tactic(auto, using(crate::proofs::DueLemmas::plain, crate::proofs::DueLemmas::no_usage, crate::proofs::DueLemmas::pays_left, crate::proofs::DueLemmas::pays_memory, crate::proofs::DueLemmas::pays_read_fault))]
 fn answer<S: Source, K: Sink>(alloc: Global, words: &Seq<Str>, src: &mut S, out: &mut K) -> Status
     ensures due { IfSome (S.left src.old) (λ input. Pays (K.written out.old) (K.written out.new) result (command_of words.now) input) }
-    ensures end { IsOfWhole result → IsAtEnd (S.left src.new) }
+    ensures end { IsReading (command_of words.now) → IsOfWhole result → IsAtEnd (S.left src.new) }
+    ensures nothing { ¬ IsReading (command_of words.now) → src.new ≡ src.old }
     ensures reads { Reads (S.left src.old) (S.left src.new) result }
     ensures usage { (result ≡ Status.Usage → command_of words.now ≡ None)
         × (command_of words.now ≡ None → result ≡ Status.Usage ⊎ result ≡ Status.WriteFault) }
@@ -109,7 +142,7 @@ fn answer<S: Source, K: Sink>(alloc: Global, words: &Seq<Str>, src: &mut S, out:
     let Some(command) = command_of(words) else {
         return finish(out, Status::Usage, b"refused usage\n");
     };
-    match reply_to(alloc, command, src) {
+    match reply_for(alloc, command, src) {
         Ok(reply) => finish(out, reply.status, reply.text.as_bytes()),
         Err(Early::ReadFault) => Status::ReadFault,
         Err(Early::Memory) => Status::Memory,
@@ -120,8 +153,10 @@ fn answer<S: Source, K: Sink>(alloc: Global, words: &Seq<Str>, src: &mut S, out:
 pub fn top<S: Source, K: Sink>(alloc: Global, words: &Seq<Str>, src: &mut S, out: &mut K) -> Status
     // What is appended is what is due for the words and for all that the source has left, and so is the status.
     ensures due { IfSome (S.left src.old) (λ input. Pays (K.written out.old) (K.written out.new) result (command_of words.now) input) }
-    ensures end { IsOfWhole result → IsAtEnd (S.left src.new) }
+    ensures end { IsReading (command_of words.now) → IsOfWhole result → IsAtEnd (S.left src.new) }
     ensures reads { Reads (S.left src.old) (S.left src.new) result }
+    // Words that are no command, and a script that is generated, leave the source as it was.
+    ensures nothing { ¬ IsReading (command_of words.now) → src.new ≡ src.old }
 
     // Each answer has its cause.
     ensures usage { (result ≡ Status.Usage → command_of words.now ≡ None)
@@ -137,6 +172,8 @@ pub fn top<S: Source, K: Sink>(alloc: Global, words: &Seq<Str>, src: &mut S, out
         (Stops Fuel step (command_of words.now) input)) }
     ensures depth { IfSome (S.left src.old) (λ input. (step : ℕ) → ComesWhere (λ s. s ≡ Status.TooDeep step) result
         (Stops Deep step (command_of words.now) input)) }
+    ensures repeated { IfSome (S.left src.old) (λ input. (first second : ℕ) → ComesWhere (λ s. s ≡ Status.WordRepeated first second) result
+        (RepeatsWord first second (command_of words.now) input)) }
     ensures read_fault { result ≡ Status.ReadFault → Rose (S.faults src.old) (S.faults src.new) }
     ensures write_fault { result ≡ Status.WriteFault → Rose (K.faults out.old) (K.faults out.new) }
     // In the history that is due each message has one fate. No program that is built sends one yet.

@@ -1,7 +1,8 @@
 //! Tells of each example whether the top call writes what stands beside it.
 //!
 //! `NAME.e` is a program, and `NAME.form` the form of its kernel tree, as `evat expand` writes it. Where the program runs today,
-//! `NAME.json` is a script of one vat with it, and `NAME.lines` the history that `evat run` writes. It reads them where it is run.
+//! `NAME.json` is a script of one vat with it, and `NAME.lines` the history that `evat run` writes. `NAME.in` are lines, and `NAME.out`
+//! the answers of a command to them. It reads them where it is run.
 #![tactic(auto)]
 
 use ev_base::{Memory, Seq, Str};
@@ -48,6 +49,14 @@ const SCRIPTS: [&str; 13] = [
     "texts",
 ];
 
+/// Commands that answer lines, each with a text of lines.
+const ANSWERED: [(&str, &str); 4] = [
+    ("sturdy", "references"),
+    ("sturdy", "refusals"),
+    ("mint", "money"),
+    ("mint", "boxes"),
+];
+
 /// What a command writes for its input.
 fn answer(alloc: Global, command: &str, input: &[u8]) -> Result<Vec<u8>, Memory> {
     let mut words = Seq::new(alloc);
@@ -79,6 +88,12 @@ fn lines_of(rt: &HostRuntime, name: &str) -> Option<bool> {
     is_as_told(rt, "run", from.as_str(), to.as_str())
 }
 
+fn answers_of(rt: &HostRuntime, command: &str, name: &str) -> Option<bool> {
+    let from = format!(in rt.alloc(); "{name}.in").ok()?;
+    let to = format!(in rt.alloc(); "{name}.out").ok()?;
+    is_as_told(rt, command, from.as_str(), to.as_str())
+}
+
 fn word(found: Option<bool>) -> &'static str {
     match found {
         Some(true) => "as told",
@@ -95,6 +110,10 @@ fn tell(rt: &HostRuntime) -> io::Result<()> {
     for name in SCRIPTS {
         let found = word(lines_of(rt, name));
         println!(rt; "{name}.lines {found}")?;
+    }
+    for (command, name) in ANSWERED {
+        let found = word(answers_of(rt, command, name));
+        println!(rt; "{name}.out {found}")?;
     }
     Ok(())
 }
