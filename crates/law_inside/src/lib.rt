@@ -1,5 +1,5 @@
 //! What the references of a vat hold, and what they tell.
 #![tactic(auto)]
 
-pub mod lines;
+pub mod telling;
 pub mod values;

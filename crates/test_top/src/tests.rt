@@ -96,7 +96,11 @@ fn sources(rt: HostRuntime) -> Result<(), Fail> {
         ("true", 0, "open a\n!0 done true\nsettle @a true\nend\n"),
         ("1 < 2", 0, "open a\n!0 done true\nsettle @a true\nend\n"),
         ("1 == 2", 0, "open a\n!0 done false\nsettle @a false\nend\n"),
-        ("def x :int := 1", 0, "open a\n!0 done 1\nsettle @a 1\nend\n"),
+        (
+            "def x :int := 1",
+            0,
+            "open a\n!0 done 1\nsettle @a 1\nend\n",
+        ),
         (
             "def x :int := true",
             0,
