@@ -11,7 +11,7 @@ fn prepared(host: &mut Host) -> Result<(), Stop> {
     settled(host, 3, Value::Int(7))
 }
 
-pub fn settled_by_standing(host: &mut Host) -> Result<bool, Stop> {
+pub(crate) fn settled_by_standing(host: &mut Host) -> Result<bool, Stop> {
     prepared(host)?;
     settled(host, 0, Value::Int(5))?;
     settled(host, 1, Value::Int(5))?;
@@ -23,7 +23,7 @@ pub fn settled_by_standing(host: &mut Host) -> Result<bool, Stop> {
     )
 }
 
-pub fn elsewhere_by_standing(host: &mut Host) -> Result<bool, Stop> {
+pub(crate) fn elsewhere_by_standing(host: &mut Host) -> Result<bool, Stop> {
     prepared(host)?;
     elsewhere(host, 1)?;
     elsewhere(host, 3)?;
@@ -33,7 +33,7 @@ pub fn elsewhere_by_standing(host: &mut Host) -> Result<bool, Stop> {
 }
 
 /// A message on a promise of the sender goes back, and its answer here waits on the one there; one on what has a view goes to that.
-pub fn delivered_by_standing(host: &mut Host) -> Result<bool, Stop> {
+pub(crate) fn delivered_by_standing(host: &mut Host) -> Result<bool, Stop> {
     prepared(host)?;
     delivered(host, 0, true)?;
     let back = posted(host, "1N2A1D")?;
@@ -42,7 +42,7 @@ pub fn delivered_by_standing(host: &mut Host) -> Result<bool, Stop> {
     Ok(back && waits(host, 4, 5) && posted(host, "1N2A1D2D")?)
 }
 
-pub fn gifts(host: &mut Host) -> Result<bool, Stop> {
+pub(crate) fn gifts(host: &mut Host) -> Result<bool, Stop> {
     opened(host, 0)?;
     asked(host, 0)?;
     let told = is_settled(host, 0, Value::Far(PROVIDER, 3)) && posted(host, "2E")?;
@@ -55,13 +55,13 @@ pub fn gifts(host: &mut Host) -> Result<bool, Stop> {
     Ok(told && once && posted(host, "2E2E")?)
 }
 
-pub fn led_back(host: &mut Host) -> Result<bool, Stop> {
+pub(crate) fn led_back(host: &mut Host) -> Result<bool, Stop> {
     names(host, PROVIDER, 1)?;
     elsewhere_back(host, 0)?;
     Ok(is_settled(host, 0, Value::Broken(CYCLE)) && drawn(host) == 1 && posted(host, "")?)
 }
 
-pub fn notices(host: &mut Host) -> Result<bool, Stop> {
+pub(crate) fn notices(host: &mut Host) -> Result<bool, Stop> {
     names(host, PROVIDER, 1)?;
     asked(host, 0)?;
     noticed(host, PROVIDER)?;
@@ -73,7 +73,7 @@ pub fn notices(host: &mut Host) -> Result<bool, Stop> {
     Ok(both && is_settled(host, 2, broken) && posted(host, "2S2S")?)
 }
 
-pub fn lists(host: &mut Host) -> Result<bool, Stop> {
+pub(crate) fn lists(host: &mut Host) -> Result<bool, Stop> {
     given(host, 100)?;
     let asked = is_unsettled(host, 1) && posted(host, "2A")?;
     let higher = given(host, 101).err();

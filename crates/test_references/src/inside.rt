@@ -53,7 +53,7 @@ fn inside(alloc: Global, fuel: u32) -> Result<Interior, Memory> {
 }
 
 /// A vat that knows nothing yet, with so much fuel.
-pub fn host(alloc: Global, fuel: u32) -> Result<Host, Memory> {
+pub(crate) fn host(alloc: Global, fuel: u32) -> Result<Host, Memory> {
     Ok(Host {
         inside: inside(alloc, fuel)?,
         gifts: GiftTable::new(alloc),
@@ -61,16 +61,16 @@ pub fn host(alloc: Global, fuel: u32) -> Result<Host, Memory> {
 }
 
 /// An object of the vat.
-pub fn mine() -> Value {
+pub(crate) fn mine() -> Value {
     Value::Obj(ObjId(0))
 }
 
-pub fn prom(name: u64) -> Value {
+pub(crate) fn prom(name: u64) -> Value {
     Value::Prom(PromId(name))
 }
 
 /// So many names of that vat come to be known.
-pub fn names(host: &mut Host, vat: VatId, count: u64) -> Result<(), Stop> {
+pub(crate) fn names(host: &mut Host, vat: VatId, count: u64) -> Result<(), Stop> {
     for _ in 0..count {
         come(&mut host.inside, vat)?;
     }
@@ -78,12 +78,12 @@ pub fn names(host: &mut Host, vat: VatId, count: u64) -> Result<(), Stop> {
 }
 
 /// A name resolves to a value.
-pub fn resolved(host: &mut Host, name: u64, value: Value) -> Result<(), Stop> {
+pub(crate) fn resolved(host: &mut Host, name: u64, value: Value) -> Result<(), Stop> {
     resolve(&mut host.inside, PromId(name), value)
 }
 
 /// So many promises of the vat, each of which waits on the next one.
-pub fn chain(host: &mut Host, count: u64) -> Result<(), Stop> {
+pub(crate) fn chain(host: &mut Host, count: u64) -> Result<(), Stop> {
     names(host, ME, count)?;
     for name in 1..count {
         resolved(host, name - 1, prom(name))?;
@@ -92,7 +92,7 @@ pub fn chain(host: &mut Host, count: u64) -> Result<(), Stop> {
 }
 
 /// A value passes to that vat. What it passes as is dropped.
-pub fn passed(host: &mut Host, to: VatId, value: Value) -> Result<(), Stop> {
+pub(crate) fn passed(host: &mut Host, to: VatId, value: Value) -> Result<(), Stop> {
     match host.inside.pass(to, value) {
         Ok(_) => Ok(()),
         Err(stop) => Err(stop),
@@ -118,7 +118,7 @@ fn heard_again(host: &mut Host, from: VatId, note: Heard) -> Result<(), Stop> {
 }
 
 /// The link with that vat is noticed as cut.
-pub fn noticed(host: &mut Host, vat: VatId) -> Result<(), Stop> {
+pub(crate) fn noticed(host: &mut Host, vat: VatId) -> Result<(), Stop> {
     notice(host, vat)
 }
 
@@ -132,29 +132,29 @@ fn standing(host: &Host, name: u64) -> Option<Standing> {
 }
 
 /// Whether a name settled to that.
-pub fn is_settled(host: &Host, name: u64, value: Value) -> bool {
+pub(crate) fn is_settled(host: &Host, name: u64, value: Value) -> bool {
     standing(host, name) == Some(Standing::Settled(value))
 }
 
 /// The gift that the vat hosts, of that provider.
-pub fn gift(host: &Host, provider: VatId, swiss: u128) -> Option<(PromId, bool)> {
+pub(crate) fn gift(host: &Host, provider: VatId, swiss: u128) -> Option<(PromId, bool)> {
     host.gifts.find(provider, swiss)
 }
 
 /// How many lines were told.
-pub fn lines(host: &Host) -> usize {
+pub(crate) fn lines(host: &Host) -> usize {
     host.inside.micro.events.len()
 }
 
-pub fn drawn(host: &Host) -> u64 {
+pub(crate) fn drawn(host: &Host) -> u64 {
     host.inside.words.count()
 }
 
-pub fn known(host: &Host) -> u64 {
+pub(crate) fn known(host: &Host) -> u64 {
     host.inside.refs.count()
 }
 
-pub fn fuel(host: &Host) -> u32 {
+pub(crate) fn fuel(host: &Host) -> u32 {
     host.inside.micro.fuel
 }
 
@@ -185,45 +185,45 @@ fn letters(host: &Host) -> Result<String, Memory> {
 }
 
 /// Whether these notes were put, each told by the number of the vat that it is for and the letter of its kind.
-pub fn posted(host: &Host, notes: &str) -> Result<bool, Stop> {
+pub(crate) fn posted(host: &Host, notes: &str) -> Result<bool, Stop> {
     Ok(letters(host)?.as_str() == notes)
 }
 
 /// How many notes were put.
-pub fn posts(host: &Host) -> usize {
+pub(crate) fn posts(host: &Host) -> usize {
     host.inside.post.puts().len()
 }
 
 /// Whether a name did not settle and waits on none.
-pub fn is_unsettled(host: &Host, name: u64) -> bool {
+pub(crate) fn is_unsettled(host: &Host, name: u64) -> bool {
     standing(host, name) == Some(Standing::Unsettled)
 }
 
 /// Whether a name waits on another.
-pub fn waits(host: &Host, name: u64, other: u64) -> bool {
+pub(crate) fn waits(host: &Host, name: u64, other: u64) -> bool {
     standing(host, name) == Some(Standing::WaitsOn(PromId(other)))
 }
 
 /// Whether a name has another as its view.
-pub fn views(host: &Host, name: u64, other: u64) -> bool {
+pub(crate) fn views(host: &Host, name: u64, other: u64) -> bool {
     standing(host, name) == Some(Standing::Viewed(PromId(other)))
 }
 
 /// A message without arguments is sent to a value. It gives the name of its answer.
-pub fn sent(host: &mut Host, target: Value) -> Result<u64, Stop> {
+pub(crate) fn sent(host: &mut Host, target: Value) -> Result<u64, Stop> {
     let verb = word(host.inside.alloc, "put")?;
     let answer = send(&mut host.inside, ACT, target, &verb, &[])?;
     Ok(answer.0)
 }
 
 /// The same of one that asks for no answer.
-pub fn sent_only(host: &mut Host, target: Value) -> Result<(), Stop> {
+pub(crate) fn sent_only(host: &mut Host, target: Value) -> Result<(), Stop> {
     let verb = word(host.inside.alloc, "put")?;
     send_only(&mut host.inside, ACT, target, &verb, &[])
 }
 
 /// A name of the provider settled to that.
-pub fn settled(host: &mut Host, name: u64, value: Value) -> Result<(), Stop> {
+pub(crate) fn settled(host: &mut Host, name: u64, value: Value) -> Result<(), Stop> {
     let subject = Subject::Known(PromId(name));
     heard(
         host,
@@ -233,35 +233,35 @@ pub fn settled(host: &mut Host, name: u64, value: Value) -> Result<(), Stop> {
 }
 
 /// A name of the provider settled to an object of the asker.
-pub fn elsewhere(host: &mut Host, name: u64) -> Result<(), Stop> {
+pub(crate) fn elsewhere(host: &mut Host, name: u64) -> Result<(), Stop> {
     let subject = Subject::Known(PromId(name));
     heard(host, PROVIDER, Heard::Elsewhere(subject, ASKER))
 }
 
 /// The same where the vat knows the gift that the next word names.
-pub fn elsewhere_back(host: &mut Host, name: u64) -> Result<(), Stop> {
+pub(crate) fn elsewhere_back(host: &mut Host, name: u64) -> Result<(), Stop> {
     let subject = Subject::Known(PromId(name));
     heard_again(host, PROVIDER, Heard::Elsewhere(subject, ASKER))
 }
 
 /// The provider opens a gift, an object of its own.
-pub fn opened(host: &mut Host, number: u64) -> Result<(), Stop> {
+pub(crate) fn opened(host: &mut Host, number: u64) -> Result<(), Stop> {
     let end = Incoming::Known(Reference::Far(PROVIDER, 3));
     heard(host, PROVIDER, Heard::Open(Swiss(number), end))
 }
 
 /// The asker asks for a gift of the provider.
-pub fn asked(host: &mut Host, number: u64) -> Result<(), Stop> {
+pub(crate) fn asked(host: &mut Host, number: u64) -> Result<(), Stop> {
     heard(host, ASKER, Heard::Ask(PROVIDER, Swiss(number)))
 }
 
 /// The same where the asker was told of the gift.
-pub fn asked_again(host: &mut Host, number: u64) -> Result<(), Stop> {
+pub(crate) fn asked_again(host: &mut Host, number: u64) -> Result<(), Stop> {
     heard_again(host, ASKER, Heard::Ask(PROVIDER, Swiss(number)))
 }
 
 /// A message of the provider on a name, which asks for an answer if `asks`.
-pub fn delivered(host: &mut Host, name: u64, asks: bool) -> Result<(), Stop> {
+pub(crate) fn delivered(host: &mut Host, name: u64, asks: bool) -> Result<(), Stop> {
     let note = Heard::Deliver {
         message: Carried::New,
         asks,
@@ -284,7 +284,7 @@ fn tower(alloc: Global, innermost: Brought, height: u64) -> Result<Brought, Memo
 }
 
 /// A new name of the provider settled to a gift at the asker, in so many lists round each other.
-pub fn given(host: &mut Host, height: u64) -> Result<(), Stop> {
+pub(crate) fn given(host: &mut Host, height: u64) -> Result<(), Stop> {
     let value = tower(host.inside.alloc, Brought::Gift(ASKER, Swiss(2)), height)?;
     heard(
         host,
