@@ -5,6 +5,9 @@ Run it at the top of the repository. It builds crates/evat and crates/test_bench
 `evat expand`, and evaluates its kernel form until 0.1, 1 and 10 million units of fuel are spent. A loop never ends by
 itself, so all its fuel is spent and its lines are told and dropped at the stop: what is measured is evaluation alone.
 The figures of one loop should stay level as the fuel grows.
+
+Then it runs programs that send to themselves, with 1,000 to 100,000 turns, and prints microseconds, bytes of memory and
+bytes of text for a turn. These are whole runs, whose texts are made.
 """
 import os
 import pathlib
@@ -55,43 +58,53 @@ LOOPS = {
 }
 
 
+# Programs each turn of which sends a message.
+SENDERS = {
+    "ping-pong": "def o { method ping(n) { o <- pong(n); null }\nmethod pong(n) { o <- ping(n + 1); null } }\no <- ping(0)",
+    "chain of answers": "def o { method go(n) { o <- go(n + 1) } }\no <- go(0)",
+    "reactions": "def o { method go(x) { when (x) -> { o <- go(x) }; null } }\no <- go(0)",
+}
+TURNS = [1_000, 10_000, 100_000]
+AMPLE = 10_000_000
+
+
 def build() -> None:
     for crate, words in (EVAT, ["--", "help"]), (BENCH, ["--", "1", "1"]):
         subprocess.run(["rt", "run", *words], cwd=crate, stdin=subprocess.DEVNULL, stdout=subprocess.DEVNULL)
 
 
-def form_of(before: str, body: str) -> bytes:
-    source = f"{before}while (true) {{ {body} }}\n"
+def expanded(source: str) -> bytes:
     return subprocess.run([EVAT / "out" / "evat", "expand"], input=source.encode(), capture_output=True).stdout.rstrip(b"\n")
 
 
-def once(form: pathlib.Path, fuel: int) -> tuple[float, int, int]:
-    """The seconds of processor of one run, its memory in bytes, and the count of lines that it told."""
-    words = [BENCH / "out" / "test_bench_frames", str(DEPTH), str(fuel)]
+def form_of(before: str, body: str) -> bytes:
+    return expanded(f"{before}while (true) {{ {body} }}\n")
+
+
+def once(form: pathlib.Path, *reach: int) -> tuple[float, int, int]:
+    """The seconds of processor of one run, its memory in bytes, and the count of lines or bytes that it told."""
+    words = [BENCH / "out" / "test_bench_frames", str(DEPTH), *map(str, reach)]
     with form.open("rb") as program:
         run = subprocess.Popen(words, stdin=program, stdout=subprocess.PIPE)
         told = run.stdout.read().decode().split()
         _, _, used = os.wait4(run.pid, 0)
-    lines = int(told[-1]) if "events" in told else 0
-    return used.ru_utime + used.ru_stime, used.ru_maxrss * 1024, lines
+    count = int(told[-1]) if "told" in told else 0
+    return used.ru_utime + used.ru_stime, used.ru_maxrss * 1024, count
 
 
-def measured(form: pathlib.Path, fuel: int) -> tuple[float, int, int]:
+def measured(form: pathlib.Path, *reach: int) -> tuple[float, int, int]:
     """The least of some runs."""
-    runs = [once(form, fuel) for _ in range(TRIES)]
+    runs = [once(form, *reach) for _ in range(TRIES)]
     return min(run[0] for run in runs), min(run[1] for run in runs), runs[0][2]
 
 
-def main() -> None:
-    build()
-    room = tempfile.TemporaryDirectory()
+def print_loops(program: pathlib.Path) -> None:
     print(f"{'loop':28} {'fuel':>10} {'ns a unit':>10} {'bytes a unit':>13} {'bytes a line':>13}")
     for name, (before, body) in LOOPS.items():
         form = form_of(before, body)
         if not form.startswith(b"("):
             print(f"{name:28} not built: {form.decode().strip()}")
             continue
-        program = pathlib.Path(room.name) / "form"
         program.write_bytes(form)
         rest, floor, _ = measured(program, 1)
         for fuel in FUELS:
@@ -99,6 +112,29 @@ def main() -> None:
             more = max(0, most - floor)
             line = f"{more / lines:13.0f}" if lines else " " * 13
             print(f"{name:28} {fuel:10} {(seconds - rest) / fuel * 1e9:10.1f} {more / fuel:13.1f} {line}")
+
+
+def print_senders(program: pathlib.Path) -> None:
+    print(f"\n{'sender':28} {'turns':>10} {'us a turn':>10} {'bytes a turn':>13} {'text a turn':>13}")
+    for name, source in SENDERS.items():
+        form = expanded(source)
+        if not form.startswith(b"("):
+            print(f"{name:28} not built: {form.decode().strip()}")
+            continue
+        program.write_bytes(form)
+        rest, floor, _ = measured(program, AMPLE, 0)
+        for turns in TURNS:
+            seconds, most, text = measured(program, AMPLE, turns)
+            more = max(0, most - floor)
+            print(f"{name:28} {turns:10} {(seconds - rest) / turns * 1e6:10.2f} {more / turns:13.0f} {text / turns:13.0f}")
+
+
+def main() -> None:
+    build()
+    with tempfile.TemporaryDirectory() as room:
+        program = pathlib.Path(room) / "form"
+        print_loops(program)
+        print_senders(program)
 
 
 if __name__ == "__main__":

@@ -1,126 +1,114 @@
--- The opening turn of the code is the machine's.
+-- What the code runs in a turn is what the machine runs.
 use Rattle.std.proofs.Common.{◌≡◌, ℕ, true, List, [], ◌++◌, Ok, Err, refl, sym, subst, ◌∙◌, append-nil}
 use Rattle.std.specs.Prelude.{IfOk, OnOk, Result}
 use Rattle.ev_base.specs.declared.memory.Memory.{Memory}
 use Rattle.ev_base.specs.declared.values.Value.{Value as Held}
-use Rattle.ev_base.specs.declared.values.Value.TheVariants as held
 use Rattle.ev_heap.specs.Contents.{Contents}
 use Rattle.def_kernel.specs.declared.node.Node.{Node}
+use Rattle.def_machine.specs.Calls as calls
+use Rattle.def_machine.specs.Eval as theirs
 use Rattle.def_machine.specs.Values.{Words, Value, Local}
-use Rattle.def_machine.specs.State.{Fixed, Slot, Binding as Bond, Scope as Surroundings, SlotMade, Vat, Done, Throws, Ejects, Stops, opened_state, Fuel, Deep, Astray}
+use Rattle.def_machine.specs.State.{Vat, Throws, Ejects, Stops, opened_state, Fuel, Deep, Repeated, Astray}
 use Rattle.def_machine.specs.State as machine
 use Rattle.ev_room.specs.declared.exit.Exit.{Exit}
 use Rattle.ev_room.specs.declared.exit.Exit.TheVariants as exit
 use Rattle.ev_pass.specs.declared.interior.Interior.{Interior as Room}
 use Rattle.ev_eval.specs.declared.turn.Ended.{Ended}
+use Rattle.ev_eval.specs.declared.turn.Ended.TheVariants as ended
 use Rattle.ev_steps.specs.Built.{is_built}
-use Rattle.ev_room.specs.Reading.{World, names, text_of, value_of}
-use Rattle.ev_room.specs.Sound.{Grown, Stays, IsSound, problems}
-use Rattle.ev_steps.specs.Steps.{opening}
+use Rattle.ev_room.specs.Reading.{World, names, text_of, texts_of, value_of, values_of}
+use Rattle.ev_room.specs.Sound.{Grown, Stays, IsSound, problems, is_there, are_there}
+use Rattle.ev_steps.specs.Steps.{alone, evaluator, turn_value}
 use Rattle.ev_room.specs.Acts.{Out, Gives, ◌>>=◌}
-use Rattle.ev_eval.specs.Turn.{Ends, EndsAs, GivesThere, evaluated, opened}
-use Rattle.ev_room.proofs.Stands.{Met, vat, a_value, bonds_onto, then_met, give_met, activation_met}
-use Rattle.ev_room.proofs.Weights.{IsFront}
-use Rattle.ev_steps.proofs.Meets.{evaluator_met}
+use Rattle.ev_eval.specs.Turn.{Ends, EndsAs, GivesThere, LeftBy, evaluated, turn_of}
+use Rattle.law_acts.proofs.Stands.{Met, vat, a_value, bonds_onto, then_met, give_met}
+use Rattle.law_acts.proofs.Weights.{IsBefore}
+use Rattle.law_evaluation.proofs.Meets.{evaluator_met}
+use Rattle.law_evaluation.proofs.Turns.{turn_value_met}
 
--- ---- the opening turn
+-- ---- what is run
 
-opening_met : (w : World) (tree : List Node) (d : ℕ) (s : Room) → IsSound s.heap → is_built tree ≡ true → Met w a_value s (opening tree d s) (evaluated (names w) tree d (vat w s))
-unfolding opening evaluated bonds_onto ◌>>=◌ machine.◌>>=◌
-opening_met w tree d s sound built =
-    then_met _ _ (activation_met w held.Null s sound)
-    (λ a t q j g. then_met _ _ ((evaluator_met w tree d built).expression 0 (record { act = a; nouns = [] }) t q refl) (λ x u r l e. give_met w a_value x.0 u r l.0))
+module _ (tree : List Node) (d act : ℕ) (s : Room) (built : is_built tree ≡ true) (sound : IsSound s) where
+  -- an outcome of the code is one of the machine
+  abbrev IsRun : Out Held → (World → machine.Act Local (Value Local)) → Type 0
+  IsRun o m = (w : World) → Met w a_value s o (m w (vat w s))
 
--- what a run of the code is
-run_met : (w : World) (tree : List Node) (d : ℕ) (r : Result Held Exit) (s t : Room) → IsSound s.heap → is_built tree ≡ true → opening tree d s ≡ (r, t)
-    → Met w a_value s (r, t) (evaluated (names w) tree d (vat w s))
-run_met w tree d r s t sound b g = subst (λ (o : Out Held). Met w a_value s o (evaluated (names w) tree d (vat w s))) g (opening_met w tree d s sound b)
+  pub program_met : IsRun (alone (evaluator tree d) 0 (record { act = act; nouns = [] }) s) (λ w. evaluated (names w) tree d act)
+  unfolding alone evaluated bonds_onto ◌>>=◌ machine.◌>>=◌
+  program_met = λ w. then_met _ _ ((evaluator_met w tree d built).expression 0 (record { act = act; nouns = [] }) s sound refl) (λ x u r l e. give_met w a_value x.0 u r l.0)
 
--- the texts of the end are those of the world
-all_front : (w : World) (h : Contents) → h.texts ≡ problems ++ w.texts → IsFront w h
-all_front w h e = ([], sym (append-nil h.texts ∙ e))
+  pub message_met : (x : Held) (verb : Words) (args : List Held) → is_there s.heap x ≡ true → are_there s.heap args ≡ true
+      → IsRun (turn_value tree (evaluator tree d) act x verb args s) (λ w. calls.turn_value (names w) tree (theirs.evaluator (names w) tree d) act (value_of w x) verb (values_of w args))
+  message_met x verb args i k = λ w. turn_value_met w tree (evaluator tree d) (theirs.evaluator (names w) tree d) (evaluator_met w tree d built) act verb args built x s sound i k
 
-opened_gives : (w : World) (tree : List Node) (d : ℕ) (v u : Vat Local) (x : Value Local) → evaluated (names w) tree d v ≡ machine.Gives x u → opened (names w) tree d v ≡ machine.Gives x u
-unfolding opened opened_state
-opened_gives w tree d v u x e = rw e refl
+-- ---- how it ends
 
-opened_throws : (w : World) (tree : List Node) (d : ℕ) (v u : Vat Local) (p : Words) → evaluated (names w) tree d v ≡ Throws p u → opened (names w) tree d v ≡ Throws p u
-unfolding opened opened_state
-opened_throws w tree d v u p e = rw e refl
+module _ (m : machine.Act Local (Value Local)) (v u : Vat Local) where
+  gives : (x : Value Local) → m v ≡ machine.Gives x u → turn_of m v ≡ machine.Gives x u
+  unfolding turn_of opened_state
+  gives x e = rw e refl
 
-opened_ejects : (w : World) (tree : List Node) (d : ℕ) (v u : Vat Local) (n : ℕ) (x : Value Local) → evaluated (names w) tree d v ≡ Ejects n x u → opened (names w) tree d v ≡ Stops Astray u
-unfolding opened opened_state
-opened_ejects w tree d v u n x e = rw e refl
+  throws : (p : Words) → m v ≡ Throws p u → turn_of m v ≡ Throws p u
+  unfolding turn_of opened_state
+  throws p e = rw e refl
 
-opened_stops : (w : World) (tree : List Node) (d : ℕ) (v u : Vat Local) (c : machine.Stop) → evaluated (names w) tree d v ≡ Stops c u → opened (names w) tree d v ≡ Stops c u
-unfolding opened opened_state
-opened_stops w tree d v u c e = rw e refl
+  ejects : (n : ℕ) (x : Value Local) → m v ≡ Ejects n x u → turn_of m v ≡ Stops Astray u
+  unfolding turn_of opened_state
+  ejects n x e = rw e refl
 
-pub turn_is : (w : World) (tree : List Node) (d : ℕ) (r : Result Held Exit) (s t : Room) → IsSound s.heap → (q : Result Ended Memory)
-    → is_built tree ≡ true → t.heap.texts ≡ problems ++ w.texts → Gives r t (opening tree d s) → EndsAs r q → Ends w q t (opened (names w) tree d (vat w s))
-turn_is w tree d (Ok v) s t sound q b f g e = rw e (opened_gives w tree d (vat w s) (vat w t) (value_of w v) ((run_met w tree d (Ok v) s t sound b g).is (all_front w t.heap f)))
-turn_is w tree d (Err (exit.Thrown id)) s t sound q b f g e = rw e (opened_throws w tree d (vat w s) (vat w t) (text_of w id) ((run_met w tree d (Err (exit.Thrown id)) s t sound b g).is (all_front w t.heap f)))
-turn_is w tree d (Err (exit.Ejected n v)) s t sound q b f g e = rw e (opened_ejects w tree d (vat w s) (vat w t) n (value_of w v) ((run_met w tree d (Err (exit.Ejected n v)) s t sound b g).is (all_front w t.heap f)))
-turn_is w tree d (Err exit.Fuel) s t sound q b f g e = rw e (opened_stops w tree d (vat w s) (vat w t) Fuel ((run_met w tree d (Err exit.Fuel) s t sound b g).is (all_front w t.heap f)))
-turn_is w tree d (Err exit.Deep) s t sound q b f g e = rw e (opened_stops w tree d (vat w s) (vat w t) Deep ((run_met w tree d (Err exit.Deep) s t sound b g).is (all_front w t.heap f)))
-turn_is w tree d (Err exit.Astray) s t sound q b f g e = rw e (opened_stops w tree d (vat w s) (vat w t) Astray ((run_met w tree d (Err exit.Astray) s t sound b g).is (all_front w t.heap f)))
-turn_is w tree d (Err exit.Unbuilt) s t sound q b f g e = absurd ((run_met w tree d (Err exit.Unbuilt) s t sound b g).keeps)
-turn_is w tree d (Err exit.Memory) s t sound (Ok x) b f g e = absurd (cc)
-turn_is w tree d (Err exit.Memory) s t sound (Err m) b f g e = tt
+  stops : (c : machine.Stop) → m v ≡ Stops c u → turn_of m v ≡ Stops c u
+  unfolding turn_of opened_state
+  stops c e = rw e refl
+
+-- the texts are a front of those of the world, and the key is the world's
+at_end : (w : World) (s t : Room) → Stays s t → (rest : List Words) → texts_of w ≡ t.heap.texts ++ rest → s.words.key ≡ w.key → IsBefore w t
+at_end w s t stays rest texts key = ((rest, texts), stays ∙ key)
 
 -- some world
 unfoldable any_world : World
-any_world = record { before = record { number = 0; fuel = 0; drawn = []; things = []; slots = []; lists = []; activations = 0; messages = 0; promises = 0; queue = []; known = []; mails = []; gifts = []; noticed = []; outbox = []; happened = [] }; texts = []; word = λ n. n }
+any_world = record {
+  before = record { number = 0; fuel = 0; drawn = []; things = []; slots = []; lists = []; activations = 0; messages = 0; promises = 0; queue = []; known = []; mails = []; gifts = []; noticed = []; outbox = []; happened = [] };
+  texts = [];
+  key = [];
+}
 
-run_any : (tree : List Node) (d : ℕ) (r : Result Held Exit) (s t : Room) → IsSound s.heap → is_built tree ≡ true → opening tree d s ≡ (r, t)
-    → Met any_world a_value s (r, t) (evaluated (names any_world) tree d (vat any_world s))
-unfolding any_world
-run_any tree d r s t sound b g = run_met any_world tree d r s t sound b g
+-- what the clauses of a turn say, by how it ended
+pub record Ran (s t : Room) (m : World → machine.Act Local (Value Local)) (q : Result Ended Memory) : Type 0 where
+  pub turn : (w : World) (rest : List Words) → texts_of w ≡ t.heap.texts ++ rest → s.words.key ≡ w.key → Ends w q t (turn_of (m w) (vat w s))
+  pub grown : OnOk q (Grown s.heap t.heap)
+  pub stays : OnOk q (Stays s t)
+  pub left : IfOk q (λ x. LeftBy x t)
+  pub there : IfOk q (λ x. GivesThere t.heap x)
 
-pub turn_keeps : (tree : List Node) (d : ℕ) (r : Result Held Exit) (s t : Room) → IsSound s.heap → (q : Result Ended Memory)
-    → is_built tree ≡ true → Gives r t (opening tree d s) → EndsAs r q → OnOk q (IsSound t.heap)
-turn_keeps tree d (Ok v) s t sound q b g e = rw e ((run_any tree d (Ok v) s t sound b g).keeps.0)
-turn_keeps tree d (Err (exit.Thrown id)) s t sound q b g e = rw e ((run_any tree d (Err (exit.Thrown id)) s t sound b g).keeps.0)
-turn_keeps tree d (Err (exit.Ejected n v)) s t sound q b g e = rw e ((run_any tree d (Err (exit.Ejected n v)) s t sound b g).keeps.0)
-turn_keeps tree d (Err exit.Fuel) s t sound q b g e = rw e ((run_any tree d (Err exit.Fuel) s t sound b g).keeps)
-turn_keeps tree d (Err exit.Deep) s t sound q b g e = rw e ((run_any tree d (Err exit.Deep) s t sound b g).keeps)
-turn_keeps tree d (Err exit.Astray) s t sound q b g e = rw e ((run_any tree d (Err exit.Astray) s t sound b g).keeps)
-turn_keeps tree d (Err exit.Unbuilt) s t sound q b g e = absurd ((run_any tree d (Err exit.Unbuilt) s t sound b g).keeps)
-turn_keeps tree d (Err exit.Memory) s t sound (Ok x) b g e = absurd (cc)
-turn_keeps tree d (Err exit.Memory) s t sound (Err m) b g e = tt
+module _ (s t : Room) (o : Out Held) (m : World → machine.Act Local (Value Local)) (run : (w : World) → Met w a_value s o (m w (vat w s))) where
+  met : (w : World) (r : Result Held Exit) → o ≡ (r, t) → Met w a_value s (r, t) (m w (vat w s))
+  met w r e = subst (λ (p : Out Held). Met w a_value s p (m w (vat w s))) e (run w)
 
-pub turn_grows : (tree : List Node) (d : ℕ) (r : Result Held Exit) (s t : Room) → IsSound s.heap → (q : Result Ended Memory)
-    → is_built tree ≡ true → Gives r t (opening tree d s) → EndsAs r q → OnOk q (Grown s.heap t.heap)
-turn_grows tree d (Ok v) s t sound q b g e = rw e ((run_any tree d (Ok v) s t sound b g).grown)
-turn_grows tree d (Err (exit.Thrown id)) s t sound q b g e = rw e ((run_any tree d (Err (exit.Thrown id)) s t sound b g).grown)
-turn_grows tree d (Err (exit.Ejected n v)) s t sound q b g e = rw e ((run_any tree d (Err (exit.Ejected n v)) s t sound b g).grown)
-turn_grows tree d (Err exit.Fuel) s t sound q b g e = rw e ((run_any tree d (Err exit.Fuel) s t sound b g).grown)
-turn_grows tree d (Err exit.Deep) s t sound q b g e = rw e ((run_any tree d (Err exit.Deep) s t sound b g).grown)
-turn_grows tree d (Err exit.Astray) s t sound q b g e = rw e ((run_any tree d (Err exit.Astray) s t sound b g).grown)
-turn_grows tree d (Err exit.Unbuilt) s t sound q b g e = absurd ((run_any tree d (Err exit.Unbuilt) s t sound b g).keeps)
-turn_grows tree d (Err exit.Memory) s t sound (Ok x) b g e = absurd (cc)
-turn_grows tree d (Err exit.Memory) s t sound (Err m) b g e = tt
+  ran_as : (x : Ended) (r : Result Held Exit) → o ≡ (r, t) → ((w : World) → IsBefore w t → Ends w (Ok x) t (turn_of (m w) (vat w s))) → LeftBy x t → GivesThere t.heap x → Ran s t m (Ok x)
+  ran_as x r e f left there = record {
+    turn = λ w rest texts key. f w (at_end w s t ((met w r e).stays) rest texts key);
+    grown = (met any_world r e).grown;
+    stays = (met any_world r e).stays;
+    left = left;
+    there = there;
+  }
 
-pub turn_stays : (tree : List Node) (d : ℕ) (r : Result Held Exit) (s t : Room) → IsSound s.heap → (q : Result Ended Memory)
-    → is_built tree ≡ true → Gives r t (opening tree d s) → EndsAs r q → OnOk q (Stays s t)
-turn_stays tree d (Ok v) s t sound q b g e = rw e ((run_any tree d (Ok v) s t sound b g).stays)
-turn_stays tree d (Err (exit.Thrown id)) s t sound q b g e = rw e ((run_any tree d (Err (exit.Thrown id)) s t sound b g).stays)
-turn_stays tree d (Err (exit.Ejected n v)) s t sound q b g e = rw e ((run_any tree d (Err (exit.Ejected n v)) s t sound b g).stays)
-turn_stays tree d (Err exit.Fuel) s t sound q b g e = rw e ((run_any tree d (Err exit.Fuel) s t sound b g).stays)
-turn_stays tree d (Err exit.Deep) s t sound q b g e = rw e ((run_any tree d (Err exit.Deep) s t sound b g).stays)
-turn_stays tree d (Err exit.Astray) s t sound q b g e = rw e ((run_any tree d (Err exit.Astray) s t sound b g).stays)
-turn_stays tree d (Err exit.Unbuilt) s t sound q b g e = absurd ((run_any tree d (Err exit.Unbuilt) s t sound b g).keeps)
-turn_stays tree d (Err exit.Memory) s t sound (Ok x) b g e = absurd (cc)
-turn_stays tree d (Err exit.Memory) s t sound (Err m) b g e = tt
+  ran_stopped : (x : Ended) (c : machine.Stop) (e : Exit) → o ≡ (Err e, t) → ((w : World) → IsBefore w t → m w (vat w s) ≡ Stops c (vat w t)) → ((w : World) → turn_of (m w) (vat w s) ≡ Stops c (vat w t) → Ends w (Ok x) t (turn_of (m w) (vat w s)))
+      → LeftBy x t → GivesThere t.heap x → Ran s t m (Ok x)
+  ran_stopped x c e g f h left there = ran_as x (Err e) g (λ w b. h w (stops (m w) (vat w s) (vat w t) c (f w b))) left there
 
-pub turn_there : (tree : List Node) (d : ℕ) (r : Result Held Exit) (s t : Room) → IsSound s.heap → (q : Result Ended Memory)
-    → is_built tree ≡ true → Gives r t (opening tree d s) → EndsAs r q → IfOk q (λ e. GivesThere t.heap e)
-turn_there tree d (Ok v) s t sound q b g e = rw e ((run_any tree d (Ok v) s t sound b g).keeps.1)
-turn_there tree d (Err (exit.Thrown id)) s t sound q b g e = rw e tt
-turn_there tree d (Err (exit.Ejected n v)) s t sound q b g e = rw e tt
-turn_there tree d (Err exit.Fuel) s t sound q b g e = rw e tt
-turn_there tree d (Err exit.Deep) s t sound q b g e = rw e tt
-turn_there tree d (Err exit.Astray) s t sound q b g e = rw e tt
-turn_there tree d (Err exit.Unbuilt) s t sound q b g e = absurd ((run_any tree d (Err exit.Unbuilt) s t sound b g).keeps)
-turn_there tree d (Err exit.Memory) s t sound (Ok x) b g e = absurd (cc)
-turn_there tree d (Err exit.Memory) s t sound (Err m) b g e = tt
+  pub ran : (r : Result Held Exit) (q : Result Ended Memory) → Gives r t o → EndsAs r q → Ran s t m q
+  ran (Ok v) q g e =
+      rw e (ran_as (ended.Value v) (Ok v) g (λ w b. gives (m w) (vat w s) (vat w t) (value_of w v) ((met w (Ok v) g).is b)) ((met any_world (Ok v) g).keeps.0) ((met any_world (Ok v) g).keeps.1))
+  ran (Err (exit.Thrown id)) q g e =
+      rw e (ran_as (ended.Thrown id) (Err (exit.Thrown id)) g (λ w b. throws (m w) (vat w s) (vat w t) (text_of w id) ((met w (Err (exit.Thrown id)) g).is b))
+      ((met any_world (Err (exit.Thrown id)) g).keeps.0) ((met any_world (Err (exit.Thrown id)) g).keeps.1))
+  ran (Err (exit.Ejected n v)) q g e =
+      rw e (ran_as ended.Astray (Err (exit.Ejected n v)) g (λ w b. ejects (m w) (vat w s) (vat w t) n (value_of w v) ((met w (Err (exit.Ejected n v)) g).is b)) tt tt)
+  ran (Err exit.Fuel) q g e = rw e (ran_stopped ended.Fuel Fuel exit.Fuel g (λ w b. (met w (Err exit.Fuel) g).is b) (λ w x. x) tt tt)
+  ran (Err exit.Deep) q g e = rw e (ran_stopped ended.Deep Deep exit.Deep g (λ w b. (met w (Err exit.Deep) g).is b) (λ w x. x) tt tt)
+  ran (Err (exit.Repeated i j)) q g e = rw e (ran_stopped (ended.Repeated i j) (Repeated i j) (exit.Repeated i j) g (λ w b. (met w (Err (exit.Repeated i j)) g).is b) (λ w x. x) tt tt)
+  ran (Err exit.Astray) q g e = rw e (ran_stopped ended.Astray Astray exit.Astray g (λ w b. (met w (Err exit.Astray) g).is b) (λ w x. x) tt tt)
+  ran (Err exit.Unbuilt) q g e = absurd ((met any_world (Err exit.Unbuilt) g).keeps)
+  ran (Err exit.Memory) (Ok x) g e = absurd (cc)
+  ran (Err exit.Memory) (Err x) g e = record { turn = λ w rest texts key. tt; grown = tt; stays = tt; left = tt; there = tt }

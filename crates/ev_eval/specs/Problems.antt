@@ -1,4 +1,4 @@
--- The first texts of a heap: the problems that evaluation throws, in four parts, and those of references.
+-- The first texts of a heap: the problems that evaluation throws, in four parts, those of references, and those of what evaluation does with them.
 use Rattle.std.specs.Prelude.{ℕ, List, [], ◌∷◌, codes}
 use Rattle.ev_heap.specs.Contents.{Contents, nothing}
 
@@ -16,6 +16,9 @@ or_null_problems = codes "not nullOk:any" ∷ codes "not nullOk:void" ∷ codes 
 
 abbrev pub reference_problems : List (List ℕ)
 reference_problems = codes "partition" ∷ codes "cycle" ∷ []
+
+abbrev pub eventual_problems : List (List ℕ)
+eventual_problems = codes "not settled" ∷ codes "bad message" ∷ codes "not resolved" ∷ codes "already resolved" ∷ []
 
 -- a heap with these texts alone
 abbrev pub with_texts : List (List ℕ) → Contents

@@ -5,4 +5,4 @@ pub mod built;
 pub mod turn;
 
 pub use built::is_built;
-pub use turn::{Ended, Start, new_heap, new_interior, run_turn};
+pub use turn::{Ended, new_heap, new_interior, run_message, run_program};

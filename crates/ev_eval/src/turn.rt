@@ -1,35 +1,31 @@
 //! Turns.
 
-ghost use Rattle.std.specs.Prelude.{◌≡◌, ◌++◌, ◌∷◌, [], true, IfOk, OnOk};
+ghost use Rattle.std.specs.Prelude.{◌≡◌, ◌++◌, ◌∷◌, ℕ, List, [], true, IfOk, OnOk};
+ghost use Rattle.def_machine.specs.Calls.{turn_value};
+ghost use Rattle.def_machine.specs.Eval as theirs;
 ghost use Rattle.ev_heap.specs.Contents.{nothing};
 ghost use Rattle.ev_refs.specs.References.{no_references};
 ghost use Rattle.ev_steps.specs.Built.{is_built};
-ghost use Rattle.ev_room.specs.Reading.{World, names, vat_of};
-ghost use Rattle.ev_room.specs.Sound.{Grown, IsSound, Stays, cycle_id, partition_id, problems, too_heavy_id};
-ghost use Rattle.ev_steps.specs.Steps.{opening};
+ghost use Rattle.ev_room.specs.Reading.{World, names, texts_of, value_of, values_of, vat_of};
+ghost use Rattle.ev_room.specs.Sound.{Grown, IsSound, Stays, are_there, cycle_id, is_there, partition_id, problems, too_heavy_id};
+ghost use Rattle.ev_steps.specs.Steps.{alone, evaluator};
 ghost use Rattle.ev_room.specs.Acts.{Gives};
-ghost use Rattle.ev_eval.specs.Problems.{guard_problems, native_problems, or_null_problems, own_problems, reference_problems, with_texts};
-ghost use Rattle.ev_eval.specs.Turn.{Ends, EndsAs, EndsBy, GivesThere, opened};
+ghost use Rattle.ev_eval.specs.Problems.{eventual_problems, guard_problems, native_problems, or_null_problems, own_problems, reference_problems, with_texts};
+ghost use Rattle.ev_eval.specs.Turn as machine;
+ghost use Rattle.ev_eval.specs.Turn.{Ends, EndsAs, EndsBy, GivesThere, LeftBy, turn_of};
 
 use def_kernel::Kernel;
-use ev_base::{Limits, Memory, NodeId, Seq, TextId, Value, VatId};
-use ev_frames::evaluate;
+use ev_base::{ActId, Memory, NodeId, Seq, TextId, Value, VatId};
+use ev_frames::{evaluate, take_message};
 use ev_heap::Heap;
 use ev_intro::Words;
 use ev_pass::{Interior, Post};
 use ev_refs::Refs;
 use ev_room::exit::Exit;
-use ev_room::room::new_activation;
 use ev_room::scope::Scope;
 use ev_told::Micro;
+use ev_word::Word;
 use std::alloc::Global;
-
-/// What a turn begins with.
-#[derive(Clone, Copy, Debug, PartialEq, Eq)]
-pub enum Start {
-    /// The opening turn: the program is evaluated.
-    Program,
-}
 
 /// How a turn ended.
 #[derive(Clone, Copy, Debug, PartialEq, Eq)]
@@ -42,8 +38,10 @@ pub enum Ended {
     Fuel,
     /// A node would have begun below the greatest depth.
     Deep,
+    /// The second of these draws gives the word of the first.
+    Repeated(u64, u64),
     /// The program has a noun that nothing binds, or a number that names no node of its kind, or was left by an ejector
-    /// whose escape it had left.
+    /// whose escape it had left; or the target of the message is no value of this vat.
     Astray,
 }
 
@@ -130,20 +128,33 @@ fn add_reference_problems(heap: &mut Heap) -> Result<(), Memory>
     Ok(())
 }
 
+/// What evaluation throws where it asks references.
+fn add_eventual_problems(heap: &mut Heap) -> Result<(), Memory>
+    requires { heap.old ≡ with_texts ((((native_problems ++ own_problems) ++ guard_problems) ++ or_null_problems) ++ reference_problems) }
+    ensures { OnOk result (heap.new ≡ with_texts (((((native_problems ++ own_problems) ++ guard_problems) ++ or_null_problems) ++ reference_problems) ++ eventual_problems)) }
+{
+    heap.make_text("not settled")?;
+    heap.make_text("bad message")?;
+    heap.make_text("not resolved")?;
+    heap.make_text("already resolved")?;
+    Ok(())
+}
+
 /// A heap that holds the texts of the problems that evaluation throws and those of references, and nothing else.
 pub fn new_heap(alloc: Global) -> Result<Heap, Memory>
     ensures texts { IfOk result (λ heap. heap ≡ record nothing { texts = problems }) }
-    ensures sound { IfOk result IsSound }
 {
     let mut heap = native_heap(alloc)?;
     add_own_problems(&mut heap)?;
     add_guard_problems(&mut heap)?;
     add_or_null_problems(&mut heap)?;
     add_reference_problems(&mut heap)?;
+    add_eventual_problems(&mut heap)?;
     Ok(heap)
 }
 
 /// The inside of a vat of that number which has done nothing and knows nothing, with so much fuel and the words under that key.
+#[tactic(auto, using(crate::proofs::Fresh::is_sound))]
 pub fn new_interior(
     alloc: Global,
     number: VatId,
@@ -151,7 +162,7 @@ pub fn new_interior(
     fuel: u32,
 ) -> Result<Interior, Memory>
     ensures heap { IfOk result (λ inside. inside.heap ≡ record nothing { texts = problems }) }
-    ensures sound { IfOk result (λ inside. IsSound inside.heap) }
+    ensures sound { IfOk result IsSound }
     ensures refs { IfOk result (λ inside. inside.refs ≡ no_references number partition_id cycle_id) }
     ensures micro { IfOk result (λ inside. inside.micro ≡ record { fuel = fuel; events = [] }) }
     ensures words { IfOk result (λ inside. inside.words ≡ record { key = key.now; count = 0 }) }
@@ -177,6 +188,7 @@ fn without_value(exit: Exit) -> Result<Ended, Memory>
         Exit::Thrown(id) => Ok(Ended::Thrown(id)),
         Exit::Fuel => Ok(Ended::Fuel),
         Exit::Deep => Ok(Ended::Deep),
+        Exit::Repeated(first, second) => Ok(Ended::Repeated(first, second)),
         Exit::Ejected(_, _) | Exit::Astray | Exit::Unbuilt => Ok(Ended::Astray),
         Exit::Memory => Err(Memory),
     }
@@ -192,12 +204,11 @@ fn ending(outcome: Result<Value, Exit>) -> Result<Ended, Memory>
     }
 }
 
-/// The opening turn: the program is evaluated in an activation of its own.
+/// Evaluates a program in an activation, where no noun is bound.
 #[tactic(auto, using(ev_room::proofs::Exits::ends), unfolding(ev_steps::specs::Steps::opened_steps))]
-fn opening(program: &Kernel, depth: u32, inside: &mut Interior) -> Result<Value, Exit>
-    ensures outcome { Gives result inside.new (opening program.now depth inside.old) }
+fn evaluated(program: &Kernel, act: ActId, depth: u32, inside: &mut Interior) -> Result<Value, Exit>
+    ensures outcome { Gives result inside.new (alone (evaluator program.now depth) 0 (record { act = act; nouns = [] }) inside.old) }
 {
-    let act = new_activation(Value::Null, inside)?;
     let mut here = Scope {
         act,
         nouns: Seq::new(inside.alloc),
@@ -206,28 +217,53 @@ fn opening(program: &Kernel, depth: u32, inside: &mut Interior) -> Result<Value,
     Ok(value)
 }
 
-/// Runs the opening turn of a vat whose heap began with the texts of the problems (`new_heap`), and in which only turns of
-/// this program have made var slots, objects and lists.
-/// What happens is added to what happened in the step at hand, and each node that begins spends a unit of fuel. No node begins
-/// below `limits.depth` levels.
+/// Runs what an opening turn runs, in an activation that has begun: the program is evaluated. The inside began with the texts of the
+/// problems (`new_interior`), and only turns of this program have made what it holds. The turn's own lines are the caller's to tell.
 ///
-/// After want of memory, the inside holds what was done up to there.
-pub fn run_turn(
+/// What happens is added to what happened in the step at hand, and each node that begins spends a unit of fuel. No node begins below
+/// so many levels. After a stop and after want of memory, the inside holds what was done up to there. Texts stand for those of a heap
+/// that goes on growing, so that a value stands for one thing over all turns.
+pub fn run_program(
     program: &Kernel,
-    start: Start,
-    limits: Limits,
+    act: ActId,
+    depth: u32,
     inside: &mut Interior,
 ) -> Result<Ended, Memory>
     requires built { is_built program.now ≡ true }
-    requires sound { IsSound inside.old.heap }
-    ensures turn { (w : World) → inside.new.heap.texts ≡ problems ++ w.texts → Ends w result inside.new (opened (names w) program.now limits.depth (vat_of w inside.old)) }
+    requires sound { IsSound inside.old }
+    ensures turn { (w : World) (rest : List (List ℕ)) → texts_of w ≡ inside.new.heap.texts ++ rest → inside.old.words.key ≡ w.key
+        → Ends w result inside.new (turn_of (machine.evaluated (names w) program.now depth act) (vat_of w inside.old)) }
     ensures grown { OnOk result (Grown inside.old.heap inside.new.heap) }
     ensures stays { OnOk result (Stays inside.old inside.new) }
-    ensures sound { OnOk result (IsSound inside.new.heap) }
+    ensures left { IfOk result (λ ended. LeftBy ended inside.new) }
     ensures there { IfOk result (λ ended. GivesThere inside.new.heap ended) }
 {
-    let outcome = match start {
-        Start::Program => opening(program, limits.depth, inside),
-    };
+    let outcome = evaluated(program, act, depth, inside);
+    ending(outcome)
+}
+
+/// Runs what a turn runs that takes a message, in an activation that has begun: the target is what the message's was followed to, and
+/// it and the arguments stand in the heap. The rest is as of `run_program`.
+pub fn run_message(
+    program: &Kernel,
+    act: ActId,
+    target: Value,
+    verb: &Word,
+    args: &[Value],
+    depth: u32,
+    inside: &mut Interior,
+) -> Result<Ended, Memory>
+    requires built { is_built program.now ≡ true }
+    requires sound { IsSound inside.old }
+    requires target { is_there inside.old.heap target ≡ true }
+    requires args { are_there inside.old.heap args.now ≡ true }
+    ensures turn { (w : World) (rest : List (List ℕ)) → texts_of w ≡ inside.new.heap.texts ++ rest → inside.old.words.key ≡ w.key
+        → Ends w result inside.new (turn_of (turn_value (names w) program.now (theirs.evaluator (names w) program.now depth) act (value_of w target) verb.now (values_of w args.now)) (vat_of w inside.old)) }
+    ensures grown { OnOk result (Grown inside.old.heap inside.new.heap) }
+    ensures stays { OnOk result (Stays inside.old inside.new) }
+    ensures left { IfOk result (λ ended. LeftBy ended inside.new) }
+    ensures there { IfOk result (λ ended. GivesThere inside.new.heap ended) }
+{
+    let outcome = take_message(program, depth, act, target, verb, args, inside);
     ending(outcome)
 }

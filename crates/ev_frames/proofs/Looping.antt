@@ -1,15 +1,15 @@
 -- Frames go on, and what stops ends all of them.
-use Rattle.std.proofs.Common.{◌≡◌, ℕ, ◌≤◌, List, [], ◌∷◌, Ok, Err, length, refl, ap, ◌∙◌}
+use Rattle.std.proofs.Common.{◌≡◌, ℕ, ◌≤◌, List, [], ◌∷◌, Ok, Err, length, refl, sym, ap, subst, ◌∙◌}
 use Rattle.std.specs.Prelude.{Result}
 use Rattle.ev_base.specs.declared.values.Value.{Value}
 use Rattle.def_kernel.specs.declared.node.Node.{Node}
 use Rattle.ev_room.specs.declared.exit.Exit.{Exit}
-use Rattle.ev_room.specs.declared.exit.Exit.TheVariants.{Thrown, Ejected, Fuel, Deep, Astray, Unbuilt, Memory}
+use Rattle.ev_room.specs.declared.exit.Exit.TheVariants.{Thrown, Ejected, Fuel, Deep, Repeated, Astray, Unbuilt, Memory}
 use Rattle.ev_room.specs.declared.exit.Came.{Came}
 use Rattle.ev_room.specs.declared.exit.Came.TheVariants.{Gave, Threw, Left}
 use Rattle.ev_pass.specs.declared.interior.Interior.{Interior as Room}
 use Rattle.ev_room.specs.declared.scope.Scope.{Scope}
-use Rattle.ev_room.specs.Acts.{Act, Out, Unless, and_then, give, cut, closed_by, ended_by}
+use Rattle.ev_room.specs.Acts.{Act, Out, Gives, GivesIn, Unless, and_then, give, cut, closed_by, ended_by}
 use Rattle.ev_steps.specs.Steps.{evaluator, escaped, tried, at_last, match_ended, matched}
 use Rattle.ev_frames.specs.declared.frames.Frame.{Frame}
 use Rattle.ev_frames.specs.declared.frames.Frame.TheVariants.{Part as PartOf, Guard as GuardOf, Match, Case as CaseOf, Body}
@@ -21,6 +21,7 @@ use Rattle.ev_frames.specs.Rest.{Goes, Stays, Nested, StepsTo, NestedOn, rest, g
 use Rattle.ev_frames.proofs.Rests.{goes_as, unless_as}
 use Rattle.ev_frames.proofs.Ending.{part_again, unmarked}
 use Rattle.ev_frames.proofs.Calling.{settled_gave, settled_ended}
+use Rattle.ev_frames.proofs.Native.{valued_settled}
 
 pub part_mark : (d m : ℕ) (p : Part) (fs : List Frame) (here : Scope) → Nested (PartOf d m p ∷ fs) here → m ≤ length here.nouns
 unfolding Nested
@@ -116,6 +117,7 @@ steps tree (Err (Thrown id)) r fs here s due e g = rw e g
 steps tree (Err (Ejected n v)) r fs here s due e g = rw e g
 steps tree (Err Fuel) r fs here s due e g = rw e (g ∙ stops_rest Fuel (λ f g k t. refl) (λ f g k t. refl) tree fs here s)
 steps tree (Err Deep) r fs here s due e g = rw e (g ∙ stops_rest Deep (λ f g k t. refl) (λ f g k t. refl) tree fs here s)
+steps tree (Err (Repeated i j)) r fs here s due e g = rw e (g ∙ stops_rest (Repeated i j) (λ f g k t. refl) (λ f g k t. refl) tree fs here s)
 steps tree (Err Astray) r fs here s due e g = rw e (g ∙ stops_rest Astray (λ f g k t. refl) (λ f g k t. refl) tree fs here s)
 steps tree (Err Unbuilt) r fs here s due e g = rw e (g ∙ stops_rest Unbuilt (λ f g k t. refl) (λ f g k t. refl) tree fs here s)
 steps tree (Err Memory) r fs here s due e g = rw e tt
@@ -127,6 +129,7 @@ nests (Err (Thrown id)) r fs here e g = rw e g
 nests (Err (Ejected n v)) r fs here e g = rw e g
 nests (Err Fuel) r fs here e g = rw e tt
 nests (Err Deep) r fs here e g = rw e tt
+nests (Err (Repeated i j)) r fs here e g = rw e tt
 nests (Err Astray) r fs here e g = rw e tt
 nests (Err Unbuilt) r fs here e g = rw e tt
 nests (Err Memory) r fs here e g = rw e tt
@@ -141,9 +144,24 @@ done tree (Left n v) r fs here s e f = rw (e, f) refl
 pub steps_as : (tree : List Node) (r : Result Now (Result Value Exit)) (fs : List Frame) (here : Scope) (s : Room) (due own : Out (Value × Scope)) → own ≡ due → StepsTo tree r fs here s due → StepsTo tree r fs here s own
 steps_as tree r fs here s due own e g = rw e g
 
-pub due_alone : (tree : List Node) (fs : List Frame) (here : Scope) (o : Out (Value × Scope)) → fs ≡ [] → rest tree fs here o ≡ o
+-- where nothing else is left to do
+pub alone_gives : (tree : List Node) (r : Result Value Exit) (fs : List Frame) (here a : Scope) (t : Room) (o : Out (Value × Scope)) → fs ≡ [] → GivesIn r a t (rest tree fs here o) → GivesIn r a t o
 unfolding rest
-due_alone tree fs here o e = rw e refl
+alone_gives tree r fs here a t o e g = rw e at g
+
+value_alone : (r : Result Value Exit) (here a : Scope) (t : Room) (o : Out Value) → GivesIn r a t (settled here o) → Gives r t o
+unfolding and_then give
+value_alone (Ok v) here a t o g = sym (valued_settled here o) ∙ ap (λ (p : Out (Value × Scope)). valued p) g
+value_alone (Err x) here a t o g = unless_as x (λ (y : settled here o ≡ (Err x, t)). sym (valued_settled here o) ∙ ap (λ (p : Out (Value × Scope)). valued p) y) g
+
+-- a turn, whose due is what is due of what comes next
+pub turn_gives : (tree : List Node) (r : Result Value Exit) (fs : List Frame) (here a : Scope) (t : Room) (o : Out Value) (due : Out (Value × Scope)) → fs ≡ [] → rest tree fs here (settled here o) ≡ due → GivesIn r a t due → Gives r t o
+turn_gives tree r fs here a t o due e is g =
+    value_alone r here a t o (alone_gives tree r fs here a t (settled here o) e (subst (λ (d : Out (Value × Scope)). GivesIn r a t d) (sym is) g))
+
+pub turn_gave : (tree : List Node) (r : Result Value Exit) (fs gs : List Frame) (here a : Scope) (t : Room) (o : Out Value) → fs ≡ [] → StepsTo tree (Err r) gs a t (rest tree fs here (settled here o)) → Gives r t o
+turn_gave tree (Ok v) fs gs here a t o e g = value_alone (Ok v) here a t o (alone_gives tree (Ok v) fs here a t (settled here o) e g)
+turn_gave tree (Err x) fs gs here a t o e g = value_alone (Err x) here a t o (alone_gives tree (Err x) fs here a t (settled here o) e g)
 
 pub nested_alone : (fs : List Frame) (here : Scope) → fs ≡ [] → Nested fs here
 unfolding Nested

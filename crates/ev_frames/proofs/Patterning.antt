@@ -7,14 +7,14 @@ use Rattle.ev_base.specs.declared.values.Value.TheVariants as held
 use Rattle.def_kernel.specs.declared.node.Node.{Node}
 use Rattle.def_machine.specs.Values.{Words}
 use Rattle.ev_room.specs.declared.exit.Exit.{Exit}
-use Rattle.ev_room.specs.declared.exit.Exit.TheVariants.{Thrown, Ejected, Deep, Astray, Unbuilt}
+use Rattle.ev_room.specs.declared.exit.Exit.TheVariants.{Thrown, Ejected, Deep, Astray}
 use Rattle.ev_room.specs.declared.exit.Came.TheVariants.{Gave, Threw, Left}
 use Rattle.ev_pass.specs.declared.interior.Interior.{Interior as Room}
 use Rattle.ev_room.specs.declared.scope.Scope.{Scope}
 use Rattle.ev_room.specs.Acts.{Act, Out, Unless, Extends, and_then, ◌>>=◌, ◌>>◌, give, fail, cut, spend, ended_by, new_ejector, kill, leave}
 use Rattle.ev_room.specs.Sound.{not_a_list_id}
 use Rattle.ev_room.proofs.Exits.{ends}
-use Rattle.ev_steps.specs.Steps.{Evaluator, evaluator, define_by, bind_all, bind_asked, bind_list, bind_step, bind_found, bind_via, call, failed, match_ended, match_on, matched_if, not_matched}
+use Rattle.ev_steps.specs.Steps.{evaluator, define_by, bind_all, bind_asked, bind_list, bind_step, bind_found, bind_via, call, failed, handed, match_ended, match_on, matched_if, not_matched}
 use Rattle.ev_steps.proofs.Depth.{pattern_deep, pattern_goes}
 use Rattle.ev_frames.specs.declared.frames.Frame.{Frame}
 use Rattle.ev_frames.specs.declared.frames.Frame.TheVariants.{Part as PartOf, Match}
@@ -196,15 +196,15 @@ unfolding and_then give
 asked_after (Ok v, t) here f = refl
 asked_after (Err e, t) here f = refl
 
-pub asks_on : (tree : List Node) (d m : ℕ) (fs gs hs : List Frame) (here a : Scope) (s u : Room) (r : Result Now Exit) (p : ℕ) (v j f : Value) (verb : Words) → m ≤ length here.nouns → Nested fs (cut m here)
-    → gs ≡ PartOf d m (Binding p j) ∷ fs → verb ≡ codes "run"
-    → Goes tree r hs a u (rest tree gs here (settled here (call tree (evaluator tree d) here.act f verb (v ∷ j ∷ []) s)))
+pub asks_on : (tree : List Node) (d m : ℕ) (fs gs hs : List Frame) (here a : Scope) (s u : Room) (r : Result Now Exit) (p : ℕ) (v j k f : Value) (verb : Words) → m ≤ length here.nouns → Nested fs (cut m here)
+    → gs ≡ PartOf d m (Binding p j) ∷ fs → verb ≡ codes "run" → k ≡ handed s j
+    → Goes tree r hs a u (rest tree gs here (settled here (call tree (evaluator tree d) here.act f verb (v ∷ k ∷ []) s)))
     → Goes tree r hs a u (rest tree fs here (bound_as (bind_via tree (evaluator tree d) here.act p v j f here s)))
 unfolding bind_via ◌>>=◌
-asks_on tree d m fs gs hs here a s u r p v j f verb h n pushed e g =
-    goes_as tree r hs a u (rest tree gs here (settled here (call tree (evaluator tree d) here.act f verb (v ∷ j ∷ []) s))) _
-    (rw (pushed, e) (ap (λ (o : Out (Value × Scope)). rest tree fs here o) (sym (asked_in (call tree (evaluator tree d) here.act f (codes "run") (v ∷ j ∷ []) s)))
-    ∙ sym (part_again tree d m (Binding p j) fs here (settled here (call tree (evaluator tree d) here.act f (codes "run") (v ∷ j ∷ []) s)) h n))) g
+asks_on tree d m fs gs hs here a s u r p v j k f verb h n pushed e is g =
+    goes_as tree r hs a u (rest tree gs here (settled here (call tree (evaluator tree d) here.act f verb (v ∷ k ∷ []) s))) _
+    (rw (pushed, e, is) (ap (λ (o : Out (Value × Scope)). rest tree fs here o) (sym (asked_in (call tree (evaluator tree d) here.act f (codes "run") (v ∷ handed s j ∷ []) s)))
+    ∙ sym (part_again tree d m (Binding p j) fs here (settled here (call tree (evaluator tree d) here.act f (codes "run") (v ∷ handed s j ∷ []) s)) h n))) g
   where
     asked_in : (o : Out Value) → and_then (settled here o) (λ x. going tree (evaluator tree d) here.act m (Binding p j) x.0 x.1) ≡ bound_as (and_then o (λ y. (evaluator tree d).pattern p y j here))
     asked_in (Ok v, t) = unfold and_then give going in refl

@@ -5,7 +5,7 @@ use Rattle.std.proofs.lemmas.List.{take-take, length-take}
 use Rattle.ev_base.specs.declared.values.Value.{Value}
 use Rattle.def_kernel.specs.declared.node.Node.{Node}
 use Rattle.ev_room.specs.declared.exit.Exit.{Exit}
-use Rattle.ev_room.specs.declared.exit.Exit.TheVariants.{Thrown, Ejected, Fuel, Deep, Astray, Unbuilt, Memory}
+use Rattle.ev_room.specs.declared.exit.Exit.TheVariants.{Thrown, Ejected, Fuel, Deep, Repeated, Astray, Unbuilt, Memory}
 use Rattle.ev_pass.specs.declared.interior.Interior.{Interior as Room}
 use Rattle.ev_room.specs.declared.scope.Binding.{Binding}
 use Rattle.ev_room.specs.declared.scope.Scope.{Scope}
@@ -129,6 +129,7 @@ unless_so (Thrown id) h = h
 unless_so (Ejected n v) h = h
 unless_so Fuel h = h
 unless_so Deep h = h
+unless_so (Repeated i j) h = h
 unless_so Astray h = h
 unless_so Unbuilt h = h
 unless_so Memory h = tt
@@ -138,6 +139,7 @@ unless_as (Thrown id) f h = f h
 unless_as (Ejected n v) f h = f h
 unless_as Fuel f h = f h
 unless_as Deep f h = f h
+unless_as (Repeated i j) f h = f h
 unless_as Astray f h = f h
 unless_as Unbuilt f h = f h
 unless_as Memory f h = tt

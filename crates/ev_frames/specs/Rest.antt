@@ -1,5 +1,5 @@
 -- What is left to do of an evaluation: each frame goes on with what its part gave as Steps goes on there.
-use Rattle.std.specs.Prelude.{◌≡◌, ◌≤◌, ℕ, suc, Bool, true, false, List, [], ◌∷◌, ◌++◌, Option, Some, pos, codes, Result, Ok, Err, length, drop, slice_get}
+use Rattle.std.specs.Prelude.{◌≡◌, ◌≤◌, ℕ, suc, List, [], ◌∷◌, ◌++◌, Option, Some, None, pos, codes, Result, Ok, Err, length, drop, slice_get}
 use Rattle.ev_base.specs.declared.values.Value.{Value}
 use Rattle.ev_base.specs.declared.values.Value.TheVariants as held
 use Rattle.ev_heap.specs.declared.happened.Happened.TheVariants as event
@@ -8,13 +8,16 @@ use Rattle.def_kernel.specs.declared.node.Node.TheVariants.{Call, Sequence, Meth
 use Rattle.def_machine.specs.Values.{Words}
 use Rattle.def_machine.specs.Scopes.{Case}
 use Rattle.ev_room.specs.declared.exit.Exit.{Exit}
-use Rattle.ev_room.specs.declared.exit.Exit.TheVariants.{Thrown, Ejected, Fuel, Deep, Astray, Unbuilt, Memory}
+use Rattle.ev_room.specs.declared.exit.Exit.TheVariants.{Thrown, Ejected, Fuel, Deep, Repeated, Astray, Unbuilt, Memory}
 use Rattle.ev_room.specs.declared.exit.Came.{Came}
 use Rattle.ev_room.specs.declared.exit.Came.TheVariants.{Gave, Threw, Left}
 use Rattle.ev_pass.specs.declared.interior.Interior.{Interior as Room}
+use Rattle.ev_prims.specs.declared.reply.Reply.{Reply}
+use Rattle.ev_refs.specs.Follow.{followed}
+use Rattle.ev_eventual.specs.Eventual.{message_in}
 use Rattle.ev_room.specs.declared.scope.Scope.{Scope}
 use Rattle.ev_room.specs.Acts.{Act, Out, Unless, and_then, ◌>>=◌, ◌>>◌, give, fail, cut, write_slot, closed_by, new_activation, tell}
-use Rattle.ev_steps.specs.Steps.{Evaluator, evaluator, define_by, write_bound, bind_coerced, bind_under, bind_via, match_on, match_ended, matched, match_all, try_matchers, gathered, call, last_of, choose, escaped, tried, at_last, bind_all, call_at, iterate, turns, after_turn}
+use Rattle.ev_steps.specs.Steps.{Caller, Evaluator, evaluator, define_by, write_bound, bind_coerced, bind_under, bind_via, match_on, match_ended, matched, match_all, try_matchers, gathered, call, last_of, choose, escaped, tried, at_last, bind_all, again_by, iterate, turns, after_turn, replied, answered, called_with}
 use Rattle.ev_frames.specs.declared.frames.Frame.{Frame}
 use Rattle.ev_frames.specs.declared.frames.Frame.TheVariants.{Part as PartOf, Guard as GuardOf, Match, Case as CaseOf, Body}
 use Rattle.ev_frames.specs.declared.frames.Part.{Part}
@@ -22,7 +25,7 @@ use Rattle.ev_frames.specs.declared.frames.Part.TheVariants.{Assign, Writes, Gua
 use Rattle.ev_frames.specs.declared.frames.Guard.{Guard}
 use Rattle.ev_frames.specs.declared.frames.Guard.TheVariants.{Alone, Escape, Try, First, Last, Close, Members, Turns}
 use Rattle.ev_frames.specs.declared.nodes.Now.{Now}
-use Rattle.ev_frames.specs.declared.nodes.Now.TheVariants.{Begin, Bind, Member, Turn, Refuse, Ended}
+use Rattle.ev_frames.specs.declared.nodes.Now.TheVariants.{Begin, Bind, Member, Turn, Refuse, Calls, Ended}
 
 -- a value, without the scope after it
 abbrev pub valued : Out (Value × Scope) → Out Value
@@ -31,10 +34,6 @@ valued o = and_then o (λ x. give x.0)
 -- the same value in a scope
 abbrev pub settled : Scope → Out Value → Out (Value × Scope)
 settled here o = and_then o (λ v. give (v, here))
-
-unfoldable pub is_null : Value → Bool
-is_null held.Null = true
-is_null _ = false
 
 -- a scope, as what gives null in it; and the scope of what gives a value
 abbrev pub bound_as : Out Scope → Out (Value × Scope)
@@ -82,14 +81,14 @@ going tree rec act mark (Then b) v here = rec.expression b here
 going tree rec act mark (Binds ps vs j k) v here = bound_by (bind_all rec (drop k ps) (drop k vs) j here)
 going tree rec act mark (Asks p u j) v here = bound_by (bind_via tree rec act p u j v here)
 going tree rec act mark (Binding p j) v here = bound_by (rec.pattern p v j here)
-going tree rec act mark (Guarded t u j) v here = bound_by (bind_under tree rec act t u j v here)
+going tree rec act mark (Guarded t u j) v here = λ s. bound_as (bind_under tree rec act t u j (followed s.refs v) here s)
 going tree rec act mark (Coerced t g) v here = bound_by (bind_coerced act t g v here)
 going tree rec act mark (Fails id) v here = fail (Thrown id)
 going tree rec act mark (Matching p) v here = match_on tree rec act p v here
 going tree rec act mark (Receiver n) v here = call_on tree rec act v (verb_of (slice_get tree n)) [] (args_of (slice_get tree n)) here
 going tree rec act mark (Args n x vs) v here = call_on tree rec act x (verb_of (slice_get tree n)) (vs ++ v ∷ []) (drop (suc (length vs)) (args_of (slice_get tree n))) here
 going tree rec act mark (Parts n k) v here = last_of rec v (drop k (parts_of (slice_get tree n))) here
-going tree rec act mark (Test a b) v here = choose rec mark a b v here
+going tree rec act mark (Test a b) v here = λ s. choose rec mark a b (followed s.refs v) here s
 going tree rec act mark Branch v here = give (v, cut mark here)
 
 -- ---- what leaves its scope as it was
@@ -107,8 +106,8 @@ guarding tree rec (Try p h) here o = tried rec p h here o
 guarding tree rec (First b) here o = at_last rec b here o
 guarding tree rec (Last c) here o = and_then o (λ _ s. (came_back c, s))
 guarding tree rec Close here o = closed_by here.act o
-guarding tree rec (Members n f vs k) here o = and_then o (λ _. iterate (call_at tree rec n) here.act f k (drop k vs))
-guarding tree rec (Turns n f k) here o = and_then o (after_turn (turns (call_at tree rec n) here.act f k))
+guarding tree rec (Members l f vs k) here o = and_then o (λ _. iterate (again_by tree rec l) here.act f k (drop k vs))
+guarding tree rec (Turns l f k) here o = and_then o (λ x s. after_turn (turns (again_by tree rec l) here.act f k) (followed s.refs x) s)
 
 -- ---- all of it
 
@@ -144,9 +143,10 @@ came_to (Left n v) here s = (Err (Ejected n v), s)
 -- what is due where this comes next
 abbrev pub due_of : List Node → Now → List Frame → Scope → Room → Out (Value × Scope)
 due_of tree (Begin d id) fs here s = rest tree fs here ((evaluator tree d).expression id here s)
-due_of tree (Member d n f k v) fs here s = rest tree fs here (settled here (call_at tree (evaluator tree d) n here.act f (codes "run") (held.Int (pos k) ∷ v ∷ []) s))
-due_of tree (Turn d n f) fs here s = rest tree fs here (settled here (call_at tree (evaluator tree d) n here.act f (codes "run") [] s))
-due_of tree (Refuse d n j id) fs here s = rest tree fs here (settled here (call_at tree (evaluator tree d) n here.act j (codes "run") (held.Text id ∷ []) s))
+due_of tree (Member d l f k v) fs here s = rest tree fs here (settled here (again_by tree (evaluator tree d) l here.act f (codes "run") (held.Int (pos k) ∷ v ∷ []) s))
+due_of tree (Turn d l f) fs here s = rest tree fs here (settled here (again_by tree (evaluator tree d) l here.act f (codes "run") [] s))
+due_of tree (Refuse d l j id) fs here s = rest tree fs here (settled here (again_by tree (evaluator tree d) l here.act j (codes "run") (held.Text id ∷ []) s))
+due_of tree (Calls d l x v m) fs here s = rest tree fs here (settled here (called_with (again_by tree (evaluator tree d) l) here.act x (message_in s.heap (followed s.refs v) (followed s.refs m)) s))
 due_of tree (Bind d p v j) fs here s = rest tree fs here (bound_as ((evaluator tree d).pattern p v j here s))
 due_of tree (Ended c) fs here s = rest tree fs here (came_to c here s)
 
@@ -159,6 +159,16 @@ abbrev pub Stays : Result Now Exit → List Frame → Scope → Type 0
 Stays (Ok now) fs here = Nested fs here
 Stays (Err e) fs here = Unless e (Nested fs here)
 
+-- what came to an end at once
+unfoldable pub given : Result Value Exit → Result Now Exit
+given (Ok v) = Ok (Ended (Gave v))
+given (Err e) = Err e
+
+-- what data answers, whoever calls and however calls again are made; or some of it does not stand in the heap
+abbrev pub Replies : Option Reply → Value → Words → List Value → Room → Type 0
+Replies (Some r) x verb args s = (again : Caller) (act : ℕ) → answered again act x verb args s ≡ replied again act r s
+Replies None x verb args s = (again : Caller) (act : ℕ) → answered again act x verb args s ≡ (Err Astray, s)
+
 -- patterns, and then an expression in the scope after them
 unfoldable pub bound_then : Evaluator → List ℕ → ℕ → List Value → Scope → Act (Value × Scope)
 bound_then rec ps b args here = do
@@ -170,11 +180,11 @@ unfoldable pub opened_method : Evaluator → List Case → Words → Option Node
 opened_method rec ms verb (Some (Method v ps b)) args here = bound_then rec ps b args here
 opened_method rec ms verb _ args here = try_matchers rec ms verb args here
 
--- the activation of a call on an object, whose line is told
-unfoldable pub activated : ℕ → ℕ → Words → List Value → Act ℕ
-activated act i verb args = do
+-- the activation of a call on an object, held as x, whose line is told
+unfoldable pub activated : ℕ → Value → ℕ → Words → List Value → Act ℕ
+activated act x i verb args = do
   b ← new_activation (held.Obj i)
-  tell (event.Call act (held.Obj i) verb args (Some b))
+  tell (event.Call act x verb args (Some b))
   give b
 
 -- a pattern and then an expression in the scope after it
@@ -192,6 +202,7 @@ stepped (Err (Thrown id)) = Ok (Ended (Threw id))
 stepped (Err (Ejected n v)) = Ok (Ended (Left n v))
 stepped (Err Fuel) = Err (Err Fuel)
 stepped (Err Deep) = Err (Err Deep)
+stepped (Err (Repeated i j)) = Err (Err (Repeated i j))
 stepped (Err Astray) = Err (Err Astray)
 stepped (Err Unbuilt) = Err (Err Unbuilt)
 stepped (Err Memory) = Err (Err Memory)

@@ -3,7 +3,7 @@
 ghost use Rattle.std.specs.Prelude.{◌≡◌, ◌∷◌, [], codes, Some, slice_get};
 ghost use Rattle.ev_base.specs.declared.values.Value.TheVariants.{Obj};
 ghost use Rattle.ev_heap.specs.declared.kept.GuardKind.TheVariants.{Native, User};
-ghost use Rattle.ev_steps.specs.Steps.{bind_by, bind_coerced, bind_guarded, bind_under, call, evaluator, failed, write_bound, write_cell, write_under};
+ghost use Rattle.ev_steps.specs.Steps.{bind_by, bind_coerced, bind_guarded, bind_under, call, evaluator, failed, handed, write_bound, write_cell, write_under};
 ghost use Rattle.ev_room.specs.Acts.{Gives};
 ghost use Rattle.ev_room.specs.declared.scope.Scope.{Scope as Surroundings};
 ghost use Rattle.ev_frames.specs.Rest.{Goes, Nested, Stays, bound_as, rest, settled};
@@ -20,6 +20,7 @@ use ev_room::exit::{Came, Exit};
 use ev_room::room::Room;
 use ev_room::scope::{Bound, NO_GUARD, Scope};
 use ev_room::slots::{guard_of, write_slot};
+use ev_steps::handing::handed;
 use ev_steps::pattern::bind_coerced;
 use ev_steps::target::Target;
 use ev_word::Word;
@@ -40,7 +41,7 @@ pub(crate) fn failing(
     ensures nested { Stays result frames.new here.new }
 {
     let tested = ejector;
-    if is_null(tested) {
+    if is_null(room.refs.deref(tested)) {
         return Err(Exit::Thrown(problem));
     }
     enter(depth, Part::Fails(problem), frames, here)?;
@@ -70,16 +71,17 @@ fn ask_object(
     room: &mut Room,
 ) -> Result<Now, Exit>
     requires nested { Nested frames.old here.old }
-    ensures rest { Goes program.now result frames.new here.new room.new (rest program.now frames.old here.old (settled here.old (call program.now (evaluator program.now depth) here.old.act (Obj object) (codes "coerce") (specimen ∷ ejector ∷ []) room.old))) }
+    ensures rest { Goes program.now result frames.new here.new room.new (rest program.now frames.old here.old (settled here.old (call program.now (evaluator program.now depth) here.old.act (Obj object) (codes "coerce") (specimen ∷ handed room.old ejector ∷ []) room.old))) }
     ensures nested { Stays result frames.new here.new }
 {
     let coerce = Word::copy_of(room.alloc, "coerce")?;
+    let by = handed(room, ejector);
     calling(
         program,
         depth,
         Value::Obj(object),
         &coerce,
-        &[specimen, ejector],
+        &[specimen, by],
         frames,
         here,
         room,
@@ -125,7 +127,9 @@ fn native(
     ensures nested { Stays result frames.new here.new }
 {
     let guard = GuardKind::Native(number);
-    match native_coerced(&room.heap, number, specimen) {
+    let held = specimen;
+    let near = room.refs.deref(held);
+    match native_coerced(&room.heap, number, specimen, near) {
         Coerced::Takes(value) => coerced(program, target, guard, value, frames, here, room),
         Coerced::Refuses(problem) => failing(program, depth, ejector, problem, frames, here, room),
         Coerced::NoGuard => Err(Exit::Thrown(NOT_A_GUARD)),
@@ -243,7 +247,9 @@ fn native_written(
 ) -> Result<Value, Exit>
     ensures outcome { Gives result room.new (write_under (call program.now (evaluator program.now depth)) act slot (Native number) value room.old) }
 {
-    match native_coerced(&room.heap, number, value) {
+    let held = value;
+    let near = room.refs.deref(held);
+    match native_coerced(&room.heap, number, value, near) {
         Coerced::Takes(taken) => write_slot(act, slot, taken, room),
         Coerced::Refuses(problem) => Err(Exit::Thrown(problem)),
         Coerced::NoGuard => Err(Exit::Thrown(NOT_A_GUARD)),

@@ -1,8 +1,9 @@
 //! Parts come to an end in nodes that leave their scope as it was.
 
 ghost use Rattle.std.specs.Prelude.{◌≡◌, drop};
-ghost use Rattle.ev_steps.specs.Steps.{after_turn, at_last, call_at, caught_by, escaped, evaluator, iterate, tried, turns};
+ghost use Rattle.ev_steps.specs.Steps.{after_turn, again_by, at_last, caught_by, escaped, evaluator, iterate, tried, turns};
 ghost use Rattle.def_kernel.specs.declared.node.Node.TheVariants.{Escape as EscapeNode, Finally, Try as TryNode};
+ghost use Rattle.ev_refs.specs.Follow.{followed};
 ghost use Rattle.ev_room.specs.Acts.{and_then, closed_by};
 ghost use Rattle.ev_room.specs.declared.scope.Scope.{Scope as Surroundings};
 ghost use Rattle.ev_frames.specs.Rest.{Goes, Nested, Stays, came_back, guarding, rest, settled};
@@ -150,7 +151,7 @@ fn first_ended(
 fn member_ended(
     program: &Kernel,
     depth: u32,
-    levels: u128,
+    levels: Option<u128>,
     object: Value,
     members: Seq<Value>,
     place: usize,
@@ -160,7 +161,7 @@ fn member_ended(
     room: &mut Room,
 ) -> Result<Now, Exit>
     requires nested { Nested frames.old here.now }
-    ensures rest { Goes program.now result frames.new here.now room.new (rest program.now frames.old here.now (settled here.now (and_then (came_back came, room.old) (λ _. iterate (call_at program.now (evaluator program.now depth) levels) here.now.act object place (drop place members))))) }
+    ensures rest { Goes program.now result frames.new here.now room.new (rest program.now frames.old here.now (settled here.now (and_then (came_back came, room.old) (λ _. iterate (again_by program.now (evaluator program.now depth) levels) here.now.act object place (drop place members))))) }
     ensures nested { Stays result frames.new here.now }
 {
     match came {
@@ -177,7 +178,7 @@ fn member_ended(
 fn turn_gave(
     program: &Kernel,
     depth: u32,
-    levels: u128,
+    levels: Option<u128>,
     object: Value,
     left: u64,
     value: Value,
@@ -186,7 +187,7 @@ fn turn_gave(
     room: &mut Room,
 ) -> Result<Now, Exit>
     requires nested { Nested frames.old here.now }
-    ensures rest { Goes program.now result frames.new here.now room.new (rest program.now frames.old here.now (settled here.now (after_turn (turns (call_at program.now (evaluator program.now depth) levels) here.now.act object left) value room.old))) }
+    ensures rest { Goes program.now result frames.new here.now room.new (rest program.now frames.old here.now (settled here.now (after_turn (turns (again_by program.now (evaluator program.now depth) levels) here.now.act object left) value room.old))) }
     ensures nested { Stays result frames.new here.now }
 {
     match value {
@@ -197,11 +198,11 @@ fn turn_gave(
 }
 
 /// A turn of a loop has come to an end.
-#[tactic(auto, using(crate::proofs::Rests::gone), unfolding(crate::specs::Rest::came_back, ev_room::specs::Acts::and_then))]
+#[tactic(auto, using(crate::proofs::Native::turn_goes, crate::proofs::Rests::gone), unfolding(crate::specs::Rest::came_back, ev_room::specs::Acts::and_then))]
 fn turn_ended(
     program: &Kernel,
     depth: u32,
-    levels: u128,
+    levels: Option<u128>,
     object: Value,
     left: u64,
     came: Came,
@@ -210,13 +211,16 @@ fn turn_ended(
     room: &mut Room,
 ) -> Result<Now, Exit>
     requires nested { Nested frames.old here.now }
-    ensures rest { Goes program.now result frames.new here.now room.new (rest program.now frames.old here.now (settled here.now (and_then (came_back came, room.old) (after_turn (turns (call_at program.now (evaluator program.now depth) levels) here.now.act object left))))) }
+    ensures rest { Goes program.now result frames.new here.now room.new (rest program.now frames.old here.now (settled here.now (and_then (came_back came, room.old) (λ x s. after_turn (turns (again_by program.now (evaluator program.now depth) levels) here.now.act object left) (followed s.refs x) s)))) }
     ensures nested { Stays result frames.new here.now }
 {
     match came {
-        Came::Gave(value) => turn_gave(
-            program, depth, levels, object, left, value, frames, here, room,
-        ),
+        Came::Gave(value) => {
+            let answer = room.refs.deref(value);
+            turn_gave(
+                program, depth, levels, object, left, answer, frames, here, room,
+            )
+        }
         Came::Threw(id) => Err(Exit::Thrown(id)),
         Came::Left(by, value) => Err(Exit::Ejected(by, value)),
     }

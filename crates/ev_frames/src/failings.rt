@@ -1,9 +1,11 @@
 //! Refusals of guards that are called, at any level of calls again.
 
 ghost use Rattle.std.specs.Prelude.{◌≡◌};
-ghost use Rattle.ev_steps.specs.Steps.{call_at, coerced_as, evaluator, failed};
+ghost use Rattle.ev_steps.specs.Steps.{again_by, coerced_as, evaluator, failed};
+ghost use Rattle.ev_room.specs.Takings.{is_null};
 ghost use Rattle.ev_room.specs.Coercion.{guard_coerced};
-ghost use Rattle.ev_frames.specs.Rest.{Goes, Nested, Stays, is_null, rest, settled};
+ghost use Rattle.ev_refs.specs.Follow.{followed};
+ghost use Rattle.ev_frames.specs.Rest.{Goes, Nested, Stays, rest, settled};
 
 use crate::frames::{Frames, Part};
 use crate::nodes::{Now, enter};
@@ -19,7 +21,6 @@ use ev_room::scope::Scope;
 pub(crate) const NOT_A_GUARD: TextId = TextId(17);
 
 /// Whether a value is null.
-#[tactic(auto, unfolding(crate::specs::Rest::is_null))]
 pub(crate) fn is_null(value: Value) -> bool
     ensures { result ≡ is_null value }
 {
@@ -34,7 +35,7 @@ pub(crate) fn is_null(value: Value) -> bool
 fn refuses(
     program: &Kernel,
     depth: u32,
-    levels: u128,
+    levels: Option<u128>,
     ejector: Value,
     problem: TextId,
     frames: &mut Frames,
@@ -42,11 +43,11 @@ fn refuses(
     room: &Room,
 ) -> Result<Now, Exit>
     requires nested { Nested frames.old here.now }
-    ensures rest { Goes program.now result frames.new here.now room.now (rest program.now frames.old here.now (settled here.now (failed (call_at program.now (evaluator program.now depth) levels) here.now.act ejector problem room.now))) }
+    ensures rest { Goes program.now result frames.new here.now room.now (rest program.now frames.old here.now (settled here.now (failed (again_by program.now (evaluator program.now depth) levels) here.now.act ejector problem room.now))) }
     ensures nested { Stays result frames.new here.now }
 {
     let tested = ejector;
-    if is_null(tested) {
+    if is_null(room.refs.deref(tested)) {
         return Err(Exit::Thrown(problem));
     }
     enter(depth, Part::Fails(problem), frames, here)?;
@@ -58,7 +59,7 @@ fn refuses(
 pub(crate) fn coerces(
     program: &Kernel,
     depth: u32,
-    levels: u128,
+    levels: Option<u128>,
     guard: Guard,
     specimen: Value,
     ejector: Value,
@@ -67,10 +68,12 @@ pub(crate) fn coerces(
     room: &Room,
 ) -> Result<Now, Exit>
     requires nested { Nested frames.old here.now }
-    ensures rest { Goes program.now result frames.new here.now room.now (rest program.now frames.old here.now (settled here.now (coerced_as (call_at program.now (evaluator program.now depth) levels) here.now.act ejector (guard_coerced room.now.heap guard specimen) room.now))) }
+    ensures rest { Goes program.now result frames.new here.now room.now (rest program.now frames.old here.now (settled here.now (coerced_as (again_by program.now (evaluator program.now depth) levels) here.now.act ejector (guard_coerced room.now.heap guard specimen (followed room.now.refs specimen)) room.now))) }
     ensures nested { Stays result frames.new here.now }
 {
-    match guard_coerced(&room.heap, guard, specimen) {
+    let held = specimen;
+    let near = room.refs.deref(held);
+    match guard_coerced(&room.heap, guard, specimen, near) {
         Coerced::Takes(value) => Ok(Now::Ended(Came::Gave(value))),
         Coerced::Refuses(problem) => {
             refuses(program, depth, levels, ejector, problem, frames, here, room)

@@ -67,10 +67,10 @@ pub enum Guard {
     Last(Came),
     /// A call on data in which it calls again.
     Close,
-    /// An iteration over these, so many levels of calls again, with the place of the next.
-    Members(u128, Value, Seq<Value>, usize),
-    /// A loop, so many levels of calls again, with the number of turns that it may still have.
-    Turns(u128, Value, u64),
+    /// An iteration over these, with how calls again are counted and the place of the next.
+    Members(Option<u128>, Value, Seq<Value>, usize),
+    /// A loop, with how calls again are counted and the number of turns that it may still have.
+    Turns(Option<u128>, Value, u64),
 }
 
 /// A node that has begun and not ended: how many levels deep its parts may be, how many names were bound when it began,

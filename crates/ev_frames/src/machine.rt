@@ -1,22 +1,27 @@
 //! The loop.
 
 ghost use Rattle.std.specs.Prelude.{◌≡◌, ◌∷◌, [], Err, codes, pos};
-ghost use Rattle.ev_steps.specs.Steps.{call_at, evaluator};
+ghost use Rattle.ev_steps.specs.Steps.{again_by, called_with, evaluator, turn_value};
+ghost use Rattle.ev_eventual.specs.Eventual.{message_in};
+ghost use Rattle.ev_refs.specs.Follow.{followed};
 ghost use Rattle.ev_base.specs.declared.values.Value.TheVariants.{Int, Text};
-ghost use Rattle.ev_room.specs.Acts.{GivesIn};
+ghost use Rattle.ev_room.specs.Acts.{Gives, GivesIn};
 ghost use Rattle.ev_room.specs.declared.scope.Scope.{Scope as Surroundings};
 ghost use Rattle.ev_frames.specs.Rest.{Goes, Nested, NestedOn, Stays, StepsTo, bound_as, came_to, due_of, rest, settled, stepped};
 ghost use Rattle.ev_frames.specs.declared.frames.Frame.TheVariants.{Body, Guard as GuardOf, Match as MatchOf, Part as PartOf};
 
-use crate::calls::call_at;
+use crate::calls::call_again;
 use crate::ends::{back, guard_ended};
 use crate::frames::{Frame, Frames, Guard, Part};
 use crate::matchers::case_resumes;
+use crate::messages::takes;
 use crate::nodes::{Now, begin};
 use crate::parts::part_gave;
 use crate::patterns::{bind, match_resumes};
 use def_kernel::Kernel;
-use ev_base::{NodeId, TextId, Value};
+use ev_base::{ActId, NodeId, Seq, TextId, Value};
+use ev_eventual::message_in;
+use ev_eventual::sending::BAD_MESSAGE;
 use ev_room::call::closed;
 use ev_room::exit::{Came, Exit};
 use ev_room::room::Room;
@@ -181,7 +186,7 @@ fn bound(
 fn run_member(
     program: &Kernel,
     depth: u32,
-    levels: u128,
+    levels: Option<u128>,
     object: Value,
     place: usize,
     member: Value,
@@ -190,12 +195,12 @@ fn run_member(
     room: &mut Room,
 ) -> Result<Now, Exit>
     requires nested { Nested frames.old here.old }
-    ensures rest { Goes program.now result frames.new here.new room.new (rest program.now frames.old here.old (settled here.old (call_at program.now (evaluator program.now depth) levels here.old.act object (codes "run") (Int (pos place) ∷ member ∷ []) room.old))) }
+    ensures rest { Goes program.now result frames.new here.new room.new (rest program.now frames.old here.old (settled here.old (again_by program.now (evaluator program.now depth) levels here.old.act object (codes "run") (Int (pos place) ∷ member ∷ []) room.old))) }
     ensures nested { Stays result frames.new here.new }
 {
     let args = [Value::Int(place as i128), member];
     let run = Word::run();
-    call_at(
+    call_again(
         program, depth, levels, object, &run, &args, frames, here, room,
     )
 }
@@ -205,7 +210,7 @@ fn run_member(
 fn member(
     program: &Kernel,
     depth: u32,
-    levels: u128,
+    levels: Option<u128>,
     object: Value,
     place: usize,
     member: Value,
@@ -214,7 +219,7 @@ fn member(
     room: &mut Room,
 ) -> Result<Now, Result<Value, Exit>>
     requires nested { Nested frames.old here.old }
-    ensures rest { StepsTo program.now result frames.new here.new room.new (rest program.now frames.old here.old (settled here.old (call_at program.now (evaluator program.now depth) levels here.old.act object (codes "run") (Int (pos place) ∷ member ∷ []) room.old))) }
+    ensures rest { StepsTo program.now result frames.new here.new room.new (rest program.now frames.old here.old (settled here.old (again_by program.now (evaluator program.now depth) levels here.old.act object (codes "run") (Int (pos place) ∷ member ∷ []) room.old))) }
     ensures nested { NestedOn result frames.new here.new }
 {
     let next = run_member(
@@ -228,18 +233,18 @@ fn member(
 fn turn(
     program: &Kernel,
     depth: u32,
-    levels: u128,
+    levels: Option<u128>,
     object: Value,
     frames: &mut Frames,
     here: &mut Scope,
     room: &mut Room,
 ) -> Result<Now, Result<Value, Exit>>
     requires nested { Nested frames.old here.old }
-    ensures rest { StepsTo program.now result frames.new here.new room.new (rest program.now frames.old here.old (settled here.old (call_at program.now (evaluator program.now depth) levels here.old.act object (codes "run") [] room.old))) }
+    ensures rest { StepsTo program.now result frames.new here.new room.new (rest program.now frames.old here.old (settled here.old (again_by program.now (evaluator program.now depth) levels here.old.act object (codes "run") [] room.old))) }
     ensures nested { NestedOn result frames.new here.new }
 {
     let run = Word::run();
-    let next = call_at(
+    let next = call_again(
         program,
         depth,
         levels,
@@ -258,7 +263,7 @@ fn turn(
 fn refused(
     program: &Kernel,
     depth: u32,
-    levels: u128,
+    levels: Option<u128>,
     object: Value,
     problem: TextId,
     frames: &mut Frames,
@@ -266,11 +271,11 @@ fn refused(
     room: &mut Room,
 ) -> Result<Now, Result<Value, Exit>>
     requires nested { Nested frames.old here.old }
-    ensures rest { StepsTo program.now result frames.new here.new room.new (rest program.now frames.old here.old (settled here.old (call_at program.now (evaluator program.now depth) levels here.old.act object (codes "run") (Text problem ∷ []) room.old))) }
+    ensures rest { StepsTo program.now result frames.new here.new room.new (rest program.now frames.old here.old (settled here.old (again_by program.now (evaluator program.now depth) levels here.old.act object (codes "run") (Text problem ∷ []) room.old))) }
     ensures nested { NestedOn result frames.new here.new }
 {
     let run = Word::run();
-    let next = call_at(
+    let next = call_again(
         program,
         depth,
         levels,
@@ -280,6 +285,64 @@ fn refused(
         frames,
         here,
         room,
+    );
+    stepped(next)
+}
+
+/// A value is called with a verb and a list of arguments, as these are followed.
+#[tactic(auto, using(crate::proofs::Native::calls_with, crate::proofs::Native::calls_bad))]
+fn call_with(
+    program: &Kernel,
+    depth: u32,
+    levels: Option<u128>,
+    receiver: Value,
+    verb: Value,
+    list: Value,
+    frames: &mut Frames,
+    here: &mut Scope,
+    room: &mut Room,
+) -> Result<Now, Exit>
+    requires nested { Nested frames.old here.old }
+    ensures rest { Goes program.now result frames.new here.new room.new (rest program.now frames.old here.old (settled here.old (called_with (again_by program.now (evaluator program.now depth) levels) here.old.act receiver (message_in room.old.heap (followed room.old.refs verb) (followed room.old.refs list)) room.old))) }
+    ensures nested { Stays result frames.new here.new }
+{
+    let name = room.refs.deref(verb);
+    let args = room.refs.deref(list);
+    match message_in(room.alloc, &room.heap, name, args)? {
+        None => Err(Exit::Thrown(BAD_MESSAGE)),
+        Some(request) => call_again(
+            program,
+            depth,
+            levels,
+            receiver,
+            &request.verb,
+            request.args.as_slice(),
+            frames,
+            here,
+            room,
+        ),
+    }
+}
+
+/// The same, in the loop.
+#[tactic(auto, using(crate::proofs::Looping::steps, crate::proofs::Looping::nests))]
+fn called(
+    program: &Kernel,
+    depth: u32,
+    levels: Option<u128>,
+    receiver: Value,
+    verb: Value,
+    list: Value,
+    frames: &mut Frames,
+    here: &mut Scope,
+    room: &mut Room,
+) -> Result<Now, Result<Value, Exit>>
+    requires nested { Nested frames.old here.old }
+    ensures rest { StepsTo program.now result frames.new here.new room.new (rest program.now frames.old here.old (settled here.old (called_with (again_by program.now (evaluator program.now depth) levels) here.old.act receiver (message_in room.old.heap (followed room.old.refs verb) (followed room.old.refs list)) room.old))) }
+    ensures nested { NestedOn result frames.new here.new }
+{
+    let next = call_with(
+        program, depth, levels, receiver, verb, list, frames, here, room,
     );
     stepped(next)
 }
@@ -347,13 +410,38 @@ fn step(
         Now::Refuse(depth, levels, object, problem) => refused(
             program, depth, levels, object, problem, frames, here, room,
         ),
+        Now::Calls(depth, levels, receiver, verb, list) => called(
+            program, depth, levels, receiver, verb, list, frames, here, room,
+        ),
         Now::Ended(came) => ended(program, came, frames, here, room),
     }
 }
 
+/// Does what comes next, and all that is left to do.
+/// After more steps than any machine makes it ends as after want of memory.
+fn run(
+    program: &Kernel,
+    first: Now,
+    frames: &mut Frames,
+    here: &mut Scope,
+    room: &mut Room,
+) -> Result<Value, Exit>
+    requires nested { Nested frames.old here.old }
+    ensures outcome { GivesIn result here.new room.new (due_of program.now first frames.old here.old room.old) }
+{
+    let mut now = first;
+    for _ in 0..u64::MAX {
+        match step(program, now, frames, here, room) {
+            Ok(next) => now = next,
+            Err(outcome) => return outcome,
+        }
+    }
+    Err(Exit::Memory)
+}
+
 /// Evaluates the expression at a node, at most so many levels deep.
 /// After more steps than any machine makes it ends as after want of memory.
-#[tactic(auto, using(crate::proofs::Looping::due_alone, crate::proofs::Looping::nested_alone))]
+#[tactic(auto, using(crate::proofs::Looping::alone_gives, crate::proofs::Looping::nested_alone))]
 pub fn evaluate(
     program: &Kernel,
     depth: u32,
@@ -364,12 +452,61 @@ pub fn evaluate(
     ensures outcome { GivesIn result here.new room.new ((evaluator program.now depth).expression id here.old room.old) }
 {
     let mut frames = Frames::new(room.alloc);
-    let mut now = Now::Begin(depth, id);
-    for _ in 0..u64::MAX {
-        match step(program, now, &mut frames, here, room) {
-            Ok(next) => now = next,
-            Err(outcome) => return outcome,
-        }
+    run(program, Now::Begin(depth, id), &mut frames, here, room)
+}
+
+/// What a turn does with a message begins, in the loop.
+#[tactic(auto, using(crate::proofs::Looping::steps, crate::proofs::Looping::nests))]
+fn taken(
+    program: &Kernel,
+    depth: u32,
+    target: Value,
+    verb: &Word,
+    args: &[Value],
+    frames: &mut Frames,
+    here: &mut Scope,
+    room: &mut Room,
+) -> Result<Now, Result<Value, Exit>>
+    requires bare { here.old.nouns ≡ [] }
+    requires nested { Nested frames.old here.old }
+    ensures rest { StepsTo program.now result frames.new here.new room.new (rest program.now frames.old here.old (settled here.old (turn_value program.now (evaluator program.now depth) here.old.act target verb.now args.now room.old))) }
+    ensures nested { NestedOn result frames.new here.new }
+{
+    let next = takes(program, depth, target, verb, args, frames, here, room);
+    stepped(next)
+}
+
+/// Does what an activation's turn does with a message on a target, as that is followed: a method or the matchers of an object run in
+/// that activation, and all else answers. No node begins below so many levels. The turn's own lines are the caller's to tell.
+/// After more steps than any machine makes it ends as after want of memory.
+#[tactic(auto, using(crate::proofs::Looping::turn_gives, crate::proofs::Looping::turn_gave, crate::proofs::Looping::nested_alone))]
+pub fn take_message(
+    program: &Kernel,
+    depth: u32,
+    act: ActId,
+    target: Value,
+    verb: &Word,
+    args: &[Value],
+    room: &mut Room,
+) -> Result<Value, Exit>
+    ensures outcome { Gives result room.new (turn_value program.now (evaluator program.now depth) act target verb.now args.now room.old) }
+{
+    let mut frames = Frames::new(room.alloc);
+    let mut here = Scope {
+        act,
+        nouns: Seq::new(room.alloc),
+    };
+    match taken(
+        program,
+        depth,
+        target,
+        verb,
+        args,
+        &mut frames,
+        &mut here,
+        room,
+    ) {
+        Ok(now) => run(program, now, &mut frames, &mut here, room),
+        Err(outcome) => outcome,
     }
-    Err(Exit::Memory)
 }

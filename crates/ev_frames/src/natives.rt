@@ -1,7 +1,7 @@
 //! Calls again of data and primitives.
 
 ghost use Rattle.std.specs.Prelude.{◌≡◌, drop, slice_get};
-ghost use Rattle.ev_steps.specs.Steps.{call_at, evaluator, iterate, turns};
+ghost use Rattle.ev_steps.specs.Steps.{again_by, evaluator, iterate, turns};
 ghost use Rattle.ev_frames.specs.Rest.{Goes, Nested, Stays, rest, settled};
 
 use crate::frames::{Frames, Guard};
@@ -28,7 +28,7 @@ fn member_at(members: &[Value], place: usize) -> Option<Value>
 pub(crate) fn members_from(
     program: &Kernel,
     depth: u32,
-    levels: u128,
+    levels: Option<u128>,
     object: Value,
     members: Seq<Value>,
     place: usize,
@@ -37,7 +37,7 @@ pub(crate) fn members_from(
     room: &mut Room,
 ) -> Result<Now, Exit>
     requires nested { Nested frames.old here.now }
-    ensures rest { Goes program.now result frames.new here.now room.new (rest program.now frames.old here.now (settled here.now (iterate (call_at program.now (evaluator program.now depth) levels) here.now.act object place (drop place members) room.old))) }
+    ensures rest { Goes program.now result frames.new here.now room.new (rest program.now frames.old here.now (settled here.now (iterate (again_by program.now (evaluator program.now depth) levels) here.now.act object place (drop place members) room.old))) }
     ensures nested { Stays result frames.new here.now }
 {
     match member_at(members.as_slice(), place) {
@@ -60,7 +60,7 @@ pub(crate) fn members_from(
 pub(crate) fn turns_from(
     program: &Kernel,
     depth: u32,
-    levels: u128,
+    levels: Option<u128>,
     object: Value,
     left: u64,
     frames: &mut Frames,
@@ -68,7 +68,7 @@ pub(crate) fn turns_from(
     room: &mut Room,
 ) -> Result<Now, Exit>
     requires nested { Nested frames.old here.now }
-    ensures rest { Goes program.now result frames.new here.now room.new (rest program.now frames.old here.now (settled here.now (turns (call_at program.now (evaluator program.now depth) levels) here.now.act object left room.old))) }
+    ensures rest { Goes program.now result frames.new here.now room.new (rest program.now frames.old here.now (settled here.now (turns (again_by program.now (evaluator program.now depth) levels) here.now.act object left room.old))) }
     ensures nested { Stays result frames.new here.now }
 {
     if left == 0 {

@@ -7,7 +7,7 @@ ghost use Rattle.def_kernel.specs.declared.node.Node.TheVariants.{Call, Sequence
 ghost use Rattle.ev_room.specs.Acts.{Gives, GivesIn, Out, object_node};
 ghost use Rattle.ev_room.specs.declared.scope.Scope.{Scope as Surroundings};
 ghost use Rattle.ev_base.specs.declared.values.Value.{Value as Held};
-ghost use Rattle.ev_frames.specs.Rest.{Goes, Nested, Stays, call_on, rest};
+ghost use Rattle.ev_frames.specs.Rest.{Goes, Nested, Stays, call_on, given, rest};
 ghost use Rattle.ev_frames.specs.declared.frames.Frame.TheVariants.{Part as PartOf, Guard as GuardOf};
 
 use crate::frames::{Frame, Frames, Guard, Part};
@@ -33,14 +33,28 @@ pub enum Now {
     Begin(u32, NodeId),
     /// A pattern is bound to a value with an ejector, at most so many levels deep.
     Bind(u32, NodeId, Value, Value),
-    /// `run` of a value is called with a place and the member there, at so many levels of calls again.
-    Member(u32, u128, Value, usize, Value),
+    /// `run` of a value is called with a place and the member there. Calls again are counted: they stand within so many levels, or,
+    /// where a turn calls, each has its levels counted anew.
+    Member(u32, Option<u128>, Value, usize, Value),
     /// `run` of a value is called.
-    Turn(u32, u128, Value),
+    Turn(u32, Option<u128>, Value),
     /// `run` of a value is called with a problem.
-    Refuse(u32, u128, Value, TextId),
+    Refuse(u32, Option<u128>, Value, TextId),
+    /// A value is called with a verb and a list of arguments, as these are held.
+    Calls(u32, Option<u128>, Value, Value, Value),
     /// The innermost part that was evaluated has come to an end.
     Ended(Came),
+}
+
+/// What came to an end at once.
+#[tactic(auto, unfolding(crate::specs::Rest::given))]
+pub(crate) fn given(outcome: Result<Value, Exit>) -> Result<Now, Exit>
+    ensures { result ≡ given outcome }
+{
+    match outcome {
+        Ok(value) => Ok(Now::Ended(Came::Gave(value))),
+        Err(exit) => Err(exit),
+    }
 }
 
 /// The value of a literal.

@@ -345,9 +345,12 @@ pub(crate) fn part_gave(
             let value = written(slot, value, here, room)?;
             Ok(Now::Ended(Came::Gave(value)))
         }
-        Part::Guarded(target, specimen, ejector) => under(
-            program, depth, target, specimen, ejector, value, frames, here, room,
-        ),
+        Part::Guarded(target, specimen, ejector) => {
+            let guard = room.refs.deref(value);
+            under(
+                program, depth, target, specimen, ejector, guard, frames, here, room,
+            )
+        }
         Part::Coerced(target, guard) => {
             coerced(program, &target, guard, value, frames, here, room)
         }
@@ -393,7 +396,10 @@ pub(crate) fn part_gave(
                 program, depth, mark, id, begun, value, parts, frames, here, room,
             )
         }
-        Part::Test(yes, no) => { chosen(program, depth, mark, yes, no, value, frames, here, room) }
+        Part::Test(yes, no) => {
+            let answer = room.refs.deref(value);
+            chosen(program, depth, mark, yes, no, answer, frames, here, room)
+        }
         Part::Branch => {
             cut(room.alloc, mark, here);
             Ok(Now::Ended(Came::Gave(value)))

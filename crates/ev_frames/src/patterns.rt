@@ -22,6 +22,7 @@ use ev_room::room::{Room, spend};
 use ev_room::scope::{Scope, cut};
 use ev_room::tree::node_at;
 use ev_same::same::members_of;
+use ev_steps::handing::handed;
 use ev_steps::matches::not_matched;
 use ev_steps::pattern::{Early, bind_at_once, bind_from, part_at, value_at};
 use ev_steps::target::Target;
@@ -273,15 +274,16 @@ pub(crate) fn asks(
     ensures rest { Goes program.now result frames.new here.new room.new (rest program.now frames.old here.old (bound_as (bind_via program.now (evaluator program.now depth) here.old.act pattern specimen ejector asked here.old room.old))) }
     ensures nested { Stays result frames.new here.new }
 {
-    let by = ejector;
-    again(depth, mark, Part::Binding(pattern, by), frames, here)?;
+    let asked_by = ejector;
+    let by = handed(room, asked_by);
+    again(depth, mark, Part::Binding(pattern, ejector), frames, here)?;
     let run = Word::run();
     calling(
         program,
         depth,
         asked,
         &run,
-        &[specimen, ejector],
+        &[specimen, by],
         frames,
         here,
         room,
@@ -349,16 +351,19 @@ fn bind_step(
             here,
             room,
         ),
-        Node::ListPattern(patterns) => bind_items(
-            program,
-            depth,
-            patterns.as_slice(),
-            value,
-            ejector,
-            frames,
-            here,
-            room,
-        ),
+        Node::ListPattern(patterns) => {
+            let list = room.refs.deref(value);
+            bind_items(
+                program,
+                depth,
+                patterns.as_slice(),
+                list,
+                ejector,
+                frames,
+                here,
+                room,
+            )
+        }
         Node::Via(expression, pattern) => via_step(
             program,
             depth,

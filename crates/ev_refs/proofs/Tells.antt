@@ -85,3 +85,10 @@ breaks r x end reply is told = λ word tree ts s part.
     ap (λ (y : Value Local). perform.broken_text (names word) tree y) (follow_is word ts r s x part ∙ ap (λ (v : Held). value_by ts v) (sym is))
     ∙ broken_is word tree ts end
     ∙ ap (λ (a : Option Held). broken_reply ts a) (sym told)
+
+-- the same in the code's terms
+pub told_so : (r : References) (test : RefTest) (x end : Held) (p : Place) (reply : RefReply) → end ≡ followed r x → p ≡ place_of r end → reply ≡ told_at test x p → reply ≡ told_at test x (place_of r (followed r x))
+told_so r test x end p reply is here told = told ∙ ap (λ (q : Place). told_at test x q) (here ∙ ap (place_of r) is)
+
+pub broken_so : (r : References) (x end : Held) (reply : Option Held) → end ≡ followed r x → reply ≡ broken_of end → reply ≡ broken_of (followed r x)
+broken_so r x end reply is told = told ∙ ap (λ (v : Held). broken_of v) is

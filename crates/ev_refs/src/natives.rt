@@ -1,6 +1,7 @@
 //! What `Ref` tells of a value.
 
 ghost use Rattle.std.specs.Prelude.{◌≡◌};
+ghost use Rattle.ev_refs.specs.Follow.{followed, place_of};
 ghost use Rattle.ev_refs.specs.Telling.{BreaksAsTheMachine, TellsAsTheMachine, broken_of, far_at, fulfilled_at, gone_at, near_at, problem_at, resolved_at, told_at};
 
 use crate::follow::Place;
@@ -105,7 +106,8 @@ impl Refs {
     /// What `Ref` tells of a value: whether it is near, far, resolved or broken, its problem or null, or the value itself once it is
     /// resolved and not broken. A resolved value is given as it is held.
     pub fn ask_ref(&self, test: RefTest, value: Value) -> RefReply
-        ensures { TellsAsTheMachine self.now test value result }
+        ensures is { result ≡ told_at test value (place_of self.now (followed self.now value)) }
+        ensures means { TellsAsTheMachine self.now test value result }
     {
         let held = value;
         let end = self.deref(value);
@@ -126,7 +128,8 @@ fn broken_of(value: Value) -> Option<Value>
 impl Refs {
     /// What `Ref.broken` gives: a broken value with a problem, which has to be a text; none where it is none.
     pub fn broken(&self, value: Value) -> Option<Value>
-        ensures { BreaksAsTheMachine self.now value result }
+        ensures is { result ≡ broken_of (followed self.now value) }
+        ensures means { BreaksAsTheMachine self.now value result }
     {
         broken_of(self.deref(value))
     }

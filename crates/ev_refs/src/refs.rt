@@ -80,6 +80,13 @@ impl Refs {
         self.known.len() as u64
     }
 
+    /// What is known of each name, by its number.
+    pub fn known(&self) -> &[Known]
+        ensures { result.now ≡ self.now.known }
+    {
+        self.known.as_slice()
+    }
+
     /// A name of that host comes to be known.
     pub fn learn(&mut self, host: VatId) -> Result<PromId, Memory>
         ensures number { IfOk result (λ id. id ≡ length self.old.known) }

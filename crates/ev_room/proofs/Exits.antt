@@ -2,7 +2,7 @@
 use Rattle.std.proofs.Common.{◌≡◌, ℕ, List, length, Ok, Err, refl, ap, subst}
 use Rattle.std.specs.Prelude.{Result}
 use Rattle.ev_room.specs.declared.exit.Exit.{Exit}
-use Rattle.ev_room.specs.declared.exit.Exit.TheVariants.{Thrown, Ejected, Fuel, Deep, Astray, Unbuilt, Memory}
+use Rattle.ev_room.specs.declared.exit.Exit.TheVariants.{Thrown, Ejected, Fuel, Deep, Repeated, Astray, Unbuilt, Memory}
 use Rattle.ev_room.specs.declared.exit.Came.{Came}
 use Rattle.ev_room.specs.declared.exit.Came.TheVariants.{Gave, Threw, Left}
 use Rattle.ev_pass.specs.declared.interior.Interior.{Interior as Room}
@@ -15,6 +15,7 @@ ends (Thrown id) room o f h = rw h refl
 ends (Ejected n v) room o f h = rw h refl
 ends Fuel room o f h = rw h refl
 ends Deep room o f h = rw h refl
+ends (Repeated i j) room o f h = rw h refl
 ends Astray room o f h = rw h refl
 ends Unbuilt room o f h = rw h refl
 ends Memory room o f h = tt
@@ -25,6 +26,7 @@ without {A = A} (Err (Thrown id)) room t o h = absurd (cc (ap (λ (p : Out A). p
 without {A = A} (Err (Ejected n v)) room t o h = absurd (cc (ap (λ (p : Out A). p.0) h))
 without {A = A} (Err Fuel) room t o h = absurd (cc (ap (λ (p : Out A). p.0) h))
 without {A = A} (Err Deep) room t o h = absurd (cc (ap (λ (p : Out A). p.0) h))
+without {A = A} (Err (Repeated i j)) room t o h = absurd (cc (ap (λ (p : Out A). p.0) h))
 without {A = A} (Err Astray) room t o h = absurd (cc (ap (λ (p : Out A). p.0) h))
 without {A = A} (Err Unbuilt) room t o h = absurd (cc (ap (λ (p : Out A). p.0) h))
 without (Err Memory) room t o h = tt
@@ -38,6 +40,7 @@ follows f g k (Err (Thrown id)) q room t o e h = rw e h
 follows f g k (Err (Ejected n v)) q room t o e h = rw e h
 follows f g k (Err Fuel) q room t o e h = rw e h
 follows f g k (Err Deep) q room t o e h = rw e h
+follows f g k (Err (Repeated i j)) q room t o e h = rw e h
 follows f g k (Err Astray) q room t o e h = rw e h
 follows f g k (Err Unbuilt) q room t o e h = rw e h
 follows f g k (Err Memory) q room t o e h = without q room t (ended_by f g k o) h
@@ -66,6 +69,7 @@ came_back (Err (Thrown id)) c h = let is : Threw id ≡ c = cc in ap ended_so is
 came_back (Err (Ejected n v)) c h = let is : Left n v ≡ c = cc in ap ended_so is
 came_back (Err Fuel) c h = absurd (cc)
 came_back (Err Deep) c h = absurd (cc)
+came_back (Err (Repeated i j)) c h = absurd (cc)
 came_back (Err Astray) c h = absurd (cc)
 came_back (Err Unbuilt) c h = absurd (cc)
 came_back (Err Memory) c h = absurd (cc)
@@ -94,6 +98,7 @@ stopped f g k (Err (Thrown id)) room o x e h = absurd (cc)
 stopped f g k (Err (Ejected n v)) room o x e h = absurd (cc)
 stopped f g k (Err Fuel) room o x e h = let is : Fuel ≡ x = cc in subst (λ (y : Exit). Unless y (ended_by f g k o ≡ (Err y, room))) is (rw e refl)
 stopped f g k (Err Deep) room o x e h = let is : Deep ≡ x = cc in subst (λ (y : Exit). Unless y (ended_by f g k o ≡ (Err y, room))) is (rw e refl)
+stopped f g k (Err (Repeated i j)) room o x e h = let is : Repeated i j ≡ x = cc in subst (λ (y : Exit). Unless y (ended_by f g k o ≡ (Err y, room))) is (rw e refl)
 stopped f g k (Err Astray) room o x e h = let is : Astray ≡ x = cc in subst (λ (y : Exit). Unless y (ended_by f g k o ≡ (Err y, room))) is (rw e refl)
 stopped f g k (Err Unbuilt) room o x e h = let is : Unbuilt ≡ x = cc in subst (λ (y : Exit). Unless y (ended_by f g k o ≡ (Err y, room))) is (rw e refl)
 stopped f g k (Err Memory) room o x e h = let is : Memory ≡ x = cc in subst (λ (y : Exit). Unless y (ended_by f g k o ≡ (Err y, room))) is tt

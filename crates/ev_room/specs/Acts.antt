@@ -24,9 +24,9 @@ use Rattle.ev_prims.specs.declared.problem.Problem.{Problem}
 use Rattle.ev_prims.specs.declared.problem.Problem.TheVariants.{NoMethod, Arithmetic, NotInt, NotChar, NotBoolean, NotText, NotList, OutOfRange, BadArgument, NotComparable, TooHeavy, Unthrowable, DeadEjector}
 use Rattle.ev_room.specs.Sound.{is_there, are_there, no_guard, capture_of, plain_thing}
 use Rattle.ev_room.specs.declared.object.Code.{Code}
-use Rattle.ev_room.specs.declared.object.Code.TheVariants.{Runs, Leaves}
+use Rattle.ev_room.specs.declared.object.Code.TheVariants.{Runs, Leaves, Resolves}
 use Rattle.ev_room.specs.declared.exit.Exit.{Exit}
-use Rattle.ev_room.specs.declared.exit.Exit.TheVariants.{Thrown, Ejected, Fuel, Deep, Astray, Unbuilt, Memory}
+use Rattle.ev_room.specs.declared.exit.Exit.TheVariants.{Thrown, Ejected, Fuel, Deep, Repeated, Astray, Unbuilt, Memory}
 use Rattle.ev_room.specs.declared.exit.Came.{Came}
 use Rattle.ev_room.specs.declared.exit.Came.TheVariants.{Gave, Threw, Left}
 use Rattle.ev_heap.specs.declared.kept.Cell.{Cell}
@@ -51,6 +51,7 @@ Unless (Thrown id) fact = fact
 Unless (Ejected n v) fact = fact
 Unless Fuel fact = fact
 Unless Deep fact = fact
+Unless (Repeated i j) fact = fact
 Unless Astray fact = fact
 Unless Unbuilt fact = fact
 
@@ -98,6 +99,7 @@ ended_by f g h (Err (Thrown id), s) = g id s
 ended_by f g h (Err (Ejected n v), s) = h n v s
 ended_by f g h (Err Fuel, s) = (Err Fuel, s)
 ended_by f g h (Err Deep, s) = (Err Deep, s)
+ended_by f g h (Err (Repeated i j), s) = (Err (Repeated i j), s)
 ended_by f g h (Err Astray, s) = (Err Astray, s)
 ended_by f g h (Err Unbuilt, s) = (Err Unbuilt, s)
 ended_by f g h (Err Memory, s) = (Err Memory, s)
@@ -109,6 +111,7 @@ unless_stopped (Err (Thrown id)) = Ok (Threw id)
 unless_stopped (Err (Ejected n v)) = Ok (Left n v)
 unless_stopped (Err Fuel) = Err Fuel
 unless_stopped (Err Deep) = Err Deep
+unless_stopped (Err (Repeated i j)) = Err (Repeated i j)
 unless_stopped (Err Astray) = Err Astray
 unless_stopped (Err Unbuilt) = Err Unbuilt
 unless_stopped (Err Memory) = Err Memory
@@ -342,11 +345,12 @@ unfoldable pub first_method : List Node → List ℕ → Words → ℕ → Optio
 first_method tree [] verb n = None
 first_method tree (m ∷ ms) verb n = if suits verb n (slice_get tree m) then slice_get tree m else first_method tree ms verb n
 
--- the code of what is called: of an object with its captures, or of an ejector that is alive or dead
+-- the code of what is called: of an object with its captures, of an ejector that is alive or dead, or of a resolver
 unfoldable pub code_of : Shape → Bool → Result Code Exit
 code_of (shape.Made node caught stamps) live = Ok (Runs (record { node = node; nouns = map binding_back caught }))
 code_of shape.Ejector live = Ok (Leaves live)
-code_of _ live = Err Unbuilt
+code_of (shape.Resolver p) live = Ok (Resolves p)
+code_of (shape.Audition view) live = Err Unbuilt
 
 unfoldable pub code_in : Option Thing → Result Code Exit
 code_in None = Err Astray
@@ -392,10 +396,10 @@ ejector_answer i live None = Err (Thrown (problem_id NoMethod))
 ejector_answer i true (Some v) = Err (Ejected i v)
 ejector_answer i false (Some v) = Err (Thrown (problem_id DeadEjector))
 
--- a call on an ejector
-unfoldable pub call_ejector : ℕ → ℕ → Bool → Words → List Value → Act Value
-call_ejector act i live verb args = do
-  tell (event.Call act (held.Obj i) verb args None)
+-- a call on an ejector, held as x
+unfoldable pub call_ejector : ℕ → Value → ℕ → Bool → Words → List Value → Act Value
+call_ejector act x i live verb args = do
+  tell (event.Call act x verb args None)
   closed act (answer (ejector_answer i live (ejected verb args)))
 
 -- opens the acts, and not the recursions

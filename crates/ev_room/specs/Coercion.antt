@@ -22,21 +22,21 @@ abbrev pub taken_as : ℕ → Option Value → Coerced
 taken_as id (Some v) = Takes v
 taken_as id None = Refuses id
 
-abbrev pub there_as : Contents → Guard → Value → Bool → Coerced
-there_as h g v true = taken_as (refusal_id g) (takes h g v)
-there_as h g v false = Astray
+abbrev pub there_as : Contents → Guard → Value → Value → Bool → Coerced
+there_as h g x y true = taken_as (refusal_id g) (takes h g x y)
+there_as h g x y false = Astray
 
--- what comes of a guard at a value, which is to stand in the heap
-unfoldable pub guard_coerced : Contents → Guard → Value → Coerced
-guard_coerced h g v = there_as h g v (is_there h v)
+-- what comes of a guard at a value, as it is held and as it is followed, which is to stand in the heap
+unfoldable pub guard_coerced : Contents → Guard → Value → Value → Coerced
+guard_coerced h g x y = there_as h g x y (is_there h y)
 
-abbrev pub coerced_by : Contents → Primitive → Value → Coerced
-coerced_by h (Guarding g) v = guard_coerced h g v
-coerced_by h _ v = NoGuard
+abbrev pub coerced_by : Contents → Primitive → Value → Value → Coerced
+coerced_by h (Guarding g) x y = guard_coerced h g x y
+coerced_by h _ x y = NoGuard
 
 -- the same of the primitive of a number
-unfoldable pub native_coerced : Contents → ℕ → Value → Coerced
-native_coerced h n v = coerced_by h (primitive_at n) v
+unfoldable pub native_coerced : Contents → ℕ → Value → Value → Coerced
+native_coerced h n x y = coerced_by h (primitive_at n) x y
 
 -- ---- the guard that takes null as well
 

@@ -5,7 +5,7 @@ use Rattle.ev_base.specs.declared.values.Value.{Value as Held}
 use Rattle.ev_base.specs.declared.values.Value.TheVariants as held
 use Rattle.ev_heap.specs.declared.happened.Happened.{Happened as Event}
 use Rattle.ev_heap.specs.declared.happened.Happened.TheVariants as event
-use Rattle.def_machine.specs.Values.{Words, Value, Prim, Naming, Local, Obj, Prom, Mess, numbering}
+use Rattle.def_machine.specs.Values.{Words, Value, Prim, Naming, Local, Obj, Prom, Mess}
 use Rattle.ev_heap.specs.declared.kept.Cell.{Cell as HeldCell}
 use Rattle.ev_heap.specs.declared.kept.Capture.{Capture}
 use Rattle.ev_heap.specs.declared.kept.Capture.TheVariants as capture
@@ -17,7 +17,7 @@ use Rattle.ev_heap.specs.declared.kept.Thing.{Thing as HeldThing}
 use Rattle.ev_audit.specs.Views.{guard_of, view_of}
 use Rattle.ev_refs.specs.Reading as refs
 use Rattle.ev_pass.specs.Reading as inside
-use Rattle.ev_pass.specs.Reading.{vat_at}
+use Rattle.ev_pass.specs.Reading.{names_under, vat_at}
 use Rattle.ev_pass.specs.declared.interior.Interior.{Interior}
 use Rattle.ev_room.specs.Sound.{problems}
 use Rattle.def_machine.specs.State.{Thing, Made, Ejector, Audition, Resolver, Bound, Fixed, Slot, Binding, Cell, Happened, Called, Back, Thrown, Left, Got, SlotMade, SlotRead, SlotWrote, ListMade, EjectorMade, AuditionMade, PromiseMade, ObjectMade, ListCame, Took, Message, Sends, Reacts, Finished, Threw, Settles, Waits, Views, Lost, Posted, Vat}
@@ -29,8 +29,8 @@ pub record World : Type 0 where
   pub before : Vat Local
   -- the texts of the heap at the end of the turn, behind the problems
   pub texts : List Words
-  -- the word of each draw
-  pub word : ℕ → ℕ
+  -- the key under which words are drawn
+  pub key : List ℕ
 
 abbrev pub texts_of : World → List Words
 texts_of w = problems ++ w.texts
@@ -141,4 +141,4 @@ unfoldable pub vat_of : World → Interior → Vat Local
 vat_of w i = vat_at (texts_of w) (line_of w) i (beside w i)
 
 abbrev pub names : World → Naming Local Local
-names w = numbering w.word
+names w = names_under w.key

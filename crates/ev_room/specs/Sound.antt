@@ -18,6 +18,7 @@ use Rattle.ev_prims.specs.Asks.{primitive_at}
 use Rattle.ev_prims.specs.declared.primitives.Primitive.{Primitive}
 use Rattle.ev_prims.specs.declared.primitives.Primitive.TheVariants as primitive
 use Rattle.ev_pass.specs.declared.interior.Interior.{Interior}
+use Rattle.ev_room.specs.Holding.{ReferencesOf}
 use Rattle.ev_room.specs.declared.object.Object.{Object}
 use Rattle.ev_room.specs.declared.scope.Binding.{Binding}
 use Rattle.ev_room.specs.declared.scope.Bound.{Bound}
@@ -53,7 +54,8 @@ problems =
     ∷ codes "audition is dead" ∷ codes "not free" ∷ codes "not any" ∷ codes "not void" ∷ codes "not int" ∷ codes "not boolean" ∷ codes "not char"
     ∷ codes "not String" ∷ codes "not List" ∷ codes "not nullOk" ∷ codes "not near" ∷ codes "not DeepFrozen" ∷ codes "not nullOk:any"
     ∷ codes "not nullOk:void" ∷ codes "not nullOk:int" ∷ codes "not nullOk:boolean" ∷ codes "not nullOk:char" ∷ codes "not nullOk:String"
-    ∷ codes "not nullOk:List" ∷ codes "not nullOk:nullOk" ∷ codes "not nullOk:near" ∷ codes "not nullOk:DeepFrozen" ∷ codes "partition" ∷ codes "cycle" ∷ []
+    ∷ codes "not nullOk:List" ∷ codes "not nullOk:nullOk" ∷ codes "not nullOk:near" ∷ codes "not nullOk:DeepFrozen" ∷ codes "partition" ∷ codes "cycle"
+    ∷ codes "not settled" ∷ codes "bad message" ∷ codes "not resolved" ∷ codes "already resolved" ∷ []
 
 -- the numbers of those that are no problems of a native method
 abbrev pub no_match_id : ℕ
@@ -91,14 +93,40 @@ partition_id = 41
 abbrev pub cycle_id : ℕ
 cycle_id = 42
 
+-- what is no object of this vat, where one is called or asked to react: the problem of the guard of that name
+abbrev pub not_near_id : ℕ
+not_near_id = 29
+
+-- what two values throw of which a part is unsettled, where they are compared
+abbrev pub not_settled_id : ℕ
+not_settled_id = 43
+
+-- a send or a call whose verb is no text, whose arguments are no list, or which has more than 255 of them
+abbrev pub bad_message_id : ℕ
+bad_message_id = 44
+
+abbrev pub not_resolved_id : ℕ
+not_resolved_id = 45
+
+abbrev pub already_resolved_id : ℕ
+already_resolved_id = 46
+
+-- the texts that references put in place of values have the numbers that they have among the problems
+pub record KnowsProblems (i : Interior) : Type 0 where
+  pub partition : i.refs.partition ≡ partition_id
+  pub cycle : i.refs.cycle ≡ cycle_id
+  pub heavy : i.too_heavy ≡ too_heavy_id
+
 -- ---- what stands in a heap
 
--- the primitives on which calls are built: lists and ranges, the equalizer, the comparer, the loop, throw, and guards
+-- the primitives on which calls are built: lists and ranges, the equalizer, the comparer, the loop, `E`, `Ref`, throw, and guards
 abbrev pub is_built_kind : Primitive → Bool
 is_built_kind primitive.MakeList = true
 is_built_kind primitive.Equalizer = true
 is_built_kind primitive.Comparer = true
 is_built_kind primitive.Looper = true
+is_built_kind primitive.Sender = true
+is_built_kind primitive.References = true
 is_built_kind primitive.Thrower = true
 is_built_kind (primitive.Guarding g) = true
 is_built_kind _ = false
@@ -114,14 +142,12 @@ is_built_safe (Some (held.Bool b)) = true
 is_built_safe (Some (held.Prim n)) = is_built_prim n
 is_built_safe _ = false
 
--- A value of this vat: where it is a text, a broken reference or a list, the heap has that text or list.
+-- A value that a vat may have: where it is a text, a broken reference or a list, the heap has that text or list.
 abbrev pub is_there : Contents → Value → Bool
 is_there h (held.Text id) = nat_lt id (length h.texts)
 is_there h (held.Broken id) = nat_lt id (length h.texts)
 is_there h (held.List id) = nat_lt id (length h.lists)
 is_there h (held.Prim n) = is_built_prim n
-is_there h (held.Prom k) = false
-is_there h (held.Far v p) = false
 is_there h _ = true
 
 abbrev pub are_there : Contents → List Value → Bool
@@ -145,11 +171,11 @@ Each {A = A} P xs = (k : ℕ) (x : A) → slice_get xs k ≡ Some x → P x
 abbrev pub IsPlainCell : Contents → Cell → Type 0
 IsPlainCell h c = is_there h c.value ≡ true
 
--- an object without stamps, whose captures stand there, or an ejector
+-- an object without stamps, whose captures stand there, an ejector or a resolver
 abbrev pub IsPlainShape : Contents → Shape → Type 0
 IsPlainShape h (Made node caught stamps) = (bs : List Binding) × ((caught ≡ map caught_of bs) × ((stamps ≡ []) × (are_bound h bs ≡ true)))
 IsPlainShape h Ejector = Unit {0}
-IsPlainShape h (Resolver p) = ⊥
+IsPlainShape h (Resolver p) = Unit {0}
 IsPlainShape h (Audition node) = ⊥
 
 -- that, alive or dead
@@ -160,18 +186,21 @@ IsPlainThing h t = IsPlainShape h t.shape
 abbrev pub IsListed : Contents → Listed → Type 0
 IsListed h l = (l ≡ listed h l.members) × (are_there h l.members ≡ true)
 
--- What turns of built programs leave behind: the problems stand first among the texts, and each var slot, object and list holds values that stand there.
-pub record IsSound (h : Contents) : Type 0 where
-  pub slots : Each (IsPlainCell h) h.slots
-  pub things : Each (IsPlainThing h) h.things
-  pub lists : Each (IsListed h) h.lists
-  pub problems_first : (more : List (List ℕ)) × (h.texts ≡ problems ++ more)
+-- What turns of built programs leave behind: the problems stand first among the texts, each var slot, object and list holds values that
+-- stand there, and so do the references.
+pub record IsSound (i : Interior) : Type 0 where
+  pub slots : Each (IsPlainCell i.heap) i.heap.slots
+  pub things : Each (IsPlainThing i.heap) i.heap.things
+  pub lists : Each (IsListed i.heap) i.heap.lists
+  pub problems_first : (more : List (List ℕ)) × (i.heap.texts ≡ problems ++ more)
+  pub refs : ReferencesOf (is_there i.heap) i.refs
+  pub knows : KnowsProblems i
 
 -- texts and lists come behind those that were there
 pub record Grown (before after : Contents) : Type 0 where
   pub texts : (more : List (List ℕ)) × (after.texts ≡ before.texts ++ more)
   pub lists : (more : List Listed) × (after.lists ≡ before.lists ++ more)
 
--- nothing changes but the heap, the fuel and what happened
+-- words are drawn under the same key
 abbrev pub Stays : Interior → Interior → Type 0
-Stays before after = after ≡ record before { heap = after.heap; micro = after.micro }
+Stays before after = after.words.key ≡ before.words.key

@@ -1,4 +1,4 @@
--- What native guards take of what stands in a heap, which is followed to itself, and what they throw where they refuse.
+-- What native guards take of a value, as it is held and as it is followed, and what they throw where they refuse.
 use Rattle.std.specs.Prelude.{ℕ, ◌+◌, Bool, true, false, if◌then◌else◌, Some, None}
 use Rattle.std.specs.declared.option.Option.{Option}
 use Rattle.ev_audit.specs.Frozen.{is_frozen, is_near}
@@ -32,13 +32,14 @@ is_kind h kind.Null v = is_null v
 is_kind h kind.Near v = is_near v
 is_kind h kind.Frozen v = is_frozen h v
 
--- void gives null for any value
-abbrev pub kind_takes : Contents → Kind → Value → Option Value
-kind_takes h kind.Void v = Some held.Null
-kind_takes h k v = if is_kind h k v then Some v else None
+-- any gives the value as it is held, void gives null for any value, and all else the followed one
+abbrev pub kind_takes : Contents → Kind → Value → Value → Option Value
+kind_takes h kind.Any x y = Some x
+kind_takes h kind.Void x y = Some held.Null
+kind_takes h k x y = if is_kind h k y then Some y else None
 
-abbrev pub takes : Contents → Guard → Value → Option Value
-takes h g v = if g.or_null then (if is_null v then Some held.Null else kind_takes h g.kind v) else kind_takes h g.kind v
+abbrev pub takes : Contents → Guard → Value → Value → Option Value
+takes h g x y = if g.or_null then (if is_null y then Some held.Null else kind_takes h g.kind x y) else kind_takes h g.kind x y
 
 -- the place of a kind among the problems of those that refuse
 abbrev pub kind_place : Kind → ℕ

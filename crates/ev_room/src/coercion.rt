@@ -26,16 +26,16 @@ pub enum Coerced {
     Astray,
 }
 
-/// What comes of a native guard at a value.
+/// What comes of a native guard at a value, as it is held and as it is followed.
 #[tactic(auto, unfolding(crate::specs::Coercion::guard_coerced))]
-pub fn guard_coerced(heap: &Heap, guard: Guard, value: Value) -> Coerced
-    ensures { result ≡ guard_coerced heap.now guard value }
+pub fn guard_coerced(heap: &Heap, guard: Guard, held: Value, followed: Value) -> Coerced
+    ensures { result ≡ guard_coerced heap.now guard held followed }
 {
-    let asked = value;
+    let asked = followed;
     if !is_there(heap, asked) {
         return Coerced::Astray;
     }
-    match takes(heap, guard, value) {
+    match takes(heap, guard, held, followed) {
         Some(taken) => Coerced::Takes(taken),
         None => Coerced::Refuses(refusal_id(guard)),
     }
@@ -43,11 +43,11 @@ pub fn guard_coerced(heap: &Heap, guard: Guard, value: Value) -> Coerced
 
 /// The same of the primitive of a number, which may be no guard.
 #[tactic(auto, unfolding(crate::specs::Coercion::native_coerced))]
-pub fn native_coerced(heap: &Heap, number: PrimId, value: Value) -> Coerced
-    ensures { result ≡ native_coerced heap.now number value }
+pub fn native_coerced(heap: &Heap, number: PrimId, held: Value, followed: Value) -> Coerced
+    ensures { result ≡ native_coerced heap.now number held followed }
 {
     match primitive_of(number) {
-        Primitive::Guarding(guard) => guard_coerced(heap, guard, value),
+        Primitive::Guarding(guard) => guard_coerced(heap, guard, held, followed),
         _ => Coerced::NoGuard,
     }
 }
@@ -67,7 +67,7 @@ fn null_or_guard(guard: Guard, number: PrimId) -> Reply
 }
 
 /// The guard that takes null as well as the primitive of that number.
-#[tactic(auto, using(crate::proofs::Coercing::null_or_high))]
+#[tactic(auto, using(crate::proofs::Guarding::null_or_high))]
 fn null_or_number(number: PrimId) -> Reply
     ensures { result ≡ null_or_prim number (primitive_at number) }
 {

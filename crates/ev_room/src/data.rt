@@ -50,7 +50,7 @@ pub fn thrown_id(value: Value) -> TextId
     }
 }
 
-/// Whether calls on a primitive are built: on lists and ranges, the equalizer, the comparer, the loop, throw, and guards.
+/// Whether calls on a primitive are built: on lists and ranges, the equalizer, the comparer, the loop, `E`, `Ref`, throw, and guards.
 pub fn is_built_prim(number: PrimId) -> bool
     ensures { result ≡ is_built_prim number }
 {
@@ -59,10 +59,10 @@ pub fn is_built_prim(number: PrimId) -> bool
         Primitive::Equalizer => true,
         Primitive::Comparer => true,
         Primitive::Looper => true,
+        Primitive::Sender => true,
+        Primitive::References => true,
         Primitive::Thrower => true,
         Primitive::Guarding(_) => true,
-        Primitive::Sender => false,
-        Primitive::References => false,
         Primitive::StampReader => false,
         Primitive::Judging(_) => false,
         Primitive::NoPrimitive => false,
@@ -79,7 +79,6 @@ pub fn is_there(heap: &Heap, value: Value) -> bool
         Value::Text(id) | Value::Broken(id) => id.0 < heap.text_count(),
         Value::List(id) => id.0 < heap.list_count(),
         Value::Prim(number) => is_built_prim(number),
-        Value::Prom(_) | Value::Far(_, _) => false,
         _ => true,
     }
 }

@@ -79,10 +79,15 @@ fn ejected(verb: &str, args: &[Value]) -> Option<Value>
 
 /// What an ejector answers that is alive or dead.
 #[tactic(auto, unfolding(crate::specs::Acts::ejector_answer))]
-fn ejector_answer(ejector: ObjId, alive: bool, value: Option<Value>) -> Result<Value, Exit>
-    ensures { result ≡ ejector_answer ejector alive value }
+pub fn ejector_answer(
+    ejector: ObjId,
+    alive: bool,
+    verb: &str,
+    args: &[Value],
+) -> Result<Value, Exit>
+    ensures { result ≡ ejector_answer ejector alive (ejected verb.now args.now) }
 {
-    match value {
+    match ejected(verb, args) {
         None => Err(Exit::Thrown(problem_id(Problem::NoMethod))),
         Some(value) => {
             if alive {
@@ -94,19 +99,20 @@ fn ejector_answer(ejector: ObjId, alive: bool, value: Option<Value>) -> Result<V
     }
 }
 
-/// A call on an ejector.
+/// A call on an ejector, held as that receiver.
 #[tactic(auto, using(crate::proofs::Exits::ends), unfolding(crate::specs::Acts::opened_acts))]
 pub fn call_ejector(
     act: ActId,
+    receiver: Value,
     ejector: ObjId,
     alive: bool,
     verb: &Word,
     args: &[Value],
     room: &mut Room,
 ) -> Result<Value, Exit>
-    ensures outcome { Gives result room.new (call_ejector act ejector alive verb.now args.now room.old) }
+    ensures outcome { Gives result room.new (call_ejector act receiver ejector alive verb.now args.now room.old) }
 {
-    tell_call(act, Value::Obj(ejector), verb, args, None, room)?;
-    let outcome = ejector_answer(ejector, alive, ejected(verb.as_str(), args));
+    tell_call(act, receiver, verb, args, None, room)?;
+    let outcome = ejector_answer(ejector, alive, verb.as_str(), args);
     closed(act, outcome, room)
 }

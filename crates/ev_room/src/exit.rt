@@ -16,6 +16,8 @@ pub enum Exit {
     Fuel,
     /// A node would have begun below the greatest depth.
     Deep,
+    /// The second of these draws gives the word of the first.
+    Repeated(u64, u64),
     /// A noun that nothing binds, or a number that names no node of its kind.
     Astray,
     /// A node that is not built yet.

@@ -1,4 +1,4 @@
-//! What native guards take of what stands in a heap, and what they throw where they refuse.
+//! What native guards take of a value, as it is held and as it is followed, and what they throw where they refuse.
 
 ghost use Rattle.std.specs.Prelude.{◌≡◌};
 ghost use Rattle.ev_audit.specs.Frozen.{is_frozen};
@@ -16,7 +16,7 @@ const NOT_TAKEN: u64 = 21;
 const NOT_TAKEN_OR_NULL: u64 = 31;
 
 /// Whether a value that may be weighed is frozen: an object that the heap does not hold bears no stamp.
-#[tactic(auto, using(crate::proofs::Takings::past_is_not_frozen))]
+#[tactic(auto, using(crate::proofs::Guarding::past_is_not_frozen))]
 fn is_frozen_there(heap: &Heap, value: &Value) -> bool
     requires { IsWeighable heap.now value.now }
     ensures { result ≡ is_frozen heap.now value.now }
@@ -46,16 +46,17 @@ fn is_kind(heap: &Heap, kind: Kind, value: &Value) -> bool
     }
 }
 
-/// What a guard of a kind gives for a value, and none where it refuses it.
-fn kind_takes(heap: &Heap, kind: Kind, value: Value) -> Option<Value>
-    requires { IsWeighable heap.now value }
-    ensures { result ≡ kind_takes heap.now kind value }
+/// What a guard of a kind gives for a value, as it is held and as it is followed, and none where it refuses it.
+fn kind_takes(heap: &Heap, kind: Kind, held: Value, followed: Value) -> Option<Value>
+    requires { IsWeighable heap.now followed }
+    ensures { result ≡ kind_takes heap.now kind held followed }
 {
     match kind {
+        Kind::Any => Some(held),
         Kind::Void => Some(Value::Null),
         _ => {
-            if is_kind(heap, kind, &value) {
-                Some(value)
+            if is_kind(heap, kind, &followed) {
+                Some(followed)
             } else {
                 None
             }
@@ -63,15 +64,15 @@ fn kind_takes(heap: &Heap, kind: Kind, value: Value) -> Option<Value>
     }
 }
 
-/// What a native guard gives for a value that stands in a heap, and none where it refuses it.
-pub fn takes(heap: &Heap, guard: Guard, value: Value) -> Option<Value>
-    requires { IsWeighable heap.now value }
-    ensures { result ≡ takes heap.now guard value }
+/// What a native guard gives for a value, as it is held and as it is followed, which stands in a heap, and none where it refuses it.
+pub fn takes(heap: &Heap, guard: Guard, held: Value, followed: Value) -> Option<Value>
+    requires { IsWeighable heap.now followed }
+    ensures { result ≡ takes heap.now guard held followed }
 {
-    if guard.or_null && matches!(value, Value::Null) {
+    if guard.or_null && matches!(followed, Value::Null) {
         return Some(Value::Null);
     }
-    kind_takes(heap, guard.kind, value)
+    kind_takes(heap, guard.kind, held, followed)
 }
 
 /// The place of a kind among the problems of those that refuse.

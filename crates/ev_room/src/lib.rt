@@ -7,7 +7,6 @@ pub mod data;
 pub mod ejector;
 pub mod exit;
 pub mod guards;
-pub mod laws;
 pub mod nouns;
 pub mod object;
 pub mod room;

@@ -13,7 +13,7 @@ use crate::room::{Room, tell};
 use crate::scope::{Binding, Bound, NO_GUARD, Scope, found_text};
 use crate::tree::node_at;
 use def_kernel::{Kernel, Node};
-use ev_base::{ActId, Memory, NodeId, ObjId, Seq, Str, Value};
+use ev_base::{ActId, Memory, NodeId, ObjId, PromId, Seq, Str, Value};
 use ev_heap::{Capture, Caught, Happened, Shape};
 use ev_kernel_printer::free_names;
 use ev_word::Word;
@@ -33,6 +33,8 @@ pub enum Code {
     Runs(Object),
     /// An ejector, and whether it is alive.
     Leaves(bool),
+    /// The resolver of a promise.
+    Resolves(PromId),
 }
 
 /// What an object holds of a name that is bound so.
@@ -79,11 +81,12 @@ fn shape_code(alloc: Global, shape: &Shape, alive: bool) -> Result<Code, Exit>
             Ok(Code::Runs(Object { node: *node, nouns }))
         }
         Shape::Ejector => Ok(Code::Leaves(alive)),
-        _ => Err(Exit::Unbuilt),
+        Shape::Resolver(promise) => Ok(Code::Resolves(*promise)),
+        Shape::Audition(_) => Err(Exit::Unbuilt),
     }
 }
 
-/// The code of an object or an ejector.
+/// The code of an object, an ejector or a resolver.
 #[tactic(auto, using(crate::proofs::Things::code_goes, crate::proofs::Things::code_astray))]
 pub fn look_code(object: ObjId, room: &Room) -> Result<Code, Exit>
     ensures { Gives result room.now (look_code object room.now) }

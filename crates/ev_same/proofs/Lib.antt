@@ -1,2 +1,2 @@
-pub mod Sames
-pub mod Alike
+mod Opens
+mod Alikes

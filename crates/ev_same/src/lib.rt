@@ -1,6 +1,8 @@
-//! Whether two values of a heap are the same, as `==` asks it.
+//! Whether two values of a vat are the same, as `==` asks it.
 #![tactic(auto)]
 
+pub mod open;
+pub mod parts;
 pub mod same;
 
 pub use same::same_ever;

@@ -1,139 +1,137 @@
-//! Whether two values are the same: data by what it says, lists by their members, objects by their numbers.
+//! Whether two values are the same: data by what it says, lists by their members, names of things by their numbers. Pairs of lists are
+//! compared layer by layer, each once in a layer.
 
-ghost use Rattle.std.specs.Prelude.{◌≡◌, length};
-ghost use Rattle.std.specs.Str.{bytes_eq};
-ghost use Rattle.ev_prims.specs.Answers.{members_at};
-ghost use Rattle.ev_prims.specs.Reading.{text_in};
+ghost use Rattle.std.specs.Prelude.{◌≡◌, IfOk, length, suc};
 ghost use Rattle.ev_room.specs.Acts.{Gives};
-ghost use Rattle.ev_same.specs.Same.{all_same, same_ever, same_in, same_members, same_plain};
+ghost use Rattle.ev_same.specs.Layers.{Compares, all_within, pair_of};
+ghost use Rattle.ev_same.specs.Same.{all_same, is_same, same_ever};
 
-use ev_base::{ListId, TextId, Value};
-use ev_heap::Heap;
-use ev_room::data::is_there;
+use crate::open::is_open;
+pub use crate::parts::members_of;
+use crate::parts::same_plain;
+use ev_base::{ListId, Memory, TextId, Value};
 use ev_room::exit::Exit;
 use ev_room::room::Room;
+use indexmap::IndexSet;
 
-/// The text of that number, and the empty one where there is none.
-fn text_of(heap: &Heap, id: TextId) -> &str
-    ensures { result.now ≡ text_in heap.now id }
-{
-    match heap.find_text(id) {
-        Some(text) => text,
-        None => "",
-    }
+/// The text `not settled`, among the first of a heap.
+const NOT_SETTLED: TextId = TextId(43);
+
+/// Two lists that are to be the same.
+#[derive(Clone, Copy, PartialEq, Eq, Hash)]
+struct Pair {
+    one: u64,
+    other: u64,
 }
 
-/// The members of the list of that number, and none where there is none.
-pub fn members_of(heap: &Heap, list: ListId) -> &[Value]
-    ensures { result.now ≡ members_at heap.now list }
-{
-    if list.0 < heap.list_count() {
-        heap.members(list)
-    } else {
-        &[]
-    }
-}
-
-/// Whether two texts are the same.
-fn same_texts(heap: &Heap, one: TextId, other: TextId) -> bool
-    ensures { result ≡ bytes_eq (text_in heap.now one) (text_in heap.now other) }
-{
-    text_of(heap, one) == text_of(heap, other)
-}
-
-/// Whether two values that are no lists are the same.
-#[tactic(auto, unfolding(crate::specs::Same::same_plain))]
-fn same_plain(heap: &Heap, x: Value, y: Value) -> bool
-    ensures { result ≡ same_plain (text_in heap.now) x y }
+/// The pair of lists that two values are.
+fn pair_of(x: Value, y: Value) -> Option<Pair>
+    ensures { result ≡ pair_of x y }
 {
     match x {
-        Value::Null => match y {
-            Value::Null => true,
-            _ => false,
+        Value::List(one) => match y {
+            Value::List(other) => Some(Pair {
+                one: one.0,
+                other: other.0,
+            }),
+            _ => None,
         },
-        Value::Bool(a) => match y {
-            Value::Bool(b) => if a { b } else { !b },
-            _ => false,
-        },
-        Value::Int(a) => match y {
-            Value::Int(b) => a == b,
-            _ => false,
-        },
-        Value::Char(a) => match y {
-            Value::Char(b) => a == b,
-            _ => false,
-        },
-        Value::Prim(a) => match y {
-            Value::Prim(b) => a.0 == b.0,
-            _ => false,
-        },
-        Value::Obj(a) => match y {
-            Value::Obj(b) => a.0 == b.0,
-            _ => false,
-        },
-        Value::Text(a) => match y {
-            Value::Text(b) => same_texts(heap, a, b),
-            _ => false,
-        },
-        Value::Broken(a) => match y {
-            Value::Broken(b) => same_texts(heap, a, b),
-            _ => false,
-        },
-        _ => false,
+        _ => None,
     }
 }
 
-/// Whether two lists of one length hold the same members.
-#[cycle(same)]
-#[tactic(auto, using(crate::proofs::Sames::at_end))]
-fn each_same(heap: &Heap, depth: u64, xs: &[Value], ys: &[Value]) -> bool
+/// Compares two values: false where they are not the same. Two lists are to be compared in the next layer.
+fn compare(room: &Room, x: Value, y: Value, next: &mut IndexSet<Pair>) -> Result<bool, Memory>
+    ensures { IfOk result (λ same. Compares room.now (λ d. is_same room.now d x y) next.old.keys same next.new.keys) }
+{
+    let first = room.refs.deref(x);
+    let second = room.refs.deref(y);
+    match pair_of(first, second) {
+        Some(pair) => {
+            next.insert_full(pair)?;
+            Ok(true)
+        }
+        None => Ok(same_plain(&room.heap, &first, &second)),
+    }
+}
+
+/// Compares the members of two lists of one length, until two are not the same.
+fn compare_each(
+    room: &Room,
+    xs: &[Value],
+    ys: &[Value],
+    next: &mut IndexSet<Pair>,
+) -> Result<bool, Memory>
     requires { length xs.now ≡ length ys.now }
-    ensures { result ≡ all_same (same_in heap.now depth) xs.now ys.now }
+    ensures { IfOk result (λ same. Compares room.now (λ d. all_same (λ v w. is_same room.now d v w) xs.now ys.now) next.old.keys same next.new.keys) }
 {
     for index in 0..xs.len() {
-        if !is_same(heap, depth, xs[index], ys[index]) {
-            return false;
+        if !compare(room, xs[index], ys[index], next)? {
+            return Ok(false);
         }
     }
-    true
+    Ok(true)
 }
 
-/// Whether the members of two lists are the same, in which at most `depth` lists stand one inside another, these two among them.
-#[cycle(same)]
-#[tactic(auto, using(crate::proofs::Sames::none_deep, crate::proofs::Sames::goes, crate::proofs::Sames::uneven), unfolding(crate::specs::Same::same_in))]
-fn same_members(heap: &Heap, depth: u64, xs: &[Value], ys: &[Value]) -> bool
-    ensures { result ≡ same_members heap.now depth xs.now ys.now }
+/// Compares the members of two lists.
+fn compare_all(
+    room: &Room,
+    xs: &[Value],
+    ys: &[Value],
+    next: &mut IndexSet<Pair>,
+) -> Result<bool, Memory>
+    ensures { IfOk result (λ same. Compares room.now (λ d. all_same (λ v w. is_same room.now d v w) xs.now ys.now) next.old.keys same next.new.keys) }
 {
-    if depth == 0 || xs.len() != ys.len() {
-        return false;
+    if xs.len() != ys.len() {
+        return Ok(false);
     }
-    each_same(heap, depth - 1, xs, ys)
+    compare_each(room, xs, ys, next)
 }
 
-/// Whether two values are the same, in which at most `depth` lists stand one inside another.
-/// A heap keeps no list that is more than 100 high, so that this calls itself at most as deep, however many lists there are.
-#[cycle(same)]
-#[tactic(auto, unfolding(crate::specs::Same::same_in, crate::specs::Same::same_by, crate::specs::Same::same_plain))]
-fn is_same(heap: &Heap, depth: u64, x: Value, y: Value) -> bool
-    ensures { result ≡ same_in heap.now depth x y }
+/// Compares the members of the lists of each pair, until two are not the same.
+fn compare_layer(room: &Room, pairs: &[Pair], next: &mut IndexSet<Pair>) -> Result<bool, Memory>
+    ensures { IfOk result (λ same. Compares room.now (λ d. all_within room.now d pairs.now) next.old.keys same next.new.keys) }
 {
-    match x {
-        Value::List(a) => match y {
-            Value::List(b) => same_members(heap, depth, members_of(heap, a), members_of(heap, b)),
-            _ => false,
-        },
-        _ => same_plain(heap, x, y),
+    for pair in pairs {
+        let xs = members_of(&room.heap, ListId(pair.one));
+        let ys = members_of(&room.heap, ListId(pair.other));
+        if !compare_all(room, xs, ys, next)? {
+            return Ok(false);
+        }
     }
+    Ok(true)
 }
 
-/// Whether two values of the heap are the same. No value of this heap is unsettled.
-#[tactic(auto, unfolding(crate::specs::Same::same_ever, crate::specs::Same::same_there, ev_room::specs::Acts::give, ev_room::specs::Acts::fail))]
+/// Whether two values are the same, each followed, with their parts.
+fn is_same(room: &Room, x: Value, y: Value) -> Result<bool, Memory>
+    ensures { IfOk result (λ same. same ≡ is_same room.now (length room.now.heap.lists) x y) }
+{
+    let mut pairs = IndexSet::new(room.alloc);
+    if !compare(room, x, y, &mut pairs)? {
+        return Ok(false);
+    }
+    let mut depth = room.heap.list_count();
+    while !pairs.is_empty() {
+        if depth == 0 {
+            return Ok(false);
+        }
+        let mut next = IndexSet::new(room.alloc);
+        if !compare_layer(room, pairs.as_slice(), &mut next)? {
+            return Ok(false);
+        }
+        pairs = next;
+        depth -= 1;
+    }
+    Ok(true)
+}
+
+/// Whether two values are the same. Where a part of either is unsettled, this is not known yet, and thrown.
+#[tactic(auto, unfolding(crate::specs::Same::same_ever, crate::specs::Same::same_unless, ev_room::specs::Acts::give, ev_room::specs::Acts::fail))]
 pub fn same_ever(room: &Room, x: &Value, y: &Value) -> Result<Value, Exit>
     ensures outcome { Gives result room.now (same_ever x.now y.now room.now) }
 {
-    if !(is_there(&room.heap, *x) && is_there(&room.heap, *y)) {
-        return Err(Exit::Astray);
+    if is_open(room, *x)? || is_open(room, *y)? {
+        return Err(Exit::Thrown(NOT_SETTLED));
     }
-    let depth = room.heap.list_count();
-    Ok(Value::Bool(is_same(&room.heap, depth, *x, *y)))
+    Ok(Value::Bool(is_same(room, *x, *y)?))
 }

@@ -1,6 +1,6 @@
 //! The names that the numbers of a vat stand for.
 
-ghost use Rattle.std.specs.Prelude.{◌≡◌, ◌++◌, ◌∷◌, [], OnErr, OnOk};
+ghost use Rattle.std.specs.Prelude.{◌≡◌, ◌++◌, ◌∷◌, [], OnErr, OnOk, length};
 ghost use Rattle.ev_step_lines.specs.Lines.{mail_at, name_at, no_names};
 
 use ev_base::{Memory, Msg, MsgId, Name, PromId, Seq, VatId};
@@ -50,6 +50,13 @@ impl Table {
         ensures err { OnErr result (self.new ≡ self.old) }
     {
         self.mails.push(message)
+    }
+
+    /// How many names the vat knows.
+    pub fn count(&self) -> u64
+        ensures { result ≡ length self.now.names }
+    {
+        self.names.len() as u64
     }
 
     /// The vat whose lines these are.

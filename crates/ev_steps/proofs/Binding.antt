@@ -3,7 +3,7 @@ use Rattle.std.proofs.Common.{◌≡◌, ℕ, zero, suc, ◌+◌, ◌<◌, List,
 use Rattle.std.specs.Prelude.{slice_get}
 use Rattle.ev_base.specs.declared.values.Value.{Value}
 use Rattle.ev_room.specs.declared.exit.Exit.{Exit}
-use Rattle.ev_room.specs.declared.exit.Exit.TheVariants.{Thrown, Ejected, Fuel, Deep, Astray, Unbuilt, Memory}
+use Rattle.ev_room.specs.declared.exit.Exit.TheVariants.{Thrown, Ejected, Fuel, Deep, Repeated, Astray, Unbuilt, Memory}
 use Rattle.ev_pass.specs.declared.interior.Interior.{Interior as Room}
 use Rattle.ev_room.specs.declared.scope.Scope.{Scope}
 use Rattle.def_machine.specs.Free.{BoundNoun}
@@ -27,6 +27,7 @@ unless_as (Thrown id) f h = f h
 unless_as (Ejected n v) f h = f h
 unless_as Fuel f h = f h
 unless_as Deep f h = f h
+unless_as (Repeated i j) f h = f h
 unless_as Astray f h = f h
 unless_as Unbuilt f h = f h
 unless_as Memory f h = tt

@@ -7,6 +7,7 @@ use Rattle.ev_base.specs.declared.values.Value.{Value}
 use Rattle.def_machine.specs.Values.{Words}
 use Rattle.ev_pass.specs.declared.interior.Interior.{Interior as Room}
 use Rattle.ev_room.specs.declared.scope.Scope.{Scope}
+use Rattle.ev_refs.specs.Follow.{followed}
 use Rattle.ev_steps.specs.Steps.{Caller, Evaluator, after_turn, turns, call_at, call_value, evaluator, deeper, step_found, bind_found, opened_steps}
 use Rattle.ev_room.specs.Acts.{◌>>=◌, spend, ◌>>◌}
 
@@ -38,7 +39,7 @@ call_deep tree rec zero act x verb args s e = refl
 call_deep tree rec (suc n) act x verb args s e = cc
 
 pub call_goes : (tree : List Node) (rec : Evaluator) (n act : ℕ) (x : Value) (verb : Words) (args : List Value) (s : Room) → 0 < n
-    → call_at tree rec n act x verb args s ≡ call_value tree rec (call_at tree rec (n - 1)) act x verb args s
+    → call_at tree rec n act x verb args s ≡ call_value tree rec (call_at tree rec (n - 1)) act x (followed s.refs x) verb args s
 unfolding call_at
 call_goes tree rec zero act x verb args s h = absurd (omega arith)
 call_goes tree rec (suc n) act x verb args s h = rw sub-one refl
@@ -46,17 +47,17 @@ call_goes tree rec (suc n) act x verb args s h = rw sub-one refl
 -- ---- turns of a loop
 
 turns_more : (again : Caller) (act : ℕ) (f : Value) (n : ℕ) (s : Room) → 0 < n
-    → turns again act f n s ≡ (again act f (codes "run") [] >>= λ x. after_turn (turns again act f (n - 1)) x) s
+    → turns again act f n s ≡ (again act f (codes "run") [] >>= λ x t. after_turn (turns again act f (n - 1)) (followed t.refs x) t) s
 unfolding turns
 turns_more again act f zero s h = absurd (omega arith)
 turns_more again act f (suc n) s h = rw sub-one refl
 
 pub turns_from : (again : Caller) (act : ℕ) (f : Value) (most turn : ℕ) (s : Room) → turn < most
-    → turns again act f (most - turn) s ≡ (again act f (codes "run") [] >>= λ x. after_turn (turns again act f (most - (turn + 1))) x) s
+    → turns again act f (most - turn) s ≡ (again act f (codes "run") [] >>= λ x t. after_turn (turns again act f (most - (turn + 1))) (followed t.refs x) t) s
 turns_from again act f most turn s h =
     let e : most - turn - 1 ≡ most - (turn + 1) = omega arith in
     turns_more again act f (most - turn) s (omega arith)
-    ∙ ap (λ (n : ℕ). (again act f (codes "run") [] >>= λ x. after_turn (turns again act f n) x) s) e
+    ∙ ap (λ (n : ℕ). (again act f (codes "run") [] >>= λ x t. after_turn (turns again act f n) (followed t.refs x) t) s) e
 
 pub turns_none : (again : Caller) (act : ℕ) (f : Value) (most turn : ℕ) (s : Room) → most ≤ turn → turns again act f (most - turn) s ≡ (Err Fuel, s)
 unfolding turns opened_steps

@@ -1,12 +1,3 @@
-pub mod Asks
 pub mod Binding
 pub mod Bound
-pub mod Calls
-pub mod Coercing
 pub mod Depth
-pub mod Grows
-pub mod Guarded
-pub mod IsMet
-pub mod Meets
-pub mod Objects
-pub mod Primitives

@@ -1,5 +1,5 @@
 -- Evaluation over the state of the code: the machine's evaluation of the trees that are built.
-use Rattle.std.specs.Prelude.{◌+◌, ◌==◌, reverse, ℕ, zero, suc, pos, Bool, true, false, if◌then◌else◌, List, [], ◌∷◌, ◌++◌, Some, None, length, slice_get, codes}
+use Rattle.std.specs.Prelude.{◌+◌, ◌==◌, reverse, ℕ, zero, suc, pos, Bool, true, false, if◌then◌else◌, List, [], ◌∷◌, ◌++◌, Some, None, length, map, slice_get, codes}
 use Rattle.std.specs.declared.option.Option.{Option}
 use Rattle.ev_base.specs.declared.values.Value.{Value}
 use Rattle.ev_base.specs.declared.values.Value.TheVariants as held
@@ -28,20 +28,25 @@ use Rattle.ev_heap.specs.declared.kept.Cell.{Cell}
 use Rattle.ev_heap.specs.declared.kept.GuardKind.{GuardKind}
 use Rattle.ev_heap.specs.declared.kept.GuardKind.TheVariants.{Native, User}
 use Rattle.ev_room.specs.Coercion.{guard_coerced, native_coerced, null_or}
+use Rattle.ev_room.specs.Takings.{is_null}
 use Rattle.ev_room.specs.declared.coercion.Coerced.{Coerced}
 use Rattle.ev_room.specs.declared.coercion.Coerced.TheVariants as coerced
-use Rattle.ev_room.specs.Sound.{is_there, no_guard, no_match_id, not_a_list_id, not_a_guard_id}
+use Rattle.ev_room.specs.Sound.{is_there, no_guard, no_match_id, not_a_list_id, not_a_guard_id, not_near_id, bad_message_id}
 use Rattle.ev_same.specs.Same.{same_ever}
+use Rattle.ev_refs.specs.Follow.{followed}
+use Rattle.ev_eventual.specs.declared.message.Request.{Request}
+use Rattle.ev_eventual.specs.Eventual.{message_in, send_with, make_promise, broken, test_value, when_by, resolving, resolver_answer, call_resolver, opened_eventual}
 use Rattle.ev_room.specs.declared.object.Object.{Object}
 use Rattle.ev_room.specs.declared.object.Code.{Code}
-use Rattle.ev_room.specs.declared.object.Code.TheVariants.{Runs, Leaves}
+use Rattle.ev_room.specs.declared.object.Code.TheVariants.{Runs, Leaves, Resolves}
 use Rattle.ev_room.specs.declared.exit.Exit.TheVariants.{Thrown, Ejected, Fuel, Deep, Astray, Unbuilt}
+use Rattle.ev_pass.specs.declared.interior.Interior.{Interior}
 use Rattle.ev_room.specs.declared.scope.Bound.{Bound}
 use Rattle.ev_room.specs.declared.scope.Bound.TheVariants.{Fixed, Slot}
 use Rattle.ev_room.specs.declared.scope.Scope.{Scope}
 use Rattle.ev_steps.specs.declared.target.Target.{Target}
 use Rattle.ev_steps.specs.declared.target.Target.TheVariants as target
-use Rattle.ev_room.specs.Acts.{Act, ◌>>=◌, ◌>>◌, give, fail, tell, spend, new_activation, new_slot, found_from, read_bound, write_slot, cut, with_noun, fails, text_value, write_text, make_list, closed, thrown_id, call_there, object_node, first_method, look_code, Out, ended_by, leave, new_ejector, call_ejector, opened_acts}
+use Rattle.ev_room.specs.Acts.{Act, ◌>>=◌, ◌>>◌, give, fail, tell, spend, new_activation, new_slot, found_from, read_bound, write_slot, cut, with_noun, fails, text_value, write_text, make_list, closed, thrown_id, call_there, object_node, first_method, look_code, Out, ended_by, leave, new_ejector, ejected, ejector_answer, call_ejector, answer}
 
 -- a call by an activation: receiver, verb and arguments
 abbrev pub Caller : Type 0
@@ -64,10 +69,17 @@ replied again act (reply.Fails p) = fails p
 
 -- ---- guards
 
+unfoldable pub failed_by : {A : Type 0} → Caller → ℕ → Value → ℕ → Bool → Act A
+failed_by again act j id true = fail (Thrown id)
+failed_by again act j id false = again act j (codes "run") (held.Text id ∷ []) >> fail (Thrown id)
+
 -- A failing calls the ejector where there is one, and throws where that comes back.
 unfoldable pub failed : {A : Type 0} → Caller → ℕ → Value → ℕ → Act A
-failed again act held.Null id = fail (Thrown id)
-failed again act j id = again act j (codes "run") (held.Text id ∷ []) >> fail (Thrown id)
+failed again act j id = λ s. failed_by again act j id (is_null (followed s.refs j)) s
+
+-- the ejector as it is handed on: null where it is followed to that
+unfoldable pub handed : Interior → Value → Value
+handed i j = if is_null (followed i.refs j) then held.Null else j
 
 -- what follows a coercion with an ejector, by what came of it
 unfoldable pub coerced_as : Caller → ℕ → Value → Coerced → Act Value
@@ -78,8 +90,8 @@ coerced_as again act j coerced.Astray = fail Astray
 
 -- a guard coerces a value, with an ejector: an object is called
 unfoldable pub coerce : Caller → ℕ → GuardKind → Value → Value → Act Value
-coerce again act (Native n) j v = λ s. coerced_as again act j (native_coerced s.heap n v) s
-coerce again act (User i) j v = again act (held.Obj i) (codes "coerce") (v ∷ j ∷ [])
+coerce again act (Native n) j v = λ s. coerced_as again act j (native_coerced s.heap n v (followed s.refs v)) s
+coerce again act (User i) j v = λ s. again act (held.Obj i) (codes "coerce") (v ∷ handed s j ∷ []) s
 
 -- a slot is written with what a guard makes of a value
 unfoldable pub write_under : Caller → ℕ → ℕ → GuardKind → Value → Act Value
@@ -109,7 +121,7 @@ unfoldable pub turns : Caller → ℕ → Value → ℕ → Act Value
 turns again act f zero = fail Fuel
 turns again act f (suc n) = do
   x ← again act f (codes "run") []
-  after_turn (turns again act f n) x
+  λ s. after_turn (turns again act f n) (followed s.refs x) s
 
 -- as many turns at most as there is fuel, of which each turn takes some
 unfoldable pub loop : Caller → ℕ → Value → Act Value
@@ -122,36 +134,50 @@ unfoldable pub compared_there : Caller → ℕ → Test → Value → Value → 
 compared_there again act t x y true = λ s. replied again act (compared_by t (value_order (value_by (text_in s.heap) x) (value_by (text_in s.heap) y))) s
 compared_there again act t x y false = fail Astray
 
+-- at followed values
+unfoldable pub compared_at : Caller → ℕ → Test → Value → Value → Act Value
+compared_at again act t x y = λ s. compared_there again act t x y (pair_there s.heap x y) s
+
 unfoldable pub compared : Caller → ℕ → Test → Value → Value → Act Value
-compared again act t x y = λ s. compared_there again act t x y (pair_there s.heap x y) s
+compared again act t x y = λ s. compared_at again act t (followed s.refs x) (followed s.refs y) s
+
+unfoldable pub called_with : Caller → ℕ → Value → Option Request → Act Value
+called_with again act x (Some m) = again act x m.verb m.args
+called_with again act x None = fail (Thrown bad_message_id)
 
 -- what is asked of a primitive, with these as the arguments
 unfoldable pub performed : Caller → ℕ → Asked → List Value → Act Value
 performed again act ask.MakesList args = make_list act args
-performed again act (ask.Ranges last x y) args = replied again act (range_answer last x y)
+performed again act (ask.Ranges last x y) args = λ s. replied again act (range_answer last (followed s.refs x) (followed s.refs y)) s
 performed again act (ask.Compares t x y) args = compared again act t x y
 performed again act (ask.Loops f) args = loop again act f
-performed again act (ask.ThrowsIt v) args = fail (Thrown (thrown_id v))
+performed again act (ask.SendsTo only x v l) args = send_with only act x v l
+performed again act (ask.CallsTo x v l) args = λ s. called_with again act x (message_in s.heap (followed s.refs v) (followed s.refs l)) s
+performed again act ask.MakesPromise args = make_promise act
+performed again act (ask.Breaks t) args = broken t
+performed again act (ask.Tells test x) args = test_value test x
+performed again act (ask.Whens x o) args = when_by act x o
+performed again act (ask.ThrowsIt v) args = λ s. fail (Thrown (thrown_id (followed s.refs v))) s
 performed again act ask.NoMethod args = fails NoMethod
 performed again act (ask.Same x y) args = same_ever x y
-performed again act (ask.Coerces g x j) args = λ s. coerced_as again act j (guard_coerced s.heap g x) s
-performed again act (ask.AddsNull x) args = replied again act (null_or x)
-performed again act _ args = fail Unbuilt
+performed again act (ask.Coerces g x j) args = λ s. coerced_as again act j (guard_coerced s.heap g x (followed s.refs x)) s
+performed again act (ask.AddsNull x) args = λ s. replied again act (null_or (followed s.refs x)) s
+performed again act (ask.IsStamped a x) args = fail Unbuilt
 
 -- ---- data
 
 unfoldable pub answered_there : Caller → ℕ → Value → Words → List Value → Bool → Act Value
-answered_there again act x verb args true = λ s. replied again act (data_answer (text_in s.heap) (members_at s.heap) x verb args args) s
+answered_there again act x verb args true = λ s. replied again act (data_answer (text_in s.heap) (members_at s.heap) x verb args (map (followed s.refs) args)) s
 answered_there again act x verb args false = fail Astray
 
 unfoldable pub answered : Caller → ℕ → Value → Words → List Value → Act Value
-answered again act x verb args = λ s. answered_there again act x verb args (call_there s.heap x args) s
+answered again act x verb args = λ s. answered_there again act x verb args (call_there s.heap x (map (followed s.refs) args)) s
 
--- a call on data
-unfoldable pub call_data : Caller → ℕ → Value → Words → List Value → Act Value
-call_data again act x verb args = do
+-- a call on data, held as x and followed to y
+unfoldable pub call_data : Caller → ℕ → Value → Value → Words → List Value → Act Value
+call_data again act x y verb args = do
   tell (event.Call act x verb args None)
-  closed act (answered again act x verb args)
+  closed act (answered again act y verb args)
 
 -- What evaluates the nodes below: an expression, and a pattern at a specimen with an ejector. Null is no ejector.
 pub record Evaluator : Type 0 where
@@ -215,43 +241,66 @@ run_found rec ms verb _ args here = value_of_matchers rec ms verb args here
 unfoldable pub run_object : List Node → Evaluator → ℕ → Words → List Value → Scope → Act Value
 run_object tree rec node verb args here = run_found rec (matchers_of tree (members_of (slice_get tree node))) verb (first_method tree (members_of (slice_get tree node)) verb (length args)) args here
 
--- a call on an object begins an activation, in which the object's code runs
-unfoldable pub call_made : List Node → Evaluator → ℕ → ℕ → Words → List Value → Object → Act Value
-call_made tree rec act i verb args o = do
+-- a call on an object, held as x, begins an activation, in which the object's code runs
+unfoldable pub call_made : List Node → Evaluator → ℕ → Value → ℕ → Words → List Value → Object → Act Value
+call_made tree rec act x i verb args o = do
   b ← new_activation (held.Obj i)
-  tell (event.Call act (held.Obj i) verb args (Some b))
+  tell (event.Call act x verb args (Some b))
   closed act (run_object tree rec o.node verb args (record { act = b; nouns = reverse o.nouns }))
 
--- what is called runs its code, or leaves to its escape
-unfoldable pub call_code : List Node → Evaluator → ℕ → ℕ → Words → List Value → Code → Act Value
-call_code tree rec act i verb args (Runs o) = call_made tree rec act i verb args o
-call_code tree rec act i verb args (Leaves live) = call_ejector act i live verb args
+-- what is called runs its code, leaves to its escape, or resolves its promise
+unfoldable pub call_code : List Node → Evaluator → ℕ → Value → ℕ → Words → List Value → Code → Act Value
+call_code tree rec act x i verb args (Runs o) = call_made tree rec act x i verb args o
+call_code tree rec act x i verb args (Leaves live) = call_ejector act x i live verb args
+call_code tree rec act x i verb args (Resolves p) = call_resolver act x p verb args
 
-unfoldable pub call_object : List Node → Evaluator → ℕ → ℕ → Words → List Value → Act Value
-call_object tree rec act i verb args = do
+unfoldable pub call_object : List Node → Evaluator → ℕ → Value → ℕ → Words → List Value → Act Value
+call_object tree rec act x i verb args = do
   c ← look_code i
-  call_code tree rec act i verb args c
+  call_code tree rec act x i verb args c
 
--- a call in which data and primitives call again so
-unfoldable pub call_value : List Node → Evaluator → Caller → Caller
-call_value tree rec again act (held.Obj i) verb args = call_object tree rec act i verb args
-call_value tree rec again act (held.Broken id) verb args = fail (Thrown id)
-call_value tree rec again act held.Null verb args = call_data again act held.Null verb args
-call_value tree rec again act (held.Bool b) verb args = call_data again act (held.Bool b) verb args
-call_value tree rec again act (held.Int z) verb args = call_data again act (held.Int z) verb args
-call_value tree rec again act (held.Char c) verb args = call_data again act (held.Char c) verb args
-call_value tree rec again act (held.Text id) verb args = call_data again act (held.Text id) verb args
-call_value tree rec again act (held.List k) verb args = call_data again act (held.List k) verb args
-call_value tree rec again act (held.Prim n) verb args = performed again act (asked_of n verb args) args
-call_value tree rec again act _ verb args = fail Unbuilt
+-- a call on x, as it is held and as it is followed, in which data and primitives call again so
+unfoldable pub call_value : List Node → Evaluator → Caller → ℕ → Value → Value → Words → List Value → Act Value
+call_value tree rec again act x (held.Obj i) verb args = call_object tree rec act x i verb args
+call_value tree rec again act x (held.Broken id) verb args = fail (Thrown id)
+call_value tree rec again act x (held.Prim n) verb args = performed again act (asked_of n verb args) args
+call_value tree rec again act x (held.Prom n) verb args = fail (Thrown not_near_id)
+call_value tree rec again act x (held.Far h p) verb args = fail (Thrown not_near_id)
+call_value tree rec again act x y verb args = call_data again act x y verb args
 
 -- a call in which calls again stand at most so many times one inside another
 unfoldable pub call_at : List Node → Evaluator → ℕ → Caller
 call_at tree rec zero act x verb args = fail Astray
-call_at tree rec (suc n) act x verb args = call_value tree rec (call_at tree rec n) act x verb args
+call_at tree rec (suc n) act x verb args = λ s. call_value tree rec (call_at tree rec n) act x (followed s.refs x) verb args s
 
 unfoldable pub call : List Node → Evaluator → Caller
 call tree rec act x verb args = λ s. call_at tree rec (length s.heap.lists + 4) act x verb args s
+
+-- calls again: within so many levels, or, where a turn calls, each with its levels counted anew
+unfoldable pub again_by : List Node → Evaluator → Option ℕ → Caller
+again_by tree rec None = call tree rec
+again_by tree rec (Some n) = call_at tree rec n
+
+-- ---- what a turn runs, which tells no line of its own
+
+unfoldable pub turn_code : List Node → Evaluator → ℕ → ℕ → Words → List Value → Code → Act Value
+turn_code tree rec act i verb args (Runs o) = run_object tree rec o.node verb args (record { act = act; nouns = reverse o.nouns })
+turn_code tree rec act i verb args (Leaves live) = answer (ejector_answer i live (ejected verb args))
+turn_code tree rec act i verb args (Resolves p) = resolver_answer p (resolving verb args)
+
+unfoldable pub turn_object : List Node → Evaluator → ℕ → ℕ → Words → List Value → Act Value
+turn_object tree rec act i verb args = do
+  c ← look_code i
+  turn_code tree rec act i verb args c
+
+-- a message on a followed value
+unfoldable pub turn_value : List Node → Evaluator → ℕ → Value → Words → List Value → Act Value
+turn_value tree rec act (held.Obj i) verb args = turn_object tree rec act i verb args
+turn_value tree rec act (held.Broken id) verb args = fail (Thrown id)
+turn_value tree rec act (held.Prim n) verb args = performed (again_by tree rec None) act (asked_of n verb args) args
+turn_value tree rec act (held.Prom n) verb args = fail Astray
+turn_value tree rec act (held.Far h p) verb args = fail Astray
+turn_value tree rec act y verb args = answered (again_by tree rec None) act y verb args
 
 -- ---- nodes
 
@@ -329,7 +378,7 @@ choose rec mark a b _ inner = fails NotBoolean
 unfoldable pub if_node : Evaluator → ℕ → ℕ → ℕ → Scope → Act (Value × Scope)
 if_node rec t a b here = do
   x ← rec.expression t here
-  choose rec (length here.nouns) a b x.0 x.1
+  λ s. choose rec (length here.nouns) a b (followed s.refs x.0) x.1 s
 
 -- ---- escapes, problems, and what is evaluated at last
 
@@ -496,7 +545,7 @@ unfoldable pub bind_guarded : List Node → Evaluator → Target → Option ℕ 
 bind_guarded tree rec t None v j here = bind_coerced here.act t no_guard v here
 bind_guarded tree rec t (Some e) v j here = do
   g ← rec.expression e here
-  bind_under tree rec here.act t v j g.0 g.1
+  λ s. bind_under tree rec here.act t v j (followed s.refs g.0) g.1 s
 
 unfoldable pub bind_list : List Node → Evaluator → List ℕ → Value → Scope → List Value → Bool → Act Scope
 bind_list tree rec ps j here vs true = bind_all rec ps vs j here
@@ -510,7 +559,7 @@ bind_items tree rec ps j here v = failed (call tree rec) here.act j not_a_list_i
 -- what a value gives for another with an ejector is bound
 unfoldable pub bind_via : List Node → Evaluator → ℕ → ℕ → Value → Value → Value → Scope → Act Scope
 bind_via tree rec act p v j f here = do
-  y ← call tree rec act f (codes "run") (v ∷ j ∷ [])
+  y ← (λ s. call tree rec act f (codes "run") (v ∷ handed s j ∷ []) s)
   rec.pattern p y j here
 
 unfoldable pub bind_asked : List Node → Evaluator → ℕ → ℕ → Value → Value → Scope → Act Scope
@@ -522,7 +571,7 @@ unfoldable pub bind_step : List Node → Evaluator → Node → Value → Value 
 bind_step tree rec (Final x g) v j here = bind_guarded tree rec (target.Final x) g v j here
 bind_step tree rec (Var x g) v j here = bind_guarded tree rec (target.Var x) g v j here
 bind_step tree rec (Any g) v j here = bind_guarded tree rec target.Nothing g v j here
-bind_step tree rec (ListPattern ps) v j here = bind_items tree rec ps j here v
+bind_step tree rec (ListPattern ps) v j here = λ s. bind_items tree rec ps j here (followed s.refs v) s
 bind_step tree rec (Via e p) v j here = bind_asked tree rec e p v j here
 bind_step tree rec _ v j here = fail Astray
 
@@ -554,5 +603,5 @@ opening tree depth = do
 
 -- opens the steps, and not the recursions
 unfoldable pub opened_steps : Unit {0}
-unfolding after_turn loop pair_there compared_there compared performed replied answered_there answered call_data call_node run_method handed_over matched message_pair value_of_matchers run_found run_object call_made call_code call_object call_value call exit_of define_by define literal_value literal_node noun_node set_node within choose if_node alone handled caught_as caught_by unmatched_noun bind_unmatched not_matched matched_if match_ended match_on match_node step failed coerced_as coerce write_under write_cell write_bound bind_coerced bind_by bind_under bind_guarded bind_list bind_items bind_via bind_asked bind_step step_found bind_found opening opened_acts
+unfolding after_turn loop pair_there compared_there compared_at compared called_with performed replied answered_there answered call_data call_node run_method handed_over matched message_pair value_of_matchers run_found run_object call_made call_code call_object call_value call again_by turn_code turn_object turn_value exit_of define_by define literal_value literal_node noun_node set_node within choose if_node alone handled caught_as caught_by unmatched_noun bind_unmatched not_matched matched_if match_ended match_on match_node step failed_by failed handed coerced_as coerce write_under write_cell write_bound bind_coerced bind_by bind_under bind_guarded bind_list bind_items bind_via bind_asked bind_step step_found bind_found opening opened_eventual
 opened_steps = tt

@@ -43,7 +43,7 @@ IsRefused part kind place status = status ≡ ProgramRefused (refusal part kind 
 -- what is due for the run of this tree
 abbrev ran : Script → VatScript → Scoped → Debt
 ran script vat scoped =
-    due_of_run vat.name (machine_text (script_of script.key script.fuel vat.name scoped.tree) (run_of script vat scoped)) (run_of script vat scoped)
+    due_of_run vat.name (machine_text (script_of script scoped.tree) (run_of script scoped)) (run_of script scoped)
 
 data Why (command : Option Command) (input : List ℕ) (status : Status) : Type 0 where
   Misused : status ≡ Usage → Why command input status
@@ -72,19 +72,19 @@ of_text input (Ok program) status text few e (answer, answers, due) = formed pro
 of_text input (Err rule) status text few e due = Broken rule (few, e) due.0
 
 of_tree : (built : Bool) (input : List ℕ) (script : Script) (vat : VatScript) (scoped : Scoped) (status : Status) (text : List ℕ) → is_built scoped.tree ≡ built
-    → HasVat input script vat → Answers (Ok scoped) vat.source safe_names → IsDueOfTree built script.key script.fuel vat.name scoped.tree status text
+    → HasVat input script vat → Answers (Ok scoped) vat.source safe_names → IsDueOfTree built script vat.name scoped.tree status text
     → Why (Some Run) input status
 of_tree true input script vat scoped status text e has answers due = Ran script vat scoped refl has answers e due.0
 of_tree false input script vat scoped status text e has answers due = NotBuilt (refl, script, vat, has, scoped, answers, inl e) due.0
 
 of_source : (input : List ℕ) (script : Script) (vat : VatScript) (answer : Result Scoped ProgramFault) (status : Status) (text : List ℕ)
-    → HasVat input script vat → Answers answer vat.source safe_names → IsDueOfSource script.key script.fuel vat.name answer status text → Why (Some Run) input status
+    → HasVat input script vat → Answers answer vat.source safe_names → IsDueOfSource script vat.name answer status text → Why (Some Run) input status
 of_source input script vat (Ok scoped) status text has answers due = of_tree (is_built scoped.tree) input script vat scoped status text refl has answers due
 of_source input script vat (Err fault) status text has answers due =
     faulty vat.name vat.source (Some Run) input fault status text (script, vat, has, refl) answers due
 
 of_vats : (input : List ℕ) (script : Script) (vats : List VatScript) (status : Status) (text : List ℕ) → length input ≤ most_bytes
-    → script_from input ≡ Ok script → script.vats ≡ vats → IsDueOfVats script.key script.fuel vats status text → Why (Some Run) input status
+    → script_from input ≡ Ok script → script.vats ≡ vats → IsDueOfVats script vats status text → Why (Some Run) input status
 of_vats input script [] status text few e v due = Finished due.0
 of_vats input script (vat ∷ more) status text few e v (answer, answers, due) =
     of_source input script vat answer status text (few, e, rw v refl) answers due
@@ -103,7 +103,7 @@ at_few most n test = grind (arith, nat_tests)
 of_repeated : (input : List ℕ) (status : Status) (ending : sturdy.Ending) (repeated : Option (ℕ × ℕ)) → length input ≤ most_bytes
     → sturdy.due input ≡ Ok ending → ending.repeated ≡ repeated → status ≡ status_of repeated → Why (Some Sturdy) input status
 of_repeated input status ending None few e r is = Finished is
-of_repeated input status ending (Some draws) few e r is = Drew draws.0 draws.1 (refl, few, ending, e, r) is
+of_repeated input status ending (Some draws) few e r is = Drew draws.0 draws.1 (inl (refl, few, ending, e, r)) is
 
 of_sturdy : (input : List ℕ) (found : Result sturdy.Ending ℕ) (status : Status) (text : List ℕ) → length input ≤ most_bytes → sturdy.due input ≡ found
     → IsDueOfSturdy found status text → Why (Some Sturdy) input status
@@ -170,14 +170,15 @@ there Is fact status command input written to pays f = by (due_or_not status wri
     by (inl due) = inl (to due f)
     by (inr stopped) = inr stopped
 
--- the status of a run is one of four
-never : (Is : Status → Type 0) → (Is Done → ⊥) → ((step : ℕ) → Is (FuelSpent step) → ⊥) → ((step : ℕ) → Is (TooDeep step) → ⊥) → (Is (ProgramRefused unbuilt) → ⊥)
+-- the status of a run is one of five
+never : (Is : Status → Type 0) → (Is Done → ⊥) → ((step : ℕ) → Is (FuelSpent step) → ⊥) → ((step : ℕ) → Is (TooDeep step) → ⊥)
+    → ((i j : ℕ) → Is (WordRepeated i j) → ⊥) → (Is (ProgramRefused unbuilt) → ⊥)
     → (name text : List ℕ) (r : machine.Run) → Is (due_of_run name text r).status → ⊥
-never Is done fuel deep astray name text (Goes w) is = done is
-never Is done fuel deep astray name text (Stopped Fuel step w) is = fuel step is
-never Is done fuel deep astray name text (Stopped Deep step w) is = deep step is
-never Is done fuel deep astray name text (Stopped (Repeated i j) step w) is = astray is
-never Is done fuel deep astray name text (Stopped Astray step w) is = astray is
+never Is done fuel deep drew astray name text (Goes w) is = done is
+never Is done fuel deep drew astray name text (Stopped Fuel step w) is = fuel step is
+never Is done fuel deep drew astray name text (Stopped Deep step w) is = deep step is
+never Is done fuel deep drew astray name text (Stopped (Repeated i j) step w) is = drew i j is
+never Is done fuel deep drew astray name text (Stopped Astray step w) is = astray is
 
 -- ---- too many bytes
 
@@ -188,7 +189,7 @@ long_only command input status (Broken rule breaks e) is = cc
 long_only command input status (Faulty part kind place fault e) is = cc
 long_only command input status (NotBuilt u e) is = cc
 long_only command input status (Ran script vat scoped run has answers built e) is =
-    absurd (never (λ s. s ≡ TooLong) (λ h. cc) (λ k h. cc) (λ k h. cc) (λ h. cc) vat.name _ (run_of script vat scoped) (sym e ∙ is))
+    absurd (never (λ s. s ≡ TooLong) (λ h. cc) (λ k h. cc) (λ k h. cc) (λ i j h. cc) (λ h. cc) vat.name _ (run_of script scoped) (sym e ∙ is))
 long_only command input status (Drew first second repeats e) is = cc
 long_only command input status (Finished e) is = cc
 
@@ -207,7 +208,7 @@ rule_only rule command input status (Broken broken breaks e) is =
 rule_only rule command input status (Faulty part kind place fault e) is = cc
 rule_only rule command input status (NotBuilt u e) is = cc
 rule_only rule command input status (Ran script vat scoped run has answers built e) is =
-    absurd (never (λ s. s ≡ ScriptRefused rule) (λ h. cc) (λ k h. cc) (λ k h. cc) (λ h. cc) vat.name _ (run_of script vat scoped) (sym e ∙ is))
+    absurd (never (λ s. s ≡ ScriptRefused rule) (λ h. cc) (λ k h. cc) (λ k h. cc) (λ i j h. cc) (λ h. cc) vat.name _ (run_of script scoped) (sym e ∙ is))
 rule_only rule command input status (Drew first second repeats e) is = cc
 rule_only rule command input status (Finished e) is = cc
 
@@ -303,7 +304,7 @@ fault_only part kind place command input status (Faulty p k q fault e) is =
     fault_same p part k kind q place command input (told_once p part k kind q place (sym e ∙ is)) fault
 fault_only part kind place command input status (NotBuilt u e) is = absurd (unbuilt_apart part kind place (sym e ∙ is))
 fault_only part kind place command input status (Ran script vat scoped run has answers built e) is =
-    absurd (never (IsRefused part kind place) (λ h. cc) (λ k h. cc) (λ k h. cc) (unbuilt_apart part kind place) vat.name _ (run_of script vat scoped) (sym e ∙ is))
+    absurd (never (IsRefused part kind place) (λ h. cc) (λ k h. cc) (λ k h. cc) (λ i j h. cc) (unbuilt_apart part kind place) vat.name _ (run_of script scoped) (sym e ∙ is))
 fault_only part kind place command input status (Drew first second repeats e) is = cc
 fault_only part kind place command input status (Finished e) is = cc
 
@@ -327,18 +328,18 @@ form_fault part kind place (Ok scoped) status text due (inl none) = cc
 form_fault part kind place (Ok scoped) status text due (inr same) = cc
 form_fault part kind place (Err fault) status text due same = of_fault part kind place nameless fault status text due same
 
-source_fault : (part : Part) (kind place : ℕ) (key : List ℕ) (fuel : ℕ) (name : List ℕ) (answer : Result Scoped ProgramFault) (status : Status) (text : List ℕ)
-    → IsDueOfSource key fuel name answer status text → (answer ≡ Err faults.Memory) ⊎ (answer ≡ Err (faults.At part kind place)) → IsRefused part kind place status
-source_fault part kind place key fuel name (Ok scoped) status text due (inl none) = cc
-source_fault part kind place key fuel name (Ok scoped) status text due (inr same) = cc
-source_fault part kind place key fuel name (Err fault) status text due same = of_fault part kind place name fault status text due same
+source_fault : (part : Part) (kind place : ℕ) (script : Script) (name : List ℕ) (answer : Result Scoped ProgramFault) (status : Status) (text : List ℕ)
+    → IsDueOfSource script name answer status text → (answer ≡ Err faults.Memory) ⊎ (answer ≡ Err (faults.At part kind place)) → IsRefused part kind place status
+source_fault part kind place script name (Ok scoped) status text due (inl none) = cc
+source_fault part kind place script name (Ok scoped) status text due (inr same) = cc
+source_fault part kind place script name (Err fault) status text due same = of_fault part kind place name fault status text due same
 
-vats_fault : (part : Part) (kind place : ℕ) (key : List ℕ) (fuel : ℕ) (vats : List VatScript) (vat : VatScript) (program : List ℕ) (status : Status) (text : List ℕ)
-    → IsVatOf vats vat → vat.source ≡ program → Answers (Err (faults.At part kind place)) program safe_names → IsDueOfVats key fuel vats status text → IsRefused part kind place status
-vats_fault part kind place key fuel [] vat program status text is source fault due = absurd is
-vats_fault part kind place key fuel (first ∷ more) vat program status text is source fault (answer, answers, due) =
+vats_fault : (part : Part) (kind place : ℕ) (script : Script) (vats : List VatScript) (vat : VatScript) (program : List ℕ) (status : Status) (text : List ℕ)
+    → IsVatOf vats vat → vat.source ≡ program → Answers (Err (faults.At part kind place)) program safe_names → IsDueOfVats script vats status text → IsRefused part kind place status
+vats_fault part kind place script [] vat program status text is source fault due = absurd is
+vats_fault part kind place script (first ∷ more) vat program status text is source fault (answer, answers, due) =
     let same : first.source ≡ program = ap (λ (v : VatScript). v.source) is ∙ source in
-    source_fault part kind place key fuel first.name answer status text due
+    source_fault part kind place script first.name answer status text due
     (fault_once part kind place program safe_names answer fault (subst (λ (p : List ℕ). Answers answer p safe_names) same answers))
 
 fault_there : (part : Part) (kind place : ℕ) (command : Option Command) (input : List ℕ) (status : Status) (text : List ℕ)
@@ -346,7 +347,7 @@ fault_there : (part : Part) (kind place : ℕ) (command : Option Command) (input
 fault_there part kind place None input status text due (program, has, fault) = absurd has
 fault_there part kind place (Some Run) input status text due (program, (script, vat, (few, found, is), source), fault) =
     let d = rw (is_few most_bytes (length input) few, found) at due in
-    vats_fault part kind place script.key script.fuel script.vats vat program status text is source fault d
+    vats_fault part kind place script script.vats vat program status text is source fault d
 fault_there part kind place (Some Expand) input status text due (program, (few, found), fault) =
     let d = rw (is_few most_bytes (length input) few, found) at due in
     form_fault part kind place d.0 status text d.2 (fault_once part kind place program safe_names d.0 fault d.1)
@@ -365,24 +366,24 @@ no_form : (program : List ℕ) (answer : Result Scoped ProgramFault) (status : S
 no_form program (Ok scoped) status text answers due none = absurd (none scoped answers)
 no_form program (Err fault) status text answers due none = fault_refuses nameless fault status text due
 
-no_source : (program key : List ℕ) (fuel : ℕ) (name : List ℕ) (answer : Result Scoped ProgramFault) (status : Status) (text : List ℕ) → Answers answer program safe_names
-    → IsDueOfSource key fuel name answer status text → ((scoped : Scoped) → Answers (Ok scoped) program safe_names → ⊥) → IsProgramRefused status
-no_source program key fuel name (Ok scoped) status text answers due none = absurd (none scoped answers)
-no_source program key fuel name (Err fault) status text answers due none = fault_refuses name fault status text due
+no_source : (program : List ℕ) (script : Script) (name : List ℕ) (answer : Result Scoped ProgramFault) (status : Status) (text : List ℕ) → Answers answer program safe_names
+    → IsDueOfSource script name answer status text → ((scoped : Scoped) → Answers (Ok scoped) program safe_names → ⊥) → IsProgramRefused status
+no_source program script name (Ok scoped) status text answers due none = absurd (none scoped answers)
+no_source program script name (Err fault) status text answers due none = fault_refuses name fault status text due
 
-no_vats : (key : List ℕ) (fuel : ℕ) (vats : List VatScript) (vat : VatScript) (program : List ℕ) (status : Status) (text : List ℕ)
-    → IsVatOf vats vat → vat.source ≡ program → ((scoped : Scoped) → Answers (Ok scoped) program safe_names → ⊥) → IsDueOfVats key fuel vats status text → IsProgramRefused status
-no_vats key fuel [] vat program status text is source none due = absurd is
-no_vats key fuel (first ∷ more) vat program status text is source none (answer, answers, due) =
+no_vats : (script : Script) (vats : List VatScript) (vat : VatScript) (program : List ℕ) (status : Status) (text : List ℕ)
+    → IsVatOf vats vat → vat.source ≡ program → ((scoped : Scoped) → Answers (Ok scoped) program safe_names → ⊥) → IsDueOfVats script vats status text → IsProgramRefused status
+no_vats script [] vat program status text is source none due = absurd is
+no_vats script (first ∷ more) vat program status text is source none (answer, answers, due) =
     let same : first.source ≡ program = ap (λ (v : VatScript). v.source) is ∙ source in
-    no_source program key fuel first.name answer status text (subst (λ (p : List ℕ). Answers answer p safe_names) same answers) due none
+    no_source program script first.name answer status text (subst (λ (p : List ℕ). Answers answer p safe_names) same answers) due none
 
 tree_there : (command : Option Command) (input : List ℕ) (status : Status) (text : List ℕ) → IsDue command input status text
     → HasNoTree command input → IsProgramRefused status
 tree_there None input status text due (program, has, none) = absurd has
 tree_there (Some Run) input status text due (program, (script, vat, (few, found, is), source), none) =
     let d = rw (is_few most_bytes (length input) few, found) at due in
-    no_vats script.key script.fuel script.vats vat program status text is source none d
+    no_vats script script.vats vat program status text is source none d
 tree_there (Some Expand) input status text due (program, (few, found), none) =
     let d = rw (is_few most_bytes (length input) few, found) at due in no_form program d.0 status text d.1 d.2 none
 tree_there (Some (Generate n)) input status text due (program, has, none) = absurd has
@@ -395,7 +396,7 @@ astray_stop : (name text : List ℕ) (r : machine.Run) → (due_of_run name text
 astray_stop name text (Goes w) e = cc
 astray_stop name text (Stopped Fuel k w) e = cc
 astray_stop name text (Stopped Deep k w) e = cc
-astray_stop name text (Stopped (Repeated i j) k w) e = tt
+astray_stop name text (Stopped (Repeated i j) k w) e = cc
 astray_stop name text (Stopped Astray k w) e = tt
 
 unbuilt_only : (command : Option Command) (input : List ℕ) (status : Status) → Why command input status → status ≡ ProgramRefused unbuilt → IsUnbuilt command input
@@ -405,7 +406,7 @@ unbuilt_only command input status (Broken rule breaks e) is = cc
 unbuilt_only command input status (Faulty part kind place fault e) is = absurd (unbuilt_apart part kind place (sym is ∙ e))
 unbuilt_only command input status (NotBuilt u e) is = u
 unbuilt_only command input status (Ran script vat scoped run has answers built e) is =
-    (run, script, vat, has, scoped, answers, inr (astray_stop vat.name _ (run_of script vat scoped) (sym e ∙ is)))
+    (run, script, vat, has, scoped, answers, inr (astray_stop vat.name _ (run_of script scoped) (sym e ∙ is)))
 unbuilt_only command input status (Drew first second repeats e) is = cc
 unbuilt_only command input status (Finished e) is = cc
 
@@ -425,6 +426,15 @@ deep_stop step name text (Stopped Deep k w) e = let same : k ≡ step = cc in (w
 deep_stop step name text (Stopped (Repeated i j) k w) e = cc
 deep_stop step name text (Stopped Astray k w) e = cc
 
+drew_stop : (first second : ℕ) (name text : List ℕ) (r : machine.Run) → (due_of_run name text r).status ≡ WordRepeated first second
+    → (step : ℕ) × (world : World) × (r ≡ Stopped (Repeated first second) step world)
+drew_stop first second name text (Goes w) e = cc
+drew_stop first second name text (Stopped Fuel k w) e = cc
+drew_stop first second name text (Stopped Deep k w) e = cc
+drew_stop first second name text (Stopped (Repeated i j) k w) e =
+    let firsts : i ≡ first = cc in let seconds : j ≡ second = cc in (k, w, rw (firsts, seconds) refl)
+drew_stop first second name text (Stopped Astray k w) e = cc
+
 fuel_only : (step : ℕ) (command : Option Command) (input : List ℕ) (status : Status) → Why command input status → status ≡ FuelSpent step → Stops Fuel step command input
 fuel_only step command input status (Misused e) is = cc
 fuel_only step command input status (Long long e) is = cc
@@ -432,7 +442,7 @@ fuel_only step command input status (Broken rule breaks e) is = cc
 fuel_only step command input status (Faulty part kind place fault e) is = cc
 fuel_only step command input status (NotBuilt u e) is = cc
 fuel_only step command input status (Ran script vat scoped run has answers built e) is =
-    let stop = fuel_stop step vat.name _ (run_of script vat scoped) (sym e ∙ is) in (run, script, vat, has, scoped, answers, built, stop.0, stop.1)
+    let stop = fuel_stop step vat.name _ (run_of script scoped) (sym e ∙ is) in (run, script, vat, has, scoped, answers, built, stop.0, stop.1)
 fuel_only step command input status (Drew first second repeats e) is = cc
 fuel_only step command input status (Finished e) is = cc
 
@@ -443,7 +453,7 @@ deep_only step command input status (Broken rule breaks e) is = cc
 deep_only step command input status (Faulty part kind place fault e) is = cc
 deep_only step command input status (NotBuilt u e) is = cc
 deep_only step command input status (Ran script vat scoped run has answers built e) is =
-    let stop = deep_stop step vat.name _ (run_of script vat scoped) (sym e ∙ is) in (run, script, vat, has, scoped, answers, built, stop.0, stop.1)
+    let stop = deep_stop step vat.name _ (run_of script scoped) (sym e ∙ is) in (run, script, vat, has, scoped, answers, built, stop.0, stop.1)
 deep_only step command input status (Drew first second repeats e) is = cc
 deep_only step command input status (Finished e) is = cc
 
@@ -463,35 +473,29 @@ drew_only first second command input status (Broken rule breaks e) is = cc
 drew_only first second command input status (Faulty part kind place fault e) is = cc
 drew_only first second command input status (NotBuilt u e) is = cc
 drew_only first second command input status (Ran script vat scoped run has answers built e) is =
-    absurd (never (λ s. s ≡ WordRepeated first second) (λ h. cc) (λ k h. cc) (λ k h. cc) (λ h. cc) vat.name _ (run_of script vat scoped) (sym e ∙ is))
+    let stop = drew_stop first second vat.name _ (run_of script scoped) (sym e ∙ is) in
+    inr (stop.0, (run, script, vat, has, scoped, answers, built, stop.1, stop.2))
 drew_only first second command input status (Drew one other repeats e) is = drew_once one other first second command input (sym e ∙ is) repeats
 drew_only first second command input status (Finished e) is = cc
-
-drew_there : (first second : ℕ) (command : Option Command) (input : List ℕ) (status : Status) (text : List ℕ) → IsDue command input status text
-    → RepeatsWord first second command input → status ≡ WordRepeated first second
-drew_there first second command input status text due (is, few, ending, e, repeated) =
-    let d : IsDue (Some Sturdy) input status text = subst (λ (c : Option Command). IsDue c input status text) is due in
-    (subst (λ (found : Result sturdy.Ending ℕ). IsDueOfSturdy found status text) e (few_due Sturdy input status text refl few d)).0
-    ∙ ap status_of repeated
 
 -- ---- what is due for a tree, where the vat's program is read to it
 
 -- what is due for the tree that a script's vat has
 abbrev IsDueOfRead : Script → VatScript → Scoped → Status → List ℕ → Type 0
-IsDueOfRead script vat scoped status text = IsDueOfTree (is_built scoped.tree) script.key script.fuel vat.name scoped.tree status text
+IsDueOfRead script vat scoped status text = IsDueOfTree (is_built scoped.tree) script vat.name scoped.tree status text
 
 source_tree : (script : Script) (vat : VatScript) (scoped : Scoped) (answer : Result Scoped ProgramFault) (status : Status) (text : List ℕ) → IsTree scoped answer
-    → IsDueOfSource script.key script.fuel vat.name answer status text → IsDueOfRead script vat scoped status text
+    → IsDueOfSource script vat.name answer status text → IsDueOfRead script vat scoped status text
 source_tree script vat scoped (Ok other) status text same due =
-    subst (λ (tree : List Node). IsDueOfTree (is_built tree) script.key script.fuel vat.name tree status text) same due
+    subst (λ (tree : List Node). IsDueOfTree (is_built tree) script vat.name tree status text) same due
 source_tree script vat scoped (Err faults.Memory) status text same due = absurd due
 source_tree script vat scoped (Err (faults.At part kind place)) status text same due = absurd same
 
 vats_tree : (script : Script) (vats : List VatScript) (vat : VatScript) (scoped : Scoped) (status : Status) (text : List ℕ) → IsVatOf vats vat
-    → Answers (Ok scoped) vat.source safe_names → IsDueOfVats script.key script.fuel vats status text → IsDueOfRead script vat scoped status text
+    → Answers (Ok scoped) vat.source safe_names → IsDueOfVats script vats status text → IsDueOfRead script vat scoped status text
 vats_tree script [] vat scoped status text is tree due = absurd is
 vats_tree script (first ∷ more) vat scoped status text is tree due =
-    let d = subst (λ (v : VatScript). ReadAs v.source (λ answer. IsDueOfSource script.key script.fuel v.name answer status text)) is due in
+    let d = subst (λ (v : VatScript). ReadAs v.source (λ answer. IsDueOfSource script v.name answer status text)) is due in
     source_tree script vat scoped d.0 status text (tree_once scoped vat.source safe_names d.0 tree d.1) d.2
 
 read_due : (command : Option Command) (input : List ℕ) (script : Script) (vat : VatScript) (scoped : Scoped) (status : Status) (text : List ℕ)
@@ -505,26 +509,26 @@ astray_due : (name text : List ℕ) (r : machine.Run) → IsAstray r → (due_of
 astray_due name text (Goes w) h = absurd h
 astray_due name text (Stopped Fuel k w) h = absurd h
 astray_due name text (Stopped Deep k w) h = absurd h
-astray_due name text (Stopped (Repeated i j) k w) h = refl
+astray_due name text (Stopped (Repeated i j) k w) h = absurd h
 astray_due name text (Stopped Astray k w) h = refl
 
 tree_astray : (built : Bool) (script : Script) (vat : VatScript) (scoped : Scoped) (status : Status) (text : List ℕ)
-    → IsDueOfTree built script.key script.fuel vat.name scoped.tree status text → (built ≡ false) ⊎ IsAstray (run_of script vat scoped)
+    → IsDueOfTree built script vat.name scoped.tree status text → (built ≡ false) ⊎ IsAstray (run_of script scoped)
     → status ≡ ProgramRefused unbuilt
 tree_astray false script vat scoped status text due why = due.0
 tree_astray true script vat scoped status text due (inl not) = cc
-tree_astray true script vat scoped status text due (inr astray) = due.0 ∙ astray_due vat.name _ (run_of script vat scoped) astray
+tree_astray true script vat scoped status text due (inr astray) = due.0 ∙ astray_due vat.name _ (run_of script scoped) astray
 
 unbuilt_there : (command : Option Command) (input : List ℕ) (status : Status) (text : List ℕ) → IsDue command input status text → IsUnbuilt command input
     → status ≡ ProgramRefused unbuilt
 unbuilt_there command input status text due (run, script, vat, has, scoped, tree, why) =
     tree_astray (is_built scoped.tree) script vat scoped status text (read_due command input script vat scoped status text run has tree due) why
 
--- the status of a run that stops for fuel or for depth
+-- the status of a run that stops
 abbrev stopped_as : Stop → ℕ → Status
 stopped_as Fuel step = FuelSpent step
 stopped_as Deep step = TooDeep step
-stopped_as (Repeated i j) step = ProgramRefused unbuilt
+stopped_as (Repeated i j) step = WordRepeated i j
 stopped_as Astray step = ProgramRefused unbuilt
 
 stop_due : (name text : List ℕ) (stop : Stop) (step : ℕ) (w : World) → (due_of_run name text (Stopped stop step w)).status ≡ stopped_as stop step
@@ -537,10 +541,18 @@ stop_there : (stop : Stop) (step : ℕ) (command : Option Command) (input : List
     → Stops stop step command input → status ≡ stopped_as stop step
 stop_there stop step command input status text due (run, script, vat, has, scoped, tree, built, world, stops) =
     let d = read_due command input script vat scoped status text run has tree due in
-    let e : IsDueOfTree true script.key script.fuel vat.name scoped.tree status text =
-    subst (λ (b : Bool). IsDueOfTree b script.key script.fuel vat.name scoped.tree status text) built d in
-    e.0 ∙ ap (λ (r : machine.Run). (due_of_run vat.name (machine_text (script_of script.key script.fuel vat.name scoped.tree) r) r).status) stops
+    let e : IsDueOfTree true script vat.name scoped.tree status text =
+    subst (λ (b : Bool). IsDueOfTree b script vat.name scoped.tree status text) built d in
+    e.0 ∙ ap (λ (r : machine.Run). (due_of_run vat.name (machine_text (script_of script scoped.tree) r) r).status) stops
     ∙ stop_due vat.name _ stop step world
+
+drew_there : (first second : ℕ) (command : Option Command) (input : List ℕ) (status : Status) (text : List ℕ) → IsDue command input status text
+    → RepeatsWord first second command input → status ≡ WordRepeated first second
+drew_there first second command input status text due (inl (is, few, ending, e, repeated)) =
+    let d : IsDue (Some Sturdy) input status text = subst (λ (c : Option Command). IsDue c input status text) is due in
+    (subst (λ (found : Result sturdy.Ending ℕ). IsDueOfSturdy found status text) e (few_due Sturdy input status text refl few d)).0
+    ∙ ap status_of repeated
+drew_there first second command input status text due (inr (step, stops)) = stop_there (Repeated first second) step command input status text due stops
 
 -- ---- of a call
 

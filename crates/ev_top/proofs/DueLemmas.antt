@@ -53,23 +53,23 @@ of_end name text (Stopped Deep step w) = tt
 of_end name text (Stopped (Repeated i j) step w) = tt
 of_end name text (Stopped Astray step w) = tt
 
-of_tree : (built : Bool) (key : List ℕ) (fuel : ℕ) (name : List ℕ) (tree : List Node) (status : Status) (text : List ℕ)
-    → IsDueOfTree built key fuel name tree status text → IsOfWhole status
-of_tree true key fuel name tree status text due =
-    let script = script_of key fuel name tree in subst IsOfWhole (sym due.0) (of_end name (machine_text script (run script)) (run script))
-of_tree false key fuel name tree status text due = subst IsOfWhole (sym due.0) tt
+of_tree : (built : Bool) (script : Script) (name : List ℕ) (tree : List Node) (status : Status) (text : List ℕ)
+    → IsDueOfTree built script name tree status text → IsOfWhole status
+of_tree true script name tree status text due =
+    let theirs = script_of script tree in subst IsOfWhole (sym due.0) (of_end name (machine_text theirs (run theirs)) (run theirs))
+of_tree false script name tree status text due = subst IsOfWhole (sym due.0) tt
 
-of_source : (key : List ℕ) (fuel : ℕ) (name : List ℕ) (answer : Result Scoped ProgramFault) (status : Status) (text : List ℕ)
-    → IsDueOfSource key fuel name answer status text → IsOfWhole status
-of_source key fuel name (Ok scoped) status text due = of_tree (is_built scoped.tree) key fuel name scoped.tree status text due
-of_source key fuel name (Err fault) status text due = of_fault name fault status text due
+of_source : (script : Script) (name : List ℕ) (answer : Result Scoped ProgramFault) (status : Status) (text : List ℕ)
+    → IsDueOfSource script name answer status text → IsOfWhole status
+of_source script name (Ok scoped) status text due = of_tree (is_built scoped.tree) script name scoped.tree status text due
+of_source script name (Err fault) status text due = of_fault name fault status text due
 
-of_vats : (key : List ℕ) (fuel : ℕ) (vats : List VatScript) (status : Status) (text : List ℕ) → IsDueOfVats key fuel vats status text → IsOfWhole status
-of_vats key fuel [] status text due = subst IsOfWhole (sym due.0) tt
-of_vats key fuel (vat ∷ more) status text due = of_source key fuel vat.name due.0 status text due.2
+of_vats : (script : Script) (vats : List VatScript) (status : Status) (text : List ℕ) → IsDueOfVats script vats status text → IsOfWhole status
+of_vats script [] status text due = subst IsOfWhole (sym due.0) tt
+of_vats script (vat ∷ more) status text due = of_source script vat.name due.0 status text due.2
 
 of_script : (found : Result Script ℕ) (status : Status) (text : List ℕ) → IsDueOfScript found status text → IsOfWhole status
-of_script (Ok script) status text due = of_vats script.key script.fuel script.vats status text due
+of_script (Ok script) status text due = of_vats script script.vats status text due
 of_script (Err rule) status text due = subst IsOfWhole (sym due.0) tt
 
 of_repeated : (repeated : Option (ℕ × ℕ)) → IsOfWhole (status_of repeated)

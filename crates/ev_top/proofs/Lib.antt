@@ -2,7 +2,8 @@ pub mod GivenNames
 pub mod DueLemmas
 pub mod OneReading
 pub mod Empty
-pub mod Steps
+pub mod Ended
+pub mod Turns
 pub mod CauseLemmas
 pub mod Fates
 pub mod Reach

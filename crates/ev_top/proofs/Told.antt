@@ -1,10 +1,7 @@
 -- What is due for the commands that answer lines, by what was told.
-use Rattle.std.proofs.Common.{◌≡◌, ℕ, List, Option, Some, None, Result, Ok, Err, refl, sym, ap, ◌∙◌, subst, string_bytes, String, Global}
-use Rattle.ev_script.specs.declared.script.ScriptFault.{ScriptFault}
-use Rattle.ev_script.specs.declared.script.ScriptFault.TheVariants.{Rule}
+use Rattle.std.proofs.Common.{◌≡◌, ℕ, List, Result, Ok, Err, sym, ap, ◌∙◌, subst, string_bytes}
 use Rattle.ev_sturdy_text.specs.Telling as sturdy
 use Rattle.ev_sturdy_text.specs.declared.telling.Told.{Told}
-use Rattle.ev_mint_text.specs.Telling as mint
 use Rattle.ev_top.specs.Debt.{IsFor, bytes_refused}
 use Rattle.ev_top.specs.Lines.{IsDueOfMint, IsDueOfSturdy, status_of}
 use Rattle.ev_top.specs.declared.status.Status.{Status}

@@ -53,8 +53,8 @@ Breaks rule (Some Sturdy) input = (length input ≤ most_bytes) × (sturdy.due i
 Breaks rule (Some Mint) input = (length input ≤ most_bytes) × (mint.due input ≡ Err rule)
 
 -- in the answers to the whole input, the second of these draws gives what the first gave
-abbrev pub RepeatsWord : ℕ → ℕ → Option Command → List ℕ → Type 0
-RepeatsWord first second command input = (command ≡ Some Sturdy) × (length input ≤ most_bytes)
+abbrev pub DrawsAgain : ℕ → ℕ → Option Command → List ℕ → Type 0
+DrawsAgain first second command input = (command ≡ Some Sturdy) × (length input ≤ most_bytes)
     × (ending : sturdy.Ending) × (sturdy.due input ≡ Ok ending) × (ending.repeated ≡ Some (first, second))
 
 -- ---- programs
@@ -88,25 +88,29 @@ abbrev pub IsProgramRefused : Status → Type 0
 IsProgramRefused (ProgramRefused r) = Unit {0}
 IsProgramRefused _ = ⊥
 
--- the machine's run of this tree in the vat of a script
-abbrev pub run_of : Script → VatScript → Scoped → Machine
-run_of script vat scoped = run (script_of script.key script.fuel vat.name scoped.tree)
+-- the machine's run of a script whose vat has this tree
+abbrev pub run_of : Script → Scoped → Machine
+run_of script scoped = run (script_of script scoped.tree)
 
--- a run that met a noun which nothing binds, or drew a word twice
+-- a run that met a noun which nothing binds
 abbrev pub IsAstray : Machine → Type 0
 IsAstray (Goes w) = ⊥
 IsAstray (Stopped Fuel step w) = ⊥
 IsAstray (Stopped Deep step w) = ⊥
 IsAstray (Stopped Astray step w) = Unit {0}
-IsAstray (Stopped (Repeated i j) step w) = Unit {0}
+IsAstray (Stopped (Repeated i j) step w) = ⊥
 
 -- the vat's program is read to a tree that is not built, or whose run goes astray
 abbrev pub IsUnbuilt : Option Command → List ℕ → Type 0
 IsUnbuilt command input = (command ≡ Some Run) × (script : Script) × (vat : VatScript) × HasVat input script vat
-    × (scoped : Scoped) × Answers (Ok scoped) vat.source safe_names × ((is_built scoped.tree ≡ false) ⊎ IsAstray (run_of script vat scoped))
+    × (scoped : Scoped) × Answers (Ok scoped) vat.source safe_names × ((is_built scoped.tree ≡ false) ⊎ IsAstray (run_of script scoped))
 
 -- it is read to a tree that is built, whose run stops in this step
 abbrev pub Stops : Stop → ℕ → Option Command → List ℕ → Type 0
 Stops stop step command input = (command ≡ Some Run) × (script : Script) × (vat : VatScript) × HasVat input script vat
     × (scoped : Scoped) × Answers (Ok scoped) vat.source safe_names × (is_built scoped.tree ≡ true)
-    × (world : World) × (run_of script vat scoped ≡ Stopped stop step world)
+    × (world : World) × (run_of script scoped ≡ Stopped stop step world)
+
+-- the second of these draws gives what the first gave, in those answers or in a step of that run
+abbrev pub RepeatsWord : ℕ → ℕ → Option Command → List ℕ → Type 0
+RepeatsWord first second command input = DrawsAgain first second command input ⊎ ((step : ℕ) × Stops (Repeated first second) step command input)

@@ -19,7 +19,7 @@ use Rattle.ev_sturdy_text.specs.Telling as sturdy
 use Rattle.ev_mint_text.specs.Telling as mint
 use Rattle.ev_top.specs.Commands.{reads}
 use Rattle.ev_top.specs.Lines.{IsDueOfGenerated, IsDueOfMint, IsDueOfSturdy}
-use Rattle.ev_top.specs.Machine.{script_of, no_vat}
+use Rattle.ev_top.specs.Machine.{script_of}
 use Rattle.ev_top.specs.Programs.{ReadAs, IsDueOfFault}
 use Rattle.ev_top.specs.Script.{script_from}
 use Rattle.ev_top.specs.declared.command.Command.{Command}
@@ -43,37 +43,37 @@ abbrev pub not_built : List ℕ → Debt
 not_built name = program_refused name unbuilt (codes "unbuilt 0 0")
 
 -- What is due for a run with this text, of the vat of that name: its status tells how it ended, at its end or in a step that
--- stopped for fuel or for depth. A run goes astray where a noun is met that nothing binds; such a program counts as not
--- built. So does one whose run draws a word twice, which a run of one vat never does.
+-- stopped, for fuel or for depth, or where a draw gave what an earlier one gave. A run goes astray where a noun is met that
+-- nothing binds; such a program counts as not built.
 abbrev pub due_of_run : List ℕ → List ℕ → machine.Run → Debt
 due_of_run name text (Goes w) = record { status = Done; text = text }
 due_of_run name text (Stopped Fuel step w) = record { status = FuelSpent step; text = text }
 due_of_run name text (Stopped Deep step w) = record { status = TooDeep step; text = text }
 due_of_run name text (Stopped Astray step w) = not_built name
-due_of_run name text (Stopped (Repeated i j) step w) = not_built name
+due_of_run name text (Stopped (Repeated i j) step w) = record { status = WordRepeated i j; text = text }
 
 -- the same for the machine's run on a script
 abbrev pub due_of_machine : List ℕ → machine.Script → Debt
 due_of_machine name script = due_of_run name (machine_text script (run script)) (run script)
 
--- what is due for the tree of the vat of that name, by whether it is built: its run, or its refusal
-abbrev pub IsDueOfTree : Bool → List ℕ → ℕ → List ℕ → List Node → Status → List ℕ → Type 0
-IsDueOfTree true key fuel name tree status text = IsFor status text (due_of_machine name (script_of key fuel name tree))
-IsDueOfTree false key fuel name tree status text = IsFor status text (not_built name)
+-- what is due for a script whose vat has that name and tree, by whether the tree is built: its run, or its refusal
+abbrev pub IsDueOfTree : Bool → Script → List ℕ → List Node → Status → List ℕ → Type 0
+IsDueOfTree true script name tree status text = IsFor status text (due_of_machine name (script_of script tree))
+IsDueOfTree false script name tree status text = IsFor status text (not_built name)
 
--- what is due for the source of a vat by what it is read as
-abbrev pub IsDueOfSource : List ℕ → ℕ → List ℕ → Result Scoped ProgramFault → Status → List ℕ → Type 0
-IsDueOfSource key fuel name (Ok scoped) status text = IsDueOfTree (is_built scoped.tree) key fuel name scoped.tree status text
-IsDueOfSource key fuel name (Err fault) status text = IsDueOfFault name fault status text
+-- what is due for a script by what the source of its vat is read as
+abbrev pub IsDueOfSource : Script → List ℕ → Result Scoped ProgramFault → Status → List ℕ → Type 0
+IsDueOfSource script name (Ok scoped) status text = IsDueOfTree (is_built scoped.tree) script name scoped.tree status text
+IsDueOfSource script name (Err fault) status text = IsDueOfFault name fault status text
 
--- what is due for the vat of a script, of which there is at most one, or for the run of none
-abbrev pub IsDueOfVats : List ℕ → ℕ → List VatScript → Status → List ℕ → Type 0
-IsDueOfVats key fuel [] status text = (status ≡ Done) × (text ≡ machine_text (no_vat key fuel) (run (no_vat key fuel)))
-IsDueOfVats key fuel (vat ∷ more) status text = ReadAs vat.source (λ answer. IsDueOfSource key fuel vat.name answer status text)
+-- what is due for a script with these vats, of which there is at most one: the run of that one, or of none
+abbrev pub IsDueOfVats : Script → List VatScript → Status → List ℕ → Type 0
+IsDueOfVats script [] status text = (status ≡ Done) × (text ≡ machine_text (script_of script []) (run (script_of script [])))
+IsDueOfVats script (vat ∷ more) status text = ReadAs vat.source (λ answer. IsDueOfSource script vat.name answer status text)
 
 -- what is due for a script, or for bytes that are none
 abbrev pub IsDueOfScript : Result Script ℕ → Status → List ℕ → Type 0
-IsDueOfScript (Ok script) status text = IsDueOfVats script.key script.fuel script.vats status text
+IsDueOfScript (Ok script) status text = IsDueOfVats script script.vats status text
 IsDueOfScript (Err rule) status text = IsFor status text (bytes_refused rule)
 
 -- ---- a call

@@ -21,7 +21,7 @@ use Rattle.ev_top.specs.declared.command.Command.TheVariants.{Run}
 abbrev pub RunsTo : Option Command → List ℕ → machine.Script → World → Type 0
 RunsTo command input script world = (command ≡ Some Run) × (read : Script) × (vat : VatScript) × HasVat input read vat
     × (scoped : Scoped) × Answers (Ok scoped) vat.source safe_names
-    × (script ≡ script_of read.key read.fuel vat.name scoped.tree) × (run script ≡ Goes world)
+    × (script ≡ script_of read scoped.tree) × (run script ≡ Goes world)
 
 -- In its history no message is sent twice, and each that is sent is taken once, lost once, or stands once in the closing list.
 abbrev pub MessagesHaveOneFate : Option Command → List ℕ → Type 0

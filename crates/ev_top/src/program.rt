@@ -176,7 +176,7 @@ pub fn top<S: Source, K: Sink>(alloc: Global, words: &Seq<Str>, src: &mut S, out
         (RepeatsWord first second (command_of words.now) input)) }
     ensures read_fault { result ≡ Status.ReadFault → Rose (S.faults src.old) (S.faults src.new) }
     ensures write_fault { result ≡ Status.WriteFault → Rose (K.faults out.old) (K.faults out.new) }
-    // In the history that is due each message has one fate. No program that is built sends one yet.
+    // In the history that is due each message has one fate.
     ensures fates { IfSome (S.left src.old) (λ input. MessagesHaveOneFate (command_of words.now) input) }
     // In the world in which its run ends, what DeepFrozen stamped reaches no assignable state. No program that is built
     // stamps yet.

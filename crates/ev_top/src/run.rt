@@ -1,13 +1,14 @@
 //! What is due for the bytes of a script: the run of its vat, or a refusal.
 
-ghost use Rattle.std.specs.Prelude.{◌≡◌, true, List, ℕ, [], ◌∷◌, IfOk, string_bytes};
+ghost use Rattle.std.specs.Prelude.{◌≡◌, ◌≤◌, true, [], ◌∷◌, length, IfOk, string_bytes};
+ghost use Rattle.ev_script.specs.Rules.{IsAdmitted};
 ghost use Rattle.ev_steps.specs.Built.{is_built};
 ghost use Rattle.ev_top.specs.Debt.{IsFor};
 ghost use Rattle.ev_top.specs.Due.{IsDueOfScript, IsDueOfSource, IsDueOfTree, IsDueOfVats, due_of_machine, not_built};
 ghost use Rattle.ev_top.specs.Ends.{due_by};
 ghost use Rattle.ev_top.specs.Machine.{script_of};
 ghost use Rattle.ev_top.specs.Programs.{ReadAs};
-ghost use Rattle.ev_top.specs.Script.{script_from};
+ghost use Rattle.ev_top.specs.Script.{most_vats, script_from};
 
 use crate::reply::{Reply, reply_fault, reply_line, reply_rule, safe_names};
 use crate::script::script_from;
@@ -16,16 +17,18 @@ use def_kernel::Kernel;
 use ev_base::{Limits, Memory};
 use ev_eval::is_built;
 use ev_reader::read_program;
-use ev_script::{ScriptFault, VatScript};
+use ev_script::{Script, ScriptFault, VatScript};
 use ev_vat::{RunEnd, run_program};
 use std::alloc::Global;
 
 /// The greatest depth at which a node begins.
 const GREATEST_DEPTH: u32 = 20_000;
 
-/// The run of no vat, whatever the key and the fuel of the script.
-fn reply_empty(alloc: Global) -> Result<Reply, Memory>
-    ensures { (key : List ℕ) (fuel : ℕ) → IfOk result (λ reply. IsDueOfVats key fuel [] reply.status (string_bytes reply.text)) }
+/// The run of a script of no vat.
+fn reply_empty(alloc: Global, script: &Script) -> Result<Reply, Memory>
+    requires admitted { IsAdmitted script.now }
+    requires none { script.now.vats ≡ [] }
+    ensures { IfOk result (λ reply. IsDueOfVats script.now [] reply.status (string_bytes reply.text)) }
 {
     reply_line(alloc, Status::Done, "end")
 }
@@ -46,72 +49,82 @@ fn reply_unbuilt(alloc: Global, name: &str) -> Result<Reply, Memory>
     })
 }
 
-/// The run of a program that ended so, with its text, or the refusal of one whose run went astray. A run of one vat has one step, of
-/// number 0.
+/// The run of a program that ended so, with its text, or the refusal of one whose run went astray.
 fn reply_told(alloc: Global, name: &str, end: RunEnd, text: String) -> Result<Reply, Memory>
     ensures { IfOk result (λ reply. IsFor reply.status (string_bytes reply.text) (due_by name.now (string_bytes text) end)) }
 {
-    match end {
-        RunEnd::Done => Ok(Reply {
-            status: Status::Done,
-            text,
-        }),
-        RunEnd::FuelSpent => Ok(Reply {
-            status: Status::FuelSpent(0),
-            text,
-        }),
-        RunEnd::TooDeep => Ok(Reply {
-            status: Status::TooDeep(0),
-            text,
-        }),
-        RunEnd::Astray => reply_unbuilt(alloc, name),
-    }
+    let status = match end {
+        RunEnd::Done => Status::Done,
+        RunEnd::FuelSpent(step) => Status::FuelSpent(step),
+        RunEnd::TooDeep(step) => Status::TooDeep(step),
+        RunEnd::WordRepeated(first, second) => Status::WordRepeated(first, second),
+        RunEnd::Astray => return reply_unbuilt(alloc, name),
+    };
+    Ok(Reply { status, text })
 }
 
-/// The run of a program that is built.
-fn reply_run(alloc: Global, fuel: u32, name: &str, tree: &Kernel) -> Result<Reply, Memory>
-    requires { is_built tree.now ≡ true }
-    ensures { (key : List ℕ) → IfOk result (λ reply. IsFor reply.status (string_bytes reply.text)
-        (due_of_machine name.now (script_of key fuel name.now tree.now))) }
+/// The run of the program of a script's one vat, which is built: as many turns as the schedule has entries.
+fn reply_run(
+    alloc: Global,
+    script: &Script,
+    vat: &VatScript,
+    tree: &Kernel,
+) -> Result<Reply, Memory>
+    requires admitted { IsAdmitted script.now }
+    requires alone { script.now.vats ≡ vat.now ∷ [] }
+    requires built { is_built tree.now ≡ true }
+    ensures { IfOk result (λ reply. IsFor reply.status (string_bytes reply.text) (due_of_machine vat.now.name (script_of script.now tree.now))) }
 {
     let limits = Limits {
         depth: GREATEST_DEPTH,
     };
-    let told = run_program(alloc, name, tree, fuel, limits)?;
+    let name = vat.name.as_str();
+    let turns = script.schedule.len() as u64;
+    let told = run_program(alloc, &script.key, name, tree, turns, script.fuel, limits)?;
     reply_told(alloc, name, told.end, told.text)
 }
 
-/// The run of a tree, if it is built, and else its refusal.
-fn reply_tree(alloc: Global, fuel: u32, name: &str, tree: &Kernel) -> Result<Reply, Memory>
-    ensures { (key : List ℕ) → IfOk result (λ reply. IsDueOfTree (is_built tree.now) key fuel name.now tree.now reply.status (string_bytes reply.text)) }
+/// The run of the tree of a script's one vat, if it is built, and else its refusal.
+fn reply_tree(
+    alloc: Global,
+    script: &Script,
+    vat: &VatScript,
+    tree: &Kernel,
+) -> Result<Reply, Memory>
+    requires admitted { IsAdmitted script.now }
+    requires alone { script.now.vats ≡ vat.now ∷ [] }
+    ensures { IfOk result (λ reply. IsDueOfTree (is_built tree.now) script.now vat.now.name tree.now reply.status (string_bytes reply.text)) }
 {
     if is_built(tree) {
-        reply_run(alloc, fuel, name, tree)
+        reply_run(alloc, script, vat, tree)
     } else {
-        reply_unbuilt(alloc, name)
+        reply_unbuilt(alloc, vat.name.as_str())
     }
 }
 
-/// The run of a vat, or the refusal of its source.
-fn reply_vat(alloc: Global, fuel: u32, vat: &VatScript) -> Result<Reply, Memory>
-    ensures { (key : List ℕ) → IfOk result (λ reply. ReadAs vat.now.source
-        (λ answer. IsDueOfSource key fuel vat.now.name answer reply.status (string_bytes reply.text))) }
+/// The run of a script's one vat, or the refusal of its source.
+fn reply_vat(alloc: Global, script: &Script, vat: &VatScript) -> Result<Reply, Memory>
+    requires admitted { IsAdmitted script.now }
+    requires alone { script.now.vats ≡ vat.now ∷ [] }
+    ensures { IfOk result (λ reply. ReadAs vat.now.source
+        (λ answer. IsDueOfSource script.now vat.now.name answer reply.status (string_bytes reply.text))) }
 {
     let given = safe_names(alloc)?;
-    let name = vat.name.as_str();
     match read_program(alloc, vat.source.as_str(), &given) {
-        Ok(scoped) => reply_tree(alloc, fuel, name, scoped.tree()),
-        Err(fault) => reply_fault(alloc, name, fault),
+        Ok(scoped) => reply_tree(alloc, script, vat, scoped.tree()),
+        Err(fault) => reply_fault(alloc, vat.name.as_str(), fault),
     }
 }
 
-/// The run of the vat of a script, or of no vat.
-fn reply_vats(alloc: Global, fuel: u32, vats: &[VatScript]) -> Result<Reply, Memory>
-    ensures { (key : List ℕ) → IfOk result (λ reply. IsDueOfVats key fuel vats.now reply.status (string_bytes reply.text)) }
+/// The run of a script of at most one vat.
+fn reply_vats(alloc: Global, script: &Script) -> Result<Reply, Memory>
+    requires admitted { IsAdmitted script.now }
+    requires few { length script.now.vats ≤ most_vats }
+    ensures { IfOk result (λ reply. IsDueOfVats script.now script.now.vats reply.status (string_bytes reply.text)) }
 {
-    match vats {
-        [] => reply_empty(alloc),
-        [vat, ..] => reply_vat(alloc, fuel, vat),
+    match script.vats.as_slice() {
+        [] => reply_empty(alloc, script),
+        [vat, ..] => reply_vat(alloc, script, vat),
     }
 }
 
@@ -120,7 +133,7 @@ pub fn run_bytes(alloc: Global, bytes: &[u8]) -> Result<Reply, Memory>
     ensures { IfOk result (λ reply. IsDueOfScript (script_from bytes.now) reply.status (string_bytes reply.text)) }
 {
     match script_from(alloc, bytes) {
-        Ok(script) => reply_vats(alloc, script.fuel, script.vats.as_slice()),
+        Ok(script) => reply_vats(alloc, &script),
         Err(ScriptFault::Rule(rule)) => reply_rule(alloc, rule),
         Err(ScriptFault::Memory) => Err(Memory),
     }

@@ -1,3 +1,6 @@
-pub mod Closing
+mod Closed
+pub mod Left
+pub mod Naming
+pub mod Runs
 pub mod Shows
-pub mod Tells
+pub mod Steps

@@ -1,3 +1,5 @@
+pub mod Closing
 pub mod Ends
-pub mod Lines
 pub mod Rooted
+pub mod Run
+pub mod Vat

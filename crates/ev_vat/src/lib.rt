@@ -1,9 +1,9 @@
-//! One vat that knows no other: its run, and the text of it.
+//! One vat that knows no other: its turns, its run, and the text of it.
 #![tactic(auto)]
 
-pub mod lines;
+pub mod closing;
 pub mod run;
-pub mod told;
+pub mod vat;
 
-pub use run::run_program;
-pub use told::{RunEnd, Told};
+pub use run::{RunEnd, Told, run_program};
+pub use vat::{Vat, VatStop};

@@ -1,7 +1,7 @@
 -- Lists of which each member is so.
-use Rattle.std.proofs.Common.{◌≡◌, ℕ, zero, suc, List, [], ◌∷◌, ◌++◌, map}
-use Rattle.std.specs.Prelude.{slice_get, slice_set}
-use Rattle.law_inside.specs.Inside.{Every, IfThere}
+use Rattle.std.proofs.Common.{ℕ, zero, suc, List, [], ◌∷◌, ◌++◌, map}
+use Rattle.std.specs.Prelude.{slice_set}
+use Rattle.ev_room.specs.Holding.{Every}
 
 pub every_both : {A : Type 0} (P : A → Type 0) (xs ys : List A) → Every P xs → Every P ys → Every P (xs ++ ys)
 every_both P [] ys a b = b
@@ -14,11 +14,6 @@ pub every_set : {A : Type 0} (P : A → Type 0) (xs : List A) (n : ℕ) (x : A) 
 every_set P [] n x a b = tt
 every_set P (y ∷ xs) zero x a b = (b, a.1)
 every_set P (y ∷ xs) (suc n) x a b = (a.0, every_set P xs n x a.1 b)
-
-pub every_got : {A : Type 0} (P : A → Type 0) (xs : List A) (n : ℕ) → Every P xs → IfThere P (slice_get xs n)
-every_got P [] n a = tt
-every_got P (x ∷ xs) zero a = a.0
-every_got P (x ∷ xs) (suc n) a = every_got P xs n a.1
 
 pub every_map : {A B : Type 0} (P : A → Type 0) (Q : B → Type 0) (f : A → B) (xs : List A) → ((x : A) → P x → Q (f x)) → Every P xs → Every Q (map f xs)
 every_map P Q f [] each a = tt

@@ -1,76 +1,61 @@
--- Values of one kind, and a vat whose references hold such values alone.
-use Rattle.std.specs.Prelude.{◌≡◌, ℕ, Bool, true, List, [], ◌∷◌, Some, None, Result, Ok, Err}
-use Rattle.std.specs.declared.option.Option.{Option}
+-- A vat whose references hold values of one kind alone, and what leaves it so.
+use Rattle.std.specs.Prelude.{◌≡◌, ℕ, Bool, List, Some, Ok, Err}
 use Rattle.ev_base.specs.declared.values.Value.{Value}
 use Rattle.ev_base.specs.declared.values.Value.TheVariants as held
 use Rattle.ev_heap.specs.Contents.{Contents}
 use Rattle.ev_refs.specs.Leading.{lists_in, members_at}
 use Rattle.ev_refs.specs.References.{References}
-use Rattle.ev_refs.specs.declared.known.Known.{Known}
-use Rattle.ev_refs.specs.declared.known.Message.{Message}
-use Rattle.ev_refs.specs.declared.known.Standing.{Standing}
-use Rattle.ev_refs.specs.declared.known.Standing.TheVariants.{Unsettled, WaitsOn, Viewed, Settled}
+use Rattle.ev_room.specs.Holding.{Every, IsOf, KnownOf, MessageOf}
 use Rattle.ev_pass.specs.Acts.{Out}
 use Rattle.ev_pass.specs.Measuring.{own_weight}
 use Rattle.ev_pass.specs.declared.interior.Interior.{Interior}
 use Rattle.ev_pass.specs.declared.interior.Stop.{Stop}
 use Rattle.ev_pass.specs.declared.interior.Stop.TheVariants.{Fuel, Repeated, Astray, Missing, Memory}
 
--- each of a list is so
-abbrev pub Every : {A : Type 0} → (A → Type 0) → List A → Type 0
-Every P [] = Unit {0}
-Every P (x ∷ xs) = P x × Every P xs
+-- what acts on references leave as it is: the heap, the texts of their problems, and the key of words
+pub record Base : Type 0 where
+  pub heap : Contents
+  pub partition : ℕ
+  pub cycle : ℕ
+  pub heavy : ℕ
+  pub key : List ℕ
 
--- what may be there is so
-abbrev pub IfThere : {A : Type 0} → (A → Type 0) → Option A → Type 0
-IfThere P None = Unit {0}
-IfThere P (Some x) = P x
+-- no text was missing
+abbrev pub StopOf : Stop → Type 0
+StopOf Fuel = Unit {0}
+StopOf (Repeated m n) = Unit {0}
+StopOf Astray = Unit {0}
+StopOf Missing = ⊥
+StopOf Memory = Unit {0}
 
-module _ (kind : Value → Bool) where
-  abbrev pub IsOf : Value → Type 0
-  IsOf v = kind v ≡ true
+module _ (kind : Value → Bool) (base : Base) where
+  -- A heap for values of the kind: it has the text of each, and of the kind are the members of its lists, each name, what is broken with a text of the kind, and what references break values with.
+  pub record GroundOf : Type 0 where
+    pub texts : (v : Value) → IsOf kind v → (n : ℕ) × (own_weight base.heap v ≡ Some n)
+    pub members : (k : ℕ) → Every (IsOf kind) (members_at (lists_in base.heap) k)
+    pub names : (n : ℕ) → IsOf kind (held.Prom n)
+    pub broken : (t : ℕ) → IsOf kind (held.Text t) → IsOf kind (held.Broken t)
+    pub partition : IsOf kind (held.Broken base.partition)
+    pub cycle : IsOf kind (held.Broken base.cycle)
 
-  abbrev pub MessageOf : Message → Type 0
-  MessageOf m = IsOf m.target × Every IsOf m.args
+  -- references that hold values of the kind, and break values with these texts
+  pub record ReferencesIn (r : References) : Type 0 where
+    pub known : Every (KnownOf kind) r.known
+    pub queue : Every (MessageOf kind) r.queue
+    pub partition : r.partition ≡ base.partition
+    pub cycle : r.cycle ≡ base.cycle
 
-  abbrev pub StandingOf : Standing → Type 0
-  StandingOf Unsettled = Unit {0}
-  StandingOf (WaitsOn q) = Unit {0}
-  StandingOf (Viewed q) = Unit {0}
-  StandingOf (Settled v) = IsOf v
+  -- a vat on that ground, whose references are so
+  pub record InsideOf (i : Interior) : Type 0 where
+    pub heap : i.heap ≡ base.heap
+    pub refs : ReferencesIn i.refs
+    pub heavy : i.too_heavy ≡ base.heavy
+    pub key : i.words.key ≡ base.key
 
-  abbrev pub KnownOf : Known → Type 0
-  KnownOf k = StandingOf k.standing × (Every MessageOf k.held × Every MessageOf k.reactions)
-
-  pub record ReferencesOf (r : References) : Type 0 where
-    pub known : Every KnownOf r.known
-    pub queue : Every MessageOf r.queue
-    pub partition : IsOf (held.Broken r.partition)
-    pub cycle : IsOf (held.Broken r.cycle)
-
-  -- A heap for values of the kind: it has the text of each, and of the kind are the members of its lists, each name, and what is broken with a text of the kind.
-  pub record HeapOf (h : Contents) : Type 0 where
-    pub texts : (v : Value) → IsOf v → (n : ℕ) × (own_weight h v ≡ Some n)
-    pub members : (k : ℕ) → Every IsOf (members_at (lists_in h) k)
-    pub names : (n : ℕ) → IsOf (held.Prom n)
-    pub broken : (t : ℕ) → IsOf (held.Text t) → IsOf (held.Broken t)
-
-  -- a vat with that heap, whose references hold values of the kind
-  pub record InsideOf (h : Contents) (i : Interior) : Type 0 where
-    pub heap : i.heap ≡ h
-    pub refs : ReferencesOf i.refs
-
-  abbrev pub StopOf : Stop → Type 0
-  StopOf Fuel = Unit {0}
-  StopOf (Repeated m n) = Unit {0}
-  StopOf Astray = Unit {0}
-  StopOf Missing = ⊥
-  StopOf Memory = Unit {0}
-
-  -- what something gives is so, and leaves the vat so; and no text was missing
-  abbrev pub EndsOf : {A : Type 0} → Contents → (A → Type 0) → Out A → Type 0
-  EndsOf h Q (Ok a, i) = Q a × InsideOf h i
-  EndsOf h Q (Err e, i) = StopOf e
+  -- What something gives is so, and leaves the vat so, also where it stops; and no text was missing.
+  abbrev pub EndsOf : {A : Type 0} → (A → Type 0) → Out A → Type 0
+  EndsOf Q (Ok a, i) = Q a × InsideOf i
+  EndsOf Q (Err e, i) = StopOf e × InsideOf i
 
 abbrev pub Anything : {A : Type 0} → A → Type 0
 Anything a = Unit {0}

@@ -17,7 +17,8 @@ use Rattle.ev_script.specs.declared.script.VatScript.{VatScript}
 use Rattle.ev_script.proofs.Admitted.{read_admitted}
 use Rattle.law_name.specs.Names.{AllOf, IsAmong, Once}
 use Rattle.law_reference.specs.Cuts.{IsCutAmong, NoticesFollow}
-use Rattle.law_script.specs.Accepted.{machine_entry, machine_vats, machine_script, MeetsTheLaws}
+use Rattle.law_schedule.specs.Scripts.{machine_entry, machine_vats, machine_script}
+use Rattle.law_script.specs.Accepted.{MeetsTheLaws}
 
 -- ---- lists without repetition
 

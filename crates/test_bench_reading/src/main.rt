@@ -6,6 +6,7 @@
 //! tree. What is refused is read too.
 #![tactic(auto)]
 
+use def_syntax::{Sugar, Token};
 use ev_base::{Seq, Str};
 use ev_expand::{ExpandFault, expand};
 use ev_io::{StdSource, read_all};
@@ -21,101 +22,143 @@ use std::{env, str};
 /// The greatest input, in bytes.
 const LIMIT: u32 = 1_048_576;
 
+/// A kind of work.
+#[derive(Clone, Copy)]
+enum Kind {
+    Lex,
+    Parse,
+    Expand,
+    Program,
+    Script,
+}
+
+fn kind_of(word: Option<String>) -> Option<Kind> {
+    match word?.as_str() {
+        "lex" => Some(Kind::Lex),
+        "parse" => Some(Kind::Parse),
+        "expand" => Some(Kind::Expand),
+        "program" => Some(Kind::Program),
+        "script" => Some(Kind::Script),
+        _ => None,
+    }
+}
+
+fn number_of(word: Option<String>) -> Option<u32> {
+    word?.as_str().parse().ok()
+}
+
 fn read_input(rt: &HostRuntime) -> Option<Seq<u8>> {
     let reader = BufReader::new(rt.alloc(), rt.reader()).ok()?;
     let mut source = StdSource::new(reader);
     read_all(rt.alloc(), &mut source, LIMIT).ok()
 }
 
-fn lex_often(alloc: Global, text: &str, times: u32) -> bool {
+fn lexes(alloc: Global, text: &str) -> bool {
+    lex(alloc, text).is_ok()
+}
+
+fn parses(alloc: Global, tokens: &[Token], text: &str) -> bool {
+    !matches!(parse(alloc, tokens, text), Err(ParseFault::Memory))
+}
+
+fn expands(alloc: Global, tree: &Sugar) -> bool {
+    !matches!(expand(alloc, tree), Err(ExpandFault::Memory))
+}
+
+/// Reads a program that is given no names.
+fn reads_program(alloc: Global, text: &str) -> bool {
+    let given: Seq<Str> = Seq::new(alloc);
+    !matches!(read_program(alloc, text, &given), Err(ProgramFault::Memory))
+}
+
+fn reads_script(alloc: Global, bytes: &[u8]) -> bool {
+    !matches!(read_script(alloc, bytes), Err(ScriptFault::Memory))
+}
+
+/// What is done so often, and on what.
+#[derive(Clone, Copy)]
+enum Task<'a> {
+    Lex(&'a str),
+    Parse(&'a [Token], &'a str),
+    Expand(&'a Sugar),
+    Program(&'a str),
+    Script(&'a [u8]),
+}
+
+fn once(alloc: Global, task: Task<'_>) -> bool {
+    match task {
+        Task::Lex(text) => lexes(alloc, text),
+        Task::Parse(tokens, text) => parses(alloc, tokens, text),
+        Task::Expand(tree) => expands(alloc, tree),
+        Task::Program(text) => reads_program(alloc, text),
+        Task::Script(bytes) => reads_script(alloc, bytes),
+    }
+}
+
+fn often(alloc: Global, task: Task<'_>, times: u32) -> bool {
     for _ in 0..times {
-        let Ok(_) = lex(alloc, text) else {
+        if !once(alloc, task) {
             return false;
-        };
+        }
     }
     true
 }
 
 /// Takes the text apart once, and parses its tokens so often.
 fn parse_often(alloc: Global, text: &str, times: u32) -> bool {
-    let Ok(tokens) = lex(alloc, text) else {
-        return false;
-    };
-    for _ in 0..times {
-        if let Err(ParseFault::Memory) = parse(alloc, tokens.as_slice(), text) {
-            return false;
-        }
+    match lex(alloc, text) {
+        Ok(tokens) => often(alloc, Task::Parse(tokens.as_slice(), text), times),
+        Err(_) => false,
     }
-    true
+}
+
+fn tree_of(alloc: Global, text: &str) -> Option<Sugar> {
+    match lex(alloc, text) {
+        Ok(tokens) => parse(alloc, tokens.as_slice(), text).ok(),
+        Err(_) => None,
+    }
 }
 
 /// Parses the text once, and expands its tree so often.
 fn expand_often(alloc: Global, text: &str, times: u32) -> bool {
-    let Ok(tokens) = lex(alloc, text) else {
-        return false;
-    };
-    let Ok(tree) = parse(alloc, tokens.as_slice(), text) else {
-        return false;
-    };
-    for _ in 0..times {
-        if let Err(ExpandFault::Memory) = expand(alloc, &tree) {
-            return false;
-        }
+    match tree_of(alloc, text) {
+        Some(tree) => often(alloc, Task::Expand(&tree), times),
+        None => false,
     }
-    true
 }
 
-/// Reads a program so often that is given no names.
-fn read_often(alloc: Global, text: &str, times: u32) -> bool {
-    let given: Seq<Str> = Seq::new(alloc);
-    for _ in 0..times {
-        if let Err(ProgramFault::Memory) = read_program(alloc, text, &given) {
-            return false;
-        }
-    }
-    true
-}
-
-/// Reads a script so often.
-fn script_often(alloc: Global, bytes: &[u8], times: u32) -> bool {
-    for _ in 0..times {
-        if let Err(ScriptFault::Memory) = read_script(alloc, bytes) {
-            return false;
-        }
-    }
-    true
-}
-
-fn work_on_text(alloc: Global, kind: &str, text: &str, times: u32) -> bool {
+fn work_on_text(alloc: Global, kind: Kind, text: &str, times: u32) -> bool {
     match kind {
-        "lex" => lex_often(alloc, text, times),
-        "parse" => parse_often(alloc, text, times),
-        "expand" => expand_often(alloc, text, times),
-        "program" => read_often(alloc, text, times),
-        _ => false,
+        Kind::Lex => often(alloc, Task::Lex(text), times),
+        Kind::Parse => parse_often(alloc, text, times),
+        Kind::Expand => expand_often(alloc, text, times),
+        Kind::Program => often(alloc, Task::Program(text), times),
+        Kind::Script => often(alloc, Task::Script(text.as_bytes()), times),
     }
 }
 
-fn work(alloc: Global, kind: &str, bytes: &[u8], times: u32) -> bool {
-    if kind == "script" {
-        return script_often(alloc, bytes, times);
-    }
+fn work(alloc: Global, kind: Kind, bytes: &[u8], times: u32) -> bool {
     match str::from_utf8(bytes) {
         Ok(text) => work_on_text(alloc, kind, text, times),
         Err(_) => false,
     }
 }
 
-fn run(rt: &HostRuntime) -> Option<bool> {
-    let mut words = env::args(rt).ok()?.skip(1);
-    let kind = words.next()?;
-    let times: u32 = words.next()?.as_str().parse().ok()?;
+fn run(rt: &HostRuntime, kind: Option<Kind>, times: Option<u32>) -> Option<bool> {
+    let kind = kind?;
+    let times = times?;
     let bytes = read_input(rt)?;
-    Some(work(rt.alloc(), kind.as_str(), bytes.as_slice(), times))
+    Some(work(rt.alloc(), kind, bytes.as_slice(), times))
 }
 
 fn main(rt: HostRuntime) -> ExitCode {
-    match run(&rt) {
+    let Ok(args) = env::args(&rt) else {
+        return ExitCode::from(1);
+    };
+    let mut args = args.skip(1);
+    let kind = kind_of(args.next());
+    let times = number_of(args.next());
+    match run(&rt, kind, times) {
         Some(true) => ExitCode::SUCCESS,
         _ => ExitCode::from(1),
     }

@@ -12,7 +12,7 @@ use std::alloc::Global;
 use std::process::ExitCode;
 use std::{fs, io};
 
-const PROGRAMS: [&str; 18] = [
+const PROGRAMS: [&str; 19] = [
     "caretaker",
     "coercions",
     "counter",
@@ -30,10 +30,11 @@ const PROGRAMS: [&str; 18] = [
     "pipeline",
     "purse",
     "sums",
+    "tally",
     "texts",
 ];
 
-const SCRIPTS: [&str; 13] = [
+const SCRIPTS: [&str; 14] = [
     "coercions",
     "counter",
     "door",
@@ -46,6 +47,7 @@ const SCRIPTS: [&str; 13] = [
     "operators",
     "purse",
     "sums",
+    "tally",
     "texts",
 ];
 

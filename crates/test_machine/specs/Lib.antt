@@ -29,6 +29,7 @@ pub mod NativeAuditors
 pub mod Row11Wire
 pub mod Row14Wire
 pub mod Row19
+pub mod Tally
 pub mod SendOnly
 pub mod EjectorHandedNull
 pub mod TextAndCharacter

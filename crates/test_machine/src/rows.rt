@@ -29,6 +29,7 @@ ghost use Rattle.test_machine.specs.NativeAuditors.{NativeAuditorsHolds, NativeA
 ghost use Rattle.test_machine.specs.Row11Wire.{Row11WireHolds, Row11WireReads};
 ghost use Rattle.test_machine.specs.Row14Wire.{Row14WireHolds, Row14WireReads};
 ghost use Rattle.test_machine.specs.Row19.{Row19Holds, Row19Reads};
+ghost use Rattle.test_machine.specs.Tally.{TallyHolds, TallyReads, TallyStops};
 ghost use Rattle.test_machine.specs.SendOnly.{SendOnlyHolds, SendOnlyReads};
 ghost use Rattle.test_machine.specs.EjectorHandedNull.{EjectorHandedNullHolds, EjectorHandedNullReads};
 ghost use Rattle.test_machine.specs.TextAndCharacter.{TextAndCharacterHolds, TextAndCharacterReads};
@@ -254,4 +255,12 @@ pub fn ejector_handed_null()
 pub fn text_and_character()
     ensures text { TextAndCharacterHolds }
     ensures trees { TextAndCharacterReads }
+{}
+
+/// A counter that is sent two messages, and a reaction that waits for the second answer.
+#[tactic(auto, unfolding(def_run::specs::Text::opened_text, crate::specs::Endings::lines, def_kernel_form::specs::Reading::opened_reading, crate::specs::Tally::opened_tally))]
+pub fn tally()
+    ensures text { TallyHolds }
+    ensures stops { TallyStops }
+    ensures trees { TallyReads }
 {}

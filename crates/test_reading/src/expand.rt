@@ -1,128 +1,79 @@
-//! What no clause says: that ample memory suffices.
+//! What no clause says: that ample memory suffices. Trees are those of texts.
 
 use def_kernel::{Kernel, Node};
-use def_syntax::{Form, Sugar, SugarNode};
-use ev_base::{Memory, NodeId, Seq, Str};
 use ev_expand::expansion::{ExpandFault, expand};
-use std::alloc::Global;
+use ev_lexer::lex;
+use ev_parser::parser::parse;
+use std::alloc::{AllocError, Global};
 use std::test::Fail;
 
-fn add(nodes: &mut Seq<SugarNode>, form: Form, first: u64) -> Result<(), Memory> {
-    nodes.push(SugarNode { form, first })?;
-    Ok(())
+/// The expansion of the tree of a text. A text without a tree fails as memory does, which no test wants.
+fn expanded(alloc: Global, text: &str) -> Result<Kernel, ExpandFault> {
+    let Ok(tokens) = lex(alloc, text) else {
+        return Err(ExpandFault::Memory);
+    };
+    let Ok(tree) = parse(alloc, tokens.as_slice(), text) else {
+        return Err(ExpandFault::Memory);
+    };
+    expand(alloc, &tree)
 }
 
-fn word(alloc: Global, text: &str) -> Result<Str, Memory> {
-    Str::copy_of(alloc, text)
-}
-
-/// `41 + 1`
-fn sum(alloc: Global) -> Result<Sugar, Memory> {
-    let mut nodes = Seq::new(alloc);
-    add(&mut nodes, Form::Number(word(alloc, "41")?), 0)?;
-    add(&mut nodes, Form::Number(word(alloc, "1")?), 2)?;
-    let plus = word(alloc, "+")?;
-    add(&mut nodes, Form::Binary(NodeId(0), plus, NodeId(1)), 0)?;
-    let mut items = Seq::new(alloc);
-    items.push(NodeId(2))?;
-    add(&mut nodes, Form::Program(items), 0)?;
-    Ok(Sugar::of(nodes, NodeId(3)))
-}
-
-/// `return 1`, or another word in the place of `return`.
-fn leaving(alloc: Global, text: &str) -> Result<Sugar, Memory> {
-    let mut nodes = Seq::new(alloc);
-    add(&mut nodes, Form::Number(word(alloc, "1")?), 1)?;
-    let text = word(alloc, text)?;
-    add(&mut nodes, Form::Leave(text, Some(NodeId(0))), 0)?;
-    let mut items = Seq::new(alloc);
-    items.push(NodeId(1))?;
-    add(&mut nodes, Form::Program(items), 0)?;
-    Ok(Sugar::of(nodes, NodeId(2)))
-}
-
-/// `__x`
-fn hidden(alloc: Global) -> Result<Sugar, Memory> {
-    let mut nodes = Seq::new(alloc);
-    add(&mut nodes, Form::Noun(word(alloc, "__x")?), 0)?;
-    let mut items = Seq::new(alloc);
-    items.push(NodeId(0))?;
-    add(&mut nodes, Form::Program(items), 0)?;
-    Ok(Sugar::of(nodes, NodeId(1)))
-}
-
-/// `try {} catch p {} catch p {} ..`, with so many catches.
-fn caught(alloc: Global, count: u64) -> Result<Sugar, Memory> {
-    let mut nodes = Seq::new(alloc);
-    add(&mut nodes, Form::Block(Seq::new(alloc)), 1)?;
-    let mut catches = Seq::new(alloc);
-    for i in 0..count {
-        let pattern = i.saturating_mul(2).saturating_add(1);
-        add(&mut nodes, Form::FinalPattern(word(alloc, "p")?, None), 0)?;
-        add(&mut nodes, Form::Block(Seq::new(alloc)), 0)?;
-        catches.push((NodeId(pattern), NodeId(pattern.saturating_add(1))))?;
-    }
-    add(&mut nodes, Form::Try(NodeId(0), catches, None), 0)?;
-    let root = count.saturating_mul(2).saturating_add(1);
-    Ok(Sugar::of(nodes, NodeId(root)))
-}
-
-fn node_count(tree: &Kernel) -> usize {
-    tree.nodes().len()
-}
-
-/// 0 for a tree, else the number of the fault's kind, with its token; 4 for want of memory.
-fn outcome(expanded: Result<Kernel, ExpandFault>) -> (u64, u64) {
-    match expanded {
-        Ok(_) => (0, 0),
-        Err(ExpandFault::MisplacedReturn(token)) => (1, token),
-        Err(ExpandFault::MisplacedBreak(token)) => (2, token),
-        Err(ExpandFault::ReservedName(token)) => (3, token),
-        Err(ExpandFault::Memory) => (4, 0),
+/// How many nodes it has.
+fn node_count(alloc: Global, text: &str) -> Result<usize, ExpandFault> {
+    match expanded(alloc, text) {
+        Ok(tree) => Ok(tree.nodes().len()),
+        Err(fault) => Err(fault),
     }
 }
 
-#[test]
-fn sums(rt: HostRuntime) -> Result<(), Fail> {
-    let alloc = rt.alloc();
-    let tree = sum(alloc).ok().ok_or("no room")?;
-    let made = expand(alloc, &tree).ok().ok_or("no tree")?;
-    assert_eq!(rt; node_count(&made), 3);
-    match made.nodes().first() {
+/// Whether the first node adds one argument to node 1.
+fn is_sum(tree: &Kernel) -> bool {
+    match tree.nodes().first() {
         Some(
             Node::Call {
                 receiver,
                 verb,
                 args,
             },
-        ) => {
-            assert_eq!(rt; receiver.0, 1);
-            assert_eq!(rt; verb.as_str(), "add");
-            assert_eq!(rt; args.len(), 1);
-        }
-        _ => assert!(rt; false),
+        ) => receiver.0 == 1 && verb.as_str() == "add" && args.len() == 1,
+        _ => false,
     }
-    Ok(())
+}
+
+fn makes_sum(alloc: Global, text: &str) -> bool {
+    match expanded(alloc, text) {
+        Ok(tree) => is_sum(&tree),
+        Err(_) => false,
+    }
+}
+
+/// `try {} catch p {} catch p {} ..`, with so many catches.
+fn caught(alloc: Global, count: u64) -> Result<String, AllocError> {
+    let mut text = String::from_str(alloc, "try {}")?;
+    for _ in 0..count {
+        text.push_str(" catch p {}")?;
+    }
+    Ok(text)
 }
 
 #[test]
-fn refusals(rt: HostRuntime) -> Result<(), Fail> {
-    let alloc = rt.alloc();
-    let stray_return = leaving(alloc, "return").ok().ok_or("no room")?;
-    assert_eq!(rt; outcome(expand(alloc, &stray_return)), (1, 0));
-    let stray_break = leaving(alloc, "break").ok().ok_or("no room")?;
-    assert_eq!(rt; outcome(expand(alloc, &stray_break)), (2, 0));
-    let reserved = hidden(alloc).ok().ok_or("no room")?;
-    assert_eq!(rt; outcome(expand(alloc, &reserved)), (3, 0));
-    Ok(())
+fn expands(rt: HostRuntime) {
+    let rows = [
+        ("41 + 1", Ok(3)),
+        ("return 1", Err(ExpandFault::MisplacedReturn(0))),
+        ("break 1", Err(ExpandFault::MisplacedBreak(0))),
+        ("__x", Err(ExpandFault::ReservedName(0))),
+    ];
+    for (text, due) in rows {
+        assert!(rt; node_count(rt.alloc(), text) == due, "{text}");
+    }
+    assert!(rt; makes_sum(rt.alloc(), "41 + 1"));
 }
 
 /// The tree of many catches is high.
 #[test]
 fn high(rt: HostRuntime) -> Result<(), Fail> {
-    let alloc = rt.alloc();
-    let tree = caught(alloc, 2000).ok().ok_or("no room")?;
-    let made = expand(alloc, &tree).ok().ok_or("no tree")?;
-    assert_eq!(rt; node_count(&made), 6001);
+    let text = caught(rt.alloc(), 2000)?;
+    assert!(rt; node_count(rt.alloc(), text.as_str()) == Ok(6001));
     Ok(())
 }

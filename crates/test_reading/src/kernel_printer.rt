@@ -1,19 +1,28 @@
 use def_kernel::{Kernel, Node};
-use ev_base::{NodeId, Seq};
+use ev_base::{Memory, NodeId, Seq, Str};
 use ev_kernel_printer::*;
 use ev_kernel_reader::read_form;
-use std::alloc::Global;
+use std::alloc::{AllocError, Global};
 use std::test::Fail;
 
+/// Whether the tree is printed as that.
+fn is_form(alloc: Global, tree: &Kernel, due: &str) -> bool {
+    match print(alloc, tree) {
+        Ok(text) => text.as_str() == due,
+        Err(_) => false,
+    }
+}
+
 /// Whether the form is printed as it was read.
-fn is_printed(alloc: Global, text: &str) -> Result<bool, Fail> {
-    let tree = read_form(alloc, text)?;
-    Ok(print(alloc, &tree)?.as_str() == text)
+fn is_printed(alloc: Global, text: &str) -> bool {
+    match read_form(alloc, text) {
+        Ok(tree) => is_form(alloc, &tree, text),
+        Err(_) => false,
+    }
 }
 
 #[test]
-fn prints_what_is_read(rt: HostRuntime) -> Result<(), Fail> {
-    let alloc = rt.alloc();
+fn prints_what_is_read(rt: HostRuntime) {
     for text in [
         "(lit 41)",
         "(seq (set x (lit -5)) (lit 'é') (lit \"a\\n\"))",
@@ -24,84 +33,90 @@ fn prints_what_is_read(rt: HostRuntime) -> Result<(), Fail> {
         "(object (final o) ((noun a) (noun b)) (method run () (lit 1)) (matcher (any) (lit 2)))",
         "(object (any) () (method \"a b\" ((final x) (any)) (noun x)))",
     ] {
-        assert!(rt; is_printed(alloc, text)?, "{text}");
+        assert!(rt; is_printed(rt.alloc(), text), "{text}");
     }
-    Ok(())
+}
+
+/// A tree of one node, whose body is itself.
+fn endless(alloc: Global) -> Result<Kernel, Memory> {
+    let mut nodes = Seq::new(alloc);
+    nodes.push(Node::Hide(NodeId(0)))?;
+    Ok(Kernel::of(nodes))
 }
 
 #[test]
 fn prints_what_is_no_tree(rt: HostRuntime) -> Result<(), Fail> {
-    let alloc = rt.alloc();
-    let none = Kernel::of(Seq::new(alloc));
-    assert_eq!(rt; print(alloc, &none)?.as_str(), "");
-    let mut nodes = Seq::new(alloc);
-    nodes.push(Node::Hide(NodeId(0)))?;
-    assert_eq!(rt; print(alloc, &Kernel::of(nodes))?.as_str(), "(hide )");
+    assert!(rt; is_form(rt.alloc(), &Kernel::of(Seq::new(rt.alloc())), ""));
+    assert!(rt; is_form(rt.alloc(), &endless(rt.alloc())?, "(hide )"));
     Ok(())
+}
+
+/// Blocks in blocks, so many, round a literal.
+fn nested(alloc: Global, count: usize) -> Result<String, AllocError> {
+    let mut text = String::new(alloc);
+    for _ in 0..count {
+        text.push_str("(hide ")?;
+    }
+    text.push_str("(lit 1)")?;
+    for _ in 0..count {
+        text.push(')')?;
+    }
+    Ok(text)
 }
 
 #[test]
 fn deep_trees_are_printed(rt: HostRuntime) -> Result<(), Fail> {
-    let alloc = rt.alloc();
-    let mut text = String::new(alloc);
-    for _ in 0..10_000 {
-        text.push_str("(hide ")?;
-    }
-    text.push_str("(lit 1)")?;
-    for _ in 0..10_000 {
-        text.push(')')?;
-    }
-    assert!(rt; is_printed(alloc, text.as_str())?);
+    let text = nested(rt.alloc(), 10_000)?;
+    assert!(rt; is_printed(rt.alloc(), text.as_str()));
     Ok(())
 }
 
-/// Whether the free names of node 0 are these.
-fn has_free_names(alloc: Global, form: &str, due: &[&str]) -> Result<bool, Fail> {
-    let tree = read_form(alloc, form)?;
-    let names = free_names(alloc, &tree, NodeId(0))?;
+fn are_names(names: &Seq<Str>, due: &[&str]) -> bool {
     if names.len() != due.len() {
-        return Ok(false);
+        return false;
     }
     for (name, other) in names.as_slice().iter().zip(due) {
         if name.as_str() != *other {
-            return Ok(false);
+            return false;
         }
     }
-    Ok(true)
+    true
+}
+
+/// Whether the free names of node 0 are these.
+fn has_free_names(alloc: Global, form: &str, due: &[&str]) -> bool {
+    let Ok(tree) = read_form(alloc, form) else {
+        return false;
+    };
+    match free_names(alloc, &tree, NodeId(0)) {
+        Ok(names) => are_names(&names, due),
+        Err(_) => false,
+    }
 }
 
 #[test]
-fn finds_free_names(rt: HostRuntime) -> Result<(), Fail> {
-    let alloc = rt.alloc();
-    assert!(rt; has_free_names(alloc, "(noun x)", &["x"])?);
-    assert!(rt; has_free_names(alloc, "(set x (call (noun y) add (noun x)))", &["x", "y"])?);
-    assert!(rt;
-        has_free_names(
-            alloc,
+fn finds_free_names(rt: HostRuntime) {
+    let rows: [(&str, &[&str]); 6] = [
+        ("(noun x)", &["x"]),
+        ("(set x (call (noun y) add (noun x)))", &["x", "y"]),
+        (
             "(def (final x (noun g)) exit (noun j) (noun x))",
-            &["j", "x", "g"]
-        )?
-    );
-    assert!(rt;
-        has_free_names(
-            alloc,
+            &["j", "x", "g"],
+        ),
+        (
             "(seq (hide (def (final x) (lit 1))) (noun x) (def (var y) (lit 2)) (noun y))",
-            &["x"]
-        )?
-    );
-    assert!(rt;
-        has_free_names(
-            alloc,
+            &["x"],
+        ),
+        (
             "(object (final o) ((noun a)) (method run ((final x (noun int))) (seq (noun x) (noun o))) (matcher (any) (noun m)))",
-            &["int", "o", "m"]
-        )?
-    );
-    assert!(rt;
-        has_free_names(
-            alloc,
+            &["int", "o", "m"],
+        ),
+        (
             "(hide (object (final o) ((noun a)) (method run ((final x)) (seq (noun x) (noun o) (noun b)))))",
-            &["a", "b"]
-        )?
-    );
-    Ok(())
+            &["a", "b"],
+        ),
+    ];
+    for (form, due) in rows {
+        assert!(rt; has_free_names(rt.alloc(), form, due), "{form}");
+    }
 }

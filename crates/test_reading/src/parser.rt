@@ -3,7 +3,6 @@
 use def_syntax::{Form, Sugar, Token, TokenKind};
 use ev_parser::parser::{ParseFault, parse};
 use std::alloc::{AllocError, Global};
-use std::test::Fail;
 
 /// Tokens of one byte each, one behind another.
 fn tokens_of(alloc: Global, kinds: &[TokenKind]) -> Result<Vec<Token>, AllocError> {
@@ -26,7 +25,7 @@ fn around(
     before: TokenKind,
     middle: TokenKind,
     behind: TokenKind,
-) -> Result<Vec<Token>, AllocError> {
+) -> Result<Vec<TokenKind>, AllocError> {
     let mut kinds = Vec::new(alloc);
     for _ in 0..count {
         kinds.push(before)?;
@@ -35,11 +34,11 @@ fn around(
     for _ in 0..count {
         kinds.push(behind)?;
     }
-    tokens_of(alloc, kinds.as_slice())
+    Ok(kinds)
 }
 
 /// A call with so many arguments.
-fn call_with(alloc: Global, count: usize) -> Result<Vec<Token>, AllocError> {
+fn call_with(alloc: Global, count: usize) -> Result<Vec<TokenKind>, AllocError> {
     let mut kinds = Vec::new(alloc);
     kinds.push(TokenKind::Identifier)?;
     kinds.push(TokenKind::OpenParen)?;
@@ -50,7 +49,18 @@ fn call_with(alloc: Global, count: usize) -> Result<Vec<Token>, AllocError> {
         kinds.push(TokenKind::Number)?;
     }
     kinds.push(TokenKind::CloseParen)?;
-    tokens_of(alloc, kinds.as_slice())
+    Ok(kinds)
+}
+
+/// Why tokens of these kinds in a row have no tree, if they have none.
+fn fault(alloc: Global, kinds: &[TokenKind], text: &str) -> Option<ParseFault> {
+    let Ok(tokens) = tokens_of(alloc, kinds) else {
+        return Some(ParseFault::Memory);
+    };
+    match parse(alloc, tokens.as_slice(), text) {
+        Ok(_) => None,
+        Err(fault) => Some(fault),
+    }
 }
 
 fn form_at(tree: &Sugar, index: usize) -> Option<&Form> {
@@ -60,19 +70,37 @@ fn form_at(tree: &Sugar, index: usize) -> Option<&Form> {
     }
 }
 
-/// 0 and nothing for a tree, 1 and the place for no spelling, 2 and the place for too high a tree, 3 for want of memory.
-fn outcome(parsed: Result<Sugar, ParseFault>) -> (u64, u64) {
-    match parsed {
-        Ok(_) => (0, 0),
-        Err(ParseFault::NoSpelling(place)) => (1, place),
-        Err(ParseFault::TooNested(place)) => (2, place),
-        Err(ParseFault::Memory) => (3, 0),
+/// Whether the root has one expression, node 4 adds node 3 to node 0, and node 2 is the number 2.
+fn is_sum(tree: &Sugar) -> bool {
+    let one = match form_at(tree, tree.root.0 as usize) {
+        Some(Form::Program(body)) => body.len() == 1,
+        _ => false,
+    };
+    let adds = match form_at(tree, 4) {
+        Some(Form::Binary(left, operator, right)) => {
+            left.0 == 0 && operator.as_str() == "+" && right.0 == 3
+        }
+        _ => false,
+    };
+    let number = match form_at(tree, 2) {
+        Some(Form::Number(digits)) => digits.as_str() == "2",
+        _ => false,
+    };
+    one && adds && number
+}
+
+fn makes_sum(alloc: Global, kinds: &[TokenKind], text: &str) -> bool {
+    let Ok(tokens) = tokens_of(alloc, kinds) else {
+        return false;
+    };
+    match parse(alloc, tokens.as_slice(), text) {
+        Ok(tree) => is_sum(&tree),
+        Err(_) => false,
     }
 }
 
 #[test]
-fn sums(rt: HostRuntime) -> Result<(), Fail> {
-    let alloc = rt.alloc();
+fn sums(rt: HostRuntime) {
     let kinds = [
         TokenKind::Identifier,
         TokenKind::Plus,
@@ -80,99 +108,90 @@ fn sums(rt: HostRuntime) -> Result<(), Fail> {
         TokenKind::Times,
         TokenKind::Number,
     ];
-    let tokens = tokens_of(alloc, &kinds)?;
-    let tree = parse(alloc, tokens.as_slice(), "a+b*2")
-        .ok()
-        .ok_or("no tree")?;
-    match form_at(&tree, tree.root.0 as usize) {
-        Some(Form::Program(body)) => assert_eq!(rt; body.len(), 1),
-        _ => assert!(rt; false),
+    assert!(rt; makes_sum(rt.alloc(), &kinds, "a+b*2"));
+    let open_end = [TokenKind::Number, TokenKind::Plus];
+    assert!(rt; fault(rt.alloc(), &open_end, "1+") == Some(ParseFault::NoSpelling(2)));
+}
+
+/// Why a call with so many arguments has no tree, if it has none.
+fn call_fault(alloc: Global, count: usize) -> Option<ParseFault> {
+    match call_with(alloc, count) {
+        Ok(kinds) => fault(alloc, kinds.as_slice(), ""),
+        Err(_) => Some(ParseFault::Memory),
     }
-    match form_at(&tree, 4) {
-        Some(Form::Binary(left, operator, right)) => {
-            assert_eq!(rt; left.0, 0);
-            assert_eq!(rt; operator.as_str(), "+");
-            assert_eq!(rt; right.0, 3);
-        }
-        _ => assert!(rt; false),
+}
+
+/// Why a token among others has no tree, if it has none.
+fn around_fault(
+    alloc: Global,
+    count: usize,
+    before: TokenKind,
+    middle: TokenKind,
+    behind: TokenKind,
+) -> Option<ParseFault> {
+    match around(alloc, count, before, middle, behind) {
+        Ok(kinds) => fault(alloc, kinds.as_slice(), ""),
+        Err(_) => Some(ParseFault::Memory),
     }
-    match form_at(&tree, 2) {
-        Some(Form::Number(digits)) => assert_eq!(rt; digits.as_str(), "2"),
-        _ => assert!(rt; false),
-    }
-    Ok(())
 }
 
 #[test]
-fn refusals(rt: HostRuntime) -> Result<(), Fail> {
-    let alloc = rt.alloc();
-    let open_end = tokens_of(alloc, &[TokenKind::Number, TokenKind::Plus])?;
-    assert_eq!(rt; outcome(parse(alloc, open_end.as_slice(), "1+")), (1, 2));
-    let most = call_with(alloc, 255)?;
-    assert_eq!(rt; outcome(parse(alloc, most.as_slice(), "")), (0, 0));
-    let more = call_with(alloc, 256)?;
-    assert_eq!(rt; outcome(parse(alloc, more.as_slice(), "")), (1, 511));
-    let high = around(
-        alloc,
-        60,
+fn limits(rt: HostRuntime) {
+    assert!(rt; call_fault(rt.alloc(), 255).is_none());
+    assert!(rt; call_fault(rt.alloc(), 256) == Some(ParseFault::NoSpelling(511)));
+    let (before, middle, behind) = (
         TokenKind::OpenParen,
         TokenKind::Number,
         TokenKind::CloseParen,
-    )?;
-    assert_eq!(rt; outcome(parse(alloc, high.as_slice(), "")), (2, 59));
-    let low = around(
-        alloc,
-        59,
-        TokenKind::OpenParen,
-        TokenKind::Number,
-        TokenKind::CloseParen,
-    )?;
-    assert_eq!(rt; outcome(parse(alloc, low.as_slice(), "")), (0, 0));
-    Ok(())
+    );
+    assert!(rt; around_fault(rt.alloc(), 59, before, middle, behind).is_none());
+    let high = around_fault(rt.alloc(), 60, before, middle, behind);
+    assert!(rt; high == Some(ParseFault::TooNested(59)));
 }
 
 #[test]
-fn deep(rt: HostRuntime) -> Result<(), Fail> {
-    let alloc = rt.alloc();
-    let parens = around(
-        alloc,
-        32768,
-        TokenKind::OpenParen,
-        TokenKind::OpenParen,
-        TokenKind::OpenParen,
-    )?;
-    assert_eq!(rt; outcome(parse(alloc, parens.as_slice(), "")), (1, 65537));
-    let brackets = around(
-        alloc,
-        32768,
-        TokenKind::OpenBracket,
-        TokenKind::OpenBracket,
-        TokenKind::OpenBracket,
-    )?;
-    assert_eq!(rt; outcome(parse(alloc, brackets.as_slice(), "")), (1, 65537));
-    let braces = around(
-        alloc,
-        32768,
-        TokenKind::OpenBrace,
-        TokenKind::OpenBrace,
-        TokenKind::CloseBrace,
-    )?;
-    assert_eq!(rt; outcome(parse(alloc, braces.as_slice(), "")), (1, 65537));
-    let signs = around(
-        alloc,
-        65536,
-        TokenKind::Minus,
-        TokenKind::Number,
-        TokenKind::CloseBrace,
-    )?;
-    assert_eq!(rt; outcome(parse(alloc, signs.as_slice(), "")), (1, 65537));
-    let returns = around(
-        alloc,
-        32768,
-        TokenKind::Return,
-        TokenKind::Return,
-        TokenKind::Return,
-    )?;
-    assert_eq!(rt; outcome(parse(alloc, returns.as_slice(), "")), (2, 60));
-    Ok(())
+fn deep(rt: HostRuntime) {
+    let rows = [
+        (
+            32768,
+            TokenKind::OpenParen,
+            TokenKind::OpenParen,
+            TokenKind::OpenParen,
+            ParseFault::NoSpelling(65537),
+        ),
+        (
+            32768,
+            TokenKind::OpenBracket,
+            TokenKind::OpenBracket,
+            TokenKind::OpenBracket,
+            ParseFault::NoSpelling(65537),
+        ),
+        (
+            32768,
+            TokenKind::OpenBrace,
+            TokenKind::OpenBrace,
+            TokenKind::CloseBrace,
+            ParseFault::NoSpelling(65537),
+        ),
+        (
+            65536,
+            TokenKind::Minus,
+            TokenKind::Number,
+            TokenKind::CloseBrace,
+            ParseFault::NoSpelling(65537),
+        ),
+        (
+            32768,
+            TokenKind::Return,
+            TokenKind::Return,
+            TokenKind::Return,
+            ParseFault::TooNested(60),
+        ),
+    ];
+    for (count, before, middle, behind, due) in rows {
+        assert!(rt;
+            around_fault(rt.alloc(), count, before, middle, behind) == Some(due),
+            "{due:?}"
+        );
+    }
 }

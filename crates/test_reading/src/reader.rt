@@ -1,13 +1,20 @@
-use ev_base::{Seq, Str};
+use ev_base::{Memory, Seq, Str};
 use ev_reader::*;
-use std::alloc::Global;
+use std::alloc::{AllocError, Global};
 use std::test::Fail;
 
-/// What is answered for a text in which `null` and `c` are given: its count of nodes, or its refusal.
-fn answer(alloc: Global, text: &str) -> Result<String, Fail> {
+/// The names that are given: `null` and `c`.
+fn names(alloc: Global) -> Result<Seq<Str>, Memory> {
     let mut given = Seq::new(alloc);
-    given.push(Str::copy_of(alloc, "null")?)?;
-    given.push(Str::copy_of(alloc, "c")?)?;
+    for name in ["null", "c"] {
+        given.push(Str::copy_of(alloc, name)?)?;
+    }
+    Ok(given)
+}
+
+/// What is answered for a text in which `null` and `c` are given: its count of nodes, or its refusal.
+fn answer(alloc: Global, text: &str) -> Result<String, Memory> {
+    let given = names(alloc)?;
     match read_program(alloc, text, &given) {
         Ok(scoped) => {
             let count = scoped.tree().nodes().len();
@@ -17,8 +24,15 @@ fn answer(alloc: Global, text: &str) -> Result<String, Fail> {
     }
 }
 
+fn is_answered(alloc: Global, text: &str, due: &str) -> bool {
+    match answer(alloc, text) {
+        Ok(told) => told.as_str() == due,
+        Err(_) => false,
+    }
+}
+
 #[test]
-fn reads(rt: HostRuntime) -> Result<(), Fail> {
+fn reads(rt: HostRuntime) {
     let rows = [
         ("41 + 1", "3 nodes"),
         ("170141183460469231731687303715884105728", "lex 4 0"),
@@ -31,22 +45,27 @@ fn reads(rt: HostRuntime) -> Result<(), Fail> {
         ("c := 1", "scope 2 0"),
         ("def x := 1\ndef x := 2", "scope 3 5"),
     ];
-    for (text, wanted) in rows {
-        assert_eq!(rt; answer(rt.alloc(), text)?.as_str(), wanted);
+    for (text, due) in rows {
+        assert!(rt; is_answered(rt.alloc(), text, due), "{text}");
     }
-    Ok(())
+}
+
+/// So many parentheses round a number.
+fn nested(alloc: Global, count: usize) -> Result<String, AllocError> {
+    let mut text = String::new(alloc);
+    for _ in 0..count {
+        text.push('(')?;
+    }
+    text.push('1')?;
+    for _ in 0..count {
+        text.push(')')?;
+    }
+    Ok(text)
 }
 
 #[test]
 fn deep(rt: HostRuntime) -> Result<(), Fail> {
-    let mut text = String::new(rt.alloc());
-    for _ in 0..70 {
-        text.push('(')?;
-    }
-    text.push('1')?;
-    for _ in 0..70 {
-        text.push(')')?;
-    }
+    let text = nested(rt.alloc(), 70)?;
     let told = answer(rt.alloc(), text.as_str())?;
     assert!(rt; told.as_str().starts_with("nested 0 "));
     Ok(())

@@ -1,31 +1,52 @@
-use ev_base::{NodeId, Seq, Str};
+use def_kernel::Kernel;
+use ev_base::{Memory, NodeId, Seq, Str};
 use ev_kernel_reader::read_form;
 use ev_scope::*;
-use std::alloc::Global;
+use std::alloc::{AllocError, Global};
 use std::test::Fail;
 
-/// The fault of a tree inside the given names `int` and `f`, or none.
-fn fault(alloc: Global, form: &str) -> Result<Option<ScopeFault>, Fail> {
+/// The names that are given: `int` and `f`.
+fn names(alloc: Global) -> Result<Seq<Str>, Memory> {
     let mut given = Seq::new(alloc);
-    given.push(Str::copy_of(alloc, "int")?)?;
-    given.push(Str::copy_of(alloc, "f")?)?;
-    let tree = read_form(alloc, form)?;
-    let nodes = tree.nodes().len();
+    for name in ["int", "f"] {
+        given.push(Str::copy_of(alloc, name)?)?;
+    }
+    Ok(given)
+}
+
+/// How many nodes the checked tree has, and how many names it is given.
+fn counts(alloc: Global, tree: Kernel) -> Result<(usize, usize), ScopeFault> {
+    let Ok(given) = names(alloc) else {
+        return Err(ScopeFault::Memory);
+    };
     match check(alloc, tree, &given) {
-        Ok(scoped) => {
-            if scoped.tree().nodes().len() == nodes && scoped.given().len() == 2 {
-                Ok(None)
-            } else {
-                Ok(Some(ScopeFault::Memory))
-            }
-        }
-        Err(fault) => Ok(Some(fault)),
+        Ok(scoped) => Ok((scoped.tree().nodes().len(), scoped.given().len())),
+        Err(fault) => Err(fault),
     }
 }
 
+/// The same of a form's tree. No test wants the fault of memory, as which a form without a tree counts.
+fn checked(alloc: Global, form: &str) -> Result<(usize, usize), ScopeFault> {
+    match read_form(alloc, form) {
+        Ok(tree) => counts(alloc, tree),
+        Err(_) => Err(ScopeFault::Memory),
+    }
+}
+
+fn node_count(alloc: Global, form: &str) -> usize {
+    match read_form(alloc, form) {
+        Ok(tree) => tree.nodes().len(),
+        Err(_) => 0,
+    }
+}
+
+/// Whether a form is accepted, with all its nodes and both names.
+fn is_accepted(alloc: Global, form: &str) -> bool {
+    checked(alloc, form) == Ok((node_count(alloc, form), 2))
+}
+
 #[test]
-fn refuses(rt: HostRuntime) -> Result<(), Fail> {
-    let alloc = rt.alloc();
+fn refuses(rt: HostRuntime) {
     for (form, due) in [
         ("(noun x)", ScopeFault::Unbound(NodeId(0))),
         (
@@ -58,36 +79,38 @@ fn refuses(rt: HostRuntime) -> Result<(), Fail> {
             ScopeFault::Unbound(NodeId(5)),
         ),
     ] {
-        assert_eq!(rt; fault(alloc, form)?, Some(due), "{form}");
+        assert!(rt; checked(rt.alloc(), form) == Err(due), "{form}");
     }
-    Ok(())
 }
 
 #[test]
-fn accepts(rt: HostRuntime) -> Result<(), Fail> {
-    let alloc = rt.alloc();
+fn accepts(rt: HostRuntime) {
     for form in [
         "(def (list (final a) (final b (noun a))) (lit 1))",
         "(seq (def (var n) (lit 0)) (set n (noun int)) (hide (def (final n) (noun n))))",
         "(object (final x) () (method run ((final x)) (noun x)) (matcher (final m) (noun f)))",
         "(try (escape (final j) (noun j) (any) (lit 1)) (final p) (finally (noun p) (lit 2)))",
     ] {
-        assert_eq!(rt; fault(alloc, form)?, None, "{form}");
+        assert!(rt; is_accepted(rt.alloc(), form), "{form}");
     }
-    Ok(())
+}
+
+/// Blocks in blocks, so many, round a noun.
+fn nested(alloc: Global, count: usize) -> Result<String, AllocError> {
+    let mut form = String::new(alloc);
+    for _ in 0..count {
+        form.push_str("(hide ")?;
+    }
+    form.push_str("(noun f)")?;
+    for _ in 0..count {
+        form.push(')')?;
+    }
+    Ok(form)
 }
 
 #[test]
 fn deep_trees_are_checked(rt: HostRuntime) -> Result<(), Fail> {
-    let alloc = rt.alloc();
-    let mut form = String::new(alloc);
-    for _ in 0..10_000 {
-        form.push_str("(hide ")?;
-    }
-    form.push_str("(noun f)")?;
-    for _ in 0..10_000 {
-        form.push(')')?;
-    }
-    assert_eq!(rt; fault(alloc, form.as_str())?, None);
+    let form = nested(rt.alloc(), 10_000)?;
+    assert!(rt; is_accepted(rt.alloc(), form.as_str()));
     Ok(())
 }

@@ -49,12 +49,17 @@ fn answer(
     ))
 }
 
-/// A script of one vat `a`.
-fn script_of(alloc: Global, source: &str) -> Result<String, Memory> {
+/// A script of one vat `a` with these entries.
+fn scheduled(alloc: Global, source: &str, entries: &str) -> Result<String, Memory> {
     let key = "0000000000000000000000000000000000000000000000000000000000000000";
     Ok(format!(in alloc;
-        "{{\"key\":\"{key}\",\"vats\":[{{\"name\":\"a\",\"knows\":[],\"source\":\"{source}\"}}],\"schedule\":[]}}"
+        "{{\"key\":\"{key}\",\"vats\":[{{\"name\":\"a\",\"knows\":[],\"source\":\"{source}\"}}],\"schedule\":[{entries}]}}"
     )?)
+}
+
+/// A script of one vat `a`, which takes no turn.
+fn script_of(alloc: Global, source: &str) -> Result<String, Memory> {
+    scheduled(alloc, source, "")
 }
 
 const EMPTY: &str =
@@ -183,6 +188,35 @@ fn choices(rt: HostRuntime) -> Result<(), Fail> {
     Ok(())
 }
 
+#[test]
+fn turns(rt: HostRuntime) -> Result<(), Fail> {
+    let alloc = rt.alloc();
+    let messages = "def o { method f(x) { x } }; o <- f(1); o <- f(2)";
+    let taken =
+        "open a\n!0 made a.0 o\n!0 list a%0 1\n!0 send a/0 a.0 f 1 -> a?a/0\n!0 list a%1 2\n!0 send a/1 a.0 f 2 -> a?a/1\n!0 done a?a/1\nwait @a a?a/1\n1 turn a\n!1 take a/0 a.0 f 1\n!1 done 1\nsettle a?a/0 1\n2 turn a\n!2 take a/1 a.0 f 2\n!2 done 2\nsettle a?a/1 2\nsettle @a 2\n3 idle\nend\n";
+    let rows = [
+        (messages, "\"turn a\",\"turn a\",\"turn a\"", taken),
+        (messages, "\"drain 3\"", taken),
+        (
+            "def [p, r] := Ref.promise(); r.resolve(p); Ref.isBroken(p)",
+            "",
+            "open a\n!0 promise a~0 a.0\n!0 list a%0 a~0 a.0\n!0 call a.0 resolve a~0\nsettle a~0 broken:\"cycle\"\n!0 back null\n!0 done true\nsettle @a true\nend\n",
+        ),
+        (
+            "def [p, r] := Ref.promise(); r.resolve(null); def o { method coerce(s, e) { s } method run(s, e) { s } }; def x :o exit p := 1; def via (o) z exit p := 1",
+            "",
+            "open a\n!0 promise a~0 a.0\n!0 list a%0 a~0 a.0\n!0 call a.0 resolve null\nsettle a~0 null\n!0 back null\n!0 made a.1 o\n!0 call a.1 coerce 1 null as !1\n!0 back 1\n!0 call a.1 run 1 null as !2\n!0 back 1\n!0 done 1\nsettle @a 1\nend\n",
+        ),
+    ];
+    for (source, entries, text) in rows {
+        let script = scheduled(alloc, source, entries)?;
+        let (status, written) = answer(alloc, &["run"], script.as_bytes(), &quiet())?;
+        assert_eq!(rt; status, 0, "{source}");
+        assert!(rt; written.as_slice() == text.as_bytes(), "{source}");
+    }
+    Ok(())
+}
+
 /// So many spaces.
 fn spaces(alloc: Global, count: usize) -> Result<String, Memory> {
     let mut text = String::new(alloc);
@@ -275,8 +309,14 @@ fn scripts(rt: HostRuntime) -> Result<(), Fail> {
         ),
         (
             r#""vats":[{"name":"a","knows":[],"source":"1"}],"schedule":["turn a"]"#,
-            6,
-            "refused script 9\n",
+            0,
+            "open a\n!0 done 1\nsettle @a 1\n1 idle\nend\n",
+        ),
+        (r#""vats":[],"schedule":["drain 2"]"#, 0, "end\n"),
+        (
+            r#""vats":[{"name":"a","knows":[],"source":"var n := 0; def counter { method incr() { n += 1 } }; counter <- incr(); def second := counter <- incr(); when (second) -> { second * 10 }"}],"schedule":["drain 3"],"fuel":30"#,
+            8,
+            "open a\n!0 slot a&0 0\n!0 made a.0 counter caps a&0\n!0 list a%0\n!0 send a/0 a.0 incr -> a?a/0\n!0 list a%1\n!0 send a/1 a.0 incr -> a?a/1\n!0 made a.1 _ caps a?a/1\n!0 when a/2 a?a/1 a.1 -> a?a/2\n!0 done a?a/2\nwait @a a?a/2\n1 turn a\n!1 take a/0 a.0 incr\n!1 read a&0 0\n!1 call 0 add 1\n!1 back 1\n!1 wrote a&0 1\n!1 done 1\nsettle a?a/0 1\nstop fuel 2\n",
         ),
         (
             r#""vats":[{"name":"a","knows":[],"source":"1"}],"schedule":["carry a a"]"#,

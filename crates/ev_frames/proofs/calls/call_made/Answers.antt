@@ -9,6 +9,6 @@ returns-clause-rest c =
     let i = c.in_ok-enter_body.ensures.scope in
     let n = c.turned.ensures in
     let f = c.first_method-found.ensures in
-    made_begins c.args.program.now c.args.depth c.args.frames.now c.enter_body.new.frames c.args.here.now c.args.room.now c.args.object c.args.verb.now c.args.args.now
+    made_begins c.args.program.now c.args.depth c.args.frames.now c.enter_body.new.frames c.args.here.now c.args.room.now c.args.receiver c.args.object c.args.verb.now c.args.args.now
     c.args.code c.in_ok-begun.begun c.enter_body.new.here c.found_begins.new.here c.activated.new.room c.found_begins.new.room c.found_begins.result
     _ _ e (i ∙ (rw n refl)) p (let a = c.nodes.ensures in let b = c.nodes-2.ensures in let m = c.members_of-members.ensures in cc) (let a = c.nodes.ensures in let b = c.nodes-2.ensures in let m = c.members_of-members.ensures in cc) c.found_begins.new.frames c.found_begins.ensures.rest

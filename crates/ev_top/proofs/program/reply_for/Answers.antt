@@ -1,4 +1,4 @@
-use Rattle.std.proofs.Common.{◌≡◌, ◌∙◌, sym, subst, string_bytes, Some}
+use Rattle.std.proofs.Common.{◌∙◌, sym, subst, string_bytes, Some}
 use Rattle.ev_top.specs.Due.{IsDue}
 use Rattle.ev_top.specs.declared.command.Command.{Command}
 use Rattle.ev_top.proofs.Unread.{for_all, is_unread}

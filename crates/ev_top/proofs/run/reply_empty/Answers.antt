@@ -4,4 +4,6 @@ use Rattle.ev_top.proofs.Empty.{due_empty}
 use Rattle.ev_top.proofs.run.reply_empty.Goals as goal
 
 pub returns : goal.returns
-returns c = λ key fuel. IfOk-weaker c.reply_line.result _ _ (λ reply due. due_empty key fuel reply.status (string_bytes reply.text) due) c.reply_line.ensures
+returns c =
+    IfOk-weaker c.reply_line.result _ _ (λ reply due. due_empty c.args.script.now reply.status (string_bytes reply.text) c.requires.admitted c.requires.none due)
+    c.reply_line.ensures

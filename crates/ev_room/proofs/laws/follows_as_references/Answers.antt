@@ -1,5 +1,0 @@
-use Rattle.ev_room.proofs.Inside.{follows}
-use Rattle.ev_room.proofs.laws.follows_as_references.Goals as goal
-
-pub returns : goal.returns
-returns c = λ w i v k. follows w i v k

@@ -1,5 +1,0 @@
-use Rattle.ev_room.proofs.Inside.{stands}
-use Rattle.ev_room.proofs.laws.stands_as_references.Goals as goal
-
-pub returns : goal.returns
-returns c = λ w i j e. stands w i j e

@@ -1,0 +1,16 @@
+pub mod Behind
+pub mod Bindings
+pub mod Closes
+pub mod Coercing
+pub mod Following
+pub mod Frozen
+pub mod Inside
+pub mod Leaving
+pub mod Making
+pub mod Plain
+pub mod Replies
+pub mod Sounds
+pub mod Stands
+pub mod Takings
+pub mod Weights
+pub mod Words

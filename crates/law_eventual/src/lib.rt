@@ -1,0 +1,2 @@
+//! What `E`, `Ref` and resolvers do in a turn is what the machine does.
+#![tactic(auto)]
