@@ -123,7 +123,7 @@ def page():
         '',
         'A crate is built only when each of its functions is proved to meet its contract, to be safe and to end. So what a crate proves are its contracts, and the words above each public function say them: `docs/proved.py NAME` prints these with the names of the clauses. Where a crate has a page of its own (`README.md` in its folder), its name leads there.',
         '',
-        'Want of memory is the one answer of the code that no clause ties to a cause. A *must-fail edit* changes a line or two of a crate\'s code to a wrong one; the gate applies each by itself, and the prover has to refuse it.',
+        'Want of memory is the one answer of the code that no clause ties to a cause. A *must-fail edit* changes a line or two of a crate\'s code to a wrong one; the gate applies each by itself, and the prover has to refuse it. Those of other crates stand in `edits/`, and `edits/try.py NAME` tries them.',
     ]
     for at, (prefix, title, words) in enumerate(LAYERS):
         names = sorted(it for it in all_of if layer_of(it) == at)

@@ -1,6 +1,6 @@
 -- What comes in from a link: the arrival of each note, and the notice of a cut.
 use Rattle.std.specs.Prelude.{ℕ, Bool, true, false, List, [], ◌∷◌, Option, Some, None, ◌==◌, if◌then◌else◌, codes}
-use Rattle.def_machine.specs.Values.{Words, Value, Null, Flag, Number, Letter, Text, Prim, Broken, Items, Ref, Naming, IsAnswer, IsGift, IsLearnt, IsCarried}
+use Rattle.def_machine.specs.Values.{Words, Value, Null, Flag, Number, Letter, Text, Prim, Broken, Items, Ref, Naming, IsAnswer, IsGift, IsLearnt, IsCarried, under}
 use Rattle.def_machine.specs.State.{Standing, Unsettled, WaitsOn, Viewed, Settled, Known, Wait, See, ToTell, Passed, Passeds, Plain, AGift, Many, NoMore, More, Note, Message, Delivery, Deliver, Open, Ask, SettledTo, Elsewhere, Shorten, GiftEntry, ListCame, Views, Act, ◌>>=◌, ◌>>◌, give, look, tell, each, draw, new_list, new_gift, is_gift, open_gift, mark, send_out, alter, come, mail, is_in}
 use Rattle.def_machine.specs.Refs.{Place, Away, standing_of, host_at, follow, place, settle, resolve, send_on, inform}
 use Rattle.def_machine.specs.Refs.{opened_refs}
@@ -79,7 +79,7 @@ module _ {N W : Type 0} (K : Naming N W) where
 
   -- ---- gifts at their host
 
-  -- the gift of that provider and draw, which comes to be where it is absent
+  -- the gift of that provider and key, which comes to be where it is absent
   unfoldable pub gift_or_new : ℕ → ℕ → ℕ → Option (GiftEntry N) → Act N N
   gift_or_new v p i (Some g) = give g.name
   gift_or_new v p i None = do
@@ -176,8 +176,8 @@ module _ {N W : Type 0} (K : Naming N W) where
     v ← look (λ s. s.number)
     h ← look (λ s. host_at K s.number s.known n)
     i ← draw K
-    send_out h (Shorten n c i)
-    g ← gift_there v h c i
+    send_out h (Shorten n c (under h i))
+    g ← gift_there v h c (under h i)
     see n g
 
   unfoldable pub arrive_elsewhere : Incoming N W → ℕ → Act N (Unit {0})

@@ -1,12 +1,12 @@
 -- What a vat does with a note that comes in, whoever sent it. It arrives, but for what tells the vat nothing new, and for what would lead it back to a gift that it has.
 use Rattle.std.specs.Prelude.{ℕ, Bool, true, false, not, Option, Some, None, ◌==◌, ◌&&◌, if◌then◌else◌, codes, length}
-use Rattle.def_machine.specs.Values.{Broken, Naming}
-use Rattle.def_machine.specs.State.{Standing, Unsettled, WaitsOn, Viewed, Settled, Note, Deliver, Open, Ask, SettledTo, Elsewhere, Shorten, GiftEntry, Vat, Act, ◌>>=◌, ◌>>◌, give, look, draw, drawn_at, is_in}
+use Rattle.def_machine.specs.Values.{Broken, Naming, key}
+use Rattle.def_machine.specs.State.{Standing, Unsettled, WaitsOn, Viewed, Settled, Note, Deliver, Open, Ask, SettledTo, Elsewhere, Shorten, GiftEntry, Vat, Act, ◌>>=◌, ◌>>◌, give, look, draw, is_in}
 use Rattle.def_machine.specs.Refs.{standing_of, host_at, settle}
 use Rattle.def_machine.specs.Arrive.{Incoming, Old, New, gift_at, opened_in, learn_name, arrive}
 use Rattle.def_machine.specs.Arrive.{opened_arrive}
 
--- What the names of the receiver tell: whether it knows the gift of that host, provider and draw as a gift, and whether a name of its own has a number for the sender.
+-- What the names of the receiver tell: whether it knows the gift of that host, provider and key as a gift, and whether a name of its own has a number for the sender.
 pub record Sight (N : Type 0) : Type 0 where
   pub knows : ℕ → ℕ → ℕ → Bool
   pub numbers : N → Bool
@@ -31,9 +31,9 @@ module _ {N W : Type 0} (K : Naming N W) where
   host_by (Old n) s = host_at K s.number s.known n
   host_by (New x h) s = h
 
-  -- the number of the next draw
-  unfoldable pub next_draw : Vat N → ℕ
-  next_draw s = elim (drawn_at 0 (K.word (length s.drawn)) s.drawn) [ Some i ↦ i | None ↦ length s.drawn ]
+  -- the key of the next word under that provider
+  unfoldable pub next_key : ℕ → Vat N → ℕ
+  next_key p s = key p (K.word (length s.drawn))
 
   -- the draw is made and the name breaks, and nothing else happens
   unfoldable pub break_back : Note (Incoming N W) → Act N (Unit {0})
@@ -60,9 +60,9 @@ module _ {N W : Type 0} (K : Naming N W) where
     tells_nothing from (Elsewhere x c) s = was_told x s
     tells_nothing from (Shorten x c i) s = false
 
-    -- the vat hosts or knows the gift at host c, of provider h, that the next draw names
+    -- the vat hosts or knows the gift at host c, of provider h, under the next word
     unfoldable pub has_gift : ℕ → ℕ → Vat N → Bool
-    has_gift c h s = if c == s.number then is_hosted (gift_at h (next_draw s) s.gifts) else sight.knows c h (next_draw s)
+    has_gift c h s = if c == s.number then is_hosted (gift_at h (next_key h s) s.gifts) else sight.knows c h (next_key h s)
 
     -- The name settled at a vat that is not noticed, and its view would be a gift that the vat has.
     unfoldable pub leads_back : Note (Incoming N W) → Vat N → Bool
@@ -78,5 +78,5 @@ module _ {N W : Type 0} (K : Naming N W) where
 
 -- opens each definition of this file, and of those below
 unfoldable pub opened_receive : Unit {0}
-unfolding is_told was_told has_number tells_nothing host_by next_draw is_hosted has_gift leads_back break_back receive_by receive opened_arrive
+unfolding is_told was_told has_number tells_nothing host_by next_key is_hosted has_gift leads_back break_back receive_by receive opened_arrive
 opened_receive = tt

@@ -1,6 +1,6 @@
 -- What a vat has, how what it does may end, and each single way in which it may change.
 use Rattle.std.specs.Prelude.{ℕ, zero, suc, ◌-◌, Bool, true, false, List, [], ◌∷◌, ◌++◌, Option, Some, None, length, nat_le, ◌==◌}
-use Rattle.def_machine.specs.Values.{Words, Value, Naming, Coming, Mailing, IsOwn, IsAnswer, IsSent}
+use Rattle.def_machine.specs.Values.{Words, Value, Naming, Coming, Mailing, IsOwn, IsAnswer, IsSent, key}
 use Rattle.def_machine.specs.Values.{opened_values}
 
 -- what a noun stands for: a fixed value with the guard under which it was bound, or a var slot
@@ -98,7 +98,7 @@ pub data Change (N : Type 0) : Type 0 where
   -- it settles, and nothing waits any more
   Settle : Value N → Change N
 
--- A value in a note: data or a name as it passes, a gift by its host and its draw, or a list by its members.
+-- A value in a note: data or a name as it passes, a gift by its host and its key, or a list by its members.
 mutual
   pub data Passed (N : Type 0) : Type 0 where
     Plain : Value N → Passed N
@@ -117,15 +117,15 @@ pub record Delivery (N : Type 0) : Type 0 where
 pub data Note (N : Type 0) : Type 0 where
   -- message, target, verb, arguments
   Deliver : Delivery N → N → Words → Passeds N → Note N
-  -- the sender's gift of that draw is this
+  -- the sender's gift under that key is this
   Open : ℕ → N → Note N
-  -- the gift of that provider and draw is asked for, which the asker names so
+  -- the gift of that provider and key is asked for, which the asker names so
   Ask : ℕ → ℕ → N → Note N
   -- a name settled to that
   SettledTo : N → Passed N → Note N
   -- a name settled to an object of that vat
   Elsewhere : N → ℕ → Note N
-  -- the object that the name settled to is wanted as the gift of the sender's choice, of that host and draw
+  -- the object that the name settled to is wanted as the receiver's gift at that host, under that key
   Shorten : N → ℕ → ℕ → Note N
 
 -- a note put, and to which vat
@@ -133,7 +133,7 @@ pub record Put (N : Type 0) : Type 0 where
   pub to : ℕ
   pub note : Note N
 
--- a gift at its host: its name, its provider, its draw, and whether it was opened
+-- a gift at its host: its name, its provider, its key, and whether it was opened
 pub record GiftEntry (N : Type 0) : Type 0 where
   pub name : N
   pub provider : ℕ
@@ -334,7 +334,7 @@ send_out to n = λ s. Gives tt (record s { outbox = s.outbox ++ record { to = to
 unfoldable pub new_gift : {N : Type 0} → N → ℕ → ℕ → Act N (Unit {0})
 new_gift name provider number = λ s. Gives tt (record s { gifts = s.gifts ++ record { name = name; provider = provider; number = number; opened = false } ∷ [] })
 
--- whether it is the gift of that provider and draw
+-- whether it is the gift of that provider and key
 unfoldable pub is_gift : {N : Type 0} → ℕ → ℕ → GiftEntry N → Bool
 is_gift provider number g = elim (g.provider == provider) [ true ↦ g.number == number | false ↦ false ]
 
@@ -342,7 +342,7 @@ unfoldable pub with_opened : {N : Type 0} → ℕ → ℕ → List (GiftEntry N)
 with_opened p i [] = []
 with_opened p i (g ∷ gs) = elim (is_gift p i g) [ true ↦ record g { opened = true } ∷ gs | false ↦ g ∷ with_opened p i gs ]
 
--- the gift of that provider and draw was opened
+-- the gift of that provider and key was opened
 unfoldable pub open_gift : {N : Type 0} → ℕ → ℕ → Act N (Unit {0})
 open_gift p i = λ s. Gives tt (record s { gifts = with_opened p i s.gifts })
 
@@ -385,7 +385,7 @@ drawn_at k w (x ∷ xs) = elim (w == x) [ true ↦ Some k | false ↦ drawn_at (
 
 unfoldable pub draws : {N : Type 0} → ℕ → Option ℕ → Act N ℕ
 draws w (Some i) = λ s. Stops (Repeated i (length s.drawn)) s
-draws w None = λ s. Gives (length s.drawn) (record s { drawn = s.drawn ++ w ∷ [] })
+draws w None = λ s. Gives (key s.number w) (record s { drawn = s.drawn ++ w ∷ [] })
 
 module _ {N W : Type 0} (K : Naming N W) where
   -- the change of what is known of a name
@@ -419,7 +419,7 @@ module _ {N W : Type 0} (K : Naming N W) where
   new_lone_message = λ s. let id = K.mailed (IsSent s.messages) (length s.mails) in
       Gives id (record s { messages = suc s.messages; mails = s.mails ++ id ∷ [] })
 
-  -- the next word is drawn; a word that was drawn before stops the run
+  -- The next word is drawn, and its key with this vat as provider given. A word that was drawn before stops the run.
   unfoldable pub draw : Act N ℕ
   draw = λ s. draws (K.word (length s.drawn)) (drawn_at zero (K.word (length s.drawn)) s.drawn) s
 

@@ -1,5 +1,5 @@
 -- The values of E, and the names of things. Everything above is said for any type N of names.
-use Rattle.std.specs.Prelude.{ℕ, ℤ, Bool, true, false, List, ◌==◌, ◌&&◌}
+use Rattle.std.specs.Prelude.{ℕ, ℤ, zero, suc, ◌*◌, ◌/◌, ◌%◌, Bool, true, false, List, ◌==◌, ◌&&◌}
 
 -- a text, as its bytes in UTF-8
 abbrev pub Words : Type 0
@@ -37,7 +37,7 @@ pub data Name : Type 0 where
   Promise : ℕ → ℕ → Name
   -- h?m, the answer of message m at host h
   Answer : ℕ → Msg → Name
-  -- h^i, the gift at host h under the word of draw i
+  -- the gift at host h under key i, which tells its provider and its word
   Gift : ℕ → ℕ → Name
   -- v/n, a message
   Sent : Msg → Name
@@ -76,7 +76,7 @@ pub data Coming (N W : Type 0) : Type 0 where
   IsOwn : ℕ → Coming N W
   -- the answer, at that host, of this message
   IsAnswer : ℕ → N → Coming N W
-  -- the gift at that host of that draw
+  -- the gift at that host under that key
   IsGift : ℕ → ℕ → Coming N W
   -- learnt from a note, which names it so
   IsLearnt : W → Coming N W
@@ -99,6 +99,32 @@ pub record Naming (N W : Type 0) : Type 0 where
   pub same : N → N → Bool
   -- the word of each draw of the run
   pub word : ℕ → ℕ
+
+-- ---- keys of gifts
+
+-- A gift has a provider and a word. They are told by one number, its key: each number is the key of one provider and one word.
+unfoldable pub key : ℕ → ℕ → ℕ
+key zero word = 2 * word
+key (suc p) word = suc (2 * key p word)
+
+-- a key is halved until it is even, at most so many times
+unfoldable pub word_in : ℕ → ℕ → ℕ
+word_in zero i = zero
+word_in (suc d) i = elim (i % 2 == 0) [ true ↦ i / 2 | false ↦ word_in d (i / 2) ]
+
+unfoldable pub provider_in : ℕ → ℕ → ℕ
+provider_in zero i = zero
+provider_in (suc d) i = elim (i % 2 == 0) [ true ↦ zero | false ↦ suc (provider_in d (i / 2)) ]
+
+unfoldable pub word_of : ℕ → ℕ
+word_of i = word_in (suc i) i
+
+unfoldable pub provider_of : ℕ → ℕ
+provider_of i = provider_in (suc i) i
+
+-- the key of the same word under that provider
+unfoldable pub under : ℕ → ℕ → ℕ
+under p i = key p (word_of i)
 
 -- ---- global names
 
@@ -165,5 +191,5 @@ numbering word = record { object = Obj; made = λ c k. Prom k; mailed = λ c k. 
 
 -- opens each definition of this file
 unfoldable pub opened_values : Unit {0}
-unfolding same_name same_reference spot_of name_of answer_of mail_of naming host_of same_local local_spot numbering
+unfolding key word_in provider_in word_of provider_of under same_name same_reference spot_of name_of answer_of mail_of naming host_of same_local local_spot numbering
 opened_values = tt

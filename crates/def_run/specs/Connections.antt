@@ -6,7 +6,7 @@ use Rattle.def_op.specs.declared.op.Plain.TheVariants as plain
 use Rattle.def_op.specs.Frames as op
 use Rattle.def_op.specs.Frames.{Described, Members, Outcome, Operation, spelling}
 use Rattle.def_op.specs.Numbers as number
-use Rattle.def_machine.specs.Values.{Value, Null, Flag, Number, Letter, Text, Prim, Broken, Items, Ref}
+use Rattle.def_machine.specs.Values.{Value, Null, Flag, Number, Letter, Text, Prim, Broken, Items, Ref, key, word_of}
 use Rattle.def_machine.specs.State.{Passed, Passeds, Plain, AGift, Many, NoMore, More, Note, Deliver, Open, Ask, SettledTo, Elsewhere, Shorten}
 use Rattle.def_machine.specs.Arrive.{Incoming, Old, New}
 
@@ -111,38 +111,37 @@ module _ {N : Type 0} (S : Sight N) where
   described_value c (Items k) = op.ListOf op.none
   described_value c (Ref n) = described c n
 
-  -- the word of a gift, by its number
-  module _ (word : ℕ → ℕ) where
-    unfoldable mutual
-      pub described_passed : Connection N → Passed N → Described
-      described_passed c (Plain y) = described_value c y
-      described_passed c (AGift h i) = op.Third h (word i)
-      described_passed c (Many ys) = op.ListOf (described_all c ys)
+  unfoldable mutual
+    -- a gift by its host and its word: the vat is its provider
+    pub described_passed : Connection N → Passed N → Described
+    described_passed c (Plain y) = described_value c y
+    described_passed c (AGift h i) = op.Third h (word_of i)
+    described_passed c (Many ys) = op.ListOf (described_all c ys)
 
-      pub described_all : Connection N → Passeds N → Members
-      described_all c NoMore = op.none
-      described_all c (More y ys) = op.more (described_passed c y) (described_all c ys)
+    pub described_all : Connection N → Passeds N → Members
+    described_all c NoMore = op.none
+    described_all c (More y ys) = op.more (described_passed c y) (described_all c ys)
 
-    -- a message, by whether it asks for an answer
-    unfoldable pub delivered : Bool → ℕ → Described → List ℕ → Members → Operation
-    delivered true q target verb args = op.Deliver q target verb args
-    delivered false q target verb args = op.DeliverOnly target verb args
+  -- a message, by whether it asks for an answer
+  unfoldable pub delivered : Bool → ℕ → Described → List ℕ → Members → Operation
+  delivered true q target verb args = op.Deliver q target verb args
+  delivered false q target verb args = op.DeliverOnly target verb args
 
-    -- what a note to the peer says, once what it tells first has its position; a question has the next number
-    unfoldable pub operation : Connection N → Note N → Operation
-    operation c (Deliver d n verb ys) = delivered d.asks (length c.questions) (described c n) verb (described_all c ys)
-    operation c (Open i n) = op.Provide (described c n) (word i)
-    operation c (Ask p i n) = op.Accept (length c.questions) p (word i)
-    operation c (SettledTo n y) = op.Resolve (described c n) (op.To (described_passed c y))
-    operation c (Elsewhere n h) = op.Resolve (described c n) (op.Elsewhere h)
-    operation c (Shorten n h i) = op.Shorten (described c n) (word i)
+  -- what a note to the peer says, once what it tells first has its position; a question has the next number
+  unfoldable pub operation : Connection N → Note N → Operation
+  operation c (Deliver d n verb ys) = delivered d.asks (length c.questions) (described c n) verb (described_all c ys)
+  operation c (Open i n) = op.Provide (described c n) (word_of i)
+  operation c (Ask p i n) = op.Accept (length c.questions) p (word_of i)
+  operation c (SettledTo n y) = op.Resolve (described c n) (op.To (described_passed c y))
+  operation c (Elsewhere n h) = op.Resolve (described c n) (op.Elsewhere h)
+  operation c (Shorten n h i) = op.Shorten (described c n) (word_of i)
 
   unfoldable pub exporting : Note N → Connection N → Connection N
   exporting n c = record c { exports = exported_note c.answers n c.exports }
 
   -- the frame of a note that is put now
-  unfoldable pub frame_now : (ℕ → ℕ) → Note N → Connection N → Operation
-  frame_now word n c = operation word (exporting n c) n
+  unfoldable pub frame_now : Note N → Connection N → Operation
+  frame_now n c = operation (exporting n c) n
 
   -- the connection once a note was put
   unfoldable pub put_on : Note N → Connection N → Connection N
@@ -150,7 +149,7 @@ module _ {N : Type 0} (S : Sight N) where
 
 -- ---- reading
 
--- a gift that was learnt as a gift, from the peer under that number: its host, and what it is
+-- a gift that was learnt as a gift: its host, its key, and what it is
 pub record Learnt (N : Type 0) : Type 0 where
   pub host : ℕ
   pub number : ℕ
@@ -168,7 +167,7 @@ pub record Newcomers (N W : Type 0) : Type 0 where
   pub object : ℕ → N
   -- the promise at that position, which comes to be known as that number
   pub promise : ℕ → ℕ → N
-  -- the gift of that host under that number, which comes to be known as that number
+  -- the gift of that host under that key, which comes to be known as that number
   pub gift : ℕ → ℕ → ℕ → N
   -- a promise by its position, a gift by the question that asks for it, and the message that the frame carries
   pub exported : ℕ → W
@@ -203,8 +202,8 @@ unfoldable pub learnt_at : {N : Type 0} → ℕ → ℕ → List (Learnt N) → 
 learnt_at h i [] = None
 learnt_at h i (g ∷ gs) = elim (g.host == h) [ true ↦ elim (g.number == i) [ true ↦ Some g.name | false ↦ learnt_at h i gs ] | false ↦ learnt_at h i gs ]
 
--- from vat `peer` at vat `me`, which has that connection; numbers of gifts by their words
-module _ {N W : Type 0} (object : N → Bool) (number : ℕ → ℕ) (me peer : ℕ) (F : Newcomers N W) (c : Connection N) where
+-- from vat `peer` at vat `me`, which has that connection
+module _ {N W : Type 0} (object : N → Bool) (me peer : ℕ) (F : Newcomers N W) (c : Connection N) where
   unfoldable pub new_object : ℕ → Hearing N (Incoming N W)
   new_object p s = told (Old (F.object p)) (record s { imports = s.imports ++ F.object p ∷ [] })
 
@@ -243,7 +242,7 @@ module _ {N W : Type 0} (object : N → Bool) (number : ℕ → ℕ) (me peer : 
   unfoldable pub reference_heard : Incoming N W → Hearing N (Passed (Incoming N W))
   reference_heard x s = told (Plain (Ref x)) s
 
-  -- a gift that was learnt as a gift is known, and another comes to be known
+  -- A gift that was learnt as a gift is known, and another comes to be known. The peer is its provider.
   unfoldable pub gift_heard : ℕ → ℕ → Option N → Hearing N (Passed (Incoming N W))
   gift_heard h i (Some n) s = told (Plain (Ref (Old n))) s
   gift_heard h i None s = told (AGift h i) (record s { learnt = s.learnt ++ record { host = h; number = i; name = F.gift h i s.known } ∷ []; known = suc s.known })
@@ -253,7 +252,7 @@ module _ {N W : Type 0} (object : N → Bool) (number : ℕ → ℕ) (me peer : 
     passed_heard (op.Datum x) s = told (Plain (fact_heard x)) s
     passed_heard (op.Broken p) s = told (Plain (Broken p)) s
     passed_heard (op.ListOf ds) s = next (λ ys. told (Many ys)) (all_heard ds s)
-    passed_heard (op.Third h w) s = gift_heard h (number w) (learnt_at h (number w) s.learnt) s
+    passed_heard (op.Third h w) s = gift_heard h (key peer w) (learnt_at h (key peer w) s.learnt) s
     passed_heard (op.MyExport p) s = next reference_heard (name_heard (op.MyExport p) s)
     passed_heard (op.MyPromise p) s = next reference_heard (name_heard (op.MyPromise p) s)
     passed_heard (op.YourExport p) s = next reference_heard (name_heard (op.YourExport p) s)
@@ -277,10 +276,10 @@ module _ {N W : Type 0} (object : N → Bool) (number : ℕ → ℕ) (me peer : 
   unfoldable pub note_heard : Operation → Hearing N (Note (Incoming N W))
   note_heard (op.Deliver q d verb ds) s = told_where (q == length c.answers) (message_heard true d verb ds) s
   note_heard (op.DeliverOnly d verb ds) s = message_heard false d verb ds s
-  note_heard (op.Provide d w) s = next (λ x. told (Open (number w) x)) (name_heard d s)
-  note_heard (op.Accept q p w) s = told_where (q == length c.answers) (told (Ask p (number w) (New (F.asked q) me))) s
+  note_heard (op.Provide d w) s = next (λ x. told (Open (key peer w) x)) (name_heard d s)
+  note_heard (op.Accept q p w) s = told_where (q == length c.answers) (told (Ask p (key p w) (New (F.asked q) me))) s
   note_heard (op.Resolve d o) s = next (λ x. outcome_heard x o) (name_heard d s)
-  note_heard (op.Shorten d w) s = next (λ x. told (Shorten x peer (number w))) (name_heard d s)
+  note_heard (op.Shorten d w) s = next (λ x. told (Shorten x peer (key me w))) (name_heard d s)
 
 -- opens each definition of this file
 unfoldable pub opened_connections : Unit {0}

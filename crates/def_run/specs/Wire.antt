@@ -44,22 +44,14 @@ with_connected f v w (c ∷ cs) = elim (connects v w c) [ true ↦ f c ∷ cs | 
 
 -- ---- notes are put
 
--- the word of a draw, and the draw of a word
-unfoldable pub word_of : List ℕ → ℕ → ℕ
-word_of drawn i = unwrap_or (slice_get drawn i) zero
-
-unfoldable pub draw_of : List ℕ → ℕ → ℕ
-draw_of [] word = zero
-draw_of (x ∷ xs) word = elim (x == word) [ true ↦ zero | false ↦ suc (draw_of xs word) ]
-
 -- the connection once a note was put on it
-unfoldable pub wrote : List ℕ → Note Name → Connected → Connected
-wrote drawn n c = record c { tables = put_on (sight c.from c.to) n c.tables; written = c.written ++ frame_now (sight c.from c.to) (word_of drawn) n c.tables ∷ [] }
+unfoldable pub wrote : Note Name → Connected → Connected
+wrote n c = record c { tables = put_on (sight c.from c.to) n c.tables; written = c.written ++ frame_now (sight c.from c.to) n c.tables ∷ [] }
 
 -- the connections once vat v put these
-unfoldable pub write_all : List ℕ → ℕ → List (Put Name) → List Connected → List Connected
-write_all drawn v [] cs = cs
-write_all drawn v (p ∷ ps) cs = write_all drawn v ps (with_connected (wrote drawn p.note) v p.to cs)
+unfoldable pub write_all : ℕ → List (Put Name) → List Connected → List Connected
+write_all v [] cs = cs
+write_all v (p ∷ ps) cs = write_all v ps (with_connected (wrote p.note) v p.to cs)
 
 -- ---- a note arrives
 
@@ -87,9 +79,9 @@ frame_bytes (Some o) = spelling o
 frame_bytes None = []
 
 -- what the vat that has d reads of a frame of its peer, which has c
-unfoldable pub read_frame : List ℕ → Connected → Connected → Name → Stage Name → Option Operation → Option (Heard Name (Note (Incoming Name Name)))
-read_frame drawn d c m s (Some o) = note_heard is_object (draw_of drawn) d.from d.to (newcomers c m) d.tables o s
-read_frame drawn d c m s None = None
+unfoldable pub read_frame : Connected → Connected → Name → Stage Name → Option Operation → Option (Heard Name (Note (Incoming Name Name)))
+read_frame d c m s (Some o) = note_heard is_object d.from d.to (newcomers c m) d.tables o s
+read_frame d c m s None = None
 
 unfoldable pub imports_after : List Name → Option (Heard Name (Note (Incoming Name Name))) → List Name
 imports_after ns (Some h) = h.after.imports
@@ -100,19 +92,19 @@ unfoldable pub first_stage : Connected → Stage Name
 first_stage d = record { imports = d.tables.imports; learnt = []; known = zero }
 
 -- the connection d of the receiver once a note arrived
-unfoldable pub received : List ℕ → Connected → Note Name → Connected → Connected
-received drawn c n d = record d {
+unfoldable pub received : Connected → Note Name → Connected → Connected
+received c n d = record d {
   tables = record d.tables {
-    imports = imports_after d.tables.imports (read_frame drawn d c (Root c.from) (first_stage d) (frame_due c d));
+    imports = imports_after d.tables.imports (read_frame d c (Root c.from) (first_stage d) (frame_due c d));
     answers = d.tables.answers ++ asked_in (sight c.from c.to) n;
   };
   heard = suc d.heard;
 }
 
-unfoldable pub hear_at : List ℕ → ℕ → ℕ → Note Name → List Connected → List Connected
-hear_at drawn v w n cs = with_connected (received drawn (connected_at v w cs) n) w v cs
+unfoldable pub hear_at : ℕ → ℕ → Note Name → List Connected → List Connected
+hear_at v w n cs = with_connected (received (connected_at v w cs) n) w v cs
 
 -- opens each definition of this file, and of those below
 unfoldable pub opened_wire : Unit {0}
-unfolding is_object sight unconnected connects connected_at with_connected word_of draw_of wrote write_all numbered newcomers frame_due frame_bytes read_frame imports_after first_stage received hear_at opened_connections
+unfolding is_object sight unconnected connects connected_at with_connected wrote write_all numbered newcomers frame_due frame_bytes read_frame imports_after first_stage received hear_at opened_connections
 opened_wire = tt

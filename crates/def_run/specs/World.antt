@@ -134,14 +134,14 @@ put_at zero y (x ∷ xs) = y ∷ xs
 put_at (suc n) y (x ∷ xs) = x ∷ put_at n y xs
 
 -- the connections once what these lines tell has arrived
-unfoldable pub heard_by : List ℕ → List Event → List Connected → List Connected
-heard_by drawn [] cs = cs
-heard_by drawn (Carried k v w n bytes ∷ es) cs = heard_by drawn es (hear_at drawn v w n cs)
-heard_by drawn (e ∷ es) cs = heard_by drawn es cs
+unfoldable pub heard_by : List Event → List Connected → List Connected
+heard_by [] cs = cs
+heard_by (Carried k v w n bytes ∷ es) cs = heard_by es (hear_at v w n cs)
+heard_by (e ∷ es) cs = heard_by es cs
 
 -- A note that the step's own line tells of was read, and then those of the vat's state after it were written.
 unfoldable pub connections_after : ℕ → Vat Name → List Event → List Connected → List Connected
-connections_after v s head cs = write_all s.drawn v s.outbox (heard_by s.drawn head cs)
+connections_after v s head cs = write_all v s.outbox (heard_by head cs)
 
 -- the bytes of the next frame to arrive from v at w
 unfoldable pub next_frame : ℕ → ℕ → List Connected → List ℕ

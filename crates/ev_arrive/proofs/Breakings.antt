@@ -1,11 +1,9 @@
 -- Names that break one after another.
-use Rattle.std.proofs.Common.{◌≡◌, ◌∙◌, ◌+◌, ◌<◌, ◌≤◌, ℕ, suc, List, [], ◌∷◌, Ok, Err, drop, get_or, length, refl, sym, ap, subst}
-use Rattle.std.specs.Prelude.{Result}
+use Rattle.std.proofs.Common.{◌≡◌, ◌∙◌, ◌+◌, ◌<◌, ◌≤◌, ℕ, List, ◌∷◌, Ok, Err, drop, get_or, length, sym, ap, subst}
 use Rattle.std.proofs.lemmas.List.{drop_all, drop_more}
 use Rattle.ev_pass.specs.Acts.{Unless}
 use Rattle.ev_pass.specs.declared.interior.Stop.{Stop}
-use Rattle.ev_pass.specs.declared.interior.Stop.TheVariants.{Fuel, Repeated, Astray, Missing, Memory}
-use Rattle.ev_arrive.specs.Acts.{Act, Gives, Out, and_then, ◌>>◌, give}
+use Rattle.ev_arrive.specs.Acts.{Act, Out, and_then, ◌>>◌, give}
 use Rattle.ev_arrive.specs.Noticing.{break_each}
 use Rattle.ev_arrive.specs.declared.host.Host.{Host}
 use Rattle.ev_arrive.proofs.Ends.{ends}

@@ -1,15 +1,15 @@
 -- A message that arrives and a gift that is heard of, in the code and as in the machine.
-use Rattle.std.proofs.Common.{◌≡◌, ◌∙◌, ℕ, Bool, true, false, List, Option, Some, None, map, refl, sym, ap, subst}
+use Rattle.std.proofs.Common.{◌≡◌, ◌∙◌, ℕ, Bool, true, false, List, Some, None, map, sym, ap, subst}
 use Rattle.std.specs.Prelude.{Result, codes, if◌then◌else◌}
 use Rattle.ev_base.specs.declared.values.Value.{Value as Held}
 use Rattle.def_machine.specs.Arrive as arrive
 use Rattle.def_machine.specs.Refs as refs
 use Rattle.def_machine.specs.State as machine
 use Rattle.def_machine.specs.State.{Vat, Done, ToTell, alter, is_in}
-use Rattle.def_machine.specs.Values.{Words, Value, Local, Mess, Prom, Ref, Broken, IsAnswer, IsGift, numbering}
+use Rattle.def_machine.specs.Values.{Words, Value, Local, Mess, Prom, Ref, Broken, IsAnswer, key as gift_key}
 use Rattle.ev_pass.specs.Acts.{send_out, to_tell}
 use Rattle.ev_pass.specs.Notes.{Ask}
-use Rattle.ev_pass.specs.Reading.{Lines, Reads, StandsFor, names_under, reference_by}
+use Rattle.ev_pass.specs.Reading.{Lines, Reads, names_under, reference_by}
 use Rattle.ev_pass.specs.declared.interior.Stop.{Stop}
 use Rattle.ev_pass.specs.declared.note.Reference.{Reference}
 use Rattle.ev_pass.proofs.Stands.{sent_out_is, to_tell_is}
@@ -32,14 +32,14 @@ use Rattle.ev_arrive.proofs.Opens.{broken_is, value_is}
 use Rattle.ev_arrive.proofs.Stands.{both_then, gives, inside_is, gift_comes}
 
 module _ (p a i n : ℕ) (k u : Host) (r : Result (Unit {0}) Stop) (b : Bool) (is : b ≡ is_in a k.inside.refs.noticed) where
-  by_notice : (x : Bool) → b ≡ x → ask_for p a i n k ≡ (if x then break_name n else within (send_out a (Ask p i n))) k
+  by_notice : (x : Bool) → b ≡ x → ask_for p a i n k ≡ (if x then break_name n else within (send_out a (Ask p (gift_key p i) n))) k
   unfolding ask_for
-  by_notice x e = ap (λ (y : Bool). (if y then break_name n else within (send_out a (Ask p i n))) k) (sym is ∙ e)
+  by_notice x e = ap (λ (y : Bool). (if y then break_name n else within (send_out a (Ask p (gift_key p i) n))) k) (sym is ∙ e)
 
   pub gone : b ≡ true → Gives r u (break_name n k) → Gives r u (ask_for p a i n k)
   gone e g = subst (λ (o : Out (Unit {0})). Gives r u o) (sym (by_notice true e)) g
 
-  pub not_gone : b ≡ false → Gives r u (within (send_out a (Ask p i n)) k) → Gives r u (ask_for p a i n k)
+  pub not_gone : b ≡ false → Gives r u (within (send_out a (Ask p (gift_key p i) n)) k) → Gives r u (ask_for p a i n k)
   not_gone e g = subst (λ (o : Out (Unit {0})). Gives r u o) (sym (by_notice false e)) g
 
 module _ (ts : List Words) (key : List ℕ) (line : Lines) (s : Vat Local) where
@@ -86,21 +86,21 @@ module _ (ts : List Words) (key : List ℕ) (line : Lines) (s : Vat Local) where
         (value_is ts r) (forward_here (record { id = id; target = value_at r; verb = verb; args = args; answer = None }) h good)
 
     asked_by : (p a i n : ℕ) (noticed : Bool) (h : Host) → Reads ts key h.inside
-        → Stands ts key line s (λ u. u) ((if noticed then break_name n else within (send_out a (Ask p i n))) h)
-        ((if noticed then refs.settle (names_under key) (Prom n) (Broken (codes "partition")) else machine.send_out a (machine.Ask p i (Prom n))) (at h))
+        → Stands ts key line s (λ u. u) ((if noticed then break_name n else within (send_out a (Ask p (gift_key p i) n))) h)
+        ((if noticed then refs.settle (names_under key) (Prom n) (Broken (codes "partition")) else machine.send_out a (machine.Ask p (gift_key p i) (Prom n))) (at h))
     asked_by p a i n true h good = broken_is ts key line s tells n h good
-    asked_by p a i n false h good = inside_is ts key line s (λ u. u) (send_out a (Ask p i n)) h _ (sent_out_is ts key line (with_gifts h.gifts s) a (Ask p i n) h.inside good)
+    asked_by p a i n false h good = inside_is ts key line s (λ u. u) (send_out a (Ask p (gift_key p i) n)) h _ (sent_out_is ts key line (with_gifts h.gifts s) a (Ask p (gift_key p i) n) h.inside good)
 
-    asked_for : (p a i n : ℕ) (h : Host) → Reads ts key h.inside → Stands ts key line s (λ u. u) (ask_for p a i n h) (arrive.ask_for (names_under key) p a i (Prom n) (at h))
+    asked_for : (p a i n : ℕ) (h : Host) → Reads ts key h.inside → Stands ts key line s (λ u. u) (ask_for p a i n h) (arrive.ask_for (names_under key) p a (gift_key p i) (Prom n) (at h))
     unfolding ask_for arrive.ask_for machine.look machine.◌>>=◌ machine.and_then
     asked_for p a i n h good = asked_by p a i n (is_in a h.inside.refs.noticed) h good
 
     abbrev ref_of : ℕ → Value Local
     ref_of n = Ref (Prom n)
 
-    pub gift_is : (p a i : ℕ) (h : Host) → Reads ts key h.inside → Stands ts key line s ref_of (learn_gift p a i h) (arrive.learn_gift (names_under key) p a i (at h))
+    pub gift_is : (p a i : ℕ) (h : Host) → Reads ts key h.inside → Stands ts key line s ref_of (learn_gift p a i h) (arrive.learn_gift (names_under key) p a (gift_key p i) (at h))
     unfolding learn_gift arrive.learn_gift ◌>>=◌ ◌>>◌ machine.◌>>=◌ machine.◌>>◌
     gift_is p a i h good =
-        both_then ts key line s Prom ref_of (within (come a) h) _ _ _ (gift_comes ts key line s a a i h good)
+        both_then ts key line s Prom ref_of (within (come a) h) _ _ _ (gift_comes ts key line s a a (gift_key p i) h good)
         (λ n j e first. both_then ts key line s (λ u. u) ref_of (ask_for p a i n j) _ _ _ (asked_for p a i n j first)
         (λ u k f second. gives ts key line s ref_of n k second))

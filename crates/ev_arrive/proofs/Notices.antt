@@ -1,20 +1,20 @@
 -- A link is noticed as cut, as in the machine.
-use Rattle.std.proofs.Common.{◌≡◌, ◌∙◌, ◌==◌, ◌&&◌, ◌++◌, not, ℕ, suc, Bool, true, false, List, [], ◌∷◌, map, refl, sym, ap, subst}
+use Rattle.std.proofs.Common.{◌==◌, ◌&&◌, ◌++◌, not, ℕ, suc, Bool, true, false, List, [], ◌∷◌, map, refl, subst}
 use Rattle.std.specs.Prelude.{codes, if◌then◌else◌}
-use Rattle.ev_intro.specs.Gift.{Gift, Gifts, unopened}
+use Rattle.ev_intro.specs.Gift.{Gifts, unopened}
 use Rattle.def_machine.specs.Arrive as arrive
 use Rattle.def_machine.specs.Refs as refs
 use Rattle.def_machine.specs.State as machine
 use Rattle.def_machine.specs.State.{Vat, Done, is_in}
 use Rattle.def_machine.specs.Values.{Words, Local, Prom}
 use Rattle.ev_pass.specs.Reading.{Lines, Reads, names_under}
-use Rattle.ev_refs.specs.Reading.{known_by, knowns_by, standing_by}
+use Rattle.ev_refs.specs.Reading.{knowns_by, standing_by}
 use Rattle.ev_refs.specs.declared.known.Known.{Known}
 use Rattle.ev_refs.specs.declared.known.Standing.{Standing}
 use Rattle.ev_refs.specs.declared.known.Standing.TheVariants.{Unsettled, WaitsOn, Viewed, Settled}
 use Rattle.ev_settle.specs.Performing.{Tells}
 use Rattle.ev_settle.proofs.Changing.{reads_still}
-use Rattle.ev_arrive.specs.Acts.{◌>>◌, and_then, give}
+use Rattle.ev_arrive.specs.Acts.{◌>>◌, give}
 use Rattle.ev_arrive.specs.Breaking.{break_at, break_hosted, break_hosted_by, standing_now}
 use Rattle.ev_arrive.specs.Noticing.{break_each, hosted, mark, notice, notice_all}
 use Rattle.ev_arrive.specs.Reading.{Stands, gift_by, host_at, with_gifts}

@@ -1,5 +1,5 @@
 -- A gift is opened, or asked for, as in the machine.
-use Rattle.std.proofs.Common.{◌≡◌, ◌∙◌, ℕ, Bool, true, false, List, Option, Some, None, Ok, map, refl, sym, ap, subst}
+use Rattle.std.proofs.Common.{◌≡◌, ◌∙◌, ℕ, Bool, true, false, List, Option, Some, None, map, refl, sym, ap, subst}
 use Rattle.std.specs.Prelude.{codes, if◌then◌else◌, option_map, slice_get}
 use Rattle.ev_base.specs.declared.values.Value.{Value as Held}
 use Rattle.ev_base.specs.declared.values.Value.TheVariants as held
@@ -10,15 +10,15 @@ use Rattle.def_machine.specs.Arrive.{gift_at}
 use Rattle.def_machine.specs.Refs as refs
 use Rattle.def_machine.specs.State as machine
 use Rattle.def_machine.specs.State.{Vat, Done, GiftEntry, ToTell, alter, is_in}
-use Rattle.def_machine.specs.Values.{Words, Value, Broken, Local, Prom, Ref}
+use Rattle.def_machine.specs.Values.{Words, Value, Broken, Local, Prom, Ref, key as gift_key}
 use Rattle.ev_pass.specs.Delivering.{inform}
 use Rattle.ev_pass.specs.Acts.{to_tell}
-use Rattle.ev_pass.specs.Reading.{Lines, Reads, StandsFor, names_under, reference_by, vat_at}
+use Rattle.ev_pass.specs.Reading.{Lines, Reads, StandsFor, names_under, reference_by}
 use Rattle.ev_pass.specs.declared.note.Reference.{Reference}
 use Rattle.ev_pass.specs.declared.note.Reference.TheVariants as reference
 use Rattle.ev_pass.proofs.Delivers.{informs}
 use Rattle.ev_pass.proofs.Stands.{to_tell_is}
-use Rattle.ev_refs.specs.Reading.{text_by, value_by, known_by, knowns_by, standing_by}
+use Rattle.ev_refs.specs.Reading.{value_by, known_by, knowns_by, standing_by}
 use Rattle.ev_refs.specs.declared.known.Known.{Known as Entry}
 use Rattle.ev_refs.specs.declared.known.Standing.{Standing}
 use Rattle.ev_refs.specs.declared.known.Standing.TheVariants.{Unsettled, WaitsOn, Viewed, Settled}
@@ -36,7 +36,7 @@ use Rattle.ev_arrive.specs.Reading.{Stands, gift_by, host_at, incoming_by, with_
 use Rattle.ev_arrive.specs.declared.host.Host.{Host}
 use Rattle.ev_arrive.specs.declared.host.Incoming.{Incoming}
 use Rattle.ev_arrive.proofs.Gifting.{Alike, alike}
-use Rattle.ev_arrive.proofs.Stands.{Meets, both_then, gives, inside_is, name_is, have_is, open_is}
+use Rattle.ev_arrive.proofs.Stands.{both_then, gives, inside_is, name_is, have_is, open_is}
 
 pub value_is : (ts : List Words) (r : Reference) → value_by ts (value_at r) ≡ Ref (reference_by r)
 value_is ts (reference.Object i) = refl
@@ -51,7 +51,7 @@ module _ (ts : List Words) (key : List ℕ) (line : Lines) (s : Vat Local) (tell
   resolve_is n x h good = inside_is ts key line s (λ u. u) (resolve n x) h _ (resolves_is ts key line (with_gifts h.gifts s) tells n x h.inside good)
 
   pub opens_is : (from i : ℕ) (n : Local) (x : Incoming) (h : Host) → Reads ts key h.inside
-      → Stands ts key line s (λ u. u) (arrive_open from i x h) (arrive.arrive_open (names_under key) from i (incoming_by n x) (at h))
+      → Stands ts key line s (λ u. u) (arrive_open from i x h) (arrive.arrive_open (names_under key) from (gift_key from i) (incoming_by n x) (at h))
   unfolding arrive_open arrive.arrive_open ◌>>=◌ ◌>>◌ machine.◌>>=◌ machine.◌>>◌
   opens_is from i n x h good =
       both_then ts key line s reference_by (λ u. u) _ _ _ _ (name_is ts key line s n x h good)
@@ -106,14 +106,14 @@ module _ (ts : List Words) (key : List ℕ) (line : Lines) (s : Vat Local) (tell
 
   orphan_by : (p i n : ℕ) (gone : Bool) (h : Host) → Reads ts key h.inside
       → Stands ts key line s (λ u. u) ((if gone then break_unless_opened n (is_opened p i h.gifts) else give tt) h)
-      ((if gone then arrive.break_unopened (names_under key) (Prom n) (arrive.opened_in (gift_at p i (map gift_by h.gifts))) else machine.give tt) (at h))
+      ((if gone then arrive.break_unopened (names_under key) (Prom n) (arrive.opened_in (gift_at p (gift_key p i) (map gift_by h.gifts))) else machine.give tt) (at h))
   unfolding is_opened
   orphan_by p i n true h good =
       subst (λ (b : Bool). Stands ts key line s (λ u. u) (break_unless_opened n (is_opened p i h.gifts) h) (arrive.break_unopened (names_under key) (Prom n) b (at h)))
-      (opened_like (find p i h.gifts) (gift_at p i (map gift_by h.gifts)) (alike p i h.gifts)) (unless_opened n (is_opened p i h.gifts) h good)
+      (opened_like (find p i h.gifts) (gift_at p (gift_key p i) (map gift_by h.gifts)) (alike p i h.gifts)) (unless_opened n (is_opened p i h.gifts) h good)
   orphan_by p i n false h good = gives ts key line s (λ u. u) tt h good
 
-  orphan_is : (p i n : ℕ) (h : Host) → Reads ts key h.inside → Stands ts key line s (λ u. u) (break_orphan p i n h) (arrive.break_orphan (names_under key) p i (Prom n) (at h))
+  orphan_is : (p i n : ℕ) (h : Host) → Reads ts key h.inside → Stands ts key line s (λ u. u) (break_orphan p i n h) (arrive.break_orphan (names_under key) p (gift_key p i) (Prom n) (at h))
   unfolding break_orphan arrive.break_orphan machine.look machine.◌>>=◌ machine.and_then
   orphan_is p i n h good = orphan_by p i n (is_in p h.inside.refs.noticed) h good
 
@@ -134,7 +134,7 @@ module _ (ts : List Words) (key : List ℕ) (line : Lines) (s : Vat Local) (tell
       subst (λ (t : machine.Standing Local). Stands ts key line s (λ u. u) (tell_by n w (standing_now h.inside.refs n) h) (arrive.tell_asker (names_under key) (Prom n) w t (at h))) (standing_is n h)
       (told_by n w (standing_now h.inside.refs n) h good)
 
-  pub asks_is : (w p i : ℕ) (h : Host) → Reads ts key h.inside → Stands ts key line s (λ u. u) (arrive_ask w p i h) (arrive.arrive_ask (names_under key) w p i (at h))
+  pub asks_is : (w p i : ℕ) (h : Host) → Reads ts key h.inside → Stands ts key line s (λ u. u) (arrive_ask w p i h) (arrive.arrive_ask (names_under key) w p (gift_key p i) (at h))
   unfolding arrive_ask arrive.arrive_ask ◌>>=◌ ◌>>◌ machine.◌>>=◌ machine.◌>>◌ machine.look arrive.tell_asker machine.and_then
   asks_is w p i h good =
       both_then ts key line s Prom (λ u. u) (have_gift p i h) _ _ _ (have_is ts key line s p i h good)

@@ -7,9 +7,9 @@ use Rattle.def_machine.specs.Arrive as arrive
 use Rattle.def_machine.specs.Arrive.{gift_at}
 use Rattle.def_machine.specs.State as machine
 use Rattle.def_machine.specs.State.{Vat, Done, GiftEntry, with_opened}
-use Rattle.def_machine.specs.Values.{Words, Local, Prom, IsGift, IsLearnt, numbering}
+use Rattle.def_machine.specs.Values.{Words, Local, Prom, IsGift, IsLearnt, numbering, key as gift_key}
 use Rattle.ev_pass.specs.Acts as inner
-use Rattle.ev_pass.specs.Reading.{Lines, Reads, StandsFor, names_under, reference_by, vat_at}
+use Rattle.ev_pass.specs.Reading.{Lines, Reads, StandsFor, names_under, reference_by}
 use Rattle.ev_pass.specs.declared.interior.Stop.TheVariants.{Fuel, Repeated, Astray, Missing, Memory}
 use Rattle.ev_pass.specs.declared.note.Reference.TheVariants as reference
 use Rattle.ev_settle.specs.Changes.{come}
@@ -75,14 +75,14 @@ module _ (ts : List Words) (key : List ℕ) (line : Lines) (s : Vat Local) where
   -- ---- gifts
 
   kept : (p i n : ℕ) (gs : Gifts) → find p i gs ≡ None
-      → map gift_by gs ++ record { name = Prom n; provider = p; number = i; opened = false } ∷ [] ≡ map gift_by (accepted p i n gs)
+      → map gift_by gs ++ record { name = Prom n; provider = p; number = gift_key p i; opened = false } ∷ [] ≡ map gift_by (accepted p i n gs)
   kept p i n gs e =
       let new : Gift = record { provider = p; swiss = i; promise = n; is_opened = false } in
       sym (map-append gift_by gs (new ∷ []))
       ∙ ap (λ (z : Gifts). map gift_by z) (sym (put_last new gs e))
       ∙ ap (λ (o : Option (ℕ × Bool)). map gift_by (if is_some o then gs else put new gs)) (sym e)
 
-  keeps_is : (p i n : ℕ) (h : Host) → find p i h.gifts ≡ None → Reads ts key h.inside → Meets (λ u. u) (keep_gift p i n h) (machine.new_gift (Prom n) p i (at h))
+  keeps_is : (p i n : ℕ) (h : Host) → find p i h.gifts ≡ None → Reads ts key h.inside → Meets (λ u. u) (keep_gift p i n h) (machine.new_gift (Prom n) p (gift_key p i) (at h))
   unfolding keep_gift machine.new_gift
   keeps_is p i n h e good = (ap (λ (z : List (GiftEntry Local)). machine.Gives tt (record (at h) { gifts = z })) (kept p i n h.gifts e), good)
 
@@ -90,31 +90,31 @@ module _ (ts : List Words) (key : List ℕ) (line : Lines) (s : Vat Local) where
   unfolding within
   same_gifts m h j r e = sym (ap (λ (o : Out _). o.1.gifts) e)
 
-  new_is : (p i : ℕ) (h : Host) → find p i h.gifts ≡ None → Reads ts key h.inside → Meets Prom (new_gift p i h) (arrive.gift_or_new (names_under key) h.inside.refs.me p i None (at h))
+  new_is : (p i : ℕ) (h : Host) → find p i h.gifts ≡ None → Reads ts key h.inside → Meets Prom (new_gift p i h) (arrive.gift_or_new (names_under key) h.inside.refs.me p (gift_key p i) None (at h))
   unfolding new_gift arrive.gift_or_new ◌>>=◌ ◌>>◌ machine.◌>>=◌ machine.◌>>◌
   new_is p i h none good =
-      both_then Prom Prom (within (come h.inside.refs.me) h) _ _ _ (gift_comes h.inside.refs.me h.inside.refs.me i h good)
+      both_then Prom Prom (within (come h.inside.refs.me) h) _ _ _ (gift_comes h.inside.refs.me h.inside.refs.me (gift_key p i) h good)
       (λ n j e next. both_then (λ u. u) Prom (keep_gift p i n j) _ _ _ (keeps_is p i n j (ap (λ (gs : Gifts). find p i gs) (same_gifts (come h.inside.refs.me) h j (Ok n) e) ∙ none) next)
       (λ u k f done. gives Prom n k done))
 
   have_found : (p i : ℕ) (h : Host) (o : Option (ℕ × Bool)) (q : Option (GiftEntry Local)) → find p i h.gifts ≡ o → Alike o q → Reads ts key h.inside
-      → Meets Prom (have_by p i o h) (arrive.gift_or_new (names_under key) h.inside.refs.me p i q (at h))
+      → Meets Prom (have_by p i o h) (arrive.gift_or_new (names_under key) h.inside.refs.me p (gift_key p i) q (at h))
   unfolding have_by arrive.gift_or_new give machine.give
   have_found p i h (Some x) (Some g) e like good = (ap (λ (n : Local). machine.Gives n (at h)) like.0, good)
   have_found p i h None None e like good = new_is p i h e good
   have_found p i h None (Some g) e like good = elim like [ ]
   have_found p i h (Some x) None e like good = elim like [ ]
 
-  pub have_is : (p i : ℕ) (h : Host) → Reads ts key h.inside → Meets Prom (have_gift p i h) (arrive.have_gift (names_under key) p i (at h))
+  pub have_is : (p i : ℕ) (h : Host) → Reads ts key h.inside → Meets Prom (have_gift p i h) (arrive.have_gift (names_under key) p (gift_key p i) (at h))
   unfolding have_gift arrive.have_gift machine.look machine.◌>>=◌ machine.and_then
-  have_is p i h good = have_found p i h (find p i h.gifts) (gift_at p i (map gift_by h.gifts)) refl (alike p i h.gifts) good
+  have_is p i h good = have_found p i h (find p i h.gifts) (gift_at p (gift_key p i) (map gift_by h.gifts)) refl (alike p i h.gifts) good
 
-  opens : (p i : ℕ) (gs : Gifts) (o : Option (ℕ × Bool)) → find p i gs ≡ o → with_opened p i (map gift_by gs) ≡ map gift_by (open_by p i o gs)
+  opens : (p i : ℕ) (gs : Gifts) (o : Option (ℕ × Bool)) → find p i gs ≡ o → with_opened p (gift_key p i) (map gift_by gs) ≡ map gift_by (open_by p i o gs)
   unfolding open_by
   opens p i gs None e = sym (none_opened p i gs e)
   opens p i gs (Some x) e =
       sym (some_opened p i x gs e) ∙ ap (λ (q : Option (ℕ × Bool)). map gift_by (put (record { provider = p; swiss = i; promise = promise_in q x.0; is_opened = true }) gs)) (sym e)
 
-  pub open_is : (p i : ℕ) (h : Host) → Reads ts key h.inside → Meets (λ u. u) (open_gift p i h) (machine.open_gift p i (at h))
+  pub open_is : (p i : ℕ) (h : Host) → Reads ts key h.inside → Meets (λ u. u) (open_gift p i h) (machine.open_gift p (gift_key p i) (at h))
   unfolding open_gift machine.open_gift
   open_is p i h good = (ap (λ (z : List (GiftEntry Local)). machine.Gives tt (record (at h) { gifts = z })) (opens p i h.gifts (find p i h.gifts) refl), good)

@@ -1,5 +1,5 @@
 -- A name that settled elsewhere, and what is wanted as a gift, as in the machine.
-use Rattle.std.proofs.Common.{◌≡◌, ◌∙◌, ◌==◌, ℕ, Bool, true, false, List, Option, Some, None, Ok, Err, refl, sym, ap, subst}
+use Rattle.std.proofs.Common.{◌≡◌, ◌∙◌, ◌==◌, ℕ, Bool, true, false, List, Option, Some, None, refl, sym, ap, subst}
 use Rattle.std.specs.Prelude.{codes, if◌then◌else◌, option_map, slice_get}
 use Rattle.ev_base.specs.declared.values.Value.{Value as Held}
 use Rattle.ev_intro.specs.Word.{word}
@@ -7,7 +7,8 @@ use Rattle.def_machine.specs.Arrive as arrive
 use Rattle.def_machine.specs.Refs as refs
 use Rattle.def_machine.specs.State as machine
 use Rattle.def_machine.specs.State.{Vat, Done, is_in}
-use Rattle.def_machine.specs.Values.{Words, Value, Local, Prom, Ref, IsGift, Broken}
+use Rattle.def_machine.specs.Values.{Words, Value, Local, Prom, Ref, IsGift, Broken, key as gift_key, under}
+use Rattle.ev_pass.proofs.Keys.{word_key}
 use Rattle.ev_pass.specs.Acts.{draw, send_out}
 use Rattle.ev_pass.specs.Notes.{Noted, Ask, Open, Shorten}
 use Rattle.ev_pass.specs.Reading.{Lines, Reads, names_under, note_by, reference_by}
@@ -24,7 +25,7 @@ use Rattle.ev_refs.proofs.Machine.{entry_is}
 use Rattle.ev_settle.specs.Changes.{come, see}
 use Rattle.ev_settle.specs.Performing.{Tells}
 use Rattle.ev_settle.proofs.Changing.{see_is}
-use Rattle.ev_arrive.specs.Acts.{◌>>=◌, ◌>>◌, give, learn_name, learn_subject, value_at, within}
+use Rattle.ev_arrive.specs.Acts.{Act, ◌>>=◌, ◌>>◌, learn_name, learn_subject, value_at, within}
 use Rattle.ev_arrive.specs.Breaking.{break_name}
 use Rattle.ev_arrive.specs.Hosting.{have_gift}
 use Rattle.ev_arrive.specs.Reading.{Stands, host_at, incoming_by, subject_by, with_gifts}
@@ -91,40 +92,56 @@ module _ (ts : List Words) (key : List ℕ) (line : Lines) (s : Vat Local) where
   host_is n h = entry_host h.inside.refs.me n (slice_get h.inside.refs.known n) ∙ ap (refs.host_in h.inside.refs.me) (sym (entry_is (word key) ts h.inside.refs.known n))
 
   asked : (p c i : ℕ) (h : Host) → Reads ts key h.inside
-      → Stands ts key line s Prom (ask_there p c i h) (machine.and_then (machine.come (names_under key) (IsGift c i) c (at h)) (λ g. machine.◌>>◌ (machine.send_out c (machine.Ask p i g)) (machine.give g)))
+      → Stands ts key line s Prom (ask_there p c i h) (machine.and_then (machine.come (names_under key) (IsGift c (gift_key p i)) c (at h)) (λ g. machine.◌>>◌ (machine.send_out c (machine.Ask p (gift_key p i) g)) (machine.give g)))
   unfolding ask_there ◌>>=◌ ◌>>◌ machine.◌>>◌
   asked p c i h good =
-      both_then ts key line s Prom Prom (within (come c) h) _ _ _ (gift_comes ts key line s c c i h good)
-      (λ g j e first. both_then ts key line s (λ u. u) Prom (within (send_out c (Ask p i g)) j) _ _ _ (sent c (Ask p i g) j first)
+      both_then ts key line s Prom Prom (within (come c) h) _ _ _ (gift_comes ts key line s c c (gift_key p i) h good)
+      (λ g j e first. both_then ts key line s (λ u. u) Prom (within (send_out c (Ask p (gift_key p i) g)) j) _ _ _ (sent c (Ask p (gift_key p i) g) j first)
       (λ u k f second. gives ts key line s Prom g k second))
 
   there_by : (v p c i : ℕ) (b : Bool) (h : Host) → Reads ts key h.inside
       → Stands ts key line s Prom ((if b then have_gift p i else ask_there p c i) h)
-      ((if b then arrive.have_gift (names_under key) p i else machine.◌>>=◌ (machine.come (names_under key) (IsGift c i) c) (λ g. machine.◌>>◌ (machine.send_out c (machine.Ask p i g)) (machine.give g))) (at h))
+      ((if b then arrive.have_gift (names_under key) p (gift_key p i) else machine.◌>>=◌ (machine.come (names_under key) (IsGift c (gift_key p i)) c) (λ g. machine.◌>>◌ (machine.send_out c (machine.Ask p (gift_key p i) g)) (machine.give g))) (at h))
   unfolding machine.◌>>=◌
   there_by v p c i true h good = have_is ts key line s p i h good
   there_by v p c i false h good = asked p c i h good
 
-  there_is : (v p c i : ℕ) (h : Host) → Reads ts key h.inside → Stands ts key line s Prom (gift_there v p c i h) (arrive.gift_there (names_under key) v p c i (at h))
+  there_is : (v p c i : ℕ) (h : Host) → Reads ts key h.inside → Stands ts key line s Prom (gift_there v p c i h) (arrive.gift_there (names_under key) v p c (gift_key p i) (at h))
   unfolding gift_there arrive.gift_there
   there_is v p c i h good = there_by v p c i (c == v) h good
 
   module _ (tells : Tells ts line) where
+    -- once a word was drawn
+    abbrev viewed : ℕ → ℕ → ℕ → ℕ → ℕ → Act (Unit {0})
+    viewed v n a c w = within (send_out a (Shorten n c (gift_key a w))) >> (gift_there v a c w >>= (λ g. within (see n g)))
+
+    abbrev asked_then : ℕ → ℕ → ℕ → ℕ → ℕ → machine.Act Local (Unit {0})
+    asked_then v n a c x = machine.◌>>◌ (machine.send_out a (machine.Shorten (Prom n) c x)) (machine.◌>>=◌ (arrive.gift_there (names_under key) v a c x) (λ g. arrive.see (names_under key) (Prom n) g))
+
+    viewed_is : (v n a c w : ℕ) (h : Host) → Reads ts key h.inside → Stands ts key line s (λ u. u) (viewed v n a c w h) (asked_then v n a c (gift_key a w) (at h))
+    unfolding ◌>>=◌ ◌>>◌ machine.◌>>◌ machine.◌>>=◌
+    viewed_is v n a c w h good =
+        both_then ts key line s (λ u. u) (λ u. u) (within (send_out a (Shorten n c (gift_key a w))) h) _ _ _ (sent a (Shorten n c (gift_key a w)) h good)
+        (λ u k f second. both_then ts key line s Prom (λ u. u) (gift_there v a c w k) _ _ _ (there_is v a c w k second)
+        (λ g l m third. inside_is ts key line s (λ u. u) (see n g) l _ (see_is ts key line (with_gifts l.gifts s) tells n g l.inside third)))
+
+    same_under : (a me w : ℕ) → under a (gift_key me w) ≡ gift_key a w
+    unfolding under
+    same_under a me w = ap (gift_key a) (word_key me w)
+
     view_is : (v n a c : ℕ) (h : Host) → Reads ts key h.inside
         → Stands ts key line s (λ u. u) (view_from v n a c h)
-        (machine.and_then (machine.draw (names_under key) (at h)) (λ i. machine.◌>>◌ (machine.send_out a (machine.Shorten (Prom n) c i)) (machine.◌>>=◌ (arrive.gift_there (names_under key) v a c i) (λ g. arrive.see (names_under key) (Prom n) g))))
+        (machine.and_then (machine.draw (names_under key) (at h)) (λ i. machine.◌>>◌ (machine.send_out a (machine.Shorten (Prom n) c (under a i))) (machine.◌>>=◌ (arrive.gift_there (names_under key) v a c (under a i)) (λ g. arrive.see (names_under key) (Prom n) g))))
     unfolding view_from ◌>>=◌ ◌>>◌ machine.◌>>◌ machine.◌>>=◌
     view_is v n a c h good =
-        both_then ts key line s (λ i. i) (λ u. u) (within draw h) _ _ _ (inside_is ts key line s (λ i. i) draw h _ (draw_is ts key line (with_gifts h.gifts s) h.inside good))
-        (λ i j e first. both_then ts key line s (λ u. u) (λ u. u) (within (send_out a (Shorten n c i)) j) _ _ _ (sent a (Shorten n c i) j first)
-        (λ u k f second. both_then ts key line s Prom (λ u. u) (gift_there v a c i k) _ _ _ (there_is v a c i k second)
-        (λ g l m third. inside_is ts key line s (λ u. u) (see n g) l _ (see_is ts key line (with_gifts l.gifts s) tells n g l.inside third))))
+        both_then ts key line s (λ w. gift_key h.inside.refs.me w) (λ u. u) (within draw h) _ _ _ (inside_is ts key line s (λ w. gift_key h.inside.refs.me w) draw h _ (draw_is ts key line (with_gifts h.gifts s) h.inside good))
+        (λ w j e first. subst (λ (x : ℕ). Stands ts key line s (λ u. u) (viewed v n a c w j) (asked_then v n a c x (at j))) (sym (same_under a h.inside.refs.me w)) (viewed_is v n a c w j first))
 
     views_is : (n c : ℕ) (h : Host) → Reads ts key h.inside → Stands ts key line s (λ u. u) (view_there n c h) (arrive.view_there (names_under key) (Prom n) c (at h))
     unfolding view_there arrive.view_there machine.look machine.◌>>=◌ machine.◌>>◌ machine.and_then
     views_is n c h good =
         subst (λ (a : ℕ). Stands ts key line s (λ u. u) (view_from h.inside.refs.me n (host_of h.inside.refs n) c h)
-        (machine.and_then (machine.draw (names_under key) (at h)) (λ i. machine.◌>>◌ (machine.send_out a (machine.Shorten (Prom n) c i)) (machine.◌>>=◌ (arrive.gift_there (names_under key) h.inside.refs.me a c i) (λ g. arrive.see (names_under key) (Prom n) g)))))
+        (machine.and_then (machine.draw (names_under key) (at h)) (λ i. machine.◌>>◌ (machine.send_out a (machine.Shorten (Prom n) c (under a i))) (machine.◌>>=◌ (arrive.gift_there (names_under key) h.inside.refs.me a c (under a i)) (λ g. arrive.see (names_under key) (Prom n) g)))))
         (host_is n h) (view_is h.inside.refs.me n (host_of h.inside.refs n) c h good)
 
     settled_by : (n c : ℕ) (gone : Bool) (h : Host) → Reads ts key h.inside

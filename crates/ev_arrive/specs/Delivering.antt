@@ -1,8 +1,8 @@
 -- What a vat does with a message that arrives, and with a gift in what it hears, in the code's terms.
 use Rattle.std.specs.Prelude.{ℕ, List, Bool, if◌then◌else◌, Some, None}
 use Rattle.ev_base.specs.declared.values.Value.{Value}
-use Rattle.ev_base.specs.declared.values.Value.TheVariants as held
 use Rattle.def_machine.specs.State.{is_in}
+use Rattle.def_machine.specs.Values.{key}
 use Rattle.ev_pass.specs.Acts.{send_out, to_tell}
 use Rattle.ev_pass.specs.Notes.{Ask}
 use Rattle.ev_settle.specs.Changes.{come, mail}
@@ -31,7 +31,7 @@ deliver from id asks x verb args =
 
 -- a gift is asked for, or is broken where its host is noticed
 unfoldable pub ask_for : ℕ → ℕ → ℕ → ℕ → Act (Unit {0})
-ask_for p h i n = λ k. (if is_in h k.inside.refs.noticed then break_name n else within (send_out h (Ask p i n))) k
+ask_for p h i n = λ k. (if is_in h k.inside.refs.noticed then break_name n else within (send_out h (Ask p (key p i) n))) k
 
 -- a gift of that provider comes to be known
 unfoldable pub learn_gift : ℕ → ℕ → ℕ → Act ℕ

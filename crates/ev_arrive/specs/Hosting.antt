@@ -1,5 +1,5 @@
 -- The gifts that a vat hosts, in the code's terms.
-use Rattle.std.specs.Prelude.{ℕ, Bool, true, false, Option, Some, None, Ok}
+use Rattle.std.specs.Prelude.{ℕ, Bool, false, Option, Some, None, Ok}
 use Rattle.ev_intro.specs.Gift.{Gifts, find, accepted, provided}
 use Rattle.ev_settle.specs.Changes.{come}
 use Rattle.ev_arrive.specs.Acts.{Act, ◌>>=◌, ◌>>◌, give, within}

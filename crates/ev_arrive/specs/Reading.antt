@@ -2,7 +2,7 @@
 use Rattle.std.specs.Prelude.{ℕ, List, map}
 use Rattle.def_machine.specs.Arrive as machine
 use Rattle.def_machine.specs.State.{Vat, Done, GiftEntry}
-use Rattle.def_machine.specs.Values.{Words, Local, Mess, Prom}
+use Rattle.def_machine.specs.Values.{Words, Local, Mess, Prom, key as gift_key}
 use Rattle.ev_intro.specs.Gift.{Gift, Gifts}
 use Rattle.ev_pass.specs.Reading.{Lines, StandsFor, reference_by, vat_at}
 use Rattle.ev_arrive.specs.Acts.{Out}
@@ -15,7 +15,7 @@ use Rattle.ev_arrive.specs.declared.host.Subject.{Subject}
 use Rattle.ev_arrive.specs.declared.host.Subject.TheVariants as subject
 
 abbrev pub gift_by : Gift → GiftEntry Local
-gift_by g = record { name = Prom g.promise; provider = g.provider; number = g.swiss; opened = g.is_opened }
+gift_by g = record { name = Prom g.promise; provider = g.provider; number = gift_key g.provider g.swiss; opened = g.is_opened }
 
 -- a vat of the machine that hosts these gifts, and all else as it is
 abbrev pub with_gifts : Gifts → Vat Local → Vat Local

@@ -4,7 +4,7 @@ use Rattle.ev_base.specs.declared.values.Value.{Value as Held}
 use Rattle.def_machine.specs.Refs as refs
 use Rattle.def_machine.specs.Arrive as machine
 use Rattle.def_machine.specs.State.{Vat}
-use Rattle.def_machine.specs.Values.{Words, Value, Local, Mess, Prom, Ref}
+use Rattle.def_machine.specs.Values.{Words, Value, Local, Mess, Prom, Ref, key as gift_key}
 use Rattle.ev_pass.specs.Reading.{Lines, Reads, names_under, reference_by}
 use Rattle.ev_pass.specs.declared.note.Reference.{Reference}
 use Rattle.ev_refs.specs.Reading.{value_by}
@@ -22,11 +22,11 @@ use Rattle.ev_arrive.specs.declared.host.Incoming.{Incoming}
 
 abbrev pub OpensAsTheMachine : Type 0
 OpensAsTheMachine = (ts : List Words) (key : List ℕ) (line : Lines) (s : Vat Local) (h : Host) (from i : ℕ) (n : Local) (x : Incoming) → Tells ts line → Reads ts key h.inside
-    → Stands ts key line s (λ u. u) (arrive_open from i x h) (machine.arrive_open (names_under key) from i (incoming_by n x) (host_at ts line h s))
+    → Stands ts key line s (λ u. u) (arrive_open from i x h) (machine.arrive_open (names_under key) from (gift_key from i) (incoming_by n x) (host_at ts line h s))
 
 abbrev pub IsAskedAsTheMachine : Type 0
 IsAskedAsTheMachine = (ts : List Words) (key : List ℕ) (line : Lines) (s : Vat Local) (h : Host) (w p i : ℕ) → Tells ts line → Reads ts key h.inside
-    → Stands ts key line s (λ u. u) (arrive_ask w p i h) (machine.arrive_ask (names_under key) w p i (host_at ts line h s))
+    → Stands ts key line s (λ u. u) (arrive_ask w p i h) (machine.arrive_ask (names_under key) w p (gift_key p i) (host_at ts line h s))
 
 abbrev pub NoticesAsTheMachine : Type 0
 NoticesAsTheMachine = (ts : List Words) (key : List ℕ) (line : Lines) (s : Vat Local) (h : Host) (w : ℕ) → Tells ts line → Reads ts key h.inside
@@ -56,4 +56,4 @@ ref_of n = Ref (Prom n)
 
 abbrev pub LearnsGiftsAsTheMachine : Type 0
 LearnsGiftsAsTheMachine = (ts : List Words) (key : List ℕ) (line : Lines) (s : Vat Local) (h : Host) (p c i : ℕ) → Tells ts line → Reads ts key h.inside
-    → Stands ts key line s ref_of (learn_gift p c i h) (machine.learn_gift (names_under key) p c i (host_at ts line h s))
+    → Stands ts key line s ref_of (learn_gift p c i h) (machine.learn_gift (names_under key) p c (gift_key p i) (host_at ts line h s))

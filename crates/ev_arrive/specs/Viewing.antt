@@ -2,6 +2,7 @@
 use Rattle.std.specs.Prelude.{◌==◌, ℕ, if◌then◌else◌}
 use Rattle.ev_base.specs.declared.values.Value.{Value}
 use Rattle.def_machine.specs.State.{is_in}
+use Rattle.def_machine.specs.Values.{key}
 use Rattle.ev_pass.specs.Acts.{draw, send_out}
 use Rattle.ev_pass.specs.Notes.{Ask, Open, Shorten}
 use Rattle.ev_pass.specs.declared.note.Reference.TheVariants as reference
@@ -17,21 +18,21 @@ use Rattle.ev_arrive.specs.declared.host.Subject.{Subject}
 
 -- a gift at another vat comes to be known, which is asked for it
 unfoldable pub ask_there : ℕ → ℕ → ℕ → Act ℕ
-ask_there h c i = do
+ask_there h c w = do
   g ← within (come c)
-  within (send_out c (Ask h i g))
+  within (send_out c (Ask h (key h w) g))
   give g
 
 -- the gift at host c, of provider h, which is here, at vat v, or is asked for
 unfoldable pub gift_there : ℕ → ℕ → ℕ → ℕ → Act ℕ
-gift_there v h c i = λ k. (if c == v then have_gift h i else ask_there h c i) k
+gift_there v h c w = λ k. (if c == v then have_gift h w else ask_there h c w) k
 
 -- the object to which a name of host h settled is asked of that host as a gift, which is the view of the name
 unfoldable pub view_from : ℕ → ℕ → ℕ → ℕ → Act (Unit {0})
 view_from v n h c = do
-  i ← within draw
-  within (send_out h (Shorten n c i))
-  g ← gift_there v h c i
+  w ← within draw
+  within (send_out h (Shorten n c (key h w)))
+  g ← gift_there v h c w
   within (see n g)
 
 unfoldable pub view_there : ℕ → ℕ → Act (Unit {0})

@@ -9,7 +9,7 @@ use crate::breaking::{break_at, standing_now};
 use crate::gifts::{have_gift, is_opened};
 use crate::host::{Host, to_tell};
 use ev_base::{PromId, VatId};
-use ev_pass::{Stop, Swiss};
+use ev_pass::Stop;
 use ev_refs::Standing;
 
 /// A vat is told what a name settled to.
@@ -33,11 +33,11 @@ fn break_unless_opened(host: &mut Host, name: PromId, opened: bool) -> Result<()
 
 /// A gift that was not opened breaks where the link with its provider is noticed as cut.
 #[tactic(auto, using(crate::proofs::Noticed::orphan), unfolding(crate::specs::Arriving::break_orphan, crate::specs::Acts::give))]
-fn break_orphan(host: &mut Host, provider: VatId, swiss: Swiss, name: PromId) -> Result<(), Stop>
-    ensures { Gives result host.new (break_orphan provider swiss name host.old) }
+fn break_orphan(host: &mut Host, provider: VatId, word: u128, name: PromId) -> Result<(), Stop>
+    ensures { Gives result host.new (break_orphan provider word name host.old) }
 {
     if host.inside.refs.is_noticed(provider) {
-        let opened = is_opened(host, provider, swiss);
+        let opened = is_opened(host, provider, word);
         return break_unless_opened(host, name, opened);
     }
     Ok(())
@@ -59,10 +59,10 @@ fn tell_asker(host: &mut Host, name: PromId, asker: VatId) -> Result<(), Stop>
 /// A vat asks for a gift, which comes to be where it is absent, and is to be told of its name. After a stop what was done up to there
 /// stands.
 #[tactic(auto, using(crate::proofs::Ends::ends), unfolding(crate::specs::Arriving::arrive_ask, crate::specs::Acts::opened_acts))]
-pub fn arrive_ask(host: &mut Host, asker: VatId, provider: VatId, swiss: Swiss) -> Result<(), Stop>
-    ensures { Gives result host.new (arrive_ask asker provider swiss host.old) }
+pub fn arrive_ask(host: &mut Host, asker: VatId, provider: VatId, word: u128) -> Result<(), Stop>
+    ensures { Gives result host.new (arrive_ask asker provider word host.old) }
 {
-    let name = have_gift(host, provider, swiss)?;
-    break_orphan(host, provider, swiss, name)?;
+    let name = have_gift(host, provider, word)?;
+    break_orphan(host, provider, word, name)?;
     tell_asker(host, name, asker)
 }

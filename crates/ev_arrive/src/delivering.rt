@@ -103,23 +103,27 @@ fn ask_for(
     host: &mut Host,
     provider: VatId,
     at: VatId,
-    swiss: Swiss,
+    word: u128,
     name: PromId,
 ) -> Result<(), Stop>
-    ensures { Gives result host.new (ask_for provider at swiss name host.old) }
+    ensures { Gives result host.new (ask_for provider at word name host.old) }
 {
     if host.inside.refs.is_noticed(at) {
         return break_name(host, name);
     }
-    send_out(host, at, Note::Ask(provider, swiss, name))
+    send_out(
+        host,
+        at,
+        Note::Ask(provider, Swiss { provider, word }, name),
+    )
 }
 
 /// A gift at that vat, of that provider, comes to be known, and is asked for. After a stop what was done up to there stands.
 #[tactic(auto, using(crate::proofs::Ends::ends), unfolding(crate::specs::Delivering::learn_gift, crate::specs::Acts::opened_acts))]
-pub fn learn_gift(host: &mut Host, provider: VatId, at: VatId, swiss: Swiss) -> Result<PromId, Stop>
-    ensures { Gives result host.new (learn_gift provider at swiss host.old) }
+pub fn learn_gift(host: &mut Host, provider: VatId, at: VatId, word: u128) -> Result<PromId, Stop>
+    ensures { Gives result host.new (learn_gift provider at word host.old) }
 {
     let name = come(host, at)?;
-    ask_for(host, provider, at, swiss, name)?;
+    ask_for(host, provider, at, word, name)?;
     Ok(name)
 }

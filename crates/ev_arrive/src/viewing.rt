@@ -4,6 +4,7 @@ ghost use Rattle.std.specs.Prelude.{◌≡◌, ◌==◌};
 ghost use Rattle.ev_arrive.specs.Acts.{Gives, within};
 ghost use Rattle.ev_arrive.specs.Viewing.{arrive_elsewhere, arrive_shorten, ask_there, gift_there, settled_at, shorten_to, shorten_value, view_from, view_there};
 ghost use Rattle.ev_pass.specs.Acts as pass;
+ghost use Rattle.ev_pass.specs.Notes.{key_of};
 ghost use Rattle.ev_refs.specs.Follow.{host_of};
 ghost use Rattle.ev_settle.specs.Changes as changes;
 
@@ -17,7 +18,7 @@ use ev_settle::changes;
 
 /// The next word is drawn.
 #[tactic(auto, using(crate::proofs::Within::inside_gives), unfolding(crate::specs::Acts::within))]
-pub fn draw(host: &mut Host) -> Result<Swiss, Stop>
+pub fn draw(host: &mut Host) -> Result<u128, Stop>
     ensures { Gives result host.new (within pass.draw host.old) }
 {
     host.inside.draw()
@@ -44,11 +45,15 @@ pub fn host_of(host: &Host, name: PromId) -> VatId
 
 /// A gift at another vat comes to be known, and that vat is asked for it.
 #[tactic(auto, using(crate::proofs::Ends::ends), unfolding(crate::specs::Viewing::ask_there, crate::specs::Acts::opened_acts))]
-fn ask_there(host: &mut Host, provider: VatId, at: VatId, swiss: Swiss) -> Result<PromId, Stop>
-    ensures { Gives result host.new (ask_there provider at swiss host.old) }
+fn ask_there(host: &mut Host, provider: VatId, at: VatId, word: u128) -> Result<PromId, Stop>
+    ensures { Gives result host.new (ask_there provider at word host.old) }
 {
     let gift = come(host, at)?;
-    send_out(host, at, Note::Ask(provider, swiss, gift))?;
+    send_out(
+        host,
+        at,
+        Note::Ask(provider, Swiss { provider, word }, gift),
+    )?;
     Ok(gift)
 }
 
@@ -59,14 +64,14 @@ fn gift_there(
     me: VatId,
     provider: VatId,
     at: VatId,
-    swiss: Swiss,
+    word: u128,
 ) -> Result<PromId, Stop>
-    ensures { Gives result host.new (gift_there me provider at swiss host.old) }
+    ensures { Gives result host.new (gift_there me provider at word host.old) }
 {
     if at.0 == me.0 {
-        return have_gift(host, provider, swiss);
+        return have_gift(host, provider, word);
     }
-    ask_there(host, provider, at, swiss)
+    ask_there(host, provider, at, word)
 }
 
 /// The object to which a name of that host settled is asked of the host as a gift, which is the view of the name.
@@ -74,9 +79,13 @@ fn gift_there(
 fn view_from(host: &mut Host, me: VatId, name: PromId, from: VatId, at: VatId) -> Result<(), Stop>
     ensures { Gives result host.new (view_from me name from at host.old) }
 {
-    let swiss = draw(host)?;
+    let word = draw(host)?;
+    let swiss = Swiss {
+        provider: from,
+        word,
+    };
     send_out(host, from, Note::Shorten(name, at, swiss))?;
-    let gift = gift_there(host, me, from, at, swiss)?;
+    let gift = gift_there(host, me, from, at, word)?;
     see(host, name, gift)
 }
 
@@ -114,7 +123,7 @@ pub fn arrive_elsewhere(host: &mut Host, subject: Subject, at: VatId) -> Result<
 /// What is at this place is opened as a gift, if it is an object of another vat.
 #[tactic(auto, unfolding(crate::specs::Viewing::shorten_to, crate::specs::Acts::give))]
 fn shorten_to(host: &mut Host, swiss: Swiss, place: Place) -> Result<(), Stop>
-    ensures { Gives result host.new (shorten_to swiss place host.old) }
+    ensures { Gives result host.new (shorten_to (key_of swiss) place host.old) }
 {
     match place {
         Place::FarObject(at, position) => {
@@ -127,7 +136,7 @@ fn shorten_to(host: &mut Host, swiss: Swiss, place: Place) -> Result<(), Stop>
 /// What a value follows to is opened as a gift, if it is an object of another vat.
 #[tactic(auto, unfolding(crate::specs::Viewing::shorten_value))]
 fn shorten_value(host: &mut Host, swiss: Swiss, value: Value) -> Result<(), Stop>
-    ensures { Gives result host.new (shorten_value swiss value host.old) }
+    ensures { Gives result host.new (shorten_value (key_of swiss) value host.old) }
 {
     let end = host.inside.refs.deref(value);
     let place = host.inside.refs.place(end);
@@ -138,7 +147,7 @@ fn shorten_value(host: &mut Host, swiss: Swiss, value: Value) -> Result<(), Stop
 /// After a stop what was done up to there stands.
 #[tactic(auto, using(crate::proofs::Ends::ends), unfolding(crate::specs::Viewing::arrive_shorten, crate::specs::Acts::opened_acts))]
 pub fn arrive_shorten(host: &mut Host, incoming: Incoming, swiss: Swiss) -> Result<(), Stop>
-    ensures { Gives result host.new (arrive_shorten incoming swiss host.old) }
+    ensures { Gives result host.new (arrive_shorten incoming (key_of swiss) host.old) }
 {
     let known = learn_name(host, incoming)?;
     shorten_value(host, swiss, value_at(known))

@@ -1,8 +1,9 @@
 -- What an auditor may know of an object, as the machine has it.
-use Rattle.std.specs.Prelude.{ℕ, Bool, true, false, if◌then◌else◌, List, [], ◌∷◌, map, Some, None, codes}
+use Rattle.std.specs.Prelude.{ℕ, Bool, true, false, if◌then◌else◌, List, [], ◌∷◌, map, option_map, Some, None, codes}
 use Rattle.std.specs.declared.option.Option.{Option}
 use Rattle.std.specs.Str.{bytes_eq}
 use Rattle.ev_base.specs.declared.values.Value.{Value as HeldValue}
+use Rattle.ev_base.specs.declared.values.Value.TheVariants as held
 use Rattle.ev_heap.specs.declared.kept.AuditView.{AuditView}
 use Rattle.ev_heap.specs.declared.kept.Bound.{Bound}
 use Rattle.ev_heap.specs.declared.kept.Bound.TheVariants.{Safe, Itself, Final, Mutable}
@@ -79,3 +80,19 @@ told_of (Some b) = Says (scopes.guard_told (freedom_of b))
 abbrev pub told_by : (ℕ → Words) → Option HeldValue → Reply Local
 told_by t None = Fails (codes "not free")
 told_by t (Some v) = Says (value_by t v)
+
+-- a guard as a value that is held
+abbrev pub guard_held : GuardKind → HeldValue
+guard_held (Native n) = held.Prim n
+guard_held (User i) = held.Obj i
+
+-- the guard that is told of a name that is bound so
+abbrev pub bound_told : Bound → HeldValue
+bound_told Safe = held.Prim 8
+bound_told Itself = held.Prim 8
+bound_told (Final g) = guard_held g
+bound_told Mutable = held.Null
+
+-- the guard that is told of a free name, if it is one
+abbrev pub told_at : List Held → Words → Option HeldValue
+told_at fs x = option_map bound_told (bound_at fs x)

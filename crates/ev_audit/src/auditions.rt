@@ -4,8 +4,8 @@ ghost use Rattle.std.specs.Prelude.{◌≡◌, ◌∷◌, [], ℕ, codes, option
 ghost use Rattle.def_machine.specs.Scopes as scopes;
 ghost use Rattle.def_machine.specs.Values.{Words};
 ghost use Rattle.ev_prims.specs.Reading.{value_by, values_by};
-ghost use Rattle.ev_audit.specs.Asks.{ask_by};
-ghost use Rattle.ev_audit.specs.Views.{bound_at, bound_by, bound_so, capture_by, freedom_by, freedom_of, guard_of, told_by, view_of};
+ghost use Rattle.ev_audit.specs.Asks.{ask_by, asking, asking_one};
+ghost use Rattle.ev_audit.specs.Views.{bound_at, bound_by, bound_so, bound_told, capture_by, freedom_by, freedom_of, guard_held, guard_of, told_at, told_by, view_of};
 
 use crate::words::is_word;
 use ev_base::{PrimId, Value};
@@ -28,9 +28,10 @@ pub enum AuditionAsk {
 }
 
 /// What an audition is asked without arguments.
-#[tactic(auto, unfolding(def_machine::specs::Free::entry, def_machine::specs::Scopes::audition_ask))]
+#[tactic(auto, unfolding(def_machine::specs::Free::entry, def_machine::specs::Scopes::audition_ask, crate::specs::Asks::asking))]
 fn ask_none(verb: &str) -> AuditionAsk
-    ensures { (t : ℕ → Words) → ask_by t result ≡ scopes.audition_ask verb.now [] }
+    ensures is { result ≡ asking verb.now [] }
+    ensures means { (t : ℕ → Words) → ask_by t result ≡ scopes.audition_ask verb.now [] }
 {
     if is_word(verb, "getObjectExpr") {
         AuditionAsk::GetsForm
@@ -42,7 +43,8 @@ fn ask_none(verb: &str) -> AuditionAsk
 /// What an audition is asked with one argument.
 #[tactic(auto, unfolding(def_machine::specs::Free::entry, def_machine::specs::Scopes::audition_ask))]
 fn ask_one(verb: &str, x: Value) -> AuditionAsk
-    ensures { (t : ℕ → Words) → ask_by t result ≡ scopes.audition_ask verb.now (value_by t x ∷ []) }
+    ensures is { result ≡ asking_one verb.now x }
+    ensures means { (t : ℕ → Words) → ask_by t result ≡ scopes.audition_ask verb.now (value_by t x ∷ []) }
 {
     if is_word(verb, "getGuard") {
         AuditionAsk::GetsGuard(x)
@@ -54,9 +56,10 @@ fn ask_one(verb: &str, x: Value) -> AuditionAsk
 }
 
 /// What an audition is asked by a verb and arguments as they are held.
-#[tactic(auto, unfolding(def_machine::specs::Scopes::audition_ask))]
+#[tactic(auto, unfolding(def_machine::specs::Scopes::audition_ask, crate::specs::Asks::asking))]
 pub fn audition_ask(verb: &str, args: &[Value]) -> AuditionAsk
-    ensures { (t : ℕ → Words) → ask_by t result ≡ scopes.audition_ask verb.now (values_by t args.now) }
+    ensures is { result ≡ asking verb.now args.now }
+    ensures means { (t : ℕ → Words) → ask_by t result ≡ scopes.audition_ask verb.now (values_by t args.now) }
 {
     match args {
         [] => ask_none(verb),
@@ -67,7 +70,8 @@ pub fn audition_ask(verb: &str, args: &[Value]) -> AuditionAsk
 
 /// A guard as a value.
 pub fn guard_value(guard: GuardKind) -> Value
-    ensures { (t : ℕ → Words) → value_by t result ≡ guard_of guard }
+    ensures is { result ≡ guard_held guard }
+    ensures means { (t : ℕ → Words) → value_by t result ≡ guard_of guard }
 {
     match guard {
         GuardKind::Native(number) => Value::Prim(number),
@@ -78,7 +82,8 @@ pub fn guard_value(guard: GuardKind) -> Value
 /// The guard that an audition tells of a name that is bound so: null for a var slot.
 #[tactic(auto, unfolding(def_machine::specs::Scopes::guard_told, def_machine::specs::Scopes::any_guard))]
 fn guard_told(bound: Bound) -> Value
-    ensures { (t : ℕ → Words) → value_by t result ≡ scopes.guard_told (freedom_of bound) }
+    ensures is { result ≡ bound_told bound }
+    ensures means { (t : ℕ → Words) → value_by t result ≡ scopes.guard_told (freedom_of bound) }
 {
     match bound {
         Bound::Safe | Bound::Itself => Value::Prim(ANY),
@@ -103,7 +108,8 @@ fn bound_at(names: &[FreeName], noun: &str) -> Option<Bound>
 /// The guard of a free name, null for one that is bound to a var slot, and none where no name is free so.
 #[tactic(auto, using(crate::proofs::Told::guard_found))]
 pub fn guard_at(view: &AuditView, noun: &str) -> Option<Value>
-    ensures { (t : ℕ → Words) → told_by t result ≡ scopes.guard_at (view_of view.now).free noun.now }
+    ensures is { result ≡ told_at view.now.names noun.now }
+    ensures means { (t : ℕ → Words) → told_by t result ≡ scopes.guard_at (view_of view.now).free noun.now }
 {
     match bound_at(view.names.as_slice(), noun) {
         None => None,

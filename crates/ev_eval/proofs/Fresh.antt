@@ -1,7 +1,6 @@
 -- The inside of a vat that has done nothing.
-use Rattle.std.proofs.Common.{◌≡◌, ℕ, zero, suc, true, List, [], Some, refl, sym, ap, subst, ◌∙◌, append-nil}
+use Rattle.std.proofs.Common.{◌≡◌, ℕ, zero, suc, [], Some, refl, sym, ap, subst, ◌∙◌, append-nil}
 use Rattle.std.specs.Prelude.{slice_get}
-use Rattle.ev_base.specs.declared.values.Value.TheVariants.{Broken}
 use Rattle.ev_heap.specs.Contents.{Contents, nothing}
 use Rattle.ev_pass.specs.declared.interior.Interior.{Interior}
 use Rattle.ev_refs.specs.References.{References, no_references}

@@ -1,45 +1,91 @@
 -- What the code runs in a turn is what the machine runs.
-use Rattle.std.proofs.Common.{◌≡◌, ℕ, true, List, [], ◌++◌, Ok, Err, refl, sym, subst, ◌∙◌, append-nil}
-use Rattle.std.specs.Prelude.{IfOk, OnOk, Result}
+use Rattle.std.proofs.Common.{◌≡◌, ℕ, suc, ◌+◌, ◌<◌, ◌≤◌, true, List, [], ◌∷◌, ◌++◌, Ok, Err, drop, get_or, length, map, refl, sym, ap, subst, ◌∙◌, append_assoc, append-nil, arith}
+use Rattle.std.proofs.lemmas.List.{drop_more, drop_all}
+use Rattle.std.specs.Prelude.{IfOk, OnOk, Result, reverse}
+use mathlib.Core.List.{reverse_aux}
 use Rattle.ev_base.specs.declared.memory.Memory.{Memory}
 use Rattle.ev_base.specs.declared.values.Value.{Value as Held}
+use Rattle.ev_base.specs.declared.values.Value.TheVariants as held
 use Rattle.ev_heap.specs.Contents.{Contents}
 use Rattle.def_kernel.specs.declared.node.Node.{Node}
 use Rattle.def_machine.specs.Calls as calls
 use Rattle.def_machine.specs.Eval as theirs
-use Rattle.def_machine.specs.Values.{Words, Value, Local}
-use Rattle.def_machine.specs.State.{Vat, Throws, Ejects, Stops, opened_state, Fuel, Deep, Repeated, Astray}
+use Rattle.def_machine.specs.Scopes.{any_guard}
+use Rattle.def_machine.specs.Values.{Words, Value, Ref, Local, Prom}
+use Rattle.def_machine.specs.State.{Binding as Bond, Fixed, Vat, Throws, Ejects, Stops, opened_state, Fuel, Deep, Repeated, Astray}
 use Rattle.def_machine.specs.State as machine
 use Rattle.ev_room.specs.declared.exit.Exit.{Exit}
 use Rattle.ev_room.specs.declared.exit.Exit.TheVariants as exit
 use Rattle.ev_pass.specs.declared.interior.Interior.{Interior as Room}
 use Rattle.ev_eval.specs.declared.turn.Ended.{Ended}
 use Rattle.ev_eval.specs.declared.turn.Ended.TheVariants as ended
-use Rattle.ev_steps.specs.Built.{is_built}
 use Rattle.ev_room.specs.Reading.{World, names, text_of, texts_of, value_of, values_of}
-use Rattle.ev_room.specs.Sound.{Grown, Stays, IsSound, problems, is_there, are_there}
+use Rattle.ev_room.proofs.There.{both}
+use Rattle.ev_room.specs.Sound.{Grown, Stays, IsSound, is_there, are_there, is_bound, are_bound, no_guard}
+use Rattle.ev_room.specs.declared.scope.Binding.{Binding}
+use Rattle.ev_room.specs.declared.scope.Bound.TheVariants as kept
 use Rattle.ev_steps.specs.Steps.{alone, evaluator, turn_value}
 use Rattle.ev_room.specs.Acts.{Out, Gives, ◌>>=◌}
-use Rattle.ev_eval.specs.Turn.{Ends, EndsAs, GivesThere, LeftBy, evaluated, turn_of}
-use Rattle.law_acts.proofs.Stands.{Met, vat, a_value, bonds_onto, then_met, give_met}
+use Rattle.ev_eval.specs.Turn.{Ends, EndsAs, GivesThere, LeftBy, bonds_from, evaluated, roots_from, turn_of}
+use Rattle.law_acts.proofs.Making.{turned_is}
+use Rattle.law_acts.proofs.Sounds.{all_and}
+use Rattle.law_acts.proofs.Stands.{Met, vat, a_value, bond_of, bonds_onto, then_met, give_met}
 use Rattle.law_acts.proofs.Weights.{IsBefore}
 use Rattle.law_evaluation.proofs.Meets.{evaluator_met}
 use Rattle.law_evaluation.proofs.Turns.{turn_value_met}
 
+-- ---- nouns that are bound to roots
+
+bonds_are : (w : World) (n : ℕ) (xs : List Words) → map (bond_of w) (bonds_from n xs) ≡ roots_from n xs
+unfolding any_guard
+bonds_are w n [] = refl
+bonds_are w n (x ∷ xs) = ap (λ (bs : List (Bond Local)). record { noun = x; bound = Fixed (Ref (Prom n)) any_guard } ∷ bs) (bonds_are w (suc n) xs)
+
+roots_are : (w : World) (n : ℕ) (xs : List Words) → bonds_onto w [] (reverse (bonds_from n xs)) ≡ roots_from n xs
+roots_are w n xs = turned_is w (bonds_from n xs) ∙ bonds_are w n xs
+
+roots_bound : (h : Contents) (n : ℕ) (xs : List Words) → are_bound h (bonds_from n xs) ≡ true
+roots_bound h n [] = refl
+roots_bound h n (x ∷ xs) = roots_bound h (suc n) xs
+
+turned_bound : (h : Contents) (bs cs : List Binding) → are_bound h bs ≡ true → are_bound h cs ≡ true → are_bound h (reverse_aux bs cs) ≡ true
+turned_bound h [] cs i j = j
+turned_bound h (b ∷ bs) cs i j = let s = both (is_bound h b.bound) (are_bound h bs) i in turned_bound h bs (b ∷ cs) s.1 (all_and (is_bound h b.bound) (are_bound h cs) s.0 j)
+
+-- the next noun is bound
+pub bonds_on : (xs : List Words) (i : ℕ) (x : Words) (done more whole : List Binding) → i < length xs → x ≡ get_or xs i x
+    → more ≡ done ++ record { noun = x; bound = kept.Fixed (held.Prom (i + 1)) no_guard } ∷ [] → done ++ bonds_from (1 + i) (drop i xs) ≡ whole → more ++ bonds_from (1 + (i + 1)) (drop (i + 1) xs) ≡ whole
+bonds_on xs i x done more whole lt is pushed so_far =
+    let next : drop i xs ≡ x ∷ drop (i + 1) xs = drop_more xs i x lt ∙ ap (λ (z : Words). z ∷ drop (i + 1) xs) (sym is) in
+    let here : i + 1 ≡ 1 + i = omega arith in
+    let after : 1 + (i + 1) ≡ suc (1 + i) = omega arith in
+    ap (λ (bs : List Binding). bs ++ bonds_from (1 + (i + 1)) (drop (i + 1) xs)) pushed
+    ∙ append_assoc done (record { noun = x; bound = kept.Fixed (held.Prom (i + 1)) no_guard } ∷ []) (bonds_from (1 + (i + 1)) (drop (i + 1) xs))
+    ∙ ap (λ (n : ℕ). done ++ record { noun = x; bound = kept.Fixed (held.Prom n) no_guard } ∷ bonds_from (1 + (i + 1)) (drop (i + 1) xs)) here
+    ∙ ap (λ (n : ℕ). done ++ record { noun = x; bound = kept.Fixed (held.Prom (1 + i)) no_guard } ∷ bonds_from n (drop (i + 1) xs)) after
+    ∙ ap (λ (zs : List Words). done ++ bonds_from (1 + i) zs) (sym next)
+    ∙ so_far
+
+pub bonds_end : (xs : List Words) (i : ℕ) (done whole : List Binding) → length xs ≤ i → done ++ bonds_from (1 + i) (drop i xs) ≡ whole → done ≡ whole
+bonds_end xs i done whole le so_far = sym (append-nil done) ∙ ap (λ (zs : List Words). done ++ bonds_from (1 + i) zs) (sym (drop_all i xs le)) ∙ so_far
+
 -- ---- what is run
 
-module _ (tree : List Node) (d act : ℕ) (s : Room) (built : is_built tree ≡ true) (sound : IsSound s) where
+module _ (tree : List Node) (d act : ℕ) (s : Room) (sound : IsSound s) where
   -- an outcome of the code is one of the machine
   abbrev IsRun : Out Held → (World → machine.Act Local (Value Local)) → Type 0
   IsRun o m = (w : World) → Met w a_value s o (m w (vat w s))
 
-  pub program_met : IsRun (alone (evaluator tree d) 0 (record { act = act; nouns = [] }) s) (λ w. evaluated (names w) tree d act)
-  unfolding alone evaluated bonds_onto ◌>>=◌ machine.◌>>=◌
-  program_met = λ w. then_met _ _ ((evaluator_met w tree d built).expression 0 (record { act = act; nouns = [] }) s sound refl) (λ x u r l e. give_met w a_value x.0 u r l.0)
+  -- nouns that are bound to roots
+  pub program_met : (xs : List Words) → IsRun (alone (evaluator tree d) 0 (record { act = act; nouns = reverse (bonds_from 1 xs) }) s) (λ w. evaluated (names w) tree d (roots_from 1 xs) act)
+  unfolding alone evaluated ◌>>=◌ machine.◌>>=◌
+  program_met xs = λ w.
+      subst (λ (bs : List (Bond Local)). Met w a_value s (alone (evaluator tree d) 0 (record { act = act; nouns = reverse (bonds_from 1 xs) }) s) (evaluated (names w) tree d bs act (vat w s))) (roots_are w 1 xs)
+      (then_met _ _ ((evaluator_met w tree d).expression 0 (record { act = act; nouns = reverse (bonds_from 1 xs) }) s sound (turned_bound s.heap (bonds_from 1 xs) [] (roots_bound s.heap 1 xs) refl)) (λ x u r l e. give_met w a_value x.0 u r l.0))
 
   pub message_met : (x : Held) (verb : Words) (args : List Held) → is_there s.heap x ≡ true → are_there s.heap args ≡ true
       → IsRun (turn_value tree (evaluator tree d) act x verb args s) (λ w. calls.turn_value (names w) tree (theirs.evaluator (names w) tree d) act (value_of w x) verb (values_of w args))
-  message_met x verb args i k = λ w. turn_value_met w tree (evaluator tree d) (theirs.evaluator (names w) tree d) (evaluator_met w tree d built) act verb args built x s sound i k
+  message_met x verb args i k = λ w. turn_value_met w tree (evaluator tree d) (theirs.evaluator (names w) tree d) (evaluator_met w tree d) act verb args x s sound i k
 
 -- ---- how it ends
 

@@ -1,10 +1,11 @@
 -- What turns run in the machine, and what the code answers of it.
-use Rattle.std.specs.Prelude.{◌≡◌, ℕ, nat_lt, true, List, [], length, Result, Ok, Err, IsErr}
+use Rattle.std.specs.Prelude.{◌≡◌, ℕ, suc, nat_lt, true, List, [], ◌∷◌, length, Result, Ok, Err, IsErr}
 use Rattle.ev_base.specs.declared.memory.Memory.{Memory}
 use Rattle.ev_heap.specs.Contents.{Contents}
 use Rattle.def_kernel.specs.declared.node.Node.{Node}
-use Rattle.def_machine.specs.Values.{Value, Naming, Local}
-use Rattle.def_machine.specs.State.{Vat, Done, Gives, Throws, Stops, Fuel, Deep, Repeated, Astray, Act, ◌>>=◌, give, throw, stop, ending}
+use Rattle.def_machine.specs.Values.{Words, Value, Ref, Naming, Local, Prom}
+use Rattle.def_machine.specs.Scopes.{any_guard}
+use Rattle.def_machine.specs.State.{Binding, Fixed, Vat, Done, Gives, Throws, Stops, Fuel, Deep, Repeated, Astray, Act, ◌>>=◌, give, throw, stop, ending}
 use Rattle.def_machine.specs.Eval.{evaluator}
 use Rattle.ev_eval.specs.declared.turn.Ended.{Ended}
 use Rattle.ev_eval.specs.declared.turn.Ended.TheVariants as ended
@@ -14,11 +15,25 @@ use Rattle.ev_room.specs.Sound.{IsSound, is_there}
 use Rattle.ev_room.specs.declared.exit.Exit.{Exit}
 use Rattle.ev_room.specs.declared.exit.Exit.TheVariants as exit
 use Rattle.ev_base.specs.declared.values.Value.{Value as Held}
+use Rattle.ev_base.specs.declared.values.Value.TheVariants as held
+use Rattle.ev_room.specs.Sound.{no_guard}
+use Rattle.ev_room.specs.declared.scope.Binding.{Binding as Bond}
+use Rattle.ev_room.specs.declared.scope.Bound.TheVariants as scope
 
--- the program is evaluated in an activation, where no noun is bound
-unfoldable pub evaluated : {N W : Type 0} → Naming N W → List Node → ℕ → ℕ → Act N (Value N)
-evaluated K tree depth a = do
-  x ← (evaluator K tree depth).expression 0 (record { act = a; nouns = [] })
+-- each noun is bound finally to a name that is known, to that number and those behind it
+abbrev pub roots_from : ℕ → List Words → List (Binding Local)
+roots_from n [] = []
+roots_from n (x ∷ xs) = record { noun = x; bound = Fixed (Ref (Prom n)) any_guard } ∷ roots_from (suc n) xs
+
+-- the same in the code's terms
+abbrev pub bonds_from : ℕ → List Words → List Bond
+bonds_from n [] = []
+bonds_from n (x ∷ xs) = record { noun = x; bound = scope.Fixed (held.Prom n) no_guard } ∷ bonds_from (suc n) xs
+
+-- the program is evaluated in an activation, where these nouns are bound
+unfoldable pub evaluated : {N W : Type 0} → Naming N W → List Node → ℕ → List (Binding N) → ℕ → Act N (Value N)
+evaluated K tree depth given a = do
+  x ← (evaluator K tree depth).expression 0 (record { act = a; nouns = given })
   give x.value
 
 -- what a turn runs, where what leaves by an ejector goes astray, since no escape awaits it
@@ -55,7 +70,7 @@ EndsAt w (Err memory) s out = Unit {0}
 abbrev pub Ends : World → Result Ended Memory → Interior → Done Local (Value Local) → Type 0
 Ends w r i out = EndsAt w r (vat_of w i) out
 
--- where it did not stop, what is left is what turns of built programs leave behind
+-- where it did not stop, what is left is what turns leave behind
 abbrev pub LeftBy : Ended → Interior → Type 0
 LeftBy (ended.Value v) i = IsSound i
 LeftBy (ended.Thrown id) i = IsSound i

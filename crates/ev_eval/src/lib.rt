@@ -1,8 +1,6 @@
 //! The evaluator of one vat: what a kernel tree does in its heap.
 #![tactic(auto)]
 
-pub mod built;
 pub mod turn;
 
-pub use built::is_built;
 pub use turn::{Ended, new_heap, new_interior, run_message, run_program};

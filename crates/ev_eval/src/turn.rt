@@ -1,28 +1,27 @@
 //! Turns.
 
-ghost use Rattle.std.specs.Prelude.{◌≡◌, ◌++◌, ◌∷◌, ℕ, List, [], true, IfOk, OnOk};
+ghost use Rattle.std.specs.Prelude.{◌≡◌, ◌++◌, ◌∷◌, ℕ, List, [], true, reverse, IfOk, OnOk};
 ghost use Rattle.def_machine.specs.Calls.{turn_value};
 ghost use Rattle.def_machine.specs.Eval as theirs;
 ghost use Rattle.ev_heap.specs.Contents.{nothing};
 ghost use Rattle.ev_refs.specs.References.{no_references};
-ghost use Rattle.ev_steps.specs.Built.{is_built};
 ghost use Rattle.ev_room.specs.Reading.{World, names, texts_of, value_of, values_of, vat_of};
 ghost use Rattle.ev_room.specs.Sound.{Grown, IsSound, Stays, are_there, cycle_id, is_there, partition_id, problems, too_heavy_id};
 ghost use Rattle.ev_steps.specs.Steps.{alone, evaluator};
 ghost use Rattle.ev_room.specs.Acts.{Gives};
 ghost use Rattle.ev_eval.specs.Problems.{eventual_problems, guard_problems, native_problems, or_null_problems, own_problems, reference_problems, with_texts};
 ghost use Rattle.ev_eval.specs.Turn as machine;
-ghost use Rattle.ev_eval.specs.Turn.{Ends, EndsAs, EndsBy, GivesThere, LeftBy, turn_of};
+ghost use Rattle.ev_eval.specs.Turn.{Ends, EndsAs, EndsBy, GivesThere, LeftBy, bonds_from, roots_from, turn_of};
 
 use def_kernel::Kernel;
-use ev_base::{ActId, Memory, NodeId, Seq, TextId, Value, VatId};
+use ev_base::{ActId, Memory, NodeId, PromId, Seq, TextId, Value, VatId};
 use ev_frames::{evaluate, take_message};
 use ev_heap::Heap;
 use ev_intro::Words;
 use ev_pass::{Interior, Post};
 use ev_refs::Refs;
 use ev_room::exit::Exit;
-use ev_room::scope::Scope;
+use ev_room::scope::{Binding, Bound, NO_GUARD, Scope};
 use ev_told::Micro;
 use ev_word::Word;
 use std::alloc::Global;
@@ -180,7 +179,7 @@ pub fn new_interior(
     })
 }
 
-/// How a turn ended whose evaluation gave no value. The evaluation of a built program meets no node that is not built.
+/// How a turn ended whose evaluation gave no value. The evaluation of a program meets no node that is not built.
 fn without_value(exit: Exit) -> Result<Ended, Memory>
     ensures { EndsBy exit result }
 {
@@ -204,20 +203,44 @@ fn ending(outcome: Result<Value, Exit>) -> Result<Ended, Memory>
     }
 }
 
-/// Evaluates a program in an activation, where no noun is bound.
-#[tactic(auto, using(ev_room::proofs::Exits::ends), unfolding(ev_steps::specs::Steps::opened_steps))]
-fn evaluated(program: &Kernel, act: ActId, depth: u32, inside: &mut Interior) -> Result<Value, Exit>
-    ensures outcome { Gives result inside.new (alone (evaluator program.now depth) 0 (record { act = act; nouns = [] }) inside.old) }
+/// Nouns that are bound finally to the names that are known from number 1 on, in order. The first of them stands last, as the innermost.
+#[tactic(auto, using(crate::proofs::Turns::bonds_on, crate::proofs::Turns::bonds_end))]
+fn bonds(alloc: Global, nouns: &[Word]) -> Result<Seq<Binding>, Memory>
+    ensures { IfOk result (λ bonds. bonds ≡ reverse (bonds_from 1 nouns.now)) }
 {
-    let mut here = Scope {
-        act,
-        nouns: Seq::new(inside.alloc),
-    };
+    let mut bonds = Vec::new(alloc);
+    for (index, noun) in nouns.iter().enumerate() {
+        let root = Value::Prom(PromId(index as u64 + 1));
+        bonds.push(Binding {
+            noun: noun.share()?,
+            bound: Bound::Fixed {
+                value: root,
+                guard: NO_GUARD,
+            },
+        })?;
+    }
+    bonds.reverse();
+    Ok(Seq::of(bonds))
+}
+
+/// Evaluates a program in an activation, where these nouns are bound.
+#[tactic(auto, using(ev_room::proofs::Exits::ends), unfolding(ev_steps::specs::Steps::opened_steps))]
+fn evaluated(
+    program: &Kernel,
+    act: ActId,
+    nouns: Seq<Binding>,
+    depth: u32,
+    inside: &mut Interior,
+) -> Result<Value, Exit>
+    ensures outcome { Gives result inside.new (alone (evaluator program.now depth) 0 (record { act = act; nouns = nouns }) inside.old) }
+{
+    let mut here = Scope { act, nouns };
     let value = evaluate(program, depth, NodeId(0), &mut here, inside)?;
     Ok(value)
 }
 
-/// Runs what an opening turn runs, in an activation that has begun: the program is evaluated. The inside began with the texts of the
+/// Runs what an opening turn runs, in an activation that has begun: the program is evaluated, where each of these nouns is bound finally
+/// to a name that is known, to number 1 and those behind it in order. The inside began with the texts of the
 /// problems (`new_interior`), and only turns of this program have made what it holds. The turn's own lines are the caller's to tell.
 ///
 /// What happens is added to what happened in the step at hand, and each node that begins spends a unit of fuel. No node begins below
@@ -226,19 +249,20 @@ fn evaluated(program: &Kernel, act: ActId, depth: u32, inside: &mut Interior) ->
 pub fn run_program(
     program: &Kernel,
     act: ActId,
+    nouns: &[Word],
     depth: u32,
     inside: &mut Interior,
 ) -> Result<Ended, Memory>
-    requires built { is_built program.now ≡ true }
     requires sound { IsSound inside.old }
     ensures turn { (w : World) (rest : List (List ℕ)) → texts_of w ≡ inside.new.heap.texts ++ rest → inside.old.words.key ≡ w.key
-        → Ends w result inside.new (turn_of (machine.evaluated (names w) program.now depth act) (vat_of w inside.old)) }
+        → Ends w result inside.new (turn_of (machine.evaluated (names w) program.now depth (roots_from 1 nouns.now) act) (vat_of w inside.old)) }
     ensures grown { OnOk result (Grown inside.old.heap inside.new.heap) }
     ensures stays { OnOk result (Stays inside.old inside.new) }
     ensures left { IfOk result (λ ended. LeftBy ended inside.new) }
     ensures there { IfOk result (λ ended. GivesThere inside.new.heap ended) }
 {
-    let outcome = evaluated(program, act, depth, inside);
+    let bound = bonds(inside.alloc, nouns)?;
+    let outcome = evaluated(program, act, bound, depth, inside);
     ending(outcome)
 }
 
@@ -253,7 +277,6 @@ pub fn run_message(
     depth: u32,
     inside: &mut Interior,
 ) -> Result<Ended, Memory>
-    requires built { is_built program.now ≡ true }
     requires sound { IsSound inside.old }
     requires target { is_there inside.old.heap target ≡ true }
     requires args { are_there inside.old.heap args.now ≡ true }

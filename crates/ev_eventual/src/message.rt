@@ -2,11 +2,10 @@
 
 ghost use Rattle.std.specs.Prelude.{◌≡◌, IfOk, length, nat_le};
 ghost use Rattle.ev_eventual.specs.Eventual.{message_in, short_message};
-ghost use Rattle.ev_prims.specs.Answers.{members_at};
-ghost use Rattle.ev_prims.specs.Reading.{text_in};
 
-use ev_base::{ListId, Memory, Seq, TextId, Value};
+use ev_base::{Memory, Seq, Value};
 use ev_heap::Heap;
+use ev_room::data::{members_of, text_of};
 use ev_word::Word;
 use std::alloc::Global;
 
@@ -18,27 +17,6 @@ const MOST_ARGUMENTS: usize = 255;
 pub struct Request {
     pub verb: Word,
     pub args: Seq<Value>,
-}
-
-/// The text of that number, and the empty one where there is none.
-fn text_of(heap: &Heap, id: TextId) -> &str
-    ensures { result.now ≡ text_in heap.now id }
-{
-    match heap.find_text(id) {
-        Some(text) => text,
-        None => "",
-    }
-}
-
-/// The members of the list of that number, and none where there is none.
-fn members_of(heap: &Heap, list: ListId) -> &[Value]
-    ensures { result.now ≡ members_at heap.now list }
-{
-    if list.0 < heap.list_count() {
-        heap.members(list)
-    } else {
-        &[]
-    }
 }
 
 /// A verb and arguments, where these are not too many.

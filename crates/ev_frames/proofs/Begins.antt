@@ -12,7 +12,7 @@ use Rattle.ev_pass.specs.declared.interior.Interior.{Interior as Room}
 use Rattle.ev_room.specs.declared.scope.Bound.{Bound}
 use Rattle.ev_room.specs.declared.scope.Scope.{Scope}
 use Rattle.ev_room.specs.Acts.{Out, Unless, Extends, and_then, ◌>>=◌, ◌>>◌, give, fail, found_from, spend}
-use Rattle.ev_room.proofs.Exits.{ends}
+use Rattle.ev_room.proofs.Exits.{ends, unless_as}
 use Rattle.ev_steps.specs.Steps.{evaluator, step, step_found, set_node, exit_of, define_by, define, match_node, call_node, last_of, if_node}
 use Rattle.ev_steps.proofs.Depth.{expression_deep, expression_goes}
 use Rattle.ev_frames.specs.declared.frames.Frame.{Frame}
@@ -20,7 +20,7 @@ use Rattle.ev_frames.specs.declared.frames.Frame.TheVariants.{Part as PartOf}
 use Rattle.ev_frames.specs.declared.frames.Part.TheVariants.{Assign, DefineBy, Define, Matching, Receiver, Sequence as Parts, Test}
 use Rattle.ev_frames.specs.declared.nodes.Now.{Now}
 use Rattle.ev_frames.specs.Rest.{Goes, Nested, rest, going, call_on, parts_of, verb_of, args_of, yielding}
-use Rattle.ev_frames.proofs.Rests.{part_pushed, unless_as, same_behind}
+use Rattle.ev_frames.proofs.Rests.{part_pushed, same_behind}
 
 module _ (tree : List Node) (d : ℕ) (fs gs : List Frame) (here : Scope) (s : Room) where
   pub assign_begins : (x : Words) (b : Option Bound) (e : ℕ) → b ≡ found_from None here.nouns x → gs ≡ PartOf d (length here.nouns) (Assign b) ∷ fs

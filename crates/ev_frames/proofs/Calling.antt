@@ -3,7 +3,9 @@ use Rattle.std.proofs.Common.{◌≡◌, ℕ, ◌+◌, Bool, List, [], ◌∷◌
 use Rattle.std.specs.Prelude.{Result, slice_get, reverse, take}
 use Rattle.ev_base.specs.declared.values.Value.{Value}
 use Rattle.ev_base.specs.declared.values.Value.TheVariants as held
+use Rattle.ev_audit.specs.Asks.{asking}
 use Rattle.ev_heap.specs.declared.happened.Happened.TheVariants as event
+use Rattle.ev_heap.specs.declared.kept.AuditView.{AuditView}
 use Rattle.def_kernel.specs.declared.node.Node.{Node}
 use Rattle.def_kernel.specs.declared.node.Node.TheVariants.{Lit, Noun, Set, Def, Call, Sequence, If, Escape, Try, Finally, Hide, MatchBind, Object as ObjectNode, Method, Matcher, Final, Var, Any, ListPattern, Via}
 use Rattle.def_machine.specs.Values.{Words}
@@ -11,18 +13,19 @@ use Rattle.def_machine.specs.Scopes.{Case, matchers_of, members_of}
 use Rattle.ev_room.specs.declared.exit.Exit.{Exit}
 use Rattle.ev_pass.specs.declared.interior.Interior.{Interior as Room}
 use Rattle.ev_room.specs.declared.object.Object.{Object}
-use Rattle.ev_room.specs.declared.object.Code.TheVariants.{Runs, Leaves, Resolves}
+use Rattle.ev_room.specs.declared.object.Code.TheVariants.{Runs, Leaves, Resolves, Audits}
 use Rattle.ev_room.specs.declared.scope.Binding.{Binding}
 use Rattle.ev_room.specs.declared.scope.Scope.{Scope}
-use Rattle.ev_room.specs.Acts.{Out, Gives, Unless, and_then, ◌>>=◌, ◌>>◌, give, answer, cut, closed, closed_by, tell, new_activation, first_method, look_code, ejected, ejector_answer, call_ejector}
+use Rattle.ev_room.specs.Acts.{Act, Out, Gives, Unless, and_then, ◌>>=◌, ◌>>◌, give, answer, cut, closed, closed_by, tell, new_activation, first_method, look_code, ejected, ejector_answer, call_ejector}
 use Rattle.ev_eventual.specs.Eventual.{resolving, resolver_answer, call_resolver}
-use Rattle.ev_steps.specs.Steps.{Caller, Evaluator, answered, call_data, evaluator, bind_all, call, call_at, call_object, call_code, call_made, run_object, run_found, run_method, turn_code, turn_object, value_of_matchers}
+use Rattle.ev_steps.specs.Steps.{Caller, Evaluator, again_by, audition_answer, call_audition, answered, call_data, evaluator, bind_all, call, call_at, call_object, call_code, call_made, run_object, run_found, run_method, turn_code, turn_object, value_of_matchers}
 use Rattle.ev_frames.specs.declared.frames.Frame.{Frame}
 use Rattle.ev_frames.specs.declared.frames.Frame.TheVariants.{Body, Guard as GuardOf}
 use Rattle.ev_frames.specs.declared.frames.Guard.TheVariants.{Alone}
 use Rattle.ev_frames.specs.declared.nodes.Now.{Now}
 use Rattle.ev_frames.specs.Rest.{Goes, Stays, Nested, rest, settled, valued, given, guarding, opened_method, bound_then, activated, verb_of, args_of}
-use Rattle.ev_frames.proofs.Rests.{then_then, unless_as, unless_so, goes_as}
+use Rattle.ev_room.proofs.Exits.{unless_as}
+use Rattle.ev_frames.proofs.Rests.{then_then, unless_so, goes_as}
 
 pub body_nested : (fs gs : List Frame) (here there : Scope) → Nested fs here → gs ≡ Body here ∷ fs → Nested gs there
 unfolding Nested
@@ -104,34 +107,44 @@ module _ (tree : List Node) (d : ℕ) (fs gs : List Frame) (here : Scope) (s : R
   unfolding and_then
   made_ends o e t h = unless_as e (λ (y : activated here.act x i verb args s ≡ (Err e, t)). rw (made_as o, y) refl) h
 
+module _ (tree : List Node) (d : ℕ) (again : Caller) (fs gs : List Frame) (here : Scope) (s : Room) (x : Value) (i : ℕ) (verb : Words) (args : List Value) where
+  abbrev called : Act Value
+  called = call_object tree (evaluator tree d) again here.act x i verb args
+
   pub runs : (o : Object) (t u : Room) (r : Result Now Exit) (a : Scope) → look_code i s ≡ (Ok (Runs o), t)
       → Goes tree r gs a u (rest tree fs here (settled here (call_made tree (evaluator tree d) here.act x i verb args o t)))
-      → Goes tree r gs a u (rest tree fs here (settled here (call_object tree (evaluator tree d) here.act x i verb args s)))
+      → Goes tree r gs a u (rest tree fs here (settled here (called s)))
   unfolding call_object call_code ◌>>=◌
   runs o t u r a e g = goes_as tree r gs a u (rest tree fs here (settled here (call_made tree (evaluator tree d) here.act x i verb args o t))) _ (rw e (unfold and_then in refl)) g
 
-  object_leaves : (live : Bool) (t : Room) → look_code i s ≡ (Ok (Leaves live), t) → call_object tree (evaluator tree d) here.act x i verb args s ≡ call_ejector here.act x i live verb args t
+  pub audits : (live : Bool) (view : AuditView) (t u : Room) (r : Result Now Exit) (a : Scope) → look_code i s ≡ (Ok (Audits live view), t)
+      → Goes tree r gs a u (rest tree fs here (settled here (call_audition tree again here.act x live view verb args t)))
+      → Goes tree r gs a u (rest tree fs here (settled here (called s)))
+  unfolding call_object call_code ◌>>=◌
+  audits live view t u r a e g = goes_as tree r gs a u (rest tree fs here (settled here (call_audition tree again here.act x live view verb args t))) _ (rw e (unfold and_then in refl)) g
+
+  object_leaves : (live : Bool) (t : Room) → look_code i s ≡ (Ok (Leaves live), t) → called s ≡ call_ejector here.act x i live verb args t
   unfolding call_object call_code ◌>>=◌ and_then
   object_leaves live t e = rw e refl
 
-  object_resolves : (p : ℕ) (t : Room) → look_code i s ≡ (Ok (Resolves p), t) → call_object tree (evaluator tree d) here.act x i verb args s ≡ call_resolver here.act x p verb args t
+  object_resolves : (p : ℕ) (t : Room) → look_code i s ≡ (Ok (Resolves p), t) → called s ≡ call_resolver here.act x p verb args t
   unfolding call_object call_code ◌>>=◌ and_then
   object_resolves p t e = rw e refl
 
   pub leaves : (live : Bool) (t u : Room) (r : Result Value Exit) (q : Result Now Exit) → look_code i s ≡ (Ok (Leaves live), t) → q ≡ given r → Gives r u (call_ejector here.act x i live verb args t)
-      → Goes tree q fs here u (rest tree fs here (settled here (call_object tree (evaluator tree d) here.act x i verb args s)))
+      → Goes tree q fs here u (rest tree fs here (settled here (called s)))
   leaves live t u r q e f g =
       goes_as tree q fs here u (rest tree fs here (settled here (call_ejector here.act x i live verb args t))) _ (ap (λ (o : Out Value). rest tree fs here (settled here o)) (object_leaves live t e))
       (given_goes tree fs here u r q (call_ejector here.act x i live verb args t) f g)
 
   pub resolves : (p : ℕ) (t u : Room) (r : Result Value Exit) (q : Result Now Exit) → look_code i s ≡ (Ok (Resolves p), t) → q ≡ given r → Gives r u (call_resolver here.act x p verb args t)
-      → Goes tree q fs here u (rest tree fs here (settled here (call_object tree (evaluator tree d) here.act x i verb args s)))
+      → Goes tree q fs here u (rest tree fs here (settled here (called s)))
   resolves p t u r q e f g =
       goes_as tree q fs here u (rest tree fs here (settled here (call_resolver here.act x p verb args t))) _ (ap (λ (o : Out Value). rest tree fs here (settled here o)) (object_resolves p t e))
       (given_goes tree fs here u r q (call_resolver here.act x p verb args t) f g)
 
   pub look_ends : (t : Room) (e : Exit) → Unless e (look_code i s ≡ (Err e, t))
-      → Unless e (rest tree fs here (settled here (call_object tree (evaluator tree d) here.act x i verb args s)) ≡ rest tree fs here (Err e, t))
+      → Unless e (rest tree fs here (settled here (called s)) ≡ rest tree fs here (Err e, t))
   unfolding call_object ◌>>=◌ and_then
   look_ends t e h = unless_as e (λ (y : look_code i s ≡ (Err e, t)). rw y refl) h
 
@@ -149,7 +162,7 @@ back_to here ns e =
     ap (λ (bs : List Binding). record { act = here.act; nouns = take (length bs) ns }) e
     ∙ ap (λ (bs : List Binding). record { act = here.act; nouns = bs }) (sym e)
 
-answer_gives : (r : Result Value Exit) (t : Room) → Gives r t (answer r t)
+pub answer_gives : (r : Result Value Exit) (t : Room) → Gives r t (answer r t)
 unfolding answer
 answer_gives (Ok v) t = refl
 answer_gives (Err e) t = unless_so e refl
@@ -199,6 +212,13 @@ module _ (tree : List Node) (d : ℕ) (fs gs : List Frame) (here : Scope) (s : R
   turn_resolves i p t u r q e f g =
       goes_as tree q fs here u (rest tree fs here (settled here (resolver_answer p (resolving verb args) t))) _ (ap (λ (o : Out Value). rest tree fs here (settled here o)) (turn_resolved i p t e))
       (given_goes tree fs here u r q (resolver_answer p (resolving verb args) t) f g)
+
+  pub turn_audits : (i : ℕ) (live : Bool) (view : AuditView) (t u : Room) (r : Result Now Exit) (a : Scope) → look_code i s ≡ (Ok (Audits live view), t)
+      → Goes tree r gs a u (rest tree fs here (settled here (audition_answer tree (again_by tree (evaluator tree d) None) here.act live view (asking verb args) t)))
+      → Goes tree r gs a u (rest tree fs here (settled here (turn_object tree (evaluator tree d) here.act i verb args s)))
+  unfolding turn_object turn_code ◌>>=◌
+  turn_audits i live view t u r a e g =
+      goes_as tree r gs a u (rest tree fs here (settled here (audition_answer tree (again_by tree (evaluator tree d) None) here.act live view (asking verb args) t))) _ (rw e (unfold and_then in refl)) g
 
   pub turn_ends : (i : ℕ) (t : Room) (e : Exit) → Unless e (look_code i s ≡ (Err e, t))
       → Unless e (rest tree fs here (settled here (turn_object tree (evaluator tree d) here.act i verb args s)) ≡ rest tree fs here (Err e, t))

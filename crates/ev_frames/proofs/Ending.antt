@@ -1,5 +1,5 @@
 -- Parts as they come to an end.
-use Rattle.std.proofs.Common.{◌≡◌, ℕ, zero, suc, ◌+◌, ◌≤◌, List, [], ◌∷◌, ◌++◌, Some, None, Ok, true, false, length, drop, refl, sym, ap, ◌∙◌, arith, add-one, length-append}
+use Rattle.std.proofs.Common.{◌≡◌, ℕ, suc, ◌+◌, ◌≤◌, List, [], ◌∷◌, ◌++◌, Some, None, Ok, true, false, length, drop, refl, sym, ap, ◌∙◌, arith, add-one, length-append}
 use Rattle.std.specs.Prelude.{Result, slice_get}
 use Rattle.std.proofs.lemmas.List.{length-take}
 use Rattle.ev_base.specs.declared.values.Value.{Value}
@@ -17,6 +17,7 @@ use Rattle.ev_frames.specs.declared.frames.Part.{Part}
 use Rattle.ev_frames.specs.declared.frames.Part.TheVariants.{Args, Sequence as Parts, Branch}
 use Rattle.ev_frames.specs.declared.nodes.Now.{Now}
 use Rattle.ev_frames.specs.Rest.{Goes, Nested, rest, going, call_on, parts_of, verb_of, args_of, settled}
+use Rattle.ev_room.proofs.Places.{drop_none, drop_some}
 use Rattle.ev_frames.proofs.Rests.{then_then, cut_in_front, cut_behind, same_behind, nested_behind}
 
 -- a node's frame is pushed again, with the names that it began with
@@ -40,18 +41,6 @@ cut_twice m here h = sym (cut_behind m (cut m here) here (cut_marked m here h) (
 
 pub cut_nested : (m : ℕ) (fs : List Frame) (here : Scope) → m ≤ length here.nouns → Nested fs (cut m here) → Nested fs (cut m (cut m here))
 cut_nested m fs here h n = rw (cut_twice m here h) n
-
-pub drop_none : {A : Type 0} (es : List A) (k : ℕ) → slice_get es k ≡ None → drop k es ≡ []
-drop_none [] zero e = refl
-drop_none [] (suc k) e = refl
-drop_none (x ∷ es) zero e = absurd (cc)
-drop_none (x ∷ es) (suc k) e = drop_none es k e
-
-pub drop_some : {A : Type 0} (es : List A) (k : ℕ) (e : A) → slice_get es k ≡ Some e → drop k es ≡ e ∷ drop (suc k) es
-drop_some [] zero e h = absurd (cc)
-drop_some [] (suc k) e h = absurd (cc)
-drop_some (x ∷ es) zero e h = let i : x ≡ e = cc in rw i refl
-drop_some (x ∷ es) (suc k) e h = drop_some es k e h
 
 module _ (tree : List Node) (d m : ℕ) (fs : List Frame) (here : Scope) (s : Room) (h : m ≤ length here.nouns) (n : Nested fs (cut m here)) where
   sequence_is : (id k e : ℕ) (v : Value) → slice_get (parts_of (slice_get tree id)) k ≡ Some e

@@ -19,7 +19,8 @@ use Rattle.ev_frames.specs.declared.frames.Frame.TheVariants.{Guard as GuardOf}
 use Rattle.ev_frames.specs.declared.frames.Guard.TheVariants.{Alone, Escape, Try, First, Last}
 use Rattle.ev_frames.specs.declared.nodes.Now.{Now}
 use Rattle.ev_frames.specs.Rest.{Goes, rest, guarding, handled_on, settled, valued, came_back, came_to}
-use Rattle.ev_frames.proofs.Rests.{then_then, guard_pushed, unless_as, goes_as}
+use Rattle.ev_room.proofs.Exits.{unless_as}
+use Rattle.ev_frames.proofs.Rests.{then_then, guard_pushed, goes_as}
 
 pub handled_is : (rec : Evaluator) (p e : ℕ) (v : Value) (here : Scope) (s : Room) → valued (handled_on rec p e v here s) ≡ handled rec p e v here s
 unfolding handled handled_on ◌>>=◌

@@ -1,5 +1,5 @@
 -- Parts that are evaluated at once.
-use Rattle.std.proofs.Common.{◌≡◌, ℕ, zero, suc, ◌+◌, ◌<◌, List, [], ◌∷◌, ◌++◌, Some, Ok, Err, length, drop, refl, sym, ◌∙◌, arith, add-one}
+use Rattle.std.proofs.Common.{◌≡◌, ℕ, suc, ◌+◌, List, [], ◌∷◌, ◌++◌, Some, Ok, Err, length, drop, refl, sym, ◌∙◌, add-one}
 use Rattle.std.specs.Prelude.{Result, slice_get}
 use Rattle.ev_base.specs.declared.values.Value.{Value}
 use Rattle.def_kernel.specs.declared.node.Node.{Node}
@@ -12,14 +12,10 @@ use Rattle.def_machine.specs.Values.{Words}
 use Rattle.ev_frames.specs.declared.frames.Frame.{Frame}
 use Rattle.ev_frames.specs.declared.nodes.Now.{Now}
 use Rattle.ev_frames.specs.Rest.{Goes, Nested, rest, call_on}
-use Rattle.ev_frames.proofs.Rests.{unless_as, cut_all}
-use Rattle.ev_frames.proofs.Ending.{drop_some, one_more}
-
-pub get_below : {A : Type 0} (xs : List A) (k : ℕ) (x : A) → slice_get xs k ≡ Some x → k < length xs
-get_below [] zero x e = absurd (cc)
-get_below [] (suc k) x e = absurd (cc)
-get_below (y ∷ xs) zero x e = omega arith
-get_below (y ∷ xs) (suc k) x e = let h : k < length xs = get_below xs k x e in omega arith
+use Rattle.ev_room.proofs.Exits.{unless_as}
+use Rattle.ev_frames.proofs.Rests.{cut_all}
+use Rattle.ev_room.proofs.Places.{drop_some}
+use Rattle.ev_frames.proofs.Ending.{one_more}
 
 pub leaf_passes : (rec : Evaluator) (v g : Value) (es : List ℕ) (k e : ℕ) (here : Scope) (s t : Room) (due : Out (Value × Scope)) → slice_get es k ≡ Some e → rec.expression e here s ≡ (Ok (g, here), t)
     → last_of rec v (drop k es) here s ≡ due → last_of rec g (drop (k + 1) es) here t ≡ due

@@ -1,3 +1,4 @@
+pub mod Auditing
 pub mod Begins
 pub mod Calling
 pub mod Coercing
@@ -5,7 +6,7 @@ pub mod Ending
 pub mod Guarding
 pub mod Leafy
 pub mod Looping
-pub mod Native
-pub mod Rests
-pub mod Patterning
 pub mod Matching
+pub mod Native
+pub mod Patterning
+pub mod Rests

@@ -10,15 +10,16 @@ use Rattle.ev_room.specs.declared.exit.Came.TheVariants.{Gave, Threw, Left}
 use Rattle.ev_pass.specs.declared.interior.Interior.{Interior as Room}
 use Rattle.ev_room.specs.declared.scope.Scope.{Scope}
 use Rattle.ev_room.specs.Acts.{Act, Out, Gives, GivesIn, Unless, and_then, give, cut, closed_by, ended_by}
-use Rattle.ev_steps.specs.Steps.{evaluator, escaped, tried, at_last, match_ended, matched}
+use Rattle.ev_steps.specs.Steps.{evaluator, escaped, tried, at_last, leaving, audited, match_ended, matched}
 use Rattle.ev_frames.specs.declared.frames.Frame.{Frame}
 use Rattle.ev_frames.specs.declared.frames.Frame.TheVariants.{Part as PartOf, Guard as GuardOf, Match, Case as CaseOf, Body}
 use Rattle.ev_frames.specs.declared.frames.Part.{Part}
 use Rattle.ev_frames.specs.declared.frames.Guard.{Guard}
-use Rattle.ev_frames.specs.declared.frames.Guard.TheVariants.{Alone, Escape, Try, First, Last, Close, Members, Turns}
+use Rattle.ev_frames.specs.declared.frames.Guard.TheVariants.{Alone, Escape, Try, First, Last, Audit, Close, Members, Turns}
 use Rattle.ev_frames.specs.declared.nodes.Now.{Now}
 use Rattle.ev_frames.specs.Rest.{Goes, Stays, Nested, StepsTo, NestedOn, rest, going, guarding, settled, valued, came_to, came_back, stepped}
-use Rattle.ev_frames.proofs.Rests.{goes_as, unless_as}
+use Rattle.ev_room.proofs.Exits.{unless_as}
+use Rattle.ev_frames.proofs.Rests.{goes_as}
 use Rattle.ev_frames.proofs.Ending.{part_again, unmarked}
 use Rattle.ev_frames.proofs.Calling.{settled_gave, settled_ended}
 use Rattle.ev_frames.proofs.Native.{valued_settled}
@@ -94,7 +95,7 @@ unfoldable PassesOn : Exit → Type 0
 PassesOn e = (f : Scope → Act (Value × Scope)) (g : ℕ → Act (Value × Scope)) (k : ℕ → Value → Act (Value × Scope)) (s : Room) → ended_by f g k (Err e, s) ≡ (Err e, s)
 
 stops_rest : (e : Exit) → Passes e → PassesOn e → (tree : List Node) (fs : List Frame) (here : Scope) (s : Room) → rest tree fs here (Err e, s) ≡ (Err e, s)
-unfolding rest and_then guarding escaped tried at_last closed_by match_ended matched Passes PassesOn
+unfolding rest and_then guarding escaped tried at_last audited leaving closed_by match_ended matched Passes PassesOn
 stops_rest e h away tree [] here s = refl
 stops_rest e h away tree (PartOf d m p ∷ fs) here s = stops_rest e h away tree fs (cut m here) s
 stops_rest e h away tree (GuardOf d m Alone ∷ fs) here s = stops_rest e h away tree fs (cut m here) s
@@ -102,6 +103,7 @@ stops_rest e h away tree (GuardOf d m (Escape j c) ∷ fs) here s = rw (h _ _ _ 
 stops_rest e h away tree (GuardOf d m (Try p q) ∷ fs) here s = rw (h _ _ _ s) (stops_rest e h away tree fs (cut m here) s)
 stops_rest e h away tree (GuardOf d m (First b) ∷ fs) here s = rw (h _ _ _ s) (stops_rest e h away tree fs (cut m here) s)
 stops_rest e h away tree (GuardOf d m (Last c) ∷ fs) here s = stops_rest e h away tree fs (cut m here) s
+stops_rest e h away tree (GuardOf d m (Audit j) ∷ fs) here s = rw (h _ _ _ s) (stops_rest e h away tree fs (cut m here) s)
 stops_rest e h away tree (GuardOf d m Close ∷ fs) here s = rw (h _ _ _ s) (stops_rest e h away tree fs (cut m here) s)
 stops_rest e h away tree (GuardOf d m (Members n f vs k) ∷ fs) here s = stops_rest e h away tree fs (cut m here) s
 stops_rest e h away tree (GuardOf d m (Turns n f k) ∷ fs) here s = stops_rest e h away tree fs (cut m here) s

@@ -19,8 +19,9 @@ use Rattle.ev_frames.specs.declared.frames.Frame.{Frame}
 use Rattle.ev_frames.specs.declared.frames.Frame.TheVariants.{Case as CaseOf}
 use Rattle.ev_frames.specs.declared.nodes.Now.{Now}
 use Rattle.ev_frames.specs.Rest.{Goes, Nested, rest, bound_as, came_to}
-use Rattle.ev_frames.proofs.Rests.{case_pushed, unless_as, same_behind, nested_behind, goes_as, cut_in_front}
-use Rattle.ev_frames.proofs.Ending.{drop_some, drop_none}
+use Rattle.ev_room.proofs.Exits.{unless_as}
+use Rattle.ev_frames.proofs.Rests.{case_pushed, same_behind, nested_behind, goes_as, cut_in_front}
+use Rattle.ev_room.proofs.Places.{drop_some, drop_none}
 use Rattle.ev_frames.proofs.Patterning.{scope_back}
 
 module _ (tree : List Node) (d : ℕ) (fs gs : List Frame) (here : Scope) (s : Room) (v : Value) where

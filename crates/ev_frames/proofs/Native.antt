@@ -32,7 +32,7 @@ use Rattle.ev_frames.specs.declared.frames.Guard.TheVariants.{Close, Members, Tu
 use Rattle.ev_frames.specs.declared.nodes.Now.{Now}
 use Rattle.ev_frames.specs.Rest.{Goes, rest, settled, valued, guarding, came_back}
 use Rattle.ev_frames.proofs.Rests.{guard_pushed, goes_as}
-use Rattle.ev_frames.proofs.Ending.{drop_none, drop_some}
+use Rattle.ev_room.proofs.Places.{drop_none, drop_some}
 
 pub valued_settled : (here : Scope) (o : Out Value) → valued (settled here o) ≡ o
 unfolding and_then give
@@ -40,7 +40,7 @@ valued_settled here (Ok v, s) = refl
 valued_settled here (Err e, s) = refl
 
 -- a frame is pushed above something that gives a value in the scope
-value_pushed : (tree : List Node) (d : ℕ) (g : Guard) (fs : List Frame) (here : Scope) (o : Out Value)
+pub value_pushed : (tree : List Node) (d : ℕ) (g : Guard) (fs : List Frame) (here : Scope) (o : Out Value)
     → rest tree fs here (settled here (guarding tree (evaluator tree d) g here o)) ≡ rest tree (GuardOf d (length here.nouns) g ∷ fs) here (settled here o)
 value_pushed tree d g fs here o =
     sym (guard_pushed tree d g fs here (settled here o)

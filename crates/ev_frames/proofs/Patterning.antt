@@ -13,7 +13,7 @@ use Rattle.ev_pass.specs.declared.interior.Interior.{Interior as Room}
 use Rattle.ev_room.specs.declared.scope.Scope.{Scope}
 use Rattle.ev_room.specs.Acts.{Act, Out, Unless, Extends, and_then, ◌>>=◌, ◌>>◌, give, fail, cut, spend, ended_by, new_ejector, kill, leave}
 use Rattle.ev_room.specs.Sound.{not_a_list_id}
-use Rattle.ev_room.proofs.Exits.{ends}
+use Rattle.ev_room.proofs.Exits.{ends, unless_as}
 use Rattle.ev_steps.specs.Steps.{evaluator, define_by, bind_all, bind_asked, bind_list, bind_step, bind_found, bind_via, call, failed, handed, match_ended, match_on, matched_if, not_matched}
 use Rattle.ev_steps.proofs.Depth.{pattern_deep, pattern_goes}
 use Rattle.ev_frames.specs.declared.frames.Frame.{Frame}
@@ -21,8 +21,9 @@ use Rattle.ev_frames.specs.declared.frames.Frame.TheVariants.{Part as PartOf, Ma
 use Rattle.ev_frames.specs.declared.frames.Part.TheVariants.{Define, Yields, Then, Binds, Asks, Binding}
 use Rattle.ev_frames.specs.declared.nodes.Now.{Now}
 use Rattle.ev_frames.specs.Rest.{Goes, Nested, rest, going, handled_on, bound_then, bound_as, scoped, settled, came_to, yielding}
-use Rattle.ev_frames.proofs.Rests.{part_pushed, match_pushed, unless_as, same_behind, nested_behind, unless_so, goes_as, cut_in_front}
-use Rattle.ev_frames.proofs.Ending.{part_again, drop_some, drop_none}
+use Rattle.ev_frames.proofs.Rests.{part_pushed, match_pushed, same_behind, nested_behind, unless_so, goes_as, cut_in_front}
+use Rattle.ev_room.proofs.Places.{drop_some, drop_none}
+use Rattle.ev_frames.proofs.Ending.{part_again}
 
 -- ---- a scope, as what gives null in it
 

@@ -10,6 +10,7 @@ use Rattle.ev_pass.specs.declared.interior.Interior.{Interior as Room}
 use Rattle.ev_room.specs.declared.scope.Binding.{Binding}
 use Rattle.ev_room.specs.declared.scope.Scope.{Scope}
 use Rattle.ev_room.specs.Acts.{Act, Out, Unless, Extends, and_then, cut}
+use Rattle.ev_room.proofs.Exits.{unless_as}
 use Rattle.ev_room.proofs.Fronts.{itself_in_front}
 use Rattle.ev_steps.specs.Steps.{evaluator, match_all, match_ended, matched}
 use Rattle.def_machine.specs.Scopes.{Case}
@@ -133,16 +134,6 @@ unless_so (Repeated i j) h = h
 unless_so Astray h = h
 unless_so Unbuilt h = h
 unless_so Memory h = tt
-
-pub unless_as : {X Y : Type 0} (e : Exit) → (X → Y) → Unless e X → Unless e Y
-unless_as (Thrown id) f h = f h
-unless_as (Ejected n v) f h = f h
-unless_as Fuel f h = f h
-unless_as Deep f h = f h
-unless_as (Repeated i j) f h = f h
-unless_as Astray f h = f h
-unless_as Unbuilt f h = f h
-unless_as Memory f h = tt
 
 pub gone : (e : Exit) (fs : List Frame) (a : Scope) → Nested fs a → Unless e (Nested fs a)
 gone e fs a h = unless_so e h

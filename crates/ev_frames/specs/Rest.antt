@@ -17,15 +17,15 @@ use Rattle.ev_refs.specs.Follow.{followed}
 use Rattle.ev_eventual.specs.Eventual.{message_in}
 use Rattle.ev_room.specs.declared.scope.Scope.{Scope}
 use Rattle.ev_room.specs.Acts.{Act, Out, Unless, and_then, ◌>>=◌, ◌>>◌, give, fail, cut, write_slot, closed_by, new_activation, tell}
-use Rattle.ev_steps.specs.Steps.{Caller, Evaluator, evaluator, define_by, write_bound, bind_coerced, bind_under, bind_via, match_on, match_ended, matched, match_all, try_matchers, gathered, call, last_of, choose, escaped, tried, at_last, bind_all, again_by, iterate, turns, after_turn, replied, answered, called_with}
+use Rattle.ev_steps.specs.Steps.{Caller, Evaluator, evaluator, define_by, write_bound, bind_coerced, bind_under, bind_via, match_on, match_ended, matched, match_all, try_matchers, gathered, call, last_of, choose, escaped, tried, at_last, bind_all, again_by, iterate, turns, after_turn, replied, answered, called_with, is_true, audited, with_stamp, make_object, object_on}
 use Rattle.ev_frames.specs.declared.frames.Frame.{Frame}
 use Rattle.ev_frames.specs.declared.frames.Frame.TheVariants.{Part as PartOf, Guard as GuardOf, Match, Case as CaseOf, Body}
 use Rattle.ev_frames.specs.declared.frames.Part.{Part}
-use Rattle.ev_frames.specs.declared.frames.Part.TheVariants.{Assign, Writes, Guarded, Coerced, DefineBy, Define, Yields, Then, Binds, Asks, Binding, Fails, Matching, Receiver, Args, Sequence as Parts, Test, Branch}
+use Rattle.ev_frames.specs.declared.frames.Part.TheVariants.{Assign, Writes, Guarded, Coerced, DefineBy, Define, Yields, Then, Binds, Asks, Binding, Fails, Matching, Receiver, Args, Auditors, Stamps as Asked, Sequence as Parts, Test, Branch}
 use Rattle.ev_frames.specs.declared.frames.Guard.{Guard}
-use Rattle.ev_frames.specs.declared.frames.Guard.TheVariants.{Alone, Escape, Try, First, Last, Close, Members, Turns}
+use Rattle.ev_frames.specs.declared.frames.Guard.TheVariants.{Alone, Escape, Try, First, Last, Audit, Close, Members, Turns}
 use Rattle.ev_frames.specs.declared.nodes.Now.{Now}
-use Rattle.ev_frames.specs.declared.nodes.Now.TheVariants.{Begin, Bind, Member, Turn, Refuse, Calls, Ended}
+use Rattle.ev_frames.specs.declared.nodes.Now.TheVariants.{Begin, Bind, Member, Turn, Refuse, Calls, Audit as Audits, Ended}
 
 -- a value, without the scope after it
 abbrev pub valued : Out (Value × Scope) → Out Value
@@ -87,6 +87,8 @@ going tree rec act mark (Fails id) v here = fail (Thrown id)
 going tree rec act mark (Matching p) v here = match_on tree rec act p v here
 going tree rec act mark (Receiver n) v here = call_on tree rec act v (verb_of (slice_get tree n)) [] (args_of (slice_get tree n)) here
 going tree rec act mark (Args n x vs) v here = call_on tree rec act x (verb_of (slice_get tree n)) (vs ++ v ∷ []) (drop (suc (length vs)) (args_of (slice_get tree n))) here
+going tree rec act mark (Auditors n p es vs) v here = object_on tree rec n p (vs ++ v ∷ []) (drop (suc (length vs)) es) here
+going tree rec act mark (Asked n p y vs k stamps) v here = make_object tree (call tree rec) n p (with_stamp (is_true v) y stamps) (drop k vs) here
 going tree rec act mark (Parts n k) v here = last_of rec v (drop k (parts_of (slice_get tree n))) here
 going tree rec act mark (Test a b) v here = λ s. choose rec mark a b (followed s.refs v) here s
 going tree rec act mark Branch v here = give (v, cut mark here)
@@ -105,6 +107,7 @@ guarding tree rec (Escape j c) here o = escaped rec j c here o
 guarding tree rec (Try p h) here o = tried rec p h here o
 guarding tree rec (First b) here o = at_last rec b here o
 guarding tree rec (Last c) here o = and_then o (λ _ s. (came_back c, s))
+guarding tree rec (Audit j) here o = audited j o
 guarding tree rec Close here o = closed_by here.act o
 guarding tree rec (Members l f vs k) here o = and_then o (λ _. iterate (again_by tree rec l) here.act f k (drop k vs))
 guarding tree rec (Turns l f k) here o = and_then o (λ x s. after_turn (turns (again_by tree rec l) here.act f k) (followed s.refs x) s)
@@ -147,6 +150,7 @@ due_of tree (Member d l f k v) fs here s = rest tree fs here (settled here (agai
 due_of tree (Turn d l f) fs here s = rest tree fs here (settled here (again_by tree (evaluator tree d) l here.act f (codes "run") [] s))
 due_of tree (Refuse d l j id) fs here s = rest tree fs here (settled here (again_by tree (evaluator tree d) l here.act j (codes "run") (held.Text id ∷ []) s))
 due_of tree (Calls d l x v m) fs here s = rest tree fs here (settled here (called_with (again_by tree (evaluator tree d) l) here.act x (message_in s.heap (followed s.refs v) (followed s.refs m)) s))
+due_of tree (Audits d l a j) fs here s = rest tree fs here (settled here (again_by tree (evaluator tree d) l here.act a (codes "audit") (held.Obj j ∷ []) s))
 due_of tree (Bind d p v j) fs here s = rest tree fs here (bound_as ((evaluator tree d).pattern p v j here s))
 due_of tree (Ended c) fs here s = rest tree fs here (came_to c here s)
 

@@ -9,6 +9,7 @@ ghost use Rattle.ev_frames.specs.Rest.{Goes, Nested, Stays, activated, bound_the
 ghost use Rattle.ev_frames.specs.declared.frames.Frame.TheVariants.{Body};
 
 use crate::answers::call_data;
+use crate::audits::call_audition;
 use crate::frames::{Frame, Frames};
 use crate::matchers::matchers_begin;
 use crate::nodes::{Now, given};
@@ -144,11 +145,12 @@ fn call_made(
     )
 }
 
-/// A call on what bears a number, as it is held: an object, an ejector or a resolver.
-#[tactic(auto, using(crate::proofs::Calling::runs, crate::proofs::Calling::leaves, crate::proofs::Calling::resolves, crate::proofs::Calling::given_stays, crate::proofs::Calling::look_ends, crate::proofs::Rests::gone))]
+/// A call on what bears a number, as it is held: an object, an ejector, a resolver or an audition.
+#[tactic(auto, using(crate::proofs::Calling::runs, crate::proofs::Calling::leaves, crate::proofs::Calling::resolves, crate::proofs::Calling::audits, crate::proofs::Calling::given_stays, crate::proofs::Calling::look_ends, crate::proofs::Rests::gone))]
 fn call_object(
     program: &Kernel,
     depth: u32,
+    levels: Option<u128>,
     receiver: Value,
     object: ObjId,
     verb: &Word,
@@ -158,7 +160,7 @@ fn call_object(
     room: &mut Room,
 ) -> Result<Now, Exit>
     requires nested { Nested frames.old here.old }
-    ensures rest { Goes program.now result frames.new here.new room.new (rest program.now frames.old here.old (settled here.old (call_object program.now (evaluator program.now depth) here.old.act receiver object verb.now args.now room.old))) }
+    ensures rest { Goes program.now result frames.new here.new room.new (rest program.now frames.old here.old (settled here.old (call_object program.now (evaluator program.now depth) (again_by program.now (evaluator program.now depth) levels) here.old.act receiver object verb.now args.now room.old))) }
     ensures nested { Stays result frames.new here.new }
 {
     match look_code(object, room)? {
@@ -171,6 +173,9 @@ fn call_object(
         Code::Resolves(promise) => given(call_resolver(
             here.act, receiver, promise, verb, args, room,
         )),
+        Code::Audits(alive, view) => call_audition(
+            program, depth, levels, receiver, alive, &view, verb, args, frames, here, room,
+        ),
     }
 }
 
@@ -194,7 +199,7 @@ fn call_value(
 {
     match receiver {
         Value::Obj(object) => call_object(
-            program, depth, held, object, verb, args, frames, here, room,
+            program, depth, levels, held, object, verb, args, frames, here, room,
         ),
         Value::Broken(id) => Err(Exit::Thrown(id)),
         Value::Prim(number) => {

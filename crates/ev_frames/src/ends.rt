@@ -8,6 +8,7 @@ ghost use Rattle.ev_room.specs.Acts.{and_then, closed_by};
 ghost use Rattle.ev_room.specs.declared.scope.Scope.{Scope as Surroundings};
 ghost use Rattle.ev_frames.specs.Rest.{Goes, Nested, Stays, came_back, guarding, rest, settled};
 
+use crate::audits::audit_ended;
 use crate::frames::{Frames, Guard};
 use crate::guards::{guard, handle};
 use crate::natives::{members_from, turns_from};
@@ -250,6 +251,7 @@ pub(crate) fn guard_ended(
             program, depth, pattern, handler, came, frames, here, room,
         ),
         Guard::First(last) => first_ended(program, depth, last, came, frames, here, room),
+        Guard::Audit(audition) => audit_ended(program, audition, came, frames, here, room),
         Guard::Close => {
             let value = closed(here.act, back(came), room)?;
             Ok(Now::Ended(Came::Gave(value)))

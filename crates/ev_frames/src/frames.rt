@@ -44,6 +44,11 @@ pub enum Part {
     Receiver(NodeId),
     /// A call whose receiver and first arguments are known.
     Args(NodeId, Value, Seq<Value>),
+    /// An object expression whose first auditors are known, with its pattern and the expressions of all.
+    Auditors(NodeId, NodeId, Seq<NodeId>, Seq<Value>),
+    /// An object expression whose auditor, as it is followed, is asked, with its pattern, all auditors, the place of the next,
+    /// and the stamps so far.
+    Stamps(NodeId, NodeId, Value, Seq<Value>, usize, Seq<Value>),
     /// A sequence, with the number of parts that have begun.
     Sequence(NodeId, usize),
     /// An if whose test is evaluated, with its branches.
@@ -65,7 +70,9 @@ pub enum Guard {
     First(NodeId),
     /// A finally whose second part is evaluated, with how the first came to an end.
     Last(Came),
-    /// A call on data in which it calls again.
+    /// An auditor that is called, with its audition.
+    Audit(ObjId),
+    /// A call on data or an audition in which it calls again.
     Close,
     /// An iteration over these, with how calls again are counted and the place of the next.
     Members(Option<u128>, Value, Seq<Value>, usize),

@@ -99,7 +99,7 @@ pub(crate) fn leaf(
 
 /// Evaluates the parts of a sequence from a place on, as far as they are literals and nouns: the place behind them, and the value of
 /// the last of them, or the one before.
-#[tactic(auto, using(crate::proofs::Leafy::leaf_passes, crate::proofs::Leafy::leaf_ends, crate::proofs::Leafy::get_below))]
+#[tactic(auto, using(crate::proofs::Leafy::leaf_passes, crate::proofs::Leafy::leaf_ends, std::proofs::lemmas::Option::slice_get_within))]
 pub(crate) fn leaves(
     program: &Kernel,
     depth: u32,
@@ -124,7 +124,7 @@ pub(crate) fn leaves(
 }
 
 /// Evaluates the arguments of a call behind those so far, as far as they are literals and nouns.
-#[tactic(auto, using(crate::proofs::Leafy::leaf_gathers, crate::proofs::Leafy::leaf_gathers_not, crate::proofs::Leafy::get_below))]
+#[tactic(auto, using(crate::proofs::Leafy::leaf_gathers, crate::proofs::Leafy::leaf_gathers_not, std::proofs::lemmas::Option::slice_get_within))]
 pub(crate) fn leaf_args(
     program: &Kernel,
     depth: u32,

@@ -2,6 +2,7 @@
 #![tactic(auto)]
 
 pub mod answers;
+pub mod audits;
 pub mod calls;
 pub mod coercions;
 pub mod ends;

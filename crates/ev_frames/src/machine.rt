@@ -4,7 +4,7 @@ ghost use Rattle.std.specs.Prelude.{◌≡◌, ◌∷◌, [], Err, codes, pos};
 ghost use Rattle.ev_steps.specs.Steps.{again_by, called_with, evaluator, turn_value};
 ghost use Rattle.ev_eventual.specs.Eventual.{message_in};
 ghost use Rattle.ev_refs.specs.Follow.{followed};
-ghost use Rattle.ev_base.specs.declared.values.Value.TheVariants.{Int, Text};
+ghost use Rattle.ev_base.specs.declared.values.Value.TheVariants.{Int, Obj, Text};
 ghost use Rattle.ev_room.specs.Acts.{Gives, GivesIn};
 ghost use Rattle.ev_room.specs.declared.scope.Scope.{Scope as Surroundings};
 ghost use Rattle.ev_frames.specs.Rest.{Goes, Nested, NestedOn, Stays, StepsTo, bound_as, came_to, due_of, rest, settled, stepped};
@@ -19,7 +19,7 @@ use crate::nodes::{Now, begin};
 use crate::parts::part_gave;
 use crate::patterns::{bind, match_resumes};
 use def_kernel::Kernel;
-use ev_base::{ActId, NodeId, Seq, TextId, Value};
+use ev_base::{ActId, NodeId, ObjId, Seq, TextId, Value};
 use ev_eventual::message_in;
 use ev_eventual::sending::BAD_MESSAGE;
 use ev_room::call::closed;
@@ -324,6 +324,57 @@ fn call_with(
     }
 }
 
+/// `audit` of a value is called with an audition.
+fn run_auditor(
+    program: &Kernel,
+    depth: u32,
+    levels: Option<u128>,
+    auditor: Value,
+    audition: ObjId,
+    frames: &mut Frames,
+    here: &mut Scope,
+    room: &mut Room,
+) -> Result<Now, Exit>
+    requires nested { Nested frames.old here.old }
+    ensures rest { Goes program.now result frames.new here.new room.new (rest program.now frames.old here.old (settled here.old (again_by program.now (evaluator program.now depth) levels here.old.act auditor (codes "audit") (Obj audition ∷ []) room.old))) }
+    ensures nested { Stays result frames.new here.new }
+{
+    let verb = Word::copy_of(room.alloc, "audit")?;
+    call_again(
+        program,
+        depth,
+        levels,
+        auditor,
+        &verb,
+        &[Value::Obj(audition)],
+        frames,
+        here,
+        room,
+    )
+}
+
+/// An auditor begins.
+#[tactic(auto, using(crate::proofs::Looping::steps, crate::proofs::Looping::nests))]
+fn audited(
+    program: &Kernel,
+    depth: u32,
+    levels: Option<u128>,
+    auditor: Value,
+    audition: ObjId,
+    frames: &mut Frames,
+    here: &mut Scope,
+    room: &mut Room,
+) -> Result<Now, Result<Value, Exit>>
+    requires nested { Nested frames.old here.old }
+    ensures rest { StepsTo program.now result frames.new here.new room.new (rest program.now frames.old here.old (settled here.old (again_by program.now (evaluator program.now depth) levels here.old.act auditor (codes "audit") (Obj audition ∷ []) room.old))) }
+    ensures nested { NestedOn result frames.new here.new }
+{
+    let next = run_auditor(
+        program, depth, levels, auditor, audition, frames, here, room,
+    );
+    stepped(next)
+}
+
 /// The same, in the loop.
 #[tactic(auto, using(crate::proofs::Looping::steps, crate::proofs::Looping::nests))]
 fn called(
@@ -412,6 +463,9 @@ fn step(
         ),
         Now::Calls(depth, levels, receiver, verb, list) => called(
             program, depth, levels, receiver, verb, list, frames, here, room,
+        ),
+        Now::Audit(depth, levels, auditor, audition) => audited(
+            program, depth, levels, auditor, audition, frames, here, room,
         ),
         Now::Ended(came) => ended(program, came, frames, here, room),
     }

@@ -6,6 +6,7 @@ ghost use Rattle.ev_room.specs.declared.scope.Scope.{Scope as Surroundings};
 ghost use Rattle.ev_frames.specs.Rest.{Goes, Nested, Stays, rest, settled};
 
 use crate::answers::answered;
+use crate::audits::audition_answer;
 use crate::calls::found_begins;
 use crate::frames::{Frames, Guard};
 use crate::guards::guard;
@@ -52,8 +53,8 @@ fn run_code(
     )
 }
 
-/// A message on what bears a number: an object, an ejector or a resolver.
-#[tactic(auto, using(crate::proofs::Calling::turn_runs, crate::proofs::Calling::turn_leaves, crate::proofs::Calling::turn_resolves, crate::proofs::Calling::given_stays, crate::proofs::Calling::turn_ends, crate::proofs::Rests::gone))]
+/// A message on what bears a number: an object, an ejector, a resolver or an audition.
+#[tactic(auto, using(crate::proofs::Calling::turn_runs, crate::proofs::Calling::turn_leaves, crate::proofs::Calling::turn_resolves, crate::proofs::Calling::turn_audits, crate::proofs::Calling::given_stays, crate::proofs::Calling::turn_ends, crate::proofs::Rests::gone))]
 fn object_takes(
     program: &Kernel,
     depth: u32,
@@ -73,6 +74,9 @@ fn object_takes(
         Code::Runs(code) => run_code(program, depth, verb, args, code, frames, here, room),
         Code::Leaves(alive) => given(ejector_answer(object, alive, verb.as_str(), args)),
         Code::Resolves(promise) => given(resolver_answer(promise, verb.as_str(), args, room)),
+        Code::Audits(alive, view) => audition_answer(
+            program, depth, None, alive, &view, verb, args, frames, here, room,
+        ),
     }
 }
 

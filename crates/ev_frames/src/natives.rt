@@ -14,7 +14,7 @@ use ev_room::room::Room;
 use ev_room::scope::Scope;
 
 /// The member of that place, if there are so many.
-fn member_at(members: &[Value], place: usize) -> Option<Value>
+pub(crate) fn member_at(members: &[Value], place: usize) -> Option<Value>
     ensures { result ≡ slice_get members.now place }
 {
     match members.get(place) {

@@ -4,22 +4,22 @@ ghost use Rattle.std.specs.Prelude.{◌≡◌, ◌∷◌, [], OnOk, Some, drop, 
 ghost use Rattle.ev_steps.specs.Steps.{define, evaluator, guarded_node, if_node, last_of, literal_node, literal_value, match_node, noun_node, set_node, step, call_node};
 ghost use Rattle.ev_base.specs.declared.values.Value.TheVariants.{Null};
 ghost use Rattle.def_kernel.specs.declared.node.Node.TheVariants.{Call, Sequence as Parts, If};
-ghost use Rattle.ev_room.specs.Acts.{Gives, GivesIn, Out, object_node};
+ghost use Rattle.ev_room.specs.Acts.{Gives, GivesIn, Out};
 ghost use Rattle.ev_room.specs.declared.scope.Scope.{Scope as Surroundings};
 ghost use Rattle.ev_base.specs.declared.values.Value.{Value as Held};
 ghost use Rattle.ev_frames.specs.Rest.{Goes, Nested, Stays, call_on, given, rest};
 ghost use Rattle.ev_frames.specs.declared.frames.Frame.TheVariants.{Part as PartOf, Guard as GuardOf};
 
+use crate::audits::object_node;
 use crate::frames::{Frame, Frames, Guard, Part};
 use crate::guards::{escape_node, finally_node, hide_node, try_node};
 use crate::leaves::leaf;
 use crate::parts::args_on;
 use def_kernel::{Kernel, Literal, Node};
-use ev_base::{Memory, NodeId, Seq, TextId, Value};
+use ev_base::{Memory, NodeId, ObjId, Seq, TextId, Value};
 use ev_room::data::text_kept;
 use ev_room::exit::{Came, Exit};
 use ev_room::nouns::read_bound;
-use ev_room::object::object_node;
 use ev_room::room::{Room, spend};
 use ev_room::scope::{Scope, found};
 use ev_room::tree::node_at;
@@ -42,6 +42,8 @@ pub enum Now {
     Refuse(u32, Option<u128>, Value, TextId),
     /// A value is called with a verb and a list of arguments, as these are held.
     Calls(u32, Option<u128>, Value, Value, Value),
+    /// `audit` of a value is called with an audition.
+    Audit(u32, Option<u128>, Value, ObjId),
     /// The innermost part that was evaluated has come to an end.
     Ended(Came),
 }
@@ -284,25 +286,6 @@ fn match_node(
     Ok(Now::Begin(depth, value))
 }
 
-/// An object expression is evaluated, which binds the object's name.
-#[tactic(auto, using(crate::proofs::Begins::given_behind, crate::proofs::Begins::ended_behind, crate::proofs::Rests::nested_behind, crate::proofs::Rests::gone))]
-fn made_node(
-    program: &Kernel,
-    id: NodeId,
-    pattern: NodeId,
-    auditors: &[NodeId],
-    frames: &Frames,
-    here: &mut Scope,
-    room: &mut Room,
-) -> Result<Now, Exit>
-    requires nested { Nested frames.now here.old }
-    ensures rest { Goes program.now result frames.now here.new room.new (rest program.now frames.now here.old (object_node program.now id pattern auditors.now here.old room.old)) }
-    ensures nested { Stays result frames.now here.new }
-{
-    let value = object_node(program, id, pattern, auditors, here, room)?;
-    Ok(Now::Ended(Came::Gave(value)))
-}
-
 /// A node begins whose parts may be so many levels deep.
 #[tactic(auto, using(crate::proofs::Rests::goes_on, crate::proofs::Rests::gone), unfolding(ev_steps::specs::Steps::step, ev_room::specs::Acts::fail))]
 fn step(
@@ -376,8 +359,9 @@ fn step(
             pattern,
             auditors,
             ..
-        } => made_node(
+        } => object_node(
             program,
+            depth,
             id,
             *pattern,
             auditors.as_slice(),

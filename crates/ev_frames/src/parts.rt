@@ -8,6 +8,7 @@ ghost use Rattle.ev_room.specs.declared.scope.Scope.{Scope as Surroundings};
 ghost use Rattle.ev_frames.specs.Rest.{Goes, Nested, Stays, args_of, call_on, going, parts_of, rest, settled, verb_of, yielding};
 ghost use Rattle.ev_frames.specs.declared.frames.Frame.TheVariants.{Part as PartOf};
 
+use crate::audits::{auditors_on, stamped};
 use crate::calls::calling;
 use crate::coercions::{assigned, coerced, under};
 use crate::frames::{Frame, Frames, Part};
@@ -390,6 +391,17 @@ pub(crate) fn part_gave(
                 program, depth, mark, id, receiver, &verb, values, args, frames, here, room,
             )
         }
+        Part::Auditors(id, pattern, auditors, values) => {
+            let mut values = values;
+            values.push(value)?;
+            auditors_on(
+                program, depth, mark, id, pattern, auditors, values, frames, here, room,
+            )
+        }
+        Part::Stamps(id, pattern, auditor, auditors, place, stamps) => stamped(
+            program, depth, id, pattern, auditor, auditors, place, stamps, value, frames, here,
+            room,
+        ),
         Part::Sequence(id, begun) => {
             let parts = parts_at(program.nodes(), id);
             sequence_on(

@@ -16,12 +16,12 @@ use crate::nodes::{Now, enter};
 use crate::parts::again;
 use def_kernel::{Kernel, Node};
 use ev_base::{Memory, NodeId, ObjId, Seq, TextId, Value};
+use ev_room::data::{copied_values, members_of};
 use ev_room::ejector::{is_same, kill, new_ejector};
 use ev_room::exit::{Came, Exit};
 use ev_room::room::{Room, spend};
 use ev_room::scope::{Scope, cut};
 use ev_room::tree::node_at;
-use ev_same::same::members_of;
 use ev_steps::handing::handed;
 use ev_steps::matches::not_matched;
 use ev_steps::pattern::{Early, bind_at_once, bind_from, part_at, value_at};
@@ -32,18 +32,11 @@ use std::alloc::Global;
 /// The problem of a specimen that is no list of so many members.
 const NOT_A_LIST: TextId = TextId(16);
 
-/// The same patterns.
-fn copied(alloc: Global, patterns: &[NodeId]) -> Result<Seq<NodeId>, Memory>
-    ensures { IfOk result (λ copy. copy ≡ patterns.now) }
+/// The same nodes.
+pub(crate) fn copied(alloc: Global, nodes: &[NodeId]) -> Result<Seq<NodeId>, Memory>
+    ensures { IfOk result (λ copy. copy ≡ nodes.now) }
 {
-    Ok(Seq::of(Vec::from_slice(alloc, patterns)?))
-}
-
-/// The same values.
-fn copied_values(alloc: Global, values: &[Value]) -> Result<Seq<Value>, Memory>
-    ensures { IfOk result (λ copy. copy ≡ values.now) }
-{
-    Ok(Seq::of(Vec::from_slice(alloc, values)?))
+    Ok(Seq::of(Vec::from_slice(alloc, nodes)?))
 }
 
 /// A pattern is bound to a value: at once, or it begins.

@@ -12,6 +12,7 @@ ghost use Rattle.ev_room.specs.declared.scope.Scope.{Scope as Surroundings};
 ghost use Rattle.ev_frames.specs.Rest.{Goes, Nested, Stays, rest, settled};
 
 use crate::answers::replied;
+use crate::audits::bears_stamp;
 use crate::failings::coerces;
 use crate::frames::Frames;
 use crate::natives::turns_from;
@@ -23,7 +24,7 @@ use ev_heap::Heap;
 use ev_prims::{Asked, Problem, Test, ask, compare, range};
 use ev_room::coercion::null_or;
 use ev_room::data::{is_there, make_list, problem_id, thrown_id};
-use ev_room::exit::Exit;
+use ev_room::exit::{Came, Exit};
 use ev_room::room::Room;
 use ev_room::scope::Scope;
 use ev_same::same_ever;
@@ -150,7 +151,7 @@ fn adds_null(
 }
 
 /// Does what is asked of a primitive, which tells no line of its own call.
-#[tactic(auto, using(crate::proofs::Calling::given_goes, crate::proofs::Calling::given_stays, crate::proofs::Rests::gone), unfolding(ev_steps::specs::Steps::performed, ev_room::specs::Acts::and_then, ev_room::specs::Acts::fails, ev_room::specs::Acts::fail))]
+#[tactic(auto, using(crate::proofs::Calling::given_goes, crate::proofs::Calling::given_stays, crate::proofs::Rests::gone), unfolding(ev_steps::specs::Steps::performed, ev_room::specs::Acts::and_then, ev_room::specs::Acts::give, ev_room::specs::Acts::fails, ev_room::specs::Acts::fail))]
 pub(crate) fn perform(
     program: &Kernel,
     depth: u32,
@@ -190,6 +191,8 @@ pub(crate) fn perform(
         Asked::AddsNull(guard) => { adds_null(program, depth, levels, guard, frames, here, room) }
         Asked::ThrowsIt(value) => Err(Exit::Thrown(thrown_id(room.refs.deref(value)))),
         Asked::NoMethod => Err(Exit::Thrown(problem_id(Problem::NoMethod))),
-        Asked::IsStamped(_, _) => Err(Exit::Unbuilt),
+        Asked::IsStamped(auditor, value) => {
+            Ok(Now::Ended(Came::Gave(bears_stamp(auditor, value, room))))
+        }
     }
 }

@@ -98,6 +98,15 @@ impl Words {
         self.drawn.len() as u64
     }
 
+    /// The word that the next draw gives. It stays to be drawn.
+    pub fn next(&self) -> u128
+        ensures { result ≡ word self.now.key self.now.count }
+    {
+        let mut stream = ChaCha20Rng::from_seed(self.key);
+        stream.set_word_pos(4 * u128::from(self.count()));
+        next_number(&mut stream)
+    }
+
     /// Draws the next word. A refusal leaves the words as they were.
     pub fn draw(&mut self) -> Result<u128, DrawFault>
         ensures value { IfOk result (λ drawn. drawn ≡ word self.old.key self.old.count) }

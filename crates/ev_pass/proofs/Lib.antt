@@ -1,3 +1,4 @@
+pub mod Keys
 pub mod Draws
 pub mod Ends
 pub mod Packs

@@ -10,7 +10,7 @@ use Rattle.def_machine.specs.Refs as refs
 use Rattle.def_machine.specs.Refs.{shape, shapes, shape_by, follow, place}
 use Rattle.def_machine.specs.State as machine
 use Rattle.def_machine.specs.State.{Vat, Done}
-use Rattle.def_machine.specs.Values.{Words, Value, Broken, Items, Local}
+use Rattle.def_machine.specs.Values.{Words, Value, Broken, Items, Local, key as gift_key}
 use Rattle.ev_refs.specs.Follow.{led, severed, followed, place_of}
 use Rattle.ev_refs.specs.Leading.{lists_in, members_at}
 use Rattle.ev_refs.specs.Reading.{text_by, value_by, place_by}
@@ -100,7 +100,7 @@ give_keeps a i = keeps_none i
 
 provide_keeps : (h : ℕ) (x : Reference) (i : Interior) → KeepsWhere i (provide h x i)
 unfolding provide code.◌>>=◌ code.◌>>◌
-provide_keeps h x i = keeps_then i (code.draw i) _ (draw_keeps i) (λ n j. keeps_then j (code.send_out h (Open n x) j) _ (put_keeps h (Open n x) j) (λ u k. give_keeps (Gift h n) k))
+provide_keeps h x i = keeps_then i (code.draw i) _ (draw_keeps i) (λ w j. let n = gift_key i.refs.me w in keeps_then j (code.send_out h (Open n x) j) _ (put_keeps h (Open n x) j) (λ u k. give_keeps (Gift h n) k))
 
 chosen_keeps : (b : Bool) (y : Held) (h : ℕ) (x : Reference) (i : Interior) → KeepsWhere i ((if b then code.give (Plain y) else provide h x) i)
 chosen_keeps true y h x i = give_keeps (Plain y) i
@@ -160,8 +160,8 @@ module _ (ts : List Words) (key : List ℕ) (line : Lines) (s : Vat Local) where
       → Stands (passed_by ts) (provide h x i) (machine.and_then (machine.draw (names_under key) (at i)) (λ n t. machine.and_then (machine.send_out h (machine.Open n (reference_by x)) t) (λ _. machine.give (machine.AGift h n))))
   unfolding provide code.◌>>=◌ code.◌>>◌ passed_by
   provide_is h x i good =
-      both_then ts key line s (λ n. n) (passed_by ts) (code.draw i) _ _ _ (draw_is ts key line s i good)
-      (λ n j e ready. both_then ts key line s (λ u. u) (passed_by ts) (code.send_out h (Open n x) j) _ _ _ (sent_out_is ts key line s h (Open n x) j ready)
+      both_then ts key line s (λ w. gift_key i.refs.me w) (passed_by ts) (code.draw i) _ _ _ (draw_is ts key line s i good)
+      (λ w j e ready. let n = gift_key i.refs.me w in both_then ts key line s (λ u. u) (passed_by ts) (code.send_out h (Open n x) j) _ _ _ (sent_out_is ts key line s h (Open n x) j ready)
       (λ u k g done. gives ts key line s (passed_by ts) (Gift h n) k done))
 
   chosen_is : (b : Bool) (y : Held) (h : ℕ) (x : Reference) (i : Interior) → Reads ts key i

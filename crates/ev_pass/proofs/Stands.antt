@@ -4,7 +4,7 @@ use Rattle.std.specs.Prelude.{slice_get}
 use Rattle.std.proofs.lemmas.List.{map-append}
 use Rattle.ev_heap.specs.declared.happened.Happened.{Happened as Event}
 use Rattle.ev_intro.specs.Word.{word}
-use Rattle.def_machine.specs.Values.{Words, Local, Prom, numbering}
+use Rattle.def_machine.specs.Values.{Words, Local, Prom, numbering, key as gift_key}
 use Rattle.def_machine.specs.State as machine
 use Rattle.def_machine.specs.State.{Vat, Done, Happened, drawn_at, ToTell, alter}
 use Rattle.ev_refs.specs.Changes.{with_told}
@@ -85,22 +85,21 @@ module _ (ts : List Words) (key : List ℕ) (line : Lines) (s : Vat Local) where
   abbrev drawn_then : Interior → ℕ → ℕ → Done Local ℕ
   drawn_then i n w = machine.draws {N = Local} w (drawn_at zero w (words_by i.words.key n)) (at i)
 
-  draws_is : (o : Option ℕ) (i : Interior) → Reads ts key i → Stands (λ n. n) (code.draws o i) (machine.draws (word i.words.key i.words.count) o (at i))
+  draws_is : (o : Option ℕ) (i : Interior) → Reads ts key i → Stands (λ w. gift_key i.refs.me w) (code.draws o i) (machine.draws (word i.words.key i.words.count) o (at i))
   unfolding code.draws machine.draws words_by
   draws_is None i good = (
     let next : suc i.words.count ≡ i.words.count + 1 = omega arith in
-        ap (λ (n : ℕ). machine.Gives n (record (at i) { drawn = words_by i.words.key (suc i.words.count) })) (so_many_words i.words.key i.words.count)
-        ∙ ap (λ (n : ℕ). machine.Gives i.words.count (record (at i) { drawn = words_by i.words.key n })) next,
+        ap (λ (n : ℕ). machine.Gives (gift_key i.refs.me (word i.words.key i.words.count)) (record (at i) { drawn = words_by i.words.key n })) next,
     record { known = good.known; heavy = good.heavy; texts = good.texts; drawn = good.drawn },
   )
   draws_is (Some j) i good = ap (λ (n : ℕ). machine.Stops (machine.Repeated j n) (at i)) (so_many_words i.words.key i.words.count)
 
-  pub draw_is : (i : Interior) → Reads ts key i → Stands (λ n. n) (code.draw i) (machine.draw (names_under key) (at i))
+  pub draw_is : (i : Interior) → Reads ts key i → Stands (λ w. gift_key i.refs.me w) (code.draw i) (machine.draw (names_under key) (at i))
   unfolding code.draw machine.draw numbering
   draw_is i good =
       let next : word key (length (words_by i.words.key i.words.count)) ≡ word i.words.key i.words.count =
       ap (λ (n : ℕ). word key n) (so_many_words i.words.key i.words.count) ∙ ap (λ (k : List ℕ). word k i.words.count) (sym good.drawn) in
-      subst (λ (w : ℕ). Stands (λ n. n) (code.draw i) (machine.draws w (drawn_at zero w (words_by i.words.key i.words.count)) (at i))) (sym next)
+      subst (λ (w : ℕ). Stands (λ x. gift_key i.refs.me x) (code.draw i) (machine.draws w (drawn_at zero w (words_by i.words.key i.words.count)) (at i))) (sym next)
       (draws_is (drawn_at zero (word i.words.key i.words.count) (words_by i.words.key i.words.count)) i good)
 
   -- ---- a vat that is to be told

@@ -83,7 +83,7 @@ words_by key zero = []
 words_by key (suc n) = words_by key n ++ word key n ∷ []
 
 unfoldable pub draws : Option ℕ → Act ℕ
-draws None s = (Ok s.words.count, record s { words = record s.words { count = s.words.count + 1 } })
+draws None s = (Ok (word s.words.key s.words.count), record s { words = record s.words { count = s.words.count + 1 } })
 draws (Some i) s = (Err (Repeated i s.words.count), s)
 
 -- the next word is drawn; one that was drawn before is a stop

@@ -1,6 +1,8 @@
 -- What a clause sees of notes: which they are, without where their parts lie in memory.
 use Rattle.std.specs.Prelude.{ℕ, Bool, List, [], ◌∷◌, map}
 use Rattle.ev_base.specs.declared.values.Value.{Value}
+use Rattle.def_machine.specs.Values.{key}
+use Rattle.ev_pass.specs.declared.draw.Swiss.{Swiss}
 use Rattle.ev_pass.specs.declared.note.Reference.{Reference}
 use Rattle.ev_pass.specs.declared.note.Passed.{Passed, fold-Passed}
 use Rattle.ev_pass.specs.declared.note.Passed.TheOpen.{Passed-F}
@@ -8,7 +10,11 @@ use Rattle.ev_pass.specs.declared.note.Note.{Note}
 use Rattle.ev_pass.specs.declared.note.Note.TheVariants as note
 use Rattle.ev_pass.specs.declared.post.Put.{Put}
 
--- a value as it passes
+-- provider and word in one number
+abbrev pub key_of : Swiss → ℕ
+key_of s = key s.provider s.word
+
+-- a value as it passes, each gift under its key
 mutual
   pub data Parcel : Type 0 where
     Plain : Value → Parcel
@@ -23,13 +29,13 @@ mutual
 pub data Noted : Type 0 where
   -- message, whether it asks for an answer, target, verb, arguments
   Deliver : ℕ → Bool → Reference → List ℕ → Parcels → Noted
-  -- word, what the gift is
+  -- key, what the gift is
   Open : ℕ → Reference → Noted
-  -- provider, word, the asker's name
+  -- provider, key, the asker's name
   Ask : ℕ → ℕ → ℕ → Noted
   Settled : ℕ → Parcel → Noted
   Elsewhere : ℕ → ℕ → Noted
-  -- name, host, word
+  -- name, host, key
   Shorten : ℕ → ℕ → ℕ → Noted
 
 pub record Sent : Type 0 where
@@ -43,7 +49,7 @@ parcels (p ∷ ps) = More p (parcels ps)
 -- one level, with each member already seen
 abbrev pub parcel_step : Passed-F Parcel → Parcel
 parcel_step (Passed-F.Plain v) = Plain v
-parcel_step (Passed-F.Gift h i) = Gift h i
+parcel_step (Passed-F.Gift h i) = Gift h (key_of i)
 parcel_step (Passed-F.List v) = Many (parcels v.items)
 
 abbrev pub parcel : Passed → Parcel
@@ -54,11 +60,11 @@ all_parcels ps = parcels (map parcel ps)
 
 abbrev pub noted : Note → Noted
 noted (note.Deliver message asks target verb args) = Deliver message asks target verb (all_parcels args.items)
-noted (note.Open i x) = Open i x
-noted (note.Ask p i n) = Ask p i n
+noted (note.Open i x) = Open (key_of i) x
+noted (note.Ask p i n) = Ask p (key_of i) n
 noted (note.Settled n p) = Settled n (parcel p)
 noted (note.Elsewhere n c) = Elsewhere n c
-noted (note.Shorten n c i) = Shorten n c i
+noted (note.Shorten n c i) = Shorten n c (key_of i)
 
 abbrev pub sent : Put → Sent
 sent p = record { to = p.to; note = noted p.note }

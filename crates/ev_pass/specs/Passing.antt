@@ -2,6 +2,7 @@
 use Rattle.std.specs.Prelude.{ℕ, zero, suc, ◌==◌, if◌then◌else◌, List, [], ◌∷◌, Result, Ok, Err}
 use Rattle.ev_base.specs.declared.values.Value.{Value}
 use Rattle.ev_base.specs.declared.values.Value.TheVariants as held
+use Rattle.def_machine.specs.Values.{key}
 use Rattle.ev_refs.specs.Follow.{followed, place_of}
 use Rattle.ev_refs.specs.Leading.{lists_in, members_at}
 use Rattle.ev_refs.specs.declared.follow.Place.{Place}
@@ -14,12 +15,12 @@ use Rattle.ev_pass.specs.declared.measure.Weighed.{Weighed}
 use Rattle.ev_pass.specs.declared.note.Reference.{Reference}
 use Rattle.ev_pass.specs.declared.note.Reference.TheVariants as reference
 
--- a gift at that host, of which the host is told
+-- a gift at that host, of which the host is told; this vat provides it
 unfoldable pub provide : ℕ → Reference → Act Parcel
-provide h x = do
-  i ← draw
-  send_out h (Open i x)
-  give (Gift h i)
+provide h x = λ s. (do
+  w ← draw
+  send_out h (Open (key s.refs.me w) x)
+  give (Gift h (key s.refs.me w))) s
 
 -- a name of that host passes as itself to the host, and else as a gift
 unfoldable pub introduce : ℕ → Value → ℕ → Reference → Act Parcel

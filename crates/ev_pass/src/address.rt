@@ -7,6 +7,7 @@ ghost use Rattle.ev_pass.specs.Notes.{Many, Plain, all_parcels, parcel};
 ghost use Rattle.ev_base.specs.declared.values.Value.TheVariants.{Broken};
 ghost use Rattle.ev_pass.specs.Passing.{address_plain, introduce, pack, pack_end, pack_list, packs, provide};
 
+use crate::draw::Swiss;
 use crate::interior::{Interior, Stop};
 use crate::measure::members_in;
 use crate::note::{Note, Passed, Reference};
@@ -41,9 +42,10 @@ impl Interior {
     fn provide(&mut self, host: VatId, reference: Reference) -> Result<Passed, Stop>
         ensures { Shows parcel result self.new (provide host reference self.old) }
     {
-        let swiss = self.draw()?;
-        self.send_out(host, Note::Open(swiss, reference))?;
-        Ok(Passed::Gift(host, swiss))
+        let provider = self.refs.me();
+        let word = self.draw()?;
+        self.send_out(host, Note::Open(Swiss { provider, word }, reference))?;
+        Ok(Passed::Gift(host, Swiss { provider, word }))
     }
 
     /// A name of that host passes to a vat: as itself to the host, and else as a gift.

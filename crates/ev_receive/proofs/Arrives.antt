@@ -6,6 +6,7 @@ use Rattle.def_machine.specs.Refs as refs
 use Rattle.def_machine.specs.State as machine
 use Rattle.def_machine.specs.State.{Vat}
 use Rattle.def_machine.specs.Values.{Words, Local, Mess, Prom}
+use Rattle.ev_pass.specs.Notes.{key_of}
 use Rattle.ev_pass.specs.Reading.{Lines, Reads, names_under, reference_by}
 use Rattle.ev_refs.specs.Reading.{value_by}
 use Rattle.ev_settle.specs.Performing.{Tells}
@@ -35,7 +36,7 @@ module _ (ts : List Words) (key : List ℕ) (line : Lines) (s : Vat Local) (tell
   at h = host_at ts line h s
 
   pub deliver_is : (from : ℕ) (m : Carried) (asks : Bool) (x : Incoming) (verb : Words) (ps : Parts) (h : Host) → Reads ts key h.inside
-      → Stands ts key line s (λ u. u) (arrive_deliver from m asks x verb ps h) (arrive.arrive_deliver (names_under key) from (record { message = carried_by n m; asks = asks }) (incoming_by n x) verb (parts_by ts n ps) (at h))
+      → Stands ts key line s (λ u. u) (arrive_deliver from m asks x verb ps h) (arrive.arrive_deliver (names_under key) from (record { message = carried_by n m; asks = asks }) (incoming_by n x) verb (parts_by ts from n ps) (at h))
   unfolding arrive_deliver arrive.arrive_deliver ◌>>=◌ machine.◌>>=◌
   deliver_is from m asks x verb ps h good =
       both_then ts key line s Mess (λ u. u) (learn_message m h) _ _ _ (message_is ts key line s tells n m h good)
@@ -47,7 +48,7 @@ module _ (ts : List Words) (key : List ℕ) (line : Lines) (s : Vat Local) (tell
   settle_here p v h good = inside_is ts key line s (λ u. u) (settle p v) h _ (settles_is ts key line (with_gifts h.gifts s) tells p v h.inside good)
 
   pub settled_is : (from : ℕ) (x : Subject) (b : Part) (h : Host) → Reads ts key h.inside
-      → Stands ts key line s (λ u. u) (arrive_settled from x b h) (arrive.arrive_settled (names_under key) from (subject_by n x) (part_by ts n b) (at h))
+      → Stands ts key line s (λ u. u) (arrive_settled from x b h) (arrive.arrive_settled (names_under key) from (subject_by n x) (part_by ts from n b) (at h))
   unfolding arrive_settled arrive.arrive_settled ◌>>=◌ machine.◌>>=◌
   settled_is from x b h good =
       both_then ts key line s Prom (λ u. u) (learn_subject x h) _ _ _ (subject_is ts key line s n x h good)
@@ -55,11 +56,11 @@ module _ (ts : List Words) (key : List ℕ) (line : Lines) (s : Vat Local) (tell
       (λ v k f second. settle_here p v k second))
 
   pub arrives_is : (x : Name) (c from : ℕ) (note : Heard) (h : Host) → Reads ts key h.inside
-      → Stands ts key line s (λ u. u) (noting.arrive from note h) (arrive.arrive (names_under key) from (heard_by ts n x c note) (at h))
+      → Stands ts key line s (λ u. u) (noting.arrive from note h) (arrive.arrive (names_under key) from (heard_by ts n x c from note) (at h))
   unfolding noting.arrive arrive.arrive
   arrives_is x c from (Deliver m asks t verb args) h good = deliver_is from m asks t verb (all_parts args.items) h good
   arrives_is x c from (Open i t) h good = opens_is ts key line s tells from i n t h good
   arrives_is x c from (Ask p i) h good = asks_is ts key line s tells from p i h good
   arrives_is x c from (Settled t y) h good = settled_is from t (part y) h good
   arrives_is x c from (Elsewhere t d) h good = elsewhere_is ts key line s tells n t d h good
-  arrives_is x c from (Shorten t i) h good = shortens_is ts key line s n t i h good
+  arrives_is x c from (Shorten t i) h good = shortens_is ts key line s n t (key_of i) h good

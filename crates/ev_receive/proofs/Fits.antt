@@ -9,6 +9,7 @@ use Rattle.ev_base.specs.declared.values.Value.TheVariants as held
 use Rattle.ev_heap.specs.Contents.{Contents, height_of, is_light, listed, most_weight, weight_in, height_in, weight_of}
 use Rattle.ev_heap.specs.declared.kept.Listed.{Listed}
 use Rattle.def_machine.specs.State.{is_in}
+use Rattle.def_machine.specs.Values.{key}
 use Rattle.ev_pass.specs.Acts as inner
 use Rattle.ev_pass.specs.Acts.{send_out}
 use Rattle.ev_pass.specs.Notes.{Ask}
@@ -150,7 +151,7 @@ asked_by p a i n c false k e = refl
 
 asks_stays : (p a i n c : ℕ) (k : Host) → slice_get k.inside.refs.known n ≡ Some (unsettled_of c) → Stays k.inside.heap (ask_for p a i n k)
 unfolding ask_for
-asks_stays p a i n c k e = asked_by p a i n c (is_in a k.inside.refs.noticed) k e
+asks_stays p a i n c k e = asked_by p a (key p i) n c (is_in a k.inside.refs.noticed) k e
 
 then_given : {A : Type 0} (h : Contents) (o : Out A) (n : ℕ) → Stays h o → Stays h (and_then o (λ _. give n))
 unfolding and_then give
@@ -246,3 +247,12 @@ is_learnt h d w (Err e, k) r = absurd r
 
 pub fits_learnt : (from : ℕ) (p : Part) (k : Host) → Fits k.inside.heap 100 p → (v : Value) × ((j : Host) × (learn 100 from p k ≡ (Ok v, j)))
 fits_learnt from p k f = is_learnt k.inside.heap 100 (part_weight k.inside.heap p) (learn 100 from p k) (part_learnt k.inside.heap 100 from p k (λ e w v s. s) (omega arith) f)
+
+are_learnt : (h : Contents) (d w : ℕ) (o : Out (List Value)) → AllLearnt h d w o → (vs : List Value) × ((k : Host) × (o ≡ (Ok vs, k)))
+are_learnt h d w (Ok vs, k) r = (vs, (k, refl))
+are_learnt h d w (Err e, k) r = absurd r
+
+-- the same of several, from left to right
+pub all_fit_learnt : (from : ℕ) (ps : Parts) (k : Host) → AllFit k.inside.heap 100 ps → (vs : List Value) × ((j : Host) × (learn_each (learn 100 from) ps k ≡ (Ok vs, j)))
+all_fit_learnt from ps k f =
+    are_learnt k.inside.heap 100 (parts_weight k.inside.heap ps) (learn_each (learn 100 from) ps k) (parts_learnt k.inside.heap 100 from ps k (λ e w v s. s) (omega arith) f)

@@ -9,7 +9,7 @@ use Rattle.ev_heap.specs.declared.kept.Listed.{Listed}
 use Rattle.def_machine.specs.Arrive as arrive
 use Rattle.def_machine.specs.State as machine
 use Rattle.def_machine.specs.State.{Vat, Done, ListCame}
-use Rattle.def_machine.specs.Values.{Words, Value, Null, Flag, Number, Letter, Text, Prim, Broken, Items, Ref, Local, Prom}
+use Rattle.def_machine.specs.Values.{Words, Value, Null, Flag, Number, Letter, Text, Prim, Broken, Items, Ref, Local, Prom, key as gift_key}
 use Rattle.ev_pass.specs.Acts as code
 use Rattle.ev_pass.specs.Reading.{Lines, Reads, StandsFor, names_under, vat_at}
 use Rattle.ev_pass.specs.declared.interior.Interior.{Interior}
@@ -110,14 +110,14 @@ module _ (ts : List Words) (key : List ℕ) (line : Lines) (s : Vat Local) (tell
       both_then ts key line s Prom (value_by ts) (within (come c) h) _ _ _ (learnt_is ts key line s n c h good)
       (λ m j e next. gives ts key line s (value_by ts) (held.Prom m) j next)
 
-  given_here : (from c i : ℕ) (h : Host) → Reads ts key h.inside → Stands ts key line s (value_by ts) (learn_given from c i h) (arrive.learn_gift (names_under key) from c i (at h))
+  given_here : (from c i : ℕ) (h : Host) → Reads ts key h.inside → Stands ts key line s (value_by ts) (learn_given from c i h) (arrive.learn_gift (names_under key) from c (gift_key from i) (at h))
   unfolding learn_given ◌>>=◌
   given_here from c i h good = named (learn_gift from c i h) _ (gift_is ts key line s tells from c i h good)
 
   mutual
     unfolding learn learn_part learn_list part_by parts_by learn_each arrive.learn arrive.learn_all ◌>>=◌ machine.◌>>=◌ within code.fail
 
-    pub part_is : (d from : ℕ) (b : Part) (h : Host) → Reads ts key h.inside → Stands ts key line s (value_by ts) (learn d from b h) (arrive.learn (names_under key) from (part_by ts n b) (at h))
+    pub part_is : (d from : ℕ) (b : Part) (h : Host) → Reads ts key h.inside → Stands ts key line s (value_by ts) (learn d from b h) (arrive.learn (names_under key) from (part_by ts from n b) (at h))
     part_is d from (Plain v) h good = known_here v h good
     part_is d from (New c) h good = new_here c h good
     part_is d from (Gift c i) h good = given_here from c i h good
@@ -127,7 +127,7 @@ module _ (ts : List Words) (key : List ℕ) (line : Lines) (s : Vat Local) (tell
         (λ vs j e next. inside_is ts key line s (value_by ts) (make_list vs) j _ (makes_is ts key line (with_gifts j.gifts s) lists vs j.inside next))
 
     pub parts_are : (d from : ℕ) (bs : Parts) (h : Host) → Reads ts key h.inside
-        → Stands ts key line s (map (value_by ts)) (learn_each (learn d from) bs h) (arrive.learn_all (names_under key) from (parts_by ts n bs) (at h))
+        → Stands ts key line s (map (value_by ts)) (learn_each (learn d from) bs h) (arrive.learn_all (names_under key) from (parts_by ts from n bs) (at h))
     parts_are d from NoMore h good = gives ts key line s (map (value_by ts)) [] h good
     parts_are d from (More b bs) h good =
         both_then ts key line s (value_by ts) (map (value_by ts)) (learn d from b h) _ _ _ (part_is d from b h good)

@@ -1,5 +1,6 @@
 -- What a vat does with each note that arrives, in the code's terms.
 use Rattle.std.specs.Prelude.{ℕ}
+use Rattle.ev_pass.specs.Notes.{key_of}
 use Rattle.ev_arrive.specs.Acts.{Act}
 use Rattle.ev_arrive.specs.Arriving.{arrive_open, arrive_ask}
 use Rattle.ev_receive.specs.Bringing.{all_parts, part}
@@ -15,4 +16,4 @@ arrive from (Open i x) = arrive_open from i x
 arrive from (Ask p i) = arrive_ask from p i
 arrive from (Settled x y) = arrive_settled from x (part y)
 arrive from (Elsewhere x c) = arrive_elsewhere x c
-arrive from (Shorten x i) = arrive_shorten x i
+arrive from (Shorten x i) = arrive_shorten x (key_of i)

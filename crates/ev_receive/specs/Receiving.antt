@@ -2,6 +2,7 @@
 use Rattle.std.specs.Prelude.{ℕ, Bool, true, false, Option, Some, None, ◌==◌, is_some, if◌then◌else◌}
 use Rattle.ev_base.specs.declared.values.Value.TheVariants as held
 use Rattle.ev_intro.specs.Gift.{find}
+use Rattle.ev_intro.specs.Word.{word}
 use Rattle.def_machine.specs.State.{is_in}
 use Rattle.ev_pass.specs.Acts.{draw}
 use Rattle.ev_refs.specs.Follow.{host_of}
@@ -49,9 +50,9 @@ unfoldable pub host_by : Subject → References → ℕ
 host_by (subject.Known n) r = host_of r n
 host_by (subject.New v) r = v
 
--- the vat hosts or knows the gift at host c, of provider p, that the next draw names
+-- the vat hosts or knows the gift at host c, of provider p, under the word of the next draw
 unfoldable pub has_gift : Sight → ℕ → ℕ → Host → Bool
-has_gift see c p h = if c == h.inside.refs.me then is_some (find p h.inside.words.count h.gifts) else see.known
+has_gift see c p h = if c == h.inside.refs.me then is_some (find p (word h.inside.words.key h.inside.words.count) h.gifts) else see.known
 
 -- the name settled at a vat that is not noticed, and its view would be a gift that the vat has
 unfoldable pub leads_back : Sight → Heard → Host → Bool

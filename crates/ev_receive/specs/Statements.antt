@@ -23,20 +23,20 @@ use Rattle.ev_receive.specs.declared.brought.Heard.{Heard}
 
 abbrev pub LearnsAsTheMachine : Type 0
 LearnsAsTheMachine = (ts : List Words) (key : List ℕ) (line : Lines) (s : Vat Local) (h : Host) (n : Local) (from : ℕ) (b : Brought) → Tells ts line → TellsLists ts line → Reads ts key h.inside
-    → Stands ts key line s (value_by ts) (learn 100 from (part b) h) (machine.learn (names_under key) from (part_by ts n (part b)) (host_at ts line h s))
+    → Stands ts key line s (value_by ts) (learn 100 from (part b) h) (machine.learn (names_under key) from (part_by ts from n (part b)) (host_at ts line h s))
 
 abbrev pub DeliversNotesAsTheMachine : Type 0
 DeliversNotesAsTheMachine = (ts : List Words) (key : List ℕ) (line : Lines) (s : Vat Local) (h : Host) (n : Local) (from : ℕ) (m : Carried) (asks : Bool) (x : Incoming) (verb : Words) (ps : Parts) → Tells ts line → TellsLists ts line → Reads ts key h.inside
-    → Stands ts key line s (λ u. u) (arrive_deliver from m asks x verb ps h) (machine.arrive_deliver (names_under key) from (record { message = carried_by n m; asks = asks }) (incoming_by n x) verb (parts_by ts n ps) (host_at ts line h s))
+    → Stands ts key line s (λ u. u) (arrive_deliver from m asks x verb ps h) (machine.arrive_deliver (names_under key) from (record { message = carried_by n m; asks = asks }) (incoming_by n x) verb (parts_by ts from n ps) (host_at ts line h s))
 
 abbrev pub SettlesAsTheMachine : Type 0
 SettlesAsTheMachine = (ts : List Words) (key : List ℕ) (line : Lines) (s : Vat Local) (h : Host) (n : Local) (from : ℕ) (x : Subject) (b : Part) → Tells ts line → TellsLists ts line → Reads ts key h.inside
-    → Stands ts key line s (λ u. u) (arrive_settled from x b h) (machine.arrive_settled (names_under key) from (subject_by n x) (part_by ts n b) (host_at ts line h s))
+    → Stands ts key line s (λ u. u) (arrive_settled from x b h) (machine.arrive_settled (names_under key) from (subject_by n x) (part_by ts from n b) (host_at ts line h s))
 
 abbrev pub ArrivesAsTheMachine : Type 0
 ArrivesAsTheMachine = (ts : List Words) (key : List ℕ) (line : Lines) (s : Vat Local) (h : Host) (n : Local) (x : Name) (c : ℕ) (from : ℕ) (note : Heard) → Tells ts line → TellsLists ts line → Reads ts key h.inside
-    → Stands ts key line s (λ u. u) (arrive from note h) (machine.arrive (names_under key) from (heard_by ts n x c note) (host_at ts line h s))
+    → Stands ts key line s (λ u. u) (arrive from note h) (machine.arrive (names_under key) from (heard_by ts n x c from note) (host_at ts line h s))
 
 abbrev pub ReceivesAsTheMachine : Type 0
 ReceivesAsTheMachine = (ts : List Words) (key : List ℕ) (line : Lines) (s : Vat Local) (h : Host) (n : Local) (x : Name) (c : ℕ) (sight : receiving.Sight Local) (from : ℕ) (see : Sight) (note : Heard) → Tells ts line → TellsLists ts line → Reads ts key h.inside → Sees sight h note see
-    → Stands ts key line s (λ u. u) (receive from see note h) (receiving.receive (names_under key) sight from (heard_by ts n x c note) (host_at ts line h s))
+    → Stands ts key line s (λ u. u) (receive from see note h) (receiving.receive (names_under key) sight from (heard_by ts n x c from note) (host_at ts line h s))

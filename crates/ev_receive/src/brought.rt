@@ -12,8 +12,8 @@ pub enum Brought {
     Plain(Value),
     /// A name that the vat comes to know, of that vat.
     New(VatId),
-    /// A gift at that vat, which the sender provides.
-    Gift(VatId, Swiss),
+    /// A gift at that vat, which the sender provides under that word.
+    Gift(VatId, u128),
     /// A list, by its members.
     List(Vec<Brought>),
 }
@@ -30,13 +30,13 @@ pub enum Heard {
         args: Vec<Brought>,
     },
     /// The sender's gift under that word is this.
-    Open(Swiss, Incoming),
+    Open(u128, Incoming),
     /// The gift of that provider under that word is asked for.
-    Ask(VatId, Swiss),
+    Ask(VatId, u128),
     /// A name settled to that.
     Settled(Subject, Brought),
     /// A name settled to an object of that vat.
     Elsewhere(Subject, VatId),
-    /// The object that the name settled to is wanted as a gift under that word.
+    /// The object that the name settled to is wanted as a gift, which this vat is to provide.
     Shorten(Incoming, Swiss),
 }

@@ -13,7 +13,7 @@ use ev_arrive::delivering::learn_gift;
 use ev_arrive::host::{Host, come};
 use ev_base::{ListId, Seq, Value, VatId};
 use ev_heap::{Happened, Heap, ListFault};
-use ev_pass::{Interior, Stop, Swiss};
+use ev_pass::{Interior, Stop};
 
 /// The most lists in each other that arrive.
 const MOST_HEIGHT: u64 = 100;
@@ -113,10 +113,10 @@ fn learn_new(host: &mut Host, vat: VatId) -> Result<Value, Stop>
 
 /// A gift at that vat comes to be known, which the sender provides.
 #[tactic(auto, using(ev_arrive::proofs::Ends::ends), unfolding(crate::specs::Learning::learn_given, ev_arrive::specs::Acts::opened_acts))]
-fn learn_given(host: &mut Host, from: VatId, at: VatId, swiss: Swiss) -> Result<Value, Stop>
-    ensures { Gives result host.new (learn_given from at swiss host.old) }
+fn learn_given(host: &mut Host, from: VatId, at: VatId, word: u128) -> Result<Value, Stop>
+    ensures { Gives result host.new (learn_given from at word host.old) }
 {
-    let name = learn_gift(host, from, at, swiss)?;
+    let name = learn_gift(host, from, at, word)?;
     Ok(Value::Prom(name))
 }
 
@@ -129,7 +129,7 @@ fn learn_in(host: &mut Host, depth: u64, from: VatId, brought: &Brought) -> Resu
     match brought {
         Brought::Plain(value) => Ok(*value),
         Brought::New(vat) => learn_new(host, *vat),
-        Brought::Gift(at, swiss) => learn_given(host, from, *at, *swiss),
+        Brought::Gift(at, word) => learn_given(host, from, *at, *word),
         Brought::List(members) => learn_list(host, depth, from, members.as_slice()),
     }
 }

@@ -12,7 +12,7 @@ use ev_arrive::gifts::is_opened;
 use ev_arrive::host::{Host, Subject, learn_subject, settle_name};
 use ev_arrive::viewing::{draw, host_of};
 use ev_base::{PromId, Value, VatId};
-use ev_pass::{Stop, Swiss};
+use ev_pass::Stop;
 use ev_refs::Standing;
 
 /// What a vat's connections and names tell of a note that comes in, besides what its inside and the gifts that it hosts tell.
@@ -40,10 +40,10 @@ fn was_told(host: &Host, subject: Subject) -> bool
 }
 
 /// Whether a gift is there, and its name has a number for the asker.
-fn has_number(host: &Host, sight: Sight, provider: VatId, swiss: Swiss) -> bool
-    ensures { result ≡ has_number sight.numbered (find provider swiss host.now.gifts) }
+fn has_number(host: &Host, sight: Sight, provider: VatId, word: u128) -> bool
+    ensures { result ≡ has_number sight.numbered (find provider word host.now.gifts) }
 {
-    match host.gifts.find(provider, swiss.0 as u128) {
+    match host.gifts.find(provider, word) {
         Some(_) => sight.numbered,
         None => false,
     }
@@ -56,8 +56,8 @@ fn tells_nothing(host: &Host, from: VatId, sight: Sight, note: &Heard) -> bool
     ensures { result ≡ tells_nothing from sight note.now host.now }
 {
     match note {
-        Heard::Open(swiss, _) => is_opened(host, from, *swiss),
-        Heard::Ask(provider, swiss) => has_number(host, sight, *provider, *swiss),
+        Heard::Open(word, _) => is_opened(host, from, *word),
+        Heard::Ask(provider, word) => has_number(host, sight, *provider, *word),
         Heard::Settled(subject, _) | Heard::Elsewhere(subject, _) => was_told(host, *subject),
         Heard::Deliver { .. } | Heard::Shorten(_, _) => false,
     }
@@ -82,7 +82,7 @@ fn has_gift(host: &Host, sight: Sight, at: VatId, provider: VatId) -> bool
     if at == host.inside.refs.me() {
         return host
             .gifts
-            .find(provider, host.inside.words.count() as u128)
+            .find(provider, host.inside.words.next())
             .is_some();
     }
     sight.known

@@ -20,6 +20,17 @@ ends Astray room o f h = rw h refl
 ends Unbuilt room o f h = rw h refl
 ends Memory room o f h = tt
 
+-- a fact that follows from one that holds unless memory ran out
+pub unless_as : {X Y : Type 0} (e : Exit) → (X → Y) → Unless e X → Unless e Y
+unless_as (Thrown id) f h = f h
+unless_as (Ejected n v) f h = f h
+unless_as Fuel f h = f h
+unless_as Deep f h = f h
+unless_as (Repeated i j) f h = f h
+unless_as Astray f h = f h
+unless_as Unbuilt f h = f h
+unless_as Memory f h = tt
+
 without : {A : Type 0} (q : Result A Exit) (room t : Room) (o : Out A) → Gives q t (Err Memory, room) → Gives q t o
 without {A = A} (Ok a) room t o h = absurd (cc (ap (λ (p : Out A). p.0) h))
 without {A = A} (Err (Thrown id)) room t o h = absurd (cc (ap (λ (p : Out A). p.0) h))

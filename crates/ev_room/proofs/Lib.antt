@@ -1,7 +1,10 @@
 pub mod Cells
 pub mod Ejectors
 pub mod Exits
+pub mod Forming
 pub mod Fronts
 pub mod Guarding
+pub mod Places
+pub mod Stamped
 pub mod There
 pub mod Things

@@ -1,5 +1,5 @@
 -- What single acts of evaluation do to the state of the code: fuel, lines, var slots, nouns, texts, lists and objects.
-use Rattle.std.specs.Prelude.{◌≡◌, ◌==◌, ℕ, ◌-◌, Bool, true, false, if◌then◌else◌, nat_le, List, [], ◌∷◌, ◌++◌, Some, None, Result, Ok, Err, map, length, take, slice_get, slice_set, codes}
+use Rattle.std.specs.Prelude.{◌≡◌, ◌==◌, ℕ, ◌-◌, Bool, true, false, if◌then◌else◌, nat_le, List, [], ◌∷◌, ◌++◌, Some, None, Result, Ok, Err, map, length, take, slice_get, slice_set, option_map, codes}
 use Rattle.std.specs.declared.option.Option.{Option}
 use Rattle.std.specs.Str.{bytes_eq}
 use Rattle.ev_base.specs.declared.values.Value.{Value}
@@ -17,14 +17,22 @@ use Rattle.ev_heap.specs.declared.kept.Shape.{Shape}
 use Rattle.ev_heap.specs.declared.kept.Shape.TheVariants as shape
 use Rattle.ev_heap.specs.declared.kept.Thing.{Thing}
 use Rattle.ev_kernel_printer.specs.FreeNames.{free_names}
-use Rattle.def_machine.specs.Scopes.{name_of}
+use Rattle.def_machine.specs.Scopes.{name_of, own_noun, is_auditor, approves}
+use Rattle.def_machine.specs.Native.{primitive}
+use Rattle.ev_audit.specs.Frozen.{stamps_at}
+use Rattle.ev_audit.specs.Stamps.{bears}
+use Rattle.ev_audit.specs.Views.{free_held, told_at}
+use Rattle.ev_audit.specs.Views.{view_of as seen_of}
+use Rattle.ev_heap.specs.declared.kept.AuditView.{AuditView}
+use Rattle.ev_heap.specs.declared.kept.FreeName.{FreeName}
+use Rattle.ev_prims.specs.Reading.{text_in}
 use Rattle.ev_integer.specs.declared.arithmetic.NumFault.TheVariants.{Overflow, ZeroDivisor, NegativePower}
 use Rattle.ev_heap.specs.Contents.{Contents, listed, is_light}
 use Rattle.ev_prims.specs.declared.problem.Problem.{Problem}
 use Rattle.ev_prims.specs.declared.problem.Problem.TheVariants.{NoMethod, Arithmetic, NotInt, NotChar, NotBoolean, NotText, NotList, OutOfRange, BadArgument, NotComparable, TooHeavy, Unthrowable, DeadEjector}
-use Rattle.ev_room.specs.Sound.{is_there, are_there, no_guard, capture_of, plain_thing}
+use Rattle.ev_room.specs.Sound.{not_an_auditor_id, not_free_id, is_there, are_there, no_guard, capture_of, object_thing}
 use Rattle.ev_room.specs.declared.object.Code.{Code}
-use Rattle.ev_room.specs.declared.object.Code.TheVariants.{Runs, Leaves, Resolves}
+use Rattle.ev_room.specs.declared.object.Code.TheVariants.{Runs, Leaves, Resolves, Audits}
 use Rattle.ev_room.specs.declared.exit.Exit.{Exit}
 use Rattle.ev_room.specs.declared.exit.Exit.TheVariants.{Thrown, Ejected, Fuel, Deep, Repeated, Astray, Unbuilt, Memory}
 use Rattle.ev_room.specs.declared.exit.Came.{Came}
@@ -312,29 +320,40 @@ unfoldable pub captures : List Binding → List Binding → List Words → List 
 captures so_far bs [] = so_far
 captures so_far bs (x ∷ xs) = captures (with_bound so_far x (found_from None bs x)) bs xs
 
-unfoldable pub new_object : ℕ → List Binding → Act ℕ
-new_object node bs = λ s. (Ok (length s.heap.things), record s { heap = record s.heap { things = s.heap.things ++ plain_thing (record { node = node; nouns = bs }) ∷ [] } })
+unfoldable pub new_object : ℕ → List Binding → List Value → Act ℕ
+new_object node bs stamps = λ s. (Ok (length s.heap.things), record s { heap = record s.heap { things = s.heap.things ++ object_thing (record { node = node; nouns = bs }) stamps ∷ [] } })
 
 -- the scope in which an object's name is bound to it
 unfoldable pub named : Option Node → ℕ → Scope → Scope
 named (Some (Final x g)) me here = with_noun x (Fixed (held.Obj me) no_guard) here
 named _ me here = here
 
-unfoldable pub object_made : ℕ → Words → List Binding → ℕ → Scope → Act (Value × Scope)
-object_made node x bs me here = do
-  i ← new_object node bs
-  tell (event.Made here.act (held.Obj me) x (map (λ b. capture_of b.bound) bs) [])
+unfoldable pub object_made : ℕ → Words → List Binding → List Value → ℕ → Scope → Act (Value × Scope)
+object_made node x bs stamps me here = do
+  i ← new_object node bs stamps
+  tell (event.Made here.act (held.Obj me) x (map (λ b. capture_of b.bound) bs) stamps)
   give (held.Obj me, here)
 
-unfoldable pub object_in : ℕ → Words → List Words → ℕ → Scope → Act (Value × Scope)
-object_in node x free me here = object_made node x (captures [] here.nouns free) me here
+unfoldable pub object_in : ℕ → Words → List Words → List Value → ℕ → Scope → Act (Value × Scope)
+object_in node x free stamps me here = object_made node x (captures [] here.nouns free) stamps me here
 
-unfoldable pub make_object : ℕ → Option Node → List Words → Scope → Act (Value × Scope)
-make_object node p free here = λ s. object_in node (name_of p) free (length s.heap.things) (named p (length s.heap.things) here) s
+unfoldable pub object_as : ℕ → Option Node → List Words → List Value → Scope → Act (Value × Scope)
+object_as node p free stamps here = λ s. object_in node (name_of p) free stamps (length s.heap.things) (named p (length s.heap.things) here) s
 
-unfoldable pub object_node : List Node → ℕ → ℕ → List ℕ → Scope → Act (Value × Scope)
-object_node tree id p [] here = make_object id (slice_get tree p) (free_names tree id) here
-object_node tree id p (a ∷ as') here = fail Unbuilt
+-- an object of the expression at a node comes to be, with these stamps
+unfoldable pub object_at : List Node → ℕ → ℕ → List Value → Scope → Act (Value × Scope)
+object_at tree id p stamps here = object_as id (slice_get tree p) (free_names tree id) stamps here
+
+-- what an auditor may know of a name of an object that is being made in that scope
+abbrev pub name_seen : Option Words → List Binding → Words → FreeName
+name_seen own bs x = free_held own x (option_map capture_of (found_from None bs x))
+
+abbrev pub view_of : ℕ → Option Node → List Words → List Binding → AuditView
+view_of node p free bs = record { node = node; names = map (name_seen (own_noun p) bs) free }
+
+-- the view of an object of the expression at a node, in a scope
+unfoldable pub view_at : List Node → ℕ → ℕ → Scope → AuditView
+view_at tree id p here = view_of id (slice_get tree p) (free_names tree id) here.nouns
 
 unfoldable pub suits : Words → ℕ → Option Node → Bool
 suits verb n (Some (Method v ps b)) = if bytes_eq v verb then length ps == n else false
@@ -345,12 +364,13 @@ unfoldable pub first_method : List Node → List ℕ → Words → ℕ → Optio
 first_method tree [] verb n = None
 first_method tree (m ∷ ms) verb n = if suits verb n (slice_get tree m) then slice_get tree m else first_method tree ms verb n
 
--- the code of what is called: of an object with its captures, of an ejector that is alive or dead, or of a resolver
+-- the code of what is called: of an object with its captures, of an ejector that is alive or dead, of a resolver, or of an audition
+-- that is alive or dead
 unfoldable pub code_of : Shape → Bool → Result Code Exit
 code_of (shape.Made node caught stamps) live = Ok (Runs (record { node = node; nouns = map binding_back caught }))
 code_of shape.Ejector live = Ok (Leaves live)
 code_of (shape.Resolver p) live = Ok (Resolves p)
-code_of (shape.Audition view) live = Err Unbuilt
+code_of (shape.Audition view) live = Ok (Audits live view)
 
 unfoldable pub code_in : Option Thing → Result Code Exit
 code_in None = Err Astray
@@ -402,7 +422,38 @@ call_ejector act x i live verb args = do
   tell (event.Call act x verb args None)
   closed act (answer (ejector_answer i live (ejected verb args)))
 
+-- ---- auditions
+
+unfoldable pub keep_audition : AuditView → Act ℕ
+keep_audition view = λ s. (Ok (length s.heap.things), record s { heap = record s.heap { things = s.heap.things ++ record { shape = shape.Audition view; alive = true } ∷ [] } })
+
+-- an audition that is alive
+unfoldable pub new_audition : ℕ → AuditView → Act ℕ
+new_audition act view = do
+  j ← keep_audition view
+  tell (event.Audition act (held.Obj j))
+  give j
+
+-- what an audition tells of the guard of a name
+abbrev pub told_as : Option Value → Result Value Exit
+told_as (Some v) = Ok v
+told_as None = Err (Thrown not_free_id)
+
+-- at a value as it is followed
+unfoldable pub guard_asked : Contents → AuditView → Value → Result Value Exit
+guard_asked h view (held.Text id) = told_as (told_at view.names (text_in h id))
+guard_asked h view _ = Err (Thrown (problem_id BadArgument))
+
+-- whether a followed value is an object that bears the stamp of a followed auditor
+unfoldable pub is_stamped : Contents → Value → Value → Bool
+is_stamped h a (held.Obj i) = bears a (stamps_at h i)
+is_stamped h a _ = false
+
+-- the verdict of a primitive on an object of that view
+unfoldable pub prim_verdict : ℕ → AuditView → Result Value Exit
+prim_verdict n view = if is_auditor (primitive n) then Ok (held.Bool (approves (primitive n) (seen_of view).free)) else Err (Thrown not_an_auditor_id)
+
 -- opens the acts, and not the recursions
 unfoldable pub opened_acts : Unit {0}
-unfolding and_then ◌>>=◌ ◌>>◌ give fail answer tell spent spend new_activation new_slot write_told slot_read slot_found read_slot slot_written write_slot safe_found read_held read_bound fails new_text text_value spell spelled write_text new_list list_told keep_list store stored listed_there make_list ended_by closed_by closed call_there with_bound new_object named object_made object_in make_object object_node suits code_of code_in look_code keep_ejector new_ejector killed kill leave ejected ejector_answer call_ejector
+unfolding and_then ◌>>=◌ ◌>>◌ give fail answer tell spent spend new_activation new_slot write_told slot_read slot_found read_slot slot_written write_slot safe_found read_held read_bound fails new_text text_value spell spelled write_text new_list list_told keep_list store stored listed_there make_list ended_by closed_by closed call_there with_bound new_object named object_made object_in object_as object_at view_at suits code_of code_in look_code keep_ejector new_ejector killed kill leave ejected ejector_answer call_ejector keep_audition new_audition guard_asked is_stamped prim_verdict
 opened_acts = tt

@@ -4,3 +4,4 @@ pub mod Takings
 pub mod Reading
 pub mod Holding
 pub mod Sound
+pub mod Forms

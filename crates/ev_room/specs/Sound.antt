@@ -1,6 +1,5 @@
 -- What evaluation makes of values, var slots, objects and lists so far.
-use Rattle.std.specs.declared.option.Option.{Option}
-use Rattle.std.specs.Prelude.{◌≡◌, ℕ, nat_lt, Bool, true, false, if◌then◌else◌, List, [], ◌∷◌, ◌++◌, Some, None, map, length, slice_get, codes}
+use Rattle.std.specs.Prelude.{◌≡◌, ℕ, nat_lt, Bool, true, false, if◌then◌else◌, List, [], ◌∷◌, ◌++◌, Some, map, length, slice_get, codes}
 use Rattle.ev_base.specs.declared.values.Value.{Value}
 use Rattle.ev_base.specs.declared.values.Value.TheVariants as held
 use Rattle.ev_heap.specs.Contents.{Contents, listed}
@@ -14,9 +13,6 @@ use Rattle.ev_heap.specs.declared.kept.Listed.{Listed}
 use Rattle.ev_heap.specs.declared.kept.Shape.{Shape}
 use Rattle.ev_heap.specs.declared.kept.Shape.TheVariants.{Made, Ejector, Resolver, Audition}
 use Rattle.ev_heap.specs.declared.kept.Thing.{Thing}
-use Rattle.ev_prims.specs.Asks.{primitive_at}
-use Rattle.ev_prims.specs.declared.primitives.Primitive.{Primitive}
-use Rattle.ev_prims.specs.declared.primitives.Primitive.TheVariants as primitive
 use Rattle.ev_pass.specs.declared.interior.Interior.{Interior}
 use Rattle.ev_room.specs.Holding.{ReferencesOf}
 use Rattle.ev_room.specs.declared.object.Object.{Object}
@@ -41,9 +37,9 @@ capture_of (Slot k) = capture.Slot k
 abbrev pub caught_of : Binding → Caught
 caught_of b = record { noun = b.noun; capture = capture_of b.bound }
 
--- an object without stamps
-abbrev pub plain_thing : Object → Thing
-plain_thing o = record { shape = Made o.node (map caught_of o.nouns) []; alive = true }
+-- an object with these stamps
+abbrev pub object_thing : Object → List Value → Thing
+object_thing o stamps = record { shape = Made o.node (map caught_of o.nouns) stamps; alive = true }
 
 -- the problems that evaluation throws, and those of references, the first texts of a heap
 abbrev pub problems : List (List ℕ)
@@ -119,35 +115,11 @@ pub record KnowsProblems (i : Interior) : Type 0 where
 
 -- ---- what stands in a heap
 
--- the primitives on which calls are built: lists and ranges, the equalizer, the comparer, the loop, `E`, `Ref`, throw, and guards
-abbrev pub is_built_kind : Primitive → Bool
-is_built_kind primitive.MakeList = true
-is_built_kind primitive.Equalizer = true
-is_built_kind primitive.Comparer = true
-is_built_kind primitive.Looper = true
-is_built_kind primitive.Sender = true
-is_built_kind primitive.References = true
-is_built_kind primitive.Thrower = true
-is_built_kind (primitive.Guarding g) = true
-is_built_kind _ = false
-
-abbrev pub is_built_prim : ℕ → Bool
-is_built_prim n = is_built_kind (primitive_at n)
-
--- no noun of the safe scope, or null, true, false or a primitive on which calls are built
-abbrev pub is_built_safe : Option Value → Bool
-is_built_safe None = true
-is_built_safe (Some held.Null) = true
-is_built_safe (Some (held.Bool b)) = true
-is_built_safe (Some (held.Prim n)) = is_built_prim n
-is_built_safe _ = false
-
 -- A value that a vat may have: where it is a text, a broken reference or a list, the heap has that text or list.
 abbrev pub is_there : Contents → Value → Bool
 is_there h (held.Text id) = nat_lt id (length h.texts)
 is_there h (held.Broken id) = nat_lt id (length h.texts)
 is_there h (held.List id) = nat_lt id (length h.lists)
-is_there h (held.Prim n) = is_built_prim n
 is_there h _ = true
 
 abbrev pub are_there : Contents → List Value → Bool
@@ -171,12 +143,12 @@ Each {A = A} P xs = (k : ℕ) (x : A) → slice_get xs k ≡ Some x → P x
 abbrev pub IsPlainCell : Contents → Cell → Type 0
 IsPlainCell h c = is_there h c.value ≡ true
 
--- an object without stamps, whose captures stand there, an ejector or a resolver
+-- an object whose captures and stamps stand there, an ejector, a resolver or an audition
 abbrev pub IsPlainShape : Contents → Shape → Type 0
-IsPlainShape h (Made node caught stamps) = (bs : List Binding) × ((caught ≡ map caught_of bs) × ((stamps ≡ []) × (are_bound h bs ≡ true)))
+IsPlainShape h (Made node caught stamps) = (bs : List Binding) × ((caught ≡ map caught_of bs) × ((are_there h stamps ≡ true) × (are_bound h bs ≡ true)))
 IsPlainShape h Ejector = Unit {0}
 IsPlainShape h (Resolver p) = Unit {0}
-IsPlainShape h (Audition node) = ⊥
+IsPlainShape h (Audition view) = Unit {0}
 
 -- that, alive or dead
 abbrev pub IsPlainThing : Contents → Thing → Type 0
@@ -186,7 +158,7 @@ IsPlainThing h t = IsPlainShape h t.shape
 abbrev pub IsListed : Contents → Listed → Type 0
 IsListed h l = (l ≡ listed h l.members) × (are_there h l.members ≡ true)
 
--- What turns of built programs leave behind: the problems stand first among the texts, each var slot, object and list holds values that
+-- What turns leave behind: the problems stand first among the texts, each var slot, object and list holds values that
 -- stand there, and so do the references.
 pub record IsSound (i : Interior) : Type 0 where
   pub slots : Each (IsPlainCell i.heap) i.heap.slots

@@ -1,18 +1,21 @@
 //! Values that stand in a heap, and the texts and lists that evaluation makes.
 
-ghost use Rattle.std.specs.Prelude.{◌≡◌, All, true};
+ghost use Rattle.std.specs.Prelude.{◌≡◌, All, IfOk, true};
 ghost use Rattle.std.specs.Bool.{OnTrue};
 ghost use Rattle.ev_heap.specs.Contents.{IsWeighable, is_light};
-ghost use Rattle.ev_room.specs.Sound.{are_there, is_built_prim, is_there};
+ghost use Rattle.ev_prims.specs.Answers.{members_at};
+ghost use Rattle.ev_prims.specs.Reading.{text_in};
+ghost use Rattle.ev_room.specs.Sound.{are_there, is_there};
 ghost use Rattle.ev_room.specs.Acts.{Gives, call_there, keep_list, list_told, make_list, new_list, problem_id, spell, store, text_value, thrown_id, write_text};
 
 use crate::exit::Exit;
 use crate::room::{Room, spend, tell_list};
-use ev_base::{ActId, ListId, Memory, PrimId, TextId, Value};
+use ev_base::{ActId, ListId, Memory, Seq, TextId, Value};
 use ev_heap::{Heap, ListFault};
 use ev_integer::NumFault;
-use ev_prims::{Primitive, Problem, primitive_of};
+use ev_prims::Problem;
 use ev_word::Text;
+use std::alloc::Global;
 
 /// The greatest number of bytes of a text that a text answers.
 const MOST_BYTES: usize = 65535;
@@ -50,25 +53,6 @@ pub fn thrown_id(value: Value) -> TextId
     }
 }
 
-/// Whether calls on a primitive are built: on lists and ranges, the equalizer, the comparer, the loop, `E`, `Ref`, throw, and guards.
-pub fn is_built_prim(number: PrimId) -> bool
-    ensures { result ≡ is_built_prim number }
-{
-    match primitive_of(number) {
-        Primitive::MakeList => true,
-        Primitive::Equalizer => true,
-        Primitive::Comparer => true,
-        Primitive::Looper => true,
-        Primitive::Sender => true,
-        Primitive::References => true,
-        Primitive::Thrower => true,
-        Primitive::Guarding(_) => true,
-        Primitive::StampReader => false,
-        Primitive::Judging(_) => false,
-        Primitive::NoPrimitive => false,
-    }
-}
-
 /// Whether a value stands in a heap.
 #[tactic(auto, using(crate::proofs::There::weighable))]
 pub fn is_there(heap: &Heap, value: Value) -> bool
@@ -78,9 +62,15 @@ pub fn is_there(heap: &Heap, value: Value) -> bool
     match value {
         Value::Text(id) | Value::Broken(id) => id.0 < heap.text_count(),
         Value::List(id) => id.0 < heap.list_count(),
-        Value::Prim(number) => is_built_prim(number),
         _ => true,
     }
+}
+
+/// The same values.
+pub fn copied_values(alloc: Global, values: &[Value]) -> Result<Seq<Value>, Memory>
+    ensures { IfOk result (λ copy. copy ≡ values.now) }
+{
+    Ok(Seq::of(Vec::from_slice(alloc, values)?))
 }
 
 /// Whether values stand in a heap.
@@ -111,6 +101,27 @@ pub fn call_there(heap: &Heap, receiver: Value, args: &[Value]) -> bool
     ensures args { OnTrue result (All (IsWeighable heap.now) args.now) }
 {
     is_there(heap, receiver) && are_there(heap, args)
+}
+
+/// The text of that number, and the empty one where there is none.
+pub fn text_of(heap: &Heap, id: TextId) -> &str
+    ensures { result.now ≡ text_in heap.now id }
+{
+    match heap.find_text(id) {
+        Some(text) => text,
+        None => "",
+    }
+}
+
+/// The members of the list of that number, and none where there is none.
+pub fn members_of(heap: &Heap, list: ListId) -> &[Value]
+    ensures { result.now ≡ members_at heap.now list }
+{
+    if list.0 < heap.list_count() {
+        heap.members(list)
+    } else {
+        &[]
+    }
 }
 
 /// Keeps a text, and gives it as a value.

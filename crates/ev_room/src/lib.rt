@@ -1,11 +1,13 @@
 //! Where evaluation works: the state of a vat, what a scope binds, and the single acts that change them.
 #![tactic(auto)]
 
+pub mod audition;
 pub mod call;
 pub mod coercion;
 pub mod data;
 pub mod ejector;
 pub mod exit;
+pub mod form;
 pub mod guards;
 pub mod nouns;
 pub mod object;
@@ -15,6 +17,5 @@ pub mod slots;
 pub mod tree;
 
 pub use coercion::{Coerced, guard_coerced, native_coerced, null_or};
-pub use data::is_built_prim;
 pub use exit::{Came, Exit};
 pub use room::Room;

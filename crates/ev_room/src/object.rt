@@ -6,15 +6,17 @@ ghost use Rattle.ev_heap.specs.declared.happened.Happened.TheVariants.{Made};
 ghost use Rattle.ev_kernel_printer.specs.FreeNames.{free_names};
 ghost use Rattle.def_machine.specs.Scopes.{name_of};
 ghost use Rattle.ev_room.specs.Sound.{capture_of, caught_of};
-ghost use Rattle.ev_room.specs.Acts.{Answers, Extends, Gives, GivesIn, binding_back, bound_back, captures, code_of, look_code, make_object, named, new_object, object_made, object_node};
+ghost use Rattle.ev_room.specs.Acts.{Answers, Extends, Gives, GivesIn, binding_back, bound_back, captures, code_of, look_code, named, new_object, object_as, object_at, object_made};
 
+use crate::audition::view_copy;
+use crate::data::copied_values;
 use crate::exit::Exit;
 use crate::room::{Room, tell};
 use crate::scope::{Binding, Bound, NO_GUARD, Scope, found_text};
 use crate::tree::node_at;
 use def_kernel::{Kernel, Node};
 use ev_base::{ActId, Memory, NodeId, ObjId, PromId, Seq, Str, Value};
-use ev_heap::{Capture, Caught, Happened, Shape};
+use ev_heap::{AuditView, Capture, Caught, Happened, Shape};
 use ev_kernel_printer::free_names;
 use ev_word::Word;
 use std::alloc::Global;
@@ -35,10 +37,12 @@ pub enum Code {
     Leaves(bool),
     /// The resolver of a promise.
     Resolves(PromId),
+    /// An audition, whether it is alive, and what it may tell.
+    Audits(bool, AuditView),
 }
 
 /// What an object holds of a name that is bound so.
-fn capture_of(bound: Bound) -> Capture
+pub(crate) fn capture_of(bound: Bound) -> Capture
     ensures { result ≡ capture_of bound }
 {
     match bound {
@@ -82,11 +86,14 @@ fn shape_code(alloc: Global, shape: &Shape, alive: bool) -> Result<Code, Exit>
         }
         Shape::Ejector => Ok(Code::Leaves(alive)),
         Shape::Resolver(promise) => Ok(Code::Resolves(*promise)),
-        Shape::Audition(_) => Err(Exit::Unbuilt),
+        Shape::Audition(view) => {
+            let view = view_copy(alloc, view)?;
+            Ok(Code::Audits(alive, view))
+        }
     }
 }
 
-/// The code of an object, an ejector or a resolver.
+/// The code of an object, an ejector, a resolver or an audition.
 #[tactic(auto, using(crate::proofs::Things::code_goes, crate::proofs::Things::code_astray))]
 pub fn look_code(object: ObjId, room: &Room) -> Result<Code, Exit>
     ensures { Gives result room.now (look_code object room.now) }
@@ -142,30 +149,37 @@ fn made_line(
     object: ObjId,
     name: &str,
     nouns: &[Binding],
+    stamps: &[Value],
 ) -> Result<Happened, Memory>
-    ensures { IfOk result (λ line. line ≡ Made act (Obj object) name.now (map (λ b. capture_of b.bound) nouns.now) []) }
+    ensures { IfOk result (λ line. line ≡ Made act (Obj object) name.now (map (λ b. capture_of b.bound) nouns.now) stamps.now) }
 {
     let mut caps = Seq::new(alloc);
     for binding in nouns {
         caps.push(capture_of(binding.bound))?;
     }
     let name = Word::copy_of(alloc, name)?;
+    let stamps = copied_values(alloc, stamps)?;
     Ok(Happened::Made {
         activation: act,
         object: Value::Obj(object),
         name,
         caps,
-        stamps: Seq::new(alloc),
+        stamps,
     })
 }
 
-/// Keeps an object.
+/// Keeps an object with these stamps.
 #[tactic(auto, unfolding(crate::specs::Acts::opened_acts))]
-fn new_object(node: NodeId, nouns: &[Binding], room: &mut Room) -> Result<ObjId, Exit>
-    ensures outcome { Gives result room.new (new_object node nouns.now room.old) }
+fn new_object(
+    node: NodeId,
+    nouns: &[Binding],
+    stamps: &[Value],
+    room: &mut Room,
+) -> Result<ObjId, Exit>
+    ensures outcome { Gives result room.new (new_object node nouns.now stamps.now room.old) }
 {
     let captures = kept(room.alloc, nouns)?;
-    let stamps = Seq::new(room.alloc);
+    let stamps = copied_values(room.alloc, stamps)?;
     let shape = Shape::Made {
         node,
         captures,
@@ -240,59 +254,66 @@ fn bind_name(
     }
 }
 
-/// Keeps an object with these captures, and tells it.
+/// Keeps an object with these captures and stamps, and tells it.
 #[tactic(auto, using(crate::proofs::Exits::ends), unfolding(crate::specs::Acts::opened_acts))]
 fn object_made(
     node: NodeId,
     name: &str,
     nouns: &[Binding],
+    stamps: &[Value],
     object: ObjId,
     here: &Scope,
     room: &mut Room,
 ) -> Result<Value, Exit>
-    ensures outcome { GivesIn result here.now room.new (object_made node name.now nouns.now object here.now room.old) }
+    ensures outcome { GivesIn result here.now room.new (object_made node name.now nouns.now stamps.now object here.now room.old) }
 {
-    new_object(node, nouns, room)?;
-    let line = made_line(room.alloc, here.act, object, name, nouns)?;
+    new_object(node, nouns, stamps, room)?;
+    let line = made_line(room.alloc, here.act, object, name, nouns, stamps)?;
     tell(room, line)?;
     Ok(Value::Obj(object))
 }
 
-/// Makes an object whose free names are these, in the scope after its own name is bound.
+/// Makes an object whose free names and stamps are these, in the scope after its own name is bound.
 #[tactic(auto, using(crate::proofs::Exits::ends), unfolding(crate::specs::Acts::opened_acts))]
-fn make_object(
+fn object_as(
     node: NodeId,
     pattern: Option<&Node>,
     free: &[Str],
+    stamps: &[Value],
     here: &mut Scope,
     room: &mut Room,
 ) -> Result<Value, Exit>
-    ensures outcome { GivesIn result here.new room.new (make_object node (option_map (λ node. node.now) pattern.entry) free.now here.old room.old) }
+    ensures outcome { GivesIn result here.new room.new (object_as node (option_map (λ node. node.now) pattern.entry) free.now stamps.now here.old room.old) }
     ensures front { Extends here.old here.new }
 {
     let object = ObjId(room.heap.object_count());
     bind_name(room.alloc, pattern, object, here)?;
     let nouns = captures(room.alloc, here.nouns.as_slice(), free)?;
-    object_made(node, name_of(pattern), nouns.as_slice(), object, here, room)
+    object_made(
+        node,
+        name_of(pattern),
+        nouns.as_slice(),
+        stamps,
+        object,
+        here,
+        room,
+    )
 }
 
-/// Evaluates an object expression.
+/// Makes an object of the expression at a node, with the stamps of the auditors that approved.
 #[tactic(auto, using(crate::proofs::Exits::ends, crate::proofs::Fronts::itself_in_front), unfolding(crate::specs::Acts::opened_acts))]
-pub fn object_node(
+pub fn object_at(
     program: &Kernel,
     id: NodeId,
     pattern: NodeId,
-    auditors: &[NodeId],
+    stamps: &[Value],
     here: &mut Scope,
     room: &mut Room,
 ) -> Result<Value, Exit>
-    ensures outcome { GivesIn result here.new room.new (object_node program.now id pattern auditors.now here.old room.old) }
+    ensures outcome { GivesIn result here.new room.new (object_at program.now id pattern stamps.now here.old room.old) }
     ensures front { Extends here.old here.new }
 {
-    if !auditors.is_empty() {
-        return Err(Exit::Unbuilt);
-    }
     let free = free_names(room.alloc, program, id)?;
     let pattern = node_at(program.nodes(), pattern);
-    make_object(id, pattern, free.as_slice(), here, room)
+    object_as(id, pattern, free.as_slice(), stamps, here, room)
 }

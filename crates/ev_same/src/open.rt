@@ -5,9 +5,10 @@ ghost use Rattle.ev_refs.specs.Follow.{place_of};
 ghost use Rattle.ev_same.specs.Layers.{Looks, any_within};
 ghost use Rattle.ev_same.specs.Same.{any_of, is_open, is_unsettled};
 
-use crate::parts::{list_in, members_of};
+use crate::parts::list_in;
 use ev_base::{ListId, Memory, Value};
 use ev_refs::{Place, Refs};
+use ev_room::data::members_of;
 use ev_room::room::Room;
 use indexmap::IndexSet;
 

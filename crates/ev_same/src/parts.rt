@@ -1,14 +1,14 @@
-//! What values say, and the members of lists.
+//! Which values are lists, and whether others are the same.
 
 ghost use Rattle.std.specs.Prelude.{◌≡◌};
 ghost use Rattle.std.specs.Str.{bytes_eq};
-ghost use Rattle.ev_prims.specs.Answers.{members_at};
 ghost use Rattle.ev_prims.specs.Reading.{text_in};
 ghost use Rattle.ev_refs.specs.Leading.{list_of};
 ghost use Rattle.ev_same.specs.Same.{same_plain};
 
-use ev_base::{ListId, TextId, Value};
+use ev_base::{TextId, Value};
 use ev_heap::Heap;
+use ev_room::data::text_of;
 
 /// The list that a value is.
 pub fn list_in(value: Value) -> Option<u64>
@@ -17,27 +17,6 @@ pub fn list_in(value: Value) -> Option<u64>
     match value {
         Value::List(list) => Some(list.0),
         _ => None,
-    }
-}
-
-/// The members of the list of that number, and none where there is none.
-pub fn members_of(heap: &Heap, list: ListId) -> &[Value]
-    ensures { result.now ≡ members_at heap.now list }
-{
-    if list.0 < heap.list_count() {
-        heap.members(list)
-    } else {
-        &[]
-    }
-}
-
-/// The text of that number, and the empty one where there is none.
-fn text_of(heap: &Heap, id: TextId) -> &str
-    ensures { result.now ≡ text_in heap.now id }
-{
-    match heap.find_text(id) {
-        Some(text) => text,
-        None => "",
     }
 }
 

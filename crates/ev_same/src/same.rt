@@ -7,9 +7,9 @@ ghost use Rattle.ev_same.specs.Layers.{Compares, all_within, pair_of};
 ghost use Rattle.ev_same.specs.Same.{all_same, is_same, same_ever};
 
 use crate::open::is_open;
-pub use crate::parts::members_of;
 use crate::parts::same_plain;
 use ev_base::{ListId, Memory, TextId, Value};
+use ev_room::data::members_of;
 use ev_room::exit::Exit;
 use ev_room::room::Room;
 use indexmap::IndexSet;

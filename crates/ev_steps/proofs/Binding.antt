@@ -1,36 +1,16 @@
 -- Patterns that are bound at once, one after another.
 use Rattle.std.proofs.Common.{◌≡◌, ℕ, zero, suc, ◌+◌, ◌<◌, List, [], ◌∷◌, Some, None, Ok, Err, length, drop, refl, sym, ◌∙◌, arith, add-one}
 use Rattle.std.specs.Prelude.{slice_get}
+use Rattle.std.proofs.lemmas.Option.{slice_get_within}
 use Rattle.ev_base.specs.declared.values.Value.{Value}
 use Rattle.ev_room.specs.declared.exit.Exit.{Exit}
-use Rattle.ev_room.specs.declared.exit.Exit.TheVariants.{Thrown, Ejected, Fuel, Deep, Repeated, Astray, Unbuilt, Memory}
 use Rattle.ev_pass.specs.declared.interior.Interior.{Interior as Room}
 use Rattle.ev_room.specs.declared.scope.Scope.{Scope}
 use Rattle.def_machine.specs.Free.{BoundNoun}
+use Rattle.ev_room.proofs.Exits.{unless_as}
+use Rattle.ev_room.proofs.Places.{drop_some}
 use Rattle.ev_room.specs.Acts.{Out, Unless, and_then, ◌>>=◌, give}
 use Rattle.ev_steps.specs.Steps.{Evaluator, bind_all, bind_unmatched, unmatched}
-
-pub get_below : {A : Type 0} (xs : List A) (k : ℕ) (x : A) → slice_get xs k ≡ Some x → k < length xs
-get_below [] zero x e = absurd (cc)
-get_below [] (suc k) x e = absurd (cc)
-get_below (y ∷ xs) zero x e = omega arith
-get_below (y ∷ xs) (suc k) x e = let h : k < length xs = get_below xs k x e in omega arith
-
-pub drop_some : {A : Type 0} (xs : List A) (k : ℕ) (x : A) → slice_get xs k ≡ Some x → drop k xs ≡ x ∷ drop (suc k) xs
-drop_some [] zero x e = absurd (cc)
-drop_some [] (suc k) x e = absurd (cc)
-drop_some (y ∷ xs) zero x e = let h : y ≡ x = cc in rw h refl
-drop_some (y ∷ xs) (suc k) x e = drop_some xs k x e
-
-unless_as : {X Y : Type 0} (e : Exit) → (X → Y) → Unless e X → Unless e Y
-unless_as (Thrown id) f h = f h
-unless_as (Ejected n v) f h = f h
-unless_as Fuel f h = f h
-unless_as Deep f h = f h
-unless_as (Repeated i j) f h = f h
-unless_as Astray f h = f h
-unless_as Unbuilt f h = f h
-unless_as Memory f h = tt
 
 pub one_bound : (rec : Evaluator) (ps : List ℕ) (vs : List Value) (j v : Value) (k p : ℕ) (here after : Scope) (s t : Room) (due : Out Scope) → slice_get ps k ≡ Some p → slice_get vs k ≡ Some v
     → rec.pattern p v j here s ≡ (Ok after, t) → bind_all rec (drop k ps) (drop k vs) j here s ≡ due → bind_all rec (drop (k + 1) ps) (drop (k + 1) vs) j after t ≡ due
@@ -73,7 +53,7 @@ unfolding unmatched give
 unmatched_done bs k here s due h e = sym e ∙ (rw (drop_none bs k h) refl)
 
 pub below_count : (bs : List BoundNoun) (k : ℕ) (b : BoundNoun) → slice_get bs k ≡ Some b → k < length bs
-below_count bs k b e = get_below bs k b e
+below_count bs k b e = slice_get_within bs k b e
 
 pub unmatched_all : (bs : List BoundNoun) (here : Scope) (s : Room) → unmatched (drop 0 bs) here s ≡ unmatched bs here s
 unmatched_all bs here s = refl

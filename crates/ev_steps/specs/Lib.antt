@@ -1,4 +1,3 @@
 pub mod AtOnce
 pub mod Binders
-pub mod Built
 pub mod Steps

@@ -1,4 +1,4 @@
--- Evaluation over the state of the code: the machine's evaluation of the trees that are built.
+-- Evaluation over the state of the code: the machine's evaluation, of each tree.
 use Rattle.std.specs.Prelude.{◌+◌, ◌==◌, reverse, ℕ, zero, suc, pos, Bool, true, false, if◌then◌else◌, List, [], ◌∷◌, ◌++◌, Some, None, length, map, slice_get, codes}
 use Rattle.std.specs.declared.option.Option.{Option}
 use Rattle.ev_base.specs.declared.values.Value.{Value}
@@ -27,26 +27,31 @@ use Rattle.ev_prims.specs.declared.reply.Reply.TheVariants as reply
 use Rattle.ev_heap.specs.declared.kept.Cell.{Cell}
 use Rattle.ev_heap.specs.declared.kept.GuardKind.{GuardKind}
 use Rattle.ev_heap.specs.declared.kept.GuardKind.TheVariants.{Native, User}
+use Rattle.ev_audit.specs.Asks.{asking}
+use Rattle.ev_audit.specs.declared.auditions.AuditionAsk.{AuditionAsk}
+use Rattle.ev_audit.specs.declared.auditions.AuditionAsk.TheVariants.{GetsForm, GetsGuard, Asks, NoMethod as NoAsk}
+use Rattle.ev_heap.specs.declared.kept.AuditView.{AuditView}
+use Rattle.ev_room.specs.Forms.{object_form}
 use Rattle.ev_room.specs.Coercion.{guard_coerced, native_coerced, null_or}
 use Rattle.ev_room.specs.Takings.{is_null}
 use Rattle.ev_room.specs.declared.coercion.Coerced.{Coerced}
 use Rattle.ev_room.specs.declared.coercion.Coerced.TheVariants as coerced
-use Rattle.ev_room.specs.Sound.{is_there, no_guard, no_match_id, not_a_list_id, not_a_guard_id, not_near_id, bad_message_id}
+use Rattle.ev_room.specs.Sound.{is_there, no_guard, no_match_id, not_a_list_id, not_a_guard_id, not_near_id, bad_message_id, not_an_auditor_id, dead_audition_id}
 use Rattle.ev_same.specs.Same.{same_ever}
 use Rattle.ev_refs.specs.Follow.{followed}
 use Rattle.ev_eventual.specs.declared.message.Request.{Request}
 use Rattle.ev_eventual.specs.Eventual.{message_in, send_with, make_promise, broken, test_value, when_by, resolving, resolver_answer, call_resolver, opened_eventual}
 use Rattle.ev_room.specs.declared.object.Object.{Object}
 use Rattle.ev_room.specs.declared.object.Code.{Code}
-use Rattle.ev_room.specs.declared.object.Code.TheVariants.{Runs, Leaves, Resolves}
-use Rattle.ev_room.specs.declared.exit.Exit.TheVariants.{Thrown, Ejected, Fuel, Deep, Astray, Unbuilt}
+use Rattle.ev_room.specs.declared.object.Code.TheVariants.{Runs, Leaves, Resolves, Audits}
+use Rattle.ev_room.specs.declared.exit.Exit.TheVariants.{Thrown, Ejected, Fuel, Deep, Astray}
 use Rattle.ev_pass.specs.declared.interior.Interior.{Interior}
 use Rattle.ev_room.specs.declared.scope.Bound.{Bound}
 use Rattle.ev_room.specs.declared.scope.Bound.TheVariants.{Fixed, Slot}
 use Rattle.ev_room.specs.declared.scope.Scope.{Scope}
 use Rattle.ev_steps.specs.declared.target.Target.{Target}
 use Rattle.ev_steps.specs.declared.target.Target.TheVariants as target
-use Rattle.ev_room.specs.Acts.{Act, ◌>>=◌, ◌>>◌, give, fail, tell, spend, new_activation, new_slot, found_from, read_bound, write_slot, cut, with_noun, fails, text_value, write_text, make_list, closed, thrown_id, call_there, object_node, first_method, look_code, Out, ended_by, leave, new_ejector, ejected, ejector_answer, call_ejector, answer}
+use Rattle.ev_room.specs.Acts.{Act, ◌>>=◌, ◌>>◌, give, fail, tell, spend, new_activation, new_slot, found_from, read_bound, write_slot, cut, with_noun, fails, problem_id, text_value, write_text, make_list, closed, thrown_id, call_there, object_at, view_at, new_audition, guard_asked, is_stamped, prim_verdict, and_then, first_method, look_code, Out, ended_by, leave, new_ejector, ejected, ejector_answer, call_ejector, answer}
 
 -- a call by an activation: receiver, verb and arguments
 abbrev pub Caller : Type 0
@@ -162,7 +167,7 @@ performed again act ask.NoMethod args = fails NoMethod
 performed again act (ask.Same x y) args = same_ever x y
 performed again act (ask.Coerces g x j) args = λ s. coerced_as again act j (guard_coerced s.heap g x (followed s.refs x)) s
 performed again act (ask.AddsNull x) args = λ s. replied again act (null_or (followed s.refs x)) s
-performed again act (ask.IsStamped a x) args = fail Unbuilt
+performed again act (ask.IsStamped a x) args = λ s. give (held.Bool (is_stamped s.heap (followed s.refs a) (followed s.refs x))) s
 
 -- ---- data
 
@@ -178,6 +183,72 @@ unfoldable pub call_data : Caller → ℕ → Value → Value → Words → List
 call_data again act x y verb args = do
   tell (event.Call act x verb args None)
   closed act (answered again act y verb args)
+
+-- ---- auditing
+
+-- however it ends, the audition is dead after it
+unfoldable pub leaving : ℕ → Out Value → Out Value
+leaving n o = ended_by (λ v. leave n (give v)) (λ id. leave n (fail (Thrown id))) (λ k v. leave n (fail (Ejected k v))) o
+
+-- only true approves
+abbrev pub is_true : Value → Bool
+is_true (held.Bool b) = b
+is_true _ = false
+
+-- what an auditor answered, as it is followed
+unfoldable pub approved : Value → Act Value
+approved v = λ s. give (held.Bool (is_true (followed s.refs v))) s
+
+unfoldable pub audited : ℕ → Out Value → Out Value
+audited n o = and_then (leaving n o) approved
+
+-- an object is asked, with an audition of its own
+unfoldable pub audit : Caller → ℕ → AuditView → Value → Act Value
+audit again act view a = do
+  n ← new_audition act view
+  λ s. audited n (again act a (codes "audit") (held.Obj n ∷ []) s)
+
+-- the verdict of an auditor, as it is held and as it is followed: a boolean
+unfoldable pub verdict : Caller → ℕ → AuditView → Value → Value → Act Value
+verdict again act view a (held.Prim n) = answer (prim_verdict n view)
+verdict again act view a (held.Obj i) = audit again act view a
+verdict again act view a _ = fail (Thrown not_an_auditor_id)
+
+abbrev pub with_stamp : Bool → Value → List Value → List Value
+with_stamp true y ys = ys ++ y ∷ []
+with_stamp false y ys = ys
+
+-- each auditor is asked, in order; it gives the stamps, behind those so far
+unfoldable pub ask_all : Caller → ℕ → AuditView → List Value → List Value → Act (List Value)
+ask_all again act view so_far [] = give so_far
+ask_all again act view so_far (a ∷ as') = λ s. and_then (verdict again act view a (followed s.refs a) s) (λ v. ask_all again act view (with_stamp (is_true v) (followed s.refs a) so_far) as')
+
+-- the auditors' values are known; each is asked, and then the object comes to be
+unfoldable pub make_object : List Node → Caller → ℕ → ℕ → List Value → List Value → Scope → Act (Value × Scope)
+make_object tree again id p so_far auditors here = do
+  stamps ← ask_all again here.act (view_at tree id p here) so_far auditors
+  object_at tree id p stamps here
+
+unfoldable pub audition_live : List Node → Caller → ℕ → AuditView → AuditionAsk → Act Value
+audition_live tree again act view GetsForm = object_form tree act view.node
+audition_live tree again act view (GetsGuard x) = λ s. answer (guard_asked s.heap view (followed s.refs x)) s
+audition_live tree again act view (Asks a) = λ s. verdict again act view a (followed s.refs a) s
+audition_live tree again act view NoAsk = fails NoMethod
+
+-- what a dead one throws: verb and number of arguments are tested first
+unfoldable pub dead_problem : AuditionAsk → ℕ
+dead_problem NoAsk = problem_id NoMethod
+dead_problem _ = dead_audition_id
+
+unfoldable pub audition_answer : List Node → Caller → ℕ → Bool → AuditView → AuditionAsk → Act Value
+audition_answer tree again act true view q = audition_live tree again act view q
+audition_answer tree again act false view q = fail (Thrown (dead_problem q))
+
+-- a call on an audition, held as x
+unfoldable pub call_audition : List Node → Caller → ℕ → Value → Bool → AuditView → Words → List Value → Act Value
+call_audition tree again act x live view verb args = do
+  tell (event.Call act x verb args None)
+  closed act (audition_answer tree again act live view (asking verb args))
 
 -- What evaluates the nodes below: an expression, and a pattern at a specimen with an ejector. Null is no ejector.
 pub record Evaluator : Type 0 where
@@ -248,20 +319,21 @@ call_made tree rec act x i verb args o = do
   tell (event.Call act x verb args (Some b))
   closed act (run_object tree rec o.node verb args (record { act = b; nouns = reverse o.nouns }))
 
--- what is called runs its code, leaves to its escape, or resolves its promise
-unfoldable pub call_code : List Node → Evaluator → ℕ → Value → ℕ → Words → List Value → Code → Act Value
-call_code tree rec act x i verb args (Runs o) = call_made tree rec act x i verb args o
-call_code tree rec act x i verb args (Leaves live) = call_ejector act x i live verb args
-call_code tree rec act x i verb args (Resolves p) = call_resolver act x p verb args
+-- what is called runs its code, leaves to its escape, resolves its promise, or tells of an object
+unfoldable pub call_code : List Node → Evaluator → Caller → ℕ → Value → ℕ → Words → List Value → Code → Act Value
+call_code tree rec again act x i verb args (Runs o) = call_made tree rec act x i verb args o
+call_code tree rec again act x i verb args (Leaves live) = call_ejector act x i live verb args
+call_code tree rec again act x i verb args (Resolves p) = call_resolver act x p verb args
+call_code tree rec again act x i verb args (Audits live view) = call_audition tree again act x live view verb args
 
-unfoldable pub call_object : List Node → Evaluator → ℕ → Value → ℕ → Words → List Value → Act Value
-call_object tree rec act x i verb args = do
+unfoldable pub call_object : List Node → Evaluator → Caller → ℕ → Value → ℕ → Words → List Value → Act Value
+call_object tree rec again act x i verb args = do
   c ← look_code i
-  call_code tree rec act x i verb args c
+  call_code tree rec again act x i verb args c
 
 -- a call on x, as it is held and as it is followed, in which data and primitives call again so
 unfoldable pub call_value : List Node → Evaluator → Caller → ℕ → Value → Value → Words → List Value → Act Value
-call_value tree rec again act x (held.Obj i) verb args = call_object tree rec act x i verb args
+call_value tree rec again act x (held.Obj i) verb args = call_object tree rec again act x i verb args
 call_value tree rec again act x (held.Broken id) verb args = fail (Thrown id)
 call_value tree rec again act x (held.Prim n) verb args = performed again act (asked_of n verb args) args
 call_value tree rec again act x (held.Prom n) verb args = fail (Thrown not_near_id)
@@ -287,6 +359,7 @@ unfoldable pub turn_code : List Node → Evaluator → ℕ → ℕ → Words →
 turn_code tree rec act i verb args (Runs o) = run_object tree rec o.node verb args (record { act = act; nouns = reverse o.nouns })
 turn_code tree rec act i verb args (Leaves live) = answer (ejector_answer i live (ejected verb args))
 turn_code tree rec act i verb args (Resolves p) = resolver_answer p (resolving verb args)
+turn_code tree rec act i verb args (Audits live view) = audition_answer tree (again_by tree rec None) act live view (asking verb args)
 
 unfoldable pub turn_object : List Node → Evaluator → ℕ → ℕ → Words → List Value → Act Value
 turn_object tree rec act i verb args = do
@@ -323,6 +396,12 @@ call_node tree rec r verb args here = do
   xs ← gathered rec [] args x.1
   v ← call tree rec here.act x.0 verb xs.0
   give (v, xs.1)
+
+-- an object expression: its auditors are evaluated from left to right, behind the values so far
+unfoldable pub object_on : List Node → Evaluator → ℕ → ℕ → List Value → List ℕ → Scope → Act (Value × Scope)
+object_on tree rec id p so_far auditors here = do
+  xs ← gathered rec so_far auditors here
+  make_object tree (call tree rec) id p [] xs.0 xs.1
 
 -- the ejector of a definition
 unfoldable pub exit_of : Evaluator → Option ℕ → Scope → Act (Value × Scope)
@@ -509,7 +588,7 @@ step tree rec id (Try b p h) here = guarded_node rec (Try b p h) here
 step tree rec id (Finally a b) here = guarded_node rec (Finally a b) here
 step tree rec id (Hide e) here = guarded_node rec (Hide e) here
 step tree rec id (MatchBind e p) here = match_node tree rec e p here
-step tree rec id (ObjectNode p auditors members) here = object_node tree id p auditors here
+step tree rec id (ObjectNode p auditors members) here = object_on tree rec id p [] auditors here
 step tree rec id (Method v ps b) here = fail Astray
 step tree rec id (Matcher p b) here = fail Astray
 step tree rec id (Final x g) here = fail Astray
@@ -603,5 +682,5 @@ opening tree depth = do
 
 -- opens the steps, and not the recursions
 unfoldable pub opened_steps : Unit {0}
-unfolding after_turn loop pair_there compared_there compared_at compared called_with performed replied answered_there answered call_data call_node run_method handed_over matched message_pair value_of_matchers run_found run_object call_made call_code call_object call_value call again_by turn_code turn_object turn_value exit_of define_by define literal_value literal_node noun_node set_node within choose if_node alone handled caught_as caught_by unmatched_noun bind_unmatched not_matched matched_if match_ended match_on match_node step failed_by failed handed coerced_as coerce write_under write_cell write_bound bind_coerced bind_by bind_under bind_guarded bind_list bind_items bind_via bind_asked bind_step step_found bind_found opening opened_eventual
+unfolding after_turn loop pair_there compared_there compared_at compared called_with performed replied answered_there answered call_data leaving approved audited audit verdict make_object audition_live dead_problem audition_answer call_audition call_node run_method handed_over matched message_pair value_of_matchers run_found run_object call_made call_code call_object call_value call again_by turn_code turn_object turn_value object_on exit_of define_by define literal_value literal_node noun_node set_node within choose if_node alone handled caught_as caught_by unmatched_noun bind_unmatched not_matched matched_if match_ended match_on match_node step failed_by failed handed coerced_as coerce write_under write_cell write_bound bind_coerced bind_by bind_under bind_guarded bind_list bind_items bind_via bind_asked bind_step step_found bind_found opening opened_eventual
 opened_steps = tt

@@ -231,7 +231,7 @@ pub fn bind_at_once(
 }
 
 /// Binds patterns to values from a place on, as far as they can be bound at once: the place behind them.
-#[tactic(auto, using(crate::proofs::Binding::one_bound, crate::proofs::Binding::one_ends, crate::proofs::Binding::get_below, ev_room::proofs::Fronts::itself_in_front, ev_room::proofs::Fronts::in_front))]
+#[tactic(auto, using(crate::proofs::Binding::one_bound, crate::proofs::Binding::one_ends, std::proofs::lemmas::Option::slice_get_within, ev_room::proofs::Fronts::itself_in_front, ev_room::proofs::Fronts::in_front))]
 pub fn bind_from(
     program: &Kernel,
     depth: u32,

@@ -192,6 +192,13 @@ impl Connection {
         self.answers.len() as u64
     }
 
+    /// The number of the question that this vat asks next.
+    pub fn next_question(&self) -> u64
+        ensures { result ≡ length self.now.asked }
+    {
+        self.asked.len() as u64
+    }
+
     /// The vat on the other side.
     pub fn peer(&self) -> VatId
         ensures { result ≡ self.now.peer }

@@ -1,7 +1,6 @@
 -- Why a status is due.
 use Rattle.std.proofs.Common.{◌≡◌, ◌≢◌, ◌⊎◌, inl, inr, ◌<◌, ◌≤◌, ◌&&◌, ℕ, nat_lt, length, List, [], ◌∷◌, Bool, true, false, Option, Some, None, IfSome, Result, Ok, Err, refl, sym, ap, subst, arith, ◌∙◌}
 use Rattle.std.proofs.lemmas.Bool.Decides.{nat_tests}
-use Rattle.ev_steps.specs.Built.{is_built}
 use Rattle.def_kernel.specs.declared.node.Node.{Node}
 use Rattle.def_machine.specs.State.{Stop, Fuel, Deep, Repeated, Astray}
 use Rattle.def_run.specs.World as machine
@@ -24,14 +23,14 @@ use Rattle.ev_top.specs.Script.{script_from}
 use Rattle.ev_top.specs.Programs.{ReadAs, safe_names, refusal, stage_of, IsDueOfFault}
 use Rattle.ev_top.specs.Expansion.{text_from, nameless, IsDueOfText, IsDueOfForm}
 use Rattle.ev_top.specs.Machine.{script_of}
-use Rattle.ev_top.specs.Due.{IsDue, IsDueOfInput, IsDueOfBytes, IsDueOfScript, IsDueOfSource, IsDueOfTree, IsDueOfVats, Pays, PaysWith, due_of_run, unbuilt}
-use Rattle.ev_top.specs.Causes.{IsInterrupted, Follows, ComesWhere, IsLong, Breaks, IsVatOf, HasVat, HasProgram, HasFault, HasNoTree, IsProgramRefused, IsUnbuilt, RepeatsWord, Stops, run_of, IsAstray}
+use Rattle.ev_top.specs.Due.{IsDue, IsDueOfInput, IsDueOfBytes, IsDueOfScript, IsDueOfSource, IsDueOfTree, IsDueOfVats, Pays, PaysWith, due_of_run, astray}
+use Rattle.ev_top.specs.Causes.{IsInterrupted, Follows, ComesWhere, IsLong, Breaks, IsVatOf, HasVat, HasProgram, HasFault, HasNoTree, IsProgramRefused, GoesAstray, RepeatsWord, Stops, run_of}
 use Rattle.ev_top.specs.declared.command.Command.{Command}
 use Rattle.ev_top.specs.declared.command.Command.TheVariants.{Run, Expand, Generate, Sturdy, Mint}
 use Rattle.ev_top.specs.declared.status.Status.{Status}
 use Rattle.ev_top.specs.declared.status.Status.TheVariants.{Done, Usage, ReadFault, WriteFault, TooLong, ScriptRefused, ProgramRefused, FuelSpent, TooDeep, WordRepeated, Memory}
 use Rattle.ev_top.specs.declared.status.Stage.{Stage}
-use Rattle.ev_top.specs.declared.status.Stage.TheVariants.{Unbuilt}
+use Rattle.ev_top.specs.declared.status.Stage.TheVariants as stages
 use Rattle.ev_top.proofs.DueLemmas.{is_few, too_many}
 use Rattle.ev_top.proofs.OneReading.{IsTree, fault_once, tree_once}
 
@@ -50,9 +49,8 @@ data Why (command : Option Command) (input : List ℕ) (status : Status) : Type 
   Long : IsLong command input → status ≡ TooLong → Why command input status
   Broken : (rule : ℕ) → Breaks rule command input → status ≡ ScriptRefused rule → Why command input status
   Faulty : (part : Part) (kind place : ℕ) → HasFault part kind place command input → IsRefused part kind place status → Why command input status
-  NotBuilt : IsUnbuilt command input → status ≡ ProgramRefused unbuilt → Why command input status
   Ran : (script : Script) (vat : VatScript) (scoped : Scoped) → command ≡ Some Run → HasVat input script vat → Answers (Ok scoped) vat.source safe_names
-      → is_built scoped.tree ≡ true → status ≡ (ran script vat scoped).status → Why command input status
+      → status ≡ (ran script vat scoped).status → Why command input status
   Drew : (first second : ℕ) → RepeatsWord first second command input → status ≡ WordRepeated first second → Why command input status
   Finished : status ≡ Done → Why command input status
 
@@ -71,15 +69,9 @@ of_text : (input : List ℕ) (found : Result (List ℕ) ℕ) (status : Status) (
 of_text input (Ok program) status text few e (answer, answers, due) = formed program input answer status text (few, e) answers due
 of_text input (Err rule) status text few e due = Broken rule (few, e) due.0
 
-of_tree : (built : Bool) (input : List ℕ) (script : Script) (vat : VatScript) (scoped : Scoped) (status : Status) (text : List ℕ) → is_built scoped.tree ≡ built
-    → HasVat input script vat → Answers (Ok scoped) vat.source safe_names → IsDueOfTree built script vat.name scoped.tree status text
-    → Why (Some Run) input status
-of_tree true input script vat scoped status text e has answers due = Ran script vat scoped refl has answers e due.0
-of_tree false input script vat scoped status text e has answers due = NotBuilt (refl, script, vat, has, scoped, answers, inl e) due.0
-
 of_source : (input : List ℕ) (script : Script) (vat : VatScript) (answer : Result Scoped ProgramFault) (status : Status) (text : List ℕ)
     → HasVat input script vat → Answers answer vat.source safe_names → IsDueOfSource script vat.name answer status text → Why (Some Run) input status
-of_source input script vat (Ok scoped) status text has answers due = of_tree (is_built scoped.tree) input script vat scoped status text refl has answers due
+of_source input script vat (Ok scoped) status text has answers due = Ran script vat scoped refl has answers due.0
 of_source input script vat (Err fault) status text has answers due =
     faulty vat.name vat.source (Some Run) input fault status text (script, vat, has, refl) answers due
 
@@ -172,13 +164,13 @@ there Is fact status command input written to pays f = by (due_or_not status wri
 
 -- the status of a run is one of five
 never : (Is : Status → Type 0) → (Is Done → ⊥) → ((step : ℕ) → Is (FuelSpent step) → ⊥) → ((step : ℕ) → Is (TooDeep step) → ⊥)
-    → ((i j : ℕ) → Is (WordRepeated i j) → ⊥) → (Is (ProgramRefused unbuilt) → ⊥)
+    → ((i j : ℕ) → Is (WordRepeated i j) → ⊥) → (Is (ProgramRefused astray) → ⊥)
     → (name text : List ℕ) (r : machine.Run) → Is (due_of_run name text r).status → ⊥
-never Is done fuel deep drew astray name text (Goes w) is = done is
-never Is done fuel deep drew astray name text (Stopped Fuel step w) is = fuel step is
-never Is done fuel deep drew astray name text (Stopped Deep step w) is = deep step is
-never Is done fuel deep drew astray name text (Stopped (Repeated i j) step w) is = drew i j is
-never Is done fuel deep drew astray name text (Stopped Astray step w) is = astray is
+never Is done fuel deep drew strays name text (Goes w) is = done is
+never Is done fuel deep drew strays name text (Stopped Fuel step w) is = fuel step is
+never Is done fuel deep drew strays name text (Stopped Deep step w) is = deep step is
+never Is done fuel deep drew strays name text (Stopped (Repeated i j) step w) is = drew i j is
+never Is done fuel deep drew strays name text (Stopped Astray step w) is = strays is
 
 -- ---- too many bytes
 
@@ -187,8 +179,7 @@ long_only command input status (Misused e) is = cc
 long_only command input status (Long long e) is = long
 long_only command input status (Broken rule breaks e) is = cc
 long_only command input status (Faulty part kind place fault e) is = cc
-long_only command input status (NotBuilt u e) is = cc
-long_only command input status (Ran script vat scoped run has answers built e) is =
+long_only command input status (Ran script vat scoped run has answers e) is =
     absurd (never (λ s. s ≡ TooLong) (λ h. cc) (λ k h. cc) (λ k h. cc) (λ i j h. cc) (λ h. cc) vat.name _ (run_of script scoped) (sym e ∙ is))
 long_only command input status (Drew first second repeats e) is = cc
 long_only command input status (Finished e) is = cc
@@ -206,8 +197,7 @@ rule_only rule command input status (Long long e) is = cc
 rule_only rule command input status (Broken broken breaks e) is =
     let same : broken ≡ rule = cc in subst (λ (r : ℕ). Breaks r command input) same breaks
 rule_only rule command input status (Faulty part kind place fault e) is = cc
-rule_only rule command input status (NotBuilt u e) is = cc
-rule_only rule command input status (Ran script vat scoped run has answers built e) is =
+rule_only rule command input status (Ran script vat scoped run has answers e) is =
     absurd (never (λ s. s ≡ ScriptRefused rule) (λ h. cc) (λ k h. cc) (λ k h. cc) (λ i j h. cc) (λ h. cc) vat.name _ (run_of script scoped) (sym e ∙ is))
 rule_only rule command input status (Drew first second repeats e) is = cc
 rule_only rule command input status (Finished e) is = cc
@@ -235,7 +225,7 @@ rule_there rule (Some Mint) input status text due (few, refused) =
 -- the parts of a refusal
 abbrev stage_in : Status → Stage
 stage_in (ProgramRefused r) = r.stage
-stage_in _ = Unbuilt
+stage_in _ = stages.Astray
 
 abbrev kind_in : Status → ℕ
 kind_in (ProgramRefused r) = r.kind
@@ -245,15 +235,15 @@ abbrev place_in : Status → ℕ
 place_in (ProgramRefused r) = r.place
 place_in _ = 0
 
-stage_apart : (part : Part) → stage_of part ≢ Unbuilt
+stage_apart : (part : Part) → stage_of part ≢ stages.Astray
 stage_apart parts.Lex e = cc
 stage_apart parts.Parse e = cc
 stage_apart parts.Nested e = cc
 stage_apart parts.Expand e = cc
 stage_apart parts.Scope e = cc
 
-unbuilt_apart : (part : Part) (kind place : ℕ) → ProgramRefused unbuilt ≡ ProgramRefused (refusal part kind place) → ⊥
-unbuilt_apart part kind place e = stage_apart part (ap stage_in (sym e))
+astray_apart : (part : Part) (kind place : ℕ) → ProgramRefused astray ≡ ProgramRefused (refusal part kind place) → ⊥
+astray_apart part kind place e = stage_apart part (ap stage_in (sym e))
 
 one_part : (a b : Part) → stage_of a ≡ stage_of b → a ≡ b
 one_part parts.Lex parts.Lex e = refl
@@ -302,9 +292,8 @@ fault_only part kind place command input status (Long long e) is = cc
 fault_only part kind place command input status (Broken rule breaks e) is = cc
 fault_only part kind place command input status (Faulty p k q fault e) is =
     fault_same p part k kind q place command input (told_once p part k kind q place (sym e ∙ is)) fault
-fault_only part kind place command input status (NotBuilt u e) is = absurd (unbuilt_apart part kind place (sym e ∙ is))
-fault_only part kind place command input status (Ran script vat scoped run has answers built e) is =
-    absurd (never (IsRefused part kind place) (λ h. cc) (λ k h. cc) (λ k h. cc) (λ i j h. cc) (unbuilt_apart part kind place) vat.name _ (run_of script scoped) (sym e ∙ is))
+fault_only part kind place command input status (Ran script vat scoped run has answers e) is =
+    absurd (never (IsRefused part kind place) (λ h. cc) (λ k h. cc) (λ k h. cc) (λ i j h. cc) (astray_apart part kind place) vat.name _ (run_of script scoped) (sym e ∙ is))
 fault_only part kind place command input status (Drew first second repeats e) is = cc
 fault_only part kind place command input status (Finished e) is = cc
 
@@ -390,26 +379,6 @@ tree_there (Some (Generate n)) input status text due (program, has, none) = absu
 tree_there (Some Sturdy) input status text due (program, has, none) = absurd has
 tree_there (Some Mint) input status text due (program, has, none) = absurd has
 
--- ---- a tree that is not built
-
-astray_stop : (name text : List ℕ) (r : machine.Run) → (due_of_run name text r).status ≡ ProgramRefused unbuilt → IsAstray r
-astray_stop name text (Goes w) e = cc
-astray_stop name text (Stopped Fuel k w) e = cc
-astray_stop name text (Stopped Deep k w) e = cc
-astray_stop name text (Stopped (Repeated i j) k w) e = cc
-astray_stop name text (Stopped Astray k w) e = tt
-
-unbuilt_only : (command : Option Command) (input : List ℕ) (status : Status) → Why command input status → status ≡ ProgramRefused unbuilt → IsUnbuilt command input
-unbuilt_only command input status (Misused e) is = cc
-unbuilt_only command input status (Long long e) is = cc
-unbuilt_only command input status (Broken rule breaks e) is = cc
-unbuilt_only command input status (Faulty part kind place fault e) is = absurd (unbuilt_apart part kind place (sym is ∙ e))
-unbuilt_only command input status (NotBuilt u e) is = u
-unbuilt_only command input status (Ran script vat scoped run has answers built e) is =
-    (run, script, vat, has, scoped, answers, inr (astray_stop vat.name _ (run_of script scoped) (sym e ∙ is)))
-unbuilt_only command input status (Drew first second repeats e) is = cc
-unbuilt_only command input status (Finished e) is = cc
-
 -- ---- a run that stops
 
 fuel_stop : (step : ℕ) (name text : List ℕ) (r : machine.Run) → (due_of_run name text r).status ≡ FuelSpent step → (world : World) × (r ≡ Stopped Fuel step world)
@@ -435,14 +404,31 @@ drew_stop first second name text (Stopped (Repeated i j) k w) e =
     let firsts : i ≡ first = cc in let seconds : j ≡ second = cc in (k, w, rw (firsts, seconds) refl)
 drew_stop first second name text (Stopped Astray k w) e = cc
 
+astray_stop : (name text : List ℕ) (r : machine.Run) → (due_of_run name text r).status ≡ ProgramRefused astray
+    → (step : ℕ) × (world : World) × (r ≡ Stopped Astray step world)
+astray_stop name text (Goes w) e = cc
+astray_stop name text (Stopped Fuel k w) e = cc
+astray_stop name text (Stopped Deep k w) e = cc
+astray_stop name text (Stopped (Repeated i j) k w) e = cc
+astray_stop name text (Stopped Astray k w) e = (k, w, refl)
+
+astray_only : (command : Option Command) (input : List ℕ) (status : Status) → Why command input status → status ≡ ProgramRefused astray → GoesAstray command input
+astray_only command input status (Misused e) is = cc
+astray_only command input status (Long long e) is = cc
+astray_only command input status (Broken rule breaks e) is = cc
+astray_only command input status (Faulty part kind place fault e) is = absurd (astray_apart part kind place (sym is ∙ e))
+astray_only command input status (Ran script vat scoped run has answers e) is =
+    let stop = astray_stop vat.name _ (run_of script scoped) (sym e ∙ is) in (stop.0, (run, script, vat, has, scoped, answers, stop.1, stop.2))
+astray_only command input status (Drew first second repeats e) is = cc
+astray_only command input status (Finished e) is = cc
+
 fuel_only : (step : ℕ) (command : Option Command) (input : List ℕ) (status : Status) → Why command input status → status ≡ FuelSpent step → Stops Fuel step command input
 fuel_only step command input status (Misused e) is = cc
 fuel_only step command input status (Long long e) is = cc
 fuel_only step command input status (Broken rule breaks e) is = cc
 fuel_only step command input status (Faulty part kind place fault e) is = cc
-fuel_only step command input status (NotBuilt u e) is = cc
-fuel_only step command input status (Ran script vat scoped run has answers built e) is =
-    let stop = fuel_stop step vat.name _ (run_of script scoped) (sym e ∙ is) in (run, script, vat, has, scoped, answers, built, stop.0, stop.1)
+fuel_only step command input status (Ran script vat scoped run has answers e) is =
+    let stop = fuel_stop step vat.name _ (run_of script scoped) (sym e ∙ is) in (run, script, vat, has, scoped, answers, stop.0, stop.1)
 fuel_only step command input status (Drew first second repeats e) is = cc
 fuel_only step command input status (Finished e) is = cc
 
@@ -451,9 +437,8 @@ deep_only step command input status (Misused e) is = cc
 deep_only step command input status (Long long e) is = cc
 deep_only step command input status (Broken rule breaks e) is = cc
 deep_only step command input status (Faulty part kind place fault e) is = cc
-deep_only step command input status (NotBuilt u e) is = cc
-deep_only step command input status (Ran script vat scoped run has answers built e) is =
-    let stop = deep_stop step vat.name _ (run_of script scoped) (sym e ∙ is) in (run, script, vat, has, scoped, answers, built, stop.0, stop.1)
+deep_only step command input status (Ran script vat scoped run has answers e) is =
+    let stop = deep_stop step vat.name _ (run_of script scoped) (sym e ∙ is) in (run, script, vat, has, scoped, answers, stop.0, stop.1)
 deep_only step command input status (Drew first second repeats e) is = cc
 deep_only step command input status (Finished e) is = cc
 
@@ -471,10 +456,9 @@ drew_only first second command input status (Misused e) is = cc
 drew_only first second command input status (Long long e) is = cc
 drew_only first second command input status (Broken rule breaks e) is = cc
 drew_only first second command input status (Faulty part kind place fault e) is = cc
-drew_only first second command input status (NotBuilt u e) is = cc
-drew_only first second command input status (Ran script vat scoped run has answers built e) is =
+drew_only first second command input status (Ran script vat scoped run has answers e) is =
     let stop = drew_stop first second vat.name _ (run_of script scoped) (sym e ∙ is) in
-    inr (stop.0, (run, script, vat, has, scoped, answers, built, stop.1, stop.2))
+    inr (stop.0, (run, script, vat, has, scoped, answers, stop.1, stop.2))
 drew_only first second command input status (Drew one other repeats e) is = drew_once one other first second command input (sym e ∙ is) repeats
 drew_only first second command input status (Finished e) is = cc
 
@@ -482,12 +466,12 @@ drew_only first second command input status (Finished e) is = cc
 
 -- what is due for the tree that a script's vat has
 abbrev IsDueOfRead : Script → VatScript → Scoped → Status → List ℕ → Type 0
-IsDueOfRead script vat scoped status text = IsDueOfTree (is_built scoped.tree) script vat.name scoped.tree status text
+IsDueOfRead script vat scoped status text = IsDueOfTree script vat.name scoped.tree status text
 
 source_tree : (script : Script) (vat : VatScript) (scoped : Scoped) (answer : Result Scoped ProgramFault) (status : Status) (text : List ℕ) → IsTree scoped answer
     → IsDueOfSource script vat.name answer status text → IsDueOfRead script vat scoped status text
 source_tree script vat scoped (Ok other) status text same due =
-    subst (λ (tree : List Node). IsDueOfTree (is_built tree) script vat.name tree status text) same due
+    subst (λ (tree : List Node). IsDueOfTree script vat.name tree status text) same due
 source_tree script vat scoped (Err faults.Memory) status text same due = absurd due
 source_tree script vat scoped (Err (faults.At part kind place)) status text same due = absurd same
 
@@ -505,31 +489,12 @@ read_due command input script vat scoped status text run (few, found, is) tree d
     let d : IsDue (Some Run) input status text = subst (λ (c : Option Command). IsDue c input status text) run due in
     vats_tree script script.vats vat scoped status text is tree (rw (is_few most_bytes (length input) few, found) at d)
 
-astray_due : (name text : List ℕ) (r : machine.Run) → IsAstray r → (due_of_run name text r).status ≡ ProgramRefused unbuilt
-astray_due name text (Goes w) h = absurd h
-astray_due name text (Stopped Fuel k w) h = absurd h
-astray_due name text (Stopped Deep k w) h = absurd h
-astray_due name text (Stopped (Repeated i j) k w) h = absurd h
-astray_due name text (Stopped Astray k w) h = refl
-
-tree_astray : (built : Bool) (script : Script) (vat : VatScript) (scoped : Scoped) (status : Status) (text : List ℕ)
-    → IsDueOfTree built script vat.name scoped.tree status text → (built ≡ false) ⊎ IsAstray (run_of script scoped)
-    → status ≡ ProgramRefused unbuilt
-tree_astray false script vat scoped status text due why = due.0
-tree_astray true script vat scoped status text due (inl not) = cc
-tree_astray true script vat scoped status text due (inr astray) = due.0 ∙ astray_due vat.name _ (run_of script scoped) astray
-
-unbuilt_there : (command : Option Command) (input : List ℕ) (status : Status) (text : List ℕ) → IsDue command input status text → IsUnbuilt command input
-    → status ≡ ProgramRefused unbuilt
-unbuilt_there command input status text due (run, script, vat, has, scoped, tree, why) =
-    tree_astray (is_built scoped.tree) script vat scoped status text (read_due command input script vat scoped status text run has tree due) why
-
 -- the status of a run that stops
 abbrev stopped_as : Stop → ℕ → Status
 stopped_as Fuel step = FuelSpent step
 stopped_as Deep step = TooDeep step
 stopped_as (Repeated i j) step = WordRepeated i j
-stopped_as Astray step = ProgramRefused unbuilt
+stopped_as Astray step = ProgramRefused astray
 
 stop_due : (name text : List ℕ) (stop : Stop) (step : ℕ) (w : World) → (due_of_run name text (Stopped stop step w)).status ≡ stopped_as stop step
 stop_due name text Fuel step w = refl
@@ -539,11 +504,8 @@ stop_due name text Astray step w = refl
 
 stop_there : (stop : Stop) (step : ℕ) (command : Option Command) (input : List ℕ) (status : Status) (text : List ℕ) → IsDue command input status text
     → Stops stop step command input → status ≡ stopped_as stop step
-stop_there stop step command input status text due (run, script, vat, has, scoped, tree, built, world, stops) =
-    let d = read_due command input script vat scoped status text run has tree due in
-    let e : IsDueOfTree true script vat.name scoped.tree status text =
-    subst (λ (b : Bool). IsDueOfTree b script vat.name scoped.tree status text) built d in
-    e.0 ∙ ap (λ (r : machine.Run). (due_of_run vat.name (machine_text (script_of script scoped.tree) r) r).status) stops
+stop_there stop step command input status text due (run, script, vat, has, scoped, tree, world, stops) =
+    (read_due command input script vat scoped status text run has tree due).0 ∙ ap (λ (r : machine.Run). (due_of_run vat.name (machine_text (script_of script scoped.tree) r) r).status) stops
     ∙ stop_due vat.name _ stop step world
 
 drew_there : (first second : ℕ) (command : Option Command) (input : List ℕ) (status : Status) (text : List ℕ) → IsDue command input status text
@@ -594,13 +556,13 @@ no_tree_comes None held held' result command pays = tt
 no_tree_comes (Some input) held held' result command (written, appends, pays) =
     there IsProgramRefused (HasNoTree command input) result command input written (tree_there command input result written) pays
 
-pub unbuilt_comes : (left held held' : Option (List ℕ)) (result : Status) (command : Option Command) → OfLeft left held held' result command
-    → IfSome left (λ input. ComesWhere (λ s. s ≡ ProgramRefused unbuilt) result (IsUnbuilt command input))
-unbuilt_comes None held held' result command pays = tt
-unbuilt_comes (Some input) held held' result command (written, appends, pays) = (
-  only (λ s. s ≡ ProgramRefused unbuilt) (IsUnbuilt command input) result command input written (λ stopped is. subst IsInterrupted is stopped)
-      (unbuilt_only command input result) pays,
-  there (λ s. s ≡ ProgramRefused unbuilt) (IsUnbuilt command input) result command input written (unbuilt_there command input result written) pays,
+pub astray_comes : (left held held' : Option (List ℕ)) (result : Status) (command : Option Command) → OfLeft left held held' result command
+    → IfSome left (λ input. ComesWhere (λ s. s ≡ ProgramRefused astray) result (GoesAstray command input))
+astray_comes None held held' result command pays = tt
+astray_comes (Some input) held held' result command (written, appends, pays) = (
+  only (λ s. s ≡ ProgramRefused astray) (GoesAstray command input) result command input written (λ stopped is. subst IsInterrupted is stopped)
+      (astray_only command input result) pays,
+  there (λ s. s ≡ ProgramRefused astray) (GoesAstray command input) result command input written (λ due strays. stop_there Astray strays.0 command input result written due strays.1) pays,
 )
 
 pub fuel_comes : (left held held' : Option (List ℕ)) (result : Status) (command : Option Command) → OfLeft left held held' result command

@@ -5,7 +5,6 @@ use Rattle.std.proofs.KnownBytes.{Appends-nil}
 use Rattle.ev_io.specs.Ends.{Takes}
 use Rattle.ev_io.specs.declared.read.ReadEnd.TheVariants.{TooLong as TooMany}
 use Rattle.std.proofs.lemmas.Bool.Decides.{nat_tests}
-use Rattle.ev_steps.specs.Built.{is_built}
 use Rattle.def_kernel.specs.declared.node.Node.{Node}
 use Rattle.def_machine.specs.State.{Fuel, Deep, Repeated, Astray}
 use Rattle.ev_reader.specs.declared.fault.ProgramFault.{ProgramFault}
@@ -53,15 +52,13 @@ of_end name text (Stopped Deep step w) = tt
 of_end name text (Stopped (Repeated i j) step w) = tt
 of_end name text (Stopped Astray step w) = tt
 
-of_tree : (built : Bool) (script : Script) (name : List ℕ) (tree : List Node) (status : Status) (text : List ℕ)
-    → IsDueOfTree built script name tree status text → IsOfWhole status
-of_tree true script name tree status text due =
+of_tree : (script : Script) (name : List ℕ) (tree : List Node) (status : Status) (text : List ℕ) → IsDueOfTree script name tree status text → IsOfWhole status
+of_tree script name tree status text due =
     let theirs = script_of script tree in subst IsOfWhole (sym due.0) (of_end name (machine_text theirs (run theirs)) (run theirs))
-of_tree false script name tree status text due = subst IsOfWhole (sym due.0) tt
 
 of_source : (script : Script) (name : List ℕ) (answer : Result Scoped ProgramFault) (status : Status) (text : List ℕ)
     → IsDueOfSource script name answer status text → IsOfWhole status
-of_source script name (Ok scoped) status text due = of_tree (is_built scoped.tree) script name scoped.tree status text due
+of_source script name (Ok scoped) status text due = of_tree script name scoped.tree status text due
 of_source script name (Err fault) status text due = of_fault name fault status text due
 
 of_vats : (script : Script) (vats : List VatScript) (status : Status) (text : List ℕ) → IsDueOfVats script vats status text → IsOfWhole status

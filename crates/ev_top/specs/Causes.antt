@@ -1,12 +1,11 @@
 -- Why each answer comes.
-use Rattle.std.specs.Prelude.{◌≡◌, ◌⊎◌, ◌<◌, ◌≤◌, ℕ, true, false, List, [], ◌∷◌, length, Some, None, Ok, Err}
+use Rattle.std.specs.Prelude.{◌≡◌, ◌⊎◌, ◌<◌, ◌≤◌, ℕ, true, List, [], ◌∷◌, length, Some, None, Ok, Err}
 use Rattle.std.specs.declared.option.Option.{Option}
-use Rattle.ev_steps.specs.Built.{is_built}
-use Rattle.def_machine.specs.State.{Stop, Fuel, Deep, Repeated, Astray}
+use Rattle.def_machine.specs.State.{Stop, Repeated, Astray}
 use Rattle.ev_reader.specs.Program.{Answers}
 use Rattle.ev_reader.specs.declared.fault.ProgramFault.TheVariants.{At}
 use Rattle.ev_reader.specs.declared.fault.Stage.{Stage as Part}
-use Rattle.def_run.specs.World.{run, Run as Machine, World, Goes, Stopped}
+use Rattle.def_run.specs.World.{run, Run as Machine, World, Stopped}
 use Rattle.ev_scope.specs.declared.accepted.Scoped.{Scoped}
 use Rattle.ev_script.specs.declared.script.Script.{Script}
 use Rattle.ev_script.specs.declared.script.VatScript.{VatScript}
@@ -92,24 +91,14 @@ IsProgramRefused _ = ⊥
 abbrev pub run_of : Script → Scoped → Machine
 run_of script scoped = run (script_of script scoped.tree)
 
--- a run that met a noun which nothing binds
-abbrev pub IsAstray : Machine → Type 0
-IsAstray (Goes w) = ⊥
-IsAstray (Stopped Fuel step w) = ⊥
-IsAstray (Stopped Deep step w) = ⊥
-IsAstray (Stopped Astray step w) = Unit {0}
-IsAstray (Stopped (Repeated i j) step w) = ⊥
-
--- the vat's program is read to a tree that is not built, or whose run goes astray
-abbrev pub IsUnbuilt : Option Command → List ℕ → Type 0
-IsUnbuilt command input = (command ≡ Some Run) × (script : Script) × (vat : VatScript) × HasVat input script vat
-    × (scoped : Scoped) × Answers (Ok scoped) vat.source safe_names × ((is_built scoped.tree ≡ false) ⊎ IsAstray (run_of script scoped))
-
--- it is read to a tree that is built, whose run stops in this step
+-- the vat's program is read to a tree whose run stops in this step
 abbrev pub Stops : Stop → ℕ → Option Command → List ℕ → Type 0
 Stops stop step command input = (command ≡ Some Run) × (script : Script) × (vat : VatScript) × HasVat input script vat
-    × (scoped : Scoped) × Answers (Ok scoped) vat.source safe_names × (is_built scoped.tree ≡ true)
-    × (world : World) × (run_of script scoped ≡ Stopped stop step world)
+    × (scoped : Scoped) × Answers (Ok scoped) vat.source safe_names × (world : World) × (run_of script scoped ≡ Stopped stop step world)
+
+-- it stops in a step where it meets a noun that nothing binds
+abbrev pub GoesAstray : Option Command → List ℕ → Type 0
+GoesAstray command input = (step : ℕ) × Stops Astray step command input
 
 -- the second of these draws gives what the first gave, in those answers or in a step of that run
 abbrev pub RepeatsWord : ℕ → ℕ → Option Command → List ℕ → Type 0

@@ -2,7 +2,6 @@
 use Rattle.std.specs.Prelude.{◌≡◌, ◌⊎◌, ◌≤◌, ◌+◌, ℕ, Bool, true, false, nat_lt, ◌&&◌, List, [], ◌∷◌, length, codes, Some, None, IsSome, Result, Ok, Err}
 use Rattle.std.specs.declared.option.Option.{Option}
 use Rattle.std.specs.Io.KnownBytes.{Appends, Consumes}
-use Rattle.ev_steps.specs.Built.{is_built}
 use Rattle.def_kernel.specs.declared.node.Node.{Node}
 use Rattle.def_machine.specs.State.{Fuel, Deep, Repeated, Astray}
 use Rattle.ev_reader.specs.declared.fault.ProgramFault.{ProgramFault}
@@ -28,42 +27,41 @@ use Rattle.ev_top.specs.declared.reply.Reply.{Reply}
 use Rattle.ev_top.specs.declared.program.Early.{Early}
 use Rattle.ev_top.specs.declared.program.Early.TheVariants as early
 use Rattle.ev_top.specs.declared.status.Refusal.{Refusal}
-use Rattle.ev_top.specs.declared.status.Stage.TheVariants.{Unbuilt}
+use Rattle.ev_top.specs.declared.status.Stage.TheVariants as stages
 use Rattle.ev_top.specs.declared.status.Status.{Status}
 use Rattle.ev_top.specs.declared.status.Status.TheVariants.{Done, Usage, ReadFault, WriteFault, TooLong, ScriptRefused, ProgramRefused, FuelSpent, TooDeep, WordRepeated, Memory}
 
 -- ---- a run
 
--- where no stage refuses a program, and it is not built
-abbrev pub unbuilt : Refusal
-unbuilt = record { vat = 0; stage = Unbuilt; kind = 0; place = 0 }
+-- where no stage refuses a program, and its run goes astray
+abbrev pub astray : Refusal
+astray = record { vat = 0; stage = stages.Astray; kind = 0; place = 0 }
 
--- what is due for a program of that name that is not built
-abbrev pub not_built : List ℕ → Debt
-not_built name = program_refused name unbuilt (codes "unbuilt 0 0")
+-- what is due for a program of that name whose run goes astray
+abbrev pub gone_astray : List ℕ → Debt
+gone_astray name = program_refused name astray (codes "astray 0 0")
 
 -- What is due for a run with this text, of the vat of that name: its status tells how it ended, at its end or in a step that
 -- stopped, for fuel or for depth, or where a draw gave what an earlier one gave. A run goes astray where a noun is met that
--- nothing binds; such a program counts as not built.
+-- nothing binds; such a program is refused.
 abbrev pub due_of_run : List ℕ → List ℕ → machine.Run → Debt
 due_of_run name text (Goes w) = record { status = Done; text = text }
 due_of_run name text (Stopped Fuel step w) = record { status = FuelSpent step; text = text }
 due_of_run name text (Stopped Deep step w) = record { status = TooDeep step; text = text }
-due_of_run name text (Stopped Astray step w) = not_built name
+due_of_run name text (Stopped Astray step w) = gone_astray name
 due_of_run name text (Stopped (Repeated i j) step w) = record { status = WordRepeated i j; text = text }
 
 -- the same for the machine's run on a script
 abbrev pub due_of_machine : List ℕ → machine.Script → Debt
 due_of_machine name script = due_of_run name (machine_text script (run script)) (run script)
 
--- what is due for a script whose vat has that name and tree, by whether the tree is built: its run, or its refusal
-abbrev pub IsDueOfTree : Bool → Script → List ℕ → List Node → Status → List ℕ → Type 0
-IsDueOfTree true script name tree status text = IsFor status text (due_of_machine name (script_of script tree))
-IsDueOfTree false script name tree status text = IsFor status text (not_built name)
+-- what is due for a script whose vat has that name and tree: its run
+abbrev pub IsDueOfTree : Script → List ℕ → List Node → Status → List ℕ → Type 0
+IsDueOfTree script name tree status text = IsFor status text (due_of_machine name (script_of script tree))
 
 -- what is due for a script by what the source of its vat is read as
 abbrev pub IsDueOfSource : Script → List ℕ → Result Scoped ProgramFault → Status → List ℕ → Type 0
-IsDueOfSource script name (Ok scoped) status text = IsDueOfTree (is_built scoped.tree) script name scoped.tree status text
+IsDueOfSource script name (Ok scoped) status text = IsDueOfTree script name scoped.tree status text
 IsDueOfSource script name (Err fault) status text = IsDueOfFault name fault status text
 
 -- what is due for a script with these vats, of which there is at most one: the run of that one, or of none

@@ -7,8 +7,8 @@ ghost use Rattle.ev_top.specs.Commands.{command_of, reads};
 ghost use Rattle.ev_top.specs.Debt.{most_bytes};
 ghost use Rattle.def_machine.specs.State.{Fuel, Deep};
 ghost use Rattle.ev_reader.specs.declared.fault.Stage.{Stage as Part};
-ghost use Rattle.ev_top.specs.Causes.{Breaks, ComesWhere, Follows, HasFault, HasNoTree, IsLong, IsProgramRefused, IsUnbuilt, RepeatsWord, Stops};
-ghost use Rattle.ev_top.specs.Due.{IsDue, IsOfWhole, IsReading, Pays, IsOfRead, Finishes, Reads, ReadsFor, unbuilt};
+ghost use Rattle.ev_top.specs.Causes.{Breaks, ComesWhere, Follows, GoesAstray, HasFault, HasNoTree, IsLong, IsProgramRefused, RepeatsWord, Stops};
+ghost use Rattle.ev_top.specs.Due.{IsDue, IsOfWhole, IsReading, Pays, IsOfRead, Finishes, Reads, ReadsFor, astray};
 ghost use Rattle.ev_top.specs.Headline.{MessagesHaveOneFate, StampedReachFrozenAlone, UsesAreConnected};
 ghost use Rattle.ev_top.specs.Programs.{refusal};
 
@@ -167,7 +167,7 @@ pub fn top<S: Source, K: Sink>(alloc: Global, words: &Seq<Str>, src: &mut S, out
     ensures refused { IfSome (S.left src.old) (λ input. (part : Part) (kind place : ℕ)
         → ComesWhere (λ s. s ≡ Status.ProgramRefused (refusal part kind place)) result (HasFault part kind place (command_of words.now) input)) }
     ensures no_tree { IfSome (S.left src.old) (λ input. Follows IsProgramRefused result (HasNoTree (command_of words.now) input)) }
-    ensures unbuilt { IfSome (S.left src.old) (λ input. ComesWhere (λ s. s ≡ Status.ProgramRefused unbuilt) result (IsUnbuilt (command_of words.now) input)) }
+    ensures astray { IfSome (S.left src.old) (λ input. ComesWhere (λ s. s ≡ Status.ProgramRefused astray) result (GoesAstray (command_of words.now) input)) }
     ensures fuel { IfSome (S.left src.old) (λ input. (step : ℕ) → ComesWhere (λ s. s ≡ Status.FuelSpent step) result
         (Stops Fuel step (command_of words.now) input)) }
     ensures depth { IfSome (S.left src.old) (λ input. (step : ℕ) → ComesWhere (λ s. s ≡ Status.TooDeep step) result
@@ -178,8 +178,7 @@ pub fn top<S: Source, K: Sink>(alloc: Global, words: &Seq<Str>, src: &mut S, out
     ensures write_fault { result ≡ Status.WriteFault → Rose (K.faults out.old) (K.faults out.new) }
     // In the history that is due each message has one fate.
     ensures fates { IfSome (S.left src.old) (λ input. MessagesHaveOneFate (command_of words.now) input) }
-    // In the world in which its run ends, what DeepFrozen stamped reaches no assignable state. No program that is built
-    // stamps yet.
+    // In the world in which its run ends, what DeepFrozen stamped reaches no assignable state.
     ensures frozen { IfSome (S.left src.old) (λ input. StampedReachFrozenAlone (command_of words.now) input) }
     // In that run an object uses a reference only by initial conditions, endowment, parenthood or introduction.
     ensures connected { IfSome (S.left src.old) (λ input. UsesAreConnected (command_of words.now) input) }

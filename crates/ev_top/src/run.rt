@@ -1,12 +1,10 @@
 //! What is due for the bytes of a script: the run of its vat, or a refusal.
 
-ghost use Rattle.std.specs.Prelude.{◌≡◌, ◌≤◌, true, [], ◌∷◌, length, IfOk, string_bytes};
+ghost use Rattle.std.specs.Prelude.{◌≡◌, ◌≤◌, [], ◌∷◌, length, IfOk, string_bytes};
 ghost use Rattle.ev_script.specs.Rules.{IsAdmitted};
-ghost use Rattle.ev_steps.specs.Built.{is_built};
 ghost use Rattle.ev_top.specs.Debt.{IsFor};
-ghost use Rattle.ev_top.specs.Due.{IsDueOfScript, IsDueOfSource, IsDueOfTree, IsDueOfVats, due_of_machine, not_built};
+ghost use Rattle.ev_top.specs.Due.{IsDueOfScript, IsDueOfSource, IsDueOfTree, IsDueOfVats, gone_astray};
 ghost use Rattle.ev_top.specs.Ends.{due_by};
-ghost use Rattle.ev_top.specs.Machine.{script_of};
 ghost use Rattle.ev_top.specs.Programs.{ReadAs};
 ghost use Rattle.ev_top.specs.Script.{most_vats, script_from};
 
@@ -15,7 +13,6 @@ use crate::script::script_from;
 use crate::status::{Refusal, Stage, Status};
 use def_kernel::Kernel;
 use ev_base::{Limits, Memory};
-use ev_eval::is_built;
 use ev_reader::read_program;
 use ev_script::{Script, ScriptFault, VatScript};
 use ev_vat::{RunEnd, run_program};
@@ -33,19 +30,19 @@ fn reply_empty(alloc: Global, script: &Script) -> Result<Reply, Memory>
     reply_line(alloc, Status::Done, "end")
 }
 
-/// The refusal of a program that is not built.
-fn reply_unbuilt(alloc: Global, name: &str) -> Result<Reply, Memory>
-    ensures { IfOk result (λ reply. IsFor reply.status (string_bytes reply.text) (not_built name.now)) }
+/// The refusal of a program whose run went astray.
+fn reply_astray(alloc: Global, name: &str) -> Result<Reply, Memory>
+    ensures { IfOk result (λ reply. IsFor reply.status (string_bytes reply.text) (gone_astray name.now)) }
 {
     let refusal = Refusal {
         vat: 0,
-        stage: Stage::Unbuilt,
+        stage: Stage::Astray,
         kind: 0,
         place: 0,
     };
     Ok(Reply {
         status: Status::ProgramRefused(refusal),
-        text: format!(in alloc; "refused program {name} unbuilt 0 0\n")?,
+        text: format!(in alloc; "refused program {name} astray 0 0\n")?,
     })
 }
 
@@ -58,12 +55,12 @@ fn reply_told(alloc: Global, name: &str, end: RunEnd, text: String) -> Result<Re
         RunEnd::FuelSpent(step) => Status::FuelSpent(step),
         RunEnd::TooDeep(step) => Status::TooDeep(step),
         RunEnd::WordRepeated(first, second) => Status::WordRepeated(first, second),
-        RunEnd::Astray => return reply_unbuilt(alloc, name),
+        RunEnd::Astray => return reply_astray(alloc, name),
     };
     Ok(Reply { status, text })
 }
 
-/// The run of the program of a script's one vat, which is built: as many turns as the schedule has entries.
+/// The run of the program of a script's one vat: as many turns as the schedule has entries.
 fn reply_run(
     alloc: Global,
     script: &Script,
@@ -72,8 +69,7 @@ fn reply_run(
 ) -> Result<Reply, Memory>
     requires admitted { IsAdmitted script.now }
     requires alone { script.now.vats ≡ vat.now ∷ [] }
-    requires built { is_built tree.now ≡ true }
-    ensures { IfOk result (λ reply. IsFor reply.status (string_bytes reply.text) (due_of_machine vat.now.name (script_of script.now tree.now))) }
+    ensures { IfOk result (λ reply. IsDueOfTree script.now vat.now.name tree.now reply.status (string_bytes reply.text)) }
 {
     let limits = Limits {
         depth: GREATEST_DEPTH,
@@ -82,24 +78,6 @@ fn reply_run(
     let turns = script.schedule.len() as u64;
     let told = run_program(alloc, &script.key, name, tree, turns, script.fuel, limits)?;
     reply_told(alloc, name, told.end, told.text)
-}
-
-/// The run of the tree of a script's one vat, if it is built, and else its refusal.
-fn reply_tree(
-    alloc: Global,
-    script: &Script,
-    vat: &VatScript,
-    tree: &Kernel,
-) -> Result<Reply, Memory>
-    requires admitted { IsAdmitted script.now }
-    requires alone { script.now.vats ≡ vat.now ∷ [] }
-    ensures { IfOk result (λ reply. IsDueOfTree (is_built tree.now) script.now vat.now.name tree.now reply.status (string_bytes reply.text)) }
-{
-    if is_built(tree) {
-        reply_run(alloc, script, vat, tree)
-    } else {
-        reply_unbuilt(alloc, vat.name.as_str())
-    }
 }
 
 /// The run of a script's one vat, or the refusal of its source.
@@ -111,7 +89,7 @@ fn reply_vat(alloc: Global, script: &Script, vat: &VatScript) -> Result<Reply, M
 {
     let given = safe_names(alloc)?;
     match read_program(alloc, vat.source.as_str(), &given) {
-        Ok(scoped) => reply_tree(alloc, script, vat, scoped.tree()),
+        Ok(scoped) => reply_run(alloc, script, vat, scoped.tree()),
         Err(fault) => reply_fault(alloc, vat.name.as_str(), fault),
     }
 }

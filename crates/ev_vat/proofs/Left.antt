@@ -26,7 +26,7 @@ use Rattle.ev_vat.proofs.Shows.{told-behind, ended-shown}
 
 -- what a history shows, but for frames
 abbrev tells : List Event → List ShownEvent
-tells es = filter is_no_frame (shown_events es)
+tells es = filter is_no_frame (shown_events [] es)
 
 module _ (t : Names) (ts : List Words) where
   abbrev queue_events : List (machine.Message Local) → List Event
@@ -42,7 +42,7 @@ module _ (t : Names) (ts : List Words) where
   unfolding shown_events shown_event shown_msg msg_of name_of
   held_at-shown n [] = refl
   held_at-shown n (m ∷ ms) =
-      ap (λ (es : List ShownEvent). line.LeftHeld zero (shown_name (name_of t (Prom n))) (record { sender = zero; number = m.id }) ∷ es) (held_at-shown n ms)
+      ap (λ (es : List ShownEvent). line.LeftHeld zero (shown_name [] (name_of t (Prom n))) (record { sender = zero; number = m.id }) ∷ es) (held_at-shown n ms)
       ∙ ap (λ (a : Global). line.LeftHeld zero a (record { sender = zero; number = m.id }) ∷ map (held_line (naming_of t) n) ms) (name-shown t n)
 
   wait_at-shown : (n : ℕ) (ms : List Message)
@@ -50,7 +50,7 @@ module _ (t : Names) (ts : List Words) where
   unfolding shown_events shown_event shown_msg msg_of name_of
   wait_at-shown n [] = refl
   wait_at-shown n (m ∷ ms) =
-      ap (λ (es : List ShownEvent). line.LeftWait zero (shown.Name (shown_name (name_of t (Prom n)))) (record { sender = zero; number = m.id }) ∷ es) (wait_at-shown n ms)
+      ap (λ (es : List ShownEvent). line.LeftWait zero (shown.Name (shown_name [] (name_of t (Prom n)))) (record { sender = zero; number = m.id }) ∷ es) (wait_at-shown n ms)
       ∙ ap (λ (a : Global). line.LeftWait zero (shown.Name a) (record { sender = zero; number = m.id }) ∷ map (wait_line (naming_of t) n) ms) (name-shown t n)
 
   held-shown : (n : ℕ) (ks : List Known) → tells (held_alone t (knowns_by ts n ks)) ≡ held_lines (naming_of t) n ks
@@ -86,7 +86,7 @@ module _ (t : Names) (ts : List Words) where
 
 -- the closing list of a vat that has rested, which the inside stands for
 pub left-shown : (a : Alone) (w : World) (i : Interior) → vat_of w i ≡ resting a.vat
-    → filter is_no_frame (shown_events (left_alone a ++ Ends ∷ [])) ≡ left_lines (naming_of a.names) i.refs
+    → filter is_no_frame (shown_events [] (left_alone a ++ Ends ∷ [])) ≡ left_lines (naming_of a.names) i.refs
 unfolding left_alone vat_of
 left-shown a w i e =
     let queue_so : a.vat.queue ≡ map (message_by (texts_of w)) i.refs.queue = sym (ap (λ (s : Vat Local). s.queue) e) in
@@ -97,7 +97,7 @@ left-shown a w i e =
 
 -- the history with its closing list
 pub closed-shown : (a : Alone) (w : World) (i : Interior) → vat_of w i ≡ resting a.vat
-    → filter is_no_frame (shown_events (a.history ++ left_alone a ++ Ends ∷ [])) ≡ filter is_no_frame (shown_events a.history) ++ left_lines (naming_of a.names) i.refs
+    → filter is_no_frame (shown_events [] (a.history ++ left_alone a ++ Ends ∷ [])) ≡ filter is_no_frame (shown_events [] a.history) ++ left_lines (naming_of a.names) i.refs
 closed-shown a w i e =
     ap (λ (es : List Event). tells es) (append_assoc a.history (left_alone a) (Ends ∷ []))
     ∙ told-behind a.history (left_alone a ++ Ends ∷ [])

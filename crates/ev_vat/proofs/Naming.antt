@@ -25,12 +25,12 @@ use Rattle.ev_vat.specs.Run.{naming_of, named_of}
 
 -- ---- the name of a number
 
-looked_up : (ns : List Name) (k : ℕ) (d : Name) → shown_name (unwrap_or (slice_get ns k) d) ≡ unwrap_or (slice_get (map shown_name ns) k) (shown_name d)
+looked_up : (ns : List Name) (k : ℕ) (d : Name) → shown_name [] (unwrap_or (slice_get ns k) d) ≡ unwrap_or (slice_get (map (shown_name []) ns) k) (shown_name [] d)
 looked_up [] k d = refl
 looked_up (n ∷ ns) zero d = refl
 looked_up (n ∷ ns) (suc k) d = looked_up ns k d
 
-pub name-shown : (t : Names) (k : ℕ) → shown_name (name_of t (Prom k)) ≡ name_at (naming_of t) k
+pub name-shown : (t : Names) (k : ℕ) → shown_name [] (name_of t (Prom k)) ≡ name_at (naming_of t) k
 unfolding name_of shown_name
 name-shown t k = looked_up t.known k _
 
@@ -40,7 +40,7 @@ pub root-named : named_of root_alone ≡ code.root_alone
 unfolding root_alone code.root_alone shown_name
 root-named = refl
 
-promises-shown : (p n : ℕ) → map shown_name (promises_from p n) ≡ code.promises_from zero p n
+promises-shown : (p n : ℕ) → map (shown_name []) (promises_from p n) ≡ code.promises_from zero p n
 unfolding promises_from code.promises_from shown_name
 promises-shown p zero = refl
 promises-shown p (suc n) = ap (λ (ns : List Global). global.Own zero p ∷ ns) (promises-shown (suc p) n)
@@ -48,13 +48,13 @@ promises-shown p (suc n) = ap (λ (ns : List Global). global.Own zero p ∷ ns) 
 filled-named : (k : ℕ) (t : Names) → named_of (filled k t) ≡ code.filled k (named_of t)
 unfolding filled code.promised
 filled-named k t =
-    rw (map-append shown_name t.known (promises_from t.promises (k - length t.known)), promises-shown t.promises (k - length t.known), length-map t.known shown_name) refl
+    rw (map-append (shown_name []) t.known (promises_from t.promises (k - length t.known)), promises-shown t.promises (k - length t.known), length-map t.known (shown_name [])) refl
 
 answer-named : (k j : ℕ) (t : Names) → named_of (with_answer k j t) ≡ code.with_answer k j (named_of t)
 unfolding with_answer code.with_name shown_name msg_of
 answer-named k j t =
     ap (λ (ns : List Global). record { naming = record { vat = zero; names = ns; mails = [] }; promises = (filled k t).promises })
-    (map-append shown_name (filled k t).known (Answer zero (record { sender = zero; number = j }) ∷ []))
+    (map-append (shown_name []) (filled k t).known (Answer zero (record { sender = zero; number = j }) ∷ []))
     ∙ ap (λ (u : code.Named). code.with_name (global.Answer zero (record { sender = zero; number = j })) u) (filled-named k t)
 
 -- ---- what a line tells

@@ -108,10 +108,10 @@ gives_same d s t e f = cc
 
 module _ (a : Alone) (j : Interior) (n m : Named) (h g : List ShownEvent) (head : Event) (shown : ShownEvent) (k : ℕ) (d : Done Local (Unit {0}))
     (sound : IsSound j) (each : (w : World) → Sees w j → d ≡ Gives tt (vat_of w j))
-    (named : n ≡ named_of a.names) (so_far : h ≡ filter is_no_frame (shown_events a.history))
+    (named : n ≡ named_of a.names) (so_far : h ≡ filter is_no_frame (shown_events [] a.history))
     (heard : m ≡ code.names_after n j.micro.events (length j.refs.known))
     (said : g ≡ h ++ shown ∷ told.lines_of (telling_by m j.heap.texts) j.micro.events)
-    (head_so : shown_event head ≡ shown ∷ []) (head_stays : filter is_no_frame (shown_event head) ≡ shown_event head) where
+    (head_so : shown_event [] head ≡ shown ∷ []) (head_stays : filter is_no_frame (shown_event [] head) ≡ shown_event [] head) where
   abbrev now : World
   now = exactly j sound
 
@@ -144,18 +144,18 @@ module _ (a : Alone) (j : Interior) (n m : Named) (h g : List ShownEvent) (head 
       ap (λ (x : Named). told.lines_of (telling_by x j.heap.texts) j.micro.events) names_on
       ∙ ap (λ (ts : List Words). told.lines_of (telling_by (named_of names_now) ts) j.micro.events) (sym texts_now)
 
-  told_on : filter is_no_frame (shown_events (told_by names_now head left_at.happened)) ≡ shown ∷ told.lines_of (telling_by m j.heap.texts) j.micro.events
+  told_on : filter is_no_frame (shown_events [] (told_by names_now head left_at.happened)) ≡ shown ∷ told.lines_of (telling_by m j.heap.texts) j.micro.events
   told_on =
-      ap (λ (hs : List (machine.Happened Local)). filter is_no_frame (shown_events (told_by names_now head hs))) (told-here now j refl)
+      ap (λ (hs : List (machine.Happened Local)). filter is_no_frame (shown_events [] (told_by names_now head hs))) (told-here now j refl)
       ∙ told-shown names_now now head head_stays j.micro.events
       ∙ ap (λ (es : List ShownEvent). es ++ told.lines_of (telling_by (named_of names_now) (texts_of now)) j.micro.events) head_so
       ∙ ap (λ (es : List ShownEvent). shown ∷ es) (sym lines_now)
 
-  history_on : g ≡ filter is_no_frame (shown_events (a.history ++ told_by names_now head left_at.happened))
+  history_on : g ≡ filter is_no_frame (shown_events [] (a.history ++ told_by names_now head left_at.happened))
   history_on =
       said
       ∙ ap (λ (es : List ShownEvent). es ++ shown ∷ told.lines_of (telling_by m j.heap.texts) j.micro.events) so_far
-      ∙ ap (λ (es : List ShownEvent). filter is_no_frame (shown_events a.history) ++ es) (sym told_on)
+      ∙ ap (λ (es : List ShownEvent). filter is_no_frame (shown_events [] a.history) ++ es) (sym told_on)
       ∙ sym (told-behind a.history (told_by names_now head left_at.happened))
 
   steps_on : (b : Alone) × ((after_step a head k d ≡ Runs b) × IsAt b (rested j) m g)
@@ -282,10 +282,10 @@ module _ (i j : Interior) (tree : List Node) (depth k : ℕ) (n m : Named) (h g 
       turned_so a i j tree depth k n h q qs x xs grown stays at e f m g sound
       (λ w s. turn_at tree depth (Ok true) i j (q ∷ qs) e t w s.rest s.texts (sees_back w i j grown stays s).key) heard said
 
-  idle_line : h ++ line.Idle k ∷ [] ≡ filter is_no_frame (shown_events (a.history ++ Idle k ∷ []))
+  idle_line : h ++ line.Idle k ∷ [] ≡ filter is_no_frame (shown_events [] (a.history ++ Idle k ∷ []))
   idle_line =
       ap (λ (es : List ShownEvent). es ++ line.Idle k ∷ []) at.history
-      ∙ ap (λ (es : List ShownEvent). filter is_no_frame (shown_events a.history) ++ es) (sym (idle-shown k))
+      ∙ ap (λ (es : List ShownEvent). filter is_no_frame (shown_events [] a.history) ++ es) (sym (idle-shown k))
       ∙ sym (told-behind a.history (Idle k ∷ []))
 
   idle_by : (qs : List Message) (xs : List (TheirMessage Local)) → i.refs.queue ≡ qs → a.vat.queue ≡ xs → Grown i.heap j.heap → Stays i j → turns_to tree depth (Ok false) i j
@@ -340,7 +340,7 @@ stopped_turn i j tree depth k n h a r t grown stays at = turned_not i j tree dep
 
 -- ---- the start
 
-rooted_vat : (before : machine.Vat Local) (texts : List Words) (key : List ℕ) (i : Interior) (fuel : ℕ) → before ≡ start zero → IsRooted zero key i → i.heap ≡ record nothing { texts = problems }
+rooted_vat : (before : machine.Vat Local) (texts : List Words) (key : List ℕ) (i : Interior) (fuel : ℕ) → before ≡ start zero → IsRooted zero [] [] key i → i.heap ≡ record nothing { texts = problems }
     → i.micro ≡ record { fuel = fuel; events = [] } → vat_of (record { before = before; texts = texts; key = key }) i ≡ start fuel
 unfolding vat_of start machine.begun knowns_by mails_by words_by inside.lines_of
 rooted_vat before texts key i fuel e r h m = rw (e, r.refs, r.drawn, r.post, h, m) refl
@@ -349,11 +349,11 @@ start_again : (fuel : ℕ) → start fuel ≡ resting (start fuel)
 unfolding start
 start_again fuel = refl
 
-pub starts_at : (i : Interior) (key : List ℕ) (fuel : ℕ) (n : Named) (h : List ShownEvent) → IsRooted zero key i → i.heap ≡ record nothing { texts = problems } → i.micro ≡ record { fuel = fuel; events = [] } → IsSound i
+pub starts_at : (i : Interior) (key : List ℕ) (fuel : ℕ) (n : Named) (h : List ShownEvent) → IsRooted zero [] [] key i → i.heap ≡ record nothing { texts = problems } → i.micro ≡ record { fuel = fuel; events = [] } → IsSound i
     → n ≡ code.root_alone → h ≡ [] → IsAt (begins_alone fuel) i n h
 unfolding begins_alone shown_events
 starts_at i key fuel n h r heap micro sound names so_far = record {
-  vat = λ w e. rooted_vat w.before w.texts w.key i fuel e.before (subst (λ (x : List ℕ). IsRooted zero x i) (sym r.key ∙ e.key) r) heap micro ∙ start_again fuel;
+  vat = λ w e. rooted_vat w.before w.texts w.key i fuel e.before (subst (λ (x : List ℕ). IsRooted zero [] [] x i) (sym r.key ∙ e.key) r) heap micro ∙ start_again fuel;
   names = names ∙ sym root-named;
   history = so_far;
   sound = sound;
@@ -362,15 +362,15 @@ starts_at i key fuel n h r heap micro sound names so_far = record {
 -- ---- the closing list
 
 closes_at : (a : Alone) (i : Interior) (n : Named) (h g : List ShownEvent) → IsAt a i n h → g ≡ h ++ left_lines n.naming i.refs
-    → g ≡ filter is_no_frame (shown_events (a.history ++ left_alone a ++ Ends ∷ []))
+    → g ≡ filter is_no_frame (shown_events [] (a.history ++ left_alone a ++ Ends ∷ []))
 closes_at a i n h g at said =
     said
     ∙ ap (λ (es : List ShownEvent). es ++ left_lines n.naming i.refs) at.history
-    ∙ ap (λ (x : Named). filter is_no_frame (shown_events a.history) ++ left_lines x.naming i.refs) at.names
+    ∙ ap (λ (x : Named). filter is_no_frame (shown_events [] a.history) ++ left_lines x.naming i.refs) at.names
     ∙ sym (closed-shown a (exactly i at.sound) i (at.vat (exactly i at.sound) (sees_exactly i at.sound)))
 
 pub closes_ok : (r : Result (Unit {0}) NoMemory) (a : Alone) (i : Interior) (n : Named) (h g : List ShownEvent) (t : told.Naming) → t ≡ n.naming → IsAt a i n h → OnOk r (g ≡ h ++ left_lines t i.refs)
-    → OnOk r (g ≡ filter is_no_frame (shown_events (a.history ++ left_alone a ++ Ends ∷ [])))
+    → OnOk r (g ≡ filter is_no_frame (shown_events [] (a.history ++ left_alone a ++ Ends ∷ [])))
 closes_ok (Ok u) a i n h g t e at said = closes_at a i n h g at (said ∙ ap (λ (x : told.Naming). h ++ left_lines x i.refs) e)
 closes_ok (Err x) a i n h g t e at said = tt
 
@@ -423,7 +423,7 @@ module _ (draws : ℕ → ℕ) (tree : List Node) (depth : ℕ) where
         ),
       )
 
-  halts_with : (n k : ℕ) (c : machine.Stop) (a b : Alone) (h g : List ShownEvent) → k < n → turns_from n 0 a ≡ turns_from (n - k) k b → h ≡ filter is_no_frame (shown_events b.history)
+  halts_with : (n k : ℕ) (c : machine.Stop) (a b : Alone) (h g : List ShownEvent) → k < n → turns_from n 0 a ≡ turns_from (n - k) k b → h ≡ filter is_no_frame (shown_events [] b.history)
       → StopsAt c (k + 1) b (turn_of (k + 1) b) h g → HaltsWith c (k + 1) (turns_from n 0 a) g
   halts_with n k c a b h g less e so_far stop =
       let next : k + 1 ≡ suc k = omega arith in (
@@ -470,7 +470,7 @@ module _ (draws : ℕ → ℕ) (tree : List Node) (depth : ℕ) where
       → ((a : Alone) → IsAt a j y g → RunIs r (turns_from n zero a) l z f) → RunIs r (course_alone draws depth tree fuel n) l z f
   opened_then fuel n i j l x y z h g f r first rest = ran_on r (turns_from n zero first.0) (course_alone draws depth tree fuel n) l z f (course_on fuel n first.0 first.1.0) (rest first.0 first.1.1)
 
-  halted_with : (fuel n : ℕ) (c : machine.Stop) (h g : List ShownEvent) → h ≡ filter is_no_frame (shown_events (begins_alone fuel).history) → StopsAt c 0 (begins_alone fuel) (opens fuel) h g
+  halted_with : (fuel n : ℕ) (c : machine.Stop) (h g : List ShownEvent) → h ≡ filter is_no_frame (shown_events [] (begins_alone fuel).history) → StopsAt c 0 (begins_alone fuel) (opens fuel) h g
       → HaltsWith c 0 (course_alone draws depth tree fuel n) g
   halted_with fuel n c h g so_far s = (begins_alone fuel, (course_halts fuel n c (begins_alone fuel) s.0, s.1 ∙ so_far))
 
@@ -519,14 +519,14 @@ module _ (key : List ℕ) (fuel depth : ℕ) (name : Words) (tree : List Node) (
   told_end c e = ap end_of (run_alone_by_numbers key fuel depth name tree n ∙ ap run_of e)
 
   pub done_is : (b : Alone) (g : List ShownEvent) (t : Words) → course_alone (draw_word key) depth tree fuel n ≡ Runs b
-      → g ≡ filter is_no_frame (shown_events (b.history ++ left_alone b ++ Ends ∷ [])) → t ≡ render (name ∷ []) g → IsRun t end.Done
+      → g ≡ filter is_no_frame (shown_events [] (b.history ++ left_alone b ++ Ends ∷ [])) → t ≡ render (name ∷ []) g → IsRun t end.Done
   unfolding text_alone run_of end_of
   done_is b g t e said text_so =
       let all : numbers ≡ Runs (record b { history = b.history ++ left_alone b ++ Ends ∷ [] }) = run_done (draw_word key) tree depth fuel n b e in
       (text_so ∙ ap (render (name ∷ [])) said ∙ sym (told_text _ all), told_end _ all)
 
   pub halted_is : (c : machine.Stop) (k : ℕ) (b : Alone) (g : List ShownEvent) (t : Words) → course_alone (draw_word key) depth tree fuel n ≡ Halts c k b
-      → g ≡ filter is_no_frame (shown_events b.history) → t ≡ stopped_text name g c k → IsRun t (end_by c k)
+      → g ≡ filter is_no_frame (shown_events [] b.history) → t ≡ stopped_text name g c k → IsRun t (end_by c k)
   unfolding text_alone run_of end_of
   halted_is c k b g t e said text_so =
       let all : numbers ≡ Halts c k b = run_halts (draw_word key) tree depth fuel n c k b e in

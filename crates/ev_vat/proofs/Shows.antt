@@ -29,23 +29,23 @@ use Rattle.ev_step_lines.specs.Lines.{Telling}
 use Rattle.ev_vat.specs.Run.{named_of, telling_by}
 use Rattle.ev_vat.proofs.Naming.{name-shown}
 
-pub shown_events-append : (a b : List Event) → shown_events (a ++ b) ≡ shown_events a ++ shown_events b
+pub shown_events-append : (a b : List Event) → shown_events [] (a ++ b) ≡ shown_events [] a ++ shown_events [] b
 unfolding shown_events
 shown_events-append [] b = refl
 shown_events-append (e ∷ a) b =
-    ap (λ es. shown_event e ++ es) (shown_events-append a b)
-    ∙ sym (append_assoc (shown_event e) (shown_events a) (shown_events b))
+    ap (λ es. shown_event [] e ++ es) (shown_events-append a b)
+    ∙ sym (append_assoc (shown_event [] e) (shown_events [] a) (shown_events [] b))
 
 -- a history and what is told behind it
-pub told-behind : (a b : List Event) → filter is_no_frame (shown_events (a ++ b)) ≡ filter is_no_frame (shown_events a) ++ filter is_no_frame (shown_events b)
-told-behind a b = ap (λ es. filter is_no_frame es) (shown_events-append a b) ∙ filter-append is_no_frame (shown_events a) (shown_events b)
+pub told-behind : (a b : List Event) → filter is_no_frame (shown_events [] (a ++ b)) ≡ filter is_no_frame (shown_events [] a) ++ filter is_no_frame (shown_events [] b)
+told-behind a b = ap (λ es. filter is_no_frame es) (shown_events-append a b) ∙ filter-append is_no_frame (shown_events [] a) (shown_events [] b)
 
-send_is_no_frame : (v a : ℕ) (m : Message Name) (answer : Option Name) → filter is_no_frame (shown_send v a m answer ∷ []) ≡ shown_send v a m answer ∷ []
+send_is_no_frame : (v a : ℕ) (m : Message Name) (answer : Option Name) → filter is_no_frame (shown_send [] v a m answer ∷ []) ≡ shown_send [] v a m answer ∷ []
 unfolding shown_send
 send_is_no_frame v a m (Some n) = refl
 send_is_no_frame v a m None = refl
 
-reaction_is_no_frame : (v a : ℕ) (x o : Value Name) (m : Message Name) (answer : Option Name) → filter is_no_frame (shown_reaction v a x o m answer) ≡ shown_reaction v a x o m answer
+reaction_is_no_frame : (v a : ℕ) (x o : Value Name) (m : Message Name) (answer : Option Name) → filter is_no_frame (shown_reaction [] v a x o m answer) ≡ shown_reaction [] v a x o m answer
 unfolding shown_reaction
 reaction_is_no_frame v a x o m (Some n) = refl
 reaction_is_no_frame v a x o m None = refl
@@ -54,7 +54,7 @@ reaction_is_no_frame v a x o m None = refl
 module _ (t : Names) where
   -- what the machine shows of a line of that vat
   unfoldable pub shown_of : Happened Local → List ShownEvent
-  shown_of h = shown_happened zero (maps.line (name_of t) h)
+  shown_of h = shown_happened [] zero (maps.line (name_of t) h)
 
   unfoldable pub all_shown : List (Happened Local) → List ShownEvent
   all_shown [] = []
@@ -65,7 +65,7 @@ module _ (t : Names) where
   all_shown-append [] b = refl
   all_shown-append (h ∷ a) b = ap (λ es. shown_of h ++ es) (all_shown-append a b) ∙ sym (append_assoc (shown_of h) (all_shown a) (all_shown b))
 
-  one_shown : (h : Happened Local) → shown_events (event_of [] zero (maps.line (name_of t) h)) ≡ shown_of h
+  one_shown : (h : Happened Local) → shown_events [] (event_of [] zero (maps.line (name_of t) h)) ≡ shown_of h
   unfolding shown_of shown_events shown_event shown_happened event_of is_cut cut_in link_at
   one_shown (Posted w m) = refl
   one_shown (Took a m) = refl
@@ -92,12 +92,12 @@ module _ (t : Names) where
   one_shown (Views p q) = refl
   one_shown (Lost m) = refl
 
-  pub events-shown : (hs : List (Happened Local)) → shown_events (events_of [] zero (map (maps.line (name_of t)) hs)) ≡ all_shown hs
+  pub events-shown : (hs : List (Happened Local)) → shown_events [] (events_of [] zero (map (maps.line (name_of t)) hs)) ≡ all_shown hs
   unfolding events_of all_shown
   events-shown [] = unfold shown_events in refl
   events-shown (h ∷ hs) =
       shown_events-append (event_of [] zero (maps.line (name_of t) h)) (events_of [] zero (map (maps.line (name_of t)) hs))
-      ∙ ap (λ es. es ++ shown_events (events_of [] zero (map (maps.line (name_of t)) hs))) (one_shown h)
+      ∙ ap (λ es. es ++ shown_events [] (events_of [] zero (map (maps.line (name_of t)) hs))) (one_shown h)
       ∙ ap (λ es. shown_of h ++ es) (events-shown hs)
 
   -- ---- no frames
@@ -139,7 +139,7 @@ module _ (t : Names) (w : World) where
   abbrev telling : Telling
   telling = telling_by (named_of t) (texts_of w)
 
-  pub value-shown : (v : Held) → shown_value zero (maps.value (name_of t) (value_of w v)) ≡ told.shown_held telling v
+  pub value-shown : (v : Held) → shown_value [] zero (maps.value (name_of t) (value_of w v)) ≡ told.shown_held telling v
   unfolding shown_value shown_name name_of
   value-shown held.Null = refl
   value-shown (held.Bool b) = refl
@@ -153,7 +153,7 @@ module _ (t : Names) (w : World) where
   value-shown (held.Far v p) = refl
   value-shown (held.Broken id) = refl
 
-  pub values-shown : (vs : List Held) → shown_values zero (map (maps.value (name_of t)) (map (value_of w) vs)) ≡ map (told.shown_held telling) vs
+  pub values-shown : (vs : List Held) → shown_values [] zero (map (maps.value (name_of t)) (map (value_of w) vs)) ≡ map (told.shown_held telling) vs
   unfolding shown_values
   values-shown [] = refl
   values-shown (v ∷ vs) = cc (value-shown v, values-shown vs)
@@ -162,12 +162,12 @@ module _ (t : Names) (w : World) where
   problem-shown (held.Text id) = refl
   problem-shown _ = refl
 
-  capture-shown : (c : Capture) → shown_capture zero (maps.bound (name_of t) (capture_in w c)) ≡ told.shown_capture telling c
+  capture-shown : (c : Capture) → shown_capture [] zero (maps.bound (name_of t) (capture_in w c)) ≡ told.shown_capture telling c
   unfolding shown_capture
   capture-shown (capture.Fixed v g) = value-shown v
   capture-shown (capture.Slot k) = refl
 
-  captures-shown : (cs : List Capture) → map (shown_capture zero) (map (maps.bound (name_of t)) (map (capture_in w) cs)) ≡ map (told.shown_capture telling) cs
+  captures-shown : (cs : List Capture) → map (shown_capture [] zero) (map (maps.bound (name_of t)) (map (capture_in w) cs)) ≡ map (told.shown_capture telling) cs
   captures-shown [] = refl
   captures-shown (c ∷ cs) = cc (capture-shown c, captures-shown cs)
 
@@ -240,29 +240,29 @@ module _ (t : Names) (w : World) where
   -- ---- the lines of a step
 
   -- the line of a step is told, and then what happened in it
-  pub told-shown : (head : Event) → filter is_no_frame (shown_event head) ≡ shown_event head → (es : List Heard)
-      → filter is_no_frame (shown_events (told_by t head (lines_of w es))) ≡ shown_event head ++ told.lines_of telling es
+  pub told-shown : (head : Event) → filter is_no_frame (shown_event [] head) ≡ shown_event [] head → (es : List Heard)
+      → filter is_no_frame (shown_events [] (told_by t head (lines_of w es))) ≡ shown_event [] head ++ told.lines_of telling es
   unfolding told_by shown_events
   told-shown head e es =
       let hs = lines_of w es in
-      let rest = shown_events (events_of [] zero (map (maps.line (name_of t)) hs)) in
-      filter-append is_no_frame (shown_event head) rest
+      let rest = shown_events [] (events_of [] zero (map (maps.line (name_of t)) hs)) in
+      filter-append is_no_frame (shown_event [] head) rest
       ∙ ap (λ xs. xs ++ filter is_no_frame rest) e
-      ∙ ap (λ xs. shown_event head ++ filter is_no_frame xs) (events-shown t hs)
-      ∙ ap (λ xs. shown_event head ++ xs) (no_frames t hs ∙ lines-shown es)
+      ∙ ap (λ xs. shown_event [] head ++ filter is_no_frame xs) (events-shown t hs)
+      ∙ ap (λ xs. shown_event [] head ++ xs) (no_frames t hs ∙ lines-shown es)
 
-  pub opened-shown : (es : List Heard) → filter is_no_frame (shown_events (told_by t (Opens zero) (lines_of w es))) ≡ line.Open zero ∷ told.lines_of telling es
+  pub opened-shown : (es : List Heard) → filter is_no_frame (shown_events [] (told_by t (Opens zero) (lines_of w es))) ≡ line.Open zero ∷ told.lines_of telling es
   unfolding shown_event
   opened-shown es = told-shown (Opens zero) refl es
 
-  pub turned-shown : (k : ℕ) (es : List Heard) → filter is_no_frame (shown_events (told_by t (Turned k zero) (lines_of w es))) ≡ line.Turn k zero ∷ told.lines_of telling es
+  pub turned-shown : (k : ℕ) (es : List Heard) → filter is_no_frame (shown_events [] (told_by t (Turned k zero) (lines_of w es))) ≡ line.Turn k zero ∷ told.lines_of telling es
   unfolding shown_event
   turned-shown k es = told-shown (Turned k zero) refl es
 
-pub idle-shown : (k : ℕ) → filter is_no_frame (shown_events (Idle k ∷ [])) ≡ line.Idle k ∷ []
+pub idle-shown : (k : ℕ) → filter is_no_frame (shown_events [] (Idle k ∷ [])) ≡ line.Idle k ∷ []
 unfolding shown_events shown_event
 idle-shown k = refl
 
-pub ended-shown : filter is_no_frame (shown_events (Ends ∷ [])) ≡ line.End ∷ []
+pub ended-shown : filter is_no_frame (shown_events [] (Ends ∷ [])) ≡ line.End ∷ []
 unfolding shown_events shown_event
 ended-shown = refl

@@ -290,38 +290,38 @@ module _ (x : Held) (s t : Interior) (act : ℕ) (sound : IsSound s) (begun : ne
 -- ---- the opening turn
 
 module _ (tree : List Node) (depth : ℕ) where
-  opening_is : (w : World) (s : machine.Vat Local)
-      → opening (names w) tree depth (Prom 0) [] s ≡ machine.and_then (machine.new_activation s) (λ a. closes (names w) tree a (Some (Prom 0)) (evaluated (names w) tree depth a))
+  opening_is : (w : World) (given : List (machine.Binding Local)) (s : machine.Vat Local)
+      → opening (names w) tree depth (Prom 0) given s ≡ machine.and_then (machine.new_activation s) (λ a. closes (names w) tree a (Some (Prom 0)) (evaluated (names w) tree depth given a))
   unfolding opening machine.◌>>=◌ evaluated
-  opening_is w s = refl
+  opening_is w given s = refl
 
   begins_so : (w : World) (act : ℕ) (d : Done Local ℕ) (t : machine.Vat Local) (f : ℕ → machine.Act Local (Unit {0})) → d ≡ Gives act t → machine.and_then d f ≡ f act t
   unfolding machine.and_then
   begins_so w act d t f e = rw e refl
 
-module _ (s t u v : Interior) (tree : List Node) (depth act : ℕ) (e : Ended) (r : Result (Unit {0}) VatStop)
+module _ (s t u v : Interior) (tree : List Node) (depth act : ℕ) (given : List (machine.Binding Local)) (e : Ended) (r : Result (Unit {0}) VatStop)
     (sound : IsSound s) (begun : new_activation held.Null s ≡ (Ok act, t))
-    (turn : (w : World) (rest : List Words) → texts_of w ≡ u.heap.texts ++ rest → t.words.key ≡ w.key → Ends w (Ok e) u (turn_of (evaluated (names w) tree depth act) (vat_of w t)))
+    (turn : (w : World) (rest : List Words) → texts_of w ≡ u.heap.texts ++ rest → t.words.key ≡ w.key → Ends w (Ok e) u (turn_of (evaluated (names w) tree depth given act) (vat_of w t)))
     (grown : Grown t.heap u.heap) (stays : Stays t u) (left : LeftBy e u) (there : GivesThere u.heap e) (c : ClosesSo e act (Some 0) r u v) where
-  evaluates : Evaluates tree t u e (λ w. evaluated (names w) tree depth act)
+  evaluates : Evaluates tree t u e (λ w. evaluated (names w) tree depth given act)
   evaluates = record { turn = turn; grown = grown; stays = stays; left = left; there = there }
 
   from : Stays s t
   from = (begun_met held.Null s t act sound begun any).stays
 
-  pub opens : (w : World) (rest : List Words) → texts_of w ≡ v.heap.texts ++ rest → s.words.key ≡ w.key → StepIs w r v (opening (names w) tree depth (Prom 0) [] (vat_of w s))
+  pub opens : (w : World) (rest : List Words) → texts_of w ≡ v.heap.texts ++ rest → s.words.key ≡ w.key → StepIs w r v (opening (names w) tree depth (Prom 0) given (vat_of w s))
   opens w rest before key =
-      ends_turn tree act (Some 0) s t u v e r (λ w. evaluated (names w) tree depth act) from evaluates c w rest before key _
-      (λ b g. opening_is tree depth w (vat w s) ∙ begins_so tree depth w act (machine.new_activation (vat w s)) (vat w t) _ ((begun_met held.Null s t act sound begun w).is g))
+      ends_turn tree act (Some 0) s t u v e r (λ w. evaluated (names w) tree depth given act) from evaluates c w rest before key _
+      (λ b g. opening_is tree depth w given (vat w s) ∙ begins_so tree depth w act (machine.new_activation (vat w s)) (vat w t) _ ((begun_met held.Null s t act sound begun w).is g))
 
   pub opens_grown : UnlessMemory r (Grown s.heap v.heap)
-  opens_grown = ends_grown tree act (Some 0) s t u v e r (λ w. evaluated (names w) tree depth act) from evaluates c (begun_grown held.Null s t act sound begun)
+  opens_grown = ends_grown tree act (Some 0) s t u v e r (λ w. evaluated (names w) tree depth given act) from evaluates c (begun_grown held.Null s t act sound begun)
 
   pub opens_stays : UnlessMemory r (Stays s v)
-  opens_stays = ends_stays tree act (Some 0) s t u v e r (λ w. evaluated (names w) tree depth act) from evaluates c
+  opens_stays = ends_stays tree act (Some 0) s t u v e r (λ w. evaluated (names w) tree depth given act) from evaluates c
 
   pub opens_sound : OnOk r (IsSound v)
-  opens_sound = ends_sound tree act (Some 0) s t u v e r (λ w. evaluated (names w) tree depth act) from evaluates c
+  opens_sound = ends_sound tree act (Some 0) s t u v e r (λ w. evaluated (names w) tree depth given act) from evaluates c
 
 -- ---- a turn that takes a message
 

@@ -21,7 +21,7 @@ use Rattle.ev_vat.specs.declared.vat.VatStop.TheVariants.{Fuel, Deep, WordRepeat
 
 -- what the code keeps of the names of the numbers
 abbrev pub naming_of : Names → Naming
-naming_of t = record { vat = zero; names = map shown_name t.known; mails = [] }
+naming_of t = record { vat = zero; names = map (shown_name []) t.known; mails = [] }
 
 abbrev pub named_of : Names → Named
 named_of t = record { naming = naming_of t; promises = t.promises }
@@ -45,7 +45,7 @@ pub record Sees (w : World) (i : Interior) : Type 0 where
 pub record IsAt (a : Alone) (i : Interior) (n : Named) (told : List ShownEvent) : Type 0 where
   pub vat : (w : World) → Sees w i → vat_of w i ≡ resting a.vat
   pub names : n ≡ named_of a.names
-  pub history : told ≡ filter is_no_frame (shown_events a.history)
+  pub history : told ≡ filter is_no_frame (shown_events [] a.history)
   pub sound : IsSound i
 
 -- a step stopped there, and the lines so far stay
@@ -67,7 +67,7 @@ course_alone word depth tree fuel n = then_runs (open_alone word depth tree fuel
 
 -- a step of that number stopped so, and the lines are those of the steps before
 abbrev pub HaltsWith : machine.Stop → ℕ → Course → List ShownEvent → Type 0
-HaltsWith c k course history = (b : Alone) × ((course ≡ Halts c k b) × (history ≡ filter is_no_frame (shown_events b.history)))
+HaltsWith c k course history = (b : Alone) × ((course ≡ Halts c k b) × (history ≡ filter is_no_frame (shown_events [] b.history)))
 
 abbrev pub HaltsAs : VatStop → ℕ → Course → List ShownEvent → Type 0
 HaltsAs Fuel k course history = HaltsWith machine.Fuel k course history

@@ -1,10 +1,11 @@
 -- The steps of a vat, as the machine has them.
-use Rattle.std.specs.Prelude.{◌≡◌, ◌⊎◌, ℕ, Bool, true, false, List, [], ◌∷◌, Option, Result, Ok, Err}
+use Rattle.std.specs.Prelude.{◌≡◌, ◌⊎◌, ℕ, Bool, true, false, List, [], ◌∷◌, Option, Some, None, Result, Ok, Err}
 use Rattle.def_kernel.specs.declared.node.Node.{Node}
 use Rattle.def_machine.specs.Eval.{taking}
 use Rattle.def_machine.specs.State as machine
 use Rattle.def_machine.specs.State.{Done, Gives, Stops}
 use Rattle.def_machine.specs.Values.{Local}
+use Rattle.ev_arrive.specs.declared.host.Host.{Host}
 use Rattle.ev_eval.specs.declared.turn.Ended.{Ended}
 use Rattle.ev_eval.specs.declared.turn.Ended.TheVariants as ended
 use Rattle.ev_heap.specs.Contents.{Contents}
@@ -17,10 +18,12 @@ use Rattle.ev_pass.specs.declared.interior.Stop.TheVariants as stop
 use Rattle.ev_refs.specs.Reading.{message_by}
 use Rattle.ev_refs.specs.declared.known.Message.{Message}
 use Rattle.ev_room.specs.Reading.{World, names, texts_of, vat_of}
-use Rattle.ev_room.specs.Sound.{is_there, are_there}
+use Rattle.ev_room.specs.Sound.{IsSound, is_there, are_there}
 use Rattle.ev_settle.specs.Closing.{finish, throw}
+use Rattle.ev_vat.specs.declared.vat.Vat.{Vat}
 use Rattle.ev_vat.specs.declared.vat.VatStop.{VatStop}
 use Rattle.ev_vat.specs.declared.vat.VatStop.TheVariants.{Fuel, Deep, WordRepeated, Astray, Memory}
+use Rattle.law_arrivals.specs.Arrivals.{vat_in}
 
 -- ---- how steps end
 
@@ -65,14 +68,37 @@ ClosesSo ended.Astray act answer r s t = (r ≡ Err Astray) × (t ≡ s)
 abbrev pub StopsWith : machine.Stop → Done Local (Unit {0}) → Type 0
 StopsWith c d = (s : machine.Vat Local) × (d ≡ Stops c s)
 
--- what the code answered and left is an outcome of the machine, unless memory ran out; of what a stop leaves nothing is said
+-- what a step of the code answered is an outcome of the machine that leaves that vat, unless memory ran out; of what a stop leaves nothing is said
+abbrev pub EndsAt : machine.Vat Local → Result (Unit {0}) VatStop → Done Local (Unit {0}) → Type 0
+EndsAt s (Ok u) d = d ≡ Gives tt s
+EndsAt s (Err Fuel) d = StopsWith machine.Fuel d
+EndsAt s (Err Deep) d = StopsWith machine.Deep d
+EndsAt s (Err (WordRepeated m n)) d = StopsWith (machine.Repeated m n) d
+EndsAt s (Err Astray) d = StopsWith machine.Astray d
+EndsAt s (Err Memory) d = Unit {0}
+
+-- the same, where it leaves what the code left
 abbrev pub StepIs : World → Result (Unit {0}) VatStop → Interior → Done Local (Unit {0}) → Type 0
-StepIs w (Ok u) i d = d ≡ Gives tt (vat_of w i)
-StepIs w (Err Fuel) i d = StopsWith machine.Fuel d
-StepIs w (Err Deep) i d = StopsWith machine.Deep d
-StepIs w (Err (WordRepeated m n)) i d = StopsWith (machine.Repeated m n) d
-StepIs w (Err Astray) i d = StopsWith machine.Astray d
-StepIs w (Err Memory) i d = Unit {0}
+StepIs w r i d = EndsAt (vat_of w i) r d
+
+-- and of a vat with the gifts that it hosts
+abbrev pub ArrivalIs : World → Result (Unit {0}) VatStop → Host → Done Local (Unit {0}) → Type 0
+ArrivalIs w r h d = EndsAt (vat_in w h) r d
+
+-- ---- vats that stopped
+
+-- the stop that a call answered, or none
+abbrev pub stop_in : {A : Type 0} → Result A VatStop → Option VatStop
+stop_in (Ok a) = None
+stop_in (Err e) = Some e
+
+-- a vat that did not stop is sound
+abbrev pub IsReady : Vat → Type 0
+IsReady v = v.stopped ≡ None → IsSound v.host.inside
+
+-- a vat that stopped answers the same stop, and stays as it is
+abbrev pub StaysStopped : {A : Type 0} → Vat → Result A VatStop → Vat → Type 0
+StaysStopped before r after = (e : VatStop) → before.stopped ≡ Some e → (r ≡ Err e) × (after ≡ before)
 
 -- ---- turns
 

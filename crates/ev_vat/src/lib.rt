@@ -1,4 +1,4 @@
-//! One vat that knows no other: its turns, its run, and the text of it.
+//! One vat: its turns, the notes that it receives and the cuts that it notices; and the run of one that knows no other, with its text.
 #![tactic(auto)]
 
 pub mod closing;

@@ -1,6 +1,6 @@
 //! The run of one vat that knows no other: its opening turn, its turns, and what is left at the end.
 
-ghost use Rattle.std.specs.Prelude.{◌≡◌, ◌++◌, ◌∷◌, ℕ, List, [], true, IfOk, OnOk, filter, length, string_bytes};
+ghost use Rattle.std.specs.Prelude.{◌≡◌, ◌++◌, ◌∷◌, ℕ, List, [], None, IfOk, OnOk, filter, length, string_bytes};
 ghost use Rattle.def_event.specs.Lines.{is_no_frame, render};
 ghost use Rattle.def_event.specs.declared.event.Event.{Event as ShownEvent};
 ghost use Rattle.def_run.specs.Draws.{draw_word};
@@ -9,7 +9,6 @@ ghost use Rattle.def_run.specs.World.{Ends, run};
 ghost use Rattle.ev_heap.specs.declared.happened.Happened.{Happened};
 ghost use Rattle.ev_step_lines.specs.Lines.{lines_of};
 ghost use Rattle.ev_step_lines.specs.Names.{names_after};
-ghost use Rattle.ev_steps.specs.Built.{is_built};
 ghost use Rattle.ev_vat.specs.Ends.{StoppedAs, Tells, end_of};
 ghost use Rattle.ev_vat.specs.Rooted.{rested};
 ghost use Rattle.ev_room.specs.Sound.{IsSound};
@@ -67,8 +66,8 @@ fn tell_step(
     names: &mut Names,
     history: &mut History,
 ) -> Result<(), Memory>
-    ensures names { OnOk result (names.new ≡ names_after names.old vat.now.inside.micro.events (length vat.now.inside.refs.known)) }
-    ensures lines { OnOk result (history.new ≡ history.old ++ head ∷ lines_of (telling_by names.new vat.now.inside.heap.texts) vat.now.inside.micro.events) }
+    ensures names { OnOk result (names.new ≡ names_after names.old vat.now.host.inside.micro.events (length vat.now.host.inside.refs.known)) }
+    ensures lines { OnOk result (history.new ≡ history.old ++ head ∷ lines_of (telling_by names.new vat.now.host.inside.heap.texts) vat.now.host.inside.micro.events) }
 {
     let inside = vat.inside();
     names.hear(&inside.micro.events, inside.refs.count())?;
@@ -84,10 +83,12 @@ fn tell_step(
 impl Running {
     /// The vat at its start.
     fn start(alloc: Global, key: &[u8; 32], fuel: u32) -> Result<Running, Memory>
-        ensures begun { IfOk result (λ running. IsAt (begins_alone fuel) running.vat.inside running.names running.history) }
-        ensures key { IfOk result (λ running. running.vat.inside.words.key ≡ key.now) }
+        ensures begun { IfOk result (λ running. IsAt (begins_alone fuel) running.vat.host.inside running.names running.history) }
+        ensures key { IfOk result (λ running. running.vat.host.inside.words.key ≡ key.now) }
+        ensures sound { IfOk result (λ running. IsSound running.vat.host.inside) }
+        ensures going { IfOk result (λ running. running.vat.stopped ≡ None) }
     {
-        let vat = Vat::start(alloc, VAT, key, fuel)?;
+        let vat = Vat::start(alloc, VAT, &[], &[], key, fuel)?;
         let names = Names::alone(alloc)?;
         let history = History::new(alloc);
         Ok(Running {
@@ -100,14 +101,15 @@ impl Running {
     /// The opening turn.
     #[tactic(auto, using(crate::proofs::Runs::opened_not))]
     fn open(&mut self, alloc: Global, program: &Kernel, limits: Limits) -> Result<(), VatStop>
-        requires built { is_built program.now ≡ true }
-        requires sound { IsSound self.old.vat.inside }
-        ensures step { (fuel : ℕ) → IsAt (begins_alone fuel) self.old.vat.inside self.old.names self.old.history
-            → CourseIs result 0 (begins_alone fuel) (open_alone (draw_word self.old.vat.inside.words.key) limits.depth program.now fuel) self.new.vat.inside self.new.names self.old.history self.new.history }
-        ensures key { OnOk result (self.new.vat.inside.words.key ≡ self.old.vat.inside.words.key) }
-        ensures sound { OnOk result (IsSound self.new.vat.inside) }
+        requires sound { IsSound self.old.vat.host.inside }
+        requires going { self.old.vat.stopped ≡ None }
+        ensures step { (fuel : ℕ) → IsAt (begins_alone fuel) self.old.vat.host.inside self.old.names self.old.history
+            → CourseIs result 0 (begins_alone fuel) (open_alone (draw_word self.old.vat.host.inside.words.key) limits.depth program.now fuel) self.new.vat.host.inside self.new.names self.old.history self.new.history }
+        ensures key { OnOk result (self.new.vat.host.inside.words.key ≡ self.old.vat.host.inside.words.key) }
+        ensures sound { OnOk result (IsSound self.new.vat.host.inside) }
+        ensures going { OnOk result (self.new.vat.stopped ≡ None) }
     {
-        self.vat.first_turn(program, limits)?;
+        self.vat.first_turn(program, &[], limits)?;
         tell_step(
             alloc,
             Event::Open(VAT),
@@ -127,12 +129,13 @@ impl Running {
         program: &Kernel,
         limits: Limits,
     ) -> Result<(), VatStop>
-        requires built { is_built program.now ≡ true }
-        requires sound { IsSound self.old.vat.inside }
-        ensures step { (a : Alone) → IsAt a self.old.vat.inside self.old.names self.old.history
-            → CourseIs result entry a (turn_alone (draw_word self.old.vat.inside.words.key) limits.depth program.now entry a a.vat.queue) self.new.vat.inside self.new.names self.old.history self.new.history }
-        ensures key { OnOk result (self.new.vat.inside.words.key ≡ self.old.vat.inside.words.key) }
-        ensures sound { OnOk result (IsSound self.new.vat.inside) }
+        requires sound { IsSound self.old.vat.host.inside }
+        requires going { self.old.vat.stopped ≡ None }
+        ensures step { (a : Alone) → IsAt a self.old.vat.host.inside self.old.names self.old.history
+            → CourseIs result entry a (turn_alone (draw_word self.old.vat.host.inside.words.key) limits.depth program.now entry a a.vat.queue) self.new.vat.host.inside self.new.names self.old.history self.new.history }
+        ensures key { OnOk result (self.new.vat.host.inside.words.key ≡ self.old.vat.host.inside.words.key) }
+        ensures sound { OnOk result (IsSound self.new.vat.host.inside) }
+        ensures going { OnOk result (self.new.vat.stopped ≡ None) }
     {
         if self.vat.turn(program, limits)? {
             let head = Event::Turn(entry, VAT);
@@ -146,11 +149,11 @@ impl Running {
 
     /// Tells what is left at the end. Of the vat, the names and what they hold stay.
     fn close(&mut self) -> Result<(), Memory>
-        ensures { (a : Alone) → IsAt a self.old.vat.inside self.old.names self.old.history → OnOk result (self.new.history ≡ filter is_no_frame (shown_events (a.history ++ left_alone a ++ Ends ∷ []))) }
+        ensures { (a : Alone) → IsAt a self.old.vat.host.inside self.old.names self.old.history → OnOk result (self.new.history ≡ filter is_no_frame (shown_events [] (a.history ++ left_alone a ++ Ends ∷ []))) }
     {
         push_left(
             self.names.table(),
-            &mut self.vat.inside.refs,
+            &mut self.vat.host.inside.refs,
             &mut self.history,
         )
     }
@@ -213,10 +216,10 @@ fn take_turns(
     limits: Limits,
     running: &mut Running,
 ) -> Result<(), Halted>
-    requires built { is_built program.now ≡ true }
-    requires sound { IsSound running.old.vat.inside }
-    ensures turns { (a : Alone) → IsAt a running.old.vat.inside running.old.names running.old.history
-        → RunIs result (turns_alone (draw_word running.old.vat.inside.words.key) limits.depth program.now turns 0 a) running.new.vat.inside running.new.names running.new.history }
+    requires sound { IsSound running.old.vat.host.inside }
+    requires going { running.old.vat.stopped ≡ None }
+    ensures turns { (a : Alone) → IsAt a running.old.vat.host.inside running.old.names running.old.history
+        → RunIs result (turns_alone (draw_word running.old.vat.host.inside.words.key) limits.depth program.now turns 0 a) running.new.vat.host.inside running.new.names running.new.history }
 {
     for turn in 0..turns {
         if let Err(stop) = running.turn(alloc, turn + 1, program, limits) {
@@ -237,10 +240,10 @@ fn go_on(
     limits: Limits,
     running: &mut Running,
 ) -> Result<(), Halted>
-    requires built { is_built program.now ≡ true }
-    requires sound { IsSound running.old.vat.inside }
-    ensures { (fuel : ℕ) → IsAt (begins_alone fuel) running.old.vat.inside running.old.names running.old.history
-        → RunIs result (course_alone (draw_word running.old.vat.inside.words.key) limits.depth program.now fuel turns) running.new.vat.inside running.new.names running.new.history }
+    requires sound { IsSound running.old.vat.host.inside }
+    requires going { running.old.vat.stopped ≡ None }
+    ensures { (fuel : ℕ) → IsAt (begins_alone fuel) running.old.vat.host.inside running.old.names running.old.history
+        → RunIs result (course_alone (draw_word running.old.vat.host.inside.words.key) limits.depth program.now fuel turns) running.new.vat.host.inside running.new.names running.new.history }
 {
     if let Err(stop) = running.open(alloc, program, limits) {
         return Err(Halted { stop, step: 0 });
@@ -248,7 +251,7 @@ fn go_on(
     take_turns(alloc, program, turns, limits, running)
 }
 
-/// Runs a program that is built (`ev_eval::is_built`) in a vat of that name, which knows no other, with so much fuel: the vat's opening
+/// Runs a program in a vat of that name, which knows no other, with so much fuel: the vat's opening
 /// turn, and so many turns. No node begins below `limits.depth` levels. Words would be drawn under that key.
 ///
 /// The text is that of the machine's run. Memory grows with what is told.
@@ -261,7 +264,6 @@ pub fn run_program(
     fuel: u32,
     limits: Limits,
 ) -> Result<Told, Memory>
-    requires built { is_built program.now ≡ true }
     ensures text { IfOk result (λ told. string_bytes told.text ≡ text (scheduled key.now fuel limits.depth name.now program.now turns) (run (scheduled key.now fuel limits.depth name.now program.now turns))) }
     ensures end { IfOk result (λ told. end_of (run (scheduled key.now fuel limits.depth name.now program.now turns)) ≡ told.end) }
 {

@@ -1,32 +1,43 @@
-//! A vat: it opens, and takes turns.
+//! A vat: it opens, takes turns, receives notes and notices cuts.
 
-ghost use Rattle.std.specs.Prelude.{◌≡◌, ◌++◌, List, [], Ok, Some, true, IfOk, OnOk};
+ghost use Rattle.std.specs.Prelude.{◌≡◌, ◌++◌, ◌∷◌, ℕ, List, [], Ok, Some, None, map, IfOk, OnOk};
+ghost use Rattle.def_machine.specs.Arrive as machine;
 ghost use Rattle.def_machine.specs.Eval.{opening, taking};
-ghost use Rattle.def_machine.specs.Values.{Words, Prom};
+ghost use Rattle.def_machine.specs.Receive as theirs;
+ghost use Rattle.def_machine.specs.Values.{Words, Local, Prom};
 ghost use Rattle.ev_heap.specs.Contents.{nothing};
 ghost use Rattle.ev_room.specs.Reading.{World, names, texts_of, vat_of};
 ghost use Rattle.ev_room.specs.Sound.{Grown, IsSound, Stays, are_there, is_there, problems};
-ghost use Rattle.ev_steps.specs.Built.{is_built};
-ghost use Rattle.ev_vat.specs.Rooted.{IsRooted, rested};
+ghost use Rattle.ev_eval.specs.Turn.{roots_from};
+ghost use Rattle.ev_refs.specs.References.{unsettled_of};
+ghost use Rattle.ev_vat.specs.Rooted.{IsRooted, each_once, fresh, rested, root_of};
 ghost use Rattle.ev_room.specs.Acts as acts;
+ghost use Rattle.ev_receive.specs.Hearing.{Name, Sees, heard_by};
 ghost use Rattle.ev_refs.specs.Reading.{message_by};
-ghost use Rattle.ev_vat.specs.Vat.{ClosesSo, MessageThere, StepIs, TurnIs, UnlessMemory, closed_by, stop_of, taken};
+ghost use Rattle.ev_vat.specs.Vat.{ArrivalIs, ClosesSo, IsReady, MessageThere, StaysStopped, StepIs, TurnIs, UnlessMemory, closed_by, stop_in, stop_of, taken};
+ghost use Rattle.law_arrivals.specs.Arrivals.{NoteFits, vat_in};
 
 use def_kernel::Kernel;
+use ev_arrive::host::Host;
+use ev_arrive::notice::notice;
 use ev_base::{ActId, Limits, Memory, PromId, Seq, Value, VatId};
 use ev_eval::{Ended, new_interior, run_message, run_program};
 use ev_heap::Happened;
+use ev_intro::GiftTable;
 use ev_pass::{Interior, Post, Stop};
-use ev_refs::Message;
+use ev_receive::brought::Heard;
+use ev_receive::receiving::{Sight, receive};
+use ev_refs::{Message, Refs};
 use ev_room::room::{new_activation, tell};
 use ev_settle::{finish, throw};
 use ev_told::Micro;
+use ev_word::Word;
 use std::alloc::Global;
 
 /// The name of the vat's root, the first that it knows.
 const ROOT: PromId = PromId(0);
 
-/// Why a step of a vat came to no end. What a step did that stopped is dropped with the vat.
+/// Why a step of a vat came to no end. What the step did up to there stands, and is of no use any more.
 #[derive(Clone, Copy, Debug, PartialEq, Eq)]
 pub enum VatStop {
     /// The fuel did not suffice.
@@ -107,18 +118,17 @@ fn begin(receiver: Value, inside: &mut Interior) -> Result<ActId, Memory>
     }
 }
 
-/// The opening turn evaluates the program, and resolves the vat's root.
-fn open(program: &Kernel, depth: u32, inside: &mut Interior) -> Result<(), VatStop>
-    requires built { is_built program.now ≡ true }
+/// The opening turn evaluates the program, where these nouns are bound to the names behind the vat's root, and resolves that root.
+fn open(program: &Kernel, nouns: &[Word], depth: u32, inside: &mut Interior) -> Result<(), VatStop>
     requires sound { IsSound inside.old }
     ensures step { (w : World) (rest : List Words) → texts_of w ≡ inside.new.heap.texts ++ rest → inside.old.words.key ≡ w.key
-        → StepIs w result inside.new (opening (names w) program.now depth (Prom 0) [] (vat_of w inside.old)) }
+        → StepIs w result inside.new (opening (names w) program.now depth (Prom 0) (roots_from 1 nouns.now) (vat_of w inside.old)) }
     ensures grown { UnlessMemory result (Grown inside.old.heap inside.new.heap) }
     ensures stays { UnlessMemory result (Stays inside.old inside.new) }
     ensures sound { OnOk result (IsSound inside.new) }
 {
     let act = begin(Value::Null, inside)?;
-    let ended = run_program(program, act, depth, inside)?;
+    let ended = run_program(program, act, nouns, depth, inside)?;
     close(act, Some(ROOT), ended, inside)
 }
 
@@ -148,7 +158,6 @@ fn take(
     message: &Message,
     inside: &mut Interior,
 ) -> Result<(), VatStop>
-    requires built { is_built program.now ≡ true }
     requires sound { IsSound inside.old }
     requires message { MessageThere inside.old.heap message.now }
     ensures step { (w : World) (rest : List Words) → texts_of w ≡ inside.new.heap.texts ++ rest → inside.old.words.key ≡ w.key
@@ -171,75 +180,239 @@ fn take(
     close(act, message.answer, ended, inside)
 }
 
-/// A vat that knows no other.
+/// A note that comes in, as a step.
+#[tactic(auto, using(crate::proofs::Arrivals::heard_grown, crate::proofs::Arrivals::heard_stays, crate::proofs::Arrivals::heard_sound))]
+fn hear(from: VatId, sight: Sight, note: Heard, host: &mut Host) -> Result<(), VatStop>
+    requires sound { IsSound host.old.inside }
+    requires fits { NoteFits host.old.inside.heap note }
+    ensures step { (w : World) (rest : List Words) → texts_of w ≡ host.new.inside.heap.texts ++ rest → host.old.inside.words.key ≡ w.key
+        → (their : theirs.Sight Local) → Sees their host.old note sight → (n : Local) (x : Name) (c : ℕ)
+        → ArrivalIs w result host.new (theirs.receive (names w) their from (heard_by (texts_of w) n x c from note) (vat_in w host.old)) }
+    ensures grown { UnlessMemory result (Grown host.old.inside.heap host.new.inside.heap) }
+    ensures stays { UnlessMemory result (Stays host.old.inside host.new.inside) }
+    ensures sound { OnOk result (IsSound host.new.inside) }
+{
+    closed_by(receive(host, from, sight, note))
+}
+
+/// A link that is noticed as cut, as a step.
+#[tactic(auto, using(crate::proofs::Arrivals::noticed, crate::proofs::Arrivals::noticed_grown, crate::proofs::Arrivals::noticed_stays, crate::proofs::Arrivals::noticed_sound))]
+fn notice_cut(peer: VatId, host: &mut Host) -> Result<(), VatStop>
+    requires sound { IsSound host.old.inside }
+    ensures step { (w : World) (rest : List Words) → texts_of w ≡ host.new.inside.heap.texts ++ rest → host.old.inside.words.key ≡ w.key
+        → ArrivalIs w result host.new (machine.notice (names w) peer (vat_in w host.old)) }
+    ensures grown { UnlessMemory result (Grown host.old.inside.heap host.new.inside.heap) }
+    ensures stays { UnlessMemory result (Stays host.old.inside host.new.inside) }
+    ensures sound { OnOk result (IsSound host.new.inside) }
+{
+    closed_by(notice(host, peer))
+}
+
+/// The first message of the queue is taken, if there is one.
+#[tactic(auto, using(crate::proofs::Steps::front_there, crate::proofs::Steps::front_sound, crate::proofs::Steps::turn_takes, crate::proofs::Steps::turn_stops, crate::proofs::Steps::turn_idle))]
+fn take_first(program: &Kernel, depth: u32, inside: &mut Interior) -> Result<bool, VatStop>
+    requires sound { IsSound inside.old }
+    ensures turn { (w : World) (rest : List Words) → texts_of w ≡ inside.new.heap.texts ++ rest → inside.old.words.key ≡ w.key
+        → TurnIs w program.now depth result inside.old inside.new }
+    ensures grown { UnlessMemory result (Grown inside.old.heap inside.new.heap) }
+    ensures stays { UnlessMemory result (Stays inside.old inside.new) }
+    ensures sound { OnOk result (IsSound inside.new) }
+{
+    match inside.refs.dequeue() {
+        None => Ok(false),
+        Some(message) => {
+            take(program, depth, &message, inside)?;
+            Ok(true)
+        }
+    }
+}
+
+/// Each of these is to be told of the vat's root, the one name that it knows.
+#[tactic(auto, using(crate::proofs::Starts::root_there, crate::proofs::Starts::none_told))]
+fn tell_root(known_by: &[VatId], refs: &mut Refs) -> Result<(), Memory>
+    requires root { refs.old.known ≡ root_of refs.old.me [] ∷ [] }
+    ensures { OnOk result (refs.new ≡ record refs.old { known = root_of refs.old.me (each_once known_by.now) ∷ [] }) }
+{
+    for vat in known_by {
+        refs.tell(ROOT, *vat)?;
+    }
+    Ok(())
+}
+
+/// The roots of these vats come to be known, in order.
+fn learn_roots(knows: &[VatId], refs: &mut Refs) -> Result<(), Memory>
+    ensures { OnOk result (refs.new ≡ record refs.old { known = refs.old.known ++ map unsettled_of knows.now }) }
+{
+    for vat in knows {
+        refs.learn(*vat)?;
+    }
+    Ok(())
+}
+
+/// A vat. After a stop each call that would take a step answers the same stop, and changes nothing.
 #[derive(Drop)]
 pub struct Vat {
-    pub(crate) inside: Interior,
+    pub(crate) host: Host,
+    stopped: Option<VatStop>,
 }
 
 impl Vat {
-    /// The vat at its start, with so much fuel: it knows its root, and draws words under that key.
-    pub fn start(alloc: Global, me: VatId, key: &[u8; 32], fuel: u32) -> Result<Vat, Memory>
-        ensures rooted { IfOk result (λ vat. IsRooted me key.now vat.inside) }
-        ensures heap { IfOk result (λ vat. vat.inside.heap ≡ record nothing { texts = problems }) }
-        ensures micro { IfOk result (λ vat. vat.inside.micro ≡ record { fuel = fuel; events = [] }) }
-        ensures sound { IfOk result (λ vat. IsSound vat.inside) }
+    /// The vat at its start, with so much fuel: it knows its root, of which those that know the vat are to be told, and then the roots of
+    /// those that it knows, in order. It draws words under that key.
+    pub fn start(
+        alloc: Global,
+        me: VatId,
+        knows: &[VatId],
+        known_by: &[VatId],
+        key: &[u8; 32],
+        fuel: u32,
+    ) -> Result<Vat, Memory>
+        ensures rooted { IfOk result (λ vat. IsRooted me knows.now known_by.now key.now vat.host.inside) }
+        ensures begins { IfOk result (λ vat. (w : World) → vat_in w vat.host ≡ record (fresh me fuel knows.now known_by.now) { outbox = w.before.outbox; happened = w.before.happened }) }
+        ensures heap { IfOk result (λ vat. vat.host.inside.heap ≡ record nothing { texts = problems }) }
+        ensures micro { IfOk result (λ vat. vat.host.inside.micro ≡ record { fuel = fuel; events = [] }) }
+        ensures gifts { IfOk result (λ vat. vat.host.gifts ≡ []) }
+        ensures sound { IfOk result (λ vat. IsSound vat.host.inside) }
+        ensures stopped { IfOk result (λ vat. vat.stopped ≡ None) }
     {
         let mut inside = new_interior(alloc, me, key, fuel)?;
         inside.refs.learn(me)?;
-        Ok(Vat { inside })
+        tell_root(known_by, &mut inside.refs)?;
+        learn_roots(knows, &mut inside.refs)?;
+        let gifts = GiftTable::new(alloc);
+        Ok(Vat {
+            host: Host { inside, gifts },
+            stopped: None,
+        })
     }
 
-    /// Its opening turn evaluates the program, and resolves the root to what that gives.
-    ///
-    /// No node begins below `limits.depth` levels. After a stop the vat is of no use any more.
-    pub fn first_turn(&mut self, program: &Kernel, limits: Limits) -> Result<(), VatStop>
-        requires built { is_built program.now ≡ true }
-        requires sound { IsSound self.old.inside }
-        ensures step { (w : World) (rest : List Words) → texts_of w ≡ self.new.inside.heap.texts ++ rest → self.old.inside.words.key ≡ w.key
-            → StepIs w result self.new.inside (opening (names w) program.now limits.depth (Prom 0) [] (vat_of w self.old.inside)) }
-        ensures grown { UnlessMemory result (Grown self.old.inside.heap self.new.inside.heap) }
-        ensures stays { UnlessMemory result (Stays self.old.inside self.new.inside) }
-        ensures sound { OnOk result (IsSound self.new.inside) }
+    /// Keeps the stop of a step, where it stopped.
+    fn keep_stop<T>(&mut self, outcome: &Result<T, VatStop>)
+        ensures { self.new ≡ record self.old { stopped = stop_in outcome.now } }
     {
-        open(program, limits.depth, &mut self.inside)
+        self.stopped = match outcome {
+            Ok(_) => None,
+            Err(stop) => Some(*stop),
+        };
+    }
+
+    /// Its opening turn evaluates the program, and resolves the root to what that gives. The nouns are those of the vats that it knows, in
+    /// order: each is bound finally to the root of its vat.
+    ///
+    /// No node begins below `limits.depth` levels.
+    pub fn first_turn(
+        &mut self,
+        program: &Kernel,
+        nouns: &[Word],
+        limits: Limits,
+    ) -> Result<(), VatStop>
+        requires ready { IsReady self.old }
+        ensures step { self.old.stopped ≡ None → (w : World) (rest : List Words) → texts_of w ≡ self.new.host.inside.heap.texts ++ rest → self.old.host.inside.words.key ≡ w.key
+            → StepIs w result self.new.host.inside (opening (names w) program.now limits.depth (Prom 0) (roots_from 1 nouns.now) (vat_of w self.old.host.inside)) }
+        ensures grown { self.old.stopped ≡ None → UnlessMemory result (Grown self.old.host.inside.heap self.new.host.inside.heap) }
+        ensures stays { self.old.stopped ≡ None → UnlessMemory result (Stays self.old.host.inside self.new.host.inside) }
+        ensures sound { OnOk result (IsSound self.new.host.inside) }
+        ensures gifts { self.new.host.gifts ≡ self.old.host.gifts }
+        ensures stopped { StaysStopped self.old result self.new }
+        ensures kept { self.new.stopped ≡ stop_in result }
+    {
+        if let Some(stop) = self.stopped {
+            return Err(stop);
+        }
+        let outcome = open(program, nouns, limits.depth, &mut self.host.inside);
+        self.keep_stop(&outcome);
+        outcome
     }
 
     /// A turn takes the first message of the queue; it answers false exactly where the queue is empty, and then nothing changes.
     ///
-    /// No node begins below `limits.depth` levels. After a stop the vat is of no use any more.
-    #[tactic(auto, using(crate::proofs::Steps::front_there, crate::proofs::Steps::front_sound, crate::proofs::Steps::turn_takes, crate::proofs::Steps::turn_stops, crate::proofs::Steps::turn_idle))]
+    /// No node begins below `limits.depth` levels.
     pub fn turn(&mut self, program: &Kernel, limits: Limits) -> Result<bool, VatStop>
-        requires built { is_built program.now ≡ true }
-        requires sound { IsSound self.old.inside }
-        ensures turn { (w : World) (rest : List Words) → texts_of w ≡ self.new.inside.heap.texts ++ rest → self.old.inside.words.key ≡ w.key
-            → TurnIs w program.now limits.depth result self.old.inside self.new.inside }
-        ensures grown { UnlessMemory result (Grown self.old.inside.heap self.new.inside.heap) }
-        ensures stays { UnlessMemory result (Stays self.old.inside self.new.inside) }
-        ensures sound { OnOk result (IsSound self.new.inside) }
+        requires ready { IsReady self.old }
+        ensures turn { self.old.stopped ≡ None → (w : World) (rest : List Words) → texts_of w ≡ self.new.host.inside.heap.texts ++ rest → self.old.host.inside.words.key ≡ w.key
+            → TurnIs w program.now limits.depth result self.old.host.inside self.new.host.inside }
+        ensures grown { self.old.stopped ≡ None → UnlessMemory result (Grown self.old.host.inside.heap self.new.host.inside.heap) }
+        ensures stays { self.old.stopped ≡ None → UnlessMemory result (Stays self.old.host.inside self.new.host.inside) }
+        ensures sound { OnOk result (IsSound self.new.host.inside) }
+        ensures gifts { self.new.host.gifts ≡ self.old.host.gifts }
+        ensures stopped { StaysStopped self.old result self.new }
+        ensures kept { self.new.stopped ≡ stop_in result }
     {
-        match self.inside.refs.dequeue() {
-            None => Ok(false),
-            Some(message) => {
-                take(program, limits.depth, &message, &mut self.inside)?;
-                Ok(true)
-            }
+        if let Some(stop) = self.stopped {
+            return Err(stop);
         }
+        let outcome = take_first(program, limits.depth, &mut self.host.inside);
+        self.keep_stop(&outcome);
+        outcome
+    }
+
+    /// A note of that vat comes in, in this vat's numbers, with what the vat's connections and names tell of it. The texts and lists that
+    /// the note names are in the heap, and its lists are within the limits.
+    ///
+    /// What the machine does then is what the vat does, whatever it calls the names that come to be known.
+    pub fn receive(&mut self, from: VatId, sight: Sight, note: Heard) -> Result<(), VatStop>
+        requires ready { IsReady self.old }
+        requires fits { self.old.stopped ≡ None → NoteFits self.old.host.inside.heap note }
+        ensures step { self.old.stopped ≡ None → (w : World) (rest : List Words) → texts_of w ≡ self.new.host.inside.heap.texts ++ rest → self.old.host.inside.words.key ≡ w.key
+            → (their : theirs.Sight Local) → Sees their self.old.host note sight → (n : Local) (x : Name) (c : ℕ)
+            → ArrivalIs w result self.new.host (theirs.receive (names w) their from (heard_by (texts_of w) n x c from note) (vat_in w self.old.host)) }
+        ensures grown { self.old.stopped ≡ None → UnlessMemory result (Grown self.old.host.inside.heap self.new.host.inside.heap) }
+        ensures stays { self.old.stopped ≡ None → UnlessMemory result (Stays self.old.host.inside self.new.host.inside) }
+        ensures sound { OnOk result (IsSound self.new.host.inside) }
+        ensures stopped { StaysStopped self.old result self.new }
+        ensures kept { self.new.stopped ≡ stop_in result }
+    {
+        if let Some(stop) = self.stopped {
+            return Err(stop);
+        }
+        let outcome = hear(from, sight, note, &mut self.host);
+        self.keep_stop(&outcome);
+        outcome
+    }
+
+    /// The link with that vat is noticed as cut: the names of that host that did not settle break `partition`, and then the gifts that it
+    /// was to open. A second notice changes nothing.
+    pub fn notice(&mut self, peer: VatId) -> Result<(), VatStop>
+        requires ready { IsReady self.old }
+        ensures step { self.old.stopped ≡ None → (w : World) (rest : List Words) → texts_of w ≡ self.new.host.inside.heap.texts ++ rest → self.old.host.inside.words.key ≡ w.key
+            → ArrivalIs w result self.new.host (machine.notice (names w) peer (vat_in w self.old.host)) }
+        ensures grown { self.old.stopped ≡ None → UnlessMemory result (Grown self.old.host.inside.heap self.new.host.inside.heap) }
+        ensures stays { self.old.stopped ≡ None → UnlessMemory result (Stays self.old.host.inside self.new.host.inside) }
+        ensures sound { OnOk result (IsSound self.new.host.inside) }
+        ensures stopped { StaysStopped self.old result self.new }
+        ensures kept { self.new.stopped ≡ stop_in result }
+    {
+        if let Some(stop) = self.stopped {
+            return Err(stop);
+        }
+        let outcome = notice_cut(peer, &mut self.host);
+        self.keep_stop(&outcome);
+        outcome
+    }
+
+    /// The stop that the vat answers from now on, or none: the stop of the step that stopped.
+    pub fn stopped(&self) -> Option<VatStop>
+        ensures { result ≡ self.now.stopped }
+    {
+        self.stopped
     }
 
     /// What the vat holds, and what its last step told.
     pub fn inside(&self) -> &Interior
-        ensures { result.now ≡ self.now.inside }
+        ensures { result.now ≡ self.now.host.inside }
     {
-        &self.inside
+        &self.host.inside
     }
 
     /// Forgets what the last step told and put.
     pub fn rest(&mut self)
-        ensures { self.new.inside ≡ rested self.old.inside }
+        ensures inside { self.new.host.inside ≡ rested self.old.host.inside }
+        ensures gifts { self.new.host.gifts ≡ self.old.host.gifts }
+        ensures stopped { self.new.stopped ≡ self.old.stopped }
     {
-        let alloc = self.inside.alloc;
-        self.inside.micro = Micro::new(alloc, self.inside.micro.fuel);
-        self.inside.post = Post::new(alloc);
+        let inside = &mut self.host.inside;
+        let alloc = inside.alloc;
+        inside.micro = Micro::new(alloc, inside.micro.fuel);
+        inside.post = Post::new(alloc);
     }
 }

@@ -6,6 +6,7 @@ use Rattle.def_kernel.specs.declared.node.Node.{Node}
 use Rattle.def_kernel.specs.declared.node.Node.TheVariants.{Final}
 use Rattle.def_machine.specs.Values.{Words}
 use Rattle.ev_room.specs.declared.exit.Exit.{Exit}
+use Rattle.ev_base.specs.declared.values.Value.{Value}
 use Rattle.ev_base.specs.declared.values.Value.TheVariants as held
 use Rattle.ev_pass.specs.declared.interior.Interior.{Interior as Room}
 use Rattle.ev_room.specs.declared.scope.Binding.{Binding}
@@ -13,7 +14,7 @@ use Rattle.ev_room.specs.declared.scope.Bound.{Bound}
 use Rattle.ev_room.specs.declared.scope.Bound.TheVariants.{Fixed}
 use Rattle.ev_room.specs.declared.scope.Scope.{Scope}
 use Rattle.ev_room.specs.Sound.{no_guard}
-use Rattle.ev_room.specs.Acts.{Out, Act, and_then, ◌>>=◌, ◌>>◌, give, fail, cut, with_noun, named, object_made, object_in, make_object, object_node}
+use Rattle.ev_room.specs.Acts.{Out, Act, and_then, ◌>>=◌, ◌>>◌, give, fail, cut, with_noun, named, object_made, object_in, object_as, object_at}
 
 -- a scope with more bindings
 pub record Grows (before after : Scope) : Type 0 where
@@ -91,11 +92,10 @@ named_grows None me here = same here
 named_grows (Some (Final x g)) me here = with_one x (Fixed (held.Obj me) no_guard) here
 named_grows (Some _) me here = same here
 
-made_grows : (node : ℕ) (x : Words) (bs : List Binding) (me : ℕ) (first here : Scope) (s : Room) → Grows first here → GivesMore first (object_made node x bs me here s)
+made_grows : (node : ℕ) (x : Words) (bs : List Binding) (stamps : List Value) (me : ℕ) (first here : Scope) (s : Room) → Grows first here → GivesMore first (object_made node x bs stamps me here s)
 unfolding object_made ◌>>=◌ ◌>>◌
-made_grows node x bs me first here s g = then_any _ _ (λ i t. then_any _ _ (λ v q. given (held.Obj me) q g))
+made_grows node x bs stamps me first here s g = then_any _ _ (λ i t. then_any _ _ (λ v q. given (held.Obj me) q g))
 
-pub object_grows : (tree : List Node) (id p : ℕ) (auditors : List ℕ) (here : Scope) (s : Room) → GivesMore here (object_node tree id p auditors here s)
-unfolding object_node make_object object_in
-object_grows tree id p [] here s = made_grows _ _ _ _ here _ s (named_grows (slice_get tree p) (length s.heap.things) here)
-object_grows tree id p (a ∷ as') here s = lost _ s
+pub object_grows : (tree : List Node) (id p : ℕ) (stamps : List Value) (first here : Scope) (s : Room) → Grows first here → GivesMore first (object_at tree id p stamps here s)
+unfolding object_at object_as object_in
+object_grows tree id p stamps first here s g = made_grows _ _ _ stamps _ first _ s (onward g (named_grows (slice_get tree p) (length s.heap.things) here))

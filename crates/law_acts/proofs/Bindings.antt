@@ -25,7 +25,6 @@ use Rattle.ev_room.specs.declared.scope.Binding.{Binding}
 use Rattle.ev_room.specs.declared.scope.Bound.{Bound as Kept}
 use Rattle.ev_room.specs.declared.scope.Bound.TheVariants as scope
 use Rattle.ev_room.specs.declared.scope.Scope.{Scope}
-use Rattle.ev_room.specs.Sound.{is_built_safe}
 use Rattle.ev_room.specs.Reading.{World, value_of, cell_of, line_of, vat_of}
 use Rattle.ev_room.specs.Sound.{Grown, Stays, IsSound, IsPlainCell, is_there, is_bound, are_bound}
 use Rattle.ev_room.specs.Acts.{Out, ◌>>◌, give, answer, new_slot, write_told, slot_read, slot_found, read_slot, slot_written, write_slot, found_from, safe_found, read_held, read_bound, opened_acts}
@@ -98,21 +97,20 @@ unfolding opened_acts opened_state
 goes_astray w s = record { grown = grown_same s.heap; stays = refl; keeps = tt; is = λ f. refl }
 
 safe_cases : (w : World) (a b c : Bool) (o : Option ℕ) (m : Option (Value Local)) (s : Room) → IsSound s
-    → is_built_safe (if a then Some held.Null else if b then Some (held.Bool true) else if c then Some (held.Bool false) else option_map held.Prim o) ≡ true
     → (o ≡ None → m ≡ None) → ((n : ℕ) → o ≡ Some n → m ≡ Some (Prim n))
     → Met w a_value s (answer (safe_found (if a then Some held.Null else if b then Some (held.Bool true) else if c then Some (held.Bool false) else option_map held.Prim o)) s)
     (for_some (chosen a b c (Some Null) (Some (Flag true)) (Some (Flag false)) m) machine.give (machine.stop Astray) (vat w s))
 unfolding safe_found for_some chosen
-safe_cases w true b c o m s sound e h k = gives_there w held.Null s sound refl
-safe_cases w false true c o m s sound e h k = gives_there w (held.Bool true) s sound refl
-safe_cases w false false true o m s sound e h k = gives_there w (held.Bool false) s sound refl
-safe_cases w false false false (Some n) m s sound e h k = rw (k n refl) (gives_there w (held.Prim n) s sound e)
-safe_cases w false false false None m s sound e h k = rw (h refl) (goes_astray w s)
+safe_cases w true b c o m s sound h k = gives_there w held.Null s sound refl
+safe_cases w false true c o m s sound h k = gives_there w (held.Bool true) s sound refl
+safe_cases w false false true o m s sound h k = gives_there w (held.Bool false) s sound refl
+safe_cases w false false false (Some n) m s sound h k = rw (k n refl) (gives_there w (held.Prim n) s sound refl)
+safe_cases w false false false None m s sound h k = rw (h refl) (goes_astray w s)
 
-safe_met : (w : World) (x : Words) (s : Room) → IsSound s → is_built_safe (safe_value x) ≡ true
+safe_met : (w : World) (x : Words) (s : Room) → IsSound s
     → Met w a_value s (answer (safe_found (safe_value x)) s) (for_some (native.safe_value x) machine.give (machine.stop Astray) (vat w s))
-safe_met w x s sound e =
-    rw (safe_is x) (safe_cases w (bytes_eq x (codes "null")) (bytes_eq x (codes "true")) (bytes_eq x (codes "false")) (position (bytes_eq x) primitives) (others x) s sound e (no_others x) (some_others x))
+safe_met w x s sound =
+    rw (safe_is x) (safe_cases w (bytes_eq x (codes "null")) (bytes_eq x (codes "true")) (bytes_eq x (codes "false")) (position (bytes_eq x) primitives) (others x) s sound (no_others x) (some_others x))
 
 -- ---- var slots
 
@@ -161,23 +159,23 @@ fixed_met : (w : World) (act : ℕ) (v : Held) (g : GuardKind) (x : Words) (s : 
 unfolding scopes.read_bound
 fixed_met w act v g x s sound i = give_met w a_value v s sound i
 
-unbound_met : (w : World) (act : ℕ) (x : Words) (s : Room) → IsSound s → is_built_safe (safe_value x) ≡ true
+unbound_met : (w : World) (act : ℕ) (x : Words) (s : Room) → IsSound s
     → Met w a_value s (answer (safe_found (safe_value x)) s) (scopes.read_bound act None x (vat w s))
 unfolding scopes.read_bound
-unbound_met w act x s sound e = safe_met w x s sound e
+unbound_met w act x s sound = safe_met w x s sound
 
-read_met : (w : World) (act : ℕ) (f : Option Kept) (x : Words) (s : Room) → IsSound s → FoundThere s.heap f → is_built_safe (safe_value x) ≡ true
+read_met : (w : World) (act : ℕ) (f : Option Kept) (x : Words) (s : Room) → IsSound s → FoundThere s.heap f
     → Met w a_value s (read_bound act f x s) (scopes.read_bound act (found_of w f) x (vat w s))
 unfolding read_bound read_held
-read_met w act (Some (scope.Fixed v g)) x s sound i e = fixed_met w act v g x s sound i
-read_met w act (Some (scope.Slot k)) x s sound i e = slot_met w act k x s sound
-read_met w act None x s sound i e = unbound_met w act x s sound e
+read_met w act (Some (scope.Fixed v g)) x s sound i = fixed_met w act v g x s sound i
+read_met w act (Some (scope.Slot k)) x s sound i = slot_met w act k x s sound
+read_met w act None x s sound i = unbound_met w act x s sound
 
-pub noun_met : (w : World) (x : Words) (here : Scope) (s : Room) → IsSound s → are_bound s.heap here.nouns ≡ true → is_built_safe (safe_value x) ≡ true
+pub noun_met : (w : World) (x : Words) (here : Scope) (s : Room) → IsSound s → are_bound s.heap here.nouns ≡ true
     → Met w a_value s (read_bound here.act (found_from None here.nouns x) x s) (scopes.read_bound here.act (bound_in (scope_of w here).nouns x) x (vat w s))
-noun_met w x here s sound i e =
+noun_met w x here s sound i =
     rw (found_is w here.nouns [] None x (none_bound w x))
-    (read_met w here.act (found_from None here.nouns x) x s sound (found_there s.heap here.nouns None x i tt) e)
+    (read_met w here.act (found_from None here.nouns x) x s sound (found_there s.heap here.nouns None x i tt))
 
 changed_is : (w : World) (cs : List Cell) (k : ℕ) (c : Cell) (v : Held) → slice_get cs k ≡ Some c
     → machine.change (machine.holding (value_of w v)) k (map (cell_of w) cs) ≡ map (cell_of w) (slice_set cs k (record c { value = v }))

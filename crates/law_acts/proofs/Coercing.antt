@@ -18,7 +18,7 @@ use Rattle.ev_prims.specs.declared.primitives.Primitive.TheVariants.{Guarding, N
 use Rattle.ev_prims.proofs.PrimitiveLemmas.{primitive_low, primitive_high, low_is, high_is}
 use Rattle.ev_room.proofs.Guarding.{null_or_high}
 use Rattle.ev_room.specs.Coercion.{null_or, null_or_guard, null_or_prim}
-use Rattle.ev_room.specs.Sound.{is_built_kind, is_there}
+use Rattle.ev_room.specs.Sound.{is_there}
 use Rattle.law_acts.proofs.Replies.{Fits}
 
 -- ---- numbers
@@ -95,41 +95,17 @@ module _ (t : ℕ → Words) where
   null_or_means _ = refl
 
 module _ (h : Contents) where
-  above : (n : ℕ) → primitive_at (32 + n) ≡ with_null (numbered n)
-  above n =
-      let same : 32 + n - 32 ≡ n = omega arith in
-      high_is (32 + n) (omega arith) ∙ ap (λ (k : ℕ). with_null (numbered k)) same
+  fits_guard : (n : ℕ) (k : Kind) (b : Bool) → Fits h (null_or_guard n (record { kind = k; or_null = b }))
+  fits_guard n k true = tt
+  fits_guard n kind.Null false = tt
+  fits_guard n _ false = refl
 
-  built_above : (n : ℕ) (p : Primitive) → numbered n ≡ p → is_built_kind (with_null p) ≡ true → is_there h (held.Prim (32 + n)) ≡ true
-  built_above n p e b = rw (above n, e) b
-
-  fits_guard : (n : ℕ) (k : Kind) (b : Bool) → numbered n ≡ Guarding (record { kind = k; or_null = b }) → Fits h (null_or_guard n (record { kind = k; or_null = b }))
-  fits_guard n k true e = tt
-  fits_guard n kind.Null false e = tt
-  fits_guard n kind.Any false e = built_above n _ e refl
-  fits_guard n kind.Void false e = built_above n _ e refl
-  fits_guard n kind.Int false e = built_above n _ e refl
-  fits_guard n kind.Boolean false e = built_above n _ e refl
-  fits_guard n kind.Char false e = built_above n _ e refl
-  fits_guard n kind.Text false e = built_above n _ e refl
-  fits_guard n kind.List false e = built_above n _ e refl
-  fits_guard n kind.Near false e = built_above n _ e refl
-  fits_guard n kind.Frozen false e = built_above n _ e refl
-
-  fits_prim : (n : ℕ) (p : Primitive) → numbered n ≡ p → Fits h (null_or_prim n p)
-  fits_prim n (Guarding g) e = fits_guard n g.kind g.or_null e
-  fits_prim n _ e = tt
-
-  fits_at : (n : ℕ) (b : Bool) → nat_lt n 32 ≡ b → Fits h (null_or_prim n (primitive_at n))
-  fits_at n true e =
-      let l : n < 32 = grind (arith, nat_tests) in
-      rw (low_is n l) (fits_prim n (numbered n) refl)
-  fits_at n false e =
-      let l : 32 ≤ n = grind (arith, nat_tests) in
-      rw (← null_or_high n l) tt
+  fits_prim : (n : ℕ) (p : Primitive) → Fits h (null_or_prim n p)
+  fits_prim n (Guarding g) = fits_guard n g.kind g.or_null
+  fits_prim n _ = tt
 
   -- it stands in any heap
   pub fits_null_or : (x : Held) → Fits h (null_or x)
   unfolding null_or
-  fits_null_or (held.Prim n) = fits_at n (nat_lt n 32) refl
+  fits_null_or (held.Prim n) = fits_prim n (primitive_at n)
   fits_null_or _ = tt

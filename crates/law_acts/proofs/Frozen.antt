@@ -13,10 +13,11 @@ use Rattle.def_machine.specs.Refs.{highest}
 use Rattle.def_machine.specs.Scopes as scopes
 use Rattle.def_machine.specs.Values.{Value, Local, Prim, Ref, Obj, Prom, Far, numbering, local_spot}
 use Rattle.ev_audit.specs.Frozen.{is_frozen, stamps_at}
-use Rattle.ev_audit.specs.Stamps.{stamps_in}
+use Rattle.ev_audit.specs.Stamps.{bears, stamps_in}
 use Rattle.ev_audit.proofs.Stamping.{bears_is}
 use Rattle.ev_intro.specs.Word.{word}
 use Rattle.ev_room.specs.Reading.{World, names, text_of, value_of, values_of, thing_of}
+use Rattle.ev_room.specs.Acts.{is_stamped}
 use Rattle.ev_room.specs.Sound.{Each, IsListed, is_there}
 use Rattle.ev_pass.specs.declared.interior.Interior.{Interior as Room}
 use Rattle.law_acts.proofs.Making.{things_at}
@@ -36,11 +37,30 @@ module _ (w : World) (tree : List Node) (s : Room) (sound : Each (IsListed s.hea
   stamps_are None = refl
   stamps_are (Some t) = shape_stamps t.alive t.shape
 
+  object_stamped : (a : Held) (i : ℕ) → perform.is_stamped (names w) tree (vat w s) (value_of w a) (Ref (Obj i)) ≡ bears a (stamps_at s.heap i)
+  unfolding perform.is_stamped perform.stamps_at numbering local_spot
+  object_stamped a i =
+      ap (λ (ss : List (Value Local)). perform.has_stamp (names w) tree (value_of w a) ss) (ap scopes.stamps_of (things_at w s i) ∙ stamps_are (slice_get s.heap.things i))
+      ∙ bears_is (word w.key) tree (text_of w) a (stamps_at s.heap i)
+
+  -- whether a followed value bears the stamp of a followed auditor
+  pub stamped_is : (a x : Held) → perform.is_stamped (names w) tree (vat w s) (value_of w a) (value_of w x) ≡ is_stamped s.heap a x
+  unfolding is_stamped
+  stamped_is a (held.Obj i) = object_stamped a i
+  stamped_is a (held.Prom k) = unfold perform.is_stamped perform.stamps_at perform.has_stamp numbering local_spot in refl
+  stamped_is a (held.Far v p) = unfold perform.is_stamped perform.stamps_at perform.has_stamp numbering local_spot in refl
+  stamped_is a held.Null = unfold perform.is_stamped in refl
+  stamped_is a (held.Bool b) = unfold perform.is_stamped in refl
+  stamped_is a (held.Int z) = unfold perform.is_stamped in refl
+  stamped_is a (held.Char c) = unfold perform.is_stamped in refl
+  stamped_is a (held.Text i) = unfold perform.is_stamped in refl
+  stamped_is a (held.Broken i) = unfold perform.is_stamped in refl
+  stamped_is a (held.Prim n) = unfold perform.is_stamped in refl
+  stamped_is a (held.List k) = unfold perform.is_stamped in refl
+
   object_frozen : (i : ℕ) → perform.is_frozen (names w) tree (vat w s) (Ref (Obj i)) ≡ is_frozen s.heap (held.Obj i)
-  unfolding perform.is_frozen perform.is_stamped perform.stamps_at numbering local_spot
-  object_frozen i =
-      ap (λ (ss : List (Value Local)). perform.has_stamp (names w) tree (Prim 17) ss) (ap scopes.stamps_of (things_at w s i) ∙ stamps_are (slice_get s.heap.things i))
-      ∙ bears_is (word w.key) tree (text_of w) (held.Prim 17) (stamps_at s.heap i)
+  unfolding perform.is_frozen
+  object_frozen i = object_stamped (held.Prim 17) i
 
   data_frozen : (v : Held) → is_there s.heap v ≡ true → scopes.is_plain highest (vat w s).lists (value_of w v) ≡ (is_plain s.heap v && nat_le (height_of s.heap v) 100)
   unfolding highest

@@ -1,5 +1,7 @@
+pub mod Auditing
 pub mod Behind
 pub mod Bindings
+pub mod Building
 pub mod Closes
 pub mod Coercing
 pub mod Following

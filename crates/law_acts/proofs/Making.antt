@@ -4,22 +4,21 @@ use Rattle.std.specs.Prelude.{reverse, ◌&&◌, ◌==◌, slice_get, if◌then�
 use Rattle.std.specs.Str.{bytes_eq}
 use Rattle.std.proofs.lemmas.List.{map-append, length-map}
 use Rattle.std.proofs.lemmas.Option.{slice_get-map}
+use Rattle.ev_base.specs.declared.values.Value.{Value as Held}
 use Rattle.ev_base.specs.declared.values.Value.TheVariants as held
 use Rattle.ev_heap.specs.Contents.{Contents}
 use Rattle.ev_heap.specs.declared.happened.Happened.TheVariants as event
 use Rattle.def_kernel.specs.declared.node.Node.{Node}
 use Rattle.def_kernel.specs.declared.node.Node.TheVariants.{Object as ObjectNode, Method, Final}
-use Rattle.def_machine.specs.Values.{Words, Ref, Local, Obj, numbering}
-use Rattle.def_machine.specs.State.{Bound, Binding as Bond, Scope as Surroundings, ObjectMade, Made, Vat}
+use Rattle.def_machine.specs.Values.{Words, Value, Ref, Local, Obj}
+use Rattle.def_machine.specs.State.{Bound, Binding as Bond, FreeName, Scope as Surroundings, ObjectMade, Made, Vat}
 use Rattle.def_machine.specs.State as machine
 use Rattle.def_machine.specs.Free.{free_nouns}
 use Rattle.ev_kernel_printer.specs.FreeNames.{free_names, counted}
 use mathlib.Core.List.{reverse_aux}
 use Rattle.def_machine.specs.Scopes.{any_guard, bound_in}
-use Rattle.def_machine.specs.Eval.{opened_eval}
 use Rattle.def_machine.specs.Scopes as scopes
 use Rattle.def_machine.specs.Calls as calls
-use Rattle.def_machine.specs.Eval as theirs
 use Rattle.ev_heap.specs.declared.kept.Shape.TheVariants.{Made as Plain}
 use Rattle.ev_room.specs.declared.object.Code.TheVariants.{Runs}
 use Rattle.ev_pass.specs.declared.interior.Interior.{Interior as Room}
@@ -27,9 +26,12 @@ use Rattle.ev_room.specs.declared.scope.Binding.{Binding}
 use Rattle.ev_room.specs.declared.scope.Bound.{Bound as Kept}
 use Rattle.ev_room.specs.declared.scope.Bound.TheVariants as scope
 use Rattle.ev_room.specs.declared.scope.Scope.{Scope}
-use Rattle.ev_room.specs.Reading.{World, names, thing_of, shape_in, caught_in, capture_in, line_of, vat_of}
-use Rattle.ev_room.specs.Sound.{IsSound, is_bound, are_bound, no_guard, plain_thing, capture_of, caught_of}
-use Rattle.ev_room.specs.Acts.{◌>>=◌, ◌>>◌, found_from, bound_back, binding_back, with_bound, captures, new_object, named, object_made, object_in, make_object, object_node, suits, first_method, code_of}
+use Rattle.ev_room.specs.Reading.{World, names, text_of, value_of, values_of, thing_of, shape_in, caught_in, capture_in, line_of, vat_of}
+use Rattle.ev_audit.specs.Views.{capture_by}
+use Rattle.ev_audit.specs.Views.{view_of as seen_of}
+use Rattle.ev_audit.proofs.Told as told
+use Rattle.ev_room.specs.Sound.{IsSound, are_there, is_bound, are_bound, no_guard, object_thing, capture_of, caught_of}
+use Rattle.ev_room.specs.Acts.{◌>>=◌, ◌>>◌, found_from, bound_back, binding_back, with_bound, captures, new_object, named, object_made, object_in, object_as, object_at, view_at, suits, first_method, code_of}
 use Rattle.law_acts.proofs.Bindings.{FoundThere, found_of, found_is, found_there, none_bound, onto_more, bound_more}
 use Rattle.law_acts.proofs.Sounds.{scope_on, all_and, thing_grown, thing_sound}
 use Rattle.law_acts.proofs.Stands.{Met, vat, an_answer, itself, bound_of, bond_of, bonds_onto, scope_of, then_met, give_met, tell_met}
@@ -69,9 +71,9 @@ bindings_back (b ∷ bs) =
     ap (λ (x : Kept). record { noun = b.noun; bound = x } ∷ map binding_back (map caught_of bs)) (bound_back_is b.bound)
     ∙ ap (λ (cs : List Binding). b ∷ cs) (bindings_back bs)
 
-pub code_is : (node : ℕ) (bs : List Binding) (live : Bool) → code_of (Plain node (map caught_of bs) []) live ≡ Ok (Runs (record { node = node; nouns = bs }))
+pub code_is : (node : ℕ) (bs : List Binding) (stamps : List Held) (live : Bool) → code_of (Plain node (map caught_of bs) stamps) live ≡ Ok (Runs (record { node = node; nouns = bs }))
 unfolding code_of
-code_is node bs live = ap (λ (cs : List Binding). Ok (Runs (record { node = node; nouns = cs }))) (bindings_back bs)
+code_is node bs stamps live = ap (λ (cs : List Binding). Ok (Runs (record { node = node; nouns = cs }))) (bindings_back bs)
 
 -- the same from the last on
 turned_there : (h : Contents) (xs ys : List Binding) → are_bound h xs ≡ true → are_bound h ys ≡ true → are_bound h (reverse_aux xs ys) ≡ true
@@ -140,45 +142,45 @@ pub things_are : (w : World) (s : Room) → (vat w s).things ≡ map (thing_of w
 unfolding vat_of
 things_are w s = refl
 
-pub thing_is : (w : World) (node : ℕ) (bs : List Binding) (live : Bool) → shape_in w live (Plain node (map caught_of bs) []) ≡ Made node (map (bond_of w) bs) []
-thing_is w node bs live = ap (λ (cs : List (Bond Local)). Made node cs []) (caught_is w bs)
+pub thing_is : (w : World) (node : ℕ) (bs : List Binding) (stamps : List Held) (live : Bool) → shape_in w live (Plain node (map caught_of bs) stamps) ≡ Made node (map (bond_of w) bs) (values_of w stamps)
+thing_is w node bs stamps live = ap (λ (cs : List (Bond Local)). Made node cs (values_of w stamps)) (caught_is w bs)
 
-new_object_met : (w : World) (node : ℕ) (bs : List Binding) (s : Room) → IsSound s → are_bound s.heap bs ≡ true
-    → Met w itself s (new_object node bs s) (machine.new_thing (Made node (map (bond_of w) bs) []) (vat w s))
+new_object_met : (w : World) (node : ℕ) (bs : List Binding) (stamps : List Held) (s : Room) → IsSound s → are_bound s.heap bs ≡ true → are_there s.heap stamps ≡ true
+    → Met w itself s (new_object node bs stamps s) (machine.new_thing (Made node (map (bond_of w) bs) (values_of w stamps)) (vat w s))
 unfolding new_object machine.new_thing vat_of
-new_object_met w node bs s sound i = record {
-  grown = thing_grown s sound (record { node = node; nouns = bs });
+new_object_met w node bs stamps s sound i l = record {
+  grown = thing_grown s sound (record { node = node; nouns = bs }) stamps;
   stays = refl;
-  keeps = (thing_sound s sound (record { node = node; nouns = bs }) i, tt);
-  is = λ f. rw (length-map s.heap.things (thing_of w), map-append (thing_of w) s.heap.things (plain_thing (record { node = node; nouns = bs }) ∷ []), caught_is w bs) refl;
+  keeps = (thing_sound s sound (record { node = node; nouns = bs }) stamps i l, tt);
+  is = λ f. rw (length-map s.heap.things (thing_of w), map-append (thing_of w) s.heap.things (object_thing (record { node = node; nouns = bs }) stamps ∷ []), caught_is w bs) refl;
 }
 
-object_line : (w : World) (act me : ℕ) (x : Words) (bs : List Binding)
-    → line_of w (event.Made act (held.Obj me) x (map (λ b. capture_of b.bound) bs) []) ≡ ObjectMade act (Obj me) x (map (λ b. b.bound) (map (bond_of w) bs)) [] ∷ []
+object_line : (w : World) (act me : ℕ) (x : Words) (bs : List Binding) (stamps : List Held)
+    → line_of w (event.Made act (held.Obj me) x (map (λ b. capture_of b.bound) bs) stamps) ≡ ObjectMade act (Obj me) x (map (λ b. b.bound) (map (bond_of w) bs)) (values_of w stamps) ∷ []
 unfolding line_of
-object_line w act me x bs = ap (λ (vs : List (Bound Local)). ObjectMade act (Obj me) x vs [] ∷ []) (bounds_are w bs)
+object_line w act me x bs stamps = ap (λ (vs : List (Bound Local)). ObjectMade act (Obj me) x vs (values_of w stamps) ∷ []) (bounds_are w bs)
 
-made_met : (w : World) (tree : List Node) (node : ℕ) (x : Words) (bs : List Binding) (me : ℕ) (here : Scope) (s : Room) → IsSound s → are_bound s.heap bs ≡ true → are_bound s.heap here.nouns ≡ true
-    → Met w an_answer s (object_made node x bs me here s) (calls.object_made (names w) tree node x here.act (Obj me) (scope_of w here) [] (map (bond_of w) bs) (vat w s))
+made_met : (w : World) (tree : List Node) (node : ℕ) (x : Words) (bs : List Binding) (stamps : List Held) (me : ℕ) (here : Scope) (s : Room) → IsSound s → are_bound s.heap bs ≡ true → are_there s.heap stamps ≡ true → are_bound s.heap here.nouns ≡ true
+    → Met w an_answer s (object_made node x bs stamps me here s) (calls.object_made (names w) tree node x here.act (Obj me) (scope_of w here) (values_of w stamps) (map (bond_of w) bs) (vat w s))
 unfolding object_made calls.object_made scopes.answered ◌>>=◌ ◌>>◌ machine.◌>>=◌ machine.◌>>◌
-made_met w tree node x bs me here s sound i k =
-    then_met _ _ (new_object_met w node bs s sound i)
-    (λ n t q j g. then_met _ _ (tell_met w (event.Made here.act (held.Obj me) x (map (λ b. capture_of b.bound) bs) []) (ObjectMade here.act (Obj me) x (map (λ b. b.bound) (map (bond_of w) bs)) []) t q (object_line w here.act me x bs))
+made_met w tree node x bs stamps me here s sound i z k =
+    then_met _ _ (new_object_met w node bs stamps s sound i z)
+    (λ n t q j g. then_met _ _ (tell_met w (event.Made here.act (held.Obj me) x (map (λ b. capture_of b.bound) bs) stamps) (ObjectMade here.act (Obj me) x (map (λ b. b.bound) (map (bond_of w) bs)) (values_of w stamps)) t q (object_line w here.act me x bs stamps))
     (λ u r p l e. give_met w an_answer (held.Obj me, here) r p (refl, scope_on e here.nouns (scope_on g here.nouns k))))
 
-in_met : (w : World) (tree : List Node) (node : ℕ) (x : Words) (free : List Words) (me act : ℕ) (after : Scope) (sc : Surroundings Local) (s : Room) → IsSound s → are_bound s.heap after.nouns ≡ true
+in_met : (w : World) (tree : List Node) (node : ℕ) (x : Words) (free : List Words) (stamps : List Held) (me act : ℕ) (after : Scope) (sc : Surroundings Local) (s : Room) → IsSound s → are_bound s.heap after.nouns ≡ true → are_there s.heap stamps ≡ true
     → after.act ≡ act → scope_of w after ≡ sc
-    → Met w an_answer s (object_in node x free me after s) (calls.object_in (names w) tree node x free act (Obj me) [] sc (vat w s))
+    → Met w an_answer s (object_in node x free stamps me after s) (calls.object_in (names w) tree node x free act (Obj me) (values_of w stamps) sc (vat w s))
 unfolding object_in calls.object_in
-in_met w tree node x free me act after sc s sound i a e =
+in_met w tree node x free stamps me act after sc s sound i z a e =
     let caught : map (bond_of w) (captures [] after.nouns free) ≡ scopes.captures (scope_of w after) free = captures_are w after [] free in
-    rw (← a, ← e, ← caught) (made_met w tree node x (captures [] after.nouns free) me after s sound (captures_there s.heap after.nouns [] free i refl) i)
+    rw (← a, ← e, ← caught) (made_met w tree node x (captures [] after.nouns free) stamps me after s sound (captures_there s.heap after.nouns [] free i refl) z i)
 
-object_is : (w : World) (tree : List Node) (their : scopes.Evaluator Local) (id p : ℕ) (ms : List ℕ) (sc : Surroundings Local) (v : Vat Local)
-    → theirs.step (names w) tree their id (ObjectNode p [] ms) sc v
-    ≡ calls.object_in (names w) tree id (scopes.name_of (slice_get tree p)) (free_nouns tree ms) sc.act (Obj (length v.things)) [] (scopes.named (slice_get tree p) (Ref (Obj (length v.things))) sc) v
-unfolding opened_eval numbering
-object_is w tree their id p ms sc v = refl
+object_is : (w : World) (tree : List Node) (node : ℕ) (p : Option Node) (free : List Words) (stamps : List (Value Local)) (me : ℕ) (sc : Surroundings Local) (v : Vat Local)
+    → calls.object_as (names w) tree node p free stamps (Obj me) sc v
+    ≡ calls.object_in (names w) tree node (scopes.name_of p) free sc.act (Obj me) stamps (scopes.named p (Ref (Obj me)) sc) v
+unfolding calls.object_as
+object_is w tree node p free stamps me sc v = refl
 
 things_count : (w : World) (s : Room) → length (vat w s).things ≡ length s.heap.things
 things_count w s = rw (things_are w s) (length-map s.heap.things (thing_of w))
@@ -186,15 +188,37 @@ things_count w s = rw (things_are w s) (length-map s.heap.things (thing_of w))
 free_is : (tree : List Node) (id p : ℕ) (auditors ms : List ℕ) → slice_get tree id ≡ Some (ObjectNode p auditors ms) → free_names tree id ≡ free_nouns tree ms
 free_is tree id p auditors ms e = ap (λ (o : Option Node). free_nouns tree (counted id o)) e
 
-pub object_in_met : (w : World) (tree : List Node) (their : scopes.Evaluator Local) (id p : ℕ) (ms : List ℕ) (here : Scope) (s : Room) → IsSound s → are_bound s.heap here.nouns ≡ true
-    → slice_get tree id ≡ Some (ObjectNode p [] ms)
-    → Met w an_answer s (object_node tree id p [] here s) (theirs.step (names w) tree their id (ObjectNode p [] ms) (scope_of w here) (vat w s))
-unfolding object_node make_object
-object_in_met w tree their id p ms here s sound i e =
+-- an object of that expression, with these stamps
+pub object_at_met : (w : World) (tree : List Node) (id p : ℕ) (auditors ms : List ℕ) (stamps : List Held) (here : Scope) (s : Room) → IsSound s → are_bound s.heap here.nouns ≡ true → are_there s.heap stamps ≡ true
+    → slice_get tree id ≡ Some (ObjectNode p auditors ms)
+    → Met w an_answer s (object_at tree id p stamps here s) (calls.object_as (names w) tree id (slice_get tree p) (free_nouns tree ms) (values_of w stamps) (Obj (length (vat w s).things)) (scope_of w here) (vat w s))
+unfolding object_at object_as
+object_at_met w tree id p auditors ms stamps here s sound i z e =
     let after = named_met w (slice_get tree p) (length s.heap.things) here in
-    rw (object_is w tree their id p ms (scope_of w here) (vat w s), things_count w s, ← free_is tree id p [] ms e)
-    (in_met w tree id (scopes.name_of (slice_get tree p)) (free_names tree id) (length s.heap.things) here.act (named (slice_get tree p) (length s.heap.things) here) (scopes.named (slice_get tree p) (Ref (Obj (length s.heap.things))) (scope_of w here)) s sound
-    (named_there s.heap (slice_get tree p) (length s.heap.things) here i) after.0 after.1)
+    rw (
+      things_count w s,
+      object_is w tree id (slice_get tree p) (free_nouns tree ms) (values_of w stamps) (length s.heap.things) (scope_of w here) (vat w s),
+      ← free_is tree id p auditors ms e,
+    )
+    (in_met w tree id (scopes.name_of (slice_get tree p)) (free_names tree id) stamps (length s.heap.things) here.act (named (slice_get tree p) (length s.heap.things) here) (scopes.named (slice_get tree p) (Ref (Obj (length s.heap.things))) (scope_of w here)) s sound
+    (named_there s.heap (slice_get tree p) (length s.heap.things) here i) z after.0 after.1)
+
+-- ---- what auditors may know
+
+seen_bound : (w : World) (o : Option Kept) → found_of w o ≡ option_map (capture_by (text_of w)) (option_map capture_of o)
+seen_bound w None = refl
+seen_bound w (Some (scope.Fixed v g)) = refl
+seen_bound w (Some (scope.Slot k)) = refl
+
+-- the view of an object that is being made is the machine's
+pub view_is : (w : World) (tree : List Node) (id p : ℕ) (auditors ms : List ℕ) (here : Scope) → slice_get tree id ≡ Some (ObjectNode p auditors ms)
+    → seen_of (view_at tree id p here) ≡ calls.view_of (names w) tree id (slice_get tree p) (free_nouns tree ms) (scope_of w here)
+unfolding view_at calls.view_of
+view_is w tree id p auditors ms here e =
+    rw (← free_is tree id p auditors ms e)
+    (ap (λ (fs : List (FreeName Local)). record { node = id; free = fs })
+    (told.free_is (text_of w) (scopes.own_noun (slice_get tree p)) (bonds_onto w [] here.nouns) (λ x. option_map capture_of (found_from None here.nouns x))
+    (λ x. found_is w here.nouns [] None x (none_bound w x) ∙ seen_bound w (found_from None here.nouns x)) (free_names tree id)))
 
 pub things_at : (w : World) (s : Room) (i : ℕ) → slice_get (vat w s).things i ≡ option_map (thing_of w) (slice_get s.heap.things i)
 things_at w s i = rw (things_are w s) (slice_get-map (thing_of w) s.heap.things i)

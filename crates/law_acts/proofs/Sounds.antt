@@ -5,6 +5,7 @@ use Rattle.std.proofs.lemmas.List.{length-append}
 use Rattle.ev_base.specs.declared.values.Value.{Value}
 use Rattle.ev_base.specs.declared.values.Value.TheVariants as held
 use Rattle.ev_heap.specs.Contents.{Contents, size_of, weight_in, height_in, weight_of, height_of, weight_of_all, height_of_all, is_plain, are_plain, plain_in, listed}
+use Rattle.ev_heap.specs.declared.kept.AuditView.{AuditView}
 use Rattle.ev_heap.specs.declared.kept.Cell.{Cell}
 use Rattle.ev_heap.specs.declared.kept.Listed.{Listed}
 use Rattle.ev_heap.specs.declared.kept.Shape.{Shape}
@@ -19,7 +20,7 @@ use Rattle.ev_told.specs.declared.micro.Micro.{Micro}
 use Rattle.ev_pass.specs.declared.interior.Interior.{Interior}
 use Rattle.def_machine.specs.Values.{Words}
 use Rattle.ev_room.specs.Holding.{Every, IsOf, MessageOf, StandingOf, KnownOf, ReferencesOf}
-use Rattle.ev_room.specs.Sound.{Each, Grown, IsSound, KnowsProblems, IsPlainCell, IsPlainShape, IsPlainThing, IsListed, is_there, are_there, is_bound, are_bound, plain_thing, problems}
+use Rattle.ev_room.specs.Sound.{Each, Grown, IsSound, KnowsProblems, IsPlainCell, IsPlainShape, IsPlainThing, IsListed, is_there, are_there, is_bound, are_bound, object_thing, problems}
 use Rattle.ev_room.specs.declared.object.Object.{Object}
 use Rattle.ev_room.specs.declared.scope.Binding.{Binding}
 use Rattle.ev_room.specs.declared.scope.Bound.{Bound}
@@ -174,10 +175,10 @@ module _ {a b : Contents} (g : Grown a b) where
   cells_on cs h = each_on (IsPlainCell a) (IsPlainCell b) cs (λ c p. there_on c.value p) h
 
   shape_on : (sh : Shape) → IsPlainShape a sh → IsPlainShape b sh
-  shape_on (Made node caught stamps) p = (p.0, (p.1.0, (p.1.1.0, scope_on p.0 p.1.1.1)))
+  shape_on (Made node caught stamps) p = (p.0, (p.1.0, (all_on stamps p.1.1.0, scope_on p.0 p.1.1.1)))
   shape_on Ejector p = tt
   shape_on (Resolver k) p = tt
-  shape_on (Audition node) p = absurd p
+  shape_on (Audition view) p = tt
 
   pub things_on : (ts : List Thing) → Each (IsPlainThing a) ts → Each (IsPlainThing b) ts
   things_on ts h = each_on (IsPlainThing a) (IsPlainThing b) ts (λ t p. shape_on t.shape p) h
@@ -309,17 +310,17 @@ module _ (i : Interior) (s : IsSound i) where
       let g = slots_grown cs in
       slots_sound cs (each_set (IsPlainCell (with_slots cs)) i.heap.slots k c (cells_on g i.heap.slots s.slots) (there_on g c.value t))
 
-  abbrev with_thing : Object → Contents
-  with_thing o = record i.heap { things = i.heap.things ++ plain_thing o ∷ [] }
+  abbrev with_thing : Object → List Value → Contents
+  with_thing o stamps = record i.heap { things = i.heap.things ++ object_thing o stamps ∷ [] }
 
-  pub thing_grown : (o : Object) → Grown i.heap (with_thing o)
-  thing_grown o = grown_by i.heap (with_thing o) refl refl
+  pub thing_grown : (o : Object) (stamps : List Value) → Grown i.heap (with_thing o stamps)
+  thing_grown o stamps = grown_by i.heap (with_thing o stamps) refl refl
 
-  pub thing_sound : (o : Object) → are_bound i.heap o.nouns ≡ true → IsSound (with_heap (with_thing o))
-  thing_sound o t =
-      let g = thing_grown o in
-      heap_sound (with_thing o) g (cells_on g i.heap.slots s.slots)
-      (each_more (IsPlainThing (with_thing o)) i.heap.things (plain_thing o) (things_on g i.heap.things s.things) (o.nouns, (refl, (refl, scope_on g o.nouns t))))
+  pub thing_sound : (o : Object) (stamps : List Value) → are_bound i.heap o.nouns ≡ true → are_there i.heap stamps ≡ true → IsSound (with_heap (with_thing o stamps))
+  thing_sound o stamps t l =
+      let g = thing_grown o stamps in
+      heap_sound (with_thing o stamps) g (cells_on g i.heap.slots s.slots)
+      (each_more (IsPlainThing (with_thing o stamps)) i.heap.things (object_thing o stamps) (things_on g i.heap.things s.things) (o.nouns, (refl, (all_on g stamps l, scope_on g o.nouns t))))
       (lists_on g i.heap.lists s.lists)
 
   abbrev with_things : List Thing → Contents
@@ -345,6 +346,10 @@ module _ (i : Interior) (s : IsSound i) where
   -- one more resolver
   pub resolver_sound : (p : ℕ) → IsSound (with_heap (with_things (i.heap.things ++ record { shape = Resolver p; alive = true } ∷ [])))
   resolver_sound p = one_more_sound (record { shape = Resolver p; alive = true }) tt
+
+  -- one more audition
+  pub audition_sound : (view : AuditView) → IsSound (with_heap (with_things (i.heap.things ++ record { shape = Audition view; alive = true } ∷ [])))
+  audition_sound view = one_more_sound (record { shape = Audition view; alive = true }) tt
 
   -- one that is dead from here on
   pub killed_sound : (k : ℕ) (t : Thing) → slice_get i.heap.things k ≡ Some t → IsSound (with_heap (with_things (slice_set i.heap.things k (record t { alive = false }))))

@@ -11,7 +11,8 @@ use Rattle.law_renaming.specs.Alone.{start, opened_alone}
 use Rattle.law_renaming.proofs.Sim.{names, length_map}
 use Rattle.law_renaming.proofs.Stands.{Extends, still}
 use Rattle.def_run.specs.Draws.{draw_word}
-use Rattle.def_run.specs.Text.{text, vat_names, history_of, stop_text}
+use Rattle.def_event.specs.Lines.{render_run}
+use Rattle.def_run.specs.Text.{text, vat_names, history_of, draws_of, shown_events, stop_line, stop_text}
 use Rattle.def_run.specs.World as world
 use Rattle.def_run.specs.World.{Script, Event, Entry, Run, World, Goes, Stopped, Opens, Turned, Idle, LeftQueue, LeftHeld, LeftWait, Ends, events_of, then_goes, put_back, put_at, push_all, heard_by, connections_after, readied, within, run, open_from, open_vat, steps_from, turn, turn_queue, idle, step_number, tree_at, begins, fresh_from, fresh, known_root, knowers, links_from, links_to, given, close, left_vats, left_vat, left_held, left_wait, left_links}
 use Rattle.def_run.specs.Wire.{write_all}
@@ -43,17 +44,17 @@ named_vat a h k = ap (λ n. maps.vat (name_of n) a.vat) k.names_so ∙ named_so 
 abbrev world_at : Vat Name → List Event → World
 world_at z es = record { fuel = z.fuel; drawn = z.drawn; vats = z ∷ []; links = []; connections = []; history = es }
 
-put_joined : (a : Alone) (head : Event) (k : ℕ) (b : Unit {0}) (z : Vat Name) → z.outbox ≡ [] → heard_by z.drawn (head ∷ []) [] ≡ [] → put_back zero (world_of a) (head ∷ []) k (Gives b z) ≡ Goes (world_at z (a.history ++ head ∷ [] ++ events_of [] zero z.happened))
+put_joined : (a : Alone) (head : Event) (k : ℕ) (b : Unit {0}) (z : Vat Name) → z.outbox ≡ [] → heard_by (head ∷ []) [] ≡ [] → put_back zero (world_of a) (head ∷ []) k (Gives b z) ≡ Goes (world_at z (a.history ++ head ∷ [] ++ events_of [] zero z.happened))
 unfolding put_back world_of put_at push_all connections_after write_all
 put_joined a head k b z e h = rw (e, h) refl
 
-put_goes : (a : Alone) (head : Event) (k : ℕ) (b : Unit {0}) (z : Vat Name) → z.outbox ≡ [] → heard_by z.drawn (head ∷ []) [] ≡ [] → put_back zero (world_of a) (head ∷ []) k (Gives b z) ≡ Goes (world_at z (a.history ++ head ∷ events_of [] zero z.happened))
+put_goes : (a : Alone) (head : Event) (k : ℕ) (b : Unit {0}) (z : Vat Name) → z.outbox ≡ [] → heard_by (head ∷ []) [] ≡ [] → put_back zero (world_of a) (head ∷ []) k (Gives b z) ≡ Goes (world_at z (a.history ++ head ∷ events_of [] zero z.happened))
 put_goes a head k b z e h = put_joined a head k b z e h ∙ ap (λ es. Goes (world_at z es)) (append_assoc a.history (head ∷ []) (events_of [] zero z.happened))
 
 before : Alone → Vat Home → Before
 before a h = record { names = a.names; messages = h.messages }
 
-step_so : (a : Alone) (h : Vat Home) → Kept a h → (head : Event) (k : ℕ) → ((words : List ℕ) → heard_by words (head ∷ []) [] ≡ []) → (l : Done Local (Unit {0})) (n : Done Name (Unit {0})) → Meets (before a h) l n
+step_so : (a : Alone) (h : Vat Home) → Kept a h → (head : Event) (k : ℕ) → heard_by (head ∷ []) [] ≡ [] → (l : Done Local (Unit {0})) (n : Done Name (Unit {0})) → Meets (before a h) l n
     → (run_of (after_step a head k l) ≡ put_back zero (world_of a) (head ∷ []) k n) × KeptIn (after_step a head k l)
 unfolding run_of after_step told_by put_back before world_of
 step_so a h kept head k heard l n (gives b c p u s e) =
@@ -61,7 +62,7 @@ step_so a h kept head k heard l n (gives b c p u s e) =
     let next : Alone = record { vat = p; names = names_after a.names p; history = a.history ++ told_by (names_after a.names p) head p.happened } in
     let now : Kept next u = record { names_so = tells; placed = s.0; booked = record { rising = omega arith; good = s.1.good; apart = s.1.apart; mails = s.1.mails }; stands = e } in
     let outbox : map (maps.put name) u.outbox ≡ [] = ap (map (maps.put name)) s.0.puts_none in
-    (ap (λ (z : Vat Name). Goes (world_at z (a.history ++ head ∷ events_of [] zero z.happened))) (named_vat next u now) ∙ sym (put_goes a head k c (maps.vat name u) outbox (heard u.drawn)), (u, now))
+    (ap (λ (z : Vat Name). Goes (world_at z (a.history ++ head ∷ events_of [] zero z.happened))) (named_vat next u now) ∙ sym (put_goes a head k c (maps.vat name u) outbox heard), (u, now))
 step_so a h kept head k heard l n (throws y z p r) = (refl, (h, kept))
 step_so a h kept head k heard l n (ejects i j x y p r) = (refl, (h, kept))
 step_so a h kept head k heard l n (stops c e p r i) = (ap (λ x. Stopped x k (world_of a)) i, (h, kept))
@@ -149,7 +150,7 @@ module _ (script : Script) (word : ℕ → ℕ) (depth : ℕ) (tree : List Node)
   entry_so k a h kept (m ∷ ms) (n ∷ ns) e i s =
       let rest = tail_same s in
       let meets = taking_meets word (before a h) (taken_from a.vat ms) (ready a h kept ms ns rest) kept.names_so refl kept.booked (ready_start a h kept ms ns rest) (ready_stands a h kept ms ns rest) tree depth m n (alike a h kept m ms n ns e i) in
-      let step = step_so a h kept (Turned (suc k) zero) (suc k) (λ words. refl) (taking (numbering {W = Local} word) tree depth m (taken_from a.vat ms)) (taking (naming word zero) tree depth (maps.message name n) (maps.vat name (ready a h kept ms ns rest))) meets in
+      let step = step_so a h kept (Turned (suc k) zero) (suc k) refl (taking (numbering {W = Local} word) tree depth m (taken_from a.vat ms)) (taking (naming word zero) tree depth (maps.message name n) (maps.vat name (ready a h kept ms ns rest))) meets in
       (step.0 ∙ turn_found k a (Turned (suc k) zero ∷ []) (maps.message name n) (maps.vat name (ready a h kept ms ns rest)) (readied (world_of a) (record (maps.vat name h) { queue = map (maps.message name) ns })) (ready_named a h kept ms ns rest), step.1)
   entry_so k a h kept [] (n ∷ ns) e i s = cc
   entry_so k a h kept (m ∷ ms) [] e i s = cc
@@ -259,7 +260,7 @@ module _ (key : List ℕ) (fuel depth : ℕ) (called : Words) (tree : List Node)
 
   open_so : (run_of (open_alone word depth tree fuel) ≡ put_back zero (world_of (begins_alone fuel)) (Opens zero ∷ []) zero named_start) × KeptIn (open_alone word depth tree fuel)
   unfolding open_alone heard_by
-  open_so = step_so (begins_alone fuel) (home_start fuel) (kept_start fuel) (Opens zero) zero (λ words. refl) (opened_alone word fuel depth tree) named_start start_meets
+  open_so = step_so (begins_alone fuel) (home_start fuel) (kept_start fuel) (Opens zero) zero refl (opened_alone word fuel depth tree) named_start start_meets
 
   goes_same : (r : Run) → then_goes r (λ w. Goes w) ≡ r
   unfolding then_goes
@@ -281,14 +282,6 @@ module _ (key : List ℕ) (fuel depth : ℕ) (called : Words) (tree : List Node)
 pub run_alone_by_numbers : RunAloneByNumbers
 run_alone_by_numbers key fuel depth called tree n = sym (whole key fuel depth called tree n).0
 
-text_so : (key : List ℕ) (fuel depth : ℕ) (called : Words) (tree : List Node) (n : ℕ) (c : Course) → text (scheduled key fuel depth called tree n) (run_of c) ≡ text_alone called c
-unfolding text text_alone run_of world_of history_of stop_text vat_names
-text_so key fuel depth called tree n (Runs a) = append-nil _
-text_so key fuel depth called tree n (Halts c k a) = refl
-
-pub text_alone_by_numbers : TextAloneByNumbers
-text_alone_by_numbers key fuel depth called tree n = ap (text (scheduled key fuel depth called tree n)) (run_alone_by_numbers key fuel depth called tree n) ∙ text_so key fuel depth called tree n (run_alone (draw_word key) depth tree fuel n)
-
 -- ---- nothing leaves the vat
 
 no_puts : {A B : Type 0} (f : A → B) (xs : List A) → map f xs ≡ [] → xs ≡ []
@@ -309,3 +302,15 @@ ends_quiet (Halts c i a) k = quiet a k.0 k.1
 
 pub nothing_leaves : NothingLeaves
 nothing_leaves key fuel depth tree n = ends_quiet (run_alone (draw_word key) depth tree fuel n) (whole key fuel depth [] tree n).1
+
+-- ---- its text, where no word was drawn
+
+text_so : (key : List ℕ) (fuel depth : ℕ) (called : Words) (tree : List Node) (n : ℕ) (c : Course) → EndsQuiet c → text (scheduled key fuel depth called tree n) (run_of c) ≡ text_alone called c
+unfolding text text_alone run_of world_of history_of draws_of stop_text vat_names
+text_so key fuel depth called tree n (Runs a) q = append-nil _ ∙ ap (λ (draws : List ℕ). render_run (called ∷ []) (shown_events draws a.history)) q.1
+text_so key fuel depth called tree n (Halts c k a) q = ap (λ (draws : List ℕ). render_run (called ∷ []) (shown_events draws a.history) ++ (stop_line c k ++ 10 ∷ [])) q.1
+
+pub text_alone_by_numbers : TextAloneByNumbers
+text_alone_by_numbers key fuel depth called tree n =
+    ap (text (scheduled key fuel depth called tree n)) (run_alone_by_numbers key fuel depth called tree n)
+    ∙ text_so key fuel depth called tree n (run_alone (draw_word key) depth tree fuel n) (nothing_leaves key fuel depth tree n)

@@ -32,11 +32,11 @@ run_of (Halts c k a) = Stopped c k (world_of a)
 abbrev pub RunAloneByNumbers : Type 0
 RunAloneByNumbers = (key : List ℕ) (fuel depth : ℕ) (name : Words) (tree : List Node) (n : ℕ) → run (scheduled key fuel depth name tree n) ≡ run_of (run_alone (draw_word key) depth tree fuel n)
 
--- ---- its text
+-- ---- its text, in which no gift is named
 
 unfoldable pub text_alone : Words → Course → Words
-text_alone name (Runs a) = render_run (name ∷ []) (shown_events a.history)
-text_alone name (Halts c k a) = render_run (name ∷ []) (shown_events a.history) ++ (stop_line c k ++ 10 ∷ [])
+text_alone name (Runs a) = render_run (name ∷ []) (shown_events [] a.history)
+text_alone name (Halts c k a) = render_run (name ∷ []) (shown_events [] a.history) ++ (stop_line c k ++ 10 ∷ [])
 
 abbrev pub TextAloneByNumbers : Type 0
 TextAloneByNumbers = (key : List ℕ) (fuel depth : ℕ) (name : Words) (tree : List Node) (n : ℕ)

@@ -1,4 +1,4 @@
--- What is asked of the primitives that are built, in the terms of the code, is what is asked in the machine.
+-- What is asked of primitives, in the terms of the code, is what is asked in the machine.
 use Rattle.std.proofs.Common.{◌≡◌, ℕ, Bool, true, false, List, [], ◌∷◌, refl}
 use Rattle.std.specs.Prelude.{codes, if◌then◌else◌, Option, Some, None}
 use Rattle.std.specs.Str.{bytes_eq}
@@ -14,15 +14,15 @@ use Rattle.ev_prims.specs.declared.asking.Asked.{Asked}
 use Rattle.ev_prims.specs.declared.asking.Asked.TheVariants as ask
 use Rattle.ev_prims.specs.declared.asking.RefTest.{RefTest}
 use Rattle.ev_prims.specs.Verbs.{ref_test_named}
-use Rattle.ev_prims.specs.Primitives.{guard_in, primitive_in}
+use Rattle.ev_prims.specs.Primitives.{guard_in, primitive_in, rule_in}
+use Rattle.ev_prims.specs.declared.primitives.Rule.{Rule}
 use Rattle.ev_prims.specs.declared.primitives.Guard.{Guard}
 use Rattle.ev_prims.specs.declared.primitives.Kind.{Kind}
 use Rattle.ev_prims.specs.declared.primitives.Kind.TheVariants as kind
 use Rattle.ev_prims.specs.declared.primitives.Primitive.{Primitive}
-use Rattle.ev_prims.specs.declared.primitives.Primitive.TheVariants.{MakeList, Equalizer, Comparer, Looper, Sender, References, Thrower, Guarding}
+use Rattle.ev_prims.specs.declared.primitives.Primitive.TheVariants.{MakeList, Equalizer, Comparer, Looper, Sender, References, Thrower, StampReader, Guarding, Judging, NoPrimitive}
 use Rattle.ev_prims.proofs.AskMeans.{asks_list, asks_comparer, asks_looper, asks_thrower}
 use Rattle.ev_prims.proofs.VerbLemmas as verbs
-use Rattle.ev_room.specs.Sound.{is_built_kind}
 
 where_is : (t : ℕ → Words) (xs : List Held) (name : Words) (a : Asked) (verb : Words) → entry ((name, asked_with t xs a) ∷ []) native.NoMethod verb ≡ asked_with t xs (where_named name a verb)
 where_is t xs name a verb = verbs.by_table (asked_with t xs) ((name, a) ∷ []) ask.NoMethod verb
@@ -93,6 +93,32 @@ module _ (t : ℕ → Words) (verb : Words) where
   references_asked (a ∷ b ∷ c ∷ []) = many_asked a b c []
   references_asked (a ∷ b ∷ c ∷ d ∷ xs) = many_asked a b c (d ∷ xs)
 
+  -- ---- stamps, and what answers nothing
+
+  stamps_asked : (xs : List Held) → native.stamp_ask verb (values_by t xs) ≡ asked_with t xs (asked_by StampReader verb (args_of xs))
+  unfolding native.stamp_ask args_of asks_none asks_one asks_two asks_three asks_more asked_by
+  stamps_asked [] = refl
+  stamps_asked (a ∷ []) = refl
+  stamps_asked (a ∷ b ∷ []) = where_is t (a ∷ b ∷ []) (codes "run") (ask.IsStamped a b) verb
+  stamps_asked (a ∷ b ∷ c ∷ []) = refl
+  stamps_asked (a ∷ b ∷ c ∷ d ∷ xs) = refl
+
+  judging_asked : (r : Rule) (xs : List Held) → asked_by (Judging r) verb (args_of xs) ≡ ask.NoMethod
+  unfolding args_of asks_none asks_one asks_two asks_three asks_more asked_by
+  judging_asked r [] = refl
+  judging_asked r (a ∷ []) = refl
+  judging_asked r (a ∷ b ∷ []) = refl
+  judging_asked r (a ∷ b ∷ c ∷ []) = refl
+  judging_asked r (a ∷ b ∷ c ∷ d ∷ xs) = refl
+
+  nothing_asked : (xs : List Held) → asked_by NoPrimitive verb (args_of xs) ≡ ask.NoMethod
+  unfolding args_of asks_none asks_one asks_two asks_three asks_more asked_by
+  nothing_asked [] = refl
+  nothing_asked (a ∷ []) = refl
+  nothing_asked (a ∷ b ∷ []) = refl
+  nothing_asked (a ∷ b ∷ c ∷ []) = refl
+  nothing_asked (a ∷ b ∷ c ∷ d ∷ xs) = refl
+
   -- ---- guards
 
   kind_asked : (k : Kind) (b : Bool) (a : Held)
@@ -152,13 +178,27 @@ module _ (t : ℕ → Words) (verb : Words) where
   unfolding native.asked
   guarding_is g xs = guard_asked g xs
 
-  pub asked_is : (p : Primitive) (xs : List Held) → is_built_kind p ≡ true → native.asked (primitive_in p) verb (values_by t xs) ≡ asked_with t xs (asked_by p verb (args_of xs))
-  asked_is MakeList xs e = list_is xs
-  asked_is Equalizer xs e = equalizer_is xs
-  asked_is Comparer xs e = comparer_is xs
-  asked_is Looper xs e = looper_is xs
-  asked_is Sender xs e = sender_is xs
-  asked_is References xs e = references_is xs
-  asked_is Thrower xs e = thrower_is xs
-  asked_is (Guarding g) xs e = guarding_is g xs
-  asked_is _ xs e = absurd (cc)
+  stamps_is : (xs : List Held) → native.asked native.StampReader verb (values_by t xs) ≡ asked_with t xs (asked_by StampReader verb (args_of xs))
+  unfolding native.asked
+  stamps_is xs = stamps_asked xs
+
+  judging_is : (r : Rule) (xs : List Held) → native.asked (native.Judging (rule_in r)) verb (values_by t xs) ≡ asked_with t xs (asked_by (Judging r) verb (args_of xs))
+  unfolding native.asked
+  judging_is r xs = rw (judging_asked r xs) refl
+
+  nothing_is : (xs : List Held) → native.asked native.NoPrimitive verb (values_by t xs) ≡ asked_with t xs (asked_by NoPrimitive verb (args_of xs))
+  unfolding native.asked
+  nothing_is xs = rw (nothing_asked xs) refl
+
+  pub asked_is : (p : Primitive) (xs : List Held) → native.asked (primitive_in p) verb (values_by t xs) ≡ asked_with t xs (asked_by p verb (args_of xs))
+  asked_is MakeList xs = list_is xs
+  asked_is Equalizer xs = equalizer_is xs
+  asked_is Comparer xs = comparer_is xs
+  asked_is Looper xs = looper_is xs
+  asked_is Sender xs = sender_is xs
+  asked_is References xs = references_is xs
+  asked_is Thrower xs = thrower_is xs
+  asked_is StampReader xs = stamps_is xs
+  asked_is (Guarding g) xs = guarding_is g xs
+  asked_is (Judging r) xs = judging_is r xs
+  asked_is NoPrimitive xs = nothing_is xs

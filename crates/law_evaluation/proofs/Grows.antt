@@ -16,7 +16,7 @@ use Rattle.ev_heap.specs.declared.kept.GuardKind.{GuardKind}
 use Rattle.ev_heap.specs.declared.kept.GuardKind.TheVariants.{Native, User}
 use Rattle.ev_steps.specs.declared.target.Target.{Target}
 use Rattle.ev_steps.specs.declared.target.Target.TheVariants as target
-use Rattle.ev_steps.specs.Steps.{Caller, Evaluator, guarded_node, gathered, last_of, call_node, exit_of, define_by, define, literal_node, noun_node, set_node, within, choose, if_node, bind_unmatched, unmatched, not_matched, matched_if, match_ended, match_on, match_node, step, call, failed_by, failed, bind_all, bind_coerced, bind_by, bind_under, bind_guarded, bind_list, bind_items, bind_via, bind_asked, bind_step, step_found, bind_found, deeper, evaluator}
+use Rattle.ev_steps.specs.Steps.{Caller, Evaluator, guarded_node, gathered, last_of, make_object, object_on, call_node, exit_of, define_by, define, literal_node, noun_node, set_node, within, choose, if_node, bind_unmatched, unmatched, not_matched, matched_if, match_ended, match_on, match_node, step, call, failed_by, failed, bind_all, bind_coerced, bind_by, bind_under, bind_guarded, bind_list, bind_items, bind_via, bind_asked, bind_step, step_found, bind_found, deeper, evaluator}
 use Rattle.ev_room.specs.Acts.{Out, Act, ◌>>=◌, ◌>>◌, ended_by, fails, cut, leave}
 use Rattle.ev_room.specs.Sound.{no_guard, not_a_list_id}
 use Rattle.ev_room.specs.Takings.{is_null}
@@ -65,6 +65,11 @@ last_grows : (rec : Evaluator) → IsGrowing rec → (x : Value) (es : List ℕ)
 unfolding last_of ◌>>=◌
 last_grows rec r x [] first here s g = given x s g
 last_grows rec r x (e ∷ es) first here s g = then_of _ (r.expression e here s) (λ y t h. last_grows rec r y.0 es first y.1 t (onward g h))
+
+node_grows : (tree : List Node) (rec : Evaluator) → IsGrowing rec → (id p : ℕ) (auditors : List ℕ) (here : Scope) (s : Room) → GivesMore here (object_on tree rec id p [] auditors here s)
+unfolding object_on make_object ◌>>=◌
+node_grows tree rec r id p auditors here s =
+    then_of _ (gathered_grows rec r [] auditors here here s (same here)) (λ xs t g. then_any _ _ (λ stamps u. object_grows tree id p stamps here xs.1 u g))
 
 call_grows : (tree : List Node) (rec : Evaluator) → IsGrowing rec → (f : ℕ) (verb : Words) (args : List ℕ) (here : Scope) (s : Room) → GivesMore here (call_node tree rec f verb args here s)
 unfolding call_node ◌>>=◌
@@ -155,7 +160,7 @@ step_grows tree rec r id (Try b p h) here s = guarded_grows rec (Try b p h) here
 step_grows tree rec r id (Finally a b) here s = guarded_grows rec (Finally a b) here s
 step_grows tree rec r id (Hide e) here s = guarded_grows rec (Hide e) here s
 step_grows tree rec r id (MatchBind e p) here s = match_grows tree rec r e p here s
-step_grows tree rec r id (ObjectNode p auditors ms) here s = object_grows tree id p auditors here s
+step_grows tree rec r id (ObjectNode p auditors ms) here s = node_grows tree rec r id p auditors here s
 step_grows tree rec r id _ here s = lost _ s
 
 -- ---- patterns

@@ -10,3 +10,4 @@ pub mod Objects
 pub mod Primitives
 pub mod Statements
 pub mod Turns
+pub mod Auditing

@@ -1,8 +1,7 @@
--- Evaluation over the state of the code is the machine's, on the trees that are built.
+-- Evaluation over the state of the code is the machine's.
 use Rattle.std.proofs.Common.{◌≡◌, ◌==◌, ℕ, zero, suc, ◌+◌, Bool, true, false, List, [], ◌∷◌, ◌++◌, Option, Some, None, Ok, Err, length, refl, sym, ap, subst, ◌∙◌, append_assoc, append-nil, arith}
 use Rattle.std.specs.Prelude.{option_map, slice_get, codes, if◌then◌else◌}
 use Rattle.std.proofs.lemmas.List.{map-append, length-map}
-use Rattle.ev_base.specs.SafeScope.{safe_value}
 use Rattle.ev_base.specs.declared.values.Value.{Value as Held}
 use Rattle.ev_base.specs.declared.values.Value.TheVariants as held
 use Rattle.ev_heap.specs.declared.happened.Happened.TheVariants as event
@@ -14,7 +13,7 @@ use Rattle.def_kernel.specs.declared.node.Literal.{Literal}
 use Rattle.def_kernel.specs.declared.node.Literal.TheVariants as literal
 use Rattle.def_kernel.specs.declared.node.Node.{Node}
 use Rattle.def_kernel.specs.declared.node.Node.TheVariants.{Lit, Noun, Set, Def, Call, Sequence, If, Escape, Try, Finally, Hide, MatchBind, Object as ObjectNode, Method, Matcher, Final, Var, Any, ListPattern, Via}
-use Rattle.def_machine.specs.Free.{BoundNoun, bound_nouns}
+use Rattle.def_machine.specs.Free.{BoundNoun, bound_nouns, free_nouns}
 use Rattle.def_machine.specs.Values.{Words, Value, Flag, Prim, Items, Ref, Local, Obj, Prom, Far, local_spot, numbering}
 use Rattle.def_machine.specs.State.{Bound, Fixed, Slot, Binding as Bond, Scope as Surroundings, Got, SlotMade, Vat, Done, Throws, Ejects, Stops, opened_state, Fuel, Deep, Astray}
 use Rattle.def_machine.specs.State as machine
@@ -34,14 +33,13 @@ use Rattle.ev_pass.specs.declared.interior.Interior.{Interior as Room}
 use Rattle.ev_room.specs.declared.scope.Bound.{Bound as Kept}
 use Rattle.ev_room.specs.declared.scope.Bound.TheVariants as scope
 use Rattle.ev_room.specs.declared.scope.Scope.{Scope}
-use Rattle.ev_steps.specs.Built.{is_built_node, is_built}
-use Rattle.ev_room.specs.Sound.{is_built_safe}
 use Rattle.ev_room.specs.Reading.{World, names, text_of, value_of, values_of, members_of, cell_of, line_of}
 use Rattle.ev_room.specs.Sound.{IsSound, any_guard as any, no_guard, is_there, are_there, is_bound, are_bound, no_match_id, not_a_list_id, not_a_guard_id, not_near_id}
 use Rattle.ev_steps.specs.declared.target.Target.{Target}
 use Rattle.ev_steps.specs.declared.target.Target.TheVariants as target
-use Rattle.ev_steps.specs.Steps.{Evaluator, Caller, call_value, call_at, call, again_by, handed, gathered, last_of, call_node, exit_of, define_by, define, no_match, unmatched_noun, bind_unmatched, unmatched, not_matched, matched_if, match_ended, match_on, match_node, failed, coerce, write_under, write_cell, write_bound, bind_list, bind_items, bind_via, bind_asked, literal_value, literal_node, noun_node, set_node, within, choose, if_node, step, bind_coerced, bind_by, bind_under, bind_guarded, bind_step, step_found, bind_found, deeper, evaluator}
+use Rattle.ev_steps.specs.Steps.{Evaluator, Caller, call_value, call_at, call, again_by, handed, gathered, last_of, call_node, object_on, exit_of, define_by, define, no_match, unmatched_noun, bind_unmatched, unmatched, not_matched, matched_if, match_ended, match_on, match_node, failed, coerce, write_under, write_cell, write_bound, bind_list, bind_items, bind_via, bind_asked, literal_value, literal_node, noun_node, set_node, within, choose, if_node, step, bind_coerced, bind_by, bind_under, bind_guarded, bind_step, step_found, bind_found, deeper, evaluator}
 use Rattle.ev_room.specs.Acts.{Out, and_then, ◌>>=◌, ◌>>◌, give, fail, found_from, with_noun}
+use Rattle.law_evaluation.proofs.Auditing.{make_object_met}
 use Rattle.law_evaluation.proofs.Calls.{CallsMet, call_data_met}
 use Rattle.law_evaluation.proofs.Grows.{deeper_grows, none_grows}
 use Rattle.law_acts.proofs.Behind.{Grows, same, onward, cut_back}
@@ -49,7 +47,7 @@ use Rattle.law_evaluation.proofs.Coercing.{coerce_met, failed_met, handed_then, 
 use Rattle.law_evaluation.proofs.Guarded.{in_turn, escape_met, try_met, finally_met, hide_met}
 use Rattle.law_evaluation.proofs.IsMet.{IsMet}
 use Rattle.law_acts.proofs.Bindings.{found_is, none_bound, noun_met, onto_more, bound_more, made_line, new_slot_met, found_of, cells_at, write_slot_met}
-use Rattle.law_evaluation.proofs.Objects.{bind_all_met, get_built, object_met, call_object_met}
+use Rattle.law_evaluation.proofs.Objects.{bind_all_met, call_object_met}
 use Rattle.law_evaluation.proofs.Primitives.{primitive_met}
 use Rattle.law_acts.proofs.Sounds.{grown_same, there_on, all_on, scope_on, all_and}
 use Rattle.ev_prims.specs.Answers.{members_at}
@@ -137,7 +135,7 @@ last_met w tree rec their h x (e ∷ es) here s sound i k = then_met _ _ (h.expr
 abbrev again_at : World → List Node → scopes.Evaluator Local → ℕ → scopes.Caller Local
 again_at w tree their n = λ a y u xs. calls.call_at (names w) tree n their a y u xs
 
-module _ (w : World) (tree : List Node) (rec : Evaluator) (their : scopes.Evaluator Local) (h : IsMet w rec their) (built : is_built tree ≡ true) where
+module _ (w : World) (tree : List Node) (rec : Evaluator) (their : scopes.Evaluator Local) (h : IsMet w rec their) where
   not_near_met : (act : ℕ) (x : Value Local) (n : Local) (verb : Words) (vs : List (Value Local)) (more : scopes.Caller Local) (s : Room) → IsSound s
       → calls.call_value (names w) tree their more act x (Ref n) verb vs (vat w s) ≡ machine.throw (codes "not near") (vat w s)
       → Met w a_value s (fail (exit.Thrown not_near_id) s) (calls.call_value (names w) tree their more act x (Ref n) verb vs (vat w s))
@@ -146,13 +144,13 @@ module _ (w : World) (tree : List Node) (rec : Evaluator) (their : scopes.Evalua
   -- on x, as it is held and as it is followed
   value_met : (again : Caller) (more : scopes.Caller Local) → CallsMet w again more → (act : ℕ) (x y : Held) (verb : Words) (args : List Held) (s : Room) → IsSound s → is_there s.heap y ≡ true → are_there s.heap args ≡ true
       → Met w a_value s (call_value tree rec again act x y verb args s) (calls.call_value (names w) tree their more act (value_of w x) (value_of w y) verb (values_of w args) (vat w s))
-  value_met again more m act x (held.Obj i) verb args s sound j a = unfold call_value in call_object_met w tree rec their more act x i verb args h s sound a
+  value_met again more m act x (held.Obj i) verb args s sound j a = unfold call_value in call_object_met w tree rec their again more act x i verb args h m s sound a
   value_met again more m act x (held.Prom n) verb args s sound j a =
       unfold call_value in not_near_met act (value_of w x) (Prom n) verb (values_of w args) more s sound (unfold calls.call_value calls.call_spot numbering local_spot in refl)
   value_met again more m act x (held.Far v p) verb args s sound j a =
       unfold call_value in not_near_met act (value_of w x) (Far v p) verb (values_of w args) more s sound (unfold calls.call_value calls.call_spot numbering local_spot in refl)
   value_met again more m act x (held.Broken id) verb args s sound j a = unfold call_value calls.call_value in throw_met w a_value id s sound j
-  value_met again more m act x (held.Prim n) verb args s sound j a = unfold call_value calls.call_value in primitive_met w tree again more m act n verb args s sound j a
+  value_met again more m act x (held.Prim n) verb args s sound j a = unfold call_value calls.call_value in primitive_met w tree again more m act n verb args s sound a
   value_met again more m act x held.Null verb args s sound j a = unfold call_value calls.call_value in call_data_met w tree again more m act x held.Null verb args s sound j a
   value_met again more m act x (held.Bool b) verb args s sound j a = unfold call_value calls.call_value in call_data_met w tree again more m act x (held.Bool b) verb args s sound j a
   value_met again more m act x (held.Int z) verb args s sound j a = unfold call_value calls.call_value in call_data_met w tree again more m act x (held.Int z) verb args s sound j a
@@ -198,6 +196,23 @@ module _ (w : World) (tree : List Node) (rec : Evaluator) (their : scopes.Evalua
       (λ xs u p l e. then_met _ _ (call_met here.act x.0 verb xs.0 u p (there_on e x.0 j.0) l.0)
       (λ v r o m d. give_met w an_answer (v, xs.1) r o (m, scope_on d xs.1.nouns l.1))))
 
+  -- ---- object expressions
+
+  object_is : (id p : ℕ) (auditors ms : List ℕ) (sc : Surroundings Local) (y : Vat Local)
+      → theirs.step (names w) tree their id (ObjectNode p auditors ms) sc y
+      ≡ machine.and_then (theirs.all_of (names w) tree their auditors sc y) (λ xs. calls.make_object (names w) tree (calls.call (names w) tree their) id (slice_get tree p) (free_nouns tree ms) xs.values xs.scope)
+  unfolding theirs.step machine.◌>>=◌
+  object_is id p auditors ms sc y = refl
+
+  object_met : (id p : ℕ) (auditors ms : List ℕ) (here : Scope) (s : Room) → IsSound s → are_bound s.heap here.nouns ≡ true
+      → slice_get tree id ≡ Some (ObjectNode p auditors ms)
+      → Met w an_answer s (object_on tree rec id p [] auditors here s) (theirs.step (names w) tree their id (ObjectNode p auditors ms) (scope_of w here) (vat w s))
+  unfolding object_on ◌>>=◌
+  object_met id p auditors ms here s sound k found =
+      rw (object_is id p auditors ms (scope_of w here) (vat w s))
+      (then_met _ _ (all_met w tree rec their h auditors here s sound k)
+      (λ xs t q i g. make_object_met w tree (call tree rec) (calls.call (names w) tree their) call_met id p auditors ms xs.0 xs.1 t q i.0 i.1 found))
+
 -- ---- definitions, nouns, literals
 
 exit_met : (w : World) (tree : List Node) (rec : Evaluator) (their : scopes.Evaluator Local) (h : IsMet w rec their) (j : Option ℕ) (here : Scope) (s : Room) → IsSound s → are_bound s.heap here.nouns ≡ true
@@ -221,16 +236,16 @@ define_met w tree rec their h id p j e here s sound k =
     (λ y t q i g. then_met _ _ (h.expression e y.1 t q i.1)
     (λ x u r l d. then_met _ _ (h.pattern p x.0 y.0 x.1 u r l.0 (there_on d y.0 i.0) l.1) (λ after z o m f. give_met w an_answer (x.0, after) z o (there_on f x.0 l.0, m)))))
 
-noun_node_met : (w : World) (tree : List Node) (their : scopes.Evaluator Local) (id : ℕ) (x : Words) (here : Scope) (s : Room) → IsSound s → are_bound s.heap here.nouns ≡ true → is_built_safe (safe_value x) ≡ true
+noun_node_met : (w : World) (tree : List Node) (their : scopes.Evaluator Local) (id : ℕ) (x : Words) (here : Scope) (s : Room) → IsSound s → are_bound s.heap here.nouns ≡ true
     → Met w an_answer s (noun_node x here s) (theirs.step (names w) tree their id (Noun x) (scope_of w here) (vat w s))
 unfolding noun_node theirs.step scopes.answered ◌>>=◌ machine.◌>>=◌
-noun_node_met w tree their id x here s sound k e = then_met _ _ (noun_met w x here s sound k e) (λ v t q j g. give_met w an_answer (v, here) t q (j, scope_on g here.nouns k))
+noun_node_met w tree their id x here s sound k = then_met _ _ (noun_met w x here s sound k) (λ v t q j g. give_met w an_answer (v, here) t q (j, scope_on g here.nouns k))
 
 -- what a noun stands for is written with what its guard makes of the value
-module _ (w : World) (tree : List Node) (rec : Evaluator) (their : scopes.Evaluator Local) (h : IsMet w rec their) (built : is_built tree ≡ true) where
+module _ (w : World) (tree : List Node) (rec : Evaluator) (their : scopes.Evaluator Local) (h : IsMet w rec their) where
   coerces_met : (act : ℕ) (k : GuardKind) (v j : Held) (s : Room) → IsSound s → is_there s.heap v ≡ true → is_there s.heap j ≡ true
       → Met w a_value s (coerce (call tree rec) act k j v s) (perform.coerce (names w) tree (calls.call (names w) tree their) act (guard_of k) (value_of w j) (value_of w v) (vat w s))
-  coerces_met act k v j s sound i l = coerce_met w tree (call tree rec) (calls.call (names w) tree their) (call_met w tree rec their h built) act k v j s sound i l
+  coerces_met act k v j s sound i l = coerce_met w tree (call tree rec) (calls.call (names w) tree their) (call_met w tree rec their h) act k v j s sound i l
 
   write_cell_met : (act k : ℕ) (v : Held) (o : Option Cell) (s : Room) → IsSound s → is_there s.heap v ≡ true
       → Met w a_value s (write_cell (call tree rec) act k v o s) (theirs.write_cell (names w) tree their act k (value_of w v) (option_map (cell_of w) o) (vat w s))
@@ -400,30 +415,30 @@ match_met w tree rec their h id e p here s sound k =
     (λ j u r l d. match_ended_met w tree their j p x.1 u (rec.pattern p x.0 (held.Obj j) x.1 u) (λ z. their.pattern p (value_of w x.0) (Ref (Obj j)) (scope_of w x.1) z) r (scope_on d x.1.nouns i.1)
     (h.pattern p x.0 (held.Obj j) x.1 u r (there_on d x.0 i.0) refl (scope_on d x.1.nouns i.1)))))
 
-step_met : (w : World) → (tree : List Node) (rec : Evaluator) (their : scopes.Evaluator Local) (h : IsMet w rec their) (id : ℕ) (n : Node) (here : Scope) (s : Room) → IsSound s → are_bound s.heap here.nouns ≡ true → is_built tree ≡ true
-    → slice_get tree id ≡ Some n → is_built_node n ≡ true
+step_met : (w : World) → (tree : List Node) (rec : Evaluator) (their : scopes.Evaluator Local) (h : IsMet w rec their) (id : ℕ) (n : Node) (here : Scope) (s : Room) → IsSound s → are_bound s.heap here.nouns ≡ true
+    → slice_get tree id ≡ Some n
     → Met w an_answer s (step tree rec id n here s) (theirs.step (names w) tree their id n (scope_of w here) (vat w s))
-unfolding step is_built_node theirs.step
-step_met w tree rec their h id (Lit l) here s sound k built found e = literal_met w tree their id l here s sound k
-step_met w tree rec their h id (Noun x) here s sound k built found e = noun_node_met w tree their id x here s sound k e
-step_met w tree rec their h id (Set x v) here s sound k built found e = set_met w tree rec their h built id x v here s sound k
-step_met w tree rec their h id (Def p j v) here s sound k built found e = define_met w tree rec their h id p j v here s sound k
-step_met w tree rec their h id (Call r verb args) here s sound k built found e = call_node_met w tree rec their h built id r verb args here s sound k
-step_met w tree rec their h id (Sequence es) here s sound k built found e = sequence_met w tree rec their h id es here s sound k
-step_met w tree rec their h id (If c a b) here s sound k built found e = if_met w tree rec their h id c a b here s sound k
-step_met w tree rec their h id (Escape p b c) here s sound k built found e = escape_met w tree rec their h id p b c here s sound k
-step_met w tree rec their h id (Try b p g) here s sound k built found e = try_met w tree rec their h id b p g here s sound k
-step_met w tree rec their h id (Finally a b) here s sound k built found e = finally_met w tree rec their h id a b here s sound k
-step_met w tree rec their h id (Hide v) here s sound k built found e = hide_met w tree rec their h id v here s sound k
-step_met w tree rec their h id (MatchBind v p) here s sound k built found e = match_met w tree rec their h id v p here s sound k
-step_met w tree rec their h id (ObjectNode p auditors ms) here s sound k built found e = object_met w tree their id p auditors ms here s sound k found e
-step_met w tree rec their h id (Method v ps b) here s sound k built found e = stop_met w an_answer s
-step_met w tree rec their h id (Matcher p b) here s sound k built found e = stop_met w an_answer s
-step_met w tree rec their h id (Final x g) here s sound k built found e = stop_met w an_answer s
-step_met w tree rec their h id (Var x g) here s sound k built found e = stop_met w an_answer s
-step_met w tree rec their h id (Any g) here s sound k built found e = stop_met w an_answer s
-step_met w tree rec their h id (ListPattern ps) here s sound k built found e = stop_met w an_answer s
-step_met w tree rec their h id (Via v p) here s sound k built found e = stop_met w an_answer s
+unfolding step theirs.step
+step_met w tree rec their h id (Lit l) here s sound k found = literal_met w tree their id l here s sound k
+step_met w tree rec their h id (Noun x) here s sound k found = noun_node_met w tree their id x here s sound k
+step_met w tree rec their h id (Set x v) here s sound k found = set_met w tree rec their h id x v here s sound k
+step_met w tree rec their h id (Def p j v) here s sound k found = define_met w tree rec their h id p j v here s sound k
+step_met w tree rec their h id (Call r verb args) here s sound k found = call_node_met w tree rec their h id r verb args here s sound k
+step_met w tree rec their h id (Sequence es) here s sound k found = sequence_met w tree rec their h id es here s sound k
+step_met w tree rec their h id (If c a b) here s sound k found = if_met w tree rec their h id c a b here s sound k
+step_met w tree rec their h id (Escape p b c) here s sound k found = escape_met w tree rec their h id p b c here s sound k
+step_met w tree rec their h id (Try b p g) here s sound k found = try_met w tree rec their h id b p g here s sound k
+step_met w tree rec their h id (Finally a b) here s sound k found = finally_met w tree rec their h id a b here s sound k
+step_met w tree rec their h id (Hide v) here s sound k found = hide_met w tree rec their h id v here s sound k
+step_met w tree rec their h id (MatchBind v p) here s sound k found = match_met w tree rec their h id v p here s sound k
+step_met w tree rec their h id (ObjectNode p auditors ms) here s sound k found = object_met w tree rec their h id p auditors ms here s sound k found
+step_met w tree rec their h id (Method v ps b) here s sound k found = stop_met w an_answer s
+step_met w tree rec their h id (Matcher p b) here s sound k found = stop_met w an_answer s
+step_met w tree rec their h id (Final x g) here s sound k found = stop_met w an_answer s
+step_met w tree rec their h id (Var x g) here s sound k found = stop_met w an_answer s
+step_met w tree rec their h id (Any g) here s sound k found = stop_met w an_answer s
+step_met w tree rec their h id (ListPattern ps) here s sound k found = stop_met w an_answer s
+step_met w tree rec their h id (Via v p) here s sound k found = stop_met w an_answer s
 
 -- ---- patterns
 
@@ -461,10 +476,10 @@ bind_coerced_met w act target.Nothing k v here s sound i l = give_met w a_scope 
 
 -- ---- lists
 
-module _ (w : World) (tree : List Node) (rec : Evaluator) (their : scopes.Evaluator Local) (h : IsMet w rec their) (built : is_built tree ≡ true) where
+module _ (w : World) (tree : List Node) (rec : Evaluator) (their : scopes.Evaluator Local) (h : IsMet w rec their) where
   not_list_met : (act : ℕ) (j : Held) (s : Room) → IsSound s → is_there s.heap j ≡ true
       → Met w a_scope s (failed (call tree rec) act j not_a_list_id s) (perform.failed (names w) tree {A = Surroundings Local} (calls.call (names w) tree their) act (value_of w j) (codes "not a list") (vat w s))
-  not_list_met act j s sound i = failed_met w tree (call tree rec) (calls.call (names w) tree their) (call_met w tree rec their h built) a_scope act j not_a_list_id s sound i (known_there s sound not_a_list_id refl)
+  not_list_met act j s sound i = failed_met w tree (call tree rec) (calls.call (names w) tree their) (call_met w tree rec their h) a_scope act j not_a_list_id s sound i (known_there s sound not_a_list_id refl)
 
   list_bound_met : (ps : List ℕ) (j : Held) (here : Scope) (vs : List Held) (b : Bool) (s : Room) → IsSound s → are_there s.heap vs ≡ true → is_there s.heap j ≡ true → are_bound s.heap here.nouns ≡ true
       → Met w a_scope s (bind_list tree rec ps j here vs b s)
@@ -519,8 +534,8 @@ module _ (w : World) (tree : List Node) (rec : Evaluator) (their : scopes.Evalua
       (machine.and_then (perform.handed (names w) tree (value_of w j) (vat w s)) (λ k u. machine.and_then (calls.call (names w) tree their act (value_of w f) (codes "run") (value_of w v ∷ k ∷ []) u) (λ x. their.pattern p x (value_of w j) (scope_of w here))))
   unfolding bind_via ◌>>=◌
   viewed_met act p v j f here s sound i l m k =
-      rw (handed_then w tree (call tree rec) (calls.call (names w) tree their) (call_met w tree rec their h built) j s (λ k u. machine.and_then (calls.call (names w) tree their act (value_of w f) (codes "run") (value_of w v ∷ k ∷ []) u) (λ x. their.pattern p x (value_of w j) (scope_of w here))) sound)
-      (then_met _ _ (call_met w tree rec their h built act f (codes "run") (v ∷ handed s j ∷ []) s sound m (pair_there v (handed s j) s i (handed_there w tree (call tree rec) (calls.call (names w) tree their) (call_met w tree rec their h built) j s l)))
+      rw (handed_then w tree (call tree rec) (calls.call (names w) tree their) (call_met w tree rec their h) j s (λ k u. machine.and_then (calls.call (names w) tree their act (value_of w f) (codes "run") (value_of w v ∷ k ∷ []) u) (λ x. their.pattern p x (value_of w j) (scope_of w here))) sound)
+      (then_met _ _ (call_met w tree rec their h act f (codes "run") (v ∷ handed s j ∷ []) s sound m (pair_there v (handed s j) s i (handed_there w tree (call tree rec) (calls.call (names w) tree their) (call_met w tree rec their h) j s l)))
       (λ y t q o g. h.pattern p y j here t q o (there_on g j l) (scope_on g here.nouns k)))
 
   via_met : (e p : ℕ) (v j : Held) (here : Scope) (s : Room) → IsSound s → is_there s.heap v ≡ true → is_there s.heap j ≡ true → are_bound s.heap here.nouns ≡ true
@@ -570,7 +585,7 @@ module _ (w : World) (tree : List Node) (rec : Evaluator) (their : scopes.Evalua
   by_met : (act : ℕ) (t : Target) (v j : Held) (k : GuardKind) (here : Scope) (s : Room) → IsSound s → is_there s.heap v ≡ true → is_there s.heap j ≡ true → are_bound s.heap here.nouns ≡ true
       → Met w a_scope s (bind_by tree rec act t v j k here s) (their_under act t (value_of w v) (value_of w j) (guard_of k) (scope_of w here) (vat w s))
   unfolding bind_by ◌>>=◌
-  by_met act t v j k here s sound i l m = then_met _ _ (coerces_met w tree rec their h built act k v j s sound i l) (λ u q r n g. bind_coerced_met w act t k u here q r n (scope_on g here.nouns m))
+  by_met act t v j k here s sound i l m = then_met _ _ (coerces_met w tree rec their h act k v j s sound i l) (λ u q r n g. bind_coerced_met w act t k u here q r n (scope_on g here.nouns m))
 
   no_guard_met : (act : ℕ) (t : Target) (y j g : Value Local) (sc : Surroundings Local) (s : Room) → IsSound s → perform.coerce (names w) tree (calls.call (names w) tree their) act g j y (vat w s) ≡ machine.throw (codes "not a guard") (vat w s)
       → Met w a_scope s (fail (exit.Thrown not_a_guard_id) s) (their_under act t y j g sc (vat w s))
@@ -633,42 +648,41 @@ module _ (w : World) (tree : List Node) (rec : Evaluator) (their : scopes.Evalua
         answered_first (value_of w (followed q.refs x.0)) (scope_of w x.1) (vat w q) (λ y. their_under here.act t (value_of w v) (value_of w j) y.value y.scope),
       ) (under_met here.act t v j (followed q.refs x.0) x.1 q r (there_on g v i) (there_on g j l) (followed_there q r x.0 m.0) m.1)))
 
-  bind_step_met : (n : Node) (v j : Held) (here : Scope) (s : Room) → IsSound s → is_there s.heap v ≡ true → is_there s.heap j ≡ true → are_bound s.heap here.nouns ≡ true → is_built_node n ≡ true
+  bind_step_met : (n : Node) (v j : Held) (here : Scope) (s : Room) → IsSound s → is_there s.heap v ≡ true → is_there s.heap j ≡ true → are_bound s.heap here.nouns ≡ true
       → Met w a_scope s (bind_step tree rec n v j here s) (theirs.bind_step (names w) tree their n (value_of w v) (value_of w j) (scope_of w here) (vat w s))
-  unfolding bind_step is_built_node ◌>>=◌
-  bind_step_met (Final x g) v j here s sound i l k e = guarded_met (target.Final x) g v j here s sound i l k
-  bind_step_met (Var x g) v j here s sound i l k e = guarded_met (target.Var x) g v j here s sound i l k
-  bind_step_met (Any g) v j here s sound i l k e = guarded_met target.Nothing g v j here s sound i l k
-  bind_step_met (ListPattern ps) v j here s sound i l k e = list_pattern_met ps v j here s sound i l k
-  bind_step_met (Via f p) v j here s sound i l k e = via_met f p v j here s sound i l k
-  bind_step_met _ v j here s sound i l k e = unfold theirs.bind_step in stop_met w a_scope s
+  unfolding bind_step ◌>>=◌
+  bind_step_met (Final x g) v j here s sound i l k = guarded_met (target.Final x) g v j here s sound i l k
+  bind_step_met (Var x g) v j here s sound i l k = guarded_met (target.Var x) g v j here s sound i l k
+  bind_step_met (Any g) v j here s sound i l k = guarded_met target.Nothing g v j here s sound i l k
+  bind_step_met (ListPattern ps) v j here s sound i l k = list_pattern_met ps v j here s sound i l k
+  bind_step_met (Via f p) v j here s sound i l k = via_met f p v j here s sound i l k
+  bind_step_met _ v j here s sound i l k = unfold theirs.bind_step in stop_met w a_scope s
 
 -- ---- the tree and the depth
 
-found_met : (w : World) → (tree : List Node) (rec : Evaluator) (their : scopes.Evaluator Local) (h : IsMet w rec their) (id : ℕ) (o : Option Node) (here : Scope) (s : Room) → IsSound s → are_bound s.heap here.nouns ≡ true → is_built tree ≡ true
+found_met : (w : World) → (tree : List Node) (rec : Evaluator) (their : scopes.Evaluator Local) (h : IsMet w rec their) (id : ℕ) (o : Option Node) (here : Scope) (s : Room) → IsSound s → are_bound s.heap here.nouns ≡ true
     → slice_get tree id ≡ o
     → Met w an_answer s (step_found tree rec id o here s) (theirs.step_found (names w) tree their id o (scope_of w here) (vat w s))
 unfolding step_found theirs.step_found
-found_met w tree rec their h id None here s sound k built e = stop_met w an_answer s
-found_met w tree rec their h id (Some n) here s sound k built e = step_met w tree rec their h id n here s sound k built e (get_built tree id n built e)
+found_met w tree rec their h id None here s sound k e = stop_met w an_answer s
+found_met w tree rec their h id (Some n) here s sound k e = step_met w tree rec their h id n here s sound k e
 
-bind_met : (w : World) → (tree : List Node) (rec : Evaluator) (their : scopes.Evaluator Local) (h : IsMet w rec their) (built : is_built tree ≡ true) (o : Option Node) (v j : Held) (here : Scope) (s : Room) → IsSound s → is_there s.heap v ≡ true → is_there s.heap j ≡ true → are_bound s.heap here.nouns ≡ true
-    → ((n : Node) → o ≡ Some n → is_built_node n ≡ true)
+bind_met : (w : World) → (tree : List Node) (rec : Evaluator) (their : scopes.Evaluator Local) (h : IsMet w rec their) (o : Option Node) (v j : Held) (here : Scope) (s : Room) → IsSound s → is_there s.heap v ≡ true → is_there s.heap j ≡ true → are_bound s.heap here.nouns ≡ true
     → Met w a_scope s (bind_found tree rec o v j here s) (theirs.bind_found (names w) tree their o (value_of w v) (value_of w j) (scope_of w here) (vat w s))
 unfolding bind_found theirs.bind_found
-bind_met w tree rec their h all None v j here s sound i l k built = stop_met w a_scope s
-bind_met w tree rec their h all (Some n) v j here s sound i l k built = bind_step_met w tree rec their h all n v j here s sound i l k (built n refl)
+bind_met w tree rec their h None v j here s sound i l k = stop_met w a_scope s
+bind_met w tree rec their h (Some n) v j here s sound i l k = bind_step_met w tree rec their h n v j here s sound i l k
 
-deeper_met : (w : World) → (tree : List Node) (rec : Evaluator) (their : scopes.Evaluator Local) → IsMet w rec their → is_built tree ≡ true
+deeper_met : (w : World) → (tree : List Node) (rec : Evaluator) (their : scopes.Evaluator Local) → IsMet w rec their
     → IsMet w (deeper tree rec) (theirs.deeper (names w) tree their)
 unfolding deeper theirs.deeper ◌>>◌ machine.◌>>◌
-deeper_met w tree rec their h built = record {
-  expression = λ id here s sound k. then_met _ _ (spend_met w 1 s sound) (λ u t q j g. found_met w tree rec their h id (slice_get tree id) here t q (scope_on g here.nouns k) built refl);
-  pattern = λ id v j here s sound i l k. then_met _ _ (spend_met w 1 s sound) (λ u t q m g. bind_met w tree rec their h built (slice_get tree id) v j here t q (there_on g v i) (there_on g j l) (scope_on g here.nouns k) (λ n e. get_built tree id n built e));
+deeper_met w tree rec their h = record {
+  expression = λ id here s sound k. then_met _ _ (spend_met w 1 s sound) (λ u t q j g. found_met w tree rec their h id (slice_get tree id) here t q (scope_on g here.nouns k) refl);
+  pattern = λ id v j here s sound i l k. then_met _ _ (spend_met w 1 s sound) (λ u t q m g. bind_met w tree rec their h (slice_get tree id) v j here t q (there_on g v i) (there_on g j l) (scope_on g here.nouns k));
   grows = deeper_grows tree rec h.grows;
 }
 
-pub evaluator_met : (w : World) → (tree : List Node) (d : ℕ) → is_built tree ≡ true → IsMet w (evaluator tree d) (theirs.evaluator (names w) tree d)
+pub evaluator_met : (w : World) → (tree : List Node) (d : ℕ) → IsMet w (evaluator tree d) (theirs.evaluator (names w) tree d)
 unfolding evaluator theirs.evaluator
-evaluator_met w tree zero built = record { expression = λ id here s sound k. deep_met w an_answer s; pattern = λ id v j here s sound i l k. deep_met w a_scope s; grows = none_grows tree }
-evaluator_met w tree (suc d) built = deeper_met w tree (evaluator tree d) (theirs.evaluator (names w) tree d) (evaluator_met w tree d built) built
+evaluator_met w tree zero = record { expression = λ id here s sound k. deep_met w an_answer s; pattern = λ id v j here s sound i l k. deep_met w a_scope s; grows = none_grows tree }
+evaluator_met w tree (suc d) = deeper_met w tree (evaluator tree d) (theirs.evaluator (names w) tree d) (evaluator_met w tree d)

@@ -1,22 +1,22 @@
 -- Objects in the code's evaluation stand for the machine's: calls on them.
-use Rattle.std.proofs.Common.{◌≡◌, ℕ, zero, suc, Bool, true, false, List, [], ◌∷◌, Option, Some, None, Ok, Err, length, map, refl, sym, subst}
+use Rattle.std.proofs.Common.{◌≡◌, ℕ, Bool, true, false, List, [], ◌∷◌, Option, Some, None, Ok, Err, length, map, refl, sym, subst}
 use Rattle.std.specs.Prelude.{◌==◌, if◌then◌else◌, reverse, slice_get, option_map}
 use Rattle.std.proofs.lemmas.List.{length-map}
 use Rattle.ev_base.specs.declared.values.Value.{Value as Held}
 use Rattle.ev_base.specs.declared.values.Value.TheVariants as held
 use Rattle.ev_heap.specs.declared.happened.Happened.TheVariants as event
+use Rattle.ev_heap.specs.declared.kept.AuditView.{AuditView}
 use Rattle.ev_heap.specs.declared.kept.Caught.{Caught}
 use Rattle.ev_heap.specs.declared.kept.Shape.{Shape}
 use Rattle.ev_heap.specs.declared.kept.Shape.TheVariants as shape
 use Rattle.ev_heap.specs.declared.kept.Thing.{Thing as HeldThing}
 use Rattle.def_kernel.specs.declared.node.Node.{Node}
-use Rattle.def_kernel.specs.declared.node.Node.TheVariants.{Object as ObjectNode, Method}
+use Rattle.def_kernel.specs.declared.node.Node.TheVariants.{Method}
 use Rattle.def_machine.specs.Values.{Words, Value, Text, Ref, Local, Obj, Prom, local_spot, numbering}
-use Rattle.def_machine.specs.State.{Binding as Bond, Scope as Surroundings, Got, Called, Made, Resolver, Vat, Done, Throws, Ejects, Stops, opened_state}
+use Rattle.def_machine.specs.State.{Binding as Bond, Scope as Surroundings, Got, Called, Made, Resolver, Audition, Vat, Done, Throws, Ejects, Stops, opened_state}
 use Rattle.def_machine.specs.State as machine
 use Rattle.def_machine.specs.Scopes as scopes
 use Rattle.def_machine.specs.Calls as calls
-use Rattle.def_machine.specs.Eval as theirs
 use Rattle.def_machine.specs.Perform as perform
 use Rattle.ev_prims.specs.declared.problem.Problem.TheVariants.{NoMethod}
 use Rattle.ev_room.specs.declared.object.Object.{Object}
@@ -24,38 +24,25 @@ use Rattle.ev_room.specs.declared.exit.Exit.TheVariants as exit
 use Rattle.ev_pass.specs.declared.interior.Interior.{Interior as Room}
 use Rattle.ev_room.specs.declared.scope.Binding.{Binding}
 use Rattle.ev_room.specs.declared.scope.Scope.{Scope}
-use Rattle.ev_steps.specs.Built.{is_nil, is_built_node, is_built}
+use Rattle.ev_audit.specs.Asks.{asking}
+use Rattle.ev_audit.specs.Views.{view_of as seen_of}
 use Rattle.ev_room.specs.Reading.{World, names, text_of, value_of, values_of, line_of, shape_in, thing_of}
 use Rattle.ev_room.specs.Sound.{Grown, IsSound, IsPlainShape, IsPlainThing, caught_of, is_there, are_there, are_bound}
-use Rattle.ev_steps.specs.Steps.{Evaluator, bind_all, run_method, handed_over, matched, match_all, message_pair, try_matchers, value_of_matchers, run_found, run_object, call_made, call_code, call_object}
-use Rattle.ev_room.specs.Acts.{Out, Act, and_then, ◌>>=◌, ◌>>◌, give, fail, text_value, make_list, object_node, first_method, closed, code_in, code_of, look_code}
+use Rattle.ev_steps.specs.Steps.{Caller, Evaluator, audition_answer, call_audition, bind_all, run_method, handed_over, matched, match_all, message_pair, try_matchers, value_of_matchers, run_found, run_object, call_made, call_code, call_object}
+use Rattle.ev_room.specs.Acts.{Out, Act, and_then, ◌>>=◌, ◌>>◌, give, fail, text_value, make_list, first_method, closed, code_in, code_of, look_code}
 use Rattle.law_acts.proofs.Leaving.{call_ejector_met, new_ejector_met, leave_met}
 use Rattle.law_acts.proofs.Closes.{called_line, closed_met}
 use Rattle.ev_eventual.specs.Eventual.{resolving, resolver_answer, call_resolver}
 use Rattle.law_eventual.proofs.Promises.{resolver_met}
+use Rattle.law_evaluation.proofs.Auditing.{audition_met}
+use Rattle.law_evaluation.proofs.Calls.{CallsMet}
 use Rattle.law_evaluation.proofs.IsMet.{IsMet}
 use Rattle.law_acts.proofs.Sounds.{all_on, all_and, grown_on, scope_on, there_on}
 use Rattle.law_acts.proofs.Stands.{Look, Met, vat, a_value, an_answer, a_scope, bond_of, scope_of, then_met, ended_met, give_met, stop_met, throw_met, eject_met, tell_met, fails_met, text_met, list_met, activation_met}
 use Rattle.ev_room.proofs.There.{both}
-use Rattle.law_acts.proofs.Making.{object_in_met, turned_is, reverse_there, things_at, thing_is, code_is, body_of, method_is}
-
--- ---- making objects
-
-pub object_met : (w : World) (tree : List Node) (their : scopes.Evaluator Local) (id p : ℕ) (auditors ms : List ℕ) (here : Scope) (s : Room) → IsSound s → are_bound s.heap here.nouns ≡ true
-    → slice_get tree id ≡ Some (ObjectNode p auditors ms) → is_nil auditors ≡ true
-    → Met w an_answer s (object_node tree id p auditors here s) (theirs.step (names w) tree their id (ObjectNode p auditors ms) (scope_of w here) (vat w s))
-object_met w tree their id p [] ms here s sound i e n = object_in_met w tree their id p ms here s sound i e
-object_met w tree their id p (a ∷ as') ms here s sound i e n = absurd (cc)
+use Rattle.law_acts.proofs.Making.{turned_is, reverse_there, things_at, thing_is, code_is, body_of, method_is}
 
 -- ---- methods
-
-pub get_built : (ns : List Node) (id : ℕ) (n : Node) → is_built ns ≡ true → slice_get ns id ≡ Some n → is_built_node n ≡ true
-unfolding is_built
-get_built [] id n h e = absurd (cc)
-get_built (m ∷ ns) zero n h e =
-    let is : m ≡ n = cc in
-    subst (λ (k : Node). is_built_node k ≡ true) is (both (is_built_node m) (is_built ns) h).0
-get_built (m ∷ ns) (suc id) n h e = get_built ns id n (both (is_built_node m) (is_built ns) h).1 e
 
 pub bind_all_met : (w : World) (tree : List Node) (rec : Evaluator) (their : scopes.Evaluator Local) (h : IsMet w rec their) (ps : List ℕ) (vs : List Held) (j : Held) (here : Scope) (s : Room) → IsSound s → are_there s.heap vs ≡ true → is_there s.heap j ≡ true → are_bound s.heap here.nouns ≡ true
     → Met w a_scope s (bind_all rec ps vs j here s) (calls.bind_all (names w) tree their ps (values_of w vs) (value_of w j) (scope_of w here) (vat w s))
@@ -209,28 +196,28 @@ object_run_met w tree rec their h b verb args o s sound a k =
     (run_met w tree rec their h o.node verb args (record { act = b; nouns = reverse o.nouns }) s sound a (reverse_there s.heap o.nouns k))
 
 -- the code of what stands there, and then its call
-after_code : List Node → Evaluator → ℕ → Held → ℕ → Words → List Held → Option HeldThing → Room → Out Held
-after_code tree rec act x i verb args o s = and_then (code_in o, s) (call_code tree rec act x i verb args)
+after_code : List Node → Evaluator → Caller → ℕ → Held → ℕ → Words → List Held → Option HeldThing → Room → Out Held
+after_code tree rec mine act x i verb args o s = and_then (code_in o, s) (call_code tree rec mine act x i verb args)
 
-module _ (w : World) (tree : List Node) (rec : Evaluator) (their : scopes.Evaluator Local) (again : scopes.Caller Local) (act : ℕ) (x : Held) (i : ℕ) (verb : Words) (args : List Held) where
+module _ (w : World) (tree : List Node) (rec : Evaluator) (their : scopes.Evaluator Local) (mine : Caller) (again : scopes.Caller Local) (act : ℕ) (x : Held) (i : ℕ) (verb : Words) (args : List Held) where
   -- what a call on something of that shape does
   abbrev ShapeMet : Room → Bool → Shape → Type 0
-  ShapeMet s live sh = Met w a_value s (after_code tree rec act x i verb args (Some (record { shape = sh; alive = live })) s) (calls.call_thing (names w) tree their again act (value_of w x) i (Some (shape_in w live sh)) verb (values_of w args) (vat w s))
+  ShapeMet s live sh = Met w a_value s (after_code tree rec mine act x i verb args (Some (record { shape = sh; alive = live })) s) (calls.call_thing (names w) tree their again act (value_of w x) i (Some (shape_in w live sh)) verb (values_of w args) (vat w s))
 
-  made_call_met : IsMet w rec their → (o : Object) (s : Room) → IsSound s → are_there s.heap args ≡ true → are_bound s.heap o.nouns ≡ true
-      → Met w a_value s (call_made tree rec act x i verb args o s) (calls.call_thing (names w) tree their again act (value_of w x) i (Some (Made o.node (map (bond_of w) o.nouns) [])) verb (values_of w args) (vat w s))
+  made_call_met : IsMet w rec their → (o : Object) (stamps : List Held) (s : Room) → IsSound s → are_there s.heap args ≡ true → are_bound s.heap o.nouns ≡ true
+      → Met w a_value s (call_made tree rec act x i verb args o s) (calls.call_thing (names w) tree their again act (value_of w x) i (Some (Made o.node (map (bond_of w) o.nouns) (values_of w stamps))) verb (values_of w args) (vat w s))
   unfolding call_made closed calls.call_thing scopes.ended machine.ending ◌>>=◌ ◌>>◌ machine.◌>>=◌ machine.◌>>◌
-  made_call_met h o s sound a k =
+  made_call_met h o stamps s sound a k =
       then_met _ _ (activation_met w (held.Obj i) s sound)
       (λ b t q j g. then_met _ _ (tell_met w (event.Call act x verb args (Some b)) (Called act (value_of w x) verb (values_of w args) (Some b)) t q (called_line w act x verb args (Some b)))
       (λ u r p l e. closed_met w act r (run_object tree rec o.node verb args (record { act = b; nouns = reverse o.nouns }) r) (calls.run_object (names w) tree their (scopes.members_of (slice_get tree o.node)) verb (values_of w args) (record { act = b; nouns = map (bond_of w) o.nouns }) (vat w r)) (vat w r)
       (object_run_met w tree rec their h b verb args o r p (all_on e args (all_on g args a)) (scope_on e o.nouns (scope_on g o.nouns k)))))
 
-  made_met : IsMet w rec their → (node : ℕ) (bs : List Binding) (live : Bool) (s : Room) → IsSound s → are_there s.heap args ≡ true → are_bound s.heap bs ≡ true
-      → ShapeMet s live (shape.Made node (map caught_of bs) [])
+  made_met : IsMet w rec their → (node : ℕ) (bs : List Binding) (stamps : List Held) (live : Bool) (s : Room) → IsSound s → are_there s.heap args ≡ true → are_bound s.heap bs ≡ true
+      → ShapeMet s live (shape.Made node (map caught_of bs) stamps)
   unfolding after_code and_then code_in call_code
-  made_met h node bs live s sound a k =
-      rw (code_is node bs live, thing_is w node bs live) (made_call_met h (record { node = node; nouns = bs }) s sound a k)
+  made_met h node bs stamps live s sound a k =
+      rw (code_is node bs stamps live, thing_is w node bs stamps live) (made_call_met h (record { node = node; nouns = bs }) stamps s sound a k)
 
   ejector_met : (live : Bool) (s : Room) → IsSound s → are_there s.heap args ≡ true → ShapeMet s live shape.Ejector
   unfolding after_code and_then code_in code_of call_code
@@ -248,33 +235,44 @@ module _ (w : World) (tree : List Node) (rec : Evaluator) (their : scopes.Evalua
   unfolding after_code and_then code_in code_of call_code
   resolver_shape_met p live s sound a = called_resolver_met p s sound a
 
-  shape_met : IsMet w rec their → (sh : Shape) (live : Bool) (s : Room) → IsSound s → are_there s.heap args ≡ true → IsPlainShape s.heap sh → ShapeMet s live sh
-  shape_met h (shape.Made node caught stamps) live s sound a p =
-      subst (λ (cs : List Caught). ShapeMet s live (shape.Made node cs stamps)) (sym p.1.0)
-      (subst (λ (ss : List Held). ShapeMet s live (shape.Made node (map caught_of p.0) ss)) (sym p.1.1.0)
-      (made_met h node p.0 live s sound a p.1.1.1))
-  shape_met h shape.Ejector live s sound a p = ejector_met live s sound a
-  shape_met h (shape.Resolver k) live s sound a p = resolver_shape_met k live s sound a
-  shape_met h (shape.Audition node) live s sound a p = absurd p
+  called_audition_met : CallsMet w mine again → (view : AuditView) (live : Bool) (s : Room) → IsSound s → are_there s.heap args ≡ true
+      → Met w a_value s (call_audition tree mine act x live view verb args s) (calls.call_thing (names w) tree their again act (value_of w x) i (Some (Audition live (seen_of view))) verb (values_of w args) (vat w s))
+  unfolding call_audition closed calls.call_thing calls.thing_answer scopes.with_lines scopes.ended machine.ending ◌>>◌ machine.◌>>◌
+  called_audition_met m view live s sound a =
+      then_met _ _ (tell_met w (event.Call act x verb args None) (Called act (value_of w x) verb (values_of w args) None) s sound (called_line w act x verb args None))
+      (λ u t q j g. closed_met w act t (audition_answer tree mine act live view (asking verb args) t) (calls.audition_answer (names w) tree again act live (seen_of view) (scopes.audition_ask verb (values_of w args)) (vat w t)) (vat w t)
+      (audition_met w tree mine again m act live view verb args t q (all_on g args a)))
 
-  none_met : (s : Room) → IsSound s → Met w a_value s (after_code tree rec act x i verb args None s) (calls.call_thing (names w) tree their again act (value_of w x) i None verb (values_of w args) (vat w s))
+  audition_shape_met : CallsMet w mine again → (view : AuditView) (live : Bool) (s : Room) → IsSound s → are_there s.heap args ≡ true → ShapeMet s live (shape.Audition view)
+  unfolding after_code and_then code_in code_of call_code
+  audition_shape_met m view live s sound a = called_audition_met m view live s sound a
+
+  shape_met : IsMet w rec their → CallsMet w mine again → (sh : Shape) (live : Bool) (s : Room) → IsSound s → are_there s.heap args ≡ true → IsPlainShape s.heap sh → ShapeMet s live sh
+  shape_met h m (shape.Made node caught stamps) live s sound a p =
+      subst (λ (cs : List Caught). ShapeMet s live (shape.Made node cs stamps)) (sym p.1.0)
+      (made_met h node p.0 stamps live s sound a p.1.1.1)
+  shape_met h m shape.Ejector live s sound a p = ejector_met live s sound a
+  shape_met h m (shape.Resolver k) live s sound a p = resolver_shape_met k live s sound a
+  shape_met h m (shape.Audition view) live s sound a p = audition_shape_met m view live s sound a
+
+  none_met : (s : Room) → IsSound s → Met w a_value s (after_code tree rec mine act x i verb args None s) (calls.call_thing (names w) tree their again act (value_of w x) i None verb (values_of w args) (vat w s))
   unfolding after_code and_then code_in calls.call_thing fail
   none_met s sound = stop_met w a_value s
 
-  thing_met : IsMet w rec their → (o : Option HeldThing) (s : Room) → IsSound s → are_there s.heap args ≡ true → ((t : HeldThing) → o ≡ Some t → IsPlainThing s.heap t)
-      → Met w a_value s (after_code tree rec act x i verb args o s) (calls.call_thing (names w) tree their again act (value_of w x) i (option_map (thing_of w) o) verb (values_of w args) (vat w s))
-  thing_met h None s sound a f = none_met s sound
-  thing_met h (Some t) s sound a f = shape_met h t.shape t.alive s sound a (f t refl)
+  thing_met : IsMet w rec their → CallsMet w mine again → (o : Option HeldThing) (s : Room) → IsSound s → are_there s.heap args ≡ true → ((t : HeldThing) → o ≡ Some t → IsPlainThing s.heap t)
+      → Met w a_value s (after_code tree rec mine act x i verb args o s) (calls.call_thing (names w) tree their again act (value_of w x) i (option_map (thing_of w) o) verb (values_of w args) (vat w s))
+  thing_met h m None s sound a f = none_met s sound
+  thing_met h m (Some t) s sound a f = shape_met h m t.shape t.alive s sound a (f t refl)
 
   spot_is : (v : Vat Local) → calls.call_value (names w) tree their again act (value_of w x) (Ref (Obj i)) verb (values_of w args) v ≡ calls.call_thing (names w) tree their again act (value_of w x) i (slice_get v.things i) verb (values_of w args) v
   unfolding calls.call_value calls.call_spot numbering local_spot opened_state
   spot_is v = refl
 
-  call_object_is : (s : Room) → call_object tree rec act x i verb args s ≡ after_code tree rec act x i verb args (slice_get s.heap.things i) s
+  call_object_is : (s : Room) → call_object tree rec mine act x i verb args s ≡ after_code tree rec mine act x i verb args (slice_get s.heap.things i) s
   unfolding call_object look_code after_code ◌>>=◌
   call_object_is s = refl
 
   -- on an object, held as x
-  pub call_object_met : IsMet w rec their → (s : Room) → IsSound s → are_there s.heap args ≡ true
-      → Met w a_value s (call_object tree rec act x i verb args s) (calls.call_value (names w) tree their again act (value_of w x) (Ref (Obj i)) verb (values_of w args) (vat w s))
-  call_object_met h s sound a = rw (call_object_is s, spot_is (vat w s), things_at w s i) (thing_met h (slice_get s.heap.things i) s sound a (sound.things i))
+  pub call_object_met : IsMet w rec their → CallsMet w mine again → (s : Room) → IsSound s → are_there s.heap args ≡ true
+      → Met w a_value s (call_object tree rec mine act x i verb args s) (calls.call_value (names w) tree their again act (value_of w x) (Ref (Obj i)) verb (values_of w args) (vat w s))
+  call_object_met h m s sound a = rw (call_object_is s, spot_is (vat w s), things_at w s i) (thing_met h m (slice_get s.heap.things i) s sound a (sound.things i))

@@ -7,7 +7,7 @@ use Rattle.ev_base.specs.declared.values.Value.{Value as Held}
 use Rattle.ev_base.specs.declared.values.Value.TheVariants as held
 use Rattle.ev_heap.specs.Contents.{Contents}
 use Rattle.def_kernel.specs.declared.node.Node.{Node}
-use Rattle.def_machine.specs.Values.{Words, Value, Text, Broken, Items, Local}
+use Rattle.def_machine.specs.Values.{Words, Value, Flag, Text, Broken, Items, Local}
 use Rattle.def_machine.specs.State.{Vat, opened_state}
 use Rattle.def_machine.specs.State as machine
 use Rattle.def_machine.specs.Refs.{follow}
@@ -30,11 +30,12 @@ use Rattle.ev_prims.specs.declared.asking.Asked.{Asked}
 use Rattle.ev_prims.specs.declared.asking.Asked.TheVariants as ask
 use Rattle.ev_prims.specs.Primitives.{primitive_in}
 use Rattle.ev_prims.specs.declared.order.Test.{Test}
+use Rattle.ev_prims.specs.declared.primitives.Rule.{Rule}
 use Rattle.ev_prims.specs.declared.primitives.Guard.{Guard}
 use Rattle.ev_prims.specs.declared.primitives.Kind.{Kind}
 use Rattle.ev_prims.specs.declared.primitives.Kind.TheVariants as kind
 use Rattle.ev_prims.specs.declared.primitives.Primitive.{Primitive}
-use Rattle.ev_prims.specs.declared.primitives.Primitive.TheVariants.{MakeList, Equalizer, Comparer, Looper, Sender, References, Thrower, Guarding}
+use Rattle.ev_prims.specs.declared.primitives.Primitive.TheVariants.{MakeList, Equalizer, Comparer, Looper, Sender, References, Thrower, StampReader, Guarding, Judging, NoPrimitive}
 use Rattle.ev_prims.specs.declared.problem.Problem.TheVariants.{NotBoolean, NoMethod, Unthrowable}
 use Rattle.ev_prims.proofs.RangeAnswers.{range_means}
 use Rattle.law_evaluation.proofs.Alike.{unsettled_or, same_reply_is}
@@ -47,10 +48,11 @@ use Rattle.ev_room.specs.declared.exit.Exit.TheVariants as exit
 use Rattle.ev_pass.specs.declared.interior.Interior.{Interior as Room}
 use Rattle.ev_room.specs.Reading.{World, names, text_of, value_of, values_of, vat_of}
 use Rattle.ev_room.specs.Coercion.{null_or}
-use Rattle.ev_room.specs.Sound.{IsSound, not_settled_id, is_built_kind, is_built_prim, is_there, are_there}
+use Rattle.ev_room.specs.Sound.{IsSound, not_settled_id, is_there, are_there}
 use Rattle.ev_steps.specs.Steps.{Caller, replied, after_turn, turns, loop, pair_there, compared_there, compared_at, compared, called_with, performed}
-use Rattle.ev_room.specs.Acts.{Act, ◌>>=◌, fail, fails, thrown_id}
+use Rattle.ev_room.specs.Acts.{Act, ◌>>=◌, give, fail, fails, is_stamped, thrown_id}
 use Rattle.law_evaluation.proofs.Calls.{CallsMet, replied_met}
+use Rattle.law_acts.proofs.Frozen.{stamped_is}
 use Rattle.law_acts.proofs.Coercing.{fits_null_or, null_or_means, primitive_is}
 use Rattle.law_acts.proofs.Replies.{Fits, each_of, members_there}
 use Rattle.law_acts.proofs.Sounds.{grown_same, there_on, all_and}
@@ -59,7 +61,7 @@ use Rattle.law_acts.proofs.Stands.{Met, vat, a_value, met_by, then_met, give_met
 use Rattle.ev_room.proofs.There.{both}
 use Rattle.law_acts.proofs.Weights.{IsFront, same_text}
 
--- ---- what is asked is built, and of values that stand there
+-- ---- what is asked is of values that stand there
 
 abbrev Good : Contents → Asked → Type 0
 Good h ask.MakesList = Unit {0}
@@ -76,7 +78,7 @@ Good h (ask.Whens x o) = (is_there h x ≡ true) × (is_there h o ≡ true)
 Good h (ask.ThrowsIt v) = is_there h v ≡ true
 Good h (ask.Coerces g x j) = (is_there h x ≡ true) × (is_there h j ≡ true)
 Good h (ask.AddsNull x) = is_there h x ≡ true
-Good h (ask.IsStamped a x) = ⊥
+Good h (ask.IsStamped a x) = Unit {0}
 Good h ask.NoMethod = Unit {0}
 
 module _ (h : Contents) where
@@ -190,16 +192,42 @@ module _ (h : Contents) where
   good_guard g verb (a ∷ b ∷ c ∷ []) i = tt
   good_guard g verb (a ∷ b ∷ c ∷ d ∷ xs) i = tt
 
-  good : (p : Primitive) (verb : Words) (xs : List Held) → is_built_kind p ≡ true → are_there h xs ≡ true → Good h (asked_by p verb (args_of xs))
-  good MakeList verb xs e i = good_list verb xs i
-  good Equalizer verb xs e i = good_equalizer verb xs i
-  good Comparer verb xs e i = good_comparer verb xs i
-  good Looper verb xs e i = good_looper verb xs i
-  good Sender verb xs e i = good_sender verb xs i
-  good References verb xs e i = good_references verb xs i
-  good Thrower verb xs e i = good_thrower verb xs i
-  good (Guarding g) verb xs e i = good_guard g verb xs i
-  good _ verb xs e i = absurd (cc)
+  good_stamps : (verb : Words) (xs : List Held) → Good h (asked_by StampReader verb (args_of xs))
+  unfolding args_of asks_none asks_one asks_two asks_three asks_more asked_by
+  good_stamps verb [] = tt
+  good_stamps verb (a ∷ []) = tt
+  good_stamps verb (a ∷ b ∷ []) = good_where (codes "run") (ask.IsStamped a b) verb tt
+  good_stamps verb (a ∷ b ∷ c ∷ []) = tt
+  good_stamps verb (a ∷ b ∷ c ∷ d ∷ xs) = tt
+
+  good_judging : (r : Rule) (verb : Words) (xs : List Held) → Good h (asked_by (Judging r) verb (args_of xs))
+  unfolding args_of asks_none asks_one asks_two asks_three asks_more asked_by
+  good_judging r verb [] = tt
+  good_judging r verb (a ∷ []) = tt
+  good_judging r verb (a ∷ b ∷ []) = tt
+  good_judging r verb (a ∷ b ∷ c ∷ []) = tt
+  good_judging r verb (a ∷ b ∷ c ∷ d ∷ xs) = tt
+
+  good_none : (verb : Words) (xs : List Held) → Good h (asked_by NoPrimitive verb (args_of xs))
+  unfolding args_of asks_none asks_one asks_two asks_three asks_more asked_by
+  good_none verb [] = tt
+  good_none verb (a ∷ []) = tt
+  good_none verb (a ∷ b ∷ []) = tt
+  good_none verb (a ∷ b ∷ c ∷ []) = tt
+  good_none verb (a ∷ b ∷ c ∷ d ∷ xs) = tt
+
+  good : (p : Primitive) (verb : Words) (xs : List Held) → are_there h xs ≡ true → Good h (asked_by p verb (args_of xs))
+  good MakeList verb xs i = good_list verb xs i
+  good Equalizer verb xs i = good_equalizer verb xs i
+  good Comparer verb xs i = good_comparer verb xs i
+  good Looper verb xs i = good_looper verb xs i
+  good Sender verb xs i = good_sender verb xs i
+  good References verb xs i = good_references verb xs i
+  good Thrower verb xs i = good_thrower verb xs i
+  good StampReader verb xs i = good_stamps verb xs
+  good (Guarding g) verb xs i = good_guard g verb xs i
+  good (Judging r) verb xs i = good_judging r verb xs
+  good NoPrimitive verb xs i = good_none verb xs
 
 -- ---- values, by the texts of the moment and of the end
 
@@ -420,6 +448,23 @@ module _ (w : World) (tree : List Node) (again : Caller) (their : scopes.Caller 
       rw (calls_is act (value_of w x) (value_of w v) (value_of w l) (vat w s), follow_is w s sound v, follow_is w s sound l)
       (call_with_met act x (followed s.refs v) (followed s.refs l) s sound i (followed_there s sound v j))
 
+  -- ---- stamps
+
+  stamped_as : (act : ℕ) (y x : Value Local) (v : Vat Local)
+      → perform.perform (names w) tree their act (native.IsStamped y x) v ≡ machine.give (Flag (perform.is_stamped (names w) tree v (follow (names w) v y) (follow (names w) v x))) v
+  unfolding perform.perform opened_state
+  stamped_as act y x v = refl
+
+  stamped_met : (act : ℕ) (y x : Held) (s : Room) → IsSound s
+      → Met w a_value s (give (held.Bool (is_stamped s.heap (followed s.refs y) (followed s.refs x))) s) (perform.perform (names w) tree their act (native.IsStamped (value_of w y) (value_of w x)) (vat w s))
+  stamped_met act y x s sound =
+      rw (
+        stamped_as act (value_of w y) (value_of w x) (vat w s),
+        follow_is w s sound y,
+        follow_is w s sound x,
+        stamped_is w tree s sound.lists (followed s.refs y) (followed s.refs x),
+      ) (give_met w a_value (held.Bool (is_stamped s.heap (followed s.refs y) (followed s.refs x))) s sound refl)
+
   -- ---- what is asked
 
   asked_met : (act : ℕ) (r : Asked) (args : List Held) (s : Room) → IsSound s → are_there s.heap args ≡ true → Good s.heap r
@@ -440,14 +485,14 @@ module _ (w : World) (tree : List Node) (again : Caller) (their : scopes.Caller 
   asked_met act (ask.Coerces k x j) args s sound a g = unfold perform.perform in guard_coerced_met w tree again their h act k x j s sound g.0 g.1
   asked_met act (ask.AddsNull x) args s sound a g = adds_met act x s sound
   asked_met act ask.NoMethod args s sound a g = unfold perform.perform in fails_met w a_value NoMethod s sound
-  asked_met act (ask.IsStamped y x) args s sound a g = absurd g
+  asked_met act (ask.IsStamped y x) args s sound a g = stamped_met act y x s sound
 
-  -- ---- the primitives that are built
+  -- ---- the primitives
 
-  one_met : (act : ℕ) (p : Primitive) (verb : Words) (args : List Held) (s : Room) → IsSound s → is_built_kind p ≡ true → are_there s.heap args ≡ true
+  one_met : (act : ℕ) (p : Primitive) (verb : Words) (args : List Held) (s : Room) → IsSound s → are_there s.heap args ≡ true
       → Met w a_value s (performed again act (asked_by p verb (args_of args)) args s) (perform.perform (names w) tree their act (native.asked (primitive_in p) verb (values_of w args)) (vat w s))
-  one_met act p verb args s sound b a = rw (asked_is (text_of w) verb p args b) (asked_met act (asked_by p verb (args_of args)) args s sound a (good s.heap p verb args b a))
+  one_met act p verb args s sound a = rw (asked_is (text_of w) verb p args) (asked_met act (asked_by p verb (args_of args)) args s sound a (good s.heap p verb args a))
 
-  pub primitive_met : (act n : ℕ) (verb : Words) (args : List Held) (s : Room) → IsSound s → is_built_prim n ≡ true → are_there s.heap args ≡ true
+  pub primitive_met : (act n : ℕ) (verb : Words) (args : List Held) (s : Room) → IsSound s → are_there s.heap args ≡ true
       → Met w a_value s (performed again act (asked_of n verb args) args s) (perform.perform (names w) tree their act (native.asked (native.primitive n) verb (values_of w args)) (vat w s))
-  primitive_met act n verb args s sound b a = rw (primitive_is n) (one_met act (primitive_at n) verb args s sound b a)
+  primitive_met act n verb args s sound a = rw (primitive_is n) (one_met act (primitive_at n) verb args s sound a)

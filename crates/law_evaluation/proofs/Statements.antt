@@ -60,17 +60,17 @@ meets look of w s o d e m = λ b. stands look of w e o d (m.is b)
 -- ---- laws
 
 pub expressions_met : ExpressionsAreTheMachines
-expressions_met = λ w tree d id here i built sound k.
+expressions_met = λ w tree d id here i sound k.
     meets an_answer answer_in w i ((evaluator tree d).expression id here i) ((theirs.evaluator (names w) tree d).expression id (scope_in w here) (vat w i)) (answer_is w)
     (subst (λ (sc : Surroundings Local). Met w an_answer i ((evaluator tree d).expression id here i) ((theirs.evaluator (names w) tree d).expression id sc (vat w i))) (scope_is w here)
-    ((evaluator_met w tree d built).expression id here i sound k))
+    ((evaluator_met w tree d).expression id here i sound k))
 
 pub patterns_met : PatternsAreTheMachines
-patterns_met = λ w tree d id x j here i built sound k l n.
+patterns_met = λ w tree d id x j here i sound k l n.
     meets a_scope scope_in w i ((evaluator tree d).pattern id x j here i) ((theirs.evaluator (names w) tree d).pattern id (value_of w x) (value_of w j) (scope_in w here) (vat w i)) (scope_is w)
     (subst (λ (sc : Surroundings Local). Met w a_scope i ((evaluator tree d).pattern id x j here i) ((theirs.evaluator (names w) tree d).pattern id (value_of w x) (value_of w j) sc (vat w i))) (scope_is w here)
-    ((evaluator_met w tree d built).pattern id x j here i sound k l n))
+    ((evaluator_met w tree d).pattern id x j here i sound k l n))
 
 pub messages_met : MessagesAreTheMachines
-messages_met = λ w tree d act x verb args i built sound k l.
-    meets a_value value_of w i _ _ (λ a. refl) (turn_value_met w tree (evaluator tree d) (theirs.evaluator (names w) tree d) (evaluator_met w tree d built) act verb args built x i sound k l)
+messages_met = λ w tree d act x verb args i sound k l.
+    meets a_value value_of w i _ _ (λ a. refl) (turn_value_met w tree (evaluator tree d) (theirs.evaluator (names w) tree d) (evaluator_met w tree d) act verb args x i sound k l)

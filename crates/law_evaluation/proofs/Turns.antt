@@ -1,8 +1,9 @@
 -- What a turn runs over the state of the code is what the machine's turn runs.
-use Rattle.std.proofs.Common.{◌≡◌, ℕ, Bool, true, List, [], Option, Some, None, map, refl, sym, subst}
+use Rattle.std.proofs.Common.{◌≡◌, ℕ, Bool, true, List, Option, Some, None, map, refl, sym, subst}
 use Rattle.std.specs.Prelude.{slice_get, option_map, reverse}
 use Rattle.ev_base.specs.declared.values.Value.{Value as Held}
 use Rattle.ev_base.specs.declared.values.Value.TheVariants as held
+use Rattle.ev_heap.specs.declared.kept.AuditView.{AuditView}
 use Rattle.ev_heap.specs.declared.kept.Caught.{Caught}
 use Rattle.ev_heap.specs.declared.kept.Shape.{Shape}
 use Rattle.ev_heap.specs.declared.kept.Shape.TheVariants as shape
@@ -18,12 +19,12 @@ use Rattle.ev_room.specs.declared.scope.Binding.{Binding}
 use Rattle.ev_room.specs.Reading.{World, names, value_of, values_of, shape_in, thing_of}
 use Rattle.ev_room.specs.Sound.{IsSound, IsPlainShape, IsPlainThing, caught_of, is_there, are_there, are_bound}
 use Rattle.ev_room.specs.Acts.{Out, and_then, ◌>>=◌, fail, code_in, code_of, look_code, ejected}
-use Rattle.ev_steps.specs.Built.{is_built}
 use Rattle.ev_steps.specs.Steps.{Evaluator, again_by, run_object, turn_code, turn_object, turn_value}
 use Rattle.law_acts.proofs.Leaving.{answer_met, asked_is, asked_there}
 use Rattle.law_acts.proofs.Making.{things_at, thing_is, code_is}
 use Rattle.law_acts.proofs.Stands.{Met, vat, a_value, bond_of, stop_met, throw_met}
 use Rattle.law_eventual.proofs.Promises.{resolver_met}
+use Rattle.law_evaluation.proofs.Auditing.{audition_met}
 use Rattle.law_evaluation.proofs.Calls.{answered_met}
 use Rattle.law_evaluation.proofs.IsMet.{IsMet}
 use Rattle.law_evaluation.proofs.Meets.{again_met}
@@ -41,14 +42,14 @@ module _ (w : World) (tree : List Node) (rec : Evaluator) (their : scopes.Evalua
   abbrev ShapeMet : ℕ → Room → Bool → Shape → Type 0
   ShapeMet i s live sh = Met w a_value s (after_code tree rec act i verb args (Some (record { shape = sh; alive = live })) s) (calls.turn_thing (names w) tree their act i (Some (shape_in w live sh)) verb (values_of w args) (vat w s))
 
-  made_turn_met : (i : ℕ) (o : Object) (s : Room) → IsSound s → are_there s.heap args ≡ true → are_bound s.heap o.nouns ≡ true
-      → Met w a_value s (run_object tree rec o.node verb args (record { act = act; nouns = reverse o.nouns }) s) (calls.turn_thing (names w) tree their act i (Some (Made o.node (map (bond_of w) o.nouns) [])) verb (values_of w args) (vat w s))
+  made_turn_met : (i : ℕ) (o : Object) (stamps : List Held) (s : Room) → IsSound s → are_there s.heap args ≡ true → are_bound s.heap o.nouns ≡ true
+      → Met w a_value s (run_object tree rec o.node verb args (record { act = act; nouns = reverse o.nouns }) s) (calls.turn_thing (names w) tree their act i (Some (Made o.node (map (bond_of w) o.nouns) (values_of w stamps))) verb (values_of w args) (vat w s))
   unfolding calls.turn_thing
-  made_turn_met i o s sound a k = object_run_met w tree rec their h act verb args o s sound a k
+  made_turn_met i o stamps s sound a k = object_run_met w tree rec their h act verb args o s sound a k
 
-  made_met : (i node : ℕ) (bs : List Binding) (live : Bool) (s : Room) → IsSound s → are_there s.heap args ≡ true → are_bound s.heap bs ≡ true → ShapeMet i s live (shape.Made node (map caught_of bs) [])
+  made_met : (i node : ℕ) (bs : List Binding) (stamps : List Held) (live : Bool) (s : Room) → IsSound s → are_there s.heap args ≡ true → are_bound s.heap bs ≡ true → ShapeMet i s live (shape.Made node (map caught_of bs) stamps)
   unfolding after_code and_then code_in turn_code
-  made_met i node bs live s sound a k = rw (code_is node bs live, thing_is w node bs live) (made_turn_met i (record { node = node; nouns = bs }) s sound a k)
+  made_met i node bs stamps live s sound a k = rw (code_is node bs stamps live, thing_is w node bs stamps live) (made_turn_met i (record { node = node; nouns = bs }) stamps s sound a k)
 
   ejector_met : (i : ℕ) (live : Bool) (s : Room) → IsSound s → are_there s.heap args ≡ true → ShapeMet i s live shape.Ejector
   unfolding after_code and_then code_in code_of turn_code calls.turn_thing calls.thing_answer
@@ -58,14 +59,17 @@ module _ (w : World) (tree : List Node) (rec : Evaluator) (their : scopes.Evalua
   unfolding after_code and_then code_in code_of turn_code calls.turn_thing calls.thing_answer
   resolver_turn_met i p live s sound a = resolver_met w tree s sound p verb args a
 
+  audition_turn_met : (i : ℕ) (view : AuditView) (live : Bool) (s : Room) → IsSound s → are_there s.heap args ≡ true → ShapeMet i s live (shape.Audition view)
+  unfolding after_code and_then code_in code_of turn_code calls.turn_thing calls.thing_answer
+  audition_turn_met i view live s sound a = audition_met w tree (again_by tree rec None) (calls.call (names w) tree their) (again_met w tree rec their h) act live view verb args s sound a
+
   shape_met : (i : ℕ) (sh : Shape) (live : Bool) (s : Room) → IsSound s → are_there s.heap args ≡ true → IsPlainShape s.heap sh → ShapeMet i s live sh
   shape_met i (shape.Made node caught stamps) live s sound a p =
       subst (λ (cs : List Caught). ShapeMet i s live (shape.Made node cs stamps)) (sym p.1.0)
-      (subst (λ (ss : List Held). ShapeMet i s live (shape.Made node (map caught_of p.0) ss)) (sym p.1.1.0)
-      (made_met i node p.0 live s sound a p.1.1.1))
+      (made_met i node p.0 stamps live s sound a p.1.1.1)
   shape_met i shape.Ejector live s sound a p = ejector_met i live s sound a
   shape_met i (shape.Resolver k) live s sound a p = resolver_turn_met i k live s sound a
-  shape_met i (shape.Audition node) live s sound a p = absurd p
+  shape_met i (shape.Audition view) live s sound a p = audition_turn_met i view live s sound a
 
   none_met : (i : ℕ) (s : Room) → IsSound s → Met w a_value s (after_code tree rec act i verb args None s) (calls.turn_thing (names w) tree their act i None verb (values_of w args) (vat w s))
   unfolding after_code and_then code_in calls.turn_thing fail
@@ -91,17 +95,17 @@ module _ (w : World) (tree : List Node) (rec : Evaluator) (their : scopes.Evalua
   -- ---- values
 
   -- a message on a value
-  pub turn_value_met : is_built tree ≡ true → (x : Held) (s : Room) → IsSound s → is_there s.heap x ≡ true → are_there s.heap args ≡ true
+  pub turn_value_met : (x : Held) (s : Room) → IsSound s → is_there s.heap x ≡ true → are_there s.heap args ≡ true
       → Met w a_value s (turn_value tree rec act x verb args s) (calls.turn_value (names w) tree their act (value_of w x) verb (values_of w args) (vat w s))
   unfolding turn_value calls.turn_value
-  turn_value_met built (held.Obj i) s sound j a = turn_object_met i s sound a
-  turn_value_met built (held.Broken id) s sound j a = throw_met w a_value id s sound j
-  turn_value_met built (held.Prim n) s sound j a = primitive_met w tree (again_by tree rec None) (calls.call (names w) tree their) (again_met w tree rec their h built) act n verb args s sound j a
-  turn_value_met built (held.Prom n) s sound j a = unfold calls.turn_spot numbering local_spot in stop_met w a_value s
-  turn_value_met built (held.Far v p) s sound j a = unfold calls.turn_spot numbering local_spot in stop_met w a_value s
-  turn_value_met built held.Null s sound j a = answered_met w tree (again_by tree rec None) (calls.call (names w) tree their) (again_met w tree rec their h built) act held.Null verb args s sound j a
-  turn_value_met built (held.Bool b) s sound j a = answered_met w tree (again_by tree rec None) (calls.call (names w) tree their) (again_met w tree rec their h built) act (held.Bool b) verb args s sound j a
-  turn_value_met built (held.Int z) s sound j a = answered_met w tree (again_by tree rec None) (calls.call (names w) tree their) (again_met w tree rec their h built) act (held.Int z) verb args s sound j a
-  turn_value_met built (held.Char c) s sound j a = answered_met w tree (again_by tree rec None) (calls.call (names w) tree their) (again_met w tree rec their h built) act (held.Char c) verb args s sound j a
-  turn_value_met built (held.Text id) s sound j a = answered_met w tree (again_by tree rec None) (calls.call (names w) tree their) (again_met w tree rec their h built) act (held.Text id) verb args s sound j a
-  turn_value_met built (held.List k) s sound j a = answered_met w tree (again_by tree rec None) (calls.call (names w) tree their) (again_met w tree rec their h built) act (held.List k) verb args s sound j a
+  turn_value_met (held.Obj i) s sound j a = turn_object_met i s sound a
+  turn_value_met (held.Broken id) s sound j a = throw_met w a_value id s sound j
+  turn_value_met (held.Prim n) s sound j a = primitive_met w tree (again_by tree rec None) (calls.call (names w) tree their) (again_met w tree rec their h) act n verb args s sound a
+  turn_value_met (held.Prom n) s sound j a = unfold calls.turn_spot numbering local_spot in stop_met w a_value s
+  turn_value_met (held.Far v p) s sound j a = unfold calls.turn_spot numbering local_spot in stop_met w a_value s
+  turn_value_met held.Null s sound j a = answered_met w tree (again_by tree rec None) (calls.call (names w) tree their) (again_met w tree rec their h) act held.Null verb args s sound j a
+  turn_value_met (held.Bool b) s sound j a = answered_met w tree (again_by tree rec None) (calls.call (names w) tree their) (again_met w tree rec their h) act (held.Bool b) verb args s sound j a
+  turn_value_met (held.Int z) s sound j a = answered_met w tree (again_by tree rec None) (calls.call (names w) tree their) (again_met w tree rec their h) act (held.Int z) verb args s sound j a
+  turn_value_met (held.Char c) s sound j a = answered_met w tree (again_by tree rec None) (calls.call (names w) tree their) (again_met w tree rec their h) act (held.Char c) verb args s sound j a
+  turn_value_met (held.Text id) s sound j a = answered_met w tree (again_by tree rec None) (calls.call (names w) tree their) (again_met w tree rec their h) act (held.Text id) verb args s sound j a
+  turn_value_met (held.List k) s sound j a = answered_met w tree (again_by tree rec None) (calls.call (names w) tree their) (again_met w tree rec their h) act (held.List k) verb args s sound j a

@@ -1,4 +1,4 @@
--- Evaluation over the inside of a vat is the machine's, on the trees that are built.
+-- Evaluation over the inside of a vat is the machine's.
 use Rattle.std.specs.Prelude.{◌≡◌, ℕ, true, List, ◌++◌, Ok, Err, map, reverse}
 use Rattle.ev_base.specs.declared.values.Value.{Value as Held}
 use Rattle.def_kernel.specs.declared.node.Node.{Node}
@@ -14,7 +14,6 @@ use Rattle.ev_room.specs.Reading.{World, names, texts_of, text_of, value_of, val
 use Rattle.ev_room.specs.Sound.{IsSound, caught_of, is_there, are_there, are_bound}
 use Rattle.ev_room.specs.declared.exit.Exit.TheVariants.{Thrown, Ejected, Fuel, Deep, Repeated, Astray, Unbuilt, Memory}
 use Rattle.ev_room.specs.declared.scope.Scope.{Scope}
-use Rattle.ev_steps.specs.Built.{is_built}
 use Rattle.ev_steps.specs.Steps.{evaluator, turn_value}
 
 -- ---- what is given
@@ -52,17 +51,17 @@ Meets of w o d = ComesBefore o.1 w → StandsFor of w o d
 
 -- an expression, in a scope whose values stand in the heap
 abbrev pub ExpressionsAreTheMachines : Type 0
-ExpressionsAreTheMachines = (w : World) (tree : List Node) (d id : ℕ) (here : Scope) (i : Interior) → is_built tree ≡ true → IsSound i → are_bound i.heap here.nouns ≡ true
+ExpressionsAreTheMachines = (w : World) (tree : List Node) (d id : ℕ) (here : Scope) (i : Interior) → IsSound i → are_bound i.heap here.nouns ≡ true
     → Meets answer_in w ((evaluator tree d).expression id here i) ((theirs.evaluator (names w) tree d).expression id (scope_in w here) (vat_of w i))
 
 -- a pattern, at a value with an ejector
 abbrev pub PatternsAreTheMachines : Type 0
-PatternsAreTheMachines = (w : World) (tree : List Node) (d id : ℕ) (x j : Held) (here : Scope) (i : Interior) → is_built tree ≡ true → IsSound i
+PatternsAreTheMachines = (w : World) (tree : List Node) (d id : ℕ) (x j : Held) (here : Scope) (i : Interior) → IsSound i
     → is_there i.heap x ≡ true → is_there i.heap j ≡ true → are_bound i.heap here.nouns ≡ true
     → Meets scope_in w ((evaluator tree d).pattern id x j here i) ((theirs.evaluator (names w) tree d).pattern id (value_of w x) (value_of w j) (scope_in w here) (vat_of w i))
 
 -- what a turn runs, at the target of its message
 abbrev pub MessagesAreTheMachines : Type 0
-MessagesAreTheMachines = (w : World) (tree : List Node) (d act : ℕ) (x : Held) (verb : Words) (args : List Held) (i : Interior) → is_built tree ≡ true → IsSound i
+MessagesAreTheMachines = (w : World) (tree : List Node) (d act : ℕ) (x : Held) (verb : Words) (args : List Held) (i : Interior) → IsSound i
     → is_there i.heap x ≡ true → are_there i.heap args ≡ true
     → Meets value_of w (turn_value tree (evaluator tree d) act x verb args i) (calls.turn_value (names w) tree (theirs.evaluator (names w) tree d) act (value_of w x) verb (values_of w args) (vat_of w i))

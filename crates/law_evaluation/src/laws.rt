@@ -2,8 +2,8 @@
 
 ghost use Rattle.law_evaluation.specs.Evaluation.{ExpressionsAreTheMachines, MessagesAreTheMachines, PatternsAreTheMachines};
 
-/// An expression of a built tree is evaluated in the code's terms as in the machine, at each depth, in each scope and each inside of a vat
-/// that turns of built programs leave behind: it gives, throws, leaves or stops as there, and leaves the vat that is left there. Texts
+/// An expression of any tree is evaluated in the code's terms as in the machine, at each depth, in each scope and each inside of a vat
+/// that turns leave behind: it gives, throws, leaves or stops as there, and leaves the vat that is left there. Texts
 /// stand for those of the end of the turn, so that a value stands for one thing while the heap grows.
 pub fn expressions_are_the_machines()
     ensures { ExpressionsAreTheMachines }

@@ -23,7 +23,7 @@ use Rattle.law_fate.proofs.Finding.{send_on_finds}
 use Rattle.law_fate.proofs.RunWell.{read_comes, all_come}
 use Rattle.law_fate.proofs.Places.{T, F, quiet_under, good_known, good_views}
 
-module _ (M : Marked) (vats : List (Vat Name)) (v : ℕ) (q : Vat Name) (there : slice_get vats v ≡ Some q) (here : M.mark (At v)) (word : ℕ → ℕ) (us : List (Vat Name)) (d0 : ℕ) (cut : ℕ → Bool) (x : Name) where
+module _ (M : Marked) (vats : List (Vat Name)) (v : ℕ) (q : Vat Name) (there : slice_get vats v ≡ Some q) (here : M.mark (At v)) (word : ℕ → ℕ) (us : List (Vat Name)) (d0 : List ℕ) (cut : ℕ → Bool) (x : Name) where
   abbrev Quiet : Vat Name → Type 0
   Quiet s = Sound (F M vats v q there here word) s
 

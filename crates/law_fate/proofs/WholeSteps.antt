@@ -181,10 +181,10 @@ module _ (script : Script) (w : World) (h : Stands script w) (wl : WorldWell w) 
   notices_find u = came_none 0 (Notices u) (readied w s) (nothing_sent s) (lasts (Notices u) (readied w s) ready_well tt) (notice_quiet u)
 
   -- what the vat knows, where no new message is made
-  quiet_knows : Knows false (inside script) w.vats v s there (low_at script w h v s there) word w.vats (length w.drawn) (names_in s.known) (readied w s)
+  quiet_knows : Knows false (inside script) w.vats v s there (low_at script w h v s there) word w.vats w.drawn (names_in s.known) (readied w s)
   quiet_knows = let k = knows_ready script v w s s there refl refl h stands.parts stands.kept in record { all = k.all; told = k.told; own = k.own; made = k.made }
 
-  ended_quiet : (r : Vat Name) (d : Done Name (Unit {0})) → Ended false (inside script) w.vats v s there (low_at script w h v s there) word w.vats (length w.drawn) r d → Unnumbered r d
+  ended_quiet : (r : Vat Name) (d : Done Name (Unit {0})) → Ended false (inside script) w.vats v s there (low_at script w h v s there) word w.vats w.drawn r d → Unnumbered r d
   ended_quiet r (Gives a t) g = let k = g.0 in k.messages
   ended_quiet r (Throws p t) g = tt
   ended_quiet r (Ejects n y t) g = tt
@@ -192,11 +192,11 @@ module _ (script : Script) (w : World) (h : Stands script w) (wl : WorldWell w) 
 
   note_quiet : (from : ℕ) (n : Note Name) → NoteOk (Told script w) n → Unnumbered (readied w s) (does (naming word v) (Receives from (read_note (names_in s.known) n)) (readied w s))
   unfolding does
-  note_quiet from n g = ended_quiet (readied w s) (arrive (naming word v) from (read_note (names_in s.known) n) (readied w s)) ((reads_note false (inside script) w.vats v s there (low_at script w h v s there) word w.vats (length w.drawn) from (names_in s.known) n g).after (readied w s) (quiet_sound (inside script) w.vats v s there (low_at script w h v s there) word (readied w s) ready_sound) quiet_knows tt)
+  note_quiet from n g = ended_quiet (readied w s) (arrive (naming word v) from (read_note (names_in s.known) n) (readied w s)) ((reads_note false (inside script) w.vats v s there (low_at script w h v s there) word w.vats w.drawn from (names_in s.known) n g).after (readied w s) (quiet_sound (inside script) w.vats v s there (low_at script w h v s there) word (readied w s) ready_sound) quiet_knows tt)
 
   note_least : (from : ℕ) (n : Note Name) → NoteOk (Told script w) n → NoteWell n → Least cut x (of_note x n) (readied w s) (does (naming word v) (Receives from (read_note (names_in s.known) n)) (readied w s))
   unfolding does of_note in_note
-  note_least from (Deliver d n verb ys) g k = least_pays cut x (one d.message x) (readied w s) (arrive (naming word v) from (read_note (names_in s.known) (Deliver d n verb ys)) (readied w s)) (deliver_finds (inside script) w.vats v s there (low_at script w h v s there) word w.vats (length w.drawn) cut x from (names_in s.known) d.message d.asks n verb ys g.0 g.1 g.2 k (readied w s) (quiet_sound (inside script) w.vats v s there (low_at script w h v s there) word (readied w s) ready_sound) ready_well quiet_knows)
+  note_least from (Deliver d n verb ys) g k = least_pays cut x (one d.message x) (readied w s) (arrive (naming word v) from (read_note (names_in s.known) (Deliver d n verb ys)) (readied w s)) (deliver_finds (inside script) w.vats v s there (low_at script w h v s there) word w.vats w.drawn cut x from (names_in s.known) d.message d.asks n verb ys g.0 g.1 g.2 k (readied w s) (quiet_sound (inside script) w.vats v s there (low_at script w h v s there) word (readied w s) ready_sound) ready_well quiet_knows)
   note_least from (Open i n) g k = lasts (Receives from (read_note (names_in s.known) (Open i n))) (readied w s) ready_well (note_comes (names_in s.known) (Open i n) k)
   note_least from (Ask p i n) g k = lasts (Receives from (read_note (names_in s.known) (Ask p i n))) (readied w s) ready_well (note_comes (names_in s.known) (Ask p i n) k)
   note_least from (SettledTo n y) g k = lasts (Receives from (read_note (names_in s.known) (SettledTo n y))) (readied w s) ready_well (note_comes (names_in s.known) (SettledTo n y) k)
@@ -232,7 +232,7 @@ module _ (script : Script) (w : World) (h : Stands script w) (wl : WorldWell w) 
   named_puts k r (Ejects n y t) i = tt
   named_puts k r (Stops c t) i = tt
 
-  ended_puts : (k : KnowsVats script) (r : Vat Name) (d : Done Name (Unit {0})) → Ended true (inside script) w.vats v s there (low_at script w h v s there) word w.vats (length w.drawn) r d → PutsToVats (length script.vats) v d
+  ended_puts : (k : KnowsVats script) (r : Vat Name) (d : Done Name (Unit {0})) → Ended true (inside script) w.vats v s there (low_at script w h v s there) word w.vats w.drawn r d → PutsToVats (length script.vats) v d
   ended_puts k r (Gives a t) i = let g = i.1 in let p = g.parts in all_go k t p.outbox
   ended_puts k r (Throws p t) i = tt
   ended_puts k r (Ejects n y t) i = tt
@@ -252,4 +252,4 @@ module _ (script : Script) (w : World) (h : Stands script w) (wl : WorldWell w) 
 
   pub note_put : KnowsVats script → (from : ℕ) (n : Note Name) → NoteOk (Told script w) n → PutsToVats (length script.vats) v (does (names script v) (Receives from (read_note (names_of s) n)) (readied w s))
   unfolding does names names_of
-  note_put k from n g = ended_puts k (readied w s) (arrive (naming word v) from (read_note (names_in s.known) n) (readied w s)) ((reads_note true (inside script) w.vats v s there (low_at script w h v s there) word w.vats (length w.drawn) from (names_in s.known) n g).after (readied w s) ready_sound (knows_ready script v w s s there refl refl h stands.parts stands.kept) tt)
+  note_put k from n g = ended_puts k (readied w s) (arrive (naming word v) from (read_note (names_in s.known) n) (readied w s)) ((reads_note true (inside script) w.vats v s there (low_at script w h v s there) word w.vats w.drawn from (names_in s.known) n g).after (readied w s) ready_sound (knows_ready script v w s s there refl refl h stands.parts stands.kept) tt)

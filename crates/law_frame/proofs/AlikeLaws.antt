@@ -4,10 +4,10 @@ use Rattle.std.specs.Prelude.{slice_get, option_map}
 use Rattle.def_machine.specs.Values.{Words, Name, host_of, Local}
 use Rattle.def_machine.specs.State.{Passed, Passeds, Note, Delivery, Deliver, Open, Ask, SettledTo, Elsewhere, Shorten, Vat}
 use Rattle.def_machine.specs.Arrive.{Incoming}
-use Rattle.def_run.specs.Draws.{draw_word}
 use Rattle.def_run.specs.World as world
 use Rattle.def_run.specs.World.{Script, Entry, Link, World, Goes, link_at}
 use Rattle.law_reference.specs.Logs as wire
+use Rattle.law_machine.proofs.KeyLaws.{key_of}
 use Rattle.law_name.specs.Names.{IsAmong, IsKnownIn, names_in}
 use Rattle.law_name.specs.Runs.{KnowsOnce}
 use Rattle.law_renaming.specs.Maps as maps
@@ -20,14 +20,14 @@ use Rattle.law_reference.specs.GiftPassing.{IsProvidedBy, Provides}
 use Rattle.law_frame.specs.Asked.{told_in}
 use Rattle.law_frame.specs.Tables.{arrived}
 use Rattle.law_frame.specs.Hearing.{Heard}
-use Rattle.law_frame.specs.Alike.{draw_of, names_heard, table_heard, wire_name, message_of, by_numbers, by_names}
+use Rattle.law_frame.specs.Alike.{names_heard, table_heard, wire_name, message_of, by_numbers, by_names}
 use Rattle.law_frame.proofs.Ranks.{Starts}
 use Rattle.law_frame.proofs.WireAsking.{Proper}
 use Rattle.law_frame.specs.Gifts.{AskedGiftStands, GiftsWereAskedFor}
 use Rattle.law_frame.specs.Kinds.{IsReadAlike, DeliveriesAreReadAlike, OpeningsAreReadAlike, AsksAreReadAlike, SettlingsAreReadAlike, ShorteningsAreReadAlike, NotesAreReadAlike, NewNotesAreReadAlike}
 use Rattle.law_frame.proofs.Grow.{starts_same, starts_on, after_starts, passed_known, all_known, export_other}
 use Rattle.law_frame.proofs.Reading.{Before, Stage, Asks, NoteAlike, Ends, open_alike, shorten_alike, elsewhere_alike, ask_alike, settled_alike, deliver_alike}
-use Rattle.law_frame.proofs.Worlds.{proper, between, Providers, provides, words, ahead, known, before, stage, ends, asks, asked_stands, asked_for}
+use Rattle.law_frame.proofs.Worlds.{proper, between, Providers, provides, ahead, known, before, stage, ends, asks, asked_stands, asked_for}
 
 -- the names known before a note are the first of those known after it
 heard_starts : (ks : List Name) (n : Note Name) → Starts ks (names_heard ks n)
@@ -70,9 +70,6 @@ module _ (script : Script) (once : KnowsOnce script) (w x : World) (es : List En
     knew : (n : Name) → IsAmong n Arrived → IsKnownIn (names_in s.known) n
     knew = known script once w x es k follow opened stepped v u s there other l at uncut N ns head
 
-    drew : (i : ℕ) → i < length x.drawn → draw_of x.drawn (draw_word script.key i) ≡ i
-    drew = words script once w x es k follow opened stepped v u s there other l at uncut N ns head
-
     ended : GiftsWereAskedFor x v u N → (n : Name) → IsAmong n (told_in N) → Ends script x v u s N F Ms other n
     ended = ends script once w x es k follow opened stepped v u s there other l at uncut N ns head F Ms
 
@@ -82,7 +79,7 @@ module _ (script : Script) (once : KnowsOnce script) (w x : World) (es : List En
     abbrev P : ℕ → ℕ
     P = Providers script once w x es k follow opened stepped v u s there other l at uncut N ns head
 
-    gave : Provides P (length x.drawn) v u N
+    gave : Provides P x.drawn v u N
     gave = provides script once w x es k follow opened stepped v u s there other l at uncut N ns head
 
     short : Proper v u N
@@ -91,31 +88,31 @@ module _ (script : Script) (once : KnowsOnce script) (w x : World) (es : List En
     ends_between : IsBetween v u N
     ends_between = between script once w x es k follow opened stepped v u s there other l at uncut N ns head
 
-    asked_gift : AskedGiftStands u N s → (p i : ℕ) (n : Name) → N ≡ Ask p i n → IsProvidedBy P (length x.drawn) i p → Asks script x v u s N F Ms other p i n
+    asked_gift : AskedGiftStands u N s → (p i : ℕ) (n : Name) → N ≡ Ask p i n → IsProvidedBy P x.drawn i p → Asks script x v u s N F Ms other p i n
     asked_gift = asks script once w x es k follow opened stepped v u s there other l at uncut N ns head F Ms
 
   open_read : (i : ℕ) (n : Name) (head : l.notes ≡ Open i n ∷ ns) (F Ms : List Name) → Starts (names_heard (names_in s.known) (Open i n)) F → GiftsWereAskedFor x v u (Open i n) → NoteAlike script x v u s (Open i n) F Ms other (Open i n)
   unfolding told_in wire.with_note names_heard
-  open_read i n head F Ms later g = open_alike script x v u s (Open i n) F Ms other (was (Open i n) head F Ms later) (stood (Open i n) head F Ms later) (knew (Open i n) head F Ms later) (drew (Open i n) head F Ms later) i n (gave (Open i n) head F Ms later).0 (ended (Open i n) head F Ms later g n (inl refl)) later (went (Open i n) head F Ms later)
+  open_read i n head F Ms later g = open_alike script x v u s (Open i n) F Ms other (was (Open i n) head F Ms later) (stood (Open i n) head F Ms later) (knew (Open i n) head F Ms later) i n (key_of v i (gave (Open i n) head F Ms later).2) (ended (Open i n) head F Ms later g n (inl refl)) later (went (Open i n) head F Ms later)
 
   shorten_read : (n : Name) (c i : ℕ) (head : l.notes ≡ Shorten n c i ∷ ns) (F Ms : List Name) → Starts (names_heard (names_in s.known) (Shorten n c i)) F → GiftsWereAskedFor x v u (Shorten n c i) → NoteAlike script x v u s (Shorten n c i) F Ms other (Shorten n c i)
   unfolding told_in wire.with_note names_heard
-  shorten_read n c i head F Ms later g = let N = Shorten n c i in shorten_alike script x v u s N F Ms other (was N head F Ms later) (stood N head F Ms later) (knew N head F Ms later) (drew N head F Ms later) n c i (gave N head F Ms later).0 (ended N head F Ms later g n (inl refl)) later (went N head F Ms later)
+  shorten_read n c i head F Ms later g = let N = Shorten n c i in shorten_alike script x v u s N F Ms other (was N head F Ms later) (stood N head F Ms later) (knew N head F Ms later) n c i (key_of u i (gave N head F Ms later).2) (ended N head F Ms later g n (inl refl)) later (went N head F Ms later)
 
   elsewhere_read : (n : Name) (c : ℕ) (head : l.notes ≡ Elsewhere n c ∷ ns) (F Ms : List Name) → Starts (names_heard (names_in s.known) (Elsewhere n c)) F → GiftsWereAskedFor x v u (Elsewhere n c) → NoteAlike script x v u s (Elsewhere n c) F Ms other (Elsewhere n c)
   unfolding told_in wire.with_note names_heard
-  elsewhere_read n c head F Ms later g = let N = Elsewhere n c in elsewhere_alike script x v u s N F Ms other (was N head F Ms later) (stood N head F Ms later) (knew N head F Ms later) (drew N head F Ms later) n c (ended N head F Ms later g n (inl refl)) later (went N head F Ms later)
+  elsewhere_read n c head F Ms later g = let N = Elsewhere n c in elsewhere_alike script x v u s N F Ms other (was N head F Ms later) (stood N head F Ms later) (knew N head F Ms later) n c (ended N head F Ms later g n (inl refl)) later (went N head F Ms later)
 
   ask_read : (p i : ℕ) (n : Name) (head : l.notes ≡ Ask p i n ∷ ns) (F Ms : List Name) → Starts (names_heard (names_in s.known) (Ask p i n)) F → AskedGiftStands u (Ask p i n) s → NoteAlike script x v u s (Ask p i n) F Ms other (Ask p i n)
-  ask_read p i n head F Ms later g = let N = Ask p i n in let q = gave N head F Ms later in ask_alike script x v u s N F Ms other (was N head F Ms later) (stood N head F Ms later) (knew N head F Ms later) (drew N head F Ms later) p i n q.0 (asked_gift N head F Ms later g p i n refl q)
+  ask_read p i n head F Ms later g = let N = Ask p i n in let q = gave N head F Ms later in ask_alike script x v u s N F Ms other (was N head F Ms later) (stood N head F Ms later) (knew N head F Ms later) p i n (key_of p i q.2) (asked_gift N head F Ms later g p i n refl q)
 
   settled_read : (n : Name) (y : Passed Name) (head : l.notes ≡ SettledTo n y ∷ ns) (F Ms : List Name) → Starts (names_heard (names_in s.known) (SettledTo n y)) F → GiftsWereAskedFor x v u (SettledTo n y) → NoteAlike script x v u s (SettledTo n y) F Ms other (SettledTo n y)
   unfolding told_in wire.with_note names_heard
-  settled_read n y head F Ms later g = let N = SettledTo n y in settled_alike script x v u s N F Ms other (was N head F Ms later) (stood N head F Ms later) (knew N head F Ms later) (drew N head F Ms later) (P N head F Ms later) n y (short N head F Ms later) (gave N head F Ms later) (λ m a. ended N head F Ms later g m a) later (went N head F Ms later)
+  settled_read n y head F Ms later g = let N = SettledTo n y in settled_alike script x v u s N F Ms other (was N head F Ms later) (stood N head F Ms later) (knew N head F Ms later) (P N head F Ms later) n y (short N head F Ms later) (gave N head F Ms later) (λ m a. ended N head F Ms later g m a) later (went N head F Ms later)
 
   deliver_read : (m : Delivery Name) (n : Name) (verb : Words) (ys : Passeds Name) (head : l.notes ≡ Deliver m n verb ys ∷ ns) (F Ms : List Name) → Starts (names_heard (names_in s.known) (Deliver m n verb ys)) F → GiftsWereAskedFor x v u (Deliver m n verb ys) → NoteAlike script x v u s (Deliver m n verb ys) F Ms other (Deliver m n verb ys)
   unfolding told_in wire.with_note names_heard message_of
-  deliver_read m n verb ys head F Ms later g = let N = Deliver m n verb ys in let host : host_of n ≡ u = ends_between N head F Ms later in deliver_alike script x v u s N F Ms other (was N head F Ms later) (stood N head F Ms later) (knew N head F Ms later) (drew N head F Ms later) (P N head F Ms later) m n verb ys refl (short N head F Ms later) (gave N head F Ms later) host (λ z a. ended N head F Ms later g z a) later
+  deliver_read m n verb ys head F Ms later g = let N = Deliver m n verb ys in let host : host_of n ≡ u = ends_between N head F Ms later in deliver_alike script x v u s N F Ms other (was N head F Ms later) (stood N head F Ms later) (knew N head F Ms later) (P N head F Ms later) m n verb ys refl (short N head F Ms later) (gave N head F Ms later) host (λ z a. ended N head F Ms later g z a) later
       (subst (λ es. Starts (wire.with_all v Asked ys es) Exports) (export_other v Asked n Arrived (λ e. other (sym e ∙ host))) (went N head F Ms later))
 
   -- ---- any note

@@ -1,7 +1,7 @@
 -- What a vat learns from a note comes to be known, and what else comes to be known as it arrives is the vat's own or asked for; so it is of a notice.
 use Rattle.std.proofs.Common.{◌≡◌, ℕ, Bool, true, false, List, [], ◌∷◌, ◌++◌, Option, Some, None, refl, sym, ap, ◌∙◌, ◌⊎◌, inl, inr, if◌then◌else◌, ◌==◌, codes}
 use Rattle.std.proofs.lemmas.Bool.{eqb-true}
-use Rattle.def_machine.specs.Values.{Words, Value, Null, Flag, Number, Letter, Text, Prim, Broken, Items, Ref, Name, Root, Object, Promise, Answer, Gift, Sent, same_reference, Naming, IsAnswer, naming, name_of, mail_of, answer_of, host_of}
+use Rattle.def_machine.specs.Values.{Words, Value, Null, Flag, Number, Letter, Text, Prim, Broken, Items, Ref, Name, Root, Object, Promise, Answer, Gift, Sent, same_reference, Naming, IsAnswer, naming, name_of, mail_of, answer_of, host_of, under}
 use Rattle.def_machine.specs.State.{Standing, Unsettled, WaitsOn, Viewed, Settled, Known, ToTell, Passed, Passeds, Plain, AGift, Many, NoMore, More, Note, Delivery, Deliver, Open, Ask, SettledTo, Elsewhere, Shorten, Put, GiftEntry, Vat, Done, Gives, Throws, Ejects, Stops, Act, ◌>>=◌, ◌>>◌, and_then, give, look, come, mail, alter, send_out, new_gift, open_gift, is_gift, is_in, begun}
 use Rattle.def_machine.specs.Refs as refs
 use Rattle.def_machine.specs.Refs.{Place, Away, host_at}
@@ -256,8 +256,8 @@ module _ (v : ℕ) (P : Telling) where
   view_at : (n : Name) (c : ℕ) (s : Vat Name) → ((host_at K s.number s.known n ≡ v → ⊥) → IsEventual n) → Ends Any (Asking v P) s (arrive.view_there K n c s)
   unfolding arrive.view_there ◌>>=◌ ◌>>◌ and_then look
   view_at n c s f = let u : ℕ = s.number in let h : ℕ = host_at K s.number s.known n in
-      (leads_bind Any (Asking v P) (base v P) (asking_draw v P) (λ i. leads_then Any (Asking v P) (base v P) (asking_shorten v P h n c i f)
-      (leads_bind Any (Asking v P) (base v P) (asking_gift_there u h c i) (λ g. asking_see n g)))).after s
+      (leads_bind Any (Asking v P) (base v P) (asking_draw v P) (λ i. leads_then Any (Asking v P) (base v P) (asking_shorten v P h n c (under h i) f)
+      (leads_bind Any (Asking v P) (base v P) (asking_gift_there u h c (under h i)) (λ g. asking_see n g)))).after s
 
   asking_shorten_to : (i : ℕ) (p : Place Name) → Leads Any (Asking v P) (arrive.shorten_to K i p)
   unfolding arrive.shorten_to

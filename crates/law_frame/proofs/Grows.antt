@@ -92,9 +92,9 @@ module _ {N : Type 0} (S : Sight N) (asked : List N) where
   note_grows (Elsewhere n c) ns = as_grows n ns
   note_grows (Shorten n c i) ns = as_grows n ns
 
-pub wrote_grows : (drawn : List ℕ) (n : Note Name) (c : Connected) → ConnectedGrows c (wire.wrote drawn n c)
+pub wrote_grows : (n : Note Name) (c : Connected) → ConnectedGrows c (wire.wrote n c)
 unfolding wire.wrote tables.put_on
-wrote_grows drawn n c = record {
+wrote_grows n c = record {
   from = refl;
   to = refl;
   tables = record {
@@ -112,19 +112,19 @@ unfolding wire.imports_after
 imports_grow ns (Some h) l = l
 imports_grow ns None l = front_same ns
 
-frame_later : (drawn : List ℕ) (d c : Connected) (m : Name) (s : Stage Name) (o : Option Operation) → Later s.imports (wire.read_frame drawn d c m s o)
+frame_later : (d c : Connected) (m : Name) (s : Stage Name) (o : Option Operation) → Later s.imports (wire.read_frame d c m s o)
 unfolding wire.read_frame
-frame_later drawn d c m s (Some o) = note_later wire.is_object (wire.draw_of drawn) d.from d.to (wire.newcomers c m) d.tables o s
-frame_later drawn d c m s None = tt
+frame_later d c m s (Some o) = note_later wire.is_object d.from d.to (wire.newcomers c m) d.tables o s
+frame_later d c m s None = tt
 
-pub received_grows : (drawn : List ℕ) (c : Connected) (n : Note Name) (d : Connected) → ConnectedGrows d (wire.received drawn c n d)
+pub received_grows : (c : Connected) (n : Note Name) (d : Connected) → ConnectedGrows d (wire.received c n d)
 unfolding wire.received wire.first_stage
-received_grows drawn c n d = record {
+received_grows c n d = record {
   from = refl;
   to = refl;
   tables = record {
     exports = front_same d.tables.exports;
-    imports = imports_grow d.tables.imports _ (frame_later drawn d c (Root c.from) (wire.first_stage d) (wire.frame_due c d));
+    imports = imports_grow d.tables.imports _ (frame_later d c (Root c.from) (wire.first_stage d) (wire.frame_due c d));
     questions = front_same d.tables.questions;
     answers = front_more d.tables.answers _;
   };
@@ -185,36 +185,36 @@ module _ (f : Connected → Connected) (grows : (c : Connected) → ConnectedGro
 
 -- ---- a step
 
-pub write_grows : (drawn : List ℕ) (a : ℕ) (ps : List (Put Name)) (v u : ℕ) (cs : List Connected) → ConnectedGrows (connected_at v u cs) (connected_at v u (wire.write_all drawn a ps cs))
+pub write_grows : (a : ℕ) (ps : List (Put Name)) (v u : ℕ) (cs : List Connected) → ConnectedGrows (connected_at v u cs) (connected_at v u (wire.write_all a ps cs))
 unfolding wire.write_all
-write_grows drawn a [] v u cs = grows_same (connected_at v u cs)
-write_grows drawn a (p ∷ ps) v u cs = let ds = wire.with_connected (wire.wrote drawn p.note) a p.to cs in
-    grows_trans (connected_at v u cs) (connected_at v u ds) (connected_at v u (wire.write_all drawn a ps ds)) (with_grows (wire.wrote drawn p.note) (wrote_grows drawn p.note) a p.to v u cs) (write_grows drawn a ps v u ds)
+write_grows a [] v u cs = grows_same (connected_at v u cs)
+write_grows a (p ∷ ps) v u cs = let ds = wire.with_connected (wire.wrote p.note) a p.to cs in
+    grows_trans (connected_at v u cs) (connected_at v u ds) (connected_at v u (wire.write_all a ps ds)) (with_grows (wire.wrote p.note) (wrote_grows p.note) a p.to v u cs) (write_grows a ps v u ds)
 
-hear_grows : (drawn : List ℕ) (a b : ℕ) (n : Note Name) (v u : ℕ) (cs : List Connected) → ConnectedGrows (connected_at v u cs) (connected_at v u (wire.hear_at drawn a b n cs))
+hear_grows : (a b : ℕ) (n : Note Name) (v u : ℕ) (cs : List Connected) → ConnectedGrows (connected_at v u cs) (connected_at v u (wire.hear_at a b n cs))
 unfolding wire.hear_at
-hear_grows drawn a b n v u cs = with_grows (wire.received drawn (connected_at a b cs) n) (received_grows drawn (connected_at a b cs) n) b a v u cs
+hear_grows a b n v u cs = with_grows (wire.received (connected_at a b cs) n) (received_grows (connected_at a b cs) n) b a v u cs
 
-lines_grow : (drawn : List ℕ) (es : List Event) (v u : ℕ) (cs : List Connected) → ConnectedGrows (connected_at v u cs) (connected_at v u (world.heard_by drawn es cs))
+lines_grow : (es : List Event) (v u : ℕ) (cs : List Connected) → ConnectedGrows (connected_at v u cs) (connected_at v u (world.heard_by es cs))
 unfolding world.heard_by
-lines_grow drawn [] v u cs = grows_same (connected_at v u cs)
-lines_grow drawn (Carried k a b n bytes ∷ es) v u cs = let ds = wire.hear_at drawn a b n cs in grows_trans (connected_at v u cs) (connected_at v u ds) (connected_at v u (world.heard_by drawn es ds)) (hear_grows drawn a b n v u cs) (lines_grow drawn es v u ds)
-lines_grow drawn (Opens a ∷ es) v u cs = lines_grow drawn es v u cs
-lines_grow drawn (Turned k a ∷ es) v u cs = lines_grow drawn es v u cs
-lines_grow drawn (Idle k ∷ es) v u cs = lines_grow drawn es v u cs
-lines_grow drawn (CutAt k a b ∷ es) v u cs = lines_grow drawn es v u cs
-lines_grow drawn (NoticedAt k a b ∷ es) v u cs = lines_grow drawn es v u cs
-lines_grow drawn (Here a h ∷ es) v u cs = lines_grow drawn es v u cs
-lines_grow drawn (LostCut m ∷ es) v u cs = lines_grow drawn es v u cs
-lines_grow drawn (LeftQueue a m ∷ es) v u cs = lines_grow drawn es v u cs
-lines_grow drawn (LeftHeld a n m ∷ es) v u cs = lines_grow drawn es v u cs
-lines_grow drawn (LeftWait a n m ∷ es) v u cs = lines_grow drawn es v u cs
-lines_grow drawn (LeftLink a b n ∷ es) v u cs = lines_grow drawn es v u cs
-lines_grow drawn (Ends ∷ es) v u cs = lines_grow drawn es v u cs
+lines_grow [] v u cs = grows_same (connected_at v u cs)
+lines_grow (Carried k a b n bytes ∷ es) v u cs = let ds = wire.hear_at a b n cs in grows_trans (connected_at v u cs) (connected_at v u ds) (connected_at v u (world.heard_by es ds)) (hear_grows a b n v u cs) (lines_grow es v u ds)
+lines_grow (Opens a ∷ es) v u cs = lines_grow es v u cs
+lines_grow (Turned k a ∷ es) v u cs = lines_grow es v u cs
+lines_grow (Idle k ∷ es) v u cs = lines_grow es v u cs
+lines_grow (CutAt k a b ∷ es) v u cs = lines_grow es v u cs
+lines_grow (NoticedAt k a b ∷ es) v u cs = lines_grow es v u cs
+lines_grow (Here a h ∷ es) v u cs = lines_grow es v u cs
+lines_grow (LostCut m ∷ es) v u cs = lines_grow es v u cs
+lines_grow (LeftQueue a m ∷ es) v u cs = lines_grow es v u cs
+lines_grow (LeftHeld a n m ∷ es) v u cs = lines_grow es v u cs
+lines_grow (LeftWait a n m ∷ es) v u cs = lines_grow es v u cs
+lines_grow (LeftLink a b n ∷ es) v u cs = lines_grow es v u cs
+lines_grow (Ends ∷ es) v u cs = lines_grow es v u cs
 
 pub after_grows : (a : ℕ) (t : Vat Name) (head : List Event) (v u : ℕ) (cs : List Connected) → ConnectedGrows (connected_at v u cs) (connected_at v u (world.connections_after a t head cs))
 unfolding world.connections_after
-after_grows a t head v u cs = let ds = world.heard_by t.drawn head cs in grows_trans (connected_at v u cs) (connected_at v u ds) (connected_at v u (wire.write_all t.drawn a t.outbox ds)) (lines_grow t.drawn head v u cs) (write_grows t.drawn a t.outbox v u ds)
+after_grows a t head v u cs = let ds = world.heard_by head cs in grows_trans (connected_at v u cs) (connected_at v u ds) (connected_at v u (wire.write_all a t.outbox ds)) (lines_grow head v u cs) (write_grows a t.outbox v u ds)
 
 going_is : (x y : World) → Goes x ≡ Goes y → x ≡ y
 going_is x y e = cc

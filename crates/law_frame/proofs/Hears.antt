@@ -3,6 +3,7 @@ use Rattle.std.proofs.Common.{◌≡◌, ℕ, Bool, true, false, List, [], ◌�
 use Rattle.std.specs.Prelude.{slice_get}
 use Rattle.def_op.specs.Frames as op
 use Rattle.def_op.specs.Frames.{Described, Members, Outcome, Operation}
+use Rattle.def_machine.specs.Values.{key}
 use Rattle.def_machine.specs.State.{Passed, Passeds, Note, Many, More, SettledTo, Deliver, Open, Shorten, NoMore, Ask, Elsewhere}
 use Rattle.def_machine.specs.Arrive.{Incoming, Old, New}
 use Rattle.def_run.specs.Connections as read
@@ -39,30 +40,30 @@ module _ {N : Type 0} where
   next_later is f (Some h) l k = later_front is h.after.imports (f h.read h.after) l (k h.read h.after)
   next_later is f None l k = tt
 
-  module _ {W : Type 0} (object : N → Bool) (number : ℕ → ℕ) (me peer : ℕ) (F : Newcomers N W) (c : Connection N) where
-    new_object_later : (p : ℕ) (s : Stage N) → Later s.imports (read.new_object object number me peer F c p s)
+  module _ {W : Type 0} (object : N → Bool) (me peer : ℕ) (F : Newcomers N W) (c : Connection N) where
+    new_object_later : (p : ℕ) (s : Stage N) → Later s.imports (read.new_object object me peer F c p s)
     unfolding read.new_object read.told
     new_object_later p s = front_more s.imports (F.object p ∷ [])
 
-    new_promise_later : (p : ℕ) (s : Stage N) → Later s.imports (read.new_promise object number me peer F c p s)
+    new_promise_later : (p : ℕ) (s : Stage N) → Later s.imports (read.new_promise object me peer F c p s)
     unfolding read.new_promise read.told
     new_promise_later p s = front_more s.imports (F.promise p s.known ∷ [])
 
-    object_later : (p : ℕ) (o : Option N) (s : Stage N) → Later s.imports (read.object_heard object number me peer F c p o s)
+    object_later : (p : ℕ) (o : Option N) (s : Stage N) → Later s.imports (read.object_heard object me peer F c p o s)
     unfolding read.object_heard
     object_later p (Some n) s = where_later (object n) (read.told (Old n)) s (told_later (Old n) s)
-    object_later p None s = where_later (p == length s.imports) (read.new_object object number me peer F c p) s (new_object_later p s)
+    object_later p None s = where_later (p == length s.imports) (read.new_object object me peer F c p) s (new_object_later p s)
 
     old_later : (b : Bool) (n : N) (s : Stage N) → Later {A = Incoming N W} s.imports (elim b [ true ↦ None | false ↦ read.told (Old n) s ])
     old_later true n s = tt
     old_later false n s = told_later (Old n) s
 
-    promise_later : (p : ℕ) (o : Option N) (s : Stage N) → Later s.imports (read.promise_heard object number me peer F c p o s)
+    promise_later : (p : ℕ) (o : Option N) (s : Stage N) → Later s.imports (read.promise_heard object me peer F c p o s)
     unfolding read.promise_heard
     promise_later p (Some n) s = old_later (object n) n s
-    promise_later p None s = where_later (p == length s.imports) (read.new_promise object number me peer F c p) s (new_promise_later p s)
+    promise_later p None s = where_later (p == length s.imports) (read.new_promise object me peer F c p) s (new_promise_later p s)
 
-    name_later : (d : Described) (s : Stage N) → Later s.imports (read.name_heard object number me peer F c d s)
+    name_later : (d : Described) (s : Stage N) → Later s.imports (read.name_heard object me peer F c d s)
     unfolding read.name_heard
     name_later (op.MyExport p) s = object_later p (slice_get s.imports p) s
     name_later (op.MyPromise p) s = promise_later p (slice_get s.imports p) s
@@ -74,11 +75,11 @@ module _ {N : Type 0} where
     name_later (op.Broken p) s = tt
     name_later (op.Third h i) s = tt
 
-    reference_later : (d : Described) (s : Stage N) → Later s.imports (read.next (read.reference_heard object number me peer F c) (read.name_heard object number me peer F c d s))
+    reference_later : (d : Described) (s : Stage N) → Later s.imports (read.next (read.reference_heard object me peer F c) (read.name_heard object me peer F c d s))
     unfolding read.reference_heard
-    reference_later d s = next_later s.imports (read.reference_heard object number me peer F c) (read.name_heard object number me peer F c d s) (name_later d s) (λ x t. told_later _ t)
+    reference_later d s = next_later s.imports (read.reference_heard object me peer F c) (read.name_heard object me peer F c d s) (name_later d s) (λ x t. told_later _ t)
 
-    gift_later : (h i : ℕ) (o : Option N) (s : Stage N) → Later s.imports (read.gift_heard object number me peer F c h i o s)
+    gift_later : (h i : ℕ) (o : Option N) (s : Stage N) → Later s.imports (read.gift_heard object me peer F c h i o s)
     unfolding read.gift_heard read.told
     gift_later h i (Some n) s = front_same s.imports
     gift_later h i None s = front_same s.imports
@@ -86,37 +87,37 @@ module _ {N : Type 0} where
     mutual
       unfolding read.passed_heard read.all_heard
 
-      passed_later : (d : Described) (s : Stage N) → Later s.imports (read.passed_heard object number me peer F c d s)
+      passed_later : (d : Described) (s : Stage N) → Later s.imports (read.passed_heard object me peer F c d s)
       passed_later (op.Datum x) s = told_later _ s
       passed_later (op.Broken p) s = told_later _ s
-      passed_later (op.ListOf ds) s = next_later s.imports (λ ys. read.told (Many ys)) (read.all_heard object number me peer F c ds s) (all_later ds s) (λ x t. told_later _ t)
-      passed_later (op.Third h w) s = gift_later h (number w) (read.learnt_at h (number w) s.learnt) s
+      passed_later (op.ListOf ds) s = next_later s.imports (λ ys. read.told (Many ys)) (read.all_heard object me peer F c ds s) (all_later ds s) (λ x t. told_later _ t)
+      passed_later (op.Third h w) s = gift_later h (key peer w) (read.learnt_at h (key peer w) s.learnt) s
       passed_later (op.MyExport p) s = reference_later (op.MyExport p) s
       passed_later (op.MyPromise p) s = reference_later (op.MyPromise p) s
       passed_later (op.YourExport p) s = reference_later (op.YourExport p) s
       passed_later (op.MyAnswer q) s = reference_later (op.MyAnswer q) s
       passed_later (op.YourAnswer q) s = reference_later (op.YourAnswer q) s
 
-      all_later : (ds : Members) (s : Stage N) → Later s.imports (read.all_heard object number me peer F c ds s)
+      all_later : (ds : Members) (s : Stage N) → Later s.imports (read.all_heard object me peer F c ds s)
       all_later op.none s = told_later _ s
-      all_later (op.more d ds) s = next_later s.imports _ (read.passed_heard object number me peer F c d s) (passed_later d s)
-          (λ y t. next_later t.imports (λ ys. read.told (More y ys)) (read.all_heard object number me peer F c ds t) (all_later ds t) (λ ys u. told_later _ u))
+      all_later (op.more d ds) s = next_later s.imports _ (read.passed_heard object me peer F c d s) (passed_later d s)
+          (λ y t. next_later t.imports (λ ys. read.told (More y ys)) (read.all_heard object me peer F c ds t) (all_later ds t) (λ ys u. told_later _ u))
 
-    outcome_later : (x : Incoming N W) (o : Outcome) (s : Stage N) → Later s.imports (read.outcome_heard object number me peer F c x o s)
+    outcome_later : (x : Incoming N W) (o : Outcome) (s : Stage N) → Later s.imports (read.outcome_heard object me peer F c x o s)
     unfolding read.outcome_heard
-    outcome_later x (op.To d) s = next_later s.imports _ (read.passed_heard object number me peer F c d s) (passed_later d s) (λ y t. told_later _ t)
+    outcome_later x (op.To d) s = next_later s.imports _ (read.passed_heard object me peer F c d s) (passed_later d s) (λ y t. told_later _ t)
     outcome_later x (op.Elsewhere h) s = told_later _ s
 
-    message_later : (asks : Bool) (d : Described) (verb : List ℕ) (ds : Members) (s : Stage N) → Later s.imports (read.message_heard object number me peer F c asks d verb ds s)
+    message_later : (asks : Bool) (d : Described) (verb : List ℕ) (ds : Members) (s : Stage N) → Later s.imports (read.message_heard object me peer F c asks d verb ds s)
     unfolding read.message_heard
-    message_later asks d verb ds s = next_later s.imports _ (read.name_heard object number me peer F c d s) (name_later d s)
-        (λ x t. next_later t.imports _ (read.all_heard object number me peer F c ds t) (all_later ds t) (λ ys u. told_later _ u))
+    message_later asks d verb ds s = next_later s.imports _ (read.name_heard object me peer F c d s) (name_later d s)
+        (λ x t. next_later t.imports _ (read.all_heard object me peer F c ds t) (all_later ds t) (λ ys u. told_later _ u))
 
-    pub note_later : (o : Operation) (s : Stage N) → Later s.imports (read.note_heard object number me peer F c o s)
+    pub note_later : (o : Operation) (s : Stage N) → Later s.imports (read.note_heard object me peer F c o s)
     unfolding read.note_heard
     note_later (op.Deliver q d verb ds) s = where_later (q == length c.answers) _ s (message_later true d verb ds s)
     note_later (op.DeliverOnly d verb ds) s = message_later false d verb ds s
-    note_later (op.Provide d w) s = next_later s.imports _ (read.name_heard object number me peer F c d s) (name_later d s) (λ x t. told_later _ t)
+    note_later (op.Provide d w) s = next_later s.imports _ (read.name_heard object me peer F c d s) (name_later d s) (λ x t. told_later _ t)
     note_later (op.Accept q p w) s = where_later (q == length c.answers) _ s (told_later _ s)
-    note_later (op.Resolve d o) s = next_later s.imports _ (read.name_heard object number me peer F c d s) (name_later d s) (λ x t. outcome_later x o t)
-    note_later (op.Shorten d w) s = next_later s.imports _ (read.name_heard object number me peer F c d s) (name_later d s) (λ x t. told_later _ t)
+    note_later (op.Resolve d o) s = next_later s.imports _ (read.name_heard object me peer F c d s) (name_later d s) (λ x t. outcome_later x o t)
+    note_later (op.Shorten d w) s = next_later s.imports _ (read.name_heard object me peer F c d s) (name_later d s) (λ x t. told_later _ t)

@@ -1,6 +1,6 @@
 -- Where names are known once, a note that arrives asks for gifts that are new, in front of all that names them.
 use Rattle.std.proofs.Common.{◌≡◌, ℕ, suc, Bool, true, false, List, [], ◌∷◌, ◌++◌, Option, Some, None, refl, sym, ap, subst, ◌∙◌, ◌⊎◌, inl, inr, append_assoc, append-nil, if◌then◌else◌, length, ◌==◌, codes}
-use Rattle.def_machine.specs.Values.{Words, Value, Null, Flag, Number, Letter, Text, Prim, Broken, Items, Ref, Name, Gift, same_reference, Naming, IsGift, IsAnswer, naming, name_of, mail_of, host_of}
+use Rattle.def_machine.specs.Values.{Words, Value, Null, Flag, Number, Letter, Text, Prim, Broken, Items, Ref, Name, Gift, same_reference, Naming, IsGift, IsAnswer, naming, name_of, mail_of, host_of, key, under}
 use Rattle.def_machine.specs.State.{Known, ToTell, open_gift, Settle, Passed, Passeds, Plain, AGift, Many, NoMore, More, Note, Delivery, Deliver, Open, Ask, SettledTo, Elsewhere, Shorten, Put, Settles, ListCame, Vat, Done, Gives, Throws, Ejects, Stops, Act, ◌>>=◌, ◌>>◌, and_then, give, look, tell, each, come, mail, draw, draws, new_list, send_out, alter, with_change, is_in, begun}
 use Rattle.def_machine.specs.Refs as refs
 use Rattle.def_machine.specs.Refs.{entry_of, host_at}
@@ -321,10 +321,10 @@ module _ (word : ℕ → ℕ) (v : ℕ) where
   there_either ks n h c i s s1 k e o f g false = let s2 : Vat Name = record s1 { known = s1.known ++ begun (Gift c i) c ∷ []; outbox = s1.outbox ++ record { to = c; note = Ask h i (Gift c i) } ∷ [] } in
       seen_ends ks n h c i s2 k (names_end s1.known (begun (Gift c i) c) ∙ ap (λ ns. ns ++ Gift c i ∷ []) (ap names_in f ∙ e)) (ap (λ ps. ps ++ record { to = c; note = Ask h i (Gift c i) } ∷ []) (g ∙ ap (λ ps. ps ++ record { to = h; note = Shorten n c i } ∷ []) o)) _ ((quiet_see K n (Gift c i)).after s2)
 
-  drawn_either : (ks : List Name) (n : Name) (u h c : ℕ) (s : Vat Name) (x : ℕ) → IsKnownIn ks n → names_in s.known ≡ ks → s.outbox ≡ [] → (o : Option ℕ) → Ordered ks (and_then (draws x o s) (λ i. send_out h (Shorten n c i) >> (arrive.gift_there K u h c i >>= (λ g. arrive.see K n g))))
+  drawn_either : (ks : List Name) (n : Name) (u h c : ℕ) (s : Vat Name) (x : ℕ) → IsKnownIn ks n → names_in s.known ≡ ks → s.outbox ≡ [] → (o : Option ℕ) → Ordered ks (and_then (draws x o s) (λ i. send_out h (Shorten n c (under h i)) >> (arrive.gift_there K u h c (under h i) >>= (λ g. arrive.see K n g))))
   unfolding draws and_then send_out ◌>>=◌ ◌>>◌ arrive.gift_there
   drawn_either ks n u h c s x k e o (Some j) = tt
-  drawn_either ks n u h c s x k e o None = there_either ks n h c (length s.drawn) s (record s { drawn = s.drawn ++ x ∷ []; outbox = s.outbox ++ record { to = h; note = Shorten n c (length s.drawn) } ∷ [] }) k e o refl refl (c == u)
+  drawn_either ks n u h c s x k e o None = there_either ks n h c (under h (key s.number x)) s (record s { drawn = s.drawn ++ x ∷ []; outbox = s.outbox ++ record { to = h; note = Shorten n c (under h (key s.number x)) } ∷ [] }) k e o refl refl (c == u)
 
   view_ordered : (ks : List Name) (n : Name) (c : ℕ) (s : Vat Name) → IsKnownIn ks n → names_in s.known ≡ ks → s.outbox ≡ [] → Ordered ks (arrive.view_there K n c s)
   unfolding arrive.view_there ◌>>=◌ and_then look draw

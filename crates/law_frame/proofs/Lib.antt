@@ -26,7 +26,6 @@ pub mod GivenLaws
 pub mod Ranks
 pub mod News
 pub mod Grow
-pub mod Words
 pub mod Reading
 pub mod AlikeAsking
 pub mod Order
@@ -51,3 +50,5 @@ pub mod Untold
 pub mod Untouched
 pub mod Chain
 pub mod Runs
+pub mod Writes
+pub mod OwnFrames

@@ -1,21 +1,22 @@
 -- A vat asks for no gift of a draw that was made and that does not pass in the note that arrives: a care for names.
-use Rattle.std.proofs.Common.{◌≡◌, ℕ, suc, ◌<◌, Bool, true, false, List, [], ◌∷◌, ◌++◌, Option, Some, None, length, ◌==◌, refl, sym, subst, ◌∙◌, arith}
+use Rattle.std.proofs.Common.{◌≡◌, ℕ, zero, suc, Bool, true, false, List, [], ◌∷◌, ◌++◌, Option, Some, None, length, ◌==◌, refl, sym, ap, subst, ◌∙◌, arith}
 use Rattle.std.proofs.lemmas.Bool.{eq-eqb}
-use Rattle.def_machine.specs.Values.{Value, Null, Flag, Number, Letter, Text, Prim, Broken, Items, Ref, Name, Spot, Own, Foreign, NoObject, Naming, naming, name_of, mail_of, answer_of, spot_of, host_of, IsLearnt}
-use Rattle.def_machine.specs.State.{Bound, Fixed, Slot, Binding, Cell, Freedom, IsSafe, IsItself, IsFinal, IsVar, FreeName, View, Thing, Made, Ejector, Audition, Resolver, Message, Standing, Unsettled, WaitsOn, Viewed, Settled, Known, See, Views, Passed, Passeds, Plain, AGift, Many, NoMore, More, Note, Deliver, Open, Ask, SettledTo, Elsewhere, Shorten, Put, GiftEntry, Vat, Done, Gives, Act, come, mail, draw, draws, alter, begun, WhereSome}
+use Rattle.def_machine.specs.Values.{Value, Null, Flag, Number, Letter, Text, Prim, Broken, Items, Ref, Name, Spot, Own, Foreign, NoObject, Naming, naming, name_of, mail_of, answer_of, spot_of, host_of, IsLearnt, key, word_of, under}
+use Rattle.def_machine.specs.State.{Bound, Fixed, Slot, Binding, Cell, Freedom, IsSafe, IsItself, IsFinal, IsVar, FreeName, View, Thing, Made, Ejector, Audition, Resolver, Message, Standing, Unsettled, WaitsOn, Viewed, Settled, Known, See, Views, Passed, Passeds, Plain, AGift, Many, NoMore, More, Note, Deliver, Open, Ask, SettledTo, Elsewhere, Shorten, Put, GiftEntry, Vat, Done, Gives, Act, come, mail, draw, draws, drawn_at, alter, begun, WhereSome}
 use Rattle.def_machine.specs.Refs as refs
 use Rattle.def_machine.specs.Refs.{Place, Mine, Away, host_at}
 use Rattle.def_machine.specs.Arrive as arrive
 use Rattle.def_machine.specs.Arrive.{Old, New}
+use Rattle.law_machine.proofs.KeyLaws.{word_under_key}
 use Rattle.law_machine.specs.Steps.{Step, Opens as Starts, Takes, Receives, Notices, does}
 use Rattle.def_run.specs.Draws.{draw_word}
 use Rattle.def_run.specs.World as world
 use Rattle.def_run.specs.World.{Script, Program, World, names, read_note, names_of, readied}
-use Rattle.law_name.specs.Names.{Bit, Named, Mail, Drew, At, Off, Entered, Owns, Gave, AllOf, NameOk, ValueOk, ValuesOk, MessageOk, StandingOk, EntryOk, KnownOk, CellOk, FreedomOk, ViewOk, BoundOk, NounOk, ThingOk, GiftOk, NoteOk, PutOk, Parts}
+use Rattle.law_name.specs.Names.{Bit, Named, Mail, Drew, At, Off, Entered, Owns, Gave, WasDrawn, AllOf, NameOk, ValueOk, ValuesOk, MessageOk, StandingOk, EntryOk, KnownOk, CellOk, FreedomOk, ViewOk, BoundOk, NounOk, ThingOk, GiftOk, NoteOk, PutOk, Parts}
 use Rattle.law_name.proofs.Facts.{PlaceOk, Fact, Nothing, Also, IsName, IsMail, IsGiven, IsVat, IsValue, nothing}
 use Rattle.law_name.proofs.Care.{Care, Under, Giving, Makes, Sound, Ends, Gets, Fine, fine_bind, fine_less, fine_then, fine_more, fine_give, fine_look, fine_tell, fine_out, fine_wait, come_gift, changes_ok, with_known}
 use Rattle.law_name.proofs.CareArrive.{Gifts, gifts_by, fine_ask_for, fine_gift_there}
-use Rattle.law_name.proofs.Among.{length_end}
+use Rattle.law_name.proofs.Among.{among_more, key_not_drawn}
 use Rattle.law_name.proofs.SameNames.{reference_is}
 use Rattle.law_reference.proofs.LegRuns.{MailBits}
 use Rattle.law_reference.proofs.Moves.{IsAlone, Does}
@@ -101,17 +102,11 @@ module _ (i : ℕ) where
   gift_all : (g : GiftEntry Name) → GiftOk Missed g
   gift_all g = (tt, tt)
 
-  less_not : (j : ℕ) → i < j → j ≡ i → ⊥
-  less_not j h e = omega arith
-
-  still_less : (d e : ℕ) → i < d → e ≡ suc d → i < e
-  still_less d e h k = omega arith
-
   module _ (v : ℕ) where
     abbrev Misses : Care Name
     Misses = record {
       ok = λ s b. Missed b;
-      more = λ s. i < length s.drawn;
+      more = λ s. WasDrawn s.drawn i;
       rel = λ s t. Unit {0};
       same = λ s. tt;
       trans = λ s t u h k. tt;
@@ -146,9 +141,9 @@ module _ (i : ℕ) where
       spot_ok s n (Foreign w) = (tt, tt)
       spot_ok s n NoObject = hosted_ok n (host_at K s.number s.known n) (s.number == host_at K s.number s.known n)
 
-      under : Under K Misses
+      misses_under : Under K Misses
       unfolding naming name_of
-      under = record {
+      misses_under = record {
         spots = record { alike = λ a b e. reference_is a b e; placed = λ s m n g. spot_ok s n (spot_of v n) };
         object = λ s j. tt;
         happened = λ s e. (tt, λ h. h);
@@ -156,7 +151,7 @@ module _ (i : ℕ) where
         outbox = λ s p h. (tt, λ k. k);
         opened = λ s p j. (tt, λ h. h);
         noticed = λ s w. (tt, λ h. h);
-        drawn = λ s w. (tt, λ h. still_less (length s.drawn) (length (s.drawn ++ w ∷ [])) h (length_end s.drawn w), tt);
+        drawn = λ s w. (tt, λ h. among_more (word_of i) s.drawn w h, tt);
         altered = λ s c n none h. (tt, λ k. k);
         answered = λ s h m o at. (tt, λ k. k, tt);
       }
@@ -174,41 +169,45 @@ module _ (i : ℕ) where
       makes = record { promised = λ s. (tt, λ h. h, tt); messaged = λ s h at. (tt, λ k. k, tt, tt); lone = λ s. (tt, λ k. k, tt) }
 
       gifts : Gifts K Misses
-      gifts = gifts_by K Misses under gives
+      gifts = gifts_by K Misses misses_under gives
 
-      -- ---- views, of a draw that is made later
+      -- ---- views, under a word that is drawn later
 
-      draws_other : (s : Vat Name) (w : ℕ) (o : Option ℕ) → Sound Misses s → Ends Misses IsGiven s (draws w o s)
+      -- a key of a word that was not drawn is another
+      other_key : (s : Vat Name) (w : ℕ) → drawn_at zero w s.drawn ≡ None → WasDrawn s.drawn i → (j : ℕ) → word_of j ≡ w → j ≡ i → ⊥
+      other_key s w new d j e f = key_not_drawn s.drawn w i new (ap word_of (sym f) ∙ e) d
+
+      draws_other : (s : Vat Name) (w : ℕ) (o : Option ℕ) → drawn_at zero w s.drawn ≡ o → (h : ℕ) → Sound Misses s → Ends Misses (λ j. IsGiven (under h j)) s (draws w o s)
       unfolding draws
-      draws_other s w (Some k) h = tt
-      draws_other s w None h = let p = h.parts in let m = h.more in (tt, record { parts = record { things = p.things; slots = p.slots; lists = p.lists; queue = p.queue; known = p.known; gifts = p.gifts; outbox = p.outbox }; more = still_less (length s.drawn) (length (s.drawn ++ w ∷ [])) m (length_end s.drawn w) }, less_not (length s.drawn) m)
+      draws_other s w (Some k) e a h = tt
+      draws_other s w None e a h = let p = h.parts in let m = h.more in (tt, record { parts = record { things = p.things; slots = p.slots; lists = p.lists; queue = p.queue; known = p.known; gifts = p.gifts; outbox = p.outbox }; more = among_more (word_of i) s.drawn w m }, other_key s w e m (under a (key s.number w)) (word_under_key a s.number w))
 
-      draw_other : {C : Fact Name} → Fine Misses C (draw K) IsGiven
+      draw_other : {C : Fact Name} → (h : ℕ) → Fine Misses C (draw K) (λ j. IsGiven (under h j))
       unfolding draw
-      draw_other = record { after = λ s h c. draws_other s _ _ h }
+      draw_other a = record { after = λ s h c. draws_other s _ _ refl a h }
 
       see_alone : {C : Fact Name} (n g : Name) → Gets Misses C (IsName g) → Fine Misses C (alter K (See g) n) nothing
       unfolding alter
-      see_alone n g k = record { after = λ s h c. let p = h.parts in (tt, record { parts = record { things = p.things; slots = p.slots; lists = p.lists; queue = p.queue; known = changes_ok K Misses under Missed (See g) n s.known (k.at s c) (λ a e. tt) p.known; gifts = p.gifts; outbox = p.outbox }; more = h.more }, tt) }
+      see_alone n g k = record { after = λ s h c. let p = h.parts in (tt, record { parts = record { things = p.things; slots = p.slots; lists = p.lists; queue = p.queue; known = changes_ok K Misses misses_under Missed (See g) n s.known (k.at s c) (λ a e. tt) p.known; gifts = p.gifts; outbox = p.outbox }; more = h.more }, tt) }
 
       seen : {C : Fact Name} (n g : Name) → Gets Misses C (IsName n) → Gets Misses C (IsName g) → Fine Misses C (arrive.see K n g) nothing
       unfolding arrive.see
-      seen n g j k = fine_then Misses nothing (fine_tell K Misses under (Views n g)) (fine_then Misses nothing (see_alone n g k) (fine_wait K Misses under n g (record { at = λ s c. tt })))
+      seen n g j k = fine_then Misses nothing (fine_tell K Misses misses_under (Views n g)) (fine_then Misses nothing (see_alone n g k) (fine_wait K Misses misses_under n g (record { at = λ s c. tt })))
 
       viewed : {C : Fact Name} (n : Name) → Gets Misses C (IsName n) → (c : ℕ) → Gets Misses C (IsVat c) → Fine Misses C (arrive.view_there K n c) nothing
       unfolding arrive.view_there
-      viewed n g c k = fine_less Misses nothing (fine_look Misses _) (λ u. fine_less Misses nothing (fine_look Misses _) (λ h. fine_bind Misses IsGiven draw_other (λ j. fine_then Misses nothing (fine_out K Misses under h (Shorten n c j) (record { at = λ s d. (tt, tt) }) (record { at = λ s d. tt }))
-          (fine_bind Misses IsName (fine_gift_there K Misses under gives u h c j (record { at = λ s d. tt }) (record { at = λ s d. d.1 })) (λ x. seen n x (record { at = λ s d. tt }) (record { at = λ s d. tt }))))))
+      viewed n g c k = fine_less Misses nothing (fine_look Misses _) (λ u. fine_less Misses nothing (fine_look Misses _) (λ h. fine_bind Misses (λ j. IsGiven (under h j)) (draw_other h) (λ j. fine_then Misses nothing (fine_out K Misses misses_under h (Shorten n c (under h j)) (record { at = λ s d. (tt, tt) }) (record { at = λ s d. tt }))
+          (fine_bind Misses IsName (fine_gift_there K Misses misses_under gives u h c (under h j) (record { at = λ s d. tt }) (record { at = λ s d. d.1 })) (λ x. seen n x (record { at = λ s d. tt }) (record { at = λ s d. tt }))))))
 
       -- ---- what arrives
 
       new_alone : {C : Fact Name} (n : Name) (h : ℕ) → Fine Misses C (come K (IsLearnt n) h) IsName
       unfolding come naming name_of
-      new_alone n h = record { after = λ s k c. (tt, record { parts = with_known K Misses under s (record s { known = s.known ++ begun n h ∷ [] }) n h tt tt k; more = k.more }, tt) }
+      new_alone n h = record { after = λ s k c. (tt, record { parts = with_known K Misses misses_under s (record s { known = s.known ++ begun n h ∷ [] }) n h tt tt k; more = k.more }, tt) }
 
       gift_alone : {C : Fact Name} (from h j : ℕ) → (j ≡ i → ⊥) → Fine Misses C (arrive.learn_gift K from h j) IsValue
       unfolding arrive.learn_gift
-      gift_alone from h j f = fine_bind Misses IsName (come_gift K Misses under gives h j (record { at = λ s c. f }) (record { at = λ s c. tt })) (λ n. fine_then Misses nothing (fine_ask_for K Misses under from h j (record { at = λ s c. f }) n (record { at = λ s c. tt })) (fine_give Misses (Ref n) (record { at = λ s c. tt })))
+      gift_alone from h j f = fine_bind Misses IsName (come_gift K Misses misses_under gives h j (record { at = λ s c. f }) (record { at = λ s c. tt })) (λ n. fine_then Misses nothing (fine_ask_for K Misses misses_under from h j (record { at = λ s c. f }) n (record { at = λ s c. tt })) (fine_give Misses (Ref n) (record { at = λ s c. tt })))
 
       mail_alone : {C : Fact Name} (m : Name) (h : ℕ) → Fine Misses C (arrive.learn_message K (New m h)) IsMail
       unfolding arrive.learn_message mail naming mail_of
@@ -232,7 +231,7 @@ module _ (i : ℕ) where
       }
 
       note_misses : (from : ℕ) (ks : List Name) (n : Note Name) → Tells n → Fine Misses Nothing (arrive.arrive K from (world.read_note ks n)) nothing
-      note_misses from ks n t = note_read (λ z. Unit {0}) (λ h j. j ≡ i → ⊥) (λ j. j ≡ i → ⊥) word v Misses under gifts (λ ks. Nothing) brings from ks n t (λ e D m g c k. viewed m g c k)
+      note_misses from ks n t = note_read (λ z. Unit {0}) (λ h j. j ≡ i → ⊥) (λ j. j ≡ i → ⊥) word v Misses misses_under gifts (λ ks. Nothing) brings from ks n t (λ e D m g c k. viewed m g c k)
 
     -- ---- what is put then
 
@@ -248,14 +247,14 @@ module _ (i : ℕ) where
         outbox = tt;
       }
 
-      ready : i < length w.drawn → Sound Misses (readied w s)
+      ready : WasDrawn w.drawn i → Sound Misses (readied w s)
       unfolding readied
       ready l = record { parts = here; more = l }
 
       sound_out : (r t : Vat Name) (d : Done Name (Unit {0})) → Ends Misses (nothing {A = Unit {0}}) r d → d ≡ Gives tt t → AllOf (PutOk Missed) t.outbox
       sound_out r t d h e = let one : Ends Misses (nothing {A = Unit {0}}) r (Gives tt t) = rw e at h in let sound = one.1 in let parts = sound.parts in parts.outbox
 
-      missed : (t : Vat Name) (from : ℕ) (n : Note Name) → i < length w.drawn → Tells (draw_word script.key) n → Does script w v s s t (Receives from (read_note (names_of s) n)) → AllOf (PutOk Missed) t.outbox
+      missed : (t : Vat Name) (from : ℕ) (n : Note Name) → WasDrawn w.drawn i → Tells (draw_word script.key) n → Does script w v s s t (Receives from (read_note (names_of s) n)) → AllOf (PutOk Missed) t.outbox
       unfolding does names
       missed t from n l k d = sound_out (readied w s) t _ ((note_misses (draw_word script.key) from (names_of s) n k).after (readied w s) (ready l) tt) d.gives
 
@@ -346,7 +345,7 @@ module _ (script : Script) (w : World) (v : ℕ) (s q t : Vat Name) where
   unfolding names
   alone_asks i what alone d = all_no_asks i t.outbox (led_out _ ((alone_quiet (naming (draw_word script.key) v) what alone).after (readied w q)) d.gives)
 
-module _ (script : Script) (w : World) (v : ℕ) (s t : Vat Name) (i : ℕ) (made : i < length w.drawn) (from : ℕ) where
+module _ (script : Script) (w : World) (v : ℕ) (s t : Vat Name) (i : ℕ) (made : WasDrawn w.drawn i) (from : ℕ) where
   asked_quiet : (p j : ℕ) (n : Name) → Does script w v s s t (Receives from (read_note (names_of s) (Ask p j n))) → AllOf (λ (p : Put Name). IsNoAsk p.note) t.outbox
   unfolding does names read_note arrive.arrive
   asked_quiet p j n d = led_out script w v s s t _ ((quiet_arrive_ask (naming (draw_word script.key) v) from p j).after (readied w s)) d.gives

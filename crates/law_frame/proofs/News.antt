@@ -5,10 +5,9 @@ use Rattle.std.proofs.lemmas.Bool.{eqb-true, eq-eqb}
 use Rattle.std.proofs.lemmas.Option.{slice_get-map, slice_get_past}
 use Rattle.def_op.specs.Frames as op
 use Rattle.def_op.specs.Frames.{Described}
-use Rattle.def_machine.specs.Values.{Name, Root, Object, Promise, Answer, Gift, Sent, host_of, Local, Prom, Far}
+use Rattle.def_machine.specs.Values.{Name, Root, Object, Promise, Answer, Gift, Sent, host_of, Local, Prom, Far, word_of}
 use Rattle.def_machine.specs.State.{Note, Elsewhere, Vat}
 use Rattle.def_machine.specs.Arrive.{Incoming, Old, New}
-use Rattle.def_run.specs.Draws.{draw_word}
 use Rattle.def_run.specs.World as world
 use Rattle.def_run.specs.World.{Script, Link, World, link_at, has_name, is_old, read_name, known_after}
 use Rattle.law_reference.specs.Logs as wire
@@ -24,7 +23,7 @@ use Rattle.law_reference.specs.Notes.{IsBetween, LinkFits}
 use Rattle.law_reference.proofs.NotesRuns.{notes_name_ends}
 use Rattle.law_frame.specs.Tables.{Tables, known_number, import_number, import_numbers, tables_of, arrived}
 use Rattle.law_frame.specs.Hearing.{Heard, told, told_if, next, with_position, promise_heard, name_heard, outcome_heard, note_heard}
-use Rattle.law_frame.specs.Alike.{table_heard, names_heard, wire_name, as_told, by_numbers, by_names, draw_of}
+use Rattle.law_frame.specs.Alike.{table_heard, names_heard, wire_name, as_told, by_numbers, by_names}
 use Rattle.law_frame.specs.Asked.{told_in}
 use Rattle.law_frame.specs.News.{NewsIsReadAlike}
 use Rattle.law_frame.proofs.Exported.{exports_in}
@@ -138,7 +137,7 @@ module _ (script : Script) (w : World) (v u : ℕ) (s : Vat Name) (l : Link) (at
 
   -- what is heard for that description is what is read for the name
   abbrev Alike : Described → Type 0
-  Alike d = (x : Incoming Local Wired) × (is : List Local) × (k : ℕ) × (name_heard (draw_of w.drawn) u v T d T.imports (length s.known) ≡ Some (record { read = x; imports = is; known = k })) × (incoming Reads Wires x ≡ incoming Is (λ y. y) (read_name Names n))
+  Alike d = (x : Incoming Local Wired) × (is : List Local) × (k : ℕ) × (name_heard u v T d T.imports (length s.known) ≡ Some (record { read = x; imports = is; known = k })) × (incoming Reads Wires x ≡ incoming Is (λ y. y) (read_name Names n))
 
   -- a name that is known
   old_alike : is_old Names n ≡ true → IsAmong n Names → incoming Reads Wires (Old (known_number Names n)) ≡ incoming Is (λ y. y) (read_name Names n)
@@ -252,33 +251,33 @@ module _ (script : Script) (w : World) (v u : ℕ) (s : Vat Name) (l : Link) (at
   -- ---- the whole note
 
   by_parts : (o : Option (Heard (Incoming Local Wired))) (x : Incoming Local Wired) (is : List Local) (k : ℕ) → o ≡ Some (record { read = x; imports = is; known = k })
-      → option_map (λ h. maps.note (incoming Reads Wires) h.read) (next (λ y. outcome_heard (draw_of w.drawn) u v T y (op.Elsewhere c)) o) ≡ Some (Elsewhere (incoming Reads Wires x) c)
+      → option_map (λ h. maps.note (incoming Reads Wires) h.read) (next (λ y. outcome_heard u v T y (op.Elsewhere c)) o) ≡ Some (Elsewhere (incoming Reads Wires x) c)
   unfolding next outcome_heard told
   by_parts o x is k e = rw e refl
 
-  described_is : (b : Bool) → has_name Asked n ≡ b → wire.described (draw_word script.key) w.links v u n ≡ wire.mine (draw_word script.key) w.links v u n b
+  described_is : (b : Bool) → has_name Asked n ≡ b → wire.described word_of w.links v u n ≡ wire.mine word_of w.links v u n b
   unfolding wire.described wire.questions
-  described_is b e = chosen (host_of n == v) (wire.mine (draw_word script.key) w.links v u n (has_name Asked n)) (wire.yours (draw_word script.key) w.links v u n (has_name (wire.questions (draw_word script.key) w.links v u) n)) (eq-eqb (host_of n) v host) ∙ ap (λ z. wire.mine (draw_word script.key) w.links v u n z) e
+  described_is b e = chosen (host_of n == v) (wire.mine word_of w.links v u n (has_name Asked n)) (wire.yours word_of w.links v u n (has_name (wire.questions word_of w.links v u) n)) (eq-eqb (host_of n) v host) ∙ ap (λ z. wire.mine word_of w.links v u n z) e
 
-  heard_alike : (d : Described) → wire.described (draw_word script.key) w.links v u n ≡ d → Alike d → by_numbers script w v u s (Elsewhere n c) ≡ by_names v s (Elsewhere n c)
+  heard_alike : (d : Described) → wire.described word_of w.links v u n ≡ d → Alike d → by_numbers script w v u s (Elsewhere n c) ≡ by_names v s (Elsewhere n c)
   unfolding by_numbers by_names note_heard wire.operation as_told world.read_note world.names_of
-  heard_alike d e a = by_parts (name_heard (draw_of w.drawn) u v T (wire.described (draw_word script.key) w.links v u n) T.imports (length s.known)) a.0 a.1 a.2 (ap (λ z. name_heard (draw_of w.drawn) u v T z T.imports (length s.known)) e ∙ a.3) ∙ ap (λ z. Some (Elsewhere z c)) a.4
+  heard_alike d e a = by_parts (name_heard u v T (wire.described word_of w.links v u n) T.imports (length s.known)) a.0 a.1 a.2 (ap (λ z. name_heard u v T z T.imports (length s.known)) e ∙ a.3) ∙ ap (λ z. Some (Elsewhere z c)) a.4
 
   -- ---- by what the receiver knows
 
   module _ (asks : IsAmong n Asked → IsAmong n Names) (arrives : IsAmong n Before → IsKnownIn Names n) (comes : IsAmong n Names → IsAmong n Asked ⊎ IsAmong n Before) where
-    mine_asked : wire.mine (draw_word script.key) w.links v u n true ≡ op.MyAnswer (wire.rank Asked n)
+    mine_asked : wire.mine word_of w.links v u n true ≡ op.MyAnswer (wire.rank Asked n)
     unfolding wire.mine wire.questions
     mine_asked = refl
 
-    mine_else : wire.mine (draw_word script.key) w.links v u n false ≡ wire.exported (draw_word script.key) w.links (wire.rank Exports n) n
+    mine_else : wire.mine word_of w.links v u n false ≡ wire.exported word_of w.links (wire.rank Exports n) n
     unfolding wire.mine wire.exports wire.questions
     mine_else = refl
 
     asked_case : is_old Names n ≡ true → has_name Asked n ≡ true → by_numbers script w v u s (Elsewhere n c) ≡ by_names v s (Elsewhere n c)
     asked_case o e = let q = has_among Asked n e in heard_alike (op.MyAnswer (wire.rank Asked n)) (described_is true e ∙ mine_asked) (asked_alike q o (asks q))
 
-    else_case : (d : Described) → wire.exported (draw_word script.key) w.links (wire.rank Exports n) n ≡ d → has_name Asked n ≡ false → Alike d → by_numbers script w v u s (Elsewhere n c) ≡ by_names v s (Elsewhere n c)
+    else_case : (d : Described) → wire.exported word_of w.links (wire.rank Exports n) n ≡ d → has_name Asked n ≡ false → Alike d → by_numbers script w v u s (Elsewhere n c) ≡ by_names v s (Elsewhere n c)
     else_case d i e a = heard_alike d (described_is false e ∙ mine_else ∙ i) a
 
     -- a name that is no object
@@ -295,7 +294,7 @@ module _ (script : Script) (w : World) (v u : ℕ) (s : Vat Name) (l : Link) (at
           unknown true f = absurd (no (comes (has_among Names n f)))
           unknown false f = refl
 
-      other_kind : wire.exported (draw_word script.key) w.links (wire.rank Exports n) n ≡ op.MyPromise (wire.rank Exports n) → by_numbers script w v u s (Elsewhere n c) ≡ by_names v s (Elsewhere n c)
+      other_kind : wire.exported word_of w.links (wire.rank Exports n) n ≡ op.MyPromise (wire.rank Exports n) → by_numbers script w v u s (Elsewhere n c) ≡ by_names v s (Elsewhere n c)
       other_kind i = on_bool (has_name Asked n) (λ e. asked_case (old ∙ among_has Names n (asks (has_among Asked n e))) e) (λ e. else_case (op.MyPromise (wire.rank Exports n)) i e (promise_either e (has_name Before n) refl))
 
 -- by the kind of the name

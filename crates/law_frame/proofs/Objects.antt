@@ -1,5 +1,6 @@
 -- Each object of another vat that a vat has in hand was told to it.
 use Rattle.std.proofs.Common.{◌≡◌, ℕ, Bool, true, false, List, [], ◌∷◌, refl, ◌⊎◌, inl, inr, ◌==◌}
+use Rattle.def_machine.specs.Values as values
 use Rattle.def_machine.specs.Values.{Value, Null, Flag, Number, Letter, Text, Prim, Broken, Items, Ref, Name, Root, Object, Promise, Answer, Gift, Sent, Spot, Own, Foreign, NoObject, Naming, naming, name_of, mail_of, answer_of, spot_of, host_of}
 use Rattle.def_machine.specs.State.{Binding, Message, See, Passed, Passeds, Plain, AGift, Many, NoMore, More, Note, Deliver, Open, Ask, SettledTo, Elsewhere, Shorten, Views, Vat, Done, Gives, Throws, Ejects, Stops, give, come, mail, alter, begun}
 use Rattle.def_machine.specs.Scopes.{any_guard}
@@ -190,8 +191,8 @@ module _ (v : ℕ) (T : Name → Type 0) where
 
     view_handed : {C : Fact Name} (n : Name) → Gets Hands C (IsName n) → (c : ℕ) → Gets Hands C (IsVat c) → Fine Hands C (arrive.view_there K n c) nothing
     unfolding arrive.view_there
-    view_handed n g c k = fine_less Hands nothing (fine_look Hands _) (λ u. fine_less Hands nothing (fine_look Hands _) (λ h. fine_less Hands IsDraw (fine_draw K Hands under) (λ i. fine_then Hands nothing (fine_out K Hands under h (Shorten n c i) (record { at = λ s d. (g.at s d, tt) }) (record { at = λ s d. tt }))
-        (fine_bind Hands IsName (fine_gift_there K Hands under gives u h c i (record { at = λ s d. tt }) (record { at = λ s d. tt })) (λ x. seen_handed n x (record { at = λ s d. g.at s d.0 }) (record { at = λ s d. d.1 }))))))
+    view_handed n g c k = fine_less Hands nothing (fine_look Hands _) (λ u. fine_less Hands nothing (fine_look Hands _) (λ h. fine_less Hands IsDraw (fine_draw K Hands under) (λ i. fine_then Hands nothing (fine_out K Hands under h (Shorten n c (values.under h i)) (record { at = λ s d. (g.at s d, tt) }) (record { at = λ s d. tt }))
+        (fine_bind Hands IsName (fine_gift_there K Hands under gives u h c (values.under h i) (record { at = λ s d. tt }) (record { at = λ s d. tt })) (λ x. seen_handed n x (record { at = λ s d. g.at s d.0 }) (record { at = λ s d. d.1 }))))))
 
     -- ---- arrival
 

@@ -5,14 +5,14 @@ use Rattle.std.proofs.lemmas.Bool.{eqb-true, eq-eqb}
 use Rattle.std.proofs.lemmas.Option.{slice_get-map, slice_get_past}
 use Rattle.def_op.specs.Frames as op
 use Rattle.def_op.specs.Frames.{Described, Members}
-use Rattle.def_machine.specs.Values.{Value, Null, Flag, Number, Letter, Text, Prim, Broken, Items, Ref, Name, Root, Object, Promise, Answer, Gift, Sent, host_of, Local, Obj, Prom, Far}
+use Rattle.def_machine.specs.Values.{Value, Null, Flag, Number, Letter, Text, Prim, Broken, Items, Ref, Name, Root, Object, Promise, Answer, Gift, Sent, host_of, Local, Obj, Prom, Far, key, word_of, provider_of}
 use Rattle.def_machine.specs.State.{Known, Passed, Passeds, Plain, AGift, Many, NoMore, More, Note, Delivery, Deliver, Open, Ask, SettledTo, Elsewhere, Shorten, GiftEntry, is_gift, Vat}
 use Rattle.def_machine.specs.Arrive.{Incoming, Old, New, gift_at}
-use Rattle.def_run.specs.Draws.{draw_word}
 use Rattle.def_run.specs.World as world
 use Rattle.def_run.specs.World.{Script, Link, World, link_at, has_name, is_old, read_name, known_after}
 use Rattle.law_reference.specs.Logs as wire
 use Rattle.law_name.specs.Names.{IsAmong, IsKnownIn, names_in}
+use Rattle.law_machine.proofs.KeyLaws.{key_of}
 use Rattle.law_name.proofs.SameNames.{has_among, among_has}
 use Rattle.law_name.proofs.Among.{among_or, length_end}
 use Rattle.law_renaming.specs.Maps as maps
@@ -22,7 +22,7 @@ use Rattle.law_renaming.specs.Stands.{Table, Found, Is, found, prom_found, far_f
 use Rattle.law_reference.specs.Exports.{object_of, exported_at}
 use Rattle.law_frame.specs.Tables.{Tables, known_number, own_number, import_number, import_numbers, tables_of, arrived}
 use Rattle.law_frame.specs.Hearing.{Heard, Hearing, told, told_if, next, with_position, promise_heard, name_heard, fact_heard, reference_heard, passed_heard, all_heard, gift_heard, outcome_heard, message_heard, note_heard}
-use Rattle.law_frame.specs.Alike.{wire_name, draw_of, numbered_gift, names_heard, as_told, from_peer, message_of}
+use Rattle.law_frame.specs.Alike.{wire_name, numbered_gift, names_heard, as_told, from_peer, message_of}
 use Rattle.law_frame.specs.Asked.{told_value, told_passed, told_all, ListlessValue, Listless, AllListless}
 use Rattle.law_reference.specs.GiftPassing.{PassesFrom, AllPassFrom}
 use Rattle.law_frame.proofs.Told.{known_up}
@@ -169,9 +169,6 @@ module _ (script : Script) (w : World) (v u : ℕ) (s : Vat Name) (N : Note Name
   abbrev pub Wires : Wired → Name
   Wires = wire_name w v u N
 
-  abbrev pub Draws : ℕ → ℕ
-  Draws = draw_of w.drawn
-
   -- the numbers of what was exported
   abbrev pub I : List Name → List Local
   I E = import_numbers v F zero E
@@ -201,7 +198,7 @@ module _ (script : Script) (w : World) (v u : ℕ) (s : Vat Name) (N : Note Name
 
   -- what is heard for that description is what is read for the name
   abbrev pub NameAlike : List Name → List Name → Name → Described → Type 0
-  NameAlike ks E n d = (x : Incoming Local Wired) × (name_heard Draws u v T d (I E) (length ks) ≡ Hears x (I (wire.with_export v Asked n E)) (length (known_after ks n))) × (incoming Reads Wires x ≡ incoming Is (λ y. y) (read_name ks n))
+  NameAlike ks E n d = (x : Incoming Local Wired) × (name_heard u v T d (I E) (length ks) ≡ Hears x (I (wire.with_export v Asked n E)) (length (known_after ks n))) × (incoming Reads Wires x ≡ incoming Is (λ y. y) (read_name ks n))
 
   -- how a name that is no object is read
   record Eventually (n : Name) : Type 0 where
@@ -209,7 +206,7 @@ module _ (script : Script) (w : World) (v u : ℕ) (s : Vat Name) (N : Note Name
     known : (ks : List Name) → IsKnownIn ks n → IsAmong n ks
     imported : (q : ℕ) → import_number v F q n ≡ known_number F n
     owned : own_number Names n ≡ known_number Names n
-    described : (p : ℕ) → wire.exported (draw_word script.key) w.links p n ≡ op.MyPromise p
+    described : (p : ℕ) → wire.exported word_of w.links p n ≡ op.MyPromise p
 
   kind : (n : Name) → Eventually n ⊎ ((c : ℕ) × (j : ℕ) × (n ≡ Object c j))
   unfolding is_old import_number own_number wire.exported
@@ -251,7 +248,7 @@ module _ (script : Script) (w : World) (v u : ℕ) (s : Vat Name) (N : Note Name
   old_alike ks n l e f = ap (λ z. Old z) e ∙ sym (ap (λ z. incoming Is (λ y. y) z) (read_old ks n f))
 
   -- a name that is known and exported already, or of another vat
-  stays : (ks E : List Name) (n : Name) (l : Local) (d : Described) → name_heard Draws u v T d (I E) (length ks) ≡ Hears (Old l) (I E) (length ks) → Reads l ≡ Is n → is_old ks n ≡ true → wire.with_export v Asked n E ≡ E → NameAlike ks E n d
+  stays : (ks E : List Name) (n : Name) (l : Local) (d : Described) → name_heard u v T d (I E) (length ks) ≡ Hears (Old l) (I E) (length ks) → Reads l ≡ Is n → is_old ks n ≡ true → wire.with_export v Asked n E ≡ E → NameAlike ks E n d
   stays ks E n l d h e f g = (Old l, h ∙ hears_same (Old l) (I E) (I (wire.with_export v Asked n E)) (length ks) (length (known_after ks n)) (ap I (sym g)) (ap length (sym (after_old ks n f))), old_alike ks n l e f)
 
   -- ---- a name of the receiver
@@ -270,28 +267,28 @@ module _ (script : Script) (w : World) (v u : ℕ) (s : Vat Name) (N : Note Name
   up : (ks : List Name) → ((m : Name) → IsAmong m Names → IsAmong m ks) → (n : Name) → IsKnownIn Names n → IsKnownIn ks n
   up ks f n k = known_up Names ks f n k
 
-  exported_heard : (ks E : List Name) (n : Name) → IsAmong n Given → name_heard Draws u v T (op.YourExport (wire.rank Given n)) (I E) (length ks) ≡ Hears (Old (own_number Names n)) (I E) (length ks)
+  exported_heard : (ks E : List Name) (n : Name) → IsAmong n Given → name_heard u v T (op.YourExport (wire.rank Given n)) (I E) (length ks) ≡ Hears (Old (own_number Names n)) (I E) (length ks)
   unfolding name_heard tables_of
   exported_heard ks E n a = told_some (slice_get (map (own_number Names) Given) (wire.rank Given n)) (own_number Names n) (I E) (length ks) (slice_get-map (own_number Names) Given (wire.rank Given n) ∙ ap (λ o. option_map (own_number Names) o) (get_rank Given n a))
 
-  answer_heard : Before → (ks E : List Name) (n : Name) → IsAmong n Answers → name_heard Draws u v T (op.YourAnswer (wire.rank Put n)) (I E) (length ks) ≡ Hears (Old (known_number Names n)) (I E) (length ks)
+  answer_heard : Before → (ks E : List Name) (n : Name) → IsAmong n Answers → name_heard u v T (op.YourAnswer (wire.rank Put n)) (I E) (length ks) ≡ Hears (Old (known_number Names n)) (I E) (length ks)
   unfolding name_heard tables_of
   answer_heard b ks E n a = let same : wire.rank Put n ≡ wire.rank Answers n = ap (λ qs. wire.rank qs n) b.asked.1 ∙ rank_front Answers b.asked.0 n a in
       told_some (slice_get (map (known_number Names) Answers) (wire.rank Put n)) (known_number Names n) (I E) (length ks) (ap (λ r. slice_get (map (known_number Names) Answers) r) same ∙ slice_get-map (known_number Names) Answers (wire.rank Answers n) ∙ ap (λ o. option_map (known_number Names) o) (get_rank Answers n a))
 
-  yours_is : (n : Name) (b : Bool) → host_of n ≡ u → has_name Put n ≡ b → wire.described (draw_word script.key) w.links v u n ≡ wire.yours (draw_word script.key) w.links v u n b
+  yours_is : (n : Name) (b : Bool) → host_of n ≡ u → has_name Put n ≡ b → wire.described word_of w.links v u n ≡ wire.yours word_of w.links v u n b
   unfolding wire.described wire.questions
-  yours_is n b e f = unchosen (host_of n == v) (wire.mine (draw_word script.key) w.links v u n (has_name Asked n)) (wire.yours (draw_word script.key) w.links v u n (has_name Put n)) (on_bool (host_of n == v) (λ g. absurd (apart n e (eqb-true (host_of n) v g))) (λ g. g)) ∙ ap (λ z. wire.yours (draw_word script.key) w.links v u n z) f
+  yours_is n b e f = unchosen (host_of n == v) (wire.mine word_of w.links v u n (has_name Asked n)) (wire.yours word_of w.links v u n (has_name Put n)) (on_bool (host_of n == v) (λ g. absurd (apart n e (eqb-true (host_of n) v g))) (λ g. g)) ∙ ap (λ z. wire.yours word_of w.links v u n z) f
 
-  yours_asked : (n : Name) → wire.yours (draw_word script.key) w.links v u n true ≡ op.YourAnswer (wire.rank Put n)
+  yours_asked : (n : Name) → wire.yours word_of w.links v u n true ≡ op.YourAnswer (wire.rank Put n)
   unfolding wire.yours wire.questions
   yours_asked n = refl
 
-  yours_else : (n : Name) → wire.yours (draw_word script.key) w.links v u n false ≡ op.YourExport (wire.rank Given n)
+  yours_else : (n : Name) → wire.yours word_of w.links v u n false ≡ op.YourExport (wire.rank Given n)
   unfolding wire.yours wire.exports wire.questions
   yours_else n = refl
 
-  receiver_alike : Before → (ks E : List Name) → ((m : Name) → IsAmong m Names → IsAmong m ks) → (n : Name) → host_of n ≡ u → Yours n → NameAlike ks E n (wire.described (draw_word script.key) w.links v u n)
+  receiver_alike : Before → (ks E : List Name) → ((m : Name) → IsAmong m Names → IsAmong m ks) → (n : Name) → host_of n ≡ u → Yours n → NameAlike ks E n (wire.described word_of w.links v u n)
   receiver_alike b ks E f n e (inl a) = let put : has_name Put n ≡ true = among_has Put n (starts_among Answers Put b.asked n a) in let known = b.heard n a in
       subst (λ d. NameAlike ks E n d) (sym (yours_is n true e put ∙ yours_asked n)) (stays ks E n (known_number Names n) (op.YourAnswer (wire.rank Put n)) (answer_heard b ks E n a) (name_found b.first n known) (known_old ks n (up ks f n (among_known Names n known))) (export_other v Asked n E (apart n e)))
   receiver_alike b ks E f n e (inr a) = let known = b.gave n a.1 in
@@ -299,19 +296,19 @@ module _ (script : Script) (w : World) (v u : ℕ) (s : Vat Name) (N : Note Name
 
   -- ---- a name of the sender
 
-  mine_is : (n : Name) (b : Bool) → host_of n ≡ v → has_name Asked n ≡ b → wire.described (draw_word script.key) w.links v u n ≡ wire.mine (draw_word script.key) w.links v u n b
+  mine_is : (n : Name) (b : Bool) → host_of n ≡ v → has_name Asked n ≡ b → wire.described word_of w.links v u n ≡ wire.mine word_of w.links v u n b
   unfolding wire.described wire.questions
-  mine_is n b e f = chosen (host_of n == v) (wire.mine (draw_word script.key) w.links v u n (has_name Asked n)) (wire.yours (draw_word script.key) w.links v u n (has_name Put n)) (eq-eqb (host_of n) v e) ∙ ap (λ z. wire.mine (draw_word script.key) w.links v u n z) f
+  mine_is n b e f = chosen (host_of n == v) (wire.mine word_of w.links v u n (has_name Asked n)) (wire.yours word_of w.links v u n (has_name Put n)) (eq-eqb (host_of n) v e) ∙ ap (λ z. wire.mine word_of w.links v u n z) f
 
-  mine_asked : (n : Name) → wire.mine (draw_word script.key) w.links v u n true ≡ op.MyAnswer (wire.rank Asked n)
+  mine_asked : (n : Name) → wire.mine word_of w.links v u n true ≡ op.MyAnswer (wire.rank Asked n)
   unfolding wire.mine wire.questions
   mine_asked n = refl
 
-  mine_else : (n : Name) → wire.mine (draw_word script.key) w.links v u n false ≡ wire.exported (draw_word script.key) w.links (wire.rank Exports n) n
+  mine_else : (n : Name) → wire.mine word_of w.links v u n false ≡ wire.exported word_of w.links (wire.rank Exports n) n
   unfolding wire.mine wire.exports wire.questions
   mine_else n = refl
 
-  question_heard : (ks E : List Name) (n : Name) → IsAmong n Asked → name_heard Draws u v T (op.MyAnswer (wire.rank Asked n)) (I E) (length ks) ≡ Hears (Old (known_number Names n)) (I E) (length ks)
+  question_heard : (ks E : List Name) (n : Name) → IsAmong n Asked → name_heard u v T (op.MyAnswer (wire.rank Asked n)) (I E) (length ks) ≡ Hears (Old (known_number Names n)) (I E) (length ks)
   unfolding name_heard tables_of
   question_heard ks E n a = told_some (slice_get (map (known_number Names) Asked) (wire.rank Asked n)) (known_number Names n) (I E) (length ks) (slice_get-map (known_number Names) Asked (wire.rank Asked n) ∙ ap (λ o. option_map (known_number Names) o) (get_rank Asked n a))
 
@@ -403,23 +400,23 @@ module _ (script : Script) (w : World) (v u : ℕ) (s : Vat Name) (N : Note Name
         old_alike ks n (Far v P) (export_found P j (there q ∙ ap Some same) ∙ ap Is (sym same)) is_object,
       )
 
-    exported_object : (c j p : ℕ) → n ≡ Object c j → wire.exported (draw_word script.key) w.links p n ≡ op.MyExport p
+    exported_object : (c j p : ℕ) → n ≡ Object c j → wire.exported word_of w.links p n ≡ op.MyExport p
     unfolding wire.exported
     exported_object c j p e = rw e refl
 
-    else_alike : Eventually n ⊎ ((c : ℕ) × (j : ℕ) × (n ≡ Object c j)) → has_name Asked n ≡ false → NameAlike ks E n (wire.exported (draw_word script.key) w.links (wire.rank Exports n) n)
+    else_alike : Eventually n ⊎ ((c : ℕ) × (j : ℕ) × (n ≡ Object c j)) → has_name Asked n ≡ false → NameAlike ks E n (wire.exported word_of w.links (wire.rank Exports n) n)
     unfolding host_of
     else_alike (inl ev) q = subst (λ d. NameAlike ks E n d) (sym (ev.described (wire.rank Exports n))) (promise_alike ev q (has_name E n) refl)
     else_alike (inr o) q = let same : n ≡ Object v o.1 = o.2 ∙ ap (λ z. Object z o.1) (sym (ap host_of o.2) ∙ host) in subst (λ d. NameAlike ks E n d) (sym (exported_object o.0 o.1 (wire.rank Exports n) o.2)) (object_alike o.1 same q)
 
-    sender_alike : NameAlike ks E n (wire.described (draw_word script.key) w.links v u n)
+    sender_alike : NameAlike ks E n (wire.described word_of w.links v u n)
     sender_alike = on_bool (has_name Asked n)
         (λ e. subst (λ d. NameAlike ks E n d) (sym (mine_is n true host e ∙ mine_asked n)) (asked_alike (has_among Asked n e)))
         (λ e. subst (λ d. NameAlike ks E n d) (sym (mine_is n false host e ∙ mine_else n)) (else_alike (kind n) e))
 
   -- ---- a name of either
 
-  pub name_alike : Before → (ks E : List Name) → Stage ks E → (n : Name) → Ends n → Starts (known_after ks n) F → Starts (wire.with_export v Asked n E) Exports → NameAlike ks E n (wire.described (draw_word script.key) w.links v u n)
+  pub name_alike : Before → (ks E : List Name) → Stage ks E → (n : Name) → Ends n → Starts (known_after ks n) F → Starts (wire.with_export v Asked n E) Exports → NameAlike ks E n (wire.described word_of w.links v u n)
   name_alike b ks E st n (inl host) later ahead = sender_alike b ks E st n host later ahead
   name_alike b ks E st n (inr h) later ahead = receiver_alike b ks E st.base n h.0 h.1
 
@@ -459,7 +456,7 @@ module _ (script : Script) (w : World) (v u : ℕ) (s : Vat Name) (N : Note Name
 
   -- ---- what passes
 
-  exported_naming : (p : ℕ) (n : Name) → IsNaming (wire.exported (draw_word script.key) w.links p n)
+  exported_naming : (p : ℕ) (n : Name) → IsNaming (wire.exported word_of w.links p n)
   unfolding wire.exported
   exported_naming p (Object c j) = tt
   exported_naming p (Root c) = tt
@@ -468,12 +465,12 @@ module _ (script : Script) (w : World) (v u : ℕ) (s : Vat Name) (N : Note Name
   exported_naming p (Gift c i) = tt
   exported_naming p (Sent m) = tt
 
-  mine_naming : (n : Name) (b : Bool) → IsNaming (wire.mine (draw_word script.key) w.links v u n b)
+  mine_naming : (n : Name) (b : Bool) → IsNaming (wire.mine word_of w.links v u n b)
   unfolding wire.mine
   mine_naming n true = tt
   mine_naming n false = exported_naming _ n
 
-  yours_naming : (n : Name) (b : Bool) → IsNaming (wire.yours (draw_word script.key) w.links v u n b)
+  yours_naming : (n : Name) (b : Bool) → IsNaming (wire.yours word_of w.links v u n b)
   unfolding wire.yours
   yours_naming n true = tt
   yours_naming n false = tt
@@ -482,11 +479,11 @@ module _ (script : Script) (w : World) (v u : ℕ) (s : Vat Name) (N : Note Name
   naming_or true x y h k = h
   naming_or false x y h k = k
 
-  described_naming : (n : Name) → IsNaming (wire.described (draw_word script.key) w.links v u n)
+  described_naming : (n : Name) → IsNaming (wire.described word_of w.links v u n)
   unfolding wire.described
   described_naming n = naming_or (host_of n == v) _ _ (mine_naming n _) (yours_naming n _)
 
-  passed_naming : (d : Described) (is : List Local) (k : ℕ) → IsNaming d → passed_heard Draws u v T d is k ≡ next (λ x. told (reference_heard Draws u v T x)) (name_heard Draws u v T d is k)
+  passed_naming : (d : Described) (is : List Local) (k : ℕ) → IsNaming d → passed_heard u v T d is k ≡ next (λ x. told (reference_heard u v T x)) (name_heard u v T d is k)
   unfolding passed_heard all_heard
   passed_naming (op.MyExport p) is k h = refl
   passed_naming (op.MyPromise p) is k h = refl
@@ -500,22 +497,22 @@ module _ (script : Script) (w : World) (v u : ℕ) (s : Vat Name) (N : Note Name
 
   -- what is heard for what passes is what is read for it
   abbrev PassedAlike : List Name → List Name → Passed Name → Type 0
-  PassedAlike ks E y = (z : Passed (Incoming Local Wired)) × (passed_heard Draws u v T (wire.described_passed (draw_word script.key) w.links v u y) (I E) (length ks) ≡ Gets z (I (wire.with_passed v Asked y E)) (length (world.read_passed y ks).known))
+  PassedAlike ks E y = (z : Passed (Incoming Local Wired)) × (passed_heard u v T (wire.described_passed word_of w.links v u y) (I E) (length ks) ≡ Gets z (I (wire.with_passed v Asked y E)) (length (world.read_passed y ks).known))
       × (maps.passed (incoming Reads Wires) z ≡ maps.passed (incoming Is (λ x. x)) (world.read_passed y ks).read)
 
   abbrev AllAlike : List Name → List Name → Passeds Name → Type 0
-  AllAlike ks E ys = (zs : Passeds (Incoming Local Wired)) × (all_heard Draws u v T (wire.described_all (draw_word script.key) w.links v u ys) (I E) (length ks) ≡ Gets zs (I (wire.with_all v Asked ys E)) (length (world.read_all ys ks).known))
+  AllAlike ks E ys = (zs : Passeds (Incoming Local Wired)) × (all_heard u v T (wire.described_all word_of w.links v u ys) (I E) (length ks) ≡ Gets zs (I (wire.with_all v Asked ys E)) (length (world.read_all ys ks).known))
       × (maps.passeds (incoming Reads Wires) zs ≡ maps.passeds (incoming Is (λ x. x)) (world.read_all ys ks).read)
 
   either_end : (n : Name) → Ends n → (host_of n ≡ v) ⊎ (host_of n ≡ u)
   either_end n (inl e) = inl e
   either_end n (inr e) = inr e.0
 
-  ref_alike : (ks E : List Name) (n : Name) → NameAlike ks E n (wire.described (draw_word script.key) w.links v u n) → PassedAlike ks E (Plain (Ref n))
+  ref_alike : (ks E : List Name) (n : Name) → NameAlike ks E n (wire.described word_of w.links v u n) → PassedAlike ks E (Plain (Ref n))
   unfolding wire.described_passed wire.described_all wire.described_value wire.with_passed wire.with_all wire.with_value world.read_passed world.read_all world.read_value world.plain_read reference_heard told
-  ref_alike ks E n a = let d = wire.described (draw_word script.key) w.links v u n in (
+  ref_alike ks E n a = let d = wire.described word_of w.links v u n in (
     Plain (Ref a.0),
-    passed_naming d (I E) (length ks) (described_naming n) ∙ next_is (name_heard Draws u v T d (I E) (length ks)) (λ x. told (reference_heard Draws u v T x)) a.0 (I (wire.with_export v Asked n E)) (length (known_after ks n)) a.1,
+    passed_naming d (I E) (length ks) (described_naming n) ∙ next_is (name_heard u v T d (I E) (length ks)) (λ x. told (reference_heard u v T x)) a.0 (I (wire.with_export v Asked n E)) (length (known_after ks n)) a.1,
     ap (λ x. Plain (Ref x)) a.2,
   )
 
@@ -531,18 +528,18 @@ module _ (script : Script) (w : World) (v u : ℕ) (s : Vat Name) (N : Note Name
   value_alike b ks E st (Broken p) q f later ahead = ((Plain (Broken p), refl, refl), st)
   value_alike b ks E st (Items k) q f later ahead = absurd q
 
-  module _ (P : ℕ → ℕ) (words : (i : ℕ) → i < length w.drawn → Draws (draw_word script.key i) ≡ i) where
-    gift_alike : (ks E : List Name) → Stage ks E → (h i : ℕ) → i < length w.drawn → (h ≡ v → ⊥) → Starts (ks ++ Gift h i ∷ []) F → PassedAlike ks E (AGift h i) × Stage (ks ++ Gift h i ∷ []) E
+  module _ (P : ℕ → ℕ) where
+    gift_alike : (ks E : List Name) → Stage ks E → (h i : ℕ) → key v (word_of i) ≡ i → (h ≡ v → ⊥) → Starts (ks ++ Gift h i ∷ []) F → PassedAlike ks E (AGift h i) × Stage (ks ++ Gift h i ∷ []) E
     unfolding wire.described_passed wire.described_all wire.with_passed wire.with_all world.read_passed world.read_all passed_heard all_heard told
     gift_alike ks E st h i l f later = (
-      (AGift h (Draws (draw_word script.key i)), gets_same (AGift h (Draws (draw_word script.key i))) (I E) (I E) (suc (length ks)) (length (ks ++ Gift h i ∷ [])) refl (sym (length_end ks (Gift h i))), ap (λ j. AGift h j) (words i l)),
+      (AGift h (key v (word_of i)), gets_same (AGift h (key v (word_of i))) (I E) (I E) (suc (length ks)) (length (ks ++ Gift h i ∷ [])) refl (sym (length_end ks (Gift h i))), ap (λ j. AGift h j) l),
       stage_gift ks E st h i f later,
     )
 
-    more_heard : (o : Option (Heard (Passed (Incoming Local Wired)))) (ds : op.Members) (z : Passed (Incoming Local Wired)) (is : List Local) (k : ℕ) → o ≡ Gets z is k → (zs : Passeds (Incoming Local Wired)) (js : List Local) (j : ℕ) → all_heard Draws u v T ds is k ≡ Gets zs js j
-        → next (λ y is ks. next (λ ys. told (More y ys)) (all_heard Draws u v T ds is ks)) o ≡ Gets (More z zs) js j
+    more_heard : (o : Option (Heard (Passed (Incoming Local Wired)))) (ds : op.Members) (z : Passed (Incoming Local Wired)) (is : List Local) (k : ℕ) → o ≡ Gets z is k → (zs : Passeds (Incoming Local Wired)) (js : List Local) (j : ℕ) → all_heard u v T ds is k ≡ Gets zs js j
+        → next (λ y is ks. next (λ ys. told (More y ys)) (all_heard u v T ds is ks)) o ≡ Gets (More z zs) js j
     unfolding told
-    more_heard o ds z is k e zs js j f = next_is o (λ y is ks. next (λ ys. told (More y ys)) (all_heard Draws u v T ds is ks)) z is k e ∙ next_is (all_heard Draws u v T ds is k) (λ ys. told (More z ys)) zs js j f
+    more_heard o ds z is k e zs js j f = next_is o (λ y is ks. next (λ ys. told (More y ys)) (all_heard u v T ds is ks)) z is k e ∙ next_is (all_heard u v T ds is k) (λ ys. told (More z ys)) zs js j f
 
     more_same : (x y : Passed (Incoming Found Name)) (xs ys : Passeds (Incoming Found Name)) → x ≡ y → xs ≡ ys → More x xs ≡ More y ys
     more_same x y xs ys e f = rw (e, f) refl
@@ -550,20 +547,20 @@ module _ (script : Script) (w : World) (v u : ℕ) (s : Vat Name) (N : Note Name
     mutual
       unfolding told_passed told_all wire.described_passed wire.described_all wire.with_passed wire.with_all world.read_passed world.read_all world.many_read world.more_read passed_heard all_heard told
 
-      passed_alike : Before → (ks E : List Name) → Stage ks E → (y : Passed Name) → Listless y → PassesFrom P (length w.drawn) v u y → ((n : Name) → IsAmong n (told_passed y) → Ends n) → Starts (world.read_passed y ks).known F → Starts (wire.with_passed v Asked y E) Exports
+      passed_alike : Before → (ks E : List Name) → Stage ks E → (y : Passed Name) → Listless y → PassesFrom P w.drawn v u y → ((n : Name) → IsAmong n (told_passed y) → Ends n) → Starts (world.read_passed y ks).known F → Starts (wire.with_passed v Asked y E) Exports
           → PassedAlike ks E y × Stage (world.read_passed y ks).known (wire.with_passed v Asked y E)
       passed_alike b ks E st (Plain y) q g f later ahead = value_alike b ks E st y q f later ahead
-      passed_alike b ks E st (AGift h i) q g f later ahead = gift_alike ks E st h i g.0.0 g.1 later
-      passed_alike b ks E st (Many ys) q g f later ahead = let all = all_alike b ks E st ys q g f later ahead in let a = all.0 in let ds = wire.described_all (draw_word script.key) w.links v u ys in
-          ((Many a.0, next_is (all_heard Draws u v T ds (I E) (length ks)) (λ zs. told (Many zs)) a.0 (I (wire.with_all v Asked ys E)) (length (world.read_all ys ks).known) a.1, ap Many a.2), all.1)
+      passed_alike b ks E st (AGift h i) q g f later ahead = gift_alike ks E st h i (key_of v i g.0.2) g.1 later
+      passed_alike b ks E st (Many ys) q g f later ahead = let all = all_alike b ks E st ys q g f later ahead in let a = all.0 in let ds = wire.described_all word_of w.links v u ys in
+          ((Many a.0, next_is (all_heard u v T ds (I E) (length ks)) (λ zs. told (Many zs)) a.0 (I (wire.with_all v Asked ys E)) (length (world.read_all ys ks).known) a.1, ap Many a.2), all.1)
 
-      all_alike : Before → (ks E : List Name) → Stage ks E → (ys : Passeds Name) → AllListless ys → AllPassFrom P (length w.drawn) v u ys → ((n : Name) → IsAmong n (told_all ys) → Ends n) → Starts (world.read_all ys ks).known F → Starts (wire.with_all v Asked ys E) Exports
+      all_alike : Before → (ks E : List Name) → Stage ks E → (ys : Passeds Name) → AllListless ys → AllPassFrom P w.drawn v u ys → ((n : Name) → IsAmong n (told_all ys) → Ends n) → Starts (world.read_all ys ks).known F → Starts (wire.with_all v Asked ys E) Exports
           → AllAlike ks E ys × Stage (world.read_all ys ks).known (wire.with_all v Asked ys E)
       all_alike b ks E st NoMore q g f later ahead = ((NoMore, refl, refl), st)
       all_alike b ks E st (More y ys) q g f later ahead = let k1 = (world.read_passed y ks).known in let E1 = wire.with_passed v Asked y E in
           let one = passed_alike b ks E st y q.0 g.0 (λ n a. f n (among_left n (told_passed y) (told_all ys) a)) (starts_on k1 (world.read_all ys k1).known F (all_known ys k1) later) (starts_on E1 (wire.with_all v Asked ys E1) Exports (all_starts v Asked ys E1) ahead) in
           let rest = all_alike b k1 E1 one.1 ys q.1 g.1 (λ n a. f n (among_right n (told_passed y) (told_all ys) a)) later ahead in
-          ((More one.0.0 rest.0.0, more_heard (passed_heard Draws u v T (wire.described_passed (draw_word script.key) w.links v u y) (I E) (length ks)) (wire.described_all (draw_word script.key) w.links v u ys) one.0.0 (I E1) (length k1) one.0.1 rest.0.0 (I (wire.with_all v Asked ys E1)) (length (world.read_all ys k1).known) rest.0.1, more_same (maps.passed (incoming Reads Wires) one.0.0) _ (maps.passeds (incoming Reads Wires) rest.0.0) _ one.0.2 rest.0.2), rest.1)
+          ((More one.0.0 rest.0.0, more_heard (passed_heard u v T (wire.described_passed word_of w.links v u y) (I E) (length ks)) (wire.described_all word_of w.links v u ys) one.0.0 (I E1) (length k1) one.0.1 rest.0.0 (I (wire.with_all v Asked ys E1)) (length (world.read_all ys k1).known) rest.0.1, more_same (maps.passed (incoming Reads Wires) one.0.0) _ (maps.passeds (incoming Reads Wires) rest.0.0) _ one.0.2 rest.0.2), rest.1)
 
   -- ---- the whole note
 
@@ -604,11 +601,11 @@ module _ (script : Script) (w : World) (v u : ℕ) (s : Vat Name) (N : Note Name
 
   -- from the tables as they are
   abbrev Hear : Note Name → List Local → ℕ → Option (Heard (Note (Incoming Local Wired)))
-  Hear M = note_heard Draws u v T Gifts (wire.operation (draw_word script.key) w.links v u M)
+  Hear M = note_heard u v T Gifts (wire.operation word_of w.links v u M)
 
   -- what is heard for the note is what is read for it, and what is had of exports and names then is that of the note
   abbrev pub NoteAlike : Note Name → Type 0
-  NoteAlike M = (h : Heard (Note (Incoming Local Wired))) × (note_heard Draws u v T (map (numbered_gift Names) s.gifts) (wire.operation (draw_word script.key) w.links v u M) T.imports (length s.known) ≡ Some h) × (maps.note (incoming Reads Wires) h.read ≡ as_told v (maps.note (incoming Is (λ x. x)) (world.read_note (world.names_of s) M))) × (h.imports ≡ I (wire.with_note v Asked M Arrived)) × (h.known ≡ length (names_heard Names M))
+  NoteAlike M = (h : Heard (Note (Incoming Local Wired))) × (note_heard u v T (map (numbered_gift Names) s.gifts) (wire.operation word_of w.links v u M) T.imports (length s.known) ≡ Some h) × (maps.note (incoming Reads Wires) h.read ≡ as_told v (maps.note (incoming Is (λ x. x)) (world.read_note (world.names_of s) M))) × (h.imports ≡ I (wire.with_note v Asked M Arrived)) × (h.known ≡ length (names_heard Names M))
 
   -- what is known of a gift that is asked for
   pub record Asks (p i : ℕ) (n : Name) : Type 0 where
@@ -631,52 +628,52 @@ module _ (script : Script) (w : World) (v u : ℕ) (s : Vat Name) (N : Note Name
         two e g = rw (e, g) refl
 
     -- a name and nothing else is heard
-    about : (M : Note Name) (n : Name) (f : Incoming Local Wired → Hearing (Note (Incoming Local Wired))) (g : Incoming Local Wired → Note (Incoming Local Wired)) → ((is : List Local) (k : ℕ) → Hear M is k ≡ next f (name_heard Draws u v T (wire.described (draw_word script.key) w.links v u n) is k)) → ((x : Incoming Local Wired) (is : List Local) (k : ℕ) → f x is k ≡ Gets (g x) is k)
+    about : (M : Note Name) (n : Name) (f : Incoming Local Wired → Hearing (Note (Incoming Local Wired))) (g : Incoming Local Wired → Note (Incoming Local Wired)) → ((is : List Local) (k : ℕ) → Hear M is k ≡ next f (name_heard u v T (wire.described word_of w.links v u n) is k)) → ((x : Incoming Local Wired) (is : List Local) (k : ℕ) → f x is k ≡ Gets (g x) is k)
         → ((x : Incoming Local Wired) → incoming Reads Wires x ≡ incoming Is (λ y. y) (read_name Names n) → maps.note (incoming Reads Wires) (g x) ≡ as_told v (maps.note (incoming Is (λ x. x)) (world.read_note (world.names_of s) M)))
-        → NameAlike Names Arrived n (wire.described (draw_word script.key) w.links v u n) → wire.with_export v Asked n Arrived ≡ wire.with_note v Asked M Arrived → known_after Names n ≡ names_heard Names M → NoteAlike M
+        → NameAlike Names Arrived n (wire.described word_of w.links v u n) → wire.with_export v Asked n Arrived ≡ wire.with_note v Asked M Arrived → known_after Names n ≡ names_heard Names M → NoteAlike M
     about M n f g e h r a p q = let is = I (wire.with_export v Asked n Arrived) in let k = length (known_after Names n) in (
       record { read = g a.0; imports = is; known = k },
-      start (Hear M) ∙ e (I Arrived) (length Names) ∙ next_is (name_heard Draws u v T (wire.described (draw_word script.key) w.links v u n) (I Arrived) (length Names)) f a.0 is k a.1 ∙ h a.0 is k,
+      start (Hear M) ∙ e (I Arrived) (length Names) ∙ next_is (name_heard u v T (wire.described word_of w.links v u n) (I Arrived) (length Names)) f a.0 is k a.1 ∙ h a.0 is k,
       r a.0 a.2,
       ap I p,
       ap length q,
     )
 
-    module _ (words : (i : ℕ) → i < length w.drawn → Draws (draw_word script.key i) ≡ i) where
-      pub open_alike : (i : ℕ) (n : Name) → i < length w.drawn → Ends n → Starts (known_after Names n) F → Starts (wire.with_export v Asked n Arrived) Exports → NoteAlike (Open i n)
+    module _ where
+      pub open_alike : (i : ℕ) (n : Name) → key v (word_of i) ≡ i → Ends n → Starts (known_after Names n) F → Starts (wire.with_export v Asked n Arrived) Exports → NoteAlike (Open i n)
       unfolding note_heard wire.operation told as_told world.read_note world.names_of wire.with_note names_heard
-      open_alike i n l ends later ahead = about (Open i n) n (λ x. told (Open (Draws (draw_word script.key i)) x)) (λ x. Open (Draws (draw_word script.key i)) x) (λ is k. refl) (λ x is k. refl)
-          (λ x e. two (words i l) e) (name_alike b Names Arrived st n ends later ahead) refl refl
+      open_alike i n l ends later ahead = about (Open i n) n (λ x. told (Open (key v (word_of i)) x)) (λ x. Open (key v (word_of i)) x) (λ is k. refl) (λ x is k. refl)
+          (λ x e. two l e) (name_alike b Names Arrived st n ends later ahead) refl refl
         where
           two : {j k : ℕ} {x y : Incoming Found Name} → j ≡ k → x ≡ y → Open j x ≡ Open k y
           two e f = rw (e, f) refl
 
-      pub shorten_alike : (n : Name) (c i : ℕ) → i < length w.drawn → Ends n → Starts (known_after Names n) F → Starts (wire.with_export v Asked n Arrived) Exports → NoteAlike (Shorten n c i)
+      pub shorten_alike : (n : Name) (c i : ℕ) → key u (word_of i) ≡ i → Ends n → Starts (known_after Names n) F → Starts (wire.with_export v Asked n Arrived) Exports → NoteAlike (Shorten n c i)
       unfolding note_heard wire.operation told as_told world.read_note world.names_of wire.with_note names_heard
-      shorten_alike n c i l ends later ahead = about (Shorten n c i) n (λ x. told (Shorten x v (Draws (draw_word script.key i)))) (λ x. Shorten x v (Draws (draw_word script.key i))) (λ is k. refl) (λ x is k. refl)
-          (λ x e. two (words i l) e) (name_alike b Names Arrived st n ends later ahead) refl refl
+      shorten_alike n c i l ends later ahead = about (Shorten n c i) n (λ x. told (Shorten x v (key u (word_of i)))) (λ x. Shorten x v (key u (word_of i))) (λ is k. refl) (λ x is k. refl)
+          (λ x e. two l e) (name_alike b Names Arrived st n ends later ahead) refl refl
         where
           two : {j k : ℕ} {x y : Incoming Found Name} → j ≡ k → x ≡ y → Shorten x v j ≡ Shorten y v k
           two e f = rw (e, f) refl
 
       pub elsewhere_alike : (n : Name) (c : ℕ) → Ends n → Starts (known_after Names n) F → Starts (wire.with_export v Asked n Arrived) Exports → NoteAlike (Elsewhere n c)
       unfolding note_heard outcome_heard wire.operation told as_told world.read_note world.names_of wire.with_note names_heard
-      elsewhere_alike n c ends later ahead = about (Elsewhere n c) n (λ x. outcome_heard Draws u v T x (op.Elsewhere c)) (λ x. Elsewhere x c) (λ is k. refl) (λ x is k. refl)
+      elsewhere_alike n c ends later ahead = about (Elsewhere n c) n (λ x. outcome_heard u v T x (op.Elsewhere c)) (λ x. Elsewhere x c) (λ is k. refl) (λ x is k. refl)
           (λ x e. ap (λ z. Elsewhere z c) e) (name_alike b Names Arrived st n ends later ahead) refl refl
 
       -- ---- a gift is asked for
 
-      ask_some : (p i : ℕ) (n : Name) → Asks p i n → (o : Option (GiftEntry Name)) → gift_at p i s.gifts ≡ o → incoming Reads Wires (gift_heard Draws u v T (wire.rank Put n) (option_map (numbered_gift Names) o)) ≡ incoming Is (λ y. y) (read_name Names n)
+      ask_some : (p i : ℕ) (n : Name) → Asks p i n → (o : Option (GiftEntry Name)) → gift_at p i s.gifts ≡ o → incoming Reads Wires (gift_heard u v T (wire.rank Put n) (option_map (numbered_gift Names) o)) ≡ incoming Is (λ y. y) (read_name Names n)
       unfolding gift_heard numbered_gift wire_name
       ask_some p i n a (Some g) e = let f = a.entry g e in ap (λ m. Old (Reads (known_number Names m))) f.0 ∙ old_alike Names n (known_number Names n) (name_found b.first n f.1) (known_old Names n (among_known Names n f.1))
       ask_some p i n a None e = ap (λ (o : Option Name). New (unwrap_or o (Root v)) u) (get_rank Put n a.put) ∙ ap (λ h. New n h) (sym a.host) ∙ sym (ap (λ z. incoming Is (λ y. y) z) (read_new Names n (a.eventual ∙ on_bool (has_name Names n) (λ f. absurd (a.absent e (has_among Names n f))) (λ f. f))))
 
-      pub ask_alike : (p i : ℕ) (n : Name) → i < length w.drawn → Asks p i n → NoteAlike (Ask p i n)
+      pub ask_alike : (p i : ℕ) (n : Name) → key p (word_of i) ≡ i → Asks p i n → NoteAlike (Ask p i n)
       unfolding note_heard wire.operation told as_told world.read_note world.names_of wire.questions wire.with_note names_heard
       ask_alike p i n l a = (
-        record { read = Ask p (Draws (draw_word script.key i)) (gift_heard Draws u v T (wire.rank Put n) (gift_at p (Draws (draw_word script.key i)) Gifts)); imports = T.imports; known = length s.known },
+        record { read = Ask p (key p (word_of i)) (gift_heard u v T (wire.rank Put n) (gift_at p (key p (word_of i)) Gifts)); imports = T.imports; known = length s.known },
         refl,
-        two (words i l) (ap (λ j. incoming Reads Wires (gift_heard Draws u v T (wire.rank Put n) (gift_at p j Gifts))) (words i l) ∙ ap (λ o. incoming Reads Wires (gift_heard Draws u v T (wire.rank Put n) o)) (gift_mapped Names p i s.gifts) ∙ ask_some p i n a (gift_at p i s.gifts) refl),
+        two l (ap (λ j. incoming Reads Wires (gift_heard u v T (wire.rank Put n) (gift_at p j Gifts))) l ∙ ap (λ o. incoming Reads Wires (gift_heard u v T (wire.rank Put n) o)) (gift_mapped Names p i s.gifts) ∙ ask_some p i n a (gift_at p i s.gifts) refl),
         imports_are b.first known,
         known_length s.known,
       )
@@ -687,15 +684,15 @@ module _ (script : Script) (w : World) (v u : ℕ) (s : Vat Name) (N : Note Name
       -- ---- values pass
 
       module _ (P : ℕ → ℕ) where
-        pub settled_alike : (n : Name) (y : Passed Name) → Listless y → PassesFrom P (length w.drawn) v u y → ((m : Name) → IsAmong m (n ∷ told_passed y) → Ends m) → Starts (world.read_passed y (known_after Names n)).known F → Starts (wire.with_passed v Asked y (wire.with_export v Asked n Arrived)) Exports → NoteAlike (SettledTo n y)
+        pub settled_alike : (n : Name) (y : Passed Name) → Listless y → PassesFrom P w.drawn v u y → ((m : Name) → IsAmong m (n ∷ told_passed y) → Ends m) → Starts (world.read_passed y (known_after Names n)).known F → Starts (wire.with_passed v Asked y (wire.with_export v Asked n Arrived)) Exports → NoteAlike (SettledTo n y)
         unfolding note_heard outcome_heard wire.operation told as_told world.read_note world.names_of wire.with_note names_heard
-        settled_alike n y q g f later ahead = let d = wire.described (draw_word script.key) w.links v u n in let dy = wire.described_passed (draw_word script.key) w.links v u y in
+        settled_alike n y q g f later ahead = let d = wire.described word_of w.links v u n in let dy = wire.described_passed word_of w.links v u y in
             let k1 = known_after Names n in let E1 = wire.with_export v Asked n Arrived in let k2 = (world.read_passed y k1).known in let E2 = wire.with_passed v Asked y E1 in
             let later1 = starts_on k1 k2 F (passed_known y k1) later in let ahead1 = starts_on E1 E2 Exports (passed_starts v Asked y E1) ahead in let ends = f n (inl refl) in
             let one = name_alike b Names Arrived st n ends later1 ahead1 in let st1 = stage_name Names Arrived st n later1 ahead1 (either_end n ends) in
-            let two = (passed_alike P words b k1 E1 st1 y q g (λ m a. f m (inr a)) later ahead).0 in (
+            let two = (passed_alike P b k1 E1 st1 y q g (λ m a. f m (inr a)) later ahead).0 in (
               record { read = SettledTo one.0 two.0; imports = I E2; known = length k2 },
-              start (Hear (SettledTo n y)) ∙ next_is (name_heard Draws u v T d (I Arrived) (length Names)) (λ x. outcome_heard Draws u v T x (op.To dy)) one.0 (I E1) (length k1) one.1 ∙ next_is (passed_heard Draws u v T dy (I E1) (length k1)) (λ z. told (SettledTo one.0 z)) two.0 (I E2) (length k2) two.1,
+              start (Hear (SettledTo n y)) ∙ next_is (name_heard u v T d (I Arrived) (length Names)) (λ x. outcome_heard u v T x (op.To dy)) one.0 (I E1) (length k1) one.1 ∙ next_is (passed_heard u v T dy (I E1) (length k1)) (λ z. told (SettledTo one.0 z)) two.0 (I E2) (length k2) two.1,
               both one.2 two.2,
               refl,
               refl,
@@ -704,19 +701,19 @@ module _ (script : Script) (w : World) (v u : ℕ) (s : Vat Name) (N : Note Name
             both : {x y : Incoming Found Name} {a c : Passed (Incoming Found Name)} → x ≡ y → a ≡ c → SettledTo x a ≡ SettledTo y c
             both e f = rw (e, f) refl
 
-        by_asks : (b : Bool) (m : Name) (d : Described) (verb : List ℕ) (ds : Members) (is : List Local) (k : ℕ) → note_heard Draws u v T Gifts (wire.delivered (draw_word script.key) w.links v u m b d verb ds) is k ≡ message_heard Draws u v T b d verb ds is k
+        by_asks : (b : Bool) (m : Name) (d : Described) (verb : List ℕ) (ds : Members) (is : List Local) (k : ℕ) → note_heard u v T Gifts (wire.delivered word_of w.links v u m b d verb ds) is k ≡ message_heard u v T b d verb ds is k
         unfolding note_heard wire.delivered
         by_asks true m d verb ds is k = refl
         by_asks false m d verb ds is k = refl
 
-        pub deliver_alike : (m : Delivery Name) (n : Name) (verb : List ℕ) (ys : Passeds Name) → message_of N ≡ m.message → AllListless ys → AllPassFrom P (length w.drawn) v u ys → host_of n ≡ u → ((x : Name) → IsAmong x (n ∷ told_all ys) → Ends x) → Starts (known_after (world.read_all ys Names).known n) F → Starts (wire.with_all v Asked ys Arrived) Exports → NoteAlike (Deliver m n verb ys)
+        pub deliver_alike : (m : Delivery Name) (n : Name) (verb : List ℕ) (ys : Passeds Name) → message_of N ≡ m.message → AllListless ys → AllPassFrom P w.drawn v u ys → host_of n ≡ u → ((x : Name) → IsAmong x (n ∷ told_all ys) → Ends x) → Starts (known_after (world.read_all ys Names).known n) F → Starts (wire.with_all v Asked ys Arrived) Exports → NoteAlike (Deliver m n verb ys)
         unfolding note_heard message_heard wire.operation told as_told from_peer world.read_note world.names_of wire_name wire.with_note names_heard
-        deliver_alike m n verb ys message q g host f later ahead = let d = wire.described (draw_word script.key) w.links v u n in let ds = wire.described_all (draw_word script.key) w.links v u ys in
+        deliver_alike m n verb ys message q g host f later ahead = let d = wire.described word_of w.links v u n in let ds = wire.described_all word_of w.links v u ys in
             let k1 = (world.read_all ys Names).known in let E1 = wire.with_all v Asked ys Arrived in let k2 = known_after k1 n in let E2 = wire.with_export v Asked n E1 in
-            let all = all_alike P words b Names Arrived st ys q g (λ x a. f x (inr a)) (starts_on k1 k2 F (after_starts k1 n) later) ahead in let one = all.0 in
+            let all = all_alike P b Names Arrived st ys q g (λ x a. f x (inr a)) (starts_on k1 k2 F (after_starts k1 n) later) ahead in let one = all.0 in
             let two = name_alike b k1 E1 all.1 n (f n (inl refl)) later (subst (λ es. Starts es Exports) (sym (export_other v Asked n E1 (apart n host))) ahead) in (
               record { read = Deliver (record { message = New Carried v; asks = m.asks }) two.0 verb one.0; imports = I E2; known = length k2 },
-              start (Hear (Deliver m n verb ys)) ∙ by_asks m.asks m.message d verb ds (I Arrived) (length Names) ∙ next_is (all_heard Draws u v T ds (I Arrived) (length Names)) (λ zs is ks. next (λ x. told (Deliver (record { message = New Carried v; asks = m.asks }) x verb zs)) (name_heard Draws u v T d is ks)) one.0 (I E1) (length k1) one.1 ∙ next_is (name_heard Draws u v T d (I E1) (length k1)) (λ x. told (Deliver (record { message = New Carried v; asks = m.asks }) x verb one.0)) two.0 (I E2) (length k2) two.1,
+              start (Hear (Deliver m n verb ys)) ∙ by_asks m.asks m.message d verb ds (I Arrived) (length Names) ∙ next_is (all_heard u v T ds (I Arrived) (length Names)) (λ zs is ks. next (λ x. told (Deliver (record { message = New Carried v; asks = m.asks }) x verb zs)) (name_heard u v T d is ks)) one.0 (I E1) (length k1) one.1 ∙ next_is (name_heard u v T d (I E1) (length k1)) (λ x. told (Deliver (record { message = New Carried v; asks = m.asks }) x verb one.0)) two.0 (I E2) (length k2) two.1,
               three message two.2 one.2,
               ap I (export_other v Asked n E1 (apart n host) ∙ ap (λ es. wire.with_all v Asked ys es) (sym (export_other v Asked n Arrived (apart n host)))),
               refl,

@@ -4,7 +4,7 @@ use Rattle.std.specs.Prelude.{slice_get}
 use Rattle.std.proofs.lemmas.Bool.{eq-eqb}
 use Rattle.def_op.specs.Frames as op
 use Rattle.def_op.specs.Frames.{Described, Members, Operation}
-use Rattle.def_machine.specs.Values.{Value, Null, Flag, Number, Letter, Text, Prim, Broken, Items, Ref, Name, Gift, host_of, same_name}
+use Rattle.def_machine.specs.Values.{Value, Null, Flag, Number, Letter, Text, Prim, Broken, Items, Ref, Name, Gift, host_of, same_name, key, word_of}
 use Rattle.def_machine.specs.State.{Passed, Passeds, Plain, AGift, Many, NoMore, More, Note, Delivery, Deliver, Open, Ask, SettledTo, Elsewhere, Shorten}
 use Rattle.def_machine.specs.Arrive.{Incoming, Old, New}
 use Rattle.def_run.specs.Connections as read
@@ -169,7 +169,7 @@ module _ (v u : ℕ) where
 
   -- ---- reading
 
-  module _ (word number : ℕ → ℕ) (t d : Connection Name) (N : Note Name) (F : Newcomers Name Name) (arrived : d.answers ≡ t.questions) (exports : IsFront t.imports d.exports) (questions : IsFront t.answers d.questions) (b : Brings v u word number t F N) where
+  module _ (t d : Connection Name) (N : Note Name) (F : Newcomers Name Name) (arrived : d.answers ≡ t.questions) (exports : IsFront t.imports d.exports) (questions : IsFront t.answers d.questions) (b : Brings v u t F N) where
     abbrev E : List Name
     E = read.exported_note (sight v u) t.answers N t.exports
 
@@ -177,7 +177,7 @@ module _ (v u : ℕ) where
     c = read.exporting (sight v u) N t
 
     abbrev Reads : Described → Hearing Name (Incoming Name Name)
-    Reads x = read.name_heard is_object number u v F d x
+    Reads x = read.name_heard is_object u v F d x
 
     abbrev See : Name → Stage Name → Heard Name (Incoming Name Name)
     See n s = seen.seen_name v u t.answers n s
@@ -199,17 +199,17 @@ module _ (v u : ℕ) where
     my_answer n s e = old_by _ n s (ap (λ ms. slice_get ms (At t.answers n)) questions.1 ∙ get_append t.answers questions.0 (At t.answers n) n (get_place t.answers n e))
 
     -- by position, known or new
-    known_object : (p : ℕ) (n : Name) (s : Stage Name) (o : Option Name) → is_object n ≡ true → o ≡ Some n → read.object_heard is_object number u v F d p o s ≡ Some (found (Old n) s)
+    known_object : (p : ℕ) (n : Name) (s : Stage Name) (o : Option Name) → is_object n ≡ true → o ≡ Some n → read.object_heard is_object u v F d p o s ≡ Some (found (Old n) s)
     unfolding read.object_heard read.told_where read.told
-    known_object p n s o k e = ap (λ z. read.object_heard is_object number u v F d p z s) e ∙ is (is_object n) k
+    known_object p n s o k e = ap (λ z. read.object_heard is_object u v F d p z s) e ∙ is (is_object n) k
       where
         is : (a : Bool) → a ≡ true → read.told_where a (read.told {A = Incoming Name Name} (Old n)) s ≡ Some (found (Old n) s)
         is true k = refl
         is false k = cc
 
-    known_promise : (p : ℕ) (n : Name) (s : Stage Name) (o : Option Name) → is_object n ≡ false → o ≡ Some n → read.promise_heard is_object number u v F d p o s ≡ Some (found (Old n) s)
+    known_promise : (p : ℕ) (n : Name) (s : Stage Name) (o : Option Name) → is_object n ≡ false → o ≡ Some n → read.promise_heard is_object u v F d p o s ≡ Some (found (Old n) s)
     unfolding read.promise_heard read.told
-    known_promise p n s o k e = ap (λ z. read.promise_heard is_object number u v F d p z s) e ∙ is (is_object n) k
+    known_promise p n s o k e = ap (λ z. read.promise_heard is_object u v F d p z s) e ∙ is (is_object n) k
       where
         is : (a : Bool) → a ≡ false → ◌≡◌ {A = Option (Heard Name (Incoming Name Name))} (elim a [ true ↦ None | false ↦ read.told (Old n) s ]) (Some (found (Old n) s))
         is false k = refl
@@ -225,13 +225,13 @@ module _ (v u : ℕ) where
     where_true true f s e = refl
     where_true false f s e = cc
 
-    new_object : (p : ℕ) (n : Name) (s : Stage Name) (o : Option Name) → o ≡ None → p ≡ length s.imports → F.object p ≡ n → read.object_heard is_object number u v F d p o s ≡ Some (seen.seen_first v u t.answers n true s)
+    new_object : (p : ℕ) (n : Name) (s : Stage Name) (o : Option Name) → o ≡ None → p ≡ length s.imports → F.object p ≡ n → read.object_heard is_object u v F d p o s ≡ Some (seen.seen_first v u t.answers n true s)
     unfolding read.object_heard read.new_object read.told seen.seen_first
-    new_object p n s o e f g = ap (λ z. read.object_heard is_object number u v F d p z s) e ∙ where_true (p == length s.imports) (read.new_object is_object number u v F d p) s (eq-eqb p (length s.imports) f) ∙ ap (λ m. Some (found (Old m) (record s { imports = s.imports ++ m ∷ [] }))) g
+    new_object p n s o e f g = ap (λ z. read.object_heard is_object u v F d p z s) e ∙ where_true (p == length s.imports) (read.new_object is_object u v F d p) s (eq-eqb p (length s.imports) f) ∙ ap (λ m. Some (found (Old m) (record s { imports = s.imports ++ m ∷ [] }))) g
 
-    new_promise : (p : ℕ) (n : Name) (s : Stage Name) (o : Option Name) → o ≡ None → p ≡ length s.imports → F.promise p s.known ≡ n → F.exported p ≡ n → read.promise_heard is_object number u v F d p o s ≡ Some (seen.seen_first v u t.answers n false s)
+    new_promise : (p : ℕ) (n : Name) (s : Stage Name) (o : Option Name) → o ≡ None → p ≡ length s.imports → F.promise p s.known ≡ n → F.exported p ≡ n → read.promise_heard is_object u v F d p o s ≡ Some (seen.seen_first v u t.answers n false s)
     unfolding read.promise_heard read.new_promise read.told seen.seen_first
-    new_promise p n s o e f g h = ap (λ z. read.promise_heard is_object number u v F d p z s) e ∙ where_true (p == length s.imports) (read.new_promise is_object number u v F d p) s (eq-eqb p (length s.imports) f)
+    new_promise p n s o e f g h = ap (λ z. read.promise_heard is_object u v F d p z s) e ∙ where_true (p == length s.imports) (read.new_promise is_object u v F d p) s (eq-eqb p (length s.imports) f)
         ∙ ap (λ m. Some (found (New (F.exported p) v) (record s { imports = s.imports ++ m ∷ []; known = suc s.known }))) g ∙ ap (λ m. Some (found (New m v) (record s { imports = s.imports ++ n ∷ []; known = suc s.known }))) h
 
     new_at : (n : Name) (s : Stage Name) (p : ℕ) (a : Bool) → is_object n ≡ a → slice_get s.imports p ≡ None → p ≡ length s.imports → slice_get E p ≡ Some n → Reads (read.position (sight v u) a p) s ≡ Some (seen.seen_first v u t.answers n a s)
@@ -293,18 +293,18 @@ module _ (v u : ℕ) where
     unasked_is n s true = refl
     unasked_is n s false = told_is n s (In s.imports n)
 
-    by_host : (n : Name) (s : Stage Name) (h : Bool) → (host_of n == v) ≡ h → IsNumbered v u word number t n → Clean t.answers (elim h [ true ↦ elim (In t.answers n) [ true ↦ s.imports | false ↦ elim (In s.imports n) [ true ↦ s.imports | false ↦ s.imports ++ n ∷ [] ] ] | false ↦ s.imports ]) E
+    by_host : (n : Name) (s : Stage Name) (h : Bool) → (host_of n == v) ≡ h → IsNumbered v u t n → Clean t.answers (elim h [ true ↦ elim (In t.answers n) [ true ↦ s.imports | false ↦ elim (In s.imports n) [ true ↦ s.imports | false ↦ s.imports ++ n ∷ [] ] ] | false ↦ s.imports ]) E
         → IsSeen (Reads (elim h [ true ↦ read.mine (sight v u) c n (In c.exports n) | false ↦ read.yours (sight v u) c n (In c.questions n) ]) s) (seen.seen_own v u t.answers n h s) (elim h [ true ↦ elim (In t.answers n) [ true ↦ s.imports | false ↦ elim (In s.imports n) [ true ↦ s.imports | false ↦ s.imports ++ n ∷ [] ] ] | false ↦ s.imports ])
     unfolding seen.seen_own read.exporting
     by_host n s true e f k = let r = own_name n s (In t.answers n) (In s.imports n) (In E n) refl refl refl k in let same = unasked_is n s (In t.answers n) in
         (r.0 ∙ ap Some (sym same), ap (λ (h : Heard Name (Incoming Name Name)). h.after.imports) same ∙ r.1)
     by_host n s false e f k = (other_name n s (In t.questions n) refl (numbered f), refl)
       where
-        numbered : IsNumbered v u word number t n → (In t.questions n ≡ true) ⊎ (In t.imports n ≡ true)
+        numbered : IsNumbered v u t n → (In t.questions n ≡ true) ⊎ (In t.imports n ≡ true)
         numbered (inl g) = absurd (true_false (host_of n == v) g e)
         numbered (inr o) = o
 
-    name_seen : (n : Name) (s : Stage Name) → IsNumbered v u word number t n → Clean t.answers (read.exported_as (sight v u) t.answers n s.imports) E → IsSeen (Reads (read.described (sight v u) c n) s) (See n s) (read.exported_as (sight v u) t.answers n s.imports)
+    name_seen : (n : Name) (s : Stage Name) → IsNumbered v u t n → Clean t.answers (read.exported_as (sight v u) t.answers n s.imports) E → IsSeen (Reads (read.described (sight v u) c n) s) (See n s) (read.exported_as (sight v u) t.answers n s.imports)
     unfolding read.described read.exported_as sight seen.seen_name
     name_seen n s f k = by_host n s (host_of n == v) refl f k
 
@@ -315,44 +315,44 @@ module _ (v u : ℕ) where
     next_seen f o h e = ap (read.next f) e
 
     abbrev Passing : Described → Hearing Name (Passed (Incoming Name Name))
-    Passing x = read.passed_heard is_object number u v F d x
+    Passing x = read.passed_heard is_object u v F d x
 
     abbrev Passings : Members → Hearing Name (Passeds (Incoming Name Name))
-    Passings x = read.all_heard is_object number u v F d x
+    Passings x = read.all_heard is_object u v F d x
 
     reference_by : (x : Described) (s : Stage Name) → Option (Heard Name (Passed (Incoming Name Name)))
-    reference_by x s = read.next (read.reference_heard is_object number u v F d) (Reads x s)
+    reference_by x s = read.next (read.reference_heard is_object u v F d) (Reads x s)
 
-    reference_seen : (n : Name) (s : Stage Name) (o : Option (Heard Name (Incoming Name Name))) (is : List Name) → IsSeen o (See n s) is → IsSeen (read.next (read.reference_heard is_object number u v F d) o) (seen.seen_value v u t.answers (Ref n) s) is
+    reference_seen : (n : Name) (s : Stage Name) (o : Option (Heard Name (Incoming Name Name))) (is : List Name) → IsSeen o (See n s) is → IsSeen (read.next (read.reference_heard is_object u v F d) o) (seen.seen_value v u t.answers (Ref n) s) is
     unfolding read.reference_heard read.told seen.seen_value
-    reference_seen n s o is h = (next_seen (read.reference_heard is_object number u v F d) o (See n s) h.0, h.1)
+    reference_seen n s o is h = (next_seen (read.reference_heard is_object u v F d) o (See n s) h.0, h.1)
 
     -- a description of a name passes as that name
-    passing_position : (a : Bool) (p : ℕ) (s : Stage Name) → Passing (read.position (sight v u) a p) s ≡ read.next (read.reference_heard is_object number u v F d) (Reads (read.position (sight v u) a p) s)
+    passing_position : (a : Bool) (p : ℕ) (s : Stage Name) → Passing (read.position (sight v u) a p) s ≡ read.next (read.reference_heard is_object u v F d) (Reads (read.position (sight v u) a p) s)
     unfolding read.passed_heard read.position
     passing_position true p s = refl
     passing_position false p s = refl
 
-    passing_mine : (n : Name) (e : Bool) (s : Stage Name) → Passing (read.mine (sight v u) c n e) s ≡ read.next (read.reference_heard is_object number u v F d) (Reads (read.mine (sight v u) c n e) s)
+    passing_mine : (n : Name) (e : Bool) (s : Stage Name) → Passing (read.mine (sight v u) c n e) s ≡ read.next (read.reference_heard is_object u v F d) (Reads (read.mine (sight v u) c n e) s)
     unfolding read.passed_heard read.mine sight
     passing_mine n true s = passing_position (is_object n) (At c.exports n) s
     passing_mine n false s = refl
 
-    passing_yours : (n : Name) (e : Bool) (s : Stage Name) → Passing (read.yours (sight v u) c n e) s ≡ read.next (read.reference_heard is_object number u v F d) (Reads (read.yours (sight v u) c n e) s)
+    passing_yours : (n : Name) (e : Bool) (s : Stage Name) → Passing (read.yours (sight v u) c n e) s ≡ read.next (read.reference_heard is_object u v F d) (Reads (read.yours (sight v u) c n e) s)
     unfolding read.passed_heard read.yours
     passing_yours n true s = refl
     passing_yours n false s = refl
 
     passing_or : (n : Name) (h : Bool) (s : Stage Name) → Passing (elim h [ true ↦ read.mine (sight v u) c n (In c.exports n) | false ↦ read.yours (sight v u) c n (In c.questions n) ]) s
-        ≡ read.next (read.reference_heard is_object number u v F d) (Reads (elim h [ true ↦ read.mine (sight v u) c n (In c.exports n) | false ↦ read.yours (sight v u) c n (In c.questions n) ]) s)
+        ≡ read.next (read.reference_heard is_object u v F d) (Reads (elim h [ true ↦ read.mine (sight v u) c n (In c.exports n) | false ↦ read.yours (sight v u) c n (In c.questions n) ]) s)
     passing_or n true s = passing_mine n (In c.exports n) s
     passing_or n false s = passing_yours n (In c.questions n) s
 
-    passing_name : (n : Name) (s : Stage Name) → Passing (read.described (sight v u) c n) s ≡ read.next (read.reference_heard is_object number u v F d) (Reads (read.described (sight v u) c n) s)
+    passing_name : (n : Name) (s : Stage Name) → Passing (read.described (sight v u) c n) s ≡ read.next (read.reference_heard is_object u v F d) (Reads (read.described (sight v u) c n) s)
     unfolding read.described sight
     passing_name n s = passing_or n (host_of n == v) s
 
-    value_seen : (y : Value Name) (s : Stage Name) → ValueFits v u word number t y → Clean t.answers (read.exported_value (sight v u) t.answers y s.imports) E → IsSeen (Passing (read.described_value (sight v u) c y) s) (seen.seen_value v u t.answers y s) (read.exported_value (sight v u) t.answers y s.imports)
+    value_seen : (y : Value Name) (s : Stage Name) → ValueFits v u t y → Clean t.answers (read.exported_value (sight v u) t.answers y s.imports) E → IsSeen (Passing (read.described_value (sight v u) c y) s) (seen.seen_value v u t.answers y s) (read.exported_value (sight v u) t.answers y s.imports)
     unfolding read.described_value read.exported_value read.passed_heard read.fact_heard read.told seen.seen_value
     value_seen (Ref n) s f k = let r = reference_seen n s (Reads (read.described (sight v u) c n) s) (read.exported_as (sight v u) t.answers n s.imports) (name_seen n s f k) in (passing_name n s ∙ r.0, r.1)
     value_seen Null s f k = (refl, refl)
@@ -364,7 +364,7 @@ module _ (v u : ℕ) where
     value_seen (Broken x) s f k = (refl, refl)
     value_seen (Items i) s f k = absurd f
 
-    gift_seen : (h i : ℕ) (o : Option Name) (s : Stage Name) → IsSeen (read.gift_heard is_object number u v F d h i o s) (seen.seen_gift v u t.answers h i o s) s.imports
+    gift_seen : (h i : ℕ) (o : Option Name) (s : Stage Name) → IsSeen (read.gift_heard is_object u v F d h i o s) (seen.seen_gift v u t.answers h i o s) s.imports
     unfolding read.gift_heard read.told seen.seen_gift
     gift_seen h i (Some n) s = (refl, refl)
     gift_seen h i None s = (ap (λ m. Some (found (AGift h i) (record s { learnt = s.learnt ++ record { host = h; number = i; name = m } ∷ []; known = suc s.known }))) (b.gift h i s.known), refl)
@@ -372,39 +372,39 @@ module _ (v u : ℕ) where
     mutual
       unfolding read.described_passed read.described_all read.exported_passed read.exported_all read.passed_heard read.all_heard read.told seen.seen_passed seen.seen_all
 
-      passed_seen : (y : Passed Name) (s : Stage Name) → PassedFits v u word number t y → Clean t.answers (read.exported_passed (sight v u) t.answers y s.imports) E → IsSeen (Passing (read.described_passed (sight v u) word c y) s) (seen.seen_passed v u t.answers y s) (read.exported_passed (sight v u) t.answers y s.imports)
+      passed_seen : (y : Passed Name) (s : Stage Name) → PassedFits v u t y → Clean t.answers (read.exported_passed (sight v u) t.answers y s.imports) E → IsSeen (Passing (read.described_passed (sight v u) c y) s) (seen.seen_passed v u t.answers y s) (read.exported_passed (sight v u) t.answers y s.imports)
       passed_seen (Plain y) s f k = value_seen y s f k
-      passed_seen (AGift h i) s f k = let r = gift_seen h i (read.learnt_at h i s.learnt) s in (ap (λ j. read.gift_heard is_object number u v F d h j (read.learnt_at h j s.learnt) s) f ∙ r.0, r.1)
-      passed_seen (Many ys) s f k = let r = all_seen ys s f k in (next_seen (λ zs. read.told (Many zs)) (Passings (read.described_all (sight v u) word c ys) s) (seen.seen_all v u t.answers ys s) r.0, r.1)
+      passed_seen (AGift h i) s f k = let r = gift_seen h i (read.learnt_at h i s.learnt) s in (ap (λ j. read.gift_heard is_object u v F d h j (read.learnt_at h j s.learnt) s) f ∙ r.0, r.1)
+      passed_seen (Many ys) s f k = let r = all_seen ys s f k in (next_seen (λ zs. read.told (Many zs)) (Passings (read.described_all (sight v u) c ys) s) (seen.seen_all v u t.answers ys s) r.0, r.1)
 
-      all_seen : (ys : Passeds Name) (s : Stage Name) → AllFit v u word number t ys → Clean t.answers (read.exported_all (sight v u) t.answers ys s.imports) E → IsSeen (Passings (read.described_all (sight v u) word c ys) s) (seen.seen_all v u t.answers ys s) (read.exported_all (sight v u) t.answers ys s.imports)
+      all_seen : (ys : Passeds Name) (s : Stage Name) → AllFit v u t ys → Clean t.answers (read.exported_all (sight v u) t.answers ys s.imports) E → IsSeen (Passings (read.described_all (sight v u) c ys) s) (seen.seen_all v u t.answers ys s) (read.exported_all (sight v u) t.answers ys s.imports)
       all_seen NoMore s f k = (refl, refl)
       all_seen (More y ys) s f k = let is = s.imports in let js = read.exported_passed (sight v u) t.answers y is in let h = seen.seen_passed v u t.answers y s in
           let one = passed_seen y s f.0 (clean_trans t.answers js (read.exported_all (sight v u) t.answers ys js) E (all_clean t.answers ys js) k) in
           let rest = all_seen ys h.after f.1 (subst (λ ms. Clean t.answers (read.exported_all (sight v u) t.answers ys ms) E) (sym one.1) k) in (
-            next_seen (λ z r. read.next (λ zs. read.told (More z zs)) (Passings (read.described_all (sight v u) word c ys) r)) (Passing (read.described_passed (sight v u) word c y) s) h one.0
-                ∙ next_seen (λ zs. read.told (More h.read zs)) (Passings (read.described_all (sight v u) word c ys) h.after) (seen.seen_all v u t.answers ys h.after) rest.0,
+            next_seen (λ z r. read.next (λ zs. read.told (More z zs)) (Passings (read.described_all (sight v u) c ys) r)) (Passing (read.described_passed (sight v u) c y) s) h one.0
+                ∙ next_seen (λ zs. read.told (More h.read zs)) (Passings (read.described_all (sight v u) c ys) h.after) (seen.seen_all v u t.answers ys h.after) rest.0,
             rest.1 ∙ ap (λ ms. read.exported_all (sight v u) t.answers ys ms) one.1,
           )
 
     -- ---- the note
 
     abbrev Hears : Operation → Hearing Name (Note (Incoming Name Name))
-    Hears o = read.note_heard is_object number u v F d o
+    Hears o = read.note_heard is_object u v F d o
 
-    message_seen : (a : Bool) (m n : Name) (verb : List ℕ) (ys : Passeds Name) (s : Stage Name) → F.message ≡ m → IsNumbered v u word number t n → AllFit v u word number t ys → Clean t.answers (read.exported_all (sight v u) t.answers ys (read.exported_as (sight v u) t.answers n s.imports)) E
-        → IsSeen (read.message_heard is_object number u v F d a (read.described (sight v u) c n) verb (read.described_all (sight v u) word c ys) s) (seen.seen_note v u t.answers (Deliver (record { message = m; asks = a }) n verb ys) s) (read.exported_all (sight v u) t.answers ys (read.exported_as (sight v u) t.answers n s.imports))
+    message_seen : (a : Bool) (m n : Name) (verb : List ℕ) (ys : Passeds Name) (s : Stage Name) → F.message ≡ m → IsNumbered v u t n → AllFit v u t ys → Clean t.answers (read.exported_all (sight v u) t.answers ys (read.exported_as (sight v u) t.answers n s.imports)) E
+        → IsSeen (read.message_heard is_object u v F d a (read.described (sight v u) c n) verb (read.described_all (sight v u) c ys) s) (seen.seen_note v u t.answers (Deliver (record { message = m; asks = a }) n verb ys) s) (read.exported_all (sight v u) t.answers ys (read.exported_as (sight v u) t.answers n s.imports))
     unfolding read.message_heard read.told seen.seen_note
     message_seen a m n verb ys s e f g k = let is = read.exported_as (sight v u) t.answers n s.imports in let h = See n s in
         let one = name_seen n s f (clean_trans t.answers is (read.exported_all (sight v u) t.answers ys is) E (all_clean t.answers ys is) k) in
         let rest = all_seen ys h.after g (subst (λ ms. Clean t.answers (read.exported_all (sight v u) t.answers ys ms) E) (sym one.1) k) in let zs = seen.seen_all v u t.answers ys h.after in (
-          next_seen (λ x r. read.next (λ ws. read.told (Deliver (record { message = New F.message v; asks = a }) x verb ws)) (Passings (read.described_all (sight v u) word c ys) r)) (Reads (read.described (sight v u) c n) s) h one.0
-              ∙ next_seen (λ ws. read.told (Deliver (record { message = New F.message v; asks = a }) h.read verb ws)) (Passings (read.described_all (sight v u) word c ys) h.after) zs rest.0
+          next_seen (λ x r. read.next (λ ws. read.told (Deliver (record { message = New F.message v; asks = a }) x verb ws)) (Passings (read.described_all (sight v u) c ys) r)) (Reads (read.described (sight v u) c n) s) h one.0
+              ∙ next_seen (λ ws. read.told (Deliver (record { message = New F.message v; asks = a }) h.read verb ws)) (Passings (read.described_all (sight v u) c ys) h.after) zs rest.0
               ∙ ap (λ z. Some (found (Deliver (record { message = New z v; asks = a }) h.read verb zs.read) zs.after)) e,
           rest.1 ∙ ap (λ ms. read.exported_all (sight v u) t.answers ys ms) one.1,
         )
 
-    about : (n : Name) (s : Stage Name) (r : Incoming Name Name → Note (Incoming Name Name)) → IsNumbered v u word number t n → Clean t.answers (read.exported_as (sight v u) t.answers n s.imports) E
+    about : (n : Name) (s : Stage Name) (r : Incoming Name Name → Note (Incoming Name Name)) → IsNumbered v u t n → Clean t.answers (read.exported_as (sight v u) t.answers n s.imports) E
         → IsSeen (read.next (λ x. read.told (r x)) (Reads (read.described (sight v u) c n) s)) (after_that (See n s) (λ x. found (r x))) (read.exported_as (sight v u) t.answers n s.imports)
     unfolding read.told
     about n s r f k = let one = name_seen n s f k in (next_seen (λ x. read.told (r x)) (Reads (read.described (sight v u) c n) s) (See n s) one.0, one.1)
@@ -412,52 +412,52 @@ module _ (v u : ℕ) where
     asks_where : (q : ℕ) (f : Hearing Name (Note (Incoming Name Name))) (s : Stage Name) → q ≡ length t.questions → read.told_where (q == length d.answers) f s ≡ f s
     asks_where q f s e = where_true (q == length d.answers) f s (eq-eqb q (length d.answers) (e ∙ ap length (sym arrived)))
 
-    settled_seen : (n : Name) (y : Passed Name) (s : Stage Name) → IsNumbered v u word number t n → PassedFits v u word number t y → Clean t.answers (read.exported_passed (sight v u) t.answers y (read.exported_as (sight v u) t.answers n s.imports)) E
-        → IsSeen (read.next (λ x. read.outcome_heard is_object number u v F d x (op.To (read.described_passed (sight v u) word c y))) (Reads (read.described (sight v u) c n) s)) (seen.seen_note v u t.answers (SettledTo n y) s) (read.exported_passed (sight v u) t.answers y (read.exported_as (sight v u) t.answers n s.imports))
+    settled_seen : (n : Name) (y : Passed Name) (s : Stage Name) → IsNumbered v u t n → PassedFits v u t y → Clean t.answers (read.exported_passed (sight v u) t.answers y (read.exported_as (sight v u) t.answers n s.imports)) E
+        → IsSeen (read.next (λ x. read.outcome_heard is_object u v F d x (op.To (read.described_passed (sight v u) c y))) (Reads (read.described (sight v u) c n) s)) (seen.seen_note v u t.answers (SettledTo n y) s) (read.exported_passed (sight v u) t.answers y (read.exported_as (sight v u) t.answers n s.imports))
     unfolding read.outcome_heard read.told seen.seen_note
     settled_seen n y s f g k = let is = read.exported_as (sight v u) t.answers n s.imports in let h = See n s in
         let one = name_seen n s f (clean_trans t.answers is (read.exported_passed (sight v u) t.answers y is) E (passed_clean t.answers y is) k) in
         let rest = passed_seen y h.after g (subst (λ ms. Clean t.answers (read.exported_passed (sight v u) t.answers y ms) E) (sym one.1) k) in let z = seen.seen_passed v u t.answers y h.after in (
-          next_seen (λ x. read.outcome_heard is_object number u v F d x (op.To (read.described_passed (sight v u) word c y))) (Reads (read.described (sight v u) c n) s) h one.0
-              ∙ next_seen (λ w. read.told (SettledTo h.read w)) (Passing (read.described_passed (sight v u) word c y) h.after) z rest.0,
+          next_seen (λ x. read.outcome_heard is_object u v F d x (op.To (read.described_passed (sight v u) c y))) (Reads (read.described (sight v u) c n) s) h one.0
+              ∙ next_seen (λ w. read.told (SettledTo h.read w)) (Passing (read.described_passed (sight v u) c y) h.after) z rest.0,
           rest.1 ∙ ap (λ ms. read.exported_passed (sight v u) t.answers y ms) one.1,
         )
 
-    asked_seen : (p i : ℕ) (n : Name) (s : Stage Name) → F.asked (length t.questions) ≡ n → IsRead v u word number t i → Hears (op.Accept (length c.questions) p (word i)) s ≡ Some (found (Ask p i (New n u)) s)
+    asked_seen : (p i : ℕ) (n : Name) (s : Stage Name) → F.asked (length t.questions) ≡ n → IsRead v u t p i → Hears (op.Accept (length c.questions) p (word_of i)) s ≡ Some (found (Ask p i (New n u)) s)
     unfolding read.note_heard read.told read.exporting
-    asked_seen p i n s e f = asks_where (length t.questions) (read.told (Ask p (number (word i)) (New (F.asked (length t.questions)) u))) s refl ∙ ap (λ j. Some (found (Ask p j (New (F.asked (length t.questions)) u)) s)) f ∙ ap (λ m. Some (found (Ask p i (New m u)) s)) e
+    asked_seen p i n s e f = asks_where (length t.questions) (read.told (Ask p (key p (word_of i)) (New (F.asked (length t.questions)) u))) s refl ∙ ap (λ j. Some (found (Ask p j (New (F.asked (length t.questions)) u)) s)) f ∙ ap (λ m. Some (found (Ask p i (New m u)) s)) e
 
-    delivered : (a : Bool) (m n : Name) (verb : List ℕ) (ys : Passeds Name) (s : Stage Name) → Hears (read.delivered (sight v u) word a (length c.questions) (read.described (sight v u) c n) verb (read.described_all (sight v u) word c ys)) s
-        ≡ read.message_heard is_object number u v F d a (read.described (sight v u) c n) verb (read.described_all (sight v u) word c ys) s
+    delivered : (a : Bool) (m n : Name) (verb : List ℕ) (ys : Passeds Name) (s : Stage Name) → Hears (read.delivered (sight v u) a (length c.questions) (read.described (sight v u) c n) verb (read.described_all (sight v u) c ys)) s
+        ≡ read.message_heard is_object u v F d a (read.described (sight v u) c n) verb (read.described_all (sight v u) c ys) s
     unfolding read.delivered read.note_heard read.exporting
-    delivered true m n verb ys s = asks_where (length t.questions) (read.message_heard is_object number u v F d true (read.described (sight v u) c n) verb (read.described_all (sight v u) word c ys)) s refl
+    delivered true m n verb ys s = asks_where (length t.questions) (read.message_heard is_object u v F d true (read.described (sight v u) c n) verb (read.described_all (sight v u) c ys)) s refl
     delivered false m n verb ys s = refl
 
-  module _ (word number : ℕ → ℕ) (t d : Connection Name) (F : Newcomers Name Name) (arrived : d.answers ≡ t.questions) (exports : IsFront t.imports d.exports) (questions : IsFront t.answers d.questions) (s : Stage Name) (same : s.imports ≡ t.exports) where
+  module _ (t d : Connection Name) (F : Newcomers Name Name) (arrived : d.answers ≡ t.questions) (exports : IsFront t.imports d.exports) (questions : IsFront t.answers d.questions) (s : Stage Name) (same : s.imports ≡ t.exports) where
     abbrev Later : Note Name → List Name
     Later n = read.exported_note (sight v u) t.answers n t.exports
 
     abbrev Result : Note Name → Type 0
-    Result n = (read.note_heard is_object number u v F d (read.operation (sight v u) word (read.exporting (sight v u) n t) n) s ≡ Some (seen.seen_note v u t.answers n s)) × (let h : Heard Name (Note (Incoming Name Name)) = seen.seen_note v u t.answers n s in h.after.imports ≡ Later n)
+    Result n = (read.note_heard is_object u v F d (read.operation (sight v u) (read.exporting (sight v u) n t) n) s ≡ Some (seen.seen_note v u t.answers n s)) × (let h : Heard Name (Note (Incoming Name Name)) = seen.seen_note v u t.answers n s in h.after.imports ≡ Later n)
 
     from : (n : Note Name) (g : List Name → List Name) → Later n ≡ g t.exports → Clean t.answers (g s.imports) (Later n)
     from n g e = subst (λ js. Clean t.answers (g s.imports) js) (sym (e ∙ ap g (sym same))) (clean_same t.answers (g s.imports))
 
-    note_seen : (n : Note Name) → Brings v u word number t F n → NoteFits v u word number t n → Result n
+    note_seen : (n : Note Name) → Brings v u t F n → NoteFits v u t n → Result n
     unfolding read.operation read.note_heard read.exported_note read.outcome_heard read.told seen.seen_note
     note_seen (Deliver x n verb ys) b f = let N : Note Name = Deliver x n verb ys in
-        let r = message_seen word number t d N F arrived exports questions b x.asks x.message n verb ys s (b.message x n verb ys refl) f.0 f.1 (from N (λ is. read.exported_all (sight v u) t.answers ys (read.exported_as (sight v u) t.answers n is)) refl) in
-        (delivered word number t d N F arrived exports questions b x.asks x.message n verb ys s ∙ r.0, r.1 ∙ ap (λ is. read.exported_all (sight v u) t.answers ys (read.exported_as (sight v u) t.answers n is)) same)
-    note_seen (Open i n) b f = let N : Note Name = Open i n in let r = about word number t d N F arrived exports questions b n s (λ x. Open i x) f.1 (from N (λ is. read.exported_as (sight v u) t.answers n is) refl) in
-        (ap (λ j. read.next (λ x. read.told (Open j x)) (read.name_heard is_object number u v F d (read.described (sight v u) (read.exporting (sight v u) N t) n) s)) f.0 ∙ r.0, r.1 ∙ ap (λ is. read.exported_as (sight v u) t.answers n is) same)
-    note_seen (Ask p i n) b f = (asked_seen word number t d (Ask p i n) F arrived exports questions b p i n s (b.asked p i n refl) f, same)
-    note_seen (SettledTo n y) b f = let N : Note Name = SettledTo n y in let r = settled_seen word number t d N F arrived exports questions b n y s f.0 f.1 (from N (λ is. read.exported_passed (sight v u) t.answers y (read.exported_as (sight v u) t.answers n is)) refl) in
+        let r = message_seen t d N F arrived exports questions b x.asks x.message n verb ys s (b.message x n verb ys refl) f.0 f.1 (from N (λ is. read.exported_all (sight v u) t.answers ys (read.exported_as (sight v u) t.answers n is)) refl) in
+        (delivered t d N F arrived exports questions b x.asks x.message n verb ys s ∙ r.0, r.1 ∙ ap (λ is. read.exported_all (sight v u) t.answers ys (read.exported_as (sight v u) t.answers n is)) same)
+    note_seen (Open i n) b f = let N : Note Name = Open i n in let r = about t d N F arrived exports questions b n s (λ x. Open i x) f.1 (from N (λ is. read.exported_as (sight v u) t.answers n is) refl) in
+        (ap (λ j. read.next (λ x. read.told (Open j x)) (read.name_heard is_object u v F d (read.described (sight v u) (read.exporting (sight v u) N t) n) s)) f.0 ∙ r.0, r.1 ∙ ap (λ is. read.exported_as (sight v u) t.answers n is) same)
+    note_seen (Ask p i n) b f = (asked_seen t d (Ask p i n) F arrived exports questions b p i n s (b.asked p i n refl) f, same)
+    note_seen (SettledTo n y) b f = let N : Note Name = SettledTo n y in let r = settled_seen t d N F arrived exports questions b n y s f.0 f.1 (from N (λ is. read.exported_passed (sight v u) t.answers y (read.exported_as (sight v u) t.answers n is)) refl) in
         (r.0, r.1 ∙ ap (λ is. read.exported_passed (sight v u) t.answers y (read.exported_as (sight v u) t.answers n is)) same)
-    note_seen (Elsewhere n c) b f = let N : Note Name = Elsewhere n c in let r = about word number t d N F arrived exports questions b n s (λ x. Elsewhere x c) f (from N (λ is. read.exported_as (sight v u) t.answers n is) refl) in
+    note_seen (Elsewhere n c) b f = let N : Note Name = Elsewhere n c in let r = about t d N F arrived exports questions b n s (λ x. Elsewhere x c) f (from N (λ is. read.exported_as (sight v u) t.answers n is) refl) in
         (r.0, r.1 ∙ ap (λ is. read.exported_as (sight v u) t.answers n is) same)
-    note_seen (Shorten n c i) b f = let N : Note Name = Shorten n c i in let r = about word number t d N F arrived exports questions b n s (λ x. Shorten x v i) f.1 (from N (λ is. read.exported_as (sight v u) t.answers n is) refl) in
-        (ap (λ j. read.next (λ x. read.told (Shorten x v j)) (read.name_heard is_object number u v F d (read.described (sight v u) (read.exporting (sight v u) N t) n) s)) f.0 ∙ r.0, r.1 ∙ ap (λ is. read.exported_as (sight v u) t.answers n is) same)
+    note_seen (Shorten n c i) b f = let N : Note Name = Shorten n c i in let r = about t d N F arrived exports questions b n s (λ x. Shorten x v i) f.1 (from N (λ is. read.exported_as (sight v u) t.answers n is) refl) in
+        (ap (λ j. read.next (λ x. read.told (Shorten x v j)) (read.name_heard is_object u v F d (read.described (sight v u) (read.exporting (sight v u) N t) n) s)) f.0 ∙ r.0, r.1 ∙ ap (λ is. read.exported_as (sight v u) t.answers n is) same)
 
 pub written_read : WhatIsWrittenIsRead
 unfolding read.frame_now
-written_read v u word number t d n s F same arrived exports questions fits b = note_seen v u word number t d F arrived exports questions s same n b fits
+written_read v u t d n s F same arrived exports questions fits b = note_seen v u t d F arrived exports questions s same n b fits

@@ -1,4 +1,4 @@
--- As long as a gift of a draw is under way no note that was ever put tells one of that draw.
+-- As long as a gift is under way no note that was ever put tells one under its key.
 use Rattle.std.proofs.Common.{◌≡◌, ℕ, zero, suc, ◌+◌, ◌≤◌, ◌<◌, Bool, true, false, List, [], ◌∷◌, ◌++◌, Some, refl, sym, ap, subst, ◌∙◌, ◌⊎◌, inl, inr, length, arith}
 use Rattle.std.specs.Prelude.{slice_get}
 use Rattle.def_machine.specs.Values.{Name, Root, Object, Promise, Answer, Gift, Sent}
@@ -6,7 +6,7 @@ use Rattle.def_machine.specs.State.{Note, Vat}
 use Rattle.def_run.specs.World as world
 use Rattle.def_run.specs.World.{Script, Program, Link, World, Entry, Goes as Going, names_of, read_note, put_at, push_all, pushed, with_link, with_notes, severed_link, link_at}
 use Rattle.law_fate.specs.Lasting.{Each}
-use Rattle.law_name.specs.Names.{AllOf, IsAmong, IsKnownIn, PutOk, names_in}
+use Rattle.law_name.specs.Names.{AllOf, IsAmong, IsKnownIn, PutOk, WasDrawn, names_in}
 use Rattle.law_name.specs.Runs.{KnowsOnce}
 use Rattle.law_name.proofs.Facts.{all_map, all_end}
 use Rattle.law_name.proofs.Among.{get_put}
@@ -21,7 +21,7 @@ use Rattle.law_reference.proofs.GiftLinks.{pushed_notes, push_all_gifts, with_li
 use Rattle.law_reference.specs.Hiding.{IsNotOf, Shuns}
 use Rattle.law_reference.proofs.AskRuns.{Past}
 use Rattle.law_reference.proofs.AskHolds.{opened_past, stepped_past}
-use Rattle.law_reference.proofs.HideMoves.{taken_sum, under_drawn, late, alone_out, note_out}
+use Rattle.law_reference.proofs.HideMoves.{taken_sum, under_drawn, early, late, alone_out, note_out}
 use Rattle.law_reference.proofs.HideRuns.{HiddenIn, opened_hidden, stepped_hidden}
 use Rattle.law_frame.specs.Asked.{told_in}
 use Rattle.law_frame.proofs.Told.{note_told}
@@ -71,11 +71,11 @@ module _ (script : Script) where
     wire : Wire script w
     none : NoneLogged w
 
-  -- ---- a draw that is still to be made
+  -- ---- a word that is still to be drawn
 
-  module _ (w : World) (k : Knows w) (i : ℕ) (late : length w.drawn ≤ i) where
+  module _ (w : World) (k : Knows w) (i : ℕ) (new : WasDrawn w.drawn i → ⊥) where
     not_of : (v : ℕ) (r : Vat Name) → slice_get w.vats v ≡ Some r → (z : Name) → IsKnownIn (names_in r.known) z → IsNotOf i z
-    not_of v r there (Gift h j) a = λ e. let past = k.past in let stands = stands_of script w past.0 in let at_vat = stands.vats v r there in let parts = at_vat.parts in let made : j < length w.drawn = (name_had (Had script w v r) r.known (Gift h j) parts.known a).0 in omega arith
+    not_of v r there (Gift h j) a = λ e. let past = k.past in let stands = stands_of script w past.0 in let at_vat = stands.vats v r there in let parts = at_vat.parts in let made : WasDrawn w.drawn j = (name_had (Had script w v r) r.known (Gift h j) parts.known a).0 in new (subst (λ (z : ℕ). WasDrawn w.drawn z) e made)
     not_of v r there (Root u) a = tt
     not_of v r there (Object u j) a = tt
     not_of v r there (Promise u j) a = tt
@@ -87,55 +87,53 @@ module _ (script : Script) where
 
   -- ---- a step
 
-  below_or : (i d : ℕ) → (i < d) ⊎ (d ≤ i)
-  below_or zero zero = inr (omega arith)
-  below_or zero (suc d) = inl (omega arith)
-  below_or (suc i) zero = inr (omega arith)
-  below_or (suc i) (suc d) = next (below_or i d)
-    where
-      next : (i < d) ⊎ (d ≤ i) → (suc i < suc d) ⊎ (suc d ≤ suc i)
-      next (inl h) = inl (omega arith)
-      next (inr h) = inr (omega arith)
-
   some_or : (x : ℕ) → (x ≡ 0) ⊎ (1 ≤ x)
   some_or zero = inl refl
   some_or (suc x) = inr (omega arith)
 
+  -- a word was drawn, or not
+  drawn_or : (i : ℕ) (d : List ℕ) → WasDrawn d i ⊎ (WasDrawn d i → ⊥)
+  drawn_or i d = either (some_or (drawn_of i d))
+    where
+      either : (drawn_of i d ≡ 0) ⊎ (1 ≤ drawn_of i d) → WasDrawn d i ⊎ (WasDrawn d i → ⊥)
+      either (inl e) = inr (late i d e)
+      either (inr l) = inl (early i d l)
+
   -- no gift of a draw that was made is put
-  none_out : (i a b x : ℕ) → i < a → x + drawn_of i a ≤ drawn_of i b → x ≤ 0
+  none_out : (i : ℕ) (a b : List ℕ) (x : ℕ) → WasDrawn a i → x + drawn_of i a ≤ drawn_of i b → x ≤ 0
   none_out i a b x l h = either (some_or (drawn_of i a))
     where
       either : (drawn_of i a ≡ 0) ⊎ (1 ≤ drawn_of i a) → x ≤ 0
-      either (inl e) = let f = late i a e in absurd (omega arith)
+      either (inl e) = absurd (late i a e l)
       either (inr e) = let f = under_drawn i b in omega arith
 
   module _ (w y : World) (p : Knows w) (r : Knows y) (h : UntoldIn w) (i : ℕ) (v : ℕ) (s t : Vat Name) (there : slice_get w.vats v ≡ Some s) (vats : y.vats ≡ put_at v t w.vats) (taken : List Link) (links : y.links ≡ push_all v t.outbox taken)
-      (out : gifts_out i t.outbox + drawn_of i (length w.drawn) ≤ drawn_of i (length t.drawn)) (less : gifts_under_way i taken ≤ gifts_under_way i w.links) (up : (a b : ℕ) → AtLink a b (Untold i) w.links → AtLink a b (Untold i) taken) (k : 1 ≤ gifts_under_way i y.links) where
+      (out : gifts_out i t.outbox + drawn_of i w.drawn ≤ drawn_of i t.drawn) (less : gifts_under_way i taken ≤ gifts_under_way i w.links) (up : (a b : ℕ) → AtLink a b (Untold i) w.links → AtLink a b (Untold i) taken) (k : 1 ≤ gifts_under_way i y.links) where
     placed : slice_get y.vats v ≡ Some t
     placed = ap (λ us. slice_get us v) vats ∙ get_put w.vats v s t there
 
     shunned : AllOf (PutOk (Shuns i v)) t.outbox
     shunned = let all = (r.hidden i k).0 v t placed in all.outbox
 
-    under : i < length w.drawn → 1 ≤ gifts_under_way i w.links
-    under l = let more : 1 ≤ gifts_under_way i (push_all v t.outbox taken) = rw links at k in let none = none_out i (length w.drawn) (length t.drawn) (gifts_out i t.outbox) l out in
+    under : WasDrawn w.drawn i → 1 ≤ gifts_under_way i w.links
+    under l = let more : 1 ≤ gifts_under_way i (push_all v t.outbox taken) = rw links at k in let none = none_out i w.drawn t.drawn (gifts_out i t.outbox) l out in
         let pushed = push_all_gifts (λ (j : Link). j.notes) i (pushed_notes i) v t.outbox taken in omega arith
 
     before : (a b : ℕ) → AtLink a b (Untold i) w.links
-    before = either (below_or i (length w.drawn))
+    before = either (drawn_or i w.drawn)
       where
-        either : (i < length w.drawn) ⊎ (length w.drawn ≤ i) → (a b : ℕ) → AtLink a b (Untold i) w.links
+        either : WasDrawn w.drawn i ⊎ (WasDrawn w.drawn i → ⊥) → (a b : ℕ) → AtLink a b (Untold i) w.links
         either (inl l) = h i (under l)
         either (inr l) = new_untold w p i l
 
     step_untold : (a b : ℕ) → AtLink a b (Untold i) y.links
     step_untold a b = subst (λ ls. AtLink a b (Untold i) ls) (sym links) (put_untold i a b v t taken shunned (up a b (before a b)))
 
-  provides : (w : World) (past : Past script w) (a v : ℕ) (n : Note Name) (ns : List (Note Name)) (l : Link) → link_at a v w.links ≡ Some l → l.notes ≡ n ∷ ns → Provides past.2.0 (length w.drawn) a v n
-  provides w past a v n ns l at notes = let fits = past.2 in let o = fits.1 in head (found_tells fits.0 (length w.drawn) a v l w.links o.links at)
+  provides : (w : World) (past : Past script w) (a v : ℕ) (n : Note Name) (ns : List (Note Name)) (l : Link) → link_at a v w.links ≡ Some l → l.notes ≡ n ∷ ns → Provides past.2.0 w.drawn a v n
+  provides w past a v n ns l at notes = let fits = past.2 in let o = fits.1 in head (found_tells fits.0 w.drawn a v l w.links o.links at)
     where
-      head : Each (Provides past.2.0 (length w.drawn) a v) l.notes → Provides past.2.0 (length w.drawn) a v n
-      head k = let one : Each (Provides past.2.0 (length w.drawn) a v) (n ∷ ns) = rw notes at k in one.0
+      head : Each (Provides past.2.0 w.drawn a v) l.notes → Provides past.2.0 w.drawn a v n
+      head k = let one : Each (Provides past.2.0 w.drawn a v) (n ∷ ns) = rw notes at k in one.0
 
   untold_on : (w y : World) → Knows w → Knows y → Moved script w y → UntoldIn w → UntoldIn y
   untold_on w y p r (Still v l d) h i k = let one : 1 ≤ gifts_under_way i w.links = rw l at k in λ a b. subst (λ ls. AtLink a b (Untold i) ls) (sym l) (h i one a b)

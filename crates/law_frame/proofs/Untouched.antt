@@ -6,7 +6,7 @@ use Rattle.law_machine.specs.Steps.{Receives}
 use Rattle.def_run.specs.World as world
 use Rattle.def_run.specs.World.{Script, Program, Entry, Link, World, Goes as Going, names_of, read_note, link_at}
 use Rattle.law_reference.specs.Logs as wire
-use Rattle.law_name.specs.Names.{IsMessageName, AllOf, IsAmong}
+use Rattle.law_name.specs.Names.{IsMessageName, AllOf, IsAmong, WasDrawn}
 use Rattle.law_name.specs.Runs.{KnowsOnce}
 use Rattle.law_name.proofs.Run.{Had, name_had}
 use Rattle.law_reference.proofs.Legs.{ApartIn}
@@ -57,8 +57,8 @@ some_or zero = inl refl
 some_or (suc x) = inr (omega arith)
 
 module _ (script : Script) (x y : World) (b : Before script x) (apart : (m : Msg) → ApartIn m x.vats x.links) (wires : Wire script x) (next : Wire script y) (none : NoneLogged x) (untold : UntoldIn x) (u h : ℕ) (l : Link) (at : link_at h u x.links ≡ Some l) (n : Note Name) (told : IsAmong n l.log) (z : Name) (among : IsAmong z (told_in n)) where
-  -- a gift that was told is of a draw that was made, and none is under way
-  made : (i : ℕ) → z ≡ Gift h i → i < length x.drawn
+  -- a gift that was told is under a word that was drawn, and none is under way
+  made : (i : ℕ) → z ≡ Gift h i → WasDrawn x.drawn i
   made i e = let k = told_known script x wires none h u l at n (Gift h i) told (subst (λ c. IsAmong c (told_in n)) e among) in
       let stands = stands_of script x b in let at_vat = stands.vats h k.0 k.1 in let parts = at_vat.parts in (name_had (Had script x h k.0) k.0.known (Gift h i) parts.known k.2).0
 

@@ -255,7 +255,7 @@ module _ (script : Script) where
   told_here w v to l n ns at e uncut splits t m p (inl i) = source_told w.links splits v to l n ns at e uncut t t.outbox (take_splits n ns v to l w.links at e splits) m i p
   told_here w v to l n ns at e uncut splits t m p (inr i) = inl i
 
-  no_message : (vats : List (Vat Name)) (d : ℕ) (m : Name) → WasMade vats d m → IsNoMessage m
+  no_message : (vats : List (Vat Name)) (d : List ℕ) (m : Name) → WasMade vats d m → IsNoMessage m
   no_message vats d (Message_name m) h = h
   no_message vats d (Root w) h = tt
   no_message vats d (Object w i) h = tt
@@ -264,7 +264,7 @@ module _ (script : Script) where
   no_message vats d (Gift w i) h = tt
 
   no_messages : (w : World) (n : Note Name) → NoteOk (Told script w) n → (m : Name) → IsAmong m (told_in n) → IsNoMessage m
-  no_messages w n ok m a = let made = all_among (λ x. Told script w (Named x)) (told_in n) m (note_told (Told script w) n ok) a in no_message w.vats (length w.drawn) m made.0
+  no_messages w n ok m a = let made = all_among (λ x. Told script w (Named x)) (told_in n) m (note_told (Told script w) n ok) a in no_message w.vats w.drawn m made.0
 
   known_apart : (w : World) (v : ℕ) (s : Vat Name) → Stands script w → slice_get w.vats v ≡ Some s → AllOf IsEventual (names_in s.known)
   known_apart w v s g i = let one = g.vats v s i in let kept = one.kept in kept.apart

@@ -2,10 +2,9 @@
 use Rattle.std.proofs.Common.{◌≡◌, ℕ, zero, ◌≤◌, ◌<◌, ◌+◌, Bool, true, false, List, [], ◌∷◌, ◌++◌, Option, Some, None, refl, sym, ap, subst, ◌∙◌, ◌⊎◌, inl, inr, length, ◌==◌, arith}
 use Rattle.std.specs.Prelude.{slice_get}
 use Rattle.std.proofs.lemmas.Bool.{eqb-true, eq-eqb}
-use Rattle.def_machine.specs.Values.{Name, Root, Object, Promise, Answer, Gift, Sent as Message_name, Msg, host_of, answer_of}
+use Rattle.def_machine.specs.Values.{Name, Root, Object, Promise, Answer, Gift, Sent as Message_name, Msg, host_of, answer_of, word_of}
 use Rattle.def_machine.specs.State.{Passeds, Note, Deliver, Open, Ask, SettledTo, Elsewhere, Shorten, GiftEntry, is_gift, Vat}
 use Rattle.def_machine.specs.Arrive.{gift_at}
-use Rattle.def_run.specs.Draws.{draw_word}
 use Rattle.def_run.specs.World as world
 use Rattle.def_run.specs.World.{Script, Entry, Link, World, Goes, link_at, has_name, is_old}
 use Rattle.law_reference.specs.Logs as wire
@@ -33,7 +32,6 @@ use Rattle.law_reference.specs.GiftPassing.{Provides, IsProvided, IsProvidedBy, 
 use Rattle.law_reference.proofs.GiftLaws.{one_provider}
 use Rattle.law_frame.specs.Asked.{AsksOf, told_in}
 use Rattle.law_frame.specs.Tables.{arrived}
-use Rattle.law_frame.specs.Alike.{draw_of}
 use Rattle.law_frame.proofs.WireAsking.{GiftFits, Proper}
 use Rattle.law_frame.proofs.Questions.{asked_or}
 use Rattle.law_frame.proofs.Told.{note_told}
@@ -47,7 +45,6 @@ use Rattle.law_frame.proofs.GivenLaws.{notes_name_given}
 use Rattle.law_frame.proofs.WireRuns.{Wire, stepped_both}
 use Rattle.law_frame.specs.Gifts.{AskedGiftStands, GiftsWereAskedFor}
 use Rattle.law_frame.proofs.Grow.{true_false, on_bool, among_right, questions_twice}
-use Rattle.law_frame.proofs.Words.{draw_is}
 use Rattle.law_frame.proofs.OrderRuns.{gifts_asked_first}
 use Rattle.law_frame.proofs.Reading.{Before, Stage, Yours, Ends, Asks}
 
@@ -137,10 +134,10 @@ none_or true g o e = cc
 none_or false g o e = (refl, e)
 
 -- a gift that stands there is found under the provider of its draw
-entered_found : (P : ℕ → ℕ) (d p i : ℕ) (gs : List (GiftEntry Name)) → P i ≡ p → AllOf (IsProvided P d) gs → IsEntered i gs → gift_at p i gs ≡ None → ⊥
+entered_found : (P : ℕ → ℕ) (d : List ℕ) (p i : ℕ) (gs : List (GiftEntry Name)) → P (word_of i) ≡ p → AllOf (IsProvided P d) gs → IsEntered i gs → gift_at p i gs ≡ None → ⊥
 unfolding gift_at
 entered_found P d p i [] e h a n = a
-entered_found P d p i (g ∷ gs) e h (inl f) n = true_false (is_gift p i g) (is_gift_of p i g (sym h.0.1 ∙ ap P f ∙ e) f) (none_or (is_gift p i g) g (gift_at p i gs) n).0
+entered_found P d p i (g ∷ gs) e h (inl f) n = true_false (is_gift p i g) (is_gift_of p i g (sym h.0.1 ∙ ap (λ (j : ℕ). P (word_of j)) f ∙ e) f) (none_or (is_gift p i g) g (gift_at p i gs) n).0
 entered_found P d p i (g ∷ gs) e h (inr a) n = entered_found P d p i gs e h.1 a (none_or (is_gift p i g) g (gift_at p i gs) n).1
 
 -- a gift that is known and is asked for stands, where the note that asks brings what is new
@@ -156,7 +153,7 @@ entered_or u p i gs None e h = let one_here = self_one (Gift u i) in absurd (ome
 
 pub asked_stands : (w : World) (v u : ℕ) (n : Note Name) (s : Vat Name) → BringsNew w v u n s → AskedGiftStands u n s
 unfolding world.read_note world.names_of brings_here brings
-asked_stands w v u (Ask p i n) s h = λ a. let b = h (Gift u i) in let c = claims_known u (Gift u i) s.known a in let d = allowed_once u (Gift u i) s (length w.drawn) in entered_or u p i s.gifts (gift_at p i s.gifts) refl (omega arith)
+asked_stands w v u (Ask p i n) s h = λ a. let b = h (Gift u i) in let c = claims_known u (Gift u i) s.known a in let d = allowed_once u (Gift u i) s w.drawn in entered_or u p i s.gifts (gift_at p i s.gifts) refl (omega arith)
 asked_stands w v u (Deliver m n verb ys) s h = tt
 asked_stands w v u (Open i n) s h = tt
 asked_stands w v u (SettledTo n y) s h = tt
@@ -238,12 +235,9 @@ module _ (script : Script) (once : KnowsOnce script) (w x : World) (es : List En
   abbrev pub Providers : ℕ → ℕ
   Providers = providers.0
 
-  pub provides : Provides Providers (length x.drawn) v u N
-  provides = let fits = at_link (LinkProvides Providers (length x.drawn)) v u l x.links (each_all (LinkProvides Providers (length x.drawn)) x.links providers.1) at in
-      subst (λ (z : ℕ). Provides Providers (length x.drawn) v z N) to_is (subst (λ (z : ℕ). Provides Providers (length x.drawn) z l.to N) from_is (all_among (Provides Providers (length x.drawn) l.from l.to) l.log N (each_all (Provides Providers (length x.drawn) l.from l.to) l.log fits.0.0) logged))
-
-  pub words : (i : ℕ) → i < length x.drawn → draw_of x.drawn (draw_word script.key i) ≡ i
-  words i h = let g = wires in let d = g.draws in draw_is (draw_word script.key) x.drawn d.0 d.1 i h
+  pub provides : Provides Providers x.drawn v u N
+  provides = let fits = at_link (LinkProvides Providers x.drawn) v u l x.links (each_all (LinkProvides Providers x.drawn) x.links providers.1) at in
+      subst (λ (z : ℕ). Provides Providers x.drawn v z N) to_is (subst (λ (z : ℕ). Provides Providers x.drawn z l.to N) from_is (all_among (Provides Providers x.drawn l.from l.to) l.log N (each_all (Provides Providers x.drawn l.from l.to) l.log fits.0.0) logged))
 
   -- ---- what is known
 
@@ -405,13 +399,13 @@ module _ (script : Script) (once : KnowsOnce script) (w x : World) (es : List En
   unfolding wire.questions_in
   asks_itself p i n = inl refl
 
-  pub asks : (F Ms : List Name) → AskedGiftStands u N s → (p i : ℕ) (n : Name) → N ≡ Ask p i n → IsProvidedBy Providers (length x.drawn) i p → Asks script x v u s N F Ms other p i n
+  pub asks : (F Ms : List Name) → AskedGiftStands u N s → (p i : ℕ) (n : Name) → N ≡ Ask p i n → IsProvidedBy Providers x.drawn i p → Asks script x v u s N F Ms other p i n
   asks F Ms g p i n e q = record {
     host = ap host_of same ∙ gift_host i;
     eventual = ap (is_old (names_in s.known)) same ∙ gift_old i ∙ ap (has_name (names_in s.known)) (sym same);
     put = subst (λ qs. IsAmong n qs) (sym put_is) (among_right n Answers (wire.questions_in u l.notes) (subst (λ ms. IsAmong n (wire.questions_in u ms)) (sym (head ∙ ap (λ z. z ∷ ns) e)) (asks_itself p i n)));
     entry = λ h f. entry h (found_entry p i s.gifts h f);
-    absent = λ f a. entered_found Providers (length x.drawn) p i s.gifts q.1 provided (stands (subst (λ z. IsAmong z (names_in s.known)) same a)) f;
+    absent = λ f a. entered_found Providers x.drawn p i s.gifts q.1 provided (stands (subst (λ z. IsAmong z (names_in s.known)) same a)) f;
   }
     where
       stands : IsAmong (Gift u i) (names_in s.known) → IsEntered i s.gifts
@@ -423,8 +417,8 @@ module _ (script : Script) (once : KnowsOnce script) (w x : World) (es : List En
       same : n ≡ Gift u i
       same = own
 
-      provided : AllOf (IsProvided Providers (length x.drawn)) s.gifts
-      provided = each_all (IsProvided Providers (length x.drawn)) s.gifts (providers.2 u s there)
+      provided : AllOf (IsProvided Providers x.drawn) s.gifts
+      provided = each_all (IsProvided Providers x.drawn) s.gifts (providers.2 u s there)
 
       entry : (h : GiftEntry Name) → IsAmong h s.gifts × (is_gift p i h ≡ true) → (h.name ≡ n) × IsAmong n (names_in s.known)
       entry h f = let b = wires in let fits = all_among (GiftFits u (names_in s.known)) s.gifts h (b.gifts u s there) f.0 in let is : h.name ≡ n = fits.0 ∙ ap (λ j. Gift u j) (gift_number p i h f.1) ∙ sym same in (is, subst (λ z. IsAmong z (names_in s.known)) is fits.1)

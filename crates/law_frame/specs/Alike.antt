@@ -1,6 +1,6 @@
 -- That a note which arrives is read alike in numbers and in names.
 use Rattle.std.specs.Prelude.{◌≡◌, ℕ, zero, suc, true, false, List, [], ◌∷◌, ◌++◌, Option, Some, None, length, map, slice_get, option_map, unwrap_or, ◌==◌}
-use Rattle.def_machine.specs.Values.{Name, Root, Local}
+use Rattle.def_machine.specs.Values.{Name, Root, Local, word_of}
 use Rattle.def_machine.specs.State.{Note, Deliver, Open, Ask, SettledTo, Elsewhere, Shorten, GiftEntry, Vat}
 use Rattle.def_machine.specs.Arrive.{Incoming, Old, New}
 use Rattle.law_name.specs.Names.{names_in}
@@ -8,7 +8,6 @@ use Rattle.law_renaming.specs.Maps as maps
 use Rattle.law_renaming.specs.Maps.{incoming}
 use Rattle.law_renaming.specs.Renaming.{Wire, Mine, Yours, MyAnswer, YourAnswer, Carried}
 use Rattle.law_renaming.specs.Stands.{Table, Found, Is, found}
-use Rattle.def_run.specs.Draws.{draw_word}
 use Rattle.def_run.specs.World.{Script, Entry, Turn, Carry, CutLink, NoticeLink, Link, World, Run, Goes, Stopped, link_at, known_after, read_passed, read_all, read_note, names_of, begins, open_from, step}
 use Rattle.law_reference.specs.Logs.{questions, exports, operation}
 use Rattle.law_reference.specs.Exports.{exported_at}
@@ -58,11 +57,6 @@ wire_name w v u n (MyAnswer q) = unwrap_or (slice_get (questions (λ i. i) w.lin
 wire_name w v u n (YourAnswer q) = unwrap_or (slice_get (questions (λ i. i) w.links u v) q) (Root u)
 wire_name w v u n Carried = message_of n
 
--- the number of the draw that had that word
-unfoldable pub draw_of : List ℕ → ℕ → ℕ
-draw_of [] word = zero
-draw_of (x ∷ xs) word = elim (x == word) [ true ↦ zero | false ↦ suc (draw_of xs word) ]
-
 -- a gift that the vat hosts, in numbers
 unfoldable pub numbered_gift : List Name → GiftEntry Name → GiftEntry Local
 numbered_gift ks g = record { name = known_number ks g.name; provider = g.provider; number = g.number; opened = g.opened }
@@ -71,7 +65,7 @@ numbered_gift ks g = record { name = known_number ks g.name; provider = g.provid
 unfoldable pub by_numbers : Script → World → ℕ → ℕ → Vat Name → Note Name → Option (Note (Incoming Found Name))
 by_numbers script w v u s n =
     option_map (λ x. maps.note (incoming (found u (table_heard w u s n)) (wire_name w v u n)) x.read)
-    (note_heard (draw_of w.drawn) u v (tables_of w u s v) (map (numbered_gift (names_in s.known)) s.gifts) (operation (draw_word script.key) w.links v u n) (tables_of w u s v).imports (length s.known))
+    (note_heard u v (tables_of w u s v) (map (numbered_gift (names_in s.known)) s.gifts) (operation word_of w.links v u n) (tables_of w u s v).imports (length s.known))
 
 -- and as the one machine reads it
 unfoldable pub by_names : ℕ → Vat Name → Note Name → Option (Note (Incoming Found Name))
@@ -110,5 +104,5 @@ ReadsAlike script = run_read (by_numbers script) script ≡ run_read (λ w v u s
 
 -- opens the definitions of this file, and of those below
 unfoldable pub opened_alike : Unit {0}
-unfolding names_heard table_heard from_peer as_told message_of wire_name draw_of numbered_gift by_numbers by_names head_read link_read entry_read where_goes entries_read run_read opened_tables opened_hearing
+unfolding names_heard table_heard from_peer as_told message_of wire_name numbered_gift by_numbers by_names head_read link_read entry_read where_goes entries_read run_read opened_tables opened_hearing
 opened_alike = tt

@@ -1,6 +1,6 @@
 -- The arrival of a note by the receiver's own tables and numbers stands for its arrival in names.
 use Rattle.std.specs.Prelude.{◌≡◌, ℕ, zero, ◌+◌, List, [], ◌∷◌, ◌++◌, Option, Some, slice_get, length, map}
-use Rattle.def_machine.specs.Values.{Name, Local, numbering}
+use Rattle.def_machine.specs.Values.{Name, Local, numbering, word_of}
 use Rattle.def_machine.specs.State.{Note, Vat, Gives}
 use Rattle.def_machine.specs.Arrive.{Incoming, arrive}
 use Rattle.law_name.specs.Names.{names_in}
@@ -16,12 +16,12 @@ use Rattle.law_reference.specs.Exports.{exported_at}
 use Rattle.law_reference.specs.NameTableRuns.{NotesBringNew}
 use Rattle.law_frame.specs.Tables.{tables_of}
 use Rattle.law_frame.specs.Hearing.{Heard, note_heard}
-use Rattle.law_frame.specs.Alike.{draw_of, numbered_gift}
+use Rattle.law_frame.specs.Alike.{numbered_gift}
 use Rattle.law_frame.specs.Known.{OnUncutLink}
 
 -- what vat u hears in the frame of a note from v, by its own tables
 unfoldable pub frame_heard : Script → World → ℕ → ℕ → Vat Name → Note Name → Option (Heard (Note (Incoming Local Wire)))
-frame_heard script w v u s n = note_heard (draw_of w.drawn) u v (tables_of w u s v) (map (numbered_gift (names_in s.known)) s.gifts) (operation (draw_word script.key) w.links v u n) (tables_of w u s v).imports (length s.known)
+frame_heard script w v u s n = note_heard u v (tables_of w u s v) (map (numbered_gift (names_in s.known)) s.gifts) (operation word_of w.links v u n) (tables_of w u s v).imports (length s.known)
 
 -- The table by which the numbers of vat u are read where a note arrives in world w: the names and messages that it has in the end, in state s, and what others had exported to it before.
 unfoldable pub table_across : World → ℕ → Vat Name → Table

@@ -4,7 +4,7 @@ use Rattle.def_op.specs.declared.op.Plain.{Plain as Fact}
 use Rattle.def_op.specs.declared.op.Plain.TheVariants as plain
 use Rattle.def_op.specs.Frames as op
 use Rattle.def_op.specs.Frames.{Described, Members, Outcome, Operation}
-use Rattle.def_machine.specs.Values.{Value, Null, Flag, Number, Letter, Text, Prim as Primitive, Broken, Ref, Local, Prom, Far}
+use Rattle.def_machine.specs.Values.{Value, Null, Flag, Number, Letter, Text, Prim as Primitive, Broken, Ref, Local, Prom, Far, key}
 use Rattle.def_machine.specs.State.{Passed, Passeds, Plain, AGift, Many, NoMore, More, Note, Deliver, Open, Ask, SettledTo, Elsewhere, Shorten, GiftEntry}
 use Rattle.def_machine.specs.Arrive.{Incoming, Old, New, gift_at}
 use Rattle.law_renaming.specs.Renaming.{Wire, Mine, MyAnswer, Carried}
@@ -39,7 +39,7 @@ unfoldable pub promise_heard : ℕ → ℕ → Option Local → Hearing (Incomin
 promise_heard peer p (Some l) imports known = told (Old l) imports known
 promise_heard peer p None imports known = told (New (Mine false p) peer) (with_position p (Prom known) imports) (suc known)
 
-module _ (draw_of : ℕ → ℕ) (me peer : ℕ) (t : Tables) where
+module _ (me peer : ℕ) (t : Tables) where
   -- a name of this vat or of the peer
   unfoldable pub name_heard : Described → Hearing (Incoming Local Wire)
   name_heard (op.MyExport p) imports known = told (Old (Far peer p)) (with_position p (Far peer p) imports) known
@@ -69,7 +69,7 @@ module _ (draw_of : ℕ → ℕ) (me peer : ℕ) (t : Tables) where
     passed_heard (op.Broken p) imports known = told (Plain (Broken p)) imports known
     passed_heard (op.ListOf ds) imports known = next (λ ys. told (Many ys)) (all_heard ds imports known)
     -- a gift comes to be known
-    passed_heard (op.Third h s) imports known = told (AGift h (draw_of s)) imports (suc known)
+    passed_heard (op.Third h s) imports known = told (AGift h (key peer s)) imports (suc known)
     passed_heard (op.MyExport p) imports known = next (λ x. told (reference_heard x)) (name_heard (op.MyExport p) imports known)
     passed_heard (op.MyPromise p) imports known = next (λ x. told (reference_heard x)) (name_heard (op.MyPromise p) imports known)
     passed_heard (op.YourExport p) imports known = next (λ x. told (reference_heard x)) (name_heard (op.YourExport p) imports known)
@@ -97,10 +97,10 @@ module _ (draw_of : ℕ → ℕ) (me peer : ℕ) (t : Tables) where
   unfoldable pub note_heard : List (GiftEntry Local) → Operation → Hearing (Note (Incoming Local Wire))
   note_heard gifts (op.Deliver q d verb ds) imports known = message_heard true d verb ds imports known
   note_heard gifts (op.DeliverOnly d verb ds) imports known = message_heard false d verb ds imports known
-  note_heard gifts (op.Provide d s) imports known = next (λ x. told (Open (draw_of s) x)) (name_heard d imports known)
-  note_heard gifts (op.Accept q p s) imports known = told (Ask p (draw_of s) (gift_heard q (gift_at p (draw_of s) gifts))) imports known
+  note_heard gifts (op.Provide d s) imports known = next (λ x. told (Open (key peer s) x)) (name_heard d imports known)
+  note_heard gifts (op.Accept q p s) imports known = told (Ask p (key p s) (gift_heard q (gift_at p (key p s) gifts))) imports known
   note_heard gifts (op.Resolve d o) imports known = next (λ x. outcome_heard x o) (name_heard d imports known)
-  note_heard gifts (op.Shorten d s) imports known = next (λ x. told (Shorten x peer (draw_of s))) (name_heard d imports known)
+  note_heard gifts (op.Shorten d s) imports known = next (λ x. told (Shorten x peer (key me s))) (name_heard d imports known)
 
 -- opens the definitions of this file
 unfoldable pub opened_hearing : Unit {0}

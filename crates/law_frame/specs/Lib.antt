@@ -20,3 +20,4 @@ pub mod Steps
 pub mod States
 pub mod Exports
 pub mod Chain
+pub mod OwnFrames

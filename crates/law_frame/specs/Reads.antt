@@ -1,6 +1,6 @@
 -- What is written is read: each name by its number, and as new what the writer tells first.
 use Rattle.std.specs.Prelude.{◌≡◌, ℕ, suc, Bool, true, false, List, [], ◌∷◌, ◌++◌, Option, Some, None, slice_get, length, ◌==◌, ◌⊎◌}
-use Rattle.def_machine.specs.Values.{Value, Null, Flag, Number, Letter, Text, Prim, Broken, Items, Ref, Name, Gift, host_of}
+use Rattle.def_machine.specs.Values.{Value, Null, Flag, Number, Letter, Text, Prim, Broken, Items, Ref, Name, Gift, host_of, key, word_of}
 use Rattle.def_machine.specs.State.{Passed, Passeds, Plain, AGift, Many, NoMore, More, Note, Delivery, Deliver, Open, Ask, SettledTo, Elsewhere, Shorten}
 use Rattle.def_machine.specs.Arrive.{Incoming, Old, New}
 use Rattle.def_run.specs.Connections.{Connection, Stage, Newcomers, Heard, stands_in, exported_note, frame_now, note_heard, learnt_at}
@@ -70,15 +70,15 @@ module _ (v u : ℕ) (asked : List Name) where
   seen_note (Elsewhere n c) s = after_that (seen_name n s) (λ x. found (Elsewhere x c))
   seen_note (Shorten n c i) s = after_that (seen_name n s) (λ x. found (Shorten x v i))
 
--- Where v writes by tables t, from the words of draws, and u reads words as draws by that:
-module _ (v u : ℕ) (word number : ℕ → ℕ) (t : Connection Name) where
+-- Where v writes by tables t:
+module _ (v u : ℕ) (t : Connection Name) where
   -- a name is of v, or has a number with it
   abbrev pub IsNumbered : Name → Type 0
   IsNumbered n = ((host_of n == v) ≡ true) ⊎ ((stands_in (sight v u) t.questions n ≡ true) ⊎ (stands_in (sight v u) t.imports n ≡ true))
 
-  -- the draw is read from its word
-  abbrev pub IsRead : ℕ → Type 0
-  IsRead i = number (word i) ≡ i
+  -- the key is read from its word under that provider
+  abbrev pub IsRead : ℕ → ℕ → Type 0
+  IsRead p i = key p (word_of i) ≡ i
 
   abbrev pub ValueFits : Value Name → Type 0
   ValueFits (Ref n) = IsNumbered n
@@ -94,21 +94,21 @@ module _ (v u : ℕ) (word number : ℕ → ℕ) (t : Connection Name) where
   abbrev mutual
     pub PassedFits : Passed Name → Type 0
     PassedFits (Plain y) = ValueFits y
-    PassedFits (AGift h i) = IsRead i
+    PassedFits (AGift h i) = IsRead v i
     PassedFits (Many ys) = AllFit ys
 
     pub AllFit : Passeds Name → Type 0
     AllFit NoMore = Unit {0}
     AllFit (More y ys) = PassedFits y × AllFit ys
 
-  -- each name in a note has a number, and no list stands there by its number in a heap
+  -- each name in a note has a number, each gift is of its provider, and no list stands there by its number in a heap
   abbrev pub NoteFits : Note Name → Type 0
   NoteFits (Deliver d n verb ys) = IsNumbered n × AllFit ys
-  NoteFits (Open i n) = IsRead i × IsNumbered n
-  NoteFits (Ask p i n) = IsRead i
+  NoteFits (Open i n) = IsRead v i × IsNumbered n
+  NoteFits (Ask p i n) = IsRead p i
   NoteFits (SettledTo n y) = IsNumbered n × PassedFits y
   NoteFits (Elsewhere n c) = IsNumbered n
-  NoteFits (Shorten n c i) = IsRead i × IsNumbered n
+  NoteFits (Shorten n c i) = IsRead u i × IsNumbered n
 
   -- what is new by a position is what v exported there, and the message and what is asked for are those of the note
   pub record Brings (F : Newcomers Name Name) (n : Note Name) : Type 0 where
@@ -122,7 +122,7 @@ module _ (v u : ℕ) (word number : ℕ → ℕ) (t : Connection Name) where
 -- So the frame that v writes of a note is read by u, by its own tables d, as that note: where what v asked it for by then has arrived, and what v had of it by then is still what it has at those numbers.
 -- And what v exported by then and with the note is what u has for its exports.
 abbrev pub WhatIsWrittenIsRead : Type 0
-WhatIsWrittenIsRead = (v u : ℕ) (word number : ℕ → ℕ) (t d : Connection Name) (n : Note Name) (s : Stage Name) (F : Newcomers Name Name)
-    → s.imports ≡ t.exports → d.answers ≡ t.questions → IsFront t.imports d.exports → IsFront t.answers d.questions → NoteFits v u word number t n → Brings v u word number t F n
-    → (note_heard is_object number u v F d (frame_now (sight v u) word n t) s ≡ Some (seen_note v u t.answers n s))
+WhatIsWrittenIsRead = (v u : ℕ) (t d : Connection Name) (n : Note Name) (s : Stage Name) (F : Newcomers Name Name)
+    → s.imports ≡ t.exports → d.answers ≡ t.questions → IsFront t.imports d.exports → IsFront t.answers d.questions → NoteFits v u t n → Brings v u t F n
+    → (note_heard is_object u v F d (frame_now (sight v u) n t) s ≡ Some (seen_note v u t.answers n s))
     × (let h : Heard Name (Note (Incoming Name Name)) = seen_note v u t.answers n s in h.after.imports ≡ exported_note (sight v u) t.answers n t.exports)

@@ -3,19 +3,18 @@ use Rattle.std.specs.Prelude.{◌≡◌, ℕ, true, false, List, [], ◌∷◌, 
 use Rattle.def_op.specs.Frames.{Operation, spelling}
 use Rattle.def_machine.specs.Values.{Name}
 use Rattle.def_machine.specs.State.{Note, Vat, is_in}
-use Rattle.law_machine.specs.Laws.{Stays}
 use Rattle.def_run.specs.Connections.{Connection, asked_in, exported_note, frame_now}
-use Rattle.def_run.specs.Wire.{Connected, connected_at, sight, word_of}
+use Rattle.def_run.specs.Wire.{Connected, connected_at, sight}
 use Rattle.def_run.specs.World.{Script, Program, Entry, Link, World, Goes, link_at, next_frame, begins, open_from, steps_from}
 use Rattle.law_run.specs.Moves.{Reached, AnyNotice}
 use Rattle.law_frame.specs.Growing.{TablesGrow}
 
-module _ (v u : ℕ) (drawn : List ℕ) (c : Connected) where
+module _ (v u : ℕ) (c : Connected) where
   -- These are the frames of those notes from v to u, in order, up to the last that was put; c is what v has for u, and what it exported to u and asked it for before is that.
-  -- Each was written by the tables that v had as the note was put, and from the words drawn by then.
+  -- Each was written by the tables that v had as the note was put.
   abbrev pub AreWritten : List Name → List Name → List (Note Name) → List Operation → Type 0
   AreWritten exported asked [] [] = (exported ≡ c.tables.exports) × (asked ≡ c.tables.questions)
-  AreWritten exported asked (n ∷ ns) (o ∷ os) = (t : Connection Name) × (ds : List ℕ) × (t.exports ≡ exported) × (t.questions ≡ asked) × TablesGrow t c.tables × Stays ds drawn × (o ≡ frame_now (sight v u) (word_of ds) n t)
+  AreWritten exported asked (n ∷ ns) (o ∷ os) = (t : Connection Name) × (t.exports ≡ exported) × (t.questions ≡ asked) × TablesGrow t c.tables × (o ≡ frame_now (sight v u) n t)
       × AreWritten (exported_note (sight v u) t.answers n exported) (asked ++ asked_in (sight v u) n) ns os
   AreWritten exported asked [] (o ∷ os) = ⊥
   AreWritten exported asked (n ∷ ns) [] = ⊥
@@ -27,7 +26,7 @@ module _ (v u : ℕ) (drawn : List ℕ) (c : Connected) where
 -- on the link from v to u, which is not cut, and where u is a vat
 abbrev pub LinkHasFrames : World → ℕ → ℕ → Type 0
 LinkHasFrames w v u = (v ≡ u → ⊥) → (l : Link) (s : Vat Name) → link_at v u w.links ≡ Some l → l.cut ≡ false → slice_get w.vats u ≡ Some s
-    → HaveTheirFrames v u w.drawn (connected_at v u w.connections) (connected_at u v w.connections) l.notes
+    → HaveTheirFrames v u (connected_at v u w.connections) (connected_at u v w.connections) l.notes
 
 -- In each world that is reached, whichever vats are hostile and whatever they say.
 abbrev pub NotesHaveTheirFrames : Type 0
@@ -37,5 +36,5 @@ NotesHaveTheirFrames = (script : Script) (hs : List ℕ) (w : World) → Reached
 abbrev pub NextFramesAreWritten : Type 0
 NextFramesAreWritten = (script : Script) (w x : World) (es : List Entry) (k : ℕ) → open_from script 0 script.vats (begins script) ≡ Goes w → steps_from script es k w ≡ Goes x
     → (v u : ℕ) (l : Link) (s : Vat Name) (n : Note Name) (ns : List (Note Name)) → (v ≡ u → ⊥) → link_at v u x.links ≡ Some l → l.cut ≡ false → slice_get x.vats u ≡ Some s → l.notes ≡ n ∷ ns
-    → (t : Connection Name) × (ds : List ℕ) × TablesGrow t (connected_at v u x.connections).tables × Stays ds x.drawn × (t.questions ≡ (connected_at u v x.connections).tables.answers)
-    × (next_frame v u x.connections ≡ spelling (frame_now (sight v u) (word_of ds) n t))
+    → (t : Connection Name) × TablesGrow t (connected_at v u x.connections).tables × (t.questions ≡ (connected_at u v x.connections).tables.answers)
+    × (next_frame v u x.connections ≡ spelling (frame_now (sight v u) n t))

@@ -2,7 +2,8 @@
 
 ghost use Rattle.law_frame.specs.Growing.{NumbersStay};
 ghost use Rattle.law_frame.specs.Reads.{WhatIsWrittenIsRead};
-ghost use Rattle.law_frame.specs.Together.{ReadingsGoTogether};
+ghost use Rattle.law_frame.specs.OwnFrames.{FramesAreWrittenByNumbers};
+ghost use Rattle.law_frame.specs.Together.{ReadingsGoTogether, WritingsGoTogether};
 ghost use Rattle.law_frame.specs.Written.{NextFramesAreWritten, NotesHaveTheirFrames};
 
 /// What has a number between two vats keeps it: in each run, from any world on, what a vat exported to another
@@ -16,6 +17,19 @@ pub fn numbers_stay()
 /// has for them, and objects are told from promises as before, what is read by the changed tables is what is read by the tables, changed.
 pub fn readings_go_together()
     ensures { ReadingsGoTogether }
+{}
+
+/// The writings of a note by the numbers of a vat and in names go together too: what is written by the changed tables is what is
+/// written by the tables, and so are the tables after it, where the names in them and in the note are told apart alike, and the answer
+/// that is asked for is the changed one.
+pub fn writings_go_together()
+    ensures { WritingsGoTogether }
+{}
+
+/// So a vat writes by its own numbers the very frame that the note has in names: where what it has in numbers for the peer, and the
+/// note, stand for what it has in names and for the note in names. What it has in numbers after it stands for what it has in names.
+pub fn frames_are_written_by_numbers()
+    ensures { FramesAreWrittenByNumbers }
 {}
 
 /// The notes under way on a link that is not cut have their frames, in order, behind those that have arrived, and each

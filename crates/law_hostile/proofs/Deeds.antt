@@ -33,23 +33,23 @@ module _ (script : Script) (w : World) (v : ℕ) (s : Vat Name) (there : slice_g
 
   -- it grew, and is sound
   abbrev pub GrewTo : Vat Name → Vat Name → Type 0
-  GrewTo a b = Grew true (inside script) w.vats v s there here Word w.vats (length w.drawn) a b × Sound T b
+  GrewTo a b = Grew true (inside script) w.vats v s there here Word w.vats w.drawn a b × Sound T b
 
   pub stays : (a : Vat Name) → Sound T a → GrewTo a a
-  stays a h = (grew true (inside script) w.vats v s there here Word w.vats (length w.drawn) a a (T.same a), h)
+  stays a h = (grew true (inside script) w.vats v s there here Word w.vats w.drawn a a (T.same a), h)
 
   goes_on : (a b c : Vat Name) → GrewTo a b → GrewTo b c → GrewTo a c
-  goes_on a b c h k = (follows_trans true (λ n. ⊥) (names_in a.known) a.mails a.promises a.messages (length a.drawn) (names_in b.known) b.mails b.promises b.messages (length b.drawn) (names_in c.known) c.mails c.promises c.messages (length c.drawn) h.0 k.0, k.1)
+  goes_on a b c h k = (follows_trans true (λ n. ⊥) (names_in a.known) a.mails a.promises a.messages a.drawn (names_in b.known) b.mails b.promises b.messages b.drawn (names_in c.known) c.mails c.promises c.messages c.drawn h.0 k.0, k.1)
 
   ends_at : (a : Vat Name) (d : Done Name (Unit {0})) (b : Vat Name) → Ends T nothing a d → d ≡ Gives tt b → GrewTo a b
-  ends_at a d b h e = let k : Ends T nothing a (Gives (tt {0}) b) = rw e at h in (grew true (inside script) w.vats v s there here Word w.vats (length w.drawn) a b k.0, k.1)
+  ends_at a d b h e = let k : Ends T nothing a (Gives (tt {0}) b) = rw e at h in (grew true (inside script) w.vats v s there here Word w.vats w.drawn a b k.0, k.1)
 
   fine_then_nothing : {A : Type 0} (C : Fact Name) (m : Act Name A) (P : A → Fact Name) → Fine T C m P → Fine T C (m >> give (tt {0})) nothing
   fine_then_nothing C m P f = fine_then T P f (fine_give T (tt {0}) (record { at = λ r c. tt }))
 
   -- ---- a name that is learnt
 
-  knows : (a : Vat Name) → Sound T a → Knows true (inside script) w.vats v s there here Word (put_at v a w.vats) (length a.drawn) (names_in a.known) a
+  knows : (a : Vat Name) → Sound T a → Knows true (inside script) w.vats v s there here Word (put_at v a w.vats) a.drawn (names_in a.known) a
   knows a h = record {
     all = λ n i. name_had (OkAt a) a.known n h.parts.known i;
     told = λ n t i. i;
@@ -57,7 +57,7 @@ module _ (script : Script) (w : World) (v : ℕ) (s : Vat Name) (there : slice_g
     made = λ b i. i;
   }
 
-  learned_at : (a : Vat Name) (d : Done Name Name) (b : Vat Name) (ks : List Name) → Learned true (inside script) w.vats v s there here Word (put_at v a w.vats) (length a.drawn) ks IsName a d → and_then {B = Unit {0}} d (λ _. give (tt {0})) ≡ Gives (tt {0}) b → GrewTo a b
+  learned_at : (a : Vat Name) (d : Done Name Name) (b : Vat Name) (ks : List Name) → Learned true (inside script) w.vats v s there here Word (put_at v a w.vats) a.drawn ks IsName a d → and_then {B = Unit {0}} d (λ _. give (tt {0})) ≡ Gives (tt {0}) b → GrewTo a b
   unfolding and_then give
   learned_at a (Gives n t) b ks h e = let same : t ≡ b = cc in let k : GrewTo a t = (h.0, h.1) in rw same at k
   learned_at a (Throws p t) b ks h e = cc
@@ -73,7 +73,7 @@ module _ (script : Script) (w : World) (v : ℕ) (s : Vat Name) (there : slice_g
   deed_goes (NewMessage h) a b g m e = ends_at a _ b ((fine_then_nothing (IsVat h) (new_message Names h) new_names (fine_new_message Names T (tracked_under true (inside script) w.vats v s there here Word) (tracked_makes (inside script) w.vats v s there here Word) h (record { at = λ r c. c }))).after a g (tt, tt, tt, λ k. m)) e
   deed_goes NewLone a b h m e = ends_at a _ b ((fine_then_nothing Nothing (new_lone_message Names) IsMail (fine_lone_message Names T (tracked_under true (inside script) w.vats v s there here Word) (tracked_makes (inside script) w.vats v s there here Word))).after a h tt) e
   deed_goes NewDraw a b h m e = ends_at a _ b ((fine_then_nothing Nothing (draw Names) IsDraw (fine_draw Names T (tracked_under true (inside script) w.vats v s there here Word))).after a h tt) e
-  deed_goes (Learns n) a b h m e = learned_at a _ b _ ((learn_name true (inside script) w.vats v s there here Word (put_at v a w.vats) (length a.drawn) {C = Nothing} (names_in a.known) n (m.0, λ k. m.1)).after a h (knows a h) tt) e
+  deed_goes (Learns n) a b h m e = learned_at a _ b _ ((learn_name true (inside script) w.vats v s there here Word (put_at v a w.vats) a.drawn {C = Nothing} (names_in a.known) n (m.0, λ k. m.1)).after a h (knows a h) tt) e
 
   module _ (Hostile : ℕ → Type 0) (MayNotice : World → ℕ → ℕ → Type 0) where
     pub deeds_go : (ds : List Deed) (a t : Vat Name) → Sound T a → Performs script Hostile MayNotice (λ w v s d. May script w v s d) (λ w v u s n. Lawful script w v u s n) w v ds a t → GrewTo a t
@@ -82,24 +82,24 @@ module _ (script : Script) (w : World) (v : ℕ) (s : Vat Name) (there : slice_g
 
   -- ---- what comes
 
-  message_goes : (m : Name) (a b : Vat Name) → IsMade w.vats (length w.drawn) (Mail m) → Inside script (Mail m) → Sound T a → Knows true (inside script) w.vats v s there here Word w.vats (length w.drawn) (names_in a.known) a
+  message_goes : (m : Name) (a b : Vat Name) → IsMade w.vats w.drawn (Mail m) → Inside script (Mail m) → Sound T a → Knows true (inside script) w.vats v s there here Word w.vats w.drawn (names_in a.known) a
       → (arrive.learn_message Names (New m (host_of m)) >>= (λ id. come Names (IsAnswer v id) v >> give (tt {0}))) a ≡ Gives (tt {0}) b → GrewTo a b
-  message_goes m a b made in' h k e = ended a _ b ((reads_bind true (inside script) w.vats v s there here Word w.vats (length w.drawn) {C = Nothing} IsMail (message_learned true (inside script) w.vats v s there here Word w.vats (length w.drawn) {C = Nothing} (names_in a.known) m (host_of m) (made, in'))
-      (λ id. reads_fine true (inside script) w.vats v s there here Word w.vats (length w.drawn) (fine_then T IsName (come_answer Names T (tracked_under true (inside script) w.vats v s there here Word) v id (record { at = λ r c. c.1 }) (record { at = λ r c. (tt, tt, tt, here) })) (fine_give T (tt {0}) {H = nothing} (record { at = λ r c. tt }))))).after a h k tt) e
+  message_goes m a b made in' h k e = ended a _ b ((reads_bind true (inside script) w.vats v s there here Word w.vats w.drawn {C = Nothing} IsMail (message_learned true (inside script) w.vats v s there here Word w.vats w.drawn {C = Nothing} (names_in a.known) m (host_of m) (made, in'))
+      (λ id. reads_fine true (inside script) w.vats v s there here Word w.vats w.drawn (fine_then T IsName (come_answer Names T (tracked_under true (inside script) w.vats v s there here Word) v id (record { at = λ r c. c.1 }) (record { at = λ r c. (tt, tt, tt, here) })) (fine_give T (tt {0}) {H = nothing} (record { at = λ r c. tt }))))).after a h k tt) e
     where
-      ended : (a : Vat Name) (d : Done Name (Unit {0})) (b : Vat Name) → Ended true (inside script) w.vats v s there here Word w.vats (length w.drawn) a d → d ≡ Gives (tt {0}) b → GrewTo a b
-      ended a d b h e = let k : Ended true (inside script) w.vats v s there here Word w.vats (length w.drawn) a (Gives (tt {0}) b) = rw e at h in k
+      ended : (a : Vat Name) (d : Done Name (Unit {0})) (b : Vat Name) → Ended true (inside script) w.vats v s there here Word w.vats w.drawn a d → d ≡ Gives (tt {0}) b → GrewTo a b
+      ended a d b h e = let k : Ended true (inside script) w.vats v s there here Word w.vats w.drawn a (Gives (tt {0}) b) = rw e at h in k
 
-  lone_goes : (m : Name) (a b : Vat Name) → IsMade w.vats (length w.drawn) (Mail m) → Inside script (Mail m) → Sound T a → Knows true (inside script) w.vats v s there here Word w.vats (length w.drawn) (names_in a.known) a
+  lone_goes : (m : Name) (a b : Vat Name) → IsMade w.vats w.drawn (Mail m) → Inside script (Mail m) → Sound T a → Knows true (inside script) w.vats v s there here Word w.vats w.drawn (names_in a.known) a
       → (arrive.learn_message Names (New m (host_of m)) >> give (tt {0})) a ≡ Gives (tt {0}) b → GrewTo a b
   unfolding ◌>>◌ ◌>>=◌
-  lone_goes m a b made in' h k e = ended a _ b ((reads_bind true (inside script) w.vats v s there here Word w.vats (length w.drawn) {C = Nothing} IsMail (message_learned true (inside script) w.vats v s there here Word w.vats (length w.drawn) {C = Nothing} (names_in a.known) m (host_of m) (made, in'))
-      (λ id. reads_fine true (inside script) w.vats v s there here Word w.vats (length w.drawn) (fine_give T (tt {0}) {H = nothing} (record { at = λ r c. tt })))).after a h k tt) e
+  lone_goes m a b made in' h k e = ended a _ b ((reads_bind true (inside script) w.vats v s there here Word w.vats w.drawn {C = Nothing} IsMail (message_learned true (inside script) w.vats v s there here Word w.vats w.drawn {C = Nothing} (names_in a.known) m (host_of m) (made, in'))
+      (λ id. reads_fine true (inside script) w.vats v s there here Word w.vats w.drawn (fine_give T (tt {0}) {H = nothing} (record { at = λ r c. tt })))).after a h k tt) e
     where
-      ended : (a : Vat Name) (d : Done Name (Unit {0})) (b : Vat Name) → Ended true (inside script) w.vats v s there here Word w.vats (length w.drawn) a d → d ≡ Gives (tt {0}) b → GrewTo a b
-      ended a d b h e = let k : Ended true (inside script) w.vats v s there here Word w.vats (length w.drawn) a (Gives (tt {0}) b) = rw e at h in k
+      ended : (a : Vat Name) (d : Done Name (Unit {0})) (b : Vat Name) → Ended true (inside script) w.vats v s there here Word w.vats w.drawn a d → d ≡ Gives (tt {0}) b → GrewTo a b
+      ended a d b h e = let k : Ended true (inside script) w.vats v s there here Word w.vats w.drawn a (Gives (tt {0}) b) = rw e at h in k
 
-  hears_go : (m : Name) (asks : Bool) (a b : Vat Name) → IsMade w.vats (length w.drawn) (Mail m) → Inside script (Mail m) → Sound T a → Knows true (inside script) w.vats v s there here Word w.vats (length w.drawn) (names_in a.known) a → hear_message script v m asks a ≡ Gives tt b → GrewTo a b
+  hears_go : (m : Name) (asks : Bool) (a b : Vat Name) → IsMade w.vats w.drawn (Mail m) → Inside script (Mail m) → Sound T a → Knows true (inside script) w.vats v s there here Word w.vats w.drawn (names_in a.known) a → hear_message script v m asks a ≡ Gives tt b → GrewTo a b
   unfolding hear_message names
   hears_go m true a b i j h k e = message_goes m a b i j h k e
   hears_go m false a b i j h k e = lone_goes m a b i j h k e
@@ -107,7 +107,7 @@ module _ (script : Script) (w : World) (v : ℕ) (s : Vat Name) (there : slice_g
   nothing_goes : (a b : Vat Name) → Sound T a → Gives (tt {0}) a ≡ Gives (tt {0}) b → GrewTo a b
   nothing_goes a b h e = let same : a ≡ b = cc in subst (λ x. GrewTo a x) same (stays a h)
 
-  pub hear_goes : (n : Note Name) (a b : Vat Name) → NoteOk (λ b. IsMade w.vats (length w.drawn) b × Inside script (bare b)) n → Sound T a → Knows true (inside script) w.vats v s there here Word w.vats (length w.drawn) (names_in a.known) a → hear script v n a ≡ Gives tt b → GrewTo a b
+  pub hear_goes : (n : Note Name) (a b : Vat Name) → NoteOk (λ b. IsMade w.vats w.drawn b × Inside script (bare b)) n → Sound T a → Knows true (inside script) w.vats v s there here Word w.vats w.drawn (names_in a.known) a → hear script v n a ≡ Gives tt b → GrewTo a b
   unfolding hear names give
   hear_goes (Deliver d x verb ys) a b o h k e = hears_go d.message d.asks a b o.0.0 o.0.1 h k e
   hear_goes (Open i x) a b o h k e = nothing_goes a b h e
@@ -139,7 +139,7 @@ module _ (script : Script) (w : World) (v : ℕ) (s : Vat Name) (there : slice_g
   other_far (Gave i) h = h
 
   abbrev Lawfully : Vat Name → Bit Name → Type 0
-  Lawfully t b = IsMade (put_at v t w.vats) (length t.drawn) b × IsHad (names_in t.known) t.mails b × IsOther v b × IsBelow (length script.vats) b
+  Lawfully t b = IsMade (put_at v t w.vats) t.drawn b × IsHad (names_in t.known) t.mails b × IsOther v b × IsBelow (length script.vats) b
 
   lawful_ok : (t : Vat Name) (b : Bit Name) → Lawfully t b → OkAt t b
   lawful_ok t b h = (h.0, h.1, other_far b h.2, λ k. below_inside b h.3)

@@ -50,9 +50,9 @@ module _ (script : Script) where
   -- ---- a vat went on, soundly
 
   module _ (w : World) (v : ℕ) (s r : Vat Name) (there : slice_get w.vats v ≡ Some s) (h : Stands script w) (grown : GrewTo script w v s there (low_at script w h v s there) (readied w s) r) where
-    made_next : (b : Bit Name) → IsMade w.vats (length w.drawn) b → IsMade (put_at v r w.vats) (length r.drawn) b
+    made_next : (b : Bit Name) → IsMade w.vats w.drawn b → IsMade (put_at v r w.vats) r.drawn b
     unfolding readied
-    made_next b i = let g = grown.0 in is_made_up w.vats (put_at v r w.vats) (length w.drawn) (length r.drawn) (λ u. promises_put w.vats v s r u there g.promises) (λ u. messages_put w.vats v s r u there g.messages) g.draws b i
+    made_next b i = let g = grown.0 in is_made_up w.vats (put_at v r w.vats) w.drawn r.drawn (λ u. promises_put w.vats v s r u there g.promises) (λ u. messages_put w.vats v s r u there g.messages) g.draws b i
 
     other_next : (x : World) → x.vats ≡ put_at v r w.vats → x.drawn ≡ r.drawn → (u : ℕ) (q : Vat Name) → VatStands script w u q → VatStands script x u q
     other_next x a d u q k = record {
@@ -76,7 +76,7 @@ module _ (script : Script) where
     each_next x a d u q (inr e) = other_next x a d u q (h.vats u q e)
 
     abbrev Next_told : Bit Name → Type 0
-    Next_told b = IsMade (put_at v r w.vats) (length r.drawn) b × Inside script (bare b)
+    Next_told b = IsMade (put_at v r w.vats) r.drawn b × Inside script (bare b)
 
     abbrev Stood : Link → Type 0
     Stood l = AllOf (NoteOk Next_told) l.notes

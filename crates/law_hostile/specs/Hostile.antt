@@ -40,7 +40,7 @@ IsOther v (Gave i) = Unit {0}
 module _ (script : Script) (w : World) (v : ℕ) where
   -- a name that was made, in the world or by the deeds so far
   abbrev pub IsMadeBy : Vat Name → Bit Name → Type 0
-  IsMadeBy s b = IsMade (put_at v s w.vats) (length s.drawn) b
+  IsMadeBy s b = IsMade (put_at v s w.vats) s.drawn b
 
   -- what the record of a hostile vat may do, being s
   abbrev pub May : Vat Name → Deed → Type 0
@@ -82,7 +82,7 @@ NotesCarryTheirEnds = InReached (λ w. AllOf LinkCarries w.links)
 
 -- every name in a note under way was made
 abbrev pub NotesNameWhatWasMade : Type 0
-NotesNameWhatWasMade = InReached (λ w. AllOf (λ l. AllOf (NoteOk (IsMade w.vats (length w.drawn))) l.notes) w.links)
+NotesNameWhatWasMade = InReached (λ w. AllOf (λ l. AllOf (NoteOk (IsMade w.vats w.drawn)) l.notes) w.links)
 
 -- a message of vat 1 to the root of vat 0
 abbrev pub a_note : Note Name

@@ -5,7 +5,7 @@ use Rattle.ev_base.specs.declared.values.Value.{Value}
 use Rattle.ev_base.specs.declared.values.Value.TheVariants as held
 use Rattle.ev_heap.specs.Contents.{Contents}
 use Rattle.def_machine.specs.State.{is_in}
-use Rattle.def_machine.specs.Values.{Words}
+use Rattle.def_machine.specs.Values.{Words, key}
 use Rattle.ev_refs.specs.Follow.{followed, place_of}
 use Rattle.ev_refs.specs.Leading.{lists_in, members_at}
 use Rattle.ev_refs.specs.References.{References}
@@ -130,8 +130,8 @@ module _ (kind : Value → Bool) (base : Base) (ground : GroundOf kind base) whe
   unfolding provide ◌>>=◌ ◌>>◌
   provide_of w x i good =
       then_of kind base Anything Anything (draw i) _ (draw_of kind base i good)
-      (λ k a j next. then_of kind base Anything Anything (send_out w (Open k x) j) _ (send_out_of kind base w (Open k x) j next)
-      (λ u b l last. give_of kind base Anything (Gift w k) l tt last))
+      (λ k a j next. then_of kind base Anything Anything (send_out w (Open (key i.refs.me k) x) j) _ (send_out_of kind base w (Open (key i.refs.me k) x) j next)
+      (λ u b l last. give_of kind base Anything (Gift w (key i.refs.me k)) l tt last))
 
   introduce_if : (b : Bool) (y : Value) (w : ℕ) (x : Reference) (i : Interior) → InsideOf kind base i → EndsOf kind base Anything ((if b then give (Plain y) else provide w x) i)
   introduce_if true y w x i good = give_of kind base Anything (Plain y) i tt good

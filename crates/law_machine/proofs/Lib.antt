@@ -1,3 +1,4 @@
+pub mod KeyLaws
 pub mod Walks
 pub mod RefsWalk
 pub mod ArriveWalk

@@ -1,6 +1,6 @@
 -- What no step of a vat undoes.
 use Rattle.std.specs.Prelude.{◌≡◌, ℕ, ◌≤◌, true, false, List, ◌++◌, Some, slice_get}
-use Rattle.def_machine.specs.Values.{Words, Value, Broken, Ref, Name, Local, Naming}
+use Rattle.def_machine.specs.Values.{Words, Value, Broken, Ref, Name, Local, Naming, key, word_of, provider_of}
 use Rattle.def_machine.specs.State.{Binding, Cell, View, Made, Ejector, Audition, Resolver, Known, Settled, Happened, Put, Vat, is_in}
 use Rattle.def_machine.specs.Refs.{entry_of, standing_of, follow}
 use Rattle.law_machine.specs.Steps.{KeptBySteps, StepsEnd, IsQuiet}
@@ -114,3 +114,9 @@ BreakingsStay = KeptBySteps {N = Name} {W = Name} BrokenStays × KeptBySteps {N 
 -- no problem is thrown out of a step and nothing leaves it by an ejector
 abbrev pub StepsAreQuiet : Type 0
 StepsAreQuiet = StepsEnd Name Name IsQuiet × StepsEnd Local Name IsQuiet
+
+-- ---- keys of gifts
+
+-- The key of a gift tells its provider and its word, and each number is the key of the two that it tells.
+abbrev pub KeysTell : Type 0
+KeysTell = ((p w : ℕ) → provider_of (key p w) ≡ p) × ((p w : ℕ) → word_of (key p w) ≡ w) × ((i : ℕ) → key (provider_of i) (word_of i) ≡ i)

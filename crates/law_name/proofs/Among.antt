@@ -1,10 +1,11 @@
 -- Members of lists, and the states of the vats of a world with one of them changed.
-use Rattle.std.proofs.Common.{◌≡◌, ℕ, ◌≤◌, ◌<◌, zero, suc, List, [], ◌∷◌, ◌++◌, Some, refl, sym, ap, ◌⊎◌, inl, inr, length, arith}
+use Rattle.std.proofs.Common.{◌≡◌, ℕ, ◌≤◌, ◌<◌, zero, suc, Bool, true, false, List, [], ◌∷◌, ◌++◌, Option, Some, None, refl, sym, ap, ◌⊎◌, inl, inr, length, ◌==◌, arith}
 use Rattle.std.specs.Prelude.{slice_get}
-use Rattle.def_machine.specs.Values.{Name, Root, Object, Promise, Answer, Gift, Sent}
-use Rattle.def_machine.specs.State.{Known, Vat}
+use Rattle.std.proofs.lemmas.Bool.{eq-eqb}
+use Rattle.def_machine.specs.Values.{Name, Root, Object, Promise, Answer, Gift, Sent, word_of}
+use Rattle.def_machine.specs.State.{Known, Vat, drawn_at}
 use Rattle.def_run.specs.World.{put_at}
-use Rattle.law_name.specs.Names.{Bit, Named, Mail, Drew, At, Off, Entered, Owns, Gave, AllOf, IsAmong, promises_of, messages_of, WasMade, IsMessageMade, IsMade, names_in, IsPlain, PlainOnce}
+use Rattle.law_name.specs.Names.{Bit, Named, Mail, Drew, At, Off, Entered, Owns, Gave, AllOf, IsAmong, promises_of, messages_of, WasDrawn, WasMade, IsMessageMade, IsMade, names_in, IsPlain, PlainOnce}
 
 pub among_more : {A : Type 0} (x : A) (xs : List A) (y : A) → IsAmong x xs → IsAmong x (xs ++ y ∷ [])
 among_more x [] y h = absurd h
@@ -49,6 +50,27 @@ plain_end (m ∷ ns) n h k = (λ p i. new p (among_or m ns n i), plain_end ns n 
     new p (inl i) = h.0 p i
     new p (inr e) = k (rw e at p) (inl (sym e))
 
+-- ---- words
+
+-- a key of the word that was drawn last
+pub drawn_last : (ds : List ℕ) (w i : ℕ) → word_of i ≡ w → WasDrawn (ds ++ w ∷ []) i
+drawn_last ds w i e = among_is (word_of i) w (ds ++ w ∷ []) e (among_last ds w)
+
+-- a word that stands nowhere among those drawn is none of them
+pub not_drawn : (k w : ℕ) (ds : List ℕ) → drawn_at k w ds ≡ None → IsAmong w ds → ⊥
+unfolding drawn_at
+not_drawn k w [] e a = a
+not_drawn k w (x ∷ xs) e a = go (w == x) refl e (not_drawn (suc k) w xs) a
+  where
+    go : (b : Bool) → (w == x) ≡ b → ◌≡◌ {A = Option ℕ} (elim b [ true ↦ Some k | false ↦ drawn_at (suc k) w xs ]) None → (drawn_at (suc k) w xs ≡ None → IsAmong w xs → ⊥) → (w ≡ x) ⊎ IsAmong w xs → ⊥
+    go true i f rest h = cc
+    go false i f rest (inl j) = let g = eq-eqb w x j in cc
+    go false i f rest (inr h) = rest f h
+
+-- so no key of it was drawn
+pub key_not_drawn : (ds : List ℕ) (w i : ℕ) → drawn_at zero w ds ≡ None → word_of i ≡ w → WasDrawn ds i → ⊥
+key_not_drawn ds w i e f a = not_drawn zero w ds e (among_is w (word_of i) ds (sym f) a)
+
 -- ---- the vats with one of them changed
 
 pub get_put : (vats : List (Vat Name)) (v : ℕ) (q s : Vat Name) → slice_get vats v ≡ Some q → slice_get (put_at v s vats) v ≡ Some s
@@ -85,13 +107,13 @@ less : (i a b : ℕ) → i < a → a ≤ b → i < b
 less i a b h k = omega arith
 
 -- what was made stays made
-module _ (us vs : List (Vat Name)) (d e : ℕ) (promises : (w : ℕ) → promises_of us w ≤ promises_of vs w) (messages : (w : ℕ) → messages_of us w ≤ messages_of vs w) (draws : d ≤ e) where
+module _ (us vs : List (Vat Name)) (d e : List ℕ) (promises : (w : ℕ) → promises_of us w ≤ promises_of vs w) (messages : (w : ℕ) → messages_of us w ≤ messages_of vs w) (draws : (x : ℕ) → IsAmong x d → IsAmong x e) where
   pub made_up : (n : Name) → WasMade us d n → WasMade vs e n
   made_up (Root w) h = tt
   made_up (Object w i) h = tt
   made_up (Promise w i) h = less i (promises_of us w) (promises_of vs w) h (promises w)
   made_up (Answer w m) h = less m.number (messages_of us m.sender) (messages_of vs m.sender) h (messages m.sender)
-  made_up (Gift w i) h = less i d e h draws
+  made_up (Gift w i) h = draws (word_of i) h
   made_up (Sent m) h = absurd h
 
   mail_up : (n : Name) → IsMessageMade us n → IsMessageMade vs n
@@ -105,9 +127,9 @@ module _ (us vs : List (Vat Name)) (d e : ℕ) (promises : (w : ℕ) → promise
   pub is_made_up : (b : Bit Name) → IsMade us d b → IsMade vs e b
   is_made_up (Named n) h = made_up n h
   is_made_up (Mail n) h = mail_up n h
-  is_made_up (Drew i) h = less i d e h draws
+  is_made_up (Drew i) h = draws (word_of i) h
   is_made_up (At w) h = tt
   is_made_up (Off w) h = tt
   is_made_up (Entered n) h = made_up n h
   is_made_up (Owns n i) h = made_up n h
-  is_made_up (Gave i) h = less i d e h draws
+  is_made_up (Gave i) h = draws (word_of i) h

@@ -1,7 +1,7 @@
 -- What a vat does from a sound state, under facts on what it has in hand, ends in a sound state with facts on what it gives.
 use Rattle.std.proofs.Common.{◌≡◌, ℕ, zero, suc, ◌-◌, Bool, true, false, List, [], ◌∷◌, ◌++◌, Option, Some, None, if◌then◌else◌, length, refl, sym, subst}
 use Rattle.std.specs.Prelude.{nat_le}
-use Rattle.def_machine.specs.Values.{Words, Value, Null, Flag, Number, Text, Prim, Broken, Items, Ref, Naming, IsOwn, IsAnswer, IsGift, IsSent}
+use Rattle.def_machine.specs.Values.{Words, Value, Null, Flag, Number, Text, Prim, Broken, Items, Ref, Naming, IsOwn, IsAnswer, IsGift, IsSent, key}
 use Rattle.def_machine.specs.State.{Bound, Scope, Cell, View, Thing, Made, Ejector, Audition, Resolver, Message, Standing, Unsettled, WaitsOn, Viewed, Settled, Known, Change, Hold, Wait, WaitOn, See, React, ToTell, Settle, Passed, Passeds, Note, Put, GiftEntry, Happened, Took, Called, Back, Thrown, Left, Got, SlotMade, SlotRead, SlotWrote, ListMade, EjectorMade, AuditionMade, PromiseMade, ObjectMade, Sends, Reacts, Finished, Threw, Lost, Posted, Vat, Stop, Done, Gives, Throws, Ejects, Stops, Act, ◌>>=◌, ◌>>◌, and_then, for_some, end_by, ending, each, give, throw, stop, eject, look, tell, spend, spent, new_activation, new_thing, kill, change, dead, new_slot, holding, write_slot, new_list, enqueue, send_out, new_gift, with_opened, open_gift, is_gift, mark, draws, with_change, changed, changed_to, unless_settled, with_vat, is_in, alter, come, new_promise, new_message, draw, begun, new_lone_message}
 use Rattle.def_machine.specs.Refs.{Place, Parcel, spotted}
 use Rattle.def_machine.specs.Native.{Reply}
@@ -68,7 +68,7 @@ pub record Under {N W : Type 0} (K : Naming N W) (S : Care N) : Type 0 where
   pub outbox : (s : Vat N) (p : Put N) → PutOk (S.ok s) p → S.rel s (record s { outbox = s.outbox ++ p ∷ [] }) × (S.more s → S.more (record s { outbox = s.outbox ++ p ∷ [] }))
   pub opened : (s : Vat N) (p i : ℕ) → S.rel s (record s { gifts = with_opened p i s.gifts }) × (S.more s → S.more (record s { gifts = with_opened p i s.gifts }))
   pub noticed : (s : Vat N) (w : ℕ) → S.rel s (record s { noticed = s.noticed ++ w ∷ [] }) × (S.more s → S.more (record s { noticed = s.noticed ++ w ∷ [] }))
-  pub drawn : (s : Vat N) (w : ℕ) → S.rel s (record s { drawn = s.drawn ++ w ∷ [] }) × (S.more s → S.more (record s { drawn = s.drawn ++ w ∷ [] })) × S.ok (record s { drawn = s.drawn ++ w ∷ [] }) (Drew (length s.drawn))
+  pub drawn : (s : Vat N) (w : ℕ) → S.rel s (record s { drawn = s.drawn ++ w ∷ [] }) × (S.more s → S.more (record s { drawn = s.drawn ++ w ∷ [] })) × S.ok (record s { drawn = s.drawn ++ w ∷ [] }) (Drew (key s.number w))
   pub altered : (s : Vat N) (c : Change N) (n : N) → ViewsNone c → ChangeOk (S.ok s) c → S.rel s (record s { known = with_change K c n s.known }) × (S.more s → S.more (record s { known = with_change K c n s.known }))
   pub answered : (s : Vat N) (h : ℕ) (m : N) → S.ok s (Mail m) → S.ok s (At h)
       → S.rel s (record s { known = s.known ++ begun (K.made (IsAnswer h m) (length s.known)) h ∷ [] }) × (S.more s → S.more (record s { known = s.known ++ begun (K.made (IsAnswer h m) (length s.known)) h ∷ [] }))

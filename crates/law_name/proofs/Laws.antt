@@ -1,5 +1,5 @@
 -- The laws of names in runs.
-use Rattle.std.proofs.Common.{◌≡◌, ℕ, ◌<◌, [], Some, length, sym, append-nil, arith}
+use Rattle.std.proofs.Common.{◌≡◌, ℕ, ◌<◌, [], Some, sym, append-nil, arith}
 use Rattle.std.specs.Prelude.{slice_get}
 use Rattle.def_machine.specs.Values.{Name, Promise, Answer, Gift, Foreign, spot_of, naming}
 use Rattle.def_machine.specs.State.{Vat}
@@ -25,10 +25,10 @@ pub in_each : (P : World → ℕ → Vat Name → Type 0) → ((script : Script)
 in_each P f = in_runs (λ w. (v : ℕ) (s : Vat Name) → slice_get w.vats v ≡ Some s → P w v s) (λ script w h v s e. f script w v s e (h.vats v s e))
 
 pub names_made : NamesWereMade
-names_made = in_each _ (λ script w v s e h. parts_up (Had script w v s) (IsMade w.vats (length w.drawn)) (λ b i. i.0) s.things s.slots s.lists s.queue s.known s.gifts s.outbox h.parts)
+names_made = in_each _ (λ script w v s e h. parts_up (Had script w v s) (IsMade w.vats w.drawn) (λ b i. i.0) s.things s.slots s.lists s.queue s.known s.gifts s.outbox h.parts)
 
 pub notes_made : NotesNameWhatWasMade
-notes_made = in_runs _ (λ script w h. all_map (λ l i. all_map (λ n j. note_up (Told script w) (IsMade w.vats (length w.drawn)) (λ b k. k.0) n j) l.notes i) w.links h.links)
+notes_made = in_runs _ (λ script w h. all_map (λ l i. all_map (λ n j. note_up (Told script w) (IsMade w.vats w.drawn) (λ b k. k.0) n j) l.notes i) w.links h.links)
 
 pub names_known : NamesAreKnown
 names_known = in_each _ (λ script w v s e h. parts_up (Had script w v s) (IsHad (names_in s.known) s.mails) (λ b i. i.1) s.things s.slots s.lists s.queue s.known s.gifts s.outbox h.parts)
@@ -43,20 +43,17 @@ pub own_known : OwnPromisesAreKnown
 own_known = in_each _ (λ script w v s e h. h.kept.own)
 
 -- what is known was made, so what is not made yet is not known
-known_made : (script : Script) (w : World) → Stands script w → (u : ℕ) (t : Vat Name) → slice_get w.vats u ≡ Some t → (n : Name) → IsAmong n (names_in t.known) → WasMade w.vats (length w.drawn) n
+known_made : (script : Script) (w : World) → Stands script w → (u : ℕ) (t : Vat Name) → slice_get w.vats u ≡ Some t → (n : Name) → IsAmong n (names_in t.known) → WasMade w.vats w.drawn n
 known_made script w h u t e n a = (name_had (Had script w u t) t.known n (h.vats u t e).parts.known a).0
 
 no_less : (i j : ℕ) → i < j → j ≡ i → ⊥
 no_less i j h e = omega arith
 
-no_self : (i : ℕ) → i < i → ⊥
-no_self i h = omega arith
-
 pub next_new : NextNamesAreNew
 next_new = in_runs _ (λ script w h v s e u t i. (
   λ a. no_less s.promises (promises_of w.vats v) (known_made script w h u t i (Promise v s.promises) a) (promises_at w.vats v s e),
   λ x a. no_less s.messages (messages_of w.vats v) (known_made script w h u t i (Answer x (record { sender = v; number = s.messages })) a) (messages_at w.vats v s e),
-  λ x a. no_self (length w.drawn) (known_made script w h u t i (Gift x (length w.drawn)) a),
+  λ x j fresh a. fresh (known_made script w h u t i (Gift x j) a),
 ))
 
 pub names_apart : NamesAndMessagesAreApart

@@ -8,7 +8,7 @@ use Rattle.def_machine.specs.Arrive as arrive
 use Rattle.def_machine.specs.Arrive.{Incoming, Old, New}
 use Rattle.def_run.specs.World as world
 use Rattle.def_run.specs.World.{put_at, is_old, read_name, known_after}
-use Rattle.law_name.specs.Names.{IsEventual, IsMessageName, Bit, Named, Mail, Drew, At, Gave, bare, IsAmong, promises_of, WasMade, IsMessageMade, IsMade, ValueOk, PassedOk, PassedsOk, NoteOk, names_in, IsKnownIn, IsPlain, KnownOk, Parts}
+use Rattle.law_name.specs.Names.{IsEventual, IsMessageName, Bit, Named, Mail, Drew, At, Gave, bare, IsAmong, promises_of, WasDrawn, WasMade, IsMessageMade, IsMade, ValueOk, PassedOk, PassedsOk, NoteOk, names_in, IsKnownIn, IsPlain, KnownOk, Parts}
 use Rattle.law_name.proofs.Facts.{all_end, Fact, Nothing, Also, IsName, IsMail, IsDraw, IsGiven, IsVat, IsValue, AreValues, nothing, Holds, holds_up}
 use Rattle.law_name.proofs.Care.{Sound, Ends, Gets, Fine, got, got_left, got_itself, got_ref, fine_give, parts_up, begun_ok, come_gift}
 use Rattle.law_name.proofs.CareArrive.{Gifts, gifts_by, fine_ask_for, fine_make_list, fine_arrive_ask, fine_delivered, fine_opened, fine_went, fine_shortened}
@@ -18,7 +18,7 @@ use Rattle.law_name.proofs.SameNames.{new_eventual, false_true, old_known, new_u
 use Rattle.law_name.proofs.Tracked.{IsTold, Marked, count_same, follows_trans, follows_known, kept_known, kept_mail, known_among, Ok, Goes, Onward, quiet, made_on, ok_on, tracked, tracked_under, tracked_gives}
 use Rattle.law_name.proofs.TrackedViews.{tracked_views}
 
-module _ (news : Bool) (M : Marked) (vats : List (Vat Name)) (v : ℕ) (q : Vat Name) (there : slice_get vats v ≡ Some q) (here : M.mark (At v)) (word : ℕ → ℕ) (us : List (Vat Name)) (d0 : ℕ) where
+module _ (news : Bool) (M : Marked) (vats : List (Vat Name)) (v : ℕ) (q : Vat Name) (there : slice_get vats v ≡ Some q) (here : M.mark (At v)) (word : ℕ → ℕ) (us : List (Vat Name)) (d0 : List ℕ) where
   -- what was made before, and is marked
   abbrev pub Was : Bit Name → Type 0
   Was b = IsMade us d0 b × M.mark (bare b)
@@ -35,7 +35,7 @@ module _ (news : Bool) (M : Marked) (vats : List (Vat Name)) (v : ℕ) (q : Vat 
     pub all : (n : Name) → IsAmong n ks → Good s (Named n)
     pub told : (n : Name) → IsTold v n → IsAmong n (names_in s.known) → IsAmong n ks
     pub own : (i : ℕ) → i < promises_of us v → IsAmong (Promise v i) ks
-    pub made : (b : Bit Name) → IsMade us d0 b → IsMade (put_at v s vats) (length s.drawn) b
+    pub made : (b : Bit Name) → IsMade us d0 b → IsMade (put_at v s vats) s.drawn b
 
   abbrev pub Learned : {A : Type 0} → List Name → (A → Fact Name) → Vat Name → Done Name A → Type 0
   Learned ks G s (Gives a t) = Grew s t × Sound (tracked news M vats v q there here) t × Knows ks t × Holds (Good t) (G a)
@@ -60,7 +60,7 @@ module _ (news : Bool) (M : Marked) (vats : List (Vat Name)) (v : ℕ) (q : Vat 
   grew s t r = record { names = r.names; mails = r.mails; promises = r.promises; messages = r.messages; draws = r.draws; told = λ n b. absurd b }
 
   grew_on : (s t u : Vat Name) → Grew s t → Grew t u → Grew s u
-  grew_on s t u h k = follows_trans news (λ n. ⊥) (names_in s.known) s.mails s.promises s.messages (length s.drawn) (names_in t.known) t.mails t.promises t.messages (length t.drawn) (names_in u.known) u.mails u.promises u.messages (length u.drawn) h k
+  grew_on s t u h k = follows_trans news (λ n. ⊥) (names_in s.known) s.mails s.promises s.messages s.drawn (names_in t.known) t.mails t.promises t.messages t.drawn (names_in u.known) u.mails u.promises u.messages u.drawn h k
 
   pub rise : (s t : Vat Name) → Grew s t → (C : Fact Name) → Holds (Good s) C → Holds (Good t) C
   rise s t r C c = holds_up (Good s) (Good t) (ok_on news M vats v q there here (λ n. ⊥) s t r) C c
@@ -163,7 +163,7 @@ module _ (news : Bool) (M : Marked) (vats : List (Vat Name)) (v : ℕ) (q : Vat 
   new_own ks s n m k f i e = let l : i < promises_of us v = rw (sym e) at m in absurd (f (rw e at (k.own i l)))
 
   grew_known : (s : Vat Name) (k : Known Name) → Grew s (record s { known = s.known ++ k ∷ [] })
-  grew_known s k = follows_known news (λ n. ⊥) s.known k s.mails s.promises s.messages (length s.drawn) (λ b. b)
+  grew_known s k = follows_known news (λ n. ⊥) s.known k s.mails s.promises s.messages s.drawn (λ b. b)
 
   good_is : (t : Vat Name) (x n : Name) → x ≡ n → Good t (Named n) → Good t (Named x)
   good_is t x n e h = rw (sym e) at h
@@ -275,7 +275,7 @@ module _ (news : Bool) (M : Marked) (vats : List (Vat Name)) (v : ℕ) (q : Vat 
   unfolding come naming name_of
   come_known ks w i g at = let f = come_gift (naming word v) (tracked news M vats v q there here) (tracked_under news M vats v q there here word) (tracked_gives news M vats v q there here word) w i g at in record { after = λ s h k c. gift_ends ks s (Gift w i) (come (naming word v) (IsGift w i) w s) (λ a t e. same_given (Gift w i) a (record s { known = s.known ++ begun (Gift w i) w ∷ [] }) t e) k (f.after s h c) }
 
-  learn_gift : {C : Fact Name} (ks : List Name) (p h i : ℕ) → M.mark (At h) → i < d0 → Learns ks C (arrive.learn_gift (naming word v) p h i) (ks ++ Gift h i ∷ []) IsValue
+  learn_gift : {C : Fact Name} (ks : List Name) (p h i : ℕ) → M.mark (At h) → WasDrawn d0 i → Learns ks C (arrive.learn_gift (naming word v) p h i) (ks ++ Gift h i ∷ []) IsValue
   unfolding arrive.learn_gift
   learn_gift {C = C} ks p h i at l = let S = tracked news M vats v q there here in let D : Fact Name = Also (IsGiven i) (IsVat h) in record {
     after = λ s g k c. (learns_bind {C = D} {H = IsValue} IsName (come_known {C = D} ks h i (got_left S (IsGiven i) (IsVat h) (IsGiven i) (got_itself S (IsGiven i))) (got S (IsGiven i) (IsVat h))) (λ n. learns_then {C = Also D (IsName n)} nothing
@@ -312,17 +312,17 @@ module _ (news : Bool) (M : Marked) (vats : List (Vat Name)) (v : ℕ) (q : Vat 
   unfolding arrive.learn_message mail naming mail_of
   message_learned ks m w made = record {
     after = λ s h k c. let t : Vat Name = record s { mails = s.mails ++ m ∷ [] } in
-        let r : Goes news M vats v q there here s t = record { names = λ n a. a; mails = λ n a. among_more n s.mails m a; promises = omega arith; messages = count_same news s.messages; draws = omega arith; told = λ n i a. a } in
+        let r : Goes news M vats v q there here s t = record { names = λ n a. a; mails = λ n a. among_more n s.mails m a; promises = omega arith; messages = count_same news s.messages; draws = λ x a. a; told = λ n i a. a } in
         let on : Knows ks t = knows_on ks s t r k in
         (grew s t r, record { parts = parts_up (Good s) (Good t) (ok_on news M vats v q there here (IsTold v) s t r) s.things s.slots s.lists s.queue s.known s.gifts s.outbox h.parts; more = kept_mail v s.number s.known s.mails s.promises m (message_name m made.0) h.more }, on, (on.made (Mail m) made.0, among_last s.mails m, tt, made.1));
   }
 
   -- with a draw that was made
-  with_draw : {A : Type 0} (ks : List Name) (i : ℕ) (m : Act Name A) → i < d0 → Reads ks (IsDraw i) m → Reads ks Nothing m
+  with_draw : {A : Type 0} (ks : List Name) (i : ℕ) (m : Act Name A) → WasDrawn d0 i → Reads ks (IsDraw i) m → Reads ks Nothing m
   with_draw ks i m l h = record { after = λ s g k c. h.after s g k (k.made (Drew i) l, tt, tt, M.draw i) }
 
   -- and of a gift in hand
-  with_given : {A : Type 0} (ks : List Name) (i : ℕ) (m : Act Name A) → i < d0 → Reads ks (IsGiven i) m → Reads ks Nothing m
+  with_given : {A : Type 0} (ks : List Name) (i : ℕ) (m : Act Name A) → WasDrawn d0 i → Reads ks (IsGiven i) m → Reads ks Nothing m
   with_given ks i m l h = record { after = λ s g k c. h.after s g k (k.made (Gave i) l, tt, tt, M.draw i) }
 
   -- with a vat that is marked

@@ -76,11 +76,11 @@ inside script = record {
 
 -- each name was made, is known here, and is of a vat of the script
 abbrev pub Had : Script → World → ℕ → Vat Name → Bit Name → Type 0
-Had script w v s b = IsMade w.vats (length w.drawn) b × IsHad (names_in s.known) s.mails b × IsFar v b × Inside script (bare b)
+Had script w v s b = IsMade w.vats w.drawn b × IsHad (names_in s.known) s.mails b × IsFar v b × Inside script (bare b)
 
 -- what may stand in a note
 abbrev pub Told : Script → World → Bit Name → Type 0
-Told script w b = IsMade w.vats (length w.drawn) b × Inside script (bare b)
+Told script w b = IsMade w.vats w.drawn b × Inside script (bare b)
 
 -- how vat v of a world stands
 pub record VatStands (script : Script) (w : World) (v : ℕ) (s : Vat Name) : Type 0 where
@@ -115,7 +115,7 @@ messages_put (x ∷ xs) zero s t (suc u) e h = omega arith
 messages_put (x ∷ xs) (suc v) s t zero e h = omega arith
 messages_put (x ∷ xs) (suc v) s t (suc u) e h = messages_put xs v s t u e h
 
-made_put : (vats : List (Vat Name)) (d e : ℕ) (v : ℕ) (s t : Vat Name) → slice_get vats v ≡ Some s → s.promises ≤ t.promises → s.messages ≤ t.messages → d ≤ e → (b : Bit Name) → IsMade vats d b → IsMade (put_at v t vats) e b
+made_put : (vats : List (Vat Name)) (d e : List ℕ) (v : ℕ) (s t : Vat Name) → slice_get vats v ≡ Some s → s.promises ≤ t.promises → s.messages ≤ t.messages → ((x : ℕ) → IsAmong x d → IsAmong x e) → (b : Bit Name) → IsMade vats d b → IsMade (put_at v t vats) e b
 made_put vats d e v s t i p m l b h = is_made_up vats (put_at v t vats) d e (λ u. promises_put vats v s t u i p) (λ u. messages_put vats v s t u i m) l b h
 
 put_at_or : (v : ℕ) (y : Vat Name) (xs : List (Vat Name)) (u : ℕ) (t : Vat Name) → slice_get (put_at v y xs) u ≡ Some t → ((u ≡ v) × (y ≡ t)) ⊎ (slice_get xs u ≡ Some t)
@@ -198,18 +198,18 @@ module _ (script : Script) where
     Tracked = tracked true (inside script) w.vats v s there (low_at w h v s there)
 
     -- what was made before the step is made in it
-    made_ready : (b : Bit Name) → IsMade w.vats (length w.drawn) b → IsMade (put_at v Ready w.vats) (length w.drawn) b
+    made_ready : (b : Bit Name) → IsMade w.vats w.drawn b → IsMade (put_at v Ready w.vats) w.drawn b
     unfolding world.readied
-    made_ready b i = made_put w.vats (length w.drawn) (length w.drawn) v s Ready there (let e = same_promises in omega arith) (let e = same_messages in omega arith) (omega arith) b i
+    made_ready b i = made_put w.vats w.drawn w.drawn v s Ready there (let e = same_promises in omega arith) (let e = same_messages in omega arith) (λ x a. a) b i
 
-    module _ (t : Vat Name) (grown : Grew true (inside script) w.vats v s there (low_at w h v s there) (draw_word script.key) w.vats (length w.drawn) Ready t) where
+    module _ (t : Vat Name) (grown : Grew true (inside script) w.vats v s there (low_at w h v s there) (draw_word script.key) w.vats w.drawn Ready t) where
       abbrev Next : List (Vat Name)
       Next = put_at v t w.vats
 
-      made_next : (b : Bit Name) → IsMade w.vats (length w.drawn) b → IsMade Next (length t.drawn) b
+      made_next : (b : Bit Name) → IsMade w.vats w.drawn b → IsMade Next t.drawn b
       unfolding world.readied
       made_next b i = let p : q.promises ≤ t.promises = grown.promises in let m : q.messages ≤ t.messages = grown.messages in let e = same_promises in let f = same_messages in
-          made_put w.vats (length w.drawn) (length t.drawn) v s t there (omega arith) (omega arith) grown.draws b i
+          made_put w.vats w.drawn t.drawn v s t there (omega arith) (omega arith) grown.draws b i
 
       other_next : (x : World) → x.vats ≡ Next → x.drawn ≡ t.drawn → (u : ℕ) (r : Vat Name) → VatStands script w u r → VatStands script x u r
       other_next x a d u r k = record {
@@ -234,45 +234,45 @@ module _ (script : Script) where
 
       -- what may stand in a note after it
       abbrev Next_told : Bit Name → Type 0
-      Next_told b = IsMade Next (length t.drawn) b × Inside script (bare b)
+      Next_told b = IsMade Next t.drawn b × Inside script (bare b)
 
       links_next : Sound Tracked t → AllOf (λ (l : Link). AllOf (NoteOk Next_told) l.notes) (world.push_all v t.outbox w.links)
       links_next g = push_all_holds (NoteOk Next_told) v t.outbox w.links (all_map (λ p i. note_up (Ok true (inside script) w.vats v s there (low_at w h v s there) t) Next_told (λ b j. (j.0, j.3)) p.note i.0) t.outbox g.parts.outbox)
           (all_map (λ l i. all_map (λ m j. note_up (Told script w) Next_told (λ b j. (made_next b j.0, j.1)) m j) l.notes i) w.links h.links)
 
-    put_back_stands : (x : World) (head : List Event) (n : ℕ) (d : Done Name (Unit {0})) → names_in q.known ≡ names_in s.known → Ended true (inside script) w.vats v s there (low_at w h v s there) (draw_word script.key) w.vats (length w.drawn) Ready d → world.put_back v w head n d ≡ Going x → Stands script x
+    put_back_stands : (x : World) (head : List Event) (n : ℕ) (d : Done Name (Unit {0})) → names_in q.known ≡ names_in s.known → Ended true (inside script) w.vats v s there (low_at w h v s there) (draw_word script.key) w.vats w.drawn Ready d → world.put_back v w head n d ≡ Going x → Stands script x
     unfolding world.put_back
     put_back_stands x head n (Gives a t) e k i = moved _ x (record { vats = λ u r j. each_next t k.0 (record { fuel = t.fuel; drawn = t.drawn; vats = put_at v t w.vats; links = world.push_all v t.outbox w.links; connections = world.connections_after v t head w.connections; history = w.history ++ head ++ world.events_of w.links v t.happened }) refl refl e k.1 u r (put_at_or v t w.vats u r j); links = links_next t k.0 k.1 }) i
     put_back_stands x head n (Throws p t) e k i = cc
     put_back_stands x head n (Ejects m y t) e k i = cc
     put_back_stands x head n (Stops c t) e k i = cc
 
-    module _ (parts : Parts (λ b. IsMade w.vats (length w.drawn) b × IsHad (names_in q.known) q.mails b × IsFar v b × Inside script (bare b)) q.things q.slots q.lists q.queue q.known q.gifts q.outbox) (kept : Kept v q.number q.known q.mails q.promises) where
-      pub had_ready : (b : Bit Name) → IsMade w.vats (length w.drawn) b × IsHad (names_in q.known) q.mails b × IsFar v b × Inside script (bare b) → Ok true (inside script) w.vats v s there (low_at w h v s there) Ready b
+    module _ (parts : Parts (λ b. IsMade w.vats w.drawn b × IsHad (names_in q.known) q.mails b × IsFar v b × Inside script (bare b)) q.things q.slots q.lists q.queue q.known q.gifts q.outbox) (kept : Kept v q.number q.known q.mails q.promises) where
+      pub had_ready : (b : Bit Name) → IsMade w.vats w.drawn b × IsHad (names_in q.known) q.mails b × IsFar v b × Inside script (bare b) → Ok true (inside script) w.vats v s there (low_at w h v s there) Ready b
       unfolding world.readied
       had_ready b i = (made_ready b i.0, i.1, i.2, i.3)
 
       pub sound_ready : Sound Tracked Ready
       unfolding world.readied
-      sound_ready = record { parts = parts_up (λ b. IsMade w.vats (length w.drawn) b × IsHad (names_in q.known) q.mails b × IsFar v b × Inside script (bare b)) (Ok true (inside script) w.vats v s there (low_at w h v s there) Ready) had_ready q.things q.slots q.lists q.queue q.known q.gifts [] emptied; more = kept }
+      sound_ready = record { parts = parts_up (λ b. IsMade w.vats w.drawn b × IsHad (names_in q.known) q.mails b × IsFar v b × Inside script (bare b)) (Ok true (inside script) w.vats v s there (low_at w h v s there) Ready) had_ready q.things q.slots q.lists q.queue q.known q.gifts [] emptied; more = kept }
         where
-          emptied : Parts (λ b. IsMade w.vats (length w.drawn) b × IsHad (names_in q.known) q.mails b × IsFar v b × Inside script (bare b)) q.things q.slots q.lists q.queue q.known q.gifts []
+          emptied : Parts (λ b. IsMade w.vats w.drawn b × IsHad (names_in q.known) q.mails b × IsFar v b × Inside script (bare b)) q.things q.slots q.lists q.queue q.known q.gifts []
           emptied = record { things = parts.things; slots = parts.slots; lists = parts.lists; queue = parts.queue; known = parts.known; gifts = parts.gifts; outbox = tt }
 
       own_ready : (i : ℕ) → i < promises_of w.vats v → IsAmong (Promise v i) (names_in q.known)
       unfolding promises_of
       own_ready i l = let e : promises_of w.vats v ≡ s.promises = promises_at w.vats v s there in let f = same_promises in kept.own i (omega arith)
 
-      pub knows_ready : Knows true (inside script) w.vats v s there (low_at w h v s there) (draw_word script.key) w.vats (length w.drawn) (names_in q.known) Ready
+      pub knows_ready : Knows true (inside script) w.vats v s there (low_at w h v s there) (draw_word script.key) w.vats w.drawn (names_in q.known) Ready
       unfolding world.readied
       knows_ready = record {
-        all = λ n a. had_ready (Named n) (name_had (λ b. IsMade w.vats (length w.drawn) b × IsHad (names_in q.known) q.mails b × IsFar v b × Inside script (bare b)) q.known n parts.known a);
+        all = λ n a. had_ready (Named n) (name_had (λ b. IsMade w.vats w.drawn b × IsHad (names_in q.known) q.mails b × IsFar v b × Inside script (bare b)) q.known n parts.known a);
         told = λ n i a. a;
         own = own_ready;
         made = made_ready;
       }
 
-      within_stands : (x : World) (head : List Event) (n : ℕ) (C : Fact Name) (m : Act Name (Unit {0})) → names_in q.known ≡ names_in s.known → Reads true (inside script) w.vats v s there (low_at w h v s there) (draw_word script.key) w.vats (length w.drawn) (names_in q.known) C m
+      within_stands : (x : World) (head : List Event) (n : ℕ) (C : Fact Name) (m : Act Name (Unit {0})) → names_in q.known ≡ names_in s.known → Reads true (inside script) w.vats v s there (low_at w h v s there) (draw_word script.key) w.vats w.drawn (names_in q.known) C m
           → Holds (Ok true (inside script) w.vats v s there (low_at w h v s there) Ready) C → world.within v w head n m (Some q) ≡ Going x → Stands script x
       unfolding world.within
       within_stands x head n C m e r c i = put_back_stands x head n (m Ready) e (r.after Ready sound_ready knows_ready c) i
@@ -289,7 +289,7 @@ module _ (script : Script) where
   turn_queue_stands k v w x s i h (m ∷ ms) q e = let g = h.vats v s i in let p = g.parts in let waiting : AllOf (MessageOk (Had script w v s)) (m ∷ ms) = rw q at p.queue in
       let parts : Parts (Had script w v s) s.things s.slots s.lists ms s.known s.gifts s.outbox = record { things = p.things; slots = p.slots; lists = p.lists; queue = waiting.1; known = p.known; gifts = p.gifts; outbox = p.outbox } in
       within_stands v w s (record s { queue = ms }) i refl refl h parts g.kept x (Turned k v ∷ []) (world.step_number script k) (IsMessage m) (taking (naming (draw_word script.key) v) (world.tree_at script.vats v) script.depth m) refl
-      (reads_fine true (inside script) w.vats v s i (low_at w h v s i) (draw_word script.key) w.vats (length w.drawn) (fine_taking (naming (draw_word script.key) v) (tracked true (inside script) w.vats v s i (low_at w h v s i)) (tracked_under true (inside script) w.vats v s i (low_at w h v s i) (draw_word script.key)) (tracked_makes (inside script) w.vats v s i (low_at w h v s i) (draw_word script.key)) (world.tree_at script.vats v) script.depth m (record { at = λ r c. c })))
+      (reads_fine true (inside script) w.vats v s i (low_at w h v s i) (draw_word script.key) w.vats w.drawn (fine_taking (naming (draw_word script.key) v) (tracked true (inside script) w.vats v s i (low_at w h v s i)) (tracked_under true (inside script) w.vats v s i (low_at w h v s i) (draw_word script.key)) (tracked_makes (inside script) w.vats v s i (low_at w h v s i) (draw_word script.key)) (world.tree_at script.vats v) script.depth m (record { at = λ r c. c })))
       (message_up (Had script w v s) (Ok true (inside script) w.vats v s i (low_at w h v s i) (world.readied w (record s { queue = ms }))) (had_ready v w s (record s { queue = ms }) i refl refl h parts g.kept) m waiting.0) e
 
   turn_stands : (k v : ℕ) (w x : World) → Stands script w → (o : Option (Vat Name)) → slice_get w.vats v ≡ o → world.turn script k v w o ≡ Going x → Stands script x
@@ -302,7 +302,7 @@ module _ (script : Script) where
   arrives_stands k v to w x n h i None q e = idle_stands k w x h e
   arrives_stands k v to w x n h i (Some s) q e = let g = h.vats to s q in
       within_stands to w s s q refl refl h g.parts g.kept x (Carried k v to n (world.next_frame v to w.connections) ∷ []) (world.step_number script k) Nothing (arrive (naming (draw_word script.key) to) v (read_note (names_in s.known) n)) refl
-      (reads_note true (inside script) w.vats to s q (low_at w h to s q) (draw_word script.key) w.vats (length w.drawn) v (names_in s.known) n i) tt e
+      (reads_note true (inside script) w.vats to s q (low_at w h to s q) (draw_word script.key) w.vats w.drawn v (names_in s.known) n i) tt e
 
   carry_notes_stands : (k v to : ℕ) (w x : World) → Stands script w → (ns : List (Note Name)) → AllOf (NoteOk (Told script w)) ns → world.carry_notes script k v to w ns ≡ Going x → Stands script x
   unfolding world.carry_notes world.with_notes
@@ -331,7 +331,7 @@ module _ (script : Script) where
   notice_stands k v to w x h None q e = cc
   notice_stands k v to w x h (Some s) q e = let g = h.vats v s q in
       within_stands v w s s q refl refl h g.parts g.kept x (NoticedAt k v to ∷ []) (world.step_number script k) Nothing (notice (naming (draw_word script.key) v) to) refl
-      (reads_fine true (inside script) w.vats v s q (low_at w h v s q) (draw_word script.key) w.vats (length w.drawn) (fine_notice (naming (draw_word script.key) v) (tracked true (inside script) w.vats v s q (low_at w h v s q)) (tracked_under true (inside script) w.vats v s q (low_at w h v s q) (draw_word script.key)) to)) tt e
+      (reads_fine true (inside script) w.vats v s q (low_at w h v s q) (draw_word script.key) w.vats w.drawn (fine_notice (naming (draw_word script.key) v) (tracked true (inside script) w.vats v s q (low_at w h v s q)) (tracked_under true (inside script) w.vats v s q (low_at w h v s q) (draw_word script.key)) to)) tt e
 
   pub step_stands : (entry : Entry) (k : ℕ) (w x : World) → Stands script w → world.step script entry k w ≡ Going x → Stands script x
   unfolding world.step
@@ -370,7 +370,7 @@ module _ (script : Script) where
       let given : AllOf (NounOk (Had script w v s)) (world.given script.vats p.knows) = given_ok w v s p.knows roots.1 (knows_low p.knows (λ k. k v p t)) in
       let up : (b : Bit Name) → Had script w v s b → Ok true (inside script) w.vats v s q (low_at w h v s q) (world.readied w s) b = had_ready v w s s q refl refl h g.parts g.kept in
       within_stands v w s s q refl refl h g.parts g.kept x (Opens v ∷ []) v (Also (IsName (Root v)) (AreNouns (world.given script.vats p.knows))) (opening (naming (draw_word script.key) v) p.tree script.depth (Root v) (world.given script.vats p.knows)) refl
-      (reads_fine true (inside script) w.vats v s q (low_at w h v s q) (draw_word script.key) w.vats (length w.drawn) (fine_opening (naming (draw_word script.key) v) (tracked true (inside script) w.vats v s q (low_at w h v s q)) (served_by (naming (draw_word script.key) v) (tracked true (inside script) w.vats v s q (low_at w h v s q)) (tracked_under true (inside script) w.vats v s q (low_at w h v s q) (draw_word script.key)) (tracked_makes (inside script) w.vats v s q (low_at w h v s q) (draw_word script.key))) p.tree script.depth (Root v) (record { at = λ r c. c.0 }) (world.given script.vats p.knows) (record { at = λ r c. c.1 })))
+      (reads_fine true (inside script) w.vats v s q (low_at w h v s q) (draw_word script.key) w.vats w.drawn (fine_opening (naming (draw_word script.key) v) (tracked true (inside script) w.vats v s q (low_at w h v s q)) (served_by (naming (draw_word script.key) v) (tracked true (inside script) w.vats v s q (low_at w h v s q)) (tracked_under true (inside script) w.vats v s q (low_at w h v s q) (draw_word script.key)) (tracked_makes (inside script) w.vats v s q (low_at w h v s q) (draw_word script.key))) p.tree script.depth (Root v) (record { at = λ r c. c.0 }) (world.given script.vats p.knows) (record { at = λ r c. c.1 })))
       (up (Named (Root v)) (tt, roots.0, tt, inside_root script v (low_at w h v s q)), nouns_up (Had script w v s) (Ok true (inside script) w.vats v s q (low_at w h v s q) (world.readied w s)) up (world.given script.vats p.knows) given) e
 
 get_mid : (front : List Program) (p : Program) (ps : List Program) → slice_get (front ++ p ∷ ps) (length front) ≡ Some p

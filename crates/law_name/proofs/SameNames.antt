@@ -143,7 +143,7 @@ new_unknown ns (Gift w i) e a = true_false (has_name ns (Gift w i)) (among_has n
 new_unknown ns (Sent m) e a = true_false (has_name ns (Sent m)) (among_has ns (Sent m) a) e
 
 -- what is new, and was made, is a root, a promise, an answer or a gift
-pub new_eventual : (ns : List Name) (vats : List (Vat Name)) (d : ℕ) (n : Name) → is_old ns n ≡ false → WasMade vats d n → IsEventual n
+pub new_eventual : (ns : List Name) (vats : List (Vat Name)) (d : List ℕ) (n : Name) → is_old ns n ≡ false → WasMade vats d n → IsEventual n
 unfolding is_old
 new_eventual ns vats d (Object w i) e m = absurd (false_true (sym e))
 new_eventual ns vats d (Root w) e m = tt

@@ -4,15 +4,16 @@ use Rattle.std.specs.Prelude.{slice_get}
 use Rattle.std.proofs.lemmas.Bool.{eq-eqb}
 use Rattle.def_machine.specs.Refs as refs
 use Rattle.def_machine.specs.Refs.{Mine, Away}
-use Rattle.def_machine.specs.Values.{Name, Root, Object, Promise, Answer, Gift, Sent, Msg, Own, Foreign, NoObject, same_reference, spot_of, host_of, Naming, naming, name_of, answer_of, mail_of}
+use Rattle.def_machine.specs.Values.{Name, Root, Object, Promise, Answer, Gift, Sent, Msg, Own, Foreign, NoObject, same_reference, spot_of, host_of, Naming, naming, name_of, answer_of, mail_of, key}
 use Rattle.def_machine.specs.State.{Known, Standing, Unsettled, WaitsOn, Viewed, Settled, Change, Hold, Wait, WaitOn, See, React, ToTell, Settle, Vat, with_change, changed, changed_to, unless_settled, begun}
 use Rattle.def_run.specs.World.{put_at}
-use Rattle.law_name.specs.Names.{Bit, Named, Mail, Drew, At, Off, Entered, Owns, Gave, bare, AllOf, IsAmong, promises_of, messages_of, IsMade, names_in, IsKnownIn, IsHad, HostIsTrue, IsEventual, IsMessageName, IsPlain, PlainOnce}
+use Rattle.law_name.specs.Names.{Bit, Named, Mail, Drew, At, Off, Entered, Owns, Gave, bare, AllOf, IsAmong, promises_of, messages_of, WasDrawn, IsMade, names_in, IsKnownIn, IsHad, HostIsTrue, IsEventual, IsMessageName, IsPlain, PlainOnce}
+use Rattle.law_machine.proofs.KeyLaws.{word_key}
 use Rattle.law_name.proofs.Facts.{all_end, PlaceOk}
 use Rattle.law_name.proofs.Care.{ViewsNone, Care, Alike, Spots, Under, Giving, Makes}
 use Rattle.law_name.proofs.SameNames.{false_true, reference_is}
 use Rattle.law_name.proofs.Views.{AllLookOn, look_on_end, look_on_change}
-use Rattle.law_name.proofs.Among.{among_more, among_last, among_or, among_is, names_end, length_end, plain_end, get_put, promises_grow, messages_grow, promises_at, messages_at, is_made_up}
+use Rattle.law_name.proofs.Among.{among_more, among_last, among_or, among_is, names_end, drawn_last, plain_end, get_put, promises_grow, messages_grow, promises_at, messages_at, is_made_up}
 
 -- a root, or a promise of another vat: what comes to be known by vat v from notes alone
 abbrev pub IsTold : ℕ → Name → Type 0
@@ -65,12 +66,12 @@ count_most true m m' h = h
 count_most false m m' h = omega arith
 
 -- how the names known, the messages had, and the counts of promises, messages and draws go on, where no name of T comes to be known
-pub record Follows (news : Bool) (T : Name → Type 0) (ns ms : List Name) (p m d : ℕ) (ns' ms' : List Name) (p' m' d' : ℕ) : Type 0 where
+pub record Follows (news : Bool) (T : Name → Type 0) (ns ms : List Name) (p m : ℕ) (d : List ℕ) (ns' ms' : List Name) (p' m' : ℕ) (d' : List ℕ) : Type 0 where
   pub names : (n : Name) → IsAmong n ns → IsAmong n ns'
   pub mails : (n : Name) → IsAmong n ms → IsAmong n ms'
   pub promises : p ≤ p'
   pub messages : Counts news m m'
-  pub draws : d ≤ d'
+  pub draws : (x : ℕ) → IsAmong x d → IsAmong x d'
   pub told : (n : Name) → T n → IsAmong n ns' → IsAmong n ns
 
 -- what is kept of the names that vat v knows
@@ -166,26 +167,25 @@ module _ (K : Naming Name Name) where
   kept_change : (v number : ℕ) (c : Change Name) (n : Name) (ks : List (Known Name)) (ms : List Name) (p : ℕ) → ViewsNone c → Kept v number ks ms p → Kept v number (with_change K c n ks) ms p
   kept_change v number c n ks ms p none h = kept_looking v number c n ks ms p (look_on_change K names_change same_name [] c n ks none h.views) h
 
-pub follows_same : (news : Bool) (T : Name → Type 0) (ns ms : List Name) (p m d : ℕ) → Follows news T ns ms p m d ns ms p m d
-follows_same news T ns ms p m d = record { names = λ n h. h; mails = λ n h. h; promises = omega arith; messages = count_same news m; draws = omega arith; told = λ n t h. h }
+pub follows_same : (news : Bool) (T : Name → Type 0) (ns ms : List Name) (p m : ℕ) (d : List ℕ) → Follows news T ns ms p m d ns ms p m d
+follows_same news T ns ms p m d = record { names = λ n h. h; mails = λ n h. h; promises = omega arith; messages = count_same news m; draws = λ x a. a; told = λ n t h. h }
 
-pub follows_trans : (news : Bool) (T : Name → Type 0) (ns ms : List Name) (p m d : ℕ) (ns' ms' : List Name) (p' m' d' : ℕ) (ns'' ms'' : List Name) (p'' m'' d'' : ℕ) → Follows news T ns ms p m d ns' ms' p' m' d' → Follows news T ns' ms' p' m' d' ns'' ms'' p'' m'' d'' → Follows news T ns ms p m d ns'' ms'' p'' m'' d''
+pub follows_trans : (news : Bool) (T : Name → Type 0) (ns ms : List Name) (p m : ℕ) (d : List ℕ) (ns' ms' : List Name) (p' m' : ℕ) (d' : List ℕ) (ns'' ms'' : List Name) (p'' m'' : ℕ) (d'' : List ℕ) → Follows news T ns ms p m d ns' ms' p' m' d' → Follows news T ns' ms' p' m' d' ns'' ms'' p'' m'' d'' → Follows news T ns ms p m d ns'' ms'' p'' m'' d''
 follows_trans news T ns ms p m d ns' ms' p' m' d' ns'' ms'' p'' m'' d'' h k =
-    let a : p ≤ p' = h.promises in let b : p' ≤ p'' = k.promises in let f : d ≤ d' = h.draws in let g : d' ≤ d'' = k.draws in
-    record { names = λ n i. k.names n (h.names n i); mails = λ n i. k.mails n (h.mails n i); promises = omega arith; messages = count_trans news m m' m'' h.messages k.messages; draws = omega arith; told = λ n t i. h.told n t (k.told n t i) }
+    let a : p ≤ p' = h.promises in let b : p' ≤ p'' = k.promises in
+    record { names = λ n i. k.names n (h.names n i); mails = λ n i. k.mails n (h.mails n i); promises = omega arith; messages = count_trans news m m' m'' h.messages k.messages; draws = λ x a. k.draws x (h.draws x a); told = λ n t i. h.told n t (k.told n t i) }
 
-pub follows_drawn : (news : Bool) (T : Name → Type 0) (ns ms : List Name) (p m : ℕ) (ds : List ℕ) (w : ℕ) → Follows news T ns ms p m (length ds) ns ms p m (length (ds ++ w ∷ []))
-follows_drawn news T ns ms p m ds w = let e : length (ds ++ w ∷ []) ≡ suc (length ds) = length_end ds w in
-    record { names = λ n h. h; mails = λ n h. h; promises = omega arith; messages = count_same news m; draws = omega arith; told = λ n t h. h }
+pub follows_drawn : (news : Bool) (T : Name → Type 0) (ns ms : List Name) (p m : ℕ) (ds : List ℕ) (w : ℕ) → Follows news T ns ms p m ds ns ms p m (ds ++ w ∷ [])
+follows_drawn news T ns ms p m ds w = record { names = λ n h. h; mails = λ n h. h; promises = omega arith; messages = count_same news m; draws = λ x a. among_more x ds w a; told = λ n t h. h }
 
-pub follows_change : (K : Naming Name Name) (news : Bool) (T : Name → Type 0) (c : Change Name) (n : Name) (ks : List (Known Name)) (ms : List Name) (p m d : ℕ) → Follows news T (names_in ks) ms p m d (names_in (with_change K c n ks)) ms p m d
+pub follows_change : (K : Naming Name Name) (news : Bool) (T : Name → Type 0) (c : Change Name) (n : Name) (ks : List (Known Name)) (ms : List Name) (p m : ℕ) (d : List ℕ) → Follows news T (names_in ks) ms p m d (names_in (with_change K c n ks)) ms p m d
 follows_change K news T c n ks ms p m d = let e : names_in (with_change K c n ks) ≡ names_in ks = names_change K c n ks in
-    record { names = λ x h. rw (sym e) at h; mails = λ x h. h; promises = omega arith; messages = count_same news m; draws = omega arith; told = λ x t h. rw e at h }
+    record { names = λ x h. rw (sym e) at h; mails = λ x h. h; promises = omega arith; messages = count_same news m; draws = λ x a. a; told = λ x t h. rw e at h }
 
 -- a name that is not told comes to be known
-pub follows_known : (news : Bool) (T : Name → Type 0) (ks : List (Known Name)) (k : Known Name) (ms : List Name) (p m d : ℕ) → (T k.name → ⊥) → Follows news T (names_in ks) ms p m d (names_in (ks ++ k ∷ [])) ms p m d
+pub follows_known : (news : Bool) (T : Name → Type 0) (ks : List (Known Name)) (k : Known Name) (ms : List Name) (p m : ℕ) (d : List ℕ) → (T k.name → ⊥) → Follows news T (names_in ks) ms p m d (names_in (ks ++ k ∷ [])) ms p m d
 follows_known news T ks k ms p m d f = let e : names_in (ks ++ k ∷ []) ≡ names_in ks ++ k.name ∷ [] = names_end ks k in
-    record { names = λ n h. rw (sym e) at (among_more n (names_in ks) k.name h); mails = λ x h. h; promises = omega arith; messages = count_same news m; draws = omega arith; told = λ n t h. old n t (among_or n (names_in ks) k.name (rw e at h)) }
+    record { names = λ n h. rw (sym e) at (among_more n (names_in ks) k.name h); mails = λ x h. h; promises = omega arith; messages = count_same news m; draws = λ x a. a; told = λ n t h. old n t (among_or n (names_in ks) k.name (rw e at h)) }
   where
     old : (n : Name) → T n → IsAmong n (names_in ks) ⊎ (n ≡ k.name) → IsAmong n (names_in ks)
     old n t (inl h) = h
@@ -259,22 +259,22 @@ kept_promise v number ks ms p h = let k : Known Name = begun (Promise v p) numbe
 
 module _ (news : Bool) (M : Marked) (vats : List (Vat Name)) (v : ℕ) (q : Vat Name) (there : slice_get vats v ≡ Some q) (here : M.mark (At v)) where
   abbrev pub Ok : Vat Name → Bit Name → Type 0
-  Ok s b = IsMade (put_at v s vats) (length s.drawn) b × IsHad (names_in s.known) s.mails b × IsFar v b × M.mark (bare b)
+  Ok s b = IsMade (put_at v s vats) s.drawn b × IsHad (names_in s.known) s.mails b × IsFar v b × M.mark (bare b)
 
   abbrev pub Goes : Vat Name → Vat Name → Type 0
-  Goes s t = Follows news (IsTold v) (names_in s.known) s.mails s.promises s.messages (length s.drawn) (names_in t.known) t.mails t.promises t.messages (length t.drawn)
+  Goes s t = Follows news (IsTold v) (names_in s.known) s.mails s.promises s.messages s.drawn (names_in t.known) t.mails t.promises t.messages t.drawn
 
   abbrev pub Keeps : Vat Name → Type 0
   Keeps s = Kept v s.number s.known s.mails s.promises
 
   pub quiet : (s : Vat Name) → Goes s s
-  quiet s = follows_same news (IsTold v) (names_in s.known) s.mails s.promises s.messages (length s.drawn)
+  quiet s = follows_same news (IsTold v) (names_in s.known) s.mails s.promises s.messages s.drawn
 
   abbrev pub Onward : (Name → Type 0) → Vat Name → Vat Name → Type 0
-  Onward T s t = Follows news T (names_in s.known) s.mails s.promises s.messages (length s.drawn) (names_in t.known) t.mails t.promises t.messages (length t.drawn)
+  Onward T s t = Follows news T (names_in s.known) s.mails s.promises s.messages s.drawn (names_in t.known) t.mails t.promises t.messages t.drawn
 
-  pub made_on : (T : Name → Type 0) (s t : Vat Name) → Onward T s t → (b : Bit Name) → IsMade (put_at v s vats) (length s.drawn) b → IsMade (put_at v t vats) (length t.drawn) b
-  made_on T s t r b h = is_made_up (put_at v s vats) (put_at v t vats) (length s.drawn) (length t.drawn) (λ w. promises_grow vats v s t w r.promises) (λ w. messages_grow vats v s t w (count_most news s.messages t.messages r.messages)) r.draws b h
+  pub made_on : (T : Name → Type 0) (s t : Vat Name) → Onward T s t → (b : Bit Name) → IsMade (put_at v s vats) s.drawn b → IsMade (put_at v t vats) t.drawn b
+  made_on T s t r b h = is_made_up (put_at v s vats) (put_at v t vats) s.drawn t.drawn (λ w. promises_grow vats v s t w r.promises) (λ w. messages_grow vats v s t w (count_most news s.messages t.messages r.messages)) r.draws b h
 
   had_up : (T : Name → Type 0) (s t : Vat Name) → Onward T s t → (b : Bit Name) → IsHad (names_in s.known) s.mails b → IsHad (names_in t.known) t.mails b
   had_up T s t r (Named n) h = known_up (names_in s.known) (names_in t.known) r.names n h
@@ -295,7 +295,7 @@ module _ (news : Bool) (M : Marked) (vats : List (Vat Name)) (v : ℕ) (q : Vat 
     more = Keeps;
     rel = Goes;
     same = quiet;
-    trans = λ s t u h k. follows_trans news (IsTold v) (names_in s.known) s.mails s.promises s.messages (length s.drawn) (names_in t.known) t.mails t.promises t.messages (length t.drawn) (names_in u.known) u.mails u.promises u.messages (length u.drawn) h k;
+    trans = λ s t u h k. follows_trans news (IsTold v) (names_in s.known) s.mails s.promises s.messages s.drawn (names_in t.known) t.mails t.promises t.messages t.drawn (names_in u.known) u.mails u.promises u.messages u.drawn h k;
     up = λ s t r b h. ok_on (IsTold v) s t r b h;
     here = λ s h. (tt, tt, tt, subst (λ w. M.mark (At w)) (sym h.number) here);
     near = λ s w h. (tt, tt, tt, M.near w h.3);
@@ -318,23 +318,23 @@ module _ (news : Bool) (M : Marked) (vats : List (Vat Name)) (v : ℕ) (q : Vat 
         let t : Vat Name = record s { known = s.known ++ begun (Answer h m) h ∷ [] } in Goes s t × (Keeps s → Keeps t) × Ok t (Named (Answer h m))
     unfolding begun host_of
     answer_made s h m l at = let k : Known Name = begun (Answer h m) h in let t : Vat Name = record s { known = s.known ++ k ∷ [] } in
-        let r : Goes s t = follows_known news (IsTold v) s.known k s.mails s.promises s.messages (length s.drawn) (λ x. x) in
+        let r : Goes s t = follows_known news (IsTold v) s.known k s.mails s.promises s.messages s.drawn (λ x. x) in
         let among : IsAmong (Answer h m) (names_in (s.known ++ k ∷ [])) = rw (sym (names_end s.known k)) at (among_last (names_in s.known) (Answer h m)) in
         (r, λ c. kept_known v s.number s.known k s.mails s.promises refl refl tt (λ x i. x) (λ i e. absurd (no_answer v i h m e)) c, (made_on (IsTold v) s t r (Named (Answer h m)) l, among, tt, M.answer h m at))
 
-    gift_made : (s : Vat Name) (h i : ℕ) → i < length s.drawn → M.mark (At h) →
+    gift_made : (s : Vat Name) (h i : ℕ) → WasDrawn s.drawn i → M.mark (At h) →
         let t : Vat Name = record s { known = s.known ++ begun (Gift h i) h ∷ [] } in Goes s t × (Keeps s → Keeps t) × Ok t (Named (Gift h i))
     unfolding begun host_of
     gift_made s h i l at = let k : Known Name = begun (Gift h i) h in let t : Vat Name = record s { known = s.known ++ k ∷ [] } in
-        let r : Goes s t = follows_known news (IsTold v) s.known k s.mails s.promises s.messages (length s.drawn) (λ x. x) in
+        let r : Goes s t = follows_known news (IsTold v) s.known k s.mails s.promises s.messages s.drawn (λ x. x) in
         let among : IsAmong (Gift h i) (names_in (s.known ++ k ∷ [])) = rw (sym (names_end s.known k)) at (among_last (names_in s.known) (Gift h i)) in
         (r, λ c. kept_known v s.number s.known k s.mails s.promises refl refl tt (λ x a. x) (λ j e. absurd (no_gift v j h i e)) c, (made_on (IsTold v) s t r (Named (Gift h i)) l, among, tt, M.gift h i at))
 
     pub promise_made : (s : Vat Name) → let t : Vat Name = record s { promises = suc s.promises; known = s.known ++ begun (Promise v s.promises) s.number ∷ [] } in Goes s t × (Keeps s → Keeps t) × Ok t (Named (Promise v s.promises))
     unfolding begun
     promise_made s = let k : Known Name = begun (Promise v s.promises) s.number in let t : Vat Name = record s { promises = suc s.promises; known = s.known ++ k ∷ [] } in
-        let f : Follows news (IsTold v) (names_in s.known) s.mails s.promises s.messages (length s.drawn) (names_in (s.known ++ k ∷ [])) s.mails s.promises s.messages (length s.drawn) = follows_known news (IsTold v) s.known k s.mails s.promises s.messages (length s.drawn) (λ x. x refl) in
-        let r : Goes s t = record { names = f.names; mails = f.mails; promises = omega arith; messages = count_same news s.messages; draws = omega arith; told = f.told } in
+        let f : Follows news (IsTold v) (names_in s.known) s.mails s.promises s.messages s.drawn (names_in (s.known ++ k ∷ [])) s.mails s.promises s.messages s.drawn = follows_known news (IsTold v) s.known k s.mails s.promises s.messages s.drawn (λ x. x refl) in
+        let r : Goes s t = record { names = f.names; mails = f.mails; promises = omega arith; messages = count_same news s.messages; draws = λ x a. a; told = f.told } in
         let among : IsAmong (Promise v s.promises) (names_in (s.known ++ k ∷ [])) = rw (sym (names_end s.known k)) at (among_last (names_in s.known) (Promise v s.promises)) in
         let e : promises_of (put_at v t vats) v ≡ suc s.promises = promises_at (put_at v t vats) v t (get_put vats v q t there) in
         let l : s.promises < promises_of (put_at v t vats) v = omega arith in
@@ -401,8 +401,8 @@ module _ (news : Bool) (M : Marked) (vats : List (Vat Name)) (v : ℕ) (q : Vat 
       outbox = λ s p h. (quiet s, λ h. h);
       opened = λ s p i. (quiet s, λ h. h);
       noticed = λ s w. (quiet s, λ h. h);
-      drawn = λ s w. (follows_drawn news (IsTold v) (names_in s.known) s.mails s.promises s.messages s.drawn w, λ h. h, (let e : length (s.drawn ++ w ∷ []) ≡ suc (length s.drawn) = length_end s.drawn w in omega arith, tt, tt, M.draw (length s.drawn)));
-      altered = λ s c n none h. (follows_change (naming word v) news (IsTold v) c n s.known s.mails s.promises s.messages (length s.drawn), λ k. kept_change (naming word v) v s.number c n s.known s.mails s.promises none k);
+      drawn = λ s w. (follows_drawn news (IsTold v) (names_in s.known) s.mails s.promises s.messages s.drawn w, λ h. h, (drawn_last s.drawn w (key s.number w) (word_key s.number w), tt, tt, M.draw (key s.number w)));
+      altered = λ s c n none h. (follows_change (naming word v) news (IsTold v) c n s.known s.mails s.promises s.messages s.drawn, λ k. kept_change (naming word v) v s.number c n s.known s.mails s.promises none k);
       answered = λ s h n l at. answered_ok s h n l at.3;
     }
 
@@ -423,8 +423,8 @@ module _ (M : Marked) (vats : List (Vat Name)) (v : ℕ) (q : Vat Name) (there :
       Goes true M vats v q there here s t × (Keeps true M vats v q there here s → Keeps true M vats v q there here t) × Ok true M vats v q there here t (Mail (Sent m)) × Ok true M vats v q there here t (Named (Answer h m))
   unfolding begun host_of
   message_made s h at = let m : Msg = record { sender = v; number = s.messages } in let k : Known Name = begun (Answer h m) h in let t : Vat Name = record s { messages = suc s.messages; mails = s.mails ++ Sent m ∷ []; known = s.known ++ k ∷ [] } in
-      let f : Follows true (IsTold v) (names_in s.known) s.mails s.promises s.messages (length s.drawn) (names_in (s.known ++ k ∷ [])) s.mails s.promises s.messages (length s.drawn) = follows_known true (IsTold v) s.known k s.mails s.promises s.messages (length s.drawn) (λ x. x) in
-      let r : Goes true M vats v q there here s t = record { names = f.names; mails = λ n a. among_more n s.mails (Sent m) a; promises = omega arith; messages = omega arith; draws = omega arith; told = f.told } in
+      let f : Follows true (IsTold v) (names_in s.known) s.mails s.promises s.messages s.drawn (names_in (s.known ++ k ∷ [])) s.mails s.promises s.messages s.drawn = follows_known true (IsTold v) s.known k s.mails s.promises s.messages s.drawn (λ x. x) in
+      let r : Goes true M vats v q there here s t = record { names = f.names; mails = λ n a. among_more n s.mails (Sent m) a; promises = omega arith; messages = omega arith; draws = λ x a. a; told = f.told } in
       let among : IsAmong (Answer h m) (names_in (s.known ++ k ∷ [])) = rw (sym (names_end s.known k)) at (among_last (names_in s.known) (Answer h m)) in
       let e : messages_of (put_at v t vats) v ≡ suc s.messages = messages_at (put_at v t vats) v t (get_put vats v q t there) in
       let l : s.messages < messages_of (put_at v t vats) v = omega arith in
@@ -433,7 +433,7 @@ module _ (M : Marked) (vats : List (Vat Name)) (v : ℕ) (q : Vat Name) (there :
   lone_made : (s : Vat Name) → let m : Msg = record { sender = v; number = s.messages } in let t : Vat Name = record s { messages = suc s.messages; mails = s.mails ++ Sent m ∷ [] } in
       Goes true M vats v q there here s t × (Keeps true M vats v q there here s → Keeps true M vats v q there here t) × Ok true M vats v q there here t (Mail (Sent m))
   lone_made s = let m : Msg = record { sender = v; number = s.messages } in let t : Vat Name = record s { messages = suc s.messages; mails = s.mails ++ Sent m ∷ [] } in
-      let r : Goes true M vats v q there here s t = record { names = λ n a. a; mails = λ n a. among_more n s.mails (Sent m) a; promises = omega arith; messages = omega arith; draws = omega arith; told = λ n t a. a } in
+      let r : Goes true M vats v q there here s t = record { names = λ n a. a; mails = λ n a. among_more n s.mails (Sent m) a; promises = omega arith; messages = omega arith; draws = λ x a. a; told = λ n t a. a } in
       let e : messages_of (put_at v t vats) v ≡ suc s.messages = messages_at (put_at v t vats) v t (get_put vats v q t there) in
       let l : s.messages < messages_of (put_at v t vats) v = omega arith in
       (r, λ c. kept_mail v s.number s.known s.mails s.promises (Sent m) tt c, (l, among_last s.mails (Sent m), tt, M.mail m))

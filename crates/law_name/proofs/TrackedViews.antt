@@ -1,12 +1,14 @@
 -- A name comes to be viewed as a gift that came to be known just now.
-use Rattle.std.proofs.Common.{◌≡◌, ℕ, ◌<◌, Bool, true, false, List, [], ◌∷◌, ◌++◌, Option, Some, None, if◌then◌else◌, refl, sym, ◌∙◌, inl, inr, length, ◌==◌, arith}
+use Rattle.std.proofs.Common.{◌≡◌, ℕ, Bool, true, false, List, [], ◌∷◌, ◌++◌, Option, Some, None, if◌then◌else◌, zero, refl, sym, ◌∙◌, inl, inr, subst, ◌==◌}
 use Rattle.std.specs.Prelude.{slice_get}
 use Rattle.std.proofs.lemmas.Bool.{eqb-true}
-use Rattle.def_machine.specs.Values.{Name, Gift, IsGift, naming, name_of}
-use Rattle.def_machine.specs.State.{Known, See, Wait, Shorten, Ask, Views, GiftEntry, Vat, Done, Gives, Throws, Ejects, Stops, ◌>>=◌, ◌>>◌, and_then, give, look, tell, send_out, come, new_gift, alter, draw, draws, with_change, is_gift, begun}
+use Rattle.def_machine.specs.Values.{Name, Gift, IsGift, naming, name_of, key, word_of, under}
+use Rattle.def_machine.specs.State.{Known, See, Wait, Shorten, Ask, Views, GiftEntry, Vat, Done, Gives, Throws, Ejects, Stops, ◌>>=◌, ◌>>◌, and_then, give, look, tell, send_out, come, new_gift, alter, draw, draws, drawn_at, with_change, is_gift, begun}
 use Rattle.def_machine.specs.Refs.{host_at}
 use Rattle.def_machine.specs.Arrive as arrive
-use Rattle.law_name.specs.Names.{Named, Drew, At, Gave, AllOf, IsAmong, names_in, KnownOk, GiftOk}
+use Rattle.law_name.specs.Names.{Named, Drew, At, Gave, AllOf, IsAmong, WasDrawn, names_in, KnownOk, GiftOk}
+use Rattle.law_machine.proofs.KeyLaws.{word_under_key}
+use Rattle.law_name.proofs.Among.{drawn_last, key_not_drawn}
 use Rattle.law_name.proofs.Facts.{Fact, Nothing, Also, IsName, IsDraw, IsGiven, IsVat, nothing}
 use Rattle.law_name.proofs.Care.{Care, Sound, Ends, Gets, Fine, widen, still, changes_ok, fine_tell, fine_out, fine_wait}
 use Rattle.law_name.proofs.Looks.{note_shorten, goes_shorten}
@@ -14,9 +16,6 @@ use Rattle.law_name.proofs.CareArrive.{fine_gift_there}
 use Rattle.law_name.proofs.SameNames.{reference_is}
 use Rattle.law_name.proofs.Views.{AllLookOn, look_on_see}
 use Rattle.law_name.proofs.Tracked.{IsTold, Marked, Kept, Ok, Goes, ok_on, follows_change, names_change, same_name, kept_looking, tracked, tracked_under, tracked_gives}
-
-less_not : (i j : ℕ) → i < j → i ≡ j → ⊥
-less_not i j h e = omega arith
 
 -- a gift that came to be known as the last
 abbrev IsLast : ℕ → Vat Name → Done Name Name → Type 0
@@ -46,32 +45,32 @@ module _ (news : Bool) (M : Marked) (vats : List (Vat Name)) (v : ℕ) (q : Vat 
 
   -- ---- what was known before the draw is another name
 
-  absent_or : (b : Bool) (d i p : ℕ) (g : GiftEntry Name) (o : Option (GiftEntry Name)) → is_gift p i g ≡ b → g.number < d → d ≡ i → o ≡ None → ◌≡◌ {A = Option (GiftEntry Name)} (elim b [ true ↦ Some g | false ↦ o ]) None
+  absent_or : (b : Bool) (ds : List ℕ) (i p : ℕ) (g : GiftEntry Name) (o : Option (GiftEntry Name)) → is_gift p i g ≡ b → WasDrawn ds g.number → (WasDrawn ds i → ⊥) → o ≡ None → ◌≡◌ {A = Option (GiftEntry Name)} (elim b [ true ↦ Some g | false ↦ o ]) None
   unfolding is_gift
-  absent_or true d i p g o e h j k = absurd (both (g.provider == p) e)
+  absent_or true ds i p g o e h new k = absurd (both (g.provider == p) e)
     where
       both : (c : Bool) → elim c [ true ↦ g.number == i | false ↦ false ] ≡ true → ⊥
-      both true f = let n : g.number ≡ i = eqb-true g.number i f in omega arith
+      both true f = new (subst (WasDrawn ds) (eqb-true g.number i f) h)
       both false f = cc
-  absent_or false d i p g o e h j k = k
+  absent_or false ds i p g o e h new k = k
 
-  gift_absent : (s : Vat Name) (d i p : ℕ) (gs : List (GiftEntry Name)) → d ≡ i → AllOf (λ (g : GiftEntry Name). g.number < d) gs → arrive.gift_at p i gs ≡ None
+  gift_absent : (ds : List ℕ) (i p : ℕ) (gs : List (GiftEntry Name)) → (WasDrawn ds i → ⊥) → AllOf (λ (g : GiftEntry Name). WasDrawn ds g.number) gs → arrive.gift_at p i gs ≡ None
   unfolding arrive.gift_at
-  gift_absent s d i p [] e h = refl
-  gift_absent s d i p (g ∷ gs) e h = absent_or (is_gift p i g) d i p g (arrive.gift_at p i gs) refl h.0 e (gift_absent s d i p gs e h.1)
+  gift_absent ds i p [] new h = refl
+  gift_absent ds i p (g ∷ gs) new h = absent_or (is_gift p i g) ds i p g (arrive.gift_at p i gs) refl h.0 new (gift_absent ds i p gs new h.1)
 
-  numbers_below : (s : Vat Name) (gs : List (GiftEntry Name)) → AllOf (GiftOk (S.ok s)) gs → AllOf (λ (g : GiftEntry Name). g.number < length s.drawn) gs
-  numbers_below s [] h = tt
-  numbers_below s (g ∷ gs) h = let k = h.0 in let l = k.1 in (l.0, numbers_below s gs h.1)
+  gifts_drawn : (s : Vat Name) (gs : List (GiftEntry Name)) → AllOf (GiftOk (S.ok s)) gs → AllOf (λ (g : GiftEntry Name). WasDrawn s.drawn g.number) gs
+  gifts_drawn s [] h = tt
+  gifts_drawn s (g ∷ gs) h = let k = h.0 in let l = k.1 in (l.0, gifts_drawn s gs h.1)
 
-  -- a name that was made before is no gift of the next draw
-  other_name : (s : Vat Name) (n : Name) (x : ℕ) → Ok news M vats v q there here s (Named n) → n ≡ Gift x (length s.drawn) → ⊥
-  other_name s n x h e = let g : Ok news M vats v q there here s (Named (Gift x (length s.drawn))) = rw e at h in less_not (length s.drawn) (length s.drawn) g.0 refl
+  -- a name that was made before is no gift under a word that was not drawn
+  other_name : (s : Vat Name) (i : ℕ) (n : Name) (x : ℕ) → (WasDrawn s.drawn i → ⊥) → Ok news M vats v q there here s (Named n) → n ≡ Gift x i → ⊥
+  other_name s i n x new h e = let g : Ok news M vats v q there here s (Named (Gift x i)) = rw e at h in new g.0
 
-  not_known : (s : Vat Name) (x : ℕ) (ks : List (Known Name)) → AllOf (KnownOk (S.ok s)) ks → IsAmong (Gift x (length s.drawn)) (names_in ks) → ⊥
-  not_known s x [] h a = absurd a
-  not_known s x (k ∷ ks) h (inl e) = other_name s k.name x h.0.0 (sym e)
-  not_known s x (k ∷ ks) h (inr a) = not_known s x ks h.1 a
+  not_known : (s : Vat Name) (i x : ℕ) (ks : List (Known Name)) → (WasDrawn s.drawn i → ⊥) → AllOf (KnownOk (S.ok s)) ks → IsAmong (Gift x i) (names_in ks) → ⊥
+  not_known s i x [] new h a = absurd a
+  not_known s i x (k ∷ ks) new h (inl e) = other_name s i k.name x new h.0.0 (sym e)
+  not_known s i x (k ∷ ks) new h (inr a) = not_known s i x ks new h.1 a
 
   -- ---- the view
 
@@ -86,7 +85,7 @@ module _ (news : Bool) (M : Marked) (vats : List (Vat Name)) (v : ℕ) (q : Vat 
   seen : (t : Vat Name) (ks : List (Known Name)) (k : Known Name) (n g : Name) → Sound S t → S.ok t (Named g) → t.known ≡ ks ++ k ∷ [] → k.name ≡ g → (IsAmong g (names_in ks) → ⊥) → (n ≡ g → ⊥)
       → Goes news M vats v q there here t (record t { known = with_change (naming word v) (See g) n t.known }) × Sound S (record t { known = with_change (naming word v) (See g) n t.known })
   seen t ks k n g h b e f new other = let u : Vat Name = record t { known = with_change (naming word v) (See g) n t.known } in
-      let r : Goes news M vats v q there here t u = follows_change (naming word v) news (IsTold v) (See g) n t.known t.mails t.promises t.messages (length t.drawn) in let p = still S t u r h in
+      let r : Goes news M vats v q there here t u = follows_change (naming word v) news (IsTold v) (See g) n t.known t.mails t.promises t.messages t.drawn in let p = still S t u r h in
       let good : S.ok u (Named g) = ok_on news M vats v q there here (IsTold v) t u r (Named g) b in
       (r, record { parts = record { things = p.things; slots = p.slots; lists = p.lists; queue = p.queue; known = changes_ok (naming word v) S (tracked_under news M vats v q there here word) (S.ok u) (See g) n t.known good (λ a e. tt) p.known; gifts = p.gifts; outbox = p.outbox }; more = see_known t t ks k n g e f new other h.more })
 
@@ -113,20 +112,21 @@ module _ (news : Bool) (M : Marked) (vats : List (Vat Name)) (v : ℕ) (q : Vat 
       → Ends S nothing s (and_then (arrive.gift_there (naming word v) u h c i s) (λ g. arrive.see (naming word v) n g))
   put_then s u w i c n h a at b e new other = gift_then s n i (arrive.gift_there (naming word v) u w c i s) ((fine_gift_there (naming word v) S (tracked_under news M vats v q there here word) (tracked_gives news M vats v q there here word) {C = Also (IsGiven i) (IsVat c)} u w c i (record { at = λ r d. d.1 }) (record { at = λ r d. d.0 })).after s h (b, at)) (gift_last s u w c i e) a new other
 
-  drawn_then : (s : Vat Name) (u h c : ℕ) (n : Name) (w : ℕ) (o : Option ℕ) → Sound S s → S.ok s (Named n) → S.ok s (At c)
-      → Ends S nothing s (and_then (draws w o s) (λ i. send_out h (Shorten n c i) >> (arrive.gift_there (naming word v) u h c i >>= (λ g. arrive.see (naming word v) n g))))
+  drawn_then : (s : Vat Name) (u h c : ℕ) (n : Name) (w : ℕ) (o : Option ℕ) → drawn_at zero w s.drawn ≡ o → Sound S s → S.ok s (Named n) → S.ok s (At c)
+      → Ends S nothing s (and_then (draws w o s) (λ i. send_out h (Shorten n c (under h i)) >> (arrive.gift_there (naming word v) u h c (under h i) >>= (λ g. arrive.see (naming word v) n g))))
   unfolding draws and_then send_out ◌>>◌ ◌>>=◌
-  drawn_then s u p c n w (Some j) h a at = tt
-  drawn_then s u p c n w None h a at = let i : ℕ = length s.drawn in let law = tracked_under news M vats v q there here word in let r = law.drawn s w in let t : Vat Name = record s { drawn = s.drawn ++ w ∷ [] } in
+  drawn_then s u p c n w (Some j) e h a at = tt
+  drawn_then s u p c n w None e h a at = let i : ℕ = under p (key s.number w) in let is : word_of i ≡ w = word_under_key p s.number w in let new : WasDrawn s.drawn i → ⊥ = key_not_drawn s.drawn w i e is in let law = tracked_under news M vats v q there here word in let r = law.drawn s w in let t : Vat Name = record s { drawn = s.drawn ++ w ∷ [] } in
+      let good : S.ok t (Drew i) = (drawn_last s.drawn w i is, tt, tt, M.draw i) in
       let drew : Sound S t = record { parts = still S s t r.0 h; more = r.1 h.more } in
       let known : S.ok t (Named n) = ok_on news M vats v q there here (IsTold v) s t r.0 (Named n) a in
-      let put = (fine_out (naming word v) S law {C = Also (IsName n) (IsDraw i)} p (Shorten n c i) (note_shorten S (Also (IsName n) (IsDraw i)) n c i (record { at = λ r d. d.0 }) (record { at = λ r d. d.1 })) (goes_shorten S (Also (IsName n) (IsDraw i)) p n c i)).after t drew (known, r.2) in
+      let put = (fine_out (naming word v) S law {C = Also (IsName n) (IsDraw i)} p (Shorten n c i) (note_shorten S (Also (IsName n) (IsDraw i)) n c i (record { at = λ r d. d.0 }) (record { at = λ r d. d.1 })) (goes_shorten S (Also (IsName n) (IsDraw i)) p n c i)).after t drew (known, good) in
       let z : Vat Name = record t { outbox = t.outbox ++ record { to = p; note = Shorten n c i } ∷ [] } in
       let d : Done Name (Unit {0}) = and_then (arrive.gift_there (naming word v) u p c i z) (λ g. arrive.see (naming word v) n g) in
-      widen S {A = Unit {0}} nothing s t d r.0 (widen S {A = Unit {0}} nothing t z d put.0 (put_then z u p i c n put.1 (ok_on news M vats v q there here (IsTold v) t z put.0 (Named n) known) (ok_on news M vats v q there here (IsTold v) t z put.0 (At c) (ok_on news M vats v q there here (IsTold v) s t r.0 (At c) at)) (ok_on news M vats v q there here (IsTold v) t z put.0 (Drew i) r.2)
-      (gift_absent s i i p s.gifts refl (numbers_below s s.gifts h.parts.gifts)) (λ x b. not_known s x s.known h.parts.known b) (λ x b. other_name s n x a b)))
+      widen S {A = Unit {0}} nothing s t d r.0 (widen S {A = Unit {0}} nothing t z d put.0 (put_then z u p i c n put.1 (ok_on news M vats v q there here (IsTold v) t z put.0 (Named n) known) (ok_on news M vats v q there here (IsTold v) t z put.0 (At c) (ok_on news M vats v q there here (IsTold v) s t r.0 (At c) at)) (ok_on news M vats v q there here (IsTold v) t z put.0 (Drew i) good)
+      (gift_absent s.drawn i p s.gifts new (gifts_drawn s s.gifts h.parts.gifts)) (λ x b. not_known s i x s.known new h.parts.known b) (λ x b. other_name s i n x new a b)))
 
   -- what a name is viewed as is asked of its host, and comes later among the names known
   pub tracked_views : {C : Fact Name} (n : Name) → Gets S C (IsName n) → (c : ℕ) → Gets S C (IsVat c) → Fine S C (arrive.view_there (naming word v) n c) nothing
   unfolding arrive.view_there ◌>>=◌ and_then look draw
-  tracked_views n g c k = record { after = λ s h d. drawn_then s s.number (host_at (naming word v) s.number s.known n) c n _ _ h (g.at s d) (k.at s d) }
+  tracked_views n g c k = record { after = λ s h d. drawn_then s s.number (host_at (naming word v) s.number s.known n) c n _ _ refl h (g.at s d) (k.at s d) }

@@ -1,6 +1,6 @@
 -- The names that a vat knows, and the names in what it has.
 use Rattle.std.specs.Prelude.{◌≡◌, ℕ, zero, ◌<◌, List, [], ◌∷◌, ◌⊎◌, Some, None, slice_get, map}
-use Rattle.def_machine.specs.Values.{Value, Null, Flag, Number, Letter, Text, Prim, Broken, Items, Ref, Name, Root, Object, Promise, Answer, Gift, Sent, host_of}
+use Rattle.def_machine.specs.Values.{Value, Null, Flag, Number, Letter, Text, Prim, Broken, Items, Ref, Name, Root, Object, Promise, Answer, Gift, Sent, host_of, word_of}
 use Rattle.def_machine.specs.State.{Bound, Fixed, Slot, Binding, Cell, Freedom, IsSafe, IsItself, IsFinal, IsVar, View, Thing, Made, Ejector, Audition, Resolver, Message, Standing, Unsettled, WaitsOn, Viewed, Settled, Known, Passed, Passeds, Plain, AGift, Many, NoMore, More, Note, Deliver, Open, Ask, SettledTo, Elsewhere, Shorten, Put, GiftEntry, Vat, WhereSome}
 
 -- what is said something of
@@ -9,19 +9,19 @@ pub data Bit (N : Type 0) : Type 0 where
   Named : N → Bit N
   -- the name of a message
   Mail : N → Bit N
-  -- the draw of that number
+  -- the word of that key
   Drew : ℕ → Bit N
   -- a vat, and another vat than that of the state
   At : ℕ → Bit N
   Off : ℕ → Bit N
   -- a name of which something is known, in hand or not
   Entered : N → Bit N
-  -- the name of a gift at its host, and its draw
+  -- the name of a gift at its host, and its key
   Owns : N → ℕ → Bit N
-  -- the draw of a gift that is in hand
+  -- the key of a gift that is in hand
   Gave : ℕ → Bit N
 
--- what that is of names, messages, draws and vats, be they in hand or not
+-- what that is of names, messages, words and vats, be they in hand or not
 abbrev pub bare : {N : Type 0} → Bit N → Bit N
 bare (Named n) = Named n
 bare (Mail n) = Mail n
@@ -157,13 +157,17 @@ promises_of vats v = elim (slice_get vats v) [ Some s ↦ s.promises | None ↦ 
 unfoldable pub messages_of : List (Vat Name) → ℕ → ℕ
 messages_of vats v = elim (slice_get vats v) [ Some s ↦ s.messages | None ↦ zero ]
 
--- Its number is one that its vat has given: a promise of that vat, an answer of a message of that vat, a gift of a draw that was made. A message is no thing to be named.
-abbrev pub WasMade : List (Vat Name) → ℕ → Name → Type 0
+-- the word of that key is among those drawn
+abbrev pub WasDrawn : List ℕ → ℕ → Type 0
+WasDrawn draws i = IsAmong (word_of i) draws
+
+-- Its number is one that its vat has given: a promise of that vat, an answer of a message of that vat, a gift under a word that was drawn. A message is no thing to be named.
+abbrev pub WasMade : List (Vat Name) → List ℕ → Name → Type 0
 WasMade vats draws (Root w) = Unit {0}
 WasMade vats draws (Object w i) = Unit {0}
 WasMade vats draws (Promise w i) = i < promises_of vats w
 WasMade vats draws (Answer h m) = m.number < messages_of vats m.sender
-WasMade vats draws (Gift h i) = i < draws
+WasMade vats draws (Gift h i) = WasDrawn draws i
 WasMade vats draws (Sent m) = ⊥
 
 -- a message that its sender has made
@@ -175,15 +179,15 @@ IsMessageMade vats (Promise w i) = ⊥
 IsMessageMade vats (Answer h m) = ⊥
 IsMessageMade vats (Gift h i) = ⊥
 
-abbrev pub IsMade : List (Vat Name) → ℕ → Bit Name → Type 0
+abbrev pub IsMade : List (Vat Name) → List ℕ → Bit Name → Type 0
 IsMade vats draws (Named n) = WasMade vats draws n
 IsMade vats draws (Mail n) = IsMessageMade vats n
-IsMade vats draws (Drew i) = i < draws
+IsMade vats draws (Drew i) = WasDrawn draws i
 IsMade vats draws (At h) = Unit {0}
 IsMade vats draws (Off h) = Unit {0}
 IsMade vats draws (Entered n) = WasMade vats draws n
 IsMade vats draws (Owns n i) = WasMade vats draws n
-IsMade vats draws (Gave i) = i < draws
+IsMade vats draws (Gave i) = WasDrawn draws i
 
 -- ---- names that a vat knows
 

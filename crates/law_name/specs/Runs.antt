@@ -1,12 +1,12 @@
 -- What holds of names in every world of every run.
-use Rattle.std.specs.Prelude.{◌≡◌, ℕ, zero, ◌<◌, List, ◌∷◌, ◌++◌, Some, true, false, slice_get, length, codes}
+use Rattle.std.specs.Prelude.{◌≡◌, ℕ, zero, ◌<◌, List, ◌∷◌, ◌++◌, Some, true, false, slice_get, codes}
 use Rattle.def_machine.specs.Values.{Value, Broken, Ref, Name, Msg, Promise, Answer, Gift, Sent, Foreign, spot_of, NoObject, same_name}
 use Rattle.def_machine.specs.State.{Vat, is_in}
 use Rattle.def_machine.specs.Refs.{follow}
 use Rattle.law_machine.specs.Breaks.{AtRest, settled_value}
 use Rattle.law_run.specs.Runs.{EachVat}
 use Rattle.def_run.specs.World.{Script, Program, Entry, World, Goes, begins, open_from, steps_from, names}
-use Rattle.law_name.specs.Names.{AllOf, IsAmong, NoteOk, Everywhere, IsMade, IsHad, names_in, HostIsTrue, IsEventual, IsMessageName, PlainOnce, Once}
+use Rattle.law_name.specs.Names.{AllOf, IsAmong, NoteOk, Everywhere, WasDrawn, IsMade, IsHad, names_in, HostIsTrue, IsEventual, IsMessageName, PlainOnce, Once}
 
 -- No vat is told twice that it knows a vat, and none that it knows itself.
 abbrev pub KnowsOnce : Script → Type 0
@@ -23,11 +23,11 @@ InEachVat P = InRuns (λ w. (v : ℕ) (s : Vat Name) → slice_get w.vats v ≡ 
 
 -- every name in what a vat has was made
 abbrev pub NamesWereMade : Type 0
-NamesWereMade = InEachVat (λ w v s. Everywhere (IsMade w.vats (length w.drawn)) s)
+NamesWereMade = InEachVat (λ w v s. Everywhere (IsMade w.vats w.drawn) s)
 
 -- and every name in a note under way
 abbrev pub NotesNameWhatWasMade : Type 0
-NotesNameWhatWasMade = InRuns (λ w. AllOf (λ l. AllOf (NoteOk (IsMade w.vats (length w.drawn))) l.notes) w.links)
+NotesNameWhatWasMade = InRuns (λ w. AllOf (λ l. AllOf (NoteOk (IsMade w.vats w.drawn)) l.notes) w.links)
 
 -- every name in what a vat has is known to it or an object, and every message is one that it has had
 abbrev pub NamesAreKnown : Type 0
@@ -45,12 +45,12 @@ RootsAndPromisesAreKnownOnce = InEachVat (λ w v s. PlainOnce (names_in s.known)
 abbrev pub OwnPromisesAreKnown : Type 0
 OwnPromisesAreKnown = InEachVat (λ w v s. (i : ℕ) → i < s.promises → IsAmong (Promise v i) (names_in s.known))
 
--- The next promise of a vat, each answer of its next message, and each gift of the next draw are known to no vat.
+-- The next promise of a vat, each answer of its next message, and each gift under a word that was not drawn are known to no vat.
 abbrev pub NextNamesAreNew : Type 0
 NextNamesAreNew = InEachVat (λ w v s. (u : ℕ) (t : Vat Name) → slice_get w.vats u ≡ Some t →
     (IsAmong (Promise v s.promises) (names_in t.known) → ⊥)
     × ((h : ℕ) → IsAmong (Answer h (record { sender = v; number = s.messages })) (names_in t.known) → ⊥)
-    × ((h : ℕ) → IsAmong (Gift h (length w.drawn)) (names_in t.known) → ⊥))
+    × ((h i : ℕ) → (WasDrawn w.drawn i → ⊥) → IsAmong (Gift h i) (names_in t.known) → ⊥))
 
 -- what a vat knows are roots, promises, answers and gifts, and what it has had are messages
 abbrev pub NamesAndMessagesAreApart : Type 0

@@ -14,8 +14,8 @@ use Rattle.law_order.proofs.Sends.{none_some, some_same, changed_name}
 use Rattle.law_order.proofs.Pushing.{push_append}
 use Rattle.law_order.proofs.Adding.{follows_alike, refers_same}
 use Rattle.law_order.proofs.Amid.{leads_same, grow_there, adding_grows}
-use Rattle.law_order.specs.Steps.{DrawBelow, DrawsBelow, Ready, Grown, StaysReady}
-use Rattle.law_order.proofs.Below.{more_draws, with_below}
+use Rattle.law_order.specs.Steps.{LetsDrawn, AllDrawn, Ready, Grown, StaysReady}
+use Rattle.law_order.proofs.Below.{with_drawn}
 
 -- ---- what is known
 
@@ -176,18 +176,18 @@ adds_note K s p i = record { alike = alike_same K s (record s { outbox = s.outbo
 
 -- ---- readiness
 
-nothing_below : (d : ℕ) (n : Note Name) → LetsNothingGo n → DrawBelow d n
-nothing_below d (Deliver m n verb ys) h = tt
-nothing_below d (Open i n) h = absurd h
-nothing_below d (Ask p i n) h = tt
-nothing_below d (SettledTo n y) h = tt
-nothing_below d (Elsewhere n c) h = tt
-nothing_below d (Shorten n c i) h = absurd h
+nothing_drawn : (d : List ℕ) (n : Note Name) → LetsNothingGo n → LetsDrawn d n
+nothing_drawn d (Deliver m n verb ys) h = tt
+nothing_drawn d (Open i n) h = absurd h
+nothing_drawn d (Ask p i n) h = tt
+nothing_drawn d (SettledTo n y) h = tt
+nothing_drawn d (Elsewhere n c) h = tt
+nothing_drawn d (Shorten n c i) h = absurd h
 
-pushed_below : (d v : ℕ) (ps : List (Put Name)) (ls : List Link) → NothingGoes ps → DrawsBelow d ls → DrawsBelow d (world.push_all v ps ls)
+pushed_drawn : (d : List ℕ) (v : ℕ) (ps : List (Put Name)) (ls : List Link) → NothingGoes ps → AllDrawn d ls → AllDrawn d (world.push_all v ps ls)
 unfolding world.push_all
-pushed_below d v [] ls i h = h
-pushed_below d v (p ∷ ps) ls i h = pushed_below d v ps (world.with_link (world.pushed p.note) v p.to ls) i.1 (with_below d p.note v p.to ls (nothing_below d p.note i.0) h)
+pushed_drawn d v [] ls i h = h
+pushed_drawn d v (p ∷ ps) ls i h = pushed_drawn d v ps (world.with_link (world.pushed p.note) v p.to ls) i.1 (with_drawn d p.note v p.to ls (nothing_drawn d p.note i.0) h)
 
 module _ (script : Script) (honest : ℕ → Bool) (w : World) (v : ℕ) (s t : Vat Name) where
   pub grown_adds : AddsOnly (names script v) s t → Grown script honest w v s t
@@ -197,11 +197,11 @@ module _ (script : Script) (honest : ℕ → Bool) (w : World) (v : ℕ) (s t : 
     leading = λ u x. leads_same script honest w.vats (world.push_all v s.outbox w.links) (world.push_all v t.outbox w.links) (grow_there script honest w v s t g) v s t (refers_same script honest v s t g.alike) u x;
   }
 
-  pub ready_adds : AddsOnly (names script v) s t → s.messages ≤ t.messages → s.promises ≤ t.promises → length s.drawn ≤ length t.drawn → Ready script honest w v s → Ready script honest w v t
+  pub ready_adds : AddsOnly (names script v) s t → s.messages ≤ t.messages → s.promises ≤ t.promises → t.drawn ≡ s.drawn → Ready script honest w v s → Ready script honest w v t
   ready_adds g m p d r = record {
     number = g.alike.number ∙ r.number;
     ends = ends_alike (names script v) s t g.alike r.ends;
-    draws = subst (λ ls. DrawsBelow (length t.drawn) ls) (sym (ap (λ ps. world.push_all v ps w.links) g.notes.1 ∙ push_append v s.outbox g.notes.0 w.links)) (pushed_below (length t.drawn) v g.notes.0 (world.push_all v s.outbox w.links) g.notes.2 (more_draws (length s.drawn) (length t.drawn) (world.push_all v s.outbox w.links) d r.draws));
+    draws = subst (λ ls. AllDrawn t.drawn ls) (sym (ap (λ ps. world.push_all v ps w.links) g.notes.1 ∙ push_append v s.outbox g.notes.0 w.links)) (pushed_drawn t.drawn v g.notes.0 (world.push_all v s.outbox w.links) g.notes.2 (subst (λ ds. AllDrawn ds (world.push_all v s.outbox w.links)) (sym d) r.draws));
     answers = λ h i j. none_alike (names script v) s t g.alike (Answer h (record { sender = v; number = i })) (r.answers h i (less s.messages t.messages i m j));
     promises = λ i j. none_alike (names script v) s t g.alike (Promise v i) (r.promises i (less s.promises t.promises i p j));
   }
@@ -209,5 +209,5 @@ module _ (script : Script) (honest : ℕ → Bool) (w : World) (v : ℕ) (s t : 
       less : (a b c : ℕ) → a ≤ b → b ≤ c → a ≤ c
       less a b c i j = omega arith
 
-  pub stays_adds : AddsOnly (names script v) s t → s.messages ≤ t.messages → s.promises ≤ t.promises → length s.drawn ≤ length t.drawn → StaysReady script honest w v s t
+  pub stays_adds : AddsOnly (names script v) s t → s.messages ≤ t.messages → s.promises ≤ t.promises → t.drawn ≡ s.drawn → StaysReady script honest w v s t
   stays_adds g m p d r = (ready_adds g m p d r, grown_adds g)

@@ -2,7 +2,7 @@
 use Rattle.std.proofs.Common.{◌≡◌, ℕ, zero, suc, Bool, true, false, List, [], ◌∷◌, ◌++◌, Option, Some, None, length, refl, sym, ap, subst, ◌∙◌, ◌⊎◌, inl, inr}
 use Rattle.std.proofs.lemmas.Bool.{ne_eqb, eqb-false}
 use Rattle.std.specs.Prelude.{slice_get, not, ◌==◌, ◌&&◌, ◌||◌, if◌then◌else◌}
-use Rattle.def_machine.specs.Values.{Value, Ref, Name, Gift, host_of}
+use Rattle.def_machine.specs.Values.{Value, Ref, Name, Gift, host_of, key}
 use Rattle.def_machine.specs.State.{Passed, Plain, AGift, Note, Deliver, Open, Ask, SettledTo, Elsewhere, Shorten, Vat, Done, is_in, drawn_at, draws, draw, give, send_out, ◌>>=◌, ◌>>◌, and_then}
 use Rattle.def_machine.specs.Refs as refs
 use Rattle.def_machine.specs.Refs.{Away}
@@ -14,9 +14,9 @@ use Rattle.law_order.specs.Places.{delivered, opens, shortens, subject, in_lane,
 use Rattle.law_order.specs.Worlds.{IfGives}
 use Rattle.law_order.proofs.Sends.{some_same, none_some, pushed_open, pushed_shut, push_last, found_ends}
 use Rattle.law_order.proofs.Changes.{growing_keeps}
-use Rattle.law_order.specs.Steps.{WaysAmid, NotesBelow, DrawsBelow, Ready}
+use Rattle.law_order.specs.Steps.{WaysAmid, Ready}
 use Rattle.law_order.specs.OrderSendPassing.{PassedGiftIsBehind}
-use Rattle.law_order.proofs.Below.{below_spares, no_place, no_open, no_shorten}
+use Rattle.law_order.proofs.Below.{NotesLack, LinksLack, links_lack, key_is_new, lacks_spares, no_place, no_open, no_shorten}
 use Rattle.law_order.proofs.News.{opened}
 use Rattle.law_order.proofs.Brought.{home_behind, honest_link, over_link, open_names_lead_home}
 
@@ -60,11 +60,11 @@ delivered_open (SettledTo a y ∷ ns) d n = delivered_open ns d n
 delivered_open (Elsewhere a c ∷ ns) d n = delivered_open ns d n
 delivered_open (Shorten a c j ∷ ns) d n = delivered_open ns d n
 
-last_place : (d : ℕ) (n : Name) (l : Lane) (b : List Item) (ns : List (Note Name)) → NotesBelow d ns → note_place (opens d) l b (ns ++ Open d n ∷ []) ≡ Some (Mid l (b ++ delivered ns) n)
+last_place : (d : ℕ) (n : Name) (l : Lane) (b : List Item) (ns : List (Note Name)) → NotesLack d ns → note_place (opens d) l b (ns ++ Open d n ∷ []) ≡ Some (Mid l (b ++ delivered ns) n)
 unfolding note_place opens in_lane subject delivered
 last_place d n l b [] h = ap (λ c. elim c [ true ↦ Some (Mid l b n) | false ↦ None ]) (same_number d) ∙ ap (λ q. Some (Mid l q n)) (sym (join_none b))
 last_place d n l b (k ∷ ns) h =
-    ap (λ c. elim c [ true ↦ in_lane l b (subject k) | false ↦ note_place (opens d) l (b ++ delivered (k ∷ [])) (ns ++ Open d n ∷ []) ]) (below_spares d k h.0).0
+    ap (λ c. elim c [ true ↦ in_lane l b (subject k) | false ↦ note_place (opens d) l (b ++ delivered (k ∷ [])) (ns ++ Open d n ∷ []) ]) (lacks_spares d k h.0).0
     ∙ last_place d n l (b ++ delivered (k ∷ [])) ns h.1
     ∙ ap (λ q. Some (Mid l q n)) (join_all b (delivered (k ∷ [])) (delivered ns) ∙ ap (λ q. b ++ q) (delivered_cons k ns))
 
@@ -118,7 +118,7 @@ module _ (script : Script) (honest : ℕ → Bool) (v g d : ℕ) (n : Name) (min
   both : (l : Link) → l.from ≡ v → l.to ≡ g → (is_honest script honest l && (l.to == g)) ≡ true
   both l e f = ap (λ c. c && (l.to == g)) (honest_link script honest (record { fuel = 0; drawn = []; vats = []; links = []; connections = []; history = [] }) v g l mine theirs e f) ∙ ap (λ q. q == g) f ∙ same_number g
 
-  open_last : (ls : List Link) (l : Link) → DrawsBelow d ls → world.link_at v g ls ≡ Some l → l.cut ≡ false → open_place script honest g d (world.with_link (world.pushed (Open d n)) v g ls) ≡ Some (Mid (Way v g) (delivered l.notes) n)
+  open_last : (ls : List Link) (l : Link) → LinksLack d ls → world.link_at v g ls ≡ Some l → l.cut ≡ false → open_place script honest g d (world.with_link (world.pushed (Open d n)) v g ls) ≡ Some (Mid (Way v g) (delivered l.notes) n)
   unfolding open_place is_honest world.link_at
   open_last [] l b e f = none_some l e
   open_last (k ∷ ls) l b e f = go (λ q. open_last ls l b.2 q f) (world.is_link v g k) refl
@@ -130,7 +130,7 @@ module _ (script : Script) (honest : ℕ → Bool) (v g d : ℕ) (n : Name) (min
           let ends = found_ends v g (k ∷ ls) l e in
           ap (λ qs. open_place script honest g d qs) (with_here (Open d n) v g k ls i (subst (λ j. j.cut ≡ false) (sym same) f) ∙ ap (λ j. After (Open d n) j ∷ ls) same)
           ∙ chosen (is_honest script honest l && (l.to == g)) (note_place (opens d) (Way l.from l.to) [] (l.notes ++ Open d n ∷ [])) (open_place script honest g d ls) (Mid (Way v g) (delivered l.notes) n) (both l ends.0 ends.1)
-          (last_place d n (Way l.from l.to) [] l.notes (subst (λ j. NotesBelow d j.notes) same b.0) ∙ ap (λ a. Some (Mid (Way a l.to) (delivered l.notes) n)) ends.0 ∙ ap (λ a. Some (Mid (Way v a) (delivered l.notes) n)) ends.1)
+          (last_place d n (Way l.from l.to) [] l.notes (subst (λ j. NotesLack d j.notes) same b.0) ∙ ap (λ a. Some (Mid (Way a l.to) (delivered l.notes) n)) ends.0 ∙ ap (λ a. Some (Mid (Way v a) (delivered l.notes) n)) ends.1)
       go rest false i =
           ap (λ qs. open_place script honest g d qs) (with_behind (Open d n) v g k ls i)
           ∙ skipped (is_honest script honest k && (k.to == g)) (note_place (opens d) (Way k.from k.to) [] k.notes) (open_place script honest g d (world.with_link (world.pushed (Open d n)) v g ls)) (no_place d (opens d) (Way k.from k.to) [] k.notes (λ a s. s.0) b.0)
@@ -141,7 +141,7 @@ module _ (script : Script) (honest : ℕ → Bool) (v g d : ℕ) (n : Name) (min
   said true p = refl
   said false p = refl
 
-  pub gift_last : (ls : List Link) (l : Link) → DrawsBelow d ls → world.link_at v g ls ≡ Some l → l.cut ≡ false → gift_place script honest g d (world.with_link (world.pushed (Open d n)) v g ls) ≡ Mid (Way v g) (delivered l.notes) n
+  pub gift_last : (ls : List Link) (l : Link) → LinksLack d ls → world.link_at v g ls ≡ Some l → l.cut ≡ false → gift_place script honest g d (world.with_link (world.pushed (Open d n)) v g ls) ≡ Mid (Way v g) (delivered l.notes) n
   unfolding gift_place first_place
   gift_last ls l b e f = let ks = world.with_link (world.pushed (Open d n)) v g ls in
       ap (λ o. or_never script honest (was_put script honest g d ks) (first_place o (shorten_place script honest g d ks))) (open_last ls l b e f)
@@ -210,7 +210,7 @@ module _ (script : Script) (honest : ℕ → Bool) (v g d : ℕ) (n : Name) (min
           ∙ ap (λ r. (is_honest script honest k && (((k.to == g) && any_note (opens d) k.log) || any_note (shortens g d) k.log)) || r) (rest (sym (link_behind v g k ls i) ∙ e))
           ∙ or_true (is_honest script honest k && (((k.to == g) && any_note (opens d) k.log) || any_note (shortens g d) k.log))
 
-  pub gift_lost : (ls : List Link) (l : Link) → DrawsBelow d ls → world.link_at v g ls ≡ Some l → l.cut ≡ true → gift_place script honest g d (world.with_link (world.pushed Note0) v g ls) ≡ Nowhere
+  pub gift_lost : (ls : List Link) (l : Link) → LinksLack d ls → world.link_at v g ls ≡ Some l → l.cut ≡ true → gift_place script honest g d (world.with_link (world.pushed Note0) v g ls) ≡ Nowhere
   unfolding gift_place first_place or_never
   gift_lost ls l b e f = let ks = world.with_link (world.pushed Note0) v g ls in
       ap (λ o. or_never script honest (was_put script honest g d ks) (first_place o (shorten_place script honest g d ks))) (open_same ls l e f ∙ no_open script honest g d ls b)
@@ -229,11 +229,14 @@ other_put (suc v) (suc h) t (s ∷ ss) f = other_put v h t ss (λ e. f (ap suc e
 
 module _ (script : Script) (honest : ℕ → Bool) (w : World) (v h g word : ℕ) (n m : Name) (bs : List Item) (s sh sg : Vat Name) (l : Link)
     (mine : honest v ≡ true) (receivers : honest h ≡ true) (theirs : honest g ≡ true) (far : v ≡ h → ⊥) (third : v ≡ g → ⊥) (other : h ≡ g → ⊥)
-    (at : slice_get w.vats h ≡ Some sh) (number : sh.number ≡ h) (new_there : refs.entry_of (names script h) sh.known (Gift g (length s.drawn)) ≡ None)
-    (host : slice_get w.vats g ≡ Some sg) (new_here : refs.entry_of (names script g) sg.known (Gift g (length s.drawn)) ≡ None) (shut : opened_there (Gift g (length s.drawn)) sg.gifts ≡ false)
+    (at : slice_get w.vats h ≡ Some sh) (number : sh.number ≡ h) (fresh : drawn_at zero word s.drawn ≡ None) (new_there : refs.entry_of (names script h) sh.known (Gift g (key s.number word)) ≡ None)
+    (host : slice_get w.vats g ≡ Some sg) (new_here : refs.entry_of (names script g) sg.known (Gift g (key s.number word)) ≡ None) (shut : opened_there (Gift g (key s.number word)) sg.gifts ≡ false)
     (link : world.link_at v g (world.push_all v s.outbox w.links) ≡ Some l) (ready : Ready script honest w v s) (before : Ahead (WaysAmid script honest w v s) m (End (Way v g) n)) where
   abbrev D : ℕ
-  D = length s.drawn
+  D = key s.number word
+
+  lacks : LinksLack D (world.push_all v s.outbox w.links)
+  lacks = links_lack s.drawn D (key_is_new s.number word s.drawn fresh) (world.push_all v s.outbox w.links) ready.draws
 
   abbrev G : Name
   G = Gift g D
@@ -271,13 +274,13 @@ module _ (script : Script) (honest : ℕ → Bool) (w : World) (v h g word : ℕ
   stands_within whole i j = notes_within (is_honest script honest (After (Open D n) l)) i (subst (λ o. IsIn i (NotesOf o)) (link_there whole) j)
 
   gift_is : l.cut ≡ false → gift_place script honest g D Links ≡ Mid (Way v g) (delivered l.notes) n
-  gift_is whole = ap (λ ls. gift_place script honest g D ls) links_are ∙ gift_last script honest v g D n mine theirs (world.push_all v s.outbox w.links) l ready.draws link whole
+  gift_is whole = ap (λ ls. gift_place script honest g D ls) links_are ∙ gift_last script honest v g D n mine theirs (world.push_all v s.outbox w.links) l lacks link whole
 
   still : Ahead W m (End (Way v g) n)
-  still = (growing_keeps (WaysAmid script honest w v s) W (opened script honest w v g word n s ready).1.grows (End (Way v g) n)).1 m before
+  still = (growing_keeps (WaysAmid script honest w v s) W (opened script honest w v g word n s fresh ready).1.grows (End (Way v g) n)).1 m before
 
   gift_by : (b : Bool) → l.cut ≡ b → Ahead W m (gift_place script honest g D Links)
-  gift_by true cut = subst (λ c. Ahead W m c) (sym (ap (λ ls. gift_place script honest g D ls) links_are ∙ gift_lost script honest v g D n mine theirs (world.push_all v s.outbox w.links) l ready.draws link cut)) (doomed_there nowhere)
+  gift_by true cut = subst (λ c. Ahead W m c) (sym (ap (λ ls. gift_place script honest g D ls) links_are ∙ gift_lost script honest v g D n mine theirs (world.push_all v s.outbox w.links) l lacks link cut)) (doomed_there nowhere)
   gift_by false whole = subst (λ c. Ahead W m c) (sym (gift_is whole)) (home_behind W v g (delivered l.notes) n m (λ i j. stands_within whole i j) still)
 
   gift_ahead : Ahead W m (gift_place script honest g D Links)
@@ -324,25 +327,29 @@ module _ (script : Script) (honest : ℕ → Bool) (w : World) (v h g word : ℕ
   passed = past_mid (over_link script honest (amid v T w) v h G m mine receivers receiver_ahead)
 
 module _ (script : Script) (honest : ℕ → Bool) (w : World) (v h g : ℕ) (y : Value Name) (n m : Name) (object : Bool) (bs : List Item) (s : Vat Name) where
+  -- the next word
+  abbrev Word : ℕ
+  Word = (names script v).word (length s.drawn)
+
   abbrev Passes : Vat Name → Type 0
-  Passes t = Ahead (WaysAmid script honest w v t) m (Mid (Way v h) bs (Gift g (length s.drawn)))
+  Passes t = Ahead (WaysAmid script honest w v t) m (Mid (Way v h) bs (Gift g (key s.number Word)))
 
   abbrev Block : Done Name (Passed Name) → Type 0
   Block d = IfGives Passes d
 
-  split : (g ≡ h → ⊥) → ((word : ℕ) → Passes (record s { drawn = s.drawn ++ word ∷ []; outbox = s.outbox ++ record { to = g; note = Open (length s.drawn) n } ∷ [] })) → IfGives Passes (refs.address_plain (names script v) h y (Away g n object) s)
+  split : (g ≡ h → ⊥) → (drawn_at zero Word s.drawn ≡ None → Passes (record s { drawn = s.drawn ++ Word ∷ []; outbox = s.outbox ++ record { to = g; note = Open (key s.number Word) n } ∷ [] })) → IfGives Passes (refs.address_plain (names script v) h y (Away g n object) s)
   unfolding refs.address_plain draw draws ◌>>=◌ ◌>>◌ and_then send_out give
   split f block = by_same (g == h) (ne_eqb g h f)
     where
-      by_draw : (o : Option ℕ) → Block (and_then (draws ((names script v).word (length s.drawn)) o s) (λ i. send_out g (Open i n) >> give (AGift g i)))
-      by_draw (Some i) = tt
-      by_draw None = block ((names script v).word (length s.drawn))
+      by_draw : (o : Option ℕ) → drawn_at zero Word s.drawn ≡ o → Block (and_then (draws Word o s) (λ i. send_out g (Open i n) >> give (AGift g i)))
+      by_draw (Some i) e = tt
+      by_draw None e = block e
 
       by_same : (b : Bool) → b ≡ false → Block ((if b then give (Plain y) else (draw (names script v) >>= (λ i. send_out g (Open i n) >> give (AGift g i)))) s)
       by_same true e = absurd (subst IsFalse (sym e) tt)
-      by_same false e = by_draw (drawn_at zero ((names script v).word (length s.drawn)) s.drawn)
+      by_same false e = by_draw (drawn_at zero Word s.drawn) refl
 
 pub passed_gift_is_behind : PassedGiftIsBehind
 passed_gift_is_behind = λ script honest w v h g y n m object bs s sh sg l mine receivers theirs far third other at number new_there host new_here shut link ready before.
-    let block = λ (word : ℕ). passed script honest w v h g word n m bs s sh sg l mine receivers theirs far third other at number new_there host new_here shut link ready before in
-    split script honest w v h g y n m object bs s (λ e. other (sym e)) block
+    split script honest w v h g y n m object bs s (λ e. other (sym e))
+    (λ fresh. passed script honest w v h g ((names script v).word (length s.drawn)) n m bs s sh sg l mine receivers theirs far third other at number fresh new_there host new_here shut link ready before)

@@ -1,9 +1,9 @@
 -- A vat that is ready stays so, and the ways only grow, as a name comes to be known and as a gift is let go.
-use Rattle.std.proofs.Common.{arith, ◌≡◌, ℕ, suc, ◌≤◌, Bool, true, false, List, [], ◌∷◌, ◌++◌, Option, Some, None, length, refl, sym, ap, subst, ◌∙◌, ◌⊎◌, inl, inr}
+use Rattle.std.proofs.Common.{arith, ◌≡◌, ℕ, zero, suc, ◌≤◌, Bool, true, false, List, [], ◌∷◌, ◌++◌, Option, Some, None, length, refl, sym, ap, subst, ◌∙◌, ◌⊎◌, inl, inr}
 use Rattle.std.proofs.lemmas.Bool.{ne_eqb}
 use Rattle.std.specs.Prelude.{◌==◌, ◌&&◌}
-use Rattle.def_machine.specs.Values.{Value, Null, Flag, Number, Letter, Text, Prim, Broken, Items, Ref, Name, Root, Object, Promise, Answer, Gift, Sent, Naming, host_of, naming, same_name, same_reference}
-use Rattle.def_machine.specs.State.{Known, Open, Vat, begun}
+use Rattle.def_machine.specs.Values.{Value, Null, Flag, Number, Letter, Text, Prim, Broken, Items, Ref, Name, Root, Object, Promise, Answer, Gift, Sent, Naming, host_of, naming, same_name, same_reference, key}
+use Rattle.def_machine.specs.State.{Known, Open, Vat, begun, drawn_at}
 use Rattle.def_machine.specs.Refs as refs
 use Rattle.def_run.specs.World.{Script, Link, World, names}
 use Rattle.def_run.specs.World as world
@@ -14,10 +14,10 @@ use Rattle.law_order.specs.Worlds.{IsWaiting, IsFixed, IsObject, FollowsEnd, Ref
 use Rattle.law_order.proofs.Sends.{none_some, some_same, push_last}
 use Rattle.law_order.proofs.Pushing.{all_same}
 use Rattle.law_order.proofs.Adding.{refers_same}
-use Rattle.law_order.proofs.Coming.{length_more, old_entry, new_entry, waits_here, followed, comes_same, coming_grows}
+use Rattle.law_order.proofs.Coming.{old_entry, new_entry, waits_here, followed, comes_same, coming_grows}
 use Rattle.law_order.proofs.Amid.{leads_same, same_between}
-use Rattle.law_order.specs.Steps.{DrawsBelow, Ready, Grown, StaysReady}
-use Rattle.law_order.proofs.Below.{more_draws, with_below}
+use Rattle.law_order.specs.Steps.{AllDrawn, Ready, Grown, StaysReady}
+use Rattle.law_order.proofs.Below.{more_draws, in_more, key_in_last, key_is_new, with_drawn, links_lack}
 use Rattle.law_order.proofs.Opens.{opening_grows}
 use Rattle.law_order.proofs.Adds.{grown_adds, stays_adds, adds_nothing, alike_same}
 
@@ -181,7 +181,7 @@ module _ (script : Script) (honest : ℕ → Bool) (w : World) (v : ℕ) (s : Va
 pub lone_messaged : (script : Script) (honest : ℕ → Bool) (w : World) (v : ℕ) (s : Vat Name) → StaysReady script honest w v s (record s { messages = suc s.messages; mails = s.mails ++ Sent (record { sender = v; number = s.messages }) ∷ [] })
 lone_messaged script honest w v s =
     let t : Vat Name = record s { messages = suc s.messages; mails = s.mails ++ Sent (record { sender = v; number = s.messages }) ∷ [] } in
-    stays_adds script honest w v s t (adds_nothing (names script v) s t refl refl refl refl refl refl) (omega arith) (omega arith) (omega arith)
+    stays_adds script honest w v s t (adds_nothing (names script v) s t refl refl refl refl refl refl) (omega arith) (omega arith) refl
 
 -- a promise
 module _ (script : Script) (honest : ℕ → Bool) (w : World) (v : ℕ) (s : Vat Name) where
@@ -221,18 +221,22 @@ module _ (script : Script) (honest : ℕ → Bool) (w : World) (v : ℕ) (s : Va
   promised r = subst (λ q. Ready script honest w v (Promised q) × Grown script honest w v s (Promised q)) (sym r.number) (promised_here r)
 
 -- a gift is let go
-module _ (script : Script) (honest : ℕ → Bool) (w : World) (v h word : ℕ) (n : Name) (s : Vat Name) where
+module _ (script : Script) (honest : ℕ → Bool) (w : World) (v h word : ℕ) (n : Name) (s : Vat Name) (fresh : drawn_at zero word s.drawn ≡ None) where
+  -- the key of the gift
+  abbrev D : ℕ
+  D = key s.number word
+
   abbrev Opened : Vat Name
-  Opened = record s { drawn = s.drawn ++ word ∷ []; outbox = s.outbox ++ record { to = h; note = Open (length s.drawn) n } ∷ [] }
+  Opened = record s { drawn = s.drawn ++ word ∷ []; outbox = s.outbox ++ record { to = h; note = Open D n } ∷ [] }
 
   abbrev Before : List Link
   Before = world.push_all v s.outbox w.links
 
   abbrev After : List Link
-  After = world.with_link (world.pushed (Open (length s.drawn) n)) v h Before
+  After = world.with_link (world.pushed (Open D n)) v h Before
 
   after_is : world.push_all v Opened.outbox w.links ≡ After
-  after_is = push_last v s.outbox (record { to = h; note = Open (length s.drawn) n }) w.links
+  after_is = push_last v s.outbox (record { to = h; note = Open D n }) w.links
 
   there : RefersAlike (names script v) s Opened
   there = alike_same (names script v) s Opened refl refl refl refl
@@ -244,7 +248,7 @@ module _ (script : Script) (honest : ℕ → Bool) (w : World) (v h word : ℕ) 
   opened_ready r = record {
     number = r.number;
     ends = record { objects = r.ends.objects; fixed = r.ends.fixed };
-    draws = subst (λ ls. DrawsBelow (length Opened.drawn) ls) (sym after_is) (subst (λ d. DrawsBelow d After) (sym (length_more s.drawn word)) (with_below (suc (length s.drawn)) (Open (length s.drawn) n) v h Before (omega arith) (more_draws (length s.drawn) (suc (length s.drawn)) Before (omega arith) r.draws)));
+    draws = subst (λ ls. AllDrawn Opened.drawn ls) (sym after_is) (with_drawn Opened.drawn (Open D n) v h Before (key_in_last s.number word s.drawn) (more_draws s.drawn Opened.drawn Before (in_more word s.drawn) r.draws));
     answers = r.answers;
     promises = r.promises;
   }
@@ -253,7 +257,7 @@ module _ (script : Script) (honest : ℕ → Bool) (w : World) (v h word : ℕ) 
   unfolding ways amid
   opened_grows r = subst (λ ls. Grows (ways_of script honest (world.put_at v s w.vats) Before) (ways_of script honest (world.put_at v Opened w.vats) ls)) (sym after_is)
       (grows_then (ways_of script honest (world.put_at v s w.vats) Before) (ways_of script honest (world.put_at v s w.vats) After) (ways_of script honest (world.put_at v Opened w.vats) After)
-      (opening_grows script honest (world.put_at v s w.vats) Before v h (length s.drawn) n r.draws)
+      (opening_grows script honest (world.put_at v s w.vats) Before v h D n (links_lack s.drawn D (key_is_new s.number word s.drawn fresh) Before r.draws))
       (grows_same (ways_of script honest (world.put_at v s w.vats) After) (ways_of script honest (world.put_at v Opened w.vats) After)
       (same_between script honest v s Opened w.vats After (refers_same script honest v s Opened there) (refers_same script honest v Opened s back) (λ i j. j) (λ i j. j))))
 

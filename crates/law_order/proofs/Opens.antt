@@ -11,11 +11,10 @@ use Rattle.law_order.specs.Ways.{Lane, Queue, Held, Way, Item, Place, Nowhere, F
 use Rattle.law_order.specs.Changes.{Grows}
 use Rattle.law_order.specs.Turns.{Within}
 use Rattle.law_order.specs.Places.{delivered, opens, shortens, opened_there, is_honest, gift_place, leads, unsettled, released, released_at, stands_at, over, onward_at, ways_of}
-use Rattle.law_order.specs.Steps.{DrawsBelow}
 use Rattle.law_order.proofs.Noted.{Spares, LinkGrows, AllGrow, LinkAlike, with_grows, link_alike, gift_more}
-use Rattle.law_order.proofs.Below.{nothing_said}
+use Rattle.law_order.proofs.Below.{LinksLack, nothing_said}
 
-module _ (script : Script) (honest : ℕ → Bool) (vs : List (Vat Name)) (ls : List Link) (v h d : ℕ) (n : Name) (new : DrawsBelow d ls) where
+module _ (script : Script) (honest : ℕ → Bool) (vs : List (Vat Name)) (ls : List Link) (v h d : ℕ) (n : Name) (new : LinksLack d ls) where
   abbrev Then : List Link
   Then = world.with_link (world.pushed (Open d n)) v h ls
 

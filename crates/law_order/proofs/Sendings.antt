@@ -33,7 +33,7 @@ module _ (script : Script) (honest : ℕ → Bool) (w : World) (v : ℕ) where
   adds s t g m p d = stays_adds script honest w v s t g
       (subst (λ n. s.messages ≤ n) (sym m) (less_self s.messages))
       (subst (λ n. s.promises ≤ n) (sym p) (less_self s.promises))
-      (subst (λ xs. length s.drawn ≤ length xs) (sym d) (less_self (length s.drawn)))
+      d
 
   quiet : (s t : Vat Name) → t.known ≡ s.known → t.number ≡ s.number → t.gifts ≡ s.gifts → t.noticed ≡ s.noticed → t.queue ≡ s.queue → t.outbox ≡ s.outbox → t.messages ≡ s.messages → t.promises ≡ s.promises → t.drawn ≡ s.drawn → R s t
   quiet s t a b c d e f m p q = adds s t (adds_nothing K s t a b c d e f) m p q
@@ -84,11 +84,11 @@ module _ (script : Script) (honest : ℕ → Bool) (w : World) (v : ℕ) where
   -- a draw, and the note that lets the gift go
   stays_gift : (h : ℕ) (n : Name) → Keeps {N = Name} {A = Passed Name} R (draw K >>= (λ i. send_out h (Open i n) >> give (AGift h i)))
   unfolding draw ◌>>=◌ ◌>>◌ and_then send_out give draws
-  stays_gift h n = record { after = λ s. go s (drawn_at zero (K.word (length s.drawn)) s.drawn) }
+  stays_gift h n = record { after = λ s. go s (drawn_at zero (K.word (length s.drawn)) s.drawn) refl }
     where
-      go : (s : Vat Name) (o : Option ℕ) → After {N = Name} {A = Passed Name} R s (and_then (draws (K.word (length s.drawn)) o s) (λ i. send_out h (Open i n) >> give (AGift h i)))
-      go s (Some i) = stays_self script honest w v s
-      go s None = opened script honest w v h (K.word (length s.drawn)) n s
+      go : (s : Vat Name) (o : Option ℕ) → drawn_at zero (K.word (length s.drawn)) s.drawn ≡ o → After {N = Name} {A = Passed Name} R s (and_then (draws (K.word (length s.drawn)) o s) (λ i. send_out h (Open i n) >> give (AGift h i)))
+      go s (Some i) e = stays_self script honest w v s
+      go s None e = opened script honest w v h (K.word (length s.drawn)) n s e
 
   -- ---- passing
 

@@ -1,9 +1,10 @@
 -- Two runs, and which message is before which in them; and a history in which a message is taken too early.
 use Rattle.std.specs.Prelude.{◌≡◌, ℕ, pos, Bool, true, false, List, [], ◌∷◌, None, codes}
-use Rattle.def_machine.specs.Values.{Ref, Name, Root, Gift, Sent, same_name}
+use Rattle.def_machine.specs.Values.{Ref, Name, Root, Gift, Sent, same_name, key}
 use Rattle.def_machine.specs.Values as values
 use Rattle.def_machine.specs.State.{Message, Took}
 use Rattle.def_run.specs.World.{Turn, Carry, Script, Event, Here, World, Run, Goes, Stopped, then_goes, begins, open_from, steps_from, run}
+use Rattle.def_run.specs.Draws.{draw_word}
 use Rattle.def_kernel.specs.declared.node.Literal.TheVariants as literal
 use Rattle.def_kernel.specs.declared.node.Node.{Node}
 use Rattle.def_kernel.specs.declared.node.Node.TheVariants.{Lit, Noun, Def, Call, Sequence, Object, Method, Final, ListPattern}
@@ -173,9 +174,9 @@ world_of (Stopped c k w) = w
 unfoldable pub waiting_world : World
 waiting_world = world_of (then_goes (open_from passed_script 0 passed_script.vats (begins passed_script)) (λ w. steps_from passed_script (Carry 0 1 ∷ Turn 1 ∷ Carry 1 2 ∷ Carry 1 2 ∷ []) 1 w))
 
--- what a passed to b: the gift of the first draw, at c
+-- what a passed to b: the gift under the first word, at c
 unfoldable pub passed_name : Name
-passed_name = Gift 2 0
+passed_name = Gift 2 (key 0 (draw_word passed_script.key 0))
 
 unfoldable pub waiting_ways : Ways
 waiting_ways = ways passed_script (λ v. true) waiting_world

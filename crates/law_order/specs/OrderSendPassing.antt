@@ -1,5 +1,5 @@
 -- What is ahead of a reference is ahead of its passing.
-use Rattle.std.specs.Prelude.{◌≡◌, ℕ, Bool, true, false, List, Some, None, length, slice_get, ◌⊎◌}
+use Rattle.std.specs.Prelude.{◌≡◌, ℕ, Bool, true, false, List, Some, None, slice_get, ◌⊎◌}
 use Rattle.def_machine.specs.Values.{Value, Ref, Name, Gift, host_of}
 use Rattle.def_machine.specs.State.{Known, Vat}
 use Rattle.def_machine.specs.Refs.{Away, entry_of, address_plain}
@@ -8,7 +8,7 @@ use Rattle.law_order.specs.Ways.{Way, Item, Nowhere, End, Mid, Ways, Ahead}
 use Rattle.law_order.specs.Turns.{Within}
 use Rattle.law_order.specs.Places.{opened_there, leads, ways}
 use Rattle.law_order.specs.Worlds.{IfGives, IsWaiting, IsObject}
-use Rattle.law_order.specs.Steps.{WaysAmid, Ready}
+use Rattle.law_order.specs.Steps.{WaysAmid, Ready, next_key}
 
 -- A name that a note brings on a link, behind the messages b, is at the place Mid of that link, b and the name.
 
@@ -33,13 +33,13 @@ IsOpenAt script h v s n = (entry_of (names script h) s.known n ≡ None) ⊎ ((I
 abbrev pub OpenNamesLeadHome : Type 0
 OpenNamesLeadHome = (script : Script) (honest : ℕ → Bool) (w : World) (v h : ℕ) (s : Vat Name) (n : Name) → slice_get w.vats h ≡ Some s → s.number ≡ h → (h ≡ v → ⊥) → host_of n ≡ v → IsOpenAt script h v s n → LeadsHome script honest w h v n
 
--- Where a name of vat g passes from v to h, as a gift of the next draw: what is ahead of all that v would send to g on it is ahead of the passing, wherever that stands on the link. The note that lets the gift go stands behind it.
+-- Where a name of vat g passes from v to h, as a gift under the next word: what is ahead of all that v would send to g on it is ahead of the passing, wherever that stands on the link. The note that lets the gift go stands behind it.
 -- The three vats are others and honest, the link from v to g is there, cut or not, and neither h nor g knows that gift.
 abbrev pub PassedGiftIsBehind : Type 0
 PassedGiftIsBehind = (script : Script) (honest : ℕ → Bool) (w : World) (v h g : ℕ) (y : Value Name) (n m : Name) (object : Bool) (bs : List Item) (s sh sg : Vat Name) (l : Link)
     → honest v ≡ true → honest h ≡ true → honest g ≡ true → (v ≡ h → ⊥) → (v ≡ g → ⊥) → (h ≡ g → ⊥)
-    → slice_get w.vats h ≡ Some sh → sh.number ≡ h → entry_of (names script h) sh.known (Gift g (length s.drawn)) ≡ None
-    → slice_get w.vats g ≡ Some sg → entry_of (names script g) sg.known (Gift g (length s.drawn)) ≡ None → opened_there (Gift g (length s.drawn)) sg.gifts ≡ false
+    → slice_get w.vats h ≡ Some sh → sh.number ≡ h → entry_of (names script h) sh.known (Gift g (next_key script v s)) ≡ None
+    → slice_get w.vats g ≡ Some sg → entry_of (names script g) sg.known (Gift g (next_key script v s)) ≡ None → opened_there (Gift g (next_key script v s)) sg.gifts ≡ false
     → link_at v g (push_all v s.outbox w.links) ≡ Some l
     → Ready script honest w v s → Ahead (WaysAmid script honest w v s) m (End (Way v g) n)
-    → IfGives (λ t. Ahead (WaysAmid script honest w v t) m (Mid (Way v h) bs (Gift g (length s.drawn)))) (address_plain (names script v) h y (Away g n object) s)
+    → IfGives (λ t. Ahead (WaysAmid script honest w v t) m (Mid (Way v h) bs (Gift g (next_key script v s)))) (address_plain (names script v) h y (Away g n object) s)

@@ -34,7 +34,7 @@ delivered (n ∷ ns) = delivered ns
 
 -- ---- gifts under way
 
--- the draw of a gift that a note lets go at vat h, where it goes to h itself
+-- the key of a gift that a note lets go at vat h, where it goes to h itself
 unfoldable pub opens : ℕ → Note Name → Bool
 opens i (Open j n) = j == i
 opens i _ = false

@@ -1,7 +1,7 @@
 -- What a turn does to the order of messages: sends, passings and new names make the ways grow; settlings stand out.
 use Rattle.std.specs.Prelude.{◌≡◌, ℕ, suc, ◌≤◌, Bool, true, List, [], ◌∷◌, Some, None, length, slice_get, ◌⊎◌}
-use Rattle.def_machine.specs.Values.{Words, Value, Null, Flag, Number, Letter, Text, Prim, Broken, Items, Ref, Name, Promise, Answer, Sent}
-use Rattle.def_machine.specs.State.{Binding, Message, Note, Deliver, Open, Ask, SettledTo, Elsewhere, Shorten, Vat}
+use Rattle.def_machine.specs.Values.{Words, Value, Null, Flag, Number, Letter, Text, Prim, Broken, Items, Ref, Name, Promise, Answer, Sent, key, word_of}
+use Rattle.def_machine.specs.State.{Binding, Message, Note, Deliver, Open, Ask, SettledTo, Elsewhere, Shorten, Vat, is_in}
 use Rattle.def_machine.specs.Refs.{Away, Gone, entry_of, follow, place, pass, deliver, settle, resolve, send, send_only, react}
 use Rattle.def_machine.specs.Eval.{opening, taking}
 use Rattle.law_machine.specs.Steps.{After}
@@ -15,22 +15,26 @@ use Rattle.law_order.specs.Worlds.{IfGives, IsObject, IsKnown, FollowsEnd}
 
 -- ---- draws
 
--- it lets no gift go of that draw or a later one
-abbrev pub DrawBelow : ℕ → Note Name → Type 0
-DrawBelow d (Deliver m n verb ys) = Unit {0}
-DrawBelow d (Open i n) = suc i ≤ d
-DrawBelow d (Ask p i n) = Unit {0}
-DrawBelow d (SettledTo n y) = Unit {0}
-DrawBelow d (Elsewhere n c) = Unit {0}
-DrawBelow d (Shorten n c i) = suc i ≤ d
+-- where it lets a gift go, the gift's word is among those
+abbrev pub LetsDrawn : List ℕ → Note Name → Type 0
+LetsDrawn ds (Deliver m n verb ys) = Unit {0}
+LetsDrawn ds (Open i n) = is_in (word_of i) ds ≡ true
+LetsDrawn ds (Ask p i n) = Unit {0}
+LetsDrawn ds (SettledTo n y) = Unit {0}
+LetsDrawn ds (Elsewhere n c) = Unit {0}
+LetsDrawn ds (Shorten n c i) = is_in (word_of i) ds ≡ true
 
-abbrev pub NotesBelow : ℕ → List (Note Name) → Type 0
-NotesBelow d [] = Unit {0}
-NotesBelow d (n ∷ ns) = DrawBelow d n × NotesBelow d ns
+abbrev pub NotesDrawn : List ℕ → List (Note Name) → Type 0
+NotesDrawn ds [] = Unit {0}
+NotesDrawn ds (n ∷ ns) = LetsDrawn ds n × NotesDrawn ds ns
 
-abbrev pub DrawsBelow : ℕ → List Link → Type 0
-DrawsBelow d [] = Unit {0}
-DrawsBelow d (l ∷ ls) = NotesBelow d l.notes × NotesBelow d l.log × DrawsBelow d ls
+abbrev pub AllDrawn : List ℕ → List Link → Type 0
+AllDrawn ds [] = Unit {0}
+AllDrawn ds (l ∷ ls) = NotesDrawn ds l.notes × NotesDrawn ds l.log × AllDrawn ds ls
+
+-- the key of a vat's gift under the next word
+abbrev pub next_key : Script → ℕ → Vat Name → ℕ
+next_key script v s = key s.number ((names script v).word (length s.drawn))
 
 -- ---- a vat in the middle of a step
 
@@ -43,11 +47,11 @@ module _ (script : Script) (honest : ℕ → Bool) (w : World) (v : ℕ) where
   abbrev pub LeadsAmid : Vat Name → ℕ → Value Name → lanes.Place
   LeadsAmid s u x = leads script honest (amid v s w).vats (amid v s w).links u x
 
-  -- The vat has its own number, what it knows is followed to an end, and what it will make is new: draws, the answers of its messages and its promises.
+  -- The vat has its own number, what it knows is followed to an end, and what it will make is new: words, the answers of its messages and its promises.
   pub record Ready (s : Vat Name) : Type 0 where
     pub number : s.number ≡ v
     pub ends : FollowsEnd (names script v) s
-    pub draws : DrawsBelow (length s.drawn) (push_all v s.outbox w.links)
+    pub draws : AllDrawn s.drawn (push_all v s.outbox w.links)
     pub answers : (h i : ℕ) → s.messages ≤ i → entry_of (names script v) s.known (Answer h (record { sender = v; number = i })) ≡ None
     pub promises : (i : ℕ) → s.promises ≤ i → entry_of (names script v) s.known (Promise v i) ≡ None
 

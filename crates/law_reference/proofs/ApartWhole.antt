@@ -75,7 +75,7 @@ module _ (h i : ℕ) where
   note_one (Shorten n c j) p = absurd p
 
   -- it is not of the receiver
-  module _ (P : ℕ → ℕ) (d from to : ℕ) where
+  module _ (P : ℕ → ℕ) (d : List ℕ) (from to : ℕ) where
     mutual
       passed_far : (y : Passed Name) → IsPassed X y → PassesFrom P d from to y → h ≡ to → ⊥
       passed_far (Plain y) p f = absurd p
@@ -148,11 +148,11 @@ no_more e = cc
 -- ---- the first note of a link
 
 module _ (script : Script) (w : World) (past : Past script w) (holds : Holds w) (sure : NoticedCut w) (hidden : HiddenIn w) (from to : ℕ) (l : Link) (n : Note Name) (ns : List (Note Name)) (s : Vat Name) (at : link_at from to w.links ≡ Some l) (notes : l.notes ≡ n ∷ ns) (there : slice_get w.vats to ≡ Some s) where
-  provides : Provides past.2.0 (length w.drawn) from to n
-  provides = let fits = past.2 in let o = fits.1 in head (found_tells fits.0 (length w.drawn) from to l w.links o.links at)
+  provides : Provides past.2.0 w.drawn from to n
+  provides = let fits = past.2 in let o = fits.1 in head (found_tells fits.0 w.drawn from to l w.links o.links at)
     where
-      head : Each (Provides past.2.0 (length w.drawn) from to) l.notes → Provides past.2.0 (length w.drawn) from to n
-      head k = let one : Each (Provides past.2.0 (length w.drawn) from to) (n ∷ ns) = rw notes at k in one.0
+      head : Each (Provides past.2.0 w.drawn from to) l.notes → Provides past.2.0 w.drawn from to n
+      head k = let one : Each (Provides past.2.0 w.drawn from to) (n ∷ ns) = rw notes at k in one.0
 
   of_links : (P : Bit Name → Type 0) → AllOf (λ (k : Link). AllOf (NoteOk P) k.notes) w.links → NoteOk P n
   of_links P h = found (link_at from to w.links) at (link_holds (NoteOk P) from to w.links h)
@@ -187,7 +187,7 @@ module _ (script : Script) (w : World) (past : Past script w) (holds : Holds w) 
 
   pub apart : GiftsApart to n s
   apart = record {
-    unknown = λ h i p a. note_far h i past.2.0 (length w.drawn) from to n p provides (host_alone w hidden h i to s (under_way h i p) there a);
+    unknown = λ h i p a. note_far h i past.2.0 w.drawn from to n p provides (host_alone w hidden h i to s (under_way h i p) there a);
     unnamed = λ h i p e. note_named (Gift h i) (Spares i) n e (of_links (Spares i) (hidden i (under_way h i p)).1) refl;
     entered = λ i a. holds.0 to i s there a;
     behind = λ i e. named_stands i e;

@@ -1,5 +1,5 @@
 -- What laws of runs say of a world that a run has reached, as far as lists ask for it; and that what is asked of a note that arrives follows.
-use Rattle.std.proofs.Common.{◌≡◌, ℕ, zero, ◌<◌, Bool, true, false, List, [], ◌∷◌, Option, Some, None, refl, sym, ap, subst, ◌∙◌, ◌⊎◌, inl, inr, length, arith}
+use Rattle.std.proofs.Common.{◌≡◌, ℕ, zero, Bool, true, false, List, [], ◌∷◌, Option, Some, None, refl, sym, ap, subst, ◌∙◌, ◌⊎◌, inl, inr}
 use Rattle.std.specs.Prelude.{slice_get}
 use Rattle.def_machine.specs.Values.{Value, Items, Ref, Name, Root, Object, Promise, Answer, Gift, Sent, host_of}
 use Rattle.def_machine.specs.State.{Settled, Known, Passed, Plain, AGift, Many, Note, Deliver, Open, Ask, SettledTo, Elsewhere, Shorten, Vat, is_in}
@@ -7,7 +7,7 @@ use Rattle.def_machine.specs.Refs.{entry_of, standing_of, standing_in, host_at, 
 use Rattle.law_machine.specs.Breaks.{still_waits}
 use Rattle.def_run.specs.World as world
 use Rattle.def_run.specs.World.{Link, World, read_note, names_of, readied}
-use Rattle.law_name.specs.Names.{AllOf, IsAmong, Everywhere, NoteOk, KnownOk, IsMade, IsHad, IsKnownIn, WasMade, names_in}
+use Rattle.law_name.specs.Names.{AllOf, IsAmong, WasDrawn, Everywhere, NoteOk, KnownOk, IsMade, IsHad, IsKnownIn, WasMade, names_in}
 use Rattle.law_fate.specs.Lasting.{Each, NoteWell}
 use Rattle.law_reference.specs.Notes.{IsBetween, LinkFits, NoteSpared}
 use Rattle.law_reference.specs.Rest.{HostsRest}
@@ -32,10 +32,10 @@ nothing_in h = refl
 module _ (word : ℕ → ℕ) where
   -- in a world after any entries
   pub record Around (w : World) : Type 0 where
-    pub made : (v : ℕ) (s : Vat Name) → slice_get w.vats v ≡ Some s → Everywhere (IsMade w.vats (length w.drawn)) s
+    pub made : (v : ℕ) (s : Vat Name) → slice_get w.vats v ≡ Some s → Everywhere (IsMade w.vats w.drawn) s
     pub had : (v : ℕ) (s : Vat Name) → slice_get w.vats v ≡ Some s → Everywhere (IsHad (names_in s.known) s.mails) s
-    pub next : (v : ℕ) (s : Vat Name) → slice_get w.vats v ≡ Some s → (h : ℕ) → IsAmong (Gift h (length w.drawn)) (names_in s.known) → ⊥
-    pub notes : AllOf (λ (l : Link). AllOf (NoteOk (IsMade w.vats (length w.drawn))) l.notes) w.links
+    pub next : (v : ℕ) (s : Vat Name) → slice_get w.vats v ≡ Some s → (h i : ℕ) → (WasDrawn w.drawn i → ⊥) → IsAmong (Gift h i) (names_in s.known) → ⊥
+    pub notes : AllOf (λ (l : Link). AllOf (NoteOk (IsMade w.vats w.drawn)) l.notes) w.links
     pub ends : AllOf LinkFits w.links
     pub well : AllOf (λ (l : Link). Each NoteWell l.notes) w.links
     pub rests : (v : ℕ) (s : Vat Name) → slice_get w.vats v ≡ Some s → HostsRest (K word v) s
@@ -50,7 +50,7 @@ module _ (word : ℕ → ℕ) where
   pub waits_spared : (w : World) → Around w → (v : ℕ) (s : Vat Name) → slice_get w.vats v ≡ Some s → WaitsSpared (K word v) v s.known s.noticed
   waits_spared w a v s e = found_rests v s (a.rests v s e)
 
-  -- ---- the next draw
+  -- ---- words that were not drawn
 
   among_all : (P : Name → Type 0) (xs : List Name) (x : Name) → AllOf P xs → IsAmong x xs → P x
   among_all P [] x h a = absurd a
@@ -64,9 +64,9 @@ module _ (word : ℕ → ℕ) where
   pub next_new : (w : World) → Around w → (v : ℕ) (s : Vat Name) → slice_get w.vats v ≡ Some s → NextIsNew (K word v) (readied w s)
   unfolding readied
   next_new w a v s e = (
-    λ h. unknown word v s.known (Gift h (length w.drawn)) (a.next v s e h),
-    λ p. gift_unknown w.vats (length w.drawn) p s.gifts (a.made v s e).gifts,
-    λ h p k f i. a.next v s e h (waits_known v s (a.had v s e) h (length w.drawn) p k f i),
+    λ h i new. unknown word v s.known (Gift h i) (a.next v s e h i new),
+    λ p i new. gift_unknown w.vats w.drawn p i s.gifts new (a.made v s e).gifts,
+    λ h i new p k f j. a.next v s e h i new (waits_known v s (a.had v s e) h i p k f j),
   )
 
   settled_head : (o : Option (Known Name)) (y : Value Name) → standing_in o ≡ Settled y → (k : Known Name) × (o ≡ Some k)
@@ -79,13 +79,13 @@ module _ (word : ℕ → ℕ) where
   unfolding standing_of
   settled_known v s n y e = let k = settled_head (entry_of (K word v) s.known n) y e in found_among word v s.known n k.0 k.1
 
-  module _ (D E : ℕ → Type 0) (w : World) (a : Around w) (back : (i : ℕ) → E i → D i ⊎ (i ≡ length w.drawn)) where
+  module _ (D E : ℕ → Type 0) (w : World) (a : Around w) (back : (i : ℕ) → E i → D i ⊎ (WasDrawn w.drawn i → ⊥)) where
     back_or : (v : ℕ) (s : Vat Name) → slice_get w.vats v ≡ Some s → (n : Name) → IsAmong n (names_in s.known) → IsView E n → IsView D n
     back_or v s e (Gift h i) known view = pick (back i view)
       where
-        pick : D i ⊎ (i ≡ length w.drawn) → D i
+        pick : D i ⊎ (WasDrawn w.drawn i → ⊥) → D i
         pick (inl d) = d
-        pick (inr j) = absurd (a.next v s e h (subst (λ d. IsAmong (Gift h d) (names_in s.known)) j known))
+        pick (inr new) = absurd (a.next v s e h i new known)
     back_or v s e (Root u) known view = absurd view
     back_or v s e (Object u i) known view = absurd view
     back_or v s e (Promise u i) known view = absurd view
@@ -100,22 +100,19 @@ module _ (word : ℕ → ℕ) where
     waiting_known v s e (Answer u m) p k f i view = absurd view
     waiting_known v s e (Sent m) p k f i view = absurd view
 
-    -- no name that waits, and none that settled, is a view under the new draw
+    -- no name that waits, and none that settled, is a view under a new word
     pub waits_back : (v : ℕ) (s : Vat Name) → slice_get w.vats v ≡ Some s → (n p : Name) (k : Known Name) → entry_of (K word v) s.known p ≡ Some k → IsAmong n k.waiting → IsView E n → IsView D n
     waits_back v s e n p k f i view = back_or v s e n (waiting_known v s e n p k f i view) view
 
     pub settled_back : (v : ℕ) (s : Vat Name) → slice_get w.vats v ≡ Some s → (n : Name) (y : Value Name) → standing_of (K word v) s.known n ≡ Settled y → IsView E n → IsView D n
     settled_back v s e n y f view = back_or v s e n (settled_known v s n y f) view
 
-    draw_back : (i : ℕ) → i < length w.drawn → D i ⊎ (i ≡ length w.drawn) → D i
+    draw_back : (i : ℕ) → WasDrawn w.drawn i → D i ⊎ (WasDrawn w.drawn i → ⊥) → D i
     draw_back i l (inl d) = d
-    draw_back i l (inr j) = absurd (none l)
-      where
-        none : i < length w.drawn → ⊥
-        none m = omega arith
+    draw_back i l (inr new) = absurd (new l)
 
     -- nor is any under way opened under it
-    pub open_back : (n : Note Name) → NoteOk (IsMade w.vats (length w.drawn)) n → OpenBack word D E n
+    pub open_back : (n : Note Name) → NoteOk (IsMade w.vats w.drawn) n → OpenBack word D E n
     open_back (Open i n) h = λ e. draw_back i h.0 (back i e)
     open_back (Deliver m n verb ys) h = tt
     open_back (Ask p i n) h = tt
@@ -166,27 +163,24 @@ module _ (word : ℕ → ℕ) where
     many_apart n (Plain y) e h m = absurd m
     many_apart n (AGift g i) e h m = absurd m
 
-    gift_apart : (n : Name) → WasMade w.vats (length w.drawn) n → (g : ℕ) → n ≡ Gift g (length w.drawn) → ⊥
-    gift_apart n h g e = less (subst (λ x. WasMade w.vats (length w.drawn) x) e h)
-      where
-        less : length w.drawn < length w.drawn → ⊥
-        less m = omega arith
+    gift_apart : (n : Name) → WasMade w.vats w.drawn n → (g i : ℕ) → (WasDrawn w.drawn i → ⊥) → n ≡ Gift g i → ⊥
+    gift_apart n h g i new e = new (subst (λ x. WasMade w.vats w.drawn x) e h)
 
-    told_apart : (n : Name) → WasMade w.vats (length w.drawn) n → (g : ℕ) → told_name (world.read_name ks n) ≡ Gift g (length w.drawn) → ⊥
-    told_apart n h g e = gift_apart n h g (sym (told_is ks n) ∙ e)
+    told_apart : (n : Name) → WasMade w.vats w.drawn n → (g i : ℕ) → (WasDrawn w.drawn i → ⊥) → told_name (world.read_name ks n) ≡ Gift g i → ⊥
+    told_apart n h g i new e = gift_apart n h g i new (sym (told_is ks n) ∙ e)
 
-    pub behind : (n : Note Name) → NoteOk (IsMade w.vats (length w.drawn)) n → Fits n → NoteWell n → NoteSpared s n → True n → (heed : Bool) × Behind heed n
+    pub behind : (n : Note Name) → NoteOk (IsMade w.vats w.drawn) n → Fits n → NoteWell n → NoteSpared s n → True n → (heed : Bool) × Behind heed n
     unfolding read_note readied
-    behind (Deliver d x verb ys) ok fits well spared told = (false, (tt, (told_mail ks w.vats (length w.drawn) d.message ok.0, told_well [] (world.read_all ys ks).known w.vats (length w.drawn) x ok.1 (λ i. nothing_in (host_of x)), plain_passeds w.vats (length w.drawn) ys ks ok.2)))
-    behind (Open i x) ok fits well spared told = (true, (refl, (told_well s.noticed ks w.vats (length w.drawn) x ok.1 (λ e. spared), subst (λ m. IsObjectName m ⊎ (D i → ⊥)) (sym (told_is ks x)) told.2)))
+    behind (Deliver d x verb ys) ok fits well spared told = (false, (tt, (told_mail ks w.vats w.drawn d.message ok.0, told_well [] (world.read_all ys ks).known w.vats w.drawn x ok.1 (λ i. nothing_in (host_of x)), plain_passeds w.vats w.drawn ys ks ok.2)))
+    behind (Open i x) ok fits well spared told = (true, (refl, (told_well s.noticed ks w.vats w.drawn x ok.1 (λ e. spared), subst (λ m. IsObjectName m ⊎ (D i → ⊥)) (sym (told_is ks x)) told.2)))
     behind (Ask p i x) ok fits well spared told = (false, (tt, tt))
     behind (SettledTo x y) ok fits well spared told = (
       true,
       (
         refl,
         (
-          told_well s.noticed ks w.vats (length w.drawn) x ok.0 (λ e. spared.0),
-          spared_passed w.vats (length w.drawn) s y (world.known_after ks x) ok.1 spared.1,
+          told_well s.noticed ks w.vats w.drawn x ok.0 (λ e. spared.0),
+          spared_passed w.vats w.drawn s y (world.known_after ks x) ok.1 spared.1,
           settles_well (world.known_after ks x) y well,
           if_many ((Seen word w.vats to (told_name (world.read_name ks x)) → ⊥) × (IsView D (told_name (world.read_name ks x)) → ⊥)) (world.known_after ks x) y (many_apart x y fits told),
         ),
@@ -197,7 +191,7 @@ module _ (word : ℕ → ℕ) where
       (
         tt,
         (
-          told_well [] ks w.vats (length w.drawn) x ok.0 (λ i. nothing_in (host_of x)),
+          told_well [] ks w.vats w.drawn x ok.0 (λ i. nothing_in (host_of x)),
           (λ e. apart (sym fits ∙ ap host_of (sym (told_is ks x)) ∙ e)),
           subst (λ m. Seen word w.vats to m) (sym (told_is ks x)) (told_seen x fits told.0 told.1 told.2.0 told.2.1),
           next_new w a to s there,
@@ -205,4 +199,4 @@ module _ (word : ℕ → ℕ) where
         ),
       ),
     )
-    behind (Shorten x c i) ok fits well spared told = (false, (tt, told_well [] ks w.vats (length w.drawn) x ok.0 (λ e. nothing_in (host_of x))))
+    behind (Shorten x c i) ok fits well spared told = (false, (tt, told_well [] ks w.vats w.drawn x ok.0 (λ e. nothing_in (host_of x))))

@@ -1,13 +1,14 @@
 -- What arrives makes known what the note brings, and a notice makes nothing known that was not claimed.
-use Rattle.std.proofs.Common.{if◌then◌else◌, ◌≡◌, ℕ, ◌+◌, ◌≤◌, Bool, true, false, List, [], ◌∷◌, ◌++◌, Option, Some, None, refl, ◌∙◌, arith, length, if◌then◌else◌, ◌==◌}
+use Rattle.std.proofs.Common.{if◌then◌else◌, ◌≡◌, ℕ, zero, ◌+◌, ◌≤◌, Bool, true, false, List, [], ◌∷◌, ◌++◌, Option, Some, None, refl, ◌∙◌, arith, length, if◌then◌else◌, ◌==◌}
 use Rattle.std.proofs.lemmas.Bool.{eqb-true}
-use Rattle.def_machine.specs.Values.{Words, Value, Null, Flag, Number, Letter, Text, Prim, Broken, Items, Ref, Name, Gift, Naming, IsAnswer, IsGift, IsLearnt, IsCarried, naming, name_of, mail_of, answer_of}
-use Rattle.def_machine.specs.State.{Standing, Unsettled, WaitsOn, Viewed, Settled, Known, Passed, Passeds, Plain, AGift, Many, NoMore, More, Note, Deliver, Open, Ask, SettledTo, Elsewhere, Shorten, GiftEntry, Vat, Act, ◌>>=◌, ◌>>◌, ToTell, and_then, mail, give, look, come, alter, begun, draw, draws, send_out, open_gift}
+use Rattle.def_machine.specs.Values.{Words, Value, Null, Flag, Number, Letter, Text, Prim, Broken, Items, Ref, Name, Gift, Naming, IsAnswer, IsGift, IsLearnt, IsCarried, naming, name_of, mail_of, answer_of, key, under}
+use Rattle.def_machine.specs.State.{Standing, Unsettled, WaitsOn, Viewed, Settled, Known, Passed, Passeds, Plain, AGift, Many, NoMore, More, Note, Deliver, Open, Ask, SettledTo, Elsewhere, Shorten, GiftEntry, Vat, Act, ◌>>=◌, ◌>>◌, ToTell, and_then, mail, give, look, come, alter, begun, draw, draws, drawn_at, send_out, open_gift}
 use Rattle.def_machine.specs.Refs.{Place, Away, settle, send_on, resolve}
 use Rattle.def_machine.specs.Arrive as arrive
 use Rattle.def_machine.specs.Arrive.{Incoming, Old, New, gift_at}
 use Rattle.law_machine.specs.Steps.{After}
 use Rattle.law_machine.proofs.Keeps.{Keeps}
+use Rattle.law_machine.proofs.KeyLaws.{word_under_key}
 use Rattle.law_fate.proofs.Spares.{keeps_give, keeps_look}
 use Rattle.law_reference.specs.Knowing.{one, onward, Knowing, new_name, new_in_value, new_in, new_in_all, new_answer, new_gift_here, brings}
 use Rattle.law_reference.proofs.Costs.{spared, none, free, after_here, after_more, after_pays, after_trans, bind_after, costs_more, costs_bind, bind_free, free_bind, free_then, then_free, free_gift, free_open, free_out, free_to_tell, free_mail, costs_come, draw_owes, known_after}
@@ -135,14 +136,14 @@ module _ (v : ℕ) (x : Name) (word : ℕ → ℕ) where
   viewing : (u h c i : ℕ) (n : Name) → u ≡ v → Keeps (Knowing v x (one (Gift c i) x)) (send_out h (Shorten n c i) >> (arrive.gift_there K u h c i >>= (λ g. arrive.see K n g)))
   viewing u h c i n e = free_then v x (one (Gift c i) x) (free_out v x h (Shorten n c i)) (bind_free v x (one (Gift c i) x) (costs_gift_there u h c i e) (λ g. free_see n g))
 
-  drawn_after : (u h c w : ℕ) (n : Name) (s : Vat Name) (o : Option ℕ) → u ≡ v → After (Knowing v x 0) s (and_then (draws w o s) (λ i. send_out h (Shorten n c i) >> (arrive.gift_there K u h c i >>= (λ g. arrive.see K n g))))
+  drawn_after : (u h c w : ℕ) (n : Name) (s : Vat Name) (o : Option ℕ) → drawn_at zero w s.drawn ≡ o → u ≡ v → After (Knowing v x 0) s (and_then (draws w o s) (λ i. send_out h (Shorten n c (under h i)) >> (arrive.gift_there K u h c (under h i) >>= (λ g. arrive.see K n g))))
   unfolding draws and_then
-  drawn_after u h c w n s (Some i) e = none v x s
-  drawn_after u h c w n s None e = after_pays v x (one (Gift c (length s.drawn)) x) s _ (draw_owes v x s w c) _ ((viewing u h c (length s.drawn) n e).after _)
+  drawn_after u h c w n s (Some i) new e = none v x s
+  drawn_after u h c w n s None new e = let k : ℕ = under h (key s.number w) in after_pays v x (one (Gift c k) x) s _ (draw_owes v x s w c k (word_under_key h s.number w) new) _ ((viewing u h c k n e).after _)
 
   free_view_there : (n : Name) (c : ℕ) → Keeps (Knowing v x 0) (arrive.view_there K n c)
   unfolding arrive.view_there ◌>>=◌ and_then look draw
-  free_view_there n c = record { after = λ s. after_here v x 0 s _ (λ e. drawn_after s.number _ c _ n s _ e) }
+  free_view_there n c = record { after = λ s. after_here v x 0 s _ (λ e. drawn_after s.number _ c _ n s _ refl e) }
 
   -- ---- arrival
 

@@ -1,22 +1,25 @@
--- What arrives puts gifts of new draws alone, each once, and tells of their provider: of a view the old host of the name, and else the vat itself.
-use Rattle.std.proofs.Common.{◌≡◌, ℕ, ◌≤◌, Bool, true, false, List, [], ◌∷◌, ◌++◌, Option, Some, None, refl, sym, arith, length, if◌then◌else◌, codes, ◌==◌, subst, ◌<◌, inl, inr}
-use Rattle.def_machine.specs.Values.{Words, Value, Null, Flag, Number, Letter, Text, Prim, Broken, Items, Ref, Name, Naming, IsGift, naming, name_of}
-use Rattle.def_machine.specs.State.{Standing, Unsettled, WaitsOn, Viewed, Settled, Known, Passed, Passeds, Plain, AGift, Many, NoMore, More, Delivery, Note, Deliver, Open, Ask, SettledTo, Elsewhere, Shorten, Put, GiftEntry, Vat, Gives, Act, ◌>>=◌, ◌>>◌, and_then, give, look, come, new_gift, alter, tell, draw, draws, send_out, is_in, begun}
+-- What arrives puts gifts under new words alone, each once, and tells of their provider: of a view the old host of the name, and else the vat itself.
+use Rattle.std.proofs.Common.{◌≡◌, ℕ, zero, Bool, true, false, List, [], ◌∷◌, ◌++◌, Option, Some, None, refl, sym, arith, length, if◌then◌else◌, codes, ◌==◌, subst, inl, inr}
+use Rattle.def_machine.specs.Values.{Words, Value, Null, Flag, Number, Letter, Text, Prim, Broken, Items, Ref, Name, Naming, IsGift, naming, name_of, key, word_of, under}
+use Rattle.def_machine.specs.State.{Standing, Unsettled, WaitsOn, Viewed, Settled, Known, Passed, Passeds, Plain, AGift, Many, NoMore, More, Delivery, Note, Deliver, Open, Ask, SettledTo, Elsewhere, Shorten, Put, GiftEntry, Vat, Gives, Act, ◌>>=◌, ◌>>◌, and_then, give, look, come, new_gift, alter, tell, draw, draws, drawn_at, send_out, is_in, begun}
 use Rattle.def_machine.specs.Refs.{Place, Near, Mine, Away, Gone, host_at, settle}
 use Rattle.def_machine.specs.Arrive as arrive
 use Rattle.def_machine.specs.Arrive.{Incoming, Old, New}
 use Rattle.def_run.specs.World as world
 use Rattle.law_machine.specs.Steps.{After}
 use Rattle.law_machine.proofs.Keeps.{Keeps}
+use Rattle.law_machine.proofs.KeyLaws.{word_under_key, provider_under}
+use Rattle.law_name.specs.Names.{IsAmong, WasDrawn}
+use Rattle.law_name.proofs.Among.{key_not_drawn}
 use Rattle.law_fate.proofs.PlacesLast.{each_end}
 use Rattle.law_fate.proofs.Spares.{widen}
 use Rattle.law_reference.specs.Standing.{IsEntered}
 use Rattle.law_fate.specs.Lasting.{Each}
 use Rattle.law_reference.specs.GiftPassing.{gifts_in_note, IsProvidedBy, PassesFrom, AllPassFrom, Provides, IsProvided}
-use Rattle.law_reference.proofs.Puts.{PutsOn, Fair, Nothing, PutTells, same, spared, drawn_after, drawn_more, length_more, out_end, fair, gift_after, differ_end, fair_ask, fair_open_out}
+use Rattle.law_reference.proofs.Puts.{AllStay, PutsOn, Fair, Nothing, PutTells, same, spared, drawn_after, drawn_more, stay_end, key_provided, out_end, fair, gift_after, differ_end, fair_ask, fair_open_out}
 use Rattle.law_reference.proofs.RefsPuts.{fair_refs, fair_settle, fair_inform, fair_send_on}
 
-module _ (v d0 : ℕ) (F : ℕ → ℕ) (fresh : (i : ℕ) → d0 ≤ i → F i ≡ v) (word : ℕ → ℕ) where
+module _ (v : ℕ) (d0 : List ℕ) (F : ℕ → ℕ) (fresh : (x : ℕ) → (IsAmong x d0 → ⊥) → F x ≡ v) (word : ℕ → ℕ) where
   abbrev K : Naming Name Name
   K = naming word v
 
@@ -189,83 +192,93 @@ module _ (v d0 : ℕ) (F : ℕ → ℕ) (fresh : (i : ℕ) → d0 ≤ i → F i 
   unfolding arrive.notice
   fair_notice w = search (fair, spared, fair_notice_all) depth 14
 
--- a gift of a draw that is still to be made stands nowhere
-below_all : (F : ℕ → ℕ) (d : ℕ) (gs : List (GiftEntry Name)) → Each (IsProvided F d) gs → IsEntered d gs → ⊥
-below_all F d [] h a = a
-below_all F d (g ∷ gs) h (inl e) = let told = h.0 in let l : g.number < d = told.0 in absurd (omega arith)
-below_all F d (g ∷ gs) h (inr a) = below_all F d gs h.1 a
+-- a gift under a word that was not drawn stands nowhere
+below_all : (F : ℕ → ℕ) (d : List ℕ) (k : ℕ) (gs : List (GiftEntry Name)) → (WasDrawn d k → ⊥) → Each (IsProvided F d) gs → IsEntered k gs → ⊥
+below_all F d k [] new h a = a
+below_all F d k (g ∷ gs) new h (inl e) = let told = h.0 in new (subst (WasDrawn d) e told.0)
+below_all F d k (g ∷ gs) new h (inr a) = below_all F d k gs new h.1 a
 
--- ---- the view: the provider of its draw is the old host
+-- ---- the view: the provider of its word is the old host
 
-module _ (v d0 : ℕ) (F : ℕ → ℕ) (p : ℕ) (fresh : (i : ℕ) → d0 ≤ i → F i ≡ p) (word : ℕ → ℕ) where
+module _ (v : ℕ) (d0 : List ℕ) (F : ℕ → ℕ) (p : ℕ) (fresh : (x : ℕ) → (IsAmong x d0 → ⊥) → F x ≡ p) (word : ℕ → ℕ) where
   abbrev Names : Naming Name Name
   Names = naming word v
 
   abbrev V : Vat Name → Vat Name → Type 0
   V = Fair v d0 F
 
-  -- a draw, the wish put to the old host, and one more note or gift of that draw
-  seen_put : (s : Vat Name) (x c a : ℕ) (n g : Name) → PutsOn v d0 F (λ i. 0) (Nothing v d0 F) s.number (length s.drawn) s.outbox s.gifts s.number (length (s.drawn ++ x ∷ [])) ((s.outbox ++ record { to = p; note = Shorten n c (length s.drawn) } ∷ []) ++ record { to = a; note = Ask p (length s.drawn) g } ∷ []) s.gifts
-  unfolding gifts_in_note
-  seen_put s x c a n g = let d = drawn_after v d0 F s x in let more = length_more s.drawn x in
-      let one : Put Name = record { to = p; note = Shorten n c (length s.drawn) } in let two : Put Name = record { to = a; note = Ask p (length s.drawn) g } in record {
-        number = λ e. e;
-        drawn = d.drawn;
-        count = λ i. let f = out_end i s.outbox one in let k = out_end i (s.outbox ++ one ∷ []) two in let j = drawn_more i (length s.drawn) (length (s.drawn ++ x ∷ [])) (omega arith) in omega arith;
-        outs = λ e l o. each_end (PutTells v d0 F (length (s.drawn ++ x ∷ []))) (s.outbox ++ one ∷ []) two (each_end (PutTells v d0 F (length (s.drawn ++ x ∷ []))) s.outbox one (d.outs e l o) (omega arith, fresh (length s.drawn) l)) (omega arith, fresh (length s.drawn) l);
-        gifts = d.gifts;
-        once = d.once;
-        ok = λ e l. tt;
-      }
+  -- a new word x, the wish put to the old host, and one more note or gift under that word
+  module _ (s : Vat Name) (x : ℕ) (new : drawn_at zero x s.drawn ≡ None) where
+    abbrev Seen : ℕ
+    Seen = under p (key s.number x)
 
-  seen_here : (s : Vat Name) (x c : ℕ) (n g : Name) → PutsOn v d0 F (λ i. 0) (Nothing v d0 F) s.number (length s.drawn) s.outbox s.gifts s.number (length (s.drawn ++ x ∷ [])) (s.outbox ++ record { to = p; note = Shorten n c (length s.drawn) } ∷ []) (s.gifts ++ record { name = g; provider = p; number = length s.drawn; opened = false } ∷ [])
-  unfolding gifts_in_note
-  seen_here s x c n g = let d = drawn_after v d0 F s x in let more = length_more s.drawn x in
-      let one : Put Name = record { to = p; note = Shorten n c (length s.drawn) } in record {
-        number = λ e. e;
-        drawn = d.drawn;
-        count = λ i. let f = out_end i s.outbox one in let j = drawn_more i (length s.drawn) (length (s.drawn ++ x ∷ [])) (omega arith) in omega arith;
-        outs = λ e l o. each_end (PutTells v d0 F (length (s.drawn ++ x ∷ []))) s.outbox one (d.outs e l o) (omega arith, fresh (length s.drawn) l);
-        gifts = λ l o. each_end (IsProvided F (length (s.drawn ++ x ∷ []))) s.gifts (record { name = g; provider = p; number = length s.drawn; opened = false }) (d.gifts l o) (omega arith, fresh (length s.drawn) l);
-        once = λ l x o. differ_end s.gifts (record { name = g; provider = p; number = length s.drawn; opened = false }) (λ a. below_all F (length s.drawn) s.gifts x a) o;
-        ok = λ e l. tt;
-      }
+    seen_word : word_of Seen ≡ x
+    seen_word = word_under_key p s.number x
 
-  seen_there : (s : Vat Name) (x c : ℕ) (n : Name) → PutsOn v d0 F (λ i. 0) (Nothing v d0 F) s.number (length s.drawn) s.outbox s.gifts s.number (length (s.drawn ++ x ∷ [])) (s.outbox ++ record { to = p; note = Shorten n c (length s.drawn) } ∷ []) s.gifts
-  unfolding gifts_in_note
-  seen_there s x c n = let d = drawn_after v d0 F s x in let more = length_more s.drawn x in
-      let one : Put Name = record { to = p; note = Shorten n c (length s.drawn) } in record {
-        number = λ e. e;
-        drawn = d.drawn;
-        count = λ i. let f = out_end i s.outbox one in let j = drawn_more i (length s.drawn) (length (s.drawn ++ x ∷ [])) (omega arith) in omega arith;
-        outs = λ e l o. each_end (PutTells v d0 F (length (s.drawn ++ x ∷ []))) s.outbox one (d.outs e l o) (omega arith, fresh (length s.drawn) l);
-        gifts = d.gifts;
-        once = d.once;
-        ok = λ e l. tt;
-      }
+    provided : AllStay d0 s.drawn → IsProvidedBy F (s.drawn ++ x ∷ []) Seen p
+    provided l = key_provided v d0 F p fresh s.drawn Seen x l new seen_word (provider_under p (key s.number x))
 
-  seen_had : (s : Vat Name) (x c u : ℕ) (n : Name) (o : Option (GiftEntry Name)) → After V s (and_then (arrive.gift_or_new Names u p (length s.drawn) o (record s { drawn = s.drawn ++ x ∷ []; outbox = s.outbox ++ record { to = p; note = Shorten n c (length s.drawn) } ∷ [] })) (λ g. arrive.see Names n g))
-  unfolding arrive.gift_or_new arrive.see ◌>>=◌ ◌>>◌ and_then come new_gift give tell alter
-  seen_had s x c u n (Some g) = record { puts = seen_there s x c n }
-  seen_had s x c u n None = record { puts = seen_here s x c n _ }
+    seen_put : (c a : ℕ) (n g : Name) → PutsOn v d0 F (λ i. 0) (Nothing v d0 F) s.number s.drawn s.outbox s.gifts s.number (s.drawn ++ x ∷ []) ((s.outbox ++ record { to = p; note = Shorten n c Seen } ∷ []) ++ record { to = a; note = Ask p Seen g } ∷ []) s.gifts
+    unfolding gifts_in_note
+    seen_put c a n g = let d = drawn_after v d0 F s x in
+        let one : Put Name = record { to = p; note = Shorten n c Seen } in let two : Put Name = record { to = a; note = Ask p Seen g } in record {
+          number = λ e. e;
+          drawn = d.drawn;
+          count = λ i. let f = out_end i s.outbox one in let k = out_end i (s.outbox ++ one ∷ []) two in let j = drawn_more i s.drawn (s.drawn ++ x ∷ []) (stay_end s.drawn x) in omega arith;
+          outs = λ e l o. each_end (PutTells v d0 F (s.drawn ++ x ∷ [])) (s.outbox ++ one ∷ []) two (each_end (PutTells v d0 F (s.drawn ++ x ∷ [])) s.outbox one (d.outs e l o) (provided l)) (provided l);
+          gifts = d.gifts;
+          once = d.once;
+          ok = λ e l. tt;
+        }
 
-  there_after : (s : Vat Name) (x c u : ℕ) (n : Name) (b : Bool)
-      → After V s (and_then ((if b then arrive.have_gift Names p (length s.drawn) else (come Names (IsGift c (length s.drawn)) c >>= (λ g. send_out c (Ask p (length s.drawn) g) >> give g))) (record s { drawn = s.drawn ++ x ∷ []; outbox = s.outbox ++ record { to = p; note = Shorten n c (length s.drawn) } ∷ [] })) (λ g. arrive.see Names n g))
-  unfolding arrive.have_gift arrive.see ◌>>=◌ ◌>>◌ and_then come send_out give look tell alter
-  there_after s x c u n true = seen_had s x c s.number n (arrive.gift_at p (length s.drawn) s.gifts)
-  there_after s x c u n false = record { puts = seen_put s x c c n _ }
+    seen_here : (c : ℕ) (n g : Name) → PutsOn v d0 F (λ i. 0) (Nothing v d0 F) s.number s.drawn s.outbox s.gifts s.number (s.drawn ++ x ∷ []) (s.outbox ++ record { to = p; note = Shorten n c Seen } ∷ []) (s.gifts ++ record { name = g; provider = p; number = Seen; opened = false } ∷ [])
+    unfolding gifts_in_note
+    seen_here c n g = let d = drawn_after v d0 F s x in
+        let one : Put Name = record { to = p; note = Shorten n c Seen } in record {
+          number = λ e. e;
+          drawn = d.drawn;
+          count = λ i. let f = out_end i s.outbox one in let j = drawn_more i s.drawn (s.drawn ++ x ∷ []) (stay_end s.drawn x) in omega arith;
+          outs = λ e l o. each_end (PutTells v d0 F (s.drawn ++ x ∷ [])) s.outbox one (d.outs e l o) (provided l);
+          gifts = λ l o. each_end (IsProvided F (s.drawn ++ x ∷ [])) s.gifts (record { name = g; provider = p; number = Seen; opened = false }) (d.gifts l o) (provided l);
+          once = λ l y o. differ_end s.gifts (record { name = g; provider = p; number = Seen; opened = false }) (λ a. below_all F s.drawn Seen s.gifts (key_not_drawn s.drawn x Seen new seen_word) y a) o;
+          ok = λ e l. tt;
+        }
 
-  drawn_then : (s : Vat Name) (x c u : ℕ) (n : Name) (o : Option ℕ) → After V s (and_then (draws x o s) (λ i. send_out p (Shorten n c i) >> (arrive.gift_there Names u p c i >>= (λ g. arrive.see Names n g))))
+    seen_there : (c : ℕ) (n : Name) → PutsOn v d0 F (λ i. 0) (Nothing v d0 F) s.number s.drawn s.outbox s.gifts s.number (s.drawn ++ x ∷ []) (s.outbox ++ record { to = p; note = Shorten n c Seen } ∷ []) s.gifts
+    unfolding gifts_in_note
+    seen_there c n = let d = drawn_after v d0 F s x in
+        let one : Put Name = record { to = p; note = Shorten n c Seen } in record {
+          number = λ e. e;
+          drawn = d.drawn;
+          count = λ i. let f = out_end i s.outbox one in let j = drawn_more i s.drawn (s.drawn ++ x ∷ []) (stay_end s.drawn x) in omega arith;
+          outs = λ e l o. each_end (PutTells v d0 F (s.drawn ++ x ∷ [])) s.outbox one (d.outs e l o) (provided l);
+          gifts = d.gifts;
+          once = d.once;
+          ok = λ e l. tt;
+        }
+
+    seen_had : (c u : ℕ) (n : Name) (o : Option (GiftEntry Name)) → After V s (and_then (arrive.gift_or_new Names u p Seen o (record s { drawn = s.drawn ++ x ∷ []; outbox = s.outbox ++ record { to = p; note = Shorten n c Seen } ∷ [] })) (λ g. arrive.see Names n g))
+    unfolding arrive.gift_or_new arrive.see ◌>>=◌ ◌>>◌ and_then come new_gift give tell alter
+    seen_had c u n (Some g) = record { puts = seen_there c n }
+    seen_had c u n None = record { puts = seen_here c n _ }
+
+    there_after : (c u : ℕ) (n : Name) (b : Bool)
+        → After V s (and_then ((if b then arrive.have_gift Names p Seen else (come Names (IsGift c Seen) c >>= (λ g. send_out c (Ask p Seen g) >> give g))) (record s { drawn = s.drawn ++ x ∷ []; outbox = s.outbox ++ record { to = p; note = Shorten n c Seen } ∷ [] })) (λ g. arrive.see Names n g))
+    unfolding arrive.have_gift arrive.see ◌>>=◌ ◌>>◌ and_then come send_out give look tell alter
+    there_after c u n true = seen_had c s.number n (arrive.gift_at p Seen s.gifts)
+    there_after c u n false = record { puts = seen_put c c n _ }
+
+  drawn_then : (s : Vat Name) (x c u : ℕ) (n : Name) (o : Option ℕ) → drawn_at zero x s.drawn ≡ o → After V s (and_then (draws x o s) (λ i. send_out p (Shorten n c (under p i)) >> (arrive.gift_there Names u p c (under p i) >>= (λ g. arrive.see Names n g))))
   unfolding draws and_then send_out ◌>>◌ ◌>>=◌ arrive.gift_there
-  drawn_then s x c u n (Some j) = record { puts = same v d0 F s }
-  drawn_then s x c u n None = there_after s x c u n (c == u)
+  drawn_then s x c u n (Some j) new = record { puts = same v d0 F s }
+  drawn_then s x c u n None new = there_after s x new c u n (c == u)
 
-  drawn_host : (s : Vat Name) (x c u q : ℕ) (n : Name) (o : Option ℕ) → q ≡ p → After V s (and_then (draws x o s) (λ i. send_out q (Shorten n c i) >> (arrive.gift_there Names u q c i >>= (λ g. arrive.see Names n g))))
-  drawn_host s x c u q n o e = subst (λ r. After V s (and_then (draws x o s) (λ i. send_out r (Shorten n c i) >> (arrive.gift_there Names u r c i >>= (λ g. arrive.see Names n g))))) (sym e) (drawn_then s x c u n o)
+  drawn_host : (s : Vat Name) (x c u q : ℕ) (n : Name) (o : Option ℕ) → drawn_at zero x s.drawn ≡ o → q ≡ p → After V s (and_then (draws x o s) (λ i. send_out q (Shorten n c (under q i)) >> (arrive.gift_there Names u q c (under q i) >>= (λ g. arrive.see Names n g))))
+  drawn_host s x c u q n o new e = subst (λ r. After V s (and_then (draws x o s) (λ i. send_out r (Shorten n c (under r i)) >> (arrive.gift_there Names u r c (under r i) >>= (λ g. arrive.see Names n g))))) (sym e) (drawn_then s x c u n o new)
 
   view_after : (s : Vat Name) (n : Name) (c : ℕ) → host_at Names s.number s.known n ≡ p → After V s (arrive.view_there Names n c s)
   unfolding arrive.view_there ◌>>=◌ and_then look draw
-  view_after s n c e = drawn_host s _ c s.number (host_at Names s.number s.known n) n _ e
+  view_after s n c e = drawn_host s _ c s.number (host_at Names s.number s.known n) n _ refl e
 
   there_if : (b : Bool) (m n : Act Name (Unit {0})) (s : Vat Name) → b ≡ false → After V s (n s) → After V s ((if b then m else n) s)
   there_if true m n s e h = cc
@@ -290,6 +303,6 @@ host_told v word (New m h) s n t e = given m n (record s { known = s.known ++ be
     given : (m n : Name) (r t : Vat Name) → Gives m r ≡ Gives n t → host_at (naming word v) t.number t.known n ≡ host_at (naming word v) r.number r.known m
     given m n r t e = let a : m ≡ n = cc in let b : r ≡ t = cc in rw (sym a, sym b) refl
 
-pub news_of_view : (v d0 : ℕ) (F : ℕ → ℕ) (word : ℕ → ℕ) (from : ℕ) (ks : List Name) (n : Name) (c : ℕ) (s : Vat Name) → ((i : ℕ) → d0 ≤ i → F i ≡ told_host v word (world.read_name ks n) s) → is_in c s.noticed ≡ false → After (Fair v d0 F) s (arrive.arrive (naming word v) from (world.read_note ks (Elsewhere n c)) s)
+pub news_of_view : (v : ℕ) (d0 : List ℕ) (F : ℕ → ℕ) (word : ℕ → ℕ) (from : ℕ) (ks : List Name) (n : Name) (c : ℕ) (s : Vat Name) → ((x : ℕ) → (IsAmong x d0 → ⊥) → F x ≡ told_host v word (world.read_name ks n) s) → is_in c s.noticed ≡ false → After (Fair v d0 F) s (arrive.arrive (naming word v) from (world.read_note ks (Elsewhere n c)) s)
 unfolding arrive.arrive world.read_note
 news_of_view v d0 F word from ks n c s fresh e = news_after v d0 F (told_host v word (world.read_name ks n) s) fresh word (world.read_name ks n) c s e (λ m t i. host_told v word (world.read_name ks n) s m t i)

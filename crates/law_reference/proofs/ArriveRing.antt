@@ -402,7 +402,7 @@ module _ (word : ℕ → ℕ) (v : ℕ) (heed : Bool) (D : ℕ → Type 0) (Seen
   -- ---- a note
 
   -- where a note may settle a name to a list, what was noticed is heeded
-  arrives : (from : ℕ) (n : Note (Incoming Name Name)) (s : Vat Name) → IsHeeded heed n → NoteBehind N v D Seen from (heeds word v heed D Seen s) s n → NotePasses n → s.outbox ≡ [] → Kept [] s → AtView word v heed Seen D (λ i. DrawsAfter D s n i) (arrive.arrive N from n s)
+  arrives : (from : ℕ) (n : Note (Incoming Name Name)) (s : Vat Name) → IsHeeded heed n → NoteBehind N v D Seen from (heeds word v heed D Seen s) s n → NotePasses n → s.outbox ≡ [] → Kept [] s → AtView word v heed Seen D (λ i. DrawsAfter word D s n i) (arrive.arrive N from n s)
   unfolding arrive.arrive
   arrives from (Deliver m x verb ys) s on b q e k = gives_view s _ (unnoticed s (heeds word v heed D Seen s) _ ((delivers (heeds word v heed D Seen s) [] from m x verb ys b.0 b.1 q b.2).after s (noticed_mark s k) tt))
   arrives from (Open i x) s on b q e k = gives_view s _ (unnoticed s (heeds word v heed D Seen s) _ (opened (heeds word v heed D Seen s) [] on s from i x b.0 b.1 (noticed_mark s k)))
@@ -419,7 +419,7 @@ module _ (word : ℕ → ℕ) (v : ℕ) (heed : Bool) (D : ℕ → Type 0) (Seen
 
 pub arrivals_keep : (D : ℕ → Type 0) (Seen : Name → Type 0) → ArrivalsKeep D Seen
 unfolding does
-arrivals_keep D Seen word v from n heed s on behind sound passes empty tells r = ends_after word v heed D Seen s (λ i. DrawsAfter D s n i) _ (arrives word v heed D Seen from n s on behind passes empty (sound, r, tells, tt))
+arrivals_keep D Seen word v from n heed s on behind sound passes empty tells r = ends_after word v heed D Seen s (λ i. DrawsAfter word D s n i) _ (arrives word v heed D Seen from n s on behind passes empty (sound, r, tells, tt))
 
 pub arrivals_close_no_ring : ArrivalsCloseNoRing
 arrivals_close_no_ring D Seen = arrivals_keep (λ i. D i ≡ true) (λ n. Seen n ≡ true)

@@ -1,7 +1,7 @@
 -- A gift of another vat that comes to be known in a step is asked for there in front of all that names it, and one of the vat's own stands: a care for names, and for the notes put.
 use Rattle.std.proofs.Common.{◌≡◌, ℕ, Bool, true, false, List, [], ◌∷◌, ◌++◌, Option, Some, None, if◌then◌else◌, codes, refl, sym, ap, ◌∙◌, ◌⊎◌, inl, inr, ◌==◌}
 use Rattle.std.proofs.lemmas.Bool.{eq-eqb}
-use Rattle.def_machine.specs.Values.{Broken, Ref, Name, Root, Object, Promise, Answer, Gift, Sent, Spot, Own, Foreign, NoObject, Naming, naming, name_of, mail_of, answer_of, spot_of, host_of, IsGift, IsLearnt}
+use Rattle.def_machine.specs.Values.{Broken, Ref, Name, Root, Object, Promise, Answer, Gift, Sent, Spot, Own, Foreign, NoObject, Naming, naming, name_of, mail_of, answer_of, spot_of, host_of, IsGift, IsLearnt, under}
 use Rattle.def_machine.specs.State.{Change, See, Views, Note, Ask, Shorten, Put, GiftEntry, Vat, Act, ◌>>=◌, ◌>>◌, and_then, give, look, come, mail, new_gift, alter, send_out, with_change, with_opened, is_gift, is_in, begun}
 use Rattle.def_machine.specs.Refs as refs
 use Rattle.def_machine.specs.Refs.{Place, Mine, Away, host_at}
@@ -378,8 +378,8 @@ module _ (g i : ℕ) where
 
       view_fine : {C : Fact Name} (n : Name) → Gets Asks C (IsName n) → (c : ℕ) → Fine Asks C (arrive.view_there K n c) nothing
       unfolding arrive.view_there
-      view_fine n k c = numbers _ nothing (λ u e. fine_less Asks nothing (fine_look Asks _) (λ p. fine_bind Asks IsDraw (fine_draw K Asks asks_under) (λ j. fine_then Asks nothing (fine_out K Asks asks_under p (Shorten n c j) (record { at = λ s d. (k.at s d.0, tt) }) (record { at = λ s d. tt }))
-          (fine_bind Asks IsName (there_fine u p c j e) (λ x. seen_fine n x (record { at = λ s d. k.at s d.0.0 }) (record { at = λ s d. d.1 }))))))
+      view_fine n k c = numbers _ nothing (λ u e. fine_less Asks nothing (fine_look Asks _) (λ p. fine_bind Asks IsDraw (fine_draw K Asks asks_under) (λ j. fine_then Asks nothing (fine_out K Asks asks_under p (Shorten n c (under p j)) (record { at = λ s d. (k.at s d.0, tt) }) (record { at = λ s d. tt }))
+          (fine_bind Asks IsName (there_fine u p c (under p j) e) (λ x. seen_fine n x (record { at = λ s d. k.at s d.0.0 }) (record { at = λ s d. d.1 }))))))
 
       -- ---- what arrives
 

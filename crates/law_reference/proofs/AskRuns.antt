@@ -168,7 +168,7 @@ module _ (script : Script) where
     value_tells (Broken x) f = tt
     value_tells (Items k) f = tt
 
-    module _ (P : ℕ → ℕ) (d : ℕ) where
+    module _ (P : ℕ → ℕ) (d : List ℕ) where
       mutual
         passed_tells : (y : Passed Name) → PassedOk (Avoids X) y → PassesFrom P d a v y → PassedTells T G Q y
         passed_tells (Plain y) f h = value_tells y f
@@ -180,7 +180,7 @@ module _ (script : Script) where
         passeds_tell (More y ys) f h = (passed_tells y f.0 h.0, passeds_tell ys f.1 h.1)
 
       -- a note that does not name the gift, or that asks for one
-      note_tells : (E : Type 0) (us : List (Vat Name)) (e : ℕ) (word : ℕ → ℕ) (n : Note Name) → NamesNot X n → NoteOk (IsMade us e) n → Provides P d a v n → Tells g i v E word n
+      note_tells : (E : Type 0) (us : List (Vat Name)) (e : List ℕ) (word : ℕ → ℕ) (n : Note Name) → NamesNot X n → NoteOk (IsMade us e) n → Provides P d a v n → Tells g i v E word n
       note_tells E us e word (Deliver m n verb ys) f k h = (made_message us m.message k.0, f.1, passeds_tell ys f.2 h)
       note_tells E us e word (Open j n) f k h = f.1
       note_tells E us e word (Ask p j n) f k h = tt
@@ -235,11 +235,11 @@ module _ (script : Script) where
         found : (o : Option Link) → o ≡ Some l → MayBe (lift.At (OfNotes script) a v) o → OfNotes script a v n
         found o e k = let one : lift.At (OfNotes script) a v l = rw e at k in (tail_of (OfNotes script a v) l l n ns one refl notes).0
 
-    provides : Provides past.2.0 (length w.drawn) a v n
-    provides = let fits = past.2 in let o = fits.1 in head (found_tells fits.0 (length w.drawn) a v l w.links o.links at)
+    provides : Provides past.2.0 w.drawn a v n
+    provides = let fits = past.2 in let o = fits.1 in head (found_tells fits.0 w.drawn a v l w.links o.links at)
       where
-        head : Each (Provides past.2.0 (length w.drawn) a v) l.notes → Provides past.2.0 (length w.drawn) a v n
-        head k = let one : Each (Provides past.2.0 (length w.drawn) a v) (n ∷ ns) = rw notes at k in one.0
+        head : Each (Provides past.2.0 w.drawn a v) l.notes → Provides past.2.0 w.drawn a v n
+        head k = let one : Each (Provides past.2.0 w.drawn a v) (n ∷ ns) = rw notes at k in one.0
 
     -- the note does not name it, or asks for it, or it stands
     module _ (g i : ℕ) (q : Vat Name) (there : slice_get (put_at v t w.vats) g ≡ Some q) where
@@ -283,8 +283,8 @@ module _ (script : Script) where
 
       held_by : Cases → IsAmong (Gift g i) (names_in t.known) → (IsAmong (Gift g i) (names_in s.known) ⊎ IsEntered i q.gifts) ⊎ ((g ≡ v → ⊥) × (PutsFirst g i t.outbox ⊎ (is_in g t.noticed ≡ true)))
       held_by (inr k) x = inl (inr k)
-      held_by (inl (inl f)) x = held_first w.vats v s t d.there g i q there (note_held w v s d.there stands t a n d g i (note_tells g i v a past.2.0 (length w.drawn) (IsAmong (Gift g i) (names_in s.known)) w.vats (length w.drawn) (draw_word script.key) n f (note_up (Told script w) (IsMade w.vats (length w.drawn)) (λ b k. k.0) n told_note) provides)) x
-      held_by (inl (inr f)) x = held_first w.vats v s t d.there g i q there (note_held w v s d.there stands t a n d g i (ask_tells g i v a past.2.0 (length w.drawn) (IsAmong (Gift g i) (names_in s.known)) (draw_word script.key) n f)) x
+      held_by (inl (inl f)) x = held_first w.vats v s t d.there g i q there (note_held w v s d.there stands t a n d g i (note_tells g i v a past.2.0 w.drawn (IsAmong (Gift g i) (names_in s.known)) w.vats w.drawn (draw_word script.key) n f (note_up (Told script w) (IsMade w.vats w.drawn) (λ b k. k.0) n told_note) provides)) x
+      held_by (inl (inr f)) x = held_first w.vats v s t d.there g i q there (note_held w v s d.there stands t a n d g i (ask_tells g i v a past.2.0 w.drawn (IsAmong (Gift g i) (names_in s.known)) (draw_word script.key) n f)) x
 
     pub note_first : (g i : ℕ) (q : Vat Name) → slice_get (put_at v t w.vats) g ≡ Some q → IsAmong (Gift g i) (names_in t.known) → (IsAmong (Gift g i) (names_in s.known) ⊎ IsEntered i q.gifts) ⊎ ((g ≡ v → ⊥) × (PutsFirst g i t.outbox ⊎ (is_in g t.noticed ≡ true)))
     note_first g i q e x = held_by g i q e (by_host g i q e (eq_dec g v) (eq_dec g a)) x

@@ -1,9 +1,9 @@
 -- The claims on each name at a vat stay within what is allowed, by any step whose note brings what is new.
-use Rattle.std.proofs.Common.{◌≡◌, ℕ, zero, suc, ◌+◌, ◌≤◌, Bool, true, false, List, [], ◌∷◌, Some, None, refl, sym, ap, ◌∙◌, arith, length, map, ◌==◌, inl, inr, leb-true}
+use Rattle.std.proofs.Common.{◌≡◌, ℕ, zero, suc, ◌+◌, ◌≤◌, Bool, true, false, List, [], ◌∷◌, Some, None, refl, sym, ap, ◌∙◌, arith, length, map, ◌==◌, inl, inr}
 use Rattle.std.specs.Prelude.{slice_get, nat_le}
-use Rattle.std.proofs.lemmas.Bool.{eqb-true, eq-eqb, le-leb}
-use Rattle.def_machine.specs.Values.{Name, Root, Object, Promise, Answer, Gift, Sent, same_name}
-use Rattle.def_machine.specs.State.{Known, Vat, begun}
+use Rattle.std.proofs.lemmas.Bool.{eqb-true, eq-eqb}
+use Rattle.def_machine.specs.Values.{Name, Root, Object, Promise, Answer, Gift, Sent, same_name, word_of}
+use Rattle.def_machine.specs.State.{Known, Vat, begun, is_in}
 use Rattle.def_run.specs.World.{known_root}
 use Rattle.law_machine.specs.Laws.{Stays}
 use Rattle.law_name.specs.Names.{IsAmong, Once, names_in}
@@ -11,6 +11,7 @@ use Rattle.law_name.proofs.SameNames.{same_is, same_self, false_true}
 use Rattle.law_reference.specs.Knowing.{once, one, onward_all, claims, numbered, numbered_at, Knowing}
 use Rattle.law_reference.specs.NameTableRuns.{other, allowed}
 use Rattle.law_reference.proofs.Positions.{one_position}
+use Rattle.law_reference.proofs.Puts.{AllStay, in_among, among_in}
 
 -- ---- numbers
 
@@ -23,51 +24,60 @@ one_of : (b c : Bool) → elim b [ true ↦ 0 | false ↦ 1 ] + elim b [ true �
 one_of true c = let most = once_most c in omega arith
 one_of false c = omega arith
 
-pub allowed_once : (v : ℕ) (x : Name) (s : Vat Name) (d : ℕ) → allowed v x s d ≤ 1
+pub allowed_once : (v : ℕ) (x : Name) (s : Vat Name) (d : List ℕ) → allowed v x s d ≤ 1
 unfolding allowed other numbered
 allowed_once v (Root w) s d = omega arith
 allowed_once v (Object w i) s d = omega arith
 allowed_once v (Promise w i) s d = one_of (v == w) (nat_le (suc i) s.promises)
 allowed_once v (Answer h m) s d = one_of (v == m.sender) (nat_le (suc m.number) s.messages)
-allowed_once v (Gift h i) s d = let most = once_most (nat_le (suc i) d) in omega arith
+allowed_once v (Gift h i) s d = let most = once_most (is_in (word_of i) d) in omega arith
 allowed_once v (Sent m) s d = omega arith
 
 true_false : true ≡ false → ⊥
 true_false e = cc
 
-below_more : (n d e : ℕ) → d ≤ e → (b c : Bool) → nat_le n d ≡ b → nat_le n e ≡ c → once b ≤ once c
+more_or : (b c : Bool) → (b ≡ true → c ≡ true) → once b ≤ once c
 unfolding once
-below_more n d e h true true i j = omega arith
-below_more n d e h false c i j = omega arith
-below_more n d e h true false i j = let k = leb-true n d i in absurd (true_false (sym (le-leb n e (omega arith)) ∙ j))
+more_or true true h = omega arith
+more_or false c h = omega arith
+more_or true false h = absurd (true_false (sym (h refl)))
 
-pub allowed_more : (v : ℕ) (x : Name) (s : Vat Name) (d e : ℕ) → d ≤ e → allowed v x s d ≤ allowed v x s e
+in_more : (x : ℕ) (d e : List ℕ) → AllStay d e → is_in x d ≡ true → is_in x e ≡ true
+in_more x d e h i = among_in x e (h x (in_among x d i))
+
+pub allowed_more : (v : ℕ) (x : Name) (s : Vat Name) (d e : List ℕ) → AllStay d e → allowed v x s d ≤ allowed v x s e
 unfolding allowed other numbered
 allowed_more v (Root w) s d e h = omega arith
 allowed_more v (Object w i) s d e h = omega arith
 allowed_more v (Promise w i) s d e h = omega arith
 allowed_more v (Answer a m) s d e h = omega arith
-allowed_more v (Gift a i) s d e h = let more = below_more (suc i) d e h (nat_le (suc i) d) (nat_le (suc i) e) refl refl in omega arith
+allowed_more v (Gift a i) s d e h = let more = more_or (is_in (word_of i) d) (is_in (word_of i) e) (in_more (word_of i) d e h) in omega arith
 allowed_more v (Sent m) s d e h = omega arith
 
-pub stays_longer : {A : Type 0} (xs ys : List A) → Stays xs ys → length xs ≤ length ys
-stays_longer [] ys h = omega arith
-stays_longer (x ∷ xs) [] h = absurd (nothing_is (h zero x refl))
-  where
-    nothing_is : None ≡ Some x → ⊥
-    nothing_is e = cc
-stays_longer (x ∷ xs) (y ∷ ys) h = let rest = stays_longer xs ys (λ i z e. h (suc i) z e) in omega arith
+get_among : (xs : List ℕ) (i x : ℕ) → slice_get xs i ≡ Some x → IsAmong x xs
+get_among [] i x e = cc
+get_among (y ∷ ys) zero x e = inl (let f : x ≡ y = cc in f)
+get_among (y ∷ ys) (suc i) x e = inr (get_among ys i x e)
+
+among_get : (xs : List ℕ) (x : ℕ) → IsAmong x xs → (i : ℕ) × (slice_get xs i ≡ Some x)
+among_get [] x a = absurd a
+among_get (y ∷ ys) x (inl e) = (zero, ap Some (sym e))
+among_get (y ∷ ys) x (inr a) = let r = among_get ys x a in (suc r.0, r.1)
+
+-- where each keeps its place all are there
+pub stays_all : (xs ys : List ℕ) → Stays xs ys → AllStay xs ys
+stays_all xs ys h x a = let r = among_get xs x a in get_among ys r.0 x (h r.0 x r.1)
 
 -- ---- a step
 
--- as vat v, once so many words were drawn
-abbrev pub Bounded : ℕ → ℕ → Vat Name → Type 0
+-- as vat v, once those words were drawn
+abbrev pub Bounded : List ℕ → ℕ → Vat Name → Type 0
 Bounded d v s = (s.number ≡ v) × ((x : Name) → claims v x s.known ≤ allowed v x s d)
 
-pub bounded_more : (d e v : ℕ) (s : Vat Name) → d ≤ e → Bounded d v s → Bounded e v s
+pub bounded_more : (d e : List ℕ) (v : ℕ) (s : Vat Name) → AllStay d e → Bounded d v s → Bounded e v s
 bounded_more d e v s h b = (b.0, λ x. let a = b.1 x in let c = allowed_more v x s d e h in omega arith)
 
-pub step_bounded : (v : ℕ) (q t : Vat Name) (came : Name → ℕ) → q.number ≡ v → ((x : Name) → Knowing v x (came x) q t) → ((x : Name) → claims v x q.known + came x ≤ allowed v x q (length q.drawn)) → Bounded (length t.drawn) v t
+pub step_bounded : (v : ℕ) (q t : Vat Name) (came : Name → ℕ) → q.number ≡ v → ((x : Name) → Knowing v x (came x) q t) → ((x : Name) → claims v x q.known + came x ≤ allowed v x q q.drawn) → Bounded t.drawn v t
 unfolding allowed numbered_at
 step_bounded v q t came e h b = ((h (Root v)).number e, λ x. let a = (h x).kept e in let c = b x in omega arith)
 
@@ -129,7 +139,7 @@ unfolding claims known_root begun onward_all
 no_claim v x [] h = refl
 no_claim v x (w ∷ us) h = let rest = no_claim v x us h in let none = h w in omega arith
 
-pub roots_allowed : (v : ℕ) (us : List ℕ) (s : Vat Name) (d : ℕ) → Once us → (x : Name) → claims v x (map known_root us) ≤ allowed v x s d
+pub roots_allowed : (v : ℕ) (us : List ℕ) (s : Vat Name) (d : List ℕ) → Once us → (x : Name) → claims v x (map known_root us) ≤ allowed v x s d
 unfolding allowed other one same_name once
 roots_allowed v us s d h (Root u) = let a = roots_once v u us h in omega arith
 roots_allowed v us s d h (Object w i) = let a = no_claim v (Object w i) us (λ u. refl) in omega arith

@@ -1,13 +1,13 @@
 -- What arrives leaves what passes in the notes put of the two vats.
 use Rattle.std.proofs.Common.{◌≡◌, ℕ, ◌<◌, Bool, true, false, List, [], ◌∷◌, ◌++◌, Option, Some, None, if◌then◌else◌, ◌==◌}
 use Rattle.std.specs.Prelude.{slice_get}
-use Rattle.def_machine.specs.Values.{Value, Null, Flag, Number, Letter, Text, Prim, Broken, Items, Ref, Name, host_of, naming, IsGift}
+use Rattle.def_machine.specs.Values.{Value, Null, Flag, Number, Letter, Text, Prim, Broken, Items, Ref, Name, host_of, naming, IsGift, under}
 use Rattle.def_machine.specs.State.{Passed, Passeds, Plain, AGift, Many, NoMore, More, Note, Deliver, Open, Ask, SettledTo, Elsewhere, Shorten, Put, GiftEntry, Vat, Done, Gives, Throws, Ejects, Stops, Act, ◌>>=◌, ◌>>◌, and_then, give, look, tell, come, mail, new_gift, new_list, send_out, alter, draw, draws}
 use Rattle.def_machine.specs.Refs.{host_at}
 use Rattle.def_machine.specs.Arrive as arrive
 use Rattle.def_machine.specs.Arrive.{Incoming, Old, New}
 use Rattle.def_run.specs.World as world
-use Rattle.law_name.specs.Names.{Bit, Drew, At, bare, IsMade, PassedOk, PassedsOk, NoteOk}
+use Rattle.law_name.specs.Names.{WasDrawn, Bit, Drew, At, bare, IsMade, PassedOk, PassedsOk, NoteOk}
 use Rattle.law_name.proofs.Facts.{all_end, Fact, Nothing, Also, IsName, IsMail, IsDraw, IsVat, IsValue, AreValues, nothing, Holds}
 use Rattle.law_name.proofs.Care.{Care, Sound, Ends, Gets, Fine}
 use Rattle.law_name.proofs.Learn.{Knows, Learned, Learns, rise, learn, learn_all, learn_name, message_learned}
@@ -47,7 +47,7 @@ module _ (M : Marked) (vats : List (Vat Name)) (v : ℕ) (q : Vat Name) (there :
   there_leaves s u h c i n false o = one_more s (record { to = c; note = Ask h i ((naming word v).made (IsGift c i) _) }) o tt
 
   drawn_leaves : (s : Vat Name) (u h c : ℕ) (n : Name) (w : ℕ) (o : Option ℕ) → FitOut s
-      → Leaves (and_then (draws w o s) (λ i. send_out h (Shorten n c i) >> (arrive.gift_there (naming word v) u h c i >>= (λ g. arrive.see (naming word v) n g))))
+      → Leaves (and_then (draws w o s) (λ i. send_out h (Shorten n c (under h i)) >> (arrive.gift_there (naming word v) u h c (under h i) >>= (λ g. arrive.see (naming word v) n g))))
   unfolding draws and_then send_out ◌>>◌ ◌>>=◌ arrive.gift_there
   drawn_leaves s u h c n w (Some j) o = tt
   drawn_leaves s u h c n w None o = there_leaves (record s { outbox = s.outbox ++ record { to = h; note = Shorten n c _ } ∷ []; drawn = s.drawn ++ w ∷ [] }) u h c _ n (c == u) (one_more s (record { to = h; note = Shorten n c _ }) o tt)
@@ -61,7 +61,7 @@ module _ (M : Marked) (vats : List (Vat Name)) (v : ℕ) (q : Vat Name) (there :
 
   -- ---- learning
 
-  module _ (us : List (Vat Name)) (d0 : ℕ) where
+  module _ (us : List (Vat Name)) (d0 : List ℕ) where
     -- what was made before, and is marked
     abbrev Was : Bit Name → Type 0
     Was b = IsMade us d0 b × M.mark (bare b)
@@ -130,7 +130,7 @@ module _ (M : Marked) (vats : List (Vat Name)) (v : ℕ) (q : Vat Name) (there :
     value_fits ns (Items k) = fits_give (Items k)
     value_fits ns (Ref n) = record { after = λ s g w c o. ref_leaves n (world.is_old ns n) s o }
 
-    gift_fits : {ks : List Name} {C : Fact Name} (p h i : ℕ) → M.mark (At h) → i < d0 → Fits ks C (arrive.learn_gift (naming word v) p h i)
+    gift_fits : {ks : List Name} {C : Fact Name} (p h i : ℕ) → M.mark (At h) → WasDrawn d0 i → Fits ks C (arrive.learn_gift (naming word v) p h i)
     gift_fits {C = C} p h i at l = record { after = λ s g w c o. ends_leave IsValue s (arrive.learn_gift (naming word v) p h i s) ((gift_fine p h i).after s (fit_sound M vats v q there here word s g o) ((w.made (Drew i) l, tt, tt, M.draw i), (tt, tt, tt, at))) }
       where
         gift_fine : (p h i : ℕ) → Fine V (Also (IsDraw i) (IsVat h)) (arrive.learn_gift (naming word v) p h i) IsValue
@@ -153,7 +153,7 @@ module _ (M : Marked) (vats : List (Vat Name)) (v : ℕ) (q : Vat Name) (there :
       all_fit p (More y ys) ks m = fits_bind IsValue (learn true M vats v q there here word us d0 p y ks m.0) (learn_fits p y ks m.0) (λ x. fits_bind AreValues (learn_all true M vats v q there here word us d0 p ys (world.read_passed y ks).known m.1) (all_fit p ys (world.read_passed y ks).known m.1) (λ xs. fits_give (x ∷ xs)))
 
     -- with a draw that was made
-    with_draw : {A : Type 0} (ks : List Name) (i : ℕ) (m : Act Name A) → i < d0 → Fits ks (IsDraw i) m → Fits ks Nothing m
+    with_draw : {A : Type 0} (ks : List Name) (i : ℕ) (m : Act Name A) → WasDrawn d0 i → Fits ks (IsDraw i) m → Fits ks Nothing m
     with_draw ks i m l h = record { after = λ s g k c o. h.after s g k (k.made (Drew i) l, tt, tt, M.draw i) o }
 
     -- with a vat that is marked

@@ -1,10 +1,11 @@
 -- The changes of what is known that are kept, and what each leaves.
 use Rattle.std.proofs.Common.{◌≡◌, ℕ, suc, Bool, true, false, List, [], ◌∷◌, ◌++◌, Option, Some, None, refl, sym, ap, subst, ◌∙◌, ◌⊎◌, inl, inr, length, arith}
-use Rattle.def_machine.specs.Values.{Value, Null, Flag, Number, Letter, Text, Prim, Broken, Items, Ref, Name, Root, Object, Promise, Answer, Gift, Sent, Naming, Spot, Own, Foreign, NoObject, naming, host_of, spot_of, answer_of}
+use Rattle.def_machine.specs.Values.{Value, Null, Flag, Number, Letter, Text, Prim, Broken, Items, Ref, Name, Root, Object, Promise, Answer, Gift, Sent, Naming, Spot, Own, Foreign, NoObject, naming, host_of, spot_of, answer_of, word_of}
 use Rattle.def_machine.specs.State.{Message, Note, Put, GiftEntry, Standing, Unsettled, WaitsOn, Viewed, Settled, Known, Change, Hold, Wait, WaitOn, React, ToTell, Settle, Waits, Vat, ◌>>◌, and_then, tell, alter, enqueue, send_out, with_change, changed, changed_to, begun, is_in}
 use Rattle.def_machine.specs.Refs as refs
 use Rattle.def_machine.specs.Refs.{entry_of, standing_of, standing_in, host_at, host_in, follow_at, follow, severed, severed_at, severed_by, cut_cycle, target_of}
 use Rattle.law_machine.specs.Breaks.{still_waits}
+use Rattle.law_name.proofs.Among.{among_more}
 use Rattle.law_name.specs.Names.{AllOf, IsAmong, IsMessageName, IsEventual}
 use Rattle.law_name.proofs.Facts.{all_end}
 use Rattle.law_frozen.specs.Frozen.{MessageThere, NotePasses}
@@ -217,14 +218,10 @@ module _ (word : ℕ → ℕ) (v : ℕ) (heed : Bool) (D : ℕ → Type 0) (Seen
   unfolding send_out
   puts ls s to n passes tells h = (grows_same s.things s.lists, put_holds ls s to n passes tells h, tt)
 
-  pub length_end : (w : ℕ) (ds : List ℕ) → length (ds ++ w ∷ []) ≡ suc (length ds)
-  length_end w [] = refl
-  length_end w (d ∷ ds) = ap suc (length_end w ds)
-
   -- a word is drawn
   pub drawn_holds : (ls : List Mark) (s : Vat Name) (w : ℕ) → Holds ls s → Holds ls (record s { drawn = s.drawn ++ w ∷ [] })
   drawn_holds ls s w h = let t : Vat Name = record s { drawn = s.drawn ++ w ∷ [] } in
-      (h.0, ringless_same word v heed D Seen s t h.0 refl refl refl (inl refl) h.1.queue h.1.gifts h.1, (λ i l d. h.2.0 i (let same = length_end w s.drawn in omega arith) d, h.2.1), h.3)
+      (h.0, ringless_same word v heed D Seen s t h.0 refl refl refl (inl refl) h.1.queue h.1.gifts h.1, (λ i l d. h.2.0 i (λ a. l (among_more (word_of i) s.drawn w a)) d, h.2.1), h.3)
 
   -- gifts come to be at the vat, named by their draws, or are opened
   pub gifts_hold : (ls : List Mark) (s : Vat Name) (gs : List (GiftEntry Name)) → AllOf (IsNamed v) gs → Holds ls s → Holds ls (record s { gifts = gs })

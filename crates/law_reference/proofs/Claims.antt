@@ -1,10 +1,12 @@
 -- How single changes change the claims on a name.
-use Rattle.std.proofs.Common.{◌≡◌, ℕ, suc, ◌+◌, ◌≤◌, Bool, true, false, List, [], ◌∷◌, ◌++◌, Option, Some, refl, sym, arith, eqb-true, leb-true, ◌∙◌}
+use Rattle.std.proofs.Common.{◌≡◌, ℕ, suc, ◌+◌, ◌≤◌, Bool, true, false, List, [], ◌∷◌, ◌++◌, Option, Some, None, zero, refl, sym, ap, arith, eqb-true, leb-true, ◌∙◌}
 use Rattle.std.specs.Prelude.{nat_le, ◌==◌, ◌&&◌}
 use Rattle.std.proofs.lemmas.Bool.{le-leb}
-use Rattle.def_machine.specs.Values.{Value, Name, Root, Object, Promise, Answer, Gift, Sent, Naming, same_name}
-use Rattle.def_machine.specs.State.{Message, Standing, Unsettled, WaitsOn, Viewed, Settled, Known, Change, Hold, Wait, WaitOn, See, React, ToTell, Settle, begun, changed, changed_to, unless_settled, with_change}
+use Rattle.def_machine.specs.Values.{Value, Name, Root, Object, Promise, Answer, Gift, Sent, Naming, same_name, word_of}
+use Rattle.def_machine.specs.State.{Message, Standing, Unsettled, WaitsOn, Viewed, Settled, Known, Change, Hold, Wait, WaitOn, See, React, ToTell, Settle, begun, changed, changed_to, unless_settled, with_change, is_in, drawn_at}
 use Rattle.def_machine.specs.Refs.{entry_of}
+use Rattle.law_name.proofs.Among.{drawn_last, key_not_drawn}
+use Rattle.law_reference.proofs.Puts.{stay_end, in_among, among_in}
 use Rattle.law_reference.specs.Knowing.{once, one, onward, onward_all, claims, numbered}
 
 pub onward_end : (v : ℕ) (x : Name) (ms : List (Message Name)) (m : Message Name) → onward_all v x (ms ++ m ∷ []) ≡ onward_all v x ms + onward v x m.id
@@ -111,7 +113,7 @@ unfolding once
 next_where n k true = next_number n k
 next_where n k false = omega arith
 
-pub promise_next : (v : ℕ) (x : Name) (p m d : ℕ) → one (Promise v p) x + numbered v x p m d ≤ numbered v x (suc p) m d
+pub promise_next : (v : ℕ) (x : Name) (p m : ℕ) (d : List ℕ) → one (Promise v p) x + numbered v x p m d ≤ numbered v x (suc p) m d
 unfolding numbered one same_name once
 promise_next v (Promise a b) p m d = next_where b p (v == a)
 promise_next v (Root a) p m d = omega arith
@@ -130,21 +132,39 @@ within true c = omega arith
 within false true = omega arith
 within false false = omega arith
 
-pub gift_next : (v c : ℕ) (x : Name) (p m d : ℕ) → one (Gift c d) x + numbered v x p m d ≤ numbered v x p m (suc d)
+-- a gift under a new word
+new_word : (a b c : Bool) → (a ≡ true → b ≡ false) → (a ≡ true → c ≡ true) → (b ≡ true → c ≡ true) → once a + once b ≤ once c
+unfolding once
+new_word false false c e f g = omega arith
+new_word false true true e f g = omega arith
+new_word false true false e f g = absurd (true_false (sym (g refl)))
+new_word true true c e f g = absurd (true_false (e refl))
+new_word true false true e f g = omega arith
+new_word true false false e f g = absurd (true_false (sym (f refl)))
+
+next_gift : (b k w : ℕ) (d : List ℕ) → word_of k ≡ w → drawn_at zero w d ≡ None → once (k == b) + once (is_in (word_of b) d) ≤ once (is_in (word_of b) (d ++ w ∷ []))
+next_gift b k w d e new = new_word (k == b) (is_in (word_of b) d) (is_in (word_of b) (d ++ w ∷ [])) (λ f. absent (is_in (word_of b) d) refl (eqb-true k b f)) (λ f. among_in (word_of b) (d ++ w ∷ []) (drawn_last d w b (ap word_of (sym (eqb-true k b f)) ∙ e)))
+    (λ f. among_in (word_of b) (d ++ w ∷ []) (stay_end d w (word_of b) (in_among (word_of b) d f)))
+  where
+    absent : (c : Bool) → is_in (word_of b) d ≡ c → k ≡ b → c ≡ false
+    absent true f g = absurd (key_not_drawn d w b new (ap word_of (sym g) ∙ e) (in_among (word_of b) d f))
+    absent false f g = refl
+
+pub gift_next : (v c k w : ℕ) (x : Name) (p m : ℕ) (d : List ℕ) → word_of k ≡ w → drawn_at zero w d ≡ None → one (Gift c k) x + numbered v x p m d ≤ numbered v x p m (d ++ w ∷ [])
 unfolding numbered one same_name
-gift_next v c (Gift a b) p m d = let one = within (c == a) (d == b) in let two = next_number b d in omega arith
-gift_next v c (Promise a b) p m d = let none = once_none in omega arith
-gift_next v c (Root a) p m d = let none = once_none in omega arith
-gift_next v c (Object a b) p m d = let none = once_none in omega arith
-gift_next v c (Sent a) p m d = let none = once_none in omega arith
-gift_next v c (Answer a b) p m d = let none = once_none in omega arith
+gift_next v c k w (Gift a b) p m d e new = let one = within (c == a) (k == b) in let two = next_gift b k w d e new in omega arith
+gift_next v c k w (Promise a b) p m d e new = let none = once_none in omega arith
+gift_next v c k w (Root a) p m d e new = let none = once_none in omega arith
+gift_next v c k w (Object a b) p m d e new = let none = once_none in omega arith
+gift_next v c k w (Sent a) p m d e new = let none = once_none in omega arith
+gift_next v c k w (Answer a b) p m d e new = let none = once_none in omega arith
 
 -- One where x is an answer of the message with that number of vat v.
 unfoldable pub answers : ℕ → ℕ → Name → ℕ
 answers v k (Answer h a) = once ((v == a.sender) && (k == a.number))
 answers v k _ = 0
 
-pub answer_next : (v : ℕ) (x : Name) (p k d : ℕ) → answers v k x + numbered v x p k d ≤ numbered v x p (suc k) d
+pub answer_next : (v : ℕ) (x : Name) (p k : ℕ) (d : List ℕ) → answers v k x + numbered v x p k d ≤ numbered v x p (suc k) d
 unfolding numbered answers
 answer_next v (Answer h a) p k d = next_where a.number k (v == a.sender)
 answer_next v (Promise a b) p k d = omega arith

@@ -1,11 +1,11 @@
 -- What single changes, and one thing after another, add to the claims on a name.
-use Rattle.std.proofs.Common.{◌≡◌, ℕ, suc, ◌+◌, ◌≤◌, [], ◌∷◌, ◌++◌, Option, Some, None, arith, length}
-use Rattle.def_machine.specs.Values.{Name, Coming, Mailing, Gift, Promise, Naming, naming, name_of}
-use Rattle.def_machine.specs.State.{Message, Change, Hold, Wait, WaitOn, See, React, ToTell, Note, Happened, Vat, Done, Gives, Throws, Ejects, Stops, Act, ◌>>=◌, ◌>>◌, and_then, tell, enqueue, send_out, new_gift, open_gift, mark, draws, draw, with_change, alter, come, mail, begun}
+use Rattle.std.proofs.Common.{◌≡◌, ℕ, suc, ◌+◌, ◌≤◌, [], ◌∷◌, ◌++◌, Option, Some, None, zero, refl, arith, length}
+use Rattle.def_machine.specs.Values.{Name, Coming, Mailing, Gift, Promise, Naming, naming, name_of, key, word_of}
+use Rattle.def_machine.specs.State.{Message, Change, Hold, Wait, WaitOn, See, React, ToTell, Note, Happened, Vat, Done, Gives, Throws, Ejects, Stops, Act, ◌>>=◌, ◌>>◌, and_then, tell, enqueue, send_out, new_gift, open_gift, mark, draws, drawn_at, draw, with_change, alter, come, mail, begun}
 use Rattle.law_machine.specs.Steps.{After}
 use Rattle.law_machine.proofs.Keeps.{Keeps}
+use Rattle.law_machine.proofs.KeyLaws.{word_key}
 use Rattle.law_fate.proofs.Spares.{IsSpared, spares}
-use Rattle.law_name.proofs.Among.{length_end}
 use Rattle.law_reference.specs.Knowing.{one, onward, claims, numbered_at, Knowing}
 use Rattle.law_reference.proofs.Claims.{added, claims_end, with_change_adds, promise_next, gift_next}
 
@@ -125,23 +125,23 @@ module _ (v : ℕ) (x : Name) where
   unfolding send_out numbered_at
   free_out w n = record { after = λ s. record { number = λ e. e; kept = λ e. omega arith } }
 
-  -- a draw pays for a gift of it
-  pub draw_owes : (s : Vat Name) (w h : ℕ) → Owes v x (one (Gift h (length s.drawn)) x) s (record s { drawn = s.drawn ++ w ∷ [] })
+  -- a new word pays for a gift under it
+  pub draw_owes : (s : Vat Name) (w h k : ℕ) → word_of k ≡ w → drawn_at zero w s.drawn ≡ None → Owes v x (one (Gift h k) x) s (record s { drawn = s.drawn ++ w ∷ [] })
   unfolding numbered_at
-  draw_owes s w h = record { number = λ e. e; kept = λ e. let next = gift_next v h x s.promises s.messages (length s.drawn) in let more = length_end s.drawn w in rw more (omega arith) }
+  draw_owes s w h k e new = record { number = λ n. n; kept = λ n. let next = gift_next v h k w x s.promises s.messages s.drawn e new in omega arith }
 
-  draw_after : (s : Vat Name) (w : ℕ) → Knowing v x 0 s (record s { drawn = s.drawn ++ w ∷ [] })
-  draw_after s w = let owes = draw_owes s w v in record { number = λ e. e; kept = λ e. let a = owes.kept e in omega arith }
+  draw_after : (s : Vat Name) (w : ℕ) → drawn_at zero w s.drawn ≡ None → Knowing v x 0 s (record s { drawn = s.drawn ++ w ∷ [] })
+  draw_after s w new = let owes = draw_owes s w v (key v w) (word_key v w) new in record { number = λ e. e; kept = λ e. let a = owes.kept e in omega arith }
 
-  draws_after : (s : Vat Name) (w : ℕ) (o : Option ℕ) → After (Knowing v x 0) s (draws w o s)
+  draws_after : (s : Vat Name) (w : ℕ) (o : Option ℕ) → drawn_at zero w s.drawn ≡ o → After (Knowing v x 0) s (draws w o s)
   unfolding draws
-  draws_after s w (Some i) = none s
-  draws_after s w None = draw_after s w
+  draws_after s w (Some i) new = none s
+  draws_after s w None new = draw_after s w new
 
   module _ {W : Type 0} (K : Naming Name W) where
     pub free_draw : Keeps (Knowing v x 0) (draw K)
     unfolding draw
-    free_draw = record { after = λ s. draws_after s _ _ }
+    free_draw = record { after = λ s. draws_after s _ _ refl }
 
     altered : (s : Vat Name) (c : Change Name) (n : Name) (k : ℕ) → added v x c ≤ k → Knowing v x k s (record s { known = with_change K c n s.known })
     unfolding numbered_at
@@ -186,6 +186,6 @@ module _ (v : ℕ) (x : Name) where
 
     pub free_promise : (s : Vat Name) → Knowing v x 0 s (record s { promises = suc s.promises; known = s.known ++ begun (Promise v s.promises) s.number ∷ [] })
     unfolding numbered_at
-    free_promise s = record { number = λ e. e; kept = λ e. let more = claims_end v x s.known (Promise v s.promises) s.number in let next = promise_next v x s.promises s.messages (length s.drawn) in omega arith }
+    free_promise s = record { number = λ e. e; kept = λ e. let more = claims_end v x s.known (Promise v s.promises) s.number in let next = promise_next v x s.promises s.messages s.drawn in omega arith }
 
 pub ruleset free = (spares, free_tell, free_gift, free_open, free_mark, free_enqueue, free_out, free_draw, free_wait, free_wait_on, free_see, free_to_tell, free_react, free_mail)

@@ -1,13 +1,13 @@
 -- What arrives and does not name an answer leaves it behind the note of its message.
 use Rattle.std.proofs.Common.{◌≡◌, ℕ, ◌<◌, sym, Bool, true, false, List, [], ◌∷◌, ◌++◌, Option, Some, None, if◌then◌else◌, ◌==◌, length}
 use Rattle.std.specs.Prelude.{slice_get}
-use Rattle.def_machine.specs.Values.{Value, Null, Flag, Number, Letter, Text, Prim, Broken, Items, Ref, Name, Answer, Gift, Msg, host_of, naming, name_of, IsGift}
+use Rattle.def_machine.specs.Values.{Value, Null, Flag, Number, Letter, Text, Prim, Broken, Items, Ref, Name, Answer, Gift, Msg, host_of, naming, name_of, IsGift, key, under}
 use Rattle.def_machine.specs.State.{Passed, Passeds, Plain, AGift, Many, NoMore, More, Note, Deliver, Open, Ask, SettledTo, Elsewhere, Shorten, Put, GiftEntry, Wait, See, with_change, begun, Vat, Done, Gives, Throws, Ejects, Stops, Act, ◌>>=◌, ◌>>◌, and_then, give, look, tell, come, mail, new_gift, new_list, send_out, alter, draw, draws}
 use Rattle.def_machine.specs.Refs.{host_at}
 use Rattle.def_machine.specs.Arrive as arrive
 use Rattle.def_machine.specs.Arrive.{Incoming, Old, New}
 use Rattle.def_run.specs.World as world
-use Rattle.law_name.specs.Names.{Bit, Named, Drew, At, bare, IsMade, ValueOk, PassedOk, PassedsOk, NoteOk}
+use Rattle.law_name.specs.Names.{WasDrawn, Bit, Named, Drew, At, bare, IsMade, ValueOk, PassedOk, PassedsOk, NoteOk}
 use Rattle.law_name.proofs.Facts.{Fact, Nothing, Also, IsName, IsMail, IsDraw, IsVat, IsValue, AreValues, nothing, Holds}
 use Rattle.law_name.proofs.Care.{Care, Sound, Ends, Gets, Fine}
 use Rattle.law_name.proofs.Learn.{Knows, Learned, Learns, rise, learn, learn_all, learn_name, message_learned}
@@ -52,10 +52,10 @@ module _ (far : ℕ) (msg : Msg) (M : Marked) (vats : List (Vat Name)) (v : ℕ)
       see_leaves (record s1 { outbox = s1.outbox ++ p ∷ [] }) n (Gift c i) (put_held far msg M vats v q there here word E abroad s1 p (known_held far msg M vats v q there here word E abroad s (Gift c i) c (no_gift far msg M vats v q there here word E abroad c i) o))
 
   drawn_leaves : (s : Vat Name) (u h c : ℕ) (n : Name) (w : ℕ) (o : Option ℕ) → FitOut s
-      → Leaves (and_then (draws w o s) (λ i. send_out h (Shorten n c i) >> (arrive.gift_there (naming word v) u h c i >>= (λ k. arrive.see (naming word v) n k))))
+      → Leaves (and_then (draws w o s) (λ i. send_out h (Shorten n c (under h i)) >> (arrive.gift_there (naming word v) u h c (under h i) >>= (λ k. arrive.see (naming word v) n k))))
   unfolding draws and_then send_out ◌>>◌ ◌>>=◌ arrive.gift_there
   drawn_leaves s u h c n w (Some j) o = tt
-  drawn_leaves s u h c n w None o = let p : Put Name = record { to = h; note = Shorten n c (length s.drawn) } in there_leaves (record s { outbox = s.outbox ++ p ∷ []; drawn = s.drawn ++ w ∷ [] }) u h c _ n (c == u) (put_held far msg M vats v q there here word E abroad s p o)
+  drawn_leaves s u h c n w None o = let p : Put Name = record { to = h; note = Shorten n c (under h (key s.number w)) } in there_leaves (record s { outbox = s.outbox ++ p ∷ []; drawn = s.drawn ++ w ∷ [] }) u h c _ n (c == u) (put_held far msg M vats v q there here word E abroad s p o)
 
   view_leaves : (n : Name) (c : ℕ) (s : Vat Name) → FitOut s → Leaves (arrive.view_there (naming word v) n c s)
   unfolding arrive.view_there ◌>>=◌ and_then look draw
@@ -66,7 +66,7 @@ module _ (far : ℕ) (msg : Msg) (M : Marked) (vats : List (Vat Name)) (v : ℕ)
 
   -- ---- learning
 
-  module _ (us : List (Vat Name)) (d0 : ℕ) where
+  module _ (us : List (Vat Name)) (d0 : List ℕ) where
     -- what was made before, and is marked
     abbrev Was : Bit Name → Type 0
     Was b = IsMade us d0 b × M.mark (bare b)
@@ -135,7 +135,7 @@ module _ (far : ℕ) (msg : Msg) (M : Marked) (vats : List (Vat Name)) (v : ℕ)
     value_fits ns (Items k) f = fits_give (Items k)
     value_fits ns (Ref n) f = record { after = λ s k w c o. ref_leaves n f (world.is_old ns n) s o }
 
-    gift_fits : {ks : List Name} {C : Fact Name} (p h i : ℕ) → M.mark (At h) → i < d0 → Fits ks C (arrive.learn_gift (naming word v) p h i)
+    gift_fits : {ks : List Name} {C : Fact Name} (p h i : ℕ) → M.mark (At h) → WasDrawn d0 i → Fits ks C (arrive.learn_gift (naming word v) p h i)
     gift_fits {C = C} p h i at l = record { after = λ s g w c o. ends_leave IsValue s (arrive.learn_gift (naming word v) p h i s) ((gift_fine p h i).after s (held_sound far msg M vats v q there here word E abroad s g o) ((w.made (Drew i) l, tt, tt, M.draw i), (tt, tt, tt, at))) }
       where
         gift_fine : (p h i : ℕ) → Fine V (Also (IsDraw i) (IsVat h)) (arrive.learn_gift (naming word v) p h i) IsValue
@@ -158,7 +158,7 @@ module _ (far : ℕ) (msg : Msg) (M : Marked) (vats : List (Vat Name)) (v : ℕ)
       all_fit p (More y ys) ks w f = fits_bind IsValue (learn true M vats v q there here word us d0 p y ks w.0) (learn_fits p y ks w.0 f.0) (λ x. fits_bind AreValues (learn_all true M vats v q there here word us d0 p ys (world.read_passed y ks).known w.1) (all_fit p ys (world.read_passed y ks).known w.1 f.1) (λ xs. fits_give (x ∷ xs)))
 
     -- with a draw that was made
-    with_draw : {A : Type 0} (ks : List Name) (i : ℕ) (m : Act Name A) → i < d0 → Fits ks (IsDraw i) m → Fits ks Nothing m
+    with_draw : {A : Type 0} (ks : List Name) (i : ℕ) (m : Act Name A) → WasDrawn d0 i → Fits ks (IsDraw i) m → Fits ks Nothing m
     with_draw ks i m l h = record { after = λ s g k c o. h.after s g k (k.made (Drew i) l, tt, tt, M.draw i) o }
 
     -- with a vat that is marked

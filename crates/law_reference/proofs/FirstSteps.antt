@@ -38,13 +38,13 @@ module _ (script : Script) (g : ℕ) (m : Msg) (v : ℕ) (abroad : g ≡ v → �
     given_leaves (Ejects n y t) l = tt
     given_leaves (Stops c t) l = tt
 
-    module _ (q : Vat Name) (same_promises : q.promises ≡ s.promises) (same_messages : q.messages ≡ s.messages) (same_known : q.known ≡ s.known) (parts : Parts (λ b. IsMade w.vats (length w.drawn) b × IsHad (names_in q.known) q.mails b × IsFar v b × Inside script (bare b)) q.things q.slots q.lists q.queue q.known q.gifts q.outbox) (kept : Kept v q.number q.known q.mails q.promises) where
+    module _ (q : Vat Name) (same_promises : q.promises ≡ s.promises) (same_messages : q.messages ≡ s.messages) (same_known : q.known ≡ s.known) (parts : Parts (λ b. IsMade w.vats w.drawn b × IsHad (names_in q.known) q.mails b × IsFar v b × Inside script (bare b)) q.things q.slots q.lists q.queue q.known q.gifts q.outbox) (kept : Kept v q.number q.known q.mails q.promises) where
       ready_sound : Sound (W g m (inside script) w.vats v s there (low_at script w h v s there) word Was abroad) (readied w q)
       unfolding readied
       ready_sound = held_sound g m (inside script) w.vats v s there (low_at script w h v s there) word Was abroad (readied w q) (sound_ready script v w s q there same_promises same_messages h parts kept) (λ k. inl (rw (ap names_in same_known) at k))
 
       step_first : (C : Fact Name) (a : Act Name (Unit {0})) → Fine (W g m (inside script) w.vats v s there (low_at script w h v s there) word Was abroad) C a nothing → Holds ((W g m (inside script) w.vats v s there (low_at script w h v s there) word Was abroad).ok (readied w q)) C → AfterGives (FirstOut g m s) (a (readied w q))
-      step_first C a f c = given_leaves (a (readied w q)) (ends_leave g m (inside script) w.vats v s there (low_at script w h v s there) word Was abroad w.vats (length w.drawn) nothing (readied w q) (a (readied w q)) (f.after (readied w q) ready_sound c))
+      step_first C a f c = given_leaves (a (readied w q)) (ends_leave g m (inside script) w.vats v s there (low_at script w h v s there) word Was abroad w.vats w.drawn nothing (readied w q) (a (readied w q)) (f.after (readied w q) ready_sound c))
 
     pub turn_first : (n : Message Name) (ms : List (Message Name)) → s.queue ≡ n ∷ ms → AfterGives (FirstOut g m s) (taking (names script v) (world.tree_at script.vats v) script.depth n (readied w (record s { queue = ms })))
     unfolding names
@@ -75,4 +75,4 @@ module _ (script : Script) (g : ℕ) (m : Msg) (v : ℕ) (abroad : g ≡ v → �
     unfolding names names_of readied
     note_first from n k f = let r = h.vats v s there in
         given_leaves (arrive (naming word v) from (read_note (names_in s.known) n) (readied w s))
-        ((note_fits g m (inside script) w.vats v s there (low_at script w h v s there) word Was abroad w.vats (length w.drawn) from (names_in s.known) n k f).after (readied w s) (sound_ready script v w s s there refl refl h r.parts r.kept) (knows_ready script v w s s there refl refl h r.parts r.kept) tt (λ a. inl a))
+        ((note_fits g m (inside script) w.vats v s there (low_at script w h v s there) word Was abroad w.vats w.drawn from (names_in s.known) n k f).after (readied w s) (sound_ready script v w s s there refl refl h r.parts r.kept) (knows_ready script v w s s there refl refl h r.parts r.kept) tt (λ a. inl a))

@@ -43,7 +43,7 @@ module _ (script : Script) (m : Msg) (v : ℕ) (mine : m.sender ≡ v) where
     given_fresh q (Ejects n y t) e = tt
     given_fresh q (Stops c t) e = tt
 
-    module _ (q : Vat Name) (same_promises : q.promises ≡ s.promises) (same_messages : q.messages ≡ s.messages) (same_known : q.known ≡ s.known) (weighed : Weighed v (readied w q)) (parts : Parts (λ b. IsMade w.vats (length w.drawn) b × IsHad (names_in q.known) q.mails b × IsFar v b × Inside script (bare b)) q.things q.slots q.lists q.queue q.known q.gifts q.outbox) (kept : Kept v q.number q.known q.mails q.promises) where
+    module _ (q : Vat Name) (same_promises : q.promises ≡ s.promises) (same_messages : q.messages ≡ s.messages) (same_known : q.known ≡ s.known) (weighed : Weighed v (readied w q)) (parts : Parts (λ b. IsMade w.vats w.drawn b × IsHad (names_in q.known) q.mails b × IsFar v b × Inside script (bare b)) q.things q.slots q.lists q.queue q.known q.gifts q.outbox) (kept : Kept v q.number q.known q.mails q.promises) where
       ready_sound : Sound (Z v m mine (inside script) w.vats s there (low_at script w h v s there) word) (readied w q)
       unfolding readied load put_weight
       ready_sound = let t = sound_ready script v w s q there same_promises same_messages h parts kept in

@@ -1,9 +1,10 @@
 -- The notes of a run bring what is new, where the gifts of each note that arrives stand apart.
-use Rattle.std.proofs.Common.{◌≡◌, ℕ, zero, suc, ◌+◌, ◌≤◌, ◌<◌, Bool, true, false, List, [], ◌∷◌, ◌++◌, Some, refl, sym, ap, ◌∙◌, inl, inr, subst, arith, length}
-use Rattle.std.specs.Prelude.{slice_get, nat_le}
-use Rattle.std.proofs.lemmas.Bool.{eqb-true, le-leb}
-use Rattle.def_machine.specs.Values.{Name, Root, Object, Promise, Answer, Gift, Sent, same_name}
-use Rattle.def_machine.specs.State.{Known, Note, Vat}
+use Rattle.std.proofs.Common.{◌≡◌, ℕ, zero, suc, ◌+◌, ◌≤◌, Bool, true, false, List, [], ◌∷◌, ◌++◌, Some, refl, sym, ap, ◌∙◌, inl, inr, subst, arith, length}
+use Rattle.std.specs.Prelude.{slice_get}
+use Rattle.std.proofs.lemmas.Bool.{eqb-true}
+use Rattle.def_machine.specs.Values.{Name, Root, Object, Promise, Answer, Gift, Sent, same_name, word_of}
+use Rattle.def_machine.specs.State.{Known, Note, Vat, is_in}
+use Rattle.law_reference.proofs.Puts.{among_in}
 use Rattle.def_run.specs.World as world
 use Rattle.def_run.specs.World.{Script, Entry, Turn, Carry, CutLink, NoticeLink, World, Run, Goes as Going, Stopped, read_note, names_of}
 use Rattle.law_fate.specs.Lasting.{Each, KnownWell}
@@ -117,17 +118,14 @@ module _ (script : Script) where
 
   module _ (known : KnowsOnce script) (w0 : World) (k0 : ℕ) (opened : world.open_from script zero script.vats (world.begins script) ≡ Going w0) where
     -- a gift is claimed no more often than it may be
-    claims_fit : (front : List Entry) (w : World) → NotesBringNew script front k0 w0 → world.steps_from script front k0 w0 ≡ Going w → (v : ℕ) (s : Vat Name) → slice_get w.vats v ≡ Some s → (h i : ℕ) → claims v (Gift h i) s.known ≤ allowed v (Gift h i) s (length w.drawn)
-    claims_fit front w b st v s e h i = let d : ℕ = length w.drawn in let is = allowed_is v h i d s in
+    claims_fit : (front : List Entry) (w : World) → NotesBringNew script front k0 w0 → world.steps_from script front k0 w0 ≡ Going w → (v : ℕ) (s : Vat Name) → slice_get w.vats v ≡ Some s → (h i : ℕ) → claims v (Gift h i) s.known ≤ allowed v (Gift h i) s w.drawn
+    claims_fit front w b st v s e h i = let d : List ℕ = w.drawn in let is = allowed_is v h i d s in
         let differ : NamesDiffer w = (names_are_known_once script known).1 w0 w front k0 opened b st in
         let well : WorldWell w = reached_is WorldWell _ w st ((runs_stay_well script).1 w0 front k0 opened) in
         let made = (names_made script known).1 w0 w front k0 opened st v s e in
         let most = claimed_once h i v s.known (well.vats v s e) (λ m n p q. eqb-true m n (sym (differ v s e m n (Gift h i) (Gift h i) p q) ∙ same_self (Gift h i))) in
-        by (claims v (Gift h i) s.known) (allowed v (Gift h i) s d) most (λ l. is ∙ full_is (nat_le (suc i) d) (le-leb (suc i) d (low i d (name_had (IsMade w.vats d) s.known (Gift h i) made.known (claimed_known h i v s.known (well.vats v s e) l)))))
+        by (claims v (Gift h i) s.known) (allowed v (Gift h i) s d) most (λ l. is ∙ full_is (is_in (word_of i) d) (among_in (word_of i) d (name_had (IsMade w.vats d) s.known (Gift h i) made.known (claimed_known h i v s.known (well.vats v s e) l))))
       where
-        low : (i d : ℕ) → i < d → suc i ≤ d
-        low i d l = omega arith
-
         by : (c a : ℕ) → c ≤ 1 → (1 ≤ c → a ≡ 1) → c ≤ a
         by zero a l f = omega arith
         by (suc c) a l f = let e = f (omega arith) in omega arith
@@ -138,10 +136,10 @@ module _ (script : Script) where
     entry_news front w b st (NoticeLink v u) a = tt
     entry_news front w b st (Carry from to) a = λ l n ns s i j q. news l n ns s i j q
       where
-        others : (l : world.Link) (n : Note Name) (ns : List (Note Name)) (s : Vat Name) → world.link_at from to w.links ≡ Some l → l.notes ≡ n ∷ ns → slice_get w.vats to ≡ Some s → (x : Name) → IsNoGift x → claims to x s.known + brings_here to x from s.gifts (read_note (names_of s) n) ≤ allowed to x s (length w.drawn)
+        others : (l : world.Link) (n : Note Name) (ns : List (Note Name)) (s : Vat Name) → world.link_at from to w.links ≡ Some l → l.notes ≡ n ∷ ns → slice_get w.vats to ≡ Some s → (x : Name) → IsNoGift x → claims to x s.known + brings_here to x from s.gifts (read_note (names_of s) n) ≤ allowed to x s w.drawn
         others l n ns s i j q x o = (notes_bring_new_but_gifts script known).1 w0 w front k0 opened st from to l n ns s i j q x o
 
-        news : (l : world.Link) (n : Note Name) (ns : List (Note Name)) (s : Vat Name) → world.link_at from to w.links ≡ Some l → l.notes ≡ n ∷ ns → slice_get w.vats to ≡ Some s → (x : Name) → claims to x s.known + brings_here to x from s.gifts (read_note (names_of s) n) ≤ allowed to x s (length w.drawn)
+        news : (l : world.Link) (n : Note Name) (ns : List (Note Name)) (s : Vat Name) → world.link_at from to w.links ≡ Some l → l.notes ≡ n ∷ ns → slice_get w.vats to ≡ Some s → (x : Name) → claims to x s.known + brings_here to x from s.gifts (read_note (names_of s) n) ≤ allowed to x s w.drawn
         news l n ns s i j q (Gift h g) = (gifts_come_new script known).1 w0 w front k0 opened st from to l n ns s i j q (a l n ns s i j q) h g (claims_fit front w b st to s q h g)
         news l n ns s i j q (Root u) = others l n ns s i j q (Root u) tt
         news l n ns s i j q (Object u m) = others l n ns s i j q (Object u m) tt

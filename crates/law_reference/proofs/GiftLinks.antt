@@ -86,7 +86,7 @@ ends_are : (l : Link) (v w : ℕ) → world.is_link v w l ≡ true → (l.from �
 unfolding world.is_link
 ends_are l v w e = ends_at (l.from == v) (l.to == w) l v w refl refl e
 
-module _ (P : ℕ → ℕ) (d : ℕ) where
+module _ (P : ℕ → ℕ) (d : List ℕ) where
   abbrev pub LinkTells : Link → Type 0
   LinkTells l = LinkProvides P d l
 

@@ -1,7 +1,7 @@
 -- A vat that has no gift of a draw in hand, and knows none but its own, goes on so: a care for names, and what arrives.
-use Rattle.std.proofs.Common.{◌≡◌, ℕ, suc, ◌<◌, Bool, true, false, List, [], ◌∷◌, ◌++◌, Option, Some, None, if◌then◌else◌, codes, refl, ◌⊎◌, inl, inr, length, ◌==◌, arith}
-use Rattle.def_machine.specs.Values.{Prim, Broken, Ref, Name, Root, Object, Promise, Answer, Gift, Sent, Spot, Own, Foreign, NoObject, Naming, naming, name_of, mail_of, answer_of, spot_of, host_of, IsGift, IsLearnt}
-use Rattle.def_machine.specs.State.{See, Views, Note, Ask, Elsewhere, Shorten, Put, GiftEntry, Vat, Done, Gives, Throws, Ejects, Stops, Act, ◌>>=◌, ◌>>◌, and_then, give, look, tell, come, mail, draw, draws, alter, send_out, new_gift, is_in, begun}
+use Rattle.std.proofs.Common.{◌≡◌, ℕ, zero, Bool, true, false, List, [], ◌∷◌, ◌++◌, Option, Some, None, if◌then◌else◌, codes, refl, sym, ap, ◌∙◌, ◌⊎◌, inl, inr, length, ◌==◌, arith}
+use Rattle.def_machine.specs.Values.{Prim, Broken, Ref, Name, Root, Object, Promise, Answer, Gift, Sent, Spot, Own, Foreign, NoObject, Naming, naming, name_of, mail_of, answer_of, spot_of, host_of, IsGift, IsLearnt, key, word_of, under}
+use Rattle.def_machine.specs.State.{See, Views, Note, Ask, Elsewhere, Shorten, Put, GiftEntry, Vat, Done, Gives, Throws, Ejects, Stops, Act, ◌>>=◌, ◌>>◌, and_then, give, look, tell, come, mail, draw, draws, drawn_at, alter, send_out, new_gift, is_in, begun}
 use Rattle.def_machine.specs.Refs as refs
 use Rattle.def_machine.specs.Refs.{Place, Mine, Away, host_at}
 use Rattle.def_machine.specs.Arrive as arrive
@@ -12,19 +12,15 @@ use Rattle.law_name.proofs.Facts.{PlaceOk, Fact, Nothing, Also, IsName, IsMail, 
 use Rattle.law_name.proofs.Care.{Care, Under, Giving, Makes, Sound, Ends, Gets, Fine, fine_bind, fine_less, fine_then, fine_more, fine_give, fine_look, fine_tell, fine_out, fine_wait, come_gift, changes_ok, with_known}
 use Rattle.law_name.proofs.CareRefs.{fine_settle}
 use Rattle.law_name.proofs.CareArrive.{Gifts, gifts_by, fine_ask_for, fine_gift_there}
-use Rattle.law_name.proofs.Among.{length_end}
+use Rattle.law_machine.proofs.KeyLaws.{word_under_key}
+use Rattle.law_name.specs.Names.{WasDrawn}
+use Rattle.law_name.proofs.Among.{among_more, key_not_drawn}
 use Rattle.law_name.proofs.SameNames.{reference_is}
 use Rattle.law_reference.specs.GiftPassing.{gifts_in_note}
 use Rattle.law_reference.proofs.Puts.{gifts_out, out_end}
 use Rattle.law_reference.proofs.Gentle.{AfterGives}
 use Rattle.law_reference.specs.Hiding.{IsNotOf, IsOfNoOther, Shuns}
 use Rattle.law_reference.proofs.Arrivals.{NoteTells, Brings, IsNews, note_read}
-
-less_not : (i j : ℕ) → i < j → j ≡ i → ⊥
-less_not i j h e = omega arith
-
-still_less : (i d e : ℕ) → i < d → e ≡ suc d → i < e
-still_less i d e h k = omega arith
 
 module _ (i : ℕ) where
   pub not_other : (v : ℕ) (n : Name) → IsNotOf i n → IsOfNoOther i v n
@@ -49,7 +45,7 @@ module _ (i : ℕ) where
     abbrev pub Hides : Care Name
     Hides = record {
       ok = λ s b. Shuns i v b;
-      more = λ s. (s.number ≡ v) × (O → i < length s.drawn);
+      more = λ s. (s.number ≡ v) × (O → WasDrawn s.drawn i);
       rel = λ s t. Unit {0};
       same = λ s. tt;
       trans = λ s t u h k. tt;
@@ -94,7 +90,7 @@ module _ (i : ℕ) where
         outbox = λ s p h. (tt, λ k. k);
         opened = λ s p j. (tt, λ h. h);
         noticed = λ s w. (tt, λ h. h);
-        drawn = λ s w. (tt, λ h. (h.0, λ o. still_less i (length s.drawn) (length (s.drawn ++ w ∷ [])) (h.1 o) (length_end s.drawn w)), tt);
+        drawn = λ s w. (tt, λ h. (h.0, λ o. among_more (word_of i) s.drawn w (h.1 o)), tt);
         altered = λ s c n none h. (tt, λ k. k);
         answered = λ s h m o at. (tt, λ k. k, answer_not h m o);
       }
@@ -114,16 +110,20 @@ module _ (i : ℕ) where
       pub hides_gifts : Gifts K Hides
       hides_gifts = gifts_by K Hides hides_under hides_gives
 
-      -- ---- views, of a draw that is made later
+      -- ---- views, under a word that is drawn later
 
-      draws_other : (s : Vat Name) (w : ℕ) (o : Option ℕ) → O → Sound Hides s → Ends Hides IsGiven s (draws w o s)
+      -- a key of a word that was not drawn is another
+      other_key : (s : Vat Name) (w : ℕ) → drawn_at zero w s.drawn ≡ None → WasDrawn s.drawn i → (j : ℕ) → word_of j ≡ w → j ≡ i → ⊥
+      other_key s w new d j e f = key_not_drawn s.drawn w i new (ap word_of (sym f) ∙ e) d
+
+      draws_other : (s : Vat Name) (w : ℕ) (o : Option ℕ) → drawn_at zero w s.drawn ≡ o → (h : ℕ) → O → Sound Hides s → Ends Hides (λ j. IsGiven (under h j)) s (draws w o s)
       unfolding draws
-      draws_other s w (Some k) o h = tt
-      draws_other s w None o h = let p = h.parts in let m = h.more in (tt, record { parts = record { things = p.things; slots = p.slots; lists = p.lists; queue = p.queue; known = p.known; gifts = p.gifts; outbox = p.outbox }; more = (m.0, λ o. still_less i (length s.drawn) (length (s.drawn ++ w ∷ [])) (m.1 o) (length_end s.drawn w)) }, less_not i (length s.drawn) (m.1 o))
+      draws_other s w (Some k) e a o h = tt
+      draws_other s w None e a o h = let p = h.parts in let m = h.more in (tt, record { parts = record { things = p.things; slots = p.slots; lists = p.lists; queue = p.queue; known = p.known; gifts = p.gifts; outbox = p.outbox }; more = (m.0, λ o. among_more (word_of i) s.drawn w (m.1 o)) }, other_key s w e (m.1 o) (under a (key s.number w)) (word_under_key a s.number w))
 
-      draw_other : {C : Fact Name} → O → Fine Hides C (draw K) IsGiven
+      draw_other : {C : Fact Name} → (h : ℕ) → O → Fine Hides C (draw K) (λ j. IsGiven (under h j))
       unfolding draw
-      draw_other o = record { after = λ s h c. draws_other s _ _ o h }
+      draw_other a o = record { after = λ s h c. draws_other s _ _ refl a o h }
 
       see_hides : {C : Fact Name} (n g : Name) → Gets Hides C (IsName g) → Fine Hides C (alter K (See g) n) nothing
       unfolding alter
@@ -135,8 +135,8 @@ module _ (i : ℕ) where
 
       view_hides : {C : Fact Name} → O → (n : Name) → Gets Hides C (IsName n) → (c : ℕ) → Gets Hides C (IsVat c) → Fine Hides C (arrive.view_there K n c) nothing
       unfolding arrive.view_there
-      view_hides o n g c k = fine_less Hides nothing (fine_look Hides _) (λ u. fine_less Hides nothing (fine_look Hides _) (λ h. fine_bind Hides IsGiven (draw_other o) (λ j. fine_then Hides nothing (fine_out K Hides hides_under h (Shorten n c j) (record { at = λ s d. (g.at s d.0, tt) }) (record { at = λ s d. tt }))
-          (fine_bind Hides IsName (fine_gift_there K Hides hides_under hides_gives u h c j (record { at = λ s d. tt }) (record { at = λ s d. d.1 })) (λ x. seen_hides n x (record { at = λ s d. g.at s d.0.0 }) (record { at = λ s d. d.1 }))))))
+      view_hides o n g c k = fine_less Hides nothing (fine_look Hides _) (λ u. fine_less Hides nothing (fine_look Hides _) (λ h. fine_bind Hides (λ j. IsGiven (under h j)) (draw_other h o) (λ j. fine_then Hides nothing (fine_out K Hides hides_under h (Shorten n c (under h j)) (record { at = λ s d. (g.at s d.0, tt) }) (record { at = λ s d. tt }))
+          (fine_bind Hides IsName (fine_gift_there K Hides hides_under hides_gives u h c (under h j) (record { at = λ s d. tt }) (record { at = λ s d. d.1 })) (λ x. seen_hides n x (record { at = λ s d. g.at s d.0.0 }) (record { at = λ s d. d.1 }))))))
 
       -- ---- what arrives
 
@@ -199,10 +199,10 @@ module _ (i : ℕ) where
           see_none (record s1 { outbox = s1.outbox ++ p ∷ [] }) n (Gift c j) (put_none s p refl e)
 
       drawn_none : (s : Vat Name) (u h c : ℕ) (n : Name) (w : ℕ) (o : Option ℕ) → gifts_out i s.outbox ≡ 0
-          → AfterGives (λ t. gifts_out i t.outbox ≡ 0) (and_then (draws w o s) (λ j. send_out h (Shorten n c j) >> (arrive.gift_there K u h c j >>= (λ x. arrive.see K n x))))
+          → AfterGives (λ t. gifts_out i t.outbox ≡ 0) (and_then (draws w o s) (λ j. send_out h (Shorten n c (under h j)) >> (arrive.gift_there K u h c (under h j) >>= (λ x. arrive.see K n x))))
       unfolding draws and_then send_out ◌>>◌ ◌>>=◌ arrive.gift_there gifts_in_note
       drawn_none s u h c n w (Some j) e = tt
-      drawn_none s u h c n w None e = let p : Put Name = record { to = h; note = Shorten n c (length s.drawn) } in there_none (record s { outbox = s.outbox ++ p ∷ []; drawn = s.drawn ++ w ∷ [] }) h c _ n (c == u) (put_none s p refl e)
+      drawn_none s u h c n w None e = let p : Put Name = record { to = h; note = Shorten n c (under h (key s.number w)) } in there_none (record s { outbox = s.outbox ++ p ∷ []; drawn = s.drawn ++ w ∷ [] }) h c _ n (c == u) (put_none s p refl e)
 
       view_none : (s : Vat Name) (n : Name) (c : ℕ) → gifts_out i s.outbox ≡ 0 → AfterGives (λ t. gifts_out i t.outbox ≡ 0) (arrive.view_there K n c s)
       unfolding arrive.view_there ◌>>=◌ and_then look draw

@@ -1,9 +1,9 @@
 -- What each move of a world keeps of gifts under way: who is no host of one does not know it, and its host has it not in hand.
-use Rattle.std.proofs.Common.{◌≡◌, ℕ, zero, suc, ◌+◌, ◌≤◌, ◌<◌, Bool, true, false, List, [], ◌∷◌, Option, Some, refl, sym, ◌∙◌, ◌⊎◌, inl, inr, length, ◌==◌, arith, leb-true}
-use Rattle.std.specs.Prelude.{slice_get, nat_le}
-use Rattle.std.proofs.lemmas.Bool.{eq-eqb, le-leb}
-use Rattle.def_machine.specs.Values.{Value, Null, Flag, Number, Letter, Text, Prim, Broken, Items, Ref, Name, Root, Object, Promise, Answer, Gift, Sent, naming}
-use Rattle.def_machine.specs.State.{Message, Passed, Passeds, Plain, AGift, Many, NoMore, More, Note, Deliver, Open, Ask, SettledTo, Elsewhere, Shorten, Put, Vat, Done, Gives}
+use Rattle.std.proofs.Common.{◌≡◌, ℕ, zero, ◌+◌, ◌≤◌, Bool, true, false, List, [], ◌∷◌, Option, Some, refl, sym, ◌∙◌, ◌⊎◌, inl, inr, subst, ◌==◌, arith}
+use Rattle.std.specs.Prelude.{slice_get}
+use Rattle.std.proofs.lemmas.Bool.{eq-eqb}
+use Rattle.def_machine.specs.Values.{Value, Null, Flag, Number, Letter, Text, Prim, Broken, Items, Ref, Name, Root, Object, Promise, Answer, Gift, Sent, naming, word_of}
+use Rattle.def_machine.specs.State.{Message, Passed, Passeds, Plain, AGift, Many, NoMore, More, Note, Deliver, Open, Ask, SettledTo, Elsewhere, Shorten, Put, Vat, Done, Gives, is_in}
 use Rattle.def_machine.specs.Scopes.{any_guard}
 use Rattle.def_machine.specs.Arrive.{arrive}
 use Rattle.law_machine.specs.Steps.{Step, Opens as Starts, Takes, Receives, Notices, does, After}
@@ -11,7 +11,7 @@ use Rattle.def_run.specs.Draws.{draw_word}
 use Rattle.def_run.specs.World as world
 use Rattle.def_run.specs.World.{Script, Program, Link, World, names, names_of, read_note, readied, put_at, push_all, with_link, with_notes, severed_link, link_at}
 use Rattle.law_fate.specs.Fate.{once}
-use Rattle.law_name.specs.Names.{Bit, Named, Mail, Drew, At, Off, Entered, Owns, Gave, AllOf, IsMade, WasMade, NounOk, PassedOk, PassedsOk, NoteOk, ValueOk, Everywhere}
+use Rattle.law_name.specs.Names.{Bit, Named, Mail, Drew, At, Off, Entered, Owns, Gave, AllOf, WasDrawn, IsMade, WasMade, NounOk, PassedOk, PassedsOk, NoteOk, ValueOk, Everywhere}
 use Rattle.law_name.proofs.Facts.{all_map, note_up, Nothing, nothing}
 use Rattle.law_name.proofs.Care.{Fine, parts_up}
 use Rattle.law_name.proofs.Run.{Had, Told, Stands}
@@ -21,7 +21,7 @@ use Rattle.law_reference.proofs.Follow.{put_cases}
 use Rattle.law_reference.proofs.AnswerLinks.{pushed_all}
 use Rattle.law_reference.proofs.Moves.{IsAlone, Does}
 use Rattle.law_reference.specs.GiftPassing.{gifts_in, gifts_in_all, gifts_in_note, gifts_in_notes, gifts_on, drawn_of, Provides}
-use Rattle.law_reference.proofs.Puts.{Fair, gifts_out}
+use Rattle.law_reference.proofs.Puts.{Fair, gifts_out, in_among, among_in}
 use Rattle.law_reference.proofs.ArrivePuts.{fair_notice}
 use Rattle.law_reference.proofs.StepsPuts.{later, fair_taking, fair_opening, arrival_ends}
 use Rattle.law_reference.specs.Hiding.{IsNotOf, Shuns, Spares}
@@ -74,67 +74,47 @@ unfolding once
 drawn_most true = omega arith
 drawn_most false = omega arith
 
-pub under_drawn : (i d : ℕ) → drawn_of i d ≤ 1
+pub under_drawn : (i : ℕ) (d : List ℕ) → drawn_of i d ≤ 1
 unfolding drawn_of
-under_drawn i d = drawn_most (nat_le (suc i) d)
+under_drawn i d = drawn_most (is_in (word_of i) d)
 
-below_or : (i d : ℕ) → (i < d) ⊎ (d ≤ i)
-below_or zero zero = inr (omega arith)
-below_or zero (suc d) = inl (omega arith)
-below_or (suc i) zero = inr (omega arith)
-below_or (suc i) (suc d) = next (below_or i d)
-  where
-    next : (i < d) ⊎ (d ≤ i) → (suc i < suc d) ⊎ (suc d ≤ suc i)
-    next (inl h) = inl (omega arith)
-    next (inr h) = inr (omega arith)
-
-drawn_one : (i d : ℕ) → i < d → drawn_of i d ≡ 1
+-- of a word that was drawn
+pub early : (i : ℕ) (d : List ℕ) → 1 ≤ drawn_of i d → WasDrawn d i
 unfolding drawn_of once
-drawn_one i d l = rw (le-leb (suc i) d (let m : suc i ≤ d = l in m), once) refl
+early i d l = go (is_in (word_of i) d) refl l
+  where
+    go : (b : Bool) → is_in (word_of i) d ≡ b → 1 ≤ once b → WasDrawn d i
+    go true e l = in_among (word_of i) d e
+    go false e l = absurd (omega arith)
 
-none_drawn : (i d : ℕ) → d ≤ i → drawn_of i d ≡ 0
+-- of a word that was not drawn
+pub late : (i : ℕ) (d : List ℕ) → drawn_of i d ≡ 0 → WasDrawn d i → ⊥
 unfolding drawn_of once
-none_drawn i d l = at (nat_le (suc i) d) refl
+late i d e a = none (is_in (word_of i) d) (among_in (word_of i) d a) e
   where
-    at : (b : Bool) → nat_le (suc i) d ≡ b → once (nat_le (suc i) d) ≡ 0
-    at true e = let k = leb-true (suc i) d e in absurd (omega arith)
-    at false e = rw (e, once) refl
-
--- of a draw that was made
-pub early : (i d : ℕ) → 1 ≤ drawn_of i d → i < d
-early i d l = go (below_or i d)
-  where
-    go : (i < d) ⊎ (d ≤ i) → i < d
-    go (inl k) = k
-    go (inr k) = let none = none_drawn i d k in absurd (omega arith)
-
--- of a draw that was not made
-pub late : (i d : ℕ) → drawn_of i d ≡ 0 → d ≤ i
-late i d e = go (below_or i d)
-  where
-    go : (i < d) ⊎ (d ≤ i) → d ≤ i
-    go (inl l) = let k = drawn_one i d l in absurd (omega arith)
-    go (inr l) = l
+    none : (b : Bool) → b ≡ true → once b ≡ 0 → ⊥
+    none true f e = cc
+    none false f e = cc
 
 module _ (i : ℕ) where
   -- of the vats and links of a world
   abbrev pub HiddenAt : List (Vat Name) → List Link → Type 0
   HiddenAt vs ls = ((v : ℕ) (s : Vat Name) → slice_get vs v ≡ Some s → Everywhere (Shuns i v) s) × Notes (NoteOk (Spares i)) ls
 
-  -- ---- a draw that is still to be made
+  -- ---- a word that was not drawn
 
-  less_not : (j d : ℕ) → j < d → d ≤ i → j ≡ i → ⊥
-  less_not j d h l e = omega arith
+  other_key : (j : ℕ) (d : List ℕ) → WasDrawn d j → (WasDrawn d i → ⊥) → j ≡ i → ⊥
+  other_key j d h new e = new (subst (WasDrawn d) e h)
 
-  made_not : (us : List (Vat Name)) (d : ℕ) → d ≤ i → (n : Name) → WasMade us d n → IsNotOf i n
-  made_not us d l (Gift h j) m = less_not j d m l
+  made_not : (us : List (Vat Name)) (d : List ℕ) → (WasDrawn d i → ⊥) → (n : Name) → WasMade us d n → IsNotOf i n
+  made_not us d l (Gift h j) m = other_key j d m l
   made_not us d l (Root w) m = tt
   made_not us d l (Object w j) m = tt
   made_not us d l (Promise w j) m = tt
   made_not us d l (Answer h x) m = tt
   made_not us d l (Sent x) m = tt
 
-  made_shuns : (us : List (Vat Name)) (d : ℕ) → d ≤ i → (v : ℕ) (b : Bit Name) → IsMade us d b → Shuns i v b
+  made_shuns : (us : List (Vat Name)) (d : List ℕ) → (WasDrawn d i → ⊥) → (v : ℕ) (b : Bit Name) → IsMade us d b → Shuns i v b
   made_shuns us d l v (Named n) m = made_not us d l n m
   made_shuns us d l v (Mail n) m = made_message us n m
   made_shuns us d l v (Drew j) m = tt
@@ -142,7 +122,7 @@ module _ (i : ℕ) where
   made_shuns us d l v (Off h) m = tt
   made_shuns us d l v (Entered n) m = not_other i v n (made_not us d l n m)
   made_shuns us d l v (Owns n j) m = (not_other i v n (made_not us d l n m), λ f. made_not us d l n m)
-  made_shuns us d l v (Gave j) m = less_not j d m l
+  made_shuns us d l v (Gave j) m = other_key j d m l
 
   shuns_spares : (v : ℕ) (b : Bit Name) → Shuns i v b → Spares i b
   shuns_spares v (Named n) h = h
@@ -154,10 +134,10 @@ module _ (i : ℕ) where
   shuns_spares v (Owns n j) h = tt
   shuns_spares v (Gave j) h = h
 
-  pub new_hidden : (script : Script) (w : World) → Stands script w → length w.drawn ≤ i → HiddenAt w.vats w.links
+  pub new_hidden : (script : Script) (w : World) → Stands script w → (WasDrawn w.drawn i → ⊥) → HiddenAt w.vats w.links
   new_hidden script w h l = (
-    λ v s e. let k = h.vats v s e in parts_up (Had script w v s) (Shuns i v) (λ b m. made_shuns w.vats (length w.drawn) l v b m.0) s.things s.slots s.lists s.queue s.known s.gifts s.outbox k.parts,
-    all_map (λ j k. all_map (λ n m. note_up (Told script w) (Spares i) (λ b x. shuns_spares zero b (made_shuns w.vats (length w.drawn) l zero b x.0)) n m) j.notes k) w.links h.links,
+    λ v s e. let k = h.vats v s e in parts_up (Had script w v s) (Shuns i v) (λ b m. made_shuns w.vats w.drawn l v b m.0) s.things s.slots s.lists s.queue s.known s.gifts s.outbox k.parts,
+    all_map (λ j k. all_map (λ n m. note_up (Told script w) (Spares i) (λ b x. shuns_spares zero b (made_shuns w.vats w.drawn l zero b x.0)) n m) j.notes k) w.links h.links,
   )
 
   -- ---- one vat goes on
@@ -228,7 +208,7 @@ module _ (i : ℕ) where
     its_roots : (p : Program) → slice_get script.vats v ≡ Some p → Shuns i v (Named (Root v)) × AllOf (NounOk (Shuns i v)) (world.given script.vats p.knows)
     its_roots p e = (tt, given_shuns v script.vats p.knows)
 
-    more_is : (O : Type 0) → (O → i < length w.drawn) → (qs : List (Message Name)) → ((readied w (record s { queue = qs })).number ≡ v) × (O → i < length (readied w (record s { queue = qs })).drawn)
+    more_is : (O : Type 0) → (O → WasDrawn w.drawn i) → (qs : List (Message Name)) → ((readied w (record s { queue = qs })).number ≡ v) × (O → WasDrawn (readied w (record s { queue = qs })).drawn i)
     unfolding readied
     more_is O l qs = (number, l)
 
@@ -236,8 +216,8 @@ module _ (i : ℕ) where
     pub alone_hides : (q t : Vat Name) (what : Step Name Name) → IsAlone what → Does script w v s q t what → Everywhere (Shuns i v) t
     alone_hides q t what o d = let sound = does_sound script w v s (Hides i v ⊥) (hides_under i v ⊥ word) (hides_makes i v ⊥ word) (Shuns i v) parts (λ qs b h. h) (more_is ⊥ (λ x. absurd x)) its_roots q t what o d in sound.parts
 
-    -- of a note, where the draw was made
-    pub note_old : (t : Vat Name) (from : ℕ) (n : Note Name) → i < length w.drawn → NoteOk (Spares i) n → gifts_in_note i n ≡ 0 → Does script w v s s t (Receives from (read_note (names_of s) n)) → Everywhere (Shuns i v) t
+    -- of a note, where the word was drawn
+    pub note_old : (t : Vat Name) (from : ℕ) (n : Note Name) → WasDrawn w.drawn i → NoteOk (Spares i) n → gifts_in_note i n ≡ 0 → Does script w v s s t (Receives from (read_note (names_of s) n)) → Everywhere (Shuns i v) t
     note_old t from n l f e d = let sound = arrives_sound script w v s (Hides i v (Unit {0})) (hides_under i v (Unit {0}) word) (hides_makes i v (Unit {0}) word) (Shuns i v) parts (λ qs b h. h) (more_is (Unit {0}) (λ x. l)) its_roots t from n Nothing
         (note_hides i v (Unit {0}) word from (names_of s) n (note_tells v (Unit {0}) word n f e) (λ x. tt)) tt d in sound.parts
 
@@ -258,7 +238,7 @@ module _ (i : ℕ) where
     unfolding readied gifts_out
     none_put = refl
 
-    -- and where it is still to be made
+    -- and where it was not
     pub note_new : (t : Vat Name) (from : ℕ) (n : Note Name) → 1 ≤ gifts_out i t.outbox → NoteOk (Spares i) n → gifts_in_note i n ≡ 0 → Does script w v s s t (Receives from (read_note (names_of s) n)) → Everywhere (Shuns i v) t
     unfolding does names
     note_new t from (Elsewhere n c) l f e d = goes_parts t l (goes_on t _ (news_goes i v ⊥ word (readied w s) from (names_of s) n c f.0 (ready script w v s (Hides i v ⊥) (hides_under i v ⊥ word) (hides_makes i v ⊥ word) (Shuns i v) parts (λ qs b h. h) (more_is ⊥ (λ x. absurd x)) its_roots s.queue parts.queue) none_put) d.gives)
@@ -268,20 +248,20 @@ module _ (i : ℕ) where
     note_new t from (SettledTo n y) l f e d = none_hides t from (SettledTo n y) (note_hides i v ⊥ word from (names_of s) (SettledTo n y) (note_tells v ⊥ word (SettledTo n y) f e) (λ x. x)) d
     note_new t from (Shorten n c j) l f e d = none_hides t from (Shorten n c j) (note_hides i v ⊥ word from (names_of s) (Shorten n c j) (note_tells v ⊥ word (Shorten n c j) f e) (λ x. x)) d
 
-  -- ---- the gifts that pass in what is put are of draws that are made in the step
+  -- ---- the gifts that pass in what is put are under words that are drawn in the step
 
   module _ (script : Script) (w : World) (v : ℕ) (s : Vat Name) where
-    fair_out : (F : ℕ → ℕ) (q t : Vat Name) (d : Done Name (Unit {0})) → After (Fair v (length w.drawn) F) (readied w q) d → d ≡ Gives tt t → gifts_out i t.outbox + drawn_of i (length w.drawn) ≤ drawn_of i (length t.drawn)
+    fair_out : (F : ℕ → ℕ) (q t : Vat Name) (d : Done Name (Unit {0})) → After (Fair v w.drawn F) (readied w q) d → d ≡ Gives tt t → gifts_out i t.outbox + drawn_of i w.drawn ≤ drawn_of i t.drawn
     unfolding readied gifts_out
-    fair_out F q t d h e = let one : Fair v (length w.drawn) F (readied w q) t = rw e at h in let puts = one.puts in let c = puts.count i in omega arith
+    fair_out F q t d h e = let one : Fair v w.drawn F (readied w q) t = rw e at h in let puts = one.puts in let c = puts.count i in omega arith
 
-    pub alone_out : (q t : Vat Name) (what : Step Name Name) → IsAlone what → Does script w v s q t what → gifts_out i t.outbox + drawn_of i (length w.drawn) ≤ drawn_of i (length t.drawn)
+    pub alone_out : (q t : Vat Name) (what : Step Name Name) → IsAlone what → Does script w v s q t what → gifts_out i t.outbox + drawn_of i w.drawn ≤ drawn_of i t.drawn
     unfolding does names
-    alone_out q t (Starts tree depth root given) o d = fair_out (λ j. v) q t _ ((fair_opening v (length w.drawn) (λ j. v) (λ j l. refl) (draw_word script.key) tree depth root given).after (readied w q)) d.gives
-    alone_out q t (Takes tree depth m) o d = fair_out (λ j. v) q t _ ((fair_taking v (length w.drawn) (λ j. v) (λ j l. refl) (draw_word script.key) tree depth m).after (readied w q)) d.gives
+    alone_out q t (Starts tree depth root given) o d = fair_out (λ j. v) q t _ ((fair_opening v w.drawn (λ j. v) (λ j l. refl) (draw_word script.key) tree depth root given).after (readied w q)) d.gives
+    alone_out q t (Takes tree depth m) o d = fair_out (λ j. v) q t _ ((fair_taking v w.drawn (λ j. v) (λ j l. refl) (draw_word script.key) tree depth m).after (readied w q)) d.gives
     alone_out q t (Receives from n) o d = absurd o
-    alone_out q t (Notices u) o d = fair_out (λ j. v) q t _ ((fair_notice v (length w.drawn) (λ j. v) (λ j l. refl) (draw_word script.key) u).after (readied w q)) d.gives
+    alone_out q t (Notices u) o d = fair_out (λ j. v) q t _ ((fair_notice v w.drawn (λ j. v) (λ j l. refl) (draw_word script.key) u).after (readied w q)) d.gives
 
-    pub note_out : (P : ℕ → ℕ) (t : Vat Name) (from : ℕ) (n : Note Name) → Provides P (length w.drawn) from v n → Does script w v s s t (Receives from (read_note (names_of s) n)) → gifts_out i t.outbox + drawn_of i (length w.drawn) ≤ drawn_of i (length t.drawn)
+    pub note_out : (P : ℕ → ℕ) (t : Vat Name) (from : ℕ) (n : Note Name) → Provides P w.drawn from v n → Does script w v s s t (Receives from (read_note (names_of s) n)) → gifts_out i t.outbox + drawn_of i w.drawn ≤ drawn_of i t.drawn
     unfolding does names
-    note_out P t from n h d = let ends = arrival_ends P (length w.drawn) from v (draw_word script.key) (names_of s) (readied w s) n h in fair_out (later P (length w.drawn) ends.0) s t _ ends.1 d.gives
+    note_out P t from n h d = let ends = arrival_ends P w.drawn from v (draw_word script.key) (names_of s) (readied w s) n h in fair_out (later P w.drawn ends.0) s t _ ends.1 d.gives

@@ -7,7 +7,7 @@ use Rattle.law_machine.specs.Steps.{Step, Receives}
 use Rattle.def_run.specs.World as world
 use Rattle.def_run.specs.World.{Script, Program, Link, World, Entry, Goes as Going, names_of, read_note, put_at, push_all, with_link, with_notes, severed_link, link_at}
 use Rattle.law_fate.specs.Lasting.{Each}
-use Rattle.law_name.specs.Names.{AllOf, IsAmong, NoteOk, names_in}
+use Rattle.law_name.specs.Names.{AllOf, IsAmong, WasDrawn, NoteOk, names_in}
 use Rattle.law_name.specs.Runs.{KnowsOnce}
 use Rattle.law_name.proofs.Facts.{MayBe}
 use Rattle.law_name.proofs.Run.{link_holds, name_had}
@@ -22,15 +22,15 @@ use Rattle.law_reference.proofs.AskRuns.{Past}
 use Rattle.law_reference.proofs.AskHolds.{opened_past, stepped_past}
 use Rattle.law_reference.proofs.HideMoves.{HiddenAt, notes_severed, notes_taken, taken_sum, under_drawn, early, late, new_hidden, hidden_next, alone_hides, note_old, note_new, alone_out, note_out}
 
--- where a gift of a draw is under way it is hidden
+-- where a gift under a key is under way it is hidden
 abbrev pub Hidden : List (Vat Name) → List Link → Type 0
 Hidden vs ls = (i : ℕ) → 1 ≤ gifts_under_way i ls → HiddenAt i vs ls
 
 abbrev pub HiddenIn : World → Type 0
 HiddenIn w = Hidden w.vats w.links
 
--- so many gifts of a draw are under way at most
-few_of : (script : Script) (w : World) → Past script w → (i : ℕ) → gifts_under_way i w.links ≤ drawn_of i (length w.drawn)
+-- so many gifts under a key are under way at most
+few_of : (script : Script) (w : World) → Past script w → (i : ℕ) → gifts_under_way i w.links ≤ drawn_of i w.drawn
 few_of script w past i = let fits = past.2 in let o = fits.1 in o.count i
 
 number_of : (script : Script) (w : World) → Past script w → (v : ℕ) (s : Vat Name) → slice_get w.vats v ≡ Some s → s.number ≡ v
@@ -64,8 +64,8 @@ module _ (vs : List (Vat Name)) (a v : ℕ) (n : Note Name) (ns : List (Note Nam
 module _ (script : Script) where
   -- ---- a step that no note begins
 
-  -- the draw of a gift that is only now put is made in the step
-  new_draw : (i a b x : ℕ) → 1 ≤ x → x + drawn_of i a ≤ drawn_of i b → a ≤ i
+  -- the word of a gift that is only now put is drawn in the step
+  new_draw : (i : ℕ) (a b : List ℕ) (x : ℕ) → 1 ≤ x → x + drawn_of i a ≤ drawn_of i b → WasDrawn a i → ⊥
   new_draw i a b x l h = let most = under_drawn i b in late i a (omega arith)
 
   alone_hidden : (w y : World) (v : ℕ) (s q t : Vat Name) (what : Step Name Name) → Past script w → IsAlone what → Does script w v s q t what → y.vats ≡ put_at v t w.vats → y.links ≡ push_all v t.outbox w.links → HiddenIn w → HiddenIn y
@@ -82,7 +82,7 @@ module _ (script : Script) where
 
           either : (gifts_under_way i w.links ≡ 0) ⊎ (1 ≤ gifts_under_way i w.links) → HiddenAt i w.vats w.links
           either (inr k) = h i k
-          either (inl k) = new_hidden i script w (stands_of script w past.0) (new_draw i (length w.drawn) (length t.drawn) (gifts_out i t.outbox) (put k) (alone_out i script w v s q t what o d))
+          either (inl k) = new_hidden i script w (stands_of script w past.0) (new_draw i w.drawn t.drawn (gifts_out i t.outbox) (put k) (alone_out i script w v s q t what o d))
 
   -- ---- a note that arrives
 
@@ -91,11 +91,11 @@ module _ (script : Script) where
     abbrev Taken : List Link
     Taken = with_link (with_notes ns) a v w.links
 
-    provides : Provides past.2.0 (length w.drawn) a v n
-    provides = let fits = past.2 in let o = fits.1 in head (found_tells fits.0 (length w.drawn) a v l w.links o.links at)
+    provides : Provides past.2.0 w.drawn a v n
+    provides = let fits = past.2 in let o = fits.1 in head (found_tells fits.0 w.drawn a v l w.links o.links at)
       where
-        head : Each (Provides past.2.0 (length w.drawn) a v) l.notes → Provides past.2.0 (length w.drawn) a v n
-        head k = let one : Each (Provides past.2.0 (length w.drawn) a v) (n ∷ ns) = rw notes at k in one.0
+        head : Each (Provides past.2.0 w.drawn a v) l.notes → Provides past.2.0 w.drawn a v n
+        head k = let one : Each (Provides past.2.0 w.drawn a v) (n ∷ ns) = rw notes at k in one.0
 
     number : s.number ≡ v
     number = number_of script w past v s d.there
@@ -104,7 +104,7 @@ module _ (script : Script) where
       sum : gifts_in_note i n + gifts_under_way i Taken ≤ gifts_under_way i w.links
       sum = taken_sum i a v n ns l notes w.links at
 
-      few : gifts_under_way i w.links ≤ drawn_of i (length w.drawn)
+      few : gifts_under_way i w.links ≤ drawn_of i w.drawn
       few = few_of script w past i
 
       -- it was under way before, and passes in another note
@@ -115,23 +115,23 @@ module _ (script : Script) where
           under = let x = sum in omega arith
 
           none : gifts_in_note i n ≡ 0
-          none = let x = sum in let y = few in let z = under_drawn i (length w.drawn) in omega arith
+          none = let x = sum in let y = few in let z = under_drawn i w.drawn in omega arith
 
-          made : i < length w.drawn
-          made = early i (length w.drawn) (let x = under in let y = few in omega arith)
+          made : WasDrawn w.drawn i
+          made = early i w.drawn (let x = under in let y = few in omega arith)
 
       -- it is put in this step
       new_next : 1 ≤ gifts_out i t.outbox → HiddenAt i (put_at v t w.vats) (push_all v t.outbox Taken)
       new_next k = let before = new_hidden i script w (stands_of script w past.0) fresh in hidden_next i w.vats v t Taken (taken_at w.vats a v n ns l w.links at notes i before) (note_new i script w v s number (before.0 v s d.there) t a n k (these w.vats a v n ns l w.links at notes i before).0 none d)
         where
-          out : gifts_out i t.outbox + drawn_of i (length w.drawn) ≤ drawn_of i (length t.drawn)
+          out : gifts_out i t.outbox + drawn_of i w.drawn ≤ drawn_of i t.drawn
           out = note_out i script w v s past.2.0 t a n provides d
 
-          fresh : length w.drawn ≤ i
-          fresh = new_draw i (length w.drawn) (length t.drawn) (gifts_out i t.outbox) k out
+          fresh : WasDrawn w.drawn i → ⊥
+          fresh = new_draw i w.drawn t.drawn (gifts_out i t.outbox) k out
 
           none : gifts_in_note i n ≡ 0
-          none = let x = sum in let y = few in let z = under_drawn i (length t.drawn) in let o = out in omega arith
+          none = let x = sum in let y = few in let z = under_drawn i t.drawn in let o = out in omega arith
 
       next : 1 ≤ gifts_under_way i (push_all v t.outbox Taken) → HiddenAt i (put_at v t w.vats) (push_all v t.outbox Taken)
       next k = either (some_or (gifts_under_way i Taken))

@@ -52,11 +52,11 @@ module _ (script : Script) where
       ((own_taking (draw_word script.key) v (Missed r) (world.tree_at script.vats v) script.depth m (answer_of_own script v s m ms q a.1)).after r)
       ((gentle_taking (names script v) SameNoticed (noticed_gentle (names script v)) (noticed_settles (names script v)) (noticed_free (names script v)) (world.tree_at script.vats v) script.depth m).after r)
 
-  note_spares : (w : World) (from v : ℕ) (s : Vat Name) (n : Note Name) → NoteOk (IsMade w.vats (length w.drawn)) n → NoteSpared s n → Missed s v → InScript script v s → Spared v s
+  note_spares : (w : World) (from v : ℕ) (s : Vat Name) (n : Note Name) → NoteOk (IsMade w.vats w.drawn) n → NoteSpared s n → Missed s v → InScript script v s → Spared v s
       → AfterGives (Spared v) (arrive (names script v) from (read_note (names_of s) n) (readied w s))
   unfolding names names_of readied
   note_spares w from v s n ok free near a h = let r : Vat Name = readied w s in spared_by (draw_word script.key) v r _ near (a.0, a.1, a.2, a.3, tt, λ u e. e) h
-      (own_arrive (draw_word script.key) v (Missed r) from r n (note_missed (draw_word script.key) v r w.vats (length w.drawn) (names_in s.known) n ok free))
+      (own_arrive (draw_word script.key) v (Missed r) from r n (note_missed (draw_word script.key) v r w.vats w.drawn (names_in s.known) n ok free))
       ((same_arrive (names script v) from (world.read_note (world.names_of s) n)).after r)
 
   notice_spares : (w : World) (v to : ℕ) (s : Vat Name) → (v ≡ to → ⊥) → Missed s v → InScript script v s → Spared v s → AfterGives (Spared v) (notice (names script v) to (readied w s))
@@ -96,7 +96,7 @@ module _ (script : Script) where
     rests_keep = record {
       turn = λ w v s m ms g j i q h. both_rest v _ ((its_keep script).turn w v s m ms g tt i q h.0) (turn_spared v s m ms q w (itself w j v s i) h.0.0 h.1);
       note = λ w from v s n g j i ok b o h. both_rest v _ ((its_keep script).note w from v s n g tt i ok b o h.0)
-          (note_spares w from v s n (note_up (Told script w) (IsMade w.vats (length w.drawn)) (λ b k. k.0) n ok) (note_free w j from v s n i o b) (itself w j v s i) h.0.0 h.1);
+          (note_spares w from v s n (note_up (Told script w) (IsMade w.vats w.drawn) (λ b k. k.0) n ok) (note_free w j from v s n i o b) (itself w j v s i) h.0.0 h.1);
       notice = λ w v to s g j i ok h. both_rest v _ ((its_keep script).notice w v to s g tt i tt h.0) (notice_spares w v to s (j.1 v to ok).0 (itself w j v s i) h.0.0 h.1);
       opening = λ w v p s g j t i h. both_rest v _ ((its_keep script).opening w v p s g tt t i h.0) (opening_spares w v p s (itself w j v s i) h.0.0 h.1);
       outs = λ v s h. (its_keep script).outs v s h.0;

@@ -74,7 +74,7 @@ module _ (word : ℕ → ℕ) (v : ℕ) where
       all_missed NoMore h = tt
       all_missed (More y ys) h = (passed_missed y h.0, all_missed ys h.1)
 
-    pub note_missed : (vats : List (Vat Name)) (d : ℕ) (ks : List Name) (n : Note Name) → NoteOk (IsMade vats d) n → NoteSpared s n → NoteFree word v (Missed s) ks n
+    pub note_missed : (vats : List (Vat Name)) (d : List ℕ) (ks : List Name) (n : Note Name) → NoteOk (IsMade vats d) n → NoteSpared s n → NoteFree word v (Missed s) ks n
     note_missed vats d ks (Deliver e n verb ys) k h = (message_named vats e.message k.0, inr h.0, all_missed ys h.1)
     note_missed vats d ks (Open i n) k h = inr h
     note_missed vats d ks (Ask p i n) k h = tt

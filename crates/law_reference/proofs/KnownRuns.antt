@@ -16,12 +16,13 @@ use Rattle.law_name.specs.Runs.{KnowsOnce}
 use Rattle.law_reference.specs.Knowing.{claims, Knowing, brought}
 use Rattle.def_machine.specs.Arrive.{Incoming}
 use Rattle.law_reference.specs.NameTableRuns.{allowed, brings_here, BringsNew, EntryBringsNew, NotesBringNew, NamesDiffer, NamesAreKnownOnce}
-use Rattle.law_reference.proofs.Bounds.{Bounded, bounded_more, step_bounded, stays_longer, allowed_once, claims_once, differ, roots_allowed}
+use Rattle.law_reference.proofs.Puts.{AllStay}
+use Rattle.law_reference.proofs.Bounds.{Bounded, bounded_more, step_bounded, stays_all, allowed_once, claims_once, differ, roots_allowed}
 use Rattle.law_reference.proofs.NameTableSteps.{steps_know_once}
 use Rattle.law_reference.proofs.OwnTargets.{news_after}
 
 abbrev pub AllBounded : World → Type 0
-AllBounded w = (v : ℕ) (s : Vat Name) → slice_get w.vats v ≡ Some s → Bounded (length w.drawn) v s
+AllBounded w = (v : ℕ) (s : Vat Name) → slice_get w.vats v ≡ Some s → Bounded w.drawn v s
 
 put_at_or : (v : ℕ) (y : Vat Name) (xs : List (Vat Name)) (u : ℕ) (t : Vat Name) → slice_get (put_at v y xs) u ≡ Some t → ((u ≡ v) × (y ≡ t)) ⊎ (slice_get xs u ≡ Some t)
 unfolding put_at
@@ -41,18 +42,18 @@ going_is w x e = cc
 moved : (w x : World) → AllBounded w → Going w ≡ Going x → AllBounded x
 moved w x h e = rw (going_is w x e) at h
 
-put_one : (d e v : ℕ) (vats : List (Vat Name)) (t : Vat Name) → d ≤ e → ((u : ℕ) (r : Vat Name) → slice_get vats u ≡ Some r → Bounded d u r) → Bounded e v t → (u : ℕ) (r : Vat Name) → ((u ≡ v) × (t ≡ r)) ⊎ (slice_get vats u ≡ Some r) → Bounded e u r
+put_one : (d e : List ℕ) (v : ℕ) (vats : List (Vat Name)) (t : Vat Name) → AllStay d e → ((u : ℕ) (r : Vat Name) → slice_get vats u ≡ Some r → Bounded d u r) → Bounded e v t → (u : ℕ) (r : Vat Name) → ((u ≡ v) × (t ≡ r)) ⊎ (slice_get vats u ≡ Some r) → Bounded e u r
 put_one d e v vats t l h k u r (inl i) = let one : Bounded e u t = rw (sym i.0) at k in rw i.1 at one
 put_one d e v vats t l h k u r (inr i) = bounded_more d e u r l (h u r i)
 
 -- what a step of vat v makes of the world
 put_back_bounded : (v : ℕ) (w x : World) (head : List Event) (n : ℕ) (q : Vat Name) (came : Name → ℕ) (d : Done Name (Unit {0})) → AllBounded w → q.number ≡ v → q.drawn ≡ w.drawn
-    → ((z : Name) → After (λ s t. Knowing v z (came z) s t) q d) → After SameDraws q d → ((z : Name) → claims v z q.known + came z ≤ allowed v z q (length q.drawn)) → world.put_back v w head n d ≡ Going x → AllBounded x
+    → ((z : Name) → After (λ s t. Knowing v z (came z) s t) q d) → After SameDraws q d → ((z : Name) → claims v z q.known + came z ≤ allowed v z q q.drawn) → world.put_back v w head n d ≡ Going x → AllBounded x
 unfolding world.put_back
 put_back_bounded v w x head n q came (Gives a t) h e same k draws b i =
-    let longer : length q.drawn ≤ length t.drawn = stays_longer q.drawn t.drawn draws in let l : length w.drawn ≤ length t.drawn = rw same at longer in
+    let all : AllStay q.drawn t.drawn = stays_all q.drawn t.drawn draws in let l : AllStay w.drawn t.drawn = rw same at all in
     moved (record { fuel = t.fuel; drawn = t.drawn; vats = put_at v t w.vats; links = world.push_all v t.outbox w.links; connections = world.connections_after v t head w.connections; history = w.history ++ head ++ world.events_of w.links v t.happened }) x
-    (λ u r j. put_one (length w.drawn) (length t.drawn) v w.vats t l h (step_bounded v q t came e k b) u r (put_at_or v t w.vats u r j)) i
+    (λ u r j. put_one w.drawn t.drawn v w.vats t l h (step_bounded v q t came e k b) u r (put_at_or v t w.vats u r j)) i
 put_back_bounded v w x head n q came (Throws p t) h e same k draws b i = cc
 put_back_bounded v w x head n q came (Ejects m y t) h e same k draws b i = cc
 put_back_bounded v w x head n q came (Stops c t) h e same k draws b i = cc
@@ -63,24 +64,24 @@ module _ (script : Script) where
   idle_bounded k w x h e = moved (record w { history = w.history ++ Idle k ∷ [] }) x h e
 
   -- a step of vat v in a state like one of the world
-  does_bounded : (v : ℕ) (w x : World) (head : List Event) (n : ℕ) (s q : Vat Name) (step : Step Name Name) → AllBounded w → Bounded (length w.drawn) v s → q.number ≡ s.number → q.known ≡ s.known → q.promises ≡ s.promises → q.messages ≡ s.messages
-      → ((z : Name) → claims v z s.known + brought v z q.gifts step ≤ allowed v z s (length w.drawn)) → world.put_back v w head n (does (names script v) step (world.readied w q)) ≡ Going x → AllBounded x
+  does_bounded : (v : ℕ) (w x : World) (head : List Event) (n : ℕ) (s q : Vat Name) (step : Step Name Name) → AllBounded w → Bounded w.drawn v s → q.number ≡ s.number → q.known ≡ s.known → q.promises ≡ s.promises → q.messages ≡ s.messages
+      → ((z : Name) → claims v z s.known + brought v z q.gifts step ≤ allowed v z s w.drawn) → world.put_back v w head n (does (names script v) step (world.readied w q)) ≡ Going x → AllBounded x
   unfolding world.readied names allowed
   does_bounded v w x head n s q step h b e f g m c i = put_back_bounded v w x head n (world.readied w q) (λ z. brought v z q.gifts step) _ h (e ∙ b.0) refl
       (λ z. steps_know_once (draw_word script.key) v step (world.readied w q) z) (draws_stays (names script v) step (world.readied w q)) (λ z. rw (f, g, m) (c z)) i
 
   -- a note that arrives
-  receives_bounded : (v from : ℕ) (w x : World) (head : List Event) (n : ℕ) (s : Vat Name) (m : Note (Incoming Name Name)) → AllBounded w → Bounded (length w.drawn) v s
-      → ((z : Name) → claims v z s.known + brings_here v z from s.gifts m ≤ allowed v z s (length w.drawn)) → world.put_back v w head n (arrive (names script v) from m (world.readied w s)) ≡ Going x → AllBounded x
+  receives_bounded : (v from : ℕ) (w x : World) (head : List Event) (n : ℕ) (s : Vat Name) (m : Note (Incoming Name Name)) → AllBounded w → Bounded w.drawn v s
+      → ((z : Name) → claims v z s.known + brings_here v z from s.gifts m ≤ allowed v z s w.drawn) → world.put_back v w head n (arrive (names script v) from m (world.readied w s)) ≡ Going x → AllBounded x
   unfolding world.readied names allowed does
   receives_bounded v from w x head n s m h b c i = put_back_bounded v w x head n (world.readied w s) (λ z. brings_here v z from s.gifts m) _ h b.0 refl
       (λ z. news_after v (draw_word script.key) z from m (world.readied w s) b.0 c) (draws_stays (names script v) (Receives from m) (world.readied w s)) c i
 
   -- where nothing is brought
-  alone : (v : ℕ) (w : World) (s : Vat Name) → Bounded (length w.drawn) v s → (z : Name) → claims v z s.known + 0 ≤ allowed v z s (length w.drawn)
+  alone : (v : ℕ) (w : World) (s : Vat Name) → Bounded w.drawn v s → (z : Name) → claims v z s.known + 0 ≤ allowed v z s w.drawn
   alone v w s b z = let a = b.1 z in omega arith
 
-  turn_queue_bounded : (k v : ℕ) (w x : World) (s : Vat Name) (ms : List (Message Name)) → AllBounded w → Bounded (length w.drawn) v s → world.turn_queue script k v w s ms ≡ Going x → AllBounded x
+  turn_queue_bounded : (k v : ℕ) (w x : World) (s : Vat Name) (ms : List (Message Name)) → AllBounded w → Bounded w.drawn v s → world.turn_queue script k v w s ms ≡ Going x → AllBounded x
   unfolding world.turn_queue world.within does brought
   turn_queue_bounded k v w x s [] h b e = idle_bounded k w x h e
   turn_queue_bounded k v w x s (m ∷ ms) h b e = does_bounded v w x _ _ s (record s { queue = ms }) (Takes (world.tree_at script.vats v) script.depth m) h b refl refl refl refl (alone v w s b) e
@@ -162,19 +163,19 @@ module _ (script : Script) where
   fresh_at v (p ∷ ps) zero s e = (p, v, refl, (omega arith), some_is (world.fresh script v p) s e)
   fresh_at v (p ∷ ps) (suc n) s e = let r = fresh_at (suc v) ps n s e in let f = r.3 in (r.0, r.1, r.2, (omega arith), r.4)
 
-  fresh_bounded : (v : ℕ) (p : Program) → Once (v ∷ p.knows) → Bounded zero v (world.fresh script v p)
+  fresh_bounded : (v : ℕ) (p : Program) → Once (v ∷ p.knows) → Bounded [] v (world.fresh script v p)
   unfolding world.fresh world.known_root begun claims
-  fresh_bounded v p once = (refl, λ x. roots_allowed v (v ∷ p.knows) (world.fresh script v p) zero once x)
+  fresh_bounded v p once = (refl, λ x. roots_allowed v (v ∷ p.knows) (world.fresh script v p) [] once x)
 
   begins_bounded : KnowsOnce script → AllBounded (world.begins script)
   unfolding world.begins
   begins_bounded once v s e = at (fresh_at zero script.vats v s e)
     where
-      at : (p : Program) × (u : ℕ) × (slice_get script.vats v ≡ Some p) × (u ≡ zero + v) × (world.fresh script u p ≡ s) → Bounded zero v s
+      at : (p : Program) × (u : ℕ) × (slice_get script.vats v ≡ Some p) × (u ≡ zero + v) × (world.fresh script u p ≡ s) → Bounded [] v s
       at r = let f : r.1 ≡ v = let g = r.3 in omega arith in let same : world.fresh script v r.0 ≡ s = ap (λ u. world.fresh script u r.0) (sym f) ∙ r.4 in rw same at (fresh_bounded v r.0 (once v r.0 r.2))
 
   all_differ : (w : World) → AllBounded w → NamesDiffer w
-  all_differ w h v s e = differ (names_in s.known) (claims_once v s.known (λ x. let a = (h v s e).1 x in let b = allowed_once v x s (length w.drawn) in omega arith))
+  all_differ w h v s e = differ (names_in s.known) (claims_once v s.known (λ x. let a = (h v s e).1 x in let b = allowed_once v x s w.drawn in omega arith))
 
 pub names_are_known_once : NamesAreKnownOnce
 names_are_known_once script once = (

@@ -213,7 +213,7 @@ module _ (script : Script) (w : World) (from to : ℕ) (l : Link) (n : Note Name
 
   -- a promise that was not made is in no note
   unmade_never : (i : ℕ) → s.promises ≤ i → (b : Bit Name) → Told script w b → NeverNew (Promise to i) b
-  unmade_never i l (Named x) h = avoids_never (Promise to i) (Named x) (λ e. let made : WasMade w.vats (length w.drawn) (Promise to i) = rw e at h.0 in let p = promises_at w.vats to s there in let low : i < promises_of w.vats to = made in omega arith)
+  unmade_never i l (Named x) h = avoids_never (Promise to i) (Named x) (λ e. let made : WasMade w.vats w.drawn (Promise to i) = rw e at h.0 in let p = promises_at w.vats to s there in let low : i < promises_of w.vats to = made in omega arith)
   unmade_never i l (Mail x) h = tt
   unmade_never i l (Drew j) h = tt
   unmade_never i l (At u) h = tt
@@ -250,7 +250,7 @@ module _ (script : Script) (w : World) (from to : ℕ) (l : Link) (n : Note Name
   promise_either u i true e = let same : to ≡ u = eqb-true to u e in let h = subst (λ z. claims to (Promise z i) s.known + Brings (Promise z i) ≤ once (nat_le (suc i) s.promises)) same (own_promise i (nat_le (suc i) s.promises) refl) in omega arith
   promise_either u i false e = let h = plain_once (Promise u i) tt tt in omega arith
 
-  pub brings_neither : (x : Name) → IsNeither x → claims to x s.known + Brings x ≤ allowed to x s (length w.drawn)
+  pub brings_neither : (x : Name) → IsNeither x → claims to x s.known + Brings x ≤ allowed to x s w.drawn
   unfolding allowed other numbered
   brings_neither (Root u) k = let h = plain_once (Root u) tt tt in omega arith
   brings_neither (Object u i) k = let none = none_at (Object u i) tt (λ a. eventual (Object u i) a) (note_up (Told script w) (NeverNew (Object u i)) (object_never u i) n told) in omega arith
@@ -260,7 +260,7 @@ module _ (script : Script) (w : World) (from to : ℕ) (l : Link) (n : Note Name
   brings_neither (Sent m) k = let none = none_at (Sent m) tt (λ a. eventual (Sent m) a) (note_up (Told script w) (NeverNew (Sent m)) sent_never n told) in omega arith
     where
       sent_never : (b : Bit Name) → Told script w b → NeverNew (Sent m) b
-      sent_never (Named x) h = avoids_never (Sent m) (Named x) (λ e. let made : WasMade w.vats (length w.drawn) (Sent m) = rw e at h.0 in made)
+      sent_never (Named x) h = avoids_never (Sent m) (Named x) (λ e. let made : WasMade w.vats w.drawn (Sent m) = rw e at h.0 in made)
       sent_never (Mail x) h = tt
       sent_never (Drew j) h = tt
       sent_never (At u) h = tt

@@ -1,9 +1,8 @@
 -- In every world of a run the first note on a link brings each gift once at most and none that is claimed, where its gifts stand apart.
-use Rattle.std.proofs.Common.{◌≡◌, ℕ, zero, suc, ◌+◌, ◌≤◌, ◌<◌, Bool, true, false, List, [], ◌∷◌, Option, Some, None, refl, sym, ap, ◌∙◌, inl, inr, subst, arith, length}
-use Rattle.std.specs.Prelude.{slice_get, nat_le}
-use Rattle.std.proofs.lemmas.Bool.{le-leb}
-use Rattle.def_machine.specs.Values.{Name, Root, Object, Promise, Answer, Gift, Sent, Msg, same_name, host_of, answer_of}
-use Rattle.def_machine.specs.State.{Passed, Passeds, Delivery, Note, Deliver, Open, Ask, SettledTo, Elsewhere, Shorten, GiftEntry, Vat}
+use Rattle.std.proofs.Common.{◌≡◌, ℕ, zero, suc, ◌+◌, ◌≤◌, Bool, true, false, List, [], ◌∷◌, Option, Some, None, refl, sym, ap, ◌∙◌, inl, inr, subst, arith, length}
+use Rattle.std.specs.Prelude.{slice_get}
+use Rattle.def_machine.specs.Values.{Name, Root, Object, Promise, Answer, Gift, Sent, Msg, same_name, host_of, answer_of, word_of}
+use Rattle.def_machine.specs.State.{Passed, Passeds, Delivery, Note, Deliver, Open, Ask, SettledTo, Elsewhere, Shorten, GiftEntry, Vat, is_in}
 use Rattle.def_machine.specs.Arrive.{New, gift_at}
 use Rattle.def_run.specs.World as world
 use Rattle.def_run.specs.World.{Link, World, link_at, has_name, read_name, known_after, read_passed, read_all, read_note, names_of}
@@ -11,7 +10,8 @@ use Rattle.law_fate.specs.Fate as fate
 use Rattle.law_fate.specs.Lasting.{Each, KnownWell}
 use Rattle.law_fate.specs.Wellness.{WorldWell}
 use Rattle.law_fate.proofs.RunWell.{runs_stay_well}
-use Rattle.law_name.specs.Names.{Named, AllOf, IsAmong, IsMade, IsMessageMade, NoteOk, names_in}
+use Rattle.law_reference.proofs.Puts.{among_in}
+use Rattle.law_name.specs.Names.{Named, AllOf, IsAmong, WasDrawn, IsMade, IsMessageMade, NoteOk, names_in}
 use Rattle.law_name.proofs.Facts.{MayBe}
 use Rattle.law_name.proofs.Run.{link_holds}
 use Rattle.law_name.proofs.SameNames.{same_is, same_self}
@@ -75,9 +75,9 @@ unfolding fate.once
 drawn_most true = omega arith
 drawn_most false = omega arith
 
-under_drawn : (i d : ℕ) → drawn_of i d ≤ 1
+under_drawn : (i : ℕ) (d : List ℕ) → drawn_of i d ≤ 1
 unfolding drawn_of
-under_drawn i d = drawn_most (nat_le (suc i) d)
+under_drawn i d = drawn_most (is_in (word_of i) d)
 
 -- the gifts on a link are among those under way
 found_or : (i : ℕ) (b : Bool) (l k : Link) (o : Option Link) (ls : List Link) → (o ≡ Some k → gifts_in_notes i k.notes ≤ gifts_on (λ j. j.notes) i ls) → elim b [ true ↦ Some l | false ↦ o ] ≡ Some k → gifts_in_notes i k.notes ≤ gifts_on (λ j. j.notes) i (l ∷ ls)
@@ -94,7 +94,7 @@ first_gifts : (i : ℕ) (n : Note Name) (ns ms : List (Note Name)) → ms ≡ n 
 unfolding gifts_in_notes
 first_gifts i n ns ms e = rw (e, gifts_in_notes) (omega arith)
 
-module _ (vats : List (Vat Name)) (d : ℕ) (P : ℕ → ℕ) (from to : ℕ) (s : Vat Name) (well : Each KnownWell s.known) (provided : Each (IsProvided P d) s.gifts) (h i : ℕ) (few : claims to (Gift h i) s.known ≤ 1) where
+module _ (vats : List (Vat Name)) (d : List ℕ) (P : ℕ → ℕ) (from to : ℕ) (s : Vat Name) (well : Each KnownWell s.known) (provided : Each (IsProvided P d) s.gifts) (h i : ℕ) (few : claims to (Gift h i) s.known ≤ 1) where
   abbrev C : ℕ
   C = claims to (Gift h i) s.known
 
@@ -105,7 +105,7 @@ module _ (vats : List (Vat Name)) (d : ℕ) (P : ℕ → ℕ) (from to : ℕ) (s
   Brings n = brings_here to (Gift h i) from s.gifts (read_note (names_of s) n)
 
   abbrev Fine : ℕ → Type 0
-  Fine b = (b + C ≤ 1) × (1 ≤ b → i < d)
+  Fine b = (b + C ≤ 1) × (1 ≤ b → WasDrawn d i)
 
   abbrev Mades : Note Name → Type 0
   Mades n = NoteOk (IsMade vats d) n
@@ -124,7 +124,7 @@ module _ (vats : List (Vat Name)) (d : ℕ) (P : ℕ → ℕ) (from to : ℕ) (s
   name_alone : (nn : Name) → new_name (Gift h i) (read_name Ks nn) + C ≤ 1
   name_alone nn = core (new_name (Gift h i) (read_name Ks nn)) C (seen h i Ks) (seen h i (known_after Ks nn)) 0 (let a = name_reads h i Ks nn in omega arith) (most_is (has_name (known_after Ks nn) (Gift h i))) claimed (omega arith) (λ l. absurd (no_one l))
 
-  name_low : (nn : Name) → IsMade vats d (Named nn) → 1 ≤ new_name (Gift h i) (read_name Ks nn) → i < d
+  name_low : (nn : Name) → IsMade vats d (Named nn) → 1 ≤ new_name (Gift h i) (read_name Ks nn) → WasDrawn d i
   name_low nn m l = named_made h i vats d nn (name_brought h i Ks nn l) m
 
   -- a gift that this vat hosts, of that provider and draw
@@ -132,9 +132,9 @@ module _ (vats : List (Vat Name)) (d : ℕ) (P : ℕ → ℕ) (from to : ℕ) (s
     absent : gift_at p j s.gifts ≡ None → IsEntered j s.gifts → ⊥
     absent e a = entered_found P d p j s.gifts provided a own.1 e
 
-    gift_or : (T : ℕ) → T + C ≤ 1 → (1 ≤ T → i < d) → ((Names (Gift h i) n → ⊥) → T ≡ 0) → (b : Bool) → same_name (Gift to j) (Gift h i) ≡ b → gift_at p j s.gifts ≡ None → Fine (T + one (Gift to j) (Gift h i))
+    gift_or : (T : ℕ) → T + C ≤ 1 → (1 ≤ T → WasDrawn d i) → ((Names (Gift h i) n → ⊥) → T ≡ 0) → (b : Bool) → same_name (Gift to j) (Gift h i) ≡ b → gift_at p j s.gifts ≡ None → Fine (T + one (Gift to j) (Gift h i))
     unfolding one
-    gift_or T t f u false e a = let none : once (same_name (Gift to j) (Gift h i)) ≡ 0 = one_other h i (Gift to j) (λ k. no_same (same_name (Gift to j) (Gift h i)) e (same_yes k)) in at_most (T + once (same_name (Gift to j) (Gift h i))) T C (i < d) (omega arith) t f
+    gift_or T t f u false e a = let none : once (same_name (Gift to j) (Gift h i)) ≡ 0 = one_other h i (Gift to j) (λ k. no_same (same_name (Gift to j) (Gift h i)) e (same_yes k)) in at_most (T + once (same_name (Gift to j) (Gift h i))) T C (WasDrawn d i) (omega arith) t f
       where
         no_same : (b : Bool) → b ≡ false → b ≡ true → ⊥
         no_same b e f = cc
@@ -144,11 +144,11 @@ module _ (vats : List (Vat Name)) (d : ℕ) (P : ℕ → ℕ) (from to : ℕ) (s
     gift_or T t f u true e a = let same : Gift to j ≡ Gift h i = same_is (Gift to j) (Gift h i) e in
         let c : C ≡ 0 = unclaimed h i to s.known well (λ k. absent a (g.entered j (subst (λ z. IsAmong z (names_in s.known)) (sym same) k))) in
         let none : T ≡ 0 = u (λ k. absent a (g.behind j (subst (λ z. Names z n) (sym same) k))) in
-        let most = most_is (same_name (Gift to j) (Gift h i)) in let k : j ≡ i = same_draw to j h i same in let l : j < d = own.0 in (omega arith, λ x. omega arith)
+        let most = most_is (same_name (Gift to j) (Gift h i)) in let k : j ≡ i = same_draw to j h i same in let l : WasDrawn d j = own.0 in (omega arith, λ x. subst (WasDrawn d) k l)
 
-    gift_there : (T : ℕ) → T + C ≤ 1 → (1 ≤ T → i < d) → ((Names (Gift h i) n → ⊥) → T ≡ 0) → (o : Option (GiftEntry Name)) → gift_at p j s.gifts ≡ o → Fine (T + new_gift_here to (Gift h i) j o)
+    gift_there : (T : ℕ) → T + C ≤ 1 → (1 ≤ T → WasDrawn d i) → ((Names (Gift h i) n → ⊥) → T ≡ 0) → (o : Option (GiftEntry Name)) → gift_at p j s.gifts ≡ o → Fine (T + new_gift_here to (Gift h i) j o)
     unfolding new_gift_here
-    gift_there T t f u (Some x) e = at_most (T + 0) T C (i < d) (omega arith) t f
+    gift_there T t f u (Some x) e = at_most (T + 0) T C (WasDrawn d i) (omega arith) t f
     gift_there T t f u None e = gift_or T t f u (same_name (Gift to j) (Gift h i)) refl e
 
   -- how often it is new in the arguments of a message and as its target, and in what a name settled to
@@ -173,7 +173,7 @@ module _ (vats : List (Vat Name)) (d : ℕ) (P : ℕ → ℕ) (from to : ℕ) (s
 
   fine_deliver : (m : Delivery Name) (nn : Name) (verb : List ℕ) (ys : Passeds Name) → Mades (Deliver m nn verb ys) → gifts_in_all i ys ≤ 1 → GiftsApart to (Deliver m nn verb ys) s → Fine (Brings (Deliver m nn verb ys))
   unfolding brings_here brings read_note names_of
-  fine_deliver m nn verb ys k few' g = at_most (Brings (Deliver m nn verb ys)) (InArgs ys + AsTarget ys nn) C (i < d) (deliver_or (is_own to (read_name (read_all ys Ks).known nn)) _ _ (InArgs ys) (AsTarget ys nn) here_is answer_is)
+  fine_deliver m nn verb ys k few' g = at_most (Brings (Deliver m nn verb ys)) (InArgs ys + AsTarget ys nn) C (WasDrawn d i) (deliver_or (is_own to (read_name (read_all ys Ks).known nn)) _ _ (InArgs ys) (AsTarget ys nn) here_is answer_is)
       (args_fit m nn verb ys few' g) (λ l. either_is (λ x. all_made h i vats d ys Ks k.2 x) (λ x. named_made h i vats d nn (name_brought h i (read_all ys Ks).known nn x) k.1) (sum_or (InArgs ys) (AsTarget ys nn) l))
     where
       is : (x : Msg) × (m.message ≡ Sent x)
@@ -198,28 +198,25 @@ module _ (vats : List (Vat Name)) (d : ℕ) (P : ℕ → ℕ) (from to : ℕ) (s
   note_fine (Elsewhere nn c) t k o g = (name_alone nn, name_low nn k.0)
   note_fine (Shorten nn c j) t k o g = (name_alone nn, name_low nn k.0)
 
-pub allowed_is : (to h i d : ℕ) (s : Vat Name) → allowed to (Gift h i) s d ≡ once (nat_le (suc i) d)
+pub allowed_is : (to h i : ℕ) (d : List ℕ) (s : Vat Name) → allowed to (Gift h i) s d ≡ once (is_in (word_of i) d)
 unfolding allowed other numbered
 allowed_is to h i d s = omega arith
 
 under_one : (a b c e : ℕ) → a ≤ b → b ≤ c → c ≤ e → e ≤ 1 → a ≤ 1
 under_one a b c e p q r t = omega arith
 
-below_is : (i d : ℕ) → i < d → suc i ≤ d
-below_is i d l = omega arith
-
-come_new : (w : World) (P : ℕ → ℕ) → Holds P w → WorldWell w → AllOf (λ (l : Link). AllOf (NoteOk (IsMade w.vats (length w.drawn))) l.notes) w.links
+come_new : (w : World) (P : ℕ → ℕ) → Holds P w → WorldWell w → AllOf (λ (l : Link). AllOf (NoteOk (IsMade w.vats w.drawn)) l.notes) w.links
     → (from to : ℕ) (l : Link) (n : Note Name) (ns : List (Note Name)) (s : Vat Name) → link_at from to w.links ≡ Some l → l.notes ≡ n ∷ ns → slice_get w.vats to ≡ Some s → GiftsApart to n s
-    → (h i : ℕ) → claims to (Gift h i) s.known ≤ allowed to (Gift h i) s (length w.drawn)
-    → claims to (Gift h i) s.known + brings_here to (Gift h i) from s.gifts (read_note (names_of s) n) ≤ allowed to (Gift h i) s (length w.drawn)
-come_new w P o well made from to l n ns s e f there g h i few = let d : ℕ = length w.drawn in let is = allowed_is to h i d s in let most = most_is (nat_le (suc i) d) in
+    → (h i : ℕ) → claims to (Gift h i) s.known ≤ allowed to (Gift h i) s w.drawn
+    → claims to (Gift h i) s.known + brings_here to (Gift h i) from s.gifts (read_note (names_of s) n) ≤ allowed to (Gift h i) s w.drawn
+come_new w P o well made from to l n ns s e f there g h i few = let d : List ℕ = w.drawn in let is = allowed_is to h i d s in let most = most_is (is_in (word_of i) d) in
     let told : Each (Provides P d from to) (n ∷ ns) = rw f at (found_tells P d from to l w.links o.links e) in
     let mades : MayBe (λ (k : Link). AllOf (NoteOk (IsMade w.vats d)) k.notes) (link_at from to w.links) = link_holds (NoteOk (IsMade w.vats d)) from to w.links made in
     let those : AllOf (NoteOk (IsMade w.vats d)) l.notes = rw e at mades in
     let these : AllOf (NoteOk (IsMade w.vats d)) (n ∷ ns) = rw f at those in
     let some' = first_gifts i n ns l.notes f in let all' = found_gifts i from to l w.links e in let count = o.count i in let at = o.vats to s there in
     let fine = note_fine w.vats d P from to s (well.vats to s there) at.1 h i (omega arith) n told.0 these.0 (under_one (gifts_in_note i n) (gifts_in_notes i l.notes) (gifts_on (λ j. j.notes) i w.links) (drawn_of i d) some' all' count (under_drawn i d)) g in
-    finish (claims to (Gift h i) s.known) (brings_here to (Gift h i) from s.gifts (read_note (names_of s) n)) (allowed to (Gift h i) s d) few (omega arith) fine.0 (λ x. is ∙ full_is (nat_le (suc i) d) (le-leb (suc i) d (below_is i d (fine.1 x))))
+    finish (claims to (Gift h i) s.known) (brings_here to (Gift h i) from s.gifts (read_note (names_of s) n)) (allowed to (Gift h i) s d) few (omega arith) fine.0 (λ x. is ∙ full_is (is_in (word_of i) d) (among_in (word_of i) d (fine.1 x)))
 
 pub gifts_come_new : GiftsApartComeNew
 gifts_come_new script once' = (

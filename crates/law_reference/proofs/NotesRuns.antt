@@ -37,13 +37,13 @@ module _ (script : Script) where
 
   -- ---- a step of one vat
 
-  module _ (v : ℕ) (w : World) (s q : Vat Name) (there : slice_get w.vats v ≡ Some s) (same_promises : q.promises ≡ s.promises) (same_messages : q.messages ≡ s.messages) (g : Stands script w) (parts : Parts (λ b. IsMade w.vats (length w.drawn) b × IsHad (names_in q.known) q.mails b × IsFar v b × Inside script (bare b)) q.things q.slots q.lists q.queue q.known q.gifts q.outbox) (kept : Kept v q.number q.known q.mails q.promises) where
+  module _ (v : ℕ) (w : World) (s q : Vat Name) (there : slice_get w.vats v ≡ Some s) (same_promises : q.promises ≡ s.promises) (same_messages : q.messages ≡ s.messages) (g : Stands script w) (parts : Parts (λ b. IsMade w.vats w.drawn b × IsHad (names_in q.known) q.mails b × IsFar v b × Inside script (bare b)) q.things q.slots q.lists q.queue q.known q.gifts q.outbox) (kept : Kept v q.number q.known q.mails q.promises) where
     ready_sound : Sound (V (inside script) w.vats v s there (low_at script w g v s there) (draw_word script.key)) (readied w q)
     unfolding readied
     ready_sound = fit_sound (inside script) w.vats v s there (low_at script w g v s there) (draw_word script.key) (readied w q) (sound_ready script v w s q there same_promises same_messages g parts kept) tt
 
     step_leaves : (C : Fact Name) (m : Act Name (Unit {0})) → Fine (V (inside script) w.vats v s there (low_at script w g v s there) (draw_word script.key)) C m nothing → Holds ((V (inside script) w.vats v s there (low_at script w g v s there) (draw_word script.key)).ok (readied w q)) C → AfterGives (CarriesOut v) (m (readied w q))
-    step_leaves C m f c = given_leaves w.vats v s there (low_at script w g v s there) (draw_word script.key) (m (readied w q)) (ends_leave (inside script) w.vats v s there (low_at script w g v s there) (draw_word script.key) w.vats (length w.drawn) nothing (readied w q) (m (readied w q)) (f.after (readied w q) ready_sound c))
+    step_leaves C m f c = given_leaves w.vats v s there (low_at script w g v s there) (draw_word script.key) (m (readied w q)) (ends_leave (inside script) w.vats v s there (low_at script w g v s there) (draw_word script.key) w.vats w.drawn nothing (readied w q) (m (readied w q)) (f.after (readied w q) ready_sound c))
 
   turn_carries : (w : World) (v : ℕ) (s : Vat Name) (m : Message Name) (ms : List (Message Name)) → Stands script w → slice_get w.vats v ≡ Some s → s.queue ≡ m ∷ ms → AfterGives (CarriesOut v) (taking (names script v) (world.tree_at script.vats v) script.depth m (readied w (record s { queue = ms })))
   unfolding names
@@ -57,7 +57,7 @@ module _ (script : Script) where
   unfolding names names_of readied
   note_carries w from v s n h i k = let g = h.vats v s i in let word : ℕ → ℕ = draw_word script.key in
       given_leaves w.vats v s i (low_at script w h v s i) word (arrive (naming word v) from (read_note (names_in s.known) n) (readied w s))
-      ((note_fits (inside script) w.vats v s i (low_at script w h v s i) word w.vats (length w.drawn) from (names_in s.known) n k).after (readied w s) (sound_ready script v w s s i refl refl h g.parts g.kept) (knows_ready script v w s s i refl refl h g.parts g.kept) tt tt)
+      ((note_fits (inside script) w.vats v s i (low_at script w h v s i) word w.vats w.drawn from (names_in s.known) n k).after (readied w s) (sound_ready script v w s s i refl refl h g.parts g.kept) (knows_ready script v w s s i refl refl h g.parts g.kept) tt tt)
 
   notice_carries : (w : World) (v to : ℕ) (s : Vat Name) → Stands script w → slice_get w.vats v ≡ Some s → AfterGives (CarriesOut v) (notice (names script v) to (readied w s))
   unfolding names
@@ -98,7 +98,7 @@ module _ (script : Script) where
   pub its_keep : NotesKeep script Its OfNotes Ever (Any script)
   its_keep = record {
     turn = λ w v s m ms g j i q h. both_give v _ ((own_keep script).turn w v s m ms g i q h.0) (turn_carries w v s m ms g i q);
-    note = λ w from v s n g j i ok b o h. both_give v _ ((own_keep script).note w from v s n g i (note_up (Told script w) (IsMade w.vats (length w.drawn)) (λ b k. k.0) n ok) h.0) (note_carries w from v s n g i ok);
+    note = λ w from v s n g j i ok b o h. both_give v _ ((own_keep script).note w from v s n g i (note_up (Told script w) (IsMade w.vats w.drawn) (λ b k. k.0) n ok) h.0) (note_carries w from v s n g i ok);
     notice = λ w v to s g j i ok h. both_give v _ ((own_keep script).notice w v to s g i ok h.0) (notice_carries w v to s g i);
     opening = λ w v p s g j t i h. both_give v _ ((own_keep script).opening w v p s g i h.0) (opening_carries w v p s g t i);
     outs = λ v s h. let o : InScript script v s = h.0 in both_all (λ (p : Put Name). IsBetween v p.to p.note) (λ (p : Put Name). Carries v p.to p.note) s.outbox o.4 h.1;

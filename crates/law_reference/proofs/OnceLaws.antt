@@ -47,7 +47,7 @@ twice v x (k ∷ ks) (suc i) (suc j) e f n = let rest = twice v x ks i j e f (λ
 -- an answer may be claimed once
 most_one : (v g : ℕ) (m : Msg) (s : Vat Name) → Most v g m s ≤ 1
 unfolding allowed numbered numbered_at
-most_one v g m s = let a = allowed_once v (Answer g m) s 0 in let b = same_numbers v g m s in omega arith
+most_one v g m s = let a = allowed_once v (Answer g m) s [] in let b = same_numbers v g m s in omega arith
 
 once_known : (script : Script) (w : World) → Both script w → (v : ℕ) (s : Vat Name) → slice_get w.vats v ≡ Some s → (g : ℕ) (m : Msg) (i j : ℕ) → slice_get (names_in s.known) i ≡ Some (Answer g m) → slice_get (names_in s.known) j ≡ Some (Answer g m) → i ≡ j
 once_known script w h v s there g m i j e f = either (eq_dec i j)

@@ -1,6 +1,6 @@
 -- What arrives and what is noticed leave what a vat has its own.
 use Rattle.std.proofs.Common.{◌≡◌, ℕ, Bool, true, false, List, [], ◌∷◌, ◌++◌, Option, Some, None, refl, sym, ◌∙◌, if◌then◌else◌, ◌==◌, codes, ◌⊎◌, inl, inr}
-use Rattle.def_machine.specs.Values.{Words, Value, Null, Flag, Number, Letter, Text, Prim, Broken, Items, Ref, Name, Root, Object, Promise, Answer, Gift, Sent, host_of, Naming, naming, name_of, answer_of, mail_of, IsAnswer, IsGift}
+use Rattle.def_machine.specs.Values.{Words, Value, Null, Flag, Number, Letter, Text, Prim, Broken, Items, Ref, Name, Root, Object, Promise, Answer, Gift, Sent, host_of, Naming, naming, name_of, answer_of, mail_of, IsAnswer, IsGift, under}
 use Rattle.def_machine.specs.State.{Standing, Unsettled, WaitsOn, Viewed, Settled, Known, ToTell, Passed, Passeds, Plain, AGift, Many, NoMore, More, Note, Deliver, Open, Ask, SettledTo, Elsewhere, Shorten, GiftEntry, Vat, Done, Gives, Throws, Ejects, Stops, Act, ◌>>=◌, ◌>>◌, and_then, give, look, mail, mark, come, new_list, new_gift, open_gift, with_opened, is_gift, is_in, begun, draw, send_out, alter}
 use Rattle.def_machine.specs.Refs as refs
 use Rattle.def_machine.specs.Refs.{Place, Near, Mine, Away, Gone, host_at}
@@ -255,9 +255,9 @@ module _ (word : ℕ → ℕ) (v : ℕ) (Spares : ℕ → Type 0) where
   own_there n u h c i false f = asked_there n h c i f
 
   -- where an eventual name is hosted as it says
-  viewed_there : (n : Name) (c u h : ℕ) → Spares c → (IsEventual n → host_of n ≡ h) → Keeping (draw Names >>= (λ i. send_out h (Shorten n c i) >> (arrive.gift_there Names u h c i >>= (λ g. arrive.see Names n g))))
+  viewed_there : (n : Name) (c u h : ℕ) → Spares c → (IsEventual n → host_of n ≡ h) → Keeping (draw Names >>= (λ i. send_out h (Shorten n c (under h i)) >> (arrive.gift_there Names u h c (under h i) >>= (λ g. arrive.see Names n g))))
   unfolding arrive.gift_there
-  viewed_there n c u h f e = own_bind word v Spares (own_draw word v Spares) (λ i. own_then word v Spares (own_out word v Spares h (Shorten n c i) e) (own_there n u h c i (c == u) f))
+  viewed_there n c u h f e = own_bind word v Spares (own_draw word v Spares) (λ i. own_then word v Spares (own_out word v Spares h (Shorten n c (under h i)) e) (own_there n u h c (under h i) (c == u) f))
 
   -- a name that is known, or an object
   own_view_there : (n : Name) (c : ℕ) (s : Vat Name) → is_in c s.noticed ≡ false → IsKnownIn (names_in s.known) n → GivesBy (KeepsOwn word v Spares) s (arrive.view_there Names n c s)

@@ -49,7 +49,7 @@ module _ (word : ℕ → ℕ) (v : ℕ) where
     all_free NoMore = tt
     all_free (More y ys) = (passed_free y, all_free ys)
 
-  note_free : (vats : List (Vat Name)) (d : ℕ) (ks : List Name) (n : Note Name) → NoteOk (IsMade vats d) n → NoteFree word v Each ks n
+  note_free : (vats : List (Vat Name)) (d : List ℕ) (ks : List Name) (n : Note Name) → NoteOk (IsMade vats d) n → NoteFree word v Each ks n
   note_free vats d ks (Deliver e n verb ys) h = (message_named vats e.message h.0, inr tt, all_free ys)
   note_free vats d ks (Open i n) h = inr tt
   note_free vats d ks (Ask p i n) h = tt
@@ -87,7 +87,7 @@ module _ (script : Script) where
   unfolding names world.names_of readied host_of
   own_keep = record {
     turn = λ w v s m ms g i q h. let r : Vat Name = readied w (record s { queue = ms }) in after_own (draw_word script.key) v r _ ((own_taking (draw_word script.key) v Each (world.tree_at script.vats v) script.depth m (answer_of_own v s m ms q h.1)).after r) (h.0, rest_of v s m ms q h.1, h.2, h.3, tt, λ u e. tt);
-    note = λ w from v s n g i ok h. let r : Vat Name = readied w s in after_own (draw_word script.key) v r _ (own_arrive (draw_word script.key) v Each from r n (note_free (draw_word script.key) v w.vats (length w.drawn) (names_in s.known) n ok)) (h.0, h.1, h.2, h.3, tt, λ u e. tt);
+    note = λ w from v s n g i ok h. let r : Vat Name = readied w s in after_own (draw_word script.key) v r _ (own_arrive (draw_word script.key) v Each from r n (note_free (draw_word script.key) v w.vats w.drawn (names_in s.known) n ok)) (h.0, h.1, h.2, h.3, tt, λ u e. tt);
     notice = λ w v to s g i ok h. let r : Vat Name = readied w s in after_own (draw_word script.key) v r _ ((own_notice (draw_word script.key) v Each to).after r) (h.0, h.1, h.2, h.3, tt, λ u e. tt);
     opening = λ w v p s g i h. let r : Vat Name = readied w s in after_own (draw_word script.key) v r _ ((own_opening (draw_word script.key) v Each p.tree script.depth (Root v) (world.given script.vats p.knows) refl).after r) (h.0, h.1, h.2, h.3, tt, λ u e. tt);
   }

@@ -110,14 +110,14 @@ module _ (v : ℕ) (word : ℕ → ℕ) (i : ℕ) where
         (after_trans v x 0 (one (answer_of v m) x + new_in_all x ys) s _ ((free_mail v x K (IsCarried m)).after s) _ (sent_near from m asks verb ys (record s { mails = s.mails ++ m ∷ [] }) e c))
 
 module _ (v : ℕ) (word : ℕ → ℕ) (x : Name) where
-  own_where : (b : Bool) (w i : ℕ) (from : ℕ) (m : Delivery (Incoming Name Name)) (verb : Words) (ys : Passeds (Incoming Name Name)) (s : Vat Name) (d : ℕ) → (v == w) ≡ b → s.number ≡ v
+  own_where : (b : Bool) (w i : ℕ) (from : ℕ) (m : Delivery (Incoming Name Name)) (verb : Words) (ys : Passeds (Incoming Name Name)) (s : Vat Name) (d : List ℕ) → (v == w) ≡ b → s.number ≡ v
       → (claims v (Object w i) s.known + elim b [ true ↦ answer_here v (Object w i) m.message + new_in_all (Object w i) ys | false ↦ brings v (Object w i) from s.gifts (Deliver m (Old (Object w i)) verb ys) ] ≤ 0)
       → After (Knowing v x (elim b [ true ↦ answer_here v x m.message + new_in_all x ys | false ↦ brings v x from s.gifts (Deliver m (Old (Object w i)) verb ys) ])) s (arrive.arrive (naming word v) from (Deliver m (Old (Object w i)) verb ys) s)
   unfolding arrive.arrive
   own_where true w i from m verb ys s d f e c = let g : v ≡ w = eqb-true v w f in rw (sym g) (deliver_near v word i x from m.message m.asks verb ys s e (rw (sym g) at c))
   own_where false w i from m verb ys s d f e c = arrive_after v x word from (Deliver m (Old (Object w i)) verb ys) s
 
-  deliver_after : (from : ℕ) (m : Delivery (Incoming Name Name)) (z : Incoming Name Name) (verb : Words) (ys : Passeds (Incoming Name Name)) (s : Vat Name) (d : ℕ) → s.number ≡ v
+  deliver_after : (from : ℕ) (m : Delivery (Incoming Name Name)) (z : Incoming Name Name) (verb : Words) (ys : Passeds (Incoming Name Name)) (s : Vat Name) (d : List ℕ) → s.number ≡ v
       → ((y : Name) → claims v y s.known + brings_here v y from s.gifts (Deliver m z verb ys) ≤ allowed v y s d) → After (Knowing v x (brings_here v x from s.gifts (Deliver m z verb ys))) s (arrive.arrive (naming word v) from (Deliver m z verb ys) s)
   unfolding brings_here is_own is_own_name allowed other numbered
   deliver_after from m (New n h) verb ys s d e c = arrive_after v x word from (Deliver m (New n h) verb ys) s
@@ -129,10 +129,10 @@ module _ (v : ℕ) (word : ℕ → ℕ) (x : Name) where
   deliver_after from m (Old (Sent a)) verb ys s d e c = arrive_after v x word from (Deliver m (Old (Sent a)) verb ys) s
 
   -- a note that brings what is new
-  pub news_after : (from : ℕ) (n : Note (Incoming Name Name)) (s : Vat Name) → s.number ≡ v → ((y : Name) → claims v y s.known + brings_here v y from s.gifts n ≤ allowed v y s (length s.drawn))
+  pub news_after : (from : ℕ) (n : Note (Incoming Name Name)) (s : Vat Name) → s.number ≡ v → ((y : Name) → claims v y s.known + brings_here v y from s.gifts n ≤ allowed v y s s.drawn)
       → After (Knowing v x (brings_here v x from s.gifts n)) s (arrive.arrive (naming word v) from n s)
   unfolding brings_here
-  news_after from (Deliver m z verb ys) s e c = deliver_after from m z verb ys s (length s.drawn) e c
+  news_after from (Deliver m z verb ys) s e c = deliver_after from m z verb ys s s.drawn e c
   news_after from (Open i z) s e c = arrive_after v x word from (Open i z) s
   news_after from (Ask p i z) s e c = arrive_after v x word from (Ask p i z) s
   news_after from (SettledTo z y) s e c = arrive_after v x word from (SettledTo z y) s

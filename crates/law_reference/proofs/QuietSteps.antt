@@ -22,7 +22,7 @@ module _ (script : Script) (v : ℕ) (w : World) (s : Vat Name) (there : slice_g
   quiet_ready : Sound F (readied w s)
   quiet_ready = let k = h.vats v s there in let r = sound_ready script v w s s there refl refl h k.parts k.kept in record { parts = r.parts; more = r.more }
 
-  quiet_knows : Knows false (inside script) w.vats v s there (low_at script w h v s there) (draw_word script.key) w.vats (length w.drawn) (names_in s.known) (readied w s)
+  quiet_knows : Knows false (inside script) w.vats v s there (low_at script w h v s there) (draw_word script.key) w.vats w.drawn (names_in s.known) (readied w s)
   quiet_knows = let k = h.vats v s there in let r = knows_ready script v w s s there refl refl h k.parts k.kept in record { all = r.all; told = r.told; own = r.own; made = r.made }
 
   quiet_ends : (d : Done Name (Unit {0})) → Ends F nothing (readied w s) d → AfterGives (λ t. t.messages ≡ s.messages) d
@@ -32,7 +32,7 @@ module _ (script : Script) (v : ℕ) (w : World) (s : Vat Name) (there : slice_g
   quiet_ends (Ejects n y t) e = tt
   quiet_ends (Stops c t) e = tt
 
-  learnt_ends : (d : Done Name (Unit {0})) → Ended false (inside script) w.vats v s there (low_at script w h v s there) (draw_word script.key) w.vats (length w.drawn) (readied w s) d → AfterGives (λ t. t.messages ≡ s.messages) d
+  learnt_ends : (d : Done Name (Unit {0})) → Ended false (inside script) w.vats v s there (low_at script w h v s there) (draw_word script.key) w.vats w.drawn (readied w s) d → AfterGives (λ t. t.messages ≡ s.messages) d
   unfolding readied
   learnt_ends (Gives a t) e = let r = e.0 in let i : s.messages ≡ t.messages = r.messages in sym i
   learnt_ends (Throws p t) e = tt
@@ -47,4 +47,4 @@ module _ (script : Script) (v : ℕ) (w : World) (s : Vat Name) (there : slice_g
   pub note_quiet : (from : ℕ) (n : Note Name) → NoteOk (Told script w) n → AfterGives (λ t. t.messages ≡ s.messages) (arrive (names script v) from (read_note (names_of s) n) (readied w s))
   unfolding names names_of
   note_quiet from n k = learnt_ends (arrive (naming (draw_word script.key) v) from (read_note (names_in s.known) n) (readied w s))
-      ((reads_note false (inside script) w.vats v s there (low_at script w h v s there) (draw_word script.key) w.vats (length w.drawn) from (names_in s.known) n k).after (readied w s) quiet_ready quiet_knows tt)
+      ((reads_note false (inside script) w.vats v s there (low_at script w h v s there) (draw_word script.key) w.vats w.drawn from (names_in s.known) n k).after (readied w s) quiet_ready quiet_knows tt)

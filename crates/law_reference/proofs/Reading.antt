@@ -1,5 +1,5 @@
 -- What a note brings of a gift: no more than once, and not where the vat knows it, where the gifts of the note stand apart.
-use Rattle.std.proofs.Common.{◌≡◌, ℕ, zero, suc, ◌+◌, ◌≤◌, ◌<◌, Bool, true, false, List, [], ◌∷◌, ◌++◌, refl, sym, ◌∙◌, ◌⊎◌, inl, inr, subst, arith, ◌==◌}
+use Rattle.std.proofs.Common.{◌≡◌, ℕ, zero, suc, ◌+◌, ◌≤◌, Bool, true, false, List, [], ◌∷◌, ◌++◌, refl, sym, ◌∙◌, ◌⊎◌, inl, inr, subst, arith, ◌==◌}
 use Rattle.std.proofs.lemmas.Bool.{eq-eqb}
 use Rattle.def_machine.specs.Values.{Value, Null, Flag, Number, Letter, Text, Prim, Broken, Items, Ref, Name, Gift, Sent, Msg, same_name, host_of}
 use Rattle.def_machine.specs.State.{Message, Known, Passed, Passeds, Plain, AGift, Many, NoMore, More, Vat}
@@ -7,7 +7,7 @@ use Rattle.def_machine.specs.Arrive.{Old, New}
 use Rattle.def_run.specs.World.{has_name, is_old, read_name, known_after, read_value, read_passed, read_all, plain_read, many_read, more_read}
 use Rattle.law_fate.specs.Fate as fate
 use Rattle.law_fate.specs.Lasting.{Each, NamesMessage, KnownWell, HeldWell}
-use Rattle.law_name.specs.Names.{Named, IsAmong, IsMade, PassedOk, PassedsOk, ValueOk, names_in}
+use Rattle.law_name.specs.Names.{Named, IsAmong, WasDrawn, IsMade, PassedOk, PassedsOk, ValueOk, names_in}
 use Rattle.law_name.proofs.Among.{among_last}
 use Rattle.law_name.proofs.SameNames.{same_is, among_has}
 use Rattle.law_reference.specs.Knowing.{once, one, onward, onward_all, claims, new_name, new_in_value, new_in, new_in_all}
@@ -220,35 +220,35 @@ module _ (h i : ℕ) where
   unfolding read_name
   name_brought ks n l = named_or n (is_old ks n) l
 
-  module _ (vats : List (Vat Name)) (d : ℕ) where
-    pub named_made : (n : Name) → n ≡ X → IsMade vats d (Named n) → i < d
+  module _ (vats : List (Vat Name)) (d : List ℕ) where
+    pub named_made : (n : Name) → n ≡ X → IsMade vats d (Named n) → WasDrawn d i
     named_made n e m = let k : IsMade vats d (Named X) = rw e at m in k
 
-    value_made : (y : Value Name) (ks : List Name) → ValueOk (IsMade vats d) y → 1 ≤ new_in_value X (read_value ks y).read → i < d
+    value_made : (y : Value Name) (ks : List Name) → ValueOk (IsMade vats d) y → 1 ≤ new_in_value X (read_value ks y).read → WasDrawn d i
     unfolding new_in_value read_value
     value_made (Ref n) ks m l = named_made n (name_brought ks n l) m
-    value_made Null ks m l = omega arith
-    value_made (Flag b) ks m l = omega arith
-    value_made (Number z) ks m l = omega arith
-    value_made (Letter c) ks m l = omega arith
-    value_made (Text t) ks m l = omega arith
-    value_made (Prim n) ks m l = omega arith
-    value_made (Broken p) ks m l = omega arith
-    value_made (Items k) ks m l = omega arith
+    value_made Null ks m l = absurd (no_one l)
+    value_made (Flag b) ks m l = absurd (no_one l)
+    value_made (Number z) ks m l = absurd (no_one l)
+    value_made (Letter c) ks m l = absurd (no_one l)
+    value_made (Text t) ks m l = absurd (no_one l)
+    value_made (Prim n) ks m l = absurd (no_one l)
+    value_made (Broken p) ks m l = absurd (no_one l)
+    value_made (Items k) ks m l = absurd (no_one l)
 
-    gift_made : (g j : ℕ) → j < d → Gift g j ≡ X → i < d
-    gift_made g j l e = let same : j ≡ i = gift_draw g j e in omega arith
+    gift_made : (g j : ℕ) → WasDrawn d j → Gift g j ≡ X → WasDrawn d i
+    gift_made g j l e = subst (WasDrawn d) (gift_draw g j e) l
 
     mutual
       unfolding new_in new_in_all read_passed read_all plain_read many_read more_read
 
-      pub passed_made : (y : Passed Name) (ks : List Name) → PassedOk (IsMade vats d) y → 1 ≤ new_in X (read_passed y ks).read → i < d
+      pub passed_made : (y : Passed Name) (ks : List Name) → PassedOk (IsMade vats d) y → 1 ≤ new_in X (read_passed y ks).read → WasDrawn d i
       passed_made (Plain y) ks m l = value_made y ks m l
       passed_made (AGift g j) ks m l = gift_made g j m.1 (one_same (Gift g j) l)
       passed_made (Many ys) ks m l = all_made ys ks m l
 
-      pub all_made : (ys : Passeds Name) (ks : List Name) → PassedsOk (IsMade vats d) ys → 1 ≤ new_in_all X (read_all ys ks).read → i < d
-      all_made NoMore ks m l = omega arith
+      pub all_made : (ys : Passeds Name) (ks : List Name) → PassedsOk (IsMade vats d) ys → 1 ≤ new_in_all X (read_all ys ks).read → WasDrawn d i
+      all_made NoMore ks m l = absurd (no_one l)
       all_made (More y ys) ks m l = either_is (λ k. passed_made y ks m.0 k) (λ k. all_made ys (read_passed y ks).known m.1 k) (sum_or (new_in X (read_passed y ks).read) (new_in_all X (read_all ys (read_passed y ks).known).read) l)
 
   -- ---- claims

@@ -284,7 +284,7 @@ module _ (v : ℕ) (x : Name) where
     owes_new : (s : Vat Name) (h c : ℕ) (e : Happened Name) → one (Answer h (record { sender = v; number = s.messages })) x + c ≤ answers v s.messages x
         → Owes v x c s (record s { messages = suc s.messages; mails = s.mails ++ Sent (record { sender = v; number = s.messages }) ∷ []; known = s.known ++ begun (Answer h (record { sender = v; number = s.messages })) h ∷ []; happened = s.happened ++ e ∷ [] })
     unfolding numbered_at
-    owes_new s h c e i = record { number = λ j. j; kept = λ j. let more = claims_end v x s.known (Answer h (record { sender = v; number = s.messages })) h in let next = answer_next v x s.promises s.messages (length s.drawn) in omega arith }
+    owes_new s h c e i = record { number = λ j. j; kept = λ j. let more = claims_end v x s.known (Answer h (record { sender = v; number = s.messages })) h in let next = answer_next v x s.promises s.messages s.drawn in omega arith }
 
     pub free_send : (act : ℕ) (y : Value Name) (verb : Words) (args : List (Value Name)) → Keeps (Knowing v x 0) (refs.send K act y verb args)
     unfolding refs.send ◌>>=◌ ◌>>◌ and_then look tell new_message naming name_of mail_of answer_of
@@ -300,7 +300,7 @@ module _ (v : ℕ) (x : Name) where
     owes_lone : (s : Vat Name) (c : ℕ) (e : Happened Name) → c ≤ answers v s.messages x
         → Owes v x c s (record s { messages = suc s.messages; mails = s.mails ++ Sent (record { sender = v; number = s.messages }) ∷ []; happened = s.happened ++ e ∷ [] })
     unfolding numbered_at
-    owes_lone s c e i = record { number = λ j. j; kept = λ j. let next = answer_next v x s.promises s.messages (length s.drawn) in omega arith }
+    owes_lone s c e i = record { number = λ j. j; kept = λ j. let next = answer_next v x s.promises s.messages s.drawn in omega arith }
 
     pub free_send_only : (act : ℕ) (y : Value Name) (verb : Words) (args : List (Value Name)) → Keeps (Knowing v x 0) (refs.send_only K act y verb args)
     unfolding refs.send_only ◌>>=◌ ◌>>◌ and_then look tell new_lone_message naming mail_of

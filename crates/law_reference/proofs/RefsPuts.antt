@@ -1,18 +1,20 @@
--- All that a vat does with references puts gifts of new draws alone, each once, and tells of their provider, which is the vat itself.
-use Rattle.std.proofs.Common.{◌≡◌, ℕ, zero, suc, ◌≤◌, Bool, true, false, List, [], ◌∷◌, ◌++◌, Option, Some, None, refl, sym, ◌∙◌, arith, length, if◌then◌else◌, ◌==◌}
+-- All that a vat does with references puts gifts under new words alone, each once, and tells of their provider, which is the vat itself.
+use Rattle.std.proofs.Common.{◌≡◌, ℕ, zero, suc, Bool, true, false, List, [], ◌∷◌, ◌++◌, Option, Some, None, refl, sym, ◌∙◌, arith, if◌then◌else◌, ◌==◌}
 use Rattle.std.specs.Prelude.{nat_le}
 use Rattle.std.proofs.lemmas.Bool.{eq-eqb}
-use Rattle.def_machine.specs.Values.{Words, Value, Null, Flag, Number, Letter, Text, Prim, Broken, Items, Ref, Name, Root, Object, Promise, Answer, Gift, Sent, Spot, Own, Foreign, NoObject, Naming, naming, spot_of}
-use Rattle.def_machine.specs.State.{Message, Standing, Settled, Known, ToTell, Passed, Passeds, Plain, AGift, Many, NoMore, More, Deliver, Open, SettledTo, Put, Vat, Done, Gives, Throws, Ejects, Stops, Act, ◌>>=◌, ◌>>◌, and_then, give, look, spend, spent, draw, draws, send_out, alter, tell, Posted}
+use Rattle.def_machine.specs.Values.{Words, Value, Null, Flag, Number, Letter, Text, Prim, Broken, Items, Ref, Name, Root, Object, Promise, Answer, Gift, Sent, Spot, Own, Foreign, NoObject, Naming, naming, spot_of, key}
+use Rattle.def_machine.specs.State.{Message, Standing, Settled, Known, ToTell, Passed, Passeds, Plain, AGift, Many, NoMore, More, Deliver, Open, SettledTo, Put, Vat, Done, Gives, Throws, Ejects, Stops, Act, ◌>>=◌, ◌>>◌, and_then, give, look, spend, spent, draw, draws, drawn_at, send_out, alter, tell, Posted}
 use Rattle.def_machine.specs.Refs as refs
 use Rattle.def_machine.specs.Refs.{Place, Near, Mine, Away, Gone}
 use Rattle.def_machine.specs.Native.{list_at}
 use Rattle.law_machine.specs.Steps.{After}
 use Rattle.law_machine.proofs.Keeps.{Keeps}
+use Rattle.law_machine.proofs.KeyLaws.{word_key, provider_key}
+use Rattle.law_name.specs.Names.{IsAmong}
 use Rattle.law_fate.proofs.PlacesLast.{each_end}
 use Rattle.law_fate.proofs.Spares.{IsSparedUnder}
-use Rattle.law_reference.specs.GiftPassing.{gifts_in, gifts_in_all, gifts_in_note, PassesFrom, AllPassFrom, Provides}
-use Rattle.law_reference.proofs.Puts.{PutsOn, Puts, Fair, Nothing, PutTells, same, then_puts, first_fair, less_fair, fair_trans, spared, drawn_after, next_draw, length_more, out_end, drawn_up, passes_up, fair}
+use Rattle.law_reference.specs.GiftPassing.{gifts_in, gifts_in_all, gifts_in_note, IsProvidedBy, PassesFrom, AllPassFrom, Provides}
+use Rattle.law_reference.proofs.Puts.{AllStay, PutsOn, Puts, Fair, Nothing, PutTells, same, then_puts, first_fair, less_fair, fair_trans, spared, drawn_after, key_provided, next_draw, out_end, drawn_up, passes_up, fair}
 
 -- ---- what is followed is no gift yet
 
@@ -92,7 +94,7 @@ hosted_where u g h n m o false e f = let i : g ≡ h = cc in rw i at e
 true_false : true ≡ false → ⊥
 true_false e = cc
 
-module _ (v d0 : ℕ) (F : ℕ → ℕ) (fresh : (i : ℕ) → d0 ≤ i → F i ≡ v) (word : ℕ → ℕ) where
+module _ (v : ℕ) (d0 : List ℕ) (F : ℕ → ℕ) (fresh : (x : ℕ) → (IsAmong x d0 → ⊥) → F x ≡ v) (word : ℕ → ℕ) where
   abbrev K : Naming Name Name
   K = naming word v
 
@@ -125,13 +127,13 @@ module _ (v d0 : ℕ) (F : ℕ → ℕ) (fresh : (i : ℕ) → d0 ≤ i → F i 
 
   -- ---- what is given passes, and is in hand
 
-  abbrev Yields : {A : Type 0} → (A → ℕ → ℕ) → (A → ℕ → Type 0) → Vat Name → Done Name A → Type 0
+  abbrev Yields : {A : Type 0} → (A → ℕ → ℕ) → (A → List ℕ → Type 0) → Vat Name → Done Name A → Type 0
   Yields c Ok s (Gives a t) = Puts v d0 F (c a) (Ok a) s t
   Yields c Ok s (Throws p t) = R s t
   Yields c Ok s (Ejects n y t) = R s t
   Yields c Ok s (Stops z t) = R s t
 
-  yields_bind : {A B : Type 0} (c : A → ℕ → ℕ) (Ok : A → ℕ → Type 0) (e : B → ℕ → ℕ) (Ok' : B → ℕ → Type 0) (s : Vat Name) (d : Done Name A) (f : A → Act Name B) → Yields c Ok s d → ((a : A) (t : Vat Name) → Puts v d0 F (c a) (Ok a) s t → Yields e Ok' s (f a t)) → Yields e Ok' s (and_then d f)
+  yields_bind : {A B : Type 0} (c : A → ℕ → ℕ) (Ok : A → List ℕ → Type 0) (e : B → ℕ → ℕ) (Ok' : B → List ℕ → Type 0) (s : Vat Name) (d : Done Name A) (f : A → Act Name B) → Yields c Ok s d → ((a : A) (t : Vat Name) → Puts v d0 F (c a) (Ok a) s t → Yields e Ok' s (f a t)) → Yields e Ok' s (and_then d f)
   unfolding and_then
   yields_bind c Ok e Ok' s (Gives a t) f h k = k a t h
   yields_bind c Ok e Ok' s (Throws p t) f h k = h
@@ -139,7 +141,7 @@ module _ (v d0 : ℕ) (F : ℕ → ℕ) (fresh : (i : ℕ) → d0 ≤ i → F i 
   yields_bind c Ok e Ok' s (Stops z t) f h k = h
 
   -- with something done before it
-  yields_widen : {A : Type 0} (c : A → ℕ → ℕ) (Ok : A → ℕ → Type 0) (s t : Vat Name) → R s t → (d : Done Name A) → Yields c Ok t d → Yields c Ok s d
+  yields_widen : {A : Type 0} (c : A → ℕ → ℕ) (Ok : A → List ℕ → Type 0) (s t : Vat Name) → R s t → (d : Done Name A) → Yields c Ok t d → Yields c Ok s d
   yields_widen c Ok s t r (Gives a u) h = first_fair v d0 F (c a) (Ok a) s t u r h
   yields_widen c Ok s t r (Throws p u) h = fair_trans v d0 F r h
   yields_widen c Ok s t r (Ejects n y u) h = fair_trans v d0 F r h
@@ -151,10 +153,10 @@ module _ (v d0 : ℕ) (F : ℕ → ℕ) (fresh : (i : ℕ) → d0 ≤ i → F i 
   abbrev InAll : Passeds Name → ℕ → ℕ
   InAll ys i = gifts_in_all i ys
 
-  abbrev Ok : ℕ → Passed Name → ℕ → Type 0
+  abbrev Ok : ℕ → Passed Name → List ℕ → Type 0
   Ok w y d = PassesFrom F d v w y
 
-  abbrev AllOk : ℕ → Passeds Name → ℕ → Type 0
+  abbrev AllOk : ℕ → Passeds Name → List ℕ → Type 0
   AllOk w ys d = AllPassFrom F d v w ys
 
   plain : (w : ℕ) (s : Vat Name) (y : Value Name) → Puts v d0 F (In (Plain y)) (Ok w (Plain y)) s s
@@ -165,29 +167,32 @@ module _ (v d0 : ℕ) (F : ℕ → ℕ) (fresh : (i : ℕ) → d0 ≤ i → F i 
   unfolding alter give ◌>>◌ and_then gifts_in
   told_plain w n y s = same v d0 F s
 
-  -- a name of a third vat passes as a gift of a new draw
-  given : (w h : ℕ) (n : Name) (s : Vat Name) (x : ℕ) → (s.number ≡ v → (v == h) ≡ false) → (h == w) ≡ false
-      → Puts v d0 F (In (AGift h (length s.drawn))) (Ok w (AGift h (length s.drawn))) s (record s { drawn = s.drawn ++ x ∷ []; outbox = s.outbox ++ record { to = h; note = Open (length s.drawn) n } ∷ [] })
+  -- a name of a third vat passes as a gift under a new word
+  given : (w h : ℕ) (n : Name) (s : Vat Name) (x : ℕ) → drawn_at zero x s.drawn ≡ None → (s.number ≡ v → (v == h) ≡ false) → (h == w) ≡ false
+      → Puts v d0 F (In (AGift h (key s.number x))) (Ok w (AGift h (key s.number x))) s (record s { drawn = s.drawn ++ x ∷ []; outbox = s.outbox ++ record { to = h; note = Open (key s.number x) n } ∷ [] })
   unfolding gifts_in gifts_in_note
-  given w h n s x far other = let d = drawn_after v d0 F s x in let more = length_more s.drawn x in record {
+  given w h n s x new far other = let d = drawn_after v d0 F s x in let k : ℕ = key s.number x in record {
     number = λ e. e;
     drawn = d.drawn;
-    count = λ i. let a = out_end i s.outbox (record { to = h; note = Open (length s.drawn) n }) in let b = next_draw i (length s.drawn) in rw more (omega arith);
-    outs = λ e l o. each_end (PutTells v d0 F (length (s.drawn ++ x ∷ []))) s.outbox (record { to = h; note = Open (length s.drawn) n }) (d.outs e l o) (omega arith, fresh (length s.drawn) l);
+    count = λ i. let a = out_end i s.outbox (record { to = h; note = Open k n }) in let b = next_draw i k x s.drawn (word_key s.number x) new in omega arith;
+    outs = λ e l o. each_end (PutTells v d0 F (s.drawn ++ x ∷ [])) s.outbox (record { to = h; note = Open k n }) (d.outs e l o) (provided e l);
     gifts = d.gifts;
     once = d.once;
-    ok = λ e l. ((omega arith, fresh (length s.drawn) l), apart h (far e), apart_from h w other);
+    ok = λ e l. (provided e l, apart h (far e), apart_from h w other);
   }
+    where
+      provided : s.number ≡ v → AllStay d0 s.drawn → IsProvidedBy F (s.drawn ++ x ∷ []) (key s.number x) v
+      provided e l = key_provided v d0 F v fresh s.drawn (key s.number x) x l new (word_key s.number x) (provider_key s.number x ∙ e)
 
-  draws_given : (w h : ℕ) (n : Name) (s : Vat Name) (x : ℕ) (o : Option ℕ) → (s.number ≡ v → (v == h) ≡ false) → (h == w) ≡ false → Yields In (Ok w) s (and_then (draws x o s) (λ i. send_out h (Open i n) >> give (AGift h i)))
+  draws_given : (w h : ℕ) (n : Name) (s : Vat Name) (x : ℕ) (o : Option ℕ) → drawn_at zero x s.drawn ≡ o → (s.number ≡ v → (v == h) ≡ false) → (h == w) ≡ false → Yields In (Ok w) s (and_then (draws x o s) (λ i. send_out h (Open i n) >> give (AGift h i)))
   unfolding draws send_out give ◌>>◌ and_then
-  draws_given w h n s x (Some j) far other = record { puts = same v d0 F s }
-  draws_given w h n s x None far other = given w h n s x far other
+  draws_given w h n s x (Some j) new far other = record { puts = same v d0 F s }
+  draws_given w h n s x None new far other = given w h n s x new far other
 
   away_given : (w h : ℕ) (n : Name) (y : Value Name) (s : Vat Name) (b : Bool) → (s.number ≡ v → (v == h) ≡ false) → (h == w) ≡ b → Yields In (Ok w) s ((if b then give (Plain y) else (draw K >>= (λ i. send_out h (Open i n) >> give (AGift h i)))) s)
   unfolding draw give ◌>>=◌
   away_given w h n y s true far e = plain w s y
-  away_given w h n y s false far e = draws_given w h n s _ _ far e
+  away_given w h n y s false far e = draws_given w h n s _ _ refl far e
 
   place_given : (w : ℕ) (y : Value Name) (s : Vat Name) (p : Place Name) → refs.place K s y ≡ p → Yields In (Ok w) s (refs.address_plain K w y p s)
   unfolding refs.address_plain give
@@ -247,15 +252,15 @@ module _ (v d0 : ℕ) (F : ℕ → ℕ) (fresh : (i : ℕ) → d0 ≤ i → F i 
 
   -- ---- what is in hand is put
 
-  put_in_hand : (w : ℕ) (c : ℕ → ℕ) (P : ℕ → Type 0) (p : Put Name) (s t u : Vat Name) → u.number ≡ t.number → u.drawn ≡ t.drawn → u.outbox ≡ t.outbox ++ p ∷ [] → u.gifts ≡ t.gifts → ((i : ℕ) → gifts_in_note i p.note ≡ c i) → ((d : ℕ) → P d → Provides F d v p.to p.note) → Puts v d0 F c P s t → R s u
+  put_in_hand : (w : ℕ) (c : ℕ → ℕ) (P : List ℕ → Type 0) (p : Put Name) (s t u : Vat Name) → u.number ≡ t.number → u.drawn ≡ t.drawn → u.outbox ≡ t.outbox ++ p ∷ [] → u.gifts ≡ t.gifts → ((i : ℕ) → gifts_in_note i p.note ≡ c i) → ((d : List ℕ) → P d → Provides F d v p.to p.note) → Puts v d0 F c P s t → R s u
   put_in_hand w c P p s t u e f g k count tells h = record { puts = rw (sym e, sym f, sym g, sym k) at put }
     where
-      put : PutsOn v d0 F (λ i. 0) (Nothing v d0 F) s.number (length s.drawn) s.outbox s.gifts t.number (length t.drawn) (t.outbox ++ p ∷ []) t.gifts
+      put : PutsOn v d0 F (λ i. 0) (Nothing v d0 F) s.number s.drawn s.outbox s.gifts t.number t.drawn (t.outbox ++ p ∷ []) t.gifts
       put = record {
         number = h.number;
         drawn = h.drawn;
         count = λ i. let a = h.count i in let b = out_end i t.outbox p in let o = count i in omega arith;
-        outs = λ x l o. each_end (PutTells v d0 F (length t.drawn)) t.outbox p (h.outs x l o) (tells (length t.drawn) (h.ok x l));
+        outs = λ x l o. each_end (PutTells v d0 F t.drawn) t.outbox p (h.outs x l o) (tells t.drawn (h.ok x l));
         gifts = h.gifts;
         once = h.once;
         ok = λ x l. tt;

@@ -1,12 +1,14 @@
 -- All that a vat does with references from a state in which no list leads back to itself ends in such a state.
 use Rattle.std.proofs.Common.{◌≡◌, ℕ, zero, suc, ◌-◌, Bool, true, false, List, [], ◌∷◌, ◌++◌, Option, Some, None, refl, sym, ap, subst, ◌∙◌, ◌⊎◌, inl, inr, if◌then◌else◌, length, codes, ◌==◌, arith}
 use Rattle.std.specs.Prelude.{nat_le}
-use Rattle.def_machine.specs.Values.{Words, Value, Null, Flag, Number, Letter, Text, Prim, Broken, Items, Ref, Name, Root, Object, Promise, Answer, Gift, Sent, Naming, Spot, Own, Foreign, NoObject, naming, host_of, spot_of, name_of, answer_of, mail_of, IsAnswer, IsSent, IsOwn as IsOwnPromise}
+use Rattle.def_machine.specs.Values.{Words, Value, Null, Flag, Number, Letter, Text, Prim, Broken, Items, Ref, Name, Root, Object, Promise, Answer, Gift, Sent, Naming, Spot, Own, Foreign, NoObject, naming, host_of, spot_of, name_of, answer_of, mail_of, IsAnswer, IsSent, IsOwn as IsOwnPromise, key}
 use Rattle.def_machine.specs.State.{Message, Passed, Plain, AGift, Many, Deliver, Open, SettledTo, Elsewhere, Standing, Unsettled, WaitsOn, Viewed, Settled, Known, Hold, React, ToTell, Settle, Settles, Sends, Reacts, Lost, Vat, Done, Gives, Throws, Ejects, Stops, Act, ◌>>=◌, ◌>>◌, and_then, each, give, stop, look, tell, alter, come, draw, draws, drawn_at, spend, spent, send_out, enqueue, new_message, new_promise, with_change, changed_to, begun, is_in, for_some, WhereSome, new_lone_message}
 use Rattle.def_machine.specs.Refs as refs
 use Rattle.def_machine.specs.Refs.{Place, Near, Mine, Away, Gone, entry_of, standing_of, host_at, led, follow_at, follow, severed, severed_at, severed_by, place, spotted, hosted, target_of, waits_lead}
 use Rattle.law_machine.proofs.BreakLaws.{nothing_of}
+use Rattle.law_machine.proofs.KeyLaws.{word_key}
 use Rattle.law_name.specs.Names.{AllOf, IsAmong, IsMessageName, IsEventual}
+use Rattle.law_name.proofs.Among.{key_not_drawn}
 use Rattle.law_frozen.specs.Frozen.{IsThere, KnownThere, PlainPasses}
 use Rattle.law_frozen.proofs.Fine.{Keeper, MayBe, Fact, Nothing, Also, IsValue, AreValues, IsMessage, AreMessages, DoesPass, nothing, resolvable, bind_passed, Holds as Knows, Gets, Ends, Fine, grows_same, widen, got, got_left, got_itself, got_ref, got_broken, fine_then, fine_give, fine_tell, fine_each, got_nothing, got_null}
 use Rattle.law_frozen.proofs.Looks.{follow_there, entry_there, target_there}
@@ -54,20 +56,20 @@ module _ (word : ℕ → ℕ) (v : ℕ) (heed : Bool) (D : ℕ → Type 0) (Seen
 
   -- ---- what passes
 
-  -- no draw to come is that of a view
-  next_apart : (ls : List Mark) (s : Vat Name) → Kept ls s → D (length s.drawn) → ⊥
-  next_apart ls s h d = h.2.0 (length s.drawn) (omega arith) d
+  -- no view is under a new word
+  next_apart : (ls : List Mark) (s : Vat Name) (w : ℕ) → drawn_at zero w s.drawn ≡ None → Kept ls s → D (key s.number w) → ⊥
+  next_apart ls s w e h d = h.2.0 (key s.number w) (key_not_drawn s.drawn w (key s.number w) e (word_key s.number w)) d
 
-  gives_gift : (ls : List Mark) (s : Vat Name) (h : ℕ) (n : Name) (w : ℕ) (o : Option ℕ) → Kept ls s → At ls DoesPass s (and_then (draws w o s) (λ i. send_out h (Open i n) >> give (AGift h i)))
+  gives_gift : (ls : List Mark) (s : Vat Name) (h : ℕ) (n : Name) (w : ℕ) (o : Option ℕ) → drawn_at zero w s.drawn ≡ o → Kept ls s → At ls DoesPass s (and_then (draws w o s) (λ i. send_out h (Open i n) >> give (AGift h i)))
   unfolding draws and_then ◌>>◌ send_out give
-  gives_gift ls s h n w (Some j) k = (grows_same s.things s.lists, k)
-  gives_gift ls s h n w None k = let t : Vat Name = record s { drawn = s.drawn ++ w ∷ [] } in let i : ℕ = length s.drawn in
-      (grows_same s.things s.lists, put_holds word v heed D Seen ls t h (Open i n) tt (inr (next_apart ls s k)) (drawn_holds word v heed D Seen ls s w k), tt)
+  gives_gift ls s h n w (Some j) e k = (grows_same s.things s.lists, k)
+  gives_gift ls s h n w None e k = let t : Vat Name = record s { drawn = s.drawn ++ w ∷ [] } in let i : ℕ = key s.number w in
+      (grows_same s.things s.lists, put_holds word v heed D Seen ls t h (Open i n) tt (inr (next_apart ls s w e k)) (drawn_holds word v heed D Seen ls s w k), tt)
 
   away_ends : (ls : List Mark) (C : Fact Name) (w h : ℕ) (y : Value Name) (n : Name) (b : Bool) → Gets N C (DoesPass (Plain y)) → Does ls C (if b then give (Plain y) else (draw N >>= (λ i. send_out h (Open i n) >> give (AGift h i)))) DoesPass
   unfolding ◌>>=◌ draw
   away_ends ls C w h y n true g = fine_give N (M ls) {C = C} (Plain y) g
-  away_ends ls C w h y n false g = record { after = λ s k c. gives_gift ls s h n (N.word (length s.drawn)) (drawn_at zero (N.word (length s.drawn)) s.drawn) k }
+  away_ends ls C w h y n false g = record { after = λ s k c. gives_gift ls s h n (N.word (length s.drawn)) (drawn_at zero (N.word (length s.drawn)) s.drawn) refl k }
 
   aways : (ls : List Mark) (C : Fact Name) (w : ℕ) (y : Value Name) → Gets N C (DoesPass (Plain y)) → (h : ℕ) (n : Name) (o : Bool) → Does ls C (refs.address_plain N w y (Away h n o)) DoesPass
   unfolding refs.address_plain
@@ -238,16 +240,16 @@ module _ (word : ℕ → ℕ) (v : ℕ) (heed : Bool) (D : ℕ → Type 0) (Seen
   tells_plain : (ls : List Mark) (C : Fact Name) (p : Name) (w : ℕ) (y : Value Name) → Gets N C (DoesPass (Plain y)) → Does ls C (Told p w (Plain y)) nothing
   tells_plain ls C p w y g = record { after = λ s h c. puts word v heed D Seen ls s w (SettledTo p (Plain y)) (g.at s.things s.lists c) tt h }
 
-  told_gift : (ls : List Mark) (s : Vat Name) (p : Name) (w h : ℕ) (n : Name) (x : ℕ) (o : Option ℕ) → Kept ls s → At ls nothing s (and_then (and_then (draws x o s) (λ i. send_out h (Open i n) >> give (AGift h i))) (Told p w))
+  told_gift : (ls : List Mark) (s : Vat Name) (p : Name) (w h : ℕ) (n : Name) (x : ℕ) (o : Option ℕ) → drawn_at zero x s.drawn ≡ o → Kept ls s → At ls nothing s (and_then (and_then (draws x o s) (λ i. send_out h (Open i n) >> give (AGift h i))) (Told p w))
   unfolding draws and_then ◌>>◌ send_out give
-  told_gift ls s p w h n x (Some j) k = (grows_same s.things s.lists, k)
-  told_gift ls s p w h n x None k = let t : Vat Name = record s { drawn = s.drawn ++ x ∷ [] } in let i : ℕ = length s.drawn in let u : Vat Name = record t { outbox = t.outbox ++ record { to = h; note = Open i n } ∷ [] } in
-      (grows_same s.things s.lists, put_holds word v heed D Seen ls u w (SettledTo p (AGift h i)) tt tt (put_holds word v heed D Seen ls t h (Open i n) tt (inr (next_apart ls s k)) (drawn_holds word v heed D Seen ls s x k)), tt)
+  told_gift ls s p w h n x (Some j) e k = (grows_same s.things s.lists, k)
+  told_gift ls s p w h n x None e k = let t : Vat Name = record s { drawn = s.drawn ++ x ∷ [] } in let i : ℕ = key s.number x in let u : Vat Name = record t { outbox = t.outbox ++ record { to = h; note = Open i n } ∷ [] } in
+      (grows_same s.things s.lists, put_holds word v heed D Seen ls u w (SettledTo p (AGift h i)) tt tt (put_holds word v heed D Seen ls t h (Open i n) tt (inr (next_apart ls s x e k)) (drawn_holds word v heed D Seen ls s x k)), tt)
 
   told_away : (ls : List Mark) (C : Fact Name) (p : Name) (w h : ℕ) (y : Value Name) (n : Name) (b : Bool) → Gets N C (DoesPass (Plain y)) → Does ls C ((if b then give (Plain y) else (draw N >>= (λ i. send_out h (Open i n) >> give (AGift h i)))) >>= Told p w) nothing
   unfolding ◌>>=◌ draw give and_then
   told_away ls C p w h y n true g = record { after = λ s k c. (tells_plain ls C p w y g).after s k c }
-  told_away ls C p w h y n false g = record { after = λ s k c. told_gift ls s p w h n (N.word (length s.drawn)) (drawn_at zero (N.word (length s.drawn)) s.drawn) k }
+  told_away ls C p w h y n false g = record { after = λ s k c. told_gift ls s p w h n (N.word (length s.drawn)) (drawn_at zero (N.word (length s.drawn)) s.drawn) refl k }
 
   told_mine : (ls : List Mark) (C : Fact Name) (p : Name) (w : ℕ) (y : Value Name) (n : Name) → Gets N C (DoesPass (Plain y)) → Does ls C ((alter N (ToTell w) n >> give (Plain y)) >>= Told p w) nothing
   unfolding ◌>>=◌ ◌>>◌ alter give and_then

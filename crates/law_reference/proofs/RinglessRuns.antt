@@ -24,7 +24,7 @@ use Rattle.law_reference.proofs.WaitRingless.{NoneOnItself, once_grows}
 use Rattle.law_reference.proofs.RinglessSteps.{NamesMail, is, By, On, ring_taking, ring_opening, ring_notice, ring_arrive}
 
 -- what is delivered is named as a message
-names_mail : (word : ℕ → ℕ) (v : ℕ) (vats : List (Vat Name)) (d : ℕ) (n : Note Name) → NoteOk (IsMade vats d) n → NamesMail n
+names_mail : (word : ℕ → ℕ) (v : ℕ) (vats : List (Vat Name)) (d : List ℕ) (n : Note Name) → NoteOk (IsMade vats d) n → NamesMail n
 names_mail word v vats d (Deliver e n verb ys) h = message_named vats e.message h.0
 names_mail word v vats d (Open i n) h = tt
 names_mail word v vats d (Ask p i n) h = tt
@@ -51,7 +51,7 @@ module _ (script : Script) where
   unfolding names world.names_of readied
   rings_keep = record {
     turn = λ w v s m ms g i q h. after_ring v s _ h (ring_taking word v (world.tree_at script.vats v) script.depth m (readied w (record s { queue = ms })));
-    note = λ w from v s n g i ok h. after_ring v s _ h (ring_arrive word v from (names_in s.known) n (readied w s) refl (names_mail word v w.vats (length w.drawn) n ok) (new_gifts script w v s g i).gifts);
+    note = λ w from v s n g i ok h. after_ring v s _ h (ring_arrive word v from (names_in s.known) n (readied w s) refl (names_mail word v w.vats w.drawn n ok) (new_gifts script w v s g i).gifts);
     notice = λ w v to s g i ok h. after_ring v s _ h (ring_notice word v to (readied w s));
     opening = λ w v p s g i h. after_ring v s _ h (ring_opening word v p.tree script.depth (Root v) (world.given script.vats p.knows) (readied w s));
   }

@@ -2,7 +2,7 @@
 use Rattle.std.proofs.Common.{◌≡◌, ℕ, zero, suc, Bool, true, false, List, [], ◌∷◌, ◌++◌, Option, Some, None, refl, sym, ap, ◌∙◌, length, if◌then◌else◌, ◌==◌}
 use Rattle.std.specs.Prelude.{codes}
 use Rattle.std.proofs.lemmas.Bool.{eq-eqb}
-use Rattle.def_machine.specs.Values.{Value, Null, Flag, Number, Letter, Text, Prim, Broken, Items, Ref, Name, Root, Object, Sent, Answer, Promise, Gift, Msg, Spot, Own as OwnThing, Foreign, NoObject, Naming, naming, name_of, answer_of, mail_of, spot_of, host_of, IsAnswer, IsGift, IsLearnt, IsCarried}
+use Rattle.def_machine.specs.Values.{Value, Null, Flag, Number, Letter, Text, Prim, Broken, Items, Ref, Name, Root, Object, Sent, Answer, Promise, Gift, Msg, Spot, Own as OwnThing, Foreign, NoObject, Naming, naming, name_of, answer_of, mail_of, spot_of, host_of, IsAnswer, IsGift, IsLearnt, IsCarried, key, under}
 use Rattle.def_machine.specs.State.{Binding, Message, Known, See, Ask, Shorten, Note, Deliver, Open, SettledTo, Elsewhere, GiftEntry, Put, Vat, Done, Gives, Throws, Ejects, Stops, Act, ◌>>=◌, ◌>>◌, and_then, give, look, tell, alter, come, draw, draws, drawn_at, send_out, new_gift, new_message, mark, begun, is_in, new_lone_message}
 use Rattle.def_machine.specs.Refs as refs
 use Rattle.def_machine.specs.Refs.{Place, Mine, Away, host_at, hosted, place, spotted}
@@ -11,8 +11,9 @@ use Rattle.def_machine.specs.Arrive.{Old, New}
 use Rattle.def_machine.specs.Eval as eval
 use Rattle.def_kernel.specs.declared.node.Node.{Node}
 use Rattle.def_run.specs.World as world
-use Rattle.law_name.specs.Names.{AllOf, IsAmong, IsKnownIn, IsMessageName, Once, names_in}
-use Rattle.law_name.proofs.Among.{among_last, names_end}
+use Rattle.law_machine.proofs.KeyLaws.{word_under_key}
+use Rattle.law_name.specs.Names.{WasDrawn, AllOf, IsAmong, IsKnownIn, IsMessageName, Once, names_in}
+use Rattle.law_name.proofs.Among.{among_last, names_end, key_not_drawn}
 use Rattle.law_name.proofs.SameNames.{old_known, reference_is}
 use Rattle.law_name.proofs.Tracked.{known_among}
 use Rattle.law_reference.proofs.Gentle.{AfterGives, GivesBy, Gentle, gives_by, gives_map}
@@ -176,9 +177,9 @@ module _ (word : ℕ → ℕ) (v : ℕ) where
 
   -- ---- the news that a name settled elsewhere
 
-  -- no gift has the number of the next draw
+  -- no gift is under a word that was not drawn
   abbrev pub NoGiftNext : Vat Name → Type 0
-  NoGiftNext s = (p : ℕ) → arrive.gift_at p (length s.drawn) s.gifts ≡ None
+  NoGiftNext s = (p i : ℕ) → (WasDrawn s.drawn i → ⊥) → arrive.gift_at p i s.gifts ≡ None
 
   -- a name that is known is not the gift that comes to be known
   seen_apart : (ks : List (Known Name)) (n : Name) (u i : ℕ) → IsKnownIn (names_in ks) n → Once (names_in ks ++ Gift u i ∷ []) → n ≡ Gift u i → ⊥
@@ -203,25 +204,25 @@ module _ (word : ℕ → ℕ) (v : ℕ) where
   unfolding arrive.see ◌>>=◌ ◌>>◌ and_then come send_out give tell alter naming name_of
   view_asked s n h c i w p a = λ o. ((o.0, seen_owned s.known n (Gift c i) c o.1), seen s.known n c i c a)
 
-  view_had : (s : Vat Name) (n : Name) (h i w : ℕ) (p : Put Name) → i ≡ length s.drawn → NoGiftNext s → IsKnownIn (names_in s.known) n
+  view_had : (s : Vat Name) (n : Name) (h i w : ℕ) (p : Put Name) → (WasDrawn s.drawn i → ⊥) → NoGiftNext s → IsKnownIn (names_in s.known) n
       → AfterGives (By s) ((arrive.have_gift Names h i >>= (λ g. arrive.see Names n g)) (record s { drawn = s.drawn ++ w ∷ []; outbox = s.outbox ++ p ∷ [] }))
   unfolding arrive.have_gift ◌>>=◌ and_then look
-  view_had s n h i w p l new a = view_own s n h s.number i w p (arrive.gift_at h i s.gifts) (rw (sym l) at (new h)) a
+  view_had s n h i w p l new a = view_own s n h s.number i w p (arrive.gift_at h i s.gifts) (new h i l) a
 
-  view_there_at : (s : Vat Name) (n : Name) (h c i w : ℕ) (p : Put Name) (b : Bool) → i ≡ length s.drawn → NoGiftNext s → IsKnownIn (names_in s.known) n
+  view_there_at : (s : Vat Name) (n : Name) (h c i w : ℕ) (p : Put Name) (b : Bool) → (WasDrawn s.drawn i → ⊥) → NoGiftNext s → IsKnownIn (names_in s.known) n
       → AfterGives (By s) (((if b then arrive.have_gift Names h i else (come Names (IsGift c i) c >>= (λ g. send_out c (Ask h i g) >> give g))) >>= (λ g. arrive.see Names n g)) (record s { drawn = s.drawn ++ w ∷ []; outbox = s.outbox ++ p ∷ [] }))
   view_there_at s n h c i w p true l new a = view_had s n h i w p l new a
   view_there_at s n h c i w p false l new a = view_asked s n h c i w p a
 
-  view_drawn : (s : Vat Name) (n : Name) (h c w : ℕ) (o : Option ℕ) → NoGiftNext s → IsKnownIn (names_in s.known) n
-      → AfterGives (By s) (and_then (draws w o s) (λ i. send_out h (Shorten n c i) >> (arrive.gift_there Names s.number h c i >>= (λ g. arrive.see Names n g))))
+  view_drawn : (s : Vat Name) (n : Name) (h c w : ℕ) (o : Option ℕ) → drawn_at zero w s.drawn ≡ o → NoGiftNext s → IsKnownIn (names_in s.known) n
+      → AfterGives (By s) (and_then (draws w o s) (λ i. send_out h (Shorten n c (under h i)) >> (arrive.gift_there Names s.number h c (under h i) >>= (λ g. arrive.see Names n g))))
   unfolding draws and_then ◌>>◌ send_out arrive.gift_there
-  view_drawn s n h c w (Some j) new a = tt
-  view_drawn s n h c w None new a = view_there_at s n h c (length s.drawn) w (record { to = h; note = Shorten n c (length s.drawn) }) (c == s.number) refl new a
+  view_drawn s n h c w (Some j) e new a = tt
+  view_drawn s n h c w None e new a = let i : ℕ = under h (key s.number w) in view_there_at s n h c i w (record { to = h; note = Shorten n c i }) (c == s.number) (key_not_drawn s.drawn w i e (word_under_key h s.number w)) new a
 
   view_there : (s : Vat Name) (n : Name) (c : ℕ) → NoGiftNext s → IsKnownIn (names_in s.known) n → AfterGives (By s) (arrive.view_there Names n c s)
   unfolding arrive.view_there ◌>>=◌ and_then look draw
-  view_there s n c new a = view_drawn s n (host_at Names s.number s.known n) c (Names.word (length s.drawn)) (drawn_at zero (Names.word (length s.drawn)) s.drawn) new a
+  view_there s n c new a = view_drawn s n (host_at Names s.number s.known n) c (Names.word (length s.drawn)) (drawn_at zero (Names.word (length s.drawn)) s.drawn) refl new a
 
   went : (n : Name) (c : ℕ) (s : Vat Name) (b : Bool) → NoGiftNext s → IsKnownIn (names_in s.known) n → AfterGives (By s) ((if b then refs.settle Names n (Broken (codes "partition")) else arrive.view_there Names n c) s)
   went n c s true new a = after_calm (refs.settle Names n (Broken (codes "partition"))) s (calm_settle Names Good (IsOther v) By law minds passes n (Broken (codes "partition")))

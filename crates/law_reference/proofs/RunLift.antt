@@ -53,15 +53,15 @@ all_allowed Allowed f (Carry v to ∷ es) = (tt, all_allowed Allowed f es)
 all_allowed Allowed f (CutLink v to ∷ es) = (tt, all_allowed Allowed f es)
 
 -- each name in a note under way was made
-pub links_made : (script : Script) (w : World) → Stands script w → AllOf (λ (l : Link). AllOf (NoteOk (IsMade w.vats (length w.drawn))) l.notes) w.links
-links_made script w g = all_map (λ l i. all_map (λ n j. note_up (Told script w) (IsMade w.vats (length w.drawn)) (λ b k. k.0) n j) l.notes i) w.links g.links
+pub links_made : (script : Script) (w : World) → Stands script w → AllOf (λ (l : Link). AllOf (NoteOk (IsMade w.vats w.drawn)) l.notes) w.links
+links_made script w g = all_map (λ l i. all_map (λ n j. note_up (Told script w) (IsMade w.vats w.drawn) (λ b k. k.0) n j) l.notes i) w.links g.links
 
 module _ (script : Script) (P : ℕ → Vat Name → Type 0) (Allowed : ℕ → ℕ → Type 0) where
   -- P holds of the state after each step of a vat, but for notices that are not allowed, in any world in which names stand as they do in runs
   pub record StepsKeep : Type 0 where
     pub turn : (w : World) (v : ℕ) (s : Vat Name) (m : Message Name) (ms : List (Message Name)) → Stands script w → slice_get w.vats v ≡ Some s → s.queue ≡ m ∷ ms → P v s
         → AfterGives (P v) (taking (names script v) (world.tree_at script.vats v) script.depth m (readied w (record s { queue = ms })))
-    pub note : (w : World) (from v : ℕ) (s : Vat Name) (n : Note Name) → Stands script w → slice_get w.vats v ≡ Some s → NoteOk (IsMade w.vats (length w.drawn)) n → P v s
+    pub note : (w : World) (from v : ℕ) (s : Vat Name) (n : Note Name) → Stands script w → slice_get w.vats v ≡ Some s → NoteOk (IsMade w.vats w.drawn) n → P v s
         → AfterGives (P v) (arrive (names script v) from (read_note (names_of s) n) (readied w s))
     pub notice : (w : World) (v to : ℕ) (s : Vat Name) → Stands script w → slice_get w.vats v ≡ Some s → Allowed v to → P v s → AfterGives (P v) (notice (names script v) to (readied w s))
     pub opening : (w : World) (v : ℕ) (p : Program) (s : Vat Name) → Stands script w → slice_get w.vats v ≡ Some s → P v s
@@ -99,21 +99,21 @@ module _ (script : Script) (P : ℕ → Vat Name → Type 0) (Allowed : ℕ → 
     turn_keeps k v w x g h None q e = idle_keeps k w x h e
     turn_keeps k v w x g h (Some s) q e = turn_queue_keeps k v w x s q g h s.queue refl e
 
-    arrives_keeps : (k v to : ℕ) (w x : World) (ls : List Link) (n : Note Name) → Stands script w → InVats w → NoteOk (IsMade w.vats (length w.drawn)) n → (o : Option (Vat Name)) → slice_get w.vats to ≡ o → world.arrives script k v to (record w { links = ls }) n o ≡ Going x → InVats x
+    arrives_keeps : (k v to : ℕ) (w x : World) (ls : List Link) (n : Note Name) → Stands script w → InVats w → NoteOk (IsMade w.vats w.drawn) n → (o : Option (Vat Name)) → slice_get w.vats to ≡ o → world.arrives script k v to (record w { links = ls }) n o ≡ Going x → InVats x
     unfolding world.arrives world.within world.readied
     arrives_keeps k v to w x ls n g h i None q e = idle_keeps k (record w { links = ls }) x h e
     arrives_keeps k v to w x ls n g h i (Some s) q e = put_back_keeps (record w { links = ls }) x to (Carried k v to n (world.next_frame v to w.connections) ∷ []) (world.step_number script k) _ h (law.note w v to s n g q i (h to s q)) e
 
-    carry_notes_keeps : (k v to : ℕ) (w x : World) → Stands script w → InVats w → (ns : List (Note Name)) → AllOf (NoteOk (IsMade w.vats (length w.drawn))) ns → world.carry_notes script k v to w ns ≡ Going x → InVats x
+    carry_notes_keeps : (k v to : ℕ) (w x : World) → Stands script w → InVats w → (ns : List (Note Name)) → AllOf (NoteOk (IsMade w.vats w.drawn)) ns → world.carry_notes script k v to w ns ≡ Going x → InVats x
     unfolding world.carry_notes
     carry_notes_keeps k v to w x g h [] i e = idle_keeps k w x h e
     carry_notes_keeps k v to w x g h (n ∷ ns) i e = arrives_keeps k v to w x (world.with_link (world.with_notes ns) v to w.links) n g h i.0 (slice_get w.vats to) refl e
 
-    carry_cut_keeps : (k v to : ℕ) (w x : World) → Stands script w → InVats w → (l : Link) → AllOf (NoteOk (IsMade w.vats (length w.drawn))) l.notes → (b : Bool) → elim b [ true ↦ world.idle script k w | false ↦ world.carry_notes script k v to w l.notes ] ≡ Going x → InVats x
+    carry_cut_keeps : (k v to : ℕ) (w x : World) → Stands script w → InVats w → (l : Link) → AllOf (NoteOk (IsMade w.vats w.drawn)) l.notes → (b : Bool) → elim b [ true ↦ world.idle script k w | false ↦ world.carry_notes script k v to w l.notes ] ≡ Going x → InVats x
     carry_cut_keeps k v to w x g h l i true e = idle_keeps k w x h e
     carry_cut_keeps k v to w x g h l i false e = carry_notes_keeps k v to w x g h l.notes i e
 
-    carry_link_keeps : (k v to : ℕ) (w x : World) → Stands script w → InVats w → (o : Option Link) → MayBe (λ (l : Link). AllOf (NoteOk (IsMade w.vats (length w.drawn))) l.notes) o → world.carry_link script k v to w o ≡ Going x → InVats x
+    carry_link_keeps : (k v to : ℕ) (w x : World) → Stands script w → InVats w → (o : Option Link) → MayBe (λ (l : Link). AllOf (NoteOk (IsMade w.vats w.drawn)) l.notes) o → world.carry_link script k v to w o ≡ Going x → InVats x
     unfolding world.carry_link
     carry_link_keeps k v to w x g h None i e = idle_keeps k w x h e
     carry_link_keeps k v to w x g h (Some l) i e = carry_cut_keeps k v to w x g h l i l.cut e
@@ -136,7 +136,7 @@ module _ (script : Script) (P : ℕ → Vat Name → Type 0) (Allowed : ℕ → 
     pub step_keeps : (entry : Entry) (k : ℕ) (w x : World) → Stands script w → IsAllowed Allowed entry → InVats w → world.step script entry k w ≡ Going x → InVats x
     unfolding world.step
     step_keeps (Turn v) k w x g ok h e = turn_keeps k v w x g h (slice_get w.vats v) refl e
-    step_keeps (Carry v to) k w x g ok h e = carry_link_keeps k v to w x g h (world.link_at v to w.links) (link_ok (λ (l : Link). AllOf (NoteOk (IsMade w.vats (length w.drawn))) l.notes) v to w.links (links_made script w g)) e
+    step_keeps (Carry v to) k w x g ok h e = carry_link_keeps k v to w x g h (world.link_at v to w.links) (link_ok (λ (l : Link). AllOf (NoteOk (IsMade w.vats w.drawn)) l.notes) v to w.links (links_made script w g)) e
     step_keeps (CutLink v to) k w x g ok h e = cut_keeps k v to w x h e
     step_keeps (NoticeLink v to) k w x g ok h e = notice_keeps k v to w x g ok h (slice_get w.vats v) refl e
 

@@ -144,14 +144,14 @@ module _ (script : Script) where
 -- ---- all names but gifts
 
 module _ (script : Script) (w : World) (b : Before script w) (h : Both script w) (from to : ℕ) (l : Link) (n : Note Name) (ns : List (Note Name)) (s : Vat Name) (at : link_at from to w.links ≡ Some l) (notes : l.notes ≡ n ∷ ns) (there : slice_get w.vats to ≡ Some s) where
-  answer_new : (g : ℕ) (m : Msg) → claims to (Answer g m) s.known + brings_here to (Answer g m) from s.gifts (read_note (names_in s.known) n) ≤ allowed to (Answer g m) s (length w.drawn)
+  answer_new : (g : ℕ) (m : Msg) → claims to (Answer g m) s.known + brings_here to (Answer g m) from s.gifts (read_note (names_in s.known) n) ≤ allowed to (Answer g m) s w.drawn
   unfolding allowed numbered numbered_at
-  answer_new g m = let a = brings_answer script w b h.legs h.single from to s n ns l there at notes g m in let e = same_numbers to g m s in let f : numbered to (Answer g m) s.promises s.messages (length w.drawn) ≡ numbered_at to (Answer g m) s = numbers_same in omega arith
+  answer_new g m = let a = brings_answer script w b h.legs h.single from to s n ns l there at notes g m in let e = same_numbers to g m s in let f : numbered to (Answer g m) s.promises s.messages w.drawn ≡ numbered_at to (Answer g m) s = numbers_same in omega arith
     where
-      numbers_same : numbered to (Answer g m) s.promises s.messages (length w.drawn) ≡ numbered_at to (Answer g m) s
+      numbers_same : numbered to (Answer g m) s.promises s.messages w.drawn ≡ numbered_at to (Answer g m) s
       numbers_same = refl
 
-  pub but_gifts : (x : Name) → IsNoGift x → claims to x s.known + brings_here to x from s.gifts (read_note (names_in s.known) n) ≤ allowed to x s (length w.drawn)
+  pub but_gifts : (x : Name) → IsNoGift x → claims to x s.known + brings_here to x from s.gifts (read_note (names_in s.known) n) ≤ allowed to x s w.drawn
   but_gifts (Root u) k = brings_neither script w from to l n ns s (stands_of script w b) at notes there (Root u) tt
   but_gifts (Object u i) k = brings_neither script w from to l n ns s (stands_of script w b) at notes there (Object u i) tt
   but_gifts (Promise u i) k = brings_neither script w from to l n ns s (stands_of script w b) at notes there (Promise u i) tt

@@ -12,7 +12,7 @@ use Rattle.law_machine.proofs.StepLaws.{settled_stays}
 use Rattle.def_run.specs.Draws.{draw_word}
 use Rattle.def_run.specs.World as world
 use Rattle.def_run.specs.World.{Script, Program, Entry, Turn, Carry, CutLink, NoticeLink, Event, Idle, Link, World, Run, Goes, Stopped, names, names_of, read_note, readied}
-use Rattle.law_name.specs.Names.{AllOf, IsAmong, NoteOk, IsMade}
+use Rattle.law_name.specs.Names.{AllOf, IsAmong, WasDrawn, NoteOk, IsMade}
 use Rattle.law_fate.specs.Lasting.{Each, NoteWell}
 use Rattle.law_reference.specs.Notes.{IsBetween, LinkFits, NoteSpared}
 use Rattle.law_frozen.specs.Frozen.{AllOf as EachOf, MessageThere, NotePasses, Sound}
@@ -111,7 +111,7 @@ module _ (script : Script) where
     unfolding readied
     ready_same heed w s sound h = ringless_same word v heed D A s (readied w s) sound refl refl refl (inl refl) h.queue h.gifts h
 
-    ready_tells : (w : World) (s : Vat Name) → ((i : ℕ) → length w.drawn ≤ i → D i → ⊥) → TellsSo (N v) D (readied w s)
+    ready_tells : (w : World) (s : Vat Name) → ((i : ℕ) → (WasDrawn w.drawn i → ⊥) → D i → ⊥) → TellsSo (N v) D (readied w s)
     unfolding readied
     ready_tells w s f = (f, tt)
 
@@ -176,8 +176,8 @@ module _ (script : Script) where
     -- ---- a note is carried
 
     module _ (from to : ℕ) (l : Link) (found : world.link_at from to w.links ≡ Some l) (uncut : l.cut ≡ false) where
-      made_all : AllOf (NoteOk (IsMade w.vats (length w.drawn))) l.notes
-      made_all = link_all (λ (j : Link). AllOf (NoteOk (IsMade w.vats (length w.drawn))) j.notes) from to w.links l a.notes found
+      made_all : AllOf (NoteOk (IsMade w.vats w.drawn)) l.notes
+      made_all = link_all (λ (j : Link). AllOf (NoteOk (IsMade w.vats w.drawn)) j.notes) from to w.links l a.notes found
 
       fits_all : AllOf (IsBetween l.from l.to) l.notes
       fits_all = (link_all LinkFits from to w.links l a.ends found).1
@@ -200,8 +200,8 @@ module _ (script : Script) where
         unfolding world.with_notes
         rest_true = with_link_all (LinkTrue word D w.vats) (world.with_notes ns) from to w.links (λ j f g h. (h.0, subst (λ u. AllOf (NoteTrue word D w.vats u) ns) (sym f) tail_true.1)) rings.links
 
-        made_front : AllOf (NoteOk (IsMade w.vats (length w.drawn))) (n ∷ ns)
-        made_front = subst (λ xs. AllOf (NoteOk (IsMade w.vats (length w.drawn))) xs) front made_all
+        made_front : AllOf (NoteOk (IsMade w.vats w.drawn)) (n ∷ ns)
+        made_front = subst (λ xs. AllOf (NoteOk (IsMade w.vats w.drawn)) xs) front made_all
 
         fits_front : AllOf (IsBetween from to) (n ∷ ns)
         fits_front = let both = link_found from to w.links l found in subst (λ u. AllOf (IsBetween u to) (n ∷ ns)) both.0 (subst (λ u. AllOf (IsBetween l.from u) (n ∷ ns)) both.1 (subst (λ xs. AllOf (IsBetween l.from l.to) xs) front fits_all))
@@ -212,12 +212,12 @@ module _ (script : Script) where
         spared_front : (s : Vat Name) → slice_get w.vats to ≡ Some s → AllOf (NoteSpared s) (n ∷ ns)
         spared_front s e = subst (λ xs. AllOf (NoteSpared s) xs) front (a.spared from to s l e found uncut)
 
-        module _ (E : ℕ → Type 0) (back : (i : ℕ) → E i → D i ⊎ (i ≡ length w.drawn)) where
-          open_all : (ms : List (Note Name)) → AllOf (NoteOk (IsMade w.vats (length w.drawn))) ms → AllOf (OpenBack word D E) ms
+        module _ (E : ℕ → Type 0) (back : (i : ℕ) → E i → D i ⊎ (WasDrawn w.drawn i → ⊥)) where
+          open_all : (ms : List (Note Name)) → AllOf (NoteOk (IsMade w.vats w.drawn)) ms → AllOf (OpenBack word D E) ms
           open_all [] h = tt
           open_all (m ∷ ms) h = (open_back word D E w a back m h.0, open_all ms h.1)
 
-          open_links : (ls : List Link) → AllOf (λ (j : Link). AllOf (NoteOk (IsMade w.vats (length w.drawn))) j.notes) ls → AllOf (λ (j : Link). AllOf (OpenBack word D E) j.notes) ls
+          open_links : (ls : List Link) → AllOf (λ (j : Link). AllOf (NoteOk (IsMade w.vats w.drawn)) j.notes) ls → AllOf (λ (j : Link). AllOf (OpenBack word D E) j.notes) ls
           open_links [] h = tt
           open_links (j ∷ ls) h = (open_all j.notes h.0, open_links ls h.1)
 
@@ -233,9 +233,9 @@ module _ (script : Script) where
           Read = read_note (names_of s) n
 
           abbrev E : ℕ → Type 0
-          E i = DrawsAfter D R Read i
+          E i = DrawsAfter word D R Read i
 
-          draws_into : (m : Note (Incoming Name Name)) (i : ℕ) → D i → DrawsAfter D R m i
+          draws_into : (m : Note (Incoming Name Name)) (i : ℕ) → D i → DrawsAfter word D R m i
           draws_into (Deliver p y verb ys) i d = d
           draws_into (Open j y) i d = d
           draws_into (Ask p j y) i d = d
@@ -243,7 +243,7 @@ module _ (script : Script) where
           draws_into (Elsewhere y c) i d = inl d
           draws_into (Shorten y c j) i d = d
 
-          draws_back : (m : Note (Incoming Name Name)) (i : ℕ) → DrawsAfter D R m i → D i ⊎ (i ≡ length w.drawn)
+          draws_back : (m : Note (Incoming Name Name)) (i : ℕ) → DrawsAfter word D R m i → D i ⊎ (WasDrawn w.drawn i → ⊥)
           unfolding readied
           draws_back (Deliver p y verb ys) i d = inl d
           draws_back (Open j y) i d = inl d

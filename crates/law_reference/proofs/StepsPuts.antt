@@ -1,8 +1,6 @@
--- Turns put gifts of new draws alone, each once, and tell of the vat as their provider; and so does what arrives, but that a view has the old host as its provider.
-use Rattle.std.proofs.Common.{◌≡◌, ℕ, suc, ◌≤◌, ◌<◌, Bool, true, false, List, refl, ◌∙◌, arith, leb-true}
-use Rattle.std.specs.Prelude.{nat_le}
-use Rattle.std.proofs.lemmas.Bool.{le-leb}
-use Rattle.def_machine.specs.Values.{Name, Naming, naming}
+-- Turns put gifts under new words alone, each once, and tell of the vat as their provider; and so does what arrives, but that a view has the old host as its provider.
+use Rattle.std.proofs.Common.{◌≡◌, ℕ, Bool, true, false, List, refl, ◌∙◌}
+use Rattle.def_machine.specs.Values.{Name, Naming, naming, word_of}
 use Rattle.def_machine.specs.State.{Binding, Message, Note, Deliver, Open, Ask, SettledTo, Elsewhere, Shorten, Vat, Took, is_in}
 use Rattle.def_machine.specs.Eval as eval
 use Rattle.def_machine.specs.Arrive as arrive
@@ -10,44 +8,39 @@ use Rattle.def_run.specs.World as world
 use Rattle.def_kernel.specs.declared.node.Node.{Node}
 use Rattle.law_machine.specs.Steps.{After}
 use Rattle.law_machine.proofs.Keeps.{Keeps}
+use Rattle.law_name.specs.Names.{IsAmong}
 use Rattle.law_fate.proofs.Spares.{keeps_activation, keeps_bind, keeps_then}
 use Rattle.law_fate.proofs.Leads.{IsLed, IsLedUnder, all_by, led_by_all, led_under_by_all}
 use Rattle.law_fate.proofs.TurnLeads.{good_evaluator, leads_turn_value, leads_closes, leads_opening}
 use Rattle.law_reference.specs.GiftPassing.{IsProvidedBy, Provides}
-use Rattle.law_reference.proofs.Puts.{Fair, spared, fair_tell, provides_up, less}
+use Rattle.law_reference.proofs.Puts.{AllStay, Fair, spared, fair_tell, provides_up, in_among, among_in}
 use Rattle.law_reference.proofs.RefsPuts.{spared_under}
 use Rattle.law_reference.proofs.ArrivePuts.{fair_arrive, news_of_gone, news_of_view, told_host}
 
--- as P tells of the first d draws, and q of all later ones
-unfoldable pub later : (ℕ → ℕ) → ℕ → ℕ → ℕ → ℕ
-later P d q i = elim (nat_le (suc i) d) [ true ↦ P i | false ↦ q ]
+-- as P tells of the words d, and q of all others
+unfoldable pub later : (ℕ → ℕ) → List ℕ → ℕ → ℕ → ℕ
+later P d q x = elim (is_in x d) [ true ↦ P x | false ↦ q ]
 
-true_false : true ≡ false → ⊥
-true_false e = cc
+old_or : (P : ℕ → ℕ) (q x : ℕ) (b : Bool) → b ≡ true → elim b [ true ↦ P x | false ↦ q ] ≡ P x
+old_or P q x true e = refl
+old_or P q x false e = cc
 
-old_or : (P : ℕ → ℕ) (q i : ℕ) (b : Bool) → b ≡ true → elim b [ true ↦ P i | false ↦ q ] ≡ P i
-old_or P q i true e = refl
-old_or P q i false e = cc
+new_or : (P : ℕ → ℕ) (q x : ℕ) (b : Bool) → (b ≡ true → ⊥) → elim b [ true ↦ P x | false ↦ q ] ≡ q
+new_or P q x true f = absurd (f refl)
+new_or P q x false f = refl
 
-new_or : (P : ℕ → ℕ) (q i : ℕ) (b : Bool) → (b ≡ true → ⊥) → elim b [ true ↦ P i | false ↦ q ] ≡ q
-new_or P q i true f = absurd (f refl)
-new_or P q i false f = refl
-
-later_old : (P : ℕ → ℕ) (d q i : ℕ) → i < d → later P d q i ≡ P i
+later_old : (P : ℕ → ℕ) (d : List ℕ) (q x : ℕ) → IsAmong x d → later P d q x ≡ P x
 unfolding later
-later_old P d q i h = old_or P q i (nat_le (suc i) d) (le-leb (suc i) d (omega arith))
+later_old P d q x a = old_or P q x (is_in x d) (among_in x d a)
 
-no_less : (i d : ℕ) → d ≤ i → suc i ≤ d → ⊥
-no_less i d h k = omega arith
-
-pub later_new : (P : ℕ → ℕ) (d q i : ℕ) → d ≤ i → later P d q i ≡ q
+pub later_new : (P : ℕ → ℕ) (d : List ℕ) (q x : ℕ) → (IsAmong x d → ⊥) → later P d q x ≡ q
 unfolding later
-later_new P d q i h = new_or P q i (nat_le (suc i) d) (λ e. no_less i d h (leb-true (suc i) d e))
+later_new P d q x f = new_or P q x (is_in x d) (λ e. f (in_among x d e))
 
-pub later_up : (P : ℕ → ℕ) (d q e : ℕ) → d ≤ e → (i p : ℕ) → IsProvidedBy P d i p → IsProvidedBy (later P d q) e i p
-later_up P d q e l i p h = (less i d e h.0 l, later_old P d q i h.0 ∙ h.1)
+pub later_up : (P : ℕ → ℕ) (d : List ℕ) (q : ℕ) (e : List ℕ) → AllStay d e → (i p : ℕ) → IsProvidedBy P d i p → IsProvidedBy (later P d q) e i p
+later_up P d q e l i p h = (l (word_of i) h.0, later_old P d q (word_of i) h.0 ∙ h.1, h.2)
 
-module _ (v d0 : ℕ) (F : ℕ → ℕ) (fresh : (i : ℕ) → d0 ≤ i → F i ≡ v) (word : ℕ → ℕ) where
+module _ (v : ℕ) (d0 : List ℕ) (F : ℕ → ℕ) (fresh : (x : ℕ) → (IsAmong x d0 → ⊥) → F x ≡ v) (word : ℕ → ℕ) where
   abbrev K : Naming Name Name
   K = naming word v
 
@@ -70,8 +63,8 @@ module _ (v d0 : ℕ) (F : ℕ → ℕ) (fresh : (i : ℕ) → d0 ≤ i → F i 
 
 -- ---- what arrives
 
-module _ (P : ℕ → ℕ) (d from to : ℕ) (word : ℕ → ℕ) (ks : List Name) (s : Vat Name) where
-  -- what arrives ends well where all later draws are of provider q
+module _ (P : ℕ → ℕ) (d : List ℕ) (from to : ℕ) (word : ℕ → ℕ) (ks : List Name) (s : Vat Name) where
+  -- what arrives ends well where all later words are of provider q
   abbrev Arrives : ℕ → Note Name → Type 0
   Arrives q n = After (Fair to d (later P d q)) s (arrive.arrive (naming word to) from (world.read_note ks n) s)
 
@@ -79,7 +72,7 @@ module _ (P : ℕ → ℕ) (d from to : ℕ) (word : ℕ → ℕ) (ks : List Nam
   Ends n = (q : ℕ) × Arrives q n
 
   told : (q : ℕ) (n : Note Name) → Provides P d from to n → Provides (later P d q) d from to n
-  told q n h = provides_up P (later P d q) d d (later_up P d q d (omega arith)) from to n h
+  told q n h = provides_up P (later P d q) d d (later_up P d q d (λ x a. a)) from to n h
 
   news : (n : Name) (c : ℕ) (b : Bool) → is_in c s.noticed ≡ b → Ends (Elsewhere n c)
   news n c true e = (to, news_of_gone to d (later P d to) (λ i h. later_new P d to i h) word from ks n c s e)

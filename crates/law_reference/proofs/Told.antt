@@ -1,5 +1,5 @@
 -- What laws of runs say of a note under way is what is asked of it where it arrives.
-use Rattle.std.proofs.Common.{◌≡◌, ℕ, ◌<◌, Bool, true, false, List, [], ◌∷◌, Option, Some, None, refl, sym, subst, inl, inr, ◌==◌, arith}
+use Rattle.std.proofs.Common.{◌≡◌, ℕ, Bool, true, false, List, [], ◌∷◌, Option, Some, None, refl, sym, subst, inl, inr, ◌==◌}
 use Rattle.std.proofs.lemmas.Bool.{eqb-true}
 use Rattle.def_machine.specs.Values.{Value, Null, Flag, Number, Letter, Text, Prim, Broken, Items, Ref, Name, Root, Object, Promise, Answer, Gift, Sent, Naming, naming, host_of}
 use Rattle.def_machine.specs.State.{Known, Passed, Passeds, Plain, AGift, Many, NoMore, More, GiftEntry, Vat, is_gift, is_in}
@@ -7,7 +7,7 @@ use Rattle.def_machine.specs.Refs.{entry_of}
 use Rattle.def_machine.specs.Arrive.{Old, New, gift_at}
 use Rattle.def_run.specs.World as world
 use Rattle.def_run.specs.World.{is_old, read_name, names_of}
-use Rattle.law_name.specs.Names.{AllOf, IsAmong, PassedOk, PassedsOk, ValueOk, GiftOk, IsMade, WasMade, IsMessageMade, IsEventual, names_in}
+use Rattle.law_name.specs.Names.{AllOf, IsAmong, WasDrawn, PassedOk, PassedsOk, ValueOk, GiftOk, IsMade, WasMade, IsMessageMade, IsEventual, names_in}
 use Rattle.law_name.proofs.SameNames.{reference_is}
 use Rattle.law_fate.specs.Lasting.{NamesObject, PassedLast, NoPromise as LastsNot}
 use Rattle.law_reference.specs.Notes.{PassesSpared, AllPassSpared, ValueSpared}
@@ -23,7 +23,7 @@ new_well : (b : Bool) (hs : List ℕ) (n : Name) → IsEventual n → is_in (hos
 new_well true hs n i e = tt
 new_well false hs n i e = (e, i)
 
-pub told_well : (hs : List ℕ) (ks : List Name) (vats : List (Vat Name)) (d : ℕ) (n : Name) → WasMade vats d n → (IsEventual n → is_in (host_of n) hs ≡ false) → IsToldWell hs (read_name ks n)
+pub told_well : (hs : List ℕ) (ks : List Name) (vats : List (Vat Name)) (d : List ℕ) (n : Name) → WasMade vats d n → (IsEventual n → is_in (host_of n) hs ≡ false) → IsToldWell hs (read_name ks n)
 unfolding read_name is_old host_of
 told_well hs ks vats d (Object w i) m f = tt
 told_well hs ks vats d (Root w) m f = new_well (is_old ks (Root w)) hs (Root w) tt (f tt)
@@ -40,7 +40,7 @@ pub told_is : (ks : List Name) (n : Name) → told_name (read_name ks n) ≡ n
 unfolding read_name
 told_is ks n = told_either (is_old ks n) n
 
-pub told_mail : (ks : List Name) (vats : List (Vat Name)) (d : ℕ) (n : Name) → IsMessageMade vats n → IsToldMail (New n (host_of n))
+pub told_mail : (ks : List Name) (vats : List (Vat Name)) (d : List ℕ) (n : Name) → IsMessageMade vats n → IsToldMail (New n (host_of n))
 told_mail ks vats d (Sent m) h = tt
 told_mail ks vats d (Root w) h = absurd h
 told_mail ks vats d (Object w i) h = absurd h
@@ -50,7 +50,7 @@ told_mail ks vats d (Gift w i) h = absurd h
 
 -- ---- what passes
 
-module _ (vats : List (Vat Name)) (d : ℕ) where
+module _ (vats : List (Vat Name)) (d : List ℕ) where
   -- nothing is heeded
   plain_value : (ks : List Name) (y : Value Name) → ValueOk (IsMade vats d) y → ToldValue [] (world.read_value ks y).read
   unfolding world.read_value
@@ -178,7 +178,7 @@ module _ (word : ℕ → ℕ) (v : ℕ) where
   found_among [] n k e = cc
   found_among (k0 ∷ ks) n k e = known_head (K.same k0.name n) k0 k n (entry_of K ks n) (names_in ks) (reference_is k0.name n) e (λ i. found_among ks n k i)
 
--- no draw to come is that of a gift that stands
+-- a key whose word was not drawn is that of no gift that stands
 gift_head : (b : Bool) (g : GiftEntry Name) (o : Option (GiftEntry Name)) → (b ≡ true → ⊥) → o ≡ None → ◌≡◌ {A = Option (GiftEntry Name)} (elim b [ true ↦ Some g | false ↦ o ]) None
 gift_head true g o f e = absurd (f refl)
 gift_head false g o f e = e
@@ -187,14 +187,11 @@ gift_either : (a b : Bool) → elim a [ true ↦ b | false ↦ false ] ≡ true 
 gift_either true b e = e
 gift_either false b e = cc
 
-other_gift : (p d : ℕ) (g : GiftEntry Name) → g.number < d → is_gift p d g ≡ true → ⊥
+other_gift : (ds : List ℕ) (p k : ℕ) (g : GiftEntry Name) → (WasDrawn ds k → ⊥) → WasDrawn ds g.number → is_gift p k g ≡ true → ⊥
 unfolding is_gift
-other_gift p d g l e = less_same (eqb-true g.number d (gift_either (g.provider == p) (g.number == d) e)) l
-  where
-    less_same : g.number ≡ d → g.number < d → ⊥
-    less_same a m = omega arith
+other_gift ds p k g new l e = new (subst (WasDrawn ds) (eqb-true g.number k (gift_either (g.provider == p) (g.number == k) e)) l)
 
-pub gift_unknown : (vats : List (Vat Name)) (d p : ℕ) (gs : List (GiftEntry Name)) → AllOf (GiftOk (IsMade vats d)) gs → gift_at p d gs ≡ None
+pub gift_unknown : (vats : List (Vat Name)) (d : List ℕ) (p k : ℕ) (gs : List (GiftEntry Name)) → (WasDrawn d k → ⊥) → AllOf (GiftOk (IsMade vats d)) gs → gift_at p k gs ≡ None
 unfolding gift_at
-gift_unknown vats d p [] h = refl
-gift_unknown vats d p (g ∷ gs) h = gift_head (is_gift p d g) g (gift_at p d gs) (other_gift p d g h.0.1) (gift_unknown vats d p gs h.1)
+gift_unknown vats d p k [] new h = refl
+gift_unknown vats d p k (g ∷ gs) new h = gift_head (is_gift p k g) g (gift_at p k gs) (other_gift d p k g new h.0.1) (gift_unknown vats d p k gs new h.1)

@@ -9,7 +9,7 @@ use Rattle.law_machine.specs.Laws.{SettledStays}
 use Rattle.def_run.specs.Wire.{Connected}
 use Rattle.def_run.specs.World as world
 use Rattle.def_run.specs.World.{Script, Event, Link, World, Goes}
-use Rattle.law_name.specs.Names.{AllOf, IsAmong}
+use Rattle.law_name.specs.Names.{AllOf, IsAmong, WasDrawn}
 use Rattle.law_name.proofs.Facts.{all_end, all_map}
 use Rattle.law_frozen.proofs.RunSound.{put_at_or}
 use Rattle.law_reference.specs.ListRingless.{IsObjectName, IsView, Ringless, NoteTells, TellsSo, heeded}
@@ -115,7 +115,7 @@ module _ (word : ℕ → ℕ) where
   LinkTrue D vats l = (l.from ≡ l.to → ⊥) × AllOf (NoteTrue D vats l.from) l.notes
 
   pub record RingsBy (heed : Bool) (D : ℕ → Type 0) (w : World) : Type 0 where
-    pub drawn : (i : ℕ) → length w.drawn ≤ i → D i → ⊥
+    pub drawn : (i : ℕ) → (WasDrawn w.drawn i → ⊥) → D i → ⊥
     pub vats : (v : ℕ) (s : Vat Name) → slice_get w.vats v ≡ Some s → Ringless (K v) v D (Seen w.vats v) (heeded heed s) s
     pub links : AllOf (LinkTrue D w.vats) w.links
 

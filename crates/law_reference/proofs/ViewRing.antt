@@ -207,15 +207,15 @@ module _ (word : ℕ → ℕ) (v : ℕ) (heed : Bool) (D : ℕ → Type 0) (Seen
   view_into E into (Answer u m) w = absurd w
   view_into E into (Sent m) w = absurd w
 
-  -- a view of another draw
-  pub view_draw : (E : ℕ → Type 0) (d : ℕ) → ((i : ℕ) → E i → D i ⊎ (i ≡ d)) → (n : Name) → ((h : ℕ) → n ≡ Gift h d → ⊥) → IsView E n → IsView D n
-  view_draw E d back (Gift h i) apart w = pick (back i w)
+  -- a view under another key
+  pub view_draw : (E F : ℕ → Type 0) → ((i : ℕ) → E i → D i ⊎ F i) → (n : Name) → ((h i : ℕ) → F i → n ≡ Gift h i → ⊥) → IsView E n → IsView D n
+  view_draw E F back (Gift h i) apart w = pick (back i w)
     where
-      pick : D i ⊎ (i ≡ d) → D i
+      pick : D i ⊎ F i → D i
       pick (inl j) = j
-      pick (inr j) = absurd (apart h (ap (λ x. Gift h x) j))
-  view_draw E d back (Root u) apart w = absurd w
-  view_draw E d back (Object u i) apart w = absurd w
-  view_draw E d back (Promise u i) apart w = absurd w
-  view_draw E d back (Answer u m) apart w = absurd w
-  view_draw E d back (Sent m) apart w = absurd w
+      pick (inr j) = absurd (apart h i j refl)
+  view_draw E F back (Root u) apart w = absurd w
+  view_draw E F back (Object u i) apart w = absurd w
+  view_draw E F back (Promise u i) apart w = absurd w
+  view_draw E F back (Answer u m) apart w = absurd w
+  view_draw E F back (Sent m) apart w = absurd w

@@ -1,10 +1,12 @@
 -- Making a view: the gift that becomes the view is new, and the name waits on it.
 use Rattle.std.proofs.Common.{◌≡◌, ℕ, zero, ◌<◌, ◌≤◌, Bool, true, false, List, [], ◌∷◌, ◌++◌, Option, Some, None, refl, sym, ap, subst, ◌∙◌, ◌⊎◌, inl, inr, length, arith, if◌then◌else◌, ◌==◌}
-use Rattle.def_machine.specs.Values.{Value, Name, Gift, Naming, naming, name_of, IsGift}
+use Rattle.def_machine.specs.Values.{Value, Name, Gift, Naming, naming, name_of, IsGift, key, under}
 use Rattle.def_machine.specs.State.{Unsettled, Viewed, Settled, Known, Wait, See, Ask, Shorten, GiftEntry, Put, Vat, ◌>>=◌, ◌>>◌, and_then, give, look, tell, alter, come, draw, draws, drawn_at, send_out, new_gift, with_change, changed, changed_to, unless_settled, begun}
 use Rattle.def_machine.specs.Refs.{entry_of, standing_of, standing_in, host_at}
 use Rattle.def_machine.specs.Arrive as arrive
-use Rattle.law_name.specs.Names.{IsAmong, IsEventual}
+use Rattle.law_machine.proofs.KeyLaws.{word_under_key}
+use Rattle.law_name.specs.Names.{IsAmong, WasDrawn, IsEventual}
+use Rattle.law_name.proofs.Among.{key_not_drawn}
 use Rattle.law_name.proofs.SameNames.{reference_is, reference_self}
 use Rattle.law_reference.specs.Views.{IsOpen, index_at, Awaits, ViewsWait}
 use Rattle.law_reference.proofs.Entries.{SameOr, same_or, changed_at, Knows, index_changed, index_append, index_less, index_last, unless_either, mild_wait}
@@ -148,10 +150,10 @@ module _ (K : Naming Name Name) (is : (a b : Name) → K.same a b ≡ true → a
 -- ---- what views a name does
 
 module _ (word : ℕ → ℕ) (v : ℕ) where
-  -- a gift of the next draw is new
+  -- a gift under a word that was not drawn is new
   pub record GiftsAreNew (s : Vat Name) : Type 0 where
-    pub names : (c : ℕ) → entry_of (naming word v) s.known (Gift c (length s.drawn)) ≡ None
-    pub gifts : (p : ℕ) → arrive.gift_at p (length s.drawn) s.gifts ≡ None
+    pub names : (c i : ℕ) → (WasDrawn s.drawn i → ⊥) → entry_of (naming word v) s.known (Gift c i) ≡ None
+    pub gifts : (p i : ℕ) → (WasDrawn s.drawn i → ⊥) → arrive.gift_at p i s.gifts ≡ None
 
   abbrev Good : Vat Name → Type 0
   Good t = ViewsWait (naming word v) t.known
@@ -161,34 +163,34 @@ module _ (word : ℕ → ℕ) (v : ℕ) where
   seen ks n g h views fresh eventual other = see_views (naming word v) (λ a b. reference_is a b) ks n g h views fresh (reference_self g eventual) other
 
   -- here: it is a gift that this vat hosts
-  view_own : (s : Vat Name) (n : Name) (h u i w : ℕ) (p : Put Name) (o : Option (GiftEntry Name)) → o ≡ None → i ≡ length s.drawn → Good s → GiftsAreNew s → (n ≡ Gift u i → ⊥)
+  view_own : (s : Vat Name) (n : Name) (h u i w : ℕ) (p : Put Name) (o : Option (GiftEntry Name)) → o ≡ None → (WasDrawn s.drawn i → ⊥) → Good s → GiftsAreNew s → (n ≡ Gift u i → ⊥)
       → AfterGives Good ((arrive.gift_or_new (naming word v) u h i o >>= (λ g. arrive.see (naming word v) n g)) (record s { drawn = s.drawn ++ w ∷ []; outbox = s.outbox ++ p ∷ [] }))
   unfolding arrive.gift_or_new arrive.see ◌>>=◌ ◌>>◌ and_then come new_gift give tell alter naming name_of
   view_own s n h u i w p (Some g) e l views new other = cc
-  view_own s n h u i w p None e l views new other = seen s.known n (Gift u i) u views (rw (sym l) at (new.names u)) tt other
+  view_own s n h u i w p None e l views new other = seen s.known n (Gift u i) u views (new.names u i l) tt other
 
   -- elsewhere: the gift is asked for
-  view_asked : (s : Vat Name) (n : Name) (h c i w : ℕ) (p : Put Name) → i ≡ length s.drawn → Good s → GiftsAreNew s → (n ≡ Gift c i → ⊥)
+  view_asked : (s : Vat Name) (n : Name) (h c i w : ℕ) (p : Put Name) → (WasDrawn s.drawn i → ⊥) → Good s → GiftsAreNew s → (n ≡ Gift c i → ⊥)
       → AfterGives Good (((come (naming word v) (IsGift c i) c >>= (λ g. send_out c (Ask h i g) >> give g)) >>= (λ g. arrive.see (naming word v) n g)) (record s { drawn = s.drawn ++ w ∷ []; outbox = s.outbox ++ p ∷ [] }))
   unfolding arrive.see ◌>>=◌ ◌>>◌ and_then come send_out give tell alter naming name_of
-  view_asked s n h c i w p l views new other = seen s.known n (Gift c i) c views (rw (sym l) at (new.names c)) tt other
+  view_asked s n h c i w p l views new other = seen s.known n (Gift c i) c views (new.names c i l) tt other
 
-  view_had : (s : Vat Name) (n : Name) (h i w : ℕ) (p : Put Name) → i ≡ length s.drawn → Good s → GiftsAreNew s → ((a : ℕ) → n ≡ Gift a i → ⊥)
+  view_had : (s : Vat Name) (n : Name) (h i w : ℕ) (p : Put Name) → (WasDrawn s.drawn i → ⊥) → Good s → GiftsAreNew s → ((a : ℕ) → n ≡ Gift a i → ⊥)
       → AfterGives Good ((arrive.have_gift (naming word v) h i >>= (λ g. arrive.see (naming word v) n g)) (record s { drawn = s.drawn ++ w ∷ []; outbox = s.outbox ++ p ∷ [] }))
   unfolding arrive.have_gift ◌>>=◌ and_then look
-  view_had s n h i w p l views new other = view_own s n h s.number i w p (arrive.gift_at h i s.gifts) (rw (sym l) at (new.gifts h)) l views new (other s.number)
+  view_had s n h i w p l views new other = view_own s n h s.number i w p (arrive.gift_at h i s.gifts) (new.gifts h i l) l views new (other s.number)
 
-  view_there_at : (s : Vat Name) (n : Name) (h c i w : ℕ) (p : Put Name) (b : Bool) → i ≡ length s.drawn → Good s → GiftsAreNew s → ((a : ℕ) → n ≡ Gift a i → ⊥)
+  view_there_at : (s : Vat Name) (n : Name) (h c i w : ℕ) (p : Put Name) (b : Bool) → (WasDrawn s.drawn i → ⊥) → Good s → GiftsAreNew s → ((a : ℕ) → n ≡ Gift a i → ⊥)
       → AfterGives Good (((if b then arrive.have_gift (naming word v) h i else (come (naming word v) (IsGift c i) c >>= (λ g. send_out c (Ask h i g) >> give g))) >>= (λ g. arrive.see (naming word v) n g)) (record s { drawn = s.drawn ++ w ∷ []; outbox = s.outbox ++ p ∷ [] }))
   view_there_at s n h c i w p true l views new other = view_had s n h i w p l views new other
   view_there_at s n h c i w p false l views new other = view_asked s n h c i w p l views new (other c)
 
-  view_drawn : (s : Vat Name) (n : Name) (h c w : ℕ) (o : Option ℕ) → Good s → GiftsAreNew s → ((a : ℕ) → n ≡ Gift a (length s.drawn) → ⊥)
-      → AfterGives Good (and_then (draws w o s) (λ i. send_out h (Shorten n c i) >> (arrive.gift_there (naming word v) s.number h c i >>= (λ g. arrive.see (naming word v) n g))))
+  view_drawn : (s : Vat Name) (n : Name) (h c w : ℕ) (o : Option ℕ) → drawn_at zero w s.drawn ≡ o → Good s → GiftsAreNew s → ((a i : ℕ) → (WasDrawn s.drawn i → ⊥) → n ≡ Gift a i → ⊥)
+      → AfterGives Good (and_then (draws w o s) (λ i. send_out h (Shorten n c (under h i)) >> (arrive.gift_there (naming word v) s.number h c (under h i) >>= (λ g. arrive.see (naming word v) n g))))
   unfolding draws and_then ◌>>◌ send_out arrive.gift_there
-  view_drawn s n h c w (Some j) views new other = tt
-  view_drawn s n h c w None views new other = view_there_at s n h c (length s.drawn) w (record { to = h; note = Shorten n c (length s.drawn) }) (c == s.number) refl views new other
+  view_drawn s n h c w (Some j) e views new other = tt
+  view_drawn s n h c w None e views new other = let i : ℕ = under h (key s.number w) in let l : WasDrawn s.drawn i → ⊥ = key_not_drawn s.drawn w i e (word_under_key h s.number w) in view_there_at s n h c i w (record { to = h; note = Shorten n c i }) (c == s.number) l views new (λ a. other a i l)
 
-  pub views_there : (s : Vat Name) (n : Name) (c : ℕ) → Good s → GiftsAreNew s → ((a : ℕ) → n ≡ Gift a (length s.drawn) → ⊥) → AfterGives Good (arrive.view_there (naming word v) n c s)
+  pub views_there : (s : Vat Name) (n : Name) (c : ℕ) → Good s → GiftsAreNew s → ((a i : ℕ) → (WasDrawn s.drawn i → ⊥) → n ≡ Gift a i → ⊥) → AfterGives Good (arrive.view_there (naming word v) n c s)
   unfolding arrive.view_there ◌>>=◌ and_then look draw naming
-  views_there s n c views new other = view_drawn s n (host_at (naming word v) s.number s.known n) c (word (length s.drawn)) (drawn_at zero (word (length s.drawn)) s.drawn) views new other
+  views_there s n c views new other = view_drawn s n (host_at (naming word v) s.number s.known n) c (word (length s.drawn)) (drawn_at zero (word (length s.drawn)) s.drawn) refl views new other

@@ -1,5 +1,5 @@
 -- In every world of a run what is viewed waits on its view.
-use Rattle.std.proofs.Common.{◌≡◌, ℕ, zero, suc, ◌<◌, Bool, true, false, List, [], ◌∷◌, ◌++◌, Option, Some, None, refl, sym, length, map, arith, append-nil, ◌∙◌, ◌==◌}
+use Rattle.std.proofs.Common.{◌≡◌, ℕ, zero, suc, Bool, true, false, List, [], ◌∷◌, ◌++◌, Option, Some, None, refl, sym, subst, map, append-nil, ◌∙◌, ◌==◌}
 use Rattle.std.specs.Prelude.{slice_get}
 use Rattle.std.proofs.lemmas.Bool.{eqb-true}
 use Rattle.def_machine.specs.Values.{Name, Root, Gift, naming, same_reference}
@@ -9,7 +9,7 @@ use Rattle.def_machine.specs.Arrive.{gift_at}
 use Rattle.def_run.specs.Draws.{draw_word}
 use Rattle.def_run.specs.World as world
 use Rattle.def_run.specs.World.{Script, Program, Entry, World, Goes, names, readied}
-use Rattle.law_name.specs.Names.{Bit, Drew, Entered, Named, AllOf, IsMade, NoteOk, KnownOk, GiftOk, names_in, Once}
+use Rattle.law_name.specs.Names.{Bit, Drew, Entered, Named, AllOf, WasDrawn, IsMade, NoteOk, KnownOk, GiftOk, names_in, Once}
 use Rattle.law_name.proofs.Run.{Had, Stands, opened_stands}
 use Rattle.law_reference.specs.Views.{ViewsWait}
 use Rattle.law_reference.specs.Rest.{ViewsWaitInRuns}
@@ -18,22 +18,19 @@ use Rattle.law_name.proofs.SameNames.{reference_is}
 use Rattle.law_reference.proofs.ViewsSteps.{TellsNoNewGift, views_taking, views_opening, views_notice, views_arrive}
 use Rattle.law_reference.proofs.RunLift.{StepsKeep, InVats, steps_keep, opens_keep, all_allowed}
 
--- ---- the gifts of the next draw are new
-
-no_self : (i j : ℕ) → i < j → i ≡ j → ⊥
-no_self i j h e = omega arith
+-- ---- the gifts under a word that was not drawn are new
 
 pick_other : (b : Bool) (k : Known Name) (o : Option (Known Name)) → (b ≡ true → ⊥) → o ≡ None → ◌≡◌ {A = Option (Known Name)} (elim b [ true ↦ Some k | false ↦ o ]) None
 pick_other true k o f e = absurd (f refl)
 pick_other false k o f e = e
 
-made_gift : (vats : List (Vat Name)) (d a : ℕ) (n : Name) → IsMade vats d (Named n) → n ≡ Gift a d → ⊥
-made_gift vats d a n m e = let less : d < d = rw e at m in no_self d d less refl
+made_gift : (vats : List (Vat Name)) (d : List ℕ) (a i : ℕ) (n : Name) → (WasDrawn d i → ⊥) → IsMade vats d (Named n) → n ≡ Gift a i → ⊥
+made_gift vats d a i n new m e = let drawn : WasDrawn d i = rw e at m in new drawn
 
-unknown_gift : (word : ℕ → ℕ) (v : ℕ) (vats : List (Vat Name)) (d : ℕ) (P : Bit Name → Type 0) → ((b : Bit Name) → P b → IsMade vats d b) → (a : ℕ) (ks : List (Known Name)) → AllOf (KnownOk P) ks → entry_of (naming word v) ks (Gift a d) ≡ None
+unknown_gift : (word : ℕ → ℕ) (v : ℕ) (vats : List (Vat Name)) (d : List ℕ) (P : Bit Name → Type 0) → ((b : Bit Name) → P b → IsMade vats d b) → (a i : ℕ) → (WasDrawn d i → ⊥) → (ks : List (Known Name)) → AllOf (KnownOk P) ks → entry_of (naming word v) ks (Gift a i) ≡ None
 unfolding entry_of naming
-unknown_gift word v vats d P made a [] h = refl
-unknown_gift word v vats d P made a (k ∷ ks) h = pick_other (same_reference k.name (Gift a d)) k (entry_of (naming word v) ks (Gift a d)) (λ e. made_gift vats d a k.name (made (Entered k.name) h.0.0) (reference_is k.name (Gift a d) e)) (unknown_gift word v vats d P made a ks h.1)
+unknown_gift word v vats d P made a i new [] h = refl
+unknown_gift word v vats d P made a i new (k ∷ ks) h = pick_other (same_reference k.name (Gift a i)) k (entry_of (naming word v) ks (Gift a i)) (λ e. made_gift vats d a i k.name new (made (Entered k.name) h.0.0) (reference_is k.name (Gift a i) e)) (unknown_gift word v vats d P made a i new ks h.1)
 
 gift_other : (b : Bool) (g : GiftEntry Name) (o : Option (GiftEntry Name)) → (b ≡ true → ⊥) → o ≡ None → ◌≡◌ {A = Option (GiftEntry Name)} (elim b [ true ↦ Some g | false ↦ o ]) None
 gift_other true g o f e = absurd (f refl)
@@ -47,22 +44,22 @@ is_number : (p d : ℕ) (g : GiftEntry Name) → is_gift p d g ≡ true → g.nu
 unfolding is_gift
 is_number p d g e = eqb-true g.number d (gift_number (g.provider == p) (g.number == d) e)
 
-absent_gift : (vats : List (Vat Name)) (d : ℕ) (P : Bit Name → Type 0) → ((b : Bit Name) → P b → IsMade vats d b) → (p : ℕ) (gs : List (GiftEntry Name)) → AllOf (GiftOk P) gs → gift_at p d gs ≡ None
+absent_gift : (vats : List (Vat Name)) (d : List ℕ) (P : Bit Name → Type 0) → ((b : Bit Name) → P b → IsMade vats d b) → (p i : ℕ) → (WasDrawn d i → ⊥) → (gs : List (GiftEntry Name)) → AllOf (GiftOk P) gs → gift_at p i gs ≡ None
 unfolding gift_at
-absent_gift vats d P made p [] h = refl
-absent_gift vats d P made p (g ∷ gs) h = gift_other (is_gift p d g) g (gift_at p d gs) (λ e. no_self g.number d (made (Drew g.number) h.0.1) (is_number p d g e)) (absent_gift vats d P made p gs h.1)
+absent_gift vats d P made p i new [] h = refl
+absent_gift vats d P made p i new (g ∷ gs) h = gift_other (is_gift p i g) g (gift_at p i gs) (λ e. new (subst (WasDrawn d) (is_number p i g e) (made (Drew g.number) h.0.1))) (absent_gift vats d P made p i new gs h.1)
 
 module _ (script : Script) where
   pub new_gifts : (w : World) (v : ℕ) (s : Vat Name) → Stands script w → slice_get w.vats v ≡ Some s → GiftsAreNew (draw_word script.key) v (readied w s)
   unfolding readied
   new_gifts w v s h e = let g = (h.vats v s e).parts in record {
-    names = λ c. unknown_gift (draw_word script.key) v w.vats (length w.drawn) (Had script w v s) (λ b i. i.0) c s.known g.known;
-    gifts = λ p. absent_gift w.vats (length w.drawn) (Had script w v s) (λ b i. i.0) p s.gifts g.gifts;
+    names = λ c i new. unknown_gift (draw_word script.key) v w.vats w.drawn (Had script w v s) (λ b m. m.0) c i new s.known g.known;
+    gifts = λ p i new. absent_gift w.vats w.drawn (Had script w v s) (λ b m. m.0) p i new s.gifts g.gifts;
   }
 
-  pub tells_none : (w : World) (s : Vat Name) (n : Note Name) → NoteOk (IsMade w.vats (length w.drawn)) n → TellsNoNewGift (draw_word script.key) zero (readied w s) n
+  pub tells_none : (w : World) (s : Vat Name) (n : Note Name) → NoteOk (IsMade w.vats w.drawn) n → TellsNoNewGift (draw_word script.key) zero (readied w s) n
   unfolding readied
-  tells_none w s (Elsewhere n c) h = λ a e. made_gift w.vats (length w.drawn) a n h.0 e
+  tells_none w s (Elsewhere n c) h = λ a i new e. made_gift w.vats w.drawn a i n new h.0 e
   tells_none w s (Deliver m n verb ys) h = tt
   tells_none w s (Open i n) h = tt
   tells_none w s (Ask p i n) h = tt

@@ -10,6 +10,7 @@ use Rattle.def_machine.specs.Arrive.{Old, New}
 use Rattle.def_machine.specs.Eval as eval
 use Rattle.def_kernel.specs.declared.node.Node.{Node}
 use Rattle.def_run.specs.World as world
+use Rattle.law_name.specs.Names.{WasDrawn}
 use Rattle.law_reference.specs.Views.{ViewsWait}
 use Rattle.law_reference.proofs.Gentle.{AfterGives, Gentle, IsGentle, gentle, gives_by}
 use Rattle.law_reference.proofs.RefsGentle.{SettlesBy, gentle_settle}
@@ -72,9 +73,9 @@ module _ (word : ℕ → ℕ) (v : ℕ) where
 
   -- ---- the news that a name settled elsewhere
 
-  -- it is no gift of the next draw
+  -- it is no gift under a word that was not drawn
   abbrev pub NoNewGift : Vat Name → Name → Type 0
-  NoNewGift s n = (a : ℕ) → n ≡ Gift a (length s.drawn) → ⊥
+  NoNewGift s n = (a i : ℕ) → (WasDrawn s.drawn i → ⊥) → n ≡ Gift a i → ⊥
 
   went : (n : Name) (c : ℕ) (s : Vat Name) (b : Bool) → Good s → GiftsAreNew word v s → NoNewGift s n → AfterGives Good ((if b then refs.settle Names n (Broken (codes "partition")) else arrive.view_there Names n c) s)
   went n c s true views new other = after_gentle (refs.settle Names n (Broken (codes "partition"))) s (gentle_settle Names (ViewsGo Names) law block n (Broken (codes "partition"))) views
@@ -93,14 +94,14 @@ module _ (word : ℕ → ℕ) (v : ℕ) where
   still_new s x g h e f = entry_last Names s.known (begun x h) g e ∙ not_begun x g h f
 
   with_name : (s : Vat Name) (x : Name) (h : ℕ) → Good s → GiftsAreNew word v s → NoNewGift s x → Good (record s { known = s.known ++ begun x h ∷ [] }) × GiftsAreNew word v (record s { known = s.known ++ begun x h ∷ [] })
-  with_name s x h views new other = (λ n g e. let back = go_append Names s.known (begun x h) (unsettled x h) n g e in back.1 (views n g back.0), record { names = λ c. still_new s x (Gift c (length s.drawn)) h (new.names c) (other c); gifts = new.gifts })
+  with_name s x h views new other = (λ n g e. let back = go_append Names s.known (begun x h) (unsettled x h) n g e in back.1 (views n g back.0), record { names = λ c i l. still_new s x (Gift c i) h (new.names c i l) (other c i l); gifts = new.gifts })
 
   either_old : (x : Name) (c : ℕ) (s : Vat Name) (b : Bool) → Good s → GiftsAreNew word v s → NoNewGift s x → AfterGives Good (arrive.arrive_elsewhere Names (elim b [ true ↦ Old x | false ↦ New x (host_of x) ]) c s)
   unfolding arrive.arrive_elsewhere arrive.learn_name ◌>>=◌ and_then give look come naming name_of
   either_old x c s true views new other = went x c s (is_in c s.noticed) views new other
   either_old x c s false views new other = let more = with_name s x (host_of x) views new other in went x c (record s { known = s.known ++ begun x (host_of x) ∷ [] }) (is_in c s.noticed) more.0 more.1 other
 
-  -- a note that tells of no gift of the next draw
+  -- a note that tells of no gift under a word that was not drawn
   abbrev pub TellsNoNewGift : Vat Name → Note Name → Type 0
   TellsNoNewGift s (Elsewhere n c) = NoNewGift s n
   TellsNoNewGift s (Deliver m n verb ys) = Unit {0}

@@ -1,5 +1,5 @@
 -- Where the notes of a run bring gifts as new, they bring all names as new.
-use Rattle.std.specs.Prelude.{◌≡◌, ℕ, zero, ◌+◌, ◌≤◌, List, ◌∷◌, Some, slice_get, length}
+use Rattle.std.specs.Prelude.{◌≡◌, ℕ, zero, ◌+◌, ◌≤◌, List, ◌∷◌, Some, slice_get}
 use Rattle.def_machine.specs.Values.{Name, Gift}
 use Rattle.def_machine.specs.State.{Note, Vat}
 use Rattle.def_run.specs.World.{Script, Entry, Link, World, Goes, begins, open_from, steps_from, link_at, read_note, names_of}
@@ -10,7 +10,7 @@ use Rattle.law_reference.specs.NameTableRuns.{allowed, brings_here, NotesBringNe
 -- The first note on each link of that world brings each gift once at most, and none that is claimed at the receiver.
 abbrev pub BringsNewGifts : World → Type 0
 BringsNewGifts w = (from to : ℕ) (l : Link) (n : Note Name) (ns : List (Note Name)) (s : Vat Name) → link_at from to w.links ≡ Some l → l.notes ≡ n ∷ ns → slice_get w.vats to ≡ Some s
-    → (h i : ℕ) → claims to (Gift h i) s.known + brings_here to (Gift h i) from s.gifts (read_note (names_of s) n) ≤ allowed to (Gift h i) s (length w.drawn)
+    → (h i : ℕ) → claims to (Gift h i) s.known + brings_here to (Gift h i) from s.gifts (read_note (names_of s) n) ≤ allowed to (Gift h i) s w.drawn
 
 -- so it is after all opening turns of the script and any entries
 abbrev pub GiftsComeNew : Script → Type 0

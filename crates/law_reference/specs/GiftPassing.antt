@@ -1,13 +1,14 @@
--- Gifts in the notes under way: how often one of a draw passes, and who is the provider of a draw.
-use Rattle.std.specs.Prelude.{◌≡◌, ℕ, suc, ◌+◌, ◌≤◌, ◌<◌, List, [], ◌∷◌, Some, length, nat_le, slice_get, ◌==◌}
-use Rattle.def_machine.specs.Values.{Name}
-use Rattle.def_machine.specs.State.{Passed, Passeds, Plain, AGift, Many, NoMore, More, Note, Deliver, Open, Ask, SettledTo, Elsewhere, Shorten, GiftEntry, Vat}
+-- Gifts in the notes under way: how often one under a key passes, and who is the provider of a word.
+use Rattle.std.specs.Prelude.{◌≡◌, ℕ, ◌+◌, ◌≤◌, List, [], ◌∷◌, Some, slice_get, ◌==◌}
+use Rattle.def_machine.specs.Values.{Name, word_of, provider_of}
+use Rattle.def_machine.specs.State.{Passed, Passeds, Plain, AGift, Many, NoMore, More, Note, Deliver, Open, Ask, SettledTo, Elsewhere, Shorten, GiftEntry, Vat, is_in}
 use Rattle.def_run.specs.World.{Link, World}
+use Rattle.law_name.specs.Names.{WasDrawn}
 use Rattle.law_fate.specs.Fate.{once}
 use Rattle.law_fate.specs.Lasting.{Each}
 use Rattle.law_fate.specs.FateRuns.{InRuns}
 
--- ---- how often a gift of a draw passes
+-- ---- how often a gift under a key passes
 
 unfoldable mutual
   pub gifts_in : ℕ → Passed Name → ℕ
@@ -41,21 +42,23 @@ gifts_put i ls = gifts_on (λ l. l.log) i ls
 abbrev pub gifts_under_way : ℕ → List Link → ℕ
 gifts_under_way i ls = gifts_on (λ l. l.notes) i ls
 
--- one where draw i is among so many
-unfoldable pub drawn_of : ℕ → ℕ → ℕ
-drawn_of i d = once (nat_le (suc i) d)
+-- one where the word of key i is among those
+unfoldable pub drawn_of : ℕ → List ℕ → ℕ
+drawn_of i ds = once (is_in (word_of i) ds)
 
--- Of each draw that was made one gift at most was put in all notes, and one at most is under way; and of no other draw.
+-- Under each key of a word that was drawn one gift at most was put in all notes, and one at most is under way; and under no other key.
+-- And those that were put under one word are under one key: so of each draw one gift at most was put.
 abbrev pub GiftsPassOnce : Type 0
-GiftsPassOnce = InRuns (λ w. (i : ℕ) → (gifts_put i w.links ≤ drawn_of i (length w.drawn)) × (gifts_under_way i w.links ≤ drawn_of i (length w.drawn)))
+GiftsPassOnce = InRuns (λ w. ((i : ℕ) → (gifts_put i w.links ≤ drawn_of i w.drawn) × (gifts_under_way i w.links ≤ drawn_of i w.drawn))
+    × ((i j : ℕ) → 1 ≤ gifts_put i w.links → 1 ≤ gifts_put j w.links → word_of i ≡ word_of j → i ≡ j))
 
 -- ---- providers
 
--- Where P tells the provider of each draw and d draws were made:
-module _ (P : ℕ → ℕ) (d : ℕ) where
-  -- draw i was made, and p is its provider
+-- Where P tells the provider of each word and d are the words drawn:
+module _ (P : ℕ → ℕ) (d : List ℕ) where
+  -- the word of key i was drawn, and p is its provider, as the key tells too
   abbrev pub IsProvidedBy : ℕ → ℕ → Type 0
-  IsProvidedBy i p = (i < d) × (P i ≡ p)
+  IsProvidedBy i p = WasDrawn d i × (P (word_of i) ≡ p) × (provider_of i ≡ p)
 
   -- in a note from v to w: a gift that passes is of neither of the two, and v provides it
   abbrev mutual
@@ -82,13 +85,13 @@ module _ (P : ℕ → ℕ) (d : ℕ) where
   IsProvided g = IsProvidedBy g.number g.provider
 
 -- so are all notes that were put on a link, and all that are under way on it
-abbrev pub LinkProvides : (ℕ → ℕ) → ℕ → Link → Type 0
+abbrev pub LinkProvides : (ℕ → ℕ) → List ℕ → Link → Type 0
 LinkProvides P d l = Each (Provides P d l.from l.to) l.log × Each (Provides P d l.from l.to) l.notes
 
--- there is one provider for each draw, of whom all notes and all gifts at their hosts tell
+-- there is one provider for each word, of whom all notes and all gifts at their hosts tell
 abbrev pub HasProviders : World → Type 0
-HasProviders w = (P : ℕ → ℕ) × Each (LinkProvides P (length w.drawn)) w.links
-    × ((v : ℕ) (s : Vat Name) → slice_get w.vats v ≡ Some s → Each (IsProvided P (length w.drawn)) s.gifts)
+HasProviders w = (P : ℕ → ℕ) × Each (LinkProvides P w.drawn) w.links
+    × ((v : ℕ) (s : Vat Name) → slice_get w.vats v ≡ Some s → Each (IsProvided P w.drawn) s.gifts)
 
 abbrev pub EachDrawHasOneProvider : Type 0
 EachDrawHasOneProvider = InRuns HasProviders

@@ -1,7 +1,7 @@
 -- How often a vat knows a name, as a count, and what a step of it may add.
-use Rattle.std.specs.Prelude.{◌≡◌, ℕ, suc, ◌+◌, ◌≤◌, Bool, true, false, List, [], ◌∷◌, Option, Some, None, length, nat_le, ◌==◌}
-use Rattle.def_machine.specs.Values.{Value, Prim, Ref, Name, Promise, Answer, Gift, Sent, same_name, answer_of, host_of, naming}
-use Rattle.def_machine.specs.State.{Message, Known, Passed, Passeds, Plain, AGift, Many, NoMore, More, Note, Deliver, Open, Ask, SettledTo, Elsewhere, Shorten, GiftEntry, Vat}
+use Rattle.std.specs.Prelude.{◌≡◌, ℕ, suc, ◌+◌, ◌≤◌, Bool, true, false, List, [], ◌∷◌, Option, Some, None, nat_le, ◌==◌}
+use Rattle.def_machine.specs.Values.{Value, Prim, Ref, Name, Promise, Answer, Gift, Sent, same_name, answer_of, host_of, naming, word_of}
+use Rattle.def_machine.specs.State.{Message, Known, Passed, Passeds, Plain, AGift, Many, NoMore, More, Note, Deliver, Open, Ask, SettledTo, Elsewhere, Shorten, GiftEntry, Vat, is_in}
 use Rattle.def_machine.specs.Arrive.{Incoming, Old, New, gift_at}
 use Rattle.law_machine.specs.Steps.{Step, Opens, Takes, Receives, Notices, does, After}
 use Rattle.def_machine.specs.Values.{opened_values}
@@ -29,15 +29,15 @@ unfoldable pub claims : ℕ → Name → List (Known Name) → ℕ
 claims v x [] = 0
 claims v x (k ∷ ks) = one k.name x + onward_all v x k.held + claims v x ks
 
--- One where x is a promise of vat v, an answer of a message of vat v or a gift, by a number below those counts of promises, messages and draws.
-unfoldable pub numbered : ℕ → Name → ℕ → ℕ → ℕ → ℕ
+-- One where x is a promise of vat v or an answer of a message of vat v, by a number below those counts, or a gift, by a word among those.
+unfoldable pub numbered : ℕ → Name → ℕ → ℕ → List ℕ → ℕ
 numbered v (Promise w i) p m d = elim (v == w) [ true ↦ once (nat_le (suc i) p) | false ↦ 0 ]
 numbered v (Answer h a) p m d = elim (v == a.sender) [ true ↦ once (nat_le (suc a.number) m) | false ↦ 0 ]
-numbered v (Gift h i) p m d = once (nat_le (suc i) d)
+numbered v (Gift h i) p m d = once (is_in (word_of i) d)
 numbered v _ p m d = 0
 
 unfoldable pub numbered_at : ℕ → Name → Vat Name → ℕ
-numbered_at v x s = numbered v x s.promises s.messages (length s.drawn)
+numbered_at v x s = numbered v x s.promises s.messages s.drawn
 
 -- ---- how often a note that arrives brings x
 

@@ -1,12 +1,12 @@
 -- A vat in which no list leads back to itself, with what of its names keeps that so in every step.
-use Rattle.std.specs.Prelude.{◌≡◌, ℕ, ◌≤◌, Bool, true, false, List, [], Some, None, length, ◌⊎◌}
-use Rattle.def_machine.specs.Values.{Value, Null, Flag, Number, Letter, Text, Prim, Broken, Items, Ref, Name, Root, Object, Promise, Answer, Gift, Sent, Naming, naming, host_of}
+use Rattle.std.specs.Prelude.{◌≡◌, ℕ, Bool, true, false, List, [], Some, None, length, ◌⊎◌}
+use Rattle.def_machine.specs.Values.{Value, Null, Flag, Number, Letter, Text, Prim, Broken, Items, Ref, Name, Root, Object, Promise, Answer, Gift, Sent, Naming, naming, host_of, word_of}
 use Rattle.def_machine.specs.State.{Message, Standing, Viewed, Settled, Known, Passed, Passeds, Plain, AGift, Many, NoMore, More, Note, Deliver, Open, Ask, SettledTo, Elsewhere, Shorten, Put, GiftEntry, Vat, Done, Gives, Throws, Ejects, Stops, is_in, WhereSome}
 use Rattle.def_machine.specs.Arrive.{Incoming, Old, New, gift_at}
 use Rattle.def_machine.specs.Refs.{entry_of, standing_of}
 use Rattle.law_machine.specs.Breaks.{still_waits}
 use Rattle.law_machine.specs.Steps.{Step, Opens, Takes, Receives, Notices, does, After}
-use Rattle.law_name.specs.Names.{AllOf, IsAmong, IsMessageName, IsEventual}
+use Rattle.law_name.specs.Names.{AllOf, IsAmong, WasDrawn, IsMessageName, IsEventual}
 use Rattle.law_frozen.specs.Frozen.{NotePasses, Sound}
 use Rattle.law_frozen.specs.Laws.{StepWell}
 use Rattle.law_reference.specs.Lists.{NoListLeadsBack}
@@ -45,7 +45,7 @@ IsOwn v m = IsMessageName m.id × WhereSome (λ a. (host_of a ≡ v) × IsAnswer
 abbrev pub HoldsOwn : ℕ → Known Name → Type 0
 HoldsOwn v k = AllOf (IsOwn v) k.held × AllOf (IsOwn v) k.reactions
 
--- a gift at vat v is named by its draw
+-- a gift at vat v is named by its key
 abbrev pub IsNamed : ℕ → GiftEntry Name → Type 0
 IsNamed v g = g.name ≡ Gift v g.number
 
@@ -124,9 +124,9 @@ module _ (K : Naming Name Name) (D : ℕ → Type 0) where
   NoteTells ks (Ask p i n) = Unit {0}
   NoteTells ks (Shorten n c i) = Unit {0}
 
-  -- So do the notes put, and no draw to come is that of a view.
+  -- So do the notes put, and no view is under a word that was not drawn.
   abbrev pub PutsSo : List (Known Name) → List (Put Name) → List ℕ → Type 0
-  PutsSo ks ps ds = ((i : ℕ) → length ds ≤ i → D i → ⊥) × AllOf (λ (p : Put Name). NoteTells ks p.note) ps
+  PutsSo ks ps ds = ((i : ℕ) → (WasDrawn ds i → ⊥) → D i → ⊥) × AllOf (λ (p : Put Name). NoteTells ks p.note) ps
 
   abbrev pub TellsSo : Vat Name → Type 0
   TellsSo s = PutsSo s.known s.outbox s.drawn
@@ -138,7 +138,7 @@ IsOwnTurn v D (Takes tree depth m) = WhereSome (λ a. (host_of a ≡ v) × (IsVi
 IsOwnTurn v D (Receives from n) = ⊥
 IsOwnTurn v D (Notices w) = ⊥
 
--- where D tells of which draws the views are, and Seen which names may be viewed
+-- where D tells under which keys the views are, and Seen which names may be viewed
 abbrev pub TurnsKeep : (ℕ → Type 0) → (Name → Type 0) → Type 0
 TurnsKeep D Seen = (word : ℕ → ℕ) (v : ℕ) (step : Step Name Name) (s : Vat Name) → IsOwnTurn v D step → Sound (naming word v) s → StepWell (naming word v) s step → TellsSo (naming word v) D s
     → Ringless (naming word v) v D Seen s.noticed s → After (λ r t. Sound (naming word v) t × Ringless (naming word v) v D Seen t.noticed t × TellsSo (naming word v) D t) s (does (naming word v) step s)
@@ -207,10 +207,10 @@ IfMany (Many ys) P = P
 IfMany (Plain y) P = Unit {0}
 IfMany (AGift h i) P = Unit {0}
 
--- no gift of the next draw is known or waits
+-- no gift under a word that was not drawn is known or waits
 abbrev pub NextIsNew : Naming Name Name → Vat Name → Type 0
-NextIsNew K s = ((h : ℕ) → entry_of K s.known (Gift h (length s.drawn)) ≡ None) × ((p : ℕ) → gift_at p (length s.drawn) s.gifts ≡ None)
-    × ((h : ℕ) (p : Name) (k : Known Name) → entry_of K s.known p ≡ Some k → IsAmong (Gift h (length s.drawn)) k.waiting → ⊥)
+NextIsNew K s = ((h i : ℕ) → (WasDrawn s.drawn i → ⊥) → entry_of K s.known (Gift h i) ≡ None) × ((p i : ℕ) → (WasDrawn s.drawn i → ⊥) → gift_at p i s.gifts ≡ None)
+    × ((h i : ℕ) → (WasDrawn s.drawn i → ⊥) → (p : Name) (k : Known Name) → entry_of K s.known p ≡ Some k → IsAmong (Gift h i) k.waiting → ⊥)
 
 -- What is asked of a note that arrives.
 abbrev pub NoteBehind : Naming Name Name → ℕ → (ℕ → Type 0) → (Name → Type 0) → ℕ → List ℕ → Vat Name → Note (Incoming Name Name) → Type 0
@@ -220,8 +220,8 @@ NoteBehind K v D Seen from hs s (Open i x) = IsToldWell hs x × (IsObjectName (t
 NoteBehind K v D Seen from hs s (Ask p i x) = Unit {0}
 -- a name that settles to a list is not viewed, and no view
 NoteBehind K v D Seen from hs s (SettledTo x y) = IsToldWell hs x × ToldPassed hs y × SettlesWell y × IfMany y ((Seen (told_name x) → ⊥) × (IsView D (told_name x) → ⊥))
--- the name is of another vat and is among those that may be viewed, and the gift of the next draw is new
-NoteBehind K v D Seen from hs s (Elsewhere x c) = IsToldWell hs x × (host_of (told_name x) ≡ v → ⊥) × Seen (told_name x) × NextIsNew K s × ((g : ℕ) → told_name x ≡ Gift g (length s.drawn) → ⊥)
+-- the name is of another vat and is among those that may be viewed, and the gifts under words that were not drawn are new
+NoteBehind K v D Seen from hs s (Elsewhere x c) = IsToldWell hs x × (host_of (told_name x) ≡ v → ⊥) × Seen (told_name x) × NextIsNew K s × ((g i : ℕ) → (WasDrawn s.drawn i → ⊥) → told_name x ≡ Gift g i → ⊥)
 NoteBehind K v D Seen from hs s (Shorten x c i) = IsToldWell hs x
 
 -- Where a note may settle a name to a list, what was noticed is heeded.
@@ -237,16 +237,16 @@ IsHeeded heed (Shorten x c i) = Unit {0}
 abbrev pub heeded : Bool → Vat Name → List ℕ
 heeded heed s = elim heed [ true ↦ s.noticed | false ↦ [] ]
 
--- the draws of views after the arrival: where a name is told to have settled elsewhere, and that vat was not noticed, the next draw too
-abbrev pub DrawsAfter : (ℕ → Type 0) → Vat Name → Note (Incoming Name Name) → ℕ → Type 0
-DrawsAfter D s (Elsewhere x c) i = D i ⊎ ((is_in c s.noticed ≡ false) × (i ≡ length s.drawn))
-DrawsAfter D s (Deliver m x verb ys) i = D i
-DrawsAfter D s (Open j x) i = D i
-DrawsAfter D s (Ask p j x) i = D i
-DrawsAfter D s (SettledTo x y) i = D i
-DrawsAfter D s (Shorten x c j) i = D i
+-- the keys of views after the arrival: where a name is told to have settled elsewhere, and that vat was not noticed, those of the next word too, where it is new
+abbrev pub DrawsAfter : (ℕ → ℕ) → (ℕ → Type 0) → Vat Name → Note (Incoming Name Name) → ℕ → Type 0
+DrawsAfter word D s (Elsewhere x c) i = D i ⊎ ((is_in c s.noticed ≡ false) × (WasDrawn s.drawn i → ⊥) × (word_of i ≡ word (length s.drawn)))
+DrawsAfter word D s (Deliver m x verb ys) i = D i
+DrawsAfter word D s (Open j x) i = D i
+DrawsAfter word D s (Ask p j x) i = D i
+DrawsAfter word D s (SettledTo x y) i = D i
+DrawsAfter word D s (Shorten x c j) i = D i
 
--- In such a state, with those draws of views; where it does not give, the draws are as they were.
+-- In such a state, with those keys of views; where it does not give, they are as they were.
 abbrev pub ArrivedSo : (ℕ → ℕ) → ℕ → (ℕ → Type 0) → (ℕ → Type 0) → (Name → Type 0) → Bool → Done Name (Unit {0}) → Type 0
 ArrivedSo word v D E Seen heed (Gives a t) = Sound (naming word v) t × Ringless (naming word v) v E Seen (heeded heed t) t × TellsSo (naming word v) E t
 ArrivedSo word v D E Seen heed (Throws p t) = Sound (naming word v) t × Ringless (naming word v) v D Seen (heeded heed t) t × TellsSo (naming word v) D t
@@ -256,7 +256,7 @@ ArrivedSo word v D E Seen heed (Stops c t) = Sound (naming word v) t × Ringless
 abbrev pub ArrivalsKeep : (ℕ → Type 0) → (Name → Type 0) → Type 0
 ArrivalsKeep D Seen = (word : ℕ → ℕ) (v from : ℕ) (n : Note (Incoming Name Name)) (heed : Bool) (s : Vat Name) → IsHeeded heed n → NoteBehind (naming word v) v D Seen from (heeded heed s) s n → Sound (naming word v) s → NotePasses n
     → s.outbox ≡ [] → TellsSo (naming word v) D s → Ringless (naming word v) v D Seen (heeded heed s) s
-    → ArrivedSo word v D (λ i. DrawsAfter D s n i) Seen heed (does (naming word v) (Receives from n) s)
+    → ArrivedSo word v D (λ i. DrawsAfter word D s n i) Seen heed (does (naming word v) (Receives from n) s)
 
 -- So does the arrival of every such note, whether what was noticed is heeded or, where it settles no name to a list, not.
 abbrev pub ArrivalsCloseNoRing : Type 0

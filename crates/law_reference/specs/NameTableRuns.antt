@@ -1,5 +1,5 @@
 -- That each vat of a run knows each name once, where the notes that arrive bring what is new.
-use Rattle.std.specs.Prelude.{◌≡◌, ℕ, zero, suc, ◌+◌, ◌≤◌, Bool, true, false, List, [], ◌∷◌, ◌++◌, Some, length, slice_get, ◌==◌}
+use Rattle.std.specs.Prelude.{◌≡◌, ℕ, zero, suc, ◌+◌, ◌≤◌, Bool, true, false, List, [], ◌∷◌, ◌++◌, Some, slice_get, ◌==◌}
 use Rattle.def_machine.specs.Values.{Name, Root, Object, Promise, Answer, Gift, Sent, same_name}
 use Rattle.def_machine.specs.State.{Note, Vat}
 use Rattle.def_run.specs.World.{Script, Program, Entry, Turn, Carry, CutLink, NoticeLink, Link, World, Goes, link_at, read_note, names_of, begins, open_from, step, steps_from}
@@ -19,8 +19,8 @@ other v (Answer h m) = elim (v == m.sender) [ true ↦ 0 | false ↦ 1 ]
 other v (Gift h i) = 0
 other v (Sent m) = 1
 
--- How often x may be claimed at vat v once so many words were drawn: once, but not before it is numbered.
-unfoldable pub allowed : ℕ → Name → Vat Name → ℕ → ℕ
+-- How often x may be claimed at vat v once those words were drawn: once, but not before it is numbered.
+unfoldable pub allowed : ℕ → Name → Vat Name → List ℕ → ℕ
 allowed v x s d = other v x + numbered v x s.promises s.messages d
 
 -- whether it is the name of an object of vat v
@@ -45,7 +45,7 @@ brings_here v x from gs n = brings v x from gs n
 
 -- The note brings to that vat each name once at most, and none that is claimed there.
 abbrev pub BringsNew : World → ℕ → ℕ → Note Name → Vat Name → Type 0
-BringsNew w from to n s = (x : Name) → claims to x s.known + brings_here to x from s.gifts (read_note (names_of s) n) ≤ allowed to x s (length w.drawn)
+BringsNew w from to n s = (x : Name) → claims to x s.known + brings_here to x from s.gifts (read_note (names_of s) n) ≤ allowed to x s w.drawn
 
 -- and so does the first note on the link that an entry carries from
 abbrev pub EntryBringsNew : World → Entry → Type 0

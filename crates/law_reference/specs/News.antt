@@ -1,5 +1,5 @@
 -- When the gifts that a note brings are new to the vat where it arrives.
-use Rattle.std.specs.Prelude.{◌≡◌, ℕ, ◌+◌, ◌≤◌, List, ◌∷◌, ◌⊎◌, Some, length, slice_get}
+use Rattle.std.specs.Prelude.{◌≡◌, ℕ, ◌+◌, ◌≤◌, List, ◌∷◌, ◌⊎◌, Some, slice_get}
 use Rattle.def_machine.specs.Values.{Value, Null, Flag, Number, Letter, Text, Prim, Broken, Items, Ref, Name, Gift}
 use Rattle.def_machine.specs.State.{Passed, Passeds, Plain, AGift, Many, NoMore, More, Note, Deliver, Open, Ask, SettledTo, Elsewhere, Shorten, Vat}
 use Rattle.def_run.specs.World.{Link, link_at, read_note, names_of}
@@ -69,5 +69,5 @@ pub record GiftsApart (to : ℕ) (n : Note Name) (s : Vat Name) : Type 0 where
 -- Then the first note on a link brings each gift once at most, and none that is claimed at the vat, where each gift is claimed there as often as it may be.
 abbrev pub GiftsApartComeNew : Type 0
 GiftsApartComeNew = InRuns (λ w. (from to : ℕ) (l : Link) (n : Note Name) (ns : List (Note Name)) (s : Vat Name) → link_at from to w.links ≡ Some l → l.notes ≡ n ∷ ns → slice_get w.vats to ≡ Some s → GiftsApart to n s
-    → (h i : ℕ) → claims to (Gift h i) s.known ≤ allowed to (Gift h i) s (length w.drawn)
-    → claims to (Gift h i) s.known + brings_here to (Gift h i) from s.gifts (read_note (names_of s) n) ≤ allowed to (Gift h i) s (length w.drawn))
+    → (h i : ℕ) → claims to (Gift h i) s.known ≤ allowed to (Gift h i) s w.drawn
+    → claims to (Gift h i) s.known + brings_here to (Gift h i) from s.gifts (read_note (names_of s) n) ≤ allowed to (Gift h i) s w.drawn)

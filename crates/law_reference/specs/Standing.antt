@@ -1,6 +1,6 @@
 -- Gifts at their host.
 use Rattle.std.specs.Prelude.{◌≡◌, ℕ, List, [], ◌∷◌, ◌⊎◌, Some, slice_get}
-use Rattle.def_machine.specs.Values.{Name, Naming}
+use Rattle.def_machine.specs.Values.{Name, Naming, word_of}
 use Rattle.def_machine.specs.State.{GiftEntry, Vat, Done, Gives, Throws, Ejects, Stops, Open, Ask}
 use Rattle.def_machine.specs.Arrive.{Incoming, arrive}
 use Rattle.law_machine.specs.Steps.{KeptBySteps}
@@ -27,16 +27,26 @@ abbrev pub WhatIsOpenedOrAskedForStands : Type 0
 WhatIsOpenedOrAskedForStands = (K : Naming Name Name) (from p i : ℕ) (x : Incoming Name Name) (s : Vat Name)
     → ThenStands from i (arrive K from (Open i x) s) × ThenStands p i (arrive K from (Ask p i x) s)
 
--- a gift of that draw stands at its host
+-- a gift under that key stands at its host
 abbrev pub IsEntered : ℕ → List (GiftEntry Name) → Type 0
 IsEntered i [] = ⊥
 IsEntered i (g ∷ gs) = (g.number ≡ i) ⊎ IsEntered i gs
 
--- no two of them are of one draw
+-- no two of them are under one key
 abbrev pub DrawsDiffer : List (GiftEntry Name) → Type 0
 DrawsDiffer [] = Unit {0}
 DrawsDiffer (g ∷ gs) = (IsEntered g.number gs → ⊥) × DrawsDiffer gs
 
+-- a gift under that word stands there
+abbrev pub HasWord : ℕ → List (GiftEntry Name) → Type 0
+HasWord x [] = ⊥
+HasWord x (g ∷ gs) = (word_of g.number ≡ x) ⊎ HasWord x gs
+
+-- no two of them are under one word
+abbrev pub WordsDiffer : List (GiftEntry Name) → Type 0
+WordsDiffer [] = Unit {0}
+WordsDiffer (g ∷ gs) = (HasWord (word_of g.number) gs → ⊥) × WordsDiffer gs
+
 -- No two gifts at a vat are of one draw, in every world of every run.
 abbrev pub EachDrawStandsOnce : Type 0
-EachDrawStandsOnce = InRuns (λ w. (v : ℕ) (s : Vat Name) → slice_get w.vats v ≡ Some s → DrawsDiffer s.gifts)
+EachDrawStandsOnce = InRuns (λ w. (v : ℕ) (s : Vat Name) → slice_get w.vats v ≡ Some s → WordsDiffer s.gifts)

@@ -211,7 +211,7 @@ module _ (v : ℕ) (t : Table) (good : IsTable v t) where
   mess_last k None (Is a) e = refl
   mess_last k None (Nothing a) e = no_mess a k
 
-  sames : (a b : Local) → found_same (found v t a) (found v t b) ≡ same_local a b
+  pub sames : (a b : Local) → found_same (found v t a) (found v t b) ≡ same_local a b
   unfolding found same_local found_same
   sames (Obj i) (Obj j) = home_home v i j
   sames (Obj i) (Prom k) = obj_prom i k _ refl

@@ -15,15 +15,15 @@ going_is w x e = cc
 
 turned_quiet : (k v : ℕ) → TellsOfNoNote (Turned k v ∷ [])
 unfolding world.heard_by
-turned_quiet k v drawn cs = refl
+turned_quiet k v cs = refl
 
 noticed_quiet : (k v to : ℕ) → TellsOfNoNote (NoticedAt k v to ∷ [])
 unfolding world.heard_by
-noticed_quiet k v to drawn cs = refl
+noticed_quiet k v to cs = refl
 
 opens_quiet : (v : ℕ) → TellsOfNoNote (Opens v ∷ [])
 unfolding world.heard_by
-opens_quiet v drawn cs = refl
+opens_quiet v cs = refl
 
 get_mid : (front : List Program) (p : Program) (ps : List Program) → slice_get (front ++ p ∷ ps) (length front) ≡ Some p
 get_mid [] p ps = refl

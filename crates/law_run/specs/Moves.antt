@@ -120,7 +120,7 @@ IsAlone (Notices w) = Unit {0}
 
 -- its lines tell of no note that arrives
 abbrev pub TellsOfNoNote : List Event → Type 0
-TellsOfNoNote head = (drawn : List ℕ) (cs : List Connected) → heard_by drawn head cs ≡ cs
+TellsOfNoNote head = (cs : List Connected) → heard_by head cs ≡ cs
 
 -- a notice may be
 abbrev pub MayBegin : (ℕ → Type 0) → Step Name Name → Type 0

@@ -2,12 +2,8 @@
 //! or a whole run with so many turns (`DEPTH FUEL TURNS`), whose text is made.
 #![tactic(auto)]
 
-ghost use Rattle.std.specs.Prelude.{◌≡◌, true};
-ghost use Rattle.ev_steps.specs.Built.{is_built};
-
 use def_kernel::Kernel;
 use ev_base::{Limits, Memory, Seq, VatId};
-use ev_eval::is_built;
 use ev_io::{StdSource, read_all};
 use ev_kernel_reader::read_form;
 use ev_vat::{RunEnd, Vat, VatStop, run_program};
@@ -64,11 +60,9 @@ fn how(turn: Result<(), VatStop>) -> &'static str {
     }
 }
 
-fn opened(alloc: Global, program: &Kernel, reach: Reach) -> Result<Ran, Memory>
-    requires built { is_built program.now ≡ true }
-{
-    let mut vat = Vat::start(alloc, VatId(0), &KEY, reach.fuel)?;
-    let turn = vat.first_turn(program, Limits { depth: reach.depth });
+fn opened(alloc: Global, program: &Kernel, reach: Reach) -> Result<Ran, Memory> {
+    let mut vat = Vat::start(alloc, VatId(0), &[], &[], &KEY, reach.fuel)?;
+    let turn = vat.first_turn(program, &[], Limits { depth: reach.depth });
     let micro = &vat.inside().micro;
     Ok(Ran {
         how: how(turn),
@@ -77,9 +71,7 @@ fn opened(alloc: Global, program: &Kernel, reach: Reach) -> Result<Ran, Memory>
     })
 }
 
-fn whole(alloc: Global, program: &Kernel, turns: u32, reach: Reach) -> Result<Ran, Memory>
-    requires built { is_built program.now ≡ true }
-{
+fn whole(alloc: Global, program: &Kernel, turns: u32, reach: Reach) -> Result<Ran, Memory> {
     let limits = Limits { depth: reach.depth };
     let told = run_program(
         alloc,
@@ -97,11 +89,8 @@ fn whole(alloc: Global, program: &Kernel, turns: u32, reach: Reach) -> Result<Ra
     })
 }
 
-/// Runs a program; none has run that has a node which is not built.
+/// Runs a program; none has run where memory ran out.
 fn run(alloc: Global, program: &Kernel, reach: Reach) -> Option<Ran> {
-    if !is_built(program) {
-        return None;
-    }
     match reach.turns {
         None => opened(alloc, program, reach).ok(),
         Some(turns) => whole(alloc, program, turns, reach).ok(),

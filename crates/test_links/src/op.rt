@@ -2,7 +2,6 @@ use def_op::*;
 use ev_base::Memory;
 use ev_op::*;
 use std::alloc::Global;
-use std::test::Fail;
 
 /// The draw 0 under the key of zeros, as it stands in frames.
 const DRAW: [u8; 16] = *b"\x76\xb8\xe0\xad\xa0\xf1\x3d\x90\x40\x5d\x6a\xe5\x53\x86\xbd\x28";
@@ -39,15 +38,15 @@ fn again(alloc: Global, frame: &[u8]) -> Result<Option<(Vec<u8>, u64)>, Memory> 
     }
 }
 
-fn is_whole(alloc: Global, frame: &[u8]) -> Result<bool, Memory> {
-    match again(alloc, frame)? {
-        Some((bytes, length)) => Ok(length == frame.len() as u64 && bytes.as_slice() == frame),
-        None => Ok(false),
+fn is_whole(alloc: Global, frame: &[u8]) -> bool {
+    match again(alloc, frame) {
+        Ok(Some((bytes, length))) => length == frame.len() as u64 && bytes.as_slice() == frame,
+        _ => false,
     }
 }
 
-fn is_refused(alloc: Global, frame: &[u8]) -> Result<bool, Memory> {
-    Ok(again(alloc, frame)?.is_none())
+fn is_refused(alloc: Global, frame: &[u8]) -> bool {
+    matches!(again(alloc, frame), Ok(None))
 }
 
 /// The first byte of a description.
@@ -71,26 +70,34 @@ fn code(desc: &Desc) -> u8 {
     }
 }
 
+fn outcome_code(to: &Resolved) -> u8 {
+    match to {
+        Resolved::To(desc) => code(desc),
+        Resolved::Elsewhere(_) => 15,
+    }
+}
+
 /// The code of what the subject of an operation came to.
-fn outcome(alloc: Global, frame: &[u8]) -> Result<Option<u8>, Memory> {
-    match decode(alloc, frame)? {
-        Some((Op::Resolve { to, .. }, _)) => match to {
-            Resolved::To(desc) => Ok(Some(code(&desc))),
-            Resolved::Elsewhere(_) => Ok(Some(15)),
-        },
-        _ => Ok(None),
+fn outcome(alloc: Global, frame: &[u8]) -> Option<u8> {
+    match decode(alloc, frame) {
+        Ok(Some((Op::Resolve { to, .. }, _))) => Some(outcome_code(&to)),
+        _ => None,
+    }
+}
+
+fn outcome_number(to: &Resolved) -> Option<i128> {
+    match to {
+        Resolved::To(Desc::Plain(Plain::Int(integer))) => Some(*integer),
+        Resolved::To(Desc::MyPromise(position)) => Some(i128::from(*position)),
+        _ => None,
     }
 }
 
 /// The number or integer that the subject of an operation came to.
-fn number(alloc: Global, frame: &[u8]) -> Result<Option<i128>, Memory> {
-    match decode(alloc, frame)? {
-        Some((Op::Resolve { to, .. }, _)) => match to {
-            Resolved::To(Desc::Plain(Plain::Int(integer))) => Ok(Some(integer)),
-            Resolved::To(Desc::MyPromise(position)) => Ok(Some(i128::from(position))),
-            _ => Ok(None),
-        },
-        _ => Ok(None),
+fn number(alloc: Global, frame: &[u8]) -> Option<i128> {
+    match decode(alloc, frame) {
+        Ok(Some((Op::Resolve { to, .. }, _))) => outcome_number(&to),
+        _ => None,
     }
 }
 
@@ -110,6 +117,24 @@ fn filled(
     Ok(frame)
 }
 
+fn is_filled_whole(alloc: Global, front: &[u8], times: usize, byte: u8, rest: &[u8]) -> bool {
+    match filled(alloc, front, times, byte, rest) {
+        Ok(frame) => is_whole(alloc, frame.as_slice()),
+        Err(_) => false,
+    }
+}
+
+fn is_filled_refused(alloc: Global, front: &[u8], times: usize, byte: u8, rest: &[u8]) -> bool {
+    match filled(alloc, front, times, byte, rest) {
+        Ok(frame) => is_refused(alloc, frame.as_slice()),
+        Err(_) => false,
+    }
+}
+
+fn is_number(alloc: Global, frame: &[u8], value: i128) -> bool {
+    is_whole(alloc, frame) && number(alloc, frame) == Some(value)
+}
+
 fn is_filled_number(
     alloc: Global,
     front: &[u8],
@@ -117,30 +142,28 @@ fn is_filled_number(
     byte: u8,
     rest: &[u8],
     value: i128,
-) -> Result<bool, Memory> {
-    let frame = filled(alloc, front, times, byte, rest)?;
-    Ok(is_whole(alloc, frame.as_slice())? && number(alloc, frame.as_slice())? == Some(value))
-}
-
-fn is_filled_refused(
-    alloc: Global,
-    front: &[u8],
-    times: usize,
-    byte: u8,
-    rest: &[u8],
-) -> Result<bool, Memory> {
-    let frame = filled(alloc, front, times, byte, rest)?;
-    is_refused(alloc, frame.as_slice())
+) -> bool {
+    match filled(alloc, front, times, byte, rest) {
+        Ok(frame) => is_number(alloc, frame.as_slice(), value),
+        Err(_) => false,
+    }
 }
 
 /// Whether a description alone is what a subject came to.
-fn is_outcome(alloc: Global, desc: &[u8]) -> Result<bool, Memory> {
-    let frame = filled(alloc, b"\x02\x0c\x00", 0, 0, desc)?;
-    is_whole(alloc, frame.as_slice())
+fn is_outcome(alloc: Global, desc: &[u8]) -> bool {
+    is_filled_whole(alloc, b"\x02\x0c\x00", 0, 0, desc)
+}
+
+/// Whether a subject came to a description of its kind.
+fn is_outcome_of_kind(alloc: Global, desc: &[u8]) -> bool {
+    match filled(alloc, b"\x02\x0c\x00", 0, 0, desc) {
+        Ok(frame) => outcome(alloc, frame.as_slice()) == desc.first().copied(),
+        Err(_) => false,
+    }
 }
 
 #[test]
-fn operations_with_each_description(rt: HostRuntime) -> Result<(), Fail> {
+fn operations_with_each_description(rt: HostRuntime) {
     for desc in KINDS {
         for front in [
             b"\x02\x0c\x00".as_slice(),
@@ -148,28 +171,21 @@ fn operations_with_each_description(rt: HostRuntime) -> Result<(), Fail> {
             b"\x01\x00\x09\x00\x04meet\x01".as_slice(),
             b"\x01\x00\x0a\x00\x00\x02\x00".as_slice(),
         ] {
-            let frame = filled(rt.alloc(), front, 0, 0, desc)?;
-            assert!(rt; is_whole(rt.alloc(), frame.as_slice())?);
+            assert!(rt; is_filled_whole(rt.alloc(), front, 0, 0, desc));
         }
     }
-    Ok(())
 }
 
 #[test]
-fn outcomes_of_each_kind(rt: HostRuntime) -> Result<(), Fail> {
+fn outcomes_of_each_kind(rt: HostRuntime) {
     for desc in KINDS {
-        let frame = filled(rt.alloc(), b"\x02\x0c\x00", 0, 0, desc)?;
-        assert_eq!(rt;
-            outcome(rt.alloc(), frame.as_slice())?,
-            desc.first().copied()
-        );
+        assert!(rt; is_outcome_of_kind(rt.alloc(), desc));
     }
-    assert_eq!(rt; outcome(rt.alloc(), b"\x02\x0e\x00\x0f\x02")?, Some(15));
-    Ok(())
+    assert!(rt; outcome(rt.alloc(), b"\x02\x0e\x00\x0f\x02") == Some(15));
 }
 
 #[test]
-fn operations_under_a_draw(rt: HostRuntime) -> Result<(), Fail> {
+fn operations_under_a_draw(rt: HostRuntime) {
     for front in [
         b"\x03\x09\x00".as_slice(),
         b"\x03\x0a\x00".as_slice(),
@@ -177,67 +193,74 @@ fn operations_under_a_draw(rt: HostRuntime) -> Result<(), Fail> {
         b"\x05\x09\x00".as_slice(),
         b"\x05\x0a\x00".as_slice(),
     ] {
-        let frame = filled(rt.alloc(), front, 0, 0, &DRAW)?;
-        assert!(rt; is_whole(rt.alloc(), frame.as_slice())?);
+        assert!(rt; is_filled_whole(rt.alloc(), front, 0, 0, &DRAW));
     }
-    Ok(())
+}
+
+/// Whether the numbers round a power of 128 are read whose spelling grows to so many bytes more than one.
+fn numbers_grow(alloc: Global, count: usize, power: i128) -> bool {
+    let front = b"\x02\x0c\x00\x0c";
+    let below = power.saturating_sub(1);
+    is_filled_number(alloc, front, count.saturating_sub(1), 0xff, b"\x7f", below)
+        && is_filled_number(alloc, front, count, 0x80, b"\x01", power)
+        && is_filled_refused(alloc, front, count, 0xff, b"\x00")
 }
 
 #[test]
-fn numbers_at_each_length(rt: HostRuntime) -> Result<(), Fail> {
+fn numbers_at_each_length(rt: HostRuntime) {
     let front = b"\x02\x0c\x00\x0c";
     let mut power: i128 = 128;
     for count in 1..10 {
-        let below = power.saturating_sub(1);
-        assert!(rt; is_filled_number(rt.alloc(), front, count - 1, 0xff, b"\x7f", below)?);
-        assert!(rt; is_filled_number(rt.alloc(), front, count, 0x80, b"\x01", power)?);
-        assert!(rt; is_filled_refused(rt.alloc(), front, count, 0xff, b"\x00")?);
+        assert!(rt; numbers_grow(rt.alloc(), count, power));
         power = power.saturating_mul(128);
     }
     let greatest = i128::from(u64::MAX);
-    assert!(rt; is_filled_number(rt.alloc(), front, 9, 0xff, b"\x01", greatest)?);
-    assert!(rt; is_filled_refused(rt.alloc(), front, 9, 0xff, b"\x02")?);
-    Ok(())
+    assert!(rt; is_filled_number(rt.alloc(), front, 9, 0xff, b"\x01", greatest));
+    assert!(rt; is_filled_refused(rt.alloc(), front, 9, 0xff, b"\x02"));
+}
+
+/// The same of integers, of both signs.
+fn integers_grow(alloc: Global, count: usize, power: i128) -> bool {
+    let front = b"\x02\x0c\x00\x03";
+    let below = power.saturating_sub(1);
+    let least = 0i128.saturating_sub(power);
+    let lower = least.saturating_sub(1);
+    is_filled_number(alloc, front, count, 0xff, b"\x3f", below)
+        && is_filled_number(alloc, front, count, 0x80, b"\xc0\x00", power)
+        && is_filled_number(alloc, front, count, 0x80, b"\x40", least)
+        && is_filled_number(alloc, front, count, 0xff, b"\xbf\x7f", lower)
 }
 
 #[test]
-fn integers_at_each_length(rt: HostRuntime) -> Result<(), Fail> {
+fn integers_at_each_length(rt: HostRuntime) {
     let front = b"\x02\x0c\x00\x03";
     let mut power: i128 = 64;
     for count in 0..18 {
-        let below = power.saturating_sub(1);
-        let least = 0i128.saturating_sub(power);
-        let lower = least.saturating_sub(1);
-        assert!(rt; is_filled_number(rt.alloc(), front, count, 0xff, b"\x3f", below)?);
-        assert!(rt; is_filled_number(rt.alloc(), front, count, 0x80, b"\xc0\x00", power)?);
-        assert!(rt; is_filled_number(rt.alloc(), front, count, 0x80, b"\x40", least)?);
-        assert!(rt; is_filled_number(rt.alloc(), front, count, 0xff, b"\xbf\x7f", lower)?);
+        assert!(rt; integers_grow(rt.alloc(), count, power));
         power = power.saturating_mul(128);
     }
-    assert!(rt; is_filled_number(rt.alloc(), front, 18, 0xff, b"\x01", i128::MAX)?);
-    assert!(rt; is_filled_number(rt.alloc(), front, 18, 0x80, b"\x7e", i128::MIN)?);
-    Ok(())
+    assert!(rt; is_filled_number(rt.alloc(), front, 18, 0xff, b"\x01", i128::MAX));
+    assert!(rt; is_filled_number(rt.alloc(), front, 18, 0x80, b"\x7e", i128::MIN));
 }
 
 #[test]
-fn longer_integers(rt: HostRuntime) -> Result<(), Fail> {
+fn longer_integers(rt: HostRuntime) {
     let front = b"\x02\x0c\x00\x03";
     for count in 0..18 {
-        assert!(rt; is_filled_refused(rt.alloc(), front, count, 0xff, b"\xbf\x00")?);
-        assert!(rt; is_filled_refused(rt.alloc(), front, count, 0x80, b"\xc0\x7f")?);
+        assert!(rt; is_filled_refused(rt.alloc(), front, count, 0xff, b"\xbf\x00"));
+        assert!(rt; is_filled_refused(rt.alloc(), front, count, 0x80, b"\xc0\x7f"));
     }
     for rest in [
         b"\x02".as_slice(),
         b"\x7d".as_slice(),
         b"\x81\x00".as_slice(),
     ] {
-        assert!(rt; is_filled_refused(rt.alloc(), front, 18, 0x80, rest)?);
+        assert!(rt; is_filled_refused(rt.alloc(), front, 18, 0x80, rest));
     }
-    Ok(())
 }
 
 #[test]
-fn texts_and_characters(rt: HostRuntime) -> Result<(), Fail> {
+fn texts_and_characters(rt: HostRuntime) {
     for desc in [
         b"\x04\x00".as_slice(),
         b"\x04\xff\xaf\x03".as_slice(),
@@ -246,13 +269,12 @@ fn texts_and_characters(rt: HostRuntime) -> Result<(), Fail> {
         b"\x05\x03\xed\x9f\xbf".as_slice(),
         b"\x08\x04\xf4\x8f\xbf\xbf".as_slice(),
     ] {
-        assert!(rt; is_outcome(rt.alloc(), desc)?);
+        assert!(rt; is_outcome(rt.alloc(), desc));
     }
-    Ok(())
 }
 
 #[test]
-fn refused_descriptions(rt: HostRuntime) -> Result<(), Fail> {
+fn refused_descriptions(rt: HostRuntime) {
     for desc in [
         // Surrogates, and numbers past the last character.
         b"\x04\x80\xb0\x03".as_slice(),
@@ -278,13 +300,12 @@ fn refused_descriptions(rt: HostRuntime) -> Result<(), Fail> {
         b"\x10".as_slice(),
         b"".as_slice(),
     ] {
-        assert!(rt; is_filled_refused(rt.alloc(), b"\x02\x0c\x00", 0, 0, desc)?);
+        assert!(rt; is_filled_refused(rt.alloc(), b"\x02\x0c\x00", 0, 0, desc));
     }
-    Ok(())
 }
 
 #[test]
-fn refused_operations(rt: HostRuntime) -> Result<(), Fail> {
+fn refused_operations(rt: HostRuntime) {
     for frame in [
         b"".as_slice(),
         b"\x00".as_slice(),
@@ -297,9 +318,8 @@ fn refused_operations(rt: HostRuntime) -> Result<(), Fail> {
         b"\x02\x0b\x00\x00".as_slice(),
         b"\x02\x0c\x80\x00\x00".as_slice(),
     ] {
-        assert!(rt; is_refused(rt.alloc(), frame)?);
+        assert!(rt; is_refused(rt.alloc(), frame));
     }
-    Ok(())
 }
 
 /// Lists of one member in each other, so many of them, the innermost empty.
@@ -312,21 +332,31 @@ fn nested(alloc: Global, height: usize) -> Result<Vec<u8>, Memory> {
     Ok(frame)
 }
 
-#[test]
-fn limits_of_lists(rt: HostRuntime) -> Result<(), Fail> {
-    assert!(rt; is_whole(rt.alloc(), nested(rt.alloc(), 100)?.as_slice())?);
-    assert!(rt; is_refused(rt.alloc(), nested(rt.alloc(), 101)?.as_slice())?);
-    // A list of 65,535 nulls weighs 65,536.
-    let frame = filled(rt.alloc(), b"\x02\x0c\x00\x06\xff\xff\x03", 65535, 0, b"")?;
-    assert!(rt; is_whole(rt.alloc(), frame.as_slice())?);
-    assert!(rt; is_filled_refused(rt.alloc(), b"\x02\x0c\x00\x06\x80\x80\x04", 65536, 0, b"")?);
-    Ok(())
+fn is_nested_whole(alloc: Global, height: usize) -> bool {
+    match nested(alloc, height) {
+        Ok(frame) => is_whole(alloc, frame.as_slice()),
+        Err(_) => false,
+    }
+}
+
+fn is_nested_refused(alloc: Global, height: usize) -> bool {
+    match nested(alloc, height) {
+        Ok(frame) => is_refused(alloc, frame.as_slice()),
+        Err(_) => false,
+    }
 }
 
 #[test]
-fn limits_of_arguments(rt: HostRuntime) -> Result<(), Fail> {
-    let frame = filled(rt.alloc(), b"\x01\x00\x09\x00\x00\xff\x01", 255, 0, b"")?;
-    assert!(rt; is_whole(rt.alloc(), frame.as_slice())?);
-    assert!(rt; is_filled_refused(rt.alloc(), b"\x01\x00\x09\x00\x00\x80\x02", 256, 0, b"")?);
-    Ok(())
+fn limits_of_lists(rt: HostRuntime) {
+    assert!(rt; is_nested_whole(rt.alloc(), 100));
+    assert!(rt; is_nested_refused(rt.alloc(), 101));
+    // A list of 65,535 nulls weighs 65,536.
+    assert!(rt; is_filled_whole(rt.alloc(), b"\x02\x0c\x00\x06\xff\xff\x03", 65535, 0, b""));
+    assert!(rt; is_filled_refused(rt.alloc(), b"\x02\x0c\x00\x06\x80\x80\x04", 65536, 0, b""));
+}
+
+#[test]
+fn limits_of_arguments(rt: HostRuntime) {
+    assert!(rt; is_filled_whole(rt.alloc(), b"\x01\x00\x09\x00\x00\xff\x01", 255, 0, b""));
+    assert!(rt; is_filled_refused(rt.alloc(), b"\x01\x00\x09\x00\x00\x80\x02", 256, 0, b""));
 }

@@ -25,7 +25,7 @@ last_line (l ∷ m ∷ []) = l
 last_line (l ∷ m ∷ n ∷ ls) = last_line (m ∷ n ∷ ls)
 
 unfoldable pub ending_in : Script → Run → Words
-ending_in script (Goes w) = last_line (map (line_of (vat_names script)) (shown_events w.history))
+ending_in script (Goes w) = last_line (map (line_of (vat_names script)) (shown_events w.drawn w.history))
 ending_in script (Stopped c k w) = stop_line c k
 
 unfoldable pub ending_at : ℕ → ℕ → List Node → Words

@@ -61,6 +61,22 @@ pub(crate) fn led_back(host: &mut Host) -> Result<bool, Stop> {
     Ok(is_settled(host, 0, Value::Broken(CYCLE)) && drawn(host) == 1 && posted(host, "")?)
 }
 
+/// A name of the provider settled to an object of this vat, which hosts a gift of the provider under the next word already.
+pub(crate) fn led_back_here(host: &mut Host) -> Result<bool, Stop> {
+    names(host, PROVIDER, 2)?;
+    elsewhere_here(host, 0)?;
+    let viewed = views(host, 0, 2) && posted(host, "1N")?;
+    let word = next_word(host);
+    asked(host, word)?;
+    elsewhere_here(host, 1)?;
+    Ok(
+        viewed
+            && is_settled(host, 1, Value::Broken(CYCLE))
+            && drawn(host) == 2
+            && posted(host, "1N")?,
+    )
+}
+
 pub(crate) fn notices(host: &mut Host) -> Result<bool, Stop> {
     names(host, PROVIDER, 1)?;
     asked(host, 0)?;

@@ -19,6 +19,7 @@ enum Case {
     DeliveredByStanding,
     Gifts,
     LedBack,
+    LedBackHere,
     Notices,
     Lists,
 }
@@ -36,6 +37,7 @@ fn comes_true(host: &mut Host, case: Case) -> Result<bool, Stop> {
         Case::DeliveredByStanding => arriving::delivered_by_standing(host),
         Case::Gifts => arriving::gifts(host),
         Case::LedBack => arriving::led_back(host),
+        Case::LedBackHere => arriving::led_back_here(host),
         Case::Notices => arriving::notices(host),
         Case::Lists => arriving::lists(host),
     }
@@ -104,6 +106,12 @@ fn gifts(rt: HostRuntime) -> Result<(), Fail> {
 #[test]
 fn led_back(rt: HostRuntime) -> Result<(), Fail> {
     assert!(rt; holds(rt.alloc(), Case::LedBack)?);
+    Ok(())
+}
+
+#[test]
+fn led_back_here(rt: HostRuntime) -> Result<(), Fail> {
+    assert!(rt; holds(rt.alloc(), Case::LedBackHere)?);
     Ok(())
 }
 

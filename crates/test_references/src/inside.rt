@@ -5,7 +5,7 @@ use ev_arrive::{Carried, Host, Incoming, Subject};
 use ev_base::{ActId, Memory, ObjId, PromId, TextId, Value, VatId};
 use ev_heap::Heap;
 use ev_intro::{GiftTable, Words};
-use ev_pass::{Interior, Note, Post, Reference, Stop, Swiss};
+use ev_pass::{Interior, Note, Post, Reference, Stop};
 use ev_receive::receiving::receive;
 use ev_receive::{Brought, Heard, Sight};
 use ev_refs::{Refs, Standing};
@@ -244,20 +244,31 @@ pub(crate) fn elsewhere_back(host: &mut Host, name: u64) -> Result<(), Stop> {
     heard_again(host, PROVIDER, Heard::Elsewhere(subject, ASKER))
 }
 
+/// A name of the provider settled to an object of the vat itself.
+pub(crate) fn elsewhere_here(host: &mut Host, name: u64) -> Result<(), Stop> {
+    let subject = Subject::Known(PromId(name));
+    heard(host, PROVIDER, Heard::Elsewhere(subject, ME))
+}
+
+/// The word that the next draw gives.
+pub(crate) fn next_word(host: &Host) -> u128 {
+    host.inside.words.next()
+}
+
 /// The provider opens a gift, an object of its own.
-pub(crate) fn opened(host: &mut Host, number: u64) -> Result<(), Stop> {
+pub(crate) fn opened(host: &mut Host, word: u128) -> Result<(), Stop> {
     let end = Incoming::Known(Reference::Far(PROVIDER, 3));
-    heard(host, PROVIDER, Heard::Open(Swiss(number), end))
+    heard(host, PROVIDER, Heard::Open(word, end))
 }
 
 /// The asker asks for a gift of the provider.
-pub(crate) fn asked(host: &mut Host, number: u64) -> Result<(), Stop> {
-    heard(host, ASKER, Heard::Ask(PROVIDER, Swiss(number)))
+pub(crate) fn asked(host: &mut Host, word: u128) -> Result<(), Stop> {
+    heard(host, ASKER, Heard::Ask(PROVIDER, word))
 }
 
 /// The same where the asker was told of the gift.
-pub(crate) fn asked_again(host: &mut Host, number: u64) -> Result<(), Stop> {
-    heard_again(host, ASKER, Heard::Ask(PROVIDER, Swiss(number)))
+pub(crate) fn asked_again(host: &mut Host, word: u128) -> Result<(), Stop> {
+    heard_again(host, ASKER, Heard::Ask(PROVIDER, word))
 }
 
 /// A message of the provider on a name, which asks for an answer if `asks`.
@@ -285,7 +296,7 @@ fn tower(alloc: Global, innermost: Brought, height: u64) -> Result<Brought, Memo
 
 /// A new name of the provider settled to a gift at the asker, in so many lists round each other.
 pub(crate) fn given(host: &mut Host, height: u64) -> Result<(), Stop> {
-    let value = tower(host.inside.alloc, Brought::Gift(ASKER, Swiss(2)), height)?;
+    let value = tower(host.inside.alloc, Brought::Gift(ASKER, 2), height)?;
     heard(
         host,
         PROVIDER,

@@ -1,4 +1,3 @@
-use Rattle.std.proofs.Common.{refl}
 use Rattle.ev_arrive.proofs.Hostings.{adds, skips}
 use Rattle.ev_arrive.proofs.notice.hosted.Goals as goal
 use Rattle.ev_arrive.proofs.notice.hosted.Goals.{then-is_hosted+in_ok-push, else-is_hosted}

@@ -1,7 +1,6 @@
 use Rattle.std.proofs.Common.{◌≡◌, Ok, Err, List, ℕ, string_bytes, subst}
 use Rattle.std.proofs.lemmas.Result.{IfOk-weaker}
 use Rattle.std.specs.declared.result.Result.{Result}
-use Rattle.ev_steps.specs.Built.{is_built}
 use Rattle.def_kernel.specs.declared.node.Node.{Node}
 use Rattle.ev_reader.specs.Program.{Answers}
 use Rattle.ev_reader.specs.declared.fault.ProgramFault.{ProgramFault}
@@ -18,13 +17,13 @@ read answer lent source given same safe answers =
 
 pub returns-in-Ok : goal.returns-in-Ok
 returns-in-Ok c =
-    IfOk-weaker c.reply_tree.result _ _
+    IfOk-weaker c.reply_run.result _ _
     (λ reply due. (
       Ok c.in-Ok.scoped,
       read (Ok c.in-Ok.scoped) c.as_str.result.now c.args.vat.now.source c.in_ok-given.given c.as_str.ensures c.in_ok-given.ensures c.in-Ok.ensures,
-      subst (λ (tree : List Node). IsDueOfTree (is_built tree) c.args.script.now c.args.vat.now.name tree reply.status (string_bytes reply.text)) c.tree.ensures due,
+      subst (λ (tree : List Node). IsDueOfTree c.args.script.now c.args.vat.now.name tree reply.status (string_bytes reply.text)) c.tree.ensures due,
     ))
-    c.reply_tree.ensures
+    c.reply_run.ensures
 
 pub returns : goal.returns
 returns c =

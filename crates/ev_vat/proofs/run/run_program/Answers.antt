@@ -20,10 +20,10 @@ returns-in-Err-clause-end c =
     c.stopped.ensures
 
 -- it came to its end, and its text is what was told
-done : (c : goal.After-drop-running-19) → IsRun c.args.key.now c.args.fuel c.args.limits.depth c.args.name.now c.args.program.now c.args.turns (string_bytes c.in_ok-rendered.field-0) Done
+done : (c : goal.After-drop-running-23) → IsRun c.args.key.now c.args.fuel c.args.limits.depth c.args.name.now c.args.program.now c.args.turns (string_bytes c.in_ok-rendered.field-0) Done
 done c =
-    let ran : RunIs (Ok tt) (course_alone (draw_word c.args.key.now) c.args.limits.depth c.args.program.now c.args.fuel c.args.turns) c.go_on.new.running.vat.inside c.go_on.new.running.names c.go_on.new.running.history =
-    subst (λ (key : List ℕ). RunIs (Ok tt) (course_alone (draw_word key) c.args.limits.depth c.args.program.now c.args.fuel c.args.turns) c.go_on.new.running.vat.inside c.go_on.new.running.names c.go_on.new.running.history)
+    let ran : RunIs (Ok tt) (course_alone (draw_word c.args.key.now) c.args.limits.depth c.args.program.now c.args.fuel c.args.turns) c.go_on.new.running.vat.host.inside c.go_on.new.running.names c.go_on.new.running.history =
+    subst (λ (key : List ℕ). RunIs (Ok tt) (course_alone (draw_word key) c.args.limits.depth c.args.program.now c.args.fuel c.args.turns) c.go_on.new.running.vat.host.inside c.go_on.new.running.names c.go_on.new.running.history)
     c.in_ok-running.ensures.key (c.in_default.ensures c.args.fuel c.in_ok-running.ensures.begun) in
     done_is c.args.key.now c.args.fuel c.args.limits.depth c.args.name.now c.args.program.now c.args.turns ran.0 c.close.new.self.history (string_bytes c.in_ok-rendered.field-0)
     ran.1.0 (c.in_ok-close.ensures ran.0 ran.1.1) c.in_ok-rendered.ensures

@@ -1,0 +1,4 @@
+pub mod Places
+pub mod Described
+pub mod Kept
+pub mod Numbered

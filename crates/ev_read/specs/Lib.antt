@@ -1,0 +1,7 @@
+pub mod Learnt
+pub mod Bringing
+pub mod Hearing
+pub mod Reading
+pub mod Statements
+pub mod Taking
+pub mod Sight

@@ -1,0 +1,43 @@
+//! What a frame brings besides its note.
+
+ghost use Rattle.std.specs.Prelude.{◌≡◌};
+ghost use Rattle.ev_read.specs.Hearing.{no_news};
+
+use crate::learnt::LearntTable;
+use ev_base::{Seq, Str, Value};
+use ev_pass::Interior;
+use ev_receive::Heard;
+
+/// What comes to be had by a frame. Nothing of it is there until it is taken in.
+#[derive(Drop)]
+pub struct News {
+    /// What comes to stand at the next positions.
+    pub imports: Seq<Value>,
+    /// The gifts that are learnt, with the names that they come to have.
+    pub gifts: LearntTable,
+    /// The texts that come to be kept, with the next numbers.
+    pub texts: Seq<Str>,
+    /// How many names are known by then.
+    pub known: u64,
+}
+
+impl News {
+    /// What is there before a frame is read: nothing but the names that the vat knows.
+    pub fn new(inside: &Interior) -> News
+        ensures { result ≡ no_news inside.now }
+    {
+        News {
+            imports: Seq::new(inside.alloc),
+            gifts: LearntTable::new(inside.alloc),
+            texts: Seq::new(inside.alloc),
+            known: inside.refs.count(),
+        }
+    }
+}
+
+/// A note that was heard, and what its frame brings besides.
+#[derive(Drop)]
+pub struct Hearing {
+    pub note: Heard,
+    pub news: News,
+}

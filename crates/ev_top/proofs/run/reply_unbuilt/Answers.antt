@@ -1,5 +1,0 @@
-use Rattle.std.proofs.Common.{refl, ◌∙◌, append_assoc}
-use Rattle.ev_top.proofs.run.reply_unbuilt.Goals as goal
-
-pub returns : goal.returns
-returns c = (refl, c.in_ok-format.ensures.ok ∙ simp append_assoc)

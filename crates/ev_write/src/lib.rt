@@ -1,0 +1,9 @@
+//! What a vat writes for its peers: each note as the operation that says it in the numbers of the two vats.
+#![tactic(auto)]
+
+pub mod describing;
+pub mod laws;
+pub mod numbering;
+pub mod writing;
+
+pub use writing::{WriteFault, write};
