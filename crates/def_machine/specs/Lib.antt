@@ -11,3 +11,4 @@ pub mod Calls
 pub mod Eval
 pub mod Perform
 pub mod Scopes
+pub mod Maps

@@ -203,9 +203,9 @@ module _ {N W : Type 0} (K : Naming N W) where
     ys ← pass_all w xs
     give (More y ys)
 
-  -- what a note says of a message: which it is, and whether it has an answer
+  -- what a note says of a message: which it is, whether it has an answer, and that answer
   abbrev pub delivery_of : Message N → Delivery N
-  delivery_of m = record { message = m.id; asks = is_some m.answer }
+  delivery_of m = record { message = m.id; asks = is_some m.answer; answer = m.answer }
 
   -- the arguments pass, and then the note is put
   unfoldable pub deliver : Message N → ℕ → N → Act N (Unit {0})
@@ -225,11 +225,11 @@ module _ {N W : Type 0} (K : Naming N W) where
     alter K (WaitOn q) p
     alter K (Wait p) q
 
-  -- The message goes out, and its answer here waits on the new one.
+  -- The message goes out with a new answer, on which its answer here waits.
   unfoldable pub pass_on : Message N → ℕ → N → Act N (Unit {0})
   pass_on m h n = for_some m.answer (λ p. do
     a ← come K (IsAnswer h m.id) h
-    deliver m h n
+    deliver (record m { answer = Some a }) h n
     wait_on p a) (deliver m h n)
 
   -- a message that is here, with the answer that it may have, on a followed target at this place

@@ -109,10 +109,11 @@ mutual
     NoMore : Passeds N
     More : Passed N → Passeds N → Passeds N
 
--- which message a note brings, and whether it asks for an answer
+-- which message a note brings, whether it asks for an answer, and what its sender calls that answer: who reads the note is not told
 pub record Delivery (N : Type 0) : Type 0 where
   pub message : N
   pub asks : Bool
+  pub answer : Option N
 
 pub data Note (N : Type 0) : Type 0 where
   -- message, target, verb, arguments

@@ -269,7 +269,7 @@ module _ {N W : Type 0} (object : N → Bool) (me peer : ℕ) (F : Newcomers N W
 
   -- a message, by whether it asks for an answer
   unfoldable pub message_heard : Bool → Described → List ℕ → Members → Hearing N (Note (Incoming N W))
-  message_heard asks d verb ds s = next (λ x t. next (λ ys. told (Deliver (record { message = New F.message peer; asks = asks }) x verb ys)) (all_heard ds t)) (name_heard d s)
+  message_heard asks d verb ds s = next (λ x t. next (λ ys. told (Deliver (record { message = New F.message peer; asks = asks; answer = None }) x verb ys)) (all_heard ds t)) (name_heard d s)
 
   -- A note by what its frame says; a question has the next number.
   -- The frame of a message does not tell who sent it first, nor that of a request to shorten where the object is, nor that of one who asks for a gift whether the gift is known: nothing looks at what stands in their places.

@@ -222,7 +222,7 @@ unfoldable mutual
   read_all (More y ys) ks = more_read (read_passed y ks).read (read_all ys (read_passed y ks).known)
 
 unfoldable pub read_note : List Name → Note Name → Note (Incoming Name Name)
-read_note ks (Deliver d n verb ys) = Deliver (record { message = New d.message (host_of d.message); asks = d.asks }) (read_name (read_all ys ks).known n) verb (read_all ys ks).read
+read_note ks (Deliver d n verb ys) = Deliver (record { message = New d.message (host_of d.message); asks = d.asks; answer = None }) (read_name (read_all ys ks).known n) verb (read_all ys ks).read
 read_note ks (Open i n) = Open i (read_name ks n)
 read_note ks (Ask p i n) = Ask p i (read_name ks n)
 read_note ks (SettledTo n y) = SettledTo (read_name ks n) (read_passed y (known_after ks n)).read

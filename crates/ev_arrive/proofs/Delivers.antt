@@ -47,10 +47,10 @@ module _ (ts : List Words) (key : List ℕ) (line : Lines) (s : Vat Local) where
   at h = host_at ts line h s
 
   module _ (tells : Tells ts line) where
-    pub message_is : (n : Local) (x : Carried) (h : Host) → Reads ts key h.inside → Stands ts key line s Mess (learn_message x h) (arrive.learn_message (names_under key) (carried_by n x) (at h))
+    pub message_is : (n : Local) (v : ℕ) (x : Carried) (h : Host) → Reads ts key h.inside → Stands ts key line s Mess (learn_message x h) (arrive.learn_message (names_under key) (carried_by n v x) (at h))
     unfolding learn_message arrive.learn_message
-    message_is n (Back m) h good = gives ts key line s Mess m h good
-    message_is n New h good = inside_is ts key line s Mess mail h _ (mail_is ts key line (with_gifts h.gifts s) tells n h.inside good)
+    message_is n v (Back m) h good = gives ts key line s Mess m h good
+    message_is n v New h good = inside_is ts key line s Mess mail h _ (mail_is ts key line (with_gifts h.gifts s) tells n h.inside good)
 
     forward_here : (m : Message) (h : Host) → Reads ts key h.inside → Stands ts key line s (λ u. u) (within (forward m) h) (refs.send_on (names_under key) (refs.settle (names_under key)) (message_by ts m) (at h))
     forward_here m h good = inside_is ts key line s (λ u. u) (forward m) h _ (forwards_is ts key line (with_gifts h.gifts s) tells m h.inside good)

@@ -6,7 +6,7 @@ use Rattle.def_machine.specs.Arrive.{gift_at}
 use Rattle.def_machine.specs.State.{GiftEntry, is_gift, with_opened}
 use Rattle.def_machine.specs.Values.{Local, Prom, key, word_of}
 use Rattle.ev_intro.specs.Gift.{Gift, Gifts, find, is_under, put}
-use Rattle.ev_pass.proofs.Keys.{word_key}
+use Rattle.def_machine.proofs.Keys.{word_key}
 use Rattle.ev_arrive.specs.Reading.{gift_by}
 
 pub same_eq : (a b : ℕ) → (a == b) ≡ (b == a)

@@ -8,7 +8,7 @@ use Rattle.def_machine.specs.Refs as refs
 use Rattle.def_machine.specs.State as machine
 use Rattle.def_machine.specs.State.{Vat, Done, is_in}
 use Rattle.def_machine.specs.Values.{Words, Value, Local, Prom, Ref, IsGift, Broken, key as gift_key, under}
-use Rattle.ev_pass.proofs.Keys.{word_key}
+use Rattle.def_machine.proofs.Keys.{word_key}
 use Rattle.ev_pass.specs.Acts.{draw, send_out}
 use Rattle.ev_pass.specs.Notes.{Noted, Ask, Open, Shorten}
 use Rattle.ev_pass.specs.Reading.{Lines, Reads, names_under, note_by, reference_by}

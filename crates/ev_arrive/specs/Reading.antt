@@ -33,9 +33,10 @@ abbrev pub subject_by : Local → Subject → machine.Incoming Local Local
 subject_by n (subject.Known m) = machine.Old (Prom m)
 subject_by n (subject.New h) = machine.New n h
 
-abbrev pub carried_by : Local → Carried → machine.Incoming Local Local
-carried_by n (carried.Back m) = machine.Old (Mess m)
-carried_by n carried.New = machine.New n 0
+-- a message that comes from that vat
+abbrev pub carried_by : Local → ℕ → Carried → machine.Incoming Local Local
+carried_by n v (carried.Back m) = machine.Old (Mess m)
+carried_by n v carried.New = machine.New n v
 
 -- what something gives in the code's terms stands for what it gives in the machine, and a stop for a stop
 abbrev pub Stands : {A B : Type 0} → List Words → List ℕ → Lines → Vat Local → (A → B) → Out A → Done Local B → Type 0

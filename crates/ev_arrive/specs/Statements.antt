@@ -41,8 +41,8 @@ ShortensAsTheMachine = (ts : List Words) (key : List ℕ) (line : Lines) (s : Va
     → Stands ts key line s (λ u. u) (arrive_shorten x i h) (machine.arrive_shorten (names_under key) (incoming_by n x) i (host_at ts line h s))
 
 abbrev pub LearnsMessagesAsTheMachine : Type 0
-LearnsMessagesAsTheMachine = (ts : List Words) (key : List ℕ) (line : Lines) (s : Vat Local) (h : Host) (n : Local) (x : Carried) → Tells ts line → Reads ts key h.inside
-    → Stands ts key line s Mess (learn_message x h) (machine.learn_message (names_under key) (carried_by n x) (host_at ts line h s))
+LearnsMessagesAsTheMachine = (ts : List Words) (key : List ℕ) (line : Lines) (s : Vat Local) (h : Host) (n : Local) (v : ℕ) (x : Carried) → Tells ts line → Reads ts key h.inside
+    → Stands ts key line s Mess (learn_message x h) (machine.learn_message (names_under key) (carried_by n v x) (host_at ts line h s))
 
 -- what the machine does with a message once it has learnt its number, its arguments and its target
 abbrev pub DeliversAsTheMachine : Type 0

@@ -12,11 +12,10 @@ use def_op::op::Op;
 use ev_base::{Memory, Seq};
 use std::alloc::Global;
 
-/// The one spelling of an operation, on the condition that it has one: numbers of vats are below 16 and those of
-/// primitives are theirs, there are at most 255 arguments, a list weighs at most 65,536 and is at most 100 high, what
-/// is sent to is the receiver's, and what is told of is a promise of the sender.
+/// The bytes of an operation. They are its one spelling, which `decode` finds, where it has one (`IsOp`): numbers of vats
+/// are below 16 and those of primitives are theirs, there are at most 255 arguments, a list weighs at most 65,536 and is
+/// at most 100 high, what is sent to is the receiver's, and what is told of is a promise of the sender.
 pub fn encode(alloc: Global, op: &Op) -> Result<Seq<u8>, Memory>
-    requires { IsOp (operation op.now) }
     ensures { IfOk result (λ bytes. bytes ≡ spelling (operation op.now)) }
 {
     let mut out = Vec::new(alloc);

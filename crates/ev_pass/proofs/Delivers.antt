@@ -1,6 +1,6 @@
 -- Messages that go out, and vats that are told, as the machine has them.
-use Rattle.std.proofs.Common.{◌≡◌, ℕ, Bool, true, false, List, [], ◌∷◌, map, sym, subst}
-use Rattle.std.specs.Prelude.{Option, if◌then◌else◌, is_some}
+use Rattle.std.proofs.Common.{◌≡◌, ℕ, Bool, true, false, List, [], ◌∷◌, map, refl, sym, subst, Option, option_map, Some, None}
+use Rattle.std.specs.Prelude.{if◌then◌else◌, is_some}
 use Rattle.ev_base.specs.declared.values.Value.{Value as Held}
 use Rattle.ev_base.specs.declared.values.Value.TheVariants as held
 use Rattle.def_machine.specs.Refs as refs
@@ -25,14 +25,18 @@ module _ (ts : List Words) (key : List ℕ) (line : Lines) (s : Vat Local) where
   abbrev pub at : Interior → Vat Local
   at i = vat_at ts line i s
 
-  pub delivers : (m : ℕ) (asks : Bool) (verb : Words) (args : List Held) (h : ℕ) (x : Reference) (target : Value Local) (answer : Option Local) (i : Interior) → Reads ts key i → is_some answer ≡ asks → line (posted h m) ≡ Posted h (Mess m) ∷ []
-      → StandsFor ts key line s (λ u. u) (deliver m asks verb args h x i) (refs.deliver (names_under key) (record { id = Mess m; target = target; verb = verb; args = map (value_by ts) args; answer = answer }) h (reference_by x) (at i))
+  some_mapped : (a : Option ℕ) → is_some (option_map Prom a) ≡ is_some a
+  some_mapped (Some n) = refl
+  some_mapped None = refl
+
+  pub delivers : (m : ℕ) (a : Option ℕ) (verb : Words) (args : List Held) (h : ℕ) (x : Reference) (target : Value Local) (i : Interior) → Reads ts key i → line (posted h m) ≡ Posted h (Mess m) ∷ []
+      → StandsFor ts key line s (λ u. u) (deliver m a verb args h x i) (refs.deliver (names_under key) (record { id = Mess m; target = target; verb = verb; args = map (value_by ts) args; answer = option_map Prom a }) h (reference_by x) (at i))
   unfolding deliver refs.deliver code.◌>>=◌ code.◌>>◌ machine.◌>>=◌ machine.◌>>◌
-  delivers m asks verb args h x target answer i good is posts =
+  delivers m a verb args h x target i good posts =
       both_then ts key line s (passeds_by ts) (λ u. u) (packs (pass h) args i) _ _ _ (passes_all ts key line s h args i good)
       (λ ps j e next. both_then ts key line s (λ u. u) (λ u. u) (code.tell (posted h m) j) _ _ _ (told_is ts key line s (posted h m) (Posted h (Mess m)) j posts next)
-      (λ u k g done. subst (λ (b : Bool). StandsFor ts key line s (λ v. v) (code.send_out h (Deliver m asks x verb ps) k) (machine.send_out h (machine.Deliver (record { message = Mess m; asks = b }) (reference_by x) verb (passeds_by ts ps)) (at k))) (sym is)
-      (sent_out_is ts key line s h (Deliver m asks x verb ps) k done)))
+      (λ u k g done. subst (λ (b : Bool). StandsFor ts key line s (λ v. v) (code.send_out h (Deliver m a x verb ps) k) (machine.send_out h (machine.Deliver (record { message = Mess m; asks = b; answer = option_map Prom a }) (reference_by x) verb (passeds_by ts ps)) (at k))) (sym (some_mapped a))
+      (sent_out_is ts key line s h (Deliver m a x verb ps) k done)))
 
   plainly_is : (p w : ℕ) (y : Held) (i : Interior) → Reads ts key i
       → StandsFor ts key line s (λ u. u) (inform_plainly p w y i) (machine.and_then (refs.pass (names_under key) w (value_by ts y) (at i)) (λ z. machine.send_out w (machine.SettledTo (Prom p) z)))

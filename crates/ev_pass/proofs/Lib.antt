@@ -1,4 +1,3 @@
-pub mod Keys
 pub mod Draws
 pub mod Ends
 pub mod Packs

@@ -1,5 +1,5 @@
 -- Messages that go out and vats that are told, in the code's terms.
-use Rattle.std.specs.Prelude.{ℕ, Bool, if◌then◌else◌, List}
+use Rattle.std.specs.Prelude.{ℕ, if◌then◌else◌, List, Option}
 use Rattle.ev_base.specs.declared.values.Value.{Value}
 use Rattle.ev_base.specs.declared.values.Value.TheVariants as held
 use Rattle.ev_heap.specs.declared.happened.Happened.{Happened as Event}
@@ -17,12 +17,12 @@ use Rattle.ev_pass.specs.declared.note.Reference.{Reference}
 abbrev pub posted : ℕ → ℕ → Event
 posted h m = event.Posted h m
 
--- the arguments pass, and then the note is put
-unfoldable pub deliver : ℕ → Bool → List ℕ → List Value → ℕ → Reference → Act (Unit {0})
-deliver m asks verb args h x = do
+-- the arguments pass, and then the note is put, with the name of the answer, if it asks for one
+unfoldable pub deliver : ℕ → Option ℕ → List ℕ → List Value → ℕ → Reference → Act (Unit {0})
+deliver m a verb args h x = do
   ps ← packs (pass h) args
   tell (posted h m)
-  send_out h (Deliver m asks x verb ps)
+  send_out h (Deliver m a x verb ps)
 
 unfoldable pub inform_plainly : ℕ → ℕ → Value → Act (Unit {0})
 inform_plainly p w y = do

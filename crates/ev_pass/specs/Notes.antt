@@ -1,5 +1,5 @@
 -- What a clause sees of notes: which they are, without where their parts lie in memory.
-use Rattle.std.specs.Prelude.{ℕ, Bool, List, [], ◌∷◌, map}
+use Rattle.std.specs.Prelude.{ℕ, List, [], ◌∷◌, Option, map}
 use Rattle.ev_base.specs.declared.values.Value.{Value}
 use Rattle.def_machine.specs.Values.{key}
 use Rattle.ev_pass.specs.declared.draw.Swiss.{Swiss}
@@ -27,8 +27,8 @@ mutual
 
 -- what one vat tells another
 pub data Noted : Type 0 where
-  -- message, whether it asks for an answer, target, verb, arguments
-  Deliver : ℕ → Bool → Reference → List ℕ → Parcels → Noted
+  -- message, the name of its answer if it asks for one, target, verb, arguments
+  Deliver : ℕ → Option ℕ → Reference → List ℕ → Parcels → Noted
   -- key, what the gift is
   Open : ℕ → Reference → Noted
   -- provider, key, the asker's name
@@ -59,7 +59,7 @@ abbrev pub all_parcels : List Passed → Parcels
 all_parcels ps = parcels (map parcel ps)
 
 abbrev pub noted : Note → Noted
-noted (note.Deliver message asks target verb args) = Deliver message asks target verb (all_parcels args.items)
+noted (note.Deliver message answer target verb args) = Deliver message answer target verb (all_parcels args.items)
 noted (note.Open i x) = Open (key_of i) x
 noted (note.Ask p i n) = Ask p (key_of i) n
 noted (note.Settled n p) = Settled n (parcel p)

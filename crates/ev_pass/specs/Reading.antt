@@ -1,5 +1,5 @@
 -- How the inside of a vat stands for a vat of the machine, in local numbers, where the texts are these.
-use Rattle.std.specs.Prelude.{◌≡◌, ℕ, List, [], ◌∷◌, ◌++◌, Some, Ok, Err, map, codes, slice_get}
+use Rattle.std.specs.Prelude.{◌≡◌, ℕ, List, [], ◌∷◌, ◌++◌, Some, Ok, Err, is_some, map, option_map, codes, slice_get}
 use Rattle.ev_heap.specs.declared.happened.Happened.{Happened as Event}
 use Rattle.ev_intro.specs.Word.{word}
 use Rattle.def_machine.specs.Values.{Words, Naming, Local, Obj, Prom, Far, Mess, numbering}
@@ -39,7 +39,7 @@ unfoldable mutual
   passeds_by ts (More p ps) = machine.More (passed_by ts p) (passeds_by ts ps)
 
 abbrev pub note_by : List Words → Noted → machine.Note Local
-note_by ts (Deliver m asks x verb ps) = machine.Deliver (record { message = Mess m; asks = asks }) (reference_by x) verb (passeds_by ts ps)
+note_by ts (Deliver m a x verb ps) = machine.Deliver (record { message = Mess m; asks = is_some a; answer = option_map Prom a }) (reference_by x) verb (passeds_by ts ps)
 note_by ts (Open i x) = machine.Open i (reference_by x)
 note_by ts (Ask p i n) = machine.Ask p i (Prom n)
 note_by ts (Settled n p) = machine.SettledTo (Prom n) (passed_by ts p)

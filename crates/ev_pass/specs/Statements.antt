@@ -1,5 +1,5 @@
 -- What is said of passing in the machine's terms.
-use Rattle.std.specs.Prelude.{◌≡◌, ℕ, Bool, List, [], ◌∷◌, Option, is_some, map}
+use Rattle.std.specs.Prelude.{◌≡◌, ℕ, List, [], ◌∷◌, Option, map, option_map}
 use Rattle.ev_base.specs.declared.values.Value.{Value as Held}
 use Rattle.def_machine.specs.Values.{Words, Value, Local, Mess, Prom}
 use Rattle.def_machine.specs.State.{Vat, Posted}
@@ -21,9 +21,9 @@ PassesAllAsTheMachine = (ts : List Words) (key : List ℕ) (line : Lines) (s : V
 
 -- a message is delivered, where what is told of that is the machine's line
 abbrev pub DeliversAsTheMachine : Type 0
-DeliversAsTheMachine = (ts : List Words) (key : List ℕ) (line : Lines) (s : Vat Local) (i : Interior) (m : ℕ) (asks : Bool) (verb : Words) (args : List Held) (h : ℕ) (x : Reference) (target : Value Local) (answer : Option Local) → Reads ts key i → is_some answer ≡ asks
+DeliversAsTheMachine = (ts : List Words) (key : List ℕ) (line : Lines) (s : Vat Local) (i : Interior) (m : ℕ) (a : Option ℕ) (verb : Words) (args : List Held) (h : ℕ) (x : Reference) (target : Value Local) → Reads ts key i
     → line (posted h m) ≡ Posted h (Mess m) ∷ []
-    → StandsFor ts key line s (λ u. u) (deliver m asks verb args h x i) (refs.deliver (names_under key) (record { id = Mess m; target = target; verb = verb; args = map (value_by ts) args; answer = answer }) h (reference_by x) (vat_at ts line i s))
+    → StandsFor ts key line s (λ u. u) (deliver m a verb args h x i) (refs.deliver (names_under key) (record { id = Mess m; target = target; verb = verb; args = map (value_by ts) args; answer = option_map Prom a }) h (reference_by x) (vat_at ts line i s))
 
 abbrev pub InformsAsTheMachine : Type 0
 InformsAsTheMachine = (ts : List Words) (key : List ℕ) (line : Lines) (s : Vat Local) (i : Interior) (p w : ℕ) → Reads ts key i

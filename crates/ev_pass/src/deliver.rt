@@ -12,19 +12,19 @@ use ev_refs::Place;
 use ev_word::Word;
 
 impl Interior {
-    /// A message goes out to that vat, on what it is sent on there, and asks for an answer or does not: its arguments pass, and then
+    /// A message goes out to that vat, on what it is sent on there, and asks for the answer that this vat knows as that name, if it does: its arguments pass, and then
     /// the note is put.
     #[tactic(auto, using(crate::proofs::Ends::ends), unfolding(crate::specs::Delivering::deliver, crate::specs::Acts::opened_acts))]
     pub fn deliver(
         &mut self,
         message: MsgId,
-        asks: bool,
+        answer: Option<PromId>,
         verb: Word,
         args: &[Value],
         host: VatId,
         target: Reference,
     ) -> Result<(), Stop>
-        ensures { Gives result self.new (deliver message asks verb args.now host target self.old) }
+        ensures { Gives result self.new (deliver message answer verb args.now host target self.old) }
     {
         let args = self.pass_all(host, args)?;
         self.tell(Happened::Posted(host, message))?;
@@ -32,7 +32,7 @@ impl Interior {
             host,
             Note::Deliver {
                 message,
-                asks,
+                answer,
                 target,
                 verb,
                 args,

@@ -28,10 +28,10 @@ pub enum Passed {
 /// What one vat tells another.
 #[derive(Drop)]
 pub enum Note {
-    /// A message, and whether it asks for an answer.
+    /// A message, and, if it asks for an answer, the name as which this vat knows the answer there.
     Deliver {
         message: MsgId,
-        asks: bool,
+        answer: Option<PromId>,
         target: Reference,
         verb: Word,
         args: Vec<Passed>,

@@ -500,20 +500,20 @@ module _ (n : Local) (i : Interior) (t : Table) (l : LearntGifts) where
     unfolding code.message_heard machine.message_heard ◌>>=◌ give
     message_sound asks d verb ds s r ts =
         bind_sound name_view note_view s (λ x. code.parts_heard i t l ds >>= λ ps. give (told.Deliver carried.New asks x verb ps))
-        (λ x st. machine.next (λ ys. machine.told (state.Deliver (record { message = New n t.peer; asks = asks }) x verb ys)) (machine.all_heard is_object i.refs.me t.peer (newcomers_of n t.peer) (connection_of t) ds st))
+        (λ x st. machine.next (λ ys. machine.told (state.Deliver (record { message = New n t.peer; asks = asks; answer = None }) x verb ys)) (machine.all_heard is_object i.refs.me t.peer (newcomers_of n t.peer) (connection_of t) ds st))
         (machine.name_heard is_object i.refs.me t.peer (newcomers_of n t.peer) (connection_of t) d (stage_of t l s)) ts (code.name_heard t d s) (name_sound d s r ts)
-        (λ x u e g. bind_sound parts_view note_view u (λ ps. give (told.Deliver carried.New asks x verb ps)) (λ ys. machine.told (state.Deliver (record { message = New n t.peer; asks = asks }) (incoming_by n x) verb ys))
+        (λ x u e g. bind_sound parts_view note_view u (λ ps. give (told.Deliver carried.New asks x verb ps)) (λ ys. machine.told (state.Deliver (record { message = New n t.peer; asks = asks; answer = None }) (incoming_by n x) verb ys))
         (machine.all_heard is_object i.refs.me t.peer (newcomers_of n t.peer) (connection_of t) ds (stage_of t l u)) ts (code.parts_heard i t l ds u) (parts_sound ds u (g.references r) ts)
-        (λ ps w f h. given_at ts note_view w (told.Deliver carried.New asks x verb ps) (state.Deliver (record { message = New n t.peer; asks = asks }) (incoming_by n x) verb (parts_by ts t.peer n ps)) refl))
+        (λ ps w f h. given_at ts note_view w (told.Deliver carried.New asks x verb ps) (state.Deliver (record { message = New n t.peer; asks = asks; answer = None }) (incoming_by n x) verb (parts_by ts t.peer n ps)) refl))
 
     message_none : (asks : Bool) (d : Described) (verb : Words) (ds : Members) (s : News) → References s → code.message_heard i t l asks d verb ds s ≡ None
         → machine.message_heard is_object i.refs.me t.peer (newcomers_of n t.peer) (connection_of t) asks d verb ds (stage_of t l s) ≡ None
     unfolding code.message_heard machine.message_heard ◌>>=◌ machine.next
     message_none asks d verb ds s r e =
         bind_none name_view note_view s (λ x. code.parts_heard i t l ds >>= λ ps. give (told.Deliver carried.New asks x verb ps))
-        (λ x st. machine.next (λ ys. machine.told (state.Deliver (record { message = New n t.peer; asks = asks }) x verb ys)) (machine.all_heard is_object i.refs.me t.peer (newcomers_of n t.peer) (connection_of t) ds st))
+        (λ x st. machine.next (λ ys. machine.told (state.Deliver (record { message = New n t.peer; asks = asks; answer = None }) x verb ys)) (machine.all_heard is_object i.refs.me t.peer (newcomers_of n t.peer) (connection_of t) ds st))
         (machine.name_heard is_object i.refs.me t.peer (newcomers_of n t.peer) (connection_of t) d (stage_of t l s)) (code.name_heard t d s) (name_sound d s r) (name_none d s r)
-        (λ x u f g y h. ap (machine.next (λ ys. machine.told (state.Deliver (record { message = New n t.peer; asks = asks }) y verb ys))) (parts_none ds u (g.references r) (gave_none (code.parts_heard i t l ds u) (λ ps. told.Deliver carried.New asks x verb ps) h))) e
+        (λ x u f g y h. ap (machine.next (λ ys. machine.told (state.Deliver (record { message = New n t.peer; asks = asks; answer = None }) y verb ys))) (parts_none ds u (g.references r) (gave_none (code.parts_heard i t l ds u) (λ ps. told.Deliver carried.New asks x verb ps) h))) e
 
     outcome_sound : (x : Subject) (o : Outcome) (s : News) → References s → (ts : List Words)
         → Sound ts note_view s (code.outcome_heard i t l x o s) (machine.outcome_heard is_object i.refs.me t.peer (newcomers_of n t.peer) (connection_of t) (subject_by n x) o (stage_of t l s))

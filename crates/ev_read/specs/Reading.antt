@@ -1,5 +1,5 @@
 -- How what a vat hears stands for what the machine reads, in local numbers.
-use Rattle.std.specs.Prelude.{◌≡◌, ◌+◌, ℕ, List, ◌++◌, Some, map, length, slice_get}
+use Rattle.std.specs.Prelude.{◌≡◌, ◌+◌, ℕ, List, ◌++◌, Some, None, map, length, slice_get}
 use Rattle.def_machine.specs.Arrive.{Old, New}
 use Rattle.def_machine.specs.State as state
 use Rattle.def_machine.specs.Values.{Words, Local, Prom, Far, Mess, key}
@@ -8,7 +8,7 @@ use Rattle.def_run.specs.Connections.{Learnt, Newcomers, Stage}
 use Rattle.ev_refs.specs.Reading.{text_by}
 use Rattle.ev_pass.specs.Notes.{key_of}
 use Rattle.ev_pass.specs.declared.interior.Interior.{Interior}
-use Rattle.ev_arrive.specs.Reading.{incoming_by, subject_by}
+use Rattle.ev_arrive.specs.Reading.{carried_by, incoming_by, subject_by}
 use Rattle.ev_arrive.specs.declared.host.Carried.{Carried}
 use Rattle.ev_arrive.specs.declared.host.Carried.TheVariants as carried
 use Rattle.ev_receive.specs.Hearing.{Name, part_by, parts_by}
@@ -30,14 +30,9 @@ stage_of t l s = record { imports = map local_of (t.imports ++ s.imports); learn
 abbrev pub newcomers_of : Local → ℕ → Newcomers Local Local
 newcomers_of n peer = record { object = Far peer; promise = λ p k. Prom k; gift = λ h i k. Prom k; exported = λ p. n; asked = λ q. n; message = n }
 
--- the message that a frame of that peer carries
-abbrev pub message_by : Local → ℕ → Carried → Name
-message_by n peer (carried.Back m) = Old (Mess m)
-message_by n peer carried.New = New n peer
-
 -- a note that vat `me` hears of that peer
 abbrev pub told_by : List Words → Local → ℕ → ℕ → Told → state.Note Name
-told_by ts n me peer (told.Deliver m asks x verb ps) = state.Deliver (record { message = message_by n peer m; asks = asks }) (incoming_by n x) verb (parts_by ts peer n ps)
+told_by ts n me peer (told.Deliver m asks x verb ps) = state.Deliver (record { message = carried_by n peer m; asks = asks; answer = None }) (incoming_by n x) verb (parts_by ts peer n ps)
 told_by ts n me peer (told.Open w x) = state.Open (key peer w) (incoming_by n x)
 told_by ts n me peer (told.Ask p w) = state.Ask p (key p w) (New n me)
 told_by ts n me peer (told.Settled x y) = state.SettledTo (subject_by n x) (part_by ts peer n y)
@@ -61,12 +56,3 @@ TellsOfPromises (DeliverOnly d verb ds) = Unit {0}
 TellsOfPromises (Provide d w) = Unit {0}
 TellsOfPromises (Accept q p w) = Unit {0}
 TellsOfPromises (Shorten d w) = Unit {0}
-
--- a note with its message as one of that peer; no vat looks at where a message that it carries comes from
-abbrev pub with_peer : ℕ → Name → Name
-with_peer peer (Old m) = Old m
-with_peer peer (New m h) = New m peer
-
-abbrev pub of_peer : ℕ → state.Note Name → state.Note Name
-of_peer peer (state.Deliver d x verb ys) = state.Deliver (record { message = with_peer peer d.message; asks = d.asks }) x verb ys
-of_peer peer note = note

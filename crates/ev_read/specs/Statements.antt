@@ -16,7 +16,7 @@ use Rattle.ev_read.specs.Bringing.{Told, told}
 use Rattle.ev_read.specs.Hearing.{Out, no_news, note_heard}
 use Rattle.ev_read.specs.Learnt.{LearntGifts}
 use Rattle.ev_read.specs.Taking.{imported_all}
-use Rattle.ev_read.specs.Reading.{TellsOfPromises, TextsStand, newcomers_of, of_peer, stage_of, told_by}
+use Rattle.ev_read.specs.Reading.{TellsOfPromises, TextsStand, newcomers_of, stage_of, told_by}
 
 -- references to what is of other vats
 abbrev pub AllOthers : (ℕ → Bool) → List Value → Type 0
@@ -35,7 +35,7 @@ HearsAsTheMachine = (n : Local) (i : Interior) (t : Table) (l : LearntGifts) (o 
 
 -- And that note is the one by which a vat receives what was heard.
 abbrev pub IsReceived : Type 0
-IsReceived = (ts : List Words) (n : Local) (me peer : ℕ) (note : Noted) → told_by ts n me peer (told note) ≡ of_peer peer (heard_by ts n (New n me) peer peer note)
+IsReceived = (ts : List Words) (n : Local) (me peer : ℕ) (note : Noted) → told_by ts n me peer (told note) ≡ heard_by ts n (New n me) peer peer note
 
 -- What has a spelling tells of promises.
 abbrev pub SpelledTellOfPromises : Type 0

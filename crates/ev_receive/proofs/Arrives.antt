@@ -1,5 +1,5 @@
 -- Every note arrives as in the machine.
-use Rattle.std.proofs.Common.{ℕ, Bool, List, map}
+use Rattle.std.proofs.Common.{ℕ, Bool, List, None, map}
 use Rattle.ev_base.specs.declared.values.Value.{Value as Held}
 use Rattle.def_machine.specs.Arrive as arrive
 use Rattle.def_machine.specs.Refs as refs
@@ -36,10 +36,10 @@ module _ (ts : List Words) (key : List ℕ) (line : Lines) (s : Vat Local) (tell
   at h = host_at ts line h s
 
   pub deliver_is : (from : ℕ) (m : Carried) (asks : Bool) (x : Incoming) (verb : Words) (ps : Parts) (h : Host) → Reads ts key h.inside
-      → Stands ts key line s (λ u. u) (arrive_deliver from m asks x verb ps h) (arrive.arrive_deliver (names_under key) from (record { message = carried_by n m; asks = asks }) (incoming_by n x) verb (parts_by ts from n ps) (at h))
+      → Stands ts key line s (λ u. u) (arrive_deliver from m asks x verb ps h) (arrive.arrive_deliver (names_under key) from (record { message = carried_by n from m; asks = asks; answer = None }) (incoming_by n x) verb (parts_by ts from n ps) (at h))
   unfolding arrive_deliver arrive.arrive_deliver ◌>>=◌ machine.◌>>=◌
   deliver_is from m asks x verb ps h good =
-      both_then ts key line s Mess (λ u. u) (learn_message m h) _ _ _ (message_is ts key line s tells n m h good)
+      both_then ts key line s Mess (λ u. u) (learn_message m h) _ _ _ (message_is ts key line s tells n from m h good)
       (λ id j e first. both_then ts key line s (map (value_by ts)) (λ u. u) (learn_each (learn 100 from) ps j) _ _ _ (parts_are ts key line s tells lists n 100 from ps j first)
       (λ args k f second. both_then ts key line s reference_by (λ u. u) (learn_name x k) _ (λ r. deliver from id asks (value_at r) verb args) _ (name_is ts key line s n x k second)
       (λ r l g third. delivers_is ts key line s tells from id asks r verb args l third)))

@@ -1,5 +1,5 @@
 -- What a note that a vat hears stands for in the machine, in local numbers.
-use Rattle.std.specs.Prelude.{◌≡◌, ℕ, Bool, List, [], ◌∷◌, Some, map}
+use Rattle.std.specs.Prelude.{◌≡◌, ℕ, Bool, List, [], ◌∷◌, Some, None, map}
 use Rattle.ev_base.specs.declared.values.Value.{Value as Held}
 use Rattle.ev_heap.specs.declared.happened.Happened.TheVariants as event
 use Rattle.def_machine.specs.Arrive as machine
@@ -49,7 +49,7 @@ unfoldable mutual
 
 -- A note of that vat. The machine does not look at the asker's name x, nor at the host c of what is to be shortened.
 abbrev pub heard_by : List Words → Local → Name → ℕ → ℕ → Heard → state.Note Name
-heard_by ts n x c from (Deliver m asks t verb args) = state.Deliver (record { message = carried_by n m; asks = asks }) (incoming_by n t) verb (parts_by ts from n (all_parts args.items))
+heard_by ts n x c from (Deliver m asks t verb args) = state.Deliver (record { message = carried_by n from m; asks = asks; answer = None }) (incoming_by n t) verb (parts_by ts from n (all_parts args.items))
 heard_by ts n x c from (Open w t) = state.Open (gift_key from w) (incoming_by n t)
 heard_by ts n x c from (Ask p w) = state.Ask p (gift_key p w) x
 heard_by ts n x c from (Settled t y) = state.SettledTo (subject_by n t) (part_by ts from n (part y))

@@ -1,5 +1,5 @@
 -- What is said of notes that come in, in the machine's terms.
-use Rattle.std.specs.Prelude.{ℕ, Bool, List}
+use Rattle.std.specs.Prelude.{ℕ, Bool, List, None}
 use Rattle.def_machine.specs.Arrive as machine
 use Rattle.def_machine.specs.Receive as receiving
 use Rattle.def_machine.specs.State.{Vat}
@@ -27,7 +27,7 @@ LearnsAsTheMachine = (ts : List Words) (key : List ℕ) (line : Lines) (s : Vat 
 
 abbrev pub DeliversNotesAsTheMachine : Type 0
 DeliversNotesAsTheMachine = (ts : List Words) (key : List ℕ) (line : Lines) (s : Vat Local) (h : Host) (n : Local) (from : ℕ) (m : Carried) (asks : Bool) (x : Incoming) (verb : Words) (ps : Parts) → Tells ts line → TellsLists ts line → Reads ts key h.inside
-    → Stands ts key line s (λ u. u) (arrive_deliver from m asks x verb ps h) (machine.arrive_deliver (names_under key) from (record { message = carried_by n m; asks = asks }) (incoming_by n x) verb (parts_by ts from n ps) (host_at ts line h s))
+    → Stands ts key line s (λ u. u) (arrive_deliver from m asks x verb ps h) (machine.arrive_deliver (names_under key) from (record { message = carried_by n from m; asks = asks; answer = None }) (incoming_by n x) verb (parts_by ts from n ps) (host_at ts line h s))
 
 abbrev pub SettlesAsTheMachine : Type 0
 SettlesAsTheMachine = (ts : List Words) (key : List ℕ) (line : Lines) (s : Vat Local) (h : Host) (n : Local) (from : ℕ) (x : Subject) (b : Part) → Tells ts line → TellsLists ts line → Reads ts key h.inside

@@ -52,7 +52,7 @@ fn has_number(host: &Host, sight: Sight, provider: VatId, word: u128) -> bool
 /// Whether a note tells the vat nothing new: a name was told of before, a gift was opened, or the sender was told of a gift that it asks
 /// for.
 #[tactic(auto, unfolding(crate::specs::Receiving::tells_nothing))]
-fn tells_nothing(host: &Host, from: VatId, sight: Sight, note: &Heard) -> bool
+pub fn tells_nothing(host: &Host, from: VatId, sight: Sight, note: &Heard) -> bool
     ensures { result ≡ tells_nothing from sight note.now host.now }
 {
     match note {

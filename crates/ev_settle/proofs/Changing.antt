@@ -1,6 +1,6 @@
 -- The single changes of what a vat knows stand for those of the machine.
-use Rattle.std.proofs.Common.{◌≡◌, ℕ, zero, suc, ◌+◌, true, false, List, [], ◌∷◌, ◌++◌, Option, Some, None, Ok, length, refl, sym, ap, ◌∙◌, arith}
-use Rattle.std.specs.Prelude.{is_some, option_map, slice_get, slice_set}
+use Rattle.std.proofs.Common.{◌≡◌, ℕ, zero, suc, ◌+◌, true, false, List, [], ◌∷◌, ◌++◌, Option, Some, None, Ok, length, refl, sym, subst, ap, ◌∙◌, arith}
+use Rattle.std.specs.Prelude.{map, option_map, slice_get, slice_set}
 use Rattle.std.proofs.lemmas.List.{map-append}
 use Rattle.ev_heap.specs.declared.happened.Happened.TheVariants as event
 use Rattle.ev_intro.specs.Word.{word}
@@ -127,21 +127,22 @@ module _ (ts : List Words) (key : List ℕ) (line : Lines) (s : Vat Local) where
         (λ u j e next. both_then ts key line s (λ u. u) (λ u. u) (begin_view n g j) _ _ _ (viewed_found n g j (slice_get j.refs.known n) refl next)
         (λ v k f done. noted_found n g k (slice_get k.refs.known g) refl done))
 
-    asking_is : (m : Message) (h : ℕ) (x : Reference) (p : ℕ) (i : Interior) → m.answer ≡ Some p → Reads ts key i
-        → StandsFor ts key line s (λ u. u) (pass_asking m h x p i) (machine.and_then (machine.come (names_under key) (IsAnswer h (Mess m.id)) h (at i)) (λ a t. machine.and_then (refs.deliver (names_under key) (message_by ts m) h (reference_by x) t) (λ _. refs.wait_on (names_under key) (Prom p) a)))
+    asking_is : (m : Message) (h : ℕ) (x : Reference) (p : ℕ) (i : Interior) → Reads ts key i
+        → StandsFor ts key line s (λ u. u) (pass_asking m h x p i) (machine.and_then (machine.come (names_under key) (IsAnswer h (Mess m.id)) h (at i)) (λ a t. machine.and_then (refs.deliver (names_under key) (record (message_by ts m) { answer = Some a }) h (reference_by x) t) (λ _. refs.wait_on (names_under key) (Prom p) a)))
     unfolding pass_asking code.◌>>=◌ code.◌>>◌
-    asking_is m h x p i is good =
+    asking_is m h x p i good =
         both_then ts key line s Prom (λ u. u) (come h i) _ _ _ (come_is h (Mess m.id) i good)
-        (λ a j e next. both_then ts key line s (λ u. u) (λ u. u) (deliver m.id true m.verb m.args h x j) _ _ _
-        (delivers ts key line s m.id true m.verb m.args h x (value_by ts m.target) (option_map Prom m.answer) j next (ap (λ (o : Option ℕ). is_some (option_map Prom o)) is) (tells.posted h m.id))
+        (λ a j e next. both_then ts key line s (λ u. u) (λ u. u) (deliver m.id (Some a) m.verb m.args h x j) _ _ _
+        (delivers ts key line s m.id (Some a) m.verb m.args h x (value_by ts m.target) j next (tells.posted h m.id))
         (λ u k f done. wait_on_is p a k done))
 
     by_answer : (m : Message) (h : ℕ) (x : Reference) (o : Option ℕ) (i : Interior) → m.answer ≡ o → Reads ts key i
         → StandsFor ts key line s (λ u. u) (pass_by_answer m h x o i)
-        (machine.for_some (option_map Prom o) (λ p. machine.◌>>=◌ (machine.come (names_under key) (IsAnswer h (Mess m.id)) h) (λ a. machine.◌>>◌ (refs.deliver (names_under key) (message_by ts m) h (reference_by x)) (refs.wait_on (names_under key) p a))) (refs.deliver (names_under key) (message_by ts m) h (reference_by x)) (at i))
+        (machine.for_some (option_map Prom o) (λ p. machine.◌>>=◌ (machine.come (names_under key) (IsAnswer h (Mess m.id)) h) (λ a. machine.◌>>◌ (refs.deliver (names_under key) (record (message_by ts m) { answer = Some a }) h (reference_by x)) (refs.wait_on (names_under key) p a))) (refs.deliver (names_under key) (message_by ts m) h (reference_by x)) (at i))
     unfolding pass_by_answer machine.for_some machine.◌>>=◌ machine.◌>>◌
-    by_answer m h x (Some p) i is good = asking_is m h x p i is good
-    by_answer m h x None i is good = delivers ts key line s m.id false m.verb m.args h x (value_by ts m.target) (option_map Prom m.answer) i good (ap (λ (o : Option ℕ). is_some (option_map Prom o)) is) (tells.posted h m.id)
+    by_answer m h x (Some p) i is good = asking_is m h x p i good
+    by_answer m h x None i is good = subst (λ (o : Option ℕ). StandsFor ts key line s (λ u. u) (deliver m.id None m.verb m.args h x i) (refs.deliver (names_under key) (record { id = Mess m.id; target = value_by ts m.target; verb = m.verb; args = map (value_by ts) m.args; answer = option_map Prom o }) h (reference_by x) (at i)))
+        (sym is) (delivers ts key line s m.id None m.verb m.args h x (value_by ts m.target) i good (tells.posted h m.id))
 
     pub pass_on_is : (m : Message) (h : ℕ) (x : Reference) (i : Interior) → Reads ts key i → StandsFor ts key line s (λ u. u) (pass_on m h x i) (refs.pass_on (names_under key) (message_by ts m) h (reference_by x) (at i))
     unfolding pass_on refs.pass_on

@@ -1,6 +1,6 @@
 -- What a name resolves to, and messages that are sent, as the machine has them.
 use Rattle.std.proofs.Common.{◌≡◌, ℕ, zero, suc, ◌+◌, Bool, true, false, List, [], ◌∷◌, ◌++◌, Option, Some, None, Ok, Err, length, map, refl, sym, ap, ◌∙◌, subst, arith}
-use Rattle.std.specs.Prelude.{Result, codes, if◌then◌else◌, is_some, option_map, slice_get}
+use Rattle.std.specs.Prelude.{Result, codes, if◌then◌else◌, option_map, slice_get}
 use Rattle.ev_base.specs.declared.values.Value.{Value as Held}
 use Rattle.ev_base.specs.declared.values.Value.TheVariants as held
 use Rattle.ev_heap.specs.declared.happened.Happened.TheVariants as event
@@ -54,10 +54,6 @@ so_many k (suc n) = ap suc (so_many (suc k) n)
 
 abbrev null : Value Local
 null = Null
-
-some_same : (o : Option ℕ) → is_some (option_map Prom o) ≡ is_some o
-some_same None = refl
-some_same (Some a) = refl
 
 module _ (ts : List Words) (key : List ℕ) (line : Lines) (s : Vat Local) (tells : Tells ts line) where
   abbrev at : Interior → Vat Local
@@ -158,8 +154,8 @@ module _ (ts : List Words) (key : List ℕ) (line : Lines) (s : Vat Local) (tell
   unfolding send_first refs.send_first refs.send_to code.◌>>◌ machine.◌>>◌
   first_is m Near i good = enqueue_is ts key line s m i good
   first_is m (Mine n) i good = hold_is ts key line s n m i good
-  first_is m (FarPromise h n) i good = delivers ts key line s m.id (is_some m.answer) m.verb m.args h (reference.Promise n) (value_by ts m.target) (option_map Prom m.answer) i good (some_same m.answer) (tells.posted h m.id)
-  first_is m (FarObject h p) i good = delivers ts key line s m.id (is_some m.answer) m.verb m.args h (reference.Far h p) (value_by ts m.target) (option_map Prom m.answer) i good (some_same m.answer) (tells.posted h m.id)
+  first_is m (FarPromise h n) i good = delivers ts key line s m.id m.answer m.verb m.args h (reference.Promise n) (value_by ts m.target) i good (tells.posted h m.id)
+  first_is m (FarObject h p) i good = delivers ts key line s m.id m.answer m.verb m.args h (reference.Far h p) (value_by ts m.target) i good (tells.posted h m.id)
   first_is m (Gone t) i good =
       both_then ts key line s (λ u. u) (λ u. u) (code.tell (event.LostBroken m.id) i) _ _ _ (told_is ts key line s (event.LostBroken m.id) (Lost (Mess m.id)) i (tells.lost m.id) good) (λ u j e next. break_is m.answer t j next)
 

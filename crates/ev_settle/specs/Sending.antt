@@ -14,7 +14,6 @@ use Rattle.ev_refs.specs.declared.follow.Place.TheVariants.{Near, Mine, FarPromi
 use Rattle.ev_refs.specs.declared.known.Message.{Message}
 use Rattle.ev_refs.specs.declared.mails.Fresh.{Fresh}
 use Rattle.std.specs.declared.option.Option.{Option}
-use Rattle.std.specs.Prelude.{is_some}
 use Rattle.ev_settle.specs.Changes.{enqueue, hold}
 use Rattle.ev_settle.specs.Settling.{settle}
 
@@ -43,8 +42,8 @@ break_answer (Some a) t = settle a (held.Broken t)
 unfoldable pub send_first : Message → Place → Act (Unit {0})
 send_first m Near = enqueue m
 send_first m (Mine n) = hold n m
-send_first m (FarPromise h n) = deliver m.id (is_some m.answer) m.verb m.args h (reference.Promise n)
-send_first m (FarObject h p) = deliver m.id (is_some m.answer) m.verb m.args h (reference.Far h p)
+send_first m (FarPromise h n) = deliver m.id m.answer m.verb m.args h (reference.Promise n)
+send_first m (FarObject h p) = deliver m.id m.answer m.verb m.args h (reference.Far h p)
 send_first m (Gone t) = tell (event.LostBroken m.id) >> break_answer m.answer t
 
 -- a message of this vat on a followed target at this place, which was held as x; it gives the name of its answer

@@ -34,11 +34,11 @@ Leaves (Err e) ts s out = Unless e (out ≡ (Err e, s))
 unfoldable pub pass_asking : Message → ℕ → Reference → ℕ → Act (Unit {0})
 pass_asking m h x p = do
   a ← come h
-  deliver m.id true m.verb m.args h x
+  deliver m.id (Some a) m.verb m.args h x
   wait_on p a
 
 unfoldable pub pass_by_answer : Message → ℕ → Reference → Option ℕ → Act (Unit {0})
-pass_by_answer m h x None = deliver m.id false m.verb m.args h x
+pass_by_answer m h x None = deliver m.id None m.verb m.args h x
 pass_by_answer m h x (Some p) = pass_asking m h x p
 
 unfoldable pub pass_on : Message → ℕ → Reference → Act (Unit {0})

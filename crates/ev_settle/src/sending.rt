@@ -1,6 +1,6 @@
 //! Messages that a vat sends.
 
-ghost use Rattle.std.specs.Prelude.{◌≡◌, IfOk, None, Some, is_some};
+ghost use Rattle.std.specs.Prelude.{◌≡◌, IfOk, None, Some};
 ghost use Rattle.ev_pass.specs.Delivering.{deliver};
 ghost use Rattle.ev_heap.specs.declared.happened.Happened.TheVariants.{Send};
 ghost use Rattle.ev_pass.specs.Acts.{Gives};
@@ -68,7 +68,7 @@ fn deliver(
     host: VatId,
     target: Reference,
 ) -> Result<(), Stop>
-    ensures { Gives result inside.new (deliver message.id (is_some message.answer) message.verb message.args host target inside.old) }
+    ensures { Gives result inside.new (deliver message.id message.answer message.verb message.args host target inside.old) }
 {
     let Message {
         id,
@@ -77,7 +77,7 @@ fn deliver(
         answer,
         ..
     } = message;
-    inside.deliver(id, answer.is_some(), verb, args.as_slice(), host, target)
+    inside.deliver(id, answer, verb, args.as_slice(), host, target)
 }
 
 /// A new message finds its place: in the queue, at a promise of this vat, at another vat, or lost.

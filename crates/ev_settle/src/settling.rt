@@ -33,7 +33,7 @@ fn pass_asking(
 {
     let new = come(inside, host)?;
     let Message { id, verb, args, .. } = message;
-    inside.deliver(id, true, verb, args.as_slice(), host, target)?;
+    inside.deliver(id, Some(new), verb, args.as_slice(), host, target)?;
     wait_on(inside, name, new)
 }
 
@@ -51,7 +51,7 @@ fn pass_on(
         Some(name) => pass_asking(inside, message, host, target, name),
         None => {
             let Message { id, verb, args, .. } = message;
-            inside.deliver(id, false, verb, args.as_slice(), host, target)
+            inside.deliver(id, None, verb, args.as_slice(), host, target)
         }
     }
 }

@@ -1,5 +1,5 @@
 -- The lines of what happened in a vat, where its numbers stand for these names.
-use Rattle.std.specs.Prelude.{ℕ, List, [], ◌∷◌, ◌++◌, Option, Some, None, flat_map, map, slice_get, unwrap_or, codes}
+use Rattle.std.specs.Prelude.{ℕ, List, [], ◌∷◌, ◌++◌, Option, Some, None, flat_map, get_or, map, slice_get, slice_set, unwrap_or, codes}
 use Rattle.ev_base.specs.declared.names.Msg.{Msg}
 use Rattle.ev_base.specs.declared.names.Name.{Name}
 use Rattle.ev_base.specs.declared.names.Name.TheVariants as name
@@ -14,20 +14,29 @@ use Rattle.ev_heap.specs.declared.kept.Capture.TheVariants as capture
 use Rattle.ev_heap.specs.declared.happened.Happened.{Happened}
 use Rattle.ev_heap.specs.declared.happened.Happened.TheVariants as event
 
--- the names and messages of a vat by their numbers
+-- The names and messages of a vat by their numbers, and, of each vat by its number, which of its objects stands at each position among what it
+-- exported to this one; at the position of a promise stands any number.
 pub record Naming : Type 0 where
   pub vat : ℕ
   pub names : List Name
   pub mails : List Msg
+  pub objects : List (List ℕ)
 
 abbrev pub no_names : ℕ → Naming
-no_names v = record { vat = v; names = []; mails = [] }
+no_names v = record { vat = v; names = []; mails = []; objects = [] }
 
 abbrev pub name_at : Naming → ℕ → Name
 name_at t n = unwrap_or (slice_get t.names n) (name.Root t.vat)
 
 abbrev pub mail_at : Naming → ℕ → Msg
 mail_at t m = unwrap_or (slice_get t.mails m) (record { sender = t.vat; number = m })
+
+abbrev pub object_at : Naming → ℕ → ℕ → ℕ
+object_at t h p = get_or (get_or t.objects h []) p p
+
+-- what that vat exported comes to stand at the next position
+abbrev pub with_import : ℕ → ℕ → Naming → Naming
+with_import h object t = record t { objects = slice_set t.objects h (get_or t.objects h [] ++ object ∷ []) }
 
 -- a vat whose lines are told: how it names things, and the texts of its heap
 pub record Telling : Type 0 where
@@ -48,7 +57,7 @@ shown_held t (held.List id) = shown.List t.naming.vat id
 shown_held t (held.Prim n) = shown.Prim n
 shown_held t (held.Obj i) = shown.Name (name.Object t.naming.vat i)
 shown_held t (held.Prom k) = shown.Name (name_at t.naming k)
-shown_held t (held.Far h p) = shown.Name (name.Object h p)
+shown_held t (held.Far h p) = shown.Name (name.Object h (object_at t.naming h p))
 
 abbrev pub all_held : Telling → List Held → List Shown
 all_held t vs = map (shown_held t) vs

@@ -33,7 +33,10 @@ pub fn shown(teller: &Teller<'_>, value: Value) -> Result<Shown, Memory>
         Value::Prim(number) => Ok(Shown::Prim(number)),
         Value::Obj(id) => Ok(Shown::Name(Name::Object(teller.vat(), id.0))),
         Value::Prom(number) => Ok(Shown::Name(teller.table.name(number))),
-        Value::Far(host, position) => Ok(Shown::Name(Name::Object(host, position))),
+        Value::Far(host, position) => {
+            let object = teller.table.object(host, position);
+            Ok(Shown::Name(Name::Object(host, object)))
+        }
     }
 }
 

@@ -1,19 +1,20 @@
 //! The names that the numbers of a vat stand for.
 
-ghost use Rattle.std.specs.Prelude.{◌≡◌, ◌++◌, ◌∷◌, [], OnErr, OnOk, length};
-ghost use Rattle.ev_step_lines.specs.Lines.{mail_at, name_at, no_names};
+ghost use Rattle.std.specs.Prelude.{◌≡◌, ◌++◌, ◌∷◌, [], OnErr, OnOk, length, replicate};
+ghost use Rattle.ev_step_lines.specs.Lines.{mail_at, name_at, no_names, object_at, with_import};
 
 use ev_base::{Memory, Msg, MsgId, Name, PromId, Seq, VatId};
 use std::alloc::Global;
 use std::marker::Model;
 
-/// The names that a vat knows and the messages that it has had, by their numbers there. A number that is not there reads as the vat's
-/// root, or as a message of its own.
+/// The names that a vat knows and the messages that it has had, by their numbers there, and the objects of other vats by their positions.
+/// A number that is not there reads as the vat's root, as a message of its own, or as the object of that number.
 #[derive(Drop)]
 pub struct Table {
     vat: VatId,
     names: Seq<Name>,
     mails: Seq<Msg>,
+    objects: Vec<Seq<u64>>,
 }
 
 impl Model for Table {
@@ -21,7 +22,7 @@ impl Model for Table {
 
     ghost Value = { Naming };
 
-    ghost view = { λ t. record { vat = t.vat; names = t.names; mails = t.mails } };
+    ghost view = { λ t. record { vat = t.vat; names = t.names; mails = t.mails; objects = t.objects.items } };
 }
 
 impl Table {
@@ -33,6 +34,47 @@ impl Table {
             vat,
             names: Seq::new(alloc),
             mails: Seq::new(alloc),
+            objects: Vec::new(alloc),
+        }
+    }
+
+    /// Makes room for what so many vats export.
+    pub fn open(&mut self, alloc: Global, vats: u8) -> Result<(), Memory>
+        ensures { OnOk result (self.new ≡ record self.old { objects = self.old.objects ++ replicate vats [] }) }
+    {
+        for _ in 0..vats {
+            if let Err(_full) = self.objects.push(Seq::new(alloc)) {
+                return Err(Memory);
+            }
+        }
+        Ok(())
+    }
+
+    /// What that vat exported comes to stand at the next position: that object, or any number for a promise. A vat for which there is no
+    /// room is answered as want of memory. A refusal changes nothing.
+    pub fn import(&mut self, host: VatId, object: u64) -> Result<(), Memory>
+        ensures ok { OnOk result (self.new ≡ with_import host object self.old) }
+        ensures err { OnErr result (self.new ≡ self.old) }
+    {
+        match self.objects.get_mut(host.0 as usize) {
+            Some(objects) => objects.push(object),
+            None => Err(Memory),
+        }
+    }
+
+    /// Which object of that vat stands at a position.
+    pub fn object(&self, host: VatId, position: u64) -> u64
+        ensures { result ≡ object_at self.now host position }
+    {
+        let Some(objects) = self.objects.get(host.0 as usize) else {
+            return position;
+        };
+        let Ok(index) = usize::try_from(position) else {
+            return position;
+        };
+        match objects.as_slice().get(index) {
+            Some(object) => *object,
+            None => position,
         }
     }
 

@@ -53,7 +53,7 @@ filled-named k t =
 answer-named : (k j : ℕ) (t : Names) → named_of (with_answer k j t) ≡ code.with_answer k j (named_of t)
 unfolding with_answer code.with_name shown_name msg_of
 answer-named k j t =
-    ap (λ (ns : List Global). record { naming = record { vat = zero; names = ns; mails = [] }; promises = (filled k t).promises })
+    ap (λ (ns : List Global). record { naming = record { vat = zero; names = ns; mails = []; objects = [] }; promises = (filled k t).promises })
     (map-append (shown_name []) (filled k t).known (Answer zero (record { sender = zero; number = j }) ∷ []))
     ∙ ap (λ (u : code.Named). code.with_name (global.Answer zero (record { sender = zero; number = j })) u) (filled-named k t)
 

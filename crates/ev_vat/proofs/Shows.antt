@@ -16,7 +16,7 @@ use Rattle.ev_base.specs.declared.names.Name.TheVariants as global
 use Rattle.def_event.specs.Lines.{is_no_frame}
 use Rattle.def_machine.specs.Values.{Words, Value, Local, Name}
 use Rattle.def_machine.specs.State.{Message, Happened, Took, Called, Back, Thrown, Left, Got, SlotMade, SlotRead, SlotWrote, ListMade, ListCame, EjectorMade, AuditionMade, PromiseMade, ObjectMade, Sends, Reacts, Finished, Threw, Settles, Waits, Views, Lost, Posted}
-use Rattle.law_renaming.specs.Maps as maps
+use Rattle.def_machine.specs.Maps as maps
 use Rattle.def_run.specs.World.{Event, Opens, Turned, Idle, Ends, event_of, events_of, is_cut, cut_in, link_at}
 use Rattle.def_run.specs.Shown.{shown_value, shown_values, shown_capture, shown_slot, shown_happened, shown_event, shown_name, shown_msg, msg_of, shown_send, shown_reaction}
 use Rattle.def_run.specs.Text.{shown_events}

@@ -2,6 +2,7 @@
 use Rattle.std.specs.Prelude.{◌≡◌, ℕ, zero, suc, List, [], ◌∷◌, fold, map}
 use Rattle.def_machine.specs.State.{Known, Vat, begun, with_vat}
 use Rattle.def_machine.specs.Values.{Local, Prom}
+use Rattle.ev_intro.specs.Word.{Drawn}
 use Rattle.ev_pass.specs.declared.interior.Interior.{Interior}
 use Rattle.ev_refs.specs.References.{References, no_references, unsettled_of}
 use Rattle.ev_refs.specs.declared.known.Known.{Known as Kept}
@@ -55,3 +56,7 @@ fresh me fuel knows known_by = record {
 -- what a step told and put is forgotten
 abbrev pub rested : Interior → Interior
 rested i = record i { micro = record i.micro { events = [] }; post = [] }
+
+-- as its next step finds it, with so much fuel, where those words were drawn so far
+abbrev pub readied : ℕ → Drawn → Interior → Interior
+readied fuel words i = record i { micro = record { fuel = fuel; events = [] }; words = words; post = [] }

@@ -21,7 +21,7 @@ use Rattle.ev_vat.specs.declared.vat.VatStop.TheVariants.{Fuel, Deep, WordRepeat
 
 -- what the code keeps of the names of the numbers
 abbrev pub naming_of : Names → Naming
-naming_of t = record { vat = zero; names = map (shown_name []) t.known; mails = [] }
+naming_of t = record { vat = zero; names = map (shown_name []) t.known; mails = []; objects = [] }
 
 abbrev pub named_of : Names → Named
 named_of t = record { naming = naming_of t; promises = t.promises }

@@ -1,2 +1,3 @@
 mod Loops
-mod Machine
+pub mod Machine
+pub mod Puts

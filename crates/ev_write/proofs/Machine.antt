@@ -1,6 +1,6 @@
 -- What is written is what the machine writes.
 use Rattle.std.proofs.Common.{◌≡◌, ℕ, Bool, true, false, List, [], ◌∷◌, ◌++◌, map, length, Option, Some, None, refl, sym, ap, ◌∙◌, append-nil}
-use Rattle.std.specs.Prelude.{IfSome}
+use Rattle.std.specs.Prelude.{IfSome, is_some}
 use Rattle.std.proofs.lemmas.List.{length-map, map-append}
 use Rattle.ev_base.specs.declared.values.Value.{Value}
 use Rattle.ev_base.specs.declared.values.Value.TheVariants as held
@@ -23,7 +23,7 @@ use Rattle.ev_peer.proofs.Described.{describes}
 use Rattle.ev_peer.proofs.Kept.{asking as asking_keeps}
 use Rattle.ev_peer.proofs.Numbered.{numbers}
 use Rattle.ev_write.specs.Writing.{asked_of, asking, described_note, described_parcel, described_parcels, described_reference, described_value, is_mine, message_op, numbered_note, numbered_parcel, numbered_parcels, numbered_value, put_on, value_of, written}
-use Rattle.ev_write.specs.Statements.{HasTexts, HaveTexts, IsNewAnswer, NoteHasTexts, ValueHasTexts, WritesAsTheMachine, WritingKeeps, sight_now}
+use Rattle.ev_write.specs.Statements.{HasTexts, HaveTexts, IsNewAnswer, NoteHasTexts, ValueHasTexts, WritesAsTheMachine, WritingKeeps, answer_in, sight_now}
 
 module _ (ts : List Words) (i : Interior) (a : ℕ) where
   -- ---- numbers
@@ -91,7 +91,7 @@ module _ (ts : List Words) (i : Interior) (a : ℕ) where
 
   note_told : (n : Noted) (t : Table) → IsKept (is_mine i.refs) t → Stands (machine.exporting (sight_now i a) (note_by ts n) (connection_of t)) (numbered_note i.refs n t)
   unfolding numbered_note machine.exporting machine.exported_note
-  note_told (Deliver m asks x verb ps) t k =
+  note_told (Deliver m b x verb ps) t k =
       let now = reference_told x t k in
       let rest = parcels_told ps (numbered_value i.refs (value_of x) t) now.1 in
       (rest.0 ∙ ap (with_all ps) now.0, rest.1)
@@ -152,11 +152,11 @@ module _ (ts : List Words) (i : Interior) (a : ℕ) where
 
   note_is : (n : Noted) (t : Table) → NoteHasTexts ts i.heap n → IsKept (is_mine i.refs) t → described_note i n t ≡ machine.operation (sight_now i a) (connection_of t) (note_by ts n)
   unfolding described_note machine.operation
-  note_is (Deliver m asks x verb ps) t e k =
-      message_is asks (length t.asked) (described_reference i (value_of x) t) verb (described_parcels i ps t)
-      ∙ ap (λ (q : ℕ). machine.delivered (sight_now i a) asks q (described_reference i (value_of x) t) verb (described_parcels i ps t)) (asked_count t.asked)
-      ∙ ap (λ (d : Described). machine.delivered (sight_now i a) asks (length (connection_of t).questions) d verb (described_parcels i ps t)) (target_is x t k)
-      ∙ ap (machine.delivered (sight_now i a) asks (length (connection_of t).questions) (machine.described (sight_now i a) (connection_of t) (reference_by x)) verb) (parcels_is ps t e k)
+  note_is (Deliver m b x verb ps) t e k =
+      message_is (is_some b) (length t.asked) (described_reference i (value_of x) t) verb (described_parcels i ps t)
+      ∙ ap (λ (q : ℕ). machine.delivered (sight_now i a) (is_some b) q (described_reference i (value_of x) t) verb (described_parcels i ps t)) (asked_count t.asked)
+      ∙ ap (λ (d : Described). machine.delivered (sight_now i a) (is_some b) (length (connection_of t).questions) d verb (described_parcels i ps t)) (target_is x t k)
+      ∙ ap (machine.delivered (sight_now i a) (is_some b) (length (connection_of t).questions) (machine.described (sight_now i a) (connection_of t) (reference_by x)) verb) (parcels_is ps t e k)
   note_is (Open g x) t e k = ap (λ (d : Described). op.Provide d (word_of g)) (target_is x t k)
   note_is (Ask p g n) t e k = ap (λ (q : ℕ). op.Accept q p (word_of g)) (asked_count t.asked)
   note_is (Settled n p) t e k =
@@ -176,19 +176,29 @@ module _ (ts : List Words) (i : Interior) (a : ℕ) where
   asks_none : (u : Table) → connection_of u ≡ with_asked [] (connection_of u)
   asks_none u = ap (λ (ls : List Local). record (connection_of u) { questions = ls }) (sym (append-nil (map Prom u.asked)))
 
-  asks_is : (n : Noted) (u : Table) → connection_of (asking (asked_of a n) u) ≡ with_asked (machine.asked_in (sight_now i a) (note_by ts n)) (connection_of u)
-  unfolding asking asked_of machine.asked_in machine.answer_if
-  asks_is (Deliver m true x verb ps) u = asks_one a u
-  asks_is (Deliver m false x verb ps) u = asks_none u
-  asks_is (Ask p g n) u = asks_one n u
-  asks_is (Open g x) u = asks_none u
-  asks_is (Settled n p) u = asks_none u
-  asks_is (Elsewhere n c) u = asks_none u
-  asks_is (Shorten n c g) u = asks_none u
+  -- where a is the answer that it asks for
+  abbrev pub Answers : Noted → Type 0
+  Answers (Deliver m (Some b) x verb ps) = a ≡ b
+  Answers (Deliver m None x verb ps) = Unit {0}
+  Answers (Ask p g n) = Unit {0}
+  Answers (Open g x) = Unit {0}
+  Answers (Settled n p) = Unit {0}
+  Answers (Elsewhere n c) = Unit {0}
+  Answers (Shorten n c g) = Unit {0}
 
-  put_is : (n : Noted) (t : Table) → IsKept (is_mine i.refs) t → connection_of (put_on i a n t) ≡ machine.put_on (sight_now i a) (note_by ts n) (connection_of t)
+  asks_is : (n : Noted) (u : Table) → Answers n → connection_of (asking (asked_of n) u) ≡ with_asked (machine.asked_in (sight_now i a) (note_by ts n)) (connection_of u)
+  unfolding asking asked_of machine.asked_in machine.answer_if
+  asks_is (Deliver m (Some b) x verb ps) u e = asks_one b u ∙ ap (λ (j : ℕ). with_asked (Prom j ∷ []) (connection_of u)) (sym e)
+  asks_is (Deliver m None x verb ps) u e = asks_none u
+  asks_is (Ask p g n) u e = asks_one n u
+  asks_is (Open g x) u e = asks_none u
+  asks_is (Settled n p) u e = asks_none u
+  asks_is (Elsewhere n c) u e = asks_none u
+  asks_is (Shorten n c g) u e = asks_none u
+
+  put_is : (n : Noted) (t : Table) → Answers n → IsKept (is_mine i.refs) t → connection_of (put_on i n t) ≡ machine.put_on (sight_now i a) (note_by ts n) (connection_of t)
   unfolding put_on machine.put_on machine.exporting
-  put_is n t k = asks_is n (numbered_note i.refs n t) ∙ ap (with_asked (machine.asked_in (sight_now i a) (note_by ts n))) (note_told n t k).0
+  put_is n t e k = asks_is n (numbered_note i.refs n t) e ∙ ap (with_asked (machine.asked_in (sight_now i a) (note_by ts n))) (note_told n t k).0
 
   frame_is : (n : Noted) (t : Table) → NoteHasTexts ts i.heap n → IsKept (is_mine i.refs) t → written i n t ≡ machine.frame_now (sight_now i a) (note_by ts n) (connection_of t)
   unfolding written machine.frame_now
@@ -196,8 +206,17 @@ module _ (ts : List Words) (i : Interior) (a : ℕ) where
       let told = note_told n t k in
       note_is n (numbered_note i.refs n t) e told.1 ∙ ap (λ (c : Connection Local). machine.operation (sight_now i a) c (note_by ts n)) told.0
 
+answers : (ts : List Words) (i : Interior) (n : Noted) → Answers ts i (answer_in n) n
+answers ts i (Deliver m (Some b) x verb ps) = refl
+answers ts i (Deliver m None x verb ps) = tt
+answers ts i (Ask p g n) = tt
+answers ts i (Open g x) = tt
+answers ts i (Settled n p) = tt
+answers ts i (Elsewhere n c) = tt
+answers ts i (Shorten n c g) = tt
+
 pub writes : WritesAsTheMachine
-writes ts i a n t e k = (frame_is ts i a n t e k, put_is ts i a n t k)
+writes ts i n t e k = (frame_is ts i (answer_in n) n t e k, put_is ts i (answer_in n) n t (answers ts i n) k)
 
 -- a question of a new answer keeps
 asked_keeps : (i : Interior) (u : Table) (o : Option ℕ) → IfSome o (IsNewAnswer i u) → IsKept (is_mine i.refs) u → IsKept (is_mine i.refs) (asking o u)
@@ -207,4 +226,4 @@ asked_keeps i u (Some n) h k = asking_keeps (is_mine i.refs) n u h.0 h.1 k
 
 pub keeps : WritingKeeps
 unfolding put_on
-keeps i a n t h k = asked_keeps i (numbered_note i.refs n t) (asked_of a n) h (note_told [] i a n t k).1
+keeps i n t h k = asked_keeps i (numbered_note i.refs n t) (asked_of n) h (note_told [] i (answer_in n) n t k).1

@@ -1,5 +1,5 @@
 -- What a vat writes of a note for a peer, in the code's terms.
-use Rattle.std.specs.Prelude.{ℕ, Bool, true, false, length, List, Option, Some, None}
+use Rattle.std.specs.Prelude.{ℕ, Bool, true, false, is_some, length, List, Option, Some, None}
 use Rattle.ev_base.specs.declared.values.Value.{Value}
 use Rattle.ev_base.specs.declared.values.Value.TheVariants as held
 use Rattle.def_machine.specs.Values.{word_of}
@@ -54,7 +54,7 @@ unfoldable mutual
   numbered_parcels r (More p ps) t = numbered_parcels r ps (numbered_parcel r p t)
 
 unfoldable pub numbered_note : References → Noted → Table → Table
-numbered_note r (Deliver m asks x verb ps) t = numbered_parcels r ps (numbered_value r (value_of x) t)
+numbered_note r (Deliver m a x verb ps) t = numbered_parcels r ps (numbered_value r (value_of x) t)
 numbered_note r (Open i x) t = numbered_value r (value_of x) t
 numbered_note r (Ask p i n) t = t
 numbered_note r (Settled n p) t = numbered_parcel r p (numbered_value r (held.Prom n) t)
@@ -96,7 +96,7 @@ message_op false q target verb args = op.DeliverOnly target verb args
 
 -- what a note says, once all that it tells has a number
 unfoldable pub described_note : Interior → Noted → Table → Operation
-described_note i (Deliver m asks x verb ps) t = message_op asks (length t.asked) (described_reference i (value_of x) t) verb (described_parcels i ps t)
+described_note i (Deliver m a x verb ps) t = message_op (is_some a) (length t.asked) (described_reference i (value_of x) t) verb (described_parcels i ps t)
 described_note i (Open k x) t = op.Provide (described_reference i (value_of x) t) (word_of k)
 described_note i (Ask p k n) t = op.Accept (length t.asked) p (word_of k)
 described_note i (Settled n p) t = op.Resolve (described_reference i (held.Prom n) t) (op.To (described_parcel i p t))
@@ -106,22 +106,21 @@ described_note i (Shorten n c k) t = op.Shorten (described_reference i (held.Pro
 -- ---- what is asked for
 
 -- the answer of a message, where it asks for one, or a gift
-unfoldable pub asked_of : ℕ → Noted → Option ℕ
-asked_of a (Deliver m true x verb ps) = Some a
-asked_of a (Deliver m false x verb ps) = None
-asked_of a (Ask p k n) = Some n
-asked_of a (Open k x) = None
-asked_of a (Settled n p) = None
-asked_of a (Elsewhere n c) = None
-asked_of a (Shorten n c k) = None
+unfoldable pub asked_of : Noted → Option ℕ
+asked_of (Deliver m a x verb ps) = a
+asked_of (Ask p k n) = Some n
+asked_of (Open k x) = None
+asked_of (Settled n p) = None
+asked_of (Elsewhere n c) = None
+asked_of (Shorten n c k) = None
 
 unfoldable pub asking : Option ℕ → Table → Table
 asking (Some n) t = asked_for n t
 asking None t = t
 
--- the operation of a note that is put now, and the table after it; a is the answer of the message that it may bring
+-- the operation of a note that is put now, and the table after it
 unfoldable pub written : Interior → Noted → Table → Operation
 written i n t = described_note i n (numbered_note i.refs n t)
 
-unfoldable pub put_on : Interior → ℕ → Noted → Table → Table
-put_on i a n t = asking (asked_of a n) (numbered_note i.refs n t)
+unfoldable pub put_on : Interior → Noted → Table → Table
+put_on i n t = asking (asked_of n) (numbered_note i.refs n t)

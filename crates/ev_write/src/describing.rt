@@ -171,14 +171,14 @@ pub(crate) fn describe_note(
     match note {
         Note::Deliver {
             message: _,
-            asks,
+            answer,
             target,
             verb,
             args,
         } => describe_message(
             inside,
             connection,
-            *asks,
+            answer.is_some(),
             *target,
             verb.as_str(),
             args.as_slice(),

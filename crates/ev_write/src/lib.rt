@@ -4,6 +4,8 @@
 pub mod describing;
 pub mod laws;
 pub mod numbering;
+pub mod outbox;
 pub mod writing;
 
+pub use outbox::{Outgoing, write_all};
 pub use writing::{WriteFault, write};

@@ -127,7 +127,7 @@ pub(crate) fn number_note(
     match note {
         Note::Deliver {
             message: _,
-            asks: _,
+            answer: _,
             target,
             verb: _,
             args,

@@ -32,19 +32,16 @@ impl From<Memory> for WriteFault {
     }
 }
 
-/// What a note asks the peer for, where the answer of its message is that promise.
+/// What a note asks the peer for.
 #[tactic(auto, unfolding(crate::specs::Writing::asked_of))]
-fn asked_of(answer: PromId, note: &Note) -> Option<PromId>
-    ensures { result ≡ asked_of answer (noted note.now) }
+fn asked_of(note: &Note) -> Option<PromId>
+    ensures { result ≡ asked_of (noted note.now) }
 {
     match note {
-        Note::Deliver { asks: true, .. } => Some(answer),
+        Note::Deliver { answer, .. } => *answer,
         Note::Ask(_, _, name) => Some(*name),
-        Note::Deliver { .. }
-        | Note::Open(_, _)
-        | Note::Settled(_, _)
-        | Note::Elsewhere(_, _)
-        | Note::Shorten(_, _, _) => None,
+        Note::Open(_, _) | Note::Settled(_, _) | Note::Elsewhere(_, _) | Note::Shorten(_, _, _) =>
+            None,
     }
 }
 
@@ -64,37 +61,27 @@ fn ask(connection: &mut Connection, asked: Option<PromId>) -> Result<(), Memory>
 
 /// What is written of a note, on an open connection.
 #[tactic(auto, unfolding(crate::specs::Writing::written, crate::specs::Writing::put_on))]
-fn write_open(
-    inside: &Interior,
-    connection: &mut Connection,
-    answer: PromId,
-    note: &Note,
-) -> Result<Op, Memory>
+fn write_open(inside: &Interior, connection: &mut Connection, note: &Note) -> Result<Op, Memory>
     ensures op { IfOk result (λ op. operation op ≡ written inside.now (noted note.now) connection.old) }
-    ensures ok { OnOk result (connection.new ≡ put_on inside.now answer (noted note.now) connection.old) }
+    ensures ok { OnOk result (connection.new ≡ put_on inside.now (noted note.now) connection.old) }
 {
     number_note(connection, inside, note)?;
     let op = describe_note(inside, connection, note)?;
-    ask(connection, asked_of(answer, note))?;
+    ask(connection, asked_of(note))?;
     Ok(op)
 }
 
 /// Writes a note for the peer of a connection: the operation that says it by the numbers of the two vats. Things of this vat that it
-/// tells first come to have positions, and where it asks for something that has the next number of a question. `answer` is the promise
-/// that is the answer, at the peer, of the message that the note may bring; no other note uses it. A closed connection takes nothing.
+/// tells first come to have positions, and where it asks for something that has the next number of a question. A closed connection takes
+/// nothing.
 /// After want of memory some of what the note tells may have its position, and no question was asked.
-pub fn write(
-    inside: &Interior,
-    connection: &mut Connection,
-    answer: PromId,
-    note: &Note,
-) -> Result<Op, WriteFault>
+pub fn write(inside: &Interior, connection: &mut Connection, note: &Note) -> Result<Op, WriteFault>
     ensures op { IfOk result (λ op. operation op ≡ written inside.now (noted note.now) connection.old) }
-    ensures ok { OnOk result (connection.new ≡ put_on inside.now answer (noted note.now) connection.old) }
+    ensures ok { OnOk result (connection.new ≡ put_on inside.now (noted note.now) connection.old) }
     ensures closed { IsErrOf result fault.Closed ↔ IsTrue connection.old.is_closed }
 {
     if connection.is_closed() {
         return Err(WriteFault::Closed);
     }
-    Ok(write_open(inside, connection, answer, note)?)
+    Ok(write_open(inside, connection, note)?)
 }

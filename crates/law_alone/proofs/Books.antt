@@ -3,7 +3,7 @@ use Rattle.std.proofs.Common.{◌≡◌, ℕ, zero, suc, ◌+◌, ◌-◌, ◌<�
 use Rattle.std.specs.Prelude.{slice_get}
 use Rattle.def_machine.specs.Values.{Name, Root, Object, Promise, Answer, Gift, Sent, same_name, same_reference, Local, Prom, Mess}
 use Rattle.def_machine.specs.State.{Message, Happened, Sends, Reacts}
-use Rattle.law_renaming.specs.Maps as maps
+use Rattle.def_machine.specs.Maps as maps
 use Rattle.law_renaming.proofs.Sim.{map_end, length_map}
 use Rattle.law_renaming.proofs.Stands.{not_true, same_number, number_same}
 use Rattle.law_alone.specs.Names.{Names, promises_from, filled, with_answer, answered, names_told, names_by}

@@ -8,7 +8,7 @@ use Rattle.def_machine.specs.Refs.{Place, Near, Mine, Away, Gone, settle_at, set
 use Rattle.law_machine.proofs.Walks.{Property, Holds, IsClosed, IsEnding}
 use Rattle.law_machine.proofs.Blocks.{IsOfTurn, TurnSingles}
 use Rattle.law_renaming.proofs.Sim.{names, map_end, length_map}
-use Rattle.law_renaming.specs.Maps as maps
+use Rattle.def_machine.specs.Maps as maps
 use Rattle.law_alone.specs.Names as tables
 use Rattle.law_alone.specs.Names.{Names, names_told}
 use Rattle.law_alone.proofs.Homes

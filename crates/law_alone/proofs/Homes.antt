@@ -2,7 +2,7 @@
 use Rattle.std.proofs.Common.{◌≡◌, ℕ, zero, refl, length}
 use Rattle.def_machine.specs.Values.{Name, Msg, Root, Object, Promise, Answer, Gift, Sent, same_reference, Foreign, spot_of, answer_of, mail_of, Naming, naming, Coming, IsRoot, IsOwn, IsAnswer, IsGift, IsLearnt, Mailing, IsSent, IsCarried, Local, Obj, Prom, Mess}
 use Rattle.def_machine.specs.Values as values
-use Rattle.law_renaming.specs.Maps as maps
+use Rattle.def_machine.specs.Maps as maps
 use Rattle.law_renaming.proofs.Sim.{Books, Renames}
 
 -- The last part of each but the first is its number: of a name that is known, or of a message.

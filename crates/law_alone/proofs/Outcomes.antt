@@ -5,7 +5,7 @@ use Rattle.def_kernel.specs.declared.node.Node.{Node}
 use Rattle.def_machine.specs.Values.{Name, Root, Local, Obj, Prom, Far, Mess, Value, numbering, naming}
 use Rattle.def_machine.specs.State.{Known, Message, Happened, Vat, Stop, Done, Gives, Throws, Ejects, Stops, Act}
 use Rattle.def_machine.specs.Eval.{opening, taking}
-use Rattle.law_renaming.specs.Maps as maps
+use Rattle.def_machine.specs.Maps as maps
 use Rattle.law_renaming.specs.Stands.{Table, Found, Is, prom_found, found, finding, IsTable, StandsFor}
 use Rattle.law_renaming.proofs.Sim.{Books, Sim, FitsAfter, books, names, id}
 use Rattle.law_renaming.proofs.SimEval.{sim_opening, sim_taking}

@@ -5,7 +5,7 @@ use Rattle.def_kernel.specs.declared.node.Node.{Node}
 use Rattle.def_machine.specs.Values.{Words, Name, Root, same_reference, same_name, Local, Naming, numbering, naming}
 use Rattle.def_machine.specs.State.{Known, Message, Vat, Done, Gives, begun, is_in}
 use Rattle.def_machine.specs.Eval.{opening, taking}
-use Rattle.law_renaming.specs.Maps as maps
+use Rattle.def_machine.specs.Maps as maps
 use Rattle.law_renaming.specs.Stands.{Table, Found, Is, found, prom_found, StandsFor}
 use Rattle.law_renaming.specs.Alone.{start, opened_alone}
 use Rattle.law_renaming.proofs.Sim.{names, length_map}

@@ -3,7 +3,7 @@ use Rattle.std.proofs.Common.{◌≡◌, ℕ, zero, suc, ◌+◌, ◌-◌, ◌�
 use Rattle.std.specs.Prelude.{slice_get, option_map}
 use Rattle.def_machine.specs.Values.{Name, Msg, Root, Object, Promise, Answer, Gift, Sent, same_reference, NoObject, spot_of, Local, Obj, Prom, Far, Mess}
 use Rattle.def_machine.specs.State.{Known, Message, Happened, Took, Called, Back, Thrown, Left, Got, SlotMade, SlotRead, SlotWrote, ListMade, ListCame, EjectorMade, AuditionMade, PromiseMade, ObjectMade, Sends, Reacts, Finished, Threw, Settles, Waits, Views, Lost, Posted, Vat}
-use Rattle.law_renaming.specs.Maps as maps
+use Rattle.def_machine.specs.Maps as maps
 use Rattle.law_renaming.specs.Stands.{Table, Found, Is, Nothing, prom_found, mess_found, far_found, found, IsTable, StandsFor}
 use Rattle.law_renaming.proofs.Sim.{names, map_get, map_end, length_map}
 use Rattle.law_renaming.proofs.Stands.{same_number}

@@ -6,7 +6,7 @@ use Rattle.def_machine.specs.State.{Happened, Known, Message, Vat, Stop, Astray,
 use Rattle.def_machine.specs.Eval.{taking}
 use Rattle.def_run.specs.World.{Event, Opens, Turned, Idle, LeftQueue, LeftHeld, LeftWait, Ends, events_of}
 use Rattle.law_renaming.specs.Alone.{start, opened_alone}
-use Rattle.law_renaming.specs.Maps as maps
+use Rattle.def_machine.specs.Maps as maps
 use Rattle.law_alone.specs.Names.{Names, root_alone, names_after, name_of}
 use Rattle.law_alone.specs.Names.{opened_names}
 use Rattle.def_run.specs.World.{opened_world}

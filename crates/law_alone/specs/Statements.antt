@@ -7,7 +7,7 @@ use Rattle.def_run.specs.Draws.{draw_word}
 use Rattle.def_run.specs.Text.{shown_events, stop_line, text}
 use Rattle.def_run.specs.World.{Script, Entry, Turn, World, Run, Goes, Stopped, drain, run}
 use Rattle.law_renaming.specs.Alone.{alone}
-use Rattle.law_renaming.specs.Maps as maps
+use Rattle.def_machine.specs.Maps as maps
 use Rattle.law_alone.specs.Names.{name_of}
 use Rattle.law_alone.specs.Numbers.{Alone, Course, Runs, Halts, run_alone}
 

@@ -275,11 +275,11 @@ module _ (word : ℕ → ℕ) (v : ℕ) (past : Past) where
   goes_lasts : (m : Message Name) (n : Name) → Lasting past (GoesTo m n)
   goes_lasts m n s t l h = (fine_later past s t l m h.0, lead_lasts m.target (Ref n) s t l h.1)
 
-  pub does_deliver : (m : Message Name) (h : ℕ) (n : Name) → Does past (GoesTo m n) (Any past) (refs.deliver (naming word v) m h n)
+  pub does_deliver : (m : Message Name) (answer : Option Name) (h : ℕ) (n : Name) → Does past (GoesTo m n) (Any past) (refs.deliver (naming word v) (record m { answer = answer }) h n)
   unfolding refs.deliver
-  does_deliver m h n = does_bind past (does_from past (λ s i. (i, tt)) (does_also past (GoesTo m n) (goes_lasts m n) (does_pass_all h m.args)))
+  does_deliver m answer h n = does_bind past (does_from past (λ s i. (i, tt)) (does_also past (GoesTo m n) (goes_lasts m n) (does_pass_all h m.args)))
       (λ ys. does_then past (does_keep past (λ s. GoesTo m n s × PassingAll past s m.args ys) (λ s t l i. (goes_lasts m n s t l i.0, passing_all_later past s t l m.args ys i.1)) (tells_posted past h m.id))
-      (λ a. does_to past (λ b t i. tt) (does_from past (λ s i. (m, i.0.0, refl, refl, i.0.1, i.1)) (does_out past h (Deliver (refs.delivery_of (naming word v) m) n m.verb ys)
+      (λ a. does_to past (λ b t i. tt) (does_from past (λ s i. (m, i.0.0, refl, refl, i.0.1, i.1)) (does_out past h (Deliver (refs.delivery_of (naming word v) (record m { answer = answer })) n m.verb ys)
       (λ s t l i. (i.0, fine_lasts i.0 s t l i.1, i.2, i.3, lead_lasts i.0.target (Ref n) s t l i.4, passing_all_later past s t l i.0.args ys i.5))))))
 
   -- ---- sending on
@@ -290,7 +290,7 @@ module _ (word : ℕ → ℕ) (v : ℕ) (past : Past) where
 
   does_pass_on : (m : Message Name) (h : ℕ) (n : Name) → Does past (GoesTo m n) (Any past) (refs.pass_on (naming word v) m h n)
   unfolding refs.pass_on
-  does_pass_on m h n = does_for_some past m.answer (λ p. does_bind past (does_keep past (GoesTo m n) (goes_lasts m n) (brings_come word v past _ h)) (λ a. does_then past (does_deliver m h n) (λ b. does_any past (brings_wait_on p a)))) (does_deliver m h n)
+  does_pass_on m h n = does_for_some past m.answer (λ p. does_bind past (does_keep past (GoesTo m n) (goes_lasts m n) (brings_come word v past _ h)) (λ a. does_then past (does_deliver m (Some a) h n) (λ b. does_any past (brings_wait_on p a)))) (does_deliver m m.answer h n)
 
   -- a target is followed to what has that place; nothing is asked where it is broken
   abbrev ToPlace : Value Name → Value Name → Place Name → Vat Name → Type 0
@@ -424,7 +424,7 @@ module _ (word : ℕ → ℕ) (v : ℕ) (past : Past) where
 
   does_send_first : (m : Message Name) (x y : Value Name) (o : Place Name) → Does past (λ s. Fine past s (record m { target = x }) × ToPlace x y o s) (Any past) (refs.send_first (naming word v) (record m { target = y }) y o)
   unfolding refs.send_first
-  does_send_first m x y (Away h n o) = does_from past (λ s i. (fine_on past s (record m { target = x }) y i.0 i.1.0, subst (λ z. LeadsTo (Line past s) y z) i.1.1 itself)) (does_deliver (record m { target = y }) h n)
+  does_send_first m x y (Away h n o) = does_from past (λ s i. (fine_on past s (record m { target = x }) y i.0 i.1.0, subst (λ z. LeadsTo (Line past s) y z) i.1.1 itself)) (does_deliver (record m { target = y }) m.answer h n)
   does_send_first m x y Near = does_from past (λ s i. (fine_on past s (record m { target = x }) y i.0 i.1, itself)) (does_send_to (refs.settle (naming word v)) brings_settle (record m { target = y }) y Near)
   does_send_first m x y (Mine n) = does_from past (λ s i. (fine_on past s (record m { target = x }) y i.0 i.1, itself)) (does_send_to (refs.settle (naming word v)) brings_settle (record m { target = y }) y (Mine n))
   does_send_first m x y (Gone t) = does_from past (λ s i. tt) (does_any past (gone_sent (record m { target = y }) y t))

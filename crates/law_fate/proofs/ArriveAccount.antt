@@ -131,17 +131,17 @@ module _ (cut : ℕ → Bool) (v : ℕ) (x : Name) (K : Naming Name Name) where
       costs_if cut v x (one id x) asks (costs_asked from id n verb args) (costs_send_on cut v x K (settle K) (free_settle cut v x K) (record { id = id; target = Ref n; verb = verb; args = args; answer = None }))))
 
   module _ (carried : (n : Name) (k : ℕ) → K.mailed (IsCarried n) k ≡ n) where
-    costs_arrive_deliver : (from : ℕ) (m : Incoming Name Name) (asks : Bool) (z : Incoming Name Name) (verb : Words) (ys : Passeds (Incoming Name Name)) → Keeps (Accounted cut v x (coming x m)) (arrive.arrive_deliver K from (record { message = m; asks = asks }) z verb ys)
+    costs_arrive_deliver : (from : ℕ) (m : Incoming Name Name) (asks : Bool) (answer : Option (Incoming Name Name)) (z : Incoming Name Name) (verb : Words) (ys : Passeds (Incoming Name Name)) → Keeps (Accounted cut v x (coming x m)) (arrive.arrive_deliver K from (record { message = m; asks = asks; answer = answer }) z verb ys)
     unfolding arrive.arrive_deliver arrive.learn_message ◌>>=◌ and_then give mail coming
-    costs_arrive_deliver from (Old m) asks z verb ys = record { after = λ s. (costs_sent_on from asks z verb ys m).after s }
-    costs_arrive_deliver from (New m h) asks z verb ys = record {
+    costs_arrive_deliver from (Old m) asks answer z verb ys = record { after = λ s. (costs_sent_on from asks z verb ys m).after s }
+    costs_arrive_deliver from (New m h) asks answer z verb ys = record {
       after = λ s. let id = K.mailed (IsCarried m) (length s.mails) in
           after_more cut v x (0 + one id x) (one m x) s (rw (carried m (length s.mails)) (omega arith)) _ (after_trans cut v x 0 (one id x) s _ ((free_mail cut v x K (IsCarried m)).after s) _ ((costs_sent_on from asks z verb ys id).after _));
     }
 
     pub costs_arrive : (from : ℕ) (n : Note (Incoming Name Name)) → Keeps (Accounted cut v x (in_note (coming x) n)) (arrive.arrive K from n)
     unfolding arrive.arrive in_note
-    costs_arrive from (Deliver d z verb ys) = costs_arrive_deliver from d.message d.asks z verb ys
+    costs_arrive from (Deliver d z verb ys) = costs_arrive_deliver from d.message d.asks d.answer z verb ys
     costs_arrive from (Open i z) = free_arrive_open from i z
     costs_arrive from (Ask p i z) = free_arrive_ask from p i
     costs_arrive from (SettledTo z y) = free_arrive_settled from z y

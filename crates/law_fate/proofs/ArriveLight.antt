@@ -256,11 +256,11 @@ module _ (x : Name) (K : Naming Name Name) (v : ℕ) (global : Global K v) where
   cost_sent_on c from asks z verb ys id named g all e hosts own small = cost_bind_last v x c (light_learn_all from ys all hosts) (λ args. learnt_then c z _ g e (λ n i.
       record { after = λ s w. sent_now c from asks verb args id n s named (ap host_of i ∙ own) (ap (λ a. further a (one id x)) i ∙ small) w }))
 
-  cost_arrive_deliver : (from : ℕ) (m : Incoming Name Name) (asks : Bool) (z : Incoming Name Name) (verb : Words) (ys : Passeds (Incoming Name Name)) → MessageComes m → ComesAsNoObject z → AllCome ys → host_of (name_in z) ≡ v → HostComes z → AllHosts ys
-      → Light v x (further (name_in z) (coming x m)) (arrive.arrive_deliver K from (record { message = m; asks = asks }) z verb ys)
+  cost_arrive_deliver : (from : ℕ) (m : Incoming Name Name) (asks : Bool) (answer : Option (Incoming Name Name)) (z : Incoming Name Name) (verb : Words) (ys : Passeds (Incoming Name Name)) → MessageComes m → ComesAsNoObject z → AllCome ys → host_of (name_in z) ≡ v → HostComes z → AllHosts ys
+      → Light v x (further (name_in z) (coming x m)) (arrive.arrive_deliver K from (record { message = m; asks = asks; answer = answer }) z verb ys)
   unfolding arrive.arrive_deliver arrive.learn_message ◌>>=◌ and_then give mail mail_of load coming
-  cost_arrive_deliver from (Old m) asks z verb ys named g all own e hosts = record { after = λ s w. (cost_sent_on (further (name_in z) (one m x)) from asks z verb ys m named g all e hosts own refl).after s w }
-  cost_arrive_deliver from (New m h) asks z verb ys named g all own e hosts = record {
+  cost_arrive_deliver from (Old m) asks answer z verb ys named g all own e hosts = record { after = λ s w. (cost_sent_on (further (name_in z) (one m x)) from asks z verb ys m named g all e hosts own refl).after s w }
+  cost_arrive_deliver from (New m h) asks answer z verb ys named g all own e hosts = record {
     after = λ s w. let id = K.mailed (IsCarried m) (length s.mails) in
         let same : id ≡ m = global.mailed (IsCarried m) (length s.mails) in
         let t : Vat Name = record s { mails = s.mails ++ id ∷ [] } in
@@ -310,7 +310,7 @@ module _ (x : Name) (K : Naming Name Name) (v : ℕ) (global : Global K v) where
 
   pub cost_arrive : (from : ℕ) (n : Note (Incoming Name Name)) → NoteComes n → NoteArrives v n → Light v x (note_leaves x n) (arrive.arrive K from n)
   unfolding arrive.arrive note_leaves
-  cost_arrive from (Deliver d z verb ys) g a = cost_arrive_deliver from d.message d.asks z verb ys g.0 g.1 g.2 a.0 a.1 a.2
+  cost_arrive from (Deliver d z verb ys) g a = cost_arrive_deliver from d.message d.asks d.answer z verb ys g.0 g.1 g.2 a.0 a.1 a.2
   cost_arrive from (Open i z) g a = light_arrive_open from i z g a
   cost_arrive from (Ask p i z) g a = light_arrive_ask from p i
   cost_arrive from (SettledTo z y) g a = light_arrive_settled from z y g.0 g.1 a.0 a.1

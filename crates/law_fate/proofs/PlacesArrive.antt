@@ -139,10 +139,10 @@ module _ (cut : ℕ → Bool) (x : Name) (K : Naming Name Name) (v : ℕ) (globa
   pays_sent_on from asks z verb ys id named g all = pays_bind cut x (pays_learn_all from ys all) (λ args. pays_bind cut x (pays_learn_name z g) (λ n. pays_if cut x asks (pays_asked from id n verb args named)
       (pays_send_on K v global cut x (settle K) (pays_settle K v global cut x) (record { id = id; target = Ref n; verb = verb; args = args; answer = None }) named)))
 
-  pays_arrive_deliver : (from : ℕ) (m : Incoming Name Name) (asks : Bool) (z : Incoming Name Name) (verb : Words) (ys : Passeds (Incoming Name Name)) → MessageComes m → ComesAsNoObject z → AllCome ys → Pays cut x 0 (arrive.arrive_deliver K from (record { message = m; asks = asks }) z verb ys)
+  pays_arrive_deliver : (from : ℕ) (m : Incoming Name Name) (asks : Bool) (answer : Option (Incoming Name Name)) (z : Incoming Name Name) (verb : Words) (ys : Passeds (Incoming Name Name)) → MessageComes m → ComesAsNoObject z → AllCome ys → Pays cut x 0 (arrive.arrive_deliver K from (record { message = m; asks = asks; answer = answer }) z verb ys)
   unfolding arrive.arrive_deliver arrive.learn_message ◌>>=◌ and_then give mail mail_of account at_vat
-  pays_arrive_deliver from (Old m) asks z verb ys named g all = record { after = λ s w. (pays_sent_on from asks z verb ys m named g all).after s w }
-  pays_arrive_deliver from (New m h) asks z verb ys named g all = record {
+  pays_arrive_deliver from (Old m) asks answer z verb ys named g all = record { after = λ s w. (pays_sent_on from asks z verb ys m named g all).after s w }
+  pays_arrive_deliver from (New m h) asks answer z verb ys named g all = record {
     after = λ s w. let id = K.mailed (IsCarried m) (length s.mails) in
         let carried : NamesMessage id = subst NamesMessage (sym (global.mailed (IsCarried m) (length s.mails))) named in
         let t : Vat Name = record s { mails = s.mails ++ id ∷ [] } in let same : 0 + account cut x s ≤ account cut x t = omega arith in
@@ -189,7 +189,7 @@ module _ (cut : ℕ → Bool) (x : Name) (K : Naming Name Name) (v : ℕ) (globa
 
   pub pays_arrive : (from : ℕ) (n : Note (Incoming Name Name)) → NoteComes n → Pays cut x 0 (arrive.arrive K from n)
   unfolding arrive.arrive
-  pays_arrive from (Deliver d z verb ys) g = pays_arrive_deliver from d.message d.asks z verb ys g.0 g.1 g.2
+  pays_arrive from (Deliver d z verb ys) g = pays_arrive_deliver from d.message d.asks d.answer z verb ys g.0 g.1 g.2
   pays_arrive from (Open i z) g = pays_arrive_open from i z g
   pays_arrive from (Ask p i z) g = pays_arrive_ask from p i
   pays_arrive from (SettledTo z y) g = pays_arrive_settled from z y g.0 g.1

@@ -484,7 +484,7 @@ module _ (K : Naming Name Name) (v : ℕ) (global : Global K v) where
 
     pub cost_pass_on : (m : Message Name) (h : ℕ) (n : Name) → NamesMessage m.id → Pays cut x (one m.id x) (refs.pass_on K m h n)
     unfolding refs.pass_on
-    cost_pass_on m h n g = cost_some cut x (one m.id x) m.answer (λ p. cost_bind_last cut x (one m.id x) (pays_answer cut x K v global h h m.id g) (λ a. cost_then_first cut x (one m.id x) (cost_deliver m h n g) (pays_waits_on p a))) (cost_deliver m h n g)
+    cost_pass_on m h n g = cost_some cut x (one m.id x) m.answer (λ p. cost_bind_last cut x (one m.id x) (pays_answer cut x K v global h h m.id g) (λ a. cost_then_first cut x (one m.id x) (cost_deliver (record m { answer = Some a }) h n g) (pays_waits_on p a))) (cost_deliver m h n g)
 
     cost_lost : (m : Name) → Pays cut x (one m x) (tell (Lost m))
     unfolding gone_here

@@ -55,7 +55,7 @@ module _ (cut : ℕ → Bool) (v : ℕ) (x : Name) where
 
     costs_pass_on : (m : Message Name) (h : ℕ) (n : Name) → Keeps (Accounted cut v x (one m.id x)) (refs.pass_on K m h n)
     unfolding refs.pass_on
-    costs_pass_on m h n = costs_some cut v x (one m.id x) m.answer (λ p. free_bind cut v x (one m.id x) (free_come cut v x K (IsAnswer h m.id) h) (λ a. then_free cut v x (one m.id x) (costs_deliver m h n) (free_waits_on p a))) (costs_deliver m h n)
+    costs_pass_on m h n = costs_some cut v x (one m.id x) m.answer (λ p. free_bind cut v x (one m.id x) (free_come cut v x K (IsAnswer h m.id) h) (λ a. then_free cut v x (one m.id x) (costs_deliver (record m { answer = Some a }) h n) (free_waits_on p a))) (costs_deliver m h n)
 
     module _ (settle : Name → Value Name → Act Name (Unit {0})) (good : FreeSettler settle) where
       costs_send_to : (m : Message Name) (y : Value Name) (p : Place Name) → Keeps (Accounted cut v x (one m.id x)) (refs.send_to K settle m y p)

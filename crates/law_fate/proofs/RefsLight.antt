@@ -188,7 +188,7 @@ module _ (K : Naming Name Name) (v : ℕ) (global : Global K v) where
 
     cost_pass_on : (m : Message Name) (h : ℕ) (n : Name) → NamesMessage m.id → host_of n ≡ h → Light v x (fare n (one m.id x)) (refs.pass_on K m h n)
     unfolding refs.pass_on
-    cost_pass_on m h n g e = cost_some v x (fare n (one m.id x)) m.answer (λ p. cost_bind_last v x (fare n (one m.id x)) (light_answer v x K global h m.id g) (λ a. cost_then_first v x (fare n (one m.id x)) (cost_deliver m h n e) (light_waits_on p a))) (cost_deliver m h n e)
+    cost_pass_on m h n g e = cost_some v x (fare n (one m.id x)) m.answer (λ p. cost_bind_last v x (fare n (one m.id x)) (light_answer v x K global h m.id g) (λ a. cost_then_first v x (fare n (one m.id x)) (cost_deliver (record m { answer = Some a }) h n e) (light_waits_on p a))) (cost_deliver m h n e)
 
     module _ (settle : Name → Value Name → Act Name (Unit {0})) (good : LightSettler settle) where
       pub cost_send_to : (m : Message Name) (y : Value Name) (p : Place Name) (ks : List (Known Name)) → NamesMessage m.id → Fits y p → PlaceSound ks p → Light v x (ride p (one m.id x)) (refs.send_to K settle m y p)

@@ -1,6 +1,6 @@
 -- A message that a note brings finds a place.
 use mathlib.Core.Bool.{true}
-use Rattle.std.proofs.Common.{if◌then◌else◌, ◌≡◌, ℕ, ◌+◌, Bool, false, List, [], ◌∷◌, ◌++◌, Some, arith, None}
+use Rattle.std.proofs.Common.{if◌then◌else◌, ◌≡◌, ℕ, ◌+◌, Bool, false, List, [], ◌∷◌, ◌++◌, Option, Some, arith, None}
 use Rattle.std.specs.Prelude.{slice_get}
 use Rattle.def_machine.specs.Values.{Words, Value, Ref, Name, naming, mail_of, host_of, IsAnswer, IsCarried}
 use Rattle.def_machine.specs.State.{ToTell, Passeds, Deliver, Vat, Done, Gives, Throws, Ejects, Stops, Act, ◌>>=◌, ◌>>◌, and_then, look, mail, come, alter}
@@ -71,7 +71,7 @@ module _ (M : Marked) (vats : List (Vat Name)) (v : ℕ) (q : Vat Name) (there :
   sent_finds true s from id n verb args h w named mail known = answered_finds s from id n verb args h w named mail known
   sent_finds false s from id n verb args h w named mail known = send_on_finds (naming word v) v (global_names word v) cut x s (record { id = id; target = Ref n; verb = verb; args = args; answer = None }) w (good_views M vats v q there here word s (loud s h)) named (good_known M vats v q there here word s (Ref n) known)
 
-  module _ (from : ℕ) (ks : List Name) (m : Name) (asks : Bool) (n : Name) (verb : Words) (ys : Passeds Name) (made : Was false M vats v q there here word us d0 (Mail m)) (target : Was false M vats v q there here word us d0 (Named n)) (parts : PassedsOk (Was false M vats v q there here word us d0) ys) (named : NamesMessage m) where
+  module _ (from : ℕ) (ks : List Name) (m : Name) (asks : Bool) (answer : Option Name) (n : Name) (verb : Words) (ys : Passeds Name) (made : Was false M vats v q there here word us d0 (Mail m)) (target : Was false M vats v q there here word us d0 (Named n)) (parts : PassedsOk (Was false M vats v q there here word us d0) ys) (named : NamesMessage m) where
     abbrev Later : List Name
     Later = (world.read_all ys ks).known
 
@@ -88,7 +88,7 @@ module _ (M : Marked) (vats : List (Vat Name)) (v : ℕ) (q : Vat Name) (there :
     target_finds args s h w k mail = learned_pays (world.known_after Later n) IsName (one m x) s (arrive.learn_name (naming word v) (read_name Later n) s) (λ y. Answered args y) ((learn_name false M vats v q there here word us d0 {C = IsMail m} Later n target).after s h k mail)
         ((pays_learn_name cut x (naming word v) v (global_names word v) (read_name Later n) (read_comes n Later)).after s w) (λ y t r g z known e. sent_finds asks t from m y verb args g e named (up s t r (IsMail m) mail) known)
 
-    pub deliver_finds : (s : Vat Name) → Quiet s → AllWell s → Knows false M vats v q there here word us d0 ks s → PaysAt cut x (one m x) s (arrive.arrive (naming word v) from (read_note ks (Deliver (record { message = m; asks = asks }) n verb ys)) s)
+    pub deliver_finds : (s : Vat Name) → Quiet s → AllWell s → Knows false M vats v q there here word us d0 ks s → PaysAt cut x (one m x) s (arrive.arrive (naming word v) from (read_note ks (Deliver (record { message = m; asks = asks; answer = answer }) n verb ys)) s)
     unfolding arrive.arrive read_note arrive.arrive_deliver arrive.learn_message ◌>>=◌ and_then mail naming mail_of
     deliver_finds s h w k = let first = (message_learned false M vats v q there here word us d0 {C = Nothing} ks m (host_of m) made).after s h k tt in let t : Vat Name = record s { mails = s.mails ++ m ∷ [] } in
         let placed = (pays_mail cut x (naming word v) v (global_names word v) (IsCarried m)).after s w in

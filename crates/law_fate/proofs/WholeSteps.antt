@@ -196,7 +196,7 @@ module _ (script : Script) (w : World) (h : Stands script w) (wl : WorldWell w) 
 
   note_least : (from : ℕ) (n : Note Name) → NoteOk (Told script w) n → NoteWell n → Least cut x (of_note x n) (readied w s) (does (naming word v) (Receives from (read_note (names_in s.known) n)) (readied w s))
   unfolding does of_note in_note
-  note_least from (Deliver d n verb ys) g k = least_pays cut x (one d.message x) (readied w s) (arrive (naming word v) from (read_note (names_in s.known) (Deliver d n verb ys)) (readied w s)) (deliver_finds (inside script) w.vats v s there (low_at script w h v s there) word w.vats w.drawn cut x from (names_in s.known) d.message d.asks n verb ys g.0 g.1 g.2 k (readied w s) (quiet_sound (inside script) w.vats v s there (low_at script w h v s there) word (readied w s) ready_sound) ready_well quiet_knows)
+  note_least from (Deliver d n verb ys) g k = least_pays cut x (one d.message x) (readied w s) (arrive (naming word v) from (read_note (names_in s.known) (Deliver d n verb ys)) (readied w s)) (deliver_finds (inside script) w.vats v s there (low_at script w h v s there) word w.vats w.drawn cut x from (names_in s.known) d.message d.asks d.answer n verb ys g.0 g.1 g.2 k (readied w s) (quiet_sound (inside script) w.vats v s there (low_at script w h v s there) word (readied w s) ready_sound) ready_well quiet_knows)
   note_least from (Open i n) g k = lasts (Receives from (read_note (names_in s.known) (Open i n))) (readied w s) ready_well (note_comes (names_in s.known) (Open i n) k)
   note_least from (Ask p i n) g k = lasts (Receives from (read_note (names_in s.known) (Ask p i n))) (readied w s) ready_well (note_comes (names_in s.known) (Ask p i n) k)
   note_least from (SettledTo n y) g k = lasts (Receives from (read_note (names_in s.known) (SettledTo n y))) (readied w s) ready_well (note_comes (names_in s.known) (SettledTo n y) k)

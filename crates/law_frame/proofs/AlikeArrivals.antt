@@ -10,8 +10,8 @@ use Rattle.def_run.specs.World as world
 use Rattle.def_run.specs.World.{Script, Entry, Carry, Carried, Event, Link, World, Run, Goes as Going, Stopped, names, names_of, read_note, readied, put_at, link_at}
 use Rattle.law_name.specs.Names.{Once, names_in}
 use Rattle.law_name.proofs.Among.{get_put}
-use Rattle.law_renaming.specs.Maps as maps
-use Rattle.law_renaming.specs.Maps.{incoming}
+use Rattle.def_machine.specs.Maps as maps
+use Rattle.def_machine.specs.Maps.{incoming}
 use Rattle.law_renaming.specs.Renaming.{Wire as Wired, EndsWith}
 use Rattle.law_renaming.specs.Stands.{Is, IsTable, StandsFor, found}
 use Rattle.law_renaming.proofs.Steps.{arrivals_stand}
@@ -35,28 +35,28 @@ use Rattle.law_frame.proofs.AlikeLaws.{note_read}
 
 -- ---- what the frame does not tell is not looked at
 
-by_message : (v : ℕ) (x : Incoming Name Name) (b : Bool) (n : Incoming Name Name) (verb : List ℕ) (ys : Passeds (Incoming Name Name)) → as_told v (maps.note (incoming Is (λ x. x)) (Deliver (record { message = x; asks = b }) n verb ys)) ≡ maps.note (incoming Is (λ x. x)) (as_told v (Deliver (record { message = x; asks = b }) n verb ys))
+by_message : (v : ℕ) (x : Incoming Name Name) (b : Bool) (c : Option (Incoming Name Name)) (n : Incoming Name Name) (verb : List ℕ) (ys : Passeds (Incoming Name Name)) → as_told v (maps.note (incoming Is (λ x. x)) (Deliver (record { message = x; asks = b; answer = c }) n verb ys)) ≡ maps.note (incoming Is (λ x. x)) (as_told v (Deliver (record { message = x; asks = b; answer = c }) n verb ys))
 unfolding as_told from_peer
-by_message v (Old m) b n verb ys = refl
-by_message v (New m h) b n verb ys = refl
+by_message v (Old m) b c n verb ys = refl
+by_message v (New m h) b c n verb ys = refl
 
-mail_arrives : (K : Naming Name Name) (v from : ℕ) (x : Incoming Name Name) (b : Bool) (n : Incoming Name Name) (verb : List ℕ) (ys : Passeds (Incoming Name Name)) → arrive.arrive K from (as_told v (Deliver (record { message = x; asks = b }) n verb ys)) ≡ arrive.arrive K from (Deliver (record { message = x; asks = b }) n verb ys)
+mail_arrives : (K : Naming Name Name) (v from : ℕ) (x : Incoming Name Name) (b : Bool) (c : Option (Incoming Name Name)) (n : Incoming Name Name) (verb : List ℕ) (ys : Passeds (Incoming Name Name)) → arrive.arrive K from (as_told v (Deliver (record { message = x; asks = b; answer = c }) n verb ys)) ≡ arrive.arrive K from (Deliver (record { message = x; asks = b; answer = c }) n verb ys)
 unfolding as_told from_peer arrive.arrive arrive.arrive_deliver arrive.learn_message
-mail_arrives K v from (Old m) b n verb ys = refl
-mail_arrives K v from (New m h) b n verb ys = refl
+mail_arrives K v from (Old m) b c n verb ys = refl
+mail_arrives K v from (New m h) b c n verb ys = refl
 
-told_note : (v : ℕ) (n : Note (Incoming Name Name)) → as_told v (maps.note (incoming Is (λ x. x)) n) ≡ maps.note (incoming Is (λ x. x)) (as_told v n)
+pub told_note : (v : ℕ) (n : Note (Incoming Name Name)) → as_told v (maps.note (incoming Is (λ x. x)) n) ≡ maps.note (incoming Is (λ x. x)) (as_told v n)
 unfolding as_told from_peer
-told_note v (Deliver d n verb ys) = by_message v d.message d.asks n verb ys
+told_note v (Deliver d n verb ys) = by_message v d.message d.asks d.answer n verb ys
 told_note v (Open i n) = refl
 told_note v (Ask p i n) = refl
 told_note v (SettledTo n y) = refl
 told_note v (Elsewhere n c) = refl
 told_note v (Shorten n c i) = refl
 
-told_arrives : (K : Naming Name Name) (v from : ℕ) (n : Note (Incoming Name Name)) → arrive.arrive K from (as_told v n) ≡ arrive.arrive K from n
+pub told_arrives : (K : Naming Name Name) (v from : ℕ) (n : Note (Incoming Name Name)) → arrive.arrive K from (as_told v n) ≡ arrive.arrive K from n
 unfolding as_told from_peer arrive.arrive arrive.arrive_deliver arrive.learn_message
-told_arrives K v from (Deliver d n verb ys) = mail_arrives K v from d.message d.asks n verb ys
+told_arrives K v from (Deliver d n verb ys) = mail_arrives K v from d.message d.asks d.answer n verb ys
 told_arrives K v from (Open i n) = refl
 told_arrives K v from (Ask p i n) = refl
 told_arrives K v from (SettledTo n y) = refl

@@ -7,11 +7,11 @@ use Rattle.def_machine.specs.Arrive.{Incoming}
 use Rattle.def_run.specs.World as world
 use Rattle.def_run.specs.World.{Script, Entry, Link, World, Goes, link_at}
 use Rattle.law_reference.specs.Logs as wire
-use Rattle.law_machine.proofs.KeyLaws.{key_of}
+use Rattle.def_machine.proofs.Keys.{key_of}
 use Rattle.law_name.specs.Names.{IsAmong, IsKnownIn, names_in}
 use Rattle.law_name.specs.Runs.{KnowsOnce}
-use Rattle.law_renaming.specs.Maps as maps
-use Rattle.law_renaming.specs.Maps.{incoming}
+use Rattle.def_machine.specs.Maps as maps
+use Rattle.def_machine.specs.Maps.{incoming}
 use Rattle.law_renaming.specs.Renaming.{Wire as Wired}
 use Rattle.law_renaming.specs.Stands.{found}
 use Rattle.law_reference.specs.Cuts.{NoticesFollowCuts}

@@ -14,7 +14,7 @@ use Rattle.def_run.specs.World as world
 use Rattle.def_run.specs.World.{Script, Entry, Turn, Carry, CutLink, NoticeLink, Event, Turned, Idle, Carried, NoticedAt, Link, World, Run, Goes as Going, Stopped, readied, names_of, read_note, link_at, put_at}
 use Rattle.law_name.specs.Runs.{KnowsOnce}
 use Rattle.law_reference.specs.Cuts.{NoticesFollowCuts}
-use Rattle.law_renaming.specs.Maps as maps
+use Rattle.def_machine.specs.Maps as maps
 use Rattle.law_renaming.specs.Renaming.{Wire as Wired}
 use Rattle.law_renaming.specs.Stands.{Found, Is, IsTable, StandsFor, found}
 use Rattle.law_renaming.proofs.Steps.{turns_stand, notices_stand}
@@ -77,19 +77,19 @@ module _ (script : Script) where
 
 -- ---- the queue in numbers
 
-queue_is : (f : Local → Found) (q : Vat Local) (s : Vat Name) (qs : List (Message Local)) (ms : List (Message Name)) → maps.vat f q ≡ maps.vat Is s → q.queue ≡ qs → s.queue ≡ ms → map (maps.message f) qs ≡ map (maps.message Is) ms
+pub queue_is : (f : Local → Found) (q : Vat Local) (s : Vat Name) (qs : List (Message Local)) (ms : List (Message Name)) → maps.vat f q ≡ maps.vat Is s → q.queue ≡ qs → s.queue ≡ ms → map (maps.message f) qs ≡ map (maps.message Is) ms
 queue_is f q s qs ms e i j = sym (ap (map (maps.message f)) i) ∙ ap (λ (z : Vat Found). z.queue) e ∙ ap (map (maps.message Is)) j
 
-queue_stands : (f : Local → Found) (q : Vat Local) (s : Vat Name) (qs : List (Message Local)) (ms : List (Message Name)) → maps.vat f q ≡ maps.vat Is s → map (maps.message f) qs ≡ map (maps.message Is) ms → maps.vat f (record q { queue = qs }) ≡ maps.vat Is (record s { queue = ms })
+pub queue_stands : (f : Local → Found) (q : Vat Local) (s : Vat Name) (qs : List (Message Local)) (ms : List (Message Name)) → maps.vat f q ≡ maps.vat Is s → map (maps.message f) qs ≡ map (maps.message Is) ms → maps.vat f (record q { queue = qs }) ≡ maps.vat Is (record s { queue = ms })
 queue_stands f q s qs ms e i = ap (λ (z : Vat Found). record z { queue = map (maps.message f) qs }) e ∙ ap (λ (xs : List (Message Found)). record (maps.vat Is s) { queue = xs }) i
 
-none_first : {A : Type 0} (a : A) (xs : List A) → ◌≡◌ {A = List A} (a ∷ xs) [] → ⊥
+pub none_first : {A : Type 0} (a : A) (xs : List A) → ◌≡◌ {A = List A} (a ∷ xs) [] → ⊥
 none_first a xs e = cc
 
-first_none : {A : Type 0} (a : A) (xs : List A) → ◌≡◌ {A = List A} [] (a ∷ xs) → ⊥
+pub first_none : {A : Type 0} (a : A) (xs : List A) → ◌≡◌ {A = List A} [] (a ∷ xs) → ⊥
 first_none a xs e = cc
 
-heads : {A : Type 0} (a b : A) (xs ys : List A) → ◌≡◌ {A = List A} (a ∷ xs) (b ∷ ys) → (a ≡ b) × (xs ≡ ys)
+pub heads : {A : Type 0} (a b : A) (xs ys : List A) → ◌≡◌ {A = List A} (a ∷ xs) (b ∷ ys) → (a ≡ b) × (xs ≡ ys)
 heads a b xs ys e = let i : a ≡ b = cc in let j : xs ≡ ys = cc in (i, j)
 
 -- ---- a step of vat u, whose state is s in world x and r in world y

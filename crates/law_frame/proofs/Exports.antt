@@ -85,7 +85,7 @@ asked_more w (SettledTo t y ∷ xs) more n a = asked_more w xs more n a
 asked_more w (Elsewhere t c ∷ xs) more n a = asked_more w xs more n a
 asked_more w (Shorten t c i ∷ xs) more n a = asked_more w xs more n a
 
-asked_on : (script : Script) (x y : World) → Moved script x y → (u h : ℕ) (n : Name) (o : Option Link) → link_at u h x.links ≡ o → IsAmong n (wire.questions_in h (wire.log_of o)) → IsAmong n (wire.questions (λ i. i) y.links u h)
+pub asked_on : (script : Script) (x y : World) → Moved script x y → (u h : ℕ) (n : Name) (o : Option Link) → link_at u h x.links ≡ o → IsAmong n (wire.questions_in h (wire.log_of o)) → IsAmong n (wire.questions (λ i. i) y.links u h)
 unfolding wire.log_of wire.questions_in wire.questions
 asked_on script x y m u h n None e a = absurd a
 asked_on script x y m u h n (Some l) e a = let k = now script x y m u h l e in
@@ -133,7 +133,7 @@ module _ (v : ℕ) (before after : List Name) where
     passeds_same NoMore ns h = refl
     passeds_same (More y ys) ns h = ap (wire.with_all v before ys) (passed_same y ns (all_left Alike (told_passed y) (told_all ys) h)) ∙ passeds_same ys (wire.with_passed v after y ns) (all_right Alike (told_passed y) (told_all ys) h)
 
-  note_same : (n : Note Name) (ns : List Name) → AllOf Alike (told_in n) → wire.with_note v before n ns ≡ wire.with_note v after n ns
+  pub note_same : (n : Note Name) (ns : List Name) → AllOf Alike (told_in n) → wire.with_note v before n ns ≡ wire.with_note v after n ns
   unfolding wire.with_note told_in
   note_same (Deliver m t verb ys) ns h = ap (wire.with_all v before ys) (export_same t ns h.0) ∙ passeds_same ys (wire.with_export v after t ns) h.1
   note_same (Open i t) ns h = export_same t ns h.0
@@ -142,29 +142,29 @@ module _ (v : ℕ) (before after : List Name) where
   note_same (Elsewhere t c) ns h = export_same t ns h.0
   note_same (Shorten t c i) ns h = export_same t ns h.0
 
-  log_same : (log : List (Note Name)) (ns : List Name) → ((n : Note Name) → IsAmong n log → AllOf Alike (told_in n)) → wire.exports_after v before log ns ≡ wire.exports_after v after log ns
+  pub log_same : (log : List (Note Name)) (ns : List Name) → ((n : Note Name) → IsAmong n log → AllOf Alike (told_in n)) → wire.exports_after v before log ns ≡ wire.exports_after v after log ns
   unfolding wire.exports_after
   log_same [] ns h = refl
   log_same (n ∷ log) ns h = ap (wire.exports_after v before log) (note_same n ns (h n (inl refl))) ∙ log_same log (wire.with_note v after n ns) (λ m a. h m (inr a))
 
-each_so : {A : Type 0} (P : A → Type 0) (xs : List A) → ((x : A) → IsAmong x xs → P x) → AllOf P xs
+pub each_so : {A : Type 0} (P : A → Type 0) (xs : List A) → ((x : A) → IsAmong x xs → P x) → AllOf P xs
 each_so P [] f = tt
 each_so P (x ∷ xs) f = (f x (inl refl), each_so P xs (λ y a. f y (inr a)))
 
 -- ---- exports grow at their end
 
 module _ (script : Script) (x y : World) (m : Moved script x y) (u : ℕ) (new : AsksForNothingTold x y u) (h : ℕ) where
-  abbrev Before : List Name
+  abbrev pub Before : List Name
   Before = wire.questions (λ i. i) x.links u h
 
-  abbrev After : List Name
+  abbrev pub After : List Name
   After = wire.questions (λ i. i) y.links u h
 
   asked_after : (n : Name) → IsAmong n Before → IsAmong n After
   unfolding wire.questions
   asked_after n a = asked_on script x y m u h n (link_at u h x.links) refl a
 
-  alike : (l : Link) → link_at h u x.links ≡ Some l → (n : Note Name) → IsAmong n l.log → AllOf (λ z. has_name Before z ≡ has_name After z) (told_in n)
+  pub alike : (l : Link) → link_at h u x.links ≡ Some l → (n : Note Name) → IsAmong n l.log → AllOf (λ z. has_name Before z ≡ has_name After z) (told_in n)
   alike l e n a = each_so (λ z. has_name Before z ≡ has_name After z) (told_in n)
       (λ z b. both (has_name Before z) (has_name After z) (λ i. among_has After z (asked_after z (has_among Before z i))) (λ i. among_has Before z (new h l e n z a b (has_among After z i))))
 

@@ -85,10 +85,10 @@ module _ (ks : List Link) where
 -- ---- a note that arrives
 
 -- what it tells is of one of the two vats
-told_ends : (a v : ℕ) (n : Name) (x : Note Name) → (v ≡ a → ⊥) → Proper a v x → IsBetween a v x → Carries a v x → IsAmong n (told_in x) → OfEither a v n
+pub told_ends : (a v : ℕ) (n : Name) (x : Note Name) → (v ≡ a → ⊥) → Proper a v x → IsBetween a v x → Carries a v x → IsAmong n (told_in x) → OfEither a v n
 unfolding told_in
 told_ends a v n (Deliver m t verb ys) o q h k (inl e) = inr (ap host_of e ∙ h)
-told_ends a v n (Deliver m t verb ys) o q h k (inr b) = all_either a v n ys k b
+told_ends a v n (Deliver m t verb ys) o q h k (inr b) = all_either a v n ys k.0 b
 told_ends a v n (Open i t) o q h k (inl e) = inr (ap host_of e ∙ h)
 told_ends a v n (Open i t) o q h k (inr b) = absurd b
 told_ends a v n (Ask p i t) o q h k b = absurd b

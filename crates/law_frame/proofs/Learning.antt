@@ -1,7 +1,7 @@
 -- Where names are known once, a note that arrives asks for gifts that are new, in front of all that names them.
 use Rattle.std.proofs.Common.{◌≡◌, ℕ, suc, Bool, true, false, List, [], ◌∷◌, ◌++◌, Option, Some, None, refl, sym, ap, subst, ◌∙◌, ◌⊎◌, inl, inr, append_assoc, append-nil, if◌then◌else◌, length, ◌==◌, codes}
 use Rattle.def_machine.specs.Values.{Words, Value, Null, Flag, Number, Letter, Text, Prim, Broken, Items, Ref, Name, Gift, same_reference, Naming, IsGift, IsAnswer, naming, name_of, mail_of, host_of, key, under}
-use Rattle.def_machine.specs.State.{Known, ToTell, open_gift, Settle, Passed, Passeds, Plain, AGift, Many, NoMore, More, Note, Delivery, Deliver, Open, Ask, SettledTo, Elsewhere, Shorten, Put, Settles, ListCame, Vat, Done, Gives, Throws, Ejects, Stops, Act, ◌>>=◌, ◌>>◌, and_then, give, look, tell, each, come, mail, draw, draws, new_list, send_out, alter, with_change, is_in, begun}
+use Rattle.def_machine.specs.State.{Stop, Known, ToTell, open_gift, Settle, Passed, Passeds, Plain, AGift, Many, NoMore, More, Note, Delivery, Deliver, Open, Ask, SettledTo, Elsewhere, Shorten, Put, Settles, ListCame, Vat, Done, Gives, Throws, Ejects, Stops, Act, ◌>>=◌, ◌>>◌, and_then, give, look, tell, each, come, mail, draw, draws, new_list, send_out, alter, with_change, is_in, begun}
 use Rattle.def_machine.specs.Refs as refs
 use Rattle.def_machine.specs.Refs.{entry_of, host_at}
 use Rattle.def_machine.specs.Arrive as arrive
@@ -85,12 +85,12 @@ kept_under K = record {
 abbrev AskedNew : List Name → Vat Name → Vat Name → Type 0
 AskedNew ks s t = (ps : List (Put Name)) × (t.outbox ≡ s.outbox ++ ps) × AllOf (λ (p : Put Name). IsNewAsk ks p.note) ps
 
--- Where ks are the names known before, and what is known in the end is known once: those known after are k1, and each note that was put asks for a gift that is new.
+-- Where ks are the names known before, and what is known in the end is known once: those known after are k1, each note that was put asks for a gift that is new, and nothing stops.
 abbrev Learns : {A : Type 0} → List Name → List Name → Vat Name → Done Name A → Type 0
 Learns ks k1 s (Gives a t) = (F : List Name) → Starts (names_in t.known) F → Once F → (names_in t.known ≡ k1) × AskedNew ks s t
 Learns ks k1 s (Throws p t) = Unit {0}
 Learns ks k1 s (Ejects n y t) = Unit {0}
-Learns ks k1 s (Stops c t) = Unit {0}
+Learns ks k1 s (Stops c t) = (F : List Name) → Starts (names_in t.known) F → Once F → ⊥
 
 nothing_asked : (ks : List Name) (s t : Vat Name) → t.outbox ≡ s.outbox → AskedNew ks s t
 nothing_asked ks s t e = ([], e ∙ sym (append-nil s.outbox), tt)
@@ -110,14 +110,14 @@ both_learn : {B : Type 0} (ks k1 k2 : List Name) (s t : Vat Name) (d : Done Name
 both_learn ks k1 k2 s t (Gives b u) f l g k = λ F h o. let one = l F (starts_on (names_in t.known) (names_in u.known) F g h) o in let two = k one.0 F h o in (two.0, asked_on ks k1 s t u f one.1 two.1)
 both_learn ks k1 k2 s t (Throws p u) f l g k = tt
 both_learn ks k1 k2 s t (Ejects n y u) f l g k = tt
-both_learn ks k1 k2 s t (Stops c u) f l g k = tt
+both_learn ks k1 k2 s t (Stops c u) f l g k = λ F h o. let one = l F (starts_on (names_in t.known) (names_in u.known) F g h) o in k one.0 F h o
 
 then_learns : {A B : Type 0} (ks k1 k2 : List Name) (s : Vat Name) (d : Done Name A) (f : A → Act Name B) → Starts ks k1 → Learns ks k1 s d → ((a : A) → Keeps Grows (f a)) → ((a : A) (t : Vat Name) → names_in t.known ≡ k1 → Learns k1 k2 t (f a t)) → Learns ks k2 s (and_then d f)
 unfolding and_then
 then_learns ks k1 k2 s (Gives a t) f h l g k = both_learn ks k1 k2 s t (f a t) h l ((g a).after t) (k a t)
 then_learns ks k1 k2 s (Throws p t) f h l g k = tt
 then_learns ks k1 k2 s (Ejects n y t) f h l g k = tt
-then_learns ks k1 k2 s (Stops c t) f h l g k = tt
+then_learns ks k1 k2 s (Stops c t) f h l g k = l
 
 -- ---- outcomes of a whole note
 
@@ -199,6 +199,9 @@ module _ (word : ℕ → ℕ) (v : ℕ) where
   gives_is : (a b : Unit {0}) (s t : Vat Name) → ◌≡◌ {A = Done Name (Unit {0})} (Gives a s) (Gives b t) → s ≡ t
   gives_is a b s t e = cc
 
+  gives_no : (c : Stop) (b : Unit {0}) (s t : Vat Name) → ◌≡◌ {A = Done Name (Unit {0})} (Stops c s) (Gives b t) → ⊥
+  gives_no c b s t e = cc
+
   -- ---- learning
 
   name_either : (ks : List Name) (n : Name) (s : Vat Name) → names_in s.known ≡ ks → (b : Bool) → Learns ks (elim b [ true ↦ ks | false ↦ ks ++ n ∷ [] ]) s (arrive.learn_name K (elim b [ true ↦ Old n | false ↦ New n (host_of n) ]) s)
@@ -242,7 +245,9 @@ module _ (word : ℕ → ℕ) (v : ℕ) where
       (ap (λ (z : Vat Name). names_in z.known) same ∙ settled_names s1 n t ∙ names, nothing_asked ks s u (ap (λ (z : Vat Name). z.outbox) same ∙ settled_outbox s1 n t))
   gift_settles ks h i s t e (Throws p u) f g = tt
   gift_settles ks h i s t e (Ejects n y u) f g = tt
-  gift_settles ks h i s t e (Stops c u) f g = tt
+  gift_settles ks h i s t e (Stops c u) f g = λ F st o. let s1 : Vat Name = With s h i in let n = Gift h i in
+      let new : IsAmong n ks → ⊥ = once_new F ks n (subst (λ ns. Starts ns F) (with_names ks s h i e) (starts_on (names_in s1.known) (names_in u.known) F g st)) o in
+      gives_no c tt u (SettledAlone s1 n t) (sym f ∙ settles_alone s1 n h t (last_entry s.known n h tt (λ b. new (subst (λ ns. IsAmong n ns) e b))))
 
   gift_either : (ks : List Name) (p h i : ℕ) (s : Vat Name) (t : Words) → names_in s.known ≡ ks → (b : Bool) → Learns ks (ks ++ Gift h i ∷ []) s (and_then ((if b then refs.settle K (Gift h i) (Broken t) else send_out h (Ask p i (Gift h i))) (With s h i)) (λ _. give (Ref (Gift h i))))
   unfolding and_then give send_out With
@@ -277,7 +282,7 @@ module _ (word : ℕ → ℕ) (v : ℕ) where
   within_start : (ks k1 : List Name) → Starts ks k1 → Within ks k1
   within_start ks k1 f n e a = starts_among ks k1 f n a
 
-  deliver_ordered : (from : ℕ) (ks : List Name) (d : Delivery Name) (n : Name) (verb : Words) (ys : Passeds Name) (s : Vat Name) → names_in s.known ≡ ks → s.outbox ≡ [] → Ordered ks (arrive.arrive_deliver K from (record { message = New d.message (host_of d.message); asks = d.asks }) (world.read_name (world.read_all ys ks).known n) verb (world.read_all ys ks).read s)
+  deliver_ordered : (from : ℕ) (ks : List Name) (d : Delivery Name) (n : Name) (verb : Words) (ys : Passeds Name) (s : Vat Name) → names_in s.known ≡ ks → s.outbox ≡ [] → Ordered ks (arrive.arrive_deliver K from (record { message = New d.message (host_of d.message); asks = d.asks; answer = None }) (world.read_name (world.read_all ys ks).known n) verb (world.read_all ys ks).read s)
   unfolding arrive.arrive_deliver arrive.learn_message mail naming mail_of ◌>>=◌ and_then
   deliver_ordered from ks d n verb ys s e o = let m : Name = d.message in let k1 = (world.read_all ys ks).known in let s1 : Vat Name = record s { mails = s.mails ++ m ∷ [] } in
       learnt_then ks k1 s1 (arrive.learn_all K from (world.read_all ys ks).read s1) _ o (all_learns from ks ys s1 e) (λ args. quiet_sent K d.asks from (world.read_name k1 n) verb m args)
@@ -350,44 +355,44 @@ module _ (word : ℕ → ℕ) (v : ℕ) where
 
   -- ---- what was read is known first
 
-  -- where what is known in the end is known once, it begins with these names
+  -- where what is known in the end is known once, also where it stopped, it begins with these names
   abbrev pub Begins : List Name → Done Name (Unit {0}) → Type 0
   Begins ks (Gives a t) = Once (names_in t.known) → Starts ks (names_in t.known)
   Begins ks (Throws p t) = Unit {0}
   Begins ks (Ejects n y t) = Unit {0}
-  Begins ks (Stops c t) = Unit {0}
+  Begins ks (Stops c t) = Once (names_in t.known) → Starts ks (names_in t.known)
 
   learnt_begins : (ks k1 : List Name) (s t : Vat Name) → ((F : List Name) → Starts (names_in t.known) F → Once F → (names_in t.known ≡ k1) × AskedNew ks s t) → (d : Done Name (Unit {0})) → After Grows t d → Begins k1 d
   learnt_begins ks k1 s t l (Gives b u) g = λ o. let one = l (names_in u.known) g o in subst (λ ns. Starts ns (names_in u.known)) one.0 g
   learnt_begins ks k1 s t l (Throws p u) g = tt
   learnt_begins ks k1 s t l (Ejects n y u) g = tt
-  learnt_begins ks k1 s t l (Stops c u) g = tt
+  learnt_begins ks k1 s t l (Stops c u) g = λ o. let one = l (names_in u.known) g o in subst (λ ns. Starts ns (names_in u.known)) one.0 g
 
   begins_with : {A : Type 0} (ks k1 : List Name) (s : Vat Name) (d : Done Name A) (f : A → Act Name (Unit {0})) → Learns ks k1 s d → ((a : A) → Keeps Grows (f a)) → Begins k1 (and_then d f)
   unfolding and_then
   begins_with ks k1 s (Gives a t) f l g = learnt_begins ks k1 s t l (f a t) ((g a).after t)
   begins_with ks k1 s (Throws p t) f l g = tt
   begins_with ks k1 s (Ejects n y t) f l g = tt
-  begins_with ks k1 s (Stops c t) f l g = tt
+  begins_with ks k1 s (Stops c t) f l g = λ o. absurd (l (names_in t.known) (starts_same (names_in t.known)) o)
 
   begun_by : (ks k1 k2 : List Name) (s t : Vat Name) → ((F : List Name) → Starts (names_in t.known) F → Once F → (names_in t.known ≡ k1) × AskedNew ks s t) → (d : Done Name (Unit {0})) → After Grows t d → (names_in t.known ≡ k1 → Begins k2 d) → Begins k2 d
   begun_by ks k1 k2 s t l (Gives b u) g f = λ o. f (l (names_in u.known) g o).0 o
   begun_by ks k1 k2 s t l (Throws p u) g f = tt
   begun_by ks k1 k2 s t l (Ejects n y u) g f = tt
-  begun_by ks k1 k2 s t l (Stops c u) g f = tt
+  begun_by ks k1 k2 s t l (Stops c u) g f = λ o. f (l (names_in u.known) g o).0 o
 
   then_begins : {A : Type 0} (ks k1 k2 : List Name) (s : Vat Name) (d : Done Name A) (f : A → Act Name (Unit {0})) → Learns ks k1 s d → ((a : A) → Keeps Grows (f a)) → ((a : A) (t : Vat Name) → names_in t.known ≡ k1 → Begins k2 (f a t)) → Begins k2 (and_then d f)
   unfolding and_then
   then_begins ks k1 k2 s (Gives a t) f l g h = begun_by ks k1 k2 s t l (f a t) ((g a).after t) (h a t)
   then_begins ks k1 k2 s (Throws p t) f l g h = tt
   then_begins ks k1 k2 s (Ejects n y t) f l g h = tt
-  then_begins ks k1 k2 s (Stops c t) f l g h = tt
+  then_begins ks k1 k2 s (Stops c t) f l g h = λ o. absurd (l (names_in t.known) (starts_same (names_in t.known)) o)
 
   grows_begins : (ks : List Name) (s : Vat Name) → names_in s.known ≡ ks → (d : Done Name (Unit {0})) → After Grows s d → Begins ks d
   grows_begins ks s e (Gives a t) g = λ o. subst (λ ns. Starts ns (names_in t.known)) e g
   grows_begins ks s e (Throws p t) g = tt
   grows_begins ks s e (Ejects n y t) g = tt
-  grows_begins ks s e (Stops c t) g = tt
+  grows_begins ks s e (Stops c t) g = λ o. subst (λ ns. Starts ns (names_in t.known)) e g
 
   abbrev Answered : ℕ → Words → Name → List (Value Name) → Name → Act Name (Unit {0})
   Answered from verb id args n = look (λ s. s.number) >>= (λ u. come K (IsAnswer u id) u >>= (λ a. alter K (ToTell from) a >> refs.send_on K (refs.settle K) (record { id = id; target = Ref n; verb = verb; args = args; answer = Some a })))
@@ -399,7 +404,7 @@ module _ (word : ℕ → ℕ) (v : ℕ) where
   sent_keeps false from verb id args n = keeps_send_on K Grows kept (kept_under K) (refs.settle K) (keeps_settle K Grows kept (kept_under K)) (record { id = id; target = Ref n; verb = verb; args = args; answer = None })
   sent_keeps true from verb id args n = let law = kept_under K in keeps_bind Grows kept (keeps_look Grows kept (λ s. s.number)) (λ u. keeps_bind Grows kept (keeps_come K Grows law (IsAnswer u id) u) (λ a. keeps_then Grows kept (keeps_alter K Grows law (ToTell from) a) (keeps_send_on K Grows kept law (refs.settle K) (keeps_settle K Grows kept law) (record { id = id; target = Ref n; verb = verb; args = args; answer = Some a }))))
 
-  deliver_begins : (from : ℕ) (ks : List Name) (d : Delivery Name) (n : Name) (verb : Words) (ys : Passeds Name) (s : Vat Name) → names_in s.known ≡ ks → Begins (world.known_after (world.read_all ys ks).known n) (arrive.arrive_deliver K from (record { message = New d.message (host_of d.message); asks = d.asks }) (world.read_name (world.read_all ys ks).known n) verb (world.read_all ys ks).read s)
+  deliver_begins : (from : ℕ) (ks : List Name) (d : Delivery Name) (n : Name) (verb : Words) (ys : Passeds Name) (s : Vat Name) → names_in s.known ≡ ks → Begins (world.known_after (world.read_all ys ks).known n) (arrive.arrive_deliver K from (record { message = New d.message (host_of d.message); asks = d.asks; answer = None }) (world.read_name (world.read_all ys ks).known n) verb (world.read_all ys ks).read s)
   unfolding arrive.arrive_deliver arrive.send_on_asked arrive.learn_message mail naming mail_of ◌>>=◌ and_then
   deliver_begins from ks d n verb ys s e = let m : Name = d.message in let k1 = (world.read_all ys ks).known in let k2 = world.known_after k1 n in let s1 : Vat Name = record s { mails = s.mails ++ m ∷ [] } in
       then_begins ks k1 k2 s1 (arrive.learn_all K from (world.read_all ys ks).read s1) (λ args. arrive.learn_name K (world.read_name k1 n) >>= (λ x. SentOn d.asks from verb m args x)) (all_learns from ks ys s1 e)

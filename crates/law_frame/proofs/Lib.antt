@@ -1,10 +1,10 @@
-mod Lists
-mod Hears
-mod Grows
+pub mod Lists
+pub mod Hears
+pub mod Grows
 mod Maps
-mod Places
-mod Written
-mod Seen
+pub mod Places
+pub mod Written
+pub mod Seen
 pub mod Questions
 pub mod Results
 pub mod WireAsking

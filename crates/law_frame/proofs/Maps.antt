@@ -11,8 +11,8 @@ use Rattle.def_machine.specs.State.{Passed, Passeds, Plain, AGift, Many, NoMore,
 use Rattle.def_machine.specs.Arrive.{Incoming, Old, New}
 use Rattle.def_run.specs.Connections as read
 use Rattle.def_run.specs.Connections.{Connection, Learnt, Stage, Newcomers, Heard, Hearing}
-use Rattle.law_renaming.specs.Maps as maps
-use Rattle.law_renaming.specs.Maps.{incoming}
+use Rattle.def_machine.specs.Maps as maps
+use Rattle.def_machine.specs.Maps.{incoming}
 use Rattle.law_renaming.specs.Renaming.{Wire}
 use Rattle.law_renaming.specs.Stands.{Found}
 use Rattle.law_frame.specs.Together.{changed_tables, changed_gift, changed_stage, changed_heard, changed_newcomers, GoTogether, ReadingsGoTogether}
@@ -169,10 +169,10 @@ module _ {N M W V : Type 0} (f : N → M) (g : W → V) (object : N → Bool) (o
   about x r q e s = next_alike In Ns (λ y. read.told (r y)) (λ y. read.told (q y)) _ _ (name_alike x s) (λ y t. ap (λ z. read.told z (On t)) (e y) ∙ told_alike Ns (q y) t)
 
   abbrev There : Bool → Delivery (Incoming M V)
-  There asks = record { message = New G.message peer; asks = asks }
+  There asks = record { message = New G.message peer; asks = asks; answer = None }
 
   abbrev Here : Bool → Delivery (Incoming N W)
-  Here asks = record { message = New F.message peer; asks = asks }
+  Here asks = record { message = New F.message peer; asks = asks; answer = None }
 
   message_alike : (asks : Bool) (x : Described) (verb : List ℕ) (xs : Members) (s : Stage N) → Alike Ns (read.message_heard other me peer G d asks x verb xs (On s)) (read.message_heard object me peer F c asks x verb xs s)
   unfolding read.message_heard

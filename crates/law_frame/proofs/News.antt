@@ -14,8 +14,8 @@ use Rattle.law_reference.specs.Logs as wire
 use Rattle.law_name.specs.Names.{AllOf, IsAmong, IsKnownIn, names_in}
 use Rattle.law_name.proofs.SameNames.{has_among, among_has}
 use Rattle.law_name.proofs.Among.{all_among}
-use Rattle.law_renaming.specs.Maps as maps
-use Rattle.law_renaming.specs.Maps.{incoming}
+use Rattle.def_machine.specs.Maps as maps
+use Rattle.def_machine.specs.Maps.{incoming}
 use Rattle.law_renaming.specs.Renaming.{Wire as Wired, Mine}
 use Rattle.law_renaming.specs.Stands.{Found, Is, found, prom_found, far_found}
 use Rattle.law_reference.specs.Exports.{object_of, exported_at}

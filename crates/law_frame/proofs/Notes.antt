@@ -22,7 +22,7 @@ carry_follows done (CutLink a b ∷ es) v u h = carry_follows (CutLink a b ∷ d
 carry_follows done (NoticeLink a b ∷ es) v u h = (h.0, h.1, carry_follows (NoticeLink a b ∷ done) es v u h.2)
 
 -- the next note brings what is new
-brings : (script : Script) → KnowsOnce script → (w x : World) (es : List Entry) (k : ℕ) → NoticesFollowCuts es → world.open_from script 0 script.vats (world.begins script) ≡ Going w → world.steps_from script es k w ≡ Going x
+pub brings : (script : Script) → KnowsOnce script → (w x : World) (es : List Entry) (k : ℕ) → NoticesFollowCuts es → world.open_from script 0 script.vats (world.begins script) ≡ Going w → world.steps_from script es k w ≡ Going x
     → (v u : ℕ) (s : Vat Name) → slice_get x.vats u ≡ Some s → (l : Link) → link_at v u x.links ≡ Some l → (n : Note Name) (ns : List (Note Name)) → l.notes ≡ n ∷ ns → BringsNew x v u n s
 brings script once w x es k follow opened stepped v u s there l at n ns head =
     new_last script es (Carry v u) k w x (bring_new script once w (es ++ Carry v u ∷ []) k (carry_follows [] es v u follow) opened) stepped l n ns s at head there

@@ -91,7 +91,7 @@ module _ (v : ℕ) (T : Name → Type 0) where
   }
 
   module _ (word : ℕ → ℕ) where
-    abbrev K : Naming Name Name
+    abbrev pub K : Naming Name Name
     K = naming word v
 
     hosted_ok : (s : Vat Name) (n : Name) (h : ℕ) (b : Bool) → OwnOrTold v T n → PlaceOk (Handed v T) (elim b [ true ↦ Mine n | false ↦ Away h n false ])
@@ -113,7 +113,7 @@ module _ (v : ℕ) (T : Name → Type 0) where
     answer_ok h (Answer w m) o = absurd o
     answer_ok h (Gift w i) o = absurd o
 
-    under : Under K Hands
+    pub under : Under K Hands
     unfolding naming name_of
     under = record {
       spots = record { alike = λ a b e. reference_is a b e; placed = λ s m n g. spot_ok s n (spot_of v n) g };
@@ -135,7 +135,7 @@ module _ (v : ℕ) (T : Name → Type 0) where
     gifts : Gifts K Hands
     gifts = gifts_by K Hands under gives
 
-    makes : Makes K Hands
+    pub makes : Makes K Hands
     unfolding naming name_of mail_of answer_of
     makes = record { promised = λ s. (tt, λ h. tt, tt); messaged = λ s h at. (tt, λ k. tt, tt, tt); lone = λ s. (tt, λ k. tt, tt) }
 

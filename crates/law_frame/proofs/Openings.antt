@@ -13,7 +13,7 @@ use Rattle.def_run.specs.World as world
 use Rattle.def_run.specs.World.{Script, Program, Opens, World, Run, Goes as Going, Stopped, readied, put_at}
 use Rattle.law_name.specs.Names.{names_in}
 use Rattle.law_name.specs.Runs.{KnowsOnce}
-use Rattle.law_renaming.specs.Maps as maps
+use Rattle.def_machine.specs.Maps as maps
 use Rattle.law_renaming.specs.Renaming.{Wire as Wired}
 use Rattle.law_renaming.specs.Stands.{Found, Is, IsTable, StandsFor, prom_found, found}
 use Rattle.law_renaming.proofs.Steps.{openings_stand as turns_open}
@@ -37,7 +37,7 @@ unfolding world.then_goes
 then_stays (Going z) f u x y e g = g z refl e
 then_stays (Stopped c k z) f u x y e g = cc
 
-later_stay : (script : Script) (v : ℕ) (ps : List Program) (x y : World) → world.open_from script v ps x ≡ Going y → (u : ℕ) → v + length ps ≤ u → slice_get y.vats u ≡ slice_get x.vats u
+pub later_stay : (script : Script) (v : ℕ) (ps : List Program) (x y : World) → world.open_from script v ps x ≡ Going y → (u : ℕ) → v + length ps ≤ u → slice_get y.vats u ≡ slice_get x.vats u
 unfolding world.open_from world.open_vat
 later_stay script v [] x y e u h = ap (λ (z : World). slice_get z.vats u) (let same : y ≡ x = cc in same)
 later_stay script v (p ∷ ps) x y e u h = then_stays (world.open_vat script v p x) (world.open_from script (suc v) ps) u x y e
@@ -51,13 +51,13 @@ unfolding world.fresh_from
 fresh_at script v [] p rest = let n : v ≡ v + 0 = omega arith in ap (λ z. Some (world.fresh script z p)) n
 fresh_at script v (f ∷ front) p rest = let n : suc v + length front ≡ v + suc (length front) = omega arith in fresh_at script (suc v) front p rest ∙ ap (λ z. Some (world.fresh script z p)) n
 
-begins_at : (script : Script) (ps rest : List Program) (p : Program) → script.vats ≡ ps ++ p ∷ rest → slice_get (world.begins script).vats (length ps) ≡ Some (world.fresh script (length ps) p)
+pub begins_at : (script : Script) (ps rest : List Program) (p : Program) → script.vats ≡ ps ++ p ∷ rest → slice_get (world.begins script).vats (length ps) ≡ Some (world.fresh script (length ps) p)
 unfolding world.begins
 begins_at script ps rest p e = let n : 0 + length ps ≡ length ps = omega arith in ap (λ us. slice_get (world.fresh_from script zero us) (length ps)) e ∙ fresh_at script zero ps p rest ∙ ap (λ z. Some (world.fresh script z p)) n
 
 -- ---- the roots that it knows then
 
-root_first : (script : Script) (v : ℕ) (p : Program) → slice_get (names_in (world.fresh script v p).known) zero ≡ Some (Root v)
+pub root_first : (script : Script) (v : ℕ) (p : Program) → slice_get (names_in (world.fresh script v p).known) zero ≡ Some (Root v)
 unfolding world.fresh world.known_root begun
 root_first script v p = refl
 
@@ -67,15 +67,15 @@ root_at [] i w e = cc
 root_at (z ∷ ws) zero w e = let same : z ≡ w = cc in ap (λ a. Some (Root a)) same
 root_at (z ∷ ws) (suc i) w e = root_at ws i w e
 
-root_next : (script : Script) (v : ℕ) (p : Program) (i w : ℕ) → slice_get p.knows i ≡ Some w → slice_get (names_in (world.fresh script v p).known) (suc i) ≡ Some (Root w)
+pub root_next : (script : Script) (v : ℕ) (p : Program) (i w : ℕ) → slice_get p.knows i ≡ Some w → slice_get (names_in (world.fresh script v p).known) (suc i) ≡ Some (Root w)
 unfolding world.fresh
 root_next script v p i w e = root_at p.knows i w e
 
-prom_is : (x : World) (u : ℕ) (r : Vat Name) (k : ℕ) (n : Name) → slice_get (names_in r.known) k ≡ Some n → found u (table_across x u r) (Prom k) ≡ Is n
+pub prom_is : (x : World) (u : ℕ) (r : Vat Name) (k : ℕ) (n : Name) → slice_get (names_in r.known) k ≡ Some n → found u (table_across x u r) (Prom k) ≡ Is n
 unfolding found prom_found table_across
 prom_is x u r k n e = ap (prom_found k) e
 
-given_same : (f : Local → Found) (ps : List Program) (k : ℕ) (ws : List ℕ) → ((i w : ℕ) → slice_get ws i ≡ Some w → f (Prom (k + i)) ≡ Is (Root w)) → map (maps.binding f) (given_by_numbers ps k ws) ≡ map (maps.binding Is) (world.given ps ws)
+pub given_same : (f : Local → Found) (ps : List Program) (k : ℕ) (ws : List ℕ) → ((i w : ℕ) → slice_get ws i ≡ Some w → f (Prom (k + i)) ≡ Is (Root w)) → map (maps.binding f) (given_by_numbers ps k ws) ≡ map (maps.binding Is) (world.given ps ws)
 unfolding given_by_numbers world.given any_guard
 given_same f ps k [] h = refl
 given_same f ps k (w ∷ ws) h =

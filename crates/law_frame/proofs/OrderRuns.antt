@@ -47,7 +47,7 @@ differ_once y h v t e = place_once (names_in t.known) (λ i j n f g. eqb-true i 
 
 -- ---- links
 
-abbrev LogsOrdered : List Link → Type 0
+abbrev pub LogsOrdered : List Link → Type 0
 LogsOrdered ls = AllOf (λ (l : Link). InOrder [] l.log) ls
 
 module _ (v : ℕ) where
@@ -169,7 +169,7 @@ module _ (script : Script) where
       empty [] i = tt
       empty (n ∷ log) i = absurd i.0
 
-  begins_ordered : LogsOrdered (world.begins script).links
+  pub begins_ordered : LogsOrdered (world.begins script).links
   unfolding world.begins
   begins_ordered = no_logs (world.links_from script.vats zero script.vats) (lift.links_from_fit (λ v u n. ⊥) script.vats zero script.vats)
 
@@ -206,7 +206,7 @@ module _ (script : Script) where
   get_mid (f ∷ fs) p ps = get_mid fs p ps
 
   module _ (once : KnowsOnce script) where
-    opens_ordered : (ds ps rest : List Program) (w x : World) → script.vats ≡ ds ++ (ps ++ rest) → world.open_from script zero ds (world.begins script) ≡ Going w → LogsOrdered w.links → world.open_from script (length ds) ps w ≡ Going x → LogsOrdered x.links
+    pub opens_ordered : (ds ps rest : List Program) (w x : World) → script.vats ≡ ds ++ (ps ++ rest) → world.open_from script zero ds (world.begins script) ≡ Going w → LogsOrdered w.links → world.open_from script (length ds) ps w ≡ Going x → LogsOrdered x.links
     unfolding world.open_from
     opens_ordered ds [] rest w x i d h e = moved_to w x h e
     opens_ordered ds (p ∷ ps) rest w x i d h e = then_ordered x (world.open_vat script (length ds) p w) (world.open_from script (suc (length ds)) ps)
@@ -232,7 +232,7 @@ module _ (script : Script) where
         let both = stepped_both script once w0 w ds k0 o d in let differ : NamesDiffer y = (names_are_known_once script once).1 w0 y (ds ++ entry ∷ []) k0 o (new_front (ds ++ entry ∷ []) es k0 w0 more) done in
         steps_ordered w0 k0 o (ds ++ entry ∷ []) es (suc k) y x (omega arith) done more (moved_ordered w y both.1 differ (entry_moves script entry k w y both.0 j) h) f) e
 
-    stepped_ordered : (w x : World) (es : List Entry) (k : ℕ) → NotesBringNew script es k w → world.open_from script zero script.vats (world.begins script) ≡ Going w → world.steps_from script es k w ≡ Going x → LogsOrdered x.links
+    pub stepped_ordered : (w x : World) (es : List Entry) (k : ℕ) → NotesBringNew script es k w → world.open_from script zero script.vats (world.begins script) ≡ Going w → world.steps_from script es k w ≡ Going x → LogsOrdered x.links
     unfolding world.steps_from
     stepped_ordered w x es k b o e = let n : k ≡ k + 0 = omega arith in steps_ordered w k o [] es k w x n refl b (opened_ordered w o) e
 
@@ -240,7 +240,7 @@ found_or : (P : Link → Type 0) (b : Bool) (l j : Link) (o : Option Link) → P
 found_or P true l j o h f e = subst P (let same : l ≡ j = cc in same) h
 found_or P false l j o h f e = f e
 
-found_all : (P : Link → Type 0) (v u : ℕ) (l : Link) (ls : List Link) → AllOf P ls → world.link_at v u ls ≡ Some l → P l
+pub found_all : (P : Link → Type 0) (v u : ℕ) (l : Link) (ls : List Link) → AllOf P ls → world.link_at v u ls ≡ Some l → P l
 unfolding world.link_at
 found_all P v u l [] h e = cc
 found_all P v u l (k ∷ ls) h e = found_or P (world.is_link v u k) k l (world.link_at v u ls) h.0 (λ f. found_all P v u l ls h.1 f) e

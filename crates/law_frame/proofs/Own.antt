@@ -9,7 +9,7 @@ use Rattle.law_machine.specs.Laws.{SameNames, SameMails}
 use Rattle.def_run.specs.World.{World, put_at}
 use Rattle.law_name.specs.Names.{names_in}
 use Rattle.law_name.proofs.Among.{get_put}
-use Rattle.law_renaming.specs.Maps as maps
+use Rattle.def_machine.specs.Maps as maps
 use Rattle.law_renaming.specs.Stands.{Found, Is, Table, StandsFor, found}
 use Rattle.law_renaming.specs.Renaming.{EndsWith}
 use Rattle.law_renaming.proofs.Sim.{map_get}

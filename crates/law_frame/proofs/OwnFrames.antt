@@ -4,7 +4,7 @@ use Rattle.def_machine.specs.Values.{Name, Root, Object, Promise, Answer, Gift, 
 use Rattle.def_machine.specs.State.{Note, Deliver, Open, Ask, SettledTo, Elsewhere, Shorten}
 use Rattle.def_run.specs.Connections.{Connection, Sight, frame_now, put_on}
 use Rattle.def_run.specs.Wire.{sight, is_object}
-use Rattle.law_renaming.specs.Maps as maps
+use Rattle.def_machine.specs.Maps as maps
 use Rattle.law_renaming.specs.Stands.{Table, Found, Is, Nothing, found, found_same, found_answer, prom_found, mess_found, far_found, IsTable}
 use Rattle.law_renaming.proofs.Stands.{sames}
 use Rattle.law_frame.specs.Together.{SeesAlike, TablesMay, NoteMay, AsksAlike, changed_tables}
@@ -47,16 +47,16 @@ module _ (u v : ℕ) (t : Table) (good : IsTable u t) (S : Sight Local) (sees : 
   nothing_of (Mess k) b e = mess_nothing k _ b e
   nothing_of (Far h p) b e = far_nothing h p _ b e
 
-  own_of : (a : Local) (x : Found) → found u t a ≡ x → own_found x ≡ S.own a
-  own_of a (Is n) e = sees.own a n e
-  own_of a (Nothing b) e = ap S.own (nothing_of a b e)
+  own_of : (a : Local) (x : Found) → refers_here a ≡ true → found u t a ≡ x → own_found x ≡ S.own a
+  own_of a (Is n) p e = sees.own a n p e
+  own_of a (Nothing b) p e = ap S.own (nothing_of a b e)
 
   object_of : (a : Local) (x : Found) → found u t a ≡ x → object_found x ≡ S.object a
   object_of a (Is n) e = sees.object a n e
   object_of a (Nothing b) e = ap S.object (nothing_of a b e)
 
   by_numbers : SeesAlike (found u t) refers_here S T
-  by_numbers = record { same = λ a b p. sames u t good a b ∙ sym (sees.same a b); own = λ a. own_of a (found u t a) refl; object = λ a. object_of a (found u t a) refl }
+  by_numbers = record { same = λ a b p. sames u t good a b ∙ sym (sees.same a b); own = λ a p. own_of a (found u t a) p refl; object = λ a. object_of a (found u t a) refl }
 
   same_named : (a b : Name) → refers a ≡ true → same_reference a b ≡ same_name a b
   unfolding refers same_reference
@@ -80,7 +80,7 @@ module _ (u v : ℕ) (t : Table) (good : IsTable u t) (S : Sight Local) (sees : 
   object_is a = refl
 
   by_names : SeesAlike Is refers (sight u v) T
-  by_names = record { same = same_is; own = own_is; object = object_is }
+  by_names = record { same = same_is; own = λ a p. own_is a; object = object_is }
 
   answer_is : (m : Name) → found_answer v (Is m) ≡ Is ((sight u v).answer m)
   unfolding found_answer sight

@@ -1,5 +1,5 @@
 -- What a message asks for, if it asks for an answer.
-use Rattle.std.proofs.Common.{◌≡◌, Bool, true, false, List, ◌∷◌, refl, ◌⊎◌, inl, inr}
+use Rattle.std.proofs.Common.{◌≡◌, Bool, true, false, List, refl, ◌⊎◌, inl, inr}
 use Rattle.def_machine.specs.Values.{Name}
 use Rattle.law_reference.specs.Logs.{asked_if}
 use Rattle.law_name.specs.Names.{AllOf, IsAmong}

@@ -12,11 +12,11 @@ use Rattle.def_run.specs.World as world
 use Rattle.def_run.specs.World.{Script, Link, World, link_at, has_name, is_old, read_name, known_after}
 use Rattle.law_reference.specs.Logs as wire
 use Rattle.law_name.specs.Names.{IsAmong, IsKnownIn, names_in}
-use Rattle.law_machine.proofs.KeyLaws.{key_of}
+use Rattle.def_machine.proofs.Keys.{key_of}
 use Rattle.law_name.proofs.SameNames.{has_among, among_has}
 use Rattle.law_name.proofs.Among.{among_or, length_end}
-use Rattle.law_renaming.specs.Maps as maps
-use Rattle.law_renaming.specs.Maps.{incoming}
+use Rattle.def_machine.specs.Maps as maps
+use Rattle.def_machine.specs.Maps.{incoming}
 use Rattle.law_renaming.specs.Renaming.{Wire as Wired, Mine, Carried}
 use Rattle.law_renaming.specs.Stands.{Table, Found, Is, found, prom_found, far_found}
 use Rattle.law_reference.specs.Exports.{object_of, exported_at}
@@ -712,12 +712,12 @@ module _ (script : Script) (w : World) (v u : ℕ) (s : Vat Name) (N : Note Name
             let k1 = (world.read_all ys Names).known in let E1 = wire.with_all v Asked ys Arrived in let k2 = known_after k1 n in let E2 = wire.with_export v Asked n E1 in
             let all = all_alike P b Names Arrived st ys q g (λ x a. f x (inr a)) (starts_on k1 k2 F (after_starts k1 n) later) ahead in let one = all.0 in
             let two = name_alike b k1 E1 all.1 n (f n (inl refl)) later (subst (λ es. Starts es Exports) (sym (export_other v Asked n E1 (apart n host))) ahead) in (
-              record { read = Deliver (record { message = New Carried v; asks = m.asks }) two.0 verb one.0; imports = I E2; known = length k2 },
-              start (Hear (Deliver m n verb ys)) ∙ by_asks m.asks m.message d verb ds (I Arrived) (length Names) ∙ next_is (all_heard u v T ds (I Arrived) (length Names)) (λ zs is ks. next (λ x. told (Deliver (record { message = New Carried v; asks = m.asks }) x verb zs)) (name_heard u v T d is ks)) one.0 (I E1) (length k1) one.1 ∙ next_is (name_heard u v T d (I E1) (length k1)) (λ x. told (Deliver (record { message = New Carried v; asks = m.asks }) x verb one.0)) two.0 (I E2) (length k2) two.1,
+              record { read = Deliver (record { message = New Carried v; asks = m.asks; answer = None }) two.0 verb one.0; imports = I E2; known = length k2 },
+              start (Hear (Deliver m n verb ys)) ∙ by_asks m.asks m.message d verb ds (I Arrived) (length Names) ∙ next_is (all_heard u v T ds (I Arrived) (length Names)) (λ zs is ks. next (λ x. told (Deliver (record { message = New Carried v; asks = m.asks; answer = None }) x verb zs)) (name_heard u v T d is ks)) one.0 (I E1) (length k1) one.1 ∙ next_is (name_heard u v T d (I E1) (length k1)) (λ x. told (Deliver (record { message = New Carried v; asks = m.asks; answer = None }) x verb one.0)) two.0 (I E2) (length k2) two.1,
               three message two.2 one.2,
               ap I (export_other v Asked n E1 (apart n host) ∙ ap (λ es. wire.with_all v Asked ys es) (sym (export_other v Asked n Arrived (apart n host)))),
               refl,
             )
           where
-            three : {k l : Name} {x y : Incoming Found Name} {a c : Passeds (Incoming Found Name)} → k ≡ l → x ≡ y → a ≡ c → Deliver (record { message = New k v; asks = m.asks }) x verb a ≡ Deliver (record { message = New l v; asks = m.asks }) y verb c
+            three : {k l : Name} {x y : Incoming Found Name} {a c : Passeds (Incoming Found Name)} → k ≡ l → x ≡ y → a ≡ c → Deliver (record { message = New k v; asks = m.asks; answer = None }) x verb a ≡ Deliver (record { message = New l v; asks = m.asks; answer = None }) y verb c
             three e f g = rw (e, f, g) refl

@@ -1,8 +1,8 @@
 -- What a vat does with references, and its turns: what comes to be known is its own or asked for.
-use Rattle.std.proofs.Common.{◌≡◌, ℕ, zero, suc, Bool, true, false, List, [], ◌∷◌, ◌++◌, Option, Some, None, refl, sym, ap, inl, inr, length}
+use Rattle.std.proofs.Common.{◌≡◌, ℕ, zero, suc, Bool, true, false, List, [], ◌∷◌, ◌++◌, Option, Some, None, refl, sym, ap, subst, inl, inr, length}
 use Rattle.std.specs.Prelude.{is_some}
-use Rattle.def_machine.specs.Values.{Words, Value, Null, Broken, Ref, Name, Promise, Answer, Sent, Msg, Naming, IsOwn, IsSent, IsAnswer, naming, name_of, mail_of, answer_of, host_of}
-use Rattle.def_machine.specs.State.{Binding, Message, Standing, Settled, Known, Passed, Passeds, Plain, AGift, Many, NoMore, More, Deliver, SettledTo, Put, Posted, Sends, Reacts, Took, Lost, Vat, Done, Gives, Throws, Ejects, Stops, Act, ◌>>=◌, ◌>>◌, and_then, give, look, tell, send_out, come, new_message, new_lone_message, for_some, begun}
+use Rattle.def_machine.specs.Values.{Words, Value, Null, Broken, Ref, Name, Promise, Answer, Sent, Msg, Naming, IsOwn, IsAnswer, naming, name_of, mail_of, answer_of, host_of}
+use Rattle.def_machine.specs.State.{Binding, Message, Standing, Settled, Known, Passed, Passeds, Plain, AGift, Many, NoMore, More, Deliver, SettledTo, Put, Happened, Posted, Sends, Reacts, Took, Vat, Done, Gives, Throws, Ejects, Stops, Act, ◌>>=◌, ◌>>◌, and_then, give, look, tell, send_out, come, new_message, new_lone_message, for_some, begun}
 use Rattle.def_machine.specs.Refs as refs
 use Rattle.def_machine.specs.Refs.{Place, Near, Mine, Away, Gone, answer_host}
 use Rattle.def_machine.specs.Eval as eval
@@ -11,11 +11,11 @@ use Rattle.law_machine.specs.Steps.{IsQuiet}
 use Rattle.law_machine.proofs.RefsQuiet.{quiet_pass_all}
 use Rattle.law_fate.proofs.Leads.{Leads, Ends, IsLedUnder, leads, widen, leads_bind, leads_then, leads_give, leads_look, leads_activation}
 use Rattle.law_fate.proofs.TurnLeads.{good_evaluator, leads_turn_value, leads_closes, leads_opening}
-use Rattle.law_name.specs.Names.{IsAmong, names_in}
+use Rattle.law_name.specs.Names.{IsAmong, IsMessageName, names_in}
 use Rattle.law_name.proofs.Among.{among_last, names_end}
 use Rattle.law_frame.specs.Asked.{Listless, AllListless}
 use Rattle.law_frame.proofs.Results.{Result, pass_listless, pass_all_listless}
-use Rattle.law_frame.proofs.WireAsking.{same_as, Any, Telling, Asking, Steady, Or, Owed, base, here, asking, asking_tell, asking_settled, steady_on, put_on, grown, asked_then}
+use Rattle.law_frame.proofs.WireAsking.{Any, Telling, Asking, Steady, Comes, Or, Owed, base, here, asking, asking_tell, asking_lost, asking_settled, steady_on, told_on, put_on, grown, messaged, messaged_lone, names_on, asked_then}
 
 pub known_last : (ks : List (Known Name)) (n : Name) (h : ℕ) → IsAmong n (names_in (ks ++ begun n h ∷ []))
 unfolding begun
@@ -93,12 +93,18 @@ module _ (v : ℕ) (P : Telling) where
   abbrev Posting : Message Name → ℕ → Name → Passeds Name → Act Name (Unit {0})
   Posting m h n args = tell (Posted h m.id) >> send_out h (Deliver (refs.delivery_of Ours m) n m.verb args)
 
+  posted : (Q : Telling) (m : Message Name) (h : ℕ) (n : Name) (args : Passeds Name) (t : Vat Name) → t.number ≡ v → (is_some m.answer ≡ true → IsAmong (answer_of h m.id) (names_in t.known)) → AllListless args
+      → Steady v Q t (record t { happened = t.happened ++ Posted h m.id ∷ []; outbox = t.outbox ++ record { to = h; note = Deliver (refs.delivery_of Ours m) n m.verb args } ∷ [] })
+  posted Q m h n args t e k z = let put : Put Name = record { to = h; note = Deliver (refs.delivery_of Ours m) n m.verb args } in
+      let one : Vat Name = record t { happened = t.happened ++ Posted h m.id ∷ [] } in let two : Vat Name = record one { outbox = t.outbox ++ put ∷ [] } in
+      steady_on v Q t one two (told_on v Q t one (Posted h m.id) refl refl refl refl refl refl refl refl refl tt e) (put_on v Q one two h (Deliver (refs.delivery_of Ours m) n m.verb args) refl refl refl refl refl refl refl refl refl k z e)
+
   deliver_ends : (m : Message Name) (h : ℕ) (n : Name) (s : Vat Name) (d : Done Name (Passeds Name)) → is_some m.answer ≡ true → IsAmong (answer_of h m.id) (names_in s.known) → IsQuiet d → Result AllListless d → Ends Any (Asking v (Or P (answer_of h m.id))) s d
       → Ends Any (Owed v P (answer_of h m.id)) s (and_then d (λ args. Posting m h n args))
   unfolding and_then ◌>>◌ tell send_out
-  deliver_ends m h n s (Gives args t) asks a q z r = λ e. let b = r e in let put : Put Name = record { to = h; note = Deliver (refs.delivery_of Ours m) n m.verb args } in
+  deliver_ends m h n s (Gives args t) asks a q z r = λ e. let Q : Telling = Or P (answer_of h m.id) in let b = r e in let put : Put Name = record { to = h; note = Deliver (refs.delivery_of Ours m) n m.verb args } in
       let u : Vat Name = record t { happened = t.happened ++ Posted h m.id ∷ []; outbox = t.outbox ++ put ∷ [] } in
-      (steady_on v (Or P (answer_of h m.id)) s t u b (put_on v (Or P (answer_of h m.id)) t u h (Deliver (refs.delivery_of Ours m) n m.verb args) refl refl refl refl refl refl (λ i. b.names (answer_of h m.id) a) z b.number), inr (inl (put, among_last t.outbox put, (asks, refl))))
+      (steady_on v Q s t u b (posted Q m h n args t b.number (λ i. names_on v Q s t b (answer_of h m.id) a) z), inr (inl (put, among_last t.outbox put, (asks, refl))))
   deliver_ends m h n s (Throws p t) asks a q z r = absurd q
   deliver_ends m h n s (Ejects i y t) asks a q z r = absurd q
   deliver_ends m h n s (Stops c t) asks a q z r = tt
@@ -115,7 +121,7 @@ module _ (v : ℕ) (P : Telling) where
   unfolding and_then ◌>>◌ tell send_out
   lone_ends m h n s (Gives args t) lone q z r = λ e. let b = r e in let put : Put Name = record { to = h; note = Deliver (refs.delivery_of Ours m) n m.verb args } in
       let u : Vat Name = record t { happened = t.happened ++ Posted h m.id ∷ []; outbox = t.outbox ++ put ∷ [] } in
-      steady_on v P s t u b (put_on v P t u h (Deliver (refs.delivery_of Ours m) n m.verb args) refl refl refl refl refl refl (λ i. absurd (no_answer (is_some m.answer) lone i)) z b.number)
+      steady_on v P s t u b (posted P m h n args t b.number (λ i. absurd (no_answer (is_some m.answer) lone i)) z)
   lone_ends m h n s (Throws p t) lone q z r = absurd q
   lone_ends m h n s (Ejects i y t) lone q z r = absurd q
   lone_ends m h n s (Stops c t) lone q z r = tt
@@ -125,18 +131,18 @@ module _ (v : ℕ) (P : Telling) where
   asking_lone m h n lone = record { after = λ s. lone_ends m h n s (refs.pass_all Ours h m.args s) lone ((quiet_pass_all Ours h m.args).after s) ((pass_all_listless Ours h m.args).after s) ((asking_pass_all v P h m.args).after s) }
 
   came : (s : Vat Name) (n : Name) (h : ℕ) → Asking v (Or P n) s (record s { known = s.known ++ begun n h ∷ [] })
-  came s n h = grown v (Or P n) s (record s { known = s.known ++ begun n h ∷ [] }) n refl (known_end s.known n h) refl refl refl refl (inr (inr refl))
+  came s n h = grown v (Or P n) s (record s { known = s.known ++ begun n h ∷ [] }) n refl (known_end s.known n h) refl refl refl refl refl refl refl (inr (inr (inr (inr refl))))
 
-  goes_asking : (m : Message Name) (h : ℕ) (n p : Name) → is_some m.answer ≡ true → Leads Any (Asking v P) (come Ours (IsAnswer h m.id) h >>= (λ a. refs.deliver Ours m h n >> refs.wait_on Ours p a))
+  goes_asking : (m : Message Name) (h : ℕ) (n p : Name) → Leads Any (Asking v P) (come Ours (IsAnswer h m.id) h >>= (λ a. refs.deliver Ours (record m { answer = Some a }) h n >> refs.wait_on Ours p a))
   unfolding ◌>>=◌ ◌>>◌ and_then come naming name_of
-  goes_asking m h n p asks = record {
+  goes_asking m h n p = record {
     after = λ s. let a : Name = answer_of h m.id in let t : Vat Name = record s { known = s.known ++ begun a h ∷ [] } in
-        asked_then v P a s t (came s a h) (refs.deliver Ours m h n t) (delivered m h n t asks (known_last s.known a h)) (λ _. refs.wait_on Ours p a) (λ _. asking_wait_on v (Or P a) p a);
+        asked_then v P a s t (came s a h) (refs.deliver Ours (record m { answer = Some a }) h n t) (delivered (record m { answer = Some a }) h n t refl (known_last s.known a h)) (λ _. refs.wait_on Ours p a) (λ _. asking_wait_on v (Or P a) p a);
   }
 
-  on_answer : (m : Message Name) (h : ℕ) (n : Name) (o : Option Name) → m.answer ≡ o → Leads Any (Asking v P) (for_some o (λ p. come Ours (IsAnswer h m.id) h >>= (λ a. refs.deliver Ours m h n >> refs.wait_on Ours p a)) (refs.deliver Ours m h n))
+  on_answer : (m : Message Name) (h : ℕ) (n : Name) (o : Option Name) → m.answer ≡ o → Leads Any (Asking v P) (for_some o (λ p. come Ours (IsAnswer h m.id) h >>= (λ a. refs.deliver Ours (record m { answer = Some a }) h n >> refs.wait_on Ours p a)) (refs.deliver Ours m h n))
   unfolding for_some
-  on_answer m h n (Some p) e = goes_asking m h n p (ap is_some e)
+  on_answer m h n (Some p) e = goes_asking m h n p
   on_answer m h n None e = asking_lone m h n (ap is_some e)
 
   pub asking_pass_on : (m : Message Name) (h : ℕ) (n : Name) → Leads Any (Asking v P) (refs.pass_on Ours m h n)
@@ -160,7 +166,7 @@ module _ (v : ℕ) (P : Telling) where
   asking_send_to settle good m y Near = search (leads, asking) depth 14
   asking_send_to settle good m y (Mine n) = search (leads, asking) depth 14
   asking_send_to settle good m y (Away h n o) = asking_pass_on v P m h n
-  asking_send_to settle good m y (Gone p) = leads_then Any Leading (base v P) (asking_tell v P (Lost m.id)) (breaks m.answer p)
+  asking_send_to settle good m y (Gone p) = leads_then Any Leading (base v P) (asking_lost v P m.id) (breaks m.answer p)
     where
       breaks : (o : Option Name) (p : Words) → Leads Any Leading (for_some o (λ a. settle a (Broken p)) (give tt))
       breaks (Some a) p = good a (Broken p)
@@ -213,10 +219,16 @@ module _ (v : ℕ) (P : Telling) where
 
   -- ---- new messages
 
-  -- an answer of the vat's own
-  own_answer : (s t : Vat Name) (m : Msg) → s.number ≡ v → t.number ≡ s.number → names_in t.known ≡ names_in s.known ++ Answer s.number m ∷ [] → t.gifts ≡ s.gifts → t.outbox ≡ s.outbox → t.noticed ≡ s.noticed → t.drawn ≡ s.drawn → Leading s t
-  unfolding host_of
-  own_answer s t m i a b c d e z = grown v P s t (Answer s.number m) a b c d e z (inl i)
+  -- a new answer is that of its message, and is known
+  new_answer : (h : ℕ) (m : Msg) (ns : List Name) (n : Name) → Some (Answer h m) ≡ Some n → (n ≡ answer_of (host_of n) (Sent m)) × IsAmong n (ns ++ Answer h m ∷ [])
+  unfolding answer_of host_of
+  new_answer h m ns n e = let f : Answer h m ≡ n = cc in subst (λ (x : Name). (x ≡ answer_of (host_of x) (Sent m)) × IsAmong x (ns ++ Answer h m ∷ [])) f (refl, among_last ns (Answer h m))
+
+  new_fits : (h : ℕ) (m : Msg) (ns ms : List Name) → IsMessageName (Sent m) × IsAmong (Sent m) (ms ++ Sent m ∷ []) × ((n : Name) → Some (Answer h m) ≡ Some n → (n ≡ answer_of (host_of n) (Sent m)) × IsAmong n (ns ++ Answer h m ∷ []))
+  new_fits h m ns ms = (tt, among_last ms (Sent m), new_answer h m ns)
+
+  no_name : (n : Name) → None ≡ Some n → ⊥
+  no_name n e = cc
 
   abbrev SendNew : ℕ → Value Name → Value Name → Words → List (Value Name) → Place Name → ℕ → Act Name (Value Name)
   SendNew act x y verb args p u = new_message Mines (answer_host Mines u p) >>= (λ new. tell (Sends act (record { id = new.0; target = x; verb = verb; args = args; answer = Some new.1 }))
@@ -227,16 +239,27 @@ module _ (v : ℕ) (P : Telling) where
   Numbered s h act x verb args = let m : Msg = record { sender = v; number = s.messages } in
       record s { messages = suc s.messages; mails = s.mails ++ Sent m ∷ []; known = s.known ++ begun (Answer h m) h ∷ []; happened = s.happened ++ Sends act (record { id = Sent m; target = x; verb = verb; args = args; answer = Some (Answer h m) }) ∷ [] }
 
+  -- the answer of a message of the vat's own is known in it
+  numbered : (Q : Telling) (s : Vat Name) (h act : ℕ) (x : Value Name) (verb : Words) (args : List (Value Name)) → Comes v Q s (Numbered s h act x verb args) (Answer h (record { sender = v; number = s.messages })) → Asking v Q s (Numbered s h act x verb args)
+  numbered Q s h act x verb args k = let m : Msg = record { sender = v; number = s.messages } in let line : Happened Name = Sends act (record { id = Sent m; target = x; verb = verb; args = args; answer = Some (Answer h m) }) in
+      messaged v Q s (Numbered s h act x verb args) (Answer h m) line refl (known_end s.known (Answer h m) h) refl refl refl refl refl refl refl (new_fits h m (names_in s.known) s.mails) k
+
+  -- where the vat is its host
+  own_numbered : (s : Vat Name) (act : ℕ) (x : Value Name) (verb : Words) (args : List (Value Name)) → s.number ≡ v → Comes v P s (Numbered s s.number act x verb args) (Answer s.number (record { sender = v; number = s.messages }))
+  unfolding host_of
+  own_numbered s act x verb args e = let m : Msg = record { sender = v; number = s.messages } in let line : Happened Name = Sends act (record { id = Sent m; target = x; verb = verb; args = args; answer = Some (Answer s.number m) }) in
+      inl (e, inr (inl (line, among_last s.happened line, refl)))
+
   sent_own : (act : ℕ) (x y : Value Name) (verb : Words) (args : List (Value Name)) (p : Place Name) (s : Vat Name) → s.number ≡ v → let m : Msg = record { sender = v; number = s.messages } in
       Ends Any Leading s ((refs.send_to Mines (refs.settle Mines) (record { id = Sent m; target = y; verb = verb; args = args; answer = Some (Answer s.number m) }) y p >> give (Ref (Answer s.number m))) (Numbered s s.number act x verb args))
   sent_own act x y verb args p s e = let m : Msg = record { sender = v; number = s.messages } in let t : Vat Name = Numbered s s.number act x verb args in
-      widen Any Leading (base v P) {s = s} {t = t} (own_answer s t m e refl (known_end s.known (Answer s.number m) s.number) refl refl refl refl) ((refs.send_to Mines (refs.settle Mines) (record { id = Sent m; target = y; verb = verb; args = args; answer = Some (Answer s.number m) }) y p >> give (Ref (Answer s.number m))) t) ((leads_then Any Leading (base v P) (asking_send_to (refs.settle Mines) asking_settle _ y p) (leads_give Any Leading (base v P) _)).after t)
+      widen Any Leading (base v P) {s = s} {t = t} (numbered P s s.number act x verb args (own_numbered s act x verb args e)) ((refs.send_to Mines (refs.settle Mines) (record { id = Sent m; target = y; verb = verb; args = args; answer = Some (Answer s.number m) }) y p >> give (Ref (Answer s.number m))) t) ((leads_then Any Leading (base v P) (asking_send_to (refs.settle Mines) asking_settle _ y p) (leads_give Any Leading (base v P) _)).after t)
 
   sent : (act : ℕ) (x y : Value Name) (verb : Words) (args : List (Value Name)) (p : Place Name) (s : Vat Name) → s.number ≡ v → Ends Any Leading s (SendNew act x y verb args p s.number s)
   unfolding ◌>>=◌ ◌>>◌ and_then tell new_message naming name_of mail_of answer_of answer_host refs.send_first
   sent act x y verb args (Away h n o) s e = let a : Name = Answer h (record { sender = v; number = s.messages }) in let t : Vat Name = Numbered s h act x verb args in
       let m : Message Name = record { id = Sent (record { sender = v; number = s.messages }); target = y; verb = verb; args = args; answer = Some a } in
-      asked_then v P a s t (grown v (Or P a) s t a refl (known_end s.known a h) refl refl refl refl (inr (inr refl))) (refs.deliver Mines m h n t) (delivered v P m h n t refl (known_last s.known a h)) (λ _. give (Ref a)) (λ _. leads_give Any (Asking v (Or P a)) (base v (Or P a)) (Ref a))
+      asked_then v P a s t (numbered (Or P a) s h act x verb args (inr (inr (inr (inr refl))))) (refs.deliver Mines m h n t) (delivered v P m h n t refl (known_last s.known a h)) (λ _. give (Ref a)) (λ _. leads_give Any (Asking v (Or P a)) (base v (Or P a)) (Ref a))
   sent act x y verb args Near s e = sent_own act x y verb args Near s e
   sent act x y verb args (Mine n) s e = sent_own act x y verb args (Mine n) s e
   sent act x y verb args (Gone p) s e = sent_own act x y verb args (Gone p) s e
@@ -257,13 +280,15 @@ module _ (v : ℕ) (P : Telling) where
   first_lone m y (Mine n) e = asking_send_to (refs.settle Mines) asking_settle m y (Mine n)
   first_lone m y (Gone t) e = asking_send_to (refs.settle Mines) asking_settle m y (Gone t)
 
-  lone_message : Leads Any Leading (new_lone_message Mines)
-  unfolding new_lone_message
-  lone_message = record { after = λ s. same_as v P s (record s { messages = suc s.messages; mails = s.mails ++ Mines.mailed (IsSent s.messages) (length s.mails) ∷ [] }) refl refl refl refl refl refl }
+  sent_lone : (act : ℕ) (x y : Value Name) (verb : Words) (args : List (Value Name)) (p : Place Name) (s : Vat Name) → Ends Any Leading s (SendLone act x y verb args p s)
+  unfolding ◌>>=◌ ◌>>◌ and_then tell new_lone_message naming mail_of
+  sent_lone act x y verb args p s = let id : Name = Sent (record { sender = v; number = s.messages }) in let line : Happened Name = Sends act (record { id = id; target = x; verb = verb; args = args; answer = None }) in
+      let t : Vat Name = record s { messages = suc s.messages; mails = s.mails ++ id ∷ []; happened = s.happened ++ line ∷ [] } in let m : Message Name = record { id = id; target = y; verb = verb; args = args; answer = None } in
+      widen Any Leading (base v P) {s = s} {t = t} (messaged_lone v P s t line refl refl refl refl refl refl refl refl refl (tt, among_last s.mails id, λ n e. absurd (no_name n e))) ((refs.send_first Mines m y p >> give Null) t)
+      ((leads_then Any Leading (base v P) (first_lone m y p refl) (leads_give Any Leading (base v P) Null)).after t)
 
   asking_send_lone : (act : ℕ) (x y : Value Name) (verb : Words) (args : List (Value Name)) (p : Place Name) → Leads Any Leading (SendLone act x y verb args p)
-  asking_send_lone act x y verb args p = leads_bind Any Leading (base v P) lone_message (λ id. leads_then Any Leading (base v P) (asking_tell v P (Sends act (record { id = id; target = x; verb = verb; args = args; answer = None })))
-      (leads_then Any Leading (base v P) (first_lone (record { id = id; target = y; verb = verb; args = args; answer = None }) y p refl) (leads_give Any Leading (base v P) Null)))
+  asking_send_lone act x y verb args p = record { after = sent_lone act x y verb args p }
 
   asking_send_only : (act : ℕ) (x : Value Name) (verb : Words) (args : List (Value Name)) → Leads Any Leading (refs.send_only Mines act x verb args)
   unfolding refs.send_only
@@ -275,33 +300,36 @@ module _ (v : ℕ) (P : Telling) where
   asking_react_at m (Away h n false) = search (asking)
   asking_react_at m _ = search (asking)
 
-  abbrev Placed : ℕ → Value Name → Value Name → Value Name → Name → Name → Act Name (Value Name)
-  Placed act x o near id a = tell (Reacts act x o (refs.reaction Mines id near x a)) >> (look (λ t. refs.place Mines t (refs.follow Mines t x)) >>= (λ p. refs.react_at Mines (refs.reaction Mines id near x a) p >> give (Ref a)))
+  -- what follows once the line is told
+  abbrev Placed : Value Name → Value Name → Name → Name → Act Name (Value Name)
+  Placed x near id a = look (λ t. refs.place Mines t (refs.follow Mines t x)) >>= (λ p. refs.react_at Mines (refs.reaction Mines id near x a) p >> give (Ref a))
 
-  asking_placed : (act : ℕ) (x o near : Value Name) (id a : Name) → Leads Any Leading (Placed act x o near id a)
-  asking_placed act x o near id a = leads_then Any Leading (base v P) (asking_tell v P (Reacts act x o (refs.reaction Mines id near x a)))
-      (leads_bind Any Leading (base v P) (leads_look Any Leading (base v P) (λ t. refs.place Mines t (refs.follow Mines t x))) (λ p. leads_then Any Leading (base v P) (asking_react_at (refs.reaction Mines id near x a) p) (leads_give Any Leading (base v P) (Ref a))))
+  abbrev Reacting : ℕ → Value Name → Value Name → Value Name → Name → Name → Act Name (Value Name)
+  Reacting act x o near id a = tell (Reacts act x o (refs.reaction Mines id near x a)) >> Placed x near id a
 
-  reacted : (act : ℕ) (x o near : Value Name) (s : Vat Name) → s.number ≡ v → Ends Any Leading s ((new_message Mines s.number >>= (λ new. Placed act x o near new.0 new.1)) s)
-  unfolding ◌>>=◌ and_then new_message naming name_of mail_of answer_of
-  reacted act x o near s e = let m : Msg = record { sender = v; number = s.messages } in let a : Name = Answer s.number m in
-      let t : Vat Name = record s { messages = suc s.messages; mails = s.mails ++ Sent m ∷ []; known = s.known ++ begun a s.number ∷ [] } in
-      widen Any Leading (base v P) {s = s} {t = t} (own_answer s t m e refl (known_end s.known a s.number) refl refl refl refl) (Placed act x o near (Sent m) a t) ((asking_placed act x o near (Sent m) a).after t)
+  asking_placed : (x near : Value Name) (id a : Name) → Leads Any Leading (Placed x near id a)
+  asking_placed x near id a = leads_bind Any Leading (base v P) (leads_look Any Leading (base v P) (λ t. refs.place Mines t (refs.follow Mines t x))) (λ p. leads_then Any Leading (base v P) (asking_react_at (refs.reaction Mines id near x a) p) (leads_give Any Leading (base v P) (Ref a)))
+
+  reacted : (act : ℕ) (x o near : Value Name) (s : Vat Name) → s.number ≡ v → Ends Any Leading s ((new_message Mines s.number >>= (λ new. Reacting act x o near new.0 new.1)) s)
+  unfolding ◌>>=◌ ◌>>◌ and_then tell new_message naming name_of mail_of answer_of host_of refs.reaction
+  reacted act x o near s e = let m : Msg = record { sender = v; number = s.messages } in let a : Name = Answer s.number m in let line : Happened Name = Reacts act x o (refs.reaction Mines (Sent m) near x a) in
+      let t : Vat Name = record s { messages = suc s.messages; mails = s.mails ++ Sent m ∷ []; known = s.known ++ begun a s.number ∷ []; happened = s.happened ++ line ∷ [] } in
+      widen Any Leading (base v P) {s = s} {t = t} (messaged v P s t a line refl (known_end s.known a s.number) refl refl refl refl refl refl refl (new_fits s.number m (names_in s.known) s.mails) (inl (e, inr (inl (line, among_last s.happened line, refl))))) (Placed x near (Sent m) a t) ((asking_placed x near (Sent m) a).after t)
 
   asking_react : (act : ℕ) (x o near : Value Name) → Leads Any Leading (refs.react Mines act x o near)
   unfolding refs.react ◌>>=◌ look and_then
-  asking_react act x o near = record { after = λ s. here v P s ((new_message Mines s.number >>= (λ new. Placed act x o near new.0 new.1)) s) (λ e. reacted act x o near s e) }
+  asking_react act x o near = record { after = λ s. here v P s ((new_message Mines s.number >>= (λ new. Reacting act x o near new.0 new.1)) s) (λ e. reacted act x o near s e) }
 
   promised : (s : Vat Name) → Leading s (record s { promises = suc s.promises; known = s.known ++ begun (Mines.made (IsOwn s.promises) (length s.known)) s.number ∷ [] })
   unfolding naming name_of host_of
-  promised s = grown v P s (record s { promises = suc s.promises; known = s.known ++ begun (Promise v s.promises) s.number ∷ [] }) (Promise v s.promises) refl (known_end s.known (Promise v s.promises) s.number) refl refl refl refl (inl refl)
+  promised s = grown v P s (record s { promises = suc s.promises; known = s.known ++ begun (Promise v s.promises) s.number ∷ [] }) (Promise v s.promises) refl (known_end s.known (Promise v s.promises) s.number) refl refl refl refl refl refl refl (inl (refl, inl (s.promises, refl)))
 
   under : IsLedUnder Mines Any Leading
   under = record { promised = promised; breaks = λ p t. asking_settle p (Broken t); resolves = asking_resolve; sends = asking_send; sends_only = asking_send_only; reacts = asking_react }
 
   pub asking_taking : (tree : List Node) (depth : ℕ) (m : Message Name) → Leads Any Leading (eval.taking Mines tree depth m)
   unfolding eval.taking
-  asking_taking tree depth m = leads_bind Any Leading (base v P) (leads_activation Any Leading (base v P)) (λ a. leads_then Any Leading (base v P) (asking_tell v P (Took a m))
+  asking_taking tree depth m = leads_bind Any Leading (base v P) (leads_activation Any Leading (base v P)) (λ a. leads_then Any Leading (base v P) (asking_tell v P (Took a m) tt)
       (leads_closes Mines Any Leading (base v P) under tree a m.answer _ (leads_turn_value Mines Any Leading (base v P) under tree (eval.evaluator Mines tree depth) (good_evaluator Mines Any Leading (base v P) under tree depth) a m.target m.verb m.args)))
 
   pub asking_openings : (tree : List Node) (depth : ℕ) (root : Name) (given : List (Binding Name)) → Leads Any Leading (eval.opening Mines tree depth root given)

@@ -24,7 +24,7 @@ use Rattle.law_frame.proofs.Chain.{entries_chain}
 
 -- ---- a vat stays one
 
-abbrev IsThere : World → ℕ → Type 0
+abbrev pub IsThere : World → ℕ → Type 0
 IsThere y u = (t : Vat Name) × (slice_get y.vats u ≡ Some t)
 
 same_there : (x y : World) (u : ℕ) (s : Vat Name) → slice_get x.vats u ≡ Some s → y.vats ≡ x.vats → IsThere y u
@@ -37,7 +37,7 @@ put_there x y u v s q t i j e = either (eq_dec v u)
     either (inl k) = (t, ap (λ us. slice_get us u) e ∙ subst (λ z. slice_get (put_at v t x.vats) z ≡ Some t) k (get_put x.vats v q t j))
     either (inr o) = (s, stay_put v t x y e u o ∙ i)
 
-still_there : (script : Script) (x y : World) (u : ℕ) (s : Vat Name) → slice_get x.vats u ≡ Some s → Moved script x y → IsThere y u
+pub still_there : (script : Script) (x y : World) (u : ℕ) (s : Vat Name) → slice_get x.vats u ≡ Some s → Moved script x y → IsThere y u
 still_there script x y u s i (Still v l d) = same_there x y u s i v
 still_there script x y u s i (Severs c e v l d) = same_there x y u s i v
 still_there script x y u s i (Drops c v n ns l at notes none vats links drawn) = same_there x y u s i vats

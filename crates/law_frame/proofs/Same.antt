@@ -3,7 +3,7 @@ use Rattle.std.proofs.Common.{◌≡◌, ℕ, List, [], ◌∷◌, Option, Some,
 use Rattle.def_machine.specs.Values.{Value, Null, Flag, Number, Letter, Text, Prim, Broken, Items, Ref}
 use Rattle.def_machine.specs.State.{Bound, Fixed, Slot, Binding, Cell, Freedom, IsSafe, IsItself, IsFinal, IsVar, FreeName, View, Thing, Made, Ejector, Audition, Resolver, Message, Standing, Unsettled, WaitsOn, Viewed, Settled, Known, Put, GiftEntry, Vat, WhereSome}
 use Rattle.law_name.specs.Names.{Bit, Named, Mail, Entered, Owns, AllOf, NameOk, ValueOk, ValuesOk, MessageOk, StandingOk, EntryOk, KnownOk, CellOk, FreedomOk, ViewOk, BoundOk, NounOk, ThingOk, GiftOk, Parts}
-use Rattle.law_renaming.specs.Maps as maps
+use Rattle.def_machine.specs.Maps as maps
 
 pub all_same : {A B : Type 0} (h l : A → B) (Q R : A → Type 0) → ((a : A) → Q a → R a → h a ≡ l a) → (xs : List A) → AllOf Q xs → AllOf R xs → map h xs ≡ map l xs
 all_same h l Q R e [] i j = refl

@@ -392,15 +392,15 @@ module _ (v u : ℕ) where
     abbrev Hears : Operation → Hearing Name (Note (Incoming Name Name))
     Hears o = read.note_heard is_object u v F d o
 
-    message_seen : (a : Bool) (m n : Name) (verb : List ℕ) (ys : Passeds Name) (s : Stage Name) → F.message ≡ m → IsNumbered v u t n → AllFit v u t ys → Clean t.answers (read.exported_all (sight v u) t.answers ys (read.exported_as (sight v u) t.answers n s.imports)) E
-        → IsSeen (read.message_heard is_object u v F d a (read.described (sight v u) c n) verb (read.described_all (sight v u) c ys) s) (seen.seen_note v u t.answers (Deliver (record { message = m; asks = a }) n verb ys) s) (read.exported_all (sight v u) t.answers ys (read.exported_as (sight v u) t.answers n s.imports))
+    message_seen : (a : Bool) (m : Name) (o : Option Name) (n : Name) (verb : List ℕ) (ys : Passeds Name) (s : Stage Name) → F.message ≡ m → IsNumbered v u t n → AllFit v u t ys → Clean t.answers (read.exported_all (sight v u) t.answers ys (read.exported_as (sight v u) t.answers n s.imports)) E
+        → IsSeen (read.message_heard is_object u v F d a (read.described (sight v u) c n) verb (read.described_all (sight v u) c ys) s) (seen.seen_note v u t.answers (Deliver (record { message = m; asks = a; answer = o }) n verb ys) s) (read.exported_all (sight v u) t.answers ys (read.exported_as (sight v u) t.answers n s.imports))
     unfolding read.message_heard read.told seen.seen_note
-    message_seen a m n verb ys s e f g k = let is = read.exported_as (sight v u) t.answers n s.imports in let h = See n s in
+    message_seen a m o n verb ys s e f g k = let is = read.exported_as (sight v u) t.answers n s.imports in let h = See n s in
         let one = name_seen n s f (clean_trans t.answers is (read.exported_all (sight v u) t.answers ys is) E (all_clean t.answers ys is) k) in
         let rest = all_seen ys h.after g (subst (λ ms. Clean t.answers (read.exported_all (sight v u) t.answers ys ms) E) (sym one.1) k) in let zs = seen.seen_all v u t.answers ys h.after in (
-          next_seen (λ x r. read.next (λ ws. read.told (Deliver (record { message = New F.message v; asks = a }) x verb ws)) (Passings (read.described_all (sight v u) c ys) r)) (Reads (read.described (sight v u) c n) s) h one.0
-              ∙ next_seen (λ ws. read.told (Deliver (record { message = New F.message v; asks = a }) h.read verb ws)) (Passings (read.described_all (sight v u) c ys) h.after) zs rest.0
-              ∙ ap (λ z. Some (found (Deliver (record { message = New z v; asks = a }) h.read verb zs.read) zs.after)) e,
+          next_seen (λ x r. read.next (λ ws. read.told (Deliver (record { message = New F.message v; asks = a; answer = None }) x verb ws)) (Passings (read.described_all (sight v u) c ys) r)) (Reads (read.described (sight v u) c n) s) h one.0
+              ∙ next_seen (λ ws. read.told (Deliver (record { message = New F.message v; asks = a; answer = None }) h.read verb ws)) (Passings (read.described_all (sight v u) c ys) h.after) zs rest.0
+              ∙ ap (λ z. Some (found (Deliver (record { message = New z v; asks = a; answer = None }) h.read verb zs.read) zs.after)) e,
           rest.1 ∙ ap (λ ms. read.exported_all (sight v u) t.answers ys ms) one.1,
         )
 
@@ -446,7 +446,7 @@ module _ (v u : ℕ) where
     note_seen : (n : Note Name) → Brings v u t F n → NoteFits v u t n → Result n
     unfolding read.operation read.note_heard read.exported_note read.outcome_heard read.told seen.seen_note
     note_seen (Deliver x n verb ys) b f = let N : Note Name = Deliver x n verb ys in
-        let r = message_seen t d N F arrived exports questions b x.asks x.message n verb ys s (b.message x n verb ys refl) f.0 f.1 (from N (λ is. read.exported_all (sight v u) t.answers ys (read.exported_as (sight v u) t.answers n is)) refl) in
+        let r = message_seen t d N F arrived exports questions b x.asks x.message x.answer n verb ys s (b.message x n verb ys refl) f.0 f.1 (from N (λ is. read.exported_all (sight v u) t.answers ys (read.exported_as (sight v u) t.answers n is)) refl) in
         (delivered t d N F arrived exports questions b x.asks x.message n verb ys s ∙ r.0, r.1 ∙ ap (λ is. read.exported_all (sight v u) t.answers ys (read.exported_as (sight v u) t.answers n is)) same)
     note_seen (Open i n) b f = let N : Note Name = Open i n in let r = about t d N F arrived exports questions b n s (λ x. Open i x) f.1 (from N (λ is. read.exported_as (sight v u) t.answers n is) refl) in
         (ap (λ j. read.next (λ x. read.told (Open j x)) (read.name_heard is_object u v F d (read.described (sight v u) (read.exporting (sight v u) N t) n) s)) f.0 ∙ r.0, r.1 ∙ ap (λ is. read.exported_as (sight v u) t.answers n is) same)

@@ -217,7 +217,7 @@ module _ (a v : ℕ) (n : Name) where
   pub told_either : (x : Note Name) → IsEventual n → IsBetween a v x → Carries a v x → IsAmong n (told_in x) → OfEither
   unfolding told_in
   told_either (Deliver m t verb ys) o h k (inl e) = inr (ap host_of e ∙ h)
-  told_either (Deliver m t verb ys) o h k (inr b) = all_either ys k b
+  told_either (Deliver m t verb ys) o h k (inr b) = all_either ys k.0 b
   told_either (Open i t) o h k (inl e) = inr (ap host_of e ∙ h)
   told_either (Open i t) o h k (inr b) = absurd b
   told_either (Ask p i t) o h k b = absurd b

@@ -34,7 +34,7 @@ more_either : (ks : List Name) (n m : Name) (b : Bool) → IsAmong m ks → IsAm
 more_either ks n m true a = a
 more_either ks n m false a = among_more m ks n a
 
-after_more : (ks : List Name) (n m : Name) → IsAmong m ks → IsAmong m (known_after ks n)
+pub after_more : (ks : List Name) (n m : Name) → IsAmong m ks → IsAmong m (known_after ks n)
 unfolding known_after
 after_more ks n m a = more_either ks n m (is_old ks n) a
 
@@ -70,7 +70,7 @@ mutual
   passed_more ks (AGift h i) m a = among_more m ks (Gift h i) a
   passed_more ks (Many ys) m a = all_more ks ys m a
 
-  all_more : (ks : List Name) (ys : Passeds Name) (m : Name) → IsAmong m ks → IsAmong m (read_all ys ks).known
+  pub all_more : (ks : List Name) (ys : Passeds Name) (m : Name) → IsAmong m ks → IsAmong m (read_all ys ks).known
   all_more ks NoMore m a = a
   all_more ks (More y ys) m a = all_more (read_passed y ks).known ys m (passed_more ks y m a)
 

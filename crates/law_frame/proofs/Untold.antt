@@ -65,11 +65,11 @@ UntoldIn w = (i : ℕ) → 1 ≤ gifts_under_way i w.links → (a b : ℕ) → A
 
 module _ (script : Script) where
   -- what is known of the worlds of a run
-  record Knows (w : World) : Type 0 where
-    past : Past script w
-    hidden : HiddenIn w
-    wire : Wire script w
-    none : NoneLogged w
+  pub record Knows (w : World) : Type 0 where
+    pub past : Past script w
+    pub hidden : HiddenIn w
+    pub wire : Wire script w
+    pub none : NoneLogged w
 
   -- ---- a word that is still to be drawn
 
@@ -100,7 +100,7 @@ module _ (script : Script) where
       either (inr l) = inl (early i d l)
 
   -- no gift of a draw that was made is put
-  none_out : (i : ℕ) (a b : List ℕ) (x : ℕ) → WasDrawn a i → x + drawn_of i a ≤ drawn_of i b → x ≤ 0
+  pub none_out : (i : ℕ) (a b : List ℕ) (x : ℕ) → WasDrawn a i → x + drawn_of i a ≤ drawn_of i b → x ≤ 0
   none_out i a b x l h = either (some_or (drawn_of i a))
     where
       either : (drawn_of i a ≡ 0) ⊎ (1 ≤ drawn_of i a) → x ≤ 0
@@ -129,7 +129,7 @@ module _ (script : Script) where
     step_untold : (a b : ℕ) → AtLink a b (Untold i) y.links
     step_untold a b = subst (λ ls. AtLink a b (Untold i) ls) (sym links) (put_untold i a b v t taken shunned (up a b (before a b)))
 
-  provides : (w : World) (past : Past script w) (a v : ℕ) (n : Note Name) (ns : List (Note Name)) (l : Link) → link_at a v w.links ≡ Some l → l.notes ≡ n ∷ ns → Provides past.2.0 w.drawn a v n
+  pub provides : (w : World) (past : Past script w) (a v : ℕ) (n : Note Name) (ns : List (Note Name)) (l : Link) → link_at a v w.links ≡ Some l → l.notes ≡ n ∷ ns → Provides past.2.0 w.drawn a v n
   provides w past a v n ns l at notes = let fits = past.2 in let o = fits.1 in head (found_tells fits.0 w.drawn a v l w.links o.links at)
     where
       head : Each (Provides past.2.0 w.drawn a v) l.notes → Provides past.2.0 w.drawn a v n
@@ -153,13 +153,13 @@ module _ (script : Script) where
   begins_untold i k = let none = links_from_none (λ (j : Link). j.notes) i (λ v w p. refl) script.vats zero script.vats in absurd (omega arith)
 
   module _ (once : KnowsOnce script) where
-    opened_knows : (ps rest : List Program) (w : World) → script.vats ≡ ps ++ rest → world.open_from script zero ps (world.begins script) ≡ Going w → Knows w
+    pub opened_knows : (ps rest : List Program) (w : World) → script.vats ≡ ps ++ rest → world.open_from script zero ps (world.begins script) ≡ Going w → Knows w
     opened_knows ps rest w i e = record { past = opened_past script once ps rest w i e; hidden = opened_hidden script once ps rest w i e; wire = (wires.opened_both script once ps rest w i e).1; none = opened_none script once ps rest w i e }
 
-    stepped_knows : (w x : World) (es : List Entry) (k : ℕ) → world.open_from script zero script.vats (world.begins script) ≡ Going w → world.steps_from script es k w ≡ Going x → Knows x
+    pub stepped_knows : (w x : World) (es : List Entry) (k : ℕ) → world.open_from script zero script.vats (world.begins script) ≡ Going w → world.steps_from script es k w ≡ Going x → Knows x
     stepped_knows w x es k e i = record { past = stepped_past script once w x es k e i; hidden = stepped_hidden script once w x es k e i; wire = (wires.stepped_both script once w x es k e i).1; none = stepped_none script once w x es k e i }
 
-    knows_stands : (w : World) → Knows w → Stands script w
+    pub knows_stands : (w : World) → Knows w → Stands script w
     knows_stands w k = let past = k.past in stands_of script w past.0
 
     pub opened_untold : (ps rest : List Program) (w : World) → script.vats ≡ ps ++ rest → world.open_from script zero ps (world.begins script) ≡ Going w → UntoldIn w

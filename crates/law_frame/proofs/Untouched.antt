@@ -48,7 +48,7 @@ module _ (h : ℕ) (z : Name) where
   note_free (Elsewhere t c) f g = λ o e. e
   note_free (Shorten t c i) f g = λ o e. e
 
-  puts_free : (ps : List (Put Name)) → ((m : Msg) → z ≡ Answer h m → PutsNot h z ps) → ((i : ℕ) → z ≡ Gift h i → AllOf (λ (p : Put Name). AsksNoGift i p.note) ps) → PutsNot h z ps
+  pub puts_free : (ps : List (Put Name)) → ((m : Msg) → z ≡ Answer h m → PutsNot h z ps) → ((i : ℕ) → z ≡ Gift h i → AllOf (λ (p : Put Name). AsksNoGift i p.note) ps) → PutsNot h z ps
   puts_free [] f g = tt
   puts_free (p ∷ ps) f g = ((λ k. note_free p.note (λ m e. (f m e).0 k) (λ i e. (g i e).0)), puts_free ps (λ m e. (f m e).1) (λ i e. (g i e).1))
 

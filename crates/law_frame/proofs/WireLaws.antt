@@ -7,7 +7,7 @@ use Rattle.def_run.specs.World.{Script, Link, World, link_at}
 use Rattle.law_reference.specs.Logs as wire
 use Rattle.law_name.specs.Names.{AllOf, IsAmong, IsKnownIn, names_in}
 use Rattle.law_name.proofs.Facts.{all_map}
-use Rattle.law_frame.proofs.Questions.{asked_first, asked_rest, all_asked}
+use Rattle.law_frame.proofs.Questions.{all_asked}
 use Rattle.law_frame.specs.Asked.{AskFits, HoldsNoList}
 use Rattle.law_frame.specs.Tables.{arrived}
 use Rattle.law_frame.specs.Known.{KnowsEach, KnowsEachPromise, WhatAVatAskedForIsKnown, WhatAVatWasAskedForIsKnown, WhatAVatExportedIsKnown, WhatArrivedIsKnown, NotesHoldNoLists, DrawsAreInOrder, QuestionsAreOfTheirHosts}

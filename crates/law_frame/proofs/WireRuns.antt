@@ -20,8 +20,9 @@ use Rattle.law_reference.proofs.RunLift.{IsAllowed, all_allowed}
 use Rattle.law_reference.proofs.NotesLift as lift
 use Rattle.law_reference.proofs.NotesRuns.{Its, OfNotes, Ever, its_keep, links_of, opened_all}
 use Rattle.law_frame.specs.Asked.{AsksOf, told_in}
+use Rattle.law_frame.specs.Lines.{LineFits, carried_in}
 use Rattle.law_frame.specs.Alike.{names_heard}
-use Rattle.law_frame.proofs.WireAsking.{Any, Telling, Drawn, GiftFits, PutFits, Proper, Asking, Steady, Comes}
+use Rattle.law_frame.proofs.WireAsking.{Any, Telling, Drawn, GiftFits, PutFits, Proper, Asking, Steady, Comes, names_on, news_of}
 use Rattle.law_frame.proofs.RefsAsking.{asking_taking, asking_openings}
 use Rattle.law_frame.proofs.ArriveAsking.{MailFits, IsNoMessage, Has, HasHeard, Reached, led_reached, arrive_hears, asking_notice}
 use Rattle.law_frame.proofs.Told.{known_up, heard_told, note_told}
@@ -53,8 +54,13 @@ AllGifts vats = (v : ℕ) (s : Vat Name) → slice_get vats v ≡ Some s → All
 abbrev pub AllSourced : List (Vat Name) → List Link → Type 0
 AllSourced vats ls = (v : ℕ) (s : Vat Name) → slice_get vats v ≡ Some s → Sourced ls v s
 
+-- what the last step of each vat put and told is named and known
+abbrev pub AllTold : List (Vat Name) → Type 0
+AllTold vats = (v : ℕ) (s : Vat Name) → slice_get vats v ≡ Some s → AllOf (PutFits v (names_in s.known)) s.outbox × AllOf (LineFits (names_in s.known) s.mails) s.happened
+
 pub record Wire (script : Script) (w : World) : Type 0 where
   pub gifts : AllGifts w.vats
+  pub told : AllTold w.vats
   pub links : AllOf (LinkKnown w.vats) w.links
   pub sources : AllSourced w.vats w.links
   -- with each link there is one back
@@ -101,6 +107,14 @@ gifts_put us v t h g u r e = go (put_at_or v t us u r e)
     go (inl i) = let one : AllOf (GiftFits u (names_in t.known)) t.gifts = rw (sym i.0) at g in rw i.1 at one
     go (inr i) = h u r i
 
+told_put : (us : List (Vat Name)) (v : ℕ) (t : Vat Name) → AllTold us → AllOf (PutFits v (names_in t.known)) t.outbox × AllOf (LineFits (names_in t.known) t.mails) t.happened → AllTold (put_at v t us)
+told_put us v t h g u r e = go (put_at_or v t us u r e)
+  where
+    go : ((u ≡ v) × (t ≡ r)) ⊎ (slice_get us u ≡ Some r) → AllOf (PutFits u (names_in r.known)) r.outbox × AllOf (LineFits (names_in r.known) r.mails) r.happened
+    go (inl i) = subst (λ (z : Vat Name). AllOf (PutFits u (names_in z.known)) z.outbox × AllOf (LineFits (names_in z.known) z.mails) z.happened) i.1
+        (subst (λ (z : ℕ). AllOf (PutFits z (names_in t.known)) t.outbox × AllOf (LineFits (names_in t.known) t.mails) t.happened) (sym i.0) g)
+    go (inr i) = h u r i
+
 some_vat : (s t : Vat Name) → Some s ≡ Some t → s ≡ t
 some_vat s t e = cc
 
@@ -110,12 +124,12 @@ none_vat s e = cc
 none_some : (o : Option (Vat Name)) (s : Vat Name) → o ≡ None → o ≡ Some s → ⊥
 none_some o s e f = cc
 
-going_is : (w x : World) → Going w ≡ Going x → w ≡ x
+pub going_is : (w x : World) → Going w ≡ Going x → w ≡ x
 going_is w x e = cc
 
 -- nothing is told
-abbrev NoneTold : Script → Telling
-NoneTold script = record { told = λ n. ⊥; word = draw_word script.key }
+abbrev pub NoneTold : Script → Telling
+NoneTold script = record { told = λ n. ⊥; passed = λ n. ⊥; due = λ n. ⊥; word = draw_word script.key }
 
 abbrev Whatever : Vat Name → Type 0
 Whatever t = Unit {0}
@@ -132,7 +146,7 @@ module _ (script : Script) where
   message_made vats (Answer w m) h = absurd h
   message_made vats (Gift w i) h = absurd h
 
-  mail_fits : (vats : List (Vat Name)) (P : Bit Name → Type 0) → ((m : Name) → P (Mail m) → IsMessageMade vats m) → (n : Note Name) → NoteOk P n → MailFits n
+  pub mail_fits : (vats : List (Vat Name)) (P : Bit Name → Type 0) → ((m : Name) → P (Mail m) → IsMessageMade vats m) → (n : Note Name) → NoteOk P n → MailFits n
   mail_fits vats P f (Deliver d n verb ys) h = message_made vats d.message (f d.message h.0)
   mail_fits vats P f (Open i n) h = tt
   mail_fits vats P f (Ask p i n) h = tt
@@ -154,35 +168,36 @@ module _ (script : Script) where
   -- each name that the vat knows after it
   sourced_after : (w y : World) (v : ℕ) (s q t : Vat Name) (P : Telling) → names_in q.known ≡ names_in s.known → q.noticed ≡ s.noticed → Steady v P q t → AllOf Splits w.links → Sourced w.links v s → AllOf (PutFits v (names_in t.known)) t.outbox → AllOf (PutOk (Had script y v t)) t.outbox
       → ((n : Name) → P.told n → IsAmong n (names_in t.known) → Source (world.push_all v t.outbox w.links) v t n) → Sourced (world.push_all v t.outbox w.links) v t
-  sourced_after w y v s q t P same noticed r splits before fits outs told n a = either (r.news n a)
+  sourced_after w y v s q t P same noticed r splits before fits outs told n a = either (news_of v P q t r n a)
     where
       asked : (p : Put Name) → IsAmong p t.outbox → AsksOf p.to p.note n → Source (world.push_all v t.outbox w.links) v t n
       asked p b k = let ok = all_among (PutOk (Had script y v t)) t.outbox p outs b in
           source_asked w.links splits v t n p b (mail_fits y.vats (Had script y v t) (λ m i. i.0) p.note ok.0) (asks_own (names_in t.known) p.to p.note (mail_fits y.vats (Had script y v t) (λ m i. i.0) p.note ok.0) (all_among (PutFits v (names_in t.known)) t.outbox p fits b).0) k
 
-      either : IsAmong n (names_in q.known) ⊎ Comes v P t n → Source (world.push_all v t.outbox w.links) v t n
+      either : IsAmong n (names_in q.known) ⊎ Comes v P q t n → Source (world.push_all v t.outbox w.links) v t n
       either (inl b) = source_on w.links (world.push_all v t.outbox w.links) (push_all_goes v t.outbox w.links splits) v s t (λ h i. r.noticed h (rw (ap (is_in h) (sym noticed)) at i)) n (before n (rw same at b))
-      either (inr (inl e)) = inl e
+      either (inr (inl e)) = inl e.0
       either (inr (inr (inl b))) = asked b.0 b.1 b.2
-      either (inr (inr (inr (inl e)))) = inr (inl e)
+      either (inr (inr (inr (inl e)))) = inr (inl e.0)
       either (inr (inr (inr (inr p)))) = told n p a
 
   -- what is put back: q is the vat before the step, with no note put
-  put_back_wire : (w x : World) (v : ℕ) (s q : Vat Name) (P : Telling) (F : Vat Name → Type 0) (head : List Event) (n : ℕ) (d : Done Name (Unit {0})) → slice_get w.vats v ≡ Some s → names_in q.known ≡ names_in s.known → q.gifts ≡ s.gifts → q.outbox ≡ [] → q.noticed ≡ s.noticed → q.drawn ≡ w.drawn → P.word ≡ draw_word script.key → Drawn (draw_word script.key) w.drawn
-      → AllGifts w.vats → AllOf Splits w.links → AllSourced w.vats w.links → Paired w.links → VatsHanded w.vats w.links → AllOf (LogHanded w.links) w.links → GivesHanded v (ToldAlong w.links v) d → Reached v P F q d → ((t : Vat Name) → Has (names_in s.known) t → F t → AllOf (LinkKnown (put_at v t w.vats)) w.links)
+  put_back_wire : (w x : World) (v : ℕ) (s q : Vat Name) (P : Telling) (F : Vat Name → Type 0) (head : List Event) (n : ℕ) (d : Done Name (Unit {0})) → slice_get w.vats v ≡ Some s → names_in q.known ≡ names_in s.known → q.gifts ≡ s.gifts → q.outbox ≡ [] → q.happened ≡ [] → q.noticed ≡ s.noticed → q.drawn ≡ w.drawn → P.word ≡ draw_word script.key → Drawn (draw_word script.key) w.drawn
+      → AllGifts w.vats → AllTold w.vats → AllOf Splits w.links → AllSourced w.vats w.links → Paired w.links → VatsHanded w.vats w.links → AllOf (LogHanded w.links) w.links → GivesHanded v (ToldAlong w.links v) d → Reached v P F q d → ((t : Vat Name) → Has (names_in s.known) t → F t → AllOf (LinkKnown (put_at v t w.vats)) w.links)
       → ((t : Vat Name) (n : Name) → P.told n → IsEventual n → Source (world.push_all v t.outbox w.links) v t n) → world.put_back v w head n d ≡ Going x → Stands script x → Wire script x
   unfolding world.put_back
-  put_back_wire w x v s q P F head n (Gives a t) there same gifts out noticed drawn words dr g sp so pairs ob ha hd h f told e k =
+  put_back_wire w x v s q P F head n (Gives a t) there same gifts out quiet noticed drawn words dr g tl sp so pairs ob ha hd h f told e k =
       let y : World = record { fuel = t.fuel; drawn = t.drawn; vats = put_at v t w.vats; links = world.push_all v t.outbox w.links; connections = world.connections_after v t head w.connections; history = w.history ++ head ++ world.events_of w.links v t.happened } in
-      let r : Steady v P q t = h.0 in let known : Has (names_in s.known) t = λ m a. r.names m (rw (sym same) at a) in
+      let r : Steady v P q t = h.0 in let known : Has (names_in s.known) t = λ m a. names_on v P q t r m (rw (sym same) at a) in
       let before : AllOf (GiftFits v (names_in q.known)) q.gifts = rw (sym same, sym gifts) at (g v s there) in
       let none : AllOf (PutFits v (names_in q.known)) q.outbox = rw out tt in
-      let fit = r.fits (before, none) in let at_y : Stands script y = rw (sym (going_is y x e)) at k in
+      let fit = r.fits (before, none) in let untold : AllOf (LineFits (names_in q.known) q.mails) q.happened = rw quiet tt in let at_y : Stands script y = rw (sym (going_is y x e)) at k in
       let got : slice_get (put_at v t w.vats) v ≡ Some t = get_put w.vats v s t there in
       let stands = at_y.vats v t got in let parts = stands.parts in let kept = stands.kept in
       let after : List Link = world.push_all v t.outbox w.links in
       moved y x (record {
         gifts = gifts_put w.vats v t g fit.0;
+        told = told_put w.vats v t tl (fit.1, r.answers untold);
         links = push_all_stands (put_at v t w.vats) v t.outbox w.links (puts_sent y v (put_at v t w.vats) t got t.outbox fit.1 parts.outbox) (f t known h.1);
         sources = sourced_put w.vats after v t (sourced_links w.vats w.links after (push_all_goes v t.outbox w.links sp) so) (sourced_after w y v s q t P same noticed r sp (so v s there) fit.1 parts.outbox (λ m p a. told t m p (all_among IsEventual (names_in t.known) m kept.apart a)));
         paired = paired_on w.links after (push_all_goes v t.outbox w.links sp) (push_all_lasts v t.outbox w.links) pairs;
@@ -190,26 +205,26 @@ module _ (script : Script) where
         objects = objects_put w.vats after v t (vats_on w.vats w.links after (push_all_goes v t.outbox w.links sp) ob) (vat_on w.links after (push_all_goes v t.outbox w.links sp) v t hd);
         handed = push_all_handed after v t.outbox w.links (puts_handed after v t.outbox (out_handed after v t (vat_on w.links after (push_all_goes v t.outbox w.links sp) v t hd))) (logs_on w.links after (push_all_goes v t.outbox w.links sp) w.links ha);
       }) e
-  put_back_wire w x v s q P F head n (Throws p t) there same gifts out noticed drawn words dr g sp so pairs ob ha hd h f told e k = cc
-  put_back_wire w x v s q P F head n (Ejects m y t) there same gifts out noticed drawn words dr g sp so pairs ob ha hd h f told e k = cc
-  put_back_wire w x v s q P F head n (Stops c t) there same gifts out noticed drawn words dr g sp so pairs ob ha hd h f told e k = cc
+  put_back_wire w x v s q P F head n (Throws p t) there same gifts out quiet noticed drawn words dr g tl sp so pairs ob ha hd h f told e k = cc
+  put_back_wire w x v s q P F head n (Ejects m y t) there same gifts out quiet noticed drawn words dr g tl sp so pairs ob ha hd h f told e k = cc
+  put_back_wire w x v s q P F head n (Stops c t) there same gifts out quiet noticed drawn words dr g tl sp so pairs ob ha hd h f told e k = cc
 
   links_up : (us : List (Vat Name)) (ls : List Link) (v : ℕ) (s t : Vat Name) → slice_get us v ≡ Some s → Has (names_in s.known) t → AllOf (LinkKnown us) ls → AllOf (LinkKnown (put_at v t us)) ls
   links_up us ls v s t there h k = all_map (link_up us (put_at v t us) (grows_put us v s t there h)) ls k
 
-  number_is : (w : World) (v : ℕ) (s : Vat Name) → Stands script w → slice_get w.vats v ≡ Some s → s.number ≡ v
+  pub number_is : (w : World) (v : ℕ) (s : Vat Name) → Stands script w → slice_get w.vats v ≡ Some s → s.number ≡ v
   number_is w v s g i = let one = g.vats v s i in let kept = one.kept in kept.number
 
   -- a step in which nothing is told
   alone_wire : (w x : World) (v : ℕ) (s q : Vat Name) (head : List Event) (n : ℕ) (m : Act Name (Unit {0})) → slice_get w.vats v ≡ Some s → q.number ≡ s.number → names_in q.known ≡ names_in s.known → q.gifts ≡ s.gifts → q.noticed ≡ s.noticed → Stands script w → Wire script w → Leads Any (Asking v (NoneTold script)) m → GivesHanded v (ToldAlong w.links v) (m (readied w q))
       → world.put_back v w head n (m (readied w q)) ≡ Going x → Stands script x → Wire script x
   unfolding readied
-  alone_wire w x v s q head n m there num same gifts noticed g h f hd e k = put_back_wire w x v s (readied w q) (NoneTold script) Whatever head n (m (readied w q)) there same gifts refl noticed refl refl h.draws h.gifts (splits_of w.vats w.links h.links) h.sources h.paired h.objects h.handed hd
+  alone_wire w x v s q head n m there num same gifts noticed g h f hd e k = put_back_wire w x v s (readied w q) (NoneTold script) Whatever head n (m (readied w q)) there same gifts refl refl noticed refl refl h.draws h.gifts h.told (splits_of w.vats w.links h.links) h.sources h.paired h.objects h.handed hd
       (led_reached v (NoneTold script) Whatever (readied w q) (m (readied w q)) (num ∙ number_is w v s g there) (λ t r. tt) (f.after (readied w q))) (λ t k i. links_up w.vats w.links v s t there k h.links) (λ t m b o. absurd b) e k
 
   idle_wire : (k : ℕ) (w x : World) → Wire script w → world.idle script k w ≡ Going x → Wire script x
   unfolding world.idle
-  idle_wire k w x h e = moved (record w { history = w.history ++ Idle k ∷ [] }) x (record { gifts = h.gifts; links = h.links; sources = h.sources; paired = h.paired; draws = h.draws; objects = h.objects; handed = h.handed }) e
+  idle_wire k w x h e = moved (record w { history = w.history ++ Idle k ∷ [] }) x (record { gifts = h.gifts; told = h.told; links = h.links; sources = h.sources; paired = h.paired; draws = h.draws; objects = h.objects; handed = h.handed }) e
 
   -- what a step ends with
   ready_handed : (w : World) (v : ℕ) (s : Vat Name) → AllHanded v (ToldAlong w.links v) s → Sound (Hands v (ToldAlong w.links v)) (readied w s)
@@ -263,10 +278,10 @@ module _ (script : Script) where
   no_message vats d (Answer w m) h = tt
   no_message vats d (Gift w i) h = tt
 
-  no_messages : (w : World) (n : Note Name) → NoteOk (Told script w) n → (m : Name) → IsAmong m (told_in n) → IsNoMessage m
+  pub no_messages : (w : World) (n : Note Name) → NoteOk (Told script w) n → (m : Name) → IsAmong m (told_in n) → IsNoMessage m
   no_messages w n ok m a = let made = all_among (λ x. Told script w (Named x)) (told_in n) m (note_told (Told script w) n ok) a in no_message w.vats w.drawn m made.0
 
-  known_apart : (w : World) (v : ℕ) (s : Vat Name) → Stands script w → slice_get w.vats v ≡ Some s → AllOf IsEventual (names_in s.known)
+  pub known_apart : (w : World) (v : ℕ) (s : Vat Name) → Stands script w → slice_get w.vats v ≡ Some s → AllOf IsEventual (names_in s.known)
   known_apart w v s g i = let one = g.vats v s i in let kept = one.kept in kept.apart
 
   note_here : (w : World) (v to : ℕ) (l : Link) (n : Note Name) (ns : List (Note Name)) → world.link_at v to w.links ≡ Some l → l.notes ≡ n ∷ ns → l.cut ≡ false → NoteOk (Told script w) n → OfNotes script v to n → (s : Vat Name) → slice_get w.vats to ≡ Some s → Stands script w → Wire script w
@@ -285,13 +300,13 @@ module _ (script : Script) where
       → world.arrives script k v to (record w { links = world.with_link (world.with_notes ns) v to w.links }) n o ≡ Going x → Stands script x → Wire script x
   unfolding world.arrives world.within names names_of readied
   arrives_wire k v to w x l n ns at e uncut ok ends (Some s) i g h j z = let word : ℕ → ℕ = draw_word script.key in let y : World = record w { links = world.with_link (world.with_notes ns) v to w.links } in
-      let P : Telling = record { told = λ m. IsAmong m (told_in n); word = draw_word script.key } in let splits : AllOf Splits w.links = splits_of w.vats w.links h.links in
-      put_back_wire y x to s (readied y s) P (HasHeard to P (names_in s.known) n) (Carried k v to n (world.next_frame v to y.connections) ∷ []) (world.step_number script k) (arrive (naming word to) v (read_note (names_in s.known) n) (readied y s)) i refl refl refl refl refl refl h.draws h.gifts (take_splits n ns v to l w.links at e splits) (sourced_links w.vats w.links y.links (take_goes n ns v to l w.links at e splits) h.sources) (paired_on w.links y.links (take_goes n ns v to l w.links at e splits) (take_lasts ns v to w.links) h.paired) (vats_on w.vats w.links y.links (take_goes n ns v to l w.links at e splits) h.objects) (take_handed y.links ns v to w.links (logs_on w.links y.links (take_goes n ns v to l w.links at e splits) w.links h.handed)) (note_here w v to l n ns at e uncut ok ends s i g h)
-      (arrive_hears to P v n (readied y s) (number_is w to s g i) (mail_fits w.vats (Told script w) (λ m i. i.0) n ok) (λ m a. a) (no_messages w n ok) (known_apart w to s g i) (h.gifts to s i))
+      let P : Telling = record { told = λ m. IsAmong m (told_in n); passed = λ m. Unit {0}; due = λ m. Unit {0}; word = draw_word script.key } in let splits : AllOf Splits w.links = splits_of w.vats w.links h.links in
+      put_back_wire y x to s (record (readied y s) { mails = s.mails ++ carried_in n }) P (HasHeard to P (names_in s.known) n) (Carried k v to n (world.next_frame v to y.connections) ∷ []) (world.step_number script k) (arrive (naming word to) v (read_note (names_in s.known) n) (readied y s)) i refl refl refl refl refl refl refl h.draws h.gifts h.told (take_splits n ns v to l w.links at e splits) (sourced_links w.vats w.links y.links (take_goes n ns v to l w.links at e splits) h.sources) (paired_on w.links y.links (take_goes n ns v to l w.links at e splits) (take_lasts ns v to w.links) h.paired) (vats_on w.vats w.links y.links (take_goes n ns v to l w.links at e splits) h.objects) (take_handed y.links ns v to w.links (logs_on w.links y.links (take_goes n ns v to l w.links at e splits) w.links h.handed)) (note_here w v to l n ns at e uncut ok ends s i g h)
+      (arrive_hears to P v n (readied y s) (number_is w to s g i) (mail_fits w.vats (Told script w) (λ m i. i.0) n ok) (λ m a. tt) (λ m a o. a) (λ m a. tt) (no_messages w n ok) (known_apart w to s g i) (h.gifts to s i))
       (λ t known heard. with_found_all (LinkKnown (put_at to t w.vats)) (world.with_notes ns) v to l
       (λ j same from at_to q. taken_stands (put_at to t w.vats) n ns j (ap (λ (z : Link). z.notes) same ∙ e) (subst (λ (z : ℕ). Heard (put_at to t w.vats) z n) (sym at_to) (heard_now w.vats to s t n i heard)) q) w.links at (links_up w.vats w.links to s t i known h.links))
       (λ t m p o. told_here w v to l n ns at e uncut splits t m p (told_either v to m n o ends.0 ends.1 p)) j z
-  arrives_wire k v to w x l n ns at e uncut ok ends None i g h j z = idle_wire k (record w { links = world.with_link (world.with_notes ns) v to w.links }) x (record { gifts = h.gifts; links = nobody; sources = sourced_links w.vats w.links (world.with_link (world.with_notes ns) v to w.links) (take_goes n ns v to l w.links at e (splits_of w.vats w.links h.links)) h.sources; paired = paired_on w.links (world.with_link (world.with_notes ns) v to w.links) (take_goes n ns v to l w.links at e (splits_of w.vats w.links h.links)) (take_lasts ns v to w.links) h.paired; draws = h.draws; objects = vats_on w.vats w.links (world.with_link (world.with_notes ns) v to w.links) (take_goes n ns v to l w.links at e (splits_of w.vats w.links h.links)) h.objects; handed = take_handed (world.with_link (world.with_notes ns) v to w.links) ns v to w.links (logs_on w.links (world.with_link (world.with_notes ns) v to w.links) (take_goes n ns v to l w.links at e (splits_of w.vats w.links h.links)) w.links h.handed) }) j
+  arrives_wire k v to w x l n ns at e uncut ok ends None i g h j z = idle_wire k (record w { links = world.with_link (world.with_notes ns) v to w.links }) x (record { gifts = h.gifts; told = h.told; links = nobody; sources = sourced_links w.vats w.links (world.with_link (world.with_notes ns) v to w.links) (take_goes n ns v to l w.links at e (splits_of w.vats w.links h.links)) h.sources; paired = paired_on w.links (world.with_link (world.with_notes ns) v to w.links) (take_goes n ns v to l w.links at e (splits_of w.vats w.links h.links)) (take_lasts ns v to w.links) h.paired; draws = h.draws; objects = vats_on w.vats w.links (world.with_link (world.with_notes ns) v to w.links) (take_goes n ns v to l w.links at e (splits_of w.vats w.links h.links)) h.objects; handed = take_handed (world.with_link (world.with_notes ns) v to w.links) ns v to w.links (logs_on w.links (world.with_link (world.with_notes ns) v to w.links) (take_goes n ns v to l w.links at e (splits_of w.vats w.links h.links)) w.links h.handed) }) j
     where
       nobody : AllOf (LinkKnown w.vats) (world.with_link (world.with_notes ns) v to w.links)
       nobody = with_found_all (LinkKnown w.vats) (world.with_notes ns) v to l (λ j same from at_to q. taken_stands w.vats n ns j (ap (λ (z : Link). z.notes) same ∙ e) (λ r f. absurd (none_some (slice_get w.vats to) r i (rw at_to at f))) q) w.links at h.links
@@ -320,6 +335,7 @@ module _ (script : Script) where
   cut_wire k v to w x h e = let one : List Link = world.with_link world.severed_link v to w.links in let two : List Link = world.with_link world.severed_link to v one in
       let goes : LinksGo w.links two = links_on w.links one two (with_link_goes world.severed_link severed_stay v to w.links (all_severed w.links)) (with_link_goes world.severed_link severed_stay to v one (all_severed one)) in moved _ x (record {
         gifts = h.gifts;
+        told = h.told;
         links = with_link_all (LinkKnown w.vats) world.severed_link to v (λ l a b i. severed_stands w.vats l i) (world.with_link world.severed_link v to w.links) (with_link_all (LinkKnown w.vats) world.severed_link v to (λ l a b i. severed_stands w.vats l i) w.links h.links);
         sources = sourced_links w.vats w.links two goes h.sources;
         paired = paired_on w.links two goes (λ a b t. with_link_lasts world.severed_link severed_stay to v one a b (with_link_lasts world.severed_link severed_stay v to w.links a b t)) h.paired;
@@ -383,7 +399,7 @@ module _ (script : Script) where
   steps_both [] k w x h e = moved_all w x h e
   steps_both (entry ∷ es) k w x h e = then_all x (world.step script entry k w) (world.steps_from script es (suc k)) (λ y i. step_both entry k w y h i) (λ y i j. steps_both es (suc k) y x i j) e
 
-get_mid : (front : List Program) (p : Program) (ps : List Program) → slice_get (front ++ p ∷ ps) (length front) ≡ Some p
+pub get_mid : (front : List Program) (p : Program) (ps : List Program) → slice_get (front ++ p ∷ ps) (length front) ≡ Some p
 get_mid [] p ps = refl
 get_mid (f ∷ fs) p ps = get_mid fs p ps
 
@@ -402,6 +418,15 @@ module _ (script : Script) where
   fresh_gifts u [] n s e = cc
   fresh_gifts u (p ∷ ps) zero s e = cc
   fresh_gifts u (p ∷ ps) (suc n) s e = fresh_gifts (suc u) ps n s e
+
+  fresh_quiet : (u : ℕ) (ps : List Program) (n : ℕ) (s : Vat Name) → slice_get (world.fresh_from script u ps) n ≡ Some s → (s.outbox ≡ []) × (s.happened ≡ [])
+  unfolding world.fresh_from world.fresh
+  fresh_quiet u [] n s e = cc
+  fresh_quiet u (p ∷ ps) zero s e = (cc, cc)
+  fresh_quiet u (p ∷ ps) (suc n) s e = fresh_quiet (suc u) ps n s e
+
+  none_told : (v : ℕ) (s : Vat Name) → (s.outbox ≡ []) × (s.happened ≡ []) → AllOf (PutFits v (names_in s.known)) s.outbox × AllOf (LineFits (names_in s.known) s.mails) s.happened
+  none_told v s e = (rw e.0 tt, rw e.1 tt)
 
   no_gifts : (v : ℕ) (s : Vat Name) → s.gifts ≡ [] → AllOf (GiftFits v (names_in s.known)) s.gifts
   no_gifts v s e = rw e tt
@@ -581,7 +606,7 @@ module _ (script : Script) where
 
     begins_wire : Wire script (world.begins script)
     unfolding world.begins
-    begins_wire = record { gifts = λ v s e. no_gifts v s (fresh_gifts zero script.vats v s e); links = links_from_known zero script.vats; sources = λ v s e n a. first_source v s e n a; paired = begins_paired script; draws = none_drawn; objects = λ v s e. fresh_handed v s e; handed = links_from_handed zero script.vats }
+    begins_wire = record { gifts = λ v s e. no_gifts v s (fresh_gifts zero script.vats v s e); told = λ v s e. none_told v s (fresh_quiet zero script.vats v s e); links = links_from_known zero script.vats; sources = λ v s e n a. first_source v s e n a; paired = begins_paired script; draws = none_drawn; objects = λ v s e. fresh_handed v s e; handed = links_from_handed zero script.vats }
 
     pub opened_both : (ps rest : List Program) (w : World) → script.vats ≡ ps ++ rest → world.open_from script zero ps (world.begins script) ≡ Going w → Both script w
     opened_both ps rest w e i = opens_both [] ps rest (world.begins script) w e (start, begins_wire) i

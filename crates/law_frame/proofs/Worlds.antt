@@ -69,7 +69,7 @@ each_all P (x ∷ xs) h = (h.0, each_all P xs h.1)
 -- ---- who asks
 
 -- a question stands in a note
-asker : (to : ℕ) (n : Name) (log : List (Note Name)) → IsAmong n (wire.questions_in to log) → (x : Note Name) × IsAmong x log × AsksOf to x n
+pub asker : (to : ℕ) (n : Name) (log : List (Note Name)) → IsAmong n (wire.questions_in to log) → (x : Note Name) × IsAmong x log × AsksOf to x n
 unfolding wire.questions_in
 asker to n [] a = absurd a
 asker to n (Deliver d t verb ys ∷ log) a = first (asked_or d.asks (answer_of to d.message) n (wire.questions_in to log) a) (λ b. asker to n log b)
@@ -85,18 +85,18 @@ asker to n (Elsewhere t c ∷ log) a = let r = asker to n log a in (r.0, inr r.1
 asker to n (Shorten t c i ∷ log) a = let r = asker to n log a in (r.0, inr r.1, r.2)
 
 -- a message that is under way is on the link
-bears_one : (m : Msg) (x : Note Name) (notes : List (Note Name)) (b : Bool) (n : Name) (verb : List ℕ) (ys : _) → x ≡ Deliver (record { message = Message_name m; asks = b }) n verb ys → IsAmong x notes → 1 ≤ total (of_note (Message_name m)) notes
+bears_one : (m : Msg) (x : Note Name) (notes : List (Note Name)) (b : Bool) (c : Option Name) (n : Name) (verb : List ℕ) (ys : _) → x ≡ Deliver (record { message = Message_name m; asks = b; answer = c }) n verb ys → IsAmong x notes → 1 ≤ total (of_note (Message_name m)) notes
 unfolding total of_note in_note one once
-bears_one m x [] b n verb ys e a = absurd a
-bears_one m x (y ∷ notes) b n verb ys e (inl f) = first y (sym f ∙ e)
+bears_one m x [] b c n verb ys e a = absurd a
+bears_one m x (y ∷ notes) b c n verb ys e (inl f) = first y (sym f ∙ e)
   where
-    first : (y : Note Name) → y ≡ Deliver (record { message = Message_name m; asks = b }) n verb ys → 1 ≤ of_note (Message_name m) y + total (of_note (Message_name m)) notes
+    first : (y : Note Name) → y ≡ Deliver (record { message = Message_name m; asks = b; answer = c }) n verb ys → 1 ≤ of_note (Message_name m) y + total (of_note (Message_name m)) notes
     first y g = let one_here : of_note (Message_name m) y ≡ 1 = ap (of_note (Message_name m)) g ∙ ap once (same_self (Message_name m)) in omega arith
-bears_one m x (y ∷ notes) b n verb ys e (inr a) = let rest = bears_one m x notes b n verb ys e a in omega arith
+bears_one m x (y ∷ notes) b c n verb ys e (inr a) = let rest = bears_one m x notes b c n verb ys e a in omega arith
 
-on_link_one : (m : Msg) (x : Note Name) (l : Link) (b : Bool) (n : Name) (verb : List ℕ) (ys : _) → x ≡ Deliver (record { message = Message_name m; asks = b }) n verb ys → IsAmong x l.notes → 1 ≤ on_link (Message_name m) l
+pub on_link_one : (m : Msg) (x : Note Name) (l : Link) (b : Bool) (c : Option Name) (n : Name) (verb : List ℕ) (ys : _) → x ≡ Deliver (record { message = Message_name m; asks = b; answer = c }) n verb ys → IsAmong x l.notes → 1 ≤ on_link (Message_name m) l
 unfolding on_link
-on_link_one m x l b n verb ys e a = bears_one m x l.notes b n verb ys e a
+on_link_one m x l b c n verb ys e a = bears_one m x l.notes b c n verb ys e a
 
 -- a note that avoids a name does not tell it
 not_told : (x : Name) (n : Note Name) → NamesNot x n → IsAmong x (told_in n) → ⊥
@@ -163,10 +163,10 @@ asked_stands w v u (Shorten n c i) s h = tt
 -- ---- the vats of a link
 
 -- what a note tells is of one of the two vats
-told_ends : (a v : ℕ) (n : Name) (x : Note Name) → (v ≡ a → ⊥) → Proper a v x → IsBetween a v x → Carries a v x → IsAmong n (told_in x) → OfEither a v n
+pub told_ends : (a v : ℕ) (n : Name) (x : Note Name) → (v ≡ a → ⊥) → Proper a v x → IsBetween a v x → Carries a v x → IsAmong n (told_in x) → OfEither a v n
 unfolding told_in
 told_ends a v n (Deliver m t verb ys) o q h k (inl e) = inr (ap host_of e ∙ h)
-told_ends a v n (Deliver m t verb ys) o q h k (inr b) = all_either a v n ys k b
+told_ends a v n (Deliver m t verb ys) o q h k (inr b) = all_either a v n ys k.0 b
 told_ends a v n (Open i t) o q h k (inl e) = inr (ap host_of e ∙ h)
 told_ends a v n (Open i t) o q h k (inr b) = absurd b
 told_ends a v n (Ask p i t) o q h k b = absurd b
@@ -212,7 +212,7 @@ module _ (script : Script) (once : KnowsOnce script) (w x : World) (es : List En
   front_is : arrived (link_at v u x.links) ≡ Front
   front_is = ap arrived at ∙ arrived_is l Front splits.1
 
-  logged : IsAmong N l.log
+  pub logged : IsAmong N l.log
   logged = subst (λ ms. IsAmong N ms) (sym (splits.1 ∙ ap (λ ms. Front ++ ms) head)) (among_mid N Front ns)
 
   sent : Sent x.vats v u N
@@ -224,7 +224,7 @@ module _ (script : Script) (once : KnowsOnce script) (w x : World) (es : List En
   pub between : IsBetween v u N
   between = let fits = at_link LinkFits v u l x.links ((notes_name_ends script once).1 w x es k opened stepped) at in subst (λ (z : ℕ). IsBetween v z N) to_is (subst (λ (z : ℕ). IsBetween z l.to N) from_is (all_among (IsBetween l.from l.to) l.log N fits.0.0 logged))
 
-  carries : Carries v u N
+  pub carries : Carries v u N
   carries = let fits = at_link LinkCarries v u l x.links ((notes_carry_ends script once).1 w x es k opened stepped) at in subst (λ (z : ℕ). Carries v z N) to_is (subst (λ (z : ℕ). Carries z l.to N) from_is (all_among (Carries l.from l.to) l.log N fits.0.0 logged))
 
   -- ---- providers
@@ -241,13 +241,13 @@ module _ (script : Script) (once : KnowsOnce script) (w x : World) (es : List En
 
   -- ---- what is known
 
-  abbrev Asked : List Name
+  abbrev pub Asked : List Name
   Asked = wire.questions (λ i. i) x.links u v
 
-  abbrev Put : List Name
+  abbrev pub Put : List Name
   Put = wire.questions (λ i. i) x.links v u
 
-  abbrev Answers : List Name
+  abbrev pub Answers : List Name
   Answers = wire.questions_in u (arrived (link_at v u x.links))
 
   abbrev Arrived : List Name
@@ -304,28 +304,27 @@ module _ (script : Script) (once : KnowsOnce script) (w x : World) (es : List En
   sender : (r : Vat Name) × (slice_get x.vats v ≡ Some r)
   sender = let b = answers_stepped script once w x es k opened stepped in let legs = b.legs in sender_of script x v u N ns l legs.none at head
 
-  answer_before : (m : Msg) (y : Note Name) (c : Bool) (n : Name) (verb : List ℕ) (ys : _) → y ≡ Deliver (record { message = Message_name m; asks = c }) n verb ys → IsAmong y l.notes → IsAmong (Answer u m) (told_in N) → ⊥
-  answer_before m y c n verb ys e a t = let b = answers_stepped script once w x es k opened stepped in let legs = b.legs in
-      either (among_dec (Answer u m) (names_in s.known))
+  answer_before : (m : Msg) (y : Note Name) (asks : Bool) (c : Option Name) (n : Name) (verb : List ℕ) (ys : _) → y ≡ Deliver (record { message = Message_name m; asks = asks; answer = c }) n verb ys → IsAmong y l.notes → IsAmong (Answer u m) (told_in N) → ⊥
+  answer_before m y asks c n verb ys e a t = either (among_dec (Answer u m) (names_in s.known))
     where
       either : IsAmong (Answer u m) (names_in s.known) ⊎ (IsAmong (Answer u m) (names_in s.known) → ⊥) → ⊥
-      either (inl i) = let b = answers_stepped script once w x es k opened stepped in let legs = b.legs in let none = legs.early m v u s there i l at in let some = on_link_one m y l c n verb ys e a in absurd (omega arith)
+      either (inl i) = let b = answers_stepped script once w x es k opened stepped in let legs = b.legs in let none = legs.early m v u s there i l at in let some = on_link_one m y l asks c n verb ys e a in absurd (omega arith)
       either (inr f) = let b = answers_stepped script once w x es k opened stepped in let legs = b.legs in
           not_told (Answer u m) N (unknown_not script x v u m s N ns l (stepped_before script once w x es k opened stepped) legs.none there at uncut head f) t
 
-  message_late : (n : Name) → IsAmong n (told_in N) → (m : Name) (c : Bool) (to : Name) (verb : List ℕ) (ys : Passeds Name) → IsAmong (Deliver (record { message = m; asks = c }) to verb ys) l.notes → IsMessageName m → answer_of u m ≡ n → ⊥
+  message_late : (n : Name) → IsAmong n (told_in N) → (m : Name) (b : Bool) (c : Option Name) (to : Name) (verb : List ℕ) (ys : Passeds Name) → IsAmong (Deliver (record { message = m; asks = b; answer = c }) to verb ys) l.notes → IsMessageName m → answer_of u m ≡ n → ⊥
   unfolding answer_of
-  message_late n t (Message_name m) c to verb ys a o e = answer_before m (Deliver (record { message = Message_name m; asks = c }) to verb ys) c to verb ys refl a (subst (λ z. IsAmong z (told_in N)) (sym e) t)
-  message_late n t (Root w) c to verb ys a o e = o
-  message_late n t (Object w i) c to verb ys a o e = o
-  message_late n t (Promise w i) c to verb ys a o e = o
-  message_late n t (Answer w m) c to verb ys a o e = o
-  message_late n t (Gift w i) c to verb ys a o e = o
+  message_late n t (Message_name m) b c to verb ys a o e = answer_before m (Deliver (record { message = Message_name m; asks = b; answer = c }) to verb ys) b c to verb ys refl a (subst (λ z. IsAmong z (told_in N)) (sym e) t)
+  message_late n t (Root w) b c to verb ys a o e = o
+  message_late n t (Object w i) b c to verb ys a o e = o
+  message_late n t (Promise w i) b c to verb ys a o e = o
+  message_late n t (Answer w m) b c to verb ys a o e = o
+  message_late n t (Gift w i) b c to verb ys a o e = o
 
   -- a note under way that asks for what the first one tells asks for a gift
   asked_late : GiftsWereAskedFor x v u N → (n : Name) → IsAmong n (told_in N) → IsAmong n Put → (y : Note Name) → IsAmong y l.notes → AsksOwn u y → AsksOf u y n → IsAmong n Answers
   unfolding answer_of
-  asked_late g n t p (Deliver d to verb ys) a o e = absurd (message_late n t d.message d.asks to verb ys a o e.1)
+  asked_late g n t p (Deliver d to verb ys) a o e = absurd (message_late n t d.message d.asks d.answer to verb ys a o e.1)
   asked_late g n t p (Ask q i m) a o e = let same : n ≡ Gift u i = sym e ∙ o in subst (λ z. IsAmong z Answers) (sym same) (g i (subst (λ z. IsAmong z (told_in N)) same t) (subst (λ z. IsAmong z Put) same p))
   asked_late g n t p (Open i m) a o e = absurd e
   asked_late g n t p (SettledTo m y) a o e = absurd e
@@ -335,7 +334,7 @@ module _ (script : Script) (once : KnowsOnce script) (w x : World) (es : List En
   own_asks : (y : Note Name) → IsAmong y l.notes → AsksOwn u y
   own_asks y a = let h = link_known in let all = all_among (Sent x.vats l.from l.to) l.log y h.sent (subst (λ ms. IsAmong y ms) (sym splits.1) (among_right y Front l.notes a)) in subst (λ (z : ℕ). AsksOwn z y) to_is all.0
 
-  asked_before : GiftsWereAskedFor x v u N → (n : Name) → IsAmong n (told_in N) → IsAmong n Put → IsAmong n Answers
+  pub asked_before : GiftsWereAskedFor x v u N → (n : Name) → IsAmong n (told_in N) → IsAmong n Put → IsAmong n Answers
   asked_before g n t p = either (among_split n Answers (wire.questions_in u l.notes) (subst (λ qs. IsAmong n qs) put_is p))
     where
       either : IsAmong n Answers ⊎ IsAmong n (wire.questions_in u l.notes) → IsAmong n Answers

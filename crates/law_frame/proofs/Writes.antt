@@ -7,7 +7,7 @@ use Rattle.def_machine.specs.State.{Passed, Passeds, Plain, AGift, Many, NoMore,
 use Rattle.law_name.specs.Names.{AllOf}
 use Rattle.def_run.specs.Connections as write
 use Rattle.def_run.specs.Connections.{Connection, Sight}
-use Rattle.law_renaming.specs.Maps as maps
+use Rattle.def_machine.specs.Maps as maps
 use Rattle.law_renaming.specs.Stands.{Found}
 use Rattle.law_frame.specs.Together.{SeesAlike, ValueMay, PassedMay, AllMay, NoteMay, TablesMay, AsksAlike, WriteTogether, WritingsGoTogether, changed_tables}
 
@@ -69,9 +69,9 @@ module _ {N M : Type 0} (f : N → M) (P : N → Bool) (S : Sight N) (T : Sight 
   export_or true true false false true false xs ns n p q r s = cc
   export_or true true false false false true xs ns n p q r s = cc
 
-  exported : (asked ns : List N) (n : N) → May asked → May ns → write.exported_as T (map f asked) (f n) (map f ns) ≡ map f (write.exported_as S asked n ns)
+  exported : (asked ns : List N) (n : N) → P n ≡ true → May asked → May ns → write.exported_as T (map f asked) (f n) (map f ns) ≡ map f (write.exported_as S asked n ns)
   unfolding write.exported_as
-  exported asked ns n a m = export_or (T.own (f n)) (S.own n) (write.stands_in T (map f asked) (f n)) (write.stands_in S asked n) (write.stands_in T (map f ns) (f n)) (write.stands_in S ns n) (map f ns) ns n (alike.own n) (stands asked n a) (stands ns n m) refl
+  exported asked ns n p a m = export_or (T.own (f n)) (S.own n) (write.stands_in T (map f asked) (f n)) (write.stands_in S asked n) (write.stands_in T (map f ns) (f n)) (write.stands_in S ns n) (map f ns) ns n (alike.own n p) (stands asked n a) (stands ns n m) refl
 
   exports_or : (a b c : Bool) (ns : List N) (n : N) → May ns → P n ≡ true → May (elim a [ true ↦ elim b [ true ↦ ns | false ↦ elim c [ true ↦ ns | false ↦ ns ++ n ∷ [] ] ] | false ↦ ns ])
   exports_or true true c ns n m p = m
@@ -92,7 +92,7 @@ module _ {N M : Type 0} (f : N → M) (P : N → Bool) (S : Sight N) (T : Sight 
     Asked = map f asked
 
     name_exports : (n : N) (xs : List M) (ns : List N) → P n ≡ true → Exports xs ns → Exports (write.exported_as T Asked (f n) xs) (write.exported_as S asked n ns)
-    name_exports n xs ns p (e, m) = (ap (write.exported_as T Asked (f n)) e ∙ exported asked ns n a m, exports_may asked ns n m p)
+    name_exports n xs ns p (e, m) = (ap (write.exported_as T Asked (f n)) e ∙ exported asked ns n p a m, exports_may asked ns n m p)
 
     value_exports : (y : Value N) (xs : List M) (ns : List N) → ValueMay P y → Exports xs ns → Exports (write.exported_value T Asked (maps.value f y) xs) (write.exported_value S asked y ns)
     unfolding write.exported_value
@@ -161,47 +161,47 @@ module _ {N M : Type 0} (f : N → M) (P : N → Bool) (S : Sight N) (T : Sight 
     described_or n true false e = cc
     described_or n false true e = cc
 
-    described_alike : (n : N) → write.described T d (f n) ≡ write.described S c n
+    described_alike : (n : N) → P n ≡ true → write.described T d (f n) ≡ write.described S c n
     unfolding write.described
-    described_alike n = described_or n (T.own (f n)) (S.own n) (alike.own n)
+    described_alike n p = described_or n (T.own (f n)) (S.own n) (alike.own n p)
 
-    value_alike : (y : Value N) → write.described_value T d (maps.value f y) ≡ write.described_value S c y
+    value_alike : (y : Value N) → ValueMay P y → write.described_value T d (maps.value f y) ≡ write.described_value S c y
     unfolding write.described_value
-    value_alike (Ref n) = described_alike n
-    value_alike Null = refl
-    value_alike (Flag b) = refl
-    value_alike (Number z) = refl
-    value_alike (Letter x) = refl
-    value_alike (Text x) = refl
-    value_alike (Prim i) = refl
-    value_alike (Broken x) = refl
-    value_alike (Items k) = refl
+    value_alike (Ref n) p = described_alike n p
+    value_alike Null p = refl
+    value_alike (Flag b) p = refl
+    value_alike (Number z) p = refl
+    value_alike (Letter x) p = refl
+    value_alike (Text x) p = refl
+    value_alike (Prim i) p = refl
+    value_alike (Broken x) p = refl
+    value_alike (Items k) p = refl
 
     mutual
       unfolding write.described_passed write.described_all
 
-      passed_alike : (y : Passed N) → write.described_passed T d (maps.passed f y) ≡ write.described_passed S c y
-      passed_alike (Plain y) = value_alike y
-      passed_alike (AGift h i) = refl
-      passed_alike (Many ys) = ap op.ListOf (all_alike ys)
+      passed_alike : (y : Passed N) → PassedMay P y → write.described_passed T d (maps.passed f y) ≡ write.described_passed S c y
+      passed_alike (Plain y) p = value_alike y p
+      passed_alike (AGift h i) p = refl
+      passed_alike (Many ys) p = ap op.ListOf (all_alike ys p)
 
-      all_alike : (ys : Passeds N) → write.described_all T d (maps.passeds f ys) ≡ write.described_all S c ys
-      all_alike NoMore = refl
-      all_alike (More y ys) = ap (λ z. op.more z (write.described_all T d (maps.passeds f ys))) (passed_alike y) ∙ ap (op.more (write.described_passed S c y)) (all_alike ys)
+      all_alike : (ys : Passeds N) → AllMay P ys → write.described_all T d (maps.passeds f ys) ≡ write.described_all S c ys
+      all_alike NoMore p = refl
+      all_alike (More y ys) (p, q) = ap (λ z. op.more z (write.described_all T d (maps.passeds f ys))) (passed_alike y p) ∙ ap (op.more (write.described_passed S c y)) (all_alike ys q)
 
     delivered_alike : (b : Bool) (i j : ℕ) (x y : Described) (verb : List ℕ) (xs ys : Members) → i ≡ j → x ≡ y → xs ≡ ys → write.delivered T b i x verb xs ≡ write.delivered S b j y verb ys
     unfolding write.delivered
     delivered_alike true i j x y verb xs ys e g h = ap (λ k. op.Deliver k x verb xs) e ∙ (ap (λ z. op.Deliver j z verb xs) g ∙ ap (op.Deliver j y verb) h)
     delivered_alike false i j x y verb xs ys e g h = ap (λ z. op.DeliverOnly z verb xs) g ∙ ap (op.DeliverOnly y verb) h
 
-    operation_alike : (n : Note N) → write.operation T d (maps.note f n) ≡ write.operation S c n
+    operation_alike : (n : Note N) → NoteMay P n → write.operation T d (maps.note f n) ≡ write.operation S c n
     unfolding write.operation
-    operation_alike (Deliver e n verb ys) = delivered_alike e.asks (length d.questions) (length c.questions) (write.described T d (f n)) (write.described S c n) verb (write.described_all T d (maps.passeds f ys)) (write.described_all S c ys) (map_length c.questions) (described_alike n) (all_alike ys)
-    operation_alike (Open i n) = ap (λ z. op.Provide z (word_of i)) (described_alike n)
-    operation_alike (Ask p i n) = ap (λ k. op.Accept k p (word_of i)) (map_length c.questions)
-    operation_alike (SettledTo n y) = ap (λ z. op.Resolve z (op.To (write.described_passed T d (maps.passed f y)))) (described_alike n) ∙ ap (λ z. op.Resolve (write.described S c n) (op.To z)) (passed_alike y)
-    operation_alike (Elsewhere n h) = ap (λ z. op.Resolve z (op.Elsewhere h)) (described_alike n)
-    operation_alike (Shorten n h i) = ap (λ z. op.Shorten z (word_of i)) (described_alike n)
+    operation_alike (Deliver e n verb ys) (p, q) = delivered_alike e.asks (length d.questions) (length c.questions) (write.described T d (f n)) (write.described S c n) verb (write.described_all T d (maps.passeds f ys)) (write.described_all S c ys) (map_length c.questions) (described_alike n p) (all_alike ys q)
+    operation_alike (Open i n) p = ap (λ z. op.Provide z (word_of i)) (described_alike n p)
+    operation_alike (Ask p i n) m = ap (λ k. op.Accept k p (word_of i)) (map_length c.questions)
+    operation_alike (SettledTo n y) (p, q) = ap (λ z. op.Resolve z (op.To (write.described_passed T d (maps.passed f y)))) (described_alike n p) ∙ ap (λ z. op.Resolve (write.described S c n) (op.To z)) (passed_alike y q)
+    operation_alike (Elsewhere n h) p = ap (λ z. op.Resolve z (op.Elsewhere h)) (described_alike n p)
+    operation_alike (Shorten n h i) p = ap (λ z. op.Shorten z (word_of i)) (described_alike n p)
 
   -- ---- a note
 
@@ -227,13 +227,13 @@ module _ {N M : Type 0} (f : N → M) (P : N → Bool) (S : Sight N) (T : Sight 
     unfolding write.exporting
     exporting_alike = ap (λ xs. record (changed_tables f c) { exports = xs }) grown.0
 
-    exporting_may : TablesMay P (write.exporting S n c)
+    pub exporting_may : TablesMay P (write.exporting S n c)
     unfolding write.exporting
     exporting_may = record { exports = grown.1; imports = m.imports; questions = m.questions; answers = m.answers }
 
     pub frame_alike : write.frame_now T (maps.note f n) (changed_tables f c) ≡ write.frame_now S n c
     unfolding write.frame_now
-    frame_alike = ap (λ x. write.operation T x (maps.note f n)) exporting_alike ∙ operation_alike (write.exporting S n c) exporting_may n
+    frame_alike = ap (λ x. write.operation T x (maps.note f n)) exporting_alike ∙ operation_alike (write.exporting S n c) exporting_may n k
 
     pub put_alike : AsksAlike f S T n → write.put_on T (maps.note f n) (changed_tables f c) ≡ changed_tables f (write.put_on S n c)
     unfolding write.put_on

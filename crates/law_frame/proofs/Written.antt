@@ -101,7 +101,7 @@ module _ (v u : ℕ) where
 abbrev Good : List (Vat Name) → List Link → List Connected → Type 0
 Good vats ls cs = (v u : ℕ) → (v ≡ u → ⊥) → (s : Vat Name) → slice_get vats u ≡ Some s → On v u (link_at v u ls) (connected_at v u cs) (connected_at u v cs)
 
-pushed_from : (m : Note Name) (l : Link) → (let j : Link = pushed m l in j.from) ≡ l.from
+pub pushed_from : (m : Note Name) (l : Link) → (let j : Link = pushed m l in j.from) ≡ l.from
 unfolding pushed
 pushed_from m l = either l.cut
   where
@@ -109,7 +109,7 @@ pushed_from m l = either l.cut
     either true = refl
     either false = refl
 
-pushed_to : (m : Note Name) (l : Link) → (let j : Link = pushed m l in j.to) ≡ l.to
+pub pushed_to : (m : Note Name) (l : Link) → (let j : Link = pushed m l in j.to) ≡ l.to
 unfolding pushed
 pushed_to m l = either l.cut
   where
@@ -117,19 +117,19 @@ pushed_to m l = either l.cut
     either true = refl
     either false = refl
 
-wrote_from : (m : Note Name) (c : Connected) → (let e : Connected = wire.wrote m c in e.from) ≡ c.from
+pub wrote_from : (m : Note Name) (c : Connected) → (let e : Connected = wire.wrote m c in e.from) ≡ c.from
 unfolding wire.wrote
 wrote_from m c = refl
 
-wrote_to : (m : Note Name) (c : Connected) → (let e : Connected = wire.wrote m c in e.to) ≡ c.to
+pub wrote_to : (m : Note Name) (c : Connected) → (let e : Connected = wire.wrote m c in e.to) ≡ c.to
 unfolding wire.wrote
 wrote_to m c = refl
 
-received_from : (c : Connected) (m : Note Name) (d : Connected) → (let e : Connected = wire.received c m d in e.from) ≡ d.from
+pub received_from : (c : Connected) (m : Note Name) (d : Connected) → (let e : Connected = wire.received c m d in e.from) ≡ d.from
 unfolding wire.received
 received_from c m d = refl
 
-received_to : (c : Connected) (m : Note Name) (d : Connected) → (let e : Connected = wire.received c m d in e.to) ≡ d.to
+pub received_to : (c : Connected) (m : Note Name) (d : Connected) → (let e : Connected = wire.received c m d in e.to) ≡ d.to
 unfolding wire.received
 received_to c m d = refl
 
@@ -173,7 +173,7 @@ module _ (vats : List (Vat Name)) where
   puts_good a (p ∷ ps) ls cs h = puts_good a ps (with_link (pushed p.note) a p.to ls) (with_connected (wire.wrote p.note) a p.to cs) (put_good a p.to p.note ls cs h)
 
 -- the same vats are there
-get_or : (v u : ℕ) (t : Vat Name) (vs : List (Vat Name)) (r : Vat Name) → slice_get (put_at v t vs) u ≡ Some r → (s : Vat Name) × (slice_get vs u ≡ Some s)
+pub get_or : (v u : ℕ) (t : Vat Name) (vs : List (Vat Name)) (r : Vat Name) → slice_get (put_at v t vs) u ≡ Some r → (s : Vat Name) × (slice_get vs u ≡ Some s)
 unfolding put_at
 get_or v u t [] r e = (r, e)
 get_or zero zero t (x ∷ vs) r e = (x, refl)
@@ -209,11 +209,11 @@ on_received : (v u : ℕ) (m : Note Name) (o : Option Link) (p c d : Connected) 
 unfolding wire.received
 on_received v u m o p c d h = λ l e f. let g = received_grows p m c in have_later v u c (wire.received p m c) d l.notes g.tables refl refl refl (h l e f)
 
-notes_from : (ns : List (Note Name)) (l : Link) → (let j : Link = with_notes ns l in j.from) ≡ l.from
+pub notes_from : (ns : List (Note Name)) (l : Link) → (let j : Link = with_notes ns l in j.from) ≡ l.from
 unfolding with_notes
 notes_from ns l = refl
 
-notes_to : (ns : List (Note Name)) (l : Link) → (let j : Link = with_notes ns l in j.to) ≡ l.to
+pub notes_to : (ns : List (Note Name)) (l : Link) → (let j : Link = with_notes ns l in j.to) ≡ l.to
 unfolding with_notes
 notes_to ns l = refl
 
@@ -283,11 +283,11 @@ cut_or v u (Some l) c d j e f = absurd (clash (record l { cut = true; notes = []
         no e = cc
 cut_or v u None c d j e f = cc
 
-severed_from : (l : Link) → (let j : Link = severed_link l in j.from) ≡ l.from
+pub severed_from : (l : Link) → (let j : Link = severed_link l in j.from) ≡ l.from
 unfolding severed_link
 severed_from l = refl
 
-severed_to : (l : Link) → (let j : Link = severed_link l in j.to) ≡ l.to
+pub severed_to : (l : Link) → (let j : Link = severed_link l in j.to) ≡ l.to
 unfolding severed_link
 severed_to l = refl
 
@@ -322,7 +322,7 @@ module _ (script : Script) where
   went_good w v head t ls cs e h = subst (λ ds. Good (put_at v t w.vats) (world.push_all v t.outbox ls) (wire.write_all v t.outbox ds)) (sym e)
       (puts_good (put_at v t w.vats) v t.outbox ls cs (good_vats v t w.vats ls cs h))
 
-  carried_heard : (k a v : ℕ) (n : Note Name) (frame : List ℕ) (cs : List Connected) → world.heard_by (Carried k a v n frame ∷ []) cs ≡ with_connected (wire.received (connected_at a v cs) n) v a cs
+  pub carried_heard : (k a v : ℕ) (n : Note Name) (frame : List ℕ) (cs : List Connected) → world.heard_by (Carried k a v n frame ∷ []) cs ≡ with_connected (wire.received (connected_at a v cs) n) v a cs
   unfolding world.heard_by wire.hear_at
   carried_heard k a v n frame cs = refl
 
@@ -387,7 +387,7 @@ found_empty v u [] j h e = cc
 found_empty v u (l ∷ ls) j h e = found_or (world.is_link v u l) l j (link_at v u ls) h.0 (λ f. found_empty v u ls j h.1 f) e
 
 -- nothing was written, heard or asked
-abbrev Fresh : Connected → Type 0
+abbrev pub Fresh : Connected → Type 0
 Fresh c = (c.written ≡ []) × (c.heard ≡ zero) × (c.tables.questions ≡ []) × (c.tables.answers ≡ [])
 
 to_fresh : (v : ℕ) (p : Program) (w : ℕ) (ps : List Program) → Each Fresh (world.connections_to v p w ps)
@@ -395,12 +395,12 @@ unfolding world.connections_to world.first_connection
 to_fresh v p w [] = tt
 to_fresh v p w (q ∷ ps) = all_or (Each Fresh) (v == w) (world.connections_to v p (suc w) ps) _ (to_fresh v p (suc w) ps) ((refl, refl, refl, refl), to_fresh v p (suc w) ps)
 
-from_fresh : (all : List Program) (v : ℕ) (ps : List Program) → Each Fresh (world.connections_from all v ps)
+pub from_fresh : (all : List Program) (v : ℕ) (ps : List Program) → Each Fresh (world.connections_from all v ps)
 unfolding world.connections_from
 from_fresh all v [] = tt
 from_fresh all v (p ∷ ps) = each_join Fresh (world.connections_to v p zero all) (world.connections_from all (suc v) ps) (to_fresh v p zero all) (from_fresh all (suc v) ps)
 
-at_fresh : (v u : ℕ) (cs : List Connected) → Each Fresh cs → Fresh (connected_at v u cs)
+pub at_fresh : (v u : ℕ) (cs : List Connected) → Each Fresh cs → Fresh (connected_at v u cs)
 unfolding connected_at wire.unconnected
 at_fresh v u [] h = (refl, refl, refl, refl)
 at_fresh v u (c ∷ cs) h = all_or Fresh (wire.connects v u c) c (connected_at v u cs) h.0 (at_fresh v u cs h.1)
@@ -419,7 +419,7 @@ have_frames script hs w r v u other l s at uncut there = lifted script _ _ _ _ (
 honest_good : (script : Script) (w x : World) (es : List Entry) (k : ℕ) → world.open_from script zero script.vats (world.begins script) ≡ Goes w → world.steps_from script es k w ≡ Goes x → GoodIn script x
 honest_good script w x es k opened stepped = lifted script _ _ _ _ (GoodIn script) (begins_good script) (λ a b q h m. moved_good script _ _ _ _ a b h (moves_told script _ _ _ _ a b m)) x ((honest_reached script).1 w x es k opened stepped)
 
-nth_front : {A : Type 0} (front rest : List A) (x : A) → slice_get (front ++ x ∷ rest) (length front) ≡ Some x
+pub nth_front : {A : Type 0} (front rest : List A) (x : A) → slice_get (front ++ x ∷ rest) (length front) ≡ Some x
 nth_front [] rest x = refl
 nth_front (y ∷ front) rest x = nth_front front rest x
 

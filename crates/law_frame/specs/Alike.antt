@@ -1,11 +1,11 @@
 -- That a note which arrives is read alike in numbers and in names.
-use Rattle.std.specs.Prelude.{◌≡◌, ℕ, zero, suc, true, false, List, [], ◌∷◌, ◌++◌, Option, Some, None, length, map, slice_get, option_map, unwrap_or, ◌==◌}
+use Rattle.std.specs.Prelude.{◌≡◌, ℕ, zero, suc, true, false, List, [], ◌∷◌, ◌++◌, Option, Some, None, length, map, slice_get, option_map, unwrap_or}
 use Rattle.def_machine.specs.Values.{Name, Root, Local, word_of}
 use Rattle.def_machine.specs.State.{Note, Deliver, Open, Ask, SettledTo, Elsewhere, Shorten, GiftEntry, Vat}
 use Rattle.def_machine.specs.Arrive.{Incoming, Old, New}
 use Rattle.law_name.specs.Names.{names_in}
-use Rattle.law_renaming.specs.Maps as maps
-use Rattle.law_renaming.specs.Maps.{incoming}
+use Rattle.def_machine.specs.Maps as maps
+use Rattle.def_machine.specs.Maps.{incoming}
 use Rattle.law_renaming.specs.Renaming.{Wire, Mine, Yours, MyAnswer, YourAnswer, Carried}
 use Rattle.law_renaming.specs.Stands.{Table, Found, Is, found}
 use Rattle.def_run.specs.World.{Script, Entry, Turn, Carry, CutLink, NoticeLink, Link, World, Run, Goes, Stopped, link_at, known_after, read_passed, read_all, read_note, names_of, begins, open_from, step}
@@ -34,7 +34,7 @@ from_peer v (New x h) = New x v
 
 -- a note without what its frame does not tell
 unfoldable pub as_told : {N W : Type 0} → ℕ → Note (Incoming N W) → Note (Incoming N W)
-as_told v (Deliver d n verb ys) = Deliver (record { message = from_peer v d.message; asks = d.asks }) n verb ys
+as_told v (Deliver d n verb ys) = Deliver (record { message = from_peer v d.message; asks = d.asks; answer = None }) n verb ys
 as_told v (Open i n) = Open i n
 as_told v (Ask p i n) = Ask p i n
 as_told v (SettledTo n y) = SettledTo n y

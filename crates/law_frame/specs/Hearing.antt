@@ -91,7 +91,7 @@ module _ (me peer : ℕ) (t : Tables) where
 
   -- a message, by whether it asks for an answer
   unfoldable pub message_heard : Bool → Described → List ℕ → Members → Hearing (Note (Incoming Local Wire))
-  message_heard asks d verb ds imports known = next (λ ys is ks. next (λ x. told (Deliver (record { message = New Carried peer; asks = asks }) x verb ys)) (name_heard d is ks)) (all_heard ds imports known)
+  message_heard asks d verb ds imports known = next (λ ys is ks. next (λ x. told (Deliver (record { message = New Carried peer; asks = asks; answer = None }) x verb ys)) (name_heard d is ks)) (all_heard ds imports known)
 
   -- A note by what its frame says, with the gifts that this vat hosts. The frame of a message does not tell who sent it first, nor that of a request to shorten where the object is: the peer stands in their places, and nothing looks at them.
   unfoldable pub note_heard : List (GiftEntry Local) → Operation → Hearing (Note (Incoming Local Wire))

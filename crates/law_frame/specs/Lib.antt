@@ -6,6 +6,7 @@ pub mod Tables
 pub mod Hearing
 pub mod Alike
 pub mod Asked
+pub mod Lines
 pub mod Known
 pub mod Sources
 pub mod Given

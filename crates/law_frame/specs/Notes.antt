@@ -5,7 +5,7 @@ use Rattle.def_machine.specs.State.{Note, Vat, Gives}
 use Rattle.def_machine.specs.Arrive.{Incoming, arrive}
 use Rattle.law_name.specs.Names.{names_in}
 use Rattle.law_name.specs.Runs.{KnowsOnce}
-use Rattle.law_renaming.specs.Maps as maps
+use Rattle.def_machine.specs.Maps as maps
 use Rattle.law_renaming.specs.Renaming.{Wire}
 use Rattle.law_renaming.specs.Stands.{Is, found, StandsFor}
 use Rattle.def_run.specs.Draws.{draw_word}

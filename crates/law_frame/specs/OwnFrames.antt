@@ -4,7 +4,7 @@ use Rattle.def_machine.specs.Values.{Name, Root, Object, Promise, Answer, Gift, 
 use Rattle.def_machine.specs.State.{Note, Deliver, Open, Ask, SettledTo, Elsewhere, Shorten}
 use Rattle.def_run.specs.Connections.{Connection, Sight, frame_now, put_on}
 use Rattle.def_run.specs.Wire.{sight, is_object}
-use Rattle.law_renaming.specs.Maps as maps
+use Rattle.def_machine.specs.Maps as maps
 use Rattle.law_renaming.specs.Stands.{Table, Is, found, IsTable}
 use Rattle.law_frame.specs.Together.{TablesMay, NoteMay, changed_tables}
 
@@ -26,7 +26,7 @@ refers_here (Far h p) = true
 -- How vat u sees its own numbers: by what its table has for them.
 pub record SeesBy (u : ℕ) (t : Table) (S : Sight Local) : Type 0 where
   pub same : (a b : Local) → S.same a b ≡ same_local a b
-  pub own : (a : Local) (n : Name) → found u t a ≡ Is n → (host_of n == u) ≡ S.own a
+  pub own : (a : Local) (n : Name) → refers_here a ≡ true → found u t a ≡ Is n → (host_of n == u) ≡ S.own a
   pub object : (a : Local) (n : Name) → found u t a ≡ Is n → is_object n ≡ S.object a
 
 -- the answer at vat v that a note in numbers asks for, if it does, is that of the message of the note in names

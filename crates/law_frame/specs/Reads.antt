@@ -63,7 +63,7 @@ module _ (v u : ℕ) (asked : List Name) where
     seen_all (More y ys) s = after_that (seen_passed y s) (λ z r. after_that (seen_all ys r) (λ zs. found (More z zs)))
 
   unfoldable pub seen_note : Note Name → Stage Name → Heard Name (Note (Incoming Name Name))
-  seen_note (Deliver d n verb ys) s = after_that (seen_name n s) (λ x r. after_that (seen_all ys r) (λ zs. found (Deliver (record { message = New d.message v; asks = d.asks }) x verb zs)))
+  seen_note (Deliver d n verb ys) s = after_that (seen_name n s) (λ x r. after_that (seen_all ys r) (λ zs. found (Deliver (record { message = New d.message v; asks = d.asks; answer = None }) x verb zs)))
   seen_note (Open i n) s = after_that (seen_name n s) (λ x. found (Open i x))
   seen_note (Ask p i n) s = found (Ask p i (New n u)) s
   seen_note (SettledTo n y) s = after_that (seen_name n s) (λ x r. after_that (seen_passed y r) (λ z. found (SettledTo x z)))

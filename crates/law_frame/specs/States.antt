@@ -4,7 +4,7 @@ use Rattle.def_machine.specs.Values.{Name, Root, Object, Promise, Answer, Gift, 
 use Rattle.def_machine.specs.State.{Vat}
 use Rattle.law_name.specs.Names.{names_in}
 use Rattle.law_name.specs.Runs.{KnowsOnce}
-use Rattle.law_renaming.specs.Maps as maps
+use Rattle.def_machine.specs.Maps as maps
 use Rattle.law_renaming.specs.Stands.{StandsFor}
 use Rattle.def_run.specs.World.{Script, Program, Entry, World, Goes, begins, open_vat, open_from, step, steps_from, readied}
 use Rattle.law_reference.specs.Logs.{rank, exports}

@@ -6,8 +6,8 @@ use Rattle.def_machine.specs.State.{Passed, Passeds, Plain, AGift, Many, NoMore,
 use Rattle.def_machine.specs.Arrive.{Incoming}
 use Rattle.law_name.specs.Names.{AllOf}
 use Rattle.def_run.specs.Connections.{Connection, Sight, Learnt, Stage, Newcomers, Heard, note_heard, frame_now, put_on}
-use Rattle.law_renaming.specs.Maps as maps
-use Rattle.law_renaming.specs.Maps.{incoming}
+use Rattle.def_machine.specs.Maps as maps
+use Rattle.def_machine.specs.Maps.{incoming}
 use Rattle.law_renaming.specs.Renaming.{Wire}
 use Rattle.law_renaming.specs.Stands.{Found}
 
@@ -44,7 +44,7 @@ ReadingsGoTogether = GoTogether Local Found Wire Name × GoTogether Name Found N
 -- What two ways to see names have in common, where names are changed from one to the other; a name that may stand in a connection is told by P.
 pub record SeesAlike {N M : Type 0} (f : N → M) (P : N → Bool) (S : Sight N) (T : Sight M) : Type 0 where
   pub same : (a b : N) → P a ≡ true → T.same (f a) (f b) ≡ S.same a b
-  pub own : (a : N) → T.own (f a) ≡ S.own a
+  pub own : (a : N) → P a ≡ true → T.own (f a) ≡ S.own a
   pub object : (a : N) → T.object (f a) ≡ S.object a
 
 module _ {N : Type 0} (P : N → Bool) where

@@ -35,7 +35,7 @@ module _ (key : List ℕ) (fuel depth : ℕ) (a b : List ℕ) where
       W ∷ [],
       (
         Says 1 0 V T R (NewMessage 0 ∷ []) a_note refl refl (T, (omega arith), refl, refl)
-            (((omega arith, inl refl, tt, tt), (tt, inr (inl refl), tt, (omega arith)), tt), (tt, tt, other, (omega arith)), refl, tt) refl refl,
+            (((omega arith, inl refl, tt, tt), (tt, inr (inl refl), tt, (omega arith)), tt), (tt, tt, other, (omega arith)), refl, (tt, refl)) refl refl,
         refl,
       ),
     ),

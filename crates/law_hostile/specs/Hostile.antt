@@ -51,7 +51,7 @@ module _ (script : Script) (w : World) (v : ℕ) where
   May s NewDraw = Unit {0}
   May s (Learns n) = IsMadeBy s (Named n) × (host_of n < length script.vats)
 
-  -- Of each name in the note: it was made, the record knows it, and its host is a vat of the script. And it is a note between v and u.
+  -- Of each name in the note: it was made, the record knows it, and its host is a vat of the script. And it is a note between v and u, which calls the answer that it asks for by its name: nobody reads that.
   abbrev pub Lawful : ℕ → Vat Name → Note Name → Type 0
   Lawful u s n = NoteOk (λ b. IsMadeBy s b × IsHad (names_in s.known) s.mails b × IsOther v b × IsBelow (length script.vats) b) n
       × GoesOk (λ b. IsMadeBy s b × IsHad (names_in s.known) s.mails b × IsOther v b × IsBelow (length script.vats) b) u n
@@ -76,7 +76,7 @@ NamesAreKnown = InReached (λ w. (v : ℕ) (s : Vat Name) → slice_get w.vats v
 abbrev pub NotesNameTheirEnds : Type 0
 NotesNameTheirEnds = InReached (λ w. AllOf LinkFits w.links)
 
--- each name that passes in a note, and not as a gift, is of one of the two vats of its link
+-- each name that passes in a note, and not as a gift, is of one of the two vats of its link, and the answer that a note asks for is called by its name
 abbrev pub NotesCarryTheirEnds : Type 0
 NotesCarryTheirEnds = InReached (λ w. AllOf LinkCarries w.links)
 
@@ -86,7 +86,7 @@ NotesNameWhatWasMade = InReached (λ w. AllOf (λ l. AllOf (NoteOk (IsMade w.vat
 
 -- a message of vat 1 to the root of vat 0
 abbrev pub a_note : Note Name
-a_note = Deliver (record { message = Sent (record { sender = 1; number = 0 }); asks = true }) (Root 0) [] NoMore
+a_note = Deliver (record { message = Sent (record { sender = 1; number = 0 }); asks = true; answer = Some (Answer 0 (record { sender = 1; number = 0 })) }) (Root 0) [] NoMore
 
 -- Of two vats that know each other the second, being hostile, may say that to the first at the start.
 abbrev pub HostileVatsSpeak : Type 0

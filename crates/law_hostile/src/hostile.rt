@@ -30,7 +30,8 @@ pub fn notes_name_their_ends()
     ensures { NotesNameTheirEnds }
 {}
 
-/// Each name that passes in a note, and not as a gift, is of one of the two vats of its link.
+/// Each name that passes in a note, and not as a gift, is of one of the two vats of its link. What the
+/// sender of a note calls the answer that it asks for is the name of that answer.
 pub fn notes_carry_their_ends()
     ensures { NotesCarryTheirEnds }
 {}

@@ -191,13 +191,13 @@ module _ (kind : Value → Bool) (base : Base) (ground : GroundOf kind base) whe
 
   -- ---- going out
 
-  pub deliver_of : (m : ℕ) (asks : Bool) (verb : Words) (args : List Value) (w : ℕ) (x : Reference) (i : Interior) → InsideOf kind base i → Every (IsOf kind) args
-      → EndsOf kind base Anything (deliver m asks verb args w x i)
+  pub deliver_of : (m : ℕ) (o : Option ℕ) (verb : Words) (args : List Value) (w : ℕ) (x : Reference) (i : Interior) → InsideOf kind base i → Every (IsOf kind) args
+      → EndsOf kind base Anything (deliver m o verb args w x i)
   unfolding deliver ◌>>=◌ ◌>>◌
-  deliver_of m asks verb args w x i good a =
+  deliver_of m o verb args w x i good a =
       then_of kind base Anything Anything (packs (pass w) args i) _ (packs_of (IsOf kind) (pass w) args i a (λ v b j next. pass_of w v j next b) good)
       (λ ps b j next. then_of kind base Anything Anything (tell (posted w m) j) _ (tell_of kind base (posted w m) j next)
-      (λ u c k last. send_out_of kind base w (Deliver m asks x verb ps) k last))
+      (λ u c k last. send_out_of kind base w (Deliver m o x verb ps) k last))
 
   plainly_of : (p w : ℕ) (y : Value) (i : Interior) → InsideOf kind base i → IsOf kind y → EndsOf kind base Anything (inform_plainly p w y i)
   unfolding inform_plainly ◌>>=◌

@@ -79,8 +79,8 @@ module _ (kind : Value → Bool) (base : Base) (ground : GroundOf kind base) whe
   unfolding send_first ◌>>◌
   first_of m Near i good a b = enqueue_of kind base ground m i good a
   first_of m (Mine n) i good a b = hold_of kind base ground n m i good a
-  first_of m (FarPromise w n) i good a b = deliver_of kind base ground m.id (is_some m.answer) m.verb m.args w (reference.Promise n) i good a.1
-  first_of m (FarObject w p) i good a b = deliver_of kind base ground m.id (is_some m.answer) m.verb m.args w (reference.Far w p) i good a.1
+  first_of m (FarPromise w n) i good a b = deliver_of kind base ground m.id m.answer m.verb m.args w (reference.Promise n) i good a.1
+  first_of m (FarObject w p) i good a b = deliver_of kind base ground m.id m.answer m.verb m.args w (reference.Far w p) i good a.1
   first_of m (Gone t) i good a b = then_of kind base Anything Anything (tell (event.LostBroken m.id) i) _ (tell_of kind base (event.LostBroken m.id) i good) (λ u c j next. break_of m.answer t j next b)
 
   send_new_of : (act : ℕ) (x : Value) (verb : Words) (args : List Value) (y : Value) (p : Place) (w : ℕ) (i : Interior) → InsideOf kind base i → Every (IsOf kind) args → IsOf kind y → PlaceOf kind base ground p

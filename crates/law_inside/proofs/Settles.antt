@@ -134,11 +134,11 @@ module _ (kind : Value → Bool) (base : Base) (ground : GroundOf kind base) whe
   unfolding pass_asking ◌>>=◌ ◌>>◌
   asking_of m w x p i good a =
       then_of kind base Anything Anything (come w i) _ (come_of w i good)
-      (λ n b j next. then_of kind base Anything Anything (deliver m.id true m.verb m.args w x j) _ (deliver_of kind base ground m.id true m.verb m.args w x j next a.1) (λ u c k last. wait_on_of p n k last))
+      (λ n b j next. then_of kind base Anything Anything (deliver m.id (Some n) m.verb m.args w x j) _ (deliver_of kind base ground m.id (Some n) m.verb m.args w x j next a.1) (λ u c k last. wait_on_of p n k last))
 
   by_answer_of : (m : Message) (w : ℕ) (x : Reference) (o : Option ℕ) (i : Interior) → InsideOf kind base i → MessageOf kind m → EndsOf kind base Anything (pass_by_answer m w x o i)
   unfolding pass_by_answer
-  by_answer_of m w x None i good a = deliver_of kind base ground m.id false m.verb m.args w x i good a.1
+  by_answer_of m w x None i good a = deliver_of kind base ground m.id None m.verb m.args w x i good a.1
   by_answer_of m w x (Some p) i good a = asking_of m w x p i good a
 
   -- an act, and then what was to be done before

@@ -1,4 +1,3 @@
-pub mod KeyLaws
 pub mod Walks
 pub mod RefsWalk
 pub mod ArriveWalk

@@ -8,7 +8,7 @@ use Rattle.def_machine.specs.Values.{Name, Root, Object, Promise, Answer, Gift, 
 use Rattle.def_machine.specs.State.{Known, Standing, Unsettled, WaitsOn, Viewed, Settled, Change, Hold, Wait, WaitOn, See, React, ToTell, Settle, Vat, with_change, changed, changed_to, unless_settled, begun}
 use Rattle.def_run.specs.World.{put_at}
 use Rattle.law_name.specs.Names.{Bit, Named, Mail, Drew, At, Off, Entered, Owns, Gave, bare, AllOf, IsAmong, promises_of, messages_of, WasDrawn, IsMade, names_in, IsKnownIn, IsHad, HostIsTrue, IsEventual, IsMessageName, IsPlain, PlainOnce}
-use Rattle.law_machine.proofs.KeyLaws.{word_key}
+use Rattle.def_machine.proofs.Keys.{word_key}
 use Rattle.law_name.proofs.Facts.{all_end, PlaceOk}
 use Rattle.law_name.proofs.Care.{ViewsNone, Care, Alike, Spots, Under, Giving, Makes}
 use Rattle.law_name.proofs.SameNames.{false_true, reference_is}

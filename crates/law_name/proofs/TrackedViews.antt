@@ -7,7 +7,7 @@ use Rattle.def_machine.specs.State.{Known, See, Wait, Shorten, Ask, Views, GiftE
 use Rattle.def_machine.specs.Refs.{host_at}
 use Rattle.def_machine.specs.Arrive as arrive
 use Rattle.law_name.specs.Names.{Named, Drew, At, Gave, AllOf, IsAmong, WasDrawn, names_in, KnownOk, GiftOk}
-use Rattle.law_machine.proofs.KeyLaws.{word_under_key}
+use Rattle.def_machine.proofs.Keys.{word_under_key}
 use Rattle.law_name.proofs.Among.{drawn_last, key_not_drawn}
 use Rattle.law_name.proofs.Facts.{Fact, Nothing, Also, IsName, IsDraw, IsGiven, IsVat, nothing}
 use Rattle.law_name.proofs.Care.{Care, Sound, Ends, Gets, Fine, widen, still, changes_ok, fine_tell, fine_out, fine_wait}

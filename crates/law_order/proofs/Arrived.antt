@@ -287,9 +287,9 @@ append_nothing (x ∷ xs) = ap (λ q. x ∷ q) (append_nothing xs)
 
 -- ---- the message is sent on
 
-module _ (script : Script) (honest : ℕ → Bool) (w : World) (a b : ℕ) (r s : Vat Name) (m : Message Name) (asks : Bool) (n : Name) (verb : Words) (ys : Passeds Name) (at : slice_get w.vats b ≡ Some r) (way : IsOpenWay honest a b w) where
+module _ (script : Script) (honest : ℕ → Bool) (w : World) (a b : ℕ) (r s : Vat Name) (m : Message Name) (asks : Bool) (answer : Option Name) (n : Name) (verb : Words) (ys : Passeds Name) (at : slice_get w.vats b ≡ Some r) (way : IsOpenWay honest a b w) where
   abbrev Mailed : Delivery Name
-  Mailed = record { message = m.id; asks = asks }
+  Mailed = record { message = m.id; asks = asks; answer = answer }
 
   abbrev From : Ways
   From = ways script honest (amid b s (keeping a b (Deliver Mailed n verb ys) w))
@@ -355,9 +355,9 @@ module _ (script : Script) (honest : ℕ → Bool) (w : World) (a b : ℕ) (r s 
     sent_here y (Gone p) f h e = absurd h
 
 pub carried_messages_go_on : CarriedMessagesGoOn
-carried_messages_go_on = λ script honest w a b r s settle m asks n verb ys at way known waiting here.
+carried_messages_go_on = λ script honest w a b r s settle m asks answer n verb ys at way known waiting here.
     let y = refs.follow (names script b) s (Ref n) in
-    sent_here script honest w a b r s m asks n verb ys at way settle y (refs.place (names script b) s y) waiting here (learnt_leads script honest b s n known)
+    sent_here script honest w a b r s m asks answer n verb ys at way settle y (refs.place (names script b) s y) waiting here (learnt_leads script honest b s n known)
 
 broken_aimed : (v : ℕ) (y : Value Name) (p : refs.Place Name) (problem : Words) → p ≡ Gone problem → aimed v y p ≡ Nowhere
 unfolding aimed
@@ -380,7 +380,7 @@ mail_named m = record { id = m; target = Null; verb = []; args = []; answer = No
 pub carried_messages_are_lost : CarriedMessagesAreLost
 carried_messages_are_lost = λ script honest w a b r s m n verb ys problem at way known broken nothing.
     let y = refs.follow (names script b) s (Ref n) in
-    gone script honest w a b r s (mail_named m.message) m.asks n verb ys at way s (self_refers (names script b) s) (λ i h. h) refl (learnt_leads script honest b s n known ∙ broken_aimed b y (refs.place (names script b) s y) problem broken) nothing
+    gone script honest w a b r s (mail_named m.message) m.asks m.answer n verb ys at way s (self_refers (names script b) s) (λ i h. h) refl (learnt_leads script honest b s n known ∙ broken_aimed b y (refs.place (names script b) s y) problem broken) nothing
 
 away_aimed : (v : ℕ) (y : Value Name) (p : refs.Place Name) (h : ℕ) (q : Name) (o : Bool) → p ≡ Away h q o → aimed v y p ≡ End (Way v h) q
 unfolding aimed
@@ -432,7 +432,7 @@ carried_messages_are_put_on = λ script honest w a b h r s m n q o verb ys zs at
     let y = refs.follow (names script b) s (Ref n) in
     let p : Put Name = record { to = h; note = Deliver m q verb zs } in
     let t : Vat Name = record s { outbox = s.outbox ++ p ∷ [] } in
-    went script honest w a b r s (mail_named m.message) m.asks n verb ys at way t (Way b h) q (outbox_refers (names script b) s (s.outbox ++ p ∷ [])) (λ i j. j) (p ∷ []) refl (tt, tt)
+    went script honest w a b r s (mail_named m.message) m.asks m.answer n verb ys at way t (Way b h) q (outbox_refers (names script b) s (s.outbox ++ p ∷ [])) (λ i j. j) (p ∷ []) refl (tt, tt)
     (learnt_leads script honest b s n known ∙ away_aimed b y (refs.place (names script b) s y) h q o away)
     (put_stands script honest w b h on m q verb zs (world.put_at b t w.vats) s.outbox)
 

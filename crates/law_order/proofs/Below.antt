@@ -4,7 +4,7 @@ use Rattle.std.proofs.lemmas.Bool.{ne_eqb, eq-eqb}
 use Rattle.std.specs.Prelude.{◌==◌, ◌&&◌, ◌||◌}
 use Rattle.def_machine.specs.Values.{Name, key, word_of}
 use Rattle.def_machine.specs.State.{Note, Deliver, Open, Ask, SettledTo, Elsewhere, Shorten, is_in, drawn_at}
-use Rattle.law_machine.proofs.KeyLaws.{word_key}
+use Rattle.def_machine.proofs.Keys.{word_key}
 use Rattle.def_run.specs.World.{Link}
 use Rattle.def_run.specs.World as world
 use Rattle.law_order.specs.Ways.{Lane, Way, Item, Place, Free}

@@ -326,7 +326,7 @@ module _ (script : Script) (honest : ℕ → Bool) (w : World) (a b : ℕ) (r s 
 
     kept_over : onward_at script honest Vats Kept (Way a b) n ≡ leads_in script honest b s (Ref n)
     unfolding leads leads_at
-    kept_over = onward_some script honest w a b r s (record { message = n; asks = true }) n [] NoMore at way Vats Kept n kept_open.0 kept_open.1 kept_open.2 ∙ kept_leads
+    kept_over = onward_some script honest w a b r s (record { message = n; asks = true; answer = None }) n [] NoMore at way Vats Kept n kept_open.0 kept_open.1 kept_open.2 ∙ kept_leads
       where
         kept_leads : leads script honest Vats Kept b (Ref n) ≡ leads_in script honest b s (Ref n)
         kept_leads = ap (λ o. leads_at script honest b o (Ref n)) (get_put w.vats b r s at)

@@ -1,6 +1,6 @@
 -- Where a message is sent to a place, it is ahead of that place from then on.
 use Rattle.std.proofs.Common.{◌≡◌, ℕ, zero, suc, length, Bool, true, false, List, [], ◌∷◌, ◌++◌, Option, Some, None, refl, sym, ap, subst, ◌∙◌, inl, inr, eqb-true}
-use Rattle.std.specs.Prelude.{slice_get, ◌==◌}
+use Rattle.std.specs.Prelude.{slice_get, ◌==◌, is_some}
 use Rattle.def_machine.specs.Values.{Words, Value, Null, Flag, Number, Letter, Text, Prim, Broken, Items, Ref, Name, Naming, IsAnswer}
 use Rattle.def_machine.specs.State.{Message, Standing, Unsettled, WaitsOn, Viewed, Settled, Known, Hold, Passeds, Delivery, Note, Deliver, Open, Ask, SettledTo, Elsewhere, Shorten, Put, Vat, Done, Gives, Throws, Ejects, Stops, Posted, Waits, Lost, WaitOn, Wait}
 use Rattle.def_machine.specs.State as state
@@ -307,31 +307,34 @@ module _ (script : Script) (honest : ℕ → Bool) (w : World) (v : ℕ) (r s : 
 
   -- the deliver note of the message is the last that was put
   abbrev PutLast : ℕ → Name → Vat Name → Type 0
-  PutLast h n t = (ps : List (Put Name)) × (ys : Passeds Name) × (t.outbox ≡ ps ++ record { to = h; note = Deliver (refs.delivery_of (names script v) m) n m.verb ys } ∷ [])
+  PutLast h n t = (asks : Bool) × (answer : Option Name) × (ps : List (Put Name)) × (ys : Passeds Name) × (t.outbox ≡ ps ++ record { to = h; note = Deliver (record { message = m.id; asks = asks; answer = answer }) n m.verb ys } ∷ [])
 
   put_last : (h : ℕ) (n : Name) → IfGives (PutLast h n) (refs.pass_on (names script v) m h n s)
   unfolding refs.pass_on refs.deliver refs.wait_on state.come state.for_some state.◌>>=◌ state.◌>>◌ state.and_then state.tell state.send_out state.alter
   put_last h n = by_answer m.answer
     where
-      go : (p : Name) (d : Done Name (Passeds Name)) → IfGives (PutLast h n) (state.and_then (state.and_then d (λ args. state.◌>>◌ (state.tell (Posted h m.id)) (state.send_out h (Deliver (refs.delivery_of (names script v) m) n m.verb args)))) (λ _. refs.wait_on (names script v) p ((names script v).made (IsAnswer h m.id) (length s.known))))
-      go p (Gives args t) = (t.outbox, args, refl)
+      New : Name
+      New = (names script v).made (IsAnswer h m.id) (length s.known)
+
+      go : (p : Name) (d : Done Name (Passeds Name)) → IfGives (PutLast h n) (state.and_then (state.and_then d (λ args. state.◌>>◌ (state.tell (Posted h m.id)) (state.send_out h (Deliver (record { message = m.id; asks = true; answer = Some New }) n m.verb args)))) (λ _. refs.wait_on (names script v) p ((names script v).made (IsAnswer h m.id) (length s.known))))
+      go p (Gives args t) = (true, Some New, t.outbox, args, refl)
       go p (Throws q t) = tt
       go p (Ejects i z t) = tt
       go p (Stops c t) = tt
 
       lone : (d : Done Name (Passeds Name)) → IfGives (PutLast h n) (state.and_then d (λ args. state.◌>>◌ (state.tell (Posted h m.id)) (state.send_out h (Deliver (refs.delivery_of (names script v) m) n m.verb args))))
-      lone (Gives args t) = (t.outbox, args, refl)
+      lone (Gives args t) = (is_some m.answer, m.answer, t.outbox, args, refl)
       lone (Throws q t) = tt
       lone (Ejects i z t) = tt
       lone (Stops c t) = tt
 
-      by_answer : (o : Option Name) → IfGives (PutLast h n) (state.for_some o (λ p. state.◌>>=◌ (state.come (names script v) (IsAnswer h m.id) h) (λ a. state.◌>>◌ (refs.deliver (names script v) m h n) (refs.wait_on (names script v) p a))) (refs.deliver (names script v) m h n) s)
+      by_answer : (o : Option Name) → IfGives (PutLast h n) (state.for_some o (λ p. state.◌>>=◌ (state.come (names script v) (IsAnswer h m.id) h) (λ a. state.◌>>◌ (refs.deliver (names script v) (record m { answer = Some a }) h n) (refs.wait_on (names script v) p a))) (refs.deliver (names script v) m h n) s)
       by_answer (Some p) = go p (refs.pass_all (names script v) h m.args (record s { known = s.known ++ state.begun ((names script v).made (IsAnswer h m.id) (length s.known)) h ∷ [] }))
       by_answer None = lone (refs.pass_all (names script v) h m.args s)
 
   sent_away : (y : Value Name) (h : ℕ) (n : Name) (o : Bool) → Honest (Away h n o) → IfGives (Then y (Away h n o)) (refs.pass_on (names script v) m h n s)
   unfolding aimed
-  sent_away y h n o f = if_map (PutLast h n) (Then y (Away h n o)) (λ t p. away script honest w v r t at h honest_here (f h n o refl) (refs.delivery_of (names script v) m) n m.verb p.1 p.0 p.2) (refs.pass_on (names script v) m h n s) (put_last h n)
+  sent_away y h n o f = if_map (PutLast h n) (Then y (Away h n o)) (λ t p. away script honest w v r t at h honest_here (f h n o refl) (record { message = m.id; asks = p.0; answer = p.1 }) n m.verb p.3 p.2 p.4) (refs.pass_on (names script v) m h n s) (put_last h n)
 
   sent_gone : (y : Value Name) (p : Words) (d : Done Name (Unit {0})) → IfGives (Then y (Gone p)) d
   unfolding aimed

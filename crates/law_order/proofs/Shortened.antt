@@ -331,7 +331,7 @@ module _ (script : Script) (honest : ℕ → Bool) (w : World) (a b c : ℕ) (r 
 
   module _ (leading : leads_in script honest b s (Ref n) ≡ End (Way b c) q) (none : open_place script honest c i Links ≡ None) (only : gift_place script honest c i Kept ≡ Mid (Way a b) [] n) where
     kept_over : onward_at script honest Vats Kept (Way a b) n ≡ End (Way b c) q
-    kept_over = sym (links_still Same Other (λ z. refl) script honest Vats Kept Links left_other a b n) ∙ mid_onward script honest w a b r s (record { message = n; asks = true }) n [] NoMore at way n ∙ leading
+    kept_over = sym (links_still Same Other (λ z. refl) script honest Vats Kept Links left_other a b n) ∙ mid_onward script honest w a b r s (record { message = n; asks = true; answer = None }) n [] NoMore at way n ∙ leading
 
     placed : Placed script honest b c i q both_ends Then open_on.0
     placed = placed_open script honest b c i q both_ends Links open_on.0 open_on.1 open_on.2 none

@@ -1,5 +1,5 @@
 -- What is ahead as a note arrives.
-use Rattle.std.specs.Prelude.{◌≡◌, ℕ, Bool, true, false, List, [], ◌∷◌, ◌++◌, Some, None, slice_get, ◌⊎◌}
+use Rattle.std.specs.Prelude.{◌≡◌, ℕ, Bool, true, false, List, [], ◌∷◌, ◌++◌, Option, Some, None, slice_get, ◌⊎◌}
 use Rattle.def_machine.specs.Values.{Words, Ref, Name, Gift, Naming}
 use Rattle.def_machine.specs.State.{Message, Passeds, Delivery, Note, Deliver, Open, Ask, SettledTo, Elsewhere, Shorten, GiftEntry, Vat, Known, Unsettled, with_opened}
 use Rattle.def_machine.specs.Arrive.{gift_at}
@@ -83,12 +83,12 @@ IsHere (Gone p) = ⊥
 
 -- Of a message that arrives for what is data, an object of the receiver, or a promise of its own that waits: it goes on to where it is sent, in one change with the leaving of its note. On data it is lost.
 abbrev pub CarriedMessagesGoOn : Type 0
-CarriedMessagesGoOn = (script : Script) (honest : ℕ → Bool) (w : World) (a b : ℕ) (r s : Vat Name) (settle : Settler {N = Name} {W = Name} (names script b)) (m : Message Name) (asks : Bool) (n : Name) (verb : Words) (ys : Passeds Name)
+CarriedMessagesGoOn = (script : Script) (honest : ℕ → Bool) (w : World) (a b : ℕ) (r s : Vat Name) (settle : Settler {N = Name} {W = Name} (names script b)) (m : Message Name) (asks : Bool) (answer : Option Name) (n : Name) (verb : Words) (ys : Passeds Name)
     → slice_get w.vats b ≡ Some r → IsOpenWay honest a b w → IsLearnt b script s n
     → let y = follow (names script b) s (Ref n) in let p = place (names script b) s y in
     ((q : Name) → p ≡ Mine q → (k : Known Name) × (entry_of (names script b) s.known q ≡ Some k) × IsWaiting k.standing)
     → IsHere p
-    → IfGives (λ t. GoesTo (ways script honest (amid b s (keeping a b (Deliver (record { message = m.id; asks = asks }) n verb ys) w))) (ways script honest (amid b t w)) (Way a b) (item m.id n) (aimed b y p)) (send_to (names script b) settle m y p s)
+    → IfGives (λ t. GoesTo (ways script honest (amid b s (keeping a b (Deliver (record { message = m.id; asks = asks; answer = answer }) n verb ys) w))) (ways script honest (amid b t w)) (Way a b) (item m.id n) (aimed b y p)) (send_to (names script b) settle m y p s)
 
 -- Of one that arrives for what is broken: it is lost as its note leaves.
 abbrev pub CarriedMessagesAreLost : Type 0

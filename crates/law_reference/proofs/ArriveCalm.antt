@@ -93,7 +93,7 @@ module _ {N W : Type 0} (K : Naming N W) (G : N → Option N → Type 0) (Far : 
   send_asked from m k good n verb args = numbered_then _ (λ s. good s k _ (λ a g.
       calm_then K G R law (calm_to_tell K G R law from a) (calm_send_on K G Far R law minds passes (refs.settle K) (λ p y. calm_settle K G Far R law minds passes p y) _ g)))
 
-  pub calm_arrive_deliver : (from : ℕ) (m : W) (h : ℕ) (asks : Bool) → AnswersHere m → ((k : ℕ) → G (K.mailed (IsCarried m) k) None) → (x : Incoming N W) (verb : Words) (ys : Passeds (Incoming N W)) → Gentle R (arrive.arrive_deliver K from (record { message = New m h; asks = asks }) x verb ys)
+  pub calm_arrive_deliver : (from : ℕ) (m : W) (h : ℕ) (asks : Bool) → AnswersHere m → ((k : ℕ) → G (K.mailed (IsCarried m) k) None) → (x : Incoming N W) (verb : Words) (ys : Passeds (Incoming N W)) → Gentle R (arrive.arrive_deliver K from (record { message = New m h; asks = asks; answer = None }) x verb ys)
   unfolding arrive.arrive_deliver arrive.learn_message
   calm_arrive_deliver from m h asks good lone x verb ys = mailed_then m _ (λ k. calm_bind K G R law (calm_learn_all from ys) (λ args. calm_bind K G R law (calm_learn_name x) (λ n.
       calm_if K G R law asks (send_asked from m k good n verb args) (calm_send_on K G Far R law minds passes (refs.settle K) (λ p y. calm_settle K G Far R law minds passes p y) _ (lone k)))))

@@ -1,5 +1,5 @@
 -- What arrives makes known what the note brings, and a notice makes nothing known that was not claimed.
-use Rattle.std.proofs.Common.{if◌then◌else◌, ◌≡◌, ℕ, zero, ◌+◌, ◌≤◌, Bool, true, false, List, [], ◌∷◌, ◌++◌, Option, Some, None, refl, ◌∙◌, arith, length, if◌then◌else◌, ◌==◌}
+use Rattle.std.proofs.Common.{if◌then◌else◌, ◌≡◌, ℕ, zero, ◌+◌, ◌≤◌, Bool, true, false, List, [], ◌∷◌, ◌++◌, Option, Some, None, refl, ◌∙◌, arith, if◌then◌else◌, ◌==◌}
 use Rattle.std.proofs.lemmas.Bool.{eqb-true}
 use Rattle.def_machine.specs.Values.{Words, Value, Null, Flag, Number, Letter, Text, Prim, Broken, Items, Ref, Name, Gift, Naming, IsAnswer, IsGift, IsLearnt, IsCarried, naming, name_of, mail_of, answer_of, key, under}
 use Rattle.def_machine.specs.State.{Standing, Unsettled, WaitsOn, Viewed, Settled, Known, Passed, Passeds, Plain, AGift, Many, NoMore, More, Note, Deliver, Open, Ask, SettledTo, Elsewhere, Shorten, GiftEntry, Vat, Act, ◌>>=◌, ◌>>◌, ToTell, and_then, mail, give, look, come, alter, begun, draw, draws, drawn_at, send_out, open_gift}
@@ -8,7 +8,7 @@ use Rattle.def_machine.specs.Arrive as arrive
 use Rattle.def_machine.specs.Arrive.{Incoming, Old, New, gift_at}
 use Rattle.law_machine.specs.Steps.{After}
 use Rattle.law_machine.proofs.Keeps.{Keeps}
-use Rattle.law_machine.proofs.KeyLaws.{word_under_key}
+use Rattle.def_machine.proofs.Keys.{word_under_key}
 use Rattle.law_fate.proofs.Spares.{keeps_give, keeps_look}
 use Rattle.law_reference.specs.Knowing.{one, onward, Knowing, new_name, new_in_value, new_in, new_in_all, new_answer, new_gift_here, brings}
 use Rattle.law_reference.proofs.Costs.{spared, none, free, after_here, after_more, after_pays, after_trans, bind_after, costs_more, costs_bind, bind_free, free_bind, free_then, then_free, free_gift, free_open, free_out, free_to_tell, free_mail, costs_come, draw_owes, known_after}
@@ -183,15 +183,15 @@ module _ (v : ℕ) (x : Name) (word : ℕ → ℕ) where
       → Keeps (Knowing v x (new_in_all x ys + (new_name x z + (one (answer_of v id) x + onward v x id)))) (arrive.learn_all K from ys >>= (λ args. arrive.learn_name K z >>= (λ n. if asks then arrive.send_on_asked K from id n verb args else send_on K (settle K) (record { id = id; target = Ref n; verb = verb; args = args; answer = None }))))
   costs_sent_on from asks z verb ys id = let c : ℕ = one (answer_of v id) x + onward v x id in costs_bind v x (new_in_all x ys) (new_name x z + c) (costs_learn_all from ys) (λ args. costs_bind v x (new_name x z) c (costs_learn_name z) (λ n. looks_first asks from id n verb args))
 
-  deliver_after : (from : ℕ) (m : Incoming Name Name) (asks : Bool) (z : Incoming Name Name) (verb : Words) (ys : Passeds (Incoming Name Name)) (s : Vat Name) → After (Knowing v x (new_answer v x m + new_in_all x ys + new_name x z)) s (arrive.arrive_deliver K from (record { message = m; asks = asks }) z verb ys s)
+  deliver_after : (from : ℕ) (m : Incoming Name Name) (asks : Bool) (answer : Option (Incoming Name Name)) (z : Incoming Name Name) (verb : Words) (ys : Passeds (Incoming Name Name)) (s : Vat Name) → After (Knowing v x (new_answer v x m + new_in_all x ys + new_name x z)) s (arrive.arrive_deliver K from (record { message = m; asks = asks; answer = answer }) z verb ys s)
   unfolding arrive.arrive_deliver arrive.learn_message ◌>>=◌ and_then give mail naming mail_of new_answer
-  deliver_after from (Old m) asks z verb ys s = after_more v x (new_in_all x ys + (new_name x z + (one (answer_of v m) x + onward v x m))) _ s (omega arith) _ ((costs_sent_on from asks z verb ys m).after s)
-  deliver_after from (New m h) asks z verb ys s = after_more v x (0 + (new_in_all x ys + (new_name x z + (one (answer_of v m) x + onward v x m)))) _ s (omega arith) _
+  deliver_after from (Old m) asks answer z verb ys s = after_more v x (new_in_all x ys + (new_name x z + (one (answer_of v m) x + onward v x m))) _ s (omega arith) _ ((costs_sent_on from asks z verb ys m).after s)
+  deliver_after from (New m h) asks answer z verb ys s = after_more v x (0 + (new_in_all x ys + (new_name x z + (one (answer_of v m) x + onward v x m)))) _ s (omega arith) _
       (after_trans v x 0 (new_in_all x ys + (new_name x z + (one (answer_of v m) x + onward v x m))) s _ ((free_mail v x K (IsCarried m)).after s) _ ((costs_sent_on from asks z verb ys m).after _))
 
   pub arrive_after : (from : ℕ) (n : Note (Incoming Name Name)) (s : Vat Name) → After (Knowing v x (brings v x from s.gifts n)) s (arrive.arrive K from n s)
   unfolding arrive.arrive brings
-  arrive_after from (Deliver d z verb ys) s = deliver_after from d.message d.asks z verb ys s
+  arrive_after from (Deliver d z verb ys) s = deliver_after from d.message d.asks d.answer z verb ys s
   arrive_after from (Open i z) s = open_after from i z s
   arrive_after from (Ask p i z) s = ask_after from p i s
   arrive_after from (SettledTo z y) s = (costs_arrive_settled from z y).after s

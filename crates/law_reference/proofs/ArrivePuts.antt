@@ -8,7 +8,7 @@ use Rattle.def_machine.specs.Arrive.{Incoming, Old, New}
 use Rattle.def_run.specs.World as world
 use Rattle.law_machine.specs.Steps.{After}
 use Rattle.law_machine.proofs.Keeps.{Keeps}
-use Rattle.law_machine.proofs.KeyLaws.{word_under_key, provider_under}
+use Rattle.def_machine.proofs.Keys.{word_under_key, provider_under}
 use Rattle.law_name.specs.Names.{IsAmong, WasDrawn}
 use Rattle.law_name.proofs.Among.{key_not_drawn}
 use Rattle.law_fate.proofs.PlacesLast.{each_end}

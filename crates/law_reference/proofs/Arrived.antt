@@ -1,6 +1,6 @@
 -- What a vat knows it goes on knowing; and where a message arrives, the vat knows its answer there.
-use Rattle.std.proofs.Common.{◌≡◌, ℕ, List, [], ◌∷◌, ◌++◌, refl, sym, ◌∙◌, Some, true}
-use Rattle.def_machine.specs.Values.{Words, Value, Ref, Name, Answer, Sent, Msg, Naming, naming, name_of, mail_of, answer_of, IsAnswer}
+use Rattle.std.proofs.Common.{◌≡◌, ℕ, List, [], ◌∷◌, ◌++◌, refl, sym, ◌∙◌, Some, None, true}
+use Rattle.def_machine.specs.Values.{Words, Value, Ref, Name, Answer, Sent, Msg, Naming, naming, name_of, mail_of, answer_of}
 use Rattle.def_machine.specs.State.{Known, ToTell, Passeds, Vat, Done, Gives, Throws, Ejects, Stops, Act, ◌>>=◌, ◌>>◌, and_then, look, come, mail, alter, begun}
 use Rattle.def_machine.specs.Refs as refs
 use Rattle.def_machine.specs.Arrive as arrive
@@ -92,7 +92,7 @@ module _ (word : ℕ → ℕ) (v : ℕ) (m : Msg) where
       let there : IsAmong (Answer s.number m) (names_in s1.known) = rw (names_end s.known k) (among_last (names_in s.known) (Answer s.number m)) in
       come_stays s1 _ (rw (sym e) there) ((rest_stays from (Answer s.number m) n verb args).after s1)
 
-  pub arrived : (from h : ℕ) (z : Incoming Name Name) (verb : Words) (ys : Passeds (Incoming Name Name)) (s : Vat Name) → s.number ≡ v → Comes (arrive.arrive_deliver K from (record { message = New (Sent m) h; asks = true }) z verb ys s)
+  pub arrived : (from h : ℕ) (z : Incoming Name Name) (verb : Words) (ys : Passeds (Incoming Name Name)) (s : Vat Name) → s.number ≡ v → Comes (arrive.arrive_deliver K from (record { message = New (Sent m) h; asks = true; answer = None }) z verb ys s)
   unfolding arrive.arrive_deliver arrive.learn_message ◌>>=◌ and_then mail naming mail_of
   arrived from h z verb ys s e = let s1 : Vat Name = record s { mails = s.mails ++ Sent m ∷ [] } in later s1 (arrive.learn_all K from ys s1) _ e ((keeps_learn_all K Stays base law from ys).after s1)
       (λ args t f. later t (arrive.learn_name K z t) _ f ((keeps_learn_name K Stays base law z).after t) (λ n r g. answered from n verb args r g))

@@ -60,7 +60,7 @@ module _ (g i : ℕ) where
 
     -- a note between two others does not name it
     pub third_not : (n : Note Name) → IsBetween a b n → Carries a b n → NamesNot X n
-    third_not (Deliver id n verb ys) h k = (tt, other_host n b h not_b, passeds_not ys k)
+    third_not (Deliver id n verb ys) h k = (tt, other_host n b h not_b, passeds_not ys k.0)
     third_not (Open j n) h k = (tt, other_host n b h not_b)
     third_not (Ask p j n) h k = (tt, other_host n b h not_b)
     third_not (SettledTo n y) h k = (other_host n a h not_a, passed_not y k)

@@ -1,7 +1,7 @@
 -- What a vat does with references, what arrives once it is learnt, and notices, end in a sound state: from how each single change and each note put ends.
-use Rattle.std.proofs.Common.{ℕ, zero, suc, Bool, true, false, List, [], Option, Some, None, if◌then◌else◌, codes}
+use Rattle.std.proofs.Common.{◌≡◌, ℕ, zero, suc, Bool, true, false, List, [], Option, Some, None, if◌then◌else◌, codes, length, refl, sym, subst}
 use Rattle.def_machine.specs.Values.{Words, Value, Broken, Prim, Ref, Naming, IsAnswer, IsGift, Null}
-use Rattle.def_machine.specs.State.{Happened, Hold, Wait, WaitOn, React, ToTell, Settle, Took, Sends, Reacts, Unsettled, WaitsOn, Viewed, Open, Ask, GiftEntry, Vat, ◌>>=◌, ◌>>◌, tell, enqueue, alter, come, new_gift, open_gift, mark, draw, new_message, new_promise, send_out, give, look, is_in, Message, Standing, Settled, Known, Act, new_lone_message}
+use Rattle.def_machine.specs.State.{Happened, Hold, Wait, WaitOn, React, ToTell, Settle, Took, Sends, Reacts, Unsettled, WaitsOn, Viewed, Open, Ask, GiftEntry, Vat, ◌>>=◌, ◌>>◌, tell, enqueue, alter, come, new_gift, open_gift, mark, draw, new_message, new_promise, send_out, give, look, is_in, for_some, Message, Standing, Settled, Known, Act, new_lone_message}
 use Rattle.def_machine.specs.Refs as refs
 use Rattle.def_machine.specs.Refs.{Place, Near, Mine, Away, Gone}
 use Rattle.def_machine.specs.Arrive as arrive
@@ -9,13 +9,23 @@ use Rattle.def_machine.specs.Eval as eval
 use Rattle.def_kernel.specs.declared.node.Node.{Node}
 use Rattle.law_name.specs.Names.{Named}
 use Rattle.law_name.proofs.Facts.{Fact, Also, IsName, IsMail, IsDraw, IsVat, IsOff, IsEntry, AreEntries, MayEntry, may_map, IsValue, AreValues, IsMessage, AreMessages, IsKnown, IsGiftEntry, IsPlace, IsChange, MayKnown, MayGift, new_names, nothing, MayName}
-use Rattle.law_name.proofs.Care.{Care, Alike, Spots, Gets, Fine, quiet, fine_activation, fine_bind, fine_give, got_entry, bind_value, bind_place, bind_number, bind_vat, bind_names, then_unit, got, got_left, got_right, got_itself, got_message, got_more, got_none, got_ref, got_some}
+use Rattle.law_name.proofs.Care.{Care, Alike, Spots, Gets, Fine, quiet, fine_activation, fine_bind, fine_give, got_entry, bind_value, bind_place, bind_number, bind_vat, bind_names, then_unit, got, got_vat, got_left, got_right, got_itself, got_message, got_more, got_none, got_ref, got_some}
 use Rattle.law_name.proofs.Looks.{looks, look_number, got_answer_host, look_follow, look_target, look_entry, look_place, look_place_of}
 use Rattle.law_name.proofs.CareRefs.{GoodSettler}
 use Rattle.law_name.proofs.Serves.{Serves}
 use Rattle.law_name.proofs.CareEval.{fine_turn}
+use Rattle.law_reference.proofs.CareYields.{Fits, bind_yielded}
 
--- How each single change ends, and each note that is put with what passes in it.
+-- what a message's answer at that host may come to be called
+abbrev pub IsAnswerOf : {N W : Type 0} → Naming N W → ℕ → N → N → Type 0
+IsAnswerOf K h m a = (k : ℕ) × (a ≡ K.made (IsAnswer h m) k)
+
+-- so is the answer of a message called, where it has one
+abbrev pub Called : {N W : Type 0} → Naming N W → ℕ → N → Option N → Type 0
+Called K h m (Some a) = IsAnswerOf K h m a
+Called K h m None = Unit {0}
+
+-- How each single change ends, and each note that is put with what passes in it, where its answer is called as that of its message.
 pub record Puts {N W : Type 0} (K : Naming N W) (S : Care N) : Type 0 where
   pub spots : Spots K S
   pub alike : Alike S
@@ -37,7 +47,7 @@ pub record Puts {N W : Type 0} (K : Naming N W) (S : Care N) : Type 0 where
   pub messages : (C : Fact N) (h : ℕ) → Gets S C (IsVat h) → Fine S C (new_message K h) new_names
   pub lones : (C : Fact N) → Fine S C (new_lone_message K) IsMail
   pub promises : (C : Fact N) → Fine S C (new_promise K) IsName
-  pub delivers : (C : Fact N) (m : Message N) → Gets S C (IsMessage m) → (h : ℕ) → Gets S C (IsOff h) → (n : N) → Gets S C (IsName n) → Fine S C (refs.deliver K m h n) nothing
+  pub delivers : (C : Fact N) (m : Message N) → Gets S C (IsMessage m) → (h : ℕ) → Gets S C (IsOff h) → (n : N) → Gets S C (IsName n) → Called K h m.id m.answer → Fine S C (refs.deliver K m h n) nothing
   pub informs : (C : Fact N) (p : N) → Gets S C (IsName p) → (w : ℕ) (y : Value N) → Gets S C (IsValue y) → (q : Place N) → Gets S C (IsPlace q) → Fine S C (refs.inform_of K p w y q) nothing
   pub asks : (C : Fact N) (to p i : ℕ) (n : N) → Gets S C (IsDraw i) → Gets S C (IsName n) → Fine S C (send_out to (Ask p i n)) nothing
   pub opens : (C : Fact N) (to i : ℕ) (n : N) → Gets S C (IsDraw i) → Gets S C (IsName n) → Fine S C (send_out to (Open i n)) nothing
@@ -88,8 +98,8 @@ module _ {N W : Type 0} (K : Naming N W) (S : Care N) (puts : Puts K S) where
   put_lone_message : {C : Fact N} → Fine S C (new_lone_message K) IsMail
   put_lone_message {C = C} = puts.lones C
 
-  put_deliver : {C : Fact N} (m : Message N) → Gets S C (IsMessage m) → (h : ℕ) → Gets S C (IsOff h) → (n : N) → Gets S C (IsName n) → Fine S C (refs.deliver K m h n) nothing
-  put_deliver {C = C} m g h o n k = puts.delivers C m g h o n k
+  put_deliver : {C : Fact N} (m : Message N) → Gets S C (IsMessage m) → (h : ℕ) → Gets S C (IsOff h) → (n : N) → Gets S C (IsName n) → Called K h m.id m.answer → Fine S C (refs.deliver K m h n) nothing
+  put_deliver {C = C} m g h o n k q = puts.delivers C m g h o n k q
 
   put_inform_of : {C : Fact N} (p : N) → Gets S C (IsName p) → (w : ℕ) (y : Value N) → Gets S C (IsValue y) → (q : Place N) → Gets S C (IsPlace q) → Fine S C (refs.inform_of K p w y q) nothing
   put_inform_of {C = C} p g w y k q l = puts.informs C p g w y k q l
@@ -112,9 +122,26 @@ module _ {N W : Type 0} (K : Naming N W) (S : Care N) (puts : Puts K S) where
   unfolding refs.wait_on
   put_wait_on {C = C} p n0 q n1 = search (putting, looks) depth 30
 
+  -- an answer comes to be, or a message with its answer
+  answer_called : {C : Fact N} (h : ℕ) (m : N) → Gets S C (IsMail m) → Gets S C (IsVat h) → Fits S C (come K (IsAnswer h m) h) IsName (IsAnswerOf K h m)
+  unfolding come
+  answer_called h m g k = record { after = λ s z c. ((put_answer h m g k).after s z c, (length s.known, refl)) }
+
+  message_called : {C : Fact N} (h : ℕ) → Gets S C (IsVat h) → Fits S C (new_message K h) new_names (λ new. IsAnswerOf K h new.0 new.1)
+  unfolding new_message
+  message_called h g = record { after = λ s z c. ((put_message h g).after s z c, (length s.known, refl)) }
+
+  pass_by : {C : Fact N} (m : Message N) → Gets S C (IsMessage m) → (h : ℕ) → Gets S C (IsOff h) → (n : N) → Gets S C (IsName n) → (o : Option N) → m.answer ≡ o → Gets S C (MayName o)
+      → Fine S C (for_some o (λ p. come K (IsAnswer h m.id) h >>= (λ a. refs.deliver K (record m { answer = Some a }) h n >> refs.wait_on K p a)) (refs.deliver K m h n)) nothing
+  unfolding for_some
+  pass_by {C = C} m g h o n k (Some p) e i = bind_yielded S IsName (IsAnswerOf K h m.id) (answer_called h m.id (record { at = λ s z. (g.at s z).0 }) (got_vat S C h o)) (λ a q.
+      then_unit S (put_deliver (record m { answer = Some a }) (record { at = λ s z. let f = g.at s z.0 in (f.0, f.1, f.2, z.1) }) h (record { at = λ s z. o.at s z.0 }) n (record { at = λ s z. k.at s z.0 }) q)
+      (put_wait_on p (record { at = λ s z. i.at s z.0 }) a (record { at = λ s z. z.1 })))
+  pass_by m g h o n k None e i = put_deliver m g h o n k (subst (λ w. Called K h m.id w) (sym e) tt)
+
   pub put_pass_on : {C : Fact N} → (x1 : Message N) → Gets S C (IsMessage x1) → (x2 : ℕ) → Gets S C (IsOff x2) → (x3 : N) → Gets S C (IsName x3) → Fine S C (refs.pass_on K x1 x2 x3) nothing
   unfolding refs.pass_on
-  put_pass_on {C = C} m g1 h o2 n n3 = let mi_m : Gets S C (IsMail m.id) = record { at = λ s h. (g1.at s h).0 } in let mt_m : Gets S C (IsValue m.target) = record { at = λ s h. (g1.at s h).1 } in let ma_m : Gets S C (AreValues m.args) = record { at = λ s h. (g1.at s h).2 } in let mr_m : Gets S C (MayName m.answer) = record { at = λ s h. (g1.at s h).3 } in search (putting, looks, put_deliver, put_wait_on) depth 30
+  put_pass_on m g h o n k = pass_by m g h o n k m.answer refl (record { at = λ s z. (g.at s z).3 })
 
   pub put_send_to : {C : Fact N} → (x1 : N → Value N → Act N (Unit {0})) → GoodSettler S x1 → (x2 : Message N) → Gets S C (IsMessage x2) → (x3 : Value N) → Gets S C (IsValue x3) → (x4 : Place N) → Gets S C (IsPlace x4) → Fine S C (refs.send_to K x1 x2 x3 x4) nothing
   unfolding refs.send_to
@@ -172,10 +199,10 @@ module _ {N W : Type 0} (K : Naming N W) (S : Care N) (puts : Puts K S) where
   unfolding refs.resolve
   put_resolve {C = C} p n0 x g1 = search (putting, looks, place_here, put_resolve_to) depth 30
 
-  pub put_send_first : {C : Fact N} → (x1 : Message N) → Gets S C (IsMessage x1) → (x2 : Value N) → Gets S C (IsValue x2) → (x3 : Place N) → Gets S C (IsPlace x3) → Fine S C (refs.send_first K x1 x2 x3) nothing
-  unfolding refs.send_first
-  put_send_first {C = C} m g1 y g2 (Away h n o) p4 = let mi_m : Gets S C (IsMail m.id) = record { at = λ s h. (g1.at s h).0 } in let mt_m : Gets S C (IsValue m.target) = record { at = λ s h. (g1.at s h).1 } in let ma_m : Gets S C (AreValues m.args) = record { at = λ s h. (g1.at s h).2 } in let mr_m : Gets S C (MayName m.answer) = record { at = λ s h. (g1.at s h).3 } in let pn4 : Gets S C (IsName n) = record { at = λ s h. (p4.at s h).0 } in let po : Gets S C (IsOff h) = record { at = λ s h. (p4.at s h).1 } in search (putting, looks, put_deliver) depth 30
-  put_send_first {C = C} m g1 y g2 p p4 = let mi_m : Gets S C (IsMail m.id) = record { at = λ s h. (g1.at s h).0 } in let mt_m : Gets S C (IsValue m.target) = record { at = λ s h. (g1.at s h).1 } in let ma_m : Gets S C (AreValues m.args) = record { at = λ s h. (g1.at s h).2 } in let mr_m : Gets S C (MayName m.answer) = record { at = λ s h. (g1.at s h).3 } in search (putting, looks, put_send_to, put_settle) depth 30
+  pub put_send_first : {C : Fact N} → (x1 : Message N) → Gets S C (IsMessage x1) → (x2 : Value N) → Gets S C (IsValue x2) → (x3 : Place N) → Gets S C (IsPlace x3) → (x4 : ℕ) → Called K (refs.answer_host K x4 x3) x1.id x1.answer → Fine S C (refs.send_first K x1 x2 x3) nothing
+  unfolding refs.send_first refs.answer_host
+  put_send_first m g1 y g2 (Away h n o) p4 v q = put_deliver m g1 h (record { at = λ s z. (p4.at s z).1 }) n (record { at = λ s z. (p4.at s z).0 }) q
+  put_send_first {C = C} m g1 y g2 p p4 v q = let mi_m : Gets S C (IsMail m.id) = record { at = λ s h. (g1.at s h).0 } in let mt_m : Gets S C (IsValue m.target) = record { at = λ s h. (g1.at s h).1 } in let ma_m : Gets S C (AreValues m.args) = record { at = λ s h. (g1.at s h).2 } in let mr_m : Gets S C (MayName m.answer) = record { at = λ s h. (g1.at s h).3 } in search (putting, looks, put_send_to, put_settle) depth 30
 
   pub put_react_at : {C : Fact N} → (x1 : Message N) → Gets S C (IsMessage x1) → (x2 : Place N) → Gets S C (IsPlace x2) → Fine S C (refs.react_at K x1 x2) nothing
   unfolding refs.react_at
@@ -186,17 +213,21 @@ module _ {N W : Type 0} (K : Naming N W) (S : Care N) (puts : Puts K S) where
   pub put_send : {C : Fact N} → (x1 : ℕ) → (x2 : Value N) → Gets S C (IsValue x2) → (x3 : Words) → (x4 : List (Value N)) → Gets S C (AreValues x4) → Fine S C (refs.send K x1 x2 x3 x4) IsValue
   unfolding refs.send
   put_send {C = C} act x g1 verb args g2 = bind_value S (look_follow K S x g1) (λ y. bind_place S (look_place K S puts.spots y (got S C (IsValue y))) (λ p. bind_vat S (look_number S) (λ v.
-      bind_names S (put_message (refs.answer_host K v p) (got_answer_host S K _ v p (got S _ (IsVat v)) (got_left S _ (IsVat v) (IsPlace p) (got S _ (IsPlace p))))) (λ new. sent y p v new.0 new.1))))
+      bind_yielded S new_names (λ new. IsAnswerOf K (refs.answer_host K v p) new.0 new.1) (message_called (refs.answer_host K v p) (got_answer_host S K _ v p (got S _ (IsVat v)) (got_left S _ (IsVat v) (IsPlace p) (got S _ (IsPlace p))))) (λ new q. sent y p v new.0 new.1 q))))
     where
-      sent : (y : Value N) (p : Place N) (v : ℕ) (id a : N) → Fine S (Also (Also (Also (Also C (IsValue y)) (IsPlace p)) (IsVat v)) (Also (IsMail id) (IsName a))) (tell (Sends act (record { id = id; target = x; verb = verb; args = args; answer = Some a })) >> (refs.send_first K (record { id = id; target = y; verb = verb; args = args; answer = Some a }) y p >> give (Ref a))) IsValue
-      sent y p v id a = search (putting, looks, put_send_first) depth 30
+      sent : (y : Value N) (p : Place N) (v : ℕ) (id a : N) → IsAnswerOf K (refs.answer_host K v p) id a → Fine S (Also (Also (Also (Also C (IsValue y)) (IsPlace p)) (IsVat v)) (Also (IsMail id) (IsName a))) (tell (Sends act (record { id = id; target = x; verb = verb; args = args; answer = Some a })) >> (refs.send_first K (record { id = id; target = y; verb = verb; args = args; answer = Some a }) y p >> give (Ref a))) IsValue
+      sent y p v id a q = then_unit S (put_tell (Sends act (record { id = id; target = x; verb = verb; args = args; answer = Some a })))
+          (then_unit S (put_send_first (record { id = id; target = y; verb = verb; args = args; answer = Some a }) (record { at = λ s z. (z.1.0, z.0.0.0.1, g2.at s z.0.0.0.0, z.1.1) }) y (record { at = λ s z. z.0.0.0.1 }) p (record { at = λ s z. z.0.0.1 }) v q)
+          (fine_give S (Ref a) (got_ref S _ a (record { at = λ s z. z.1.1 }))))
 
   pub put_send_only : {C : Fact N} → (x1 : ℕ) → (x2 : Value N) → Gets S C (IsValue x2) → (x3 : Words) → (x4 : List (Value N)) → Gets S C (AreValues x4) → Fine S C (refs.send_only K x1 x2 x3 x4) IsValue
   unfolding refs.send_only
   put_send_only {C = C} act x g1 verb args g2 = bind_value S (look_follow K S x g1) (λ y. bind_place S (look_place K S puts.spots y (got S C (IsValue y))) (λ p. fine_bind S IsMail put_lone_message (λ id. sent y p id)))
     where
       sent : (y : Value N) (p : Place N) (id : N) → Fine S (Also (Also (Also C (IsValue y)) (IsPlace p)) (IsMail id)) (tell (Sends act (record { id = id; target = x; verb = verb; args = args; answer = None })) >> (refs.send_first K (record { id = id; target = y; verb = verb; args = args; answer = None }) y p >> give Null)) IsValue
-      sent y p id = search (putting, looks, put_send_first) depth 30
+      sent y p id = then_unit S (put_tell (Sends act (record { id = id; target = x; verb = verb; args = args; answer = None })))
+          (then_unit S (put_send_first (record { id = id; target = y; verb = verb; args = args; answer = None }) (record { at = λ s z. (z.1, z.0.0.1, g2.at s z.0.0.0, tt) }) y (record { at = λ s z. z.0.0.1 }) p (record { at = λ s z. z.0.1 }) 0 tt)
+          (fine_give S Null (record { at = λ s z. tt })))
 
   pub put_react : {C : Fact N} → (x1 : ℕ) → (x2 : Value N) → Gets S C (IsValue x2) → (x3 : Value N) → Gets S C (IsValue x3) → (x4 : Value N) → Gets S C (IsValue x4) → Fine S C (refs.react K x1 x2 x3 x4) IsValue
   unfolding refs.react refs.reaction

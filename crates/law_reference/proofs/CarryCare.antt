@@ -1,19 +1,20 @@
 -- What passes in the notes that a vat puts names nothing of a third vat: a care for names, and for the notes put.
 use Rattle.std.proofs.Common.{◌≡◌, ℕ, Bool, true, false, List, [], ◌∷◌, Option, Some, None, refl, sym, ap, ◌∙◌, ◌⊎◌, inl, inr, if◌then◌else◌, ◌==◌}
-use Rattle.std.specs.Prelude.{slice_get}
+use Rattle.std.specs.Prelude.{slice_get, is_some}
 use Rattle.std.proofs.lemmas.Bool.{eqb-true}
-use Rattle.def_machine.specs.Values.{Value, Null, Flag, Number, Letter, Text, Prim, Broken, Items, Ref, Name, Root, Object, Promise, Answer, Gift, Sent, host_of, same_reference, Naming, naming, spot_of, Own as OwnThing, Foreign}
+use Rattle.def_machine.specs.Values.{Value, Null, Flag, Number, Letter, Text, Prim, Broken, Items, Ref, Name, Root, Object, Promise, Answer, Gift, Sent, host_of, same_reference, Naming, naming, name_of, spot_of, Own as OwnThing, Foreign}
 use Rattle.def_machine.specs.State.{Message, Known, ToTell, Passed, Passeds, Plain, AGift, Many, NoMore, More, Note, Deliver, Open, Ask, SettledTo, Elsewhere, Put, Vat, Done, Gives, Throws, Ejects, Stops, Act, ◌>>=◌, ◌>>◌, and_then, give, look, tell, enqueue, send_out, new_gift, open_gift, mark, draws, draw, alter, come, new_message, new_promise, Posted, new_lone_message}
 use Rattle.def_machine.specs.Refs as refs
 use Rattle.def_machine.specs.Refs.{Place, Near, Mine, Away, Gone, entry_of, host_at, host_in, place, spotted, hosted}
 use Rattle.law_name.specs.Names.{Named, At, AllOf, IsAmong, IsEventual, ValueOk, HostIsTrue, names_in}
-use Rattle.law_name.proofs.Facts.{all_end, PlaceOk, Fact, Also, IsName, IsDraw, IsOff, IsValue, AreValues, IsMessage, IsPlace, DoesPass, DoAllPass, NoteDoes, NoteGoes, parcel, nothing, Holds}
-use Rattle.law_name.proofs.Care.{Care, Under, Giving, Makes, Sound, Ends, Gets, Fine, widen, rise, fine_give, fine_spend, fine_tell, fine_enqueue, fine_out, fine_gift, fine_open, fine_mark, fine_draw, fine_hold, fine_wait, fine_waits_on, fine_reacts, fine_to_tell, fine_settles, come_answer, come_gift, fine_new_message, fine_promise, fine_lone_message}
+use Rattle.law_name.proofs.Facts.{all_end, PlaceOk, Fact, Also, IsName, IsDraw, IsOff, IsValue, AreValues, IsMessage, IsPlace, DoesPass, DoAllPass, NoteDoes, NoteGoes, parcel, nothing}
+use Rattle.law_name.proofs.Care.{Care, Under, Giving, Makes, Sound, Ends, Gets, Fine, fine_spend, fine_tell, fine_enqueue, fine_out, fine_gift, fine_open, fine_mark, fine_draw, fine_hold, fine_wait, fine_waits_on, fine_reacts, fine_to_tell, fine_settles, come_answer, come_gift, fine_new_message, fine_promise, fine_lone_message}
 use Rattle.law_name.proofs.Looks.{look_parcel, place_ok, note_deliver, note_open, note_ask, note_settled, note_elsewhere, goes_deliver, goes_open, goes_ask, goes_settled, goes_elsewhere}
 use Rattle.law_name.proofs.SameNames.{reference_is, reference_self}
 use Rattle.law_name.proofs.Tracked.{Marked, tracked, tracked_under, tracked_gives, tracked_makes}
-use Rattle.law_reference.specs.Notes.{IsOfEither, PassesBetween, AllPassBetween, Carries}
-use Rattle.law_reference.proofs.CareNotes.{Puts}
+use Rattle.law_reference.specs.Notes.{IsOfEither, PassesBetween, AllPassBetween, Carries, answer_due}
+use Rattle.law_reference.proofs.CareNotes.{Called, Puts}
+use Rattle.law_reference.proofs.CareYields.{Fits, Whatever, fits_bind, fits_fine, fits_give, fits_then, fine_fits}
 
 -- of that host, or data
 abbrev pub IsOf : ℕ → Value Name → Type 0
@@ -127,55 +128,6 @@ module _ (M : Marked) (vats : List (Vat Name)) (v : ℕ) (q : Vat Name) (there :
   unfolding draw
   fit_draw = lift (fine_draw Names T under) (λ s o. draws_leave s _ _ o)
 
-  -- ---- and what is given, which says something of itself
-
-  abbrev Yields : {A : Type 0} → (A → Type 0) → Done Name A → Type 0
-  Yields Q (Gives a t) = Q a
-  Yields Q (Throws p t) = Unit {0}
-  Yields Q (Ejects n y t) = Unit {0}
-  Yields Q (Stops c t) = Unit {0}
-
-  record Fits {A : Type 0} (C : Fact Name) (m : Act Name A) (G : A → Fact Name) (Q : A → Type 0) : Type 0 where
-    pub after : (s : Vat Name) → Sound V s → Holds (T.ok s) C → Ends V G s (m s) × Yields Q (m s)
-
-  abbrev Whatever : {A : Type 0} → A → Type 0
-  Whatever a = Unit {0}
-
-  yields : {A : Type 0} (d : Done Name A) → Yields Whatever d
-  yields (Gives a t) = tt
-  yields (Throws p t) = tt
-  yields (Ejects n y t) = tt
-  yields (Stops c t) = tt
-
-  fits_fine : {A : Type 0} {C : Fact Name} {m : Act Name A} {G : A → Fact Name} → Fine V C m G → Fits C m G Whatever
-  fits_fine {m = m} f = record { after = λ s h c. (f.after s h c, yields (m s)) }
-
-  fine_fits : {A : Type 0} {C : Fact Name} {m : Act Name A} {G : A → Fact Name} {Q : A → Type 0} → Fits C m G Q → Fine V C m G
-  fine_fits f = record { after = λ s h c. (f.after s h c).0 }
-
-  bind_fits : {A B : Type 0} (C : Fact Name) (P : A → Fact Name) (H : B → Fact Name) (Q : A → Type 0) (R : B → Type 0) (s : Vat Name) (d : Done Name A) (f : A → Act Name B) → Holds (T.ok s) C → Ends V P s d → Yields Q d
-      → ((a : A) → Q a → Fits (Also C (P a)) (f a) H R) → Ends V H s (and_then d f) × Yields R (and_then d f)
-  unfolding and_then
-  bind_fits C P H Q R s (Gives a t) f c e y k = let r = (k a y).after t e.1 (rise V s t e.0 C c, e.2) in (widen V H s t (f a t) e.0 r.0, r.1)
-  bind_fits C P H Q R s (Throws p t) f c e y k = (e, tt)
-  bind_fits C P H Q R s (Ejects n z t) f c e y k = (e, tt)
-  bind_fits C P H Q R s (Stops z t) f c e y k = (tt, tt)
-
-  fits_bind : {A B : Type 0} {C : Fact Name} {m : Act Name A} {f : A → Act Name B} {H : B → Fact Name} {R : B → Type 0} (P : A → Fact Name) (Q : A → Type 0) → Fits C m P Q → ((a : A) → Q a → Fits (Also C (P a)) (f a) H R) → Fits C (m >>= f) H R
-  unfolding ◌>>=◌
-  fits_bind {C = C} {m = m} {f = f} {H = H} {R = R} P Q h k = record { after = λ s g c. let e = h.after s g c in bind_fits C P H Q R s (m s) f c e.0 e.1 k }
-
-  fits_left : {A : Type 0} {C D : Fact Name} {m : Act Name A} {H : A → Fact Name} {R : A → Type 0} → Fits C m H R → Fits (Also C D) m H R
-  fits_left h = record { after = λ s g c. h.after s g c.0 }
-
-  fits_then : {A B : Type 0} {C : Fact Name} {m : Act Name A} {n : Act Name B} {H : B → Fact Name} {R : B → Type 0} (P : A → Fact Name) → Fine V C m P → Fits C n H R → Fits C (m >> n) H R
-  unfolding ◌>>◌
-  fits_then {C = C} {m = m} {n = n} {H = H} {R = R} P h k = record { after = λ s g c. bind_fits C P H Whatever R s (m s) (λ _. n) c (h.after s g c) (yields (m s)) (λ a y. fits_left k) }
-
-  fits_give : {A : Type 0} {C : Fact Name} (a : A) {H : A → Fact Name} {R : A → Type 0} → Gets V C (H a) → R a → Fits C (give a) H R
-  unfolding give
-  fits_give {C = C} a {H = H} g r = record { after = λ s h c. ((fine_give V {C = C} a {H = H} g).after s h c, r) }
-
   -- ---- a name that is known has its own host
 
   same_host : (b : Bool) (u : ℕ) (k0 : Known Name) (n : Name) (o : Option (Known Name)) → (b ≡ true → host_of n ≡ k0.host) → (b ≡ false → host_in u o ≡ host_of n) → host_in u (elim b [ true ↦ Some k0 | false ↦ o ]) ≡ host_of n
@@ -234,45 +186,45 @@ module _ (M : Marked) (vats : List (Vat Name)) (v : ℕ) (q : Vat Name) (there :
   placed : (s : Vat Name) → Sound T s → (n : Name) → T.ok s (Named n) → PlaceOk (T.ok s) (spotted Names s n (Names.spot n))
   placed s h n g = let spots = under.spots in spots.placed s h.more n g
 
-  away_fits : {C : Fact Name} (w h : ℕ) (n : Name) (y : Value Name) (b : Bool) → (b ≡ true → h ≡ w) → Gets V C (IsValue y) → Gets V C (IsName n) → Gets V C (IsOff h) → IsOf h y → Fits C (if b then give (Plain y) else (draw Names >>= (λ i. send_out h (Open i n) >> give (AGift h i)))) DoesPass (PassesBetween v w)
-  away_fits w h n y true f g k z o = fits_give (Plain y) (record { at = λ s c. g.at s c }) (of_either v w h y o (inr (f refl)))
-  away_fits {C = C} w h n y false f g k z o = fits_bind IsDraw Whatever (fits_fine fit_draw) (λ i u. fits_then nothing (fit_out h (Open i n) tt (note_open V (Also C (IsDraw i)) i n (record { at = λ s c. c.1 }) (record { at = λ s c. k.at s c.0 })) (goes_open V (Also C (IsDraw i)) h i n)) (fits_give (AGift h i) (record { at = λ s c. (V.near s h (z.at s c.0), c.1) }) tt))
+  away_fits : {C : Fact Name} (w h : ℕ) (n : Name) (y : Value Name) (b : Bool) → (b ≡ true → h ≡ w) → Gets V C (IsValue y) → Gets V C (IsName n) → Gets V C (IsOff h) → IsOf h y → Fits V C (if b then give (Plain y) else (draw Names >>= (λ i. send_out h (Open i n) >> give (AGift h i)))) DoesPass (PassesBetween v w)
+  away_fits w h n y true f g k z o = fits_give V (Plain y) (record { at = λ s c. g.at s c }) (of_either v w h y o (inr (f refl)))
+  away_fits {C = C} w h n y false f g k z o = fits_bind V IsDraw (Whatever V) (fits_fine V fit_draw) (λ i u. fits_then V nothing (fit_out h (Open i n) tt (note_open V (Also C (IsDraw i)) i n (record { at = λ s c. c.1 }) (record { at = λ s c. k.at s c.0 })) (goes_open V (Also C (IsDraw i)) h i n)) (fits_give V (AGift h i) (record { at = λ s c. (V.near s h (z.at s c.0), c.1) }) tt))
 
   told_leaves : (w : ℕ) (n : Name) (s : Vat Name) → FitOut s → Leaves (alter Names (ToTell w) n s)
   unfolding alter
   told_leaves w n s o = o
 
-  fits_plain : {C : Fact Name} (w : ℕ) (y : Value Name) (p : Place Name) → Gets V C (IsValue y) → Gets V C (IsPlace p) → PlaceSays y p → Fits C (refs.address_plain Names w y p) DoesPass (PassesBetween v w)
+  fits_plain : {C : Fact Name} (w : ℕ) (y : Value Name) (p : Place Name) → Gets V C (IsValue y) → Gets V C (IsPlace p) → PlaceSays y p → Fits V C (refs.address_plain Names w y p) DoesPass (PassesBetween v w)
   unfolding refs.address_plain
   fits_plain w y (Away h n o) g k i = away_fits w h n y (h == w) (eqb-true h w) g (record { at = λ s c. (k.at s c).0 }) (record { at = λ s c. (k.at s c).1 }) i
-  fits_plain w y (Mine n) g k i = fits_then nothing (lift (fine_to_tell Names T under w n (record { at = λ s c. k.at s c })) (told_leaves w n)) (fits_give (Plain y) (record { at = λ s c. g.at s c }) (of_either v w v y i (inl refl)))
-  fits_plain w y Near g k i = fits_give (Plain y) (record { at = λ s c. g.at s c }) (of_either v w v y i (inl refl))
-  fits_plain w y (Gone t) g k i = fits_give (Plain y) (record { at = λ s c. g.at s c }) (of_either v w v y i (inl refl))
+  fits_plain w y (Mine n) g k i = fits_then V nothing (lift (fine_to_tell Names T under w n (record { at = λ s c. k.at s c })) (told_leaves w n)) (fits_give V (Plain y) (record { at = λ s c. g.at s c }) (of_either v w v y i (inl refl)))
+  fits_plain w y Near g k i = fits_give V (Plain y) (record { at = λ s c. g.at s c }) (of_either v w v y i (inl refl))
+  fits_plain w y (Gone t) g k i = fits_give V (Plain y) (record { at = λ s c. g.at s c }) (of_either v w v y i (inl refl))
 
-  fits_value : {C : Fact Name} (w : ℕ) (y : Value Name) → Gets V C (IsValue y) → Fits C (refs.address Names w (Plain y)) DoesPass (PassesBetween v w)
+  fits_value : {C : Fact Name} (w : ℕ) (y : Value Name) → Gets V C (IsValue y) → Fits V C (refs.address Names w (Plain y)) DoesPass (PassesBetween v w)
   unfolding refs.address ◌>>=◌ look and_then
   fits_value {C = C} w y g = record { after = λ s h c. (fits_plain {C = Also C (IsPlace (place Names s y))} w y (place Names s y) (record { at = λ r d. g.at r d.0 }) (record { at = λ r d. d.1 }) (place_says s y (name_sound s h) (g.at s c))).after s h (c, place_ok Names (T.ok s) s (placed s (name_sound s h)) y (g.at s c)) }
 
   mutual
     unfolding refs.address refs.address_all
 
-    fits_address : {C : Fact Name} (w : ℕ) (y : Passed Name) → Gets V C (DoesPass y) → Fits C (refs.address Names w y) DoesPass (PassesBetween v w)
+    fits_address : {C : Fact Name} (w : ℕ) (y : Passed Name) → Gets V C (DoesPass y) → Fits V C (refs.address Names w y) DoesPass (PassesBetween v w)
     fits_address w (Plain y) g = fits_value w y (record { at = g.at })
-    fits_address w (AGift h i) g = fits_give (AGift h i) g tt
-    fits_address w (Many ys) g = fits_bind DoAllPass (AllPassBetween v w) (fits_address_all w ys (record { at = g.at })) (λ zs b. fits_give (Many zs) (record { at = λ s c. c.1 }) b)
+    fits_address w (AGift h i) g = fits_give V (AGift h i) g tt
+    fits_address w (Many ys) g = fits_bind V DoAllPass (AllPassBetween v w) (fits_address_all w ys (record { at = g.at })) (λ zs b. fits_give V (Many zs) (record { at = λ s c. c.1 }) b)
 
-    fits_address_all : {C : Fact Name} (w : ℕ) (ys : Passeds Name) → Gets V C (DoAllPass ys) → Fits C (refs.address_all Names w ys) DoAllPass (AllPassBetween v w)
-    fits_address_all w NoMore g = fits_give NoMore (record { at = λ s c. tt }) tt
-    fits_address_all w (More y ys) g = fits_bind DoesPass (PassesBetween v w) (fits_address w y (record { at = λ s c. (g.at s c).0 })) (λ z b. fits_bind DoAllPass (AllPassBetween v w) (fits_address_all w ys (record { at = λ s c. (g.at s c.0).1 })) (λ zs d. fits_give (More z zs) (record { at = λ s c. (c.0.1, c.1) }) (b, d)))
+    fits_address_all : {C : Fact Name} (w : ℕ) (ys : Passeds Name) → Gets V C (DoAllPass ys) → Fits V C (refs.address_all Names w ys) DoAllPass (AllPassBetween v w)
+    fits_address_all w NoMore g = fits_give V NoMore (record { at = λ s c. tt }) tt
+    fits_address_all w (More y ys) g = fits_bind V DoesPass (PassesBetween v w) (fits_address w y (record { at = λ s c. (g.at s c).0 })) (λ z b. fits_bind V DoAllPass (AllPassBetween v w) (fits_address_all w ys (record { at = λ s c. (g.at s c.0).1 })) (λ zs d. fits_give V (More z zs) (record { at = λ s c. (c.0.1, c.1) }) (b, d)))
 
-  fits_pass : {C : Fact Name} (w : ℕ) (x : Value Name) → Gets V C (IsValue x) → Fits C (refs.pass Names w x) DoesPass (PassesBetween v w)
+  fits_pass : {C : Fact Name} (w : ℕ) (x : Value Name) → Gets V C (IsValue x) → Fits V C (refs.pass Names w x) DoesPass (PassesBetween v w)
   unfolding refs.pass
-  fits_pass w x g = fits_bind parcel Whatever (fits_fine (look_parcel Names V x g)) (λ y u. fits_then nothing (fine_spend V y.weight) (fits_address w y.value (record { at = λ s c. c.1 })))
+  fits_pass w x g = fits_bind V parcel (Whatever V) (fits_fine V (look_parcel Names V x g)) (λ y u. fits_then V nothing (fine_spend V y.weight) (fits_address w y.value (record { at = λ s c. c.1 })))
 
-  fits_pass_all : {C : Fact Name} (w : ℕ) (xs : List (Value Name)) → Gets V C (AreValues xs) → Fits C (refs.pass_all Names w xs) DoAllPass (AllPassBetween v w)
+  fits_pass_all : {C : Fact Name} (w : ℕ) (xs : List (Value Name)) → Gets V C (AreValues xs) → Fits V C (refs.pass_all Names w xs) DoAllPass (AllPassBetween v w)
   unfolding refs.pass_all
-  fits_pass_all w [] g = fits_give NoMore (record { at = λ s c. tt }) tt
-  fits_pass_all w (x ∷ xs) g = fits_bind DoesPass (PassesBetween v w) (fits_pass w x (record { at = λ s c. (g.at s c).0 })) (λ y b. fits_bind DoAllPass (AllPassBetween v w) (fits_pass_all w xs (record { at = λ s c. (g.at s c.0).1 })) (λ ys d. fits_give (More y ys) (record { at = λ s c. (c.0.1, c.1) }) (b, d)))
+  fits_pass_all w [] g = fits_give V NoMore (record { at = λ s c. tt }) tt
+  fits_pass_all w (x ∷ xs) g = fits_bind V DoesPass (PassesBetween v w) (fits_pass w x (record { at = λ s c. (g.at s c).0 })) (λ y b. fits_bind V DoAllPass (AllPassBetween v w) (fits_pass_all w xs (record { at = λ s c. (g.at s c.0).1 })) (λ ys d. fits_give V (More y ys) (record { at = λ s c. (c.0.1, c.1) }) (b, d)))
 
   -- ---- the notes with what passes in them
 
@@ -280,13 +232,19 @@ module _ (M : Marked) (vats : List (Vat Name)) (v : ℕ) (q : Vat Name) (there :
   unfolding tell
   fit_tell e = lift (fine_tell Names T under e) (λ s o. o)
 
-  fit_deliver : {C : Fact Name} (m : Message Name) → Gets V C (IsMessage m) → (h : ℕ) → Gets V C (IsOff h) → (n : Name) → Gets V C (IsName n) → Fine V C (refs.deliver Names m h n) nothing
+  -- an answer is called by its name
+  answer_fits : (h : ℕ) (m : Name) (o : Option Name) → Called Names h m o → o ≡ answer_due h (is_some o) m
+  unfolding naming name_of
+  answer_fits h m (Some a) q = ap Some q.1
+  answer_fits h m None q = refl
+
+  fit_deliver : {C : Fact Name} (m : Message Name) → Gets V C (IsMessage m) → (h : ℕ) → Gets V C (IsOff h) → (n : Name) → Gets V C (IsName n) → Called Names h m.id m.answer → Fine V C (refs.deliver Names m h n) nothing
   unfolding refs.deliver
-  fit_deliver {C = C} m g h o n k = fine_fits (fits_bind {R = Whatever} DoAllPass (AllPassBetween v h) (fits_pass_all h m.args (record { at = λ s c. (g.at s c).2 })) (λ ys b. fits_then nothing (fit_tell (Posted h m.id))
-      (fits_fine (fit_out h (Deliver (refs.delivery_of Names m) n m.verb ys) b (note_deliver V (Also C (DoAllPass ys)) (refs.delivery_of Names m) n m.verb ys (record { at = λ s c. (g.at s c.0).0 }) (record { at = λ s c. k.at s c.0 }) (record { at = λ s c. c.1 })) (goes_deliver V (Also C (DoAllPass ys)) h (refs.delivery_of Names m) n m.verb ys (record { at = λ s c. o.at s c.0 }))))))
+  fit_deliver {C = C} m g h o n k q = fine_fits V (fits_bind V {R = (Whatever V)} DoAllPass (AllPassBetween v h) (fits_pass_all h m.args (record { at = λ s c. (g.at s c).2 })) (λ ys b. fits_then V nothing (fit_tell (Posted h m.id))
+      (fits_fine V (fit_out h (Deliver (refs.delivery_of Names m) n m.verb ys) (b, answer_fits h m.id m.answer q) (note_deliver V (Also C (DoAllPass ys)) (refs.delivery_of Names m) n m.verb ys (record { at = λ s c. (g.at s c.0).0 }) (record { at = λ s c. k.at s c.0 }) (record { at = λ s c. c.1 })) (goes_deliver V (Also C (DoAllPass ys)) h (refs.delivery_of Names m) n m.verb ys (record { at = λ s c. o.at s c.0 }))))))
 
   fit_settled : {C : Fact Name} (p : Name) → Gets V C (IsName p) → (w : ℕ) (y : Value Name) → Gets V C (IsValue y) → Fine V C (refs.pass Names w y >>= (λ z. send_out w (SettledTo p z))) nothing
-  fit_settled {C = C} p g w y k = fine_fits (fits_bind DoesPass (PassesBetween v w) (fits_pass w y k) (λ z b. fits_fine (fit_out w (SettledTo p z) b (note_settled V (Also C (DoesPass z)) p z (record { at = λ s c. g.at s c.0 }) (record { at = λ s c. c.1 })) (goes_settled V (Also C (DoesPass z)) w p z))))
+  fit_settled {C = C} p g w y k = fine_fits V (fits_bind V DoesPass (PassesBetween v w) (fits_pass w y k) (λ z b. fits_fine V (fit_out w (SettledTo p z) b (note_settled V (Also C (DoesPass z)) p z (record { at = λ s c. g.at s c.0 }) (record { at = λ s c. c.1 })) (goes_settled V (Also C (DoesPass z)) w p z))))
 
   fit_inform : {C : Fact Name} (p : Name) → Gets V C (IsName p) → (w : ℕ) (y : Value Name) → Gets V C (IsValue y) → (q : Place Name) → Gets V C (IsPlace q) → Fine V C (refs.inform_of Names p w y q) nothing
   unfolding refs.inform_of
@@ -319,7 +277,7 @@ module _ (M : Marked) (vats : List (Vat Name)) (v : ℕ) (q : Vat Name) (there :
     messages = λ C h g. lift (fine_new_message Names T under makes h (gets_names g)) (λ s o. o);
     lones = λ C. lift (fine_lone_message Names T under makes) (λ s o. o);
     promises = λ C. lift (fine_promise Names T under makes) (λ s o. o);
-    delivers = λ C m g h o n k. fit_deliver m g h o n k;
+    delivers = λ C m g h o n k q. fit_deliver m g h o n k q;
     informs = λ C p g w y k z l. fit_inform p g w y k z l;
     asks = λ C to p i n g k. fit_out to (Ask p i n) tt (note_ask V C p i n (record { at = λ s c. g.at s c }) k) (goes_ask V C to p i n);
     opens = λ C to i n g k. fit_out to (Open i n) tt (note_open V C i n g k) (goes_open V C to i n);

@@ -4,7 +4,7 @@ use Rattle.def_machine.specs.Values.{Name, Coming, Mailing, Gift, Promise, Namin
 use Rattle.def_machine.specs.State.{Message, Change, Hold, Wait, WaitOn, See, React, ToTell, Note, Happened, Vat, Done, Gives, Throws, Ejects, Stops, Act, ◌>>=◌, ◌>>◌, and_then, tell, enqueue, send_out, new_gift, open_gift, mark, draws, drawn_at, draw, with_change, alter, come, mail, begun}
 use Rattle.law_machine.specs.Steps.{After}
 use Rattle.law_machine.proofs.Keeps.{Keeps}
-use Rattle.law_machine.proofs.KeyLaws.{word_key}
+use Rattle.def_machine.proofs.Keys.{word_key}
 use Rattle.law_fate.proofs.Spares.{IsSpared, spares}
 use Rattle.law_reference.specs.Knowing.{one, onward, claims, numbered_at, Knowing}
 use Rattle.law_reference.proofs.Claims.{added, claims_end, with_change_adds, promise_next, gift_next}

@@ -7,7 +7,7 @@ use Rattle.def_machine.specs.Refs.{entry_of, standing_of, host_at}
 use Rattle.def_machine.specs.Arrive as arrive
 use Rattle.def_machine.specs.Arrive.{Incoming, Old, New, gift_at}
 use Rattle.law_machine.specs.Breaks.{still_waits}
-use Rattle.law_machine.proofs.KeyLaws.{word_under_key}
+use Rattle.def_machine.proofs.Keys.{word_under_key}
 use Rattle.law_name.specs.Names.{AllOf, IsAmong, WasDrawn, IsEventual}
 use Rattle.law_name.proofs.Among.{among_more, drawn_last, key_not_drawn}
 use Rattle.law_name.proofs.Facts.{all_end, all_map}

@@ -1,5 +1,5 @@
 -- An answer that comes to be known in a step as that of a message at another vat stands behind the note of that message: a care for names, and for the notes put.
-use Rattle.std.proofs.Common.{◌≡◌, ℕ, suc, Bool, true, false, List, [], ◌∷◌, ◌++◌, Option, Some, None, refl, sym, ap, ◌∙◌, ◌⊎◌, inl, inr, is_some, subst}
+use Rattle.std.proofs.Common.{◌≡◌, ℕ, suc, Bool, true, false, List, [], ◌∷◌, ◌++◌, Option, Some, None, refl, sym, ap, ◌∙◌, ◌⊎◌, inl, inr, is_some}
 use Rattle.std.specs.Prelude.{slice_get}
 use Rattle.def_machine.specs.Values.{Words, Value, Ref, Name, Root, Object, Promise, Answer, Gift, Sent, Msg, Naming, naming, name_of, mail_of, answer_of, IsAnswer, Null}
 use Rattle.def_machine.specs.State.{Message, Known, Change, Hold, Wait, WaitOn, React, ToTell, Settle, Passeds, Deliver, Open, Ask, Put, Happened, Sends, Posted, Vat, Done, Gives, Throws, Ejects, Stops, Act, ◌>>=◌, ◌>>◌, and_then, give, look, tell, enqueue, send_out, new_gift, open_gift, mark, draws, draw, alter, with_change, come, new_message, new_promise, begun, for_some, new_lone_message}
@@ -315,18 +315,18 @@ module _ (g : ℕ) (m : Msg) where
     out_leaves s h id asks (Ejects j w t) f o = absurd o
     out_leaves s h id asks (Stops c t) f o = tt
 
-    passed_by : (s : Vat Name) (n : Message Name) (h : ℕ) (to : Name) (o : Option Name) → n.answer ≡ o → (IsAmong X (names_in s.known) → ⊥) → Sound T s → MessageOk (T.ok s) n → T.ok s (Named to)
-        → Leaves (for_some o (λ p. come Names (IsAnswer h n.id) h >>= (λ a. refs.deliver Names n h to >> refs.wait_on Names p a)) (refs.deliver Names n h to) s)
+    passed_by : (s : Vat Name) (n : Message Name) (h : ℕ) (to : Name) (o : Option Name) → (IsAmong X (names_in s.known) → ⊥) → Sound T s → MessageOk (T.ok s) n → T.ok s (Named to)
+        → Leaves (for_some o (λ p. come Names (IsAnswer h n.id) h >>= (λ a. refs.deliver Names (record n { answer = Some a }) h to >> refs.wait_on Names p a)) (refs.deliver Names n h to) s)
     unfolding for_some ◌>>=◌ ◌>>◌ and_then come naming name_of begun
-    passed_by s n h to None e f w g k = let c = clean_of s f w in
+    passed_by s n h to None f w g k = let c = clean_of s f w in
         out_leaves s h n.id (is_some n.answer) (refs.deliver Names n h to s) f (goes_out s n h to c (spares_of s f w) (avoids s f (Named to) k) (values_up (T.ok s) (Avoids X) (avoids s f) n.args g.2))
-    passed_by s n h to (Some p) e f w g k = let a = answer_of h n.id in let s1 : Vat Name = record s { known = s.known ++ begun a h ∷ [] } in let c = clean_of s f w in
-        waits_after s s1 h n.id p (refs.deliver Names n h to s1) f (made_message _ n.id g.0.0) (names_end s.known (begun a h))
-        (subst (λ b. OutAt h n.id b s1 (refs.deliver Names n h to s1)) (ap is_some e) (goes_out s1 n h to (clean_more s a h c, c.1) (spares_of s f w) (avoids s f (Named to) k) (values_up (T.ok s) (Avoids X) (avoids s f) n.args g.2)))
+    passed_by s n h to (Some p) f w g k = let a = answer_of h n.id in let s1 : Vat Name = record s { known = s.known ++ begun a h ∷ [] } in let c = clean_of s f w in
+        waits_after s s1 h n.id p (refs.deliver Names (record n { answer = Some a }) h to s1) f (made_message _ n.id g.0.0) (names_end s.known (begun a h))
+        (goes_out s1 (record n { answer = Some a }) h to (clean_more s a h c, c.1) (spares_of s f w) (avoids s f (Named to) k) (values_up (T.ok s) (Avoids X) (avoids s f) n.args g.2))
 
     passed_on : (s : Vat Name) (n : Message Name) (h : ℕ) (to : Name) → (IsAmong X (names_in s.known) → ⊥) → Sound T s → MessageOk (T.ok s) n → T.ok s (Named to) → Leaves (refs.pass_on Names n h to s)
     unfolding refs.pass_on
-    passed_on s n h to f w g k = passed_by s n h to n.answer refl f w g k
+    passed_on s n h to f w g k = passed_by s n h to n.answer f w g k
 
     passed_either : (s : Vat Name) (n : Message Name) (h : ℕ) (to : Name) → Sound T s → MessageOk (T.ok s) n → T.ok s (Named to) → Held s → IsAmong X (names_in s.known) ⊎ (IsAmong X (names_in s.known) → ⊥) → Leaves (refs.pass_on Names n h to s)
     passed_either s n h to w g k o (inl a) = grown s _ (o a) ((keeps_pass_on Names More more_base (more_under Names) n h to).after s)

@@ -128,18 +128,18 @@ module _ (script : Script) where
   unfolding readied
   step_grows w v s q t what d n h = let r = after_gives Stays (readied w q) t (does (names script v) what (readied w q)) (steps_stay (names script v) what (readied w q)) d.gives in r.1 n (rw (ap names_in d.known) h)
 
-  delivered : (w : World) (a v : ℕ) (s t : Vat Name) (x : Name) (verb : List ℕ) (ys : Passeds Name) (m : Msg) → s.number ≡ v → does (names script v) (Receives a (read_note (names_of s) (Deliver (record { message = Sent m; asks = true }) x verb ys))) (readied w s) ≡ Gives tt t → IsAmong (Answer v m) (names_in t.known)
+  delivered : (w : World) (a v : ℕ) (s t : Vat Name) (x : Name) (verb : List ℕ) (ys : Passeds Name) (m : Msg) (c : Option Name) → s.number ≡ v → does (names script v) (Receives a (read_note (names_of s) (Deliver (record { message = Sent m; asks = true; answer = c }) x verb ys))) (readied w s) ≡ Gives tt t → IsAmong (Answer v m) (names_in t.known)
   unfolding does names readied world.read_note arrive.arrive
-  delivered w a v s t x verb ys m e f = given_is (λ r. IsAmong (Answer v m) (names_in r.known)) t _ (arrived (draw_word script.key) v m a _ _ verb _ (readied w s) e) f
+  delivered w a v s t x verb ys m c e f = given_is (λ r. IsAmong (Answer v m) (names_in r.known)) t _ (arrived (draw_word script.key) v m a _ _ verb _ (readied w s) e) f
 
-  is_delivery : (r : Delivery Name) (m : Msg) → r.message ≡ Sent m → r.asks ≡ true → r ≡ record { message = Sent m; asks = true }
+  is_delivery : (r : Delivery Name) (m : Msg) → r.message ≡ Sent m → r.asks ≡ true → r ≡ record { message = Sent m; asks = true; answer = r.answer }
   is_delivery r m e f = ap (λ x. asked_of x r.asks) e ∙ ap (λ b. asked_of (Sent m) b) f
     where
       asked_of : Name → Bool → Delivery Name
-      asked_of x b = record { message = x; asks = b }
+      asked_of x b = record { message = x; asks = b; answer = r.answer }
 
   bearer_known : (w : World) (a v : ℕ) (s t : Vat Name) (n : Note Name) (m : Msg) → s.number ≡ v → Does script w v s s t (Receives a (read_note (names_of s) n)) → Bears m (Answer v m) n → IsAmong (Answer v m) (names_in t.known)
-  bearer_known w a v s t (Deliver r x verb ys) m e d b = delivered w a v s t x verb ys m e (subst (λ z. does (names script v) (Receives a (read_note (names_of s) (Deliver z x verb ys))) (readied w s) ≡ Gives tt t) (is_delivery r m b.0 b.1) d.gives)
+  bearer_known w a v s t (Deliver r x verb ys) m e d b = delivered w a v s t x verb ys m r.answer e (subst (λ z. does (names script v) (Receives a (read_note (names_of s) (Deliver z x verb ys))) (readied w s) ≡ Gives tt t) (is_delivery r m b.0 b.1) d.gives)
   bearer_known w a v s t (Open i x) m e d b = absurd b
   bearer_known w a v s t (Ask p i x) m e d b = absurd b
   bearer_known w a v s t (SettledTo x y) m e d b = absurd b

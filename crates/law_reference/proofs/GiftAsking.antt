@@ -1,7 +1,7 @@
 -- Who learns a gift asks its host for it, at once.
-use Rattle.std.proofs.Common.{◌≡◌, ℕ, Bool, true, false, List, [], ◌∷◌, ◌++◌, Some, None, refl, inl, inr, if◌then◌else◌, codes, ◌==◌}
+use Rattle.std.proofs.Common.{◌≡◌, ℕ, Bool, true, false, List, [], ◌∷◌, ◌++◌, Option, Some, None, refl, inl, inr, if◌then◌else◌, codes, ◌==◌}
 use Rattle.def_machine.specs.Values.{Words, Value, Ref, Broken, Name, Naming, IsGift, IsAnswer}
-use Rattle.def_machine.specs.State.{Passed, Passeds, Plain, AGift, Many, NoMore, More, Note, Deliver, Open, Ask, SettledTo, Elsewhere, Shorten, Put, Vat, Done, Gives, Throws, Ejects, Stops, Act, ◌>>=◌, ◌>>◌, and_then, give, look, come, alter, ToTell, send_out, is_in}
+use Rattle.def_machine.specs.State.{Passed, Passeds, Plain, AGift, Many, NoMore, More, Note, Deliver, Open, Ask, SettledTo, Elsewhere, Shorten, Put, Vat, Done, Gives, Throws, Ejects, Stops, Act, ◌>>=◌, ◌>>◌, and_then, give, look, come, ToTell, send_out, is_in}
 use Rattle.def_machine.specs.Refs as refs
 use Rattle.def_machine.specs.Arrive as arrive
 use Rattle.def_machine.specs.Arrive.{Incoming}
@@ -143,13 +143,13 @@ module _ (K : Naming Name Name) (from h i : ℕ) where
   sent_stays asks x verb id args = keeps_bind Stays base (keeps_learn_name K Stays base law x) (λ n. keeps_if Stays base asks (asked_stays id n verb args)
       (keeps_send_on K Stays base law (refs.settle K) (keeps_settle K Stays base law) (record { id = id; target = Ref n; verb = verb; args = args; answer = None })))
 
-  deliver_asks : (m : Incoming Name Name) (asks : Bool) (x : Incoming Name Name) (verb : Words) (ys : Passeds (Incoming Name Name)) (s : Vat Name) → PassesIn h i ys → ThenAsked h i from (arrive.arrive_deliver K from (record { message = m; asks = asks }) x verb ys s)
+  deliver_asks : (m : Incoming Name Name) (asks : Bool) (answer : Option (Incoming Name Name)) (x : Incoming Name Name) (verb : Words) (ys : Passeds (Incoming Name Name)) (s : Vat Name) → PassesIn h i ys → ThenAsked h i from (arrive.arrive_deliver K from (record { message = m; asks = asks; answer = answer }) x verb ys s)
   unfolding arrive.arrive_deliver ◌>>=◌
-  deliver_asks m asks x verb ys s p = any_then (arrive.learn_message K m s) (λ id. arrive.learn_all K from ys >>= (λ args. sent_on asks x verb id args)) (λ id t. asked_then (arrive.learn_all K from ys t) (λ args. sent_on asks x verb id args) (all_asks ys t p) (λ args. sent_stays asks x verb id args))
+  deliver_asks m asks answer x verb ys s p = any_then (arrive.learn_message K m s) (λ id. arrive.learn_all K from ys >>= (λ args. sent_on asks x verb id args)) (λ id t. asked_then (arrive.learn_all K from ys t) (λ args. sent_on asks x verb id args) (all_asks ys t p) (λ args. sent_stays asks x verb id args))
 
   note_asks : (n : Note (Incoming Name Name)) (s : Vat Name) → NotePasses h i n → ThenAsked h i from (arrive.arrive K from n s)
   unfolding arrive.arrive arrive.arrive_settled ◌>>=◌
-  note_asks (Deliver d x verb ys) s p = deliver_asks d.message d.asks x verb ys s p
+  note_asks (Deliver d x verb ys) s p = deliver_asks d.message d.asks d.answer x verb ys s p
   note_asks (SettledTo x y) s p = any_then (arrive.learn_name K x s) (λ n. arrive.learn K from y >>= (λ z. refs.settle K n z)) (λ n t. asked_then (arrive.learn K from y t) (λ z. refs.settle K n z) (learn_asks y t p) (λ z. keeps_settle K Stays base law n z))
   note_asks (Open j x) s p = absurd p
   note_asks (Ask q j x) s p = absurd p

@@ -7,7 +7,7 @@ use Rattle.def_machine.specs.State.{Message, Passed, Passeds, Plain, AGift, Many
 use Rattle.def_machine.specs.Eval.{opening}
 use Rattle.def_machine.specs.Arrive.{notice}
 use Rattle.law_machine.specs.Steps.{After}
-use Rattle.law_machine.proofs.KeyLaws.{key_of}
+use Rattle.def_machine.proofs.Keys.{key_of}
 use Rattle.def_run.specs.Draws.{draw_word}
 use Rattle.def_run.specs.World as world
 use Rattle.def_run.specs.World.{Script, Program, Entry, Turn, Carry, CutLink, NoticeLink, Event, Link, World, Run, Goes as Going, Stopped, names, names_of, put_at}

@@ -12,7 +12,7 @@ use Rattle.law_name.proofs.Facts.{PlaceOk, Fact, Nothing, Also, IsName, IsMail, 
 use Rattle.law_name.proofs.Care.{Care, Under, Giving, Makes, Sound, Ends, Gets, Fine, fine_bind, fine_less, fine_then, fine_more, fine_give, fine_look, fine_tell, fine_out, fine_wait, come_gift, changes_ok, with_known}
 use Rattle.law_name.proofs.CareRefs.{fine_settle}
 use Rattle.law_name.proofs.CareArrive.{Gifts, gifts_by, fine_ask_for, fine_gift_there}
-use Rattle.law_machine.proofs.KeyLaws.{word_under_key}
+use Rattle.def_machine.proofs.Keys.{word_under_key}
 use Rattle.law_name.specs.Names.{WasDrawn}
 use Rattle.law_name.proofs.Among.{among_more, key_not_drawn}
 use Rattle.law_name.proofs.SameNames.{reference_is}

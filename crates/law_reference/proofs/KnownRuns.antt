@@ -132,7 +132,7 @@ module _ (script : Script) where
   then_holds P x (Going y) f a b e = b y (a y refl) e
   then_holds P x (Stopped c n y) f a b e = cc
 
-  steps_hold : (es : List Entry) (k : ℕ) (w x : World) → AllBounded w → NotesBringNew script es k w → world.steps_from script es k w ≡ Going x → AllBounded x
+  pub steps_hold : (es : List Entry) (k : ℕ) (w x : World) → AllBounded w → NotesBringNew script es k w → world.steps_from script es k w ≡ Going x → AllBounded x
   unfolding world.steps_from
   steps_hold [] k w x h b e = moved w x h e
   steps_hold (entry ∷ es) k w x h b e = then_holds (λ y. AllBounded y × NotesBringNew script es (suc k) y) x (world.step script entry k w) (world.steps_from script es (suc k))
@@ -144,7 +144,7 @@ module _ (script : Script) where
   open_bounded v p w x None i h e = cc
   open_bounded v p w x (Some s) i h e = does_bounded v w x _ _ s s (Opens p.tree script.depth (Root v) (world.given script.vats p.knows)) h (h v s i) refl refl refl refl (alone v w s (h v s i)) e
 
-  opens_hold : (v : ℕ) (ps : List Program) (w x : World) → AllBounded w → world.open_from script v ps w ≡ Going x → AllBounded x
+  pub opens_hold : (v : ℕ) (ps : List Program) (w x : World) → AllBounded w → world.open_from script v ps w ≡ Going x → AllBounded x
   unfolding world.open_from world.open_vat
   opens_hold v [] w x h e = moved w x h e
   opens_hold v (p ∷ ps) w x h e = then_holds AllBounded x (world.open_vat script v p w) (world.open_from script (suc v) ps) (λ y i. open_bounded v p w y (slice_get w.vats v) refl h i) (λ y i j. opens_hold (suc v) ps y x i j) e
@@ -167,7 +167,7 @@ module _ (script : Script) where
   unfolding world.fresh world.known_root begun claims
   fresh_bounded v p once = (refl, λ x. roots_allowed v (v ∷ p.knows) (world.fresh script v p) [] once x)
 
-  begins_bounded : KnowsOnce script → AllBounded (world.begins script)
+  pub begins_bounded : KnowsOnce script → AllBounded (world.begins script)
   unfolding world.begins
   begins_bounded once v s e = at (fresh_at zero script.vats v s e)
     where

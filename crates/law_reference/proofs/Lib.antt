@@ -21,6 +21,8 @@ pub mod OwnTurns
 pub mod OwnArrive
 pub mod OwnRuns
 pub mod NotesRuns
+pub mod AnswerNames
+pub mod CareYields
 pub mod CareNotes
 pub mod CarryCare
 pub mod CarryArrive

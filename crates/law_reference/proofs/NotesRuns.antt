@@ -1,5 +1,5 @@
 -- In every world of a run each note is about a name of one of the two vats of its link, and nothing of a third vat passes in it but as a gift.
-use Rattle.std.proofs.Common.{◌≡◌, ℕ, zero, suc, List, [], ◌∷◌, ◌++◌, Some, refl, sym, length, append-nil}
+use Rattle.std.proofs.Common.{◌≡◌, ℕ, zero, suc, List, [], ◌∷◌, ◌++◌, Some, refl, sym, append-nil}
 use Rattle.std.specs.Prelude.{slice_get}
 use Rattle.def_machine.specs.Values.{Name, Root, naming}
 use Rattle.def_machine.specs.State.{Message, Note, Put, Vat, Done, Gives, Throws, Ejects, Stops, Act}
@@ -45,7 +45,7 @@ module _ (script : Script) where
     step_leaves : (C : Fact Name) (m : Act Name (Unit {0})) → Fine (V (inside script) w.vats v s there (low_at script w g v s there) (draw_word script.key)) C m nothing → Holds ((V (inside script) w.vats v s there (low_at script w g v s there) (draw_word script.key)).ok (readied w q)) C → AfterGives (CarriesOut v) (m (readied w q))
     step_leaves C m f c = given_leaves w.vats v s there (low_at script w g v s there) (draw_word script.key) (m (readied w q)) (ends_leave (inside script) w.vats v s there (low_at script w g v s there) (draw_word script.key) w.vats w.drawn nothing (readied w q) (m (readied w q)) (f.after (readied w q) ready_sound c))
 
-  turn_carries : (w : World) (v : ℕ) (s : Vat Name) (m : Message Name) (ms : List (Message Name)) → Stands script w → slice_get w.vats v ≡ Some s → s.queue ≡ m ∷ ms → AfterGives (CarriesOut v) (taking (names script v) (world.tree_at script.vats v) script.depth m (readied w (record s { queue = ms })))
+  pub turn_carries : (w : World) (v : ℕ) (s : Vat Name) (m : Message Name) (ms : List (Message Name)) → Stands script w → slice_get w.vats v ≡ Some s → s.queue ≡ m ∷ ms → AfterGives (CarriesOut v) (taking (names script v) (world.tree_at script.vats v) script.depth m (readied w (record s { queue = ms })))
   unfolding names
   turn_carries w v s m ms h i e = let g = h.vats v s i in let p = g.parts in let waiting : AllOf (MessageOk (Had script w v s)) (m ∷ ms) = rw e at p.queue in
       let parts : Parts (Had script w v s) s.things s.slots s.lists ms s.known s.gifts s.outbox = record { things = p.things; slots = p.slots; lists = p.lists; queue = waiting.1; known = p.known; gifts = p.gifts; outbox = p.outbox } in
@@ -53,17 +53,17 @@ module _ (script : Script) where
       (put_taking (naming (draw_word script.key) v) (V (inside script) w.vats v s i (low_at script w h v s i) (draw_word script.key)) (fit_puts (inside script) w.vats v s i (low_at script w h v s i) (draw_word script.key)) (world.tree_at script.vats v) script.depth m (record { at = λ r c. c }))
       (message_up (Had script w v s) ((V (inside script) w.vats v s i (low_at script w h v s i) (draw_word script.key)).ok (readied w (record s { queue = ms }))) (had_ready script v w s (record s { queue = ms }) i refl refl h parts g.kept) m waiting.0)
 
-  note_carries : (w : World) (from v : ℕ) (s : Vat Name) (n : Note Name) → Stands script w → slice_get w.vats v ≡ Some s → NoteOk (Told script w) n → AfterGives (CarriesOut v) (arrive (names script v) from (read_note (names_of s) n) (readied w s))
+  pub note_carries : (w : World) (from v : ℕ) (s : Vat Name) (n : Note Name) → Stands script w → slice_get w.vats v ≡ Some s → NoteOk (Told script w) n → AfterGives (CarriesOut v) (arrive (names script v) from (read_note (names_of s) n) (readied w s))
   unfolding names names_of readied
   note_carries w from v s n h i k = let g = h.vats v s i in let word : ℕ → ℕ = draw_word script.key in
       given_leaves w.vats v s i (low_at script w h v s i) word (arrive (naming word v) from (read_note (names_in s.known) n) (readied w s))
       ((note_fits (inside script) w.vats v s i (low_at script w h v s i) word w.vats w.drawn from (names_in s.known) n k).after (readied w s) (sound_ready script v w s s i refl refl h g.parts g.kept) (knows_ready script v w s s i refl refl h g.parts g.kept) tt tt)
 
-  notice_carries : (w : World) (v to : ℕ) (s : Vat Name) → Stands script w → slice_get w.vats v ≡ Some s → AfterGives (CarriesOut v) (notice (names script v) to (readied w s))
+  pub notice_carries : (w : World) (v to : ℕ) (s : Vat Name) → Stands script w → slice_get w.vats v ≡ Some s → AfterGives (CarriesOut v) (notice (names script v) to (readied w s))
   unfolding names
   notice_carries w v to s h i = let g = h.vats v s i in step_leaves v w s s i refl refl h g.parts g.kept Nothing (notice (naming (draw_word script.key) v) to) (put_notice (naming (draw_word script.key) v) (V (inside script) w.vats v s i (low_at script w h v s i) (draw_word script.key)) (fit_puts (inside script) w.vats v s i (low_at script w h v s i) (draw_word script.key)) to) tt
 
-  opening_carries : (w : World) (v : ℕ) (p : Program) (s : Vat Name) → Stands script w → slice_get script.vats v ≡ Some p → slice_get w.vats v ≡ Some s
+  pub opening_carries : (w : World) (v : ℕ) (p : Program) (s : Vat Name) → Stands script w → slice_get script.vats v ≡ Some p → slice_get w.vats v ≡ Some s
       → AfterGives (CarriesOut v) (opening (names script v) p.tree script.depth (Root v) (world.given script.vats p.knows) (readied w s))
   unfolding names
   opening_carries w v p s h t i = let g = h.vats v s i in let roots : AllOf (λ (u : ℕ). IsAmong (Root u) (names_in s.known)) (v ∷ p.knows) = g.roots p t in
@@ -129,7 +129,7 @@ module _ (script : Script) where
     stepped_all w x es k e i = lift.steps_all script Its OfNotes Ever (Any script) its_keep es k w x (all_allowed (Any script) (λ v to. tt) es) (opened_all script.vats [] w (sym (append-nil script.vats)) e) i
 
 -- each half of what the notes are
-half_links : (B C : ℕ → ℕ → Note Name → Type 0) → ((v w : ℕ) (n : Note Name) → B v w n → C v w n) → (ls : List Link) → AllOf (lift.Fits B) ls → AllOf (lift.Fits C) ls
+pub half_links : (B C : ℕ → ℕ → Note Name → Type 0) → ((v w : ℕ) (n : Note Name) → B v w n → C v w n) → (ls : List Link) → AllOf (lift.Fits B) ls → AllOf (lift.Fits C) ls
 half_links B C f [] h = tt
 half_links B C f (l ∷ ls) h = let one = h.0 in ((all_map (f l.from l.to) l.log one.0, all_map (f l.from l.to) l.notes one.1), half_links B C f ls h.1)
 

@@ -49,7 +49,7 @@ module _ (u v : ℕ) (s : Vat Name) (near : is_in v s.noticed ≡ false) (far : 
     all_spared (More y ys) h = (passes_spared y h.0, all_spared ys h.1)
 
   pub note_spared : (n : Note Name) → IsBetween u v n → Carries u v n → NoteSpared s n
-  note_spared (Deliver m n verb ys) h k = (of_receiver n h, all_spared ys k)
+  note_spared (Deliver m n verb ys) h k = (of_receiver n h, all_spared ys k.0)
   note_spared (Open i n) h k = of_receiver n h
   note_spared (Ask p i n) h k = of_receiver n h
   note_spared (SettledTo n y) h k = (of_sender n h, passes_spared y k)

@@ -418,7 +418,7 @@ module _ (word : ℕ → ℕ) (v : ℕ) (Spares : ℕ → Type 0) where
 
   own_pass_on : (m : Message Name) (h : ℕ) (n : Name) → IsOwnMail v m → (host_of n ≡ h) × Spares h → Gentle KeepsOwn (refs.pass_on Names m h n)
   unfolding refs.pass_on
-  own_pass_on m h n i e = own_some m.answer i.1 (λ p f. own_bind (own_answer h m.id i.0 e.1) (λ a. own_then (own_deliver m h n e.0) (own_wait_for p a (inl f)))) (own_deliver m h n e.0)
+  own_pass_on m h n i e = own_some m.answer i.1 (λ p f. own_bind (own_answer h m.id i.0 e.1) (λ a. own_then (own_deliver (record m { answer = Some a }) h n e.0) (own_wait_for p a (inl f)))) (own_deliver m h n e.0)
 
   pub own_send_to : (settle : Name → Value Name → Act Name (Unit {0})) → OwnSettler settle → (m : Message Name) (y : Value Name) (p : Place Name) → IsOwnMail v m → PlaceFits p → Gentle KeepsOwn (refs.send_to Names settle m y p)
   unfolding refs.send_to

@@ -1,5 +1,5 @@
 -- A message on an object of this vat is queued, so it brings no answer of another host.
-use Rattle.std.proofs.Common.{if◌then◌else◌, ◌≡◌, ℕ, ◌+◌, ◌≤◌, Bool, true, false, List, [], ◌∷◌, ◌++◌, Option, Some, None, refl, sym, subst, arith, length, ◌==◌}
+use Rattle.std.proofs.Common.{if◌then◌else◌, ◌≡◌, ℕ, ◌+◌, ◌≤◌, Bool, true, false, List, [], ◌∷◌, ◌++◌, Option, Some, None, refl, sym, subst, arith, ◌==◌}
 use Rattle.std.proofs.lemmas.Bool.{eqb-true, eq-eqb}
 use Rattle.def_machine.specs.Values.{Words, Value, Ref, Name, Root, Object, Promise, Answer, Gift, Sent, Naming, IsAnswer, IsCarried, naming, name_of, mail_of, answer_of, Spot, Own, Foreign, NoObject, spot_of, same_name, same_reference}
 use Rattle.def_machine.specs.State.{Message, Known, ToTell, Passeds, Note, Deliver, Open, Ask, SettledTo, Elsewhere, Shorten, Vat, Done, Gives, Throws, Ejects, Stops, ◌>>=◌, ◌>>◌, and_then, give, look, come, mail, alter, with_change, begun, Delivery}
@@ -102,11 +102,11 @@ module _ (v : ℕ) (word : ℕ → ℕ) (i : ℕ) where
     sent_near from id asks verb ys s e c = after_more v x (new_in_all x ys + one (answer_of v id) x) (one (answer_of v id) x + new_in_all x ys) s (omega arith) _
         (learnt_near from id asks verb (new_in_all x ys) (new_in_all It ys) s (arrive.learn_all K from ys s) e ((costs_learn_all v x word from ys).after s) ((costs_learn_all v It word from ys).after s) c)
 
-    pub deliver_near : (from : ℕ) (m : Incoming Name Name) (asks : Bool) (verb : Words) (ys : Passeds (Incoming Name Name)) (s : Vat Name) → s.number ≡ v → claims v It s.known + (answer_here v It m + new_in_all It ys) ≤ 0
-        → After (Knowing v x (answer_here v x m + new_in_all x ys)) s (arrive.arrive_deliver K from (record { message = m; asks = asks }) (Old It) verb ys s)
+    pub deliver_near : (from : ℕ) (m : Incoming Name Name) (asks : Bool) (answer : Option (Incoming Name Name)) (verb : Words) (ys : Passeds (Incoming Name Name)) (s : Vat Name) → s.number ≡ v → claims v It s.known + (answer_here v It m + new_in_all It ys) ≤ 0
+        → After (Knowing v x (answer_here v x m + new_in_all x ys)) s (arrive.arrive_deliver K from (record { message = m; asks = asks; answer = answer }) (Old It) verb ys s)
     unfolding arrive.arrive_deliver arrive.learn_message ◌>>=◌ and_then give mail naming mail_of answer_here
-    deliver_near from (Old m) asks verb ys s e c = sent_near from m asks verb ys s e c
-    deliver_near from (New m h) asks verb ys s e c = after_more v x (0 + (one (answer_of v m) x + new_in_all x ys)) (one (answer_of v m) x + new_in_all x ys) s (omega arith) _
+    deliver_near from (Old m) asks answer verb ys s e c = sent_near from m asks verb ys s e c
+    deliver_near from (New m h) asks answer verb ys s e c = after_more v x (0 + (one (answer_of v m) x + new_in_all x ys)) (one (answer_of v m) x + new_in_all x ys) s (omega arith) _
         (after_trans v x 0 (one (answer_of v m) x + new_in_all x ys) s _ ((free_mail v x K (IsCarried m)).after s) _ (sent_near from m asks verb ys (record s { mails = s.mails ++ m ∷ [] }) e c))
 
 module _ (v : ℕ) (word : ℕ → ℕ) (x : Name) where
@@ -114,7 +114,7 @@ module _ (v : ℕ) (word : ℕ → ℕ) (x : Name) where
       → (claims v (Object w i) s.known + elim b [ true ↦ answer_here v (Object w i) m.message + new_in_all (Object w i) ys | false ↦ brings v (Object w i) from s.gifts (Deliver m (Old (Object w i)) verb ys) ] ≤ 0)
       → After (Knowing v x (elim b [ true ↦ answer_here v x m.message + new_in_all x ys | false ↦ brings v x from s.gifts (Deliver m (Old (Object w i)) verb ys) ])) s (arrive.arrive (naming word v) from (Deliver m (Old (Object w i)) verb ys) s)
   unfolding arrive.arrive
-  own_where true w i from m verb ys s d f e c = let g : v ≡ w = eqb-true v w f in rw (sym g) (deliver_near v word i x from m.message m.asks verb ys s e (rw (sym g) at c))
+  own_where true w i from m verb ys s d f e c = let g : v ≡ w = eqb-true v w f in rw (sym g) (deliver_near v word i x from m.message m.asks m.answer verb ys s e (rw (sym g) at c))
   own_where false w i from m verb ys s d f e c = arrive_after v x word from (Deliver m (Old (Object w i)) verb ys) s
 
   deliver_after : (from : ℕ) (m : Delivery (Incoming Name Name)) (z : Incoming Name Name) (verb : Words) (ys : Passeds (Incoming Name Name)) (s : Vat Name) (d : List ℕ) → s.number ≡ v

@@ -1,5 +1,5 @@
 -- What is done with references makes known, of the names that were numbered, those that were not claimed.
-use Rattle.std.proofs.Common.{◌≡◌, ℕ, zero, suc, ◌+◌, ◌≤◌, Bool, true, false, List, [], ◌∷◌, ◌++◌, Option, Some, None, refl, sym, ◌∙◌, arith, length, ◌==◌, ◌&&◌}
+use Rattle.std.proofs.Common.{◌≡◌, ℕ, zero, suc, ◌+◌, ◌≤◌, Bool, true, false, List, [], ◌∷◌, ◌++◌, Option, Some, None, refl, sym, ◌∙◌, arith, ◌==◌, ◌&&◌}
 use Rattle.std.proofs.lemmas.Bool.{eqb-true, eq-eqb}
 use Rattle.def_machine.specs.Values.{Words, Value, Null, Flag, Number, Letter, Text, Prim, Broken, Items, Ref, Name, Root, Object, Promise, Answer, Gift, Sent, Msg, Spot, Own, Foreign, NoObject, Naming, IsAnswer, naming, name_of, mail_of, answer_of, spot_of, host_of, same_name, same_msg}
 use Rattle.def_machine.specs.State.{Message, Standing, Unsettled, WaitsOn, Viewed, Settled, Known, Settle, Passed, Passeds, Plain, AGift, Many, NoMore, More, Sends, Reacts, Settles, Lost, Happened, Vat, Act, ◌>>=◌, ◌>>◌, and_then, each, give, look, tell, enqueue, with_change, alter, new_message, begun, for_some, new_lone_message}
@@ -147,7 +147,7 @@ module _ (v : ℕ) (x : Name) where
     costs_pass_on : (m : Message Name) (h : ℕ) (n : Name) → (v == h) ≡ false → Keeps (Knowing v x (onward v x m.id)) (refs.pass_on K m h n)
     unfolding refs.pass_on name_of
     costs_pass_on m h n e = costs_some (onward v x m.id) m.answer (λ p. bind_free v x (onward v x m.id) (costs_more v x (one (answer_of h m.id) x) (onward v x m.id) (onward_covers v h m.id x e) (costs_come v x word (IsAnswer h m.id) h))
-        (λ a. then_free v x 0 (free_deliver m h n) (free_waits_on p a))) (costs_more v x 0 (onward v x m.id) (omega arith) (free_deliver m h n))
+        (λ a. then_free v x 0 (free_deliver (record m { answer = Some a }) h n) (free_waits_on p a))) (costs_more v x 0 (onward v x m.id) (omega arith) (free_deliver m h n))
 
     module _ (settle : Name → Value Name → Act Name (Unit {0})) (good : FreeSettler settle) where
       costs_send_to : (m : Message Name) (y : Value Name) (p : Place Name) → ((h : ℕ) (n : Name) (o : Bool) → p ≡ Away h n o → (v == h) ≡ false) → Keeps (Knowing v x (onward v x m.id)) (refs.send_to K settle m y p)

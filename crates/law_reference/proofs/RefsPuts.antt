@@ -9,7 +9,7 @@ use Rattle.def_machine.specs.Refs.{Place, Near, Mine, Away, Gone}
 use Rattle.def_machine.specs.Native.{list_at}
 use Rattle.law_machine.specs.Steps.{After}
 use Rattle.law_machine.proofs.Keeps.{Keeps}
-use Rattle.law_machine.proofs.KeyLaws.{word_key, provider_key}
+use Rattle.def_machine.proofs.Keys.{word_key, provider_key}
 use Rattle.law_name.specs.Names.{IsAmong}
 use Rattle.law_fate.proofs.PlacesLast.{each_end}
 use Rattle.law_fate.proofs.Spares.{IsSparedUnder}

@@ -1,12 +1,12 @@
 -- All that a vat does with references from a state in which no list leads back to itself ends in such a state.
-use Rattle.std.proofs.Common.{◌≡◌, ℕ, zero, suc, ◌-◌, Bool, true, false, List, [], ◌∷◌, ◌++◌, Option, Some, None, refl, sym, ap, subst, ◌∙◌, ◌⊎◌, inl, inr, if◌then◌else◌, length, codes, ◌==◌, arith}
+use Rattle.std.proofs.Common.{◌≡◌, ℕ, zero, suc, ◌-◌, Bool, true, false, List, [], ◌∷◌, ◌++◌, Option, Some, None, refl, sym, ap, subst, ◌∙◌, ◌⊎◌, inl, inr, if◌then◌else◌, length, codes, ◌==◌}
 use Rattle.std.specs.Prelude.{nat_le}
 use Rattle.def_machine.specs.Values.{Words, Value, Null, Flag, Number, Letter, Text, Prim, Broken, Items, Ref, Name, Root, Object, Promise, Answer, Gift, Sent, Naming, Spot, Own, Foreign, NoObject, naming, host_of, spot_of, name_of, answer_of, mail_of, IsAnswer, IsSent, IsOwn as IsOwnPromise, key}
 use Rattle.def_machine.specs.State.{Message, Passed, Plain, AGift, Many, Deliver, Open, SettledTo, Elsewhere, Standing, Unsettled, WaitsOn, Viewed, Settled, Known, Hold, React, ToTell, Settle, Settles, Sends, Reacts, Lost, Vat, Done, Gives, Throws, Ejects, Stops, Act, ◌>>=◌, ◌>>◌, and_then, each, give, stop, look, tell, alter, come, draw, draws, drawn_at, spend, spent, send_out, enqueue, new_message, new_promise, with_change, changed_to, begun, is_in, for_some, WhereSome, new_lone_message}
 use Rattle.def_machine.specs.Refs as refs
 use Rattle.def_machine.specs.Refs.{Place, Near, Mine, Away, Gone, entry_of, standing_of, host_at, led, follow_at, follow, severed, severed_at, severed_by, place, spotted, hosted, target_of, waits_lead}
 use Rattle.law_machine.proofs.BreakLaws.{nothing_of}
-use Rattle.law_machine.proofs.KeyLaws.{word_key}
+use Rattle.def_machine.proofs.Keys.{word_key}
 use Rattle.law_name.specs.Names.{AllOf, IsAmong, IsMessageName, IsEventual}
 use Rattle.law_name.proofs.Among.{key_not_drawn}
 use Rattle.law_frozen.specs.Frozen.{IsThere, KnownThere, PlainPasses}
@@ -104,10 +104,10 @@ module _ (word : ℕ → ℕ) (v : ℕ) (heed : Bool) (D : ℕ → Type 0) (Seen
   made_answer h k i g = answer_eventual h i g
 
   pass_by : (ls : List Mark) (C : Fact Name) (m : Message Name) (h : ℕ) (n : Name) (o : Option Name) → IsMessageName m.id → WhereSome (λ a. (host_of a ≡ v) × IsAnswerName a) o → Gets N C (IsMessage m) → (s : Vat Name) → Kept ls s → Knows N s.things s.lists C → is_in h (heeds word v heed D Seen s) ≡ false
-      → At ls nothing s (for_some o (λ p. come N (IsAnswer h m.id) h >>= (λ a. refs.deliver N m h n >> refs.wait_on N p a)) (refs.deliver N m h n) s)
+      → At ls nothing s (for_some o (λ p. come N (IsAnswer h m.id) h >>= (λ a. refs.deliver N (record m { answer = Some a }) h n >> refs.wait_on N p a)) (refs.deliver N m h n) s)
   unfolding for_some ◌>>=◌ come and_then
   pass_by ls C m h n (Some p) mail own g s i c spared = let a : Name = N.made (IsAnswer h m.id) (length s.known) in let t : Vat Name = record s { known = s.known ++ begun a h ∷ [] } in
-      widen N (M ls) nothing s t _ (grows_same s.things s.lists) ((fine_then N (M ls) {C = C} nothing (fine_deliver N (M ls) (tells ls) {C = C} m g h n) (wait_own ls C p a (own_answer p own))).after t (begun_holds word v heed D Seen ls s a h i spared (made_answer h (length s.known) m.id mail)) c)
+      widen N (M ls) nothing s t _ (grows_same s.things s.lists) ((fine_then N (M ls) {C = C} nothing (fine_deliver N (M ls) (tells ls) {C = C} (record m { answer = Some a }) (record { at = g.at }) h n) (wait_own ls C p a (own_answer p own))).after t (begun_holds word v heed D Seen ls s a h i spared (made_answer h (length s.known) m.id mail)) c)
   pass_by ls C m h n None mail own g s i c spared = (fine_deliver N (M ls) (tells ls) {C = C} m g h n).after s i c
 
   pass_ends : (ls : List Mark) (C : Fact Name) (m : Message Name) (h : ℕ) (n : Name) → IsOwn v m → Gets N C (IsMessage m) → (s : Vat Name) → Kept ls s → Knows N s.things s.lists C → is_in h (heeds word v heed D Seen s) ≡ false → At ls nothing s (refs.pass_on N m h n s)

@@ -11,7 +11,7 @@ use Rattle.def_machine.specs.Arrive.{Old, New}
 use Rattle.def_machine.specs.Eval as eval
 use Rattle.def_kernel.specs.declared.node.Node.{Node}
 use Rattle.def_run.specs.World as world
-use Rattle.law_machine.proofs.KeyLaws.{word_under_key}
+use Rattle.def_machine.proofs.Keys.{word_under_key}
 use Rattle.law_name.specs.Names.{WasDrawn, AllOf, IsAmong, IsKnownIn, IsMessageName, Once, names_in}
 use Rattle.law_name.proofs.Among.{among_last, names_end, key_not_drawn}
 use Rattle.law_name.proofs.SameNames.{old_known, reference_is}

@@ -1,5 +1,5 @@
 -- In every world of a run each answer is claimed once at most at each vat, and the notes that arrive bring each name but gifts as new.
-use Rattle.std.proofs.Common.{◌≡◌, ℕ, zero, suc, ◌+◌, ◌≤◌, List, [], ◌∷◌, ◌++◌, Option, Some, refl, ◌⊎◌, inl, inr, arith, length, map, subst}
+use Rattle.std.proofs.Common.{◌≡◌, ℕ, zero, suc, ◌+◌, ◌≤◌, List, [], ◌∷◌, ◌++◌, Option, Some, None, refl, ◌⊎◌, inl, inr, arith, map, subst}
 use Rattle.std.specs.Prelude.{slice_get}
 use Rattle.std.proofs.lemmas.Bool.{eq-eqb}
 use Rattle.def_machine.specs.Values.{Words, Name, Root, Object, Promise, Answer, Gift, Sent, Msg, host_of, same_name}
@@ -47,7 +47,7 @@ module _ (script : Script) (w : World) (a v : ℕ) (s t : Vat Name) (g : ℕ) (m
   near_base i id verb ys mail free came =
       let R : Incoming Name Name = New id.message (host_of id.message) in let P = (read_all ys (names_in s.known)).read in
       let none : claims v (Object v i) s.known + (answer_here v (Object v i) R + new_in_all (Object v i) P) ≤ 0 = rw (eq-eqb v v refl, brings_here) at free in
-      let k : Knowing v X (answer_here v X R + new_in_all X P) (readied w s) t = after_gives (λ y z. Knowing v X (answer_here v X R + new_in_all X P) y z) (readied w s) t _ (deliver_near v (draw_word script.key) i X a R id.asks verb P (readied w s) same none) came in
+      let k : Knowing v X (answer_here v X R + new_in_all X P) (readied w s) t = after_gives (λ y z. Knowing v X (answer_here v X R + new_in_all X P) y z) (readied w s) t _ (deliver_near v (draw_word script.key) i X a R id.asks None verb P (readied w s) same none) came in
       let kept = k.kept same in let q = same_numbers v g m s in let r = same_numbers v g m (readied w s) in let z = abroad_none v g m id.message far mail in omega arith
 
   pub near_told : (n : Note Name) → NoteOk MailBits n → OwnTarget v n → ((i : ℕ) → Free i n) → Came n → Told n

@@ -24,7 +24,7 @@ reference_name (Gift w i) b h = refl
 reference_name (Object w i) b h = absurd h
 reference_name (Sent m) b h = absurd h
 
-has_table : (w : World) (v : ℕ) (s : Vat Name) → AllOf IsEventual (names_in s.known) × AllOf IsMessageName s.mails
+pub has_table : (w : World) (v : ℕ) (s : Vat Name) → AllOf IsEventual (names_in s.known) × AllOf IsMessageName s.mails
     → ((i j : ℕ) (a b : Name) → slice_get (names_in s.known) i ≡ Some a → slice_get (names_in s.known) j ≡ Some b → same_name a b ≡ (i == j))
     → ((h p j : ℕ) → exported_at w.links v h p ≡ Some j → spot_of v (Object h j) ≡ Foreign h)
     × ((h p g q i j : ℕ) → exported_at w.links v h p ≡ Some i → exported_at w.links v g q ≡ Some j → same_name (Object h i) (Object g j) ≡ ((h == g) && (p == q)))

@@ -4,7 +4,7 @@ use Rattle.def_machine.specs.Values.{Value, Name, Gift, Naming, naming, name_of,
 use Rattle.def_machine.specs.State.{Unsettled, Viewed, Settled, Known, Wait, See, Ask, Shorten, GiftEntry, Put, Vat, ◌>>=◌, ◌>>◌, and_then, give, look, tell, alter, come, draw, draws, drawn_at, send_out, new_gift, with_change, changed, changed_to, unless_settled, begun}
 use Rattle.def_machine.specs.Refs.{entry_of, standing_of, standing_in, host_at}
 use Rattle.def_machine.specs.Arrive as arrive
-use Rattle.law_machine.proofs.KeyLaws.{word_under_key}
+use Rattle.def_machine.proofs.Keys.{word_under_key}
 use Rattle.law_name.specs.Names.{IsAmong, WasDrawn, IsEventual}
 use Rattle.law_name.proofs.Among.{key_not_drawn}
 use Rattle.law_name.proofs.SameNames.{reference_is, reference_self}

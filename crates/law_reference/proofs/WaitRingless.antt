@@ -265,9 +265,9 @@ module _ (K : Naming Name Name) (is : (a b : Name) → K.same a b ≡ true → a
     abbrev pub AnswersDiffer : Type 0
     AnswersDiffer = (h k : ℕ) (i a : Name) → IsOwnPair v i (Some a) → IsOther v h → a ≡ K.made (IsAnswer h i) k → ⊥
 
-    passes_by : AnswersDiffer → (m : Message Name) (h : ℕ) (n : Name) (o : Option Name) → IsOwnPair v m.id o → IsOther v h → Gentle Step (for_some o (λ p. come K (IsAnswer h m.id) h >>= (λ a. refs.deliver K m h n >> refs.wait_on K p a)) (refs.deliver K m h n))
+    passes_by : AnswersDiffer → (m : Message Name) (h : ℕ) (n : Name) (o : Option Name) → IsOwnPair v m.id o → IsOther v h → Gentle Step (for_some o (λ p. come K (IsAnswer h m.id) h >>= (λ a. refs.deliver K (record m { answer = Some a }) h n >> refs.wait_on K p a)) (refs.deliver K m h n))
     unfolding for_some come ◌>>=◌ ◌>>◌ and_then
-    passes_by differ m h n (Some p) g f = record { after = λ s. let a : Name = K.made (IsAnswer h m.id) (length s.known) in let t : Vat Name = record s { known = s.known ++ begun a h ∷ [] } in waits_after s p a h (refs.deliver K m h n t) (differ h (length s.known) m.id p g f) ((calm_deliver K (IsOwnPair v) Less less_law m h n).after t) }
+    passes_by differ m h n (Some p) g f = record { after = λ s. let a : Name = K.made (IsAnswer h m.id) (length s.known) in let t : Vat Name = record s { known = s.known ++ begun a h ∷ [] } in waits_after s p a h (refs.deliver K (record m { answer = Some a }) h n t) (differ h (length s.known) m.id p g f) ((calm_deliver K (IsOwnPair v) Less less_law (record m { answer = Some a }) h n).after t) }
     passes_by differ m h n None g f = calm_deliver K (IsOwnPair v) Step step_law m h n
 
     pub step_passes : AnswersDiffer → PassesBy K (IsOwnPair v) (IsOther v) Step

@@ -15,6 +15,7 @@ pub mod Behind
 pub mod Bring
 pub mod Once
 pub mod AnswerWhole
+pub mod AnswerNames
 pub mod GiftPassing
 pub mod News
 pub mod Standing

@@ -1,6 +1,6 @@
 -- What the notes between two vats are about: a vat tells only of its own names, and asks only for names of the receiver.
-use Rattle.std.specs.Prelude.{◌≡◌, ℕ, zero, false, List, ◌++◌, ◌⊎◌, Some, slice_get}
-use Rattle.def_machine.specs.Values.{Value, Null, Flag, Number, Letter, Text, Prim, Broken, Items, Ref, Name, host_of}
+use Rattle.std.specs.Prelude.{◌≡◌, ℕ, zero, Bool, true, false, List, ◌++◌, ◌⊎◌, Option, Some, None, slice_get}
+use Rattle.def_machine.specs.Values.{Value, Null, Flag, Number, Letter, Text, Prim, Broken, Items, Ref, Name, host_of, answer_of}
 use Rattle.def_machine.specs.State.{Passed, Passeds, Plain, AGift, Many, NoMore, More, Note, Deliver, Open, Ask, SettledTo, Elsewhere, Shorten, Vat, is_in}
 use Rattle.def_run.specs.World.{Script, Program, Entry, Link, World, Goes, begins, open_from, steps_from, link_at}
 use Rattle.law_name.specs.Names.{AllOf, IsEventual}
@@ -49,9 +49,23 @@ abbrev mutual
   AllPassBetween v w NoMore = Unit {0}
   AllPassBetween v w (More y ys) = PassesBetween v w y × AllPassBetween v w ys
 
--- of the arguments of a message, and of what a name settled to
+-- what the answer that a note asks of vat w is called: its name, and none where the note asks for no answer
+abbrev pub answer_due : ℕ → Bool → Name → Option Name
+answer_due w true m = Some (answer_of w m)
+answer_due w false m = None
+
+-- that is what the sender of a note to w calls it
+abbrev pub NamesItsAnswer : ℕ → Note Name → Type 0
+NamesItsAnswer w (Deliver d n verb ys) = d.answer ≡ answer_due w d.asks d.message
+NamesItsAnswer w (Open i n) = Unit {0}
+NamesItsAnswer w (Ask p i n) = Unit {0}
+NamesItsAnswer w (SettledTo n y) = Unit {0}
+NamesItsAnswer w (Elsewhere n c) = Unit {0}
+NamesItsAnswer w (Shorten n c i) = Unit {0}
+
+-- of the arguments of a message, with the answer that it asks for, and of what a name settled to
 abbrev pub Carries : ℕ → ℕ → Note Name → Type 0
-Carries v w (Deliver m n verb ys) = AllPassBetween v w ys
+Carries v w (Deliver m n verb ys) = AllPassBetween v w ys × NamesItsAnswer w (Deliver m n verb ys)
 Carries v w (SettledTo n y) = PassesBetween v w y
 Carries v w (Open i n) = Unit {0}
 Carries v w (Ask p i n) = Unit {0}
@@ -62,7 +76,7 @@ Carries v w (Shorten n c i) = Unit {0}
 abbrev pub LinkCarries : Link → Type 0
 LinkCarries l = AllOf (Carries l.from l.to) l.log × AllOf (Carries l.from l.to) l.notes
 
--- In every world of a run each name that passes in a note, and not as a gift, is of one of the two vats of its link.
+-- In every world of a run each name that passes in a note, and not as a gift, is of one of the two vats of its link, and the answer that a note asks for is called by its name.
 abbrev pub NotesCarryTheirEnds : Type 0
 NotesCarryTheirEnds = (script : Script) → KnowsOnce script
     → ((ps rest : List Program) (w : World) → script.vats ≡ ps ++ rest → open_from script zero ps (begins script) ≡ Goes w → AllOf LinkCarries w.links)

@@ -2,6 +2,7 @@
 //! after all of them and any entries of a schedule. No vat of the script may be told twice that it
 //! knows a vat, or that it knows itself, which the reading of scripts refuses.
 
+ghost use Rattle.law_reference.specs.AnswerNames.{AnswersAreNamed};
 ghost use Rattle.law_reference.specs.Cuts.{NoticedLinksAreCut};
 ghost use Rattle.law_reference.specs.Hosts.{BreaksStayBroken, HostsRestInRuns, VatsRestInRuns};
 ghost use Rattle.law_reference.specs.Notes.{NotesCarryTheirEnds, NotesNameNobodyNoticed, NotesNameTheirEnds};
@@ -47,9 +48,17 @@ pub fn notes_name_their_ends()
 {}
 
 /// Each name that passes in a note, in an argument of a message or in what a name settled to, is of
-/// one of the two vats of its link: what is of a third vat passes as a gift.
+/// one of the two vats of its link: what is of a third vat passes as a gift. The answer that a note asks
+/// for is named in it as at its receiver.
 pub fn notes_carry_their_ends()
     ensures { NotesCarryTheirEnds }
+{}
+
+/// What the sender of a note calls the answer that it asks for is the name of the answer of that message
+/// at the receiver, and where the note asks for none it calls none so. This is said of all notes on
+/// links, of those that each vat put in its last step, and of those of any step that may be its next.
+pub fn answers_are_named()
+    ensures { AnswersAreNamed }
 {}
 
 /// Where each notice of a schedule stands behind a cut of the same two vats, which are not one: a

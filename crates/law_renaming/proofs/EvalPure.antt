@@ -16,7 +16,7 @@ use Rattle.def_kernel.specs.declared.node.Literal.{Literal}
 use Rattle.def_kernel.specs.declared.node.Literal.TheVariants as literal
 use Rattle.def_kernel.specs.declared.node.Node.{Node}
 use Rattle.def_kernel.specs.declared.node.Node.TheVariants.{Final}
-use Rattle.law_renaming.specs.Maps as maps
+use Rattle.def_machine.specs.Maps as maps
 use Rattle.law_renaming.specs.EvalMaps as evals
 use Rattle.law_renaming.proofs.Sim.{Books, Renames, map_get, length_map, map_end}
 use Rattle.law_renaming.proofs.SimRefs.{list_at_map, same_follow, same_place, any_map}

@@ -2,7 +2,7 @@
 use Rattle.std.proofs.Common.{◌≡◌, List, [], ◌∷◌, refl, map, Option, option_map, Some, None}
 use Rattle.def_machine.specs.Values.{Value, Null, Prim, Ref}
 use Rattle.def_machine.specs.State.{Bound, Fixed, Slot, Binding, Cell, Freedom, IsSafe, IsItself, IsFinal, IsVar, FreeName, View, Thing, Made, Ejector, Audition, Resolver, Message, Standing, Unsettled, WaitsOn, Viewed, Settled, Known, Passed, Passeds, Plain, AGift, Many, NoMore, More, Note, Deliver, Open, Ask, SettledTo, Elsewhere, Shorten, Put, GiftEntry, Happened, Took, Called, Back, Thrown, Left, Got, SlotMade, SlotRead, SlotWrote, ListMade, ListCame, EjectorMade, AuditionMade, PromiseMade, ObjectMade, Sends, Reacts, Finished, Threw, Settles, Waits, Views, Lost, Posted, Vat}
-use Rattle.law_renaming.specs.Maps as maps
+use Rattle.def_machine.specs.Maps as maps
 
 all_twice : {A B C : Type 0} (g : A → B) (h : B → C) (l : A → C) → ((a : A) → h (g a) ≡ l a) → (xs : List A) → map h (map g xs) ≡ map l xs
 all_twice g h l e [] = refl
@@ -56,7 +56,7 @@ module _ {N M P : Type 0} (f : N → M) (g : M → P) where
     passeds_twice (More y ys) = cc (passed_twice y, passeds_twice ys)
 
   pub note_twice : (x : Note N) → maps.note g (maps.note f x) ≡ maps.note both x
-  note_twice (Deliver m y verb args) = cc (passeds_twice args)
+  note_twice (Deliver m y verb args) = cc (option_twice m.answer, passeds_twice args)
   note_twice (Open i y) = refl
   note_twice (Ask p i y) = refl
   note_twice (SettledTo p y) = cc (passed_twice y)

@@ -8,7 +8,7 @@ use Rattle.def_machine.specs.Eval.{opening}
 use Rattle.law_machine.specs.Steps.{Opens, After, does}
 use Rattle.law_machine.specs.Laws.{SameNames}
 use Rattle.law_machine.proofs.StepLaws.{names_stays}
-use Rattle.law_renaming.specs.Maps as maps
+use Rattle.def_machine.specs.Maps as maps
 use Rattle.law_renaming.specs.Stands.{Table, Found, Is, Nothing, prom_found, mess_found, far_found, found, found_spot, found_same, IsTable, finding}
 use Rattle.law_renaming.proofs.Sim.{Books, books, names, Renames, FitsAfter, id}
 use Rattle.law_renaming.proofs.SimEval.{sim_opening}

@@ -2,7 +2,7 @@
 use Rattle.std.proofs.Common.{◌≡◌, List, Option, Some, None, option_map, [], ◌∷◌, refl, map}
 use Rattle.def_machine.specs.Values.{Value, Null, Flag, Number, Letter, Text, Prim, Broken, Items, Ref}
 use Rattle.def_machine.specs.State.{Bound, Fixed, Slot, Binding, Cell, Freedom, IsSafe, IsItself, IsFinal, IsVar, FreeName, View, Thing, Made, Ejector, Audition, Resolver, Message, Standing, Unsettled, WaitsOn, Viewed, Settled, Known, Passed, Passeds, Plain, AGift, Many, NoMore, More, Note, Deliver, Open, Ask, SettledTo, Elsewhere, Shorten, Put, GiftEntry, Happened, Took, Called, Back, Thrown, Left, Got, SlotMade, SlotRead, SlotWrote, ListMade, ListCame, EjectorMade, AuditionMade, PromiseMade, ObjectMade, Sends, Reacts, Finished, Threw, Settles, Waits, Views, Lost, Posted, Vat}
-use Rattle.law_renaming.specs.Maps as maps
+use Rattle.def_machine.specs.Maps as maps
 
 all_same : {A : Type 0} (g : A → A) → ((a : A) → g a ≡ a) → (xs : List A) → map g xs ≡ xs
 all_same g e [] = refl
@@ -62,7 +62,7 @@ module _ {N : Type 0} where
     passeds_same (More y ys) = cc (passed_same y, passeds_same ys)
 
   note_same : (x : Note N) → maps.note self x ≡ x
-  note_same (Deliver m y verb args) = cc (passeds_same args)
+  note_same (Deliver m y verb args) = rw (may_same m.answer, passeds_same args) refl
   note_same (Open i y) = refl
   note_same (Ask p i y) = refl
   note_same (SettledTo p y) = cc (passed_same y)

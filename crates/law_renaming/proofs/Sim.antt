@@ -5,8 +5,8 @@ use Rattle.def_machine.specs.Values.{Words, Value, Naming, Coming, Mailing, IsOw
 use Rattle.def_machine.specs.State
 use Rattle.def_machine.specs.State.{Binding, Cell, Thing, Made, Ejector, Audition, Resolver, Message, Standing, Unsettled, WaitsOn, Viewed, Settled, Known, Change, Hold, Wait, WaitOn, See, React, Settle, ToTell, Passed, Passeds, Note, Put, GiftEntry, Happened, Vat, Stop, Done, Gives, Throws, Ejects, Stops, Act, ◌>>◌, ◌>>=◌, and_then, for_some, end_by, ending, each, give, throw, eject, stop, look, tell, spend, spent, new_activation, new_thing, kill, dead, new_slot, holding, write_slot, new_list, draw, draws, drawn_at, send_out, new_gift, is_gift, with_opened, open_gift, mark, enqueue, alter, mail, come, new_promise, new_message, changed, changed_to, unless_settled, with_change, begun, new_lone_message}
 use Rattle.def_machine.specs.Refs.{Place, Parcel}
-use Rattle.law_renaming.specs.Maps as maps
-use Rattle.law_renaming.specs.Maps.{coming, mailing}
+use Rattle.def_machine.specs.Maps as maps
+use Rattle.def_machine.specs.Maps.{coming, mailing}
 use Rattle.law_machine.specs.Steps.{After}
 use Rattle.law_machine.proofs.Keeps.{Keeps, IsKept, IsKeptUnder}
 

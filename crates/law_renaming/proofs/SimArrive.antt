@@ -7,8 +7,8 @@ use Rattle.def_machine.specs.Refs as refs
 use Rattle.def_machine.specs.Refs.{Place, Near, Mine, Away, Gone}
 use Rattle.def_machine.specs.Arrive as arrive
 use Rattle.def_machine.specs.Arrive.{Incoming, Old, New, gift_at, opened_in}
-use Rattle.law_renaming.specs.Maps as maps
-use Rattle.law_renaming.specs.Maps.{coming, incoming}
+use Rattle.def_machine.specs.Maps as maps
+use Rattle.def_machine.specs.Maps.{coming, incoming}
 use Rattle.law_machine.proofs.Keeps.{Keeps, IsKept, IsKeptUnder, keeps_each}
 use Rattle.law_machine.proofs.RefsKeeps.{keeps_settle}
 use Rattle.law_machine.proofs.ArriveKeeps.{keeps_arrive_all, keeps_learn_all}

@@ -7,8 +7,8 @@ use Rattle.def_machine.specs.Native as native
 use Rattle.def_machine.specs.Native.{list_at}
 use Rattle.def_machine.specs.Refs as refs
 use Rattle.def_machine.specs.Refs.{Place, Near, Mine, Away, Gone, Parcel, standing_in, host_in, own_weight, take_room, room_behind, room_by, room_after, most, highest}
-use Rattle.law_renaming.specs.Maps as maps
-use Rattle.law_renaming.specs.Maps.{coming}
+use Rattle.def_machine.specs.Maps as maps
+use Rattle.def_machine.specs.Maps.{coming}
 use Rattle.law_machine.proofs.Keeps.{Keeps, IsKept, IsKeptUnder, keeps_each}
 use Rattle.law_machine.proofs.RefsKeeps.{keeps_refs, keeps_pass_all, keeps_settle_at, keeps_settle, keeps_address_all}
 use Rattle.law_renaming.proofs.Sim.{Books, Renames, Sim, Grows, grows, grows_under, id, sims, sim_message, length_map, map_get}

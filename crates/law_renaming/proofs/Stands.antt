@@ -4,7 +4,7 @@ use Rattle.std.specs.Prelude.{slice_get, option_map}
 use Rattle.def_machine.specs.Values.{Name, Msg, Root, Object, Promise, Answer, Gift, same_name, same_reference, Own, Foreign, NoObject, spot_of, Coming, IsRoot, IsOwn, IsAnswer, IsGift, IsLearnt, name_of, Local, Obj, Prom, Far, Mess, Sent, Mailing, IsSent, IsCarried, mail_of, local_spot, same_local, numbering, naming}
 use Rattle.def_machine.specs.State.{Vat, Known, Act, Done, Gives, Throws, Ejects, Stops}
 use Rattle.std.proofs.lemmas.Bool.{eqb-true, eq-eqb}
-use Rattle.law_renaming.specs.Maps as maps
+use Rattle.def_machine.specs.Maps as maps
 use Rattle.law_renaming.specs.Stands.{Table, Found, Is, Nothing, prom_found, far_found, mess_found, found_answer, found_name, found, finding, found_spot, found_same, IsTable, StandsFor}
 use Rattle.law_renaming.proofs.Sim.{Books, books, Renames, Sim, FitsAfter, names, map_get}
 use Rattle.law_renaming.proofs.MapMaps.{vat_twice}

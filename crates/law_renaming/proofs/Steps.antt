@@ -4,8 +4,8 @@ use Rattle.def_machine.specs.Values.{Name, numbering, naming}
 use Rattle.def_machine.specs.State.{Done, Gives, Throws, Ejects, Stops}
 use Rattle.def_machine.specs.Arrive.{arrive, notice}
 use Rattle.def_machine.specs.Eval.{opening, taking}
-use Rattle.law_renaming.specs.Maps as maps
-use Rattle.law_renaming.specs.Maps.{incoming}
+use Rattle.def_machine.specs.Maps as maps
+use Rattle.def_machine.specs.Maps.{incoming}
 use Rattle.law_renaming.specs.Stands.{Table, Found, Is, found, finding}
 use Rattle.law_renaming.specs.Renaming.{Wire, EndsWith, ArrivalsStand, NoticesStand, TurnsStand, OpeningsStand}
 use Rattle.law_renaming.proofs.Sim.{Books, id}

@@ -4,7 +4,7 @@ use Rattle.def_kernel.specs.declared.node.Node.{Node}
 use Rattle.def_machine.specs.Values.{Words, Name, Root, Object, Sent, Local, Obj, Prom, Far, Mess, numbering}
 use Rattle.def_machine.specs.State.{Known, Vat, Done, Gives, Throws, Ejects, Stops, begun}
 use Rattle.def_machine.specs.Eval.{opening}
-use Rattle.law_renaming.specs.Maps as maps
+use Rattle.def_machine.specs.Maps as maps
 use Rattle.def_run.specs.Draws.{draw_word}
 use Rattle.def_run.specs.World.{Script, Run, Opens, then_goes, put_back, begins, close, run}
 

@@ -2,7 +2,7 @@
 use Rattle.std.specs.Prelude.{map}
 use Rattle.def_machine.specs.Native.{Reply, Says, Writes, Lists, Iterates, Fails, Asked, MakesList, Ranges, Same, Compares, Loops, SendsTo, CallsTo, MakesPromise, Breaks, Tells, Whens, ThrowsIt, IsStamped, Coerces, AddsNull, NoMethod}
 use Rattle.def_machine.specs.Scopes.{Answer, Answers, AuditionAsk, GetsForm, GetsGuard, Asks, NoAuditionAsk, ResolverAsk, Resolves, Smashes, NoResolverAsk}
-use Rattle.law_renaming.specs.Maps.{value, scope}
+use Rattle.def_machine.specs.Maps.{value, scope}
 
 module _ {N M : Type 0} (f : N → M) where
   abbrev pub answer : Answer N → Answer M

@@ -3,7 +3,7 @@ use Rattle.std.specs.Prelude.{◌≡◌, ℕ, List, [], ◌∷◌, None, pos, co
 use Rattle.def_machine.specs.Values.{Root, Object, Answer, Sent, Number, Ref, Obj, Prom, naming, numbering}
 use Rattle.def_machine.specs.State.{Vat, Known, begun}
 use Rattle.def_machine.specs.Refs.{send}
-use Rattle.law_renaming.specs.Maps as maps
+use Rattle.def_machine.specs.Maps as maps
 use Rattle.law_renaming.specs.Stands.{Table, Is, found, IsTable}
 
 -- vat 0 knows its own root and that of vat 1, and the answer of its first message there

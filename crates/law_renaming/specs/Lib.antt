@@ -1,4 +1,3 @@
-pub mod Maps
 pub mod EvalMaps
 pub mod Stands
 pub mod Renaming

@@ -5,8 +5,8 @@ use Rattle.def_machine.specs.State.{Vat, Message, Note, Binding, Known, Done, Gi
 use Rattle.def_machine.specs.Arrive.{Incoming, arrive, notice}
 use Rattle.def_machine.specs.Eval.{opening, taking}
 use Rattle.def_kernel.specs.declared.node.Node.{Node}
-use Rattle.law_renaming.specs.Maps as maps
-use Rattle.law_renaming.specs.Maps.{incoming}
+use Rattle.def_machine.specs.Maps as maps
+use Rattle.def_machine.specs.Maps.{incoming}
 use Rattle.law_renaming.specs.Stands.{Table, Is, found, IsTable, StandsFor}
 
 -- how a note from one vat to another names things

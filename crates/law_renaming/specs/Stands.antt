@@ -2,7 +2,7 @@
 use Rattle.std.specs.Prelude.{◌≡◌, ℕ, Bool, false, List, Option, Some, None, slice_get, ◌==◌, ◌&&◌}
 use Rattle.def_machine.specs.Values.{Name, Root, Object, Promise, Gift, Sent, Msg, same_reference, Spot, Foreign, NoObject, spot_of, Naming, Coming, IsRoot, IsOwn, IsAnswer, IsGift, IsLearnt, answer_of, Local, Obj, Prom, Far, Mess, mail_of, local_spot, same_local}
 use Rattle.def_machine.specs.State.{Vat}
-use Rattle.law_renaming.specs.Maps as maps
+use Rattle.def_machine.specs.Maps as maps
 
 -- The tables by which the numbers of a vat are read: the names that it knows, in the order in which it came to know them,
 -- and the number of the object that a host exported to it at a position.

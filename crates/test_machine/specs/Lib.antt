@@ -40,3 +40,4 @@ pub mod Audits
 pub mod Rules
 pub mod Bounds
 pub mod Heavy
+pub mod RunsAlike

@@ -20,7 +20,7 @@ returns-in-Err-clause-end c =
     c.stopped.ensures
 
 -- it came to its end, and its text is what was told
-done : (c : goal.After-drop-running-23) → IsRun c.args.key.now c.args.fuel c.args.limits.depth c.args.name.now c.args.program.now c.args.turns (string_bytes c.in_ok-rendered.field-0) Done
+done : (c : goal.After-drop-running-24) → IsRun c.args.key.now c.args.fuel c.args.limits.depth c.args.name.now c.args.program.now c.args.turns (string_bytes c.in_ok-rendered.field-0) Done
 done c =
     let ran : RunIs (Ok tt) (course_alone (draw_word c.args.key.now) c.args.limits.depth c.args.program.now c.args.fuel c.args.turns) c.go_on.new.running.vat.host.inside c.go_on.new.running.names c.go_on.new.running.history =
     subst (λ (key : List ℕ). RunIs (Ok tt) (course_alone (draw_word key) c.args.limits.depth c.args.program.now c.args.fuel c.args.turns) c.go_on.new.running.vat.host.inside c.go_on.new.running.names c.go_on.new.running.history)

@@ -1,5 +1,5 @@
 use Rattle.std.proofs.Common.{sym}
-use Rattle.ev_pass.proofs.Keys.{word_key}
+use Rattle.def_machine.proofs.Keys.{word_key}
 use Rattle.ev_write.proofs.describing.word_of.Goals as goal
 
 pub returns : goal.returns

@@ -1,0 +1,4 @@
+pub mod Names
+pub mod Vats
+pub mod Numbers
+pub mod Text

@@ -1,0 +1,5 @@
+pub mod Worlds
+pub mod Steps
+pub mod Readies
+pub mod Turning
+pub mod Starts

@@ -1,0 +1,4 @@
+pub mod Sending
+pub mod Standing
+pub mod Starting
+pub mod Steps

@@ -1,0 +1,22 @@
+-- Frames that are sent, without where they lie in memory.
+use Rattle.std.specs.Prelude.{ℕ, List}
+use Rattle.def_op.specs.Frames.{spelling}
+use Rattle.def_local.specs.Numbers.{Addressed as Framed}
+use Rattle.ev_member.specs.declared.sending.Sending.{Sending}
+use Rattle.ev_write.specs.Putting.{Addressed}
+
+-- bytes, and the vat that they are for
+pub record Sent : Type 0 where
+  pub to : ℕ
+  pub bytes : List ℕ
+
+abbrev pub sending_of : Sending → Sent
+sending_of x = record { to = x.to; bytes = x.bytes }
+
+-- the frame of an operation
+abbrev pub packed : Addressed → Sent
+packed x = record { to = x.to; bytes = spelling x.op }
+
+-- the frame of a note in the machine's run in numbers
+abbrev pub spelled : Framed → Sent
+spelled x = record { to = x.to; bytes = spelling x.frame.op }

@@ -1,0 +1,9 @@
+//! A vat with what it has for its peers: it takes its steps, writes what they put as frames of bytes, and hears the frames of others.
+#![tactic(auto)]
+
+pub mod member;
+pub mod sending;
+mod starting;
+
+pub use member::Member;
+pub use sending::Sending;

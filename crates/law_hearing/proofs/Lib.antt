@@ -1,0 +1,17 @@
+pub mod Lift
+pub mod Pairs
+pub mod Bare
+pub mod Moves
+pub mod Pending
+pub mod Here
+pub mod Kept
+pub mod Read
+pub mod Links
+pub mod Puts
+pub mod Steps
+pub mod Start
+pub mod Runs
+pub mod Heard
+pub mod Laws
+pub mod Anew
+pub mod Questions

@@ -1,0 +1,17 @@
+pub mod Named
+pub mod Ways
+pub mod Texts
+pub mod Closing
+pub mod Cuts
+pub mod Starts
+pub mod MayMaps
+pub mod Sights
+pub mod Writing
+pub mod Puts
+pub mod Naming
+pub mod Steps
+pub mod Runs
+pub mod Positions
+pub mod OwnSteps
+pub mod Turns
+pub mod OpeningTurns

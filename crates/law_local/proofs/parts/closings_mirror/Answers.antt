@@ -1,0 +1,5 @@
+use Rattle.law_local.proofs.Closing.{closings_mirror}
+use Rattle.law_local.proofs.parts.closings_mirror.Goals as goal
+
+pub returns : goal.returns
+returns c = closings_mirror

@@ -1,0 +1,6 @@
+pub mod Mirrors
+pub mod Statements
+pub mod Writing
+pub mod Naming
+pub mod Steps
+pub mod Runs

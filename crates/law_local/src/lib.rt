@@ -1,0 +1,4 @@
+//! The run of a script in each vat's own numbers stands where the machine's run stands.
+#![tactic(auto)]
+
+pub mod parts;

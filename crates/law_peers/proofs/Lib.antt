@@ -1,0 +1,4 @@
+pub mod Lists
+pub mod Sights
+pub mod Stays
+pub mod Writes

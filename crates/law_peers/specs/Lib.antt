@@ -1,0 +1,3 @@
+pub mod Standing
+pub mod Asking
+pub mod Statements

@@ -1,0 +1,12 @@
+pub mod Parted
+pub mod Learnt
+pub mod Tables
+pub mod Entries
+pub mod Openings
+pub mod Drawn
+pub mod Shown
+pub mod Later
+pub mod Told
+pub mod ShownRuns
+pub mod StoppedRuns
+pub mod Converse
