@@ -1,10 +1,15 @@
-//! Examples that the top call answers by what stands beside them.
+//! Tells of each example whether the top call writes what stands beside it.
 //!
 //! `NAME.e` is a program, and `NAME.form` the form of its kernel tree, as `evat expand` writes it. Where the program runs today,
 //! `NAME.json` is a script of one vat with it, and `NAME.lines` the history that `evat run` writes. `NAME.in` are lines, and `NAME.out`
-//! the answers of a command to them.
+//! the answers of a command to them. It reads them where it is run.
+#![tactic(auto)]
 
-use crate::answers::answer;
+use ev_base::{Memory, Seq, Str};
+use ev_io::{MemorySink, MemorySource};
+use ev_top::top;
+use std::alloc::Global;
+use std::process::ExitCode;
 use std::{fs, io};
 
 const PROGRAMS: [&str; 19] = [
@@ -54,12 +59,23 @@ const ANSWERED: [(&str, &str); 4] = [
     ("mint", "boxes"),
 ];
 
+/// What a command writes for its input.
+fn answer(alloc: Global, command: &str, input: &[u8]) -> Result<Vec<u8>, Memory> {
+    let mut words = Seq::new(alloc);
+    words.push(Str::copy_of(alloc, command)?)?;
+    let bytes = Seq::of(Vec::from_slice(alloc, input)?);
+    let mut source = MemorySource::new(bytes, 1000, Seq::new(alloc));
+    let mut sink = MemorySink::new(alloc, 1000, 100_000, Seq::new(alloc))?;
+    top(alloc, &words, &mut source, &mut sink);
+    Ok(Vec::from_slice(alloc, sink.bytes.as_slice())?)
+}
+
 /// Whether a command writes for one file what stands in another; nothing where a file can't be read or memory runs out.
 fn is_as_told(rt: &HostRuntime, command: &str, from: &str, to: &str) -> Option<bool> {
     let input = fs::read_to_string(rt, from).ok()?;
     let wanted = fs::read_to_string(rt, to).ok()?;
-    let answer = answer(rt.alloc(), command, input.as_bytes()).ok()?;
-    Some(answer.written.as_slice() == wanted.as_bytes())
+    let written = answer(rt.alloc(), command, input.as_bytes()).ok()?;
+    Some(written.as_slice() == wanted.as_bytes())
 }
 
 fn form_of(rt: &HostRuntime, name: &str) -> Option<bool> {
@@ -88,8 +104,7 @@ fn word(found: Option<bool>) -> &'static str {
     }
 }
 
-/// Tells of each example.
-pub fn tell_examples(rt: &HostRuntime) -> io::Result<()> {
+fn tell(rt: &HostRuntime) -> io::Result<()> {
     for name in PROGRAMS {
         let found = word(form_of(rt, name));
         println!(rt; "{name}.form {found}")?;
@@ -103,4 +118,11 @@ pub fn tell_examples(rt: &HostRuntime) -> io::Result<()> {
         println!(rt; "{name}.out {found}")?;
     }
     Ok(())
+}
+
+fn main(rt: HostRuntime) -> ExitCode {
+    match tell(&rt) {
+        Ok(()) => ExitCode::SUCCESS,
+        Err(_) => ExitCode::from(1),
+    }
 }
