@@ -3,8 +3,7 @@ use Rattle.std.specs.Prelude.{ℕ, zero, suc, ◌+◌, pred, Bool, true, false, 
 use Rattle.def_op.specs.Frames.{Operation, spelling}
 use Rattle.def_machine.specs.Values.{Ref, Name, Root, Object, Gift, answer_of, Local, Obj, Prom, Far, Mess, Naming, numbering}
 use Rattle.def_machine.specs.State.{Fixed, Binding, Message, Known, Note, Deliver, Open, Ask, SettledTo, Elsewhere, Shorten, Put, Happened, Vat, Stop, Astray, Done, Gives, Throws, Ejects, Stops, Act, begun, is_in}
-use Rattle.def_machine.specs.Arrive.{Incoming, notice}
-use Rattle.def_machine.specs.Receive.{receive, tells_nothing}
+use Rattle.def_machine.specs.Arrive.{Incoming, arrive, notice}
 use Rattle.def_machine.specs.Scopes.{any_guard}
 use Rattle.def_machine.specs.Eval.{opening, taking}
 use Rattle.def_run.specs.Connections.{Connection, Learnt, Heard, put_on, frame_now}
@@ -12,9 +11,9 @@ use Rattle.def_run.specs.Draws.{draw_word}
 use Rattle.def_run.specs.World.{Script, Program, Entry, Turn, Carry, CutLink, NoticeLink, Event, Opens, Turned, Idle, Carried, CutAt, NoticedAt, LostCut, LeftQueue, LeftHeld, LeftWait, LeftLink, Ends, Link, events_of, knowers, name_at, tree_at}
 use Rattle.def_machine.specs.Maps as maps
 use Rattle.def_local.specs.Names.{Names, Told, of_promise, names_after, name_by}
-use Rattle.def_local.specs.Vats.{Member, connection_for, unconnected, sight_for, heard_in, sees, heard_on}
+use Rattle.def_local.specs.Vats.{Member, connection_for, unconnected, sight_for, heard_in, heard_on}
 use Rattle.def_local.specs.Vats.{opened_vats}
-use Rattle.def_machine.specs.Receive.{opened_receive}
+use Rattle.def_machine.specs.Arrive.{opened_arrive}
 use Rattle.def_run.specs.World.{opened_world}
 
 -- a frame under way, and the note that it says, in names
@@ -302,10 +301,9 @@ module _ (script : Script) where
   turn k u w None = idle k w
   turn k u w (Some m) = turn_queue k u w m m.vat.queue
 
-  -- what is had once a note that was heard is received, where it tells something
-  unfoldable pub brought_by : Bool → Vats → ℕ → ℕ → Frame → Heard Local (Note (Incoming Local Local)) → Member → Vat Local → Brought
-  brought_by true w v u x h m s = nothing_brought m
-  brought_by false w v u x h m s = record {
+  -- what is had once a note that was heard has arrived
+  unfoldable pub brings : Vats → ℕ → ℕ → Frame → Heard Local (Note (Incoming Local Local)) → Member → Vat Local → Brought
+  brings w v u x h m s = record {
     carried = carried_in x.note;
     told = brought w.members v u x.note h m;
     connections = slice_set m.connections v (heard_on h s (connection_for v m));
@@ -314,9 +312,8 @@ module _ (script : Script) where
 
   unfoldable pub hears : ℕ → ℕ → ℕ → Vats → Frame → Member → Option (Heard Local (Note (Incoming Local Local))) → Course
   hears k v u w x m None = Halts Astray (step_number k) w
-  hears k v u w x m (Some h) = after_step w u (Carried k v u x.note (spelling x.op) ∷ []) (step_number k) m
-      (λ s. brought_by (tells_nothing numbers (sees v m) v h.read (ready w m.vat)) w v u x h m s)
-      (receive numbers (sees v m) v h.read (ready w m.vat))
+  hears k v u w x m (Some h) = after_step w u (Carried k v u x.note (spelling x.op) ∷ []) (step_number k) m (brings w v u x h m)
+      (arrive numbers v h.read (ready w m.vat))
 
   unfoldable pub arrives : ℕ → ℕ → ℕ → Vats → Frame → Option Member → Course
   arrives k v u w x None = idle k w
@@ -381,5 +378,5 @@ module _ (script : Script) where
 
 -- opens each definition of this file, and of those below
 unfoldable pub opened_numbers : Unit {0}
-unfolding then_runs is_way way_at with_way pushed severed link_of exported object_at far_name name_at_vat name_exported told_imports told_learnt carried_in told_answer brought ready written_on all_written frames_of push_all nothing_brought lines_of left_by after_step own_step root_number first_connection connections_from roots_known fresh_vat fresh_member fresh_from ways_to ways_from begins given lost_frames lost_on numbers open_member open_from step_number idle turn_queue turn brought_by hears arrives carry_frames carry_way cut notice_by step steps_from left_held left_wait left_member left_members left_ways close run opened_vats opened_receive opened_world
+unfolding then_runs is_way way_at with_way pushed severed link_of exported object_at far_name name_at_vat name_exported told_imports told_learnt carried_in told_answer brought ready written_on all_written frames_of push_all nothing_brought lines_of left_by after_step own_step root_number first_connection connections_from roots_known fresh_vat fresh_member fresh_from ways_to ways_from begins given lost_frames lost_on numbers open_member open_from step_number idle turn_queue turn brings hears arrives carry_frames carry_way cut notice_by step steps_from left_held left_wait left_member left_members left_ways close run opened_vats opened_arrive opened_world
 opened_numbers = tt

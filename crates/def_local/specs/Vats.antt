@@ -1,11 +1,10 @@
 -- A vat in its own numbers, with what it has for its peers: what a step tells and puts, and what it hears of a frame.
-use Rattle.std.specs.Prelude.{ℕ, zero, Bool, true, false, List, [], ◌∷◌, ◌++◌, Option, Some, None, length, get_or, is_some, slice_get, ◌==◌}
+use Rattle.std.specs.Prelude.{ℕ, zero, Bool, true, false, List, [], ◌∷◌, ◌++◌, Option, Some, None, length, get_or, slice_get, ◌==◌}
 use Rattle.def_op.specs.Frames.{Operation}
 use Rattle.def_machine.specs.Values.{Local, Obj, Prom, Far, Mess, same_local}
 use Rattle.def_machine.specs.State.{Known, Note, Deliver, Open, Ask, SettledTo, Elsewhere, Shorten, GiftEntry, Vat}
 use Rattle.def_machine.specs.Arrive.{Incoming, gift_at}
-use Rattle.def_machine.specs.Receive as receive
-use Rattle.def_run.specs.Connections.{Connection, Sight, Learnt, Stage, Newcomers, Heard, learnt_at, note_heard}
+use Rattle.def_run.specs.Connections.{Connection, Sight, Learnt, Stage, Newcomers, Heard, note_heard}
 use Rattle.def_local.specs.Names.{Names}
 use Rattle.def_local.specs.Names.{opened_names}
 use Rattle.def_run.specs.Connections.{opened_connections}
@@ -73,19 +72,7 @@ stage_of peer m = record { imports = (connection_for peer m).imports; learnt = m
 unfoldable pub heard_in : ℕ → Operation → Member → Option (Heard Local (Note (Incoming Local Local)))
 heard_in peer o m = note_heard is_object m.vat.number peer (newcomers peer) (connection_for peer m) o (stage_of peer m)
 
-unfoldable pub among : List Local → Local → Bool
-among [] n = false
-among (m ∷ ms) n = elim (same_local m n) [ true ↦ true | false ↦ among ms n ]
-
--- whether what the vat hosts has a number for the peer
-unfoldable pub is_numbered : Connection Local → Local → Bool
-is_numbered c n = elim (among c.exports n) [ true ↦ true | false ↦ among c.answers n ]
-
--- what the vat's numbers tell of a note of the peer
-unfoldable pub sees : ℕ → Member → receive.Sight Local
-sees peer m = record { knows = λ c h k. is_some (learnt_at c k m.learnt); numbers = is_numbered (connection_for peer m) }
-
--- ---- what a frame leaves, once its note was received
+-- ---- what a frame leaves, once its note has arrived
 
 -- the number of the answer that a note asked this vat for, where so many names were known once it was read: the answer of a message comes next, a gift has its name
 unfoldable pub gift_name : Option (GiftEntry Local) → List Local
@@ -100,11 +87,11 @@ asked_by known s (SettledTo x y) = []
 asked_by known s (Elsewhere x c) = []
 asked_by known s (Shorten x c i) = []
 
--- the connection with the peer once that was heard and received
+-- the connection with the peer once that was heard and has arrived
 unfoldable pub heard_on : Heard Local (Note (Incoming Local Local)) → Vat Local → Connection Local → Connection Local
 heard_on h s c = record c { imports = h.after.imports; answers = c.answers ++ asked_by h.after.known s h.read }
 
 -- opens each definition of this file, and of those below
 unfoldable pub opened_vats : Unit {0}
-unfolding unconnected connection_for host_in is_hosted is_own is_object answer_in sight_for newcomers stage_of heard_in among is_numbered sees gift_name asked_by heard_on opened_names opened_connections
+unfolding unconnected connection_for host_in is_hosted is_own is_object answer_in sight_for newcomers stage_of heard_in gift_name asked_by heard_on opened_names opened_connections
 opened_vats = tt
