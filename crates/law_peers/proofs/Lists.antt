@@ -1,5 +1,5 @@
 -- Lists in which one element is put in the place of another.
-use Rattle.std.proofs.Common.{◌≡◌, ◌⊎◌, inl, inr, ℕ, zero, suc, List, [], ◌∷◌, map, get_or, Option, Some, None, refl, ap}
+use Rattle.std.proofs.Common.{◌≡◌, ◌⊎◌, inl, inr, ℕ, zero, suc, List, [], ◌∷◌, map, get_or, Some, refl, ap}
 use Rattle.std.specs.Prelude.{slice_get, slice_set}
 
 module _ {A : Type 0} where

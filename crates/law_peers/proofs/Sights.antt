@@ -1,9 +1,8 @@
 -- How the machine's run in numbers sees the numbers of a vat, in the code's terms.
-use Rattle.std.proofs.Common.{◌≡◌, ℕ, zero, suc, ◌+◌, ◌==◌, Bool, true, false, List, [], ◌∷◌, map, Option, Some, None, refl, sym, ap, ◌∙◌, arith}
+use Rattle.std.proofs.Common.{◌≡◌, ℕ, zero, suc, ◌==◌, Bool, true, false, List, [], ◌∷◌, Option, Some, None, refl, sym, ap, ◌∙◌}
 use Rattle.std.specs.Prelude.{slice_get, option_map}
 use Rattle.std.proofs.Math.Path.{fun_ext}
 use Rattle.std.proofs.lemmas.Cmp.{nat_eq_equiv}
-use Rattle.ev_base.specs.declared.values.Value.TheVariants as held
 use Rattle.def_machine.specs.State as machine
 use Rattle.def_machine.specs.Values.{Words, Local, Obj, Prom, Far, Mess, same_local}
 use Rattle.def_run.specs.Connections.{Sight}
@@ -13,7 +12,7 @@ use Rattle.ev_pass.specs.Notes.{Noted, Deliver, Open, Ask, Settled, Elsewhere, S
 use Rattle.ev_pass.specs.Reading.{note_by}
 use Rattle.ev_pass.specs.declared.interior.Interior.{Interior}
 use Rattle.ev_refs.specs.Follow.{host_found, host_of, hosted, place_of}
-use Rattle.ev_refs.specs.Reading.{known_by, knowns_by}
+use Rattle.ev_refs.specs.Reading.{knowns_by}
 use Rattle.ev_refs.specs.References.{References}
 use Rattle.ev_refs.specs.declared.known.Known.{Known}
 use Rattle.ev_peer.specs.Standing.{is_object, is_own}

@@ -1,21 +1,15 @@
 -- What a vat has for its peers stays as it is to be.
-use Rattle.std.proofs.Common.{◌≡◌, ℕ, zero, suc, Bool, true, false, List, [], ◌∷◌, map, get_or, length, Option, Some, None, is_some, refl, sym, ap, ◌∙◌}
-use Rattle.std.specs.Prelude.{slice_get, option_map}
-use Rattle.std.proofs.lemmas.Option.{get_or_from_slice_get}
+use Rattle.std.proofs.Common.{◌≡◌, ℕ, zero, suc, Bool, true, false, List, [], ◌∷◌, map, get_or, Option, Some, None, is_some, refl, sym, ap, ◌∙◌}
+use Rattle.std.specs.Prelude.{slice_get}
 use Rattle.ev_base.specs.declared.values.Value.{Value}
-use Rattle.def_machine.specs.State as machine
-use Rattle.def_machine.specs.Values.{Words, Local, Prom, Mess, same_local}
+use Rattle.def_machine.specs.Values.{Local, Prom, Mess, same_local}
 use Rattle.def_run.specs.Connections.{Connection, stands_in}
-use Rattle.def_local.specs.Vats as local
 use Rattle.def_local.specs.Vats.{unconnected}
-use Rattle.ev_refs.specs.References.{References}
-use Rattle.ev_tables.specs.Table.{Table, export_number, fresh, name_of, place_of}
-use Rattle.ev_tables.specs.declared.number.Number.{Number}
-use Rattle.ev_tables.specs.declared.number.Number.TheVariants.{MyAnswer, YourAnswer, YourExport}
-use Rattle.ev_peer.specs.Standing.{IsKept, connection_of, first_number, is_own, is_reference, local_of, or_else, promises, sight_of}
+use Rattle.ev_tables.specs.Table.{Table, place_of}
+use Rattle.ev_peer.specs.Standing.{connection_of, first_number, is_own, is_reference, local_of, promises, sight_of}
 use Rattle.ev_peer.proofs.Places.{as_values, stands}
 use Rattle.ev_write.specs.Writing.{is_mine}
-use Rattle.law_peers.specs.Standing.{AreFor, HasReferences, IsFor, SeesAsBefore, among, connections_of, has_number}
+use Rattle.law_peers.specs.Standing.{among, connections_of, has_number}
 use Rattle.law_peers.specs.Statements.{StaysFor}
 use Rattle.law_peers.proofs.Sights.{own_is}
 

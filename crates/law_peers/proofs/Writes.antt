@@ -1,6 +1,6 @@
 -- What is written of all the notes of a step.
-use Rattle.std.proofs.Common.{◌≡◌, ◌⊎◌, inl, inr, ℕ, Bool, true, false, cond, List, [], ◌∷◌, map, get_or, Option, Some, None, is_some, refl, sym, ap, subst, ◌∙◌}
-use Rattle.std.specs.Prelude.{IfSome, slice_get, slice_set, option_map}
+use Rattle.std.proofs.Common.{◌≡◌, inl, inr, ℕ, Bool, true, false, cond, List, [], ◌∷◌, map, get_or, Option, Some, None, is_some, refl, sym, ap, subst, ◌∙◌}
+use Rattle.std.specs.Prelude.{IfSome, slice_set}
 use Rattle.ev_base.specs.declared.values.Value.{Value}
 use Rattle.ev_base.specs.declared.values.Value.TheVariants as held
 use Rattle.def_op.specs.Frames.{Operation}
@@ -11,20 +11,19 @@ use Rattle.def_run.specs.Connections as theirs
 use Rattle.def_run.specs.Connections.{Connection, Sight, asked_in}
 use Rattle.def_local.specs.Numbers as local
 use Rattle.def_local.specs.Numbers.{Addressed as Framed, frames_of, written_on}
-use Rattle.def_local.specs.Vats.{answer_in as told_answer, is_own as is_own_there, sight_for, unconnected}
+use Rattle.def_local.specs.Vats.{answer_in as told_answer, sight_for, unconnected}
 use Rattle.ev_pass.specs.Notes.{Parcel, Parcels, Plain, Gift, Many, NoMore, More, Noted, Deliver, Open, Ask, Settled, Elsewhere, Shorten, Sent}
 use Rattle.ev_pass.specs.Reading.{note_by, put_by}
 use Rattle.ev_pass.specs.declared.interior.Interior.{Interior}
 use Rattle.ev_refs.specs.References.{References}
 use Rattle.ev_tables.specs.Table.{Table, exported, fresh, name_of, place_of}
-use Rattle.ev_tables.specs.declared.number.Number.TheVariants.{YourAnswer, YourExport}
-use Rattle.ev_peer.specs.Standing.{IsKept, connection_of, first_number, is_own, is_reference, local_of, or_else, promises}
+use Rattle.ev_peer.specs.Standing.{IsKept, connection_of, first_number, is_own, is_reference, local_of, promises}
 use Rattle.ev_peer.specs.Numbering.{numbered}
 use Rattle.ev_peer.proofs.Kept.{begins}
 use Rattle.ev_write.specs.Putting as code
 use Rattle.ev_write.specs.Putting.{Addressed, put_all, put_one, table_for}
 use Rattle.ev_write.specs.Writing.{asked_of, asking, is_mine, is_ours, numbered_note, numbered_parcel, numbered_parcels, numbered_value, put_on, value_of, written}
-use Rattle.ev_write.specs.Statements.{HasTexts, HaveTexts, IsNewAnswer, NoteHasTexts, ValueHasTexts, answer_in, sight_now}
+use Rattle.ev_write.specs.Statements.{HasTexts, HaveTexts, IsNewAnswer, NoteHasTexts, ValueHasTexts}
 use Rattle.ev_write.proofs.Machine.{keeps, writes}
 use Rattle.law_peers.specs.Asking.{AreNew, AskAnew, IsNew}
 use Rattle.law_peers.specs.Standing.{AreFor, HasReferences, IsFor, connections_of}

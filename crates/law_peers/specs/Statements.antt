@@ -1,7 +1,7 @@
 -- What is said of what a vat has for its peers.
-use Rattle.std.specs.Prelude.{◌≡◌, ℕ, List, map}
+use Rattle.std.specs.Prelude.{◌≡◌, List, map}
 use Rattle.def_local.specs.Numbers.{Addressed as Framed, all_written, frames_of}
-use Rattle.def_machine.specs.State.{Put, Vat}
+use Rattle.def_machine.specs.State.{Vat}
 use Rattle.def_machine.specs.Values.{Name, Words, Local}
 use Rattle.ev_pass.specs.Notes.{Sent}
 use Rattle.ev_pass.specs.Reading.{put_by}
