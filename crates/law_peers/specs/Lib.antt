@@ -1,3 +1,4 @@
 pub mod Standing
+pub mod Steady
 pub mod Asking
 pub mod Statements
