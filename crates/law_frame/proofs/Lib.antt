@@ -30,6 +30,7 @@ pub mod Reading
 pub mod AlikeAsking
 pub mod Order
 pub mod Learning
+pub mod Answering
 pub mod OrderRuns
 pub mod Worlds
 pub mod AlikeLaws
