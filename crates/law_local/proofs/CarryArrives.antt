@@ -13,7 +13,8 @@ use Rattle.law_renaming.proofs.SimArrive.{sim_arrive}
 use Rattle.law_renaming.proofs.Same.{value_same, vat_same}
 use Rattle.law_renaming.proofs.Stands.{step_stands, books_of, books_after, FitsTable, found_renames, is_renames}
 use Rattle.law_frame.proofs.AlikeArrivals.{told_arrives}
-use Rattle.law_hearing.specs.Hearing.{as_heard, named}
+use Rattle.law_hearing.specs.Hearing.{as_heard}
+use Rattle.law_local.specs.Hearing.{unnamed}
 
 -- ---- two notes that are one where both are changed: a third that goes with both
 
@@ -213,8 +214,8 @@ heard_arrives K v u from (Shorten x c i) = told_arrives K v from (Shorten x c i)
 -- ---- both
 
 -- a name that is new in both
-one_with : (f : Local → Found) (a : Incoming Local Local) (b : Incoming Name Name) → incoming f (λ (x : Local). tt) a ≡ incoming Is (λ (x : Name). tt) b
-    → (c : Incoming Local Name) × (incoming f (λ (x : Name). x) c ≡ incoming Is (λ (x : Name). x) b) × (incoming (λ (x : Local). x) (λ (x : Name). tt) c ≡ incoming (λ (x : Local). x) (λ (x : Local). tt) a)
+one_with : (f : Local → Found) (a : Incoming Local Local) (b : Incoming Name Name) → incoming f unnamed a ≡ incoming Is unnamed b
+    → (c : Incoming Local Name) × (incoming f (λ (x : Name). x) c ≡ incoming Is (λ (x : Name). x) b) × (incoming (λ (x : Local). x) unnamed c ≡ incoming (λ (x : Local). x) unnamed a)
 one_with f (Old a) (Old b) e = let i : f a ≡ Is b = cc in (Old a, ap Old i, refl)
 one_with f (New a h) (New b g) e = let i : h ≡ g = cc in (New b h, ap (New b) i, refl)
 one_with f (Old a) (New b g) e = cc
@@ -222,13 +223,13 @@ one_with f (New a h) (Old b) e = cc
 
 module _ (word : ℕ → ℕ) (u : ℕ) (t : Table) (good : IsTable u t) (v : ℕ) where
   -- A note that in numbers was read as that in names, but for how what is new is named, arrives as that does, where t is the table after the arrival.
-  pub arrives_same : (n : Note (Incoming Local Local)) (m : Note (Incoming Name Name)) → maps.note (incoming (found u t) (λ (x : Local). tt)) n ≡ maps.note (incoming Is (λ (x : Name). tt)) (as_heard v u m)
+  pub arrives_same : (n : Note (Incoming Local Local)) (m : Note (Incoming Name Name)) → maps.note (incoming (found u t) unnamed) n ≡ maps.note (incoming Is unnamed) (as_heard v u m)
       → (q : Vat Local) (s : Vat Name) (d : Done Name (Unit {0})) → StandsFor u t q s → machine.arrive (naming word u) v m s ≡ d → books_after d ≡ books_of t
       → maps.done (found u t) id (machine.arrive (numbering {W = Local} word) v n q) ≡ maps.done Is id d
   arrives_same n m e q s d stands i books =
-      let w = note_with (incoming (found u t) (λ (x : Local). tt)) (incoming Is (λ (x : Name). tt)) (incoming (found u t) (λ (x : Name). x)) (incoming Is (λ (x : Name). x)) (incoming (λ (x : Local). x) (λ (x : Name). tt)) (incoming (λ (x : Local). x) (λ (x : Local). tt)) (one_with (found u t)) n (as_heard v u m) e in
+      let w = note_with (incoming (found u t) unnamed) (incoming Is unnamed) (incoming (found u t) (λ (x : Name). x)) (incoming Is (λ (x : Name). x)) (incoming (λ (x : Local). x) unnamed) (incoming (λ (x : Local). x) unnamed) (one_with (found u t)) n (as_heard v u m) e in
       let same : machine.arrive (numbering {W = Local} word) v n q ≡ machine.arrive (numbering {W = Name} word) v w.0 q =
-      sym (new_named word (λ (x : Local). tt) v n q) ∙ sym (ap (λ (k : Note (Incoming Local (Unit {0}))). machine.arrive (numbering word) v k q) w.2) ∙ new_named word (λ (x : Name). tt) v w.0 q in
+      sym (new_named word unnamed v n q) ∙ sym (ap (λ (k : Note (Incoming Local (Unit {0}))). machine.arrive (numbering word) v k q) w.2) ∙ new_named word unnamed v w.0 q in
       let heard : machine.arrive (naming word u) v (as_heard v u m) s ≡ d = ap (λ (f : Act Name (Unit {0})). f s) (heard_arrives (naming word u) v u v m) ∙ i in
       ap (maps.done (found u t) id) same
       ∙ step_stands u t good id id (machine.arrive (numbering {W = Name} word) v w.0) (machine.arrive (naming word u) v (as_heard v u m)) (machine.arrive (finding word u) v (maps.note (incoming (found u t) (λ (x : Name). x)) w.0))

@@ -15,3 +15,8 @@ pub mod Positions
 pub mod OwnSteps
 pub mod Turns
 pub mod OpeningTurns
+pub mod CarryLinks
+pub mod CarryArrives
+pub mod CarryNew
+pub mod CarryTells
+pub mod CarryGifts

@@ -1,11 +1,12 @@
 -- A note that is carried, in names and in numbers.
-use Rattle.std.specs.Prelude.{◌≡◌, ℕ, ◌<◌, zero, List, length}
+use Rattle.std.specs.Prelude.{◌≡◌, ℕ, zero, List, Some, slice_get}
 use Rattle.def_machine.specs.Values.{Name}
-use Rattle.def_machine.specs.State.{Note}
+use Rattle.def_machine.specs.State.{Note, Vat}
 use Rattle.def_run.specs.Wire.{connected_at}
 use Rattle.def_run.specs.World as machine
 use Rattle.def_run.specs.World.{Script, Entry, Carry, World, Goes, with_link, with_notes}
 use Rattle.law_name.specs.Runs.{KnowsOnce}
+use Rattle.law_reference.specs.ApartAsking.{InRunsBehindCuts}
 use Rattle.law_reference.specs.Cuts.{NoticesFollowCuts}
 use Rattle.law_reference.specs.Logs.{exports}
 use Rattle.def_local.specs.Numbers as numbers
@@ -21,10 +22,13 @@ taken x v u ns = record x { links = with_link (with_notes ns) v u x.links }
 abbrev pub off : Vats → ℕ → ℕ → List Frame → Vats
 off X v u fs = record X { ways = with_way (λ l. record l { frames = fs }) v u X.ways }
 
--- In each world of a run what a vat has by position for another, of what it exported to it, is what the notes tell that it put, be the link cut or not.
+-- What a vat has of its exports to another is what all notes tell that it ever put on the link, be that cut or not.
+abbrev pub ExportsLogged : World → Type 0
+ExportsLogged w = (v u : ℕ) (r s : Vat Name) → slice_get w.vats v ≡ Some r → slice_get w.vats u ≡ Some s → (v ≡ u → ⊥) → (connected_at v u w.connections).tables.exports ≡ exports (λ i. i) w.links v u
+
+-- so in each world of a run in which each notice stands behind a cut of the same two vats
 abbrev pub ExportsAreAsLogged : Type 0
-ExportsAreAsLogged = (script : Script) → KnowsOnce script → (w x : World) (es : List Entry) (k : ℕ) → NoticesFollowCuts es → machine.open_from script zero script.vats (machine.begins script) ≡ Goes w → machine.steps_from script es k w ≡ Goes x
-    → (h v : ℕ) → (h ≡ v → ⊥) → h < length x.vats → v < length x.vats → (connected_at h v x.connections).tables.exports ≡ exports (λ i. i) x.links h v
+ExportsAreAsLogged = InRunsBehindCuts ExportsLogged
 
 -- Where frames are heard so, the carry of a frame leads where the carry of its note does, whether it goes or stops, from all that stands for the world that it finds.
 abbrev pub CarriesMirror : Type 0

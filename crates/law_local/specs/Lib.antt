@@ -4,3 +4,5 @@ pub mod Writing
 pub mod Naming
 pub mod Steps
 pub mod Runs
+pub mod Hearing
+pub mod Carrying
