@@ -64,7 +64,6 @@ when_opened p i q j (g ∷ gs) h = by (is_gift q j g) (is_gift p i g) refl h (λ
     abbrev_at b x xs = elim b [ true ↦ Some x | false ↦ gift_at p i xs ]
 
     found : (b : Bool) (x : GiftEntry Name) (xs : List (GiftEntry Name)) → is_gift p i x ≡ b → (k : GiftEntry Name) × (abbrev_at b x xs ≡ Some k) → Stands p i (x ∷ xs)
-    unfolding gift_at
     found b x xs e k = (k.0, ap (λ c. abbrev_at c x xs) e ∙ k.1)
 
     by : (a b : Bool) → is_gift p i g ≡ b → (k : GiftEntry Name) × (abbrev_at b g gs ≡ Some k) → (Stands p i gs → Stands p i (with_opened q j gs)) → Stands p i (elim a [ true ↦ record g { opened = true } ∷ gs | false ↦ g ∷ with_opened q j gs ])

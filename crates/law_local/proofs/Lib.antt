@@ -20,3 +20,4 @@ pub mod CarryArrives
 pub mod CarryNew
 pub mod CarryTells
 pub mod CarryGifts
+pub mod CarryNames
