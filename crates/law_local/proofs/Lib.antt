@@ -21,3 +21,4 @@ pub mod CarryNew
 pub mod CarryTells
 pub mod CarryGifts
 pub mod CarryNames
+pub mod CarryHeard
