@@ -11,6 +11,7 @@ use Rattle.def_run.specs.Wire.{Connected, connected_at, sight, received, hear_at
 use Rattle.def_run.specs.World.{World, read_note}
 use Rattle.law_name.specs.Names.{AllOf, IsAmong, names_in}
 use Rattle.def_machine.specs.Maps as maps
+use Rattle.def_machine.specs.Maps.{incoming}
 use Rattle.law_renaming.specs.Stands.{Table, Found, Is, found, StandsFor}
 use Rattle.law_renaming.proofs.Stands.{Extends}
 use Rattle.law_frame.specs.Alike.{as_told, from_peer}
@@ -24,6 +25,7 @@ use Rattle.law_hearing.specs.Hearing.{as_heard}
 use Rattle.def_local.specs.Vats.{Member, unconnected, connection_for, gift_name, asked_by, heard_on}
 use Rattle.law_local.specs.Mirrors.{HoldReferences}
 use Rattle.law_local.specs.Writing.{ConnectionsMirror}
+use Rattle.law_local.specs.Hearing.{unnamed}
 use Rattle.law_local.proofs.Steps.{names_still, tables_still}
 use Rattle.law_local.proofs.CarryLinks.{heard_here, heard_there}
 use Rattle.law_local.proofs.CarryGifts.{Stands}
@@ -162,6 +164,11 @@ asked_so F v u k q r e named (Ask p i x) g f = gift_found F u p i q r e named g.
 asked_so F v u k q r e named (SettledTo x y) g f = refl
 asked_so F v u k q r e named (Elsewhere x c) g f = refl
 asked_so F v u k q r e named (Shorten x c i) g f = refl
+
+-- What a note that was heard asks for has, in numbers, what it asks for in names.
+pub asked_found : (f : Local → Found) (v u : ℕ) (ks : List Name) (n : Note Name) (h : Note (Incoming Local Local)) → maps.note (incoming f unnamed) h ≡ maps.note (incoming Is unnamed) (as_heard v u (read_note ks n)) → (k : ℕ) (q : Vat Local) (r : Vat Name) → maps.vat f q ≡ maps.vat Is r
+    → AllOf (λ (z : GiftEntry Name). (z.name ≡ Gift u z.number) × IsAmong z.name (names_in r.known)) r.gifts → GiftStands u r n → ((y : Name) → DueIn u n y → f (Prom k) ≡ Is y) → map f (asked_by k q h) ≡ map Is (asked_in (sight v u) n)
+asked_found f v u ks n h e k q r stands named gift due = ap (map f) (asks_same (incoming f unnamed) (incoming Is unnamed) v u ks n h e k q) ∙ asked_so f v u k q r stands named n gift due
 
 -- ---- connections in names
 

@@ -63,7 +63,7 @@ all_dropped P zero xs h = h
 all_dropped P (suc k) [] h = tt
 all_dropped P (suc k) (x ∷ xs) h = all_dropped P k xs h.1
 
-front_at : (xs ys : List Name) → IsFront xs ys → (k : ℕ) (n : Name) → slice_get xs k ≡ Some n → slice_get ys k ≡ Some n
+pub front_at : (xs ys : List Name) → IsFront xs ys → (k : ℕ) (n : Name) → slice_get xs k ≡ Some n → slice_get ys k ≡ Some n
 front_at xs ys f k n e = ap (λ zs. slice_get zs k) f.1 ∙ front xs f.0 k n e
 
 -- ---- the answer that a note asks for

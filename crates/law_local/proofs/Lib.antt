@@ -22,3 +22,4 @@ pub mod CarryTells
 pub mod CarryGifts
 pub mod CarryNames
 pub mod CarryHeard
+pub mod Carry
