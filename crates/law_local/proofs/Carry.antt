@@ -6,14 +6,18 @@ use Rattle.std.proofs.lemmas.List.{length-set}
 use Rattle.std.proofs.lemmas.Option.{slice_get_within}
 use Rattle.def_op.specs.Frames.{Operation, spelling}
 use Rattle.def_machine.specs.Values.{Name, Promise, host_of, answer_of, Local, Prom, numbering, naming}
-use Rattle.def_machine.specs.State.{Note, Deliver, Open, Ask, SettledTo, Elsewhere, Shorten, GiftEntry, Vat, Done, Gives}
+use Rattle.def_machine.specs.State.{Note, Deliver, Open, Ask, SettledTo, Elsewhere, Shorten, GiftEntry, Vat, Stop, Done, Gives, Throws, Ejects, Stops}
 use Rattle.def_machine.specs.Arrive.{Incoming, Old, New, arrive}
 use Rattle.def_run.specs.Connections.{Heard, asked_in}
 use Rattle.def_run.specs.Draws.{draw_word}
 use Rattle.def_run.specs.Wire.{Connected, connected_at, sight, frame_due, frame_bytes, read_frame, first_stage, imports_after, hear_at}
 use Rattle.def_run.specs.World as machine
 use Rattle.def_run.specs.World.{Script, Entry, Carry, Event, Carried, Link, World, Goes, link_at, readied, read_note, names_of, put_back, next_frame, connections_after, heard_by}
-use Rattle.law_name.specs.Names.{AllOf, IsAmong, Once, names_in}
+use Rattle.law_machine.specs.Laws.{SameMails}
+use Rattle.law_machine.specs.Steps.{IsQuiet, Receives, does}
+use Rattle.law_machine.proofs.StepEnds.{step_ends}
+use Rattle.law_machine.proofs.StepLaws.{mails_stays}
+use Rattle.law_name.specs.Names.{AllOf, IsAmong, NoteOk, Once, names_in}
 use Rattle.law_name.specs.Runs.{KnowsOnce}
 use Rattle.law_name.proofs.Laws.{names_apart}
 use Rattle.law_name.proofs.SameNames.{same_self}
@@ -30,7 +34,9 @@ use Rattle.law_reference.specs.Tables.{table_of, EachHasTable}
 use Rattle.law_reference.proofs.ApartWhole.{have_tables, known_once}
 use Rattle.law_reference.proofs.Moves.{steps_end}
 use Rattle.law_reference.proofs.NameTableLaws.{positions_are_of_one_name}
+use Rattle.law_reference.specs.NameTableRuns.{BringsNew}
 use Rattle.law_frame.specs.Alike.{table_heard, names_heard}
+use Rattle.law_frame.specs.AlikeArrivals.{table_across}
 use Rattle.law_frame.specs.Exports.{KeepsPositions}
 use Rattle.law_frame.specs.Growing.{IsFront}
 use Rattle.law_frame.specs.Lines as lines
@@ -40,13 +46,17 @@ use Rattle.law_frame.proofs.AlikeArrivals.{link_arrives}
 use Rattle.law_frame.proofs.Answering.{note_answers}
 use Rattle.law_frame.proofs.Learning.{Begins, note_begins}
 use Rattle.law_frame.proofs.LinksKnown.{AsksOwn, Sent, LinkKnown, at_link}
-use Rattle.law_frame.proofs.Notes.{carry_follows}
+use Rattle.law_frame.proofs.Notes.{carry_follows, brings}
 use Rattle.law_frame.proofs.OrderRuns.{differ_once}
 use Rattle.law_frame.proofs.Ranks.{Starts}
 use Rattle.law_frame.proofs.Untouched.{every_position}
 use Rattle.law_frame.proofs.WireRuns.{stepped_both}
 use Rattle.law_hearing.specs.Hearing.{as_heard}
 use Rattle.law_hearing.proofs.Laws.{lists_logged, imports_now, exports_later, questions_later}
+use Rattle.law_stops.proofs.Entries as across
+use Rattle.law_stops.proofs.Entries.{SoundIn, is, first_kind, note_table, note_starts}
+use Rattle.law_stops.proofs.Learnt.{IsOfKind}
+use Rattle.law_stops.proofs.Tables.{after_stops}
 use Rattle.law_told.specs.Told.{carried_by, IsBroughtBy}
 use Rattle.law_told.proofs.Laws.{messages_in_order, lines_named, gifts_named, notes_named, names_told, no_own_brought}
 use Rattle.law_told.proofs.Promises.{own_promises_ordered}
@@ -64,7 +74,7 @@ use Rattle.law_local.proofs.Positions.{there_is}
 use Rattle.law_local.proofs.Puts.{each_puts_so}
 use Rattle.law_local.proofs.Steps.{put_there, put_length, steps_mirror, learnt_still}
 use Rattle.law_local.proofs.OwnSteps.{front, mapped_length}
-use Rattle.law_local.proofs.Turns.{given, books_given}
+use Rattle.law_local.proofs.Turns.{given, stopped, books_given, books_stopped}
 use Rattle.law_local.proofs.CarryLinks.{keeps_taken, ways_taken, heard_there, frame_first, due_off, vat_taken}
 use Rattle.law_local.proofs.CarryArrives.{arrives_same}
 use Rattle.law_local.proofs.CarryTells.{StepTold, tells_so}
@@ -396,3 +406,59 @@ module _ (script : Script) (once : KnowsOnce script) (w x : World) (es : List En
         subst (λ a. RunMirrors a (numbers.step script (Carry v u) j X)) (sym (goes j))
         (subst (λ c. RunMirrors (Goes (Left j)) c) (sym (ours_is j ∙ ap (λ d. after_step Off u (Line j) (numbers.step_number script j) m (numbers.brings script Off v u f h m) d) out.1))
         (steps_mirror (taken x v u ns) Off u m (numbers.brings script Off v u f h m out.0) r out.0 (Line j) ds (stand out.0 out.2 j)))
+
+  -- ---- where it stops in names
+
+  module _ (c : Stop) (r : Vat Name) (stops : Theirs ≡ Stops c r) where
+    abbrev Across : Table
+    Across = record { names = names_in r.known; mails = r.mails; exports = exported_at x.links u }
+
+    sound : SoundIn x u s
+    sound = is script once w x es k follow opened stepped u s here (ready X m.vat) was.stands 0 0 c x
+
+    kind : NoteOk IsOfKind n
+    kind = first_kind script once w x es k follow opened stepped u s here (ready X m.vat) was.stands 0 0 c x v l at n ns head
+
+    new : BringsNew x v u n s
+    new = brings script once w x es k follow opened stepped v u s here l at n ns head
+
+    table_left : IsTable u Across
+    unfolding table_across
+    table_left = note_table word x u s sound (ready X m.vat) was.stands c r v n stops new kind
+
+    still_across : StandsFor u Across (ready X m.vat) (readied x s)
+    unfolding table_across does readied
+    still_across = across.still word x u s sound (ready X m.vat) was.stands c r (readied x s) (Receives v (read_note (names_of s) n)) stops refl refl
+
+    heard_across : Extends (table_heard x u s n) Across
+    unfolding table_heard does readied
+    heard_across = record {
+      names = λ i a e. front_at (names_heard (names_in s.known) n) (names_in r.known) (note_starts word x u s sound (ready X m.vat) was.stands c r v n stops new) i a e;
+      mails = after_stops SameMails (readied x s) r c (does (naming word u) (Receives v (read_note (names_of s) n)) (readied x s)) stops (mails_stays (naming word u) (Receives v (read_note (names_of s) n)) (readied x s));
+      exports = λ g q i e. e;
+    }
+
+    same_stops : maps.done (found u Across) id Ours ≡ maps.done Is id (Stops c r)
+    same_stops = arrives_same word u Across table_left v h.read (read_note (names_of s) n) (read_still u (table_heard x u s n) Across heard_across h.read (as_heard v u (read_note (names_of s) n)) so.read)
+        (ready X m.vat) (readied x s) (Stops c r) still_across stops (books_stopped Across c r refl refl)
+
+    halts : (p : Vat Local) × (Ours ≡ Stops c p)
+    halts = stopped (found u Across) Ours c r same_stops
+
+    pub carry_stops : (j : ℕ) → RunMirrors (machine.step script (Carry v u) j x) (numbers.step script (Carry v u) j X)
+    unfolding put_back after_step machine.step_number numbers.step_number
+    carry_stops j =
+        subst (λ a. RunMirrors a (numbers.step script (Carry v u) j X)) (sym (step_is j ∙ ap (λ d. put_back u (taken x v u ns) (Line j) (machine.step_number script j) d) stops))
+        (subst (λ e. RunMirrors (put_back u (taken x v u ns) (Line j) (machine.step_number script j) (Stops c r)) e) (sym (ours_is j ∙ ap (λ d. after_step Off u (Line j) (numbers.step_number script j) m (numbers.brings script Off v u f h m) d) halts.1))
+        (refl, refl, mirrors.drawn, mirrors.history))
+
+  -- whether it goes or stops
+  pub carry_mirrors : (j : ℕ) → RunMirrors (machine.step script (Carry v u) j x) (numbers.step script (Carry v u) j X)
+  unfolding does
+  carry_mirrors j = by Theirs refl (step_ends (naming word u) (Receives v (read_note (names_of s) n)) (readied x s))
+    where
+      by : (d : Done Name (Unit {0})) → Theirs ≡ d → IsQuiet d → RunMirrors (machine.step script (Carry v u) j x) (numbers.step script (Carry v u) j X)
+      by (Gives tt r) e q = carry_goes r e j
+      by (Throws p r) e q = absurd q
+      by (Ejects i a r) e q = absurd q
+      by (Stops c r) e q = carry_stops c r e j

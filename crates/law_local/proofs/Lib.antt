@@ -23,3 +23,4 @@ pub mod CarryGifts
 pub mod CarryNames
 pub mod CarryHeard
 pub mod Carry
+pub mod Carries

@@ -177,7 +177,7 @@ module _ (script : Script) (once : KnowsOnce script) (w x : World) (es : List En
   abbrev word : ℕ → ℕ
   word = draw_word script.key
 
-  is : SoundIn x u s
+  pub is : SoundIn x u s
   is = record {
     bounded = steps_hold script es k w x (opens_hold script zero script.vats (world.begins script) w (begins_bounded script once) opened) (bring_new script once w es k follow opened) stepped u s there;
     kinds = (names_apart script once).1 w x es k opened stepped u s there;
@@ -213,7 +213,7 @@ module _ (script : Script) (once : KnowsOnce script) (w x : World) (es : List En
     abbrev Made : Note Name → Type 0
     Made m = NoteOk (IsMade x.vats x.drawn) m
 
-    first_kind : (m : Note Name) (ns : List (Note Name)) → l.notes ≡ m ∷ ns → NoteOk IsOfKind m
+    pub first_kind : (m : Note Name) (ns : List (Note Name)) → l.notes ≡ m ∷ ns → NoteOk IsOfKind m
     first_kind m ns head = note_up (IsMade x.vats x.drawn) IsOfKind (kind_made x.vats x.drawn) m
         (subst (λ ms. AllOf Made ms) head (subst (λ z. MayBe (λ (z : Link). AllOf Made z.notes) z) at (link_holds Made v u x.links ((notes_made script once).1 w x es k opened stepped)))).0
 
