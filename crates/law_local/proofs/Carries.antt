@@ -1,13 +1,13 @@
 -- Every carry: of a frame that arrives, and of none.
-use Rattle.std.proofs.Common.{◌≡◌, ℕ, zero, ◌<◌, Bool, true, false, List, [], ◌∷◌, Option, Some, None, refl, sym, ap, ◌∙◌, subst, length, map, arith}
-use Rattle.std.specs.Prelude.{slice_get}
+use Rattle.std.proofs.Common.{◌≡◌, ℕ, zero, Bool, true, false, List, [], ◌∷◌, Option, Some, None, refl, sym, ap, ◌∙◌, subst, map, arith}
 use Rattle.def_machine.specs.Values.{Name}
-use Rattle.def_machine.specs.State.{Note}
 use Rattle.def_run.specs.Wire.{connected_at}
 use Rattle.def_run.specs.World as machine
 use Rattle.def_run.specs.World.{Script, Entry, Carry, Link, World, Run, Goes, link_at}
 use Rattle.law_name.specs.Runs.{KnowsOnce}
 use Rattle.law_reference.specs.Cuts.{NoticesFollowCuts}
+use Rattle.law_reference.proofs.LegMoves.{stepped_before}
+use Rattle.law_reference.proofs.LegRuns.{self_none}
 use Rattle.def_local.specs.Numbers as numbers
 use Rattle.def_local.specs.Numbers.{Frame, Way, Vats, Course, way_at}
 use Rattle.law_local.specs.Mirrors.{Mirrors, WayMirrors, RunMirrors}
@@ -20,7 +20,7 @@ use Rattle.law_local.proofs.CarryLinks.{frame_first}
 use Rattle.law_local.proofs.Carry.{carry_mirrors}
 
 module _ (heard : FramesAreHeardByNumbers) (logged : ExportsAreAsLogged) (script : Script) (once : KnowsOnce script) (w x : World) (es : List Entry) (k : ℕ) (follow : NoticesFollowCuts es) (opened : machine.open_from script zero script.vats (machine.begins script) ≡ Goes w) (stepped : machine.steps_from script es k w ≡ Goes x)
-    (X : Vats) (mirrors : Mirrors x X) (v u j : ℕ) (other : v ≡ u → ⊥) where
+    (X : Vats) (mirrors : Mirrors x X) (v u j : ℕ) where
   abbrev Both : Type 0
   Both = RunMirrors (machine.step script (Carry v u) j x) (numbers.step script (Carry v u) j X)
 
@@ -29,6 +29,11 @@ module _ (heard : FramesAreHeardByNumbers) (logged : ExportsAreAsLogged) (script
   idle_both e i = subst (λ a. RunMirrors a (numbers.step script (Carry v u) j X)) (sym e) (subst (λ c. RunMirrors (machine.idle script j x) c) (sym i) (idles_mirror script j x X mirrors))
 
   module _ (l : Link) (way : Way) (at : link_at v u x.links ≡ Some l) (on : way_at v u X.ways ≡ Some way) (both : WayMirrors l way) where
+    -- no link leads from a vat to itself
+    other : v ≡ u → ⊥
+    other i = let before = stepped_before script once w x es k opened stepped in let counted = before.counted in let fated = counted.fated (Name.Sent (record { sender = 0; number = 0 })) in
+        self_none x.links fated.apart u l (ap (λ z. link_at z u x.links) (sym i) ∙ at)
+
     cut_or : {A : Type 0} (b c : Bool) (p q : A) → b ≡ c → ◌≡◌ {A = A} (elim b [ true ↦ p | false ↦ q ]) (elim c [ true ↦ p | false ↦ q ])
     cut_or true true p q e = refl
     cut_or false false p q e = refl
@@ -76,4 +81,4 @@ module _ (heard : FramesAreHeardByNumbers) (logged : ExportsAreAsLogged) (script
   carry_each = each (link_at v u x.links) (way_at v u X.ways) refl refl (at_mirrors v u x.links X.ways mirrors.ways)
 
 pub carries_mirror : CarriesMirror
-carries_mirror heard logged script once w x es k follow opened stepped X mirrors v u j other = carry_each heard logged script once w x es k follow opened stepped X mirrors v u j other
+carries_mirror heard logged script once w x es k follow opened stepped X mirrors v u j = carry_each heard logged script once w x es k follow opened stepped X mirrors v u j

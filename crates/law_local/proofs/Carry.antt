@@ -1,12 +1,12 @@
 -- The carry of a frame whose note goes in names: it goes in numbers, and what it leaves mirrors what the machine leaves.
-use Rattle.std.proofs.Common.{◌≡◌, ℕ, zero, suc, ◌+◌, ◌<◌, Bool, true, false, List, [], ◌∷◌, ◌++◌, ◌⊎◌, inl, inr, Option, Some, None, refl, sym, ap, ◌∙◌, subst, length, map, arith, append_assoc}
-use Rattle.std.specs.Prelude.{slice_get, slice_set}
+use Rattle.std.proofs.Common.{◌≡◌, ℕ, zero, ◌+◌, ◌<◌, Bool, true, false, List, [], ◌∷◌, ◌++◌, Some, refl, sym, ap, ◌∙◌, subst, length, map, arith, append_assoc}
+use Rattle.std.specs.Prelude.{slice_get}
 use Rattle.std.proofs.lemmas.Bool.{eqb-true}
 use Rattle.std.proofs.lemmas.List.{length-set}
 use Rattle.std.proofs.lemmas.Option.{slice_get_within}
-use Rattle.def_op.specs.Frames.{Operation, spelling}
-use Rattle.def_machine.specs.Values.{Name, Promise, host_of, answer_of, Local, Prom, numbering, naming}
-use Rattle.def_machine.specs.State.{Note, Deliver, Open, Ask, SettledTo, Elsewhere, Shorten, GiftEntry, Vat, Stop, Done, Gives, Throws, Ejects, Stops}
+use Rattle.def_op.specs.Frames.{spelling}
+use Rattle.def_machine.specs.Values.{Name, Promise, host_of, Local, Prom, numbering, naming}
+use Rattle.def_machine.specs.State.{Note, Deliver, Open, Ask, SettledTo, Elsewhere, Shorten, Vat, Stop, Done, Gives, Throws, Ejects, Stops}
 use Rattle.def_machine.specs.Arrive.{Incoming, Old, New, arrive}
 use Rattle.def_run.specs.Connections.{Heard, asked_in}
 use Rattle.def_run.specs.Draws.{draw_word}
@@ -29,7 +29,6 @@ use Rattle.law_renaming.proofs.MapMaps.{note_twice}
 use Rattle.law_renaming.proofs.Stands.{Extends, again, found_again, still}
 use Rattle.law_reference.specs.Cuts.{NoticesFollowCuts}
 use Rattle.law_reference.specs.Exports.{exported_at}
-use Rattle.law_reference.specs.Logs.{exports}
 use Rattle.law_reference.specs.Tables.{table_of, EachHasTable}
 use Rattle.law_reference.proofs.ApartWhole.{have_tables, known_once}
 use Rattle.law_reference.proofs.Moves.{steps_end}
@@ -63,7 +62,7 @@ use Rattle.law_told.proofs.Promises.{own_promises_ordered}
 use Rattle.def_local.specs.Vats.{Member, connection_for, heard_in, heard_on, asked_by}
 use Rattle.def_local.specs.Numbers as numbers
 use Rattle.def_local.specs.Numbers.{Frame, Way, Vats, Course, Runs, way_at, ready, brought, after_step}
-use Rattle.law_local.specs.Mirrors.{Mirrors, VatMirrors, RunMirrors, LearntAre}
+use Rattle.law_local.specs.Mirrors.{Mirrors, VatMirrors, RunMirrors}
 use Rattle.law_local.specs.Naming.{Tells}
 use Rattle.law_local.specs.Writing.{PutsSo}
 use Rattle.law_local.specs.Steps.{world_left, StepStands}

@@ -1,5 +1,5 @@
 -- What is new in a note is named otherwise in numbers than in names, where nothing looks at it: so a note that was heard arrives alike.
-use Rattle.std.proofs.Common.{◌≡◌, ℕ, Bool, true, false, List, [], ◌∷◌, Option, Some, None, refl, sym, ap, ◌∙◌, subst}
+use Rattle.std.proofs.Common.{◌≡◌, ℕ, Bool, List, Option, Some, None, refl, sym, ap, ◌∙◌}
 use Rattle.std.specs.Prelude.{option_map}
 use Rattle.def_machine.specs.Values.{Value, Null, Flag, Number, Letter, Text, Prim, Broken, Items, Ref, Name, Naming, Local, numbering, naming}
 use Rattle.def_machine.specs.State.{Passed, Passeds, Plain, AGift, Many, NoMore, More, Note, Delivery, Deliver, Open, Ask, SettledTo, Elsewhere, Shorten, Vat, Done, Gives, Throws, Ejects, Stops, Act}
@@ -84,6 +84,13 @@ module _ {A B C D E H : Type 0} (F : A → D) (G : B → D) (P : C → E) (Q : B
       by (Some w) i = (w, plain_is Q P z w (same ∙ i), plain_is S R y w i)
       by None i = let a = reference_is {Y = C} y i in let b = reference_is {Y = C} z (same ∙ i) in named_so a.0 b.0 a.1 b.1
 
+  more_with : (y : Passed A) (z : Passed B) (ys : Passeds A) (zs : Passeds B) → (w : Passed C) × (maps.passed P w ≡ maps.passed Q z) × (maps.passed R w ≡ maps.passed S y) → (w : Passeds C) × (maps.passeds P w ≡ maps.passeds Q zs) × (maps.passeds R w ≡ maps.passeds S ys)
+      → (w : Passeds C) × (maps.passeds P w ≡ maps.passeds Q (More z zs)) × (maps.passeds R w ≡ maps.passeds S (More y ys))
+  more_with y z ys zs w ws = (More w.0 ws.0, both w.1 ws.1, both w.2 ws.2)
+    where
+      both : {X : Type 0} {a b : Passed X} {c d : Passeds X} → a ≡ b → c ≡ d → More a c ≡ More b d
+      both p q = cc
+
   mutual
     passed_with : (y : Passed A) (z : Passed B) → maps.passed F y ≡ maps.passed G z → (w : Passed C) × (maps.passed P w ≡ maps.passed Q z) × (maps.passed R w ≡ maps.passed S y)
     passed_with (Plain y) (Plain z) e = let i : maps.value F y ≡ maps.value G z = cc in let w = value_with y z i in (Plain w.0, ap Plain w.1, ap Plain w.2)
@@ -100,11 +107,7 @@ module _ {A B C D E H : Type 0} (F : A → D) (G : B → D) (P : C → E) (Q : B
     all_with NoMore NoMore e = (NoMore, refl, refl)
     all_with (More y ys) (More z zs) e =
         let i : maps.passed F y ≡ maps.passed G z = cc in let j : maps.passeds F ys ≡ maps.passeds G zs = cc in
-        let w = passed_with y z i in let ws = all_with ys zs j in
-        (More w.0 ws.0, both w.1 ws.1, both w.2 ws.2)
-      where
-        both : {X : Type 0} {a b : Passed X} {c d : Passeds X} → a ≡ b → c ≡ d → More a c ≡ More b d
-        both p q = cc
+        more_with y z ys zs (passed_with y z i) (all_with ys zs j)
     all_with NoMore (More z zs) e = cc
     all_with (More y ys) NoMore e = cc
 

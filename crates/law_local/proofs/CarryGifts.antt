@@ -1,16 +1,13 @@
 -- A gift that a note asks for stands among those of its host once the note has arrived.
-use Rattle.std.proofs.Common.{◌≡◌, ℕ, Bool, true, false, List, [], ◌∷◌, ◌++◌, Option, Some, None, refl, sym, ap, ◌∙◌, subst, map, ◌==◌}
-use Rattle.std.specs.Prelude.{option_map}
-use Rattle.std.proofs.lemmas.Bool.{eqb-true, eq-eqb}
-use Rattle.def_machine.specs.Values.{Name, Gift, Naming, IsGift, Local}
+use Rattle.std.proofs.Common.{◌≡◌, ℕ, Bool, true, false, List, [], ◌∷◌, ◌++◌, Option, Some, None, refl, ap, ◌∙◌, ◌==◌}
+use Rattle.std.proofs.lemmas.Bool.{eq-eqb}
+use Rattle.def_machine.specs.Values.{Name, Naming}
 use Rattle.def_machine.specs.State.{GiftEntry, Vat, Done, Gives, Throws, Ejects, Stops, Act, ◌>>=◌, ◌>>◌, and_then, give, look, come, new_gift, with_opened, is_gift}
 use Rattle.def_machine.specs.Arrive as arrive
 use Rattle.def_machine.specs.Arrive.{gift_at}
-use Rattle.def_machine.specs.Maps as maps
 use Rattle.law_machine.specs.Steps.{After}
 use Rattle.law_machine.proofs.Keeps.{Keeps, IsKept, IsKeptUnder, keeps_bind, keeps_then, keeps_look}
 use Rattle.law_machine.proofs.ArriveKeeps.{keeps_break_orphan, keeps_tell_asker}
-use Rattle.law_name.specs.Names.{AllOf}
 
 -- one stands there
 abbrev pub Stands : {N : Type 0} → ℕ → ℕ → List (GiftEntry N) → Type 0

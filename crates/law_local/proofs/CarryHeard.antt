@@ -1,6 +1,6 @@
 -- What a vat has for the sender of a frame once it was heard and has arrived, in numbers and in names.
 use Rattle.std.proofs.Common.{◌≡◌, ℕ, ◌<◌, Bool, true, false, List, [], ◌∷◌, ◌++◌, ◌⊎◌, inl, inr, Option, Some, None, refl, sym, ap, ◌∙◌, subst, length, map, arith}
-use Rattle.std.specs.Prelude.{slice_get, slice_set, get_or, option_map, ◌==◌}
+use Rattle.std.specs.Prelude.{slice_set, get_or, option_map, ◌==◌}
 use Rattle.std.proofs.lemmas.Bool.{eqb-true}
 use Rattle.std.proofs.lemmas.List.{get_or-set_same, get_or-set_other, map-append}
 use Rattle.def_machine.specs.Values.{Name, Gift, answer_of, Local, Prom}
@@ -12,9 +12,9 @@ use Rattle.def_run.specs.World.{World, read_note}
 use Rattle.law_name.specs.Names.{AllOf, IsAmong, names_in}
 use Rattle.def_machine.specs.Maps as maps
 use Rattle.def_machine.specs.Maps.{incoming}
-use Rattle.law_renaming.specs.Stands.{Table, Found, Is, found, StandsFor}
+use Rattle.law_renaming.specs.Stands.{Table, Found, Is, found}
 use Rattle.law_renaming.proofs.Stands.{Extends}
-use Rattle.law_frame.specs.Alike.{as_told, from_peer}
+use Rattle.law_frame.specs.Alike.{as_told}
 use Rattle.law_frame.specs.Growing.{IsFront}
 use Rattle.law_frame.specs.Lines.{DueIn}
 use Rattle.law_frame.specs.OwnFrames.{refers}

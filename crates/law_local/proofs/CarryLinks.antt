@@ -1,11 +1,11 @@
 -- A note off its link, and its frame off its way: what was put before stays, and the frames left are those that are due once one more is heard.
-use Rattle.std.proofs.Common.{◌≡◌, ℕ, zero, suc, ◌≤◌, ◌<◌, false, List, [], ◌∷◌, ◌⊎◌, inl, inr, Option, Some, None, refl, sym, ap, ◌∙◌, subst, length, map, arith}
-use Rattle.std.specs.Prelude.{slice_get, drop, option_map}
+use Rattle.std.proofs.Common.{◌≡◌, ℕ, zero, suc, ◌≤◌, ◌<◌, false, List, [], ◌∷◌, ◌⊎◌, inl, inr, Option, Some, refl, sym, ap, ◌∙◌, subst, length, map, arith}
+use Rattle.std.specs.Prelude.{slice_get, drop}
 use Rattle.def_op.specs.Frames.{Operation}
-use Rattle.def_machine.specs.Values.{Name, Local}
+use Rattle.def_machine.specs.Values.{Name}
 use Rattle.def_machine.specs.State.{Note, Vat}
-use Rattle.def_run.specs.Wire.{Connected, connected_at, with_connected, frame_due, received, hear_at}
-use Rattle.def_run.specs.World.{Link, World, link_at, with_link, with_notes, readied}
+use Rattle.def_run.specs.Wire.{Connected, connected_at, frame_due, received, hear_at}
+use Rattle.def_run.specs.World.{Link, World, with_link, with_notes, readied}
 use Rattle.law_renaming.specs.Stands.{Table, Is, found, StandsFor}
 use Rattle.law_reference.specs.Logs.{exports}
 use Rattle.law_reference.specs.Exports.{exported_at}

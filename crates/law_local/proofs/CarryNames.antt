@@ -1,5 +1,5 @@
 -- What a frame tells of numbers is so, and all that comes to be known by it is told.
-use Rattle.std.proofs.Common.{◌≡◌, ℕ, zero, suc, ◌+◌, ◌≤◌, ◌<◌, Bool, true, false, List, [], ◌∷◌, ◌++◌, ◌⊎◌, inl, inr, Option, Some, None, refl, sym, ap, ◌∙◌, subst, length, map, arith, append_assoc}
+use Rattle.std.proofs.Common.{◌≡◌, ℕ, zero, suc, ◌+◌, ◌≤◌, ◌<◌, Bool, true, false, List, [], ◌∷◌, ◌++◌, ◌⊎◌, inl, inr, Option, Some, None, refl, sym, ap, ◌∙◌, subst, length, map, arith}
 use Rattle.std.specs.Prelude.{slice_get, drop}
 use Rattle.std.proofs.lemmas.List.{length-append}
 use Rattle.std.proofs.lemmas.Option.{slice_get_within}
@@ -13,7 +13,7 @@ use Rattle.def_run.specs.World.{World, readied}
 use Rattle.law_name.specs.Names.{AllOf, IsAmong, names_in}
 use Rattle.law_name.proofs.SameNames.{at_all}
 use Rattle.def_machine.specs.Maps as maps
-use Rattle.law_renaming.specs.Stands.{Table, Found, Is, found, prom_found}
+use Rattle.law_renaming.specs.Stands.{Table, Found, Is, found}
 use Rattle.law_reference.specs.Tables.{table_of}
 use Rattle.law_frame.specs.Growing.{IsFront}
 use Rattle.law_frame.specs.Lines.{DueIn}
@@ -26,7 +26,7 @@ use Rattle.law_frame.proofs.OrderRuns.{among_get}
 use Rattle.law_frame.proofs.AlikeLaws.{heard_starts}
 use Rattle.law_told.specs.Told.{IsBroughtBy}
 use Rattle.def_local.specs.Names.{Told, of_promise}
-use Rattle.def_local.specs.Vats.{Member, connection_for, is_object, newcomers, stage_of, heard_in}
+use Rattle.def_local.specs.Vats.{Member, connection_for, is_object, stage_of, heard_in}
 use Rattle.def_local.specs.Numbers.{Vats, ready, name_at_vat, name_exported, told_imports, told_learnt, told_answer, brought}
 use Rattle.law_local.specs.Mirrors.{VatMirrors, LearntAre}
 use Rattle.law_local.specs.Naming.{SomeOf, IsOwnPromise, ToldSo, BroughtSo}

@@ -1,11 +1,9 @@
 -- What comes to be known by a frame that is heard in numbers: each new number stands at a new position, or is a gift that was learnt.
-use Rattle.std.proofs.Common.{◌≡◌, ℕ, zero, suc, ◌≤◌, ◌<◌, Bool, true, false, List, [], ◌∷◌, ◌++◌, ◌⊎◌, inl, inr, Option, Some, None, refl, sym, ap, ◌∙◌, subst, append_assoc, append-nil, length, arith, ◌==◌}
+use Rattle.std.proofs.Common.{◌≡◌, ℕ, zero, suc, ◌≤◌, ◌<◌, Bool, true, false, List, [], ◌∷◌, ◌++◌, ◌⊎◌, inl, inr, Option, Some, None, refl, sym, ap, ◌∙◌, append_assoc, append-nil, length, arith, ◌==◌}
 use Rattle.std.specs.Prelude.{slice_get}
-use Rattle.def_op.specs.declared.op.Plain.TheVariants as plain
 use Rattle.def_op.specs.Frames as op
 use Rattle.def_op.specs.Frames.{Described, Members, Outcome, Operation}
 use Rattle.def_machine.specs.Values.{Words, Local, Prom, Far, key}
-use Rattle.def_machine.specs.State.{Passed, Passeds, Note}
 use Rattle.def_machine.specs.Arrive.{Incoming, Old}
 use Rattle.def_run.specs.Connections as tables
 use Rattle.def_run.specs.Connections.{Connection, Learnt, Stage, Heard, Hearing, told, told_if, told_where, next, learnt_at}

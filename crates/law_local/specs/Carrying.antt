@@ -30,7 +30,7 @@ ExportsLogged w = (v u : ℕ) (r s : Vat Name) → slice_get w.vats v ≡ Some r
 abbrev pub ExportsAreAsLogged : Type 0
 ExportsAreAsLogged = InRunsBehindCuts ExportsLogged
 
--- Where frames are heard so, the carry of a frame leads where the carry of its note does, whether it goes or stops, from all that stands for the world that it finds.
+-- Where frames are heard so, an entry that carries leads where it does in names, from all that stands for the world that it finds: a frame arrives and the step goes or stops, or there is none to arrive.
 abbrev pub CarriesMirror : Type 0
 CarriesMirror = FramesAreHeardByNumbers → ExportsAreAsLogged → (script : Script) → KnowsOnce script → (w x : World) (es : List Entry) (k : ℕ) → NoticesFollowCuts es → machine.open_from script zero script.vats (machine.begins script) ≡ Goes w → machine.steps_from script es k w ≡ Goes x
-    → (X : Vats) → Mirrors x X → (v u n : ℕ) → (v ≡ u → ⊥) → RunMirrors (machine.step script (Carry v u) n x) (numbers.step script (Carry v u) n X)
+    → (X : Vats) → Mirrors x X → (v u n : ℕ) → RunMirrors (machine.step script (Carry v u) n x) (numbers.step script (Carry v u) n X)
