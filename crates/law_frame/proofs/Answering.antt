@@ -1,7 +1,7 @@
 -- The answer that a message asks for comes to be known right behind what was read of the note.
-use Rattle.std.proofs.Common.{◌≡◌, ℕ, Bool, true, false, List, [], ◌∷◌, ◌++◌, Option, Some, None, refl, ap, ◌∙◌, if◌then◌else◌, length}
-use Rattle.def_machine.specs.Values.{Words, Value, Ref, Name, Naming, IsAnswer, naming, name_of, mail_of, answer_of, host_of}
-use Rattle.def_machine.specs.State.{ToTell, Passeds, Note, Delivery, Deliver, Vat, Done, Gives, Throws, Ejects, Stops, Act, ◌>>=◌, ◌>>◌, and_then, look, come, mail, alter, begun}
+use Rattle.std.proofs.Common.{◌≡◌, ℕ, Bool, true, false, List, [], ◌∷◌, ◌++◌, Some, None, refl, ap, ◌∙◌}
+use Rattle.def_machine.specs.Values.{Words, Value, Ref, Name, Naming, naming, name_of, mail_of, answer_of, host_of}
+use Rattle.def_machine.specs.State.{ToTell, Passeds, Delivery, Deliver, Vat, Done, Gives, Throws, Ejects, Stops, Act, ◌>>=◌, ◌>>◌, and_then, look, come, mail, alter, begun}
 use Rattle.def_machine.specs.Refs as refs
 use Rattle.def_machine.specs.Arrive as arrive
 use Rattle.def_machine.specs.Arrive.{Incoming, New}
