@@ -15,3 +15,4 @@ pub mod Positions
 pub mod OwnSteps
 pub mod Turns
 pub mod OpeningTurns
+pub mod Newcomers
