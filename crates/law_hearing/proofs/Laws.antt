@@ -166,7 +166,7 @@ module _ (script : Script) (once : KnowsOnce script) (w x : World) (es : List En
           all_among (IsKnownIn (names_in s.known)) (wire.exports (λ i. i) x.links u v) z ((exported_known script once).1 w x es k opened stepped u s gone v)
           (subst (λ ms. IsAmong z ms) logged.exports (in_front C.tables.imports D.tables.exports z given (in_front (had.0).imports C.tables.imports z grows.imports b)))
 
-      yours_known : (z : Name) → IsAmong z (told_in n) → host_of z ≡ u → IsKnownIn (names_in s.known) z
+      pub yours_known : (z : Name) → IsAmong z (told_in n) → host_of z ≡ u → IsKnownIn (names_in s.known) z
       yours_known z a e = let t = had.1 in let noted = t.noted in given_known z a e (noted.gives z a e)
 
       comes_from : (z : Name) → IsAmong z (told_in n) → host_of z ≡ v → IsAmong z (names_in s.known) → IsAmong z (had.0).answers ⊎ IsAmong z D.tables.imports
