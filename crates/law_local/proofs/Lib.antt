@@ -16,3 +16,6 @@ pub mod OwnSteps
 pub mod Turns
 pub mod OpeningTurns
 pub mod Newcomers
+pub mod Objects
+pub mod FirstTold
+pub mod Heard

@@ -13,6 +13,7 @@ use Rattle.def_run.specs.Connections.{Connection, Learnt, Stage, Newcomers, Hear
 use Rattle.def_machine.specs.Maps as maps
 use Rattle.def_machine.specs.Maps.{incoming}
 use Rattle.law_name.specs.Names.{AllOf}
+use Rattle.law_name.proofs.Facts.{all_end}
 
 -- ---- objects that are described by a position
 
@@ -101,10 +102,6 @@ numbered_split : {N : Type 0} (K : ℕ → N) (k : ℕ) (xs ys : List N) → Num
 numbered_split K k [] ys h = (tt, h)
 numbered_split K k (x ∷ xs) ys h = let r = numbered_split K (suc k) xs ys h.1 in ((h.0, r.0), r.1)
 
-all_end : {A : Type 0} (P : A → Type 0) (xs : List A) (x : A) → AllOf P xs → P x → AllOf P (xs ++ x ∷ [])
-all_end P [] x h p = (p, tt)
-all_end P (y ∷ xs) x h p = (h.0, all_end P xs x h.1 p)
-
 -- ---- two readings
 
 -- One calls what comes to be known as number k so, K k, whatever it is, and objects at positions so, O p; the other goes by what it is.
@@ -127,7 +124,7 @@ module _ {N V : Type 0} (object : N → Bool) (me peer : ℕ) (O : ℕ → N) (K
     pub same : NumberedFrom K s.known (news j.read) → o ≡ Some (record { read = r j.read; after = j.after })
     pub given : AllOf Given s.learnt → AllOf Given j.after.learnt
 
-  abbrev AlikeIf : {A C : Type 0} → (A → C) → (A → List N) → Stage N → Option (Heard N A) → Option (Heard N C) → Type 0
+  abbrev pub AlikeIf : {A C : Type 0} → (A → C) → (A → List N) → Stage N → Option (Heard N A) → Option (Heard N C) → Type 0
   AlikeIf r news s (Some j) o = Alike r news s j o
   AlikeIf r news s None o = Unit {0}
 
