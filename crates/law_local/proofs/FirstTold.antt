@@ -1,5 +1,5 @@
 -- What is read first in a note comes to be known, in order, behind what was known before.
-use Rattle.std.proofs.Common.{◌≡◌, ℕ, suc, Bool, true, false, List, [], ◌∷◌, ◌++◌, refl, sym, ap, subst, ◌∙◌, map, append_assoc, append-nil}
+use Rattle.std.proofs.Common.{◌≡◌, ℕ, Bool, true, false, List, [], ◌∷◌, ◌++◌, refl, sym, ap, subst, ◌∙◌, map, append_assoc, append-nil}
 use Rattle.std.proofs.lemmas.List.{map-append}
 use Rattle.def_machine.specs.Values.{Value, Null, Flag, Number, Letter, Text, Prim, Broken, Items, Ref, Name, Root, Object, Promise, Answer, Gift, Sent, host_of}
 use Rattle.def_machine.specs.State.{Passed, Passeds, Plain, AGift, Many, NoMore, More, Note, Deliver, Open, Ask, SettledTo, Elsewhere, Shorten}
@@ -11,9 +11,9 @@ use Rattle.def_run.specs.World as world
 use Rattle.def_run.specs.World.{is_old, read_name, known_after, read_note}
 use Rattle.law_name.specs.Names.{AllOf}
 use Rattle.law_name.proofs.Facts.{all_append}
-use Rattle.law_frame.specs.Alike.{names_heard, as_told, from_peer}
+use Rattle.law_frame.specs.Alike.{names_heard, as_told}
 use Rattle.law_frame.proofs.Grow.{after_old}
-use Rattle.law_hearing.specs.Hearing.{as_heard, named}
+use Rattle.law_hearing.specs.Hearing.{as_heard}
 use Rattle.law_local.proofs.Newcomers.{news_in, news_value, news_passed, news_all, news_note}
 
 -- ---- what is told first, in names

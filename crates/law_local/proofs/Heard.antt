@@ -1,8 +1,8 @@
 -- A frame is heard by the numbers of a vat as it is heard in names, where what is new has the numbers behind those known before.
-use Rattle.std.proofs.Common.{◌≡◌, ℕ, zero, suc, Bool, true, false, List, [], ◌∷◌, ◌++◌, Option, Some, None, refl, sym, ap, subst, ◌∙◌, map, length, append_assoc}
+use Rattle.std.proofs.Common.{◌≡◌, ℕ, Bool, List, [], ◌∷◌, ◌++◌, Option, Some, None, refl, sym, ap, subst, ◌∙◌, map, length, append_assoc}
 use Rattle.std.specs.Prelude.{slice_get, option_map}
 use Rattle.def_op.specs.Frames.{Operation}
-use Rattle.def_machine.specs.Values.{Name, Gift, Sent, Msg, Object, Local, Obj, Prom, Far, Mess}
+use Rattle.def_machine.specs.Values.{Name, Gift, Sent, Msg, Local, Obj, Prom, Far, Mess}
 use Rattle.def_machine.specs.State.{Note}
 use Rattle.def_machine.specs.Arrive.{Incoming, Old, New}
 use Rattle.def_machine.specs.Maps as maps

@@ -19,3 +19,4 @@ pub mod Newcomers
 pub mod Objects
 pub mod FirstTold
 pub mod Heard
+pub mod HeardRuns

@@ -1,21 +1,20 @@
 -- Each position that a frame says to be of an object is of one.
-use Rattle.std.proofs.Common.{◌≡◌, ℕ, zero, suc, Bool, true, false, List, [], ◌∷◌, ◌++◌, Option, Some, None, refl, sym, ap, subst, ◌∙◌, length, append-nil}
+use Rattle.std.proofs.Common.{◌≡◌, ℕ, zero, suc, Bool, true, false, List, [], ◌∷◌, Some, refl, sym, ap, ◌∙◌, length}
 use Rattle.std.specs.Prelude.{slice_get, ◌==◌}
 use Rattle.std.proofs.lemmas.Bool.{eqb-true}
-use Rattle.def_op.specs.Frames as op
-use Rattle.def_op.specs.Frames.{Described, Members, Operation}
+use Rattle.def_op.specs.Frames.{Described, Members}
 use Rattle.def_machine.specs.Values.{Value, Null, Flag, Number, Letter, Text, Prim, Broken, Items, Ref, Name, Root, Object, Promise, Answer, Gift, Sent, same_name, host_of}
-use Rattle.def_machine.specs.State.{Passed, Passeds, Plain, AGift, Many, NoMore, More, Note, Deliver, Open, Ask, SettledTo, Elsewhere, Shorten, Vat}
+use Rattle.def_machine.specs.State.{Passed, Passeds, Plain, AGift, Many, NoMore, More, Note, Deliver, Open, Ask, SettledTo, Elsewhere, Shorten}
 use Rattle.def_run.specs.Connections as write
 use Rattle.def_run.specs.Connections.{Connection, Sight, stands_in, place_in, exported_note, frame_now}
-use Rattle.def_run.specs.Wire.{Connected, sight, is_object, frame_due}
+use Rattle.def_run.specs.Wire.{sight, is_object}
 use Rattle.law_machine.proofs.StepLaws.{get_append}
 use Rattle.law_name.proofs.SameNames.{has_among}
 use Rattle.law_reference.specs.Logs.{rank}
 use Rattle.law_frame.specs.Growing.{IsFront}
 use Rattle.law_frame.proofs.Ranks.{get_rank}
 use Rattle.law_hearing.proofs.Kept.{in_has}
-use Rattle.law_local.proofs.Newcomers.{Fits, AllFit, OutcomeFits, FrameFits}
+use Rattle.law_local.proofs.Newcomers.{Fits, AllFit, FrameFits}
 
 -- ---- what is written
 
