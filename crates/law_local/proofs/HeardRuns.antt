@@ -1,5 +1,5 @@
 -- The next frame is heard by the numbers of its receiver as its note is read in names, in each world of a run.
-use Rattle.std.proofs.Common.{◌≡◌, ℕ, zero, suc, ◌<◌, Bool, true, false, List, [], ◌∷◌, ◌++◌, Option, Some, None, refl, sym, ap, subst, ◌∙◌, inl, inr, map, length, ◌==◌}
+use Rattle.std.proofs.Common.{◌≡◌, ℕ, zero, suc, ◌<◌, Bool, true, false, List, [], ◌∷◌, ◌++◌, Option, Some, None, refl, sym, ap, subst, ◌∙◌, inl, map, length, ◌==◌}
 use Rattle.std.specs.Prelude.{slice_get, unwrap_or}
 use Rattle.std.proofs.lemmas.Bool.{eqb-true}
 use Rattle.std.proofs.lemmas.List.{length-map}
@@ -26,6 +26,7 @@ use Rattle.law_reference.specs.Logs as logs
 use Rattle.law_reference.specs.Notes.{IsBetween}
 use Rattle.law_reference.specs.Tables.{table_of}
 use Rattle.law_reference.proofs.ApartWhole.{have_tables}
+use Rattle.law_reference.proofs.OnceLaws.{among_at}
 use Rattle.law_frame.specs.Alike.{message_of, names_heard, table_heard}
 use Rattle.law_frame.specs.Asked.{told_in}
 use Rattle.law_frame.specs.Together.{changed_tables, changed_gift, changed_stage}
@@ -78,16 +79,11 @@ gifts_learnt : (u : ℕ) (t : Table) (gs : List (Learnt Local)) → AllOf IsThat
 gifts_learnt u t [] h = tt
 gifts_learnt u t (g ∷ gs) h = (h.0, gifts_learnt u t gs h.1)
 
-got_among : (ns : List Name) (k : ℕ) (n : Name) → slice_get ns k ≡ Some n → IsAmong n ns
-got_among [] k n e = cc
-got_among (m ∷ ns) zero n e = let i : n ≡ m = cc in inl i
-got_among (m ∷ ns) (suc k) n e = inr (got_among ns k n e)
-
 module _ (u : ℕ) (t : Table) (good : IsTable u t) where
   gift_known : (h i : ℕ) (a : Local) → found u t a ≡ Is (Gift h i) → IsAmong (Gift h i) t.names
   unfolding found
   gift_known h i (Obj j) e = cc
-  gift_known h i (Prom k) e = got_among t.names k (Gift h i) (some_name (slice_get t.names k) k (Gift h i) e)
+  gift_known h i (Prom k) e = among_at (Gift h i) t.names k (some_name (slice_get t.names k) k (Gift h i) e)
   gift_known h i (Far g p) e = let f = some_far (t.exports g p) g p (Gift h i) e in let same : Gift h i ≡ Object g f.0 = f.2 in absurd (clash same)
     where
       clash : {a b : ℕ} → Gift h i ≡ Object a b → ⊥
