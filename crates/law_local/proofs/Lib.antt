@@ -24,3 +24,8 @@ pub mod CarryNames
 pub mod CarryHeard
 pub mod Carry
 pub mod Carries
+pub mod Newcomers
+pub mod Objects
+pub mod FirstTold
+pub mod Heard
+pub mod HeardRuns

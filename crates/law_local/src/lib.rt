@@ -2,4 +2,5 @@
 #![tactic(auto)]
 
 pub mod carrying;
+pub mod hearing;
 pub mod parts;
