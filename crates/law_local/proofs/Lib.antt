@@ -15,3 +15,7 @@ pub mod Positions
 pub mod OwnSteps
 pub mod Turns
 pub mod OpeningTurns
+pub mod JoinedTells
+pub mod JoinedSteps
+pub mod Joined
+pub mod JoinedNotices
