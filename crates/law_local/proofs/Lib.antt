@@ -19,3 +19,5 @@ pub mod JoinedTells
 pub mod JoinedSteps
 pub mod Joined
 pub mod JoinedNotices
+pub mod JoinedOpenings
+pub mod JoinedRuns
