@@ -18,3 +18,5 @@ pub mod Questions
 pub mod CutPuts
 pub mod CutSteps
 pub mod CutHeard
+pub mod CutCounts
+pub mod CutAnswers
