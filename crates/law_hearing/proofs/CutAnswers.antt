@@ -20,8 +20,7 @@ use Rattle.law_name.specs.Names.{IsAmong, names_in}
 use Rattle.law_name.proofs.Among.{all_among}
 use Rattle.law_reference.specs.Knowing.{brought, numbered_at}
 use Rattle.law_reference.specs.Logs as wire
-use Rattle.law_reference.proofs.AnswerLinks.{AtLink, push_keeps, with_any}
-use Rattle.law_reference.proofs.LinksCut.{fits_notes}
+use Rattle.law_reference.proofs.AnswerLinks.{AtLink}
 use Rattle.law_reference.proofs.Counts.{Counted, world_one, world_none, numbered_most, IsNew, step_weighs, step_sends, step_knows, step_age}
 use Rattle.law_reference.proofs.First.{among_dec}
 use Rattle.law_reference.proofs.Follow.{eq_dec, put_cases}
@@ -43,7 +42,8 @@ use Rattle.law_hearing.proofs.CutCounts.{le_or, sever_most, sever_takes, asks_be
 use Rattle.law_hearing.proofs.CutHeard.{Answers, HeardOn}
 use Rattle.law_hearing.proofs.Kept.{Kept}
 use Rattle.law_hearing.proofs.Moves.{goes_of}
-use Rattle.law_hearing.proofs.Pairs.{Paired, pushed_cut}
+use Rattle.law_hearing.proofs.Open.{some_is, clash, open_taken, open_pushed}
+use Rattle.law_hearing.proofs.Pairs.{Paired}
 use Rattle.law_hearing.proofs.Pending.{Facts, wires, splits, stands, sent}
 use Rattle.law_hearing.proofs.Steps.{Asked, AllKept}
 
@@ -57,24 +57,6 @@ Lost m g r w = Unplaced m w × (IsAmong (Answer g m) (names_in r.known) → ⊥)
 -- So it is where its answer was asked for by a link that is cut, and that was not heard.
 abbrev pub AnswersLost : World → Type 0
 AnswersLost w = (u g : ℕ) (m : Msg) (r : Vat Name) → (u ≡ g → ⊥) → slice_get w.vats g ≡ Some r → (l : Link) → link_at u g w.links ≡ Some l → l.cut ≡ true → IsAmong (Answer g m) (Asked w u g) → (IsAmong (Answer g m) (Answers w.connections g u) → ⊥) → Lost m g r w
-
-some_is : {A : Type 0} (p q : A) → Some p ≡ Some q → p ≡ q
-some_is p q e = cc
-
-clash : (b : Bool) → b ≡ true → b ≡ false → ⊥
-clash b e f = cc
-
-notes_cut : (ns : List (Note Name)) (k : Link) → (let j : Link = with_notes ns k in j.cut) ≡ k.cut
-unfolding with_notes
-notes_cut ns k = refl
-
--- links that are all open stay so
-open_taken : (u g a b : ℕ) (ns : List (Note Name)) (ls : List Link) → AtLink u g (λ (k : Link). k.cut ≡ false) ls → AtLink u g (λ (k : Link). k.cut ≡ false) (with_link (with_notes ns) a b ls)
-unfolding with_notes
-open_taken u g a b ns ls h = with_any u g a b (λ (k : Link). k.cut ≡ false) (with_notes ns) (fits_notes u g ns) ls (λ k e i j. h k e) (λ k e f. h k e)
-
-open_pushed : (u g v : ℕ) (ps : List (Put Name)) (ls : List Link) → AtLink u g (λ (k : Link). k.cut ≡ false) ls → AtLink u g (λ (k : Link). k.cut ≡ false) (push_all v ps ls)
-open_pushed u g v ps ls h = push_keeps u g v (λ (k : Link). k.cut ≡ false) (λ k n e. pushed_cut n k ∙ e) ps ls h
 
 module _ (script : Script) where
   -- what is known of the world before

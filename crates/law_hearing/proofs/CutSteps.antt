@@ -26,7 +26,9 @@ use Rattle.law_hearing.proofs.CutPuts.{AsLogged, Fitting, puts_answers, puts_log
 use Rattle.law_hearing.proofs.Kept.{Kept, kept_exports}
 use Rattle.law_hearing.proofs.Lift.{Opened}
 use Rattle.law_hearing.proofs.Pairs.{Paired}
-use Rattle.law_hearing.proofs.Pending.{wires}
+use Rattle.law_hearing.proofs.Pending.{Facts, wires}
+use Rattle.law_frame.specs.Tables.{arrived}
+use Rattle.law_frame.proofs.WireArrivals.{arrived_is}
 use Rattle.law_hearing.proofs.Steps.{Asked, AllKept, Worldly, Onward, honest, went_vats, went_links, went_connections}
 
 -- what a vat heard that it was asked for, it was asked for
@@ -42,6 +44,24 @@ abbrev pub LogsKept : World → Type 0
 LogsKept w = (v u : ℕ) (r s : Vat Name) → slice_get w.vats v ≡ Some r → slice_get w.vats u ≡ Some s → (v ≡ u → ⊥) → AsLogged (Asked w u v) v u w.links w.connections
 
 module _ (script : Script) where
+  -- ---- a link that is not cut
+
+  module _ (y : World) (facts : Facts script y) (kept_all : AllKept y) (pairs : Paired y) (v u : ℕ) (r s : Vat Name) (there : slice_get y.vats v ≡ Some r) (gone : slice_get y.vats u ≡ Some s) (other : v ≡ u → ⊥) (l : Link) (at : link_at v u y.links ≡ Some l) (uncut : l.cut ≡ false) where
+    back : (m : Link) × (link_at u v y.links ≡ Some m) × (m.cut ≡ false)
+    back = let wired = wires script y facts in let m = wired.paired v u (l, at) in let cut = pairs.0 v u in (m.0, m.1, cut.2 m.0 m.1 ∙ sym (cut.1 l at) ∙ uncut)
+
+    kept : Kept v u (Asked y v u) (Asked y u v) (connected_at v u y.connections) (connected_at u v y.connections) l.log l.notes l.roots
+    kept = kept_all v u other r s there gone l back.0 at back.1 uncut back.2
+
+    pub open_logged : (connected_at v u y.connections).tables.exports ≡ wire.exports_after v (Asked y u v) l.log l.roots
+    open_logged = let k = kept in let D = connected_at u v y.connections in let A : List Name = Asked y u v in
+        kept_exports v u (Asked y v u) A (connected_at v u y.connections) D.tables.imports D.tables.answers l.notes k.1 k.8 ∙ ap (λ (is : List Name). wire.exports_after v A l.notes is) k.7
+        ∙ sym (exports_twice v A k.2 l.notes l.roots) ∙ ap (λ (ms : List (Note Name)). wire.exports_after v A ms l.roots) (sym k.5)
+
+    -- what was heard is what was asked for in the notes that have arrived
+    pub open_answers : (connected_at u v y.connections).tables.answers ≡ wire.questions_in u (arrived (Some l))
+    open_answers = let k = kept in k.6 ∙ ap (wire.questions_in u) (sym (arrived_is l k.2 k.5))
+
   -- what is known of each world of a run
   pub record Ready (w : World) : Type 0 where
     pub worldly : Worldly script w
@@ -56,20 +76,6 @@ module _ (script : Script) where
 
     abbrev In : World → Type 0
     In z = AsLogged A v u z.links z.connections
-
-    -- ---- a link that is not cut
-
-    module _ (uncut : l.cut ≡ false) where
-      back : (m : Link) × (link_at u v y.links ≡ Some m) × (m.cut ≡ false)
-      back = let wired = wires script y of.worldly.facts in let m = wired.paired v u (l, at) in let cut = of.paired.0 v u in (m.0, m.1, cut.2 m.0 m.1 ∙ sym (cut.1 l at) ∙ uncut)
-
-      kept : Kept v u (Asked y v u) A (connected_at v u y.connections) (connected_at u v y.connections) l.log l.notes l.roots
-      kept = of.kept v u other r s there gone l back.0 at back.1 uncut back.2
-
-      open_logged : (connected_at v u y.connections).tables.exports ≡ wire.exports_after v A l.log l.roots
-      open_logged = let k = kept in let D = connected_at u v y.connections in
-          kept_exports v u (Asked y v u) A (connected_at v u y.connections) D.tables.imports D.tables.answers l.notes k.1 k.8 ∙ ap (λ (is : List Name). wire.exports_after v A l.notes is) k.7
-          ∙ sym (exports_twice v A k.2 l.notes l.roots) ∙ ap (λ (ms : List (Note Name)). wire.exports_after v A ms l.roots) (sym k.5)
 
     -- ---- a link that is cut
 
@@ -152,11 +158,11 @@ module _ (script : Script) where
 
     by_entry : (b : Bool) → l.cut ≡ b → (e : Entry) (k : ℕ) → world.step script e k x ≡ Going y → (connected_at v u y.connections).tables.exports ≡ wire.exports_after v A l.log l.roots
     by_entry true i e k j = cut_entry i e k j l at
-    by_entry false i e k j = open_logged i
+    by_entry false i e k j = open_logged y of.worldly.facts of.kept of.paired v u r s there gone other l at i
 
     by_opening : (b : Bool) → l.cut ≡ b → (a : ℕ) (p : Program) → Opened script x y a p → (connected_at v u y.connections).tables.exports ≡ wire.exports_after v A l.log l.roots
     by_opening true i a p o = cut_opening i a p o l at
-    by_opening false i a p o = open_logged i
+    by_opening false i a p o = open_logged y of.worldly.facts of.kept of.paired v u r s there gone other l at i
 
   pub entry_logs : (e : Entry) (k : ℕ) (x y : World) → Ready y → Onward script x y → world.step script e k x ≡ Going y → LogsKept x → LogsKept y
   entry_logs e k x y of pair i h v u r s there gone other l at = by_entry x y pair of h v u r s there gone other l at l.cut refl e k i

@@ -1,3 +1,4 @@
+pub mod Open
 pub mod Lift
 pub mod Pairs
 pub mod Bare
@@ -20,3 +21,5 @@ pub mod CutSteps
 pub mod CutHeard
 pub mod CutCounts
 pub mod CutAnswers
+pub mod CutGifts
+pub mod CutRuns
