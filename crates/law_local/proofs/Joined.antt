@@ -26,6 +26,7 @@ use Rattle.law_reference.proofs.NameTableLaws.{exports_are_distinct, positions_a
 use Rattle.law_reference.proofs.NameTableSteps.{steps_know_once}
 use Rattle.law_frame.specs.AlikeArrivals.{table_across}
 use Rattle.law_frame.proofs.Untouched.{every_position}
+use Rattle.law_hearing.proofs.CutRuns.{exports_logged}
 use Rattle.law_stops.proofs.Entries.{SoundIn, fits}
 use Rattle.law_stops.proofs.Parted.{takes}
 use Rattle.law_stops.proofs.Tables.{left_bounded, left_table}
@@ -36,7 +37,7 @@ use Rattle.def_local.specs.Names.{own_mails}
 use Rattle.def_local.specs.Vats.{Member}
 use Rattle.def_local.specs.Numbers as numbers
 use Rattle.def_local.specs.Numbers.{Vats, own_step}
-use Rattle.law_local.specs.Joined.{ExportsAreAsLogged, IsLawful, TurnsMirror}
+use Rattle.law_local.specs.Joined.{IsLawful, TurnsMirror}
 use Rattle.law_local.specs.Mirrors.{Mirrors, RunMirrors}
 use Rattle.law_local.specs.Steps.{world_left, OwnStepStands}
 use Rattle.law_local.specs.Writing.{PutsSo}
@@ -60,7 +61,7 @@ none_there {A = A} {B = B} xs ys u e i = by (slice_get ys u) refl
 
 -- ---- a world of a run, and an entry that is its next
 
-module _ (script : Script) (lawful : IsLawful script) (logs : ExportsAreAsLogged) (w x : World) (X : Vats) (es rest : List Entry) (entry : Entry) (split : script.schedule ≡ es ++ entry ∷ rest)
+module _ (script : Script) (lawful : IsLawful script) (w x : World) (X : Vats) (es rest : List Entry) (entry : Entry) (split : script.schedule ≡ es ++ entry ∷ rest)
     (opened : machine.open_from script zero script.vats (machine.begins script) ≡ Goes w) (stepped : machine.steps_from script es 1 w ≡ Goes x) (h : Mirrors x X) where
   abbrev once : KnowsOnce script
   once = lawful.0
@@ -110,7 +111,7 @@ module _ (script : Script) (lawful : IsLawful script) (logs : ExportsAreAsLogged
         tells = laws_tell u s r laws;
         keeps = λ v. (every_position script once).1 w x y es entry 1 opened stepped steps v;
         hosts = λ a b. ((positions_are_of_one_name (λ i. i) script).1 w y (es ++ entry ∷ []) 1 opened later a b).1;
-        logged = (logs script once).1 w y (es ++ entry ∷ []) 1 follow_on opened later;
+        logged = (exports_logged script once).1 w y (es ++ entry ∷ []) 1 follow_on opened later;
       }
 
       pub facts : Extends (table_of x u s) (table_of y u r) × IsTable u (table_of y u r) × ((p : Vat Local) → StandsFor u (table_of y u r) p r → OwnStepStands x X u s m r p head)
@@ -128,7 +129,7 @@ module _ (script : Script) (lawful : IsLawful script) (logs : ExportsAreAsLogged
 
 -- ---- turns
 
-module _ (script : Script) (lawful : IsLawful script) (logs : ExportsAreAsLogged) (u : ℕ) (w x : World) (X : Vats) (es rest : List Entry) (split : script.schedule ≡ es ++ Turn u ∷ rest)
+module _ (script : Script) (lawful : IsLawful script) (u : ℕ) (w x : World) (X : Vats) (es rest : List Entry) (split : script.schedule ≡ es ++ Turn u ∷ rest)
     (opened : machine.open_from script zero script.vats (machine.begins script) ≡ Goes w) (stepped : machine.steps_from script es 1 w ≡ Goes x) (h : Mirrors x X) where
   abbrev n : ℕ
   n = 1 + length es
@@ -172,7 +173,7 @@ module _ (script : Script) (lawful : IsLawful script) (logs : ExportsAreAsLogged
       turn_goes r e =
           let head : List Event = Turned n u ∷ [] in let y = world_left x u r head x.connections in let after = at_end x X u s m r head h at there in
           turn_mirrors script n u x X s m r h at there n q qs
-          (facts script lawful logs w x X es rest (Turn u) split opened stepped h u s m at there r head (steps_on r e)
+          (facts script lawful w x X es rest (Turn u) split opened stepped h u s m at there r head (steps_on r e)
           ((messages_in_order script lawful.0).1 w x y es (Turn u) 1 opened stepped (steps_on r e) s r q qs at after queue)
           ((names_told script lawful.0).1 w x y es (Turn u) 1 opened stepped (steps_on r e) s r q qs at after queue)) queue e
 
@@ -180,7 +181,7 @@ module _ (script : Script) (lawful : IsLawful script) (logs : ExportsAreAsLogged
       unfolding machine.names does readied table_across brought
       turn_ends c r e =
           let word = draw_word script.key in let what : Step Name Name = Takes (tree_at script.vats u) script.depth q in
-          let is : SoundIn x u s = sound script lawful logs w x X es rest (Turn u) split opened stepped h u s m at there in
+          let is : SoundIn x u s = sound script lawful w x X es rest (Turn u) split opened stepped h u s m at there in
           let b = left_bounded word u what t r c e (λ z. 0) (λ z. steps_know_once word u what t z) is.bounded.0 (fits x u s qs is.bounded) in
           let table = left_table word u what t r c e x b ((takes word u (tree_at script.vats u) script.depth q).after t) is.kinds is.exports in
           turn_stops script u x X s m c r h at there (table_across x u r) table (stops_on word x u s t r what c e refl refl) refl refl n q qs queue e
@@ -209,5 +210,5 @@ module _ (script : Script) (lawful : IsLawful script) (logs : ExportsAreAsLogged
       by None e = none_turns e
       by (Some s) e = let m = there_is X.members u (subst (λ c. u < c) (sym h.count) (slice_get_within x.vats u s e)) in some_turns s m.0 e m.1
 
-pub turns_so : ExportsAreAsLogged → TurnsMirror
-turns_so logs script lawful u w x X es rest split opened stepped h = turn_is script lawful logs u w x X es rest split opened stepped h
+pub turns_so : TurnsMirror
+turns_so script lawful u w x X es rest split opened stepped h = turn_is script lawful u w x X es rest split opened stepped h

@@ -20,7 +20,7 @@ use Rattle.law_told.proofs.Laws.{messages_in_order, names_told}
 use Rattle.def_local.specs.Vats.{Member}
 use Rattle.def_local.specs.Numbers as numbers
 use Rattle.def_local.specs.Numbers.{Vats, own_step}
-use Rattle.law_local.specs.Joined.{ExportsAreAsLogged, IsLawful, NoticesMirror}
+use Rattle.law_local.specs.Joined.{IsLawful, NoticesMirror}
 use Rattle.law_local.specs.Mirrors.{Mirrors, RunMirrors}
 use Rattle.law_local.specs.Steps.{world_left}
 use Rattle.law_local.proofs.Joined.{none_there, facts, sound}
@@ -30,7 +30,7 @@ use Rattle.law_local.proofs.Turns.{notice_mirrors, notice_stops}
 
 -- ---- notices
 
-module _ (script : Script) (lawful : IsLawful script) (logs : ExportsAreAsLogged) (v u : ℕ) (w x : World) (X : Vats) (es rest : List Entry) (split : script.schedule ≡ es ++ NoticeLink v u ∷ rest)
+module _ (script : Script) (lawful : IsLawful script) (v u : ℕ) (w x : World) (X : Vats) (es rest : List Entry) (split : script.schedule ≡ es ++ NoticeLink v u ∷ rest)
     (opened : machine.open_from script zero script.vats (machine.begins script) ≡ Goes w) (stepped : machine.steps_from script es 1 w ≡ Goes x) (h : Mirrors x X) where
   abbrev n : ℕ
   n = 1 + length es
@@ -71,7 +71,7 @@ module _ (script : Script) (lawful : IsLawful script) (logs : ExportsAreAsLogged
     notice_goes r e =
         let y = world_left x v r head x.connections in let after = at_end x X v s m r head h at there in
         notice_mirrors script n v x X s m r h at there u (step_number script n)
-        (facts script lawful logs w x X es rest (NoticeLink v u) split opened stepped h v s m at there r head (steps_on r e)
+        (facts script lawful w x X es rest (NoticeLink v u) split opened stepped h v s m at there r head (steps_on r e)
         ((messages_in_order script lawful.0).1 w x y es (NoticeLink v u) 1 opened stepped (steps_on r e) s r at after)
         ((names_told script lawful.0).1 w x y es (NoticeLink v u) 1 opened stepped (steps_on r e) s r at after)) e
 
@@ -79,7 +79,7 @@ module _ (script : Script) (lawful : IsLawful script) (logs : ExportsAreAsLogged
     unfolding machine.names does readied table_across brought
     notice_ends c r e =
         let word = draw_word script.key in let what : Step Name Name = Notices u in let t : Vat Name = readied x s in
-        let is : SoundIn x v s = sound script lawful logs w x X es rest (NoticeLink v u) split opened stepped h v s m at there in
+        let is : SoundIn x v s = sound script lawful w x X es rest (NoticeLink v u) split opened stepped h v s m at there in
         let b = left_bounded word v what t r c e (λ z. 0) (λ z. steps_know_once word v what t z) is.bounded.0 (fits x v s s.queue is.bounded) in
         let table = left_table word v what t r c e x b ((notices word v u).after t) is.kinds is.exports in
         notice_stops script v x X s m c r h at there (table_across x v r) table (stops_on word x v s t r what c e refl refl) refl refl u (step_number script n) head e
@@ -101,5 +101,5 @@ module _ (script : Script) (lawful : IsLawful script) (logs : ExportsAreAsLogged
       by None e = none_notices e
       by (Some s) e = let m = there_is X.members v (subst (λ c. v < c) (sym h.count) (slice_get_within x.vats v s e)) in some_notices s m.0 e m.1
 
-pub notices_so : ExportsAreAsLogged → NoticesMirror
-notices_so logs script lawful v u w x X es rest split opened stepped h = notice_is script lawful logs v u w x X es rest split opened stepped h
+pub notices_so : NoticesMirror
+notices_so script lawful v u w x X es rest split opened stepped h = notice_is script lawful v u w x X es rest split opened stepped h

@@ -25,6 +25,7 @@ use Rattle.law_reference.proofs.NameTableSteps.{steps_know_once}
 use Rattle.law_frame.specs.AlikeArrivals.{table_across}
 use Rattle.law_frame.proofs.Openings.{later_stay, begins_at, root_first, root_next}
 use Rattle.law_frame.proofs.Untouched.{every_position}
+use Rattle.law_hearing.proofs.CutRuns.{exports_logged}
 use Rattle.law_stops.proofs.Entries.{SoundIn, fits}
 use Rattle.law_stops.proofs.Parted.{opens}
 use Rattle.law_stops.proofs.Tables.{left_bounded, left_table}
@@ -33,7 +34,7 @@ use Rattle.law_told.proofs.Promises.{own_promises_ordered}
 use Rattle.def_local.specs.Vats.{Member}
 use Rattle.def_local.specs.Numbers as numbers
 use Rattle.def_local.specs.Numbers.{Vats}
-use Rattle.law_local.specs.Joined.{ExportsAreAsLogged, OpeningsMirror}
+use Rattle.law_local.specs.Joined.{OpeningsMirror}
 use Rattle.law_local.specs.Mirrors.{Mirrors, RunMirrors}
 use Rattle.law_local.specs.Steps.{world_left}
 use Rattle.law_local.specs.Writing.{PutsSo}
@@ -43,7 +44,7 @@ use Rattle.law_local.proofs.OpeningTurns.{opening_mirrors, opening_stops}
 use Rattle.law_local.proofs.Positions.{there_is}
 use Rattle.law_local.proofs.Puts.{each_puts_so}
 
-module _ (script : Script) (once : KnowsOnce script) (logs : ExportsAreAsLogged) (ps rest : List Program) (p : Program) (x : World) (X : Vats) (split : script.vats ≡ ps ++ p ∷ rest)
+module _ (script : Script) (once : KnowsOnce script) (ps rest : List Program) (p : Program) (x : World) (X : Vats) (split : script.vats ≡ ps ++ p ∷ rest)
     (opened : machine.open_from script zero ps (machine.begins script) ≡ Goes x) (h : Mirrors x X) where
   abbrev u : ℕ
   u = length ps
@@ -117,7 +118,7 @@ module _ (script : Script) (once : KnowsOnce script) (logs : ExportsAreAsLogged)
         tells = laws_tell u s r laws;
         keeps = λ v. (every_position script once).0 ps rest p x y split opened goes v;
         hosts = λ a b. ((positions_are_of_one_name (λ i. i) script).0 (ps ++ p ∷ []) y done a b).1;
-        logged = (logs script once).0 (ps ++ p ∷ []) rest y split_on done;
+        logged = (exports_logged script once).0 (ps ++ p ∷ []) rest y split_on done;
       }
 
       opening_goes : OpeningMirrors
@@ -149,7 +150,7 @@ module _ (script : Script) (once : KnowsOnce script) (logs : ExportsAreAsLogged)
         by (Ejects k v r) i z = absurd z
         by (Stops c r) i z = opening_ends c r i
 
-pub openings_so : ExportsAreAsLogged → OpeningsMirror
-openings_so logs script once ps rest p x X split opened h =
-    let m = there_is X.members (length ps) (subst (λ c. length ps < c) (sym h.count) (slice_get_within x.vats (length ps) (machine.fresh script (length ps) p) (at script once logs ps rest p x X split opened h))) in
-    opening_is script once logs ps rest p x X split opened h m.0 m.1
+pub openings_so : OpeningsMirror
+openings_so script once ps rest p x X split opened h =
+    let m = there_is X.members (length ps) (subst (λ c. length ps < c) (sym h.count) (slice_get_within x.vats (length ps) (machine.fresh script (length ps) p) (at script once ps rest p x X split opened h))) in
+    opening_is script once ps rest p x X split opened h m.0 m.1

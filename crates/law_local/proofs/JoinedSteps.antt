@@ -16,11 +16,11 @@ use Rattle.law_reference.specs.Tables.{table_of, EachHasTable}
 use Rattle.law_frame.specs.AlikeArrivals.{table_across}
 use Rattle.law_frame.specs.Exports.{KeepsPositions}
 use Rattle.law_frame.proofs.Own.{known_on}
+use Rattle.law_hearing.specs.Exported.{ExportsLogged}
 use Rattle.law_stops.proofs.Tables.{after_stops}
 use Rattle.def_local.specs.Vats.{Member}
 use Rattle.def_local.specs.Numbers.{Vats}
 use Rattle.law_local.specs.Mirrors.{Mirrors}
-use Rattle.law_local.specs.Joined.{ExportsLogged}
 use Rattle.law_local.specs.Naming.{Tells}
 use Rattle.law_local.specs.Steps.{world_left, OwnStepStands}
 use Rattle.law_local.specs.Writing.{PutsSo}

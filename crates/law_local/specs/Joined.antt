@@ -1,26 +1,13 @@
 -- The whole run in numbers is the machine's, where carries are so.
-use Rattle.std.specs.Prelude.{◌≡◌, ℕ, zero, ◌+◌, List, ◌∷◌, ◌++◌, Some, length, slice_get}
-use Rattle.def_machine.specs.Values.{Name}
-use Rattle.def_machine.specs.State.{Vat}
-use Rattle.def_run.specs.Wire.{connected_at}
+use Rattle.std.specs.Prelude.{◌≡◌, ℕ, zero, ◌+◌, List, ◌∷◌, ◌++◌, length, slice_get}
 use Rattle.def_run.specs.World as machine
 use Rattle.def_run.specs.World.{Script, Program, Entry, Turn, Carry, NoticeLink, World, Goes}
 use Rattle.def_local.specs.Numbers as numbers
 use Rattle.def_local.specs.Numbers.{Vats}
 use Rattle.law_name.specs.Runs.{KnowsOnce}
-use Rattle.law_reference.specs.ApartAsking.{InRunsBehindCuts}
 use Rattle.law_reference.specs.Cuts.{NoticesFollowCuts}
-use Rattle.law_reference.specs.Logs.{exports}
 use Rattle.law_local.specs.Mirrors.{Mirrors, RunMirrors}
 use Rattle.law_local.specs.Runs.{EachStepMirrors}
-
--- What a vat has of its exports to another is what all notes tell that it ever put on the link, be that cut or not.
-abbrev pub ExportsLogged : World → Type 0
-ExportsLogged w = (v u : ℕ) (r s : Vat Name) → slice_get w.vats v ≡ Some r → slice_get w.vats u ≡ Some s → (v ≡ u → ⊥) → (connected_at v u w.connections).tables.exports ≡ exports (λ i. i) w.links v u
-
--- so in each world of a run in which each notice stands behind a cut of the same two vats
-abbrev pub ExportsAreAsLogged : Type 0
-ExportsAreAsLogged = InRunsBehindCuts ExportsLogged
 
 -- ---- entries
 
