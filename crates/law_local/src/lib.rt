@@ -4,3 +4,4 @@
 pub mod carrying;
 pub mod hearing;
 pub mod parts;
+pub mod whole;
