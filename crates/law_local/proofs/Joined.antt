@@ -91,7 +91,7 @@ module _ (script : Script) (lawful : IsLawful script) (w x : World) (X : Vats) (
       puts : PutsSo u r
       puts = (each_puts_so script once).1 w y (es ++ entry ∷ []) 1 opened later u r after
 
-      laws : Laws u s r
+      laws : Laws u s r None
       laws = record {
         messages = mails;
         apart = (names_apart script once).1 w y (es ++ entry ∷ []) 1 opened later u r after;

@@ -1,5 +1,5 @@
 -- Opening turns lead where the machine's do.
-use Rattle.std.proofs.Common.{◌≡◌, ℕ, zero, suc, ◌+◌, ◌<◌, List, [], ◌∷◌, ◌++◌, Some, refl, sym, ap, ◌∙◌, subst, length, append_assoc, arith}
+use Rattle.std.proofs.Common.{◌≡◌, ℕ, zero, suc, ◌+◌, ◌<◌, List, [], ◌∷◌, ◌++◌, Some, None, refl, sym, ap, ◌∙◌, subst, length, append_assoc, arith}
 use Rattle.std.specs.Prelude.{slice_get}
 use Rattle.std.proofs.lemmas.Option.{slice_get_within}
 use Rattle.def_machine.specs.Values.{Name, Root, Prom, naming}
@@ -98,7 +98,7 @@ module _ (script : Script) (once : KnowsOnce script) (ps rest : List Program) (p
       puts : PutsSo u r
       puts = (each_puts_so script once).0 (ps ++ p ∷ []) rest y split_on done u r after
 
-      laws : Laws u s r
+      laws : Laws u s r None
       laws = record {
         messages = (messages_in_order script once).0 ps rest p x y split opened goes s r at after;
         apart = (names_apart script once).0 (ps ++ p ∷ []) rest y split_on done u r after;

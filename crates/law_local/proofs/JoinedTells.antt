@@ -1,5 +1,5 @@
--- What a step that no note brought tells, by the laws of what steps tell.
-use Rattle.std.proofs.Common.{◌≡◌, ℕ, zero, suc, ◌+◌, ◌-◌, ◌≤◌, Bool, true, false, List, [], ◌∷◌, ◌++◌, ◌⊎◌, inl, inr, None, refl, sym, ap, ◌∙◌, subst, length, drop, arith}
+-- What a step tells, by the laws of what steps tell.
+use Rattle.std.proofs.Common.{◌≡◌, ℕ, zero, suc, ◌+◌, ◌-◌, ◌≤◌, Bool, true, false, List, [], ◌∷◌, ◌++◌, ◌⊎◌, inl, inr, Option, None, refl, sym, ap, ◌∙◌, subst, length, drop, arith}
 use Rattle.std.proofs.lemmas.Bool.{eq-eqb}
 use Rattle.def_machine.specs.Values.{Name, Promise, Gift}
 use Rattle.def_machine.specs.State.{Note, Deliver, Open, Ask, SettledTo, Elsewhere, Shorten, Put, GiftEntry, Happened, Sends, Reacts, Vat}
@@ -9,7 +9,7 @@ use Rattle.law_name.proofs.Facts.{all_map}
 use Rattle.def_local.specs.Names.{own_mails}
 use Rattle.law_frame.specs.Lines.{LineFits, AnswersIn}
 use Rattle.law_told.specs.Told as told
-use Rattle.law_told.specs.Told.{is_own_promise, own_promises, promises_from, carried_by, AsksKnown, IsTold}
+use Rattle.law_told.specs.Told.{is_own_promise, own_promises, promises_from, carried_by, AsksKnown, IsBroughtBy, IsTold}
 use Rattle.law_local.specs.Naming.{SomeOf, message_of, MessageTells, NoteTells, IsItsAnswer, AsksAs, IsOwnPromise, InOrder, Tells}
 
 -- ---- the vat's own promises, in order
@@ -98,28 +98,34 @@ note_tells r h w (SettledTo n y) k = tt
 note_tells r h w (Elsewhere n c) k = tt
 note_tells r h w (Shorten n c i) k = tt
 
-told_so : (u : ℕ) (s r : Vat Name) (n : Name) → IsTold u s None r n → IsOwnPromise u n ⊎ (SomeOf (λ (e : Happened Name). IsItsAnswer n (message_of e)) r.happened ⊎ (SomeOf (λ (p : Put Name). AsksAs n p.note) r.outbox ⊎ (SomeOf (λ (g : GiftEntry Name). g.name ≡ n) (drop (length s.gifts) r.gifts) ⊎ IsAmong n [])))
-told_so u s r n (inl i) = inl i
-told_so u s r n (inr (inl a)) = inr (inl (some_of (λ (e : Happened Name). IsItsAnswer n (message_of e)) r.happened a.0 a.1 (answers_so a.0 n a.2)))
-told_so u s r n (inr (inr (inl a))) = inr (inr (inl (some_of (λ (p : Put Name). AsksAs n p.note) r.outbox a.0 a.1 (asks_so a.0.note n a.2))))
-told_so u s r n (inr (inr (inr (inl a)))) = inr (inr (inr (inl (some_of (λ (g : GiftEntry Name). g.name ≡ n) (drop (length s.gifts) r.gifts) a.0 a.1 a.2))))
-told_so u s r n (inr (inr (inr (inr a)))) = absurd a
+-- where what the note that arrived brought came, if one did
+told_so : (u : ℕ) (s r : Vat Name) (o : Option (Note Name)) (came : List Name) (n : Name) → (IsBroughtBy u (names_in s.known) o n → IsAmong n came) → IsTold u s o r n
+    → IsOwnPromise u n ⊎ (SomeOf (λ (e : Happened Name). IsItsAnswer n (message_of e)) r.happened ⊎ (SomeOf (λ (p : Put Name). AsksAs n p.note) r.outbox ⊎ (SomeOf (λ (g : GiftEntry Name). g.name ≡ n) (drop (length s.gifts) r.gifts) ⊎ IsAmong n came)))
+told_so u s r o came n f (inl i) = inl i
+told_so u s r o came n f (inr (inl a)) = inr (inl (some_of (λ (e : Happened Name). IsItsAnswer n (message_of e)) r.happened a.0 a.1 (answers_so a.0 n a.2)))
+told_so u s r o came n f (inr (inr (inl a))) = inr (inr (inl (some_of (λ (p : Put Name). AsksAs n p.note) r.outbox a.0 a.1 (asks_so a.0.note n a.2))))
+told_so u s r o came n f (inr (inr (inr (inl a)))) = inr (inr (inr (inl (some_of (λ (g : GiftEntry Name). g.name ≡ n) (drop (length s.gifts) r.gifts) a.0 a.1 a.2))))
+told_so u s r o came n f (inr (inr (inr (inr a)))) = inr (inr (inr (inr (f a))))
 
--- What the laws say of a step of vat u from state s to state r that no note brought.
-pub record Laws (u : ℕ) (s r : Vat Name) : Type 0 where
-  pub messages : (s.messages ≤ r.messages) × (r.mails ≡ s.mails ++ carried_by None ++ own_mails u s.messages (r.messages - s.messages))
+-- what follows of each that is there
+all_there : {A : Type 0} (P Q : A → Type 0) (xs ys : List A) → ((x : A) → IsAmong x ys → IsAmong x xs) → ((x : A) → IsAmong x xs → P x → Q x) → AllOf P ys → AllOf Q ys
+all_there P Q xs [] f g h = tt
+all_there P Q xs (y ∷ ys) f g h = (g y (f y (inl refl)) h.0, all_there P Q xs ys (λ x a. f x (inr a)) g h.1)
+
+-- What the laws say of a step of vat u from state s to state r, which note o brought, if one did.
+pub record Laws (u : ℕ) (s r : Vat Name) (o : Option (Note Name)) : Type 0 where
+  pub messages : (s.messages ≤ r.messages) × (r.mails ≡ s.mails ++ carried_by o ++ own_mails u s.messages (r.messages - s.messages))
   pub apart : AllOf IsEventual (names_in r.known) × AllOf IsMessageName r.mails
   pub hosts : AllOf HostIsTrue r.known
   pub lines : AllOf (LineFits (names_in r.known) r.mails) r.happened
   pub notes : AllOf (λ (p : Put Name). AsksKnown r p.to p.note) r.outbox
   pub gifts : AllOf (λ (g : GiftEntry Name). (g.name ≡ Gift u g.number) × IsAmong g.name (names_in r.known)) r.gifts
-  pub news : (ns : List Name) × (names_in r.known ≡ names_in s.known ++ ns) × AllOf (IsTold u s None r) ns
+  pub news : (ns : List Name) × (names_in r.known ≡ names_in s.known ++ ns) × AllOf (IsTold u s o r) ns
   pub own_before : own_promises u (names_in s.known) ≡ promises_from u zero s.promises
   pub own_after : own_promises u (names_in r.known) ≡ promises_from u zero r.promises
 
-pub laws_tell : (u : ℕ) (s r : Vat Name) → Laws u s r → Tells u s r [] []
-unfolding carried_by
-laws_tell u s r h = record {
+pub laws_tell_of : (u : ℕ) (s r : Vat Name) (o : Option (Note Name)) (h : Laws u s r o) (came : List Name) → ((n : Name) → IsAmong n (let t = h.news in t.0) → IsBroughtBy u (names_in s.known) o n → IsAmong n came) → Tells u s r (carried_by o) came
+laws_tell_of u s r o h came f = record {
   new = h.news.0;
   grows = h.news.1;
   mails = h.messages.1;
@@ -128,6 +134,11 @@ laws_tell u s r h = record {
   lines = all_map (λ (e : Happened Name) i. line_tells (names_in r.known) r.mails e i) r.happened h.lines;
   notes = all_map (λ (p : Put Name) i. note_tells r h.apart.1 p.to p.note i) r.outbox h.notes;
   gifts = of_drop (λ (g : GiftEntry Name). g.name ≡ Gift u g.number) (length s.gifts) r.gifts (all_map (λ (g : GiftEntry Name) i. i.0) r.gifts h.gifts);
-  all = all_map (λ n i. told_so u s r n i) h.news.0 h.news.2;
+  all = all_there (IsTold u s o r) _ h.news.0 h.news.0 (λ n a. a) (λ n a i. told_so u s r o came n (f n a) i) h.news.2;
   order = new_in_order u s.promises r.promises (names_in s.known) h.news.0 (names_in r.known) h.news.1 h.own_before h.own_after;
 }
+
+-- where no note did
+pub laws_tell : (u : ℕ) (s r : Vat Name) → Laws u s r None → Tells u s r [] []
+unfolding carried_by
+laws_tell u s r h = laws_tell_of u s r None h [] (λ n a i. i)

@@ -18,7 +18,6 @@ pub mod OpeningTurns
 pub mod CarryLinks
 pub mod CarryArrives
 pub mod CarryNew
-pub mod CarryTells
 pub mod CarryGifts
 pub mod CarryNames
 pub mod CarryHeard
@@ -35,3 +34,4 @@ pub mod Joined
 pub mod JoinedNotices
 pub mod JoinedOpenings
 pub mod JoinedRuns
+pub mod WholeRuns

@@ -7,3 +7,4 @@ pub mod Runs
 pub mod Hearing
 pub mod Carrying
 pub mod Joined
+pub mod Whole

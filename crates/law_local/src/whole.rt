@@ -4,6 +4,7 @@
 //! Of a script they ask that no vat is told twice that it knows a vat, or that it knows itself, and that each notice stands behind a cut of
 //! the same two vats; so it is of every script that is read (`law_script`).
 
+ghost use Rattle.law_local.specs.Whole.{WholeRunsMirror, WholeTextsMirror};
 ghost use Rattle.law_local.specs.Joined.{TurnsMirror, NoticesMirror, OpeningsMirror, OthersMirror, RunsMirrorWhereCarriesDo};
 
 /// A turn in the run of a script, from all that stands for what it finds, leads where the machine's does: both go on so, both find nothing
@@ -30,4 +31,15 @@ pub fn steps_mirror_where_carries_do()
 /// And the whole run, to its closing list or to where it stops.
 pub fn runs_mirror_where_carries_do()
     ensures { RunsMirrorWhereCarriesDo }
+{}
+
+/// The run of a script in each vat's own numbers is the machine's run: both go to the end and stand for one another there, or both stop in the
+/// same step for the same reason.
+pub fn whole_runs_mirror()
+    ensures { WholeRunsMirror }
+{}
+
+/// And their texts are one, with the frames and without.
+pub fn whole_texts_mirror()
+    ensures { WholeTextsMirror }
 {}
