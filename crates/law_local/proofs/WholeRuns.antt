@@ -1,5 +1,5 @@
 -- Carries do, so whole runs do.
-use Rattle.std.proofs.Common.{◌≡◌, ◌+◌, [], ◌∷◌, length, subst}
+use Rattle.std.proofs.Common.{◌+◌, [], ◌∷◌, length, subst}
 use Rattle.def_run.specs.World as machine
 use Rattle.def_run.specs.World.{Script, Carry}
 use Rattle.law_reference.specs.Cuts.{NoticesFollowCuts}
