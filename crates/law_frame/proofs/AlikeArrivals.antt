@@ -97,7 +97,7 @@ module _ (script : Script) (k v u : ℕ) (x : World) (l : Link) (n : Note Name) 
   uncut_or true p q e = cc
   uncut_or false p q e = refl
 
-  link_arrives : (o : Option Link) → o ≡ Some l → l.cut ≡ false → l.notes ≡ n ∷ ns → slice_get x.vats u ≡ Some s → world.carry_link script k v u x o ≡ Put
+  pub link_arrives : (o : Option Link) → o ≡ Some l → l.cut ≡ false → l.notes ≡ n ∷ ns → slice_get x.vats u ≡ Some s → world.carry_link script k v u x o ≡ Put
   unfolding world.carry_link
   link_arrives o e c h f = rw e (uncut_or l.cut (world.idle script k x) (world.carry_notes script k v u x l.notes) c ∙ notes_arrive l.notes h f)
 

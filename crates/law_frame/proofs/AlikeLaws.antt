@@ -30,7 +30,7 @@ use Rattle.law_frame.proofs.Reading.{Before, Stage, Asks, NoteAlike, Ends, open_
 use Rattle.law_frame.proofs.Worlds.{proper, between, Providers, provides, ahead, known, before, stage, ends, asks, asked_stands, asked_for}
 
 -- the names known before a note are the first of those known after it
-heard_starts : (ks : List Name) (n : Note Name) → Starts ks (names_heard ks n)
+pub heard_starts : (ks : List Name) (n : Note Name) → Starts ks (names_heard ks n)
 unfolding names_heard
 heard_starts ks (Deliver m n verb ys) = let one = (world.read_all ys ks).known in starts_on ks one (world.known_after one n) (all_known ys ks) (after_starts one n)
 heard_starts ks (Open i n) = after_starts ks n

@@ -39,7 +39,7 @@ once_new F ks n f o a = once_not ks f.0 n a (subst (λ ns. Once ns) (f.1 ∙ app
 
 -- ---- names are added at the end
 
-abbrev Grows : Vat Name → Vat Name → Type 0
+abbrev pub Grows : Vat Name → Vat Name → Type 0
 Grows s t = Starts (names_in s.known) (names_in t.known)
 
 grows_same : (s t : Vat Name) → names_in t.known ≡ names_in s.known → Grows s t
@@ -49,7 +49,7 @@ grows_end : (ks : List (Known Name)) (n : Name) (h : ℕ) → Starts (names_in k
 unfolding begun
 grows_end ks n h = (n ∷ [], names_end ks (begun n h))
 
-kept : IsKept Grows
+pub kept : IsKept Grows
 kept = record {
   same = λ s. grows_same s s refl;
   trans = λ {s} {t} {u} h k. starts_on (names_in s.known) (names_in t.known) (names_in u.known) h k;
@@ -69,7 +69,7 @@ kept = record {
   drawn = λ s w. starts_same (names_in s.known);
 }
 
-kept_under : (K : Naming Name Name) → IsKeptUnder K Grows
+pub kept_under : (K : Naming Name Name) → IsKeptUnder K Grows
 kept_under K = record {
   altered = λ s c n. grows_same s (record s { known = with_change K c n s.known }) (names_change K c n s.known);
   came = λ s c h. grows_end s.known _ h;
@@ -86,7 +86,7 @@ abbrev AskedNew : List Name → Vat Name → Vat Name → Type 0
 AskedNew ks s t = (ps : List (Put Name)) × (t.outbox ≡ s.outbox ++ ps) × AllOf (λ (p : Put Name). IsNewAsk ks p.note) ps
 
 -- Where ks are the names known before, and what is known in the end is known once: those known after are k1, each note that was put asks for a gift that is new, and nothing stops.
-abbrev Learns : {A : Type 0} → List Name → List Name → Vat Name → Done Name A → Type 0
+abbrev pub Learns : {A : Type 0} → List Name → List Name → Vat Name → Done Name A → Type 0
 Learns ks k1 s (Gives a t) = (F : List Name) → Starts (names_in t.known) F → Once F → (names_in t.known ≡ k1) × AskedNew ks s t
 Learns ks k1 s (Throws p t) = Unit {0}
 Learns ks k1 s (Ejects n y t) = Unit {0}
@@ -209,7 +209,7 @@ module _ (word : ℕ → ℕ) (v : ℕ) where
   name_either ks n s e true = λ F f o. (e, nothing_asked ks s s refl)
   name_either ks n s e false = λ F f o. (names_end s.known (begun n (host_of n)) ∙ ap (λ ns. ns ++ n ∷ []) e, nothing_asked ks s (record s { known = s.known ++ begun n (host_of n) ∷ [] }) refl)
 
-  name_learns : (ks : List Name) (n : Name) (s : Vat Name) → names_in s.known ≡ ks → Learns ks (world.known_after ks n) s (arrive.learn_name K (world.read_name ks n) s)
+  pub name_learns : (ks : List Name) (n : Name) (s : Vat Name) → names_in s.known ≡ ks → Learns ks (world.known_after ks n) s (arrive.learn_name K (world.read_name ks n) s)
   unfolding world.read_name world.known_after
   name_learns ks n s e = name_either ks n s e (world.is_old ks n)
 
@@ -270,7 +270,7 @@ module _ (word : ℕ → ℕ) (v : ℕ) where
     passed_learns from ks (AGift h i) s e = gift_learns ks from h i s e
     passed_learns from ks (Many ys) s e = let k1 = (world.read_all ys ks).known in then_learns ks k1 k1 s (arrive.learn_all K from (world.read_all ys ks).read s) (λ vs. arrive.make_list K vs) (all_known ys ks) (all_learns from ks ys s e) (λ vs. keeps_make_list K Grows kept (kept_under K) vs) (λ vs t f. list_learns k1 vs t f)
 
-    all_learns : (from : ℕ) (ks : List Name) (ys : Passeds Name) (s : Vat Name) → names_in s.known ≡ ks → Learns ks (world.read_all ys ks).known s (arrive.learn_all K from (world.read_all ys ks).read s)
+    pub all_learns : (from : ℕ) (ks : List Name) (ys : Passeds Name) (s : Vat Name) → names_in s.known ≡ ks → Learns ks (world.read_all ys ks).known s (arrive.learn_all K from (world.read_all ys ks).read s)
     all_learns from ks NoMore s e = give_learns ks [] s e
     all_learns from ks (More y ys) s e = let k1 = (world.read_passed y ks).known in let k2 = (world.read_all ys k1).known in
         then_learns ks k1 k2 s (arrive.learn K from (world.read_passed y ks).read s) (λ z. arrive.learn_all K from (world.read_all ys k1).read >>= (λ zs. give (z ∷ zs))) (passed_known y ks) (passed_learns from ks y s e)
@@ -368,14 +368,14 @@ module _ (word : ℕ → ℕ) (v : ℕ) where
   learnt_begins ks k1 s t l (Ejects n y u) g = tt
   learnt_begins ks k1 s t l (Stops c u) g = λ o. let one = l (names_in u.known) g o in subst (λ ns. Starts ns (names_in u.known)) one.0 g
 
-  begins_with : {A : Type 0} (ks k1 : List Name) (s : Vat Name) (d : Done Name A) (f : A → Act Name (Unit {0})) → Learns ks k1 s d → ((a : A) → Keeps Grows (f a)) → Begins k1 (and_then d f)
+  pub begins_with : {A : Type 0} (ks k1 : List Name) (s : Vat Name) (d : Done Name A) (f : A → Act Name (Unit {0})) → Learns ks k1 s d → ((a : A) → Keeps Grows (f a)) → Begins k1 (and_then d f)
   unfolding and_then
   begins_with ks k1 s (Gives a t) f l g = learnt_begins ks k1 s t l (f a t) ((g a).after t)
   begins_with ks k1 s (Throws p t) f l g = tt
   begins_with ks k1 s (Ejects n y t) f l g = tt
   begins_with ks k1 s (Stops c t) f l g = λ o. absurd (l (names_in t.known) (starts_same (names_in t.known)) o)
 
-  begun_by : (ks k1 k2 : List Name) (s t : Vat Name) → ((F : List Name) → Starts (names_in t.known) F → Once F → (names_in t.known ≡ k1) × AskedNew ks s t) → (d : Done Name (Unit {0})) → After Grows t d → (names_in t.known ≡ k1 → Begins k2 d) → Begins k2 d
+  pub begun_by : (ks k1 k2 : List Name) (s t : Vat Name) → ((F : List Name) → Starts (names_in t.known) F → Once F → (names_in t.known ≡ k1) × AskedNew ks s t) → (d : Done Name (Unit {0})) → After Grows t d → (names_in t.known ≡ k1 → Begins k2 d) → Begins k2 d
   begun_by ks k1 k2 s t l (Gives b u) g f = λ o. f (l (names_in u.known) g o).0 o
   begun_by ks k1 k2 s t l (Throws p u) g f = tt
   begun_by ks k1 k2 s t l (Ejects n y u) g f = tt
@@ -388,19 +388,19 @@ module _ (word : ℕ → ℕ) (v : ℕ) where
   then_begins ks k1 k2 s (Ejects n y t) f l g h = tt
   then_begins ks k1 k2 s (Stops c t) f l g h = λ o. absurd (l (names_in t.known) (starts_same (names_in t.known)) o)
 
-  grows_begins : (ks : List Name) (s : Vat Name) → names_in s.known ≡ ks → (d : Done Name (Unit {0})) → After Grows s d → Begins ks d
+  pub grows_begins : (ks : List Name) (s : Vat Name) → names_in s.known ≡ ks → (d : Done Name (Unit {0})) → After Grows s d → Begins ks d
   grows_begins ks s e (Gives a t) g = λ o. subst (λ ns. Starts ns (names_in t.known)) e g
   grows_begins ks s e (Throws p t) g = tt
   grows_begins ks s e (Ejects n y t) g = tt
   grows_begins ks s e (Stops c t) g = λ o. subst (λ ns. Starts ns (names_in t.known)) e g
 
-  abbrev Answered : ℕ → Words → Name → List (Value Name) → Name → Act Name (Unit {0})
+  abbrev pub Answered : ℕ → Words → Name → List (Value Name) → Name → Act Name (Unit {0})
   Answered from verb id args n = look (λ s. s.number) >>= (λ u. come K (IsAnswer u id) u >>= (λ a. alter K (ToTell from) a >> refs.send_on K (refs.settle K) (record { id = id; target = Ref n; verb = verb; args = args; answer = Some a })))
 
-  abbrev SentOn : Bool → ℕ → Words → Name → List (Value Name) → Name → Act Name (Unit {0})
+  abbrev pub SentOn : Bool → ℕ → Words → Name → List (Value Name) → Name → Act Name (Unit {0})
   SentOn b from verb id args n = if b then Answered from verb id args n else refs.send_on K (refs.settle K) (record { id = id; target = Ref n; verb = verb; args = args; answer = None })
 
-  sent_keeps : (b : Bool) (from : ℕ) (verb : Words) (id : Name) (args : List (Value Name)) (n : Name) → Keeps Grows (SentOn b from verb id args n)
+  pub sent_keeps : (b : Bool) (from : ℕ) (verb : Words) (id : Name) (args : List (Value Name)) (n : Name) → Keeps Grows (SentOn b from verb id args n)
   sent_keeps false from verb id args n = keeps_send_on K Grows kept (kept_under K) (refs.settle K) (keeps_settle K Grows kept (kept_under K)) (record { id = id; target = Ref n; verb = verb; args = args; answer = None })
   sent_keeps true from verb id args n = let law = kept_under K in keeps_bind Grows kept (keeps_look Grows kept (λ s. s.number)) (λ u. keeps_bind Grows kept (keeps_come K Grows law (IsAnswer u id) u) (λ a. keeps_then Grows kept (keeps_alter K Grows law (ToTell from) a) (keeps_send_on K Grows kept law (refs.settle K) (keeps_settle K Grows kept law) (record { id = id; target = Ref n; verb = verb; args = args; answer = Some a }))))
 

@@ -1,7 +1,7 @@
 pub mod Lists
 pub mod Hears
 pub mod Grows
-mod Maps
+pub mod Maps
 pub mod Places
 pub mod Written
 pub mod Seen
@@ -30,6 +30,7 @@ pub mod Reading
 pub mod AlikeAsking
 pub mod Order
 pub mod Learning
+pub mod Answering
 pub mod OrderRuns
 pub mod Worlds
 pub mod AlikeLaws

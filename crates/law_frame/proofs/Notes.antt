@@ -14,7 +14,7 @@ use Rattle.law_frame.proofs.AlikeArrivals.{new_last, arrivals_by_numbers, positi
 use Rattle.law_frame.specs.Notes.{EveryNoteIsReadAlike, EveryPositionIsKeptAlike, EveryArrivalStands}
 
 -- a carry is no notice
-carry_follows : (done es : List Entry) (v u : ℕ) → NoticesFollow done es → NoticesFollow done (es ++ Carry v u ∷ [])
+pub carry_follows : (done es : List Entry) (v u : ℕ) → NoticesFollow done es → NoticesFollow done (es ++ Carry v u ∷ [])
 carry_follows done [] v u h = tt
 carry_follows done (Turn a ∷ es) v u h = carry_follows (Turn a ∷ done) es v u h
 carry_follows done (Carry a b ∷ es) v u h = carry_follows (Carry a b ∷ done) es v u h

@@ -29,7 +29,7 @@ use Rattle.law_frame.proofs.Learning.{Ordered, note_ordered}
 
 -- ---- names that differ are known once
 
-among_get : (n : Name) (ns : List Name) → IsAmong n ns → (j : ℕ) × (slice_get ns j ≡ Some n)
+pub among_get : (n : Name) (ns : List Name) → IsAmong n ns → (j : ℕ) × (slice_get ns j ≡ Some n)
 among_get n [] a = absurd a
 among_get n (m ∷ ns) (inl e) = (zero, ap Some (sym e))
 among_get n (m ∷ ns) (inr a) = let r = among_get n ns a in (suc r.0, r.1)

@@ -5,6 +5,7 @@ use Rattle.def_machine.specs.Values.{Name, Gift, host_of}
 use Rattle.def_machine.specs.State.{Known, Note, Deliver, Open, Ask, SettledTo, Elsewhere, Shorten, Vat}
 use Rattle.def_machine.specs.Arrive.{Incoming}
 use Rattle.def_run.specs.Connections.{Connection, Learnt, Stage, Heard, learnt_at}
+use Rattle.def_run.specs.Wire as conn
 use Rattle.def_run.specs.Wire.{Connected, connected_at}
 use Rattle.def_run.specs.World as world
 use Rattle.def_run.specs.World.{Script, Entry, Link, World, Goes as Going, link_at, has_name, names_of, read_note}
@@ -36,10 +37,10 @@ use Rattle.law_frame.proofs.WireRuns.{stepped_both}
 use Rattle.law_frame.proofs.Worlds as next
 use Rattle.law_hearing.specs.Hearing.{IsAsLogged, IsNumbered, NotesAreNumbered, ListsAreAsLogged, stage_before, IsHeard, NextFramesAreHeard, KnowsGifts, FramesAreHeardByGifts}
 use Rattle.def_op.specs.Frames.{Operation}
-use Rattle.def_run.specs.Connections.{asked_in}
-use Rattle.def_run.specs.Wire.{sight}
+use Rattle.def_run.specs.Connections.{asked_in, exported_note, frame_now}
+use Rattle.def_run.specs.Wire.{sight, frame_due}
 use Rattle.law_hearing.proofs.Pairs.{stepped_paired}
-use Rattle.law_hearing.proofs.Kept.{AreKept, Kept, Noted, kept_exports, kept_questions}
+use Rattle.law_hearing.proofs.Kept.{AreKept, Kept, Noted, exported_same, kept_exports, kept_questions}
 use Rattle.law_hearing.proofs.Read as read
 use Rattle.law_hearing.proofs.Read.{Fits, with_message, read_next}
 use Rattle.law_hearing.proofs.Steps.{Asked}
@@ -135,6 +136,14 @@ module _ (script : Script) (once : KnowsOnce script) (w x : World) (es : List En
       had : (t : Connection Name) × read.Next v u (Asked x v u) A C D (message_of n) n ns l.log l.roots first from d_from d_to given heard fits t
       had = read.next v u (Asked x v u) A C D (message_of n) n ns l.log l.roots first from d_from d_to given heard fits
 
+      -- the next frame is what the sender wrote by tables whose exports, with those of the note, stand at the front of what it has now
+      pub as_written : (t : Connection Name) × (frame_due C D ≡ Some (frame_now (sight v u) n t)) × IsFront (exported_note (sight v u) t.answers n t.exports) C.tables.exports
+      as_written = let t = had.1 in let noted = t.noted in (
+        had.0,
+        t.due,
+        subst (λ (is : List Name). IsFront is C.tables.exports) (sym (exported_same v u (had.0).answers A n (had.0).exports noted.heard ∙ ap (λ (is : List Name). wire.with_note v A n is) t.exports)) t.later,
+      )
+
       same_note : with_message v u (message_of n) n ≡ n
       same_note = message_same v u n
 
@@ -166,7 +175,7 @@ module _ (script : Script) (once : KnowsOnce script) (w x : World) (es : List En
           all_among (IsKnownIn (names_in s.known)) (wire.exports (λ i. i) x.links u v) z ((exported_known script once).1 w x es k opened stepped u s gone v)
           (subst (λ ms. IsAmong z ms) logged.exports (in_front C.tables.imports D.tables.exports z given (in_front (had.0).imports C.tables.imports z grows.imports b)))
 
-      yours_known : (z : Name) → IsAmong z (told_in n) → host_of z ≡ u → IsKnownIn (names_in s.known) z
+      pub yours_known : (z : Name) → IsAmong z (told_in n) → host_of z ≡ u → IsKnownIn (names_in s.known) z
       yours_known z a e = let t = had.1 in let noted = t.noted in given_known z a e (noted.gives z a e)
 
       comes_from : (z : Name) → IsAmong z (told_in n) → host_of z ≡ v → IsAmong z (names_in s.known) → IsAmong z (had.0).answers ⊎ IsAmong z D.tables.imports
@@ -179,6 +188,21 @@ module _ (script : Script) (once : KnowsOnce script) (w x : World) (es : List En
       few : (i : ℕ) → gifts_in_note i n ≤ 1
       few i = let worldly = stepped_worldly script once w x es k follow opened stepped in let facts = worldly.facts in let knows = facts.knows in let past = knows.past in let counted = past.2 in let o = counted.1 in let most = o.count i in
           let sum = taken_sum i v u n ns l head x.links at in let one = under_drawn i x.drawn in omega arith
+
+      -- what the receiver has by position once the note has arrived, of what the sender exported to it
+      pub imports_now : conn.imports_after D.tables.imports (conn.read_frame D C (Name.Root C.from) (conn.first_stage D) (conn.frame_due C D)) ≡ exported_with x v u n
+      unfolding exported_with conn.imports_after conn.first_stage
+      imports_now = let logged = as_logged v u r s there gone other l at uncut in let reads = read_next v u (Asked x v u) A C D (Name.Root C.from) n ns l.log l.roots first from d_from d_to given heard fits (conn.first_stage D) refl in
+          ap (λ o. conn.imports_after D.tables.imports o) reads.0 ∙ reads.1 ∙ ap (λ (is : List Name). wire.with_note v A n is) logged.imports
+
+      -- the sender exported no less
+      pub exports_later : IsFront (exported_with x v u n) C.tables.exports
+      unfolding exported_with
+      exports_later = let logged = as_logged v u r s there gone other l at uncut in let t = had.1 in subst (λ (is : List Name). IsFront (wire.with_note v A n is) C.tables.exports) logged.imports t.later
+
+      -- and asked for no less than what has arrived and this note
+      pub questions_later : IsFront (D.tables.answers ++ asked_in (sight v u) n) C.tables.questions
+      questions_later = let t = had.1 in (wire.questions_in u ns, t.asks)
 
       module _ (gifts : List (Learnt Name)) (fresh : (h i : ℕ) → Passes (Gift h i) n → learnt_at h i gifts ≡ None) where
         at_start : At v u (had.0).answers (told_in n) (names_in s.known) (stage_before x v u s gifts)

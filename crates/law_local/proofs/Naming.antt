@@ -15,16 +15,16 @@ use Rattle.law_local.proofs.Sights.{some_name, some_mail, some_far, hosts_of, ho
 
 -- ---- lists
 
-all_join : {A : Type 0} (P : A → Type 0) (xs ys : List A) → AllOf P xs → AllOf P ys → AllOf P (xs ++ ys)
+pub all_join : {A : Type 0} (P : A → Type 0) (xs ys : List A) → AllOf P xs → AllOf P ys → AllOf P (xs ++ ys)
 all_join P [] ys h k = k
 all_join P (x ∷ xs) ys h k = (h.0, all_join P xs ys h.1 k)
 
-some_left : {A : Type 0} (P : A → Type 0) (xs ys : List A) → SomeOf P xs → SomeOf P (xs ++ ys)
+pub some_left : {A : Type 0} (P : A → Type 0) (xs ys : List A) → SomeOf P xs → SomeOf P (xs ++ ys)
 some_left P [] ys h = absurd h
 some_left P (x ∷ xs) ys (inl h) = inl h
 some_left P (x ∷ xs) ys (inr h) = inr (some_left P xs ys h)
 
-some_right : {A : Type 0} (P : A → Type 0) (xs ys : List A) → SomeOf P ys → SomeOf P (xs ++ ys)
+pub some_right : {A : Type 0} (P : A → Type 0) (xs ys : List A) → SomeOf P ys → SomeOf P (xs ++ ys)
 some_right P [] ys h = h
 some_right P (x ∷ xs) ys h = inr (some_right P xs ys h)
 
@@ -41,7 +41,7 @@ module _ {A B C : Type 0} (g : A → C) (h : B → C) (F : A → List Told) wher
   walk_some P R each xs [] e i = absurd i
   walk_some P R each [] (y ∷ ys) e i = cc
 
-map_drop : {A B : Type 0} (f : A → B) (i : ℕ) (xs : List A) → map f (drop i xs) ≡ drop i (map f xs)
+pub map_drop : {A B : Type 0} (f : A → B) (i : ℕ) (xs : List A) → map f (drop i xs) ≡ drop i (map f xs)
 map_drop f zero xs = refl
 map_drop f (suc i) [] = refl
 map_drop f (suc i) (x ∷ xs) = map_drop f i xs
@@ -58,7 +58,7 @@ module _ (P : Told → Type 0) where
   told_some k y [] h e = cc
   told_some k y (t ∷ ts) h e = at_or k y t (told_at k ts) (t.number == k) refl h.0 (λ i. told_some k y ts h.1 i) e
 
-abbrev At : ℕ → Told → Type 0
+abbrev pub At : ℕ → Told → Type 0
 At k t = t.number ≡ k
 
 none_or : (k : ℕ) (t : Told) (o : Option Name) (b : Bool) → (t.number == k) ≡ b → ◌≡◌ {A = Option Name} (elim b [ true ↦ Some t.name | false ↦ o ]) None → (t.number ≡ k → ⊥) × (o ≡ None)

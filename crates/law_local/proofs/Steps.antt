@@ -59,7 +59,7 @@ put_here [] i y z e = cc
 put_here (x ∷ xs) zero y z e = cc
 put_here (x ∷ xs) (suc i) y z e = put_here xs i y z e
 
-put_length : {A : Type 0} (xs : List A) (i : ℕ) (y : A) → length (put_at i y xs) ≡ length xs
+pub put_length : {A : Type 0} (xs : List A) (i : ℕ) (y : A) → length (put_at i y xs) ≡ length xs
 unfolding put_at
 put_length [] i y = refl
 put_length (x ∷ xs) zero y = refl
@@ -116,7 +116,7 @@ module _ (v : ℕ) (t z : Table) (more : Extends t z) where
   unfolding again
   more_found a n e = sym (found_again v t z more a) ∙ ap (again v t z more) e
 
-  names_still : (xs : List Local) (ns : List Name) → map (found v t) xs ≡ map Is ns → map (found v z) xs ≡ map Is ns
+  pub names_still : (xs : List Local) (ns : List Name) → map (found v t) xs ≡ map Is ns → map (found v z) xs ≡ map Is ns
   names_still [] ns e = none ns e
     where
       none : (ls : List Name) → ◌≡◌ {A = List Found} [] (map Is ls) → ◌≡◌ {A = List Found} [] (map Is ls)

@@ -4,3 +4,7 @@ pub mod Writing
 pub mod Naming
 pub mod Steps
 pub mod Runs
+pub mod Hearing
+pub mod Carrying
+pub mod Joined
+pub mod Whole

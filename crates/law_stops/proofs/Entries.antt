@@ -120,7 +120,7 @@ module _ (word : ℕ → ℕ) (x : World) (u : ℕ) (s : Vat Name) (is : SoundIn
   F = found u (table_across x u r)
 
   -- what the step began with knows no more than what it leaves
-  still : (t : Vat Name) (what : Step Name Name) → does (naming word u) what t ≡ Stops c r → t.known ≡ s.known → t.mails ≡ s.mails → StandsFor u (table_across x u r) q (readied x s)
+  pub still : (t : Vat Name) (what : Step Name Name) → does (naming word u) what t ≡ Stops c r → t.known ≡ s.known → t.mails ≡ s.mails → StandsFor u (table_across x u r) q (readied x s)
   still t what e i j = stands_on x u s (readied x s) r q
       (subst (λ ks. (k : ℕ) (n : _) → slice_get ks k ≡ Some n → (m : _) × (slice_get r.known k ≡ Some m) × (m.name ≡ n.name) × (m.host ≡ n.host)) i (after_stops SameNames t r c (does (naming word u) what t) e (names_stays (naming word u) what t)))
       (subst (λ ns. (k : ℕ) (n : Name) → slice_get ns k ≡ Some n → slice_get r.mails k ≡ Some n) j (after_stops SameMails t r c (does (naming word u) what t) e (mails_stays (naming word u) what t))) stands
@@ -158,7 +158,7 @@ module _ (word : ℕ → ℕ) (x : World) (u : ℕ) (s : Vat Name) (is : SoundIn
     unfolding readied names_of does
     note_starts = subst (λ d. Begins word u (names_heard (names_in s.known) n) d) outcome (note_begins word u v (names_in s.known) n (readied x s) refl) (left_once word u (Receives v (read_note (names_of s) n)) (readied x s) r c outcome note_bounded)
 
-    note_table : NoteOk IsOfKind n → IsTable u (table_across x u r)
+    pub note_table : NoteOk IsOfKind n → IsTable u (table_across x u r)
     unfolding readied names_of does
     note_table kind = left_table word u (Receives v (read_note (names_of s) n)) (readied x s) r c outcome x note_bounded ((arrives word u v (names_in s.known) n kind).after (readied x s)) is.kinds is.exports
 
@@ -177,7 +177,7 @@ module _ (script : Script) (once : KnowsOnce script) (w x : World) (es : List En
   abbrev word : ℕ → ℕ
   word = draw_word script.key
 
-  is : SoundIn x u s
+  pub is : SoundIn x u s
   is = record {
     bounded = steps_hold script es k w x (opens_hold script zero script.vats (world.begins script) w (begins_bounded script once) opened) (bring_new script once w es k follow opened) stepped u s there;
     kinds = (names_apart script once).1 w x es k opened stepped u s there;
@@ -213,7 +213,7 @@ module _ (script : Script) (once : KnowsOnce script) (w x : World) (es : List En
     abbrev Made : Note Name → Type 0
     Made m = NoteOk (IsMade x.vats x.drawn) m
 
-    first_kind : (m : Note Name) (ns : List (Note Name)) → l.notes ≡ m ∷ ns → NoteOk IsOfKind m
+    pub first_kind : (m : Note Name) (ns : List (Note Name)) → l.notes ≡ m ∷ ns → NoteOk IsOfKind m
     first_kind m ns head = note_up (IsMade x.vats x.drawn) IsOfKind (kind_made x.vats x.drawn) m
         (subst (λ ms. AllOf Made ms) head (subst (λ z. MayBe (λ (z : Link). AllOf Made z.notes) z) at (link_holds Made v u x.links ((notes_made script once).1 w x es k opened stepped)))).0
 
