@@ -1,5 +1,5 @@
 -- A message that was lost on a cut link has no place, and the vat for which it was does not know its answer.
-use Rattle.std.proofs.Common.{◌≡◌, ℕ, ◌+◌, ◌≤◌, Bool, true, false, List, [], ◌∷◌, Option, Some, None, refl, sym, ap, subst, ◌∙◌, ◌⊎◌, inl, inr, arith}
+use Rattle.std.proofs.Common.{◌≡◌, ℕ, ◌+◌, ◌≤◌, ◌<◌, Bool, true, false, List, [], ◌∷◌, Option, Some, None, refl, sym, ap, subst, ◌∙◌, ◌⊎◌, inl, inr, arith}
 use Rattle.std.specs.Prelude.{slice_get}
 use Rattle.def_machine.specs.Values.{Name, Answer, Sent, Msg}
 use Rattle.def_machine.specs.State.{Note, Put, Vat}
@@ -15,7 +15,7 @@ use Rattle.law_fate.specs.Sound.{StepArrives}
 use Rattle.law_fate.proofs.WorldLight.{VatSound, note_arrives, note_pays}
 use Rattle.law_fate.proofs.RunCounts.{with_link_changes}
 use Rattle.law_fate.proofs.RunWell.{note_comes, found_link}
-use Rattle.law_fate.specs.Lasting.{Each, NoteWell}
+use Rattle.law_fate.specs.Lasting.{NoteWell}
 use Rattle.law_name.specs.Names.{IsAmong, names_in}
 use Rattle.law_name.proofs.Among.{all_among}
 use Rattle.law_reference.specs.Knowing.{brought, numbered_at}
@@ -23,10 +23,11 @@ use Rattle.law_reference.specs.Logs as wire
 use Rattle.law_reference.proofs.AnswerLinks.{AtLink}
 use Rattle.law_reference.proofs.Counts.{Counted, world_one, world_none, numbered_most, IsNew, step_weighs, step_sends, step_knows, step_age}
 use Rattle.law_reference.proofs.First.{among_dec}
+use Rattle.law_reference.proofs.Fresh.{made_or}
 use Rattle.law_reference.proofs.Follow.{eq_dec, put_cases}
 use Rattle.law_reference.proofs.LegFacts.{mailed_at, new_nowhere}
-use Rattle.law_reference.proofs.LegMoves.{LegsOf, first_weight, sound_note_of}
-use Rattle.law_reference.proofs.LegRuns.{Before, first_mails, unknown_not, brings_mail, alone_brings, self_none}
+use Rattle.law_reference.proofs.LegMoves.{LegsOf, head_of, came_of, first_weight, sound_note_of}
+use Rattle.law_reference.proofs.LegRuns.{Before, first_mails, unknown_not, brings_mail, alone_brings, self_none, alone_leaves, alone_came, alone_comes, alone_arrives}
 use Rattle.law_reference.proofs.Moves.{Moved, Still, Severs, Drops, Steps, Arrives, Does, waiting}
 use Rattle.law_reference.proofs.Onward.{claims_known, claims_own}
 use Rattle.law_reference.proofs.Places.{note_most}
@@ -38,12 +39,12 @@ use Rattle.law_frame.proofs.Places.{same_or, link_other}
 use Rattle.law_frame.proofs.SourceLaws.{log_is, asks_in}
 use Rattle.law_frame.proofs.Worlds.{asker}
 use Rattle.law_frame.proofs.Written.{severed_from, severed_to, notes_from, notes_to}
-use Rattle.law_hearing.proofs.CutCounts.{le_or, sever_most, sever_takes, asks_bears, puts_not, puts_weigh, load_puts, alone_came, note_came, alone_leaves, alone_comes, alone_arrives, places_after, places_lost}
+use Rattle.law_hearing.proofs.CutCounts.{sever_most, sever_takes, asks_bears, puts_not, puts_weigh, load_puts, places_after, places_lost}
 use Rattle.law_hearing.proofs.CutHeard.{Answers, HeardOn}
 use Rattle.law_hearing.proofs.Kept.{Kept}
 use Rattle.law_hearing.proofs.Moves.{goes_of}
-use Rattle.law_hearing.proofs.Open.{some_is, clash, open_taken, open_pushed}
-use Rattle.law_hearing.proofs.Pairs.{Paired}
+use Rattle.law_hearing.proofs.Open.{some_is, open_taken, open_pushed}
+use Rattle.law_hearing.proofs.Pairs.{Paired, true_false}
 use Rattle.law_hearing.proofs.Pending.{Facts, wires, splits, stands, sent}
 use Rattle.law_hearing.proofs.Steps.{Asked, AllKept}
 
@@ -105,7 +106,7 @@ module _ (script : Script) where
       where
         by : (b : Bool) → k.cut ≡ b → k.cut ≡ true
         by true i = i
-        by false i = absurd (clash l.cut cut (o (λ j h. subst (λ (z : Link). z.cut ≡ false) (some_is k j (sym e ∙ h)) i) l link))
+        by false i = absurd (true_false cut (o (λ j h. subst (λ (z : Link). z.cut ≡ false) (some_is k j (sym e ∙ h)) i) l link))
 
     to_after : (vats : List (Vat Name)) (ls : List Link) → y.vats ≡ vats → y.links ≡ ls → total (at_vat M) vats + total (on_link M) ls ≤ 0 → Unplaced m y
     to_after vats ls e i h = subst (λ us. total (at_vat M) us + total (on_link M) y.links ≤ 0) (sym e) (subst (λ ks. total (at_vat M) vats + total (on_link M) ks ≤ 0) (sym i) h)
@@ -176,11 +177,11 @@ module _ (script : Script) where
       cut_there = ap cut_in way ∙ shut
 
       some_lost : put_out Cuts M t.outbox + 1 ≤ total (λ (p : Put Name). of_note M p.note) t.outbox
-      some_lost = either (le_or (total (λ (p : Put Name). of_note M p.note) t.outbox) (put_out Cuts M t.outbox))
+      some_lost = either (made_or (put_out Cuts M t.outbox) (total (λ (p : Put Name). of_note M p.note) t.outbox))
         where
-          either : (total (λ (p : Put Name). of_note M p.note) t.outbox ≤ put_out Cuts M t.outbox) ⊎ (put_out Cuts M t.outbox + 1 ≤ total (λ (p : Put Name). of_note M p.note) t.outbox) → put_out Cuts M t.outbox + 1 ≤ total (λ (p : Put Name). of_note M p.note) t.outbox
-          either (inl h) = absurd (puts (puts_not g m Cuts cut_there t.outbox h))
-          either (inr h) = h
+          either : (put_out Cuts M t.outbox < total (λ (p : Put Name). of_note M p.note) t.outbox) ⊎ (total (λ (p : Put Name). of_note M p.note) t.outbox ≤ put_out Cuts M t.outbox) → put_out Cuts M t.outbox + 1 ≤ total (λ (p : Put Name). of_note M p.note) t.outbox
+          either (inl h) = omega arith
+          either (inr h) = absurd (puts (puts_not g m Cuts cut_there t.outbox h))
 
       no_place : Unplaced m y
       no_place = to_after (put_at u t x.vats) (push_all u t.outbox ls) vats links (either (step_age script x u s q t what d sound_here m))
@@ -238,7 +239,7 @@ module _ (script : Script) where
           by (inr o) (inl i) = let c = sever_most M a b x.links in
               let e = sever_takes M b a (with_link severed_link a b x.links) k (ap (λ z. link_at z a (with_link severed_link a b x.links)) i.0 ∙ ap (λ z. link_at u z (with_link severed_link a b x.links)) i.1 ∙ link_other severed_link severed_from severed_to a b u g x.links o ∙ was) in
               let w = world_one M x (counted.fated M) in let n = bears in omega arith
-          by (inr o) (inr p) = absurd (clash l.cut cut (ap (λ (z : Link). z.cut) (some_is l k (sym link ∙ ap (λ ks. link_at u g ks) links ∙ link_other severed_link severed_from severed_to b a u g (with_link severed_link a b x.links) p ∙ link_other severed_link severed_from severed_to a b u g x.links o ∙ was)) ∙ free))
+          by (inr o) (inr p) = absurd (true_false cut (ap (λ (z : Link). z.cut) (some_is l k (sym link ∙ ap (λ ks. link_at u g ks) links ∙ link_other severed_link severed_from severed_to b a u g (with_link severed_link a b x.links) p ∙ link_other severed_link severed_from severed_to a b u g x.links o ∙ was)) ∙ free))
 
     -- ---- any move
 
@@ -287,16 +288,13 @@ module _ (script : Script) where
           either w (inr o) (inl i) = now w.0 w.1 o i
           either w (inr o) (inr n) = absurd (o (puts (λ z. absurd (n (sym z)))))
 
-    each_head : (P : Note Name → Type 0) (ks : List (Note Name)) (n : Note Name) (ns : List (Note Name)) → Each P ks → ks ≡ n ∷ ns → P n
-    each_head P ks n ns h e = let one : Each P (n ∷ ns) = rw e at h in one.0
-
     by_arrival : (a v : ℕ) (s t : Vat Name) (n : Note Name) (ns : List (Note Name)) (k : Link) → link_at a v x.links ≡ Some k → k.cut ≡ false → k.notes ≡ n ∷ ns → Does script x v s s t (Receives a (read_note (names_of s) n))
         → y.vats ≡ put_at v t x.vats → y.links ≡ push_all v t.outbox (with_link (with_notes ns) a v x.links) → Moved script x y → ((u ≡ v → PutsNot g Z t.outbox) → IsAmong Z (Asked x u g)) → Lost m g r y
     unfolding names_of brought leaves
     by_arrival a v s t n ns k e free notes d vats links move puts =
-        by_step v s s t (Receives a (read_note (names_of s) n)) d (with_link (with_notes ns) a v x.links) (of_note M n) (note_came M a (names_in s.known) n) (taken_less a v n ns k e notes)
+        by_step v s s t (Receives a (read_note (names_of s) n)) d (with_link (with_notes ns) a v x.links) (of_note M n) (came_of M a (names_in s.known) n) (taken_less a v n ns k e notes)
         (λ o. brings_mail v v m a s.gifts (names_in s.known) n (first_mails script x a v n ns k bef e notes) (unknown_not script x a v m s n ns k bef f.legs.none d.there e free notes o))
-        (note_comes (names_in s.known) n (let w = counted.well in each_head NoteWell k.notes n ns (found_link a v x.links k e w.links) notes))
+        (note_comes (names_in s.known) n (let w = counted.well in head_of NoteWell k.notes n ns (found_link a v x.links k e w.links) notes))
         (note_arrives (names_in s.known) a v n self (sound_note_of x a v n ns k counted e notes)) left
         vats links (open_taken u g a v ns x.links) (λ i. link_other (with_notes ns) (notes_from ns) (notes_to ns) a v u g x.links (λ p c. other (sym i ∙ c))) move puts
       where

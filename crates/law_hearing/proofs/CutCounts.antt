@@ -1,37 +1,25 @@
 -- The places of a message once it was put on a cut link, by counts.
-use Rattle.std.proofs.Common.{◌≡◌, ℕ, zero, suc, ◌+◌, ◌≤◌, Bool, true, false, List, [], ◌∷◌, Some, refl, sym, ap, subst, ◌∙◌, ◌⊎◌, inl, inr, arith}
+use Rattle.std.proofs.Common.{◌≡◌, ℕ, ◌+◌, ◌≤◌, Bool, true, false, List, [], ◌∷◌, Some, refl, sym, ap, subst, ◌∙◌, arith}
 use Rattle.def_machine.specs.Values.{Name, Root, Object, Promise, Answer, Gift, Sent, Msg, answer_of}
 use Rattle.def_machine.specs.State.{Note, Deliver, Open, Ask, SettledTo, Elsewhere, Shorten, Put, Vat}
-use Rattle.law_machine.specs.Steps.{Step, Opens as Starts, Takes, Receives, Notices}
+use Rattle.law_machine.specs.Steps.{Step}
 use Rattle.def_run.specs.Draws.{draw_word}
 use Rattle.def_run.specs.World as world
 use Rattle.def_run.specs.World.{Script, Link, World, is_link, link_at, with_link, severed_link, put_at, push_all, names, names_of, read_note, readied}
-use Rattle.law_fate.specs.Fate.{total, of_note, in_note, on_link, at_vat, sent_in, put_out, where_cut, account, gone, one as same_one, once as same_once}
+use Rattle.law_fate.specs.Fate.{total, of_note, in_note, on_link, at_vat, sent_in, put_out, where_cut, account, gone, one as same_one}
 use Rattle.law_fate.specs.FateLaws.{Accounted, brought as fate_brought}
 use Rattle.law_fate.specs.Carry.{load, put_weight}
-use Rattle.law_fate.specs.CarryLaws.{leaves}
-use Rattle.law_fate.specs.Lasting.{StepComes}
-use Rattle.law_fate.specs.Sound.{StepArrives}
-use Rattle.law_fate.proofs.RunAccount.{note_brings}
 use Rattle.law_fate.proofs.RunCounts.{total_put, push_all_adds, with_link_changes}
 use Rattle.law_fate.proofs.TurnAccount.{steps_double_none}
 use Rattle.law_name.specs.Names.{IsMessageName}
-use Rattle.law_name.proofs.SameNames.{same_self}
+use Rattle.law_reference.proofs.Counts.{put_total}
 use Rattle.law_reference.proofs.FollowRuns.{after_gives}
-use Rattle.law_reference.proofs.Moves.{Does, IsAlone, waiting}
+use Rattle.law_reference.proofs.Legs.{self_least}
+use Rattle.law_reference.proofs.Moves.{Does, waiting}
 use Rattle.law_reference.proofs.Places.{note_least}
 use Rattle.law_frame.specs.Asked.{AsksOf}
 use Rattle.law_frame.proofs.Before.{AsksNot, PutsNot}
 use Rattle.law_frame.proofs.LinksKnown.{AsksOwn}
-
-pub le_or : (a b : ℕ) → (a ≤ b) ⊎ (b + 1 ≤ a)
-le_or zero b = inl (omega arith)
-le_or (suc a) zero = inr (omega arith)
-le_or (suc a) (suc b) = up (le_or a b)
-  where
-    up : (a ≤ b) ⊎ (b + 1 ≤ a) → (suc a ≤ suc b) ⊎ (suc b + 1 ≤ suc a)
-    up (inl h) = inl (omega arith)
-    up (inr h) = inr (omega arith)
 
 -- ---- links that are cut
 
@@ -54,11 +42,6 @@ sever_takes x a b ls k e = let c = with_link_changes x severed_link a b ls k e i
 
 -- ---- what is put
 
-put_all : (x : Name) (ps : List (Put Name)) → put_out (λ u. false) x ps ≡ total (λ (p : Put Name). of_note x p.note) ps
-unfolding put_out where_cut total
-put_all x [] = refl
-put_all x (p ∷ ps) = let rest = put_all x ps in omega arith
-
 some_cut : (b : Bool) (n : ℕ) → where_cut b 0 n ≤ n
 unfolding where_cut
 some_cut true n = omega arith
@@ -77,10 +60,6 @@ puts_weigh x (p ∷ ps) = let rest = puts_weigh x ps in let here = note_least x 
 pub load_puts : (x : Name) (s : Vat Name) → put_weight x s.outbox ≤ load x s
 unfolding load
 load_puts x s = omega arith
-
-self_least : (m : Msg) → 1 ≤ same_one (Sent m) (Sent m)
-unfolding same_one same_once
-self_least m = rw (same_self (Sent m)) (omega arith)
 
 module _ (g : ℕ) (m : Msg) where
   sent_is : (id : Name) → IsMessageName id → answer_of g id ≡ Answer g m → 1 ≤ same_one id (Sent m)
@@ -123,36 +102,6 @@ module _ (g : ℕ) (m : Msg) where
 
 -- ---- a step
 
-pub alone_came : (x : Name) (what : Step Name Name) → IsAlone what → fate_brought x what ≤ waiting x what + 0
-unfolding fate_brought waiting
-alone_came x (Starts tree depth root given) h = omega arith
-alone_came x (Takes tree depth n) h = omega arith
-alone_came x (Receives from n) h = absurd h
-alone_came x (Notices w) h = omega arith
-
-pub note_came : (x : Name) (from : ℕ) (ks : List Name) (n : Note Name) → fate_brought x (Receives from (read_note ks n)) ≤ waiting x (Receives from (read_note ks n)) + of_note x n
-unfolding fate_brought waiting
-note_came x from ks n = let e = note_brings x ks n in omega arith
-
-pub alone_leaves : (x : Name) (what : Step Name Name) → IsAlone what → leaves x what ≤ 0
-unfolding leaves
-alone_leaves x (Starts tree depth root given) h = omega arith
-alone_leaves x (Takes tree depth n) h = omega arith
-alone_leaves x (Receives from n) h = absurd h
-alone_leaves x (Notices w) h = omega arith
-
-pub alone_comes : (what : Step Name Name) → IsAlone what → StepComes what
-alone_comes (Starts tree depth root given) h = tt
-alone_comes (Takes tree depth n) h = tt
-alone_comes (Receives from n) h = absurd h
-alone_comes (Notices w) h = tt
-
-pub alone_arrives : (v : ℕ) (what : Step Name Name) → IsAlone what → StepArrives v what
-alone_arrives v (Starts tree depth root given) h = tt
-alone_arrives v (Takes tree depth n) h = tt
-alone_arrives v (Receives from n) h = absurd h
-alone_arrives v (Notices w) h = tt
-
 module _ (script : Script) (w : World) (v : ℕ) (s q t : Vat Name) (what : Step Name Name) (d : Does script w v s q t what) (m : Msg) (arr : ℕ) (came : fate_brought (Sent m) what ≤ waiting (Sent m) what + arr) where
   abbrev M : Name
   M = Sent m
@@ -170,7 +119,7 @@ module _ (script : Script) (w : World) (v : ℕ) (s q t : Vat Name) (what : Step
   placed cut = let a = (accounted cut).kept in let b = d.waits M in omega arith
 
   pub placed_all : at_vat M t + total (λ (p : Put Name). of_note M p.note) t.outbox ≤ at_vat M s + arr + Sends
-  placed_all = let a = placed (λ u. false) in let b = put_all M t.outbox in omega arith
+  placed_all = let a = placed (λ u. false) in let b = put_total M t.outbox in omega arith
 
   module _ (ls : List Link) where
     abbrev pub Cut : ℕ → Bool

@@ -1,5 +1,5 @@
 -- What a vat heard that it is asked for stays so, and was asked for.
-use Rattle.std.proofs.Common.{◌≡◌, ℕ, false, List, [], ◌∷◌, ◌++◌, Some, refl, sym, ap, subst, ◌∙◌, ◌⊎◌, inl, inr}
+use Rattle.std.proofs.Common.{◌≡◌, ℕ, false, List, [], ◌∷◌, Some, refl, sym, ap, subst, ◌∙◌, ◌⊎◌, inl, inr}
 use Rattle.def_machine.specs.Values.{Name}
 use Rattle.def_machine.specs.State.{Note, Vat}
 use Rattle.def_run.specs.Connections.{asked_in}
@@ -13,6 +13,7 @@ use Rattle.law_run.proofs.Honest.{NoDeed, NoWord}
 use Rattle.law_run.proofs.Told.{moves_told}
 use Rattle.law_name.specs.Names.{IsAmong}
 use Rattle.law_reference.specs.Logs as wire
+use Rattle.law_frame.proofs.Exported.{among_split}
 use Rattle.law_frame.proofs.Exports.{asked_on}
 use Rattle.law_frame.proofs.LinksGo.{Splits}
 use Rattle.law_frame.proofs.LinksKnown.{at_link}
@@ -37,18 +38,9 @@ HeardOn x y = (v u : ℕ) (z : Name) → IsAmong z (Answers x.connections v u) �
 
 -- ---- a note is read
 
-in_either : (xs ys : List Name) (z : Name) → IsAmong z (xs ++ ys) → IsAmong z xs ⊎ IsAmong z ys
-in_either [] ys z a = inr a
-in_either (x ∷ xs) ys z (inl e) = inl (inl e)
-in_either (x ∷ xs) ys z (inr a) = either (in_either xs ys z a)
-  where
-    either : IsAmong z xs ⊎ IsAmong z ys → ((z ≡ x) ⊎ IsAmong z xs) ⊎ IsAmong z ys
-    either (inl b) = inl (inr b)
-    either (inr b) = inr b
-
 received_cases : (p : Connected) (m : Note Name) (c : Connected) (z : Name) → IsAmong z (let e : Connected = conn.received p m c in e.tables.answers) → IsAmong z c.tables.answers ⊎ IsAmong z (asked_in (sight p.from p.to) m)
 unfolding conn.received
-received_cases p m c z a = in_either c.tables.answers (asked_in (sight p.from p.to) m) z a
+received_cases p m c z a = among_split z c.tables.answers (asked_in (sight p.from p.to) m) a
 
 read_cases : (a b v u : ℕ) (m : Note Name) (cs : List Connected) (z : Name) → IsAmong z (Answers (with_connected (conn.received (connected_at a b cs) m) b a cs) v u)
     → IsAmong z (Answers cs v u) ⊎ ((b ≡ v) × (a ≡ u) × IsAmong z (wire.questions_in b (m ∷ [])))

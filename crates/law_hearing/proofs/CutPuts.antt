@@ -13,6 +13,7 @@ use Rattle.law_reference.specs.Logs as wire
 use Rattle.law_reference.proofs.LinksCut.{fits_notes, fits_severed}
 use Rattle.law_reference.proofs.AnswerLinks.{AtLink, with_any}
 use Rattle.law_frame.specs.Asked.{told_in}
+use Rattle.law_frame.proofs.Grow.{among_left}
 use Rattle.law_frame.proofs.LinksGo.{with_link_here}
 use Rattle.law_frame.proofs.Places.{same_or, link_other, connected_same, connected_other, connected_ends}
 use Rattle.law_frame.proofs.Written.{pushed_from, pushed_to, wrote_from, wrote_to, received_from, received_to}
@@ -108,12 +109,7 @@ module _ (A : List Name) (v u : ℕ) where
 
 received_answers : (p : Connected) (m : Note Name) (c : Connected) (z : Name) → IsAmong z c.tables.answers → IsAmong z (let e : Connected = conn.received p m c in e.tables.answers)
 unfolding conn.received
-received_answers p m c z a = front c.tables.answers z a
-  where
-    front : (xs : List Name) (z : Name) → IsAmong z xs → IsAmong z (xs ++ tables.asked_in (sight p.from p.to) m)
-    front [] z b = absurd b
-    front (x ∷ xs) z (inl e) = inl e
-    front (x ∷ xs) z (inr b) = inr (front xs z b)
+received_answers p m c z a = among_left z c.tables.answers (tables.asked_in (sight p.from p.to) m) a
 
 pub read_answers : (a b v u : ℕ) (p : Connected) (m : Note Name) (cs : List Connected) (z : Name) → IsAmong z (connected_at v u cs).tables.answers → IsAmong z (connected_at v u (with_connected (conn.received p m) b a cs)).tables.answers
 read_answers a b v u p m cs z k = either (same_or b a v u)

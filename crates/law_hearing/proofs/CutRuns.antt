@@ -20,8 +20,7 @@ use Rattle.law_hearing.proofs.CutGifts.{AloneWhereLost, alone_on, lost_untold}
 use Rattle.law_hearing.proofs.CutHeard.{Answers, HeardOn, entry_goes, opening_goes, heard_later, heard_asked}
 use Rattle.law_hearing.proofs.CutSteps.{HeardWereAsked, LogsKept, Ready, open_logged, entry_logs, opening_logs}
 use Rattle.law_hearing.proofs.Lift.{Opened, opened_holds, stepped_holds}
-use Rattle.law_hearing.proofs.Open.{clash}
-use Rattle.law_hearing.proofs.Pairs.{opened_paired, stepped_paired, begins_open}
+use Rattle.law_hearing.proofs.Pairs.{opened_paired, stepped_paired, begins_open, true_false}
 use Rattle.law_hearing.proofs.Pending.{AloneWhereLate, Facts, stands}
 use Rattle.law_hearing.proofs.Runs.{opened_worldly, stepped_worldly, opened_kept, stepped_kept, opening_pair, entry_pair}
 use Rattle.law_hearing.proofs.Steps.{Onward, Worldly}
@@ -68,8 +67,8 @@ module _ (script : Script) where
   unfolding world.begins
   begins_along = (
     λ v u z a. absurd (subst (λ ns. IsAmong z ns) (found_unheard v u (world.connections_from script.vats zero script.vats) (from_unheard script.vats zero script.vats)) a),
-    λ u g m r other at l link cut asks unheard. absurd (clash l.cut cut (begins_open script u g l link)),
-    λ u g i r other at l link cut asks unheard. absurd (clash l.cut cut (begins_open script u g l link)),
+    λ u g m r other at l link cut asks unheard. absurd (true_false cut (begins_open script u g l link)),
+    λ u g i r other at l link cut asks unheard. absurd (true_false cut (begins_open script u g l link)),
   )
 
   along_on : (x y : World) → Known x → Known y → Onward script x y → HeardOn x y → ((v u : ℕ) (z : Name) → IsAmong z (Answers y.connections v u) → IsAmong z (wire.questions (λ i. i) y.links u v)) → Along x → Along y

@@ -1,5 +1,5 @@
 -- A link that is not cut stays so as notes are put and taken.
-use Rattle.std.proofs.Common.{◌≡◌, ℕ, Bool, true, false, List, Some, ◌∙◌}
+use Rattle.std.proofs.Common.{◌≡◌, ℕ, false, List, Some, ◌∙◌}
 use Rattle.def_machine.specs.Values.{Name}
 use Rattle.def_machine.specs.State.{Note, Put}
 use Rattle.def_run.specs.World.{Link, with_link, with_notes, push_all}
@@ -12,9 +12,6 @@ IsOpen k = k.cut ≡ false
 
 pub some_is : {A : Type 0} (p q : A) → Some p ≡ Some q → p ≡ q
 some_is p q e = cc
-
-pub clash : (b : Bool) → b ≡ true → b ≡ false → ⊥
-clash b e f = cc
 
 pub open_taken : (u g a b : ℕ) (ns : List (Note Name)) (ls : List Link) → AtLink u g IsOpen ls → AtLink u g IsOpen (with_link (with_notes ns) a b ls)
 unfolding with_notes

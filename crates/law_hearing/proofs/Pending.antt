@@ -51,9 +51,9 @@ use Rattle.law_frame.proofs.Untold.{Knows, none_out, provides}
 use Rattle.law_frame.proofs.Untouched.{puts_free}
 use Rattle.law_frame.proofs.Given.{told_ends}
 use Rattle.law_frame.proofs.Worlds.{asker}
-use Rattle.law_hearing.proofs.Pairs.{NoneItself}
+use Rattle.law_hearing.proofs.Pairs.{NoneItself, true_false}
 use Rattle.law_hearing.proofs.Moves.{goes_of}
-use Rattle.law_hearing.proofs.Open.{IsOpen, some_is, clash, open_taken, open_pushed}
+use Rattle.law_hearing.proofs.Open.{IsOpen, some_is, open_taken, open_pushed}
 use Rattle.law_hearing.proofs.Bare as bare
 use Rattle.law_hearing.proofs.Bare.{Bare, Bares, bare_under, bare_makes, note_bare}
 
@@ -438,7 +438,7 @@ module _ (script : Script) where
 
       -- nothing arrives by a link that is cut
       shut : a ≡ u → v ≡ g → m.cut ≡ true → ⊥
-      shut e o c = clash m.cut c (subst (λ ks. AtLink u g IsOpen ks) (sym links) (open_pushed u g v t.outbox Taken (open_taken u g a v ns w.links (λ j k. subst (λ (z : Link). z.cut ≡ false) (some_is l j (sym (link_is e o) ∙ k)) uncut_before))) m at)
+      shut e o c = true_false c (subst (λ ks. AtLink u g IsOpen ks) (sym links) (open_pushed u g v t.outbox Taken (open_taken u g a v ns w.links (λ j k. subst (λ (z : Link). z.cut ≡ false) (some_is l j (sym (link_is e o) ∙ k)) uncut_before))) m at)
 
       told_host : AsksFor u g i w → a ≡ u → v ≡ g → IsAmong It (told_in n) → ⊥
       told_host b e o c = by late

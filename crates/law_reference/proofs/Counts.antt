@@ -137,7 +137,7 @@ world_none m v s w h there mine new = let k = h.kept in let f = h.fresh in
 
 -- ---- a step
 
-put_total : (x : Name) (ps : List (Put Name)) → put_out (λ u. false) x ps ≡ total (λ (p : Put Name). of_note x p.note) ps
+pub put_total : (x : Name) (ps : List (Put Name)) → put_out (λ u. false) x ps ≡ total (λ (p : Put Name). of_note x p.note) ps
 unfolding put_out where_cut total
 put_total x [] = refl
 put_total x (p ∷ ps) = let rest = put_total x ps in omega arith

@@ -47,7 +47,7 @@ sound_at a b (k ∷ ls) h l e = either (world.is_link a b k) refl e (λ i. sound
     either true f i rest = let same : k ≡ l = cc in rw same at h.0
     either false f i rest = rest i
 
-head_of : (P : Note Name → Type 0) (ks : List (Note Name)) (n : Note Name) (ns : List (Note Name)) → Each P ks → ks ≡ n ∷ ns → P n
+pub head_of : (P : Note Name → Type 0) (ks : List (Note Name)) (n : Note Name) (ns : List (Note Name)) → Each P ks → ks ≡ n ∷ ns → P n
 head_of P ks n ns h e = let one : Each P (n ∷ ns) = rw e at h in one.0
 
 pub first_weight : (x : Name) (l : Link) (n : Note Name) (ns : List (Note Name)) → l.notes ≡ n ∷ ns → weight x n ≤ link_weight x l
@@ -62,7 +62,7 @@ note_leaves_most : (x : Name) (from : ℕ) (ks : List Name) (n : Note Name) → 
 unfolding leaves
 note_leaves_most x from ks n = note_pays x ks n
 
-came_of : (x : Name) (from : ℕ) (ks : List Name) (n : Note Name) → fate_brought x (Receives from (read_note ks n)) ≤ waiting x (Receives from (read_note ks n)) + of_note x n
+pub came_of : (x : Name) (from : ℕ) (ks : List Name) (n : Note Name) → fate_brought x (Receives from (read_note ks n)) ≤ waiting x (Receives from (read_note ks n)) + of_note x n
 unfolding fate_brought waiting
 came_of x from ks n = let e = note_brings x ks n in omega arith
 

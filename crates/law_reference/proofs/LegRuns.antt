@@ -132,27 +132,27 @@ module _ (vs : List (Vat Name)) (ls : List Link) (a v : ℕ) (n : Note Name) (ns
 
 -- ---- steps that no note begins
 
-alone_leaves : (x : Name) (what : Step Name Name) → IsAlone what → leaves x what ≤ 0
+pub alone_leaves : (x : Name) (what : Step Name Name) → IsAlone what → leaves x what ≤ 0
 unfolding leaves
 alone_leaves x (Starts tree depth root given) h = omega arith
 alone_leaves x (Takes tree depth n) h = omega arith
 alone_leaves x (Receives from n) h = absurd h
 alone_leaves x (Notices w) h = omega arith
 
-alone_came : (x : Name) (what : Step Name Name) → IsAlone what → fate_brought x what ≤ waiting x what + 0
+pub alone_came : (x : Name) (what : Step Name Name) → IsAlone what → fate_brought x what ≤ waiting x what + 0
 unfolding fate_brought waiting
 alone_came x (Starts tree depth root given) h = omega arith
 alone_came x (Takes tree depth n) h = omega arith
 alone_came x (Receives from n) h = absurd h
 alone_came x (Notices w) h = omega arith
 
-alone_comes : (what : Step Name Name) → IsAlone what → StepComes what
+pub alone_comes : (what : Step Name Name) → IsAlone what → StepComes what
 alone_comes (Starts tree depth root given) h = tt
 alone_comes (Takes tree depth n) h = tt
 alone_comes (Receives from n) h = absurd h
 alone_comes (Notices w) h = tt
 
-alone_arrives : (v : ℕ) (what : Step Name Name) → IsAlone what → StepArrives v what
+pub alone_arrives : (v : ℕ) (what : Step Name Name) → IsAlone what → StepArrives v what
 alone_arrives v (Starts tree depth root given) h = tt
 alone_arrives v (Takes tree depth n) h = tt
 alone_arrives v (Receives from n) h = absurd h

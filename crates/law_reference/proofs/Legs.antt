@@ -17,7 +17,7 @@ use Rattle.law_reference.proofs.AnswerLinks.{AtLink, push_others, push_where, pu
 use Rattle.law_reference.proofs.Onward.{Mailed, claims_known, claims_both, claims_held, claims_own}
 use Rattle.law_reference.proofs.Places.{held_places, link_most, link_least, note_least, put_to, put_most, put_two, pushed_from, first_weighs}
 
-self_least : (m : Msg) → 1 ≤ same_one (Sent m) (Sent m)
+pub self_least : (m : Msg) → 1 ≤ same_one (Sent m) (Sent m)
 unfolding same_one same_once
 self_least m = rw (same_self (Sent m)) (omega arith)
 
