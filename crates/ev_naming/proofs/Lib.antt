@@ -1,0 +1,5 @@
+mod Entries
+mod Each
+mod Growth
+mod Places
+mod Saying
