@@ -3,3 +3,4 @@ mod Each
 mod Growth
 mod Places
 mod Saying
+mod Shows
