@@ -4,3 +4,5 @@ mod Growth
 mod Places
 mod Saying
 mod Shows
+mod Passing
+mod Hearing

@@ -3,7 +3,9 @@
 
 pub mod laws;
 pub mod names;
+pub mod notes;
 pub mod told;
 
 pub use names::VatNames;
+pub use notes::{Noting, shown_note};
 pub use told::Told;

@@ -1,13 +1,18 @@
 //! What the numbers of a vat are called, by what its steps tell.
 
-ghost use Rattle.std.specs.Prelude.{◌≡◌, ◌-◌, ◌++◌, ◌∷◌, [], IfOk, OnErr, OnOk, drop, length, map, slice_get};
+ghost use Rattle.std.specs.Prelude.{◌≡◌, ◌-◌, ◌++◌, ◌∷◌, [], List, IfOk, OnErr, OnOk, drop, length, map, slice_get};
 ghost use Rattle.ev_base.specs.declared.names.Name.TheVariants as name;
 ghost use Rattle.ev_naming.specs.Names.{all_named, counted, answer_name, asked_tells, answer_tells, carried_mails, event_tells, events_tell, gift_at, gift_tells, gifts_tell, host_in, line_tells, names_first, note_tells, one_named, own_messages, puts_tell, some_tells, step_tells, stepped, mailed, with_mails};
+ghost use Rattle.def_local.specs.Names.{Told as Local};
 ghost use Rattle.def_machine.specs.Values.{word_of};
+ghost use Rattle.ev_arrive.specs.Reading.{with_gifts};
+ghost use Rattle.ev_naming.specs.Standing.{Says, mails_of, new_names, printed};
 ghost use Rattle.ev_pass.specs.Notes.{key_of, noted, sent};
+ghost use Rattle.ev_room.specs.Reading.{World, vat_of};
 ghost use Rattle.ev_step_lines.specs.Lines.{with_import};
 
 use crate::told::Told;
+use ev_arrive::Host;
 use ev_base::{Memory, Msg, MsgId, Name, PromId, VatId};
 use ev_heap::Happened;
 use ev_intro::{GiftTable, Words};
@@ -328,6 +333,7 @@ impl VatNames {
         self.gifts = gifts.len();
     }
 
+    /// What a step makes of the names that left the inside so.
     fn step(
         &mut self,
         inside: &Interior,
@@ -344,6 +350,30 @@ impl VatNames {
         self.tell_step(inside, gifts, words, &mut told)?;
         self.fill(&told, inside.refs.count())?;
         self.count(inside, gifts);
+        Ok(())
+    }
+
+    /// The names after a step that left the vat so. A note brought that message, if one, and told those numbers.
+    ///
+    /// Names of earlier steps stay as they are. The new ones are those of the machine's step in numbers, printed by the words that are
+    /// drawn now; nothing is asked of the numbers that the step tells: one that is not there is called what the machine calls it.
+    pub fn after_step(
+        &mut self,
+        host: &Host,
+        words: &Words,
+        carried: Option<Msg>,
+        told: Told,
+    ) -> Result<(), Memory>
+        ensures names { (w : World) → w.before.outbox ≡ [] → w.before.happened ≡ [] → (brought : List Local) → Says words.now told brought
+            → OnOk result (self.new.naming.names ≡ self.old.naming.names ++ map (printed words.now) (new_names self.old (mails_of self.new.naming.mails) brought (with_gifts host.now.gifts (vat_of w host.now.inside)))) }
+        ensures mails { OnOk result (self.new.naming.mails ≡ (self.old.naming.mails ++ carried_mails carried) ++ own_messages self.old.naming.vat self.old.messages (host.now.inside.refs.messages - self.old.messages)) }
+        ensures vat { OnOk result (self.new.naming.vat ≡ self.old.naming.vat) }
+        ensures objects { OnOk result (self.new.naming.objects ≡ self.old.naming.objects) }
+        ensures promises { OnOk result (self.new.promises ≡ host.now.inside.refs.promises) }
+        ensures messages { OnOk result (self.new.messages ≡ host.now.inside.refs.messages) }
+        ensures gifts { OnOk result (self.new.gifts ≡ length host.now.gifts) }
+    {
+        self.step(&host.inside, &host.gifts, words, carried, told)?;
         Ok(())
     }
 }
