@@ -153,11 +153,11 @@ module _ (d : Drawn) (w : World) (i : Interior) (gs : Gifts) (outbox : w.before.
       let put = puts_say d u w r ms i.post (events_tell r ms i.micro.events es) (ts ++ a) heard in
       let given = gifts_say d u w r ms (drop n gs) (puts_tell d ms i.post (events_tell r ms i.micro.events es)) ((ts ++ a) ++ b) put in
       let path : ((ts ++ a) ++ b) ++ c ≡ ts ++ local.told_in_step u n (mails_of ms) s =
-      append_assoc (ts ++ a) b c
-      ∙ append_assoc ts a (b ++ c)
-      ∙ ap (λ (hs : List (Happened Local)). ts ++ (flat_map (by_line d u w r ms) (hs ++ lines_of w i.micro.events) ++ (b ++ c))) (sym happened)
-      ∙ ap (λ (ps : List (machine.Put Local)). ts ++ (flat_map (by_line d u w r ms) (w.before.happened ++ lines_of w i.micro.events) ++ (flat_map (by_put d u w r ms) (ps ++ map (put_by (texts_of w)) i.post) ++ c))) (sym outbox)
-      ∙ ap (λ (xs : List (machine.GiftEntry Local)). ts ++ (flat_map (by_line d u w r ms) (w.before.happened ++ lines_of w i.micro.events) ++ (flat_map (by_put d u w r ms) (w.before.outbox ++ map (put_by (texts_of w)) i.post) ++ flat_map (by_gift d u w r ms) xs))) (sym (drop-map gift_by n gs)) in
+      ap (λ (us : List local.Told). us ++ c) (append_assoc ts a b)
+      ∙ append_assoc ts (a ++ b) c
+      ∙ ap (λ (hs : List (Happened Local)). ts ++ ((flat_map (by_line d u w r ms) (hs ++ lines_of w i.micro.events) ++ b) ++ c)) (sym happened)
+      ∙ ap (λ (ps : List (machine.Put Local)). ts ++ ((flat_map (by_line d u w r ms) (w.before.happened ++ lines_of w i.micro.events) ++ flat_map (by_put d u w r ms) (ps ++ map (put_by (texts_of w)) i.post)) ++ c)) (sym outbox)
+      ∙ ap (λ (xs : List (machine.GiftEntry Local)). ts ++ ((flat_map (by_line d u w r ms) (w.before.happened ++ lines_of w i.micro.events) ++ flat_map (by_put d u w r ms) (w.before.outbox ++ map (put_by (texts_of w)) i.post)) ++ flat_map (by_gift d u w r ms) xs)) (sym (drop-map gift_by n gs)) in
       subst (λ (us : List local.Told). Says d (step_tells d u ms i (drop n gs) es) us) path given
 
   known_count : length s.known ≡ length i.refs.known
