@@ -1,7 +1,7 @@
 -- What the code hears of a step is what the machine's step tells.
-use Rattle.std.proofs.Common.{◌≡◌, ◌-◌, ℕ, zero, List, [], ◌∷◌, ◌++◌, drop, length, map, Option, Some, None, refl, sym, ap, subst, ◌∙◌, append_assoc}
+use Rattle.std.proofs.Common.{◌≡◌, ◌-◌, ℕ, zero, suc, List, [], ◌∷◌, ◌++◌, drop, length, map, Option, Some, None, refl, sym, ap, subst, ◌∙◌, append_assoc}
 use Rattle.std.specs.Prelude.{flat_map, option_map, slice_get}
-use Rattle.std.proofs.lemmas.List.{drop-map}
+use Rattle.std.proofs.lemmas.List.{drop-map, length-map, map-append}
 use Rattle.std.proofs.lemmas.List.Concat.{flat_map-append}
 use Rattle.ev_base.specs.declared.names.Msg.{Msg}
 use Rattle.ev_base.specs.declared.names.Name.{Name as ShownName}
@@ -13,7 +13,7 @@ use Rattle.ev_heap.specs.declared.kept.Capture.{Capture}
 use Rattle.def_local.specs.Names as local
 use Rattle.def_machine.specs.State as machine
 use Rattle.def_machine.specs.State.{Happened, Vat}
-use Rattle.def_machine.specs.Values.{Name, Gift as GiftName, answer_of, key, Words, Local, Prom, Mess}
+use Rattle.def_machine.specs.Values.{Name, Gift as GiftName, Sent as SentName, answer_of, key, Words, Local, Prom, Mess}
 use Rattle.ev_arrive.specs.Reading.{gift_by, with_gifts}
 use Rattle.ev_intro.specs.Gift.{Gift, Gifts}
 use Rattle.ev_intro.specs.Word.{Drawn}
@@ -25,8 +25,8 @@ use Rattle.ev_refs.proofs.Machine.{as_many}
 use Rattle.ev_refs.specs.Reading.{knowns_by}
 use Rattle.ev_refs.specs.References.{References}
 use Rattle.ev_room.specs.Reading.{World, texts_of, vat_of, line_of, lines_of, referred_line, made_line, ejector_line, audition_line, promise_line}
-use Rattle.ev_naming.specs.Names.{Entry, Named, each_tells, asked_tells, event_tells, events_tell, answer_name, answer_tells, note_tells, put_tells, puts_tell, gift_tells, gifts_tell, gift_at, host_in, step_tells, mailed, stepped}
-use Rattle.ev_naming.specs.Standing.{Says, printed, mails_of, new_names}
+use Rattle.ev_naming.specs.Names.{Entry, Named, each_tells, asked_tells, event_tells, events_tell, answer_name, answer_tells, note_tells, put_tells, puts_tell, gift_tells, gifts_tell, gift_at, host_in, step_tells, carried_mails, own_messages, mailed, stepped}
+use Rattle.ev_naming.specs.Standing.{Says, Stands, Counts, printed, mail_of, mails_of, new_names}
 use Rattle.ev_naming.proofs.Saying.{IsBeside, answer_shown, host_is, gift_shown, key_shown, says_more, says_same, names_grow, beside_stays}
 
 module _ (d : Drawn) (u : ℕ) (w : World) (r : References) (ms : List Msg) where
@@ -135,6 +135,14 @@ module _ (d : Drawn) (u : ℕ) (w : World) (r : References) (ms : List Msg) wher
       subst (λ (us : List local.Told). Says d (gifts_tell d u gs (gift_tells d u g es)) us) (append_assoc ts one (flat_map by_gift (map gift_by gs)))
       (gifts_say gs (gift_tells d u g es) (ts ++ one) (says_more d es ts g.promise _ name (key_shown d u g.provider g.swiss) says))
 
+-- the names but for the new ones, and the messages that a note brought and the vat made
+pub stepped_beside : (d : Drawn) (carried : Option Msg) (es : List Entry) (i : Interior) (gs : Gifts) (t : Named)
+    → IsBeside (mailed carried i.refs.messages t) (stepped d carried es i gs t)
+stepped_beside d carried es i gs t =
+    let m = mailed carried i.refs.messages t in
+    let b = beside_stays (step_tells d t.naming.vat m.naming.mails i (drop t.gifts gs) es) (length i.refs.known - length t.naming.names) m in
+    record { vat = b.vat; mails = b.mails; objects = b.objects }
+
 -- ---- a step
 
 module _ (d : Drawn) (w : World) (i : Interior) (gs : Gifts) (outbox : w.before.outbox ≡ []) (happened : w.before.happened ≡ []) where
@@ -177,10 +185,51 @@ module _ (d : Drawn) (w : World) (i : Interior) (gs : Gifts) (outbox : w.before.
       ∙ ap (λ (k : ℕ). t.naming.names ++ map (printed d) (local.named_from u ts (length t.naming.names) t.promises (k - length t.naming.names))) (sym known_count)
       ∙ ap (λ (ms : List Msg). t.naming.names ++ map (printed d) (new_names t (mails_of ms) brought s)) (sym (beside_stays told n m).mails)
 
--- the names but for the new ones, and the messages that a note brought and the vat made
-pub stepped_beside : (d : Drawn) (carried : Option Msg) (es : List Entry) (i : Interior) (gs : Gifts) (t : Named)
-    → IsBeside (mailed carried i.refs.messages t) (stepped d carried es i gs t)
-stepped_beside d carried es i gs t =
-    let m = mailed carried i.refs.messages t in
-    let b = beside_stays (step_tells d t.naming.vat m.naming.mails i (drop t.gifts gs) es) (length i.refs.known - length t.naming.names) m in
-    record { vat = b.vat; mails = b.mails; objects = b.objects }
+  -- ---- the machine's names
+
+  own_named : (u j m : ℕ) → mails_of (own_messages u j m) ≡ local.own_mails u j m
+  unfolding own_messages local.own_mails
+  own_named u j zero = refl
+  own_named u j (suc m) = ap (λ (xs : List Name). SentName (record { sender = u; number = j }) ∷ xs) (own_named u (suc j) m)
+
+  mails_stand : (carried : Option Msg) (es : List Entry) (t : local.Names) (n : Named) (before : Vat Local) → Stands d t n → Counts before n
+      → mails_of (stepped d carried es i gs n).naming.mails ≡ (t.mails ++ mails_of (carried_mails carried)) ++ local.own_mails n.naming.vat before.messages (s.messages - before.messages)
+  unfolding vat_of
+  mails_stand carried es t n before stands counts =
+      let u = n.naming.vat in
+      let cm = carried_mails carried in
+      let om = own_messages u n.messages (i.refs.messages - n.messages) in
+      ap (λ (xs : List Msg). mails_of xs) (stepped_beside d carried es i gs n).mails
+      ∙ map-append mail_of (n.naming.mails ++ cm) om
+      ∙ ap (λ (xs : List Name). xs ++ mails_of om) (map-append mail_of n.naming.mails cm)
+      ∙ ap (λ (xs : List Name). (xs ++ mails_of cm) ++ mails_of om) stands.mails
+      ∙ ap (λ (xs : List Name). (t.mails ++ mails_of cm) ++ xs) (own_named u n.messages (i.refs.messages - n.messages))
+      ∙ ap (λ (k : ℕ). (t.mails ++ mails_of cm) ++ local.own_mails u k (i.refs.messages - k)) counts.messages
+
+  -- the names and messages after a step in the code are those that the machine's vat has after it
+  pub stands_stepped : (carried : Option Msg) (es : List Entry) (brought : List local.Told) (t : local.Names) (n : Named) (before : Vat Local) → Says d es brought → Stands d t n → Counts before n
+      → Stands d (local.names_after n.naming.vat t before (mails_of (carried_mails carried)) brought s) (stepped d carried es i gs n)
+  unfolding local.names_after
+  stands_stepped carried es brought t n before says stands counts =
+      let u = n.naming.vat in
+      let mails = mails_stand carried es t n before stands counts in
+      let ms = (t.mails ++ mails_of (carried_mails carried)) ++ local.own_mails u before.messages (s.messages - before.messages) in
+      let as_many : length n.naming.names ≡ length t.known = ap (λ (xs : List ShownName). length xs) stands.known ∙ length-map t.known (printed d) in
+      let ts = brought ++ local.told_in_step u (length before.gifts) ms s in
+      let new = local.named_from u ts (length t.known) before.promises (length s.known - length t.known) in
+      record {
+        known =
+            names_stepped carried es brought n says
+            ∙ ap (λ (xs : List Name). n.naming.names ++ map (printed d) (new_names n xs brought s)) mails
+            ∙ ap (λ (g : ℕ). n.naming.names ++ map (printed d) (local.named_from u (brought ++ local.told_in_step u g ms s) (length n.naming.names) n.promises (length s.known - length n.naming.names))) counts.gifts
+            ∙ ap (λ (p : ℕ). n.naming.names ++ map (printed d) (local.named_from u ts (length n.naming.names) p (length s.known - length n.naming.names))) counts.promises
+            ∙ ap (λ (k : ℕ). n.naming.names ++ map (printed d) (local.named_from u ts k before.promises (length s.known - k))) as_many
+            ∙ ap (λ (xs : List ShownName). xs ++ map (printed d) new) stands.known
+            ∙ sym (map-append (printed d) t.known new);
+        mails = mails;
+      }
+
+-- and so are the counts
+pub counts_stepped : (d : Drawn) (w : World) (i : Interior) (gs : Gifts) (carried : Option Msg) (es : List Entry) (n : Named) → Counts (with_gifts gs (vat_of w i)) (stepped d carried es i gs n)
+unfolding vat_of
+counts_stepped d w i gs carried es n = record { promises = refl; messages = refl; gifts = sym (length-map gs gift_by) }

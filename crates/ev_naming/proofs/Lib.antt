@@ -6,3 +6,4 @@ mod Saying
 mod Shows
 mod Passing
 mod Hearing
+mod NotesShown

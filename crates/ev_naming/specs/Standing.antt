@@ -35,3 +35,16 @@ abbrev pub new_names : Named → List Name → List local.Told → Vat Local →
 new_names t ms brought s =
     local.named_from t.naming.vat (brought ++ local.told_in_step t.naming.vat t.gifts ms s) (length t.naming.names) t.promises
     (length s.known - length t.naming.names)
+
+-- ---- a vat's names
+
+-- the table has these names as they are printed when these words were drawn, and these messages
+pub record Stands (d : Drawn) (t : local.Names) (n : Named) : Type 0 where
+  pub known : n.naming.names ≡ map (printed d) t.known
+  pub mails : mails_of n.naming.mails ≡ t.mails
+
+-- the counts are those of that vat
+pub record Counts (s : Vat Local) (n : Named) : Type 0 where
+  pub promises : n.promises ≡ s.promises
+  pub messages : n.messages ≡ s.messages
+  pub gifts : n.gifts ≡ length s.gifts

@@ -3,10 +3,11 @@
 ghost use Rattle.std.specs.Prelude.{◌≡◌, ◌-◌, ◌++◌, ◌∷◌, [], List, IfOk, OnErr, OnOk, drop, length, map, slice_get};
 ghost use Rattle.ev_base.specs.declared.names.Name.TheVariants as name;
 ghost use Rattle.ev_naming.specs.Names.{all_named, counted, answer_name, asked_tells, answer_tells, carried_mails, event_tells, events_tell, gift_at, gift_tells, gifts_tell, host_in, line_tells, names_first, note_tells, one_named, own_messages, puts_tell, some_tells, step_tells, stepped, mailed, with_mails};
-ghost use Rattle.def_local.specs.Names.{Told as Local};
-ghost use Rattle.def_machine.specs.Values.{word_of};
+ghost use Rattle.def_local.specs.Names.{Names, Told as Local, names_after};
+ghost use Rattle.def_machine.specs.State.{Vat};
+ghost use Rattle.def_machine.specs.Values.{Local as Number, word_of};
 ghost use Rattle.ev_arrive.specs.Reading.{with_gifts};
-ghost use Rattle.ev_naming.specs.Standing.{Says, mails_of, new_names, printed};
+ghost use Rattle.ev_naming.specs.Standing.{Counts, Says, Stands, mails_of, new_names, printed};
 ghost use Rattle.ev_pass.specs.Notes.{key_of, noted, sent};
 ghost use Rattle.ev_room.specs.Reading.{World, vat_of};
 ghost use Rattle.ev_step_lines.specs.Lines.{with_import};
@@ -366,12 +367,12 @@ impl VatNames {
     ) -> Result<(), Memory>
         ensures names { (w : World) → w.before.outbox ≡ [] → w.before.happened ≡ [] → (brought : List Local) → Says words.now told brought
             → OnOk result (self.new.naming.names ≡ self.old.naming.names ++ map (printed words.now) (new_names self.old (mails_of self.new.naming.mails) brought (with_gifts host.now.gifts (vat_of w host.now.inside)))) }
+        ensures stands { (w : World) → w.before.outbox ≡ [] → w.before.happened ≡ [] → (brought : List Local) → Says words.now told brought → (t : Names) → Stands words.now t self.old → (before : Vat Number) → Counts before self.old
+            → OnOk result (Stands words.now (names_after self.old.naming.vat t before (mails_of (carried_mails carried)) brought (with_gifts host.now.gifts (vat_of w host.now.inside))) self.new) }
+        ensures counts { (w : World) → OnOk result (Counts (with_gifts host.now.gifts (vat_of w host.now.inside)) self.new) }
         ensures mails { OnOk result (self.new.naming.mails ≡ (self.old.naming.mails ++ carried_mails carried) ++ own_messages self.old.naming.vat self.old.messages (host.now.inside.refs.messages - self.old.messages)) }
         ensures vat { OnOk result (self.new.naming.vat ≡ self.old.naming.vat) }
         ensures objects { OnOk result (self.new.naming.objects ≡ self.old.naming.objects) }
-        ensures promises { OnOk result (self.new.promises ≡ host.now.inside.refs.promises) }
-        ensures messages { OnOk result (self.new.messages ≡ host.now.inside.refs.messages) }
-        ensures gifts { OnOk result (self.new.gifts ≡ length host.now.gifts) }
     {
         self.step(&host.inside, &host.gifts, words, carried, told)?;
         Ok(())
