@@ -8,7 +8,7 @@ use Rattle.rand_chacha.specs.ChaCha.{ChaCha, key_of}
 use Rattle.ev_intro.specs.Word.{number_at, word, draws}
 
 -- the second where the first is none
-abbrev or_else : Option ℕ → Option ℕ → Option ℕ
+abbrev pub or_else : Option ℕ → Option ℕ → Option ℕ
 or_else None o = o
 or_else (Some x) o = Some x
 
@@ -16,17 +16,17 @@ first_of : (b : Bool) (v : ℕ) (o p : Option ℕ) → cond b (Some v) (or_else 
 first_of true v o p = refl
 first_of false v o p = refl
 
-lookup-push : (t : ℕ → Bool) (es : List (ℕ × ℕ)) (k v : ℕ) → lookup t (es ++ (k, v) ∷ []) ≡ or_else (lookup t es) (cond (t k) (Some v) None)
+pub lookup-push : (t : ℕ → Bool) (es : List (ℕ × ℕ)) (k v : ℕ) → lookup t (es ++ (k, v) ∷ []) ≡ or_else (lookup t es) (cond (t k) (Some v) None)
 lookup-push t [] k v = refl
 lookup-push t (e ∷ es) k v = ap (λ (o : Option ℕ). cond (t e.0) (Some e.1) o) (lookup-push t es k v) ∙ first_of (t e.0) e.1 (lookup t es) (cond (t k) (Some v) None)
 
 -- what was found, among the first or as the last
-either : (o : Option ℕ) (b : Bool) (v i : ℕ) (P : Type 0) → or_else o (cond b (Some v) None) ≡ Some i → (o ≡ Some i → P) → ((b ≡ true) × (v ≡ i) × (o ≡ None) → P) → P
+pub either : (o : Option ℕ) (b : Bool) (v i : ℕ) (P : Type 0) → or_else o (cond b (Some v) None) ≡ Some i → (o ≡ Some i → P) → ((b ≡ true) × (v ≡ i) × (o ≡ None) → P) → P
 either (Some x) b v i P e f g = f e
 either None true v i P e f g = g (refl, cc, refl)
 either None false v i P e f g = absurd cc
 
-neither : (o : Option ℕ) (b : Bool) (v : ℕ) → or_else o (cond b (Some v) None) ≡ None → (o ≡ None) × (b ≡ false)
+pub neither : (o : Option ℕ) (b : Bool) (v : ℕ) → or_else o (cond b (Some v) None) ≡ None → (o ≡ None) × (b ≡ false)
 neither (Some x) b v e = absurd cc
 neither None true v e = absurd cc
 neither None false v e = (refl, refl)

@@ -67,3 +67,7 @@ waiting_at provider (g ∷ gs) (suc index) = waiting_at provider gs index
 abbrev pub and_one : List ℕ → Option ℕ → List ℕ
 and_one promises None = promises
 and_one promises (Some promise) = promises ++ promise ∷ []
+
+-- what tells a gift of one provider from the others, and its promise
+abbrev pub number_and_promise : Gift → ℕ × ℕ
+number_and_promise gift = (gift.swiss, gift.promise)

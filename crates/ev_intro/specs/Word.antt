@@ -1,5 +1,6 @@
 -- Drawn words: numbers of 128 bits out of the key stream of ChaCha20.
-use Rattle.std.specs.Prelude.{◌≡◌, ◌≢◌, ℕ, zero, suc, ◌+◌, ◌*◌, ◌^◌, ◌<◌, List, [], ◌∷◌, ◌++◌}
+use Rattle.std.specs.Prelude.{◌≡◌, ◌≢◌, ℕ, zero, suc, ◌+◌, ◌*◌, ◌^◌, ◌<◌, List, [], ◌∷◌, ◌++◌, nat_eq, unwrap_or}
+use Rattle.std.specs.Map.{lookup}
 use Rattle.rand_chacha.specs.ChaCha.{word_at, key_of}
 use Rattle.ev_intro.specs.declared.words.DrawFault.{DrawFault}
 use Rattle.ev_intro.specs.declared.words.DrawFault.TheVariants as fault
@@ -23,6 +24,10 @@ draws key (suc n) = draws key n ++ (word key n, n) ∷ []
 pub record Drawn : Type 0 where
   pub key : List ℕ
   pub count : ℕ
+
+-- which draw gave that word first, or how many there were where none gave it
+abbrev pub place : ℕ → Drawn → ℕ
+place w drawn = unwrap_or (lookup (nat_eq w) (draws drawn.key drawn.count)) drawn.count
 
 -- no earlier draw gave what the next one gives
 abbrev pub IsNew : Drawn → Type 0

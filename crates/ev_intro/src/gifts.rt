@@ -1,7 +1,7 @@
 //! The gifts of one vat.
 
-ghost use Rattle.std.specs.Prelude.{◌≡◌, ◌↔◌, [], length, IfOk, IsTrue, OnOk, OnErr};
-ghost use Rattle.ev_intro.specs.Gift.{find, put, promise_of, provided, accepted, unopened, and_one, waiting, waiting_at};
+ghost use Rattle.std.specs.Prelude.{◌≡◌, ◌↔◌, [], length, option_map, slice_get, IfOk, IsTrue, OnOk, OnErr};
+ghost use Rattle.ev_intro.specs.Gift.{find, put, promise_of, provided, accepted, unopened, and_one, waiting, waiting_at, number_and_promise};
 
 use ev_base::{Memory, PromId, Seq, VatId};
 use indexmap::IndexMap;
@@ -123,6 +123,16 @@ impl GiftTable {
             promises.push(PromId(promise))?;
         }
         Ok(())
+    }
+
+    /// The number and the promise of the gift at a place, in the order of coming.
+    pub fn entry(&self, index: usize) -> Option<(u128, PromId)>
+        ensures { result ≡ option_map number_and_promise (slice_get self.now index) }
+    {
+        match self.gifts.get_index(index) {
+            Some((key, gift)) => Some((key.swiss, PromId(gift.promise))),
+            None => None,
+        }
     }
 
     /// How many gifts there are.

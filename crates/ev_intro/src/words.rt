@@ -2,7 +2,7 @@
 
 ghost use Rattle.std.specs.Prelude.{◌≡◌, ◌+◌, ◌*◌, ◌^◌, ◌≤◌, ◌<◌, IfOk, IfErr, OnErr};
 ghost use Rattle.rand_chacha.specs.ChaCha.{ChaCha};
-ghost use Rattle.ev_intro.specs.Word.{number_at, word, IsNew, IsDrawFault};
+ghost use Rattle.ev_intro.specs.Word.{number_at, place, word, IsNew, IsDrawFault};
 
 use indexmap::IndexMap;
 use rand_chacha::ChaCha20Rng;
@@ -96,6 +96,16 @@ impl Words {
         ensures { result ≡ self.now.count }
     {
         self.drawn.len() as u64
+    }
+
+    /// Which draw gave that word, or how many were made where none gave it.
+    pub fn place(&self, word: u128) -> u64
+        ensures { result ≡ place word self.now }
+    {
+        match self.drawn.get(&word).copied() {
+            Some(place) => place,
+            None => self.drawn.len() as u64,
+        }
     }
 
     /// The word that the next draw gives. It stays to be drawn.

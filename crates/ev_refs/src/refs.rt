@@ -73,6 +73,20 @@ impl Refs {
         self.cycle
     }
 
+    /// How many messages of its own there were.
+    pub fn messages(&self) -> u64
+        ensures { result ≡ self.now.messages }
+    {
+        self.messages
+    }
+
+    /// How many promises it made.
+    pub fn promises(&self) -> u64
+        ensures { result ≡ self.now.promises }
+    {
+        self.promises
+    }
+
     /// How many names are known.
     pub fn count(&self) -> u64
         ensures { result ≡ length self.now.known }

@@ -1,5 +1,5 @@
 -- The lines of what happened in a vat, where its numbers stand for these names.
-use Rattle.std.specs.Prelude.{ℕ, List, [], ◌∷◌, ◌++◌, Option, Some, None, flat_map, get_or, map, slice_get, slice_set, unwrap_or, codes}
+use Rattle.std.specs.Prelude.{ℕ, Bool, true, false, List, [], ◌∷◌, ◌++◌, Option, Some, None, flat_map, get_or, map, slice_get, slice_set, unwrap_or, codes}
 use Rattle.ev_base.specs.declared.names.Msg.{Msg}
 use Rattle.ev_base.specs.declared.names.Name.{Name}
 use Rattle.ev_base.specs.declared.names.Name.TheVariants as name
@@ -38,10 +38,11 @@ object_at t h p = get_or (get_or t.objects h []) p p
 abbrev pub with_import : ℕ → ℕ → Naming → Naming
 with_import h object t = record t { objects = slice_set t.objects h (get_or t.objects h [] ++ object ∷ []) }
 
--- a vat whose lines are told: how it names things, and the texts of its heap
+-- a vat whose lines are told: how it names things, the texts of its heap, and of each vat by its number whether the link to it is cut
 pub record Telling : Type 0 where
   pub naming : Naming
   pub texts : List (List ℕ)
+  pub cut : List Bool
 
 abbrev pub text_at : Telling → ℕ → List ℕ
 text_at t id = unwrap_or (slice_get t.texts id) []
@@ -97,7 +98,15 @@ sent_line t act m x verb args (Some a) =
 sent_line t act m x verb args None =
     line.SendOnly (record { activation = act; message = mail_at t.naming m; target = shown_held t x; verb = verb; args = all_held t args })
 
--- the line of what references do; what is put for another vat, and what comes to be known, has none
+-- A message that was put is lost where the link is cut. One that goes out has no line.
+abbrev pub lost_if : Bool → Telling → ℕ → List Event
+lost_if true t m = line.LostCut (mail_at t.naming m) ∷ []
+lost_if false t m = []
+
+abbrev pub posted_lines : Telling → ℕ → ℕ → List Event
+posted_lines t h m = lost_if (get_or t.cut h false) t m
+
+-- the line of what references do; what comes to be known has none
 abbrev pub referred : Telling → Happened → List Event
 referred t (event.Take act m x verb args answer) =
     line.Take (record { activation = act; message = mail_at t.naming m; target = shown_held t x; verb = verb; args = all_held t args }) ∷ []
@@ -112,6 +121,7 @@ referred t (event.Settle p v) = line.Settle (name_at t.naming p) (shown_held t v
 referred t (event.Wait p q) = line.Wait (name_at t.naming p) (name_at t.naming q) ∷ []
 referred t (event.View p q) = line.View (name_at t.naming p) (name_at t.naming q) ∷ []
 referred t (event.LostBroken m) = line.LostBroken (mail_at t.naming m) ∷ []
+referred t (event.Posted h m) = posted_lines t h m
 referred t _ = []
 
 -- the line of what happened

@@ -121,7 +121,7 @@ fn push_all(
     Ok(())
 }
 
-/// Adds the lines of all that happened, in order. What is put for another vat and what comes to be known has no line.
+/// Adds the lines of all that happened, in order. A message that was put has a line where the link is cut, and what comes to be known has none.
 pub fn push_lines(teller: &Teller<'_>, events: &Lines, history: &mut History) -> Result<(), Memory>
     ensures { OnOk result (history.new ≡ history.old ++ lines_of teller.now events.now) }
 {

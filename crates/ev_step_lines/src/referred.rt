@@ -3,12 +3,12 @@
 ghost use Rattle.std.specs.Prelude.{◌≡◌, ◌++◌, IfOk, OnOk};
 ghost use Rattle.def_event.specs.declared.event.Event.TheVariants.{When};
 ghost use Rattle.ev_base.specs.declared.names.Msg.{Msg};
-ghost use Rattle.ev_step_lines.specs.Lines.{all_held, mail_at, name_at, promise_lines, referred, sent_line, shown_held};
+ghost use Rattle.ev_step_lines.specs.Lines.{all_held, mail_at, name_at, posted_lines, promise_lines, referred, sent_line, shown_held};
 
 use crate::shown::{problem, shown, shown_all};
 use crate::teller::Teller;
 use def_event::{Addressed, Boxed, Event, Reacting, Sent, Shown};
-use ev_base::{ActId, Memory, MsgId, Name, PromId, Str, Value};
+use ev_base::{ActId, Memory, MsgId, Name, PromId, Str, Value, VatId};
 use ev_event::History;
 use ev_heap::Happened;
 
@@ -102,6 +102,22 @@ fn push_promise(
     }
 }
 
+/// Adds the line of a message that was put, where the link is cut.
+fn push_posted(
+    teller: &Teller<'_>,
+    to: VatId,
+    message: MsgId,
+    history: &mut History,
+) -> Result<(), Memory>
+    ensures { OnOk result (history.new ≡ history.old ++ posted_lines teller.now to message) }
+{
+    if teller.is_cut(to) {
+        history.push(Event::LostCut(teller.table.message(message)))
+    } else {
+        Ok(())
+    }
+}
+
 /// Adds the line of what references do, and none of anything else.
 pub(crate) fn push_referred(
     teller: &Teller<'_>,
@@ -173,6 +189,7 @@ pub(crate) fn push_referred(
             history.push(Event::View(table.name(*name), table.name(*other)))
         }
         Happened::LostBroken(message) => history.push(Event::LostBroken(table.message(*message))),
+        Happened::Posted(to, message) => push_posted(teller, *to, *message, history),
         _ => Ok(()),
     }
 }

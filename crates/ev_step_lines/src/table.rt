@@ -1,6 +1,6 @@
 //! The names that the numbers of a vat stand for.
 
-ghost use Rattle.std.specs.Prelude.{◌≡◌, ◌++◌, ◌∷◌, [], OnErr, OnOk, length, replicate};
+ghost use Rattle.std.specs.Prelude.{◌≡◌, ◌++◌, ◌∷◌, [], OnErr, OnOk, length, replicate, slice_get};
 ghost use Rattle.ev_step_lines.specs.Lines.{mail_at, name_at, no_names, object_at, with_import};
 
 use ev_base::{Memory, Msg, MsgId, Name, PromId, Seq, VatId};
@@ -119,6 +119,14 @@ impl Table {
             Some(name) => *name,
             None => Name::Root(self.vat),
         }
+    }
+
+    /// The message of that number, where there is one.
+    pub fn mailed(&self, number: MsgId) -> Option<Msg>
+        ensures { result ≡ slice_get self.now.mails number }
+    {
+        let index = usize::try_from(number.0).ok()?;
+        self.mails.as_slice().get(index).copied()
     }
 
     /// What a message of that number is called.

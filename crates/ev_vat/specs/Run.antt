@@ -26,9 +26,9 @@ naming_of t = record { vat = zero; names = map (shown_name []) t.known; mails = 
 abbrev pub named_of : Names → Named
 named_of t = record { naming = naming_of t; promises = t.promises }
 
--- how the lines of a step are told, where the texts of the heap are these
+-- how the lines of a step are told, where the texts of the heap are these; no link is cut
 abbrev pub telling_by : Named → List Words → Telling
-telling_by n texts = record { naming = n.naming; texts = texts }
+telling_by n texts = record { naming = n.naming; texts = texts; cut = [] }
 
 -- the vat between two steps, which tells and puts nothing
 abbrev pub resting : machine.Vat Local → machine.Vat Local

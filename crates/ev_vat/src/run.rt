@@ -76,6 +76,7 @@ fn tell_step(
         alloc,
         heap: &inside.heap,
         table: names.table(),
+        cut: &[],
     };
     push_lines(&teller, &inside.micro.events, history)
 }
