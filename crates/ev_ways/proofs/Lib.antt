@@ -1,2 +1,5 @@
 pub mod Places
 pub mod Stands
+pub mod Looks
+pub mod Changes
+pub mod Cuts

@@ -2,6 +2,7 @@
 use Rattle.std.proofs.Common.{◌≡◌, ◌⊎◌, inl, inr, ℕ, zero, suc, Bool, true, false, List, [], ◌∷◌, ◌++◌, Option, Some, None, refl, sym, ap, ◌∙◌, subst, length}
 use Rattle.std.specs.Prelude.{◌==◌, slice_get, if◌then◌else◌}
 use Rattle.std.proofs.lemmas.Bool.{eqb-true, eq-eqb}
+use Rattle.std.proofs.lemmas.List.{length-set}
 use Rattle.def_local.specs.Numbers.{Way, is_way, way_at, with_way}
 use Rattle.ev_ways.specs.Rows.{Lane, fresh, set_found, with_at, changed_from, changed}
 use Rattle.ev_ways.specs.Standing.{Placed, IsWay, AreWays, WaysStand, placed_from}
@@ -99,9 +100,7 @@ module _ {A : Type 0} (f : A → A) where
   long_of : (i : ℕ) (xs : List A) (o : Option A) → length (set_found f i xs o) ≡ length xs
   unfolding set_found
   long_of i xs None = refl
-  long_of i [] (Some x) = refl
-  long_of zero (z ∷ zs) (Some x) = refl
-  long_of (suc i) (z ∷ zs) (Some x) = ap suc (long_of i zs (Some x))
+  long_of i xs (Some x) = length-set xs i (f x)
 
   pub as_long : (i : ℕ) (xs : List A) → length (with_at f i xs) ≡ length xs
   unfolding with_at
