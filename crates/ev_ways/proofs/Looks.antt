@@ -27,12 +27,12 @@ module _ {B : Type 0} (d : B) (h : Lane → B) (v u : ℕ) where
   lane_placed None = refl
   lane_placed (Some l) = refl
 
-  row_placed : (o : Option (List Lane)) → of_place d h (of_found (found_in v u) o) ≡ of_row o
+  pub row_placed : (o : Option (List Lane)) → of_place d h (of_found (found_in v u) o) ≡ of_row o
   unfolding of_found found_in
   row_placed None = refl
   row_placed (Some r) = lane_placed (slice_get r u)
 
-  by_or : (rows : List (List Lane)) (b : Bool) (x : B) → (v == u) ≡ b → x ≡ of_row (slice_get rows v) → (if b then d else x) ≡ of_place d h (placed_at v u (placed_from zero rows))
+  pub by_or : (rows : List (List Lane)) (b : Bool) (x : B) → (v == u) ≡ b → x ≡ of_row (slice_get rows v) → (if b then d else x) ≡ of_place d h (placed_at v u (placed_from zero rows))
   by_or rows true x e i = sym (ap (λ (w : ℕ). of_place d h (placed_at v w (placed_from zero rows))) (sym (eqb-true v u e)) ∙ ap (of_place d h) (own_found v rows))
   by_or rows false x e i = i ∙ (sym (row_placed (slice_get rows v)) ∙ ap (of_place d h) (sym (rows_found v u zero v rows (λ j. let t : true ≡ false = sym (eq-eqb v u j) ∙ e in cc) (omega arith))))
 
