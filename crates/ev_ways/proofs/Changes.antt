@@ -1,10 +1,10 @@
 -- The ways stay standing where a frame is pushed or taken.
-use Rattle.std.proofs.Common.{◌≡◌, ◌⊎◌, inl, inr, ℕ, zero, suc, Bool, true, false, List, [], ◌∷◌, ◌++◌, Option, Some, None, refl, sym, ap, ◌∙◌, subst}
+use Rattle.std.proofs.Common.{◌≡◌, ◌⊎◌, inl, inr, ℕ, zero, Bool, true, false, List, [], ◌∷◌, ◌++◌, Option, Some, None, refl, sym, ap, ◌∙◌, subst}
 use Rattle.std.specs.Prelude.{drop, slice_get, if◌then◌else◌}
 use Rattle.def_local.specs.Numbers.{Way, is_way, way_at, with_way, pushed}
 use Rattle.def_local.specs.Numbers.{Frame as Carrying}
 use Rattle.ev_ways.specs.declared.frame.Frame.{Frame}
-use Rattle.ev_ways.specs.Rows.{Lane, put, next, behind, first, rest, next_at, first_at, changed}
+use Rattle.ev_ways.specs.Rows.{Lane, put, next, behind, first, rest, changed}
 use Rattle.ev_ways.specs.Standing.{Placed, IsFrame, AreFrames, IsWay, WaysStand, placed_from}
 use Rattle.ev_ways.specs.Statements.{PushStands, IsIdle, IsTaken, IsCarried, Carries, CarryStands, IsEmpty, Loses, LoseStands}
 use Rattle.ev_ways.proofs.Places.{on, placed_at}
@@ -141,8 +141,10 @@ rest_taken ds l p x xs h i = record { sender = h.sender; receiver = h.receiver; 
 
 module _ (ds : List ℕ) (n v u : ℕ) (ls : List Way) (ways : List (List Lane)) (h : WaysStand ds n ls ways) where
   empty_at : (l : Way) → way_at v u ls ≡ Some l → l.frames ≡ [] → Loses ds n v u ls (changed rest v u ways) None
-  empty_at l e k = (subst (λ (o : Option Way). IsEmpty o) (sym e) k,
-      unchanged ds n v u rest ls ways h (λ m p i f. rest_none ds m p f.stands (subst (λ (w : Way). w.frames ≡ []) (same_way (way_at v u ls) l m e i) k)))
+  empty_at l e k = (
+    subst (λ (o : Option Way). IsEmpty o) (sym e) k,
+    unchanged ds n v u rest ls ways h (λ m p i f. rest_none ds m p f.stands (subst (λ (w : Way). w.frames ≡ []) (same_way (way_at v u ls) l m e i) k)),
+  )
 
   taken_off : (l : Way) (k : Frame) (x : Carrying) (xs : List Carrying) → way_at v u ls ≡ Some l → l.to ≡ u → l.frames ≡ x ∷ xs → IsFrame ds l.to x k → IsTaken ds n v u ls (changed rest v u ways) k
   taken_off l k x xs e i f j = record {

@@ -8,12 +8,12 @@ use Rattle.def_event.specs.declared.event.Event.TheVariants as event
 use Rattle.def_event.specs.declared.note.ShownNote.{ShownNote}
 use Rattle.def_run.specs.Shown.{shown_event}
 use Rattle.def_run.specs.Text.{shown_events}
-use Rattle.def_run.specs.World.{Event, LeftLink, Script}
+use Rattle.def_run.specs.World.{LeftLink, Script}
 use Rattle.def_local.specs.Numbers.{Way, left_ways}
 use Rattle.def_local.specs.Numbers.{Frame as Carrying}
 use Rattle.ev_ways.specs.declared.frame.Frame.{Frame}
 use Rattle.ev_ways.specs.Rows.{Lane, fresh}
-use Rattle.ev_ways.specs.Standing.{AreFrames, AreWays, IsWay, Placed, WaysStand, placed_from, placed_to}
+use Rattle.ev_ways.specs.Standing.{AreFrames, AreWays, IsWay, Placed, placed_from, placed_to}
 use Rattle.ev_ways.specs.Statements.{LeftStands}
 use Rattle.ev_ways.specs.Telling.{left_frames, left_row, left_rows}
 use Rattle.ev_ways.proofs.Cuts.{shown_join}
@@ -72,7 +72,7 @@ unfolding placed_to left_row left_placed
 row_left v u [] k = refl
 row_left v u (l ∷ ls) k =
     row_or v u (v == u) l (placed_to v (suc u) ls) (left_row v (suc u) ls) (λ e. k zero l (let i = eqb-true v u e in omega arith) refl)
-      (row_left v (suc u) ls (λ i m e f. k (suc i) m (omega arith) f))
+    (row_left v (suc u) ls (λ i m e f. k (suc i) m (omega arith) f))
 
 abbrev RowsUnused : ℕ → List (List Lane) → Type 0
 RowsUnused v rows = (i : ℕ) (r : List Lane) (l : Lane) → slice_get rows i ≡ Some r → slice_get r (v + i) ≡ Some l → l ≡ fresh

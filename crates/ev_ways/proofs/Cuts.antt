@@ -1,7 +1,7 @@
 -- A link is cut on both sides.
-use Rattle.std.proofs.Common.{◌≡◌, ◌⊎◌, inl, inr, ℕ, zero, suc, Bool, true, false, List, [], ◌∷◌, ◌++◌, Option, Some, None, refl, sym, ap, ◌∙◌, subst, map, arith}
+use Rattle.std.proofs.Common.{◌≡◌, ℕ, zero, suc, Bool, true, false, List, [], ◌∷◌, ◌++◌, Option, Some, None, refl, sym, ap, ◌∙◌, map}
 use Rattle.std.specs.Prelude.{◌==◌, slice_get, if◌then◌else◌}
-use Rattle.std.proofs.lemmas.Bool.{eqb-true, eq-eqb}
+use Rattle.std.proofs.lemmas.Bool.{eq-eqb}
 use Rattle.std.proofs.lemmas.List.{append_assoc}
 use Rattle.def_event.specs.declared.event.Event.{Event as ShownEvent}
 use Rattle.def_machine.specs.Values.{Name}
@@ -14,11 +14,11 @@ use Rattle.def_local.specs.Numbers.{Way, way_at, with_way, carried_in, lost_fram
 use Rattle.def_local.specs.Numbers.{Frame as Carrying}
 use Rattle.ev_ways.specs.declared.frame.Frame.{Frame}
 use Rattle.ev_ways.specs.Rows.{Lane, changed, changed_from, frames_at, frames_to, row_at, row_of, set_found, severed, with_at}
-use Rattle.ev_ways.specs.Standing.{Placed, IsFrame, AreFrames, IsWay, WaysStand, placed_from, told_message}
-use Rattle.ev_ways.specs.Statements.{IsCut, CutStands}
+use Rattle.ev_ways.specs.Standing.{Placed, AreFrames, IsWay, WaysStand, placed_from, told_message}
+use Rattle.ev_ways.specs.Statements.{CutStands}
 use Rattle.ev_ways.specs.Telling.{lost_event, lost_events}
 use Rattle.ev_ways.proofs.Places.{on, placed_at}
-use Rattle.ev_ways.proofs.Stands.{Found, MayStand, finds, changes_stand}
+use Rattle.ev_ways.proofs.Stands.{MayStand, finds, changes_stand}
 use Rattle.ev_ways.proofs.Looks.{of_place, frames_found}
 
 -- ---- what is told of lost frames

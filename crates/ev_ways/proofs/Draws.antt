@@ -1,5 +1,5 @@
 -- The ways stand under other draws, where what is under way is told alike.
-use Rattle.std.proofs.Common.{◌≡◌, ◌⊎◌, inl, inr, ℕ, zero, suc, Bool, true, false, List, [], ◌∷◌, ◌++◌, Option, Some, None, refl, sym, ap, ◌∙◌, subst, map, arith}
+use Rattle.std.proofs.Common.{◌≡◌, ℕ, zero, suc, Bool, true, false, List, [], ◌∷◌, ◌++◌, Option, Some, None, refl, sym, ap, ◌∙◌, subst, map, arith}
 use Rattle.std.specs.Prelude.{◌==◌}
 use Rattle.std.proofs.lemmas.Bool.{eq-eqb}
 use Rattle.ev_base.specs.declared.names.Msg.{Msg as ShownMsg}
@@ -10,9 +10,9 @@ use Rattle.def_local.specs.Numbers.{Way, carried_in, is_way, way_at}
 use Rattle.def_local.specs.Numbers.{Frame as Carrying}
 use Rattle.ev_ways.specs.declared.frame.Frame.{Frame}
 use Rattle.ev_ways.specs.Rows.{Lane}
-use Rattle.ev_ways.specs.Standing.{AreFrames, AreWays, IsFrame, IsWay, Placed, WaysStand, placed_from, placed_to, told_message}
+use Rattle.ev_ways.specs.Standing.{AreFrames, AreWays, IsWay, Placed, placed_from, placed_to, told_message}
 use Rattle.ev_ways.specs.Statements.{DrawsStand}
-use Rattle.ev_ways.proofs.Places.{Clear, clear_join, chosen, placed_at, at_clear, refused, row_ahead, rows_ahead}
+use Rattle.ev_ways.proofs.Places.{Clear, clear_join, chosen, placed_at, at_clear, row_ahead, rows_ahead}
 use Rattle.ev_ways.proofs.Stands.{MayStand, ends, finds}
 
 -- ---- frames
@@ -45,13 +45,15 @@ frames_alike : (ds es : List ℕ) (u : ℕ) (xs : List Carrying) (ks : List Fram
 frames_alike ds es u [] [] e h = tt
 frames_alike ds es u (x ∷ xs) (k ∷ ks) e h =
     let ns : List ShownNote = map (λ (y : Carrying). shown_note es u y.note) xs in
-    let ms : List ShownNote = map (λ (y : Carrying). shown_note ds u y.note) xs in
-    (record {
-      spelled = h.0.spelled;
-      told = h.0.told ∙ sym (first_same (shown_note es u x.note) (shown_note ds u x.note) ns ms e);
-      brought = h.0.brought ∙ message_alike ds es (carried_in x.note);
-      asking = h.0.asking;
-    }, frames_alike ds es u xs ks (others_same (shown_note es u x.note) (shown_note ds u x.note) ns ms e) h.1)
+    let ms : List ShownNote = map (λ (y : Carrying). shown_note ds u y.note) xs in (
+      record {
+        spelled = h.0.spelled;
+        told = h.0.told ∙ sym (first_same (shown_note es u x.note) (shown_note ds u x.note) ns ms e);
+        brought = h.0.brought ∙ message_alike ds es (carried_in x.note);
+        asking = h.0.asking;
+      },
+      frames_alike ds es u xs ks (others_same (shown_note es u x.note) (shown_note ds u x.note) ns ms e) h.1,
+    )
 frames_alike ds es u [] (k ∷ ks) e h = absurd h
 frames_alike ds es u (x ∷ xs) [] e h = absurd h
 
@@ -82,7 +84,6 @@ row_from : (v u : ℕ) (r : List Lane) → AllFrom v (placed_to v u r)
 unfolding placed_to
 row_from v u [] = tt
 row_from v u (l ∷ ls) = from_or v (v == u) (record { from = v; to = u; lane = l }) (placed_to v (suc u) ls) refl (row_from v (suc u) ls)
-
 
 apart_join : (v : ℕ) (rs : List (List Lane)) (ps : List Placed) → AllFrom v ps → Apart ps → Apart (placed_from (suc v) rs) → Apart (ps ++ placed_from (suc v) rs)
 apart_join v rs [] f h k = k
@@ -123,13 +124,14 @@ ways_alike : (ds es : List ℕ) (ls : List Way) (ps : List Placed) → Apart ps 
 unfolding way_at
 ways_alike ds es [] [] a e h = tt
 ways_alike ds es (l ∷ ls) (p ∷ ps) a e h = (
-    record {
-      sender = h.0.sender;
-      receiver = h.0.receiver;
-      is_cut = h.0.is_cut;
-      under_way = frames_alike ds es l.to l.frames p.lane.frames (e l.from l.to l (chosen (is_way l.from l.to l) (Some l) (way_at l.from l.to ls) (here l))) h.0.under_way;
-    },
-    ways_alike ds es ls ps a.1 (λ v u m i. e v u m (behind_or ds v u (is_way v u l) l m p ls ps refl h.0 h.1 a.0 i)) h.1)
+  record {
+    sender = h.0.sender;
+    receiver = h.0.receiver;
+    is_cut = h.0.is_cut;
+    under_way = frames_alike ds es l.to l.frames p.lane.frames (e l.from l.to l (chosen (is_way l.from l.to l) (Some l) (way_at l.from l.to ls) (here l))) h.0.under_way;
+  },
+  ways_alike ds es ls ps a.1 (λ v u m i. e v u m (behind_or ds v u (is_way v u l) l m p ls ps refl h.0 h.1 a.0 i)) h.1,
+)
 ways_alike ds es [] (p ∷ ps) a e h = absurd h
 ways_alike ds es (l ∷ ls) [] a e h = absurd h
 

@@ -1,8 +1,7 @@
 -- What the rows answer is what stands on the way among the others.
-use Rattle.std.proofs.Common.{◌≡◌, ℕ, zero, Bool, true, false, List, [], ◌∷◌, Option, Some, None, refl, sym, ap, ◌∙◌, arith}
+use Rattle.std.proofs.Common.{◌≡◌, ℕ, zero, Bool, true, false, List, [], Option, Some, None, refl, sym, ap, ◌∙◌, arith}
 use Rattle.std.specs.Prelude.{◌==◌, slice_get, if◌then◌else◌}
 use Rattle.std.proofs.lemmas.Bool.{eqb-true, eq-eqb}
-use Rattle.ev_ways.specs.declared.frame.Frame.{Frame}
 use Rattle.ev_ways.specs.Rows.{Lane, next, first, of_found, frames_in, row_of, row_at, next_to, first_to, frames_to, next_from, first_from, next_at, first_at, frames_at}
 use Rattle.ev_ways.specs.Standing.{Placed, placed_from}
 use Rattle.ev_ways.proofs.Places.{placed_at, place_for, found_in, rows_found, own_found}

@@ -1,12 +1,12 @@
 -- One way of those that the rows stand for.
-use Rattle.std.proofs.Common.{◌≡◌, ◌⊎◌, inl, inr, ℕ, zero, suc, Bool, true, false, List, [], ◌∷◌, ◌++◌, Option, Some, None, refl, sym, ap, ◌∙◌, subst, length}
+use Rattle.std.proofs.Common.{◌≡◌, ◌⊎◌, inl, inr, ℕ, zero, suc, Bool, true, false, List, [], ◌∷◌, Option, Some, None, refl, sym, ap, ◌∙◌, subst, length}
 use Rattle.std.specs.Prelude.{◌==◌, slice_get, if◌then◌else◌}
 use Rattle.std.proofs.lemmas.Bool.{eqb-true, eq-eqb}
 use Rattle.std.proofs.lemmas.List.{length-set}
 use Rattle.def_local.specs.Numbers.{Way, is_way, way_at, with_way}
 use Rattle.ev_ways.specs.Rows.{Lane, fresh, set_found, with_at, changed_from, changed}
 use Rattle.ev_ways.specs.Standing.{Placed, IsWay, AreWays, WaysStand, placed_from}
-use Rattle.ev_ways.proofs.Places.{chosen, refused, on, is_placed, placed_at, with_placed, changes_placed}
+use Rattle.ev_ways.proofs.Places.{on, is_placed, placed_at, with_placed, changes_placed}
 
 -- ---- ways by their ends
 
@@ -116,7 +116,6 @@ module _ (n : ℕ) (g : Lane → Lane) (v u : ℕ) (rows : List (List Lane)) whe
   abbrev pub AreUnused : List (List Lane) → Type 0
   AreUnused rs = (a : ℕ) (r : List Lane) (l : Lane) → slice_get rs a ≡ Some r → slice_get r a ≡ Some l → l ≡ fresh
 
-
   long_by : AreLong rows → (a : ℕ) (r : List Lane) → Came (λ (xs : List Lane). with_at g u xs) v a rows r → length r ≡ n
   long_by h a r (inl e) = h a r e
   long_by h a r (inr e) = ap (λ (xs : List Lane). length xs) e.1.2 ∙ (as_long g u e.1.0 ∙ h a e.1.0 e.1.1)
@@ -134,9 +133,10 @@ module _ (n : ℕ) (g : Lane → Lane) (v u : ℕ) (rows : List (List Lane)) whe
   unfolding changed_from
   shape_or true e l h k = (l, h, k)
   shape_or false e l h k = (
-      as_long (λ (xs : List Lane). with_at g u xs) v rows ∙ l,
-      λ a r i. long_by h a r (came (λ (xs : List Lane). with_at g u xs) v a rows r i),
-      λ a r x i j. unused_by k (λ d. let t : true ≡ false = sym (eq-eqb v u d) ∙ e in cc) a r x (came (λ (xs : List Lane). with_at g u xs) v a rows r i) j)
+    as_long (λ (xs : List Lane). with_at g u xs) v rows ∙ l,
+    λ a r i. long_by h a r (came (λ (xs : List Lane). with_at g u xs) v a rows r i),
+    λ a r x i j. unused_by k (λ d. let t : true ≡ false = sym (eq-eqb v u d) ∙ e in cc) a r x (came (λ (xs : List Lane). with_at g u xs) v a rows r i) j,
+  )
 
   shape : length rows ≡ n → AreLong rows → AreUnused rows → (length (changed g v u rows) ≡ n) × AreLong (changed g v u rows) × AreUnused (changed g v u rows)
   unfolding changed

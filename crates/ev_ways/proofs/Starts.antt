@@ -5,7 +5,7 @@ use Rattle.std.proofs.lemmas.List.{length-replicate}
 use Rattle.def_run.specs.World.{Program}
 use Rattle.def_local.specs.Numbers.{Way, ways_from, ways_to}
 use Rattle.ev_ways.specs.Rows.{Lane, fresh, fresh_row, fresh_rows}
-use Rattle.ev_ways.specs.Standing.{Placed, AreWays, IsWay, WaysStand, placed_from, placed_to}
+use Rattle.ev_ways.specs.Standing.{Placed, AreWays, IsWay, placed_from, placed_to}
 use Rattle.ev_ways.specs.Statements.{StartStands}
 
 pub ways_join : (ds : List ℕ) (ls ms : List Way) (ps qs : List Placed) → AreWays ds ls ps → AreWays ds ms qs → AreWays ds (ls ++ ms) (ps ++ qs)
@@ -23,14 +23,14 @@ unfolding ways_to placed_to
 row_starts ds v u [] = tt
 row_starts ds v u (p ∷ ps) =
     one_or ds (v == u) (record { from = v; to = u; cut = false; frames = [] }) (record { from = v; to = u; lane = fresh }) (ways_to v (suc u) ps) (placed_to v (suc u) (replicate (length ps) fresh))
-      (record { sender = refl; receiver = refl; is_cut = refl; under_way = tt }) (row_starts ds v (suc u) ps)
+    (record { sender = refl; receiver = refl; is_cut = refl; under_way = tt }) (row_starts ds v (suc u) ps)
 
 rows_start : (ds : List ℕ) (all : List Program) (v : ℕ) (ps : List Program) → AreWays ds (ways_from all v ps) (placed_from v (replicate (length ps) (fresh_row (length all))))
 unfolding ways_from placed_from fresh_row
 rows_start ds all v [] = tt
 rows_start ds all v (p ∷ ps) =
     ways_join ds (ways_to v zero all) (ways_from all (suc v) ps) (placed_to v zero (replicate (length all) fresh)) (placed_from (suc v) (replicate (length ps) (fresh_row (length all))))
-      (row_starts ds v zero all) (rows_start ds all (suc v) ps)
+    (row_starts ds v zero all) (rows_start ds all (suc v) ps)
 
 -- what stands in a list of one and the same is that
 repeated : {A : Type 0} (n i : ℕ) (x y : A) → slice_get (replicate n x) i ≡ Some y → y ≡ x

@@ -1,5 +1,4 @@
 use Rattle.std.proofs.Common.{◌≡◌, map, take}
-use Rattle.ev_ways.specs.Rows.{cuts}
 use Rattle.ev_ways.proofs.row.Row.cuts.Given as goal
 
 abbrev pub invariant-loop-way : goal.invariant-loop-way
