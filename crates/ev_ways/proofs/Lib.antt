@@ -1,0 +1,9 @@
+pub mod Places
+pub mod Stands
+pub mod Looks
+pub mod Changes
+pub mod Cuts
+pub mod Starts
+pub mod Draws
+pub mod Closing
+pub mod Links

@@ -1,0 +1,21 @@
+//! A frame under way from one vat to another.
+
+use def_event::ShownNote;
+use ev_base::{Msg, Seq};
+
+/// A frame, with what a history tells of it.
+#[derive(Drop)]
+pub struct Frame {
+    pub bytes: Seq<u8>,
+    /// The note that it says, as it prints.
+    pub note: ShownNote,
+    /// The message that it brings, if one.
+    pub message: Option<Msg>,
+    /// Whether that asks for an answer.
+    pub asks: bool,
+}
+
+impl Frame {
+    /// The frame is lost.
+    pub fn lose(self) {}
+}

@@ -1,0 +1,11 @@
+//! The ways between the vats of a run, with the frames under way.
+#![tactic(auto)]
+
+pub mod frame;
+pub mod laws;
+pub mod row;
+pub mod way;
+pub mod ways;
+
+pub use frame::Frame;
+pub use ways::Ways;

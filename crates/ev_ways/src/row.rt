@@ -1,0 +1,117 @@
+//! The ways from one vat to each other.
+
+ghost use Rattle.std.specs.Prelude.{◌≡◌, IfOk, OnErr, OnOk};
+ghost use Rattle.ev_ways.specs.Rows.{behind, cut_to, cuts, first_to, frames_to, fresh_row, next_to, put, rest, severed, with_at};
+
+use crate::frame::Frame;
+use crate::way::Way;
+use ev_base::Memory;
+use std::alloc::Global;
+use std::collections::VecDeque;
+use std::marker::Model;
+
+/// The ways from one vat, by the number of the vat that each leads to.
+#[derive(Drop)]
+pub struct Row {
+    ways: Vec<Way>,
+}
+
+impl Model for Row {
+    ghost use Rattle.std.specs.Prelude.{List};
+    ghost use Rattle.std.specs.Coded.{codes};
+    ghost use Rattle.def_event.specs.contracts.shown.Shown as shown;
+    ghost use Rattle.ev_ways.specs.Rows.{Lane};
+
+    ghost Value = { List Lane };
+
+    ghost coded = { Prim.hlevel (codes, shown.the_row.coded) };
+
+    ghost view = { λ r. r.ways.items };
+}
+
+impl Row {
+    /// So many ways, with nothing under way.
+    #[tactic(auto, unfolding(crate::specs::Rows::fresh_row))]
+    pub fn new(alloc: Global, vats: u8) -> Result<Row, Memory>
+        ensures { IfOk result (λ row. row ≡ fresh_row vats) }
+    {
+        let mut ways = Vec::new(alloc);
+        for _ in 0..vats {
+            ways.push(Way::new(alloc))?;
+        }
+        Ok(Row { ways })
+    }
+
+    /// Whether the way to that vat is cut.
+    #[tactic(auto, unfolding(crate::specs::Rows::cut_to, crate::specs::Rows::is_cut_in))]
+    pub fn is_cut(&self, to: usize) -> bool
+        ensures { result ≡ cut_to to self.now }
+    {
+        match self.ways.get(to) {
+            None => false,
+            Some(way) => way.is_cut(),
+        }
+    }
+
+    /// Of each vat whether the way to it is cut.
+    #[tactic(auto, unfolding(crate::specs::Rows::cuts))]
+    pub fn cuts(&self, alloc: Global) -> Result<Vec<bool>, Memory>
+        ensures { IfOk result (λ found. found.items ≡ cuts self.now) }
+    {
+        let mut found = Vec::new(alloc);
+        for way in &self.ways {
+            found.push(way.is_cut())?;
+        }
+        Ok(found)
+    }
+
+    /// Puts a frame on the way to that vat. It is lost without a word where that is cut, or is not there.
+    #[tactic(auto, unfolding(crate::specs::Rows::with_at, crate::specs::Rows::set_found))]
+    pub fn push(&mut self, to: usize, frame: Frame) -> Result<(), Memory>
+        ensures ok { OnOk result (self.new ≡ with_at (put frame) to self.old) }
+    {
+        match self.ways.get_mut(to) {
+            None => {
+                frame.lose();
+                Ok(())
+            }
+            Some(way) => way.push(frame),
+        }
+    }
+
+    /// Takes the first frame under way to that vat, where the way is not cut.
+    #[tactic(auto, unfolding(crate::specs::Rows::with_at, crate::specs::Rows::set_found, crate::specs::Rows::next_to, crate::specs::Rows::of_found))]
+    pub fn carry(&mut self, to: usize) -> Option<Frame>
+        ensures value { result ≡ next_to to self.old }
+        ensures after { self.new ≡ with_at behind to self.old }
+    {
+        match self.ways.get_mut(to) {
+            None => None,
+            Some(way) => way.carry(),
+        }
+    }
+
+    /// Cuts the way to that vat. The answer are the frames that were under way, which are lost.
+    #[tactic(auto, unfolding(crate::specs::Rows::with_at, crate::specs::Rows::set_found, crate::specs::Rows::frames_to, crate::specs::Rows::frames_in))]
+    pub fn cut(&mut self, alloc: Global, to: usize) -> VecDeque<Frame>
+        ensures lost { result.items ≡ frames_to to self.old }
+        ensures after { self.new ≡ with_at severed to self.old }
+    {
+        match self.ways.get_mut(to) {
+            None => VecDeque::new(alloc),
+            Some(way) => way.cut(alloc),
+        }
+    }
+
+    /// Takes the first of the frames on the way to that vat, whether it is cut or not.
+    #[tactic(auto, unfolding(crate::specs::Rows::with_at, crate::specs::Rows::set_found, crate::specs::Rows::first_to, crate::specs::Rows::of_found))]
+    pub fn lose(&mut self, to: usize) -> Option<Frame>
+        ensures value { result ≡ first_to to self.old }
+        ensures after { self.new ≡ with_at rest to self.old }
+    {
+        match self.ways.get_mut(to) {
+            None => None,
+            Some(way) => way.lose(),
+        }
+    }
+}
