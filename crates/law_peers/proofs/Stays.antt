@@ -7,7 +7,7 @@ use Rattle.def_machine.specs.State as machine
 use Rattle.def_machine.specs.Values.{Words, Local, Prom, Mess, same_local}
 use Rattle.def_run.specs.Connections.{Connection, stands_in}
 use Rattle.def_local.specs.Vats as local
-use Rattle.def_local.specs.Vats.{among, unconnected}
+use Rattle.def_local.specs.Vats.{unconnected}
 use Rattle.ev_refs.specs.References.{References}
 use Rattle.ev_tables.specs.Table.{Table, export_number, fresh, name_of, place_of}
 use Rattle.ev_tables.specs.declared.number.Number.{Number}
@@ -15,7 +15,7 @@ use Rattle.ev_tables.specs.declared.number.Number.TheVariants.{MyAnswer, YourAns
 use Rattle.ev_peer.specs.Standing.{IsKept, connection_of, first_number, is_own, is_reference, local_of, or_else, promises, sight_of}
 use Rattle.ev_peer.proofs.Places.{as_values, stands}
 use Rattle.ev_write.specs.Writing.{is_mine}
-use Rattle.law_peers.specs.Standing.{AreFor, HasReferences, IsFor, SeesAsBefore, connections_of, has_number}
+use Rattle.law_peers.specs.Standing.{AreFor, HasReferences, IsFor, SeesAsBefore, among, connections_of, has_number}
 use Rattle.law_peers.specs.Statements.{StaysFor}
 use Rattle.law_peers.proofs.Sights.{own_is}
 

@@ -11,7 +11,7 @@ use Rattle.def_run.specs.Connections as theirs
 use Rattle.def_run.specs.Connections.{Connection, Sight, asked_in}
 use Rattle.def_local.specs.Numbers as local
 use Rattle.def_local.specs.Numbers.{Addressed as Framed, frames_of, written_on}
-use Rattle.def_local.specs.Vats.{among, answer_in as told_answer, is_own as is_own_there, sight_for, unconnected}
+use Rattle.def_local.specs.Vats.{answer_in as told_answer, is_own as is_own_there, sight_for, unconnected}
 use Rattle.ev_pass.specs.Notes.{Parcel, Parcels, Plain, Gift, Many, NoMore, More, Noted, Deliver, Open, Ask, Settled, Elsewhere, Shorten, Sent}
 use Rattle.ev_pass.specs.Reading.{note_by, put_by}
 use Rattle.ev_pass.specs.declared.interior.Interior.{Interior}

@@ -1,10 +1,11 @@
 -- Answers that notes ask for, which are new.
 use Rattle.std.specs.Prelude.{◌≡◌, false, List, [], ◌∷◌, get_or}
 use Rattle.def_local.specs.Numbers.{written_on}
-use Rattle.def_local.specs.Vats.{among, is_own, sight_for, unconnected}
+use Rattle.def_local.specs.Vats.{is_own, sight_for, unconnected}
 use Rattle.def_machine.specs.State.{Put, Vat}
 use Rattle.def_machine.specs.Values.{Local}
 use Rattle.def_run.specs.Connections.{Connection, asked_in}
+use Rattle.law_peers.specs.Standing.{among}
 
 -- it is another vat's, and that vat was not told or asked of it before
 pub record IsNew (s : Vat Local) (c : Connection Local) (n : Local) : Type 0 where

@@ -1,8 +1,8 @@
 -- What a vat has for its peers, as it is to be.
-use Rattle.std.specs.Prelude.{◌≡◌, ℕ, Bool, true, false, List, Some, get_or, map, slice_get}
-use Rattle.def_local.specs.Vats.{among, is_own, unconnected}
+use Rattle.std.specs.Prelude.{◌≡◌, ℕ, Bool, true, false, List, [], ◌∷◌, Some, get_or, map, slice_get}
+use Rattle.def_local.specs.Vats.{is_own, unconnected}
 use Rattle.def_machine.specs.State as machine
-use Rattle.def_machine.specs.Values.{Words, Local}
+use Rattle.def_machine.specs.Values.{Words, Local, same_local}
 use Rattle.def_run.specs.Connections.{Connection}
 use Rattle.ev_peer.specs.Standing.{IsKept, connection_of}
 use Rattle.ev_refs.specs.Reading.{knowns_by}
@@ -29,6 +29,10 @@ pub record HasReferences (texts : List Words) (r : References) (s : machine.Vat 
   pub known : s.known ≡ knowns_by texts 0 r.known
 
 -- ---- what the vat sees as its own
+
+unfoldable pub among : List Local → Local → Bool
+among [] n = false
+among (m ∷ ms) n = elim (same_local m n) [ true ↦ true | false ↦ among ms n ]
 
 -- whether something has a number on a connection
 unfoldable pub has_number : Connection Local → Local → Bool
