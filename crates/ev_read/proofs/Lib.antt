@@ -7,3 +7,4 @@ mod Machine
 mod Taken
 mod Sights
 mod TakenIn
+mod Fitting
