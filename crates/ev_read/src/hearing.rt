@@ -1,9 +1,9 @@
 //! Operations as notes.
 
-ghost use Rattle.std.specs.Prelude.{◌≡◌, true, IfSome};
-ghost use Rattle.def_op.specs.Frames.{IsOp, Provide, Resolve, Shorten};
+ghost use Rattle.std.specs.Prelude.{◌≡◌, true};
+ghost use Rattle.def_op.specs.Frames.{Provide, Resolve, Shorten};
 ghost use Rattle.def_op.specs.Views.{all_described, described, operation, outcome};
-ghost use Rattle.ev_op.specs.Decoded.{decoded, found_view};
+ghost use Rattle.ev_op.specs.Decoded.{found_view};
 ghost use Rattle.ev_read.specs.Bringing.{Ask, told};
 ghost use Rattle.ev_read.specs.Hearing.{Gives, Hears, Shows, found_heard, frame_heard, give, message_heard, name_heard, no_news, note_heard, outcome_heard, subject_at, subject_of, where_next, whole_heard};
 
@@ -292,9 +292,7 @@ pub fn hear_frame(
     learnt: &LearntTable,
     frame: &[u8],
 ) -> Result<Hearing, HearFault>
-    ensures heard { Hears result (frame_heard inside.now connection.now learnt.now frame.now) }
-    // An operation that begins the bytes has a spelling.
-    ensures spelled { IfSome (decoded frame.now) (λ x. IsOp x.0) }
+    ensures { Hears result (frame_heard inside.now connection.now learnt.now frame.now) }
 {
     let found = decode(inside.alloc, frame)?;
     hear_found(inside, connection, learnt, found, frame.len() as u64)
