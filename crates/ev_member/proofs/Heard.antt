@@ -21,13 +21,13 @@ use Rattle.ev_op.specs.Decoded.{decoded}
 use Rattle.ev_pass.specs.declared.interior.Interior.{Interior}
 use Rattle.ev_peer.specs.Standing.{AreReferences, connection_of, is_object, local_of}
 use Rattle.ev_read.proofs.Agreement.{agrees, promises}
-use Rattle.ev_read.proofs.Fitting.{what_is_heard_fits}
+use Rattle.ev_read.proofs.Fitting.{FitsAndIsNew, frame_fits}
 use Rattle.ev_read.proofs.Machine.{among_front, among_more, hears}
 use Rattle.ev_read.specs.Bringing.{Told, told}
-use Rattle.ev_read.specs.Fitting.{ToldFits, keeping}
+use Rattle.ev_read.specs.Fitting.{ToldFits}
 use Rattle.ev_read.specs.Hearing as code
 use Rattle.ev_read.specs.Hearing.{Out, no_news}
-use Rattle.ev_read.specs.Learnt.{LearntGifts, put_all}
+use Rattle.ev_read.specs.Learnt.{LearntGifts}
 use Rattle.ev_read.specs.Reading.{TextsStand, learnt_of, newcomers_of, stage_of, told_by}
 use Rattle.ev_read.specs.Statements.{StandsFor}
 use Rattle.ev_read.specs.declared.news.News.{News}
@@ -130,16 +130,6 @@ module _ (fuel : ℕ) (drawn : List ℕ) (m : Theirs) (q : Member) (found : IsFo
   found_stands size (Some x) is = whole_stands (x.1 == size) x.0 is
   found_stands size None is = refl
 
-  whole_fits : (b : Bool) (o : Operation) (x : Told) (s : News) → IsOp o → cond b (code.note_heard i t q.learnt o (no_news i)) None ≡ Some (x, s) → ToldFits (keeping i.heap s) x × (put_all s.gifts q.learnt ≡ q.learnt ++ s.gifts) × AreReferences s.imports
-  whole_fits true o x s is e = what_is_heard_fits i t q.learnt o x s is e
-  whole_fits false o x s is e = absurd cc
-
-  found_fits : (size : ℕ) (o : Option (Operation × ℕ)) (x : Told) (s : News) → IfSome o (λ (y : Operation × ℕ). IsOp y.0) → code.found_heard i t q.learnt size o ≡ Some (x, s)
-      → ToldFits (keeping i.heap s) x × (put_all s.gifts q.learnt ≡ q.learnt ++ s.gifts) × AreReferences s.imports
-  unfolding code.found_heard code.whole_heard
-  found_fits size (Some y) x s is e = whole_fits (y.1 == size) y.0 x s is e
-  found_fits size None x s is e = absurd cc
-
   module _ (bytes : List ℕ) (spelled : IfSome (decoded bytes) (λ (x : Operation × ℕ). IsOp x.0)) where
     stands : Stands (code.frame_heard i t q.learnt bytes) (frame_heard v m bytes)
     unfolding code.frame_heard
@@ -150,9 +140,8 @@ module _ (fuel : ℕ) (drawn : List ℕ) (m : Theirs) (q : Member) (found : IsFo
     refused e = subst (λ (out : Out Told). Stands out (frame_heard v m bytes)) e stands
 
     module _ (note : Noted) (s : News) (heard : code.frame_heard i t q.learnt bytes ≡ Some (told note, s)) where
-      pub fits : ToldFits (keeping i.heap s) (told note) × (put_all s.gifts q.learnt ≡ q.learnt ++ s.gifts) × AreReferences s.imports
-      unfolding code.frame_heard
-      fits = found_fits (length bytes) (decoded bytes) (told note) s spelled heard
+      pub fits : FitsAndIsNew i q.learnt (told note) s
+      fits = frame_fits i t q.learnt (told note) s bytes spelled heard
 
       abbrev pub read_by : List Words → Note Name
       read_by ts = told_by ts (Mess 0) i.refs.me t.peer (told note)

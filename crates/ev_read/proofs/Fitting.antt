@@ -1,6 +1,6 @@
 -- What is heard fits the heap that keeps the texts of its frame, and is new.
-use Rattle.std.proofs.Common.{◌≡◌, ℕ, zero, suc, ◌+◌, ◌≤◌, nat_lt, max, Bool, true, false, cond, List, [], ◌∷◌, ◌++◌, length, Option, Some, None, slice_get, refl, sym, ap, subst, ◌∙◌, ◌==◌, append_assoc, append-nil, arith}
-use Rattle.std.specs.Prelude.{option_map}
+use Rattle.std.proofs.Common.{◌≡◌, ℕ, zero, suc, ◌+◌, ◌≤◌, nat_lt, Bool, true, false, cond, List, [], ◌∷◌, ◌++◌, length, Option, Some, None, slice_get, refl, sym, ap, subst, ◌∙◌, ◌==◌, append_assoc, append-nil, arith}
+use Rattle.std.specs.Prelude.{IfSome}
 use Rattle.std.proofs.lemmas.Option.{slice_get_within}
 use Rattle.ev_base.specs.declared.values.Value.{Value}
 use Rattle.ev_base.specs.declared.values.Value.TheVariants as held
@@ -9,18 +9,17 @@ use Rattle.def_op.specs.declared.op.Plain.{Plain as Fact}
 use Rattle.def_op.specs.declared.op.Plain.TheVariants as plain
 use Rattle.def_op.specs.Frames as op
 use Rattle.def_op.specs.Frames.{AreDescs, Described, IsOp, Members, Operation, Outcome, OutcomeFits, WithinLimits, height, heights, weight, weights}
-use Rattle.ev_heap.specs.Contents.{Contents, height_of, size_of, weight_of}
+use Rattle.ev_heap.specs.Contents.{Contents, size_of}
 use Rattle.ev_pass.specs.declared.interior.Interior.{Interior}
 use Rattle.ev_pass.specs.declared.note.Reference.TheVariants as reference
 use Rattle.ev_arrive.specs.declared.host.Carried.TheVariants as carried
 use Rattle.ev_arrive.specs.declared.host.Incoming.{Incoming as Came}
 use Rattle.ev_arrive.specs.declared.host.Incoming.TheVariants as came
 use Rattle.ev_arrive.specs.declared.host.Subject.{Subject}
-use Rattle.ev_arrive.specs.declared.host.Subject.TheVariants as subject
 use Rattle.ev_receive.specs.Bringing as part
 use Rattle.ev_receive.specs.Bringing.{Part, Parts}
 use Rattle.ev_receive.specs.Fitting.{AllFit, Fits, part_weight, parts_weight}
-use Rattle.ev_receive.specs.Learning.{is_kept}
+use Rattle.ev_op.specs.Decoded.{decoded}
 use Rattle.ev_tables.specs.Table.{Table, entry}
 use Rattle.ev_peer.specs.Standing.{AreReferences, is_reference}
 use Rattle.ev_peer.proofs.Kept.{references_push}
@@ -416,3 +415,22 @@ pub what_is_heard_fits : WhatIsHeardFits
 what_is_heard_fits i t l o x s h e =
     let k : NoteHeard i t l (code.no_news i) x s = subst (Holds (NoteHeard i t l (code.no_news i))) e (note_fits i t l o (code.no_news i) h) in
     (k.1 (keeping i.heap s) (kept_texts i t l s), k.0.new (sym (append-nil l)), k.0.references tt)
+
+-- ---- frames
+
+abbrev pub FitsAndIsNew : Interior → LearntGifts → Told → News → Type 0
+FitsAndIsNew i l x s = ToldFits (keeping i.heap s) x × (put_all s.gifts l ≡ l ++ s.gifts) × AreReferences s.imports
+
+module _ (i : Interior) (t : Table) (l : LearntGifts) (x : Told) (s : News) where
+  whole_fits : (b : Bool) (o : Operation) → IsOp o → cond b (code.note_heard i t l o (code.no_news i)) None ≡ Some (x, s) → FitsAndIsNew i l x s
+  whole_fits true o is e = what_is_heard_fits i t l o x s is e
+  whole_fits false o is e = absurd cc
+
+  found_fits : (size : ℕ) (o : Option (Operation × ℕ)) → IfSome o (λ (y : Operation × ℕ). IsOp y.0) → code.found_heard i t l size o ≡ Some (x, s) → FitsAndIsNew i l x s
+  unfolding code.found_heard code.whole_heard
+  found_fits size (Some y) is e = whole_fits (y.1 == size) y.0 is e
+  found_fits size None is e = absurd cc
+
+  pub frame_fits : (bytes : List ℕ) → IfSome (decoded bytes) (λ (y : Operation × ℕ). IsOp y.0) → code.frame_heard i t l bytes ≡ Some (x, s) → FitsAndIsNew i l x s
+  unfolding code.frame_heard
+  frame_fits bytes is e = found_fits (length bytes) (decoded bytes) is e

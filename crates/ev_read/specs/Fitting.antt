@@ -1,5 +1,5 @@
 -- What is heard fits the heap that keeps the texts of its frame.
-use Rattle.std.specs.Prelude.{◌≡◌, List, [], ◌++◌, Some}
+use Rattle.std.specs.Prelude.{◌≡◌, ◌++◌, Some}
 use Rattle.def_op.specs.Frames.{IsOp, Operation}
 use Rattle.ev_heap.specs.Contents.{Contents}
 use Rattle.ev_pass.specs.declared.interior.Interior.{Interior}

@@ -27,7 +27,6 @@ pub fn takes_in_as_the_machine()
 
 /// What is heard of an operation that `decode` of `ev_op` finds fits the heap (`Fits` of `ev_receive`), once the texts are kept that its
 /// frame brought: so it is learnt, whoever sent it. The gifts that it brought were not learnt before, and references alone come to stand at positions.
-#[tactic(auto, using(crate::proofs::Fitting::what_is_heard_fits))]
 pub fn what_is_heard_fits()
     ensures { WhatIsHeardFits }
 {}

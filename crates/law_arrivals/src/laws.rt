@@ -27,7 +27,6 @@ pub fn receives_in_the_vat()
 {}
 
 /// The same of a note that arrives.
-#[tactic(auto, using(crate::proofs::Machine::arrives))]
 pub fn arrives_in_the_vat()
     ensures { ArrivesInTheVat }
 {}
