@@ -3,3 +3,6 @@ pub mod Steps
 pub mod Readies
 pub mod Turning
 pub mod Starts
+pub mod Heard
+pub mod Taking
+pub mod Hearing

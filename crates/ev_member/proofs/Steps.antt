@@ -94,7 +94,7 @@ module _ (c : Member) (b : Having) (s : machine.Vat Local) (xs : List Sending) (
   abbrev puts : List (Put Local)
   puts = map (put_by i.heap.texts) i.post
 
-  leaves : AskAnew s s.outbox b.connections → Leaves b s xs c
+  pub leaves : AskAnew s s.outbox b.connections → Leaves b s xs c
   leaves new =
       let anew : AskAnew s puts (connections_of ts) = subst (λ (cs : List (Connection Local)). AskAnew s puts cs) (sym had) (subst (λ (ps : List (Put Local)). AskAnew s ps b.connections) outbox new) in
       let after = writes_all i s (λ n. Root 0) i.post ts references anew all in
@@ -125,7 +125,7 @@ module _ (fuel : ℕ) (drawn : List ℕ) (m : Theirs) (q c : Member) (found : Is
   abbrev after : Interior
   after = c.vat.host.inside
 
-  references_before : (w : World) → Sees w before → HasReferences (texts_of w) before.refs m.vat
+  pub references_before : (w : World) → Sees w before → HasReferences (texts_of w) before.refs m.vat
   references_before w e =
       let r = references_are w q.vat.host in
       let same = found.vat w e in

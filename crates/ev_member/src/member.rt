@@ -31,10 +31,10 @@ use std::alloc::Global;
 /// A vat with what it has for its peers. After a call that answered an error it is of no use any more.
 #[derive(Drop)]
 pub struct Member {
-    vat: Vat,
-    learnt: LearntTable,
+    pub(crate) vat: Vat,
+    pub(crate) learnt: LearntTable,
     /// By the number of the peer; the vat's own is unused.
-    connections: Vec<Connection>,
+    pub(crate) connections: Vec<Connection>,
 }
 
 impl Member {
@@ -81,7 +81,7 @@ impl Member {
     }
 
     /// Writes what the step at hand put.
-    fn send(&mut self) -> Result<Vec<Sending>, VatStop>
+    pub(crate) fn send(&mut self) -> Result<Vec<Sending>, VatStop>
         ensures sends { IfOk result (λ xs. map sending_of xs.items ≡ map packed (all_written self.old.vat.host.inside self.old.vat.host.inside.post self.old.connections.items)) }
         ensures connections { OnOk result (self.new.connections.items ≡ put_all self.old.vat.host.inside self.old.vat.host.inside.post self.old.connections.items) }
         ensures vat { self.new.vat ≡ self.old.vat }

@@ -1,9 +1,14 @@
 -- What is heard is what is received, and what has a spelling tells of promises.
-use Rattle.std.proofs.Common.{refl}
+use Rattle.std.proofs.Common.{◌≡◌, ℕ, ◌-◌, List, length, Option, Some, None, refl}
+use Rattle.std.specs.Prelude.{IfSome}
 use Rattle.def_op.specs.Frames as op
 use Rattle.def_op.specs.Frames.{Described, IsOp, IsSubject, Operation}
 use Rattle.ev_arrive.specs.declared.host.Carried.TheVariants as carried
 use Rattle.ev_receive.specs.declared.brought.Heard.TheVariants as heard
+use Rattle.ev_op.specs.Decoded.{decoded}
+use Rattle.ev_op.specs.Reading.{◌>>=◌, op_at}
+use Rattle.ev_op.proofs.NumberLemmas.{IsBytes}
+use Rattle.ev_op.proofs.OpLemmas.{op_takes}
 use Rattle.ev_read.specs.Reading.{IsPromise}
 use Rattle.ev_read.specs.Statements.{IsReceived, SpelledTellOfPromises}
 
@@ -36,3 +41,12 @@ promises (op.DeliverOnly d verb ds) h = tt
 promises (op.Provide d w) h = tt
 promises (op.Accept q p w) h = tt
 promises (op.Shorten d w) h = tt
+
+-- ---- what begins bytes
+
+found_at : (bytes : List ℕ) → IsBytes bytes → (o : Option (Operation × List ℕ)) → op_at bytes ≡ o → IfSome (o >>= λ x. Some (x.0, length bytes - length x.1)) (λ (x : Operation × ℕ). IsOp x.0)
+found_at bytes fits (Some x) e = (op_takes bytes x fits e).1
+found_at bytes fits None e = tt
+
+pub found_spelled : (bytes : List ℕ) → IsBytes bytes → IfSome (decoded bytes) (λ x. IsOp x.0)
+found_spelled bytes fits = found_at bytes fits (op_at bytes) refl

@@ -1,9 +1,10 @@
 pub mod Ends
-mod Agreement
+pub mod Agreement
 mod Positions
 mod LearntLemmas
 mod Listing
-mod Machine
+pub mod Machine
 mod Taken
 mod Sights
-mod TakenIn
+pub mod TakenIn
+pub mod Fitting

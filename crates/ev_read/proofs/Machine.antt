@@ -41,11 +41,11 @@ use Rattle.ev_read.proofs.Positions.{import_is, place_is}
 
 -- ---- lists
 
-among_more : {X : Type 0} (xs ys : List X) (k : ℕ) → slice_get (xs ++ ys) (length xs + k) ≡ slice_get ys k
+pub among_more : {X : Type 0} (xs ys : List X) (k : ℕ) → slice_get (xs ++ ys) (length xs + k) ≡ slice_get ys k
 among_more [] ys k = let e : 0 + k ≡ k = omega arith in ap (slice_get ys) e
 among_more (x ∷ xs) ys k = let e : suc (length xs) + k ≡ suc (length xs + k) = omega arith in ap (slice_get (x ∷ (xs ++ ys))) e ∙ among_more xs ys k
 
-among_front : {X : Type 0} (xs ys : List X) (k : ℕ) (x : X) → slice_get xs k ≡ Some x → slice_get (xs ++ ys) k ≡ Some x
+pub among_front : {X : Type 0} (xs ys : List X) (k : ℕ) (x : X) → slice_get xs k ≡ Some x → slice_get (xs ++ ys) k ≡ Some x
 among_front [] ys k x e = absurd cc
 among_front (z ∷ xs) ys zero x e = e
 among_front (z ∷ xs) ys (suc k) x e = among_front xs ys k x e
@@ -55,7 +55,7 @@ mapped_at f [] k = refl
 mapped_at f (x ∷ xs) zero = refl
 mapped_at f (x ∷ xs) (suc k) = mapped_at f xs k
 
-at_end : {X : Type 0} (xs : List X) (x : X) → slice_get (xs ++ x ∷ []) (length xs) ≡ Some x
+pub at_end : {X : Type 0} (xs : List X) (x : X) → slice_get (xs ++ x ∷ []) (length xs) ≡ Some x
 at_end [] x = refl
 at_end (z ∷ xs) x = at_end xs x
 
@@ -131,7 +131,7 @@ or_step : (b : Bool) (x : ℕ) (o q : Option ℕ) → cond b (Some x) (code.or_e
 or_step true x o q = refl
 or_step false x o q = refl
 
-find_append : (h p w : ℕ) (xs ys : LearntGifts) → find h p w (xs ++ ys) ≡ code.or_else (find h p w xs) (find h p w ys)
+pub find_append : (h p w : ℕ) (xs ys : LearntGifts) → find h p w (xs ++ ys) ≡ code.or_else (find h p w xs) (find h p w ys)
 find_append h p w [] ys = refl
 find_append h p w (g ∷ xs) ys = ap (λ (o : Option ℕ). cond (is_under h p w g) (Some g.name) o) (find_append h p w xs ys) ∙ or_step (is_under h p w g) g.name (find h p w xs) (find h p w ys)
 
@@ -140,11 +140,11 @@ put_step true g k name o gs qs e f = absurd cc
 put_step false g k name o gs qs e f = ap (λ (xs : LearntGifts). k ∷ xs) (f e)
 
 -- what is absent is put last
-put_last : (g : LearntGift) (gs : LearntGifts) → find g.host g.provider g.word gs ≡ None → put g gs ≡ gs ++ g ∷ []
+pub put_last : (g : LearntGift) (gs : LearntGifts) → find g.host g.provider g.word gs ≡ None → put g gs ≡ gs ++ g ∷ []
 put_last g [] e = refl
 put_last g (k ∷ gs) e = put_step (is_under g.host g.provider g.word k) g k k.name (find g.host g.provider g.word gs) gs (put g gs) e (put_last g gs)
 
-none_of : (o q : Option ℕ) → code.or_else o q ≡ None → q ≡ None
+pub none_of : (o q : Option ℕ) → code.or_else o q ≡ None → q ≡ None
 none_of None q e = e
 none_of (Some x) q e = absurd cc
 

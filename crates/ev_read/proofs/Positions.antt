@@ -14,7 +14,7 @@ among_new [] ys p le = let e : p - 0 ≡ p = omega arith in ap (slice_get ys) e
 among_new (x ∷ xs) ys zero le = absurd (omega arith)
 among_new (x ∷ xs) ys (suc p) le = let e : suc p - suc (length xs) ≡ p - length xs = omega arith in ap (slice_get ys) e ∙ among_new xs ys p (omega arith)
 
-lt_true : (a b : ℕ) → a < b → nat_lt a b ≡ true
+pub lt_true : (a b : ℕ) → a < b → nat_lt a b ≡ true
 lt_true a b h = grind (arith, nat_tests)
 
 le_false : (a b : ℕ) → b ≤ a → nat_lt a b ≡ false

@@ -5,3 +5,4 @@ pub mod Reading
 pub mod Statements
 pub mod Taking
 pub mod Sight
+pub mod Fitting

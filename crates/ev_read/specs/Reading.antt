@@ -1,16 +1,14 @@
 -- How what a vat hears stands for what the machine reads, in local numbers.
 use Rattle.std.specs.Prelude.{◌≡◌, ◌+◌, ℕ, List, ◌++◌, Some, None, map, length, slice_get}
-use Rattle.def_machine.specs.Arrive.{Old, New}
+use Rattle.def_machine.specs.Arrive.{New}
 use Rattle.def_machine.specs.State as state
-use Rattle.def_machine.specs.Values.{Words, Local, Prom, Far, Mess, key}
+use Rattle.def_machine.specs.Values.{Words, Local, Prom, Far, key}
 use Rattle.def_op.specs.Frames.{Described, MyPromise, MyAnswer, Operation, Deliver, Resolve, Provide, Accept, Shorten, DeliverOnly}
 use Rattle.def_run.specs.Connections.{Learnt, Newcomers, Stage}
 use Rattle.ev_refs.specs.Reading.{text_by}
 use Rattle.ev_pass.specs.Notes.{key_of}
 use Rattle.ev_pass.specs.declared.interior.Interior.{Interior}
 use Rattle.ev_arrive.specs.Reading.{carried_by, incoming_by, subject_by}
-use Rattle.ev_arrive.specs.declared.host.Carried.{Carried}
-use Rattle.ev_arrive.specs.declared.host.Carried.TheVariants as carried
 use Rattle.ev_receive.specs.Hearing.{Name, part_by, parts_by}
 use Rattle.ev_tables.specs.Table.{Table}
 use Rattle.ev_peer.specs.Standing.{local_of}

@@ -1,5 +1,6 @@
 //! What is heard means in the machine, in local numbers.
 
+ghost use Rattle.ev_read.specs.Fitting.{WhatIsHeardFits};
 ghost use Rattle.ev_read.specs.Statements.{HearsAsTheMachine, IsReceived, SpelledTellOfPromises, TakesInAsTheMachine};
 
 /// What a vat hears of an operation (`hear`) is what the machine reads of it, and so are the positions, the gifts and the count of
@@ -22,4 +23,10 @@ pub fn spelled_tell_of_promises()
 /// came first.
 pub fn takes_in_as_the_machine()
     ensures { TakesInAsTheMachine }
+{}
+
+/// What is heard of an operation that `decode` of `ev_op` finds fits the heap (`Fits` of `ev_receive`), once the texts are kept that its
+/// frame brought: so it is learnt, whoever sent it. The gifts that it brought were not learnt before, and references alone come to stand at positions.
+pub fn what_is_heard_fits()
+    ensures { WhatIsHeardFits }
 {}

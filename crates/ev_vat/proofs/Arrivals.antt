@@ -11,6 +11,7 @@ use Rattle.ev_arrive.specs.declared.host.Host.{Host}
 use Rattle.ev_pass.specs.declared.interior.Stop.{Stop}
 use Rattle.ev_pass.specs.declared.interior.Stop.TheVariants as stop
 use Rattle.ev_receive.specs.Hearing.{Name, Sees, heard_by}
+use Rattle.ev_receive.specs.Noting.{arrive}
 use Rattle.ev_receive.specs.Receiving.{receive}
 use Rattle.ev_receive.specs.declared.brought.Heard.{Heard}
 use Rattle.ev_receive.specs.declared.receiving.Sight.{Sight}
@@ -20,7 +21,7 @@ use Rattle.ev_vat.specs.Vat.{ArrivalIs, UnlessMemory, closed_by, stop_of}
 use Rattle.law_arrivals.proofs.Arrives.{notices}
 use Rattle.law_arrivals.proofs.Leaving.{more_grown}
 use Rattle.law_arrivals.proofs.Machine as means
-use Rattle.law_arrivals.proofs.Receives.{receives}
+use Rattle.law_arrivals.proofs.Receives.{arrive_ends, receives}
 use Rattle.law_arrivals.specs.Arrivals.{EndsSound, Leaves, Means, NoteFits, vat_in}
 
 module _ (h k : Host) (out : Out (Unit {0})) (sound : EndsSound h.inside out) where
@@ -71,6 +72,24 @@ module _ (h k : Host) (from : ℕ) (see : Sight) (note : Heard) (q : Result (Uni
 
   pub heard_sound : OnOk (closed_by q) (IsSound k.inside)
   heard_sound = left_sound h k (receive from see note h) ends q is
+
+module _ (h k : Host) (from : ℕ) (note : Heard) (q : Result (Unit {0}) Stop) (is : Gives q k (arrive from note h)) (sound : IsSound h.inside) (fits : NoteFits h.inside.heap note) where
+  abbrev arrival_ends : EndsSound h.inside (arrive from note h)
+  arrival_ends = arrive_ends from note h sound fits
+
+  pub arrived : (w : World) (rest : List Words) → texts_of w ≡ k.inside.heap.texts ++ rest → h.inside.words.key ≡ w.key → (n : Local) (x : Name) (c : ℕ)
+      → ArrivalIs w (closed_by q) k (machine.arrive (names w) from (heard_by (texts_of w) n x c from note) (vat_in w h))
+  arrived w rest front key n x c =
+      comes h k (arrive from note h) arrival_ends w _ rest front (λ f. means.arrives w rest h n x c from note sound fits f key) q is
+
+  pub arrived_grown : UnlessMemory (closed_by q) (Grown h.inside.heap k.inside.heap)
+  arrived_grown = left h k (arrive from note h) arrival_ends q (Grown h.inside.heap k.inside.heap) (λ l. more_grown l.heap) is
+
+  pub arrived_stays : UnlessMemory (closed_by q) (Stays h.inside k.inside)
+  arrived_stays = left h k (arrive from note h) arrival_ends q (Stays h.inside k.inside) (λ l. l.stays) is
+
+  pub arrived_sound : OnOk (closed_by q) (IsSound k.inside)
+  arrived_sound = left_sound h k (arrive from note h) arrival_ends q is
 
 module _ (h k : Host) (v : ℕ) (q : Result (Unit {0}) Stop) (is : Gives q k (notice v h)) (sound : IsSound h.inside) where
   abbrev ends_so : EndsSound h.inside (notice v h)

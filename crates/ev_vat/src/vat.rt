@@ -25,6 +25,7 @@ use ev_eval::{Ended, new_interior, run_message, run_program};
 use ev_heap::Happened;
 use ev_intro::GiftTable;
 use ev_pass::{Interior, Post, Stop};
+use ev_receive::arriving::arrive;
 use ev_receive::brought::Heard;
 use ev_receive::receiving::{Sight, receive};
 use ev_refs::{Message, Refs};
@@ -193,6 +194,20 @@ fn hear(from: VatId, sight: Sight, note: Heard, host: &mut Host) -> Result<(), V
     ensures sound { OnOk result (IsSound host.new.inside) }
 {
     closed_by(receive(host, from, sight, note))
+}
+
+/// A note that arrives, as a step.
+#[tactic(auto, using(crate::proofs::Arrivals::arrived_grown, crate::proofs::Arrivals::arrived_stays, crate::proofs::Arrivals::arrived_sound))]
+fn come_in(from: VatId, note: Heard, host: &mut Host) -> Result<(), VatStop>
+    requires sound { IsSound host.old.inside }
+    requires fits { NoteFits host.old.inside.heap note }
+    ensures step { (w : World) (rest : List Words) → texts_of w ≡ host.new.inside.heap.texts ++ rest → host.old.inside.words.key ≡ w.key → (n : Local) (x : Name) (c : ℕ)
+        → ArrivalIs w result host.new (machine.arrive (names w) from (heard_by (texts_of w) n x c from note) (vat_in w host.old)) }
+    ensures grown { UnlessMemory result (Grown host.old.inside.heap host.new.inside.heap) }
+    ensures stays { UnlessMemory result (Stays host.old.inside host.new.inside) }
+    ensures sound { OnOk result (IsSound host.new.inside) }
+{
+    closed_by(arrive(host, from, note))
 }
 
 /// A link that is noticed as cut, as a step.
@@ -366,6 +381,29 @@ impl Vat {
             return Err(stop);
         }
         let outcome = hear(from, sight, note, &mut self.host);
+        self.keep_stop(&outcome);
+        outcome
+    }
+
+    /// A note of that vat arrives, in this vat's numbers, without a look at what it tells: so it is with a vat that keeps to the rules,
+    /// which tells of nothing twice. The texts and lists that the note names are in the heap, and its lists are within the limits.
+    ///
+    /// What the machine does then is what the vat does, whatever it calls the names that come to be known.
+    pub fn arrive(&mut self, from: VatId, note: Heard) -> Result<(), VatStop>
+        requires ready { IsReady self.old }
+        requires fits { self.old.stopped ≡ None → NoteFits self.old.host.inside.heap note }
+        ensures step { self.old.stopped ≡ None → (w : World) (rest : List Words) → texts_of w ≡ self.new.host.inside.heap.texts ++ rest → self.old.host.inside.words.key ≡ w.key → (n : Local) (x : Name) (c : ℕ)
+            → ArrivalIs w result self.new.host (machine.arrive (names w) from (heard_by (texts_of w) n x c from note) (vat_in w self.old.host)) }
+        ensures grown { self.old.stopped ≡ None → UnlessMemory result (Grown self.old.host.inside.heap self.new.host.inside.heap) }
+        ensures stays { self.old.stopped ≡ None → UnlessMemory result (Stays self.old.host.inside self.new.host.inside) }
+        ensures sound { OnOk result (IsSound self.new.host.inside) }
+        ensures stopped { StaysStopped self.old result self.new }
+        ensures kept { self.new.stopped ≡ stop_in result }
+    {
+        if let Some(stop) = self.stopped {
+            return Err(stop);
+        }
+        let outcome = come_in(from, note, &mut self.host);
         self.keep_stop(&outcome);
         outcome
     }

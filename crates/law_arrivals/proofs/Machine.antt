@@ -16,8 +16,10 @@ use Rattle.ev_arrive.specs.declared.host.Host.{Host}
 use Rattle.ev_pass.specs.Reading.{vat_at}
 use Rattle.ev_pass.specs.declared.interior.Interior.{Interior}
 use Rattle.ev_pass.specs.declared.interior.Stop.TheVariants.{Fuel, Repeated, Astray, Missing, Memory}
+use Rattle.ev_receive.proofs.Arrives.{arrives_is}
 use Rattle.ev_receive.proofs.Receives.{receives_is}
 use Rattle.ev_receive.specs.Hearing.{Name, Sees, TellsLists, heard_by}
+use Rattle.ev_receive.specs.Noting.{arrive}
 use Rattle.ev_receive.specs.Receiving.{receive}
 use Rattle.ev_receive.specs.declared.brought.Heard.{Heard}
 use Rattle.ev_receive.specs.declared.receiving.Sight.{Sight}
@@ -64,6 +66,14 @@ unfolding vat_of
 receives w more h n x c sight from see note sound f s front key =
     means_by w h (receive from see note h) _ (notes.receives h from see note sound f)
     (receives_is (texts_of w) w.key (line_of w) (beside w h.inside) (line_tells w) (tells_lists w) n x c sight see from note h (reads_before h.inside sound w ((more, front), key)) s)
+
+pub arrives : (w : World) (more : List Words) (h : Host) (n : Local) (x : Name) (c : ℕ) (from : ℕ) (note : Heard)
+    → IsSound h.inside → NoteFits h.inside.heap note → texts_of w ≡ h.inside.heap.texts ++ more → h.inside.words.key ≡ w.key
+    → Means w (arrive from note h) (machine.arrive (names w) from (heard_by (texts_of w) n x c from note) (vat_in w h))
+unfolding vat_of
+arrives w more h n x c from note sound f front key =
+    means_by w h (arrive from note h) _ (notes.arrive_ends from note h sound f)
+    (arrives_is (texts_of w) w.key (line_of w) (beside w h.inside) (line_tells w) (tells_lists w) n x c from note h (reads_before h.inside sound w ((more, front), key)))
 
 pub notices : (w : World) (more : List Words) (h : Host) (v : ℕ) → IsSound h.inside → texts_of w ≡ h.inside.heap.texts ++ more → h.inside.words.key ≡ w.key
     → Means w (notice v h) (machine.notice (names w) v (vat_in w h))

@@ -8,6 +8,7 @@ use Rattle.ev_room.specs.Sound.{IsSound}
 use Rattle.ev_arrive.specs.Noticing.{notice}
 use Rattle.ev_arrive.specs.declared.host.Host.{Host}
 use Rattle.ev_receive.specs.Hearing.{Name, Sees, heard_by}
+use Rattle.ev_receive.specs.Noting.{arrive}
 use Rattle.ev_receive.specs.Receiving.{receive}
 use Rattle.ev_receive.specs.declared.brought.Heard.{Heard}
 use Rattle.ev_receive.specs.declared.receiving.Sight.{Sight}
@@ -15,6 +16,9 @@ use Rattle.law_arrivals.specs.Arrivals.{EndsSound, Means, NoteFits, vat_in}
 
 abbrev pub ReceivesSound : Type 0
 ReceivesSound = (h : Host) (from : ℕ) (see : Sight) (note : Heard) → IsSound h.inside → NoteFits h.inside.heap note → EndsSound h.inside (receive from see note h)
+
+abbrev pub ArrivesSound : Type 0
+ArrivesSound = (from : ℕ) (note : Heard) (h : Host) → IsSound h.inside → NoteFits h.inside.heap note → EndsSound h.inside (arrive from note h)
 
 abbrev pub NoticesSound : Type 0
 NoticesSound = (h : Host) (v : ℕ) → IsSound h.inside → EndsSound h.inside (notice v h)
@@ -24,6 +28,12 @@ abbrev pub ReceivesInTheVat : Type 0
 ReceivesInTheVat = (w : World) (more : List Words) (h : Host) (n : Local) (x : Name) (c : ℕ) (sight : receiving.Sight Local) (from : ℕ) (see : Sight) (note : Heard)
     → IsSound h.inside → NoteFits h.inside.heap note → Sees sight h note see → texts_of w ≡ h.inside.heap.texts ++ more → h.inside.words.key ≡ w.key
     → Means w (receive from see note h) (receiving.receive (names w) sight from (heard_by (texts_of w) n x c from note) (vat_in w h))
+
+-- The same of a note that arrives.
+abbrev pub ArrivesInTheVat : Type 0
+ArrivesInTheVat = (w : World) (more : List Words) (h : Host) (n : Local) (x : Name) (c : ℕ) (from : ℕ) (note : Heard)
+    → IsSound h.inside → NoteFits h.inside.heap note → texts_of w ≡ h.inside.heap.texts ++ more → h.inside.words.key ≡ w.key
+    → Means w (arrive from note h) (machine.arrive (names w) from (heard_by (texts_of w) n x c from note) (vat_in w h))
 
 abbrev pub NoticesInTheVat : Type 0
 NoticesInTheVat = (w : World) (more : List Words) (h : Host) (v : ℕ) → IsSound h.inside → texts_of w ≡ h.inside.heap.texts ++ more → h.inside.words.key ≡ w.key
