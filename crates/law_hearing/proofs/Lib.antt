@@ -1,3 +1,4 @@
+pub mod Open
 pub mod Lift
 pub mod Pairs
 pub mod Bare
@@ -15,3 +16,10 @@ pub mod Heard
 pub mod Laws
 pub mod Anew
 pub mod Questions
+pub mod CutPuts
+pub mod CutSteps
+pub mod CutHeard
+pub mod CutCounts
+pub mod CutAnswers
+pub mod CutGifts
+pub mod CutRuns

@@ -1,5 +1,5 @@
 -- The two links between two vats are cut together, and no link leads from a vat to itself.
-use Rattle.std.proofs.Common.{◌≡◌, ℕ, zero, suc, Bool, true, false, List, [], ◌∷◌, ◌++◌, refl, sym, subst, ◌∙◌, ◌⊎◌, inl, inr, ◌==◌}
+use Rattle.std.proofs.Common.{Some, ◌≡◌, ℕ, zero, suc, Bool, true, false, List, [], ◌∷◌, ◌++◌, refl, sym, subst, ◌∙◌, ◌⊎◌, inl, inr, ◌==◌}
 use Rattle.std.proofs.lemmas.Bool.{eq-eqb}
 use Rattle.def_machine.specs.Values.{Name}
 use Rattle.def_machine.specs.State.{Note, Put}
@@ -122,3 +122,8 @@ module _ (script : Script) where
 
     pub stepped_paired : (w x : World) (es : List Entry) (k : ℕ) → world.open_from script zero script.vats (world.begins script) ≡ Going w → world.steps_from script es k w ≡ Going x → Paired x
     stepped_paired = stepped_hold script (Before script) (opened_before script once) (stepped_before script once) (stands_of script) Paired paired_on begins_paired
+
+  -- no link is cut at the start
+  pub begins_open : (a b : ℕ) (l : Link) → link_at a b (world.begins script).links ≡ Some l → l.cut ≡ false
+  unfolding world.begins
+  begins_open a b l e = let ls = world.links_from script.vats zero script.vats in (found_all Fresh a b l ls (from_fresh script.vats zero script.vats) e).0

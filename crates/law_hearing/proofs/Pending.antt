@@ -53,6 +53,7 @@ use Rattle.law_frame.proofs.Given.{told_ends}
 use Rattle.law_frame.proofs.Worlds.{asker}
 use Rattle.law_hearing.proofs.Pairs.{NoneItself}
 use Rattle.law_hearing.proofs.Moves.{goes_of}
+use Rattle.law_hearing.proofs.Open.{IsOpen, some_is, clash, open_taken, open_pushed}
 use Rattle.law_hearing.proofs.Bare as bare
 use Rattle.law_hearing.proofs.Bare.{Bare, Bares, bare_under, bare_makes, note_bare}
 
@@ -249,20 +250,14 @@ module _ (script : Script) where
 
   -- ---- a move
 
-  module _ (w y : World) (f : Facts w) (h : Facts y) (before : AloneWhereLate w) (u g i : ℕ) (other : u ≡ g → ⊥) (m : Link) (at : link_at u g y.links ≡ Some m) (uncut : m.cut ≡ false) (asks : AsksFor u g i y) (unheard : Unheard g i m) where
+  -- a gift is asked for by a link that is cut, or in no note that has arrived; if it was asked for before, that stood before
+  module _ (w y : World) (f : Facts w) (h : Facts y) (u g i : ℕ) (other : u ≡ g → ⊥) (m : Link) (at : link_at u g y.links ≡ Some m) (asks : AsksFor u g i y) (late : (m.cut ≡ true) ⊎ ((m.cut ≡ false) × Unheard g i m)) (alone_before : AsksFor u g i w → Alone u g i w.vats w.links) where
     abbrev It : Name
     It = Gift g i
 
     module _ (move : Moved script w y) where
       was : FoundFrom w.links u g m
       was = goes_of script w y (splits w f) move u g m at
-
-      -- what was not heard by now was not heard before
-      unheard_before : Unheard g i was.0
-      unheard_before a = let r = asker g It (arrived (Some was.0)) a in let goes = was.2 in unheard (asks_in g It (arrived (Some m)) r.0 (goes.arrivals uncut r.0 r.1) r.2)
-
-      alone_before : AsksFor u g i w → Alone u g i w.vats w.links
-      alone_before a = let goes = was.2 in before u g i other was.0 was.1 (goes.uncut uncut) a unheard_before
 
       drawn_before : AsksFor u g i w → WasDrawn w.drawn i
       drawn_before a = asked_drawn w f u g i was.0 was.1 a
@@ -378,66 +373,86 @@ module _ (script : Script) where
       link_is : a ≡ u → v ≡ g → link_at u g w.links ≡ Some l
       link_is e o = ap (λ p. link_at p g w.links) (sym e) ∙ ap (λ p. link_at a p w.links) (sym o) ∙ from
 
-      there : a ≡ u → v ≡ g → IsAmong n (arrived (Some m))
-      there e o = by (push_all_goes v t.outbox Taken (take_splits n ns a v l w.links from notes (splits w f)) u g m (subst (λ ks. link_at u g ks ≡ Some m) links at))
+      -- by a link that is not cut
+      module _ (uncut : m.cut ≡ false) (unheard : Unheard g i m) where
+        there : a ≡ u → v ≡ g → IsAmong n (arrived (Some m))
+        there e o = by (push_all_goes v t.outbox Taken (take_splits n ns a v l w.links from notes (splits w f)) u g m (subst (λ ks. link_at u g ks ≡ Some m) links at))
+          where
+            some_is : (p q : Link) → Some p ≡ Some q → p ≡ q
+            some_is p q e = cc
+
+            stays : Stays (with_notes ns)
+            stays b c j = let fits = fits_notes b c ns in fits.place b c j
+
+            by : FoundFrom Taken u g m → IsAmong n (arrived (Some m))
+            by k = let goes = k.2 in let here = with_link_here (with_notes ns) stays a v w.links k.0 (ap (λ p. link_at p v Taken) e ∙ ap (λ p. link_at u p Taken) o ∙ k.1) in
+                goes.arrivals uncut n (subst (λ (j : Link). IsAmong n (arrived (Some j))) (sym (here.2 ∙ ap (with_notes ns) (some_is here.0 l (sym here.1 ∙ from)))) (taken_arrived n ns l notes (at_link Splits a v l w.links (splits w f) from).0 uncut_before))
+
+        arrived_before : a ≡ u → v ≡ g → (x : Note Name) → IsAmong x split.0 → IsAmong x (arrived (Some m))
+        arrived_before e o x b = by (links_on w.links Taken (push_all v t.outbox Taken) (take_goes n ns a v l w.links from notes (splits w f)) (push_all_goes v t.outbox Taken (take_splits n ns a v l w.links from notes (splits w f))) u g m (subst (λ ks. link_at u g ks ≡ Some m) links at))
+          where
+            some_is : (p q : Link) → Some p ≡ Some q → p ≡ q
+            some_is p q e = cc
+
+            by : FoundFrom w.links u g m → IsAmong x (arrived (Some m))
+            by k = let goes = k.2 in goes.arrivals uncut x (subst (λ (j : Link). IsAmong x (arrived (Some j))) (some_is l k.0 (sym (link_is e o) ∙ k.1)) (subst (λ ms. IsAmong x ms) (sym (arrived_is l split.0 split.1)) b))
+
+        -- the asking is still behind the note
+        behind : AsksFor u g i w → a ≡ u → v ≡ g → (x : Note Name) × IsAmong x ns × IsAmong x l.log × AsksOf g x It
+        unfolding wire.questions
+        behind b e o = by (asker g It l.log (subst (λ ms. IsAmong It (wire.questions_in g ms)) (log_is l (link_at u g w.links) (link_is e o)) b))
+          where
+            heard : (x : Note Name) → IsAmong x (arrived (Some m)) → AsksOf g x It → ⊥
+            heard x c k = unheard (asks_in g It (arrived (Some m)) x c k)
+
+            by : (x : Note Name) × IsAmong x l.log × AsksOf g x It → (x : Note Name) × IsAmong x ns × IsAmong x l.log × AsksOf g x It
+            by r = go (among_split r.0 split.0 (n ∷ ns) (subst (λ ms. IsAmong r.0 ms) (split.1 ∙ ap (λ ms. split.0 ++ ms) notes) r.1))
+              where
+                go : IsAmong r.0 split.0 ⊎ IsAmong r.0 (n ∷ ns) → (x : Note Name) × IsAmong x ns × IsAmong x l.log × AsksOf g x It
+                go (inl c) = absurd (heard r.0 (arrived_before e o r.0 c) r.2)
+                go (inr (inl c)) = absurd (heard r.0 (subst (λ (z : Note Name). IsAmong z (arrived (Some m))) (sym c) (there e o)) r.2)
+                go (inr (inr c)) = (r.0, c, r.1, r.2)
+
+        ask_late : a ≡ u → v ≡ g → IsAmong It (told_in n) → (x : Note Name) → IsAmong x ns → AsksOwn g x → AsksOf g x It → ⊥
+        ask_late e o b (Ask p j z) c own k = let ordered = found_all (λ (q : Link). InOrder [] q.log) a v l w.links f.ordered from in
+            told_not_asked [] split.0 ns n It p j b (subst (λ y. IsAmong (Ask p j y) ns) k c) (subst (λ ms. InOrder [] ms) (split.1 ∙ ap (λ ms. split.0 ++ ms) notes) ordered)
+        ask_late e o b (Deliver q z verb ys) c own k = bare.no_answer g i g q.message own k.1
+        ask_late e o b (Open j z) c own k = k
+        ask_late e o b (SettledTo z q) c own k = k
+        ask_late e o b (Elsewhere z q) c own k = k
+        ask_late e o b (Shorten z q j) c own k = k
+
+        to_host : AsksFor u g i w → a ≡ u → v ≡ g → IsAmong It (told_in n) → ⊥
+        to_host b e o c = let r = behind b e o in let sends = sent w f a v l from r.0 r.2 in ask_late e o c r.0 r.1 (subst (λ (z : ℕ). AsksOwn z r.0) o sends.0) r.3
+
+        not_asked : a ≡ u → v ≡ g → AsksNoGift i n
+        not_asked e o = go n (let sends = sent w f a v l from n logged in subst (λ (z : ℕ). AsksOwn z n) o sends.0) (there e o)
+          where
+            go : (x : Note Name) → AsksOwn g x → IsAmong x (arrived (Some m)) → AsksNoGift i x
+            go (Ask p j z) own c = λ k. unheard (asks_in g It (arrived (Some m)) (Ask p j z) c (own ∙ ap (λ q. Gift g q) k))
+            go (Deliver q z verb ys) own c = tt
+            go (Open j z) own c = tt
+            go (SettledTo z q) own c = tt
+            go (Elsewhere z q) own c = tt
+            go (Shorten z q j) own c = tt
+
+      -- nothing arrives by a link that is cut
+      shut : a ≡ u → v ≡ g → m.cut ≡ true → ⊥
+      shut e o c = clash m.cut c (subst (λ ks. AtLink u g IsOpen ks) (sym links) (open_pushed u g v t.outbox Taken (open_taken u g a v ns w.links (λ j k. subst (λ (z : Link). z.cut ≡ false) (some_is l j (sym (link_is e o) ∙ k)) uncut_before))) m at)
+
+      told_host : AsksFor u g i w → a ≡ u → v ≡ g → IsAmong It (told_in n) → ⊥
+      told_host b e o c = by late
         where
-          some_is : (p q : Link) → Some p ≡ Some q → p ≡ q
-          some_is p q e = cc
+          by : (m.cut ≡ true) ⊎ ((m.cut ≡ false) × Unheard g i m) → ⊥
+          by (inl k) = shut e o k
+          by (inr k) = to_host k.0 k.1 b e o c
 
-          stays : Stays (with_notes ns)
-          stays b c j = let fits = fits_notes b c ns in fits.place b c j
-
-          by : FoundFrom Taken u g m → IsAmong n (arrived (Some m))
-          by k = let goes = k.2 in let here = with_link_here (with_notes ns) stays a v w.links k.0 (ap (λ p. link_at p v Taken) e ∙ ap (λ p. link_at u p Taken) o ∙ k.1) in
-              goes.arrivals uncut n (subst (λ (j : Link). IsAmong n (arrived (Some j))) (sym (here.2 ∙ ap (with_notes ns) (some_is here.0 l (sym here.1 ∙ from)))) (taken_arrived n ns l notes (at_link Splits a v l w.links (splits w f) from).0 uncut_before))
-
-      arrived_before : a ≡ u → v ≡ g → (x : Note Name) → IsAmong x split.0 → IsAmong x (arrived (Some m))
-      arrived_before e o x b = by (links_on w.links Taken (push_all v t.outbox Taken) (take_goes n ns a v l w.links from notes (splits w f)) (push_all_goes v t.outbox Taken (take_splits n ns a v l w.links from notes (splits w f))) u g m (subst (λ ks. link_at u g ks ≡ Some m) links at))
+      asked_host : a ≡ u → v ≡ g → AsksNoGift i n
+      asked_host e o = by late
         where
-          some_is : (p q : Link) → Some p ≡ Some q → p ≡ q
-          some_is p q e = cc
-
-          by : FoundFrom w.links u g m → IsAmong x (arrived (Some m))
-          by k = let goes = k.2 in goes.arrivals uncut x (subst (λ (j : Link). IsAmong x (arrived (Some j))) (some_is l k.0 (sym (link_is e o) ∙ k.1)) (subst (λ ms. IsAmong x ms) (sym (arrived_is l split.0 split.1)) b))
-
-      -- the asking is still behind the note
-      behind : AsksFor u g i w → a ≡ u → v ≡ g → (x : Note Name) × IsAmong x ns × IsAmong x l.log × AsksOf g x It
-      unfolding wire.questions
-      behind b e o = by (asker g It l.log (subst (λ ms. IsAmong It (wire.questions_in g ms)) (log_is l (link_at u g w.links) (link_is e o)) b))
-        where
-          heard : (x : Note Name) → IsAmong x (arrived (Some m)) → AsksOf g x It → ⊥
-          heard x c k = unheard (asks_in g It (arrived (Some m)) x c k)
-
-          by : (x : Note Name) × IsAmong x l.log × AsksOf g x It → (x : Note Name) × IsAmong x ns × IsAmong x l.log × AsksOf g x It
-          by r = go (among_split r.0 split.0 (n ∷ ns) (subst (λ ms. IsAmong r.0 ms) (split.1 ∙ ap (λ ms. split.0 ++ ms) notes) r.1))
-            where
-              go : IsAmong r.0 split.0 ⊎ IsAmong r.0 (n ∷ ns) → (x : Note Name) × IsAmong x ns × IsAmong x l.log × AsksOf g x It
-              go (inl c) = absurd (heard r.0 (arrived_before e o r.0 c) r.2)
-              go (inr (inl c)) = absurd (heard r.0 (subst (λ (z : Note Name). IsAmong z (arrived (Some m))) (sym c) (there e o)) r.2)
-              go (inr (inr c)) = (r.0, c, r.1, r.2)
-
-      ask_late : a ≡ u → v ≡ g → IsAmong It (told_in n) → (x : Note Name) → IsAmong x ns → AsksOwn g x → AsksOf g x It → ⊥
-      ask_late e o b (Ask p j z) c own k = let ordered = found_all (λ (q : Link). InOrder [] q.log) a v l w.links f.ordered from in
-          told_not_asked [] split.0 ns n It p j b (subst (λ y. IsAmong (Ask p j y) ns) k c) (subst (λ ms. InOrder [] ms) (split.1 ∙ ap (λ ms. split.0 ++ ms) notes) ordered)
-      ask_late e o b (Deliver q z verb ys) c own k = bare.no_answer g i g q.message own k.1
-      ask_late e o b (Open j z) c own k = k
-      ask_late e o b (SettledTo z q) c own k = k
-      ask_late e o b (Elsewhere z q) c own k = k
-      ask_late e o b (Shorten z q j) c own k = k
-
-      to_host : AsksFor u g i w → a ≡ u → v ≡ g → IsAmong It (told_in n) → ⊥
-      to_host b e o c = let r = behind b e o in let sends = sent w f a v l from r.0 r.2 in ask_late e o c r.0 r.1 (subst (λ (z : ℕ). AsksOwn z r.0) o sends.0) r.3
-
-      not_asked : a ≡ u → v ≡ g → AsksNoGift i n
-      not_asked e o = go n (let sends = sent w f a v l from n logged in subst (λ (z : ℕ). AsksOwn z n) o sends.0) (there e o)
-        where
-          go : (x : Note Name) → AsksOwn g x → IsAmong x (arrived (Some m)) → AsksNoGift i x
-          go (Ask p j z) own c = λ k. unheard (asks_in g It (arrived (Some m)) (Ask p j z) c (own ∙ ap (λ q. Gift g q) k))
-          go (Deliver q z verb ys) own c = tt
-          go (Open j z) own c = tt
-          go (SettledTo z q) own c = tt
-          go (Elsewhere z q) own c = tt
-          go (Shorten z q j) own c = tt
+          by : (m.cut ≡ true) ⊎ ((m.cut ≡ false) × Unheard g i m) → AsksNoGift i n
+          by (inl k) = absurd (shut e o k)
+          by (inr k) = not_asked k.0 k.1 e o
 
       -- what the note tells the receiver, which is not the asking vat
       told_none : AsksFor u g i w → Alone u g i w.vats w.links → IsAmong It (told_in n) → ⊥
@@ -445,7 +460,7 @@ module _ (script : Script) where
         where
           either : (a ≡ u) ⊎ (a ≡ u → ⊥) → (v ≡ g) ⊎ (v ≡ g → ⊥) → IsAmong It (told_in n) → ⊥
           either (inr o) c = (first_spared k o).0
-          either (inl e) (inl o) = to_host b e o
+          either (inl e) (inl o) = told_host b e o
           either (inl e) (inr o) = third e o
 
       asks_none : AsksFor u g i w → Alone u g i w.vats w.links → v ≡ g → AsksNoGift i n
@@ -453,7 +468,7 @@ module _ (script : Script) where
         where
           either : (a ≡ u) ⊎ (a ≡ u → ⊥) → AsksNoGift i n
           either (inr c) = (first_spared k c).1
-          either (inl e) = not_asked e o
+          either (inl e) = asked_host e o
 
       arrival_stays : AsksFor u g i w → WasDrawn w.drawn i → Alone u g i w.vats w.links → Alone u g i (put_at v t w.vats) (push_all v t.outbox Taken)
       arrival_stays b drew k = record {
@@ -554,12 +569,12 @@ module _ (script : Script) where
     }
 
     either_move : (move : Moved script w y) → AsksFor u g i w ⊎ (AsksFor u g i w → ⊥) → Alone u g i y.vats y.links
-    either_move (Still v l d) (inl b) = let move = Still v l d in rw (v, l) (alone_before move b)
-    either_move (Severs c e v l d) (inl b) = let move = Severs c e v l d in rw (v, l) (severed_alone e c (with_link severed_link c e w.links) (severed_alone c e w.links (alone_before move b)))
-    either_move (Drops c v n ns l from notes none vats links drawn) (inl b) = let move = Drops c v n ns l from notes none vats links drawn in rw (vats, links) (dropped_alone c v n ns l from notes (alone_before move b))
-    either_move (Steps v s q t what alone d vats links drawn first fresh) (inl b) = let move = Steps v s q t what alone d vats links drawn first fresh in rw (vats, links) (steps_alone v s q t what alone d (drawn_before move b) (alone_before move b))
+    either_move (Still v l d) (inl b) = rw (v, l) (alone_before b)
+    either_move (Severs c e v l d) (inl b) = rw (v, l) (severed_alone e c (with_link severed_link c e w.links) (severed_alone c e w.links (alone_before b)))
+    either_move (Drops c v n ns l from notes none vats links drawn) (inl b) = rw (vats, links) (dropped_alone c v n ns l from notes (alone_before b))
+    either_move (Steps v s q t what alone d vats links drawn first fresh) (inl b) = let move = Steps v s q t what alone d vats links drawn first fresh in rw (vats, links) (steps_alone v s q t what alone d (drawn_before move b) (alone_before b))
     either_move (Arrives c v s t n ns l from cut notes d vats links drawn first fresh) (inl b) = let move = Arrives c v s t n ns l from cut notes d vats links drawn first fresh in
-        rw (vats, links) (arrival_stays c v s t n ns l from notes d links cut b (drawn_before move b) (alone_before move b))
+        rw (vats, links) (arrival_stays c v s t n ns l from notes d links cut b (drawn_before move b) (alone_before b))
     either_move (Still v l d) (inr o) = absurd (asked_now (Still v l d) o tt)
     either_move (Severs c e v l d) (inr o) = absurd (asked_now (Severs c e v l d) o tt)
     either_move (Drops c v n ns l from notes none vats links drawn) (inr o) = absurd (asked_now (Drops c v n ns l from notes none vats links drawn) o tt)
@@ -571,7 +586,21 @@ module _ (script : Script) where
         by k (inr e) = absurd (k o (λ z. absurd (e (sym z))))
 
   pub late_on : (w y : World) → Facts w → Facts y → Moved script w y → AloneWhereLate w → AloneWhereLate y
-  late_on w y f h move before u g i other m at uncut asks unheard = either_move w y f h before u g i other m at uncut asks unheard move (among_dec (Gift g i) (wire.questions (λ i. i) w.links u g))
+  late_on w y f h move before u g i other m at uncut asks unheard = either_move w y f h u g i other m at asks (inr (uncut, unheard)) alone_before move (among_dec (Gift g i) (wire.questions (λ i. i) w.links u g))
+    where
+      was : FoundFrom w.links u g m
+      was = goes_of script w y (splits w f) move u g m at
+
+      -- what was not heard by now was not heard before
+      unheard_before : Unheard g i was.0
+      unheard_before a = let r = asker g (Gift g i) (arrived (Some was.0)) a in let goes = was.2 in unheard (asks_in g (Gift g i) (arrived (Some m)) r.0 (goes.arrivals uncut r.0 r.1) r.2)
+
+      alone_before : AsksFor u g i w → Alone u g i w.vats w.links
+      alone_before a = let goes = was.2 in before u g i other was.0 was.1 (goes.uncut uncut) a unheard_before
+
+  -- where it is asked for by a link that is cut
+  pub lost_alone : (w y : World) → Facts w → Facts y → Moved script w y → (u g i : ℕ) → (u ≡ g → ⊥) → (m : Link) → link_at u g y.links ≡ Some m → m.cut ≡ true → AsksFor u g i y → (AsksFor u g i w → Alone u g i w.vats w.links) → Alone u g i y.vats y.links
+  lost_alone w y f h move u g i other m at cut asks before = either_move w y f h u g i other m at asks (inl cut) before move (among_dec (Gift g i) (wire.questions (λ i. i) w.links u g))
 
   -- nothing was asked for yet
   pub begins_late : AloneWhereLate (world.begins script)

@@ -4,6 +4,7 @@
 //! two vats of it and of a link from one to the other that is not cut. No vat of the script may be told twice that it
 //! knows a vat, or that it knows itself.
 
+ghost use Rattle.law_hearing.specs.Exported.{ExportsAreAsLogged};
 ghost use Rattle.law_hearing.specs.Questions.{QuestionsAreAsLogged};
 ghost use Rattle.law_hearing.specs.Hearing.{FramesAreHeardByGifts, ListsAreAsLogged, NextFramesAreHeard, NotesAreNumbered};
 
@@ -20,6 +21,15 @@ pub fn lists_are_as_logged()
 /// reached, whichever vats are hostile and whatever they say.
 pub fn questions_are_as_logged()
     ensures { QuestionsAreAsLogged }
+{}
+
+/// What a vat has of its exports to another is what all notes tell that it ever put there, on a cut link too: of any two vats, in every world
+/// of a run, also among the opening turns.
+///
+/// For what was asked for on a link and lost there is told by nobody: a message that was lost has no place any more, so its answer comes to be
+/// known nowhere; and a gift that was asked for is in no other vat's hands.
+pub fn exports_are_as_logged()
+    ensures { ExportsAreAsLogged }
 {}
 
 /// Each name of the receiver in a note under way was asked of it by the sender, or stands among what the receiver exported

@@ -11,15 +11,15 @@ use Rattle.law_reference.proofs.LegRuns.{self_none}
 use Rattle.def_local.specs.Numbers as numbers
 use Rattle.def_local.specs.Numbers.{Frame, Way, Vats, Course, way_at}
 use Rattle.law_local.specs.Mirrors.{Mirrors, WayMirrors, RunMirrors}
-use Rattle.law_local.specs.Hearing.{FramesAreHeardByNumbers}
-use Rattle.law_local.specs.Carrying.{ExportsAreAsLogged, CarriesMirror}
+use Rattle.law_local.specs.Carrying.{CarriesMirror}
 use Rattle.law_local.proofs.Closing.{idles_mirror}
 use Rattle.law_local.proofs.Positions.{there_is}
 use Rattle.law_local.proofs.Ways.{MayMirror, at_mirrors}
 use Rattle.law_local.proofs.CarryLinks.{frame_first}
+use Rattle.law_local.proofs.HeardRuns.{frames_heard}
 use Rattle.law_local.proofs.Carry.{carry_mirrors}
 
-module _ (heard : FramesAreHeardByNumbers) (logged : ExportsAreAsLogged) (script : Script) (once : KnowsOnce script) (w x : World) (es : List Entry) (k : ℕ) (follow : NoticesFollowCuts es) (opened : machine.open_from script zero script.vats (machine.begins script) ≡ Goes w) (stepped : machine.steps_from script es k w ≡ Goes x)
+module _ (script : Script) (once : KnowsOnce script) (w x : World) (es : List Entry) (k : ℕ) (follow : NoticesFollowCuts es) (opened : machine.open_from script zero script.vats (machine.begins script) ≡ Goes w) (stepped : machine.steps_from script es k w ≡ Goes x)
     (X : Vats) (mirrors : Mirrors x X) (v u j : ℕ) where
   abbrev Both : Type 0
   Both = RunMirrors (machine.step script (Carry v u) j x) (numbers.step script (Carry v u) j X)
@@ -67,8 +67,8 @@ module _ (heard : FramesAreHeardByNumbers) (logged : ExportsAreAsLogged) (script
             let m = there_is X.members u ends.1 in
             let head = sym both.notes ∙ ap (map (λ (g : Frame). g.note)) i in
             let due = frame_first (connected_at v u x.connections) (connected_at u v x.connections) way f fs (mirrors.frames v u way on clear) i in
-            let h = heard script once w x es k follow opened stepped v u t.0 s.0 t.1 s.1 other l at e X m.0 mirrors m.1 f.note (map (λ (g : Frame). g.note) fs) head f.op due.0 in
-            carry_mirrors script once w x es k follow opened stepped logged X mirrors v u other l at e f fs head way on clear i t.0 s.0 t.1 s.1 z.0 m.0 z.1 m.1 h.0 h.1 h.2 j
+            let h = frames_heard script once w x es k follow opened stepped v u t.0 s.0 t.1 s.1 other l at e X m.0 mirrors m.1 f.note (map (λ (g : Frame). g.note) fs) head f.op due.0 in
+            carry_mirrors script once w x es k follow opened stepped X mirrors v u other l at e f fs head way on clear i t.0 s.0 t.1 s.1 z.0 m.0 z.1 m.1 h.0 h.1 h.2 j
 
   each : (o : Option Link) (p : Option Way) → link_at v u x.links ≡ o → way_at v u X.ways ≡ p → MayMirror o p → Both
   unfolding machine.step machine.carry_link numbers.step numbers.carry_way
@@ -81,4 +81,4 @@ module _ (heard : FramesAreHeardByNumbers) (logged : ExportsAreAsLogged) (script
   carry_each = each (link_at v u x.links) (way_at v u X.ways) refl refl (at_mirrors v u x.links X.ways mirrors.ways)
 
 pub carries_mirror : CarriesMirror
-carries_mirror heard logged script once w x es k follow opened stepped X mirrors v u j = carry_each heard logged script once w x es k follow opened stepped X mirrors v u j
+carries_mirror script once w x es k follow opened stepped X mirrors v u j = carry_each script once w x es k follow opened stepped X mirrors v u j

@@ -51,6 +51,7 @@ use Rattle.law_frame.proofs.Ranks.{Starts}
 use Rattle.law_frame.proofs.Untouched.{every_position}
 use Rattle.law_frame.proofs.WireRuns.{stepped_both}
 use Rattle.law_hearing.specs.Hearing.{as_heard}
+use Rattle.law_hearing.proofs.CutRuns.{exports_logged}
 use Rattle.law_hearing.proofs.Laws.{lists_logged, imports_now, exports_later, questions_later}
 use Rattle.law_stops.proofs.Entries as across
 use Rattle.law_stops.proofs.Entries.{SoundIn, is, first_kind, note_table, note_starts}
@@ -67,7 +68,7 @@ use Rattle.law_local.specs.Naming.{Tells}
 use Rattle.law_local.specs.Writing.{PutsSo}
 use Rattle.law_local.specs.Steps.{world_left, StepStands}
 use Rattle.law_local.specs.Hearing.{unnamed, HearsSo}
-use Rattle.law_local.specs.Carrying.{taken, off, ExportsAreAsLogged}
+use Rattle.law_local.specs.Carrying.{taken, off}
 use Rattle.law_local.proofs.Naming.{names_mirror}
 use Rattle.law_local.proofs.Positions.{there_is}
 use Rattle.law_local.proofs.Puts.{each_puts_so}
@@ -76,7 +77,7 @@ use Rattle.law_local.proofs.OwnSteps.{front, mapped_length}
 use Rattle.law_local.proofs.Turns.{given, stopped, books_given, books_stopped}
 use Rattle.law_local.proofs.CarryLinks.{keeps_taken, ways_taken, heard_there, frame_first, due_off, vat_taken}
 use Rattle.law_local.proofs.CarryArrives.{arrives_same}
-use Rattle.law_local.proofs.CarryTells.{StepTold, tells_so}
+use Rattle.law_local.proofs.JoinedTells.{Laws, laws_tell_of}
 use Rattle.law_local.proofs.CarryNames.{Came, frame_brought, came_by, front_at}
 use Rattle.law_local.proofs.CarryGifts.{Given, ask_given}
 use Rattle.law_local.proofs.CarryHeard.{GiftStands, asked_found, refer_heard, connections_heard}
@@ -142,7 +143,7 @@ middle P (x ∷ xs) ys y h = middle P xs ys y h.1
 -- ---- the carry
 
 -- In world x of a run, which X mirrors, frame f is the first on the way from v, whose state is t and whose member is z, to u, whose state is s and whose member is m. It is heard as its note is read.
-module _ (script : Script) (once : KnowsOnce script) (w x : World) (es : List Entry) (k : ℕ) (follow : NoticesFollowCuts es) (opened : machine.open_from script zero script.vats (machine.begins script) ≡ Goes w) (stepped : machine.steps_from script es k w ≡ Goes x) (all_logged : ExportsAreAsLogged)
+module _ (script : Script) (once : KnowsOnce script) (w x : World) (es : List Entry) (k : ℕ) (follow : NoticesFollowCuts es) (opened : machine.open_from script zero script.vats (machine.begins script) ≡ Goes w) (stepped : machine.steps_from script es k w ≡ Goes x)
     (X : Vats) (mirrors : Mirrors x X) (v u : ℕ) (other : v ≡ u → ⊥) (l : Link) (at : link_at v u x.links ≡ Some l) (uncut : l.cut ≡ false) (f : Frame) (fs : List Frame) (head : l.notes ≡ f.note ∷ map (λ (g : Frame). g.note) fs)
     (way : Way) (on : way_at v u X.ways ≡ Some way) (clear : way.cut ≡ false) (frames : way.frames ≡ f ∷ fs) (t s : Vat Name) (there : slice_get x.vats v ≡ Some t) (here : slice_get x.vats u ≡ Some s)
     (z m : Member) (sender : slice_get X.members v ≡ Some z) (mine : slice_get X.members u ≡ Some m) (h : Heard Local (Note (Incoming Local Local))) (heard : heard_in v f.op m ≡ Some h) (so : HearsSo x v u s f.note h) where
@@ -267,15 +268,15 @@ module _ (script : Script) (once : KnowsOnce script) (w x : World) (es : List En
         let first : Starts (names_heard (names_in s.known) n ++ a ∷ []) (names_in r.known) = subst (λ d. Begins word u (names_heard (names_in s.known) n ++ a ∷ []) d) gives (due_begins word u v (names_in s.known) n (readied x s) refl was.placed a due) known_apart in
         front_at (names_heard (names_in s.known) n ++ a ∷ []) (names_in r.known) first (length (names_heard (names_in s.known) n)) a (get_end (names_heard (names_in s.known) n) a)
 
-    told : StepTold u s r (Some n)
+    told : Laws u s r (Some n)
     told = record {
       messages = (messages_in_order script once).1 w x y es (Carry v u) k opened stepped (goes J) s r l n ns here after at uncut head;
-      before = (own_promises_ordered script once).1 w x es k opened stepped u s here;
-      after = (own_promises_ordered script once).1 w y (es ++ Carry v u ∷ []) k opened done u r after;
+      own_before = (own_promises_ordered script once).1 w x es k opened stepped u s here;
+      own_after = (own_promises_ordered script once).1 w y (es ++ Carry v u ∷ []) k opened done u r after;
       lines = (lines_named script once).1 w y (es ++ Carry v u ∷ []) k opened done u r after;
       notes = (notes_named script once).1 w y (es ++ Carry v u ∷ []) k opened done u r after;
       gifts = (gifts_named script once).1 w y (es ++ Carry v u ∷ []) k opened done u r after;
-      told = (names_told script once).1 w x y es (Carry v u) k opened stepped (goes J) s r l n ns here after at uncut head;
+      news = (names_told script once).1 w x y es (Carry v u) k opened stepped (goes J) s r l n ns here after at uncut head;
       apart = (names_apart script once).1 w y (es ++ Carry v u ∷ []) k opened done u r after;
       hosts = puts.hosts;
     }
@@ -315,7 +316,7 @@ module _ (script : Script) (once : KnowsOnce script) (w x : World) (es : List En
 
     more : Extends (table_of x u s) T
     unfolding table_of
-    more = let grows = told.told in let mails = told.messages in record {
+    more = let grows = told.news in let mails = told.messages in record {
       names = λ i a e. ap (λ names. slice_get names i) grows.1 ∙ front (names_in s.known) grows.0 i a e;
       mails = λ i a e. ap (λ names. slice_get names i) (mails.1 ∙ append_assoc s.mails _ _) ∙ front s.mails _ i a e;
       exports = keeps u;
@@ -343,7 +344,7 @@ module _ (script : Script) (once : KnowsOnce script) (w x : World) (es : List En
     Arrivals = Came x X v u other t s z m sender sender_was was to n f.op h heard so r later differ answered later_exports of_sender no_own
 
     tells : Tells u s r (numbers.carried_in n) Arrivals
-    tells = let grows = told.told in subst (λ c. Tells u s r c Arrivals) (sym (carried_same n)) (tells_so u s r (Some n) told Arrivals
+    tells = let grows = told.news in subst (λ c. Tells u s r c Arrivals) (sym (carried_same n)) (laws_tell_of u s r (Some n) told Arrivals
         (λ a i j. came_by x X v u other t s z m sender sender_was was to n f.op h heard so r later differ answered later_exports of_sender no_own grows.0 grows.1 a i j))
 
     promises_same : m.vat.promises ≡ s.promises
@@ -393,7 +394,7 @@ module _ (script : Script) (once : KnowsOnce script) (w x : World) (es : List En
         learnt = learnt_still u (table_heard x u s n) T heard_more h.after.learnt so.learnt;
         keeps = λ a. keeps_taken x y v u ns a (keeps a);
         hosts = λ a b. ((positions_are_of_one_name (λ i. i) script).1 w y (es ++ Carry v u ∷ []) k opened done a b).1;
-        logged = λ a b e i g. let q = placed a i in let c = placed b g in (all_logged script once).1 w y (es ++ Carry v u ∷ []) k followed opened done a b q.0 c.0 q.1 c.1 e;
+        logged = λ a b e i g. let q = placed a i in let c = placed b g in (exports_logged script once).1 w y (es ++ Carry v u ∷ []) k followed opened done a b q.0 c.0 q.1 c.1 e;
       }
 
     out : (p : Vat Local) × (Ours ≡ Gives tt p) × (maps.vat (found u T) p ≡ maps.vat Is r)

@@ -6,3 +6,5 @@ pub mod Steps
 pub mod Runs
 pub mod Hearing
 pub mod Carrying
+pub mod Joined
+pub mod Whole

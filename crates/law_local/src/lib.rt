@@ -2,4 +2,6 @@
 #![tactic(auto)]
 
 pub mod carrying;
+pub mod hearing;
 pub mod parts;
+pub mod whole;

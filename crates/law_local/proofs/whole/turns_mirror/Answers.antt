@@ -1,0 +1,5 @@
+use Rattle.law_local.proofs.Joined.{turns_so}
+use Rattle.law_local.proofs.whole.turns_mirror.Goals as goal
+
+pub returns : goal.returns
+returns c = turns_so
