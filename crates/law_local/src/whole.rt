@@ -1,5 +1,5 @@
 //! The steps of a run and the whole run: each opening turn, each turn, each cut and each notice of one leads where the machine's does,
-//! and the run does where carries do.
+//! and so does the run.
 //!
 //! Of a script they ask that no vat is told twice that it knows a vat, or that it knows itself, and that each notice stands behind a cut of
 //! the same two vats; so it is of every script that is read (`law_script`).
