@@ -1,4 +1,4 @@
-use Rattle.std.proofs.Common.{[], ◌∷◌, ◌++◌, ap, ◌∙◌}
+use Rattle.std.proofs.Common.{◌∙◌}
 use Rattle.ev_ways.proofs.Tellings.{shrunk, lost_all, lost_next}
 use Rattle.ev_ways.proofs.telling.tell_lost.Goals as goal
 
