@@ -7,3 +7,4 @@ pub mod Starts
 pub mod Draws
 pub mod Closing
 pub mod Links
+pub mod Tellings

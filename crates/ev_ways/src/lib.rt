@@ -4,8 +4,10 @@
 pub mod frame;
 pub mod laws;
 pub mod row;
+pub mod telling;
 pub mod way;
 pub mod ways;
 
 pub use frame::Frame;
+pub use telling::tell_lost;
 pub use ways::Ways;

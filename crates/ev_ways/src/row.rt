@@ -1,11 +1,14 @@
 //! The ways from one vat to each other.
 
-ghost use Rattle.std.specs.Prelude.{◌≡◌, IfOk, OnErr, OnOk};
+ghost use Rattle.std.specs.Prelude.{◌≡◌, ◌++◌, IfOk, OnOk};
 ghost use Rattle.ev_ways.specs.Rows.{behind, cut_to, cuts, first_to, frames_to, fresh_row, next_to, put, rest, severed, with_at};
+ghost use Rattle.ev_ways.specs.Telling.{left_row};
 
 use crate::frame::Frame;
+use crate::telling::tell_left;
 use crate::way::Way;
-use ev_base::Memory;
+use ev_base::{Memory, VatId};
+use ev_event::History;
 use std::alloc::Global;
 use std::collections::VecDeque;
 use std::marker::Model;
@@ -113,5 +116,19 @@ impl Row {
             None => None,
             Some(way) => way.lose(),
         }
+    }
+
+    /// The frames that are left on the ways, those to the first vat first.
+    #[tactic(auto, using(crate::proofs::Tellings::row_grown, crate::proofs::Tellings::row_none))]
+    pub fn tell_left(self, alloc: Global, history: &mut History, from: VatId) -> Result<(), Memory>
+        ensures { OnOk result (history.new ≡ history.old ++ left_row from 0 self) }
+    {
+        let Row { ways } = self;
+        let mut to = 0u8;
+        for way in ways {
+            tell_left(alloc, history, from, VatId(to), way.into_frames())?;
+            to = to.checked_add(1).ok_or(Memory)?;
+        }
+        Ok(())
     }
 }

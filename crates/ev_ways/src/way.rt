@@ -90,4 +90,12 @@ impl Way {
     {
         self.frames.pop_front()
     }
+
+    /// All frames on the way.
+    pub fn into_frames(self) -> VecDeque<Frame>
+        ensures { result.items ≡ self.frames }
+    {
+        let Way { frames, .. } = self;
+        frames
+    }
 }

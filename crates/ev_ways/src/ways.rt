@@ -1,11 +1,13 @@
 //! The ways between all vats of a run.
 
-ghost use Rattle.std.specs.Prelude.{◌≡◌, IfOk, OnErr, OnOk};
+ghost use Rattle.std.specs.Prelude.{◌≡◌, ◌++◌, IfOk, OnOk};
 ghost use Rattle.ev_ways.specs.Rows.{behind, changed, changed_from, cuts, first_at, first_from, frames_at, fresh_rows, is_cut_at, next_at, next_from, put, rest, row_at, severed};
+ghost use Rattle.ev_ways.specs.Telling.{left_rows};
 
 use crate::frame::Frame;
 use crate::row::Row;
 use ev_base::{Memory, VatId};
+use ev_event::History;
 use std::alloc::Global;
 use std::collections::VecDeque;
 use std::marker::Model;
@@ -150,5 +152,19 @@ impl Ways {
             None => None,
             Some(row) => row.lose(to),
         }
+    }
+
+    /// The frames that are left on the ways between vats, those of the first sender first.
+    #[tactic(auto, using(crate::proofs::Tellings::rows_grown, crate::proofs::Tellings::rows_none))]
+    pub fn tell_left(self, alloc: Global, history: &mut History) -> Result<(), Memory>
+        ensures { OnOk result (history.new ≡ history.old ++ left_rows 0 self) }
+    {
+        let Ways { rows } = self;
+        let mut from = 0u8;
+        for row in rows {
+            row.tell_left(alloc, history, VatId(from))?;
+            from = from.checked_add(1).ok_or(Memory)?;
+        }
+        Ok(())
     }
 }
