@@ -1,5 +1,5 @@
 -- What the names and numbers that the code keeps stand for.
-use Rattle.std.specs.Prelude.{◌≡◌, ◌-◌, ℕ, List, [], ◌++◌, Option, length, map, option_map}
+use Rattle.std.specs.Prelude.{◌≡◌, ◌-◌, ℕ, List, ◌++◌, length, map, option_map}
 use Rattle.ev_base.specs.declared.names.Msg.{Msg}
 use Rattle.ev_base.specs.declared.names.Name.{Name as ShownName}
 use Rattle.def_local.specs.Names as local
