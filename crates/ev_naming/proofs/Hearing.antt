@@ -15,7 +15,7 @@ use Rattle.def_machine.specs.State as machine
 use Rattle.def_machine.specs.State.{Happened, Vat}
 use Rattle.def_machine.specs.Values.{Name, Gift as GiftName, Sent as SentName, answer_of, key, Words, Local, Prom, Mess}
 use Rattle.ev_arrive.specs.Reading.{gift_by, with_gifts}
-use Rattle.ev_intro.specs.Gift.{Gift, Gifts}
+use Rattle.ev_intro.specs.Gift.{Gifts}
 use Rattle.ev_intro.specs.Word.{Drawn}
 use Rattle.ev_pass.specs.Notes.{Noted, Deliver, Open, Ask, Settled, Elsewhere, Shorten, Sent}
 use Rattle.ev_pass.specs.Reading as inside
@@ -25,7 +25,7 @@ use Rattle.ev_refs.proofs.Machine.{as_many}
 use Rattle.ev_refs.specs.Reading.{knowns_by}
 use Rattle.ev_refs.specs.References.{References}
 use Rattle.ev_room.specs.Reading.{World, texts_of, vat_of, line_of, lines_of, referred_line, made_line, ejector_line, audition_line, promise_line}
-use Rattle.ev_naming.specs.Names.{Entry, Named, each_tells, asked_tells, event_tells, events_tell, answer_name, answer_tells, note_tells, put_tells, puts_tell, gift_tells, gifts_tell, gift_at, host_in, step_tells, carried_mails, own_messages, mailed, stepped}
+use Rattle.ev_naming.specs.Names.{Entry, Named, each_tells, asked_tells, event_tells, events_tell, answer_name, answer_tells, note_tells, put_tells, puts_tell, gift_tells, gifts_tell, host_in, step_tells, carried_mails, own_messages, mailed, stepped}
 use Rattle.ev_naming.specs.Standing.{Says, Stands, Counts, printed, mail_of, mails_of, new_names}
 use Rattle.ev_naming.proofs.Saying.{IsBeside, answer_shown, host_is, gift_shown, key_shown, says_more, says_same, names_grow, beside_stays}
 

@@ -7,3 +7,4 @@ mod Shows
 mod Passing
 mod Hearing
 mod NotesShown
+mod Later

@@ -1,5 +1,5 @@
 -- Notes as the code shows them are shown as in the machine.
-use Rattle.std.proofs.Common.{◌≡◌, ℕ, Bool, List, [], ◌∷◌, Option, Some, None, refl, sym, ap, ◌∙◌}
+use Rattle.std.proofs.Common.{◌≡◌, ℕ, Bool, List, ◌∷◌, Some, None, refl, sym, ap, ◌∙◌}
 use Rattle.ev_base.specs.declared.names.Name.{Name as ShownName}
 use Rattle.ev_base.specs.declared.names.Name.TheVariants as name
 use Rattle.ev_base.specs.declared.values.Value.{Value as Held}
@@ -9,7 +9,7 @@ use Rattle.def_event.specs.declared.note.ShownNote.TheVariants as note
 use Rattle.def_event.specs.declared.shown.Shown.{Shown}
 use Rattle.def_event.specs.declared.shown.Shown as shown
 use Rattle.def_machine.specs.Maps as maps
-use Rattle.def_machine.specs.Values.{Name, Local, Prom, word_of}
+use Rattle.def_machine.specs.Values.{Name, Local, word_of}
 use Rattle.def_run.specs.Shown as machine
 use Rattle.def_run.specs.Shown.{shown_value, shown_gift, shown_name, shown_delivery}
 use Rattle.ev_intro.specs.Word.{Drawn}
@@ -57,6 +57,7 @@ module _ (d : Drawn) (f : Local → Name) (n : Naming) (cut : List Bool) (w : Wo
 
   mutual
     unfolding machine.shown_passed machine.shown_all passed_by passeds_by shown_parcel shown_parcels
+
     parcel_shown : (p : Parcel) → machine.shown_passed (words_of d) (maps.passed f (passed_by (texts_of w) p)) ≡ shown_parcel noting p
     parcel_shown (Plain v) = plain_shown v
     parcel_shown (Gift h k) = ap (λ (x : ShownName). shown.Name x) (key_shown h k)

@@ -31,4 +31,3 @@ is_done n front ps k le so_far =
     ∙ ap (λ (qs : List Passed). front ++ each_shown n qs) (sym (drop_all k ps le))
     ∙ so_far
     ∙ as_parcels n ps
-

@@ -1,5 +1,5 @@
 -- What was told in the code is what the machine's step tells, as it is printed.
-use Rattle.std.proofs.Common.{◌≡◌, ◌+◌, ◌-◌, ℕ, zero, suc, Bool, true, false, cond, nat_eq, List, [], ◌∷◌, ◌++◌, length, map, Option, Some, None, refl, sym, ap, subst, ◌∙◌, append_assoc, append-nil, arith}
+use Rattle.std.proofs.Common.{◌≡◌, ◌+◌, ℕ, zero, suc, Bool, true, false, cond, nat_eq, List, [], ◌∷◌, ◌++◌, length, map, Option, Some, None, refl, sym, ap, ◌∙◌, append_assoc, append-nil, arith}
 use Rattle.std.specs.Prelude.{option_map, slice_get, unwrap_or}
 use Rattle.std.proofs.lemmas.Bool.{eqb-true}
 use Rattle.std.proofs.lemmas.Cmp.{nat_eq_equiv}
@@ -8,16 +8,16 @@ use Rattle.ev_base.specs.declared.names.Msg.{Msg}
 use Rattle.ev_base.specs.declared.names.Name.{Name as ShownName}
 use Rattle.ev_base.specs.declared.names.Name.TheVariants as shown
 use Rattle.def_local.specs.Names as local
-use Rattle.def_machine.specs.Values.{Name, Root, Promise, Answer, Gift, Sent, answer_of, key, word_of, Local, Prom, Mess}
+use Rattle.def_machine.specs.Values.{Name, Root, Promise, Gift, answer_of, key, word_of, Prom, Mess}
 use Rattle.def_machine.proofs.Keys.{word_key}
 use Rattle.def_run.specs.Shown.{shown_name, shown_gift, msg_of}
-use Rattle.ev_intro.specs.Word.{Drawn, place}
+use Rattle.ev_intro.specs.Word.{Drawn}
 use Rattle.ev_refs.specs.Reading.{knowns_by}
 use Rattle.ev_refs.specs.References.{References}
 use Rattle.ev_refs.specs.declared.known.Known.{Known}
 use Rattle.def_machine.specs.Values.{Words}
-use Rattle.ev_naming.specs.Names.{Entry, Named, told_at, unless_told, with_told, answer_name, host_in, gift_at, with_name, named_as, one_named, all_named}
-use Rattle.ev_naming.specs.Standing.{Says, printed, words_of, mail_of, mails_of}
+use Rattle.ev_naming.specs.Names.{Entry, Named, told_at, unless_told, with_told, answer_name, host_in, gift_at, with_name, named_as, names_first, one_named, all_named}
+use Rattle.ev_naming.specs.Standing.{Says, Stands, printed, mails_of}
 use Rattle.ev_naming.proofs.Places.{place_is}
 
 -- ---- names
@@ -185,3 +185,14 @@ beside_stays es (suc n) t =
     let a = stays_by (told_at (length t.naming.names) es) t in
     let b = beside_stays es n (one_named es t) in
     record { vat = b.vat ∙ a.vat; mails = b.mails ∙ a.mails; objects = b.objects ∙ a.objects }
+
+-- ---- the start
+
+roots_printed : (d : Drawn) (knows : List ℕ) → map shown.Root knows ≡ map (printed d) (map Root knows)
+unfolding shown_name
+roots_printed d [] = refl
+roots_printed d (v ∷ vs) = ap (λ (ns : List ShownName). shown.Root v ∷ ns) (roots_printed d vs)
+
+pub first_stand : (d : Drawn) (v : ℕ) (knows : List ℕ) (vats : ℕ) → Stands d (record { known = Root v ∷ map Root knows; mails = [] }) (names_first v knows vats)
+unfolding shown_name
+first_stand d v knows vats = record { known = ap (λ (ns : List ShownName). shown.Root v ∷ ns) (roots_printed d knows); mails = refl }

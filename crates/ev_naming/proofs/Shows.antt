@@ -1,6 +1,5 @@
 -- The lines that the code tells of a step are those that the machine shows, where the names of the vat's numbers are these.
 use Rattle.std.proofs.Common.{◌≡◌, ℕ, Bool, true, false, List, [], ◌∷◌, ◌++◌, Option, Some, None, refl, sym, ap, ◌∙◌, map, append_assoc}
-use Rattle.std.specs.Prelude.{get_or}
 use Rattle.ev_base.specs.declared.values.Value.{Value as Held}
 use Rattle.ev_base.specs.declared.values.Value.TheVariants as held
 use Rattle.ev_heap.specs.declared.kept.Capture.{Capture}
@@ -12,11 +11,11 @@ use Rattle.def_event.specs.declared.event.Event.TheVariants as line
 use Rattle.def_event.specs.declared.shown.Shown as shown
 use Rattle.ev_base.specs.declared.names.Msg.{Msg as ShownMsg}
 use Rattle.ev_base.specs.declared.names.Name.{Name as ShownName}
-use Rattle.def_machine.specs.Values.{Words, Value, Local, Name, Obj, Prom, Mess}
+use Rattle.def_machine.specs.Values.{Words, Local, Name, Mess}
 use Rattle.def_machine.specs.State.{Happened, Sends, Posted}
 use Rattle.def_machine.specs.Maps as maps
 use Rattle.def_run.specs.World.{Event, Link, LostCut, event_of, events_of, is_cut}
-use Rattle.def_run.specs.Shown.{shown_value, shown_values, shown_capture, shown_slot, shown_happened, shown_event, shown_name, shown_msg, shown_send, shown_reaction}
+use Rattle.def_run.specs.Shown.{shown_value, shown_values, shown_capture, shown_slot, shown_happened, shown_event, shown_send, shown_reaction}
 use Rattle.def_run.specs.Text.{shown_events}
 use Rattle.ev_pass.specs.Reading as inside
 use Rattle.ev_room.specs.Reading.{World, value_of, problem_of, capture_in, ejector_line, audition_line, promise_line, message_of, referred_line, made_line, line_of, lines_of}

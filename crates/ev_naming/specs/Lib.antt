@@ -2,3 +2,4 @@ pub mod Names
 pub mod Standing
 pub mod Printing
 pub mod Noting
+pub mod Rows

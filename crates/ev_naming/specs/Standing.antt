@@ -1,10 +1,10 @@
 -- What the names and numbers that the code keeps stand for.
-use Rattle.std.specs.Prelude.{◌≡◌, ◌-◌, ℕ, List, [], ◌++◌, Option, length, map, option_map}
+use Rattle.std.specs.Prelude.{[], ◌≡◌, ◌-◌, ℕ, List, ◌++◌, length, map, option_map, ◌≤◌, true, ◌∷◌}
 use Rattle.ev_base.specs.declared.names.Msg.{Msg}
 use Rattle.ev_base.specs.declared.names.Name.{Name as ShownName}
 use Rattle.def_local.specs.Names as local
-use Rattle.def_machine.specs.State.{Vat}
-use Rattle.def_machine.specs.Values.{Name, Sent, Local}
+use Rattle.def_machine.specs.State.{Vat, is_in}
+use Rattle.def_machine.specs.Values.{Name, Gift, Sent, Local, word_of}
 use Rattle.def_run.specs.Shown.{shown_name}
 use Rattle.ev_intro.specs.Word.{Drawn}
 use Rattle.ev_pass.specs.Acts.{words_by}
@@ -48,3 +48,20 @@ pub record Counts (s : Vat Local) (n : Named) : Type 0 where
   pub promises : n.promises ≡ s.promises
   pub messages : n.messages ≡ s.messages
   pub gifts : n.gifts ≡ length s.gifts
+
+-- ---- later
+
+-- where the name is a gift, its word is among these
+abbrev pub WordIsIn : List ℕ → Name → Type 0
+WordIsIn ws (Gift h i) = is_in (word_of i) ws ≡ true
+WordIsIn ws _ = Unit {0}
+
+abbrev pub WordsAreIn : List ℕ → List Name → Type 0
+WordsAreIn ws [] = Unit {0}
+WordsAreIn ws (n ∷ ns) = WordIsIn ws n × WordsAreIn ws ns
+
+-- A table has the same names when more words were drawn, where the word of each gift among them was drawn.
+abbrev pub PrintedNamesStay : Type 0
+PrintedNamesStay =
+    (before after : Drawn) (t : local.Names) (n : Named) → before.key ≡ after.key → before.count ≤ after.count → WordsAreIn (words_of before) t.known
+    → Stands before t n → Stands after t n

@@ -5,8 +5,9 @@ ghost use Rattle.ev_base.specs.declared.names.Name.TheVariants as name;
 ghost use Rattle.ev_naming.specs.Names.{all_named, counted, answer_name, asked_tells, answer_tells, carried_mails, event_tells, events_tell, gift_at, gift_tells, gifts_tell, host_in, line_tells, names_first, note_tells, one_named, own_messages, puts_tell, some_tells, step_tells, stepped, mailed, with_mails};
 ghost use Rattle.def_local.specs.Names.{Names, Told as Local, names_after};
 ghost use Rattle.def_machine.specs.State.{Vat};
-ghost use Rattle.def_machine.specs.Values.{Local as Number, word_of};
+ghost use Rattle.def_machine.specs.Values.{Local as Number, Root, word_of};
 ghost use Rattle.ev_arrive.specs.Reading.{with_gifts};
+ghost use Rattle.ev_intro.specs.Word.{Drawn};
 ghost use Rattle.ev_naming.specs.Standing.{Counts, Says, Stands, mails_of, new_names, printed};
 ghost use Rattle.ev_pass.specs.Notes.{key_of, noted, sent};
 ghost use Rattle.ev_room.specs.Reading.{World, vat_of};
@@ -85,6 +86,14 @@ impl Model for VatNames {
 impl VatNames {
     /// The names of a vat at its start: its root, and those of the vats that it knows. There are so many vats.
     pub fn new(alloc: Global, me: VatId, knows: &[VatId], vats: u8) -> Result<VatNames, Memory>
+        ensures names { IfOk result (λ names. names ≡ names_first me knows.now vats) }
+        ensures stands { (d : Drawn) → IfOk result (λ names. Stands d (record { known = Root me ∷ map Root knows.now; mails = [] }) names) }
+    {
+        let names = VatNames::first(alloc, me, knows, vats)?;
+        Ok(names)
+    }
+
+    fn first(alloc: Global, me: VatId, knows: &[VatId], vats: u8) -> Result<VatNames, Memory>
         ensures { IfOk result (λ names. names ≡ names_first me knows.now vats) }
     {
         let mut table = Table::new(alloc, me);

@@ -1,5 +1,5 @@
 -- The lines of what happened in a vat, where its numbers stand for these names.
-use Rattle.std.specs.Prelude.{ℕ, Bool, true, false, List, [], ◌∷◌, ◌++◌, Option, Some, None, flat_map, get_or, map, slice_get, slice_set, unwrap_or, codes}
+use Rattle.std.specs.Prelude.{ℕ, Bool, true, false, List, [], ◌∷◌, ◌++◌, Option, Some, None, flat_map, get_or, map, slice_get, slice_set, unwrap_or}
 use Rattle.ev_base.specs.declared.names.Msg.{Msg}
 use Rattle.ev_base.specs.declared.names.Name.{Name}
 use Rattle.ev_base.specs.declared.names.Name.TheVariants as name

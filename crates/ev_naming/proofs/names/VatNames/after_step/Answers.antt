@@ -1,5 +1,4 @@
-use Rattle.std.proofs.Common.{List, subst, sym, ap, ◌∙◌, map, ◌++◌}
-use Rattle.ev_base.specs.declared.names.Msg.{Msg}
+use Rattle.std.proofs.Common.{subst, sym, ap, ◌∙◌, map, ◌++◌}
 use Rattle.def_local.specs.Names.{names_after}
 use Rattle.ev_arrive.specs.Reading.{with_gifts}
 use Rattle.ev_room.specs.Reading.{vat_of}

@@ -1,7 +1,7 @@
 use Rattle.std.proofs.Common.{◌≡◌, nat_eq, None, sym, ap, ◌∙◌}
 use Rattle.std.specs.Map.{lookup}
 use Rattle.indexmap.proofs.CallerLemmas.{insert_entry-new}
-use Rattle.ev_naming.specs.Names.{Entry, told_at}
+use Rattle.ev_naming.specs.Names.{told_at}
 use Rattle.ev_naming.proofs.Entries.{entries_of, told_lookup, put_first, told_before}
 use Rattle.ev_naming.proofs.told.Told.put.Goals as goal
 

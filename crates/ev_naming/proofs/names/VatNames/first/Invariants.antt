@@ -1,7 +1,7 @@
 use Rattle.std.proofs.Common.{◌≡◌, [], ◌∷◌, map, replicate, take}
 use Rattle.ev_base.specs.declared.names.Name.TheVariants.{Root}
 use Rattle.ev_step_lines.specs.Lines.{no_names}
-use Rattle.ev_naming.proofs.names.VatNames.new.Given as goal
+use Rattle.ev_naming.proofs.names.VatNames.first.Given as goal
 
 -- the roots so far are named
 abbrev pub invariant-loop-vat : goal.invariant-loop-vat
