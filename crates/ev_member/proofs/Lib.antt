@@ -5,4 +5,4 @@ pub mod Turning
 pub mod Starts
 pub mod Heard
 pub mod Taking
-pub mod Hearing
+pub mod Arriving

@@ -16,7 +16,10 @@ use Rattle.ev_member.specs.declared.hearing.Asked.TheVariants as asked
 use Rattle.ev_member.specs.declared.member.Member.{Member}
 use Rattle.ev_member.specs.declared.sending.Sending.{Sending}
 use Rattle.ev_op.specs.Decoded.{decoded}
+use Rattle.ev_read.specs.Bringing.{Told, told}
+use Rattle.ev_read.specs.Hearing.{Out}
 use Rattle.ev_read.specs.Taking.{imported_all}
+use Rattle.ev_read.specs.declared.news.Hearing.{Hearing}
 use Rattle.ev_read.specs.declared.news.News.{News}
 use Rattle.ev_receive.specs.declared.brought.Heard.{Heard as Noted}
 use Rattle.ev_receive.specs.declared.brought.Heard.TheVariants.{Deliver, Open, Ask, Settled, Elsewhere, Shorten}
@@ -33,6 +36,11 @@ use Rattle.law_peers.specs.Standing.{SeesAsBefore}
 -- a vat that keeps these texts besides
 abbrev pub with_texts : List (List ℕ) → Vat → Vat
 with_texts ts v = record v { host = record v.host { inside = record v.host.inside { heap = record v.host.inside.heap { texts = v.host.inside.heap.texts ++ ts } } } }
+
+-- what was heard, without where it lies in memory
+abbrev pub heard_view : Option Hearing → Out Told
+heard_view (Some h) = Some (told h.note, h.news)
+heard_view None = None
 
 -- what a note asks for
 abbrev pub asked_of : Noted → Asked

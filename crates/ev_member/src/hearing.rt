@@ -1,10 +1,10 @@
 //! A vat with its connections hears the frames of its peers.
 
-ghost use Rattle.std.specs.Prelude.{◌≡◌, ◌++◌, ℕ, List, None, OnOk, slice_set};
+ghost use Rattle.std.specs.Prelude.{◌≡◌, ◌++◌, ℕ, List, None, IfOk, OnOk, slice_set};
 ghost use Rattle.def_local.specs.Vats.{Member as Theirs};
 ghost use Rattle.def_machine.specs.Arrive as machine;
 ghost use Rattle.def_machine.specs.Values.{Local, Words};
-ghost use Rattle.ev_member.specs.Hearing.{Hears, answer_of, answered_if, asked_of, frame_heard, taken, with_texts};
+ghost use Rattle.ev_member.specs.Hearing.{Hears, answer_of, answered_if, asked_of, frame_heard, heard_view, taken, with_texts};
 ghost use Rattle.ev_member.specs.Standing.{IsFound};
 ghost use Rattle.ev_pass.specs.Reading.{names_under};
 ghost use Rattle.ev_read.specs.Hearing as code;
@@ -20,16 +20,16 @@ use crate::member::Member;
 use crate::sending::Sending;
 use ev_arrive::Host;
 use ev_base::{Memory, PromId, Str, VatId};
+use ev_read::LearntTable;
 use ev_read::fault::HearFault;
 use ev_read::hearing::hear_frame;
 use ev_read::news::{Hearing, News};
 use ev_read::taking::take_in;
-use ev_read::LearntTable;
 use ev_receive::Heard;
 use ev_tables::Connection;
 use ev_vat::{Vat, VatStop};
 
-/// Keeps the texts that a frame brought, which have the next numbers. After want of memory some are kept.
+/// Keeps texts, which have the next numbers. After want of memory some are kept.
 fn keep_texts(vat: &mut Vat, texts: &[Str]) -> Result<(), Memory>
     ensures { OnOk result (vat.new ≡ with_texts texts.now vat.old) }
 {
@@ -39,18 +39,25 @@ fn keep_texts(vat: &mut Vat, texts: &[Str]) -> Result<(), Memory>
     Ok(())
 }
 
+/// Keeps the texts that a frame brought.
+fn keep_news(vat: &mut Vat, news: &News) -> Result<(), Memory>
+    ensures { OnOk result (vat.new ≡ with_texts news.now.texts vat.old) }
+{
+    keep_texts(vat, news.texts.as_slice())
+}
+
 /// A note arrives, behind the texts that its frame brought.
-fn come_in(vat: &mut Vat, from: VatId, note: Heard, texts: &[Str]) -> Result<(), VatStop>
+fn come_in(vat: &mut Vat, from: VatId, note: Heard, news: &News) -> Result<(), VatStop>
     requires ready { IsReady vat.old }
-    requires fits { vat.old.stopped ≡ None → NoteFits (with_texts texts.now vat.old).host.inside.heap note }
+    requires fits { vat.old.stopped ≡ None → NoteFits (with_texts news.now.texts vat.old).host.inside.heap note }
     ensures step { vat.old.stopped ≡ None → (w : World) (rest : List Words) → texts_of w ≡ vat.new.host.inside.heap.texts ++ rest → vat.old.host.inside.words.key ≡ w.key → (n : Local) (x : Name) (c : ℕ)
-        → ArrivalIs w result vat.new.host (machine.arrive (names w) from (heard_by (texts_of w) n x c from note) (vat_in w (with_texts texts.now vat.old).host)) }
-    ensures grown { vat.old.stopped ≡ None → UnlessMemory result (Grown (with_texts texts.now vat.old).host.inside.heap vat.new.host.inside.heap) }
+        → ArrivalIs w result vat.new.host (machine.arrive (names w) from (heard_by (texts_of w) n x c from note) (vat_in w (with_texts news.now.texts vat.old).host)) }
+    ensures grown { vat.old.stopped ≡ None → UnlessMemory result (Grown (with_texts news.now.texts vat.old).host.inside.heap vat.new.host.inside.heap) }
     ensures stays { vat.old.stopped ≡ None → UnlessMemory result (Stays vat.old.host.inside vat.new.host.inside) }
     ensures sound { OnOk result (IsSound vat.new.host.inside) }
     ensures going { OnOk result (vat.new.stopped ≡ None) }
 {
-    keep_texts(vat, texts)?;
+    keep_news(vat, news)?;
     vat.arrive(from, note)
 }
 
@@ -75,10 +82,8 @@ fn asked_of(note: &Heard) -> Asked
             Asked::Nothing
         }
         Heard::Ask(provider, word) => Asked::Gift(*provider, *word),
-        Heard::Open(_, _)
-        | Heard::Settled(_, _)
-        | Heard::Elsewhere(_, _)
-        | Heard::Shorten(_, _) => Asked::Nothing,
+        Heard::Open(_, _) | Heard::Settled(_, _) | Heard::Elsewhere(_, _) | Heard::Shorten(_, _) =>
+            Asked::Nothing,
     }
 }
 
@@ -144,13 +149,19 @@ fn take_from(
 }
 
 impl Member {
-    /// What is heard of a frame of that vat. A vat without a connection is answered as want of memory.
-    fn heard(&self, from: VatId, frame: &[u8]) -> Result<Hearing, HearFault>
-        ensures { code.Hears result (code.frame_heard self.now.vat.host.inside (table_for from self.now.connections.items) self.now.learnt frame.now) }
+    /// What is heard of a frame of that vat, if it is not malformed. A vat without a connection is answered as want of memory.
+    fn heard(&self, from: VatId, frame: &[u8]) -> Result<Option<Hearing>, Memory>
+        ensures { IfOk result (λ o. heard_view o ≡ code.frame_heard self.now.vat.host.inside (table_for from self.now.connections.items) self.now.learnt frame.now) }
     {
         match self.connections.get(from.0 as usize) {
-            Some(connection) => hear_frame(self.vat.inside(), connection, &self.learnt, frame),
-            None => Err(HearFault::Memory),
+            Some(connection) => {
+                match hear_frame(self.vat.inside(), connection, &self.learnt, frame) {
+                    Ok(hearing) => Ok(Some(hearing)),
+                    Err(HearFault::Malformed) => Ok(None),
+                    Err(HearFault::Memory) => Err(Memory),
+                }
+            }
+            None => Err(Memory),
         }
     }
 
@@ -163,13 +174,12 @@ impl Member {
         ensures ready { OnOk result (IsReady self.new.vat) }
         ensures key { self.old.vat.stopped ≡ None → OnOk result (self.new.vat.host.inside.words.key ≡ self.old.vat.host.inside.words.key) }
     {
-        let Hearing { note, news } = match self.heard(from, frame) {
-            Ok(hearing) => hearing,
-            Err(HearFault::Malformed) => return Ok(None),
-            Err(HearFault::Memory) => return Err(VatStop::Memory),
+        let Some(hearing) = self.heard(from, frame)? else {
+            return Ok(None);
         };
+        let Hearing { note, news } = hearing;
         let asked = asked_of(&note);
-        come_in(&mut self.vat, from, note, news.texts.as_slice())?;
+        come_in(&mut self.vat, from, note, &news)?;
         let answer = answer_of(asked, news.known, self.vat.host());
         take_from(&mut self.connections, &mut self.learnt, from, &news, answer)?;
         Ok(Some(self.send()?))

@@ -1,19 +1,19 @@
 -- A note that a member heard arrives.
 use Rattle.std.proofs.Common.{◌≡◌, ℕ, true, false, List, [], ◌∷◌, ◌++◌, map, drop, length, Option, Some, None, Result, Ok, Err, refl, sym, ap, subst, ◌∙◌, append_assoc, append-nil}
-use Rattle.std.specs.Prelude.{IfSome, slice_set}
+use Rattle.std.specs.Prelude.{IfSome, OnOk, slice_set}
 use Rattle.def_local.specs.Vats.{Member as Theirs, asked_by, connection_for, heard_on}
 use Rattle.def_machine.specs.Arrive.{Incoming, New, arrive}
 use Rattle.def_machine.specs.State as machine
 use Rattle.def_machine.specs.State.{Act, Done, Note}
-use Rattle.def_machine.specs.Values.{Words, Local, Mess, Prom}
+use Rattle.def_machine.specs.Values.{Words, Local, Mess, Naming, Prom}
 use Rattle.def_op.specs.Frames.{IsOp, Operation}
 use Rattle.def_run.specs.Connections.{Connection}
 use Rattle.ev_base.specs.declared.values.Value.{Value}
-use Rattle.ev_member.proofs.Heard.{connection_here, fits, reads, the_note}
+use Rattle.ev_member.proofs.Heard.{connection_here, fits, is_heard, reads, refused, the_note}
 use Rattle.ev_member.proofs.Steps.{ComesTo, came, came_outbox, came_references, host_comes, host_stops, is_came, leaves, references_before}
 use Rattle.ev_member.proofs.Taking.{answers_are, answers_in, new_imports, set_for, taken_connection, taken_for}
 use Rattle.ev_member.proofs.Worlds.{grown_world, sees_back, sees_grown}
-use Rattle.ev_member.specs.Hearing.{AllOwn, HearsSo, HeardNote, IsSteadyHearing, answer_of, asked_of, having, taken, with_texts}
+use Rattle.ev_member.specs.Hearing.{AllOwn, Hears, HearsSo, HeardNote, IsSteadyHearing, answer_of, asked_of, frame_heard, having, taken, with_texts}
 use Rattle.ev_member.specs.Sending.{packed, sending_of}
 use Rattle.ev_member.specs.Standing.{IsFound, Sees, with_draws}
 use Rattle.ev_member.specs.Steps.{IsDone, Leaves}
@@ -33,13 +33,14 @@ use Rattle.ev_receive.specs.declared.brought.Heard.{Heard as Noted}
 use Rattle.ev_room.specs.Reading.{World, names, texts_of, vat_of}
 use Rattle.ev_room.specs.Sound.{Grown, IsSound, Stays}
 use Rattle.ev_tables.specs.Table.{Table}
-use Rattle.ev_vat.specs.Vat.{ArrivalIs, UnlessMemory}
+use Rattle.ev_vat.specs.Vat.{ArrivalIs, IsReady, UnlessMemory, stop_in}
+use Rattle.ev_vat.specs.declared.vat.Vat.{Vat}
 use Rattle.ev_vat.specs.declared.vat.VatStop.{VatStop}
 use Rattle.ev_vat.specs.declared.vat.VatStop.TheVariants.{Fuel, Deep, WordRepeated, Astray, Memory}
 use Rattle.ev_write.specs.Putting as written
 use Rattle.ev_write.specs.Putting.{put_all as all_put, table_for}
 use Rattle.law_acts.proofs.Sounds.{text_sound}
-use Rattle.law_arrivals.specs.Arrivals.{vat_in}
+use Rattle.law_arrivals.specs.Arrivals.{NoteFits, vat_in}
 use Rattle.law_peers.proofs.Lists.{map_set}
 use Rattle.law_peers.proofs.Stays.{stays_for}
 use Rattle.law_peers.proofs.Writes.{table_is}
@@ -56,6 +57,18 @@ with_all i ts = record i { heap = record i.heap { texts = ts } }
 pub texts_sound : (i : Interior) (ts : List (List ℕ)) → IsSound i → IsSound (keeping_all i ts)
 texts_sound i [] sound = subst (λ (us : List (List ℕ)). IsSound (with_all i us)) (sym (append-nil i.heap.texts)) sound
 texts_sound i (x ∷ ts) sound = subst (λ (us : List (List ℕ)). IsSound (with_all i us)) (append_assoc i.heap.texts (x ∷ []) ts) (texts_sound (keeping_all i (x ∷ [])) ts (text_sound i sound x))
+
+-- a vat that keeps them is ready as it was, and what fits then fits
+pub texts_ready : (v z : Vat) (ts : List (List ℕ)) → z ≡ with_texts ts v → IsReady v → IsReady z
+texts_ready v z ts e ready = subst IsReady (sym e) (λ going. texts_sound v.host.inside ts (ready going))
+
+pub texts_fit : (v z : Vat) (ts : List (List ℕ)) (note : Noted) → z ≡ with_texts ts v → (v.stopped ≡ None → NoteFits (with_texts ts v).host.inside.heap note) → z.stopped ≡ None → NoteFits z.host.inside.heap note
+texts_fit v z ts note e f = subst (λ (x : Vat). x.stopped ≡ None → NoteFits x.host.inside.heap note) (sym e) f
+
+-- what came to an end goes on
+pub goes_on : {A : Type 0} (r : Result A VatStop) (o : Option VatStop) → o ≡ stop_in r → OnOk r (o ≡ None)
+goes_on (Ok a) o e = e
+goes_on (Err x) o e = tt
 
 module _ (fuel : ℕ) (drawn : List ℕ) (m : Theirs) (q : Member) (found : IsFound fuel drawn m q) (ts : List (List ℕ)) where
   abbrev pub kept : Member
@@ -134,14 +147,6 @@ module _ (fuel : ℕ) (drawn : List ℕ) (m : Theirs) (q c : Member) (found : Is
   hear_stops read Astray each grown stays = host_stops fuel drawn m before c before_found act read Astray (arrives_so (Err Astray) grown each) grown stays
   hear_stops read Memory each grown stays = tt
 
-  -- after want of memory nothing is said
-  pub hear_fails : {A : Type 0} (read : A → List Sending) (e : VatStop) → e ≡ Memory → HearsSo v m h read (Err e) c outcome
-  hear_fails read Memory e = tt
-  hear_fails read Fuel e = absurd cc
-  hear_fails read Deep e = absurd cc
-  hear_fails read (WordRepeated i j) e = absurd cc
-  hear_fails read Astray e = absurd cc
-
   -- ---- what is had then
 
   abbrev pub due : Option ℕ
@@ -194,3 +199,18 @@ module _ (fuel : ℕ) (drawn : List ℕ) (m : Theirs) (q c : Member) (found : Is
             (subst (λ (cs : List (Connection Local)). SeesAsBefore m.vat s cs) (sym found.rest.connections) steady.owns) found.rest.tables))
             sends puts steady.asks,
       )
+
+  -- as the frame was heard
+  pub hears_on : {A : Type 0} (read : A → List Sending) (r : Result (Option A) VatStop) → HearsSo v m h read r c outcome → Hears (names_under q.vat.host.inside.words.key) fuel drawn v m read r q c (frame_heard v m bytes)
+  hears_on read r so = subst (λ (o : Option HeardNote). Hears (names_under q.vat.host.inside.words.key) fuel drawn v m read r q c o) (sym (is_heard fuel drawn m q found v bytes spelled note news heard)) so
+
+-- a frame that is malformed
+pub hears_none : (fuel : ℕ) (drawn : List ℕ) (m : Theirs) (q : Member) (found : IsFound fuel drawn m q) (v : ℕ) (bytes : List ℕ) (spelled : IfSome (decoded bytes) (λ (x : Operation × ℕ). IsOp x.0)) {A : Type 0} (read : A → List Sending)
+    → code.frame_heard q.vat.host.inside (table_for v q.connections.items) q.learnt bytes ≡ None → Hears (names_under q.vat.host.inside.words.key) fuel drawn v m read (Ok None) q q (frame_heard v m bytes)
+hears_none fuel drawn m q found v bytes spelled {A = A} read e =
+    subst (λ (o : Option HeardNote). Hears {A = A} (names_under q.vat.host.inside.words.key) fuel drawn v m read (Ok None) q q o) (sym (refused fuel drawn m q found v bytes spelled e)) (refl, refl)
+
+-- after want of memory nothing is said
+pub hears_fails : {A : Type 0} (K : Naming Local Local) (fuel : ℕ) (drawn : List ℕ) (v : ℕ) (m : Theirs) (read : A → List Sending) (q c : Member) (o : Option HeardNote) → Hears K fuel drawn v m read (Err Memory) q c o
+hears_fails K fuel drawn v m read q c None = tt
+hears_fails K fuel drawn v m read q c (Some h) = tt
