@@ -5,7 +5,7 @@ use Rattle.def_local.specs.Vats.{Member as Theirs, asked_by, connection_for, hea
 use Rattle.def_machine.specs.Arrive.{New, arrive}
 use Rattle.def_machine.specs.State as machine
 use Rattle.def_machine.specs.State.{Act, Done, Note}
-use Rattle.def_machine.specs.Values.{Words, Local, Mess, Naming, Prom}
+use Rattle.def_machine.specs.Values.{Words, Local, Mess, Prom}
 use Rattle.def_op.specs.Frames.{IsOp, Operation}
 use Rattle.def_run.specs.Connections.{Connection}
 use Rattle.ev_member.proofs.Heard.{connection_here, fits, is_heard, reads, refused, the_note}
@@ -207,8 +207,3 @@ pub hears_none : (fuel : ℕ) (drawn : List ℕ) (m : Theirs) (q : Member) (foun
     → code.frame_heard q.vat.host.inside (table_for v q.connections.items) q.learnt bytes ≡ None → Hears (names_under q.vat.host.inside.words.key) fuel drawn v m read (Ok None) q q (frame_heard v m bytes)
 hears_none fuel drawn m q found v bytes spelled {A = A} read e =
     subst (λ (o : Option HeardNote). Hears {A = A} (names_under q.vat.host.inside.words.key) fuel drawn v m read (Ok None) q q o) (sym (refused fuel drawn m q found v bytes spelled e)) (refl, refl)
-
--- after want of memory nothing is said
-pub hears_fails : {A : Type 0} (K : Naming Local Local) (fuel : ℕ) (drawn : List ℕ) (v : ℕ) (m : Theirs) (read : A → List Sending) (q c : Member) (o : Option HeardNote) → Hears K fuel drawn v m read (Err Memory) q c o
-hears_fails K fuel drawn v m read q c None = tt
-hears_fails K fuel drawn v m read q c (Some h) = tt
