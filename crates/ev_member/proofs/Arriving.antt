@@ -2,13 +2,12 @@
 use Rattle.std.proofs.Common.{◌≡◌, ℕ, true, false, List, [], ◌∷◌, ◌++◌, map, drop, length, Option, Some, None, Result, Ok, Err, refl, sym, ap, subst, ◌∙◌, append_assoc, append-nil}
 use Rattle.std.specs.Prelude.{IfSome, OnOk, slice_set}
 use Rattle.def_local.specs.Vats.{Member as Theirs, asked_by, connection_for, heard_on}
-use Rattle.def_machine.specs.Arrive.{Incoming, New, arrive}
+use Rattle.def_machine.specs.Arrive.{New, arrive}
 use Rattle.def_machine.specs.State as machine
 use Rattle.def_machine.specs.State.{Act, Done, Note}
-use Rattle.def_machine.specs.Values.{Words, Local, Mess, Naming, Prom}
+use Rattle.def_machine.specs.Values.{Words, Local, Mess, Prom}
 use Rattle.def_op.specs.Frames.{IsOp, Operation}
 use Rattle.def_run.specs.Connections.{Connection}
-use Rattle.ev_base.specs.declared.values.Value.{Value}
 use Rattle.ev_member.proofs.Heard.{connection_here, fits, is_heard, reads, refused, the_note}
 use Rattle.ev_member.proofs.Steps.{ComesTo, came, came_outbox, came_references, host_comes, host_stops, is_came, leaves, references_before}
 use Rattle.ev_member.proofs.Taking.{answers_are, answers_in, new_imports, set_for, taken_connection, taken_for}
@@ -16,7 +15,6 @@ use Rattle.ev_member.proofs.Worlds.{grown_world, sees_back, sees_grown}
 use Rattle.ev_member.specs.Hearing.{AllOwn, Hears, HearsSo, HeardNote, IsSteadyHearing, answer_of, asked_of, frame_heard, having, taken, with_texts}
 use Rattle.ev_member.specs.Sending.{packed, sending_of}
 use Rattle.ev_member.specs.Standing.{IsFound, Sees, with_draws}
-use Rattle.ev_member.specs.Steps.{IsDone, Leaves}
 use Rattle.ev_member.specs.declared.member.Member.{Member}
 use Rattle.ev_member.specs.declared.sending.Sending.{Sending}
 use Rattle.ev_op.specs.Decoded.{decoded}
@@ -25,7 +23,7 @@ use Rattle.ev_pass.specs.declared.interior.Interior.{Interior}
 use Rattle.ev_peer.specs.Standing.{connection_of, local_of}
 use Rattle.ev_read.specs.Bringing.{told}
 use Rattle.ev_read.specs.Hearing as code
-use Rattle.ev_read.specs.Learnt.{LearntGifts, put_all}
+use Rattle.ev_read.specs.Learnt.{put_all}
 use Rattle.ev_read.specs.Reading.{learnt_of}
 use Rattle.ev_read.specs.declared.news.News.{News}
 use Rattle.ev_receive.specs.Hearing.{Name, heard_by}
@@ -44,7 +42,7 @@ use Rattle.law_arrivals.specs.Arrivals.{NoteFits, vat_in}
 use Rattle.law_peers.proofs.Lists.{map_set}
 use Rattle.law_peers.proofs.Stays.{stays_for}
 use Rattle.law_peers.proofs.Writes.{table_is}
-use Rattle.law_peers.specs.Standing.{AreFor, HasReferences, IsFor, SeesAsBefore, connections_of}
+use Rattle.law_peers.specs.Standing.{AreFor, HasReferences, SeesAsBefore, connections_of}
 
 -- ---- texts that are kept
 
@@ -209,8 +207,3 @@ pub hears_none : (fuel : ℕ) (drawn : List ℕ) (m : Theirs) (q : Member) (foun
     → code.frame_heard q.vat.host.inside (table_for v q.connections.items) q.learnt bytes ≡ None → Hears (names_under q.vat.host.inside.words.key) fuel drawn v m read (Ok None) q q (frame_heard v m bytes)
 hears_none fuel drawn m q found v bytes spelled {A = A} read e =
     subst (λ (o : Option HeardNote). Hears {A = A} (names_under q.vat.host.inside.words.key) fuel drawn v m read (Ok None) q q o) (sym (refused fuel drawn m q found v bytes spelled e)) (refl, refl)
-
--- after want of memory nothing is said
-pub hears_fails : {A : Type 0} (K : Naming Local Local) (fuel : ℕ) (drawn : List ℕ) (v : ℕ) (m : Theirs) (read : A → List Sending) (q c : Member) (o : Option HeardNote) → Hears K fuel drawn v m read (Err Memory) q c o
-hears_fails K fuel drawn v m read q c None = tt
-hears_fails K fuel drawn v m read q c (Some h) = tt

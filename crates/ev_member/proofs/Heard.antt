@@ -1,5 +1,5 @@
 -- What a member hears of a frame is what the run in numbers hears.
-use Rattle.std.proofs.Common.{◌≡◌, ℕ, ◌+◌, ◌==◌, Bool, true, false, cond, List, [], ◌∷◌, ◌++◌, map, length, get_or, Option, Some, None, slice_get, unwrap_or, refl, sym, ap, subst, ◌∙◌, append-nil}
+use Rattle.std.proofs.Common.{◌≡◌, ℕ, ◌+◌, ◌==◌, Bool, true, false, cond, List, [], ◌++◌, map, length, get_or, Option, Some, None, unwrap_or, refl, sym, ap, subst, ◌∙◌, append-nil}
 use Rattle.std.specs.Prelude.{IfSome}
 use Rattle.ev_base.specs.declared.values.Value.{Value}
 use Rattle.def_local.specs.Vats as local
@@ -19,7 +19,7 @@ use Rattle.ev_member.specs.Standing.{IsFound}
 use Rattle.ev_member.specs.declared.member.Member.{Member}
 use Rattle.ev_op.specs.Decoded.{decoded}
 use Rattle.ev_pass.specs.declared.interior.Interior.{Interior}
-use Rattle.ev_peer.specs.Standing.{AreReferences, connection_of, is_object, local_of}
+use Rattle.ev_peer.specs.Standing.{connection_of, is_object, local_of}
 use Rattle.ev_read.proofs.Agreement.{agrees, promises}
 use Rattle.ev_read.proofs.Fitting.{FitsAndIsNew, frame_fits}
 use Rattle.ev_read.proofs.Machine.{among_front, among_more, hears}

@@ -6,11 +6,11 @@ use Rattle.def_machine.specs.State.{Happened, Put}
 use Rattle.def_machine.specs.Values.{Words, Local}
 use Rattle.ev_arrive.specs.declared.host.Host.{Host}
 use Rattle.ev_intro.specs.Word.{Drawn}
-use Rattle.ev_member.specs.Standing.{IsFound, IsMember, Sees, with_draws}
+use Rattle.ev_member.specs.Standing.{IsFound, IsMember, with_draws}
 use Rattle.ev_member.specs.declared.member.Member.{Member}
 use Rattle.ev_pass.specs.Acts.{words_by}
 use Rattle.ev_pass.specs.Reading as inside
-use Rattle.ev_room.specs.Reading.{World, vat_of}
+use Rattle.ev_room.specs.Reading.{vat_of}
 use Rattle.ev_vat.specs.Rooted.{readied}
 use Rattle.ev_vat.specs.Vat.{IsReady}
 use Rattle.ev_vat.specs.declared.vat.Vat.{Vat}

@@ -24,7 +24,7 @@ use Rattle.ev_refs.specs.declared.follow.Place.TheVariants.{FarPromise, Mine}
 use Rattle.ev_refs.specs.declared.known.Known.{Known}
 use Rattle.ev_room.specs.Reading.{World}
 use Rattle.ev_room.specs.Sound.{IsSound}
-use Rattle.ev_tables.specs.Table.{Table, exported, fresh, imported}
+use Rattle.ev_tables.specs.Table.{Table, fresh}
 use Rattle.ev_vat.specs.Rooted as rooted
 use Rattle.ev_vat.specs.Rooted.{IsRooted, each_once, root_of, root_references}
 use Rattle.ev_write.specs.Writing.{is_here, is_mine}

@@ -1,28 +1,25 @@
 -- Steps of a vat with what it has for its peers.
-use Rattle.std.proofs.Common.{◌≡◌, ℕ, Bool, List, [], ◌∷◌, ◌++◌, map, Result, Ok, Err, None, refl, sym, ap, subst, ◌∙◌, append-nil}
+use Rattle.std.proofs.Common.{◌≡◌, ℕ, List, [], ◌∷◌, ◌++◌, map, Result, Ok, Err, None, refl, sym, ap, subst, ◌∙◌}
 use Rattle.std.specs.Prelude.{IfErr, IfOk, OnOk}
-use Rattle.def_local.specs.Names.{Names}
 use Rattle.def_local.specs.Numbers.{all_written, frames_of}
 use Rattle.def_local.specs.Vats.{Member as Theirs}
 use Rattle.def_machine.specs.State as machine
 use Rattle.def_machine.specs.State.{Act, Done, Gives, Stops, Put}
-use Rattle.def_machine.specs.Values.{Words, Local, Name, Root}
-use Rattle.def_run.specs.Connections.{Connection, Learnt}
+use Rattle.def_machine.specs.Values.{Words, Local, Root}
+use Rattle.def_run.specs.Connections.{Connection}
 use Rattle.ev_arrive.specs.Reading.{with_gifts}
 use Rattle.ev_arrive.specs.declared.host.Host.{Host}
 use Rattle.ev_intro.specs.Gift.{Gifts}
 use Rattle.ev_member.proofs.Worlds.{gifted, gifted_is, grown_texts, grown_world, sees_back, sees_grown}
-use Rattle.ev_member.specs.Sending.{Sent, packed, sending_of, spelled}
-use Rattle.ev_member.specs.Standing.{HasRest, IsFound, IsMember, Sees, with_draws}
-use Rattle.ev_member.specs.Steps.{EndsSo, Having, IsDone, IsSteady, Leaves, left, own}
+use Rattle.ev_member.specs.Sending.{packed, sending_of, spelled}
+use Rattle.ev_member.specs.Standing.{IsFound, Sees, with_draws}
+use Rattle.ev_member.specs.Steps.{EndsSo, Having, IsDone, IsSteady, Leaves, own}
 use Rattle.ev_member.specs.declared.member.Member.{Member}
 use Rattle.ev_member.specs.declared.sending.Sending.{Sending}
 use Rattle.ev_pass.specs.Reading.{put_by}
 use Rattle.ev_pass.specs.declared.interior.Interior.{Interior}
 use Rattle.ev_read.specs.Learnt.{LearntGifts}
 use Rattle.ev_read.specs.Reading.{learnt_of}
-use Rattle.ev_refs.specs.Reading.{knowns_by}
-use Rattle.ev_refs.specs.References.{References}
 use Rattle.ev_room.specs.Reading.{World, texts_of, vat_of}
 use Rattle.ev_room.specs.Sound.{Grown, IsSound, Stays}
 use Rattle.ev_tables.specs.Table.{Table}

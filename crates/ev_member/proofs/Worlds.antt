@@ -1,16 +1,14 @@
 -- Worlds that see a vat with the gifts that it hosts.
-use Rattle.std.proofs.Common.{◌≡◌, ℕ, List, [], ◌∷◌, ◌++◌, map, refl, sym, ap, ◌∙◌, append_assoc, append-nil}
+use Rattle.std.proofs.Common.{◌≡◌, ℕ, List, [], ◌++◌, map, refl, sym, ap, ◌∙◌, append_assoc, append-nil}
 use Rattle.def_machine.specs.State as machine
 use Rattle.def_machine.specs.Values.{Words, Local}
 use Rattle.ev_arrive.specs.Reading.{gift_by, with_gifts}
-use Rattle.ev_arrive.specs.declared.host.Host.{Host}
 use Rattle.ev_intro.specs.Gift.{Gifts}
-use Rattle.ev_member.specs.Standing.{Sees, with_draws}
+use Rattle.ev_member.specs.Standing.{Sees}
 use Rattle.ev_pass.specs.declared.interior.Interior.{Interior}
 use Rattle.ev_room.specs.Reading.{World, line_of, referred_line, texts_of, vat_of}
 use Rattle.ev_room.specs.Sound.{Grown, IsSound, Stays, problems}
 use Rattle.ev_vat.specs.Rooted.{fresh}
-use Rattle.law_arrivals.specs.Arrivals.{vat_in}
 
 -- the same world, where the vat had these gifts before
 abbrev pub gifted : Gifts → World → World

@@ -1,4 +1,4 @@
-use Rattle.std.proofs.Common.{◌≡◌, true, false, sym, ◌∙◌}
+use Rattle.std.proofs.Common.{true, false, ◌∙◌}
 use Rattle.ev_member.proofs.Starts.{other_table, own_table}
 use Rattle.ev_member.proofs.starting.first_connection.Goals as goal
 use Rattle.ev_member.proofs.starting.first_connection.Goals.{then-ne+in_ok-import_root, then-is_among+in_ok-export_root, else-is_among, else-ne}

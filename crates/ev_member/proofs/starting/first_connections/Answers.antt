@@ -1,4 +1,3 @@
-use Rattle.std.proofs.Common.{◌≡◌}
 use Rattle.ev_member.specs.Starting.{first_tables}
 use Rattle.ev_member.proofs.Starts.{tables_done, tables_on}
 use Rattle.ev_member.proofs.starting.first_connections.Goals as goal

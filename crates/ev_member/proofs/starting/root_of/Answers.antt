@@ -1,4 +1,3 @@
-use Rattle.std.proofs.Common.{◌≡◌}
 use Rattle.ev_member.proofs.Starts.{root_here, root_none, root_on}
 use Rattle.ev_member.proofs.starting.root_of.Goals as goal
 

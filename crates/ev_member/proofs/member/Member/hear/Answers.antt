@@ -1,12 +1,12 @@
-use Rattle.std.proofs.Common.{◌≡◌, ℕ, List, Vec, Global, Ok, Err, Some, None, Option, map, refl, sym, ap, subst, ◌∙◌, arith}
+use Rattle.std.proofs.Common.{◌≡◌, ℕ, List, Vec, Global, Ok, Err, Some, Option, map, sym, ap, subst, ◌∙◌, arith}
 use Rattle.std.specs.Prelude.{slice_set}
 use Rattle.std.proofs.lemmas.Result.{err_from_is_err_and}
 use Rattle.ev_arrive.specs.declared.host.Host.{Host}
 use Rattle.ev_member.proofs.Heard.{note_fits}
-use Rattle.ev_member.proofs.Arriving.{hear_sends, hear_stops, hears_fails, hears_none, hears_on}
+use Rattle.ev_member.proofs.Arriving.{hear_sends, hear_stops, hears_none, hears_on}
 use Rattle.ev_member.proofs.Steps.{with_vat}
 use Rattle.ev_member.specs.Hearing.{Hears, answer_of, asked_of, frame_heard, heard_view, taken, with_texts}
-use Rattle.ev_member.specs.Sending.{packed, sending_of}
+use Rattle.ev_member.specs.Sending.{packed}
 use Rattle.ev_member.specs.declared.hearing.Asked.{Asked}
 use Rattle.ev_member.specs.declared.member.Member.{Member}
 use Rattle.ev_member.specs.declared.sending.Sending.{Sending}
@@ -14,9 +14,7 @@ use Rattle.ev_pass.specs.Reading.{names_under}
 use Rattle.ev_read.proofs.Agreement.{found_spelled}
 use Rattle.ev_read.proofs.Fitting.{frame_fits}
 use Rattle.ev_read.specs.Bringing.{told}
-use Rattle.ev_room.specs.Sound.{IsSound}
 use Rattle.ev_tables.specs.Table.{Table}
-use Rattle.ev_vat.specs.declared.vat.Vat.{Vat}
 use Rattle.ev_write.specs.Putting as written
 use Rattle.ev_write.specs.Putting.{put_all as all_put, table_for}
 use Rattle.ev_member.proofs.member.Member.hear.Goals as goal

@@ -1,6 +1,6 @@
-use Rattle.std.proofs.Common.{◌≡◌, ℕ, List, Vec, Global, subst, sym, ap, ◌∙◌}
+use Rattle.std.proofs.Common.{ℕ, List, Vec, Global, subst, sym, ap, ◌∙◌}
 use Rattle.def_machine.specs.Arrive as machine
-use Rattle.def_machine.specs.State.{Act, Done}
+use Rattle.def_machine.specs.State.{Act}
 use Rattle.def_machine.specs.Values.{Local}
 use Rattle.ev_member.specs.Steps.{EndsSo, own}
 use Rattle.ev_member.specs.Standing.{with_draws}

@@ -1,4 +1,4 @@
-use Rattle.std.proofs.Common.{◌≡◌, ap}
+use Rattle.std.proofs.Common.{ap}
 use Rattle.ev_vat.specs.declared.vat.Vat.{Vat}
 use Rattle.ev_member.proofs.Readies.{readies_so, stays_ready}
 use Rattle.ev_member.proofs.member.Member.ready.Goals as goal

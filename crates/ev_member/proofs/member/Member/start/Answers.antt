@@ -1,4 +1,3 @@
-use Rattle.std.proofs.Common.{◌≡◌}
 use Rattle.ev_member.specs.declared.member.Member.{Member}
 use Rattle.ev_member.proofs.Starts.{begins_so}
 use Rattle.ev_member.proofs.member.Member.start.Goals as goal

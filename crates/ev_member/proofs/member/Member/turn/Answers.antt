@@ -1,4 +1,4 @@
-use Rattle.std.proofs.Common.{◌≡◌, ℕ, Bool, true, false, List, Vec, Global, Ok, Err, Some, None, Result, Option, refl, sym, ap, subst, ◌∙◌}
+use Rattle.std.proofs.Common.{true, false, Vec, Global, Ok, Some, refl, sym, ap, subst, ◌∙◌}
 use Rattle.ev_member.specs.Steps.{Turns}
 use Rattle.ev_member.specs.declared.member.Member.{Member}
 use Rattle.ev_member.specs.declared.sending.Sending.{Sending}
