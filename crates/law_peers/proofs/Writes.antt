@@ -158,10 +158,10 @@ module _ (i : Interior) (s : machine.Vat Local) (h : HasReferences i.heap.texts 
 -- ---- one note
 
 -- what is had for a vat, also for one that has no connection
-table_is : (r : References) (ts : List Table) (v : ℕ) → AreFor r ts → IsFor r v (table_for v ts)
+pub table_is : (r : References) (ts : List Table) (v : ℕ) → AreFor r ts → IsFor r v (table_for v ts)
 table_is r ts v all = got ts v (fresh v) (IsFor r v) (all v) (record { peer = refl; is_open = refl; kept = begins (is_mine r) v })
 
-connection_is : (ts : List Table) (v : ℕ) → get_or (connections_of ts) v unconnected ≡ connection_of (table_for v ts)
+pub connection_is : (ts : List Table) (v : ℕ) → get_or (connections_of ts) v unconnected ≡ connection_of (table_for v ts)
 unfolding unconnected
 connection_is ts v = map_got connection_of ts v (fresh v)
 
