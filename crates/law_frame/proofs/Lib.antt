@@ -1,7 +1,7 @@
 pub mod Lists
 pub mod Hears
 pub mod Grows
-mod Maps
+pub mod Maps
 pub mod Places
 pub mod Written
 pub mod Seen

@@ -36,10 +36,10 @@ use Rattle.law_frame.proofs.WireRuns.{stepped_both}
 use Rattle.law_frame.proofs.Worlds as next
 use Rattle.law_hearing.specs.Hearing.{IsAsLogged, IsNumbered, NotesAreNumbered, ListsAreAsLogged, stage_before, IsHeard, NextFramesAreHeard, KnowsGifts, FramesAreHeardByGifts}
 use Rattle.def_op.specs.Frames.{Operation}
-use Rattle.def_run.specs.Connections.{asked_in}
-use Rattle.def_run.specs.Wire.{sight}
+use Rattle.def_run.specs.Connections.{asked_in, exported_note, frame_now}
+use Rattle.def_run.specs.Wire.{sight, frame_due}
 use Rattle.law_hearing.proofs.Pairs.{stepped_paired}
-use Rattle.law_hearing.proofs.Kept.{AreKept, Kept, Noted, kept_exports, kept_questions}
+use Rattle.law_hearing.proofs.Kept.{AreKept, Kept, Noted, exported_same, kept_exports, kept_questions}
 use Rattle.law_hearing.proofs.Read as read
 use Rattle.law_hearing.proofs.Read.{Fits, with_message, read_next}
 use Rattle.law_hearing.proofs.Steps.{Asked}
@@ -135,6 +135,14 @@ module _ (script : Script) (once : KnowsOnce script) (w x : World) (es : List En
       had : (t : Connection Name) × read.Next v u (Asked x v u) A C D (message_of n) n ns l.log l.roots first from d_from d_to given heard fits t
       had = read.next v u (Asked x v u) A C D (message_of n) n ns l.log l.roots first from d_from d_to given heard fits
 
+      -- the next frame is what the sender wrote by tables whose exports, with those of the note, stand at the front of what it has now
+      pub as_written : (t : Connection Name) × (frame_due C D ≡ Some (frame_now (sight v u) n t)) × IsFront (exported_note (sight v u) t.answers n t.exports) C.tables.exports
+      as_written = let t = had.1 in let noted = t.noted in (
+        had.0,
+        t.due,
+        subst (λ (is : List Name). IsFront is C.tables.exports) (sym (exported_same v u (had.0).answers A n (had.0).exports noted.heard ∙ ap (λ (is : List Name). wire.with_note v A n is) t.exports)) t.later,
+      )
+
       same_note : with_message v u (message_of n) n ≡ n
       same_note = message_same v u n
 
@@ -166,7 +174,7 @@ module _ (script : Script) (once : KnowsOnce script) (w x : World) (es : List En
           all_among (IsKnownIn (names_in s.known)) (wire.exports (λ i. i) x.links u v) z ((exported_known script once).1 w x es k opened stepped u s gone v)
           (subst (λ ms. IsAmong z ms) logged.exports (in_front C.tables.imports D.tables.exports z given (in_front (had.0).imports C.tables.imports z grows.imports b)))
 
-      yours_known : (z : Name) → IsAmong z (told_in n) → host_of z ≡ u → IsKnownIn (names_in s.known) z
+      pub yours_known : (z : Name) → IsAmong z (told_in n) → host_of z ≡ u → IsKnownIn (names_in s.known) z
       yours_known z a e = let t = had.1 in let noted = t.noted in given_known z a e (noted.gives z a e)
 
       comes_from : (z : Name) → IsAmong z (told_in n) → host_of z ≡ v → IsAmong z (names_in s.known) → IsAmong z (had.0).answers ⊎ IsAmong z D.tables.imports

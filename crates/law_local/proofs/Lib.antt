@@ -15,3 +15,8 @@ pub mod Positions
 pub mod OwnSteps
 pub mod Turns
 pub mod OpeningTurns
+pub mod Newcomers
+pub mod Objects
+pub mod FirstTold
+pub mod Heard
+pub mod HeardRuns

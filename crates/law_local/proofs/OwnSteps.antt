@@ -23,7 +23,7 @@ front [] ys k n e = cc
 front (x ∷ xs) ys zero n e = e
 front (x ∷ xs) ys (suc k) n e = front xs ys k n e
 
-mapped_length : {A B C : Type 0} (g : A → C) (h : B → C) (xs : List A) (ys : List B) → map g xs ≡ map h ys → length xs ≡ length ys
+pub mapped_length : {A B C : Type 0} (g : A → C) (h : B → C) (xs : List A) (ys : List B) → map g xs ≡ map h ys → length xs ≡ length ys
 mapped_length g h [] [] e = refl
 mapped_length g h (x ∷ xs) (y ∷ ys) e = let i : map g xs ≡ map h ys = cc in ap suc (mapped_length g h xs ys i)
 mapped_length g h [] (y ∷ ys) e = cc

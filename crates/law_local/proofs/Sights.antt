@@ -70,7 +70,7 @@ no_foreign u h j e = by (u == h) (h == u) refl refl e
         clash : (c : Bool) → c ≡ true → c ≡ false → true ≡ false
         clash c m n = cc
 
-no_object : (u : ℕ) (n : Name) → spot_of u n ≡ NoObject → is_object n ≡ false
+pub no_object : (u : ℕ) (n : Name) → spot_of u n ≡ NoObject → is_object n ≡ false
 unfolding spot_of is_object
 no_object u (Object h j) e = by (u == h) e
   where

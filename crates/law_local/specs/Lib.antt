@@ -4,3 +4,4 @@ pub mod Writing
 pub mod Naming
 pub mod Steps
 pub mod Runs
+pub mod Hearing

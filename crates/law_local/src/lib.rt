@@ -1,4 +1,5 @@
 //! The run of a script in each vat's own numbers stands where the machine's run stands.
 #![tactic(auto)]
 
+pub mod hearing;
 pub mod parts;

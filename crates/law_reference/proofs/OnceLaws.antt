@@ -15,7 +15,7 @@ use Rattle.law_reference.proofs.Counts.{same_numbers}
 use Rattle.law_reference.proofs.Single.{Most}
 use Rattle.law_reference.proofs.SingleRuns.{Both, opened_both, stepped_both}
 
-among_at : (x : Name) (xs : List Name) (i : ℕ) → slice_get xs i ≡ Some x → IsAmong x xs
+pub among_at : (x : Name) (xs : List Name) (i : ℕ) → slice_get xs i ≡ Some x → IsAmong x xs
 among_at x [] i e = absurd (nothing e)
   where
     nothing : ◌≡◌ {A = Option Name} None (Some x) → ⊥
