@@ -80,7 +80,7 @@ module _ (v u : ℕ) where
   if_same true m = refl
   if_same false m = refl
 
-  asked_same : (n : Note Name) → asked_in (sight v u) n ≡ wire.questions_in u (n ∷ [])
+  pub asked_same : (n : Note Name) → asked_in (sight v u) n ≡ wire.questions_in u (n ∷ [])
   unfolding tables.asked_in wire.questions_in
   asked_same (Deliver d t verb ys) = if_same d.asks d.message
   asked_same (Open i t) = refl

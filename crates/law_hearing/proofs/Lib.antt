@@ -15,3 +15,6 @@ pub mod Heard
 pub mod Laws
 pub mod Anew
 pub mod Questions
+pub mod CutPuts
+pub mod CutSteps
+pub mod CutHeard

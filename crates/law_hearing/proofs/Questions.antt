@@ -33,11 +33,11 @@ pushed_or : (n : Note Name) (l : Link) (b : Bool) → (let j : Link = elim b [ t
 pushed_or n l true = refl
 pushed_or n l false = refl
 
-pushed_log : (n : Note Name) (l : Link) → (let j : Link = pushed n l in j.log) ≡ l.log ++ n ∷ []
+pub pushed_log : (n : Note Name) (l : Link) → (let j : Link = pushed n l in j.log) ≡ l.log ++ n ∷ []
 unfolding pushed
 pushed_log n l = pushed_or n l l.cut
 
-pushed_stays : (n : Note Name) → Stays (pushed n)
+pub pushed_stays : (n : Note Name) → Stays (pushed n)
 pushed_stays n a b l = let fits = fits_pushed a b n in fits.place a b l
 
 wrote_asks : (v u : ℕ) (m : Note Name) (c : Connected) → c.from ≡ v → c.to ≡ u → (let e : Connected = conn.wrote m c in e.tables.questions) ≡ c.tables.questions ++ asked_in (sight v u) m

@@ -79,7 +79,7 @@ module _ (script : Script) (once : KnowsOnce script) where
   unfolding world.open_from
   opened_noticed ps rest w split e v s there u i = absurd (opens_keep script (AllSure script (Never script)) (Never script) (noticed_sure script (Never script)) [] ps rest (world.begins script) w split (begins_stands script once) (begins_noticed script) e v s there u i)
 
-  opened_worldly : (ps rest : List Program) (w : World) → script.vats ≡ ps ++ rest → world.open_from script zero ps (world.begins script) ≡ Going w → Worldly script w
+  pub opened_worldly : (ps rest : List Program) (w : World) → script.vats ≡ ps ++ rest → world.open_from script zero ps (world.begins script) ≡ Going w → Worldly script w
   opened_worldly ps rest w split e = record {
     facts = opened_facts ps rest w split e;
     here = opened_here ps rest w split e;
@@ -114,11 +114,14 @@ module _ (script : Script) (once : KnowsOnce script) where
   stepped_past : (w x : World) (es : List Entry) (k : ℕ) → NoticesFollowCuts es → world.open_from script zero script.vats (world.begins script) ≡ Going w → world.steps_from script es k w ≡ Going x → Past x
   stepped_past w x es k follow opened stepped = (stepped_worldly w x es k follow opened stepped, stepped_fits w x es k follow opened stepped)
 
-  opening_pair : (ps rest : List Program) (p : Program) (x y : World) → script.vats ≡ ps ++ p ∷ rest → world.open_from script zero ps (world.begins script) ≡ Going x → world.open_vat script (length ps) p x ≡ Going y → Onward script x y
+  pub opening_pair : (ps rest : List Program) (p : Program) (x y : World) → script.vats ≡ ps ++ p ∷ rest → world.open_from script zero ps (world.begins script) ≡ Going x → world.open_vat script (length ps) p x ≡ Going y → Onward script x y
   opening_pair ps rest p x y split opened opens = (opening_move script once ps rest p x y split opened opens, λ u. (nothing_told script once).0 ps rest p x y split opened opens u)
 
-  entry_pair : (w x y : World) (es : List Entry) (e : Entry) (k : ℕ) → world.open_from script zero script.vats (world.begins script) ≡ Going w → world.steps_from script es k w ≡ Going x → world.step script e (k + length es) x ≡ Going y → Onward script x y
+  pub entry_pair : (w x y : World) (es : List Entry) (e : Entry) (k : ℕ) → world.open_from script zero script.vats (world.begins script) ≡ Going w → world.steps_from script es k w ≡ Going x → world.step script e (k + length es) x ≡ Going y → Onward script x y
   entry_pair w x y es e k opened stepped steps = (entry_move script once w x y es e k opened stepped steps, λ u. (nothing_told script once).1 w x y es e k opened stepped steps u)
 
   pub stepped_kept : (w x : World) (es : List Entry) (k : ℕ) → NoticesFollowCuts es → world.open_from script zero script.vats (world.begins script) ≡ Going w → world.steps_from script es k w ≡ Going x → AllKept x
   stepped_kept = stepped_holds script (Worldly script) Past (Onward script) opened_worldly stepped_past opening_pair entry_pair AllKept (λ v p x y f g m o h. opening_kept script v p x y f g m o h) (λ e k x y f g m i h. entry_kept script e k x y f.0 f.1 g.0 m i h) (begins_kept script)
+
+  pub opened_kept : (ps rest : List Program) (w : World) → script.vats ≡ ps ++ rest → world.open_from script zero ps (world.begins script) ≡ Going w → AllKept w
+  opened_kept = opened_holds script (Worldly script) Past (Onward script) opened_worldly stepped_past opening_pair entry_pair AllKept (λ v p x y f g m o h. opening_kept script v p x y f g m o h) (λ e k x y f g m i h. entry_kept script e k x y f.0 f.1 g.0 m i h) (begins_kept script)

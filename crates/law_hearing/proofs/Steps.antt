@@ -148,15 +148,15 @@ module _ (script : Script) where
   unfolding world.heard_by
   quiet_open v cs = refl
 
-  went_vats : (v : ℕ) (x : World) (head : List Event) (t : Vat Name) → (went v x head t).vats ≡ put_at v t x.vats
+  pub went_vats : (v : ℕ) (x : World) (head : List Event) (t : Vat Name) → (went v x head t).vats ≡ put_at v t x.vats
   unfolding went
   went_vats v x head t = refl
 
-  went_links : (v : ℕ) (x : World) (head : List Event) (t : Vat Name) → (went v x head t).links ≡ push_all v t.outbox x.links
+  pub went_links : (v : ℕ) (x : World) (head : List Event) (t : Vat Name) → (went v x head t).links ≡ push_all v t.outbox x.links
   unfolding went
   went_links v x head t = refl
 
-  went_connections : (v : ℕ) (x : World) (head : List Event) (t : Vat Name) → (went v x head t).connections ≡ conn.write_all v t.outbox (world.heard_by head x.connections)
+  pub went_connections : (v : ℕ) (x : World) (head : List Event) (t : Vat Name) → (went v x head t).connections ≡ conn.write_all v t.outbox (world.heard_by head x.connections)
   unfolding went world.connections_after
   went_connections v x head t = refl
 
@@ -182,7 +182,7 @@ module _ (script : Script) where
 
   -- ---- an entry
 
-  honest : (x : World) (e : Entry) → IsHonest script Nobody AnyNotice NoDeed NoWord x e
+  pub honest : (x : World) (e : Entry) → IsHonest script Nobody AnyNotice NoDeed NoWord x e
   honest x (Turn v) = λ i. i
   honest x (Carry a v) = λ i. i
   honest x (CutLink a b) = tt

@@ -1,3 +1,4 @@
 pub mod Hearing
 pub mod Received
 pub mod Questions
+pub mod Exported

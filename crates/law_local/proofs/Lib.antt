@@ -20,3 +20,9 @@ pub mod Objects
 pub mod FirstTold
 pub mod Heard
 pub mod HeardRuns
+pub mod JoinedTells
+pub mod JoinedSteps
+pub mod Joined
+pub mod JoinedNotices
+pub mod JoinedOpenings
+pub mod JoinedRuns

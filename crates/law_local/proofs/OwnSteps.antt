@@ -13,7 +13,9 @@ use Rattle.law_renaming.proofs.Stands.{Extends}
 use Rattle.law_reference.specs.Tables.{table_of}
 use Rattle.def_local.specs.Vats.{Member, connection_for}
 use Rattle.def_local.specs.Numbers.{Vats, ready, nothing_brought}
+use Rattle.law_frame.specs.Exports.{KeepsPositions}
 use Rattle.law_local.specs.Mirrors.{Mirrors, VatMirrors}
+use Rattle.law_local.specs.Naming.{Tells}
 use Rattle.law_local.specs.Steps.{world_left, StepStands, OwnStepStands, OwnStepsMirror}
 use Rattle.law_local.proofs.Naming.{names_mirror}
 use Rattle.law_local.proofs.Steps.{put_there, steps_mirror, tables_still, learnt_still}
@@ -29,6 +31,15 @@ mapped_length g h (x ∷ xs) (y ∷ ys) e = let i : map g xs ≡ map h ys = cc i
 mapped_length g h [] (y ∷ ys) e = cc
 mapped_length g h (x ∷ xs) [] e = cc
 
+-- the table after it goes on from that before
+pub table_goes_on : (x : World) (u : ℕ) (s r : Vat Name) (head : List Event) → Tells u s r [] [] → ((v : ℕ) → KeepsPositions x (world_left x u r head x.connections) v) → Extends (table_of x u s) (table_of (world_left x u r head x.connections) u r)
+unfolding table_of
+table_goes_on x u s r head tells keeps = record {
+  names = λ k n e. ap (λ xs. slice_get xs k) tells.grows ∙ front (names_in s.known) tells.new k n e;
+  mails = λ k n e. ap (λ xs. slice_get xs k) (tells.mails ∙ append_assoc s.mails [] _) ∙ front s.mails _ k n e;
+  exports = keeps u;
+}
+
 module _ (x : World) (X : Vats) (u : ℕ) (s : Vat Name) (m : Member) (r : Vat Name) (p : Vat Local) (head : List Event) (h : Mirrors x X) (so : OwnStepStands x X u s m r p head) where
   abbrev y : World
   y = world_left x u r head x.connections
@@ -40,12 +51,7 @@ module _ (x : World) (X : Vats) (u : ℕ) (s : Vat Name) (m : Member) (r : Vat N
   was = h.vats u s m so.at so.there
 
   more : Extends (table_of x u s) T
-  unfolding table_of
-  more = record {
-    names = λ k n e. ap (λ xs. slice_get xs k) so.tells.grows ∙ front (names_in s.known) so.tells.new k n e;
-    mails = λ k n e. ap (λ xs. slice_get xs k) (so.tells.mails ∙ append_assoc s.mails [] _) ∙ front s.mails _ k n e;
-    exports = so.keeps u;
-  }
+  more = table_goes_on x u s r head so.tells so.keeps
 
   promises_same : m.vat.promises ≡ s.promises
   unfolding ready readied

@@ -59,7 +59,7 @@ put_here [] i y z e = cc
 put_here (x ∷ xs) zero y z e = cc
 put_here (x ∷ xs) (suc i) y z e = put_here xs i y z e
 
-put_length : {A : Type 0} (xs : List A) (i : ℕ) (y : A) → length (put_at i y xs) ≡ length xs
+pub put_length : {A : Type 0} (xs : List A) (i : ℕ) (y : A) → length (put_at i y xs) ≡ length xs
 unfolding put_at
 put_length [] i y = refl
 put_length (x ∷ xs) zero y = refl

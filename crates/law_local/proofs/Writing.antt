@@ -4,7 +4,7 @@ use Rattle.std.specs.Prelude.{get_or, drop, option_map, slice_set, zero, suc}
 use Rattle.std.proofs.lemmas.List.{length-set, get_or-set_same, get_or-set_other}
 use Rattle.def_op.specs.Frames.{Operation}
 use Rattle.def_machine.specs.Values.{Name, answer_of, Local, Prom}
-use Rattle.def_machine.specs.State.{Passed, Passeds, Plain, AGift, Many, NoMore, More, Put, Note, Delivery, Deliver, Open, Ask, SettledTo, Elsewhere, Shorten, Vat}
+use Rattle.def_machine.specs.State.{Put, Note, Delivery, Deliver, Open, Ask, SettledTo, Elsewhere, Shorten, Vat}
 use Rattle.def_run.specs.Connections.{Connection, Sight, asked_in, frame_now, put_on, exporting}
 use Rattle.def_run.specs.Wire.{Connected, connected_at, with_connected, wrote, sight, write_all}
 use Rattle.def_run.specs.World as machine

@@ -5,3 +5,4 @@ pub mod Naming
 pub mod Steps
 pub mod Runs
 pub mod Hearing
+pub mod Joined
