@@ -1,0 +1,4 @@
+pub mod Owns
+pub mod Reached
+pub mod Draws
+pub mod Shown
