@@ -20,7 +20,7 @@ use Rattle.law_local.specs.Steps.{world_left, StepStands, OwnStepStands, OwnStep
 use Rattle.law_local.proofs.Naming.{names_mirror}
 use Rattle.law_local.proofs.Steps.{put_there, steps_mirror, tables_still, learnt_still}
 
-front : (xs ys : List Name) (k : ℕ) (n : Name) → slice_get xs k ≡ Some n → slice_get (xs ++ ys) k ≡ Some n
+pub front : (xs ys : List Name) (k : ℕ) (n : Name) → slice_get xs k ≡ Some n → slice_get (xs ++ ys) k ≡ Some n
 front [] ys k n e = cc
 front (x ∷ xs) ys zero n e = e
 front (x ∷ xs) ys (suc k) n e = front xs ys k n e

@@ -1,10 +1,18 @@
 -- Each step of the run in numbers keeps what the code of a run asks of it, where the runs mirror each other.
-use Rattle.std.specs.Prelude.{◌≡◌, ℕ, zero, List, ◌∷◌, ◌++◌, length, slice_get}
-use Rattle.def_run.specs.World.{Script, Program, Entry}
-use Rattle.def_local.specs.Numbers.{Vats, Runs, begins, open_from, open_member, step, steps_from}
+use Rattle.std.specs.Prelude.{◌≡◌, ℕ, zero, false, List, [], ◌∷◌, ◌++◌, Some, length, slice_get, slice_set}
+use Rattle.def_machine.specs.Values.{Local, Prom}
+use Rattle.def_machine.specs.State.{Message, Note, Vat, Gives, Act}
+use Rattle.def_machine.specs.Arrive.{Incoming, arrive, notice}
+use Rattle.def_machine.specs.Eval.{opening, taking}
+use Rattle.def_run.specs.Connections.{Heard}
+use Rattle.def_run.specs.World.{Script, Program, Entry, Turn, Carry, CutLink, NoticeLink, tree_at}
+use Rattle.def_local.specs.Numbers.{Vats, Runs, Way, Frame, begins, given, numbers, open_from, open_member, ready, step, steps_from, way_at}
+use Rattle.def_local.specs.Vats.{Member, connection_for, heard_in, heard_on}
 use Rattle.law_name.specs.Runs.{KnowsOnce}
+use Rattle.law_local.specs.Joined.{IsLawful}
 use Rattle.law_local.specs.Runs.{EachStepMirrors}
-use Rattle.law_peers.specs.Steady.{ShownAlike}
+use Rattle.law_peers.specs.Asking.{AskAnew}
+use Rattle.law_peers.specs.Steady.{ShownAlike, RunsSteadily}
 
 -- what was told stays as it was told, in each opening turn and in each entry
 pub record IsShownSteadily (script : Script) : Type 0 where
@@ -16,3 +24,36 @@ pub record IsShownSteadily (script : Script) : Type 0 where
 -- so it is in each run that mirrors the machine's
 abbrev pub RunsAreShownSteadily : Type 0
 RunsAreShownSteadily = (script : Script) → KnowsOnce script → EachStepMirrors script → IsShownSteadily script
+
+-- ---- what a step asks for
+
+-- An act of vat m, as w finds it, asks for what is new.
+abbrev pub ActAsksAnew : Vats → Member → Act Local (Unit {0}) → Type 0
+ActAsksAnew w m act = (s : Vat Local) → act (ready w m.vat) ≡ Gives tt s → AskAnew s s.outbox m.connections
+
+module _ (script : Script) where
+  abbrev pub TurnAsksAnew : Vats → ℕ → Member → List (Message Local) → Type 0
+  TurnAsksAnew w u m [] = Unit {0}
+  TurnAsksAnew w u m (x ∷ xs) = (s : Vat Local) → taking (numbers script) (tree_at script.vats u) script.depth x (record (ready w m.vat) { queue = xs }) ≡ Gives tt s → AskAnew s s.outbox m.connections
+
+  abbrev pub FrameAsksAnew : Vats → ℕ → Member → Frame → Type 0
+  FrameAsksAnew w v m x = (h : Heard Local (Note (Incoming Local Local))) → heard_in v x.op m ≡ Some h → (s : Vat Local) → arrive (numbers script) v h.read (ready w m.vat) ≡ Gives tt s → AskAnew s s.outbox (slice_set m.connections v (heard_on h s (connection_for v m)))
+
+  abbrev pub EntryAsksAnew : Vats → Entry → Type 0
+  EntryAsksAnew w (Turn u) = (m : Member) → slice_get w.members u ≡ Some m → TurnAsksAnew w u m m.vat.queue
+  EntryAsksAnew w (Carry v u) = (m : Member) (l : Way) (x : Frame) (xs : List Frame) → slice_get w.members u ≡ Some m → way_at v u w.ways ≡ Some l → l.cut ≡ false → l.frames ≡ x ∷ xs → FrameAsksAnew w v m x
+  EntryAsksAnew w (CutLink v u) = Unit {0}
+  EntryAsksAnew w (NoticeLink v u) = (m : Member) → slice_get w.members v ≡ Some m → ActAsksAnew w m (notice (numbers script) u)
+
+-- so does each opening turn and each entry of a run
+pub record RunAsksAnew (script : Script) : Type 0 where
+  pub openings : (ps rest : List Program) (p : Program) (w : Vats) → script.vats ≡ ps ++ p ∷ rest → open_from script zero ps (begins script) ≡ Runs w
+      → (m : Member) → slice_get w.members (length ps) ≡ Some m → ActAsksAnew w m (opening (numbers script) p.tree script.depth (Prom zero) (given script.vats 1 p.knows))
+  pub entries : (es rest : List Entry) (e : Entry) (w x : Vats) → script.schedule ≡ es ++ e ∷ rest → open_from script zero script.vats (begins script) ≡ Runs w → steps_from script es 1 w ≡ Runs x
+      → EntryAsksAnew script x e
+
+-- ---- the run
+
+-- Where each step of a run asks for what is new, all that the code of a run asks of it is so.
+abbrev pub RunsAreSteadyWhereTheyAskAnew : Type 0
+RunsAreSteadyWhereTheyAskAnew = (script : Script) → IsLawful script → EachStepMirrors script → RunAsksAnew script → RunsSteadily script

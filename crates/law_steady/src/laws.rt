@@ -1,8 +1,14 @@
 //! What each step of the run in numbers keeps, where that run mirrors the machine's.
 
-ghost use Rattle.law_steady.specs.Statements.{RunsAreShownSteadily};
+ghost use Rattle.law_steady.specs.Statements.{RunsAreShownSteadily, RunsAreSteadyWhereTheyAskAnew};
 
 /// What was told, the names that vats know and the notes under way show the same by the draws after a step as by those before it.
 pub fn runs_are_shown_steadily()
     ensures { RunsAreShownSteadily }
+{}
+
+/// Where each step of a run in numbers asks for what is new, the run is as its code asks: a vat sees what has a number as it did before, what
+/// came to stand at positions is of other vats, what is answered is the vat's own, and what was told stays as it was told.
+pub fn runs_are_steady_where_they_ask_anew()
+    ensures { RunsAreSteadyWhereTheyAskAnew }
 {}
