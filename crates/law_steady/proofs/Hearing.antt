@@ -46,7 +46,7 @@ put_answers : (S : Sight Local) (n : Note Local) (c : Connection Local) → (put
 unfolding put_on
 put_answers S n c = refl
 
-unlike : (v u : ℕ) → (v ≡ u → ⊥) → (v == u) ≡ false
+pub unlike : (v u : ℕ) → (v ≡ u → ⊥) → (v == u) ≡ false
 unlike v u other = by (v == u) refl
   where
     by : (b : Bool) → (v == u) ≡ b → b ≡ false

@@ -6,3 +6,4 @@ pub mod Went
 pub mod Hearing
 pub mod Hosted
 pub mod Steady
+pub mod Asks

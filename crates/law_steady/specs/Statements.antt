@@ -1,13 +1,15 @@
 -- Each step of the run in numbers keeps what the code of a run asks of it, where the runs mirror each other.
-use Rattle.std.specs.Prelude.{◌≡◌, ℕ, zero, false, List, [], ◌∷◌, ◌++◌, Some, length, slice_get, slice_set}
-use Rattle.def_machine.specs.Values.{Local, Prom}
-use Rattle.def_machine.specs.State.{Message, Note, Vat, Gives, Act}
+use Rattle.std.specs.Prelude.{◌≡◌, ℕ, zero, ◌<◌, false, ◌⊎◌, List, [], ◌∷◌, ◌++◌, Some, length, slice_get, slice_set}
+use Rattle.def_machine.specs.Values.{Name, host_of, Local, Prom}
+use Rattle.def_machine.specs.State.{Message, Note, Put, Vat, Gives, Act}
 use Rattle.def_machine.specs.Arrive.{Incoming, arrive, notice}
 use Rattle.def_machine.specs.Eval.{opening, taking}
-use Rattle.def_run.specs.Connections.{Heard}
-use Rattle.def_run.specs.World.{Script, Program, Entry, Turn, Carry, CutLink, NoticeLink, tree_at}
+use Rattle.def_run.specs.Connections.{Heard, asked_in}
+use Rattle.def_run.specs.Wire.{connected_at}
+use Rattle.def_run.specs.World.{Script, Program, Entry, Turn, Carry, CutLink, NoticeLink, World, tree_at}
 use Rattle.def_local.specs.Numbers.{Vats, Runs, Way, Frame, begins, given, numbers, open_from, open_member, ready, step, steps_from, way_at}
-use Rattle.def_local.specs.Vats.{Member, connection_for, heard_in, heard_on}
+use Rattle.def_local.specs.Vats.{Member, connection_for, heard_in, heard_on, sight_for}
+use Rattle.law_name.specs.Names.{AllOf, IsAmong, Once}
 use Rattle.law_name.specs.Runs.{KnowsOnce}
 use Rattle.law_local.specs.Joined.{IsLawful}
 use Rattle.law_local.specs.Runs.{EachStepMirrors}
@@ -57,3 +59,15 @@ pub record RunAsksAnew (script : Script) : Type 0 where
 -- Where each step of a run asks for what is new, all that the code of a run asks of it is so.
 abbrev pub RunsAreSteadyWhereTheyAskAnew : Type 0
 RunsAreSteadyWhereTheyAskAnew = (script : Script) → IsLawful script → EachStepMirrors script → RunAsksAnew script → RunsSteadily script
+
+-- ---- what is new
+
+-- Of any two vats: what the one asked the other for is of that one, was asked for once, and was not told by it.
+pub record AsksOnce (w : World) : Type 0 where
+  pub hosts : (u v : ℕ) → AllOf (λ n. host_of n ≡ v) (connected_at u v w.connections).tables.questions
+  pub asked : (u v : ℕ) → Once (connected_at u v w.connections).tables.questions
+  pub untold : (u v : ℕ) (z : Name) → IsAmong z (connected_at u v w.connections).tables.questions → IsAmong z (connected_at u v w.connections).tables.imports → ⊥
+
+-- A note of vat u, which is in state s, asks for nothing, or is for another of so many vats.
+abbrev pub GoesOut : ℕ → ℕ → Vat Local → Put Local → Type 0
+GoesOut u n s p = (asked_in (sight_for s p.note) p.note ≡ []) ⊎ ((p.to < n) × (p.to ≡ u → ⊥))
