@@ -1,5 +1,5 @@
 -- What the notes of a step ask for is new, where what a vat asked another for is so once it is done.
-use Rattle.std.proofs.Common.{◌≡◌, ℕ, ◌<◌, Bool, true, false, List, [], ◌∷◌, ◌++◌, ◌⊎◌, inl, inr, refl, sym, ap, ◌∙◌, subst, length, map, get_or, ◌==◌, append_assoc, append-nil}
+use Rattle.std.proofs.Common.{◌≡◌, ℕ, ◌<◌, Bool, true, false, List, [], ◌∷◌, ◌++◌, ◌⊎◌, inl, inr, Some, refl, sym, ap, ◌∙◌, subst, length, map, get_or, ◌==◌, append_assoc, append-nil}
 use Rattle.std.specs.Prelude.{slice_get, slice_set}
 use Rattle.std.proofs.lemmas.List.{length-set}
 use Rattle.std.proofs.lemmas.Option.{slice_get_within}
@@ -18,7 +18,7 @@ use Rattle.def_local.specs.Vats.{Member, connection_for, unconnected, sight_for,
 use Rattle.def_local.specs.Numbers.{Vats, all_written, written_on}
 use Rattle.law_peers.specs.Asking.{IsNew, AreNew, AskAnew}
 use Rattle.law_peers.specs.Standing.{among}
-use Rattle.law_steady.specs.Statements.{AsksOnce, GoesOut}
+use Rattle.law_steady.specs.Statements.{AsksOnce, HostsAsked, GoesOut}
 use Rattle.law_steady.proofs.Hearing.{set_at, written_or, imports_stay, unlike}
 use Rattle.law_steady.proofs.Owns.{FoundAmong, among_found, own_by_host}
 use Rattle.law_steady.proofs.Went.{Grows, Pair, is, now, table}
@@ -93,3 +93,72 @@ module _ (s : Vat Local) where
             let z = questions_grow p.to ps (written_on s p cs) in let qs : List Local = asked_in (sight_for s p.note) p.note in
             are_new c F (sound p.to o.0 o.1) (imports_stay s p.to (p ∷ ps) cs) [] qs z.0
             (z.1 ∙ ap (λ xs. xs ++ z.0) (clash (subst (λ k. p.to < k) l o.0)) ∙ append_assoc c.questions qs z.0 ∙ ap (λ xs. xs ++ (qs ++ z.0)) (sym (append-nil c.questions)))
+
+-- ---- by the names of questions
+
+-- the names of a front, of one and of what stands behind it
+split_names : (f : Local → Found) (front rest : List Local) (n : Local) (ns : List Name) → map f (front ++ n ∷ rest) ≡ map Is ns → (cs bs : List Name) × (x : Name) × (ns ≡ cs ++ x ∷ bs) × (map f front ≡ map Is cs) × (f n ≡ Is x)
+split_names f [] rest n [] e = cc
+split_names f [] rest n (y ∷ ns) e = let i : f n ≡ Is y = cc in ([], ns, y, refl, refl, i)
+split_names f (a ∷ front) rest n [] e = cc
+split_names f (a ∷ front) rest n (y ∷ ns) e =
+    let i : f a ≡ Is y = cc in let j : map f (front ++ n ∷ rest) ≡ map Is ns = cc in
+    let r = split_names f front rest n ns j in (y ∷ r.0, r.1, r.2, ap (λ zs. y ∷ zs) r.3, joined i r.4, r.5)
+  where
+    joined : {x y : Found} {xs ys : List Found} → x ≡ y → xs ≡ ys → x ∷ xs ≡ y ∷ ys
+    joined e i = cc
+
+in_front : (x : Name) (cs bs : List Name) → Once (cs ++ x ∷ bs) → IsAmong x cs → ⊥
+in_front x [] bs h i = i
+in_front x (a ∷ cs) bs h (inl e) = h.0 (in_middle cs)
+  where
+    in_middle : (cs : List Name) → IsAmong a (cs ++ x ∷ bs)
+    in_middle [] = inl (sym e)
+    in_middle (c ∷ cs) = inr (in_middle cs)
+in_front x (a ∷ cs) bs h (inr i) = in_front x cs bs h.1 i
+
+in_it : (x : Name) (cs bs : List Name) → IsAmong x (cs ++ x ∷ bs)
+in_it x [] bs = inl refl
+in_it x (a ∷ cs) bs = inr (in_it x cs bs)
+
+-- Vat u, which was m in numbers, is k.
+module _ (X Y : Vats) (p : Pair X Y) (u : ℕ) (m k : Member) (there : slice_get X.members u ≡ Some m) (here : slice_get Y.members u ≡ Some k) (grows : Grows m.names k.names) (asks : AsksOnce p.y) (hosts : HostsAsked p.y) where
+  abbrev f : Local → Found
+  f = found u (table_of p.y u (is X Y p u m k there here grows).0)
+
+  module _ (v : ℕ) (low : v < length Y.members) (other : v ≡ u → ⊥) where
+    abbrev D : Connection Name
+    D = (connected_at u v (let w = p.y in w.connections)).tables
+
+    same : changed_tables f (connection_for v k) ≡ changed_tables Is D
+    same = let h = now X Y p u m k there here grows in h.connections v low
+
+    may : TablesMay refers D
+    may = let h = p.after in h.references u (slice_get_within Y.members u k here) v low
+
+    low_u : u < length (let w = p.y in w.vats)
+    low_u = let h = p.after in subst (λ n. u < n) h.count (slice_get_within Y.members u k here)
+
+    low_v : v < length (let w = p.y in w.vats)
+    low_v = let h = p.after in subst (λ n. v < n) h.count low
+
+    name_is : (a : Found) (x y : Name) → a ≡ Is x → a ≡ Is y → x ≡ y
+    name_is a x y i j = cc
+
+    not_among : (xs : List Local) (ns : List Name) (n : Local) (x : Name) → map f xs ≡ map Is ns → f n ≡ Is x → (IsAmong x ns → ⊥) → among xs n ≡ false
+    not_among xs ns n x e i o = by (among xs n) refl
+      where
+        by : (b : Bool) → among xs n ≡ b → b ≡ false
+        by false j = refl
+        by true j = let g = among_found f xs ns n e j in absurd (o (subst (λ z. IsAmong z ns) (name_is (f n) g.name x g.found i) g.here))
+
+    pub sound : IsSound k.vat (connection_for v k)
+    sound front rest n e =
+        let questions : map f (front ++ n ∷ rest) ≡ map Is D.questions = ap (map f) (sym e) ∙ ap (λ (z : Connection Found). z.questions) same in
+        let r = split_names f front rest n D.questions questions in
+        let y = is X Y p u m k there here grows in
+        let mine : IsAmong r.2 D.questions = subst (IsAmong r.2) (sym r.3) (in_it r.2 r.0 r.1) in
+        let host : host_of r.2 ≡ v = all_among (λ n. host_of n ≡ v) D.questions r.2 (hosts u v low_u low_v other) mine in
+        (own_by_host p.y Y u y.0 k (table X Y p u m k there here grows) (p.hosts_now u y.0 y.1) (now X Y p u m k there here grows) n r.2 r.5 (all_among (λ n. refers n ≡ true) D.questions r.2 (let t = may in t.questions) mine) ∙ ap (λ z. z == u) host ∙ unlike v u other,
+        not_among front r.0 n r.2 r.4 r.5 (in_front r.2 r.0 r.1 (subst Once r.3 (asks.asked u v low_u low_v other))),
+        not_among (connection_for v k).imports D.imports n r.2 (ap (λ (z : Connection Found). z.imports) same) r.5 (asks.untold u v low_u low_v other r.2 mine))

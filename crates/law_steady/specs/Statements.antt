@@ -1,5 +1,5 @@
 -- Each step of the run in numbers keeps what the code of a run asks of it, where the runs mirror each other.
-use Rattle.std.specs.Prelude.{◌≡◌, ℕ, zero, ◌<◌, false, ◌⊎◌, List, [], ◌∷◌, ◌++◌, Some, length, slice_get, slice_set}
+use Rattle.std.specs.Prelude.{◌≡◌, ℕ, zero, ◌+◌, ◌<◌, false, ◌⊎◌, List, [], ◌∷◌, ◌++◌, Some, length, slice_get, slice_set}
 use Rattle.def_machine.specs.Values.{Name, host_of, Local, Prom}
 use Rattle.def_machine.specs.State.{Message, Note, Put, Vat, Gives, Act}
 use Rattle.def_machine.specs.Arrive.{Incoming, arrive, notice}
@@ -11,6 +11,7 @@ use Rattle.def_local.specs.Numbers.{Vats, Runs, Way, Frame, begins, given, numbe
 use Rattle.def_local.specs.Vats.{Member, connection_for, heard_in, heard_on, sight_for}
 use Rattle.law_name.specs.Names.{AllOf, IsAmong, Once}
 use Rattle.law_name.specs.Runs.{KnowsOnce}
+use Rattle.law_reference.specs.ApartAsking.{InRunsBehindCuts}
 use Rattle.law_local.specs.Joined.{IsLawful}
 use Rattle.law_local.specs.Runs.{EachStepMirrors}
 use Rattle.law_peers.specs.Asking.{AskAnew}
@@ -62,12 +63,45 @@ RunsAreSteadyWhereTheyAskAnew = (script : Script) → IsLawful script → EachSt
 
 -- ---- what is new
 
--- Of any two vats: what the one asked the other for is of that one, was asked for once, and was not told by it.
+-- of any two vats of a world
+abbrev pub OfTwo : World → (ℕ → ℕ → Type 0) → Type 0
+OfTwo w P = (u v : ℕ) → u < length w.vats → v < length w.vats → (v ≡ u → ⊥) → P u v
+
+-- What the one has of what it asked the other for is of that one,
+abbrev pub HostsAsked : World → Type 0
+HostsAsked w = OfTwo w (λ u v. AllOf (λ n. host_of n ≡ v) (connected_at u v w.connections).tables.questions)
+
+-- and it was asked for once, and was not told by that one.
 pub record AsksOnce (w : World) : Type 0 where
-  pub hosts : (u v : ℕ) → AllOf (λ n. host_of n ≡ v) (connected_at u v w.connections).tables.questions
-  pub asked : (u v : ℕ) → Once (connected_at u v w.connections).tables.questions
-  pub untold : (u v : ℕ) (z : Name) → IsAmong z (connected_at u v w.connections).tables.questions → IsAmong z (connected_at u v w.connections).tables.imports → ⊥
+  pub asked : OfTwo w (λ u v. Once (connected_at u v w.connections).tables.questions)
+  pub untold : OfTwo w (λ u v. (z : Name) → IsAmong z (connected_at u v w.connections).tables.questions → IsAmong z (connected_at u v w.connections).tables.imports → ⊥)
+
+-- so in each world of a run in which each notice stands behind a cut of the same two vats
+abbrev pub EachAsksOnce : Type 0
+EachAsksOnce = InRunsBehindCuts AsksOnce
 
 -- A note of vat u, which is in state s, asks for nothing, or is for another of so many vats.
 abbrev pub GoesOut : ℕ → ℕ → Vat Local → Put Local → Type 0
 GoesOut u n s p = (asked_in (sight_for s p.note) p.note ≡ []) ⊎ ((p.to < n) × (p.to ≡ u → ⊥))
+
+-- so each note that a vat had put when that step was done
+abbrev pub AllGoOut : Vats → ℕ → Type 0
+AllGoOut w u = (k : Member) → slice_get w.members u ≡ Some k → AllOf (GoesOut u (length w.members) k.vat) (let s : Vat Local = k.vat in s.outbox)
+
+-- the vat that takes an entry goes out so
+abbrev pub EntryGoesOut : Vats → Entry → Type 0
+EntryGoesOut w (Turn u) = AllGoOut w u
+EntryGoesOut w (Carry v u) = AllGoOut w u
+EntryGoesOut w (CutLink v u) = Unit {0}
+EntryGoesOut w (NoticeLink v u) = AllGoOut w v
+
+-- in each step of the run of that script
+pub record NotesGoOut (script : Script) : Type 0 where
+  pub openings : (ps rest : List Program) (p : Program) (w y : Vats) → script.vats ≡ ps ++ p ∷ rest → open_from script zero ps (begins script) ≡ Runs w
+      → open_member script (length ps) p w (slice_get w.members (length ps)) ≡ Runs y → AllGoOut y (length ps)
+  pub entries : (es rest : List Entry) (e : Entry) (w x y : Vats) → script.schedule ≡ es ++ e ∷ rest → open_from script zero script.vats (begins script) ≡ Runs w → steps_from script es 1 w ≡ Runs x
+      → step script e (1 + length es) x ≡ Runs y → EntryGoesOut y e
+
+-- Then each step asks for what is new, and all that the code of a run asks of it is so.
+abbrev pub RunsAreSteady : Type 0
+RunsAreSteady = EachAsksOnce → (script : Script) → IsLawful script → EachStepMirrors script → NotesGoOut script → RunsSteadily script
