@@ -1,13 +1,12 @@
 -- What the notes of a step ask for is new, where what a vat asked another for is so once it is done.
 use Rattle.std.proofs.Common.{◌≡◌, ℕ, ◌<◌, Bool, true, false, List, [], ◌∷◌, ◌++◌, ◌⊎◌, inl, inr, Some, refl, sym, ap, ◌∙◌, subst, length, map, get_or, ◌==◌, append_assoc, append-nil}
-use Rattle.std.specs.Prelude.{slice_get, slice_set}
+use Rattle.std.specs.Prelude.{slice_get}
 use Rattle.std.proofs.lemmas.List.{length-set}
 use Rattle.std.proofs.lemmas.Option.{slice_get_within}
 use Rattle.def_machine.specs.Values.{Name, Local, host_of, same_local}
 use Rattle.def_machine.specs.State.{Note, Put, Vat}
 use Rattle.def_run.specs.Connections.{Connection, Sight, asked_in, put_on}
-use Rattle.def_run.specs.Wire.{Connected, connected_at}
-use Rattle.def_run.specs.World.{World}
+use Rattle.def_run.specs.Wire.{connected_at}
 use Rattle.law_name.specs.Names.{AllOf, IsAmong, Once}
 use Rattle.law_name.proofs.Among.{all_among}
 use Rattle.law_renaming.specs.Stands.{Found, Is, found}
@@ -16,11 +15,11 @@ use Rattle.law_frame.specs.Together.{TablesMay, changed_tables}
 use Rattle.law_frame.specs.OwnFrames.{refers}
 use Rattle.def_local.specs.Vats.{Member, connection_for, unconnected, sight_for, is_own}
 use Rattle.def_local.specs.Numbers.{Vats, all_written, written_on}
-use Rattle.law_peers.specs.Asking.{IsNew, AreNew, AskAnew}
+use Rattle.law_peers.specs.Asking.{AreNew, AskAnew}
 use Rattle.law_peers.specs.Standing.{among}
 use Rattle.law_steady.specs.Statements.{AsksOnce, HostsAsked, GoesOut}
 use Rattle.law_steady.proofs.Hearing.{set_at, written_or, imports_stay, unlike}
-use Rattle.law_steady.proofs.Owns.{FoundAmong, among_found, own_by_host}
+use Rattle.law_steady.proofs.Owns.{among_found, own_by_host}
 use Rattle.law_steady.proofs.Went.{Grows, Pair, is, now, table}
 
 -- ---- lists
@@ -68,9 +67,10 @@ module _ (s : Vat Local) where
   are_new : (c F : Connection Local) → IsSound F → F.imports ≡ c.imports → (pre qs zs : List Local) → F.questions ≡ (c.questions ++ pre) ++ (qs ++ zs) → AreNew s c qs
   are_new c F sound told pre [] zs e = tt
   are_new c F sound told pre (n ∷ qs) zs e =
-      let here = sound (c.questions ++ pre) (qs ++ zs) n e in
-      (record { other = here.0; unasked = among_first c.questions pre n here.1; untold = ap (λ is. among is n) (sym told) ∙ here.2 },
-      are_new c F sound told (pre ++ n ∷ []) qs zs (e ∙ sym (append_assoc (c.questions ++ pre) (n ∷ []) (qs ++ zs)) ∙ ap (λ xs. xs ++ (qs ++ zs)) (append_assoc c.questions pre (n ∷ []))))
+      let here = sound (c.questions ++ pre) (qs ++ zs) n e in (
+        record { other = here.0; unasked = among_first c.questions pre n here.1; untold = ap (λ is. among is n) (sym told) ∙ here.2 },
+        are_new c F sound told (pre ++ n ∷ []) qs zs (e ∙ sym (append_assoc (c.questions ++ pre) (n ∷ []) (qs ++ zs)) ∙ ap (λ xs. xs ++ (qs ++ zs)) (append_assoc c.questions pre (n ∷ []))),
+      )
 
   module _ (u n : ℕ) where
     pub ask_anew : (ps : List (Put Local)) (cs : List (Connection Local)) → n ≡ length cs → AllOf (GoesOut u n s) ps → ((v : ℕ) → v < n → (v ≡ u → ⊥) → IsSound (get_or (all_written s ps cs) v unconnected)) → AskAnew s ps cs
@@ -158,7 +158,8 @@ module _ (X Y : Vats) (p : Pair X Y) (u : ℕ) (m k : Member) (there : slice_get
         let r = split_names f front rest n D.questions questions in
         let y = is X Y p u m k there here grows in
         let mine : IsAmong r.2 D.questions = subst (IsAmong r.2) (sym r.3) (in_it r.2 r.0 r.1) in
-        let host : host_of r.2 ≡ v = all_among (λ n. host_of n ≡ v) D.questions r.2 (hosts u v low_u low_v other) mine in
-        (own_by_host p.y Y u y.0 k (table X Y p u m k there here grows) (p.hosts_now u y.0 y.1) (now X Y p u m k there here grows) n r.2 r.5 (all_among (λ n. refers n ≡ true) D.questions r.2 (let t = may in t.questions) mine) ∙ ap (λ z. z == u) host ∙ unlike v u other,
-        not_among front r.0 n r.2 r.4 r.5 (in_front r.2 r.0 r.1 (subst Once r.3 (asks.asked u v low_u low_v other))),
-        not_among (connection_for v k).imports D.imports n r.2 (ap (λ (z : Connection Found). z.imports) same) r.5 (asks.untold u v low_u low_v other r.2 mine))
+        let host : host_of r.2 ≡ v = all_among (λ n. host_of n ≡ v) D.questions r.2 (hosts u v low_u low_v other) mine in (
+          own_by_host p.y Y u y.0 k (table X Y p u m k there here grows) (p.hosts_now u y.0 y.1) (now X Y p u m k there here grows) n r.2 r.5 (all_among (λ n. refers n ≡ true) D.questions r.2 (let t = may in t.questions) mine) ∙ ap (λ z. z == u) host ∙ unlike v u other,
+          not_among front r.0 n r.2 r.4 r.5 (in_front r.2 r.0 r.1 (subst Once r.3 (asks.asked u v low_u low_v other))),
+          not_among (connection_for v k).imports D.imports n r.2 (ap (λ (z : Connection Found). z.imports) same) r.5 (asks.untold u v low_u low_v other r.2 mine),
+        )

@@ -2,6 +2,7 @@
 use Rattle.std.proofs.Common.{◌≡◌, ℕ, zero, suc, ◌<◌, Bool, true, false, List, [], ◌∷◌, ◌++◌, ◌⊎◌, inl, inr, Some, refl, ap, ◌∙◌, subst, length, drop, map, get_or, arith, ◌==◌}
 use Rattle.std.specs.Prelude.{slice_get, slice_set}
 use Rattle.std.proofs.lemmas.Bool.{eqb-true, eq-eqb}
+use Rattle.std.proofs.lemmas.List.{length-set}
 use Rattle.std.proofs.lemmas.Option.{slice_get_within}
 use Rattle.def_machine.specs.Values.{Name, Local, host_of}
 use Rattle.def_machine.specs.State.{Note, Put, Vat}
@@ -52,6 +53,11 @@ unlike v u other = by (v == u) refl
     by : (b : Bool) → (v == u) ≡ b → b ≡ false
     by true e = absurd (other (eqb-true v u e))
     by false e = refl
+
+pub all_length : (s : Vat Local) (ps : List (Put Local)) (cs : List (Connection Local)) → length (all_written s ps cs) ≡ length cs
+unfolding all_written written_on
+all_length s [] cs = refl
+all_length s (p ∷ ps) cs = all_length s ps (written_on s p cs) ∙ length-set cs p.to (put_on (sight_for s p.note) p.note (get_or cs p.to unconnected))
 
 module _ (s : Vat Local) (v : ℕ) where
   -- the connection for v is as it was, or that note was put on it

@@ -7,3 +7,4 @@ pub mod Hearing
 pub mod Hosted
 pub mod Steady
 pub mod Asks
+pub mod Anew

@@ -56,34 +56,42 @@ link_of_way w W h v u l e = by (link_at v u w.links) refl (subst (λ o. MayMirro
     by None i k = absurd k
 
 module _ (script : Script) (lawful : IsLawful script) (each : EachStepMirrors script) where
+  pub opening_leads : (u : ℕ) (p : Program) (X : Vats) (m : Member) (s : Vat Local) → slice_get X.members u ≡ Some m → opening (numbers.numbers script) p.tree script.depth (Prom zero) (numbers.given script.vats 1 p.knows) (numbers.ready X m.vat) ≡ Gives tt s
+      → numbers.open_member script u p X (slice_get X.members u) ≡ Runs (left_by X u (Opens u ∷ []) m (numbers.nothing_brought m) s)
+  unfolding numbers.open_member
+  opening_leads u p X m s there e = ap (numbers.open_member script u p X) there ∙ own_leads X u (Opens u ∷ []) u m (opening (numbers.numbers script) p.tree script.depth (Prom zero) (numbers.given script.vats 1 p.knows)) s e
+
   opening_owns : (ps rest : List Program) (p : Program) (X : Vats) → script.vats ≡ ps ++ p ∷ rest → numbers.open_from script zero ps (numbers.begins script) ≡ Runs X → (m : Member) → slice_get X.members (length ps) ≡ Some m
       → (s : Vat Local) → opening (numbers.numbers script) p.tree script.depth (Prom zero) (numbers.given script.vats 1 p.knows) (numbers.ready X m.vat) ≡ Gives tt s → SeesAsBefore m.vat s m.connections
-  unfolding numbers.open_member
   opening_owns ps rest p X split opened m there s e =
       let u = length ps in let head : List Event = Opens u ∷ [] in let b = numbers.nothing_brought m in
-      let leads : numbers.open_member script u p X (slice_get X.members u) ≡ Runs (left_by X u head m b s) = ap (numbers.open_member script u p X) there ∙ own_leads X u head u m (opening (numbers.numbers script) p.tree script.depth (Prom zero) (numbers.given script.vats 1 p.knows)) s e in
-      let pair = opening_pair script lawful.0 each ps rest p X (left_by X u head m b s) split opened leads in
+      let pair = opening_pair script lawful.0 each ps rest p X (left_by X u head m b s) split opened (opening_leads u p X m s there e) in
       owns_same X (left_by X u head m b s) pair u m (left_member X u m b s) there (left_there X u head m m b s there) (left_grows X u m b s)
 
   module _ (es rest : List Entry) (W X : Vats) (opened : numbers.open_from script zero script.vats (numbers.begins script) ≡ Runs W) (stepped : numbers.steps_from script es 1 W ≡ Runs X) where
     abbrev k : ℕ
     k = 1 + length es
 
+    pub turn_leads : (u : ℕ) (m : Member) → slice_get X.members u ≡ Some m → (q : Message Local) (qs : List (Message Local)) → m.vat.queue ≡ q ∷ qs
+        → (s : Vat Local) → taking (numbers.numbers script) (tree_at script.vats u) script.depth q (record (numbers.ready X m.vat) { queue = qs }) ≡ Gives tt s → numbers.step script (Turn u) k X ≡ Runs (left_by X u (Turned k u ∷ []) m (numbers.nothing_brought m) s)
+    unfolding numbers.step numbers.turn numbers.turn_queue numbers.after_step
+    turn_leads u m there q qs queue s e = ap (numbers.turn script k u X) there ∙ ap (numbers.turn_queue script k u X m) queue ∙ ap (numbers.after_step X u (Turned k u ∷ []) (numbers.step_number script k) m (λ z. numbers.nothing_brought m)) e
+
+    pub notice_leads : (v u : ℕ) (m : Member) → slice_get X.members v ≡ Some m → (s : Vat Local) → notice (numbers.numbers script) u (numbers.ready X m.vat) ≡ Gives tt s → numbers.step script (NoticeLink v u) k X ≡ Runs (left_by X v (NoticedAt k v u ∷ []) m (numbers.nothing_brought m) s)
+    unfolding numbers.step numbers.notice_by
+    notice_leads v u m there s e = ap (numbers.notice_by script k v u X) there ∙ own_leads X v (NoticedAt k v u ∷ []) (numbers.step_number script k) m (notice (numbers.numbers script) u) s e
+
     turn_owns : (u : ℕ) → script.schedule ≡ es ++ Turn u ∷ rest → (m : Member) → slice_get X.members u ≡ Some m → (q : Message Local) (qs : List (Message Local)) → m.vat.queue ≡ q ∷ qs
         → (s : Vat Local) → taking (numbers.numbers script) (tree_at script.vats u) script.depth q (record (numbers.ready X m.vat) { queue = qs }) ≡ Gives tt s → SeesAsBefore m.vat s m.connections
-    unfolding numbers.step numbers.turn numbers.turn_queue numbers.after_step
     turn_owns u split m there q qs queue s e =
         let head : List Event = Turned k u ∷ [] in let b = numbers.nothing_brought m in
-        let leads : numbers.step script (Turn u) k X ≡ Runs (left_by X u head m b s) = ap (numbers.turn script k u X) there ∙ ap (numbers.turn_queue script k u X m) queue ∙ ap (numbers.after_step X u head (numbers.step_number script k) m (λ z. numbers.nothing_brought m)) e in
-        let pair = entry_pair script lawful.0 each lawful.1 es rest (Turn u) W X (left_by X u head m b s) split opened stepped leads in
+        let pair = entry_pair script lawful.0 each lawful.1 es rest (Turn u) W X (left_by X u head m b s) split opened stepped (turn_leads u m there q qs queue s e) in
         owns_same X (left_by X u head m b s) pair.0 u m (left_member X u m b s) there (left_there X u head m m b s there) (left_grows X u m b s)
 
     notice_owns : (v u : ℕ) → script.schedule ≡ es ++ NoticeLink v u ∷ rest → (m : Member) → slice_get X.members v ≡ Some m → (s : Vat Local) → notice (numbers.numbers script) u (numbers.ready X m.vat) ≡ Gives tt s → SeesAsBefore m.vat s m.connections
-    unfolding numbers.step numbers.notice_by
     notice_owns v u split m there s e =
         let head : List Event = NoticedAt k v u ∷ [] in let b = numbers.nothing_brought m in
-        let leads : numbers.step script (NoticeLink v u) k X ≡ Runs (left_by X v head m b s) = ap (numbers.notice_by script k v u X) there ∙ own_leads X v head (numbers.step_number script k) m (notice (numbers.numbers script) u) s e in
-        let pair = entry_pair script lawful.0 each lawful.1 es rest (NoticeLink v u) W X (left_by X v head m b s) split opened stepped leads in
+        let pair = entry_pair script lawful.0 each lawful.1 es rest (NoticeLink v u) W X (left_by X v head m b s) split opened stepped (notice_leads v u m there s e) in
         owns_same X (left_by X v head m b s) pair.0 v m (left_member X v m b s) there (left_there X v head m m b s there) (left_grows X v m b s)
 
     -- a frame that was heard
@@ -92,23 +100,23 @@ module _ (script : Script) (lawful : IsLawful script) (each : EachStepMirrors sc
       abbrev taken : Way → Way
       taken z = record z { frames = xs }
 
-      abbrev off : Vats
+      abbrev pub off : Vats
       off = record X { ways = with_way taken v u X.ways }
 
-      abbrev head : List Event
+      abbrev pub head : List Event
       head = Carried k v u x.note (spelling x.op) ∷ []
 
-      abbrev b : Brought
+      abbrev pub b : Brought
       b = numbers.brings script off v u x h m s
 
-      abbrev Y : Vats
+      abbrev pub Y : Vats
       Y = left_by off u head m b s
 
       hears : numbers.arrives script k v u off x (slice_get X.members u) ≡ Runs Y
       unfolding numbers.arrives numbers.hears numbers.after_step numbers.ready
       hears = ap (numbers.arrives script k v u off x) there ∙ ap (numbers.hears script k v u off x m) heard ∙ ap (numbers.after_step off u head (numbers.step_number script k) m (numbers.brings script off v u x h m)) arrives
 
-      leads : numbers.step script (Carry v u) k X ≡ Runs Y
+      pub leads : numbers.step script (Carry v u) k X ≡ Runs Y
       unfolding numbers.step numbers.carry_way numbers.carry_frames
       leads = ap (numbers.carry_way script k v u X) at ∙ by l.cut uncut ∙ ap (numbers.carry_frames script k v u X) first ∙ hears
         where
@@ -116,7 +124,7 @@ module _ (script : Script) (lawful : IsLawful script) (each : EachStepMirrors sc
           by false e = refl
           by true e = cc
 
-      pair : (p : Pair X Y) × Hosted p.y × Apart p.x
+      pub pair : (p : Pair X Y) × Hosted p.y × Apart p.x
       pair = entry_pair script lawful.0 each lawful.1 es rest (Carry v u) W X Y split opened stepped leads
 
       abbrev now_is : Member

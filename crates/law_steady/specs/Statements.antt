@@ -71,6 +71,9 @@ OfTwo w P = (u v : ℕ) → u < length w.vats → v < length w.vats → (v ≡ u
 abbrev pub HostsAsked : World → Type 0
 HostsAsked w = OfTwo w (λ u v. AllOf (λ n. host_of n ≡ v) (connected_at u v w.connections).tables.questions)
 
+abbrev pub EachHostsAsked : Type 0
+EachHostsAsked = InRunsBehindCuts HostsAsked
+
 -- and it was asked for once, and was not told by that one.
 pub record AsksOnce (w : World) : Type 0 where
   pub asked : OfTwo w (λ u v. Once (connected_at u v w.connections).tables.questions)
@@ -104,4 +107,4 @@ pub record NotesGoOut (script : Script) : Type 0 where
 
 -- Then each step asks for what is new, and all that the code of a run asks of it is so.
 abbrev pub RunsAreSteady : Type 0
-RunsAreSteady = EachAsksOnce → (script : Script) → IsLawful script → EachStepMirrors script → NotesGoOut script → RunsSteadily script
+RunsAreSteady = EachHostsAsked → EachAsksOnce → (script : Script) → IsLawful script → EachStepMirrors script → NotesGoOut script → RunsSteadily script

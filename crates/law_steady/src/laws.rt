@@ -1,6 +1,6 @@
 //! What each step of the run in numbers keeps, where that run mirrors the machine's.
 
-ghost use Rattle.law_steady.specs.Statements.{RunsAreShownSteadily, RunsAreSteadyWhereTheyAskAnew};
+ghost use Rattle.law_steady.specs.Statements.{RunsAreShownSteadily, RunsAreSteady, RunsAreSteadyWhereTheyAskAnew};
 
 /// What was told, the names that vats know and the notes under way show the same by the draws after a step as by those before it.
 pub fn runs_are_shown_steadily()
@@ -11,4 +11,10 @@ pub fn runs_are_shown_steadily()
 /// came to stand at positions is of other vats, what is answered is the vat's own, and what was told stays as it was told.
 pub fn runs_are_steady_where_they_ask_anew()
     ensures { RunsAreSteadyWhereTheyAskAnew }
+{}
+
+/// So it is where vats ask each other once for a name, of the other, that the other did not tell, and where notes that ask are put to other
+/// vats of the run.
+pub fn runs_are_steady()
+    ensures { RunsAreSteady }
 {}
