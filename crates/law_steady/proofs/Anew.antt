@@ -17,6 +17,7 @@ use Rattle.law_peers.specs.Asking.{AskAnew}
 use Rattle.law_steady.specs.Statements.{AllGoOut, NotesGoOut, EachAsksOnce, EachHostsAsked, TurnAsksAnew, EntryAsksAnew, RunsAreSteady}
 use Rattle.law_steady.proofs.Asks.{ask_anew, sound}
 use Rattle.law_steady.proofs.Hearing.{all_length}
+use Rattle.law_steady.proofs.Questions.{hosts_asked}
 use Rattle.law_steady.proofs.Steady.{opening_leads, turn_leads, notice_leads, leads, pair, runs_steady}
 use Rattle.law_steady.proofs.Went.{Pair, left_member, left_there, left_grows, opening_pair, entry_pair, now}
 
@@ -78,7 +79,7 @@ module _ (hosts : EachHostsAsked) (each : EachAsksOnce) (script : Script) (lawfu
     entry_asks (NoticeLink v u) split = λ m there s i. notice_asks v u split m there s i
 
 pub steady : RunsAreSteady
-steady hosts each script lawful mirrors out = runs_steady script lawful mirrors (record {
-  openings = λ ps rest p w split opened m there s e. opening_asks hosts each script lawful mirrors out ps rest p w split opened m there s e;
-  entries = λ es rest e w x split opened stepped. entry_asks hosts each script lawful mirrors out es rest w x opened stepped e split;
+steady each script lawful mirrors out = runs_steady script lawful mirrors (record {
+  openings = λ ps rest p w split opened m there s e. opening_asks hosts_asked each script lawful mirrors out ps rest p w split opened m there s e;
+  entries = λ es rest e w x split opened stepped. entry_asks hosts_asked each script lawful mirrors out es rest w x opened stepped e split;
 })

@@ -8,3 +8,4 @@ pub mod Hosted
 pub mod Steady
 pub mod Asks
 pub mod Anew
+pub mod Questions

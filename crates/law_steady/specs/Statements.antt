@@ -107,4 +107,4 @@ pub record NotesGoOut (script : Script) : Type 0 where
 
 -- Then each step asks for what is new, and all that the code of a run asks of it is so.
 abbrev pub RunsAreSteady : Type 0
-RunsAreSteady = EachHostsAsked → EachAsksOnce → (script : Script) → IsLawful script → EachStepMirrors script → NotesGoOut script → RunsSteadily script
+RunsAreSteady = EachAsksOnce → (script : Script) → IsLawful script → EachStepMirrors script → NotesGoOut script → RunsSteadily script
