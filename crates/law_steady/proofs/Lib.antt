@@ -9,3 +9,4 @@ pub mod Steady
 pub mod Asks
 pub mod Anew
 pub mod Questions
+pub mod Untold

@@ -22,13 +22,13 @@ use Rattle.law_steady.proofs.Hearing.{unlike}
 
 -- ---- a run without hostile vats is one in which none of these is
 
-abbrev None : ℕ → Type 0
+abbrev pub None : ℕ → Type 0
 None v = is_in v [] ≡ true
 
-abbrev AnyDeed : World → ℕ → Vat Name → Deed → Type 0
+abbrev pub AnyDeed : World → ℕ → Vat Name → Deed → Type 0
 AnyDeed w v s d = Unit {0}
 
-abbrev AnyWord : World → ℕ → ℕ → Vat Name → Note Name → Type 0
+abbrev pub AnyWord : World → ℕ → ℕ → Vat Name → Note Name → Type 0
 AnyWord w v u s n = Unit {0}
 
 module _ (script : Script) where
@@ -52,12 +52,12 @@ module _ (script : Script) where
   follows [] y h = h
   follows (w ∷ ws) y h = (honest_move w y h.0, follows ws w h.1)
 
-  reached : (w : World) → IsReached script w → Reached script None AnyNotice AnyDeed AnyWord w
+  pub reached : (w : World) → IsReached script w → Reached script None AnyNotice AnyDeed AnyWord w
   reached w r = (r.0, follows r.0 w r.1)
 
 -- ---- as many vats as programs
 
-abbrev Counted : Script → World → Type 0
+abbrev pub Counted : Script → World → Type 0
 Counted script w = length w.vats ≡ length script.vats
 
 count_on : (script : Script) (w y : World) → Before script w → Before script y → Moved script w y → Counted script w → Counted script y
@@ -72,10 +72,10 @@ unfolding machine.begins
 counted_first script = vats_count script zero script.vats
 
 module _ (script : Script) (once : KnowsOnce script) where
-  opened_counted : (ps rest : List Program) (w : World) → script.vats ≡ ps ++ rest → machine.open_from script zero ps (machine.begins script) ≡ Goes w → Counted script w
+  pub opened_counted : (ps rest : List Program) (w : World) → script.vats ≡ ps ++ rest → machine.open_from script zero ps (machine.begins script) ≡ Goes w → Counted script w
   opened_counted = opened_hold script (Before script) (opened_before script once) (stepped_before script once) (stands_of script) (Counted script) (count_on script) (counted_first script)
 
-  stepped_counted : (w x : World) (es : List Entry) (k : ℕ) → machine.open_from script zero script.vats (machine.begins script) ≡ Goes w → machine.steps_from script es k w ≡ Goes x → Counted script x
+  pub stepped_counted : (w x : World) (es : List Entry) (k : ℕ) → machine.open_from script zero script.vats (machine.begins script) ≡ Goes w → machine.steps_from script es k w ≡ Goes x → Counted script x
   stepped_counted = stepped_hold script (Before script) (opened_before script once) (stepped_before script once) (stands_of script) (Counted script) (count_on script) (counted_first script)
 
   -- ---- what was asked for

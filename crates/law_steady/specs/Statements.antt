@@ -1,12 +1,12 @@
 -- Each step of the run in numbers keeps what the code of a run asks of it, where the runs mirror each other.
-use Rattle.std.specs.Prelude.{◌≡◌, ℕ, zero, ◌+◌, ◌<◌, false, ◌⊎◌, List, [], ◌∷◌, ◌++◌, Some, length, slice_get, slice_set}
+use Rattle.std.specs.Prelude.{◌≡◌, ℕ, zero, ◌+◌, ◌<◌, true, false, ◌⊎◌, List, [], ◌∷◌, ◌++◌, Some, length, slice_get, slice_set}
 use Rattle.def_machine.specs.Values.{Name, host_of, Local, Prom}
 use Rattle.def_machine.specs.State.{Message, Note, Put, Vat, Gives, Act}
 use Rattle.def_machine.specs.Arrive.{Incoming, arrive, notice}
 use Rattle.def_machine.specs.Eval.{opening, taking}
 use Rattle.def_run.specs.Connections.{Heard, asked_in}
 use Rattle.def_run.specs.Wire.{connected_at}
-use Rattle.def_run.specs.World.{Script, Program, Entry, Turn, Carry, CutLink, NoticeLink, World, tree_at}
+use Rattle.def_run.specs.World.{Script, Program, Entry, Turn, Carry, CutLink, NoticeLink, Link, World, link_at, tree_at}
 use Rattle.def_local.specs.Numbers.{Vats, Runs, Way, Frame, begins, given, numbers, open_from, open_member, ready, step, steps_from, way_at}
 use Rattle.def_local.specs.Vats.{Member, connection_for, heard_in, heard_on, sight_for}
 use Rattle.law_name.specs.Names.{AllOf, IsAmong, Once}
@@ -73,6 +73,10 @@ HostsAsked w = OfTwo w (λ u v. AllOf (λ n. host_of n ≡ v) (connected_at u v 
 
 abbrev pub EachHostsAsked : Type 0
 EachHostsAsked = InRunsBehindCuts HostsAsked
+
+-- one of the links between the two is cut
+abbrev pub AreCutOff : World → ℕ → ℕ → Type 0
+AreCutOff w u v = (l : Link) × ((link_at u v w.links ≡ Some l) ⊎ (link_at v u w.links ≡ Some l)) × (l.cut ≡ true)
 
 -- and it was asked for once, and was not told by that one.
 pub record AsksOnce (w : World) : Type 0 where
