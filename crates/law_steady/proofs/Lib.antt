@@ -10,3 +10,4 @@ pub mod Asks
 pub mod Anew
 pub mod Questions
 pub mod Untold
+pub mod Roots
