@@ -18,6 +18,7 @@ use Rattle.law_steady.specs.Statements.{AllGoOut, NotesGoOut, EachAsksOnce, Each
 use Rattle.law_steady.proofs.Asks.{ask_anew, sound}
 use Rattle.law_steady.proofs.Hearing.{all_length}
 use Rattle.law_steady.proofs.Questions.{hosts_asked}
+use Rattle.law_steady.proofs.Untold.{each_untold}
 use Rattle.law_steady.proofs.Steady.{opening_leads, turn_leads, notice_leads, leads, pair, runs_steady}
 use Rattle.law_steady.proofs.Went.{Pair, left_member, left_there, left_grows, opening_pair, entry_pair, now}
 
@@ -30,7 +31,7 @@ left_asks hosts each X Z u head m b s p there at out =
     let here = left_there Z u head m m b s at in
     let grows = left_grows Z u m b s in
     let peers = (let i = now X Y p u m k there here grows in i.peers) in
-    ask_anew s u (length Y.members) s.outbox b.connections (sym peers ∙ all_length s s.outbox b.connections) (out k here) (λ v low other. sound X Y p u m k there here grows (p.asks each) (p.hosts_asked hosts) v low other)
+    ask_anew s u (length Y.members) s.outbox b.connections (sym peers ∙ all_length s s.outbox b.connections) (out k here) (λ v low other. sound X Y p u m k there here grows (p.asks each) (p.hosts_asked hosts) (p.untold each_untold) v low other)
 
 module _ (hosts : EachHostsAsked) (each : EachAsksOnce) (script : Script) (lawful : IsLawful script) (mirrors : EachStepMirrors script) (out : NotesGoOut script) where
   opening_asks : (ps rest : List Program) (p : Program) (X : Vats) → script.vats ≡ ps ++ p ∷ rest → numbers.open_from script zero ps (numbers.begins script) ≡ Runs X → (m : Member) → slice_get X.members (length ps) ≡ Some m

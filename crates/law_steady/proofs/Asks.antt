@@ -17,7 +17,7 @@ use Rattle.def_local.specs.Vats.{Member, connection_for, unconnected, sight_for,
 use Rattle.def_local.specs.Numbers.{Vats, all_written, written_on}
 use Rattle.law_peers.specs.Asking.{AreNew, AskAnew}
 use Rattle.law_peers.specs.Standing.{among}
-use Rattle.law_steady.specs.Statements.{AsksOnce, HostsAsked, GoesOut}
+use Rattle.law_steady.specs.Statements.{AsksOnce, HostsAsked, UntoldUnlessCut, GoesOut}
 use Rattle.law_steady.proofs.Hearing.{set_at, written_or, imports_stay, unlike}
 use Rattle.law_steady.proofs.Owns.{among_found, own_by_host}
 use Rattle.law_steady.proofs.Went.{Grows, Pair, is, now, table}
@@ -122,7 +122,7 @@ in_it x [] bs = inl refl
 in_it x (a ∷ cs) bs = inr (in_it x cs bs)
 
 -- Vat u, which was m in numbers, is k.
-module _ (X Y : Vats) (p : Pair X Y) (u : ℕ) (m k : Member) (there : slice_get X.members u ≡ Some m) (here : slice_get Y.members u ≡ Some k) (grows : Grows m.names k.names) (asks : AsksOnce p.y) (hosts : HostsAsked p.y) where
+module _ (X Y : Vats) (p : Pair X Y) (u : ℕ) (m k : Member) (there : slice_get X.members u ≡ Some m) (here : slice_get Y.members u ≡ Some k) (grows : Grows m.names k.names) (asks : AsksOnce p.y) (hosts : HostsAsked p.y) (untold : UntoldUnlessCut p.y) where
   abbrev f : Local → Found
   f = found u (table_of p.y u (is X Y p u m k there here grows).0)
 
@@ -161,5 +161,5 @@ module _ (X Y : Vats) (p : Pair X Y) (u : ℕ) (m k : Member) (there : slice_get
         let host : host_of r.2 ≡ v = all_among (λ n. host_of n ≡ v) D.questions r.2 (hosts u v low_u low_v other) mine in (
           own_by_host p.y Y u y.0 k (table X Y p u m k there here grows) (p.hosts_now u y.0 y.1) (now X Y p u m k there here grows) n r.2 r.5 (all_among (λ n. refers n ≡ true) D.questions r.2 (let t = may in t.questions) mine) ∙ ap (λ z. z == u) host ∙ unlike v u other,
           not_among front r.0 n r.2 r.4 r.5 (in_front r.2 r.0 r.1 (subst Once r.3 (asks.asked u v low_u low_v other))),
-          not_among (connection_for v k).imports D.imports n r.2 (ap (λ (z : Connection Found). z.imports) same) r.5 (asks.untold u v low_u low_v other r.2 mine),
+          not_among (connection_for v k).imports D.imports n r.2 (ap (λ (z : Connection Found). z.imports) same) r.5 (λ i. asks.untold u v low_u low_v other (untold u v low_u low_v other r.2 mine i) r.2 mine i),
         )

@@ -1,13 +1,11 @@
 -- What a vat was told from the start are roots, and no vat asks for one.
-use Rattle.std.proofs.Common.{◌≡◌, ℕ, zero, suc, Bool, true, false, List, [], ◌∷◌, ◌++◌, Option, Some, None, refl, sym, ap, ◌∙◌, subst, length, ◌==◌}
-use Rattle.std.specs.Prelude.{slice_get}
+use Rattle.std.proofs.Common.{◌≡◌, ℕ, zero, suc, Bool, true, false, List, [], ◌∷◌, ◌++◌, Option, Some, None, refl, sym, subst, ◌==◌}
 use Rattle.def_machine.specs.Values.{Name, Root, Object, Promise, Answer, Gift, Sent, answer_of}
-use Rattle.def_machine.specs.State.{Note, Deliver, Open, Ask, SettledTo, Elsewhere, Shorten, Put, Vat, is_in}
+use Rattle.def_machine.specs.State.{Note, Deliver, Open, Ask, SettledTo, Elsewhere, Shorten, Put, is_in}
 use Rattle.def_run.specs.World as machine
 use Rattle.def_run.specs.World.{Script, Program, Entry, Link, World, Goes, link_at}
-use Rattle.law_name.specs.Names.{AllOf, IsAmong, IsMessageName}
+use Rattle.law_name.specs.Names.{AllOf, IsMessageName}
 use Rattle.law_name.specs.Runs.{KnowsOnce}
-use Rattle.law_name.proofs.Among.{all_among}
 use Rattle.law_name.proofs.Facts.{all_map, all_append}
 use Rattle.law_reference.specs.Logs as wire
 use Rattle.law_reference.proofs.LegMoves.{opened_before, stepped_before}

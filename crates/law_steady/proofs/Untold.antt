@@ -1,16 +1,11 @@
--- What a vat asked another for stands among what that one told it only as a root, or where the two were cut off from one another.
-use Rattle.std.proofs.Common.{◌≡◌, ℕ, zero, ◌<◌, Bool, true, false, List, [], ◌∷◌, ◌++◌, ◌⊎◌, inl, inr, Option, Some, refl, sym, ap, ◌∙◌, subst, length, ◌==◌}
-use Rattle.std.specs.Prelude.{slice_get}
+-- What a vat asked another for stands among what that one told it only where the two were cut off from one another.
+use Rattle.std.proofs.Common.{◌≡◌, ℕ, ◌<◌, Bool, true, false, List, [], ◌∷◌, ◌++◌, ◌⊎◌, inl, inr, Some, refl, sym, subst, length, ◌==◌}
 use Rattle.def_machine.specs.Values.{Value, Null, Flag, Number, Letter, Text, Prim, Broken, Items, Ref, Name, host_of}
-use Rattle.def_machine.specs.State.{Passed, Passeds, Plain, AGift, Many, NoMore, More, Note, Deliver, Open, Ask, SettledTo, Elsewhere, Shorten, Vat}
-use Rattle.def_run.specs.Wire.{connected_at}
-use Rattle.def_run.specs.World as machine
-use Rattle.def_run.specs.World.{Script, Program, Entry, Link, World, Goes, link_at, has_name}
+use Rattle.def_machine.specs.State.{Passed, Passeds, Plain, AGift, Many, NoMore, More, Note, Deliver, Open, Ask, SettledTo, Elsewhere, Shorten}
+use Rattle.def_run.specs.World.{Script, Link, World, link_at, has_name}
 use Rattle.law_name.specs.Names.{IsAmong}
-use Rattle.law_name.specs.Runs.{KnowsOnce}
 use Rattle.law_name.proofs.SameNames.{among_has}
 use Rattle.law_reference.specs.Logs as wire
-use Rattle.law_reference.specs.Cuts.{NoticesFollowCuts}
 use Rattle.law_run.specs.Moves.{IsReached}
 use Rattle.law_run.proofs.Honest.{honest_reached}
 use Rattle.law_frame.proofs.Grow.{export_or}
@@ -19,8 +14,12 @@ use Rattle.law_hearing.proofs.Questions.{questions_logged}
 use Rattle.law_hearing.proofs.Runs.{opened_kept, stepped_kept}
 use Rattle.law_hearing.proofs.Steps.{Asked, AllKept}
 use Rattle.law_local.proofs.Positions.{there_is}
-use Rattle.law_steady.specs.Statements.{OfTwo, AreCutOff}
+use Rattle.law_steady.specs.Statements.{AreCutOff, UntoldUnlessCut, EachUntoldUnlessCut}
 use Rattle.law_steady.proofs.Hearing.{unlike}
+use Rattle.law_frame.proofs.WireRuns as wires
+use Rattle.law_frame.proofs.WireRuns.{Wire}
+use Rattle.law_name.proofs.Among.{all_among}
+use Rattle.law_steady.proofs.Roots.{IsRoot, AllHaveRoots, opened_roots, stepped_roots, questions_no_root, roots_at}
 use Rattle.law_steady.proofs.Questions.{reached, opened_counted, stepped_counted}
 
 -- ---- what was asked for is not exported
@@ -80,9 +79,10 @@ module _ (v : ℕ) (asked : List Name) (z : Name) (has : has_name asked z ≡ tr
 
 -- ---- in a world of a run
 
-module _ (script : Script) (w : World) (kept : AllKept w) (linked : AllLinked script w) (count : length w.vats ≡ length script.vats) (r : IsReached script w) where
-  untold_or : OfTwo w (λ u v. (z : Name) → IsAmong z (connected_at u v w.connections).tables.questions → IsAmong z (connected_at u v w.connections).tables.imports → IsAmong z (wire.roots_of (link_at v u w.links)) ⊎ AreCutOff w u v)
-  untold_or u v low_u low_v other z a b = by l.0.cut m.0.cut refl refl
+module _ (script : Script) (w : World) (kept : AllKept w) (linked : AllLinked script w) (count : length w.vats ≡ length script.vats) (r : IsReached script w) (roots : AllHaveRoots w) (wires : Wire script w) where
+  untold : UntoldUnlessCut w
+  unfolding wire.questions
+  untold u v low_u low_v other z a b = by l.0.cut m.0.cut refl refl
     where
       l : (k : Link) × (link_at v u w.links ≡ Some k)
       l = linked v u (unlike v u other) (subst (λ n. v < n) count low_v) (subst (λ n. u < n) count low_u)
@@ -98,19 +98,21 @@ module _ (script : Script) (w : World) (kept : AllKept w) (linked : AllLinked sc
           let k = kept v u other s.0 t.0 s.1 t.1 l.0 m.0 l.1 m.1 e f in
           by_notes v (Asked w u v) z (among_has (Asked w u v) z asked) k.2 l.0.roots (subst (IsAmong z) k.7 b)
 
-      by : (c d : Bool) → l.0.cut ≡ c → m.0.cut ≡ d → IsAmong z (wire.roots_of (link_at v u w.links)) ⊎ AreCutOff w u v
-      by true d e f = inr (l.0, inr l.1, e)
-      by false true e f = inr (m.0, inl m.1, f)
-      by false false e f = inl (subst (IsAmong z) (sym (roots_is l.0 (link_at v u w.links) l.1)) (told e f))
+      no_root : IsRoot z → ⊥
+      no_root = all_among (λ n. IsRoot n → ⊥) (Asked w u v) z (questions_no_root script w wires u v (link_at u v w.links) refl) asked
 
--- of what a vat asked another for, but for roots and where the two were cut off
-abbrev pub UntoldOr : World → Type 0
-UntoldOr w = OfTwo w (λ u v. (z : Name) → IsAmong z (connected_at u v w.connections).tables.questions → IsAmong z (connected_at u v w.connections).tables.imports → IsAmong z (wire.roots_of (link_at v u w.links)) ⊎ AreCutOff w u v)
+      root : IsAmong z l.0.roots → IsRoot z
+      root i = all_among IsRoot (wire.roots_of (link_at v u w.links)) z (roots_at w roots v u) (subst (IsAmong z) (sym (roots_is l.0 (link_at v u w.links) l.1)) i)
 
-pub each_untold : (script : Script) → KnowsOnce script
-    → ((ps rest : List Program) (w : World) → script.vats ≡ ps ++ rest → machine.open_from script zero ps (machine.begins script) ≡ Goes w → UntoldOr w)
-    × ((w x : World) (es : List Entry) (k : ℕ) → NoticesFollowCuts es → machine.open_from script zero script.vats (machine.begins script) ≡ Goes w → machine.steps_from script es k w ≡ Goes x → UntoldOr x)
+      by : (c d : Bool) → l.0.cut ≡ c → m.0.cut ≡ d → AreCutOff w u v
+      by true d e f = (l.0, inr l.1, e)
+      by false true e f = (m.0, inl m.1, f)
+      by false false e f = absurd (no_root (root (told e f)))
+
+pub each_untold : EachUntoldUnlessCut
 each_untold script once = (
-  λ ps rest w split opened. untold_or script w (opened_kept script once ps rest w split opened) (opened_linked script once ps rest w split opened) (opened_counted script once ps rest w split opened) ((honest_reached script).0 ps rest w split opened),
-  λ w x es k follow opened stepped. untold_or script x (stepped_kept script once w x es k follow opened stepped) (stepped_linked script once w x es k opened stepped) (stepped_counted script once w x es k opened stepped) ((honest_reached script).1 w x es k opened stepped),
+  λ ps rest w split opened. untold script w (opened_kept script once ps rest w split opened) (opened_linked script once ps rest w split opened) (opened_counted script once ps rest w split opened) ((honest_reached script).0 ps rest w split opened)
+      (opened_roots script once ps rest w split opened) (wires.opened_both script once ps rest w split opened).1,
+  λ w x es k follow opened stepped. untold script x (stepped_kept script once w x es k follow opened stepped) (stepped_linked script once w x es k opened stepped) (stepped_counted script once w x es k opened stepped) ((honest_reached script).1 w x es k opened stepped)
+      (stepped_roots script once w x es k opened stepped) (wires.stepped_both script once w x es k opened stepped).1,
 )

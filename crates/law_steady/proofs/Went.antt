@@ -28,7 +28,7 @@ use Rattle.law_local.specs.Runs.{EachStepMirrors}
 use Rattle.law_local.proofs.Positions.{there_is}
 use Rattle.law_local.proofs.Steps.{set_there}
 use Rattle.law_peers.specs.Standing.{SeesAsBefore}
-use Rattle.law_steady.specs.Statements.{AsksOnce, EachAsksOnce, HostsAsked, EachHostsAsked}
+use Rattle.law_steady.specs.Statements.{AsksOnce, EachAsksOnce, HostsAsked, EachHostsAsked, UntoldUnlessCut, EachUntoldUnlessCut}
 use Rattle.law_steady.proofs.Hosted.{Hosted, Apart, hosted_so, apart_so}
 use Rattle.law_steady.proofs.Owns.{sees_as_before}
 use Rattle.law_steady.proofs.Reached.{mirrored, opens_mirror, steps_mirror}
@@ -51,6 +51,7 @@ pub record Pair (X Y : Vats) : Type 0 where
   pub keeps : (u : ℕ) → KeepsPositions x y u
   pub asks : EachAsksOnce → AsksOnce y
   pub hosts_asked : EachHostsAsked → HostsAsked y
+  pub untold : EachUntoldUnlessCut → UntoldUnlessCut y
 
 -- Vat u, which was m in numbers, is k.
 module _ (X Y : Vats) (p : Pair X Y) (u : ℕ) (m k : Member) (there : slice_get X.members u ≡ Some m) (here : slice_get Y.members u ≡ Some k) (grows : Grows m.names k.names) where
@@ -122,6 +123,7 @@ module _ (script : Script) (once : KnowsOnce script) (each : EachStepMirrors scr
         keeps = (every_position script once).0 ps rest p o.world m.0 split o.opened m.1;
         asks = λ a. (a script once).0 (ps ++ p ∷ []) rest m.0 split_on done;
         hosts_asked = λ a. (a script once).0 (ps ++ p ∷ []) rest m.0 split_on done;
+        untold = λ a. (a script once).0 (ps ++ p ∷ []) rest m.0 split_on done;
       }
 
   module _ (follow : NoticesFollowCuts script.schedule) where
@@ -145,6 +147,7 @@ module _ (script : Script) (once : KnowsOnce script) (each : EachStepMirrors scr
             keeps = (every_position script once).1 o.first o.last m.0 es e 1 o.opened o.stepped m.1;
             asks = λ a. (a script once).1 o.first m.0 (es ++ e ∷ []) 1 front_on o.opened done;
             hosts_asked = λ a. (a script once).1 o.first m.0 (es ++ e ∷ []) 1 front_on o.opened done;
+            untold = λ a. (a script once).1 o.first m.0 (es ++ e ∷ []) 1 front_on o.opened done;
           },
           hosted_so script once o.first m.0 (es ++ e ∷ []) o.opened done front_on,
           apart_so script once o.first o.last es o.opened o.stepped,

@@ -78,10 +78,17 @@ EachHostsAsked = InRunsBehindCuts HostsAsked
 abbrev pub AreCutOff : World → ℕ → ℕ → Type 0
 AreCutOff w u v = (l : Link) × ((link_at u v w.links ≡ Some l) ⊎ (link_at v u w.links ≡ Some l)) × (l.cut ≡ true)
 
--- and it was asked for once, and was not told by that one.
+-- and was not told by it, but where the two were cut off,
+abbrev pub UntoldUnlessCut : World → Type 0
+UntoldUnlessCut w = OfTwo w (λ u v. (z : Name) → IsAmong z (connected_at u v w.connections).tables.questions → IsAmong z (connected_at u v w.connections).tables.imports → AreCutOff w u v)
+
+abbrev pub EachUntoldUnlessCut : Type 0
+EachUntoldUnlessCut = InRunsBehindCuts UntoldUnlessCut
+
+-- and it was asked for once, and was not told by that one where the two were cut off either.
 pub record AsksOnce (w : World) : Type 0 where
   pub asked : OfTwo w (λ u v. Once (connected_at u v w.connections).tables.questions)
-  pub untold : OfTwo w (λ u v. (z : Name) → IsAmong z (connected_at u v w.connections).tables.questions → IsAmong z (connected_at u v w.connections).tables.imports → ⊥)
+  pub untold : OfTwo w (λ u v. AreCutOff w u v → (z : Name) → IsAmong z (connected_at u v w.connections).tables.questions → IsAmong z (connected_at u v w.connections).tables.imports → ⊥)
 
 -- so in each world of a run in which each notice stands behind a cut of the same two vats
 abbrev pub EachAsksOnce : Type 0
