@@ -97,16 +97,25 @@ module _ (s : Vat Local) where
 -- ---- by the names of questions
 
 -- the names of a front, of one and of what stands behind it
-split_names : (f : Local → Found) (front rest : List Local) (n : Local) (ns : List Name) → map f (front ++ n ∷ rest) ≡ map Is ns → (cs bs : List Name) × (x : Name) × (ns ≡ cs ++ x ∷ bs) × (map f front ≡ map Is cs) × (f n ≡ Is x)
-split_names f [] rest n [] e = cc
-split_names f [] rest n (y ∷ ns) e = let i : f n ≡ Is y = cc in ([], ns, y, refl, refl, i)
-split_names f (a ∷ front) rest n [] e = cc
-split_names f (a ∷ front) rest n (y ∷ ns) e =
-    let i : f a ≡ Is y = cc in let j : map f (front ++ n ∷ rest) ≡ map Is ns = cc in
-    let r = split_names f front rest n ns j in (y ∷ r.0, r.1, r.2, ap (λ zs. y ∷ zs) r.3, joined i r.4, r.5)
+pub record Parted (f : Local → Found) (xs : List Local) (n : Local) (ns : List Name) : Type 0 where
+  pub before : List Name
+  pub behind : List Name
+  pub name : Name
+  pub whole : ns ≡ before ++ name ∷ behind
+  pub first : map f xs ≡ map Is before
+  pub one : f n ≡ Is name
+
+one_more : (f : Local → Found) (xs : List Local) (n a : Local) (ns : List Name) (y : Name) → f a ≡ Is y → Parted f xs n ns → Parted f (a ∷ xs) n (y ∷ ns)
+one_more f xs n a ns y e r = record { before = y ∷ r.before; behind = r.behind; name = r.name; whole = ap (λ zs. y ∷ zs) r.whole; first = joined e r.first; one = r.one }
   where
     joined : {x y : Found} {xs ys : List Found} → x ≡ y → xs ≡ ys → x ∷ xs ≡ y ∷ ys
     joined e i = cc
+
+parted : (f : Local → Found) (xs rest : List Local) (n : Local) (ns : List Name) → map f (xs ++ n ∷ rest) ≡ map Is ns → Parted f xs n ns
+parted f [] rest n [] e = cc
+parted f [] rest n (y ∷ ns) e = let i : f n ≡ Is y = cc in record { before = []; behind = ns; name = y; whole = refl; first = refl; one = i }
+parted f (a ∷ xs) rest n [] e = cc
+parted f (a ∷ xs) rest n (y ∷ ns) e = let i : f a ≡ Is y = cc in let j : map f (xs ++ n ∷ rest) ≡ map Is ns = cc in one_more f xs n a ns y i (parted f xs rest n ns j)
 
 in_front : (x : Name) (cs bs : List Name) → Once (cs ++ x ∷ bs) → IsAmong x cs → ⊥
 in_front x [] bs h i = i
@@ -152,14 +161,16 @@ module _ (X Y : Vats) (p : Pair X Y) (u : ℕ) (m k : Member) (there : slice_get
         by false j = refl
         by true j = let g = among_found f xs ns n e j in absurd (o (subst (λ z. IsAmong z ns) (name_is (f n) g.name x g.found i) g.here))
 
-    pub sound : IsSound k.vat (connection_for v k)
-    sound front rest n e =
-        let questions : map f (front ++ n ∷ rest) ≡ map Is D.questions = ap (map f) (sym e) ∙ ap (λ (z : Connection Found). z.questions) same in
-        let r = split_names f front rest n D.questions questions in
+    -- by the names of its parts
+    sound_by : (front : List Local) (n : Local) → Parted f front n D.questions → (is_own k.vat.number k.vat.known n ≡ false) × (among front n ≡ false) × (among (connection_for v k).imports n ≡ false)
+    sound_by front n r =
         let y = is X Y p u m k there here grows in
-        let mine : IsAmong r.2 D.questions = subst (IsAmong r.2) (sym r.3) (in_it r.2 r.0 r.1) in
-        let host : host_of r.2 ≡ v = all_among (λ n. host_of n ≡ v) D.questions r.2 (hosts u v low_u low_v other) mine in (
-          own_by_host p.y Y u y.0 k (table X Y p u m k there here grows) (p.hosts_now u y.0 y.1) (now X Y p u m k there here grows) n r.2 r.5 (all_among (λ n. refers n ≡ true) D.questions r.2 (let t = may in t.questions) mine) ∙ ap (λ z. z == u) host ∙ unlike v u other,
-          not_among front r.0 n r.2 r.4 r.5 (in_front r.2 r.0 r.1 (subst Once r.3 (asks.asked u v low_u low_v other))),
-          not_among (connection_for v k).imports D.imports n r.2 (ap (λ (z : Connection Found). z.imports) same) r.5 (λ i. asks.untold u v low_u low_v other (untold u v low_u low_v other r.2 mine i) r.2 mine i),
+        let mine : IsAmong r.name D.questions = subst (IsAmong r.name) (sym r.whole) (in_it r.name r.before r.behind) in
+        let host : host_of r.name ≡ v = all_among (λ n. host_of n ≡ v) D.questions r.name (hosts u v low_u low_v other) mine in (
+          own_by_host p.y Y u y.0 k (table X Y p u m k there here grows) (p.hosts_now u y.0 y.1) (now X Y p u m k there here grows) n r.name r.one (all_among (λ n. refers n ≡ true) D.questions r.name (let t = may in t.questions) mine) ∙ ap (λ z. z == u) host ∙ unlike v u other,
+          not_among front r.before n r.name r.first r.one (in_front r.name r.before r.behind (subst Once r.whole (asks.asked u v low_u low_v other))),
+          not_among (connection_for v k).imports D.imports n r.name (ap (λ (z : Connection Found). z.imports) same) r.one (λ i. asks.untold u v low_u low_v other (untold u v low_u low_v other r.name mine i) r.name mine i),
         )
+
+    pub sound : IsSound k.vat (connection_for v k)
+    sound front rest n e = sound_by front n (parted f front rest n D.questions (ap (map f) (sym e) ∙ ap (λ (z : Connection Found). z.questions) same))

@@ -13,8 +13,8 @@ pub fn runs_are_steady_where_they_ask_anew()
     ensures { RunsAreSteadyWhereTheyAskAnew }
 {}
 
-/// So it is where vats ask each other once for a name, of the other, that the other did not tell, and where notes that ask are put to other
-/// vats of the run.
+/// So it is where in each world a vat asked another once for a name, and, where the two were cut off, for none that the other had told; and
+/// where the notes of each step that ask for something are put to other vats of the run.
 pub fn runs_are_steady()
     ensures { RunsAreSteady }
 {}
