@@ -79,6 +79,13 @@ module _ (script : Script) (once : KnowsOnce script) (w x : World) (es : List En
     gone_is : arrived (link_at v u x.links) ≡ kept.2
     gone_is = ap arrived at ∙ arrived_is l kept.2 kept.5
 
+    -- what the one has of what the other tells is the front of what that one has told
+    pub imports_front : IsFront In.tables.imports Out.tables.exports
+    imports_front = let h = kept in let exported = kept_exports v u (Asked x v u) (Asked x u v) Out In.tables.imports In.tables.answers l.notes h.1 h.8 in let more = exports_start v (Asked x u v) l.notes In.tables.imports in (more.0, exported ∙ more.1)
+
+    pub answers_front : IsFront In.tables.answers Out.tables.questions
+    answers_front = let h = kept in (wire.questions_in u l.notes, kept_questions v u (Asked x v u) (Asked x u v) Out In.tables.imports In.tables.answers l.notes h.1 h.8)
+
     pub as_logged : IsAsLogged x v u
     unfolding wire.exports wire.questions
     as_logged = let h = kept in let A = Asked x u v in record {

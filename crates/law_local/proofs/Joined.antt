@@ -104,7 +104,7 @@ module _ (script : Script) (lawful : IsLawful script) (w x : World) (X : Vats) (
         own_after = (own_promises_ordered script once).1 w y (es ++ entry ∷ []) 1 opened later u r after;
       }
 
-      went_on : WentOn x y u s r
+      pub went_on : WentOn x y u s r
       went_on = record {
         tables = (have_tables script once).1 w y (es ++ entry ∷ []) 1 follow_on opened later;
         puts = puts;

@@ -53,7 +53,7 @@ module _ (script : Script) (once : KnowsOnce script) (ps rest : List Program) (p
   abbrev s : Vat Name
   s = machine.fresh script u p
 
-  at : slice_get x.vats u ≡ Some s
+  pub at : slice_get x.vats u ≡ Some s
   at = later_stay script zero ps (machine.begins script) x opened u (omega arith) ∙ begins_at script ps rest p split
 
   abbrev word : ℕ → ℕ
@@ -68,10 +68,10 @@ module _ (script : Script) (once : KnowsOnce script) (ps rest : List Program) (p
     unfolding found prom_found table_of
     named_at k n e = ap (prom_found k) (more.names k n e)
 
-    root : found u t (Prom zero) ≡ Is (Root u)
+    pub root : found u t (Prom zero) ≡ Is (Root u)
     root = named_at zero (Root u) (root_first script u p)
 
-    roots : (i w : ℕ) → slice_get p.knows i ≡ Some w → found u t (Prom (i + 1)) ≡ Is (Root w)
+    pub roots : (i w : ℕ) → slice_get p.knows i ≡ Some w → found u t (Prom (i + 1)) ≡ Is (Root w)
     roots i w e = let n : suc i ≡ i + 1 = omega arith in subst (λ k. found u t (Prom k) ≡ Is (Root w)) n (named_at (suc i) (Root w) (root_next script u p i w e))
 
   module _ (m : Member) (there : slice_get X.members u ≡ Some m) where
@@ -82,7 +82,7 @@ module _ (script : Script) (once : KnowsOnce script) (ps rest : List Program) (p
       abbrev y : World
       y = world_left x u r (Opens u ∷ []) x.connections
 
-      goes : machine.open_vat script u p x ≡ Goes y
+      pub goes : machine.open_vat script u p x ≡ Goes y
       unfolding machine.open_vat within put_back heard_by connections_after
       goes = ap (within u x (Opens u ∷ []) u (opening (machine.names script u) p.tree script.depth (Root u) (machine.given script.vats p.knows))) at ∙ ap (put_back u x (Opens u ∷ []) u) e
 
@@ -111,7 +111,7 @@ module _ (script : Script) (once : KnowsOnce script) (ps rest : List Program) (p
         own_after = (own_promises_ordered script once).0 (ps ++ p ∷ []) rest y split_on done u r after;
       }
 
-      went_on : WentOn x y u s r
+      pub went_on : WentOn x y u s r
       went_on = record {
         tables = (have_tables script once).0 (ps ++ p ∷ []) rest y split_on done;
         puts = puts;

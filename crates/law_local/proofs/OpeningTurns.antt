@@ -24,7 +24,7 @@ use Rattle.law_local.proofs.OwnSteps.{own_steps_mirror}
 use Rattle.law_local.proofs.Turns.{given, stopped, books_given, books_stopped, own_goes, own_stops}
 
 -- roots have numbers from k on
-abbrev RootsFrom : (Local → Found) → ℕ → List ℕ → Type 0
+abbrev pub RootsFrom : (Local → Found) → ℕ → List ℕ → Type 0
 RootsFrom f k ws = (i w : ℕ) → slice_get ws i ≡ Some w → f (Prom (i + k)) ≡ Is (Root w)
 
 given_same : (f : Local → Found) (ps : List Program) (k : ℕ) (ws : List ℕ) → RootsFrom f k ws → map (maps.binding f) (numbers.given ps k ws) ≡ map (maps.binding Is) (machine.given ps ws)
@@ -45,7 +45,7 @@ module _ (script : Script) (u : ℕ) (p : Program) (x : World) (X : Vats) (s : V
   abbrev theirs : Done Name (Unit {0})
   theirs = opening (machine.names script u) p.tree script.depth (Root u) (machine.given script.vats p.knows) (readied x s)
 
-  opening_same : (d : Done Name (Unit {0})) → theirs ≡ d → books_after d ≡ books_of t → maps.done (found u t) id ours ≡ maps.done Is id d
+  pub opening_same : (d : Done Name (Unit {0})) → theirs ≡ d → books_after d ≡ books_of t → maps.done (found u t) id ours ≡ maps.done Is id d
   unfolding machine.names numbers.numbers
   opening_same d i books =
       let word = draw_word script.key in let gives = given_same (found u t) script.vats 1 p.knows others in

@@ -19,7 +19,7 @@ goes_on (Goes x) (Halts d m X) g f h k = absurd h
 goes_on (Stopped c n x) (Runs X) g f h k = absurd h
 
 -- one more behind what went
-opened_one : (script : Script) (v : ℕ) (ps : List Program) (p : Program) (w x : World) → machine.open_from script v ps w ≡ Goes x → machine.open_from script v (ps ++ p ∷ []) w ≡ then_goes (machine.open_vat script (v + length ps) p x) (λ y. Goes y)
+pub opened_one : (script : Script) (v : ℕ) (ps : List Program) (p : Program) (w x : World) → machine.open_from script v ps w ≡ Goes x → machine.open_from script v (ps ++ p ∷ []) w ≡ then_goes (machine.open_vat script (v + length ps) p x) (λ y. Goes y)
 unfolding machine.open_from then_goes
 opened_one script v [] p w x e = let i : w ≡ x = cc in let j : v ≡ v + zero = omega arith in ap (λ z. then_goes (machine.open_vat script v p z) (λ y. Goes y)) i ∙ ap (λ n. then_goes (machine.open_vat script n p x) (λ y. Goes y)) j
 opened_one script v (q ∷ ps) p w x e = by (machine.open_vat script v q w) e (λ z i. opened_one script (suc v) ps p z x i)
@@ -29,7 +29,7 @@ opened_one script v (q ∷ ps) p w x e = by (machine.open_vat script v q w) e (�
     by (Goes z) i h = let j : suc v + length ps ≡ v + suc (length ps) = omega arith in h z i ∙ ap (λ n. then_goes (machine.open_vat script n p x) (λ y. Goes y)) j
     by (Stopped c n z) i h = cc
 
-stepped_one : (script : Script) (es : List Entry) (e : Entry) (k : ℕ) (w x : World) → machine.steps_from script es k w ≡ Goes x → machine.steps_from script (es ++ e ∷ []) k w ≡ then_goes (machine.step script e (k + length es) x) (λ y. Goes y)
+pub stepped_one : (script : Script) (es : List Entry) (e : Entry) (k : ℕ) (w x : World) → machine.steps_from script es k w ≡ Goes x → machine.steps_from script (es ++ e ∷ []) k w ≡ then_goes (machine.step script e (k + length es) x) (λ y. Goes y)
 unfolding machine.steps_from then_goes
 stepped_one script [] e k w x i = let j : w ≡ x = cc in let l : k ≡ k + zero = omega arith in ap (λ z. then_goes (machine.step script e k z) (λ y. Goes y)) j ∙ ap (λ n. then_goes (machine.step script e n x) (λ y. Goes y)) l
 stepped_one script (d ∷ es) e k w x i = by (machine.step script d k w) i (λ z j. stepped_one script es e (suc k) z x j)
@@ -44,7 +44,7 @@ length_end [] x = refl
 length_end (y ∷ xs) x = ap suc (length_end xs x)
 
 module _ (script : Script) (each : EachStepMirrors script) where
-  openings_mirror : (ps rest : List Program) (v : ℕ) (x : World) (X : Vats) → v ≡ length ps → script.vats ≡ ps ++ rest → machine.open_from script zero ps (machine.begins script) ≡ Goes x → Mirrors x X → RunMirrors (machine.open_from script v rest x) (numbers.open_from script v rest X)
+  pub openings_mirror : (ps rest : List Program) (v : ℕ) (x : World) (X : Vats) → v ≡ length ps → script.vats ≡ ps ++ rest → machine.open_from script zero ps (machine.begins script) ≡ Goes x → Mirrors x X → RunMirrors (machine.open_from script v rest x) (numbers.open_from script v rest X)
   unfolding machine.open_from numbers.open_from then_goes
   openings_mirror ps [] v x X l e opened h = h
   openings_mirror ps (p ∷ rest) v x X l e opened h =
@@ -55,7 +55,7 @@ module _ (script : Script) (each : EachStepMirrors script) where
       from_zero : (qs : List Program) → v ≡ length qs → zero + length qs ≡ v
       from_zero qs m = omega arith
 
-  entries_mirror : (w : World) → machine.open_from script zero script.vats (machine.begins script) ≡ Goes w → (es rest : List Entry) (k : ℕ) (x : World) (X : Vats) → k ≡ 1 + length es → script.schedule ≡ es ++ rest → machine.steps_from script es 1 w ≡ Goes x → Mirrors x X → RunMirrors (machine.steps_from script rest k x) (numbers.steps_from script rest k X)
+  pub entries_mirror : (w : World) → machine.open_from script zero script.vats (machine.begins script) ≡ Goes w → (es rest : List Entry) (k : ℕ) (x : World) (X : Vats) → k ≡ 1 + length es → script.schedule ≡ es ++ rest → machine.steps_from script es 1 w ≡ Goes x → Mirrors x X → RunMirrors (machine.steps_from script rest k x) (numbers.steps_from script rest k X)
   unfolding machine.steps_from numbers.steps_from then_goes
   entries_mirror w opened es [] k x X l e stepped h = h
   entries_mirror w opened es (d ∷ rest) k x X l e stepped h =

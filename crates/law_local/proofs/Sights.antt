@@ -98,7 +98,7 @@ module _ (u : ℕ) (t : Table) (good : IsTable u t) (r : Vat Name) (p : Vat Loca
   same_self : (v : ℕ) → (v == v) ≡ true
   same_self v = eq-eqb v v refl
 
-  own_so : (a : Local) (n : Name) → refers_here a ≡ true → found u t a ≡ Is n → (host_of n == u) ≡ is_own p.number p.known a
+  pub own_so : (a : Local) (n : Name) → refers_here a ≡ true → found u t a ≡ Is n → (host_of n == u) ≡ is_own p.number p.known a
   unfolding refers_here found is_own host_of
   own_so (Obj i) n b e = let j : Object u i ≡ n = cc in ap (λ x. host_of x == u) (sym j) ∙ same_self u
   own_so (Prom k) n b e = own_prom k n (some_name (slice_get t.names k) k n e)

@@ -318,7 +318,7 @@ unfolding numbers.fresh_from
 members_count script v [] = refl
 members_count script v (p ∷ ps) = ap suc (members_count script (suc v) ps)
 
-vats_count : (script : Script) (v : ℕ) (ps : List Program) → length (machine.fresh_from script v ps) ≡ length ps
+pub vats_count : (script : Script) (v : ℕ) (ps : List Program) → length (machine.fresh_from script v ps) ≡ length ps
 unfolding machine.fresh_from
 vats_count script v [] = refl
 vats_count script v (p ∷ ps) = ap suc (vats_count script (suc v) ps)

@@ -33,19 +33,19 @@ use Rattle.law_local.proofs.Writing.{writings_mirror, put_other, after_put}
 
 -- ---- one vat put in its place
 
-set_other : {A : Type 0} (xs : List A) (i j : ℕ) (y : A) → (i ≡ j → ⊥) → slice_get (slice_set xs i y) j ≡ slice_get xs j
+pub set_other : {A : Type 0} (xs : List A) (i j : ℕ) (y : A) → (i ≡ j → ⊥) → slice_get (slice_set xs i y) j ≡ slice_get xs j
 set_other [] i j y n = refl
 set_other (x ∷ xs) zero zero y n = absurd (n refl)
 set_other (x ∷ xs) zero (suc j) y n = refl
 set_other (x ∷ xs) (suc i) zero y n = refl
 set_other (x ∷ xs) (suc i) (suc j) y n = set_other xs i j y (λ e. n (ap suc e))
 
-set_same : {A : Type 0} (xs : List A) (i : ℕ) (y z : A) → slice_get (slice_set xs i y) i ≡ Some z → z ≡ y
+pub set_same : {A : Type 0} (xs : List A) (i : ℕ) (y z : A) → slice_get (slice_set xs i y) i ≡ Some z → z ≡ y
 set_same [] i y z e = cc
 set_same (x ∷ xs) zero y z e = cc
 set_same (x ∷ xs) (suc i) y z e = set_same xs i y z e
 
-put_beside : {A : Type 0} (xs : List A) (i j : ℕ) (y : A) → (i ≡ j → ⊥) → slice_get (put_at i y xs) j ≡ slice_get xs j
+pub put_beside : {A : Type 0} (xs : List A) (i j : ℕ) (y : A) → (i ≡ j → ⊥) → slice_get (put_at i y xs) j ≡ slice_get xs j
 unfolding put_at
 put_beside [] i j y n = refl
 put_beside (x ∷ xs) zero zero y n = absurd (n refl)
@@ -53,7 +53,7 @@ put_beside (x ∷ xs) zero (suc j) y n = refl
 put_beside (x ∷ xs) (suc i) zero y n = refl
 put_beside (x ∷ xs) (suc i) (suc j) y n = put_beside xs i j y (λ e. n (ap suc e))
 
-put_here : {A : Type 0} (xs : List A) (i : ℕ) (y z : A) → slice_get (put_at i y xs) i ≡ Some z → z ≡ y
+pub put_here : {A : Type 0} (xs : List A) (i : ℕ) (y z : A) → slice_get (put_at i y xs) i ≡ Some z → z ≡ y
 unfolding put_at
 put_here [] i y z e = cc
 put_here (x ∷ xs) zero y z e = cc
@@ -71,7 +71,7 @@ put_there [] i y h = absurd (omega arith)
 put_there (x ∷ xs) zero y h = refl
 put_there (x ∷ xs) (suc i) y h = put_there xs i y (omega arith)
 
-set_there : {A : Type 0} (xs : List A) (i : ℕ) (y : A) → i < length xs → slice_get (slice_set xs i y) i ≡ Some y
+pub set_there : {A : Type 0} (xs : List A) (i : ℕ) (y : A) → i < length xs → slice_get (slice_set xs i y) i ≡ Some y
 set_there [] i y h = absurd (omega arith)
 set_there (x ∷ xs) zero y h = refl
 set_there (x ∷ xs) (suc i) y h = set_there xs i y (omega arith)

@@ -48,7 +48,7 @@ books_given t r a known mails = cc (known, mails)
 
 module _ (word : ℕ → ℕ) (u : ℕ) (t : Table) (good : IsTable u t) where
   -- a turn, where a vat names what arrives by its own numbers
-  taking_same : (tree : List Node) (depth : ℕ) (m : Message Local) (n : Message Name) → maps.message (found u t) m ≡ maps.message Is n → (q : Vat Local) (s : Vat Name) (d : Done Name (Unit {0})) → StandsFor u t q s → taking (naming word u) tree depth n s ≡ d → books_after d ≡ books_of t
+  pub taking_same : (tree : List Node) (depth : ℕ) (m : Message Local) (n : Message Name) → maps.message (found u t) m ≡ maps.message Is n → (q : Vat Local) (s : Vat Name) (d : Done Name (Unit {0})) → StandsFor u t q s → taking (naming word u) tree depth n s ≡ d → books_after d ≡ books_of t
       → maps.done (found u t) id (taking (numbering {W = Local} word) tree depth m q) ≡ maps.done Is id d
   taking_same tree depth m n e q s d stands i books =
       step_stands u t good id id (taking (numbering {W = Local} word) tree depth m) (taking (naming word u) tree depth n) (taking (finding word u) tree depth (maps.message (found u t) m))
@@ -56,7 +56,7 @@ module _ (word : ℕ → ℕ) (u : ℕ) (t : Table) (good : IsTable u t) where
       (rw e (sim_taking Is (λ x. x) (naming word u) (finding word u) (λ (b : Books Found). Unit {0}) (is_renames word u) tree depth n)) q s stands (ap books_after i ∙ books)
       ∙ ap (maps.done Is id) i
 
-  notice_same : (c : ℕ) (q : Vat Local) (s : Vat Name) (d : Done Name (Unit {0})) → StandsFor u t q s → notice (naming word u) c s ≡ d → books_after d ≡ books_of t → maps.done (found u t) id (notice (numbering {W = Local} word) c q) ≡ maps.done Is id d
+  pub notice_same : (c : ℕ) (q : Vat Local) (s : Vat Name) (d : Done Name (Unit {0})) → StandsFor u t q s → notice (naming word u) c s ≡ d → books_after d ≡ books_of t → maps.done (found u t) id (notice (numbering {W = Local} word) c q) ≡ maps.done Is id d
   notice_same c q s d stands i books =
       step_stands u t good id id (notice (numbering {W = Local} word) c) (notice (naming word u) c) (notice (finding word u) c)
       (sim_notice (found u t) (λ (x : Local). Name.Root 0) (numbering word) (finding word u) (FitsTable u t good) (found_renames u t good word (λ (x : Local). Name.Root 0)) c)
@@ -65,7 +65,7 @@ module _ (word : ℕ → ℕ) (u : ℕ) (t : Table) (good : IsTable u t) where
 
 -- ---- a step that goes on both sides
 
-queued : (a b : Vat Found) (xs ys : List (Message Found)) → a ≡ b → xs ≡ ys → record a { queue = xs } ≡ record b { queue = ys }
+pub queued : (a b : Vat Found) (xs ys : List (Message Found)) → a ≡ b → xs ≡ ys → record a { queue = xs } ≡ record b { queue = ys }
 queued a b xs ys e i = ap (λ (z : Vat Found). record z { queue = xs }) e ∙ ap (λ (zs : List (Message Found)). record b { queue = zs }) i
 
 pub own_goes : (x : World) (X : Vats) (u : ℕ) (m : Member) (r : Vat Name) (p : Vat Local) (head : List Event) (n : ℕ) (d : Done Name (Unit {0})) (l : Done Local (Unit {0})) → d ≡ Gives tt r → l ≡ Gives tt p → heard_by head x.connections ≡ x.connections

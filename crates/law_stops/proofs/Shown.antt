@@ -36,7 +36,7 @@ gift_more : (d l : List ℕ) (h i : ℕ) → WasDrawn d i → shown_gift (d ++ l
 unfolding shown_gift
 gift_more d l h i a = ap (λ p. name.Gift h p) (place_more d l (word_of i) a)
 
-made_more : (vats : List (Vat Name)) (d l : List ℕ) (n : Name) → WasMade vats d n → shown_name (d ++ l) n ≡ shown_name d n
+pub made_more : (vats : List (Vat Name)) (d l : List ℕ) (n : Name) → WasMade vats d n → shown_name (d ++ l) n ≡ shown_name d n
 unfolding shown_name
 made_more vats d l (Gift h i) a = gift_more d l h i a
 made_more vats d l (Root w) a = refl

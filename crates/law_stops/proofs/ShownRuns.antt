@@ -55,7 +55,7 @@ module _ (script : Script) where
 
   -- ---- each world of a run
 
-  abbrev Both : World → Type 0
+  abbrev pub Both : World → Type 0
   Both x = Stands script x × AllShown x
 
   then_both : (x : World) (r : Run) (f : World → Run) → ((y : World) → r ≡ Going y → Both y) → ((y : World) → Both y → f y ≡ Going x → Both x) → world.then_goes r f ≡ Going x → Both x
@@ -63,7 +63,7 @@ module _ (script : Script) where
   then_both x (Going y) f a b e = b y (a y refl) e
   then_both x (Stopped c n y) f a b e = cc
 
-  steps_both : (es : List Entry) (k : ℕ) (w x : World) → Both w → world.steps_from script es k w ≡ Going x → Both x
+  pub steps_both : (es : List Entry) (k : ℕ) (w x : World) → Both w → world.steps_from script es k w ≡ Going x → Both x
   unfolding world.steps_from
   steps_both [] k w x h e = subst (λ y. Both y) (going_is w x e) h
   steps_both (entry ∷ es) k w x h e = then_both x (world.step script entry k w) (world.steps_from script es (suc k))
@@ -87,10 +87,10 @@ module _ (script : Script) where
   unfolding world.begins
   begins_both once = (begins_stands script once, tt)
 
-  opened_both : KnowsOnce script → (ps rest : List Program) (w : World) → script.vats ≡ ps ++ rest → world.open_from script zero ps (world.begins script) ≡ Going w → Both w
+  pub opened_both : KnowsOnce script → (ps rest : List Program) (w : World) → script.vats ≡ ps ++ rest → world.open_from script zero ps (world.begins script) ≡ Going w → Both w
   opened_both once ps rest w e i = opens_both [] ps rest (world.begins script) w e (begins_both once) i
 
-  all_opened : KnowsOnce script → (w : World) → world.open_from script zero script.vats (world.begins script) ≡ Going w → Both w
+  pub all_opened : KnowsOnce script → (w : World) → world.open_from script zero script.vats (world.begins script) ≡ Going w → Both w
   all_opened once w e = opened_both once script.vats [] w (sym (append-nil script.vats)) e
 
   -- ---- the whole run

@@ -1,0 +1,13 @@
+pub mod Owns
+pub mod Reached
+pub mod Draws
+pub mod Shown
+pub mod Went
+pub mod Hearing
+pub mod Hosted
+pub mod Steady
+pub mod Asks
+pub mod Anew
+pub mod Questions
+pub mod Untold
+pub mod Roots
