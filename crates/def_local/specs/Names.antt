@@ -96,12 +96,12 @@ names_after u t before carried brought s =
 
 -- ---- the name of a number
 
--- at vat u, where an object of vat h at position p is that
+-- at vat u, where an object of vat h at position p is that; a message that is not there, of which no line tells, is called as one of the vat's own
 unfoldable pub name_by : ℕ → (ℕ → ℕ → Name) → Names → Local → Name
 name_by u far t (Obj i) = Object u i
 name_by u far t (Prom k) = unwrap_or (slice_get t.known k) (Root u)
 name_by u far t (Far h p) = far h p
-name_by u far t (Mess j) = mail_at t.mails (Mess j)
+name_by u far t (Mess j) = unwrap_or (slice_get t.mails j) (Sent (record { sender = u; number = j }))
 
 -- opens each definition of this file
 unfoldable pub opened_names : Unit {0}

@@ -76,16 +76,18 @@ link_of l = record { from = l.from; to = l.to; cut = l.cut; notes = []; roots = 
 unfoldable pub exported : List Member → ℕ → ℕ → ℕ → Option Local
 exported ms v u p = elim (slice_get ms v) [ Some m ↦ slice_get (connection_for u m).exports p | None ↦ None ]
 
-unfoldable pub object_at : ℕ → Option Local → Name
-object_at v (Some (Obj i)) = Object v i
-object_at v (Some (Prom k)) = Root v
-object_at v (Some (Far h p)) = Root v
-object_at v (Some (Mess j)) = Root v
-object_at v None = Root v
+-- An object of vat v stands at position p. Of a promise, and where nothing stands, no line tells: as a table of numbers has it, the object
+-- is that of number 0 there, and that of the position's own number.
+unfoldable pub object_at : ℕ → ℕ → Option Local → Name
+object_at v p (Some (Obj i)) = Object v i
+object_at v p (Some (Prom k)) = Object v zero
+object_at v p (Some (Far h q)) = Object v zero
+object_at v p (Some (Mess j)) = Object v zero
+object_at v p None = Object v p
 
 -- the object of vat h that it exported to vat u at that position
 unfoldable pub far_name : List Member → ℕ → ℕ → ℕ → Name
-far_name ms u h p = object_at h (exported ms h u p)
+far_name ms u h p = object_at h p (exported ms h u p)
 
 -- the name of a number of vat u, which has these names
 unfoldable pub name_at_vat : List Member → ℕ → Names → Local → Name

@@ -1,18 +1,20 @@
 -- A note that a member heard arrives.
 use Rattle.std.proofs.Common.{◌≡◌, ℕ, true, false, List, [], ◌∷◌, ◌++◌, map, drop, length, Option, Some, None, Result, Ok, Err, refl, sym, ap, subst, ◌∙◌, append_assoc, append-nil}
 use Rattle.std.specs.Prelude.{IfSome, OnOk, slice_set}
+use Rattle.std.proofs.lemmas.List.{map-append}
+use Rattle.std.proofs.Math.Seq.{drop-append_seam}
 use Rattle.def_local.specs.Vats.{Member as Theirs, asked_by, connection_for, heard_on}
 use Rattle.def_machine.specs.Arrive.{New, arrive}
 use Rattle.def_machine.specs.State as machine
 use Rattle.def_machine.specs.State.{Act, Done, Note}
 use Rattle.def_machine.specs.Values.{Words, Local, Mess, Prom}
 use Rattle.def_op.specs.Frames.{IsOp, Operation}
-use Rattle.def_run.specs.Connections.{Connection}
+use Rattle.def_run.specs.Connections.{Connection, Learnt}
 use Rattle.ev_member.proofs.Heard.{connection_here, fits, is_heard, reads, refused, the_note}
 use Rattle.ev_member.proofs.Steps.{ComesTo, came, came_outbox, came_references, host_comes, host_stops, is_came, leaves, references_before}
 use Rattle.ev_member.proofs.Taking.{answers_are, answers_in, new_imports, set_for, taken_connection, taken_for}
 use Rattle.ev_member.proofs.Worlds.{grown_world, sees_back, sees_grown}
-use Rattle.ev_member.specs.Hearing.{AllOwn, Hears, HearsSo, HeardNote, IsSteadyHearing, answer_of, asked_of, frame_heard, having, taken, with_texts}
+use Rattle.ev_member.specs.Hearing.{AllOwn, BringsSo, Hears, HearsSo, HeardNote, IsSteadyHearing, answer_of, asked_of, frame_heard, having, taken, with_texts}
 use Rattle.ev_member.specs.Sending.{packed, sending_of}
 use Rattle.ev_member.specs.Standing.{IsFound, Sees, with_draws}
 use Rattle.ev_member.specs.declared.member.Member.{Member}
@@ -165,10 +167,22 @@ module _ (fuel : ℕ) (drawn : List ℕ) (m : Theirs) (q c : Member) (found : Is
   learnt_is : c.learnt ≡ put_all news.gifts q.learnt → map learnt_of c.learnt ≡ h.after.learnt
   learnt_is e = ap (map learnt_of) (e ∙ (fits fuel drawn m q found v bytes spelled note news heard).1)
 
-  module _ (s : machine.Vat Local) (references : HasReferences new.heap.texts new.refs s) (answers : map Prom (answers_in due) ≡ asked_by h.after.known s h.read) (steady : IsSteadyHearing v m h s) where
-    imports_are : drop (length (connection_for v m).imports) h.after.imports ≡ map local_of news.imports
-    imports_are = ap (λ (x : Connection Local). drop (length x.imports) h.after.imports) (connection_here fuel drawn m q found v) ∙ new_imports t news.imports
+  imports_are : drop (length (connection_for v m).imports) h.after.imports ≡ map local_of news.imports
+  imports_are = ap (λ (x : Connection Local). drop (length x.imports) h.after.imports) (connection_here fuel drawn m q found v) ∙ new_imports t news.imports
 
+  gifts_are : drop (length m.learnt) h.after.learnt ≡ map learnt_of news.gifts
+  gifts_are =
+      ap (λ (gs : List (Learnt Local)). drop (length gs) h.after.learnt) (sym found.rest.learnt)
+      ∙ ap (drop (length (map learnt_of q.learnt))) (map-append learnt_of q.learnt news.gifts)
+      ∙ drop-append_seam (map learnt_of q.learnt) (map learnt_of news.gifts)
+
+  -- what the frame brought
+  pub brings : BringsSo v m (frame_heard v m bytes) news
+  brings =
+      subst (λ (o : Option HeardNote). BringsSo v m o news) (sym (is_heard fuel drawn m q found v bytes spelled note news heard))
+      (record { imports = sym imports_are; gifts = sym gifts_are; known = refl })
+
+  module _ (s : machine.Vat Local) (references : HasReferences new.heap.texts new.refs s) (answers : map Prom (answers_in due) ≡ asked_by h.after.known s h.read) (steady : IsSteadyHearing v m h s) where
     tables_for : AreFor new.refs q.connections.items → AreFor new.refs tables
     tables_for all =
         set_for new.refs q.connections.items v (taken news due t) all

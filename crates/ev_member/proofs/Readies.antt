@@ -51,3 +51,7 @@ readies_so q z m fuel words e same is = subst (λ (x : Member). IsFound fuel (wo
 -- a vat that did not stop stays sound
 pub stays_ready : (v z : Vat) (fuel : ℕ) (words : Drawn) → z ≡ record v { host = readied_host fuel words v.host } → IsReady v → IsReady z
 stays_ready v z fuel words e ready = subst IsReady (sym e) (λ going. beside_sound v.host.inside (ready going) (readied fuel words v.host.inside) refl refl refl)
+
+-- what a step finds is the member as it is between two steps
+pub is_between : (fuel : ℕ) (drawn : List ℕ) (m : Theirs) (c : Member) → IsFound fuel drawn m c → IsMember m c
+is_between fuel drawn m c found = record { vat = λ w sees. ap (λ (v : machine.Vat Local). with_draws 0 [] v) (found.vat w sees); rest = found.rest }

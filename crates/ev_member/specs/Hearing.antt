@@ -1,5 +1,5 @@
 -- What a member hears of a frame, as the machine's run in numbers has it.
-use Rattle.std.specs.Prelude.{◌≡◌, ◌==◌, ℕ, Bool, true, false, if◌then◌else◌, List, [], ◌∷◌, ◌++◌, drop, length, slice_set, option_map, Option, Some, None, Result, Ok, Err}
+use Rattle.std.specs.Prelude.{◌≡◌, ◌==◌, ℕ, Bool, true, false, if◌then◌else◌, List, [], ◌∷◌, ◌++◌, drop, length, map, slice_set, option_map, Option, Some, None, Result, Ok, Err}
 use Rattle.def_local.specs.Vats.{Member as Theirs, asked_by, connection_for, heard_in, heard_on, is_own}
 use Rattle.def_machine.specs.Arrive.{Incoming, arrive}
 use Rattle.def_machine.specs.State as machine
@@ -17,7 +17,9 @@ use Rattle.ev_member.specs.declared.member.Member.{Member}
 use Rattle.ev_member.specs.declared.sending.Sending.{Sending}
 use Rattle.ev_op.specs.Decoded.{decoded}
 use Rattle.ev_read.specs.Bringing.{Told, told}
+use Rattle.ev_peer.specs.Standing.{local_of}
 use Rattle.ev_read.specs.Hearing.{Out}
+use Rattle.ev_read.specs.Reading.{learnt_of}
 use Rattle.ev_read.specs.Taking.{imported_all}
 use Rattle.ev_read.specs.declared.news.Hearing.{Hearing}
 use Rattle.ev_read.specs.declared.news.News.{News}
@@ -114,3 +116,17 @@ HearsSo v m h read (Err Memory) c d = Unit {0}
 abbrev pub Hears : {A : Type 0} → Naming Local Local → ℕ → List ℕ → ℕ → Theirs → (A → List Sending) → Result (Option A) VatStop → Member → Member → Option HeardNote → Type 0
 Hears K fuel drawn v m read r before after None = IdlesSo r before after
 Hears K fuel drawn v m read r before after (Some h) = HearsSo v m h read r after (arrive K v h.read (with_draws fuel drawn m.vat))
+
+-- ---- what a frame brought
+
+-- What a frame of vat v brought to m beside its note, by what was heard of it: what came to stand at positions, the gifts that were learnt, and
+-- how many names are known by then.
+pub record Brings (v : ℕ) (m : Theirs) (h : HeardNote) (n : News) : Type 0 where
+  pub imports : map local_of n.imports ≡ drop (length (connection_for v m).imports) h.after.imports
+  pub gifts : map learnt_of n.gifts ≡ drop (length m.learnt) h.after.learnt
+  pub known : n.known ≡ h.after.known
+
+-- something was heard, and brought that
+abbrev pub BringsSo : ℕ → Theirs → Option HeardNote → News → Type 0
+BringsSo v m (Some h) n = Brings v m h n
+BringsSo v m None n = ⊥

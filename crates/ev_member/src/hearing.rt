@@ -1,10 +1,10 @@
 //! A vat with its connections hears the frames of its peers.
 
-ghost use Rattle.std.specs.Prelude.{◌≡◌, ◌++◌, ℕ, List, None, IfOk, OnOk, slice_set};
+ghost use Rattle.std.specs.Prelude.{◌≡◌, ◌++◌, ℕ, List, None, IfOk, IfSome, OnOk, slice_set};
 ghost use Rattle.def_local.specs.Vats.{Member as Theirs};
 ghost use Rattle.def_machine.specs.Arrive as machine;
 ghost use Rattle.def_machine.specs.Values.{Local, Words};
-ghost use Rattle.ev_member.specs.Hearing.{Hears, answer_of, answered_if, asked_of, frame_heard, heard_view, taken, with_texts};
+ghost use Rattle.ev_member.specs.Hearing.{BringsSo, Hears, answer_of, answered_if, asked_of, frame_heard, heard_view, taken, with_texts};
 ghost use Rattle.ev_member.specs.Standing.{IsFound};
 ghost use Rattle.ev_pass.specs.Reading.{names_under};
 ghost use Rattle.ev_read.specs.Hearing as code;
@@ -28,6 +28,13 @@ use ev_read::taking::take_in;
 use ev_receive::Heard;
 use ev_tables::Connection;
 use ev_vat::{Vat, VatStop};
+
+/// What a frame came to: the frames to be sent, and what it brought besides its note.
+#[derive(Drop)]
+pub struct Arrival {
+    pub sendings: Vec<Sending>,
+    pub news: News,
+}
 
 /// Keeps texts, which have the next numbers. After want of memory some are kept.
 fn keep_texts(vat: &mut Vat, texts: &[Str]) -> Result<(), Memory>
@@ -165,12 +172,13 @@ impl Member {
         }
     }
 
-    /// A frame of that vat comes in: the note that it says arrives, and it answers the frames to be sent. A malformed frame is answered by
-    /// none, and leaves the member as it was.
-    pub fn hear(&mut self, from: VatId, frame: &[u8]) -> Result<Option<Vec<Sending>>, VatStop>
+    /// A frame of that vat comes in: the note that it says arrives, and it answers the frames to be sent, and what came to stand at
+    /// positions, was learnt and known by the frame. A malformed frame is answered by none, and leaves the member as it was.
+    pub fn hear(&mut self, from: VatId, frame: &[u8]) -> Result<Option<Arrival>, VatStop>
         requires ready { IsReady self.old.vat }
         ensures step { (fuel : ℕ) (drawn : List ℕ) (m : Theirs) → IsFound fuel drawn m self.old
-            → Hears (names_under self.old.vat.host.inside.words.key) fuel drawn from m (λ xs. xs.items) result self.old self.new (frame_heard from m frame.now) }
+            → Hears (names_under self.old.vat.host.inside.words.key) fuel drawn from m (λ a. a.sendings.items) result self.old self.new (frame_heard from m frame.now) }
+        ensures news { (fuel : ℕ) (drawn : List ℕ) (m : Theirs) → IsFound fuel drawn m self.old → IfOk result (λ o. IfSome o (λ a. BringsSo from m (frame_heard from m frame.now) a.news)) }
         ensures ready { OnOk result (IsReady self.new.vat) }
         ensures key { self.old.vat.stopped ≡ None → OnOk result (self.new.vat.host.inside.words.key ≡ self.old.vat.host.inside.words.key) }
     {
@@ -182,6 +190,9 @@ impl Member {
         come_in(&mut self.vat, from, note, &news)?;
         let answer = answer_of(asked, news.known, self.vat.host());
         take_from(&mut self.connections, &mut self.learnt, from, &news, answer)?;
-        Ok(Some(self.send()?))
+        Ok(Some(Arrival {
+            sendings: self.send()?,
+            news,
+        }))
     }
 }

@@ -6,5 +6,6 @@ pub mod member;
 pub mod sending;
 mod starting;
 
+pub use hearing::Arrival;
 pub use member::Member;
 pub use sending::Sending;

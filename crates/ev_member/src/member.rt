@@ -1,6 +1,6 @@
 //! A vat with its connections and the gifts that it learnt.
 
-ghost use Rattle.std.specs.Prelude.{◌≡◌, ℕ, List, None, IfErr, IfOk, OnOk, map};
+ghost use Rattle.std.specs.Prelude.{◌≡◌, ℕ, List, None, IfErr, IfOk, OnOk, length, map, slice_get};
 ghost use Rattle.def_local.specs.Names.{Names};
 ghost use Rattle.def_local.specs.Vats.{Member as Theirs};
 ghost use Rattle.def_machine.specs.Arrive as machine;
@@ -15,12 +15,13 @@ ghost use Rattle.ev_pass.specs.Acts.{words_by};
 ghost use Rattle.ev_pass.specs.Reading.{names_under};
 ghost use Rattle.ev_vat.specs.Vat.{IsReady};
 ghost use Rattle.ev_vat.specs.declared.vat.VatStop.TheVariants.{Memory as NoMemory};
-ghost use Rattle.ev_write.specs.Putting.{all_written, put_all};
+ghost use Rattle.ev_write.specs.Putting.{all_written, put_all, table_for};
 
 use crate::sending::{Sending, send_all};
 use crate::starting::first_connections;
 use def_kernel::Kernel;
-use ev_base::{Limits, Memory, VatId};
+use def_op::Desc;
+use ev_base::{Limits, Memory, Value, VatId};
 use ev_intro::Words;
 use ev_read::LearntTable;
 use ev_tables::Connection;
@@ -74,10 +75,55 @@ impl Member {
     pub fn ready(&mut self, fuel: u32, words: &mut Words)
         ensures found { (m : Theirs) → words.old.key ≡ self.old.vat.host.inside.words.key → IsMember m self.old → IsFound fuel (words_by words.old.key words.old.count) m self.new }
         ensures words { words.new ≡ self.old.vat.host.inside.words }
+        ensures kept { self.new.vat.host.inside.words ≡ words.old }
         ensures stopped { self.new.vat.stopped ≡ self.old.vat.stopped }
         ensures ready { IsReady self.old.vat → IsReady self.new.vat }
     {
         self.vat.ready(fuel, words);
+    }
+
+    /// The words of the run are given back for those that the vat had before, with the fuel that is left. What the step told and put is
+    /// forgotten.
+    pub fn give_back(&mut self, words: &mut Words) -> u32
+        ensures fuel { result ≡ self.old.vat.host.inside.micro.fuel }
+        ensures words { words.new ≡ self.old.vat.host.inside.words }
+        ensures kept { self.new.vat.host.inside.words ≡ words.old }
+        ensures member { (m : Theirs) → words.old.key ≡ self.old.vat.host.inside.words.key → IsMember m self.old → IsMember m self.new }
+        ensures ready { IsReady self.old.vat → IsReady self.new.vat }
+    {
+        let fuel = self.vat.inside().micro.fuel;
+        self.ready(0, words);
+        fuel
+    }
+
+    /// How much that peer exported to the vat.
+    pub fn imports(&self, peer: VatId) -> u64
+        ensures { result ≡ length (table_for peer self.now.connections.items).imports }
+    {
+        match self.connections.get(peer.0 as usize) {
+            Some(connection) => connection.next_import(),
+            None => 0,
+        }
+    }
+
+    /// How much the vat exported to that peer.
+    pub fn exports(&self, peer: VatId) -> u64
+        ensures { result ≡ length (table_for peer self.now.connections.items).exports }
+    {
+        match self.connections.get(peer.0 as usize) {
+            Some(connection) => connection.next_export(),
+            None => 0,
+        }
+    }
+
+    /// What the vat exported to that peer at a position, if something.
+    pub fn exported(&self, peer: VatId, position: u64) -> Option<Value>
+        ensures { result ≡ slice_get (table_for peer self.now.connections.items).exports position }
+    {
+        match self.connections.get(peer.0 as usize) {
+            Some(connection) => connection.entry(&Desc::YourExport(position)),
+            None => None,
+        }
     }
 
     /// Writes what the step at hand put.

@@ -1,10 +1,10 @@
 mod Entries
-mod Each
+pub mod Each
 mod Growth
 mod Places
-mod Saying
-mod Shows
+pub mod Saying
+pub mod Shows
 mod Passing
 mod Hearing
-mod NotesShown
+pub mod NotesShown
 mod Later

@@ -1,5 +1,6 @@
 -- Gifts that a vat learnt as gifts, under host, provider and word together, in the order of coming.
 use Rattle.std.specs.Prelude.{ℕ, Bool, ◌&&◌, ◌==◌, if◌then◌else◌, List, [], ◌∷◌, Option, Some, None}
+use Rattle.ev_pass.specs.declared.draw.Swiss.{Swiss}
 
 pub record LearntGift : Type 0 where
   pub host : ℕ
@@ -9,6 +10,10 @@ pub record LearntGift : Type 0 where
 
 abbrev pub LearntGifts : Type 0
 LearntGifts = List LearntGift
+
+-- what tells a gift from the others, and its name
+abbrev pub key_and_name : LearntGift → ℕ × Swiss × ℕ
+key_and_name g = (g.host, record { provider = g.provider; word = g.word }, g.name)
 
 abbrev pub is_under : ℕ → ℕ → ℕ → LearntGift → Bool
 is_under host provider word g = (host == g.host) && ((provider == g.provider) && (word == g.word))

@@ -1,9 +1,10 @@
 //! The gifts that a vat learnt as gifts.
 
-ghost use Rattle.std.specs.Prelude.{◌≡◌, [], OnErr, OnOk, length, slice_get};
-ghost use Rattle.ev_read.specs.Learnt.{find, put, put_all, put_some};
+ghost use Rattle.std.specs.Prelude.{◌≡◌, [], OnErr, OnOk, length, option_map, slice_get};
+ghost use Rattle.ev_read.specs.Learnt.{find, key_and_name, put, put_all, put_some};
 
 use ev_base::{Memory, PromId, VatId};
+use ev_pass::Swiss;
 use indexmap::IndexMap;
 use std::alloc::Global;
 use std::marker::Model;
@@ -66,8 +67,24 @@ impl LearntTable {
         self.put(host.0, provider.0, word, name.0)
     }
 
+    /// The gift at a place, in the order of coming: its host, its provider with the word, and the name as which it is known.
+    pub fn entry(&self, index: usize) -> Option<(VatId, Swiss, PromId)>
+        ensures { result ≡ option_map key_and_name (slice_get self.now index) }
+    {
+        match self.names.get_index(index) {
+            Some((key, name)) => {
+                let swiss = Swiss {
+                    provider: VatId(key.provider),
+                    word: key.word,
+                };
+                Some((VatId(key.host), swiss, PromId(*name)))
+            }
+            None => None,
+        }
+    }
+
     /// How many gifts there are.
-    fn len(&self) -> usize
+    pub fn len(&self) -> usize
         ensures { result ≡ length self.now }
     {
         self.names.len()

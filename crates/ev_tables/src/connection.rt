@@ -178,6 +178,13 @@ impl Connection {
         }
     }
 
+    /// The position that this vat exports at next.
+    pub fn next_export(&self) -> u64
+        ensures { result ≡ length self.now.exports }
+    {
+        self.exports.len() as u64
+    }
+
     /// The position that the peer exports at next.
     pub fn next_import(&self) -> u64
         ensures { result ≡ length self.now.imports }

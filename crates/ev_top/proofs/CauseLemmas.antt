@@ -1,11 +1,11 @@
 -- Why a status is due.
-use Rattle.std.proofs.Common.{◌≡◌, ◌≢◌, ◌⊎◌, inl, inr, ◌<◌, ◌≤◌, ◌&&◌, ℕ, nat_lt, length, List, [], ◌∷◌, Bool, true, false, Option, Some, None, IfSome, Result, Ok, Err, refl, sym, ap, subst, arith, ◌∙◌}
+use Rattle.std.proofs.Common.{◌≡◌, ◌≢◌, ◌⊎◌, inl, inr, ◌<◌, ◌≤◌, ◌&&◌, ℕ, zero, suc, nat_lt, length, List, [], ◌∷◌, ◌++◌, append-nil, append_assoc, slice_get, Bool, true, false, Option, Some, None, IfSome, Result, Ok, Err, refl, sym, ap, subst, arith, ◌∙◌}
+use Rattle.std.proofs.lemmas.List.{map-append}
 use Rattle.std.proofs.lemmas.Bool.Decides.{nat_tests}
 use Rattle.def_kernel.specs.declared.node.Node.{Node}
 use Rattle.def_machine.specs.State.{Stop, Fuel, Deep, Repeated, Astray}
 use Rattle.def_run.specs.World as machine
 use Rattle.def_run.specs.World.{World, Goes, Stopped}
-use Rattle.def_run.specs.Text.{text as machine_text}
 use Rattle.ev_scope.specs.declared.accepted.Scoped.{Scoped}
 use Rattle.ev_script.specs.declared.script.Script.{Script}
 use Rattle.ev_script.specs.declared.script.VatScript.{VatScript}
@@ -20,11 +20,11 @@ use Rattle.ev_top.specs.Commands.{reads}
 use Rattle.ev_top.specs.Debt.{Debt, most_bytes}
 use Rattle.ev_top.specs.Lines.{IsDueOfMint, IsDueOfSturdy, status_of}
 use Rattle.ev_top.specs.Script.{script_from}
-use Rattle.ev_top.specs.Programs.{ReadAs, safe_names, refusal, stage_of, IsDueOfFault}
+use Rattle.ev_top.specs.Programs.{AreRead, IsFirstRefused, names_for, IsRead, safe_names, refusal, stage_of, trees_of, IsDueOfFault}
 use Rattle.ev_top.specs.Expansion.{text_from, nameless, IsDueOfText, IsDueOfForm}
-use Rattle.ev_top.specs.Machine.{script_of}
-use Rattle.ev_top.specs.Due.{IsDue, IsDueOfInput, IsDueOfBytes, IsDueOfScript, IsDueOfSource, IsDueOfTree, IsDueOfVats, Pays, PaysWith, due_of_run, astray}
-use Rattle.ev_top.specs.Causes.{IsInterrupted, Follows, ComesWhere, IsLong, Breaks, IsVatOf, HasVat, HasProgram, HasFault, HasNoTree, IsProgramRefused, GoesAstray, RepeatsWord, Stops, run_of}
+use Rattle.ev_top.specs.Machine.{script_of, text_of, vat_of_step}
+use Rattle.ev_top.specs.Due.{IsDue, IsDueOfInput, IsDueOfBytes, IsDueOfAnswer, IsDueOfScript, IsDueOfTrees, IsDueOfVats, Pays, PaysWith, due_of_run, astray}
+use Rattle.ev_top.specs.Causes.{IsInterrupted, Follows, ComesWhere, IsLong, Breaks, HasScript, HasPrograms, HasText, HasFault, HasNoTree, IsProgramRefused, GoesAstray, RepeatsWord, Stops, StopsIn, run_of}
 use Rattle.ev_top.specs.declared.command.Command.{Command}
 use Rattle.ev_top.specs.declared.command.Command.TheVariants.{Run, Expand, Generate, Sturdy, Mint}
 use Rattle.ev_top.specs.declared.status.Status.{Status}
@@ -32,59 +32,67 @@ use Rattle.ev_top.specs.declared.status.Status.TheVariants.{Done, Usage, ReadFau
 use Rattle.ev_top.specs.declared.status.Stage.{Stage}
 use Rattle.ev_top.specs.declared.status.Stage.TheVariants as stages
 use Rattle.ev_top.proofs.DueLemmas.{is_few, too_many}
+use Rattle.ev_top.proofs.ReadLemmas.{one_behind, read_more, trees_count}
 use Rattle.ev_top.proofs.OneReading.{IsTree, fault_once, tree_once}
 
 -- ---- why a status is due
 
-abbrev IsRefused : Part → ℕ → ℕ → Status → Type 0
-IsRefused part kind place status = status ≡ ProgramRefused (refusal part kind place)
+abbrev IsRefused : ℕ → Part → ℕ → ℕ → Status → Type 0
+IsRefused vat part kind place status = status ≡ ProgramRefused (refusal vat part kind place)
 
--- what is due for the run of this tree
-abbrev ran : Script → VatScript → Scoped → Debt
-ran script vat scoped =
-    due_of_run vat.name (machine_text (script_of script scoped.tree) (run_of script scoped)) (run_of script scoped)
+-- what is due for the run of these programs
+abbrev ran : Bool → Script → List Scoped → Debt
+ran wire script programs = due_of_run script (text_of wire (script_of script (trees_of programs))) (run_of script programs)
 
 data Why (command : Option Command) (input : List ℕ) (status : Status) : Type 0 where
   Misused : status ≡ Usage → Why command input status
   Long : IsLong command input → status ≡ TooLong → Why command input status
   Broken : (rule : ℕ) → Breaks rule command input → status ≡ ScriptRefused rule → Why command input status
-  Faulty : (part : Part) (kind place : ℕ) → HasFault part kind place command input → IsRefused part kind place status → Why command input status
-  Ran : (script : Script) (vat : VatScript) (scoped : Scoped) → command ≡ Some Run → HasVat input script vat → Answers (Ok scoped) vat.source safe_names
-      → status ≡ (ran script vat scoped).status → Why command input status
+  Faulty : (vat : ℕ) (part : Part) (kind place : ℕ) → HasFault vat part kind place command input → IsRefused vat part kind place status → Why command input status
+  Ran : (wire : Bool) (script : Script) (programs : List Scoped) → command ≡ Some (Run wire) → HasPrograms input script programs
+      → status ≡ (ran wire script programs).status → Why command input status
   Drew : (first second : ℕ) → RepeatsWord first second command input → status ≡ WordRepeated first second → Why command input status
   Finished : status ≡ Done → Why command input status
 
-faulty : (name program : List ℕ) (command : Option Command) (input : List ℕ) (fault : ProgramFault) (status : Status) (text : List ℕ)
-    → HasProgram command input program → Answers (Err fault) program safe_names → IsDueOfFault name fault status text → Why command input status
-faulty name program command input (faults.At part kind place) status text has answers due = Faulty part kind place (program, has, answers) due.0
-faulty name program command input faults.Memory status text has answers due = absurd due
-
-formed : (program input : List ℕ) (answer : Result Scoped ProgramFault) (status : Status) (text : List ℕ) → HasProgram (Some Expand) input program
+formed : (program input : List ℕ) (answer : Result Scoped ProgramFault) (status : Status) (text : List ℕ) → HasText input program
     → Answers answer program safe_names → IsDueOfForm answer status text → Why (Some Expand) input status
 formed program input (Ok scoped) status text has answers due = Finished due.0
-formed program input (Err fault) status text has answers due = faulty nameless program (Some Expand) input fault status text has answers due
+formed program input (Err (faults.At part kind place)) status text has answers due = Faulty 0 part kind place (refl, program, has, answers) due.0
+formed program input (Err faults.Memory) status text has answers due = absurd due
 
 of_text : (input : List ℕ) (found : Result (List ℕ) ℕ) (status : Status) (text : List ℕ) → length input ≤ most_bytes → text_from input ≡ found
     → IsDueOfText found status text → Why (Some Expand) input status
 of_text input (Ok program) status text few e (answer, answers, due) = formed program input answer status text (few, e) answers due
 of_text input (Err rule) status text few e due = Broken rule (few, e) due.0
 
-of_source : (input : List ℕ) (script : Script) (vat : VatScript) (answer : Result Scoped ProgramFault) (status : Status) (text : List ℕ)
-    → HasVat input script vat → Answers answer vat.source safe_names → IsDueOfSource script vat.name answer status text → Why (Some Run) input status
-of_source input script vat (Ok scoped) status text has answers due = Ran script vat scoped refl has answers due.0
-of_source input script vat (Err fault) status text has answers due =
-    faulty vat.name vat.source (Some Run) input fault status text (script, vat, has, refl) answers due
+first_refused : (wire : Bool) (input : List ℕ) (script : Script) (front : List VatScript) (vat : VatScript) (more : List VatScript) (programs : List Scoped) (fault : ProgramFault)
+    (status : Status) (text : List ℕ) → HasScript input script → script.vats ≡ front ++ vat ∷ more → AreRead script.vats front programs → IsRead script.vats vat (Err fault)
+    → IsDueOfFault (length (trees_of programs)) vat.name fault status text → Why (Some (Run wire)) input status
+first_refused wire input script front vat more programs (faults.At part kind place) status text has all are is due =
+    let count = trees_count script.vats front programs are in
+    Faulty (length front) part kind place (script, has, (front, vat, more, programs, all, refl, are, is))
+    (subst (λ (n : ℕ). IsRefused n part kind place status) count due.0)
+first_refused wire input script front vat more programs faults.Memory status text has all are is due = absurd due
 
-of_vats : (input : List ℕ) (script : Script) (vats : List VatScript) (status : Status) (text : List ℕ) → length input ≤ most_bytes
-    → script_from input ≡ Ok script → script.vats ≡ vats → IsDueOfVats script vats status text → Why (Some Run) input status
-of_vats input script [] status text few e v due = Finished due.0
-of_vats input script (vat ∷ more) status text few e v (answer, answers, due) =
-    of_source input script vat answer status text (few, e, rw v refl) answers due
+of_vats : (wire : Bool) (input : List ℕ) (script : Script) (front vats : List VatScript) (programs : List Scoped) (trees : List (List Node)) (status : Status) (text : List ℕ)
+    → HasScript input script → script.vats ≡ front ++ vats → AreRead script.vats front programs → trees_of programs ≡ trees → IsDueOfVats wire script trees vats status text
+    → Why (Some (Run wire)) input status
+of_vats wire input script front [] programs trees status text has all are same due =
+    let whole : script.vats ≡ front = all ∙ append-nil front in
+    Ran wire script programs refl (has, subst (λ (vs : List VatScript). AreRead script.vats vs programs) (sym whole) are)
+    (subst (λ (ts : List (List Node)). IsDueOfTrees wire script ts status text) (sym same) due).0
+of_vats wire input script front (vat ∷ more) programs trees status text has all are same (Ok scoped, answers, due) =
+    of_vats wire input script (front ++ vat ∷ []) more (programs ++ scoped ∷ []) (trees ++ scoped.tree ∷ []) status text has
+    (all ∙ sym (append_assoc front (vat ∷ []) more)) (read_more script.vats front programs vat scoped are answers)
+    (map-append (λ (s : Scoped). s.tree) programs (scoped ∷ []) ∙ ap (λ (ts : List (List Node)). ts ++ scoped.tree ∷ []) same) due
+of_vats wire input script front (vat ∷ more) programs trees status text has all are same (Err fault, answers, due) =
+    first_refused wire input script front vat more programs fault status text has all are answers
+    (subst (λ (ts : List (List Node)). IsDueOfFault (length ts) vat.name fault status text) (sym same) due)
 
-of_script : (input : List ℕ) (found : Result Script ℕ) (status : Status) (text : List ℕ) → length input ≤ most_bytes → script_from input ≡ found
-    → IsDueOfScript found status text → Why (Some Run) input status
-of_script input (Ok script) status text few e due = of_vats input script script.vats status text few e refl due
-of_script input (Err rule) status text few e due = Broken rule (few, e) due.0
+of_script : (wire : Bool) (input : List ℕ) (found : Result Script ℕ) (status : Status) (text : List ℕ) → length input ≤ most_bytes → script_from input ≡ found
+    → IsDueOfScript wire found status text → Why (Some (Run wire)) input status
+of_script wire input (Ok script) status text few e due = of_vats wire input script [] script.vats [] [] status text (few, e) refl tt refl due
+of_script wire input (Err rule) status text few e due = Broken rule (few, e) due.0
 
 at_long : (most n : ℕ) → nat_lt most n ≡ true → most < n
 at_long most n test = grind (arith, nat_tests)
@@ -109,7 +117,7 @@ of_mint input (Err rule) status text few e due = Broken rule (few, e) due.0
 
 of_bytes : (command : Command) (input : List ℕ) (status : Status) (text : List ℕ) → length input ≤ most_bytes → IsDueOfBytes command input status text
     → Why (Some command) input status
-of_bytes Run input status text few due = of_script input (script_from input) status text few refl due
+of_bytes (Run wire) input status text few due = of_script wire input (script_from input) status text few refl due
 of_bytes Expand input status text few due = of_text input (text_from input) status text few refl due
 of_bytes (Generate n) input status text few due = Finished due.0
 of_bytes Sturdy input status text few due = of_sturdy input (sturdy.due input) status text few refl due
@@ -122,7 +130,7 @@ of_input false command input status text r e due = of_bytes command input status
 
 why : (command : Option Command) (input : List ℕ) (status : Status) (text : List ℕ) → IsDue command input status text → Why command input status
 why None input status text due = Misused due.0
-why (Some Run) input status text due = of_input (nat_lt most_bytes (length input)) Run input status text refl refl due
+why (Some (Run wire)) input status text due = of_input (nat_lt most_bytes (length input)) (Run wire) input status text refl refl due
 why (Some Expand) input status text due = of_input (nat_lt most_bytes (length input)) Expand input status text refl refl due
 why (Some (Generate n)) input status text due = Finished due.0
 why (Some Sturdy) input status text due = of_input (nat_lt most_bytes (length input)) Sturdy input status text refl refl due
@@ -164,13 +172,13 @@ there Is fact status command input written to pays f = by (due_or_not status wri
 
 -- the status of a run is one of five
 never : (Is : Status → Type 0) → (Is Done → ⊥) → ((step : ℕ) → Is (FuelSpent step) → ⊥) → ((step : ℕ) → Is (TooDeep step) → ⊥)
-    → ((i j : ℕ) → Is (WordRepeated i j) → ⊥) → (Is (ProgramRefused astray) → ⊥)
-    → (name text : List ℕ) (r : machine.Run) → Is (due_of_run name text r).status → ⊥
-never Is done fuel deep drew strays name text (Goes w) is = done is
-never Is done fuel deep drew strays name text (Stopped Fuel step w) is = fuel step is
-never Is done fuel deep drew strays name text (Stopped Deep step w) is = deep step is
-never Is done fuel deep drew strays name text (Stopped (Repeated i j) step w) is = drew i j is
-never Is done fuel deep drew strays name text (Stopped Astray step w) is = strays is
+    → ((i j : ℕ) → Is (WordRepeated i j) → ⊥) → ((vat : ℕ) → Is (ProgramRefused (astray vat)) → ⊥)
+    → (script : Script) (text : List ℕ) (r : machine.Run) → Is (due_of_run script text r).status → ⊥
+never Is done fuel deep drew strays script text (Goes w) is = done is
+never Is done fuel deep drew strays script text (Stopped Fuel step w) is = fuel step is
+never Is done fuel deep drew strays script text (Stopped Deep step w) is = deep step is
+never Is done fuel deep drew strays script text (Stopped (Repeated i j) step w) is = drew i j is
+never Is done fuel deep drew strays script text (Stopped Astray step w) is = strays (vat_of_step script step) is
 
 -- ---- too many bytes
 
@@ -178,9 +186,9 @@ long_only : (command : Option Command) (input : List ℕ) (status : Status) → 
 long_only command input status (Misused e) is = cc
 long_only command input status (Long long e) is = long
 long_only command input status (Broken rule breaks e) is = cc
-long_only command input status (Faulty part kind place fault e) is = cc
-long_only command input status (Ran script vat scoped run has answers e) is =
-    absurd (never (λ s. s ≡ TooLong) (λ h. cc) (λ k h. cc) (λ k h. cc) (λ i j h. cc) (λ h. cc) vat.name _ (run_of script scoped) (sym e ∙ is))
+long_only command input status (Faulty vat part kind place fault e) is = cc
+long_only command input status (Ran wire script programs run has e) is =
+    absurd (never (λ s. s ≡ TooLong) (λ h. cc) (λ k h. cc) (λ k h. cc) (λ i j h. cc) (λ v h. cc) script _ (run_of script programs) (sym e ∙ is))
 long_only command input status (Drew first second repeats e) is = cc
 long_only command input status (Finished e) is = cc
 
@@ -196,9 +204,9 @@ rule_only rule command input status (Misused e) is = cc
 rule_only rule command input status (Long long e) is = cc
 rule_only rule command input status (Broken broken breaks e) is =
     let same : broken ≡ rule = cc in subst (λ (r : ℕ). Breaks r command input) same breaks
-rule_only rule command input status (Faulty part kind place fault e) is = cc
-rule_only rule command input status (Ran script vat scoped run has answers e) is =
-    absurd (never (λ s. s ≡ ScriptRefused rule) (λ h. cc) (λ k h. cc) (λ k h. cc) (λ i j h. cc) (λ h. cc) vat.name _ (run_of script scoped) (sym e ∙ is))
+rule_only rule command input status (Faulty vat part kind place fault e) is = cc
+rule_only rule command input status (Ran wire script programs run has e) is =
+    absurd (never (λ s. s ≡ ScriptRefused rule) (λ h. cc) (λ k h. cc) (λ k h. cc) (λ i j h. cc) (λ v h. cc) script _ (run_of script programs) (sym e ∙ is))
 rule_only rule command input status (Drew first second repeats e) is = cc
 rule_only rule command input status (Finished e) is = cc
 
@@ -212,7 +220,7 @@ few_due command input status text read few due =
 rule_there : (rule : ℕ) (command : Option Command) (input : List ℕ) (status : Status) (text : List ℕ) → IsDue command input status text
     → Breaks rule command input → status ≡ ScriptRefused rule
 rule_there rule None input status text due breaks = absurd breaks
-rule_there rule (Some Run) input status text due (few, refused) = (rw (is_few most_bytes (length input) few, refused) at due).0
+rule_there rule (Some (Run wire)) input status text due (few, refused) = (rw (is_few most_bytes (length input) few, refused) at due).0
 rule_there rule (Some Expand) input status text due (few, refused) = (rw (is_few most_bytes (length input) few, refused) at due).0
 rule_there rule (Some (Generate n)) input status text due breaks = absurd breaks
 rule_there rule (Some Sturdy) input status text due (few, refused) =
@@ -231,6 +239,10 @@ abbrev kind_in : Status → ℕ
 kind_in (ProgramRefused r) = r.kind
 kind_in _ = 0
 
+abbrev vat_in : Status → ℕ
+vat_in (ProgramRefused r) = r.vat
+vat_in _ = 0
+
 abbrev place_in : Status → ℕ
 place_in (ProgramRefused r) = r.place
 place_in _ = 0
@@ -242,8 +254,8 @@ stage_apart parts.Nested e = cc
 stage_apart parts.Expand e = cc
 stage_apart parts.Scope e = cc
 
-astray_apart : (part : Part) (kind place : ℕ) → ProgramRefused astray ≡ ProgramRefused (refusal part kind place) → ⊥
-astray_apart part kind place e = stage_apart part (ap stage_in (sym e))
+astray_apart : (u vat : ℕ) (part : Part) (kind place : ℕ) → ProgramRefused (astray u) ≡ ProgramRefused (refusal vat part kind place) → ⊥
+astray_apart u vat part kind place e = stage_apart part (ap stage_in (sym e))
 
 one_part : (a b : Part) → stage_of a ≡ stage_of b → a ≡ b
 one_part parts.Lex parts.Lex e = refl
@@ -273,162 +285,193 @@ one_part parts.Scope parts.Expand e = cc
 one_part parts.Scope parts.Scope e = refl
 
 -- a refusal tells its fault
-told_once : (a b : Part) (k l p q : ℕ) → ProgramRefused (refusal a k p) ≡ ProgramRefused (refusal b l q) → (a ≡ b) × (k ≡ l) × (p ≡ q)
-told_once a b k l p q e =
+told_once : (u v : ℕ) (a b : Part) (k l p q : ℕ) → ProgramRefused (refusal u a k p) ≡ ProgramRefused (refusal v b l q) → (u ≡ v) × (a ≡ b) × (k ≡ l) × (p ≡ q)
+told_once u v a b k l p q e =
+    let vats : u ≡ v = ap vat_in e in
     let stages : stage_of a ≡ stage_of b = ap stage_in e in
     let kinds : k ≡ l = ap kind_in e in
     let places : p ≡ q = ap place_in e in
-    (one_part a b stages, kinds, places)
+    (vats, one_part a b stages, kinds, places)
 
-fault_same : (a b : Part) (k l p q : ℕ) (command : Option Command) (input : List ℕ) → (a ≡ b) × (k ≡ l) × (p ≡ q) → HasFault a k p command input → HasFault b l q command input
-fault_same a b k l p q command input (part, kind, place) fault =
-    subst (λ (c : Part). HasFault c l q command input) part
-    (subst (λ (n : ℕ). HasFault a n q command input) kind (subst (λ (n : ℕ). HasFault a k n command input) place fault))
+fault_same : (u v : ℕ) (a b : Part) (k l p q : ℕ) (command : Option Command) (input : List ℕ) → (u ≡ v) × (a ≡ b) × (k ≡ l) × (p ≡ q)
+    → HasFault u a k p command input → HasFault v b l q command input
+fault_same u v a b k l p q command input (vat, part, kind, place) fault =
+    subst (λ (n : ℕ). HasFault n b l q command input) vat
+    (subst (λ (c : Part). HasFault u c l q command input) part
+    (subst (λ (n : ℕ). HasFault u a n q command input) kind (subst (λ (n : ℕ). HasFault u a k n command input) place fault)))
 
-fault_only : (part : Part) (kind place : ℕ) (command : Option Command) (input : List ℕ) (status : Status) → Why command input status
-    → IsRefused part kind place status → HasFault part kind place command input
-fault_only part kind place command input status (Misused e) is = cc
-fault_only part kind place command input status (Long long e) is = cc
-fault_only part kind place command input status (Broken rule breaks e) is = cc
-fault_only part kind place command input status (Faulty p k q fault e) is =
-    fault_same p part k kind q place command input (told_once p part k kind q place (sym e ∙ is)) fault
-fault_only part kind place command input status (Ran script vat scoped run has answers e) is =
-    absurd (never (IsRefused part kind place) (λ h. cc) (λ k h. cc) (λ k h. cc) (λ i j h. cc) (astray_apart part kind place) vat.name _ (run_of script scoped) (sym e ∙ is))
-fault_only part kind place command input status (Drew first second repeats e) is = cc
-fault_only part kind place command input status (Finished e) is = cc
+fault_only : (vat : ℕ) (part : Part) (kind place : ℕ) (command : Option Command) (input : List ℕ) (status : Status) → Why command input status
+    → IsRefused vat part kind place status → HasFault vat part kind place command input
+fault_only vat part kind place command input status (Misused e) is = cc
+fault_only vat part kind place command input status (Long long e) is = cc
+fault_only vat part kind place command input status (Broken rule breaks e) is = cc
+fault_only vat part kind place command input status (Faulty u p k q fault e) is =
+    fault_same u vat p part k kind q place command input (told_once u vat p part k kind q place (sym e ∙ is)) fault
+fault_only vat part kind place command input status (Ran wire script programs run has e) is =
+    absurd (never (IsRefused vat part kind place) (λ h. cc) (λ k h. cc) (λ k h. cc) (λ i j h. cc) (λ v. astray_apart v vat part kind place) script _ (run_of script programs) (sym e ∙ is))
+fault_only vat part kind place command input status (Drew first second repeats e) is = cc
+fault_only vat part kind place command input status (Finished e) is = cc
 
 abbrev failed : ProgramFault → Result Scoped ProgramFault
 failed fault = Err fault
 
 -- what a fault is due, where a program has no other reading
-of_fault : (part : Part) (kind place : ℕ) (name : List ℕ) (fault : ProgramFault) (status : Status) (text : List ℕ) → IsDueOfFault name fault status text
-    → (failed fault ≡ failed faults.Memory) ⊎ (failed fault ≡ failed (faults.At part kind place)) → IsRefused part kind place status
-of_fault part kind place name (faults.At p k q) status text due (inl none) = cc
-of_fault part kind place name (faults.At p k q) status text due (inr same) =
+of_fault : (vat : ℕ) (part : Part) (kind place : ℕ) (name : List ℕ) (fault : ProgramFault) (status : Status) (text : List ℕ) → IsDueOfFault vat name fault status text
+    → (failed fault ≡ failed faults.Memory) ⊎ (failed fault ≡ failed (faults.At part kind place)) → IsRefused vat part kind place status
+of_fault vat part kind place name (faults.At p k q) status text due (inl none) = cc
+of_fault vat part kind place name (faults.At p k q) status text due (inr same) =
     let parts_same : p ≡ part = cc in
     let kinds : k ≡ kind = cc in
     let places : q ≡ place = cc in
     due.0 ∙ rw (parts_same, kinds, places) refl
-of_fault part kind place name faults.Memory status text due same = absurd due
+of_fault vat part kind place name faults.Memory status text due same = absurd due
 
 form_fault : (part : Part) (kind place : ℕ) (answer : Result Scoped ProgramFault) (status : Status) (text : List ℕ) → IsDueOfForm answer status text
-    → (answer ≡ Err faults.Memory) ⊎ (answer ≡ Err (faults.At part kind place)) → IsRefused part kind place status
+    → (answer ≡ Err faults.Memory) ⊎ (answer ≡ Err (faults.At part kind place)) → IsRefused 0 part kind place status
 form_fault part kind place (Ok scoped) status text due (inl none) = cc
 form_fault part kind place (Ok scoped) status text due (inr same) = cc
-form_fault part kind place (Err fault) status text due same = of_fault part kind place nameless fault status text due same
+form_fault part kind place (Err fault) status text due same = of_fault 0 part kind place nameless fault status text due same
 
-source_fault : (part : Part) (kind place : ℕ) (script : Script) (name : List ℕ) (answer : Result Scoped ProgramFault) (status : Status) (text : List ℕ)
-    → IsDueOfSource script name answer status text → (answer ≡ Err faults.Memory) ⊎ (answer ≡ Err (faults.At part kind place)) → IsRefused part kind place status
-source_fault part kind place script name (Ok scoped) status text due (inl none) = cc
-source_fault part kind place script name (Ok scoped) status text due (inr same) = cc
-source_fault part kind place script name (Err fault) status text due same = of_fault part kind place name fault status text due same
+-- the sources in front are read to these trees alone
+tree_same : (scoped : Scoped) (answer : Result Scoped ProgramFault) (vat : ℕ) (name : List ℕ) (Due : List Node → Status → List ℕ → Type 0) (status : Status) (text : List ℕ)
+    → IsTree scoped answer → IsDueOfAnswer vat name Due answer status text → Due scoped.tree status text
+tree_same scoped (Ok other) vat name Due status text same due = subst (λ (tree : List Node). Due tree status text) same due
+tree_same scoped (Err faults.Memory) vat name Due status text same due = absurd due
+tree_same scoped (Err (faults.At part kind place)) vat name Due status text same due = absurd same
 
-vats_fault : (part : Part) (kind place : ℕ) (script : Script) (vats : List VatScript) (vat : VatScript) (program : List ℕ) (status : Status) (text : List ℕ)
-    → IsVatOf vats vat → vat.source ≡ program → Answers (Err (faults.At part kind place)) program safe_names → IsDueOfVats script vats status text → IsRefused part kind place status
-vats_fault part kind place script [] vat program status text is source fault due = absurd is
-vats_fault part kind place script (first ∷ more) vat program status text is source fault (answer, answers, due) =
-    let same : first.source ≡ program = ap (λ (v : VatScript). v.source) is ∙ source in
-    source_fault part kind place script first.name answer status text due
-    (fault_once part kind place program safe_names answer fault (subst (λ (p : List ℕ). Answers answer p safe_names) same answers))
+-- what is due for vats of which the first are read is what is due for those that come next
+due_behind : (wire : Bool) (script : Script) (trees : List (List Node)) (front vats : List VatScript) (programs : List Scoped) (status : Status) (text : List ℕ)
+    → AreRead script.vats front programs → IsDueOfVats wire script trees (front ++ vats) status text → IsDueOfVats wire script (trees ++ trees_of programs) vats status text
+due_behind wire script trees [] vats [] status text are due = subst (λ (ts : List (List Node)). IsDueOfVats wire script ts vats status text) (sym (append-nil trees)) due
+due_behind wire script trees (v ∷ front) vats (p ∷ programs) status text are (answer, answers, due) =
+    let next = tree_same p answer (length trees) v.name (λ tree. IsDueOfVats wire script (trees ++ tree ∷ []) (front ++ vats)) status text
+    (tree_once p v.source (names_for script.vats v) answer are.0 answers) due in
+    subst (λ (ts : List (List Node)). IsDueOfVats wire script ts vats status text) (one_behind trees p.tree (trees_of programs))
+    (due_behind wire script (trees ++ p.tree ∷ []) front vats programs status text are.1 next)
+due_behind wire script trees [] vats (p ∷ programs) status text are due = absurd are
+due_behind wire script trees (v ∷ front) vats [] status text are due = absurd are
 
-fault_there : (part : Part) (kind place : ℕ) (command : Option Command) (input : List ℕ) (status : Status) (text : List ℕ)
-    → IsDue command input status text → HasFault part kind place command input → IsRefused part kind place status
-fault_there part kind place None input status text due (program, has, fault) = absurd has
-fault_there part kind place (Some Run) input status text due (program, (script, vat, (few, found, is), source), fault) =
+answer_fault : (vat : ℕ) (part : Part) (kind place : ℕ) (name : List ℕ) (Due : List Node → Status → List ℕ → Type 0) (answer : Result Scoped ProgramFault) (status : Status) (text : List ℕ)
+    → IsDueOfAnswer vat name Due answer status text → (answer ≡ Err faults.Memory) ⊎ (answer ≡ Err (faults.At part kind place)) → IsRefused vat part kind place status
+answer_fault vat part kind place name Due (Ok scoped) status text due (inl none) = cc
+answer_fault vat part kind place name Due (Ok scoped) status text due (inr same) = cc
+answer_fault vat part kind place name Due (Err fault) status text due same = of_fault vat part kind place name fault status text due same
+
+vats_fault : (wire : Bool) (vat : ℕ) (part : Part) (kind place : ℕ) (script : Script) (status : Status) (text : List ℕ) → IsFirstRefused script.vats vat (faults.At part kind place)
+    → IsDueOfVats wire script [] script.vats status text → IsRefused vat part kind place status
+vats_fault wire vat part kind place script status text (front, refused, more, programs, all, count, are, is) due =
+    let here = due_behind wire script [] front (refused ∷ more) programs status text are (subst (λ (vs : List VatScript). IsDueOfVats wire script [] vs status text) all due) in
+    let number : length (trees_of programs) ≡ vat = trees_count script.vats front programs are ∙ count in
+    subst (λ (n : ℕ). IsRefused n part kind place status) number
+    (answer_fault (length (trees_of programs)) part kind place refused.name (λ tree. IsDueOfVats wire script (trees_of programs ++ tree ∷ []) more) here.0 status text here.2
+    (fault_once part kind place refused.source (names_for script.vats refused) here.0 is here.1))
+
+-- what is due for a script that the whole input is
+script_due : (wire : Bool) (input : List ℕ) (script : Script) (status : Status) (text : List ℕ) → HasScript input script → IsDue (Some (Run wire)) input status text
+    → IsDueOfVats wire script [] script.vats status text
+script_due wire input script status text (few, found) due =
+    subst (λ (r : Result Script ℕ). IsDueOfScript wire r status text) found (few_due (Run wire) input status text refl few due)
+
+fault_there : (vat : ℕ) (part : Part) (kind place : ℕ) (command : Option Command) (input : List ℕ) (status : Status) (text : List ℕ)
+    → IsDue command input status text → HasFault vat part kind place command input → IsRefused vat part kind place status
+fault_there vat part kind place None input status text due has = absurd has
+fault_there vat part kind place (Some (Run wire)) input status text due (script, has, refused) =
+    vats_fault wire vat part kind place script status text refused (script_due wire input script status text has due)
+fault_there vat part kind place (Some Expand) input status text due (none, program, (few, found), fault) =
     let d = rw (is_few most_bytes (length input) few, found) at due in
-    vats_fault part kind place script script.vats vat program status text is source fault d
-fault_there part kind place (Some Expand) input status text due (program, (few, found), fault) =
-    let d = rw (is_few most_bytes (length input) few, found) at due in
-    form_fault part kind place d.0 status text d.2 (fault_once part kind place program safe_names d.0 fault d.1)
-fault_there part kind place (Some (Generate n)) input status text due (program, has, fault) = absurd has
-fault_there part kind place (Some Sturdy) input status text due (program, has, fault) = absurd has
-fault_there part kind place (Some Mint) input status text due (program, has, fault) = absurd has
+    subst (λ (n : ℕ). IsRefused n part kind place status) (sym none)
+    (form_fault part kind place d.0 status text d.2 (fault_once part kind place program safe_names d.0 fault d.1))
+fault_there vat part kind place (Some (Generate n)) input status text due has = absurd has
+fault_there vat part kind place (Some Sturdy) input status text due has = absurd has
+fault_there vat part kind place (Some Mint) input status text due has = absurd has
 
 -- ---- no tree
 
-fault_refuses : (name : List ℕ) (fault : ProgramFault) (status : Status) (text : List ℕ) → IsDueOfFault name fault status text → IsProgramRefused status
-fault_refuses name (faults.At part kind place) status text due = subst IsProgramRefused (sym due.0) tt
-fault_refuses name faults.Memory status text due = absurd due
+fault_refuses : (vat : ℕ) (name : List ℕ) (fault : ProgramFault) (status : Status) (text : List ℕ) → IsDueOfFault vat name fault status text → IsProgramRefused status
+fault_refuses vat name (faults.At part kind place) status text due = subst IsProgramRefused (sym due.0) tt
+fault_refuses vat name faults.Memory status text due = absurd due
 
 no_form : (program : List ℕ) (answer : Result Scoped ProgramFault) (status : Status) (text : List ℕ) → Answers answer program safe_names
     → IsDueOfForm answer status text → ((scoped : Scoped) → Answers (Ok scoped) program safe_names → ⊥) → IsProgramRefused status
 no_form program (Ok scoped) status text answers due none = absurd (none scoped answers)
-no_form program (Err fault) status text answers due none = fault_refuses nameless fault status text due
+no_form program (Err fault) status text answers due none = fault_refuses 0 nameless fault status text due
 
-no_source : (program : List ℕ) (script : Script) (name : List ℕ) (answer : Result Scoped ProgramFault) (status : Status) (text : List ℕ) → Answers answer program safe_names
-    → IsDueOfSource script name answer status text → ((scoped : Scoped) → Answers (Ok scoped) program safe_names → ⊥) → IsProgramRefused status
-no_source program script name (Ok scoped) status text answers due none = absurd (none scoped answers)
-no_source program script name (Err fault) status text answers due none = fault_refuses name fault status text due
+none_some : {A : Type 0} {x : A} → None ≡ Some x → ⊥
+none_some e = cc
 
-no_vats : (script : Script) (vats : List VatScript) (vat : VatScript) (program : List ℕ) (status : Status) (text : List ℕ)
-    → IsVatOf vats vat → vat.source ≡ program → ((scoped : Scoped) → Answers (Ok scoped) program safe_names → ⊥) → IsDueOfVats script vats status text → IsProgramRefused status
-no_vats script [] vat program status text is source none due = absurd is
-no_vats script (first ∷ more) vat program status text is source none (answer, answers, due) =
-    let same : first.source ≡ program = ap (λ (v : VatScript). v.source) is ∙ source in
-    no_source program script first.name answer status text (subst (λ (p : List ℕ). Answers answer p safe_names) same answers) due none
+some_is : {A : Type 0} {x y : A} → Some x ≡ Some y → x ≡ y
+some_is e = cc
+
+no_vats : (wire : Bool) (script : Script) (trees : List (List Node)) (vats : List VatScript) (place : ℕ) (vat : VatScript) (status : Status) (text : List ℕ)
+    → slice_get vats place ≡ Some vat → ((scoped : Scoped) → IsRead script.vats vat (Ok scoped) → ⊥) → IsDueOfVats wire script trees vats status text → IsProgramRefused status
+no_vats wire script trees [] place vat status text is none due = absurd (none_some is)
+no_vats wire script trees (v ∷ more) place vat status text is none (Err fault, answers, due) = fault_refuses (length trees) v.name fault status text due
+no_vats wire script trees (v ∷ more) zero vat status text is none (Ok scoped, answers, due) =
+    absurd (none scoped (subst (λ (u : VatScript). IsRead script.vats u (Ok scoped)) (some_is is) answers))
+no_vats wire script trees (v ∷ more) (suc place) vat status text is none (Ok scoped, answers, due) =
+    no_vats wire script (trees ++ scoped.tree ∷ []) more place vat status text is none due
 
 tree_there : (command : Option Command) (input : List ℕ) (status : Status) (text : List ℕ) → IsDue command input status text
     → HasNoTree command input → IsProgramRefused status
-tree_there None input status text due (program, has, none) = absurd has
-tree_there (Some Run) input status text due (program, (script, vat, (few, found, is), source), none) =
-    let d = rw (is_few most_bytes (length input) few, found) at due in
-    no_vats script script.vats vat program status text is source none d
+tree_there None input status text due has = absurd has
+tree_there (Some (Run wire)) input status text due (script, has, place, vat, is, none) =
+    no_vats wire script [] script.vats place vat status text is none (script_due wire input script status text has due)
 tree_there (Some Expand) input status text due (program, (few, found), none) =
     let d = rw (is_few most_bytes (length input) few, found) at due in no_form program d.0 status text d.1 d.2 none
-tree_there (Some (Generate n)) input status text due (program, has, none) = absurd has
-tree_there (Some Sturdy) input status text due (program, has, none) = absurd has
-tree_there (Some Mint) input status text due (program, has, none) = absurd has
+tree_there (Some (Generate n)) input status text due has = absurd has
+tree_there (Some Sturdy) input status text due has = absurd has
+tree_there (Some Mint) input status text due has = absurd has
 
 -- ---- a run that stops
 
-fuel_stop : (step : ℕ) (name text : List ℕ) (r : machine.Run) → (due_of_run name text r).status ≡ FuelSpent step → (world : World) × (r ≡ Stopped Fuel step world)
-fuel_stop step name text (Goes w) e = cc
-fuel_stop step name text (Stopped Fuel k w) e = let same : k ≡ step = cc in (w, ap (λ n. Stopped Fuel n w) same)
-fuel_stop step name text (Stopped Deep k w) e = cc
-fuel_stop step name text (Stopped (Repeated i j) k w) e = cc
-fuel_stop step name text (Stopped Astray k w) e = cc
+fuel_stop : (step : ℕ) (script : Script) (text : List ℕ) (r : machine.Run) → (due_of_run script text r).status ≡ FuelSpent step → (world : World) × (r ≡ Stopped Fuel step world)
+fuel_stop step script text (Goes w) e = cc
+fuel_stop step script text (Stopped Fuel k w) e = let same : k ≡ step = cc in (w, ap (λ n. Stopped Fuel n w) same)
+fuel_stop step script text (Stopped Deep k w) e = cc
+fuel_stop step script text (Stopped (Repeated i j) k w) e = cc
+fuel_stop step script text (Stopped Astray k w) e = cc
 
-deep_stop : (step : ℕ) (name text : List ℕ) (r : machine.Run) → (due_of_run name text r).status ≡ TooDeep step → (world : World) × (r ≡ Stopped Deep step world)
-deep_stop step name text (Goes w) e = cc
-deep_stop step name text (Stopped Fuel k w) e = cc
-deep_stop step name text (Stopped Deep k w) e = let same : k ≡ step = cc in (w, ap (λ n. Stopped Deep n w) same)
-deep_stop step name text (Stopped (Repeated i j) k w) e = cc
-deep_stop step name text (Stopped Astray k w) e = cc
+deep_stop : (step : ℕ) (script : Script) (text : List ℕ) (r : machine.Run) → (due_of_run script text r).status ≡ TooDeep step → (world : World) × (r ≡ Stopped Deep step world)
+deep_stop step script text (Goes w) e = cc
+deep_stop step script text (Stopped Fuel k w) e = cc
+deep_stop step script text (Stopped Deep k w) e = let same : k ≡ step = cc in (w, ap (λ n. Stopped Deep n w) same)
+deep_stop step script text (Stopped (Repeated i j) k w) e = cc
+deep_stop step script text (Stopped Astray k w) e = cc
 
-drew_stop : (first second : ℕ) (name text : List ℕ) (r : machine.Run) → (due_of_run name text r).status ≡ WordRepeated first second
+drew_stop : (first second : ℕ) (script : Script) (text : List ℕ) (r : machine.Run) → (due_of_run script text r).status ≡ WordRepeated first second
     → (step : ℕ) × (world : World) × (r ≡ Stopped (Repeated first second) step world)
-drew_stop first second name text (Goes w) e = cc
-drew_stop first second name text (Stopped Fuel k w) e = cc
-drew_stop first second name text (Stopped Deep k w) e = cc
-drew_stop first second name text (Stopped (Repeated i j) k w) e =
+drew_stop first second script text (Goes w) e = cc
+drew_stop first second script text (Stopped Fuel k w) e = cc
+drew_stop first second script text (Stopped Deep k w) e = cc
+drew_stop first second script text (Stopped (Repeated i j) k w) e =
     let firsts : i ≡ first = cc in let seconds : j ≡ second = cc in (k, w, rw (firsts, seconds) refl)
-drew_stop first second name text (Stopped Astray k w) e = cc
+drew_stop first second script text (Stopped Astray k w) e = cc
 
-astray_stop : (name text : List ℕ) (r : machine.Run) → (due_of_run name text r).status ≡ ProgramRefused astray
-    → (step : ℕ) × (world : World) × (r ≡ Stopped Astray step world)
-astray_stop name text (Goes w) e = cc
-astray_stop name text (Stopped Fuel k w) e = cc
-astray_stop name text (Stopped Deep k w) e = cc
-astray_stop name text (Stopped (Repeated i j) k w) e = cc
-astray_stop name text (Stopped Astray k w) e = (k, w, refl)
+astray_stop : (vat : ℕ) (script : Script) (text : List ℕ) (r : machine.Run) → (due_of_run script text r).status ≡ ProgramRefused (astray vat)
+    → (step : ℕ) × (vat_of_step script step ≡ vat) × (world : World) × (r ≡ Stopped Astray step world)
+astray_stop vat script text (Goes w) e = cc
+astray_stop vat script text (Stopped Fuel k w) e = cc
+astray_stop vat script text (Stopped Deep k w) e = cc
+astray_stop vat script text (Stopped (Repeated i j) k w) e = cc
+astray_stop vat script text (Stopped Astray k w) e = (k, ap vat_in e, w, refl)
 
-astray_only : (command : Option Command) (input : List ℕ) (status : Status) → Why command input status → status ≡ ProgramRefused astray → GoesAstray command input
-astray_only command input status (Misused e) is = cc
-astray_only command input status (Long long e) is = cc
-astray_only command input status (Broken rule breaks e) is = cc
-astray_only command input status (Faulty part kind place fault e) is = absurd (astray_apart part kind place (sym is ∙ e))
-astray_only command input status (Ran script vat scoped run has answers e) is =
-    let stop = astray_stop vat.name _ (run_of script scoped) (sym e ∙ is) in (stop.0, (run, script, vat, has, scoped, answers, stop.1, stop.2))
-astray_only command input status (Drew first second repeats e) is = cc
-astray_only command input status (Finished e) is = cc
+astray_only : (vat : ℕ) (command : Option Command) (input : List ℕ) (status : Status) → Why command input status → status ≡ ProgramRefused (astray vat) → GoesAstray vat command input
+astray_only vat command input status (Misused e) is = cc
+astray_only vat command input status (Long long e) is = cc
+astray_only vat command input status (Broken rule breaks e) is = cc
+astray_only vat command input status (Faulty u part kind place fault e) is = absurd (astray_apart vat u part kind place (sym is ∙ e))
+astray_only vat command input status (Ran wire script programs run has e) is =
+    let stop = astray_stop vat script _ (run_of script programs) (sym e ∙ is) in (script, stop.0, (wire, run, programs, has, stop.2, stop.3), stop.1)
+astray_only vat command input status (Drew first second repeats e) is = cc
+astray_only vat command input status (Finished e) is = cc
 
 fuel_only : (step : ℕ) (command : Option Command) (input : List ℕ) (status : Status) → Why command input status → status ≡ FuelSpent step → Stops Fuel step command input
 fuel_only step command input status (Misused e) is = cc
 fuel_only step command input status (Long long e) is = cc
 fuel_only step command input status (Broken rule breaks e) is = cc
-fuel_only step command input status (Faulty part kind place fault e) is = cc
-fuel_only step command input status (Ran script vat scoped run has answers e) is =
-    let stop = fuel_stop step vat.name _ (run_of script scoped) (sym e ∙ is) in (run, script, vat, has, scoped, answers, stop.0, stop.1)
+fuel_only step command input status (Faulty vat part kind place fault e) is = cc
+fuel_only step command input status (Ran wire script programs run has e) is =
+    let stop = fuel_stop step script _ (run_of script programs) (sym e ∙ is) in (script, (wire, run, programs, has, stop.0, stop.1))
 fuel_only step command input status (Drew first second repeats e) is = cc
 fuel_only step command input status (Finished e) is = cc
 
@@ -436,9 +479,9 @@ deep_only : (step : ℕ) (command : Option Command) (input : List ℕ) (status :
 deep_only step command input status (Misused e) is = cc
 deep_only step command input status (Long long e) is = cc
 deep_only step command input status (Broken rule breaks e) is = cc
-deep_only step command input status (Faulty part kind place fault e) is = cc
-deep_only step command input status (Ran script vat scoped run has answers e) is =
-    let stop = deep_stop step vat.name _ (run_of script scoped) (sym e ∙ is) in (run, script, vat, has, scoped, answers, stop.0, stop.1)
+deep_only step command input status (Faulty vat part kind place fault e) is = cc
+deep_only step command input status (Ran wire script programs run has e) is =
+    let stop = deep_stop step script _ (run_of script programs) (sym e ∙ is) in (script, (wire, run, programs, has, stop.0, stop.1))
 deep_only step command input status (Drew first second repeats e) is = cc
 deep_only step command input status (Finished e) is = cc
 
@@ -455,58 +498,46 @@ drew_only : (first second : ℕ) (command : Option Command) (input : List ℕ) (
 drew_only first second command input status (Misused e) is = cc
 drew_only first second command input status (Long long e) is = cc
 drew_only first second command input status (Broken rule breaks e) is = cc
-drew_only first second command input status (Faulty part kind place fault e) is = cc
-drew_only first second command input status (Ran script vat scoped run has answers e) is =
-    let stop = drew_stop first second vat.name _ (run_of script scoped) (sym e ∙ is) in
-    inr (stop.0, (run, script, vat, has, scoped, answers, stop.1, stop.2))
+drew_only first second command input status (Faulty vat part kind place fault e) is = cc
+drew_only first second command input status (Ran wire script programs run has e) is =
+    let stop = drew_stop first second script _ (run_of script programs) (sym e ∙ is) in
+    inr (stop.0, (script, (wire, run, programs, has, stop.1, stop.2)))
 drew_only first second command input status (Drew one other repeats e) is = drew_once one other first second command input (sym e ∙ is) repeats
 drew_only first second command input status (Finished e) is = cc
 
--- ---- what is due for a tree, where the vat's program is read to it
+-- ---- what is due where the programs of a script are read
 
--- what is due for the tree that a script's vat has
-abbrev IsDueOfRead : Script → VatScript → Scoped → Status → List ℕ → Type 0
-IsDueOfRead script vat scoped status text = IsDueOfTree script vat.name scoped.tree status text
-
-source_tree : (script : Script) (vat : VatScript) (scoped : Scoped) (answer : Result Scoped ProgramFault) (status : Status) (text : List ℕ) → IsTree scoped answer
-    → IsDueOfSource script vat.name answer status text → IsDueOfRead script vat scoped status text
-source_tree script vat scoped (Ok other) status text same due =
-    subst (λ (tree : List Node). IsDueOfTree script vat.name tree status text) same due
-source_tree script vat scoped (Err faults.Memory) status text same due = absurd due
-source_tree script vat scoped (Err (faults.At part kind place)) status text same due = absurd same
-
-vats_tree : (script : Script) (vats : List VatScript) (vat : VatScript) (scoped : Scoped) (status : Status) (text : List ℕ) → IsVatOf vats vat
-    → Answers (Ok scoped) vat.source safe_names → IsDueOfVats script vats status text → IsDueOfRead script vat scoped status text
-vats_tree script [] vat scoped status text is tree due = absurd is
-vats_tree script (first ∷ more) vat scoped status text is tree due =
-    let d = subst (λ (v : VatScript). ReadAs v.source (λ answer. IsDueOfSource script v.name answer status text)) is due in
-    source_tree script vat scoped d.0 status text (tree_once scoped vat.source safe_names d.0 tree d.1) d.2
-
-read_due : (command : Option Command) (input : List ℕ) (script : Script) (vat : VatScript) (scoped : Scoped) (status : Status) (text : List ℕ)
-    → command ≡ Some Run → HasVat input script vat → Answers (Ok scoped) vat.source safe_names → IsDue command input status text
-    → IsDueOfRead script vat scoped status text
-read_due command input script vat scoped status text run (few, found, is) tree due =
-    let d : IsDue (Some Run) input status text = subst (λ (c : Option Command). IsDue c input status text) run due in
-    vats_tree script script.vats vat scoped status text is tree (rw (is_few most_bytes (length input) few, found) at d)
+read_due : (wire : Bool) (command : Option Command) (input : List ℕ) (script : Script) (programs : List Scoped) (status : Status) (text : List ℕ)
+    → command ≡ Some (Run wire) → HasPrograms input script programs → IsDue command input status text → IsDueOfTrees wire script (trees_of programs) status text
+read_due wire command input script programs status text run (has, are) due =
+    let d : IsDue (Some (Run wire)) input status text = subst (λ (c : Option Command). IsDue c input status text) run due in
+    due_behind wire script [] script.vats [] programs status text are
+    (subst (λ (vs : List VatScript). IsDueOfVats wire script [] vs status text) (sym (append-nil script.vats)) (script_due wire input script status text has d))
 
 -- the status of a run that stops
-abbrev stopped_as : Stop → ℕ → Status
-stopped_as Fuel step = FuelSpent step
-stopped_as Deep step = TooDeep step
-stopped_as (Repeated i j) step = WordRepeated i j
-stopped_as Astray step = ProgramRefused astray
+abbrev stopped_as : Script → Stop → ℕ → Status
+stopped_as script Fuel step = FuelSpent step
+stopped_as script Deep step = TooDeep step
+stopped_as script (Repeated i j) step = WordRepeated i j
+stopped_as script Astray step = ProgramRefused (astray (vat_of_step script step))
 
-stop_due : (name text : List ℕ) (stop : Stop) (step : ℕ) (w : World) → (due_of_run name text (Stopped stop step w)).status ≡ stopped_as stop step
-stop_due name text Fuel step w = refl
-stop_due name text Deep step w = refl
-stop_due name text (Repeated i j) step w = refl
-stop_due name text Astray step w = refl
+stop_due : (script : Script) (text : List ℕ) (stop : Stop) (step : ℕ) (w : World) → (due_of_run script text (Stopped stop step w)).status ≡ stopped_as script stop step
+stop_due script text Fuel step w = refl
+stop_due script text Deep step w = refl
+stop_due script text (Repeated i j) step w = refl
+stop_due script text Astray step w = refl
 
-stop_there : (stop : Stop) (step : ℕ) (command : Option Command) (input : List ℕ) (status : Status) (text : List ℕ) → IsDue command input status text
-    → Stops stop step command input → status ≡ stopped_as stop step
-stop_there stop step command input status text due (run, script, vat, has, scoped, tree, world, stops) =
-    (read_due command input script vat scoped status text run has tree due).0 ∙ ap (λ (r : machine.Run). (due_of_run vat.name (machine_text (script_of script scoped.tree) r) r).status) stops
-    ∙ stop_due vat.name _ stop step world
+stop_there : (script : Script) (stop : Stop) (step : ℕ) (command : Option Command) (input : List ℕ) (status : Status) (text : List ℕ) → IsDue command input status text
+    → StopsIn script stop step command input → status ≡ stopped_as script stop step
+stop_there script stop step command input status text due (wire, run, programs, has, world, stops) =
+    let written = text_of wire (script_of script (trees_of programs)) in
+    (read_due wire command input script programs status text run has due).0 ∙ ap (λ (r : machine.Run). (due_of_run script written r).status) stops
+    ∙ stop_due script written stop step world
+
+astray_there : (vat : ℕ) (command : Option Command) (input : List ℕ) (status : Status) (text : List ℕ) → IsDue command input status text
+    → GoesAstray vat command input → status ≡ ProgramRefused (astray vat)
+astray_there vat command input status text due (script, step, stops, whose) =
+    stop_there script Astray step command input status text due stops ∙ ap (λ (v : ℕ). ProgramRefused (astray v)) whose
 
 drew_there : (first second : ℕ) (command : Option Command) (input : List ℕ) (status : Status) (text : List ℕ) → IsDue command input status text
     → RepeatsWord first second command input → status ≡ WordRepeated first second
@@ -514,7 +545,7 @@ drew_there first second command input status text due (inl (is, few, ending, e, 
     let d : IsDue (Some Sturdy) input status text = subst (λ (c : Option Command). IsDue c input status text) is due in
     (subst (λ (found : Result sturdy.Ending ℕ). IsDueOfSturdy found status text) e (few_due Sturdy input status text refl few d)).0
     ∙ ap status_of repeated
-drew_there first second command input status text due (inr (step, stops)) = stop_there (Repeated first second) step command input status text due stops
+drew_there first second command input status text due (inr (step, (script, stops))) = stop_there script (Repeated first second) step command input status text due stops
 
 -- ---- of a call
 
@@ -541,13 +572,13 @@ rule_comes (Some input) held held' result command (written, appends, pays) = λ 
 )
 
 pub fault_comes : (left held held' : Option (List ℕ)) (result : Status) (command : Option Command) → OfLeft left held held' result command
-    → IfSome left (λ input. (part : Part) (kind place : ℕ) → ComesWhere (λ s. s ≡ ProgramRefused (refusal part kind place)) result (HasFault part kind place command input))
+    → IfSome left (λ input. (vat : ℕ) (part : Part) (kind place : ℕ) → ComesWhere (λ s. s ≡ ProgramRefused (refusal vat part kind place)) result (HasFault vat part kind place command input))
 fault_comes None held held' result command pays = tt
-fault_comes (Some input) held held' result command (written, appends, pays) = λ part kind place. (
-  only (IsRefused part kind place) (HasFault part kind place command input) result command input written (λ stopped is. subst IsInterrupted is stopped)
-      (fault_only part kind place command input result) pays,
-  there (IsRefused part kind place) (HasFault part kind place command input) result command input written
-      (fault_there part kind place command input result written) pays,
+fault_comes (Some input) held held' result command (written, appends, pays) = λ vat part kind place. (
+  only (IsRefused vat part kind place) (HasFault vat part kind place command input) result command input written (λ stopped is. subst IsInterrupted is stopped)
+      (fault_only vat part kind place command input result) pays,
+  there (IsRefused vat part kind place) (HasFault vat part kind place command input) result command input written
+      (fault_there vat part kind place command input result written) pays,
 )
 
 pub no_tree_comes : (left held held' : Option (List ℕ)) (result : Status) (command : Option Command) → OfLeft left held held' result command
@@ -557,12 +588,12 @@ no_tree_comes (Some input) held held' result command (written, appends, pays) =
     there IsProgramRefused (HasNoTree command input) result command input written (tree_there command input result written) pays
 
 pub astray_comes : (left held held' : Option (List ℕ)) (result : Status) (command : Option Command) → OfLeft left held held' result command
-    → IfSome left (λ input. ComesWhere (λ s. s ≡ ProgramRefused astray) result (GoesAstray command input))
+    → IfSome left (λ input. (vat : ℕ) → ComesWhere (λ s. s ≡ ProgramRefused (astray vat)) result (GoesAstray vat command input))
 astray_comes None held held' result command pays = tt
-astray_comes (Some input) held held' result command (written, appends, pays) = (
-  only (λ s. s ≡ ProgramRefused astray) (GoesAstray command input) result command input written (λ stopped is. subst IsInterrupted is stopped)
-      (astray_only command input result) pays,
-  there (λ s. s ≡ ProgramRefused astray) (GoesAstray command input) result command input written (λ due strays. stop_there Astray strays.0 command input result written due strays.1) pays,
+astray_comes (Some input) held held' result command (written, appends, pays) = λ vat. (
+  only (λ s. s ≡ ProgramRefused (astray vat)) (GoesAstray vat command input) result command input written (λ stopped is. subst IsInterrupted is stopped)
+      (astray_only vat command input result) pays,
+  there (λ s. s ≡ ProgramRefused (astray vat)) (GoesAstray vat command input) result command input written (astray_there vat command input result written) pays,
 )
 
 pub fuel_comes : (left held held' : Option (List ℕ)) (result : Status) (command : Option Command) → OfLeft left held held' result command
@@ -572,7 +603,7 @@ fuel_comes (Some input) held held' result command (written, appends, pays) = λ 
   only (λ s. s ≡ FuelSpent step) (Stops Fuel step command input) result command input written (λ stopped is. subst IsInterrupted is stopped)
       (fuel_only step command input result) pays,
   there (λ s. s ≡ FuelSpent step) (Stops Fuel step command input) result command input written
-      (λ due stops. stop_there Fuel step command input result written due stops) pays,
+      (λ due stops. stop_there stops.0 Fuel step command input result written due stops.1) pays,
 )
 
 pub deep_comes : (left held held' : Option (List ℕ)) (result : Status) (command : Option Command) → OfLeft left held held' result command
@@ -582,7 +613,7 @@ deep_comes (Some input) held held' result command (written, appends, pays) = λ 
   only (λ s. s ≡ TooDeep step) (Stops Deep step command input) result command input written (λ stopped is. subst IsInterrupted is stopped)
       (deep_only step command input result) pays,
   there (λ s. s ≡ TooDeep step) (Stops Deep step command input) result command input written
-      (λ due stops. stop_there Deep step command input result written due stops) pays,
+      (λ due stops. stop_there stops.0 Deep step command input result written due stops.1) pays,
 )
 
 pub drew_comes : (left held held' : Option (List ℕ)) (result : Status) (command : Option Command) → OfLeft left held held' result command

@@ -11,7 +11,6 @@ use Rattle.ev_reader.specs.declared.fault.ProgramFault.{ProgramFault}
 use Rattle.ev_reader.specs.declared.fault.ProgramFault.TheVariants as faults
 use Rattle.def_run.specs.World as machine
 use Rattle.def_run.specs.World.{run, Goes, Stopped}
-use Rattle.def_run.specs.Text.{text as machine_text}
 use Rattle.ev_scope.specs.declared.accepted.Scoped.{Scoped}
 use Rattle.ev_script.specs.declared.script.Script.{Script}
 use Rattle.ev_script.specs.declared.script.VatScript.{VatScript}
@@ -24,8 +23,8 @@ use Rattle.ev_top.specs.Debt.{IsFor, most_bytes, too_long}
 use Rattle.ev_top.specs.Script.{script_from}
 use Rattle.ev_top.specs.Programs.{IsDueOfFault}
 use Rattle.ev_top.specs.Expansion.{text_from, nameless, IsDueOfText, IsDueOfForm}
-use Rattle.ev_top.specs.Due.{IsDue, IsDueOfBytes, IsDueOfInput, IsDueOfScript, IsDueOfSource, IsDueOfTree, IsDueOfVats, IsOfWhole, IsOfRead, Finishes, Pays, PaysWith, due_of_run}
-use Rattle.ev_top.specs.Machine.{script_of}
+use Rattle.ev_top.specs.Due.{IsDue, IsDueOfBytes, IsDueOfInput, IsDueOfScript, IsDueOfTrees, IsDueOfVats, IsOfWhole, IsOfRead, Finishes, Pays, PaysWith, due_of_run}
+use Rattle.ev_top.specs.Machine.{script_of, text_of}
 use Rattle.ev_top.specs.declared.command.Command.{Command}
 use Rattle.ev_top.specs.declared.command.Command.TheVariants.{Run, Expand, Generate, Sturdy, Mint}
 use Rattle.ev_top.specs.declared.status.Status.{Status}
@@ -33,41 +32,38 @@ use Rattle.ev_top.specs.declared.status.Status.TheVariants.{Done, Usage, ReadFau
 
 -- ---- what is due for bytes that are few enough needs all of them
 
-of_fault : (name : List ℕ) (fault : ProgramFault) (status : Status) (text : List ℕ) → IsDueOfFault name fault status text → IsOfWhole status
-of_fault name (faults.At part kind place) status text due = subst IsOfWhole (sym due.0) tt
-of_fault name faults.Memory status text due = absurd due
+of_fault : (vat : ℕ) (name : List ℕ) (fault : ProgramFault) (status : Status) (text : List ℕ) → IsDueOfFault vat name fault status text → IsOfWhole status
+of_fault vat name (faults.At part kind place) status text due = subst IsOfWhole (sym due.0) tt
+of_fault vat name faults.Memory status text due = absurd due
 
 of_form : (answer : Result Scoped ProgramFault) (status : Status) (text : List ℕ) → IsDueOfForm answer status text → IsOfWhole status
 of_form (Ok scoped) status text due = subst IsOfWhole (sym due.0) tt
-of_form (Err fault) status text due = of_fault nameless fault status text due
+of_form (Err fault) status text due = of_fault 0 nameless fault status text due
 
 of_text : (found : Result (List ℕ) ℕ) (status : Status) (text : List ℕ) → IsDueOfText found status text → IsOfWhole status
 of_text (Ok program) status text due = of_form due.0 status text due.2
 of_text (Err rule) status text due = subst IsOfWhole (sym due.0) tt
 
-of_end : (name text : List ℕ) (r : machine.Run) → IsOfWhole (due_of_run name text r).status
-of_end name text (Goes w) = tt
-of_end name text (Stopped Fuel step w) = tt
-of_end name text (Stopped Deep step w) = tt
-of_end name text (Stopped (Repeated i j) step w) = tt
-of_end name text (Stopped Astray step w) = tt
+of_end : (script : Script) (text : List ℕ) (r : machine.Run) → IsOfWhole (due_of_run script text r).status
+of_end script text (Goes w) = tt
+of_end script text (Stopped Fuel step w) = tt
+of_end script text (Stopped Deep step w) = tt
+of_end script text (Stopped (Repeated i j) step w) = tt
+of_end script text (Stopped Astray step w) = tt
 
-of_tree : (script : Script) (name : List ℕ) (tree : List Node) (status : Status) (text : List ℕ) → IsDueOfTree script name tree status text → IsOfWhole status
-of_tree script name tree status text due =
-    let theirs = script_of script tree in subst IsOfWhole (sym due.0) (of_end name (machine_text theirs (run theirs)) (run theirs))
+of_trees : (wire : Bool) (script : Script) (trees : List (List Node)) (status : Status) (text : List ℕ) → IsDueOfTrees wire script trees status text → IsOfWhole status
+of_trees wire script trees status text due =
+    let theirs = script_of script trees in subst IsOfWhole (sym due.0) (of_end script (text_of wire theirs) (run theirs))
 
-of_source : (script : Script) (name : List ℕ) (answer : Result Scoped ProgramFault) (status : Status) (text : List ℕ)
-    → IsDueOfSource script name answer status text → IsOfWhole status
-of_source script name (Ok scoped) status text due = of_tree script name scoped.tree status text due
-of_source script name (Err fault) status text due = of_fault name fault status text due
+of_vats : (wire : Bool) (script : Script) (trees : List (List Node)) (vats : List VatScript) (status : Status) (text : List ℕ)
+    → IsDueOfVats wire script trees vats status text → IsOfWhole status
+of_vats wire script trees [] status text due = of_trees wire script trees status text due
+of_vats wire script trees (vat ∷ more) status text (Ok scoped, answers, due) = of_vats wire script (trees ++ scoped.tree ∷ []) more status text due
+of_vats wire script trees (vat ∷ more) status text (Err fault, answers, due) = of_fault (length trees) vat.name fault status text due
 
-of_vats : (script : Script) (vats : List VatScript) (status : Status) (text : List ℕ) → IsDueOfVats script vats status text → IsOfWhole status
-of_vats script [] status text due = subst IsOfWhole (sym due.0) tt
-of_vats script (vat ∷ more) status text due = of_source script vat.name due.0 status text due.2
-
-of_script : (found : Result Script ℕ) (status : Status) (text : List ℕ) → IsDueOfScript found status text → IsOfWhole status
-of_script (Ok script) status text due = of_vats script script.vats status text due
-of_script (Err rule) status text due = subst IsOfWhole (sym due.0) tt
+of_script : (wire : Bool) (found : Result Script ℕ) (status : Status) (text : List ℕ) → IsDueOfScript wire found status text → IsOfWhole status
+of_script wire (Ok script) status text due = of_vats wire script [] script.vats status text due
+of_script wire (Err rule) status text due = subst IsOfWhole (sym due.0) tt
 
 of_repeated : (repeated : Option (ℕ × ℕ)) → IsOfWhole (status_of repeated)
 of_repeated None = tt
@@ -82,7 +78,7 @@ of_mint (Ok told) status text due = subst IsOfWhole (sym due.0) tt
 of_mint (Err rule) status text due = subst IsOfWhole (sym due.0) tt
 
 pub whole : (command : Command) (input : List ℕ) (status : Status) (text : List ℕ) → IsDueOfBytes command input status text → IsOfWhole status
-whole Run input status text due = of_script (script_from input) status text due
+whole (Run wire) input status text due = of_script wire (script_from input) status text due
 whole Expand input status text due = of_text (text_from input) status text due
 whole (Generate n) input status text due = subst IsOfWhole (sym due.0) tt
 whole Sturdy input status text due = of_sturdy (sturdy.due input) status text due

@@ -1,9 +1,9 @@
 pub mod GivenNames
 pub mod DueLemmas
 pub mod OneReading
-pub mod Empty
+pub mod Steady
 pub mod Ended
-pub mod Turns
+pub mod ReadLemmas
 pub mod CauseLemmas
 pub mod Fates
 pub mod Reach

@@ -7,7 +7,7 @@ use Rattle.ev_top.specs.declared.command.Command.{Command}
 
 pub frozen_alone : (left : Option (List ℕ)) (command : Option Command) → IfSome left (λ input. StampedReachFrozenAlone command input)
 frozen_alone None command = tt
-frozen_alone (Some input) command = λ script world (runs, read, vat, has, scoped, reads, is, goes). reach_at_the_end script world goes
+frozen_alone (Some input) command = λ script world (wire, runs, read, programs, has, is, goes). reach_at_the_end script world goes
 
 pub uses_connected : (left : Option (List ℕ)) (command : Option Command) → IfSome left (λ input. UsesAreConnected command input)
 uses_connected None command = tt

@@ -20,14 +20,14 @@ nothing_taken left = ([], Consumes-nil left, omega arith)
 
 -- a command that generates no script reads, and one that generates one does not
 pub is_read : (command : Command) → generated_number command ≡ None → reads command ≡ true
-is_read Run h = refl
+is_read (Run wire) h = refl
 is_read Expand h = refl
 is_read (Generate n) h = absurd cc
 is_read Sturdy h = refl
 is_read Mint h = refl
 
 pub is_unread : (command : Command) (n : ℕ) → generated_number command ≡ Some n → (command ≡ Generate n) × (reads command ≡ false)
-is_unread Run n h = absurd cc
+is_unread (Run wire) n h = absurd cc
 is_unread Expand n h = absurd cc
 is_unread (Generate m) n h = (cc, refl)
 is_unread Sturdy n h = absurd cc

@@ -1,5 +1,5 @@
 -- Why each answer comes.
-use Rattle.std.specs.Prelude.{◌≡◌, ◌⊎◌, ◌<◌, ◌≤◌, ℕ, true, List, [], ◌∷◌, length, Some, None, Ok, Err}
+use Rattle.std.specs.Prelude.{◌≡◌, ◌⊎◌, ◌<◌, ◌≤◌, ℕ, Bool, true, List, length, slice_get, Some, None, Ok, Err}
 use Rattle.std.specs.declared.option.Option.{Option}
 use Rattle.def_machine.specs.State.{Stop, Repeated, Astray}
 use Rattle.ev_reader.specs.Program.{Answers}
@@ -14,8 +14,8 @@ use Rattle.ev_mint_text.specs.Telling as mint
 use Rattle.ev_top.specs.Commands.{reads}
 use Rattle.ev_top.specs.Debt.{most_bytes}
 use Rattle.ev_top.specs.Expansion.{text_from}
-use Rattle.ev_top.specs.Machine.{script_of}
-use Rattle.ev_top.specs.Programs.{safe_names}
+use Rattle.ev_top.specs.Machine.{script_of, vat_of_step}
+use Rattle.ev_top.specs.Programs.{AreRead, IsFirstRefused, IsRead, safe_names, trees_of}
 use Rattle.ev_top.specs.Script.{script_from}
 use Rattle.ev_top.specs.declared.command.Command.{Command}
 use Rattle.ev_top.specs.declared.command.Command.TheVariants.{Run, Expand, Generate, Sturdy, Mint}
@@ -45,7 +45,7 @@ IsLong (Some command) input = (reads command ≡ true) × (most_bytes < length i
 -- the whole input breaks the rule of this number
 abbrev pub Breaks : ℕ → Option Command → List ℕ → Type 0
 Breaks rule None input = ⊥
-Breaks rule (Some Run) input = (length input ≤ most_bytes) × (script_from input ≡ Err rule)
+Breaks rule (Some (Run wire)) input = (length input ≤ most_bytes) × (script_from input ≡ Err rule)
 Breaks rule (Some Expand) input = (length input ≤ most_bytes) × (text_from input ≡ Err rule)
 Breaks rule (Some (Generate n)) input = ⊥
 Breaks rule (Some Sturdy) input = (length input ≤ most_bytes) × (sturdy.due input ≡ Err rule)
@@ -58,47 +58,54 @@ DrawsAgain first second command input = (command ≡ Some Sturdy) × (length inp
 
 -- ---- programs
 
--- the vat of a script, of which there is at most one
-abbrev pub IsVatOf : List VatScript → VatScript → Type 0
-IsVatOf [] vat = ⊥
-IsVatOf (first ∷ more) vat = first ≡ vat
+-- the whole input is that script
+abbrev pub HasScript : List ℕ → Script → Type 0
+HasScript input script = (length input ≤ most_bytes) × (script_from input ≡ Ok script)
 
--- the whole input is a script with that vat
-abbrev pub HasVat : List ℕ → Script → VatScript → Type 0
-HasVat input script vat = (length input ≤ most_bytes) × (script_from input ≡ Ok script) × IsVatOf script.vats vat
+-- and the sources of its vats are read to these programs, in order
+abbrev pub HasPrograms : List ℕ → Script → List Scoped → Type 0
+HasPrograms input script programs = HasScript input script × AreRead script.vats script.vats programs
 
--- the whole input has this program: as the source of the script's vat, or as the text that it is
-abbrev pub HasProgram : Option Command → List ℕ → List ℕ → Type 0
-HasProgram None input program = ⊥
-HasProgram (Some Run) input program = (script : Script) × (vat : VatScript) × HasVat input script vat × (vat.source ≡ program)
-HasProgram (Some Expand) input program = (length input ≤ most_bytes) × (text_from input ≡ Ok program)
-HasProgram (Some _) input program = ⊥
+-- the whole input is the text of that program, which is of no vat
+abbrev pub HasText : List ℕ → List ℕ → Type 0
+HasText input program = (length input ≤ most_bytes) × (text_from input ≡ Ok program)
 
--- its reading ends with this fault
-abbrev pub HasFault : Part → ℕ → ℕ → Option Command → List ℕ → Type 0
-HasFault part kind place command input = (program : List ℕ) × HasProgram command input program × Answers (Err (At part kind place)) program safe_names
+-- The whole input is a script, and the vat of that number is the first whose source is refused, with this fault; or it is a text
+-- that is refused so, and the number is 0.
+abbrev pub HasFault : ℕ → Part → ℕ → ℕ → Option Command → List ℕ → Type 0
+HasFault vat part kind place None input = ⊥
+HasFault vat part kind place (Some (Run wire)) input = (script : Script) × HasScript input script × IsFirstRefused script.vats vat (At part kind place)
+HasFault vat part kind place (Some Expand) input = (vat ≡ 0) × (program : List ℕ) × HasText input program × Answers (Err (At part kind place)) program safe_names
+HasFault vat part kind place (Some _) input = ⊥
 
--- no tree is read of it
+-- The whole input is a script, and no tree is read of the source of one of its vats; or it is a text of which none is read.
 abbrev pub HasNoTree : Option Command → List ℕ → Type 0
-HasNoTree command input =
-    (program : List ℕ) × HasProgram command input program × ((scoped : Scoped) → Answers (Ok scoped) program safe_names → ⊥)
+HasNoTree None input = ⊥
+HasNoTree (Some (Run wire)) input = (script : Script) × HasScript input script × (place : ℕ) × (vat : VatScript) × (slice_get script.vats place ≡ Some vat)
+    × ((scoped : Scoped) → IsRead script.vats vat (Ok scoped) → ⊥)
+HasNoTree (Some Expand) input = (program : List ℕ) × HasText input program × ((scoped : Scoped) → Answers (Ok scoped) program safe_names → ⊥)
+HasNoTree (Some _) input = ⊥
 
 abbrev pub IsProgramRefused : Status → Type 0
 IsProgramRefused (ProgramRefused r) = Unit {0}
 IsProgramRefused _ = ⊥
 
--- the machine's run of a script whose vat has this tree
-abbrev pub run_of : Script → Scoped → Machine
-run_of script scoped = run (script_of script scoped.tree)
+-- the machine's run of a script whose programs are these
+abbrev pub run_of : Script → List Scoped → Machine
+run_of script programs = run (script_of script (trees_of programs))
 
--- the vat's program is read to a tree whose run stops in this step
+-- the whole input is that script, whose programs are read, and its run stops in this step
+abbrev pub StopsIn : Script → Stop → ℕ → Option Command → List ℕ → Type 0
+StopsIn script stop step command input = (wire : Bool) × (command ≡ Some (Run wire)) × (programs : List Scoped) × HasPrograms input script programs
+    × (world : World) × (run_of script programs ≡ Stopped stop step world)
+
+-- the same of some script
 abbrev pub Stops : Stop → ℕ → Option Command → List ℕ → Type 0
-Stops stop step command input = (command ≡ Some Run) × (script : Script) × (vat : VatScript) × HasVat input script vat
-    × (scoped : Scoped) × Answers (Ok scoped) vat.source safe_names × (world : World) × (run_of script scoped ≡ Stopped stop step world)
+Stops stop step command input = (script : Script) × StopsIn script stop step command input
 
--- it stops in a step where it meets a noun that nothing binds
-abbrev pub GoesAstray : Option Command → List ℕ → Type 0
-GoesAstray command input = (step : ℕ) × Stops Astray step command input
+-- it stops in a step of that vat, in which it meets a noun that nothing binds
+abbrev pub GoesAstray : ℕ → Option Command → List ℕ → Type 0
+GoesAstray vat command input = (script : Script) × (step : ℕ) × StopsIn script Astray step command input × (vat_of_step script step ≡ vat)
 
 -- the second of these draws gives what the first gave, in those answers or in a step of that run
 abbrev pub RepeatsWord : ℕ → ℕ → Option Command → List ℕ → Type 0

@@ -12,23 +12,37 @@ most_generated = 3000
 
 abbrev pub command_alone : List ℕ → Option Command
 command_alone word =
-    if bytes_eq word (codes "run") then Some Run
+    if bytes_eq word (codes "run") then Some (Run false)
     else if bytes_eq word (codes "expand") then Some Expand
     else if bytes_eq word (codes "sturdy") then Some Sturdy
     else if bytes_eq word (codes "mint") then Some Mint
     else None
 
--- one word alone, or `gen` and a number
+-- the run with its frames
+abbrev pub command_of_run : List ℕ → Option Command
+command_of_run next = if bytes_eq next (codes "wire") then Some (Run true) else None
+
+abbrev pub command_of_number : List ℕ → Option Command
+command_of_number next = option_map Generate (number most_generated next)
+
+-- the command that two words are: `run` and `wire`, or `gen` and a number
+abbrev pub command_with : List ℕ → List ℕ → Option Command
+command_with word next =
+    if bytes_eq word (codes "run") then command_of_run next
+    else if bytes_eq word (codes "gen") then command_of_number next
+    else None
+
+-- one word alone, or two
 abbrev pub command_of : List (List ℕ) → Option Command
 command_of [] = None
 command_of (word ∷ []) = command_alone word
-command_of (word ∷ next ∷ []) = if bytes_eq word (codes "gen") then option_map Generate (number most_generated next) else None
+command_of (word ∷ next ∷ []) = command_with word next
 command_of (word ∷ next ∷ other ∷ rest) = None
 
 -- the number of the script that a command generates
 abbrev pub generated_number : Command → Option ℕ
 generated_number (Generate n) = Some n
-generated_number Run = None
+generated_number (Run wire) = None
 generated_number Expand = None
 generated_number Sturdy = None
 generated_number Mint = None
@@ -36,7 +50,7 @@ generated_number Mint = None
 -- each other command reads what the source has
 abbrev pub reads : Command → Bool
 reads (Generate n) = false
-reads Run = true
+reads (Run wire) = true
 reads Expand = true
 reads Sturdy = true
 reads Mint = true

@@ -1,5 +1,5 @@
 -- What a call owes: its status and its text, by its command and the bytes that were read.
-use Rattle.std.specs.Prelude.{◌≡◌, ◌⊎◌, ◌≤◌, ◌+◌, ℕ, Bool, true, false, nat_lt, ◌&&◌, List, [], ◌∷◌, length, codes, Some, None, IsSome, Result, Ok, Err}
+use Rattle.std.specs.Prelude.{◌≡◌, ◌⊎◌, ◌≤◌, ◌+◌, ℕ, Bool, true, false, nat_lt, ◌&&◌, List, [], ◌∷◌, ◌++◌, length, codes, Some, None, IsSome, Result, Ok, Err}
 use Rattle.std.specs.declared.option.Option.{Option}
 use Rattle.std.specs.Io.KnownBytes.{Appends, Consumes}
 use Rattle.def_kernel.specs.declared.node.Node.{Node}
@@ -7,7 +7,6 @@ use Rattle.def_machine.specs.State.{Fuel, Deep, Repeated, Astray}
 use Rattle.ev_reader.specs.declared.fault.ProgramFault.{ProgramFault}
 use Rattle.def_run.specs.World as machine
 use Rattle.def_run.specs.World.{run, Goes, Stopped}
-use Rattle.def_run.specs.Text.{text as machine_text}
 use Rattle.ev_scope.specs.declared.accepted.Scoped.{Scoped}
 use Rattle.ev_script.specs.declared.script.Script.{Script}
 use Rattle.ev_script.specs.declared.script.VatScript.{VatScript}
@@ -18,8 +17,8 @@ use Rattle.ev_sturdy_text.specs.Telling as sturdy
 use Rattle.ev_mint_text.specs.Telling as mint
 use Rattle.ev_top.specs.Commands.{reads}
 use Rattle.ev_top.specs.Lines.{IsDueOfGenerated, IsDueOfMint, IsDueOfSturdy}
-use Rattle.ev_top.specs.Machine.{script_of}
-use Rattle.ev_top.specs.Programs.{ReadAs, IsDueOfFault}
+use Rattle.ev_top.specs.Machine.{script_of, text_of, vat_of_step}
+use Rattle.ev_top.specs.Programs.{ReadAs, IsDueOfFault, name_of, names_for}
 use Rattle.ev_top.specs.Script.{script_from}
 use Rattle.ev_top.specs.declared.command.Command.{Command}
 use Rattle.ev_top.specs.declared.command.Command.TheVariants.{Run, Expand, Generate, Sturdy, Mint}
@@ -33,52 +32,54 @@ use Rattle.ev_top.specs.declared.status.Status.TheVariants.{Done, Usage, ReadFau
 
 -- ---- a run
 
--- where no stage refuses a program, and its run goes astray
-abbrev pub astray : Refusal
-astray = record { vat = 0; stage = stages.Astray; kind = 0; place = 0 }
+-- where no stage refuses a program, and its run goes astray in a step of that vat
+abbrev pub astray : ℕ → Refusal
+astray vat = record { vat = vat; stage = stages.Astray; kind = 0; place = 0 }
 
--- what is due for a program of that name whose run goes astray
-abbrev pub gone_astray : List ℕ → Debt
-gone_astray name = program_refused name astray (codes "astray 0 0")
+-- what is due for a run that goes astray in a step of that vat
+abbrev pub gone_astray : Script → ℕ → Debt
+gone_astray script vat = program_refused (name_of script.vats vat) (astray vat) (codes "astray 0 0")
 
--- What is due for a run with this text, of the vat of that name: its status tells how it ended, at its end or in a step that
--- stopped, for fuel or for depth, or where a draw gave what an earlier one gave. A run goes astray where a noun is met that
--- nothing binds; such a program is refused.
-abbrev pub due_of_run : List ℕ → List ℕ → machine.Run → Debt
-due_of_run name text (Goes w) = record { status = Done; text = text }
-due_of_run name text (Stopped Fuel step w) = record { status = FuelSpent step; text = text }
-due_of_run name text (Stopped Deep step w) = record { status = TooDeep step; text = text }
-due_of_run name text (Stopped Astray step w) = gone_astray name
-due_of_run name text (Stopped (Repeated i j) step w) = record { status = WordRepeated i j; text = text }
+-- What is due for a run with this text: its status tells how it ended, at its end or in a step that stopped, for fuel or for
+-- depth, or where a draw gave what an earlier one gave. A run goes astray where a noun is met that nothing binds; then the program
+-- of the vat whose step it was is refused.
+abbrev pub due_of_run : Script → List ℕ → machine.Run → Debt
+due_of_run script text (Goes w) = record { status = Done; text = text }
+due_of_run script text (Stopped Fuel step w) = record { status = FuelSpent step; text = text }
+due_of_run script text (Stopped Deep step w) = record { status = TooDeep step; text = text }
+due_of_run script text (Stopped Astray step w) = gone_astray script (vat_of_step script step)
+due_of_run script text (Stopped (Repeated i j) step w) = record { status = WordRepeated i j; text = text }
 
--- the same for the machine's run on a script
-abbrev pub due_of_machine : List ℕ → machine.Script → Debt
-due_of_machine name script = due_of_run name (machine_text script (run script)) (run script)
+-- the same for the machine's run on a script, with the frames in the text where they are asked for
+abbrev pub due_of_machine : Bool → Script → machine.Script → Debt
+due_of_machine wire script theirs = due_of_run script (text_of wire theirs) (run theirs)
 
--- what is due for a script whose vat has that name and tree: its run
-abbrev pub IsDueOfTree : Script → List ℕ → List Node → Status → List ℕ → Type 0
-IsDueOfTree script name tree status text = IsFor status text (due_of_machine name (script_of script tree))
+-- what is due for a script whose programs have these trees: its run
+abbrev pub IsDueOfTrees : Bool → Script → List (List Node) → Status → List ℕ → Type 0
+IsDueOfTrees wire script trees status text = IsFor status text (due_of_machine wire script (script_of script trees))
 
--- what is due for a script by what the source of its vat is read as
-abbrev pub IsDueOfSource : Script → List ℕ → Result Scoped ProgramFault → Status → List ℕ → Type 0
-IsDueOfSource script name (Ok scoped) status text = IsDueOfTree script name scoped.tree status text
-IsDueOfSource script name (Err fault) status text = IsDueOfFault name fault status text
+-- what is due by what the source of the vat of that number and name is read as: what is due for its tree, or its refusal
+abbrev pub IsDueOfAnswer : ℕ → List ℕ → (List Node → Status → List ℕ → Type 0) → Result Scoped ProgramFault → Status → List ℕ → Type 0
+IsDueOfAnswer vat name Due (Ok scoped) status text = Due scoped.tree status text
+IsDueOfAnswer vat name Due (Err fault) status text = IsDueOfFault vat name fault status text
 
--- what is due for a script with these vats, of which there is at most one: the run of that one, or of none
-abbrev pub IsDueOfVats : Script → List VatScript → Status → List ℕ → Type 0
-IsDueOfVats script [] status text = (status ≡ Done) × (text ≡ machine_text (script_of script []) (run (script_of script [])))
-IsDueOfVats script (vat ∷ more) status text = ReadAs vat.source (λ answer. IsDueOfSource script vat.name answer status text)
+-- What is due for a script, where the sources of its first vats were read to these trees, by the vats that come next: the first
+-- source that is refused is the answer, and else the run.
+abbrev pub IsDueOfVats : Bool → Script → List (List Node) → List VatScript → Status → List ℕ → Type 0
+IsDueOfVats wire script trees [] status text = IsDueOfTrees wire script trees status text
+IsDueOfVats wire script trees (vat ∷ more) status text = ReadAs vat.source (names_for script.vats vat)
+    (λ answer. IsDueOfAnswer (length trees) vat.name (λ tree. IsDueOfVats wire script (trees ++ tree ∷ []) more) answer status text)
 
 -- what is due for a script, or for bytes that are none
-abbrev pub IsDueOfScript : Result Script ℕ → Status → List ℕ → Type 0
-IsDueOfScript (Ok script) status text = IsDueOfVats script script.vats status text
-IsDueOfScript (Err rule) status text = IsFor status text (bytes_refused rule)
+abbrev pub IsDueOfScript : Bool → Result Script ℕ → Status → List ℕ → Type 0
+IsDueOfScript wire (Ok script) status text = IsDueOfVats wire script [] script.vats status text
+IsDueOfScript wire (Err rule) status text = IsFor status text (bytes_refused rule)
 
 -- ---- a call
 
 -- what is due for bytes that were all read; a script is generated whatever they are
 abbrev pub IsDueOfBytes : Command → List ℕ → Status → List ℕ → Type 0
-IsDueOfBytes Run input status text = IsDueOfScript (script_from input) status text
+IsDueOfBytes (Run wire) input status text = IsDueOfScript wire (script_from input) status text
 IsDueOfBytes Expand input status text = IsDueOfText (text_from input) status text
 IsDueOfBytes (Generate n) input status text = IsDueOfGenerated n status text
 IsDueOfBytes Sturdy input status text = IsDueOfSturdy (sturdy.due input) status text

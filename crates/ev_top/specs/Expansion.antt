@@ -5,7 +5,7 @@ use Rattle.def_kernel.specs.Forms.{form}
 use Rattle.ev_scope.specs.declared.accepted.Scoped.{Scoped}
 use Rattle.ev_reader.specs.declared.fault.ProgramFault.{ProgramFault}
 use Rattle.ev_top.specs.Debt.{IsFor, bytes_refused}
-use Rattle.ev_top.specs.Programs.{ReadAs, IsDueOfFault}
+use Rattle.ev_top.specs.Programs.{ReadAs, IsDueOfFault, safe_names}
 use Rattle.ev_top.specs.Words.{line}
 use Rattle.ev_top.specs.declared.status.Status.{Status}
 use Rattle.ev_top.specs.declared.status.Status.TheVariants.{Done}
@@ -25,9 +25,9 @@ nameless = codes "-"
 -- what is due for a program by what it is read as: the form of its tree, or its refusal
 abbrev pub IsDueOfForm : Result Scoped ProgramFault → Status → List ℕ → Type 0
 IsDueOfForm (Ok scoped) status text = (status ≡ Done) × (text ≡ line (form scoped.tree 0))
-IsDueOfForm (Err fault) status text = IsDueOfFault nameless fault status text
+IsDueOfForm (Err fault) status text = IsDueOfFault 0 nameless fault status text
 
 -- what is due for the text of a program, or for bytes that are none
 abbrev pub IsDueOfText : Result (List ℕ) ℕ → Status → List ℕ → Type 0
-IsDueOfText (Ok program) status text = ReadAs program (λ answer. IsDueOfForm answer status text)
+IsDueOfText (Ok program) status text = ReadAs program safe_names (λ answer. IsDueOfForm answer status text)
 IsDueOfText (Err rule) status text = IsFor status text (bytes_refused rule)

@@ -1,5 +1,5 @@
 -- What holds of the history that a call owes for a script.
-use Rattle.std.specs.Prelude.{◌≡◌, ◌≤◌, ℕ, List, Some, Ok}
+use Rattle.std.specs.Prelude.{◌≡◌, ◌≤◌, ℕ, Bool, List, Some}
 use Rattle.std.specs.declared.option.Option.{Option}
 use Rattle.def_machine.specs.Values.{Name}
 use Rattle.def_run.specs.World as machine
@@ -7,21 +7,18 @@ use Rattle.def_run.specs.World.{World, run, Goes}
 use Rattle.law_fate.specs.Fate.{fates, sent}
 use Rattle.law_frozen.specs.Runs.{ReachIsFrozenIn}
 use Rattle.law_connected.specs.UseLaws.{RunConnected}
-use Rattle.ev_reader.specs.Program.{Answers}
 use Rattle.ev_scope.specs.declared.accepted.Scoped.{Scoped}
 use Rattle.ev_script.specs.declared.script.Script.{Script}
-use Rattle.ev_script.specs.declared.script.VatScript.{VatScript}
-use Rattle.ev_top.specs.Causes.{HasVat}
+use Rattle.ev_top.specs.Causes.{HasPrograms}
 use Rattle.ev_top.specs.Machine.{script_of}
-use Rattle.ev_top.specs.Programs.{safe_names}
+use Rattle.ev_top.specs.Programs.{trees_of}
 use Rattle.ev_top.specs.declared.command.Command.{Command}
 use Rattle.ev_top.specs.declared.command.Command.TheVariants.{Run}
 
--- the whole input is a script whose program is read, and the machine's run of it goes to its end in that world
+-- the whole input is a script whose programs are read, and the machine's run of it goes to its end in that world
 abbrev pub RunsTo : Option Command → List ℕ → machine.Script → World → Type 0
-RunsTo command input script world = (command ≡ Some Run) × (read : Script) × (vat : VatScript) × HasVat input read vat
-    × (scoped : Scoped) × Answers (Ok scoped) vat.source safe_names
-    × (script ≡ script_of read scoped.tree) × (run script ≡ Goes world)
+RunsTo command input script world = (wire : Bool) × (command ≡ Some (Run wire)) × (read : Script) × (programs : List Scoped)
+    × HasPrograms input read programs × (script ≡ script_of read (trees_of programs)) × (run script ≡ Goes world)
 
 -- In its history no message is sent twice, and each that is sent is taken once, lost once, or stands once in the closing list.
 abbrev pub MessagesHaveOneFate : Option Command → List ℕ → Type 0

@@ -8,6 +8,7 @@ pub mod Programs
 pub mod Given
 pub mod Expansion
 pub mod Due
+pub mod Unread
 pub mod Ends
 pub mod Causes
 pub mod Headline

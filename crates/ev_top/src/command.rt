@@ -1,7 +1,7 @@
 //! The commands.
 
-ghost use Rattle.std.specs.Prelude.{◌≡◌, ◌∷◌, [], None, true};
-ghost use Rattle.ev_top.specs.Commands.{command_alone, command_of, generated_number, reads};
+ghost use Rattle.std.specs.Prelude.{◌≡◌};
+ghost use Rattle.ev_top.specs.Commands.{command_alone, command_of, command_of_number, command_of_run, command_with, generated_number};
 
 use ev_base::{Seq, Str};
 use ev_command_lines::number;
@@ -12,8 +12,8 @@ const MOST_GENERATED: u64 = 3000;
 /// What a call is asked to do.
 #[derive(Clone, Copy, Debug, PartialEq, Eq)]
 pub enum Command {
-    /// Runs a script.
-    Run,
+    /// Runs a script. What is told has the frames where `wire` asks for them.
+    Run { wire: bool },
     /// Writes the form of a program's kernel tree.
     Expand,
     /// Writes the script that is generated for a number. It reads nothing.
@@ -29,7 +29,7 @@ fn command_alone(word: &str) -> Option<Command>
     ensures { result ≡ command_alone word.now }
 {
     match word {
-        "run" => Some(Command::Run),
+        "run" => Some(Command::Run { wire: false }),
         "expand" => Some(Command::Expand),
         "sturdy" => Some(Command::Sturdy),
         "mint" => Some(Command::Mint),
@@ -37,15 +37,33 @@ fn command_alone(word: &str) -> Option<Command>
     }
 }
 
-/// The command that two words are.
-fn command_with(word: &str, next: &str) -> Option<Command>
-    ensures { result ≡ command_of (word.now ∷ next.now ∷ []) }
+/// The run that the word behind `run` asks for.
+fn command_of_run(next: &str) -> Option<Command>
+    ensures { result ≡ command_of_run next.now }
 {
-    if word != "gen" {
-        return None;
+    match next {
+        "wire" => Some(Command::Run { wire: true }),
+        _ => None,
     }
+}
+
+/// The command that the word behind `gen` asks for.
+fn command_of_number(next: &str) -> Option<Command>
+    ensures { result ≡ command_of_number next.now }
+{
     let count = number(next, MOST_GENERATED)?;
     Some(Command::Generate(count as u32))
+}
+
+/// The command that two words are.
+fn command_with(word: &str, next: &str) -> Option<Command>
+    ensures { result ≡ command_with word.now next.now }
+{
+    match word {
+        "run" => command_of_run(next),
+        "gen" => command_of_number(next),
+        _ => None,
+    }
 }
 
 /// The command that words are, if they are one.

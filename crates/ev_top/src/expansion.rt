@@ -4,7 +4,8 @@ ghost use Rattle.std.specs.Prelude.{◌≡◌, IfOk, Ok, Err, string_bytes};
 ghost use Rattle.std.specs.Result.{result_map_both};
 ghost use Rattle.ev_top.specs.Expansion.{IsDueOfForm, IsDueOfText, text_from};
 
-use crate::reply::{Reply, reply_fault, reply_line, reply_rule, safe_names};
+use crate::given::safe_names;
+use crate::reply::{Reply, reply_fault, reply_line, reply_rule};
 use crate::status::Status;
 use ev_base::Memory;
 use ev_kernel_printer::print;
@@ -48,7 +49,7 @@ fn reply_text(alloc: Global, text: &str) -> Result<Reply, Memory>
     let given = safe_names(alloc)?;
     match read_program(alloc, text, &given) {
         Ok(scoped) => reply_form(alloc, &scoped),
-        Err(fault) => reply_fault(alloc, NAMELESS, fault),
+        Err(fault) => reply_fault(alloc, 0, NAMELESS, fault),
     }
 }
 

@@ -3,12 +3,14 @@
 
 mod command;
 mod expansion;
+mod given;
 pub mod laws;
 mod lines;
 mod program;
 mod reply;
 mod run;
 mod script;
+mod sources;
 mod status;
 
 pub use program::top;

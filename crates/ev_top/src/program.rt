@@ -51,7 +51,7 @@ fn reply_bytes(alloc: Global, command: Command, bytes: &[u8]) -> Result<Reply, M
     ensures whole { IfOk result (λ reply. IsOfWhole reply.status) }
 {
     match command {
-        Command::Run => run_bytes(alloc, bytes),
+        Command::Run { wire } => run_bytes(alloc, bytes, wire),
         Command::Expand => expand_bytes(alloc, bytes),
         Command::Generate(number) => reply_generated(alloc, number),
         Command::Sturdy => sturdy_bytes(alloc, bytes),
@@ -164,10 +164,11 @@ pub fn top<S: Source, K: Sink>(alloc: Global, words: &Seq<Str>, src: &mut S, out
     ensures long { IfSome (S.left src.old) (λ input. ComesWhere (λ s. s ≡ Status.TooLong) result (IsLong (command_of words.now) input)) }
     ensures rule { IfSome (S.left src.old) (λ input. (rule : ℕ) → ComesWhere (λ s. s ≡ Status.ScriptRefused rule) result
         (Breaks rule (command_of words.now) input)) }
-    ensures refused { IfSome (S.left src.old) (λ input. (part : Part) (kind place : ℕ)
-        → ComesWhere (λ s. s ≡ Status.ProgramRefused (refusal part kind place)) result (HasFault part kind place (command_of words.now) input)) }
+    ensures refused { IfSome (S.left src.old) (λ input. (vat : ℕ) (part : Part) (kind place : ℕ)
+        → ComesWhere (λ s. s ≡ Status.ProgramRefused (refusal vat part kind place)) result (HasFault vat part kind place (command_of words.now) input)) }
     ensures no_tree { IfSome (S.left src.old) (λ input. Follows IsProgramRefused result (HasNoTree (command_of words.now) input)) }
-    ensures astray { IfSome (S.left src.old) (λ input. ComesWhere (λ s. s ≡ Status.ProgramRefused astray) result (GoesAstray (command_of words.now) input)) }
+    ensures astray { IfSome (S.left src.old) (λ input. (vat : ℕ) → ComesWhere (λ s. s ≡ Status.ProgramRefused (astray vat)) result
+        (GoesAstray vat (command_of words.now) input)) }
     ensures fuel { IfSome (S.left src.old) (λ input. (step : ℕ) → ComesWhere (λ s. s ≡ Status.FuelSpent step) result
         (Stops Fuel step (command_of words.now) input)) }
     ensures depth { IfSome (S.left src.old) (λ input. (step : ℕ) → ComesWhere (λ s. s ≡ Status.TooDeep step) result

@@ -1,12 +1,12 @@
 //! What a call is to answer and to write.
 
-ghost use Rattle.std.specs.Prelude.{◌≡◌, IfOk, map, string_bytes};
+ghost use Rattle.std.specs.Prelude.{◌≡◌, IfOk, string_bytes};
 ghost use Rattle.ev_top.specs.Debt.{IsFor, bytes_refused, program_refused};
-ghost use Rattle.ev_top.specs.Programs.{IsDueOfFault, safe_names, stage_of};
+ghost use Rattle.ev_top.specs.Programs.{IsDueOfFault, stage_of};
 ghost use Rattle.ev_top.specs.Words.{line};
 
 use crate::status::{Refusal, Stage, Status};
-use ev_base::{Memory, Seq, Str};
+use ev_base::Memory;
 use ev_reader::ProgramFault;
 use std::alloc::Global;
 
@@ -50,15 +50,16 @@ fn stage_of(part: ev_reader::Stage) -> Stage
     }
 }
 
-/// The refusal of a program that goes by this name, by the fault to which it is read.
-pub fn reply_fault(alloc: Global, name: &str, fault: ProgramFault) -> Result<Reply, Memory>
-    ensures { IfOk result (λ reply. IsDueOfFault name.now fault reply.status (string_bytes reply.text)) }
+/// The refusal of a program that goes by this name, by the fault to which it is read. It is the program of the vat of that number,
+/// or of no vat, where the number is 0.
+pub fn reply_fault(alloc: Global, vat: u8, name: &str, fault: ProgramFault) -> Result<Reply, Memory>
+    ensures { IfOk result (λ reply. IsDueOfFault vat name.now fault reply.status (string_bytes reply.text)) }
 {
     let ProgramFault::At(part, kind, place) = fault else {
         return Err(Memory);
     };
     let refusal = Refusal {
-        vat: 0,
+        vat,
         stage: stage_of(part),
         kind,
         place,
@@ -67,49 +68,4 @@ pub fn reply_fault(alloc: Global, name: &str, fault: ProgramFault) -> Result<Rep
         status: Status::ProgramRefused(refusal),
         text: format!(in alloc; "refused program {name} {fault}\n")?,
     })
-}
-
-/// The names of the safe scope.
-const SAFE_NAMES: [&str; 23] = [
-    "null",
-    "true",
-    "false",
-    "__makeList",
-    "__equalizer",
-    "__comparer",
-    "__loop",
-    "E",
-    "Ref",
-    "throw",
-    "auditedBy",
-    "any",
-    "void",
-    "int",
-    "boolean",
-    "char",
-    "String",
-    "List",
-    "nullOk",
-    "near",
-    "DeepFrozen",
-    "Selfless",
-    "Functional",
-];
-
-/// Copies of these texts.
-fn copies_of(alloc: Global, texts: &[&str]) -> Result<Seq<Str>, Memory>
-    ensures { IfOk result (λ copies. copies ≡ map (λ text. text.now) texts.now) }
-{
-    let mut copies = Seq::new(alloc);
-    for text in texts {
-        copies.push(Str::copy_of(alloc, text)?)?;
-    }
-    Ok(copies)
-}
-
-/// The names that every program is given.
-pub fn safe_names(alloc: Global) -> Result<Seq<Str>, Memory>
-    ensures { IfOk result (λ names. names ≡ safe_names) }
-{
-    copies_of(alloc, &SAFE_NAMES)
 }

@@ -1,41 +1,62 @@
-//! What is due for the bytes of a script: the run of its vat, or a refusal.
+//! What is due for the bytes of a script: its run, or a refusal.
 
-ghost use Rattle.std.specs.Prelude.{◌≡◌, ◌≤◌, [], ◌∷◌, length, IfOk, string_bytes};
+ghost use Rattle.std.specs.Prelude.{◌≡◌, [], IfOk, string_bytes};
 ghost use Rattle.ev_script.specs.Rules.{IsAdmitted};
 ghost use Rattle.ev_top.specs.Debt.{IsFor};
-ghost use Rattle.ev_top.specs.Due.{IsDueOfScript, IsDueOfSource, IsDueOfTree, IsDueOfVats, gone_astray};
+ghost use Rattle.ev_top.specs.Due.{IsDueOfScript, IsDueOfTrees, IsDueOfVats, gone_astray};
 ghost use Rattle.ev_top.specs.Ends.{due_by};
-ghost use Rattle.ev_top.specs.Programs.{ReadAs};
-ghost use Rattle.ev_top.specs.Script.{most_vats, script_from};
+ghost use Rattle.ev_top.specs.Machine.{vat_of_entry, vat_of_step};
+ghost use Rattle.ev_top.specs.Programs.{AreRead, trees_of};
+ghost use Rattle.ev_top.specs.Script.{script_from};
 
-use crate::reply::{Reply, reply_fault, reply_line, reply_rule, safe_names};
+use crate::given::name_of;
+use crate::reply::{Reply, reply_rule};
 use crate::script::script_from;
+use crate::sources::{Unread, read_sources};
 use crate::status::{Refusal, Stage, Status};
-use def_kernel::Kernel;
-use ev_base::{Limits, Memory};
-use ev_reader::read_program;
-use ev_script::{Script, ScriptFault, VatScript};
-use ev_vat::{RunEnd, run_program};
+use ev_base::{Limits, Memory, VatId};
+use ev_scope::Scoped;
+use ev_script::{Entry, Script, ScriptFault};
+use ev_world::{RunEnd, run_script};
 use std::alloc::Global;
 
 /// The greatest depth at which a node begins.
 const GREATEST_DEPTH: u32 = 20_000;
 
-/// The run of a script of no vat.
-fn reply_empty(alloc: Global, script: &Script) -> Result<Reply, Memory>
-    requires admitted { IsAdmitted script.now }
-    requires none { script.now.vats ≡ [] }
-    ensures { IfOk result (λ reply. IsDueOfVats script.now [] reply.status (string_bytes reply.text)) }
+/// The vat that an entry has take a step. No vat takes one in a cut.
+fn vat_of_entry(entry: Entry) -> VatId
+    ensures { result ≡ vat_of_entry entry }
 {
-    reply_line(alloc, Status::Done, "end")
+    match entry {
+        Entry::Turn(vat) => vat,
+        Entry::Carry(_, to) => to,
+        Entry::Cut(vat, _) => vat,
+        Entry::Notice(vat, _) => vat,
+    }
 }
 
-/// The refusal of a program whose run went astray.
-fn reply_astray(alloc: Global, name: &str) -> Result<Reply, Memory>
-    ensures { IfOk result (λ reply. IsFor reply.status (string_bytes reply.text) (gone_astray name.now)) }
+/// The vat whose step that is. Steps are counted from 0 over the opening turns and then the entries.
+fn vat_of_step(script: &Script, step: u64) -> VatId
+    requires { IsAdmitted script.now }
+    ensures { result ≡ vat_of_step script.now step }
 {
+    let openings = script.vats.len() as u64;
+    if step < openings {
+        return VatId(step as u8);
+    }
+    match script.schedule.as_slice().get((step - openings) as usize) {
+        Some(entry) => vat_of_entry(*entry),
+        None => VatId(0),
+    }
+}
+
+/// The refusal of the program of a vat in whose step a run went astray.
+fn reply_astray(alloc: Global, script: &Script, vat: VatId) -> Result<Reply, Memory>
+    ensures { IfOk result (λ reply. IsFor reply.status (string_bytes reply.text) (gone_astray script.now vat)) }
+{
+    let name = name_of(script.vats.as_slice(), vat);
     let refusal = Refusal {
-        vat: 0,
+        vat: vat.0,
         stage: Stage::Astray,
         kind: 0,
         place: 0,
@@ -46,72 +67,57 @@ fn reply_astray(alloc: Global, name: &str) -> Result<Reply, Memory>
     })
 }
 
-/// The run of a program that ended so, with its text, or the refusal of one whose run went astray.
-fn reply_told(alloc: Global, name: &str, end: RunEnd, text: String) -> Result<Reply, Memory>
-    ensures { IfOk result (λ reply. IsFor reply.status (string_bytes reply.text) (due_by name.now (string_bytes text) end)) }
+/// The run of a script that ended so, with its text, or the refusal of a program where the run went astray.
+fn reply_told(alloc: Global, script: &Script, end: RunEnd, text: String) -> Result<Reply, Memory>
+    requires { IsAdmitted script.now }
+    ensures { IfOk result (λ reply. IsFor reply.status (string_bytes reply.text) (due_by script.now (string_bytes text) end)) }
 {
     let status = match end {
         RunEnd::Done => Status::Done,
         RunEnd::FuelSpent(step) => Status::FuelSpent(step),
         RunEnd::TooDeep(step) => Status::TooDeep(step),
         RunEnd::WordRepeated(first, second) => Status::WordRepeated(first, second),
-        RunEnd::Astray => return reply_astray(alloc, name),
+        RunEnd::Astray(step) => return reply_astray(alloc, script, vat_of_step(script, step)),
     };
     Ok(Reply { status, text })
 }
 
-/// The run of the program of a script's one vat: as many turns as the schedule has entries.
+/// The run of a script whose programs are these.
 fn reply_run(
     alloc: Global,
     script: &Script,
-    vat: &VatScript,
-    tree: &Kernel,
+    programs: Vec<Scoped>,
+    wire: bool,
 ) -> Result<Reply, Memory>
     requires admitted { IsAdmitted script.now }
-    requires alone { script.now.vats ≡ vat.now ∷ [] }
-    ensures { IfOk result (λ reply. IsDueOfTree script.now vat.now.name tree.now reply.status (string_bytes reply.text)) }
+    requires read { AreRead script.now.vats script.now.vats programs.items }
+    ensures { IfOk result (λ reply. IsDueOfTrees wire script.now (trees_of programs.items) reply.status (string_bytes reply.text)) }
 {
     let limits = Limits {
         depth: GREATEST_DEPTH,
     };
-    let name = vat.name.as_str();
-    let turns = script.schedule.len() as u64;
-    let told = run_program(alloc, &script.key, name, tree, turns, script.fuel, limits)?;
-    reply_told(alloc, name, told.end, told.text)
+    let told = run_script(alloc, script, programs, limits, wire)?;
+    reply_told(alloc, script, told.end, told.text)
 }
 
-/// The run of a script's one vat, or the refusal of its source.
-fn reply_vat(alloc: Global, script: &Script, vat: &VatScript) -> Result<Reply, Memory>
-    requires admitted { IsAdmitted script.now }
-    requires alone { script.now.vats ≡ vat.now ∷ [] }
-    ensures { IfOk result (λ reply. ReadAs vat.now.source
-        (λ answer. IsDueOfSource script.now vat.now.name answer reply.status (string_bytes reply.text))) }
+/// The run of a script, or the refusal of the first source that is refused.
+fn reply_script(alloc: Global, script: &Script, wire: bool) -> Result<Reply, Memory>
+    requires { IsAdmitted script.now }
+    ensures { IfOk result (λ reply. IsDueOfVats wire script.now [] script.now.vats reply.status (string_bytes reply.text)) }
 {
-    let given = safe_names(alloc)?;
-    match read_program(alloc, vat.source.as_str(), &given) {
-        Ok(scoped) => reply_run(alloc, script, vat, scoped.tree()),
-        Err(fault) => reply_fault(alloc, vat.name.as_str(), fault),
+    match read_sources(alloc, script) {
+        Ok(programs) => reply_run(alloc, script, programs, wire),
+        Err(Unread::Refused(reply)) => Ok(reply),
+        Err(Unread::Memory) => Err(Memory),
     }
 }
 
-/// The run of a script of at most one vat.
-fn reply_vats(alloc: Global, script: &Script) -> Result<Reply, Memory>
-    requires admitted { IsAdmitted script.now }
-    requires few { length script.now.vats ≤ most_vats }
-    ensures { IfOk result (λ reply. IsDueOfVats script.now script.now.vats reply.status (string_bytes reply.text)) }
-{
-    match script.vats.as_slice() {
-        [] => reply_empty(alloc, script),
-        [vat, ..] => reply_vat(alloc, script, vat),
-    }
-}
-
-/// The run of the script that bytes spell, or their refusal.
-pub fn run_bytes(alloc: Global, bytes: &[u8]) -> Result<Reply, Memory>
-    ensures { IfOk result (λ reply. IsDueOfScript (script_from bytes.now) reply.status (string_bytes reply.text)) }
+/// The run of the script that bytes spell, or their refusal. The text has the frames where `wire` asks for them.
+pub fn run_bytes(alloc: Global, bytes: &[u8], wire: bool) -> Result<Reply, Memory>
+    ensures { IfOk result (λ reply. IsDueOfScript wire (script_from bytes.now) reply.status (string_bytes reply.text)) }
 {
     match script_from(alloc, bytes) {
-        Ok(script) => reply_vats(alloc, &script),
+        Ok(script) => reply_script(alloc, &script, wire),
         Err(ScriptFault::Rule(rule)) => reply_rule(alloc, rule),
         Err(ScriptFault::Memory) => Err(Memory),
     }

@@ -50,6 +50,7 @@ frames_alike ds es u (x ∷ xs) (k ∷ ks) e h =
         spelled = h.0.spelled;
         told = h.0.told ∙ sym (first_same (shown_note es u x.note) (shown_note ds u x.note) ns ms e);
         brought = h.0.brought ∙ message_alike ds es (carried_in x.note);
+        named = h.0.named;
         asking = h.0.asking;
       },
       frames_alike ds es u xs ks (others_same (shown_note es u x.note) (shown_note ds u x.note) ns ms e) h.1,

@@ -2,7 +2,7 @@
 use Rattle.std.specs.Prelude.{◌≡◌, ℕ, zero, suc, Bool, true, false, List, [], ◌∷◌, ◌++◌, Option, Some, None, length, slice_get, ◌==◌}
 use Rattle.ev_base.specs.declared.names.Msg.{Msg as ShownMsg}
 use Rattle.def_op.specs.Frames.{spelling}
-use Rattle.def_machine.specs.Values.{Name}
+use Rattle.def_machine.specs.Values.{Name, Sent}
 use Rattle.def_machine.specs.State.{Note, Deliver, Open, Ask, SettledTo, Elsewhere, Shorten}
 use Rattle.def_run.specs.Shown.{shown_msg, shown_note}
 use Rattle.def_local.specs.Numbers.{Way, carried_in}
@@ -16,6 +16,11 @@ use Rattle.ev_ways.specs.Rows.{Lane, fresh}
 unfoldable pub told_message : List ℕ → List Name → Option ShownMsg
 told_message ds [] = None
 told_message ds (m ∷ ms) = Some (shown_msg ds m)
+
+-- the message as it is named, if one
+abbrev pub named_message : Option ShownMsg → List Name
+named_message None = []
+named_message (Some m) = Sent (record { sender = m.sender; number = m.number }) ∷ []
 
 -- whether a note brings a message that asks for an answer
 unfoldable pub asks_in : Note Name → Bool
@@ -31,6 +36,7 @@ pub record IsFrame (ds : List ℕ) (u : ℕ) (x : Carrying) (k : Frame) : Type 0
   pub spelled : k.bytes ≡ spelling x.op
   pub told : k.note ≡ shown_note ds u x.note
   pub brought : k.message ≡ told_message ds (carried_in x.note)
+  pub named : carried_in x.note ≡ named_message k.message
   pub asking : k.asks ≡ asks_in x.note
 
 -- one after the other

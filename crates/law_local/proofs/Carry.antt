@@ -397,7 +397,8 @@ module _ (script : Script) (once : KnowsOnce script) (w x : World) (es : List En
         logged = λ a b e i g. let q = placed a i in let c = placed b g in (exports_logged script once).1 w y (es ++ Carry v u ∷ []) k followed opened done a b q.0 c.0 q.1 c.1 e;
       }
 
-    out : (p : Vat Local) × (Ours ≡ Gives tt p) × (maps.vat (found u T) p ≡ maps.vat Is r)
+    -- it goes so in numbers, in a state that stands for the one in names
+    pub out : (p : Vat Local) × (Ours ≡ Gives tt p) × (maps.vat (found u T) p ≡ maps.vat Is r)
     out = given (found u T) Ours r same
 
     pub carry_goes : (j : ℕ) → RunMirrors (machine.step script (Carry v u) j x) (numbers.step script (Carry v u) j X)

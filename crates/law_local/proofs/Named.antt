@@ -1,7 +1,7 @@
 -- The names of the numbers of a vat are those in its state in names.
-use Rattle.std.proofs.Common.{◌≡◌, ℕ, zero, List, Option, Some, None, refl, sym, ap, ◌∙◌}
+use Rattle.std.proofs.Common.{◌≡◌, ℕ, List, Option, Some, None, refl, sym, ap, ◌∙◌}
 use Rattle.std.specs.Prelude.{slice_get, unwrap_or}
-use Rattle.def_machine.specs.Values.{Name, Root, Object, Local, Obj, Prom, Far, Mess}
+use Rattle.def_machine.specs.Values.{Name, Root, Object, Sent, Local, Obj, Prom, Far, Mess}
 use Rattle.def_machine.specs.State.{Vat}
 use Rattle.def_run.specs.World.{World, readied}
 use Rattle.def_machine.specs.Maps as maps
@@ -11,7 +11,7 @@ use Rattle.law_renaming.proofs.Same.{vat_same}
 use Rattle.law_reference.specs.Exports.{exported_at}
 use Rattle.law_reference.specs.Tables.{table_of}
 use Rattle.law_name.specs.Names.{names_in}
-use Rattle.def_local.specs.Names.{Names, mail_at, name_by}
+use Rattle.def_local.specs.Names.{Names, name_by}
 use Rattle.def_local.specs.Numbers.{Vats, far_name, name_at_vat, ready}
 use Rattle.law_local.specs.Statements.{StatesAreNamed}
 
@@ -74,10 +74,10 @@ far_is h p None n e = cc
 module _ (w : World) (W : Vats) (u : ℕ) (s : Vat Name) (t : Names) (known : t.known ≡ names_in s.known) (mails : t.mails ≡ s.mails)
     (positions : (h p j : ℕ) → exported_at w.links u h p ≡ Some j → far_name W.members u h p ≡ Object h j) where
   pub name_is : (a : Local) (n : Name) → found u (table_of w u s) a ≡ Is n → name_at_vat W.members u t a ≡ n
-  unfolding found table_of name_at_vat name_by mail_at
+  unfolding found table_of name_at_vat name_by
   name_is (Obj i) n e = cc
   name_is (Prom k) n e = got_or t.known k (Root u) n (slice_get t.known k) (ap (λ xs. slice_get xs k) known ∙ prom_is k (slice_get (names_in s.known) k) n e)
-  name_is (Mess j) n e = got_or t.mails j (Root zero) n (slice_get t.mails j) (ap (λ xs. slice_get xs j) mails ∙ mess_is j (slice_get s.mails j) n e)
+  name_is (Mess j) n e = got_or t.mails j (Sent (record { sender = u; number = j })) n (slice_get t.mails j) (ap (λ xs. slice_get xs j) mails ∙ mess_is j (slice_get s.mails j) n e)
   name_is (Far h p) n e = let i = far_is h p (exported_at w.links u h p) n e in positions h p i.0 i.1 ∙ sym i.2
 
 pub states_are_named : StatesAreNamed

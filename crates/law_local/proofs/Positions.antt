@@ -92,7 +92,7 @@ module _ (h : ℕ) (t : Table) (good : IsTable h t) where
 
 pub far_is : (ms : List Member) (k : Member) (v h q j : ℕ) → slice_get ms h ≡ Some k → slice_get (connection_for v k).exports q ≡ Some (Obj j) → far_name ms v h q ≡ Object h j
 unfolding far_name exported object_at
-far_is ms k v h q j e i = ap (λ o. object_at h (there o)) e ∙ ap (object_at h) i
+far_is ms k v h q j e i = ap (λ o. object_at h q (there o)) e ∙ ap (object_at h q) i
   where
     there : Option Member → Option Local
     there o = elim o [ Some m ↦ slice_get (connection_for v m).exports q | None ↦ None ]

@@ -1,4 +1,4 @@
--- Carries do, so whole runs do.
+-- Carries mirror the machine's, so each step does, and so do whole runs.
 use Rattle.std.proofs.Common.{◌+◌, [], ◌∷◌, length, subst}
 use Rattle.def_run.specs.World as machine
 use Rattle.def_run.specs.World.{Script, Carry}
@@ -6,18 +6,23 @@ use Rattle.law_reference.specs.Cuts.{NoticesFollowCuts}
 use Rattle.law_reference.proofs.AskHolds.{notices_front}
 use Rattle.def_local.specs.Numbers as numbers
 use Rattle.law_local.specs.Joined.{IsLawful, CarriesMirrorIn}
+use Rattle.law_local.specs.Runs.{EachStepMirrors}
 use Rattle.law_local.specs.Whole.{WholeRunsMirror, WholeTextsMirror}
 use Rattle.law_local.proofs.Texts.{texts_mirror}
 use Rattle.law_local.proofs.Carries.{carries_mirror}
-use Rattle.law_local.proofs.JoinedRuns.{runs_so}
+use Rattle.law_local.proofs.JoinedRuns.{others_so}
+use Rattle.law_local.proofs.Runs.{runs_mirror}
 
 carries_so : (script : Script) → IsLawful script → CarriesMirrorIn script
 carries_so script lawful = record {
   carries = λ v u w x X es rest split opened stepped h. carries_mirror script lawful.0 w x es 1 (notices_front script [] es (Carry v u ∷ rest) (subst NoticesFollowCuts split lawful.1)) opened stepped X h v u (1 + length es);
 }
 
+pub each_step_mirrors : (script : Script) → IsLawful script → EachStepMirrors script
+each_step_mirrors script lawful = others_so script lawful (carries_so script lawful)
+
 pub whole_runs_mirror : WholeRunsMirror
-whole_runs_mirror script lawful = runs_so script lawful (carries_so script lawful)
+whole_runs_mirror script lawful = runs_mirror script (each_step_mirrors script lawful)
 
 pub whole_texts_mirror : WholeTextsMirror
 whole_texts_mirror script lawful = texts_mirror script (machine.run script) (numbers.run script) (whole_runs_mirror script lawful)

@@ -123,7 +123,7 @@ follow count before (Notice v w ∷ es) done all are first =
 
 -- ---- the whole
 
-meets : (script : Script) → IsAdmitted script → (depth : ℕ) (tree : ℕ → List Node) → MeetsTheLaws (machine_script depth tree script)
+pub meets : (script : Script) → IsAdmitted script → (depth : ℕ) (tree : ℕ → List Node) → MeetsTheLaws (machine_script depth tree script)
 meets script h depth tree = (
   λ v p e. let q = vat_is tree zero script.vats v p e in let k = h.knows v q.0 q.1 in
       subst (λ ks. Once (v ∷ ks)) q.2 (knows_once (length script.vats) v q.0.knows k.0 k.1),

@@ -17,10 +17,14 @@ use Rattle.def_local.specs.Vats.{Member, connection_for, unconnected, sight_for,
 use Rattle.def_local.specs.Numbers.{Vats, all_written, written_on}
 use Rattle.law_peers.specs.Asking.{AreNew, AskAnew}
 use Rattle.law_peers.specs.Standing.{among}
-use Rattle.law_steady.specs.Statements.{AsksOnce, HostsAsked, UntoldUnlessCut, GoesOut}
+use Rattle.law_steady.specs.Statements.{AsksOnce, HostsAsked}
 use Rattle.law_steady.proofs.Hearing.{set_at, written_or, imports_stay, unlike}
 use Rattle.law_steady.proofs.Owns.{among_found, own_by_host}
 use Rattle.law_steady.proofs.Went.{Grows, Pair, is, now, table}
+
+-- A note of vat u, which is in state s, asks for nothing, or is for another of so many vats.
+abbrev pub GoesOut : ℕ → ℕ → Vat Local → Put Local → Type 0
+GoesOut u n s p = (asked_in (sight_for s p.note) p.note ≡ []) ⊎ ((p.to < n) × (p.to ≡ u → ⊥))
 
 -- ---- lists
 
@@ -131,7 +135,7 @@ in_it x [] bs = inl refl
 in_it x (a ∷ cs) bs = inr (in_it x cs bs)
 
 -- Vat u, which was m in numbers, is k.
-module _ (X Y : Vats) (p : Pair X Y) (u : ℕ) (m k : Member) (there : slice_get X.members u ≡ Some m) (here : slice_get Y.members u ≡ Some k) (grows : Grows m.names k.names) (asks : AsksOnce p.y) (hosts : HostsAsked p.y) (untold : UntoldUnlessCut p.y) where
+module _ (X Y : Vats) (p : Pair X Y) (u : ℕ) (m k : Member) (there : slice_get X.members u ≡ Some m) (here : slice_get Y.members u ≡ Some k) (grows : Grows m.names k.names) (asks : AsksOnce p.y) (hosts : HostsAsked p.y) where
   abbrev f : Local → Found
   f = found u (table_of p.y u (is X Y p u m k there here grows).0)
 
@@ -169,7 +173,7 @@ module _ (X Y : Vats) (p : Pair X Y) (u : ℕ) (m k : Member) (there : slice_get
         let host : host_of r.name ≡ v = all_among (λ n. host_of n ≡ v) D.questions r.name (hosts u v low_u low_v other) mine in (
           own_by_host p.y Y u y.0 k (table X Y p u m k there here grows) (p.hosts_now u y.0 y.1) (now X Y p u m k there here grows) n r.name r.one (all_among (λ n. refers n ≡ true) D.questions r.name (let t = may in t.questions) mine) ∙ ap (λ z. z == u) host ∙ unlike v u other,
           not_among front r.before n r.name r.first r.one (in_front r.name r.before r.behind (subst Once r.whole (asks.asked u v low_u low_v other))),
-          not_among (connection_for v k).imports D.imports n r.name (ap (λ (z : Connection Found). z.imports) same) r.one (λ i. asks.untold u v low_u low_v other (untold u v low_u low_v other r.name mine i) r.name mine i),
+          not_among (connection_for v k).imports D.imports n r.name (ap (λ (z : Connection Found). z.imports) same) r.one (λ i. asks.untold u v low_u low_v other r.name mine i),
         )
 
     pub sound : IsSound k.vat (connection_for v k)

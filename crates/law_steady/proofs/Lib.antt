@@ -11,3 +11,11 @@ pub mod Anew
 pub mod Questions
 pub mod Untold
 pub mod Roots
+pub mod GiftAsks
+pub mod Again
+pub mod AskSteps
+pub mod AskOnce
+pub mod CutOff
+pub mod Away
+pub mod Abroad
+pub mod Outgoing

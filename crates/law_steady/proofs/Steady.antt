@@ -136,7 +136,7 @@ module _ (script : Script) (lawful : IsLawful script) (each : EachStepMirrors sc
       carry_owns : SeesAsBefore m.vat s m.connections
       carry_owns = owns_same X Y pair.0 u m now_is there here (left_grows off u m b s)
 
-      other : v ≡ u → ⊥
+      pub other : v ≡ u → ⊥
       other e = let p = pair.0 in let j = link_of_way p.x X p.start v u l at in pair.2 u j.0 (subst (λ z. link_at z u (let w = p.x in w.links) ≡ Some j.0) e j.1)
 
       left_way : way_at v u Y.ways ≡ Some (taken l)

@@ -2,9 +2,11 @@
 use Rattle.std.proofs.Common.{◌≡◌, ℕ, ◌<◌, Bool, true, false, List, [], ◌∷◌, ◌++◌, ◌⊎◌, inl, inr, Some, refl, sym, subst, length, ◌==◌}
 use Rattle.def_machine.specs.Values.{Value, Null, Flag, Number, Letter, Text, Prim, Broken, Items, Ref, Name, host_of}
 use Rattle.def_machine.specs.State.{Passed, Passeds, Plain, AGift, Many, NoMore, More, Note, Deliver, Open, Ask, SettledTo, Elsewhere, Shorten}
+use Rattle.def_run.specs.Wire.{connected_at}
 use Rattle.def_run.specs.World.{Script, Link, World, link_at, has_name}
 use Rattle.law_name.specs.Names.{IsAmong}
 use Rattle.law_name.proofs.SameNames.{among_has}
+use Rattle.law_reference.specs.ApartAsking.{InRunsBehindCuts}
 use Rattle.law_reference.specs.Logs as wire
 use Rattle.law_run.specs.Moves.{IsReached}
 use Rattle.law_run.proofs.Honest.{honest_reached}
@@ -14,13 +16,21 @@ use Rattle.law_hearing.proofs.Questions.{questions_logged}
 use Rattle.law_hearing.proofs.Runs.{opened_kept, stepped_kept}
 use Rattle.law_hearing.proofs.Steps.{Asked, AllKept}
 use Rattle.law_local.proofs.Positions.{there_is}
-use Rattle.law_steady.specs.Statements.{AreCutOff, UntoldUnlessCut, EachUntoldUnlessCut}
+use Rattle.law_steady.specs.Statements.{OfTwo}
 use Rattle.law_steady.proofs.Hearing.{unlike}
 use Rattle.law_frame.proofs.WireRuns as wires
 use Rattle.law_frame.proofs.WireRuns.{Wire}
 use Rattle.law_name.proofs.Among.{all_among}
 use Rattle.law_steady.proofs.Roots.{IsRoot, AllHaveRoots, opened_roots, stepped_roots, questions_no_root, roots_at}
 use Rattle.law_steady.proofs.Questions.{reached, opened_counted, stepped_counted}
+
+-- one of the links between the two is cut
+abbrev pub AreCutOff : World → ℕ → ℕ → Type 0
+AreCutOff w u v = (l : Link) × ((link_at u v w.links ≡ Some l) ⊎ (link_at v u w.links ≡ Some l)) × (l.cut ≡ true)
+
+-- what the one asked the other for was not told by it, but where the two were cut off
+abbrev pub UntoldUnlessCut : World → Type 0
+UntoldUnlessCut w = OfTwo w (λ u v. (z : Name) → IsAmong z (connected_at u v w.connections).tables.questions → IsAmong z (connected_at u v w.connections).tables.imports → AreCutOff w u v)
 
 -- ---- what was asked for is not exported
 
@@ -109,7 +119,7 @@ module _ (script : Script) (w : World) (kept : AllKept w) (linked : AllLinked sc
       by false true e f = (m.0, inl m.1, f)
       by false false e f = absurd (no_root (root (told e f)))
 
-pub each_untold : EachUntoldUnlessCut
+pub each_untold : InRunsBehindCuts UntoldUnlessCut
 each_untold script once = (
   λ ps rest w split opened. untold script w (opened_kept script once ps rest w split opened) (opened_linked script once ps rest w split opened) (opened_counted script once ps rest w split opened) ((honest_reached script).0 ps rest w split opened)
       (opened_roots script once ps rest w split opened) (wires.opened_both script once ps rest w split opened).1,

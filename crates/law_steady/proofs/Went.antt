@@ -28,7 +28,7 @@ use Rattle.law_local.specs.Runs.{EachStepMirrors}
 use Rattle.law_local.proofs.Positions.{there_is}
 use Rattle.law_local.proofs.Steps.{set_there}
 use Rattle.law_peers.specs.Standing.{SeesAsBefore}
-use Rattle.law_steady.specs.Statements.{AsksOnce, EachAsksOnce, HostsAsked, EachHostsAsked, UntoldUnlessCut, EachUntoldUnlessCut}
+use Rattle.law_steady.specs.Statements.{AsksOnce, EachAsksOnce, HostsAsked, EachHostsAsked}
 use Rattle.law_steady.proofs.Hosted.{Hosted, Apart, hosted_so, apart_so}
 use Rattle.law_steady.proofs.Owns.{sees_as_before}
 use Rattle.law_steady.proofs.Reached.{mirrored, opens_mirror, steps_mirror}
@@ -51,7 +51,6 @@ pub record Pair (X Y : Vats) : Type 0 where
   pub keeps : (u : ℕ) → KeepsPositions x y u
   pub asks : EachAsksOnce → AsksOnce y
   pub hosts_asked : EachHostsAsked → HostsAsked y
-  pub untold : EachUntoldUnlessCut → UntoldUnlessCut y
 
 -- Vat u, which was m in numbers, is k.
 module _ (X Y : Vats) (p : Pair X Y) (u : ℕ) (m k : Member) (there : slice_get X.members u ≡ Some m) (here : slice_get Y.members u ≡ Some k) (grows : Grows m.names k.names) where
@@ -76,7 +75,7 @@ module _ (X Y : Vats) (p : Pair X Y) (u : ℕ) (m k : Member) (there : slice_get
   pub table : IsTable u (table_of p.y u is.0)
   table = p.well u is.0 is.1
 
-  more : Extends (table_of p.x u was.0) (table_of p.y u is.0)
+  pub more : Extends (table_of p.x u was.0) (table_of p.y u is.0)
   unfolding table_of
   more = record {
     names = λ i n e. ap (λ xs. slice_get xs i) (sym now.known ∙ grows.known.1) ∙ get_front m.names.known grows.known.0 i n (ap (λ xs. slice_get xs i) before.known ∙ e);
@@ -102,34 +101,53 @@ left_grows X u m b s = record { known = (_, refl); mails = (b.carried ++ own_mai
 
 -- ---- in runs
 
+-- the machine's run came to x by these opening turns, and goes to y by one more
+pub record OpenedOn (script : Script) (ps : List Program) (p : Program) (x y : World) : Type 0 where
+  pub opened : machine.open_from script zero ps (machine.begins script) ≡ Goes x
+  pub goes : machine.open_vat script (length ps) p x ≡ Goes y
+  pub done : machine.open_from script zero (ps ++ p ∷ []) (machine.begins script) ≡ Goes y
+
+-- or by these entries, and by one more
+pub record SteppedOn (script : Script) (es : List Entry) (e : Entry) (x y : World) : Type 0 where
+  pub first : World
+  pub opened : machine.open_from script zero script.vats (machine.begins script) ≡ Goes first
+  pub stepped : machine.steps_from script es 1 first ≡ Goes x
+  pub goes : machine.step script e (1 + length es) x ≡ Goes y
+  pub done : machine.steps_from script (es ++ e ∷ []) 1 first ≡ Goes y
+
 module _ (script : Script) (once : KnowsOnce script) (each : EachStepMirrors script) where
-  pub opening_pair : (ps rest : List Program) (p : Program) (X Y : Vats) → script.vats ≡ ps ++ p ∷ rest → numbers.open_from script zero ps (numbers.begins script) ≡ Runs X
-      → numbers.open_member script (length ps) p X (slice_get X.members (length ps)) ≡ Runs Y → Pair X Y
-  opening_pair ps rest p X Y split opened goes =
+  pub opening_went : (ps rest : List Program) (p : Program) (X Y : Vats) → script.vats ≡ ps ++ p ∷ rest → numbers.open_from script zero ps (numbers.begins script) ≡ Runs X
+      → numbers.open_member script (length ps) p X (slice_get X.members (length ps)) ≡ Runs Y → (q : Pair X Y) × OpenedOn script ps p q.x q.y
+  opening_went ps rest p X Y split opened goes =
       let o = opens_mirror script each ps (p ∷ rest) X split opened in
       let m = mirrored (machine.open_vat script (length ps) p o.world) (numbers.open_member script (length ps) p X (slice_get X.members (length ps))) Y (each.openings ps rest p o.world X split o.opened o.mirrors) goes in
       let n : length ps ≡ 0 + length ps = omega arith in
       let done : machine.open_from script zero (ps ++ p ∷ []) (machine.begins script) ≡ Goes m.0 = opens_end script ps p zero (machine.begins script) o.world m.0 o.opened (subst (λ z. machine.open_vat script z p o.world ≡ Goes m.0) n m.1) in
-      let split_on : script.vats ≡ (ps ++ p ∷ []) ++ rest = split ∙ sym (append_assoc ps (p ∷ []) rest) in
-      record {
-        x = o.world;
-        y = m.0;
-        start = o.mirrors;
-        after = m.2;
-        good = (have_tables script once).0 ps (p ∷ rest) o.world split o.opened;
-        well = (have_tables script once).0 (ps ++ p ∷ []) rest m.0 split_on done;
-        hosts_then = (hosts_true script once).0 ps (p ∷ rest) o.world split o.opened;
-        hosts_now = (hosts_true script once).0 (ps ++ p ∷ []) rest m.0 split_on done;
-        keeps = (every_position script once).0 ps rest p o.world m.0 split o.opened m.1;
-        asks = λ a. (a script once).0 (ps ++ p ∷ []) rest m.0 split_on done;
-        hosts_asked = λ a. (a script once).0 (ps ++ p ∷ []) rest m.0 split_on done;
-        untold = λ a. (a script once).0 (ps ++ p ∷ []) rest m.0 split_on done;
-      }
+      let split_on : script.vats ≡ (ps ++ p ∷ []) ++ rest = split ∙ sym (append_assoc ps (p ∷ []) rest) in (
+        record {
+          x = o.world;
+          y = m.0;
+          start = o.mirrors;
+          after = m.2;
+          good = (have_tables script once).0 ps (p ∷ rest) o.world split o.opened;
+          well = (have_tables script once).0 (ps ++ p ∷ []) rest m.0 split_on done;
+          hosts_then = (hosts_true script once).0 ps (p ∷ rest) o.world split o.opened;
+          hosts_now = (hosts_true script once).0 (ps ++ p ∷ []) rest m.0 split_on done;
+          keeps = (every_position script once).0 ps rest p o.world m.0 split o.opened m.1;
+          asks = λ a. (a script once).0 (ps ++ p ∷ []) rest m.0 split_on done;
+          hosts_asked = λ a. (a script once).0 (ps ++ p ∷ []) rest m.0 split_on done;
+        },
+        record { opened = o.opened; goes = m.1; done = done },
+      )
+
+  pub opening_pair : (ps rest : List Program) (p : Program) (X Y : Vats) → script.vats ≡ ps ++ p ∷ rest → numbers.open_from script zero ps (numbers.begins script) ≡ Runs X
+      → numbers.open_member script (length ps) p X (slice_get X.members (length ps)) ≡ Runs Y → Pair X Y
+  opening_pair ps rest p X Y split opened goes = let z = opening_went ps rest p X Y split opened goes in z.0
 
   module _ (follow : NoticesFollowCuts script.schedule) where
-    pub entry_pair : (es rest : List Entry) (e : Entry) (W X Y : Vats) → script.schedule ≡ es ++ e ∷ rest → numbers.open_from script zero script.vats (numbers.begins script) ≡ Runs W → numbers.steps_from script es 1 W ≡ Runs X
-        → numbers.step script e (1 + length es) X ≡ Runs Y → (p : Pair X Y) × Hosted p.y × Apart p.x
-    entry_pair es rest e W X Y split opened stepped goes =
+    pub entry_went : (es rest : List Entry) (e : Entry) (W X Y : Vats) → script.schedule ≡ es ++ e ∷ rest → numbers.open_from script zero script.vats (numbers.begins script) ≡ Runs W → numbers.steps_from script es 1 W ≡ Runs X
+        → numbers.step script e (1 + length es) X ≡ Runs Y → (p : Pair X Y) × Hosted p.y × Apart p.x × SteppedOn script es e p.x p.y
+    entry_went es rest e W X Y split opened stepped goes =
         let o = steps_mirror script each es (e ∷ rest) W X split opened stepped in
         let m = mirrored (machine.step script e (1 + length es) o.last) (numbers.step script e (1 + length es) X) Y (each.entries o.first o.last X es rest e split o.opened o.stepped o.mirrors) goes in
         let done : machine.steps_from script (es ++ e ∷ []) 1 o.first ≡ Goes m.0 = steps_end script es e 1 o.first o.last m.0 o.stepped m.1 in
@@ -147,8 +165,12 @@ module _ (script : Script) (once : KnowsOnce script) (each : EachStepMirrors scr
             keeps = (every_position script once).1 o.first o.last m.0 es e 1 o.opened o.stepped m.1;
             asks = λ a. (a script once).1 o.first m.0 (es ++ e ∷ []) 1 front_on o.opened done;
             hosts_asked = λ a. (a script once).1 o.first m.0 (es ++ e ∷ []) 1 front_on o.opened done;
-            untold = λ a. (a script once).1 o.first m.0 (es ++ e ∷ []) 1 front_on o.opened done;
           },
           hosted_so script once o.first m.0 (es ++ e ∷ []) o.opened done front_on,
           apart_so script once o.first o.last es o.opened o.stepped,
+          record { first = o.first; opened = o.opened; stepped = o.stepped; goes = m.1; done = done },
         )
+
+    pub entry_pair : (es rest : List Entry) (e : Entry) (W X Y : Vats) → script.schedule ≡ es ++ e ∷ rest → numbers.open_from script zero script.vats (numbers.begins script) ≡ Runs W → numbers.steps_from script es 1 W ≡ Runs X
+        → numbers.step script e (1 + length es) X ≡ Runs Y → (p : Pair X Y) × Hosted p.y × Apart p.x
+    entry_pair es rest e W X Y split opened stepped goes = let z = entry_went es rest e W X Y split opened stepped goes in (z.0, z.1, z.2)

@@ -1,16 +1,17 @@
 -- Each step of the run in numbers keeps what the code of a run asks of it, where the runs mirror each other.
-use Rattle.std.specs.Prelude.{◌≡◌, ℕ, zero, ◌+◌, ◌<◌, true, false, ◌⊎◌, List, [], ◌∷◌, ◌++◌, Some, length, slice_get, slice_set}
+use Rattle.std.specs.Prelude.{◌≡◌, ℕ, zero, ◌<◌, false, List, [], ◌∷◌, ◌++◌, Some, length, slice_get, slice_set}
 use Rattle.def_machine.specs.Values.{Name, host_of, Local, Prom}
-use Rattle.def_machine.specs.State.{Message, Note, Put, Vat, Gives, Act}
+use Rattle.def_machine.specs.State.{Message, Note, Vat, Gives, Act}
 use Rattle.def_machine.specs.Arrive.{Incoming, arrive, notice}
 use Rattle.def_machine.specs.Eval.{opening, taking}
-use Rattle.def_run.specs.Connections.{Heard, asked_in}
+use Rattle.def_run.specs.Connections.{Heard}
 use Rattle.def_run.specs.Wire.{connected_at}
-use Rattle.def_run.specs.World.{Script, Program, Entry, Turn, Carry, CutLink, NoticeLink, Link, World, link_at, tree_at}
+use Rattle.def_run.specs.World.{Script, Program, Entry, Turn, Carry, CutLink, NoticeLink, World, tree_at}
 use Rattle.def_local.specs.Numbers.{Vats, Runs, Way, Frame, begins, given, numbers, open_from, open_member, ready, step, steps_from, way_at}
-use Rattle.def_local.specs.Vats.{Member, connection_for, heard_in, heard_on, sight_for}
+use Rattle.def_local.specs.Vats.{Member, connection_for, heard_in, heard_on}
 use Rattle.law_name.specs.Names.{AllOf, IsAmong, Once}
 use Rattle.law_name.specs.Runs.{KnowsOnce}
+use Rattle.law_fate.specs.WholeFateRuns.{KnowsVats}
 use Rattle.law_reference.specs.ApartAsking.{InRunsBehindCuts}
 use Rattle.law_local.specs.Joined.{IsLawful}
 use Rattle.law_local.specs.Runs.{EachStepMirrors}
@@ -74,48 +75,19 @@ HostsAsked w = OfTwo w (λ u v. AllOf (λ n. host_of n ≡ v) (connected_at u v 
 abbrev pub EachHostsAsked : Type 0
 EachHostsAsked = InRunsBehindCuts HostsAsked
 
--- one of the links between the two is cut
-abbrev pub AreCutOff : World → ℕ → ℕ → Type 0
-AreCutOff w u v = (l : Link) × ((link_at u v w.links ≡ Some l) ⊎ (link_at v u w.links ≡ Some l)) × (l.cut ≡ true)
-
--- and was not told by it, but where the two were cut off,
-abbrev pub UntoldUnlessCut : World → Type 0
-UntoldUnlessCut w = OfTwo w (λ u v. (z : Name) → IsAmong z (connected_at u v w.connections).tables.questions → IsAmong z (connected_at u v w.connections).tables.imports → AreCutOff w u v)
-
-abbrev pub EachUntoldUnlessCut : Type 0
-EachUntoldUnlessCut = InRunsBehindCuts UntoldUnlessCut
-
--- and it was asked for once, and was not told by that one where the two were cut off either.
+-- and was asked for once, and was not told by that one, be the two cut off from one another or not.
 pub record AsksOnce (w : World) : Type 0 where
   pub asked : OfTwo w (λ u v. Once (connected_at u v w.connections).tables.questions)
-  pub untold : OfTwo w (λ u v. AreCutOff w u v → (z : Name) → IsAmong z (connected_at u v w.connections).tables.questions → IsAmong z (connected_at u v w.connections).tables.imports → ⊥)
+  pub untold : OfTwo w (λ u v. (z : Name) → IsAmong z (connected_at u v w.connections).tables.questions → IsAmong z (connected_at u v w.connections).tables.imports → ⊥)
 
--- so in each world of a run in which each notice stands behind a cut of the same two vats
+-- So in each world of a run in which each notice stands behind a cut of the same two vats.
 abbrev pub EachAsksOnce : Type 0
 EachAsksOnce = InRunsBehindCuts AsksOnce
 
--- A note of vat u, which is in state s, asks for nothing, or is for another of so many vats.
-abbrev pub GoesOut : ℕ → ℕ → Vat Local → Put Local → Type 0
-GoesOut u n s p = (asked_in (sight_for s p.note) p.note ≡ []) ⊎ ((p.to < n) × (p.to ≡ u → ⊥))
-
--- so each note that a vat had put when that step was done
-abbrev pub AllGoOut : Vats → ℕ → Type 0
-AllGoOut w u = (k : Member) → slice_get w.members u ≡ Some k → AllOf (GoesOut u (length w.members) k.vat) (let s : Vat Local = k.vat in s.outbox)
-
--- the vat that takes an entry goes out so
-abbrev pub EntryGoesOut : Vats → Entry → Type 0
-EntryGoesOut w (Turn u) = AllGoOut w u
-EntryGoesOut w (Carry v u) = AllGoOut w u
-EntryGoesOut w (CutLink v u) = Unit {0}
-EntryGoesOut w (NoticeLink v u) = AllGoOut w v
-
--- in each step of the run of that script
-pub record NotesGoOut (script : Script) : Type 0 where
-  pub openings : (ps rest : List Program) (p : Program) (w y : Vats) → script.vats ≡ ps ++ p ∷ rest → open_from script zero ps (begins script) ≡ Runs w
-      → open_member script (length ps) p w (slice_get w.members (length ps)) ≡ Runs y → AllGoOut y (length ps)
-  pub entries : (es rest : List Entry) (e : Entry) (w x y : Vats) → script.schedule ≡ es ++ e ∷ rest → open_from script zero script.vats (begins script) ≡ Runs w → steps_from script es 1 w ≡ Runs x
-      → step script e (1 + length es) x ≡ Runs y → EntryGoesOut y e
-
--- Then each step asks for what is new, and all that the code of a run asks of it is so.
+-- Then each step asks for what is new, and all that the code of a run asks of it is so, where each vat of the script knows only vats of it.
 abbrev pub RunsAreSteady : Type 0
-RunsAreSteady = EachAsksOnce → (script : Script) → IsLawful script → EachStepMirrors script → NotesGoOut script → RunsSteadily script
+RunsAreSteady = (script : Script) → IsLawful script → KnowsVats script → EachStepMirrors script → RunsSteadily script
+
+-- And so of each lawful script, as each step of its run mirrors the machine's.
+abbrev pub LawfulRunsAreSteady : Type 0
+LawfulRunsAreSteady = (script : Script) → IsLawful script → KnowsVats script → RunsSteadily script

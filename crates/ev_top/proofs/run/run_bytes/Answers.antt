@@ -6,6 +6,6 @@ use Rattle.ev_top.proofs.run.run_bytes.Goals as goal
 
 pub returns-in-Ok : goal.returns-in-Ok
 returns-in-Ok c =
-    IfOk-weaker c.reply_vats.result _ _
-    (λ reply due. subst (λ (found : Result Script ℕ). IsDueOfScript found reply.status (string_bytes reply.text)) (sym c.in-Ok.ensures.reads) due)
-    c.reply_vats.ensures
+    IfOk-weaker c.reply_script.result _ _
+    (λ reply due. subst (λ (found : Result Script ℕ). IsDueOfScript c.args.wire found reply.status (string_bytes reply.text)) (sym c.in-Ok.ensures.reads) due)
+    c.reply_script.ensures

@@ -1,15 +1,15 @@
-use Rattle.std.proofs.Common.{◌≡◌, ℕ, List, Vec, Global, Ok, Err, Some, Option, map, sym, ap, subst, ◌∙◌, arith}
+use Rattle.std.proofs.Common.{◌≡◌, ℕ, List, Ok, Err, Some, Option, map, sym, ap, subst, ◌∙◌, arith}
 use Rattle.std.specs.Prelude.{slice_set}
 use Rattle.std.proofs.lemmas.Result.{err_from_is_err_and}
 use Rattle.ev_arrive.specs.declared.host.Host.{Host}
 use Rattle.ev_member.proofs.Heard.{note_fits}
-use Rattle.ev_member.proofs.Arriving.{hear_sends, hear_stops, hears_none, hears_on}
+use Rattle.ev_member.proofs.Arriving.{brings, hear_sends, hear_stops, hears_none, hears_on}
 use Rattle.ev_member.proofs.Steps.{with_vat}
 use Rattle.ev_member.specs.Hearing.{Hears, answer_of, asked_of, frame_heard, heard_view, taken, with_texts}
 use Rattle.ev_member.specs.Sending.{packed}
 use Rattle.ev_member.specs.declared.hearing.Asked.{Asked}
+use Rattle.ev_member.specs.declared.hearing.Arrival.{Arrival}
 use Rattle.ev_member.specs.declared.member.Member.{Member}
-use Rattle.ev_member.specs.declared.sending.Sending.{Sending}
 use Rattle.ev_pass.specs.Reading.{names_under}
 use Rattle.ev_read.proofs.Agreement.{found_spelled}
 use Rattle.ev_read.proofs.Fitting.{frame_fits}
@@ -43,11 +43,12 @@ returns-clause-step c =
     let t = table_for c.args.from q.connections.items in
     let answer : c.answer_of-answer.result ≡ answer_of (asked_of x.note) x.news.known v.host =
     c.answer_of-answer.ensures ∙ ap (λ (a : Asked). answer_of a x.news.known c.host.result.now) c.asked_of-asked.ensures ∙ ap (λ (k : Host). answer_of (asked_of x.note) x.news.known k) c.host.ensures in
+    let a : Arrival = record { sendings = c.in_ok-send.field-0; news = x.news } in
     let tables : c.take_from.new.connections.items ≡ slice_set q.connections.items c.args.from (taken x.news (answer_of (asked_of x.note) x.news.known v.host) t) =
     c.in_ok-take_from.ensures.connections ∙ ap (λ (o : Option ℕ). slice_set q.connections.items c.args.from (taken x.news o t)) answer in
-    subst (λ (z : Member). Hears {A = Vec Sending Global} (names_under q.vat.host.inside.words.key) fuel drawn c.args.from m (λ xs. xs.items) (Ok (Some c.in_ok-send.field-0)) q z (frame_heard c.args.from m c.args.frame.now)) (with_vat c.send.new.self v c.send.ensures.vat)
-    (hears_on fuel drawn m q s found c.args.from c.args.frame.now spelled x.note x.news heard {A = Vec Sending Global} (λ xs. xs.items) (Ok (Some c.in_ok-send.field-0))
-    (hear_sends fuel drawn m q s found c.args.from c.args.frame.now spelled x.note x.news heard {A = Vec Sending Global} (λ xs. xs.items) c.in_ok-send.field-0
+    subst (λ (z : Member). Hears {A = Arrival} (names_under q.vat.host.inside.words.key) fuel drawn c.args.from m (λ a. a.sendings.items) (Ok (Some a)) q z (frame_heard c.args.from m c.args.frame.now)) (with_vat c.send.new.self v c.send.ensures.vat)
+    (hears_on fuel drawn m q s found c.args.from c.args.frame.now spelled x.note x.news heard {A = Arrival} (λ a. a.sendings.items) (Ok (Some a))
+    (hear_sends fuel drawn m q s found c.args.from c.args.frame.now spelled x.note x.news heard {A = Arrival} (λ a. a.sendings.items) a
     (c.in_ok-come_in.ensures.step going) (c.in_ok-come_in.ensures.grown going) (c.in_ok-come_in.ensures.stays going) c.in_ok-come_in.ensures.sound c.in_ok-come_in.ensures.going
     (c.send.ensures.learnt ∙ c.in_ok-take_from.ensures.gifts)
     (c.in_ok-send.ensures.sends ∙ ap (λ (ts : List Table). map packed (written.all_written v.host.inside v.host.inside.post ts)) tables)
@@ -63,11 +64,20 @@ returns-in_err-come_in-clause-step c =
     let spelled = found_spelled c.args.frame.now (λ i. omega (arith, c.type_inv.frame i)) in
     let going = found.rest.going in
     let p = err_from_is_err_and c.from_residual-in_err-come_in.result c.from_residual-in_err-come_in.ensures.1 in
-    rw (p.1, p.2) (hears_on fuel drawn m q s found c.args.from c.args.frame.now spelled x.note x.news heard {A = Vec Sending Global} (λ xs. xs.items) (Err c.in_err-come_in.field-0.0)
-    (hear_stops fuel drawn m q s found c.args.from c.args.frame.now spelled x.note x.news heard {A = Vec Sending Global} (λ xs. xs.items) c.in_err-come_in.field-0.0 (c.in_err-come_in.ensures.step going) (c.in_err-come_in.ensures.grown going) (c.in_err-come_in.ensures.stays going)))
+    rw (p.1, p.2) (hears_on fuel drawn m q s found c.args.from c.args.frame.now spelled x.note x.news heard {A = Arrival} (λ a. a.sendings.items) (Err c.in_err-come_in.field-0.0)
+    (hear_stops fuel drawn m q s found c.args.from c.args.frame.now spelled x.note x.news heard {A = Arrival} (λ a. a.sendings.items) c.in_err-come_in.field-0.0 (c.in_err-come_in.ensures.step going) (c.in_err-come_in.ensures.grown going) (c.in_err-come_in.ensures.stays going)))
 
 pub returns-in_default-clause-step : goal.returns-in_default-clause-step
 returns-in_default-clause-step c =
     λ fuel drawn m found.
     let q = c.args.self.now in
-    hears_none fuel drawn m q found c.args.from c.args.frame.now (found_spelled c.args.frame.now (λ i. omega (arith, c.type_inv.frame i))) {A = Vec Sending Global} (λ xs. xs.items) (sym c.in_ok-hearing.ensures ∙ ap heard_view c.in_default.is)
+    hears_none fuel drawn m q found c.args.from c.args.frame.now (found_spelled c.args.frame.now (λ i. omega (arith, c.type_inv.frame i))) {A = Arrival} (λ a. a.sendings.items) (sym c.in_ok-hearing.ensures ∙ ap heard_view c.in_default.is)
+
+pub returns-clause-news : goal.returns-clause-news
+returns-clause-news c =
+    λ fuel drawn m found.
+    let q = c.args.self.now in
+    let x = c.in-Some.hearing in
+    let heard = sym c.in_ok-hearing.ensures ∙ ap heard_view c.in-Some.is in
+    let spelled = found_spelled c.args.frame.now (λ i. omega (arith, c.type_inv.frame i)) in
+    brings fuel drawn m q c.send.new.self found c.args.from c.args.frame.now spelled x.note x.news heard

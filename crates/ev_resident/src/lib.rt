@@ -1,0 +1,12 @@
+//! A vat of a run, with its connections and the names of its numbers.
+#![tactic(auto)]
+
+pub mod hearing;
+pub mod outgoing;
+pub mod resident;
+mod starting;
+pub mod telling;
+
+pub use hearing::told_of;
+pub use outgoing::Outgoing;
+pub use resident::Resident;

@@ -1,0 +1,13 @@
+-- The run of each script that is read, in numbers, is the machine's, and steady.
+use Rattle.def_run.specs.World as machine
+use Rattle.def_local.specs.Numbers as numbers
+use Rattle.law_local.specs.Mirrors.{RunMirrors}
+use Rattle.law_local.proofs.WholeRuns.{whole_runs_mirror}
+use Rattle.law_peers.specs.Steady.{RunsSteadily}
+use Rattle.law_script.specs.Accepted.{MeetsTheLaws}
+
+pub runs_are_steady : (script : machine.Script) → MeetsTheLaws script → RunsSteadily script
+runs_are_steady script lawful = ?
+
+pub runs_are_mirrored : (script : machine.Script) → MeetsTheLaws script → RunMirrors (machine.run script) (numbers.run script)
+runs_are_mirrored script lawful = whole_runs_mirror script (lawful.0, lawful.2)

@@ -1,0 +1,118 @@
+-- Steps of a run that change no vat: a link is cut, and an entry that does nothing.
+use Rattle.std.proofs.Common.{◌≡◌, ℕ, Bool, true, false, List, [], ◌∷◌, ◌++◌, Option, Some, None, length, refl, sym, ap, subst, ◌∙◌, append_assoc}
+use Rattle.std.specs.Prelude.{filter}
+use Rattle.std.proofs.lemmas.List.Elements.{filter-append}
+use Rattle.def_event.specs.Lines.{is_no_frame}
+use Rattle.def_event.specs.declared.event.Event.{Event as ShownEvent}
+use Rattle.def_event.specs.declared.event.Event.TheVariants as line
+use Rattle.def_local.specs.Numbers.{Course, Runs, Vats, Way, cut, idle, lost_on, severed, step, way_at, with_way}
+use Rattle.def_run.specs.Shown.{shown_event}
+use Rattle.def_run.specs.Text.{shown_events}
+use Rattle.def_run.specs.World.{CutAt, CutLink, Event, Idle, Script}
+use Rattle.ev_base.specs.declared.names.Msg.{Msg}
+use Rattle.ev_ways.specs.declared.frame.Frame.{Frame}
+use Rattle.ev_ways.specs.Rows.{Lane, changed, frames_at}
+use Rattle.ev_ways.specs.Rows as rows
+use Rattle.ev_ways.specs.Standing.{WaysStand}
+use Rattle.ev_ways.specs.Statements.{CutStands, IsCut}
+use Rattle.ev_ways.specs.Telling.{lost_event, lost_events}
+use Rattle.ev_ways.proofs.Cuts.{cut_stands, shown_join}
+use Rattle.ev_world.specs.Standing.{Comes, IsWorld, told_so}
+use Rattle.ev_world.specs.declared.world.World.{World}
+
+-- ---- lines that are no frames
+
+pub told_behind : (wire : Bool) (h a b : List ShownEvent) → h ≡ told_so wire a → filter is_no_frame b ≡ b → h ++ b ≡ told_so wire (a ++ b)
+told_behind true h a b e f = ap (λ (es : List ShownEvent). es ++ b) e
+told_behind false h a b e f = ap (λ (es : List ShownEvent). es ++ b) e ∙ ap (λ (es : List ShownEvent). filter is_no_frame a ++ es) (sym f) ∙ sym (filter-append is_no_frame a b)
+
+one_lost : (o : Option Msg) (es : List ShownEvent) → filter is_no_frame es ≡ es → filter is_no_frame (lost_event o ++ es) ≡ lost_event o ++ es
+unfolding lost_event
+one_lost None es e = e
+one_lost (Some m) es e = ap (λ (xs : List ShownEvent). line.LostCut m ∷ xs) e
+
+lost_plain : (ks : List Frame) → filter is_no_frame (lost_events ks) ≡ lost_events ks
+unfolding lost_events
+lost_plain [] = refl
+lost_plain (k ∷ ks) = one_lost k.message (lost_events ks) (lost_plain ks)
+
+-- ---- other ways, and more lines
+
+-- The vats stay, the ways are others, and there are more lines.
+pub moved : (S : Script) (w : Vats) (c : World) (ls : List Way) (more : List Event) (ways : List (List Lane)) (lines : List ShownEvent) → IsWorld S w c
+    → WaysStand w.drawn (length S.vats) ls ways → shown_events w.drawn more ≡ lines → filter is_no_frame lines ≡ lines
+    → IsWorld S (record w { ways = ls; history = w.history ++ more }) (record c { ways = ways; history = c.history ++ lines })
+moved S w c ls more ways lines at stand shown plain = record {
+  fuel = at.fuel;
+  key = at.key;
+  drawn = at.drawn;
+  depth = at.depth;
+  count = at.count;
+  members = at.members;
+  residents = λ u m r e f.
+      let is = at.residents u m r e f in
+      record { member = is.member; ready = is.ready; key = is.key; names = is.names; objects = is.objects };
+  rooms = at.rooms;
+  programs = at.programs;
+  nouns = at.nouns;
+  ways = stand;
+  history =
+      told_behind c.wire c.history (shown_events w.drawn w.history) lines at.history plain
+      ∙ ap (told_so c.wire) (ap (λ (es : List ShownEvent). shown_events w.drawn w.history ++ es) (sym shown) ∙ sym (shown_join w.drawn w.history more));
+}
+
+-- an entry that does nothing
+pub idle_is : (S : Script) (w : Vats) (c : World) (k : ℕ) → IsWorld S w c → Comes (λ (y : Vats). IsWorld S y (record c { history = c.history ++ line.Idle k ∷ [] })) (idle S k w)
+unfolding idle shown_events shown_event
+idle_is S w c k at = (record w { history = w.history ++ Idle k ∷ [] }, (refl, moved S w c w.ways (Idle k ∷ []) c.ways (line.Idle k ∷ []) at at.ways refl refl))
+
+-- ---- a link is cut
+
+abbrev cut_lines : ℕ → ℕ → ℕ → List (List Lane) → List ShownEvent
+cut_lines k v u ways = line.Cut k v u ∷ (lost_events (frames_at v u ways) ++ lost_events (frames_at u v (changed rows.severed v u ways)))
+
+cut_plain : (k v u : ℕ) (xs ys : List Frame) → filter is_no_frame (line.Cut k v u ∷ (lost_events xs ++ lost_events ys)) ≡ line.Cut k v u ∷ (lost_events xs ++ lost_events ys)
+cut_plain k v u xs ys =
+    ap (λ (es : List ShownEvent). line.Cut k v u ∷ es)
+    (filter-append is_no_frame (lost_events xs) (lost_events ys) ∙ ap (λ (es : List ShownEvent). es ++ filter is_no_frame (lost_events ys)) (lost_plain xs) ∙ ap (λ (es : List ShownEvent). lost_events xs ++ es) (lost_plain ys))
+
+cut_shown : (ds : List ℕ) (k v u : ℕ) (more : List Event) → shown_events ds (CutAt k v u ∷ more) ≡ line.Cut k v u ∷ shown_events ds more
+unfolding shown_events shown_event
+cut_shown ds k v u more = refl
+
+pub cut_is : (S : Script) (w : Vats) (c : World) (k v u : ℕ) → IsWorld S w c
+    → Comes (λ (y : Vats). IsWorld S y (record c { ways = changed rows.severed u v (changed rows.severed v u c.ways); history = c.history ++ cut_lines k v u c.ways })) (step S (CutLink v u) k w)
+unfolding step cut
+cut_is S w c k v u at =
+    let law : IsCut w.drawn (length S.vats) v u w.ways c.ways = cut_stands w.drawn (length S.vats) v u w.ways c.ways at.ways in
+    let lost : List Event = lost_on (way_at v u w.ways) ++ lost_on (way_at u v w.ways) in (
+      record w { ways = with_way severed u v (with_way severed v u w.ways); history = w.history ++ CutAt k v u ∷ lost },
+      (
+        refl,
+        moved S w c (with_way severed u v (with_way severed v u w.ways)) (CutAt k v u ∷ lost) (changed rows.severed u v (changed rows.severed v u c.ways)) (cut_lines k v u c.ways) at law.stand
+            (cut_shown w.drawn k v u lost ∙ ap (λ (es : List ShownEvent). line.Cut k v u ∷ es) law.lost) (cut_plain k v u (frames_at v u c.ways) (frames_at u v (changed rows.severed v u c.ways))),
+      ),
+    )
+
+-- the lines of a cut as they are told one after the other
+pub cut_told : (h a b : List ShownEvent) (e : ShownEvent) → ((h ++ e ∷ []) ++ a) ++ b ≡ h ++ e ∷ (a ++ b)
+cut_told h a b e = append_assoc (h ++ e ∷ []) a b ∙ append_assoc h (e ∷ []) (a ++ b)
+
+-- what is left once both ways were cut, one after the other
+pub cut_done : (S : Script) (w : Vats) (c : World) (k v u : ℕ) (there back : List (List Lane)) (first second : List Frame) (a b h : List ShownEvent) → IsWorld S w c
+    → there ≡ changed rows.severed v u c.ways → back ≡ changed rows.severed u v there → first ≡ frames_at v u c.ways → second ≡ frames_at u v there
+    → a ≡ c.history ++ line.Cut k v u ∷ [] → b ≡ a ++ lost_events first → h ≡ b ++ lost_events second
+    → Comes (λ (y : Vats). IsWorld S y (record c { ways = back; history = h })) (step S (CutLink v u) k w)
+cut_done S w c k v u there back first second a b h at one two lost more begun then_lost then_more =
+    let ways : changed rows.severed u v (changed rows.severed v u c.ways) ≡ back = sym (two ∙ ap (λ (r : List (List Lane)). changed rows.severed u v r) one) in
+    let all_first : lost_events first ≡ lost_events (frames_at v u c.ways) = ap lost_events lost in
+    let all_second : lost_events second ≡ lost_events (frames_at u v (changed rows.severed v u c.ways)) = ap lost_events (more ∙ ap (λ (r : List (List Lane)). frames_at u v r) one) in
+    let lines : h ≡ c.history ++ cut_lines k v u c.ways =
+    then_more
+    ∙ ap (λ (es : List ShownEvent). es ++ lost_events second) (then_lost ∙ ap (λ (es : List ShownEvent). es ++ lost_events first) begun)
+    ∙ cut_told c.history (lost_events first) (lost_events second) (line.Cut k v u)
+    ∙ ap (λ (es : List ShownEvent). c.history ++ line.Cut k v u ∷ (es ++ lost_events second)) all_first
+    ∙ ap (λ (es : List ShownEvent). c.history ++ line.Cut k v u ∷ (lost_events (frames_at v u c.ways) ++ es)) all_second in
+    subst (λ (r : List (List Lane)). Comes (λ (y : Vats). IsWorld S y (record c { ways = r; history = h })) (step S (CutLink v u) k w)) ways
+    (subst (λ (es : List ShownEvent). Comes (λ (y : Vats). IsWorld S y (record c { ways = changed rows.severed u v (changed rows.severed v u c.ways); history = es })) (step S (CutLink v u) k w)) (sym lines)
+    (cut_is S w c k v u at))

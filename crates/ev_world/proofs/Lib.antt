@@ -1,0 +1,12 @@
+pub mod Acting
+pub mod Cuts
+pub mod Exports
+pub mod Left
+pub mod Loops
+pub mod Objects
+pub mod Opening
+pub mod Plain
+pub mod Pushes
+pub mod Telling
+pub mod Turning
+pub mod Wholes

@@ -1,0 +1,10 @@
+//! Vats on links: the run of a script.
+#![tactic(auto)]
+
+mod exporting;
+mod finishing;
+mod pushing;
+pub mod run;
+pub mod world;
+
+pub use run::{RunEnd, Told, run_script};
