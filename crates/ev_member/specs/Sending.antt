@@ -1,6 +1,6 @@
 -- Frames that are sent, without where they lie in memory.
-use Rattle.std.specs.Prelude.{ℕ, List}
-use Rattle.def_op.specs.Frames.{spelling}
+use Rattle.std.specs.Prelude.{ℕ, List, [], ◌∷◌}
+use Rattle.def_op.specs.Frames.{IsOp, spelling}
 use Rattle.def_local.specs.Numbers.{Addressed as Framed}
 use Rattle.ev_member.specs.declared.sending.Sending.{Sending}
 use Rattle.ev_write.specs.Putting.{Addressed}
@@ -20,3 +20,8 @@ packed x = record { to = x.to; bytes = spelling x.op }
 -- the frame of a note in the machine's run in numbers
 abbrev pub spelled : Framed → Sent
 spelled x = record { to = x.to; bytes = spelling x.frame.op }
+
+-- each of these frames is of an operation that has a spelling
+abbrev pub AreOps : List Framed → Type 0
+AreOps [] = Unit {0}
+AreOps (x ∷ xs) = IsOp x.frame.op × AreOps xs

@@ -9,7 +9,7 @@ use Rattle.def_machine.specs.Values.{Local, Name}
 use Rattle.def_run.specs.Connections.{Connection, Learnt}
 use Rattle.ev_member.specs.declared.member.Member.{Member}
 use Rattle.ev_member.specs.declared.sending.Sending.{Sending}
-use Rattle.ev_member.specs.Sending.{sending_of, spelled}
+use Rattle.ev_member.specs.Sending.{AreOps, sending_of, spelled}
 use Rattle.ev_member.specs.Standing.{IsMember, Sees, with_draws}
 use Rattle.ev_room.specs.Reading.{World}
 use Rattle.ev_vat.specs.Vat.{StopsWith}
@@ -40,6 +40,7 @@ pub record IsSteady (m : Theirs) (b : Having) (s : machine.Vat Local) : Type 0 w
 -- what is sent are the frames of what was put, and the member is the run's
 pub record Leaves (b : Having) (s : machine.Vat Local) (xs : List Sending) (c : Member) : Type 0 where
   pub sends : (f : Local → Name) → map sending_of xs ≡ map spelled (frames_of s f s.outbox b.connections)
+  pub fits : (f : Local → Name) → AreOps (frames_of s f s.outbox b.connections)
   pub member : (t : Names) → IsMember (left b t s) c
 
 -- the machine's step leaves that vat, which is the code's

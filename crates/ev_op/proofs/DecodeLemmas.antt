@@ -33,7 +33,7 @@ is_found bytes (Ok None) fits e = tt
 is_found bytes (Ok (Some x)) fits e = decoded_begins bytes (operation x.0, x.1) fits e
 is_found bytes (Err m) fits e = tt
 
-decoded_again : (op : Operation) (rest : List ℕ) → IsOp op → decoded (spelling op ++ rest) ≡ Some (op, length (spelling op))
+pub decoded_again : (op : Operation) (rest : List ℕ) → IsOp op → decoded (spelling op ++ rest) ≡ Some (op, length (spelling op))
 decoded_again op rest is =
     let e : length (spelling op ++ rest) - length rest ≡ length (spelling op) = omega (arith, length-append (spelling op) rest) in
     rw (op_again op rest is, e) refl

@@ -48,6 +48,7 @@ frames_alike ds es u (x ∷ xs) (k ∷ ks) e h =
     let ms : List ShownNote = map (λ (y : Carrying). shown_note ds u y.note) xs in (
       record {
         spelled = h.0.spelled;
+        fits = h.0.fits;
         told = h.0.told ∙ sym (first_same (shown_note es u x.note) (shown_note ds u x.note) ns ms e);
         brought = h.0.brought ∙ message_alike ds es (carried_in x.note);
         named = h.0.named;

@@ -1,7 +1,7 @@
 -- When the ways that are kept stand for those of the run in numbers.
 use Rattle.std.specs.Prelude.{◌≡◌, ℕ, zero, suc, Bool, true, false, List, [], ◌∷◌, ◌++◌, Option, Some, None, length, slice_get, ◌==◌}
 use Rattle.ev_base.specs.declared.names.Msg.{Msg as ShownMsg}
-use Rattle.def_op.specs.Frames.{spelling}
+use Rattle.def_op.specs.Frames.{IsOp, spelling}
 use Rattle.def_machine.specs.Values.{Name, Sent}
 use Rattle.def_machine.specs.State.{Note, Deliver, Open, Ask, SettledTo, Elsewhere, Shorten}
 use Rattle.def_run.specs.Shown.{shown_msg, shown_note}
@@ -34,6 +34,7 @@ asks_in (Shorten n c i) = false
 -- frame k stands for frame x on a way to vat u, where these words were drawn
 pub record IsFrame (ds : List ℕ) (u : ℕ) (x : Carrying) (k : Frame) : Type 0 where
   pub spelled : k.bytes ≡ spelling x.op
+  pub fits : IsOp x.op
   pub told : k.note ≡ shown_note ds u x.note
   pub brought : k.message ≡ told_message ds (carried_in x.note)
   pub named : carried_in x.note ≡ named_message k.message
