@@ -14,7 +14,6 @@ use Rattle.def_run.specs.World.{Event, LeftHeld, LeftQueue, LeftWait, Script}
 use Rattle.ev_base.specs.declared.names.Msg.{Msg as ShownMsg}
 use Rattle.ev_base.specs.declared.names.Name.{Name as ShownName}
 use Rattle.ev_member.specs.Standing.{Sees, with_draws}
-use Rattle.ev_naming.specs.Names.{Named}
 use Rattle.ev_naming.specs.Printing.{Agrees}
 use Rattle.ev_outcome.proofs.Naming.{agrees}
 use Rattle.ev_pass.specs.declared.interior.Interior.{Interior}
@@ -25,7 +24,7 @@ use Rattle.ev_refs.specs.declared.known.Message.{Message}
 use Rattle.ev_resident.specs.Standing.{IsResident}
 use Rattle.ev_resident.specs.declared.resident.Resident.{Resident}
 use Rattle.ev_room.specs.Reading.{World as Seen, texts_of, vat_of}
-use Rattle.ev_step_lines.specs.Lines.{Naming, mail_at, name_at}
+use Rattle.ev_step_lines.specs.Lines.{Naming, name_at}
 use Rattle.ev_vat.specs.Closing.{held_line, held_lines, left_lines, queue_line, wait_line, wait_lines}
 use Rattle.ev_vat.specs.Rooted.{fresh}
 use Rattle.ev_ways.proofs.Cuts.{shown_join}
