@@ -8,6 +8,7 @@ pub mod Objects
 pub mod Opening
 pub mod Plain
 pub mod Pushes
+pub mod Readies
 pub mod Remains
 pub mod Telling
 pub mod Turning
