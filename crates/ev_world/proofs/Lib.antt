@@ -7,6 +7,11 @@ pub mod Objects
 pub mod Opening
 pub mod Plain
 pub mod Pushes
+pub mod StartingKnowers
+pub mod StartingResidents
+pub mod StartingRoots
+pub mod StartingVats
+pub mod StartingWorld
 pub mod Telling
 pub mod Turning
 pub mod Wholes
