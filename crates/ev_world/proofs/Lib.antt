@@ -10,6 +10,11 @@ pub mod Plain
 pub mod Pushes
 pub mod Readies
 pub mod Remains
+pub mod StartingKnowers
+pub mod StartingResidents
+pub mod StartingRoots
+pub mod StartingVats
+pub mod StartingWorld
 pub mod Telling
 pub mod Turning
 pub mod Wholes

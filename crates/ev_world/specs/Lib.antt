@@ -6,3 +6,4 @@ pub mod Exporting
 pub mod Midway
 pub mod Pushing
 pub mod Closing
+pub mod Starting

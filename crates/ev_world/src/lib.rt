@@ -6,6 +6,7 @@ mod exporting;
 mod finishing;
 mod pushing;
 pub mod run;
+mod starting;
 pub mod world;
 
 pub use run::{RunEnd, Told, run_script};

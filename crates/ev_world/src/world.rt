@@ -52,22 +52,6 @@ pub(crate) struct World {
 }
 
 impl World {
-    /// The vats of a script at the start of its run, each with its program.
-    pub(crate) fn start(
-        alloc: Global,
-        script: &Script,
-        programs: Vec<Scoped>,
-        limits: Limits,
-        wire: bool,
-    ) -> Result<World, Memory>
-        requires programs { length programs.items ≡ length script.now.vats }
-        ensures begun { IfOk result (λ c. IsWorld (script_of script.now programs.items limits.depth) (begins (script_of script.now programs.items limits.depth)) c) }
-        ensures ready { IfOk result (λ c. AreReady c.residents.items) }
-        ensures wire { IfOk result (λ c. c.wire ≡ wire) }
-    {
-        Err(Memory)
-    }
-
     /// The opening turn of that vat.
     fn open(&mut self, alloc: Global, vat: usize) -> Result<(), VatStop>
         requires ready { AreReady self.old.residents.items }
