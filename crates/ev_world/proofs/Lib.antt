@@ -1,4 +1,6 @@
 pub mod Acting
+pub mod CarryingFrames
+pub mod CarryingSteps
 pub mod Cuts
 pub mod Exports
 pub mod Left
