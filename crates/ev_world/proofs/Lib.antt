@@ -9,6 +9,7 @@ pub mod Objects
 pub mod Opening
 pub mod Plain
 pub mod Pushes
+pub mod Readies
 pub mod Telling
 pub mod Turning
 pub mod Wholes
