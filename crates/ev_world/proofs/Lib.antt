@@ -1,5 +1,7 @@
 pub mod Acting
 pub mod Closes
+pub mod CarryingFrames
+pub mod CarryingSteps
 pub mod Cuts
 pub mod Exports
 pub mod Left

@@ -7,3 +7,4 @@ pub mod Midway
 pub mod Pushing
 pub mod Closing
 pub mod Starting
+pub mod Carrying

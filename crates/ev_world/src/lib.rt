@@ -2,6 +2,7 @@
 #![tactic(auto)]
 
 mod closing;
+mod carrying;
 mod exporting;
 mod finishing;
 mod pushing;

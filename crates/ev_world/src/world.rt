@@ -130,17 +130,6 @@ impl World {
         Ok(())
     }
 
-    /// The first note on the way from one vat to another arrives.
-    fn carry(&mut self, alloc: Global, from: VatId, to: VatId, number: u64) -> Result<(), VatStop>
-        requires ready { AreReady self.old.residents.items }
-        ensures step { (S : TheirScript) (w : Vats) → IsWorld S w self.old → StepsSteadily S (their.Carry from to) number w
-            → CourseIs S result (step_number S number) (step S (their.Carry from to) number w) self.new }
-        ensures ready { OnOk result (AreReady self.new.residents.items) }
-        ensures wire { self.new.wire ≡ self.old.wire }
-    {
-        Err(VatStop::Memory)
-    }
-
     /// The link of two vats is cut. What is under way on it is lost.
     fn cut(&mut self, alloc: Global, from: VatId, to: VatId, number: u64) -> Result<(), VatStop>
         requires ready { AreReady self.old.residents.items }
