@@ -1,4 +1,7 @@
 pub mod Acting
+pub mod Closes
+pub mod CarryingFrames
+pub mod CarryingSteps
 pub mod Cuts
 pub mod Exports
 pub mod Left
@@ -7,6 +10,8 @@ pub mod Objects
 pub mod Opening
 pub mod Plain
 pub mod Pushes
+pub mod Readies
+pub mod Remains
 pub mod StartingKnowers
 pub mod StartingResidents
 pub mod StartingRoots
