@@ -1,4 +1,5 @@
 pub mod Acting
+pub mod Closes
 pub mod CarryingFrames
 pub mod CarryingSteps
 pub mod Cuts
@@ -10,6 +11,12 @@ pub mod Opening
 pub mod Plain
 pub mod Pushes
 pub mod Readies
+pub mod Remains
+pub mod StartingKnowers
+pub mod StartingResidents
+pub mod StartingRoots
+pub mod StartingVats
+pub mod StartingWorld
 pub mod Telling
 pub mod Turning
 pub mod Wholes

@@ -5,4 +5,6 @@ pub mod Steadily
 pub mod Exporting
 pub mod Midway
 pub mod Pushing
+pub mod Closing
+pub mod Starting
 pub mod Carrying

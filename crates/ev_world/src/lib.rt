@@ -1,11 +1,13 @@
 //! Vats on links: the run of a script.
 #![tactic(auto)]
 
+mod closing;
 mod carrying;
 mod exporting;
 mod finishing;
 mod pushing;
 pub mod run;
+mod starting;
 pub mod world;
 
 pub use run::{RunEnd, Told, run_script};

@@ -1,14 +1,13 @@
 //! The state of a run: vats, the ways between them, and the lines so far.
 
 ghost use Rattle.std.specs.Prelude.{◌≡◌, ◌+◌, ◌<◌, ◌^◌, Some, IfOk, OnOk, length, map, slice_get, zero};
-ghost use Rattle.def_local.specs.Numbers.{Runs, Vats, begins, close, open_from, open_member, step, step_number, steps_from};
-ghost use Rattle.def_run.specs.Text.{shown_events};
+ghost use Rattle.def_local.specs.Numbers.{Runs, Vats, begins, open_from, open_member, step, step_number, steps_from};
 ghost use Rattle.def_run.specs.World as their;
 ghost use Rattle.def_run.specs.World.{Program};
 ghost use Rattle.def_run.specs.World.{Script as TheirScript};
 ghost use Rattle.ev_world.specs.Ends.{course_of};
 ghost use Rattle.ev_world.specs.Running.{script_of};
-ghost use Rattle.ev_world.specs.Standing.{AreReady, Comes, CourseIs, IsWorld, RunIs, told_so};
+ghost use Rattle.ev_world.specs.Standing.{AreReady, CourseIs, IsWorld, RunIs};
 ghost use Rattle.ev_world.specs.Steadily.{OpensSteadily, StepsSteadily};
 ghost use Rattle.law_peers.specs.Steady.{RunsSteadily};
 ghost use Rattle.law_schedule.specs.Scripts.{machine_entry};
@@ -53,22 +52,6 @@ pub(crate) struct World {
 }
 
 impl World {
-    /// The vats of a script at the start of its run, each with its program.
-    pub(crate) fn start(
-        alloc: Global,
-        script: &Script,
-        programs: Vec<Scoped>,
-        limits: Limits,
-        wire: bool,
-    ) -> Result<World, Memory>
-        requires programs { length programs.items ≡ length script.now.vats }
-        ensures begun { IfOk result (λ c. IsWorld (script_of script.now programs.items limits.depth) (begins (script_of script.now programs.items limits.depth)) c) }
-        ensures ready { IfOk result (λ c. AreReady c.residents.items) }
-        ensures wire { IfOk result (λ c. c.wire ≡ wire) }
-    {
-        Err(Memory)
-    }
-
     /// The opening turn of that vat.
     fn open(&mut self, alloc: Global, vat: usize) -> Result<(), VatStop>
         requires ready { AreReady self.old.residents.items }
@@ -260,12 +243,5 @@ impl World {
             return Err(halted);
         }
         self.step_all(alloc, vats as u64, schedule)
-    }
-
-    /// The lines of the whole run, once what is left at its end is told.
-    pub(crate) fn close(self, alloc: Global) -> Result<History, Memory>
-        ensures { (S : TheirScript) (w : Vats) → IsWorld S w self → IfOk result (λ history. Comes (λ (y : Vats). history ≡ told_so self.wire (shown_events y.drawn y.history)) (close S w)) }
-    {
-        Err(Memory)
     }
 }

@@ -1,8 +1,8 @@
 //! Tells of each example whether the top call writes what stands beside it.
 //!
-//! `NAME.e` is a program, and `NAME.form` the form of its kernel tree, as `evat expand` writes it. Where the program runs today,
-//! `NAME.json` is a script of one vat with it, and `NAME.lines` the history that `evat run` writes. `NAME.in` are lines, and `NAME.out`
-//! the answers of a command to them. It reads them where it is run.
+//! `NAME.e` is a program, and `NAME.form` the form of its kernel tree, as `evat expand` writes it. `NAME.json` is a script, of one vat with
+//! that program or of several, which `NAME.vats` tells; `NAME.lines` is the history that `evat run` writes, and `NAME.frames` what
+//! `evat run wire` writes. `NAME.in` are lines, and `NAME.out` the answers of a command to them. It reads them where it is run.
 #![tactic(auto)]
 
 use ev_base::{Memory, Seq, Str};
@@ -51,6 +51,23 @@ const SCRIPTS: [&str; 14] = [
     "texts",
 ];
 
+/// Scripts of several vats.
+const LINKED: [&str; 10] = [
+    "pipelining",
+    "partition",
+    "introduction",
+    "facets",
+    "revoking",
+    "payment",
+    "auditing",
+    "notes",
+    "promised",
+    "handover",
+];
+
+/// Those whose frames are told too.
+const FRAMED: [&str; 2] = ["introduction", "notes"];
+
 /// Commands that answer lines, each with a text of lines.
 const ANSWERED: [(&str, &str); 4] = [
     ("sturdy", "references"),
@@ -59,10 +76,18 @@ const ANSWERED: [(&str, &str); 4] = [
     ("mint", "boxes"),
 ];
 
+/// The words of a command, which stand with a space between two.
+fn words_of(alloc: Global, command: &str) -> Result<Seq<Str>, Memory> {
+    let mut words = Seq::new(alloc);
+    for word in command.split(' ') {
+        words.push(Str::copy_of(alloc, word)?)?;
+    }
+    Ok(words)
+}
+
 /// What a command writes for its input.
 fn answer(alloc: Global, command: &str, input: &[u8]) -> Result<Vec<u8>, Memory> {
-    let mut words = Seq::new(alloc);
-    words.push(Str::copy_of(alloc, command)?)?;
+    let words = words_of(alloc, command)?;
     let bytes = Seq::of(Vec::from_slice(alloc, input)?);
     let mut source = MemorySource::new(bytes, 1000, Seq::new(alloc));
     let mut sink = MemorySink::new(alloc, 1000, 100_000, Seq::new(alloc))?;
@@ -90,6 +115,12 @@ fn lines_of(rt: &HostRuntime, name: &str) -> Option<bool> {
     is_as_told(rt, "run", from.as_str(), to.as_str())
 }
 
+fn frames_of(rt: &HostRuntime, name: &str) -> Option<bool> {
+    let from = format!(in rt.alloc(); "{name}.json").ok()?;
+    let to = format!(in rt.alloc(); "{name}.frames").ok()?;
+    is_as_told(rt, "run wire", from.as_str(), to.as_str())
+}
+
 fn answers_of(rt: &HostRuntime, command: &str, name: &str) -> Option<bool> {
     let from = format!(in rt.alloc(); "{name}.in").ok()?;
     let to = format!(in rt.alloc(); "{name}.out").ok()?;
@@ -104,14 +135,25 @@ fn word(found: Option<bool>) -> &'static str {
     }
 }
 
+/// Tells of scripts.
+fn tell_scripts(rt: &HostRuntime, names: &[&str]) -> io::Result<()> {
+    for name in names {
+        let found = word(lines_of(rt, name));
+        println!(rt; "{name}.lines {found}")?;
+    }
+    Ok(())
+}
+
 fn tell(rt: &HostRuntime) -> io::Result<()> {
     for name in PROGRAMS {
         let found = word(form_of(rt, name));
         println!(rt; "{name}.form {found}")?;
     }
-    for name in SCRIPTS {
-        let found = word(lines_of(rt, name));
-        println!(rt; "{name}.lines {found}")?;
+    tell_scripts(rt, &SCRIPTS)?;
+    tell_scripts(rt, &LINKED)?;
+    for name in FRAMED {
+        let found = word(frames_of(rt, name));
+        println!(rt; "{name}.frames {found}")?;
     }
     for (command, name) in ANSWERED {
         let found = word(answers_of(rt, command, name));

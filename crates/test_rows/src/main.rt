@@ -4,25 +4,70 @@
 //! Behind it stands the input, a line `---`, and what is written; a line `====` stands between two rows.
 //!
 //! The words `form TURNS FUEL DEPTH` are no command of the program: the input is then the kernel form of the program of vat `a`, which
-//! takes so many turns.
+//! takes so many turns, and no node begins below so many levels. A form with a noun that is not rightly bound is no program of a run: its
+//! status is `astray` where the vat's opening turn goes so, and nothing is written.
 #![tactic(auto)]
 
-use ev_base::{Limits, Memory, Seq, Str};
+ghost use Rattle.std.specs.Prelude.{◌≡◌, IfSome, length};
+ghost use Rattle.ev_script.specs.Rules.{IsAdmitted};
+
+use def_kernel::Kernel;
+use ev_base::{Limits, Memory, Seq, Str, VatId};
 use ev_io::{MemorySink, MemorySource};
 use ev_kernel_reader::read_form;
+use ev_scope::{Scoped, check};
+use ev_script::{Script, read_script};
 use ev_top::top;
-use ev_vat::{RunEnd, run_program};
+use ev_vat::{Vat, VatStop};
+use ev_world::{RunEnd, run_script};
 use std::alloc::Global;
 use std::process::ExitCode;
 use std::{fs, io};
 
-const FILES: [&str; 5] = [
+const FILES: [&str; 10] = [
     "commands.rows",
     "forms.rows",
     "programs.rows",
     "scripts.rows",
     "worked.rows",
+    "links.rows",
+    "cuts.rows",
+    "gifts.rows",
+    "frames.rows",
+    "long.rows",
 ];
+
+/// The names that the programs of forms are given.
+const GIVEN: [&str; 23] = [
+    "null",
+    "true",
+    "false",
+    "__makeList",
+    "__equalizer",
+    "__comparer",
+    "__loop",
+    "E",
+    "Ref",
+    "throw",
+    "auditedBy",
+    "any",
+    "void",
+    "int",
+    "boolean",
+    "char",
+    "String",
+    "List",
+    "nullOk",
+    "near",
+    "DeepFrozen",
+    "Selfless",
+    "Functional",
+];
+
+/// A script of one vat up to its entries, and from these to its fuel.
+const HEAD: &str = "{\"key\":\"0000000000000000000000000000000000000000000000000000000000000000\",\"vats\":[{\"name\":\"a\",\"knows\":[],\"source\":\"\"}],\"schedule\":[";
+const MIDDLE: &str = "],\"fuel\":";
+const TAIL: &str = "}";
 
 /// A row, as parts of its file.
 #[derive(Clone, Copy)]
@@ -67,29 +112,103 @@ fn status_of(end: RunEnd) -> &'static str {
         RunEnd::FuelSpent(_) => "8",
         RunEnd::TooDeep(_) => "9",
         RunEnd::WordRepeated(_, _) => "10",
-        RunEnd::Astray => "astray",
+        RunEnd::Astray(_) => "astray",
     }
+}
+
+/// The names that the program of a form is given.
+fn given_names(alloc: Global) -> Option<Seq<Str>> {
+    let mut names = Seq::new(alloc);
+    for name in GIVEN {
+        names.push(Str::copy_of(alloc, name).ok()?).ok()?;
+    }
+    Some(names)
+}
+
+/// The program of a form; none where a noun of it is not rightly bound.
+fn program_of(alloc: Global, form: &str) -> Option<Scoped> {
+    let tree = read_form(alloc, form).ok()?;
+    let given = given_names(alloc)?;
+    check(alloc, tree, &given).ok()
+}
+
+/// The entries of so many turns of one vat.
+fn entries_of(alloc: Global, turns: u32) -> Result<String, Memory> {
+    if turns == 0 {
+        return Ok(String::new(alloc));
+    }
+    Ok(format!(in alloc; "\"drain {turns}\"")?)
+}
+
+/// The script of a vat `a`, without its program.
+fn script_of(alloc: Global, turns: u32, fuel: u32) -> Option<Script>
+    ensures { IfSome result IsAdmitted }
+{
+    let entries = entries_of(alloc, turns).ok()?;
+    let text = format!(in alloc; "{HEAD}{entries}{MIDDLE}{fuel}{TAIL}").ok()?;
+    match read_script(alloc, text.as_bytes()) {
+        Ok(script) => Some(script),
+        Err(_) => None,
+    }
+}
+
+/// How far a form is run.
+#[derive(Clone, Copy)]
+struct Reach {
+    turns: u32,
+    fuel: u32,
+    limits: Limits,
+}
+
+fn reach_of(run: &str) -> Option<Reach> {
+    let (turns, rest) = run.split_once(' ')?;
+    let (fuel, depth) = rest.split_once(' ')?;
+    Some(Reach {
+        turns: turns.parse().ok()?,
+        fuel: fuel.parse().ok()?,
+        limits: Limits {
+            depth: depth.parse().ok()?,
+        },
+    })
+}
+
+/// Whether the run of a program in the one vat of a script ends as a row says.
+fn run_is_as_told(
+    alloc: Global,
+    script: &Script,
+    program: Scoped,
+    limits: Limits,
+    row: &Row<'_>,
+) -> Result<bool, Memory>
+    requires admitted { IsAdmitted script.now }
+    requires one { length script.now.vats ≡ 1 }
+{
+    let mut programs = Vec::new(alloc);
+    programs.push(program)?;
+    let told = run_script(alloc, script, programs, limits, false)?;
+    Ok(status_of(told.end) == row.status && told.text.as_str() == row.output)
+}
+
+/// Whether the opening turn of a tree goes astray.
+fn goes_astray(alloc: Global, tree: &Kernel, reach: Reach) -> Result<bool, Memory> {
+    let mut vat = Vat::start(alloc, VatId(0), &[], &[], &[0; 32], reach.fuel)?;
+    let opened = vat.first_turn(tree, &[], reach.limits);
+    Ok(matches!(opened, Err(VatStop::Astray)))
 }
 
 /// Whether the run of a form ends as a row says; nothing where the row spells no run.
 fn form_is_as_told(alloc: Global, run: &str, row: &Row<'_>) -> Option<bool> {
-    let (turns, limits) = run.split_once(' ')?;
-    let (fuel, depth) = limits.split_once(' ')?;
-    let program = read_form(alloc, row.input).ok()?;
-    let limits = Limits {
-        depth: depth.parse().ok()?,
-    };
-    let told = run_program(
-        alloc,
-        &[0; 32],
-        "a",
-        &program,
-        turns.parse().ok()?,
-        fuel.parse().ok()?,
-        limits,
-    )
-    .ok()?;
-    Some(status_of(told.end) == row.status && told.text.as_str() == row.output)
+    let reach = reach_of(run)?;
+    if row.status == "astray" {
+        let tree = read_form(alloc, row.input).ok()?;
+        return goes_astray(alloc, &tree, reach).ok();
+    }
+    let program = program_of(alloc, row.input)?;
+    let script = script_of(alloc, reach.turns, reach.fuel)?;
+    if script.vats.len() != 1 {
+        return None;
+    }
+    run_is_as_told(alloc, &script, program, reach.limits, row).ok()
 }
 
 /// Whether the top call answers a row as it says.
