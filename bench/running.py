@@ -6,9 +6,10 @@ Run it at the top of the repository. It builds crates/evat and crates/test_bench
 itself, so all its fuel is spent and its lines are told and dropped at the stop: what is measured is evaluation alone.
 The figures of one loop should stay level as the fuel grows.
 
-Then it runs programs that send to themselves, with 1,000 to 100,000 turns, and prints microseconds, bytes of memory and
-bytes of text for a turn. These are whole runs, whose texts are made.
+Then it runs scripts of one vat whose program sends to itself (`evat run`), with 1,000 to 100,000 turns, and prints
+microseconds, bytes of memory and bytes of text for a turn. These are whole runs, whose texts are made.
 """
+import json
 import os
 import pathlib
 import subprocess
@@ -84,21 +85,34 @@ def form_of(before: str, body: str) -> bytes:
     return expanded(f"{before}while (true) {{ {body} }}\n")
 
 
-def once(form: pathlib.Path, *reach: int) -> tuple[float, int, int]:
-    """The seconds of processor of one run, its memory in bytes, and the count of lines or bytes that it told."""
-    words = [BENCH / "out" / "test_bench_frames", str(DEPTH), *map(str, reach)]
-    with form.open("rb") as program:
+def once(words: list, given: pathlib.Path) -> tuple[float, int, bytes]:
+    """The seconds of processor of one run, its memory in bytes, and what it told."""
+    with given.open("rb") as program:
         run = subprocess.Popen(words, stdin=program, stdout=subprocess.PIPE)
-        told = run.stdout.read().decode().split()
+        told = run.stdout.read()
         _, _, used = os.wait4(run.pid, 0)
-    count = int(told[-1]) if "told" in told else 0
-    return used.ru_utime + used.ru_stime, used.ru_maxrss * 1024, count
+    return used.ru_utime + used.ru_stime, used.ru_maxrss * 1024, told
 
 
-def measured(form: pathlib.Path, *reach: int) -> tuple[float, int, int]:
+def measured(words: list, given: pathlib.Path) -> tuple[float, int, bytes]:
     """The least of some runs."""
-    runs = [once(form, *reach) for _ in range(TRIES)]
+    runs = [once(words, given) for _ in range(TRIES)]
     return min(run[0] for run in runs), min(run[1] for run in runs), runs[0][2]
+
+
+def evaluated(form: pathlib.Path, fuel: int) -> tuple[float, int, int]:
+    """Seconds, bytes of memory, and how many lines were told."""
+    seconds, most, text = measured([BENCH / "out" / "test_bench_frames", str(DEPTH), str(fuel)], form)
+    told = text.decode().split()
+    return seconds, most, int(told[-1]) if "told" in told else 0
+
+
+def run_with(script: pathlib.Path, source: str, turns: int) -> tuple[float, int, int]:
+    """Seconds, bytes of memory, and bytes of text, of a vat that takes so many turns."""
+    vat = {"name": "a", "knows": [], "source": source}
+    script.write_text(json.dumps({"key": "0" * 64, "fuel": AMPLE, "vats": [vat], "schedule": ["turn a"] * turns}))
+    seconds, most, text = measured([EVAT / "out" / "evat", "run"], script)
+    return seconds, most, len(text)
 
 
 def print_loops(program: pathlib.Path) -> None:
@@ -109,25 +123,20 @@ def print_loops(program: pathlib.Path) -> None:
             print(f"{name:28} not built: {form.decode().strip()}")
             continue
         program.write_bytes(form)
-        rest, floor, _ = measured(program, 1)
+        rest, floor, _ = evaluated(program, 1)
         for fuel in FUELS:
-            seconds, most, lines = measured(program, fuel)
+            seconds, most, lines = evaluated(program, fuel)
             more = max(0, most - floor)
             line = f"{more / lines:13.0f}" if lines else " " * 13
             print(f"{name:28} {fuel:10} {(seconds - rest) / fuel * 1e9:10.1f} {more / fuel:13.1f} {line}")
 
 
-def print_senders(program: pathlib.Path) -> None:
+def print_senders(script: pathlib.Path) -> None:
     print(f"\n{'sender':28} {'turns':>10} {'us a turn':>10} {'bytes a turn':>13} {'text a turn':>13}")
     for name, source in SENDERS.items():
-        form = expanded(source)
-        if not form.startswith(b"("):
-            print(f"{name:28} not built: {form.decode().strip()}")
-            continue
-        program.write_bytes(form)
-        rest, floor, _ = measured(program, AMPLE, 0)
+        rest, floor, _ = run_with(script, source, 0)
         for turns in TURNS:
-            seconds, most, text = measured(program, AMPLE, turns)
+            seconds, most, text = run_with(script, source, turns)
             more = max(0, most - floor)
             print(f"{name:28} {turns:10} {(seconds - rest) / turns * 1e6:10.2f} {more / turns:13.0f} {text / turns:13.0f}")
 
@@ -135,9 +144,8 @@ def print_senders(program: pathlib.Path) -> None:
 def main() -> None:
     build()
     with tempfile.TemporaryDirectory() as room:
-        program = pathlib.Path(room) / "form"
-        print_loops(program)
-        print_senders(program)
+        print_loops(pathlib.Path(room) / "form")
+        print_senders(pathlib.Path(room) / "script")
 
 
 if __name__ == "__main__":

@@ -1,6 +1,6 @@
 //! A vat with its connections and the gifts that it learnt.
 
-ghost use Rattle.std.specs.Prelude.{◌≡◌, ℕ, List, None, IfErr, IfOk, OnOk, length, map, slice_get};
+ghost use Rattle.std.specs.Prelude.{◌≡◌, ◌++◌, ℕ, List, None, IfErr, IfOk, OnOk, length, map, slice_get};
 ghost use Rattle.def_local.specs.Names.{Names};
 ghost use Rattle.def_local.specs.Vats.{Member as Theirs};
 ghost use Rattle.def_machine.specs.Arrive as machine;
@@ -13,6 +13,7 @@ ghost use Rattle.ev_member.specs.Starting.{rooted_member};
 ghost use Rattle.ev_member.specs.Steps.{Steps, Turns, own};
 ghost use Rattle.ev_pass.specs.Acts.{words_by};
 ghost use Rattle.ev_pass.specs.Reading.{names_under};
+ghost use Rattle.ev_vat.specs.Closing.{left_lines};
 ghost use Rattle.ev_vat.specs.Vat.{IsReady};
 ghost use Rattle.ev_vat.specs.declared.vat.VatStop.TheVariants.{Memory as NoMemory};
 ghost use Rattle.ev_write.specs.Putting.{all_written, put_all, table_for};
@@ -22,8 +23,10 @@ use crate::starting::first_connections;
 use def_kernel::Kernel;
 use def_op::Desc;
 use ev_base::{Limits, Memory, Value, VatId};
+use ev_event::History;
 use ev_intro::Words;
 use ev_read::LearntTable;
+use ev_step_lines::Table;
 use ev_tables::Connection;
 use ev_vat::{Vat, VatStop};
 use ev_word::Word;
@@ -68,6 +71,14 @@ impl Member {
         ensures { result.now ≡ self.now.vat }
     {
         &self.vat
+    }
+
+    /// Adds the lines of what is left at the vat, by the table of its names, as `Vat::tell_left` does: the messages of the queue are taken
+    /// off it.
+    pub fn tell_left(&mut self, table: &Table, history: &mut History) -> Result<(), Memory>
+        ensures { OnOk result (history.new ≡ history.old ++ left_lines table.now self.old.vat.host.inside.refs) }
+    {
+        self.vat.tell_left(table, history)
     }
 
     /// Readies the vat for its next step: what the last one told and put is forgotten, there is so much fuel, and words are drawn behind

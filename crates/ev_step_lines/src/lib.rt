@@ -3,13 +3,11 @@
 
 pub mod evaluated;
 pub mod lines;
-pub mod names;
 pub mod referred;
 pub mod shown;
 pub mod table;
 pub mod teller;
 
 pub use lines::push_lines;
-pub use names::Names;
 pub use table::Table;
 pub use teller::Teller;

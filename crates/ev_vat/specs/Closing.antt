@@ -1,7 +1,7 @@
 -- What is left at a vat at the end of a run, in lines, where its numbers stand for these names.
 use Rattle.std.specs.Prelude.{ℕ, zero, suc, List, [], ◌∷◌, ◌++◌, map}
 use Rattle.def_event.specs.declared.event.Event.{Event}
-use Rattle.def_event.specs.declared.event.Event.TheVariants.{LeftQueue, LeftHeld, LeftWait, End}
+use Rattle.def_event.specs.declared.event.Event.TheVariants.{LeftQueue, LeftHeld, LeftWait}
 use Rattle.def_event.specs.declared.shown.Shown as shown
 use Rattle.ev_refs.specs.References.{References}
 use Rattle.ev_refs.specs.declared.known.Known.{Known}
@@ -29,6 +29,6 @@ unfoldable pub wait_lines : Naming → ℕ → List Known → List Event
 wait_lines t n [] = []
 wait_lines t n (k ∷ ks) = map (wait_line t n) k.reactions ++ wait_lines t (suc n) ks
 
--- the closing list
+-- the queue, what is held, and what waits
 abbrev pub left_lines : Naming → References → List Event
-left_lines t r = map (queue_line t) r.queue ++ held_lines t zero r.known ++ wait_lines t zero r.known ++ End ∷ []
+left_lines t r = map (queue_line t) r.queue ++ held_lines t zero r.known ++ wait_lines t zero r.known

@@ -1,5 +1,3 @@
 pub mod Closing
-pub mod Ends
 pub mod Rooted
-pub mod Run
 pub mod Vat

@@ -1,4 +1,4 @@
--- The inside of a vat at its start, and one that has rested.
+-- The inside of a vat at its start, and as its next step finds it.
 use Rattle.std.specs.Prelude.{◌≡◌, ℕ, zero, suc, List, [], ◌∷◌, fold, map}
 use Rattle.def_machine.specs.State.{Known, Vat, begun, with_vat}
 use Rattle.def_machine.specs.Values.{Local, Prom}
@@ -53,10 +53,6 @@ fresh me fuel knows known_by = record {
   happened = [];
 }
 
--- what a step told and put is forgotten
-abbrev pub rested : Interior → Interior
-rested i = record i { micro = record i.micro { events = [] }; post = [] }
-
--- as its next step finds it, with so much fuel, where those words were drawn so far
+-- as its next step finds it, with so much fuel, where those words were drawn so far: what the last one told and put is forgotten
 abbrev pub readied : ℕ → Drawn → Interior → Interior
 readied fuel words i = record i { micro = record { fuel = fuel; events = [] }; words = words; post = [] }

@@ -3,6 +3,7 @@
 ghost use Rattle.std.specs.Prelude.{◌≡◌, ◌++◌, OnOk, map, zero};
 ghost use Rattle.ev_vat.specs.Closing.{held_line, held_lines, left_lines, queue_line, wait_line, wait_lines};
 
+use crate::vat::Vat;
 use def_event::{Event, Shown};
 use ev_base::{Memory, PromId};
 use ev_event::History;
@@ -76,13 +77,15 @@ fn push_all_waits(table: &Table, known: &[Known], history: &mut History) -> Resu
     Ok(())
 }
 
-/// Adds the closing list: what is left in the queue, which is emptied, at the names that hold messages and at those that reactions wait
-/// on; and the last line of the run.
-pub(crate) fn push_left(table: &Table, refs: &mut Refs, history: &mut History) -> Result<(), Memory>
-    ensures { OnOk result (history.new ≡ history.old ++ left_lines table.now refs.old) }
-{
-    push_queue(table, refs, history)?;
-    push_all_held(table, refs.known(), history)?;
-    push_all_waits(table, refs.known(), history)?;
-    history.push(Event::End)
+impl Vat {
+    /// Adds the lines of what is left at the vat, by the table of its names: the messages of the queue, which are taken off it, those that
+    /// are held at names, and the reactions that wait on names.
+    pub fn tell_left(&mut self, table: &Table, history: &mut History) -> Result<(), Memory>
+        ensures { OnOk result (history.new ≡ history.old ++ left_lines table.now self.old.host.inside.refs) }
+    {
+        let refs = &mut self.host.inside.refs;
+        push_queue(table, refs, history)?;
+        push_all_held(table, refs.known(), history)?;
+        push_all_waits(table, refs.known(), history)
+    }
 }

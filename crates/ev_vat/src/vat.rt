@@ -10,7 +10,7 @@ ghost use Rattle.ev_room.specs.Reading.{World, names, texts_of, vat_of};
 ghost use Rattle.ev_room.specs.Sound.{Grown, IsSound, Stays, are_there, is_there, problems};
 ghost use Rattle.ev_eval.specs.Turn.{roots_from};
 ghost use Rattle.ev_refs.specs.References.{unsettled_of};
-ghost use Rattle.ev_vat.specs.Rooted.{IsRooted, each_once, fresh, rested, root_of};
+ghost use Rattle.ev_vat.specs.Rooted.{IsRooted, each_once, fresh, root_of};
 ghost use Rattle.ev_room.specs.Acts as acts;
 ghost use Rattle.ev_receive.specs.Hearing.{Name, Sees, heard_by};
 ghost use Rattle.ev_refs.specs.Reading.{message_by};
@@ -24,14 +24,13 @@ use ev_base::{ActId, Limits, Memory, PromId, Seq, Value, VatId};
 use ev_eval::{Ended, new_interior, run_message, run_program};
 use ev_heap::Happened;
 use ev_intro::GiftTable;
-use ev_pass::{Interior, Post, Stop};
+use ev_pass::{Interior, Stop};
 use ev_receive::arriving::arrive;
 use ev_receive::brought::Heard;
 use ev_receive::receiving::{Sight, receive};
 use ev_refs::{Message, Refs};
 use ev_room::room::{new_activation, tell};
 use ev_settle::{finish, throw};
-use ev_told::Micro;
 use ev_word::Word;
 use std::alloc::Global;
 
@@ -440,17 +439,5 @@ impl Vat {
         ensures { result.now ≡ self.now.host.inside }
     {
         &self.host.inside
-    }
-
-    /// Forgets what the last step told and put.
-    pub fn rest(&mut self)
-        ensures inside { self.new.host.inside ≡ rested self.old.host.inside }
-        ensures gifts { self.new.host.gifts ≡ self.old.host.gifts }
-        ensures stopped { self.new.stopped ≡ self.old.stopped }
-    {
-        let inside = &mut self.host.inside;
-        let alloc = inside.alloc;
-        inside.micro = Micro::new(alloc, inside.micro.fuel);
-        inside.post = Post::new(alloc);
     }
 }

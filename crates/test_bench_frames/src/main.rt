@@ -1,12 +1,11 @@
-//! Runs the form of standard input at a greatest depth and with so much fuel: its opening turn (`DEPTH FUEL`), whose lines are dropped,
-//! or a whole run with so many turns (`DEPTH FUEL TURNS`), whose text is made.
+//! Runs the opening turn of the form of standard input at a greatest depth and with so much fuel (`DEPTH FUEL`). Its lines are dropped.
 #![tactic(auto)]
 
 use def_kernel::Kernel;
 use ev_base::{Limits, Memory, Seq, VatId};
 use ev_io::{StdSource, read_all};
 use ev_kernel_reader::read_form;
-use ev_vat::{RunEnd, Vat, VatStop, run_program};
+use ev_vat::{Vat, VatStop};
 use std::alloc::Global;
 use std::io::BufReader;
 use std::process::ExitCode;
@@ -18,19 +17,17 @@ const KEY: [u8; 32] = [0; 32];
 #[derive(Clone, Copy)]
 struct Ran {
     how: &'static str,
-    /// The fuel that is left after an opening turn; of a whole run 0.
+    /// The fuel that is left.
     fuel: u32,
-    /// The events that an opening turn told, or the bytes of the text of a run.
+    /// How many events were told.
     told: usize,
 }
 
-/// What is run, and how far.
+/// How far it runs.
 #[derive(Clone, Copy)]
 struct Reach {
     depth: u32,
     fuel: u32,
-    /// None for the opening turn alone.
-    turns: Option<u32>,
 }
 
 fn stop_word(stop: VatStop) -> &'static str {
@@ -43,16 +40,6 @@ fn stop_word(stop: VatStop) -> &'static str {
     }
 }
 
-fn end_word(end: RunEnd) -> &'static str {
-    match end {
-        RunEnd::Done => "done",
-        RunEnd::FuelSpent(_) => "fuel",
-        RunEnd::TooDeep(_) => "deep",
-        RunEnd::WordRepeated(_, _) => "repeated",
-        RunEnd::Astray => "astray",
-    }
-}
-
 fn how(turn: Result<(), VatStop>) -> &'static str {
     match turn {
         Ok(()) => "done",
@@ -60,6 +47,7 @@ fn how(turn: Result<(), VatStop>) -> &'static str {
     }
 }
 
+/// Runs the opening turn of a vat that knows no other.
 fn opened(alloc: Global, program: &Kernel, reach: Reach) -> Result<Ran, Memory> {
     let mut vat = Vat::start(alloc, VatId(0), &[], &[], &KEY, reach.fuel)?;
     let turn = vat.first_turn(program, &[], Limits { depth: reach.depth });
@@ -71,36 +59,10 @@ fn opened(alloc: Global, program: &Kernel, reach: Reach) -> Result<Ran, Memory> 
     })
 }
 
-fn whole(alloc: Global, program: &Kernel, turns: u32, reach: Reach) -> Result<Ran, Memory> {
-    let limits = Limits { depth: reach.depth };
-    let told = run_program(
-        alloc,
-        &KEY,
-        "a",
-        program,
-        u64::from(turns),
-        reach.fuel,
-        limits,
-    )?;
-    Ok(Ran {
-        how: end_word(told.end),
-        fuel: 0,
-        told: told.text.len(),
-    })
-}
-
-/// Runs a program; none has run where memory ran out.
-fn run(alloc: Global, program: &Kernel, reach: Reach) -> Option<Ran> {
-    match reach.turns {
-        None => opened(alloc, program, reach).ok(),
-        Some(turns) => whole(alloc, program, turns, reach).ok(),
-    }
-}
-
 fn run_form(alloc: Global, bytes: &[u8], reach: Reach) -> Option<Ran> {
     match str::from_utf8(bytes) {
         Ok(text) => match read_form(alloc, text) {
-            Ok(program) => run(alloc, &program, reach),
+            Ok(program) => opened(alloc, &program, reach).ok(),
             Err(_) => None,
         },
         Err(_) => None,
@@ -142,8 +104,7 @@ fn main(rt: HostRuntime) -> ExitCode {
     let mut args = args.skip(1);
     let depth = number(args.next()).unwrap_or(0);
     let fuel = number(args.next()).unwrap_or(0);
-    let turns = number(args.next());
-    match run_input(&rt, Reach { depth, fuel, turns }) {
+    match run_input(&rt, Reach { depth, fuel }) {
         None => ExitCode::from(2),
         Some(ran) => show(&rt, ran),
     }

@@ -1,4 +1,0 @@
-pub mod Names
-pub mod Numbers
-pub mod Statements
-pub mod Example
