@@ -15,7 +15,7 @@ use Rattle.ev_member.proofs.Steps.{ComesTo, came, came_outbox, came_references, 
 use Rattle.ev_member.proofs.Taking.{answers_are, answers_in, new_imports, set_for, taken_connection, taken_for}
 use Rattle.ev_member.proofs.Worlds.{grown_world, sees_back, sees_grown}
 use Rattle.ev_member.specs.Hearing.{AllOwn, BringsSo, Hears, HearsSo, HeardNote, IsSteadyHearing, answer_of, asked_of, frame_heard, having, taken, with_texts}
-use Rattle.ev_member.specs.Sending.{packed, sending_of}
+use Rattle.ev_member.specs.Sending.{AreSent}
 use Rattle.ev_member.specs.Standing.{IsFound, Sees, with_draws}
 use Rattle.ev_member.specs.declared.member.Member.{Member}
 use Rattle.ev_member.specs.declared.sending.Sending.{Sending}
@@ -191,7 +191,7 @@ module _ (fuel : ℕ) (drawn : List ℕ) (m : Theirs) (q c : Member) (found : Is
 
   -- what was sent, where the note arrived
   pub hear_sends : {A : Type 0} (read : A → List Sending) (a : A) → Arrives (Ok tt) → Grown old.heap new.heap → Stays old new → IsSound new → c.vat.stopped ≡ None → c.learnt ≡ put_all news.gifts q.learnt
-      → map sending_of (read a) ≡ map packed (written.all_written new new.post tables) → c.connections.items ≡ all_put new new.post tables → HearsSo v m h read (Ok (Some a)) c outcome
+      → AreSent (written.all_written new new.post tables) (read a) → c.connections.items ≡ all_put new new.post tables → HearsSo v m h read (Ok (Some a)) c outcome
   hear_sends read a arrives grown stays sound going learnt sends puts =
       let each : ComesTo c.vat.host outcome = host_comes fuel drawn m before c before_found act grown stays (arrives_so (Ok tt) grown arrives) in
       let w = grown_world old new before_found.rest.sound grown in

@@ -1,3 +1,4 @@
+mod Rooms
 pub mod Worlds
 pub mod Steps
 pub mod Readies

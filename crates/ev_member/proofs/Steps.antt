@@ -1,7 +1,7 @@
 -- Steps of a vat with what it has for its peers.
 use Rattle.std.proofs.Common.{◌≡◌, ℕ, List, [], ◌∷◌, ◌++◌, map, Result, Ok, Err, None, refl, sym, ap, subst, ◌∙◌}
 use Rattle.std.specs.Prelude.{IfErr, IfOk, OnOk}
-use Rattle.def_local.specs.Numbers.{all_written, frames_of}
+use Rattle.def_local.specs.Numbers.{Addressed as Framed, all_written, frames_of}
 use Rattle.def_local.specs.Vats.{Member as Theirs}
 use Rattle.def_machine.specs.State as machine
 use Rattle.def_machine.specs.State.{Act, Done, Gives, Stops, Put}
@@ -11,7 +11,7 @@ use Rattle.ev_arrive.specs.Reading.{with_gifts}
 use Rattle.ev_arrive.specs.declared.host.Host.{Host}
 use Rattle.ev_intro.specs.Gift.{Gifts}
 use Rattle.ev_member.proofs.Worlds.{gifted, gifted_is, grown_texts, grown_world, sees_back, sees_grown}
-use Rattle.ev_member.specs.Sending.{packed, sending_of, spelled}
+use Rattle.ev_member.specs.Sending.{AllSpelled, AreOps, AreSent, packed, sending_of, spelled}
 use Rattle.ev_member.specs.Standing.{IsFound, Sees, with_draws}
 use Rattle.ev_member.specs.Steps.{EndsSo, Having, IsDone, IsSteady, Leaves, own}
 use Rattle.ev_member.specs.declared.member.Member.{Member}
@@ -76,6 +76,11 @@ map_map : {A B C : Type 0} (xs : List A) (f : B → C) (g : A → B) → map f (
 map_map [] f g = refl
 map_map (x ∷ xs) f g = ap (λ (ys : List _). f (g x) ∷ ys) (map_map xs f g)
 
+-- what has a spelling
+ops_of : (xs : List Framed) → AllSpelled (map framed xs) → AreOps xs
+ops_of [] all = tt
+ops_of (x ∷ xs) all = (all.0, ops_of xs all.1)
+
 -- what was written, as frames
 module _ (c : Member) (b : Having) (s : machine.Vat Local) (xs : List Sending) (ts : List Table)
     (vat : (w : World) → Sees w c.vat.host.inside → vat_in w c.vat.host ≡ s)
@@ -83,7 +88,7 @@ module _ (c : Member) (b : Having) (s : machine.Vat Local) (xs : List Sending) (
     (outbox : s.outbox ≡ map (put_by c.vat.host.inside.heap.texts) c.vat.host.inside.post)
     (sound : IsSound c.vat.host.inside) (going : c.vat.stopped ≡ None) (learnt : map learnt_of c.learnt ≡ b.learnt)
     (had : connections_of ts ≡ b.connections) (all : AreFor c.vat.host.inside.refs ts)
-    (sends : map sending_of xs ≡ map packed (code.all_written c.vat.host.inside c.vat.host.inside.post ts))
+    (sends : AreSent (code.all_written c.vat.host.inside c.vat.host.inside.post ts) xs)
     (tables : c.connections.items ≡ put_all c.vat.host.inside c.vat.host.inside.post ts) where
   abbrev i : Interior
   i = c.vat.host.inside
@@ -97,10 +102,14 @@ module _ (c : Member) (b : Having) (s : machine.Vat Local) (xs : List Sending) (
       let after = writes_all i s (λ n. Root 0) i.post ts references anew all in
       record {
         sends = λ f.
-            sends ∙ ap (λ (ys : List Addressed). map packed ys) (sym (writes_all i s f i.post ts references anew all).0)
+            sends.frames ∙ ap (λ (ys : List Addressed). map packed ys) (sym (writes_all i s f i.post ts references anew all).0)
             ∙ map_map (frames_of s f puts (connections_of ts)) packed framed
             ∙ ap (λ (cs : List (Connection Local)). map spelled (frames_of s f puts cs)) had
             ∙ ap (λ (ps : List (Put Local)). map spelled (frames_of s f ps b.connections)) (sym outbox);
+        fits = λ f.
+            subst (λ (ps : List (Put Local)). AreOps (frames_of s f ps b.connections)) (sym outbox)
+            (subst (λ (cs : List (Connection Local)). AreOps (frames_of s f puts cs)) had
+            (ops_of (frames_of s f puts (connections_of ts)) (subst AllSpelled (sym (writes_all i s f i.post ts references anew all).0) sends.fits)));
         member = λ t. record {
           vat = λ w e. ap (λ (x : machine.Vat Local). with_draws 0 [] x) (vat w e);
           rest = record {
@@ -130,7 +139,7 @@ module _ (fuel : ℕ) (drawn : List ℕ) (m : Theirs) (q c : Member) (found : Is
 
   -- what was sent, where the step came to its end
   pub done_so : (xs : List Sending) (d : Done Local (Unit {0})) (grown : Grown before.heap after.heap) (stays : Stays before after) → IsSound after → c.vat.stopped ≡ None → c.learnt ≡ q.learnt
-      → map sending_of xs ≡ map packed (code.all_written after after.post q.connections.items) → c.connections.items ≡ put_all after after.post q.connections.items → ComesTo c.vat.host d
+      → AreSent (code.all_written after after.post q.connections.items) xs → c.connections.items ≡ put_all after after.post q.connections.items → ComesTo c.vat.host d
       → (s : machine.Vat Local) × IsDone s c d × (IsSteady m (own m) s → Leaves (own m) s xs c)
   done_so xs d grown stays sound going learnt sends tables each =
       let w = grown_world before after found.rest.sound grown in
@@ -190,7 +199,7 @@ module _ (fuel : ℕ) (drawn : List ℕ) (m : Theirs) (q c : Member) (found : Is
 
   -- what was put is sent, unless memory ran out
   pub own_sends : {A : Type 0} (read : A → List Sending) (r : Result A VatStop) (d : Done Local (Unit {0})) (grown : Grown before.heap after.heap) (stays : Stays before after) → IsSound after → c.vat.stopped ≡ None → c.learnt ≡ q.learnt
-      → IfOk r (λ a. map sending_of (read a) ≡ map packed (code.all_written after after.post q.connections.items)) → OnOk r (c.connections.items ≡ put_all after after.post q.connections.items)
+      → IfOk r (λ a. AreSent (code.all_written after after.post q.connections.items) (read a)) → OnOk r (c.connections.items ≡ put_all after after.post q.connections.items)
       → IfErr r (λ e. e ≡ Memory) → ComesTo c.vat.host d → EndsSo m (own m) read r c d
   own_sends read (Ok a) d grown stays sound going learnt sends tables fault each = done_so (read a) d grown stays sound going learnt sends tables each
   own_sends read (Err Memory) d grown stays sound going learnt sends tables fault each = tt

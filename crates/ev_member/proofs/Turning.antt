@@ -9,7 +9,7 @@ use Rattle.def_machine.specs.Values.{Words, Local}
 use Rattle.ev_intro.specs.Gift.{Gifts}
 use Rattle.ev_member.proofs.Steps.{own_comes, own_sends, own_stops, sees_before}
 use Rattle.ev_member.proofs.Worlds.{gifted, grown_world, sees_grown}
-use Rattle.ev_member.specs.Sending.{packed, sending_of}
+use Rattle.ev_member.specs.Sending.{AreSent}
 use Rattle.ev_member.specs.Standing.{IsFound, Sees, with_draws}
 use Rattle.ev_member.specs.Steps.{IdlesSo, Turns}
 use Rattle.ev_member.specs.declared.member.Member.{Member}
@@ -102,7 +102,7 @@ module _ (fuel : ℕ) (drawn : List ℕ) (m : Theirs) (q c : Member) (found : Is
   module _ {A : Type 0} (read : A → List Sending) where
     pub turned : (a : A) (qs : List Message) (ms : List (machine.Message Local)) → before.refs.queue ≡ qs → m.vat.queue ≡ ms → (grown : Grown before.heap after.heap) (stays : Stays before after)
         → c.vat.host.gifts ≡ q.vat.host.gifts → IsSound after → c.vat.stopped ≡ None → c.learnt ≡ q.learnt
-        → map sending_of (read a) ≡ map packed (code.all_written after after.post q.connections.items) → c.connections.items ≡ put_all after after.post q.connections.items
+        → AreSent (code.all_written after after.post q.connections.items) (read a) → c.connections.items ≡ put_all after after.post q.connections.items
         → Turned (Ok true) qs → Turns fuel drawn m read (Ok (Some a)) q c take ms
     turned a [] ms here there grown stays gifts sound going learnt sends tables step = let e = (done_in (Ok true) [] grown stays step).0 in absurd cc
     turned a (y ∷ ys) [] here there grown stays gifts sound going learnt sends tables step = let e = pairs (y ∷ ys) [] here there in absurd cc

@@ -1,4 +1,5 @@
 pub mod Sending
+pub mod Fitting
 pub mod Standing
 pub mod Starting
 pub mod Steps

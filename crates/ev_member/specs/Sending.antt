@@ -1,5 +1,5 @@
 -- Frames that are sent, without where they lie in memory.
-use Rattle.std.specs.Prelude.{ℕ, List, [], ◌∷◌}
+use Rattle.std.specs.Prelude.{◌≡◌, ℕ, List, [], ◌∷◌, map}
 use Rattle.def_op.specs.Frames.{IsOp, spelling}
 use Rattle.def_local.specs.Numbers.{Addressed as Framed}
 use Rattle.ev_member.specs.declared.sending.Sending.{Sending}
@@ -16,6 +16,16 @@ sending_of x = record { to = x.to; bytes = x.bytes }
 -- the frame of an operation
 abbrev pub packed : Addressed → Sent
 packed x = record { to = x.to; bytes = spelling x.op }
+
+-- each of these operations has a spelling
+abbrev pub AllSpelled : List Addressed → Type 0
+AllSpelled [] = Unit {0}
+AllSpelled (x ∷ xs) = IsOp x.op × AllSpelled xs
+
+-- what is sent are the frames of these operations, and each has a spelling
+pub record AreSent (ops : List Addressed) (xs : List Sending) : Type 0 where
+  pub frames : map sending_of xs ≡ map packed ops
+  pub fits : AllSpelled ops
 
 -- the frame of a note in the machine's run in numbers
 abbrev pub spelled : Framed → Sent

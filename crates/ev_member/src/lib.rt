@@ -1,6 +1,7 @@
 //! A vat with what it has for its peers: it takes its steps, writes what they put as frames of bytes, and hears the frames of others.
 #![tactic(auto)]
 
+mod fitting;
 pub mod hearing;
 pub mod member;
 pub mod sending;

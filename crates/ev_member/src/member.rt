@@ -7,7 +7,7 @@ ghost use Rattle.def_machine.specs.Arrive as machine;
 ghost use Rattle.def_machine.specs.Eval.{opening, taking};
 ghost use Rattle.def_machine.specs.Values.{Prom};
 ghost use Rattle.ev_eval.specs.Turn.{roots_from};
-ghost use Rattle.ev_member.specs.Sending.{packed, sending_of};
+ghost use Rattle.ev_member.specs.Sending.{AreSent};
 ghost use Rattle.ev_member.specs.Standing.{IsFound, IsMember};
 ghost use Rattle.ev_member.specs.Starting.{rooted_member};
 ghost use Rattle.ev_member.specs.Steps.{Steps, Turns, own};
@@ -139,7 +139,7 @@ impl Member {
 
     /// Writes what the step at hand put.
     pub(crate) fn send(&mut self) -> Result<Vec<Sending>, VatStop>
-        ensures sends { IfOk result (λ xs. map sending_of xs.items ≡ map packed (all_written self.old.vat.host.inside self.old.vat.host.inside.post self.old.connections.items)) }
+        ensures sends { IfOk result (λ xs. AreSent (all_written self.old.vat.host.inside self.old.vat.host.inside.post self.old.connections.items) xs.items) }
         ensures connections { OnOk result (self.new.connections.items ≡ put_all self.old.vat.host.inside self.old.vat.host.inside.post self.old.connections.items) }
         ensures vat { self.new.vat ≡ self.old.vat }
         ensures learnt { self.new.learnt ≡ self.old.learnt }

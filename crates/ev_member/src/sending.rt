@@ -1,11 +1,14 @@
 //! What a step puts, as frames of bytes.
 
 ghost use Rattle.std.specs.Prelude.{◌≡◌, IfErr, IfOk, OnOk, map};
-ghost use Rattle.ev_member.specs.Sending.{packed, sending_of};
+ghost use Rattle.def_op.specs.Frames.{IsOp};
+ghost use Rattle.def_op.specs.Views.{operation};
+ghost use Rattle.ev_member.specs.Sending.{AreSent, packed, sending_of};
 ghost use Rattle.ev_pass.specs.Notes.{sent};
 ghost use Rattle.ev_vat.specs.declared.vat.VatStop.TheVariants.{Memory as NoMemory};
 ghost use Rattle.ev_write.specs.Putting.{addressed, all_written, put_all};
 
+use crate::fitting::has_spelling;
 use ev_base::{Memory, Seq, VatId};
 use ev_op::encode;
 use ev_pass::Interior;
@@ -23,8 +26,13 @@ pub struct Sending {
 
 /// The frame of an operation.
 fn pack(alloc: Global, outgoing: &Outgoing) -> Result<Sending, Memory>
-    ensures { IfOk result (λ x. sending_of x ≡ packed (addressed outgoing.now)) }
+    ensures frame { IfOk result (λ x. sending_of x ≡ packed (addressed outgoing.now)) }
+    ensures fits { OnOk result (IsOp (operation outgoing.now.op)) }
 {
+    // No run puts a note that has none: messages have few arguments, and lists that pass are within their limits.
+    if !has_spelling(&outgoing.op) {
+        return Err(Memory);
+    }
     Ok(Sending {
         to: outgoing.to,
         bytes: encode(alloc, &outgoing.op)?,
@@ -33,7 +41,7 @@ fn pack(alloc: Global, outgoing: &Outgoing) -> Result<Sending, Memory>
 
 /// The frames of operations, in order.
 fn pack_all(alloc: Global, outgoing: &[Outgoing]) -> Result<Vec<Sending>, Memory>
-    ensures { IfOk result (λ xs. map sending_of xs.items ≡ map packed (map addressed outgoing.now)) }
+    ensures { IfOk result (λ xs. AreSent (map addressed outgoing.now) xs.items) }
 {
     let mut out = Vec::new(alloc);
     for one in outgoing {
@@ -42,13 +50,13 @@ fn pack_all(alloc: Global, outgoing: &[Outgoing]) -> Result<Vec<Sending>, Memory
     Ok(out)
 }
 
-/// Writes the notes that a step put, in order, each on the connection for its peer. A note for a vat without an open connection is
+/// Writes the notes that a step put, in order, each on the connection for its peer: frames of operations that have a spelling. A note for a vat without an open connection is
 /// answered as want of memory; after it the connections are of no use any more.
 pub fn send_all(
     inside: &Interior,
     connections: &mut Vec<Connection>,
 ) -> Result<Vec<Sending>, VatStop>
-    ensures sends { IfOk result (λ xs. map sending_of xs.items ≡ map packed (all_written inside.now inside.now.post connections.old.items)) }
+    ensures sends { IfOk result (λ xs. AreSent (all_written inside.now inside.now.post connections.old.items) xs.items) }
     ensures connections { OnOk result (connections.new.items ≡ put_all inside.now inside.now.post connections.old.items) }
     ensures fault { IfErr result (λ e. e ≡ NoMemory) }
 {

@@ -5,7 +5,9 @@ pub mod Steady
 pub mod Ended
 pub mod ReadLemmas
 pub mod CauseLemmas
+pub mod Lawful
 pub mod Fates
 pub mod Reach
+pub mod Severed
 pub mod Unread
 pub mod Told

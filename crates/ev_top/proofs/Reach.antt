@@ -1,14 +1,22 @@
--- What bears DeepFrozen's stamp reaches frozen values alone, in the world in which the run ends that a call owes; and what is used in that run is connected.
-use Rattle.std.proofs.Common.{ℕ, List, Option, Some, None, IfSome}
-use Rattle.law_frozen.proofs.RunSound.{reach_at_the_end}
-use Rattle.ev_top.specs.Headline.{StampedReachFrozenAlone, UsesAreConnected}
+-- In the run that a call owes, what bears DeepFrozen's stamp reaches frozen values alone, and what is used is connected.
+use Rattle.std.proofs.Common.{◌≡◌, ◌++◌, ◌⊎◌, inl, inr, ℕ, List, Option, Some, None, IfSome}
+use Rattle.def_run.specs.World as machine
+use Rattle.def_run.specs.World.{World}
 use Rattle.law_connected.proofs.FineRuns.{opened_connect, run_connect}
+use Rattle.law_frozen.specs.Runs.{ReachIsFrozenIn}
+use Rattle.law_frozen.proofs.RunSound.{reach_at_the_end, reach_in_runs}
+use Rattle.ev_top.specs.Headline.{ComesTo, StampedReachFrozenAlone, UsesAreConnected}
 use Rattle.ev_top.specs.declared.command.Command.{Command}
+
+frozen_in : (script : machine.Script) (world : World) → ComesTo script world → ReachIsFrozenIn script world
+frozen_in script world (inl (ps, rest, split, opened)) = (reach_in_runs script).0 ps rest world split opened
+frozen_in script world (inr (inl (es, rest, split, lead))) = (reach_in_runs script).1 lead.0 world es 1 lead.1 lead.2
+frozen_in script world (inr (inr ends)) = reach_at_the_end script world ends
 
 pub frozen_alone : (left : Option (List ℕ)) (command : Option Command) → IfSome left (λ input. StampedReachFrozenAlone command input)
 frozen_alone None command = tt
-frozen_alone (Some input) command = λ script world (wire, runs, read, programs, has, is, goes). reach_at_the_end script world goes
+frozen_alone (Some input) command = λ script runs world comes. frozen_in script world comes
 
 pub uses_connected : (left : Option (List ℕ)) (command : Option Command) → IfSome left (λ input. UsesAreConnected command input)
 uses_connected None command = tt
-uses_connected (Some input) command = λ script world r. (λ ps rest w e i. opened_connect script ps w i, λ w x es k e i. run_connect script w x es k e i)
+uses_connected (Some input) command = λ script runs. (λ ps rest w e i. opened_connect script ps w i, λ w x es k e i. run_connect script w x es k e i)

@@ -5,9 +5,10 @@ use Rattle.law_local.specs.Mirrors.{RunMirrors}
 use Rattle.law_local.proofs.WholeRuns.{whole_runs_mirror}
 use Rattle.law_peers.specs.Steady.{RunsSteadily}
 use Rattle.law_script.specs.Accepted.{MeetsTheLaws}
+use Rattle.law_steady.proofs.Anew.{lawful_steady}
 
 pub runs_are_steady : (script : machine.Script) → MeetsTheLaws script → RunsSteadily script
-runs_are_steady script lawful = ?
+runs_are_steady script lawful = lawful_steady script (lawful.0, lawful.2) lawful.1
 
 pub runs_are_mirrored : (script : machine.Script) → MeetsTheLaws script → RunMirrors (machine.run script) (numbers.run script)
 runs_are_mirrored script lawful = whole_runs_mirror script (lawful.0, lawful.2)

@@ -1,10 +1,15 @@
--- What holds of the history that a call owes for a script.
-use Rattle.std.specs.Prelude.{◌≡◌, ◌≤◌, ℕ, Bool, List, Some}
+-- What holds of the machine's run that a call owes for a script.
+use Rattle.std.specs.Prelude.{◌≡◌, ◌⊎◌, ◌≤◌, ◌+◌, ℕ, zero, Bool, true, List, ◌++◌, length, codes, Some}
 use Rattle.std.specs.declared.option.Option.{Option}
-use Rattle.def_machine.specs.Values.{Name}
+use Rattle.def_machine.specs.Values.{Words, Value, Broken, Ref, Name, Foreign, spot_of}
+use Rattle.def_machine.specs.State.{Vat, is_in}
+use Rattle.def_machine.specs.Refs.{follow}
 use Rattle.def_run.specs.World as machine
-use Rattle.def_run.specs.World.{World, run, Goes}
+use Rattle.def_run.specs.World.{Program, Entry, World, Goes, Stopped, begins, names, open_from, run, steps_from}
+use Rattle.law_machine.specs.Breaks.{settled_value, SeveredStays}
+use Rattle.law_run.specs.Runs.{EachVat}
 use Rattle.law_fate.specs.Fate.{fates, sent}
+use Rattle.law_fate.specs.Carry.{carries}
 use Rattle.law_frozen.specs.Runs.{ReachIsFrozenIn}
 use Rattle.law_connected.specs.UseLaws.{RunConnected}
 use Rattle.ev_scope.specs.declared.accepted.Scoped.{Scoped}
@@ -15,20 +20,63 @@ use Rattle.ev_top.specs.Programs.{trees_of}
 use Rattle.ev_top.specs.declared.command.Command.{Command}
 use Rattle.ev_top.specs.declared.command.Command.TheVariants.{Run}
 
--- the whole input is a script whose programs are read, and the machine's run of it goes to its end in that world
-abbrev pub RunsTo : Option Command → List ℕ → machine.Script → World → Type 0
-RunsTo command input script world = (wire : Bool) × (command ≡ Some (Run wire)) × (read : Script) × (programs : List Scoped)
-    × HasPrograms input read programs × (script ≡ script_of read (trees_of programs)) × (run script ≡ Goes world)
+-- the whole input is a script whose programs are read, and this is the machine's
+abbrev pub IsToRun : Option Command → List ℕ → machine.Script → Type 0
+IsToRun command input script = (wire : Bool) × (command ≡ Some (Run wire)) × (read : Script) × (programs : List Scoped)
+    × HasPrograms input read programs × (script ≡ script_of read (trees_of programs))
 
--- In its history no message is sent twice, and each that is sent is taken once, lost once, or stands once in the closing list.
+-- ---- the worlds of a run
+
+-- behind all opening turns these entries lead to that world
+abbrev pub LeadTo : machine.Script → List Entry → World → Type 0
+LeadTo script es world = (opened : World) × (open_from script zero script.vats (begins script) ≡ Goes opened) × (steps_from script es 1 opened ≡ Goes world)
+
+-- The run comes to that world: after some of the opening turns, after all of them and some entries of the schedule, or at its end. One that stops comes to those before the step that stopped.
+abbrev pub ComesTo : machine.Script → World → Type 0
+ComesTo script world = ((ps rest : List Program) × (script.vats ≡ ps ++ rest) × (open_from script zero ps (begins script) ≡ Goes world))
+    ⊎ ((es rest : List Entry) × (script.schedule ≡ es ++ rest) × LeadTo script es world)
+    ⊎ (run script ≡ Goes world)
+
+-- After some entries it comes to the first world, and after some more, or none, to the later one.
+abbrev pub GoesOn : machine.Script → World → World → Type 0
+GoesOn script first later = (es fs rest : List Entry) × (script.schedule ≡ es ++ fs ++ rest) × LeadTo script es first × (steps_from script fs (1 + length es) first ≡ Goes later)
+
+-- ---- messages
+
+-- By the history of a run this message was sent at most once and carried at most twice. At the end it was taken, was lost or stands in the closing list, once where it was sent and else never; where the run stopped, at most so often.
+abbrev pub HasOneFate : Name → machine.Run → Type 0
+HasOneFate x (Goes w) = (fates x w.history ≡ sent x w.history) × (sent x w.history ≤ 1) × (carries x w.history ≤ 2)
+HasOneFate x (Stopped stop step w) = (fates x w.history ≤ sent x w.history) × (sent x w.history ≤ 1) × (carries x w.history ≤ 2)
+
+-- each message, also one that was not sent
 abbrev pub MessagesHaveOneFate : Option Command → List ℕ → Type 0
-MessagesHaveOneFate command input = (script : machine.Script) (world : World) → RunsTo command input script world
-    → (x : Name) → (fates x world.history ≡ sent x world.history) × (sent x world.history ≤ 1)
+MessagesHaveOneFate command input = (script : machine.Script) → IsToRun command input script → (x : Name) → HasOneFate x (run script)
 
--- In no vat of that world does an object that bears DeepFrozen's stamp reach, by captures and members of lists, a var slot or anything that is not frozen.
+-- ---- stamps
+
+-- In no vat of any of its worlds does an object that bears DeepFrozen's stamp reach, by captures and members of lists, a var slot or anything that is not frozen.
 abbrev pub StampedReachFrozenAlone : Option Command → List ℕ → Type 0
-StampedReachFrozenAlone command input = (script : machine.Script) (world : World) → RunsTo command input script world → ReachIsFrozenIn script world
+StampedReachFrozenAlone command input = (script : machine.Script) → IsToRun command input script → (world : World) → ComesTo script world → ReachIsFrozenIn script world
 
--- In that run an object uses a reference only by initial conditions, endowment, parenthood or introduction: each step that a vat begins in it is connected.
+-- ---- uses
+
+-- In that run an object uses a reference only by initial conditions, endowment, parenthood or introduction: each step that a vat may begin in any of its worlds is connected, however it ends.
 abbrev pub UsesAreConnected : Option Command → List ℕ → Type 0
-UsesAreConnected command input = (script : machine.Script) (world : World) → RunsTo command input script world → RunConnected script
+UsesAreConnected command input = (script : machine.Script) → IsToRun command input script → RunConnected script
+
+-- ---- partitions
+
+-- What stays severed at vat v, which is s in one world and t in a later one, or in the same.
+pub record StaysSevered (script : machine.Script) (v : ℕ) (s t : Vat Name) : Type 0 where
+  -- what it followed to a broken reference it follows to that one
+  pub broken : (x : Value Name) (p : Words) → follow (names script v) s x ≡ Broken p → follow (names script v) t x ≡ Broken p
+  -- what settlings had led to an object of a vat whose cut it had noticed is broken by the partition
+  pub objects : (x : Value Name) (m : Name) (host : ℕ) → settled_value (names script v) s x ≡ Ref m → spot_of v m ≡ Foreign host → is_in host s.noticed ≡ true
+      → follow (names script v) t x ≡ Broken (codes "partition")
+  -- and nothing that it follows has the host of a cut that it had noticed
+  pub apart : SeveredStays (names script v) s t
+
+-- From each world to which entries lead on, what is broken or severed at a vat stays so.
+abbrev pub SeveredStaysBroken : Option Command → List ℕ → Type 0
+SeveredStaysBroken command input = (script : machine.Script) → IsToRun command input script → (first later : World) → GoesOn script first later
+    → EachVat (λ v s t. StaysSevered script v s t) first later

@@ -9,7 +9,7 @@ ghost use Rattle.def_machine.specs.State.{Fuel, Deep};
 ghost use Rattle.ev_reader.specs.declared.fault.Stage.{Stage as Part};
 ghost use Rattle.ev_top.specs.Causes.{Breaks, ComesWhere, Follows, GoesAstray, HasFault, HasNoTree, IsLong, IsProgramRefused, RepeatsWord, Stops};
 ghost use Rattle.ev_top.specs.Due.{IsDue, IsOfWhole, IsReading, Pays, IsOfRead, Finishes, Reads, ReadsFor, astray};
-ghost use Rattle.ev_top.specs.Headline.{MessagesHaveOneFate, StampedReachFrozenAlone, UsesAreConnected};
+ghost use Rattle.ev_top.specs.Headline.{MessagesHaveOneFate, SeveredStaysBroken, StampedReachFrozenAlone, UsesAreConnected};
 ghost use Rattle.ev_top.specs.Programs.{refusal};
 
 use crate::command::{Command, command_of, generated_number};
@@ -177,12 +177,14 @@ pub fn top<S: Source, K: Sink>(alloc: Global, words: &Seq<Str>, src: &mut S, out
         (RepeatsWord first second (command_of words.now) input)) }
     ensures read_fault { result ≡ Status.ReadFault → Rose (S.faults src.old) (S.faults src.new) }
     ensures write_fault { result ≡ Status.WriteFault → Rose (K.faults out.old) (K.faults out.new) }
-    // In the history that is due each message has one fate.
+    // In the history that is due each message is sent once at most, carried twice at most, and has one fate.
     ensures fates { IfSome (S.left src.old) (λ input. MessagesHaveOneFate (command_of words.now) input) }
-    // In the world in which its run ends, what DeepFrozen stamped reaches no assignable state.
+    // In each world of its run what DeepFrozen stamped reaches no assignable state.
     ensures frozen { IfSome (S.left src.old) (λ input. StampedReachFrozenAlone (command_of words.now) input) }
     // In that run an object uses a reference only by initial conditions, endowment, parenthood or introduction.
     ensures connected { IfSome (S.left src.old) (λ input. UsesAreConnected (command_of words.now) input) }
+    // In that run a reference that is broken or severed by a partition stays so.
+    ensures severed { IfSome (S.left src.old) (λ input. SeveredStaysBroken (command_of words.now) input) }
     // Without a fault in the call, the answer is what is due, or want of memory.
     ensures complete { IfSome (S.left src.old) (λ input. ¬ Rose (S.faults src.old) (S.faults src.new)
         → ¬ Rose (K.faults out.old) (K.faults out.new)

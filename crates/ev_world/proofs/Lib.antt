@@ -1,4 +1,5 @@
 pub mod Acting
+pub mod Closes
 pub mod Cuts
 pub mod Exports
 pub mod Left
@@ -7,6 +8,7 @@ pub mod Objects
 pub mod Opening
 pub mod Plain
 pub mod Pushes
+pub mod Remains
 pub mod Telling
 pub mod Turning
 pub mod Wholes

@@ -5,3 +5,4 @@ pub mod Steadily
 pub mod Exporting
 pub mod Midway
 pub mod Pushing
+pub mod Closing

@@ -1,6 +1,7 @@
 //! Vats on links: the run of a script.
 #![tactic(auto)]
 
+mod closing;
 mod exporting;
 mod finishing;
 mod pushing;

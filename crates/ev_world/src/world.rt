@@ -1,14 +1,13 @@
 //! The state of a run: vats, the ways between them, and the lines so far.
 
 ghost use Rattle.std.specs.Prelude.{◌≡◌, ◌+◌, ◌<◌, ◌^◌, Some, IfOk, OnOk, length, map, slice_get, zero};
-ghost use Rattle.def_local.specs.Numbers.{Runs, Vats, begins, close, open_from, open_member, step, step_number, steps_from};
-ghost use Rattle.def_run.specs.Text.{shown_events};
+ghost use Rattle.def_local.specs.Numbers.{Runs, Vats, begins, open_from, open_member, step, step_number, steps_from};
 ghost use Rattle.def_run.specs.World as their;
 ghost use Rattle.def_run.specs.World.{Program};
 ghost use Rattle.def_run.specs.World.{Script as TheirScript};
 ghost use Rattle.ev_world.specs.Ends.{course_of};
 ghost use Rattle.ev_world.specs.Running.{script_of};
-ghost use Rattle.ev_world.specs.Standing.{AreReady, Comes, CourseIs, IsWorld, RunIs, told_so};
+ghost use Rattle.ev_world.specs.Standing.{AreReady, CourseIs, IsWorld, RunIs};
 ghost use Rattle.ev_world.specs.Steadily.{OpensSteadily, StepsSteadily};
 ghost use Rattle.law_peers.specs.Steady.{RunsSteadily};
 ghost use Rattle.law_schedule.specs.Scripts.{machine_entry};
@@ -271,12 +270,5 @@ impl World {
             return Err(halted);
         }
         self.step_all(alloc, vats as u64, schedule)
-    }
-
-    /// The lines of the whole run, once what is left at its end is told.
-    pub(crate) fn close(self, alloc: Global) -> Result<History, Memory>
-        ensures { (S : TheirScript) (w : Vats) → IsWorld S w self → IfOk result (λ history. Comes (λ (y : Vats). history ≡ told_so self.wire (shown_events y.drawn y.history)) (close S w)) }
-    {
-        Err(Memory)
     }
 }

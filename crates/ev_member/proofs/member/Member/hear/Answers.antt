@@ -6,7 +6,7 @@ use Rattle.ev_member.proofs.Heard.{note_fits}
 use Rattle.ev_member.proofs.Arriving.{brings, hear_sends, hear_stops, hears_none, hears_on}
 use Rattle.ev_member.proofs.Steps.{with_vat}
 use Rattle.ev_member.specs.Hearing.{Hears, answer_of, asked_of, frame_heard, heard_view, taken, with_texts}
-use Rattle.ev_member.specs.Sending.{packed}
+use Rattle.ev_member.specs.Sending.{AreSent}
 use Rattle.ev_member.specs.declared.hearing.Asked.{Asked}
 use Rattle.ev_member.specs.declared.hearing.Arrival.{Arrival}
 use Rattle.ev_member.specs.declared.member.Member.{Member}
@@ -51,7 +51,7 @@ returns-clause-step c =
     (hear_sends fuel drawn m q s found c.args.from c.args.frame.now spelled x.note x.news heard {A = Arrival} (λ a. a.sendings.items) a
     (c.in_ok-come_in.ensures.step going) (c.in_ok-come_in.ensures.grown going) (c.in_ok-come_in.ensures.stays going) c.in_ok-come_in.ensures.sound c.in_ok-come_in.ensures.going
     (c.send.ensures.learnt ∙ c.in_ok-take_from.ensures.gifts)
-    (c.in_ok-send.ensures.sends ∙ ap (λ (ts : List Table). map packed (written.all_written v.host.inside v.host.inside.post ts)) tables)
+    (subst (λ (ts : List Table). AreSent (written.all_written v.host.inside v.host.inside.post ts) a.sendings.items) tables c.in_ok-send.ensures.sends)
     (c.in_ok-send.ensures.connections ∙ ap (λ (ts : List Table). all_put v.host.inside v.host.inside.post ts) tables)))
 
 pub returns-in_err-come_in-clause-step : goal.returns-in_err-come_in-clause-step
