@@ -17,7 +17,7 @@ use Rattle.def_run.specs.Text.{shown_events}
 use Rattle.def_run.specs.World.{Carried, Carry, Event, Idle, Script}
 use Rattle.ev_intro.specs.Word.{Drawn}
 use Rattle.ev_member.specs.Hearing.{Brings, BringsSo, HeardNote, Hears, HearsSo, IsSteadyHearing, frame_heard, having}
-use Rattle.ev_member.specs.Standing.{with_draws}
+use Rattle.ev_member.specs.Standing.{IsFound, IsMember, with_draws}
 use Rattle.ev_member.specs.Steps.{Having, IsDone, Leaves}
 use Rattle.ev_member.specs.declared.member.Member.{Member as Ours}
 use Rattle.ev_member.specs.declared.sending.Sending.{Sending}
@@ -281,3 +281,52 @@ module _ (S : Script) (w : Vats) (v u k : ℕ) (m : Member) (c : World) (fr : Se
     pub hear_comes : (e : World) → TellsFrame mid.residents.items v u first news fr told → mid.ways ≡ changed behind v u c.ways → mid.history ≡ c.history ++ told_so c.wire (note_lines k v u fr)
         → ((z : Vats) (y : Member) (h : List Event) (g : Brought) (t : machine.Vat Local) → IsMidway S z u y h g t before xs fr.message told mid → IsWorld S (left_by z u h y g t) e) → Comes (λ (y : Vats). IsWorld S y e) (step S (Carry v u) k w)
     hear_comes e tells ways more finished = (left_by left u head m b s, (runs, finished left m head b s (heard_midway tells ways more)))
+
+-- ---- as the code calls it
+
+-- what a call of r answered, which was q's then, that heard these bytes of vat v
+abbrev pub CallHears : {A : Type 0} → World → ℕ → (A → List Sending) → Result (Option A) VatStop → Resident → Ours → List ℕ → Type 0
+CallHears c v read result r q bytes = (m : Member) → c.words.key ≡ r.member.vat.host.inside.words.key → IsMember m r.member
+    → (f : Ours) × IsFound c.fuel (words_by c.words.key c.words.count) m f × Hears (names_under c.words.key) c.fuel (words_by c.words.key c.words.count) v m read result f q (frame_heard v m bytes)
+
+-- and what the frame brought by it
+abbrev pub CallBrings : World → ℕ → Resident → News → List ℕ → Type 0
+CallBrings c v r news bytes = (m : Member) → c.words.key ≡ r.member.vat.host.inside.words.key → IsMember m r.member → BringsSo v m (frame_heard v m bytes) news
+
+module _ (S : Script) (w : Vats) (v u k : ℕ) (c : World) (fr : Sent) (r : Resident) (at : IsWorld S w c) (next : next_at v u c.ways ≡ Some fr) (there : slice_get c.residents.items u ≡ Some r) where
+  abbrev receives : (m : Member) × (slice_get w.members u ≡ Some m)
+  receives = receiver S w u c r at there
+
+  abbrev receiver_was : IsResident S w u receives.0 r
+  receiver_was = at.residents u receives.0 r receives.1 there
+
+  heard_by_call : {A : Type 0} (read : A → List Sending) (result : Result (Option A) VatStop) (q : Ours) (bytes : List ℕ) → bytes ≡ fr.bytes → CallHears c v read result r q bytes
+      → (f : Ours) × (Hears (names_under c.words.key) c.fuel (words_by c.words.key c.words.count) v receives.0 read result f q (frame_heard v receives.0 fr.bytes))
+  heard_by_call read result q bytes same call =
+      let h = call receives.0 (at.key ∙ sym receiver_was.key) receiver_was.member in (
+        h.0,
+        subst (λ (bs : List ℕ). Hears (names_under c.words.key) c.fuel (words_by c.words.key c.words.count) v receives.0 read result h.0 q (frame_heard v receives.0 bs)) same h.2,
+      )
+
+  pub call_halts : {A : Type 0} (read : A → List Sending) (e : VatStop) (q : Ours) (bytes : List ℕ) (wire : Bool) (told : List ShownEvent) → bytes ≡ fr.bytes → CallHears c v read (Err e) r q bytes → told ≡ told_so wire (shown_events w.drawn w.history)
+      → HaltsAs e (step_number S k) wire (step S (Carry v u) k w) told
+  call_halts read e q bytes wire told same call f =
+      let h = heard_by_call read (Err e) q bytes same call in
+      hear_halts S w v u k receives.0 c fr at receives.1 next read e h.0 q wire told f h.1
+
+  pub call_astray : {A : Type 0} (read : A → List Sending) (q : Ours) (bytes : List ℕ) (wire : Bool) (told : List ShownEvent) → bytes ≡ fr.bytes → CallHears c v read (Ok None) r q bytes → told ≡ told_so wire (shown_events w.drawn w.history)
+      → HaltsAs Astray (step_number S k) wire (step S (Carry v u) k w) told
+  call_astray read q bytes wire told same call f =
+      let h = heard_by_call read (Ok None) q bytes same call in
+      hear_astray S w v u k receives.0 c fr at receives.1 next read h.0 q wire told f h.1
+
+  pub call_comes : {A : Type 0} (read : A → List Sending) (a : A) (bytes : List ℕ) (before : List ℕ) (first : ℕ) (news : News) (told : List Entry) (mid e : World) (q : Resident) → bytes ≡ fr.bytes → CallHears c v read (Ok (Some a)) r q.member bytes
+      → CallBrings c v r news bytes → first ≡ length (table_for v r.member.connections.items).imports → Took u before c mid r q → StepsSteadily S (Carry v u) k w → TellsFrame mid.residents.items v u first news fr told → mid.ways ≡ changed behind v u c.ways
+      → mid.history ≡ c.history ++ told_so c.wire (note_lines k v u fr)
+      → ((z : Vats) (y : Member) (h : List Event) (g : Brought) (t : machine.Vat Local) → IsMidway S z u y h g t before (read a) fr.message told mid → IsWorld S (left_by z u h y g t) e) → Comes (λ (y : Vats). IsWorld S y e) (step S (Carry v u) k w)
+  call_comes read a bytes before first news told mid e q same call brings_call stood took steady tells ways more finished =
+      let h = heard_by_call read (Ok (Some a)) q.member bytes same call in
+      let one = hears_one (names_under c.words.key) c.fuel (words_by c.words.key c.words.count) v receives.0 read a h.0 q.member (frame_heard v receives.0 fr.bytes) h.1 in
+      let brings_so : BringsSo v receives.0 (frame_heard v receives.0 fr.bytes) news =
+      subst (λ (bs : List ℕ). BringsSo v receives.0 (frame_heard v receives.0 bs) news) same (brings_call receives.0 (at.key ∙ sym receiver_was.key) receiver_was.member) in
+      hear_comes S w v u k receives.0 c fr at receives.1 next before (read a) first news told mid r q took one brings_so stood steady e tells ways more finished

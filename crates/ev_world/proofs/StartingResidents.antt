@@ -1,10 +1,11 @@
 -- The vats of a script are started one after the other.
 use Rattle.std.proofs.Common.{◌≡◌, ◌⊎◌, inl, inr, ◌+◌, ◌<◌, ℕ, zero, suc, List, [], ◌∷◌, ◌++◌, Option, Some, None, length, length-append, slice_get, refl, sym, ap, subst, ◌∙◌, arith}
+use Rattle.def_run.specs.World.{knowers}
 use Rattle.ev_resident.specs.declared.resident.Resident.{Resident}
 use Rattle.ev_script.specs.declared.script.Script.{Script}
 use Rattle.ev_script.specs.declared.script.VatScript.{VatScript}
 use Rattle.ev_world.proofs.StartingKnowers.{some_is}
-use Rattle.ev_world.specs.Starting.{AreStarted, IsStarted}
+use Rattle.ev_world.specs.Starting.{AreStarted, IsFresh, IsStarted, bare}
 
 -- ---- places
 
@@ -37,3 +38,13 @@ module _ (script : Script) where
         let at : k ≡ u = sym so_far.count ∙ e.0 in
         let same : vat ≡ v = some_is (sym here ∙ ap (slice_get script.vats) at ∙ there) in
         subst (λ (n : ℕ). IsStarted script n v q) at (subst (λ (x : VatScript). IsStarted script k x q) same (subst (λ (x : Resident). IsStarted script k vat x) e.1 started))
+
+  -- a vat that was started as one of that number
+  pub started_as : (k : ℕ) (vat : VatScript) (r : Resident) (me count : ℕ) (vats : List VatScript) (ks known_by : List ℕ) → me ≡ k → count ≡ length script.vats → vats ≡ script.vats → ks ≡ vat.knows → known_by ≡ knowers me 0 (bare vats)
+      → IsFresh script.fuel script.key me count ks known_by r → IsStarted script k vat r
+  started_as k vat r me count vats ks known_by at many all same known fresh =
+      subst (λ (u : ℕ). IsFresh script.fuel script.key u (length script.vats) vat.knows (knowers u 0 (bare script.vats)) r) at
+      (subst (λ (vs : List VatScript). IsFresh script.fuel script.key me (length script.vats) vat.knows (knowers me 0 (bare vs)) r) all
+      (subst (λ (bs : List ℕ). IsFresh script.fuel script.key me (length script.vats) vat.knows bs r) known
+      (subst (λ (vs : List ℕ). IsFresh script.fuel script.key me (length script.vats) vs known_by r) same
+      (subst (λ (n : ℕ). IsFresh script.fuel script.key me n ks known_by r) many fresh))))

@@ -22,13 +22,17 @@ bare_from place vats = machine_vats (λ k. []) place vats
 abbrev pub bare : List VatScript → List Program
 bare vats = bare_from 0 vats
 
--- The vat at place u of a script, where a run of the script starts.
-pub record IsStarted (script : Script) (u : ℕ) (vat : VatScript) (r : Resident) : Type 0 where
-  pub member : (t : Names) → IsMember (rooted_member script.fuel u (length script.vats) vat.knows (knowers u 0 (bare script.vats)) t) r.member
+-- Vat u of a run of so many, which knows the roots of these vats and is known by those, as it starts.
+pub record IsFresh (fuel : ℕ) (under : List ℕ) (u count : ℕ) (knows known_by : List ℕ) (r : Resident) : Type 0 where
+  pub member : (t : Names) → IsMember (rooted_member fuel u count knows known_by t) r.member
   pub ready : IsReady r.member.vat
-  pub key : r.member.vat.host.inside.words.key ≡ script.key
-  pub names : (ds : List ℕ) (s : machine.Vat Local) → s.promises ≡ 0 → s.messages ≡ 0 → s.gifts ≡ [] → NamesStand ds u s (record { known = Root u ∷ map Root vat.knows; mails = [] }) r.names
-  pub objects : r.names ≡ with_roots vat.knows (names_first u vat.knows (length script.vats))
+  pub key : r.member.vat.host.inside.words.key ≡ under
+  pub names : (ds : List ℕ) (s : machine.Vat Local) → s.promises ≡ 0 → s.messages ≡ 0 → s.gifts ≡ [] → NamesStand ds u s (record { known = Root u ∷ map Root knows; mails = [] }) r.names
+  pub objects : r.names ≡ with_roots knows (names_first u knows count)
+
+-- the vat at place u of a script, as a run of the script starts
+abbrev pub IsStarted : Script → ℕ → VatScript → Resident → Type 0
+IsStarted script u vat r = IsFresh script.fuel script.key u (length script.vats) vat.knows (knowers u 0 (bare script.vats)) r
 
 -- Those at the first places are started.
 pub record AreStarted (script : Script) (places : ℕ) (rs : List Resident) : Type 0 where

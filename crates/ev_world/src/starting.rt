@@ -114,16 +114,18 @@ impl World {
         let residents = residents_of(alloc, script, count)?;
         let nouns = all_nouns(alloc, vats)?;
         let ways = Ways::new(alloc, count)?;
+        let words = Words::new(alloc, &script.key);
+        let history = History::new(alloc);
         Ok(World {
             residents,
             programs,
             nouns,
             ways,
-            words: Words::new(alloc, &script.key),
+            words,
             fuel: script.fuel,
             limits,
             wire,
-            history: History::new(alloc),
+            history,
         })
     }
 }
