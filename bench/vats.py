@@ -52,12 +52,13 @@ def pipeline(size: int) -> dict:
 def ring(size: int) -> dict:
     """Sixteen vats, each of which introduces the next one to the one after that, so many times."""
     names = [f"v{i}" for i in range(16)]
-    vats = {}
+    meets = "def o { method meet(x) { x <- hello() } method hello() { null } }\n"
+    vats, carries = {}, []
     for i, name in enumerate(names):
         to, third = names[(i + 1) % 16], names[(i + 2) % 16]
-        source = f"def o {{ method meet(x) {{ x <- hello() }} method hello() {{ null }} }}\nfor i in 1..{size} {{ {to} <- meet({third}) }}\no"
-        vats[name] = (f"{to} {third}", source)
-    return script(vats, [f"drain {3 * size + 8}"])
+        vats[name] = (f"{to} {third}", meets + f"for i in 1..{size} {{ {to} <- meet({third}) }}\no")
+        carries += [f"carry {v} {w}" for v, w in ((name, to), (name, third), (to, name), (third, name))]
+    return script(vats, ([f"turn {name}" for name in names] + carries) * (3 * size + 4))
 
 
 def long_list(size: int) -> dict:

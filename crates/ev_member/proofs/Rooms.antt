@@ -1,5 +1,5 @@
 -- What of a room for weight is left beside descriptions.
-use Rattle.std.proofs.Common.{◌≡◌, ◌≢◌, ℕ, ◌+◌, ◌-◌, ◌<◌, ◌≤◌, ◌↔◌, Bool, true, false, IsTrue, List, [], ◌∷◌, Vec, Global, drop, length, get_or, Option, Some, None, max, refl, sym, ap, subst, ◌∙◌, arith}
+use Rattle.std.proofs.Common.{◌≡◌, ◌≢◌, ℕ, ◌+◌, ◌-◌, ◌<◌, ◌≤◌, ◌↔◌, Bool, true, false, IsTrue, List, ◌∷◌, Vec, Global, drop, length, get_or, Option, Some, None, max, refl, sym, ap, subst, ◌∙◌, arith}
 use Rattle.std.proofs.lemmas.List.{drop_all, drop_more}
 use Rattle.std.specs.Prelude.{is_some}
 use Rattle.def_op.specs.Frames.{AreDescs, DescFits, Described, Datum, ListOf, Broken, YourExport, YourAnswer, MyExport, MyPromise, Third, MyAnswer, IsDesc, Members, MembersFit, WithinLimits, none, more, height, heights, weight, weights}

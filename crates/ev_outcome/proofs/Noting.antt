@@ -4,7 +4,7 @@ use Rattle.ev_base.specs.declared.names.Msg.{Msg as ShownMsg}
 use Rattle.def_local.specs.Numbers.{carried_in}
 use Rattle.def_machine.specs.Maps as maps
 use Rattle.def_machine.specs.Values.{Name, Local, Mess}
-use Rattle.def_op.specs.Frames.{Operation, spelling}
+use Rattle.def_op.specs.Frames.{IsOp, Operation, spelling}
 use Rattle.ev_intro.specs.Word.{Drawn}
 use Rattle.ev_naming.specs.Noting.{Noting}
 use Rattle.ev_naming.specs.Printing.{Agrees, telling_in}
@@ -49,6 +49,6 @@ module _ (d : Drawn) (f : Local → Name) (n : Naming) (cut : List Bool) (w : Wo
   named_is (Shorten a c i) = refl
 
   -- the frame of a note, as the code has it
-  pub frame_is : (to : ℕ) (x : Noted) (op : Operation) (bytes : List ℕ) → bytes ≡ spelling op
+  pub frame_is : (to : ℕ) (x : Noted) (op : Operation) (bytes : List ℕ) → bytes ≡ spelling op → IsOp op
       → IsFrame (words_of d) to (record { note = maps.note f (note_by (texts_of w) x); op = op }) (frame_by noting to x bytes)
-  frame_is to x op bytes spelled = record { spelled = spelled; told = sym (notes_shown d f n cut w agrees to x); brought = message_is x; named = named_is x; asking = asks_are x }
+  frame_is to x op bytes spelled fits = record { spelled = spelled; fits = fits; told = sym (notes_shown d f n cut w agrees to x); brought = message_is x; named = named_is x; asking = asks_are x }

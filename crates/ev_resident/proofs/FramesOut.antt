@@ -7,7 +7,7 @@ use Rattle.def_machine.specs.State.{Put, Vat}
 use Rattle.def_machine.specs.Values.{Words, Name, Local}
 use Rattle.def_run.specs.Connections.{Connection}
 use Rattle.ev_arrive.specs.declared.host.Host.{Host}
-use Rattle.ev_member.specs.Sending.{sending_of, spelled}
+use Rattle.ev_member.specs.Sending.{AreOps, sending_of, spelled}
 use Rattle.ev_member.specs.declared.sending.Sending.{Sending}
 use Rattle.ev_naming.specs.Names.{Named}
 use Rattle.ev_naming.specs.Printing.{Agrees}
@@ -22,7 +22,7 @@ use Rattle.ev_room.specs.Reading.{World, texts_of}
 
 module _ (v : World) (h : Host) (s : Vat Local) (u : ℕ) (t : Names) (n : Named) (ms : List Theirs) (cut : List Bool) (xs : List Sending) (cs : List (Connection Local))
     (after : IsAfter v h s) (stands : NamesStand s.drawn u s t n) (objects : ObjectsStand ms u n.naming.objects)
-    (sends : (f : Local → Name) → map sending_of xs ≡ map spelled (frames_of s f s.outbox cs)) where
+    (sends : (f : Local → Name) → map sending_of xs ≡ map spelled (frames_of s f s.outbox cs)) (fits : (f : Local → Name) → AreOps (frames_of s f s.outbox cs)) where
   abbrev f : Local → Name
   f = name_at_vat ms u t
 
@@ -39,4 +39,5 @@ module _ (v : World) (h : Host) (s : Vat Local) (u : ℕ) (t : Names) (n : Named
       (subst (λ (ds : List ℕ). AreOutgoing ds (frames_of s f s.outbox cs) ys) (words_drawn v h s after)
       (subst (λ (ps : List (Put Local)). AreOutgoing (words_of i.words) (frames_of s f ps cs) ys) out
       (are_outgoing i.words f n.naming cut v table_agrees (mails_named s.drawn u s t n ms stands objects) s i.post xs cs
-      (subst (λ (ps : List (Put Local)). map sending_of xs ≡ map spelled (frames_of s f ps cs)) (sym out) (sends f)))))
+      (subst (λ (ps : List (Put Local)). map sending_of xs ≡ map spelled (frames_of s f ps cs)) (sym out) (sends f))
+      (subst (λ (ps : List (Put Local)). AreOps (frames_of s f ps cs)) (sym out) (fits f)))))

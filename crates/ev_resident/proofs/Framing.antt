@@ -8,9 +8,10 @@ use Rattle.def_local.specs.Vats.{sight_for, unconnected}
 use Rattle.def_machine.specs.Maps as maps
 use Rattle.def_machine.specs.State.{Vat}
 use Rattle.def_machine.specs.Values.{Name, Local, Mess}
+use Rattle.def_op.specs.Frames.{IsOp}
 use Rattle.def_run.specs.Connections.{Connection, frame_now}
 use Rattle.ev_intro.specs.Word.{Drawn}
-use Rattle.ev_member.specs.Sending.{Sent as Packed, sending_of, spelled}
+use Rattle.ev_member.specs.Sending.{AreOps, Sent as Packed, sending_of, spelled}
 use Rattle.ev_member.specs.declared.sending.Sending.{Sending}
 use Rattle.ev_naming.specs.Noting.{Noting}
 use Rattle.ev_naming.specs.Printing.{Agrees, telling_in}
@@ -57,22 +58,22 @@ module _ (d : Drawn) (f : Local → Name) (n : Naming) (cut : List Bool) (w : Wo
   abbrev framed : Sent → List (Connection Local) → Framed
   framed p cs = record { to = p.to; frame = record { note = maps.note f (note_by (texts_of w) p.note); op = frame_now (sight_for s (note_by (texts_of w) p.note)) (note_by (texts_of w) p.note) (get_or cs p.to unconnected) } }
 
-  one_outgoing : (p : Sent) (x : Sending) (cs : List (Connection Local)) → sending_of x ≡ spelled (framed p cs) → IsOutgoing (words_of d) (framed p cs) (outgoing_by (noting d n cut w) p x)
-  one_outgoing p x cs e =
+  one_outgoing : (p : Sent) (x : Sending) (cs : List (Connection Local)) → sending_of x ≡ spelled (framed p cs) → IsOp (framed p cs).frame.op → IsOutgoing (words_of d) (framed p cs) (outgoing_by (noting d n cut w) p x)
+  one_outgoing p x cs e fits =
       let to : x.to ≡ p.to = ap (λ (y : Packed). y.to) e in
       record {
         to = to;
         frame = subst (λ (v : ℕ). IsFrame (words_of d) p.to (framed p cs).frame (frame_by (noting d n cut w) v p.note x.bytes)) (sym to)
-            (frame_is d f n cut w agrees mails p.to p.note (framed p cs).frame.op x.bytes (ap (λ (y : Packed). y.bytes) e));
+            (frame_is d f n cut w agrees mails p.to p.note (framed p cs).frame.op x.bytes (ap (λ (y : Packed). y.bytes) e) fits);
       }
 
-  pub are_outgoing : (ps : List Sent) (xs : List Sending) (cs : List (Connection Local)) → map sending_of xs ≡ map spelled (frames_of s f (map (put_by (texts_of w)) ps) cs)
+  pub are_outgoing : (ps : List Sent) (xs : List Sending) (cs : List (Connection Local)) → map sending_of xs ≡ map spelled (frames_of s f (map (put_by (texts_of w)) ps) cs) → AreOps (frames_of s f (map (put_by (texts_of w)) ps) cs)
       → AreOutgoing (words_of d) (frames_of s f (map (put_by (texts_of w)) ps) cs) (all_outgoing (noting d n cut w) xs ps)
   unfolding frames_of all_outgoing
-  are_outgoing [] [] cs e = tt
-  are_outgoing [] (x ∷ xs) cs e = absurd cc
-  are_outgoing (p ∷ ps) [] cs e = absurd cc
-  are_outgoing (p ∷ ps) (x ∷ xs) cs e =
+  are_outgoing [] [] cs e fits = tt
+  are_outgoing [] (x ∷ xs) cs e fits = absurd cc
+  are_outgoing (p ∷ ps) [] cs e fits = absurd cc
+  are_outgoing (p ∷ ps) (x ∷ xs) cs e fits =
       let first : sending_of x ≡ spelled (framed p cs) = cc in
       let others : map sending_of xs ≡ map spelled (frames_of s f (map (put_by (texts_of w)) ps) (written_on s (put_by (texts_of w) p) cs)) = cc in
-      (one_outgoing p x cs first, are_outgoing ps xs (written_on s (put_by (texts_of w) p) cs) others)
+      (one_outgoing p x cs first fits.0, are_outgoing ps xs (written_on s (put_by (texts_of w) p) cs) others fits.1)

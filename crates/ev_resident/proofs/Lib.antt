@@ -1,6 +1,6 @@
-mod Framing
+pub mod Framing
 mod FramesOut
-mod Worlds
+pub mod Worlds
 mod Roots
-mod Brought
+pub mod Brought
 pub mod Exporting

@@ -7,7 +7,7 @@ ghost use Rattle.def_local.specs.Numbers.{Vats, frames_of, link_of};
 ghost use Rattle.def_machine.specs.State as machine;
 ghost use Rattle.def_machine.specs.Values.{Local, Name};
 ghost use Rattle.def_run.specs.Connections.{Connection};
-ghost use Rattle.ev_member.specs.Sending.{sending_of, spelled};
+ghost use Rattle.ev_member.specs.Sending.{AreOps, sending_of, spelled};
 ghost use Rattle.ev_naming.specs.Names.{carried_mails};
 ghost use Rattle.ev_naming.specs.Printing.{TellsCuts};
 ghost use Rattle.ev_naming.specs.Standing.{Says, mails_of};
@@ -40,7 +40,7 @@ pub fn tell_step(
     ensures told { (v : World) (w : Vats) (u : ℕ) (t : Names) (s last : machine.Vat Local) (cs : List (Connection Local)) (messages : List Name) (brought : List TheirTold)
         → IsAfter v host.now s → NamesStand s.drawn u last t names.old → ObjectsStand w.members u names.old.naming.objects
         → mails_of (carried_mails carried) ≡ messages → Says host.now.inside.words told brought → TellsCuts u (map link_of w.ways) cut.now
-        → ((f : Local → Name) → map sending_of sendings.items ≡ map spelled (frames_of s f s.outbox cs))
+        → ((f : Local → Name) → map sending_of sendings.items ≡ map spelled (frames_of s f s.outbox cs)) → ((f : Local → Name) → AreOps (frames_of s f s.outbox cs))
         → IfOk result (λ ys. IsTold w u t s last cs messages brought history.old history.new ys.items names.new) }
     ensures objects { OnOk result (names.new.naming.objects ≡ names.old.naming.objects) }
 {

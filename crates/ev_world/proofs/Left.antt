@@ -1,5 +1,5 @@
 -- What a step left and told is the state of the run after it.
-use Rattle.std.proofs.Common.{◌≡◌, ◌⊎◌, inl, inr, ℕ, Bool, zero, suc, ◌<◌, List, [], ◌∷◌, ◌++◌, Option, Some, None, get_or, length, map, refl, sym, ap, subst, ◌∙◌, append_assoc, arith}
+use Rattle.std.proofs.Common.{◌≡◌, ◌⊎◌, inl, inr, ℕ, Bool, zero, suc, ◌<◌, List, [], ◌∷◌, ◌++◌, Option, Some, None, get_or, length, map, refl, sym, ap, subst, ◌∙◌, arith}
 use Rattle.std.specs.Prelude.{drop, slice_get, slice_set}
 use Rattle.std.proofs.lemmas.List.{length-set}
 use Rattle.def_event.specs.declared.event.Event.{Event as ShownEvent}
@@ -189,7 +189,7 @@ module _ (S : Script) (w : Vats) (u : ℕ) (m : Member) (head : List Event) (b :
         let more : List Event = lines_of w.ways u naming_now s.happened in
         said.history
         ∙ told_behind c.wire c.history (shown_events s.drawn (w.history ++ head)) (shown_events s.drawn more) mid.history (lines_plain s.drawn w.ways u naming_now s.happened)
-        ∙ ap (told_so c.wire) (sym (shown_join s.drawn (w.history ++ head) more) ∙ ap (shown_events s.drawn) (append_assoc w.history head more))
+        ∙ ap (told_so c.wire) (sym (shown_join s.drawn (w.history ++ head) more))
 
     -- The code's state after the step, by its parts.
     pub left_is : (e : World) (rs : List Resident) → rs ≡ rests → AreTold u q.member before (length rs) rs e.residents.items → e.fuel ≡ fuel → e.words ≡ after → e.limits.depth ≡ c.limits.depth → e.programs.items ≡ c.programs.items

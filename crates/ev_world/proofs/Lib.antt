@@ -1,5 +1,7 @@
 pub mod Acting
 pub mod Closes
+pub mod CarryingFrames
+pub mod CarryingSteps
 pub mod Cuts
 pub mod Exports
 pub mod Left
@@ -8,7 +10,13 @@ pub mod Objects
 pub mod Opening
 pub mod Plain
 pub mod Pushes
+pub mod Readies
 pub mod Remains
+pub mod StartingKnowers
+pub mod StartingResidents
+pub mod StartingRoots
+pub mod StartingVats
+pub mod StartingWorld
 pub mod Telling
 pub mod Turning
 pub mod Wholes

@@ -119,13 +119,13 @@ unfolding connection_for unconnected
 table_is q a c same = ap (λ (cs : List (Connection Local)). get_or cs q unconnected) (sym same) ∙ map_got connection_of c.connections.items q (fresh q)
 
 pub exports_are : (q : ℕ) (a : Member) (c : Ours) → connections_of c.connections.items ≡ a.connections → length (table_for q c.connections.items).exports ≡ length (connection_for q a).exports
-exports_are q a c same = sym (length-map local_of (table_for q c.connections.items).exports) ∙ ap (λ (e : Connection Local). length e.exports) (sym (table_is q a c same))
+exports_are q a c same = sym (length-map (table_for q c.connections.items).exports local_of) ∙ ap (λ (e : Connection Local). length e.exports) (sym (table_is q a c same))
 
 more_behind : (xs ys : List Local) (k : ℕ) → k ≡ length xs → Grows xs ys → map object_number xs ++ drop k (map object_number ys) ≡ map object_number ys
 more_behind xs ys k e g =
     let all : map object_number ys ≡ map object_number xs ++ map object_number g.0 = ap (map object_number) g.1 ∙ map-append object_number xs g.0 in
     ap (λ (ks : List ℕ). map object_number xs ++ drop k ks) all
-    ∙ ap (λ (j : ℕ). map object_number xs ++ drop j (map object_number xs ++ map object_number g.0)) (e ∙ sym (length-map object_number xs))
+    ∙ ap (λ (j : ℕ). map object_number xs ++ drop j (map object_number xs ++ map object_number g.0)) (e ∙ sym (length-map xs object_number))
     ∙ ap (λ (ks : List ℕ). map object_number xs ++ ks) (drop_more (map object_number xs) (map object_number g.0))
     ∙ sym all
 

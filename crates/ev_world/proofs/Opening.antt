@@ -27,15 +27,15 @@ use Rattle.law_peers.specs.Steady.{StepIsSteady}
 -- ---- programs and nouns
 
 same_at : {A B C : Type 0} (f : A → C) (g : B → C) (xs : List A) (ys : List B) (k : ℕ) (x : A) (y : B) → map f xs ≡ map g ys → slice_get xs k ≡ Some x → slice_get ys k ≡ Some y → f x ≡ g y
-same_at f g xs ys k x y e i j =
-    only (ap (option_map f) (sym i) ∙ sym (slice_get-map f xs k) ∙ ap (λ (zs : List C). slice_get zs k) e ∙ slice_get-map g ys k ∙ ap (option_map g) j) refl
+same_at {C = C} f g xs ys k x y e i j =
+    only refl (ap (option_map f) (sym i) ∙ sym (slice_get-map f xs k) ∙ ap (λ (zs : List C). slice_get zs k) e ∙ slice_get-map g ys k ∙ ap (option_map g) j)
 
 pub tree_is : (S : Script) (w : Vats) (c : World) (u : ℕ) (x : Scoped) (p : Program) → IsWorld S w c → slice_get c.programs.items u ≡ Some x → slice_get S.vats u ≡ Some p → x.tree ≡ p.tree
 tree_is S w c u x p at i j = same_at (λ (z : Scoped). z.tree) (λ (z : Program). z.tree) c.programs.items S.vats u x p at.programs i j
 
 nouns_are : (S : Script) (w : Vats) (c : World) (u : ℕ) (ns : List Words) (p : Program) → IsWorld S w c → slice_get c.nouns.items u ≡ Some ns → slice_get S.vats u ≡ Some p → ns ≡ map (name_at S.vats) p.knows
 nouns_are S w c u ns p at i j =
-    only (sym i ∙ ap (λ (zs : List (List Words)). slice_get zs u) at.nouns ∙ slice_get-map (λ (z : Program). map (name_at S.vats) z.knows) S.vats u ∙ ap (option_map (λ (z : Program). map (name_at S.vats) z.knows)) j) refl
+    only refl (sym i ∙ ap (λ (zs : List (List Words)). slice_get zs u) at.nouns ∙ slice_get-map (λ (z : Program). map (name_at S.vats) z.knows) S.vats u ∙ ap (option_map (λ (z : Program). map (name_at S.vats) z.knows)) j)
 
 roots_given : (ps : List Program) (k : ℕ) (vs : List ℕ) → roots_from k (map (name_at ps) vs) ≡ given ps k vs
 unfolding given

@@ -25,10 +25,13 @@ less_or_not i zero = inr (omega arith)
 less_or_not zero (suc j) = inl (omega arith)
 less_or_not (suc i) (suc j) = elim (less_or_not i j) as (λ _. (suc i < suc j) ⊎ (suc j ≤ suc i)) [ inl h ↦ inl (omega (arith, h)) | inr h ↦ inr (omega (arith, h)) ]
 
+drop_suc : {A : Type 0} (xs : List A) (k : ℕ) (x : A) → slice_get xs k ≡ Some x → drop k xs ≡ x ∷ drop (suc k) xs
+drop_suc [] k x e = absurd cc
+drop_suc (y ∷ ys) zero x e = cc
+drop_suc (y ∷ ys) (suc k) x e = drop_suc ys k x e
+
 drop_at : {A : Type 0} (xs : List A) (k : ℕ) (x : A) → slice_get xs k ≡ Some x → drop k xs ≡ x ∷ drop (k + 1) xs
-drop_at [] k x e = absurd cc
-drop_at (y ∷ ys) zero x e = cc
-drop_at (y ∷ ys) (suc k) x e = drop_at ys k x e
+drop_at xs k x e = let next : suc k ≡ k + 1 = omega arith in drop_suc xs k x e ∙ ap (λ (j : ℕ). x ∷ drop j xs) next
 
 drop_past : {A : Type 0} (xs : List A) (k : ℕ) → length xs ≤ k → drop k xs ≡ []
 drop_past [] zero h = refl
@@ -54,7 +57,7 @@ since_next vs os next known k o v so_far there is more =
 pub since_all : (vs : List Value) (os : List ℕ) (known k : ℕ) → os ++ drop k (map object_of vs) ≡ drop known (map object_of vs) → length vs ≤ k → os ≡ drop known (map object_of vs)
 since_all vs os known k so_far past =
     sym (append-nil os)
-    ∙ ap (λ (xs : List ℕ). os ++ xs) (sym (drop_past (map object_of vs) k (subst (λ (n : ℕ). n ≤ k) (sym (length-map object_of vs)) past)))
+    ∙ ap (λ (xs : List ℕ). os ++ xs) (sym (drop_past (map object_of vs) k (subst (λ (n : ℕ). n ≤ k) (sym (length-map vs object_of)) past)))
     ∙ so_far
 
 pub imports_next : (h : ℕ) (all : List ℕ) (n m first : Named) (k o : ℕ) → with_imports h (drop k all) n ≡ with_imports h all first → slice_get all k ≡ Some o → m ≡ record n { naming = with_import h o n.naming }

@@ -79,7 +79,7 @@ module _ (S : Script) (w : Vats) (u : ℕ) (p : Program) (m : Member) (c : World
 
   tree_now : x.tree ≡ tree_at S.vats u
   unfolding tree_at
-  tree_now = tree_is S w c u x p at program there ∙ rw there refl
+  tree_now = tree_is S w c u x p at program there ∙ ap (λ (o : Option Program). elim o as (λ _. List Node) [ Some q ↦ q.tree | None ↦ [] ]) (sym there)
 
   pub takes_is : (q : Message Local) (qs : List (Message Local)) → takes q (record (with_draws c.fuel (words_by c.words.key c.words.count) m.vat) { queue = qs }) ≡ taking (numbers S) (tree_at S.vats u) S.depth q (record (ready w m.vat) { queue = qs })
   takes_is q qs =

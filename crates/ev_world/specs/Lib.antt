@@ -6,3 +6,5 @@ pub mod Exporting
 pub mod Midway
 pub mod Pushing
 pub mod Closing
+pub mod Starting
+pub mod Carrying

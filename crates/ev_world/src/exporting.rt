@@ -2,20 +2,13 @@
 
 ghost use Rattle.std.specs.Prelude.{◌≡◌, IfOk, OnOk, Some, drop, length, slice_get, slice_set};
 ghost use Rattle.ev_resident.specs.declared.resident.Resident.{Resident as Theirs};
-ghost use Rattle.ev_world.specs.Exporting.{AreCounted, AreTold, exports_for, object_of, objects_for, told_by, with_imports};
+ghost use Rattle.ev_world.specs.Exporting.{AreCounted, AreTold, object_of, objects_for, told_by, with_imports};
 
 use ev_base::{Memory, Value, VatId};
 use ev_member::Member;
 use ev_naming::VatNames;
 use ev_resident::Resident;
 use std::alloc::Global;
-
-/// How much a vat exported to that peer.
-fn exports_to(member: &Member, peer: VatId) -> Result<u64, Memory>
-    ensures { IfOk result (λ count. count ≡ exports_for peer member.now) }
-{
-    Err(Memory)
-}
 
 /// The number of an object, and 0 of what is none.
 #[tactic(auto, unfolding(crate::specs::Exporting::object_of))]
@@ -39,7 +32,7 @@ fn objects_since(
     ensures { IfOk result (λ objects. objects.items ≡ drop known (objects_for peer member.now)) }
 {
     let mut objects = Vec::new(alloc);
-    for position in known..exports_to(member, peer)? {
+    for position in known..member.exports(peer) {
         let Some(value) = member.exported(peer, position) else {
             return Err(Memory);
         };
@@ -111,7 +104,7 @@ pub(crate) fn exports_of(alloc: Global, member: &Member, count: usize) -> Result
         let Ok(number) = u8::try_from(peer) else {
             return Err(Memory);
         };
-        counts.push(exports_to(member, VatId(number))?)?;
+        counts.push(member.exports(VatId(number)))?;
     }
     Ok(counts)
 }

@@ -2,10 +2,12 @@
 #![tactic(auto)]
 
 mod closing;
+mod carrying;
 mod exporting;
 mod finishing;
 mod pushing;
 pub mod run;
+mod starting;
 pub mod world;
 
 pub use run::{RunEnd, Told, run_script};

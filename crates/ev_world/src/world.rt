@@ -52,22 +52,6 @@ pub(crate) struct World {
 }
 
 impl World {
-    /// The vats of a script at the start of its run, each with its program.
-    pub(crate) fn start(
-        alloc: Global,
-        script: &Script,
-        programs: Vec<Scoped>,
-        limits: Limits,
-        wire: bool,
-    ) -> Result<World, Memory>
-        requires programs { length programs.items ≡ length script.now.vats }
-        ensures begun { IfOk result (λ c. IsWorld (script_of script.now programs.items limits.depth) (begins (script_of script.now programs.items limits.depth)) c) }
-        ensures ready { IfOk result (λ c. AreReady c.residents.items) }
-        ensures wire { IfOk result (λ c. c.wire ≡ wire) }
-    {
-        Err(Memory)
-    }
-
     /// The opening turn of that vat.
     fn open(&mut self, alloc: Global, vat: usize) -> Result<(), VatStop>
         requires ready { AreReady self.old.residents.items }
@@ -144,17 +128,6 @@ impl World {
             }
         }
         Ok(())
-    }
-
-    /// The first note on the way from one vat to another arrives.
-    fn carry(&mut self, alloc: Global, from: VatId, to: VatId, number: u64) -> Result<(), VatStop>
-        requires ready { AreReady self.old.residents.items }
-        ensures step { (S : TheirScript) (w : Vats) → IsWorld S w self.old → StepsSteadily S (their.Carry from to) number w
-            → CourseIs S result (step_number S number) (step S (their.Carry from to) number w) self.new }
-        ensures ready { OnOk result (AreReady self.new.residents.items) }
-        ensures wire { self.new.wire ≡ self.old.wire }
-    {
-        Err(VatStop::Memory)
     }
 
     /// The link of two vats is cut. What is under way on it is lost.

@@ -8,6 +8,9 @@
 //! status is `astray` where the vat's opening turn goes so, and nothing is written.
 #![tactic(auto)]
 
+ghost use Rattle.std.specs.Prelude.{◌≡◌, IfSome, length};
+ghost use Rattle.ev_script.specs.Rules.{IsAdmitted};
+
 use def_kernel::Kernel;
 use ev_base::{Limits, Memory, Seq, Str, VatId};
 use ev_io::{MemorySink, MemorySource};
@@ -138,10 +141,15 @@ fn entries_of(alloc: Global, turns: u32) -> Result<String, Memory> {
 }
 
 /// The script of a vat `a`, without its program.
-fn script_of(alloc: Global, turns: u32, fuel: u32) -> Option<Script> {
+fn script_of(alloc: Global, turns: u32, fuel: u32) -> Option<Script>
+    ensures { IfSome result IsAdmitted }
+{
     let entries = entries_of(alloc, turns).ok()?;
     let text = format!(in alloc; "{HEAD}{entries}{MIDDLE}{fuel}{TAIL}").ok()?;
-    read_script(alloc, text.as_bytes()).ok()
+    match read_script(alloc, text.as_bytes()) {
+        Ok(script) => Some(script),
+        Err(_) => None,
+    }
 }
 
 /// How far a form is run.
@@ -164,22 +172,28 @@ fn reach_of(run: &str) -> Option<Reach> {
     })
 }
 
-/// Whether the run of a program ends as a row says; nothing where it has no answer.
-fn run_is_as_told(alloc: Global, reach: Reach, program: Scoped, row: &Row<'_>) -> Option<bool> {
-    let script = script_of(alloc, reach.turns, reach.fuel)?;
-    if script.vats.len() != 1 {
-        return None;
-    }
-    let programs = Vec::from_array(alloc, [program]).ok()?;
-    let told = run_script(alloc, &script, programs, reach.limits, false).ok()?;
-    Some(status_of(told.end) == row.status && told.text.as_str() == row.output)
+/// Whether the run of a program in the one vat of a script ends as a row says.
+fn run_is_as_told(
+    alloc: Global,
+    script: &Script,
+    program: Scoped,
+    limits: Limits,
+    row: &Row<'_>,
+) -> Result<bool, Memory>
+    requires admitted { IsAdmitted script.now }
+    requires one { length script.now.vats ≡ 1 }
+{
+    let mut programs = Vec::new(alloc);
+    programs.push(program)?;
+    let told = run_script(alloc, script, programs, limits, false)?;
+    Ok(status_of(told.end) == row.status && told.text.as_str() == row.output)
 }
 
 /// Whether the opening turn of a tree goes astray.
-fn goes_astray(alloc: Global, tree: &Kernel, reach: Reach) -> Option<bool> {
-    let mut vat = Vat::start(alloc, VatId(0), &[], &[], &[0; 32], reach.fuel).ok()?;
+fn goes_astray(alloc: Global, tree: &Kernel, reach: Reach) -> Result<bool, Memory> {
+    let mut vat = Vat::start(alloc, VatId(0), &[], &[], &[0; 32], reach.fuel)?;
     let opened = vat.first_turn(tree, &[], reach.limits);
-    Some(opened == Err(VatStop::Astray))
+    Ok(matches!(opened, Err(VatStop::Astray)))
 }
 
 /// Whether the run of a form ends as a row says; nothing where the row spells no run.
@@ -187,10 +201,14 @@ fn form_is_as_told(alloc: Global, run: &str, row: &Row<'_>) -> Option<bool> {
     let reach = reach_of(run)?;
     if row.status == "astray" {
         let tree = read_form(alloc, row.input).ok()?;
-        return goes_astray(alloc, &tree, reach);
+        return goes_astray(alloc, &tree, reach).ok();
     }
     let program = program_of(alloc, row.input)?;
-    run_is_as_told(alloc, reach, program, row)
+    let script = script_of(alloc, reach.turns, reach.fuel)?;
+    if script.vats.len() != 1 {
+        return None;
+    }
+    run_is_as_told(alloc, &script, program, reach.limits, row).ok()
 }
 
 /// Whether the top call answers a row as it says.

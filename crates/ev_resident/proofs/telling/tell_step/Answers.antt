@@ -11,7 +11,7 @@ use Rattle.ev_step_lines.specs.Lines.{Naming}
 use Rattle.ev_resident.proofs.telling.tell_step.Goals as goal
 
 pub returns-clause-told : goal.returns-clause-told
-returns-clause-told c = λ v w u t s last cs messages brought after stands objects carries says cuts sends.
+returns-clause-told c = λ v w u t s last cs messages brought after stands objects carries says cuts sends fits.
     let h = c.args.host.now in
     let i = h.inside in
     let n = c.name_step.new.names in
@@ -25,5 +25,5 @@ returns-clause-told c = λ v w u t s last cs messages brought after stands objec
           (sym (c.in_ok-outgoing.ensures
           ∙ ap (λ (k : Naming). all_outgoing (record { telling = record { naming = k; texts = i.heap.texts; cut = c.args.cut.now }; drawn = i.words }) c.args.sendings.items (map sent c.puts.result.now)) c.table.ensures
           ∙ ap (λ (ps : List Sent). all_outgoing (record { telling = record { naming = n.naming; texts = i.heap.texts; cut = c.args.cut.now }; drawn = i.words }) c.args.sendings.items ps) c.puts.ensures))
-          (frames_out v h s u t' n w.members c.args.cut.now c.args.sendings.items cs after names kept sends);
+          (frames_out v h s u t' n w.members c.args.cut.now c.args.sendings.items cs after names kept sends fits);
     }

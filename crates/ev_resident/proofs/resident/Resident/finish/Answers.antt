@@ -16,4 +16,4 @@ returns-clause-told c = λ w u m b s messages brought step stands objects carrie
     (subst (λ (h : Host). IsAfter v h s) same (is_after m b s xs q step))
     stands objects carries
     (subst (λ (h : Host). Says h.inside.words c.args.told brought) same says)
-    cuts step.leaves.sends
+    cuts step.leaves.sends step.leaves.fits
