@@ -181,7 +181,7 @@ tells_frame rs v u first news k x y d (Ok told) at_x at_y same f = λ ms p m h n
 
 -- a stop goes out as it came
 stop_goes : {A : Type 0} (r : Result A VatStop) (e : VatStop) → IsErr r × IsErrAnd r (λ (x : VatStop). x ≡ e) → r ≡ Err e
-stop_goes (Ok a) e h = absurd h.0
+stop_goes (Ok a) e h = absurd h.1
 stop_goes (Err x) e h = ap (λ (y : VatStop). Err y) h.1
 
 pub stops_with : (S : Script) (r : Result (Unit {0}) VatStop) (e : VatStop) (k : ℕ) (course : Course) (c : World) → IsErr r × IsErrAnd r (λ (x : VatStop). x ≡ e) → HaltsAs e k c.wire course c.history → CourseIs S r k course c
