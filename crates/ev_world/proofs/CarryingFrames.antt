@@ -1,6 +1,6 @@
 -- What a frame that is carried says, brings and leaves.
 use Rattle.std.proofs.Common.{◌≡◌, ◌<◌, ℕ, zero, suc, Bool, true, false, List, [], ◌∷◌, ◌++◌, Option, Some, None, Result, Ok, Err, get_or, length, refl, sym, ap, subst, ◌∙◌, append-nil}
-use Rattle.std.specs.Prelude.{IfOk, IsErr, IsErrAnd, drop, filter, if◌then◌else◌, slice_get, slice_set, ◌==◌}
+use Rattle.std.specs.Prelude.{IfOk, IsErr, IsErrAnd, drop, if◌then◌else◌, slice_get, slice_set, ◌==◌}
 use Rattle.std.proofs.lemmas.Bool.{eq-eqb}
 use Rattle.std.proofs.lemmas.List.Elements.{filter-append}
 use Rattle.def_event.specs.Lines.{is_no_frame}
@@ -35,7 +35,7 @@ use Rattle.ev_ways.specs.Rows.{Lane, behind, changed, next_at, next_from, next_t
 use Rattle.ev_ways.specs.Standing.{IsFrame, WaysStand, asks_in, named_message}
 use Rattle.ev_ways.specs.Statements.{Carries, IsCarried, IsTaken}
 use Rattle.ev_ways.specs.declared.frame.Frame.{Frame as Sent}
-use Rattle.ev_world.specs.Carrying.{HeardFrom, TellsFrame}
+use Rattle.ev_world.specs.Carrying.{TellsFrame}
 use Rattle.ev_world.specs.Standing.{CourseIs, HaltsAs, told_so}
 use Rattle.ev_world.specs.declared.world.World.{World}
 use Rattle.ev_world.proofs.Objects.{is_within}
