@@ -1,5 +1,5 @@
 use Rattle.ev_world.proofs.Closes.{closes}
-use Rattle.ev_world.proofs.closing.World.close.Goals as goal
+use Rattle.ev_world.proofs.world.World.close.Goals as goal
 
 pub returns : goal.returns
 returns c = λ S w at.
