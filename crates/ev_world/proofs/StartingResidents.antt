@@ -1,5 +1,5 @@
 -- The vats of a script are started one after the other.
-use Rattle.std.proofs.Common.{◌≡◌, ◌⊎◌, inl, inr, ◌+◌, ◌<◌, ℕ, zero, suc, List, [], ◌∷◌, ◌++◌, Option, Some, None, length, length-append, slice_get, refl, sym, ap, subst, ◌∙◌, arith}
+use Rattle.std.proofs.Common.{◌≡◌, ◌⊎◌, inl, inr, ◌+◌, ◌<◌, ℕ, zero, suc, List, [], ◌∷◌, ◌++◌, Some, None, length, length-append, slice_get, refl, sym, ap, subst, ◌∙◌, arith}
 use Rattle.def_run.specs.World.{knowers}
 use Rattle.ev_resident.specs.declared.resident.Resident.{Resident}
 use Rattle.ev_script.specs.declared.script.Script.{Script}

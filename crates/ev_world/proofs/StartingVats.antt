@@ -1,9 +1,7 @@
 -- A vat of a run in numbers at the start.
-use Rattle.std.proofs.Common.{◌≡◌, ◌≢◌, ◌==◌, ◌+◌, ◌<◌, ◌≤◌, ℕ, zero, suc, Bool, true, false, List, [], ◌∷◌, Option, Some, None, All, AllPairs, get_or, length, map, nat_eq, slice_get, refl, sym, ap, subst, ◌∙◌, arith}
+use Rattle.std.proofs.Common.{◌≡◌, ◌==◌, ◌+◌, ℕ, zero, suc, Bool, true, false, List, [], ◌∷◌, Option, Some, None, get_or, length, map, slice_get, refl, sym, ap, ◌∙◌, arith}
 use Rattle.std.proofs.lemmas.Bool.Decides.{Decides-eqb}
-use Rattle.std.proofs.lemmas.Option.{slice_get_within}
-use Rattle.def_local.specs.Names.{Names}
-use Rattle.def_local.specs.Numbers.{Vats, begins, connections_from, first_connection, fresh_from, fresh_member, fresh_vat, root_number, roots_known}
+use Rattle.def_local.specs.Numbers.{connections_from, first_connection, fresh_from, fresh_member, fresh_vat, root_number, roots_known}
 use Rattle.def_local.specs.Vats.{Member, connection_for, unconnected}
 use Rattle.def_machine.specs.State.{Known, Vat, begun, is_in}
 use Rattle.def_machine.specs.Values.{Local, Prom, Root}

@@ -1,5 +1,5 @@
 -- What a run starts from is the state of the run in numbers at its start.
-use Rattle.std.proofs.Common.{◌≡◌, ◌≢◌, ◌+◌, ◌<◌, ◌≤◌, ℕ, zero, suc, Bool, true, false, List, [], ◌∷◌, ◌++◌, Option, Some, None, All, get_or, length, map, nat_eq, slice_get, refl, sym, ap, subst, ◌∙◌, arith}
+use Rattle.std.proofs.Common.{◌≡◌, ◌+◌, ◌<◌, ◌≤◌, ℕ, zero, suc, Bool, true, false, List, [], ◌∷◌, Some, None, All, get_or, length, map, nat_eq, slice_get, refl, sym, ap, subst, ◌∙◌, arith}
 use Rattle.std.specs.List.{IsDistinct}
 use Rattle.std.proofs.lemmas.Bool.Decides.{Decides-eqb}
 use Rattle.std.proofs.lemmas.List.{length-map}
@@ -8,10 +8,10 @@ use Rattle.std.proofs.lemmas.Option.{slice_get_within}
 use Rattle.def_event.specs.declared.event.Event.{Event as ShownEvent}
 use Rattle.def_kernel.specs.declared.node.Node.{Node}
 use Rattle.def_local.specs.Names.{Names}
-use Rattle.def_local.specs.Numbers.{Vats, begins, fresh_from, fresh_member, fresh_vat, ways_from}
+use Rattle.def_local.specs.Numbers.{begins, fresh_from, fresh_member, fresh_vat, ways_from}
 use Rattle.def_local.specs.Vats.{Member}
 use Rattle.def_machine.specs.State.{is_in}
-use Rattle.def_machine.specs.Values.{Root, Words}
+use Rattle.def_machine.specs.Values.{Root}
 use Rattle.def_run.specs.Text.{shown_events}
 use Rattle.def_run.specs.World.{Program, Script, knowers, name_at}
 use Rattle.ev_intro.specs.Word.{Drawn}

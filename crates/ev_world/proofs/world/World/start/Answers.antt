@@ -1,4 +1,4 @@
-use Rattle.std.proofs.Common.{◌≡◌, ◌∙◌, ℕ, List, ap, arith, length, map, refl}
+use Rattle.std.proofs.Common.{◌≡◌, ◌∙◌, List, ap, arith, length, map, refl}
 use Rattle.std.proofs.lemmas.Grind.{common_steps}
 use Rattle.def_run.specs.World.{name_at}
 use Rattle.ev_script.specs.declared.script.VatScript.{VatScript}
