@@ -1,6 +1,6 @@
 -- What a frame that is carried says, brings and leaves.
 use Rattle.std.proofs.Common.{◌≡◌, ◌<◌, ℕ, zero, suc, Bool, true, false, List, [], ◌∷◌, ◌++◌, Option, Some, None, Result, Ok, Err, get_or, length, refl, sym, ap, subst, ◌∙◌, append-nil}
-use Rattle.std.specs.Prelude.{IfOk, IsErr, IsErrAnd, drop, filter, if◌then◌else◌, slice_get, slice_set, ◌==◌}
+use Rattle.std.specs.Prelude.{IfOk, IsErr, IsErrAnd, drop, if◌then◌else◌, slice_get, slice_set, ◌==◌}
 use Rattle.std.proofs.lemmas.Bool.{eq-eqb}
 use Rattle.std.proofs.lemmas.List.Elements.{filter-append}
 use Rattle.def_event.specs.Lines.{is_no_frame}
@@ -35,7 +35,7 @@ use Rattle.ev_ways.specs.Rows.{Lane, behind, changed, next_at, next_from, next_t
 use Rattle.ev_ways.specs.Standing.{IsFrame, WaysStand, asks_in, named_message}
 use Rattle.ev_ways.specs.Statements.{Carries, IsCarried, IsTaken}
 use Rattle.ev_ways.specs.declared.frame.Frame.{Frame as Sent}
-use Rattle.ev_world.specs.Carrying.{HeardFrom, TellsFrame}
+use Rattle.ev_world.specs.Carrying.{TellsFrame}
 use Rattle.ev_world.specs.Standing.{CourseIs, HaltsAs, told_so}
 use Rattle.ev_world.specs.declared.world.World.{World}
 use Rattle.ev_world.proofs.Objects.{is_within}
@@ -181,7 +181,7 @@ tells_frame rs v u first news k x y d (Ok told) at_x at_y same f = λ ms p m h n
 
 -- a stop goes out as it came
 stop_goes : {A : Type 0} (r : Result A VatStop) (e : VatStop) → IsErr r × IsErrAnd r (λ (x : VatStop). x ≡ e) → r ≡ Err e
-stop_goes (Ok a) e h = absurd h.0
+stop_goes (Ok a) e h = absurd h.1
 stop_goes (Err x) e h = ap (λ (y : VatStop). Err y) h.1
 
 pub stops_with : (S : Script) (r : Result (Unit {0}) VatStop) (e : VatStop) (k : ℕ) (course : Course) (c : World) → IsErr r × IsErrAnd r (λ (x : VatStop). x ≡ e) → HaltsAs e k c.wire course c.history → CourseIs S r k course c

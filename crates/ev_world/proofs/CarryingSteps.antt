@@ -1,22 +1,21 @@
 -- What a note that arrives comes to in the code, in the run in numbers.
-use Rattle.std.proofs.Common.{◌≡◌, ◌⊎◌, inl, inr, ◌<◌, ℕ, zero, Bool, true, false, List, [], ◌∷◌, ◌++◌, Option, Some, None, Result, Ok, Err, get_or, length, map, refl, sym, ap, subst, ◌∙◌}
-use Rattle.std.specs.Prelude.{slice_get, slice_set}
+use Rattle.std.proofs.Common.{◌≡◌, inl, inr, ◌<◌, ℕ, Bool, true, false, List, [], ◌∷◌, ◌++◌, Option, Some, None, Result, Ok, Err, length, refl, sym, ap, subst, ◌∙◌}
+use Rattle.std.specs.Prelude.{slice_get}
 use Rattle.std.proofs.lemmas.List.{length-map}
 use Rattle.def_event.specs.declared.event.Event.{Event as ShownEvent}
 use Rattle.def_event.specs.declared.event.Event.TheVariants as line
-use Rattle.def_local.specs.Numbers.{Brought, Course, Frame, Runs, Vats, Way, after_step, arrives, brings, brought, carried_in, carry_frames, carry_way, hears, idle, left_by, numbers, ready, step, step_number, way_at, with_way}
+use Rattle.def_local.specs.Numbers.{Brought, Course, Frame, Runs, Vats, Way, after_step, arrives, brings, brought, carry_frames, carry_way, hears, idle, left_by, numbers, ready, step, step_number, way_at, with_way}
 use Rattle.def_local.specs.Vats.{Member, connection_for, heard_in}
 use Rattle.def_machine.specs.Arrive.{arrive}
 use Rattle.def_machine.specs.State as machine
 use Rattle.def_machine.specs.State.{Done, Gives}
-use Rattle.def_machine.specs.Values.{Local, Name, Naming}
+use Rattle.def_machine.specs.Values.{Local, Naming}
 use Rattle.def_op.specs.Frames.{spelling}
 use Rattle.def_run.specs.Connections.{Connection}
 use Rattle.def_run.specs.Shown.{shown_event}
 use Rattle.def_run.specs.Text.{shown_events}
 use Rattle.def_run.specs.World.{Carried, Carry, Event, Idle, Script}
-use Rattle.ev_intro.specs.Word.{Drawn}
-use Rattle.ev_member.specs.Hearing.{Brings, BringsSo, HeardNote, Hears, HearsSo, IsSteadyHearing, frame_heard, having}
+use Rattle.ev_member.specs.Hearing.{BringsSo, HeardNote, Hears, HearsSo, IsSteadyHearing, frame_heard, having}
 use Rattle.ev_member.specs.Standing.{IsFound, IsMember, with_draws}
 use Rattle.ev_member.specs.Steps.{Having, IsDone, Leaves}
 use Rattle.ev_member.specs.declared.member.Member.{Member as Ours}
@@ -38,7 +37,7 @@ use Rattle.ev_ways.proofs.Changes.{carry_stands}
 use Rattle.ev_ways.proofs.Places.{chosen, refused}
 use Rattle.ev_ways.specs.Rows.{Lane, behind, changed, next_at}
 use Rattle.ev_ways.specs.Standing.{WaysStand}
-use Rattle.ev_ways.specs.Statements.{Carries, IsCarried, IsIdle, IsTaken}
+use Rattle.ev_ways.specs.Statements.{Carries, IsCarried, IsIdle}
 use Rattle.ev_ways.specs.declared.frame.Frame.{Frame as Sent}
 use Rattle.ev_write.specs.Putting.{table_for}
 use Rattle.ev_world.specs.Carrying.{HeardFrom, TellsFrame}

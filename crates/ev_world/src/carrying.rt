@@ -1,6 +1,6 @@
 //! A note arrives.
 
-ghost use Rattle.std.specs.Prelude.{◌≡◌, ◌++◌, ◌∷◌, [], ℕ, List, Some, IfOk, OnOk};
+ghost use Rattle.std.specs.Prelude.{◌≡◌, ◌++◌, ◌∷◌, [], List, Some, IfOk, OnOk};
 ghost use Rattle.def_event.specs.declared.event.Event.TheVariants as line;
 ghost use Rattle.def_local.specs.Numbers.{Vats, step, step_number};
 ghost use Rattle.def_run.specs.World as their;

@@ -1,4 +1,4 @@
-use Rattle.std.proofs.Common.{◌∙◌, refl, sym}
+use Rattle.std.proofs.Common.{◌∙◌, sym}
 use Rattle.ev_world.proofs.CarryingSteps.{carry_idles}
 use Rattle.ev_world.proofs.world.World.carry.Goals as goal
 

@@ -56,7 +56,7 @@ returns-clause-step c = λ S w rows at next left steady.
     let mid = record c.args.self.now { residents = with_item c.args.self.now.residents c.to.inside.0 q; words = c.hear.new.words; history = c.tell_note.new.history } in
     let took : Took c.args.to before was mid r q = record {
       found = there;
-      counted = subst (λ (ks : List ℕ). AreCounted r.member (length rs) ks) (sym c.as_slice-3.ensures.value) (subst (λ (n : ℕ). AreCounted r.member n c.in_ok-before.before.items) c.len-count.ensures c.in_ok-before.ensures);
+      counted = subst (λ (ks : List ℕ). AreCounted r.member (length rs) ks) (sym c.as_slice-3.ensures.value) (subst (λ (n : ℕ). AreCounted r.member n c.in_ok-before.before.items) (c.len-count.ensures ∙ c.args.self.now.residents.ok.0) c.in_ok-before.ensures);
       residents = ap (λ (k : ℕ). slice_set rs k q) c.to.view_is;
       words = c.in_ok-arrival.ensures.lent;
       names = c.in_ok-arrival.ensures.names;
