@@ -1,4 +1,4 @@
-use Rattle.std.proofs.Common.{◌≡◌, ℕ, None, List, [], ◌∷◌, Some, Global, Vec, ap, length, refl, slice_get, slice_set, subst, sym}
+use Rattle.std.proofs.Common.{◌≡◌, ◌∙◌, ℕ, None, List, [], ◌∷◌, Some, Global, Vec, ap, length, refl, slice_get, slice_set, subst, sym}
 use Rattle.std.proofs.lemmas.Bool.{ltb-true}
 use Rattle.std.proofs.lemmas.Option.{slice_get_read}
 use Rattle.std.specs.Vec.{with_item}
@@ -49,7 +49,7 @@ returns-clause-step c = λ S w is_at steady.
     let mid : World = record was { residents = with_item was.residents k q; words = c.notice.new.words; history = c.push.new.self } in
     let took : Took u before was mid r q = record {
       found = found;
-      counted = subst (λ (ks : List ℕ). AreCounted r.member (length rs) ks) (sym c.as_slice.ensures.value) (subst (λ (n : ℕ). AreCounted r.member n c.in_ok-before.before.items) c.len-count.ensures c.in_ok-before.ensures);
+      counted = subst (λ (ks : List ℕ). AreCounted r.member (length rs) ks) (sym c.as_slice.ensures.value) (subst (λ (n : ℕ). AreCounted r.member n c.in_ok-before.before.items) (c.len-count.ensures ∙ c.args.self.now.residents.ok.0) c.in_ok-before.ensures);
       residents = ap (λ (i : ℕ). slice_set rs i q) c.vat.view_is;
       words = c.in_ok-sendings.ensures.lent;
       names = c.in_ok-sendings.ensures.names;
