@@ -109,8 +109,7 @@ impl World {
             return Err(VatStop::Memory);
         };
         let before = exports_of(alloc, &resident.member, count)?;
-        let Some(sendings) =
-            resident.turn(self.fuel, &mut self.words, program.tree(), self.limits)?
+        let Some(sendings) = resident.turn(self.fuel, &mut self.words, program.tree(), self.limits)?
         else {
             self.fuel = resident.rest(&mut self.words);
             self.history.push(Event::Idle(number))?;

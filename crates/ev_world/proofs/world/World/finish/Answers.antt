@@ -24,11 +24,11 @@ returns-clause-finished c = λ S w m head b s mid.
     let p = c.finish.new.self in
     let q = c.rest-self.new.self in
     let there : slice_get rs u ≡ Some r =
-        subst (λ (k : ℕ). slice_get rs k ≡ Some r) c.vat.view_is
-        (slice_get_read rs (length rs) c.vat.inside.0 r refl (ltb-true c.vat.inside.0 (length rs) (sym c.in-Some.ensures.item.0)) c.in-Some.ensures.item.1) in
+    subst (λ (k : ℕ). slice_get rs k ≡ Some r) c.vat.view_is
+    (slice_get_read rs (length rs) c.vat.inside.0 r refl (ltb-true c.vat.inside.0 (length rs) (sym c.in-Some.ensures.item.0)) c.in-Some.ensures.item.1) in
     let acts = mid.own r there in
     let cuts : TellsCuts u (map link_of w.ways) c.as_slice.result.now =
-        λ h. (cuts_stand s.drawn (length S.vats) u h w.ways was.ways mid.ways).of_all ∙ ap (λ (bs : List Bool). get_or bs h false) (sym (c.as_slice.ensures.value ∙ c.in_ok-cut.ensures)) in
+    λ h. (cuts_stand s.drawn (length S.vats) u h w.ways was.ways mid.ways).of_all ∙ ap (λ (bs : List Bool). get_or bs h false) (sym (c.as_slice.ensures.value ∙ c.in_ok-cut.ensures)) in
     let rested : IsRested p q was.words c.rest-self.result c.rest-self.new.words = record {
       fuel = c.rest-self.ensures.fuel;
       words = c.rest-self.ensures.words;

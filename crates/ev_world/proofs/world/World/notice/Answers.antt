@@ -30,7 +30,7 @@ returns-in_err-sendings-clause-step c = λ S w is_at steady.
     let rs = was.residents.items in
     let r = c.in-Some.resident.now in
     let found : slice_get rs u ≡ Some r =
-        subst (λ (i : ℕ). slice_get rs i ≡ Some r) c.vat.view_is (slice_get_read rs (length rs) k r refl (ltb-true k (length rs) (sym c.in-Some.ensures.item.0)) c.in-Some.ensures.item.1) in
+    subst (λ (i : ℕ). slice_get rs i ≡ Some r) c.vat.view_is (slice_get_read rs (length rs) k r refl (ltb-true k (length rs) (sym c.in-Some.ensures.item.0)) c.in-Some.ensures.item.1) in
     stops_with S c.from_residual-in_err-sendings.result c.in_err-sendings.field-0.0 (step_number S c.args.number) (step S (NoticeLink u c.args.peer) c.args.number w) (record was { residents = with_item was.residents k c.notice.new.self; words = c.notice.new.words })
     c.from_residual-in_err-sendings.ensures
     (notice_halts S w u c.args.peer c.args.number was r is_at found {A = Vec Sending Global} (λ (xs : Vec Sending Global). xs.items) c.in_err-sendings.field-0.0 c.notice.new.self.member (λ m same is. c.in_err-sendings.ensures.step m same is))
@@ -45,7 +45,7 @@ returns-clause-step c = λ S w is_at steady.
     let q = c.notice.new.self in
     let before = c.as_slice.result.now in
     let found : slice_get rs u ≡ Some r =
-        subst (λ (i : ℕ). slice_get rs i ≡ Some r) c.vat.view_is (slice_get_read rs (length rs) k r refl (ltb-true k (length rs) (sym c.in-Some.ensures.item.0)) c.in-Some.ensures.item.1) in
+    subst (λ (i : ℕ). slice_get rs i ≡ Some r) c.vat.view_is (slice_get_read rs (length rs) k r refl (ltb-true k (length rs) (sym c.in-Some.ensures.item.0)) c.in-Some.ensures.item.1) in
     let mid : World = record was { residents = with_item was.residents k q; words = c.notice.new.words; history = c.push.new.self } in
     let took : Took u before was mid r q = record {
       found = found;

@@ -35,9 +35,9 @@ returns-in_err-sendings-clause-step c = λ S w p there is_at steady.
     let vs = c.deref-2.result.now in
     let found : slice_get rs u ≡ Some r = slice_get_read rs (length rs) u r refl (ltb-true u (length rs) (sym c.in-Some-get_mut.ensures.item.0)) c.in-Some-get_mut.ensures.item.1 in
     let program : slice_get was.programs.items u ≡ Some x =
-        subst (λ (xs : List Scoped). slice_get xs u ≡ Some x) c.deref.ensures.value (slice_get_read ps (length ps) u x refl (ltb-true u (length ps) (sym c.in-Some.ensures.lookup.0)) c.in-Some.ensures.lookup.1) in
+    subst (λ (xs : List Scoped). slice_get xs u ≡ Some x) c.deref.ensures.value (slice_get_read ps (length ps) u x refl (ltb-true u (length ps) (sym c.in-Some.ensures.lookup.0)) c.in-Some.ensures.lookup.1) in
     let nouns : slice_get was.nouns.items u ≡ Some ns =
-        subst (λ (xs : List (List Words)). slice_get xs u ≡ Some ns) c.deref-2.ensures.value (slice_get_read vs (length vs) u ns refl (ltb-true u (length vs) (sym c.in-Some-get.ensures.lookup.0)) c.in-Some-get.ensures.lookup.1) in
+    subst (λ (xs : List (List Words)). slice_get xs u ≡ Some ns) c.deref-2.ensures.value (slice_get_read vs (length vs) u ns refl (ltb-true u (length vs) (sym c.in-Some-get.ensures.lookup.0)) c.in-Some-get.ensures.lookup.1) in
     stops_with S c.from_residual-in_err-sendings.result c.in_err-sendings.field-0.0 u (open_member S u p w (slice_get w.members u)) (record was { residents = with_item was.residents u c.first_turn.new.self; words = c.first_turn.new.words })
     c.from_residual-in_err-sendings.ensures
     (open_halts S w u p was r x ns c.tree.result.now c.as_slice.result.now there is_at found program nouns c.tree.ensures c.as_slice.ensures {A = Vec Sending Global} (λ (xs : Vec Sending Global). xs.items) c.in_err-sendings.field-0.0 c.first_turn.new.self.member
@@ -57,9 +57,9 @@ returns-clause-step c = λ S w p there is_at steady.
     let before = c.as_slice-2.result.now in
     let found : slice_get rs u ≡ Some r = slice_get_read rs (length rs) u r refl (ltb-true u (length rs) (sym c.in-Some-get_mut.ensures.item.0)) c.in-Some-get_mut.ensures.item.1 in
     let program : slice_get was.programs.items u ≡ Some x =
-        subst (λ (xs : List Scoped). slice_get xs u ≡ Some x) c.deref.ensures.value (slice_get_read ps (length ps) u x refl (ltb-true u (length ps) (sym c.in-Some.ensures.lookup.0)) c.in-Some.ensures.lookup.1) in
+    subst (λ (xs : List Scoped). slice_get xs u ≡ Some x) c.deref.ensures.value (slice_get_read ps (length ps) u x refl (ltb-true u (length ps) (sym c.in-Some.ensures.lookup.0)) c.in-Some.ensures.lookup.1) in
     let nouns : slice_get was.nouns.items u ≡ Some ns =
-        subst (λ (xs : List (List Words)). slice_get xs u ≡ Some ns) c.deref-2.ensures.value (slice_get_read vs (length vs) u ns refl (ltb-true u (length vs) (sym c.in-Some-get.ensures.lookup.0)) c.in-Some-get.ensures.lookup.1) in
+    subst (λ (xs : List (List Words)). slice_get xs u ≡ Some ns) c.deref-2.ensures.value (slice_get_read vs (length vs) u ns refl (ltb-true u (length vs) (sym c.in-Some-get.ensures.lookup.0)) c.in-Some-get.ensures.lookup.1) in
     let mid : World = record was { residents = with_item was.residents u q; words = c.first_turn.new.words; history = c.push.new.self } in
     let took : Took u before was mid r q = record {
       found = found;

@@ -34,10 +34,10 @@ returns-in_err-sendings-clause-step c = λ S w is_at steady.
     let x = c.in-Some.program.now in
     let ps = c.deref.result.now in
     let found : slice_get rs u ≡ Some r =
-        subst (λ (i : ℕ). slice_get rs i ≡ Some r) c.vat.view_is (slice_get_read rs (length rs) k r refl (ltb-true k (length rs) (sym c.in-Some-get_mut.ensures.item.0)) c.in-Some-get_mut.ensures.item.1) in
+    subst (λ (i : ℕ). slice_get rs i ≡ Some r) c.vat.view_is (slice_get_read rs (length rs) k r refl (ltb-true k (length rs) (sym c.in-Some-get_mut.ensures.item.0)) c.in-Some-get_mut.ensures.item.1) in
     let program : slice_get was.programs.items u ≡ Some x =
-        subst (λ (xs : List Scoped). slice_get xs u ≡ Some x) c.deref.ensures.value
-        (subst (λ (i : ℕ). slice_get ps i ≡ Some x) c.vat.view_is (slice_get_read ps (length ps) k x refl (ltb-true k (length ps) (sym c.in-Some.ensures.lookup.0)) c.in-Some.ensures.lookup.1)) in
+    subst (λ (xs : List Scoped). slice_get xs u ≡ Some x) c.deref.ensures.value
+    (subst (λ (i : ℕ). slice_get ps i ≡ Some x) c.vat.view_is (slice_get_read ps (length ps) k x refl (ltb-true k (length ps) (sym c.in-Some.ensures.lookup.0)) c.in-Some.ensures.lookup.1)) in
     stops_with S c.from_residual-in_err-sendings.result c.in_err-sendings.field-0.0 (step_number S c.args.number) (step S (Turn u) c.args.number w) (record was { residents = with_item was.residents k c.turn.new.self; words = c.turn.new.words })
     c.from_residual-in_err-sendings.ensures
     (turn_stops_so S w u c.args.number was r x c.tree.result.now is_at found program c.tree.ensures {A = Vec Sending Global} (λ (xs : Vec Sending Global). xs.items) c.in_err-sendings.field-0.0 c.turn.new.self.member (λ m same is. c.in_err-sendings.ensures.step m same is))
@@ -55,10 +55,10 @@ returns-in_default-2-clause-step c = λ S w is_at steady.
     let ps = c.deref.result.now in
     let before = c.in_ok-before.before.items in
     let found : slice_get rs u ≡ Some r =
-        subst (λ (i : ℕ). slice_get rs i ≡ Some r) c.vat.view_is (slice_get_read rs (length rs) k r refl (ltb-true k (length rs) (sym c.in-Some-get_mut.ensures.item.0)) c.in-Some-get_mut.ensures.item.1) in
+    subst (λ (i : ℕ). slice_get rs i ≡ Some r) c.vat.view_is (slice_get_read rs (length rs) k r refl (ltb-true k (length rs) (sym c.in-Some-get_mut.ensures.item.0)) c.in-Some-get_mut.ensures.item.1) in
     let program : slice_get was.programs.items u ≡ Some x =
-        subst (λ (xs : List Scoped). slice_get xs u ≡ Some x) c.deref.ensures.value
-        (subst (λ (i : ℕ). slice_get ps i ≡ Some x) c.vat.view_is (slice_get_read ps (length ps) k x refl (ltb-true k (length ps) (sym c.in-Some.ensures.lookup.0)) c.in-Some.ensures.lookup.1)) in
+    subst (λ (xs : List Scoped). slice_get xs u ≡ Some x) c.deref.ensures.value
+    (subst (λ (i : ℕ). slice_get ps i ≡ Some x) c.vat.view_is (slice_get_read ps (length ps) k x refl (ltb-true k (length ps) (sym c.in-Some.ensures.lookup.0)) c.in-Some.ensures.lookup.1)) in
     let mid : World = record was { residents = with_item was.residents k q; words = c.turn.new.words } in
     let e : World = record was { residents = with_item was.residents k z; words = c.rest-self.new.words; fuel = c.rest-self.result; history = c.push.new.self } in
     let took : Took u before was mid r q = record {
@@ -102,10 +102,10 @@ returns-clause-step c = λ S w is_at steady.
     let sendings = c.in-Some-2.sendings in
     let before = c.as_slice.result.now in
     let found : slice_get rs u ≡ Some r =
-        subst (λ (i : ℕ). slice_get rs i ≡ Some r) c.vat.view_is (slice_get_read rs (length rs) k r refl (ltb-true k (length rs) (sym c.in-Some-get_mut.ensures.item.0)) c.in-Some-get_mut.ensures.item.1) in
+    subst (λ (i : ℕ). slice_get rs i ≡ Some r) c.vat.view_is (slice_get_read rs (length rs) k r refl (ltb-true k (length rs) (sym c.in-Some-get_mut.ensures.item.0)) c.in-Some-get_mut.ensures.item.1) in
     let program : slice_get was.programs.items u ≡ Some x =
-        subst (λ (xs : List Scoped). slice_get xs u ≡ Some x) c.deref.ensures.value
-        (subst (λ (i : ℕ). slice_get ps i ≡ Some x) c.vat.view_is (slice_get_read ps (length ps) k x refl (ltb-true k (length ps) (sym c.in-Some.ensures.lookup.0)) c.in-Some.ensures.lookup.1)) in
+    subst (λ (xs : List Scoped). slice_get xs u ≡ Some x) c.deref.ensures.value
+    (subst (λ (i : ℕ). slice_get ps i ≡ Some x) c.vat.view_is (slice_get_read ps (length ps) k x refl (ltb-true k (length ps) (sym c.in-Some.ensures.lookup.0)) c.in-Some.ensures.lookup.1)) in
     let mid : World = record was { residents = with_item was.residents k q; words = c.turn.new.words; history = c.push-2.new.self } in
     let took : Took u before was mid r q = record {
       found = found;
