@@ -1,5 +1,5 @@
 -- In the run that a call owes, what is broken or severed at a vat stays so.
-use Rattle.std.proofs.Common.{◌≡◌, ◌+◌, ◌++◌, ℕ, List, [], length, Option, Some, None, IfSome, sym, ◌∙◌, subst}
+use Rattle.std.proofs.Common.{◌≡◌, ◌+◌, ◌++◌, ℕ, List, [], length, Option, Some, None, IfSome, sym, ◌∙◌, subst, append_assoc}
 use Rattle.def_machine.specs.Values.{Words, Value, Broken, Ref, Name, Foreign, spot_of}
 use Rattle.def_machine.specs.State.{Vat}
 use Rattle.def_run.specs.World as machine
@@ -24,7 +24,7 @@ same_later P found t is (u, there, holds) = subst P (some_is (sym there ∙ is))
 
 severed_in : (script : machine.Script) → MeetsTheLaws script → (first later : World) → GoesOn script first later → EachVat (λ v s t. StaysSevered script v s t) first later
 severed_in script meets first later (es, fs, rest, split, (opened, opens, leads), more) v s at =
-    let behind = notices_front script [] es (fs ++ rest) (subst NoticesFollowCuts split meets.2) in
+    let behind = notices_front script [] es (fs ++ rest) (subst NoticesFollowCuts (split ∙ append_assoc es fs rest) meets.2) in
     let broken = breaks_stay script meets.0 opened first later es fs 1 (1 + length es) behind opens leads more v s at in
     let objects = severed_broken script meets.0 opened first later es fs 1 (1 + length es) opens leads more v s at in
     let apart = severings_run script fs (1 + length es) first later more v s at in

@@ -1,5 +1,5 @@
 -- Without a vat there is no entry.
-use Rattle.std.proofs.Common.{◌≡◌, ◌<◌, ℕ, zero, List, [], ◌∷◌, Ok, All, length, refl, ap, subst, arith}
+use Rattle.std.proofs.Common.{◌≡◌, zero, List, [], ◌∷◌, Ok, All, length, refl, ap, subst, arith}
 use Rattle.std.proofs.lemmas.List.Elements.{All-head}
 use Rattle.ev_script.specs.Rules.{IsAdmitted, IsEntryOf}
 use Rattle.ev_script.specs.declared.script.Entry.{Entry}
