@@ -1,4 +1,4 @@
-use Rattle.std.proofs.Common.{◌≡◌, ◌+◌, ◌++◌, ◌∷◌, ℕ, List, [], true, false, drop, nat_eq, Global, Vec, ap, sym, ◌∙◌}
+use Rattle.std.proofs.Common.{◌≡◌, ◌+◌, ◌++◌, ◌∷◌, ℕ, List, [], drop, nat_eq, Global, Vec, ap, sym, ◌∙◌}
 use Rattle.std.specs.List.{list_any}
 use Rattle.def_run.specs.World.{knowers}
 use Rattle.ev_base.specs.declared.ids.VatId.{VatId}
