@@ -17,6 +17,7 @@ pub mod StartingResidents
 pub mod StartingRoots
 pub mod StartingVats
 pub mod StartingWorld
+pub mod Stepping
 pub mod Telling
 pub mod Turning
 pub mod Wholes

@@ -62,7 +62,7 @@ trees_from tree (t ∷ ts) k [] many at = absurd (omega arith)
 trees_from tree (t ∷ ts) k (v ∷ vs) many at =
     let here : k + zero ≡ k = omega arith in
     let rest : map (λ (p : Program). p.tree) (machine_vats tree (suc k) vs) ≡ ts =
-        trees_from tree ts (suc k) vs (omega arith) (λ i. let next : suc k + i ≡ k + suc i = omega arith in ap tree next ∙ at (suc i)) in
+    trees_from tree ts (suc k) vs (omega arith) (λ i. let next : suc k + i ≡ k + suc i = omega arith in ap tree next ∙ at (suc i)) in
     ap (λ (xs : List (List Node)). tree k ∷ xs) rest ∙ ap (λ (x : List Node). x ∷ ts) (sym (ap tree here) ∙ at zero)
 
 -- ---- the vats

@@ -1,8 +1,8 @@
 //! Vats on links: the run of a script.
 #![tactic(auto)]
 
-mod closing;
 mod carrying;
+mod closing;
 mod exporting;
 mod finishing;
 mod pushing;

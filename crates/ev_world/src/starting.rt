@@ -21,7 +21,7 @@ use ev_word::Word;
 use std::alloc::Global;
 
 /// The vat at that place of a script.
-fn vat_at(place: usize) -> Result<VatId, Memory>
+pub(crate) fn vat_at(place: usize) -> Result<VatId, Memory>
     ensures { IfOk result (λ vat. vat ≡ place) }
 {
     match u8::try_from(place) {

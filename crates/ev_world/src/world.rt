@@ -13,6 +13,7 @@ ghost use Rattle.law_peers.specs.Steady.{RunsSteadily};
 ghost use Rattle.law_schedule.specs.Scripts.{machine_entry};
 
 use crate::exporting::exports_of;
+use crate::starting::vat_at;
 use def_event::Event;
 use ev_base::{Limits, Memory, Seq, VatId};
 use ev_event::History;
@@ -61,9 +62,7 @@ impl World {
         ensures wire { self.new.wire ≡ self.old.wire }
     {
         let count = self.residents.len();
-        let Ok(number) = u8::try_from(vat) else {
-            return Err(VatStop::Memory);
-        };
+        let me = vat_at(vat)?;
         let Some(program) = self.programs.get(vat) else {
             return Err(VatStop::Memory);
         };
@@ -81,10 +80,10 @@ impl World {
             nouns.as_slice(),
             self.limits,
         )?;
-        self.history.push(Event::Open(VatId(number)))?;
+        self.history.push(Event::Open(me))?;
         self.finish(
             alloc,
-            VatId(number),
+            me,
             before.as_slice(),
             None,
             Told::new(alloc),
@@ -110,23 +109,21 @@ impl World {
             return Err(VatStop::Memory);
         };
         let before = exports_of(alloc, &resident.member, count)?;
-        match resident.turn(self.fuel, &mut self.words, program.tree(), self.limits)? {
-            None => {
-                self.fuel = resident.rest(&mut self.words);
-                self.history.push(Event::Idle(number))?;
-            }
-            Some(sendings) => {
-                self.history.push(Event::Turn(number, vat))?;
-                self.finish(
-                    alloc,
-                    vat,
-                    before.as_slice(),
-                    None,
-                    Told::new(alloc),
-                    sendings,
-                )?;
-            }
-        }
+        let Some(sendings) = resident.turn(self.fuel, &mut self.words, program.tree(), self.limits)?
+        else {
+            self.fuel = resident.rest(&mut self.words);
+            self.history.push(Event::Idle(number))?;
+            return Ok(());
+        };
+        self.history.push(Event::Turn(number, vat))?;
+        self.finish(
+            alloc,
+            vat,
+            before.as_slice(),
+            None,
+            Told::new(alloc),
+            sendings,
+        )?;
         Ok(())
     }
 

@@ -13,8 +13,8 @@ loop-place-preserved c =
     let tested : c.contains.result ≡ list_any (λ w. nat_eq w c.args.vat) c.index-vats-place.result.knows = c.contains.ensures.value ∙ ap (list_any (λ w. nat_eq w c.args.vat)) c.as_slice.ensures in
     elim c.if-contains.branch [
       | then-contains+in_ok-vat_at+in_ok-push w ↦
-          let grown : c.if-contains.found.items ≡ c.loop-place.found.items ++ c.loop-place.place ∷ [] = 
-              ap (λ (xs : Vec VatId Global). xs.items) w.found-is ∙ w.in_ok-push.ensures.items ∙ ap (λ (k : ℕ). c.loop-place.found.items ++ k ∷ []) w.in_ok-vat_at.ensures in
+          let grown : c.if-contains.found.items ≡ c.loop-place.found.items ++ c.loop-place.place ∷ [] =
+          ap (λ (xs : Vec VatId Global). xs.items) w.found-is ∙ w.in_ok-push.ensures.items ∙ ap (λ (k : ℕ). c.loop-place.found.items ++ k ∷ []) w.in_ok-vat_at.ensures in
           knower_next c.args.vat c.loop-place.place c.args.vats.now c.index-vats-place.result c.loop-place.found.items c.if-contains.found.items total c.loop-place-test.true c.index-vats-place.is (sym w.if-contains.true ∙ tested) grown c.loop-place.invariant
       | else-contains w ↦
           let same : c.loop-place.found.items ≡ c.if-contains.found.items = ap (λ (xs : Vec VatId Global). xs.items) (sym w.found-is) in

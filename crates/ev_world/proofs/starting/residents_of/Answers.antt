@@ -13,18 +13,18 @@ loop-place-preserved c =
     let vats = c.as_slice-vats.result.now in
     let vat = c.index-vats-place.result in
     let here : slice_get c.args.script.now.vats c.loop-place.place ≡ Some vat =
-        subst (λ (vs : List VatScript). slice_get vs c.loop-place.place ≡ Some vat) c.as_slice-vats.ensures
-        (slice_get_read vats (length vats) c.loop-place.place vat refl c.loop-place-test.true c.index-vats-place.is) in
+    subst (λ (vs : List VatScript). slice_get vs c.loop-place.place ≡ Some vat) c.as_slice-vats.ensures
+    (slice_get_read vats (length vats) c.loop-place.place vat refl c.loop-place-test.true c.index-vats-place.is) in
     let started : IsStarted c.args.script.now c.loop-place.place vat c.in_ok-resident.resident =
-        started_as c.args.script.now c.loop-place.place vat c.in_ok-resident.resident c.in_ok-me.me c.args.count vats c.as_slice.result.now c.as_slice-in-loop-place.result.now
-        c.in_ok-me.ensures (sym c.requires) c.as_slice-vats.ensures c.as_slice.ensures (c.as_slice-in-loop-place.ensures.value ∙ c.in_ok-known_by.ensures)
-        (record {
-          member = c.in_ok-resident.ensures.begins;
-          ready = c.in_ok-resident.ensures.ready;
-          key = c.in_ok-resident.ensures.key;
-          names = c.in_ok-resident.ensures.names;
-          objects = c.in_ok-resident.ensures.objects;
-        }) in
+    started_as c.args.script.now c.loop-place.place vat c.in_ok-resident.resident c.in_ok-me.me c.args.count vats c.as_slice.result.now c.as_slice-in-loop-place.result.now
+    c.in_ok-me.ensures (sym c.requires) c.as_slice-vats.ensures c.as_slice.ensures (c.as_slice-in-loop-place.ensures.value ∙ c.in_ok-known_by.ensures)
+    (record {
+      member = c.in_ok-resident.ensures.begins;
+      ready = c.in_ok-resident.ensures.ready;
+      key = c.in_ok-resident.ensures.key;
+      names = c.in_ok-resident.ensures.names;
+      objects = c.in_ok-resident.ensures.objects;
+    }) in
     started_next c.args.script.now c.loop-place.place vat c.in_ok-resident.resident c.loop-place.residents.items c.push.new.self.items here started c.in_ok-push.ensures.items c.loop-place.invariant
 
 pub returns : goal.returns
