@@ -65,8 +65,11 @@ const GIVEN: [&str; 23] = [
 ];
 
 /// A script of one vat up to its entries, and from these to its fuel.
-const HEAD: &str = "{\"key\":\"0000000000000000000000000000000000000000000000000000000000000000\",\"vats\":[{\"name\":\"a\",\"knows\":[],\"source\":\"\"}],\"schedule\":[";
+const HEAD: &str =
+    "{\"key\":\"0000000000000000000000000000000000000000000000000000000000000000\",\"vats\":[{\"name\":\"a\",\"knows\":[],\"source\":\"\"}],\"schedule\":[";
+
 const MIDDLE: &str = "],\"fuel\":";
+
 const TAIL: &str = "}";
 
 /// A row, as parts of its file.
