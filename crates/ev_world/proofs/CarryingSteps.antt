@@ -73,8 +73,7 @@ carry_idles S w v u k c rows h at none left more =
     let law : Carries w.drawn (length S.vats) v u w.ways (changed behind v u c.ways) None =
     subst (λ (o : Option Sent). Carries w.drawn (length S.vats) v u w.ways (changed behind v u c.ways) o) none (carry_stands w.drawn (length S.vats) v u w.ways c.ways at.ways) in
     subst (λ (r : List (List Lane)). Comes (λ (y : Vats). IsWorld S y (record c { ways = r; history = h })) (step S (Carry v u) k w)) (sym left)
-    (subst (λ (es : List ShownEvent). Comes (λ (y : Vats). IsWorld S y (record c { ways = changed behind v u c.ways; history = es })) (step S (Carry v u) k w)) (sym more)
-    (
+    (subst (λ (es : List ShownEvent). Comes (λ (y : Vats). IsWorld S y (record c { ways = changed behind v u c.ways; history = es })) (step S (Carry v u) k w)) (sym more) (
       record w { history = w.history ++ Idle k ∷ [] },
       (nothing_carried S w v u k (way_at v u w.ways) law.0, moved S w c w.ways (Idle k ∷ []) (changed behind v u c.ways) (line.Idle k ∷ []) at law.1 refl refl),
     ))
@@ -218,7 +217,7 @@ module _ (S : Script) (w : Vats) (v u k : ℕ) (m : Member) (c : World) (fr : Se
     stepped = record {
       vat = one.done.vat;
       leaves = one.leaves (hears_steadily v m one.note s
-      (steady.steady m carries.taken.way x carries.taken.others here carries.taken.found carries.uncut carries.taken.under_way one.note (sym (frame_is w.drawn v u m x fr carries.taken.is_frame) ∙ one.is) s gives));
+          (steady.steady m carries.taken.way x carries.taken.others here carries.taken.found carries.uncut carries.taken.under_way one.note (sym (frame_is w.drawn v u m x fr carries.taken.is_frame) ∙ one.is) s gives));
     }
 
     -- ---- what it told of numbers

@@ -42,7 +42,16 @@ fn told_for(
         return Err(Memory);
     };
     let words = &receiver.member.vat().inside().words;
-    told_of(alloc, exporter, to, first, news, frame.message, frame.asks, words)
+    told_of(
+        alloc,
+        exporter,
+        to,
+        first,
+        news,
+        frame.message,
+        frame.asks,
+        words,
+    )
 }
 
 /// A note was carried; its frame is told where frames are.
@@ -109,13 +118,20 @@ impl World {
         };
         let before = exports_of(alloc, &receiver.member, count)?;
         let first = receiver.member.imports(from);
-        let Some(arrival) =
-            receiver.hear(self.fuel, &mut self.words, from, frame.bytes.as_slice())?
+        let Some(arrival) = receiver.hear(self.fuel, &mut self.words, from, frame.bytes.as_slice())?
         else {
             return Err(VatStop::Astray);
         };
         let Arrival { sendings, news } = arrival;
-        let told = told_for(alloc, self.residents.as_slice(), from, to, first, &news, &frame)?;
+        let told = told_for(
+            alloc,
+            self.residents.as_slice(),
+            from,
+            to,
+            first,
+            &news,
+            &frame,
+        )?;
         let message = frame.message;
         tell_note(&mut self.history, alloc, self.wire, number, from, to, frame)?;
         self.finish(alloc, to, before.as_slice(), message, told, sendings)?;

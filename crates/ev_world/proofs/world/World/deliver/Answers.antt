@@ -26,8 +26,8 @@ pub returns-in_err-arrival-clause-step : goal.returns-in_err-arrival-clause-step
 returns-in_err-arrival-clause-step c = λ S w rows at next left steady.
     let rs = c.args.self.now.residents.items in
     let there : slice_get rs c.args.to ≡ Some c.in-Some.receiver.now =
-        subst (λ (k : ℕ). slice_get rs k ≡ Some c.in-Some.receiver.now) c.to.view_is
-        (slice_get_read rs (length rs) c.to.inside.0 c.in-Some.receiver.now refl (ltb-true c.to.inside.0 (length rs) (sym c.in-Some.ensures.item.0)) c.in-Some.ensures.item.1) in
+    subst (λ (k : ℕ). slice_get rs k ≡ Some c.in-Some.receiver.now) c.to.view_is
+    (slice_get_read rs (length rs) c.to.inside.0 c.in-Some.receiver.now refl (ltb-true c.to.inside.0 (length rs) (sym c.in-Some.ensures.item.0)) c.in-Some.ensures.item.1) in
     stops_with S c.from_residual-in_err-arrival.result c.in_err-arrival.field-0.0 (step_number S c.args.number) (step S (Carry c.args.from c.args.to) c.args.number w)
     (record c.args.self.now { residents = with_item c.args.self.now.residents c.to.inside.0 c.hear.new.self; words = c.hear.new.words }) c.from_residual-in_err-arrival.ensures
     (call_halts S w c.args.from c.args.to c.args.number (with_ways rows c.args.self.now) c.args.frame c.in-Some.receiver.now at next there (λ (a : Arrival). a.sendings.items) c.in_err-arrival.field-0.0 c.hear.new.self.member c.as_slice.result.now
@@ -38,8 +38,8 @@ returns-in_default-2-clause-step c = λ S w rows at next left steady.
     let rs = c.args.self.now.residents.items in
     let r = c.in-Some.receiver.now in
     let there : slice_get rs c.args.to ≡ Some r =
-        subst (λ (k : ℕ). slice_get rs k ≡ Some r) c.to.view_is
-        (slice_get_read rs (length rs) c.to.inside.0 r refl (ltb-true c.to.inside.0 (length rs) (sym c.in-Some.ensures.item.0)) c.in-Some.ensures.item.1) in
+    subst (λ (k : ℕ). slice_get rs k ≡ Some r) c.to.view_is
+    (slice_get_read rs (length rs) c.to.inside.0 r refl (ltb-true c.to.inside.0 (length rs) (sym c.in-Some.ensures.item.0)) c.in-Some.ensures.item.1) in
     call_astray S w c.args.from c.args.to c.args.number (with_ways rows c.args.self.now) c.args.frame r at next there (λ (a : Arrival). a.sendings.items) c.hear.new.self.member c.as_slice.result.now c.args.self.now.wire c.args.self.now.history c.as_slice.ensures
     (subst (λ (o : Option Arrival). CallHears (with_ways rows c.args.self.now) c.args.from (λ (a : Arrival). a.sendings.items) (Ok o) r c.hear.new.self.member c.as_slice.result.now) c.in_default-2.is c.in_ok-arrival.ensures.step) at.history
 
@@ -51,8 +51,8 @@ returns-clause-step c = λ S w rows at next left steady.
     let q = c.hear.new.self in
     let before = c.as_slice-3.result.now in
     let there : slice_get rs c.args.to ≡ Some r =
-        subst (λ (k : ℕ). slice_get rs k ≡ Some r) c.to.view_is
-        (slice_get_read rs (length rs) c.to.inside.0 r refl (ltb-true c.to.inside.0 (length rs) (sym c.in-Some.ensures.item.0)) c.in-Some.ensures.item.1) in
+    subst (λ (k : ℕ). slice_get rs k ≡ Some r) c.to.view_is
+    (slice_get_read rs (length rs) c.to.inside.0 r refl (ltb-true c.to.inside.0 (length rs) (sym c.in-Some.ensures.item.0)) c.in-Some.ensures.item.1) in
     let mid = record c.args.self.now { residents = with_item c.args.self.now.residents c.to.inside.0 q; words = c.hear.new.words; history = c.tell_note.new.history } in
     let took : Took c.args.to before was mid r q = record {
       found = there;
