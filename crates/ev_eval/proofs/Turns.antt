@@ -19,14 +19,14 @@ use Rattle.ev_room.specs.declared.exit.Exit.TheVariants as exit
 use Rattle.ev_pass.specs.declared.interior.Interior.{Interior as Room}
 use Rattle.ev_eval.specs.declared.turn.Ended.{Ended}
 use Rattle.ev_eval.specs.declared.turn.Ended.TheVariants as ended
-use Rattle.ev_room.specs.Reading.{World, names, text_of, texts_of, value_of, values_of}
+use Rattle.ev_room.specs.Reading.{World, names, roots_from, text_of, texts_of, value_of, values_of}
 use Rattle.ev_room.proofs.There.{both}
 use Rattle.ev_room.specs.Sound.{Grown, Stays, IsSound, is_there, are_there, is_bound, are_bound, no_guard}
 use Rattle.ev_room.specs.declared.scope.Binding.{Binding}
 use Rattle.ev_room.specs.declared.scope.Bound.TheVariants as kept
 use Rattle.ev_steps.specs.Steps.{alone, evaluator, turn_value}
 use Rattle.ev_room.specs.Acts.{Out, Gives, ◌>>=◌}
-use Rattle.ev_eval.specs.Turn.{Ends, EndsAs, GivesThere, LeftBy, bonds_from, evaluated, roots_from, turn_of}
+use Rattle.ev_eval.specs.Turn.{Ends, EndsAs, GivesThere, LeftBy, bonds_from, evaluated, turn_of}
 use Rattle.law_acts.proofs.Making.{turned_is}
 use Rattle.law_acts.proofs.Sounds.{all_and}
 use Rattle.law_acts.proofs.Stands.{Met, vat, a_value, bond_of, bonds_onto, then_met, give_met}

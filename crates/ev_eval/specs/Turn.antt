@@ -3,9 +3,8 @@ use Rattle.std.specs.Prelude.{◌≡◌, ℕ, suc, nat_lt, true, List, [], ◌�
 use Rattle.ev_base.specs.declared.memory.Memory.{Memory}
 use Rattle.ev_heap.specs.Contents.{Contents}
 use Rattle.def_kernel.specs.declared.node.Node.{Node}
-use Rattle.def_machine.specs.Values.{Words, Value, Ref, Naming, Local, Prom}
-use Rattle.def_machine.specs.Scopes.{any_guard}
-use Rattle.def_machine.specs.State.{Binding, Fixed, Vat, Done, Gives, Throws, Stops, Fuel, Deep, Repeated, Astray, Act, ◌>>=◌, give, throw, stop, ending}
+use Rattle.def_machine.specs.Values.{Words, Value, Naming, Local}
+use Rattle.def_machine.specs.State.{Binding, Vat, Done, Gives, Throws, Stops, Fuel, Deep, Repeated, Astray, Act, ◌>>=◌, give, throw, stop, ending}
 use Rattle.def_machine.specs.Eval.{evaluator}
 use Rattle.ev_eval.specs.declared.turn.Ended.{Ended}
 use Rattle.ev_eval.specs.declared.turn.Ended.TheVariants as ended
@@ -19,11 +18,6 @@ use Rattle.ev_base.specs.declared.values.Value.TheVariants as held
 use Rattle.ev_room.specs.Sound.{no_guard}
 use Rattle.ev_room.specs.declared.scope.Binding.{Binding as Bond}
 use Rattle.ev_room.specs.declared.scope.Bound.TheVariants as scope
-
--- each noun is bound finally to a name that is known, to that number and those behind it
-abbrev pub roots_from : ℕ → List Words → List (Binding Local)
-roots_from n [] = []
-roots_from n (x ∷ xs) = record { noun = x; bound = Fixed (Ref (Prom n)) any_guard } ∷ roots_from (suc n) xs
 
 -- the same in the code's terms
 abbrev pub bonds_from : ℕ → List Words → List Bond

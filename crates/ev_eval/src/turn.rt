@@ -5,13 +5,13 @@ ghost use Rattle.def_machine.specs.Calls.{turn_value};
 ghost use Rattle.def_machine.specs.Eval as theirs;
 ghost use Rattle.ev_heap.specs.Contents.{nothing};
 ghost use Rattle.ev_refs.specs.References.{no_references};
-ghost use Rattle.ev_room.specs.Reading.{World, names, texts_of, value_of, values_of, vat_of};
+ghost use Rattle.ev_room.specs.Reading.{World, names, roots_from, texts_of, value_of, values_of, vat_of};
 ghost use Rattle.ev_room.specs.Sound.{Grown, IsSound, Stays, are_there, cycle_id, is_there, partition_id, problems, too_heavy_id};
 ghost use Rattle.ev_steps.specs.Steps.{alone, evaluator};
 ghost use Rattle.ev_room.specs.Acts.{Gives};
 ghost use Rattle.ev_eval.specs.Problems.{eventual_problems, guard_problems, native_problems, or_null_problems, own_problems, reference_problems, with_texts};
 ghost use Rattle.ev_eval.specs.Turn as machine;
-ghost use Rattle.ev_eval.specs.Turn.{Ends, EndsAs, EndsBy, GivesThere, LeftBy, bonds_from, roots_from, turn_of};
+ghost use Rattle.ev_eval.specs.Turn.{Ends, EndsAs, EndsBy, GivesThere, LeftBy, bonds_from, turn_of};
 
 use def_kernel::Kernel;
 use ev_base::{ActId, Memory, NodeId, PromId, Seq, TextId, Value, VatId};

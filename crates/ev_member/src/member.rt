@@ -6,7 +6,7 @@ ghost use Rattle.def_local.specs.Vats.{Member as Theirs};
 ghost use Rattle.def_machine.specs.Arrive as machine;
 ghost use Rattle.def_machine.specs.Eval.{opening, taking};
 ghost use Rattle.def_machine.specs.Values.{Prom};
-ghost use Rattle.ev_eval.specs.Turn.{roots_from};
+ghost use Rattle.ev_room.specs.Reading.{roots_from};
 ghost use Rattle.ev_member.specs.Sending.{AreSent};
 ghost use Rattle.ev_member.specs.Standing.{IsFound, IsMember};
 ghost use Rattle.ev_member.specs.Starting.{rooted_member};

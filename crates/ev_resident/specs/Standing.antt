@@ -5,15 +5,15 @@ use Rattle.def_local.specs.Vats.{Member as Theirs}
 use Rattle.def_machine.specs.State.{Vat}
 use Rattle.def_machine.specs.Values.{Local}
 use Rattle.def_run.specs.World.{Script}
+use Rattle.ev_arrive.specs.Reading.{with_gifts}
 use Rattle.ev_member.specs.Standing.{IsMember, Sees}
 use Rattle.ev_member.specs.Steps.{Having, Leaves}
 use Rattle.ev_member.specs.declared.member.Member.{Member}
 use Rattle.ev_member.specs.declared.sending.Sending.{Sending}
 use Rattle.ev_outcome.specs.Standing.{NamesStand, ObjectsStand}
 use Rattle.ev_resident.specs.declared.resident.Resident.{Resident}
-use Rattle.ev_room.specs.Reading.{World}
+use Rattle.ev_room.specs.Reading.{World, vat_of}
 use Rattle.ev_vat.specs.Vat.{IsReady}
-use Rattle.law_arrivals.specs.Arrivals.{vat_in}
 
 -- Between two steps of the run: it is vat u, which is m, and its names are those that were told.
 pub record IsResident (S : Script) (w : Vats) (u : ℕ) (m : Theirs) (r : Resident) : Type 0 where
@@ -25,5 +25,5 @@ pub record IsResident (S : Script) (w : Vats) (u : ℕ) (m : Theirs) (r : Reside
 
 -- A step that found what is had left the vat of the machine so, and those are the frames of what it put; the words that it drew are in it.
 pub record IsStepped (b : Having) (s : Vat Local) (xs : List Sending) (c : Member) : Type 0 where
-  pub vat : (v : World) → Sees v c.vat.host.inside → vat_in v c.vat.host ≡ s
+  pub vat : (v : World) → Sees v c.vat.host.inside → with_gifts c.vat.host.gifts (vat_of v c.vat.host.inside) ≡ s
   pub leaves : Leaves b s xs c

@@ -9,7 +9,7 @@ ghost use Rattle.def_machine.specs.Arrive as arriving;
 ghost use Rattle.def_machine.specs.Eval.{opening, taking};
 ghost use Rattle.def_machine.specs.State as machine;
 ghost use Rattle.def_machine.specs.Values.{Local, Name, Prom, Root};
-ghost use Rattle.ev_eval.specs.Turn.{roots_from};
+ghost use Rattle.ev_room.specs.Reading.{roots_from};
 ghost use Rattle.ev_member.specs.Hearing.{BringsSo, Hears, frame_heard};
 ghost use Rattle.ev_member.specs.Standing.{IsFound, IsMember};
 ghost use Rattle.ev_member.specs.Starting.{rooted_member};

@@ -1,11 +1,12 @@
 -- What the inside of a vat stands for: a vat of the machine, in local numbers.
-use Rattle.std.specs.Prelude.{ℕ, Bool, List, [], ◌∷◌, ◌++◌, Some, codes, map, length, option_map}
+use Rattle.std.specs.Prelude.{ℕ, suc, Bool, List, [], ◌∷◌, ◌++◌, Some, codes, map, length, option_map}
 use Rattle.std.specs.declared.option.Option.{Option}
 use Rattle.ev_base.specs.declared.values.Value.{Value as Held}
 use Rattle.ev_base.specs.declared.values.Value.TheVariants as held
 use Rattle.ev_heap.specs.declared.happened.Happened.{Happened as Event}
 use Rattle.ev_heap.specs.declared.happened.Happened.TheVariants as event
-use Rattle.def_machine.specs.Values.{Words, Value, Prim, Naming, Local, Obj, Prom, Mess}
+use Rattle.def_machine.specs.Values.{Words, Value, Ref, Prim, Naming, Local, Obj, Prom, Mess}
+use Rattle.def_machine.specs.Scopes.{any_guard}
 use Rattle.ev_heap.specs.declared.kept.Cell.{Cell as HeldCell}
 use Rattle.ev_heap.specs.declared.kept.Capture.{Capture}
 use Rattle.ev_heap.specs.declared.kept.Capture.TheVariants as capture
@@ -142,3 +143,8 @@ vat_of w i = vat_at (texts_of w) (line_of w) i (beside w i)
 
 abbrev pub names : World → Naming Local Local
 names w = names_under w.key
+
+-- each noun is bound finally to a name that is known, to that number and those behind it
+abbrev pub roots_from : ℕ → List Words → List (Binding Local)
+roots_from n [] = []
+roots_from n (x ∷ xs) = record { noun = x; bound = Fixed (Ref (Prom n)) any_guard } ∷ roots_from (suc n) xs

@@ -30,7 +30,7 @@ use Rattle.ev_vat.specs.Rooted.{fresh}
 use Rattle.ev_ways.proofs.Cuts.{shown_join}
 use Rattle.ev_world.specs.Closing.{all_left, left_of}
 use Rattle.ev_world.proofs.Plain.{IsPlain, plain_join}
-use Rattle.law_arrivals.specs.Arrivals.{vat_in}
+use Rattle.ev_arrive.specs.Reading.{with_gifts}
 
 -- ---- by a table that has the names of the numbers
 
@@ -101,7 +101,7 @@ module _ (S : Script) (w : Vats) (u : ℕ) (m : Member) (r : Resident) (at : IsR
   sees : Sees seen inside
   sees = record { outbox = refl; happened = refl; rest = []; texts = sym at.member.rest.sound.problems_first.1 ∙ sym (append-nil inside.heap.texts); key = refl }
 
-  same : with_draws 0 [] (vat_in seen r.member.vat.host) ≡ with_draws 0 [] m.vat
+  same : with_draws 0 [] (with_gifts r.member.vat.host.gifts (vat_of seen r.member.vat.host.inside)) ≡ with_draws 0 [] m.vat
   same = at.member.vat seen sees
 
   queue_is : map (message_by (texts_of seen)) inside.refs.queue ≡ m.vat.queue

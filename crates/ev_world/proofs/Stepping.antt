@@ -14,7 +14,7 @@ use Rattle.def_machine.specs.Values.{Local, Prom, Words}
 use Rattle.def_run.specs.Shown.{shown_event}
 use Rattle.def_run.specs.Text.{shown_events}
 use Rattle.def_run.specs.World.{Event, Idle, NoticeLink, NoticedAt, Opens, Program, Script, Turn, Turned}
-use Rattle.ev_eval.specs.Turn.{roots_from}
+use Rattle.ev_room.specs.Reading.{roots_from}
 use Rattle.ev_member.specs.Standing.{IsFound, IsMember, with_draws}
 use Rattle.ev_member.specs.Steps.{Steps, Turns, own}
 use Rattle.ev_member.specs.declared.member.Member.{Member as Ours}

@@ -1,8 +1,8 @@
 use Rattle.std.proofs.Common.{List, subst}
 use Rattle.std.specs.Prelude.{reverse}
-use Rattle.ev_eval.specs.Turn.{bonds_from, evaluated, roots_from}
+use Rattle.ev_eval.specs.Turn.{bonds_from, evaluated}
 use Rattle.ev_room.specs.Acts.{Gives}
-use Rattle.ev_room.specs.Reading.{names}
+use Rattle.ev_room.specs.Reading.{names, roots_from}
 use Rattle.ev_room.specs.declared.scope.Binding.{Binding}
 use Rattle.ev_steps.specs.Steps.{alone, evaluator}
 use Rattle.ev_eval.proofs.Turns.{program_met, ran}

@@ -1,5 +1,5 @@
 use Rattle.ev_base.specs.declared.values.Value.TheVariants.{Null}
-use Rattle.ev_eval.specs.Turn.{roots_from}
+use Rattle.ev_room.specs.Reading.{roots_from}
 use Rattle.ev_vat.proofs.Steps.{begun_sound, opens, opens_grown, opens_stays, opens_sound}
 use Rattle.ev_vat.proofs.vat.open.Goals as goal
 

@@ -1,7 +1,7 @@
 use Rattle.std.proofs.Common.{ℕ, List, Vec, Global, subst, sym, ap, ◌∙◌}
 use Rattle.def_machine.specs.Eval.{opening}
 use Rattle.def_machine.specs.Values.{Prom}
-use Rattle.ev_eval.specs.Turn.{roots_from}
+use Rattle.ev_room.specs.Reading.{roots_from}
 use Rattle.def_machine.specs.State.{Act}
 use Rattle.def_machine.specs.Values.{Local}
 use Rattle.ev_member.specs.Steps.{EndsSo, own}
