@@ -1,5 +1,5 @@
 -- What a call owes: its status and its text, by its command and the bytes that were read.
-use Rattle.std.specs.Prelude.{◌≡◌, ◌⊎◌, ◌≤◌, ◌+◌, ℕ, Bool, true, false, nat_lt, ◌&&◌, List, [], ◌∷◌, ◌++◌, length, codes, Some, None, IsSome, Result, Ok, Err, string_bytes}
+use Rattle.std.specs.Prelude.{◌≡◌, ◌⊎◌, ◌≤◌, ◌+◌, ℕ, Bool, true, false, nat_lt, ◌&&◌, List, [], ◌∷◌, ◌++◌, length, Some, None, IsSome, Result, Ok, Err, string_bytes}
 use Rattle.std.specs.declared.option.Option.{Option}
 use Rattle.std.specs.Io.KnownBytes.{Appends, Consumes}
 use Rattle.def_kernel.specs.declared.node.Node.{Node}

@@ -3,7 +3,7 @@ use Rattle.std.proofs.Common.{◌≡◌, ℕ, zero, suc, ◌+◌, Bool, true, fa
 use Rattle.std.specs.Prelude.{slice_get}
 use Rattle.std.proofs.lemmas.List.Concat.{flat_map-append}
 use Rattle.std.proofs.lemmas.List.Elements.{filter-append}
-use Rattle.def_event.specs.Lines.{is_no_frame, line_of, render}
+use Rattle.def_event.specs.Lines.{is_no_frame, render}
 use Rattle.def_event.specs.declared.event.Event.{Event as ShownEvent}
 use Rattle.def_local.specs.Numbers.{Course, Runs, Halts, Vats, begins, close, open_from, open_member, run, step, steps_from, then_runs}
 use Rattle.def_machine.specs.Values.{Words}
@@ -11,7 +11,7 @@ use Rattle.def_run.specs.Text.{shown_events}
 use Rattle.def_run.specs.World.{Entry, Program, Script}
 use Rattle.ev_ways.proofs.Cuts.{shown_join}
 use Rattle.ev_world.specs.Standing.{told_so}
-use Rattle.ev_world.specs.Writing.{IsBehind, IsFront, IsStep, text_to, untold}
+use Rattle.ev_world.specs.Writing.{IsFront, IsStep, text_to, untold}
 use Rattle.ev_world.proofs.Loops.{opened_last, openings_joined, stepped_last, steps_joined}
 use Rattle.ev_world.proofs.Untold.{close_behind, open_behind, step_behind}
 use Rattle.law_peers.specs.Steady.{RunsSteadily}
@@ -85,7 +85,7 @@ module _ (S : Script) (steady : RunsSteadily S) where
       let c : Course = open_member S (length ps) p w (slice_get w.members (length ps)) in
       let further : (y : Vats) → c ≡ Runs y → IsFrontOf (shown_at y) (shown_to (open_from S (suc (length ps)) left y)) =
       λ y e. subst (λ (k : ℕ). IsFrontOf (shown_at y) (shown_to (open_from S k left y))) (one_more ps p)
-          (openings_front (ps ++ p ∷ []) left y (all ∙ sym (append_assoc ps (p ∷ []) left)) (opened_last S ps p (begins S) w runs ∙ e)) in
+      (openings_front (ps ++ p ∷ []) left y (all ∙ sym (append_assoc ps (p ∷ []) left)) (opened_last S ps p (begins S) w runs ∙ e)) in
       front_then (shown_at w) (shown_to c) (shown_to (then_runs c (open_from S (suc (length ps)) left)))
       (step_front w c (open_member S (length ps) p (untold w) (slice_get w.members (length ps))) (opens_as ps left p w all runs))
       (then_front c (open_from S (suc (length ps)) left) further)
@@ -99,7 +99,7 @@ module _ (S : Script) (steady : RunsSteadily S) where
       let c : Course = step S e k w in
       let further : (y : Vats) → c ≡ Runs y → IsFrontOf (shown_at y) (shown_to (steps_from S left (suc k) y)) =
       λ y s. subst (λ (j : ℕ). IsFrontOf (shown_at y) (shown_to (steps_from S left (suc j) y))) (one_more es e)
-          (steps_front from opened (es ++ e ∷ []) left y (all ∙ sym (append_assoc es (e ∷ []) left)) (stepped_last S es e from w runs ∙ s)) in
+      (steps_front from opened (es ++ e ∷ []) left y (all ∙ sym (append_assoc es (e ∷ []) left)) (stepped_last S es e from w runs ∙ s)) in
       front_then (shown_at w) (shown_to c) (shown_to (then_runs c (steps_from S left (suc k))))
       (step_front w c (step S e k (untold w)) (steps_as from opened es left e k w all runs))
       (then_front c (steps_from S left (suc k)) further)

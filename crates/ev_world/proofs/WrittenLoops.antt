@@ -1,7 +1,6 @@
 -- The steps of a run, one after the other, each written before the next.
-use Rattle.std.proofs.Common.{◌≡◌, ℕ, zero, ◌+◌, ◌<◌, ◌≤◌, Bool, List, [], Option, Some, Result, Ok, Err, length, map, min, refl, sym, ap, subst, ◌∙◌, arith}
-use Rattle.std.specs.Prelude.{slice_get, ◌-◌, ◌^◌}
-use Rattle.std.specs.Io.KnownBytes.{Appends}
+use Rattle.std.proofs.Common.{◌≡◌, ℕ, zero, ◌+◌, ◌<◌, ◌≤◌, Bool, List, [], Option, Some, Result, length, map, refl, sym, subst, arith}
+use Rattle.std.specs.Prelude.{slice_get}
 use Rattle.std.proofs.KnownBytes.{Appends-nil}
 use Rattle.def_local.specs.Numbers.{Course, Runs, Vats, begins, open_from, open_member, step, steps_from}
 use Rattle.def_machine.specs.Values.{Words}
@@ -9,7 +8,7 @@ use Rattle.def_run.specs.World.{Entry, Program, Script}
 use Rattle.ev_io.specs.Causes.{Rose}
 use Rattle.ev_script.specs.declared.script.Entry.{Entry as TheirEntry}
 use Rattle.ev_world.specs.Ends.{course_of}
-use Rattle.ev_world.specs.Standing.{Comes, IsWorld}
+use Rattle.ev_world.specs.Standing.{Comes}
 use Rattle.ev_world.specs.Steadily.{OpensSteadily, StepsSteadily}
 use Rattle.ev_world.specs.Writing.{AppendsFront, GoesTo, IsCourse, IsStep, IsWritten, untold}
 use Rattle.ev_world.specs.declared.world.World.{World}

@@ -1,5 +1,5 @@
 -- What is written of a run is its text, or a front of it.
-use Rattle.std.proofs.Common.{◌≡◌, ℕ, zero, ◌+◌, Bool, true, false, List, [], ◌∷◌, ◌++◌, Option, Result, Ok, Err, length, refl, sym, ap, subst, ◌∙◌, append_assoc, append-nil}
+use Rattle.std.proofs.Common.{◌≡◌, ℕ, zero, ◌+◌, Bool, true, false, List, [], ◌∷◌, ◌++◌, Option, Ok, length, refl, sym, ap, subst, ◌∙◌, append_assoc, append-nil}
 use Rattle.std.specs.Prelude.{string_bytes}
 use Rattle.std.specs.Io.KnownBytes.{Appends}
 use Rattle.std.proofs.KnownBytes.{Appends-nil, Appends-trans}
@@ -15,14 +15,12 @@ use Rattle.ev_vat.specs.declared.vat.VatStop.TheVariants.{Fuel, Deep, WordRepeat
 use Rattle.ev_world.specs.Ends.{StoppedAs, Tells, course_of, stopped_text}
 use Rattle.ev_world.specs.Running.{end_by, end_of, told_text}
 use Rattle.ev_world.specs.Standing.{Comes, IsWorld, told_so}
-use Rattle.ev_world.specs.Writing.{AppendsFront, EndsAs, IsFront, IsStep, IsWritten, StopsAs, StopsWith, WritesRun, text_at, text_to, untold}
-use Rattle.ev_world.specs.declared.run.RunEnd.{RunEnd}
+use Rattle.ev_world.specs.Writing.{AppendsFront, EndsAs, IsFront, IsWritten, StopsAs, StopsWith, text_at, text_to, untold}
 use Rattle.ev_world.specs.declared.run.RunEnd.TheVariants as end
 use Rattle.ev_world.specs.declared.run.Told.{Told}
 use Rattle.ev_world.specs.declared.world.World.{World}
 use Rattle.ev_world.specs.declared.writing.Halt.{Halt}
 use Rattle.ev_world.specs.declared.writing.Halt.TheVariants.{Stopped, Unwritten}
-use Rattle.ev_world.specs.declared.writing.Unfinished.{Unfinished}
 use Rattle.ev_world.proofs.Fronts.{closes_as, opened_text, stepped_text}
 use Rattle.ev_world.proofs.Loops.{OpenedBy, SteppedBy, openings_joined, runs_on, steps_joined}
 use Rattle.ev_world.proofs.Wholes.{halts_whole, run_goes, text_goes, text_halts}

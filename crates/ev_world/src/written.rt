@@ -92,7 +92,14 @@ pub fn write_run<K: Sink>(
     let Ok(mut world) = World::start(alloc, script, programs, limits, wire) else {
         return Err(Unfinished::Memory);
     };
-    match go_on(alloc, &names, &mut world, vats.len(), script.schedule.as_slice(), out) {
+    match go_on(
+        alloc,
+        &names,
+        &mut world,
+        vats.len(),
+        script.schedule.as_slice(),
+        out,
+    ) {
         Ok(()) => write_left(alloc, &names, world, out),
         Err(Halt::Stopped(halted)) => write_stop(alloc, &names, halted, out),
         Err(Halt::Unwritten(why)) => Err(why),

@@ -215,7 +215,9 @@ fn steps_are_written_one_by_one(rt: HostRuntime) -> Result<(), Fail> {
     assert_eq!(rt; status.code(), 0);
     assert_eq!(rt; sink.call, 5);
     assert!(rt;
-        sink.bytes.as_slice().ends_with(b"settle a?a/1 2\nsettle @a 2\n3 idle\nend\n")
+        sink.bytes
+            .as_slice()
+            .ends_with(b"settle a?a/1 2\nsettle @a 2\n3 idle\nend\n")
     );
     Ok(())
 }

@@ -1,4 +1,4 @@
-use Rattle.std.proofs.Common.{subst, Some, Option, IfSome}
+use Rattle.std.proofs.Common.{subst, Option, IfSome}
 use Rattle.ev_top.specs.Commands.{command_of}
 use Rattle.ev_top.specs.Due.{Pays, debt_of}
 use Rattle.ev_top.specs.declared.command.Command.{Command}

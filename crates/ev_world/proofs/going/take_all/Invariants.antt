@@ -5,7 +5,7 @@ use Rattle.def_local.specs.Numbers.{Runs, Vats, begins, open_from}
 use Rattle.def_run.specs.World.{Script}
 use Rattle.law_peers.specs.Steady.{RunsSteadily}
 use Rattle.law_schedule.specs.Scripts.{machine_entry}
-use Rattle.ev_world.specs.Standing.{AreReady, Comes, IsWorld}
+use Rattle.ev_world.specs.Standing.{AreReady, Comes}
 use Rattle.ev_world.specs.Writing.{IsWritten}
 use Rattle.ev_world.proofs.Loops.{SteppedBy}
 use Rattle.ev_world.proofs.going.take_all.Given as goal

@@ -1,6 +1,5 @@
-use Rattle.std.proofs.Common.{◌≡◌, Ok, Err, subst, sym}
+use Rattle.std.proofs.Common.{subst}
 use Rattle.std.specs.declared.result.Result.{Result}
-use Rattle.def_local.specs.Numbers.{Course, Vats}
 use Rattle.ev_vat.specs.declared.vat.VatStop.{VatStop}
 use Rattle.ev_world.specs.Standing.{CourseIs}
 use Rattle.ev_world.proofs.WrittenSteps.{step_cut, step_goes, step_stops}
