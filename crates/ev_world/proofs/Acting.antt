@@ -1,5 +1,5 @@
 -- What a step of a vat came to in the code, in the run in numbers.
-use Rattle.std.proofs.Common.{◌≡◌, ◌⊎◌, inl, inr, ℕ, Bool, zero, suc, ◌<◌, List, [], ◌∷◌, ◌++◌, Option, Some, None, Result, Ok, Err, get_or, length, map, refl, sym, ap, subst, ◌∙◌}
+use Rattle.std.proofs.Common.{◌≡◌, inl, inr, ℕ, Bool, ◌<◌, List, [], ◌++◌, Option, Some, None, Err, get_or, length, map, refl, sym, ap, subst, ◌∙◌}
 use Rattle.std.specs.Prelude.{filter, slice_get, slice_set}
 use Rattle.std.proofs.lemmas.List.{length-set}
 use Rattle.def_event.specs.Lines.{is_no_frame}
@@ -8,7 +8,7 @@ use Rattle.def_local.specs.Numbers.{Brought, Course, Runs, Vats, Way, after_step
 use Rattle.def_local.specs.Vats.{Member, connection_for, unconnected}
 use Rattle.def_machine.specs.State as machine
 use Rattle.def_machine.specs.State.{Done, Gives}
-use Rattle.def_machine.specs.Values.{Local, Naming, numbering}
+use Rattle.def_machine.specs.Values.{Local, numbering}
 use Rattle.def_run.specs.Draws.{draw_word, stream_word}
 use Rattle.def_run.specs.Text.{shown_events}
 use Rattle.def_run.specs.World.{Event, Script}
@@ -22,7 +22,6 @@ use Rattle.ev_naming.specs.Names.{Entry, Named, carried_mails, told_at}
 use Rattle.ev_naming.specs.Standing.{Says, mails_of}
 use Rattle.def_local.specs.Names as local
 use Rattle.ev_outcome.specs.Standing.{NamesStand, ObjectsStand}
-use Rattle.ev_pass.specs.Acts.{words_by}
 use Rattle.ev_pass.specs.Reading.{names_under}
 use Rattle.ev_resident.specs.Standing.{IsResident, IsStepped}
 use Rattle.ev_resident.specs.declared.resident.Resident.{Resident}

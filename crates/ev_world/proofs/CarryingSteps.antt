@@ -4,7 +4,7 @@ use Rattle.std.specs.Prelude.{slice_get}
 use Rattle.std.proofs.lemmas.List.{length-map}
 use Rattle.def_event.specs.declared.event.Event.{Event as ShownEvent}
 use Rattle.def_event.specs.declared.event.Event.TheVariants as line
-use Rattle.def_local.specs.Numbers.{Brought, Course, Frame, Runs, Vats, Way, after_step, arrives, brings, brought, carry_frames, carry_way, hears, idle, left_by, numbers, ready, step, step_number, way_at, with_way}
+use Rattle.def_local.specs.Numbers.{Brought, Course, Frame, Runs, Vats, Way, after_step, arrives, brings, carry_frames, carry_way, hears, idle, left_by, numbers, ready, step, step_number, way_at, with_way}
 use Rattle.def_local.specs.Vats.{Member, connection_for, heard_in}
 use Rattle.def_machine.specs.Arrive.{arrive}
 use Rattle.def_machine.specs.State as machine

@@ -10,7 +10,7 @@ use Rattle.ev_heap.specs.declared.happened.Happened.{Happened as Event}
 use Rattle.ev_heap.specs.declared.happened.Happened.TheVariants as event
 use Rattle.def_kernel.specs.declared.node.Node.{Node}
 use Rattle.def_machine.specs.Values.{Words, Value, Text, Items, Local}
-use Rattle.def_machine.specs.State.{Bound, Fixed, Slot, Binding as Bond, Scope as Surroundings, Happened, ListMade, Known, Vat, Done, Throws, Ejects, Stops, Fuel, Deep, Repeated, Astray, opened_state}
+use Rattle.def_machine.specs.State.{Bound, Fixed, Slot, Binding as Bond, Scope as Surroundings, Happened, ListMade, Vat, Done, Throws, Ejects, Stops, Fuel, Deep, Repeated, Astray, opened_state}
 use Rattle.def_machine.specs.State as machine
 use Rattle.def_machine.specs.Refs.{follow, place, list_fits}
 use Rattle.def_machine.specs.Scopes.{Answer, Answers}
