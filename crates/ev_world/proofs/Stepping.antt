@@ -28,8 +28,7 @@ use Rattle.ev_world.specs.Midway.{IsMidway}
 use Rattle.ev_world.specs.Standing.{Comes, HaltsAs, IsWorld}
 use Rattle.ev_world.specs.Steadily.{OpensSteadily, StepsSteadily}
 use Rattle.ev_world.specs.declared.world.World.{World}
-use Rattle.ev_world.proofs.Acting.{Took, own_comes, stop_halts, stop_is}
-use Rattle.ev_world.proofs.CarryingSteps.{receiver}
+use Rattle.ev_world.proofs.Acting.{Took, own_comes, receiver, stop_halts, stop_is}
 use Rattle.ev_world.proofs.Left.{IsRested}
 use Rattle.ev_world.proofs.Objects.{is_within}
 use Rattle.ev_world.proofs.Opening.{noticed, notices, notices_steady, opened, opens, opens_steady}

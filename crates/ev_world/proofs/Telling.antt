@@ -12,6 +12,7 @@ use Rattle.ev_world.proofs.Objects.{same_or_not, set_other, set_there}
 
 -- ---- places
 
+-- what stands at a place within a list
 pub stands : {A : Type 0} (xs : List A) (i : ℕ) → i < length xs → (y : A) × (slice_get xs i ≡ Some y)
 stands [] i h = absurd (omega arith)
 stands (x ∷ xs) zero h = (x, refl)
