@@ -36,7 +36,7 @@ end_none [] = refl
 end_none (x ∷ xs) = ap (λ r. x ∷ r) (end_none xs)
 
 -- where a line stands among connected lines, and that it is well there
-module _ (script : Script) (v : ℕ) (h : Holdings Name) where
+module _ (script : Script) (v : ℕ) (h : Holdings Name Name) where
   abbrev pub StandsIn : List (Happened Name) → List (Happened Name) → Happened Name → Type 0
   StandsIn so es e = (s : List (Happened Name)) × (rest : List (Happened Name)) × (es ≡ s ++ e ∷ rest) × LineWell (names script v) h (so ++ s) e
 
@@ -284,7 +284,7 @@ module _ (script : Script) where
 
   -- ---- what a sender knew
 
-  all_known : (v : ℕ) (h : Holdings Name) (so : List (Happened Name)) (a : ℕ) (none : List (Item Name)) → none ≡ [] → (xs : List (Value Name))
+  all_known : (v : ℕ) (h : Holdings Name Name) (so : List (Happened Name)) (a : ℕ) (none : List (Item Name)) → none ≡ [] → (xs : List (Value Name))
       → AllOf (λ u. Knows (names script v) h so u.0 u.1 ⊎ IsAmong u.1 none) (by a (values xs)) → AllOf (λ x. Knows (names script v) h so a (AValue x)) xs
   unfolding by values
   all_known v h so a none e [] c = tt
