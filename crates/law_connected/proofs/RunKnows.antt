@@ -7,7 +7,7 @@ use Rattle.def_machine.specs.Arrive.{notice}
 use Rattle.def_machine.specs.Eval.{opening}
 use Rattle.law_machine.specs.Steps.{Step, Opens as Starts, Takes, Receives, Notices, does, After}
 use Rattle.def_run.specs.World as world
-use Rattle.def_run.specs.World.{Script, Program, Opens, Entry, Turn, Carry, CutLink, NoticeLink, Event, Here, Turned, Idle, Carried, CutAt, NoticedAt, Link, World, Run, Goes, Stopped, names, names_of, read_note, begins}
+use Rattle.def_run.specs.World.{Script, Program, Opens, Entry, Turn, Carry, CutLink, NoticeLink, Event, Here, Turned, Idle, Carried, CutAt, NoticedAt, Ends, Link, World, Run, Goes, Stopped, names, names_of, read_note, begins}
 use Rattle.law_connected.specs.Known.{Item, AValue, IsAmong, AllOf, Holdings, Knows, by, values}
 use Rattle.law_connected.specs.Connected.{uses, itself, LineWell, ConnectedAfter, Connected, held_from}
 use Rattle.law_connected.specs.Liveness.{live_at, LeavesDead}
@@ -22,7 +22,7 @@ use Rattle.law_connected.specs.Stems as stems
 use Rattle.law_connected.specs.Stems.{HasLine, Stems}
 use Rattle.law_connected.specs.MessageLaws.{AllStem}
 use Rattle.law_connected.specs.Begotten.{AreRoots, IsTaken, IsReached, start, opened, entered, IsConnected, Knew, Begotten, sent, reacted, carried, LinesConnected, TakenBegotten}
-use Rattle.law_connected.proofs.Events.{among_either, events_here, IsNobodys, nobodys_join, lost_on_nobodys}
+use Rattle.law_connected.proofs.Events.{among_either, events_here, IsNobodys, nobodys_join, lost_on_nobodys, vats_nobodys, links_nobodys}
 use Rattle.law_connected.proofs.RunStems.{put_each, one_line, messages_stem}
 
 -- ---- one more line
@@ -289,6 +289,19 @@ module _ (script : Script) where
   run_knows : (w x : World) (es : List Entry) (k : ℕ) → world.open_from script zero script.vats (begins script) ≡ Goes w → world.steps_from script es k w ≡ Goes x → WorldKnows x
   run_knows w x es k e i = let s = stand_all script.vats [] (sym (end_none script.vats)) in
       goes_at WorldKnows _ x i (steps_know es k w (opens_real zero script.vats (begins script) w s start e) (opened_knows script.vats [] w (sym (end_none script.vats)) e))
+
+  -- the closing list behind it
+  close_knows : (w : World) → WorldKnows w → Reached WorldKnows (world.close script w)
+  unfolding world.close
+  close_knows w h = let vats : List Event = world.left_vats script w.vats in let links : List Event = world.left_links script w.links in
+      moved_knows w _ (vats ++ (links ++ Ends ∷ [])) (joined (w.history ++ vats) links (Ends ∷ []) ∙ joined w.history vats (links ++ Ends ∷ [])) refl
+      (nobodys_join vats (links ++ Ends ∷ []) (vats_nobodys script w.vats) (nobodys_join links (Ends ∷ []) (links_nobodys script w.links) (one_line Ends (λ u e i. cc)))) h
+
+  pub ended_connected : (w : World) → world.run script ≡ Goes w → LinesConnected script w
+  unfolding world.run
+  ended_connected w e = let s = stand_all script.vats [] (sym (end_none script.vats)) in
+      (goes_at WorldKnows _ w e (then_knows (world.open_from script zero script.vats (begins script)) (λ y. world.then_goes (world.steps_from script script.schedule 1 y) (world.close script)) (opens_know zero script.vats (begins script) s start begins_knows)
+      (λ y i h. then_knows (world.steps_from script script.schedule 1 y) (world.close script) (steps_know script.schedule 1 y (opens_real zero script.vats (begins script) y s start i) h) (λ z j k. close_knows z k)))).lines
 
   -- ---- what a sender knew
 

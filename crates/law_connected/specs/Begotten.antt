@@ -4,7 +4,7 @@ use Rattle.def_machine.specs.Values.{Value, Ref, Name, Root}
 use Rattle.def_machine.specs.State.{Fixed, Binding, Message, Note, Passeds, Happened, Took, Sends, Reacts, Vat, Gives}
 use Rattle.def_machine.specs.Scopes.{any_guard}
 use Rattle.law_machine.specs.Steps.{Step, Opens as Starts, Takes, Receives, Notices, does}
-use Rattle.def_run.specs.World.{Script, Program, Entry, Opens, Turned, Carried, NoticedAt, name_at, tree_at, link_at, names_of, read_note, readied, open_vat, step as enter, Event, Link, World, Goes, names, events_of, begins, open_from, steps_from}
+use Rattle.def_run.specs.World.{Script, Program, Entry, Opens, Turned, Carried, NoticedAt, name_at, tree_at, link_at, names_of, read_note, readied, open_vat, step as enter, Event, Link, World, Goes, names, events_of, begins, open_from, steps_from, run}
 use Rattle.law_connected.specs.Known.{AValue, AllOf, Knows}
 use Rattle.law_connected.specs.Connected.{LineWell, held_from}
 use Rattle.law_connected.specs.Stems.{LeadsTo, HasLine, HasList, ArgsPass, ComeAll}
@@ -84,8 +84,9 @@ InEachRun P = (script : Script)
     → ((ps rest : List Program) (w : World) → script.vats ≡ ps ++ rest → open_from script 0 ps (begins script) ≡ Goes w → P script w)
     × ((w x : World) (es : List Entry) (k : ℕ) → open_from script 0 script.vats (begins script) ≡ Goes w → steps_from script es k w ≡ Goes x → P script x)
 
+-- and at the end, with the closing list
 abbrev pub HistoriesAreConnected : Type 0
-HistoriesAreConnected = InEachRun LinesConnected
+HistoriesAreConnected = InEachRun LinesConnected × ((script : Script) (w : World) → run script ≡ Goes w → LinesConnected script w)
 
 abbrev pub OnlyConnectivity : Type 0
 OnlyConnectivity = InEachRun TakenBegotten
