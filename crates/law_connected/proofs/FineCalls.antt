@@ -142,14 +142,15 @@ module _ {N W : Type 0} (K : Naming N W) (E : Ground N W) (spots : (i : ℕ) →
   fine_make_promise {a = a} {C = C} act g_act = fine_less K E a nothing (fine_promise K E a) (λ p. bind_resolver K E a spots act p g_act (λ r. let D : Fact N = Also (IsValue (Ref p)) (IsValue (Ref (K.object r))) in
       fine_make_list {C = Also C D} act (got_left K E a C D (IsAct act) g_act) (Ref p ∷ Ref (K.object r) ∷ []) (record { at = λ s h. (h.1.0, (h.1.1, tt)) })))
 
-  pub fine_react_near : {a : ℕ} {C : Fact N} → (act : ℕ) → Gets K E a C (IsAct act) → (x : Value N) → Gets K E a C (IsValue x) → (o : Value N) → Gets K E a C (IsValue o) → (y : Value N) → (p : Place N) → Fine K E a C (perform.react_near K tree act x o y p) IsValue
+  pub fine_react_near : {a : ℕ} {C : Fact N} → (act : ℕ) → Gets K E a C (IsAct act) → (x : Value N) → Gets K E a C (IsValue x) → (o : Value N) → Gets K E a C (IsValue o) → (y : Value N) → Gets K E a C (Leads o y) → (p : Place N) → Fine K E a C (perform.react_near K tree act x o y p) IsValue
   unfolding perform.react_near
-  fine_react_near {a = a} {C = C} act g_act x g_x o g_o y Near = search (fine, fine_react) depth 30
-  fine_react_near {a = a} {C = C} act g_act x g_x o g_o y _ = search (fine) depth 30
+  fine_react_near {a = a} {C = C} act g_act x g_x o g_o y g_y Near = search (fine, fine_react) depth 30
+  fine_react_near {a = a} {C = C} act g_act x g_x o g_o y g_y _ = search (fine) depth 30
 
   pub fine_when_resolved : {a : ℕ} {C : Fact N} → (act : ℕ) → Gets K E a C (IsAct act) → (x : Value N) → Gets K E a C (IsValue x) → (o : Value N) → Gets K E a C (IsValue o) → Fine K E a C (perform.when_resolved K tree act x o) IsValue
   unfolding perform.when_resolved
-  fine_when_resolved {a = a} {C = C} act g_act x g_x o g_o = search (fine, fine_react_near) depth 30
+  fine_when_resolved {a = a} {C = C} act g_act x g_x o g_o = fine_bind K E a (Leads o) (look_lead K E a o) (λ y. fine_less K E a nothing (fine_look K E a _) (λ p.
+      fine_react_near act (got_left K E a C (Leads o y) (IsAct act) g_act) x (got_left K E a C (Leads o y) (IsValue x) g_x) o (got_left K E a C (Leads o y) (IsValue o) g_o) y (got K E a C (Leads o y)) p))
 
   pub fine_after_turn : {a : ℕ} {C : Fact N} → (more : Act N (Value N)) → Fine K E a C more IsValue → (v : Value N) → Fine K E a C (perform.after_turn K tree more v) IsValue
   unfolding perform.after_turn

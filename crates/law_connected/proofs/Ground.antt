@@ -7,7 +7,7 @@ use Rattle.law_connected.specs.Known.{Item, AValue, IsAmong, AllOf, Start, Holdi
 use Rattle.law_connected.specs.Connected.{Open, open_after, open_from, Judges, evaluates, asks, GivenBack, BackWell, ComesWell, LineWell, ConnectedAfter, Connected, uses, itself}
 use Rattle.law_connected.specs.ConnectedLaws as laws
 use Rattle.law_connected.proofs.Knowing.{among_more, reaches_more, thing_more, knows_more, knows_later}
-use Rattle.law_connected.specs.Settlings.{IsResolver, IsCaused}
+use Rattle.law_connected.specs.Settlings.{IsResolver, IsCaused, Follows}
 use Rattle.law_connected.proofs.Causes.{Causes, CausedAfter, caused_rest, resolver_more, SameNames, causes_same, causes_block}
 use Rattle.law_connected.specs.Activations.{Rises}
 use Rattle.law_connected.specs.Told.{ReadTold, ReadsTold}
@@ -103,7 +103,7 @@ module _ {N W : Type 0} (K : Naming N W) (h later : Holdings N W) (grown : laws.
   comes_later same so (PromiseMade a p r) k = tt
   comes_later same so (ObjectMade a me x bs ys) k = tt
   comes_later same so (Sends a m) k = tt
-  comes_later same so (Reacts a x o m) k = tt
+  comes_later same so (Reacts a x o m) k = subst (λ z. Follows K z so o m.target) same k
   comes_later same so (Finished a v) k = tt
   comes_later same so (Threw a p) k = tt
   comes_later same so (Settles p y) k = subst (λ x. IsCaused K x so (Settles p y)) same k

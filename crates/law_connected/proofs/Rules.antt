@@ -126,17 +126,17 @@ module _ {N W : Type 0} (K : Naming N W) (E : Ground N W) (a : ℕ) where
       then_sends_lone act (record { id = id; target = x; verb = verb; args = args; answer = None }) (record { at = λ s c. i.at s c.0 }) (record { at = λ s c. g.at s c.0 }) (record { at = λ s c. h.at s c.0 })
       (fine_then K E a nothing (fine_idle K E a (idle_send_first K _ y p) (λ s d c. sends_first K E.start _ y p c.1 s d (λ q e. absurd (no_answer q e)))) (fine_give K E a Null (got_null K E a (Also C (IsPlaced y p))))))))
 
-  reacts_now : {B : Type 0} {C : Fact N} (x o : Value N) (m : Message N) (n : N) → m.answer ≡ Some n → {k : Act N B} {H : B → Fact N} → Gets K E a C (IsValue x) → Gets K E a C (IsValue o) → Fine K E a (Also C (IsValue (Ref n))) k H → Fine K E a C (tell (Reacts a x o m) >> k) H
+  reacts_now : {B : Type 0} {C : Fact N} (x o : Value N) (m : Message N) (n : N) → m.answer ≡ Some n → {k : Act N B} {H : B → Fact N} → Gets K E a C (IsValue x) → Gets K E a C (IsValue o) → Gets K E a C (Leads o m.target) → Fine K E a (Also C (IsValue (Ref n))) k H → Fine K E a C (tell (Reacts a x o m) >> k) H
   unfolding uses by tells known.answers open_after itself
-  reacts_now x o m n e g i h = then_line K E a (Reacts a x o m) refl refl refl (λ so. tt) (λ s. refl) (λ s q c. (uses_values K E a s [] (x ∷ o ∷ []) (g.at s c, (i.at s c, tt)), tt)) (λ s c. tt) (λ s c. is_told K E a s (Reacts a x o m) (AValue (Ref n)) (rw e (inl refl))) h
+  reacts_now x o m n e g i l h = then_line K E a (Reacts a x o m) refl refl refl (λ so. tt) (λ s. refl) (λ s q c. (uses_values K E a s [] (x ∷ o ∷ []) (g.at s c, (i.at s c, tt)), l.at s c)) (λ s c. tt) (λ s c. is_told K E a s (Reacts a x o m) (AValue (Ref n)) (rw e (inl refl))) h
 
-  then_reacts : {B : Type 0} {C : Fact N} (act : ℕ) (x o : Value N) (m : Message N) (n : N) → m.answer ≡ Some n → {k : Act N B} {H : B → Fact N} → Gets K E a C (IsAct act) → Gets K E a C (IsValue x) → Gets K E a C (IsValue o) → Fine K E a (Also C (IsValue (Ref n))) k H → Fine K E a C (tell (Reacts act x o m) >> k) H
-  then_reacts act x o m n e {k = k} i g j h = act_is K E a act (λ b. tell (Reacts b x o m) >> k) i (reacts_now x o m n e g j h)
+  then_reacts : {B : Type 0} {C : Fact N} (act : ℕ) (x o : Value N) (m : Message N) (n : N) → m.answer ≡ Some n → {k : Act N B} {H : B → Fact N} → Gets K E a C (IsAct act) → Gets K E a C (IsValue x) → Gets K E a C (IsValue o) → Gets K E a C (Leads o m.target) → Fine K E a (Also C (IsValue (Ref n))) k H → Fine K E a C (tell (Reacts act x o m) >> k) H
+  then_reacts act x o m n e {k = k} i g j l h = act_is K E a act (λ b. tell (Reacts b x o m) >> k) i (reacts_now x o m n e g j l h)
 
-  pub fine_react : {C : Fact N} (act : ℕ) → Gets K E a C (IsAct act) → (x : Value N) → Gets K E a C (IsValue x) → (o : Value N) → Gets K E a C (IsValue o) → (near : Value N) → Fine K E a C (refs.react K act x o near) IsValue
+  pub fine_react : {C : Fact N} (act : ℕ) → Gets K E a C (IsAct act) → (x : Value N) → Gets K E a C (IsValue x) → (o : Value N) → Gets K E a C (IsValue o) → (near : Value N) → Gets K E a C (Leads o near) → Fine K E a C (refs.react K act x o near) IsValue
   unfolding refs.react refs.reaction
-  fine_react {C = C} act i x g o h near = fine_less K E a nothing (fine_look K E a _) (λ v. fine_less K E a nothing (fine_steady K E a (idle_message K v) (steady_message K E.start v)) (λ new.
-      then_reacts act x o (refs.reaction K new.0 near x new.1) new.1 refl i g h
+  fine_react {C = C} act i x g o h near l = fine_less K E a nothing (fine_look K E a _) (λ v. fine_less K E a nothing (fine_steady K E a (idle_message K v) (steady_message K E.start v)) (λ new.
+      then_reacts act x o (refs.reaction K new.0 near x new.1) new.1 refl i g h l
       (fine_less K E a nothing (fine_look K E a _) (λ p. fine_then K E a nothing (fine_steady K E a (idle_react_at K _ p) (steady_react_at K E.start _ p)) (fine_give K E a (Ref new.1) (got K E a C (IsValue (Ref new.1))))))))
 
   -- ---- ejectors

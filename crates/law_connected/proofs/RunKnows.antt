@@ -325,9 +325,10 @@ module _ (script : Script) where
       (c.0, subst (λ xs. AllOf (λ y. Knows (names script v) (held_from c.0.step c.0.before c.0.after) c.0.so a (AValue y)) xs) (sym e) (k.0, tt))
 
   begotten : (w : World) → LinesConnected script w → (v : ℕ) (m : Message Name) → Stems w v m → Begotten script w v m
+  unfolding held_from
   begotten w c v m (stems.sent a x h l) = sent a x h l (sender_knew w v a (record m { target = x }) (c v _ h))
-  begotten w c v m (stems.reacted a x o t e h l) = reacted a x o t h l (reactor_knew w v a x o (record m { target = t }) (c v _ h) e)
-  begotten w c v m (stems.carried u n z ys s i j k l p q) = carried u n z ys (begotten w c u n s) i j k l p q
+  begotten w c v m (stems.reacted a x o t e h l) = reacted a x o t h (let k = c v _ h in (k.0, k.1.1)) l (reactor_knew w v a x o (record m { target = t }) (c v _ h) e)
+  begotten w c v m (stems.carried u n z ys b s i j k l p q) = carried u n z ys b (begotten w c u n s) i j k l p q
 
   pub opened_connected : (ps rest : List Program) (w : World) → script.vats ≡ ps ++ rest → world.open_from script zero ps (begins script) ≡ Goes w → LinesConnected script w
   opened_connected ps rest w s e = (opened_knows ps rest w s e).lines

@@ -6,8 +6,9 @@ use Rattle.def_machine.specs.Scopes.{any_guard}
 use Rattle.law_machine.specs.Steps.{Step, Opens as Starts, Takes, Receives, Notices, does}
 use Rattle.def_run.specs.World.{Script, Program, Entry, Opens, Turned, Carried, NoticedAt, name_at, tree_at, link_at, names_of, read_note, readied, open_vat, step as enter, Event, Link, World, Goes, names, events_of, begins, open_from, steps_from, run}
 use Rattle.law_connected.specs.Known.{AValue, AllOf, Knows}
+use Rattle.law_connected.specs.Settlings.{Follows}
 use Rattle.law_connected.specs.Connected.{LineWell, held_from}
-use Rattle.law_connected.specs.Stems.{LeadsTo, HasLine, HasList, ArgsPass, ComeAll}
+use Rattle.law_connected.specs.Stems.{LeadsTo, HasLine, HasList, HasCarried, ArgsPass, ComeAll}
 
 -- a world to which opening turns of the vats of the script, each of its own program, and entries lead
 pub data IsReached (script : Script) : World → Type 0 where
@@ -61,12 +62,16 @@ IsConnected script w v e = (l : LineOf script w v e) × LineWell (names script v
 abbrev pub Knew : Script → World → ℕ → ℕ → Happened Name → List (Value Name) → Type 0
 Knew script w v a e xs = (l : LineOf script w v e) × AllOf (λ x. Knows (names script v) (held_from l.step l.before l.after) l.so a (AValue x)) xs
 
+-- when it told the line the vat followed the first value to the second
+abbrev pub Followed : Script → World → ℕ → Happened Name → Value Name → Value Name → Type 0
+Followed script w v e x y = (l : LineOf script w v e) × Follows (names script v) (record { step = l.step; vat = l.before }) l.so x y
+
 -- A message at vat v: the activation that sent it there, or reacted there, knew each of its arguments, and a target that leads to that of the message; or a note brought it from vat u, where that is so,
 -- and each of its arguments stands for one that it had there.
 pub data Begotten (script : Script) (w : World) : ℕ → Message Name → Type 0 where
   sent : {v : ℕ} {m : Message Name} (a : ℕ) (x : Value Name) → HasLine w v (Sends a (record m { target = x })) → LeadsTo (HasLine w v) x m.target → Knew script w v a (Sends a (record m { target = x })) (x ∷ m.args) → Begotten script w v m
-  reacted : {v : ℕ} {m : Message Name} (a : ℕ) (x o t : Value Name) → HasLine w v (Reacts a x o (record m { target = t })) → LeadsTo (HasLine w v) t m.target → Knew script w v a (Reacts a x o (record m { target = t })) m.args → Begotten script w v m
-  carried : {v : ℕ} {m : Message Name} (u : ℕ) (n : Message Name) (z : Name) (ys : Passeds Name) → Begotten script w u n → n.id ≡ m.id → n.verb ≡ m.verb
+  reacted : {v : ℕ} {m : Message Name} (a : ℕ) (x o t : Value Name) → HasLine w v (Reacts a x o (record m { target = t })) → Followed script w v (Reacts a x o (record m { target = t })) o t → LeadsTo (HasLine w v) t m.target → Knew script w v a (Reacts a x o (record m { target = t })) m.args → Begotten script w v m
+  carried : {v : ℕ} {m : Message Name} (u : ℕ) (n : Message Name) (z : Name) (ys : Passeds Name) → HasCarried w u v m.id z m.verb ys → Begotten script w u n → n.id ≡ m.id → n.verb ≡ m.verb
       → LeadsTo (HasLine w u) n.target (Ref z) → LeadsTo (HasLine w v) (Ref z) m.target
       → ArgsPass w u n.args ys → ComeAll (HasList w v) ys m.args → Begotten script w v m
 

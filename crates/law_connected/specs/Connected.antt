@@ -3,7 +3,7 @@ use Rattle.std.specs.Prelude.{◌≡◌, ℕ, List, [], ◌∷◌, ◌++◌, Opt
 use Rattle.def_machine.specs.Values.{Words, Value, Null, Ref, Naming, Own}
 use Rattle.def_machine.specs.State.{Cell, Vat, Happened, Called, Back, Thrown, Left, Got, SlotMade, SlotRead, SlotWrote, ListMade, EjectorMade, AuditionMade, ObjectMade, Sends, Reacts, Finished, Settles, Waits, Views}
 use Rattle.law_machine.specs.Steps.{Step, Opens, Takes, Receives, Notices, does, After}
-use Rattle.law_connected.specs.Settlings.{SettlesWell, WaitsWell, ViewsBy}
+use Rattle.law_connected.specs.Settlings.{Follows, SettlesWell, WaitsWell, ViewsBy}
 use Rattle.law_connected.specs.Known.{Item, AValue, ASlot, IsAmong, AllOf, Holdings, parts_of_all, by, values, IsThing, Knows, opened_known}
 
 -- ---- what a line uses
@@ -93,6 +93,8 @@ module _ {N W : Type 0} (K : Naming N W) (h : Holdings N W) where
   ComesWell so (Got a v) = GotWell so a v
   -- the guard of a slot is known to who makes it
   ComesWell so (SlotMade a k v) = (c : Cell N) × (slice_get h.slots k ≡ Some c) × Knows K h so a (AValue c.guard)
+  -- what reacts is what the vat follows the value to that is to react
+  ComesWell so (Reacts a x o m) = Follows K h.start so o m.target
   -- what is told of a name has its cause
   ComesWell so (Settles p y) = SettlesWell K h.start so p y
   ComesWell so (Waits p q) = WaitsWell K h.start so p q
