@@ -22,7 +22,7 @@ use Rattle.law_connected.proofs.ArriveCauses.{arrives_well, notices_well}
 use Rattle.law_connected.specs.Activations.{Rises}
 use Rattle.law_connected.specs.News.{thing_made, slot_made, list_made, MadeNew, StepsMakeNew}
 use Rattle.law_connected.specs.UseLaws.{StepsConnect}
-use Rattle.law_connected.specs.Told.{ObjectsTold, SlotsTold, ReadsTold, StepsTell}
+use Rattle.law_connected.specs.Told.{ObjectsTold, SlotsTold, ReadsTold, ResolversTold, WaitsTold, StepsTell}
 use Rattle.law_connected.proofs.ArriveIdle.{idle_arrive, idle_notice}
 use Rattle.law_connected.proofs.Ground.{Ground, opens, with_line, opens_last, held, Has, Knew, Good, grows_same, makes_none, good_line, good_by}
 use Rattle.law_connected.proofs.Fine.{Fact, Nothing, Also, IsAct, IsValue, AreValues, IsScope, answer, nothing, Gets, Ends, Fine, passes_same, widen, fine_bind, fine_give, IsLine, ResolverOf, MayAsk, then_line, idle_ends}
@@ -242,11 +242,20 @@ module _ {N W : Type 0} (K : Naming N W) (spots : (i : ℕ) → K.spot (K.object
   good_connected step s (Ejects n v t) h = h.lines
   good_connected step s (Stops c t) h = h.lines
 
-  good_told : (step : Step N W) (s : Vat N) (d : Done N (Unit {0})) → After (λ r t. Good K (ground step s) t) s d → After (λ s t. ObjectsTold K s t × SlotsTold s t × ReadsTold s.slots [] t.happened) s d
-  good_told step s (Gives x t) h = (h.made, h.cells, h.reads)
-  good_told step s (Throws p t) h = (h.made, h.cells, h.reads)
-  good_told step s (Ejects n v t) h = (h.made, h.cells, h.reads)
-  good_told step s (Stops c t) h = (h.made, h.cells, h.reads)
+  member_has : {A : Type 0} (P : A → Type 0) (xs : List A) → AllOf P xs → (x : A) → IsAmong x xs → P x
+  member_has P [] h x m = absurd m
+  member_has P (y ∷ xs) h x (inl e) = subst P (sym e) h.0
+  member_has P (y ∷ xs) h x (inr m) = member_has P xs h.1 x m
+
+  waits_told : (step : Step N W) (s t : Vat N) → Good K (ground step s) t → WaitsTold K s t
+  waits_told step s t h k p m n = let E : Start N W = record { step = step; vat = s } in
+      member_has (λ q. WaitTold K E t.happened k.name q) k.waiting (member_has (EntryTold K E t.happened) t.known h.causes.entries k m).0 p n
+
+  good_told : (step : Step N W) (s : Vat N) (d : Done N (Unit {0})) → After (λ r t. Good K (ground step s) t) s d → After (λ s t. ObjectsTold K s t × SlotsTold s t × ReadsTold s.slots [] t.happened × ResolversTold K s t × WaitsTold K s t) s d
+  good_told step s (Gives x t) h = (h.made, h.cells, h.reads, h.resolvers, waits_told step s t h)
+  good_told step s (Throws p t) h = (h.made, h.cells, h.reads, h.resolvers, waits_told step s t h)
+  good_told step s (Ejects n v t) h = (h.made, h.cells, h.reads, h.resolvers, waits_told step s t h)
+  good_told step s (Stops c t) h = (h.made, h.cells, h.reads, h.resolvers, waits_told step s t h)
 
   good_new : (step : Step N W) (s : Vat N) (d : Done N (Unit {0})) → After (λ r t. Good K (ground step s) t) s d → After (MadeNew K) s d
   good_new step s (Gives x t) h = (h.things_rise, h.slots_rise, h.lists_rise)
