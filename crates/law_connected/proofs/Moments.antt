@@ -9,6 +9,7 @@ use Rattle.law_machine.specs.Steps.{Step, Opens, Takes, Receives, Notices}
 use Rattle.def_run.specs.World.{World}
 use Rattle.law_connected.specs.Known.{IsAmong, AllOf}
 use Rattle.law_connected.specs.Stems.{LeadsTo, PassesAs, PassAll, HasLine, Stems}
+use Rattle.law_connected.specs.MessageLaws.{IsToldStanding}
 use Rattle.law_connected.proofs.Passing.{Kept, kept_all, leads_map, all_map, pass_all_map, passes_map}
 
 -- a step of a vat from a world
@@ -62,12 +63,8 @@ module _ (list lists : ℕ → List (Value Name) → Type 0) (g : (k : ℕ) (vs 
 
 -- ---- in a step
 
-module _ (line : Happened Name → Type 0) where
-  abbrev pub StandTold : Name → Standing Name → Type 0
-  StandTold n Unsettled = Unit {0}
-  StandTold n (WaitsOn q) = Unit {0}
-  StandTold n (Viewed q) = line (Views n q)
-  StandTold n (Settled y) = line (Settles n y)
+abbrev pub StandTold : (Happened Name → Type 0) → Name → Standing Name → Type 0
+StandTold = IsToldStanding
 
 pub stand_map : (line more : Happened Name → Type 0) → Kept line more → (n : Name) (x : Standing Name) → StandTold line n x → StandTold more n x
 stand_map line more f n Unsettled h = tt

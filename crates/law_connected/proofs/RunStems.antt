@@ -443,6 +443,7 @@ all_stem : (w : World) → WorldStems w → AllStem w
 all_stem w h = record {
   queues = h.queues;
   names = λ v s e. all_map (KnownStems w v) (λ (k : Known Name). AllOf (Stems w v) k.held × AllOf (Stems w v) k.reactions) (λ k i. (i.0, i.1)) s.known (h.names v s e);
+  standings = λ v s e. all_map (KnownStems w v) (λ (k : Known Name). StandTold (HasLine w v) k.name k.standing) (λ k i. i.2) s.known (h.names v s e);
   links = h.links;
   taken = h.taken;
 }
