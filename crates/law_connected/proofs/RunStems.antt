@@ -1,7 +1,7 @@
 -- In every world of a run each message stems from what was sent.
 use Rattle.std.proofs.Common.{◌≡◌, ℕ, zero, suc, Bool, true, false, List, [], ◌∷◌, ◌++◌, Option, Some, None, refl, sym, ◌∙◌, subst, map, ◌⊎◌, inl, inr, ◌==◌}
 use Rattle.std.specs.Prelude.{slice_get}
-use Rattle.def_machine.specs.Values.{Value, Null, Flag, Number, Letter, Text, Prim, Broken, Items, Ref, Name, Root, host_of}
+use Rattle.def_machine.specs.Values.{Value, Null, Flag, Number, Letter, Text, Prim, Broken, Items, Ref, Name, Root, Object, host_of}
 use Rattle.def_machine.specs.State.{Message, Known, Passed, Passeds, Plain, AGift, Many, NoMore, More, Note, Deliver, Open, Ask, SettledTo, Elsewhere, Shorten, Put, Happened, Took, Settles, Views, Vat, Done, Gives, Throws, Ejects, Stops, begun}
 use Rattle.def_machine.specs.Arrive.{Old, New, notice}
 use Rattle.def_machine.specs.Eval.{opening}
@@ -14,7 +14,7 @@ use Rattle.law_fate.specs.FateRuns.{Reached}
 use Rattle.law_fate.proofs.RunCounts.{pick}
 use Rattle.law_connected.specs.Stems.{LeadsTo, itself, HasLine, HasList, HasOpened, ArgsPass, ComesAs, ComeAll, Stems, sent, reacted, carried}
 use Rattle.law_connected.specs.MessageLaws.{NoteStems, AllStem, MessagesStemFromSends}
-use Rattle.law_connected.proofs.Passing.{Kept, kept_all, leads_map, leads_on, all_map, all_end, pass_all_map, come_all_map}
+use Rattle.law_connected.proofs.Passing.{Kept, kept_all, leads_map, leads_on, all_map, all_end, passes_map, pass_all_map, come_all_map}
 use Rattle.law_connected.proofs.Moments.{Past, Line, Members, Offers, Later, StandTold, stand_map, IsTaken, TookFine, Came, Source, Fine, NoteFine, KnownFine, PassingAll, Good, Ends, Brings, LearntAs, LearntAll, name_in, value_in}
 use Rattle.law_connected.proofs.ArriveBring.{brings_arrive, brings_notice}
 use Rattle.law_connected.proofs.EvalBring.{brings_opening, brings_taking}
@@ -44,8 +44,8 @@ module _ (w x : World) (g : Grows w x) where
   note_grow u (Deliver i n verb ys) h = (h.0, stems_grow u h.0 h.1, h.2, h.3, leads_grow u h.0.target (Ref n) h.4, args_grow u h.0.args ys h.5)
   note_grow u (Open i n) h = tt
   note_grow u (Ask p i n) h = tt
-  note_grow u (SettledTo n y) h = tt
-  note_grow u (Elsewhere n c) h = tt
+  note_grow u (SettledTo n y) h = passes_map (HasLine w u) (HasLine x u) (kept_all (HasLine w u) (HasLine x u) (λ e i. g.0 (Here u e) i)) (HasList w u) (HasList x u) (g.1 u) (HasOpened w u) (HasOpened x u) (g.2 u) (Ref n) y h
+  note_grow u (Elsewhere n c) h = (h.0, leads_grow u (Ref n) (Ref (Object c h.0)) h.1)
   note_grow u (Shorten n c i) h = tt
 
 -- a target may be followed
@@ -225,8 +225,8 @@ module _ (v : ℕ) (w : World) (head : List Event) (s r t : Vat Name) (step : St
     next_note (Deliver i n verb ys) h = (h.0, next_stems h.0 h.1, h.2, h.3, leads_map (Line Before t) (HasLine Next v) kept_lines h.0.target (Ref n) h.4, next_pass h.0.args ys h.5)
     next_note (Open i n) h = tt
     next_note (Ask p i n) h = tt
-    next_note (SettledTo n y) h = tt
-    next_note (Elsewhere n c) h = tt
+    next_note (SettledTo n y) h = passes_map (Line Before t) (HasLine Next v) kept_lines (Members t) (HasList Next v) next_list (Offers t) (HasOpened Next v) next_opened (Ref n) y h
+    next_note (Elsewhere n c) h = (h.0, leads_map (Line Before t) (HasLine Next v) kept_lines (Ref n) (Ref (Object c h.0)) h.1)
     next_note (Shorten n c i) h = tt
 
     next_known : (k : Known Name) → KnownFine Before t k → KnownStems Next v k

@@ -1,19 +1,20 @@
 -- In every world of a run each message stems from what was sent.
 use Rattle.std.specs.Prelude.{◌≡◌, ℕ, Some, slice_get}
-use Rattle.def_machine.specs.Values.{Name, Ref}
+use Rattle.def_machine.specs.Values.{Name, Object, Ref}
 use Rattle.def_machine.specs.State.{Message, Known, Standing, Unsettled, WaitsOn, Viewed, Settled, Happened, Settles, Views, Note, Deliver, Open, Ask, SettledTo, Elsewhere, Shorten, Took, Vat}
 use Rattle.def_run.specs.World.{Link, Here, World}
 use Rattle.law_connected.specs.Known.{IsAmong, AllOf}
 use Rattle.law_fate.specs.FateRuns.{InRuns}
-use Rattle.law_connected.specs.Stems.{LeadsTo, HasLine, ArgsPass, Stems}
+use Rattle.law_connected.specs.Stems.{LeadsTo, PassesAs, HasLine, HasList, HasOpened, ArgsPass, Stems}
 
--- a deliver note from vat u: its message is one there, and its arguments stand for those
+-- A note from vat u: the message of a deliver note is one there, and its arguments stand for those. What it tells of a name is what the name leads to there.
 abbrev pub NoteStems : World → ℕ → Note Name → Type 0
 NoteStems w u (Deliver i n verb ys) = (m : Message Name) × Stems w u m × (m.id ≡ i.message) × (m.verb ≡ verb) × LeadsTo (HasLine w u) m.target (Ref n) × ArgsPass w u m.args ys
 NoteStems w u (Open i n) = Unit {0}
 NoteStems w u (Ask p i n) = Unit {0}
-NoteStems w u (SettledTo n y) = Unit {0}
-NoteStems w u (Elsewhere n c) = Unit {0}
+-- it tells what the name passes as, or that the name leads to an object of vat c
+NoteStems w u (SettledTo n y) = PassesAs (HasLine w u) (HasList w u) (HasOpened w u) (Ref n) y
+NoteStems w u (Elsewhere n c) = (i : ℕ) × LeadsTo (HasLine w u) (Ref n) (Ref (Object c i))
 NoteStems w u (Shorten n c i) = Unit {0}
 
 -- a standing of a name that these lines tell

@@ -7,7 +7,9 @@ ghost use Rattle.law_connected.specs.Begotten.{HistoriesAreConnected, OnlyConnec
 /// message that was taken, was sent: by a line of that vat with the same name, verb, arguments and
 /// answer, on a target that leads to that of the message by what names settled to and their views, or by one of another vat from where deliver notes brought it, each time with the same name
 /// and verb, by a note that was carried, and with arguments that stand for those that it had. The same is so of each deliver note
-/// under way. To what a name settled and as what it is viewed, its vat told by a line.
+/// under way. To what a name settled and as what it is viewed, its vat told by a line; and what a note
+/// under way tells of a name is what the name leads to at its sender: it passes as that, or leads to an
+/// object of the vat at which the note says that it is.
 pub fn messages_stem_from_sends()
     ensures { MessagesStemFromSends }
 {}
