@@ -7,7 +7,7 @@ use Rattle.def_machine.specs.Arrive.{Old, New, notice}
 use Rattle.def_machine.specs.Eval.{opening}
 use Rattle.law_machine.specs.Steps.{Step, Opens as Starts, Takes, Receives, Notices, does}
 use Rattle.def_run.specs.World as world
-use Rattle.def_run.specs.World.{Script, Program, Opens, Entry, Turn, Carry, CutLink, NoticeLink, Event, Here, Turned, Idle, Carried, CutAt, NoticedAt, Link, World, Run, Goes, Stopped, names, names_of, read_note, begins}
+use Rattle.def_run.specs.World.{Script, Program, Opens, Entry, Turn, Carry, CutLink, NoticeLink, Event, Here, Turned, Idle, Carried, CutAt, NoticedAt, Ends as IsEnd, Link, World, Run, Goes, Stopped, names, names_of, read_note, begins}
 use Rattle.law_connected.specs.Known.{IsAmong, AllOf}
 use Rattle.law_connected.proofs.FineSteps.{among_left, among_right}
 use Rattle.law_fate.specs.FateRuns.{Reached}
@@ -19,7 +19,8 @@ use Rattle.law_connected.proofs.Moments.{Past, Line, Members, Offers, Later, Sta
 use Rattle.law_connected.proofs.ArriveBring.{brings_arrive, brings_notice}
 use Rattle.law_connected.proofs.EvalBring.{brings_opening, brings_taking}
 use Rattle.law_connected.proofs.Links.{OpenedIn, opened_with, push_opened, push_puts, with_link_all, found_link, link_from}
-use Rattle.law_connected.proofs.Events.{all_at, among_either, here_event, events_here, IsNobodys, nobodys_join, lost_on_nobodys}
+use Rattle.law_connected.proofs.Idle.{joined as ends_joined}
+use Rattle.law_connected.proofs.Events.{all_at, among_either, here_event, events_here, IsNobodys, nobodys_join, lost_on_nobodys, vats_nobodys, links_nobodys}
 
 -- ---- a world that has all that another has to show
 
@@ -457,3 +458,17 @@ messages_stem script = (
   λ ps. reached_all _ (opens_stems script zero ps (begins script) (begins_stems script)),
   λ w es k e. reached_all _ (steps_stems script es k w (goes_stems (world.open_from script zero script.vats (begins script)) w e (opens_stems script zero script.vats (begins script) (begins_stems script)))),
 )
+
+module _ (script : Script) where
+  -- the closing list behind it
+  close_stems : (w : World) → WorldStems w → Reached WorldStems (world.close script w)
+  unfolding world.close
+  close_stems w h = let vats : List Event = world.left_vats script w.vats in let links : List Event = world.left_links script w.links in let es : List Event = vats ++ (links ++ IsEnd ∷ []) in
+      subst (λ hs. WorldStems (record w { history = hs })) (sym (ends_joined (w.history ++ vats) links (IsEnd ∷ []) ∙ ends_joined w.history vats (links ++ IsEnd ∷ [])))
+      (moved_stems w w.links es (λ v a i n o. o) (λ f i. all_map (LinkStems w) (LinkStems (record w { history = w.history ++ es })) f w.links i)
+      (nobodys_join vats (links ++ IsEnd ∷ []) (vats_nobodys script w.vats) (nobodys_join links (IsEnd ∷ []) (links_nobodys script w.links) (one_line IsEnd (λ u e i. cc)))) h)
+
+  pub ended_stem : (w : World) → world.run script ≡ Goes w → AllStem w
+  unfolding world.run
+  ended_stem w e = all_stem w (goes_stems _ w e (then_stems script (world.open_from script zero script.vats (begins script)) _ (opens_stems script zero script.vats (begins script) (begins_stems script))
+      (λ y h. then_stems script (world.steps_from script script.schedule 1 y) (world.close script) (steps_stems script script.schedule 1 y h) (λ z k. close_stems z k))))
