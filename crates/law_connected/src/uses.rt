@@ -21,7 +21,8 @@ pub fn runs_are_connected()
 {}
 
 /// After every step of a vat each object was there before it, or a line of the step tells with which
-/// captures and stamps it was made; what is in a var slot was in it before, or a line tells that an
+/// captures and stamps it was made, and each resolver, with which promise; what waits on a name did so
+/// before, or a line tells it; what is in a var slot was in it before, or a line tells that an
 /// activation put it there; and what a line says was read from a slot was in it before the step, or
 /// a line before it tells that. It asks what `steps_are_connected` asks.
 pub fn steps_tell_what_they_make()
@@ -29,7 +30,8 @@ pub fn steps_tell_what_they_make()
 {}
 
 /// In every world of every run the history tells with which captures and stamps each object was
-/// made, and that an activation of its vat put in each var slot what is in it.
+/// made, with which promise each resolver, that an activation of its vat put in each var slot what is
+/// in it, and that what waits on a name waits on it or is viewed as it.
 pub fn runs_tell_what_is_held()
     ensures { RunsTellWhatIsHeld }
 {}
