@@ -33,3 +33,4 @@ pub mod OrderSendKeeping
 pub mod Sent
 pub mod Brought
 pub mod Given
+pub mod Messages

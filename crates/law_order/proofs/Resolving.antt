@@ -15,7 +15,7 @@ use Rattle.law_order.proofs.Named.{same_is, false_true}
 use Rattle.law_order.proofs.Whole.{kept_adds, kept_then, line_adds, none_more, settlings_keep}
 use Rattle.law_order.proofs.Loose.{waiting_keeps}
 
-reference_is : (a b : Name) → same_reference a b ≡ true → a ≡ b
+pub reference_is : (a b : Name) → same_reference a b ≡ true → a ≡ b
 unfolding same_reference
 reference_is (Root w) b e = same_is (Root w) b e
 reference_is (Object w i) b e = same_is (Object w i) b e
