@@ -34,3 +34,4 @@ pub mod Sent
 pub mod Brought
 pub mod Given
 pub mod Messages
+pub mod Comings

@@ -12,3 +12,4 @@ pub mod Resolve
 pub mod Arrivals
 pub mod Steps
 pub mod OrderSendPassing
+pub mod Comings

@@ -1,5 +1,6 @@
 //! The place of each message.
 
+ghost use Rattle.law_order.specs.Comings.{CarriedComeLast, SendsComeLast};
 ghost use Rattle.law_order.specs.Example.{MessagesAreFound};
 ghost use Rattle.law_order.specs.Messages.{ComersAreBehind, GoneOnIsBehind, LostIsNowhere, PlacesAreFound, PlacesAreOne};
 
@@ -39,4 +40,22 @@ pub fn lost_is_nowhere()
 #[tactic(auto, unfolding(crate::specs::Example::opened_example))]
 pub fn messages_are_found()
     ensures { MessagesAreFound }
+{}
+
+/// By a whole send, with an answer or without, the new message comes to stand last where the reference led: in the
+/// queue, in what a name holds, or on a link. All that was ahead of the reference is ahead of it; or the link
+/// is cut, and what is sent there is doomed.
+///
+/// It asks what `sends_are_ahead` asks.
+pub fn sends_come_last()
+    ensures { SendsComeLast }
+{}
+
+/// A message that arrives for an object of its receiver, or for a promise of the receiver's own that waits, leaves
+/// the front of its link and comes to stand last where it is sent on. What was ahead of it on the link, and
+/// what was ahead of the end to which it came, is ahead of it there.
+///
+/// It asks what `carried_messages_go_on` asks.
+pub fn carried_come_last()
+    ensures { CarriedComeLast }
 {}
