@@ -1,6 +1,6 @@
 -- A message that is sent, and one that arrives, comes to stand last.
 use Rattle.std.proofs.Common.{◌≡◌, ℕ, zero, suc, ◌-◌, Bool, true, false, List, [], ◌∷◌, ◌++◌, Option, Some, None, length, refl, sym, ap, subst, ◌∙◌, ◌⊎◌, inl, inr}
-use Rattle.std.specs.Prelude.{slice_get, is_some, ◌&&◌}
+use Rattle.std.specs.Prelude.{slice_get, ◌&&◌}
 use Rattle.def_machine.specs.Values.{Words, Value, Null, Flag, Number, Letter, Text, Prim, Broken, Items, Ref, Name, Answer, Sent, Naming, naming, name_of, mail_of, answer_of, key}
 use Rattle.def_machine.specs.State.{Message, Standing, Unsettled, WaitsOn, Viewed, Settled, Known, Hold, Change, Passed, Passeds, Plain, AGift, Many, NoMore, More, Delivery, Note, Deliver, Open, Ask, SettledTo, Elsewhere, Shorten, Put, Vat, Done, Gives, Throws, Ejects, Stops, Act, Posted, Sends, ◌>>=◌, ◌>>◌, and_then, give, look, tell, send_out, new_message, new_lone_message, draw, draws, drawn_at, alter, ToTell, begun}
 use Rattle.def_machine.specs.State as state
@@ -15,11 +15,12 @@ use Rattle.law_order.specs.Places as places
 use Rattle.law_order.specs.Places.{item, queued, held_on, held_in, delivered, is_honest, aimed, stands_at, over, onward_at, ways_of, ways, amid}
 use Rattle.law_order.specs.Changes.{Grows, GoesOneWay}
 use Rattle.law_order.specs.Worlds.{IfGives, IsWaiting}
-use Rattle.law_order.specs.Steps.{StaysReady, WaysAmid, LeadsAmid, Ready, IsHeld}
+use Rattle.law_order.specs.Steps.{StaysReady, LeadsAmid, Ready, IsHeld}
 use Rattle.law_order.specs.Arrivals.{keeping, GoesTo, IsHere}
 use Rattle.law_order.specs.Comings.{ComesLast, ComesBehind, MovesLast, SendsComeLast, CarriedComeLast}
-use Rattle.law_order.proofs.Sends.{none_some, some_same, pushed_shut, pushed_open, pushed_ends, link_here, link_behind, push_last, get_put, found_ends, held_by, entry_changed, if_map}
-use Rattle.law_order.proofs.Moves.{Keeps, IsKept, keeps_bind, keeps_then, keeps_look, keeps_give, keeps_tell, keeps_spend, keeps_if}
+use Rattle.law_order.proofs.Sends.{pushed_shut, pushed_open, pushed_ends, link_here, link_behind, push_last, found_ends, held_by, entry_changed, if_map}
+use Rattle.law_order.proofs.Standing.{queued_end, queue_is, held_is, open_quiet, OnLink, Row, row_still}
+use Rattle.law_order.proofs.Moves.{Keeps, IsKept, keeps_bind, keeps_then, keeps_look, keeps_give, keeps_spend, keeps_if}
 use Rattle.law_order.proofs.Messages.{comers_are_behind, gone_on_is_behind}
 use Rattle.law_order.proofs.Arrived.{carried_messages_go_on}
 use Rattle.law_order.proofs.Coming.{old_entry}
@@ -27,25 +28,6 @@ use Rattle.law_order.proofs.Sent.{leads_there, mine_waits}
 use Rattle.law_order.proofs.Sendings.{stays_send, stays_send_only}
 
 -- ---- lists that grow at their end
-
-queued_by : (x : Value Name) (m : Name) (js : List Item) (i : Item) → elim x [ Ref n ↦ item m n ∷ (js ++ i ∷ []) | _ ↦ js ++ i ∷ [] ] ≡ (elim x [ Ref n ↦ item m n ∷ js | _ ↦ js ]) ++ i ∷ []
-queued_by (Ref n) m js i = refl
-queued_by Null m js i = refl
-queued_by (Flag b) m js i = refl
-queued_by (Number z) m js i = refl
-queued_by (Letter c) m js i = refl
-queued_by (Text t) m js i = refl
-queued_by (Prim k) m js i = refl
-queued_by (Broken p) m js i = refl
-queued_by (Items k) m js i = refl
-
-abbrev Queueing : Value Name → Name → List Item → List Item
-Queueing x m js = elim x [ Ref n ↦ item m n ∷ js | _ ↦ js ]
-
-pub queued_end : (q : List (Message Name)) (m : Message Name) (n : Name) → m.target ≡ Ref n → queued (q ++ m ∷ []) ≡ queued q ++ item m.id n ∷ []
-unfolding queued
-queued_end [] m n e = ap (λ t. Queueing t m.id []) e
-queued_end (o ∷ q) m n e = ap (λ js. Queueing o.target o.id js) (queued_end q m n e) ∙ queued_by o.target o.id (queued q) (item m.id n)
 
 pub held_end : (n : Name) (q : List (Message Name)) (m : Message Name) → held_on n (q ++ m ∷ []) ≡ held_on n q ++ item m.id n ∷ []
 unfolding held_on
@@ -62,43 +44,9 @@ delivered_end (SettledTo a y ∷ ns) m n verb ys = delivered_end ns m n verb ys
 delivered_end (Elsewhere a c ∷ ns) m n verb ys = delivered_end ns m n verb ys
 delivered_end (Shorten a c i ∷ ns) m n verb ys = delivered_end ns m n verb ys
 
-opened_end : (ns : List (Note Name)) (i : ℕ) (n : Name) → delivered (ns ++ Open i n ∷ []) ≡ delivered ns
-unfolding delivered
-opened_end [] i n = refl
-opened_end (Deliver a b c d ∷ ns) i n = ap (λ js. item a.message b ∷ js) (opened_end ns i n)
-opened_end (Open j a ∷ ns) i n = opened_end ns i n
-opened_end (Ask p j a ∷ ns) i n = opened_end ns i n
-opened_end (SettledTo a y ∷ ns) i n = opened_end ns i n
-opened_end (Elsewhere a c ∷ ns) i n = opened_end ns i n
-opened_end (Shorten a c j ∷ ns) i n = opened_end ns i n
-
 -- ---- what stands on a link
 
 module _ (script : Script) (honest : ℕ → Bool) where
-  abbrev OnLink : Link → List Item
-  OnLink l = elim (is_honest script honest l) [ true ↦ delivered l.notes | false ↦ [] ]
-
-  abbrev Row : Option Link → List Item
-  Row o = elim o [ Some l ↦ OnLink l | None ↦ [] ]
-
-  -- a note that lets a gift go delivers nothing
-  open_still : (i : ℕ) (n : Name) (l : Link) (b : Bool) → l.cut ≡ b → OnLink (world.pushed (Open i n) l) ≡ OnLink l
-  unfolding is_honest
-  open_still i n l true e = ap (λ k. OnLink k) (pushed_shut (Open i n) l e)
-  open_still i n l false e = ap (λ k. OnLink k) (pushed_open (Open i n) l e) ∙ ap (λ js. elim (honest l.from && honest l.to) [ true ↦ js | false ↦ [] ]) (opened_end l.notes i n)
-
-  row_still : (a b v h i : ℕ) (n : Name) (ls : List Link) → Row (world.link_at a b (world.with_link (world.pushed (Open i n)) v h ls)) ≡ Row (world.link_at a b ls)
-  unfolding world.with_link world.link_at
-  row_still a b v h i n [] = refl
-  row_still a b v h i n (k ∷ ls) = go (row_still a b v h i n ls) (world.is_link a b k) (world.is_link v h k) refl
-    where
-      go : Row (world.link_at a b (world.with_link (world.pushed (Open i n)) v h ls)) ≡ Row (world.link_at a b ls) → (c d : Bool) → world.is_link a b k ≡ c
-          → Row (world.link_at a b (elim d [ true ↦ world.pushed (Open i n) k ∷ ls | false ↦ k ∷ world.with_link (world.pushed (Open i n)) v h ls ])) ≡ Row (elim c [ true ↦ Some k | false ↦ world.link_at a b ls ])
-      go f true true e = ap (λ o. Row o) (link_here a b (world.pushed (Open i n) k) ls (pushed_ends k.cut (Open i n) k a b refl ∙ e)) ∙ open_still i n k k.cut refl
-      go f true false e = ap (λ o. Row o) (link_here a b k (world.with_link (world.pushed (Open i n)) v h ls) e)
-      go f false true e = ap (λ o. Row o) (link_behind a b (world.pushed (Open i n) k) ls (pushed_ends k.cut (Open i n) k a b refl ∙ e))
-      go f false false e = ap (λ o. Row o) (link_behind a b k (world.with_link (world.pushed (Open i n)) v h ls) e) ∙ f
-
   -- the link on which a note is put
   abbrev Then : (Link → Link) → Option Link → Option Link
   Then f (Some l) = Some (f l)
@@ -145,32 +93,32 @@ module _ (script : Script) (honest : ℕ → Bool) where
 
     -- it stands last there, or the link is cut or is not there
     abbrev IsLast : List Link → Type 0
-    IsLast ls = (Row (At (Next ls)) ≡ Row (At ls) ++ I ∷ []) ⊎ ((Row (At (Next ls)) ≡ Row (At ls)) × IsShut (At (Next ls)))
+    IsLast ls = (Row script honest (At (Next ls)) ≡ Row script honest (At ls) ++ I ∷ []) ⊎ ((Row script honest (At (Next ls)) ≡ Row script honest (At ls)) × IsShut (At (Next ls)))
 
     ends_still : (l : Link) → world.is_link v h (world.pushed D l) ≡ world.is_link v h l
     ends_still l = pushed_ends l.cut D l v h refl
 
-    row_open : (l : Link) → l.cut ≡ false → is_honest script honest l ≡ true → OnLink (world.pushed D l) ≡ OnLink l ++ I ∷ []
+    row_open : (l : Link) → l.cut ≡ false → is_honest script honest l ≡ true → OnLink script honest (world.pushed D l) ≡ OnLink script honest l ++ I ∷ []
     unfolding is_honest
     row_open l c q =
-        ap (λ k. OnLink k) (pushed_open D l c)
+        ap (λ k. OnLink script honest k) (pushed_open D l c)
         ∙ ap (λ t. elim t [ true ↦ delivered (l.notes ++ D ∷ []) | false ↦ [] ]) q
         ∙ delivered_end l.notes m n verb ys
         ∙ ap (λ t. (elim t [ true ↦ delivered l.notes | false ↦ [] ]) ++ I ∷ []) (sym q)
 
-    shut_still : (l : Link) → l.cut ≡ true → is_honest script honest l ≡ true → (OnLink (world.pushed D l) ≡ OnLink l) × IsShut (Some (world.pushed D l))
+    shut_still : (l : Link) → l.cut ≡ true → is_honest script honest l ≡ true → (OnLink script honest (world.pushed D l) ≡ OnLink script honest l) × IsShut (Some (world.pushed D l))
     unfolding is_honest
-    shut_still l c q = let e = pushed_shut D l c in (ap (λ k. OnLink k) e, (ap (λ k. k.cut) e ∙ c, ap (λ k. honest k.from && honest k.to) e ∙ q))
+    shut_still l c q = let e = pushed_shut D l c in (ap (λ k. OnLink script honest k) e, (ap (λ k. k.cut) e ∙ c, ap (λ k. honest k.from && honest k.to) e ∙ q))
 
     last_some : (ls : List Link) (l : Link) (b : Bool) → At ls ≡ Some l → l.cut ≡ b → IsLast ls
     last_some ls l false e c = let f = found_ends v h ls l e in let p = put_on (world.pushed D) v h (λ k. ends_still k) ls (Some l) e in
-        inl (ap (λ o. Row o) p ∙ row_open l c (both_honest l f.0 f.1) ∙ ap (λ o. Row o ++ I ∷ []) (sym e))
+        inl (ap (λ o. Row script honest o) p ∙ row_open l c (both_honest l f.0 f.1) ∙ ap (λ o. Row script honest o ++ I ∷ []) (sym e))
     last_some ls l true e c = let f = found_ends v h ls l e in let p = put_on (world.pushed D) v h (λ k. ends_still k) ls (Some l) e in let q = shut_still l c (both_honest l f.0 f.1) in
-        inr (ap (λ o. Row o) p ∙ q.0 ∙ ap (λ o. Row o) (sym e), subst IsShut (sym p) q.1)
+        inr (ap (λ o. Row script honest o) p ∙ q.0 ∙ ap (λ o. Row script honest o) (sym e), subst IsShut (sym p) q.1)
 
     last_none : (ls : List Link) → At ls ≡ None → IsLast ls
     last_none ls e = let p = put_on (world.pushed D) v h (λ k. ends_still k) ls None e in
-        inr (ap (λ o. Row o) p ∙ ap (λ o. Row o) (sym e), subst IsShut (sym p) tt)
+        inr (ap (λ o. Row script honest o) p ∙ ap (λ o. Row script honest o) (sym e), subst IsShut (sym p) tt)
 
     last_by : (ls : List Link) (o : Option Link) → At ls ≡ o → IsLast ls
     last_by ls (Some l) e = last_some ls l l.cut e refl
@@ -217,7 +165,7 @@ module _ (script : Script) (honest : ℕ → Bool) (w : World) (v : ℕ) where
 
     open_put : (h i : ℕ) (n : Name) (word : ℕ) (s : Vat Name) → R s (record s { drawn = s.drawn ++ word ∷ []; outbox = s.outbox ++ record { to = h; note = Open i n } ∷ [] })
     unfolding ways ways_of stands_at amid
-    open_put h i n word s = record { same = ap (λ ls. Row script honest (world.link_at a b ls)) (push_last v s.outbox (record { to = h; note = Open i n }) w.links) ∙ row_still script honest a b v h i n (world.push_all v s.outbox w.links) }
+    open_put h i n word s = record { same = ap (λ ls. Row script honest (world.link_at a b ls)) (push_last v s.outbox (record { to = h; note = Open i n }) w.links) ∙ row_still script honest a b v h (Open i n) (open_quiet i n) (world.push_all v s.outbox w.links) }
 
     still_gift : (h : ℕ) (n : Name) → Keeps {N = Name} {A = Passed Name} R (draw K >>= (λ i. send_out h (Open i n) >> give (AGift h i)))
     unfolding draw ◌>>=◌ ◌>>◌ and_then send_out give draws
@@ -285,14 +233,6 @@ module _ (script : Script) (honest : ℕ → Bool) (w : World) (v : ℕ) (r : Va
   abbrev U : Vat Name → Ways
   U s = ways script honest (amid v s w)
 
-  pub queue_is : (t : Vat Name) → (U t).stands (Queue v) ≡ queued t.queue
-  unfolding ways ways_of stands_at amid
-  queue_is t = ap (λ o. elim o [ Some s ↦ queued s.queue | None ↦ [] ]) (get_put w.vats v r t at)
-
-  pub held_is : (t : Vat Name) (n : Name) (k : Known Name) → refs.entry_of N t.known n ≡ Some k → (U t).stands (Held v n) ≡ held_on n k.held
-  unfolding ways ways_of stands_at amid held_in
-  held_is t n k e = ap (λ o. elim o [ Some s ↦ held_in n (refs.entry_of N s.known n) | None ↦ [] ]) (get_put w.vats v r t at) ∙ ap (λ o. held_in n o) e
-
   module _ (s q : Vat Name) (m : Message Name) (queue : q.queue ≡ s.queue) (outbox : q.outbox ≡ s.outbox) (entries : (n : Name) (k : Known Name) → refs.entry_of N s.known n ≡ Some k → refs.entry_of N q.known n ≡ Some k) where
     abbrev Last : Value Name → Place Name → Vat Name → Type 0
     Last y p t = ComesLast (U s) (U t) m.id (aimed v y p)
@@ -300,7 +240,7 @@ module _ (script : Script) (honest : ℕ → Bool) (w : World) (v : ℕ) (r : Va
     near_last : (y : Value Name) → IfGives (Last y Near) (state.enqueue (record m { target = y }) q)
     unfolding state.enqueue aimed
     near_last (Ref n) = let x : Message Name = record m { target = Ref n } in
-        inl (queue_is (record q { queue = q.queue ++ x ∷ [] }) ∙ queued_end q.queue x n refl ∙ ap (λ ms. queued ms ++ item m.id n ∷ []) queue ∙ ap (λ js. js ++ item m.id n ∷ []) (sym (queue_is s)))
+        inl (queue_is script honest w v r at (record q { queue = q.queue ++ x ∷ [] }) ∙ queued_end q.queue x n refl ∙ ap (λ ms. queued ms ++ item m.id n ∷ []) queue ∙ ap (λ js. js ++ item m.id n ∷ []) (sym (queue_is script honest w v r at s)))
     near_last Null = tt
     near_last (Flag b) = tt
     near_last (Number z) = tt
@@ -319,8 +259,8 @@ module _ (script : Script) (honest : ℕ → Bool) (w : World) (v : ℕ) (r : Va
         let k = h.0 in
         let x : Message Name = record m { target = y } in
         let c : Change Name = Hold x in
-        inl (held_is (record q { known = state.with_change N c n q.known }) n (state.changed c k) (entry_changed N n c q.known k (entries n k h.1))
-        ∙ ap (λ ms. held_on n ms) (held_by k x h.2) ∙ held_end n k.held x ∙ ap (λ js. js ++ item m.id n ∷ []) (sym (held_is s n k h.1)))
+        inl (held_is script honest w v r at (record q { known = state.with_change N c n q.known }) n (state.changed c k) (entry_changed N n c q.known k (entries n k h.1))
+        ∙ ap (λ ms. held_on n ms) (held_by k x h.2) ∙ held_end n k.held x ∙ ap (λ js. js ++ item m.id n ∷ []) (sym (held_is script honest w v r at s n k h.1)))
 
     away_last : (y : Value Name) (h : ℕ) (n : Name) (o : Bool) → honest v ≡ true → honest h ≡ true → IfGives (Last y (Away h n o)) (refs.deliver N m h n q)
     unfolding aimed refs.deliver ◌>>=◌ ◌>>◌ and_then tell send_out

@@ -13,6 +13,10 @@ pub mod Settled
 pub mod OrderPassing
 pub mod Settling
 pub mod Onward
+pub mod Entries
+pub mod Standing
+pub mod Remaining
+pub mod SettledPlaces
 pub mod Whole
 pub mod Loose
 pub mod Resolving

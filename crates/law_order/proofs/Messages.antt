@@ -14,7 +14,7 @@ use Rattle.law_order.specs.Turns.{Within}
 use Rattle.law_order.specs.Places.{item, first_place, queued, held_in, delivered, is_honest, stands_at, ways_of, ways}
 use Rattle.law_order.specs.Messages.{StandsAt, IsPlace, stands_there, stands_not, StandsOnce, found_behind, found_in, held_lanes, vat_lanes, link_lanes, lanes_of, or_nowhere, place_of, StaysBehind, PlacesAreFound, PlacesAreOne, ComersAreBehind, GoneOnIsBehind, LostIsNowhere}
 use Rattle.law_order.proofs.Named.{same_is, same_self, false_true}
-use Rattle.law_order.proofs.Resolving.{reference_is}
+use Rattle.law_order.proofs.Entries.{reference_is}
 use Rattle.law_order.proofs.Sends.{none_some, some_same, ends_of}
 use Rattle.law_order.proofs.Changes.{growing_keeps, going_on_keeps, losing_keeps}
 
