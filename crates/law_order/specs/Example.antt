@@ -8,8 +8,9 @@ use Rattle.def_run.specs.Draws.{draw_word}
 use Rattle.def_kernel.specs.declared.node.Literal.TheVariants as literal
 use Rattle.def_kernel.specs.declared.node.Node.{Node}
 use Rattle.def_kernel.specs.declared.node.Node.TheVariants.{Lit, Noun, Def, Call, Sequence, Object, Method, Final, ListPattern}
-use Rattle.law_order.specs.Ways.{Queue, Held, Way, Place, End, Mid, Ways, Ahead}
+use Rattle.law_order.specs.Ways.{Queue, Held, Way, Place, Nowhere, End, Mid, Ways, Ahead}
 use Rattle.law_order.specs.Places.{item, ways, leads, opened_places}
+use Rattle.law_order.specs.Messages.{place_of, opened_messages}
 use Rattle.law_order.specs.Order.{is_before, keeps_order, taken_after, opened_order}
 
 -- def [p, r] := Ref.promise(); p <- f(p); p <- g(); r.resolve(c)
@@ -194,11 +195,21 @@ PlacesAreTold =
     × (leading 1 passed_name ≡ End (Way 1 2) passed_name)
     × (leading 2 (Root 2) ≡ End (Queue 2) (values.Object 2 0))
 
+unfoldable pub stood : Name → Place
+stood m = place_of passed_script (λ v. true) waiting_world m
+
+-- f stands first on its link, and g first of what c holds for the gift; the message that brought the gift to b was taken, and is nowhere.
+abbrev pub MessagesAreFound : Type 0
+MessagesAreFound =
+    (stood (message 0 0) ≡ Mid (Way 0 2) [] (Root 2))
+    × (stood (message 1 0) ≡ Mid (Held 2 passed_name) [] passed_name)
+    × (stood (message 0 1) ≡ Nowhere)
+
 -- So f is ahead of g there.
 abbrev pub FirstIsAhead : Type 0
 FirstIsAhead = Ahead waiting_ways (message 0 0) (Mid (Held 2 passed_name) [] passed_name)
 
 -- opens the definitions of this file
 unfoldable pub opened_example : Unit {0}
-unfolding tree_a tree_b tree_c tree_d tree_e held_script passed_script history_of message taken_for exchanged judged world_of waiting_world passed_name waiting_ways leading opened_order opened_places
+unfolding tree_a tree_b tree_c tree_d tree_e held_script passed_script history_of message taken_for exchanged judged world_of waiting_world passed_name waiting_ways leading stood opened_order opened_places opened_messages
 opened_example = tt

@@ -1,5 +1,5 @@
 -- What a turn does to the order of messages: sends, passings and new names make the ways grow; settlings stand out.
-use Rattle.std.specs.Prelude.{◌≡◌, ℕ, suc, ◌≤◌, Bool, true, List, [], ◌∷◌, Some, None, length, slice_get, ◌⊎◌}
+use Rattle.std.specs.Prelude.{◌≡◌, ℕ, ◌≤◌, Bool, true, List, [], ◌∷◌, Some, None, length, slice_get, ◌⊎◌}
 use Rattle.def_machine.specs.Values.{Words, Value, Null, Flag, Number, Letter, Text, Prim, Broken, Items, Ref, Name, Promise, Answer, Sent, key, word_of}
 use Rattle.def_machine.specs.State.{Binding, Message, Note, Deliver, Open, Ask, SettledTo, Elsewhere, Shorten, Vat, is_in}
 use Rattle.def_machine.specs.Refs.{Away, Gone, entry_of, follow, place, pass, deliver, settle, resolve, send, send_only, react}

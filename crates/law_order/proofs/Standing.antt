@@ -1,0 +1,175 @@
+-- What stands in the lanes of a world, as a vat changes in the middle of a step.
+use Rattle.std.proofs.Common.{◌≡◌, ℕ, Bool, true, false, List, [], ◌∷◌, ◌++◌, Option, Some, None, refl, sym, ap, subst, ◌∙◌}
+use Rattle.std.proofs.lemmas.List.{append-nil, append_assoc}
+use Rattle.std.specs.Prelude.{slice_get, ◌&&◌}
+use Rattle.def_machine.specs.Values.{Value, Null, Flag, Number, Letter, Text, Prim, Broken, Items, Ref, Name, Naming}
+use Rattle.def_machine.specs.State.{Message, Known, Note, Deliver, Open, Ask, SettledTo, Elsewhere, Shorten, Passed, Put, Vat}
+use Rattle.def_machine.specs.Refs as refs
+use Rattle.def_run.specs.World.{Script, Link, World, names}
+use Rattle.def_run.specs.World as world
+use Rattle.law_order.specs.Ways.{Lane, Queue, Held, Way, Item, Ways}
+use Rattle.law_order.specs.Places.{item, queued, held_on, held_in, delivered, is_honest, stands_at, ways_of, ways, amid}
+use Rattle.law_order.specs.Worlds.{AddsOnly}
+use Rattle.law_order.specs.Messages.{StandsAt}
+use Rattle.law_order.proofs.OrderPassing.{Found, here, apart, none, found}
+use Rattle.law_order.proofs.Pushing.{push_append}
+use Rattle.law_order.proofs.Sends.{pushed_shut, pushed_open, pushed_ends, link_here, link_behind, get_put}
+
+-- ---- lists that grow at their end
+
+abbrev Queueing : Value Name → Name → List Item → List Item
+Queueing x m js = elim x [ Ref n ↦ item m n ∷ js | _ ↦ js ]
+
+queueing_more : (x : Value Name) (m : Name) (js is : List Item) → Queueing x m (js ++ is) ≡ Queueing x m js ++ is
+queueing_more (Ref n) m js is = refl
+queueing_more Null m js is = refl
+queueing_more (Flag b) m js is = refl
+queueing_more (Number z) m js is = refl
+queueing_more (Letter c) m js is = refl
+queueing_more (Text t) m js is = refl
+queueing_more (Prim k) m js is = refl
+queueing_more (Broken p) m js is = refl
+queueing_more (Items k) m js is = refl
+
+pub queued_append : (q ms : List (Message Name)) → queued (q ++ ms) ≡ queued q ++ queued ms
+unfolding queued
+queued_append [] ms = refl
+queued_append (o ∷ q) ms = ap (λ js. Queueing o.target o.id js) (queued_append q ms) ∙ queueing_more o.target o.id (queued q) (queued ms)
+
+pub queued_end : (q : List (Message Name)) (m : Message Name) (n : Name) → m.target ≡ Ref n → queued (q ++ m ∷ []) ≡ queued q ++ item m.id n ∷ []
+unfolding queued
+queued_end q m n e = queued_append q (m ∷ []) ∙ ap (λ t. queued q ++ Queueing t m.id []) e
+
+-- ---- notes that deliver nothing
+
+abbrev pub IsQuiet : Note Name → Type 0
+IsQuiet n = (ns : List (Note Name)) → delivered (ns ++ n ∷ []) ≡ delivered ns
+
+abbrev pub AllQuiet : List (Put Name) → Type 0
+AllQuiet [] = Unit {0}
+AllQuiet (p ∷ ps) = IsQuiet p.note × AllQuiet ps
+
+quiet_behind : (n m : Note Name) (ns : List (Note Name)) → delivered (n ∷ []) ≡ [] → delivered (ns ++ n ∷ []) ≡ delivered ns → delivered ((m ∷ ns) ++ n ∷ []) ≡ delivered (m ∷ ns)
+unfolding delivered
+quiet_behind n (Deliver a b c d) ns f e = ap (λ js. item a.message b ∷ js) e
+quiet_behind n (Open j a) ns f e = e
+quiet_behind n (Ask p j a) ns f e = e
+quiet_behind n (SettledTo a y) ns f e = e
+quiet_behind n (Elsewhere a c) ns f e = e
+quiet_behind n (Shorten a c j) ns f e = e
+
+pub is_quiet : (n : Note Name) → delivered (n ∷ []) ≡ [] → IsQuiet n
+unfolding delivered
+is_quiet n f [] = f
+is_quiet n f (m ∷ ns) = quiet_behind n m ns f (is_quiet n f ns)
+
+pub open_quiet : (i : ℕ) (n : Name) → IsQuiet (Open i n)
+unfolding delivered
+open_quiet i n = is_quiet (Open i n) refl
+
+pub told_quiet : (n : Name) (y : Passed Name) → IsQuiet (SettledTo n y)
+unfolding delivered
+told_quiet n y = is_quiet (SettledTo n y) refl
+
+-- ---- what stands on a link
+
+module _ (script : Script) (honest : ℕ → Bool) where
+  abbrev pub OnLink : Link → List Item
+  OnLink l = elim (is_honest script honest l) [ true ↦ delivered l.notes | false ↦ [] ]
+
+  abbrev pub Row : Option Link → List Item
+  Row o = elim o [ Some l ↦ OnLink l | None ↦ [] ]
+
+  link_still : (n : Note Name) → IsQuiet n → (l : Link) (b : Bool) → l.cut ≡ b → OnLink (world.pushed n l) ≡ OnLink l
+  unfolding is_honest
+  link_still n q l true e = ap (λ k. OnLink k) (pushed_shut n l e)
+  link_still n q l false e = ap (λ k. OnLink k) (pushed_open n l e) ∙ ap (λ js. elim (honest l.from && honest l.to) [ true ↦ js | false ↦ [] ]) (q l.notes)
+
+  pub row_still : (a b v h : ℕ) (n : Note Name) → IsQuiet n → (ls : List Link) → Row (world.link_at a b (world.with_link (world.pushed n) v h ls)) ≡ Row (world.link_at a b ls)
+  unfolding world.with_link world.link_at
+  row_still a b v h n q [] = refl
+  row_still a b v h n q (k ∷ ls) = go (row_still a b v h n q ls) (world.is_link a b k) (world.is_link v h k) refl
+    where
+      go : Row (world.link_at a b (world.with_link (world.pushed n) v h ls)) ≡ Row (world.link_at a b ls) → (c d : Bool) → world.is_link a b k ≡ c
+          → Row (world.link_at a b (elim d [ true ↦ world.pushed n k ∷ ls | false ↦ k ∷ world.with_link (world.pushed n) v h ls ])) ≡ Row (elim c [ true ↦ Some k | false ↦ world.link_at a b ls ])
+      go f true true e = ap (λ o. Row o) (link_here a b (world.pushed n k) ls (pushed_ends k.cut n k a b refl ∙ e)) ∙ link_still n q k k.cut refl
+      go f true false e = ap (λ o. Row o) (link_here a b k (world.with_link (world.pushed n) v h ls) e)
+      go f false true e = ap (λ o. Row o) (link_behind a b (world.pushed n k) ls (pushed_ends k.cut n k a b refl ∙ e))
+      go f false false e = ap (λ o. Row o) (link_behind a b k (world.with_link (world.pushed n) v h ls) e) ∙ f
+
+  pub rows_still : (a b v : ℕ) (ps : List (Put Name)) → AllQuiet ps → (ls : List Link) → Row (world.link_at a b (world.push_all v ps ls)) ≡ Row (world.link_at a b ls)
+  unfolding world.push_all
+  rows_still a b v [] q ls = refl
+  rows_still a b v (p ∷ ps) q ls = rows_still a b v ps q.1 (world.with_link (world.pushed p.note) v p.to ls) ∙ row_still a b v p.to p.note q.0 ls
+
+-- ---- what stands in a lane
+
+-- From w to u more came to the end of that lane, and none left it.
+abbrev pub More : Ways → Ways → Lane → Type 0
+More w u l = (js : List Item) × (u.stands l ≡ w.stands l ++ js)
+
+pub no_more : (w u : Ways) (l : Lane) → u.stands l ≡ w.stands l → More w u l
+no_more w u l e = ([], e ∙ sym (append-nil (w.stands l)))
+
+pub stands_more : (w u : Ways) (m : Name) (l : Lane) (b : List Item) (n : Name) → More w u l → StandsAt w m l b n → StandsAt u m l b n
+stands_more w u m l b n g h = record { behind = h.behind ++ g.0; found = g.1 ∙ ap (λ js. js ++ g.0) h.found ∙ append_assoc b (item m n ∷ h.behind) g.0 }
+
+module _ (script : Script) (honest : ℕ → Bool) (w : World) (v : ℕ) (s t : Vat Name) where
+  abbrev K : Naming Name Name
+  K = names script v
+
+  abbrev W : Vat Name → Ways
+  W r = ways script honest (amid v r w)
+
+  abbrev QueueOf : Option (Vat Name) → List Item
+  QueueOf o = elim o [ Some q ↦ queued q.queue | None ↦ [] ]
+
+  queue_found : (js : List Item) → queued t.queue ≡ queued s.queue ++ js → (u : ℕ) → Found v s t w.vats u → (is : List Item) × (QueueOf (slice_get (world.put_at v t w.vats) u) ≡ QueueOf (slice_get (world.put_at v s w.vats) u) ++ is)
+  queue_found js e u (here i a b) = (js, ap (λ o. QueueOf o) b ∙ e ∙ ap (λ o. QueueOf o ++ js) (sym a))
+  queue_found js e u (apart i a) = ([], ap (λ o. QueueOf o) a ∙ sym (append-nil (QueueOf (slice_get (world.put_at v s w.vats) u))))
+  queue_found js e u (none a b) = ([], ap (λ o. QueueOf o) b ∙ ap (λ o. QueueOf o ++ []) (sym a))
+
+  pub queue_more : (js : List Item) → queued t.queue ≡ queued s.queue ++ js → (u : ℕ) → More (W s) (W t) (Queue u)
+  unfolding ways ways_of stands_at amid
+  queue_more js e u = queue_found js e u (found v s t w.vats u)
+
+  abbrev HeldOf : ℕ → Name → Option (Vat Name) → List Item
+  HeldOf u n o = elim o [ Some q ↦ held_in n (refs.entry_of (names script u) q.known n) | None ↦ [] ]
+
+  held_found : (u : ℕ) (n : Name) → (u ≡ v → held_in n (refs.entry_of K t.known n) ≡ held_in n (refs.entry_of K s.known n)) → Found v s t w.vats u → HeldOf u n (slice_get (world.put_at v t w.vats) u) ≡ HeldOf u n (slice_get (world.put_at v s w.vats) u)
+  held_found u n e (here i a b) = ap (λ o. HeldOf u n o) b ∙ subst (λ z. HeldOf z n (Some t) ≡ HeldOf z n (Some s)) (sym i) (e i) ∙ ap (λ o. HeldOf u n o) (sym a)
+  held_found u n e (apart i a) = ap (λ o. HeldOf u n o) a
+  held_found u n e (none a b) = ap (λ o. HeldOf u n o) b ∙ ap (λ o. HeldOf u n o) (sym a)
+
+  pub held_same : (u : ℕ) (n : Name) → (u ≡ v → held_in n (refs.entry_of K t.known n) ≡ held_in n (refs.entry_of K s.known n)) → More (W s) (W t) (Held u n)
+  unfolding ways ways_of stands_at amid
+  held_same u n e = no_more (W s) (W t) (Held u n) (held_found u n e (found v s t w.vats u))
+
+  pub way_more : (ps : List (Put Name)) → t.outbox ≡ s.outbox ++ ps → AllQuiet ps → (a b : ℕ) → More (W s) (W t) (Way a b)
+  unfolding ways ways_of stands_at amid
+  way_more ps e q a b = no_more (W s) (W t) (Way a b)
+      (ap (λ qs. Row script honest (world.link_at a b (world.push_all v qs w.links))) e
+      ∙ ap (λ ls. Row script honest (world.link_at a b ls)) (push_append v s.outbox ps w.links)
+      ∙ rows_still script honest a b v ps q (world.push_all v s.outbox w.links))
+
+-- of that vat itself
+module _ (script : Script) (honest : ℕ → Bool) (w : World) (v : ℕ) (r : Vat Name) (at : slice_get w.vats v ≡ Some r) (t : Vat Name) where
+  pub queue_is : (ways script honest (amid v t w)).stands (Queue v) ≡ queued t.queue
+  unfolding ways ways_of stands_at amid
+  queue_is = ap (λ o. elim o [ Some s ↦ queued s.queue | None ↦ [] ]) (get_put w.vats v r t at)
+
+  pub held_is : (n : Name) (k : Known Name) → refs.entry_of (names script v) t.known n ≡ Some k → (ways script honest (amid v t w)).stands (Held v n) ≡ held_on n k.held
+  unfolding ways ways_of stands_at amid held_in
+  held_is n k e = ap (λ o. elim o [ Some s ↦ held_in n (refs.entry_of (names script v) s.known n) | None ↦ [] ]) (get_put w.vats v r t at) ∙ ap (λ o. held_in n o) e
+
+-- From s to t the vat only added, and what it added stands last.
+pub record AddsLast (K : Naming Name Name) (s t : Vat Name) : Type 0 where
+  pub adds : AddsOnly K s t
+  pub queue : (js : List Item) × (queued t.queue ≡ queued s.queue ++ js)
+  pub held : (n : Name) → held_in n (refs.entry_of K t.known n) ≡ held_in n (refs.entry_of K s.known n)
+  pub puts : (ps : List (Put Name)) × (t.outbox ≡ s.outbox ++ ps) × AllQuiet ps
+
+pub all_more : (script : Script) (honest : ℕ → Bool) (w : World) (v : ℕ) (s t : Vat Name) → AddsLast (names script v) s t → (l : Lane) → More (ways script honest (amid v s w)) (ways script honest (amid v t w)) l
+all_more script honest w v s t g (Queue u) = queue_more script honest w v s t g.queue.0 g.queue.1 u
+all_more script honest w v s t g (Held u n) = held_same script honest w v s t u n (λ e. g.held n)
+all_more script honest w v s t g (Way a b) = way_more script honest w v s t g.puts.0 g.puts.1 g.puts.2 a b

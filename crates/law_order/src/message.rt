@@ -1,0 +1,61 @@
+//! The place of each message.
+
+ghost use Rattle.law_order.specs.Comings.{CarriedComeLast, SendsComeLast};
+ghost use Rattle.law_order.specs.Example.{MessagesAreFound};
+ghost use Rattle.law_order.specs.Messages.{ComersAreBehind, GoneOnIsBehind, LostIsNowhere, PlacesAreFound, PlacesAreOne};
+
+/// The place that is found by a message's name is where the message stands: its lane, with just what is in
+/// front of it there, on its name. Where none is found the message stands in no lane.
+///
+/// So one that was taken, is lost, or is on data has no place but nowhere.
+pub fn places_are_found()
+    ensures { PlacesAreFound }
+{}
+
+/// A message that stands once has one place, which is the one that is found.
+pub fn places_are_one()
+    ensures { PlacesAreOne }
+{}
+
+/// Where the ways grow, what was ahead of the end of a lane is ahead of what comes to stand there next, behind
+/// all that stood there.
+pub fn comers_are_behind()
+    ensures { ComersAreBehind }
+{}
+
+/// Where the first message of a lane goes on to the end of the next, by an arrival or as what a name held is sent
+/// on, it comes behind all that stood there. What was ahead of it stays ahead, and so does what was ahead of
+/// the end to which it came.
+pub fn gone_on_is_behind()
+    ensures { GoneOnIsBehind }
+{}
+
+/// A message that is lost is nowhere, and all that it was ahead of is doomed: no object will take it.
+pub fn lost_is_nowhere()
+    ensures { LostIsNowhere }
+{}
+
+/// The places of three messages in a world, by computing: one is on a link, one waits at the host of a gift, and
+/// one was taken.
+#[tactic(auto, unfolding(crate::specs::Example::opened_example))]
+pub fn messages_are_found()
+    ensures { MessagesAreFound }
+{}
+
+/// By a whole send, with an answer or without, the new message comes to stand last where the reference led: in the
+/// queue, in what a name holds, or on a link. All that was ahead of the reference is ahead of it; or the link
+/// is cut, and what is sent there is doomed.
+///
+/// It asks what `sends_are_ahead` asks.
+pub fn sends_come_last()
+    ensures { SendsComeLast }
+{}
+
+/// A message that arrives for an object of its receiver, or for a promise of the receiver's own that waits, leaves
+/// the front of its link and comes to stand last where it is sent on. What was ahead of it on the link, and
+/// what was ahead of the end to which it came, is ahead of it there.
+///
+/// It asks what `carried_messages_go_on` asks.
+pub fn carried_come_last()
+    ensures { CarriedComeLast }
+{}
