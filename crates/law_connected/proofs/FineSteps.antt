@@ -140,7 +140,7 @@ module _ {N W : Type 0} (K : Naming N W) (E : Ground N W) (spots : (i : ℕ) →
   counted s = record s { activations = suc s.activations }
 
   good_counted : (s : Vat N) → Good K E s → Good K E (counted s)
-  good_counted s g = good_by K E s (counted s) refl (refl, refl, refl, refl) (grows_same K E s).grown (makes_none K E s (counted s) refl refl) refl g
+  good_counted s g = good_by K E s (counted s) refl (refl, refl, refl, refl, refl) (grows_same K E s).grown (makes_none K E s (counted s) refl refl) refl g
 
   no_calls : (s : Vat N) → s.happened ≡ [] → served (opens s) ≡ None
   unfolding served open_from
@@ -197,6 +197,8 @@ module _ {N W : Type 0} (K : Naming N W) (spots : (i : ℕ) → K.spot (K.object
     gifts = each_among (GiftTold K E) s.gifts (λ g m. inl (g, m, refl, refl, refl));
     noticed = λ w h. inl h;
     number = refl;
+    names = no_less (length s.known);
+    mails = no_less (length s.mails);
   }
 
   -- at the beginning of a step
