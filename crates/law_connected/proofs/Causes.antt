@@ -46,9 +46,9 @@ module _ {N W : Type 0} (K : Naming N W) (E : Start N W) where
     resolver_more i p (inl e) = inl e
     resolver_more i p (inr h) = inr (h.0, h.1, among_more _ so more h.2, h.3)
 
-    pub handed_more : (i : ℕ) (v : Value N) → IsHanded K E so i v → IsHanded K E (so ++ more) i v
-    handed_more i v (inl h) = inl (h.0, h.1, h.2, among_more _ so more h.3, thing_more K E.vat.known so more h.1 i h.4)
-    handed_more i v (inr h) = inr (h.0, h.1, among_more _ so more h.2, h.3, thing_more K E.vat.known so more h.1.target i h.4)
+    pub handed_more : (i : ℕ) (name : Words) (v : Value N) → IsHanded K E so i name v → IsHanded K E (so ++ more) i name v
+    handed_more i name v (inl h) = inl (h.0, h.1, h.2, among_more _ so more h.3, h.4, thing_more K E.vat.known so more h.1 i h.5)
+    handed_more i name v (inr h) = inr (h.0, h.1, among_more _ so more h.2, h.3, h.4, thing_more K E.vat.known so more h.1.target i h.5)
 
     mutual
       pub learnt_more : (y : Passed (Incoming N W)) (v : Value N) → IsLearntAs K E so y v → IsLearntAs K E (so ++ more) y v
@@ -81,8 +81,8 @@ module _ {N W : Type 0} (K : Naming N W) (E : Start N W) where
     pub given_more : (p : N) (x : Value N) → IsGiven K E so p x → IsGiven K E (so ++ more) p x
     given_more p x (gave a h o) = gave a (among_more _ so more h) o
     given_more p x (threw a h o) = threw a (among_more _ so more h) o
-    given_more p x (resolved i r h) = resolved i (resolver_more i p r) (handed_more i x h)
-    given_more p x (smashed i v r h f) = smashed i v (resolver_more i p r) (handed_more i v h) (follows_more v _ f)
+    given_more p x (resolved i r h) = resolved i (resolver_more i p r) (handed_more i (codes "resolve") x h)
+    given_more p x (smashed i v r h f) = smashed i v (resolver_more i p r) (handed_more i (codes "smash") v h) (follows_more v _ f)
     given_more p x (waited q h w) = waited q (among_more _ so more h) (waits_more p q w)
     given_more p x (said h) = said (says_more E.step p x h)
     given_more p x (lost i y h l f) = lost i y (has_more i p y h) (among_more _ so more l) (follows_more y _ f)

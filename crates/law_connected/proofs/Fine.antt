@@ -1,6 +1,6 @@
 -- What an activation does from a connected history, under facts on what it knows, ends in a connected history with facts on what it gives.
 use Rattle.std.proofs.Common.{◌≡◌, ℕ, zero, suc, ◌-◌, ◌⊎◌, inl, inr, Bool, true, false, List, [], ◌∷◌, ◌++◌, Option, Some, None, if◌then◌else◌, refl, sym, ap, ◌∙◌, subst, length, map}
-use Rattle.std.specs.Prelude.{slice_get, nat_le}
+use Rattle.std.specs.Prelude.{slice_get, nat_le, codes}
 use Rattle.def_machine.specs.Values.{Words, Value, Null, Prim, Items, Naming}
 use Rattle.def_machine.specs.State.{Bound, Fixed, Slot, Binding, Scope, Cell, View, Thing, Made, Ejector, Audition, Resolver, Happened, Called, SlotMade, SlotRead, SlotWrote, ListMade, EjectorMade, Vat, Stop, Done, Gives, Throws, Ejects, Stops, Act, ◌>>=◌, ◌>>◌, and_then, for_some, end_by, ending, give, throw, stop, eject, look, tell, spend, spent, new_thing, kill, change, dead, new_slot, holding, write_slot, new_list}
 use Rattle.def_machine.specs.Refs.{Place}
@@ -71,7 +71,7 @@ pub data Fact (N : Type 0) : Type 0 where
   IsLine : Happened N → Fact N
   -- what bears that number is the resolver of that promise, and what it was handed
   ResolverOf : ℕ → N → Fact N
-  HandedTo : ℕ → Value N → Fact N
+  HandedTo : ℕ → Words → Value N → Fact N
   MayAsk : ℕ → ResolverAsk N → Fact N
   -- a name is given that value, and may settle to it
   GivenTo : N → Value N → Fact N
@@ -210,8 +210,8 @@ module _ {N W : Type 0} (K : Naming N W) (E : Ground N W) (a : ℕ) where
   ThingThere s i (Resolver p) = IsResolver K E.start s.happened i p
 
   abbrev pub AskHas : Vat N → ℕ → ResolverAsk N → Type 0
-  AskHas s i (Resolves v) = IsHanded K E.start s.happened i v
-  AskHas s i (Smashes v) = IsHanded K E.start s.happened i v
+  AskHas s i (Resolves v) = IsHanded K E.start s.happened i (codes "resolve") v
+  AskHas s i (Smashes v) = IsHanded K E.start s.happened i (codes "smash") v
   AskHas s i NoResolverAsk = Unit {0}
 
   abbrev pub Holds : Vat N → Fact N → Type 0
@@ -244,7 +244,7 @@ module _ {N W : Type 0} (K : Naming N W) (E : Ground N W) (a : ℕ) where
   Holds s (IsPlaced y p) = PlacedAt K E.start y p
   Holds s (IsLine e) = IsAmong e s.happened
   Holds s (ResolverOf i p) = IsResolver K E.start s.happened i p
-  Holds s (HandedTo i v) = IsHanded K E.start s.happened i v
+  Holds s (HandedTo i name v) = IsHanded K E.start s.happened i name v
   Holds s (MayAsk i q) = AskHas s i q
   Holds s (GivenTo p x) = IsGiven K E.start s.happened p x
   Holds s (MaySettle p y) = SettlesWell K E.start s.happened p y
@@ -336,12 +336,12 @@ module _ {N W : Type 0} (K : Naming N W) (E : Ground N W) (a : ℕ) where
     told_up : (F : List (Happened N) → Type 0) → ((so more : List (Happened N)) → F so → F (so ++ more)) → F s.happened → F t.happened
     told_up F f h = subst F (sym g.lines) (f s.happened g.more h)
 
-    handed_to_up : (i : ℕ) (v : Value N) → IsHanded K E.start s.happened i v → IsHanded K E.start t.happened i v
-    handed_to_up i v h = told_up (λ so. IsHanded K E.start so i v) (λ so more k. handed_more K E.start so more i v k) h
+    handed_to_up : (i : ℕ) (name : Words) (v : Value N) → IsHanded K E.start s.happened i name v → IsHanded K E.start t.happened i name v
+    handed_to_up i name v h = told_up (λ so. IsHanded K E.start so i name v) (λ so more k. handed_more K E.start so more i name v k) h
 
     ask_has_up : (i : ℕ) (q : ResolverAsk N) → AskHas s i q → AskHas t i q
-    ask_has_up i (Resolves v) h = handed_to_up i v h
-    ask_has_up i (Smashes v) h = handed_to_up i v h
+    ask_has_up i (Resolves v) h = handed_to_up i (codes "resolve") v h
+    ask_has_up i (Smashes v) h = handed_to_up i (codes "smash") v h
     ask_has_up i NoResolverAsk h = tt
 
     leads_up : (x y : Value N) → Follows K E.start s.happened x y → Follows K E.start t.happened x y
@@ -377,7 +377,7 @@ module _ {N W : Type 0} (K : Naming N W) (E : Ground N W) (a : ℕ) where
     holds_up (IsPlaced y p) e h = h
     holds_up (IsLine l) e h = among_up K E s t g l h
     holds_up (ResolverOf i p) e h = resolver_up K E s t g i p h
-    holds_up (HandedTo i v) e h = handed_to_up i v h
+    holds_up (HandedTo i name v) e h = handed_to_up i name v h
     holds_up (MayAsk i q) e h = ask_has_up i q h
     holds_up (GivenTo p x) e h = told_up (λ so. IsGiven K E.start so p x) (λ so more k. given_more K E.start so more p x k) h
     holds_up (MaySettle p y) e h = told_up (λ so. SettlesWell K E.start so p y) (λ so more k. settles_more K E.start so more p y k) h
@@ -412,7 +412,7 @@ module _ {N W : Type 0} (K : Naming N W) (E : Ground N W) (a : ℕ) where
   all_keep s t e (IsPlaced y p) = tt
   all_keep s t e (IsLine l) = tt
   all_keep s t e (ResolverOf i p) = tt
-  all_keep s t e (HandedTo i v) = tt
+  all_keep s t e (HandedTo i name v) = tt
   all_keep s t e (MayAsk i q) = tt
   all_keep s t e (GivenTo p x) = tt
   all_keep s t e (MaySettle p y) = tt

@@ -1,6 +1,6 @@
 -- Evaluation, from a connected history, ends in a connected history: calls.
 use Rattle.std.proofs.Common.{◌≡◌, ℕ, zero, suc, Bool, true, false, List, [], ◌∷◌, ◌++◌, Option, Some, None, refl, sym, ap, ◌∙◌, subst, length, map, ◌⊎◌, inl, inr}
-use Rattle.std.specs.Prelude.{slice_get}
+use Rattle.std.specs.Prelude.{slice_get, codes}
 use Rattle.def_machine.specs.Values.{Words, Value, Null, Flag, Number, Letter, Text, Prim, Broken, Items, Ref, Naming, Spot, Own, Foreign, NoObject}
 use Rattle.def_machine.specs.State.{Bound, Fixed, Slot, Scope, Binding, Cell, View, Thing, Made, Ejector, Audition, Resolver, Standing, Unsettled, Happened, Called, AuditionMade, Vat, Done, Gives, Throws, Ejects, Stops, Act, ◌>>=◌, ◌>>◌, and_then, ending, give, throw, eject, look, tell, new_thing, new_activation}
 use Rattle.def_machine.specs.Refs.{Place, Near, follow, settle, resolve}
@@ -331,7 +331,7 @@ module _ {N W : Type 0} (K : Naming N W) (E : Ground N W) (spots : (i : ℕ) →
   fine_where_unresolved {a = a} {C = C} _ m g_m = search (fine) depth 30
 
   -- the text of a problem, to which the argument leads
-  pub fine_smash : {a : ℕ} {C : Fact N} → (i : ℕ) (p : N) → Gets K E a C (ResolverOf i p) → (x : Value N) → Gets K E a C (HandedTo i x) → (v : Value N) → Gets K E a C (Leads x v) → Fine K E a C (calls.smash K tree p v) IsValue
+  pub fine_smash : {a : ℕ} {C : Fact N} → (i : ℕ) (p : N) → Gets K E a C (ResolverOf i p) → (x : Value N) → Gets K E a C (HandedTo i (codes "smash") x) → (v : Value N) → Gets K E a C (Leads x v) → Fine K E a C (calls.smash K tree p v) IsValue
   unfolding calls.smash
   fine_smash {a = a} {C = C} i p r x h (Text t) l = let d : Gets K E a C (MaySettle p (Broken t)) = record { at = λ s c. inl (Broken t, smashed i x (r.at s c) (h.at s c) (l.at s c), inl (inl at_itself)) } in
       bind_standing K E a (fine_look K E a _) (λ w. fine_where_unresolved w (settle K p (Broken t)) (fine_settle K E a p (Broken t) d))

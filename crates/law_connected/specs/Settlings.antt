@@ -2,6 +2,7 @@
 use Rattle.std.specs.Prelude.{◌≡◌, ◌≤◌, length, ℕ, true, List, [], ◌∷◌, Some, None, slice_get, ◌⊎◌, codes}
 use Rattle.def_machine.specs.Values.{Words, Value, Null, Flag, Number, Letter, Text, Prim, Broken, Items, Ref, Naming, Coming, Own, IsAnswer, IsGift, IsLearnt, IsCarried, under}
 use Rattle.def_machine.specs.State.{Resolver, Message, Known, Passed, Passeds, Plain, AGift, Many, NoMore, More, Delivery, Deliver, Open, Ask, SettledTo, Elsewhere, Shorten, GiftEntry, Happened, Took, Called, Finished, Threw, PromiseMade, ListCame, Sends, Settles, Waits, Views, Lost, Posted, is_in}
+use Rattle.def_machine.specs.Free.{same_words}
 use Rattle.def_machine.specs.Arrive.{Incoming, Old, New}
 use Rattle.law_machine.specs.Steps.{Step, Opens, Takes, Receives, Notices}
 use Rattle.law_connected.specs.Known.{IsAmong, Start, AreOne, Reaches, IsThing}
@@ -88,10 +89,10 @@ module _ {N W : Type 0} (K : Naming N W) (E : Start N W) where
   abbrev pub IsResolver : List (Happened N) → ℕ → N → Type 0
   IsResolver so i p = (slice_get E.vat.things i ≡ Some (Resolver p)) ⊎ ((a : ℕ) × (r : N) × IsAmong (PromiseMade a p r) so × (K.spot r ≡ Own i))
 
-  -- what bears that number was handed that one argument, by a call or by the message that is taken
-  abbrev pub IsHanded : List (Happened N) → ℕ → Value N → Type 0
-  IsHanded so i v = ((a : ℕ) × (x : Value N) × (verb : Words) × IsAmong (Called a x verb (v ∷ []) None) so × IsThing K E.vat.known so x i)
-      ⊎ ((a : ℕ) × (m : Message N) × IsAmong (Took a m) so × (m.args ≡ v ∷ []) × IsThing K E.vat.known so m.target i)
+  -- what bears that number was handed that one argument under that verb, by a call or by the message that is taken
+  abbrev pub IsHanded : List (Happened N) → ℕ → Words → Value N → Type 0
+  IsHanded so i name v = ((a : ℕ) × (x : Value N) × (verb : Words) × IsAmong (Called a x verb (v ∷ []) None) so × (same_words name verb ≡ true) × IsThing K E.vat.known so x i)
+      ⊎ ((a : ℕ) × (m : Message N) × IsAmong (Took a m) so × (m.args ≡ v ∷ []) × (same_words name m.verb ≡ true) × IsThing K E.vat.known so m.target i)
 
   -- the first waits on the second, or is viewed as it
   abbrev pub WaitsFor : List (Happened N) → N → N → Type 0
@@ -122,9 +123,9 @@ module _ {N W : Type 0} (K : Naming N W) (E : Start N W) where
     -- the turn whose answer or root it is gave that, or threw
     gave : {p : N} {v : Value N} (a : ℕ) → IsAmong (Finished a v) so → Owes a p → IsGiven so p v
     threw : {p : N} {t : Words} (a : ℕ) → IsAmong (Threw a t) so → Owes a p → IsGiven so p (Broken t)
-    -- its resolver was handed that, or the text of a problem
-    resolved : {p : N} {v : Value N} (i : ℕ) → IsResolver so i p → IsHanded so i v → IsGiven so p v
-    smashed : {p : N} {t : Words} (i : ℕ) (v : Value N) → IsResolver so i p → IsHanded so i v → Follows so v (Text t) → IsGiven so p (Broken t)
+    -- its resolver was handed that, or to be smashed the text of a problem
+    resolved : {p : N} {v : Value N} (i : ℕ) → IsResolver so i p → IsHanded so i (codes "resolve") v → IsGiven so p v
+    smashed : {p : N} {t : Words} (i : ℕ) (v : Value N) → IsResolver so i p → IsHanded so i (codes "smash") v → Follows so v (Text t) → IsGiven so p (Broken t)
     -- the name that it waits on settled to that
     waited : {p : N} {y : Value N} (q : N) → IsAmong (Settles q y) so → WaitsFor so p q → IsGiven so p y
     -- the note says that
