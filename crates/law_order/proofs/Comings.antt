@@ -19,30 +19,13 @@ use Rattle.law_order.specs.Steps.{StaysReady, LeadsAmid, Ready, IsHeld}
 use Rattle.law_order.specs.Arrivals.{keeping, GoesTo, IsHere}
 use Rattle.law_order.specs.Comings.{ComesLast, ComesBehind, MovesLast, SendsComeLast, CarriedComeLast}
 use Rattle.law_order.proofs.Sends.{pushed_shut, pushed_open, pushed_ends, link_here, link_behind, push_last, found_ends, held_by, entry_changed, if_map}
-use Rattle.law_order.proofs.Standing.{queued_end, queue_is, held_is, open_quiet, OnLink, Row, row_still}
+use Rattle.law_order.proofs.Standing.{queued_end, held_end, queue_is, held_is, delivered_append, OnLink, Row, row_still}
 use Rattle.law_order.proofs.Moves.{Keeps, IsKept, keeps_bind, keeps_then, keeps_look, keeps_give, keeps_spend, keeps_if}
 use Rattle.law_order.proofs.Messages.{comers_are_behind, gone_on_is_behind}
 use Rattle.law_order.proofs.Arrived.{carried_messages_go_on}
 use Rattle.law_order.proofs.Coming.{old_entry}
 use Rattle.law_order.proofs.Sent.{leads_there, mine_waits}
 use Rattle.law_order.proofs.Sendings.{stays_send, stays_send_only}
-
--- ---- lists that grow at their end
-
-pub held_end : (n : Name) (q : List (Message Name)) (m : Message Name) → held_on n (q ++ m ∷ []) ≡ held_on n q ++ item m.id n ∷ []
-unfolding held_on
-held_end n [] m = refl
-held_end n (o ∷ q) m = ap (λ js. item o.id n ∷ js) (held_end n q m)
-
-delivered_end : (ns : List (Note Name)) (m : Delivery Name) (n : Name) (verb : Words) (ys : Passeds Name) → delivered (ns ++ Deliver m n verb ys ∷ []) ≡ delivered ns ++ item m.message n ∷ []
-unfolding delivered
-delivered_end [] m n verb ys = refl
-delivered_end (Deliver a b c d ∷ ns) m n verb ys = ap (λ js. item a.message b ∷ js) (delivered_end ns m n verb ys)
-delivered_end (Open i a ∷ ns) m n verb ys = delivered_end ns m n verb ys
-delivered_end (Ask p i a ∷ ns) m n verb ys = delivered_end ns m n verb ys
-delivered_end (SettledTo a y ∷ ns) m n verb ys = delivered_end ns m n verb ys
-delivered_end (Elsewhere a c ∷ ns) m n verb ys = delivered_end ns m n verb ys
-delivered_end (Shorten a c i ∷ ns) m n verb ys = delivered_end ns m n verb ys
 
 -- ---- what stands on a link
 
@@ -99,11 +82,11 @@ module _ (script : Script) (honest : ℕ → Bool) where
     ends_still l = pushed_ends l.cut D l v h refl
 
     row_open : (l : Link) → l.cut ≡ false → is_honest script honest l ≡ true → OnLink script honest (world.pushed D l) ≡ OnLink script honest l ++ I ∷ []
-    unfolding is_honest
+    unfolding is_honest delivered
     row_open l c q =
         ap (λ k. OnLink script honest k) (pushed_open D l c)
         ∙ ap (λ t. elim t [ true ↦ delivered (l.notes ++ D ∷ []) | false ↦ [] ]) q
-        ∙ delivered_end l.notes m n verb ys
+        ∙ delivered_append l.notes (D ∷ [])
         ∙ ap (λ t. (elim t [ true ↦ delivered l.notes | false ↦ [] ]) ++ I ∷ []) (sym q)
 
     shut_still : (l : Link) → l.cut ≡ true → is_honest script honest l ≡ true → (OnLink script honest (world.pushed D l) ≡ OnLink script honest l) × IsShut (Some (world.pushed D l))
@@ -164,8 +147,8 @@ module _ (script : Script) (honest : ℕ → Bool) (w : World) (v : ℕ) where
     still_tell_to h n = record { after = λ s. outbox_still s (record s { known = state.with_change K (ToTell h) n s.known }) refl }
 
     open_put : (h i : ℕ) (n : Name) (word : ℕ) (s : Vat Name) → R s (record s { drawn = s.drawn ++ word ∷ []; outbox = s.outbox ++ record { to = h; note = Open i n } ∷ [] })
-    unfolding ways ways_of stands_at amid
-    open_put h i n word s = record { same = ap (λ ls. Row script honest (world.link_at a b ls)) (push_last v s.outbox (record { to = h; note = Open i n }) w.links) ∙ row_still script honest a b v h (Open i n) (open_quiet i n) (world.push_all v s.outbox w.links) }
+    unfolding ways ways_of stands_at amid delivered
+    open_put h i n word s = record { same = ap (λ ls. Row script honest (world.link_at a b ls)) (push_last v s.outbox (record { to = h; note = Open i n }) w.links) ∙ row_still script honest a b v h (Open i n) refl (world.push_all v s.outbox w.links) }
 
     still_gift : (h : ℕ) (n : Name) → Keeps {N = Name} {A = Passed Name} R (draw K >>= (λ i. send_out h (Open i n) >> give (AGift h i)))
     unfolding draw ◌>>=◌ ◌>>◌ and_then send_out give draws

@@ -39,3 +39,4 @@ pub mod Brought
 pub mod Given
 pub mod Messages
 pub mod Comings
+pub mod FoundPlaces

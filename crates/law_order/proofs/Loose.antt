@@ -14,9 +14,10 @@ use Rattle.law_order.specs.Places.{queued, held_on, held_in, aimed, by_host, by_
 use Rattle.law_order.specs.Worlds.{IsWaiting}
 use Rattle.law_order.specs.Resolve.{StandsNear, OnlyWaits, IsLoose, WaitingKeeps}
 use Rattle.std.proofs.lemmas.List.{append-nil}
+use Rattle.law_order.specs.Messages.{More}
 use Rattle.law_order.specs.Steps.{LeadsAmid}
 use Rattle.law_order.proofs.Remaining.{kept_grown}
-use Rattle.law_order.proofs.Standing.{More, queue_more, held_same, way_more}
+use Rattle.law_order.proofs.Standing.{queue_more, held_more, way_more}
 use Rattle.law_order.proofs.OrderPassing.{Found, here, apart, none, found, waiting_same}
 
 -- ---- following
@@ -308,8 +309,8 @@ module _ (script : Script) (honest : ℕ → Bool) (w : World) (v : ℕ) (s t : 
 
   more_waiting : (l : Lane) → More (ways script honest (amid v s w)) (ways script honest (amid v t w)) l
   more_waiting (Queue u) = queue_more script honest w v s t [] (ap (λ q. queued q) g.queue ∙ sym (append-nil (queued s.queue))) u
-  more_waiting (Held u n) = held_same script honest w v s t u n (λ e. held_by n (refs.entry_of (names script v) s.known n) (refs.entry_of (names script v) t.known n) (g.entries n))
-  more_waiting (Way a b) = way_more script honest w v s t [] (g.outbox ∙ sym (append-nil s.outbox)) tt a b
+  more_waiting (Held u n) = held_more script honest w v s t u n (λ e. ([], held_by n (refs.entry_of (names script v) s.known n) (refs.entry_of (names script v) t.known n) (g.entries n) ∙ sym (append-nil (held_in n (refs.entry_of (names script v) s.known n)))))
+  more_waiting (Way a b) = way_more script honest w v s t [] (g.outbox ∙ sym (append-nil s.outbox)) a b
 
 pub waiting_keeps : WaitingKeeps
-waiting_keeps = λ script honest w v s t p g loose. kept_grown script honest w v s t (grows_amid script honest w v s t p g loose) (λ u x. leads_waiting script honest w v s t p g u x) (λ l. more_waiting script honest w v s t p g l)
+waiting_keeps = λ script honest w v s t p g loose. kept_grown script honest w v s t (record { grows = grows_amid script honest w v s t p g loose; more = λ l. more_waiting script honest w v s t p g l; leading = λ u x. leads_waiting script honest w v s t p g u x })

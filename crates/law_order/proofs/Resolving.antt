@@ -1,5 +1,5 @@
 -- What is ahead stays ahead as a name is resolved.
-use Rattle.std.proofs.Common.{◌≡◌, ℕ, suc, Bool, true, false, [], ◌∷◌, ◌++◌, Option, Some, None, length, refl, sym, ap, subst, ◌∙◌, inl, inr}
+use Rattle.std.proofs.Common.{◌≡◌, ℕ, suc, Bool, true, false, Option, Some, None, length, refl, sym, ap, subst, ◌∙◌, inl, inr}
 use Rattle.std.specs.Prelude.{slice_get, codes, if◌then◌else◌}
 use Rattle.def_machine.specs.Values.{Value, Broken, Name, Naming}
 use Rattle.def_machine.specs.State.{Standing, Unsettled, WaitsOn, Viewed, Settled, Known, Vat, Change, Hold, Wait, WaitOn, See, React, ToTell, Settle, Waits}
@@ -7,48 +7,20 @@ use Rattle.def_machine.specs.State as state
 use Rattle.def_machine.specs.Refs as refs
 use Rattle.def_machine.specs.Refs.{Near, Mine, Away, Gone}
 use Rattle.def_run.specs.World.{Script, World, names}
-use Rattle.law_order.specs.Worlds.{IfGives, StandsAlike, RefersAlike}
-use Rattle.std.proofs.lemmas.List.{append-nil}
-use Rattle.law_order.specs.Places.{queued, held_on, held_in}
-use Rattle.law_order.specs.Settlings.{with_line, KeepsOrder}
+use Rattle.law_order.specs.Worlds.{IfGives, AddsOnly}
+use Rattle.law_order.specs.Settlings.{with_line}
+use Rattle.law_order.specs.Steps.{KeepsOrder}
 use Rattle.law_order.specs.Resolve.{StandsNear, OnlyWaits, IsLoose, WaitOnKeeps, SettlesPlain, CycleWell, PlaceWell, ResolvesWell, ResolvingKeeps}
 use Rattle.law_order.proofs.Sends.{some_same}
 use Rattle.law_order.proofs.Entries.{Differs, as_it_was, changes, differs, same_length}
 use Rattle.law_order.proofs.Remaining.{kept_then}
-use Rattle.law_order.proofs.Standing.{AddsLast}
+use Rattle.law_order.proofs.Adds.{change_adds}
 use Rattle.law_order.proofs.Whole.{kept_adds, line_adds, settlings_keep}
 use Rattle.law_order.proofs.Loose.{waiting_keeps}
 
 near_self : (p n : Name) (o : Option (Known Name)) → StandsNear p n o o
 near_self p n None = tt
 near_self p n (Some k) = (inl refl, refl, refl)
-
-alike_self : (n : Name) (o : Option (Known Name)) → StandsAlike n o o
-alike_self n None = tt
-alike_self n (Some k) = (refl, refl, λ i h. h)
-
--- a name that another waits for stands as it stood
-wait_by : (q n : Name) (k : Known Name) (z : Standing Name) → StandsAlike n (Some k) (Some (state.unless_settled z k (record k { waiting = k.waiting ++ q ∷ [] })))
-unfolding state.unless_settled
-wait_by q n k Unsettled = (refl, refl, λ i h. h)
-wait_by q n k (WaitsOn o) = (refl, refl, λ i h. h)
-wait_by q n k (Viewed o) = (refl, refl, λ i h. h)
-wait_by q n k (Settled y) = (refl, refl, λ i h. h)
-
-wait_alike : (q n : Name) (k : Known Name) → StandsAlike n (Some k) (Some (state.changed (Wait q) k))
-unfolding state.changed state.changed_to
-wait_alike q n k = wait_by q n k k.standing
-
--- it holds what it held
-held_waits : (q n : Name) (k : Known Name) → held_in n (Some (state.changed (Wait q) k)) ≡ held_in n (Some k)
-unfolding state.changed state.changed_to state.unless_settled held_in
-held_waits q n k = go k.standing
-  where
-    go : (z : Standing Name) → held_on n (state.unless_settled z k (record k { waiting = k.waiting ++ q ∷ [] })).held ≡ held_on n k.held
-    go Unsettled = refl
-    go (WaitsOn o) = refl
-    go (Viewed o) = refl
-    go (Settled y) = refl
 
 on_by : (q p n : Name) (k : Known Name) (z : Standing Name) → n ≡ p → z ≡ Unsettled → k.standing ≡ Unsettled → StandsNear p n (Some k) (Some (state.unless_settled z k (record k { standing = WaitsOn q })))
 unfolding state.unless_settled
@@ -80,27 +52,8 @@ module _ (script : Script) (honest : ℕ → Bool) (w : World) (v : ℕ) (s : Va
   only_waits : OnlyWaits N p s Mid
   only_waits = record { number = refl; gifts = refl; noticed = refl; queue = refl; outbox = refl; names_known = same_length script v (WaitOn q) p s.known; entries = λ n. near_by n (refs.entry_of N s.known n) (refs.entry_of N Mid.known n) refl (differs script v (WaitOn q) p n s.known) }
 
-  alike_by : (n : Name) (a b : Option (Known Name)) → Differs script v (Wait p) q n a b → StandsAlike n a b
-  alike_by n a b (as_it_was j) = subst (λ z. StandsAlike n a z) (sym j) (alike_self n a)
-  alike_by n a b (changes j f g h) = subst (λ z. StandsAlike n z b) (sym g) (subst (λ z. StandsAlike n (Some j) z) (sym h) (wait_alike p n j))
-
-  then_alike : RefersAlike N Mid End
-  then_alike = record { number = refl; gifts = refl; noticed = refl; names_known = same_length script v (Wait p) q Mid.known; entries = λ n. alike_by n (refs.entry_of N Mid.known n) (refs.entry_of N End.known n) (differs script v (Wait p) q n Mid.known) }
-
-  held_then : (n : Name) → held_in n (refs.entry_of N End.known n) ≡ held_in n (refs.entry_of N Mid.known n)
-  held_then n = go (differs script v (Wait p) q n Mid.known)
-    where
-      go : Differs script v (Wait p) q n (refs.entry_of N Mid.known n) (refs.entry_of N End.known n) → held_in n (refs.entry_of N End.known n) ≡ held_in n (refs.entry_of N Mid.known n)
-      go (as_it_was j) = ap (λ o. held_in n o) j
-      go (changes j f g h) = ap (λ o. held_in n o) h ∙ held_waits p n j ∙ ap (λ o. held_in n o) (sym g)
-
-  then_adds : AddsLast N Mid End
-  then_adds = record {
-    adds = record { alike = then_alike; queue = λ i h. h; notes = ([], sym (append-nil s.outbox), tt) };
-    queue = ([], sym (append-nil (queued s.queue)));
-    held = λ n. held_then n;
-    puts = ([], sym (append-nil s.outbox), tt);
-  }
+  then_adds : AddsOnly N Mid End
+  then_adds = change_adds N (Wait p) q tt Mid
 
   waits_kept : KeepsOrder script honest w v s (with_line End (Waits p q))
   waits_kept = kept_then script honest w v s End (with_line End (Waits p q))

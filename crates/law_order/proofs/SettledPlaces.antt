@@ -12,9 +12,8 @@ use Rattle.law_order.specs.Ways.{Lane, Queue, Held, Way, Item, Place, Nowhere, E
 use Rattle.law_order.specs.Places.{item, queued, held_on, held_in, aimed, amid}
 use Rattle.law_order.specs.Messages.{StandsAt, StaysBehind}
 use Rattle.law_order.specs.Worlds.{RefersAlike, StandsAlike}
-use Rattle.law_order.specs.Steps.{LeadsAmid, IsApart}
+use Rattle.law_order.specs.Steps.{WaysAmid, LeadsAmid, IsApart, IsSentOn, still_held, sent_there, now_lost, KeepsOrder}
 use Rattle.law_order.specs.Settle.{passed_by, KeepsBy, SettlesHere, aimed_at, IsReady, settled_to, IsHere}
-use Rattle.law_order.specs.Settlings.{WaysIn, IsSentOn, still_held, now_queued, now_lost, KeepsOrder}
 use Rattle.law_order.proofs.Adding.{refers_same}
 use Rattle.law_order.proofs.Amid.{leads_same}
 use Rattle.law_order.proofs.Entries.{Differs, as_it_was, changes, differs}
@@ -22,7 +21,7 @@ use Rattle.law_order.proofs.Named.{test_self, test_is, false_true, Test, passes_
 use Rattle.law_order.proofs.Onward.{retargeted, here_keeps, here_leads, here_onward, aimed_here, settling_to_nothing_keeps}
 use Rattle.law_order.proofs.OrderPassing.{leads_via, settled_is_passed}
 use Rattle.law_order.proofs.Pushing.{all_same}
-use Rattle.law_order.proofs.Standing.{queued_append, queue_is, held_is, stands_more, queue_more, held_same, way_more}
+use Rattle.law_order.proofs.Standing.{queued_append, queue_is, held_is, stands_more, queue_more, held_more, way_more}
 
 -- ---- lists
 
@@ -116,7 +115,7 @@ module _ (script : Script) (honest : ℕ → Bool) (w : World) (v : ℕ) (r s : 
   F = passed_by v p E
 
   abbrev W : Vat Name → Ways
-  W t = WaysIn script honest w v t
+  W t = WaysAmid script honest w v t
 
   -- and its queue grew at its end
   module _ (q : List (Message Name)) (js : List Item) (grown : queued q ≡ queued s.queue ++ js) where
@@ -142,8 +141,8 @@ module _ (script : Script) (honest : ℕ → Bool) (w : World) (v : ℕ) (r s : 
 
     apart_still : (m : Name) (l : Lane) (b : List Item) (n : Name) → IsApart script honest w v l → StandsAt (W s) m l b n → StandsAt (W After) m l b n
     apart_still m (Queue u) b n i h = stands_more (W s) (W After) m (Queue u) b n (queue_more script honest w v s After js grown u) h
-    apart_still m (Held u o) b n i h = stands_more (W s) (W After) m (Held u o) b n (held_same script honest w v s After u o (λ e. absurd (i e))) h
-    apart_still m (Way a c) b n i h = stands_more (W s) (W After) m (Way a c) b n (way_more script honest w v s After [] (sym (append-nil s.outbox)) tt a c) h
+    apart_still m (Held u o) b n i h = stands_more (W s) (W After) m (Held u o) b n (held_more script honest w v s After u o (λ e. absurd (i e))) h
+    apart_still m (Way a c) b n i h = stands_more (W s) (W After) m (Way a c) b n (way_more script honest w v s After [] (sym (append-nil s.outbox)) a c) h
 
     module _ (keeps : KeepsBy (W s) (W After) F) (moved : (m : Name) (b : List Item) (n : Name) → StandsAt (W s) m (Held v p) b n → IsSentOn script honest w v s After m p b n) where
       held_after : (m o : Name) (b : List Item) (n : Name) → StandsAt (W s) m (Held v o) b n → IsSentOn script honest w v s After m o b n
@@ -151,7 +150,7 @@ module _ (script : Script) (honest : ℕ → Bool) (w : World) (v : ℕ) (r s : 
         where
           go : (c : Bool) → Test v p v o ≡ c → IsSentOn script honest w v s After m o b n
           go true e = let i = (test_is v p v o e).1 in subst (λ z. IsSentOn script honest w v s After m z b n) (sym i) (moved m b n (subst (λ z. StandsAt (W s) m (Held v z) b n) i h))
-          go false e = still_held (stands_more (W s) (W After) m (Held v o) b n (held_same script honest w v s After v o (λ a. others_held o (λ i. false_true (sym e ∙ subst (λ z. Test v p v z ≡ true) (sym i) (test_self v p))))) h)
+          go false e = still_held (stands_more (W s) (W After) m (Held v o) b n (held_more script honest w v s After v o (λ a. ([], others_held o (λ i. false_true (sym e ∙ subst (λ z. Test v p v z ≡ true) (sym i) (test_self v p))) ∙ sym (append-nil (held_in o (refs.entry_of K s.known o)))))) h)
 
       settles_so : KeepsOrder script honest w v s After
       settles_so = record {
@@ -182,7 +181,7 @@ module _ (script : Script) (honest : ℕ → Bool) (w : World) (v : ℕ) (r s : 
         let q = queued s.queue in
         let split : held_on p k.held ≡ b ++ item m n ∷ h.behind = sym (held_is script honest w v r at s p k e) ∙ h.found in
         let lead = subst (λ a. StaysBehind (W s) (W Sent) ((W s).onward (Held v p) n) (Mid (Queue v) a o)) (queue_is script honest w v r at s) (here_leads script honest w v r s p y k at g e here ready n (Queue v) o aim) in
-        now_queued {a = q ++ sent_to o b} {o = o}
+        sent_there {l = Queue v} {a = q ++ sent_to o b} {o = o} tt
         (record { behind = sent_to o h.behind; found = queue_is script honest w v r at Sent ∙ queue_sent o f ∙ ap (λ z. q ++ sent_to o z) split ∙ ap (λ z. q ++ z) (sent_split o m n b h.behind) ∙ sym (append_assoc q (sent_to o b) (item m o ∷ sent_to o h.behind)) })
         (behind_queued (W s) (W Sent) (Held v p) (Queue v) n o q b lead)
 

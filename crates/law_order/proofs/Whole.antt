@@ -8,19 +8,15 @@ use Rattle.def_machine.specs.Refs as refs
 use Rattle.def_machine.specs.Refs.{Settler, Near, Mine, Away, Gone}
 use Rattle.def_run.specs.World.{Script, World, names}
 use Rattle.law_order.specs.Ways.{Nowhere}
-use Rattle.law_order.specs.Places.{queued, aimed, amid}
-use Rattle.law_order.specs.Worlds.{IfGives, StandsAlike}
+use Rattle.law_order.specs.Places.{aimed}
+use Rattle.law_order.specs.Worlds.{IfGives, AddsOnly}
 use Rattle.law_order.specs.Settle.{IsHere, IsOwnSpot, aimed_at, settled_to}
-use Rattle.law_order.specs.Settlings.{with_line, IsPlain, KeepsOrder, CanSettle, LosesWell, SendsWell, WaitsWell, KnownWell, StandsWell, EntryWell, SettlesWell, SettlingsKeep}
-use Rattle.std.proofs.lemmas.List.{append-nil}
-use Rattle.def_run.specs.World as world
-use Rattle.law_order.specs.Steps.{LeadsAmid}
-use Rattle.law_order.proofs.Adding.{refers_same}
-use Rattle.law_order.proofs.Amid.{adding_grows, grow_there, leads_same}
-use Rattle.law_order.proofs.Onward.{queued_more, retargeted, all_sent, leads_here}
+use Rattle.law_order.specs.Steps.{KeepsOrder}
+use Rattle.law_order.specs.Settlings.{with_line, IsPlain, CanSettle, LosesWell, SendsWell, WaitsWell, KnownWell, StandsWell, EntryWell, SettlesWell, SettlingsKeep}
+use Rattle.law_order.proofs.Onward.{retargeted, all_sent, leads_here}
 use Rattle.law_order.proofs.Remaining.{kept_grown, kept_then}
 use Rattle.law_order.proofs.SettledPlaces.{here_so, nothing_so}
-use Rattle.law_order.proofs.Standing.{AddsLast, all_more, queued_append, told_quiet}
+use Rattle.law_order.proofs.Adds.{adds_nothing, adds_message, adds_note, grown_adds}
 
 -- ---- acts
 
@@ -43,58 +39,20 @@ chain P Q (Throws p t) n h f = tt
 chain P Q (Ejects i y t) n h f = tt
 chain P Q (Stops c t) n h f = tt
 
-entry_self : (n : Name) (o : Option (Known Name)) → StandsAlike n o o
-entry_self n None = tt
-entry_self n (Some k) = (refl, refl, λ i h. h)
-
 module _ (K : Naming Name Name) (s : Vat Name) where
-  pub line_adds : (e : state.Happened Name) → AddsLast K s (with_line s e)
-  line_adds e = record {
-    adds = record {
-      alike = record { number = refl; gifts = refl; noticed = refl; names_known = refl; entries = λ n. entry_self n (refs.entry_of K s.known n) };
-      queue = λ i h. h;
-      notes = ([], sym (append-nil s.outbox), tt);
-    };
-    queue = ([], sym (append-nil (queued s.queue)));
-    held = λ n. refl;
-    puts = ([], sym (append-nil s.outbox), tt);
+  pub line_adds : (e : state.Happened Name) → AddsOnly K s (with_line s e)
+  line_adds e = adds_nothing K s (with_line s e) refl refl refl refl refl refl
+
+  told_adds : (f h : ℕ) (p : Name) (z : state.Passed Name) → AddsOnly K s (record s { fuel = f; outbox = s.outbox ++ record { to = h; note = SettledTo p z } ∷ [] })
+  told_adds f h p z = let g = adds_note K s (record { to = h; note = SettledTo p z }) tt in record {
+    alike = record { number = refl; gifts = refl; noticed = refl; names_known = refl; entries = g.alike.entries };
+    queue = g.queue;
+    held = g.held;
+    notes = g.notes;
   }
 
-  queue_adds : (m : Message Name) → AddsLast K s (record s { queue = s.queue ++ m ∷ [] })
-  queue_adds m = record {
-    adds = record {
-      alike = record { number = refl; gifts = refl; noticed = refl; names_known = refl; entries = λ n. entry_self n (refs.entry_of K s.known n) };
-      queue = queued_more s.queue m;
-      notes = ([], sym (append-nil s.outbox), tt);
-    };
-    queue = (queued (m ∷ []), queued_append s.queue (m ∷ []));
-    held = λ n. refl;
-    puts = ([], sym (append-nil s.outbox), tt);
-  }
-
-  told_adds : (f h : ℕ) (p : Name) (z : state.Passed Name) → AddsLast K s (record s { fuel = f; outbox = s.outbox ++ record { to = h; note = SettledTo p z } ∷ [] })
-  told_adds f h p z = record {
-    adds = record {
-      alike = record { number = refl; gifts = refl; noticed = refl; names_known = refl; entries = λ n. entry_self n (refs.entry_of K s.known n) };
-      queue = λ i h. h;
-      notes = (record { to = h; note = SettledTo p z } ∷ [], refl, (tt, tt));
-    };
-    queue = ([], sym (append-nil (queued s.queue)));
-    held = λ n. refl;
-    puts = (record { to = h; note = SettledTo p z } ∷ [], refl, (told_quiet p z, tt));
-  }
-
-  same_adds : AddsLast K s s
-  same_adds = record {
-    adds = record {
-      alike = record { number = refl; gifts = refl; noticed = refl; names_known = refl; entries = λ n. entry_self n (refs.entry_of K s.known n) };
-      queue = λ i h. h;
-      notes = ([], sym (append-nil s.outbox), tt);
-    };
-    queue = ([], sym (append-nil (queued s.queue)));
-    held = λ n. refl;
-    puts = ([], sym (append-nil s.outbox), tt);
-  }
+  same_adds : AddsOnly K s s
+  same_adds = adds_nothing K s s refl refl refl refl refl refl
 
 -- ---- a vat is told
 
@@ -103,7 +61,7 @@ module _ (K : Naming Name Name) (p : Name) (y : Value Name) (plain : IsPlain K y
   Follows s = (refs.follow K s (Ref p) ≡ y) × (refs.follow K s y ≡ y)
 
   abbrev Told : Vat Name → Vat Name → Type 0
-  Told s t = AddsLast K s t × Follows t
+  Told s t = AddsOnly K s t × Follows t
 
   follows_more : (s : Vat Name) (f : ℕ) (ps : List (state.Put Name)) → Follows s → Follows (record s { fuel = f; outbox = ps })
   unfolding refs.follow refs.severed refs.severed_at refs.severed_by
@@ -207,12 +165,8 @@ module _ (script : Script) (honest : ℕ → Bool) (w : World) (v : ℕ) where
   abbrev Kept : Vat Name → Vat Name → Type 0
   Kept s t = KeepsOrder script honest w v s t
 
-  pub kept_adds : (s t : Vat Name) → AddsLast K s t → Kept s t
-  unfolding amid
-  kept_adds s t g = kept_grown script honest w v s t (adding_grows script honest w v s t g.adds) (λ u x. leads_added u x) (all_more script honest w v s t g)
-    where
-      leads_added : (u : ℕ) (x : Value Name) → LeadsAmid script honest w v t u x ≡ LeadsAmid script honest w v s u x
-      leads_added u x = leads_same script honest w.vats (world.push_all v s.outbox w.links) (world.push_all v t.outbox w.links) (grow_there script honest w v s t g.adds) v s t (refers_same script honest v s t g.adds.alike) u x
+  pub kept_adds : (s t : Vat Name) → AddsOnly K s t → Kept s t
+  kept_adds s t g = kept_grown script honest w v s t (grown_adds script honest w v s t g)
 
   kept_self : (s : Vat Name) → Kept s s
   kept_self s = kept_adds s s (same_adds K s)
@@ -292,7 +246,7 @@ module _ (script : Script) (honest : ℕ → Bool) (w : World) (v : ℕ) where
       unfolding state.each state.◌>>◌ state.and_then state.give state.enqueue
       reacts p [] s h = (kept_self s, h)
       reacts p (m ∷ ms) s h = let t : Vat Name = record s { queue = s.queue ++ m ∷ [] } in
-          if_map (λ u. Kept t u × Follows K p y plain u) (λ u. Kept s u × Follows K p y plain u) (λ u i. (kept_then script honest w v s t u (kept_adds s t (queue_adds K s m)) i.0, i.1)) (state.each state.enqueue ms t)
+          if_map (λ u. Kept t u × Follows K p y plain u) (λ u. Kept s u × Follows K p y plain u) (λ u i. (kept_then script honest w v s t u (kept_adds s t (adds_message K s m)) i.0, i.1)) (state.each state.enqueue ms t)
           (reacts p ms t (follows_queue K p y plain s (s.queue ++ m ∷ []) h))
 
       tells : (p : Name) (hs : List ℕ) (s : Vat Name) → Follows K p y plain s → IfGives (λ t. Kept s t) (state.each (refs.inform K p) hs s)

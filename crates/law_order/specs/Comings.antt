@@ -8,9 +8,10 @@ use Rattle.law_order.specs.Ways.{Lane, Way, Item, Nowhere, Free, End, Mid, Ways,
 use Rattle.law_order.specs.Ways as lanes
 use Rattle.law_order.specs.Places.{item, aimed, ways, amid}
 use Rattle.law_order.specs.Worlds.{IfGives, IsWaiting}
-use Rattle.law_order.specs.Steps.{WaysAmid, LeadsAmid, Ready, IsHeld}
+use Rattle.law_order.specs.Steps.{WaysAmid, LeadsAmid, Ready, IsHeld, KeepsOrder}
 use Rattle.law_order.specs.Arrivals.{keeping, IsLearnt, IsOpenWay, IsHere}
-use Rattle.law_order.specs.Messages.{StaysBehind}
+use Rattle.law_order.specs.Changes.{Lacks}
+use Rattle.law_order.specs.Messages.{StandsOnce, IsNowhere, place_of, StaysBehind}
 
 module _ (w u : Ways) (m : Name) where
   -- From w to u the message came to stand where c led, last in that lane. Or what comes there is lost, and none came.
@@ -52,3 +53,17 @@ CarriedComeLast = (script : Script) (honest : ℕ → Bool) (w : World) (a b : �
     ((q : Name) → p ≡ Mine q → (k : Known Name) × (entry_of (names script b) s.known q ≡ Some k) × IsWaiting k.standing)
     → IsHere p
     → IfGives (λ t. MovesLast (ways script honest (amid b s (keeping a b (Deliver (record { message = m.id; asks = asks; answer = answer }) n verb ys) w))) (ways script honest (amid b t w)) (Way a b) (item m.id n) (aimed b y p)) (send_to (names script b) settle m y p s)
+
+-- ---- where order is kept
+
+-- A message that stood somewhere and stands once at most comes from the place that was found for it to the place that is found, and keeps its order; or where it stood what comes is doomed.
+abbrev pub FoundPlacesKeep : Type 0
+FoundPlacesKeep = (script : Script) (honest : ℕ → Bool) (w : World) (v : ℕ) (s t : Vat Name) (m : Name) → KeepsOrder script honest w v s t → StandsOnce (WaysAmid script honest w v t) m
+    → let c = place_of script honest (amid v s w) m in let d = place_of script honest (amid v t w) m in
+    (c ≡ Nowhere) ⊎ StaysBehind (WaysAmid script honest w v s) (WaysAmid script honest w v t) c d ⊎ Doom (WaysAmid script honest w v t) c
+
+-- A message that stands nowhere any more dooms what it was ahead of: each reference of each vat, and each place that it did not stand in front of.
+abbrev pub LostMessagesDoom : Type 0
+LostMessagesDoom = (script : Script) (honest : ℕ → Bool) (w : World) (v : ℕ) (s t : Vat Name) (m : Name) → KeepsOrder script honest w v s t → IsNowhere (WaysAmid script honest w v t) m
+    → ((u : ℕ) (x : Value Name) → Ahead (WaysAmid script honest w v s) m (LeadsAmid script honest w v s u x) → Doom (WaysAmid script honest w v t) (LeadsAmid script honest w v t u x))
+    × ((l : Lane) (b : List Item) (n : Name) → Lacks m b → Ahead (WaysAmid script honest w v s) m (Mid l b n) → Doom (WaysAmid script honest w v t) (Mid l b n))

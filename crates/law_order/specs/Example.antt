@@ -1,9 +1,9 @@
 -- Two runs, and which message is before which in them; and a history in which a message is taken too early.
 use Rattle.std.specs.Prelude.{◌≡◌, ℕ, pos, Bool, true, false, List, [], ◌∷◌, None, codes}
-use Rattle.def_machine.specs.Values.{Ref, Name, Root, Gift, Sent, same_name, key}
+use Rattle.def_machine.specs.Values.{Ref, Name, Root, Promise, Gift, Sent, same_name, key}
 use Rattle.def_machine.specs.Values as values
 use Rattle.def_machine.specs.State.{Message, Took}
-use Rattle.def_run.specs.World.{Turn, Carry, Script, Event, Here, World, Run, Goes, Stopped, then_goes, begins, open_from, steps_from, run}
+use Rattle.def_run.specs.World.{Entry, Turn, Carry, Script, Event, Here, World, Run, Goes, Stopped, then_goes, begins, open_from, steps_from, run}
 use Rattle.def_run.specs.Draws.{draw_word}
 use Rattle.def_kernel.specs.declared.node.Literal.TheVariants as literal
 use Rattle.def_kernel.specs.declared.node.Node.{Node}
@@ -205,11 +205,30 @@ MessagesAreFound =
     × (stood (message 1 0) ≡ Mid (Held 2 passed_name) [] passed_name)
     × (stood (message 0 1) ≡ Nowhere)
 
+-- the worlds of the script with held messages, before it is told that c is an object, and after
+unfoldable pub opened_world_at : List Entry → World
+opened_world_at es = world_of (then_goes (open_from held_script 0 held_script.vats (begins held_script)) (λ w. steps_from held_script es 1 w))
+
+unfoldable pub stood_after : List Entry → Name → Place
+stood_after es m = place_of held_script (λ v. true) (opened_world_at es) m
+
+-- the promise of a
+unfoldable pub held_for : Name
+held_for = Promise 0 0
+
+-- f and g are held for the promise, f in front. As the promise settles they go to the link to c in that order, both on the object.
+abbrev pub HeldGoInOrder : Type 0
+HeldGoInOrder =
+    (stood_after [] (message 0 0) ≡ Mid (Held 0 held_for) [] held_for)
+    × (stood_after [] (message 0 1) ≡ Mid (Held 0 held_for) (item (message 0 0) held_for ∷ []) held_for)
+    × (stood_after (Carry 1 0 ∷ []) (message 0 0) ≡ Mid (Way 0 1) [] (values.Object 1 0))
+    × (stood_after (Carry 1 0 ∷ []) (message 0 1) ≡ Mid (Way 0 1) (item (message 0 0) (values.Object 1 0) ∷ []) (values.Object 1 0))
+
 -- So f is ahead of g there.
 abbrev pub FirstIsAhead : Type 0
 FirstIsAhead = Ahead waiting_ways (message 0 0) (Mid (Held 2 passed_name) [] passed_name)
 
 -- opens the definitions of this file
 unfoldable pub opened_example : Unit {0}
-unfolding tree_a tree_b tree_c tree_d tree_e held_script passed_script history_of message taken_for exchanged judged world_of waiting_world passed_name waiting_ways leading stood opened_order opened_places opened_messages
+unfolding tree_a tree_b tree_c tree_d tree_e held_script passed_script history_of message taken_for exchanged judged world_of waiting_world passed_name waiting_ways leading stood opened_world_at stood_after held_for opened_order opened_places opened_messages
 opened_example = tt

@@ -3,7 +3,7 @@ use Rattle.std.specs.Prelude.{◌≡◌, ℕ, zero, suc, Bool, true, false, List
 use Rattle.def_machine.specs.Values.{Name, same_name}
 use Rattle.def_machine.specs.State.{Known, Vat}
 use Rattle.def_run.specs.World.{Script, Link, World}
-use Rattle.law_order.specs.Ways.{Lane, Queue, Held, Way, Item, Place, Nowhere, End, Mid, Ways, Doom, Ahead}
+use Rattle.law_order.specs.Ways.{Lane, Queue, Held, Way, Item, Place, Nowhere, Free, End, Mid, Ways, Doom, Ahead}
 use Rattle.law_order.specs.Changes.{Lacks, Loses, Grows, GoesOn, IsLost, GoesOneWay}
 use Rattle.law_order.specs.Places.{item, first_place, ways, opened_places}
 
@@ -22,6 +22,18 @@ pub data IsPlace (w : Ways) (m : Name) : Place → Type 0 where
 -- it stands in one lane at most, and there once
 abbrev pub StandsOnce : Ways → Name → Type 0
 StandsOnce w m = (l k : Lane) (b c : List Item) (n o : Name) → StandsAt w m l b n → StandsAt w m k c o → Mid k c o ≡ Mid l b n
+
+-- the message stands nowhere in front of that place
+abbrev pub LacksAt : Name → Place → Type 0
+LacksAt x (Mid l b n) = Lacks x b
+LacksAt x Nowhere = Unit {0}
+LacksAt x Free = Unit {0}
+LacksAt x (End l n) = Unit {0}
+
+-- the message stands nowhere, and in front of nothing
+pub record IsNowhere (w : Ways) (x : Name) : Type 0 where
+  pub lanes : (l : Lane) → Lacks x (w.stands l)
+  pub places : (l : Lane) (n : Name) → LacksAt x (w.onward l n)
 
 -- ---- as it is found
 
@@ -61,6 +73,10 @@ place_of script honest w m = or_nowhere (found_in (ways script honest w) (lanes_
 
 -- ---- what comes behind
 
+-- From w to u more came to the end of lane l, and none left it.
+abbrev pub More : Ways → Ways → Lane → Type 0
+More w u l = (js : List Item) × (u.stands l ≡ w.stands l ++ js)
+
 -- What was at c before a change is at d after it: all that was ahead of it is ahead of it still, and where it was doomed it is.
 abbrev pub StaysBehind : Ways → Ways → Place → Place → Type 0
 StaysBehind w u c d = (Doom w c → Doom u d) × ((x : Name) → Ahead w x c → Ahead u x d)
@@ -88,6 +104,10 @@ GoneOnIsBehind = (w u : Ways) (l k : Lane) (i : Item) (n : Name) → GoesOn w u 
 abbrev pub LostIsNowhere : Type 0
 LostIsNowhere = (w u : Ways) (l : Lane) (i : Item) → IsLost w u l i → GoesOneWay u l
     → IsPlace u i.mail Nowhere × ((c d : Place) → Loses l i c d → Ahead w i.mail c → Doom u d)
+
+-- What a message is ahead of that stands nowhere is doomed.
+abbrev pub NowhereIsDoomed : Type 0
+NowhereIsDoomed = (w : Ways) (x : Name) (c : Place) → IsNowhere w x → LacksAt x c → Ahead w x c → Doom w c
 
 -- opens the definitions of this file
 unfoldable pub opened_messages : Unit {0}

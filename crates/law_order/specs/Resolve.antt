@@ -7,7 +7,8 @@ use Rattle.def_run.specs.World.{Script, World, names}
 use Rattle.law_order.specs.Ways.{Held, Free}
 use Rattle.law_order.specs.Places.{ways, amid}
 use Rattle.law_order.specs.Worlds.{IfGives, IsWaiting}
-use Rattle.law_order.specs.Settlings.{IsPlain, KeepsOrder, SettlesWell}
+use Rattle.law_order.specs.Settlings.{IsPlain, SettlesWell}
+use Rattle.law_order.specs.Steps.{KeepsOrder}
 
 -- what is known of a name stands as it stood, but p, which was unsettled, may wait now
 abbrev pub StandsNear : Name → Name → Option (Known Name) → Option (Known Name) → Type 0

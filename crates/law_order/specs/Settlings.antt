@@ -4,11 +4,9 @@ use Rattle.def_machine.specs.Values.{Value, Null, Flag, Number, Letter, Text, Pr
 use Rattle.def_machine.specs.State.{Message, Standing, Unsettled, WaitsOn, Viewed, Settled, Known, Vat, Happened, Lost, Settles, WhereSome, each}
 use Rattle.def_machine.specs.Refs.{Settler, entry_of, follow, send_on, settle_at}
 use Rattle.def_run.specs.World.{Script, World, names}
-use Rattle.law_order.specs.Ways.{Lane, Queue, Held, Item, Mid, Ways, Doom}
-use Rattle.law_order.specs.Messages.{StandsAt, StaysBehind}
 use Rattle.law_order.specs.Places.{ways, amid}
 use Rattle.law_order.specs.Worlds.{IfGives}
-use Rattle.law_order.specs.Steps.{WaysAmid, LeadsAmid, IsApart}
+use Rattle.law_order.specs.Steps.{KeepsOrder}
 use Rattle.law_order.specs.Settle.{SettlesHere, IsReady, IsOwnSpot, AllOn, aimed_at, settled_to}
 
 abbrev pub with_line : Vat Name → Happened Name → Vat Name
@@ -27,26 +25,6 @@ IsPlain K (Broken p) = Unit {0}
 IsPlain K (Items k) = ⊥
 
 module _ (script : Script) (honest : ℕ → Bool) (w : World) (v : ℕ) where
-  -- the ways in the middle of the step
-  abbrev pub WaysIn : Vat Name → Ways
-  WaysIn s = WaysAmid script honest w v s
-
-  -- Message m stood with just b in front of it, on the name n, in what the vat held for p. From s to t it stands there still; or it came to the vat's queue, where all is ahead of it that was; or no object takes what was held there.
-  pub data IsSentOn (s t : Vat Name) (m p : Name) (b : List Item) (n : Name) : Type 0 where
-    still_held : StandsAt (WaysIn t) m (Held v p) b n → IsSentOn s t m p b n
-    now_queued : {a : List Item} {o : Name} → StandsAt (WaysIn t) m (Queue v) a o → StaysBehind (WaysIn s) (WaysIn t) (Mid (Held v p) b n) (Mid (Queue v) a o) → IsSentOn s t m p b n
-    now_lost : Doom (WaysIn t) (Mid (Held v p) b n) → IsSentOn s t m p b n
-
-  -- From s to t, in the middle of a step, what is doomed stays doomed and what is ahead stays ahead, of each thing from the place that it had to the place that it has.
-  pub record KeepsOrder (s t : Vat Name) : Type 0 where
-    -- each reference, of each vat
-    pub references : (u : ℕ) (x : Value Name) → StaysBehind (WaysIn s) (WaysIn t) (LeadsAmid script honest w v s u x) (LeadsAmid script honest w v t u x)
-    -- what stays where it stood
-    pub places : (l : Lane) (b : List Item) (n : Name) → StaysBehind (WaysIn s) (WaysIn t) (Mid l b n) (Mid l b n)
-    -- So does each message in a queue, on a link, or held by another vat.
-    pub apart : (m : Name) (l : Lane) (b : List Item) (n : Name) → IsApart script honest w v l → StandsAt (WaysIn s) m l b n → StandsAt (WaysIn t) m l b n
-    pub held : (m p : Name) (b : List Item) (n : Name) → StandsAt (WaysIn s) m (Held v p) b n → IsSentOn s t m p b n
-
   -- ---- what is asked of each state between, where all that settles settles to y
 
   module _ (y : Value Name) where

@@ -1,8 +1,8 @@
 //! The place of each message.
 
-ghost use Rattle.law_order.specs.Comings.{CarriedComeLast, SendsComeLast};
-ghost use Rattle.law_order.specs.Example.{MessagesAreFound};
-ghost use Rattle.law_order.specs.Messages.{ComersAreBehind, GoneOnIsBehind, LostIsNowhere, PlacesAreFound, PlacesAreOne};
+ghost use Rattle.law_order.specs.Comings.{CarriedComeLast, FoundPlacesKeep, LostMessagesDoom, SendsComeLast};
+ghost use Rattle.law_order.specs.Example.{HeldGoInOrder, MessagesAreFound};
+ghost use Rattle.law_order.specs.Messages.{ComersAreBehind, GoneOnIsBehind, LostIsNowhere, NowhereIsDoomed, PlacesAreFound, PlacesAreOne};
 
 /// The place that is found by a message's name is where the message stands: its lane, with just what is in
 /// front of it there, on its name. Where none is found the message stands in no lane.
@@ -58,4 +58,31 @@ pub fn sends_come_last()
 /// It asks what `carried_messages_go_on` asks.
 pub fn carried_come_last()
     ensures { CarriedComeLast }
+{}
+
+/// What a message is ahead of that stands nowhere is doomed: no object will take it.
+pub fn nowhere_is_doomed()
+    ensures { NowhereIsDoomed }
+{}
+
+/// Where order is kept, as in a turn or a settling, each message that stood somewhere comes from the place that
+/// was found for it to the place that is found then, and all is ahead of it that was; or what comes to where
+/// it stood is doomed.
+///
+/// It asks that the message stands once at most in the end.
+pub fn found_places_keep()
+    ensures { FoundPlacesKeep }
+{}
+
+/// Where order is kept, and a message stands nowhere any more, all that it was ahead of is doomed: each reference
+/// of each vat, and each message that stands where it stood.
+pub fn lost_messages_doom()
+    ensures { LostMessagesDoom }
+{}
+
+/// The places of two messages by computing: they are held for a promise, one behind the other, and as it settles to
+/// an object of another vat they stand so on the link to that vat.
+#[tactic(auto, unfolding(crate::specs::Example::opened_example))]
+pub fn held_go_in_order()
+    ensures { HeldGoInOrder }
 {}
