@@ -176,21 +176,18 @@ module _ {N W : Type 0} (K : Naming N W) (E : Ground N W) (spots : (i : ℕ) →
       (λ k i f h. took m (among_last r.happened l) (k, subst (λ z. Reaches K E.start.vat.known t.happened z (Ref k)) (sym f) at_itself, h))
       (λ k i f h name v j q. inr (a, m, among_last r.happened l, j, q, (k, subst (λ z. Reaches K E.start.vat.known t.happened z (Ref k)) (sym f) at_itself, h)))))
 
-module _ {N W : Type 0} (K : Naming N W) (spots : (i : ℕ) → K.spot (K.object i) ≡ Own i) where
+module _ {N W : Type 0} (K : Naming N W) where
   first_told : (ks : List (Known N)) (so : List (Happened N)) (x : Standing N) (n : N) → standing_of K ks n ≡ x → IsTold K ks so n x
   first_told ks so (Settled y) n e = settled e
   first_told ks so (Viewed q) n e = viewed e
   first_told ks so (WaitsOn q) n e = tt
   first_told ks so Unsettled n e = tt
 
-  abbrev first_ground : List (ℕ × Item N) → Step N W → Vat N → Ground N W
-  first_ground given step s = record { things = s.things; slots = s.slots; lists = length s.lists; given = given; start = record { step = step; vat = s } }
-
   each_among : {A : Type 0} (P : A → Type 0) (xs : List A) → ((x : A) → IsAmong x xs → P x) → AllOf P xs
   each_among P [] f = tt
   each_among P (x ∷ xs) f = (f x (inl refl), each_among P xs (λ y m. f y (inr m)))
 
-  first_causes : (step : Step N W) (s : Vat N) → s.happened ≡ [] → Causes K (record { step = step; vat = s }) s
+  pub first_causes : (step : Step N W) (s : Vat N) → s.happened ≡ [] → Causes K (record { step = step; vat = s }) s
   first_causes step s e = let E : Start N W = record { step = step; vat = s } in record {
     told = λ n. first_told s.known s.happened (standing_of K s.known n) n refl;
     lines = subst (λ es. CausedAfter K E [] es) (sym e) tt;
@@ -202,11 +199,15 @@ module _ {N W : Type 0} (K : Naming N W) (spots : (i : ℕ) → K.spot (K.object
     mails = no_less (length s.mails);
   }
 
+module _ {N W : Type 0} (K : Naming N W) (spots : (i : ℕ) → K.spot (K.object i) ≡ Own i) where
+  abbrev first_ground : List (ℕ × Item N) → Step N W → Vat N → Ground N W
+  first_ground given step s = record { things = s.things; slots = s.slots; lists = length s.lists; given = given; start = record { step = step; vat = s } }
+
   -- at the beginning of a step
   good_first : (given : List (ℕ × Item N)) (step : Step N W) (s : Vat N) → s.happened ≡ [] → ((i : ℕ) → live_at s.things i ≡ false) → Good K (first_ground given step s) s
   unfolding is_live
   good_first given step s e still = record {
-    causes = first_causes step s e;
+    causes = first_causes K step s e;
     lines = subst (λ es. Connected K (held K (first_ground given step s) s) es) (sym e) tt;
     resolvers = λ i p f. inl f;
     judged = λ i view f. absurd (true_false (sym (live_found s.things i (Audition true view) f) ∙ still i));

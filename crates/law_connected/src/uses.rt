@@ -1,5 +1,6 @@
 //! What activations use, they know.
 
+ghost use Rattle.law_connected.specs.Shortening.{ShorteningsOpenWhatIsAsked};
 ghost use Rattle.law_connected.specs.UseLaws.{StepsAreConnected};
 ghost use Rattle.law_connected.specs.UseLaws.{RunsAreConnected};
 ghost use Rattle.law_connected.specs.Told.{StepsTellWhatTheyMake};
@@ -12,6 +13,13 @@ ghost use Rattle.law_connected.specs.News.{WhatIsMadeIsNew};
 /// that nothing has happened in the step before, and that no ejector and no audition is live.
 pub fn steps_are_connected()
     ensures { StepsAreConnected }
+{}
+
+/// Where a note arrives that asks a vat to open a gift for what a name settled to, each note that the
+/// vat puts in this step opens that gift as an object to which the name leads, and goes to the vat of
+/// that object. It asks that nothing has happened in the step before and no note was put in it.
+pub fn shortenings_open_what_is_asked()
+    ensures { ShorteningsOpenWhatIsAsked }
 {}
 
 /// In every run, of any script, every step that a vat begins in a world of the run is connected:
