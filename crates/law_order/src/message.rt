@@ -1,7 +1,7 @@
 //! The place of each message.
 
 ghost use Rattle.law_order.specs.Comings.{CarriedComeLast, FoundPlacesKeep, HeldComeInOrder, LostMessagesDoom, QueuesTellOrder, SendsComeLast};
-ghost use Rattle.law_order.specs.Example.{HeldGoInOrder, MessagesAreFound};
+ghost use Rattle.law_order.specs.Example.{HeldGoInOrder, MessagesAreFound, WaitingComeLast};
 ghost use Rattle.law_order.specs.Leavings.{CarriedIsFirst, FirstLeftKeeps, TakenIsFirst};
 ghost use Rattle.law_order.specs.Messages.{ComersAreBehind, GoneOnIsBehind, LostIsNowhere, NowhereIsDoomed, PlacesAreFound, PlacesAreOne};
 
@@ -122,4 +122,11 @@ pub fn taken_is_first()
 /// It asks that the link is there and not cut, and that both its ends are honest.
 pub fn carried_is_first()
     ensures { CarriedIsFirst }
+{}
+
+/// The places of three messages by computing: two were held for a promise, and one, sent before them, for a promise
+/// that waited on it. As the first settles to an object they come to the queue in this order.
+#[tactic(auto, unfolding(crate::specs::Example::opened_example))]
+pub fn waiting_come_last()
+    ensures { WaitingComeLast }
 {}
