@@ -236,7 +236,7 @@ module _ (script : Script) (honest : ℕ → Bool) (w : World) (v : ℕ) (s : Va
   abbrev Pushed : List Link
   Pushed = world.push_all v s.outbox w.links
 
-  queue_is : queued s.queue ≡ record { mail = m.id; aim = n } ∷ queued ms
+  pub queue_is : queued s.queue ≡ record { mail = m.id; aim = n } ∷ queued ms
   unfolding queued
   queue_is = ap (λ q. queued q) first ∙ ap (λ z. elim z [ Ref k ↦ record { mail = m.id; aim = k } ∷ queued ms | _ ↦ queued ms ]) on
 

@@ -35,7 +35,7 @@ module _ (script : Script) (honest : ℕ → Bool) where
   Then f (Some l) = Some (f l)
   Then f None = None
 
-  put_on : (f : Link → Link) (v h : ℕ) → ((l : Link) → world.is_link v h (f l) ≡ world.is_link v h l) → (ls : List Link) (o : Option Link) → world.link_at v h ls ≡ o → world.link_at v h (world.with_link f v h ls) ≡ Then f o
+  pub put_on : (f : Link → Link) (v h : ℕ) → ((l : Link) → world.is_link v h (f l) ≡ world.is_link v h l) → (ls : List Link) (o : Option Link) → world.link_at v h ls ≡ o → world.link_at v h (world.with_link f v h ls) ≡ Then f o
   unfolding world.with_link world.link_at
   put_on f v h same [] o e = ap (λ p. Then f p) e
   put_on f v h same (k ∷ ls) o e = go (λ q. put_on f v h same ls o q) (world.is_link v h k) refl e

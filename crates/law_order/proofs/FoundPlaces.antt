@@ -7,11 +7,13 @@ use Rattle.def_machine.specs.State.{Known, Vat, is_in}
 use Rattle.def_machine.specs.Refs as refs
 use Rattle.def_machine.specs.Refs.{Near, Mine, Away, Gone}
 use Rattle.def_run.specs.World.{Script, World, names}
-use Rattle.law_order.specs.Ways.{Lane, Queue, Held, Way, Item, Place, Nowhere, End, Mid, Ways, Doom, by_end, by_mid, Ahead, doomed_there, in_end, in_mid, past_end, past_mid}
-use Rattle.law_order.specs.Places.{aimed, by_host, by_follow, of_name, leads_in, leads_at, leads, amid}
+use Rattle.law_order.specs.Ways.{Lane, Queue, Held, Way, Item, Place, Nowhere, Free, End, Mid, Ways, IsIn, one_way, Doom, by_end, by_mid, Ahead, doomed_there, in_end, in_mid, past_end, past_mid}
+use Rattle.law_order.specs.Places.{item, ways, ways_of, onward_at, aimed, by_host, by_follow, of_name, leads_in, leads_at, leads, amid}
 use Rattle.law_order.specs.Messages.{StandsAt, IsPlace, stands_there, stands_not, StandsOnce, LacksAt, IsNowhere, place_of, StaysBehind, NowhereIsDoomed}
 use Rattle.law_order.specs.Steps.{WaysAmid, LeadsAmid, IsSentOn, still_held, sent_there, now_lost, KeepsOrder}
-use Rattle.law_order.specs.Comings.{FoundPlacesKeep, LostMessagesDoom}
+use Rattle.law_order.specs.Comings.{FoundPlacesKeep, LostMessagesDoom, QueuesTellOrder, HeldComeInOrder}
+use Rattle.law_order.proofs.Changes.{ahead_free}
+use Rattle.law_order.proofs.Kept.{doom_free}
 use Rattle.law_order.proofs.Messages.{places_are_found, places_are_one}
 
 -- ---- what is lost
@@ -141,3 +143,43 @@ module _ (script : Script) (honest : ℕ → Bool) (w : World) (v : ℕ) (s t : 
 
 pub found_places_keep : FoundPlacesKeep
 found_places_keep = λ script honest w v s t m g once. fate script honest w v s t m g once (place_of script honest (amid v s w) m) (places_are_found script honest (amid v s w) m)
+
+-- ---- in a queue
+
+module _ (w : Ways) (v : ℕ) (free : (n : Name) → w.onward (Queue v) n ≡ Free) where
+  in_front : (a : List Item) (n x : Name) → Ahead w x (Mid (Queue v) a n) → (o : Name) × IsIn (item x o) a
+  in_front a n x (doomed_there (by_mid h)) = absurd (doom_free w (subst (Doom w) (free n) h))
+  in_front a n x (in_mid {m = m} i f) = (m, i)
+  in_front a n x (past_mid h) = absurd (ahead_free w x (w.onward (Queue v) n) (free n) h)
+
+queue_free : (script : Script) (honest : ℕ → Bool) (w : World) (v : ℕ) (n : Name) → (ways script honest w).onward (Queue v) n ≡ Free
+unfolding ways ways_of onward_at
+queue_free script honest w v n = refl
+
+pub queues_tell_order : QueuesTellOrder
+queues_tell_order = λ script honest w v a n x h. in_front (ways script honest w) v (λ m. queue_free script honest w v m) a n x h
+
+module _ (script : Script) (honest : ℕ → Bool) (w : World) (v : ℕ) (s t : Vat Name) (m p : Name) (b : List Item) (n : Name) (a : List Item) (o : Name) (g : KeepsOrder script honest w v s t) (stood : StandsAt (WaysAmid script honest w v s) m (Held v p) b n) (stands : StandsAt (WaysAmid script honest w v t) m (Queue v) a o) (once : StandsOnce (WaysAmid script honest w v t) m) (alive : Doom (WaysAmid script honest w v t) (Mid (Held v p) b n) → ⊥) where
+  abbrev S : Ways
+  S = WaysAmid script honest w v s
+
+  abbrev Z : Ways
+  Z = WaysAmid script honest w v t
+
+  abbrev Ahead0 : Name → Type 0
+  Ahead0 x = Ahead S x (Mid (Held v p) b n)
+
+  came_behind : IsSentOn script honest w v s t m p b n → StaysBehind S Z (Mid (Held v p) b n) (Mid (Queue v) a o)
+  came_behind (still_held h) = subst (λ d. StaysBehind S Z (Mid (Held v p) b n) d) (once (Queue v) (Held v p) a b o n stands h) (g.places (Held v p) b n)
+  came_behind (sent_there {l = l} {a = c} {o = k} i h j) = subst (λ d. StaysBehind S Z (Mid (Held v p) b n) d) (sym (once l (Queue v) c a k o h stands)) j
+  came_behind (now_lost h) = absurd (alive h)
+
+  was_ahead : (x : Name) → (((k : Name) × IsIn (item x k) b) ⊎ ((q k : Name) × (S.onward (Held v p) n ≡ End (Held v q) q) × IsIn (item x k) (S.stands (Held v q)))) → Ahead0 x
+  was_ahead x (inl i) = in_mid i.1 (one_way tt)
+  was_ahead x (inr i) = past_mid (subst (Ahead S x) (sym i.2) (in_end i.3 (one_way tt)))
+
+  comes_in_order : (x : Name) → Ahead0 x → (k : Name) × IsIn (item x k) a
+  comes_in_order x h = in_front Z v (λ k. queue_free script honest (amid v t w) v k) a o x ((came_behind (g.held m p b n stood)).1 x h)
+
+pub held_come_in_order : HeldComeInOrder
+held_come_in_order = λ script honest w v s t m p b n a o g stood stands once alive x i. comes_in_order script honest w v s t m p b n a o g stood stands once alive x (was_ahead script honest w v s t m p b n a o g stood stands once alive x i)

@@ -40,3 +40,4 @@ pub mod Given
 pub mod Messages
 pub mod Comings
 pub mod FoundPlaces
+pub mod Leavings

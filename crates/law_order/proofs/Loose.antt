@@ -308,7 +308,7 @@ module _ (script : Script) (honest : ℕ → Bool) (w : World) (v : ℕ) (s t : 
   held_by n (Some j) (Some k) e = ap (λ ms. held_on n ms) e.2
 
   more_waiting : (l : Lane) → More (ways script honest (amid v s w)) (ways script honest (amid v t w)) l
-  more_waiting (Queue u) = queue_more script honest w v s t [] (ap (λ q. queued q) g.queue ∙ sym (append-nil (queued s.queue))) u
+  more_waiting (Queue u) = queue_more script honest w v s t u (λ e. ([], ap (λ q. queued q) g.queue ∙ sym (append-nil (queued s.queue))))
   more_waiting (Held u n) = held_more script honest w v s t u n (λ e. ([], held_by n (refs.entry_of (names script v) s.known n) (refs.entry_of (names script v) t.known n) (g.entries n) ∙ sym (append-nil (held_in n (refs.entry_of (names script v) s.known n)))))
   more_waiting (Way a b) = way_more script honest w v s t [] (g.outbox ∙ sym (append-nil s.outbox)) a b
 

@@ -147,7 +147,7 @@ module _ (script : Script) (honest : ℕ → Bool) (w : World) (v : ℕ) (s : Va
   }
 
   came_more : (l : Lane) → More (ways script honest (amid v s w)) (ways script honest (amid v Came w)) l
-  came_more (Queue u) = queue_more script honest w v s Came [] (sym (append-nil (queued s.queue))) u
+  came_more (Queue u) = queue_more script honest w v s Came u (λ e. ([], sym (append-nil (queued s.queue))))
   came_more (Held u m) = held_more script honest w v s Came u m (λ e. came_holds K s n (host_of n) plain r.ends m)
   came_more (Way a b) = way_more script honest w v s Came [] (sym (append-nil s.outbox)) a b
 
@@ -289,7 +289,7 @@ module _ (script : Script) (honest : ℕ → Bool) (w : World) (v h word : ℕ) 
   opened_leads u x = leads_same script honest w.vats After After (all_same After) v s Opened (refers_same script honest v s Opened there) u x
 
   opened_more : (l : Lane) → More (ways script honest (amid v s w)) (ways script honest (amid v Opened w)) l
-  opened_more (Queue u) = queue_more script honest w v s Opened [] (sym (append-nil (queued s.queue))) u
+  opened_more (Queue u) = queue_more script honest w v s Opened u (λ e. ([], sym (append-nil (queued s.queue))))
   opened_more (Held u m) = held_more script honest w v s Opened u m (λ e. ([], sym (append-nil (held_in m (refs.entry_of (names script v) s.known m)))))
   opened_more (Way a b) = way_more script honest w v s Opened (record { to = h; note = Open D n } ∷ []) refl a b
 

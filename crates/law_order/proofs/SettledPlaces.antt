@@ -140,7 +140,7 @@ module _ (script : Script) (honest : ℕ → Bool) (w : World) (v : ℕ) (r s : 
         go (changes k e i j) = absurd (f e)
 
     apart_still : (m : Name) (l : Lane) (b : List Item) (n : Name) → IsApart script honest w v l → StandsAt (W s) m l b n → StandsAt (W After) m l b n
-    apart_still m (Queue u) b n i h = stands_more (W s) (W After) m (Queue u) b n (queue_more script honest w v s After js grown u) h
+    apart_still m (Queue u) b n i h = stands_more (W s) (W After) m (Queue u) b n (queue_more script honest w v s After u (λ e. (js, grown))) h
     apart_still m (Held u o) b n i h = stands_more (W s) (W After) m (Held u o) b n (held_more script honest w v s After u o (λ e. absurd (i e))) h
     apart_still m (Way a c) b n i h = stands_more (W s) (W After) m (Way a c) b n (way_more script honest w v s After [] (sym (append-nil s.outbox)) a c) h
 

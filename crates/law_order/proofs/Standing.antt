@@ -148,14 +148,17 @@ module _ (script : Script) (honest : ℕ → Bool) (w : World) (v : ℕ) (s t : 
   abbrev QueueOf : Option (Vat Name) → List Item
   QueueOf o = elim o [ Some q ↦ queued q.queue | None ↦ [] ]
 
-  queue_found : (js : List Item) → queued t.queue ≡ queued s.queue ++ js → (u : ℕ) → Found v s t w.vats u → (is : List Item) × (QueueOf (slice_get (world.put_at v t w.vats) u) ≡ QueueOf (slice_get (world.put_at v s w.vats) u) ++ is)
-  queue_found js e u (here i a b) = (js, ap (λ o. QueueOf o) b ∙ e ∙ ap (λ o. QueueOf o ++ js) (sym a))
-  queue_found js e u (apart i a) = ([], ap (λ o. QueueOf o) a ∙ sym (append-nil (QueueOf (slice_get (world.put_at v s w.vats) u))))
-  queue_found js e u (none a b) = ([], ap (λ o. QueueOf o) b ∙ ap (λ o. QueueOf o ++ []) (sym a))
+  abbrev QueueMore : ℕ → Type 0
+  QueueMore u = (js : List Item) × (QueueOf (slice_get (world.put_at v t w.vats) u) ≡ QueueOf (slice_get (world.put_at v s w.vats) u) ++ js)
 
-  pub queue_more : (js : List Item) → queued t.queue ≡ queued s.queue ++ js → (u : ℕ) → More (W s) (W t) (Queue u)
+  queue_found : (u : ℕ) → (u ≡ v → (js : List Item) × (queued t.queue ≡ queued s.queue ++ js)) → Found v s t w.vats u → QueueMore u
+  queue_found u e (here i a b) = let f = e i in (f.0, ap (λ o. QueueOf o) b ∙ f.1 ∙ ap (λ o. QueueOf o ++ f.0) (sym a))
+  queue_found u e (apart i a) = ([], ap (λ o. QueueOf o) a ∙ sym (append-nil (QueueOf (slice_get (world.put_at v s w.vats) u))))
+  queue_found u e (none a b) = ([], ap (λ o. QueueOf o) b ∙ ap (λ o. QueueOf o ++ []) (sym a))
+
+  pub queue_more : (u : ℕ) → (u ≡ v → (js : List Item) × (queued t.queue ≡ queued s.queue ++ js)) → More (W s) (W t) (Queue u)
   unfolding ways ways_of stands_at amid
-  queue_more js e u = queue_found js e u (found v s t w.vats u)
+  queue_more u e = queue_found u e (found v s t w.vats u)
 
   abbrev HeldOf : ℕ → Name → Option (Vat Name) → List Item
   HeldOf u n o = elim o [ Some q ↦ held_in n (refs.entry_of (names script u) q.known n) | None ↦ [] ]
@@ -188,6 +191,6 @@ module _ (script : Script) (honest : ℕ → Bool) (w : World) (v : ℕ) (r : Va
   held_is n k e = ap (λ o. elim o [ Some s ↦ held_in n (refs.entry_of (names script v) s.known n) | None ↦ [] ]) (get_put w.vats v r t at) ∙ ap (λ o. held_in n o) e
 
 pub more_lanes : (script : Script) (honest : ℕ → Bool) (w : World) (v : ℕ) (s t : Vat Name) → AddsOnly (names script v) s t → (l : Lane) → More (ways script honest (amid v s w)) (ways script honest (amid v t w)) l
-more_lanes script honest w v s t g (Queue u) = queue_more script honest w v s t g.queue.0 g.queue.1 u
+more_lanes script honest w v s t g (Queue u) = queue_more script honest w v s t u (λ e. g.queue)
 more_lanes script honest w v s t g (Held u n) = held_more script honest w v s t u n (λ e. g.held n)
 more_lanes script honest w v s t g (Way a b) = way_more script honest w v s t g.notes.0 g.notes.1 a b

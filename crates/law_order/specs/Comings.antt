@@ -4,14 +4,14 @@ use Rattle.def_machine.specs.Values.{Words, Value, Ref, Name, Sent}
 use Rattle.def_machine.specs.State.{Message, Passeds, Deliver, Vat, Known}
 use Rattle.def_machine.specs.Refs.{Settler, Mine, Away, entry_of, follow, place, send, send_only, send_to}
 use Rattle.def_run.specs.World.{Script, World, names}
-use Rattle.law_order.specs.Ways.{Lane, Way, Item, Nowhere, Free, End, Mid, Ways, Doom, Ahead}
+use Rattle.law_order.specs.Ways.{Lane, Queue, Held, Way, Item, Nowhere, Free, End, Mid, Ways, IsIn, Doom, Ahead}
 use Rattle.law_order.specs.Ways as lanes
 use Rattle.law_order.specs.Places.{item, aimed, ways, amid}
 use Rattle.law_order.specs.Worlds.{IfGives, IsWaiting}
 use Rattle.law_order.specs.Steps.{WaysAmid, LeadsAmid, Ready, IsHeld, KeepsOrder}
 use Rattle.law_order.specs.Arrivals.{keeping, IsLearnt, IsOpenWay, IsHere}
 use Rattle.law_order.specs.Changes.{Lacks}
-use Rattle.law_order.specs.Messages.{StandsOnce, IsNowhere, place_of, StaysBehind}
+use Rattle.law_order.specs.Messages.{StandsAt, StandsOnce, IsNowhere, place_of, StaysBehind}
 
 module _ (w u : Ways) (m : Name) where
   -- From w to u the message came to stand where c led, last in that lane. Or what comes there is lost, and none came.
@@ -67,3 +67,16 @@ abbrev pub LostMessagesDoom : Type 0
 LostMessagesDoom = (script : Script) (honest : ℕ → Bool) (w : World) (v : ℕ) (s t : Vat Name) (m : Name) → KeepsOrder script honest w v s t → IsNowhere (WaysAmid script honest w v t) m
     → ((u : ℕ) (x : Value Name) → Ahead (WaysAmid script honest w v s) m (LeadsAmid script honest w v s u x) → Doom (WaysAmid script honest w v t) (LeadsAmid script honest w v t u x))
     × ((l : Lane) (b : List Item) (n : Name) → Lacks m b → Ahead (WaysAmid script honest w v s) m (Mid l b n) → Doom (WaysAmid script honest w v t) (Mid l b n))
+
+-- What is ahead of a message in a queue stands in front of it there.
+abbrev pub QueuesTellOrder : Type 0
+QueuesTellOrder = (script : Script) (honest : ℕ → Bool) (w : World) (v : ℕ) (a : List Item) (n x : Name) → Ahead (ways script honest w) x (Mid (Queue v) a n) → (o : Name) × IsIn (item x o) a
+
+-- Where order is kept, and a message that was held comes to the queue of the vat: all that was ahead of it stands in front of it there.
+-- So those that one name held come in their order; and those that a name held which waits for another come behind all that the other held.
+abbrev pub HeldComeInOrder : Type 0
+HeldComeInOrder = (script : Script) (honest : ℕ → Bool) (w : World) (v : ℕ) (s t : Vat Name) (m p : Name) (b : List Item) (n : Name) (a : List Item) (o : Name)
+    → KeepsOrder script honest w v s t → StandsAt (WaysAmid script honest w v s) m (Held v p) b n → StandsAt (WaysAmid script honest w v t) m (Queue v) a o → StandsOnce (WaysAmid script honest w v t) m
+    → (Doom (WaysAmid script honest w v t) (Mid (Held v p) b n) → ⊥)
+    → (x : Name) → (((k : Name) × IsIn (item x k) b) ⊎ ((q k : Name) × ((WaysAmid script honest w v s).onward (Held v p) n ≡ End (Held v q) q) × IsIn (item x k) ((WaysAmid script honest w v s).stands (Held v q))))
+    → (k : Name) × IsIn (item x k) a

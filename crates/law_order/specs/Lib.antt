@@ -13,3 +13,4 @@ pub mod Arrivals
 pub mod Steps
 pub mod OrderSendPassing
 pub mod Comings
+pub mod Leavings

@@ -1,7 +1,8 @@
 //! The place of each message.
 
-ghost use Rattle.law_order.specs.Comings.{CarriedComeLast, FoundPlacesKeep, LostMessagesDoom, SendsComeLast};
-ghost use Rattle.law_order.specs.Example.{HeldGoInOrder, MessagesAreFound};
+ghost use Rattle.law_order.specs.Comings.{CarriedComeLast, FoundPlacesKeep, HeldComeInOrder, LostMessagesDoom, QueuesTellOrder, SendsComeLast};
+ghost use Rattle.law_order.specs.Example.{HeldGoInOrder, MessagesAreFound, WaitingComeLast};
+ghost use Rattle.law_order.specs.Leavings.{CarriedIsFirst, FirstLeftKeeps, TakenIsFirst};
 ghost use Rattle.law_order.specs.Messages.{ComersAreBehind, GoneOnIsBehind, LostIsNowhere, NowhereIsDoomed, PlacesAreFound, PlacesAreOne};
 
 /// The place that is found by a message's name is where the message stands: its lane, with just what is in
@@ -85,4 +86,47 @@ pub fn lost_messages_doom()
 #[tactic(auto, unfolding(crate::specs::Example::opened_example))]
 pub fn held_go_in_order()
     ensures { HeldGoInOrder }
+{}
+
+/// What is ahead of a message in a queue stands in front of it there: nothing else is.
+pub fn queues_tell_order()
+    ensures { QueuesTellOrder }
+{}
+
+/// Where order is kept, as in a settling, and a message that the vat held comes to its queue, all that was ahead of
+/// it stands in front of it there. So what one name held comes in its order, and what a name held that waited
+/// for another comes behind all that the other held.
+///
+/// A machine that sends on the last first, or lets the names that wait settle before what is held goes on, keeps
+/// no order. It asks that the message stands once in the end, and that what was held there is not doomed.
+pub fn held_come_in_order()
+    ensures { HeldComeInOrder }
+{}
+
+/// Where the first message of a lane leaves it, and else messages come to the ends of lanes alone, each other message
+/// stands where it stood, less that one in front of it.
+///
+/// So by `taking_keeps`, `going_on_keeps` or `losing_keeps` all is ahead of it that was.
+pub fn first_left_keeps()
+    ensures { FirstLeftKeeps }
+{}
+
+/// As the first message of a queue is taken, if it is on an object, it leaves the queue so.
+pub fn taken_is_first()
+    ensures { TakenIsFirst }
+{}
+
+/// As a note arrives that delivers a message, the message leaves the front of its link so, whatever the receiver
+/// adds in that change.
+///
+/// It asks that the link is there and not cut, and that both its ends are honest.
+pub fn carried_is_first()
+    ensures { CarriedIsFirst }
+{}
+
+/// The places of three messages by computing: two were held for a promise, and one, sent before them, for a promise
+/// that waited on it. As the first settles to an object they come to the queue in this order.
+#[tactic(auto, unfolding(crate::specs::Example::opened_example))]
+pub fn waiting_come_last()
+    ensures { WaitingComeLast }
 {}
