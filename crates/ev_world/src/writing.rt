@@ -84,7 +84,7 @@ pub(crate) fn end_step<K: Sink>(
             if let Err(why) = write_lines(alloc, names, &world.history, out) {
                 return Err(Halt::Unwritten(why));
             }
-            world.history = History::new(alloc);
+            world.history.clear();
             Ok(())
         }
     }

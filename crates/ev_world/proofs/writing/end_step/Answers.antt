@@ -18,4 +18,4 @@ returns-in-Err-write_lines-clause-written g c = λ S w course alone held before 
 pub returns-in_default-clause-written : goal.returns-in_default-clause-written
 returns-in_default-clause-written g c = λ S w course alone held before is came.
     let went = subst (λ (r : Result (Unit {0}) VatStop). CourseIs S r c.args.step alone c.args.world.now) c.in-Ok.is came in
-    step_goes S c.args.names.now held (g.K.Sink.written c.args.out.now) w course alone c.args.world.now before is (g.K.Sink.written c.write_lines.new.out) c.new.result c.new.ensures went c.in_default.ensures.text
+    step_goes S c.args.names.now held (g.K.Sink.written c.args.out.now) w course alone c.args.world.now before is (g.K.Sink.written c.write_lines.new.out) c.clear.new.self c.clear.ensures went c.in_default.ensures.text
