@@ -59,7 +59,7 @@ module _ (K : Naming Name Name) (p : Name) (s t : Vat Name) (g : OnlyWaits K p s
   led_near f h e n (Some j) None i = absurd i
   led_near f h e n (Some j) (Some k) i = led_known f h e n j k i.0
 
-  follows_alike : (d : ℕ) (x : Value Name) → refs.follow_at K d t.known x ≡ refs.follow_at K d s.known x
+  pub follows_alike : (d : ℕ) (x : Value Name) → refs.follow_at K d t.known x ≡ refs.follow_at K d s.known x
   unfolding refs.follow_at refs.standing_of
   follows_alike zero x = refl
   follows_alike (suc d) (Ref n) = led_near (λ y. refs.follow_at K d t.known y) (λ y. refs.follow_at K d s.known y) (λ y. follows_alike d y) n (refs.entry_of K s.known n) (refs.entry_of K t.known n) (g.entries n)

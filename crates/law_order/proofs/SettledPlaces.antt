@@ -2,7 +2,7 @@
 use Rattle.std.proofs.Common.{◌≡◌, ℕ, Bool, true, false, List, [], ◌∷◌, ◌++◌, Option, Some, None, refl, sym, ap, subst, ◌∙◌, inl, inr}
 use Rattle.std.proofs.lemmas.List.{append-nil, append_assoc}
 use Rattle.std.specs.Prelude.{slice_get}
-use Rattle.def_machine.specs.Values.{Value, Null, Flag, Number, Letter, Text, Prim, Broken, Items, Ref, Name, Naming}
+use Rattle.def_machine.specs.Values.{Value, Null, Flag, Number, Letter, Text, Prim, Broken, Items, Ref, Name, Promise, Answer, Naming}
 use Rattle.def_machine.specs.State.{Message, Known, Vat, Settle}
 use Rattle.def_machine.specs.Refs as refs
 use Rattle.def_machine.specs.Refs.{Near}
@@ -12,7 +12,7 @@ use Rattle.law_order.specs.Ways.{Lane, Queue, Held, Way, Item, Place, Nowhere, E
 use Rattle.law_order.specs.Places.{item, queued, held_on, held_in, aimed, amid}
 use Rattle.law_order.specs.Messages.{StandsAt, StaysBehind}
 use Rattle.law_order.specs.Worlds.{RefersAlike, StandsAlike}
-use Rattle.law_order.specs.Steps.{WaysAmid, LeadsAmid, IsApart, IsSentOn, still_held, sent_there, now_lost, KeepsOrder}
+use Rattle.law_order.specs.Steps.{WaysAmid, LeadsAmid, IsApart, IsSentOn, still_held, sent_there, now_lost, Ready, StaysInOrder}
 use Rattle.law_order.specs.Settle.{passed_by, KeepsBy, SettlesHere, aimed_at, IsReady, settled_to, IsHere}
 use Rattle.law_order.proofs.Adding.{refers_same}
 use Rattle.law_order.proofs.Amid.{leads_same}
@@ -21,6 +21,7 @@ use Rattle.law_order.proofs.Named.{test_self, test_is, false_true, Test, passes_
 use Rattle.law_order.proofs.Onward.{retargeted, here_keeps, here_leads, here_onward, aimed_here, settling_to_nothing_keeps}
 use Rattle.law_order.proofs.OrderPassing.{leads_via, settled_is_passed}
 use Rattle.law_order.proofs.Pushing.{all_same}
+use Rattle.law_order.proofs.Sends.{none_some}
 use Rattle.law_order.proofs.Standing.{queued_append, queue_is, held_is, stands_more, queue_more, held_more, way_more}
 
 -- ---- lists
@@ -144,6 +145,22 @@ module _ (script : Script) (honest : ℕ → Bool) (w : World) (v : ℕ) (r s : 
     apart_still m (Held u o) b n i h = stands_more (W s) (W After) m (Held u o) b n (held_more script honest w v s After u o (λ e. absurd (i e))) h
     apart_still m (Way a c) b n i h = stands_more (W s) (W After) m (Way a c) b n (way_more script honest w v s After [] (sym (append-nil s.outbox)) a c) h
 
+    none_after : (n : Name) → refs.entry_of K s.known n ≡ None → refs.entry_of K After.known n ≡ None
+    none_after n e = go (differs script v (Settle y) p n s.known)
+      where
+        go : Differs script v (Settle y) p n (refs.entry_of K s.known n) (refs.entry_of K After.known n) → refs.entry_of K After.known n ≡ None
+        go (as_it_was i) = i ∙ e
+        go (changes k i a b) = none_some k (sym e ∙ a)
+
+    ready_after : Ready script honest w v s → Ready script honest w v After
+    ready_after ready = record {
+      number = ready.number;
+      ends = record { objects = g.follows.objects; fixed = g.follows.fixed };
+      draws = ready.draws;
+      answers = λ h i j. none_after (Answer h (record { sender = v; number = i })) (ready.answers h i j);
+      promises = λ i j. none_after (Promise v i) (ready.promises i j);
+    }
+
     module _ (keeps : KeepsBy (W s) (W After) F) (moved : (m : Name) (b : List Item) (n : Name) → StandsAt (W s) m (Held v p) b n → IsSentOn script honest w v s After m p b n) where
       held_after : (m o : Name) (b : List Item) (n : Name) → StandsAt (W s) m (Held v o) b n → IsSentOn script honest w v s After m o b n
       held_after m o b n h = go (Test v p v o) refl
@@ -152,20 +169,23 @@ module _ (script : Script) (honest : ℕ → Bool) (w : World) (v : ℕ) (r s : 
           go true e = let i = (test_is v p v o e).1 in subst (λ z. IsSentOn script honest w v s After m z b n) (sym i) (moved m b n (subst (λ z. StandsAt (W s) m (Held v z) b n) i h))
           go false e = still_held (stands_more (W s) (W After) m (Held v o) b n (held_more script honest w v s After v o (λ a. ([], others_held o (λ i. false_true (sym e ∙ subst (λ z. Test v p v z ≡ true) (sym i) (test_self v p))) ∙ sym (append-nil (held_in o (refs.entry_of K s.known o)))))) h)
 
-      settles_so : KeepsOrder script honest w v s After
-      settles_so = record {
-        references = λ u x. subst (λ c. StaysBehind (W s) (W After) (LeadsAmid script honest w v s u x) c) (sym (leads_after u x)) (keeps (LeadsAmid script honest w v s u x));
-        places = λ l b n. subst (λ c. StaysBehind (W s) (W After) (Mid l b n) c) (passes_mid v p E l b n) (keeps (Mid l b n));
-        apart = λ m l b n i h. apart_still m l b n i h;
-        held = λ m o b n h. held_after m o b n h;
-      }
+      settles_so : StaysInOrder script honest w v s After
+      settles_so = (
+        λ ready. ready_after ready,
+        record {
+          references = λ u x. subst (λ c. StaysBehind (W s) (W After) (LeadsAmid script honest w v s u x) c) (sym (leads_after u x)) (keeps (LeadsAmid script honest w v s u x));
+          places = λ l b n. subst (λ c. StaysBehind (W s) (W After) (Mid l b n) c) (passes_mid v p E l b n) (keeps (Mid l b n));
+          apart = λ m l b n i h. apart_still m l b n i h;
+          held = λ m o b n h. held_after m o b n h;
+        },
+      )
 
   -- to nothing
   lost_there : (m : Name) (b : List Item) (n : Name) → E ≡ Nowhere → IsSentOn script honest w v s T m p b n
   lost_there m b n e = let h = settled_is_passed script honest w v r s T p y at g in
       now_lost (by_mid (subst (Doom (W T)) (sym (h.lanes (Held v p) n ∙ ap (λ c. F c) (h.leads n) ∙ ap (λ c. passed_by v p c c) e ∙ passes_nowhere v p Nowhere)) nowhere))
 
-  pub nothing_so : E ≡ Nowhere → IsReady (W s) v p E → KeepsOrder script honest w v s T
+  pub nothing_so : E ≡ Nowhere → IsReady (W s) v p E → StaysInOrder script honest w v s T
   nothing_so e ready = settles_so s.queue [] (sym (append-nil (queued s.queue))) (settling_to_nothing_keeps script honest w v r s p y at g e ready) (λ m b n h. lost_there m b n e)
 
   -- to what is here
@@ -203,5 +223,5 @@ module _ (script : Script) (honest : ℕ → Bool) (w : World) (v : ℕ) (r s : 
     sent_so (Broken z) f m b n h = to_data (aim_of (Broken z) f) m b n
     sent_so (Items j) f m b n h = to_data (aim_of (Items j) f) m b n
 
-    pub here_so : KeepsOrder script honest w v s Sent
+    pub here_so : StaysInOrder script honest w v s Sent
     here_so = settles_so (retargeted y s.queue k.held) (queued (resent y k.held)) (retargeted_queued y s.queue k.held) (here_keeps script honest w v r s p y k at g e here ready) (λ m b n h. sent_so y refl m b n h)

@@ -9,14 +9,14 @@ use Rattle.def_machine.specs.Refs.{Settler, Near, Mine, Away, Gone}
 use Rattle.def_run.specs.World.{Script, World, names}
 use Rattle.law_order.specs.Ways.{Nowhere}
 use Rattle.law_order.specs.Places.{aimed}
-use Rattle.law_order.specs.Worlds.{IfGives, AddsOnly}
+use Rattle.law_order.specs.Worlds.{IfGives}
 use Rattle.law_order.specs.Settle.{IsHere, IsOwnSpot, aimed_at, settled_to}
-use Rattle.law_order.specs.Steps.{KeepsOrder}
+use Rattle.law_order.specs.Steps.{StaysInOrder}
 use Rattle.law_order.specs.Settlings.{with_line, IsPlain, CanSettle, LosesWell, SendsWell, WaitsWell, KnownWell, StandsWell, EntryWell, SettlesWell, SettlingsKeep}
 use Rattle.law_order.proofs.Onward.{retargeted, all_sent, leads_here}
-use Rattle.law_order.proofs.Remaining.{kept_grown, kept_then}
+use Rattle.law_order.proofs.Remaining.{kept_grown, order_then}
 use Rattle.law_order.proofs.SettledPlaces.{here_so, nothing_so}
-use Rattle.law_order.proofs.Adds.{adds_nothing, adds_message, adds_note, grown_adds}
+use Rattle.law_order.proofs.Adds.{AddsQuietly, adds_nothing, adds_message, adds_note, grown_adds, stays_quiet}
 
 -- ---- acts
 
@@ -40,19 +40,27 @@ chain P Q (Ejects i y t) n h f = tt
 chain P Q (Stops c t) n h f = tt
 
 module _ (K : Naming Name Name) (s : Vat Name) where
-  pub line_adds : (e : state.Happened Name) → AddsOnly K s (with_line s e)
-  line_adds e = adds_nothing K s (with_line s e) refl refl refl refl refl refl
+  pub line_adds : (e : state.Happened Name) → AddsQuietly K s (with_line s e)
+  line_adds e = (adds_nothing K s (with_line s e) refl refl refl refl refl refl, refl, refl, refl)
 
-  told_adds : (f h : ℕ) (p : Name) (z : state.Passed Name) → AddsOnly K s (record s { fuel = f; outbox = s.outbox ++ record { to = h; note = SettledTo p z } ∷ [] })
-  told_adds f h p z = let g = adds_note K s (record { to = h; note = SettledTo p z }) tt in record {
-    alike = record { number = refl; gifts = refl; noticed = refl; names_known = refl; entries = g.alike.entries };
-    queue = g.queue;
-    held = g.held;
-    notes = g.notes;
-  }
+  queue_adds : (m : Message Name) → AddsQuietly K s (record s { queue = s.queue ++ m ∷ [] })
+  queue_adds m = (adds_message K s m, refl, refl, refl)
 
-  same_adds : AddsOnly K s s
-  same_adds = adds_nothing K s s refl refl refl refl refl refl
+  told_adds : (f h : ℕ) (p : Name) (z : state.Passed Name) → AddsQuietly K s (record s { fuel = f; outbox = s.outbox ++ record { to = h; note = SettledTo p z } ∷ [] })
+  told_adds f h p z = let g = adds_note K s (record { to = h; note = SettledTo p z }) tt in (
+    record {
+      alike = record { number = refl; gifts = refl; noticed = refl; names_known = refl; entries = g.alike.entries };
+      queue = g.queue;
+      held = g.held;
+      notes = g.notes;
+    },
+    refl,
+    refl,
+    refl,
+  )
+
+  same_adds : AddsQuietly K s s
+  same_adds = (adds_nothing K s s refl refl refl refl refl refl, refl, refl, refl)
 
 -- ---- a vat is told
 
@@ -61,7 +69,7 @@ module _ (K : Naming Name Name) (p : Name) (y : Value Name) (plain : IsPlain K y
   Follows s = (refs.follow K s (Ref p) ≡ y) × (refs.follow K s y ≡ y)
 
   abbrev Told : Vat Name → Vat Name → Type 0
-  Told s t = AddsOnly K s t × Follows t
+  Told s t = AddsQuietly K s t × Follows t
 
   follows_more : (s : Vat Name) (f : ℕ) (ps : List (state.Put Name)) → Follows s → Follows (record s { fuel = f; outbox = ps })
   unfolding refs.follow refs.severed refs.severed_at refs.severed_by
@@ -163,16 +171,16 @@ module _ (script : Script) (honest : ℕ → Bool) (w : World) (v : ℕ) where
   K = names script v
 
   abbrev Kept : Vat Name → Vat Name → Type 0
-  Kept s t = KeepsOrder script honest w v s t
+  Kept s t = StaysInOrder script honest w v s t
 
-  pub kept_adds : (s t : Vat Name) → AddsOnly K s t → Kept s t
-  kept_adds s t g = kept_grown script honest w v s t (grown_adds script honest w v s t g)
+  pub kept_adds : (s t : Vat Name) → AddsQuietly K s t → Kept s t
+  kept_adds s t g = (λ r. (stays_quiet script honest w v s t g r).0, kept_grown script honest w v s t (grown_adds script honest w v s t g.0))
 
   kept_self : (s : Vat Name) → Kept s s
   kept_self s = kept_adds s s (same_adds K s)
 
   from_there : {A : Type 0} (s t : Vat Name) (d : Done Name A) → Kept s t → IfGives (λ u. Kept t u) d → IfGives (λ u. Kept s u) d
-  from_there s t d g h = if_map (λ u. Kept t u) (λ u. Kept s u) (λ u i. kept_then script honest w v s t u g i) d h
+  from_there s t d g h = if_map (λ u. Kept t u) (λ u. Kept s u) (λ u i. order_then script honest w v s t u g i) d h
 
   -- a message is lost, and its answer settles
   module _ (x : List ℕ) (R : Name → Vat Name → Type 0) (settle : Settler {N = Name} {W = Name} K) (each_kept : (q : Name) (s : Vat Name) → R q s → IfGives (λ t. Kept s t) (settle q (Broken x) s)) where
@@ -205,7 +213,7 @@ module _ (script : Script) (honest : ℕ → Bool) (w : World) (v : ℕ) where
         let t = settled_to K s p y in
         let u : Vat Name = record t { queue = retargeted y s.queue k.held } in
         subst (λ d. IfGives (λ z. Kept s z) d) (sym (all_sent K settle p y k.held (Then s p y) h.1 (line_same K p y t (Settles p y) (leads_here script honest w v r s p y k at h.0 e here))))
-        (kept_then script honest w v s u (with_line u (Settles p y)) (here_so script honest w v r s p y at h.0 k e here h.2) (kept_adds u (with_line u (Settles p y)) (line_adds K u (Settles p y))))
+        (order_then script honest w v s u (with_line u (Settles p y)) (here_so script honest w v r s p y at h.0 k e here h.2) (kept_adds u (with_line u (Settles p y)) (line_adds K u (Settles p y))))
 
     nowhere_there : (s : Vat Name) (p : Name) (x : List ℕ) → aimed_at script v (settled_to K s p (Broken x)) (Broken x) ≡ Nowhere
     unfolding aimed_at refs.severed refs.place aimed
@@ -217,7 +225,7 @@ module _ (script : Script) (honest : ℕ → Bool) (w : World) (v : ℕ) where
     broken_loop : (settle : Settler {N = Name} {W = Name} K) (R : Name → Vat Name → Type 0) (p : Name) (x : List ℕ) (k : Known Name) (s : Vat Name) → ((q : Name) (t : Vat Name) → R q t → IfGives (λ u. Kept t u) (settle q (Broken x) t)) → CanSettle script honest w v (Broken x) p k s → SendsWell script honest w v (Broken x) R settle k.held (Then s p (Broken x)) → IfGives (λ t. Kept s t) (state.each (refs.send_on K settle) k.held (Then s p (Broken x)))
     broken_loop settle R p x k s f h g = let t = settled_to K s p (Broken x) in
         from_there s (Then s p (Broken x)) (state.each (refs.send_on K settle) k.held (Then s p (Broken x)))
-        (kept_then script honest w v s t (Then s p (Broken x)) (broken_first p x k s h) (kept_adds t (Then s p (Broken x)) (line_adds K t (Settles p (Broken x)))))
+        (order_then script honest w v s t (Then s p (Broken x)) (broken_first p x k s h) (kept_adds t (Then s p (Broken x)) (line_adds K t (Settles p (Broken x)))))
         (all_lost x R settle f k.held (Then s p (Broken x)) g)
 
     module _ (y : Value Name) (plain : IsPlain K y) (R : Name → Vat Name → Type 0) (settle : Settler {N = Name} {W = Name} K) (each_kept : (q : Name) (s : Vat Name) → R q s → IfGives (λ t. Kept s t) (settle q y s)) where
@@ -240,13 +248,13 @@ module _ (script : Script) (honest : ℕ → Bool) (w : World) (v : ℕ) where
       waits p [] s h = (kept_self s, h)
       waits p (q ∷ qs) s h = chain (λ t. Kept s t × WaitsWell script honest w v y R settle p qs t) (λ t. Kept s t × Follows K p y plain t) (settle q y s) (state.each (λ q. settle q y) qs)
           (if_both (λ t. Kept s t) (λ t. WaitsWell script honest w v y R settle p qs t) (settle q y s) (each_kept q s h.0) h.1)
-          (λ t g. if_map (λ u. Kept t u × Follows K p y plain u) (λ u. Kept s u × Follows K p y plain u) (λ u i. (kept_then script honest w v s t u g.0 i.0, i.1)) (state.each (λ q. settle q y) qs t) (waits p qs t g.1))
+          (λ t g. if_map (λ u. Kept t u × Follows K p y plain u) (λ u. Kept s u × Follows K p y plain u) (λ u i. (order_then script honest w v s t u g.0 i.0, i.1)) (state.each (λ q. settle q y) qs t) (waits p qs t g.1))
 
       reacts : (p : Name) (ms : List (Message Name)) (s : Vat Name) → Follows K p y plain s → IfGives (λ t. Kept s t × Follows K p y plain t) (state.each state.enqueue ms s)
       unfolding state.each state.◌>>◌ state.and_then state.give state.enqueue
       reacts p [] s h = (kept_self s, h)
       reacts p (m ∷ ms) s h = let t : Vat Name = record s { queue = s.queue ++ m ∷ [] } in
-          if_map (λ u. Kept t u × Follows K p y plain u) (λ u. Kept s u × Follows K p y plain u) (λ u i. (kept_then script honest w v s t u (kept_adds s t (adds_message K s m)) i.0, i.1)) (state.each state.enqueue ms t)
+          if_map (λ u. Kept t u × Follows K p y plain u) (λ u. Kept s u × Follows K p y plain u) (λ u i. (order_then script honest w v s t u (kept_adds s t (queue_adds K s m)) i.0, i.1)) (state.each state.enqueue ms t)
           (reacts p ms t (follows_queue K p y plain s (s.queue ++ m ∷ []) h))
 
       tells : (p : Name) (hs : List ℕ) (s : Vat Name) → Follows K p y plain s → IfGives (λ t. Kept s t) (state.each (refs.inform K p) hs s)
@@ -265,7 +273,7 @@ module _ (script : Script) (honest : ℕ → Bool) (w : World) (v : ℕ) where
           (waits p k.waiting t g.1)
           (λ u i. chain (λ z. Kept u z × Follows K p y plain z) (λ z. Kept s z) (state.each state.enqueue k.reactions u) (state.each (refs.inform K p) k.told)
           (reacts p k.reactions u i.1)
-          (λ z j. from_there s z (state.each (refs.inform K p) k.told z) (kept_then script honest w v s u z (kept_then script honest w v s t u g.0 i.0) j.0) (tells p k.told z j.1))))
+          (λ z j. from_there s z (state.each (refs.inform K p) k.told z) (order_then script honest w v s u z (order_then script honest w v s t u g.0 i.0) j.0) (tells p k.told z j.1))))
 
       stands_kept : (p : Name) (k : Known Name) (s : Vat Name) (q : Standing Name) → refs.entry_of K s.known p ≡ Some k → StandsWell script honest w v y R settle p k q s → IfGives (λ t. Kept s t) (refs.settle_standing K settle p y k q s)
       unfolding refs.settle_standing state.give

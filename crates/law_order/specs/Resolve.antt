@@ -8,7 +8,7 @@ use Rattle.law_order.specs.Ways.{Held, Free}
 use Rattle.law_order.specs.Places.{ways, amid}
 use Rattle.law_order.specs.Worlds.{IfGives, IsWaiting}
 use Rattle.law_order.specs.Settlings.{IsPlain, SettlesWell}
-use Rattle.law_order.specs.Steps.{KeepsOrder}
+use Rattle.law_order.specs.Steps.{KeepsOrder, StaysInOrder}
 
 -- what is known of a name stands as it stood, but p, which was unsettled, may wait now
 abbrev pub StandsNear : Name → Name → Option (Known Name) → Option (Known Name) → Type 0
@@ -59,9 +59,9 @@ WaitingKeeps = (script : Script) (honest : ℕ → Bool) (w : World) (v : ℕ) (
 -- So it is as the machine has p wait for q: p was unsettled, and nothing was said of where it leads.
 abbrev pub WaitOnKeeps : Type 0
 WaitOnKeeps = (script : Script) (honest : ℕ → Bool) (w : World) (v : ℕ) (s : Vat Name) (p q : Name) (k : Known Name) → entry_of (names script v) s.known p ≡ Some k → k.standing ≡ Unsettled → IsLoose script honest w v p s
-    → IfGives (λ t. KeepsOrder script honest w v s t) (wait_on (names script v) p q s)
+    → IfGives (λ t. StaysInOrder script honest w v s t) (wait_on (names script v) p q s)
 
 -- What is ahead stays ahead, and what is doomed stays doomed, as a name is resolved: it waits for another name, or settles.
 abbrev pub ResolvingKeeps : Type 0
 ResolvingKeeps = (script : Script) (honest : ℕ → Bool) (w : World) (v : ℕ) (r s : Vat Name) (p : Name) (x : Value Name) → slice_get w.vats v ≡ Some r → ResolvesWell script honest w v p s x
-    → IfGives (λ t. KeepsOrder script honest w v s t) (resolve (names script v) p x s)
+    → IfGives (λ t. StaysInOrder script honest w v s t) (resolve (names script v) p x s)

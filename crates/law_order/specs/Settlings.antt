@@ -6,7 +6,7 @@ use Rattle.def_machine.specs.Refs.{Settler, entry_of, follow, send_on, settle_at
 use Rattle.def_run.specs.World.{Script, World, names}
 use Rattle.law_order.specs.Places.{ways, amid}
 use Rattle.law_order.specs.Worlds.{IfGives}
-use Rattle.law_order.specs.Steps.{KeepsOrder}
+use Rattle.law_order.specs.Steps.{StaysInOrder}
 use Rattle.law_order.specs.Settle.{SettlesHere, IsReady, IsOwnSpot, AllOn, aimed_at, settled_to}
 
 abbrev pub with_line : Vat Name → Happened Name → Vat Name
@@ -77,7 +77,7 @@ module _ (script : Script) (honest : ℕ → Bool) (w : World) (v : ℕ) where
     SettlesWell zero p s = Unit {0}
     SettlesWell (suc d) p s = EntryWell (λ q t. SettlesWell d q t) (λ q z. settle_at (names script v) d q z) p (entry_of (names script v) s.known p) s
 
--- What is ahead stays ahead, and what is doomed stays doomed, through a whole settling to an object of the vat, to data or to what is broken.
+-- What is ahead stays ahead, what is doomed stays doomed, and the vat stays ready, through a whole settling to an object of the vat, to data or to what is broken.
 abbrev pub SettlingsKeep : Type 0
 SettlingsKeep = (script : Script) (honest : ℕ → Bool) (w : World) (v : ℕ) (r : Vat Name) (y : Value Name) → slice_get w.vats v ≡ Some r → IsPlain (names script v) y
-    → (d : ℕ) (p : Name) (s : Vat Name) → SettlesWell script honest w v y d p s → IfGives (λ t. KeepsOrder script honest w v s t) (settle_at (names script v) d p y s)
+    → (d : ℕ) (p : Name) (s : Vat Name) → SettlesWell script honest w v y d p s → IfGives (λ t. StaysInOrder script honest w v s t) (settle_at (names script v) d p y s)
