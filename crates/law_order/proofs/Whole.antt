@@ -8,36 +8,20 @@ use Rattle.def_machine.specs.Refs as refs
 use Rattle.def_machine.specs.Refs.{Settler, Near, Mine, Away, Gone}
 use Rattle.def_run.specs.World.{Script, World, names}
 use Rattle.law_order.specs.Ways.{Nowhere}
-use Rattle.law_order.specs.Places.{aimed}
+use Rattle.law_order.specs.Places.{aimed, held_on}
 use Rattle.law_order.specs.Worlds.{IfGives}
 use Rattle.law_order.specs.Settle.{IsHere, IsOwnSpot, aimed_at, settled_to}
-use Rattle.law_order.specs.Steps.{StaysInOrder}
-use Rattle.law_order.specs.Settlings.{with_line, IsPlain, CanSettle, LosesWell, SendsWell, WaitsWell, KnownWell, StandsWell, EntryWell, SettlesWell, SettlingsKeep}
+use Rattle.law_order.specs.Steps.{Ready, StaysInOrder}
+use Rattle.law_order.specs.Settlings.{with_line, ReadyAt, IsObjectSpot, IsPlain, HonestSpot, IsHonestTo, CanSettle, LosesWell, SendsWell, WaitsWell, KnownWell, StandsWell, EntryWell, SettlesWell, SettlingsKeep}
+use Rattle.law_order.proofs.Sends.{if_map, if_both, chain}
 use Rattle.law_order.proofs.Onward.{retargeted, all_sent, leads_here}
 use Rattle.law_order.proofs.Remaining.{kept_grown, order_then}
-use Rattle.law_order.proofs.SettledPlaces.{here_so, nothing_so}
+use Rattle.law_order.proofs.SettledPlaces.{here_so, nothing_so, ready_settled, sent_to}
+use Rattle.law_order.proofs.Far.{WentOut, all_out, line_out, far_aimed}
+use Rattle.law_order.proofs.FarSettled.{far_so}
 use Rattle.law_order.proofs.Adds.{AddsQuietly, adds_nothing, adds_message, adds_note, grown_adds, stays_quiet}
 
 -- ---- acts
-
-if_both : {A : Type 0} (P Q : Vat Name → Type 0) (d : Done Name A) → IfGives P d → IfGives Q d → IfGives (λ t. P t × Q t) d
-if_both P Q (Gives a t) h i = (h, i)
-if_both P Q (Throws p t) h i = tt
-if_both P Q (Ejects n y t) h i = tt
-if_both P Q (Stops c t) h i = tt
-
-if_map : {A : Type 0} (P Q : Vat Name → Type 0) → ((t : Vat Name) → P t → Q t) → (d : Done Name A) → IfGives P d → IfGives Q d
-if_map P Q f (Gives a t) h = f t h
-if_map P Q f (Throws p t) h = tt
-if_map P Q f (Ejects n y t) h = tt
-if_map P Q f (Stops c t) h = tt
-
-chain : {A B : Type 0} (P Q : Vat Name → Type 0) (d : Done Name A) (n : Act Name B) → IfGives P d → ((t : Vat Name) → P t → IfGives Q (n t)) → IfGives Q (state.and_then d (λ _. n))
-unfolding state.and_then
-chain P Q (Gives a t) n h f = f t h
-chain P Q (Throws p t) n h f = tt
-chain P Q (Ejects i y t) n h f = tt
-chain P Q (Stops c t) n h f = tt
 
 module _ (K : Naming Name Name) (s : Vat Name) where
   pub line_adds : (e : state.Happened Name) → AddsQuietly K s (with_line s e)
@@ -64,7 +48,19 @@ module _ (K : Naming Name Name) (s : Vat Name) where
 
 -- ---- a vat is told
 
-module _ (K : Naming Name Name) (p : Name) (y : Value Name) (plain : IsPlain K y) where
+-- an object of the vat, broken, or other data but a list
+abbrev IsPassed : Naming Name Name → Value Name → Type 0
+IsPassed K (Ref n) = IsOwnSpot (K.spot n)
+IsPassed K Null = Unit {0}
+IsPassed K (Flag b) = Unit {0}
+IsPassed K (Number z) = Unit {0}
+IsPassed K (Letter c) = Unit {0}
+IsPassed K (Text x) = Unit {0}
+IsPassed K (Prim k) = Unit {0}
+IsPassed K (Broken x) = Unit {0}
+IsPassed K (Items k) = ⊥
+
+module _ (K : Naming Name Name) (p : Name) (y : Value Name) where
   abbrev Follows : Vat Name → Type 0
   Follows s = (refs.follow K s (Ref p) ≡ y) × (refs.follow K s y ≡ y)
 
@@ -79,6 +75,26 @@ module _ (K : Naming Name Name) (p : Name) (y : Value Name) (plain : IsPlain K y
   unfolding refs.follow refs.severed refs.severed_at refs.severed_by
   follows_queue s q h = h
 
+  -- of an object of another vat the receiver is told where it is
+  module _ (n : Name) (is : y ≡ Ref n) (g : ℕ) (far : K.spot n ≡ Foreign g) where
+    far_place : (s : Vat Name) → refs.place K s y ≡ Away g n true
+    unfolding refs.place refs.spotted
+    far_place s = ap (λ z. refs.place K s z) is ∙ ap (λ q. refs.spotted K s n q) far
+
+    elsewhere : (s : Vat Name) (h : ℕ) → Follows s → IfGives (Told s) (refs.inform_of K p h y (Away g n true) s)
+    unfolding refs.inform_of state.send_out
+    elsewhere s h f = let m : state.Put Name = record { to = h; note = state.Elsewhere p g } in ((adds_note K s m tt, refl, refl, refl), follows_more s s.fuel (s.outbox ++ m ∷ []) f)
+
+    far_if : (s : Vat Name) (h : ℕ) (c : Bool) → Follows s → IfGives (Told s) ((if c then state.give tt else refs.inform_of K p h y (refs.place K s y)) s)
+    unfolding state.give
+    far_if s h true f = (same_adds K s, f)
+    far_if s h false f = subst (λ q. IfGives (Told s) (refs.inform_of K p h y q s)) (sym (far_place s)) (elsewhere s h f)
+
+    informed_far : (s : Vat Name) (h : ℕ) → Follows s → IfGives (Told s) (refs.inform K p h s)
+    unfolding refs.inform state.◌>>=◌ state.and_then state.look
+    informed_far s h f = subst (λ z. IfGives (Told s) ((if state.is_in h s.noticed then state.give tt else refs.inform_of K p h z (refs.place K s z)) s)) (sym f.0) (far_if s h (state.is_in h s.noticed) f)
+
+module _ (K : Naming Name Name) (p : Name) (y : Value Name) (plain : IsPassed K y) where
   abbrev IsPlainPlace : refs.Place Name → Type 0
   IsPlainPlace Near = Unit {0}
   IsPlainPlace (Mine n) = ⊥
@@ -91,7 +107,7 @@ module _ (K : Naming Name Name) (p : Name) (y : Value Name) (plain : IsPlain K y
   spot_place s n (Foreign g) h = absurd h
   spot_place s n NoObject h = absurd h
 
-  plain_place : (s : Vat Name) (z : Value Name) → IsPlain K z → IsPlainPlace (refs.place K s z)
+  plain_place : (s : Vat Name) (z : Value Name) → IsPassed K z → IsPlainPlace (refs.place K s z)
   unfolding refs.place
   plain_place s (Ref n) h = spot_place s n (K.spot n) h
   plain_place s Null h = tt
@@ -104,7 +120,7 @@ module _ (K : Naming Name Name) (p : Name) (y : Value Name) (plain : IsPlain K y
   plain_place s (Items k) h = absurd h
 
   -- what passes for it
-  plain_parcel : (s : Vat Name) (z : Value Name) → IsPlain K z → refs.parcel_at K s z ≡ record { weight = refs.own_weight z; value = Plain z }
+  plain_parcel : (s : Vat Name) (z : Value Name) → IsPassed K z → refs.parcel_at K s z ≡ record { weight = refs.own_weight z; value = Plain z }
   unfolding refs.parcel_at
   plain_parcel s (Ref n) h = refl
   plain_parcel s Null h = refl
@@ -128,37 +144,54 @@ module _ (K : Naming Name Name) (p : Name) (y : Value Name) (plain : IsPlain K y
   addressed s h = plain_address s h (refs.place K s y) (plain_place s y plain)
 
   -- the note is put, where there is fuel
-  told_by : (s : Vat Name) (h n : ℕ) (c : Bool) → Follows s → IfGives (Told s) (state.and_then (state.and_then (state.spent n c s) (λ _. refs.address K h (Plain y))) (λ z. state.send_out h (SettledTo p z)))
+  told_by : (s : Vat Name) (h n : ℕ) (c : Bool) → Follows K p y s → IfGives (Told K p y s) (state.and_then (state.and_then (state.spent n c s) (λ _. refs.address K h (Plain y))) (λ z. state.send_out h (SettledTo p z)))
   unfolding state.and_then state.spent state.send_out
-  told_by s h n true f = subst (λ d. IfGives (Told s) (state.and_then d (λ z. state.send_out h (SettledTo p z)))) (sym (addressed (record s { fuel = s.fuel - n }) h)) (told_adds K s (s.fuel - n) h p (Plain y), follows_more s (s.fuel - n) (s.outbox ++ record { to = h; note = SettledTo p (Plain y) } ∷ []) f)
+  told_by s h n true f = subst (λ d. IfGives (Told K p y s) (state.and_then d (λ z. state.send_out h (SettledTo p z)))) (sym (addressed (record s { fuel = s.fuel - n }) h)) (told_adds K s (s.fuel - n) h p (Plain y), follows_more K p y s (s.fuel - n) (s.outbox ++ record { to = h; note = SettledTo p (Plain y) } ∷ []) f)
   told_by s h n false f = tt
 
-  told_parcel : (s : Vat Name) (h : ℕ) (b : refs.Parcel Name) → b ≡ record { weight = refs.own_weight y; value = Plain y } → Follows s → IfGives (Told s) (state.and_then (state.and_then (state.spend b.weight s) (λ _. refs.address K h b.value)) (λ z. state.send_out h (SettledTo p z)))
+  told_parcel : (s : Vat Name) (h : ℕ) (b : refs.Parcel Name) → b ≡ record { weight = refs.own_weight y; value = Plain y } → Follows K p y s → IfGives (Told K p y s) (state.and_then (state.and_then (state.spend b.weight s) (λ _. refs.address K h b.value)) (λ z. state.send_out h (SettledTo p z)))
   unfolding state.spend
-  told_parcel s h b e f = subst (λ c. IfGives (Told s) (state.and_then (state.and_then (state.spend c.weight s) (λ _. refs.address K h c.value)) (λ z. state.send_out h (SettledTo p z)))) (sym e) (told_by s h (refs.own_weight y) (nat_le (refs.own_weight y) s.fuel) f)
+  told_parcel s h b e f = subst (λ c. IfGives (Told K p y s) (state.and_then (state.and_then (state.spend c.weight s) (λ _. refs.address K h c.value)) (λ z. state.send_out h (SettledTo p z)))) (sym e) (told_by s h (refs.own_weight y) (nat_le (refs.own_weight y) s.fuel) f)
 
-  told_of : (s : Vat Name) (h : ℕ) → Follows s → IfGives (Told s) (state.◌>>=◌ (refs.pass K h y) (λ z. state.send_out h (SettledTo p z)) s)
+  told_of : (s : Vat Name) (h : ℕ) → Follows K p y s → IfGives (Told K p y s) (state.◌>>=◌ (refs.pass K h y) (λ z. state.send_out h (SettledTo p z)) s)
   unfolding state.◌>>=◌ state.◌>>◌ state.and_then state.look refs.pass refs.parcel
   told_of s h f = told_parcel s h (refs.parcel_at K s (refs.follow K s y)) (ap (λ z. refs.parcel_at K s z) f.1 ∙ plain_parcel s y plain) f
 
-  informed_of : (s : Vat Name) (h : ℕ) (q : refs.Place Name) → IsPlainPlace q → Follows s → IfGives (Told s) (refs.inform_of K p h y q s)
+  informed_of : (s : Vat Name) (h : ℕ) (q : refs.Place Name) → IsPlainPlace q → Follows K p y s → IfGives (Told K p y s) (refs.inform_of K p h y q s)
   unfolding refs.inform_of
   informed_of s h Near i f = told_of s h f
   informed_of s h (Mine n) i f = absurd i
   informed_of s h (Away g n o) i f = absurd i
   informed_of s h (Gone x) i f = told_of s h f
 
-  informed_if : (s : Vat Name) (h : ℕ) (c : Bool) → Follows s → IfGives (Told s) ((if c then state.give tt else refs.inform_of K p h y (refs.place K s y)) s)
+  informed_if : (s : Vat Name) (h : ℕ) (c : Bool) → Follows K p y s → IfGives (Told K p y s) ((if c then state.give tt else refs.inform_of K p h y (refs.place K s y)) s)
   unfolding state.give
   informed_if s h true f = (same_adds K s, f)
   informed_if s h false f = informed_of s h (refs.place K s y) (plain_place s y plain) f
 
-  informed_at : (s : Vat Name) (h : ℕ) (z : Value Name) → z ≡ y → Follows s → IfGives (Told s) ((if state.is_in h s.noticed then state.give tt else refs.inform_of K p h z (refs.place K s z)) s)
-  informed_at s h z e f = subst (λ x. IfGives (Told s) ((if state.is_in h s.noticed then state.give tt else refs.inform_of K p h x (refs.place K s x)) s)) (sym e) (informed_if s h (state.is_in h s.noticed) f)
+  informed_at : (s : Vat Name) (h : ℕ) (z : Value Name) → z ≡ y → Follows K p y s → IfGives (Told K p y s) ((if state.is_in h s.noticed then state.give tt else refs.inform_of K p h z (refs.place K s z)) s)
+  informed_at s h z e f = subst (λ x. IfGives (Told K p y s) ((if state.is_in h s.noticed then state.give tt else refs.inform_of K p h x (refs.place K s x)) s)) (sym e) (informed_if s h (state.is_in h s.noticed) f)
 
-  informed : (s : Vat Name) (h : ℕ) → Follows s → IfGives (Told s) (refs.inform K p h s)
+  informed : (s : Vat Name) (h : ℕ) → Follows K p y s → IfGives (Told K p y s) (refs.inform K p h s)
   unfolding refs.inform state.◌>>=◌ state.and_then state.look
   informed s h f = informed_at s h (refs.follow K s (Ref p)) f.0 f
+
+module _ (K : Naming Name Name) (p : Name) (y : Value Name) where
+  informed_spot : (n : Name) (q : Spot) → y ≡ Ref n → K.spot n ≡ q → IsObjectSpot q → (s : Vat Name) (h : ℕ) → Follows K p y s → IfGives (Told K p y s) (refs.inform K p h s)
+  informed_spot n (Own j) e i _ = λ s h f. informed K p y (subst (λ z. IsPassed K z) (sym e) (subst IsOwnSpot (sym i) tt)) s h f
+  informed_spot n (Foreign g) e i _ = λ s h f. informed_far K p y n e g i s h f
+  informed_spot n NoObject e i o = absurd o
+
+  informed_by : (z : Value Name) → y ≡ z → IsPlain K z → (s : Vat Name) (h : ℕ) → Follows K p y s → IfGives (Told K p y s) (refs.inform K p h s)
+  informed_by (Ref n) e i = informed_spot n (K.spot n) e refl i
+  informed_by Null e i = λ s h f. informed K p y (subst (λ z. IsPassed K z) (sym e) tt) s h f
+  informed_by (Flag b) e i = λ s h f. informed K p y (subst (λ z. IsPassed K z) (sym e) tt) s h f
+  informed_by (Number j) e i = λ s h f. informed K p y (subst (λ z. IsPassed K z) (sym e) tt) s h f
+  informed_by (Letter c) e i = λ s h f. informed K p y (subst (λ z. IsPassed K z) (sym e) tt) s h f
+  informed_by (Text x) e i = λ s h f. informed K p y (subst (λ z. IsPassed K z) (sym e) tt) s h f
+  informed_by (Prim k) e i = λ s h f. informed K p y (subst (λ z. IsPassed K z) (sym e) tt) s h f
+  informed_by (Broken x) e i = λ s h f. informed K p y (subst (λ z. IsPassed K z) (sym e) tt) s h f
+  informed_by (Items k) e i = absurd i
 
 -- ---- the whole
 
@@ -215,6 +248,19 @@ module _ (script : Script) (honest : ℕ → Bool) (w : World) (v : ℕ) where
         subst (λ d. IfGives (λ z. Kept s z) d) (sym (all_sent K settle p y k.held (Then s p y) h.1 (line_same K p y t (Settles p y) (leads_here script honest w v r s p y k at h.0 e here))))
         (order_then script honest w v s u (with_line u (Settles p y)) (here_so script honest w v r s p y at h.0 k e here h.2) (kept_adds u (with_line u (Settles p y)) (line_adds K u (Settles p y))))
 
+    -- what goes to an object of another vat
+    far_loop : (R : Name → Vat Name → Type 0) (settle : Settler {N = Name} {W = Name} K) (p n : Name) (a : ℕ) → K.spot n ≡ Foreign a → honest v ≡ true → honest a ≡ true → (k : Known Name) (s : Vat Name) → refs.entry_of K s.known p ≡ Some k → CanSettle script honest w v (Ref n) p k s → SendsWell script honest w v (Ref n) R settle k.held (Then s p (Ref n)) → IfGives (λ t. Kept s t) (state.each (refs.send_on K settle) k.held (Then s p (Ref n)))
+    far_loop R settle p n a far here there k s e h g =
+        let t = settled_to K s p (Ref n) in
+        let u = Then s p (Ref n) in
+        let q : Ready script honest w v s × (state.is_in a s.noticed ≡ false) = subst (λ z. ReadyAt script honest w v s z) far h.3 in
+        let line = line_adds K t (Settles p (Ref n)) in
+        let first = stays_quiet script honest w v t u line (ready_settled script honest w v r s p (Ref n) at h.0 q.0) in
+        if_map (WentOut script honest w v a n r at here there (sent_to n (held_on p k.held)) u) (λ z. Kept s z)
+        (λ z i. far_so script honest w v a n r at here there s z p h.0 k e h.2 (far_aimed script v a n far t q.1) (line_out script honest w v a n r at here there (sent_to n (held_on p k.held)) t u z refl first.1 i))
+        (state.each (refs.send_on K settle) k.held u)
+        (all_out script honest w v a n r at here there far R settle p k.held u first.0 g)
+
     nowhere_there : (s : Vat Name) (p : Name) (x : List ℕ) → aimed_at script v (settled_to K s p (Broken x)) (Broken x) ≡ Nowhere
     unfolding aimed_at refs.severed refs.place aimed
     nowhere_there s p x = refl
@@ -228,50 +274,55 @@ module _ (script : Script) (honest : ℕ → Bool) (w : World) (v : ℕ) where
         (order_then script honest w v s t (Then s p (Broken x)) (broken_first p x k s h) (kept_adds t (Then s p (Broken x)) (line_adds K t (Settles p (Broken x)))))
         (all_lost x R settle f k.held (Then s p (Broken x)) g)
 
-    module _ (y : Value Name) (plain : IsPlain K y) (R : Name → Vat Name → Type 0) (settle : Settler {N = Name} {W = Name} K) (each_kept : (q : Name) (s : Vat Name) → R q s → IfGives (λ t. Kept s t) (settle q y s)) where
+    module _ (y : Value Name) (plain : IsPlain K y) (near : IsHonestTo script honest v y) (R : Name → Vat Name → Type 0) (settle : Settler {N = Name} {W = Name} K) (each_kept : (q : Name) (s : Vat Name) → R q s → IfGives (λ t. Kept s t) (settle q y s)) where
       abbrev Loop : Value Name → Type 0
       Loop z = (p : Name) (k : Known Name) (s : Vat Name) → ((q : Name) (t : Vat Name) → R q t → IfGives (λ u. Kept t u) (settle q z t)) → refs.entry_of K s.known p ≡ Some k → CanSettle script honest w v z p k s → SendsWell script honest w v z R settle k.held (Then s p z) → IfGives (λ t. Kept s t) (state.each (refs.send_on K settle) k.held (Then s p z))
 
-      loop : (z : Value Name) → IsPlain K z → Loop z
-      loop (Ref n) i = λ p k s f e h g. here_loop settle p (Ref n) k s i e h
-      loop Null i = λ p k s f e h g. here_loop settle p Null k s tt e h
-      loop (Flag b) i = λ p k s f e h g. here_loop settle p (Flag b) k s tt e h
-      loop (Number j) i = λ p k s f e h g. here_loop settle p (Number j) k s tt e h
-      loop (Letter c) i = λ p k s f e h g. here_loop settle p (Letter c) k s tt e h
-      loop (Text x) i = λ p k s f e h g. here_loop settle p (Text x) k s tt e h
-      loop (Prim j) i = λ p k s f e h g. here_loop settle p (Prim j) k s tt e h
-      loop (Broken x) i = λ p k s f e h g. broken_loop settle R p x k s f h g
-      loop (Items j) i = absurd i
+      loop_spot : (n : Name) (q : Spot) → K.spot n ≡ q → IsObjectSpot q → HonestSpot honest v q → Loop (Ref n)
+      loop_spot n (Own j) i o a = λ p k s f e h g. here_loop settle p (Ref n) k s (subst IsOwnSpot (sym i) tt) e h
+      loop_spot n (Foreign a) i o b = λ p k s f e h g. far_loop R settle p n a i b.0 b.1 k s e h g
+      loop_spot n NoObject i o a = absurd o
 
-      waits : (p : Name) (qs : List Name) (s : Vat Name) → WaitsWell script honest w v y R settle p qs s → IfGives (λ t. Kept s t × Follows K p y plain t) (state.each (λ q. settle q y) qs s)
+      loop : (z : Value Name) → IsPlain K z → IsHonestTo script honest v z → Loop z
+      loop (Ref n) i a = loop_spot n (K.spot n) refl i a
+      loop Null i a = λ p k s f e h g. here_loop settle p Null k s tt e h
+      loop (Flag b) i a = λ p k s f e h g. here_loop settle p (Flag b) k s tt e h
+      loop (Number j) i a = λ p k s f e h g. here_loop settle p (Number j) k s tt e h
+      loop (Letter c) i a = λ p k s f e h g. here_loop settle p (Letter c) k s tt e h
+      loop (Text x) i a = λ p k s f e h g. here_loop settle p (Text x) k s tt e h
+      loop (Prim j) i a = λ p k s f e h g. here_loop settle p (Prim j) k s tt e h
+      loop (Broken x) i a = λ p k s f e h g. broken_loop settle R p x k s f h g
+      loop (Items j) i a = absurd i
+
+      waits : (p : Name) (qs : List Name) (s : Vat Name) → WaitsWell script honest w v y R settle p qs s → IfGives (λ t. Kept s t × Follows K p y t) (state.each (λ q. settle q y) qs s)
       unfolding state.each state.◌>>◌ state.give
       waits p [] s h = (kept_self s, h)
-      waits p (q ∷ qs) s h = chain (λ t. Kept s t × WaitsWell script honest w v y R settle p qs t) (λ t. Kept s t × Follows K p y plain t) (settle q y s) (state.each (λ q. settle q y) qs)
+      waits p (q ∷ qs) s h = chain (λ t. Kept s t × WaitsWell script honest w v y R settle p qs t) (λ t. Kept s t × Follows K p y t) (settle q y s) (state.each (λ q. settle q y) qs)
           (if_both (λ t. Kept s t) (λ t. WaitsWell script honest w v y R settle p qs t) (settle q y s) (each_kept q s h.0) h.1)
-          (λ t g. if_map (λ u. Kept t u × Follows K p y plain u) (λ u. Kept s u × Follows K p y plain u) (λ u i. (order_then script honest w v s t u g.0 i.0, i.1)) (state.each (λ q. settle q y) qs t) (waits p qs t g.1))
+          (λ t g. if_map (λ u. Kept t u × Follows K p y u) (λ u. Kept s u × Follows K p y u) (λ u i. (order_then script honest w v s t u g.0 i.0, i.1)) (state.each (λ q. settle q y) qs t) (waits p qs t g.1))
 
-      reacts : (p : Name) (ms : List (Message Name)) (s : Vat Name) → Follows K p y plain s → IfGives (λ t. Kept s t × Follows K p y plain t) (state.each state.enqueue ms s)
+      reacts : (p : Name) (ms : List (Message Name)) (s : Vat Name) → Follows K p y s → IfGives (λ t. Kept s t × Follows K p y t) (state.each state.enqueue ms s)
       unfolding state.each state.◌>>◌ state.and_then state.give state.enqueue
       reacts p [] s h = (kept_self s, h)
       reacts p (m ∷ ms) s h = let t : Vat Name = record s { queue = s.queue ++ m ∷ [] } in
-          if_map (λ u. Kept t u × Follows K p y plain u) (λ u. Kept s u × Follows K p y plain u) (λ u i. (order_then script honest w v s t u (kept_adds s t (queue_adds K s m)) i.0, i.1)) (state.each state.enqueue ms t)
-          (reacts p ms t (follows_queue K p y plain s (s.queue ++ m ∷ []) h))
+          if_map (λ u. Kept t u × Follows K p y u) (λ u. Kept s u × Follows K p y u) (λ u i. (order_then script honest w v s t u (kept_adds s t (queue_adds K s m)) i.0, i.1)) (state.each state.enqueue ms t)
+          (reacts p ms t (follows_queue K p y s (s.queue ++ m ∷ []) h))
 
-      tells : (p : Name) (hs : List ℕ) (s : Vat Name) → Follows K p y plain s → IfGives (λ t. Kept s t) (state.each (refs.inform K p) hs s)
+      tells : (p : Name) (hs : List ℕ) (s : Vat Name) → Follows K p y s → IfGives (λ t. Kept s t) (state.each (refs.inform K p) hs s)
       unfolding state.each state.◌>>◌ state.give
       tells p [] s h = kept_self s
-      tells p (a ∷ hs) s h = chain (Told K p y plain s) (λ t. Kept s t) (refs.inform K p a s) (state.each (refs.inform K p) hs) (informed K p y plain s a h)
+      tells p (a ∷ hs) s h = chain (Told K p y s) (λ t. Kept s t) (refs.inform K p a s) (state.each (refs.inform K p) hs) (informed_by K p y y refl plain s a h)
           (λ t g. from_there s t (state.each (refs.inform K p) hs t) (kept_adds s t g.0) (tells p hs t g.1))
 
       known_kept : (p : Name) (k : Known Name) (s : Vat Name) → refs.entry_of K s.known p ≡ Some k → KnownWell script honest w v y R settle p k s → IfGives (λ t. Kept s t) (refs.settle_known K settle p y k s)
       unfolding refs.settle_known state.◌>>◌ state.and_then state.tell state.alter
       known_kept p k s e h = chain (λ t. Kept s t × WaitsWell script honest w v y R settle p k.waiting t) (λ t. Kept s t) (state.each (refs.send_on K settle) k.held (Then s p y))
           (λ t. state.and_then (state.each (λ q. settle q y) k.waiting t) (λ a. λ u. state.and_then (state.each state.enqueue k.reactions u) (λ b. state.each (refs.inform K p) k.told)))
-          (if_both (λ t. Kept s t) (λ t. WaitsWell script honest w v y R settle p k.waiting t) (state.each (refs.send_on K settle) k.held (Then s p y)) (loop y plain p k s each_kept e h.0 h.1) h.2)
-          (λ t g. chain (λ u. Kept t u × Follows K p y plain u) (λ u. Kept s u) (state.each (λ q. settle q y) k.waiting t)
+          (if_both (λ t. Kept s t) (λ t. WaitsWell script honest w v y R settle p k.waiting t) (state.each (refs.send_on K settle) k.held (Then s p y)) (loop y plain near p k s each_kept e h.0 h.1) h.2)
+          (λ t g. chain (λ u. Kept t u × Follows K p y u) (λ u. Kept s u) (state.each (λ q. settle q y) k.waiting t)
           (λ u. state.and_then (state.each state.enqueue k.reactions u) (λ b. state.each (refs.inform K p) k.told))
           (waits p k.waiting t g.1)
-          (λ u i. chain (λ z. Kept u z × Follows K p y plain z) (λ z. Kept s z) (state.each state.enqueue k.reactions u) (state.each (refs.inform K p) k.told)
+          (λ u i. chain (λ z. Kept u z × Follows K p y z) (λ z. Kept s z) (state.each state.enqueue k.reactions u) (state.each (refs.inform K p) k.told)
           (reacts p k.reactions u i.1)
           (λ z j. from_there s z (state.each (refs.inform K p) k.told z) (order_then script honest w v s u z (order_then script honest w v s t u g.0 i.0) j.0) (tells p k.told z j.1))))
 
@@ -303,10 +354,10 @@ module _ (script : Script) (honest : ℕ → Bool) (w : World) (v : ℕ) where
       unfolding refs.settle_one state.◌>>=◌ state.and_then state.look
       one_kept p s h = subst (λ z. IfGives (λ t. Kept s t) (refs.settle_entry K settle p z (refs.entry_of K s.known p) s)) (sym (plain_target s p y plain)) (entry_kept p s (refs.entry_of K s.known p) refl h)
 
-    settlings : (y : Value Name) → IsPlain K y → (d : ℕ) (p : Name) (s : Vat Name) → SettlesWell script honest w v y d p s → IfGives (λ t. Kept s t) (refs.settle_at K d p y s)
+    settlings : (y : Value Name) → IsPlain K y → IsHonestTo script honest v y → (d : ℕ) (p : Name) (s : Vat Name) → SettlesWell script honest w v y d p s → IfGives (λ t. Kept s t) (refs.settle_at K d p y s)
     unfolding refs.settle_at state.stop
-    settlings y plain zero p s h = tt
-    settlings y plain (suc d) p s h = one_kept y plain (λ q t. SettlesWell script honest w v y d q t) (λ q z. refs.settle_at K d q z) (λ q t g. settlings y plain d q t g) p s h
+    settlings y plain near zero p s h = tt
+    settlings y plain near (suc d) p s h = one_kept y plain near (λ q t. SettlesWell script honest w v y d q t) (λ q z. refs.settle_at K d q z) (λ q t g. settlings y plain near d q t g) p s h
 
 pub settlings_keep : SettlingsKeep
-settlings_keep = λ script honest w v r y at plain d p s h. settlings script honest w v r at y plain d p s h
+settlings_keep = λ script honest w v r y at plain near d p s h. settlings script honest w v r at y plain near d p s h
