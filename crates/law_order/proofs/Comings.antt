@@ -20,6 +20,7 @@ use Rattle.law_order.specs.Arrivals.{keeping, GoesTo, IsHere}
 use Rattle.law_order.specs.Comings.{ComesLast, ComesBehind, MovesLast, SendsComeLast, CarriedComeLast}
 use Rattle.law_order.proofs.Sends.{pushed_shut, pushed_open, pushed_ends, link_here, link_behind, push_last, found_ends, held_by, entry_changed, if_all, if_map, if_both}
 use Rattle.law_order.proofs.Standing.{queued_end, held_end, queue_is, held_is, delivered_append, OnLink, Row, row_still}
+use Rattle.law_order.proofs.Passings.{keeps_pass_all}
 use Rattle.law_order.proofs.Moves.{Keeps, IsKept, keeps_bind, keeps_then, keeps_look, keeps_give, keeps_spend, keeps_if}
 use Rattle.law_order.proofs.Messages.{comers_are_behind, gone_on_is_behind}
 use Rattle.law_order.proofs.Arrived.{IsOpen, all_open, carried_messages_go_on}
@@ -161,32 +162,8 @@ module _ (script : Script) (honest : ℕ → Bool) (w : World) (v : ℕ) where
         go s (Some i) = outbox_still s s refl
         go s None = open_put h (key s.number (K.word (length s.drawn))) n (K.word (length s.drawn)) s
 
-    still_address_plain : (h : ℕ) (y : Value Name) (p : Place Name) → Keeps R (refs.address_plain K h y p)
-    unfolding refs.address_plain
-    still_address_plain h y (Away g n o) = search (keeps_if, keeps_give, still_gift, still) depth 14
-    still_address_plain h y (Mine n) = search (keeps_then, keeps_give, still_tell_to, still) depth 14
-    still_address_plain h y _ = search (keeps_give, still) depth 14
-
-    mutual
-      unfolding refs.address refs.address_all
-
-      still_address : (h : ℕ) (y : Passed Name) → Keeps R (refs.address K h y)
-      still_address h (Plain y) = search (keeps_bind, keeps_look, still_address_plain, still) depth 14
-      still_address h (AGift g i) = search (keeps_give, still)
-      still_address h (Many ys) = let rest = still_address_all h ys in search (keeps_bind, keeps_give, still)
-
-      still_address_all : (h : ℕ) (ys : Passeds Name) → Keeps R (refs.address_all K h ys)
-      still_address_all h NoMore = search (keeps_give, still)
-      still_address_all h (More y ys) = let one = still_address h y in let rest = still_address_all h ys in search (keeps_bind, keeps_give, still)
-
-    still_pass : (h : ℕ) (x : Value Name) → Keeps R (refs.pass K h x)
-    unfolding refs.pass
-    still_pass h x = search (keeps_bind, keeps_then, keeps_look, keeps_spend, still_address, still) depth 14
-
     pub still_pass_all : (h : ℕ) (xs : List (Value Name)) → Keeps R (refs.pass_all K h xs)
-    unfolding refs.pass_all
-    still_pass_all h [] = search (keeps_give, still)
-    still_pass_all h (x ∷ xs) = let rest = still_pass_all h xs in search (keeps_bind, keeps_give, still_pass, still) depth 14
+    still_pass_all h xs = keeps_pass_all K R still still_tell_to still_gift h xs
 
   -- a deliver note is put
   module _ (h : ℕ) (here : honest v ≡ true) (there : honest h ≡ true) (m : Delivery Name) (n : Name) (verb : Words) (ys : Passeds Name) (s t : Vat Name) (put : t.outbox ≡ s.outbox ++ record { to = h; note = Deliver m n verb ys } ∷ []) where

@@ -44,3 +44,4 @@ pub mod Leavings
 pub mod Waiting
 pub mod Far
 pub mod FarSettled
+pub mod Passings

@@ -10,6 +10,7 @@ use Rattle.def_run.specs.World.{Script, World, names}
 use Rattle.law_order.specs.Worlds.{AddsOnly}
 use Rattle.law_order.specs.Steps.{StaysReady, Course, over, grew, settled, resolved, PassingGrows, DeliveringGrows, ReactingGrows, SendingGrows, SendingGoesSo, TurnsGoSo}
 use Rattle.law_order.proofs.Moves.{Keeps, IsKept, IsKeptUnder, keeps_bind, keeps_then, keeps_look, keeps_give, keeps_tell, keeps_spend, keeps_if}
+use Rattle.law_order.proofs.Passings.{keeps_pass, keeps_pass_all}
 use Rattle.law_order.proofs.Evals.{keeps_taking, keeps_opening}
 use Rattle.law_order.proofs.Adds.{IsSimple, stays_quiet, adds_nothing, adds_message, adds_note, change_adds}
 use Rattle.law_order.proofs.News.{stays_self, stays_then, messaged, lone_messaged, promised, opened}
@@ -86,32 +87,11 @@ module _ (script : Script) (honest : ℕ → Bool) (w : World) (v : ℕ) where
 
   -- ---- passing
 
-  stays_address_plain : (h : ℕ) (y : Value Name) (p : Place Name) → Keeps R (refs.address_plain K h y p)
-  unfolding refs.address_plain
-  stays_address_plain w y (Away h n o) = search (keeps_if, keeps_give, stays_gift, stays) depth 14
-  stays_address_plain w y (Mine n) = search (keeps_then, keeps_give, stays_tell_to, stays) depth 14
-  stays_address_plain w y _ = search (keeps_give, stays) depth 14
-
-  mutual
-    unfolding refs.address refs.address_all
-
-    stays_address : (h : ℕ) (y : Passed Name) → Keeps R (refs.address K h y)
-    stays_address w (Plain y) = search (keeps_bind, keeps_look, stays_address_plain, stays) depth 14
-    stays_address w (AGift h i) = search (keeps_give, stays)
-    stays_address w (Many ys) = let rest = stays_address_all w ys in search (keeps_bind, keeps_give, stays)
-
-    stays_address_all : (h : ℕ) (ys : Passeds Name) → Keeps R (refs.address_all K h ys)
-    stays_address_all w NoMore = search (keeps_give, stays)
-    stays_address_all w (More y ys) = let one = stays_address w y in let rest = stays_address_all w ys in search (keeps_bind, keeps_give, stays)
-
   pub stays_pass : (h : ℕ) (x : Value Name) → Keeps R (refs.pass K h x)
-  unfolding refs.pass
-  stays_pass w x = search (keeps_bind, keeps_then, keeps_look, keeps_spend, stays_address, stays) depth 14
+  stays_pass h x = keeps_pass K R stays stays_tell_to stays_gift h x
 
   stays_pass_all : (h : ℕ) (xs : List (Value Name)) → Keeps R (refs.pass_all K h xs)
-  unfolding refs.pass_all
-  stays_pass_all w [] = search (keeps_give, stays)
-  stays_pass_all w (x ∷ xs) = let rest = stays_pass_all w xs in search (keeps_bind, keeps_give, stays_pass, stays) depth 14
+  stays_pass_all h xs = keeps_pass_all K R stays stays_tell_to stays_gift h xs
 
   pub stays_deliver : (m : Message Name) (h : ℕ) (n : Name) → Keeps R (refs.deliver K m h n)
   unfolding refs.deliver
