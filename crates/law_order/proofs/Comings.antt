@@ -21,7 +21,7 @@ use Rattle.law_order.specs.Comings.{ComesLast, ComesBehind, MovesLast, SendsCome
 use Rattle.law_order.proofs.Sends.{pushed_shut, pushed_open, pushed_ends, link_here, link_behind, push_last, found_ends, held_by, entry_changed, if_all, if_map, if_both}
 use Rattle.law_order.proofs.Standing.{queued_end, held_end, queue_is, held_is, delivered_append, OnLink, Row, row_still}
 use Rattle.law_order.proofs.Passings.{keeps_pass_all}
-use Rattle.law_order.proofs.Moves.{Keeps, IsKept, keeps_bind, keeps_then, keeps_look, keeps_give, keeps_spend, keeps_if}
+use Rattle.law_order.proofs.Moves.{Keeps, IsKept}
 use Rattle.law_order.proofs.Messages.{comers_are_behind, gone_on_is_behind}
 use Rattle.law_order.proofs.Arrived.{IsOpen, all_open, carried_messages_go_on}
 use Rattle.law_order.proofs.Coming.{old_entry}

@@ -45,3 +45,4 @@ pub mod Waiting
 pub mod Far
 pub mod FarSettled
 pub mod Passings
+pub mod ToldLists

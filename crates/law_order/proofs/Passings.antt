@@ -1,5 +1,5 @@
 -- What passings keep: whatever is kept as a vat is to be told and as a gift is let go.
-use Rattle.std.proofs.Common.{ℕ, Bool, List, [], ◌∷◌}
+use Rattle.std.proofs.Common.{ℕ, List, [], ◌∷◌}
 use Rattle.def_machine.specs.Values.{Value, Name, Naming}
 use Rattle.def_machine.specs.State.{Passed, Passeds, Plain, AGift, Many, NoMore, More, Open, ToTell, Vat, ◌>>=◌, ◌>>◌, give, draw, send_out, alter}
 use Rattle.def_machine.specs.Refs as refs

@@ -9,7 +9,7 @@ use Rattle.law_machine.specs.Steps.{After}
 use Rattle.def_run.specs.World.{Script, World, names}
 use Rattle.law_order.specs.Worlds.{AddsOnly}
 use Rattle.law_order.specs.Steps.{StaysReady, Course, over, grew, settled, resolved, PassingGrows, DeliveringGrows, ReactingGrows, SendingGrows, SendingGoesSo, TurnsGoSo}
-use Rattle.law_order.proofs.Moves.{Keeps, IsKept, IsKeptUnder, keeps_bind, keeps_then, keeps_look, keeps_give, keeps_tell, keeps_spend, keeps_if}
+use Rattle.law_order.proofs.Moves.{Keeps, IsKept, IsKeptUnder, keeps_bind, keeps_then, keeps_look, keeps_give, keeps_tell}
 use Rattle.law_order.proofs.Passings.{keeps_pass, keeps_pass_all}
 use Rattle.law_order.proofs.Evals.{keeps_taking, keeps_opening}
 use Rattle.law_order.proofs.Adds.{IsSimple, stays_quiet, adds_nothing, adds_message, adds_note, change_adds}

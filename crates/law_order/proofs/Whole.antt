@@ -1,5 +1,5 @@
 -- What is ahead stays ahead through a whole settling.
-use Rattle.std.proofs.Common.{◌≡◌, ℕ, zero, suc, Bool, true, false, List, [], ◌∷◌, ◌++◌, Option, Some, None, refl, sym, ap, subst, ◌∙◌}
+use Rattle.std.proofs.Common.{◌≡◌, ℕ, zero, suc, Bool, true, false, List, [], ◌∷◌, ◌++◌, Option, Some, None, length, refl, sym, ap, subst, ◌∙◌}
 use Rattle.std.specs.Prelude.{slice_get, nat_le, ◌-◌, if◌then◌else◌}
 use Rattle.def_machine.specs.Values.{Value, Null, Flag, Number, Letter, Text, Prim, Broken, Items, Ref, Name, Naming, Spot, Own, Foreign, NoObject}
 use Rattle.def_machine.specs.State.{Message, Standing, Unsettled, WaitsOn, Viewed, Settled, Known, Vat, Act, Done, Gives, Throws, Ejects, Stops, Plain, SettledTo, Lost, Settles, WhereSome}
@@ -11,14 +11,15 @@ use Rattle.law_order.specs.Ways.{Nowhere}
 use Rattle.law_order.specs.Places.{aimed, held_on}
 use Rattle.law_order.specs.Worlds.{IfGives}
 use Rattle.law_order.specs.Settle.{IsHere, IsOwnSpot, aimed_at, settled_to}
-use Rattle.law_order.specs.Steps.{Ready, StaysInOrder}
-use Rattle.law_order.specs.Settlings.{with_line, ReadyAt, IsObjectSpot, IsPlain, HonestSpot, IsHonestTo, CanSettle, LosesWell, SendsWell, WaitsWell, KnownWell, StandsWell, EntryWell, SettlesWell, SettlingsKeep}
+use Rattle.law_order.specs.Steps.{Ready, StaysReady, StaysInOrder}
+use Rattle.law_order.specs.Settlings.{with_line, ReadyAt, ReadyFor, IsObjectSpot, IsPlain, HonestSpot, IsHonestTo, CanSettle, LosesWell, SendsWell, WaitsWell, KnownWell, StandsWell, EntryWell, SettlesWell, SettlingsKeep}
 use Rattle.law_order.proofs.Sends.{if_map, if_both, chain}
 use Rattle.law_order.proofs.Onward.{retargeted, all_sent, leads_here}
 use Rattle.law_order.proofs.Remaining.{kept_grown, order_then}
 use Rattle.law_order.proofs.SettledPlaces.{here_so, nothing_so, ready_settled, sent_to}
 use Rattle.law_order.proofs.Far.{WentOut, all_out, line_out, far_aimed}
 use Rattle.law_order.proofs.FarSettled.{far_so}
+use Rattle.law_order.proofs.ToldLists.{list_told}
 use Rattle.law_order.proofs.Adds.{AddsQuietly, adds_nothing, adds_message, adds_note, grown_adds, stays_quiet}
 
 -- ---- acts
@@ -176,22 +177,33 @@ module _ (K : Naming Name Name) (p : Name) (y : Value Name) (plain : IsPassed K 
   unfolding refs.inform state.◌>>=◌ state.and_then state.look
   informed s h f = informed_at s h (refs.follow K s (Ref p)) f.0 f
 
+abbrev IsUnlisted : Value Name → Type 0
+IsUnlisted (Items k) = ⊥
+IsUnlisted (Ref n) = Unit {0}
+IsUnlisted Null = Unit {0}
+IsUnlisted (Flag b) = Unit {0}
+IsUnlisted (Number z) = Unit {0}
+IsUnlisted (Letter c) = Unit {0}
+IsUnlisted (Text x) = Unit {0}
+IsUnlisted (Prim k) = Unit {0}
+IsUnlisted (Broken x) = Unit {0}
+
 module _ (K : Naming Name Name) (p : Name) (y : Value Name) where
   informed_spot : (n : Name) (q : Spot) → y ≡ Ref n → K.spot n ≡ q → IsObjectSpot q → (s : Vat Name) (h : ℕ) → Follows K p y s → IfGives (Told K p y s) (refs.inform K p h s)
   informed_spot n (Own j) e i _ = λ s h f. informed K p y (subst (λ z. IsPassed K z) (sym e) (subst IsOwnSpot (sym i) tt)) s h f
   informed_spot n (Foreign g) e i _ = λ s h f. informed_far K p y n e g i s h f
   informed_spot n NoObject e i o = absurd o
 
-  informed_by : (z : Value Name) → y ≡ z → IsPlain K z → (s : Vat Name) (h : ℕ) → Follows K p y s → IfGives (Told K p y s) (refs.inform K p h s)
-  informed_by (Ref n) e i = informed_spot n (K.spot n) e refl i
-  informed_by Null e i = λ s h f. informed K p y (subst (λ z. IsPassed K z) (sym e) tt) s h f
-  informed_by (Flag b) e i = λ s h f. informed K p y (subst (λ z. IsPassed K z) (sym e) tt) s h f
-  informed_by (Number j) e i = λ s h f. informed K p y (subst (λ z. IsPassed K z) (sym e) tt) s h f
-  informed_by (Letter c) e i = λ s h f. informed K p y (subst (λ z. IsPassed K z) (sym e) tt) s h f
-  informed_by (Text x) e i = λ s h f. informed K p y (subst (λ z. IsPassed K z) (sym e) tt) s h f
-  informed_by (Prim k) e i = λ s h f. informed K p y (subst (λ z. IsPassed K z) (sym e) tt) s h f
-  informed_by (Broken x) e i = λ s h f. informed K p y (subst (λ z. IsPassed K z) (sym e) tt) s h f
-  informed_by (Items k) e i = absurd i
+  informed_by : (z : Value Name) → y ≡ z → IsUnlisted z → IsPlain K z → (s : Vat Name) (h : ℕ) → Follows K p y s → IfGives (Told K p y s) (refs.inform K p h s)
+  informed_by (Ref n) e l i = informed_spot n (K.spot n) e refl i
+  informed_by Null e l i = λ s h f. informed K p y (subst (λ z. IsPassed K z) (sym e) tt) s h f
+  informed_by (Flag b) e l i = λ s h f. informed K p y (subst (λ z. IsPassed K z) (sym e) tt) s h f
+  informed_by (Number j) e l i = λ s h f. informed K p y (subst (λ z. IsPassed K z) (sym e) tt) s h f
+  informed_by (Letter c) e l i = λ s h f. informed K p y (subst (λ z. IsPassed K z) (sym e) tt) s h f
+  informed_by (Text x) e l i = λ s h f. informed K p y (subst (λ z. IsPassed K z) (sym e) tt) s h f
+  informed_by (Prim k) e l i = λ s h f. informed K p y (subst (λ z. IsPassed K z) (sym e) tt) s h f
+  informed_by (Broken x) e l i = λ s h f. informed K p y (subst (λ z. IsPassed K z) (sym e) tt) s h f
+  informed_by (Items k) e l i = absurd l
 
 -- ---- the whole
 
@@ -292,7 +304,7 @@ module _ (script : Script) (honest : ℕ → Bool) (w : World) (v : ℕ) where
       loop (Text x) i a = λ p k s f e h g. here_loop settle p (Text x) k s tt e h
       loop (Prim j) i a = λ p k s f e h g. here_loop settle p (Prim j) k s tt e h
       loop (Broken x) i a = λ p k s f e h g. broken_loop settle R p x k s f h g
-      loop (Items j) i a = absurd i
+      loop (Items j) i a = λ p k s f e h g. here_loop settle p (Items j) k s tt e h
 
       waits : (p : Name) (qs : List Name) (s : Vat Name) → WaitsWell script honest w v y R settle p qs s → IfGives (λ t. Kept s t × Follows K p y t) (state.each (λ q. settle q y) qs s)
       unfolding state.each state.◌>>◌ state.give
@@ -308,11 +320,51 @@ module _ (script : Script) (honest : ℕ → Bool) (w : World) (v : ℕ) where
           if_map (λ u. Kept t u × Follows K p y u) (λ u. Kept s u × Follows K p y u) (λ u i. (order_then script honest w v s t u (kept_adds s t (queue_adds K s m)) i.0, i.1)) (state.each state.enqueue ms t)
           (reacts p ms t (follows_queue K p y s (s.queue ++ m ∷ []) h))
 
-      tells : (p : Name) (hs : List ℕ) (s : Vat Name) → Follows K p y s → IfGives (λ t. Kept s t) (state.each (refs.inform K p) hs s)
+      tells : IsUnlisted y → (p : Name) (hs : List ℕ) (s : Vat Name) → Follows K p y s → IfGives (λ t. Kept s t) (state.each (refs.inform K p) hs s)
       unfolding state.each state.◌>>◌ state.give
-      tells p [] s h = kept_self s
-      tells p (a ∷ hs) s h = chain (Told K p y s) (λ t. Kept s t) (refs.inform K p a s) (state.each (refs.inform K p) hs) (informed_by K p y y refl plain s a h)
-          (λ t g. from_there s t (state.each (refs.inform K p) hs t) (kept_adds s t g.0) (tells p hs t g.1))
+      tells l p [] s h = kept_self s
+      tells l p (a ∷ hs) s h = chain (Told K p y s) (λ t. Kept s t) (refs.inform K p a s) (state.each (refs.inform K p) hs) (informed_by K p y y refl l plain s a h)
+          (λ t g. from_there s t (state.each (refs.inform K p) hs t) (kept_adds s t g.0) (tells l p hs t g.1))
+
+      -- of a list a vat that is ready tells
+      tells_list : (j : ℕ) → y ≡ Items j → (p : Name) (hs : List ℕ) (s : Vat Name) → Ready script honest w v s → Follows K p y s → IfGives (λ t. Kept s t) (state.each (refs.inform K p) hs s)
+      unfolding state.each state.◌>>◌ state.give
+      tells_list j e p [] s q h = kept_self s
+      tells_list j e p (a ∷ hs) s q h = chain (λ t. StaysReady script honest w v s t × Follows K p y t) (λ t. Kept s t) (refs.inform K p a s) (state.each (refs.inform K p) hs) (list_told script honest w v p y j e s a h)
+          (λ t g. let f = g.0 q in from_there s t (state.each (refs.inform K p) hs t) (λ r. f.0, kept_grown script honest w v s t f.1) (tells_list j e p hs t f.0 g.1))
+
+      abbrev Needs : Value Name → Vat Name → Type 0
+      Needs (Items j) s = Ready script honest w v s
+      Needs (Ref n) s = Unit {0}
+      Needs Null s = Unit {0}
+      Needs (Flag b) s = Unit {0}
+      Needs (Number j) s = Unit {0}
+      Needs (Letter c) s = Unit {0}
+      Needs (Text x) s = Unit {0}
+      Needs (Prim j) s = Unit {0}
+      Needs (Broken x) s = Unit {0}
+
+      needs : (x : Value Name) (s t : Vat Name) → ReadyFor script honest w v s x → (Ready script honest w v s → Ready script honest w v t) → Needs x t
+      needs (Items j) s t q f = f q
+      needs (Ref n) s t q f = tt
+      needs Null s t q f = tt
+      needs (Flag b) s t q f = tt
+      needs (Number j) s t q f = tt
+      needs (Letter c) s t q f = tt
+      needs (Text x) s t q f = tt
+      needs (Prim j) s t q f = tt
+      needs (Broken x) s t q f = tt
+
+      tells_of : (x : Value Name) → y ≡ x → (p : Name) (hs : List ℕ) (s : Vat Name) → Needs x s → Follows K p y s → IfGives (λ t. Kept s t) (state.each (refs.inform K p) hs s)
+      tells_of (Items j) e p hs s q h = tells_list j e p hs s q h
+      tells_of (Ref n) e p hs s q h = tells (subst IsUnlisted (sym e) tt) p hs s h
+      tells_of Null e p hs s q h = tells (subst IsUnlisted (sym e) tt) p hs s h
+      tells_of (Flag b) e p hs s q h = tells (subst IsUnlisted (sym e) tt) p hs s h
+      tells_of (Number j) e p hs s q h = tells (subst IsUnlisted (sym e) tt) p hs s h
+      tells_of (Letter c) e p hs s q h = tells (subst IsUnlisted (sym e) tt) p hs s h
+      tells_of (Text x) e p hs s q h = tells (subst IsUnlisted (sym e) tt) p hs s h
+      tells_of (Prim j) e p hs s q h = tells (subst IsUnlisted (sym e) tt) p hs s h
+      tells_of (Broken x) e p hs s q h = tells (subst IsUnlisted (sym e) tt) p hs s h
 
       known_kept : (p : Name) (k : Known Name) (s : Vat Name) → refs.entry_of K s.known p ≡ Some k → KnownWell script honest w v y R settle p k s → IfGives (λ t. Kept s t) (refs.settle_known K settle p y k s)
       unfolding refs.settle_known state.◌>>◌ state.and_then state.tell state.alter
@@ -324,7 +376,7 @@ module _ (script : Script) (honest : ℕ → Bool) (w : World) (v : ℕ) where
           (waits p k.waiting t g.1)
           (λ u i. chain (λ z. Kept u z × Follows K p y z) (λ z. Kept s z) (state.each state.enqueue k.reactions u) (state.each (refs.inform K p) k.told)
           (reacts p k.reactions u i.1)
-          (λ z j. from_there s z (state.each (refs.inform K p) k.told z) (order_then script honest w v s u z (order_then script honest w v s t u g.0 i.0) j.0) (tells p k.told z j.1))))
+          (λ z j. let done = order_then script honest w v s u z (order_then script honest w v s t u g.0 i.0) j.0 in from_there s z (state.each (refs.inform K p) k.told z) done (tells_of y refl p k.told z (needs y s z h.0.3 done.0) j.1))))
 
       stands_kept : (p : Name) (k : Known Name) (s : Vat Name) (q : Standing Name) → refs.entry_of K s.known p ≡ Some k → StandsWell script honest w v y R settle p k q s → IfGives (λ t. Kept s t) (refs.settle_standing K settle p y k q s)
       unfolding refs.settle_standing state.give
@@ -338,26 +390,43 @@ module _ (script : Script) (honest : ℕ → Bool) (w : World) (v : ℕ) where
       entry_kept p s None e h = kept_self s
       entry_kept p s (Some k) e h = stands_kept p k s k.standing e h
 
-      plain_target : (s : Vat Name) (p : Name) (z : Value Name) → IsPlain K z → refs.target_of K s p z ≡ z
-      unfolding refs.target_of
-      plain_target s p (Ref n) h = refl
-      plain_target s p Null h = refl
-      plain_target s p (Flag b) h = refl
-      plain_target s p (Number j) h = refl
-      plain_target s p (Letter c) h = refl
-      plain_target s p (Text x) h = refl
-      plain_target s p (Prim j) h = refl
-      plain_target s p (Broken x) h = refl
-      plain_target s p (Items j) h = absurd h
+    target_plain : (s : Vat Name) (p : Name) (z : Value Name) → IsPlain K z → IsPlain K (refs.target_of K s p z)
+    unfolding refs.target_of refs.cut_cycle
+    target_plain s p (Items j) h = go (refs.reaches K (suc (length s.lists)) s p (Items j))
+      where
+        go : (c : Bool) → IsPlain K (refs.cut_cycle K c (Items j))
+        go true = tt
+        go false = tt
+    target_plain s p (Ref n) h = h
+    target_plain s p Null h = h
+    target_plain s p (Flag b) h = h
+    target_plain s p (Number j) h = h
+    target_plain s p (Letter c) h = h
+    target_plain s p (Text x) h = h
+    target_plain s p (Prim j) h = h
+    target_plain s p (Broken x) h = h
 
-      one_kept : (p : Name) (s : Vat Name) → EntryWell script honest w v y R settle p (refs.entry_of K s.known p) s → IfGives (λ t. Kept s t) (refs.settle_one K settle p y s)
-      unfolding refs.settle_one state.◌>>=◌ state.and_then state.look
-      one_kept p s h = subst (λ z. IfGives (λ t. Kept s t) (refs.settle_entry K settle p z (refs.entry_of K s.known p) s)) (sym (plain_target s p y plain)) (entry_kept p s (refs.entry_of K s.known p) refl h)
+    target_honest : (s : Vat Name) (p : Name) (z : Value Name) → IsHonestTo script honest v z → IsHonestTo script honest v (refs.target_of K s p z)
+    unfolding refs.target_of refs.cut_cycle
+    target_honest s p (Items j) h = go (refs.reaches K (suc (length s.lists)) s p (Items j))
+      where
+        go : (c : Bool) → IsHonestTo script honest v (refs.cut_cycle K c (Items j))
+        go true = tt
+        go false = tt
+    target_honest s p (Ref n) h = h
+    target_honest s p Null h = h
+    target_honest s p (Flag b) h = h
+    target_honest s p (Number j) h = h
+    target_honest s p (Letter c) h = h
+    target_honest s p (Text x) h = h
+    target_honest s p (Prim j) h = h
+    target_honest s p (Broken x) h = h
 
     settlings : (y : Value Name) → IsPlain K y → IsHonestTo script honest v y → (d : ℕ) (p : Name) (s : Vat Name) → SettlesWell script honest w v y d p s → IfGives (λ t. Kept s t) (refs.settle_at K d p y s)
-    unfolding refs.settle_at state.stop
+    unfolding refs.settle_at refs.settle_one state.stop state.◌>>=◌ state.and_then state.look
     settlings y plain near zero p s h = tt
-    settlings y plain near (suc d) p s h = one_kept y plain near (λ q t. SettlesWell script honest w v y d q t) (λ q z. refs.settle_at K d q z) (λ q t g. settlings y plain near d q t g) p s h
+    settlings y plain near (suc d) p s h = let z = refs.target_of K s p y in
+        entry_kept z (target_plain s p y plain) (target_honest s p y near) (λ q t. SettlesWell script honest w v z d q t) (λ q x. refs.settle_at K d q x) (λ q t g. settlings z (target_plain s p y plain) (target_honest s p y near) d q t g) p s (refs.entry_of K s.known p) refl h
 
 pub settlings_keep : SettlingsKeep
 settlings_keep = λ script honest w v r y at plain near d p s h. settlings script honest w v r at y plain near d p s h

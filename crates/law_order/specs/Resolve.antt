@@ -26,7 +26,7 @@ pub record OnlyWaits (K : Naming Name Name) (p : Name) (s t : Vat Name) : Type 0
   pub entries : (n : Name) → StandsNear p n (entry_of K s.known n) (entry_of K t.known n)
 
 module _ (script : Script) (honest : ℕ → Bool) (w : World) (v : ℕ) where
-  -- y is no list, and the settling of p to it goes well
+  -- the settling of p to y goes well
   abbrev pub SettlesPlain : Name → Value Name → Vat Name → Type 0
   SettlesPlain p y s = IsPlain (names script v) y × IsHonestTo script honest v y × SettlesWell script honest w v y (suc (suc (length s.known))) p s
 

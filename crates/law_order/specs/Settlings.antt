@@ -2,7 +2,7 @@
 use Rattle.std.specs.Prelude.{◌≡◌, ℕ, zero, suc, ◌≤◌, Bool, true, false, List, [], ◌∷◌, ◌++◌, Option, Some, None, slice_get}
 use Rattle.def_machine.specs.Values.{Value, Null, Flag, Number, Letter, Text, Prim, Broken, Items, Ref, Msg, Name, Answer, Sent, Naming, Spot, Own, Foreign, NoObject}
 use Rattle.def_machine.specs.State.{Message, Standing, Unsettled, WaitsOn, Viewed, Settled, Known, Vat, Happened, Lost, Settles, WhereSome, each, begun, is_in}
-use Rattle.def_machine.specs.Refs.{Settler, entry_of, follow, deliver, send_on, settle_at}
+use Rattle.def_machine.specs.Refs.{Settler, entry_of, follow, deliver, send_on, target_of, settle_at}
 use Rattle.def_run.specs.World.{Script, World, names}
 use Rattle.law_order.specs.Ways.{Held, Free}
 use Rattle.law_order.specs.Places.{ways, amid}
@@ -18,7 +18,7 @@ IsObjectSpot (Own i) = Unit {0}
 IsObjectSpot (Foreign h) = Unit {0}
 IsObjectSpot NoObject = ⊥
 
--- an object, broken, or other data but a list
+-- data, an object, or broken
 abbrev pub IsPlain : Naming Name Name → Value Name → Type 0
 IsPlain K (Ref n) = IsObjectSpot (K.spot n)
 IsPlain K Null = Unit {0}
@@ -28,7 +28,7 @@ IsPlain K (Letter c) = Unit {0}
 IsPlain K (Text t) = Unit {0}
 IsPlain K (Prim k) = Unit {0}
 IsPlain K (Broken p) = Unit {0}
-IsPlain K (Items k) = ⊥
+IsPlain K (Items k) = Unit {0}
 
 -- where it is an object of another vat, this vat and that are honest
 abbrev pub HonestSpot : (ℕ → Bool) → ℕ → Spot → Type 0
@@ -72,7 +72,7 @@ module _ (script : Script) (honest : ℕ → Bool) (w : World) (v : ℕ) where
   ReadyAt s (Foreign h) = Ready script honest w v s × (is_in h s.noticed ≡ false)
   ReadyAt s NoObject = Unit {0}
 
-  -- where it is an object of another vat, this vat is ready, and did not notice that
+  -- Where it is an object of another vat, this vat is ready, and did not notice that. Where it is a list the vat is ready, since members may pass as gifts.
   abbrev pub ReadyFor : Vat Name → Value Name → Type 0
   ReadyFor s (Ref n) = ReadyAt s ((names script v).spot n)
   ReadyFor s Null = Unit {0}
@@ -82,12 +82,12 @@ module _ (script : Script) (honest : ℕ → Bool) (w : World) (v : ℕ) where
   ReadyFor s (Text t) = Unit {0}
   ReadyFor s (Prim k) = Unit {0}
   ReadyFor s (Broken p) = Unit {0}
-  ReadyFor s (Items k) = Unit {0}
+  ReadyFor s (Items k) = Ready script honest w v s
 
   -- ---- what is asked of each state between, where all that settles settles to y
 
   module _ (y : Value Name) where
-    -- the name can settle so: it is the vat's own, what it holds was sent on it, and it leads nowhere else; where y is far the vat is ready
+    -- the name can settle so: it is the vat's own, what it holds was sent on it, and it leads nowhere else
     abbrev pub CanSettle : Name → Known Name → Vat Name → Type 0
     CanSettle p k s = let t = settled_to (names script v) s p y in SettlesHere (names script v) s t p y v × AllOn p k.held × IsReady (ways script honest (amid v s w)) v p (aimed_at script v t y) × ReadyFor s y
 
@@ -131,12 +131,12 @@ module _ (script : Script) (honest : ℕ → Bool) (w : World) (v : ℕ) where
       EntryWell p None s = Unit {0}
       EntryWell p (Some k) s = StandsWell p k k.standing s
 
-    -- each name that settles in it can settle so, in the state in which it does
-    abbrev pub SettlesWell : ℕ → Name → Vat Name → Type 0
-    SettlesWell zero p s = Unit {0}
-    SettlesWell (suc d) p s = EntryWell (λ q t. SettlesWell d q t) (λ q z. settle_at (names script v) d q z) p (entry_of (names script v) s.known p) s
+  -- Each name that settles in it can settle so, in the state in which it does. A list that leads back to the name breaks it.
+  abbrev pub SettlesWell : Value Name → ℕ → Name → Vat Name → Type 0
+  SettlesWell y zero p s = Unit {0}
+  SettlesWell y (suc d) p s = let z = target_of (names script v) s p y in EntryWell z (λ q t. SettlesWell z d q t) (λ q x. settle_at (names script v) d q x) p (entry_of (names script v) s.known p) s
 
--- What is ahead stays ahead, what is doomed stays doomed, and the vat stays ready, through a whole settling to an object, to data but lists, or to what is broken.
+-- What is ahead stays ahead, what is doomed stays doomed, and the vat stays ready, through a whole settling to data, to an object, or to what is broken.
 abbrev pub SettlingsKeep : Type 0
 SettlingsKeep = (script : Script) (honest : ℕ → Bool) (w : World) (v : ℕ) (r : Vat Name) (y : Value Name) → slice_get w.vats v ≡ Some r → IsPlain (names script v) y → IsHonestTo script honest v y
     → (d : ℕ) (p : Name) (s : Vat Name) → SettlesWell script honest w v y d p s → IfGives (λ t. StaysInOrder script honest w v s t) (settle_at (names script v) d p y s)

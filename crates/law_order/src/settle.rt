@@ -62,12 +62,13 @@ pub fn settling_here_keeps()
 /// that was ahead of it; or what was held there is doomed. If the vat was ready it is ready after it: so by
 /// `courses_keep` a turn of which all settlings are such keeps order.
 ///
-/// It is said of settlings to an object, to data but lists, and to what is broken. It asks of each name that
-/// settles in it, in the state in which it does, what `settling_keeps` asks, and that what it held was sent
-/// on it; and that the name is followed to what it settled to when the vats are told, as is the target of
-/// each message that is lost or goes out. Where the object is of another vat it asks too that both vats are
-/// honest, that this one is ready and did not notice the other, and that each message that goes out gets a
-/// new answer, for which its answer here, unsettled till then, may wait.
+/// It is said of settlings to data, to an object, and to what is broken. It asks of each name that settles in
+/// it, in the state in which it does, what `settling_keeps` asks, and that what it held was sent on it; and
+/// that the name is followed to what it settled to when the vats are told, as is the target of each message
+/// that is lost or goes out. Where it settles to a list it asks too that the vat is ready. Where the object is
+/// of another vat it asks that both vats are honest, that this one is ready and did not notice the other, and
+/// that each message that goes out gets a new answer, for which its answer here, unsettled till then, may
+/// wait.
 pub fn settlings_keep()
     ensures { SettlingsKeep }
 {}
@@ -91,8 +92,7 @@ pub fn wait_on_keeps()
 /// resolves a name in the middle of a step: the name waits for another, breaks where the waits lead back to
 /// it, or settles.
 ///
-/// It asks what `wait_on_keeps` asks where it waits, and what `settlings_keep` asks where it settles: so it is
-/// not said of a name that is resolved to a list.
+/// It asks what `wait_on_keeps` asks where it waits, and what `settlings_keep` asks where it settles.
 pub fn resolving_keeps()
     ensures { ResolvingKeeps }
 {}
