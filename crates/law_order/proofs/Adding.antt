@@ -78,7 +78,7 @@ module _ (K : Naming Name Name) (s t : Vat Name) (g : RefersAlike K s t) where
   severed_alike (Broken p) = refl
   severed_alike (Items k) = refl
 
-  follow_alike : (x : Value Name) → refs.follow K t x ≡ refs.follow K s x
+  pub follow_alike : (x : Value Name) → refs.follow K t x ≡ refs.follow K s x
   unfolding refs.follow
   follow_alike x = severed_alike (refs.follow_at K (suc (length t.known)) t.known x) ∙ ap (λ y. refs.severed K s y) (follows_alike (suc (length t.known)) x ∙ ap (λ d. refs.follow_at K (suc d) s.known x) g.names_known)
 

@@ -253,3 +253,16 @@ module _ (script : Script) (honest : ℕ → Bool) (w : World) (v : ℕ) (s t : 
 
   pub stays_adds : AddsOnly (names script v) s t → s.messages ≤ t.messages → s.promises ≤ t.promises → t.drawn ≡ s.drawn → StaysReady script honest w v s t
   stays_adds g m p d r = (ready_adds g m p d r, grown_adds g)
+
+less_self : (n : ℕ) → n ≤ n
+less_self n = omega arith
+
+-- From s to t the vat only added, and made nothing that is counted.
+abbrev pub AddsQuietly : Naming Name Name → Vat Name → Vat Name → Type 0
+AddsQuietly K s t = AddsOnly K s t × (t.messages ≡ s.messages) × (t.promises ≡ s.promises) × (t.drawn ≡ s.drawn)
+
+pub stays_quiet : (script : Script) (honest : ℕ → Bool) (w : World) (v : ℕ) (s t : Vat Name) → AddsQuietly (names script v) s t → StaysReady script honest w v s t
+stays_quiet script honest w v s t g = stays_adds script honest w v s t g.0
+    (subst (λ n. s.messages ≤ n) (sym g.1) (less_self s.messages))
+    (subst (λ n. s.promises ≤ n) (sym g.2) (less_self s.promises))
+    g.3

@@ -26,7 +26,7 @@ use Rattle.law_order.proofs.OrderKeeping.{Any, FitsLane, all_put_on, message_all
 abbrev pub IsOpen : ℕ → ℕ → List Link → Type 0
 IsOpen a b ls = (l : Link) × (world.link_at a b ls ≡ Some l) × (l.cut ≡ false)
 
-pushed_cut : (p : Note Name) (l : Link) (c : Bool) → l.cut ≡ c → (world.pushed p l).cut ≡ l.cut
+pub pushed_cut : (p : Note Name) (l : Link) (c : Bool) → l.cut ≡ c → (world.pushed p l).cut ≡ l.cut
 pushed_cut p l true e = ap (λ j. j.cut) (pushed_shut p l e)
 pushed_cut p l false e = ap (λ j. j.cut) (pushed_open p l e)
 

@@ -18,11 +18,12 @@ use Rattle.law_order.specs.Worlds.{IfGives, IsWaiting}
 use Rattle.law_order.specs.Steps.{StaysReady, LeadsAmid, Ready, IsHeld}
 use Rattle.law_order.specs.Arrivals.{keeping, GoesTo, IsHere}
 use Rattle.law_order.specs.Comings.{ComesLast, ComesBehind, MovesLast, SendsComeLast, CarriedComeLast}
-use Rattle.law_order.proofs.Sends.{pushed_shut, pushed_open, pushed_ends, link_here, link_behind, push_last, found_ends, held_by, entry_changed, if_map}
+use Rattle.law_order.proofs.Sends.{pushed_shut, pushed_open, pushed_ends, link_here, link_behind, push_last, found_ends, held_by, entry_changed, if_all, if_map, if_both}
 use Rattle.law_order.proofs.Standing.{queued_end, held_end, queue_is, held_is, delivered_append, OnLink, Row, row_still}
-use Rattle.law_order.proofs.Moves.{Keeps, IsKept, keeps_bind, keeps_then, keeps_look, keeps_give, keeps_spend, keeps_if}
+use Rattle.law_order.proofs.Passings.{keeps_pass_all}
+use Rattle.law_order.proofs.Moves.{Keeps, IsKept}
 use Rattle.law_order.proofs.Messages.{comers_are_behind, gone_on_is_behind}
-use Rattle.law_order.proofs.Arrived.{carried_messages_go_on}
+use Rattle.law_order.proofs.Arrived.{IsOpen, all_open, carried_messages_go_on}
 use Rattle.law_order.proofs.Coming.{old_entry}
 use Rattle.law_order.proofs.Sent.{leads_there, mine_waits}
 use Rattle.law_order.proofs.Sendings.{stays_send, stays_send_only}
@@ -45,28 +46,29 @@ module _ (script : Script) (honest : ℕ → Bool) where
       go g true i q = link_here v h (f k) ls (same k ∙ i) ∙ ap (λ p. Then f p) q
       go g false i q = link_behind v h k (world.with_link f v h ls) i ∙ g q
 
+  -- a link that is cut, or is not there
+  abbrev pub IsShut : Option Link → Type 0
+  IsShut (Some l) = (l.cut ≡ true) × (is_honest script honest l ≡ true)
+  IsShut None = Unit {0}
+
+  pub shut_nowhere : (v h : ℕ) (n : Name) (vs : List (Vat Name)) (ls : List Link) (o : Option Link) → world.link_at v h ls ≡ o → IsShut o → onward_at script honest vs ls (Way v h) n ≡ Nowhere
+  unfolding onward_at over
+  shut_nowhere v h n vs ls None e q = ap (λ o. elim o [ Some l ↦ over script honest vs ls h n l | None ↦ Nowhere ]) e
+  shut_nowhere v h n vs ls (Some l) e q =
+      ap (λ o. elim o [ Some k ↦ over script honest vs ls h n k | None ↦ Nowhere ]) e
+      ∙ ap (λ c. elim c [ true ↦ elim l.cut [ true ↦ Nowhere | false ↦ places.leads script honest vs ls h (Ref n) ] | false ↦ Free ]) q.1
+      ∙ ap (λ c. elim c [ true ↦ Nowhere | false ↦ places.leads script honest vs ls h (Ref n) ]) q.0
+
+  pub both_honest : (v h : ℕ) → honest v ≡ true → honest h ≡ true → (l : Link) → l.from ≡ v → l.to ≡ h → is_honest script honest l ≡ true
+  unfolding is_honest
+  both_honest v h here there l e f = rw e (rw f (rw here there))
+
   module _ (v h : ℕ) (here : honest v ≡ true) (there : honest h ≡ true) (m : Delivery Name) (n : Name) (verb : Words) (ys : Passeds Name) where
     abbrev D : Note Name
     D = Deliver m n verb ys
 
     abbrev I : Item
     I = item m.message n
-
-    both_honest : (l : Link) → l.from ≡ v → l.to ≡ h → is_honest script honest l ≡ true
-    unfolding is_honest
-    both_honest l e f = rw e (rw f (rw here there))
-
-    abbrev IsShut : Option Link → Type 0
-    IsShut (Some l) = (l.cut ≡ true) × (is_honest script honest l ≡ true)
-    IsShut None = Unit {0}
-
-    shut_nowhere : (vs : List (Vat Name)) (ls : List Link) (o : Option Link) → world.link_at v h ls ≡ o → IsShut o → onward_at script honest vs ls (Way v h) n ≡ Nowhere
-    unfolding onward_at over
-    shut_nowhere vs ls None e q = ap (λ o. elim o [ Some l ↦ over script honest vs ls h n l | None ↦ Nowhere ]) e
-    shut_nowhere vs ls (Some l) e q =
-        ap (λ o. elim o [ Some k ↦ over script honest vs ls h n k | None ↦ Nowhere ]) e
-        ∙ ap (λ c. elim c [ true ↦ elim l.cut [ true ↦ Nowhere | false ↦ places.leads script honest vs ls h (Ref n) ] | false ↦ Free ]) q.1
-        ∙ ap (λ c. elim c [ true ↦ Nowhere | false ↦ places.leads script honest vs ls h (Ref n) ]) q.0
 
     abbrev Next : List Link → List Link
     Next ls = world.with_link (world.pushed D) v h ls
@@ -93,10 +95,12 @@ module _ (script : Script) (honest : ℕ → Bool) where
     unfolding is_honest
     shut_still l c q = let e = pushed_shut D l c in (ap (λ k. OnLink script honest k) e, (ap (λ k. k.cut) e ∙ c, ap (λ k. honest k.from && honest k.to) e ∙ q))
 
+    last_open : (ls : List Link) (l : Link) → At ls ≡ Some l → l.cut ≡ false → Row script honest (At (Next ls)) ≡ Row script honest (At ls) ++ I ∷ []
+    last_open ls l e c = let f = found_ends v h ls l e in ap (λ o. Row script honest o) (put_on (world.pushed D) v h (λ k. ends_still k) ls (Some l) e) ∙ row_open l c (both_honest v h here there l f.0 f.1) ∙ ap (λ o. Row script honest o ++ I ∷ []) (sym e)
+
     last_some : (ls : List Link) (l : Link) (b : Bool) → At ls ≡ Some l → l.cut ≡ b → IsLast ls
-    last_some ls l false e c = let f = found_ends v h ls l e in let p = put_on (world.pushed D) v h (λ k. ends_still k) ls (Some l) e in
-        inl (ap (λ o. Row script honest o) p ∙ row_open l c (both_honest l f.0 f.1) ∙ ap (λ o. Row script honest o ++ I ∷ []) (sym e))
-    last_some ls l true e c = let f = found_ends v h ls l e in let p = put_on (world.pushed D) v h (λ k. ends_still k) ls (Some l) e in let q = shut_still l c (both_honest l f.0 f.1) in
+    last_some ls l false e c = inl (last_open ls l e c)
+    last_some ls l true e c = let f = found_ends v h ls l e in let p = put_on (world.pushed D) v h (λ k. ends_still k) ls (Some l) e in let q = shut_still l c (both_honest v h here there l f.0 f.1) in
         inr (ap (λ o. Row script honest o) p ∙ q.0 ∙ ap (λ o. Row script honest o) (sym e), subst IsShut (sym p) q.1)
 
     last_none : (ls : List Link) → At ls ≡ None → IsLast ls
@@ -117,14 +121,14 @@ module _ (script : Script) (honest : ℕ → Bool) (w : World) (v : ℕ) where
   W s = ways script honest (amid v s w)
 
   -- what stands on that link is the same
-  record Still (a b : ℕ) (s t : Vat Name) : Type 0 where
-    same : (W t).stands (Way a b) ≡ (W s).stands (Way a b)
+  pub record Still (a b : ℕ) (s t : Vat Name) : Type 0 where
+    pub same : (W t).stands (Way a b) ≡ (W s).stands (Way a b)
 
   module _ (a b : ℕ) where
     abbrev R : Vat Name → Vat Name → Type 0
     R = Still a b
 
-    outbox_still : (s t : Vat Name) → t.outbox ≡ s.outbox → R s t
+    pub outbox_still : (s t : Vat Name) → t.outbox ≡ s.outbox → R s t
     unfolding ways ways_of stands_at amid
     outbox_still s t e = record { same = ap (λ ps. Row script honest (world.link_at a b (world.push_all v ps w.links))) e }
 
@@ -158,32 +162,8 @@ module _ (script : Script) (honest : ℕ → Bool) (w : World) (v : ℕ) where
         go s (Some i) = outbox_still s s refl
         go s None = open_put h (key s.number (K.word (length s.drawn))) n (K.word (length s.drawn)) s
 
-    still_address_plain : (h : ℕ) (y : Value Name) (p : Place Name) → Keeps R (refs.address_plain K h y p)
-    unfolding refs.address_plain
-    still_address_plain h y (Away g n o) = search (keeps_if, keeps_give, still_gift, still) depth 14
-    still_address_plain h y (Mine n) = search (keeps_then, keeps_give, still_tell_to, still) depth 14
-    still_address_plain h y _ = search (keeps_give, still) depth 14
-
-    mutual
-      unfolding refs.address refs.address_all
-
-      still_address : (h : ℕ) (y : Passed Name) → Keeps R (refs.address K h y)
-      still_address h (Plain y) = search (keeps_bind, keeps_look, still_address_plain, still) depth 14
-      still_address h (AGift g i) = search (keeps_give, still)
-      still_address h (Many ys) = let rest = still_address_all h ys in search (keeps_bind, keeps_give, still)
-
-      still_address_all : (h : ℕ) (ys : Passeds Name) → Keeps R (refs.address_all K h ys)
-      still_address_all h NoMore = search (keeps_give, still)
-      still_address_all h (More y ys) = let one = still_address h y in let rest = still_address_all h ys in search (keeps_bind, keeps_give, still)
-
-    still_pass : (h : ℕ) (x : Value Name) → Keeps R (refs.pass K h x)
-    unfolding refs.pass
-    still_pass h x = search (keeps_bind, keeps_then, keeps_look, keeps_spend, still_address, still) depth 14
-
-    still_pass_all : (h : ℕ) (xs : List (Value Name)) → Keeps R (refs.pass_all K h xs)
-    unfolding refs.pass_all
-    still_pass_all h [] = search (keeps_give, still)
-    still_pass_all h (x ∷ xs) = let rest = still_pass_all h xs in search (keeps_bind, keeps_give, still_pass, still) depth 14
+    pub still_pass_all : (h : ℕ) (xs : List (Value Name)) → Keeps R (refs.pass_all K h xs)
+    still_pass_all h xs = keeps_pass_all K R still still_tell_to still_gift h xs
 
   -- a deliver note is put
   module _ (h : ℕ) (here : honest v ≡ true) (there : honest h ≡ true) (m : Delivery Name) (n : Name) (verb : Words) (ys : Passeds Name) (s t : Vat Name) (put : t.outbox ≡ s.outbox ++ record { to = h; note = Deliver m n verb ys } ∷ []) where
@@ -196,16 +176,21 @@ module _ (script : Script) (honest : ℕ → Bool) (w : World) (v : ℕ) where
     put_last : After0 ≡ world.with_link (world.pushed (Deliver m n verb ys)) v h Before
     put_last = ap (λ ps. world.push_all v ps w.links) put ∙ push_last v s.outbox (record { to = h; note = Deliver m n verb ys }) w.links
 
+    -- where the link is there and not cut
+    pub note_open : IsOpen v h w.links → (W t).stands (Way v h) ≡ (W s).stands (Way v h) ++ item m.message n ∷ []
+    unfolding ways ways_of stands_at amid
+    note_open o = let f = all_open v h v s.outbox w.links o in ap (λ ls. Row script honest (world.link_at v h ls)) put_last ∙ last_open script honest v h here there m n verb ys Before f.0 f.1 f.2
+
     note_last : ComesLast (W s) (W t) m.message (End (Way v h) n)
     unfolding ways ways_of stands_at amid
     note_last = go (subst (λ ls. Last ls) (sym put_last) (last_by script honest v h here there m n verb ys Before (world.link_at v h Before) refl))
       where
         Last : List Link → Type 0
-        Last ls = (Row script honest (world.link_at v h ls) ≡ Row script honest (world.link_at v h Before) ++ item m.message n ∷ []) ⊎ ((Row script honest (world.link_at v h ls) ≡ Row script honest (world.link_at v h Before)) × IsShut script honest v h here there m n verb ys (world.link_at v h ls))
+        Last ls = (Row script honest (world.link_at v h ls) ≡ Row script honest (world.link_at v h Before) ++ item m.message n ∷ []) ⊎ ((Row script honest (world.link_at v h ls) ≡ Row script honest (world.link_at v h Before)) × IsShut script honest (world.link_at v h ls))
 
         go : Last After0 → ComesLast (W s) (W t) m.message (End (Way v h) n)
         go (inl e) = inl e
-        go (inr e) = inr (e.0, by_end (subst (Doom (W t)) (sym (shut_nowhere script honest v h here there m n verb ys (world.put_at v t w.vats) After0 (world.link_at v h After0) refl e.1)) nowhere))
+        go (inr e) = inr (e.0, by_end (subst (Doom (W t)) (sym (shut_nowhere script honest v h n (world.put_at v t w.vats) After0 (world.link_at v h After0) refl e.1)) nowhere))
 
 -- ---- a whole send
 
@@ -291,23 +276,11 @@ module _ (script : Script) (honest : ℕ → Bool) (w : World) (v : ℕ) (r : Va
     aimed_behind (Broken p) Near = tt
     aimed_behind (Items k) Near = tt
 
-  after_gives : {A : Type 0} (s : Vat Name) (P : Vat Name → Type 0) → ((t : Vat Name) → StaysReady script honest w v s t → P t) → (d : Done Name A) → After (StaysReady script honest w v) s d → IfGives P d
+  pub after_gives : {A : Type 0} (s : Vat Name) (P : Vat Name → Type 0) → ((t : Vat Name) → StaysReady script honest w v s t → P t) → (d : Done Name A) → After (StaysReady script honest w v) s d → IfGives P d
   after_gives s P f (Gives a t) h = f t h
   after_gives s P f (Throws p t) h = tt
   after_gives s P f (Ejects n y t) h = tt
   after_gives s P f (Stops c t) h = tt
-
-  gives_any : {A : Type 0} (P : Vat Name → Type 0) → ((t : Vat Name) → P t) → (d : Done Name A) → IfGives P d
-  gives_any P f (Gives a t) = f t
-  gives_any P f (Throws p t) = tt
-  gives_any P f (Ejects n y t) = tt
-  gives_any P f (Stops c t) = tt
-
-  gives_both : {A : Type 0} (P Q : Vat Name → Type 0) (d : Done Name A) → IfGives P d → IfGives Q d → IfGives (λ t. P t × Q t) d
-  gives_both P Q (Gives a t) h i = (h, i)
-  gives_both P Q (Throws p t) h i = tt
-  gives_both P Q (Ejects n y t) h i = tt
-  gives_both P Q (Stops c t) h i = tt
 
   then_gives : {A : Type 0} (P : Vat Name → Type 0) (d : Done Name (Unit {0})) (y : A) → IfGives P d → IfGives P (and_then d (λ _. give y))
   unfolding and_then give
@@ -346,7 +319,7 @@ module _ (script : Script) (honest : ℕ → Bool) (w : World) (v : ℕ) (r : Va
 
     behind_by : {A : Type 0} (d : Done Name A) → Grew d → (p : Place Name) → P ≡ p → IfGives (Behind p) d
     unfolding aimed
-    behind_by d f (Gone z) e = gives_any (Behind (Gone z)) (λ t. tt) d
+    behind_by d f (Gone z) e = if_all (Behind (Gone z)) (λ t. tt) d
     behind_by d f Near e = behind_other d f Near e (λ h. h)
     behind_by d f (Mine n) e = behind_other d f (Mine n) e (λ h. h)
     behind_by d f (Away h n o) e = behind_other d f (Away h n o) e (λ i. i)
@@ -392,11 +365,11 @@ module _ (script : Script) (honest : ℕ → Bool) (w : World) (v : ℕ) (r : Va
 
     send_comes : Honest → IfGives (ComesAt (LeadsAmid script honest w v s v x)) (refs.send N act x verb args s)
     send_comes f = let d = refs.send N act x verb args s in if_map Comes (ComesAt (LeadsAmid script honest w v s v x)) led d
-        (gives_both (λ t. ComesLast (U s) (U t) Id (aimed v Y P)) (Behind P) d (send_last f) (behind_by d (λ g. stays_send script honest w v act x verb args s g) P refl))
+        (if_both (λ t. ComesLast (U s) (U t) Id (aimed v Y P)) (Behind P) d (send_last f) (behind_by d (λ g. stays_send script honest w v act x verb args s g) P refl))
 
     lone_comes : Honest → IfGives (ComesAt (LeadsAmid script honest w v s v x)) (refs.send_only N act x verb args s)
     lone_comes f = let d = refs.send_only N act x verb args s in if_map Comes (ComesAt (LeadsAmid script honest w v s v x)) led d
-        (gives_both (λ t. ComesLast (U s) (U t) Id (aimed v Y P)) (Behind P) d (lone_last f) (behind_by d (λ g. stays_send_only script honest w v act x verb args s g) P refl))
+        (if_both (λ t. ComesLast (U s) (U t) Id (aimed v Y P)) (Behind P) d (lone_last f) (behind_by d (λ g. stays_send_only script honest w v act x verb args s g) P refl))
 
 pub sends_come_last : SendsComeLast
 sends_come_last = λ script honest w v act x verb args r s at here f ready hand. (send_comes script honest w v r at act x verb args s here ready hand f, lone_comes script honest w v r at act x verb args s here ready hand f)

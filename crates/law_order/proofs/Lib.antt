@@ -41,3 +41,8 @@ pub mod Messages
 pub mod Comings
 pub mod FoundPlaces
 pub mod Leavings
+pub mod Waiting
+pub mod Far
+pub mod FarSettled
+pub mod Passings
+pub mod ToldLists

@@ -12,10 +12,11 @@ use Rattle.law_order.specs.Changes.{Grows}
 use Rattle.law_order.specs.Turns.{Within}
 use Rattle.law_order.specs.Places.{queued, held_on, held_in, aimed, by_host, by_follow, of_name, leads_in, leads_at, leads, released, released_at, stands_at, over, onward_at, ways_of, ways, amid, is_honest}
 use Rattle.law_order.specs.Worlds.{IsWaiting}
-use Rattle.law_order.specs.Resolve.{StandsNear, OnlyWaits, IsLoose, WaitingKeeps}
+use Rattle.law_order.specs.Resolve.{StandsNear, OnlyWaits, WaitingKeeps}
+use Rattle.law_order.specs.Settlings.{IsLoose}
 use Rattle.std.proofs.lemmas.List.{append-nil}
 use Rattle.law_order.specs.Messages.{More}
-use Rattle.law_order.specs.Steps.{LeadsAmid}
+use Rattle.law_order.specs.Steps.{LeadsAmid, Grown}
 use Rattle.law_order.proofs.Remaining.{kept_grown}
 use Rattle.law_order.proofs.Standing.{queue_more, held_more, way_more}
 use Rattle.law_order.proofs.OrderPassing.{Found, here, apart, none, found, waiting_same}
@@ -59,7 +60,7 @@ module _ (K : Naming Name Name) (p : Name) (s t : Vat Name) (g : OnlyWaits K p s
   led_near f h e n (Some j) None i = absurd i
   led_near f h e n (Some j) (Some k) i = led_known f h e n j k i.0
 
-  follows_alike : (d : ℕ) (x : Value Name) → refs.follow_at K d t.known x ≡ refs.follow_at K d s.known x
+  pub follows_alike : (d : ℕ) (x : Value Name) → refs.follow_at K d t.known x ≡ refs.follow_at K d s.known x
   unfolding refs.follow_at refs.standing_of
   follows_alike zero x = refl
   follows_alike (suc d) (Ref n) = led_near (λ y. refs.follow_at K d t.known y) (λ y. refs.follow_at K d s.known y) (λ y. follows_alike d y) n (refs.entry_of K s.known n) (refs.entry_of K t.known n) (g.entries n)
@@ -312,5 +313,8 @@ module _ (script : Script) (honest : ℕ → Bool) (w : World) (v : ℕ) (s t : 
   more_waiting (Held u n) = held_more script honest w v s t u n (λ e. ([], held_by n (refs.entry_of (names script v) s.known n) (refs.entry_of (names script v) t.known n) (g.entries n) ∙ sym (append-nil (held_in n (refs.entry_of (names script v) s.known n)))))
   more_waiting (Way a b) = way_more script honest w v s t [] (g.outbox ∙ sym (append-nil s.outbox)) a b
 
+  pub waiting_grown : IsLoose script honest w v p s → Grown script honest w v s t
+  waiting_grown loose = record { grows = grows_amid script honest w v s t p g loose; more = λ l. more_waiting l; leading = λ u x. leads_waiting u x }
+
 pub waiting_keeps : WaitingKeeps
-waiting_keeps = λ script honest w v s t p g loose. kept_grown script honest w v s t (record { grows = grows_amid script honest w v s t p g loose; more = λ l. more_waiting script honest w v s t p g l; leading = λ u x. leads_waiting script honest w v s t p g u x })
+waiting_keeps = λ script honest w v s t p g loose. kept_grown script honest w v s t (waiting_grown script honest w v s t p g loose)

@@ -139,7 +139,7 @@ module _ (script : Script) (honest : ℕ → Bool) (w : World) (v : ℕ) (s : Va
   fixed_new m k e (Some j) i = let h = r.ends.fixed m (j, i) in subst (IsFixed K Came) (sym (followed script honest v s n r.ends plain m h)) (fixed_on K s n (host_of n) plain r.ends (refs.follow_at K (suc (length s.known)) s.known (Ref m)) h)
   fixed_new m k e None i = known_waits K s n (host_of n) plain r.ends m k e (new_waits K s n (host_of n) plain r.ends m k i e)
 
-  came_ends : FollowsEnd K Came
+  pub came_ends : FollowsEnd K Came
   unfolding names naming
   came_ends = record {
     objects = λ m i. came_none K s n (host_of n) plain r.ends m (r.ends.objects m i) (objects_apart n m plain i);
@@ -151,7 +151,7 @@ module _ (script : Script) (honest : ℕ → Bool) (w : World) (v : ℕ) (s : Va
   came_more (Held u m) = held_more script honest w v s Came u m (λ e. came_holds K s n (host_of n) plain r.ends m)
   came_more (Way a b) = way_more script honest w v s Came [] (sym (append-nil s.outbox)) a b
 
-  came_grown : refs.entry_of K s.known n ≡ None → Grown script honest w v s Came
+  pub came_grown : refs.entry_of K s.known n ≡ None → Grown script honest w v s Came
   unfolding amid
   came_grown e = let ls = world.push_all v s.outbox w.links in record {
     grows = coming_grows script honest w v s n r.ends r.number plain e;

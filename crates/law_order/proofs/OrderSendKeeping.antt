@@ -13,8 +13,8 @@ module _ (script : Script) (honest : ℕ → Bool) (w : World) (v : ℕ) where
   course_keeps : (s t : Vat Name) (c : Course script honest w v s t) → SettlingsKeep script honest w v c → Ready script honest w v s → Ready script honest w v t × KeepsOrder script honest w v s t
   course_keeps s t over h r = (r, keeps_self s)
   course_keeps s t (grew {t = q} f c) h r = let a = f r in let b = course_keeps q t c h a.0 in (b.0, kept_then script honest w v s q t (kept_grown script honest w v s q a.1) b.1)
-  course_keeps s t (settled {t = q} p y e c) h r = let a = h.0 r in let b = course_keeps q t c h.1 a.0 in (b.0, kept_then script honest w v s q t a.1 b.1)
-  course_keeps s t (resolved {t = q} p x e c) h r = let a = h.0 r in let b = course_keeps q t c h.1 a.0 in (b.0, kept_then script honest w v s q t a.1 b.1)
+  course_keeps s t (settled {t = q} p y e c) h r = let b = course_keeps q t c h.1 (h.0.0 r) in (b.0, kept_then script honest w v s q t h.0.1 b.1)
+  course_keeps s t (resolved {t = q} p x e c) h r = let b = course_keeps q t c h.1 (h.0.0 r) in (b.0, kept_then script honest w v s q t h.0.1 b.1)
 
 pub grown_keeps : GrownKeeps
 grown_keeps = λ script honest w v s t g. kept_grown script honest w v s t g

@@ -5,7 +5,7 @@ use Rattle.def_machine.specs.State.{Vat}
 use Rattle.def_run.specs.World.{Script, World}
 use Rattle.law_order.specs.Ways.{Held, Item, Mid, Ways}
 use Rattle.law_order.specs.Messages.{StaysBehind}
-use Rattle.law_order.specs.Steps.{WaysAmid, LeadsAmid, Grown, IsSentOn, still_held, sent_there, now_lost, KeepsOrder}
+use Rattle.law_order.specs.Steps.{WaysAmid, LeadsAmid, Grown, IsSentOn, still_held, sent_there, now_lost, KeepsOrder, StaysInOrder}
 use Rattle.law_order.proofs.Changes.{growing_keeps}
 use Rattle.law_order.proofs.Messages.{behind_then}
 use Rattle.law_order.proofs.Standing.{stands_more}
@@ -44,3 +44,9 @@ module _ (script : Script) (honest : ℕ → Bool) (w : World) (v : ℕ) where
       apart = λ m l b n i j. h.apart m l b n i (g.apart m l b n i j);
       held = λ m p b n i. held_then m p b n (g.held m p b n i);
     }
+
+  abbrev InOrder : Vat Name → Vat Name → Type 0
+  InOrder s t = StaysInOrder script honest w v s t
+
+  pub order_then : (s t u : Vat Name) → InOrder s t → InOrder t u → InOrder s u
+  order_then s t u g h = (λ r. h.0 (g.0 r), kept_then s t u g.1 h.1)

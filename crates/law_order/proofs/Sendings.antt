@@ -1,5 +1,5 @@
 -- What a vat does with references, but for settlings, keeps it ready, and the ways only grow; so a whole turn goes by such changes and by settlings.
-use Rattle.std.proofs.Common.{arith, ◌≡◌, ℕ, zero, suc, ◌-◌, ◌≤◌, Bool, true, false, List, [], ◌∷◌, ◌++◌, Option, Some, None, length, refl, sym, subst}
+use Rattle.std.proofs.Common.{◌≡◌, ℕ, zero, suc, ◌-◌, Bool, true, false, List, [], ◌∷◌, ◌++◌, Option, Some, None, length, refl, sym, subst}
 use Rattle.def_machine.specs.Values.{Words, Value, Null, Broken, Ref, Name, Naming, IsOwn, naming, name_of, mail_of, answer_of}
 use Rattle.def_machine.specs.State.{Message, Passed, Passeds, Plain, AGift, Many, NoMore, More, Delivery, Note, Deliver, Open, Change, Hold, React, ToTell, Vat, Done, Gives, Throws, Ejects, Stops, Act, ◌>>=◌, ◌>>◌, and_then, give, draw, draws, send_out, enqueue, alter, for_some, new_message, new_lone_message, drawn_at, look, tell, Sends}
 use Rattle.def_machine.specs.State as state
@@ -9,13 +9,11 @@ use Rattle.law_machine.specs.Steps.{After}
 use Rattle.def_run.specs.World.{Script, World, names}
 use Rattle.law_order.specs.Worlds.{AddsOnly}
 use Rattle.law_order.specs.Steps.{StaysReady, Course, over, grew, settled, resolved, PassingGrows, DeliveringGrows, ReactingGrows, SendingGrows, SendingGoesSo, TurnsGoSo}
-use Rattle.law_order.proofs.Moves.{Keeps, IsKept, IsKeptUnder, keeps_bind, keeps_then, keeps_look, keeps_give, keeps_tell, keeps_spend, keeps_if}
+use Rattle.law_order.proofs.Moves.{Keeps, IsKept, IsKeptUnder, keeps_bind, keeps_then, keeps_look, keeps_give, keeps_tell}
+use Rattle.law_order.proofs.Passings.{keeps_pass, keeps_pass_all}
 use Rattle.law_order.proofs.Evals.{keeps_taking, keeps_opening}
-use Rattle.law_order.proofs.Adds.{IsSimple, stays_adds, adds_nothing, adds_message, adds_note, change_adds}
+use Rattle.law_order.proofs.Adds.{IsSimple, stays_quiet, adds_nothing, adds_message, adds_note, change_adds}
 use Rattle.law_order.proofs.News.{stays_self, stays_then, messaged, lone_messaged, promised, opened}
-
-less_self : (n : ℕ) → n ≤ n
-less_self n = omega arith
 
 module _ (script : Script) (honest : ℕ → Bool) (w : World) (v : ℕ) where
   abbrev K : Naming Name Name
@@ -30,10 +28,7 @@ module _ (script : Script) (honest : ℕ → Bool) (w : World) (v : ℕ) where
   -- ---- what only adds
 
   adds : (s t : Vat Name) → AddsOnly K s t → t.messages ≡ s.messages → t.promises ≡ s.promises → t.drawn ≡ s.drawn → R s t
-  adds s t g m p d = stays_adds script honest w v s t g
-      (subst (λ n. s.messages ≤ n) (sym m) (less_self s.messages))
-      (subst (λ n. s.promises ≤ n) (sym p) (less_self s.promises))
-      d
+  adds s t g m p d = stays_quiet script honest w v s t (g, m, p, d)
 
   quiet : (s t : Vat Name) → t.known ≡ s.known → t.number ≡ s.number → t.gifts ≡ s.gifts → t.noticed ≡ s.noticed → t.queue ≡ s.queue → t.outbox ≡ s.outbox → t.messages ≡ s.messages → t.promises ≡ s.promises → t.drawn ≡ s.drawn → R s t
   quiet s t a b c d e f m p q = adds s t (adds_nothing K s t a b c d e f) m p q
@@ -92,32 +87,11 @@ module _ (script : Script) (honest : ℕ → Bool) (w : World) (v : ℕ) where
 
   -- ---- passing
 
-  stays_address_plain : (h : ℕ) (y : Value Name) (p : Place Name) → Keeps R (refs.address_plain K h y p)
-  unfolding refs.address_plain
-  stays_address_plain w y (Away h n o) = search (keeps_if, keeps_give, stays_gift, stays) depth 14
-  stays_address_plain w y (Mine n) = search (keeps_then, keeps_give, stays_tell_to, stays) depth 14
-  stays_address_plain w y _ = search (keeps_give, stays) depth 14
-
-  mutual
-    unfolding refs.address refs.address_all
-
-    stays_address : (h : ℕ) (y : Passed Name) → Keeps R (refs.address K h y)
-    stays_address w (Plain y) = search (keeps_bind, keeps_look, stays_address_plain, stays) depth 14
-    stays_address w (AGift h i) = search (keeps_give, stays)
-    stays_address w (Many ys) = let rest = stays_address_all w ys in search (keeps_bind, keeps_give, stays)
-
-    stays_address_all : (h : ℕ) (ys : Passeds Name) → Keeps R (refs.address_all K h ys)
-    stays_address_all w NoMore = search (keeps_give, stays)
-    stays_address_all w (More y ys) = let one = stays_address w y in let rest = stays_address_all w ys in search (keeps_bind, keeps_give, stays)
-
   pub stays_pass : (h : ℕ) (x : Value Name) → Keeps R (refs.pass K h x)
-  unfolding refs.pass
-  stays_pass w x = search (keeps_bind, keeps_then, keeps_look, keeps_spend, stays_address, stays) depth 14
+  stays_pass h x = keeps_pass K R stays stays_tell_to stays_gift h x
 
   stays_pass_all : (h : ℕ) (xs : List (Value Name)) → Keeps R (refs.pass_all K h xs)
-  unfolding refs.pass_all
-  stays_pass_all w [] = search (keeps_give, stays)
-  stays_pass_all w (x ∷ xs) = let rest = stays_pass_all w xs in search (keeps_bind, keeps_give, stays_pass, stays) depth 14
+  stays_pass_all h xs = keeps_pass_all K R stays stays_tell_to stays_gift h xs
 
   pub stays_deliver : (m : Message Name) (h : ℕ) (n : Name) → Keeps R (refs.deliver K m h n)
   unfolding refs.deliver

@@ -2,7 +2,7 @@
 use Rattle.std.proofs.Common.{◌≡◌, ℕ, zero, suc, length, Bool, true, false, List, [], ◌∷◌, ◌++◌, Option, Some, None, refl, sym, ap, subst, ◌∙◌, inl, inr, eqb-true}
 use Rattle.std.specs.Prelude.{slice_get, ◌==◌, is_some}
 use Rattle.def_machine.specs.Values.{Words, Value, Null, Flag, Number, Letter, Text, Prim, Broken, Items, Ref, Name, Naming, IsAnswer}
-use Rattle.def_machine.specs.State.{Message, Standing, Unsettled, WaitsOn, Viewed, Settled, Known, Hold, Passeds, Delivery, Note, Deliver, Open, Ask, SettledTo, Elsewhere, Shorten, Put, Vat, Done, Gives, Throws, Ejects, Stops, Posted, Waits, Lost, WaitOn, Wait}
+use Rattle.def_machine.specs.State.{Message, Standing, Unsettled, WaitsOn, Viewed, Settled, Known, Hold, Passeds, Delivery, Note, Deliver, Open, Ask, SettledTo, Elsewhere, Shorten, Put, Vat, Done, Act, Gives, Throws, Ejects, Stops, Posted, Waits, Lost, WaitOn, Wait}
 use Rattle.def_machine.specs.State as state
 use Rattle.def_machine.specs.Refs.{Place, Near, Mine, Away, Gone, Settler}
 use Rattle.def_machine.specs.Refs as refs
@@ -227,6 +227,19 @@ if_map P Q f (Gives a t) h = f t h
 if_map P Q f (Throws p t) h = tt
 if_map P Q f (Ejects n y t) h = tt
 if_map P Q f (Stops c t) h = tt
+
+pub if_both : {A : Type 0} (P Q : Vat Name → Type 0) (d : Done Name A) → IfGives P d → IfGives Q d → IfGives (λ t. P t × Q t) d
+if_both P Q (Gives a t) h i = (h, i)
+if_both P Q (Throws p t) h i = tt
+if_both P Q (Ejects n y t) h i = tt
+if_both P Q (Stops c t) h i = tt
+
+pub chain : {A B : Type 0} (P Q : Vat Name → Type 0) (d : Done Name A) (n : Act Name B) → IfGives P d → ((t : Vat Name) → P t → IfGives Q (n t)) → IfGives Q (state.and_then d (λ _. n))
+unfolding state.and_then
+chain P Q (Gives a t) n h f = f t h
+chain P Q (Throws p t) n h f = tt
+chain P Q (Ejects i y t) n h f = tt
+chain P Q (Stops c t) n h f = tt
 
 pub held_by : (k : Known Name) (m : Message Name) → IsWaiting k.standing → (state.changed (Hold m) k).held ≡ k.held ++ m ∷ []
 unfolding state.changed state.unless_settled state.changed_to

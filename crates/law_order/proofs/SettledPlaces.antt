@@ -2,7 +2,7 @@
 use Rattle.std.proofs.Common.{◌≡◌, ℕ, Bool, true, false, List, [], ◌∷◌, ◌++◌, Option, Some, None, refl, sym, ap, subst, ◌∙◌, inl, inr}
 use Rattle.std.proofs.lemmas.List.{append-nil, append_assoc}
 use Rattle.std.specs.Prelude.{slice_get}
-use Rattle.def_machine.specs.Values.{Value, Null, Flag, Number, Letter, Text, Prim, Broken, Items, Ref, Name, Naming}
+use Rattle.def_machine.specs.Values.{Value, Null, Flag, Number, Letter, Text, Prim, Broken, Items, Ref, Name, Promise, Answer, Naming}
 use Rattle.def_machine.specs.State.{Message, Known, Vat, Settle}
 use Rattle.def_machine.specs.Refs as refs
 use Rattle.def_machine.specs.Refs.{Near}
@@ -10,18 +10,17 @@ use Rattle.def_run.specs.World.{Script, Link, World, names}
 use Rattle.def_run.specs.World as world
 use Rattle.law_order.specs.Ways.{Lane, Queue, Held, Way, Item, Place, Nowhere, End, Mid, Ways, IsIn, Doom, nowhere, by_mid, alike, Ahead, doomed_there, in_mid, past_mid}
 use Rattle.law_order.specs.Places.{item, queued, held_on, held_in, aimed, amid}
-use Rattle.law_order.specs.Messages.{StandsAt, StaysBehind}
-use Rattle.law_order.specs.Worlds.{RefersAlike, StandsAlike}
-use Rattle.law_order.specs.Steps.{WaysAmid, LeadsAmid, IsApart, IsSentOn, still_held, sent_there, now_lost, KeepsOrder}
+use Rattle.law_order.specs.Messages.{More, StandsAt, StaysBehind}
+use Rattle.law_order.specs.Worlds.{StandsAlike, AddsOnly}
+use Rattle.law_order.specs.Steps.{WaysAmid, LeadsAmid, IsApart, IsSentOn, still_held, sent_there, now_lost, Ready, Grown, KeepsOrder, StaysInOrder}
 use Rattle.law_order.specs.Settle.{passed_by, KeepsBy, SettlesHere, aimed_at, IsReady, settled_to, IsHere}
-use Rattle.law_order.proofs.Adding.{refers_same}
-use Rattle.law_order.proofs.Amid.{leads_same}
+use Rattle.law_order.proofs.Adds.{adds_nothing, grown_adds, stays_quiet}
 use Rattle.law_order.proofs.Entries.{Differs, as_it_was, changes, differs}
 use Rattle.law_order.proofs.Named.{test_self, test_is, false_true, Test, passes_mid, passes_nowhere}
 use Rattle.law_order.proofs.Onward.{retargeted, here_keeps, here_leads, here_onward, aimed_here, settling_to_nothing_keeps}
 use Rattle.law_order.proofs.OrderPassing.{leads_via, settled_is_passed}
-use Rattle.law_order.proofs.Pushing.{all_same}
-use Rattle.law_order.proofs.Standing.{queued_append, queue_is, held_is, stands_more, queue_more, held_more, way_more}
+use Rattle.law_order.proofs.Sends.{none_some}
+use Rattle.law_order.proofs.Standing.{queued_append, queue_is, held_is, more_then, stands_more, queue_more, held_more, way_more}
 
 -- ---- lists
 
@@ -39,7 +38,7 @@ retargeted_queued : (y : Value Name) (q ms : List (Message Name)) → queued (re
 retargeted_queued y q ms = ap (λ z. queued z) (retargeted_is y q ms) ∙ queued_append q (resent y ms)
 
 -- the same items on the name o
-sent_to : Name → List Item → List Item
+unfoldable pub sent_to : Name → List Item → List Item
 sent_to o [] = []
 sent_to o (i ∷ js) = item i.mail o ∷ sent_to o js
 
@@ -53,28 +52,28 @@ unfolding sent_to
 sent_append o [] js = refl
 sent_append o (i ∷ b) js = ap (λ z. item i.mail o ∷ z) (sent_append o b js)
 
-sent_split : (o m n : Name) (b js : List Item) → sent_to o (b ++ item m n ∷ js) ≡ sent_to o b ++ item m o ∷ sent_to o js
+pub sent_split : (o m n : Name) (b js : List Item) → sent_to o (b ++ item m n ∷ js) ≡ sent_to o b ++ item m o ∷ sent_to o js
 unfolding sent_to
 sent_split o m n b js = sent_append o b (item m n ∷ js)
 
-sent_in : (o x m : Name) (b : List Item) → IsIn (item x m) b → IsIn (item x o) (sent_to o b)
+pub sent_in : (o x m : Name) (b : List Item) → IsIn (item x m) b → IsIn (item x o) (sent_to o b)
 unfolding sent_to
 sent_in o x m [] i = i
 sent_in o x m (j ∷ b) (inl e) = inl (ap (λ z. item z.mail o) e)
 sent_in o x m (j ∷ b) (inr i) = inr (sent_in o x m b i)
 
-in_left : (i : Item) (a b : List Item) → IsIn i a → IsIn i (a ++ b)
+pub in_left : (i : Item) (a b : List Item) → IsIn i a → IsIn i (a ++ b)
 in_left i [] b h = absurd h
 in_left i (j ∷ a) b (inl e) = inl e
 in_left i (j ∷ a) b (inr h) = inr (in_left i a b h)
 
-in_right : (i : Item) (a b : List Item) → IsIn i b → IsIn i (a ++ b)
+pub in_right : (i : Item) (a b : List Item) → IsIn i b → IsIn i (a ++ b)
 in_right i [] b h = h
 in_right i (j ∷ a) b h = inr (in_right i a b h)
 
 -- ---- behind more in one lane
 
-doom_wider : (w : Ways) (l : Lane) (a b : List Item) (n : Name) → Doom w (Mid l a n) → Doom w (Mid l b n)
+pub doom_wider : (w : Ways) (l : Lane) (a b : List Item) (n : Name) → Doom w (Mid l a n) → Doom w (Mid l b n)
 doom_wider w l a b n (by_mid h) = by_mid h
 
 ahead_wider : (w : Ways) (x : Name) (l : Lane) (a b : List Item) (n : Name) → Ahead w x (Mid l a n) → Ahead w x (Mid l (a ++ b) n)
@@ -92,12 +91,22 @@ module _ (w u : Ways) (k : Lane) (l : Lane) (n o : Name) (q b : List Item) (lead
   ahead_queued x (in_mid {m = m} i f) = in_mid {m = o} (in_right (item x o) q (sent_to o b) (sent_in o x m b i)) alike
   ahead_queued x (past_mid h) = ahead_wider u x l q (sent_to o b) o (lead.1 x h)
 
-  behind_queued : StaysBehind w u (Mid k b n) (Mid l (q ++ sent_to o b) o)
+  pub behind_queued : StaysBehind w u (Mid k b n) (Mid l (q ++ sent_to o b) o)
   behind_queued = (λ h. doom_queued h, λ x h. ahead_queued x h)
 
 entry_self : (n : Name) (o : Option (Known Name)) → StandsAlike n o o
 entry_self n None = tt
 entry_self n (Some k) = (refl, refl, λ i h. h)
+
+abbrev IsQueue : Lane → Type 0
+IsQueue (Queue v) = Unit {0}
+IsQueue (Held v p) = ⊥
+IsQueue (Way a b) = ⊥
+
+abbrev IsWay : Lane → Type 0
+IsWay (Queue v) = ⊥
+IsWay (Held v p) = ⊥
+IsWay (Way a b) = Unit {0}
 
 -- ---- a name settles
 
@@ -117,56 +126,84 @@ module _ (script : Script) (honest : ℕ → Bool) (w : World) (v : ℕ) (r s : 
   abbrev W : Vat Name → Ways
   W t = WaysAmid script honest w v t
 
-  -- and its queue grew at its end
-  module _ (q : List (Message Name)) (js : List Item) (grown : queued q ≡ queued s.queue ++ js) where
-    abbrev After : Vat Name
-    After = record T { queue = q }
+  abbrev Links : List Link
+  Links = world.push_all v s.outbox w.links
 
-    abbrev Links : List Link
-    Links = world.push_all v s.outbox w.links
+  leads_settled : (u : ℕ) (x : Value Name) → LeadsAmid script honest w v T u x ≡ F (LeadsAmid script honest w v s u x)
+  unfolding amid
+  leads_settled u x = leads_via script honest w.vats Links v r s T p y at g u x
 
-    alike_after : RefersAlike K T After
-    alike_after = record { number = refl; gifts = refl; noticed = refl; names_known = refl; entries = λ n. entry_self n (refs.entry_of K T.known n) }
+  others_held : (n : Name) → (n ≡ p → ⊥) → held_in n (refs.entry_of K T.known n) ≡ held_in n (refs.entry_of K s.known n)
+  others_held n f = go (differs script v (Settle y) p n s.known)
+    where
+      go : Differs script v (Settle y) p n (refs.entry_of K s.known n) (refs.entry_of K T.known n) → held_in n (refs.entry_of K T.known n) ≡ held_in n (refs.entry_of K s.known n)
+      go (as_it_was e) = ap (λ o. held_in n o) e
+      go (changes k e i j) = absurd (f e)
 
-    leads_after : (u : ℕ) (x : Value Name) → LeadsAmid script honest w v After u x ≡ F (LeadsAmid script honest w v s u x)
-    unfolding amid
-    leads_after u x = leads_same script honest w.vats Links Links (all_same Links) v T After (refers_same script honest v T After alike_after) u x ∙ leads_via script honest w.vats Links v r s T p y at g u x
+  none_settled : (n : Name) → refs.entry_of K s.known n ≡ None → refs.entry_of K T.known n ≡ None
+  none_settled n e = go (differs script v (Settle y) p n s.known)
+    where
+      go : Differs script v (Settle y) p n (refs.entry_of K s.known n) (refs.entry_of K T.known n) → refs.entry_of K T.known n ≡ None
+      go (as_it_was i) = i ∙ e
+      go (changes k i a b) = none_some k (sym e ∙ a)
 
-    others_held : (n : Name) → (n ≡ p → ⊥) → held_in n (refs.entry_of K After.known n) ≡ held_in n (refs.entry_of K s.known n)
-    others_held n f = go (differs script v (Settle y) p n s.known)
+  pub ready_settled : Ready script honest w v s → Ready script honest w v T
+  ready_settled ready = record {
+    number = ready.number;
+    ends = g.follows;
+    draws = ready.draws;
+    answers = λ h i j. none_settled (Answer h (record { sender = v; number = i })) (ready.answers h i j);
+    promises = λ i j. none_settled (Promise v i) (ready.promises i j);
+  }
+
+  -- what is not held for p stands there still
+  pub settled_more : (l : Lane) → (l ≡ Held v p → ⊥) → More (W s) (W T) l
+  settled_more (Queue u) f = queue_more script honest w v s T u (λ e. ([], sym (append-nil (queued s.queue))))
+  settled_more (Held u o) f = held_more script honest w v s T u o (λ e. ([], others_held o (λ i. f (ap (λ z. Held z o) e ∙ ap (λ z. Held v z) i)) ∙ sym (append-nil (held_in o (refs.entry_of K s.known o)))))
+  settled_more (Way a c) f = way_more script honest w v s T [] (sym (append-nil s.outbox)) a c
+
+  -- and then it only grew to t
+  module _ (t : Vat Name) (grown : Grown script honest w v T t) (keeps : KeepsBy (W s) (W t) F) (moved : (m : Name) (b : List Item) (n : Name) → StandsAt (W s) m (Held v p) b n → IsSentOn script honest w v s t m p b n) where
+    still_there : (m : Name) (l : Lane) (b : List Item) (n : Name) → (l ≡ Held v p → ⊥) → StandsAt (W s) m l b n → StandsAt (W t) m l b n
+    still_there m l b n f h = stands_more (W s) (W t) m l b n (more_then (W s) (W T) (W t) l (settled_more l f) (grown.more l)) h
+
+    abbrev OneOf : Lane → ℕ
+    OneOf (Queue u) = u
+    OneOf (Held u o) = u
+    OneOf (Way a c) = a
+
+    abbrev NameOf : Lane → Name
+    NameOf (Queue u) = p
+    NameOf (Held u o) = o
+    NameOf (Way a c) = p
+
+    apart_from : (l : Lane) → IsApart script honest w v l → l ≡ Held v p → ⊥
+    apart_from (Queue u) i e = subst IsQueue e tt
+    apart_from (Held u o) i e = i (ap (λ z. OneOf z) e)
+    apart_from (Way a c) i e = subst IsWay e tt
+
+    held_after : (m o : Name) (b : List Item) (n : Name) → StandsAt (W s) m (Held v o) b n → IsSentOn script honest w v s t m o b n
+    held_after m o b n h = go (Test v p v o) refl
       where
-        go : Differs script v (Settle y) p n (refs.entry_of K s.known n) (refs.entry_of K After.known n) → held_in n (refs.entry_of K After.known n) ≡ held_in n (refs.entry_of K s.known n)
-        go (as_it_was e) = ap (λ o. held_in n o) e
-        go (changes k e i j) = absurd (f e)
+        go : (c : Bool) → Test v p v o ≡ c → IsSentOn script honest w v s t m o b n
+        go true e = let i = (test_is v p v o e).1 in subst (λ z. IsSentOn script honest w v s t m z b n) (sym i) (moved m b n (subst (λ z. StandsAt (W s) m (Held v z) b n) i h))
+        go false e = still_held (still_there m (Held v o) b n (λ j. false_true (sym e ∙ subst (λ z. Test v p v z ≡ true) (sym (ap (λ z. NameOf z) j)) (test_self v p))) h)
 
-    apart_still : (m : Name) (l : Lane) (b : List Item) (n : Name) → IsApart script honest w v l → StandsAt (W s) m l b n → StandsAt (W After) m l b n
-    apart_still m (Queue u) b n i h = stands_more (W s) (W After) m (Queue u) b n (queue_more script honest w v s After u (λ e. (js, grown))) h
-    apart_still m (Held u o) b n i h = stands_more (W s) (W After) m (Held u o) b n (held_more script honest w v s After u o (λ e. absurd (i e))) h
-    apart_still m (Way a c) b n i h = stands_more (W s) (W After) m (Way a c) b n (way_more script honest w v s After [] (sym (append-nil s.outbox)) a c) h
-
-    module _ (keeps : KeepsBy (W s) (W After) F) (moved : (m : Name) (b : List Item) (n : Name) → StandsAt (W s) m (Held v p) b n → IsSentOn script honest w v s After m p b n) where
-      held_after : (m o : Name) (b : List Item) (n : Name) → StandsAt (W s) m (Held v o) b n → IsSentOn script honest w v s After m o b n
-      held_after m o b n h = go (Test v p v o) refl
-        where
-          go : (c : Bool) → Test v p v o ≡ c → IsSentOn script honest w v s After m o b n
-          go true e = let i = (test_is v p v o e).1 in subst (λ z. IsSentOn script honest w v s After m z b n) (sym i) (moved m b n (subst (λ z. StandsAt (W s) m (Held v z) b n) i h))
-          go false e = still_held (stands_more (W s) (W After) m (Held v o) b n (held_more script honest w v s After v o (λ a. ([], others_held o (λ i. false_true (sym e ∙ subst (λ z. Test v p v z ≡ true) (sym i) (test_self v p))) ∙ sym (append-nil (held_in o (refs.entry_of K s.known o)))))) h)
-
-      settles_so : KeepsOrder script honest w v s After
-      settles_so = record {
-        references = λ u x. subst (λ c. StaysBehind (W s) (W After) (LeadsAmid script honest w v s u x) c) (sym (leads_after u x)) (keeps (LeadsAmid script honest w v s u x));
-        places = λ l b n. subst (λ c. StaysBehind (W s) (W After) (Mid l b n) c) (passes_mid v p E l b n) (keeps (Mid l b n));
-        apart = λ m l b n i h. apart_still m l b n i h;
-        held = λ m o b n h. held_after m o b n h;
-      }
+    pub settles_so : KeepsOrder script honest w v s t
+    settles_so = record {
+      references = λ u x. subst (λ c. StaysBehind (W s) (W t) (LeadsAmid script honest w v s u x) c) (sym (grown.leading u x ∙ leads_settled u x)) (keeps (LeadsAmid script honest w v s u x));
+      places = λ l b n. subst (λ c. StaysBehind (W s) (W t) (Mid l b n) c) (passes_mid v p E l b n) (keeps (Mid l b n));
+      apart = λ m l b n i h. still_there m l b n (apart_from l i) h;
+      held = λ m o b n h. held_after m o b n h;
+    }
 
   -- to nothing
   lost_there : (m : Name) (b : List Item) (n : Name) → E ≡ Nowhere → IsSentOn script honest w v s T m p b n
   lost_there m b n e = let h = settled_is_passed script honest w v r s T p y at g in
       now_lost (by_mid (subst (Doom (W T)) (sym (h.lanes (Held v p) n ∙ ap (λ c. F c) (h.leads n) ∙ ap (λ c. passed_by v p c c) e ∙ passes_nowhere v p Nowhere)) nowhere))
 
-  pub nothing_so : E ≡ Nowhere → IsReady (W s) v p E → KeepsOrder script honest w v s T
-  nothing_so e ready = settles_so s.queue [] (sym (append-nil (queued s.queue))) (settling_to_nothing_keeps script honest w v r s p y at g e ready) (λ m b n h. lost_there m b n e)
+  pub nothing_so : E ≡ Nowhere → IsReady (W s) v p E → StaysInOrder script honest w v s T
+  nothing_so e ready = (λ q. ready_settled q, settles_so T (grown_adds script honest w v T T (adds_nothing K T T refl refl refl refl refl refl)) (settling_to_nothing_keeps script honest w v r s p y at g e ready) (λ m b n h. lost_there m b n e))
 
   -- to what is here
   module _ (k : Known Name) (e : refs.entry_of K s.known p ≡ Some k) (here : IsHere K y) (ready : IsReady (W s) v p E) where
@@ -203,5 +240,16 @@ module _ (script : Script) (honest : ℕ → Bool) (w : World) (v : ℕ) (r s : 
     sent_so (Broken z) f m b n h = to_data (aim_of (Broken z) f) m b n
     sent_so (Items j) f m b n h = to_data (aim_of (Items j) f) m b n
 
-    pub here_so : KeepsOrder script honest w v s Sent
-    here_so = settles_so (retargeted y s.queue k.held) (queued (resent y k.held)) (retargeted_queued y s.queue k.held) (here_keeps script honest w v r s p y k at g e here ready) (λ m b n h. sent_so y refl m b n h)
+    queue_adds : AddsOnly K T Sent
+    queue_adds = record {
+      alike = record { number = refl; gifts = refl; noticed = refl; names_known = refl; entries = λ n. entry_self n (refs.entry_of K T.known n) };
+      queue = (queued (resent y k.held), retargeted_queued y s.queue k.held);
+      held = λ n. ([], sym (append-nil (held_in n (refs.entry_of K T.known n))));
+      notes = ([], sym (append-nil s.outbox), tt);
+    }
+
+    pub here_so : StaysInOrder script honest w v s Sent
+    here_so = (
+      λ q. (stays_quiet script honest w v T Sent (queue_adds, refl, refl, refl) (ready_settled q)).0,
+      settles_so Sent (grown_adds script honest w v T Sent queue_adds) (here_keeps script honest w v r s p y k at g e here ready) (λ m b n h. sent_so y refl m b n h),
+    )

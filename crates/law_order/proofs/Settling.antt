@@ -108,7 +108,7 @@ module _ (w : Ways) (v : ℕ) (p : Name) (e : Place) (ready : IsReady w v p e) w
   lane_turned (Held u q) n = held_turned u q n
   lane_turned (Way a b) n = stays_so
 
-  turned : IsTurned w Led
+  pub turned : IsTurned w Led
   unfolding led_to onward_to
   turned = record { stands = λ l i h. h; links = λ a b n. refl; lanes = λ l n i. lane_turned l n }
 

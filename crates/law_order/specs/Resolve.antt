@@ -4,11 +4,9 @@ use Rattle.def_machine.specs.Values.{Value, Broken, Name, Naming}
 use Rattle.def_machine.specs.State.{Unsettled, Known, Vat}
 use Rattle.def_machine.specs.Refs.{Place, Near, Mine, Away, Gone, entry_of, follow, place, waits_lead, wait_on, resolve}
 use Rattle.def_run.specs.World.{Script, World, names}
-use Rattle.law_order.specs.Ways.{Held, Free}
-use Rattle.law_order.specs.Places.{ways, amid}
 use Rattle.law_order.specs.Worlds.{IfGives, IsWaiting}
-use Rattle.law_order.specs.Settlings.{IsPlain, SettlesWell}
-use Rattle.law_order.specs.Steps.{KeepsOrder}
+use Rattle.law_order.specs.Settlings.{IsPlain, IsHonestTo, IsLoose, SettlesWell}
+use Rattle.law_order.specs.Steps.{KeepsOrder, StaysInOrder}
 
 -- what is known of a name stands as it stood, but p, which was unsettled, may wait now
 abbrev pub StandsNear : Name → Name → Option (Known Name) → Option (Known Name) → Type 0
@@ -28,24 +26,20 @@ pub record OnlyWaits (K : Naming Name Name) (p : Name) (s t : Vat Name) : Type 0
   pub entries : (n : Name) → StandsNear p n (entry_of K s.known n) (entry_of K t.known n)
 
 module _ (script : Script) (honest : ℕ → Bool) (w : World) (v : ℕ) where
-  -- nothing is said of where p leads
-  abbrev pub IsLoose : Name → Vat Name → Type 0
-  IsLoose p s = (n : Name) → (ways script honest (amid v s w)).onward (Held v p) n ≡ Free
-
-  -- y is no list and no object of another vat, and the settling of p to it goes well
+  -- the settling of p to y goes well
   abbrev pub SettlesPlain : Name → Value Name → Vat Name → Type 0
-  SettlesPlain p y s = IsPlain (names script v) y × SettlesWell script honest w v y (suc (suc (length s.known))) p s
+  SettlesPlain p y s = IsPlain (names script v) y × IsHonestTo script honest v y × SettlesWell script honest w v y (suc (suc (length s.known))) p s
 
   -- where the waits lead back p breaks, and else p is unsettled, and nothing is said of where it leads
   abbrev pub CycleWell : Name → Vat Name → Bool → Type 0
   CycleWell p s true = SettlesPlain p (Broken (codes "cycle")) s
-  CycleWell p s false = (k : Known Name) × (entry_of (names script v) s.known p ≡ Some k) × (k.standing ≡ Unsettled) × IsLoose p s
+  CycleWell p s false = (k : Known Name) × (entry_of (names script v) s.known p ≡ Some k) × (k.standing ≡ Unsettled) × IsLoose script honest w v p s
 
   abbrev pub PlaceWell : Name → Vat Name → Value Name → Place Name → Type 0
   PlaceWell p s y Near = SettlesPlain p y s
   PlaceWell p s y (Mine q) = CycleWell p s (waits_lead (names script v) (length s.known) s.known p q)
   PlaceWell p s y (Away h q false) = CycleWell p s (waits_lead (names script v) (length s.known) s.known p q)
-  PlaceWell p s y (Away h q true) = ⊥
+  PlaceWell p s y (Away h q true) = SettlesPlain p y s
   PlaceWell p s y (Gone z) = SettlesPlain p y s
 
   -- p can be resolved to x in this state
@@ -59,9 +53,9 @@ WaitingKeeps = (script : Script) (honest : ℕ → Bool) (w : World) (v : ℕ) (
 -- So it is as the machine has p wait for q: p was unsettled, and nothing was said of where it leads.
 abbrev pub WaitOnKeeps : Type 0
 WaitOnKeeps = (script : Script) (honest : ℕ → Bool) (w : World) (v : ℕ) (s : Vat Name) (p q : Name) (k : Known Name) → entry_of (names script v) s.known p ≡ Some k → k.standing ≡ Unsettled → IsLoose script honest w v p s
-    → IfGives (λ t. KeepsOrder script honest w v s t) (wait_on (names script v) p q s)
+    → IfGives (λ t. StaysInOrder script honest w v s t) (wait_on (names script v) p q s)
 
 -- What is ahead stays ahead, and what is doomed stays doomed, as a name is resolved: it waits for another name, or settles.
 abbrev pub ResolvingKeeps : Type 0
 ResolvingKeeps = (script : Script) (honest : ℕ → Bool) (w : World) (v : ℕ) (r s : Vat Name) (p : Name) (x : Value Name) → slice_get w.vats v ≡ Some r → ResolvesWell script honest w v p s x
-    → IfGives (λ t. KeepsOrder script honest w v s t) (resolve (names script v) p x s)
+    → IfGives (λ t. StaysInOrder script honest w v s t) (resolve (names script v) p x s)

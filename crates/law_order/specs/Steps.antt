@@ -95,12 +95,16 @@ module _ (script : Script) (honest : ℕ → Bool) (w : World) (v : ℕ) where
     pub apart : (m : Name) (l : Lane) (b : List Item) (n : Name) → IsApart l → StandsAt (WaysAmid s) m l b n → StandsAt (WaysAmid t) m l b n
     pub held : (m p : Name) (b : List Item) (n : Name) → StandsAt (WaysAmid s) m (Held v p) b n → IsSentOn s t m p b n
 
+  -- order is kept, and whoever is ready stays so
+  abbrev pub StaysInOrder : Vat Name → Vat Name → Type 0
+  StaysInOrder s t = (Ready s → Ready t) × KeepsOrder s t
+
   -- where each settling of this course keeps the vat ready, and keeps order
   abbrev pub SettlingsKeep : {s t : Vat Name} → Course s t → Type 0
   SettlingsKeep over = Unit {0}
   SettlingsKeep (grew f c) = SettlingsKeep c
-  SettlingsKeep (settled {s} {t} p y e c) = (Ready s → Ready t × KeepsOrder s t) × SettlingsKeep c
-  SettlingsKeep (resolved {s} {t} p x e c) = (Ready s → Ready t × KeepsOrder s t) × SettlingsKeep c
+  SettlingsKeep (settled {s} {t} p y e c) = StaysInOrder s t × SettlingsKeep c
+  SettlingsKeep (resolved {s} {t} p x e c) = StaysInOrder s t × SettlingsKeep c
 
   -- what a vat may have in hand: data, an object, or a name that it knows
   abbrev pub IsHeld : Vat Name → Value Name → Type 0

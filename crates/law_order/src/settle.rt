@@ -59,12 +59,16 @@ pub fn settling_here_keeps()
 /// It is said of each thing from the place that it had to the place that it has. Each reference of each vat is
 /// where it leads then. A message in a queue, on a link, or held by another vat stands where it stood, behind
 /// the same. One that the vat held stands there still; or it is in the vat's queue, where all is ahead of it
-/// that was ahead of it; or what was held there is doomed.
+/// that was ahead of it; or what was held there is doomed. If the vat was ready it is ready after it: so by
+/// `courses_keep` a turn of which all settlings are such keeps order.
 ///
-/// It is said of settlings to an object of the vat, to data but lists, and to what is broken. It asks of
-/// each name that settles in it, in the state in which it does, what `settling_keeps` asks, and that
-/// what it held was sent on it; and that the name is followed to what it settled to when the vats are
-/// told, as is the target of each message that is lost.
+/// It is said of settlings to data, to an object, and to what is broken. It asks of each name that settles in
+/// it, in the state in which it does, what `settling_keeps` asks, and that what it held was sent on it; and
+/// that the name is followed to what it settled to when the vats are told, as is the target of each message
+/// that is lost or goes out. Where it settles to a list it asks too that the vat is ready. Where the object is
+/// of another vat it asks that both vats are honest, that this one is ready and did not notice the other, and
+/// that each message that goes out gets a new answer, for which its answer here, unsettled till then, may
+/// wait.
 pub fn settlings_keep()
     ensures { SettlingsKeep }
 {}
@@ -78,17 +82,17 @@ pub fn waiting_keeps()
     ensures { WaitingKeeps }
 {}
 
-/// So it is as the machine has a name wait for another. It asks that the name is known and unsettled, waits for
-/// none, and that nothing was said of where it leads.
+/// So it is as the machine has a name wait for another, and a vat that was ready stays so. It asks that the name is
+/// known and unsettled, waits for none, and that nothing was said of where it leads.
 pub fn wait_on_keeps()
     ensures { WaitOnKeeps }
 {}
 
-/// What is ahead stays ahead, and what is doomed stays doomed, as the machine resolves a name in the middle of a
-/// step: the name waits for another, breaks where the waits lead back to it, or settles.
+/// What is ahead stays ahead, what is doomed stays doomed, and a vat that was ready stays so, as the machine
+/// resolves a name in the middle of a step: the name waits for another, breaks where the waits lead back to
+/// it, or settles.
 ///
-/// It asks what `wait_on_keeps` asks where it waits, and what `settlings_keep` asks where it settles: so it is
-/// not said of a name that is resolved to a list or to an object of another vat.
+/// It asks what `wait_on_keeps` asks where it waits, and what `settlings_keep` asks where it settles.
 pub fn resolving_keeps()
     ensures { ResolvingKeeps }
 {}
