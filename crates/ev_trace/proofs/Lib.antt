@@ -1,10 +1,2 @@
-pub mod WordLemmas
-pub mod AllOf
-pub mod PlaceLemmas
-pub mod LastMark
-pub mod NoteLemmas
 pub mod NamingLemmas
 pub mod ReadingLemmas
-pub mod Joined
-pub mod Printed
-pub mod Spelled

@@ -6,10 +6,10 @@ use Rattle.std.proofs.lemmas.Bool.Decides.{nat_tests}
 use Rattle.std.proofs.lemmas.Str.{encode_ascii}
 use Rattle.ev_script.specs.Vats.{is_lower_or_digit}
 use Rattle.ev_script.proofs.EachLemmas.{next_item, nothing_behind}
-use Rattle.ev_trace.specs.declared.words.Quote.{Quote}
-use Rattle.ev_trace.specs.declared.words.Quote.TheVariants.{Outside}
-use Rattle.ev_trace.specs.Words.{behind_quote, is_outside}
-use Rattle.ev_trace.specs.Events.{Words}
+use Rattle.ev_trace_words.specs.declared.words.Quote.{Quote}
+use Rattle.ev_trace_words.specs.declared.words.Quote.TheVariants.{Outside}
+use Rattle.ev_trace_words.specs.Words.{behind_quote, is_outside}
+use Rattle.ev_trace_lines.specs.Events.{Words}
 use Rattle.ev_trace.specs.Naming.{bare, host_vats, is_mark, name_then_vats, note_vats, only_if, pair_vats, scan, scanned, with_name, with_names}
 
 pub with_names-append : (names xs ys : List (List ℕ)) → with_names names (xs ++ ys) ≡ with_names (with_names names xs) ys

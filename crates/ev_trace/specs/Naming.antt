@@ -3,11 +3,11 @@ use Rattle.std.specs.Prelude.{ℕ, ◌-◌, ◌==◌, nat_le, Bool, true, false,
 use Rattle.std.specs.declared.option.Option.{Option}
 use Rattle.std.specs.Str.{bytes_eq}
 use Rattle.ev_script.specs.Vats.{is_lower_or_digit, is_vat_name, place_of}
-use Rattle.ev_trace.specs.declared.words.Quote.{Quote}
-use Rattle.ev_trace.specs.declared.words.Quote.TheVariants.{Outside}
-use Rattle.ev_trace.specs.Words.{behind_quote, is_outside}
-use Rattle.ev_trace.specs.Parts.{count}
-use Rattle.ev_trace.specs.Events.{Words}
+use Rattle.ev_trace_words.specs.declared.words.Quote.{Quote}
+use Rattle.ev_trace_words.specs.declared.words.Quote.TheVariants.{Outside}
+use Rattle.ev_trace_words.specs.Words.{behind_quote, is_outside}
+use Rattle.ev_trace_words.specs.Parts.{count}
+use Rattle.ev_trace_lines.specs.Events.{Words}
 
 -- a mark behind the name of a vat
 abbrev pub is_mark : ℕ → Bool

@@ -12,10 +12,10 @@ use Rattle.def_trace.specs.declared.trace.Trace.{Trace}
 use Rattle.ev_command_lines.specs.Lines.{lines, text_of}
 use Rattle.ev_script.specs.Script.{rule, ◌>>=◌}
 use Rattle.ev_text.specs.Unquoting.{text_behind}
-use Rattle.ev_trace.specs.Words.{words_from, words_of}
-use Rattle.ev_trace.specs.Parts.{count}
-use Rattle.ev_trace.specs.Values.{all_of}
-use Rattle.ev_trace.specs.Events.{Words, event_of}
+use Rattle.ev_trace_words.specs.Words.{words_from, words_of}
+use Rattle.ev_trace_words.specs.Parts.{count}
+use Rattle.ev_trace_words.specs.Values.{all_of}
+use Rattle.ev_trace_lines.specs.Events.{Words, event_of}
 use Rattle.ev_trace.specs.Naming.{few, names_in, scan, with_names}
 
 -- ---- the last line

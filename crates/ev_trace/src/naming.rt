@@ -1,16 +1,16 @@
 //! The names of vats in the order in which they first stand in a text.
 
 ghost use Rattle.std.specs.Prelude.{◌≡◌, ◌≤◌, ◌&&◌, ◌||◌, ◌==◌, ℕ, true, false, List, [], ◌∷◌, OnOk, IfOk, flat_map, length, string_bytes};
-ghost use Rattle.ev_trace.specs.Words.{is_outside};
+ghost use Rattle.ev_trace_words.specs.Words.{is_outside};
 ghost use Rattle.std.specs.List.{list_all};
 ghost use Rattle.ev_script.specs.Vats.{begins_lower, is_lower_or_digit, is_vat_name};
-ghost use Rattle.ev_trace.specs.declared.words.Quote.TheVariants.{Outside};
+ghost use Rattle.ev_trace_words.specs.declared.words.Quote.TheVariants.{Outside};
 ghost use Rattle.ev_trace.specs.Naming.{bare, entry_vats, host_vats, is_mark, left_vats, line_vats, name_then_vats, names_in, note_vats, only_if, pair_vats, scan, scanned, with_name, with_names};
 
-use crate::parts::{count, vat};
-use crate::words::{Quote, behind_quote, is_outside};
 use ev_base::{Memory, Seq, Str, safe_value};
 use ev_text::is_keyword;
+use ev_trace_words::parts::{count, vat};
+use ev_trace_words::words::{Quote, behind_quote, is_outside};
 use std::alloc::Global;
 
 fn begins_lower(bytes: &[u8]) -> bool

@@ -3,20 +3,20 @@
 ghost use Rattle.std.specs.Prelude.{◌≡◌, ◌<◌, ◌≤◌, ◌-◌, IfOk, length, map, take, is_some, Some};
 ghost use Rattle.std.specs.List.{list_all};
 ghost use Rattle.ev_script.specs.Script.{Reads};
-ghost use Rattle.ev_trace.specs.Words.{words_of};
-ghost use Rattle.ev_trace.specs.Values.{all_of};
-ghost use Rattle.ev_trace.specs.Events.{event_of};
+ghost use Rattle.ev_trace_words.specs.Words.{words_of};
+ghost use Rattle.ev_trace_words.specs.Values.{all_of};
+ghost use Rattle.ev_trace_lines.specs.Events.{event_of};
 ghost use Rattle.ev_trace.specs.Reading.{events_of, is_end, is_reason, is_stop, kept, read, read_by, read_lines, read_text, somes, trace_of};
 
-use crate::lines::event_of;
 use crate::naming::names_in;
-use crate::parts::count;
-use crate::words::words_of;
 use def_event::event::Event;
 use def_trace::Trace;
 use ev_base::{Memory, Seq, Str};
 use ev_command_lines::{lines, text_of};
 use ev_script::ScriptFault;
+use ev_trace_lines::lines::event_of;
+use ev_trace_words::parts::count;
+use ev_trace_words::words::words_of;
 use std::alloc::Global;
 
 /// Whether the words say why a run stopped.

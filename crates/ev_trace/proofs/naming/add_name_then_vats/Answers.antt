@@ -1,5 +1,5 @@
 use Rattle.std.proofs.Common.{[], false, ◌∙◌, ap}
-use Rattle.ev_trace.specs.declared.words.Quote.TheVariants.{Outside}
+use Rattle.ev_trace_words.specs.declared.words.Quote.TheVariants.{Outside}
 use Rattle.ev_trace.specs.Naming.{scan, with_names}
 use Rattle.ev_trace.proofs.NamingLemmas.{name_first}
 use Rattle.ev_trace.proofs.naming.add_name_then_vats.Goals as goal

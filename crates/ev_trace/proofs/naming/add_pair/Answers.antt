@@ -1,5 +1,5 @@
 use Rattle.std.proofs.Common.{[], true, ◌∙◌, ap}
-use Rattle.ev_trace.specs.declared.words.Quote.TheVariants.{Outside}
+use Rattle.ev_trace_words.specs.declared.words.Quote.TheVariants.{Outside}
 use Rattle.ev_trace.specs.Naming.{scan, with_names}
 use Rattle.ev_trace.proofs.NamingLemmas.{pair_first}
 use Rattle.ev_trace.proofs.naming.add_pair.Goals as goal

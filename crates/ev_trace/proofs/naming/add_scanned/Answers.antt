@@ -1,5 +1,5 @@
 use Rattle.std.proofs.Common.{[], ◌∙◌, ap}
-use Rattle.ev_trace.specs.declared.words.Quote.TheVariants.{Outside}
+use Rattle.ev_trace_words.specs.declared.words.Quote.TheVariants.{Outside}
 use Rattle.ev_trace.specs.Naming.{only_if, scan, with_names}
 use Rattle.ev_trace.proofs.NamingLemmas.{all_bytes}
 use Rattle.ev_trace.proofs.naming.add_scanned.Goals as goal

@@ -1,6 +1,6 @@
 -- the names so far, and then those of the other bytes
 use Rattle.std.proofs.Common.{◌≡◌, [], drop, string_bytes}
-use Rattle.ev_trace.specs.declared.words.Quote.TheVariants.{Outside}
+use Rattle.ev_trace_words.specs.declared.words.Quote.TheVariants.{Outside}
 use Rattle.ev_trace.specs.Naming.{scan, with_names}
 use Rattle.ev_trace.proofs.naming.add_scanned.Given as goal
 

@@ -1,5 +1,5 @@
 use Rattle.std.proofs.Common.{◌∙◌, ap}
-use Rattle.ev_trace.specs.Words.{behind_quote}
+use Rattle.ev_trace_words.specs.Words.{behind_quote}
 use Rattle.ev_trace.specs.Naming.{only_if, with_names}
 use Rattle.ev_trace.proofs.NamingLemmas.{end_byte}
 use Rattle.ev_trace.proofs.naming.ended_by.Goals as goal

@@ -1,7 +1,7 @@
 use Rattle.std.proofs.Common.{◌∙◌, sym, ap}
-use Rattle.ev_trace.specs.Events.{event_of}
+use Rattle.ev_trace_lines.specs.Events.{event_of}
 use Rattle.ev_trace.specs.Reading.{kept}
-use Rattle.ev_trace.proofs.AllOf.{goes_on}
+use Rattle.ev_trace_words.proofs.AllOf.{goes_on}
 use Rattle.ev_trace.proofs.reading.each_kept.Goals as goal
 
 pub loop-words-preserved : goal.loop-words-preserved

@@ -1,5 +1,0 @@
-use Rattle.ev_trace.proofs.Printed.{name_again}
-use Rattle.ev_trace.proofs.laws.names_are_read_again.Goals as goal
-
-pub returns : goal.returns
-returns c = name_again

@@ -1,5 +1,0 @@
-use Rattle.ev_trace.proofs.Spelled.{name_is}
-use Rattle.ev_trace.proofs.laws.names_are_spelled_so.Goals as goal
-
-pub returns : goal.returns
-returns c = name_is
