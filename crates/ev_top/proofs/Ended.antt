@@ -17,7 +17,7 @@ use Rattle.ev_world.specs.declared.run.RunEnd.{RunEnd}
 use Rattle.ev_top.specs.Machine.{greatest_depth, script_of, text_of, tree_at}
 use Rattle.ev_top.specs.Programs.{trees_of}
 use Rattle.ev_top.specs.Ends.{due_by}
-use Rattle.ev_top.specs.Due.{due_of_run, due_of_machine}
+use Rattle.ev_top.specs.Due.{Telling, due_of_run, due_of_machine}
 use Rattle.ev_top.proofs.Steady.{runs_are_mirrored, runs_are_steady}
 
 -- the end of a run that stopped tells what is due
@@ -40,20 +40,21 @@ told_same : (wire : Bool) (theirs : machine.Script) → RunMirrors (machine.run 
 told_same true theirs h = (texts_mirror theirs (machine.run theirs) (numbers.run theirs) h).1
 told_same false theirs h = (texts_mirror theirs (machine.run theirs) (numbers.run theirs) h).0
 
--- what is due for a run that was told with this end and this text
-run_told : (wire : Bool) (script : Script) (theirs : machine.Script) (e : RunEnd) (written : List ℕ) → RunMirrors (machine.run theirs) (numbers.run theirs)
-    → e ≡ end_of (numbers.run theirs) → written ≡ told_text wire theirs → due_by script written e ≡ due_of_machine wire script theirs
-run_told wire script theirs e written h is same =
-    ap (due_by script written) is ∙ ap (λ t. due_by script t (end_of (numbers.run theirs))) (same ∙ told_same wire theirs h)
-    ∙ told_end script (text_of wire theirs) (machine.run theirs) (numbers.run theirs) h
+-- what is due for a run that was told with this end, and of which that was told
+pub run_told : (tell : Telling) (script : Script) (theirs : machine.Script) (e : RunEnd) (written : List ℕ) → RunMirrors (machine.run theirs) (numbers.run theirs)
+    → e ≡ end_of (numbers.run theirs) → written ≡ tell theirs → due_by script written e ≡ due_of_machine tell script theirs
+run_told tell script theirs e written h is same =
+    ap (due_by script written) is ∙ ap (λ t. due_by script t (end_of (numbers.run theirs))) same
+    ∙ told_end script (tell theirs) (machine.run theirs) (numbers.run theirs) h
 
 -- the same for a script that is read, whose programs are these
 pub script_told : (wire : Bool) (script : Script) (programs : List Scoped) (e : RunEnd) (written : List ℕ) → IsAdmitted script
     → (RunsSteadily (script_of script (trees_of programs)) → e ≡ end_of (numbers.run (script_of script (trees_of programs))))
     → (RunsSteadily (script_of script (trees_of programs)) → written ≡ told_text wire (script_of script (trees_of programs)))
-    → due_by script written e ≡ due_of_machine wire script (script_of script (trees_of programs))
+    → due_by script written e ≡ due_of_machine (text_of wire) script (script_of script (trees_of programs))
 script_told wire script programs e written admitted is same =
     let theirs = script_of script (trees_of programs) in
     let lawful = meets script admitted greatest_depth (tree_at (trees_of programs)) in
     let steady = runs_are_steady theirs lawful in
-    run_told wire script theirs e written (runs_are_mirrored theirs lawful) (is steady) (same steady)
+    let mirrors = runs_are_mirrored theirs lawful in
+    run_told (text_of wire) script theirs e written mirrors (is steady) (same steady ∙ told_same wire theirs mirrors)

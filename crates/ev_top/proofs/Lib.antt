@@ -3,6 +3,7 @@ pub mod DueLemmas
 pub mod OneReading
 pub mod Steady
 pub mod Ended
+pub mod Summed
 pub mod ReadLemmas
 pub mod CauseLemmas
 pub mod Lawful

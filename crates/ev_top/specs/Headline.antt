@@ -18,12 +18,11 @@ use Rattle.ev_top.specs.Causes.{HasPrograms}
 use Rattle.ev_top.specs.Machine.{script_of}
 use Rattle.ev_top.specs.Programs.{trees_of}
 use Rattle.ev_top.specs.declared.command.Command.{Command}
-use Rattle.ev_top.specs.declared.command.Command.TheVariants.{Run}
 
--- the whole input is a script whose programs are read, and this is the machine's
+-- the command runs a script whose programs are read, and this is the machine's
 abbrev pub IsToRun : Option Command → List ℕ → machine.Script → Type 0
-IsToRun command input script = (wire : Bool) × (command ≡ Some (Run wire)) × (read : Script) × (programs : List Scoped)
-    × HasPrograms input read programs × (script ≡ script_of read (trees_of programs))
+IsToRun command input script = (read : Script) × (programs : List Scoped) × HasPrograms command input read programs
+    × (script ≡ script_of read (trees_of programs))
 
 -- ---- the worlds of a run
 

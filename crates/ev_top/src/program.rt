@@ -12,12 +12,13 @@ ghost use Rattle.ev_top.specs.Due.{IsDue, IsOfWhole, IsReading, Pays, IsOfRead, 
 ghost use Rattle.ev_top.specs.Headline.{MessagesHaveOneFate, SeveredStaysBroken, StampedReachFrozenAlone, UsesAreConnected};
 ghost use Rattle.ev_top.specs.Programs.{refusal};
 
-use crate::command::{Command, command_of, generated_number};
+use crate::command::{Command, command_of, reads};
 use crate::expansion::expand_bytes;
 use crate::lines::{mint_bytes, reply_generated, sturdy_bytes};
 use crate::reply::{Reply, reply_line};
 use crate::run::run_bytes;
 use crate::status::Status;
+use crate::summary::sum_generated;
 use ev_base::{Memory, Seq, Str};
 use ev_io::{ReadEnd, Sink, Source, read_all, write_all};
 use std::alloc::Global;
@@ -54,6 +55,7 @@ fn reply_bytes(alloc: Global, command: Command, bytes: &[u8]) -> Result<Reply, M
         Command::Run { wire } => run_bytes(alloc, bytes, wire),
         Command::Expand => expand_bytes(alloc, bytes),
         Command::Generate(number) => reply_generated(alloc, number),
+        Command::Sum(number) => sum_generated(alloc, number),
         Command::Sturdy => sturdy_bytes(alloc, bytes),
         Command::Mint => mint_bytes(alloc, bytes),
     }
@@ -89,16 +91,18 @@ fn reply_to<S: Source>(alloc: Global, command: Command, src: &mut S) -> Result<R
     }
 }
 
-/// The script that a command generates. Nothing is read.
-fn reply_unread(alloc: Global, number: u32) -> Result<Reply, Memory>
-    ensures due { (input : List ℕ) → IfOk result (λ reply. IsDue (Some (Command.Generate number)) input reply.status (string_bytes reply.text)) }
-    ensures kind { IfOk result (λ reply. reply.status ≡ Status.Done) }
+/// What a command asks for that reads nothing.
+#[tactic(auto, using(crate::proofs::Unread::due_whatever))]
+fn reply_unread(alloc: Global, command: Command) -> Result<Reply, Memory>
+    requires { reads command ≡ false }
+    ensures due { (input : List ℕ) → IfOk result (λ reply. IsDue (Some command) input reply.status (string_bytes reply.text)) }
+    ensures whole { IfOk result (λ reply. IsOfWhole reply.status) }
 {
-    reply_generated(alloc, number)
+    reply_bytes(alloc, command, b"")
 }
 
 /// What a command asks for.
-#[tactic(auto, using(crate::proofs::Unread::for_all, crate::proofs::Unread::nothing_read, crate::proofs::Unread::is_read))]
+#[tactic(auto, using(crate::proofs::Unread::for_all, crate::proofs::Unread::nothing_read, crate::proofs::Unread::nothing_taken, crate::proofs::Unread::whole_of_read))]
 fn reply_for<S: Source>(alloc: Global, command: Command, src: &mut S) -> Result<Reply, Early>
     ensures due { IfSome (S.left src.old)
         (λ input. IfOk result (λ reply. IsDue (Some command) input reply.status (string_bytes reply.text))) }
@@ -109,10 +113,10 @@ fn reply_for<S: Source>(alloc: Global, command: Command, src: &mut S) -> Result<
     ensures fault { result ≡ Err Early.ReadFault → Rose (S.faults src.old) (S.faults src.new) }
     ensures later { S.faults src.old ≤ S.faults src.new }
 {
-    match generated_number(command) {
-        Some(number) => Ok(reply_unread(alloc, number)?),
-        None => reply_to(alloc, command, src),
+    if reads(command) {
+        return reply_to(alloc, command, src);
     }
+    Ok(reply_unread(alloc, command)?)
 }
 
 /// Writes the text of a status.

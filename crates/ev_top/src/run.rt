@@ -5,7 +5,7 @@ ghost use Rattle.ev_script.specs.Rules.{IsAdmitted};
 ghost use Rattle.ev_top.specs.Debt.{IsFor};
 ghost use Rattle.ev_top.specs.Due.{IsDueOfScript, IsDueOfTrees, IsDueOfVats, gone_astray};
 ghost use Rattle.ev_top.specs.Ends.{due_by};
-ghost use Rattle.ev_top.specs.Machine.{vat_of_entry, vat_of_step};
+ghost use Rattle.ev_top.specs.Machine.{text_of, vat_of_entry, vat_of_step};
 ghost use Rattle.ev_top.specs.Programs.{AreRead, trees_of};
 ghost use Rattle.ev_top.specs.Script.{script_from};
 
@@ -20,8 +20,8 @@ use ev_script::{Entry, Script, ScriptFault};
 use ev_world::{RunEnd, run_script};
 use std::alloc::Global;
 
-/// The greatest depth at which a node begins.
-const GREATEST_DEPTH: u32 = 20_000;
+/// The limits of each run: the greatest depth at which a node begins.
+pub const LIMITS: Limits = Limits { depth: 20_000 };
 
 /// The vat that an entry has take a step. No vat takes one in a cut.
 fn vat_of_entry(entry: Entry) -> VatId
@@ -68,7 +68,7 @@ fn reply_astray(alloc: Global, script: &Script, vat: VatId) -> Result<Reply, Mem
 }
 
 /// The run of a script that ended so, with its text, or the refusal of a program where the run went astray.
-fn reply_told(alloc: Global, script: &Script, end: RunEnd, text: String) -> Result<Reply, Memory>
+pub fn reply_told(alloc: Global, script: &Script, end: RunEnd, text: String) -> Result<Reply, Memory>
     requires { IsAdmitted script.now }
     ensures { IfOk result (λ reply. IsFor reply.status (string_bytes reply.text) (due_by script.now (string_bytes text) end)) }
 {
@@ -91,19 +91,16 @@ fn reply_run(
 ) -> Result<Reply, Memory>
     requires admitted { IsAdmitted script.now }
     requires read { AreRead script.now.vats script.now.vats programs.items }
-    ensures { IfOk result (λ reply. IsDueOfTrees wire script.now (trees_of programs.items) reply.status (string_bytes reply.text)) }
+    ensures { IfOk result (λ reply. IsDueOfTrees (text_of wire) script.now (trees_of programs.items) reply.status (string_bytes reply.text)) }
 {
-    let limits = Limits {
-        depth: GREATEST_DEPTH,
-    };
-    let told = run_script(alloc, script, programs, limits, wire)?;
+    let told = run_script(alloc, script, programs, LIMITS, wire)?;
     reply_told(alloc, script, told.end, told.text)
 }
 
 /// The run of a script, or the refusal of the first source that is refused.
 fn reply_script(alloc: Global, script: &Script, wire: bool) -> Result<Reply, Memory>
     requires { IsAdmitted script.now }
-    ensures { IfOk result (λ reply. IsDueOfVats wire script.now [] script.now.vats reply.status (string_bytes reply.text)) }
+    ensures { IfOk result (λ reply. IsDueOfVats (text_of wire) script.now [] script.now.vats reply.status (string_bytes reply.text)) }
 {
     match read_sources(alloc, script) {
         Ok(programs) => reply_run(alloc, script, programs, wire),
@@ -114,7 +111,7 @@ fn reply_script(alloc: Global, script: &Script, wire: bool) -> Result<Reply, Mem
 
 /// The run of the script that bytes spell, or their refusal. The text has the frames where `wire` asks for them.
 pub fn run_bytes(alloc: Global, bytes: &[u8], wire: bool) -> Result<Reply, Memory>
-    ensures { IfOk result (λ reply. IsDueOfScript wire (script_from bytes.now) reply.status (string_bytes reply.text)) }
+    ensures { IfOk result (λ reply. IsDueOfScript (text_of wire) (script_from bytes.now) reply.status (string_bytes reply.text)) }
 {
     match script_from(alloc, bytes) {
         Ok(script) => reply_script(alloc, &script, wire),

@@ -3,6 +3,7 @@
 
 mod carrying;
 mod closing;
+pub mod events;
 mod exporting;
 mod finishing;
 mod pushing;
@@ -10,4 +11,5 @@ pub mod run;
 mod starting;
 pub mod world;
 
+pub use events::{Ran, run_events};
 pub use run::{RunEnd, Told, run_script};
