@@ -1,18 +1,18 @@
 -- The text of a JSON object of the shape of a script, where all that it says is plain, and that it is read back.
-use Rattle.std.proofs.Common.{◌≡◌, ◌≤◌, ℕ, zero, suc, max, Bool, true, false, ◌&&◌, List, [], ◌∷◌, ◌++◌, codes, Option, Some, option_map, option_and_then, refl, sym, ap, ap₂, ◌∙◌, subst, arith, append_assoc, append-nil}
+use Rattle.std.proofs.Common.{◌≡◌, ◌≤◌, ℕ, max, Bool, true, false, ◌&&◌, List, [], ◌∷◌, ◌++◌, codes, Option, Some, option_map, option_and_then, refl, sym, ap, ap₂, ◌∙◌, arith, append_assoc, append-nil}
 use Rattle.std.specs.List.{flat_map}
 use Rattle.std.proofs.lemmas.Bool.{and_parts}
 use Rattle.json.specs.Json as json
 use Rattle.json.specs.Json.{if_last}
 use Rattle.json.specs.Token.{Token}
-use Rattle.json.specs.Print.{escape_byte, print, quoted}
+use Rattle.json.specs.Print.{escape_byte, quoted}
 use Rattle.json.specs.Tree as tree
 use Rattle.json.specs.Tree.{HasNumbers, ItemsHaveNumbers, json_tokens}
 use Rattle.json.proofs.Printed.Tokens.{tokens-print}
 use Rattle.json.proofs.Printed.Trees.{ArePrintable-json_tokens, value-json_tokens}
-use Rattle.serde_json.specs.Data.{Data, string, array, object, Items, no_items, item, Members, no_members, member}
-use Rattle.serde_json.specs.Read.{max_depth, of_json, of_items, of_members, read}
-use Rattle.serde_json.specs.Written.{compact_text, items_text, members_text, outline, items_outline}
+use Rattle.serde_json.specs.Data.{Data, string, array, object, Items, no_items, item, no_members, member}
+use Rattle.serde_json.specs.Read.{max_depth, of_json, of_items, read}
+use Rattle.serde_json.specs.Written.{compact_text, items_text, outline, items_outline}
 use Rattle.serde_json.proofs.Texts.{print-outline}
 use Rattle.ev_generate.specs.Generated.{before_count, behind_count}
 use Rattle.law_generated.specs.Accepted.{adding, handing_on}

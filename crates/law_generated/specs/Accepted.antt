@@ -1,5 +1,5 @@
 -- The script that is generated for a number, as what its bytes are read to.
-use Rattle.std.specs.Prelude.{◌≡◌, ◌≤◌, ◌+◌, ◌*◌, ◌==◌, ℕ, if◌then◌else◌, List, [], ◌∷◌, ◌++◌, codes, decimal, map, Ok}
+use Rattle.std.specs.Prelude.{◌≡◌, ◌≤◌, ◌+◌, ◌*◌, ◌==◌, ℕ, if◌then◌else◌, List, [], ◌∷◌, ◌++◌, codes, decimal, length, map, Ok}
 use Rattle.std.specs.List.{range_with_len, repeat}
 use Rattle.ev_generate.specs.Generated.{choice, generated, generated_key}
 use Rattle.ev_script.specs.Schedule.{round}
@@ -51,3 +51,7 @@ generated_script n = record { key = generated_key n; fuel = 1000000; vats = gene
 -- Law: the bytes are read to it.
 abbrev pub GeneratedScriptsAreRead : Type 0
 GeneratedScriptsAreRead = (n : ℕ) → n ≤ 3000 → read (generated n) ≡ Ok (generated_script n)
+
+-- Law: the run of it has an opening turn for each of three vats, and 28 n + 90 entries.
+abbrev pub GeneratedScriptsAreLong : Type 0
+GeneratedScriptsAreLong = (n : ℕ) → (length (generated_vats n) ≡ 3) × (length (generated_schedule n) ≡ 28 * n + 90)

@@ -1,6 +1,5 @@
-use Rattle.law_generated.proofs.Plain.{decimal_plain}
-use Rattle.law_generated.proofs.Texts.{texts}
+use Rattle.law_generated.proofs.Acceptance.{are_read}
 use Rattle.law_generated.proofs.generated_scripts_are_read.Goals as goal
 
 pub returns : goal.returns
-returns c = ?
+returns c = are_read
