@@ -11,4 +11,5 @@ pub mod Fates
 pub mod Reach
 pub mod Severed
 pub mod Unread
+pub mod Generated
 pub mod Told

@@ -9,7 +9,7 @@ ghost use Rattle.def_machine.specs.State.{Fuel, Deep};
 ghost use Rattle.ev_reader.specs.declared.fault.Stage.{Stage as Part};
 ghost use Rattle.ev_top.specs.Causes.{Breaks, ComesWhere, Follows, GoesAstray, HasFault, HasNoTree, IsLong, IsProgramRefused, RepeatsWord, Stops};
 ghost use Rattle.ev_top.specs.Due.{IsDue, IsOfWhole, IsReading, Pays, IsOfRead, Finishes, Reads, ReadsFor, astray};
-ghost use Rattle.ev_top.specs.Headline.{MessagesHaveOneFate, SeveredStaysBroken, StampedReachFrozenAlone, UsesAreConnected};
+ghost use Rattle.ev_top.specs.Headline.{MessagesHaveOneFate, SeveredStaysBroken, StampedReachFrozenAlone, SumsUp, UsesAreConnected};
 ghost use Rattle.ev_top.specs.Programs.{refusal};
 
 use crate::command::{Command, command_of, reads};
@@ -181,6 +181,8 @@ pub fn top<S: Source, K: Sink>(alloc: Global, words: &Seq<Str>, src: &mut S, out
         (RepeatsWord first second (command_of words.now) input)) }
     ensures read_fault { result ≡ Status.ReadFault → Rose (S.faults src.old) (S.faults src.new) }
     ensures write_fault { result ≡ Status.WriteFault → Rose (K.faults out.old) (K.faults out.new) }
+    // A summary is of the script that is generated for its number, which breaks no rule.
+    ensures sum { IfSome (S.left src.old) (λ input. SumsUp result (command_of words.now) input) }
     // In the history that is due each message is sent once at most, carried twice at most, and has one fate.
     ensures fates { IfSome (S.left src.old) (λ input. MessagesHaveOneFate (command_of words.now) input) }
     // In each world of its run what DeepFrozen stamped reaches no assignable state.
