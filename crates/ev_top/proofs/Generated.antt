@@ -9,7 +9,6 @@ use Rattle.std.proofs.lemmas.List.{length-map}
 use Rattle.def_kernel.specs.declared.node.Node.{Node}
 use Rattle.ev_command_lines.specs.Lines.{bounded, is_numeral, number}
 use Rattle.ev_generate.specs.Generated.{generated}
-use Rattle.ev_io.specs.Causes.{Rose}
 use Rattle.ev_script.specs.declared.script.Script.{Script}
 use Rattle.law_generated.specs.Accepted.{generated_script, generated_schedule, generated_vats}
 use Rattle.law_generated.proofs.Acceptance.{are_long, are_read}
@@ -125,23 +124,19 @@ status_of_sum n input (TooDeep step) script read usage fault long rule = tt
 status_of_sum n input (WordRepeated first second) script read usage fault long rule = tt
 status_of_sum n input Memory script read usage fault long rule = tt
 
+unread_sum : (command : Option Command) (n : ℕ) → command ≡ Some (Sum n) → IsReading command → ⊥
+unread_sum command n is reading = let e : false ≡ true = subst IsReading is reading in cc
+
 -- of a call, by the other clauses
-pub summed : (left : Option (List ℕ)) (words : List (List ℕ)) (result : Status) (R : Type 0) → (result ≡ Usage → command_of words ≡ None)
-    → (result ≡ ReadFault → R) → ((n : ℕ) → command_of words ≡ Some (Sum n) → R → ⊥)
+pub summed : (left : Option (List ℕ)) (words : List (List ℕ)) (result : Status) → (result ≡ Usage → command_of words ≡ None)
+    → ((IsReading (command_of words) → ⊥) → result ≡ ReadFault → ⊥)
     → IfSome left (λ input. ComesWhere (λ s. s ≡ TooLong) result (IsLong (command_of words) input))
     → IfSome left (λ input. (rule : ℕ) → ComesWhere (λ s. s ≡ ScriptRefused rule) result (Breaks rule (command_of words) input))
     → IfSome left (λ input. SumsUp result (command_of words) input)
-summed None words result R usage fault unread long rule = tt
-summed (Some input) words result R usage fault unread long rule = λ n is.
-    let read = are_read n (few n words is) in
-    (status_of_sum n input result (generated_script n) read (λ e. no_usage (command_of words) n is (usage e)) (λ e. unread n is (fault e))
-        (λ e. subst (λ (c : Option Command). IsLong c input) is (long.0 e)) (λ k e. subst (λ (c : Option Command). Breaks k c input) is ((rule k).0 e)),
-    subst (λ (c : Option Command). HasScript c input (generated_script n)) (sym is) read)
-
--- a source that stays as it was has no new fault
-pub unrisen : {A : Type 0} (command : Option Command) (n : ℕ) → command ≡ Some (Sum n) → (old new : A) (faults : A → ℕ) → ((IsReading command → ⊥) → new ≡ old)
-    → Rose (faults old) (faults new) → ⊥
-unrisen command n is old new faults nothing rose =
-    let unread : IsReading command → ⊥ = λ reading. let e : false ≡ true = subst IsReading is reading in cc in
-    let same : faults new ≡ faults old = ap faults (nothing unread) in
-    omega (arith, same, rose)
+summed None words result usage unread long rule = tt
+summed (Some input) words result usage unread long rule = λ n is.
+    let read = are_read n (few n words is) in (
+      status_of_sum n input result (generated_script n) read (λ e. no_usage (command_of words) n is (usage e)) (unread (unread_sum (command_of words) n is))
+          (λ e. subst (λ (c : Option Command). IsLong c input) is (long.0 e)) (λ k e. subst (λ (c : Option Command). Breaks k c input) is ((rule k).0 e)),
+      subst (λ (c : Option Command). HasScript c input (generated_script n)) (sym is) read,
+    )

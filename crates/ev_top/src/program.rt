@@ -110,6 +110,7 @@ fn reply_for<S: Source>(alloc: Global, command: Command, src: &mut S) -> Result<
     ensures reads { ReadsFor (S.left src.old) (S.left src.new) result }
     ensures end { IfOk result (λ reply. reads command ≡ true → IsOfWhole reply.status → IsAtEnd (S.left src.new)) }
     ensures nothing { reads command ≡ false → src.new ≡ src.old }
+    ensures unread { reads command ≡ false → ¬ (result ≡ Err Early.ReadFault) }
     ensures fault { result ≡ Err Early.ReadFault → Rose (S.faults src.old) (S.faults src.new) }
     ensures later { S.faults src.old ≤ S.faults src.new }
 {
@@ -137,6 +138,7 @@ fn answer<S: Source, K: Sink>(alloc: Global, words: &Seq<Str>, src: &mut S, out:
     ensures due { IfSome (S.left src.old) (λ input. Pays (K.written out.old) (K.written out.new) result (command_of words.now) input) }
     ensures end { IsReading (command_of words.now) → IsOfWhole result → IsAtEnd (S.left src.new) }
     ensures nothing { ¬ IsReading (command_of words.now) → src.new ≡ src.old }
+    ensures unread { ¬ IsReading (command_of words.now) → ¬ (result ≡ Status.ReadFault) }
     ensures reads { Reads (S.left src.old) (S.left src.new) result }
     ensures usage { (result ≡ Status.Usage → command_of words.now ≡ None)
         × (command_of words.now ≡ None → result ≡ Status.Usage ⊎ result ≡ Status.WriteFault) }
@@ -159,8 +161,9 @@ pub fn top<S: Source, K: Sink>(alloc: Global, words: &Seq<Str>, src: &mut S, out
     ensures due { IfSome (S.left src.old) (λ input. Pays (K.written out.old) (K.written out.new) result (command_of words.now) input) }
     ensures end { IsReading (command_of words.now) → IsOfWhole result → IsAtEnd (S.left src.new) }
     ensures reads { Reads (S.left src.old) (S.left src.new) result }
-    // Words that are no command, and a script that is generated, leave the source as it was.
+    // Words that are no command, and a script that is generated, leave the source as it was, and tell no fault of it.
     ensures nothing { ¬ IsReading (command_of words.now) → src.new ≡ src.old }
+    ensures unread { ¬ IsReading (command_of words.now) → ¬ (result ≡ Status.ReadFault) }
 
     // Each answer has its cause.
     ensures usage { (result ≡ Status.Usage → command_of words.now ≡ None)
