@@ -155,6 +155,5 @@ module _ (s t : Room) (o : Out Held) (m : World → machine.Act Local (Value Loc
   ran (Err exit.Deep) q g e = rw e (ran_stopped ended.Deep Deep exit.Deep g (λ w b. (met w (Err exit.Deep) g).is b) (λ w x. x) tt tt)
   ran (Err (exit.Repeated i j)) q g e = rw e (ran_stopped (ended.Repeated i j) (Repeated i j) (exit.Repeated i j) g (λ w b. (met w (Err (exit.Repeated i j)) g).is b) (λ w x. x) tt tt)
   ran (Err exit.Astray) q g e = rw e (ran_stopped ended.Astray Astray exit.Astray g (λ w b. (met w (Err exit.Astray) g).is b) (λ w x. x) tt tt)
-  ran (Err exit.Unbuilt) q g e = absurd ((met any_world (Err exit.Unbuilt) g).keeps)
   ran (Err exit.Memory) (Ok x) g e = absurd (cc)
   ran (Err exit.Memory) (Err x) g e = record { turn = λ w rest texts key. tt; grown = tt; stays = tt; left = tt; there = tt }

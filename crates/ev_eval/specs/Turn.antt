@@ -42,7 +42,6 @@ EndsBy exit.Fuel r = r ≡ Ok ended.Fuel
 EndsBy exit.Deep r = r ≡ Ok ended.Deep
 EndsBy (exit.Repeated i j) r = r ≡ Ok (ended.Repeated i j)
 EndsBy exit.Astray r = r ≡ Ok ended.Astray
-EndsBy exit.Unbuilt r = r ≡ Ok ended.Astray
 EndsBy exit.Memory r = IsErr r
 
 -- how a turn ended, by how its evaluation did

@@ -179,7 +179,7 @@ pub fn new_interior(
     })
 }
 
-/// How a turn ended whose evaluation gave no value. The evaluation of a program meets no node that is not built.
+/// How a turn ended whose evaluation gave no value.
 fn without_value(exit: Exit) -> Result<Ended, Memory>
     ensures { EndsBy exit result }
 {
@@ -188,7 +188,7 @@ fn without_value(exit: Exit) -> Result<Ended, Memory>
         Exit::Fuel => Ok(Ended::Fuel),
         Exit::Deep => Ok(Ended::Deep),
         Exit::Repeated(first, second) => Ok(Ended::Repeated(first, second)),
-        Exit::Ejected(_, _) | Exit::Astray | Exit::Unbuilt => Ok(Ended::Astray),
+        Exit::Ejected(_, _) | Exit::Astray => Ok(Ended::Astray),
         Exit::Memory => Err(Memory),
     }
 }

@@ -4,7 +4,7 @@ use Rattle.std.specs.Prelude.{Result}
 use Rattle.ev_base.specs.declared.values.Value.{Value}
 use Rattle.def_kernel.specs.declared.node.Node.{Node}
 use Rattle.ev_room.specs.declared.exit.Exit.{Exit}
-use Rattle.ev_room.specs.declared.exit.Exit.TheVariants.{Thrown, Ejected, Fuel, Deep, Repeated, Astray, Unbuilt, Memory}
+use Rattle.ev_room.specs.declared.exit.Exit.TheVariants.{Thrown, Ejected, Fuel, Deep, Repeated, Astray, Memory}
 use Rattle.ev_room.specs.declared.exit.Came.{Came}
 use Rattle.ev_room.specs.declared.exit.Came.TheVariants.{Gave, Threw, Left}
 use Rattle.ev_pass.specs.declared.interior.Interior.{Interior as Room}
@@ -121,7 +121,6 @@ steps tree (Err Fuel) r fs here s due e g = rw e (g ∙ stops_rest Fuel (λ f g 
 steps tree (Err Deep) r fs here s due e g = rw e (g ∙ stops_rest Deep (λ f g k t. refl) (λ f g k t. refl) tree fs here s)
 steps tree (Err (Repeated i j)) r fs here s due e g = rw e (g ∙ stops_rest (Repeated i j) (λ f g k t. refl) (λ f g k t. refl) tree fs here s)
 steps tree (Err Astray) r fs here s due e g = rw e (g ∙ stops_rest Astray (λ f g k t. refl) (λ f g k t. refl) tree fs here s)
-steps tree (Err Unbuilt) r fs here s due e g = rw e (g ∙ stops_rest Unbuilt (λ f g k t. refl) (λ f g k t. refl) tree fs here s)
 steps tree (Err Memory) r fs here s due e g = rw e tt
 
 pub nests : (next : Result Now Exit) (r : Result Now (Result Value Exit)) (fs : List Frame) (here : Scope) → r ≡ stepped next → Stays next fs here → NestedOn r fs here
@@ -133,7 +132,6 @@ nests (Err Fuel) r fs here e g = rw e tt
 nests (Err Deep) r fs here e g = rw e tt
 nests (Err (Repeated i j)) r fs here e g = rw e tt
 nests (Err Astray) r fs here e g = rw e tt
-nests (Err Unbuilt) r fs here e g = rw e tt
 nests (Err Memory) r fs here e g = rw e tt
 
 -- all of it has come to an end

@@ -5,7 +5,7 @@ use Rattle.std.proofs.lemmas.List.{take-take, length-take}
 use Rattle.ev_base.specs.declared.values.Value.{Value}
 use Rattle.def_kernel.specs.declared.node.Node.{Node}
 use Rattle.ev_room.specs.declared.exit.Exit.{Exit}
-use Rattle.ev_room.specs.declared.exit.Exit.TheVariants.{Thrown, Ejected, Fuel, Deep, Repeated, Astray, Unbuilt, Memory}
+use Rattle.ev_room.specs.declared.exit.Exit.TheVariants.{Thrown, Ejected, Fuel, Deep, Repeated, Astray, Memory}
 use Rattle.ev_pass.specs.declared.interior.Interior.{Interior as Room}
 use Rattle.ev_room.specs.declared.scope.Binding.{Binding}
 use Rattle.ev_room.specs.declared.scope.Scope.{Scope}
@@ -132,7 +132,6 @@ unless_so Fuel h = h
 unless_so Deep h = h
 unless_so (Repeated i j) h = h
 unless_so Astray h = h
-unless_so Unbuilt h = h
 unless_so Memory h = tt
 
 pub gone : (e : Exit) (fs : List Frame) (a : Scope) → Nested fs a → Unless e (Nested fs a)

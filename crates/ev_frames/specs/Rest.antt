@@ -8,7 +8,7 @@ use Rattle.def_kernel.specs.declared.node.Node.TheVariants.{Call, Sequence, Meth
 use Rattle.def_machine.specs.Values.{Words}
 use Rattle.def_machine.specs.Scopes.{Case}
 use Rattle.ev_room.specs.declared.exit.Exit.{Exit}
-use Rattle.ev_room.specs.declared.exit.Exit.TheVariants.{Thrown, Ejected, Fuel, Deep, Repeated, Astray, Unbuilt, Memory}
+use Rattle.ev_room.specs.declared.exit.Exit.TheVariants.{Thrown, Ejected, Fuel, Deep, Repeated, Astray, Memory}
 use Rattle.ev_room.specs.declared.exit.Came.{Came}
 use Rattle.ev_room.specs.declared.exit.Came.TheVariants.{Gave, Threw, Left}
 use Rattle.ev_pass.specs.declared.interior.Interior.{Interior as Room}
@@ -208,7 +208,6 @@ stepped (Err Fuel) = Err (Err Fuel)
 stepped (Err Deep) = Err (Err Deep)
 stepped (Err (Repeated i j)) = Err (Err (Repeated i j))
 stepped (Err Astray) = Err (Err Astray)
-stepped (Err Unbuilt) = Err (Err Unbuilt)
 stepped (Err Memory) = Err (Err Memory)
 
 abbrev pub StepsTo : List Node → Result Now (Result Value Exit) → List Frame → Scope → Room → Out (Value × Scope) → Type 0

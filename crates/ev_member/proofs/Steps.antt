@@ -4,14 +4,14 @@ use Rattle.std.specs.Prelude.{IfErr, IfOk, OnOk}
 use Rattle.def_local.specs.Numbers.{Addressed as Framed, all_written, frames_of}
 use Rattle.def_local.specs.Vats.{Member as Theirs}
 use Rattle.def_machine.specs.State as machine
-use Rattle.def_machine.specs.State.{Act, Done, Gives, Stops, Put}
+use Rattle.def_machine.specs.State.{Act, Done, Gives, Put}
 use Rattle.def_machine.specs.Values.{Words, Local, Root}
 use Rattle.def_run.specs.Connections.{Connection}
 use Rattle.ev_arrive.specs.Reading.{with_gifts}
 use Rattle.ev_arrive.specs.declared.host.Host.{Host}
 use Rattle.ev_intro.specs.Gift.{Gifts}
 use Rattle.ev_member.proofs.Worlds.{gifted, gifted_is, grown_texts, grown_world, sees_back, sees_grown}
-use Rattle.ev_member.specs.Sending.{AllSpelled, AreOps, AreSent, packed, sending_of, spelled}
+use Rattle.ev_member.specs.Sending.{AllSpelled, AreOps, AreSent, packed, spelled}
 use Rattle.ev_member.specs.Standing.{IsFound, Sees, with_draws}
 use Rattle.ev_member.specs.Steps.{EndsSo, Having, IsDone, IsSteady, Leaves, own}
 use Rattle.ev_member.specs.declared.member.Member.{Member}

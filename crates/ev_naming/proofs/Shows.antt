@@ -20,7 +20,7 @@ use Rattle.def_run.specs.Text.{shown_events}
 use Rattle.ev_pass.specs.Reading as inside
 use Rattle.ev_room.specs.Reading.{World, value_of, problem_of, capture_in, ejector_line, audition_line, promise_line, message_of, referred_line, made_line, line_of, lines_of}
 use Rattle.ev_step_lines.specs.Lines as told
-use Rattle.ev_step_lines.specs.Lines.{Naming, Telling, mail_at, name_at}
+use Rattle.ev_step_lines.specs.Lines.{Naming, Telling}
 use Rattle.ev_naming.specs.Printing.{Agrees, LinesAreShown, TellsCuts, telling_in}
 
 module _ (draws : List ℕ) where

@@ -7,7 +7,6 @@ use Rattle.def_machine.specs.State.{Vat}
 use Rattle.def_machine.specs.Values.{Name, Root, Local}
 use Rattle.def_run.specs.Shown.{shown_name}
 use Rattle.ev_naming.specs.Names.{Named, names_first}
-use Rattle.ev_naming.specs.Standing.{Counts}
 use Rattle.ev_outcome.specs.Standing.{NamesStand}
 use Rattle.ev_resident.specs.Starting.{with_root, with_roots}
 

@@ -2,7 +2,7 @@
 use Rattle.std.proofs.Common.{◌≡◌, ℕ, List, length, Ok, Err, refl, ap, subst}
 use Rattle.std.specs.Prelude.{Result}
 use Rattle.ev_room.specs.declared.exit.Exit.{Exit}
-use Rattle.ev_room.specs.declared.exit.Exit.TheVariants.{Thrown, Ejected, Fuel, Deep, Repeated, Astray, Unbuilt, Memory}
+use Rattle.ev_room.specs.declared.exit.Exit.TheVariants.{Thrown, Ejected, Fuel, Deep, Repeated, Astray, Memory}
 use Rattle.ev_room.specs.declared.exit.Came.{Came}
 use Rattle.ev_room.specs.declared.exit.Came.TheVariants.{Gave, Threw, Left}
 use Rattle.ev_pass.specs.declared.interior.Interior.{Interior as Room}
@@ -17,7 +17,6 @@ ends Fuel room o f h = rw h refl
 ends Deep room o f h = rw h refl
 ends (Repeated i j) room o f h = rw h refl
 ends Astray room o f h = rw h refl
-ends Unbuilt room o f h = rw h refl
 ends Memory room o f h = tt
 
 -- a fact that follows from one that holds unless memory ran out
@@ -28,7 +27,6 @@ unless_as Fuel f h = f h
 unless_as Deep f h = f h
 unless_as (Repeated i j) f h = f h
 unless_as Astray f h = f h
-unless_as Unbuilt f h = f h
 unless_as Memory f h = tt
 
 without : {A : Type 0} (q : Result A Exit) (room t : Room) (o : Out A) → Gives q t (Err Memory, room) → Gives q t o
@@ -39,7 +37,6 @@ without {A = A} (Err Fuel) room t o h = absurd (cc (ap (λ (p : Out A). p.0) h))
 without {A = A} (Err Deep) room t o h = absurd (cc (ap (λ (p : Out A). p.0) h))
 without {A = A} (Err (Repeated i j)) room t o h = absurd (cc (ap (λ (p : Out A). p.0) h))
 without {A = A} (Err Astray) room t o h = absurd (cc (ap (λ (p : Out A). p.0) h))
-without {A = A} (Err Unbuilt) room t o h = absurd (cc (ap (λ (p : Out A). p.0) h))
 without (Err Memory) room t o h = tt
 
 -- what follows an outcome follows what came to it
@@ -53,7 +50,6 @@ follows f g k (Err Fuel) q room t o e h = rw e h
 follows f g k (Err Deep) q room t o e h = rw e h
 follows f g k (Err (Repeated i j)) q room t o e h = rw e h
 follows f g k (Err Astray) q room t o e h = rw e h
-follows f g k (Err Unbuilt) q room t o e h = rw e h
 follows f g k (Err Memory) q room t o e h = without q room t (ended_by f g k o) h
 
 pub closes : (act : ℕ) (r q : Result Value Exit) (room t : Room) (o : Out Value) → Gives r room o → Gives q t (closed_by act (r, room)) → Gives q t (closed_by act o)
@@ -82,7 +78,6 @@ came_back (Err Fuel) c h = absurd (cc)
 came_back (Err Deep) c h = absurd (cc)
 came_back (Err (Repeated i j)) c h = absurd (cc)
 came_back (Err Astray) c h = absurd (cc)
-came_back (Err Unbuilt) c h = absurd (cc)
 came_back (Err Memory) c h = absurd (cc)
 
 pub gave : {B : Type 0} (f : Value → Act B) (g : ℕ → Act B) (k : ℕ → Value → Act B) (r : Result Value Exit) (room : Room) (o : Out Value) (v : Value)
@@ -111,5 +106,4 @@ stopped f g k (Err Fuel) room o x e h = let is : Fuel ≡ x = cc in subst (λ (y
 stopped f g k (Err Deep) room o x e h = let is : Deep ≡ x = cc in subst (λ (y : Exit). Unless y (ended_by f g k o ≡ (Err y, room))) is (rw e refl)
 stopped f g k (Err (Repeated i j)) room o x e h = let is : Repeated i j ≡ x = cc in subst (λ (y : Exit). Unless y (ended_by f g k o ≡ (Err y, room))) is (rw e refl)
 stopped f g k (Err Astray) room o x e h = let is : Astray ≡ x = cc in subst (λ (y : Exit). Unless y (ended_by f g k o ≡ (Err y, room))) is (rw e refl)
-stopped f g k (Err Unbuilt) room o x e h = let is : Unbuilt ≡ x = cc in subst (λ (y : Exit). Unless y (ended_by f g k o ≡ (Err y, room))) is (rw e refl)
 stopped f g k (Err Memory) room o x e h = let is : Memory ≡ x = cc in subst (λ (y : Exit). Unless y (ended_by f g k o ≡ (Err y, room))) is tt

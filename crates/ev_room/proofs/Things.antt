@@ -4,7 +4,7 @@ use Rattle.std.specs.Prelude.{Result, slice_get, option_map}
 use Rattle.std.proofs.lemmas.Option.{slice_get_past}
 use Rattle.ev_heap.specs.declared.kept.Shape.{Shape}
 use Rattle.ev_heap.specs.declared.kept.Thing.{Thing}
-use Rattle.ev_room.specs.declared.exit.Exit.TheVariants.{Thrown, Ejected, Fuel, Deep, Repeated, Astray, Unbuilt, Memory}
+use Rattle.ev_room.specs.declared.exit.Exit.TheVariants.{Thrown, Ejected, Fuel, Deep, Repeated, Astray, Memory}
 use Rattle.ev_room.specs.declared.exit.Exit.{Exit}
 use Rattle.ev_room.specs.declared.object.Code.{Code}
 use Rattle.ev_pass.specs.declared.interior.Interior.{Interior as Room}
@@ -26,7 +26,6 @@ answers_gives (Err Fuel) due s h = ap (λ (d : Result Code Exit). (d, s)) h
 answers_gives (Err Deep) due s h = ap (λ (d : Result Code Exit). (d, s)) h
 answers_gives (Err (Repeated i j)) due s h = ap (λ (d : Result Code Exit). (d, s)) h
 answers_gives (Err Astray) due s h = ap (λ (d : Result Code Exit). (d, s)) h
-answers_gives (Err Unbuilt) due s h = ap (λ (d : Result Code Exit). (d, s)) h
 answers_gives (Err Memory) due s h = tt
 
 pub code_goes : (i : ℕ) (s : Room) (sh : Shape) (live : Bool) (r : Result Code Exit) → option_map (λ t. t.shape) (slice_get s.heap.things i) ≡ Some sh

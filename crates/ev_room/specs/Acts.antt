@@ -34,7 +34,7 @@ use Rattle.ev_room.specs.Sound.{not_an_auditor_id, not_free_id, is_there, are_th
 use Rattle.ev_room.specs.declared.object.Code.{Code}
 use Rattle.ev_room.specs.declared.object.Code.TheVariants.{Runs, Leaves, Resolves, Audits}
 use Rattle.ev_room.specs.declared.exit.Exit.{Exit}
-use Rattle.ev_room.specs.declared.exit.Exit.TheVariants.{Thrown, Ejected, Fuel, Deep, Repeated, Astray, Unbuilt, Memory}
+use Rattle.ev_room.specs.declared.exit.Exit.TheVariants.{Thrown, Ejected, Fuel, Deep, Repeated, Astray, Memory}
 use Rattle.ev_room.specs.declared.exit.Came.{Came}
 use Rattle.ev_room.specs.declared.exit.Came.TheVariants.{Gave, Threw, Left}
 use Rattle.ev_heap.specs.declared.kept.Cell.{Cell}
@@ -61,7 +61,6 @@ Unless Fuel fact = fact
 Unless Deep fact = fact
 Unless (Repeated i j) fact = fact
 Unless Astray fact = fact
-Unless Unbuilt fact = fact
 
 -- what a function of the code returned and left is what the definition gives, unless memory ran out
 abbrev pub Gives : {A : Type 0} → Result A Exit → Room → Out A → Type 0
@@ -109,7 +108,6 @@ ended_by f g h (Err Fuel, s) = (Err Fuel, s)
 ended_by f g h (Err Deep, s) = (Err Deep, s)
 ended_by f g h (Err (Repeated i j), s) = (Err (Repeated i j), s)
 ended_by f g h (Err Astray, s) = (Err Astray, s)
-ended_by f g h (Err Unbuilt, s) = (Err Unbuilt, s)
 ended_by f g h (Err Memory, s) = (Err Memory, s)
 
 -- how something came to an end, unless it stopped
@@ -121,7 +119,6 @@ unless_stopped (Err Fuel) = Err Fuel
 unless_stopped (Err Deep) = Err Deep
 unless_stopped (Err (Repeated i j)) = Err (Repeated i j)
 unless_stopped (Err Astray) = Err Astray
-unless_stopped (Err Unbuilt) = Err Unbuilt
 unless_stopped (Err Memory) = Err Memory
 
 unfoldable pub give : {A : Type 0} → A → Act A

@@ -5,7 +5,7 @@ use Rattle.ev_base.specs.declared.values.Value.{Value as Held}
 use Rattle.ev_base.specs.declared.values.Value.TheVariants as held
 use Rattle.ev_heap.specs.declared.happened.Happened.{Happened as Event}
 use Rattle.ev_heap.specs.declared.happened.Happened.TheVariants as event
-use Rattle.def_machine.specs.Values.{Words, Value, Ref, Prim, Naming, Local, Obj, Prom, Mess}
+use Rattle.def_machine.specs.Values.{Words, Value, Ref, Naming, Local, Obj, Prom, Mess}
 use Rattle.def_machine.specs.Scopes.{any_guard}
 use Rattle.ev_heap.specs.declared.kept.Cell.{Cell as HeldCell}
 use Rattle.ev_heap.specs.declared.kept.Capture.{Capture}

@@ -20,8 +20,6 @@ pub enum Exit {
     Repeated(u64, u64),
     /// A noun that nothing binds, or a number that names no node of its kind.
     Astray,
-    /// A node that is not built yet.
-    Unbuilt,
     Memory,
 }
 

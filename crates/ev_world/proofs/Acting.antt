@@ -1,6 +1,6 @@
 -- What a step of a vat came to in the code, in the run in numbers.
-use Rattle.std.proofs.Common.{◌≡◌, ◌⊎◌, inl, inr, ℕ, Bool, zero, suc, ◌<◌, List, [], ◌∷◌, ◌++◌, Option, Some, None, Result, Ok, Err, get_or, length, map, refl, sym, ap, subst, ◌∙◌}
-use Rattle.std.specs.Prelude.{filter, slice_get, slice_set}
+use Rattle.std.proofs.Common.{◌≡◌, inl, inr, ℕ, Bool, ◌<◌, List, [], ◌++◌, Option, Some, None, Result, Ok, Err, get_or, length, map, refl, sym, ap, subst, ◌∙◌}
+use Rattle.std.specs.Prelude.{IsErr, IsErrAnd, filter, slice_get, slice_set}
 use Rattle.std.proofs.lemmas.List.{length-set}
 use Rattle.def_event.specs.Lines.{is_no_frame}
 use Rattle.def_event.specs.declared.event.Event.{Event as ShownEvent}
@@ -8,7 +8,7 @@ use Rattle.def_local.specs.Numbers.{Brought, Course, Runs, Vats, Way, after_step
 use Rattle.def_local.specs.Vats.{Member, connection_for, unconnected}
 use Rattle.def_machine.specs.State as machine
 use Rattle.def_machine.specs.State.{Done, Gives}
-use Rattle.def_machine.specs.Values.{Local, Naming, numbering}
+use Rattle.def_machine.specs.Values.{Local, numbering}
 use Rattle.def_run.specs.Draws.{draw_word, stream_word}
 use Rattle.def_run.specs.Text.{shown_events}
 use Rattle.def_run.specs.World.{Event, Script}
@@ -22,7 +22,6 @@ use Rattle.ev_naming.specs.Names.{Entry, Named, carried_mails, told_at}
 use Rattle.ev_naming.specs.Standing.{Says, mails_of}
 use Rattle.def_local.specs.Names as local
 use Rattle.ev_outcome.specs.Standing.{NamesStand, ObjectsStand}
-use Rattle.ev_pass.specs.Acts.{words_by}
 use Rattle.ev_pass.specs.Reading.{names_under}
 use Rattle.ev_resident.specs.Standing.{IsResident, IsStepped}
 use Rattle.ev_resident.specs.declared.resident.Resident.{Resident}
@@ -35,12 +34,12 @@ use Rattle.ev_ways.specs.Standing.{WaysStand}
 use Rattle.ev_ways.proofs.Cuts.{shown_join}
 use Rattle.ev_world.specs.Exporting.{AreCounted}
 use Rattle.ev_world.specs.Midway.{IsActing, IsMidway, drawn_now, having_of}
-use Rattle.ev_world.specs.Standing.{Comes, HaltsAs, IsWorld, told_so}
+use Rattle.ev_world.specs.Standing.{Comes, CourseIs, HaltsAs, IsWorld, told_so}
 use Rattle.ev_world.specs.declared.world.World.{World}
 use Rattle.ev_world.proofs.Cuts.{told_behind}
 use Rattle.ev_world.proofs.Objects.{exports_are, is_within, same_or_not, set_other, set_there}
 use Rattle.ev_world.proofs.Pushes.{history_alike, ways_alike}
-use Rattle.ev_world.proofs.Telling.{only}
+use Rattle.ev_world.proofs.Telling.{only, stands}
 use Rattle.law_peers.specs.Steady.{ShownAlike, StepIsSteady}
 
 -- ---- stops
@@ -69,7 +68,19 @@ stop_halts (WordRepeated i j) w u head k m f d wire told h e = (w, (ap (λ (x : 
 stop_halts Astray w u head k m f d wire told h e = (w, (ap (λ (x : Done Local (Unit {0})). after_step w u head k m f x) h.1, e))
 stop_halts Memory w u head k m f d wire told h e = tt
 
+-- a stop goes out as it came
+stop_goes : {A : Type 0} (r : Result A VatStop) (e : VatStop) → IsErr r × IsErrAnd r (λ (x : VatStop). x ≡ e) → r ≡ Err e
+stop_goes (Ok a) e h = absurd h.1
+stop_goes (Err x) e h = ap (λ (y : VatStop). Err y) h.1
+
+pub stops_with : (S : Script) (r : Result (Unit {0}) VatStop) (e : VatStop) (k : ℕ) (course : Course) (c : World) → IsErr r × IsErrAnd r (λ (x : VatStop). x ≡ e) → HaltsAs e k c.wire course c.history → CourseIs S r k course c
+stops_with S r e k course c is halts = subst (λ (x : Result (Unit {0}) VatStop). CourseIs S x k course c) (sym (stop_goes r e is)) halts
+
 -- ---- the vat as a step finds it
+
+-- a vat that is in the code is in the run
+pub receiver : (S : Script) (w : Vats) (u : ℕ) (c : World) (r : Resident) → IsWorld S w c → slice_get c.residents.items u ≡ Some r → (m : Member) × (slice_get w.members u ≡ Some m)
+receiver S w u c r at found = stands w.members u (subst (λ (n : ℕ). u < n) (at.count ∙ sym at.members) (is_within c.residents.items u r found))
 
 -- the words that a run draws are those that the code draws
 words_are : (key : List ℕ) → word key ≡ draw_word key

@@ -1,13 +1,13 @@
 -- What a frame that is carried says, brings and leaves.
 use Rattle.std.proofs.Common.{◌≡◌, ◌<◌, ℕ, zero, suc, Bool, true, false, List, [], ◌∷◌, ◌++◌, Option, Some, None, Result, Ok, Err, get_or, length, refl, sym, ap, subst, ◌∙◌, append-nil}
-use Rattle.std.specs.Prelude.{IfOk, IsErr, IsErrAnd, drop, if◌then◌else◌, slice_get, slice_set, ◌==◌}
+use Rattle.std.specs.Prelude.{IfOk, drop, if◌then◌else◌, slice_get, slice_set, ◌==◌}
 use Rattle.std.proofs.lemmas.Bool.{eq-eqb}
 use Rattle.std.proofs.lemmas.List.Elements.{filter-append}
 use Rattle.def_event.specs.Lines.{is_no_frame}
 use Rattle.def_event.specs.declared.event.Event.{Event as ShownEvent}
 use Rattle.def_event.specs.declared.event.Event.TheVariants as line
 use Rattle.def_event.specs.declared.note.ShownNote.{ShownNote}
-use Rattle.def_local.specs.Numbers.{Course, Frame, Way, brought, carried_in, with_way}
+use Rattle.def_local.specs.Numbers.{Frame, Way, brought, carried_in, with_way}
 use Rattle.def_local.specs.Vats.{Member, asked_by, connection_for, heard_in, heard_on, unconnected}
 use Rattle.def_machine.specs.State as machine
 use Rattle.def_machine.specs.Values.{Local, Name}
@@ -15,7 +15,7 @@ use Rattle.def_op.specs.Frames.{IsOp, Operation, spelling}
 use Rattle.def_run.specs.Connections.{Connection}
 use Rattle.def_run.specs.Shown.{shown_event}
 use Rattle.def_run.specs.Text.{shown_events}
-use Rattle.def_run.specs.World.{Carried, Event, Script}
+use Rattle.def_run.specs.World.{Carried, Event}
 use Rattle.ev_base.specs.declared.memory.Memory.{Memory as NoMemory}
 use Rattle.ev_base.specs.declared.names.Msg.{Msg}
 use Rattle.ev_intro.specs.Word.{Drawn}
@@ -28,7 +28,6 @@ use Rattle.ev_op.proofs.DecodeLemmas.{decoded_again}
 use Rattle.ev_op.specs.Decoded.{decoded}
 use Rattle.ev_read.specs.declared.news.News.{News}
 use Rattle.ev_resident.specs.declared.resident.Resident.{Resident}
-use Rattle.ev_vat.specs.declared.vat.VatStop.{VatStop}
 use Rattle.ev_ways.proofs.Changes.{carry_stands}
 use Rattle.ev_ways.proofs.Cuts.{shown_join}
 use Rattle.ev_ways.specs.Rows.{Lane, behind, changed, next_at, next_from, next_to, of_found}
@@ -36,8 +35,7 @@ use Rattle.ev_ways.specs.Standing.{IsFrame, WaysStand, asks_in, named_message}
 use Rattle.ev_ways.specs.Statements.{Carries, IsCarried, IsTaken}
 use Rattle.ev_ways.specs.declared.frame.Frame.{Frame as Sent}
 use Rattle.ev_world.specs.Carrying.{TellsFrame}
-use Rattle.ev_world.specs.Standing.{CourseIs, HaltsAs, told_so}
-use Rattle.ev_world.specs.declared.world.World.{World}
+use Rattle.ev_world.specs.Standing.{told_so}
 use Rattle.ev_world.proofs.Objects.{is_within}
 use Rattle.ev_world.proofs.Telling.{only}
 use Rattle.law_peers.specs.Steady.{HearingIsSteady}
@@ -178,11 +176,3 @@ tells_frame rs v u first news k x y d (Ok told) at_x at_y same f = λ ms p m h n
     subst (λ (t : Drawn). Says t told (brought ms v u n h m)) (sym words)
     (f ms v m p h n p.vat is.there (subst (λ (z : Resident). IsMember p z.member) (sym is_e) is.member) (subst (λ (z : Resident). NamesStand (words_of d) v p.vat p.names z.names) (sym is_e) names)
     (subst (λ (z : Resident). ObjectsStand ms v z.names.naming.objects) (sym is_e) is.objects) is.first_is is.brings is.message is.asks)
-
--- a stop goes out as it came
-stop_goes : {A : Type 0} (r : Result A VatStop) (e : VatStop) → IsErr r × IsErrAnd r (λ (x : VatStop). x ≡ e) → r ≡ Err e
-stop_goes (Ok a) e h = absurd h.1
-stop_goes (Err x) e h = ap (λ (y : VatStop). Err y) h.1
-
-pub stops_with : (S : Script) (r : Result (Unit {0}) VatStop) (e : VatStop) (k : ℕ) (course : Course) (c : World) → IsErr r × IsErrAnd r (λ (x : VatStop). x ≡ e) → HaltsAs e k c.wire course c.history → CourseIs S r k course c
-stops_with S r e k course c is halts = subst (λ (x : Result (Unit {0}) VatStop). CourseIs S x k course c) (sym (stop_goes r e is)) halts

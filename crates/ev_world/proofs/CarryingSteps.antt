@@ -4,7 +4,7 @@ use Rattle.std.specs.Prelude.{slice_get}
 use Rattle.std.proofs.lemmas.List.{length-map}
 use Rattle.def_event.specs.declared.event.Event.{Event as ShownEvent}
 use Rattle.def_event.specs.declared.event.Event.TheVariants as line
-use Rattle.def_local.specs.Numbers.{Brought, Course, Frame, Runs, Vats, Way, after_step, arrives, brings, brought, carry_frames, carry_way, hears, idle, left_by, numbers, ready, step, step_number, way_at, with_way}
+use Rattle.def_local.specs.Numbers.{Brought, Course, Frame, Runs, Vats, Way, after_step, arrives, brings, carry_frames, carry_way, hears, idle, left_by, numbers, ready, step, step_number, way_at, with_way}
 use Rattle.def_local.specs.Vats.{Member, connection_for, heard_in}
 use Rattle.def_machine.specs.Arrive.{arrive}
 use Rattle.def_machine.specs.State as machine
@@ -45,7 +45,7 @@ use Rattle.ev_world.specs.Midway.{IsMidway, having_of}
 use Rattle.ev_world.specs.Standing.{Comes, HaltsAs, IsWorld, told_so}
 use Rattle.ev_world.specs.Steadily.{StepsSteadily}
 use Rattle.ev_world.specs.declared.world.World.{World}
-use Rattle.ev_world.proofs.Acting.{StopsAs, Took, midway_is, numbers_are, ready_is, stop_halts}
+use Rattle.ev_world.proofs.Acting.{StopsAs, Took, midway_is, numbers_are, ready_is, receiver, stop_halts}
 use Rattle.ev_world.proofs.CarryingFrames.{carried, frame_alike, frame_is, heard_exports, hears_steadily, lines_more, mails_named, note_lines, note_shown, sender_is, sender_other, ways_left_alike}
 use Rattle.ev_world.proofs.Cuts.{moved}
 use Rattle.ev_world.proofs.Objects.{is_within, set_other, set_there, table_is}
@@ -122,10 +122,6 @@ imports_are q a c same = sym (length-map (table_for q c.connections.items).impor
 drawn_are : (m : Member) (b : Having) (s : machine.Vat Local) (xs : List Sending) (c : Ours) → IsStepped b s xs c → words_of c.vat.host.inside.words ≡ s.drawn
 unfolding vat_of
 drawn_are m b s xs c stepped = let saw = is_after m b s xs c stepped in ap (λ (v : machine.Vat Local). v.drawn) saw.vat
-
--- the vat that a frame goes to
-pub receiver : (S : Script) (w : Vats) (u : ℕ) (c : World) (r : Resident) → IsWorld S w c → slice_get c.residents.items u ≡ Some r → (m : Member) × (slice_get w.members u ≡ Some m)
-receiver S w u c r at found = stands w.members u (subst (λ (n : ℕ). u < n) (at.count ∙ sym at.members) (is_within c.residents.items u r found))
 
 -- Vat u, which is m, hears the frame k that was next on its way from vat v.
 module _ (S : Script) (w : Vats) (v u k : ℕ) (m : Member) (c : World) (fr : Sent) (at : IsWorld S w c) (here : slice_get w.members u ≡ Some m) (next : next_at v u c.ways ≡ Some fr) where

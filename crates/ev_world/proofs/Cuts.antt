@@ -5,7 +5,7 @@ use Rattle.std.proofs.lemmas.List.Elements.{filter-append}
 use Rattle.def_event.specs.Lines.{is_no_frame}
 use Rattle.def_event.specs.declared.event.Event.{Event as ShownEvent}
 use Rattle.def_event.specs.declared.event.Event.TheVariants as line
-use Rattle.def_local.specs.Numbers.{Course, Runs, Vats, Way, cut, idle, lost_on, severed, step, way_at, with_way}
+use Rattle.def_local.specs.Numbers.{Vats, Way, cut, idle, lost_on, severed, step, way_at, with_way}
 use Rattle.def_run.specs.Shown.{shown_event}
 use Rattle.def_run.specs.Text.{shown_events}
 use Rattle.def_run.specs.World.{CutAt, CutLink, Event, Idle, Script}
@@ -14,7 +14,7 @@ use Rattle.ev_ways.specs.declared.frame.Frame.{Frame}
 use Rattle.ev_ways.specs.Rows.{Lane, changed, frames_at}
 use Rattle.ev_ways.specs.Rows as rows
 use Rattle.ev_ways.specs.Standing.{WaysStand}
-use Rattle.ev_ways.specs.Statements.{CutStands, IsCut}
+use Rattle.ev_ways.specs.Statements.{IsCut}
 use Rattle.ev_ways.specs.Telling.{lost_event, lost_events}
 use Rattle.ev_ways.proofs.Cuts.{cut_stands, shown_join}
 use Rattle.ev_world.specs.Standing.{Comes, IsWorld, told_so}

@@ -1,5 +1,5 @@
 -- What a step left and told is the state of the run after it.
-use Rattle.std.proofs.Common.{◌≡◌, ◌⊎◌, inl, inr, ℕ, Bool, zero, suc, ◌<◌, List, [], ◌∷◌, ◌++◌, Option, Some, None, get_or, length, map, refl, sym, ap, subst, ◌∙◌, arith}
+use Rattle.std.proofs.Common.{◌≡◌, ◌⊎◌, inl, inr, ℕ, Bool, zero, ◌<◌, List, ◌++◌, Option, Some, get_or, length, map, sym, ap, subst, ◌∙◌}
 use Rattle.std.specs.Prelude.{drop, slice_get, slice_set}
 use Rattle.std.proofs.lemmas.List.{length-set}
 use Rattle.def_event.specs.declared.event.Event.{Event as ShownEvent}
@@ -8,7 +8,6 @@ use Rattle.def_local.specs.Numbers.{Brought, Vats, all_written, frames_of, left_
 use Rattle.def_local.specs.Vats.{Member, connection_for, unconnected}
 use Rattle.def_machine.specs.State as machine
 use Rattle.def_machine.specs.Values.{Local, Name}
-use Rattle.def_run.specs.Connections.{Connection}
 use Rattle.def_run.specs.Text.{shown_events}
 use Rattle.def_run.specs.World.{Event, Script}
 use Rattle.ev_base.specs.declared.names.Msg.{Msg}
@@ -17,11 +16,10 @@ use Rattle.ev_member.specs.Standing.{IsMember}
 use Rattle.ev_member.specs.declared.member.Member.{Member as Ours}
 use Rattle.ev_member.specs.declared.sending.Sending.{Sending}
 use Rattle.ev_naming.specs.Names.{Entry, Named}
-use Rattle.ev_naming.specs.Standing.{Counts, mails_of}
+use Rattle.ev_naming.specs.Standing.{mails_of}
 use Rattle.ev_outcome.specs.Standing.{IsAfter, NamesStand, ObjectsStand}
 use Rattle.ev_pass.specs.Acts.{words_by}
 use Rattle.ev_resident.proofs.Worlds.{is_after, world_then}
-use Rattle.ev_resident.specs.Framing.{AreOutgoing}
 use Rattle.ev_resident.specs.Standing.{IsResident, IsStepped}
 use Rattle.ev_resident.specs.Telling.{IsTold}
 use Rattle.ev_resident.specs.declared.outgoing.Outgoing.{Outgoing}

@@ -1,5 +1,5 @@
 -- The tables of a vat's peers, once what it exported in a step came to stand there.
-use Rattle.std.proofs.Common.{◌≡◌, ◌⊎◌, inl, inr, ℕ, zero, suc, ◌<◌, List, [], ◌∷◌, ◌++◌, Option, Some, None, get_or, length, map, refl, sym, ap, subst, ◌∙◌, append_assoc, append-nil, arith}
+use Rattle.std.proofs.Common.{◌≡◌, ◌⊎◌, inl, inr, ℕ, zero, suc, ◌<◌, List, [], ◌∷◌, ◌++◌, Option, Some, get_or, length, map, refl, sym, ap, subst, ◌∙◌, append_assoc, append-nil, arith}
 use Rattle.std.specs.Prelude.{drop, slice_get, slice_set}
 use Rattle.std.proofs.lemmas.List.{length-map, length-set, map-append}
 use Rattle.def_local.specs.Vats.{Member, connection_for, unconnected}

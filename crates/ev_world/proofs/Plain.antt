@@ -11,7 +11,7 @@ use Rattle.def_machine.specs.Values.{Local, Name, Value}
 use Rattle.def_run.specs.Shown.{shown_event, shown_happened, shown_reaction, shown_send}
 use Rattle.def_run.specs.Text.{shown_events}
 use Rattle.ev_ways.proofs.Cuts.{shown_join}
-use Rattle.def_run.specs.World.{Event, Link, LostCut, event_of, events_of, is_cut}
+use Rattle.def_run.specs.World.{Link, LostCut, event_of, events_of, is_cut}
 
 -- none of these is a frame
 abbrev pub IsPlain : List ShownEvent → Type 0

@@ -1,6 +1,5 @@
 -- Frames that go out stand for those of the run in numbers, and what was told stays as it was told.
-use Rattle.std.proofs.Common.{◌≡◌, ℕ, Bool, List, [], ◌∷◌, ◌++◌, length, refl, sym, ap, subst, ◌∙◌}
-use Rattle.def_event.specs.declared.event.Event.{Event as ShownEvent}
+use Rattle.std.proofs.Common.{◌≡◌, ℕ, List, [], ◌∷◌, ◌++◌, length, refl, sym, ap, subst, ◌∙◌}
 use Rattle.def_local.specs.Numbers.{Addressed, Vats, Way, pushed, push_all, with_way}
 use Rattle.def_run.specs.Text.{shown_events}
 use Rattle.def_run.specs.World.{Script}

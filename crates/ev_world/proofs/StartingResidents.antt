@@ -1,5 +1,5 @@
 -- The vats of a script are started one after the other.
-use Rattle.std.proofs.Common.{◌≡◌, ◌⊎◌, inl, inr, ◌+◌, ◌<◌, ℕ, zero, suc, List, [], ◌∷◌, ◌++◌, Some, None, length, length-append, slice_get, refl, sym, ap, subst, ◌∙◌, arith}
+use Rattle.std.proofs.Common.{◌≡◌, ◌⊎◌, inl, inr, ◌+◌, ℕ, zero, suc, List, [], ◌∷◌, ◌++◌, Some, None, length, length-append, slice_get, refl, sym, ap, subst, ◌∙◌, arith}
 use Rattle.def_run.specs.World.{knowers}
 use Rattle.ev_resident.specs.declared.resident.Resident.{Resident}
 use Rattle.ev_script.specs.declared.script.Script.{Script}
@@ -14,12 +14,6 @@ last_or_before [] x y zero e = inl (refl, some_is e)
 last_or_before [] x y (suc i) e = absurd cc
 last_or_before (z ∷ xs) x y zero e = inr e
 last_or_before (z ∷ xs) x y (suc i) e = elim (last_or_before xs x y i e) as (λ _. ((suc (length xs) ≡ suc i) × (x ≡ y)) ⊎ (slice_get xs i ≡ Some y)) [ inl h ↦ inl (ap suc h.0, h.1) | inr h ↦ inr h ]
-
--- what stands at a place within a list
-pub stands : {A : Type 0} (xs : List A) (i : ℕ) → i < length xs → (x : A) × (slice_get xs i ≡ Some x)
-stands [] i less = absurd (omega arith)
-stands (x ∷ xs) zero less = (x, refl)
-stands (x ∷ xs) (suc i) less = stands xs i (omega arith)
 
 -- ---- the first vats
 

@@ -31,9 +31,9 @@ use Rattle.ev_ways.specs.Rows.{Lane, fresh_rows}
 use Rattle.ev_ways.specs.Standing.{WaysStand}
 use Rattle.ev_ways.proofs.Starts.{start_stands}
 use Rattle.ev_world.proofs.StartingKnowers.{absent, knowers_alike, nouns_alike, some_is}
-use Rattle.ev_world.proofs.StartingResidents.{stands}
 use Rattle.ev_world.proofs.StartingRoots.{first_room, first_roots}
 use Rattle.ev_world.proofs.StartingVats.{exports_at, many_fresh, member_at, member_is}
+use Rattle.ev_world.proofs.Telling.{stands}
 use Rattle.ev_world.proofs.Wholes.{many_are}
 use Rattle.ev_world.specs.Running.{script_of, tree_in}
 use Rattle.ev_world.specs.Standing.{AreReady, IsWorld, told_so}

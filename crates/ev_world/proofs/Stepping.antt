@@ -1,10 +1,9 @@
 -- What the steps of a vat come to, as the code takes them, in the run in numbers.
-use Rattle.std.proofs.Common.{◌≡◌, ◌<◌, ℕ, zero, suc, List, [], ◌∷◌, ◌++◌, Option, Some, None, Result, Ok, Err, length, refl, sym, ap, subst, ◌∙◌}
+use Rattle.std.proofs.Common.{◌≡◌, ◌<◌, ℕ, zero, suc, List, [], ◌∷◌, ◌++◌, Option, Some, None, Result, Ok, Err, refl, sym, ap, subst, ◌∙◌}
 use Rattle.std.specs.Prelude.{slice_get, slice_set}
-use Rattle.def_event.specs.declared.event.Event.{Event as ShownEvent}
 use Rattle.def_event.specs.declared.event.Event.TheVariants as line
 use Rattle.def_kernel.specs.declared.node.Node.{Node}
-use Rattle.def_local.specs.Numbers.{Brought, Course, Runs, Vats, idle, left_by, nothing_brought, open_member, step, step_number, turn, turn_queue}
+use Rattle.def_local.specs.Numbers.{Course, Runs, Vats, idle, left_by, nothing_brought, open_member, step, step_number, turn, turn_queue}
 use Rattle.def_local.specs.Vats.{Member}
 use Rattle.def_machine.specs.Eval.{opening, taking}
 use Rattle.def_machine.specs.Arrive as arriving
@@ -29,8 +28,7 @@ use Rattle.ev_world.specs.Midway.{IsMidway}
 use Rattle.ev_world.specs.Standing.{Comes, HaltsAs, IsWorld}
 use Rattle.ev_world.specs.Steadily.{OpensSteadily, StepsSteadily}
 use Rattle.ev_world.specs.declared.world.World.{World}
-use Rattle.ev_world.proofs.Acting.{StopsAs, Took, own_comes, stop_halts, stop_is}
-use Rattle.ev_world.proofs.CarryingSteps.{receiver}
+use Rattle.ev_world.proofs.Acting.{Took, own_comes, receiver, stop_halts, stop_is}
 use Rattle.ev_world.proofs.Left.{IsRested}
 use Rattle.ev_world.proofs.Objects.{is_within}
 use Rattle.ev_world.proofs.Opening.{noticed, notices, notices_steady, opened, opens, opens_steady}

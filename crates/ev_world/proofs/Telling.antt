@@ -1,5 +1,5 @@
 -- What a vat exported is told one place after the other.
-use Rattle.std.proofs.Common.{◌≡◌, ◌⊎◌, inl, inr, ℕ, zero, suc, ◌+◌, ◌<◌, ◌≤◌, List, [], ◌∷◌, ◌++◌, Option, Some, None, get_or, length, map, refl, sym, ap, subst, ◌∙◌, append_assoc, append-nil, arith}
+use Rattle.std.proofs.Common.{◌≡◌, ◌⊎◌, inl, inr, ℕ, zero, suc, ◌+◌, ◌<◌, ◌≤◌, List, [], ◌∷◌, ◌++◌, Option, Some, get_or, length, map, refl, sym, ap, subst, ◌∙◌, append_assoc, append-nil, arith}
 use Rattle.std.specs.Prelude.{drop, slice_get, slice_set}
 use Rattle.std.proofs.lemmas.List.{length-append, length-map, length-set}
 use Rattle.ev_base.specs.declared.values.Value.{Value}
@@ -8,10 +8,11 @@ use Rattle.ev_naming.specs.Names.{Named}
 use Rattle.ev_resident.specs.declared.resident.Resident.{Resident}
 use Rattle.ev_step_lines.specs.Lines.{with_import}
 use Rattle.ev_world.specs.Exporting.{AreCounted, AreTold, exports_for, object_of, told_by, with_imports}
-use Rattle.ev_world.proofs.Objects.{is_within, same_or_not, set_other, set_there}
+use Rattle.ev_world.proofs.Objects.{same_or_not, set_other, set_there}
 
 -- ---- places
 
+-- what stands at a place within a list
 pub stands : {A : Type 0} (xs : List A) (i : ℕ) → i < length xs → (y : A) × (slice_get xs i ≡ Some y)
 stands [] i h = absurd (omega arith)
 stands (x ∷ xs) zero h = (x, refl)

@@ -1,11 +1,11 @@
 -- A turn, and one with no message to take.
-use Rattle.std.proofs.Common.{◌≡◌, ◌⊎◌, inl, inr, ℕ, Bool, zero, suc, ◌<◌, List, [], ◌∷◌, ◌++◌, Option, Some, None, Result, Ok, Err, length, map, refl, sym, ap, subst, ◌∙◌, append-nil}
-use Rattle.std.specs.Prelude.{filter, slice_get, slice_set}
+use Rattle.std.proofs.Common.{◌≡◌, ◌⊎◌, inl, inr, ℕ, Bool, List, [], ◌∷◌, ◌++◌, Option, Some, None, Ok, Err, length, map, refl, sym, ap, subst, ◌∙◌, append-nil}
+use Rattle.std.specs.Prelude.{slice_get, slice_set}
 use Rattle.std.proofs.lemmas.List.{length-set}
 use Rattle.def_event.specs.declared.event.Event.{Event as ShownEvent}
 use Rattle.def_event.specs.declared.event.Event.TheVariants as line
 use Rattle.def_kernel.specs.declared.node.Node.{Node}
-use Rattle.def_local.specs.Numbers.{Course, Runs, Vats, after_step, idle, nothing_brought, numbers, ready, step, step_number, turn, turn_queue}
+use Rattle.def_local.specs.Numbers.{Vats, after_step, nothing_brought, numbers, ready, step, step_number, turn, turn_queue}
 use Rattle.def_local.specs.Vats.{Member}
 use Rattle.def_machine.specs.Eval.{taking}
 use Rattle.def_machine.specs.State as machine
@@ -13,7 +13,7 @@ use Rattle.def_machine.specs.State.{Done, Gives, Message}
 use Rattle.def_machine.specs.Values.{Local, Naming}
 use Rattle.def_run.specs.Shown.{shown_event}
 use Rattle.def_run.specs.Text.{shown_events}
-use Rattle.def_run.specs.World.{Event, Idle, Program, Script, Turn, Turned, tree_at}
+use Rattle.def_run.specs.World.{Idle, Program, Script, Turn, Turned, tree_at}
 use Rattle.ev_intro.specs.Word.{Drawn}
 use Rattle.ev_member.specs.Standing.{IsFound, IsMember, Sees, with_draws}
 use Rattle.ev_member.specs.Steps.{EndsSo, Turns, TurnsSo, own}
@@ -26,7 +26,6 @@ use Rattle.ev_resident.proofs.Worlds.{world_of}
 use Rattle.ev_resident.specs.Standing.{IsResident}
 use Rattle.ev_resident.specs.declared.resident.Resident.{Resident}
 use Rattle.ev_room.specs.Reading.{World as Seen, vat_of}
-use Rattle.ev_room.specs.Sound.{IsSound}
 use Rattle.ev_scope.specs.declared.accepted.Scoped.{Scoped}
 use Rattle.ev_vat.specs.declared.vat.VatStop.{VatStop}
 use Rattle.ev_vat.specs.declared.vat.VatStop.TheVariants.{Fuel, Deep, WordRepeated, Astray, Memory}
@@ -34,7 +33,7 @@ use Rattle.ev_ways.proofs.Cuts.{shown_join}
 use Rattle.ev_naming.specs.Names.{Named}
 use Rattle.ev_ways.specs.Rows.{Lane}
 use Rattle.ev_ways.specs.Standing.{WaysStand}
-use Rattle.ev_world.specs.Standing.{Comes, HaltsAs, IsWorld, told_so}
+use Rattle.ev_world.specs.Standing.{HaltsAs, IsWorld, told_so}
 use Rattle.ev_world.specs.Steadily.{StepsSteadily}
 use Rattle.ev_world.specs.declared.world.World.{World}
 use Rattle.ev_world.proofs.Acting.{StopsAs, Took, numbers_are, ready_is, stop_halts}
@@ -42,7 +41,7 @@ use Rattle.ev_world.proofs.Cuts.{told_behind}
 use Rattle.ev_world.proofs.Left.{IsRested}
 use Rattle.ev_world.proofs.Objects.{is_within, same_or_not, set_other, set_there}
 use Rattle.ev_world.proofs.Opening.{tree_is}
-use Rattle.ev_world.proofs.Telling.{only, stands}
+use Rattle.ev_world.proofs.Telling.{only}
 use Rattle.law_peers.specs.Steady.{StepIsSteady, TurnIsSteady}
 
 -- ---- what a call answered

@@ -1,5 +1,5 @@
 -- The whole run in the code is the run in numbers: its end, and its text.
-use Rattle.std.proofs.Common.{◌≡◌, ℕ, zero, suc, ◌+◌, ◌<◌, Bool, true, false, List, [], ◌∷◌, ◌++◌, Result, Ok, Err, length, map, refl, sym, ap, subst, ◌∙◌}
+use Rattle.std.proofs.Common.{◌≡◌, ℕ, zero, suc, Bool, true, false, List, [], ◌∷◌, Result, Ok, Err, length, map, refl, sym, ap, subst, ◌∙◌}
 use Rattle.std.specs.Prelude.{string_bytes, IfOk}
 use Rattle.def_event.specs.Lines.{render}
 use Rattle.def_event.specs.declared.event.Event.{Event as ShownEvent}

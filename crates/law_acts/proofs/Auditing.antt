@@ -1,5 +1,5 @@
 -- Auditions over the state of the code stand for the machine's: making one, and what one tells of a name.
-use Rattle.std.proofs.Common.{◌≡◌, ℕ, Bool, true, List, [], ◌∷◌, ◌++◌, Option, Some, None, Ok, map, refl, ap, ◌∙◌}
+use Rattle.std.proofs.Common.{◌≡◌, ℕ, true, List, [], ◌∷◌, ◌++◌, Option, Some, None, refl, ap, ◌∙◌}
 use Rattle.std.specs.Prelude.{nat_lt, length, option_map, codes}
 use Rattle.std.proofs.lemmas.List.{map-append, length-map}
 use Rattle.ev_base.specs.declared.values.Value.{Value as Held}
@@ -16,9 +16,9 @@ use Rattle.def_kernel.specs.declared.node.Node.{Node}
 use Rattle.def_machine.specs.Native as native
 use Rattle.def_machine.specs.Perform as perform
 use Rattle.def_machine.specs.Scopes as scopes
-use Rattle.def_machine.specs.State.{Audition, AuditionMade, opened_state}
+use Rattle.def_machine.specs.State.{Audition, AuditionMade}
 use Rattle.def_machine.specs.State as machine
-use Rattle.def_machine.specs.Values.{Words, Value, Local, Obj}
+use Rattle.def_machine.specs.Values.{Words, Local, Obj}
 use Rattle.ev_audit.specs.Views.{bound_at, bound_told, free_names, told_at, told_by, told_of}
 use Rattle.ev_audit.specs.Views.{view_of as seen_of}
 use Rattle.ev_audit.proofs.Told.{guard_found}
@@ -27,7 +27,6 @@ use Rattle.ev_prims.specs.declared.problem.Problem.TheVariants.{BadArgument}
 use Rattle.ev_pass.specs.declared.interior.Interior.{Interior as Room}
 use Rattle.ev_room.specs.Reading.{World, names, text_of, value_of, thing_of, line_of, vat_of}
 use Rattle.ev_room.specs.Sound.{IsSound, is_there, not_free_id}
-use Rattle.ev_room.specs.declared.exit.Exit.TheVariants as exit
 use Rattle.ev_room.specs.Acts.{◌>>=◌, ◌>>◌, answer, fail, fails, give, keep_audition, new_audition, guard_asked, told_as}
 use Rattle.law_acts.proofs.Sounds.{audition_sound, things_grown}
 use Rattle.law_acts.proofs.Stands.{Met, vat, a_value, itself, met_by, then_met, give_met, throw_met, tell_met, fails_met, known_there}

@@ -16,7 +16,7 @@ use Rattle.ev_audit.specs.Views.{guard_of}
 use Rattle.def_machine.specs.Values.{Words, Value, Null, Flag, Prim, Local}
 use Rattle.def_machine.specs.State.{Bound, Fixed, Slot, Cell as TheirCell, Binding as Bond, SlotMade, SlotRead, SlotWrote, Vat, Done, Astray, for_some, opened_state}
 use Rattle.def_machine.specs.State as machine
-use Rattle.def_machine.specs.Scopes.{any_guard, bound_in}
+use Rattle.def_machine.specs.Scopes.{bound_in}
 use Rattle.def_machine.specs.Scopes as scopes
 use Rattle.def_machine.specs.Native as native
 use Rattle.ev_room.specs.declared.exit.Exit.TheVariants as exit

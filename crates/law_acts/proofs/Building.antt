@@ -1,5 +1,5 @@
 -- The form of an object expression over the state of the code stands for the machine's.
-use Rattle.std.proofs.Common.{◌≡◌, ℕ, ℤ, Bool, true, false, List, [], ◌∷◌, ◌++◌, Some, None, Ok, Err, map, refl, ap}
+use Rattle.std.proofs.Common.{◌≡◌, ℕ, ℤ, true, false, List, [], ◌∷◌, Ok, Err, map, refl}
 use Rattle.std.proofs.lemmas.List.{map-append}
 use Rattle.ev_base.specs.declared.values.Value.{Value as Held}
 use Rattle.ev_base.specs.declared.values.Value.TheVariants as held
@@ -11,7 +11,7 @@ use Rattle.def_machine.specs.Form.{Item, Begin, End, Word, Fact, items_of, liter
 use Rattle.def_machine.specs.Perform as perform
 use Rattle.def_machine.specs.State.{Vat, opened_state}
 use Rattle.def_machine.specs.State as machine
-use Rattle.def_machine.specs.Values.{Words, Value, Text, Number, Letter, Local}
+use Rattle.def_machine.specs.Values.{Words, Value, Text, Local}
 use Rattle.ev_pass.specs.declared.interior.Interior.{Interior as Room}
 use Rattle.ev_room.specs.Reading.{World, names, value_of, values_of}
 use Rattle.ev_room.specs.Sound.{Grown, IsSound, is_there, are_there}

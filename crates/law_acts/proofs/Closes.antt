@@ -4,7 +4,7 @@ use Rattle.ev_base.specs.declared.values.Value.{Value as Held}
 use Rattle.ev_base.specs.declared.values.Value.TheVariants as held
 use Rattle.ev_heap.specs.declared.happened.Happened.TheVariants as event
 use Rattle.def_machine.specs.Values.{Words, Value, Local}
-use Rattle.def_machine.specs.State.{Called, Back, Thrown, Left, Vat, Done, Throws, Stops, Fuel, Deep, Astray}
+use Rattle.def_machine.specs.State.{Called, Back, Thrown, Left, Vat, Done}
 use Rattle.def_machine.specs.State as machine
 use Rattle.def_machine.specs.Scopes as scopes
 use Rattle.ev_pass.specs.declared.interior.Interior.{Interior as Room}

@@ -1,5 +1,5 @@
 -- Primitives by their numbers, and the guards that take null as well, are the machine's.
-use Rattle.std.proofs.Common.{◌≡◌, ℕ, ◌+◌, ◌-◌, ◌<◌, ◌≤◌, nat_lt, Bool, true, false, List, map, Option, Some, None, refl, sym, ap, ◌∙◌, arith}
+use Rattle.std.proofs.Common.{◌≡◌, ℕ, ◌-◌, ◌<◌, ◌≤◌, nat_lt, Bool, true, false, List, map, Option, Some, None, refl, sym, ap, ◌∙◌, arith}
 use Rattle.std.specs.Prelude.{option_map, slice_get, unwrap_or}
 use Rattle.std.proofs.lemmas.Bool.Decides.{nat_tests}
 use Rattle.std.proofs.lemmas.Option.{slice_get-map}
@@ -16,9 +16,7 @@ use Rattle.ev_prims.specs.declared.primitives.Kind.TheVariants as kind
 use Rattle.ev_prims.specs.declared.primitives.Primitive.{Primitive}
 use Rattle.ev_prims.specs.declared.primitives.Primitive.TheVariants.{Guarding, NoPrimitive}
 use Rattle.ev_prims.proofs.PrimitiveLemmas.{primitive_low, primitive_high, low_is, high_is}
-use Rattle.ev_room.proofs.Guarding.{null_or_high}
 use Rattle.ev_room.specs.Coercion.{null_or, null_or_guard, null_or_prim}
-use Rattle.ev_room.specs.Sound.{is_there}
 use Rattle.law_acts.proofs.Replies.{Fits}
 
 -- ---- numbers

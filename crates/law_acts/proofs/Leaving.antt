@@ -11,7 +11,7 @@ use Rattle.ev_heap.specs.declared.kept.Shape.TheVariants as shape
 use Rattle.ev_heap.specs.declared.kept.Thing.{Thing as HeldThing}
 use Rattle.def_kernel.specs.declared.node.Node.{Node}
 use Rattle.def_machine.specs.Values.{Words, Value, Local, Obj, numbering}
-use Rattle.def_machine.specs.State.{Thing, Ejector, Called, EjectorMade, Vat, Done, opened_state}
+use Rattle.def_machine.specs.State.{Thing, Ejector, Called, EjectorMade, Vat}
 use Rattle.def_machine.specs.State as machine
 use Rattle.def_machine.specs.Free.{entry, same_words}
 use Rattle.def_machine.specs.Scopes as scopes

@@ -26,7 +26,7 @@ use Rattle.ev_room.specs.declared.scope.Binding.{Binding}
 use Rattle.ev_room.specs.declared.scope.Bound.{Bound as Kept}
 use Rattle.ev_room.specs.declared.scope.Bound.TheVariants as scope
 use Rattle.ev_room.specs.declared.scope.Scope.{Scope}
-use Rattle.ev_room.specs.Reading.{World, names, text_of, value_of, values_of, thing_of, shape_in, caught_in, capture_in, line_of, vat_of}
+use Rattle.ev_room.specs.Reading.{World, names, text_of, values_of, thing_of, shape_in, caught_in, capture_in, line_of, vat_of}
 use Rattle.ev_audit.specs.Views.{capture_by}
 use Rattle.ev_audit.specs.Views.{view_of as seen_of}
 use Rattle.ev_audit.proofs.Told as told

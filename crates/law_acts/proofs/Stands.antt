@@ -10,7 +10,7 @@ use Rattle.ev_heap.specs.declared.happened.Happened.{Happened as Event}
 use Rattle.ev_heap.specs.declared.happened.Happened.TheVariants as event
 use Rattle.def_kernel.specs.declared.node.Node.{Node}
 use Rattle.def_machine.specs.Values.{Words, Value, Text, Items, Local}
-use Rattle.def_machine.specs.State.{Bound, Fixed, Slot, Binding as Bond, Scope as Surroundings, Happened, ListMade, Known, Vat, Done, Throws, Ejects, Stops, Fuel, Deep, Repeated, Astray, opened_state}
+use Rattle.def_machine.specs.State.{Bound, Fixed, Slot, Binding as Bond, Scope as Surroundings, Happened, ListMade, Vat, Done, Throws, Ejects, Stops, Fuel, Deep, Repeated, Astray, opened_state}
 use Rattle.def_machine.specs.State as machine
 use Rattle.def_machine.specs.Refs.{follow, place, list_fits}
 use Rattle.def_machine.specs.Scopes.{Answer, Answers}
@@ -101,7 +101,6 @@ Keeps look (Err exit.Fuel, s) = Unit {0}
 Keeps look (Err exit.Deep, s) = Unit {0}
 Keeps look (Err (exit.Repeated i j), s) = Unit {0}
 Keeps look (Err exit.Astray, s) = Unit {0}
-Keeps look (Err exit.Unbuilt, s) = ⊥
 Keeps look (Err exit.Memory, s) = Unit {0}
 
 -- an outcome of the machine is what an outcome over the state of the code stands for
@@ -113,7 +112,6 @@ Is look w (Err exit.Fuel, s) d = d ≡ Stops Fuel (vat w s)
 Is look w (Err exit.Deep, s) d = d ≡ Stops Deep (vat w s)
 Is look w (Err (exit.Repeated i j), s) d = d ≡ Stops (Repeated i j) (vat w s)
 Is look w (Err exit.Astray, s) d = d ≡ Stops Astray (vat w s)
-Is look w (Err exit.Unbuilt, s) d = ⊥
 Is look w (Err exit.Memory, s) d = Unit {0}
 
 -- The heap grows, the key of words stays, what came to an end that did not stop left a vat that is sound, and where that comes before the
@@ -177,7 +175,6 @@ then_stands w look look' P s (Err exit.Fuel, t) d f g h p k = record { grown = h
 then_stands w look look' P s (Err exit.Deep, t) d f g h p k = record { grown = h.grown; stays = h.stays; keeps = h.keeps; is = λ i. stops_at Deep (vat w t) d g (h.is i) }
 then_stands w look look' P s (Err (exit.Repeated i j), t) d f g h p k = record { grown = h.grown; stays = h.stays; keeps = h.keeps; is = λ b. stops_at (Repeated i j) (vat w t) d g (h.is b) }
 then_stands w look look' P s (Err exit.Astray, t) d f g h p k = record { grown = h.grown; stays = h.stays; keeps = h.keeps; is = λ i. stops_at Astray (vat w t) d g (h.is i) }
-then_stands w look look' P s (Err exit.Unbuilt, t) d f g h p k = absurd h.keeps
 then_stands w look look' P s (Err exit.Memory, t) d f g h p k = record { grown = h.grown; stays = h.stays; keeps = tt; is = λ i. tt }
 
 pub then_met : {A B C D : Type 0} {w : World} {look : Look A B} {look' : Look C D} {s : Room} {o : Out A} {d : Done Local B} (f : A → Act C) (g : B → machine.Act Local D)
@@ -219,7 +216,6 @@ ended_met w look look' s (Err exit.Fuel, t) d f g h f' g' h' m k p q = record { 
 ended_met w look look' s (Err exit.Deep, t) d f g h f' g' h' m k p q = record { grown = m.grown; stays = m.stays; keeps = m.keeps; is = λ i. stops_by Deep (vat w t) d f' g' h' (m.is i) }
 ended_met w look look' s (Err (exit.Repeated i j), t) d f g h f' g' h' m k p q = record { grown = m.grown; stays = m.stays; keeps = m.keeps; is = λ b. stops_by (Repeated i j) (vat w t) d f' g' h' (m.is b) }
 ended_met w look look' s (Err exit.Astray, t) d f g h f' g' h' m k p q = record { grown = m.grown; stays = m.stays; keeps = m.keeps; is = λ i. stops_by Astray (vat w t) d f' g' h' (m.is i) }
-ended_met w look look' s (Err exit.Unbuilt, t) d f g h f' g' h' m k p q = absurd m.keeps
 ended_met w look look' s (Err exit.Memory, t) d f g h f' g' h' m k p q = record { grown = m.grown; stays = m.stays; keeps = tt; is = λ i. tt }
 
 -- what the machine does may be another, where the texts are a front
@@ -241,7 +237,6 @@ answered_met w here s (Err exit.Fuel, t) d m = record { grown = m.grown; stays =
 answered_met w here s (Err exit.Deep, t) d m = record { grown = m.grown; stays = m.stays; keeps = m.keeps; is = m.is }
 answered_met w here s (Err (exit.Repeated i j), t) d m = record { grown = m.grown; stays = m.stays; keeps = m.keeps; is = m.is }
 answered_met w here s (Err exit.Astray, t) d m = record { grown = m.grown; stays = m.stays; keeps = m.keeps; is = m.is }
-answered_met w here s (Err exit.Unbuilt, t) d m = absurd m.keeps
 answered_met w here s (Err exit.Memory, t) d m = record { grown = m.grown; stays = m.stays; keeps = tt; is = λ i. tt }
 
 -- ---- the single changes

@@ -15,6 +15,9 @@ pub mod Idle
 pub mod RefsIdle
 pub mod ArriveIdle
 pub mod News
+pub mod Causes
+pub mod RefsCauses
+pub mod ArriveCauses
 pub mod Ground
 pub mod Asked
 pub mod Fine

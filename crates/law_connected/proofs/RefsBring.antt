@@ -74,14 +74,14 @@ module _ (word : ℕ → ℕ) (v : ℕ) (past : Past) where
 
   -- what a value is followed to: what lines lead to, or a problem
   abbrev Follows : Vat Name → Value Name → Value Name → Type 0
-  Follows s x y = LeadsTo (Line past s) x y ⊎ IsBroken y
+  Follows s x y = LeadsTo (Line past s) x y ⊎ ((n : Name) × LeadsTo (Line past s) x (Ref n) × (y ≡ Broken (codes "partition")))
 
   by_host : (s : Vat Name) (x : Value Name) (n : Name) (h : ℕ) → LeadsTo (Line past s) x (Ref n) → Follows s x (refs.severed_by (naming word v) h s n)
   unfolding refs.severed_by
   by_host s x n h l = either (is_in h s.noticed)
     where
       either : (b : Bool) → Follows s x (elim b [ true ↦ Broken (codes "partition") | false ↦ Ref n ])
-      either true = inr (codes "partition", refl)
+      either true = inr (n, l, refl)
       either false = inl l
 
   at_spot : (s : Vat Name) (x : Value Name) (n : Name) (o : Spot) → LeadsTo (Line past s) x (Ref n) → Follows s x (refs.severed_at (naming word v) s n o)
@@ -108,8 +108,12 @@ module _ (word : ℕ → ℕ) (v : ℕ) (past : Past) where
 
   -- ---- passing
 
+  same_problem : (t u : Words) → ◌≡◌ {A = Value Name} (Broken t) (Broken u) → t ≡ u
+  same_problem t u e = cc
+
   plain_passes : (s : Vat Name) (x y : Value Name) → Follows s x y → ((k : ℕ) → y ≡ Items k → ⊥) → Passing past s x (Plain y)
-  plain_passes s x (Broken t) l f = tt
+  plain_passes s x (Broken t) (inl l) f = inl l
+  plain_passes s x (Broken t) (inr h) f = inr (inl (h.0, h.1, same_problem t (codes "partition") h.2))
   plain_passes s x (Items k) l f = absurd (f k refl)
   plain_passes s x (Ref n) (inl l) f = l
   plain_passes s x Null (inl l) f = l
@@ -118,17 +122,17 @@ module _ (word : ℕ → ℕ) (v : ℕ) (past : Past) where
   plain_passes s x (Letter c) (inl l) f = l
   plain_passes s x (Text t) (inl l) f = l
   plain_passes s x (Prim i) (inl l) f = l
-  plain_passes s x (Ref n) (inr h) f = let e = h.1 in cc
-  plain_passes s x Null (inr h) f = let e = h.1 in cc
-  plain_passes s x (Flag b) (inr h) f = let e = h.1 in cc
-  plain_passes s x (Number z) (inr h) f = let e = h.1 in cc
-  plain_passes s x (Letter c) (inr h) f = let e = h.1 in cc
-  plain_passes s x (Text t) (inr h) f = let e = h.1 in cc
-  plain_passes s x (Prim i) (inr h) f = let e = h.1 in cc
+  plain_passes s x (Ref n) (inr h) f = let e = h.2 in cc
+  plain_passes s x Null (inr h) f = let e = h.2 in cc
+  plain_passes s x (Flag b) (inr h) f = let e = h.2 in cc
+  plain_passes s x (Number z) (inr h) f = let e = h.2 in cc
+  plain_passes s x (Letter c) (inr h) f = let e = h.2 in cc
+  plain_passes s x (Text t) (inr h) f = let e = h.2 in cc
+  plain_passes s x (Prim i) (inr h) f = let e = h.2 in cc
 
   list_leads : (s : Vat Name) (x : Value Name) (k : ℕ) → Follows s x (Items k) → LeadsTo (Line past s) x (Items k)
   list_leads s x k (inl l) = l
-  list_leads s x k (inr h) = let e = h.1 in cc
+  list_leads s x k (inr h) = let e = h.2 in cc
 
   members_at : (s : Vat Name) (k : ℕ) → Members s k (list_at s.lists k) ⊎ (list_at s.lists k ≡ [])
   unfolding list_at
@@ -146,7 +150,7 @@ module _ (word : ℕ → ℕ) (v : ℕ) (past : Past) where
   shape_passes : (s : Vat Name) (x y : Value Name) (members : List (Value Name) → Passed Name) → Follows s x y → ((k : ℕ) → y ≡ Items k → Passing past s x (members (list_at s.lists k))) → Passing past s x (refs.shape_by (naming word v) members s.lists y)
   unfolding refs.shape_by
   shape_passes s x (Items k) members l f = f k refl
-  shape_passes s x (Broken t) members l f = tt
+  shape_passes s x (Broken t) members l f = plain_passes s x (Broken t) l (λ k e. cc)
   shape_passes s x (Ref n) members l f = plain_passes s x (Ref n) l (λ k e. cc)
   shape_passes s x Null members l f = plain_passes s x Null l (λ k e. cc)
   shape_passes s x (Flag b) members l f = plain_passes s x (Flag b) l (λ k e. cc)
@@ -157,19 +161,19 @@ module _ (word : ℕ → ℕ) (v : ℕ) (past : Past) where
 
   shape_of : (s : Vat Name) → Good past s → (d : ℕ) (x : Value Name) → Passing past s x (refs.shape (naming word v) d s x)
   unfolding refs.shape
-  shape_of s g zero x = shape_passes s x (refs.follow (naming word v) s x) (λ vs. Plain (Broken (codes "too heavy"))) (follows s g x) (λ k e. tt)
+  shape_of s g zero x = shape_passes s x (refs.follow (naming word v) s x) (λ vs. Plain (Broken (codes "too heavy"))) (follows s g x) (λ k e. inr (inr (k, list_leads s x k (subst (λ y. Follows s x y) e (follows s g x)), refl)))
   shape_of s g (suc d) x = shape_passes s x (refs.follow (naming word v) s x) (λ vs. Many (refs.shapes (naming word v) (λ w. refs.shape (naming word v) d s w) vs)) (follows s g x)
       (λ k e. (k, list_at s.lists k, list_leads s x k (subst (λ y. Follows s x y) e (follows s g x)), members_at s k, shapes_pass s (λ w. refs.shape (naming word v) d s w) (shape_of s g d) (list_at s.lists k)))
 
   list_parcel : (s : Vat Name) → Good past s → (x : Value Name) (k : ℕ) → LeadsTo (Line past s) x (Items k) → (o : Option ℕ) → Passing past s x (refs.parcel_of_list (naming word v) s (Items k) o).value
   unfolding refs.parcel_of_list refs.too_heavy
   list_parcel s g x k l (Some left) = passes_on (Line past s) _ _ x (Items k) _ l (shape_of s g refs.highest (Items k))
-  list_parcel s g x k l None = tt
+  list_parcel s g x k l None = inr (inr (k, l, refl))
 
   parcel_passes : (s : Vat Name) → Good past s → (x y : Value Name) → Follows s x y → Passing past s x (refs.parcel_at (naming word v) s y).value
   unfolding refs.parcel_at
   parcel_passes s g x (Items k) l = list_parcel s g x k (list_leads s x k l) _
-  parcel_passes s g x (Broken t) l = tt
+  parcel_passes s g x (Broken t) l = plain_passes s x (Broken t) l (λ k e. cc)
   parcel_passes s g x (Ref n) l = plain_passes s x (Ref n) l (λ k e. cc)
   parcel_passes s g x Null l = plain_passes s x Null l (λ k e. cc)
   parcel_passes s g x (Flag b) l = plain_passes s x (Flag b) l (λ k e. cc)
@@ -313,7 +317,7 @@ module _ (word : ℕ → ℕ) (v : ℕ) (past : Past) where
   broken_place s x y (Away h n o) e b = let f : refs.place (naming word v) s (Broken b.0) ≡ Away h n o = subst (λ z. refs.place (naming word v) s z ≡ Away h n o) b.1 e in absurd (gone_away b.0 h n o f)
 
   at_place : (s : Vat Name) (x y : Value Name) (o : Place Name) → refs.place (naming word v) s y ≡ o → Follows s x y → ToPlace x y o s
-  at_place s x y o e (inr b) = broken_place s x y o e b
+  at_place s x y o e (inr b) = broken_place s x y o e (codes "partition", b.2)
   at_place s x y Near e (inl l) = l
   at_place s x y (Mine n) e (inl l) = l
   at_place s x y (Away h n o) e (inl l) = (l, away_ref s y h n o e)
@@ -321,7 +325,7 @@ module _ (word : ℕ → ℕ) (v : ℕ) (past : Past) where
 
   follow_lasts : (x y : Value Name) → Lasting past (λ s. Follows s x y)
   follow_lasts x y s t l (inl h) = inl (lead_lasts x y s t l h)
-  follow_lasts x y s t l (inr h) = inr h
+  follow_lasts x y s t l (inr h) = inr (h.0, lead_lasts x (Ref h.0) s t l h.1, h.2)
 
   does_send_to : (settle : Name → Value Name → Act Name (Unit {0})) → GoodSettler past settle → (m : Message Name) (y : Value Name) (o : Place Name) → Does past (λ s. Fine past s m × ToPlace m.target y o s) (Any past) (refs.send_to (naming word v) settle m y o)
   unfolding refs.send_to

@@ -8,6 +8,7 @@ use Rattle.def_machine.specs.Eval.{opened_eval}
 use Rattle.law_machine.specs.Steps.{Opens, does}
 use Rattle.law_connected.specs.Connected.{evaluates, asks, Connected, StepConnected, given_to, held_from, opened_connected}
 use Rattle.law_connected.specs.Rows.{one_object, secret, helper, message, handed, program, escaping, auditing, fresh, opened_rows}
+use Rattle.law_connected.specs.Settlings.{gave}
 use Rattle.law_connected.specs.ConnectedLaws.{IsClosed}
 use Rattle.law_connected.proofs.Knowing.{least}
 
@@ -133,7 +134,7 @@ module _ (word : ℕ → ℕ) where
               (
                 ((inl (told _ (inr (inr (inr (inr (inr (inl refl)))))) (inl refl)), tt), tt),
                 (
-                  (tt, tt),
+                  (tt, inl (_, gave 0 (inr (inr (inr (inr (inr (inr (inl refl))))))) (refl, refl), inl (inl itself))),
                   tt,
                 ),
               ),
@@ -163,7 +164,7 @@ module _ (word : ℕ → ℕ) where
                 (
                   ((inl (told _ (inr (inr (inr (inr (inr (inr (inl refl))))))) (inl refl)), tt), tt),
                   (
-                    (tt, tt),
+                    (tt, inl (_, gave 0 (inr (inr (inr (inr (inr (inr (inr (inl refl)))))))) (refl, refl), inl (inl itself))),
                     tt,
                   ),
                 ),
@@ -228,7 +229,7 @@ module _ (word : ℕ → ℕ) where
                                   (
                                     ((inl (told _ (inr (inr (inr (inr (inr (inr (inr (inr (inr (inr (inr (inr (inr (inr (inr (inl refl)))))))))))))))) (inl refl)), tt), tt),
                                     (
-                                      (tt, tt),
+                                      (tt, inl (_, gave 0 (inr (inr (inr (inr (inr (inr (inr (inr (inr (inr (inr (inr (inr (inr (inr (inr (inl refl))))))))))))))))) (refl, refl), inl (inl itself))),
                                       tt,
                                     ),
                                   ),

@@ -1,4 +1,5 @@
 pub mod Known
+pub mod Settlings
 pub mod Connected
 pub mod Natives
 pub mod Liveness

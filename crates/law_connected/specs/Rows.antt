@@ -5,7 +5,29 @@ use Rattle.def_machine.specs.State.{Made, Message, Vat, Happened, Took, Called, 
 use Rattle.def_kernel.specs.declared.node.Literal.TheVariants as literal
 use Rattle.def_kernel.specs.declared.node.Node.{Node}
 use Rattle.def_kernel.specs.declared.node.Node.TheVariants as node
+use Rattle.law_machine.specs.Steps.{Opens}
 use Rattle.law_connected.specs.Known.{Holdings}
+
+-- a vat before its opening turn, which knows its own root
+unfoldable pub fresh : Vat Name
+fresh = record {
+  number = 0;
+  fuel = 1000;
+  drawn = [];
+  things = [];
+  slots = [];
+  lists = [];
+  activations = 0;
+  messages = 0;
+  promises = 0;
+  queue = [];
+  known = begun (Root 0) 0 ∷ [];
+  mails = [];
+  gifts = [];
+  noticed = [];
+  outbox = [];
+  happened = [];
+}
 
 -- ---- handed on, or not
 
@@ -16,8 +38,8 @@ helper = Ref (Object 0 0)
 unfoldable pub secret : Value Name
 secret = Ref (Promise 0 0)
 
-unfoldable pub one_object : Holdings Name
-one_object = record { things = Made 0 [] [] ∷ []; lists = []; slots = []; before = []; given = [] }
+unfoldable pub one_object : Holdings Name Name
+one_object = record { things = Made 0 [] [] ∷ []; lists = []; slots = []; before = []; given = []; start = record { step = Opens [] 0 (Root 0) []; vat = fresh } }
 
 unfoldable pub sent : ℕ → Msg
 sent n = record { sender = 0; number = n }
@@ -108,27 +130,6 @@ auditing =
     ∷ node.Method (codes "run") [] 29
     ∷ node.Noun (codes "k")
     ∷ []
-
--- a vat before its opening turn, which knows its own root
-unfoldable pub fresh : Vat Name
-fresh = record {
-  number = 0;
-  fuel = 1000;
-  drawn = [];
-  things = [];
-  slots = [];
-  lists = [];
-  activations = 0;
-  messages = 0;
-  promises = 0;
-  queue = [];
-  known = begun (Root 0) 0 ∷ [];
-  mails = [];
-  gifts = [];
-  noticed = [];
-  outbox = [];
-  happened = [];
-}
 
 unfoldable pub opened_rows : Unit {0}
 unfolding helper secret one_object sent message handed program escaping auditing fresh

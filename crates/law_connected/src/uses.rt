@@ -7,7 +7,8 @@ ghost use Rattle.law_connected.specs.Told.{RunsTellWhatIsHeld};
 ghost use Rattle.law_connected.specs.News.{WhatIsMadeIsNew};
 
 /// The lines of every step of a vat are connected, however it ends: an activation uses and gives
-/// back only what it knows by initial conditions, endowment, parenthood and introduction. It asks
+/// back only what it knows by initial conditions, endowment, parenthood and introduction, and what a
+/// line tells of a name, that it settles, waits or comes to be viewed, has its cause before it. It asks
 /// that nothing has happened in the step before, and that no ejector and no audition is live.
 pub fn steps_are_connected()
     ensures { StepsAreConnected }

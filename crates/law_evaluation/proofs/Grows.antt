@@ -102,7 +102,6 @@ ended_holds P Q (Err exit.Fuel, t) f g h i j k l = record { holds = tt }
 ended_holds P Q (Err exit.Deep, t) f g h i j k l = record { holds = tt }
 ended_holds P Q (Err (exit.Repeated a b), t) f g h i j k l = record { holds = tt }
 ended_holds P Q (Err exit.Astray, t) f g h i j k l = record { holds = tt }
-ended_holds P Q (Err exit.Unbuilt, t) f g h i j k l = record { holds = tt }
 ended_holds P Q (Err exit.Memory, t) f g h i j k l = record { holds = tt }
 
 one_unmatched : (b : BoundNoun) (here : Scope) (s : Room) → BindsMore here (bind_unmatched b here s)

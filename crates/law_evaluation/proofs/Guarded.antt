@@ -7,7 +7,7 @@ use Rattle.ev_heap.specs.declared.happened.Happened.TheVariants as event
 use Rattle.def_kernel.specs.declared.node.Node.{Node}
 use Rattle.def_kernel.specs.declared.node.Node.TheVariants.{Escape, Try, Finally, Hide}
 use Rattle.def_machine.specs.Values.{Words, Value, Null, Ref, Local, Obj, numbering}
-use Rattle.def_machine.specs.State.{Scope as Surroundings, Got, Vat, Done, Throws, Ejects, Stops, opened_state}
+use Rattle.def_machine.specs.State.{Got, Vat, Done, Throws, Ejects, Stops, opened_state}
 use Rattle.def_machine.specs.State as machine
 use Rattle.def_machine.specs.Scopes.{Answer}
 use Rattle.def_machine.specs.Scopes as scopes

@@ -15,7 +15,7 @@ use Rattle.def_kernel.specs.declared.node.Node.{Node}
 use Rattle.def_kernel.specs.declared.node.Node.TheVariants.{Lit, Noun, Set, Def, Call, Sequence, If, Escape, Try, Finally, Hide, MatchBind, Object as ObjectNode, Method, Matcher, Final, Var, Any, ListPattern, Via}
 use Rattle.def_machine.specs.Free.{BoundNoun, bound_nouns, free_nouns}
 use Rattle.def_machine.specs.Values.{Words, Value, Flag, Prim, Items, Ref, Local, Obj, Prom, Far, local_spot, numbering}
-use Rattle.def_machine.specs.State.{Bound, Fixed, Slot, Binding as Bond, Scope as Surroundings, Got, SlotMade, Vat, Done, Throws, Ejects, Stops, opened_state, Fuel, Deep, Astray}
+use Rattle.def_machine.specs.State.{Bound, Fixed, Slot, Binding as Bond, Scope as Surroundings, Got, SlotMade, Vat, Done, Throws, Ejects, Stops, opened_state}
 use Rattle.def_machine.specs.State as machine
 use Rattle.def_machine.specs.Scopes.{Answer, Answers, any_guard}
 use Rattle.def_machine.specs.Eval.{opened_eval}

@@ -51,7 +51,6 @@ stands look of w e (Err exit.Fuel, i) d h = h
 stands look of w e (Err exit.Deep, i) d h = h
 stands look of w e (Err (exit.Repeated m n), i) d h = h
 stands look of w e (Err exit.Astray, i) d h = h
-stands look of w e (Err exit.Unbuilt, i) d h = h
 stands look of w e (Err exit.Memory, i) d h = tt
 
 meets : {A B : Type 0} (look : Look A B) (of : World → A → B) (w : World) (s : Room) (o : Out A) (d : Done Local B) → ((a : A) → look.of w a ≡ of w a) → Met w look s o d → Meets of w o d

@@ -12,7 +12,7 @@ use Rattle.ev_pass.specs.declared.interior.Interior.{Interior}
 use Rattle.ev_room.specs.Acts.{Out}
 use Rattle.ev_room.specs.Reading.{World, names, texts_of, text_of, value_of, values_of, caught_in, vat_of}
 use Rattle.ev_room.specs.Sound.{IsSound, caught_of, is_there, are_there, are_bound}
-use Rattle.ev_room.specs.declared.exit.Exit.TheVariants.{Thrown, Ejected, Fuel, Deep, Repeated, Astray, Unbuilt, Memory}
+use Rattle.ev_room.specs.declared.exit.Exit.TheVariants.{Thrown, Ejected, Fuel, Deep, Repeated, Astray, Memory}
 use Rattle.ev_room.specs.declared.scope.Scope.{Scope}
 use Rattle.ev_steps.specs.Steps.{evaluator, turn_value}
 
@@ -36,7 +36,6 @@ StandsFor of w (Err Fuel, i) d = d ≡ Stops machine.Fuel (vat_of w i)
 StandsFor of w (Err Deep, i) d = d ≡ Stops machine.Deep (vat_of w i)
 StandsFor of w (Err (Repeated m n), i) d = d ≡ Stops (machine.Repeated m n) (vat_of w i)
 StandsFor of w (Err Astray, i) d = d ≡ Stops machine.Astray (vat_of w i)
-StandsFor of w (Err Unbuilt, i) d = ⊥
 StandsFor of w (Err Memory, i) d = Unit {0}
 
 -- the texts of an inside stand first among those of the end of the turn, and words are drawn under the same key

@@ -1,4 +1,4 @@
-use Rattle.std.proofs.Common.{◌≡◌, List, sym, subst}
+use Rattle.std.proofs.Common.{List, sym, subst}
 use Rattle.def_local.specs.Numbers.{brought}
 use Rattle.ev_naming.specs.Names.{Entry}
 use Rattle.ev_naming.specs.Standing.{Says}

@@ -1,4 +1,4 @@
-use Rattle.std.proofs.Common.{◌≡◌, [], ◌∷◌, map, sym, subst}
+use Rattle.std.proofs.Common.{[], ◌∷◌, map, sym, subst}
 use Rattle.def_machine.specs.Values.{Root}
 use Rattle.ev_naming.specs.Names.{Named}
 use Rattle.ev_outcome.specs.Standing.{NamesStand}

@@ -10,8 +10,7 @@ use Rattle.ev_member.specs.declared.hearing.Arrival.{Arrival}
 use Rattle.ev_resident.specs.declared.resident.Resident.{Resident}
 use Rattle.ev_world.specs.Carrying.{TellsFrame, with_ways}
 use Rattle.ev_world.specs.Exporting.{AreCounted}
-use Rattle.ev_world.proofs.Acting.{Took}
-use Rattle.ev_world.proofs.CarryingFrames.{stops_with}
+use Rattle.ev_world.proofs.Acting.{Took, stops_with}
 use Rattle.ev_world.proofs.CarryingSteps.{CallHears, call_astray, call_comes, call_halts}
 use Rattle.ev_world.proofs.Readies.{set_ready}
 use Rattle.ev_world.proofs.world.World.deliver.Goals as goal

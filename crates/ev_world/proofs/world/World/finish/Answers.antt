@@ -7,7 +7,6 @@ use Rattle.ev_naming.specs.Printing.{TellsCuts}
 use Rattle.ev_resident.specs.declared.resident.Resident.{Resident}
 use Rattle.ev_vat.specs.Vat.{IsReady}
 use Rattle.ev_ways.proofs.Links.{cuts_stand}
-use Rattle.ev_world.specs.Exporting.{AreTold}
 use Rattle.ev_world.specs.Midway.{having_of}
 use Rattle.ev_world.specs.declared.world.World.{World}
 use Rattle.ev_world.proofs.Left.{IsRested, left_is}

@@ -9,8 +9,7 @@ use Rattle.ev_naming.specs.Names.{Entry}
 use Rattle.ev_world.specs.Exporting.{AreCounted}
 use Rattle.ev_world.specs.Midway.{IsMidway}
 use Rattle.ev_world.specs.declared.world.World.{World}
-use Rattle.ev_world.proofs.Acting.{Took}
-use Rattle.ev_world.proofs.CarryingFrames.{stops_with}
+use Rattle.ev_world.proofs.Acting.{Took, stops_with}
 use Rattle.ev_world.proofs.Readies.{set_ready}
 use Rattle.ev_world.proofs.Stepping.{notice_comes, notice_halts}
 use Rattle.ev_world.proofs.world.World.notice.Goals as goal

@@ -10,8 +10,7 @@ use Rattle.ev_scope.specs.declared.accepted.Scoped.{Scoped}
 use Rattle.ev_world.specs.Exporting.{AreCounted}
 use Rattle.ev_world.specs.Midway.{IsMidway}
 use Rattle.ev_world.specs.declared.world.World.{World}
-use Rattle.ev_world.proofs.Acting.{Took}
-use Rattle.ev_world.proofs.CarryingFrames.{stops_with}
+use Rattle.ev_world.proofs.Acting.{Took, stops_with}
 use Rattle.ev_world.proofs.Left.{IsRested}
 use Rattle.ev_world.proofs.Readies.{set_ready}
 use Rattle.ev_world.proofs.Stepping.{TurnsTo, turn_comes, turn_idles, turn_stops_so}
