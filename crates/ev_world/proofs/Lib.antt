@@ -21,4 +21,4 @@ pub mod Stepping
 pub mod Telling
 pub mod Turning
 pub mod Wholes
-pub mod Events
+pub mod EventRuns
