@@ -2,10 +2,11 @@ use Rattle.std.proofs.Common.{ℕ, Result, string_bytes, sym, subst}
 use Rattle.std.proofs.lemmas.Result.{IfOk-weaker}
 use Rattle.ev_script.specs.declared.script.Script.{Script}
 use Rattle.ev_top.specs.Due.{IsDueOfScript}
+use Rattle.ev_top.specs.Machine.{text_of}
 use Rattle.ev_top.proofs.run.run_bytes.Goals as goal
 
 pub returns-in-Ok : goal.returns-in-Ok
 returns-in-Ok c =
     IfOk-weaker c.reply_script.result _ _
-    (λ reply due. subst (λ (found : Result Script ℕ). IsDueOfScript c.args.wire found reply.status (string_bytes reply.text)) (sym c.in-Ok.ensures.reads) due)
+    (λ reply due. subst (λ (found : Result Script ℕ). IsDueOfScript (text_of c.args.wire) found reply.status (string_bytes reply.text)) (sym c.in-Ok.ensures.reads) due)
     c.reply_script.ensures
