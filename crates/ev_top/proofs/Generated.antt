@@ -1,25 +1,21 @@
 -- The script that is generated for a summary, and the statuses that a summary may have.
-use Rattle.std.proofs.Common.{◌≡◌, ◌≤◌, ◌+◌, ◌*◌, ℕ, Bool, true, false, ◌&&◌, List, [], ◌∷◌, codes, Option, Some, None, if◌then◌else◌, option_map, IfSome, Result, Ok, Err, length, refl, sym, ap, ap₂, ◌∙◌, subst, arith}
+use Rattle.std.proofs.Common.{◌≡◌, ◌≤◌, ℕ, Bool, true, false, ◌&&◌, List, [], ◌∷◌, codes, Option, Some, None, if◌then◌else◌, option_map, IfSome, Result, Ok, Err, length, refl, sym, ◌∙◌, subst, arith}
 use Rattle.std.specs.Prelude.{nat_le, nat_lt}
 use Rattle.std.specs.Str.{bytes_eq}
 use Rattle.std.specs.Str.Parse.{digits_value}
-use Rattle.std.proofs.lemmas.Bool.{and_parts}
 use Rattle.std.proofs.lemmas.Bool.Decides.{nat_tests}
 use Rattle.std.proofs.lemmas.List.{length-map}
-use Rattle.def_kernel.specs.declared.node.Node.{Node}
 use Rattle.ev_command_lines.specs.Lines.{bounded, is_numeral, number}
 use Rattle.ev_generate.specs.Generated.{generated}
 use Rattle.ev_script.specs.declared.script.Script.{Script}
-use Rattle.law_generated.specs.Accepted.{generated_script, generated_schedule, generated_vats}
+use Rattle.law_generated.specs.Accepted.{generated_script, generated_schedule}
 use Rattle.law_generated.proofs.Acceptance.{are_long, are_read}
 use Rattle.law_schedule.specs.Scripts.{machine_entry}
 use Rattle.ev_top.specs.Causes.{Breaks, ComesWhere, HasScript, IsLong}
 use Rattle.ev_top.specs.Commands.{command_alone, command_of, command_of_number, command_of_run, command_of_sum, command_with, most_generated}
 use Rattle.ev_top.specs.Due.{IsReading}
 use Rattle.ev_top.specs.Headline.{IsOfSum, StepsAreKnown, SumsUp}
-use Rattle.ev_top.specs.Machine.{script_of}
 use Rattle.ev_top.specs.Script.{script_from}
-use Rattle.ev_top.specs.Summary.{steps_of}
 use Rattle.ev_top.specs.declared.command.Command.{Command}
 use Rattle.ev_top.specs.declared.command.Command.TheVariants.{Run, Expand, Generate, Sum, Sturdy, Mint}
 use Rattle.ev_top.specs.declared.status.Status.{Status}

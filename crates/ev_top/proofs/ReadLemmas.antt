@@ -1,5 +1,5 @@
 -- Sources of vats that are read one after the other, and what is due for a script by them.
-use Rattle.std.proofs.Common.{◌≡◌, ◌<◌, ◌≤◌, ◌+◌, ℕ, suc, List, [], ◌∷◌, ◌++◌, length, get_or, take, drop, string_bytes, Result, Ok, Err, refl, sym, ap, subst, arith, ◌∙◌, append-nil, append_assoc}
+use Rattle.std.proofs.Common.{◌≡◌, ◌<◌, ◌≤◌, ◌+◌, ℕ, suc, List, [], ◌∷◌, ◌++◌, length, get_or, take, drop, string_bytes, Ok, Err, refl, sym, ap, subst, arith, ◌∙◌, append-nil, append_assoc}
 use Rattle.std.proofs.lemmas.List.{length-map, length-take-le, take-append-drop}
 use Rattle.std.proofs.Math.Seq.{drop-cons, take-suc}
 use Rattle.def_kernel.specs.declared.node.Node.{Node}

@@ -1,5 +1,5 @@
 -- What is due for a summary, by the events of a run and how it ended.
-use Rattle.std.proofs.Common.{◌≡◌, ℕ, ◌+◌, List, length, map, refl, sym, ap, ◌∙◌}
+use Rattle.std.proofs.Common.{◌≡◌, ℕ, ◌+◌, List, length, refl, sym, ap, ◌∙◌}
 use Rattle.std.proofs.lemmas.List.{length-map}
 use Rattle.def_event.specs.declared.event.Event.{Event as ShownEvent}
 use Rattle.def_machine.specs.State.{Stop, Fuel, Deep, Repeated, Astray}
@@ -64,5 +64,5 @@ script_summed script programs e events written admitted is are same =
     let steady = runs_are_steady theirs lawful in
     let mirrors = runs_are_mirrored theirs lawful in
     let told = same ∙ ap (λ (n : ℕ). summed_by events n e) (steps_are script programs) ∙ ap (λ (es : List ShownEvent). summed_by es (steps_of theirs) e) (are steady)
-        ∙ ap (summed_by (events_of (numbers.run theirs)) (steps_of theirs)) (is steady) ∙ summed_same theirs (machine.run theirs) (numbers.run theirs) mirrors in
+    ∙ ap (summed_by (events_of (numbers.run theirs)) (steps_of theirs)) (is steady) ∙ summed_same theirs (machine.run theirs) (numbers.run theirs) mirrors in
     run_told summary_of script theirs e written mirrors (is steady) told

@@ -1,5 +1,5 @@
 -- A command that reads nothing.
-use Rattle.std.proofs.Common.{◌≡◌, ℕ, List, [], true, false, Option, Some, None, IfSome, refl, arith}
+use Rattle.std.proofs.Common.{◌≡◌, ℕ, List, [], false, Option, Some, None, IfSome, arith}
 use Rattle.std.proofs.KnownBytes.{Consumes-nil}
 use Rattle.ev_top.specs.Commands.{reads}
 use Rattle.ev_top.specs.Due.{IsDue, IsOfRead, IsOfWhole, Reads}

@@ -1,5 +1,5 @@
 -- Why each answer comes.
-use Rattle.std.specs.Prelude.{◌≡◌, ◌⊎◌, ◌<◌, ◌≤◌, ℕ, Bool, true, List, length, slice_get, Some, None, Ok, Err}
+use Rattle.std.specs.Prelude.{◌≡◌, ◌⊎◌, ◌<◌, ◌≤◌, ℕ, true, List, length, slice_get, Some, None, Ok, Err}
 use Rattle.std.specs.declared.option.Option.{Option}
 use Rattle.def_machine.specs.State.{Stop, Repeated, Astray}
 use Rattle.ev_reader.specs.Program.{Answers}

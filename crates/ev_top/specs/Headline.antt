@@ -1,5 +1,5 @@
 -- What holds of the machine's run that a call owes for a script.
-use Rattle.std.specs.Prelude.{◌≡◌, ◌⊎◌, ◌≤◌, ◌+◌, ◌*◌, ℕ, zero, Bool, true, List, ◌++◌, length, codes, Some}
+use Rattle.std.specs.Prelude.{◌≡◌, ◌⊎◌, ◌≤◌, ◌+◌, ◌*◌, ℕ, zero, true, List, ◌++◌, length, codes, Some}
 use Rattle.std.specs.declared.option.Option.{Option}
 use Rattle.def_kernel.specs.declared.node.Node.{Node}
 use Rattle.def_machine.specs.Values.{Words, Value, Broken, Ref, Name, Foreign, spot_of}

@@ -10,7 +10,6 @@ pub fn given_names_are_safe()
 {}
 
 /// A summary for a number tells 28 times the number and 93 steps, where the run goes to its end.
-#[tactic(auto, using(crate::proofs::Generated::steps_are))]
 pub fn generated_steps_are_known()
     ensures { StepsAreKnown }
 {}

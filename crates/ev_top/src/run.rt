@@ -68,7 +68,12 @@ fn reply_astray(alloc: Global, script: &Script, vat: VatId) -> Result<Reply, Mem
 }
 
 /// The run of a script that ended so, with its text, or the refusal of a program where the run went astray.
-pub fn reply_told(alloc: Global, script: &Script, end: RunEnd, text: String) -> Result<Reply, Memory>
+pub fn reply_told(
+    alloc: Global,
+    script: &Script,
+    end: RunEnd,
+    text: String,
+) -> Result<Reply, Memory>
     requires { IsAdmitted script.now }
     ensures { IfOk result (λ reply. IsFor reply.status (string_bytes reply.text) (due_by script.now (string_bytes text) end)) }
 {
