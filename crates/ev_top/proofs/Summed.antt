@@ -19,12 +19,13 @@ use Rattle.ev_world.proofs.Wholes.{many_are}
 use Rattle.ev_world.specs.Events.{events_of}
 use Rattle.ev_world.specs.Running.{end_by, end_of}
 use Rattle.ev_world.specs.declared.run.RunEnd.{RunEnd}
-use Rattle.ev_top.specs.Due.{due_of_machine}
-use Rattle.ev_top.specs.Ends.{due_by, summed_by}
+use Rattle.ev_top.specs.Due.{IsDueOfTrees}
+use Rattle.ev_top.specs.Ends.{status_by, summed_by}
 use Rattle.ev_top.specs.Machine.{greatest_depth, script_of, tree_at}
 use Rattle.ev_top.specs.Programs.{trees_of}
 use Rattle.ev_top.specs.Summary.{steps_of, summary_by, summary_of}
-use Rattle.ev_top.proofs.Ended.{run_told}
+use Rattle.ev_top.specs.declared.status.Status.{Status}
+use Rattle.ev_top.proofs.Ended.{due_text, told_end}
 use Rattle.ev_top.proofs.Steady.{runs_are_mirrored, runs_are_steady}
 
 -- where a run stopped
@@ -53,16 +54,18 @@ steps_are script programs =
     ∙ ap (λ (n : ℕ). length (script_of script (trees_of programs)).vats + n) (sym (length-map script.schedule machine_entry))
 
 -- what is due for a summary that was made of these events of a run that ended so
-pub script_summed : (script : Script) (programs : List Scoped) (e : RunEnd) (events : List ShownEvent) (written : List ℕ) → IsAdmitted script
+pub script_summed : (script : Script) (programs : List Scoped) (e : RunEnd) (events : List ShownEvent) (status : Status) (written : List ℕ) → IsAdmitted script
     → (RunsSteadily (script_of script (trees_of programs)) → e ≡ end_of (numbers.run (script_of script (trees_of programs))))
     → (RunsSteadily (script_of script (trees_of programs)) → events ≡ events_of (numbers.run (script_of script (trees_of programs))))
-    → written ≡ summed_by events (length script.vats + length script.schedule) e
-    → due_by script written e ≡ due_of_machine summary_of script (script_of script (trees_of programs))
-script_summed script programs e events written admitted is are same =
+    → status ≡ status_by script e → written ≡ summed_by events (length script.vats + length script.schedule) e
+    → IsDueOfTrees summary_of script (trees_of programs) status written
+script_summed script programs e events status written admitted is are ended same =
     let theirs = script_of script (trees_of programs) in
     let lawful = meets script admitted greatest_depth (tree_at (trees_of programs)) in
     let steady = runs_are_steady theirs lawful in
     let mirrors = runs_are_mirrored theirs lawful in
     let told = same ∙ ap (λ (n : ℕ). summed_by events n e) (steps_are script programs) ∙ ap (λ (es : List ShownEvent). summed_by es (steps_of theirs) e) (are steady)
-    ∙ ap (summed_by (events_of (numbers.run theirs)) (steps_of theirs)) (is steady) ∙ summed_same theirs (machine.run theirs) (numbers.run theirs) mirrors in
-    run_told summary_of script theirs e written mirrors (is steady) told
+        ∙ ap (summed_by (events_of (numbers.run theirs)) (steps_of theirs)) (is steady) ∙ summed_same theirs (machine.run theirs) (numbers.run theirs) mirrors in (
+      ended ∙ ap (status_by script) (is steady) ∙ told_end script (summary_of theirs) (machine.run theirs) (numbers.run theirs) mirrors,
+      told ∙ due_text script (summary_of theirs) (machine.run theirs),
+    )

@@ -10,7 +10,7 @@ ghost use Rattle.ev_top.specs.Script.{script_from};
 ghost use Rattle.ev_top.specs.Summary.{summary_of};
 
 use crate::reply::{Reply, reply_rule};
-use crate::run::{LIMITS, reply_told};
+use crate::run::{LIMITS, status_by};
 use crate::script::script_from;
 use crate::sources::{Unread, read_sources};
 use ev_base::Memory;
@@ -52,7 +52,10 @@ fn sum_run(alloc: Global, script: &Script, programs: Vec<Scoped>) -> Result<Repl
 {
     let ran = run_events(alloc, script, programs, LIMITS)?;
     let text = summary_text(alloc, &ran, steps_of(script))?;
-    reply_told(alloc, script, ran.end, text)
+    Ok(Reply {
+        status: status_by(script, ran.end),
+        text,
+    })
 }
 
 /// The summary of the run of a script, or the refusal of the first source that is refused.

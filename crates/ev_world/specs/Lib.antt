@@ -9,3 +9,4 @@ pub mod Closing
 pub mod Starting
 pub mod Carrying
 pub mod Events
+pub mod Writing

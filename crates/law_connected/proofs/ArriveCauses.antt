@@ -1,5 +1,5 @@
 -- What arrives and what is noticed: each settling, wait and view has its cause.
-use Rattle.std.proofs.Common.{◌≡◌, ℕ, zero, Bool, true, false, List, [], ◌∷◌, Option, Some, None, if◌then◌else◌, ◌==◌, refl, sym, ap, ◌∙◌, subst, length, ◌⊎◌, inl, inr}
+use Rattle.std.proofs.Common.{◌≡◌, ℕ, Bool, true, false, List, [], ◌∷◌, Option, Some, None, if◌then◌else◌, ◌==◌, refl, sym, ◌∙◌, subst, length, ◌⊎◌, inl, inr}
 use Rattle.std.specs.Prelude.{codes}
 use Rattle.std.proofs.lemmas.Bool.{eqb-true}
 use Rattle.def_machine.specs.Values.{Words, Value, Null, Flag, Number, Letter, Text, Prim, Broken, Items, Ref, Naming, IsAnswer, IsGift, IsLearnt, IsCarried, under}
@@ -10,7 +10,7 @@ use Rattle.def_machine.specs.Arrive as arrive
 use Rattle.def_machine.specs.Arrive.{Incoming, Old, New, gift_at, opened_in}
 use Rattle.law_machine.specs.Steps.{Receives, Notices}
 use Rattle.law_connected.specs.Known.{IsAmong, AllOf, Start, itself}
-use Rattle.law_connected.specs.Settlings.{IsNamed, IsMessage, IsValue, IsLearntAs, AreLearntAs, IsGiftOf, Says, HasAnswer, came, IsNoticed, IsOf, hosts, learns, provides, tells as told_at, said, SettlesWell, ViewsBy}
+use Rattle.law_connected.specs.Settlings.{IsNew, IsNamed, IsMessage, IsValue, IsLearntAs, AreLearntAs, IsGiftOf, Says, HasAnswer, came, IsNoticed, IsOf, hosts, learns, provides, tells as told_at, said, SettlesWell, ViewsBy}
 use Rattle.law_connected.proofs.Causes.{Causes, Ends, Any, Further, up, no_further, ends_then, ends_more, GiftTold, learnt_more, steady_give, steady_out, steady_draw, steady_mail, steady_open, steady_to_tell, comes, waits, new_gift_well, marks, views_now, lists_come}
 use Rattle.law_connected.proofs.RefsCauses.{settles_well, resolves_well, sends_arrived, steady_inform}
 
@@ -25,7 +25,7 @@ module _ {N W : Type 0} (K : Naming N W) (E : Start N W) where
   messages : (x : Incoming N W) (s : Vat N) → Causes K E s → Ends K E s (λ n t. IsMessage K E x n) (arrive.learn_message K x s)
   unfolding arrive.learn_message give mail
   messages (Old n) s c = (no_further K E s.happened, c, refl)
-  messages (New x h) s c = let m = (steady_mail K E (IsCarried x)).after s c in (m.0, m.1, (length s.mails, refl))
+  messages (New x h) s c = let m = (steady_mail K E (IsCarried x)).after s c in (m.0, m.1, (length s.mails, c.mails, refl))
 
   gives_itself : {A : Type 0} (a : A) (Q : A → Vat N → Type 0) (s : Vat N) → Causes K E s → Q a s → Ends K E s Q (give a s)
   unfolding give
@@ -43,19 +43,19 @@ module _ {N W : Type 0} (K : Naming N W) (E : Start N W) where
   values (Items k) s c = gives_itself (Items k) (λ v t. v ≡ Items k) s c refl
   values (Ref x) s c = ends_then K E s (arrive.learn_name K x s) _ (λ n t. IsNamed K E x n) _ (names x s c) (λ n t f d i. gives_itself (Ref n) (λ v u. (m : N) × (v ≡ Ref m) × IsNamed K E x m) t d (n, refl, i))
 
-  asks_for : (p h i : ℕ) (n : N) (k : ℕ) → n ≡ K.made (IsGift h i) k → (s : Vat N) → Causes K E s → Ends K E s (Any K E) (arrive.ask_for K p h i n s)
+  asks_for : (p h i : ℕ) (n : N) → IsNew K E (IsGift h i) n → (s : Vat N) → Causes K E s → Ends K E s (Any K E) (arrive.ask_for K p h i n s)
   unfolding arrive.ask_for ◌>>=◌ look and_then
-  asks_for p h i n k e s c = either (is_in h s.noticed) refl
+  asks_for p h i n e s c = either (is_in h s.noticed) refl
     where
       either : (b : Bool) → is_in h s.noticed ≡ b → Ends K E s (Any K E) ((if b then refs.settle K n (Broken (codes "partition")) else send_out h (Ask p i n)) s)
-      either true f = settles_well K E n (Broken (codes "partition")) s c (inr (h, c.noticed h f, subst (λ m. IsOf K E h m) (sym e) (learns i k), refl))
+      either true f = settles_well K E n (Broken (codes "partition")) s c (inr (h, c.noticed h f, learns i e, refl))
       either false f = (steady_out K E h (Ask p i n)).after s c
 
-  gifts : (p h i : ℕ) (s : Vat N) → Causes K E s → Ends K E s (λ v t. (k : ℕ) × (v ≡ Ref (K.made (IsGift h i) k))) (arrive.learn_gift K p h i s)
+  gifts : (p h i : ℕ) (s : Vat N) → Causes K E s → Ends K E s (λ v t. (n : N) × (v ≡ Ref n) × IsNew K E (IsGift h i) n) (arrive.learn_gift K p h i s)
   unfolding arrive.learn_gift ◌>>=◌ ◌>>◌
-  gifts p h i s c = ends_then K E s (come K (IsGift h i) h s) _ (λ n t. (k : ℕ) × (n ≡ K.made (IsGift h i) k)) _ (comes K E (IsGift h i) h s c) (λ n t f d k.
-      ends_then K E t (arrive.ask_for K p h i n t) _ (Any K E) _ (asks_for p h i n k.0 k.1 t d) (λ a u g e q.
-      gives_itself (Ref n) (λ v w. (j : ℕ) × (v ≡ Ref (K.made (IsGift h i) j))) u e (k.0, ap Ref k.1)))
+  gifts p h i s c = ends_then K E s (come K (IsGift h i) h s) _ (λ n t. IsNew K E (IsGift h i) n) _ (comes K E (IsGift h i) h s c) (λ n t f d k.
+      ends_then K E t (arrive.ask_for K p h i n t) _ (Any K E) _ (asks_for p h i n k t d) (λ a u g e q.
+      gives_itself (Ref n) (λ v w. (m : N) × (v ≡ Ref m) × IsNew K E (IsGift h i) m) u e (n, refl, k)))
 
   learnt_lasts : (y : Passed (Incoming N W)) (v : Value N) (s t : Vat N) → Further K E s t → IsLearntAs K E s.happened y v → IsLearntAs K E t.happened y v
   learnt_lasts y v s t l h = up K E (λ so. IsLearntAs K E so y v) (λ so more k. learnt_more K E so more y v k) s t l h
@@ -102,8 +102,8 @@ module _ {N W : Type 0} (K : Naming N W) (E : Start N W) where
   gift_here : (v p i : ℕ) (o : Option (GiftEntry N)) (s : Vat N) → v ≡ E.vat.number → ((g : GiftEntry N) → o ≡ Some g → IsGiftOf K E p i g.name) → Causes K E s → Ends K E s (λ n t. IsGiftOf K E p i n) (arrive.gift_or_new K v p i o s)
   unfolding arrive.gift_or_new ◌>>=◌ ◌>>◌
   gift_here v p i (Some g) s e h c = gives_itself g.name (λ n t. IsGiftOf K E p i n) s c (h g refl)
-  gift_here v p i None s e h c = ends_then K E s (come K (IsGift v i) v s) _ (λ n t. (k : ℕ) × (n ≡ K.made (IsGift v i) k)) _ (comes K E (IsGift v i) v s c) (λ n t f d k.
-      let is : IsGiftOf K E p i n = inr (k.0, subst (λ u. n ≡ K.made (IsGift u i) k.0) e k.1) in
+  gift_here v p i None s e h c = ends_then K E s (come K (IsGift v i) v s) _ (λ n t. IsNew K E (IsGift v i) n) _ (comes K E (IsGift v i) v s c) (λ n t f d k.
+      let is : IsGiftOf K E p i n = inr (subst (λ u. IsNew K E (IsGift u i) n) e k) in
       ends_then K E t (new_gift n p i t) _ (Any K E) _ (new_gift_well K E n p i t d is) (λ a u g j q. gives_itself n (λ m w. IsGiftOf K E p i m) u j is))
 
   gift_had : (p i : ℕ) (s : Vat N) → Causes K E s → Ends K E s (λ n t. IsGiftOf K E p i n) (arrive.have_gift K p i s)
@@ -137,12 +137,12 @@ module _ {N W : Type 0} (K : Naming N W) (E : Start N W) where
   module _ (from : ℕ) (d : Delivery (Incoming N W)) (x : Incoming N W) (verb : Words) (ys : Passeds (Incoming N W)) (is : E.step ≡ Receives from (Deliver d x verb ys)) where
     sends_asked : (id n : N) (args : List (Value N)) (s : Vat N) → Causes K E s → IsMessage K E d.message id → IsNamed K E x n → Ends K E s (Any K E) (arrive.send_on_asked K from id n verb args s)
     unfolding arrive.send_on_asked ◌>>=◌ ◌>>◌ look and_then
-    sends_asked id n args s c i j = ends_then K E s (come K (IsAnswer s.number id) s.number s) _ (λ a t. (k : ℕ) × (a ≡ K.made (IsAnswer s.number id) k)) _ (comes K E (IsAnswer s.number id) s.number s c) (λ a t f e k.
+    sends_asked id n args s c i j = ends_then K E s (come K (IsAnswer s.number id) s.number s) _ (λ a t. IsNew K E (IsAnswer s.number id) a) _ (comes K E (IsAnswer s.number id) s.number s c) (λ a t f e k.
         ends_then K E t (alter K (ToTell from) a t) _ (Any K E) _ ((steady_to_tell K E from a).after t e) (λ b u g h q.
-        sends_arrived K E (record { id = id; target = Ref n; verb = verb; args = args; answer = Some a }) u h (λ p z. (Ref n, answered u.happened a k.0 k.1 p z, inl itself))))
+        sends_arrived K E (record { id = id; target = Ref n; verb = verb; args = args; answer = Some a }) u h (λ p z. (Ref n, answered u.happened a k p z, inl itself))))
       where
-        answered : (so : List (Happened N)) (a : N) (k : ℕ) → a ≡ K.made (IsAnswer s.number id) k → (p : N) → Some a ≡ Some p → HasAnswer K E so id p (Ref n)
-        answered so a k e p z = subst (λ m. HasAnswer K E so id m (Ref n)) (sym (ap (λ v. K.made (IsAnswer v id) k) c.number) ∙ sym e ∙ some_is a p z) (came from d x verb ys id n k is i j)
+        answered : (so : List (Happened N)) (a : N) → IsNew K E (IsAnswer s.number id) a → (p : N) → Some a ≡ Some p → HasAnswer K E so id p (Ref n)
+        answered so a k p z = came from d x verb ys id n is i j (subst (λ m. IsNew K E (IsAnswer E.vat.number id) m) (some_is a p z) (subst (λ v. IsNew K E (IsAnswer v id) a) c.number k))
 
     delivers_well : (s : Vat N) → Causes K E s → Ends K E s (Any K E) (arrive.arrive_deliver K from d x verb ys s)
     unfolding arrive.arrive_deliver ◌>>=◌
@@ -187,7 +187,7 @@ module _ {N W : Type 0} (K : Naming N W) (E : Start N W) where
   module _ (from : ℕ) (x : Incoming N W) (c : ℕ) (is : E.step ≡ Receives from (Elsewhere x c)) where
     -- the gift there
     abbrev IsThere : ℕ → ℕ → N → Type 0
-    IsThere h i g = ((k : ℕ) × (g ≡ K.made (IsGift c i) k)) ⊎ ((c ≡ E.vat.number) × IsGiftOf K E h i g)
+    IsThere h i g = IsNew K E (IsGift c i) g ⊎ ((c ≡ E.vat.number) × IsGiftOf K E h i g)
 
     gift_there : (v h i : ℕ) (s : Vat N) → v ≡ E.vat.number → Causes K E s → Ends K E s (λ g t. IsThere h i g) (arrive.gift_there K v h c i s)
     unfolding arrive.gift_there ◌>>=◌ ◌>>◌
@@ -195,12 +195,12 @@ module _ {N W : Type 0} (K : Naming N W) (E : Start N W) where
       where
         either : (b : Bool) → (c == v) ≡ b → Ends K E s (λ g t. IsThere h i g) ((if b then arrive.have_gift K h i else (come K (IsGift c i) c >>= (λ g. send_out c (Ask h i g) >> give g))) s)
         either true f = ends_more K E s (arrive.have_gift K h i s) (λ g t. IsGiftOf K E h i g) (λ g t. IsThere h i g) (gift_had h i s d) (λ g t l j. inr (eqb-true c v f ∙ e, j))
-        either false f = ends_then K E s (come K (IsGift c i) c s) _ (λ g t. (k : ℕ) × (g ≡ K.made (IsGift c i) k)) _ (comes K E (IsGift c i) c s d) (λ g t l a k.
+        either false f = ends_then K E s (come K (IsGift c i) c s) _ (λ g t. IsNew K E (IsGift c i) g) _ (comes K E (IsGift c i) c s d) (λ g t l a k.
             ends_then K E t (send_out c (Ask h i g) t) _ (Any K E) _ ((steady_out K E c (Ask h i g)).after t a) (λ b u j z q. gives_itself g (λ m w. IsThere h i m) u z (inl k)))
 
     viewed_by : (n g : N) (h i : ℕ) → IsNamed K E x n → IsThere h (under h i) g → ViewsBy K E E.step n g
-    viewed_by n g h i j (inl k) = subst (λ z. ViewsBy K E z n g) (sym is) (h, i, k.0, j, inl k.1)
-    viewed_by n g h i j (inr k) = subst (λ z. ViewsBy K E z n g) (sym is) (h, i, zero, j, inr k)
+    viewed_by n g h i j (inl k) = subst (λ z. ViewsBy K E z n g) (sym is) (h, i, j, inl k)
+    viewed_by n g h i j (inr k) = subst (λ z. ViewsBy K E z n g) (sym is) (h, i, j, inr k)
 
     sees : (n g : N) (h i : ℕ) (s : Vat N) → Causes K E s → IsNamed K E x n → IsThere h (under h i) g → Ends K E s (Any K E) (arrive.see K n g s)
     unfolding arrive.see ◌>>◌ and_then tell alter

@@ -1,5 +1,5 @@
 -- What is kept of a vat in a step, so that each settling, wait and view has its cause before it.
-use Rattle.std.proofs.Common.{◌≡◌, ℕ, Bool, true, false, List, [], ◌∷◌, ◌++◌, Option, Some, None, ◌==◌, refl, sym, ap, ◌∙◌, subst, length, ◌⊎◌, inl, inr}
+use Rattle.std.proofs.Common.{◌≡◌, ◌≤◌, arith, ℕ, suc, Bool, true, false, List, [], ◌∷◌, ◌++◌, Option, Some, None, ◌==◌, refl, sym, ap, ◌∙◌, subst, length, ◌⊎◌, inl, inr}
 use Rattle.std.specs.Prelude.{codes, nat_le}
 use Rattle.def_machine.specs.Values.{Words, Value, Prim, Broken, Items, Naming, Coming, Mailing}
 use Rattle.std.proofs.lemmas.Bool.{eqb-true}
@@ -9,10 +9,11 @@ use Rattle.law_machine.specs.Steps.{Step, Opens, Takes, Receives, Notices}
 use Rattle.law_machine.proofs.Walks.{Property, Holds, IsClosed}
 use Rattle.law_connected.specs.Known.{IsAmong, AllOf, Start, Leads, settled, viewed, settles, views, Reaches, itself, onward}
 use Rattle.law_connected.proofs.Knowing.{among_more, reaches_more, thing_more}
+use Rattle.law_connected.proofs.Rising.{length_end}
 use Rattle.law_connected.proofs.Idle.{joined, no_more}
 use Rattle.law_connected.proofs.Passing.{all_map, all_end}
 use Rattle.law_connected.proofs.Traces.{Told, among_last, traces_tell, traces_hold, traces_wait, traces_wait_on, traces_react, traces_to_tell, traces_come, traces_promise, traces_message, traces_viewed, traces_give}
-use Rattle.law_connected.specs.Settlings.{IsGiftOf, HasAnswer, sent, held, came, IsResolver, IsHanded, WaitsFor, IsNoticed, Follows, IsGiven, gave, threw, resolved, smashed, waited, said, lost, Says, IsLearntAs, AreLearntAs, Becomes, SettlesWell, ViewsBy, IsCaused}
+use Rattle.law_connected.specs.Settlings.{IsNew, IsGiftOf, HasAnswer, sent, held, came, IsResolver, IsHanded, WaitsFor, IsNoticed, Follows, IsGiven, gave, threw, resolved, smashed, waited, said, lost, Says, IsLearntAs, AreLearntAs, Becomes, SettlesWell, ViewsBy, IsCaused}
 
 module _ {N W : Type 0} (K : Naming N W) (E : Start N W) where
   -- lines that come after these, each with its cause
@@ -35,7 +36,7 @@ module _ {N W : Type 0} (K : Naming N W) (E : Start N W) where
     pub has_more : (i p : N) (x : Value N) → HasAnswer K E so i p x → HasAnswer K E (so ++ more) i p x
     has_more i p x (sent a m h e) = sent a m (among_more _ so more h) e
     has_more i p x (held k m h j e) = held k m h j e
-    has_more i p x (came from d y verb ys i' n k e f g) = came from d y verb ys i' n k e f g
+    has_more i p x (came from d y verb ys i' n e f g h) = came from d y verb ys i' n e f g h
 
     pub follows_more : (x y : Value N) → Follows K E so x y → Follows K E (so ++ more) x y
     follows_more x y (inl r) = inl (reaches_more K E.vat.known so more x y r)
@@ -45,9 +46,9 @@ module _ {N W : Type 0} (K : Naming N W) (E : Start N W) where
     resolver_more i p (inl e) = inl e
     resolver_more i p (inr h) = inr (h.0, h.1, among_more _ so more h.2, h.3)
 
-    pub handed_more : (i : ℕ) (v : Value N) → IsHanded K E so i v → IsHanded K E (so ++ more) i v
-    handed_more i v (inl h) = inl (h.0, h.1, h.2, among_more _ so more h.3, thing_more K E.vat.known so more h.1 i h.4)
-    handed_more i v (inr h) = inr (h.0, h.1, among_more _ so more h.2, h.3, thing_more K E.vat.known so more h.1.target i h.4)
+    pub handed_more : (i : ℕ) (name : Words) (v : Value N) → IsHanded K E so i name v → IsHanded K E (so ++ more) i name v
+    handed_more i name v (inl h) = inl (h.0, h.1, h.2, among_more _ so more h.3, h.4, thing_more K E.vat.known so more h.1 i h.5)
+    handed_more i name v (inr h) = inr (h.0, h.1, among_more _ so more h.2, h.3, h.4, thing_more K E.vat.known so more h.1.target i h.5)
 
     mutual
       pub learnt_more : (y : Passed (Incoming N W)) (v : Value N) → IsLearntAs K E so y v → IsLearntAs K E (so ++ more) y v
@@ -80,8 +81,8 @@ module _ {N W : Type 0} (K : Naming N W) (E : Start N W) where
     pub given_more : (p : N) (x : Value N) → IsGiven K E so p x → IsGiven K E (so ++ more) p x
     given_more p x (gave a h o) = gave a (among_more _ so more h) o
     given_more p x (threw a h o) = threw a (among_more _ so more h) o
-    given_more p x (resolved i r h) = resolved i (resolver_more i p r) (handed_more i x h)
-    given_more p x (smashed i v r h f) = smashed i v (resolver_more i p r) (handed_more i v h) (follows_more v _ f)
+    given_more p x (resolved i r h) = resolved i (resolver_more i p r) (handed_more i (codes "resolve") x h)
+    given_more p x (smashed i v r h f) = smashed i v (resolver_more i p r) (handed_more i (codes "smash") v h) (follows_more v _ f)
     given_more p x (waited q h w) = waited q (among_more _ so more h) (waits_more p q w)
     given_more p x (said h) = said (says_more E.step p x h)
     given_more p x (lost i y h l f) = lost i y (has_more i p y h) (among_more _ so more l) (follows_more y _ f)
@@ -138,6 +139,9 @@ module _ {N W : Type 0} (K : Naming N W) (E : Start N W) where
     pub gifts : AllOf GiftTold s.gifts
     pub noticed : (w : ℕ) → is_in w s.noticed ≡ true → IsNoticed K E w
     pub number : s.number ≡ E.vat.number
+    -- how many names and messages there were
+    pub names : length E.vat.known ≤ length s.known
+    pub mails : length E.vat.mails ≤ length s.mails
 
   wait_more : (so more : List (Happened N)) (q p : N) → WaitTold so q p → WaitTold (so ++ more) q p
   wait_more so more q p (inl h) = inl h
@@ -155,7 +159,7 @@ module _ {N W : Type 0} (K : Naming N W) (E : Start N W) where
 
   -- what names, gifts and notices are the same
   abbrev pub SameNames : Vat N → Vat N → Type 0
-  SameNames s t = (t.known ≡ s.known) × (t.gifts ≡ s.gifts) × (t.noticed ≡ s.noticed) × (t.number ≡ s.number)
+  SameNames s t = (t.known ≡ s.known) × (t.gifts ≡ s.gifts) × (t.noticed ≡ s.noticed) × (t.number ≡ s.number) × (t.mails ≡ s.mails)
 
   pub causes_same : (s t : Vat N) → t.happened ≡ s.happened → SameNames s t → Causes s → Causes t
   causes_same s t e n c = record {
@@ -165,6 +169,8 @@ module _ {N W : Type 0} (K : Naming N W) (E : Start N W) where
     gifts = rw n.1 c.gifts;
     noticed = λ w h. c.noticed w (subst (λ ws. is_in w ws ≡ true) n.2 h);
     number = n.3 ∙ c.number;
+    names = rw n.0 c.names;
+    mails = rw n.4 c.mails;
   }
 
   -- one more line, with its cause
@@ -180,6 +186,8 @@ module _ {N W : Type 0} (K : Naming N W) (E : Start N W) where
     gifts = c.gifts;
     noticed = c.noticed;
     number = c.number;
+    names = c.names;
+    mails = c.mails;
   }
 
   pub causes_block : (s t : Vat N) (e : Happened N) → t.happened ≡ s.happened ++ e ∷ [] → SameNames s t → IsCaused K E s.happened e → Causes s → Causes t
@@ -243,7 +251,7 @@ module _ {N W : Type 0} (K : Naming N W) (E : Start N W) where
 
   pub steady_give : {A : Type 0} (a : A) → Steady (give a)
   unfolding give
-  steady_give a = record { after = λ s c. (no_further s.happened, causes_same s _ refl (refl, refl, refl, refl) c, tt) }
+  steady_give a = record { after = λ s c. (no_further s.happened, causes_same s _ refl (refl, refl, refl, refl, refl) c, tt) }
 
   pub steady_stop : {A : Type 0} (r : Stop) → Steady (stop {A = A} r)
   unfolding stop
@@ -251,7 +259,7 @@ module _ {N W : Type 0} (K : Naming N W) (E : Start N W) where
 
   pub steady_look : {A : Type 0} (f : Vat N → A) → Steady (look f)
   unfolding look
-  steady_look f = record { after = λ s c. (no_further s.happened, causes_same s _ refl (refl, refl, refl, refl) c, tt) }
+  steady_look f = record { after = λ s c. (no_further s.happened, causes_same s _ refl (refl, refl, refl, refl, refl) c, tt) }
 
   pub steady_closed : IsClosed SteadyBy
   steady_closed = record { gives = steady_give; stops = steady_stop; looks = steady_look; binds = steady_bind }
@@ -264,7 +272,7 @@ module _ {N W : Type 0} (K : Naming N W) (E : Start N W) where
 
   spend_ends : (s : Vat N) (n : ℕ) (b : Bool) → Causes s → Ends s Any (spent n b s)
   unfolding spent
-  spend_ends s n true c = (no_further s.happened, causes_same s _ refl (refl, refl, refl, refl) c, tt)
+  spend_ends s n true c = (no_further s.happened, causes_same s _ refl (refl, refl, refl, refl, refl) c, tt)
   spend_ends s n false c = (no_further s.happened, c)
 
   pub steady_spend : (n : ℕ) → Steady (spend n)
@@ -273,24 +281,30 @@ module _ {N W : Type 0} (K : Naming N W) (E : Start N W) where
 
   pub steady_enqueue : (m : Message N) → Steady (enqueue m)
   unfolding enqueue
-  steady_enqueue m = record { after = λ s c. (no_further s.happened, causes_same s _ refl (refl, refl, refl, refl) c, tt) }
+  steady_enqueue m = record { after = λ s c. (no_further s.happened, causes_same s _ refl (refl, refl, refl, refl, refl) c, tt) }
 
   pub steady_out : (to : ℕ) (n : Note N) → Steady (send_out to n)
   unfolding send_out
-  steady_out to n = record { after = λ s c. (no_further s.happened, causes_same s _ refl (refl, refl, refl, refl) c, tt) }
+  steady_out to n = record { after = λ s c. (no_further s.happened, causes_same s _ refl (refl, refl, refl, refl, refl) c, tt) }
 
   draws_ends : (s : Vat N) (w : ℕ) (o : Option ℕ) → Causes s → Ends s Any (draws w o s)
   unfolding draws
   draws_ends s w (Some i) c = (no_further s.happened, c)
-  draws_ends s w None c = (no_further s.happened, causes_same s _ refl (refl, refl, refl, refl) c, tt)
+  draws_ends s w None c = (no_further s.happened, causes_same s _ refl (refl, refl, refl, refl, refl) c, tt)
 
   pub steady_draw : Steady (draw K)
   unfolding draw
   steady_draw = record { after = λ s c. draws_ends s _ _ c }
 
+  count_end : {A : Type 0} (n : ℕ) (xs : List A) (x : A) → n ≤ length xs → n ≤ length (xs ++ x ∷ [])
+  count_end n xs x h = let e = length_end xs x in omega arith
+
+  more_mails : (s : Vat N) (m : N) → Causes s → Causes (record s { mails = s.mails ++ m ∷ [] })
+  more_mails s m c = record { told = c.told; lines = c.lines; entries = c.entries; gifts = c.gifts; noticed = c.noticed; number = c.number; names = c.names; mails = count_end (length E.vat.mails) s.mails m c.mails }
+
   pub steady_mail : (w : Mailing W) → Steady (mail K w)
   unfolding mail
-  steady_mail w = record { after = λ s c. (no_further s.happened, causes_same s _ refl (refl, refl, refl, refl) c, tt) }
+  steady_mail w = record { after = λ s c. (no_further s.happened, more_mails s _ c, tt) }
 
   -- ---- names that come to be known
 
@@ -298,35 +312,37 @@ module _ {N W : Type 0} (K : Naming N W) (E : Start N W) where
   unfolding begun
   begun_told so a w = (tt, tt)
 
-  come_causes : (s t : Vat N) (a : N) (w : ℕ) → t.happened ≡ s.happened → t.known ≡ s.known ++ begun a w ∷ [] → t.gifts ≡ s.gifts → t.noticed ≡ s.noticed → t.number ≡ s.number → Told K E.vat.known t → Causes s → Causes t
-  come_causes s t a w e f g h i r c = record {
+  come_causes : (s t : Vat N) (a : N) (w : ℕ) → t.happened ≡ s.happened → t.known ≡ s.known ++ begun a w ∷ [] → t.gifts ≡ s.gifts → t.noticed ≡ s.noticed → t.number ≡ s.number → length E.vat.mails ≤ length t.mails → Told K E.vat.known t → Causes s → Causes t
+  come_causes s t a w e f g h i m r c = record {
     told = r;
     lines = subst (CausedAfter []) (sym e) c.lines;
     entries = rw (e, f) (all_end (EntryTold s.happened) s.known (begun a w) c.entries (begun_told s.happened a w));
     gifts = rw g c.gifts;
     noticed = λ v k. c.noticed v (subst (λ ws. is_in v ws ≡ true) h k);
     number = i ∙ c.number;
+    names = rw f (count_end (length E.vat.known) s.known (begun a w) c.names);
+    mails = m;
   }
 
-  pub comes : (c : Coming N W) (w : ℕ) (s : Vat N) → Causes s → Ends s (λ n t. (k : ℕ) × (n ≡ K.made c k)) (come K c w s)
+  pub comes : (c : Coming N W) (w : ℕ) (s : Vat N) → Causes s → Ends s (λ n t. IsNew K E c n) (come K c w s)
   unfolding come
-  comes c w s h = (no_further s.happened, come_causes s _ _ w refl refl refl refl refl ((traces_come K E.vat.known c w).after s h.told) h, (length s.known, refl))
+  comes c w s h = (no_further s.happened, come_causes s _ _ w refl refl refl refl refl h.mails ((traces_come K E.vat.known c w).after s h.told) h, (length s.known, h.names, refl))
 
   pub steady_come : (c : Coming N W) (w : ℕ) → Steady (come K c w)
   unfolding come
-  steady_come c w = record { after = λ s h. (no_further s.happened, come_causes s _ _ w refl refl refl refl refl ((traces_come K E.vat.known c w).after s h.told) h, tt) }
+  steady_come c w = record { after = λ s h. (no_further s.happened, come_causes s _ _ w refl refl refl refl refl h.mails ((traces_come K E.vat.known c w).after s h.told) h, tt) }
 
   pub steady_promise : Steady (new_promise K)
   unfolding new_promise
-  steady_promise = record { after = λ s h. (no_further s.happened, come_causes s _ _ s.number refl refl refl refl refl ((traces_promise K E.vat.known).after s h.told) h, tt) }
+  steady_promise = record { after = λ s h. (no_further s.happened, come_causes s _ _ s.number refl refl refl refl refl h.mails ((traces_promise K E.vat.known).after s h.told) h, tt) }
 
   pub steady_message : (w : ℕ) → Steady (new_message K w)
   unfolding new_message
-  steady_message w = record { after = λ s h. (no_further s.happened, come_causes s _ _ w refl refl refl refl refl ((traces_message K E.vat.known w).after s h.told) h, tt) }
+  steady_message w = record { after = λ s h. (no_further s.happened, come_causes s _ _ w refl refl refl refl refl (count_end (length E.vat.mails) s.mails _ h.mails) ((traces_message K E.vat.known w).after s h.told) h, tt) }
 
   pub steady_lone_message : Steady (new_lone_message K)
   unfolding new_lone_message
-  steady_lone_message = record { after = λ s c. (no_further s.happened, causes_same s _ refl (refl, refl, refl, refl) c, tt) }
+  steady_lone_message = record { after = λ s c. (no_further s.happened, causes_same (record s { mails = s.mails ++ _ ∷ [] }) _ refl (refl, refl, refl, refl, refl) (more_mails s _ c), tt) }
 
   -- ---- changes of what is known of a name
 
@@ -351,8 +367,17 @@ module _ {N W : Type 0} (K : Naming N W) (E : Start N W) where
   changes_told so n c f [] h = tt
   changes_told so n c f (k ∷ ks) h = either_told so n c k ks (K.same k.name n) refl f h.0 h.1 (changes_told so n c f ks h.1)
 
+  change_count : (c : Change N) (n : N) (ks : List (Known N)) → length (with_change K c n ks) ≡ length ks
+  unfolding with_change
+  change_count c n [] = refl
+  change_count c n (k ∷ ks) = either (K.same k.name n) (change_count c n ks)
+    where
+      either : (b : Bool) → length (with_change K c n ks) ≡ length ks → length {A = Known N} (elim b [ true ↦ changed c k ∷ ks | false ↦ k ∷ with_change K c n ks ]) ≡ suc (length ks)
+      either true e = refl
+      either false e = ap suc e
+
   pub alter_causes : (s : Vat N) (n : N) (c : Change N) → Suits s.happened n c → Told K E.vat.known (record s { known = with_change K c n s.known }) → Causes s → Causes (record s { known = with_change K c n s.known })
-  alter_causes s n c f r h = record { told = r; lines = h.lines; entries = changes_told s.happened n c f s.known h.entries; gifts = h.gifts; noticed = h.noticed; number = h.number }
+  alter_causes s n c f r h = record { told = r; lines = h.lines; entries = changes_told s.happened n c f s.known h.entries; gifts = h.gifts; noticed = h.noticed; number = h.number; names = subst (λ k. length E.vat.known ≤ k) (sym (change_count c n s.known)) h.names; mails = h.mails }
 
   pub holds : (m : Message N) (n : N) (s : Vat N) → Causes s → MessageTold s.happened m → Ends s Any (alter K (Hold m) n s)
   unfolding alter changed_to
@@ -376,7 +401,7 @@ module _ {N W : Type 0} (K : Naming N W) (E : Start N W) where
 
   pub new_gift_well : (n : N) (p i : ℕ) (s : Vat N) → Causes s → IsGiftOf K E p i n → Ends s Any (new_gift n p i s)
   unfolding new_gift
-  new_gift_well n p i s c g = (no_further s.happened, record { told = c.told; lines = c.lines; entries = c.entries; gifts = all_end GiftTold s.gifts _ c.gifts g; noticed = c.noticed; number = c.number }, tt)
+  new_gift_well n p i s c g = (no_further s.happened, record { told = c.told; lines = c.lines; entries = c.entries; gifts = all_end GiftTold s.gifts _ c.gifts g; noticed = c.noticed; number = c.number; names = c.names; mails = c.mails }, tt)
 
   opened_told : (p i : ℕ) (gs : List (GiftEntry N)) → AllOf GiftTold gs → AllOf GiftTold (with_opened p i gs)
   unfolding with_opened
@@ -389,7 +414,7 @@ module _ {N W : Type 0} (K : Naming N W) (E : Start N W) where
 
   pub steady_open : (p i : ℕ) → Steady (open_gift p i)
   unfolding open_gift
-  steady_open p i = record { after = λ s c. (no_further s.happened, record { told = c.told; lines = c.lines; entries = c.entries; gifts = opened_told p i s.gifts c.gifts; noticed = c.noticed; number = c.number }, tt) }
+  steady_open p i = record { after = λ s c. (no_further s.happened, record { told = c.told; lines = c.lines; entries = c.entries; gifts = opened_told p i s.gifts c.gifts; noticed = c.noticed; number = c.number; names = c.names; mails = c.mails }, tt) }
 
   marked : (v w : ℕ) (ws : List ℕ) → is_in v (ws ++ w ∷ []) ≡ true → (is_in v ws ≡ true) ⊎ (v ≡ w)
   unfolding is_in
@@ -406,7 +431,7 @@ module _ {N W : Type 0} (K : Naming N W) (E : Start N W) where
 
   pub marks : (w : ℕ) → E.step ≡ Notices w → (s : Vat N) → Causes s → Ends s (λ a t. t.known ≡ s.known) (mark w s)
   unfolding mark
-  marks w e s c = (no_further s.happened, record { told = c.told; lines = c.lines; entries = c.entries; gifts = c.gifts; noticed = λ v h. either v (marked v w s.noticed h); number = c.number }, refl)
+  marks w e s c = (no_further s.happened, record { told = c.told; lines = c.lines; entries = c.entries; gifts = c.gifts; noticed = λ v h. either v (marked v w s.noticed h); number = c.number; names = c.names; mails = c.mails }, refl)
     where
       either : (v : ℕ) → (is_in v s.noticed ≡ true) ⊎ (v ≡ w) → IsNoticed K E v
       either v (inl h) = c.noticed v h
@@ -420,4 +445,4 @@ module _ {N W : Type 0} (K : Naming N W) (E : Start N W) where
 
   pub lists_come : (vs : List (Value N)) (s : Vat N) → Causes s → Ends s (λ v t. (k : ℕ) × (v ≡ Items k) × IsAmong (ListCame k vs) t.happened) (make_list K vs s)
   unfolding make_list new_list tell ◌>>=◌ ◌>>◌ and_then give
-  lists_come vs s c = let k = length s.lists in let e : Happened N = ListCame k vs in ((e ∷ [], refl), causes_block s _ e refl (refl, refl, refl, refl) tt c, (k, refl, among_last s.happened e))
+  lists_come vs s c = let k = length s.lists in let e : Happened N = ListCame k vs in ((e ∷ [], refl), causes_block s _ e refl (refl, refl, refl, refl, refl) tt c, (k, refl, among_last s.happened e))

@@ -1,6 +1,6 @@
 -- What an activation does from a connected history, under facts on what it knows, ends in a connected history with facts on what it gives.
 use Rattle.std.proofs.Common.{◌≡◌, ℕ, zero, suc, ◌-◌, ◌⊎◌, inl, inr, Bool, true, false, List, [], ◌∷◌, ◌++◌, Option, Some, None, if◌then◌else◌, refl, sym, ap, ◌∙◌, subst, length, map}
-use Rattle.std.specs.Prelude.{slice_get, nat_le}
+use Rattle.std.specs.Prelude.{slice_get, nat_le, codes}
 use Rattle.def_machine.specs.Values.{Words, Value, Null, Prim, Items, Naming}
 use Rattle.def_machine.specs.State.{Bound, Fixed, Slot, Binding, Scope, Cell, View, Thing, Made, Ejector, Audition, Resolver, Happened, Called, SlotMade, SlotRead, SlotWrote, ListMade, EjectorMade, Vat, Stop, Done, Gives, Throws, Ejects, Stops, Act, ◌>>=◌, ◌>>◌, and_then, for_some, end_by, ending, give, throw, stop, eject, look, tell, spend, spent, new_thing, kill, change, dead, new_slot, holding, write_slot, new_list}
 use Rattle.def_machine.specs.Refs.{Place}
@@ -71,7 +71,7 @@ pub data Fact (N : Type 0) : Type 0 where
   IsLine : Happened N → Fact N
   -- what bears that number is the resolver of that promise, and what it was handed
   ResolverOf : ℕ → N → Fact N
-  HandedTo : ℕ → Value N → Fact N
+  HandedTo : ℕ → Words → Value N → Fact N
   MayAsk : ℕ → ResolverAsk N → Fact N
   -- a name is given that value, and may settle to it
   GivenTo : N → Value N → Fact N
@@ -210,8 +210,8 @@ module _ {N W : Type 0} (K : Naming N W) (E : Ground N W) (a : ℕ) where
   ThingThere s i (Resolver p) = IsResolver K E.start s.happened i p
 
   abbrev pub AskHas : Vat N → ℕ → ResolverAsk N → Type 0
-  AskHas s i (Resolves v) = IsHanded K E.start s.happened i v
-  AskHas s i (Smashes v) = IsHanded K E.start s.happened i v
+  AskHas s i (Resolves v) = IsHanded K E.start s.happened i (codes "resolve") v
+  AskHas s i (Smashes v) = IsHanded K E.start s.happened i (codes "smash") v
   AskHas s i NoResolverAsk = Unit {0}
 
   abbrev pub Holds : Vat N → Fact N → Type 0
@@ -244,7 +244,7 @@ module _ {N W : Type 0} (K : Naming N W) (E : Ground N W) (a : ℕ) where
   Holds s (IsPlaced y p) = PlacedAt K E.start y p
   Holds s (IsLine e) = IsAmong e s.happened
   Holds s (ResolverOf i p) = IsResolver K E.start s.happened i p
-  Holds s (HandedTo i v) = IsHanded K E.start s.happened i v
+  Holds s (HandedTo i name v) = IsHanded K E.start s.happened i name v
   Holds s (MayAsk i q) = AskHas s i q
   Holds s (GivenTo p x) = IsGiven K E.start s.happened p x
   Holds s (MaySettle p y) = SettlesWell K E.start s.happened p y
@@ -336,12 +336,12 @@ module _ {N W : Type 0} (K : Naming N W) (E : Ground N W) (a : ℕ) where
     told_up : (F : List (Happened N) → Type 0) → ((so more : List (Happened N)) → F so → F (so ++ more)) → F s.happened → F t.happened
     told_up F f h = subst F (sym g.lines) (f s.happened g.more h)
 
-    handed_to_up : (i : ℕ) (v : Value N) → IsHanded K E.start s.happened i v → IsHanded K E.start t.happened i v
-    handed_to_up i v h = told_up (λ so. IsHanded K E.start so i v) (λ so more k. handed_more K E.start so more i v k) h
+    handed_to_up : (i : ℕ) (name : Words) (v : Value N) → IsHanded K E.start s.happened i name v → IsHanded K E.start t.happened i name v
+    handed_to_up i name v h = told_up (λ so. IsHanded K E.start so i name v) (λ so more k. handed_more K E.start so more i name v k) h
 
     ask_has_up : (i : ℕ) (q : ResolverAsk N) → AskHas s i q → AskHas t i q
-    ask_has_up i (Resolves v) h = handed_to_up i v h
-    ask_has_up i (Smashes v) h = handed_to_up i v h
+    ask_has_up i (Resolves v) h = handed_to_up i (codes "resolve") v h
+    ask_has_up i (Smashes v) h = handed_to_up i (codes "smash") v h
     ask_has_up i NoResolverAsk h = tt
 
     leads_up : (x y : Value N) → Follows K E.start s.happened x y → Follows K E.start t.happened x y
@@ -377,7 +377,7 @@ module _ {N W : Type 0} (K : Naming N W) (E : Ground N W) (a : ℕ) where
     holds_up (IsPlaced y p) e h = h
     holds_up (IsLine l) e h = among_up K E s t g l h
     holds_up (ResolverOf i p) e h = resolver_up K E s t g i p h
-    holds_up (HandedTo i v) e h = handed_to_up i v h
+    holds_up (HandedTo i name v) e h = handed_to_up i name v h
     holds_up (MayAsk i q) e h = ask_has_up i q h
     holds_up (GivenTo p x) e h = told_up (λ so. IsGiven K E.start so p x) (λ so more k. given_more K E.start so more p x k) h
     holds_up (MaySettle p y) e h = told_up (λ so. SettlesWell K E.start so p y) (λ so more k. settles_more K E.start so more p y k) h
@@ -412,7 +412,7 @@ module _ {N W : Type 0} (K : Naming N W) (E : Ground N W) (a : ℕ) where
   all_keep s t e (IsPlaced y p) = tt
   all_keep s t e (IsLine l) = tt
   all_keep s t e (ResolverOf i p) = tt
-  all_keep s t e (HandedTo i v) = tt
+  all_keep s t e (HandedTo i name v) = tt
   all_keep s t e (MayAsk i q) = tt
   all_keep s t e (GivenTo p x) = tt
   all_keep s t e (MaySettle p y) = tt
@@ -565,7 +565,7 @@ module _ {N W : Type 0} (K : Naming N W) (E : Ground N W) (a : ℕ) where
 
   spend_ends : (s : Vat N) (n : ℕ) (b : Bool) → Good K E s → Ends nothing s (spent n b s)
   unfolding spent
-  spend_ends s n true h = ((grows_by K E s (record s { fuel = s.fuel - n }) refl (grows_same K E s).grown, refl), good_by K E s (record s { fuel = s.fuel - n }) refl (refl, refl, refl, refl) (grows_same K E s).grown (makes_none K E s (record s { fuel = s.fuel - n }) refl refl) refl h, tt)
+  spend_ends s n true h = ((grows_by K E s (record s { fuel = s.fuel - n }) refl (grows_same K E s).grown, refl), good_by K E s (record s { fuel = s.fuel - n }) refl (refl, refl, refl, refl, refl) (grows_same K E s).grown (makes_none K E s (record s { fuel = s.fuel - n }) refl refl) refl h, tt)
   spend_ends s n false h = h
 
   pub fine_spend : {C : Fact N} (n : ℕ) → Fine C (spend n) nothing
@@ -616,7 +616,7 @@ module _ {N W : Type 0} (K : Naming N W) (E : Ground N W) (a : ℕ) where
     after = λ s g c. let n = length s.things in let u : Vat N = record s { things = s.things ++ x ∷ [] } in let t : Vat N = with_line u (e n) in
         let r : Grows K E s t = grows_trans K E s u t (grows_thing s x) (grows_line K E u (e n)) in
         let p : Passes s t = (r, opens_last u (e n) ∙ o u n) in
-        let good : Good K E t = good_block K E s t (e n) refl (refl, refl, refl, refl) (cz s.happened n) (grown_thing s x) (l u n) (rd s.happened n)
+        let good : Good K E t = good_block K E s t (e n) refl (refl, refl, refl, refl, refl) (cz s.happened n) (grown_thing s x) (l u n) (rd s.happened n)
         (λ i view q. inl (old_thing s.things x (Audition true view) i (no_audition x view inert) (get_or_last s.things x (Audition true view) i q)))
         (λ i p q. new_resolver s x (e n) (rt s.happened n) i p (get_or_last s.things x (Resolver p) i q))
         (λ i node caught stamps q. inl (old_thing s.things x (Made node caught stamps) i (no_object x node caught stamps inert) (get_or_last s.things x (Made node caught stamps) i q)))
@@ -642,7 +642,7 @@ module _ {N W : Type 0} (K : Naming N W) (E : Ground N W) (a : ℕ) where
 
   pub fine_kill : {C : Fact N} (n : ℕ) → Fine C (kill n) nothing
   unfolding kill
-  fine_kill n = record { after = λ s h c. let t : Vat N = record s { things = change dead n s.things } in ((grows_by K E s t refl (grown_dead s n), refl), good_by K E s t refl (refl, refl, refl, refl) (grown_dead s n) (record { auditions = λ i view e. dead_auditions s.things n i view e; resolvers = λ i p e. dead_resolvers s.things n i p e; objects = λ i node caught stamps e. were_objects s.things n i node caught stamps e; cells = λ k c e. e; things = dead_length s.things n; slots = refl }) refl h, tt) }
+  fine_kill n = record { after = λ s h c. let t : Vat N = record s { things = change dead n s.things } in ((grows_by K E s t refl (grown_dead s n), refl), good_by K E s t refl (refl, refl, refl, refl, refl) (grown_dead s n) (record { auditions = λ i view e. dead_auditions s.things n i view e; resolvers = λ i p e. dead_resolvers s.things n i p e; objects = λ i node caught stamps e. were_objects s.things n i node caught stamps e; cells = λ k c e. e; things = dead_length s.things n; slots = refl }) refl h, tt) }
 
   grown_slot : (s : Vat N) (c : Cell N) → laws.Grown (held K E s) (held K E (record s { slots = s.slots ++ c ∷ [] }))
   grown_slot s x = record { objects = λ i node caught stamps e. e; lists = λ k vs e. e; guards = λ k c e. (c, get_append s.slots (x ∷ []) k c e, refl); before = refl; given = refl }
@@ -663,7 +663,7 @@ module _ {N W : Type 0} (K : Naming N W) (E : Ground N W) (a : ℕ) where
         let w : Grows K E s u = grows_by K E s u refl (grown_slot s x) in
         let r : Grows K E s t = grows_trans K E s u t w (grows_line K E u e) in
         let p : Passes s t = (r, opens_last u e) in
-        let good : Good K E t = good_block K E s t e refl (refl, refl, refl, refl) tt (grown_slot s x) ((inl (has_up K E s u w a (AValue v) (j.at s c)), tt), (x, get_end s.slots x, has_up K E s u w a (AValue g) (i.at s c)))
+        let good : Good K E t = good_block K E s t e refl (refl, refl, refl, refl, refl) tt (grown_slot s x) ((inl (has_up K E s u w a (AValue v) (j.at s c)), tt), (x, get_end s.slots x, has_up K E s u w a (AValue g) (i.at s c)))
         tt (λ n view f. inl f) (λ n p f. inl f) (λ n node caught stamps f. inl f) (λ n y f. slot_told s v g n y (get_or_last s.slots x y n f))
         (rises_line (thing_made K) (length E.things) (length s.things) s.happened e refl)
         (λ y. subst (λ m. Rises (length E.slots) (map slot_made (s.happened ++ e ∷ [])) m) (sym (length_end s.slots x)) (rises_new slot_made (length E.slots) k s.happened e refl y)) (rises_line list_made E.lists (length s.lists) s.happened e refl) q in
@@ -688,7 +688,7 @@ module _ {N W : Type 0} (K : Naming N W) (E : Ground N W) (a : ℕ) where
         let w : Grows K E s u = grows_by K E s u refl (grown_write s n v) in
         let r : Grows K E s t = grows_trans K E s u t w (grows_line K E u e) in
         let p : Passes s t = (r, opens_last u e) in
-        let good : Good K E t = good_block K E s t e refl (refl, refl, refl, refl) tt (grown_write s n v) ((inl (has_up K E s u w a (ASlot n) (i.at s c)), (inl (has_up K E s u w a (AValue v) (j.at s c)), tt)), tt)
+        let good : Good K E t = good_block K E s t e refl (refl, refl, refl, refl, refl) tt (grown_write s n v) ((inl (has_up K E s u w a (ASlot n) (i.at s c)), (inl (has_up K E s u w a (AValue v) (j.at s c)), tt)), tt)
         tt (λ l view f. inl f) (λ l p f. inl f) (λ l node caught stamps f. inl f) (λ l y f. write_told s n v l y (written_cells s.slots n l v y f))
         (rises_line (thing_made K) (length E.things) (length s.things) s.happened e refl)
         (λ y. subst (λ m. Rises (length E.slots) (map slot_made (s.happened ++ e ∷ [])) m) (sym (written_length s.slots n v)) (rises_line slot_made (length E.slots) (length s.slots) s.happened e refl y)) (rises_line list_made E.lists (length s.lists) s.happened e refl) q in
@@ -709,7 +709,7 @@ module _ {N W : Type 0} (K : Naming N W) (E : Ground N W) (a : ℕ) where
         let w : Grows K E s u = grows_by K E s u refl (grown_list s vs) in
         let r : Grows K E s t = grows_trans K E s u t w (grows_line K E u e) in
         let p : Passes s t = (r, opens_last u e) in
-        let good : Good K E t = good_block K E s t e refl (refl, refl, refl, refl) tt (grown_list s vs) (uses_values u [] vs (holds_up s u w (AreValues vs) tt (i.at s c)), tt)
+        let good : Good K E t = good_block K E s t e refl (refl, refl, refl, refl, refl) tt (grown_list s vs) (uses_values u [] vs (holds_up s u w (AreValues vs) tt (i.at s c)), tt)
         tt (λ n view f. inl f) (λ n p f. inl f) (λ n node caught stamps f. inl f) (λ n y f. inl f)
         (rises_line (thing_made K) (length E.things) (length s.things) s.happened e refl)
         (rises_line slot_made (length E.slots) (length s.slots) s.happened e refl)

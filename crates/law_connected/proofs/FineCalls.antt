@@ -1,6 +1,6 @@
 -- Evaluation, from a connected history, ends in a connected history: calls.
 use Rattle.std.proofs.Common.{◌≡◌, ℕ, zero, suc, Bool, true, false, List, [], ◌∷◌, ◌++◌, Option, Some, None, refl, sym, ap, ◌∙◌, subst, length, map, ◌⊎◌, inl, inr}
-use Rattle.std.specs.Prelude.{slice_get}
+use Rattle.std.specs.Prelude.{slice_get, codes}
 use Rattle.def_machine.specs.Values.{Words, Value, Null, Flag, Number, Letter, Text, Prim, Broken, Items, Ref, Naming, Spot, Own, Foreign, NoObject}
 use Rattle.def_machine.specs.State.{Bound, Fixed, Slot, Scope, Binding, Cell, View, Thing, Made, Ejector, Audition, Resolver, Standing, Unsettled, Happened, Called, AuditionMade, Vat, Done, Gives, Throws, Ejects, Stops, Act, ◌>>=◌, ◌>>◌, and_then, ending, give, throw, eject, look, tell, new_thing, new_activation}
 use Rattle.def_machine.specs.Refs.{Place, Near, follow, settle, resolve}
@@ -224,7 +224,7 @@ module _ {N W : Type 0} (K : Naming N W) (E : Ground N W) (spots : (i : ℕ) →
     after = λ s g c. let n = length s.things in let e : Happened N = AuditionMade a (K.object n) in let u : Vat N = record s { things = s.things ++ Audition true view ∷ [] } in let t : Vat N = with_line u e in
         let r : Grows K E s t = grows_trans K E s u t (grows_thing K E a s (Audition true view)) (grows_line K E u e) in
         let p : Passes K E a s t = (r, opens_last u e) in
-        let good : Good K E t = good_block K E s t e refl (refl, refl, refl, refl) tt r.grown (tt, tt) tt
+        let good : Good K E t = good_block K E s t e refl (refl, refl, refl, refl, refl) tt r.grown (tt, tt) tt
         (λ k w q. inr (new_judged a s view g r (judges_new a s view (i.at s c) r) k w (get_or_last s.things (Audition true view) (Audition true w) k q)))
         (λ k p q. inl (old_thing K E a s.things (Audition true view) (Resolver p) k (no_resolver view p) (get_or_last s.things (Audition true view) (Resolver p) k q)))
         (λ k node caught stamps q. inl (old_object view s.things k node caught stamps (get_or_last s.things (Audition true view) (Made node caught stamps) k q)))
@@ -331,7 +331,7 @@ module _ {N W : Type 0} (K : Naming N W) (E : Ground N W) (spots : (i : ℕ) →
   fine_where_unresolved {a = a} {C = C} _ m g_m = search (fine) depth 30
 
   -- the text of a problem, to which the argument leads
-  pub fine_smash : {a : ℕ} {C : Fact N} → (i : ℕ) (p : N) → Gets K E a C (ResolverOf i p) → (x : Value N) → Gets K E a C (HandedTo i x) → (v : Value N) → Gets K E a C (Leads x v) → Fine K E a C (calls.smash K tree p v) IsValue
+  pub fine_smash : {a : ℕ} {C : Fact N} → (i : ℕ) (p : N) → Gets K E a C (ResolverOf i p) → (x : Value N) → Gets K E a C (HandedTo i (codes "smash") x) → (v : Value N) → Gets K E a C (Leads x v) → Fine K E a C (calls.smash K tree p v) IsValue
   unfolding calls.smash
   fine_smash {a = a} {C = C} i p r x h (Text t) l = let d : Gets K E a C (MaySettle p (Broken t)) = record { at = λ s c. inl (Broken t, smashed i x (r.at s c) (h.at s c) (l.at s c), inl (inl at_itself)) } in
       bind_standing K E a (fine_look K E a _) (λ w. fine_where_unresolved w (settle K p (Broken t)) (fine_settle K E a p (Broken t) d))
@@ -428,7 +428,7 @@ module _ {N W : Type 0} (K : Naming N W) (E : Ground N W) (spots : (i : ℕ) →
         let w : Grows K E s t = grows_trans K E s r t z (grows_line K E r e) in
         let o : opens t ≡ record { caller = a; receiver = x; begun = Some b } ∷ opens s = opens_last r e in
         let here : Scope N = record { act = b; nouns = caught } in
-        let good_r : Good K E r = good_by K E s r refl (refl, refl, refl, refl) (grows_same K E s).grown (makes_none K E s r refl refl) refl q in
+        let good_r : Good K E r = good_by K E s r refl (refl, refl, refl, refl, refl) (grows_same K E s).grown (makes_none K E s r refl refl) refl q in
         let good_t : Good K E t = good_line K E r e refl refl refl tt good_r (called_well K E a r x verb args (Some b) (has_up K E s r z a (AValue x) (v.at s c)) (holds_up K E a s r z (AreValues args) tt (h.at s c))) tt in
         let runs : Runs K (held K E t) t.happened b i = called a x verb args (among_last r.happened e) (thing_up K E s t w x i (p.at s c)) in
         let nouns : AllOf (NounKnown K E b t) caught = nouns_from K E b t caught (λ k m. endowed i node caught stamps runs (g.at s c) m) in

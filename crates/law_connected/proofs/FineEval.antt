@@ -140,7 +140,7 @@ module _ {N W : Type 0} (K : Naming N W) (E : Ground N W) (spots : (i : ℕ) →
       LineWell K (held K E u) u.happened l → Good K E (with_line u l)
   unfolding tell
   object_good a node x caught stamps s g w = let u : Vat N = record s { things = s.things ++ Made node caught stamps ∷ [] } in let l : Happened N = ObjectMade a (K.object (length s.things)) x (map (λ b. b.bound) caught) stamps in
-      good_block K E s (with_line u l) l refl (refl, refl, refl, refl) tt (grows_thing K E a s (Made node caught stamps)).grown w tt
+      good_block K E s (with_line u l) l refl (refl, refl, refl, refl, refl) tt (grows_thing K E a s (Made node caught stamps)).grown w tt
       (λ i view q. inl (old_audition s.things i node caught stamps view (get_or_last s.things (Made node caught stamps) (Audition true view) i q)))
       (λ i p q. inl (old_thing K E a s.things (Made node caught stamps) (Resolver p) i (no_resolver node caught stamps p) (get_or_last s.things (Made node caught stamps) (Resolver p) i q)))
       (λ i m cs ys q. object_told a node x caught stamps s i m cs ys (get_or_last s.things (Made node caught stamps) (Made m cs ys) i q)) (λ i c q. inl q)

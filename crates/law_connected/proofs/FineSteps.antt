@@ -5,6 +5,7 @@ use Rattle.std.proofs.lemmas.Bool.{eq-eqb}
 use Rattle.def_machine.specs.Values.{Words, Value, Null, Flag, Number, Letter, Text, Prim, Broken, Items, Ref, Name, Naming, naming, numbering, spot_of, local_spot, Spot, Own, Foreign, NoObject}
 use Rattle.def_machine.specs.State.{Binding, Scope, Thing, Made, Ejector, Audition, Resolver, Message, Standing, Unsettled, WaitsOn, Viewed, Settled, Known, Happened, Took, Finished, Threw, Vat, Done, Gives, Throws, Ejects, Stops, Astray, Act, ◌>>=◌, ◌>>◌, and_then, end_by, ending, give, throw, stop, look, tell, new_activation, for_some}
 use Rattle.def_machine.specs.Refs.{standing_of, settle, resolve}
+use Rattle.def_machine.specs.Free.{same_words}
 use Rattle.def_machine.specs.Native.{asked, primitive}
 use Rattle.def_machine.specs.Scopes.{Evaluator, members_of, resolver_ask}
 use Rattle.def_machine.specs.Perform as perform
@@ -103,7 +104,7 @@ module _ {N W : Type 0} (K : Naming N W) (E : Ground N W) (spots : (i : ℕ) →
     not_live : (i : ℕ) (t : Thing N) → slice_get s.things i ≡ Some t → is_live t ≡ true → ⊥
     not_live i t e l = true_false (sym l ∙ sym (live_found s.things i t e) ∙ still i)
 
-    turn_thing_ends : (i : ℕ) (o : Option (Thing N)) → slice_get s.things i ≡ o → Runs K (held K E s) s.happened a i → ((v : Value N) → args ≡ v ∷ [] → IsHanded K E.start s.happened i v) → Ends K E a IsValue s (calls.turn_thing K tree rec a i o verb args s)
+    turn_thing_ends : (i : ℕ) (o : Option (Thing N)) → slice_get s.things i ≡ o → Runs K (held K E s) s.happened a i → ((name : Words) (v : Value N) → args ≡ v ∷ [] → same_words name verb ≡ true → IsHanded K E.start s.happened i name v) → Ends K E a IsValue s (calls.turn_thing K tree rec a i o verb args s)
     unfolding calls.turn_thing calls.thing_answer stop is_live
     turn_thing_ends i None e r h = g
     turn_thing_ends i (Some (Made node caught stamps)) e r h = let here : Scope N = record { act = a; nouns = caught } in
@@ -115,7 +116,7 @@ module _ {N W : Type 0} (K : Naming N W) (E : Ground N W) (spots : (i : ℕ) →
     turn_thing_ends i (Some (Audition false view)) e r h = (audition_dead K E spots tree {a = a} {C = Nothing} {H = IsValue} (calls.call K tree rec) a view _).after s g tt
     turn_thing_ends i (Some (Resolver p)) e r h = (fine_resolver_answer K E spots tree {C = Also (ResolverOf i p) (MayAsk i (resolver_ask verb args))} i p (record { at = λ s c. c.0 }) _ (record { at = λ s c. c.1 })).after s g (g.resolvers i p e, resolver_asked K E a s i verb args h)
 
-    turn_spot_ends : (p : Spot) → ((i : ℕ) → p ≡ Own i → Runs K (held K E s) s.happened a i) → ((i : ℕ) → p ≡ Own i → (v : Value N) → args ≡ v ∷ [] → IsHanded K E.start s.happened i v) → Ends K E a IsValue s (calls.turn_spot K tree rec a p verb args s)
+    turn_spot_ends : (p : Spot) → ((i : ℕ) → p ≡ Own i → Runs K (held K E s) s.happened a i) → ((i : ℕ) → p ≡ Own i → (name : Words) (v : Value N) → args ≡ v ∷ [] → same_words name verb ≡ true → IsHanded K E.start s.happened i name v) → Ends K E a IsValue s (calls.turn_spot K tree rec a p verb args s)
     unfolding calls.turn_spot look ◌>>=◌ and_then stop
     turn_spot_ends (Own i) r h = turn_thing_ends i (slice_get s.things i) refl (r i refl) (h i refl)
     turn_spot_ends (Foreign w) r h = g
@@ -124,7 +125,7 @@ module _ {N W : Type 0} (K : Naming N W) (E : Ground N W) (spots : (i : ℕ) →
     turn_data : (y : Value N) → Knew K E s a y → Ends K E a IsValue s (perform.data_answer K tree (calls.call K tree rec) a y verb args s)
     turn_data y k = (fine_data_answer K E spots tree {C = Also (IsValue y) (AreValues args)} (calls.call K tree rec) (λ D act i x h v xs j. fine_call K E spots tree {C = D} rec good act i x h v xs j) a act_itself y (record { at = λ s h. h.0 }) verb args (record { at = λ s h. h.1 })).after s g (k, has)
 
-    turn_ends : (y : Value N) → ((i : Item N) → IsAmong i (data_of y) → Has K E s a i) → ((n : N) (i : ℕ) → y ≡ Ref n → K.spot n ≡ Own i → Runs K (held K E s) s.happened a i) → ((n : N) (i : ℕ) → y ≡ Ref n → K.spot n ≡ Own i → (v : Value N) → args ≡ v ∷ [] → IsHanded K E.start s.happened i v) → Ends K E a IsValue s (calls.turn_value K tree rec a y verb args s)
+    turn_ends : (y : Value N) → ((i : Item N) → IsAmong i (data_of y) → Has K E s a i) → ((n : N) (i : ℕ) → y ≡ Ref n → K.spot n ≡ Own i → Runs K (held K E s) s.happened a i) → ((n : N) (i : ℕ) → y ≡ Ref n → K.spot n ≡ Own i → (name : Words) (v : Value N) → args ≡ v ∷ [] → same_words name verb ≡ true → IsHanded K E.start s.happened i name v) → Ends K E a IsValue s (calls.turn_value K tree rec a y verb args s)
     unfolding calls.turn_value throw data_of
     turn_ends (Ref n) d r h = turn_spot_ends (K.spot n) (λ i e. r n i refl e) (λ i e. h n i refl e)
     turn_ends (Broken p) d r h = (passes_same K E a s, g)
@@ -140,7 +141,7 @@ module _ {N W : Type 0} (K : Naming N W) (E : Ground N W) (spots : (i : ℕ) →
   counted s = record s { activations = suc s.activations }
 
   good_counted : (s : Vat N) → Good K E s → Good K E (counted s)
-  good_counted s g = good_by K E s (counted s) refl (refl, refl, refl, refl) (grows_same K E s).grown (makes_none K E s (counted s) refl refl) refl g
+  good_counted s g = good_by K E s (counted s) refl (refl, refl, refl, refl, refl) (grows_same K E s).grown (makes_none K E s (counted s) refl refl) refl g
 
   no_calls : (s : Vat N) → s.happened ≡ [] → served (opens s) ≡ None
   unfolding served open_from
@@ -173,23 +174,20 @@ module _ {N W : Type 0} (K : Naming N W) (E : Ground N W) (spots : (i : ℕ) →
       (closes_ends m.answer w t _ (turn_ends tree (eval.evaluator K tree depth) (good_evaluator K E spots tree depth) m.verb m.args t (took_good r m (good_counted s g))
       (all_from (Knew K E t a) AValue m.args (Has K E t a) (λ v k. k) (λ i j. took_told r m i (among_left i (map AValue m.args) (data_of m.target) j))) still (took_none r m (no_calls r n)) m.target (λ i j. took_told r m i (among_right i (map AValue m.args) (data_of m.target) j))
       (λ k i f h. took m (among_last r.happened l) (k, subst (λ z. Reaches K E.start.vat.known t.happened z (Ref k)) (sym f) at_itself, h))
-      (λ k i f h v j. inr (a, m, among_last r.happened l, j, (k, subst (λ z. Reaches K E.start.vat.known t.happened z (Ref k)) (sym f) at_itself, h)))))
+      (λ k i f h name v j q. inr (a, m, among_last r.happened l, j, q, (k, subst (λ z. Reaches K E.start.vat.known t.happened z (Ref k)) (sym f) at_itself, h)))))
 
-module _ {N W : Type 0} (K : Naming N W) (spots : (i : ℕ) → K.spot (K.object i) ≡ Own i) where
+module _ {N W : Type 0} (K : Naming N W) where
   first_told : (ks : List (Known N)) (so : List (Happened N)) (x : Standing N) (n : N) → standing_of K ks n ≡ x → IsTold K ks so n x
   first_told ks so (Settled y) n e = settled e
   first_told ks so (Viewed q) n e = viewed e
   first_told ks so (WaitsOn q) n e = tt
   first_told ks so Unsettled n e = tt
 
-  abbrev first_ground : List (ℕ × Item N) → Step N W → Vat N → Ground N W
-  first_ground given step s = record { things = s.things; slots = s.slots; lists = length s.lists; given = given; start = record { step = step; vat = s } }
-
   each_among : {A : Type 0} (P : A → Type 0) (xs : List A) → ((x : A) → IsAmong x xs → P x) → AllOf P xs
   each_among P [] f = tt
   each_among P (x ∷ xs) f = (f x (inl refl), each_among P xs (λ y m. f y (inr m)))
 
-  first_causes : (step : Step N W) (s : Vat N) → s.happened ≡ [] → Causes K (record { step = step; vat = s }) s
+  pub first_causes : (step : Step N W) (s : Vat N) → s.happened ≡ [] → Causes K (record { step = step; vat = s }) s
   first_causes step s e = let E : Start N W = record { step = step; vat = s } in record {
     told = λ n. first_told s.known s.happened (standing_of K s.known n) n refl;
     lines = subst (λ es. CausedAfter K E [] es) (sym e) tt;
@@ -197,13 +195,19 @@ module _ {N W : Type 0} (K : Naming N W) (spots : (i : ℕ) → K.spot (K.object
     gifts = each_among (GiftTold K E) s.gifts (λ g m. inl (g, m, refl, refl, refl));
     noticed = λ w h. inl h;
     number = refl;
+    names = no_less (length s.known);
+    mails = no_less (length s.mails);
   }
+
+module _ {N W : Type 0} (K : Naming N W) (spots : (i : ℕ) → K.spot (K.object i) ≡ Own i) where
+  abbrev first_ground : List (ℕ × Item N) → Step N W → Vat N → Ground N W
+  first_ground given step s = record { things = s.things; slots = s.slots; lists = length s.lists; given = given; start = record { step = step; vat = s } }
 
   -- at the beginning of a step
   good_first : (given : List (ℕ × Item N)) (step : Step N W) (s : Vat N) → s.happened ≡ [] → ((i : ℕ) → live_at s.things i ≡ false) → Good K (first_ground given step s) s
   unfolding is_live
   good_first given step s e still = record {
-    causes = first_causes step s e;
+    causes = first_causes K step s e;
     lines = subst (λ es. Connected K (held K (first_ground given step s) s) es) (sym e) tt;
     resolvers = λ i p f. inl f;
     judged = λ i view f. absurd (true_false (sym (live_found s.things i (Audition true view) f) ∙ still i));

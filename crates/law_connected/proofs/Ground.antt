@@ -413,7 +413,7 @@ module _ {N W : Type 0} (K : Naming N W) (E : Ground N W) where
 
   -- a line that is connected
   pub good_line : (s : Vat N) (e : Happened N) → thing_made K e ≡ None → slot_made e ≡ None → list_made e ≡ None → IsCaused K E.start s.happened e → Good s → LineWell K (held s) s.happened e → ReadTold E.slots s.happened e → Good (with_line s e)
-  good_line s e nil none new r g l rd = good_block s (with_line s e) e refl (refl, refl, refl, refl) r (same_grown (held s)) l rd (λ i view k. inl k) (λ i p k. inl k) (λ i node caught stamps k. inl k) (λ i c k. inl k)
+  good_line s e nil none new r g l rd = good_block s (with_line s e) e refl (refl, refl, refl, refl, refl) r (same_grown (held s)) l rd (λ i view k. inl k) (λ i p k. inl k) (λ i node caught stamps k. inl k) (λ i c k. inl k)
       (rises_line (thing_made K) (length E.things) (length s.things) s.happened e nil) (rises_line slot_made (length E.slots) (length s.slots) s.happened e none) (rises_line list_made E.lists (length s.lists) s.happened e new) g
 
   -- a change that tells nothing, and makes none of these

@@ -27,6 +27,7 @@ pub mod FineCalls
 pub mod FineEval
 pub mod FineSteps
 pub mod FineRuns
+pub mod Shortening
 pub mod RunsTell
 pub mod Passing
 pub mod Moments

@@ -1,11 +1,11 @@
 -- What an activation looks at, it knows.
 use Rattle.std.proofs.Common.{◌≡◌, ℕ, Bool, true, false, List, [], ◌∷◌, ◌++◌, Option, Some, None, refl, subst, length, map, ◌⊎◌, inl, inr}
-use Rattle.std.specs.Prelude.{slice_get}
+use Rattle.std.specs.Prelude.{slice_get, codes}
 use Rattle.def_machine.specs.Values.{Words, Value, Null, Flag, Number, Letter, Text, Prim, Broken, Items, Ref, Naming}
 use Rattle.def_machine.specs.State.{Bound, Fixed, Slot, Binding, Scope, Freedom, IsSafe, IsItself, IsFinal, IsVar, FreeName, View, Cell, Thing, Made, Ejector, Audition, Resolver, Called, Vat, look}
 use Rattle.def_machine.specs.Refs as refs
 use Rattle.def_machine.specs.Refs.{Place, Near, Mine, Away, Gone, follow, place}
-use Rattle.def_machine.specs.Free.{same_words}
+use Rattle.def_machine.specs.Free.{same_words, entry}
 use Rattle.def_machine.specs.Form as form
 use Rattle.def_machine.specs.Native as native
 use Rattle.def_machine.specs.Native.{list_at, Reply, Says, Writes, Lists as Listed, Iterates, Fails, Guard, AnyGuard, VoidGuard, IntGuard, BooleanGuard, CharGuard, TextGuard, ListGuard, NullGuard, NearGuard, FrozenGuard, OrNull, Primitive, RefTest, IsNear, IsFar, IsResolved, IsBroken, OptProblem, Fulfillment, NoTest, Order}
@@ -149,14 +149,23 @@ module _ {N W : Type 0} (K : Naming N W) (E : Ground N W) (a : ℕ) where
   got_hand C i x verb args g k = record { at = λ s h. let c = g.at s h in let t = k.at s h in handed_known s i x verb args (λ v m. (c.0, x, verb, args, c.1, t, m)) }
 
   -- what a resolver may be asked, of one argument
-  pub resolver_asked : (s : Vat N) (i : ℕ) (verb : Words) (args : List (Value N)) → ((v : Value N) → args ≡ v ∷ [] → IsHanded K E.start s.happened i v) → AskHas K E a s i (scopes.resolver_ask verb args)
+  entry_at : {A : Type 0} (P : A → Type 0) (es : List (Words × A)) (a : A) (x : Words) → AllOf (λ (e : Words × A). same_words e.0 x ≡ true → P e.1) es → P a → P (entry es a x)
+  unfolding entry
+  entry_at P [] a x h i = i
+  entry_at P (e ∷ es) a x h i = either (same_words e.0 x) refl (entry_at P es a x h.1 i)
+    where
+      either : (b : Bool) → same_words e.0 x ≡ b → P (entry es a x) → P (elim b [ true ↦ e.1 | false ↦ entry es a x ])
+      either true q r = h.0 q
+      either false q r = r
+
+  pub resolver_asked : (s : Vat N) (i : ℕ) (verb : Words) (args : List (Value N)) → ((name : Words) (v : Value N) → args ≡ v ∷ [] → same_words name verb ≡ true → IsHanded K E.start s.happened i name v) → AskHas K E a s i (scopes.resolver_ask verb args)
   unfolding scopes.resolver_ask
   resolver_asked s i verb [] f = tt
-  resolver_asked s i verb (y ∷ []) f = entry_has (AskHas K E a s i) _ _ verb (f y refl, (f y refl, tt)) tt
+  resolver_asked s i verb (y ∷ []) f = entry_at (AskHas K E a s i) _ _ verb (f (codes "resolve") y refl, (f (codes "smash") y refl, tt)) tt
   resolver_asked s i verb (y ∷ z ∷ zs) f = tt
 
   pub got_may_ask : (C : Fact N) (i : ℕ) (x : Value N) (verb : Words) (args : List (Value N)) → Gets K E a C (WasCalled x verb args) → Gets K E a C (IsAt x i) → Gets K E a C (MayAsk i (scopes.resolver_ask verb args))
-  got_may_ask C i x verb args g k = record { at = λ s h. let c = g.at s h in let t = k.at s h in resolver_asked s i verb args (λ v e. inl (c.0, x, verb, subst (λ xs. IsAmong (Called c.0 x verb xs None) s.happened) e c.1, t)) }
+  got_may_ask C i x verb args g k = record { at = λ s h. let c = g.at s h in let t = k.at s h in resolver_asked s i verb args (λ name v e q. inl (c.0, x, verb, subst (λ xs. IsAmong (Called c.0 x verb xs None) s.happened) e c.1, q, t)) }
 
   pub got_may_give : (C : Fact N) (x v : Value N) → Gets K E a C (IsValue v) → Gets K E a C (MayGive x v)
   got_may_give C x v g = record { at = λ s h. inl (g.at s h) }

@@ -1,8 +1,8 @@
 -- What a vat does with references brings messages that stem from what was sent.
-use Rattle.std.proofs.Common.{◌≡◌, ℕ, zero, suc, Bool, true, false, List, [], ◌∷◌, Option, Some, None, length, refl, subst, ◌⊎◌, inl, inr, if◌then◌else◌, ◌==◌}
+use Rattle.std.proofs.Common.{◌≡◌, ℕ, zero, suc, Bool, true, false, List, [], ◌∷◌, Option, Some, None, length, refl, sym, ◌∙◌, subst, ◌⊎◌, inl, inr, if◌then◌else◌, ◌==◌}
 use Rattle.std.specs.Prelude.{slice_get, codes}
-use Rattle.def_machine.specs.Values.{Words, Value, Null, Flag, Number, Letter, Text, Prim, Broken, Items, Ref, Name, Spot, Own, Foreign, NoObject, naming, same_reference}
-use Rattle.def_machine.specs.State.{look, tell, new_message, Message, Standing, Unsettled, WaitsOn, Viewed, Settled, Known, Passed, Passeds, Plain, AGift, Many, NoMore, More, Deliver, Hold, React, Settle, Sends, Reacts, Settles, Vat, Act, is_in, spend, each, give, ◌>>=◌, ◌>>◌, new_lone_message}
+use Rattle.def_machine.specs.Values.{Words, Value, Null, Flag, Number, Letter, Text, Prim, Broken, Items, Ref, Name, Root, Object, Promise, Answer, Gift, Sent, spot_of, Spot, Own, Foreign, NoObject, naming, same_reference}
+use Rattle.def_machine.specs.State.{SettledTo, Elsewhere, and_then, send_out, look, tell, new_message, Message, Standing, Unsettled, WaitsOn, Viewed, Settled, Known, Passed, Passeds, Plain, AGift, Many, NoMore, More, Deliver, Hold, React, Settle, Sends, Reacts, Settles, Vat, Act, is_in, spend, each, give, ◌>>=◌, ◌>>◌, new_lone_message}
 use Rattle.def_machine.specs.Native.{list_at}
 use Rattle.def_machine.specs.Refs as refs
 use Rattle.def_machine.specs.Refs.{Place, Near, Mine, Away, Gone, Parcel}
@@ -342,14 +342,109 @@ module _ (word : ℕ → ℕ) (v : ℕ) (past : Past) where
   unfolding refs.send_on
   does_send_on settle h m = does_look past _ _ (λ s i g. (send_placed settle h m _).after s (i, follows s g m.target) g)
 
-  pub brings_inform_of : (p : Name) (w : ℕ) (y : Value Name) (o : Place Name) → Brings past (refs.inform_of (naming word v) p w y o)
+  -- ---- telling
+
+  -- an object elsewhere is one of that vat
+  abbrev OffAt : Value Name → Place Name → Type 0
+  OffAt y Near = Unit {0}
+  OffAt y (Mine n) = Unit {0}
+  OffAt y (Away h n true) = (i : ℕ) × (y ≡ Ref (Object h i))
+  OffAt y (Away h n false) = Unit {0}
+  OffAt y (Gone t) = Unit {0}
+
+  hosted_off : (s : Vat Name) (n : Name) (h : ℕ) → OffAt (Ref n) (refs.hosted (naming word v) s.number n h)
+  unfolding refs.hosted
+  hosted_off s n h = either (s.number == h)
+    where
+      either : (b : Bool) → OffAt (Ref n) (elim b [ true ↦ Mine n | false ↦ Away h n false ])
+      either true = tt
+      either false = tt
+
+  spotted_off : (s : Vat Name) (n : Name) → OffAt (Ref n) (refs.spotted (naming word v) s n (spot_of v n))
+  unfolding refs.spotted spot_of
+  spotted_off s (Object w i) = either (v == w)
+    where
+      either : (b : Bool) → OffAt (Ref (Object w i)) (refs.spotted (naming word v) s (Object w i) (elim b [ true ↦ Own i | false ↦ Foreign w ]))
+      either true = tt
+      either false = (i, refl)
+  spotted_off s (Root w) = hosted_off s (Root w) _
+  spotted_off s (Promise w i) = hosted_off s (Promise w i) _
+  spotted_off s (Answer w m) = hosted_off s (Answer w m) _
+  spotted_off s (Gift w i) = hosted_off s (Gift w i) _
+  spotted_off s (Sent m) = hosted_off s (Sent m) _
+
+  placed_off : (s : Vat Name) (y : Value Name) → OffAt y (refs.place (naming word v) s y)
+  unfolding refs.place naming
+  placed_off s (Ref n) = spotted_off s n
+  placed_off s (Broken t) = tt
+  placed_off s Null = tt
+  placed_off s (Flag b) = tt
+  placed_off s (Number z) = tt
+  placed_off s (Letter c) = tt
+  placed_off s (Text t) = tt
+  placed_off s (Prim i) = tt
+  placed_off s (Items k) = tt
+
+  -- what is broken leads to nothing else
+  broken_leads : (s : Vat Name) (x z : Value Name) (t : Words) → x ≡ Broken t → LeadsTo (Line past s) x z → z ≡ Broken t
+  broken_leads s x z t e itself = e
+  broken_leads s x z t e (settled n y l r) = cc
+  broken_leads s x z t e (viewed n q l r) = cc
+
+  not_broken : (s : Vat Name) (z : Value Name) (t : Words) → LeadsTo (Line past s) (Broken t) z → (z ≡ Broken t → ⊥) → ⊥
+  not_broken s z t l f = f (broken_leads s (Broken t) z t refl l)
+
+  -- and passes as nothing else; so does a name that is severed
+  severed_plain : (s : Vat Name) (x y : Value Name) → ((n : Name) × LeadsTo (Line past s) x (Ref n)) → Passing past s (Broken (codes "partition")) (Plain y) → Passing past s x (Plain y)
+  severed_plain s x (Broken t) l (inl h) = inr (inl (l.0, l.1, same_problem t (codes "partition") (broken_leads s (Broken (codes "partition")) (Broken t) (codes "partition") refl h)))
+  severed_plain s x (Broken t) l (inr (inl h)) = absurd (not_broken s (Ref h.0) (codes "partition") h.1 (λ e. cc))
+  severed_plain s x (Broken t) l (inr (inr h)) = absurd (not_broken s (Items h.0) (codes "partition") h.1 (λ e. cc))
+  severed_plain s x (Items k) l h = absurd h
+  severed_plain s x (Ref n) l h = absurd (not_broken s (Ref n) (codes "partition") h (λ e. cc))
+  severed_plain s x Null l h = absurd (not_broken s Null (codes "partition") h (λ e. cc))
+  severed_plain s x (Flag b) l h = absurd (not_broken s (Flag b) (codes "partition") h (λ e. cc))
+  severed_plain s x (Number z) l h = absurd (not_broken s (Number z) (codes "partition") h (λ e. cc))
+  severed_plain s x (Letter c) l h = absurd (not_broken s (Letter c) (codes "partition") h (λ e. cc))
+  severed_plain s x (Text t) l h = absurd (not_broken s (Text t) (codes "partition") h (λ e. cc))
+  severed_plain s x (Prim i) l h = absurd (not_broken s (Prim i) (codes "partition") h (λ e. cc))
+
+  severed_passes : (s : Vat Name) (x : Value Name) (z : Passed Name) → ((n : Name) × LeadsTo (Line past s) x (Ref n)) → Passing past s (Broken (codes "partition")) z → Passing past s x z
+  severed_passes s x (Plain y) l h = severed_plain s x y l h
+  severed_passes s x (AGift w i) l h = absurd (not_broken s (Ref h.0) (codes "partition") h.1 (λ e. cc))
+  severed_passes s x (Many ys) l h = absurd (not_broken s (Items h.0) (codes "partition") h.2 (λ e. cc))
+
+  followed_passes : (s : Vat Name) (x y : Value Name) (z : Passed Name) → Follows s x y → Passing past s y z → Passing past s x z
+  followed_passes s x y z (inl l) h = passes_on (Line past s) _ _ x y z l h
+  followed_passes s x y z (inr e) h = severed_passes s x z (e.0, e.1) (subst (λ u. Passing past s u z) e.2 h)
+
+  -- what a name is followed to passes, and the note tells it of the name
+  does_tell_passed : (p : Name) (w : ℕ) (y : Value Name) → Does past (λ s. Follows s (Ref p) y) (Any past) (refs.pass (naming word v) w y >>= λ z. send_out w (SettledTo p z))
+  does_tell_passed p w y = does_bind past (does_from past (λ s i. (i, tt)) (does_also past (λ s. Follows s (Ref p) y) (follow_lasts (Ref p) y) (does_pass w y)))
+      (λ z. does_to past (λ b t i. tt) (does_from past (λ s i. followed_passes s (Ref p) y z i.0 i.1) (does_out past w (SettledTo p z) (pass_lasts (Ref p) z))))
+
+  no_object : (h i : ℕ) (t : Words) → ◌≡◌ {A = Value Name} (Ref (Object h i)) (Broken t) → ⊥
+  no_object h i t e = cc
+
+  object_leads : (s : Vat Name) (x y : Value Name) (h i : ℕ) → Follows s x y → y ≡ Ref (Object h i) → LeadsTo (Line past s) x (Ref (Object h i))
+  object_leads s x y h i (inl l) e = subst (λ z. LeadsTo (Line past s) x z) e l
+  object_leads s x y h i (inr f) e = absurd (no_object h i (codes "partition") (sym e ∙ f.2))
+
+  does_inform_of : (p : Name) (w : ℕ) (y : Value Name) (o : Place Name) → Does past (λ s. Follows s (Ref p) y × OffAt y o) (Any past) (refs.inform_of (naming word v) p w y o)
   unfolding refs.inform_of
-  brings_inform_of p w y (Away h n true) = search (brings) depth 14
-  brings_inform_of p w y _ = search (brings, brings_pass) depth 14
+  does_inform_of p w y (Away h n true) = does_to past (λ b t i. tt) (does_from past (λ s i. (i.1.0, object_leads s (Ref p) y h i.1.0 i.0 i.1.1))
+      (does_out past w (Elsewhere p h) (λ s t l i. (i.0, lead_lasts (Ref p) (Ref (Object h i.0)) s t l i.1))))
+  does_inform_of p w y (Away h n false) = does_from past (λ s i. i.0) (does_tell_passed p w y)
+  does_inform_of p w y Near = does_from past (λ s i. i.0) (does_tell_passed p w y)
+  does_inform_of p w y (Mine n) = does_from past (λ s i. i.0) (does_tell_passed p w y)
+  does_inform_of p w y (Gone t) = does_from past (λ s i. i.0) (does_tell_passed p w y)
+
+  does_inform_unless : (p : Name) (w : ℕ) (y : Value Name) (o : Place Name) (b : Bool) → Does past (λ s. Follows s (Ref p) y × OffAt y o) (Any past) (if b then give tt else refs.inform_of (naming word v) p w y o)
+  does_inform_unless p w y o true = does_from past (λ s i. tt) (does_any past (brings_give past tt))
+  does_inform_unless p w y o false = does_inform_of p w y o
 
   pub brings_inform : (p : Name) (w : ℕ) → Brings past (refs.inform (naming word v) p w)
-  unfolding refs.inform
-  brings_inform p w = search (brings, brings_inform_of) depth 14
+  unfolding refs.inform ◌>>=◌ look and_then
+  brings_inform p w = record { after = λ s g. (does_inform_unless p w (refs.follow (naming word v) s (Ref p)) (refs.place (naming word v) s (refs.follow (naming word v) s (Ref p))) (is_in w s.noticed)).after s (follows s g (Ref p), placed_off s _) g }
 
   -- ---- settling
 
@@ -481,4 +576,4 @@ module _ (word : ℕ → ℕ) (v : ℕ) (past : Past) where
       brings_does past (does_then past (does_tell past (Reacts act x o (refs.reaction (naming word v) new.0 near x new.1)) tt)
       (λ a. does_look past _ _ (λ s i g. (does_reacts (refs.reaction (naming word v) new.0 near x new.1) _ new.1).after s (reaction_fine s act x o near new.0 new.1 i) g)))))
 
-pub ruleset brings_refs = (brings, brings_pass, brings_wait_on, brings_inform_of, brings_inform, brings_settle_at, brings_settle, brings_wait_unless_cycle, brings_resolve_to, brings_resolve, brings_send, brings_send_only, brings_react)
+pub ruleset brings_refs = (brings, brings_pass, brings_wait_on, brings_inform, brings_settle_at, brings_settle, brings_wait_unless_cycle, brings_resolve_to, brings_resolve, brings_send, brings_send_only, brings_react)

@@ -11,7 +11,7 @@ use Rattle.law_connected.proofs.Knowing.{among_more}
 use Rattle.law_connected.proofs.Passing.{all_map}
 use Rattle.law_connected.proofs.Traces.{among_last, traces_settled, traces_give}
 use Rattle.law_connected.proofs.StepTraces.{follow_reaches}
-use Rattle.law_connected.specs.Settlings.{WaitsFor, Follows, IsGiven, waited, lost, SettlesWell, WaitsWell}
+use Rattle.law_connected.specs.Settlings.{IsNew, WaitsFor, Follows, IsGiven, waited, lost, SettlesWell, WaitsWell}
 use Rattle.law_connected.proofs.Causes.{Causes, Ends, Any, Further, further_on, up, ends_then, ends_more, WaitTold, MessageTold, EntryTold, waits_more, message_more, follows_more, follows_trans, given_more, settles_more, has_more, causes_line, alter_causes, tells, comes, holds, waits, Steady, SteadyBy, steady_closed, steady_spend, steady_enqueue, steady_out, steady_draw, steady_react, steady_to_tell, steady_wait_on, steady_stop, steady_give}
 
 pub ruleset steady = (walk, steady_closed, steady_spend, steady_enqueue, steady_out, steady_draw, steady_react, steady_to_tell)
@@ -154,10 +154,10 @@ module _ {N W : Type 0} (K : Naming N W) (E : Start N W) where
     where
       either : (o : Option N) → m.answer ≡ o → Ends K E s (Any K E) (for_some o (λ p. come K (IsAnswer h m.id) h >>= (λ a. refs.deliver K (record m { answer = Some a }) h n >> refs.wait_on K p a)) (refs.deliver K m h n) s)
       either None e = ends_more K E s (refs.deliver K m h n s) _ (Any K E) (delivers m h n s c) (λ a u l q. tt)
-      either (Some p) e = ends_then K E s (come K (IsAnswer h m.id) h s) _ (λ a u. (k : ℕ) × (a ≡ K.made (IsAnswer h m.id) k)) _ (comes K E (IsAnswer h m.id) h s c) (λ a u l d k.
+      either (Some p) e = ends_then K E s (come K (IsAnswer h m.id) h s) _ (λ a u. IsNew K E (IsAnswer h m.id) a) _ (comes K E (IsAnswer h m.id) h s c) (λ a u l d k.
           ends_then K E u (refs.deliver K (record m { answer = Some a }) h n u) _ (λ b v. IsAmong (Posted h m.id) v.happened) _ (delivers (record m { answer = Some a }) h n u d) (λ b v g f i.
           let w = message_lasts (record m { target = y }) u v g (message_lasts (record m { target = y }) s u l t) p e in
-          waits_on p a v f (inr (m.id, w.0, h, k.0, w.1, i, k.1))))
+          waits_on p a v f (inr (m.id, w.0, h, w.1, i, k))))
 
   -- ---- sending on, and settling
 

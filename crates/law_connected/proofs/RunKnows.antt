@@ -23,7 +23,7 @@ use Rattle.law_connected.specs.Stems.{HasLine, Stems}
 use Rattle.law_connected.specs.MessageLaws.{AllStem}
 use Rattle.law_connected.specs.Begotten.{AreRoots, IsTaken, IsReached, start, opened, entered, IsConnected, Knew, Begotten, sent, reacted, carried, LinesConnected, TakenBegotten}
 use Rattle.law_connected.proofs.Events.{among_either, events_here, IsNobodys, nobodys_join, lost_on_nobodys, vats_nobodys, links_nobodys}
-use Rattle.law_connected.proofs.RunStems.{put_each, one_line, messages_stem}
+use Rattle.law_connected.proofs.RunStems.{put_each, one_line, messages_stem, ended_stem}
 
 -- ---- one more line
 
@@ -338,6 +338,9 @@ module _ (script : Script) where
 
   pub opened_begotten : (ps rest : List Program) (w : World) → script.vats ≡ ps ++ rest → world.open_from script zero ps (begins script) ≡ Goes w → TakenBegotten script w
   opened_begotten ps rest w s e v a m i = begotten w (opened_connected ps rest w s e) v m ((goes_at AllStem _ w e ((messages_stem script).0 ps)).taken v a m i)
+
+  pub ended_begotten : (w : World) → world.run script ≡ Goes w → TakenBegotten script w
+  ended_begotten w e v a m i = begotten w (ended_connected w e) v m ((ended_stem script w e).taken v a m i)
 
   pub run_begotten : (w x : World) (es : List Entry) (k : ℕ) → world.open_from script zero script.vats (begins script) ≡ Goes w → world.steps_from script es k w ≡ Goes x → TakenBegotten script x
   run_begotten w x es k e i v a m j = begotten x (run_connected w x es k e i) v m ((goes_at AllStem _ x i ((messages_stem script).1 w es k e)).taken v a m j)

@@ -1,25 +1,26 @@
 -- In every world of a run each message stems from what was sent.
 use Rattle.std.proofs.Common.{◌≡◌, ℕ, zero, suc, Bool, true, false, List, [], ◌∷◌, ◌++◌, Option, Some, None, refl, sym, ◌∙◌, subst, map, ◌⊎◌, inl, inr, ◌==◌}
 use Rattle.std.specs.Prelude.{slice_get}
-use Rattle.def_machine.specs.Values.{Value, Null, Flag, Number, Letter, Text, Prim, Broken, Items, Ref, Name, Root, host_of}
+use Rattle.def_machine.specs.Values.{Value, Null, Flag, Number, Letter, Text, Prim, Broken, Items, Ref, Name, Root, Object, host_of}
 use Rattle.def_machine.specs.State.{Message, Known, Passed, Passeds, Plain, AGift, Many, NoMore, More, Note, Deliver, Open, Ask, SettledTo, Elsewhere, Shorten, Put, Happened, Took, Settles, Views, Vat, Done, Gives, Throws, Ejects, Stops, begun}
 use Rattle.def_machine.specs.Arrive.{Old, New, notice}
 use Rattle.def_machine.specs.Eval.{opening}
 use Rattle.law_machine.specs.Steps.{Step, Opens as Starts, Takes, Receives, Notices, does}
 use Rattle.def_run.specs.World as world
-use Rattle.def_run.specs.World.{Script, Program, Opens, Entry, Turn, Carry, CutLink, NoticeLink, Event, Here, Turned, Idle, Carried, CutAt, NoticedAt, Link, World, Run, Goes, Stopped, names, names_of, read_note, begins}
+use Rattle.def_run.specs.World.{Script, Program, Opens, Entry, Turn, Carry, CutLink, NoticeLink, Event, Here, Turned, Idle, Carried, CutAt, NoticedAt, Ends as IsEnd, Link, World, Run, Goes, Stopped, names, names_of, read_note, begins}
 use Rattle.law_connected.specs.Known.{IsAmong, AllOf}
 use Rattle.law_connected.proofs.FineSteps.{among_left, among_right}
 use Rattle.law_fate.specs.FateRuns.{Reached}
 use Rattle.law_fate.proofs.RunCounts.{pick}
 use Rattle.law_connected.specs.Stems.{LeadsTo, itself, HasLine, HasList, HasOpened, ArgsPass, ComesAs, ComeAll, Stems, sent, reacted, carried}
 use Rattle.law_connected.specs.MessageLaws.{NoteStems, AllStem, MessagesStemFromSends}
-use Rattle.law_connected.proofs.Passing.{Kept, kept_all, leads_map, leads_on, all_map, all_end, pass_all_map, come_all_map}
+use Rattle.law_connected.proofs.Passing.{Kept, kept_all, leads_map, leads_on, all_map, all_end, passes_map, pass_all_map, come_all_map}
 use Rattle.law_connected.proofs.Moments.{Past, Line, Members, Offers, Later, StandTold, stand_map, IsTaken, TookFine, Came, Source, Fine, NoteFine, KnownFine, PassingAll, Good, Ends, Brings, LearntAs, LearntAll, name_in, value_in}
 use Rattle.law_connected.proofs.ArriveBring.{brings_arrive, brings_notice}
 use Rattle.law_connected.proofs.EvalBring.{brings_opening, brings_taking}
 use Rattle.law_connected.proofs.Links.{OpenedIn, opened_with, push_opened, push_puts, with_link_all, found_link, link_from}
-use Rattle.law_connected.proofs.Events.{all_at, among_either, here_event, events_here, IsNobodys, nobodys_join, lost_on_nobodys}
+use Rattle.law_connected.proofs.Idle.{joined as ends_joined}
+use Rattle.law_connected.proofs.Events.{all_at, among_either, here_event, events_here, IsNobodys, nobodys_join, lost_on_nobodys, vats_nobodys, links_nobodys}
 
 -- ---- a world that has all that another has to show
 
@@ -44,8 +45,8 @@ module _ (w x : World) (g : Grows w x) where
   note_grow u (Deliver i n verb ys) h = (h.0, stems_grow u h.0 h.1, h.2, h.3, leads_grow u h.0.target (Ref n) h.4, args_grow u h.0.args ys h.5)
   note_grow u (Open i n) h = tt
   note_grow u (Ask p i n) h = tt
-  note_grow u (SettledTo n y) h = tt
-  note_grow u (Elsewhere n c) h = tt
+  note_grow u (SettledTo n y) h = passes_map (HasLine w u) (HasLine x u) (kept_all (HasLine w u) (HasLine x u) (λ e i. g.0 (Here u e) i)) (HasList w u) (HasList x u) (g.1 u) (HasOpened w u) (HasOpened x u) (g.2 u) (Ref n) y h
+  note_grow u (Elsewhere n c) h = (h.0, leads_grow u (Ref n) (Ref (Object c h.0)) h.1)
   note_grow u (Shorten n c i) h = tt
 
 -- a target may be followed
@@ -225,8 +226,8 @@ module _ (v : ℕ) (w : World) (head : List Event) (s r t : Vat Name) (step : St
     next_note (Deliver i n verb ys) h = (h.0, next_stems h.0 h.1, h.2, h.3, leads_map (Line Before t) (HasLine Next v) kept_lines h.0.target (Ref n) h.4, next_pass h.0.args ys h.5)
     next_note (Open i n) h = tt
     next_note (Ask p i n) h = tt
-    next_note (SettledTo n y) h = tt
-    next_note (Elsewhere n c) h = tt
+    next_note (SettledTo n y) h = passes_map (Line Before t) (HasLine Next v) kept_lines (Members t) (HasList Next v) next_list (Offers t) (HasOpened Next v) next_opened (Ref n) y h
+    next_note (Elsewhere n c) h = (h.0, leads_map (Line Before t) (HasLine Next v) kept_lines (Ref n) (Ref (Object c h.0)) h.1)
     next_note (Shorten n c i) h = tt
 
     next_known : (k : Known Name) → KnownFine Before t k → KnownStems Next v k
@@ -443,6 +444,7 @@ all_stem : (w : World) → WorldStems w → AllStem w
 all_stem w h = record {
   queues = h.queues;
   names = λ v s e. all_map (KnownStems w v) (λ (k : Known Name). AllOf (Stems w v) k.held × AllOf (Stems w v) k.reactions) (λ k i. (i.0, i.1)) s.known (h.names v s e);
+  standings = λ v s e. all_map (KnownStems w v) (λ (k : Known Name). StandTold (HasLine w v) k.name k.standing) (λ k i. i.2) s.known (h.names v s e);
   links = h.links;
   taken = h.taken;
 }
@@ -456,3 +458,17 @@ messages_stem script = (
   λ ps. reached_all _ (opens_stems script zero ps (begins script) (begins_stems script)),
   λ w es k e. reached_all _ (steps_stems script es k w (goes_stems (world.open_from script zero script.vats (begins script)) w e (opens_stems script zero script.vats (begins script) (begins_stems script)))),
 )
+
+module _ (script : Script) where
+  -- the closing list behind it
+  close_stems : (w : World) → WorldStems w → Reached WorldStems (world.close script w)
+  unfolding world.close
+  close_stems w h = let vats : List Event = world.left_vats script w.vats in let links : List Event = world.left_links script w.links in let es : List Event = vats ++ (links ++ IsEnd ∷ []) in
+      subst (λ hs. WorldStems (record w { history = hs })) (sym (ends_joined (w.history ++ vats) links (IsEnd ∷ []) ∙ ends_joined w.history vats (links ++ IsEnd ∷ [])))
+      (moved_stems w w.links es (λ v a i n o. o) (λ f i. all_map (LinkStems w) (LinkStems (record w { history = w.history ++ es })) f w.links i)
+      (nobodys_join vats (links ++ IsEnd ∷ []) (vats_nobodys script w.vats) (nobodys_join links (IsEnd ∷ []) (links_nobodys script w.links) (one_line IsEnd (λ u e i. cc)))) h)
+
+  pub ended_stem : (w : World) → world.run script ≡ Goes w → AllStem w
+  unfolding world.run
+  ended_stem w e = all_stem w (goes_stems _ w e (then_stems script (world.open_from script zero script.vats (begins script)) _ (opens_stems script zero script.vats (begins script) (begins_stems script))
+      (λ y h. then_stems script (world.steps_from script script.schedule 1 y) (world.close script) (steps_stems script script.schedule 1 y h) (λ z k. close_stems z k))))

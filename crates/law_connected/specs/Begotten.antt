@@ -94,4 +94,4 @@ abbrev pub HistoriesAreConnected : Type 0
 HistoriesAreConnected = InEachRun LinesConnected × ((script : Script) (w : World) → run script ≡ Goes w → LinesConnected script w)
 
 abbrev pub OnlyConnectivity : Type 0
-OnlyConnectivity = InEachRun TakenBegotten
+OnlyConnectivity = InEachRun TakenBegotten × ((script : Script) (w : World) → run script ≡ Goes w → TakenBegotten script w)

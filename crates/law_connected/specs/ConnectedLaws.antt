@@ -5,7 +5,7 @@ use Rattle.def_machine.specs.State.{Binding, Cell, Made, Happened}
 use Rattle.law_machine.specs.Steps.{Opens}
 use Rattle.law_connected.specs.Known.{Item, AValue, ASlot, IsAmong, Holdings, IsPlain, parts_of_all, tells, Leads, Runs, Knows}
 use Rattle.law_connected.specs.Connected.{Connected, StepConnected}
-use Rattle.law_connected.specs.Rows.{one_object, secret, handed, program, escaping, auditing, fresh}
+use Rattle.law_connected.specs.Rows.{one_object, secret, handed, answering, stray, program, escaping, auditing, fresh}
 
 -- A property of what activations have that each way to come by a reference keeps.
 pub record IsClosed {N W : Type 0} (K : Naming N W) (h : Holdings N W) (so : List (Happened N)) (P : ℕ → Item N → Type 0) : Type 0 where
@@ -48,6 +48,10 @@ HandedIsConnected = (word : ℕ → ℕ) → Connected (naming word 0) one_objec
 -- what its caller has and does not hand to it, it may not
 abbrev pub KeptIsNotConnected : Type 0
 KeptIsNotConnected = (word : ℕ → ℕ) → Connected (naming word 0) one_object (handed []) → ⊥
+
+-- an answer may not settle to what the turn did not give
+abbrev pub StrayIsNotConnected : Type 0
+StrayIsNotConnected = (word : ℕ → ℕ) → Connected (naming word 0) answering stray → ⊥
 
 -- the opening turn of a small program, in which an object uses a capture, an argument and what a call gave back
 abbrev pub ProgramIsConnected : Type 0

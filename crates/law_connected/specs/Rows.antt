@@ -1,11 +1,11 @@
 -- Histories that are connected, and one that is not.
 use Rattle.std.specs.Prelude.{ℕ, List, [], ◌∷◌, None, Some, codes}
 use Rattle.def_machine.specs.Values.{Value, Null, Ref, Name, Root, Object, Promise, Answer, Sent, Msg}
-use Rattle.def_machine.specs.State.{Made, Message, Vat, Happened, Took, Called, Sends, begun}
+use Rattle.def_machine.specs.State.{Made, Message, Vat, Happened, Took, Called, Sends, Finished, Settles, begun}
 use Rattle.def_kernel.specs.declared.node.Literal.TheVariants as literal
 use Rattle.def_kernel.specs.declared.node.Node.{Node}
 use Rattle.def_kernel.specs.declared.node.Node.TheVariants as node
-use Rattle.law_machine.specs.Steps.{Opens}
+use Rattle.law_machine.specs.Steps.{Opens, Takes}
 use Rattle.law_connected.specs.Known.{Holdings}
 
 -- a vat before its opening turn, which knows its own root
@@ -53,6 +53,19 @@ handed args =
     Took 0 (message 0 Null (helper ∷ secret ∷ []))
     ∷ Called 0 helper (codes "run") args (Some 1)
     ∷ Sends 1 (message 1 secret [])
+    ∷ []
+
+-- ---- settled to what nobody gave
+
+unfoldable pub answering : Holdings Name Name
+answering = record one_object { start = record { step = Takes [] 0 (message 0 helper []); vat = fresh } }
+
+-- Activation 0 takes a message and gives null, and the answer settles to the secret.
+unfoldable pub stray : List (Happened Name)
+stray =
+    Took 0 (message 0 helper [])
+    ∷ Finished 0 Null
+    ∷ Settles (Answer 0 (sent 0)) secret
     ∷ []
 
 -- ---- a small program
@@ -132,5 +145,5 @@ auditing =
     ∷ []
 
 unfoldable pub opened_rows : Unit {0}
-unfolding helper secret one_object sent message handed program escaping auditing fresh
+unfolding helper secret one_object sent message handed answering stray program escaping auditing fresh
 opened_rows = tt

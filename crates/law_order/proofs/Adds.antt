@@ -6,11 +6,13 @@ use Rattle.def_machine.specs.State as state
 use Rattle.def_machine.specs.Refs as refs
 use Rattle.def_run.specs.World.{Script, Link, World, names}
 use Rattle.def_run.specs.World as world
-use Rattle.law_order.specs.Ways.{Item, IsIn}
+use Rattle.law_order.specs.Ways.{Item}
 use Rattle.law_order.specs.Turns.{Within}
-use Rattle.law_order.specs.Places.{item, queued, held_on, amid}
+use Rattle.std.proofs.lemmas.List.{append-nil}
+use Rattle.law_order.specs.Places.{item, queued, held_on, held_in, amid}
 use Rattle.law_order.specs.Worlds.{IsWaiting, IsFixed, FollowsEnd, LetsNothingGo, NothingGoes, StandsAlike, RefersAlike, AddsOnly}
 use Rattle.law_order.proofs.Sends.{none_some, some_same, changed_name}
+use Rattle.law_order.proofs.Standing.{queued_append, held_end, more_lanes}
 use Rattle.law_order.proofs.Pushing.{push_append}
 use Rattle.law_order.proofs.Adding.{follows_alike, refers_same}
 use Rattle.law_order.proofs.Amid.{leads_same, grow_there, adding_grows}
@@ -103,9 +105,31 @@ changed_alike n c k i = go k.standing (state.changed_to c k) (to c i)
     go (Viewed q) j a = a
     go (Settled y) j a = (refl, refl, λ i h. h)
 
-no_more : {A : Type 0} (ps : List A) → ps ≡ ps ++ []
-no_more [] = refl
-no_more (p ∷ ps) = ap (λ qs. p ∷ qs) (no_more ps)
+-- what is known of a name holds what it held, and maybe more behind it
+abbrev HoldsMore : Name → Option (Known Name) → Option (Known Name) → Type 0
+HoldsMore n o p = (js : List Item) × (held_in n p ≡ held_in n o ++ js)
+
+holds_self : (n : Name) (o : Option (Known Name)) → HoldsMore n o o
+holds_self n o = ([], sym (append-nil (held_in n o)))
+
+changed_holds : (n : Name) (c : Change Name) (k : Known Name) → IsSimple c → HoldsMore n (Some k) (Some (state.changed c k))
+unfolding state.changed state.unless_settled state.changed_to held_in
+changed_holds n c k i = go k.standing (state.changed_to c k) (to c i)
+  where
+    to : (c : Change Name) → IsSimple c → HoldsMore n (Some k) (Some (state.changed_to c k))
+    to (Hold m) i = (item m.id n ∷ [], held_end n k.held m)
+    to (Wait q) i = ([], sym (append-nil (held_on n k.held)))
+    to (WaitOn q) i = absurd i
+    to (See q) i = absurd i
+    to (React m) i = ([], sym (append-nil (held_on n k.held)))
+    to (ToTell h) i = ([], sym (append-nil (held_on n k.held)))
+    to (Settle y) i = absurd i
+
+    go : (q : Standing Name) (j : Known Name) → HoldsMore n (Some k) (Some j) → HoldsMore n (Some k) (Some (state.unless_settled q k j))
+    go Unsettled j a = a
+    go (WaitsOn q) j a = a
+    go (Viewed q) j a = a
+    go (Settled y) j a = ([], sym (append-nil (held_on n k.held)))
 
 module _ (K : Naming Name Name) (c : Change Name) (n : Name) (simple : IsSimple c) where
   head_alike : (m : Name) (b : Bool) (k : Known Name) (o p : Option (Known Name)) → StandsAlike m o p → StandsAlike m (elim b [ true ↦ Some k | false ↦ o ]) (elim b [ true ↦ Some (state.changed c k) | false ↦ p ])
@@ -126,6 +150,24 @@ module _ (K : Naming Name Name) (c : Change Name) (n : Name) (simple : IsSimple 
       go a true = subst (λ q. StandsAlike m (elim (K.same k.name m) [ true ↦ Some k | false ↦ refs.entry_of K ks m ]) (elim (K.same q m) [ true ↦ Some (state.changed c k) | false ↦ refs.entry_of K ks m ])) (sym (changed_name c k)) (head_alike m (K.same k.name m) k (refs.entry_of K ks m) (refs.entry_of K ks m) (entry_self m (refs.entry_of K ks m)))
       go a false = tail_alike m (K.same k.name m) k (refs.entry_of K ks m) (refs.entry_of K (state.with_change K c n ks) m) a
 
+  head_holds : (m : Name) (b : Bool) (k : Known Name) (o : Option (Known Name)) → HoldsMore m (elim b [ true ↦ Some k | false ↦ o ]) (elim b [ true ↦ Some (state.changed c k) | false ↦ o ])
+  head_holds m true k o = changed_holds m c k simple
+  head_holds m false k o = holds_self m o
+
+  tail_holds : (m : Name) (b : Bool) (k : Known Name) (o p : Option (Known Name)) → HoldsMore m o p → HoldsMore m (elim b [ true ↦ Some k | false ↦ o ]) (elim b [ true ↦ Some k | false ↦ p ])
+  tail_holds m true k o p a = holds_self m (Some k)
+  tail_holds m false k o p a = a
+
+  entries_hold : (ks : List (Known Name)) (m : Name) → HoldsMore m (refs.entry_of K ks m) (refs.entry_of K (state.with_change K c n ks) m)
+  unfolding refs.entry_of state.with_change
+  entries_hold [] m = holds_self m None
+  entries_hold (k ∷ ks) m = go (entries_hold ks m) (K.same k.name n)
+    where
+      go : HoldsMore m (refs.entry_of K ks m) (refs.entry_of K (state.with_change K c n ks) m) → (b : Bool)
+          → HoldsMore m (elim (K.same k.name m) [ true ↦ Some k | false ↦ refs.entry_of K ks m ]) (refs.entry_of K (elim b [ true ↦ state.changed c k ∷ ks | false ↦ k ∷ state.with_change K c n ks ]) m)
+      go a true = subst (λ q. HoldsMore m (elim (K.same k.name m) [ true ↦ Some k | false ↦ refs.entry_of K ks m ]) (elim (K.same q m) [ true ↦ Some (state.changed c k) | false ↦ refs.entry_of K ks m ])) (sym (changed_name c k)) (head_holds m (K.same k.name m) k (refs.entry_of K ks m))
+      go a false = tail_holds m (K.same k.name m) k (refs.entry_of K ks m) (refs.entry_of K (state.with_change K c n ks) m) a
+
   length_alike : (ks : List (Known Name)) → length (state.with_change K c n ks) ≡ length ks
   unfolding state.with_change
   length_alike [] = refl
@@ -138,41 +180,40 @@ module _ (K : Naming Name Name) (c : Change Name) (n : Name) (simple : IsSimple 
   pub change_adds : (s : Vat Name) → AddsOnly K s (record s { known = state.with_change K c n s.known })
   change_adds s = record {
     alike = record { number = refl; gifts = refl; noticed = refl; names_known = length_alike s.known; entries = λ m. entries_alike s.known m };
-    queue = λ i h. h;
-    notes = ([], no_more s.outbox, tt);
+    queue = ([], sym (append-nil (queued s.queue)));
+    held = λ m. entries_hold s.known m;
+    notes = ([], sym (append-nil s.outbox), tt);
   }
 
 -- ---- other additions
-
-queued_by : (t : Value Name) (i : Item) (m : Name) (xs ys : List Item) → (IsIn i xs → IsIn i ys) → IsIn i (elim t [ Ref n ↦ item m n ∷ xs | _ ↦ xs ]) → IsIn i (elim t [ Ref n ↦ item m n ∷ ys | _ ↦ ys ])
-queued_by (Ref n) i m xs ys f (inl e) = inl e
-queued_by (Ref n) i m xs ys f (inr h) = inr (f h)
-queued_by Null i m xs ys f h = f h
-queued_by (Flag b) i m xs ys f h = f h
-queued_by (Number z) i m xs ys f h = f h
-queued_by (Letter c) i m xs ys f h = f h
-queued_by (Text p) i m xs ys f h = f h
-queued_by (Prim k) i m xs ys f h = f h
-queued_by (Broken p) i m xs ys f h = f h
-queued_by (Items k) i m xs ys f h = f h
-
-queue_more : (ms : List (Message Name)) (m : Message Name) → Within (queued ms) (queued (ms ++ m ∷ []))
-unfolding queued
-queue_more [] m i h = absurd h
-queue_more (a ∷ ms) m i h = queued_by a.target i a.id (queued ms) (queued (ms ++ m ∷ [])) (queue_more ms m i) h
 
 module _ (K : Naming Name Name) (s t : Vat Name) (known : t.known ≡ s.known) (number : t.number ≡ s.number) (gifts : t.gifts ≡ s.gifts) (noticed : t.noticed ≡ s.noticed) where
   pub alike_same : RefersAlike K s t
   alike_same = record { number = number; gifts = gifts; noticed = noticed; names_known = ap (λ ks. length ks) known; entries = λ n. subst (λ ks. StandsAlike n (refs.entry_of K s.known n) (refs.entry_of K ks n)) (sym known) (entry_self n (refs.entry_of K s.known n)) }
 
 pub adds_nothing : (K : Naming Name Name) (s t : Vat Name) → t.known ≡ s.known → t.number ≡ s.number → t.gifts ≡ s.gifts → t.noticed ≡ s.noticed → t.queue ≡ s.queue → t.outbox ≡ s.outbox → AddsOnly K s t
-adds_nothing K s t a b c d e f = record { alike = alike_same K s t a b c d; queue = subst (λ q. Within (queued s.queue) (queued q)) (sym e) (λ i h. h); notes = ([], f ∙ no_more s.outbox, tt) }
+adds_nothing K s t a b c d e f = record {
+  alike = alike_same K s t a b c d;
+  queue = ([], ap (λ q. queued q) e ∙ sym (append-nil (queued s.queue)));
+  held = λ n. ([], ap (λ ks. held_in n (refs.entry_of K ks n)) a ∙ sym (append-nil (held_in n (refs.entry_of K s.known n))));
+  notes = ([], f ∙ sym (append-nil s.outbox), tt);
+}
 
 pub adds_message : (K : Naming Name Name) (s : Vat Name) (m : Message Name) → AddsOnly K s (record s { queue = s.queue ++ m ∷ [] })
-adds_message K s m = record { alike = alike_same K s (record s { queue = s.queue ++ m ∷ [] }) refl refl refl refl; queue = queue_more s.queue m; notes = ([], no_more s.outbox, tt) }
+adds_message K s m = record {
+  alike = alike_same K s (record s { queue = s.queue ++ m ∷ [] }) refl refl refl refl;
+  queue = (queued (m ∷ []), queued_append s.queue (m ∷ []));
+  held = λ n. holds_self n (refs.entry_of K s.known n);
+  notes = ([], sym (append-nil s.outbox), tt);
+}
 
 pub adds_note : (K : Naming Name Name) (s : Vat Name) (p : Put Name) → LetsNothingGo p.note → AddsOnly K s (record s { outbox = s.outbox ++ p ∷ [] })
-adds_note K s p i = record { alike = alike_same K s (record s { outbox = s.outbox ++ p ∷ [] }) refl refl refl refl; queue = λ j h. h; notes = (p ∷ [], refl, (i, tt)) }
+adds_note K s p i = record {
+  alike = alike_same K s (record s { outbox = s.outbox ++ p ∷ [] }) refl refl refl refl;
+  queue = ([], sym (append-nil (queued s.queue)));
+  held = λ n. holds_self n (refs.entry_of K s.known n);
+  notes = (p ∷ [], refl, (i, tt));
+}
 
 -- ---- readiness
 
@@ -194,6 +235,7 @@ module _ (script : Script) (honest : ℕ → Bool) (w : World) (v : ℕ) (s t : 
   unfolding amid
   grown_adds g = record {
     grows = adding_grows script honest w v s t g;
+    more = λ l. more_lanes script honest w v s t g l;
     leading = λ u x. leads_same script honest w.vats (world.push_all v s.outbox w.links) (world.push_all v t.outbox w.links) (grow_there script honest w v s t g) v s t (refers_same script honest v s t g.alike) u x;
   }
 

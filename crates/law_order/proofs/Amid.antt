@@ -12,7 +12,7 @@ use Rattle.law_order.specs.Turns.{Within}
 use Rattle.law_order.specs.Places.{queued, held_in, delivered, opened_there, is_honest, leads_in, leads_at, leads, unsettled, released, released_at, stands_at, over, onward_at, ways_of, ways, amid}
 use Rattle.law_order.specs.Worlds.{StandsAlike, RefersAlike, AddsOnly, SameWays, AddingGrows, BeginningChangesNoWay, FirstIsTaken}
 use Rattle.law_order.proofs.Adding.{RefersSame, refers_same}
-use Rattle.law_order.proofs.Pushing.{LinkGrows, AllGrow, all_same, push_grows, push_append, gift_more}
+use Rattle.law_order.proofs.Pushing.{LinkGrows, AllGrow, all_same, push_grows, push_append, gift_more, within_more}
 use Rattle.law_order.proofs.Sends.{some_same}
 
 -- ---- links that are found
@@ -180,7 +180,7 @@ module _ (script : Script) (honest : ℕ → Bool) (w : World) (v : ℕ) (s t : 
   grows : Grows (ways script honest (amid v s w)) (ways script honest (amid v t w))
   unfolding ways ways_of amid
   grows = record {
-    stands = λ l i j. stands_grow script honest w.vats (world.push_all v s.outbox w.links) (world.push_all v t.outbox w.links) grow_there v s t (refers_same script honest v s t g.alike) g.queue l i j;
+    stands = λ l i j. stands_grow script honest w.vats (world.push_all v s.outbox w.links) (world.push_all v t.outbox w.links) grow_there v s t (refers_same script honest v s t g.alike) (within_more (queued s.queue) (queued t.queue) g.queue.0 g.queue.1) l i j;
     onward = λ l n. inl (onward_same script honest w.vats (world.push_all v s.outbox w.links) (world.push_all v t.outbox w.links) grow_there v s t (refers_same script honest v s t g.alike) l n);
   }
 
@@ -236,7 +236,7 @@ module _ (script : Script) (honest : ℕ → Bool) (w : World) (v : ℕ) (s : Va
   abbrev Pushed : List Link
   Pushed = world.push_all v s.outbox w.links
 
-  queue_is : queued s.queue ≡ record { mail = m.id; aim = n } ∷ queued ms
+  pub queue_is : queued s.queue ≡ record { mail = m.id; aim = n } ∷ queued ms
   unfolding queued
   queue_is = ap (λ q. queued q) first ∙ ap (λ z. elim z [ Ref k ↦ record { mail = m.id; aim = k } ∷ queued ms | _ ↦ queued ms ]) on
 

@@ -13,7 +13,8 @@ use Rattle.law_order.specs.Changes.{Beheads, stays, nearer, Loses, nowhere_still
 use Rattle.law_order.specs.Turns.{Within}
 use Rattle.law_order.specs.Places.{item, queued, held_on, delivered, is_honest, aimed, by_follow, of_name, leads_in, leads_at, leads, stands_at, over, onward_at, ways_of, ways, amid}
 use Rattle.law_order.specs.Worlds.{IfGives, IsWaiting, IsObject, StandsAlike, RefersAlike, NothingGoes}
-use Rattle.law_order.specs.Arrivals.{in_front, keeping, IsLearnt, IsOpenWay, LacksAt, IsNowhere, GoesTo, IsHere, CarriedMessagesGoOn, CarriedMessagesAreLost, CarriedMessagesArePutOn, LearntNamesAreBehind}
+use Rattle.law_order.specs.Messages.{LacksAt, IsNowhere}
+use Rattle.law_order.specs.Arrivals.{in_front, keeping, IsLearnt, IsOpenWay, GoesTo, IsHere, CarriedMessagesGoOn, CarriedMessagesAreLost, CarriedMessagesArePutOn, LearntNamesAreBehind}
 use Rattle.law_order.proofs.Sends.{none_some, some_same, pushed_shut, pushed_open, pushed_ends, link_here, link_behind, push_last, get_put, found_ends, in_queue, in_held, held_there, queued_last, held_last, delivered_last, held_by, entry_changed, entry_here, entry_behind, changed_name}
 use Rattle.law_order.proofs.Adding.{RefersSame, refers_same}
 use Rattle.law_order.proofs.Pushing.{AllGrow, push_grows, push_append}

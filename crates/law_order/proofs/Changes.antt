@@ -7,7 +7,7 @@ use Rattle.law_order.proofs.Kept.{Turns, from_free, to_doom, same_end, same_mid,
 
 -- ---- the head of a queue
 
-ahead_free : (w : Ways) (x : Name) (c : Place) → c ≡ Free → Ahead w x c → ⊥
+pub ahead_free : (w : Ways) (x : Name) (c : Place) → c ≡ Free → Ahead w x c → ⊥
 ahead_free w x c e h = none (subst (Ahead w x) e h)
   where
     none : Ahead w x Free → ⊥

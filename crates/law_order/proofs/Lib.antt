@@ -13,6 +13,10 @@ pub mod Settled
 pub mod OrderPassing
 pub mod Settling
 pub mod Onward
+pub mod Entries
+pub mod Standing
+pub mod Remaining
+pub mod SettledPlaces
 pub mod Whole
 pub mod Loose
 pub mod Resolving
@@ -33,3 +37,7 @@ pub mod OrderSendKeeping
 pub mod Sent
 pub mod Brought
 pub mod Given
+pub mod Messages
+pub mod Comings
+pub mod FoundPlaces
+pub mod Leavings

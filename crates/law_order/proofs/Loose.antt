@@ -10,10 +10,14 @@ use Rattle.def_run.specs.World as world
 use Rattle.law_order.specs.Ways.{Lane, Queue, Held, Way, Item, Place, Nowhere, Free, End, IsIn, IsOneWay}
 use Rattle.law_order.specs.Changes.{Grows}
 use Rattle.law_order.specs.Turns.{Within}
-use Rattle.law_order.specs.Places.{queued, held_in, aimed, by_host, by_follow, of_name, leads_in, leads_at, leads, released, released_at, stands_at, over, onward_at, ways_of, ways, amid, is_honest}
+use Rattle.law_order.specs.Places.{queued, held_on, held_in, aimed, by_host, by_follow, of_name, leads_in, leads_at, leads, released, released_at, stands_at, over, onward_at, ways_of, ways, amid, is_honest}
 use Rattle.law_order.specs.Worlds.{IsWaiting}
 use Rattle.law_order.specs.Resolve.{StandsNear, OnlyWaits, IsLoose, WaitingKeeps}
-use Rattle.law_order.proofs.Changes.{growing_keeps}
+use Rattle.std.proofs.lemmas.List.{append-nil}
+use Rattle.law_order.specs.Messages.{More}
+use Rattle.law_order.specs.Steps.{LeadsAmid}
+use Rattle.law_order.proofs.Remaining.{kept_grown}
+use Rattle.law_order.proofs.Standing.{queue_more, held_more, way_more}
 use Rattle.law_order.proofs.OrderPassing.{Found, here, apart, none, found, waiting_same}
 
 -- ---- following
@@ -159,7 +163,7 @@ module _ (script : Script) (honest : ℕ → Bool) (v : ℕ) (p : Name) (s t : V
   held_near n None None e = λ i h. h
   held_near n None (Some k) e = absurd e
   held_near n (Some j) None e = absurd e
-  held_near n (Some j) (Some k) e = e.2
+  held_near n (Some j) (Some k) e = λ i h. subst (λ ms. IsIn i (held_on n ms)) (sym e.2) h
 
   abbrev SameOrP : Name → Type 0
   SameOrP n = (n ≡ p) ⊎ (refs.standing_of (names script v) t.known n ≡ refs.standing_of (names script v) s.known n)
@@ -291,5 +295,22 @@ grows_amid script honest w v s t p g loose =
     subst (λ ps. Grows (ways_of script honest (world.put_at v s w.vats) (world.push_all v s.outbox w.links)) (ways_of script honest (world.put_at v t w.vats) (world.push_all v ps w.links))) (sym g.outbox)
     (waiting_grows script honest w.vats (world.push_all v s.outbox w.links) v p s t g loose)
 
+module _ (script : Script) (honest : ℕ → Bool) (w : World) (v : ℕ) (s t : Vat Name) (p : Name) (g : OnlyWaits (names script v) p s t) where
+  leads_waiting : (u : ℕ) (x : Value Name) → LeadsAmid script honest w v t u x ≡ LeadsAmid script honest w v s u x
+  unfolding amid leads
+  leads_waiting u x = leads_found script honest w.vats (world.push_all v s.outbox w.links) v p s t g u x (found v s t w.vats u)
+
+  held_by : (n : Name) (a b : Option (Known Name)) → StandsNear p n a b → held_in n b ≡ held_in n a
+  unfolding held_in
+  held_by n None None e = refl
+  held_by n None (Some k) e = absurd e
+  held_by n (Some j) None e = absurd e
+  held_by n (Some j) (Some k) e = ap (λ ms. held_on n ms) e.2
+
+  more_waiting : (l : Lane) → More (ways script honest (amid v s w)) (ways script honest (amid v t w)) l
+  more_waiting (Queue u) = queue_more script honest w v s t u (λ e. ([], ap (λ q. queued q) g.queue ∙ sym (append-nil (queued s.queue))))
+  more_waiting (Held u n) = held_more script honest w v s t u n (λ e. ([], held_by n (refs.entry_of (names script v) s.known n) (refs.entry_of (names script v) t.known n) (g.entries n) ∙ sym (append-nil (held_in n (refs.entry_of (names script v) s.known n)))))
+  more_waiting (Way a b) = way_more script honest w v s t [] (g.outbox ∙ sym (append-nil s.outbox)) a b
+
 pub waiting_keeps : WaitingKeeps
-waiting_keeps = λ script honest w v s t p g loose. (λ c. c, growing_keeps (ways script honest (amid v s w)) (ways script honest (amid v t w)) (grows_amid script honest w v s t p g loose), λ x. leads_near script honest v p s t g x)
+waiting_keeps = λ script honest w v s t p g loose. kept_grown script honest w v s t (record { grows = grows_amid script honest w v s t p g loose; more = λ l. more_waiting script honest w v s t p g l; leading = λ u x. leads_waiting script honest w v s t p g u x })

@@ -40,7 +40,7 @@ same_is (Gift w i) (Gift u j) e = two_is Gift w u i j e
 same_is (Sent m) (Sent n) e = ap Sent (msg_is m n e)
 same_is _ _ e = false_true e
 
-same_self : (a : Name) → same_name a a ≡ true
+pub same_self : (a : Name) → same_name a a ≡ true
 unfolding same_name
 same_self (Root w) = eq-eqb w w refl
 same_self (Object w i) = two_same w i

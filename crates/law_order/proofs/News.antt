@@ -7,9 +7,11 @@ use Rattle.def_machine.specs.State.{Known, Open, Vat, begun, drawn_at}
 use Rattle.def_machine.specs.Refs as refs
 use Rattle.def_run.specs.World.{Script, Link, World, names}
 use Rattle.def_run.specs.World as world
-use Rattle.law_order.specs.Ways.{Lane, Free, IsOneWay, Ways}
+use Rattle.std.proofs.lemmas.List.{append-nil}
+use Rattle.law_order.specs.Ways.{Lane, Queue, Held, Way, Item, Free, IsOneWay, Ways}
+use Rattle.law_order.specs.Messages.{More}
 use Rattle.law_order.specs.Changes.{Grows}
-use Rattle.law_order.specs.Places.{leads, ways, ways_of, amid}
+use Rattle.law_order.specs.Places.{queued, held_on, held_in, leads, ways, ways_of, amid}
 use Rattle.law_order.specs.Worlds.{IsWaiting, IsFixed, IsObject, FollowsEnd, RefersAlike, SameWays}
 use Rattle.law_order.proofs.Sends.{none_some, some_same, push_last}
 use Rattle.law_order.proofs.Pushing.{all_same}
@@ -18,6 +20,7 @@ use Rattle.law_order.proofs.Coming.{old_entry, new_entry, waits_here, followed, 
 use Rattle.law_order.proofs.Amid.{leads_same, same_between}
 use Rattle.law_order.specs.Steps.{AllDrawn, Ready, Grown, StaysReady}
 use Rattle.law_order.proofs.Below.{more_draws, in_more, key_in_last, key_is_new, with_drawn, links_lack}
+use Rattle.law_order.proofs.Standing.{no_more, more_then, queue_more, held_more, way_more}
 use Rattle.law_order.proofs.Opens.{opening_grows}
 use Rattle.law_order.proofs.Adds.{grown_adds, stays_adds, adds_nothing, alike_same}
 
@@ -44,11 +47,12 @@ module _ (script : Script) (honest : ℕ → Bool) (w : World) (v : ℕ) where
   pub grown_then : (s t u : Vat Name) → Grown script honest w v s t → Grown script honest w v t u → Grown script honest w v s u
   grown_then s t u g h = record {
     grows = grows_then (ways script honest (amid v s w)) (ways script honest (amid v t w)) (ways script honest (amid v u w)) g.grows h.grows;
+    more = λ l. more_then (ways script honest (amid v s w)) (ways script honest (amid v t w)) (ways script honest (amid v u w)) l (g.more l) (h.more l);
     leading = λ a x. h.leading a x ∙ g.leading a x;
   }
 
   pub stays_self : (s : Vat Name) → StaysReady script honest w v s s
-  stays_self s r = (r, record { grows = grows_self (ways script honest (amid v s w)); leading = λ a x. refl })
+  stays_self s r = (r, record { grows = grows_self (ways script honest (amid v s w)); more = λ l. no_more (ways script honest (amid v s w)) (ways script honest (amid v s w)) l refl; leading = λ a x. refl })
 
   pub stays_then : {s t u : Vat Name} → StaysReady script honest w v s t → StaysReady script honest w v t u → StaysReady script honest w v s u
   stays_then {s} {t} {u} f g r = let a = f r in let b = g a.0 in (b.0, grown_then s t u a.1 b.1)
@@ -68,6 +72,19 @@ module _ (K : Naming Name Name) (s : Vat Name) (n : Name) (h : ℕ) (plain : IsO
 
   pub came_none : (m : Name) → refs.entry_of K s.known m ≡ None → K.same n m ≡ false → refs.entry_of K Ks m ≡ None
   came_none m e i = new_entry K s.known New m e ∙ lone m false i
+
+  -- the new name holds nothing
+  came_held : (m : Name) (o : Option (Known Name)) → refs.entry_of K s.known m ≡ o → held_in m (refs.entry_of K Ks m) ≡ held_in m o
+  unfolding held_in held_on begun
+  came_held m (Some k) e = ap (λ p. held_in m p) (old_entry K s.known New k m e)
+  came_held m None e = ap (λ p. held_in m p) (new_entry K s.known New m e ∙ lone m (K.same n m) refl) ∙ go (K.same n m)
+    where
+      go : (b : Bool) → held_in m (elim b [ true ↦ Some New | false ↦ None ]) ≡ []
+      go true = refl
+      go false = refl
+
+  pub came_holds : (m : Name) → (js : List Item) × (held_in m (refs.entry_of K Ks m) ≡ held_in m (refs.entry_of K s.known m) ++ js)
+  came_holds m = ([], came_held m (refs.entry_of K s.known m) refl ∙ sym (append-nil (held_in m (refs.entry_of K s.known m))))
 
   fixed_ref : (m : Name) → IsFixed K s (Ref m) → IsFixed K (record s { known = Ks }) (Ref m)
   fixed_ref m (inl i) = inl i
@@ -129,10 +146,16 @@ module _ (script : Script) (honest : ℕ → Bool) (w : World) (v : ℕ) (s : Va
     fixed = λ m h. fixed_new m h.0 h.1 (refs.entry_of K s.known m) refl;
   }
 
+  came_more : (l : Lane) → More (ways script honest (amid v s w)) (ways script honest (amid v Came w)) l
+  came_more (Queue u) = queue_more script honest w v s Came u (λ e. ([], sym (append-nil (queued s.queue))))
+  came_more (Held u m) = held_more script honest w v s Came u m (λ e. came_holds K s n (host_of n) plain r.ends m)
+  came_more (Way a b) = way_more script honest w v s Came [] (sym (append-nil s.outbox)) a b
+
   came_grown : refs.entry_of K s.known n ≡ None → Grown script honest w v s Came
   unfolding amid
   came_grown e = let ls = world.push_all v s.outbox w.links in record {
     grows = coming_grows script honest w v s n r.ends r.number plain e;
+    more = λ l. came_more l;
     leading = λ u x. leads_same script honest w.vats ls ls (all_same ls) v s Came (comes_same script honest v s n r.ends plain r.number) u x;
   }
 
@@ -265,5 +288,10 @@ module _ (script : Script) (honest : ℕ → Bool) (w : World) (v h word : ℕ) 
   unfolding amid leads
   opened_leads u x = leads_same script honest w.vats After After (all_same After) v s Opened (refers_same script honest v s Opened there) u x
 
+  opened_more : (l : Lane) → More (ways script honest (amid v s w)) (ways script honest (amid v Opened w)) l
+  opened_more (Queue u) = queue_more script honest w v s Opened u (λ e. ([], sym (append-nil (queued s.queue))))
+  opened_more (Held u m) = held_more script honest w v s Opened u m (λ e. ([], sym (append-nil (held_in m (refs.entry_of (names script v) s.known m)))))
+  opened_more (Way a b) = way_more script honest w v s Opened (record { to = h; note = Open D n } ∷ []) refl a b
+
   pub opened : StaysReady script honest w v s Opened
-  opened r = (opened_ready r, record { grows = opened_grows r; leading = opened_leads })
+  opened r = (opened_ready r, record { grows = opened_grows r; more = λ l. opened_more l; leading = opened_leads })

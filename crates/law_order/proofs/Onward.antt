@@ -8,7 +8,7 @@ use Rattle.def_machine.specs.Refs as refs
 use Rattle.def_machine.specs.Refs.{Settler, Near}
 use Rattle.def_run.specs.World.{Script, Link, World, names}
 use Rattle.def_run.specs.World as world
-use Rattle.law_order.specs.Ways.{Lane, Queue, Held, Way, Item, Place, Nowhere, Ways, IsIn, nowhere, alike, Ahead, doomed_there, in_end}
+use Rattle.law_order.specs.Ways.{Lane, Queue, Held, Way, Item, Place, Nowhere, End, Mid, Ways, IsIn, nowhere, alike, Ahead, doomed_there, in_end}
 use Rattle.law_order.specs.Turns.{Within}
 use Rattle.law_order.specs.Places.{item, queued, held_on, held_in, aimed, stands_at, ways_of, ways, amid}
 use Rattle.law_order.specs.Worlds.{IfGives, RefersAlike, StandsAlike}
@@ -19,7 +19,9 @@ use Rattle.law_order.proofs.Amid.{stands_grow, onward_same}
 use Rattle.law_order.proofs.Named.{Test, test_self, test_is}
 use Rattle.law_order.proofs.Sends.{get_put}
 use Rattle.law_order.proofs.Settled.{follows_settled}
-use Rattle.law_order.proofs.Settling.{settling_keeps}
+use Rattle.law_order.specs.Messages.{StaysBehind}
+use Rattle.law_order.proofs.OrderPassing.{settled_is_passed}
+use Rattle.law_order.proofs.Settling.{settling_keeps, settling_leads}
 
 -- ---- from ways to the same, where one name has let go what it held
 
@@ -81,7 +83,7 @@ settling_to_nothing_keeps = λ script honest w v r s p y at g e ready. to_nothin
 
 -- ---- to what is here
 
-pub retargeted : Value Name → List (Message Name) → List (Message Name) → List (Message Name)
+unfoldable pub retargeted : Value Name → List (Message Name) → List (Message Name) → List (Message Name)
 retargeted y q [] = q
 retargeted y q (m ∷ ms) = retargeted y (q ++ record m { target = y } ∷ []) ms
 
@@ -223,7 +225,7 @@ module _ (script : Script) (honest : ℕ → Bool) (w : World) (v : ℕ) (r s : 
   unfolding refs.follow
   leads_here = (ap (λ z. refs.severed K Then z) (follows_settled script honest v s Then p y g (length Then.known)) ∙ here_severed K Then y here, here_near K Then y here)
 
-  aimed_here : Aim ≡ aimed v y Near
+  pub aimed_here : Aim ≡ aimed v y Near
   unfolding aimed_at
   aimed_here = ap (λ z. aimed v z (refs.place K Then z)) (here_severed K Then y here) ∙ ap (λ q. aimed v y q) (here_near K Then y here)
 
@@ -306,6 +308,17 @@ module _ (script : Script) (honest : ℕ → Bool) (w : World) (v : ℕ) (r s : 
   here_keeps ready = subst (λ c. IsReady W v p c → SentOn (led_to W v p c) (emptied (led_to U v p c) v p) v p c → KeepsBy W (ways script honest (amid v After w)) (passed_by v p c)) aimed_after
       (λ a b. settling_keeps script honest w v r s Between After p y at settles_after a b)
       ready (lets_go W U v p Aim grown_then onward_then is_sent)
+
+  -- so is what comes to the end to which the name leads, behind all that was ahead there
+  pub here_leads : IsReady W v p Aim → (n : Name) (l : Lane) (o : Name) → Aim ≡ End l o → StaysBehind W (ways script honest (amid v After w)) (W.onward (Held v p) n) (Mid l (W.stands l) o)
+  here_leads ready n l o q = subst (λ c. IsReady W v p c → SentOn (led_to W v p c) (emptied (led_to U v p c) v p) v p c → c ≡ End l o → StaysBehind W (ways script honest (amid v After w)) (W.onward (Held v p) n) (Mid l (W.stands l) o)) aimed_after
+      (λ a b i. settling_leads script honest w v r s Between After p y at settles_after a b n l o i)
+      ready (lets_go W U v p Aim grown_then onward_then is_sent) q
+
+  -- what the name held leads there
+  pub here_onward : (n : Name) → (ways script honest (amid v After w)).onward (Held v p) n ≡ passed_by v p Aim Aim
+  here_onward n = subst (λ c. (ways script honest (amid v After w)).onward (Held v p) n ≡ passed_by v p c c) aimed_after
+      (let g0 = settled_is_passed script honest w v r Between After p y at settles_after in g0.lanes (Held v p) n ∙ ap (λ c. passed_by v p (aimed_at script v After y) c) (g0.leads n))
 
 pub settling_here_keeps : SettlingHereKeeps
 settling_here_keeps = λ script honest w v r s p y k settle at g e on here ready.

@@ -152,7 +152,7 @@ module _ (script : Script) (honest : ℕ → Bool) (vs : List (Vat Name)) (ls : 
       stay None = passes_nowhere v p E
   leads_found u x (none i j) = ap (λ o. leads_at script honest u o x) j ∙ sym (ap (λ o. F (leads_at script honest u o x)) i ∙ passes_nowhere v p E)
 
-  leads_via : (u : ℕ) (x : Value Name) → leads script honest Vats' ls u x ≡ F (leads script honest Vats ls u x)
+  pub leads_via : (u : ℕ) (x : Value Name) → leads script honest Vats' ls u x ≡ F (leads script honest Vats ls u x)
   unfolding leads
   leads_via u x = leads_found u x (found v s t vs u)
 

@@ -5,7 +5,7 @@ use Rattle.def_machine.specs.Values.{Name}
 use Rattle.def_machine.specs.State.{Note, Deliver, Open, Ask, SettledTo, Elsewhere, Shorten, Put}
 use Rattle.def_run.specs.World.{Link}
 use Rattle.def_run.specs.World as world
-use Rattle.law_order.specs.Ways.{Lane, Way, Item, Place}
+use Rattle.law_order.specs.Ways.{Lane, Way, Item, Place, IsIn}
 use Rattle.law_order.specs.Turns.{Within}
 use Rattle.law_order.specs.Places.{delivered, opens, shortens, subject, in_lane, note_place, any_note, first_place, is_honest, open_place, shorten_place, was_put, or_never, gift_place}
 use Rattle.law_order.specs.Worlds.{LetsNothingGo, NothingGoes}
@@ -53,6 +53,15 @@ delivered_more (Ask p j a ∷ ns) n i h = delivered_more ns n i h
 delivered_more (SettledTo a y ∷ ns) n i h = delivered_more ns n i h
 delivered_more (Elsewhere a c ∷ ns) n i h = delivered_more ns n i h
 delivered_more (Shorten a c j ∷ ns) n i h = delivered_more ns n i h
+
+-- what more comes to the end of leaves none out
+pub within_more : (a b js : List Item) → b ≡ a ++ js → Within a b
+within_more a b js e = λ i h. subst (IsIn i) (sym e) (left i a h)
+  where
+    left : (i : Item) (ks : List Item) → IsIn i ks → IsIn i (ks ++ js)
+    left i [] h = absurd h
+    left i (k ∷ ks) (inl q) = inl q
+    left i (k ∷ ks) (inr h) = inr (left i ks h)
 
 -- ---- one link, and all
 

@@ -1,13 +1,18 @@
 -- What is ahead stays ahead as a name settles and what it held is sent on.
 use Rattle.std.proofs.Common.{◌≡◌, ℕ, Bool, true, false, refl, sym, subst, ◌⊎◌, inl, inr}
-use Rattle.def_machine.specs.Values.{Name}
+use Rattle.std.specs.Prelude.{Some, slice_get}
+use Rattle.def_machine.specs.Values.{Name, Value}
+use Rattle.def_machine.specs.State.{Vat}
+use Rattle.def_run.specs.World.{Script, World, names}
 use Rattle.law_order.specs.Ways.{Lane, Queue, Held, Way, Place, Nowhere, Free, End, Mid, Ways, IsIn, IsOneWay, Doom, nowhere, by_end, by_mid, Follows, doomed, one_way, alike, beside, Ahead, doomed_there, in_end, in_mid, past_end, past_mid}
 use Rattle.law_order.specs.Turns.{Reroutes, stays_so, IsTurned}
 use Rattle.law_order.specs.Places.{ways, amid}
-use Rattle.law_order.specs.Settle.{passed_by, onward_to, led_to, emptied, KeepsBy, SentOn, aimed_at, IsReady, SendingOnKeeps, SettlingKeeps}
-use Rattle.law_order.proofs.Named.{Test, test_is}
+use Rattle.law_order.specs.Messages.{StaysBehind}
+use Rattle.law_order.specs.Settle.{SettlesHere, passed_by, onward_to, led_to, emptied, KeepsBy, SentOn, aimed_at, IsReady, SendingOnKeeps, SettlingKeeps}
+use Rattle.law_order.proofs.Named.{Test, test_is, passes_mid}
 use Rattle.law_order.proofs.Turned.{turning_keeps, passing_by_keeps}
 use Rattle.law_order.proofs.OrderPassing.{settled_is_passed}
+use Rattle.law_order.proofs.Messages.{behind_then, comes_behind}
 
 abbrev IsNotFree : Place → Type 0
 IsNotFree Nowhere = Unit {0}
@@ -120,3 +125,23 @@ settling_keeps = λ script honest w v r s m t p y at g ready sent.
     keeps_then w0 w1 w3 (λ c. c) (passed_by v p e) (starting_keeps w0 v p e ready)
     (keeps_then w1 w2 w3 (λ c. c) (passed_by v p e) (sending_on_keeps w1 w2 v p e sent)
     (passing_by_keeps w2 w3 v p e (passed_by v p e) (settled_is_passed script honest w v r m t p y at g)))
+
+-- What was ahead of where the lane led is ahead of what comes there behind all that stood at that end.
+pub settling_leads : (script : Script) (honest : ℕ → Bool) (w : World) (v : ℕ) (r s m t : Vat Name) (p : Name) (y : Value Name)
+    → slice_get w.vats v ≡ Some r → SettlesHere (names script v) m t p y v
+    → let e = aimed_at script v t y in let a = ways script honest (amid v s w) in let d = ways script honest (amid v t w) in IsReady a v p e
+    → SentOn (led_to a v p e) (emptied (led_to (ways script honest (amid v m w)) v p e) v p) v p e
+    → (n : Name) (l : Lane) (o : Name) → e ≡ End l o → StaysBehind a d (a.onward (Held v p) n) (Mid l (a.stands l) o)
+unfolding led_to
+settling_leads = λ script honest w v r s m t p y at g ready sent n l o q.
+    let e = aimed_at script v t y in
+    let w0 = ways script honest (amid v s w) in
+    let w1 = led_to w0 v p e in
+    let w2 = emptied (led_to (ways script honest (amid v m w)) v p e) v p in
+    let w3 = ways script honest (amid v t w) in
+    let c = w0.onward (Held v p) n in
+    let d = Mid l (w0.stands l) o in
+    let first : StaysBehind w0 w1 c (End l o) = subst (λ z. StaysBehind w0 w1 c z) q (turning_keeps w0 w1 (turned w0 v p e ready) c e (ready n)) in
+    let last : StaysBehind w1 w3 d (passed_by v p e d) = behind_then w1 w2 w3 d d (passed_by v p e d) (sending_on_keeps w1 w2 v p e sent d) (passing_by_keeps w2 w3 v p e (passed_by v p e) (settled_is_passed script honest w v r m t p y at g) d) in
+    behind_then w0 w1 w3 c (End l o) d first
+    (behind_then w1 w1 w3 (End l o) d d (comes_behind w1 l (w0.stands l) o (λ i h. h)) (subst (λ z. StaysBehind w1 w3 d z) (passes_mid v p e l (w0.stands l) o) last))

@@ -8,16 +8,15 @@ use Rattle.def_machine.specs.Refs as refs
 use Rattle.def_machine.specs.Refs.{Settler, Near, Mine, Away, Gone}
 use Rattle.def_run.specs.World.{Script, World, names}
 use Rattle.law_order.specs.Ways.{Nowhere}
-use Rattle.law_order.specs.Places.{aimed, ways, amid}
-use Rattle.law_order.specs.Worlds.{IfGives, AddsOnly, RefersAlike, StandsAlike}
-use Rattle.law_order.specs.Settle.{passed_by, IsHere, IsOwnSpot, aimed_at, settled_to}
-use Rattle.law_order.specs.Settlings.{with_line, IsPlain, KeepsOrder, CanSettle, LosesWell, SendsWell, WaitsWell, KnownWell, StandsWell, EntryWell, SettlesWell, SettlingsKeep}
-use Rattle.law_order.proofs.Changes.{growing_keeps}
-use Rattle.law_order.proofs.Adding.{leads_alike}
-use Rattle.law_order.proofs.Amid.{adding_grows}
-use Rattle.law_order.proofs.Settled.{leads_on}
-use Rattle.law_order.proofs.Settling.{keeps_then}
-use Rattle.law_order.proofs.Onward.{queued_more, retargeted, all_sent, leads_here, here_keeps, settling_to_nothing_keeps}
+use Rattle.law_order.specs.Places.{aimed}
+use Rattle.law_order.specs.Worlds.{IfGives, AddsOnly}
+use Rattle.law_order.specs.Settle.{IsHere, IsOwnSpot, aimed_at, settled_to}
+use Rattle.law_order.specs.Steps.{KeepsOrder}
+use Rattle.law_order.specs.Settlings.{with_line, IsPlain, CanSettle, LosesWell, SendsWell, WaitsWell, KnownWell, StandsWell, EntryWell, SettlesWell, SettlingsKeep}
+use Rattle.law_order.proofs.Onward.{retargeted, all_sent, leads_here}
+use Rattle.law_order.proofs.Remaining.{kept_grown, kept_then}
+use Rattle.law_order.proofs.SettledPlaces.{here_so, nothing_so}
+use Rattle.law_order.proofs.Adds.{adds_nothing, adds_message, adds_note, grown_adds}
 
 -- ---- acts
 
@@ -40,42 +39,20 @@ chain P Q (Throws p t) n h f = tt
 chain P Q (Ejects i y t) n h f = tt
 chain P Q (Stops c t) n h f = tt
 
-pub none_more : (ps : List (state.Put Name)) → ps ++ [] ≡ ps
-none_more [] = refl
-none_more (p ∷ ps) = ap (λ q. p ∷ q) (none_more ps)
-
-entry_self : (n : Name) (o : Option (Known Name)) → StandsAlike n o o
-entry_self n None = tt
-entry_self n (Some k) = (refl, refl, λ i h. h)
-
 module _ (K : Naming Name Name) (s : Vat Name) where
   pub line_adds : (e : state.Happened Name) → AddsOnly K s (with_line s e)
-  line_adds e = record {
-    alike = record { number = refl; gifts = refl; noticed = refl; names_known = refl; entries = λ n. entry_self n (refs.entry_of K s.known n) };
-    queue = λ i h. h;
-    notes = ([], sym (none_more s.outbox), tt);
-  }
-
-  queue_adds : (m : Message Name) → AddsOnly K s (record s { queue = s.queue ++ m ∷ [] })
-  queue_adds m = record {
-    alike = record { number = refl; gifts = refl; noticed = refl; names_known = refl; entries = λ n. entry_self n (refs.entry_of K s.known n) };
-    queue = queued_more s.queue m;
-    notes = ([], sym (none_more s.outbox), tt);
-  }
+  line_adds e = adds_nothing K s (with_line s e) refl refl refl refl refl refl
 
   told_adds : (f h : ℕ) (p : Name) (z : state.Passed Name) → AddsOnly K s (record s { fuel = f; outbox = s.outbox ++ record { to = h; note = SettledTo p z } ∷ [] })
-  told_adds f h p z = record {
-    alike = record { number = refl; gifts = refl; noticed = refl; names_known = refl; entries = λ n. entry_self n (refs.entry_of K s.known n) };
-    queue = λ i h. h;
-    notes = (record { to = h; note = SettledTo p z } ∷ [], refl, (tt, tt));
+  told_adds f h p z = let g = adds_note K s (record { to = h; note = SettledTo p z }) tt in record {
+    alike = record { number = refl; gifts = refl; noticed = refl; names_known = refl; entries = g.alike.entries };
+    queue = g.queue;
+    held = g.held;
+    notes = g.notes;
   }
 
   same_adds : AddsOnly K s s
-  same_adds = record {
-    alike = record { number = refl; gifts = refl; noticed = refl; names_known = refl; entries = λ n. entry_self n (refs.entry_of K s.known n) };
-    queue = λ i h. h;
-    notes = ([], sym (none_more s.outbox), tt);
-  }
+  same_adds = adds_nothing K s s refl refl refl refl refl refl
 
 -- ---- a vat is told
 
@@ -189,16 +166,13 @@ module _ (script : Script) (honest : ℕ → Bool) (w : World) (v : ℕ) where
   Kept s t = KeepsOrder script honest w v s t
 
   pub kept_adds : (s t : Vat Name) → AddsOnly K s t → Kept s t
-  kept_adds s t g = (λ c. c, growing_keeps (ways script honest (amid v s w)) (ways script honest (amid v t w)) (adding_grows script honest w v s t g), λ x. leads_alike script honest v s t g.alike x)
+  kept_adds s t g = kept_grown script honest w v s t (grown_adds script honest w v s t g)
 
   kept_self : (s : Vat Name) → Kept s s
   kept_self s = kept_adds s s (same_adds K s)
 
-  pub kept_then : (s t u : Vat Name) → Kept s t → Kept t u → Kept s u
-  kept_then s t u g h = (λ c. h.0 (g.0 c), keeps_then (ways script honest (amid v s w)) (ways script honest (amid v t w)) (ways script honest (amid v u w)) g.0 h.0 g.1 h.1, λ x. h.2 x ∙ ap h.0 (g.2 x))
-
   from_there : {A : Type 0} (s t : Vat Name) (d : Done Name A) → Kept s t → IfGives (λ u. Kept t u) d → IfGives (λ u. Kept s u) d
-  from_there s t d g h = if_map (λ u. Kept t u) (λ u. Kept s u) (λ u i. kept_then s t u g i) d h
+  from_there s t d g h = if_map (λ u. Kept t u) (λ u. Kept s u) (λ u i. kept_then script honest w v s t u g i) d h
 
   -- a message is lost, and its answer settles
   module _ (x : List ℕ) (R : Name → Vat Name → Type 0) (settle : Settler {N = Name} {W = Name} K) (each_kept : (q : Name) (s : Vat Name) → R q s → IfGives (λ t. Kept s t) (settle q (Broken x) s)) where
@@ -230,24 +204,20 @@ module _ (script : Script) (honest : ℕ → Bool) (w : World) (v : ℕ) where
     here_loop settle p y k s here e h =
         let t = settled_to K s p y in
         let u : Vat Name = record t { queue = retargeted y s.queue k.held } in
-        let f = passed_by v p (aimed_at script v t y) in
-        let same : RefersAlike K t u = record { number = refl; gifts = refl; noticed = refl; names_known = refl; entries = λ n. entry_self n (refs.entry_of K t.known n) } in
-        let first : Kept s u = (f, here_keeps script honest w v r s p y k at h.0 e here h.2, λ x. leads_alike script honest v t u same x ∙ leads_on script honest v s t p y h.0 x) in
         subst (λ d. IfGives (λ z. Kept s z) d) (sym (all_sent K settle p y k.held (Then s p y) h.1 (line_same K p y t (Settles p y) (leads_here script honest w v r s p y k at h.0 e here))))
-        (kept_then s u (with_line u (Settles p y)) first (kept_adds u (with_line u (Settles p y)) (line_adds K u (Settles p y))))
+        (kept_then script honest w v s u (with_line u (Settles p y)) (here_so script honest w v r s p y at h.0 k e here h.2) (kept_adds u (with_line u (Settles p y)) (line_adds K u (Settles p y))))
 
     nowhere_there : (s : Vat Name) (p : Name) (x : List ℕ) → aimed_at script v (settled_to K s p (Broken x)) (Broken x) ≡ Nowhere
     unfolding aimed_at refs.severed refs.place aimed
     nowhere_there s p x = refl
 
     broken_first : (p : Name) (x : List ℕ) (k : Known Name) (s : Vat Name) → CanSettle script honest w v (Broken x) p k s → Kept s (settled_to K s p (Broken x))
-    broken_first p x k s h = let t = settled_to K s p (Broken x) in
-        (passed_by v p (aimed_at script v t (Broken x)), settling_to_nothing_keeps script honest w v r s p (Broken x) at h.0 (nowhere_there s p x) h.2, λ z. leads_on script honest v s t p (Broken x) h.0 z)
+    broken_first p x k s h = nothing_so script honest w v r s p (Broken x) at h.0 (nowhere_there s p x) h.2
 
     broken_loop : (settle : Settler {N = Name} {W = Name} K) (R : Name → Vat Name → Type 0) (p : Name) (x : List ℕ) (k : Known Name) (s : Vat Name) → ((q : Name) (t : Vat Name) → R q t → IfGives (λ u. Kept t u) (settle q (Broken x) t)) → CanSettle script honest w v (Broken x) p k s → SendsWell script honest w v (Broken x) R settle k.held (Then s p (Broken x)) → IfGives (λ t. Kept s t) (state.each (refs.send_on K settle) k.held (Then s p (Broken x)))
     broken_loop settle R p x k s f h g = let t = settled_to K s p (Broken x) in
         from_there s (Then s p (Broken x)) (state.each (refs.send_on K settle) k.held (Then s p (Broken x)))
-        (kept_then s t (Then s p (Broken x)) (broken_first p x k s h) (kept_adds t (Then s p (Broken x)) (line_adds K t (Settles p (Broken x)))))
+        (kept_then script honest w v s t (Then s p (Broken x)) (broken_first p x k s h) (kept_adds t (Then s p (Broken x)) (line_adds K t (Settles p (Broken x)))))
         (all_lost x R settle f k.held (Then s p (Broken x)) g)
 
     module _ (y : Value Name) (plain : IsPlain K y) (R : Name → Vat Name → Type 0) (settle : Settler {N = Name} {W = Name} K) (each_kept : (q : Name) (s : Vat Name) → R q s → IfGives (λ t. Kept s t) (settle q y s)) where
@@ -270,13 +240,13 @@ module _ (script : Script) (honest : ℕ → Bool) (w : World) (v : ℕ) where
       waits p [] s h = (kept_self s, h)
       waits p (q ∷ qs) s h = chain (λ t. Kept s t × WaitsWell script honest w v y R settle p qs t) (λ t. Kept s t × Follows K p y plain t) (settle q y s) (state.each (λ q. settle q y) qs)
           (if_both (λ t. Kept s t) (λ t. WaitsWell script honest w v y R settle p qs t) (settle q y s) (each_kept q s h.0) h.1)
-          (λ t g. if_map (λ u. Kept t u × Follows K p y plain u) (λ u. Kept s u × Follows K p y plain u) (λ u i. (kept_then s t u g.0 i.0, i.1)) (state.each (λ q. settle q y) qs t) (waits p qs t g.1))
+          (λ t g. if_map (λ u. Kept t u × Follows K p y plain u) (λ u. Kept s u × Follows K p y plain u) (λ u i. (kept_then script honest w v s t u g.0 i.0, i.1)) (state.each (λ q. settle q y) qs t) (waits p qs t g.1))
 
       reacts : (p : Name) (ms : List (Message Name)) (s : Vat Name) → Follows K p y plain s → IfGives (λ t. Kept s t × Follows K p y plain t) (state.each state.enqueue ms s)
       unfolding state.each state.◌>>◌ state.and_then state.give state.enqueue
       reacts p [] s h = (kept_self s, h)
       reacts p (m ∷ ms) s h = let t : Vat Name = record s { queue = s.queue ++ m ∷ [] } in
-          if_map (λ u. Kept t u × Follows K p y plain u) (λ u. Kept s u × Follows K p y plain u) (λ u i. (kept_then s t u (kept_adds s t (queue_adds K s m)) i.0, i.1)) (state.each state.enqueue ms t)
+          if_map (λ u. Kept t u × Follows K p y plain u) (λ u. Kept s u × Follows K p y plain u) (λ u i. (kept_then script honest w v s t u (kept_adds s t (adds_message K s m)) i.0, i.1)) (state.each state.enqueue ms t)
           (reacts p ms t (follows_queue K p y plain s (s.queue ++ m ∷ []) h))
 
       tells : (p : Name) (hs : List ℕ) (s : Vat Name) → Follows K p y plain s → IfGives (λ t. Kept s t) (state.each (refs.inform K p) hs s)
@@ -295,7 +265,7 @@ module _ (script : Script) (honest : ℕ → Bool) (w : World) (v : ℕ) where
           (waits p k.waiting t g.1)
           (λ u i. chain (λ z. Kept u z × Follows K p y plain z) (λ z. Kept s z) (state.each state.enqueue k.reactions u) (state.each (refs.inform K p) k.told)
           (reacts p k.reactions u i.1)
-          (λ z j. from_there s z (state.each (refs.inform K p) k.told z) (kept_then s u z (kept_then s t u g.0 i.0) j.0) (tells p k.told z j.1))))
+          (λ z j. from_there s z (state.each (refs.inform K p) k.told z) (kept_then script honest w v s u z (kept_then script honest w v s t u g.0 i.0) j.0) (tells p k.told z j.1))))
 
       stands_kept : (p : Name) (k : Known Name) (s : Vat Name) (q : Standing Name) → refs.entry_of K s.known p ≡ Some k → StandsWell script honest w v y R settle p k q s → IfGives (λ t. Kept s t) (refs.settle_standing K settle p y k q s)
       unfolding refs.settle_standing state.give

@@ -7,7 +7,8 @@ use Rattle.def_machine.specs.Refs.{entry_of, standing_of, follow, place, Settler
 use Rattle.def_machine.specs.Refs as refs
 use Rattle.def_run.specs.World.{Script, Link, World, link_at, with_link, with_notes, names}
 use Rattle.law_order.specs.Ways.{Lane, Held, Way, Item, Place, Nowhere, Free, End, Mid, Ways, IsIn, Doom, Ahead}
-use Rattle.law_order.specs.Changes.{Lacks, GoesOn, IsLost}
+use Rattle.law_order.specs.Changes.{GoesOn, IsLost}
+use Rattle.law_order.specs.Messages.{IsNowhere}
 use Rattle.law_order.specs.Turns.{Within, IsTurned}
 use Rattle.law_order.specs.Places.{item, opened_there, aimed, open_place, gift_place, leads_in, leads_at, ways, amid}
 use Rattle.law_order.specs.Worlds.{IfGives, IsWaiting, IsObject, IsKnown, SameWays}
@@ -54,18 +55,6 @@ pub record IsOpenWay (honest : ℕ → Bool) (a b : ℕ) (w : World) : Type 0 wh
   pub uncut : link.cut ≡ false
   pub sender : honest a ≡ true
   pub receiver : honest b ≡ true
-
--- the message stands nowhere in front of that place
-abbrev pub LacksAt : Name → Place → Type 0
-LacksAt x (Mid l b n) = Lacks x b
-LacksAt x Nowhere = Unit {0}
-LacksAt x Free = Unit {0}
-LacksAt x (End l n) = Unit {0}
-
--- the message stands nowhere
-pub record IsNowhere (w : Ways) (x : Name) : Type 0 where
-  pub lanes : (l : Lane) → Lacks x (w.stands l)
-  pub places : (l : Lane) (n : Name) → LacksAt x (w.onward l n)
 
 -- The item goes on from its lane to that place, or is lost where that is nowhere.
 abbrev pub GoesTo : Ways → Ways → Lane → Item → Place → Type 0

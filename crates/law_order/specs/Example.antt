@@ -1,15 +1,16 @@
 -- Two runs, and which message is before which in them; and a history in which a message is taken too early.
-use Rattle.std.specs.Prelude.{◌≡◌, ℕ, pos, Bool, true, false, List, [], ◌∷◌, None, codes}
-use Rattle.def_machine.specs.Values.{Ref, Name, Root, Gift, Sent, same_name, key}
+use Rattle.std.specs.Prelude.{◌≡◌, ℕ, pos, Bool, true, false, List, [], ◌∷◌, None, length, codes}
+use Rattle.def_machine.specs.Values.{Ref, Name, Root, Promise, Gift, Sent, same_name, key}
 use Rattle.def_machine.specs.Values as values
 use Rattle.def_machine.specs.State.{Message, Took}
-use Rattle.def_run.specs.World.{Turn, Carry, Script, Event, Here, World, Run, Goes, Stopped, then_goes, begins, open_from, steps_from, run}
+use Rattle.def_run.specs.World.{Entry, Turn, Carry, Script, Event, Here, World, Run, Goes, Stopped, then_goes, begins, open_from, steps_from, run}
 use Rattle.def_run.specs.Draws.{draw_word}
 use Rattle.def_kernel.specs.declared.node.Literal.TheVariants as literal
 use Rattle.def_kernel.specs.declared.node.Node.{Node}
 use Rattle.def_kernel.specs.declared.node.Node.TheVariants.{Lit, Noun, Def, Call, Sequence, Object, Method, Final, ListPattern}
-use Rattle.law_order.specs.Ways.{Queue, Held, Way, Place, End, Mid, Ways, Ahead}
+use Rattle.law_order.specs.Ways.{Queue, Held, Way, Item, Place, Nowhere, End, Mid, Ways, Ahead}
 use Rattle.law_order.specs.Places.{item, ways, leads, opened_places}
+use Rattle.law_order.specs.Messages.{place_of, opened_messages}
 use Rattle.law_order.specs.Order.{is_before, keeps_order, taken_after, opened_order}
 
 -- def [p, r] := Ref.promise(); p <- f(p); p <- g(); r.resolve(c)
@@ -170,9 +171,13 @@ unfoldable pub world_of : Run → World
 world_of (Goes w) = w
 world_of (Stopped c k w) = w
 
+-- the world of a script after the opening turns and those entries
+unfoldable pub world_after : Script → List Entry → World
+world_after script es = world_of (then_goes (open_from script 0 script.vats (begins script)) (λ w. steps_from script es (length script.vats) w))
+
 -- the world in which f and the note behind it are still under way, and g has come to c and waits there
 unfoldable pub waiting_world : World
-waiting_world = world_of (then_goes (open_from passed_script 0 passed_script.vats (begins passed_script)) (λ w. steps_from passed_script (Carry 0 1 ∷ Turn 1 ∷ Carry 1 2 ∷ Carry 1 2 ∷ []) 1 w))
+waiting_world = world_after passed_script (Carry 0 1 ∷ Turn 1 ∷ Carry 1 2 ∷ Carry 1 2 ∷ [])
 
 -- what a passed to b: the gift under the first word, at c
 unfoldable pub passed_name : Name
@@ -194,11 +199,96 @@ PlacesAreTold =
     × (leading 1 passed_name ≡ End (Way 1 2) passed_name)
     × (leading 2 (Root 2) ≡ End (Queue 2) (values.Object 2 0))
 
+unfoldable pub stood : Name → Place
+stood m = place_of passed_script (λ v. true) waiting_world m
+
+-- f stands first on its link, and g first of what c holds for the gift; the message that brought the gift to b was taken, and is nowhere.
+abbrev pub MessagesAreFound : Type 0
+MessagesAreFound =
+    (stood (message 0 0) ≡ Mid (Way 0 2) [] (Root 2))
+    × (stood (message 1 0) ≡ Mid (Held 2 passed_name) [] passed_name)
+    × (stood (message 0 1) ≡ Nowhere)
+
+-- where a message stands in such a world
+unfoldable pub stood_after : Script → List Entry → Name → Place
+stood_after script es m = place_of script (λ v. true) (world_after script es) m
+
+-- the promise of a
+unfoldable pub held_for : Name
+held_for = Promise 0 0
+
+-- f and g are held for the promise, f in front. As the promise settles they go to the link to c in that order, both on the object.
+abbrev pub HeldGoInOrder : Type 0
+HeldGoInOrder =
+    (stood_after held_script [] (message 0 0) ≡ Mid (Held 0 held_for) [] held_for)
+    × (stood_after held_script [] (message 0 1) ≡ Mid (Held 0 held_for) (item (message 0 0) held_for ∷ []) held_for)
+    × (stood_after held_script (Carry 1 0 ∷ []) (message 0 0) ≡ Mid (Way 0 1) [] (values.Object 1 0))
+    × (stood_after held_script (Carry 1 0 ∷ []) (message 0 1) ≡ Mid (Way 0 1) (item (message 0 0) (values.Object 1 0) ∷ []) (values.Object 1 0))
+
+-- def o {}; def [p, r] := Ref.promise(); def [q, s] := Ref.promise(); q <- k(); s.resolve(p); p <- f(); p <- g(); r.resolve(o)
+unfoldable pub tree_w : List Node
+tree_w =
+    Sequence (1 ∷ 3 ∷ 9 ∷ 15 ∷ 21 ∷ 24 ∷ 30 ∷ 36 ∷ [])
+    ∷ Object 2 [] []
+    ∷ Final (codes "o") None
+    ∷ Def 4 None 7
+    ∷ ListPattern (5 ∷ 6 ∷ [])
+    ∷ Final (codes "p") None
+    ∷ Final (codes "r") None
+    ∷ Call 8 (codes "promise") []
+    ∷ Noun (codes "Ref")
+    ∷ Def 10 None 13
+    ∷ ListPattern (11 ∷ 12 ∷ [])
+    ∷ Final (codes "q") None
+    ∷ Final (codes "s") None
+    ∷ Call 14 (codes "promise") []
+    ∷ Noun (codes "Ref")
+    ∷ Call 16 (codes "send") (17 ∷ 18 ∷ 19 ∷ [])
+    ∷ Noun (codes "E")
+    ∷ Noun (codes "q")
+    ∷ Lit (literal.Text (codes "k"))
+    ∷ Call 20 (codes "run") []
+    ∷ Noun (codes "__makeList")
+    ∷ Call 22 (codes "resolve") (23 ∷ [])
+    ∷ Noun (codes "s")
+    ∷ Noun (codes "p")
+    ∷ Call 25 (codes "send") (26 ∷ 27 ∷ 28 ∷ [])
+    ∷ Noun (codes "E")
+    ∷ Noun (codes "p")
+    ∷ Lit (literal.Text (codes "f"))
+    ∷ Call 29 (codes "run") []
+    ∷ Noun (codes "__makeList")
+    ∷ Call 31 (codes "send") (32 ∷ 33 ∷ 34 ∷ [])
+    ∷ Noun (codes "E")
+    ∷ Noun (codes "p")
+    ∷ Lit (literal.Text (codes "g"))
+    ∷ Call 35 (codes "run") []
+    ∷ Noun (codes "__makeList")
+    ∷ Call 37 (codes "resolve") (38 ∷ [])
+    ∷ Noun (codes "r")
+    ∷ Noun (codes "o")
+    ∷ []
+
+unfoldable pub settled_script : Script
+settled_script = record { key = []; fuel = 1000; depth = 100; vats = record { name = codes "a"; knows = []; tree = tree_w } ∷ []; schedule = [] }
+
+-- in the queue of a, all on o, with those in front
+unfoldable pub queued_behind : List Name → List Item
+queued_behind [] = []
+queued_behind (m ∷ ms) = item m (values.Object 0 0) ∷ queued_behind ms
+
+-- k was sent first, on a promise that waits for the one on which f and g were sent. As that settles what it held goes first.
+abbrev pub WaitingComeLast : Type 0
+WaitingComeLast =
+    (stood_after settled_script [] (message 0 1) ≡ Mid (Queue 0) [] (values.Object 0 0))
+    × (stood_after settled_script [] (message 0 2) ≡ Mid (Queue 0) (queued_behind (message 0 1 ∷ [])) (values.Object 0 0))
+    × (stood_after settled_script [] (message 0 0) ≡ Mid (Queue 0) (queued_behind (message 0 1 ∷ message 0 2 ∷ [])) (values.Object 0 0))
+
 -- So f is ahead of g there.
 abbrev pub FirstIsAhead : Type 0
 FirstIsAhead = Ahead waiting_ways (message 0 0) (Mid (Held 2 passed_name) [] passed_name)
 
 -- opens the definitions of this file
 unfoldable pub opened_example : Unit {0}
-unfolding tree_a tree_b tree_c tree_d tree_e held_script passed_script history_of message taken_for exchanged judged world_of waiting_world passed_name waiting_ways leading opened_order opened_places
+unfolding tree_a tree_b tree_c tree_d tree_e held_script passed_script history_of message taken_for exchanged judged world_of waiting_world passed_name waiting_ways leading stood world_after stood_after held_for tree_w settled_script queued_behind opened_order opened_places opened_messages
 opened_example = tt

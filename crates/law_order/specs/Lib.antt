@@ -4,6 +4,7 @@ pub mod Turns
 pub mod Order
 pub mod Example
 pub mod Places
+pub mod Messages
 pub mod Worlds
 pub mod Settle
 pub mod Settlings
@@ -11,3 +12,5 @@ pub mod Resolve
 pub mod Arrivals
 pub mod Steps
 pub mod OrderSendPassing
+pub mod Comings
+pub mod Leavings

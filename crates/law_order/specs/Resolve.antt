@@ -5,15 +5,15 @@ use Rattle.def_machine.specs.State.{Unsettled, Known, Vat}
 use Rattle.def_machine.specs.Refs.{Place, Near, Mine, Away, Gone, entry_of, follow, place, waits_lead, wait_on, resolve}
 use Rattle.def_run.specs.World.{Script, World, names}
 use Rattle.law_order.specs.Ways.{Held, Free}
-use Rattle.law_order.specs.Turns.{Within}
-use Rattle.law_order.specs.Places.{held_on, ways, amid}
+use Rattle.law_order.specs.Places.{ways, amid}
 use Rattle.law_order.specs.Worlds.{IfGives, IsWaiting}
-use Rattle.law_order.specs.Settlings.{IsPlain, KeepsOrder, SettlesWell}
+use Rattle.law_order.specs.Settlings.{IsPlain, SettlesWell}
+use Rattle.law_order.specs.Steps.{KeepsOrder}
 
 -- what is known of a name stands as it stood, but p, which was unsettled, may wait now
 abbrev pub StandsNear : Name → Name → Option (Known Name) → Option (Known Name) → Type 0
 StandsNear p n None None = Unit {0}
-StandsNear p n (Some j) (Some k) = ((k.standing ≡ j.standing) ⊎ ((n ≡ p) × (j.standing ≡ Unsettled) × IsWaiting k.standing)) × (k.host ≡ j.host) × Within (held_on n j.held) (held_on n k.held)
+StandsNear p n (Some j) (Some k) = ((k.standing ≡ j.standing) ⊎ ((n ≡ p) × (j.standing ≡ Unsettled) × IsWaiting k.standing)) × (k.host ≡ j.host) × (k.held ≡ j.held)
 StandsNear p n None (Some k) = ⊥
 StandsNear p n (Some j) None = ⊥
 

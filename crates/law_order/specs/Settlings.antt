@@ -4,10 +4,10 @@ use Rattle.def_machine.specs.Values.{Value, Null, Flag, Number, Letter, Text, Pr
 use Rattle.def_machine.specs.State.{Message, Standing, Unsettled, WaitsOn, Viewed, Settled, Known, Vat, Happened, Lost, Settles, WhereSome, each}
 use Rattle.def_machine.specs.Refs.{Settler, entry_of, follow, send_on, settle_at}
 use Rattle.def_run.specs.World.{Script, World, names}
-use Rattle.law_order.specs.Ways.{Place}
-use Rattle.law_order.specs.Places.{leads_in, ways, amid}
+use Rattle.law_order.specs.Places.{ways, amid}
 use Rattle.law_order.specs.Worlds.{IfGives}
-use Rattle.law_order.specs.Settle.{KeepsBy, SettlesHere, IsReady, IsOwnSpot, AllOn, aimed_at, settled_to}
+use Rattle.law_order.specs.Steps.{KeepsOrder}
+use Rattle.law_order.specs.Settle.{SettlesHere, IsReady, IsOwnSpot, AllOn, aimed_at, settled_to}
 
 abbrev pub with_line : Vat Name → Happened Name → Vat Name
 with_line s e = record s { happened = s.happened ++ e ∷ [] }
@@ -25,10 +25,6 @@ IsPlain K (Broken p) = Unit {0}
 IsPlain K (Items k) = ⊥
 
 module _ (script : Script) (honest : ℕ → Bool) (w : World) (v : ℕ) where
-  -- From s to t, in the middle of a step: each reference of the vat leads to what f tells of where it led, what is doomed stays doomed, and what is ahead stays ahead.
-  abbrev pub KeepsOrder : Vat Name → Vat Name → Type 0
-  KeepsOrder s t = (f : Place → Place) × KeepsBy (ways script honest (amid v s w)) (ways script honest (amid v t w)) f × ((x : Value Name) → leads_in script honest v t x ≡ f (leads_in script honest v s x))
-
   -- ---- what is asked of each state between, where all that settles settles to y
 
   module _ (y : Value Name) where

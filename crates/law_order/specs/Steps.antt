@@ -1,5 +1,5 @@
 -- What a turn does to the order of messages: sends, passings and new names make the ways grow; settlings stand out.
-use Rattle.std.specs.Prelude.{◌≡◌, ℕ, suc, ◌≤◌, Bool, true, List, [], ◌∷◌, Some, None, length, slice_get, ◌⊎◌}
+use Rattle.std.specs.Prelude.{◌≡◌, ℕ, ◌≤◌, Bool, true, List, [], ◌∷◌, Some, None, length, slice_get, ◌⊎◌}
 use Rattle.def_machine.specs.Values.{Words, Value, Null, Flag, Number, Letter, Text, Prim, Broken, Items, Ref, Name, Promise, Answer, Sent, key, word_of}
 use Rattle.def_machine.specs.State.{Binding, Message, Note, Deliver, Open, Ask, SettledTo, Elsewhere, Shorten, Vat, is_in}
 use Rattle.def_machine.specs.Refs.{Away, Gone, entry_of, follow, place, pass, deliver, settle, resolve, send, send_only, react}
@@ -8,6 +8,7 @@ use Rattle.law_machine.specs.Steps.{After}
 use Rattle.def_run.specs.World.{Script, Link, World, names, push_all}
 use Rattle.def_kernel.specs.declared.node.Node.{Node}
 use Rattle.law_order.specs.Ways.{Lane, Queue, Held, Way, Item, Mid, Ways, Doom, Ahead}
+use Rattle.law_order.specs.Messages.{More, StandsAt, StaysBehind}
 use Rattle.law_order.specs.Changes.{Grows}
 use Rattle.law_order.specs.Places.{leads, ways, amid}
 use Rattle.law_order.specs.Ways as lanes
@@ -55,9 +56,10 @@ module _ (script : Script) (honest : ℕ → Bool) (w : World) (v : ℕ) where
     pub answers : (h i : ℕ) → s.messages ≤ i → entry_of (names script v) s.known (Answer h (record { sender = v; number = i })) ≡ None
     pub promises : (i : ℕ) → s.promises ≤ i → entry_of (names script v) s.known (Promise v i) ≡ None
 
-  -- The ways only grow, and every vat would send on each value where it would have sent before.
+  -- The ways only grow, messages come to the ends of lanes alone, and every vat would send on each value where it would have sent before.
   pub record Grown (s t : Vat Name) : Type 0 where
     pub grows : Grows (WaysAmid s) (WaysAmid t)
+    pub more : (l : Lane) → More (WaysAmid s) (WaysAmid t) l
     pub leading : (u : ℕ) (x : Value Name) → LeadsAmid t u x ≡ LeadsAmid s u x
 
   -- Whoever is ready stays so, and the ways only grow.
@@ -77,19 +79,28 @@ module _ (script : Script) (honest : ℕ → Bool) (w : World) (v : ℕ) where
   IsApart (Held u p) = u ≡ v → ⊥
   IsApart (Way a b) = Unit {0}
 
-  -- What was ahead of a reference or of a message is ahead of it still, and what was doomed is doomed. Of what this vat itself holds nothing is said.
-  pub record KeepsAhead (s t : Vat Name) : Type 0 where
-    pub doomed : (u : ℕ) (x : Value Name) → Doom (WaysAmid s) (LeadsAmid s u x) → Doom (WaysAmid t) (LeadsAmid t u x)
-    pub ahead : (m : Name) (u : ℕ) (x : Value Name) → Ahead (WaysAmid s) m (LeadsAmid s u x) → Ahead (WaysAmid t) m (LeadsAmid t u x)
-    pub doomed_there : (l : Lane) (b : List Item) (n : Name) → IsApart l → Doom (WaysAmid s) (Mid l b n) → Doom (WaysAmid t) (Mid l b n)
-    pub ahead_there : (m : Name) (l : Lane) (b : List Item) (n : Name) → IsApart l → Ahead (WaysAmid s) m (Mid l b n) → Ahead (WaysAmid t) m (Mid l b n)
+  -- Message m stood with just b in front of it, on the name n, in what the vat held for p. From s to t it stands there still; or it came to a queue or a link, where all is ahead of it that was; or no object takes what was held there.
+  pub data IsSentOn (s t : Vat Name) (m p : Name) (b : List Item) (n : Name) : Type 0 where
+    still_held : StandsAt (WaysAmid t) m (Held v p) b n → IsSentOn s t m p b n
+    sent_there : {l : Lane} {a : List Item} {o : Name} → IsApart l → StandsAt (WaysAmid t) m l a o → StaysBehind (WaysAmid s) (WaysAmid t) (Mid (Held v p) b n) (Mid l a o) → IsSentOn s t m p b n
+    now_lost : Doom (WaysAmid t) (Mid (Held v p) b n) → IsSentOn s t m p b n
 
-  -- where each settling of this course keeps the vat ready, and keeps what is ahead
+  -- From s to t, in the middle of a step, what is doomed stays doomed and what is ahead stays ahead, of each thing from the place that it had to the place that it has.
+  pub record KeepsOrder (s t : Vat Name) : Type 0 where
+    -- each reference, of each vat
+    pub references : (u : ℕ) (x : Value Name) → StaysBehind (WaysAmid s) (WaysAmid t) (LeadsAmid s u x) (LeadsAmid t u x)
+    -- what stays where it stood
+    pub places : (l : Lane) (b : List Item) (n : Name) → StaysBehind (WaysAmid s) (WaysAmid t) (Mid l b n) (Mid l b n)
+    -- So does each message in a queue, on a link, or held by another vat.
+    pub apart : (m : Name) (l : Lane) (b : List Item) (n : Name) → IsApart l → StandsAt (WaysAmid s) m l b n → StandsAt (WaysAmid t) m l b n
+    pub held : (m p : Name) (b : List Item) (n : Name) → StandsAt (WaysAmid s) m (Held v p) b n → IsSentOn s t m p b n
+
+  -- where each settling of this course keeps the vat ready, and keeps order
   abbrev pub SettlingsKeep : {s t : Vat Name} → Course s t → Type 0
   SettlingsKeep over = Unit {0}
   SettlingsKeep (grew f c) = SettlingsKeep c
-  SettlingsKeep (settled {s} {t} p y e c) = (Ready s → Ready t × KeepsAhead s t) × SettlingsKeep c
-  SettlingsKeep (resolved {s} {t} p x e c) = (Ready s → Ready t × KeepsAhead s t) × SettlingsKeep c
+  SettlingsKeep (settled {s} {t} p y e c) = (Ready s → Ready t × KeepsOrder s t) × SettlingsKeep c
+  SettlingsKeep (resolved {s} {t} p x e c) = (Ready s → Ready t × KeepsOrder s t) × SettlingsKeep c
 
   -- what a vat may have in hand: data, an object, or a name that it knows
   abbrev pub IsHeld : Vat Name → Value Name → Type 0
@@ -132,13 +143,13 @@ SendsAreAhead = (script : Script) (honest : ℕ → Bool) (w : World) (v act : �
     → let IsAhead : (Vat Name → Type 0) = (λ t. Ahead (WaysAmid script honest w v t) (Sent (record { sender = v; number = s.messages })) (LeadsAmid script honest w v s v x)) in
     IfGives IsAhead (send (names script v) act x verb args s) × IfGives IsAhead (send_only (names script v) act x verb args s)
 
--- By such changes what is ahead stays ahead, and what is doomed stays doomed, of each reference and of each place.
+-- By such changes each reference and each message keeps its order: each message stands where it stood.
 abbrev pub GrownKeeps : Type 0
-GrownKeeps = (script : Script) (honest : ℕ → Bool) (w : World) (v : ℕ) (s t : Vat Name) → Grown script honest w v s t → KeepsAhead script honest w v s t
+GrownKeeps = (script : Script) (honest : ℕ → Bool) (w : World) (v : ℕ) (s t : Vat Name) → Grown script honest w v s t → KeepsOrder script honest w v s t
 
--- So a course keeps what is ahead where each settling in it does.
+-- So a course keeps order where each settling in it does.
 abbrev pub CoursesKeep : Type 0
-CoursesKeep = (script : Script) (honest : ℕ → Bool) (w : World) (v : ℕ) (s t : Vat Name) (c : Course script honest w v s t) → SettlingsKeep script honest w v c → Ready script honest w v s → Ready script honest w v t × KeepsAhead script honest w v s t
+CoursesKeep = (script : Script) (honest : ℕ → Bool) (w : World) (v : ℕ) (s t : Vat Name) (c : Course script honest w v s t) → SettlingsKeep script honest w v c → Ready script honest w v s → Ready script honest w v t × KeepsOrder script honest w v s t
 
 -- A send goes by such changes, with an answer or without; where the value is broken, the answer of the message, which is new, settles at the end.
 abbrev pub SendingGoesSo : Type 0

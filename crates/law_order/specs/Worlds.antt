@@ -4,10 +4,10 @@ use Rattle.def_machine.specs.Values.{Value, Null, Flag, Number, Letter, Text, Pr
 use Rattle.def_machine.specs.State.{Message, Standing, Unsettled, WaitsOn, Viewed, Settled, Known, Note, Deliver, Open, Ask, SettledTo, Elsewhere, Shorten, Put, Vat, Done, Gives, Throws, Ejects, Stops, begun}
 use Rattle.def_machine.specs.Refs.{entry_of, follow_at, place, Mine, Away, Settler, send_to}
 use Rattle.def_run.specs.World.{Script, Event, World, names, readied}
-use Rattle.law_order.specs.Ways.{Lane, Queue, Mid, Ways, Doom, Ahead}
+use Rattle.law_order.specs.Ways.{Item, Lane, Queue, Mid, Ways, Doom, Ahead}
 use Rattle.law_order.specs.Changes.{Grows, IsTaken}
 use Rattle.law_order.specs.Turns.{Within}
-use Rattle.law_order.specs.Places.{queued, held_on, aimed, ways, amid}
+use Rattle.law_order.specs.Places.{queued, held_on, held_in, aimed, ways, amid}
 
 -- Nothing is ahead of the place in front of a queue, and it is not doomed, whoever is honest.
 abbrev pub QueuesAreFree : Type 0
@@ -68,10 +68,11 @@ pub record RefersAlike (K : Naming Name Name) (s t : Vat Name) : Type 0 where
   pub names_known : length t.known ≡ length s.known
   pub entries : (n : Name) → StandsAlike n (entry_of K s.known n) (entry_of K t.known n)
 
--- From s to t the vat only added: messages to its queue and to what names hold, and notes that let no gift go. No name came to be known or stands otherwise.
+-- From s to t the vat only added: messages at the ends of its queue and of what names hold, and notes that let no gift go. No name came to be known or stands otherwise.
 pub record AddsOnly (K : Naming Name Name) (s t : Vat Name) : Type 0 where
   pub alike : RefersAlike K s t
-  pub queue : Within (queued s.queue) (queued t.queue)
+  pub queue : (js : List Item) × (queued t.queue ≡ queued s.queue ++ js)
+  pub held : (n : Name) → (js : List Item) × (held_in n (entry_of K t.known n) ≡ held_in n (entry_of K s.known n) ++ js)
   pub notes : (ps : List (Put Name)) × (t.outbox ≡ s.outbox ++ ps) × NothingGoes ps
 
 -- In the middle of a step the ways only grow by what only adds, so what is ahead stays ahead.

@@ -2,6 +2,7 @@
 #![tactic(auto)]
 
 pub mod arrive;
+pub mod message;
 pub mod order;
 pub mod passing;
 pub mod send;

@@ -38,16 +38,19 @@ pub fn turns_go_so()
     ensures { TurnsGoSo }
 {}
 
-/// By changes by which the ways only grow and each reference leads where it led, what is ahead of a
-/// reference or a message stays ahead of it, and what is doomed stays doomed.
+/// By changes by which the ways only grow, messages come to the ends of lanes alone, and each reference leads
+/// where it led, what is ahead of a reference or a message stays ahead of it, and what is doomed stays
+/// doomed. Each message stands where it stood, behind the same.
 pub fn grown_keeps()
     ensures { GrownKeeps }
 {}
 
-/// So a course keeps what is ahead, and keeps the vat ready, where each settling in it does.
+/// So a course keeps the order of each reference and each message, and keeps the vat ready, where each settling
+/// in it does.
 ///
-/// By `turns_go_so` each turn is such a course, so of a turn only its settlings are open. Of messages that
-/// the vat itself holds nothing is said: they come elsewhere as what holds them settles.
+/// By `turns_go_so` each turn is such a course, so of a turn only its settlings are open. A message that the vat
+/// held stands there still at its end; or it is in a queue or on a link, where all is ahead of it that was
+/// ahead of it; or what was held there is doomed.
 pub fn courses_keep()
     ensures { CoursesKeep }
 {}

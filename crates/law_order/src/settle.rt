@@ -54,7 +54,12 @@ pub fn settling_here_keeps()
 /// What is ahead stays ahead, and what is doomed stays doomed, through a whole settling as the machine does it,
 /// in the middle of a step: the held messages are sent on, then the names that wait settle, then the
 /// reactions are queued, then the vats that are to be told are told; and where a message is lost its
-/// answer settles. Each reference of the vat leads from then on to where the place of old went.
+/// answer settles.
+///
+/// It is said of each thing from the place that it had to the place that it has. Each reference of each vat is
+/// where it leads then. A message in a queue, on a link, or held by another vat stands where it stood, behind
+/// the same. One that the vat held stands there still; or it is in the vat's queue, where all is ahead of it
+/// that was ahead of it; or what was held there is doomed.
 ///
 /// It is said of settlings to an object of the vat, to data but lists, and to what is broken. It asks of
 /// each name that settles in it, in the state in which it does, what `settling_keeps` asks, and that
@@ -65,7 +70,8 @@ pub fn settlings_keep()
 {}
 
 /// What is ahead stays ahead, and what is doomed stays doomed, as a name waits for another of which nothing was
-/// said: each reference leads where it led, and what the name holds goes on to where the other leads.
+/// said: each reference leads where it led, each message stands where it stood, and what the name holds goes
+/// on to where the other leads.
 ///
 /// It asks that nothing else changed that tells where messages go.
 pub fn waiting_keeps()

@@ -1,6 +1,4 @@
-use Rattle.std.proofs.Common.{◌∙◌, ap, ℕ, string_bytes, subst}
-use Rattle.std.proofs.lemmas.Result.{IfOk-weaker}
-use Rattle.ev_top.specs.Debt.{Debt, IsFor}
+use Rattle.std.proofs.Common.{◌∙◌, ap, ℕ}
 use Rattle.ev_top.specs.Ends.{summed_by}
 use Rattle.ev_top.proofs.ReadLemmas.{count_is}
 use Rattle.ev_top.proofs.Summed.{script_summed}
@@ -13,5 +11,4 @@ pub returns : goal.returns
 returns c =
     let ran = c.in_ok-ran.ran in
     let told = c.in_ok-text.ensures ∙ ap (λ (n : ℕ). summed_by ran.history n ran.end) c.steps_of.ensures in
-    let same = script_summed c.args.script.now c.args.programs.items ran.end ran.history _ c.requires.admitted c.in_ok-ran.ensures.end c.in_ok-ran.ensures.events told in
-    IfOk-weaker c.reply_told.result _ _ (λ reply due. subst (λ (d : Debt). IsFor reply.status (string_bytes reply.text) d) same due) c.reply_told.ensures
+    script_summed c.args.script.now c.args.programs.items ran.end ran.history _ _ c.requires.admitted c.in_ok-ran.ensures.end c.in_ok-ran.ensures.events c.status_by.ensures told

@@ -1,0 +1,216 @@
+-- As the first message of a lane leaves, each other stands where it stood, or one nearer to the front.
+use Rattle.std.proofs.Common.{◌≡◌, ℕ, Bool, true, false, List, [], ◌∷◌, ◌++◌, Some, refl, sym, ap, subst, ◌∙◌, ◌⊎◌, inl, inr, eqb-true}
+use Rattle.std.proofs.lemmas.Bool.{eqb-false}
+use Rattle.std.proofs.lemmas.List.{append-nil, append_assoc}
+use Rattle.std.specs.Prelude.{slice_get, ◌==◌}
+use Rattle.def_machine.specs.Values.{Words, Ref, Name}
+use Rattle.def_machine.specs.State.{Message, Passeds, Delivery, Note, Deliver, Vat}
+use Rattle.def_machine.specs.Refs as refs
+use Rattle.def_run.specs.World.{Script, Link, World, names}
+use Rattle.def_run.specs.World as world
+use Rattle.law_order.specs.Ways.{Lane, Queue, Held, Way, Item, Mid, Ways}
+use Rattle.law_order.specs.Changes.{Beheads, stays, nearer}
+use Rattle.law_order.specs.Places.{item, queued, held_in, delivered, is_honest, stands_at, ways_of, ways, amid}
+use Rattle.law_order.specs.Messages.{More, StandsAt}
+use Rattle.law_order.specs.Worlds.{AddsOnly}
+use Rattle.law_order.specs.Arrivals.{in_front, keeping, IsOpenWay}
+use Rattle.law_order.specs.Leavings.{FirstLeft, FirstLeftKeeps, TakenIsFirst, CarriedIsFirst}
+use Rattle.law_order.proofs.Amid as amid_proofs
+use Rattle.law_order.proofs.Arrived.{all_open}
+use Rattle.law_order.proofs.Comings.{put_on}
+use Rattle.law_order.proofs.Named.{Test, test_self, test_is, false_true}
+use Rattle.law_order.proofs.OrderKeeping.{all_put_on}
+use Rattle.law_order.proofs.Pushing.{push_append}
+use Rattle.law_order.proofs.Sends.{found_ends, link_here, link_behind, ends_of}
+use Rattle.law_order.proofs.Standing.{OnLink, Row, rows_more, stands_more, queue_is, queue_more, held_more, way_more}
+
+-- ---- whether two lanes are one
+
+abbrev Same : Lane → Lane → Type 0
+Same l k = (l ≡ k) ⊎ (l ≡ k → ⊥)
+
+abbrev IsQueue : Lane → Type 0
+IsQueue (Queue v) = Unit {0}
+IsQueue (Held v p) = ⊥
+IsQueue (Way a b) = ⊥
+
+abbrev IsHeld : Lane → Type 0
+IsHeld (Queue v) = ⊥
+IsHeld (Held v p) = Unit {0}
+IsHeld (Way a b) = ⊥
+
+abbrev IsWay : Lane → Type 0
+IsWay (Queue v) = ⊥
+IsWay (Held v p) = ⊥
+IsWay (Way a b) = Unit {0}
+
+abbrev one_of : Lane → ℕ
+one_of (Queue v) = v
+one_of (Held v p) = v
+one_of (Way a b) = a
+
+abbrev other_of : Lane → ℕ
+other_of (Queue v) = v
+other_of (Held v p) = v
+other_of (Way a b) = b
+
+abbrev name_of : Name → Lane → Name
+name_of n (Queue v) = n
+name_of n (Held v p) = p
+name_of n (Way a b) = n
+
+same_queue : (u v : ℕ) (c : Bool) → (u == v) ≡ c → Same (Queue u) (Queue v)
+same_queue u v true e = inl (ap Queue (eqb-true u v e))
+same_queue u v false e = inr (λ q. eqb-false u v e (ap (λ z. one_of z) q))
+
+same_held : (u v : ℕ) (p q : Name) (c : Bool) → Test v q u p ≡ c → Same (Held u p) (Held v q)
+same_held u v p q true e = let h = test_is v q u p e in inl (ap (λ z. Held z p) h.0 ∙ ap (λ z. Held v z) h.1)
+same_held u v p q false e = inr (λ i. false_true (sym e ∙ subst (λ z. Test v q z p ≡ true) (sym (ap (λ z. one_of z) i)) (subst (λ z. Test v q v z ≡ true) (sym (ap (λ z. name_of p z) i)) (test_self v q))))
+
+same_way : (a b c d : ℕ) (x y : Bool) → (a == c) ≡ x → (b == d) ≡ y → Same (Way a b) (Way c d)
+same_way a b c d true true e f = inl (ap (λ z. Way z b) (eqb-true a c e) ∙ ap (λ z. Way c z) (eqb-true b d f))
+same_way a b c d false y e f = inr (λ q. eqb-false a c e (ap (λ z. one_of z) q))
+same_way a b c d true false e f = inr (λ q. eqb-false b d f (ap (λ z. other_of z) q))
+
+same_lane : (l k : Lane) → Same l k
+same_lane (Queue u) (Queue v) = same_queue u v (u == v) refl
+same_lane (Held u p) (Held v q) = same_held u v p q (Test v q u p) refl
+same_lane (Way a b) (Way c d) = same_way a b c d (a == c) (b == d) refl refl
+same_lane (Queue u) (Held v q) = inr (λ e. subst IsQueue e tt)
+same_lane (Queue u) (Way c d) = inr (λ e. subst IsQueue e tt)
+same_lane (Held u p) (Queue v) = inr (λ e. subst IsHeld e tt)
+same_lane (Held u p) (Way c d) = inr (λ e. subst IsHeld e tt)
+same_lane (Way a b) (Queue v) = inr (λ e. subst IsWay e tt)
+same_lane (Way a b) (Held v q) = inr (λ e. subst IsWay e tt)
+
+-- ---- the first leaves
+
+head : Item → List Item → Item
+head i [] = i
+head i (j ∷ js) = j
+
+tail : List Item → List Item
+tail [] = []
+tail (j ∷ js) = js
+
+module _ (w u : Ways) (k : Lane) (i : Item) (g : FirstLeft w u k i) (m : Name) (n : Name) where
+  abbrev Fate : Lane → List Item → Type 0
+  Fate l b = ((l ≡ k) × (b ≡ []) × (item m n ≡ i)) ⊎ ((c : List Item) × Beheads k i (Mid l b n) (Mid l c n) × StandsAt u m l c n)
+
+  in_lane : (b : List Item) → StandsAt w m k b n → Fate k b
+  unfolding head tail
+  in_lane [] h = inl (refl, refl, ap (λ z. head i z) (sym h.found ∙ g.first))
+  in_lane (j ∷ b) h =
+      let split : i ∷ g.rest ≡ j ∷ (b ++ item m n ∷ h.behind) = sym g.first ∙ h.found in
+      let same : j ≡ i = sym (ap (λ z. head i z) split) in
+      inr (
+        b,
+        subst (λ z. Beheads k i (Mid k (z ∷ b) n) (Mid k b n)) (sym same) nearer,
+        record { behind = h.behind ++ g.after.0; found = g.after.1 ∙ ap (λ z. tail z ++ g.after.0) split ∙ append_assoc b (item m n ∷ h.behind) g.after.0 },
+      )
+
+  fate : (l : Lane) (b : List Item) → StandsAt w m l b n → Same l k → Fate l b
+  fate l b h (inl e) = subst (λ z. Fate z b) (sym e) (in_lane b (subst (λ z. StandsAt w m z b n) e h))
+  fate l b h (inr e) = inr (b, stays, stands_more w u m l b n (g.others l e) h)
+
+pub first_left_keeps : FirstLeftKeeps
+first_left_keeps = λ w u k i g m l b n h. fate w u k i g m n l b h (same_lane l k)
+
+-- ---- one is taken
+
+module _ (script : Script) (honest : ℕ → Bool) (w : World) (v : ℕ) (r s : Vat Name) (m : Message Name) (ms : List (Message Name)) (n : Name) (at : slice_get w.vats v ≡ Some r) (first : s.queue ≡ m ∷ ms) (on : m.target ≡ Ref n) where
+  abbrev Taken : Vat Name
+  Taken = record s { queue = ms }
+
+  others_stand : (l : Lane) → (l ≡ Queue v → ⊥) → More (ways script honest (amid v s w)) (ways script honest (amid v Taken w)) l
+  others_stand (Queue u) f = queue_more script honest w v s Taken u (λ e. absurd (f (ap Queue e)))
+  others_stand (Held u p) f = held_more script honest w v s Taken u p (λ e. ([], sym (append-nil (held_in p (refs.entry_of (names script v) s.known p)))))
+  others_stand (Way a b) f = way_more script honest w v s Taken [] (sym (append-nil s.outbox)) a b
+
+  taken_first : FirstLeft (ways script honest (amid v s w)) (ways script honest (amid v Taken w)) (Queue v) (item m.id n)
+  taken_first = record {
+    rest = queued ms;
+    first = queue_is script honest w v r at s ∙ amid_proofs.queue_is script honest w v s m ms n first on;
+    after = ([], queue_is script honest w v r at Taken ∙ sym (append-nil (queued ms)));
+    others = λ l f. others_stand l f;
+  }
+
+pub taken_is_first : TakenIsFirst
+taken_is_first = λ script honest w v r s m ms n at first on. taken_first script honest w v r s m ms n at first on
+
+-- ---- one arrives
+
+module _ (script : Script) (honest : ℕ → Bool) (a b : ℕ) (m : Delivery Name) (n : Name) (verb : Words) (ys : Passeds Name) where
+  abbrev D : Note Name
+  D = Deliver m n verb ys
+
+  front_ends : (x y : ℕ) (k : Link) → world.is_link x y (in_front D k) ≡ world.is_link x y k
+  unfolding in_front world.is_link
+  front_ends x y k = refl
+
+  row_apart : (x y : ℕ) → (Way x y ≡ Way a b → ⊥) → (ls : List Link) → Row script honest (world.link_at x y (world.with_link (in_front D) a b ls)) ≡ Row script honest (world.link_at x y ls)
+  unfolding world.with_link world.link_at
+  row_apart x y f [] = refl
+  row_apart x y f (k ∷ ls) = go (row_apart x y f ls) (world.is_link x y k) (world.is_link a b k) refl refl
+    where
+      go : Row script honest (world.link_at x y (world.with_link (in_front D) a b ls)) ≡ Row script honest (world.link_at x y ls) → (c d : Bool) → world.is_link x y k ≡ c → world.is_link a b k ≡ d
+          → Row script honest (world.link_at x y (elim d [ true ↦ in_front D k ∷ ls | false ↦ k ∷ world.with_link (in_front D) a b ls ])) ≡ Row script honest (elim c [ true ↦ Some k | false ↦ world.link_at x y ls ])
+      go h true true e i = let p = ends_of x y k e in let q = ends_of a b k i in absurd (f (ap (λ z. Way z y) (sym p.0 ∙ q.0) ∙ ap (λ z. Way a z) (sym p.1 ∙ q.1)))
+      go h true false e i = ap (λ o. Row script honest o) (link_here x y k (world.with_link (in_front D) a b ls) e)
+      go h false true e i = ap (λ o. Row script honest o) (link_behind x y (in_front D k) ls (front_ends x y k ∙ e))
+      go h false false e i = ap (λ o. Row script honest o) (link_behind x y k (world.with_link (in_front D) a b ls) e) ∙ h
+
+  front_row : (l : Link) → is_honest script honest l ≡ true → OnLink script honest (in_front D l) ≡ item m.message n ∷ OnLink script honest l
+  unfolding in_front is_honest delivered
+  front_row l e = ap (λ c. elim c [ true ↦ item m.message n ∷ delivered l.notes | false ↦ [] ]) e ∙ ap (λ c. item m.message n ∷ elim c [ true ↦ delivered l.notes | false ↦ [] ]) (sym e)
+
+  row_front : (ls : List Link) (l : Link) → world.link_at a b ls ≡ Some l → is_honest script honest l ≡ true → Row script honest (world.link_at a b (world.with_link (in_front D) a b ls)) ≡ item m.message n ∷ Row script honest (world.link_at a b ls)
+  row_front ls l e h = ap (λ o. Row script honest o) (put_on script honest (in_front D) a b (λ k. front_ends a b k) ls (Some l) e) ∙ front_row l h ∙ ap (λ o. item m.message n ∷ Row script honest o) (sym e)
+
+  module _ (w : World) (s t : Vat Name) (way : IsOpenWay honest a b w) (g : AddsOnly (names script b) s t) where
+    abbrev From : Ways
+    From = ways script honest (amid b s (keeping a b D w))
+
+    abbrev To : Ways
+    To = ways script honest (amid b t w)
+
+    abbrev Before : List Link
+    Before = world.push_all b s.outbox w.links
+
+    both_honest : (l : Link) → l.from ≡ a → l.to ≡ b → is_honest script honest l ≡ true
+    unfolding is_honest
+    both_honest l e f = rw e (rw f (rw way.sender way.receiver))
+
+    from_way : (x y : ℕ) → From.stands (Way x y) ≡ Row script honest (world.link_at x y (world.with_link (in_front D) a b Before))
+    unfolding ways ways_of stands_at amid keeping
+    from_way x y = ap (λ ls. Row script honest (world.link_at x y ls)) (all_put_on a b b D s.outbox w.links)
+
+    to_way : (x y : ℕ) → (js : List Item) × (To.stands (Way x y) ≡ Row script honest (world.link_at x y Before) ++ js)
+    unfolding ways ways_of stands_at amid
+    to_way x y = let f = rows_more script honest x y b g.notes.0 Before in (f.0, ap (λ ps. Row script honest (world.link_at x y (world.push_all b ps w.links))) g.notes.1 ∙ ap (λ ls. Row script honest (world.link_at x y ls)) (push_append b s.outbox g.notes.0 w.links) ∙ f.1)
+
+    queue_there : (u : ℕ) → More From To (Queue u)
+    unfolding ways ways_of stands_at amid keeping
+    queue_there u = queue_more script honest w b s t u (λ e. g.queue)
+
+    held_there : (u : ℕ) (p : Name) → More From To (Held u p)
+    unfolding ways ways_of stands_at amid keeping
+    held_there u p = held_more script honest w b s t u p (λ e. g.held p)
+
+    rest_stands : (l : Lane) → (l ≡ Way a b → ⊥) → More From To l
+    rest_stands (Queue u) f = queue_there u
+    rest_stands (Held u p) f = held_there u p
+    rest_stands (Way x y) f = let h = to_way x y in (h.0, h.1 ∙ ap (λ js. js ++ h.0) (sym (from_way x y ∙ row_apart x y f Before)))
+
+    arrived_first : FirstLeft From To (Way a b) (item m.message n)
+    arrived_first =
+        let o = all_open a b b s.outbox w.links (way.link, way.found, way.uncut) in
+        let e = found_ends a b Before o.0 o.1 in record {
+          rest = Row script honest (world.link_at a b Before);
+          first = from_way a b ∙ row_front Before o.0 o.1 (both_honest o.0 e.0 e.1);
+          after = to_way a b;
+          others = λ l f. rest_stands l f;
+        }
+
+pub carried_is_first : CarriedIsFirst
+carried_is_first = λ script honest w a b s t m n verb ys way g. arrived_first script honest a b m n verb ys w s t way g

@@ -1,0 +1,207 @@
+-- Each thing keeps its order as a name settles: what the name held comes to the queue in its order, or is doomed where it stood.
+use Rattle.std.proofs.Common.{◌≡◌, ℕ, Bool, true, false, List, [], ◌∷◌, ◌++◌, Option, Some, None, refl, sym, ap, subst, ◌∙◌, inl, inr}
+use Rattle.std.proofs.lemmas.List.{append-nil, append_assoc}
+use Rattle.std.specs.Prelude.{slice_get}
+use Rattle.def_machine.specs.Values.{Value, Null, Flag, Number, Letter, Text, Prim, Broken, Items, Ref, Name, Naming}
+use Rattle.def_machine.specs.State.{Message, Known, Vat, Settle}
+use Rattle.def_machine.specs.Refs as refs
+use Rattle.def_machine.specs.Refs.{Near}
+use Rattle.def_run.specs.World.{Script, Link, World, names}
+use Rattle.def_run.specs.World as world
+use Rattle.law_order.specs.Ways.{Lane, Queue, Held, Way, Item, Place, Nowhere, End, Mid, Ways, IsIn, Doom, nowhere, by_mid, alike, Ahead, doomed_there, in_mid, past_mid}
+use Rattle.law_order.specs.Places.{item, queued, held_on, held_in, aimed, amid}
+use Rattle.law_order.specs.Messages.{StandsAt, StaysBehind}
+use Rattle.law_order.specs.Worlds.{RefersAlike, StandsAlike}
+use Rattle.law_order.specs.Steps.{WaysAmid, LeadsAmid, IsApart, IsSentOn, still_held, sent_there, now_lost, KeepsOrder}
+use Rattle.law_order.specs.Settle.{passed_by, KeepsBy, SettlesHere, aimed_at, IsReady, settled_to, IsHere}
+use Rattle.law_order.proofs.Adding.{refers_same}
+use Rattle.law_order.proofs.Amid.{leads_same}
+use Rattle.law_order.proofs.Entries.{Differs, as_it_was, changes, differs}
+use Rattle.law_order.proofs.Named.{test_self, test_is, false_true, Test, passes_mid, passes_nowhere}
+use Rattle.law_order.proofs.Onward.{retargeted, here_keeps, here_leads, here_onward, aimed_here, settling_to_nothing_keeps}
+use Rattle.law_order.proofs.OrderPassing.{leads_via, settled_is_passed}
+use Rattle.law_order.proofs.Pushing.{all_same}
+use Rattle.law_order.proofs.Standing.{queued_append, queue_is, held_is, stands_more, queue_more, held_more, way_more}
+
+-- ---- lists
+
+-- the same messages on y
+resent : Value Name → List (Message Name) → List (Message Name)
+resent y [] = []
+resent y (m ∷ ms) = record m { target = y } ∷ resent y ms
+
+retargeted_is : (y : Value Name) (q ms : List (Message Name)) → retargeted y q ms ≡ q ++ resent y ms
+unfolding retargeted resent
+retargeted_is y q [] = sym (append-nil q)
+retargeted_is y q (m ∷ ms) = retargeted_is y (q ++ record m { target = y } ∷ []) ms ∙ append_assoc q (record m { target = y } ∷ []) (resent y ms)
+
+retargeted_queued : (y : Value Name) (q ms : List (Message Name)) → queued (retargeted y q ms) ≡ queued q ++ queued (resent y ms)
+retargeted_queued y q ms = ap (λ z. queued z) (retargeted_is y q ms) ∙ queued_append q (resent y ms)
+
+-- the same items on the name o
+sent_to : Name → List Item → List Item
+sent_to o [] = []
+sent_to o (i ∷ js) = item i.mail o ∷ sent_to o js
+
+resent_queued : (o p : Name) (ms : List (Message Name)) → queued (resent (Ref o) ms) ≡ sent_to o (held_on p ms)
+unfolding queued resent sent_to held_on
+resent_queued o p [] = refl
+resent_queued o p (m ∷ ms) = ap (λ js. item m.id o ∷ js) (resent_queued o p ms)
+
+sent_append : (o : Name) (b js : List Item) → sent_to o (b ++ js) ≡ sent_to o b ++ sent_to o js
+unfolding sent_to
+sent_append o [] js = refl
+sent_append o (i ∷ b) js = ap (λ z. item i.mail o ∷ z) (sent_append o b js)
+
+sent_split : (o m n : Name) (b js : List Item) → sent_to o (b ++ item m n ∷ js) ≡ sent_to o b ++ item m o ∷ sent_to o js
+unfolding sent_to
+sent_split o m n b js = sent_append o b (item m n ∷ js)
+
+sent_in : (o x m : Name) (b : List Item) → IsIn (item x m) b → IsIn (item x o) (sent_to o b)
+unfolding sent_to
+sent_in o x m [] i = i
+sent_in o x m (j ∷ b) (inl e) = inl (ap (λ z. item z.mail o) e)
+sent_in o x m (j ∷ b) (inr i) = inr (sent_in o x m b i)
+
+in_left : (i : Item) (a b : List Item) → IsIn i a → IsIn i (a ++ b)
+in_left i [] b h = absurd h
+in_left i (j ∷ a) b (inl e) = inl e
+in_left i (j ∷ a) b (inr h) = inr (in_left i a b h)
+
+in_right : (i : Item) (a b : List Item) → IsIn i b → IsIn i (a ++ b)
+in_right i [] b h = h
+in_right i (j ∷ a) b h = inr (in_right i a b h)
+
+-- ---- behind more in one lane
+
+doom_wider : (w : Ways) (l : Lane) (a b : List Item) (n : Name) → Doom w (Mid l a n) → Doom w (Mid l b n)
+doom_wider w l a b n (by_mid h) = by_mid h
+
+ahead_wider : (w : Ways) (x : Name) (l : Lane) (a b : List Item) (n : Name) → Ahead w x (Mid l a n) → Ahead w x (Mid l (a ++ b) n)
+ahead_wider w x l a b n (doomed_there h) = doomed_there (doom_wider w l a (a ++ b) n h)
+ahead_wider w x l a b n (in_mid {m = m} i f) = in_mid (in_left (item x m) a b i) f
+ahead_wider w x l a b n (past_mid h) = past_mid h
+
+-- What was held for p, behind b, comes to the queue behind q and b.
+module _ (w u : Ways) (k : Lane) (l : Lane) (n o : Name) (q b : List Item) (lead : StaysBehind w u (w.onward k n) (Mid l q o)) where
+  doom_queued : Doom w (Mid k b n) → Doom u (Mid l (q ++ sent_to o b) o)
+  doom_queued (by_mid h) = doom_wider u l q (q ++ sent_to o b) o (lead.0 h)
+
+  ahead_queued : (x : Name) → Ahead w x (Mid k b n) → Ahead u x (Mid l (q ++ sent_to o b) o)
+  ahead_queued x (doomed_there h) = doomed_there (doom_queued h)
+  ahead_queued x (in_mid {m = m} i f) = in_mid {m = o} (in_right (item x o) q (sent_to o b) (sent_in o x m b i)) alike
+  ahead_queued x (past_mid h) = ahead_wider u x l q (sent_to o b) o (lead.1 x h)
+
+  behind_queued : StaysBehind w u (Mid k b n) (Mid l (q ++ sent_to o b) o)
+  behind_queued = (λ h. doom_queued h, λ x h. ahead_queued x h)
+
+entry_self : (n : Name) (o : Option (Known Name)) → StandsAlike n o o
+entry_self n None = tt
+entry_self n (Some k) = (refl, refl, λ i h. h)
+
+-- ---- a name settles
+
+module _ (script : Script) (honest : ℕ → Bool) (w : World) (v : ℕ) (r s : Vat Name) (p : Name) (y : Value Name) (at : slice_get w.vats v ≡ Some r) (g : SettlesHere (names script v) s (settled_to (names script v) s p y) p y v) where
+  abbrev K : Naming Name Name
+  K = names script v
+
+  abbrev T : Vat Name
+  T = settled_to K s p y
+
+  abbrev E : Place
+  E = aimed_at script v T y
+
+  abbrev F : Place → Place
+  F = passed_by v p E
+
+  abbrev W : Vat Name → Ways
+  W t = WaysAmid script honest w v t
+
+  -- and its queue grew at its end
+  module _ (q : List (Message Name)) (js : List Item) (grown : queued q ≡ queued s.queue ++ js) where
+    abbrev After : Vat Name
+    After = record T { queue = q }
+
+    abbrev Links : List Link
+    Links = world.push_all v s.outbox w.links
+
+    alike_after : RefersAlike K T After
+    alike_after = record { number = refl; gifts = refl; noticed = refl; names_known = refl; entries = λ n. entry_self n (refs.entry_of K T.known n) }
+
+    leads_after : (u : ℕ) (x : Value Name) → LeadsAmid script honest w v After u x ≡ F (LeadsAmid script honest w v s u x)
+    unfolding amid
+    leads_after u x = leads_same script honest w.vats Links Links (all_same Links) v T After (refers_same script honest v T After alike_after) u x ∙ leads_via script honest w.vats Links v r s T p y at g u x
+
+    others_held : (n : Name) → (n ≡ p → ⊥) → held_in n (refs.entry_of K After.known n) ≡ held_in n (refs.entry_of K s.known n)
+    others_held n f = go (differs script v (Settle y) p n s.known)
+      where
+        go : Differs script v (Settle y) p n (refs.entry_of K s.known n) (refs.entry_of K After.known n) → held_in n (refs.entry_of K After.known n) ≡ held_in n (refs.entry_of K s.known n)
+        go (as_it_was e) = ap (λ o. held_in n o) e
+        go (changes k e i j) = absurd (f e)
+
+    apart_still : (m : Name) (l : Lane) (b : List Item) (n : Name) → IsApart script honest w v l → StandsAt (W s) m l b n → StandsAt (W After) m l b n
+    apart_still m (Queue u) b n i h = stands_more (W s) (W After) m (Queue u) b n (queue_more script honest w v s After u (λ e. (js, grown))) h
+    apart_still m (Held u o) b n i h = stands_more (W s) (W After) m (Held u o) b n (held_more script honest w v s After u o (λ e. absurd (i e))) h
+    apart_still m (Way a c) b n i h = stands_more (W s) (W After) m (Way a c) b n (way_more script honest w v s After [] (sym (append-nil s.outbox)) a c) h
+
+    module _ (keeps : KeepsBy (W s) (W After) F) (moved : (m : Name) (b : List Item) (n : Name) → StandsAt (W s) m (Held v p) b n → IsSentOn script honest w v s After m p b n) where
+      held_after : (m o : Name) (b : List Item) (n : Name) → StandsAt (W s) m (Held v o) b n → IsSentOn script honest w v s After m o b n
+      held_after m o b n h = go (Test v p v o) refl
+        where
+          go : (c : Bool) → Test v p v o ≡ c → IsSentOn script honest w v s After m o b n
+          go true e = let i = (test_is v p v o e).1 in subst (λ z. IsSentOn script honest w v s After m z b n) (sym i) (moved m b n (subst (λ z. StandsAt (W s) m (Held v z) b n) i h))
+          go false e = still_held (stands_more (W s) (W After) m (Held v o) b n (held_more script honest w v s After v o (λ a. ([], others_held o (λ i. false_true (sym e ∙ subst (λ z. Test v p v z ≡ true) (sym i) (test_self v p))) ∙ sym (append-nil (held_in o (refs.entry_of K s.known o)))))) h)
+
+      settles_so : KeepsOrder script honest w v s After
+      settles_so = record {
+        references = λ u x. subst (λ c. StaysBehind (W s) (W After) (LeadsAmid script honest w v s u x) c) (sym (leads_after u x)) (keeps (LeadsAmid script honest w v s u x));
+        places = λ l b n. subst (λ c. StaysBehind (W s) (W After) (Mid l b n) c) (passes_mid v p E l b n) (keeps (Mid l b n));
+        apart = λ m l b n i h. apart_still m l b n i h;
+        held = λ m o b n h. held_after m o b n h;
+      }
+
+  -- to nothing
+  lost_there : (m : Name) (b : List Item) (n : Name) → E ≡ Nowhere → IsSentOn script honest w v s T m p b n
+  lost_there m b n e = let h = settled_is_passed script honest w v r s T p y at g in
+      now_lost (by_mid (subst (Doom (W T)) (sym (h.lanes (Held v p) n ∙ ap (λ c. F c) (h.leads n) ∙ ap (λ c. passed_by v p c c) e ∙ passes_nowhere v p Nowhere)) nowhere))
+
+  pub nothing_so : E ≡ Nowhere → IsReady (W s) v p E → KeepsOrder script honest w v s T
+  nothing_so e ready = settles_so s.queue [] (sym (append-nil (queued s.queue))) (settling_to_nothing_keeps script honest w v r s p y at g e ready) (λ m b n h. lost_there m b n e)
+
+  -- to what is here
+  module _ (k : Known Name) (e : refs.entry_of K s.known p ≡ Some k) (here : IsHere K y) (ready : IsReady (W s) v p E) where
+    abbrev Sent : Vat Name
+    Sent = record T { queue = retargeted y s.queue k.held }
+
+    queue_sent : (o : Name) → y ≡ Ref o → queued (retargeted y s.queue k.held) ≡ queued s.queue ++ sent_to o (held_on p k.held)
+    queue_sent o f = ap (λ z. queued (retargeted z s.queue k.held)) f ∙ retargeted_queued (Ref o) s.queue k.held ∙ ap (λ z. queued s.queue ++ z) (resent_queued o p k.held)
+
+    to_object : (o : Name) → y ≡ Ref o → E ≡ End (Queue v) o → (m : Name) (b : List Item) (n : Name) → StandsAt (W s) m (Held v p) b n → IsSentOn script honest w v s Sent m p b n
+    to_object o f aim m b n h =
+        let q = queued s.queue in
+        let split : held_on p k.held ≡ b ++ item m n ∷ h.behind = sym (held_is script honest w v r at s p k e) ∙ h.found in
+        let lead = subst (λ a. StaysBehind (W s) (W Sent) ((W s).onward (Held v p) n) (Mid (Queue v) a o)) (queue_is script honest w v r at s) (here_leads script honest w v r s p y k at g e here ready n (Queue v) o aim) in
+        sent_there {l = Queue v} {a = q ++ sent_to o b} {o = o} tt
+        (record { behind = sent_to o h.behind; found = queue_is script honest w v r at Sent ∙ queue_sent o f ∙ ap (λ z. q ++ sent_to o z) split ∙ ap (λ z. q ++ z) (sent_split o m n b h.behind) ∙ sym (append_assoc q (sent_to o b) (item m o ∷ sent_to o h.behind)) })
+        (behind_queued (W s) (W Sent) (Held v p) (Queue v) n o q b lead)
+
+    to_data : E ≡ Nowhere → (m : Name) (b : List Item) (n : Name) → IsSentOn script honest w v s Sent m p b n
+    to_data aim m b n = now_lost (by_mid (subst (Doom (W Sent)) (sym (here_onward script honest w v r s p y k at g e here n ∙ ap (λ c. passed_by v p c c) aim ∙ passes_nowhere v p Nowhere)) nowhere))
+
+    aim_of : (x : Value Name) → y ≡ x → E ≡ aimed v x Near
+    aim_of x f = aimed_here script honest w v r s p y k at g e here ∙ ap (λ z. aimed v z Near) f
+
+    sent_so : (x : Value Name) → y ≡ x → (m : Name) (b : List Item) (n : Name) → StandsAt (W s) m (Held v p) b n → IsSentOn script honest w v s Sent m p b n
+    unfolding aimed
+    sent_so (Ref o) f m b n h = to_object o f (aim_of (Ref o) f) m b n h
+    sent_so Null f m b n h = to_data (aim_of Null f) m b n
+    sent_so (Flag c) f m b n h = to_data (aim_of (Flag c) f) m b n
+    sent_so (Number z) f m b n h = to_data (aim_of (Number z) f) m b n
+    sent_so (Letter c) f m b n h = to_data (aim_of (Letter c) f) m b n
+    sent_so (Text t) f m b n h = to_data (aim_of (Text t) f) m b n
+    sent_so (Prim j) f m b n h = to_data (aim_of (Prim j) f) m b n
+    sent_so (Broken z) f m b n h = to_data (aim_of (Broken z) f) m b n
+    sent_so (Items j) f m b n h = to_data (aim_of (Items j) f) m b n
+
+    pub here_so : KeepsOrder script honest w v s Sent
+    here_so = settles_so (retargeted y s.queue k.held) (queued (resent y k.held)) (retargeted_queued y s.queue k.held) (here_keeps script honest w v r s p y k at g e here ready) (λ m b n h. sent_so y refl m b n h)

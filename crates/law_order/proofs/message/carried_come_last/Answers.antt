@@ -1,0 +1,5 @@
+use Rattle.law_order.proofs.Comings.{carried_come_last}
+use Rattle.law_order.proofs.message.carried_come_last.Goals as goal
+
+pub returns : goal.returns
+returns c = carried_come_last

@@ -1,0 +1,5 @@
+use Rattle.law_order.proofs.Leavings.{first_left_keeps}
+use Rattle.law_order.proofs.message.first_left_keeps.Goals as goal
+
+pub returns : goal.returns
+returns c = first_left_keeps

@@ -1,0 +1,5 @@
+use Rattle.law_order.proofs.Messages.{gone_on_is_behind}
+use Rattle.law_order.proofs.message.gone_on_is_behind.Goals as goal
+
+pub returns : goal.returns
+returns c = gone_on_is_behind

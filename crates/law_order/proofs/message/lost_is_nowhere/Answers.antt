@@ -1,0 +1,5 @@
+use Rattle.law_order.proofs.Messages.{lost_is_nowhere}
+use Rattle.law_order.proofs.message.lost_is_nowhere.Goals as goal
+
+pub returns : goal.returns
+returns c = lost_is_nowhere

@@ -1,0 +1,5 @@
+use Rattle.law_order.proofs.FoundPlaces.{queues_tell_order}
+use Rattle.law_order.proofs.message.queues_tell_order.Goals as goal
+
+pub returns : goal.returns
+returns c = queues_tell_order

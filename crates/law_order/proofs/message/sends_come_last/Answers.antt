@@ -1,0 +1,5 @@
+use Rattle.law_order.proofs.Comings.{sends_come_last}
+use Rattle.law_order.proofs.message.sends_come_last.Goals as goal
+
+pub returns : goal.returns
+returns c = sends_come_last
