@@ -14,6 +14,7 @@ use Rattle.def_run.specs.World.{run, Goes, Stopped}
 use Rattle.ev_scope.specs.declared.accepted.Scoped.{Scoped}
 use Rattle.ev_script.specs.declared.script.Script.{Script}
 use Rattle.ev_script.specs.declared.script.VatScript.{VatScript}
+use Rattle.ev_generate.specs.Generated.{generated}
 use Rattle.ev_sturdy_text.specs.Telling as sturdy
 use Rattle.ev_mint_text.specs.Telling as mint
 use Rattle.ev_top.specs.Commands.{reads}
@@ -21,12 +22,13 @@ use Rattle.ev_top.specs.Lines.{IsDueOfMint, IsDueOfSturdy, status_of}
 use Rattle.ev_top.specs.Words.{line}
 use Rattle.ev_top.specs.Debt.{Debt, IsFor, most_bytes, too_long}
 use Rattle.ev_top.specs.Script.{script_from}
+use Rattle.ev_top.specs.Summary.{summary_of}
 use Rattle.ev_top.specs.Programs.{IsDueOfFault}
 use Rattle.ev_top.specs.Expansion.{text_from, nameless, IsDueOfText, IsDueOfForm}
-use Rattle.ev_top.specs.Due.{IsDue, IsDueOfBytes, IsDueOfInput, IsDueOfScript, IsDueOfTrees, IsDueOfVats, IsOfWhole, IsOfRead, Finishes, Pays, PaysWith, Reads, Settles, TookFor, due_of_run}
+use Rattle.ev_top.specs.Due.{IsDue, IsDueOfBytes, IsDueOfInput, IsDueOfScript, IsDueOfTrees, IsDueOfVats, IsOfWhole, IsOfRead, Finishes, Pays, PaysWith, Reads, Settles, Telling, TookFor, due_of_run}
 use Rattle.ev_top.specs.Machine.{script_of, text_of}
 use Rattle.ev_top.specs.declared.command.Command.{Command}
-use Rattle.ev_top.specs.declared.command.Command.TheVariants.{Run, Expand, Generate, Sturdy, Mint}
+use Rattle.ev_top.specs.declared.command.Command.TheVariants.{Run, Expand, Generate, Sum, Sturdy, Mint}
 use Rattle.ev_top.specs.declared.status.Status.{Status}
 use Rattle.ev_top.specs.declared.status.Status.TheVariants.{Done, Usage, ReadFault, WriteFault, TooLong, ScriptRefused, ProgramRefused, FuelSpent, TooDeep, WordRepeated, Memory}
 
@@ -51,19 +53,19 @@ of_end script text (Stopped Deep step w) = tt
 of_end script text (Stopped (Repeated i j) step w) = tt
 of_end script text (Stopped Astray step w) = tt
 
-of_trees : (wire : Bool) (script : Script) (trees : List (List Node)) (status : Status) (text : List ℕ) → IsDueOfTrees wire script trees status text → IsOfWhole status
-of_trees wire script trees status text due =
-    let theirs = script_of script trees in subst IsOfWhole (sym due.0) (of_end script (text_of wire theirs) (run theirs))
+of_trees : (tell : Telling) (script : Script) (trees : List (List Node)) (status : Status) (text : List ℕ) → IsDueOfTrees tell script trees status text → IsOfWhole status
+of_trees tell script trees status text due =
+    let theirs = script_of script trees in subst IsOfWhole (sym due.0) (of_end script (tell theirs) (run theirs))
 
-of_vats : (wire : Bool) (script : Script) (trees : List (List Node)) (vats : List VatScript) (status : Status) (text : List ℕ)
-    → IsDueOfVats wire script trees vats status text → IsOfWhole status
-of_vats wire script trees [] status text due = of_trees wire script trees status text due
-of_vats wire script trees (vat ∷ more) status text (Ok scoped, answers, due) = of_vats wire script (trees ++ scoped.tree ∷ []) more status text due
-of_vats wire script trees (vat ∷ more) status text (Err fault, answers, due) = of_fault (length trees) vat.name fault status text due
+of_vats : (tell : Telling) (script : Script) (trees : List (List Node)) (vats : List VatScript) (status : Status) (text : List ℕ)
+    → IsDueOfVats tell script trees vats status text → IsOfWhole status
+of_vats tell script trees [] status text due = of_trees tell script trees status text due
+of_vats tell script trees (vat ∷ more) status text (Ok scoped, answers, due) = of_vats tell script (trees ++ scoped.tree ∷ []) more status text due
+of_vats tell script trees (vat ∷ more) status text (Err fault, answers, due) = of_fault (length trees) vat.name fault status text due
 
-of_script : (wire : Bool) (found : Result Script ℕ) (status : Status) (text : List ℕ) → IsDueOfScript wire found status text → IsOfWhole status
-of_script wire (Ok script) status text due = of_vats wire script [] script.vats status text due
-of_script wire (Err rule) status text due = subst IsOfWhole (sym due.0) tt
+of_script : (tell : Telling) (found : Result Script ℕ) (status : Status) (text : List ℕ) → IsDueOfScript tell found status text → IsOfWhole status
+of_script tell (Ok script) status text due = of_vats tell script [] script.vats status text due
+of_script tell (Err rule) status text due = subst IsOfWhole (sym due.0) tt
 
 of_repeated : (repeated : Option (ℕ × ℕ)) → IsOfWhole (status_of repeated)
 of_repeated None = tt
@@ -78,9 +80,10 @@ of_mint (Ok told) status text due = subst IsOfWhole (sym due.0) tt
 of_mint (Err rule) status text due = subst IsOfWhole (sym due.0) tt
 
 pub whole : (command : Command) (input : List ℕ) (status : Status) (text : List ℕ) → IsDueOfBytes command input status text → IsOfWhole status
-whole (Run wire) input status text due = of_script wire (script_from input) status text due
+whole (Run wire) input status text due = of_script (text_of wire) (script_from input) status text due
 whole Expand input status text due = of_text (text_from input) status text due
 whole (Generate n) input status text due = subst IsOfWhole (sym due.0) tt
+whole (Sum n) input status text due = of_script summary_of (script_from (generated n)) status text due
 whole Sturdy input status text due = of_sturdy (sturdy.due input) status text due
 whole Mint input status text due = of_mint (mint.due input) status text due
 

@@ -34,7 +34,7 @@ told_stop script text (Repeated i j) k w = refl
 told_stop script text Astray k w = refl
 
 -- the end of a run in numbers tells the status that is due for the machine's
-told_end : (script : Script) (text : List ℕ) (r : machine.Run) (c : Course) → RunMirrors r c → status_by script (end_of c) ≡ (due_of_run script text r).status
+pub told_end : (script : Script) (text : List ℕ) (r : machine.Run) (c : Course) → RunMirrors r c → status_by script (end_of c) ≡ (due_of_run script text r).status
 told_end script text (Goes w) (Runs W) h = refl
 told_end script text (Stopped c k w) (Halts d n W) (stops, steps, drawn, history) =
     ap (λ s. status_by script (end_by s n)) (sym stops) ∙ ap (λ i. status_by script (end_by c i)) (sym steps) ∙ told_stop script text c k w
@@ -42,7 +42,7 @@ told_end script text (Goes w) (Halts d n W) h = absurd h
 told_end script text (Stopped c k w) (Runs W) h = absurd h
 
 -- whatever the end, the text that is due is the run's
-due_text : (script : Script) (text : List ℕ) (r : machine.Run) → text ≡ (due_of_run script text r).text
+pub due_text : (script : Script) (text : List ℕ) (r : machine.Run) → text ≡ (due_of_run script text r).text
 due_text script text (Goes w) = refl
 due_text script text (Stopped Fuel k w) = refl
 due_text script text (Stopped Deep k w) = refl
@@ -61,7 +61,7 @@ module _ (wire : Bool) (script : Script) (programs : List Scoped) (admitted : Is
   theirs = script_of script (trees_of programs)
 
   abbrev debt : Debt
-  debt = due_of_machine wire script theirs
+  debt = due_of_machine (text_of wire) script theirs
 
   lawful : MeetsTheLaws theirs
   lawful = meets script admitted greatest_depth (tree_at (trees_of programs))

@@ -1,5 +1,5 @@
 -- In the run that a call owes, what bears DeepFrozen's stamp reaches frozen values alone, and what is used is connected.
-use Rattle.std.proofs.Common.{◌≡◌, ◌++◌, ◌⊎◌, inl, inr, ℕ, List, Option, Some, None, IfSome}
+use Rattle.std.proofs.Common.{inl, inr, ℕ, List, Option, Some, None, IfSome}
 use Rattle.def_run.specs.World as machine
 use Rattle.def_run.specs.World.{World}
 use Rattle.law_connected.specs.Begotten.{LinesConnected, TakenBegotten}

@@ -11,6 +11,7 @@ use Rattle.ev_scope.specs.declared.accepted.Scoped.{Scoped}
 use Rattle.ev_script.specs.Rules.{IsAdmitted}
 use Rattle.ev_script.specs.declared.script.Script.{Script}
 use Rattle.ev_script.specs.declared.script.VatScript.{VatScript}
+use Rattle.ev_generate.specs.Generated.{generated}
 use Rattle.ev_top.specs.Words.{IsPrefix}
 use Rattle.ev_top.specs.Debt.{Debt, IsFor, most_bytes, usage, too_long, bytes_refused}
 use Rattle.ev_top.specs.Expansion.{IsDueOfText, text_from}
@@ -21,8 +22,9 @@ use Rattle.ev_top.specs.Lines.{IsDueOfGenerated, IsDueOfMint, IsDueOfSturdy}
 use Rattle.ev_top.specs.Machine.{script_of, text_of, vat_of_step}
 use Rattle.ev_top.specs.Programs.{AreRead, ReadAs, IsDueOfFault, names_for, trees_of}
 use Rattle.ev_top.specs.Script.{script_from}
+use Rattle.ev_top.specs.Summary.{summary_of}
 use Rattle.ev_top.specs.declared.command.Command.{Command}
-use Rattle.ev_top.specs.declared.command.Command.TheVariants.{Run, Expand, Generate, Sturdy, Mint}
+use Rattle.ev_top.specs.declared.command.Command.TheVariants.{Run, Expand, Generate, Sum, Sturdy, Mint}
 use Rattle.ev_top.specs.declared.reply.Owed.{Owed}
 use Rattle.ev_top.specs.declared.reply.Owed.TheVariants as owing
 use Rattle.ev_top.specs.declared.program.Early.{Early}
@@ -48,13 +50,17 @@ due_of_run script text (Stopped Deep step w) = record { status = TooDeep step; t
 due_of_run script text (Stopped Astray step w) = record { status = ProgramRefused (astray (vat_of_step script step)); text = text }
 due_of_run script text (Stopped (Repeated i j) step w) = record { status = WordRepeated i j; text = text }
 
--- the same for the machine's run on a script, with the frames in the text where they are asked for
-abbrev pub due_of_machine : Bool → Script → machine.Script → Debt
-due_of_machine wire script theirs = due_of_run script (text_of wire theirs) (run theirs)
+-- what is told of the machine's run on a script: its text, say, or a summary
+abbrev pub Telling : Type 0
+Telling = machine.Script → List ℕ
+
+-- the same for the machine's run on a script, of which that is told
+abbrev pub due_of_machine : Telling → Script → machine.Script → Debt
+due_of_machine tell script theirs = due_of_run script (tell theirs) (run theirs)
 
 -- what is due for a script whose programs have these trees: its run
-abbrev pub IsDueOfTrees : Bool → Script → List (List Node) → Status → List ℕ → Type 0
-IsDueOfTrees wire script trees status text = IsFor status text (due_of_machine wire script (script_of script trees))
+abbrev pub IsDueOfTrees : Telling → Script → List (List Node) → Status → List ℕ → Type 0
+IsDueOfTrees tell script trees status text = IsFor status text (due_of_machine tell script (script_of script trees))
 
 -- what is due by what the source of the vat of that number and name is read as: what is due for its tree, or its refusal
 abbrev pub IsDueOfAnswer : ℕ → List ℕ → (List Node → Status → List ℕ → Type 0) → Result Scoped ProgramFault → Status → List ℕ → Type 0
@@ -63,23 +69,24 @@ IsDueOfAnswer vat name Due (Err fault) status text = IsDueOfFault vat name fault
 
 -- What is due for a script, where the sources of its first vats were read to these trees, by the vats that come next: the first
 -- source that is refused is the answer, and else the run.
-abbrev pub IsDueOfVats : Bool → Script → List (List Node) → List VatScript → Status → List ℕ → Type 0
-IsDueOfVats wire script trees [] status text = IsDueOfTrees wire script trees status text
-IsDueOfVats wire script trees (vat ∷ more) status text = ReadAs vat.source (names_for script.vats vat)
-    (λ answer. IsDueOfAnswer (length trees) vat.name (λ tree. IsDueOfVats wire script (trees ++ tree ∷ []) more) answer status text)
+abbrev pub IsDueOfVats : Telling → Script → List (List Node) → List VatScript → Status → List ℕ → Type 0
+IsDueOfVats tell script trees [] status text = IsDueOfTrees tell script trees status text
+IsDueOfVats tell script trees (vat ∷ more) status text = ReadAs vat.source (names_for script.vats vat)
+    (λ answer. IsDueOfAnswer (length trees) vat.name (λ tree. IsDueOfVats tell script (trees ++ tree ∷ []) more) answer status text)
 
 -- what is due for a script, or for bytes that are none
-abbrev pub IsDueOfScript : Bool → Result Script ℕ → Status → List ℕ → Type 0
-IsDueOfScript wire (Ok script) status text = IsDueOfVats wire script [] script.vats status text
-IsDueOfScript wire (Err rule) status text = IsFor status text (bytes_refused rule)
+abbrev pub IsDueOfScript : Telling → Result Script ℕ → Status → List ℕ → Type 0
+IsDueOfScript tell (Ok script) status text = IsDueOfVats tell script [] script.vats status text
+IsDueOfScript tell (Err rule) status text = IsFor status text (bytes_refused rule)
 
 -- ---- a call
 
--- what is due for bytes that were all read; a script is generated whatever they are
+-- what is due for bytes that were all read; a script is generated, and its run summed up, whatever they are
 abbrev pub IsDueOfBytes : Command → List ℕ → Status → List ℕ → Type 0
-IsDueOfBytes (Run wire) input status text = IsDueOfScript wire (script_from input) status text
+IsDueOfBytes (Run wire) input status text = IsDueOfScript (text_of wire) (script_from input) status text
 IsDueOfBytes Expand input status text = IsDueOfText (text_from input) status text
 IsDueOfBytes (Generate n) input status text = IsDueOfGenerated n status text
+IsDueOfBytes (Sum n) input status text = IsDueOfScript summary_of (script_from (generated n)) status text
 IsDueOfBytes Sturdy input status text = IsDueOfSturdy (sturdy.due input) status text
 IsDueOfBytes Mint input status text = IsDueOfMint (mint.due input) status text
 
@@ -143,7 +150,7 @@ Settles held held' debt result = Finishes held held' debt.status debt.text resul
 -- what is due for what is owed: a reply, or the run of a script whose programs are read
 abbrev pub debt_of : Owed → Debt
 debt_of (owing.Reply reply) = record { status = reply.status; text = string_bytes reply.text }
-debt_of (owing.Run run) = due_of_machine run.wire run.script (script_of run.script (trees_of run.programs.items))
+debt_of (owing.Run run) = due_of_machine (text_of run.wire) run.script (script_of run.script (trees_of run.programs.items))
 
 -- the script of a run that is owed is one, and its programs are those of its vats
 abbrev pub MayRun : Owed → Type 0

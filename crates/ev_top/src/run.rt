@@ -5,7 +5,7 @@ ghost use Rattle.ev_io.specs.Causes.{Rose};
 ghost use Rattle.ev_script.specs.Rules.{IsAdmitted};
 ghost use Rattle.ev_top.specs.Due.{IsDueOfScript, IsDueOfVats, MayRun, Settles, debt_of};
 ghost use Rattle.ev_top.specs.Ends.{status_by};
-ghost use Rattle.ev_top.specs.Machine.{vat_of_entry, vat_of_step};
+ghost use Rattle.ev_top.specs.Machine.{text_of, vat_of_entry, vat_of_step};
 ghost use Rattle.ev_top.specs.Script.{script_from};
 
 use crate::reply::{Owed, Prepared, reply_rule};
@@ -18,8 +18,8 @@ use ev_script::{Entry, Script, ScriptFault};
 use ev_world::{RunEnd, Unfinished, write_run};
 use std::alloc::Global;
 
-/// The greatest depth at which a node begins.
-const GREATEST_DEPTH: u32 = 20_000;
+/// The limits of each run: the greatest depth at which a node begins.
+pub const LIMITS: Limits = Limits { depth: 20_000 };
 
 /// The vat that an entry has take a step. No vat takes one in a cut.
 fn vat_of_entry(entry: Entry) -> VatId
@@ -49,7 +49,7 @@ fn vat_of_step(script: &Script, step: u64) -> VatId
 }
 
 /// The status of a run of a script that ended so.
-fn status_by(script: &Script, end: RunEnd) -> Status
+pub fn status_by(script: &Script, end: RunEnd) -> Status
     requires { IsAdmitted script.now }
     ensures { result ≡ status_by script.now end }
 {
@@ -79,10 +79,7 @@ pub fn write_prepared<K: Sink>(alloc: Global, prepared: Prepared, out: &mut K) -
         programs,
         wire,
     } = prepared;
-    let limits = Limits {
-        depth: GREATEST_DEPTH,
-    };
-    match write_run(alloc, &script, programs, limits, wire, out) {
+    match write_run(alloc, &script, programs, LIMITS, wire, out) {
         Ok(end) => status_by(&script, end),
         Err(Unfinished::WriteFault) => Status::WriteFault,
         Err(Unfinished::Memory) => Status::Memory,
@@ -92,7 +89,7 @@ pub fn write_prepared<K: Sink>(alloc: Global, prepared: Prepared, out: &mut K) -
 /// The run of a script, or the refusal of the first source that is refused.
 fn owed_script(alloc: Global, script: Script, wire: bool) -> Result<Owed, Memory>
     requires { IsAdmitted script }
-    ensures due { IfOk result (λ owed. IsDueOfVats wire script [] script.vats (debt_of owed).status (debt_of owed).text) }
+    ensures due { IfOk result (λ owed. IsDueOfVats (text_of wire) script [] script.vats (debt_of owed).status (debt_of owed).text) }
     ensures ready { IfOk result MayRun }
 {
     match read_sources(alloc, &script) {
@@ -108,7 +105,7 @@ fn owed_script(alloc: Global, script: Script, wire: bool) -> Result<Owed, Memory
 
 /// The run of the script that bytes spell, or their refusal. The text has the frames where `wire` asks for them.
 pub fn owed_bytes(alloc: Global, bytes: &[u8], wire: bool) -> Result<Owed, Memory>
-    ensures due { IfOk result (λ owed. IsDueOfScript wire (script_from bytes.now) (debt_of owed).status (debt_of owed).text) }
+    ensures due { IfOk result (λ owed. IsDueOfScript (text_of wire) (script_from bytes.now) (debt_of owed).status (debt_of owed).text) }
     ensures ready { IfOk result MayRun }
 {
     match script_from(alloc, bytes) {

@@ -56,7 +56,7 @@ pub halts_whole : (c : Course) (f : Vats → Course) (s : machine.Stop) (k : ℕ
 unfolding then_runs
 halts_whole c f s k w e = rw e refl
 
-run_halts : (S : Script) (s : machine.Stop) (k : ℕ) (w : Vats) → course_of S ≡ Halts s k w → run S ≡ Halts s k w
+pub run_halts : (S : Script) (s : machine.Stop) (k : ℕ) (w : Vats) → course_of S ≡ Halts s k w → run S ≡ Halts s k w
 run_halts S s k w e = whole_is S ∙ halts_whole (course_of S) (close S) s k w e
 
 -- ---- the names of the vats

@@ -1,8 +1,10 @@
-use Rattle.std.proofs.Common.{subst, Option, IfSome}
+use Rattle.std.proofs.Common.{◌≡◌, subst, Option, IfSome}
 use Rattle.ev_top.specs.Commands.{command_of}
-use Rattle.ev_top.specs.Due.{Pays, debt_of}
+use Rattle.ev_top.specs.Due.{IsOfRead, Pays, debt_of}
 use Rattle.ev_top.specs.declared.command.Command.{Command}
-use Rattle.ev_top.proofs.DueLemmas.{plain, pays_usage, settled_left}
+use Rattle.ev_top.specs.declared.status.Status.{Status}
+use Rattle.ev_top.specs.declared.status.Status.TheVariants.{ReadFault}
+use Rattle.ev_top.proofs.DueLemmas.{plain, pays_usage, settled_left, settles_as}
 use Rattle.ev_top.proofs.program.answer.Goals as goal
 
 pub returns-in_default-clause-due : goal.returns-in_default-clause-due
@@ -18,3 +20,10 @@ returns-in-Ok-clause-due g c =
     let debt = debt_of c.in-Ok.owed in
     let paid = settled_left c.in-Some.command left debt held held' c.pay.result (plain debt.status c.in-Ok.ensures.kind) c.in-Ok.ensures.due c.pay.ensures.text in
     subst (λ (k : Option Command). IfSome left (λ input. Pays held held' c.pay.result k input)) c.in-Some.ensures paid
+
+pub returns-in-Ok-clause-unread : goal.returns-in-Ok-clause-unread
+returns-in-Ok-clause-unread g c = λ unread is.
+    let debt = debt_of c.in-Ok.owed in
+    let same =
+    settles_as (λ (s : Status). s ≡ ReadFault) (g.K.Sink.written c.args.out.now) (g.K.Sink.written c.pay.new.out) debt c.pay.result c.pay.ensures.text is (λ e. cc) (λ e. cc) in
+    subst IsOfRead same.1 c.in-Ok.ensures.kind
