@@ -16,8 +16,10 @@ use Rattle.law_order.specs.Worlds.{AddsOnly}
 use Rattle.law_order.specs.Arrivals.{in_front, keeping, IsOpenWay}
 use Rattle.law_order.specs.Leavings.{FirstLeft, FirstLeftKeeps, TakenIsFirst, CarriedIsFirst}
 use Rattle.law_order.proofs.Amid as amid_proofs
-use Rattle.law_order.proofs.Arrived.{all_open}
-use Rattle.law_order.proofs.Comings.{put_on}
+use Rattle.law_order.specs.Comings.{CarriedArePutLast}
+use Rattle.law_order.proofs.Arrived.{all_open, carried_messages_are_put_on}
+use Rattle.law_order.proofs.Messages.{gone_on_is_behind}
+use Rattle.law_order.proofs.Comings.{put_on, note_open}
 use Rattle.law_order.proofs.Named.{Test, test_self, test_is, false_true}
 use Rattle.law_order.proofs.OrderKeeping.{all_put_on}
 use Rattle.law_order.proofs.Pushing.{push_append}
@@ -214,3 +216,27 @@ module _ (script : Script) (honest : ℕ → Bool) (a b : ℕ) (m : Delivery Nam
 
 pub carried_is_first : CarriedIsFirst
 carried_is_first = λ script honest w a b s t m n verb ys way g. arrived_first script honest a b m n verb ys w s t way g
+
+-- ---- one is put on
+
+module _ (script : Script) (honest : ℕ → Bool) (a b h : ℕ) (m : Delivery Name) (n q : Name) (verb : Words) (ys zs : Passeds Name) (w : World) (s : Vat Name) (way : IsOpenWay honest a b w) (next : IsOpenWay honest b h w) (other : h ≡ b → ⊥) where
+  abbrev Put : Vat Name
+  Put = record s { outbox = s.outbox ++ record { to = h; note = Deliver m q verb zs } ∷ [] }
+
+  abbrev Start : Ways
+  Start = ways script honest (amid b s (keeping a b (Deliver m n verb ys) w))
+
+  same_there : Start.stands (Way b h) ≡ (ways script honest (amid b s w)).stands (Way b h)
+  unfolding ways ways_of stands_at amid keeping
+  same_there = ap (λ ls. Row script honest (world.link_at b h ls)) (all_put_on a b b (Deliver m n verb ys) s.outbox w.links)
+      ∙ row_apart script honest a b m n verb ys b h (λ e. other (ap (λ l. other_of l) e)) (world.push_all b s.outbox w.links)
+
+  put_last : (ways script honest (amid b Put w)).stands (Way b h) ≡ Start.stands (Way b h) ++ item m.message q ∷ []
+  put_last = note_open script honest w b h next.sender next.receiver m q verb zs s Put refl (next.link, next.found, next.uncut) ∙ ap (λ js. js ++ item m.message q ∷ []) (sym same_there)
+
+pub carried_are_put_last : CarriedArePutLast
+carried_are_put_last = λ script honest w a b h r s m n q o verb ys zs at way next other learnt away.
+    let start = Start script honest a b h m n q verb ys zs w s way next other in
+    let put = ways script honest (amid b (Put script honest a b h m n q verb ys zs w s way next other) w) in
+    let g = gone_on_is_behind start put (Way a b) (Way b h) (item m.message n) q (carried_messages_are_put_on script honest w a b h r s m n q o verb ys zs at way next learnt away) tt in
+    (put_last script honest a b h m n q verb ys zs w s way next other, g.0, g.1)
