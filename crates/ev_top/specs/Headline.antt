@@ -11,6 +11,7 @@ use Rattle.law_run.specs.Runs.{EachVat}
 use Rattle.law_fate.specs.Fate.{fates, sent}
 use Rattle.law_fate.specs.Carry.{carries}
 use Rattle.law_frozen.specs.Runs.{ReachIsFrozenIn}
+use Rattle.law_connected.specs.Begotten.{LinesConnected, TakenBegotten}
 use Rattle.law_connected.specs.UseLaws.{RunConnected}
 use Rattle.ev_scope.specs.declared.accepted.Scoped.{Scoped}
 use Rattle.ev_script.specs.declared.script.Script.{Script}
@@ -60,9 +61,10 @@ StampedReachFrozenAlone command input = (script : machine.Script) → IsToRun co
 
 -- ---- uses
 
--- In that run an object uses a reference only by initial conditions, endowment, parenthood or introduction: each step that a vat may begin in any of its worlds is connected, however it ends.
+-- In that run an object uses a reference only by initial conditions, endowment, parenthood or introduction: each step that a vat may begin in any of its worlds is connected, however it ends;
+-- each line of the history of each of its worlds is connected in the step that the run took, in which an opening turn is given the roots that its vat knows by the script; and what a message brings that was taken, who sent it knew.
 abbrev pub UsesAreConnected : Option Command → List ℕ → Type 0
-UsesAreConnected command input = (script : machine.Script) → IsToRun command input script → RunConnected script
+UsesAreConnected command input = (script : machine.Script) → IsToRun command input script → RunConnected script × ((world : World) → ComesTo script world → LinesConnected script world × TakenBegotten script world)
 
 -- ---- partitions
 

@@ -8,3 +8,4 @@ pub mod Pushing
 pub mod Closing
 pub mod Starting
 pub mod Carrying
+pub mod Writing

@@ -5,9 +5,14 @@ mod carrying;
 mod closing;
 mod exporting;
 mod finishing;
+mod going;
 mod pushing;
 pub mod run;
 mod starting;
 pub mod world;
+pub mod writing;
+pub mod written;
 
 pub use run::{RunEnd, Told, run_script};
+pub use writing::Unfinished;
+pub use written::write_run;

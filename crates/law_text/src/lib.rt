@@ -1,0 +1,4 @@
+//! What the text of a history tells of it.
+#![tactic(auto)]
+
+pub mod lines;
