@@ -15,7 +15,7 @@ use Rattle.law_order.proofs.Sends.{none_some, some_same, changed_name}
 use Rattle.law_order.proofs.Standing.{queued_append, held_end, more_lanes}
 use Rattle.law_order.proofs.Pushing.{push_append}
 use Rattle.law_order.proofs.Adding.{follows_alike, refers_same}
-use Rattle.law_order.proofs.Amid.{leads_same, grow_there, adding_grows}
+use Rattle.law_order.proofs.Amid.{entry_self, leads_same, grow_there, adding_grows}
 use Rattle.law_order.specs.Steps.{LetsDrawn, AllDrawn, Ready, Grown, StaysReady}
 use Rattle.law_order.proofs.Below.{with_drawn}
 
@@ -75,10 +75,6 @@ IsSimple (See q) = ⊥
 IsSimple (React m) = Unit {0}
 IsSimple (ToTell h) = Unit {0}
 IsSimple (Settle y) = ⊥
-
-pub entry_self : (n : Name) (o : Option (Known Name)) → StandsAlike n o o
-entry_self n None = tt
-entry_self n (Some k) = (refl, refl, λ i h. h)
 
 held_more : (n : Name) (ms : List (Message Name)) (m : Message Name) → Within (held_on n ms) (held_on n (ms ++ m ∷ []))
 unfolding held_on

@@ -189,7 +189,7 @@ adding_grows = λ script honest w v s t g. grows script honest w v s t g
 
 -- ---- the beginning of a step
 
-entry_self : (n : Name) (o : Option (Known Name)) → StandsAlike n o o
+pub entry_self : (n : Name) (o : Option (Known Name)) → StandsAlike n o o
 entry_self n None = tt
 entry_self n (Some k) = (refl, refl, λ i h. h)
 

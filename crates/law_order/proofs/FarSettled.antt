@@ -19,7 +19,8 @@ use Rattle.law_order.proofs.Changes.{growing_keeps}
 use Rattle.law_order.proofs.Comings.{IsShut, shut_nowhere, both_honest}
 use Rattle.law_order.proofs.Far.{WentOut}
 use Rattle.law_order.proofs.Messages.{behind_then, comes_behind}
-use Rattle.law_order.proofs.Named.{Test, test_self, test_is, false_true, passes_mid, passes_way}
+use Rattle.law_order.proofs.Lanes.{queue_apart, way_apart, held_apart, held_one}
+use Rattle.law_order.proofs.Named.{Test, test_self, passes_mid, passes_way}
 use Rattle.law_order.proofs.OrderPassing.{settled_is_passed}
 use Rattle.law_order.proofs.Pushing.{within_more}
 use Rattle.law_order.proofs.Sends.{none_some, some_same, pushed_ends, link_here, link_behind, found_ends}
@@ -130,17 +131,6 @@ module _ (script : Script) (honest : ℕ → Bool) (w : World) (v h : ℕ) (n : 
   sent_ahead (inl o) i j = subst (Ahead Let i.mail) (sym aim) (in_end (subst (IsIn (item i.mail n)) (sym (way_stands o)) (in_right (item i.mail n) ((W s).stands (Way v h)) (sent_to n Held0) (sent_in n i.mail i.aim Held0 (subst (IsIn i) held_stands j)))) alike)
   sent_ahead (inr q) i j = subst (Ahead Let i.mail) (sym aim) (doomed_there (by_end (subst (Doom Let) (sym (shut_before q s refl)) nowhere)))
 
-  no_p : (u : ℕ) (o : Name) → Test v p u o ≡ false → Held u o ≡ Held v p → ⊥
-  no_p u o c i = false_true (sym c ∙ subst (λ l. IsTest l) (sym i) (test_self v p))
-    where
-      IsTest : Lane → Type 0
-      IsTest (Held a q) = Test v p a q ≡ true
-      IsTest (Queue a) = ⊥
-      IsTest (Way a b) = ⊥
-
-  is_p : (u : ℕ) (o : Name) → Test v p u o ≡ true → Held u o ≡ Held v p
-  is_p u o c = let i = test_is v p u o c in ap (λ z. Held z o) i.0 ∙ ap (λ z. Held v z) i.1
-
   abbrev Stands : Lane → Item → Type 0
   Stands l i = IsIn i (Let.stands l) ⊎ ((l ≡ Held v p) × Ahead Let i.mail E)
 
@@ -149,30 +139,14 @@ module _ (script : Script) (honest : ℕ → Bool) (w : World) (v h : ℕ) (n : 
   held_let f u o i j = go (Test v p u o) refl
     where
       go : (c : Bool) → Test v p u o ≡ c → IsIn i (elim c [ true ↦ [] | false ↦ (W t).stands (Held u o) ]) ⊎ ((Held u o ≡ Held v p) × Ahead Let i.mail E)
-      go true c = inr (is_p u o c, sent_ahead f i (subst (λ l. IsIn i ((W s).stands l)) (is_p u o c) j))
-      go false c = inl (stands_still (Held u o) (no_p u o c) i j)
-
-  no_queue : (u : ℕ) → Queue u ≡ Held v p → ⊥
-  no_queue u i = subst (λ l. IsQueue l) i tt
-    where
-      IsQueue : Lane → Type 0
-      IsQueue (Queue a) = Unit {0}
-      IsQueue (Held a q) = ⊥
-      IsQueue (Way a b) = ⊥
-
-  no_way : (a b : ℕ) → Way a b ≡ Held v p → ⊥
-  no_way a b i = subst (λ l. IsWay l) i tt
-    where
-      IsWay : Lane → Type 0
-      IsWay (Way x y) = Unit {0}
-      IsWay (Held x q) = ⊥
-      IsWay (Queue x) = ⊥
+      go true c = inr (held_one u v o p c, sent_ahead f i (subst (λ l. IsIn i ((W s).stands l)) (held_one u v o p c) j))
+      go false c = inl (stands_still (Held u o) (held_apart u v o p c) i j)
 
   stands_let : Fate → (l : Lane) (i : Item) → IsIn i ((W s).stands l) → Stands l i
   unfolding emptied without
-  stands_let f (Queue u) i j = inl (stands_still (Queue u) (no_queue u) i j)
+  stands_let f (Queue u) i j = inl (stands_still (Queue u) (queue_apart u v p) i j)
   stands_let f (Held u o) i j = held_let f u o i j
-  stands_let f (Way a b) i j = inl (stands_still (Way a b) (no_way a b) i j)
+  stands_let f (Way a b) i j = inl (stands_still (Way a b) (way_apart a b v p) i j)
 
   leads_let : (o : Name) → onward_to (W s).onward v p E (Held v p) o ≡ E
   unfolding onward_to

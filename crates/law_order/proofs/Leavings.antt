@@ -1,8 +1,7 @@
 -- As the first message of a lane leaves, each other stands where it stood, or one nearer to the front.
-use Rattle.std.proofs.Common.{◌≡◌, ℕ, Bool, true, false, List, [], ◌∷◌, ◌++◌, Some, refl, sym, ap, subst, ◌∙◌, ◌⊎◌, inl, inr, eqb-true}
-use Rattle.std.proofs.lemmas.Bool.{eqb-false}
+use Rattle.std.proofs.Common.{◌≡◌, ℕ, Bool, true, false, List, [], ◌∷◌, ◌++◌, Some, refl, sym, ap, subst, ◌∙◌, ◌⊎◌, inl, inr}
 use Rattle.std.proofs.lemmas.List.{append-nil, append_assoc}
-use Rattle.std.specs.Prelude.{slice_get, ◌==◌}
+use Rattle.std.specs.Prelude.{slice_get}
 use Rattle.def_machine.specs.Values.{Words, Ref, Name}
 use Rattle.def_machine.specs.State.{Message, Passeds, Delivery, Note, Deliver, Vat}
 use Rattle.def_machine.specs.Refs as refs
@@ -16,72 +15,15 @@ use Rattle.law_order.specs.Worlds.{AddsOnly}
 use Rattle.law_order.specs.Arrivals.{in_front, keeping, IsOpenWay}
 use Rattle.law_order.specs.Leavings.{FirstLeft, FirstLeftKeeps, TakenIsFirst, CarriedIsFirst}
 use Rattle.law_order.proofs.Amid as amid_proofs
-use Rattle.law_order.proofs.Arrived.{all_open}
-use Rattle.law_order.proofs.Comings.{put_on}
-use Rattle.law_order.proofs.Named.{Test, test_self, test_is, false_true}
+use Rattle.law_order.specs.Comings.{CarriedArePutLast}
+use Rattle.law_order.proofs.Arrived.{all_open, carried_messages_are_put_on}
+use Rattle.law_order.proofs.Messages.{gone_on_is_behind}
+use Rattle.law_order.proofs.Comings.{put_on, note_open}
+use Rattle.law_order.proofs.Lanes.{Same, other_of, same_lane}
 use Rattle.law_order.proofs.OrderKeeping.{all_put_on}
 use Rattle.law_order.proofs.Pushing.{push_append}
 use Rattle.law_order.proofs.Sends.{found_ends, link_here, link_behind, ends_of}
 use Rattle.law_order.proofs.Standing.{OnLink, Row, rows_more, stands_more, queue_is, queue_more, held_more, way_more}
-
--- ---- whether two lanes are one
-
-abbrev Same : Lane → Lane → Type 0
-Same l k = (l ≡ k) ⊎ (l ≡ k → ⊥)
-
-abbrev IsQueue : Lane → Type 0
-IsQueue (Queue v) = Unit {0}
-IsQueue (Held v p) = ⊥
-IsQueue (Way a b) = ⊥
-
-abbrev IsHeld : Lane → Type 0
-IsHeld (Queue v) = ⊥
-IsHeld (Held v p) = Unit {0}
-IsHeld (Way a b) = ⊥
-
-abbrev IsWay : Lane → Type 0
-IsWay (Queue v) = ⊥
-IsWay (Held v p) = ⊥
-IsWay (Way a b) = Unit {0}
-
-abbrev one_of : Lane → ℕ
-one_of (Queue v) = v
-one_of (Held v p) = v
-one_of (Way a b) = a
-
-abbrev other_of : Lane → ℕ
-other_of (Queue v) = v
-other_of (Held v p) = v
-other_of (Way a b) = b
-
-abbrev name_of : Name → Lane → Name
-name_of n (Queue v) = n
-name_of n (Held v p) = p
-name_of n (Way a b) = n
-
-same_queue : (u v : ℕ) (c : Bool) → (u == v) ≡ c → Same (Queue u) (Queue v)
-same_queue u v true e = inl (ap Queue (eqb-true u v e))
-same_queue u v false e = inr (λ q. eqb-false u v e (ap (λ z. one_of z) q))
-
-same_held : (u v : ℕ) (p q : Name) (c : Bool) → Test v q u p ≡ c → Same (Held u p) (Held v q)
-same_held u v p q true e = let h = test_is v q u p e in inl (ap (λ z. Held z p) h.0 ∙ ap (λ z. Held v z) h.1)
-same_held u v p q false e = inr (λ i. false_true (sym e ∙ subst (λ z. Test v q z p ≡ true) (sym (ap (λ z. one_of z) i)) (subst (λ z. Test v q v z ≡ true) (sym (ap (λ z. name_of p z) i)) (test_self v q))))
-
-same_way : (a b c d : ℕ) (x y : Bool) → (a == c) ≡ x → (b == d) ≡ y → Same (Way a b) (Way c d)
-same_way a b c d true true e f = inl (ap (λ z. Way z b) (eqb-true a c e) ∙ ap (λ z. Way c z) (eqb-true b d f))
-same_way a b c d false y e f = inr (λ q. eqb-false a c e (ap (λ z. one_of z) q))
-same_way a b c d true false e f = inr (λ q. eqb-false b d f (ap (λ z. other_of z) q))
-
-same_lane : (l k : Lane) → Same l k
-same_lane (Queue u) (Queue v) = same_queue u v (u == v) refl
-same_lane (Held u p) (Held v q) = same_held u v p q (Test v q u p) refl
-same_lane (Way a b) (Way c d) = same_way a b c d (a == c) (b == d) refl refl
-same_lane (Queue u) (Held v q) = inr (λ e. subst IsQueue e tt)
-same_lane (Queue u) (Way c d) = inr (λ e. subst IsQueue e tt)
-same_lane (Held u p) (Queue v) = inr (λ e. subst IsHeld e tt)
-same_lane (Held u p) (Way c d) = inr (λ e. subst IsHeld e tt)
-same_lane (Way a b) (Queue v) = inr (λ e. subst IsWay e tt)
-same_lane (Way a b) (Held v q) = inr (λ e. subst IsWay e tt)
 
 -- ---- the first leaves
 
@@ -214,3 +156,27 @@ module _ (script : Script) (honest : ℕ → Bool) (a b : ℕ) (m : Delivery Nam
 
 pub carried_is_first : CarriedIsFirst
 carried_is_first = λ script honest w a b s t m n verb ys way g. arrived_first script honest a b m n verb ys w s t way g
+
+-- ---- one is put on
+
+module _ (script : Script) (honest : ℕ → Bool) (a b h : ℕ) (m : Delivery Name) (n q : Name) (verb : Words) (ys zs : Passeds Name) (w : World) (s : Vat Name) (way : IsOpenWay honest a b w) (next : IsOpenWay honest b h w) (other : h ≡ b → ⊥) where
+  abbrev Put : Vat Name
+  Put = record s { outbox = s.outbox ++ record { to = h; note = Deliver m q verb zs } ∷ [] }
+
+  abbrev Start : Ways
+  Start = ways script honest (amid b s (keeping a b (Deliver m n verb ys) w))
+
+  same_there : Start.stands (Way b h) ≡ (ways script honest (amid b s w)).stands (Way b h)
+  unfolding ways ways_of stands_at amid keeping
+  same_there = ap (λ ls. Row script honest (world.link_at b h ls)) (all_put_on a b b (Deliver m n verb ys) s.outbox w.links)
+      ∙ row_apart script honest a b m n verb ys b h (λ e. other (ap (λ l. other_of l) e)) (world.push_all b s.outbox w.links)
+
+  put_last : (ways script honest (amid b Put w)).stands (Way b h) ≡ Start.stands (Way b h) ++ item m.message q ∷ []
+  put_last = note_open script honest w b h next.sender next.receiver m q verb zs s Put refl (next.link, next.found, next.uncut) ∙ ap (λ js. js ++ item m.message q ∷ []) (sym same_there)
+
+pub carried_are_put_last : CarriedArePutLast
+carried_are_put_last = λ script honest w a b h r s m n q o verb ys zs at way next other learnt away.
+    let start = Start script honest a b h m n q verb ys zs w s way next other in
+    let put = ways script honest (amid b (Put script honest a b h m n q verb ys zs w s way next other) w) in
+    let g = gone_on_is_behind start put (Way a b) (Way b h) (item m.message n) q (carried_messages_are_put_on script honest w a b h r s m n q o verb ys zs at way next learnt away) tt in
+    (put_last script honest a b h m n q verb ys zs w s way next other, g.0, g.1)

@@ -46,3 +46,4 @@ pub mod Far
 pub mod FarSettled
 pub mod Passings
 pub mod ToldLists
+pub mod Lanes

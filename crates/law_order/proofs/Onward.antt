@@ -1,5 +1,5 @@
 -- What a name held is sent on as it settles, by the machine.
-use Rattle.std.proofs.Common.{◌≡◌, ℕ, Bool, true, false, List, [], ◌∷◌, ◌++◌, Option, Some, None, length, refl, sym, ap, subst, ◌∙◌, ◌⊎◌, inl, inr}
+use Rattle.std.proofs.Common.{◌≡◌, ℕ, Bool, true, false, List, [], ◌∷◌, ◌++◌, Some, None, length, refl, sym, ap, subst, ◌∙◌, ◌⊎◌, inl, inr}
 use Rattle.std.specs.Prelude.{slice_get}
 use Rattle.def_machine.specs.Values.{Value, Null, Flag, Number, Letter, Text, Prim, Broken, Items, Ref, Name, Naming, Spot, Own, Foreign, NoObject}
 use Rattle.def_machine.specs.State.{Message, Known, Vat, Done, Gives, Settle}
@@ -11,11 +11,11 @@ use Rattle.def_run.specs.World as world
 use Rattle.law_order.specs.Ways.{Lane, Queue, Held, Way, Item, Place, Nowhere, End, Mid, Ways, IsIn, nowhere, alike, Ahead, doomed_there, in_end}
 use Rattle.law_order.specs.Turns.{Within}
 use Rattle.law_order.specs.Places.{item, queued, held_on, held_in, aimed, stands_at, ways_of, ways, amid}
-use Rattle.law_order.specs.Worlds.{IfGives, RefersAlike, StandsAlike}
+use Rattle.law_order.specs.Worlds.{IfGives, RefersAlike}
 use Rattle.law_order.specs.Settle.{passed_by, onward_to, led_to, without, emptied, KeepsBy, SentOn, SettlesHere, aimed_at, IsReady, settled_to, AllOn, IsHere, IsOwnSpot, SettlingToNothingKeeps, SettlingHereKeeps}
 use Rattle.law_order.proofs.Adding.{RefersSame, refers_same}
 use Rattle.law_order.proofs.Pushing.{all_same}
-use Rattle.law_order.proofs.Amid.{stands_grow, onward_same}
+use Rattle.law_order.proofs.Amid.{entry_self, stands_grow, onward_same}
 use Rattle.law_order.proofs.Named.{Test, test_self, test_is}
 use Rattle.law_order.proofs.Sends.{get_put}
 use Rattle.law_order.proofs.Settled.{follows_settled}
@@ -196,10 +196,6 @@ module _ (K : Naming Name Name) (t : Vat Name) where
   here_near (Prim k) h = refl
   here_near (Broken x) h = absurd h
   here_near (Items k) h = refl
-
-entry_self : (n : Name) (o : Option (Known Name)) → StandsAlike n o o
-entry_self n None = tt
-entry_self n (Some k) = (refl, refl, λ i h. h)
 
 module _ (script : Script) (honest : ℕ → Bool) (w : World) (v : ℕ) (r s : Vat Name) (p : Name) (y : Value Name) (k : Known Name) (at : slice_get w.vats v ≡ Some r) (g : SettlesHere (names script v) s (settled_to (names script v) s p y) p y v) (e : refs.entry_of (names script v) s.known p ≡ Some k) (here : IsHere (names script v) y) where
   abbrev K : Naming Name Name

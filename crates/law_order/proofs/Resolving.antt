@@ -1,5 +1,5 @@
 -- What is ahead stays ahead as a name is resolved.
-use Rattle.std.proofs.Common.{◌≡◌, ℕ, suc, Bool, true, false, Some, length}
+use Rattle.std.proofs.Common.{◌≡◌, ℕ, suc, Bool, true, false, Some, length, subst}
 use Rattle.std.specs.Prelude.{slice_get, codes, if◌then◌else◌}
 use Rattle.def_machine.specs.Values.{Value, Prim, Broken, Name, Naming}
 use Rattle.def_machine.specs.State.{Standing, Unsettled, WaitsOn, Viewed, Settled, Known, Vat, Change, Hold, Wait, WaitOn, See, React, ToTell, Settle, Waits}
@@ -9,8 +9,9 @@ use Rattle.def_machine.specs.Refs.{Near, Mine, Away, Gone}
 use Rattle.def_run.specs.World.{Script, World, names}
 use Rattle.law_order.specs.Worlds.{IfGives}
 use Rattle.law_order.specs.Settlings.{with_line}
-use Rattle.law_order.specs.Steps.{StaysInOrder}
-use Rattle.law_order.specs.Resolve.{WaitOnKeeps, SettlesPlain, CycleWell, PlaceWell, ResolvesWell, ResolvingKeeps}
+use Rattle.law_order.specs.Steps.{Course, over, grew, settled, resolved, SettlingsKeep, StaysInOrder}
+use Rattle.law_order.proofs.OrderSendKeeping.{courses_keep}
+use Rattle.law_order.specs.Resolve.{WaitOnKeeps, SettlesPlain, CycleWell, PlaceWell, ResolvesWell, ResolvingKeeps, SettlesIn, SettledCoursesKeep}
 use Rattle.law_order.proofs.Waiting.{waits_grown, waits_ready}
 use Rattle.law_order.proofs.Remaining.{kept_grown}
 use Rattle.law_order.proofs.Whole.{settlings_keep}
@@ -54,3 +55,15 @@ module _ (script : Script) (honest : ℕ → Bool) (w : World) (v : ℕ) (r : Va
 
 pub resolving_keeps : ResolvingKeeps
 resolving_keeps = λ script honest w v r s p x at h. resolves script honest w v r at p s x h
+
+-- ---- courses
+
+module _ (script : Script) (honest : ℕ → Bool) (w : World) (v : ℕ) (r : Vat Name) (at : slice_get w.vats v ≡ Some r) where
+  all_keep : (s t : Vat Name) (c : Course script honest w v s t) → SettlesIn script honest w v c → SettlingsKeep script honest w v c
+  all_keep s t over h = tt
+  all_keep s t (grew {t = q} f c) h = all_keep q t c h
+  all_keep s t (settled {t = q} p y e c) h = (subst (λ d. IfGives (λ z. StaysInOrder script honest w v s z) d) h.0 (settle_kept script honest w v r at p s y h.1), all_keep q t c h.2)
+  all_keep s t (resolved {t = q} p x e c) h = (subst (λ d. IfGives (λ z. StaysInOrder script honest w v s z) d) h.0 (resolves script honest w v r at p s x h.1), all_keep q t c h.2)
+
+pub settled_courses_keep : SettledCoursesKeep
+settled_courses_keep = λ script honest w v r s t c at h ready. courses_keep script honest w v s t c (all_keep script honest w v r at s t c h) ready

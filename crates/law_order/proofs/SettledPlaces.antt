@@ -1,5 +1,5 @@
 -- Each thing keeps its order as a name settles: what the name held comes to the queue in its order, or is doomed where it stood.
-use Rattle.std.proofs.Common.{◌≡◌, ℕ, Bool, true, false, List, [], ◌∷◌, ◌++◌, Option, Some, None, refl, sym, ap, subst, ◌∙◌, inl, inr}
+use Rattle.std.proofs.Common.{◌≡◌, ℕ, Bool, true, false, List, [], ◌∷◌, ◌++◌, Some, None, refl, sym, ap, subst, ◌∙◌, inl, inr}
 use Rattle.std.proofs.lemmas.List.{append-nil, append_assoc}
 use Rattle.std.specs.Prelude.{slice_get}
 use Rattle.def_machine.specs.Values.{Value, Null, Flag, Number, Letter, Text, Prim, Broken, Items, Ref, Name, Promise, Answer, Naming}
@@ -11,12 +11,15 @@ use Rattle.def_run.specs.World as world
 use Rattle.law_order.specs.Ways.{Lane, Queue, Held, Way, Item, Place, Nowhere, End, Mid, Ways, IsIn, Doom, nowhere, by_mid, alike, Ahead, doomed_there, in_mid, past_mid}
 use Rattle.law_order.specs.Places.{item, queued, held_on, held_in, aimed, amid}
 use Rattle.law_order.specs.Messages.{More, StandsAt, StaysBehind}
-use Rattle.law_order.specs.Worlds.{StandsAlike, AddsOnly}
+use Rattle.law_order.specs.Worlds.{AddsOnly}
 use Rattle.law_order.specs.Steps.{WaysAmid, LeadsAmid, IsApart, IsSentOn, still_held, sent_there, now_lost, Ready, Grown, KeepsOrder, StaysInOrder}
 use Rattle.law_order.specs.Settle.{passed_by, KeepsBy, SettlesHere, aimed_at, IsReady, settled_to, IsHere}
 use Rattle.law_order.proofs.Adds.{adds_nothing, grown_adds, stays_quiet}
+use Rattle.law_order.proofs.Amid.{entry_self}
+use Rattle.law_order.proofs.Pushing.{within_more}
+use Rattle.law_order.proofs.Lanes.{queue_apart, way_apart, vat_apart, held_apart}
 use Rattle.law_order.proofs.Entries.{Differs, as_it_was, changes, differs}
-use Rattle.law_order.proofs.Named.{test_self, test_is, false_true, Test, passes_mid, passes_nowhere}
+use Rattle.law_order.proofs.Named.{test_is, Test, passes_mid, passes_nowhere}
 use Rattle.law_order.proofs.Onward.{retargeted, here_keeps, here_leads, here_onward, aimed_here, settling_to_nothing_keeps}
 use Rattle.law_order.proofs.OrderPassing.{leads_via, settled_is_passed}
 use Rattle.law_order.proofs.Sends.{none_some}
@@ -62,11 +65,6 @@ sent_in o x m [] i = i
 sent_in o x m (j ∷ b) (inl e) = inl (ap (λ z. item z.mail o) e)
 sent_in o x m (j ∷ b) (inr i) = inr (sent_in o x m b i)
 
-pub in_left : (i : Item) (a b : List Item) → IsIn i a → IsIn i (a ++ b)
-in_left i [] b h = absurd h
-in_left i (j ∷ a) b (inl e) = inl e
-in_left i (j ∷ a) b (inr h) = inr (in_left i a b h)
-
 pub in_right : (i : Item) (a b : List Item) → IsIn i b → IsIn i (a ++ b)
 in_right i [] b h = h
 in_right i (j ∷ a) b h = inr (in_right i a b h)
@@ -78,7 +76,7 @@ doom_wider w l a b n (by_mid h) = by_mid h
 
 ahead_wider : (w : Ways) (x : Name) (l : Lane) (a b : List Item) (n : Name) → Ahead w x (Mid l a n) → Ahead w x (Mid l (a ++ b) n)
 ahead_wider w x l a b n (doomed_there h) = doomed_there (doom_wider w l a (a ++ b) n h)
-ahead_wider w x l a b n (in_mid {m = m} i f) = in_mid (in_left (item x m) a b i) f
+ahead_wider w x l a b n (in_mid {m = m} i f) = in_mid (within_more a (a ++ b) b refl (item x m) i) f
 ahead_wider w x l a b n (past_mid h) = past_mid h
 
 -- What was held for p, behind b, comes to the queue behind q and b.
@@ -93,20 +91,6 @@ module _ (w u : Ways) (k : Lane) (l : Lane) (n o : Name) (q b : List Item) (lead
 
   pub behind_queued : StaysBehind w u (Mid k b n) (Mid l (q ++ sent_to o b) o)
   behind_queued = (λ h. doom_queued h, λ x h. ahead_queued x h)
-
-entry_self : (n : Name) (o : Option (Known Name)) → StandsAlike n o o
-entry_self n None = tt
-entry_self n (Some k) = (refl, refl, λ i h. h)
-
-abbrev IsQueue : Lane → Type 0
-IsQueue (Queue v) = Unit {0}
-IsQueue (Held v p) = ⊥
-IsQueue (Way a b) = ⊥
-
-abbrev IsWay : Lane → Type 0
-IsWay (Queue v) = ⊥
-IsWay (Held v p) = ⊥
-IsWay (Way a b) = Unit {0}
 
 -- ---- a name settles
 
@@ -167,27 +151,17 @@ module _ (script : Script) (honest : ℕ → Bool) (w : World) (v : ℕ) (r s : 
     still_there : (m : Name) (l : Lane) (b : List Item) (n : Name) → (l ≡ Held v p → ⊥) → StandsAt (W s) m l b n → StandsAt (W t) m l b n
     still_there m l b n f h = stands_more (W s) (W t) m l b n (more_then (W s) (W T) (W t) l (settled_more l f) (grown.more l)) h
 
-    abbrev OneOf : Lane → ℕ
-    OneOf (Queue u) = u
-    OneOf (Held u o) = u
-    OneOf (Way a c) = a
-
-    abbrev NameOf : Lane → Name
-    NameOf (Queue u) = p
-    NameOf (Held u o) = o
-    NameOf (Way a c) = p
-
     apart_from : (l : Lane) → IsApart script honest w v l → l ≡ Held v p → ⊥
-    apart_from (Queue u) i e = subst IsQueue e tt
-    apart_from (Held u o) i e = i (ap (λ z. OneOf z) e)
-    apart_from (Way a c) i e = subst IsWay e tt
+    apart_from (Queue u) i e = queue_apart u v p e
+    apart_from (Held u o) i e = vat_apart u v o p i e
+    apart_from (Way a c) i e = way_apart a c v p e
 
     held_after : (m o : Name) (b : List Item) (n : Name) → StandsAt (W s) m (Held v o) b n → IsSentOn script honest w v s t m o b n
     held_after m o b n h = go (Test v p v o) refl
       where
         go : (c : Bool) → Test v p v o ≡ c → IsSentOn script honest w v s t m o b n
         go true e = let i = (test_is v p v o e).1 in subst (λ z. IsSentOn script honest w v s t m z b n) (sym i) (moved m b n (subst (λ z. StandsAt (W s) m (Held v z) b n) i h))
-        go false e = still_held (still_there m (Held v o) b n (λ j. false_true (sym e ∙ subst (λ z. Test v p v z ≡ true) (sym (ap (λ z. NameOf z) j)) (test_self v p))) h)
+        go false e = still_held (still_there m (Held v o) b n (held_apart v v o p e) h)
 
     pub settles_so : KeepsOrder script honest w v s t
     settles_so = record {

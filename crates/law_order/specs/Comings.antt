@@ -1,7 +1,7 @@
 -- Messages come to stand last, where they are sent and where they arrive.
 use Rattle.std.specs.Prelude.{◌≡◌, ℕ, Bool, true, List, [], ◌∷◌, ◌++◌, Option, Some, slice_get, ◌⊎◌}
 use Rattle.def_machine.specs.Values.{Words, Value, Ref, Name, Sent}
-use Rattle.def_machine.specs.State.{Message, Passeds, Deliver, Vat, Known}
+use Rattle.def_machine.specs.State.{Message, Passeds, Delivery, Deliver, Vat, Known}
 use Rattle.def_machine.specs.Refs.{Settler, Mine, Away, entry_of, follow, place, send, send_only, send_to}
 use Rattle.def_run.specs.World.{Script, World, names}
 use Rattle.law_order.specs.Ways.{Lane, Queue, Held, Way, Item, Nowhere, Free, End, Mid, Ways, IsIn, Doom, Ahead}
@@ -53,6 +53,13 @@ CarriedComeLast = (script : Script) (honest : ℕ → Bool) (w : World) (a b : �
     ((q : Name) → p ≡ Mine q → (k : Known Name) × (entry_of (names script b) s.known q ≡ Some k) × IsWaiting k.standing)
     → IsHere p
     → IfGives (λ t. MovesLast (ways script honest (amid b s (keeping a b (Deliver (record { message = m.id; asks = asks; answer = answer }) n verb ys) w))) (ways script honest (amid b t w)) (Way a b) (item m.id n) (aimed b y p)) (send_to (names script b) settle m y p s)
+
+-- So it does as it arrives for what a third vat hosts, and is put on the link to that, where that link is not cut.
+abbrev pub CarriedArePutLast : Type 0
+CarriedArePutLast = (script : Script) (honest : ℕ → Bool) (w : World) (a b h : ℕ) (r s : Vat Name) (m : Delivery Name) (n q : Name) (o : Bool) (verb : Words) (ys zs : Passeds Name)
+    → slice_get w.vats b ≡ Some r → IsOpenWay honest a b w → IsOpenWay honest b h w → (h ≡ b → ⊥) → IsLearnt b script s n
+    → place (names script b) s (follow (names script b) s (Ref n)) ≡ Away h q o
+    → MovesLast (ways script honest (amid b s (keeping a b (Deliver m n verb ys) w))) (ways script honest (amid b (record s { outbox = s.outbox ++ record { to = h; note = Deliver m q verb zs } ∷ [] }) w)) (Way a b) (item m.message n) (End (Way b h) q)
 
 -- ---- where order is kept
 

@@ -1,12 +1,12 @@
 -- A name waits for another, or settles, as it is resolved.
 use Rattle.std.specs.Prelude.{◌≡◌, ℕ, suc, Bool, true, false, Option, Some, None, length, slice_get, codes, ◌⊎◌}
 use Rattle.def_machine.specs.Values.{Value, Broken, Name, Naming}
-use Rattle.def_machine.specs.State.{Unsettled, Known, Vat}
-use Rattle.def_machine.specs.Refs.{Place, Near, Mine, Away, Gone, entry_of, follow, place, waits_lead, wait_on, resolve}
+use Rattle.def_machine.specs.State.{Unsettled, Known, Vat, Gives}
+use Rattle.def_machine.specs.Refs.{Place, Near, Mine, Away, Gone, entry_of, follow, place, waits_lead, wait_on, settle, resolve}
 use Rattle.def_run.specs.World.{Script, World, names}
 use Rattle.law_order.specs.Worlds.{IfGives, IsWaiting}
 use Rattle.law_order.specs.Settlings.{IsPlain, IsHonestTo, IsLoose, SettlesWell}
-use Rattle.law_order.specs.Steps.{KeepsOrder, StaysInOrder}
+use Rattle.law_order.specs.Steps.{Ready, Course, over, grew, settled, resolved, KeepsOrder, StaysInOrder}
 
 -- what is known of a name stands as it stood, but p, which was unsettled, may wait now
 abbrev pub StandsNear : Name → Name → Option (Known Name) → Option (Known Name) → Type 0
@@ -59,3 +59,15 @@ WaitOnKeeps = (script : Script) (honest : ℕ → Bool) (w : World) (v : ℕ) (s
 abbrev pub ResolvingKeeps : Type 0
 ResolvingKeeps = (script : Script) (honest : ℕ → Bool) (w : World) (v : ℕ) (r s : Vat Name) (p : Name) (x : Value Name) → slice_get w.vats v ≡ Some r → ResolvesWell script honest w v p s x
     → IfGives (λ t. StaysInOrder script honest w v s t) (resolve (names script v) p x s)
+
+module _ (script : Script) (honest : ℕ → Bool) (w : World) (v : ℕ) where
+  -- Each settling in this course came to its end, and can go so in the state in which it began.
+  abbrev pub SettlesIn : {s t : Vat Name} → Course script honest w v s t → Type 0
+  SettlesIn over = Unit {0}
+  SettlesIn (grew f c) = SettlesIn c
+  SettlesIn (settled {s} {t} p y e c) = (settle (names script v) p y s ≡ Gives tt t) × SettlesPlain script honest w v p y s × SettlesIn c
+  SettlesIn (resolved {s} {t} p x e c) = (resolve (names script v) p x s ≡ Gives tt t) × ResolvesWell script honest w v p s x × SettlesIn c
+
+-- Such a course keeps the vat ready, and keeps order.
+abbrev pub SettledCoursesKeep : Type 0
+SettledCoursesKeep = (script : Script) (honest : ℕ → Bool) (w : World) (v : ℕ) (r s t : Vat Name) (c : Course script honest w v s t) → slice_get w.vats v ≡ Some r → SettlesIn script honest w v c → Ready script honest w v s → Ready script honest w v t × KeepsOrder script honest w v s t

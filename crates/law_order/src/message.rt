@@ -1,6 +1,6 @@
 //! The place of each message.
 
-ghost use Rattle.law_order.specs.Comings.{CarriedComeLast, FoundPlacesKeep, HeldComeInOrder, LostMessagesDoom, QueuesTellOrder, SendsComeLast};
+ghost use Rattle.law_order.specs.Comings.{CarriedArePutLast, CarriedComeLast, FoundPlacesKeep, HeldComeInOrder, LostMessagesDoom, QueuesTellOrder, SendsComeLast};
 ghost use Rattle.law_order.specs.Example.{HeldGoInOrder, MessagesAreFound, WaitingComeLast};
 ghost use Rattle.law_order.specs.Leavings.{CarriedIsFirst, FirstLeftKeeps, TakenIsFirst};
 ghost use Rattle.law_order.specs.Messages.{ComersAreBehind, GoneOnIsBehind, LostIsNowhere, NowhereIsDoomed, PlacesAreFound, PlacesAreOne};
@@ -129,4 +129,12 @@ pub fn carried_is_first()
 #[tactic(auto, unfolding(crate::specs::Example::opened_example))]
 pub fn waiting_come_last()
     ensures { WaitingComeLast }
+{}
+
+/// A message that arrives for what another vat hosts comes to stand last on the link to that vat, behind all that was
+/// ahead of it on its own link and of that end.
+///
+/// It asks what `carried_messages_are_put_on` asks, and that the vat does not host it itself.
+pub fn carried_are_put_last()
+    ensures { CarriedArePutLast }
 {}

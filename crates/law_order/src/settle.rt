@@ -2,7 +2,7 @@
 
 ghost use Rattle.law_order.specs.Settle.{SendingOnKeeps, SettledIsPassed, SettlingHereKeeps, SettlingKeeps, SettlingToNothingKeeps};
 ghost use Rattle.law_order.specs.Settlings.{SettlingsKeep};
-ghost use Rattle.law_order.specs.Resolve.{ResolvingKeeps, WaitOnKeeps, WaitingKeeps};
+ghost use Rattle.law_order.specs.Resolve.{ResolvingKeeps, SettledCoursesKeep, WaitOnKeeps, WaitingKeeps};
 
 /// What is ahead stays ahead, and what is doomed stays doomed, where what a name held is sent on: each
 /// message that stood there is ahead of the place to which that lane leads.
@@ -95,4 +95,13 @@ pub fn wait_on_keeps()
 /// It asks what `wait_on_keeps` asks where it waits, and what `settlings_keep` asks where it settles.
 pub fn resolving_keeps()
     ensures { ResolvingKeeps }
+{}
+
+/// A course keeps the order of each reference and each message, and keeps the vat ready, where each settling in it
+/// can go so. By `turns_go_so` each turn is a course.
+///
+/// It asks of each settling, in the state in which it begins, what `settlings_keep` or `resolving_keeps` asks, and
+/// that it comes to its end.
+pub fn settled_courses_keep()
+    ensures { SettledCoursesKeep }
 {}
