@@ -22,16 +22,20 @@ NoteFits (Deliver m target verb args) = IsUtf8 verb
 NoteFits (DeliverOnly m target verb args) = IsUtf8 verb
 NoteFits _ = Unit {0}
 
--- Its verb is a text, and the name of an object that is made has no line feed.
+-- Its verb is a text, and the name of an object that is made is such a name.
+abbrev pub FitsAs : (List ℕ → Type 0) → Event → Type 0
+FitsAs IsName (Carry k v w note) = NoteFits note
+FitsAs IsName (Take t) = IsUtf8 t.verb
+FitsAs IsName (Call c) = IsUtf8 c.verb
+FitsAs IsName (Made o) = IsName o.name
+FitsAs IsName (Send m) = IsUtf8 m.verb
+FitsAs IsName (SendOnly m) = IsUtf8 m.verb
+FitsAs IsName (LeftLink v w note) = NoteFits note
+FitsAs IsName _ = Unit {0}
+
+-- The name of an object that is made has no line feed.
 abbrev pub Fits : Event → Type 0
-Fits (Carry k v w note) = NoteFits note
-Fits (Take t) = IsUtf8 t.verb
-Fits (Call c) = IsUtf8 c.verb
-Fits (Made o) = IsOneLine o.name
-Fits (Send m) = IsUtf8 m.verb
-Fits (SendOnly m) = IsUtf8 m.verb
-Fits (LeftLink v w note) = NoteFits note
-Fits _ = Unit {0}
+Fits = FitsAs IsOneLine
 
 -- of vats whose names have none
 abbrev pub EachLineIsOne : Type 0
