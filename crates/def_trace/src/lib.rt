@@ -1,0 +1,2 @@
+//! What a trace of a run says, and what may be asked of it.
+#![tactic(auto)]
