@@ -1,0 +1,4 @@
+//! Whether the messages of a trace were taken in order.
+#![tactic(auto)]
+
+pub mod spread;
