@@ -78,3 +78,8 @@ pub record Spreads (places : List Place) (seed label : ℕ) (old now : Labels) :
   pub kept : (n k : ℕ) → HasLabel old n k → HasLabel now n k
   pub fresh : (n k : ℕ) → HasLabel now n k → HasLabel old n k ⊎ ((k ≡ label) × Leads places seed n)
   pub seeded : seed < length places → IsLabelled now seed
+
+-- nothing changes where there is no seed
+abbrev pub SpreadsSeed : List Place → Option ℕ → ℕ → Labels → Labels → Type 0
+SpreadsSeed places None label old now = now ≡ old
+SpreadsSeed places (Some seed) label old now = Spreads places seed label old now

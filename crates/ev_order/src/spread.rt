@@ -1,7 +1,7 @@
 //! Labels that spread from seeds over places that lead to others.
 
-ghost use Rattle.std.specs.Prelude.{◌≡◌, IfOk, OnOk, slice_get};
-ghost use Rattle.ev_order.specs.Spread.{HasFirstLabels, IsWhole, Spreads, gone_on, labelled, labelled_target, reached_by, reached_from, reached_target};
+ghost use Rattle.std.specs.Prelude.{◌≡◌, ℕ, IfOk, OnOk, length, slice_get};
+ghost use Rattle.ev_order.specs.Spread.{HasFirstLabels, HasLabel, IsWhole, Spreads, SpreadsSeed, gone_on, labelled, labelled_target, reached_by, reached_from, reached_target};
 
 use ev_base::Memory;
 use std::alloc::Global;
@@ -88,6 +88,40 @@ fn spread(
     Ok(())
 }
 
+/// The same for a seed that may be none.
+fn spread_seed(
+    places: &[Place],
+    labels: &mut [Option<usize>],
+    reached: &mut Vec<usize>,
+    seed: Option<usize>,
+    label: usize,
+) -> Result<(), Memory>
+    requires { IsWhole places.now labels.old }
+    ensures { OnOk result (SpreadsSeed places.now seed label labels.old labels.new) }
+{
+    match seed {
+        Some(place) => spread(places, labels, reached, place, label),
+        None => Ok(()),
+    }
+}
+
+/// The same for each seed, in order.
+fn spread_all(
+    places: &[Place],
+    labels: &mut [Option<usize>],
+    reached: &mut Vec<usize>,
+    seeds: &[Option<usize>],
+) -> Result<(), Memory>
+    requires length { length labels.old ≡ length places.now }
+    requires free { (n k : ℕ) → HasLabel labels.old n k → ⊥ }
+    ensures { OnOk result (HasFirstLabels places.now seeds.now labels.new) }
+{
+    for label in 0..seeds.len() {
+        spread_seed(places, labels, reached, seeds[label], label)?;
+    }
+    Ok(())
+}
+
 /// The number of the first seed that leads to each place. Time grows with the places and the seeds.
 pub fn first_labels(
     alloc: Global,
@@ -99,10 +133,6 @@ pub fn first_labels(
     let mut labels = Vec::new(alloc);
     labels.resize(places.len(), None)?;
     let mut reached = Vec::new(alloc);
-    for (label, seed) in seeds.iter().enumerate() {
-        if let Some(seed) = seed {
-            spread(places, &mut labels, &mut reached, *seed, label)?;
-        }
-    }
+    spread_all(places, &mut labels, &mut reached, seeds)?;
     Ok(labels)
 }
