@@ -2,7 +2,7 @@
 use Rattle.std.specs.Prelude.{◌≡◌, ◌<◌, ℕ, Bool as Bools, true, false, List, [], ◌∷◌, take, Option, Some, None, slice_get}
 use Rattle.ev_base.specs.declared.names.Msg.{Msg}
 use Rattle.ev_base.specs.declared.names.Name.{Name}
-use Rattle.ev_base.specs.declared.names.Name.TheVariants.{Object, Own, Answer, Gift, Root}
+use Rattle.ev_base.specs.declared.names.Name.TheVariants.{Object}
 use Rattle.def_event.specs.declared.shown.Shown.{Shown, Name as Named}
 use Rattle.def_event.specs.declared.note.ShownNote.{ShownNote}
 use Rattle.def_event.specs.declared.note.ShownNote.TheVariants.{Deliver, DeliverOnly}
@@ -76,15 +76,18 @@ taking _ = None
 abbrev pub DoesAt : {A : Type 0} → (Event → Option A) → List Event → ℕ → A → Type 0
 DoesAt does lines i a = (e : Event) × (slice_get lines i ≡ Some e) × (does e ≡ Some a)
 
--- Line i is the first that sends this message.
-pub record IsSent (lines : List Event) (i : ℕ) (s : Sending) : Type 0 where
-  pub there : DoesAt sending lines i s
-  pub first : (j : ℕ) (r : Sending) → j < i → DoesAt sending lines j r → r.message ≡ s.message → ⊥
+-- Line i is the first that does that with the message.
+pub record IsFirst {A : Type 0} (does : Event → Option A) (message : A → Msg) (lines : List Event) (i : ℕ) (a : A) : Type 0 where
+  pub there : DoesAt does lines i a
+  pub first : (j : ℕ) (b : A) → j < i → DoesAt does lines j b → message b ≡ message a → ⊥
 
--- Line i is the first that carries this message.
-pub record IsCarried (lines : List Event) (i : ℕ) (c : Carrying) : Type 0 where
-  pub there : DoesAt carrying lines i c
-  pub first : (j : ℕ) (r : Carrying) → j < i → DoesAt carrying lines j r → r.message ≡ c.message → ⊥
+-- line i is the first that sends this message
+abbrev pub IsSent : List Event → ℕ → Sending → Type 0
+IsSent lines i s = IsFirst sending (λ (x : Sending). x.message) lines i s
+
+-- line i is the first that carries this message
+abbrev pub IsCarried : List Event → ℕ → Carrying → Type 0
+IsCarried lines i c = IsFirst carrying (λ (x : Carrying). x.message) lines i c
 
 -- a line before line i takes the message
 abbrev pub IsTakenBefore : List Event → ℕ → Msg → Type 0

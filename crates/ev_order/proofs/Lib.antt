@@ -1,3 +1,4 @@
 pub mod Lists
 pub mod Spreading
 pub mod Labelling
+pub mod Keys

@@ -1,1 +1,3 @@
 pub mod Spread
+pub mod Mentions
+pub mod Chains
