@@ -6,6 +6,7 @@ use Rattle.ev_base.specs.declared.names.Name.TheVariants.{Object}
 use Rattle.def_event.specs.declared.shown.Shown.{Shown, Name as Named}
 use Rattle.def_event.specs.declared.note.ShownNote.{ShownNote}
 use Rattle.def_event.specs.declared.note.ShownNote.TheVariants.{Deliver, DeliverOnly}
+use Rattle.def_trace.specs.declared.reference.Reference.{Reference}
 use Rattle.def_event.specs.declared.event.Event.{Event}
 use Rattle.def_event.specs.declared.event.Event.TheVariants.{Open, Turn, Idle, Carry, Cut, Notice, Take, Send, SendOnly}
 
@@ -94,11 +95,6 @@ abbrev pub IsTakenBefore : List Event → ℕ → Msg → Type 0
 IsTakenBefore lines i m = (j : ℕ) × (t : Taking) × (j < i) × DoesAt taking lines j t × (t.message ≡ m)
 
 -- ---- before
-
--- a vat and a name as it prints there
-pub record Reference : Type 0 where
-  pub vat : Option ℕ
-  pub name : Name
 
 -- A message that was sent at line `sent` and carried first at line `carried` has `from` as an argument where it was sent and `to` at the same place where it came.
 pub record Passing (lines : List Event) (from to : Reference) (sent carried : ℕ) : Type 0 where

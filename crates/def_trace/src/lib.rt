@@ -1,2 +1,8 @@
-//! What a trace of a run says, and what may be asked of it.
+//! What the text of a run says: its events, the names of its vats, and the line with which it stopped.
 #![tactic(auto)]
+
+pub mod reference;
+pub mod trace;
+
+pub use reference::Reference;
+pub use trace::Trace;

@@ -2,3 +2,4 @@ pub mod Lists
 pub mod Spreading
 pub mod Labelling
 pub mod Keys
+pub mod Same
