@@ -1,3 +1,3 @@
 pub mod Spread
 pub mod Mentions
-pub mod Chains
+pub mod Last
