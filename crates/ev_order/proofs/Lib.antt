@@ -3,3 +3,4 @@ pub mod Spreading
 pub mod Labelling
 pub mod Keys
 pub mod Same
+pub mod Chaining

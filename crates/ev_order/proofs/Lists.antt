@@ -1,6 +1,6 @@
 -- Reading a list at an index after a write, and after one more element.
 use Rattle.std.specs.Prelude.{◌≡◌, ◌<◌, ◌≤◌, ◌⊎◌, ℕ, true, false, List, [], ◌∷◌, ◌++◌, length, Option, Some, None, slice_get}
-use Rattle.std.proofs.Common.{refl, ap, suc, zero, inl, inr}
+use Rattle.std.proofs.Common.{refl, ap, suc, zero, inl, inr, ⊎_elim}
 use Rattle.std.proofs.Math.ListN.{set}
 
 -- what was written
@@ -32,9 +32,9 @@ get_end [] y = refl
 get_end (z ∷ xs) y = get_end xs y
 
 -- what is there with one more is that one or was there
-pub get_either : {A : Type 0} (xs : List A) (y : A) (i : ℕ) (x : A) → slice_get (xs ++ y ∷ []) i ≡ Some x → (slice_get xs i ≡ Some x) ⊎ (x ≡ y)
-get_either [] y zero x h = inr (cc)
+pub get_either : {A : Type 0} (xs : List A) (y : A) (i : ℕ) (x : A) → slice_get (xs ++ y ∷ []) i ≡ Some x → (slice_get xs i ≡ Some x) ⊎ ((i ≡ length xs) × (x ≡ y))
+get_either [] y zero x h = inr (refl, cc)
 get_either [] y (suc zero) x h = cc
 get_either [] y (suc (suc i)) x h = cc
 get_either (z ∷ xs) y zero x h = inl h
-get_either (z ∷ xs) y (suc i) x h = get_either xs y i x h
+get_either (z ∷ xs) y (suc i) x h = ⊎_elim (λ (there : slice_get xs i ≡ Some x). inl there) (λ (new : (i ≡ length xs) × (x ≡ y)). inr (ap suc new.0, new.1)) (get_either xs y i x h)

@@ -42,7 +42,7 @@ frees places seed label old now reached i b s led free = record {
   kept = λ n k h. label_stays now b label n k free (s.kept n k h);
   fresh = λ n k h. ⊎_elim (s.fresh n k) (λ (new : (n ≡ b) × (k ≡ label)). inr (new.1, subst (Leads places seed) (sym new.0) led)) (label_at now b label n k free h);
   within = omega (arith, length-append reached (b ∷ []), s.within);
-  reaches = λ j n le h. ⊎_elim (s.reaches j n le) (λ (e : n ≡ b). subst (Leads places seed) (sym e) led) (get_either reached b j n h);
+  reaches = λ j n le h. ⊎_elim (s.reaches j n le) (λ (new : (j ≡ length reached) × (n ≡ b)). subst (Leads places seed) (sym new.1) led) (get_either reached b j n h);
   done = λ a c labelled on inside. ⊎_elim
     (λ (earlier : HasLabel now a labelled.0). ⊎_elim
       (λ (there : IsLabelled now c). inl (there.0, label_stays now b label c there.0 free there.1))

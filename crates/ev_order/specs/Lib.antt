@@ -1,3 +1,4 @@
 pub mod Spread
 pub mod Mentions
 pub mod Last
+pub mod Chains

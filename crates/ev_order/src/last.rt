@@ -34,15 +34,15 @@ impl LastPlaces {
     }
 
     /// The last place of a reference.
-    pub fn find(&self, reference: Reference) -> Option<usize>
-        ensures { MatchOption result (HasNone reference self.now) (λ place. IsLast reference place self.now) }
+    pub fn find(&self, reference: &Reference) -> Option<usize>
+        ensures { MatchOption result (HasNone reference.now self.now) (λ place. IsLast reference.now place self.now) }
     {
-        self.places.get(&reference).copied()
+        self.places.get(reference).copied()
     }
 
     /// Makes a place the last of its reference.
-    pub fn set(&mut self, reference: Reference, place: usize) -> Result<(), Memory>
-        ensures { OnOk result (Sets reference place self.old self.new) }
+    pub fn set(&mut self, reference: &Reference, place: usize) -> Result<(), Memory>
+        ensures { OnOk result (Sets reference.now place self.old self.new) }
     {
         self.put(reference.vat, reference.name, place)
     }

@@ -1,6 +1,7 @@
 //! Whether the messages of a trace were taken in order.
 #![tactic(auto)]
 
+pub mod chains;
 pub mod last;
 pub mod mentions;
 pub mod spread;

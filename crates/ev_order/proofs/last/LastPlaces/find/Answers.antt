@@ -4,5 +4,5 @@ use Rattle.ev_order.proofs.Same.{finds_last}
 use Rattle.ev_order.proofs.last.LastPlaces.find.Goals as goal
 
 pub returns : goal.returns
-returns c = subst (λ (es : LastList). MatchOption c.copied.result (HasNone c.args.reference es) (λ i. IsLast c.args.reference i es)) c.self.view_is
-    (finds_last c.args.reference c.self.inside.places.entries c.copied.result (sym (c.copied.ensures ∙ c.get.ensures.value)))
+returns c = subst (λ (es : LastList). MatchOption c.copied.result (HasNone c.args.reference.now es) (λ i. IsLast c.args.reference.now i es)) c.self.view_is
+    (finds_last c.args.reference.now c.self.inside.places.entries c.copied.result (sym (c.copied.ensures ∙ c.get.ensures.value)))
