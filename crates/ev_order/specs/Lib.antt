@@ -2,3 +2,4 @@ pub mod Spread
 pub mod Mentions
 pub mod Last
 pub mod Chains
+pub mod Walk

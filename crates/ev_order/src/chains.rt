@@ -88,6 +88,13 @@ impl Chains {
         }
     }
 
+    /// How many places there are.
+    pub fn len(&self) -> usize
+        ensures { result ≡ length self.now.references }
+    {
+        self.references.len()
+    }
+
     /// A value of a vat comes behind the others, as a reference or as none.
     pub fn add(&mut self, vat: Option<u8>, value: &Shown) -> Result<(), Memory>
         requires { IsChain self.old }

@@ -5,3 +5,4 @@ pub mod chains;
 pub mod last;
 pub mod mentions;
 pub mod spread;
+pub mod walk;
