@@ -4,3 +4,4 @@ pub mod Labelling
 pub mod Keys
 pub mod Same
 pub mod Chaining
+pub mod Walking

@@ -4,7 +4,7 @@ use Rattle.ev_base.specs.declared.names.Msg.{Msg}
 use Rattle.def_event.specs.declared.event.Event.{Event}
 use Rattle.def_event.specs.declared.note.ShownNote.{ShownNote}
 use Rattle.def_trace.specs.declared.reference.Reference.{Reference}
-use Rattle.def_trace.specs.Order.{Sending, Carrying, Taking, sending, carrying, note_carrying, taking, vat_behind, vat_after}
+use Rattle.def_trace.specs.Order.{Sending, Carrying, Taking, sending, carrying, note_carrying, taking, vat_behind, vat_after, DoesAt, IsFirst}
 use Rattle.ev_order.specs.declared.mentions.Mention.{Mention}
 use Rattle.ev_order.specs.Mentions.{MentionList, IsThere, IsAdded}
 use Rattle.ev_order.specs.Chains.{Chain, IsChain, reference}
@@ -103,3 +103,55 @@ pub record Steps (line : ℕ) (e : Event) (old now : Walked) : Type 0 where
   pub between : Walked
   pub does : Does line (deed_of old.here e) old between
   pub moves : now ≡ record between { here = vat_behind old.here e }
+
+-- ---- what all lines add
+
+-- the references of the places of a line
+abbrev pub line_references : Option ℕ → Event → List (Option Reference)
+line_references here e = (deed_of here e).references
+
+-- of all lines, behind lines of this vat
+abbrev pub all_references : Option ℕ → List Event → List (Option Reference)
+all_references here [] = []
+all_references here (e ∷ es) = line_references here e ++ all_references (vat_behind here e) es
+
+-- the mention of a message by the lines before its line
+abbrev pub sent_mention : List Event → Sending → Mention
+sent_mention before s = record { line = length before; first = length (all_references None before); args = length s.args; vat = vat_after None before }
+
+abbrev pub carried_mention : List Event → Carrying → Mention
+carried_mention before c = record { line = length before; first = length (all_references None before); args = length c.args; vat = Some c.leaves }
+
+abbrev pub taken_mention : List Event → Taking → Mention
+taken_mention before t = record { line = length before; first = 0; args = 0; vat = None }
+
+-- the mention is that of the first line that does that with the message
+pub record IsNoted {A : Type 0} (does : Event → Option A) (message : A → Msg) (mention : List Event → A → Mention) (lines : List Event) (m : Msg) (s : Mention) : Type 0 where
+  pub what : A
+  pub first : IsFirst does message lines s.line what
+  pub message_is : message what ≡ m
+  pub mention_is : s ≡ mention (take s.line lines) what
+
+-- The list has the first mention of each message, in the order of the lines.
+pub record HoldsFirst {A : Type 0} (does : Event → Option A) (message : A → Msg) (mention : List Event → A → Mention) (lines : List Event) (list : MentionList) : Type 0 where
+  pub noted : (n : ℕ) (m : Msg) (s : Mention) → slice_get list n ≡ Some (m, s) → IsNoted does message mention lines m s
+  pub all : (i : ℕ) (a : A) → DoesAt does lines i a → (s : Mention) × IsThere (message a) s list
+  pub ascending : (n k : ℕ) (m l : Msg) (s t : Mention) → n < k → slice_get list n ≡ Some (m, s) → slice_get list k ≡ Some (l, t) → s.line < t.line
+
+abbrev pub HoldsSent : List Event → MentionList → Type 0
+HoldsSent lines list = HoldsFirst sending (λ (s : Sending). s.message) sent_mention lines list
+
+abbrev pub HoldsCarried : List Event → MentionList → Type 0
+HoldsCarried lines list = HoldsFirst carrying (λ (c : Carrying). c.message) carried_mention lines list
+
+abbrev pub HoldsTaken : List Event → MentionList → Type 0
+HoldsTaken lines list = HoldsFirst taking (λ (t : Taking). t.message) taken_mention lines list
+
+-- what all these lines say
+pub record IsWalked (lines : List Event) (w : Walked) : Type 0 where
+  pub here : w.here ≡ vat_after None lines
+  pub chain : IsChain w.chain
+  pub references : w.chain.references ≡ all_references None lines
+  pub sent : HoldsSent lines w.sent
+  pub carried : HoldsCarried lines w.carried
+  pub taken : HoldsTaken lines w.taken

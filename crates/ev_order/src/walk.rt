@@ -1,9 +1,9 @@
 //! What the lines of a trace say of the order of messages, gathered line by line.
 
-ghost use Rattle.std.specs.Prelude.{◌≡◌, ◌∷◌, ◌++◌, [], Some, None, length, map, OnOk};
+ghost use Rattle.std.specs.Prelude.{◌≡◌, ◌∷◌, ◌++◌, [], Some, None, length, map, IfOk, OnOk};
 ghost use Rattle.def_trace.specs.Order.{is_object, note_carrying, vat_behind};
 ghost use Rattle.ev_order.specs.Chains.{IsChain, reference};
-ghost use Rattle.ev_order.specs.Walk.{Does, Steps, carries_of, deed_of, does_carry, does_send, does_take, started};
+ghost use Rattle.ev_order.specs.Walk.{Does, IsWalked, Steps, carries_of, deed_of, does_carry, does_send, does_take, started};
 
 use crate::chains::Chains;
 use crate::mentions::{Mention, Mentions};
@@ -193,4 +193,15 @@ impl Walk {
         self.here = vat_behind(self.here, event);
         Ok(())
     }
+}
+
+/// Walks all lines of a trace. Time grows with their length.
+pub fn walk_all(alloc: Global, events: &[Event]) -> Result<Walk, Memory>
+    ensures { IfOk result (λ walk. IsWalked events.now walk) }
+{
+    let mut walk = Walk::new(alloc);
+    for (line, event) in events.iter().enumerate() {
+        walk.add_line(line, event)?;
+    }
+    Ok(walk)
 }
