@@ -5,3 +5,4 @@ pub mod Keys
 pub mod Same
 pub mod Chaining
 pub mod Walking
+pub mod Joining

@@ -3,3 +3,4 @@ pub mod Mentions
 pub mod Last
 pub mod Chains
 pub mod Walk
+pub mod Over

@@ -4,5 +4,6 @@
 pub mod chains;
 pub mod last;
 pub mod mentions;
+pub mod over;
 pub mod spread;
 pub mod walk;

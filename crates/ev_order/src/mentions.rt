@@ -1,9 +1,9 @@
 //! The first line that speaks of each message in one way.
 
-ghost use Rattle.std.specs.Prelude.{◌≡◌, [], IfOk, MatchOption, OnOk};
+ghost use Rattle.std.specs.Prelude.{◌≡◌, ◌↔◌, IsTrue, [], MatchOption, OnOk, length, slice_get};
 ghost use Rattle.ev_order.specs.Mentions.{IsAbsent, IsAdded, IsThere};
 
-use ev_base::{Memory, Msg};
+use ev_base::{Memory, Msg, VatId};
 use indexmap::IndexMap;
 use std::alloc::Global;
 use std::marker::Model;
@@ -47,6 +47,36 @@ impl Mentions {
     {
         Mentions {
             first: IndexMap::new(alloc),
+        }
+    }
+
+    /// How many messages are mentioned.
+    pub fn len(&self) -> usize
+        ensures { result ≡ length self.now }
+    {
+        self.first.len()
+    }
+
+    /// Whether no message is mentioned.
+    pub fn is_empty(&self) -> bool
+        ensures { IsTrue result ↔ (self.now ≡ []) }
+    {
+        self.first.is_empty()
+    }
+
+    /// The message that is mentioned at a place in the order of the lines, and its mention.
+    pub fn get(&self, number: usize) -> Option<(Msg, Mention)>
+        ensures { result ≡ slice_get self.now number }
+    {
+        match self.first.get_index(number) {
+            Some((key, mention)) => {
+                let message = Msg {
+                    sender: VatId(key.sender),
+                    number: key.number,
+                };
+                Some((message, *mention))
+            }
+            None => None,
         }
     }
 
