@@ -6,3 +6,5 @@ pub mod Same
 pub mod Chaining
 pub mod Walking
 pub mod Joining
+pub mod JoiningAll
+pub mod Starts

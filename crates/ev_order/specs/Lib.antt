@@ -4,3 +4,4 @@ pub mod Last
 pub mod Chains
 pub mod Walk
 pub mod Over
+pub mod Graph

@@ -43,3 +43,23 @@ pub record IsJoin (refs : List (Option Reference)) (sent carried : Mention) (i j
   pub second : j ≡ carried.first + argument
   pub here : IsReference refs i
   pub there : IsReference refs j
+
+-- ---- all messages
+
+-- place i is that of an argument of the message that is mentioned as that number, and place j that of the same argument where it comes
+pub record IsJoined (refs : List (Option Reference)) (sent carried : MentionList) (i j : ℕ) : Type 0 where
+  pub number : ℕ
+  pub message : Msg
+  pub send : Mention
+  pub carry : Mention
+  pub at : slice_get sent number ≡ Some (message, send)
+  pub comes : IsThere message carry carried
+  pub join : IsJoin refs send carry i j
+
+-- the arguments have their places among those
+abbrev pub FitIn : List (Option Reference) → MentionList → Type 0
+FitIn refs list = (n : ℕ) (m : Msg) (s : Mention) → slice_get list n ≡ Some (m, s) → s.first + s.args ≤ length refs
+
+-- no message is mentioned twice
+abbrev pub AreSingle : MentionList → Type 0
+AreSingle list = (m : Msg) (s t : Mention) → IsThere m s list → IsThere m t list → s ≡ t

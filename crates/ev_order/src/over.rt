@@ -1,9 +1,7 @@
 //! Places of arguments that lead over to where the arguments come.
 
-ghost use Rattle.std.specs.Prelude.{◌≡◌, ◌+◌, ◌≤◌, ◌≢◌, ℕ, None, length, slice_get};
-ghost use Rattle.ev_base.specs.declared.names.Msg.{Msg};
-ghost use Rattle.ev_order.specs.declared.mentions.Mention.{Mention};
-ghost use Rattle.ev_order.specs.Over.{IsJoin, IsPair, Joins, is_reference};
+ghost use Rattle.std.specs.Prelude.{◌≡◌, ◌+◌, ◌≤◌, length, slice_get};
+ghost use Rattle.ev_order.specs.Over.{AreSingle, FitIn, IsJoin, IsJoined, IsPair, Joins, is_reference};
 
 use crate::mentions::{Mention, Mentions};
 use crate::spread::Place;
@@ -47,5 +45,46 @@ fn join_arguments(
     let count = sent.args.min(carried.args);
     for k in 0..count {
         join(places, references, sent.first + k, carried.first + k);
+    }
+}
+
+/// The arguments of the message that is mentioned as a number lead over.
+fn join_message(
+    places: &mut [Place],
+    references: &[Option<Reference>],
+    sent: &Mentions,
+    carried: &Mentions,
+    number: usize,
+)
+    requires same_length { length places.old ≡ length references.now }
+    requires sent { FitIn references.now sent.now }
+    requires carried { FitIn references.now carried.now }
+    requires single { AreSingle carried.now }
+    ensures { Joins (λ i j. (o : IsJoined references.now sent.now carried.now i j) × (o.number ≡ number)) places.old places.new }
+{
+    let Some((message, send)) = sent.get(number) else {
+        return;
+    };
+    let Some(carry) = carried.find(message) else {
+        return;
+    };
+    join_arguments(places, references, send, carry);
+}
+
+/// The arguments of all messages lead over. Time grows with the messages and their arguments.
+pub fn join_all(
+    places: &mut [Place],
+    references: &[Option<Reference>],
+    sent: &Mentions,
+    carried: &Mentions,
+)
+    requires same_length { length places.old ≡ length references.now }
+    requires sent { FitIn references.now sent.now }
+    requires carried { FitIn references.now carried.now }
+    requires single { AreSingle carried.now }
+    ensures { Joins (IsJoined references.now sent.now carried.now) places.old places.new }
+{
+    for number in 0..sent.len() {
+        join_message(places, references, sent, carried, number);
     }
 }
