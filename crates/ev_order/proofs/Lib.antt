@@ -8,3 +8,4 @@ pub mod Walking
 pub mod Joining
 pub mod JoiningAll
 pub mod Starts
+pub mod Befores
