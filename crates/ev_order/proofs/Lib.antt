@@ -9,3 +9,4 @@ pub mod Joining
 pub mod JoiningAll
 pub mod Starts
 pub mod Befores
+pub mod Graphs

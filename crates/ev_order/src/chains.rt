@@ -95,6 +95,19 @@ impl Chains {
         self.references.len()
     }
 
+    /// The places and their references.
+    pub fn into_parts(self) -> (Vec<Place>, Vec<Option<Reference>>)
+        ensures places { result.0.items ≡ self.places }
+        ensures references { result.1.items ≡ self.references }
+    {
+        let Chains {
+            places,
+            references,
+            last: _,
+        } = self;
+        (places, references)
+    }
+
     /// A value of a vat comes behind the others, as a reference or as none.
     pub fn add(&mut self, vat: Option<u8>, value: &Shown) -> Result<(), Memory>
         requires { IsChain self.old }

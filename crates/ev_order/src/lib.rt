@@ -2,6 +2,7 @@
 #![tactic(auto)]
 
 pub mod chains;
+pub mod graph;
 pub mod last;
 pub mod mentions;
 pub mod over;
