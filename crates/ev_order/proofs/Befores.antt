@@ -1,5 +1,5 @@
 -- What leads to what in the places of a trace is what comes before what in it.
-use Rattle.std.specs.Prelude.{◌≡◌, ◌+◌, ◌-◌, ◌<◌, ◌≤◌, ◌⊎◌, ℕ, Bool, true, false, List, length, Option, Some, None, slice_get}
+use Rattle.std.specs.Prelude.{◌≡◌, ◌+◌, ◌-◌, ◌<◌, ◌≤◌, ℕ, true, List, length, Option, Some, None, slice_get}
 use Rattle.std.proofs.Common.{refl, arith, sym, ◌∙◌, ap, subst, ⊎_elim, inl, inr, suc, zero}
 use Rattle.std.proofs.Math.ListN.{get_or}
 use Rattle.std.proofs.lemmas.Option.{slice_get_within, slice_get-get_or}
@@ -9,10 +9,10 @@ use Rattle.ev_base.specs.declared.names.Msg.{Msg}
 use Rattle.def_event.specs.declared.event.Event.{Event}
 use Rattle.def_event.specs.declared.shown.Shown.{Shown, Null, Name as Named}
 use Rattle.def_trace.specs.declared.reference.Reference.{Reference}
-use Rattle.def_trace.specs.Order.{Sending, Carrying, sending, carrying, DoesAt, IsSent, IsCarried, vat_at, Passing, Behind, OnItself, Passed, IsSentOn, Before}
+use Rattle.def_trace.specs.Order.{Sending, Carrying, sending, carrying, DoesAt, vat_at, Behind, OnItself, Passed, IsSentOn, Before}
 use Rattle.ev_order.specs.declared.spread.Place.{Place}
 use Rattle.ev_order.specs.Spread.{LeadsOn, Leads, Here, On}
-use Rattle.ev_order.specs.Chains.{HasReference, HasNext, IsLinked, reference}
+use Rattle.ev_order.specs.Chains.{HasReference, HasNext, reference}
 use Rattle.ev_order.specs.Over.{is_reference, IsReference, HasOver}
 use Rattle.ev_order.specs.Walk.{all_references}
 use Rattle.ev_order.specs.Graph.{start, IsPassed, IsGraph}
@@ -55,28 +55,27 @@ reference_is v x q h = cc
 there_is : (refs : List (Option Reference)) (i : ℕ) → IsReference refs i → (q : Reference) × HasReference refs i q
 there_is refs i h = cases (slice_get refs i) refl h
   where
-  cases : (o : Option (Option Reference)) → slice_get refs i ≡ o → is_reference o ≡ true → (q : Reference) × HasReference refs i q
-  cases None e is = cc
-  cases (Some None) e is = cc
-  cases (Some (Some q)) e is = (q, e)
+    cases : (o : Option (Option Reference)) → slice_get refs i ≡ o → is_reference o ≡ true → (q : Reference) × HasReference refs i q
+    cases None e is = cc
+    cases (Some None) e is = cc
+    cases (Some (Some q)) e is = (q, e)
 
 is_there : (refs : List (Option Reference)) (i : ℕ) (q : Reference) → HasReference refs i q → IsReference refs i
 is_there refs i q h = ap is_reference h
 
 module _ (lines : List Event) (places : List Place) (g : IsGraph lines places) where
-
   -- a place leads to each later one with its reference
   leads_later : (n i k : ℕ) (r : Reference) → k ≤ i + n → i ≤ k → HasReference (all_references None lines) i r → HasReference (all_references None lines) k r → Leads places i k
   leads_later zero i k r small le hi hk = Here k (omega (arith, small, le))
   leads_later (suc n) i k r small le hi hk = ⊎_elim
-    (λ (same : (_ : _) × (k ≡ i)). Here k same.1)
-    (λ (other : (_ : _) × (k ≡ i → ⊥)).
+      (λ (same : (_ : _) × (k ≡ i)). Here k same.1)
+      (λ (other : (_ : _) × (k ≡ i → ⊥)).
       let near = g.linked.nearest i k r (omega (arith, le, other.1)) hi hk in
       let next = g.linked.next i near.0 near.2 in
       let is = one_reference (all_references None lines) i next.1.0 r next.1.1 hi in
       let later = leads_later n near.0 k r (omega (arith, small, next.0)) near.1 (subst (HasReference (all_references None lines) near.0) is next.1.2) hk in
       leads_both places i near.0 k (On i near.0 (Here i refl) (next_on places i near.0 near.2)) later)
-    (eqb_tells k i)
+      (eqb_tells k i)
 
   leads_to_later : (i k : ℕ) (r : Reference) → i ≤ k → HasReference (all_references None lines) i r → HasReference (all_references None lines) k r → Leads places i k
   leads_to_later i k r le hi hk = leads_later (k - i) i k r (omega (arith, le)) le hi hk
@@ -84,7 +83,6 @@ module _ (lines : List Event) (places : List Place) (g : IsGraph lines places) w
   -- ---- from the trace to the places
 
   module _ (r : Reference) (i : ℕ) (s : Sending) (does : DoesAt sending lines i s) (target : HasReference (all_references None lines) (start lines i + length s.args) r) where
-
     leads_behind : (q : Reference) (t : ℕ) → Behind lines r i q t → (k : ℕ) → HasReference (all_references None lines) k q → start lines (t + 1) ≤ k → (a : ℕ) × HasNext places (start lines i + length s.args) a × Leads places a k
     leads_behind q t (OnItself p j e f) k hk past =
         let on = subst (HasReference (all_references None lines) k) e hk in
@@ -97,22 +95,37 @@ module _ (lines : List Event) (places : List Place) (g : IsGraph lines places) w
         let from = start lines sent + passing.place in
         let to = start lines carried + passing.place in
         let here : HasReference (all_references None lines) from p =
-          argument_at lines sent passing.send passing.place (Named p.name) passing.is_sent.there passing.given
-          ∙ ap (λ (v : Option ℕ). Some (Some (record { vat = v; name = p.name }))) passing.giver in
+        argument_at lines sent passing.send passing.place (Named p.name) passing.is_sent.there passing.given
+        ∙ ap (λ (v : Option ℕ). Some (Some (record { vat = v; name = p.name }))) passing.giver in
         let there : HasReference (all_references None lines) to q =
-          carried_argument_at lines carried passing.carry passing.place (Named q.name) passing.is_carried.there passing.received
-          ∙ ap (λ (v : Option ℕ). Some (Some (record { vat = v; name = q.name }))) (sym passing.reaches) in
+        carried_argument_at lines carried passing.carry passing.place (Named q.name) passing.is_carried.there passing.received
+        ∙ ap (λ (v : Option ℕ). Some (Some (record { vat = v; name = q.name }))) (sym passing.reaches) in
         let in_send = slice_get_within passing.send.args passing.place (Named p.name) passing.given in
         let in_carry = slice_get_within passing.carry.args passing.place (Named q.name) passing.received in
         let first = leads_behind p j b from here (omega (arith, grows_with lines (j + 1) sent (omega (arith, less)))) in
         let over = g.all_over from to (record {
-          sent = sent; carried = carried; send = passing.send; carry = passing.carry; is_sent = passing.is_sent; is_carried = passing.is_carried; same = passing.same;
-          leaves = passing.giver ∙ passing.leaves; argument = passing.place; in_send = in_send; in_carry = in_carry; first = refl; second = refl;
-          here = is_there (all_references None lines) from p here; there = is_there (all_references None lines) to q there;
+          sent = sent;
+          carried = carried;
+          send = passing.send;
+          carry = passing.carry;
+          is_sent = passing.is_sent;
+          is_carried = passing.is_carried;
+          same = passing.same;
+          leaves = passing.giver ∙ passing.leaves;
+          argument = passing.place;
+          in_send = in_send;
+          in_carry = in_carry;
+          first = refl;
+          second = refl;
+          here = is_there (all_references None lines) from p here;
+          there = is_there (all_references None lines) to q there;
         }) in
-        let room = carried_room lines carried passing.carry passing.is_carried.there in
-        (first.0, first.1, leads_both places first.0 to k (On from to first.2 (over_on places from to over))
-          (leads_to_later to k q (omega (arith, room, past, in_carry)) there hk))
+        let room = carried_room lines carried passing.carry passing.is_carried.there in (
+          first.0,
+          first.1,
+          leads_both places first.0 to k (On from to first.2 (over_on places from to over))
+              (leads_to_later to k q (omega (arith, room, past, in_carry)) there hk),
+        )
 
   -- ---- from the places to the trace
 
@@ -132,39 +145,39 @@ module _ (lines : List Event) (places : List Place) (g : IsGraph lines places) w
   behind_all i s k does past = record {
     from = omega (arith, past);
     later = λ t x other begins ends. ⊎_elim
-      (λ (less : i < t). less)
-      (λ (more : t ≤ i).
+        (λ (less : i < t). less)
+        (λ (more : t ≤ i).
         absurd (omega (arith, grows_with lines (t + 1) (i + 1) (omega (arith, more)), sent_room lines i s does, sent_room lines t x other, past, ends)))
-      (cases_lt i t);
+        (cases_lt i t);
   }
 
   next_stands : (t b c : ℕ) → b < c → StandsBehind t b → StandsBehind t c
   next_stands t b c less h = record {
     from = omega (arith, less, h.from);
     later = λ s x does begins ends. ⊎_elim
-      (λ (before : b < start lines s). ⊎_elim
+        (λ (before : b < start lines s). ⊎_elim
         (λ (is : t < s). is)
         (λ (more : s ≤ t). absurd (omega (arith, grows_with lines s t more, h.from, before)))
         (cases_lt t s))
-      (λ (within : start lines s ≤ b). h.later s x does within (omega (arith, less, ends)))
-      (cases_lt b (start lines s));
+        (λ (within : start lines s ≤ b). h.later s x does within (omega (arith, less, ends)))
+        (cases_lt b (start lines s));
   }
 
   carried_stands : (t : ℕ) (c : Carrying) (k : ℕ) → DoesAt carrying lines t c → start lines t ≤ k → StandsBehind t k
   carried_stands t c k does from = record {
     from = from;
     later = λ s x other begins ends. ⊎_elim
-      (λ (less : t < s). less)
-      (λ (more : s ≤ t). ⊎_elim
+        (λ (less : t < s). less)
+        (λ (more : s ≤ t). ⊎_elim
         (λ (same : (_ : _) × (s ≡ t)).
-          let one : Some does.0 ≡ Some other.0 = sym does.1 ∙ ap (slice_get lines) (sym same.1) ∙ other.1 in
-          let is : does.0 ≡ other.0 = cc in
-          let two : None ≡ Some x = sym (carries_alone does.0 c does.2).0 ∙ ap sending is ∙ other.2 in
-          cc)
+        let one : Some does.0 ≡ Some other.0 = sym does.1 ∙ ap (slice_get lines) (sym same.1) ∙ other.1 in
+        let is : does.0 ≡ other.0 = cc in
+        let two : None ≡ Some x = sym (carries_alone does.0 c does.2).0 ∙ ap sending is ∙ other.2 in
+        cc)
         (λ (apart : (_ : _) × (s ≡ t → ⊥)).
-          absurd (omega (arith, grows_with lines (s + 1) t (omega (arith, more, apart.1)), sent_room lines s x other, from, ends)))
+        absurd (omega (arith, grows_with lines (s + 1) t (omega (arith, more, apart.1)), sent_room lines s x other, from, ends)))
         (eqb_tells s t))
-      (cases_lt t s);
+        (cases_lt t s);
   }
 
   -- what an argument has at its place
@@ -180,19 +193,28 @@ module _ (lines : List Event) (places : List Place) (g : IsGraph lines places) w
   comes_over r i b c h o =
       let new = there_is (all_references None lines) c o.there in
       let from = place_is (vat_at lines o.sent) o.send.args o.argument b h.reference
-        (λ x at. ap (slice_get (all_references None lines)) o.first ∙ argument_at lines o.sent o.send o.argument x o.is_sent.there at) o.in_send h.there in
+      (λ x at. ap (slice_get (all_references None lines)) o.first ∙ argument_at lines o.sent o.send o.argument x o.is_sent.there at) o.in_send h.there in
       let to = place_is (Some o.carry.reaches) o.carry.args o.argument c new.0
-        (λ x at. ap (slice_get (all_references None lines)) o.second ∙ carried_argument_at lines o.carried o.carry o.argument x o.is_carried.there at) o.in_carry new.1 in
+      (λ x at. ap (slice_get (all_references None lines)) o.second ∙ carried_argument_at lines o.carried o.carry o.argument x o.is_carried.there at) o.in_carry new.1 in
       record {
         reference = new.0;
         there = new.1;
         line = o.carried;
         behind = Passed h.reference new.0 h.line o.sent o.carried h.behind
-          (h.stands.later o.sent o.send o.is_sent.there (omega (arith, o.first)) (omega (arith, o.first, o.in_send)))
-          (record {
-            send = o.send; carry = o.carry; is_sent = o.is_sent; is_carried = o.is_carried; same = o.same; place = o.argument;
-            given = from.0; received = to.0; giver = from.1; leaves = sym from.1 ∙ o.leaves; reaches = sym to.1;
-          });
+            (h.stands.later o.sent o.send o.is_sent.there (omega (arith, o.first)) (omega (arith, o.first, o.in_send)))
+            (record {
+              send = o.send;
+              carry = o.carry;
+              is_sent = o.is_sent;
+              is_carried = o.is_carried;
+              same = o.same;
+              place = o.argument;
+              given = from.0;
+              received = to.0;
+              giver = from.1;
+              leaves = sym from.1 ∙ o.leaves;
+              reaches = sym to.1;
+            });
         stands = carried_stands o.carried o.carry c o.is_carried.there (omega (arith, o.second));
       }
 
@@ -243,7 +265,7 @@ module _ (lines : List Event) (places : List Place) (g : IsGraph lines places) w
       → (a : ℕ) × HasNext places (start lines i + length h.send.args) a × Leads places a (start lines later + length l.send.args)
   before_leads m n i later from to last h l behind less =
       leads_behind from i h.send h.is_sent.there (sent_place m i from h) to last behind (start lines later + length l.send.args) (sent_place n later to l)
-        (omega (arith, grows_with lines (last + 1) later (omega (arith, less))))
+      (omega (arith, grows_with lines (last + 1) later (omega (arith, less))))
 
   pub leads_before : (m n : Msg) (i later : ℕ) (from to : Reference) (h : IsSentOn lines m i from) (l : IsSentOn lines n later to) (a : ℕ) → HasNext places (start lines i + length h.send.args) a → Leads places a (start lines later + length l.send.args)
       → Before lines m i n

@@ -1,19 +1,19 @@
 -- The places that were walked, once arguments lead over, are the graph of the trace.
-use Rattle.std.specs.Prelude.{◌≡◌, ◌+◌, ◌<◌, ◌≤◌, ◌⊎◌, ℕ, List, length, take, Option, Some, None, slice_get}
-use Rattle.std.proofs.Common.{refl, arith, sym, ◌∙◌, ap, subst, ⊎_elim, inl, inr}
+use Rattle.std.specs.Prelude.{◌≡◌, ◌+◌, ◌<◌, ◌≤◌, ℕ, List, length, take, Option, Some, None, slice_get}
+use Rattle.std.proofs.Common.{arith, sym, ◌∙◌, ap, subst, ⊎_elim}
 use Rattle.std.proofs.Math.ListN.{get_or}
 use Rattle.std.proofs.lemmas.Option.{slice_get_within, slice_get-get_or}
 use Rattle.std.proofs.lemmas.Bool.{cases_lt}
 use Rattle.ev_base.specs.declared.names.Msg.{Msg}
 use Rattle.def_event.specs.declared.event.Event.{Event}
 use Rattle.def_trace.specs.declared.reference.Reference.{Reference}
-use Rattle.def_trace.specs.Order.{Sending, Carrying, sending, carrying, DoesAt, IsFirst, IsSent, IsCarried, vat_at, vat_after}
+use Rattle.def_trace.specs.Order.{Sending, Carrying, sending, carrying, DoesAt, IsFirst}
 use Rattle.ev_order.specs.declared.mentions.Mention.{Mention}
 use Rattle.ev_order.specs.declared.spread.Place.{Place}
 use Rattle.ev_order.specs.Mentions.{MentionList, IsThere}
-use Rattle.ev_order.specs.Chains.{HasReference, HasNext, IsLinked, IsChain}
-use Rattle.ev_order.specs.Over.{IsReference, HasOver, Joins, IsJoin, IsJoined, FitIn, AreSingle}
-use Rattle.ev_order.specs.Walk.{Walked, all_references, IsNoted, HoldsFirst, HoldsSent, HoldsCarried, IsWalked, sent_mention, carried_mention}
+use Rattle.ev_order.specs.Chains.{HasNext, IsLinked}
+use Rattle.ev_order.specs.Over.{HasOver, Joins, IsJoined, FitIn, AreSingle}
+use Rattle.ev_order.specs.Walk.{Walked, all_references, HoldsFirst, HoldsSent, HoldsCarried, IsWalked, sent_mention, carried_mention}
 use Rattle.ev_order.specs.Graph.{start, IsPassed, IsGraph}
 use Rattle.ev_order.proofs.Starts.{grows_with, sent_room, carried_room, start_within}
 
@@ -35,9 +35,9 @@ pub one_line : {A : Type 0} (does : Event → Option A) (message : A → Msg) (l
 one_line does message lines i j a b h l same = ⊎_elim
     (λ (less : i < j). absurd (l.first i a less h.there same))
     (λ (more : j ≤ i). ⊎_elim
-      (λ (less : j < i). absurd (h.first j b less l.there (sym same)))
-      (λ (le : i ≤ j). omega (arith, more, le))
-      (cases_lt j i))
+    (λ (less : j < i). absurd (h.first j b less l.there (sym same)))
+    (λ (le : i ≤ j). omega (arith, more, le))
+    (cases_lt j i))
     (cases_lt i j)
 
 pub one_first : {A : Type 0} (does : Event → Option A) (message : A → Msg) (lines : List Event) (i j : ℕ) (a b : A) → IsFirst does message lines i a → IsFirst does message lines j b → message a ≡ message b → a ≡ b
@@ -87,12 +87,12 @@ carried_fit lines list h n m s at =
 passed_once : (lines : List Event) (rs : List (Option Reference)) (i j k : ℕ) → IsPassed lines rs i j → IsPassed lines rs i k → j ≡ k
 passed_once lines rs i j k h l =
     let line : h.sent ≡ l.sent = ⊎_elim
-      (λ (less : h.sent < l.sent). absurd (omega (arith, grows_with lines (h.sent + 1) l.sent (omega (arith, less)), sent_room lines h.sent h.send h.is_sent.there, h.first, l.first, h.in_send)))
-      (λ (more : l.sent ≤ h.sent). ⊎_elim
-        (λ (less : l.sent < h.sent). absurd (omega (arith, grows_with lines (l.sent + 1) h.sent (omega (arith, less)), sent_room lines l.sent l.send l.is_sent.there, h.first, l.first, l.in_send)))
-        (λ (le : h.sent ≤ l.sent). omega (arith, more, le))
-        (cases_lt l.sent h.sent))
-      (cases_lt h.sent l.sent) in
+    (λ (less : h.sent < l.sent). absurd (omega (arith, grows_with lines (h.sent + 1) l.sent (omega (arith, less)), sent_room lines h.sent h.send h.is_sent.there, h.first, l.first, h.in_send)))
+    (λ (more : l.sent ≤ h.sent). ⊎_elim
+    (λ (less : l.sent < h.sent). absurd (omega (arith, grows_with lines (l.sent + 1) h.sent (omega (arith, less)), sent_room lines l.sent l.send l.is_sent.there, h.first, l.first, l.in_send)))
+    (λ (le : h.sent ≤ l.sent). omega (arith, more, le))
+    (cases_lt l.sent h.sent))
+    (cases_lt h.sent l.sent) in
     let begins = ap (start lines) line in
     let send = one_deed sending lines l.sent h.send l.send (subst (λ (x : ℕ). DoesAt sending lines x h.send) line h.is_sent.there) l.is_sent.there in
     let same : h.carry.message ≡ l.carry.message = h.same ∙ ap (λ (x : Sending). x.message) send ∙ sym l.same in
@@ -101,7 +101,6 @@ passed_once lines rs i j k h l =
     omega (arith, h.first, l.first, h.second, l.second, begins, ends)
 
 module _ (lines : List Event) (w : Walked) (h : IsWalked lines w) (now : List Place) (j : Joins (IsJoined w.chain.references w.sent w.carried) w.chain.places now) where
-
   old_next : (a b : ℕ) → HasNext now a b → HasNext w.chain.places a b
   old_next a b at = let q = j.next a at.0 at.1 in (q.0, q.1, sym q.2 ∙ at.2)
 
@@ -168,10 +167,15 @@ module _ (lines : List Event) (w : Walked) (h : IsWalked lines w) (now : List Pl
 
   graph_is : IsGraph lines now
   graph_is = subst (λ (rs : List (Option Reference)). (IsLinked rs now) × (((a b : ℕ) → HasOver now a b → IsPassed lines rs a b) × ((a b : ℕ) → IsPassed lines rs a b → HasOver now a b)) → IsGraph lines now) (sym h.references)
-      (λ parts. record { linked = parts.0; over = parts.1.0; all_over = parts.1.1 })
-      (linked, (over_passed, λ a b o.
-        let k = j.done a b (passed_joined a b o) in
-        subst (λ (x : ℕ). HasOver now a x) (passed_once lines w.chain.references a k.0 b (over_passed a k.0 k.1) o) k.1))
+      (λ parts. record { linked = parts.0; over = parts.1.0; all_over = parts.1.1 }) (
+        linked,
+        (
+          over_passed,
+          λ a b o.
+              let k = j.done a b (passed_joined a b o) in
+              subst (λ (x : ℕ). HasOver now a x) (passed_once lines w.chain.references a k.0 b (over_passed a k.0 k.1) o) k.1,
+        ),
+      )
 
 -- ---- what the joining asks
 

@@ -1,8 +1,8 @@
 -- Places that lead over, one after the other.
-use Rattle.std.specs.Prelude.{◌≡◌, ◌<◌, ◌≤◌, ◌⊎◌, ◌+◌, ℕ, Bool, true, false, List, length, min, not, is_some, Option, Some, None, slice_get}
+use Rattle.std.specs.Prelude.{◌≡◌, ◌<◌, ◌⊎◌, ◌+◌, ℕ, Bool, true, false, List, length, min, not, is_some, Option, Some, None, slice_get}
 use Rattle.std.proofs.Common.{eqb, refl, arith, sym, ◌∙◌, ap, subst, ⊎_elim, inl, inr}
 use Rattle.std.proofs.Math.ListN.{set, length-set}
-use Rattle.std.proofs.lemmas.Option.{slice_get_within, slice_get-get_or}
+use Rattle.std.proofs.lemmas.Option.{slice_get_within}
 use Rattle.std.specs.Option.{option_eq}
 use Rattle.std.proofs.lemmas.Bool.{eqb-true, eq-eqb}
 use Rattle.std.proofs.lemmas.Bool.Decides.{eqb_tells}
@@ -29,13 +29,13 @@ joins_both First Second Both old mid now f s one two split = record {
   next = λ i p at. let q = s.next i p at in let r = f.next i q.0 q.1 in (r.0, r.1, q.2 ∙ r.2);
   kept = λ i j h. s.kept i j (f.kept i j h);
   said = λ i j h. ⊎_elim
-    (λ (m : HasOver mid i j). ⊎_elim (λ (o : HasOver old i j). inl o) (λ (a : First i j). inr (one i j a)) (f.said i j m))
-    (λ (b : Second i j). inr (two i j b))
-    (s.said i j h);
+      (λ (m : HasOver mid i j). ⊎_elim (λ (o : HasOver old i j). inl o) (λ (a : First i j). inr (one i j a)) (f.said i j m))
+      (λ (b : Second i j). inr (two i j b))
+      (s.said i j h);
   done = λ i j h. ⊎_elim
-    (λ (a : First i j). let k = f.done i j a in (k.0, s.kept i k.0 k.1))
-    (λ (b : Second i j). s.done i j b)
-    (split i j h);
+      (λ (a : First i j). let k = f.done i j a in (k.0, s.kept i k.0 k.1))
+      (λ (b : Second i j). s.done i j b)
+      (split i j h);
 }
 
 -- the same said otherwise
@@ -54,29 +54,29 @@ pub joins_pair : (refs : List (Option Reference)) (from to : ℕ) (old : List Pl
 joins_pair refs from to old p at none here there = record {
   same_length = length-set old from (record p { over = Some to });
   next = λ i q h. ⊎_elim
-    (λ (same : (_ : _) × (i ≡ from)).
+      (λ (same : (_ : _) × (i ≡ from)).
       let two : Some q ≡ Some (record p { over = Some to }) = sym h ∙ ap (slice_get (set old from (record p { over = Some to }))) same.1 ∙ get_written old from (record p { over = Some to }) p at in
       let is : q ≡ record p { over = Some to } = cc in
       (p, ap (slice_get old) same.1 ∙ at, ap (λ (x : Place). x.next) is))
-    (λ (other : (_ : _) × (i ≡ from → ⊥)). (q, sym (get_unwritten old from i (record p { over = Some to }) other.1) ∙ h, refl))
-    (eqb_tells i from);
+      (λ (other : (_ : _) × (i ≡ from → ⊥)). (q, sym (get_unwritten old from i (record p { over = Some to }) other.1) ∙ h, refl))
+      (eqb_tells i from);
   kept = λ i j h. ⊎_elim
-    (λ (same : (_ : _) × (i ≡ from)).
+      (λ (same : (_ : _) × (i ≡ from)).
       let two : Some h.0 ≡ Some p = sym h.1 ∙ ap (slice_get old) same.1 ∙ at in
       let is : h.0 ≡ p = cc in
       let three : Some j ≡ None = sym h.2 ∙ ap (λ (x : Place). x.over) is ∙ none in
       cc)
-    (λ (other : (_ : _) × (i ≡ from → ⊥)). (h.0, get_unwritten old from i (record p { over = Some to }) other.1 ∙ h.1, h.2))
-    (eqb_tells i from);
+      (λ (other : (_ : _) × (i ≡ from → ⊥)). (h.0, get_unwritten old from i (record p { over = Some to }) other.1 ∙ h.1, h.2))
+      (eqb_tells i from);
   said = λ i j h. ⊎_elim
-    (λ (same : (_ : _) × (i ≡ from)).
+      (λ (same : (_ : _) × (i ≡ from)).
       let two : Some h.0 ≡ Some (record p { over = Some to }) = sym h.1 ∙ ap (slice_get (set old from (record p { over = Some to }))) same.1 ∙ get_written old from (record p { over = Some to }) p at in
       let is : h.0 ≡ record p { over = Some to } = cc in
       let three : Some j ≡ Some to = sym h.2 ∙ ap (λ (x : Place). x.over) is in
       let second : j ≡ to = cc in
       inr (record { first = same.1; second = second; here = subst (IsReference refs) (sym same.1) here; there = subst (IsReference refs) (sym second) there }))
-    (λ (other : (_ : _) × (i ≡ from → ⊥)). inl (h.0, sym (get_unwritten old from i (record p { over = Some to }) other.1) ∙ h.1, h.2))
-    (eqb_tells i from);
+      (λ (other : (_ : _) × (i ≡ from → ⊥)). inl (h.0, sym (get_unwritten old from i (record p { over = Some to }) other.1) ∙ h.1, h.2))
+      (eqb_tells i from);
   done = λ i j h. (to, (record p { over = Some to }, ap (slice_get (set old from (record p { over = Some to }))) h.first ∙ get_written old from (record p { over = Some to }) p at, refl));
 }
 
@@ -84,9 +84,9 @@ joins_pair refs from to old p at none here there = record {
 pub reference_within : (refs : List (Option Reference)) (i : ℕ) → IsReference refs i → i < length refs
 reference_within refs i h = cases (slice_get refs i) refl h
   where
-  cases : (o : Option (Option Reference)) → slice_get refs i ≡ o → is_reference o ≡ true → i < length refs
-  cases None e is = cc
-  cases (Some r) e is = slice_get_within refs i r e
+    cases : (o : Option (Option Reference)) → slice_get refs i ≡ o → is_reference o ≡ true → i < length refs
+    cases None e is = cc
+    cases (Some r) e is = slice_get_within refs i r e
 
 pub none_is : (o : Option ℕ) (r : Bool) → is_some o ≡ not r → r ≡ true → o ≡ None
 none_is None r e h = refl
@@ -109,9 +109,9 @@ joins_next refs sent carried k old mid now same in_sent in_carried f s =
     (λ i j h. (h.0, omega (arith, h.1)))
     (λ i j h. (record { same_vat = same; argument = k; is_sent = in_sent; is_carried = in_carried; first = h.first; second = h.second; here = h.here; there = h.there }, omega arith))
     (λ i j h. ⊎_elim
-      (λ (is : (_ : _) × (h.0.argument ≡ k)). inr (record { first = h.0.first ∙ ap (λ (a : ℕ). sent.first + a) is.1; second = h.0.second ∙ ap (λ (a : ℕ). carried.first + a) is.1; here = h.0.here; there = h.0.there }))
-      (λ (other : (_ : _) × (h.0.argument ≡ k → ⊥)). inl (h.0, omega (arith, h.1, other.1)))
-      (eqb_tells h.0.argument k))
+    (λ (is : (_ : _) × (h.0.argument ≡ k)). inr (record { first = h.0.first ∙ ap (λ (a : ℕ). sent.first + a) is.1; second = h.0.second ∙ ap (λ (a : ℕ). carried.first + a) is.1; here = h.0.here; there = h.0.there }))
+    (λ (other : (_ : _) × (h.0.argument ≡ k → ⊥)). inl (h.0, omega (arith, h.1, other.1)))
+    (eqb_tells h.0.argument k))
 
 pub joins_all : (refs : List (Option Reference)) (sent carried : Mention) (k : ℕ) (old now : List Place) → k ≡ min sent.args carried.args → Joins (λ i j. (o : IsJoin refs sent carried i j) × (o.argument < k)) old now → Joins (IsJoin refs sent carried) old now
 joins_all refs sent carried k old now e h =
@@ -135,9 +135,9 @@ itself (Some x) = eq-eqb x x refl
 pub one_vat : (a b : Option ℕ) (t : Bool) → t ≡ not (option_eq eqb a b) → t ≡ false → a ≡ b
 one_vat a b t e h = vats_are a b (cases (option_eq eqb a b) (sym e ∙ h))
   where
-  cases : (u : Bool) → not u ≡ false → u ≡ true
-  cases true k = refl
-  cases false k = absurd cc
+    cases : (u : Bool) → not u ≡ false → u ≡ true
+    cases true k = refl
+    cases false k = absurd cc
 
 pub two_vats : (a b : Option ℕ) (t : Bool) → t ≡ not (option_eq eqb a b) → t ≡ true → a ≡ b → ⊥
 two_vats a b t e h same =

@@ -1,12 +1,12 @@
 -- The entries of a map by message as a list of mentions.
-use Rattle.std.proofs.Common.{◌≡◌, ℕ, zero, suc, Bool, true, false, cond, ◌&&◌, nat_eq, List, [], ◌∷◌, ◌++◌, map, Option, Some, None, is_some, MatchOption, refl, sym, ap, ◌∙◌, subst, inl, inr}
+use Rattle.std.proofs.Common.{◌≡◌, ℕ, zero, suc, Bool, true, false, cond, ◌&&◌, nat_eq, List, [], ◌∷◌, ◌++◌, map, Option, Some, None, is_some, MatchOption, refl, sym, ap, ◌∙◌}
 use Rattle.std.specs.Prelude.{slice_get}
 use Rattle.std.specs.Map.{lookup}
 use Rattle.std.proofs.lemmas.Bool.{eqb-true, eq-eqb}
 use Rattle.ev_base.specs.declared.names.Msg.{Msg}
 use Rattle.ev_order.specs.declared.mentions.MessageKey.{MessageKey}
 use Rattle.ev_order.specs.declared.mentions.Mention.{Mention}
-use Rattle.ev_order.specs.Mentions.{MentionList, IsThere, IsAbsent, IsAdded}
+use Rattle.ev_order.specs.Mentions.{MentionList, IsThere, IsAbsent}
 
 abbrev pub mention_of : MessageKey × Mention → Msg × Mention
 mention_of e = (record { sender = e.0.sender; number = e.0.number }, e.1)
@@ -58,9 +58,9 @@ missing_in k e es s (suc n) false at is none later = later none s (n, at)
 pub missing : (k : MessageKey) (es : List (MessageKey × Mention)) → lookup (same_key k) es ≡ None → IsAbsent (message_of k) (mentions_of es)
 missing k [] h s there = no_entry there.0 there.1
   where
-  no_entry : (n : ℕ) → slice_get (mentions_of []) n ≡ Some (message_of k, s) → ⊥
-  no_entry zero e = cc
-  no_entry (suc n) e = cc
+    no_entry : (n : ℕ) → slice_get (mentions_of []) n ≡ Some (message_of k, s) → ⊥
+    no_entry zero e = cc
+    no_entry (suc n) e = cc
 missing k (e ∷ es) h s there = missing_in k e es s there.0 (same_key k e.0) there.1 refl h (missing k es)
 
 -- one more

@@ -1,12 +1,12 @@
 -- What holds after some of the seeds.
-use Rattle.std.specs.Prelude.{◌≡◌, ◌<◌, ◌≤◌, ◌⊎◌, ◌-◌, ℕ, List, [], ◌++◌, take, length, Option, Some, None, slice_get}
-use Rattle.std.proofs.Common.{refl, arith, sym, ◌∙◌, ◌+◌, ap, subst, ⊎_elim, inl, inr}
+use Rattle.std.specs.Prelude.{◌≡◌, ◌<◌, ◌≤◌, ◌-◌, ℕ, List, [], ◌++◌, take, length, Option, Some, None, slice_get}
+use Rattle.std.proofs.Common.{arith, sym, ◌∙◌, ◌+◌, ap, subst, ⊎_elim}
 use Rattle.std.proofs.lemmas.Option.{slice_get_within, get_or_from_slice_get}
 use Rattle.std.proofs.Math.ListN.{replicate, length-replicate}
 use Rattle.std.proofs.lemmas.List.{get_or-replicate, take_all}
 use Rattle.std.proofs.lemmas.Bool.Decides.{eqb_tells}
 use Rattle.ev_order.specs.declared.spread.Place.{Place}
-use Rattle.ev_order.specs.Spread.{LeadsOn, Leads, Here, On, Labels, HasLabel, IsLabelled, IsSeed, IsWhole, Spreads, SpreadsSeed, HasFirstLabels}
+use Rattle.ev_order.specs.Spread.{Leads, Here, On, Labels, HasLabel, IsLabelled, IsSeed, IsWhole, Spreads, SpreadsSeed, HasFirstLabels}
 
 -- what the first i seeds lead to is labelled, by the first of them, and nothing else
 pub record Labelling (places : List Place) (seeds : List (Option ℕ)) (labels : Labels) (i : ℕ) : Type 0 where
@@ -24,11 +24,11 @@ spreads_further : (places : List Place) (seeds : List (Option ℕ)) (old now : L
 spreads_further places seeds old now i seed l at s = record {
   whole = s.whole;
   leads = λ n k h. ⊎_elim
-    (λ (earlier : HasLabel old n k). let w = l.leads n k earlier in (omega (arith, w.0), w.1))
-    (λ (new : (k ≡ i) × Leads places seed n). (omega (arith, new.0), (seed, ap (slice_get seeds) new.0 ∙ at, new.1)))
-    (s.fresh n k h);
+      (λ (earlier : HasLabel old n k). let w = l.leads n k earlier in (omega (arith, w.0), w.1))
+      (λ (new : (k ≡ i) × Leads places seed n). (omega (arith, new.0), (seed, ap (slice_get seeds) new.0 ∙ at, new.1)))
+      (s.fresh n k h);
   first = λ n k a less is led inside. ⊎_elim
-    (λ (same : (_ : _) × (k ≡ i)).
+      (λ (same : (_ : _) × (k ≡ i)).
       let two : Some (Some a) ≡ Some (Some seed) = sym is ∙ ap (slice_get seeds) same.1 ∙ at in
       let e : a ≡ seed = cc in
       let h = all_labelled places now seed n s.whole s.seeded (subst (λ (x : ℕ). Leads places x n) e led) inside in
@@ -36,10 +36,10 @@ spreads_further places seeds old now i seed l at s = record {
       (λ (earlier : HasLabel old n h.0). (h.0, omega (arith, (l.leads n h.0 earlier).0, same.1), h.1))
       (λ (new : (h.0 ≡ i) × Leads places seed n). (h.0, omega (arith, new.0, same.1), h.1))
       (s.fresh n h.0 h.1))
-    (λ (other : (_ : _) × (k ≡ i → ⊥)).
+      (λ (other : (_ : _) × (k ≡ i → ⊥)).
       let w = l.first n k a (omega (arith, other.1)) is led inside in
       (w.0, w.1, s.kept n w.0 w.2))
-    (eqb_tells k i);
+      (eqb_tells k i);
 }
 
 passes_over : (places : List Place) (seeds : List (Option ℕ)) (labels : Labels) (i : ℕ) → Labelling places seeds labels i → slice_get seeds i ≡ Some None → Labelling places seeds labels (i + 1)
@@ -47,9 +47,9 @@ passes_over places seeds labels i l at = record {
   whole = l.whole;
   leads = λ n k h. let w = l.leads n k h in (omega (arith, w.0), w.1);
   first = λ n k a less is led inside. ⊎_elim
-    (λ (same : (_ : _) × (k ≡ i)). let two : Some (Some a) ≡ Some None = sym is ∙ ap (slice_get seeds) same.1 ∙ at in cc)
-    (λ (other : (_ : _) × (k ≡ i → ⊥)). l.first n k a (omega (arith, other.1)) is led inside)
-    (eqb_tells k i);
+      (λ (same : (_ : _) × (k ≡ i)). let two : Some (Some a) ≡ Some None = sym is ∙ ap (slice_get seeds) same.1 ∙ at in cc)
+      (λ (other : (_ : _) × (k ≡ i → ⊥)). l.first n k a (omega (arith, other.1)) is led inside)
+      (eqb_tells k i);
 }
 
 pub next_seed : (places : List Place) (seeds : List (Option ℕ)) (old now : Labels) (i : ℕ) (o : Option ℕ) → Labelling places seeds old i → slice_get seeds i ≡ Some o → SpreadsSeed places o i old now

@@ -1,5 +1,5 @@
 -- Reading a list at an index after a write, and after one more element.
-use Rattle.std.specs.Prelude.{◌≡◌, ◌<◌, ◌≤◌, ◌⊎◌, ℕ, true, false, List, [], ◌∷◌, ◌++◌, length, Option, Some, None, slice_get}
+use Rattle.std.specs.Prelude.{◌≡◌, ◌⊎◌, ℕ, List, [], ◌∷◌, ◌++◌, length, Some, slice_get}
 use Rattle.std.proofs.Common.{refl, ap, suc, zero, inl, inr, ⊎_elim}
 use Rattle.std.proofs.Math.ListN.{set}
 

@@ -1,5 +1,5 @@
 -- References that compare as equal are one, and what a map has at a reference is its last place.
-use Rattle.std.proofs.Common.{◌≡◌, ◌⊎◌, ℕ, rules, cond, Bool, true, false, List, [], ◌∷◌, Option, Some, None, MatchOption, refl, sym, ap, ◌∙◌, inl, inr, ⊎_elim}
+use Rattle.std.proofs.Common.{◌≡◌, ◌⊎◌, ℕ, rules, cond, Bool, true, false, [], ◌∷◌, Option, Some, None, MatchOption, refl, sym, ap, ◌∙◌, inl, inr}
 use Rattle.std.specs.Map.{lookup}
 use Rattle.def_trace.specs.declared.reference.Reference.{Reference}
 use Rattle.def_trace.specs.contracts.reference.ReferencePartialEq.TheImpl as derived
@@ -17,16 +17,16 @@ same a b h = search rules
 pub differs : (a b : Reference) → (a ≡ b → ⊥) → equal a b ≡ false
 differs a b h = cases (equal a b) refl
   where
-  cases : (t : Bool) → equal a b ≡ t → equal a b ≡ false
-  cases true e = absurd (h (tells a b e))
-  cases false e = e
+    cases : (t : Bool) → equal a b ≡ t → equal a b ≡ false
+    cases true e = absurd (h (tells a b e))
+    cases false e = e
 
 pub apart_or_one : (a b : Reference) → (a ≡ b → ⊥) ⊎ (a ≡ b)
 apart_or_one a b = cases (equal a b) refl
   where
-  cases : (t : Bool) → equal a b ≡ t → (a ≡ b → ⊥) ⊎ (a ≡ b)
-  cases true e = inr (tells a b e)
-  cases false e = inl (λ h. let two : true ≡ false = sym (same a b h) ∙ e in cc)
+    cases : (t : Bool) → equal a b ≡ t → (a ≡ b → ⊥) ⊎ (a ≡ b)
+    cases true e = inr (tells a b e)
+    cases false e = inl (λ h. let two : true ≡ false = sym (same a b h) ∙ e in cc)
 
 last_in : (r : Reference) (e : Reference × ℕ) (es : LastList) (i : ℕ) (b : Bool) → equal r e.0 ≡ b → cond b (Some e.1) (lookup (equal r) es) ≡ Some i → (lookup (equal r) es ≡ Some i → IsLast r i es) → IsLast r i (e ∷ es)
 last_in r e es i true is h later = inl (sym (tells r e.0 is), cc)

@@ -44,12 +44,12 @@ frees places seed label old now reached i b s led free = record {
   within = omega (arith, length-append reached (b ∷ []), s.within);
   reaches = λ j n le h. ⊎_elim (s.reaches j n le) (λ (new : (j ≡ length reached) × (n ≡ b)). subst (Leads places seed) (sym new.1) led) (get_either reached b j n h);
   done = λ a c labelled on inside. ⊎_elim
-    (λ (earlier : HasLabel now a labelled.0). ⊎_elim
+      (λ (earlier : HasLabel now a labelled.0). ⊎_elim
       (λ (there : IsLabelled now c). inl (there.0, label_stays now b label c there.0 free there.1))
       (λ (waits : IsWaiting reached i a). inr (waits.0, waits.1, get_front reached (b ∷ []) waits.0 a waits.2))
       (s.done a c (labelled.0, earlier) on inside))
-    (λ (new : (a ≡ b) × (labelled.0 ≡ label)). inr (length reached, s.within, get_end reached b ∙ ap Some (sym new.0)))
-    (label_at now b label a labelled.0 free labelled.1);
+      (λ (new : (a ≡ b) × (labelled.0 ≡ label)). inr (length reached, s.within, get_end reached b ∙ ap Some (sym new.0)))
+      (label_at now b label a labelled.0 free labelled.1);
 }
 
 -- A place to which the seed leads is labelled, where it is there.
@@ -57,35 +57,35 @@ pub labels_one : (places : List Place) (seed label : ℕ) (old now : Labels) (re
     → Spreading places seed label old (labelled b label now) (reached_by b now reached) i
 labels_one places seed label old now reached i b s led = cases (slice_get now b) refl
   where
-  cases : (o : Option (Option ℕ)) → slice_get now b ≡ o → Spreading places seed label old (labelled b label now) (reached_by b now reached) i
-  cases None e = rw e s
-  cases (Some None) e = rw e (frees places seed label old now reached i b s led e)
-  cases (Some (Some k)) e = rw e s
+    cases : (o : Option (Option ℕ)) → slice_get now b ≡ o → Spreading places seed label old (labelled b label now) (reached_by b now reached) i
+    cases None e = rw e s
+    cases (Some None) e = rw e (frees places seed label old now reached i b s led e)
+    cases (Some (Some k)) e = rw e s
 
 -- it is labelled then
 pub is_labelled : (b label : ℕ) (now : Labels) → b < length now → IsLabelled (labelled b label now) b
 is_labelled b label now inside = cases (slice_get now b) refl
   where
-  cases : (o : Option (Option ℕ)) → slice_get now b ≡ o → IsLabelled (labelled b label now) b
-  cases None e = let there = slice_get-get_or now b None inside in let two : Some _ ≡ None = sym there ∙ e in cc
-  cases (Some None) e = rw e (label, get_written now b (Some label) None e)
-  cases (Some (Some k)) e = rw e (k, e)
+    cases : (o : Option (Option ℕ)) → slice_get now b ≡ o → IsLabelled (labelled b label now) b
+    cases None e = let there = slice_get-get_or now b None inside in let two : Some _ ≡ None = sym there ∙ e in cc
+    cases (Some None) e = rw e (label, get_written now b (Some label) None e)
+    cases (Some (Some k)) e = rw e (k, e)
 
 -- other labels stay
 pub stays_labelled : (b label : ℕ) (now : Labels) (n : ℕ) → IsLabelled now n → IsLabelled (labelled b label now) n
 stays_labelled b label now n h = cases (slice_get now b) refl
   where
-  cases : (o : Option (Option ℕ)) → slice_get now b ≡ o → IsLabelled (labelled b label now) n
-  cases None e = rw e h
-  cases (Some None) e = rw e (h.0, label_stays now b label n h.0 e h.1)
-  cases (Some (Some k)) e = rw e h
+    cases : (o : Option (Option ℕ)) → slice_get now b ≡ o → IsLabelled (labelled b label now) n
+    cases None e = rw e h
+    cases (Some None) e = rw e (h.0, label_stays now b label n h.0 e h.1)
+    cases (Some (Some k)) e = rw e h
 
 reached_stays : (b : ℕ) (now : Labels) (reached : List ℕ) (i a : ℕ) → slice_get reached i ≡ Some a → slice_get (reached_by b now reached) i ≡ Some a
 reached_stays b now reached i a h = cases (is_free (slice_get now b)) refl
   where
-  cases : (f : Bool) → is_free (slice_get now b) ≡ f → slice_get (reached_by b now reached) i ≡ Some a
-  cases true e = rw e (get_front reached (b ∷ []) i a h)
-  cases false e = rw e h
+    cases : (f : Bool) → is_free (slice_get now b) ≡ f → slice_get (reached_by b now reached) i ≡ Some a
+    cases true e = rw e (get_front reached (b ∷ []) i a h)
+    cases false e = rw e h
 
 -- ---- what a place leads to
 
@@ -115,15 +115,15 @@ advances places seed label old now reached i a s at next = record {
   within = omega (arith, slice_get_within reached i a at);
   reaches = λ j n le h. s.reaches j n (omega arith) h;
   done = λ c b labelled on inside. ⊎_elim
-    (λ (there : IsLabelled now b). inl there)
-    (λ (waits : IsWaiting reached i c). ⊎_elim
+      (λ (there : IsLabelled now b). inl there)
+      (λ (waits : IsWaiting reached i c). ⊎_elim
       (λ (same : (_ : _) × (waits.0 ≡ i)).
-        let two : Some c ≡ Some a = sym waits.2 ∙ ap (slice_get reached) same.1 ∙ at in
-        let is : c ≡ a = cc in
-        inl (next b (subst (λ (x : ℕ). LeadsOn places x b) is on) inside))
+      let two : Some c ≡ Some a = sym waits.2 ∙ ap (slice_get reached) same.1 ∙ at in
+      let is : c ≡ a = cc in
+      inl (next b (subst (λ (x : ℕ). LeadsOn places x b) is on) inside))
       (λ (other : (_ : _) × (waits.0 ≡ i → ⊥)). inr (waits.0, omega (arith, waits.1, other.1), waits.2))
       (eqb_tells waits.0 i))
-    (s.done c b labelled on inside);
+      (s.done c b labelled on inside);
 }
 
 goes_on_at : (places : List Place) (seed label : ℕ) (old now : Labels) (reached : List ℕ) (i a : ℕ) (p : Place) → Spreading places seed label old now reached i → slice_get reached i ≡ Some a → slice_get places a ≡ Some p
@@ -133,14 +133,14 @@ goes_on_at places seed label old now reached i a p s at there =
     let one = labels_target places seed label old now reached i p.next s (λ b e. On a b led (p, there, inl e)) in
     let two = labels_target places seed label old _ _ i p.over one (λ b e. On a b led (p, there, inr e)) in
     advances places seed label old _ _ i a two
-      (target_reached p.over _ _ i a (target_reached p.next now reached i a at))
-      (λ b on inside.
-        let same : Some on.0 ≡ Some p = sym on.1 ∙ there in
-        let is : on.0 ≡ p = cc in
-        ⊎_elim
-        (λ (e : on.0.next ≡ Some b). target_stays p.over label _ b (target_labelled p.next label now b (sym (ap (λ (q : Place). q.next) is) ∙ e) (rw s.same_length inside)))
-        (λ (e : on.0.over ≡ Some b). target_labelled p.over label _ b (sym (ap (λ (q : Place). q.over) is) ∙ e) (rw one.same_length inside))
-        on.2)
+    (target_reached p.over _ _ i a (target_reached p.next now reached i a at))
+    (λ b on inside.
+    let same : Some on.0 ≡ Some p = sym on.1 ∙ there in
+    let is : on.0 ≡ p = cc in
+    ⊎_elim
+    (λ (e : on.0.next ≡ Some b). target_stays p.over label _ b (target_labelled p.next label now b (sym (ap (λ (q : Place). q.next) is) ∙ e) (rw s.same_length inside)))
+    (λ (e : on.0.over ≡ Some b). target_labelled p.over label _ b (sym (ap (λ (q : Place). q.over) is) ∙ e) (rw one.same_length inside))
+    on.2)
 
 -- The place reached as number i is gone on from.
 pub goes_on : (places : List Place) (seed label : ℕ) (old now : Labels) (reached : List ℕ) (i a : ℕ) (o : Option Place) → slice_get places a ≡ o → Spreading places seed label old now reached i → slice_get reached i ≡ Some a
@@ -159,15 +159,15 @@ pub begins : (places : List Place) (seed label : ℕ) (old : Labels) (reached : 
     → Spreading places seed label old (labelled seed label old) (reached_by seed old reached) (length reached)
 begins places seed label old reached whole = labels_one places seed label old old reached (length reached) seed start (Here seed refl)
   where
-  start : Spreading places seed label old old reached (length reached)
-  start = record {
-    same_length = whole.same_length;
-    kept = λ n k h. h;
-    fresh = λ n k h. inl h;
-    within = omega arith;
-    reaches = λ j n le h. absurd (omega (arith, slice_get_within reached j n h));
-    done = λ a b labelled on inside. inl (whole.closed a b labelled on inside);
-  }
+    start : Spreading places seed label old old reached (length reached)
+    start = record {
+      same_length = whole.same_length;
+      kept = λ n k h. h;
+      fresh = λ n k h. inl h;
+      within = omega arith;
+      reaches = λ j n le h. absurd (omega (arith, slice_get_within reached j n h));
+      done = λ a b labelled on inside. inl (whole.closed a b labelled on inside);
+    }
 
 pub ends : (places : List Place) (seed label : ℕ) (old now : Labels) (reached : List ℕ) (i : ℕ) → Spreading places seed label old now reached i → length reached ≤ i → (seed < length places → IsLabelled now seed)
     → Spreads places seed label old now
@@ -175,9 +175,9 @@ ends places seed label old now reached i s past seeded = record {
   whole = record {
     same_length = s.same_length;
     closed = λ a b labelled on inside. ⊎_elim
-      (λ (there : IsLabelled now b). there)
-      (λ (waits : IsWaiting reached i a). absurd (omega (arith, waits.1, slice_get_within reached waits.0 a waits.2)))
-      (s.done a b labelled on inside);
+        (λ (there : IsLabelled now b). there)
+        (λ (waits : IsWaiting reached i a). absurd (omega (arith, waits.1, slice_get_within reached waits.0 a waits.2)))
+        (s.done a b labelled on inside);
   };
   kept = s.kept;
   fresh = s.fresh;
@@ -205,10 +205,10 @@ one_less (Some j ∷ labels) (suc b) k h = one_less labels b k h
 pub keeps_sum : (b k : ℕ) (labels : Labels) (reached : List ℕ) → free_places (labelled b k labels) + length (reached_by b labels reached) ≡ free_places labels + length reached
 keeps_sum b k labels reached = cases (slice_get labels b) refl
   where
-  cases : (o : Option (Option ℕ)) → slice_get labels b ≡ o → free_places (labelled b k labels) + length (reached_by b labels reached) ≡ free_places labels + length reached
-  cases None e = rw e refl
-  cases (Some None) e = rw e (omega (arith, one_less labels b k e, length-append reached (b ∷ [])))
-  cases (Some (Some j)) e = rw e refl
+    cases : (o : Option (Option ℕ)) → slice_get labels b ≡ o → free_places (labelled b k labels) + length (reached_by b labels reached) ≡ free_places labels + length reached
+    cases None e = rw e refl
+    cases (Some None) e = rw e (omega (arith, one_less labels b k e, length-append reached (b ∷ [])))
+    cases (Some (Some j)) e = rw e refl
 
 target_keeps_sum : (t : Option ℕ) (k : ℕ) (labels : Labels) (reached : List ℕ) → free_places (labelled_target t k labels) + length (reached_target t labels reached) ≡ free_places labels + length reached
 target_keeps_sum None k labels reached = refl

@@ -1,15 +1,15 @@
 -- Where the places of a line begin.
-use Rattle.std.specs.Prelude.{◌≡◌, ◌+◌, ◌-◌, ◌<◌, ◌≤◌, ◌⊎◌, ℕ, List, [], ◌∷◌, ◌++◌, length, map, take, option_map, Option, Some, None, slice_get}
-use Rattle.std.proofs.Common.{refl, arith, sym, ◌∙◌, ap, subst, ⊎_elim, inl, inr, suc, zero, append_assoc}
+use Rattle.std.specs.Prelude.{◌≡◌, ◌+◌, ◌-◌, ◌<◌, ◌≤◌, ℕ, List, [], ◌∷◌, ◌++◌, length, map, take, option_map, Option, Some, None, slice_get}
+use Rattle.std.proofs.Common.{arith, sym, ◌∙◌, ap, subst, ⊎_elim, suc, zero, append_assoc}
 use Rattle.std.proofs.lemmas.List.{length-append, length-map, take_all}
-use Rattle.std.proofs.lemmas.Option.{slice_get_within, slice_get-map}
+use Rattle.std.proofs.lemmas.Option.{slice_get-map}
 use Rattle.std.proofs.lemmas.Bool.{cases_lt}
 use Rattle.def_event.specs.declared.event.Event.{Event}
 use Rattle.def_event.specs.declared.shown.Shown.{Shown}
 use Rattle.def_trace.specs.declared.reference.Reference.{Reference}
-use Rattle.def_trace.specs.Order.{Sending, Carrying, Taking, sending, carrying, taking, vat_behind, vat_after, vat_at, DoesAt}
+use Rattle.def_trace.specs.Order.{Sending, Carrying, sending, carrying, taking, vat_behind, vat_after, vat_at, DoesAt}
 use Rattle.ev_order.specs.Chains.{reference}
-use Rattle.ev_order.specs.Walk.{Deed, deed_of, deed_by, line_references, all_references, sent_references, carried_references}
+use Rattle.ev_order.specs.Walk.{deed_by, line_references, all_references, sent_references, carried_references}
 use Rattle.ev_order.specs.Graph.{start}
 use Rattle.ev_order.proofs.Lists.{get_front, get_end}
 use Rattle.ev_order.proofs.Walking.{carries_alone}
@@ -29,9 +29,11 @@ parts here [] zero e at = cc
 parts here [] (suc i) e at = cc
 parts here (d ∷ ds) zero e at = let is : d ≡ e = cc in (all_references (vat_behind here d) ds, ap (λ (x : Event). line_references here x ++ all_references (vat_behind here d) ds) is)
 parts here (d ∷ ds) (suc i) e at =
-    let more = parts (vat_behind here d) ds i e at in
-    (more.0, ap (λ (rs : List (Option Reference)). line_references here d ++ rs) more.1
-      ∙ sym (append_assoc (line_references here d) (all_references (vat_behind here d) (take i ds)) (line_references (vat_after (vat_behind here d) (take i ds)) e ++ more.0)))
+    let more = parts (vat_behind here d) ds i e at in (
+      more.0,
+      ap (λ (rs : List (Option Reference)). line_references here d ++ rs) more.1
+          ∙ sym (append_assoc (line_references here d) (all_references (vat_behind here d) (take i ds)) (line_references (vat_after (vat_behind here d) (take i ds)) e ++ more.0)),
+    )
 
 -- the next line begins behind them
 next_start : (here : Option ℕ) (lines : List Event) (i : ℕ) (e : Event) → slice_get lines i ≡ Some e

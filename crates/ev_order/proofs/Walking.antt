@@ -1,5 +1,5 @@
 -- One line more, and what was said of the lines before holds.
-use Rattle.std.specs.Prelude.{◌≡◌, ◌<◌, ◌≤◌, ◌⊎◌, ◌+◌, ℕ, List, [], ◌∷◌, ◌++◌, length, take, Option, Some, None, slice_get}
+use Rattle.std.specs.Prelude.{◌≡◌, ◌<◌, ◌⊎◌, ◌+◌, ℕ, List, [], ◌∷◌, ◌++◌, length, take, Option, Some, None, slice_get}
 use Rattle.std.proofs.Common.{refl, arith, sym, ◌∙◌, ap, subst, ⊎_elim, inl, inr, append_assoc, append-nil}
 use Rattle.std.proofs.lemmas.List.{length-take-le, take-append-le, take_at, take_more}
 use Rattle.std.proofs.lemmas.Option.{slice_get_within, get_or_from_slice_get}
@@ -10,8 +10,8 @@ use Rattle.def_trace.specs.declared.reference.Reference.{Reference}
 use Rattle.def_trace.specs.Order.{Sending, Carrying, Taking, sending, carrying, taking, vat_behind, vat_after, DoesAt, IsFirst}
 use Rattle.ev_order.specs.declared.mentions.Mention.{Mention}
 use Rattle.ev_order.specs.Mentions.{MentionList, IsThere, IsAbsent, IsAdded}
-use Rattle.ev_order.specs.Chains.{Chain, IsChain}
-use Rattle.ev_order.specs.Walk.{Walked, started, Deed, deed_of, deed_by, takes_of, Does, IsMentioned, Steps, line_references, all_references, sent_mention, carried_mention, taken_mention, IsNoted, HoldsFirst, HoldsSent, HoldsCarried, HoldsTaken, IsWalked}
+use Rattle.ev_order.specs.Chains.{IsChain}
+use Rattle.ev_order.specs.Walk.{Walked, started, deed_by, IsMentioned, Steps, line_references, all_references, sent_mention, carried_mention, taken_mention, IsNoted, HoldsFirst, HoldsSent, HoldsCarried, HoldsTaken, IsWalked}
 use Rattle.ev_order.proofs.Lists.{get_front, get_end, get_either}
 
 -- ---- vats and references
@@ -43,7 +43,6 @@ does_within does es i a h = slice_get_within es i h.0 h.1
 -- ---- first mentions
 
 module _ {A : Type 0} (does : Event → Option A) (message : A → Msg) (mention : List Event → A → Mention) (line_is : (before : List Event) (a : A) → (mention before a).line ≡ length before) where
-
   noted_still : (es : List Event) (e : Event) (m : Msg) (s : Mention) → IsNoted does message mention es m s → IsNoted does message mention (es ++ e ∷ []) m s
   noted_still es e m s h =
       let inside = does_within does es s.line h.what h.first.there in
@@ -52,9 +51,9 @@ module _ {A : Type 0} (does : Event → Option A) (message : A → Msg) (mention
         first = record {
           there = does_front does es e s.line h.what h.first.there;
           first = λ j b less at same. ⊎_elim
-            (λ (old : DoesAt does es j b). h.first.first j b less old same)
-            (λ (new : (j ≡ length es) × (does e ≡ Some b)). absurd (omega (arith, new.0, less, inside)))
-            (does_either does es e j b at);
+              (λ (old : DoesAt does es j b). h.first.first j b less old same)
+              (λ (new : (j ≡ length es) × (does e ≡ Some b)). absurd (omega (arith, new.0, less, inside)))
+              (does_either does es e j b at);
         };
         message_is = h.message_is;
         mention_is = h.mention_is ∙ ap (λ (ls : List Event). mention ls h.what) (sym (take-append-le s.line es (e ∷ []) (omega (arith, inside))));
@@ -68,9 +67,9 @@ module _ {A : Type 0} (does : Event → Option A) (message : A → Msg) (mention
         first = subst (λ (i : ℕ). IsFirst does message (es ++ e ∷ []) i a) (sym line) (record {
           there = (e, get_end es e, is);
           first = λ j b less at same. ⊎_elim
-            (λ (old : DoesAt does es j b). let there = h.all j b old in absurd (absent there.0 (subst (λ (m : Msg). IsThere m there.0 list) same there.1)))
-            (λ (new : (j ≡ length es) × (does e ≡ Some b)). absurd (omega (arith, new.0, less)))
-            (does_either does es e j b at);
+              (λ (old : DoesAt does es j b). let there = h.all j b old in absurd (absent there.0 (subst (λ (m : Msg). IsThere m there.0 list) same there.1)))
+              (λ (new : (j ≡ length es) × (does e ≡ Some b)). absurd (omega (arith, new.0, less)))
+              (does_either does es e j b at);
         });
         message_is = refl;
         mention_is = ap (λ (ls : List Event). mention ls a) (sym (take_at es (e ∷ []) (mention es a).line (sym line)));
@@ -89,8 +88,8 @@ module _ {A : Type 0} (does : Event → Option A) (message : A → Msg) (mention
   holds_again es e a list h is s there = record {
     noted = λ n m s at. noted_still es e m s (h.noted n m s at);
     all = λ i b at. ⊎_elim (λ (old : DoesAt does es i b). h.all i b old)
-      (λ (new : (i ≡ length es) × (does e ≡ Some b)). let two : Some b ≡ Some a = sym new.1 ∙ is in let same : b ≡ a = cc in (s, subst (λ (m : Msg). IsThere m s list) (sym (ap message same)) there))
-      (does_either does es e i b at);
+        (λ (new : (i ≡ length es) × (does e ≡ Some b)). let two : Some b ≡ Some a = sym new.1 ∙ is in let same : b ≡ a = cc in (s, subst (λ (m : Msg). IsThere m s list) (sym (ap message same)) there))
+        (does_either does es e i b at);
     ascending = h.ascending;
   }
 
@@ -98,30 +97,30 @@ module _ {A : Type 0} (does : Event → Option A) (message : A → Msg) (mention
   holds_more : (es : List Event) (e : Event) (a : A) (list : MentionList) → HoldsFirst does message mention es list → does e ≡ Some a → IsAbsent (message a) list → HoldsFirst does message mention (es ++ e ∷ []) (list ++ (message a, mention es a) ∷ [])
   holds_more es e a list h is absent = record {
     noted = λ n m s at. ⊎_elim
-      (λ (old : slice_get list n ≡ Some (m, s)). noted_still es e m s (h.noted n m s old))
-      (λ (new : (n ≡ length list) × ((m, s) ≡ (message a, mention es a))).
+        (λ (old : slice_get list n ≡ Some (m, s)). noted_still es e m s (h.noted n m s old))
+        (λ (new : (n ≡ length list) × ((m, s) ≡ (message a, mention es a))).
         subst (λ (p : Msg × Mention). IsNoted does message mention (es ++ e ∷ []) p.0 p.1) (sym new.1) (noted_new es e a list h is absent))
-      (get_either list (message a, mention es a) n (m, s) at);
+        (get_either list (message a, mention es a) n (m, s) at);
     all = λ i b at. ⊎_elim
-      (λ (old : DoesAt does es i b). let there = h.all i b old in (there.0, (there.1.0, get_front list ((message a, mention es a) ∷ []) there.1.0 (message b, there.0) there.1.1)))
-      (λ (new : (i ≡ length es) × (does e ≡ Some b)).
+        (λ (old : DoesAt does es i b). let there = h.all i b old in (there.0, (there.1.0, get_front list ((message a, mention es a) ∷ []) there.1.0 (message b, there.0) there.1.1)))
+        (λ (new : (i ≡ length es) × (does e ≡ Some b)).
         let two : Some b ≡ Some a = sym new.1 ∙ is in
         let same : b ≡ a = cc in
         (mention es a, (length list, get_end list (message a, mention es a) ∙ ap (λ (m : Msg). Some (m, mention es a)) (sym (ap message same)))))
-      (does_either does es e i b at);
+        (does_either does es e i b at);
     ascending = λ n k m l s t less hn hk. ⊎_elim
-      (λ (old_k : slice_get list k ≡ Some (l, t)). ⊎_elim
+        (λ (old_k : slice_get list k ≡ Some (l, t)). ⊎_elim
         (λ (old_n : slice_get list n ≡ Some (m, s)). h.ascending n k m l s t less old_n old_k)
         (λ (new_n : (n ≡ length list) × ((m, s) ≡ (message a, mention es a))). absurd (omega (arith, new_n.0, less, slice_get_within list k (l, t) old_k)))
         (get_either list (message a, mention es a) n (m, s) hn))
-      (λ (new_k : (k ≡ length list) × ((l, t) ≡ (message a, mention es a))). ⊎_elim
+        (λ (new_k : (k ≡ length list) × ((l, t) ≡ (message a, mention es a))). ⊎_elim
         (λ (old_n : slice_get list n ≡ Some (m, s)).
-          let noted = h.noted n m s old_n in
-          let line = ap (λ (p : Msg × Mention). p.1.line) new_k.1 ∙ line_is es a in
-          omega (arith, line, does_within does es s.line noted.what noted.first.there))
+        let noted = h.noted n m s old_n in
+        let line = ap (λ (p : Msg × Mention). p.1.line) new_k.1 ∙ line_is es a in
+        omega (arith, line, does_within does es s.line noted.what noted.first.there))
         (λ (new_n : (n ≡ length list) × ((m, s) ≡ (message a, mention es a))). absurd (omega (arith, new_n.0, new_k.0, less)))
         (get_either list (message a, mention es a) n (m, s) hn))
-      (get_either list (message a, mention es a) k (l, t) hk);
+        (get_either list (message a, mention es a) k (l, t) hk);
   }
 
   pub holds_added : (es : List Event) (e : Event) (a : A) (list now : MentionList) → HoldsFirst does message mention es list → does e ≡ Some a → IsAdded (message a) (mention es a) list now → HoldsFirst does message mention (es ++ e ∷ []) now
@@ -159,7 +158,6 @@ carries_alone (Carry k v w note) c h = (refl, refl)
 carries_alone e c h = cc
 
 module _ (es : List Event) (e : Event) (old : Walked) (h : IsWalked es old) where
-
   first_is : length old.chain.references ≡ length (all_references None es)
   first_is = ap length h.references
 
@@ -190,9 +188,9 @@ module _ (es : List Event) (e : Event) (old : Walked) (h : IsWalked es old) wher
     here = ap (λ (v : Option ℕ). vat_behind v e) h.here ∙ sym (vat_after_one None es e);
     chain = s.does.chain;
     references = s.does.references
-      ∙ ap (λ (rs : List (Option Reference)). rs ++ line_references old.here e) h.references
-      ∙ ap (λ (v : Option ℕ). all_references None es ++ line_references v e) h.here
-      ∙ sym (references_one None es e);
+        ∙ ap (λ (rs : List (Option Reference)). rs ++ line_references old.here e) h.references
+        ∙ ap (λ (v : Option ℕ). all_references None es ++ line_references v e) h.here
+        ∙ sym (references_one None es e);
     sent = sent_cases (sending e) (carrying e) (taking e) s.between.sent refl s.does.sent;
     carried = carried_cases (sending e) (carrying e) (taking e) s.between.carried refl refl s.does.carried;
     taken = taken_cases (sending e) (carrying e) (taking e) s.between.taken refl refl refl s.does.taken;

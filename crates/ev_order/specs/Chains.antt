@@ -1,5 +1,5 @@
 -- Places in order, each of which leads to the next one with the same reference.
-use Rattle.std.specs.Prelude.{◌≡◌, ◌<◌, ◌≤◌, ◌⊎◌, ℕ, List, [], ◌∷◌, ◌++◌, length, Option, Some, None, MatchOption, slice_get}
+use Rattle.std.specs.Prelude.{◌≡◌, ◌<◌, ◌≤◌, ℕ, List, length, Option, Some, None, MatchOption, slice_get}
 use Rattle.std.proofs.Math.ListN.{set}
 use Rattle.def_event.specs.declared.shown.Shown.{Shown, Name as Named}
 use Rattle.def_trace.specs.declared.reference.Reference.{Reference}

@@ -1,5 +1,5 @@
 -- The places of a trace and what they lead to.
-use Rattle.std.specs.Prelude.{◌≡◌, ◌+◌, ◌<◌, ℕ, List, length, take, Option, Some, None, slice_get}
+use Rattle.std.specs.Prelude.{◌≡◌, ◌+◌, ◌<◌, ℕ, List, length, take, Option, Some, None}
 use Rattle.def_event.specs.declared.event.Event.{Event}
 use Rattle.def_trace.specs.declared.reference.Reference.{Reference}
 use Rattle.def_trace.specs.Order.{Sending, Carrying, IsSent, IsCarried, vat_at}

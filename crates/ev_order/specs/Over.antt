@@ -1,5 +1,5 @@
 -- Places of arguments that lead over to where the arguments come.
-use Rattle.std.specs.Prelude.{◌≡◌, ◌+◌, ◌<◌, ◌≤◌, ◌⊎◌, ℕ, Bool, true, false, List, length, Option, Some, None, slice_get}
+use Rattle.std.specs.Prelude.{◌≡◌, ◌+◌, ◌<◌, ◌≤◌, ◌⊎◌, ℕ, Bool, true, false, List, length, Option, Some, slice_get}
 use Rattle.ev_base.specs.declared.names.Msg.{Msg}
 use Rattle.def_trace.specs.declared.reference.Reference.{Reference}
 use Rattle.ev_order.specs.declared.mentions.Mention.{Mention}

@@ -1,5 +1,5 @@
 -- What joins the places keeps to the walk, and what it leaves is the graph.
-use Rattle.std.proofs.Common.{◌≡◌, ℕ, List, Option, length, drop, sym, ap, ◌∙◌, subst}
+use Rattle.std.proofs.Common.{◌≡◌, List, Option, length, drop, sym, ap, ◌∙◌, subst}
 use Rattle.std.proofs.lemmas.List.{take_at}
 use Rattle.def_trace.specs.declared.reference.Reference.{Reference}
 use Rattle.ev_order.specs.declared.spread.Place.{Place}

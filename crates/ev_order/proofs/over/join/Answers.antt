@@ -1,9 +1,8 @@
-use Rattle.std.proofs.Common.{◌≡◌, ◌<◌, None, Some, length, refl, sym, ap, ◌∙◌, subst, arith}
+use Rattle.std.proofs.Common.{◌<◌, None, length, sym, ap, ◌∙◌, arith}
 use Rattle.std.specs.Prelude.{slice_get}
 use Rattle.std.proofs.Math.ListN.{get_or}
 use Rattle.std.proofs.lemmas.Option.{slice_get-get_or}
-use Rattle.ev_order.specs.declared.spread.Place.{Place}
-use Rattle.ev_order.specs.Over.{IsPair, Joins}
+use Rattle.ev_order.specs.Over.{IsPair}
 use Rattle.ev_order.proofs.Joining.{joins_none, joins_pair, reference_within, none_is, some_is}
 use Rattle.ev_order.proofs.over.join.Goals as goal
 

@@ -1,6 +1,4 @@
-use Rattle.ev_order.proofs.Starts
-use Rattle.ev_order.proofs.Befores
-use Rattle.std.proofs.Common.{◌≡◌, ◌≤◌, length, arith, sym, ◌∙◌, subst}
+use Rattle.std.proofs.Common.{arith}
 use Rattle.ev_order.proofs.JoiningAll.{joins_first, joins_more, joins_every}
 use Rattle.ev_order.proofs.over.join_all.Goals as goal
 

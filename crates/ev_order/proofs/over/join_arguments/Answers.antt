@@ -1,4 +1,4 @@
-use Rattle.std.proofs.Common.{◌≡◌, arith}
+use Rattle.std.proofs.Common.{arith}
 use Rattle.ev_order.proofs.Joining.{joins_start, joins_next, joins_all, joins_no_vat, one_vat, two_vats}
 use Rattle.ev_order.proofs.over.join_arguments.Goals as goal
 

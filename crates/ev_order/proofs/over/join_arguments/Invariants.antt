@@ -1,5 +1,5 @@
 -- The first arguments lead over.
-use Rattle.std.proofs.Common.{◌<◌, ℕ}
+use Rattle.std.proofs.Common.{◌<◌}
 use Rattle.ev_order.specs.Over.{IsJoin, Joins}
 use Rattle.ev_order.proofs.over.join_arguments.Given as goal
 

@@ -1,6 +1,5 @@
-use Rattle.std.proofs.Common.{◌≡◌, Some, None, sym, ◌∙◌, subst}
-use Rattle.std.specs.Prelude.{slice_get}
-use Rattle.ev_order.proofs.JoiningAll.{joins_no_message, joins_not_carried, joins_message}
+use Rattle.std.proofs.Common.{sym, ◌∙◌}
+use Rattle.ev_order.proofs.JoiningAll.{joins_not_carried, joins_message}
 use Rattle.ev_order.proofs.over.join_message.Goals as goal
 
 pub returns : goal.returns

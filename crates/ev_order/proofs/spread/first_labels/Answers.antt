@@ -1,9 +1,8 @@
 -- No place has a label at first, and what the seeds label stands in the vector.
-use Rattle.std.proofs.Common.{◌≡◌, ℕ, ◌++◌, Some, None, Option, List, length, refl, arith, sym, ◌∙◌, ap, subst, take, drop}
-use Rattle.std.specs.Prelude.{slice_get}
+use Rattle.std.proofs.Common.{◌≡◌, None, length, sym, ◌∙◌, ap, subst, drop}
 use Rattle.std.proofs.Math.ListN.{replicate, length-replicate}
 use Rattle.std.proofs.lemmas.List.{take_at}
-use Rattle.ev_order.specs.Spread.{HasFirstLabels, Labels}
+use Rattle.ev_order.specs.Spread.{HasFirstLabels}
 use Rattle.ev_order.proofs.Labelling.{all_free, grown}
 use Rattle.ev_order.proofs.spread.first_labels.Goals as goal
 

@@ -1,5 +1,5 @@
 -- The label spread up to the place that is reached as number `at`, and each label makes one free place less.
-use Rattle.std.proofs.Common.{ℕ, ◌+◌, ◌-◌, ◌<◌, length}
+use Rattle.std.proofs.Common.{◌+◌, ◌-◌, ◌<◌, length}
 use Rattle.ev_order.specs.Spread.{IsLabelled}
 use Rattle.ev_order.proofs.Spreading.{Spreading, free_places}
 use Rattle.ev_order.proofs.spread.spread.Given as goal

@@ -1,6 +1,5 @@
 -- Each step spreads one seed.
-use Rattle.std.proofs.Common.{ℕ, None, length, refl, arith}
-use Rattle.std.specs.Prelude.{slice_get}
+use Rattle.std.proofs.Common.{None}
 use Rattle.std.proofs.lemmas.Option.{slice_get-get_or}
 use Rattle.ev_order.proofs.Labelling.{next_seed, no_labels_yet, all_seeds}
 use Rattle.ev_order.proofs.spread.spread_all.Goals as goal

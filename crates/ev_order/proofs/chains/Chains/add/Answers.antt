@@ -1,7 +1,6 @@
-use Rattle.std.proofs.Common.{◌≡◌, ◌∷◌, ◌++◌, [], length, ℕ, List, Option, sym, ◌∙◌, ap, subst}
+use Rattle.std.proofs.Common.{◌∷◌, ◌++◌, [], ℕ, List, Option, sym, ◌∙◌, subst}
 use Rattle.def_trace.specs.declared.reference.Reference.{Reference}
 use Rattle.ev_order.specs.declared.spread.Place.{Place}
-use Rattle.ev_order.specs.Last.{LastList}
 use Rattle.ev_order.specs.Chains.{Chain, IsChain, LinksLast, reference}
 use Rattle.ev_order.proofs.Chaining.{grows}
 use Rattle.ev_order.proofs.chains.Chains.add.Goals as goal

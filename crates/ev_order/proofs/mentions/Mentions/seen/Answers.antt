@@ -1,10 +1,7 @@
-use Rattle.std.proofs.Common.{◌≡◌, Some, None, Option, MatchOption, sym, ap, ◌∙◌, refl, subst}
-use Rattle.std.specs.Map.{lookup}
-use Rattle.ev_base.specs.declared.names.Msg.{Msg}
+use Rattle.std.proofs.Common.{MatchOption, sym, ◌∙◌, subst}
 use Rattle.ev_order.specs.declared.mentions.MessageKey.{MessageKey}
-use Rattle.ev_order.specs.declared.mentions.Mention.{Mention}
 use Rattle.ev_order.specs.Mentions.{MentionList, IsThere, IsAbsent}
-use Rattle.ev_order.proofs.Keys.{same_key, finds, mentions_of}
+use Rattle.ev_order.proofs.Keys.{finds}
 use Rattle.ev_order.proofs.mentions.Mentions.seen.Goals as goal
 
 pub returns : goal.returns

@@ -1,8 +1,8 @@
-use Rattle.std.proofs.Common.{◌≡◌, ℕ, List, Some, map, ◌++◌, refl, sym, ap, ◌∙◌, subst}
+use Rattle.std.proofs.Common.{ℕ, List, Some, map, ◌++◌, refl, ap, ◌∙◌, subst}
 use Rattle.def_event.specs.declared.shown.Shown.{Shown}
 use Rattle.ev_order.specs.declared.mentions.Mention.{Mention}
 use Rattle.ev_order.specs.Mentions.{IsAdded}
-use Rattle.ev_order.specs.Chains.{IsChain, reference}
+use Rattle.ev_order.specs.Chains.{reference}
 use Rattle.ev_order.specs.Walk.{Walked, Does, does_carry}
 use Rattle.ev_order.proofs.walk.Walk.add_carry.Goals as goal
 
@@ -19,8 +19,8 @@ returns c =
       here = refl;
       chain = c.in_ok-add_all.ensures.chain;
       references = c.in_ok-add_all.ensures.references
-        ∙ ap (λ (xs : List Shown). c.self.inside.chains.references ++ map (reference (Some c.reaches.inside.0)) xs) args
-        ∙ ap (λ (v : ℕ). c.self.inside.chains.references ++ map (reference (Some v)) c.args.args.now) c.reaches.view_is;
+          ∙ ap (λ (xs : List Shown). c.self.inside.chains.references ++ map (reference (Some c.reaches.inside.0)) xs) args
+          ∙ ap (λ (v : ℕ). c.self.inside.chains.references ++ map (reference (Some v)) c.args.args.now) c.reaches.view_is;
       sent = refl;
       carried = subst same (λ i. record { line = c.args.line; first = first i; args = count i; vat = Some (leaves i) }) c.in_ok-add.ensures;
       taken = refl;

@@ -1,10 +1,10 @@
-use Rattle.std.proofs.Common.{◌≡◌, ℕ, List, [], ◌∷◌, Some, Option, map, ◌++◌, refl, sym, ap, ◌∙◌, subst, append_assoc}
+use Rattle.std.proofs.Common.{List, [], ◌∷◌, Option, map, ◌++◌, refl, ap, ◌∙◌, subst, append_assoc}
 use Rattle.def_event.specs.declared.shown.Shown.{Shown}
 use Rattle.def_trace.specs.declared.reference.Reference.{Reference}
 use Rattle.def_trace.specs.Order.{Sending}
 use Rattle.ev_order.specs.declared.mentions.Mention.{Mention}
 use Rattle.ev_order.specs.Mentions.{IsAdded}
-use Rattle.ev_order.specs.Chains.{IsChain, reference}
+use Rattle.ev_order.specs.Chains.{reference}
 use Rattle.ev_order.specs.Walk.{Walked, Does, does_send}
 use Rattle.ev_order.proofs.walk.Walk.add_send.Goals as goal
 
@@ -23,8 +23,8 @@ returns c =
       here = refl;
       chain = c.in_ok-add.ensures.chain;
       references = c.in_ok-add.ensures.references
-        ∙ ap (λ (rs : List (Option Reference)). rs ++ last ∷ []) (c.in_ok-add_all.ensures.references ∙ ap (λ (xs : List Shown). refs ++ map (reference here) xs) args)
-        ∙ append_assoc refs (map (reference here) c.args.args.now) (last ∷ []);
+          ∙ ap (λ (rs : List (Option Reference)). rs ++ last ∷ []) (c.in_ok-add_all.ensures.references ∙ ap (λ (xs : List Shown). refs ++ map (reference here) xs) args)
+          ∙ append_assoc refs (map (reference here) c.args.args.now) (last ∷ []);
       sent = subst same (λ i. record { line = c.args.line; first = first i; args = count i; vat = here }) c.in_ok-add-2.ensures;
       carried = refl;
       taken = refl;

@@ -1,4 +1,4 @@
-use Rattle.std.proofs.Common.{◌≡◌, [], refl, sym, subst, append-nil}
+use Rattle.std.proofs.Common.{refl, sym, subst, append-nil}
 use Rattle.ev_order.specs.Chains.{IsChain}
 use Rattle.ev_order.specs.Walk.{Walked, Does, does_take}
 use Rattle.ev_order.proofs.walk.Walk.add_take.Goals as goal
