@@ -10,3 +10,4 @@ pub mod JoiningAll
 pub mod Starts
 pub mod Befores
 pub mod Graphs
+pub mod Ranking

@@ -5,3 +5,4 @@ pub mod Chains
 pub mod Walk
 pub mod Over
 pub mod Graph
+pub mod Judge

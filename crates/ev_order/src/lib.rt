@@ -3,6 +3,7 @@
 
 pub mod chains;
 pub mod graph;
+pub mod judge;
 pub mod last;
 pub mod mentions;
 pub mod over;
