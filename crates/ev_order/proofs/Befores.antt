@@ -46,13 +46,13 @@ one_reference refs i q r h l = let two : Some (Some q) ≡ Some (Some r) = sym h
 some_of : {A : Type 0} {x y : A} → Some x ≡ Some y → x ≡ y
 some_of e = cc
 
-reference_is : (v : Option ℕ) (x : Shown) (q : Reference) → reference v x ≡ Some q → (x ≡ Named q.name) × (v ≡ q.vat)
+pub reference_is : (v : Option ℕ) (x : Shown) (q : Reference) → reference v x ≡ Some q → (x ≡ Named q.name) × (v ≡ q.vat)
 reference_is v (Named n) q h =
     let e : record { vat = v; name = n } ≡ q = cc in
     (ap (λ (r : Reference). Named r.name) e, ap (λ (r : Reference). r.vat) e)
 reference_is v x q h = cc
 
-there_is : (refs : List (Option Reference)) (i : ℕ) → IsReference refs i → (q : Reference) × HasReference refs i q
+pub there_is : (refs : List (Option Reference)) (i : ℕ) → IsReference refs i → (q : Reference) × HasReference refs i q
 there_is refs i h = cases (slice_get refs i) refl h
   where
     cases : (o : Option (Option Reference)) → slice_get refs i ≡ o → is_reference o ≡ true → (q : Reference) × HasReference refs i q

@@ -11,3 +11,6 @@ pub mod Starts
 pub mod Befores
 pub mod Graphs
 pub mod Ranking
+pub mod Early
+pub mod Judged
+pub mod Answered

@@ -44,7 +44,7 @@ fn vat_behind(here: Option<u8>, event: &Event) -> Option<u8>
 }
 
 /// Whether a value is an object.
-fn is_object(value: &Shown) -> bool
+pub(crate) fn is_object(value: &Shown) -> bool
     ensures { result ≡ is_object value.now }
 {
     matches!(value, Shown::Name(Name::Object(_, _)))
