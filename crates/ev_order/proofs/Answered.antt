@@ -1,21 +1,20 @@
 -- What the judge answers is the answer on the order of the trace.
-use Rattle.std.specs.Prelude.{◌≡◌, ◌+◌, ◌<◌, ◌≤◌, ◌⊎◌, ℕ, Bool, true, false, nat_lt, if◌then◌else◌, List, length, Option, Some, None, option_map, slice_get}
+use Rattle.std.specs.Prelude.{◌≡◌, ◌+◌, ◌≤◌, ℕ, Bool, true, false, if◌then◌else◌, List, length, Option, Some, None, option_map, slice_get}
 use Rattle.std.proofs.Common.{refl, arith, sym, ◌∙◌, ap, subst, ⊎_elim, inl, inr}
 use Rattle.std.proofs.Math.ListN.{get_or}
 use Rattle.std.proofs.lemmas.Option.{slice_get_within, slice_get-get_or}
-use Rattle.std.proofs.lemmas.Bool.{cases_lt, ltb-true, ltb-false}
+use Rattle.std.proofs.lemmas.Bool.{ltb-true, ltb-false}
 use Rattle.std.proofs.lemmas.Bool.Decides.{eqb_tells}
 use Rattle.ev_base.specs.declared.names.Msg.{Msg}
 use Rattle.def_event.specs.declared.event.Event.{Event}
-use Rattle.def_trace.specs.Order.{Taking, taking, DoesAt, IsTakenBefore, Before, IsOvertaken, IsOrdered, IsFirstOvertaken, JudgesOrder}
+use Rattle.def_trace.specs.Order.{Taking, taking, IsTakenBefore, Before, IsOrdered, IsFirstOvertaken}
 use Rattle.ev_order.specs.declared.mentions.Mention.{Mention}
 use Rattle.ev_order.specs.declared.spread.Place.{Place}
 use Rattle.ev_order.specs.Mentions.{MentionList, IsThere, IsAbsent}
-use Rattle.ev_order.specs.Spread.{Leads, HasLabel, IsSeed, HasFirstLabels}
-use Rattle.ev_order.specs.Walk.{all_references, HoldsSent, HoldsTaken}
-use Rattle.ev_order.specs.Over.{AreSingle}
+use Rattle.ev_order.specs.Spread.{HasLabel}
+use Rattle.ev_order.specs.Walk.{HoldsSent, HoldsTaken}
 use Rattle.ev_order.specs.Graph.{IsGraph}
-use Rattle.ev_order.specs.Judge.{FitPlaces, seed_of, HasRanks, HasWaiting, IsFound, IsEarliest, AreWaiting, IsWaiting, TellsTaken, first_label, IsFirstBefore, IsFirstEarly, TakesAt, NoneEarly}
+use Rattle.ev_order.specs.Judge.{FitPlaces, seed_of, HasRanks, HasWaiting, IsFound, IsEarliest, IsWaiting, TellsTaken, first_label, IsFirstEarly, TakesAt, NoneEarly}
 use Rattle.ev_order.proofs.Graphs.{one_deed, sent_fit}
 use Rattle.ev_order.proofs.Judged.{Sees, leads_is_before, single_sent, before_is_lead, not_before, taken_there, absent_not, overtaken_from, overtaken_early}
 

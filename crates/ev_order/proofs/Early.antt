@@ -1,5 +1,5 @@
 -- Lines that take too early, one after the other.
-use Rattle.std.specs.Prelude.{◌≡◌, ◌+◌, ◌<◌, ◌≤◌, ◌⊎◌, ℕ, Bool, true, false, not, List, [], ◌∷◌, ◌++◌, length, Option, Some, None, slice_get}
+use Rattle.std.specs.Prelude.{◌≡◌, ◌+◌, ◌≤◌, ℕ, Bool, true, false, List, [], ◌∷◌, ◌++◌, length, Option, Some, slice_get}
 use Rattle.std.proofs.Common.{refl, arith, sym, ◌∙◌, ap, subst, ⊎_elim, inl, inr}
 use Rattle.std.proofs.lemmas.List.{length-append}
 use Rattle.std.proofs.lemmas.Option.{slice_get_within}
@@ -9,7 +9,7 @@ use Rattle.def_event.specs.declared.event.Event.{Event}
 use Rattle.def_trace.specs.Order.{Taking, taking}
 use Rattle.ev_order.specs.declared.mentions.Mention.{Mention}
 use Rattle.ev_order.specs.declared.spread.Place.{Place}
-use Rattle.ev_order.specs.Mentions.{MentionList, IsThere, IsAbsent}
+use Rattle.ev_order.specs.Mentions.{MentionList}
 use Rattle.ev_order.specs.Over.{AreSingle}
 use Rattle.ev_order.specs.Judge.{late_label, Overtakes, IsEarly, TakesAt, NoneEarly, IsWaiting, AreWaiting}
 use Rattle.ev_order.proofs.Lists.{get_either}

@@ -1,26 +1,26 @@
 -- A line takes too early by its label exactly where it does so by the trace.
-use Rattle.std.specs.Prelude.{◌≡◌, ◌+◌, ◌-◌, ◌<◌, ◌≤◌, ◌⊎◌, ℕ, Bool, true, false, not, nat_lt, List, length, take, Option, Some, None, slice_get}
-use Rattle.std.proofs.Common.{refl, arith, sym, ◌∙◌, ap, subst, ⊎_elim, inl, inr}
+use Rattle.std.specs.Prelude.{◌≡◌, ◌+◌, ◌-◌, ◌<◌, ◌≤◌, ℕ, Bool, true, false, not, nat_lt, List, length, take, Option, Some, None, slice_get}
+use Rattle.std.proofs.Common.{refl, arith, sym, ◌∙◌, ap, subst, ⊎_elim}
 use Rattle.std.proofs.Math.ListN.{get_or}
 use Rattle.std.proofs.lemmas.List.{length-take-le}
 use Rattle.std.proofs.lemmas.Option.{slice_get_within, slice_get-get_or}
-use Rattle.std.proofs.lemmas.Bool.{cases_lt, lt-ltb, le-ltb, ltb-true, ltb-false}
+use Rattle.std.proofs.lemmas.Bool.{cases_lt, lt-ltb, le-ltb, ltb-false}
 use Rattle.std.proofs.lemmas.Bool.Decides.{eqb_tells}
 use Rattle.ev_base.specs.declared.names.Msg.{Msg}
 use Rattle.def_event.specs.declared.event.Event.{Event}
 use Rattle.def_trace.specs.declared.reference.Reference.{Reference}
-use Rattle.def_trace.specs.Order.{Sending, Taking, sending, taking, DoesAt, IsSent, vat_at, IsTakenBefore, IsSentOn, Before, IsOvertaken}
+use Rattle.def_trace.specs.Order.{Sending, sending, vat_at, IsTakenBefore, IsSentOn, Before, IsOvertaken}
 use Rattle.ev_order.specs.declared.mentions.Mention.{Mention}
 use Rattle.ev_order.specs.declared.spread.Place.{Place}
 use Rattle.ev_order.specs.Mentions.{MentionList, IsThere, IsAbsent}
 use Rattle.ev_order.specs.Chains.{HasReference, HasNext, reference}
-use Rattle.ev_order.specs.Spread.{Leads, Here, On, HasLabel, IsSeed, HasFirstLabels}
-use Rattle.ev_order.specs.Walk.{all_references, HoldsSent, HoldsTaken, sent_mention, taken_mention}
+use Rattle.ev_order.specs.Spread.{Leads, Here, On, IsSeed, HasFirstLabels}
+use Rattle.ev_order.specs.Walk.{all_references, HoldsSent, HoldsTaken, sent_mention}
 use Rattle.ev_order.specs.Graph.{start, IsGraph}
-use Rattle.ev_order.specs.Judge.{next_of, seed_of, IsUntaken, IsTakenSeed, IsRanked, late, late_line, late_label, IsEarly, TakesAt}
+use Rattle.ev_order.specs.Judge.{next_of, seed_of, IsRanked, late, late_label, IsEarly, TakesAt}
 use Rattle.ev_order.proofs.Starts.{target_at}
 use Rattle.ev_order.proofs.Befores.{before_leads, leads_before, reference_is, there_is}
-use Rattle.ev_order.proofs.Graphs.{mention_of, single, sent_fit, one_deed}
+use Rattle.ev_order.proofs.Graphs.{mention_of, single, sent_fit}
 
 -- ---- seeds
 

@@ -1,12 +1,12 @@
 -- One seed more.
-use Rattle.std.specs.Prelude.{◌≡◌, ◌+◌, ◌-◌, ◌<◌, ◌≤◌, ◌⊎◌, ℕ, List, [], ◌∷◌, ◌++◌, length, Option, Some, None, slice_get}
-use Rattle.std.proofs.Common.{refl, arith, sym, ◌∙◌, ap, subst, ⊎_elim, inl, inr}
+use Rattle.std.specs.Prelude.{◌≡◌, ◌+◌, ◌-◌, ℕ, List, [], ◌∷◌, ◌++◌, length, Option, Some, slice_get}
+use Rattle.std.proofs.Common.{arith, sym, ◌∙◌, ap, subst, ⊎_elim}
 use Rattle.std.proofs.lemmas.List.{length-append}
 use Rattle.std.proofs.lemmas.Option.{slice_get_within}
 use Rattle.ev_base.specs.declared.names.Msg.{Msg}
 use Rattle.ev_order.specs.declared.mentions.Mention.{Mention}
 use Rattle.ev_order.specs.declared.spread.Place.{Place}
-use Rattle.ev_order.specs.Mentions.{MentionList, IsThere, IsAbsent}
+use Rattle.ev_order.specs.Mentions.{MentionList}
 use Rattle.ev_order.specs.Judge.{IsUntaken, IsTakenSeed, IsRanked}
 use Rattle.ev_order.proofs.Lists.{get_either}
 

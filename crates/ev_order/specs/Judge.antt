@@ -1,5 +1,5 @@
 -- Whether messages were taken before those that were sent before them.
-use Rattle.std.specs.Prelude.{◌≡◌, ◌+◌, ◌-◌, ◌<◌, ◌≤◌, ◌⊎◌, ℕ, Bool, true, false, not, nat_lt, if◌then◌else◌, List, length, Option, Some, None, MatchOption, option_map, slice_get}
+use Rattle.std.specs.Prelude.{◌≡◌, ◌+◌, ◌-◌, ◌<◌, ◌⊎◌, ℕ, Bool, true, false, not, nat_lt, if◌then◌else◌, List, length, Option, Some, None, MatchOption, option_map, slice_get}
 use Rattle.ev_base.specs.declared.names.Msg.{Msg}
 use Rattle.def_event.specs.declared.event.Event.{Event}
 use Rattle.def_trace.specs.Order.{Taking, taking}

@@ -1,4 +1,3 @@
-use Rattle.ev_order.proofs.Judged
 use Rattle.std.proofs.Common.{length, refl}
 use Rattle.std.proofs.lemmas.Option.{slice_get_read}
 use Rattle.ev_order.proofs.Early.{none_more, none_at_all}

@@ -1,10 +1,8 @@
 -- Each step adds one seed.
-use Rattle.std.proofs.Common.{◌≡◌, ◌+◌, ◌-◌, ℕ, Option, List, Some, length, arith, sym, ap, ◌∙◌, subst}
+use Rattle.std.proofs.Common.{◌+◌, ◌-◌, ℕ, Option, List, length, sym, ap, ◌∙◌, subst}
 use Rattle.std.specs.Prelude.{slice_get}
-use Rattle.ev_base.specs.declared.names.Msg.{Msg}
-use Rattle.ev_order.specs.declared.mentions.Mention.{Mention}
-use Rattle.ev_order.specs.Judge.{IsRanked, IsTakenSeed}
-use Rattle.ev_order.proofs.Ranking.{ranks_first, ranks_second, ranks_on}
+use Rattle.ev_order.specs.Judge.{IsRanked}
+use Rattle.ev_order.proofs.Ranking.{ranks_first, ranks_second}
 use Rattle.ev_order.proofs.judge.ranked.Goals as goal
 
 pub loop-number-preserved : goal.loop-number-preserved

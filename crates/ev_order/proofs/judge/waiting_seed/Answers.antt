@@ -1,6 +1,6 @@
-use Rattle.std.proofs.Common.{true, false, refl, sym, ap, ◌∙◌, subst, Bool}
+use Rattle.std.proofs.Common.{true, false, refl, sym, ap, ◌∙◌, subst}
 use Rattle.ev_base.specs.declared.names.Msg.{Msg}
-use Rattle.ev_order.specs.Judge.{TellsTaken, IsWaiting, seed_of}
+use Rattle.ev_order.specs.Judge.{TellsTaken, seed_of}
 use Rattle.ev_order.proofs.Ranking.{same_entry}
 use Rattle.ev_order.proofs.judge.waiting_seed.Goals as goal
 
