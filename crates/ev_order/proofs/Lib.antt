@@ -1,0 +1,16 @@
+pub mod Lists
+pub mod Spreading
+pub mod Labelling
+pub mod Keys
+pub mod Same
+pub mod Chaining
+pub mod Walking
+pub mod Joining
+pub mod JoiningAll
+pub mod Starts
+pub mod Befores
+pub mod Graphs
+pub mod Ranking
+pub mod Early
+pub mod Judged
+pub mod Answered
