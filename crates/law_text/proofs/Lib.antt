@@ -4,3 +4,4 @@ pub mod Quotes
 pub mod Spelled
 pub mod Split
 pub mod Told
+pub mod Named
