@@ -5,3 +5,4 @@ pub mod Spelled
 pub mod Split
 pub mod Told
 pub mod Named
+pub mod Valued

@@ -3,4 +3,5 @@
 
 pub mod lines;
 pub mod names;
+pub mod values;
 pub mod words;
