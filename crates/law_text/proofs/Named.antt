@@ -1,46 +1,17 @@
 -- Names and messages are told by their texts.
-use Rattle.std.proofs.Common.{◌≡◌, ℕ, eqb, true, false, List, [], ◌∷◌, ◌++◌, refl, sym, ◌∙◌, ap}
+use Rattle.std.proofs.Common.{◌≡◌, ℕ, true, false, List, [], ◌∷◌, ◌++◌, refl, sym, ◌∙◌, ap}
 use Rattle.std.specs.Prelude.{decimal}
 use Rattle.std.specs.List.{list_all}
-use Rattle.std.proofs.lemmas.Bool.{and_parts, eq-eqb}
 use Rattle.std.proofs.lemmas.Fmt.{decimal_injective}
 use Rattle.ev_base.specs.declared.names.Name.{Name}
 use Rattle.ev_base.specs.declared.names.Name.TheVariants.{Object, Own, Answer, Gift, Root}
 use Rattle.ev_base.specs.declared.names.Msg.{Msg}
 use Rattle.def_event.specs.Lines.{vat, message, name}
+use Rattle.law_text.proofs.Front.{two_marks, apart}
 use Rattle.law_text.specs.Names.{unmarked, AreNames, IsMessageOf, IsNameOf}
-
--- ---- up to a mark
 
 abbrev Unmarked : List ℕ → Type 0
 Unmarked xs = list_all unmarked xs ≡ true
-
-head_is : (c d : ℕ) (cs ds : List ℕ) → ◌≡◌ {A = List ℕ} (c ∷ cs) (d ∷ ds) → c ≡ d
-head_is c d cs ds e = cc
-
-tail_is : (c d : ℕ) (cs ds : List ℕ) → ◌≡◌ {A = List ℕ} (c ∷ cs) (d ∷ ds) → cs ≡ ds
-tail_is c d cs ds e = cc
-
-cons_is : (c d : ℕ) (cs ds : List ℕ) → c ≡ d → cs ≡ ds → ◌≡◌ {A = List ℕ} (c ∷ cs) (d ∷ ds)
-cons_is c d cs ds e f = cc
-
--- what is a mark is not unmarked
-mark_differs : (c x : ℕ) (xs : List ℕ) → unmarked c ≡ false → c ≡ x → Unmarked (x ∷ xs) → ⊥
-mark_differs c x xs is e h = let on : unmarked c ≡ true = ap unmarked e ∙ (and_parts (unmarked x) (list_all unmarked xs) h).0 in let both : true ≡ false = sym on ∙ is in cc
-
-rest_of : (x : ℕ) (xs : List ℕ) → Unmarked (x ∷ xs) → Unmarked xs
-rest_of x xs h = (and_parts (unmarked x) (list_all unmarked xs) h).1
-
-mark_apart : (xs ys r q : List ℕ) (c d : ℕ) → unmarked c ≡ false → unmarked d ≡ false → Unmarked xs → Unmarked ys → xs ++ c ∷ r ≡ ys ++ d ∷ q → (xs ≡ ys) × (c ≡ d) × (r ≡ q)
-mark_apart [] [] r q c d m n h k e = (refl, head_is c d r q e, tail_is c d r q e)
-mark_apart [] (y ∷ ys) r q c d m n h k e = absurd (mark_differs c y ys m (head_is c y r (ys ++ d ∷ q) e) k)
-mark_apart (x ∷ xs) [] r q c d m n h k e = absurd (mark_differs d x xs n (sym (head_is x d (xs ++ c ∷ r) q e)) h)
-mark_apart (x ∷ xs) (y ∷ ys) r q c d m n h k e =
-    let same = mark_apart xs ys r q c d m n (rest_of x xs h) (rest_of y ys k) (tail_is x y (xs ++ c ∷ r) (ys ++ d ∷ q) e) in
-    (cons_is x y xs ys (head_is x y (xs ++ c ∷ r) (ys ++ d ∷ q) e) same.0, same.1, same.2)
-
-two_marks : (x y : ℕ) → eqb x y ≡ false → x ≡ y → ⊥
-two_marks x y apart e = let both : true ≡ false = sym (eq-eqb x y e) ∙ apart in cc
 
 -- ---- messages and names
 
@@ -50,7 +21,7 @@ msg_is a b e f = λ i. record { sender = e i; number = f i }
 module _ (vats : List (List ℕ)) (good : AreNames vats) where
   pub message_told : (m n : Msg) → IsMessageOf vats m → IsMessageOf vats n → message vats m ≡ message vats n → m ≡ n
   message_told m n h k e =
-      let same = mark_apart (vat vats m.sender) (vat vats n.sender) (decimal m.number) (decimal n.number) 47 47 refl refl (good.unmarked m.sender) (good.unmarked n.sender) e in
+      let same = apart unmarked (vat vats m.sender) (vat vats n.sender) (decimal m.number) (decimal n.number) 47 47 refl refl (good.unmarked m.sender) (good.unmarked n.sender) e in
       msg_is m n (good.differ m.sender n.sender h.0 k.0 same.0) (decimal_injective m.number n.number h.1 k.1 same.2)
 
   -- a name by what stands in front of its first mark, that mark, and what stands behind
@@ -125,5 +96,5 @@ module _ (vats : List (List ℕ)) (good : AreNames vats) where
 
   pub name_told : (a b : Name) → IsNameOf vats a → IsNameOf vats b → name vats a ≡ name vats b → a ≡ b
   name_told a b h k e =
-      let same = mark_apart (front a) (front b) (rest a) (rest b) (mark a) (mark b) (marked a) (marked b) (front_plain a) (front_plain b) (sym (by_parts a) ∙ e ∙ by_parts b) in
+      let same = apart unmarked (front a) (front b) (rest a) (rest b) (mark a) (mark b) (marked a) (marked b) (front_plain a) (front_plain b) (sym (by_parts a) ∙ e ∙ by_parts b) in
       parts_told a b h k same.0 same.1 same.2

@@ -3,7 +3,7 @@ use Rattle.std.proofs.Common.{◌≡◌, ℕ, zero, suc, ◌+◌, ◌/◌, ◌%�
 use Rattle.std.specs.Prelude.{decimal, codes, drop}
 use Rattle.std.specs.List.{list_all}
 use Rattle.std.specs.Fmt.{digit_glyph, digits_onto, digits}
-use Rattle.std.proofs.lemmas.Bool.{and_parts, eq-eqb, eqb-true}
+use Rattle.std.proofs.lemmas.Bool.{and_parts, eqb-true}
 use Rattle.std.proofs.lemmas.Bool.Decides.{nat_tests}
 use Rattle.std.proofs.lemmas.Fmt.{decimal_injective, decimal_is_IsNumeral_wide}
 use Rattle.std.specs.Str.Parse.{digits_value}
@@ -14,41 +14,11 @@ use Rattle.def_event.specs.declared.shown.Shown.{Shown, Null, Bool, Int, Char, T
 use Rattle.def_event.specs.Lines.{primitive_name, vat, numbered, message, value}
 use Rattle.law_text.specs.Names.{unmarked, AreNames}
 use Rattle.law_text.specs.Values.{names_vat, AreVats, IsValueOf, Alike, same, texts, problems, characters, primitives}
+use Rattle.law_text.proofs.Front.{true_false, both_true, head_is, tail_is, cons_is, two_marks, rest_of, apart}
 use Rattle.law_text.proofs.Named.{name_told}
-
--- ---- up to a byte that fails a test
-
-head_is : (c d : ℕ) (cs ds : List ℕ) → ◌≡◌ {A = List ℕ} (c ∷ cs) (d ∷ ds) → c ≡ d
-head_is c d cs ds e = cc
-
-tail_is : (c d : ℕ) (cs ds : List ℕ) → ◌≡◌ {A = List ℕ} (c ∷ cs) (d ∷ ds) → cs ≡ ds
-tail_is c d cs ds e = cc
-
-cons_is : (c d : ℕ) (cs ds : List ℕ) → c ≡ d → cs ≡ ds → ◌≡◌ {A = List ℕ} (c ∷ cs) (d ∷ ds)
-cons_is c d cs ds e f = cc
-
-true_false : true ≡ false → ⊥
-true_false e = cc
 
 abbrev All : List ℕ → Type 0
 All xs = list_all names_vat xs ≡ true
-
-fails : (c x : ℕ) (xs : List ℕ) → names_vat c ≡ false → c ≡ x → All (x ∷ xs) → ⊥
-fails c x xs is e h = true_false (sym (ap names_vat e ∙ (and_parts (names_vat x) (list_all names_vat xs) h).0) ∙ is)
-
-rest_of : (x : ℕ) (xs : List ℕ) → All (x ∷ xs) → All xs
-rest_of x xs h = (and_parts (names_vat x) (list_all names_vat xs) h).1
-
-apart : (xs ys r q : List ℕ) (c d : ℕ) → names_vat c ≡ false → names_vat d ≡ false → All xs → All ys → xs ++ c ∷ r ≡ ys ++ d ∷ q → (xs ≡ ys) × (c ≡ d) × (r ≡ q)
-apart [] [] r q c d m n h k e = (refl, head_is c d r q e, tail_is c d r q e)
-apart [] (y ∷ ys) r q c d m n h k e = absurd (fails c y ys m (head_is c y r (ys ++ d ∷ q) e) k)
-apart (x ∷ xs) [] r q c d m n h k e = absurd (fails d x xs n (sym (head_is x d (xs ++ c ∷ r) q e)) h)
-apart (x ∷ xs) (y ∷ ys) r q c d m n h k e =
-    let one = apart xs ys r q c d m n (rest_of x xs h) (rest_of y ys k) (tail_is x y (xs ++ c ∷ r) (ys ++ d ∷ q) e) in
-    (cons_is x y xs ys (head_is x y (xs ++ c ∷ r) (ys ++ d ∷ q) e) one.0, one.1, one.2)
-
-two_marks : (x y : ℕ) → eqb x y ≡ false → x ≡ y → ⊥
-two_marks x y differs e = true_false (sym (eq-eqb x y e) ∙ differs)
 
 nothing : (y : ℕ) (ys : List ℕ) → ◌≡◌ {A = List ℕ} [] (y ∷ ys) → ⊥
 nothing y ys e = cc
@@ -90,10 +60,6 @@ module _ (p : ℕ → Bools) (each : (d : ℕ) → d < 10 → p (48 + d) ≡ tru
     where
       lt_true : (d : ℕ) → d < 10 → ltb d 10 ≡ true
       lt_true d l = grind (arith, nat_tests)
-
-  both_true : (a b : Bools) → a ≡ true → b ≡ true → (a && b) ≡ true
-  both_true true b h k = k
-  both_true false b h k = absurd (true_false (sym h))
 
   pick_all : (b : Bools) (xs ys : List ℕ) → list_all p xs ≡ true → list_all p ys ≡ true → list_all p (cond b xs ys) ≡ true
   pick_all true xs ys h k = h
@@ -137,16 +103,12 @@ by_test c k at is = by (eqb c k) refl
     by true e = absurd (true_false (sym is ∙ ap names_vat (eqb-true c k e) ∙ at))
     by false e = refl
 
-two_true : (a b : Bools) → a ≡ true → b ≡ true → (a && b) ≡ true
-two_true true b h k = k
-two_true false b h k = absurd (true_false (sym h))
-
 no_mark : (c : ℕ) → names_vat c ≡ true → unmarked c ≡ true
-no_mark c h = two_true _ _ (by_test c 46 refl h) (two_true _ _ (by_test c 126 refl h) (two_true _ _ (by_test c 47 refl h) (two_true _ _ (by_test c 63 refl h) (two_true _ _ (by_test c 94 refl h) (by_test c 64 refl h)))))
+no_mark c h = both_true _ _ (by_test c 46 refl h) (both_true _ _ (by_test c 126 refl h) (both_true _ _ (by_test c 47 refl h) (both_true _ _ (by_test c 63 refl h) (both_true _ _ (by_test c 94 refl h) (by_test c 64 refl h)))))
 
 no_marks : (xs : List ℕ) → All xs → list_all unmarked xs ≡ true
 no_marks [] h = refl
-no_marks (x ∷ xs) h = two_true (unmarked x) (list_all unmarked xs) (no_mark x (and_parts (names_vat x) (list_all names_vat xs) h).0) (no_marks xs (rest_of x xs h))
+no_marks (x ∷ xs) h = both_true (unmarked x) (list_all unmarked xs) (no_mark x (and_parts (names_vat x) (list_all names_vat xs) h).0) (no_marks xs (rest_of names_vat x xs h))
 
 are_names : (vats : List (List ℕ)) → AreVats vats → AreNames vats
 are_names vats good = record { unmarked = λ v. no_marks (vat vats v) (good.spelled v); differ = good.differ }
@@ -268,7 +230,7 @@ module _ (vats : List (List ℕ)) (good : AreVats vats) where
 
   -- a thing of a vat by its mark
   thing_told : (k v w n x : ℕ) → names_vat k ≡ false → (v < length vats) × (n < 2 ^ 64) → (w < length vats) × (x < 2 ^ 64) → numbered vats v k n ≡ numbered vats w k x → (v ≡ w) × (n ≡ x)
-  thing_told k v w n x is h g e = let one = apart (vat vats v) (vat vats w) (decimal n) (decimal x) k k is is (good.spelled v) (good.spelled w) e in (good.differ v w h.0 g.0 one.0, decimal_injective n x h.1 g.1 one.2)
+  thing_told k v w n x is h g e = let one = apart names_vat (vat vats v) (vat vats w) (decimal n) (decimal x) k k is is (good.spelled v) (good.spelled w) e in (good.differ v w h.0 g.0 one.0, decimal_injective n x h.1 g.1 one.2)
 
   kinds : (x y : Shown) → IsValueOf vats x → IsValueOf vats y → value vats x ≡ value vats y → front x ≡ front y → mark x ≡ mark y → Alike x y
   kinds Null Null h k e f t' = same
@@ -432,5 +394,5 @@ module _ (vats : List (List ℕ)) (good : AreVats vats) where
   pub value_told : (x y : Shown) → IsValueOf vats x → IsValueOf vats y → value vats x ≡ value vats y → Alike x y
   value_told x y h k e =
       let a = parts x in let b = parts y in
-      let one = apart (front x) (front y) a.0 b.0 (mark x) (mark y) (marks x) (marks y) (fronts x) (fronts y) (sym a.1 ∙ ap (λ xs. xs ++ 10 ∷ []) e ∙ b.1) in
+      let one = apart names_vat (front x) (front y) a.0 b.0 (mark x) (mark y) (marks x) (marks y) (fronts x) (fronts y) (sym a.1 ∙ ap (λ xs. xs ++ 10 ∷ []) e ∙ b.1) in
       kinds x y h k e one.0 one.1
