@@ -1,6 +1,9 @@
+pub mod Front
 pub mod Plain
 pub mod Reading
 pub mod Quotes
 pub mod Spelled
 pub mod Split
 pub mod Told
+pub mod Named
+pub mod Valued

@@ -11,15 +11,12 @@ use Rattle.std.proofs.lemmas.List.Folds.{list_all-append}
 use Rattle.std.proofs.lemmas.Str.{encodes-chars}
 use Rattle.def_text.specs.Quoting.{by_number, escaped, quoted, escaped_character, quoted_character, shown_length, shortened}
 use Rattle.def_text.specs.Keywords.{begins_identifier, continues_identifier, has_identifier_form, is_identifier, printed_verb}
+use Rattle.law_text.proofs.Front.{both_true}
 use Rattle.law_text.specs.Feeds.{IsOneLine}
 
 -- no line feed
 abbrev pub plain : ℕ → Bool
 plain c = not (eqb c 10)
-
-both_true : (a b : Bool) → a ≡ true → b ≡ true → (a && b) ≡ true
-both_true true b h k = k
-both_true false b h k = cc
 
 pub line_cons : (c : ℕ) (cs : List ℕ) → plain c ≡ true → IsOneLine cs → IsOneLine (c ∷ cs)
 line_cons c cs h k = both_true (plain c) (list_all plain cs) h k

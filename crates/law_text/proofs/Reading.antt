@@ -6,6 +6,7 @@ use Rattle.std.specs.Char.{digit_char}
 use Rattle.std.specs.Fmt.{digit_glyph, digits_onto, digits, signed_decimal}
 use Rattle.std.proofs.lemmas.Bool.{and_parts, eqb-true}
 use Rattle.std.proofs.lemmas.Bool.Decides.{nat_tests}
+use Rattle.law_text.proofs.Front.{both_true}
 use Rattle.law_text.specs.Words.{Place, Outside, behind, reads_on, reads, IsWord, ordinary, IsOrdinary}
 
 -- it is read from one place to another
@@ -52,10 +53,6 @@ word_append xs ys h k d = goes_on (Outside d) (Outside d) (Outside d) xs ys (h d
 
 pub word_cons : (c : ℕ) (cs : List ℕ) → ordinary c ≡ true → IsWord cs → IsWord (c ∷ cs)
 word_cons c cs h k d = goes_first (Outside d) (Outside d) (Outside d) c cs (outside d c h) (k d)
-
-both_true : (a b : Bool) → a ≡ true → b ≡ true → (a && b) ≡ true
-both_true true b h k = k
-both_true false b h k = cc
 
 ordinary_cons : (c : ℕ) (cs : List ℕ) → ordinary c ≡ true → IsOrdinary cs → IsOrdinary (c ∷ cs)
 ordinary_cons c cs h k = both_true (ordinary c) (list_all ordinary cs) h k

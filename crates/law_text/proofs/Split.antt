@@ -1,36 +1,16 @@
 -- Where lines end with a line feed a text tells what each line tells that is told apart by its line feed.
-use Rattle.std.proofs.Common.{◌≡◌, ℕ, zero, eqb, not, true, Option, Some, None, List, [], ◌∷◌, ◌++◌, map, refl, sym, ◌∙◌, ap, append_assoc}
-use Rattle.std.specs.List.{flat_map, list_all}
-use Rattle.std.proofs.lemmas.Bool.{and_parts}
+use Rattle.std.proofs.Common.{◌≡◌, ℕ, zero, Option, Some, None, List, [], ◌∷◌, ◌++◌, map, refl, sym, ◌∙◌, ap, append_assoc}
+use Rattle.std.specs.List.{flat_map}
 use Rattle.def_event.specs.Lines.{spaced}
 use Rattle.law_text.specs.Feeds.{IsOneLine, AllOf}
 use Rattle.law_text.specs.Words.{Place, Outside, behind, reads_on, reads, IsWord}
+use Rattle.law_text.proofs.Front.{head_is, tail_is, cons_is, apart}
 use Rattle.law_text.proofs.Plain.{plain}
 use Rattle.law_text.proofs.Reading.{Goes}
 use Rattle.law_text.proofs.Spelled.{AllSome}
 
-feed_is_plain : (c : ℕ) (cs : List ℕ) → c ≡ 10 → IsOneLine (c ∷ cs) → ⊥
-feed_is_plain c cs e h = let at : not (eqb 10 10) ≡ true = ap plain (sym e) ∙ (and_parts (plain c) (list_all plain cs) h).0 in cc
-
-head_is : (c d : ℕ) (cs ds : List ℕ) → ◌≡◌ {A = List ℕ} (c ∷ cs) (d ∷ ds) → c ≡ d
-head_is c d cs ds e = cc
-
-tail_is : (c d : ℕ) (cs ds : List ℕ) → ◌≡◌ {A = List ℕ} (c ∷ cs) (d ∷ ds) → cs ≡ ds
-tail_is c d cs ds e = cc
-
-cons_is : {A : Type 0} (c d : A) (cs ds : List A) → c ≡ d → cs ≡ ds → ◌≡◌ {A = List A} (c ∷ cs) (d ∷ ds)
-cons_is c d cs ds e f = cc
-
-rest_line : (c : ℕ) (cs : List ℕ) → IsOneLine (c ∷ cs) → IsOneLine cs
-rest_line c cs h = (and_parts (plain c) (list_all plain cs) h).1
-
 pub one_apart : (xs ys r q : List ℕ) → IsOneLine xs → IsOneLine ys → xs ++ 10 ∷ r ≡ ys ++ 10 ∷ q → (xs ≡ ys) × (r ≡ q)
-one_apart [] [] r q h k e = (refl, tail_is 10 10 r q e)
-one_apart [] (y ∷ ys) r q h k e = absurd (feed_is_plain y ys (sym (head_is 10 y r (ys ++ 10 ∷ q) e)) k)
-one_apart (x ∷ xs) [] r q h k e = absurd (feed_is_plain x xs (head_is x 10 (xs ++ 10 ∷ r) q e) h)
-one_apart (x ∷ xs) (y ∷ ys) r q h k e =
-    let same = one_apart xs ys r q (rest_line x xs h) (rest_line y ys k) (tail_is x y (xs ++ 10 ∷ r) (ys ++ 10 ∷ q) e) in
-    (cons_is x y xs ys (head_is x y (xs ++ 10 ∷ r) (ys ++ 10 ∷ q) e) same.0, same.1)
+one_apart xs ys r q h k e = let one = apart plain xs ys r q 10 10 refl refl h k e in (one.0, one.2)
 
 -- ---- words
 

@@ -2,4 +2,6 @@
 #![tactic(auto)]
 
 pub mod lines;
+pub mod names;
+pub mod values;
 pub mod words;
